@@ -1,0 +1,2 @@
+//! The two sides of the bridge.
+#![tactic(auto)]

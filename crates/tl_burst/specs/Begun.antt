@@ -1,0 +1,26 @@
+-- Where messages begin in a list of beats, by the SiFive TileLink Specification 1.8: burst rules. The first beat begins one, and so does
+-- each beat that stands as many places after a first one as that message has beats; no other beat does.
+use Rattle.std.specs.Prelude.{◌-◌, ℕ, zero, suc, List, [], ◌∷◌}
+use Rattle.tl_msg.specs.Rules.{Rules}
+use Rattle.tl_msg.specs.declared.beat.BeatOf.{BeatOf}
+use Rattle.tl_burst.specs.Messages.{beats_of}
+
+module _ {H : Type 0} (r : Rules H) (w : ℕ) where
+  -- the heads of the messages that begin in a list whose first `inside` beats go on with an earlier message
+  abbrev pub heads_from : (inside : ℕ) → List (BeatOf H w) → List H
+  heads_from inside [] = []
+  heads_from zero (b ∷ bs) = b.head ∷ heads_from (beats_of r b.head w - 1) bs
+  heads_from (suc inside) (b ∷ bs) = heads_from inside bs
+
+  -- the heads of the messages that begin in a list, in order
+  abbrev pub heads : List (BeatOf H w) → List H
+  heads bs = heads_from 0 bs
+
+  -- how many beats the last message of a list still lacks
+  abbrev pub left_from : (inside : ℕ) → List (BeatOf H w) → ℕ
+  left_from inside [] = inside
+  left_from zero (b ∷ bs) = left_from (beats_of r b.head w - 1) bs
+  left_from (suc inside) (b ∷ bs) = left_from inside bs
+
+  abbrev pub left : List (BeatOf H w) → ℕ
+  left bs = left_from 0 bs

@@ -1,0 +1,5 @@
+pub mod Messages
+pub mod Spelling
+pub mod Reading
+pub mod Handing
+pub mod Begun

@@ -1,0 +1,3 @@
+mod Rows
+pub mod Masks
+pub mod Widths

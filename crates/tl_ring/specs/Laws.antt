@@ -1,0 +1,32 @@
+-- The law of the crossing, for all lists of events.
+use Rattle.std.specs.Prelude.{◌≡◌, ◌≤◌, ℕ, true, List, [], ◌++◌, length}
+use Rattle.tl_lanes.specs.Lanes.{IsWidth}
+use Rattle.tl_msg.specs.Rules.{Rules}
+use Rattle.tl_msg.specs.declared.beat.BeatOf.{BeatOf}
+use Rattle.tl_burst.specs.Messages.{Message}
+use Rattle.tl_burst.specs.Handing.{Handed}
+use Rattle.tl_convert.specs.Due.{due, layouts}
+use Rattle.tl_ring.specs.Crossing.{World, Event, Run, empty, inbox_room}
+
+module _ {H : Type 0} (r : Rules H) {w v : ℕ} where
+  -- what holds at every moment of a crossing
+  pub record Crosses (x : World H w v) : Type 0 where
+    -- what was taken, and then what stands in the inbox, the ring and the stage, is the far layout of what was accepted:
+    -- each beat once, in order, no burst interrupted
+    pub beats : x.taken ++ x.inbox ++ x.ring ++ x.stage ≡ due r w v x.accepted x.homes
+    -- what was accepted is handed
+    pub messages : List (Message H)
+    pub rest : List (BeatOf H w)
+    pub handed : Handed r w x.accepted x.homes messages rest
+    -- after a close, whole messages alone, and when nothing is under way, all of them were taken
+    pub closed_whole : x.closed ≡ true → rest ≡ []
+    pub drained : x.closed ≡ true → x.stage ≡ [] → x.ring ≡ [] → x.inbox ≡ [] → x.taken ≡ layouts r v messages
+    -- ring and inbox hold no more than they have room for
+    pub ring_room : length x.ring ≤ x.room
+    pub inbox_size : length x.inbox ≤ inbox_room
+
+-- after every list of events all beats are where they belong, and once closed nothing more is accepted
+pub record EveryRunCrosses {H : Type 0} (r : Rules H) : Type 0 where
+  pub crosses : (w v room : ℕ) (es : List (Event H w)) (x : World H w v) → IsWidth w → IsWidth v → Run r (empty room) es x → Crosses r x
+  pub shut : (w v room : ℕ) (es later : List (Event H w)) (x y : World H w v) → IsWidth w → IsWidth v →
+      Run r (empty room) es x → x.closed ≡ true → Run r x later y → (y.closed ≡ true) × (y.accepted ≡ x.accepted)
