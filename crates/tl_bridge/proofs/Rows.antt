@@ -1,5 +1,5 @@
--- Worked examples of settled states: the verdicts of A and D, and what crosses.
-use Rattle.std.proofs.Common.{◌≡◌, ℕ, false, true, List, [], ◌∷◌, refl, map}
+-- Worked examples: the verdicts of A and D at settled states, what crosses, and what each side answers by its history.
+use Rattle.std.proofs.Common.{◌≡◌, ℕ, false, None, Some, List, [], ◌∷◌, refl, map}
 use Rattle.std.specs.List.{range_with_len}
 use Rattle.tl_msg.specs.declared.head.HeadA.{HeadA}
 use Rattle.tl_msg.specs.declared.head.HeadD.{HeadD}
@@ -11,6 +11,7 @@ use Rattle.tl_msg.specs.Tables.{rules_a, rules_e}
 use Rattle.tl_msg.specs.declared.verdict.Verdict.{Verdict}
 use Rattle.tl_msg.specs.declared.verdict.Verdict.TheVariants.{Done, Cut, Refused, Waiting}
 use Rattle.tl_bridge.specs.Settling.{far_d}
+use Rattle.tl_bridge.specs.Histories.{Ask, Answer, client_answer, manager_answer, manager_home}
 use Rattle.tl_bridge.specs.Outcomes.{alone, verdict_a, verdict_d, verdict_alone, settled_far_a, settled_far_d}
 
 -- a beat of A on w lanes, all of which hold zero
@@ -140,3 +141,56 @@ none_back = refl
 -- a release acknowledged without a request
 released : outcome {C = 64} {M = 1} [] (tells 1 6 0 6 3 0 ∷ []) ≡ (Done 0 0, Done 1 1)
 released = refl
+
+-- ---- what the client's side answers
+
+-- a source is busy from its request on
+in_use : client_answer (Ask (get_at 1 0) ∷ []) (get_at 1 4) ≡ Some SourceBusy
+in_use = refl
+
+-- until the first beat of its response was taken
+in_use_no_more : client_answer (Ask (get_at 1 0) ∷ Answer (tells 4 1 0 2 1 17) ∷ []) (get_at 1 4) ≡ None
+in_use_no_more = refl
+
+free_at_first_beat : client_answer (Ask (asks 4 6 3 1 0 15) ∷ Answer (tells 4 5 1 3 1 0) ∷ []) (get_at 1 4) ≡ None
+free_at_first_beat = refl
+
+-- ReleaseAck frees nothing
+not_released : client_answer (Ask (get_at 1 0) ∷ Answer (tells 4 6 0 2 1 0) ∷ []) (get_at 1 4) ≡ Some SourceBusy
+not_released = refl
+
+-- a beat's own fault comes before a busy source
+fault_first : client_answer (Ask (get_at 1 0) ∷ []) (asks 4 4 2 1 2 15) ≡ Some (Beat Unaligned)
+fault_first = refl
+
+-- inside a burst no source is asked for
+inside_a_burst : client_answer (Ask (asks 4 0 3 1 16 15) ∷ []) (asks 4 0 3 1 16 15) ≡ None
+inside_a_burst = refl
+
+-- ---- what the manager's side answers
+
+unknown : manager_answer {w = 4} [] (tells 4 1 0 2 1 0) ≡ Some NoRequest
+unknown = refl
+
+known : manager_answer (Ask (get_at 1 0) ∷ []) (tells 4 1 0 2 1 0) ≡ None
+known = refl
+
+of_another_size : manager_answer (Ask (get_at 1 0) ∷ []) (tells 4 1 0 3 1 0) ≡ Some SizeMismatch
+of_another_size = refl
+
+answered_already : manager_answer (Ask (get_at 1 0) ∷ Answer (tells 4 1 0 2 1 0) ∷ []) (tells 4 1 0 2 1 0) ≡ Some NoRequest
+answered_already = refl
+
+-- ReleaseAck needs no request, of no size, and ends none
+released_at_once : manager_answer (Ask (get_at 1 0) ∷ []) (tells 4 6 0 6 1 0) ≡ None
+released_at_once = refl
+
+still_known : manager_answer (Ask (get_at 1 0) ∷ Answer (tells 4 6 0 6 1 0) ∷ []) (tells 4 1 0 2 1 0) ≡ None
+still_known = refl
+
+-- the home of a response is its request's address, and 0 for ReleaseAck
+home_of_reply : manager_home {w = 16} (Ask (asks 16 4 2 17 4108 61440) ∷ []) wide_reply.head ≡ 4108
+home_of_reply = refl
+
+home_of_release : manager_home {w = 4} (Ask (get_at 17 4108) ∷ []) (tells 4 6 0 2 17 0).head ≡ 0
+home_of_release = refl

@@ -1,6 +1,6 @@
 -- What a side of the bridge knows: the beats of A and D in the order of its own calls (TileLink: source and size of responses; the moments at
 -- which a source is busy and a request is open: this project's choice).
-use Rattle.std.specs.Prelude.{◌-◌, ◌==◌, ℕ, zero, suc, Option, None, Some, List, [], ◌∷◌, cond, if◌then◌else◌}
+use Rattle.std.specs.Prelude.{◌-◌, ◌==◌, ◌++◌, ℕ, zero, suc, Option, None, Some, List, [], ◌∷◌, cond, if◌then◌else◌}
 use Rattle.std.specs.Option.{option_map_or, is_some}
 use Rattle.tl_msg.specs.Tables.{rules_a, rules_d}
 use Rattle.tl_msg.specs.declared.head.HeadA.{HeadA}
@@ -79,6 +79,20 @@ manager_answer {w = w} es b =
     then (if is_release_ack b.head then None else to_request (open_request b.head.source (marks es)) b.head)
     else None)
 
--- the home of a beat that opens a message of D: the address of the open request that it answers, 0 for ReleaseAck
+-- the home of a message of D that begins after these messages: the address of the open request that it answers, 0 for ReleaseAck
+abbrev pub home_after : List Mark → HeadD → ℕ
+home_after ms h = cond (is_release_ack h) 0 (option_map_or (λ q. q.address) (open_request h.source ms) 0)
+
+-- the same after a history
 abbrev pub manager_home : {w : ℕ} → List (Event w) → HeadD → ℕ
-manager_home es h = cond (is_release_ack h) 0 (option_map_or (λ q. q.address) (open_request h.source (marks es)) 0)
+manager_home es h = home_after (marks es) h
+
+-- the homes of the messages of D among messages that begin, one after the other
+abbrev pub homes_from : (before ms : List Mark) → List ℕ
+homes_from before [] = []
+homes_from before (Asks h ∷ ms) = homes_from (before ++ Asks h ∷ []) ms
+homes_from before (Answers h ∷ ms) = home_after before h ∷ homes_from (before ++ Answers h ∷ []) ms
+
+-- the homes that the manager's side has given to the messages of D
+abbrev pub manager_homes : {w : ℕ} → List (Event w) → List ℕ
+manager_homes es = homes_from [] (marks es)

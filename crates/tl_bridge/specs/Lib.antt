@@ -3,3 +3,6 @@ pub mod Requests
 pub mod Settling
 pub mod Outcomes
 pub mod Histories
+pub mod Rounds
+pub mod Tables
+pub mod Laws

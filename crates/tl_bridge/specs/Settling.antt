@@ -1,6 +1,6 @@
 -- How far a script comes: which beats of A and D may go, and where both stop (TileLink: source and size of responses; when a source is free
 -- again and when a response may be offered: this project's choice).
-use Rattle.std.specs.Prelude.{suc, ◌+◌, ◌==◌, ℕ, Bool, false, Option, None, Some, List, [], length, map, take, nat_lt, slice_get, if◌then◌else◌}
+use Rattle.std.specs.Prelude.{◌+◌, ◌==◌, ℕ, Bool, false, Option, None, Some, List, [], length, map, take, nat_lt, slice_get, if◌then◌else◌}
 use Rattle.std.specs.Option.{option_map_or, is_none}
 use Rattle.tl_msg.specs.Tables.{rules_a, rules_d}
 use Rattle.tl_msg.specs.declared.head.HeadA.{HeadA}

@@ -1,11 +1,9 @@
 -- What a tracker tests of a beat, as facts over lanes.
-use Rattle.std.proofs.Common.{◌≡◌, ◌≢◌, ◌+◌, ◌==◌, ℕ, Bool, true, false, Option, None, Some, List, [], ◌∷◌, length}
+use Rattle.std.proofs.Common.{◌≡◌, ℕ, Bool, true, false, Option, None, Some, List, [], ◌∷◌}
 use Rattle.std.specs.Int.{bit_at}
 use Rattle.tl_msg.specs.Rules.{Rules}
 use Rattle.tl_msg.specs.declared.beat.BeatOf.{BeatOf}
-use Rattle.tl_lanes.specs.Lanes.{IsActive}
-use Rattle.tl_burst.specs.Messages.{beats_of}
-use Rattle.tl_burst.specs.Handing.{rest_of}
+use Rattle.tl_lanes.proofs.ActiveLanes.{IsActive}
 
 -- the head of the burst that a rest has begun
 abbrev pub head_of : {H : Type 0} {W : ℕ} → List (BeatOf H W) → Option H
@@ -26,15 +24,3 @@ pub record Accepts {H : Type 0} {W : ℕ} (r : Rules H) (burst : Option H) (b : 
   pub lawful : r.fault b.head ≡ None
   pub mask : FitsMask r b
   pub clean : burst ≡ None → r.corrupts ≡ true → r.carries b.head ≡ false → b.corrupt ≡ false
-
--- where an accepted beat stands
-pub record IsPlace {H : Type 0} (r : Rules H) (w : ℕ) (burst : Option H) (count : ℕ) (head : H) (index : ℕ) (last : Bool) : Type 0 where
-  pub held : (h : H) → burst ≡ Some h → h ≡ head
-  pub lawful : r.fault head ≡ None
-  pub index_is : index ≡ count
-  pub last_is : last ≡ (count + 1 == beats_of r head w)
-
--- this burst and count are those of these beats
-pub record Stands {H : Type 0} {W : ℕ} (r : Rules H) (burst : Option H) (count : ℕ) (bs : List (BeatOf H W)) : Type 0 where
-  pub count_is : count ≡ length (rest_of r W bs)
-  pub burst_is : burst ≡ head_of (rest_of r W bs)

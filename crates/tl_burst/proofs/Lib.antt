@@ -1,4 +1,6 @@
 mod Rows
+mod FaultRows
+mod LayoutRows
 pub mod Fits
 pub mod Places
 pub mod LaneShift
@@ -8,5 +10,13 @@ pub mod Runs
 pub mod Burst
 pub mod HandedSteps
 pub mod RestOf
-pub mod Unique
 pub mod SpelledRun
+pub mod RunSpelled
+pub mod Admitted
+pub mod MaskTest
+pub mod FaultsExact
+pub mod BegunMessages
+pub mod Steps
+pub mod GrantAcks
+pub mod PlacesExact
+pub mod Fronts

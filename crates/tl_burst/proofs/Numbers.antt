@@ -1,21 +1,14 @@
-use Rattle.std.proofs.Common.{◌≡◌, ◌≤◌, ◌<◌, ◌+◌, ◌-◌, ◌*◌, ◌/◌, ◌%◌, ◌^◌, ◌≢◌, ◌⊎◌, ℕ, zero, suc, min, Bool, true, false, cond, Option, None, Some, List, [], ◌∷◌, ◌++◌, length, get_or, replicate, map, slice_get, refl, sym, ap, subst, ◌∙◌, arith, rules, inl, inr, ⊎_elim}
-use Rattle.std.proofs.lemmas.Grind.{common_steps}
+-- Elements of joined lists, and powers of two that divide one another.
+use Rattle.std.proofs.Common.{◌≡◌, ◌≤◌, ◌<◌, ◌+◌, ◌-◌, ◌*◌, ◌/◌, ◌%◌, ◌^◌, ◌≢◌, ℕ, zero, suc, Some, List, [], ◌∷◌, ◌++◌, length, get_or, replicate, slice_get, refl, sym, ap, subst, ◌∙◌, arith, rules, ⊎_elim}
 use Rattle.std.proofs.lemmas.Bool.Decides.{eqb_tells, leb_tells}
 use Rattle.std.proofs.lemmas.Option.{slice_get_within, get_or_from_slice_get}
 use Rattle.std.proofs.lemmas.List.{length_push}
 use Rattle.std.proofs.lemmas.Nat.{pow-add, le-div}
 use Rattle.std.proofs.Math.Seq.{get_or-append_seam}
-use Rattle.std.proofs.Math.Nat.{mod-add-div, mul-div_cancel, mul-div-le, mul-le-mul_left, mul-le-mul_right}
+use Rattle.std.proofs.Math.Nat.{mod-add-div, mul-div_cancel, mul-le-mul_right}
 use Rattle.std.proofs.Math.Pow.{pow_mono, pow-lt}
 use Rattle.std.proofs.Math.Arith.{digits_div}
-use Rattle.std.specs.List.{range_with_len}
-use Rattle.tl_msg.specs.Rules.{Rules}
-use Rattle.tl_msg.specs.declared.beat.BeatOf.{BeatOf}
-use Rattle.tl_burst.specs.Messages.{Message, per_beat, beats_of, lane_value, IsLawful}
-use Rattle.tl_burst.specs.Spelling.{SpellsBeat}
-use Rattle.tl_burst.proofs.Places.{per-pos}
-use Rattle.tl_lanes.specs.Lanes.{IsWidth, bytes_per_beat, lane_of}
-use Rattle.tl_lanes.proofs.Widths.{width_bounds}
+use Rattle.tl_lanes.specs.Lanes.{IsWidth, bytes_per_beat}
 
 -- the front of a join
 pub slice_get-left : {A : Type 0} (xs ys : List A) (t : ℕ) → t < length xs → slice_get xs t ≡ slice_get (xs ++ ys) t
@@ -25,44 +18,44 @@ slice_get-left (x ∷ xs) ys (suc t) lt = slice_get-left xs ys t (omega arith)
 
 -- what holds of each element and of the next one holds of each of both
 pub each-push : {A : Type 0} (P : ℕ → A → Type 0) (xs : List A) (x : A) → ((t : ℕ) (b : A) → slice_get xs t ≡ Some b → P t b) →
-  P (length xs) x → (t : ℕ) (b : A) → slice_get (xs ++ x ∷ []) t ≡ Some b → P t b
+    P (length xs) x → (t : ℕ) (b : A) → slice_get (xs ++ x ∷ []) t ≡ Some b → P t b
 each-push {A = A} P xs x old here t b e =
     let within : t < length (xs ++ x ∷ []) = slice_get_within (xs ++ x ∷ []) t b e in
     let len : length (xs ++ x ∷ []) ≡ length xs + 1 = length_push xs x in
     ⊎_elim
-      (λ s.
-        let at : get_or (xs ++ x ∷ []) t x ≡ b = get_or_from_slice_get (xs ++ x ∷ []) t b x e in
-        let seam : get_or (xs ++ x ∷ []) (length xs) x ≡ x = get_or-append_seam xs x [] x in
-        let same : x ≡ b = sym seam ∙ ap (λ i. get_or (xs ++ x ∷ []) i x) (sym s.1) ∙ at in
-        let Q : A → Type 0 = λ y. P t y in
-        let R : ℕ → Type 0 = λ n. P n x in
-        subst Q same (subst R (sym s.1) here))
-      (λ s. let ne : t ≢ length xs = s.1 in
-            let lt : t < length xs = omega arith in
-            old t b (slice_get-left xs (x ∷ []) t lt ∙ e))
-      (eqb_tells t (length xs))
+    (λ s.
+    let at : get_or (xs ++ x ∷ []) t x ≡ b = get_or_from_slice_get (xs ++ x ∷ []) t b x e in
+    let seam : get_or (xs ++ x ∷ []) (length xs) x ≡ x = get_or-append_seam xs x [] x in
+    let same : x ≡ b = sym seam ∙ ap (λ i. get_or (xs ++ x ∷ []) i x) (sym s.1) ∙ at in
+    let Q : A → Type 0 = λ y. P t y in
+    let R : ℕ → Type 0 = λ n. P n x in
+    subst Q same (subst R (sym s.1) here))
+    (λ s. let ne : t ≢ length xs = s.1 in
+    let lt : t < length xs = omega arith in
+    old t b (slice_get-left xs (x ∷ []) t lt ∙ e))
+    (eqb_tells t (length xs))
 
 -- the bytes of a beat are a power of two
 pub per-power : (size w : ℕ) → IsWidth w → (k : ℕ) × (bytes_per_beat size w ≡ 2 ^ k)
 per-power size w (k, h, e) =
     ⊎_elim
-      (λ s. (k, let le : 2 ^ k ≤ 2 ^ size = pow_mono s.1 in omega arith))
-      (λ s. (size, let lt : 2 ^ size < 2 ^ k = pow-lt s.1 in omega arith))
-      (leb_tells k size)
+    (λ s. (k, let le : 2 ^ k ≤ 2 ^ size = pow_mono s.1 in omega arith))
+    (λ s. (size, let lt : 2 ^ size < 2 ^ k = pow-lt s.1 in omega arith))
+    (leb_tells k size)
 
 -- a smaller power of two divides a greater one
 pub powers-divide : (a b p q : ℕ) → p ≡ 2 ^ a → q ≡ 2 ^ b → q ≤ p → p ≡ (p / q) * q
 powers-divide a b p q ep eq le =
     ⊎_elim
-      (λ s.
-        let d : a - b + b ≡ a = omega arith in
-        let e : p ≡ 2 ^ (a - b) * q = ep ∙ ap (λ x. 2 ^ x) (sym d) ∙ pow-add 2 (a - b) b ∙ ap (λ x. 2 ^ (a - b) * x) (sym eq) in
-        let pos : 0 < 2 ^ b = search rules in
-        let posq : 0 < q = omega arith in
-        let f : p / q ≡ 2 ^ (a - b) = ap (λ x. x / q) e ∙ mul-div_cancel (2 ^ (a - b)) posq in
-        e ∙ ap (λ x. x * q) (sym f))
-      (λ s. let lt : 2 ^ a < 2 ^ b = pow-lt s.1 in absurd (omega arith))
-      (leb_tells b a)
+    (λ s.
+    let d : a - b + b ≡ a = omega arith in
+    let e : p ≡ 2 ^ (a - b) * q = ep ∙ ap (λ x. 2 ^ x) (sym d) ∙ pow-add 2 (a - b) b ∙ ap (λ x. 2 ^ (a - b) * x) (sym eq) in
+    let pos : 0 < 2 ^ b = search rules in
+    let posq : 0 < q = omega arith in
+    let f : p / q ≡ 2 ^ (a - b) = ap (λ x. x / q) e ∙ mul-div_cancel (2 ^ (a - b)) posq in
+    e ∙ ap (λ x. x * q) (sym f))
+    (λ s. let lt : 2 ^ a < 2 ^ b = pow-lt s.1 in absurd (omega arith))
+    (leb_tells b a)
 
 -- the places of far beat t of near beat j: p near bytes, q far bytes, c = p / q
 pub far-first : (j t p q c : ℕ) → p ≡ c * q → j * p + t * q ≡ (j * c + t) * q

@@ -1,3 +1,4 @@
+-- What handed beats leave unfinished is found by the sizes in their heads.
 use Rattle.std.proofs.Common.{◌≡◌, ◌<◌, ◌+◌, ◌≢◌, ℕ, suc, true, false, Some, List, [], ◌∷◌, ◌++◌, length, slice_get, refl, sym, ap, ◌∙◌, arith, ⊎_elim, append_assoc, append-nil, length-append}
 use Rattle.std.proofs.lemmas.Option.{slice_get_within}
 use Rattle.std.proofs.lemmas.List.{length_push}
@@ -14,7 +15,6 @@ some-first [] ne = absurd (ne refl)
 some-first (y ∷ ys) ne = (y, ys, refl)
 
 module _ {H : Type 0} (r : Rules H) (w : ℕ) where
-
   -- every beat has this head
   abbrev pub Heads : H → List (BeatOf H w) → Type 0
   Heads h bs = (j : ℕ) (b : BeatOf H w) → slice_get bs j ≡ Some b → b.head ≡ h
@@ -31,13 +31,13 @@ module _ {H : Type 0} (r : Rules H) (w : ℕ) where
 
   -- the last beats of a message leave nothing
   rest-over : (h : H) (seen bs o : List (BeatOf H w)) → length seen + length bs ≡ beats_of r h w → bs ≢ [] → Heads h bs →
-    rest_after r w seen (bs ++ o) ≡ rest_after r w [] o
+      rest_after r w seen (bs ++ o) ≡ rest_after r w [] o
   rest-over h seen [] o n ne heads = absurd (ne refl)
   rest-over h seen (b ∷ []) o n ne heads = rw (ends-is h seen b (heads 0 b refl) (omega arith)) refl
   rest-over h seen (b ∷ c ∷ bs) o n ne heads =
       let k : length (seen ++ b ∷ []) ≡ length seen + 1 = length_push seen b in
       rw (ends-not h seen b (heads 0 b refl) (omega arith))
-        (rest-over h (seen ++ b ∷ []) (c ∷ bs) o (omega arith) (λ q. cc) (λ j x e. heads (suc j) x e))
+      (rest-over h (seen ++ b ∷ []) (c ∷ bs) o (omega arith) (λ q. cc) (λ j x e. heads (suc j) x e))
 
   -- fewer beats than a message has stay
   rest-stays : (h : H) (seen bs : List (BeatOf H w)) → length seen + length bs < beats_of r h w → Heads h bs → rest_after r w seen bs ≡ seen ++ bs
@@ -45,7 +45,7 @@ module _ {H : Type 0} (r : Rules H) (w : ℕ) where
   rest-stays h seen (b ∷ bs) n heads =
       let k : length (seen ++ b ∷ []) ≡ length seen + 1 = length_push seen b in
       rw (ends-not h seen b (heads 0 b refl) (omega arith))
-        (rest-stays h (seen ++ b ∷ []) bs (omega arith) (λ j x e. heads (suc j) x e) ∙ append_assoc seen (b ∷ []) bs)
+      (rest-stays h (seen ++ b ∷ []) bs (omega arith) (λ j x e. heads (suc j) x e) ∙ append_assoc seen (b ∷ []) bs)
 
   -- the beats of a whole message don't change what is left of the others
   pub whole-rest : (m : Message H) (bs others : List (BeatOf H w)) → Spells r m w bs → rest_of r w (bs ++ others) ≡ rest_of r w others
@@ -65,3 +65,8 @@ module _ {H : Type 0} (r : Rules H) (w : ℕ) where
   RestIs nothing = refl
   RestIs (begun m rest more l s n1 n2) = sym (part-rest m rest more s n2)
   RestIs (whole m bs others homes ms rest l s h) = RestIs h ∙ sym (whole-rest m bs others s)
+
+  -- the rest is the same, however the list was read
+  pub rest-unique : {x y : List (BeatOf H w)} {homes homes' : List ℕ} {ms ms' : List (Message H)} {rest rest' : List (BeatOf H w)} →
+      Handed r w x homes ms rest → Handed r w y homes' ms' rest' → x ≡ y → rest ≡ rest'
+  rest-unique h h' e = RestIs h ∙ ap (λ bs. rest_of r w bs) e ∙ sym (RestIs h')

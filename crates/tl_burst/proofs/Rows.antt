@@ -9,6 +9,7 @@ use Rattle.tl_msg.specs.Tables.{rules_a}
 use Rattle.tl_burst.specs.Messages.{Cell, Message, IsLawful, layout}
 use Rattle.tl_burst.specs.Spelling.{Spells, SpellsBeat}
 use Rattle.tl_burst.specs.Handing.{Handed, nothing, whole, rest_of, fault_after}
+use Rattle.tl_burst.specs.Begun.{heads, left}
 
 abbrev a : (opcode size source address : ℕ) → HeadA
 a opcode size source address = record { opcode = opcode; param = 0; size = size; source = source; address = address }
@@ -45,6 +46,19 @@ goes_on = refl
 -- outside it another source may begin
 begins : fault_after rules_a (first ∷ second ∷ []) (on (a 0 3 2 16) 15 (range_with_len 4 4)) ≡ None
 begins = refl
+
+-- the messages that begin in the beats of one message and the first of the next one, and the beats that the last one lacks
+both_heads : heads rules_a 4 (first ∷ second ∷ on (a 0 3 2 16) 15 (range_with_len 0 4) ∷ []) ≡ a 0 3 1 16 ∷ a 0 3 2 16 ∷ []
+both_heads = refl
+
+lacks_one : left rules_a 4 (first ∷ second ∷ on (a 0 3 2 16) 15 (range_with_len 0 4) ∷ []) ≡ 1
+lacks_one = refl
+
+one_head : heads rules_a 4 (first ∷ second ∷ []) ≡ a 0 3 1 16 ∷ []
+one_head = refl
+
+lacks_none : left rules_a 4 (first ∷ second ∷ []) ≡ 0
+lacks_none = refl
 
 -- the two beats are the layout of a message
 abbrev cell : ℕ → Cell

@@ -1,20 +1,16 @@
-use Rattle.std.proofs.Common.{◌≡◌, ◌≤◌, ◌<◌, ◌+◌, ◌-◌, ◌*◌, ◌/◌, ◌%◌, ◌^◌, ◌≢◌, ◌==◌, ◌⊎◌, ◌&&◌, ◌||◌, ◌++◌, ℕ, zero, suc, min, Bool, true, false, cond, not, Option, None, Some, List, [], ◌∷◌, length, get_or, take, map, slice_get, slice_index, refl, sym, ap, subst, ◌∙◌, arith, rules, inl, inr, ⊎_elim, add-one, append-nil}
+-- The message that a run of beats brings, read back, and its cells.
+use Rattle.std.proofs.Common.{◌≡◌, ◌≤◌, ◌<◌, ◌+◌, ◌*◌, ◌/◌, ◌%◌, ◌^◌, ◌&&◌, ◌||◌, ◌++◌, ℕ, zero, suc, Bool, true, false, cond, Some, List, [], ◌∷◌, length, map, slice_get, refl, sym, ap, ◌∙◌, arith, ⊎_elim}
 use Rattle.std.specs.List.{range_with_len}
 use Rattle.std.specs.Option.{option_map_or}
-use Rattle.std.specs.Int.{bit_at}
-use Rattle.std.proofs.lemmas.Option.{slice_get-get_or, get_or_from_slice_get}
-use Rattle.std.proofs.lemmas.List.{length_push}
-use Rattle.std.proofs.lemmas.List.FromFn.{get_or-map-range_with_len, length-map-range_with_len, take-map-range_with_len}
-use Rattle.std.proofs.Math.Seq.{get_or-append_seam}
-use Rattle.std.proofs.Math.Nat.{mul-div_cancel, mod-add-div, mod-lt, mul-le-mul_right, div-mul-le_self}
-use Rattle.std.proofs.Math.Arith.{digits_div}
+use Rattle.std.proofs.lemmas.Option.{slice_get-get_or}
+use Rattle.std.proofs.lemmas.List.FromFn.{get_or-map-range_with_len, length-map-range_with_len}
+use Rattle.std.proofs.Math.Nat.{mul-le-mul_right, div-mul-le_self}
 use Rattle.tl_msg.specs.Rules.{Rules}
 use Rattle.tl_msg.specs.declared.beat.BeatOf.{BeatOf}
-use Rattle.tl_lanes.specs.Lanes.{IsWidth, lane_of, bytes_per_beat}
-use Rattle.tl_burst.specs.Messages.{Message, Cell, byte_on, per_beat, beats_of, lane_value, lane_on, mask_at, beat_at, layout, some_of, is_bad}
+use Rattle.tl_lanes.specs.Lanes.{IsWidth, lane_of}
+use Rattle.tl_burst.specs.Messages.{Message, Cell, per_beat, beats_of, lane_value, lane_on, beat_at, some_of, is_bad}
 use Rattle.tl_lanes.specs.Lanes.{mask_of}
 use Rattle.tl_burst.specs.Reading.{cell_of, message_of}
-use Rattle.tl_burst.specs.Handing.{ends}
 use Rattle.tl_burst.proofs.Places.{per-pos}
 use Rattle.tl_burst.proofs.OnLane.{on_lane, same_beat}
 use Rattle.tl_burst.proofs.Numbers.{slice_get-left, per-power, powers-divide, parts}
@@ -47,31 +43,29 @@ some_of-same f g a (suc n) h =
     ap (λ b. b || f (a + n)) (some_of-same f g a n (λ x lo hi. h x lo (omega arith))) ∙ ap (λ b. some_of g a n || b) (h (a + n) (omega arith) (omega arith))
 
 module _ {H : Type 0} (r : Rules H) where
-
   abbrev pub of_cells : H → ℕ → List Cell → Message H
   of_cells h x cs = record { head = h; home = x; cells = cs }
 
   -- a far beat whose cells are the same
   pub beat_at-same : (h : H) (x : ℕ) (cs cs' : List Cell) (v j : ℕ) → IsWidth v → j * per_beat r h v + per_beat r h v ≤ 2 ^ r.size h →
-    ((i : ℕ) → j * per_beat r h v ≤ i → i < j * per_beat r h v + per_beat r h v → slice_get cs i ≡ slice_get cs' i) →
-    beat_at r (of_cells h x cs) v j ≡ beat_at r (of_cells h x cs') v j
+      ((i : ℕ) → j * per_beat r h v ≤ i → i < j * per_beat r h v + per_beat r h v → slice_get cs i ≡ slice_get cs' i) →
+      beat_at r (of_cells h x cs) v j ≡ beat_at r (of_cells h x cs') v j
   beat_at-same h x cs cs' v j vw room same =
       let on : (l : ℕ) → lane_on r (of_cells h x cs) v j l ≡ lane_on r (of_cells h x cs') v j l = λ l. ⊎_elim
-        (λ (i, lo, hi, there, e). rw e (rw (same i lo hi) refl))
-        (λ (never, e). rw e refl)
-        (on_lane r (of_cells h x cs) v vw j room l) in
+      (λ (i, lo, hi, there, e). rw e (rw (same i lo hi) refl))
+      (λ (never, e). rw e refl)
+      (on_lane r (of_cells h x cs) v vw j room l) in
       let value : (l : ℕ) → lane_value r (of_cells h x cs) v j l ≡ lane_value r (of_cells h x cs') v j l = λ l. ⊎_elim
-        (λ (i, lo, hi, there, e). rw e (rw (same i lo hi) refl))
-        (λ (never, e). rw e refl)
-        (on_lane r (of_cells h x cs) v vw j room l) in
+      (λ (i, lo, hi, there, e). rw e (rw (same i lo hi) refl))
+      (λ (never, e). rw e refl)
+      (on_lane r (of_cells h x cs) v vw j room l) in
       same_beat (beat_at r (of_cells h x cs) v j) (beat_at r (of_cells h x cs') v j) refl
-        (mask_of-same (λ l. r.masked && lane_on r (of_cells h x cs) v j l) (λ l. r.masked && lane_on r (of_cells h x cs') v j l) v (λ l. ap (λ b. r.masked && b) (on l)))
-        (map-same (lane_value r (of_cells h x cs) v j) (lane_value r (of_cells h x cs') v j) 0 v (λ l lo hi. value l))
-        (some_of-same (is_bad r (of_cells h x cs)) (is_bad r (of_cells h x cs')) (j * per_beat r h v) (per_beat r h v)
-          (λ i lo hi. ap (λ c. option_map_or (λ y. y.bad) c false) (same i lo hi)))
+      (mask_of-same (λ l. r.masked && lane_on r (of_cells h x cs) v j l) (λ l. r.masked && lane_on r (of_cells h x cs') v j l) v (λ l. ap (λ b. r.masked && b) (on l)))
+      (map-same (lane_value r (of_cells h x cs) v j) (lane_value r (of_cells h x cs') v j) 0 v (λ l lo hi. value l))
+      (some_of-same (is_bad r (of_cells h x cs)) (is_bad r (of_cells h x cs')) (j * per_beat r h v) (per_beat r h v)
+      (λ i lo hi. ap (λ c. option_map_or (λ y. y.bad) c false) (same i lo hi)))
 
   module _ (h : H) (w v x : ℕ) (ww : IsWidth w) (vw : IsWidth v) (carries : r.carries h ≡ true) where
-
     -- the cells of a run of beats
     abbrev pub cell_at : List (BeatOf H w) → ℕ → Cell
     cell_at bs i = cell_of r h w (lane_of x i w) (slice_get bs (i / per_beat r h w))
@@ -103,7 +97,7 @@ module _ {H : Type 0} (r : Rules H) where
 
     -- the cells of the beats that are there are the same in a longer run
     pub cells-same : (bs more : List (BeatOf H w)) (e : ℕ) → e ≡ length bs * per_beat r h w → e ≤ 2 ^ r.size h → (i : ℕ) → i < e →
-      slice_get (run_cells bs) i ≡ slice_get (run_cells (bs ++ more)) i
+        slice_get (run_cells bs) i ≡ slice_get (run_cells (bs ++ more)) i
     cells-same bs more e ee room i lt =
         let inside : i < 2 ^ r.size h = omega arith in
         let q : i / per_beat r h w * per_beat r h w + i % per_beat r h w ≡ i = parts i (per_beat r h w) in
@@ -113,12 +107,12 @@ module _ {H : Type 0} (r : Rules H) where
 
     -- the beats that are whole at byte e are the same in a longer run
     pub whole-same : (bs more : List (BeatOf H w)) (e : ℕ) → e ≡ length bs * per_beat r h w → e ≤ 2 ^ r.size h →
-      map (beat_at r (of_cells h x (run_cells bs)) v) (range_with_len 0 (e / per_beat r h v)) ≡
-      map (beat_at r (of_cells h x (run_cells (bs ++ more))) v) (range_with_len 0 (e / per_beat r h v))
+        map (beat_at r (of_cells h x (run_cells bs)) v) (range_with_len 0 (e / per_beat r h v)) ≡
+        map (beat_at r (of_cells h x (run_cells (bs ++ more))) v) (range_with_len 0 (e / per_beat r h v))
     whole-same bs more e ee room =
         let pp : 0 < per_beat r h w = per-pos r (of_cells h x []) w ww in
         map-same _ _ 0 (e / per_beat r h v) (λ j lo hi.
-          let fit : (j + 1) * per_beat r h v ≤ e / per_beat r h v * per_beat r h v = grind (arith, mul-le-mul_right) in
-          let le : e / per_beat r h v * per_beat r h v ≤ e = div-mul-le_self e (per_beat r h v) in
-          let top : j * per_beat r h v + per_beat r h v ≤ e = grind arith in
-          beat_at-same h x (run_cells bs) (run_cells (bs ++ more)) v j vw (omega arith) (λ i il ih. cells-same bs more e ee room i (omega arith)))
+        let fit : (j + 1) * per_beat r h v ≤ e / per_beat r h v * per_beat r h v = grind (arith, mul-le-mul_right) in
+        let le : e / per_beat r h v * per_beat r h v ≤ e = div-mul-le_self e (per_beat r h v) in
+        let top : j * per_beat r h v + per_beat r h v ≤ e = grind arith in
+        beat_at-same h x (run_cells bs) (run_cells (bs ++ more)) v j vw (omega arith) (λ i il ih. cells-same bs more e ee room i (omega arith)))

@@ -24,3 +24,8 @@ module _ {H : Type 0} (r : Rules H) (w : ℕ) where
 
   abbrev pub left : List (BeatOf H w) → ℕ
   left bs = left_from 0 bs
+
+  -- the head of the message that a rest has begun, if any
+  abbrev pub rest_heads : (rest : List (BeatOf H w)) → List H
+  rest_heads [] = []
+  rest_heads (b ∷ bs) = b.head ∷ []

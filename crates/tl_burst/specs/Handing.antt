@@ -1,5 +1,5 @@
 -- Lists of beats in which no burst is interrupted, by the SiFive TileLink Specification 1.8: burst rules.
-use Rattle.std.specs.Prelude.{◌≡◌, ◌≢◌, ◌+◌, ◌==◌, ℕ, Bool, true, false, cond, Option, None, Some, List, [], ◌∷◌, ◌++◌, length}
+use Rattle.std.specs.Prelude.{◌≡◌, ◌≢◌, ◌+◌, ◌==◌, ℕ, Bool, cond, Option, None, Some, List, [], ◌∷◌, ◌++◌, length}
 use Rattle.tl_msg.specs.Rules.{Rules}
 use Rattle.tl_msg.specs.Faults.{opening_fault, continuing_fault}
 use Rattle.tl_msg.specs.declared.beat.BeatOf.{BeatOf}
@@ -16,6 +16,10 @@ module _ {H : Type 0} (r : Rules H) where
         Handed w rest (m.home ∷ []) [] rest
     whole : (m : Message H) (bs others : List (BeatOf H w)) (homes : List ℕ) (ms : List (Message H)) (rest : List (BeatOf H w)) →
         IsLawful r m → Spells r m w bs → Handed w others homes ms rest → Handed w (bs ++ others) (m.home ∷ homes) (m ∷ ms) rest
+
+  -- the list is handed, with these homes
+  abbrev pub IsHandedWith : {w : ℕ} → (bs : List (BeatOf H w)) → (homes : List ℕ) → Type 0
+  IsHandedWith {w} bs homes = (ms : List (Message H)) × (rest : List (BeatOf H w)) × Handed w bs homes ms rest
 
   -- the list is handed, with some homes
   pub record IsHanded {w : ℕ} (bs : List (BeatOf H w)) : Type 0 where
@@ -55,6 +59,10 @@ module _ {H : Type 0} (r : Rules H) where
   burst_of [] = None
   burst_of (b ∷ bs) = Some (b.head, length (b ∷ bs))
 
+  -- the burst that is open after beats that were accepted
+  abbrev pub burst_after : {w : ℕ} → (bs : List (BeatOf H w)) → Option (H × ℕ)
+  burst_after {w} bs = burst_of (rest_of w bs)
+
   -- a beat opens a message, or continues one
   abbrev pub Opens : {w : ℕ} → (bs : List (BeatOf H w)) → BeatOf H w → Type 0
   Opens {w} bs b = IsAdmitted bs b × (rest_of w bs ≡ [])
@@ -62,10 +70,11 @@ module _ {H : Type 0} (r : Rules H) where
   abbrev pub Continues : {w : ℕ} → (bs : List (BeatOf H w)) → BeatOf H w → Type 0
   Continues {w} bs b = IsAdmitted bs b × (rest_of w bs ≢ [])
 
-  -- the first fault of a beat after beats that were accepted: outside a burst, and inside one (order: this project's choice)
-  abbrev pub fault_in : {w : ℕ} → (rest : List (BeatOf H w)) → BeatOf H w → Option BeatFault
-  fault_in [] b = opening_fault r b
-  fault_in (first ∷ more) b = continuing_fault r first.head b
+  -- the first fault of a beat where this burst is open, or none is: outside a burst, and inside one (order: this project's choice)
+  abbrev pub fault_in : {w : ℕ} → (burst : Option (H × ℕ)) → BeatOf H w → Option BeatFault
+  fault_in None b = opening_fault r b
+  fault_in (Some burst) b = continuing_fault r burst.0 b
 
+  -- the first fault of a beat after beats that were accepted
   abbrev pub fault_after : {w : ℕ} → (bs : List (BeatOf H w)) → BeatOf H w → Option BeatFault
-  fault_after {w} bs b = fault_in (rest_of w bs) b
+  fault_after bs b = fault_in (burst_after bs) b

@@ -3,3 +3,4 @@ pub mod Spelling
 pub mod Reading
 pub mod Handing
 pub mod Begun
+pub mod Tracking

@@ -23,5 +23,5 @@ module _ {H : Type 0} (r : Rules H) where
     head = h;
     home = home;
     cells = cond (r.carries h)
-      (map (λ i. cell_of h w (lane_of home i w) (slice_get bs (i / per_beat r h w))) (range_with_len 0 (2 ^ r.size h))) [];
+        (map (λ i. cell_of h w (lane_of home i w) (slice_get bs (i / per_beat r h w))) (range_with_len 0 (2 ^ r.size h))) [];
   }

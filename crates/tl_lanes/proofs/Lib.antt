@@ -1,3 +1,8 @@
 mod Rows
-pub mod Masks
 pub mod Widths
+pub mod Counts
+pub mod Masks
+pub mod ActiveLanes
+pub mod LaneRuns
+pub mod LaneMoves
+pub mod MaskMoves

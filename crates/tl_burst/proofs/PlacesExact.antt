@@ -1,0 +1,63 @@
+-- The places of beats without a fault.
+use Rattle.std.proofs.Common.{◌≡◌, ◌+◌, ◌==◌, ◌↔◌, ℕ, Bool, true, false, not, if◌then◌else◌, Option, None, Some, replicate, refl, sym, ap, ◌∙◌, eq-eqb}
+use Rattle.std.specs.Prelude.{◌||◌}
+use Rattle.std.specs.Int.Bits.{and_self, bit_and}
+use Rattle.tl_lanes.specs.Lanes.{IsWidth}
+use Rattle.tl_msg.specs.Rules.{Rules}
+use Rattle.tl_msg.specs.Firsts.{unless, ◌or_else◌}
+use Rattle.tl_msg.specs.Faults.{is_within, full_mask, mask_fits, is_clean}
+use Rattle.tl_msg.specs.declared.beat.BeatOf.{BeatOf}
+use Rattle.tl_msg.specs.declared.fault.BeatFault.TheVariants.{Mask, Corrupt, HeadChanged}
+use Rattle.tl_msg.proofs.Firsts.{both_none, unless_true}
+use Rattle.tl_burst.specs.Messages.{beats_of}
+use Rattle.tl_burst.specs.Handing.{fault_in}
+use Rattle.tl_burst.specs.Tracking.{IsOpen, IsPlace, IsPlaceOf}
+use Rattle.tl_burst.specs.declared.place.Place.{Place}
+use Rattle.tl_burst.proofs.FaultsExact.{ChannelLaws, none-lawful, none-held}
+use Rattle.tl_burst.proofs.Steps.{place-within}
+
+-- the mask of all active lanes is one that a message may have
+full-fits : (masked partial : Bool) (n : ℕ) → (if masked then (if partial then is_within n n else n == n) else true) ≡ true
+full-fits false partial n = refl
+full-fits true true n = eq-eqb (bit_and n n) n (and_self n)
+full-fits true false n = eq-eqb n n refl
+
+clear-clean : (read carries : Bool) → (not read || (carries || not false)) ≡ true
+clear-clean false carries = refl
+clear-clean true true = refl
+clear-clean true false = refl
+
+module _ {H : Type 0} (r : Rules H) (w : ℕ) (ww : IsWidth w) (laws : ChannelLaws r) where
+  -- a beat with this head, all active lanes and no corrupt
+  abbrev plain : H → BeatOf H w
+  plain h = record { head = h; mask = full_mask r h w; lanes = replicate w 0; corrupt = false }
+
+  plain-fits : (h : H) → mask_fits r (plain h) ≡ true
+  plain-fits h = full-fits r.masked (r.partial h) (full_mask r h w)
+
+  plain-none : (burst : Option (H × ℕ)) (h : H) → r.fault h ≡ None → ((g : H) (count : ℕ) → burst ≡ Some (g, count) → h ≡ g) → fault_in r burst (plain h) ≡ None
+  plain-none None h lawful held =
+      both_none (r.fault h) (unless (mask_fits r (plain h)) Mask or_else unless (is_clean r (plain h)) Corrupt) lawful
+      (both_none (unless (mask_fits r (plain h)) Mask) (unless (is_clean r (plain h)) Corrupt)
+      (unless_true (mask_fits r (plain h)) Mask (plain-fits h))
+      (unless_true (is_clean r (plain h)) Corrupt (clear-clean r.corrupts (r.carries h))))
+  plain-none (Some (g, count)) h lawful held =
+      both_none (unless (r.same h g) HeadChanged) (unless (mask_fits r (plain h)) Mask)
+      (unless_true (r.same h g) HeadChanged ((laws.same_heads h g).1 (held g count refl)))
+      (unless_true (mask_fits r (plain h)) Mask (plain-fits h))
+
+  pub places-exact : {K : Type 0} (burst : Option (H × ℕ)) (place : Place K H) → IsOpen r w burst →
+      IsPlace r w burst place ↔ (b : BeatOf H w) × IsPlaceOf r w burst b place
+  places-exact burst place begun = (
+    λ is. (plain place.head, record { accepted = plain-none burst place.head is.lawful is.held; head = refl; index = is.index; last = is.last }),
+    λ (b, is).
+        let lawful : r.fault place.head ≡ None = ap (λ h. r.fault h) is.head ∙ none-lawful r w ww laws burst b begun is.accepted in
+        let held : (h : H) (count : ℕ) → burst ≡ Some (h, count) → place.head ≡ h = λ h count e. is.head ∙ none-held r w ww laws burst b is.accepted h count e in
+        record {
+          lawful = lawful;
+          held = held;
+          index = is.index;
+          within = place-within r w burst place.head place.index ww (laws.small place.head lawful) begun held is.index;
+          last = is.last ∙ ap (λ h. place.index + 1 == beats_of r h w) (sym is.head);
+        },
+  )

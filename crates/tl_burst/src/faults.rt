@@ -1,0 +1,86 @@
+ghost use Rattle.std.specs.Prelude.{◌≡◌, ◌≤◌, ◌<◌, None, length, All};
+ghost use Rattle.tl_lanes.specs.Lanes.{IsWidth};
+ghost use Rattle.tl_msg.specs.Faults as faults;
+ghost use Rattle.tl_msg.specs.Beats.{IsBeat};
+
+use tl_lanes::active;
+use tl_msg::{Beat, BeatFault, Channel};
+
+/// The first fault of a beat that stands outside a burst: of its head, then `Mask`, then `Corrupt`.
+pub fn opening_fault<K: Channel, const W: usize>(beat: &Beat<K, W>) -> Option<BeatFault>
+    requires { IsWidth W }
+    ensures { result ≡ faults.opening_fault K.rules beat.now }
+{
+    if let Some(fault) = K::fault(&beat.head) {
+        return Some(fault);
+    }
+    if !mask_fits::<K, W>(beat) {
+        return Some(BeatFault::Mask);
+    }
+    if !is_clean::<K, W>(beat) {
+        return Some(BeatFault::Corrupt);
+    }
+    None
+}
+
+/// The first fault of a beat inside a burst with this head: `HeadChanged`, then `Mask`.
+pub fn continuing_fault<K: Channel, const W: usize>(
+    head: &K::Head,
+    beat: &Beat<K, W>,
+) -> Option<BeatFault>
+    requires width { IsWidth W }
+    requires lawful { K.rules.fault head.now ≡ None }
+    ensures { result ≡ faults.continuing_fault K.rules head.now beat.now }
+{
+    if beat.head != *head {
+        return Some(BeatFault::HeadChanged);
+    }
+    if !mask_fits::<K, W>(beat) {
+        return Some(BeatFault::Mask);
+    }
+    None
+}
+
+/// Whether the mask is one that the message may have: any of the active lanes on PutPartialData, else
+/// exactly the active lanes. On C, D and E it is not read.
+fn mask_fits<K: Channel, const W: usize>(beat: &Beat<K, W>) -> bool
+    requires width { IsWidth W }
+    requires small { K.rules.size beat.now.head ≤ 12 }
+    ensures { result ≡ faults.mask_fits K.rules beat.now }
+{
+    if !K::MASKED {
+        return true;
+    }
+    let lanes = active(K::lane_address(&beat.head, 0), K::size(&beat.head), W);
+    if K::partial(&beat.head) {
+        beat.mask & lanes == beat.mask
+    } else {
+        beat.mask == lanes
+    }
+}
+
+/// Whether corrupt is clear on a message without data. On E it is not read.
+fn is_clean<K: Channel, const W: usize>(beat: &Beat<K, W>) -> bool
+    ensures { result ≡ faults.is_clean K.rules beat.now }
+{
+    K::LETTER == b'E' || K::carries_data(&beat.head) || !beat.corrupt
+}
+
+/// The fields of a beat in memory are in the ranges of their types. It does nothing: its contract
+/// brings this fact to proofs.
+pub fn ranges_of_beat<K: Channel, const W: usize>(beat: &Beat<K, W>)
+    ensures { IsBeat K.rules beat.now }
+{
+    let _mask = beat.mask;
+    let _address = K::lane_address(&beat.head, 0);
+    length_of_lanes(&beat.lanes);
+    ranges_of_lanes(&beat.lanes);
+}
+
+fn length_of_lanes<const W: usize>(lanes: &[u8; W])
+    ensures { length lanes.now ≡ W }
+{}
+
+fn ranges_of_lanes(lanes: &[u8])
+    ensures { All (λ byte. byte < 256) lanes.now }
+{}

@@ -1,0 +1,73 @@
+//! The two ways to copy lanes or mask bits from one bus to another: a run that goes round neither bus
+//! at once, and any other byte by byte.
+
+ghost use Rattle.std.specs.Prelude.{◌≡◌, ◌≢◌, ◌≤◌, ◌<◌, ◌+◌, ◌⊎◌, ℕ, length, slice_index};
+ghost use Rattle.std.specs.Int.{bit_at};
+ghost use Rattle.tl_lanes.specs.Lanes.{IsWidth, lane_of};
+
+use crate::lane;
+use crate::runs::{ones, run_of_lanes};
+
+// Copies `count` lanes, from lane `near` on, to lanes `far` and on.
+pub(crate) fn move_run(from: &[u8], near: usize, to: &mut [u8], far: usize, count: usize)
+    requires near_room { near + count ≤ length from.now }
+    requires far_room { far + count ≤ length to.old }
+    ensures size { length to.new ≡ length to.old }
+    ensures moved { (k : ℕ) → k < count → slice_index to.new (far + k) ≡ slice_index from.now (near + k) }
+    ensures kept { (l : ℕ) → (l < far) ⊎ (far + count ≤ l) → slice_index to.new l ≡ slice_index to.old l }
+{
+    to[far..far + count].copy_from_slice(&from[near..near + count]);
+}
+
+// Copies the lanes of `count` bytes from address `at` on, byte by byte.
+pub(crate) fn move_each<const W: usize, const V: usize>(
+    from: &[u8; W],
+    to: &mut [u8; V],
+    at: u64,
+    count: usize,
+)
+    requires near { IsWidth W }
+    requires far { IsWidth V }
+    requires near_room { count ≤ W }
+    requires far_room { count ≤ V }
+    ensures size { length to.new ≡ V }
+    ensures moved { (k : ℕ) → k < count → slice_index to.new (lane_of at k V) ≡ slice_index from.now (lane_of at k W) }
+    ensures kept { (l : ℕ) → ((k : ℕ) → k < count → lane_of at k V ≢ l) → slice_index to.new l ≡ slice_index to.old l }
+{
+    for k in 0..count {
+        to[lane(at, k, V)] = from[lane(at, k, W)];
+    }
+}
+
+// The mask `to` with `count` bits of `from`, those from bit `near` on, at bits `far` and on.
+pub(crate) fn move_run_of_bits(from: u64, near: usize, to: u64, far: usize, count: usize) -> u64
+    requires near_inside { near < 64 }
+    requires far_inside { far < 64 }
+    requires far_room { far + count ≤ 64 }
+    ensures moved { (k : ℕ) → k < count → bit_at result (far + k) ≡ bit_at from (near + k) }
+    ensures kept { (l : ℕ) → (l < far) ⊎ (far + count ≤ l) → bit_at result l ≡ bit_at to l }
+{
+    let moved = from >> near & ones(count);
+    to & !run_of_lanes(far, count) | moved << far
+}
+
+// The mask `to` with the bits of `count` bytes from address `at` on, byte by byte.
+pub(crate) fn move_each_bit(from: u64, w: usize, to: u64, v: usize, at: u64, count: usize) -> u64
+    requires near { IsWidth w }
+    requires far { IsWidth v }
+    requires near_room { count ≤ w }
+    requires far_room { count ≤ v }
+    ensures moved { (k : ℕ) → k < count → bit_at result (lane_of at k v) ≡ bit_at from (lane_of at k w) }
+    ensures kept { (l : ℕ) → ((k : ℕ) → k < count → lane_of at k v ≢ l) → bit_at result l ≡ bit_at to l }
+{
+    let mut mask = to;
+    for k in 0..count {
+        let far = lane(at, k, v);
+        if from >> lane(at, k, w) & 1 == 1 {
+            mask |= 1 << far;
+        } else {
+            mask &= !(1 << far);
+        }
+    }
+    mask
+}

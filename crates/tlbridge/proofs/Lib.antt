@@ -1,0 +1,3 @@
+pub mod Reading
+pub mod Widths
+pub mod Writing

@@ -1,0 +1,90 @@
+//! From the bytes that come in to the bytes that go out.
+ghost use Rattle.std.specs.Prelude.{◌≡◌, ◌≢◌, ◌≤◌, ◌<◌, length, IfSome, IfOk, OnOk, IfErr, IsErrOf};
+ghost use Rattle.std.specs.Io.KnownBytes.{Appends, IsAtEnd};
+ghost use Rattle.tlbridge.specs.Orders.{IsRunnable};
+ghost use Rattle.tlbridge.specs.Texts.{ReadsAllBeforeWriting, most_bytes};
+ghost use Rattle.tlbridge.specs.declared.fault.TextFault.TheVariants.{Read as ReadFault, Write as WriteFault, TooLong, OutOfMemory};
+
+use crate::fault::TextFault;
+use crate::first_path::answer_of;
+use crate::order::Order;
+use std::alloc::{AllocError, Global};
+use std::io::{Read, Write};
+use std::thread::Threads;
+
+const MOST_BYTES: usize = 67_108_864;
+
+const PIECE: usize = 65_536;
+
+/// Room for one read.
+fn room(alloc: Global) -> Result<Vec<u8>, AllocError>
+    ensures { IfOk result (λ v. 0 < length v.items) }
+{
+    vec![in alloc; 0u8; PIECE]
+}
+
+/// All that a reader gives, where it is not too long. A read that is interrupted has failed.
+fn read_all<R: Read>(alloc: Global, reader: &mut R) -> Result<Vec<u8>, TextFault>
+    ensures all { IfOk result (λ v. IfSome (R.remaining reader.old) (λ text. v.items ≡ text)) }
+    ensures few { IfOk result (λ v. length v.items ≤ most_bytes) }
+    ensures end { OnOk result (IsAtEnd (R.remaining reader.new)) }
+    ensures long { IsErrOf result TooLong → IfSome (R.remaining reader.old) (λ text. most_bytes < length text) }
+    ensures kinds { IfErr result (λ e. (e ≢ ReadFault) → (e ≢ TooLong) → e ≡ OutOfMemory) }
+{
+    let mut all = Vec::new(alloc);
+    let mut piece = room(alloc)?;
+    for _ in 0..=MOST_BYTES {
+        match reader.read(piece.as_mut_slice()) {
+            Ok(0) => return Ok(all),
+            Ok(n) => {
+                if n > MOST_BYTES - all.len() {
+                    return Err(TextFault::TooLong);
+                }
+                all.extend_from_slice(&piece[..n])?;
+            }
+            Err(_) => return Err(TextFault::Read),
+        }
+    }
+    Err(TextFault::TooLong)
+}
+
+/// Writes all bytes and flushes. A write that takes none or is interrupted has failed.
+fn write_whole<W: Write>(writer: &mut W, bytes: &[u8]) -> Result<(), TextFault>
+    ensures all { OnOk result (Appends (W.contents writer.old) (W.contents writer.new) bytes.now) }
+    ensures kind { IfErr result (λ e. e ≡ WriteFault) }
+{
+    let mut written = 0;
+    while written < bytes.len() {
+        match writer.write(&bytes[written..]) {
+            Ok(0) | Err(_) => return Err(TextFault::Write),
+            Ok(n) => written += n,
+        }
+    }
+    if writer.flush().is_err() {
+        return Err(TextFault::Write);
+    }
+    Ok(())
+}
+
+/// Reads a trace to the end of the input, and writes the answer to it: true where all five
+/// channels are done.
+///
+/// Nothing is written before the whole answer is made. After a Write fault it isn't said how much
+/// went out. Until the crates of the bridge stand, a trace may hold lines of channel A alone, with
+/// Get and PutFullData, to a manager that is no wider than the client.
+pub fn run_text<T: Threads, R: Read, W: Write>(
+    _rt: &T,
+    alloc: Global,
+    reader: &mut R,
+    writer: &mut W,
+    order: &Order,
+) -> Result<bool, TextFault>
+    requires { IsRunnable order.now }
+    ensures { ReadsAllBeforeWriting (R.remaining reader.old) (R.remaining reader.new)
+        (W.contents writer.old) (W.contents writer.new) result }
+{
+    let text = read_all(alloc, reader)?;
+    let answer = answer_of(alloc, &text, order)?;
+    write_whole(writer, &answer.text)?;
+    Ok(answer.all_done)
+}
