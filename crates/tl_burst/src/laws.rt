@@ -33,8 +33,8 @@ pub fn homes_are_kept<K: Channel, const W: usize>()
         IsHandedWith K.rules (bs ++ b ∷ []) (homes_with K.rules bs homes b home) }
 {}
 
-/// The first beats of a list that is handed are handed too. So, with the law above, a list is handed
-/// exactly where each of its beats has no fault after those before it.
+/// The first beats of a list that is handed are handed too. So, by `faults_are_exact`, a list of beats
+/// in the ranges of their types is handed exactly where none has a fault after those before it.
 pub fn fronts_are_handed<K: Channel, const W: usize>()
     ensures { (bs cs : List (BeatOf K.Head W)) → IsHanded K.rules (bs ++ cs) → IsHanded K.rules bs }
 {}

@@ -49,8 +49,8 @@ impl<K: Channel, const W: usize> Tracker<K, W> {
     /// then `Mask`. On C, D and E the mask is not read, and E is never refused. Nothing changes.
     ///
     /// It needs that `W` is a width: 1, 2, 4, 8, 16, 32 or 64 bytes. TileLink: burst rules, byte lanes,
-    /// masks, opcode and param tables; the order of the faults, and that corrupt is a fault only of a
-    /// message without data: this project's choice.
+    /// masks, signal descriptions, opcode and param tables. This project's choice: the order of the
+    /// faults, and that the mask is exactly the active lanes but on PutPartialData.
     pub fn check(&self, beat: &Beat<K, W>) -> Result<Place<K>, BeatFault>
         requires { IsWidth W }
 
