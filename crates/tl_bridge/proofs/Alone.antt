@@ -12,7 +12,7 @@ use Rattle.tl_bridge.specs.Outcomes.{alone_after, alone}
 use Rattle.tl_bridge.specs.Laws.{IsLongestHanded}
 use Rattle.tl_bridge.proofs.Extends.{take-next, take-past}
 use Rattle.tl_bridge.proofs.FarHeads.{NoFaults, no-faults-less}
-use Rattle.tl_bridge.proofs.Fronts.{front_handed}
+use Rattle.tl_burst.proofs.Fronts.{front-handed}
 
 module _ {H : Type 0} (r : Rules H) {w : ℕ}
     (exact : (bs : List (BeatOf H w)) (b : BeatOf H w) → IsHanded r bs → IsBeat r b → (fault_after r bs b ≡ None) ↔ IsAdmitted r bs b)
@@ -80,7 +80,7 @@ module _ {H : Type 0} (r : Rules H) {w : ℕ}
             none : (k : ℕ) → k ≤ length (b ∷ bs) → IsHanded r (before ++ take k (b ∷ bs)) → k ≤ 0
             none zero m g = omega arith
             none (suc k) m g =
-                let one : IsAdmitted r before b = front_handed r g.handed (before ++ b ∷ []) (take k bs) (sym (along k)) in
+                let one : IsAdmitted r before b = front-handed r w (before ++ b ∷ []) (take k bs) (subst (λ q. IsHanded r q) (sym (along k)) g) in
                 let fine : fault_after r before b ≡ None = (exact before b h (all 0 b refl)).1 one in
                 absurd (let f : Some fault ≡ None = sym e ∙ fine in cc)
 

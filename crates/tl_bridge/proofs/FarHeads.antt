@@ -10,7 +10,7 @@ use Rattle.tl_msg.specs.declared.fault.BeatFault.TheVariants.{HeadChanged, Mask}
 use Rattle.tl_msg.proofs.Firsts.{first_none, unless_none}
 use Rattle.tl_burst.specs.Messages.{beats_of}
 use Rattle.tl_burst.specs.Handing.{ends, rest_of, fault_after}
-use Rattle.tl_burst.specs.Begun.{heads, left}
+use Rattle.tl_burst.specs.Begun.{heads, left, rest_heads}
 use Rattle.tl_convert.specs.Due.{far_beats_of, due}
 use Rattle.tl_bridge.proofs.Extends.{Extends, more, extends-same, extends-front, extends-on, take-grows, take-next, take-past, grows}
 use Rattle.tl_bridge.proofs.Comparisons.{true_equal, false_apart}
@@ -58,11 +58,7 @@ keeps_head {H} r {w} exact bs b fine = by_rest (rest_of r w bs) refl
     by_rest (x ∷ xs) e = inside x.head (rw e at fine)
 
 module _ {H : Type 0} (r : Rules H) (exact : (x y : H) → r.same x y ≡ true → x ≡ y) (w : ℕ) (near : 0 < w) where
-  -- the message of a rest, how many beats it lacks, and that it lacks some
-  abbrev pub opened : List (BeatOf H w) → List H
-  opened [] = []
-  opened (b ∷ bs) = b.head ∷ []
-
+  -- how many beats the message of a rest lacks, and that it lacks some
   abbrev pub lacks : List (BeatOf H w) → ℕ
   lacks [] = 0
   lacks (b ∷ bs) = beats_of r b.head w - length (b ∷ bs)
@@ -73,17 +69,14 @@ module _ {H : Type 0} (r : Rules H) (exact : (x y : H) → r.same x y ≡ true �
 
   -- what the heads alone tell of a list is what its rest tells
   pub record IsRead (bs : List (BeatOf H w)) : Type 0 where
-    pub heads_are : heads r w bs ≡ finished_after r w [] bs ++ opened (rest_of r w bs)
+    pub heads_are : heads r w bs ≡ finished_after r w [] bs ++ rest_heads r w (rest_of r w bs)
     pub left_is : left r w bs ≡ lacks (rest_of r w bs)
     pub short : IsShort (rest_of r w bs)
 
-  -- the same, of the three things that it speaks of
-  Reads : (heads_of : List H) (left_of : ℕ) (finished : List H) (rest : List (BeatOf H w)) → Type 0
-  Reads heads_of left_of finished rest = (heads_of ≡ finished ++ opened rest) × (left_of ≡ lacks rest) × IsShort rest
-
+  -- what one more beat changes of it
   step : (bs : List (BeatOf H w)) (b : BeatOf H w) (rest : List (BeatOf H w)) (t : Bool) → ends r w rest b ≡ t → KeepsHead rest b →
-      (heads r w bs ≡ finished_after r w [] bs ++ opened rest) × (left r w bs ≡ lacks rest) × IsShort rest →
-      (heads r w (bs ++ b ∷ []) ≡ (finished_after r w [] bs ++ cond t (b.head ∷ []) []) ++ opened (cond t [] (rest ++ b ∷ []))) ×
+      (heads r w bs ≡ finished_after r w [] bs ++ rest_heads r w rest) × (left r w bs ≡ lacks rest) × IsShort rest →
+      (heads r w (bs ++ b ∷ []) ≡ (finished_after r w [] bs ++ cond t (b.head ∷ []) []) ++ rest_heads r w (cond t [] (rest ++ b ∷ []))) ×
       (left r w (bs ++ b ∷ []) ≡ lacks (cond t [] (rest ++ b ∷ []))) × IsShort (cond t [] (rest ++ b ∷ []))
   step bs b [] true e fine (h, l, s) =
       let n : 0 + 1 ≡ beats_of r b.head w = true_equal (0 + 1) (beats_of r b.head w) e in (
@@ -123,8 +116,8 @@ module _ {H : Type 0} (r : Rules H) (exact : (x y : H) → r.same x y ≡ true �
   is-read-more bs b fine k =
       let next = step bs b (rest_of r w bs) (ends r w (rest_of r w bs) b) refl (keeps_head r exact bs b fine) (k.heads_are, k.left_is, k.short) in
       record {
-        heads_are = next.0 ∙ ap (λ q. q ++ opened (cond (ends r w (rest_of r w bs) b) [] (rest_of r w bs ++ b ∷ []))) (sym (finished_more r w [] bs b)) ∙
-            ap (λ q. finished_after r w [] (bs ++ b ∷ []) ++ opened q) (sym (rest_more r w [] bs b));
+        heads_are = next.0 ∙ ap (λ q. q ++ rest_heads r w (cond (ends r w (rest_of r w bs) b) [] (rest_of r w bs ++ b ∷ []))) (sym (finished_more r w [] bs b)) ∙
+            ap (λ q. finished_after r w [] (bs ++ b ∷ []) ++ rest_heads r w q) (sym (rest_more r w [] bs b));
         left_is = next.1 ∙ ap lacks (sym (rest_more r w [] bs b));
         short = subst IsShort (sym (rest_more r w [] bs b)) next.2;
       }
@@ -155,7 +148,7 @@ module _ {H : Type 0} (r : Rules H) (exact : (x y : H) → r.same x y ≡ true �
     first_of_one h (suc c) hs = rw (take-nil {A = H} c) (more (h ∷ []) hs)
 
     -- what has begun there has begun here, whatever the homes
-    opened_there : (rest : List (BeatOf H w)) → Extends (far_opened r w v some_far rest) (opened rest)
+    opened_there : (rest : List (BeatOf H w)) → Extends (far_opened r w v some_far rest) (rest_heads r w rest)
     opened_there [] = more [] []
     opened_there (b ∷ bs) = first_of_one b.head (far_beats_of r b.head w v (length (b ∷ bs))) []
 

@@ -11,13 +11,13 @@ use Rattle.tl_msg.specs.declared.beat.BeatOf.{BeatOf}
 use Rattle.tl_burst.specs.Messages.{Message, Cell, beats_of, per_beat, byte_on, lane_value, lane_on, mask_at, is_bad, some_of, beat_at, layout}
 use Rattle.tl_burst.specs.Reading.{cell_of, message_of}
 use Rattle.tl_burst.specs.Handing.{ends, rest_of, fault_after}
-use Rattle.tl_burst.specs.Begun.{heads}
+use Rattle.tl_burst.specs.Begun.{heads, rest_heads}
 use Rattle.tl_convert.specs.Due.{far_beats_of, part, due}
 use Rattle.tl_bridge.proofs.Extends.{Extends, more, extends-same, extends-front, take-some, take-grows, take-next, take-past, grows}
 use Rattle.tl_bridge.proofs.Comparisons.{true_equal}
 use Rattle.tl_bridge.proofs.Begins.{per-beat-some, more-due}
 use Rattle.tl_bridge.proofs.Finished.{finished_after, rest_more, laid_after, homes_left, due_split, laid_more, homes_more, laid_homes, left_homes, left_count}
-use Rattle.tl_bridge.proofs.FarHeads.{NoFaults, IsRead, reads, opened, KeepsHead, keeps_head, no-faults-less}
+use Rattle.tl_bridge.proofs.FarHeads.{NoFaults, IsRead, reads, KeepsHead, keeps_head, no-faults-less}
 
 map_agree : {X : Type 0} (f g : ℕ → X) (s n c : ℕ) → ((t : ℕ) → t < s + c → f t ≡ g t) → take c (map f (range_with_len s n)) ≡ take c (map g (range_with_len s n))
 map_agree f g s n zero h = refl
@@ -174,7 +174,7 @@ module _ {H : Type 0} (r : Rules H) (exact : (x y : H) → r.same x y ≡ true �
       (cond (ends r w (rest_of r w bs) b) (layout r (message_of r b.head w (slice_index (homes_left r w v [] homes bs) 0) (rest_of r w bs ++ b ∷ [])) v) [] ++
       part r w v (slice_index (cond (ends r w (rest_of r w bs) b) (drop 1 (homes_left r w v [] homes bs)) (homes_left r w v [] homes bs)) 0) q)) (rest_more r w [] bs b)
 
-  count_opened : (finished : List H) (rest : List (BeatOf H w)) (n : ℕ) → length (finished ++ opened r exact w near rest) ≤ n →
+  count_opened : (finished : List H) (rest : List (BeatOf H w)) (n : ℕ) → length (finished ++ rest_heads r w rest) ≤ n →
       (length finished ≤ n) × (0 < length rest → length finished < n)
   count_opened finished [] n l = let e : length (finished ++ []) ≡ length finished + 0 = length-append finished [] in (omega arith, λ k. absurd (omega arith))
   count_opened finished (x ∷ xs) n l =

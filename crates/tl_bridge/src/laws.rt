@@ -1,12 +1,21 @@
-//! Laws over the definitions. These functions do nothing: each is there for its contract.
-ghost use Rattle.std.specs.Prelude.{ℕ, List};
+//! Laws over the definitions, for the proofs above. Each function is there for its contract, and
+//! changes nothing.
+ghost use Rattle.std.specs.Prelude.{ℕ, List, All};
 ghost use Rattle.tl_lanes.specs.Lanes.{IsWidth};
 ghost use Rattle.tl_msg.specs.declared.head.HeadA.{HeadA};
 ghost use Rattle.tl_msg.specs.declared.head.HeadD.{HeadD};
 ghost use Rattle.tl_msg.specs.declared.beat.BeatOf.{BeatOf};
-ghost use Rattle.tl_bridge.specs.Settling.{IsSettledState, settled_state};
+ghost use Rattle.tl_msg.specs.Beats.{IsBeat};
+ghost use Rattle.tl_msg.specs.Tables.{rules_a, rules_d};
+ghost use Rattle.tl_bridge.specs.Steps.{Reaches};
+ghost use Rattle.tl_bridge.specs.Settling.{IsSettledState, settled_state, goes_a, goes_d};
+ghost use Rattle.tl_bridge.specs.Outcomes.{alone};
+ghost use Rattle.tl_bridge.specs.Laws.{IsLongestHanded, IsAtAdmitted};
 ghost use Rattle.tl_bridge.specs.Histories.{Event};
 ghost use Rattle.tl_bridge.specs.Rounds.{IsOver, IsSettledRun};
+
+use tl_burst::laws::faults_are_exact;
+use tl_msg::{ChA, ChD, Channel};
 
 /// For every script there is one settled state, and no order of steps goes past it.
 pub fn one_settled_state()
@@ -22,3 +31,25 @@ pub fn every_run()
         (i j : ℕ) (client : List (Event c)) (manager : List (Event m)) →
         IsOver a d i j client manager → IsSettledRun a d i j client manager }
 {}
+
+/// Wherever steps lead, the beats accepted on A and on D are handed, the next beat of each list has
+/// no fault exactly where it is admitted, and it opens a message exactly where no burst is
+/// unfinished.
+pub fn steps_are_admitted<const C: usize, const M: usize>()
+    requires client { IsWidth C }
+    requires manager { IsWidth M }
+    ensures { (a : List (BeatOf HeadA C)) (d : List (BeatOf HeadD M)) → All (λ b. IsBeat rules_a b) a → All (λ b. IsBeat rules_d b) d →
+        (i j : ℕ) → Reaches (goes_a a d) (goes_d a d) i j → IsAtAdmitted a d i j }
+{
+    faults_are_exact::<ChA, C>();
+    faults_are_exact::<ChD, M>();
+}
+
+/// On a channel that nothing couples to another one, as B, C and E, the longest front of a list that
+/// is handed is accepted.
+pub fn longest_is_accepted<K: Channel, const W: usize>()
+    requires { IsWidth W }
+    ensures { (bs : List (BeatOf K.Head W)) → All (λ b. IsBeat K.rules b) bs → IsLongestHanded K.rules bs (alone K.rules bs) }
+{
+    faults_are_exact::<K, W>();
+}

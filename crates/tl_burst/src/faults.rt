@@ -1,7 +1,6 @@
-ghost use Rattle.std.specs.Prelude.{◌≡◌, ◌≤◌, ◌<◌, None, length, All};
+ghost use Rattle.std.specs.Prelude.{◌≡◌, ◌≤◌, None};
 ghost use Rattle.tl_lanes.specs.Lanes.{IsWidth};
 ghost use Rattle.tl_msg.specs.Faults as faults;
-ghost use Rattle.tl_msg.specs.Beats.{IsBeat};
 
 use tl_lanes::active;
 use tl_msg::{Beat, BeatFault, Channel};
@@ -65,22 +64,3 @@ fn is_clean<K: Channel, const W: usize>(beat: &Beat<K, W>) -> bool
 {
     K::LETTER == b'E' || K::carries_data(&beat.head) || !beat.corrupt
 }
-
-/// The fields of a beat in memory are in the ranges of their types. It does nothing: its contract
-/// brings this fact to proofs.
-pub fn ranges_of_beat<K: Channel, const W: usize>(beat: &Beat<K, W>)
-    ensures { IsBeat K.rules beat.now }
-{
-    let _mask = beat.mask;
-    let _address = K::lane_address(&beat.head, 0);
-    length_of_lanes(&beat.lanes);
-    ranges_of_lanes(&beat.lanes);
-}
-
-fn length_of_lanes<const W: usize>(lanes: &[u8; W])
-    ensures { length lanes.now ≡ W }
-{}
-
-fn ranges_of_lanes(lanes: &[u8])
-    ensures { All (λ byte. byte < 256) lanes.now }
-{}

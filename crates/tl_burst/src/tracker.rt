@@ -5,11 +5,11 @@ ghost use Rattle.tl_burst.specs.Messages.{beats_of};
 ghost use Rattle.tl_burst.specs.Handing.{IsHanded, IsAdmitted, rest_of, burst_after, fault_in, fault_after};
 ghost use Rattle.tl_burst.specs.Tracking.{IsOpen, IsPlace, burst_with, count_in};
 
-use crate::faults::{continuing_fault, opening_fault, ranges_of_beat};
+use crate::faults::{continuing_fault, opening_fault};
 use crate::place::Place;
 use std::marker::Model;
 use tl_lanes::beats;
-use tl_msg::{Beat, BeatFault, Channel};
+use tl_msg::{Beat, BeatFault, Channel, ranges_of_beat};
 
 /// A checker of the bursts of one channel, `W` bytes wide.
 ///

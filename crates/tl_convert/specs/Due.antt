@@ -1,9 +1,9 @@
 -- The far beats that near beats make due, by the SiFive TileLink Specification 1.8: burst rules and byte lanes
 -- (that part of a message is rounded down to whole far beats: this project's choice).
-use Rattle.std.specs.Prelude.{◌≡◌, ◌≢◌, ◌*◌, ◌/◌, ◌++◌, ℕ, Bool, cond, Option, None, Some, List, [], ◌∷◌, length, flat_map, take, drop, slice_get, slice_index}
+use Rattle.std.specs.Prelude.{◌≡◌, ◌≢◌, ◌*◌, ◌/◌, ◌++◌, ℕ, cond, Option, Some, List, [], ◌∷◌, length, flat_map, take, drop, slice_get, slice_index}
 use Rattle.tl_msg.specs.Rules.{Rules}
 use Rattle.tl_msg.specs.declared.beat.BeatOf.{BeatOf}
-use Rattle.tl_burst.specs.Messages.{Message, IsLawful, per_beat, beats_of, layout}
+use Rattle.tl_burst.specs.Messages.{Message, IsLawful, per_beat, layout}
 use Rattle.tl_burst.specs.Spelling.{Spells}
 use Rattle.tl_burst.specs.Reading.{message_of}
 use Rattle.tl_burst.specs.Handing.{Handed, ends}

@@ -1,10 +1,10 @@
 -- Laws of the far beats that are due.
-use Rattle.std.specs.Prelude.{◌≡◌, ◌≢◌, ◌+◌, ◌*◌, ◌/◌, ◌++◌, ◌==◌, ℕ, Bool, cond, Some, List, [], length, map, take, slice_get}
+use Rattle.std.specs.Prelude.{◌≡◌, ◌≢◌, ◌+◌, ◌*◌, ◌/◌, ◌++◌, ◌==◌, ℕ, Bool, cond, Some, List, [], length, map, take, slice_get, All}
 use mathlib.Core.List.{IsPrefix}
 use Rattle.std.specs.List.{enumerate_from}
-use Rattle.tl_lanes.specs.Lanes.{IsWidth}
 use Rattle.tl_msg.specs.Rules.{Rules}
 use Rattle.tl_msg.specs.declared.beat.BeatOf.{BeatOf}
+use Rattle.tl_msg.specs.Faults.{IsLawfulBeat}
 use Rattle.tl_burst.specs.Messages.{Cell, Message, IsLawful, per_beat, is_bad, some_of, layout}
 use Rattle.tl_burst.specs.Spelling.{Spells}
 use Rattle.tl_burst.specs.Handing.{Handed}
@@ -67,3 +67,8 @@ module _ {H : Type 0} (r : Rules H) where
   abbrev pub DueIsHanded : (w v : ℕ) → Type 0
   DueIsHanded w v = (bs : List (BeatOf H w)) (homes : List ℕ) (ms : List (Message H)) (rest : List (BeatOf H w)) →
       Handed r w bs homes ms rest → FarIsHanded v bs homes ms rest
+
+  -- each far beat that is due is lawful at its width: a new tracker does not refuse it
+  abbrev pub DueIsLawful : (w v : ℕ) → Type 0
+  DueIsLawful w v = (bs : List (BeatOf H w)) (homes : List ℕ) (ms : List (Message H)) (rest : List (BeatOf H w)) →
+      Handed r w bs homes ms rest → All (λ b. IsLawfulBeat r b) (due r w v bs homes)

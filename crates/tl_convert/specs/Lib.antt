@@ -1,2 +1,7 @@
 pub mod Due
 pub mod Laws
+pub mod Pouring
+pub mod Giving
+pub mod Converting
+pub mod Accepted
+pub mod Counting

@@ -1,0 +1,77 @@
+-- What a near beat with data gives after the beats of its message that came before.
+use Rattle.std.proofs.Common.{◌≡◌, ◌<◌, ◌+◌, ◌-◌, ◌*◌, ◌/◌, ◌≢◌, ◌++◌, ℕ, true, List, [], ◌∷◌, length, map, refl, sym, ap, subst, ◌∙◌, arith, ⊎_elim}
+use Rattle.std.specs.List.{range_with_len}
+use Rattle.std.proofs.lemmas.Bool.Decides.{eqb_tells}
+use Rattle.tl_msg.specs.Rules.{Rules}
+use Rattle.tl_msg.specs.declared.beat.BeatOf.{BeatOf}
+use Rattle.tl_lanes.specs.Lanes.{IsWidth}
+use Rattle.tl_burst.specs.Messages.{Message, per_beat, beats_of, beat_at}
+use Rattle.tl_burst.proofs.Fits.{FitsMask}
+use Rattle.tl_convert.specs.Pouring.{Filled, Source, Pours, IsBlank}
+use Rattle.tl_convert.specs.Giving.{Run, GivenData}
+use Rattle.tl_burst.proofs.Places.{per-pos}
+use Rattle.tl_convert.proofs.Filling.{Filled-none}
+use Rattle.tl_burst.proofs.Runs.{of_cells, run-is}
+use Rattle.tl_convert.proofs.RunStep.{run_message, run_end, end-next, run-source, filled-longer, run-due}
+
+module _ {H : Type 0} (r : Rules H) (w v home : ℕ) (ww : IsWidth w) (vw : IsWidth v) (b : BeatOf H w) (carries : r.carries b.head ≡ true) where
+  -- nothing of a message is filled before its first beat
+  none-filled : (bs : List (BeatOf H w)) (far : BeatOf H v) → length bs ≡ 0 → IsBlank b.head far →
+      Filled r (run_message r b.head w v home ww vw carries (bs ++ b ∷ [])) v (run_end r b.head w v home ww vw carries bs / per_beat r b.head v)
+      (run_end r b.head w v home ww vw carries bs) far
+  none-filled bs far e blank =
+      let m : Message H = run_message r b.head w v home ww vw carries (bs ++ b ∷ []) in
+      let pp : 0 < per_beat r b.head v = per-pos r (of_cells r b.head home []) v vw in
+      let n : length bs * per_beat r b.head w ≡ 0 * per_beat r b.head w = ap (λ k. k * per_beat r b.head w) e in
+      let z : 0 * per_beat r b.head w ≡ 0 = omega arith in
+      let zv : 0 * per_beat r b.head v ≡ 0 = omega arith in
+      let q : length bs * per_beat r b.head w / per_beat r b.head v ≡ 0 = ap (λ k. k / per_beat r b.head v) (n ∙ z) ∙ omega arith in
+      let none_is : Filled r (run_message r b.head w v home ww vw carries (bs ++ b ∷ [])) v 0 (0 * per_beat r b.head v) far =
+      Filled-none r (run_message r b.head w v home ww vw carries (bs ++ b ∷ [])) v vw 0 far blank.head_is blank.lanes blank.size blank.mask blank.corrupt in
+      let P : ℕ → Type 0 = λ k. Filled r (run_message r b.head w v home ww vw carries (bs ++ b ∷ [])) v 0 k far in
+      let Q : ℕ → Type 0 = λ j. Filled r (run_message r b.head w v home ww vw carries (bs ++ b ∷ [])) v j (length bs * per_beat r b.head w) far in
+      subst Q (sym q) (subst P (zv ∙ sym (n ∙ z)) none_is)
+
+  pub give-all : (bs : List (BeatOf H w)) (index first : ℕ) (far0 far1 new : BeatOf H v) (out : List (BeatOf H v)) → Run r index home b far0 bs →
+      first ≡ index * per_beat r b.head w → (index ≡ 0 → IsBlank b.head far1) → (index ≢ 0 → far1 ≡ far0) →
+      ((m : Message H) → Source r m home first b → Pours r m v first first far1 [] → Pours r m v first (first + per_beat r m.head w) new out) →
+      GivenData r home b new bs out
+  give-all bs index first far0 far1 new out run ef blank kept pours =
+      let fits : FitsMask r b = run.mask in
+      let inside : index < beats_of r b.head w = run.inside in
+      let m : Message H = run_message r b.head w v home ww vw carries (bs ++ b ∷ []) in
+      let shorter : length bs < beats_of r b.head w = (let i : index ≡ length bs = run.index_is in omega arith) in
+      let e : first ≡ run_end r b.head w v home ww vw carries bs = ef ∙ ap (λ k. k * per_beat r b.head w) run.index_is in
+      let before : Filled r (run_message r b.head w v home ww vw carries (bs ++ b ∷ [])) v (run_end r b.head w v home ww vw carries bs / per_beat r b.head v)
+      (run_end r b.head w v home ww vw carries bs) far1 =
+      ⊎_elim
+      (λ s. none-filled bs far1 (sym run.index_is ∙ s.1) (blank s.1))
+      (λ s.
+      let M : Message H → Type 0 = λ y. Filled r y v (run_end r b.head w v home ww vw carries bs / per_beat r b.head v) (run_end r b.head w v home ww vw carries bs) far0 in
+      let F : BeatOf H v → Type 0 = λ y. Filled r (run_message r b.head w v home ww vw carries (bs ++ b ∷ [])) v
+      (run_end r b.head w v home ww vw carries bs / per_beat r b.head v) (run_end r b.head w v home ww vw carries bs) y in
+      subst F (sym (kept s.1))
+      (filled-longer r b.head w v home ww vw carries bs b shorter refl fits run.home_is (run_end r b.head w v home ww vw carries bs / per_beat r b.head v) far0
+      (subst M (run-is r b.head w v home ww vw carries bs) (run.filled s.1))))
+      (eqb_tells index 0) in
+      let z : run_end r b.head w v home ww vw carries bs / per_beat r b.head v - run_end r b.head w v home ww vw carries bs / per_beat r b.head v ≡ 0 = omega arith in
+      let start : Pours r (run_message r b.head w v home ww vw carries (bs ++ b ∷ [])) v (run_end r b.head w v home ww vw carries bs)
+      (run_end r b.head w v home ww vw carries bs) far1 [] = record {
+        filled = before;
+        beats = ap (λ k. map (beat_at r (run_message r b.head w v home ww vw carries (bs ++ b ∷ [])) v)
+            (range_with_len (run_end r b.head w v home ww vw carries bs / per_beat r b.head v) k)) (sym z);
+      } in
+      let S : ℕ → Type 0 = λ k. Source r (run_message r b.head w v home ww vw carries (bs ++ b ∷ [])) home k b in
+      let T : ℕ → Type 0 = λ k. Pours r (run_message r b.head w v home ww vw carries (bs ++ b ∷ [])) v k k far1 [] in
+      let U : ℕ → Type 0 = λ k. Pours r (run_message r b.head w v home ww vw carries (bs ++ b ∷ [])) v k (k + per_beat r b.head w) new out in
+      let done : Pours r (run_message r b.head w v home ww vw carries (bs ++ b ∷ [])) v (run_end r b.head w v home ww vw carries bs)
+      (run_end r b.head w v home ww vw carries bs + per_beat r b.head w) new out =
+      subst U e (pours (run_message r b.head w v home ww vw carries (bs ++ b ∷ []))
+      (subst S (sym e) (run-source r b.head w v home ww vw carries bs b shorter refl fits run.home_is)) (subst T (sym e) start)) in
+      let M : Message H → Type 0 = λ y. Filled r y v (run_end r b.head w v home ww vw carries (bs ++ b ∷ []) / per_beat r b.head v)
+      (run_end r b.head w v home ww vw carries (bs ++ b ∷ [])) new in
+      let E : ℕ → Type 0 = λ k. Filled r (run_message r b.head w v home ww vw carries (bs ++ b ∷ [])) v (k / per_beat r b.head v) k new in
+      record {
+        due_is = λ homes eh. run-due r b.head w v home ww vw carries bs b shorter refl fits run.home_is homes eh run.heads new out done;
+        filled = subst M (sym (run-is r b.head w v home ww vw carries (bs ++ b ∷ []))) (subst E (end-next r b.head w v home ww vw carries bs b) done.filled);
+      }

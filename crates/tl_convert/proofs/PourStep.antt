@@ -1,0 +1,175 @@
+-- One chunk of a near beat: where it begins and ends, and what the far beats then are.
+use Rattle.std.proofs.Common.{◌≡◌, ◌≤◌, ◌<◌, ◌+◌, ◌-◌, ◌*◌, ◌/◌, ◌%◌, ◌^◌, ◌≢◌, ◌++◌, ℕ, min, List, [], ◌∷◌, map, sym, ap, subst, ◌∙◌, arith, rules, ⊎_elim}
+use Rattle.std.specs.List.{range_with_len}
+use Rattle.std.proofs.lemmas.Bool.Decides.{eqb_tells, leb_tells}
+use Rattle.std.proofs.lemmas.List.FromFn.{map-range_with_len_more}
+use Rattle.std.proofs.Math.Nat.{mod-lt, add-mul-mod_self_right, div-eq_of_eq-mul_left, mul-le-mul_right, mul-mod_left, mod-eq_of_lt}
+use Rattle.std.proofs.Math.Arith.{digits_div}
+use Rattle.tl_msg.specs.Rules.{Rules}
+use Rattle.tl_msg.specs.declared.beat.BeatOf.{BeatOf}
+use Rattle.tl_lanes.specs.Lanes.{IsWidth, bytes_per_beat}
+use Rattle.tl_burst.specs.Messages.{Message, per_beat, beat_at}
+use Rattle.tl_convert.specs.Pouring.{Filled, Brings, Poured, Source, Pours, IsBlank, far_beats}
+use Rattle.tl_burst.proofs.Places.{per-pos}
+use Rattle.tl_burst.proofs.Numbers.{parts, div-up, per-power, powers-divide}
+use Rattle.tl_convert.proofs.Filling.{Filled-more, Filled-none, Filled-whole}
+
+-- a sum that ends a beat
+pub ends-beat : (n q p : ℕ) → 0 < p → 0 < q → n % p + q ≤ p → (n + q) % p ≡ 0 → n / p * p + p ≡ n + q
+ends-beat n q p pos posq room e =
+    let s : n / p * p + n % p ≡ n = parts n p in
+    ⊎_elim
+    (λ s1. let k : n % p + q ≡ p = s1.1 in omega arith)
+    (λ s1. let k : n % p + q ≢ p = s1.1 in
+    let t : n + q ≡ (n % p + q) + n / p * p = omega arith in
+    let u : (n + q) % p ≡ (n % p + q) % p = ap (λ x. x % p) t ∙ add-mul-mod_self_right (n % p + q) (n / p) p in
+    let v : (n % p + q) % p ≡ n % p + q = mod-eq_of_lt (omega arith) in
+    absurd (omega arith))
+    (eqb_tells (n % p + q) p)
+
+-- a sum inside a beat
+pub inside-beat : (n q p : ℕ) → 0 < p → 0 < q → n % p + q ≤ p → (n + q) % p ≢ 0 → (n + q) / p ≡ n / p
+inside-beat n q p pos posq room ne =
+    let s : n / p * p + n % p ≡ n = parts n p in
+    ⊎_elim
+    (λ s1. let k : n % p + q ≡ p = s1.1 in
+    let t : n + q ≡ (n / p + 1) * p = grind arith in
+    let u : (n + q) % p ≡ 0 = ap (λ x. x % p) t ∙ mul-mod_left (n / p + 1) p in
+    absurd (ne u))
+    (λ s1. let k : n % p + q ≢ p = s1.1 in
+    let t : n / p * p + (n % p + q) ≡ n + q = omega arith in
+    ap (λ x. x / p) (sym t) ∙ digits_div (n / p) (omega arith))
+    (eqb_tells (n % p + q) p)
+
+spread : (x y c q : ℕ) → (x * c + y) * q ≡ y * q + x * (c * q)
+spread x y c q = grind arith
+
+-- a chunk doesn't cross the end of a far beat
+pub chunk-room : (a c q : ℕ) → 0 < q → 0 < c → (a * q) % (c * q) + q ≤ c * q
+chunk-room a c q pos cpos =
+    let s : a / c * c + a % c ≡ a = parts a c in
+    let lt : a % c < c = mod-lt a cpos in
+    let less : a % c * q + q ≤ c * q = grind (arith, mul-le-mul_right) in
+    let small : a % c * q < c * q = omega arith in
+    let t : a * q ≡ a % c * q + a / c * (c * q) = ap (λ x. x * q) (sym s) ∙ spread (a / c) (a % c) c q in
+    let u : (a * q) % (c * q) ≡ (a % c * q) % (c * q) = ap (λ x. x % (c * q)) t ∙ add-mul-mod_self_right (a % c * q) (a / c) (c * q) in
+    let v : (a % c * q) % (c * q) ≡ a % c * q = mod-eq_of_lt small in
+    omega arith
+
+module _ {H : Type 0} {W : ℕ} (r : Rules H) (m : Message H) (v home first done q at : ℕ) (ww : IsWidth W) (vw : IsWidth v)
+    (beat : BeatOf H W) (old new : BeatOf H v) (out : List (BeatOf H v))
+    (source : Source r m home first beat) (begun : first ≤ done) (within : done + q ≤ first + per_beat r m.head W) (pos : 0 < q)
+    (fits : done % per_beat r m.head v + q ≤ per_beat r m.head v) (ea : at ≡ (home + done) % 2 ^ 64)
+    (poured : Poured r.masked beat old new at q) (before : Pours r m v first done old out) where
+  filled-more : Filled r m v (done / per_beat r m.head v) (done + q) new
+  filled-more =
+      let s : done / per_beat r m.head v * per_beat r m.head v + done % per_beat r m.head v ≡ done = parts done (per_beat r m.head v) in
+      let brings : Brings r m done q beat = record {
+        head = source.brings.head;
+        cells = λ i lo hi. source.brings.cells i (omega arith) (omega arith);
+        bits = λ t f i lo hi. source.brings.bits t f i (omega arith) (omega arith);
+      } in
+      Filled-more r m v vw ww (done / per_beat r m.head v) done q at beat old new (ea ∙ ap (λ x. (x + done) % 2 ^ 64) (sym source.home_is))
+      (omega arith) (omega arith) pos brings poured before.filled
+
+  -- the far beat isn't whole yet
+  pub pour-stays : (done + q) % per_beat r m.head v ≢ 0 → Pours r m v first (done + q) new out
+  pour-stays ne =
+      let pp : 0 < per_beat r m.head v = per-pos r m v vw in
+      let e : (done + q) / per_beat r m.head v ≡ done / per_beat r m.head v = inside-beat done q (per_beat r m.head v) pp pos fits ne in
+      record {
+        filled = (let P : ℕ → Type 0 = λ j. Filled r m v j (done + q) new in subst P (sym e) filled-more);
+        beats = before.beats ∙ ap (λ j. map (beat_at r m v) (range_with_len (first / per_beat r m.head v) (j - first / per_beat r m.head v))) (sym e);
+      }
+
+  -- the far beat is whole
+  pub pour-ends : (done + q) % per_beat r m.head v ≡ 0 → (fresh : BeatOf H v) → IsBlank beat.head fresh → (out' : List (BeatOf H v)) →
+      out' ≡ out ++ new ∷ [] → Pours r m v first (done + q) fresh out'
+  pour-ends z fresh blank out' eo =
+      let p : ℕ = per_beat r m.head v in
+      let pp : 0 < per_beat r m.head v = per-pos r m v vw in
+      let j : ℕ = done / per_beat r m.head v in
+      let e : done / per_beat r m.head v * per_beat r m.head v + per_beat r m.head v ≡ done + q = ends-beat done q (per_beat r m.head v) pp pos fits z in
+      let f : (done / per_beat r m.head v + 1) * per_beat r m.head v ≡ done + q = grind arith in
+      let g : (done + q) / per_beat r m.head v ≡ done / per_beat r m.head v + 1 = div-eq_of_eq-mul_left pp (sym f) in
+      let le : first / per_beat r m.head v ≤ done / per_beat r m.head v = div-up first done (per_beat r m.head v) pp begun in
+      let up : first / per_beat r m.head v + (done / per_beat r m.head v - first / per_beat r m.head v) ≡ done / per_beat r m.head v = omega arith in
+      let n : done / per_beat r m.head v - first / per_beat r m.head v + 1 ≡ (done + q) / per_beat r m.head v - first / per_beat r m.head v = omega arith in
+      let room : done + q ≤ 2 ^ r.size m.head = (let x : first + per_beat r m.head W ≤ 2 ^ r.size m.head = source.room in omega arith) in
+      let P : ℕ → Type 0 = λ d. Filled r m v (done / per_beat r m.head v) d new in
+      let whole : new ≡ beat_at r m v (done / per_beat r m.head v) =
+      Filled-whole r m v vw (done / per_beat r m.head v) new source.carries source.cells (omega arith) (subst P (sym e) filled-more) in
+      let none_in : Filled r m v (done / per_beat r m.head v + 1) ((done / per_beat r m.head v + 1) * per_beat r m.head v) fresh =
+      Filled-none r m v vw (done / per_beat r m.head v + 1) fresh (blank.head_is ∙ source.brings.head) blank.lanes blank.size blank.mask blank.corrupt in
+      let Q : ℕ → Type 0 = λ d. Filled r m v (done / per_beat r m.head v + 1) d fresh in
+      let R : ℕ → Type 0 = λ k. Filled r m v k (done + q) fresh in
+      record {
+        filled = subst R (sym g) (subst Q f none_in);
+        beats = eo ∙ ap (λ x. x ++ new ∷ []) before.beats ∙ ap (λ x. far_beats r m v first done ++ x ∷ []) whole ∙
+            sym (map-range_with_len_more (beat_at r m v) (first / per_beat r m.head v) (done / per_beat r m.head v - first / per_beat r m.head v) (done / per_beat r m.head v) up) ∙
+            ap (λ k. map (beat_at r m v) (range_with_len (first / per_beat r m.head v) k)) n;
+      }
+
+-- the chunks of a near beat
+pub record Chunk (near wide q first t : ℕ) : Type 0 where
+  pub pos : 0 < q
+  pub within : first + t * q + q ≤ first + near
+  pub fits : (first + t * q) % wide + q ≤ wide
+
+chunk-facts : (near wide q first t : ℕ) → 0 < near → 0 < wide → 0 < q → near ≡ near / q * q → wide ≡ wide / q * q → first % near ≡ 0 → t < near / q →
+    Chunk near wide q first t
+chunk-facts near wide q first t pn pw pq dn dw whole lt =
+    let more : (t + 1) * q ≤ near / q * q = grind (arith, mul-le-mul_right) in
+    let parted : first / near * near + first % near ≡ first = parts first near in
+    let start : first ≡ first / near * (near / q) * q = grind arith in
+    let done : first + t * q ≡ (first / near * (near / q) + t) * q = grind arith in
+    let cpos : 0 < wide / q = grind arith in
+    record {
+      pos = pq;
+      within = grind arith;
+      fits =
+          let P : ℕ → Type 0 = λ d. d % wide + q ≤ wide in
+          let Q : ℕ → Type 0 = λ p. ((first / near * (near / q) + t) * q) % p + q ≤ p in
+          subst P (sym done) (subst Q (sym dw) (chunk-room (first / near * (near / q) + t) (wide / q) q pq cpos));
+    }
+
+min-power : (p q a b : ℕ) → p ≡ 2 ^ a → q ≡ 2 ^ b → (k : ℕ) × (min p q ≡ 2 ^ k)
+min-power p q a b ep eq = ⊎_elim (λ s. (a, let z : p ≤ q = s.1 in omega arith)) (λ s. (b, let z : q < p = s.1 in omega arith)) (leb_tells p q)
+
+power-pos : (p k : ℕ) → p ≡ 2 ^ k → 0 < p
+power-pos p k e = let z : 0 < 2 ^ k = search rules in omega arith
+
+pub chunks : (size W v first t near wide q : ℕ) → IsWidth W → IsWidth v → near ≡ bytes_per_beat size W → wide ≡ bytes_per_beat size v → q ≡ min near wide →
+    first % near ≡ 0 → t < near / q → Chunk near wide q first t
+chunks size W v first t near wide q ww vw en ew eq whole lt =
+    let wn = per-power size W ww in
+    let wv = per-power size v vw in
+    let pn : near ≡ 2 ^ wn.0 = en ∙ wn.1 in
+    let pw : wide ≡ 2 ^ wv.0 = ew ∙ wv.1 in
+    let wc = min-power near wide wn.0 wv.0 pn pw in
+    let pc : q ≡ 2 ^ wc.0 = eq ∙ wc.1 in
+    chunk-facts near wide q first t (power-pos near wn.0 pn) (power-pos wide wv.0 pw) (power-pos q wc.0 pc)
+    (powers-divide wn.0 wc.0 near q pn pc (omega arith)) (powers-divide wv.0 wc.0 wide q pw pc (omega arith)) whole lt
+
+-- the chunk of an iteration
+pub chunk-at : {H : Type 0} (r : Rules H) (head : H) (W v first t size near wide q : ℕ) → IsWidth W → IsWidth v →
+    size ≡ r.size head → near ≡ bytes_per_beat size W → wide ≡ bytes_per_beat size v → q ≡ min near wide →
+    first % per_beat r head W ≡ 0 → t < near / q → Chunk near wide q first t
+chunk-at r head W v first t size near wide q ww vw es en ew eq whole lt =
+    let e : per_beat r head W ≡ near = ap (λ z. bytes_per_beat z W) (sym es) ∙ sym en in
+    chunks size W v first t near wide q ww vw en ew eq (ap (λ n. first % n) (sym e) ∙ whole) lt
+
+-- the chunks are all of the near beat
+pub chunk-all : {H : Type 0} (r : Rules H) (head : H) (W v first t size near wide q : ℕ) → IsWidth W → IsWidth v →
+    size ≡ r.size head → near ≡ bytes_per_beat size W → wide ≡ bytes_per_beat size v → q ≡ min near wide →
+    t ≡ near / q → first + t * q ≡ first + per_beat r head W
+chunk-all r head W v first t size near wide q ww vw es en ew eq et =
+    let wn = per-power size W ww in
+    let wv = per-power size v vw in
+    let pn : near ≡ 2 ^ wn.0 = en ∙ wn.1 in
+    let pw : wide ≡ 2 ^ wv.0 = ew ∙ wv.1 in
+    let wc = min-power near wide wn.0 wv.0 pn pw in
+    let pc : q ≡ 2 ^ wc.0 = eq ∙ wc.1 in
+    let d : near ≡ near / q * q = powers-divide wn.0 wc.0 near q pn pc (omega arith) in
+    let e : per_beat r head W ≡ near = ap (λ z. bytes_per_beat z W) (sym es) ∙ sym en in
+    ap (λ n. first + n * q) et ∙ ap (λ n. first + n) (sym d ∙ sym e)

@@ -1,0 +1,59 @@
+-- The far beat of a message without data.
+use Rattle.std.proofs.Common.{◌≡◌, ◌≤◌, ◌+◌, ◌*◌, ◌^◌, ◌&&◌, ℕ, zero, suc, Bool, true, false, [], ◌∷◌, length, get_or, map, replicate, refl, sym, ap, ◌∙◌, arith, ⊎_elim}
+use Rattle.std.specs.List.{range_with_len}
+use Rattle.std.proofs.lemmas.List.FromFn.{fill_by_all}
+use Rattle.tl_msg.specs.Rules.{Rules}
+use Rattle.tl_msg.specs.declared.beat.BeatOf.{BeatOf}
+use Rattle.tl_lanes.proofs.ActiveLanes.{is_active-from_lane, is_active-false}
+use Rattle.tl_lanes.specs.Lanes.{IsWidth}
+use Rattle.tl_burst.specs.Messages.{per_beat, beats_of, lane_value, lane_on, mask_at, beat_at, layout, of_head, some_of, is_bad}
+use Rattle.tl_lanes.specs.Lanes.{mask_of, is_active, active_mask}
+use Rattle.tl_burst.proofs.Runs.{mask_of-same}
+use Rattle.tl_burst.proofs.SpelledRun.{bool-cases}
+use Rattle.tl_burst.proofs.OnLane.{on_lane, same_beat}
+use Rattle.tl_burst.proofs.Numbers.{zeros}
+
+some_of-none : (f : ℕ → Bool) (a n : ℕ) → ((x : ℕ) → f x ≡ false) → some_of f a n ≡ false
+some_of-none f a zero h = refl
+some_of-none f a (suc n) h = rw (some_of-none f a n h) (h (a + n))
+
+no-mask : (n : ℕ) → mask_of (λ l. false) n ≡ 0
+no-mask zero = refl
+no-mask (suc n) = omega (arith, no-mask n)
+
+module _ {H : Type 0} (r : Rules H) (h : H) (v x : ℕ) (vw : IsWidth v) (empty : r.carries h ≡ false) (b : BeatOf H v)
+    (head : b.head ≡ h) (lanes : b.lanes ≡ replicate v 0) (size : length b.lanes ≡ v) (corrupt : b.corrupt ≡ false)
+    (on : r.masked ≡ true → b.mask ≡ active_mask x (r.size h) v) (off : r.masked ≡ false → b.mask ≡ 0) where
+  room : 0 * per_beat r h v + per_beat r h v ≤ 2 ^ r.size h
+  room = omega arith
+
+  value : (l : ℕ) → lane_value r (of_head h x) v 0 l ≡ 0
+  value l = ⊎_elim (λ (i, lo, hi, there, e). rw e refl) (λ (never, e). rw e refl) (on_lane r (of_head h x) v vw 0 room l)
+
+  -- the lanes of its bytes are the active ones
+  lane-is : (l : ℕ) → lane_on r (of_head h x) v 0 l ≡ is_active x (r.size h) v l
+  lane-is l = ⊎_elim
+      (λ (i, lo, hi, there, e).
+      let is_on : lane_on r (of_head h x) v 0 l ≡ true = rw e (rw empty refl) in
+      is_on ∙ sym (is_active-from_lane x (r.size h) v l i (omega arith) there))
+      (λ (never, e).
+      let is_off : lane_on r (of_head h x) v 0 l ≡ false = rw e refl in
+      is_off ∙ sym (is_active-false x (r.size h) v l (λ i lt. never i (omega arith) (omega arith))))
+      (on_lane r (of_head h x) v vw 0 room l)
+
+  mask-is : b.mask ≡ mask_at r (of_head h x) v 0
+  mask-is = ⊎_elim
+      (λ masked. on masked ∙ mask_of-same (is_active x (r.size h) v) (λ l. r.masked && lane_on r (of_head h x) v 0 l) v
+      (λ l. sym (lane-is l) ∙ ap (λ y. y && lane_on r (of_head h x) v 0 l) (sym masked)))
+      (λ plain. off plain ∙ sym (mask_of-same (λ l. r.masked && lane_on r (of_head h x) v 0 l) (λ l. false) v
+      (λ l. ap (λ y. y && lane_on r (of_head h x) v 0 l) plain) ∙ no-mask v))
+      (bool-cases r.masked)
+
+  pub single-is : b ∷ [] ≡ layout r (of_head h x) v
+  single-is =
+      let n : beats_of r h v ≡ 1 = rw empty refl in
+      let same : b ≡ beat_at r (of_head h x) v 0 =
+      same_beat b (beat_at r (of_head h x) v 0) head mask-is
+      (fill_by_all (lane_value r (of_head h x) v 0) b.lanes v 0 size (λ l lt. ap (λ xs. get_or {A = ℕ} xs l 0) lanes ∙ zeros v l ∙ sym (value l)))
+      (corrupt ∙ sym (some_of-none (is_bad r (of_head h x)) (0 * per_beat r h v) (per_beat r h v) (λ i. refl))) in
+      ap (λ y. y ∷ []) same ∙ ap (λ k. map (beat_at r (of_head h x) v) (range_with_len 0 k)) (sym n)

@@ -1,0 +1,13 @@
+use Rattle.std.proofs.Common.{◌+◌, ◌*◌, ◌≤◌, []}
+use Rattle.arrayvec.specs.ArrayVec.{array_vec_len}
+use Rattle.tl_burst.specs.Messages.{Message}
+use Rattle.tl_convert.specs.Pouring.{Source, Pours}
+use Rattle.tl_convert.proofs.pouring.pour.Given as goal
+
+abbrev pub invariant-loop-t : goal.invariant-loop-t
+invariant-loop-t g l = record {
+  count : array_vec_len l.out ≤ l.t;
+  pours : (m : Message g.row.K-Head.Denot) → Source {W = g.row.W} g.K.Channel.rules m l.fn.home l.fn.first l.beat →
+      Pours g.K.Channel.rules m g.row.V l.fn.first l.fn.first l.initial.partial [] →
+      Pours g.K.Channel.rules m g.row.V l.fn.first (l.fn.first + l.t * l.chunk) l.partial l.out.items;
+}

@@ -1,0 +1,133 @@
+ghost use Rattle.std.specs.Prelude.{◌≡◌, ◌↔◌, ◌++◌, ◌∷◌, [], ℕ, Some, List, All, IfOk, IfErr, IsOk, OnOk, OnErr, IsTrue};
+ghost use Rattle.tl_lanes.specs.Lanes.{IsWidth};
+ghost use Rattle.tl_msg.specs.Faults.{IsLawfulBeat};
+ghost use Rattle.tl_msg.specs.declared.beat.BeatOf.{BeatOf};
+ghost use Rattle.tl_burst.specs.Handing.{IsAdmitted, rest_of, fault_after, homes_with};
+ghost use Rattle.tl_convert.specs.Due.{due};
+ghost use Rattle.tl_convert.specs.Converting.{StandsFor};
+
+use crate::giving::give;
+use arrayvec::ArrayVec;
+use std::marker::Model;
+use tl_burst::Tracker;
+use tl_msg::{Beat, BeatFault, Channel, ranges_of_beat};
+
+/// Gives the beats of one channel at another width: from a bus of `W` bytes to a bus of `V` bytes.
+///
+/// It holds at most one far beat that is not yet whole. In contracts it is a `Progress`: the open burst, its home, and that far beat.
+/// `StandsFor` says which near beats, with which homes, a converter was fed. The home of a message is the address by which its
+/// bytes stand on lanes: the address field on A, B and C, 0 on E, and on D the address of the request that the message answers.
+#[derive(Drop)]
+pub struct Converter<K: Channel, const W: usize, const V: usize> {
+    tracker: Tracker<K, W>,
+    home: u64,
+    partial: Beat<K, V>,
+}
+
+impl<K: Channel, const W: usize, const V: usize> Model for Converter<K, W, V> {
+    ghost use Rattle.tl_convert.specs.Converting.{Progress, IsFed};
+
+    ghost Value = { Progress K.Head V };
+
+    ghost view = { λ c. record { burst = c.tracker; home = c.home; partial = c.partial } };
+
+    ghost invariant = { λ c. IsFed K.rules W (record { burst = c.tracker; home = c.home; partial = c.partial }) };
+}
+
+impl<K: Channel, const W: usize, const V: usize> Converter<K, W, V> {
+    /// A converter that was fed nothing. It needs no memory.
+    pub fn new() -> Self
+        ensures { StandsFor {w = W} K.rules result [] [] }
+    {
+        Converter {
+            tracker: Tracker::new(),
+            home: 0,
+            partial: Default::default(),
+        }
+    }
+
+    /// Takes the next near beat, and gives the far beats that it completes, at most 64.
+    ///
+    /// `home` is read at the first beat of a message on D alone. It may be any number; bytes then go on from lane 0 after the
+    /// last lane.
+    ///
+    /// The beat is refused with its first fault, exactly where it is not admitted after the beats that were fed: outside a burst
+    /// Opcode, Param, Size, Unaligned, Mask, Corrupt, and inside one HeadChanged, Mask. A refusal changes nothing.
+    pub fn feed(
+        &mut self,
+        beat: Beat<K, W>,
+        home: u64,
+    ) -> Result<ArrayVec<Beat<K, V>, 64>, BeatFault>
+        requires near { IsWidth W }
+        requires far { IsWidth V }
+
+        // for all near beats, with their homes, that the converter stands for
+        ensures admitted { (bs : List (BeatOf K.Head W)) (homes : List ℕ) →
+            StandsFor K.rules self.old bs homes → IsOk result ↔ IsAdmitted K.rules bs beat }
+        ensures fault { (bs : List (BeatOf K.Head W)) (homes : List ℕ) →
+            StandsFor K.rules self.old bs homes → IfErr result (λ fault. fault_after K.rules bs beat ≡ Some fault) }
+        ensures stands { (bs : List (BeatOf K.Head W)) (homes : List ℕ) →
+            StandsFor K.rules self.old bs homes →
+            OnOk result (StandsFor K.rules self.new (bs ++ beat ∷ []) (homes_with K.rules bs homes beat home)) }
+        ensures due { (bs : List (BeatOf K.Head W)) (homes : List ℕ) →
+            StandsFor K.rules self.old bs homes →
+            IfOk result (λ out. due K.rules W V (bs ++ beat ∷ []) (homes_with K.rules bs homes beat home) ≡
+            due K.rules W V bs homes ++ out.items) }
+
+        // for every converter
+        ensures lawful { IfOk result (λ out. All (λ b. IsLawfulBeat K.rules b) out.items) }
+        ensures unchanged { OnErr result (self.new ≡ self.old) }
+    {
+        let mut out = ArrayVec::new();
+        self.feed_into(&beat, home, &mut out)?;
+        Ok(out)
+    }
+
+    /// Takes the next near beat as [`Converter::feed`] does, and puts the far beats that it completes into `out`, an empty list of
+    /// the caller's. A refusal leaves the list empty.
+    pub fn feed_into(
+        &mut self,
+        beat: &Beat<K, W>,
+        home: u64,
+        out: &mut ArrayVec<Beat<K, V>, 64>,
+    ) -> Result<(), BeatFault>
+        requires near { IsWidth W }
+        requires far { IsWidth V }
+        requires empty { out.old.items ≡ [] }
+
+        // for all near beats, with their homes, that the converter stands for
+        ensures admitted { (bs : List (BeatOf K.Head W)) (homes : List ℕ) →
+            StandsFor K.rules self.old bs homes → IsOk result ↔ IsAdmitted K.rules bs beat.now }
+        ensures fault { (bs : List (BeatOf K.Head W)) (homes : List ℕ) →
+            StandsFor K.rules self.old bs homes → IfErr result (λ fault. fault_after K.rules bs beat.now ≡ Some fault) }
+        ensures stands { (bs : List (BeatOf K.Head W)) (homes : List ℕ) →
+            StandsFor K.rules self.old bs homes →
+            OnOk result (StandsFor K.rules self.new (bs ++ beat.now ∷ []) (homes_with K.rules bs homes beat.now home)) }
+        ensures due { (bs : List (BeatOf K.Head W)) (homes : List ℕ) →
+            StandsFor K.rules self.old bs homes →
+            OnOk result (due K.rules W V (bs ++ beat.now ∷ []) (homes_with K.rules bs homes beat.now home) ≡
+            due K.rules W V bs homes ++ out.new.items) }
+
+        // for every converter
+        ensures lawful { OnOk result (All (λ b. IsLawfulBeat K.rules b) out.new.items) }
+        ensures unchanged { OnErr result (self.new ≡ self.old) }
+        ensures nothing { OnErr result (out.new ≡ out.old) }
+    {
+        ranges_of_beat::<K, W>(beat);
+        let place = self.tracker.check(beat)?;
+        if place.index == 0 {
+            self.home = K::lane_address(&beat.head, home);
+        }
+        give::<K, W, V>(beat, &mut self.partial, self.home, place.index, out);
+        self.tracker.advance(place);
+        Ok(())
+    }
+
+    /// Whether no burst is unfinished: every message whose first beat was fed is whole.
+    pub fn at_boundary(&self) -> bool
+        ensures { (bs : List (BeatOf K.Head W)) (homes : List ℕ) →
+            StandsFor K.rules self.now bs homes → IsTrue result ↔ (rest_of K.rules W bs ≡ []) }
+    {
+        self.tracker.in_burst().is_none()
+    }
+}

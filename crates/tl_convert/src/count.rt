@@ -1,0 +1,49 @@
+ghost use Rattle.std.specs.Prelude.{◌≡◌, ◌≤◌, ◌^◌, ℕ, List, length};
+ghost use Rattle.tl_lanes.specs.Lanes.{IsWidth};
+ghost use Rattle.tl_convert.specs.Due.{due};
+ghost use Rattle.tl_convert.specs.Accepted.{accepted_of};
+ghost use Rattle.tl_convert.specs.Counting.{Gives};
+
+use tl_burst::{Place, Tracker};
+use tl_lanes::beat_bytes;
+use tl_msg::{Beat, Channel};
+
+// How many far beats a near beat at this place gives: those of its message whose last byte it brings.
+fn far_beats_at<K: Channel, const W: usize, const V: usize>(place: &Place<K>) -> usize
+    requires near { IsWidth W }
+    requires far { IsWidth V }
+    requires small { K.rules.size place.now.head ≤ 12 }
+    ensures gives { Gives K.rules W V place.now.head place.now.index result }
+    ensures few { result ≤ 64 }
+{
+    if !K::carries_data(&place.head) {
+        return 1;
+    }
+    let size = K::size(&place.head);
+    let near = beat_bytes(size, W);
+    let far = beat_bytes(size, V);
+    let index = place.index as usize;
+    (index + 1) * near / far - index * near / far
+}
+
+/// How many far beats a list of near beats gives, up to the first beat that is refused.
+///
+/// The list has at most `2^40` beats. The homes of the messages don't matter here. `accepted_of` is the part of the list that is
+/// counted; `laws::accepted_is_longest` says that it is the longest first part that is handed.
+pub fn far_count<K: Channel, const W: usize, const V: usize>(beats: &[Beat<K, W>]) -> usize
+    requires near { IsWidth W }
+    requires far { IsWidth V }
+    requires few { length beats.now ≤ 2 ^ 40 }
+    ensures { (homes : List ℕ) → result ≡ length (due K.rules W V (accepted_of K.rules beats.now) homes) }
+{
+    let mut tracker = Tracker::<K, W>::new();
+    let mut count = 0;
+    for beat in beats {
+        let Ok(place) = tracker.check(beat) else {
+            return count;
+        };
+        count += far_beats_at::<K, W, V>(&place);
+        tracker.advance(place);
+    }
+    count
+}

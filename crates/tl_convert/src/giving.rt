@@ -1,0 +1,76 @@
+//! The far beats that a near beat gives.
+
+ghost use Rattle.std.specs.Prelude.{◌≡◌, ◌≤◌, List, [], true, false};
+ghost use Rattle.tl_lanes.specs.Lanes.{IsWidth};
+ghost use Rattle.tl_msg.specs.declared.beat.BeatOf.{BeatOf};
+ghost use Rattle.tl_burst.specs.Messages.{layout, of_head};
+ghost use Rattle.tl_convert.specs.Giving.{Run, Given, GivenData};
+
+use crate::pouring::{blank, pour};
+use arrayvec::ArrayVec;
+use tl_lanes::{active, beat_bytes};
+use tl_msg::{Beat, Channel};
+
+// Gives the far beats of a near beat with data, of whose message `index` beats came before.
+fn give_data<K: Channel, const W: usize, const V: usize>(
+    beat: &Beat<K, W>,
+    partial: &mut Beat<K, V>,
+    home: u64,
+    index: u32,
+    out: &mut ArrayVec<Beat<K, V>, 64>,
+)
+    requires near { IsWidth W }
+    requires far { IsWidth V }
+    requires small { K.rules.size beat.now.head ≤ 12 }
+    requires data { K.rules.carries beat.now.head ≡ true }
+    requires empty { out.old.items ≡ [] }
+    ensures { (bs : List (BeatOf K.Head W)) → Run K.rules index home beat.now partial.old bs →
+        GivenData K.rules home beat.now partial.new bs out.new.items }
+{
+    if index == 0 {
+        *partial = blank::<K, V>(beat.head);
+    }
+    let first = index as usize * beat_bytes(K::size(&beat.head), W);
+    pour::<K, W, V>(beat, partial, home, first, out);
+}
+
+// Gives the far beat of a message without data.
+fn give_head<K: Channel, const V: usize>(
+    head: K::Head,
+    home: u64,
+    out: &mut ArrayVec<Beat<K, V>, 64>,
+)
+    requires far { IsWidth V }
+    requires small { K.rules.size head ≤ 12 }
+    requires no_data { K.rules.carries head ≡ false }
+    requires empty { out.old.items ≡ [] }
+    ensures { out.new.items ≡ layout K.rules (of_head head home) V }
+{
+    let mut beat = blank::<K, V>(head);
+    if K::MASKED {
+        beat.mask = active(home, K::size(&head), V);
+    }
+    out.push(beat);
+}
+
+// Gives the far beats of a near beat, of whose message `index` beats came before. `partial` is the far beat that they have begun.
+pub(crate) fn give<K: Channel, const W: usize, const V: usize>(
+    beat: &Beat<K, W>,
+    partial: &mut Beat<K, V>,
+    home: u64,
+    index: u32,
+    out: &mut ArrayVec<Beat<K, V>, 64>,
+)
+    requires near { IsWidth W }
+    requires far { IsWidth V }
+    requires small { K.rules.size beat.now.head ≤ 12 }
+    requires empty { out.old.items ≡ [] }
+    ensures { (bs : List (BeatOf K.Head W)) → Run K.rules index home beat.now partial.old bs →
+        Given K.rules home beat.now partial.new bs out.new.items }
+{
+    if K::carries_data(&beat.head) {
+        give_data::<K, W, V>(beat, partial, home, index, out);
+    } else {
+        give_head::<K, V>(beat.head, home, out);
+    }
+}
