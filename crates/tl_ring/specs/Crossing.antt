@@ -1,5 +1,5 @@
 -- The crossing of one channel as a world with events, in any order (this project's choice; the ring after Rocket Chip's TLAsyncCrossing).
-use Rattle.std.specs.Prelude.{◌≡◌, ◌-◌, ◌≤◌, ◌<◌, ◌^◌, ℕ, Bool, true, false, List, [], ◌∷◌, ◌++◌, length, take, drop, min, if◌then◌else◌}
+use Rattle.std.specs.Prelude.{◌≡◌, ◌-◌, ◌≤◌, ◌<◌, ◌^◌, ℕ, Bool, true, false, List, [], ◌∷◌, ◌++◌, length, take, drop, min}
 use Rattle.tl_msg.specs.Beats.{IsBeat}
 use Rattle.tl_msg.specs.Rules.{Rules}
 use Rattle.tl_msg.specs.declared.beat.BeatOf.{BeatOf}
@@ -63,9 +63,9 @@ module _ {H : Type 0} (r : Rules H) {w v : ℕ} where
     stage = drop (length (due r w v x.accepted x.homes)) (due r w v (x.accepted ++ b ∷ []) (homes_with r x.accepted x.homes b home));
   }
 
-  -- whether an event is possible: an offer brings a beat and a home that memory can hold
+  -- whether an event is possible: an offer brings a beat that memory can hold, and its home is an address of 64 bits
   abbrev pub IsPossible : World H w v → Event H w → Type 0
-  IsPossible x (offer b home) = (x.closed ≡ false) × (x.stage ≡ []) × (home < 2 ^ 64) × IsBeat r b × IsAdmitted r x.accepted b
+  IsPossible x (offer b home) = (x.closed ≡ false) × (x.stage ≡ []) × IsBeat r b × (r.lane_address b.head home < 2 ^ 64) × IsAdmitted r x.accepted b
   IsPossible x (push k) = (1 ≤ k) × (k ≤ min (length x.stage) (x.room - length x.ring))
   IsPossible x (pop k) = (1 ≤ k) × (k ≤ min (length x.ring) (inbox_room - length x.inbox))
   IsPossible x take_one = 1 ≤ length x.inbox
@@ -84,3 +84,8 @@ module _ {H : Type 0} (r : Rules H) {w v : ℕ} where
     done : (x : World H w v) → Run x [] x
     happens : (x y : World H w v) (e : Event H w) (es : List (Event H w)) → IsPossible x e → Run (effect x e) es y → Run x (e ∷ es) y
     fails : (x y : World H w v) (e : Event H w) (es : List (Event H w)) → (IsPossible x e → ⊥) → Run x es y → Run x (e ∷ es) y
+
+  -- a list of events leads to this world
+  pub record IsReached (x : World H w v) : Type 0 where
+    pub events : List (Event H w)
+    pub run : Run (empty x.room) events x

@@ -1,2 +1,4 @@
 pub mod Crossing
 pub mod Laws
+pub mod Names
+pub mod Pipe

@@ -1,0 +1,34 @@
+//! Makes traces, and measures reading, conversion and writing of them. `bench/run` runs it.
+//!
+//! - `speed make A CLIENT MANAGER BYTES` prints a trace of at least so many bytes, of PutFullData bursts from a client to a manager
+//!   of these widths, and `speed make E CLIENT MANAGER BYTES` one of GrantAcks alone.
+//! - `speed measure` reads a trace of A or E lines on standard input. It prints what it measured: on each line a name and a number,
+//!   a time in nanoseconds, a peak of memory in KiB or a count.
+#![tactic(auto)]
+
+mod make;
+mod measure;
+
+use anyhow::Result;
+use std::env;
+use std::io::Write;
+
+fn main(rt: HostRuntime) -> Result<()> {
+    let words: Vec<String> = env::args(&rt)?.collect(rt.alloc())?;
+    if words.len() == 6 && words[1].as_str() == "make" {
+        let (client, manager) = (words[3].parse()?, words[4].parse()?);
+        let text = make::trace(
+            rt.alloc(),
+            words[2].as_str(),
+            client,
+            manager,
+            words[5].parse()?,
+        )?;
+        rt.stdout().write_all(&text)?;
+    } else if words.len() == 2 && words[1].as_str() == "measure" {
+        measure::measure(&rt, &mut rt.stdin())?;
+    } else {
+        println!(rt; "usage: speed make A|E CLIENT MANAGER BYTES, or speed measure < TRACE")?;
+    }
+    Ok(())
+}

@@ -1,0 +1,84 @@
+//! Makes traces.
+ghost use Rattle.std.specs.Prelude.{◌<◌};
+ghost use Rattle.tl_lanes.specs.Lanes.{IsWidth};
+
+use anyhow::{Result, bail};
+use std::alloc::Global;
+use tl_lanes::{active, beats};
+use tl_msg::{BeatOf, ChA, ChE, HeadA, HeadE};
+use tl_trace::{OutOfMemory, write_far};
+
+/// Appends the lines of a PutFullData: of 64 bytes, and of 4,096 at each eighth message.
+fn put_message<const C: usize>(text: &mut Vec<u8>, number: u64) -> Result<(), OutOfMemory>
+    requires { IsWidth C }
+{
+    let head = HeadA {
+        opcode: 0,
+        param: 0,
+        size: if number % 8 == 7 { 12 } else { 6 },
+        source: (number % 256) as u8,
+        address: number % 65_536 * 4096,
+    };
+    let mask = active(head.address, head.size, C);
+    let mut lanes = [0u8; C];
+    let mut byte = head.source;
+    for _ in 0..beats(true, head.size, C) {
+        for lane in &mut lanes {
+            byte = byte.wrapping_mul(5).wrapping_add(1);
+            *lane = byte;
+        }
+        let beat = BeatOf {
+            head,
+            mask,
+            lanes,
+            corrupt: false,
+        };
+        write_far::<ChA, C>(text, &[beat])?;
+    }
+    Ok(())
+}
+
+/// Appends the line of a GrantAck.
+fn put_grant_ack(text: &mut Vec<u8>, number: u64) -> Result<(), OutOfMemory> {
+    let head = HeadE {
+        sink: (number % 256) as u8,
+    };
+    let beat = BeatOf {
+        head,
+        mask: 0,
+        lanes: [0u8; 1],
+        corrupt: false,
+    };
+    write_far::<ChE, 1>(text, &[beat])
+}
+
+/// Appends a message of channel A or E.
+fn put(text: &mut Vec<u8>, channel: &str, client: usize, number: u64) -> Result<()> {
+    match (channel, client) {
+        ("A", 4) => put_message::<4>(text, number)?,
+        ("A", 8) => put_message::<8>(text, number)?,
+        ("A", 64) => put_message::<64>(text, number)?,
+        ("E", _) => put_grant_ack(text, number)?,
+        _ => bail!("no trace is made for channel {channel} and a client of {client} bytes"),
+    }
+    Ok(())
+}
+
+/// A trace of whole messages, of at least so many bytes.
+pub fn trace(
+    alloc: Global,
+    channel: &str,
+    client: usize,
+    manager: usize,
+    bytes: usize,
+) -> Result<Vec<u8>> {
+    let header = format!(in alloc; "tilelink-trace 1 client {client} manager {manager}\n")?;
+    let mut text = Vec::from_slice(alloc, header.as_bytes())?;
+    for number in 0..bytes as u64 {
+        if text.len() >= bytes {
+            break;
+        }
+        put(&mut text, channel, client, number)?;
+    }
+    Ok(text)
+}

@@ -1,0 +1,45 @@
+-- A cut that goes from the front of one list to the end of the list before it leaves both together as they were.
+use Rattle.std.proofs.Common.{◌≡◌, ◌+◌, ◌-◌, ◌↔◌, ◌==◌, ℕ, true, List, [], ◌++◌, take, drop, length, min, ap, sym, ◌∙◌, arith, ⊎_elim, append_assoc, append-nil}
+use Rattle.std.proofs.lemmas.List.{nil_from_length, take-append-drop, take-append-le}
+use Rattle.std.proofs.lemmas.Bool.{cases_lt}
+use Rattle.std.proofs.lemmas.Bool.Decides.{eqb_tells}
+use Rattle.std.proofs.Math.Seq.{take-append-add, take-length}
+
+pub cut_moves : {X : Type 0} (k : ℕ) (xs ys : List X) → (xs ++ take k ys) ++ drop k ys ≡ xs ++ ys
+cut_moves k xs ys = append_assoc xs (take k ys) (drop k ys) ∙ ap (λ t. xs ++ t) (take-append-drop k ys)
+
+-- the same after other lists
+pub cut_moves_after : {X : Type 0} (before : List X) (k : ℕ) (xs ys : List X) → (before ++ (xs ++ take k ys)) ++ drop k ys ≡ (before ++ xs) ++ ys
+cut_moves_after before k xs ys =
+    ap (λ t. t ++ drop k ys) (sym (append_assoc before xs (take k ys))) ∙ cut_moves k (before ++ xs) ys
+
+-- the first n of two lists joined
+pub take_of_two : {X : Type 0} (n : ℕ) (front back : List X) →
+    take (min n (length front)) front ++ take (n - min n (length front)) back ≡ take n (front ++ back)
+take_of_two n front back = ⊎_elim
+    (λ past.
+    let k : min n (length front) ≡ length front = omega arith in
+    let over : length front + (n - length front) ≡ n = omega arith in
+    ap (λ m. take m front ++ take (n - m) back) k ∙ ap (λ t. t ++ take (n - length front) back) (take-length front) ∙
+    sym (take-append-add front back (n - length front)) ∙ ap (λ m. take m (front ++ back)) over)
+    (λ inside.
+    let k : min n (length front) ≡ n = omega arith in
+    let none : n - min n (length front) ≡ 0 = omega arith in
+    ap (λ m. take m front ++ take (n - min n (length front)) back) k ∙ ap (λ m. take n front ++ take m back) none ∙
+    append-nil (take n front) ∙ sym (take-append-le n front back inside))
+    (cases_lt (length front) n)
+
+-- three lists have no element together exactly where each is empty
+pub none_in_three : {X : Type 0} (xs ys zs : List X) (n : ℕ) → n ≡ length xs + length ys + length zs →
+    ((n == 0) ≡ true) ↔ ((xs ≡ []) × (ys ≡ []) × (zs ≡ []))
+none_in_three xs ys zs n e = ⊎_elim
+    (λ (t, z). (λ _. (nil_from_length xs (omega arith), nil_from_length ys (omega arith), nil_from_length zs (omega arith)), λ _. t))
+    (λ (t, some). (
+      λ u. absurd (cc),
+      λ (x, y, z).
+          let a : length xs ≡ 0 = ap length x in
+          let b : length ys ≡ 0 = ap length y in
+          let c : length zs ≡ 0 = ap length z in
+          absurd (some (omega arith)),
+    ))
+    (eqb_tells n 0)

@@ -1,0 +1,47 @@
+-- What a contract sees of the one-thread pipe.
+use Rattle.std.specs.Prelude.{◌≡◌, ℕ, Bool, true, false, List, []}
+use Rattle.tl_lanes.specs.Lanes.{IsWidth}
+use Rattle.tl_msg.specs.Rules.{Rules}
+use Rattle.tl_msg.specs.declared.beat.BeatOf.{BeatOf}
+use Rattle.tl_convert.specs.Converting.{Progress}
+use Rattle.tl_convert.specs.Converting as converting
+use Rattle.tl_ring.specs.Crossing.{World, IsReached}
+use Rattle.tl_ring.specs.Laws.{Crosses}
+
+-- a pipe as it is now: it keeps no history
+pub record Pipe (H : Type 0) (v : ℕ) : Type 0 where
+  -- where its converter is in a burst
+  pub converter : Progress H v
+  -- how many beats the ring holds
+  pub room : ℕ
+  -- the far beats that wait, from the sender's to the taker's
+  pub stage : List (BeatOf H v)
+  pub ring : List (BeatOf H v)
+  pub inbox : List (BeatOf H v)
+  pub closed : Bool
+
+module _ {H : Type 0} {v : ℕ} where
+  -- a beat may be offered: nothing is staged and the pipe isn't closed
+  abbrev pub IsReady : Pipe H v → Type 0
+  IsReady p = (p.stage ≡ []) × (p.closed ≡ false)
+
+  -- the pipe is closed and no beat is under way
+  abbrev pub IsDrained : Pipe H v → Type 0
+  IsDrained p = (p.closed ≡ true) × (p.stage ≡ []) × (p.ring ≡ []) × (p.inbox ≡ [])
+
+-- the pipe stands for a crossing, as its calls so far have made it
+pub record StandsFor {H : Type 0} (r : Rules H) {w v : ℕ} (p : Pipe H v) (x : World H w v) : Type 0 where
+  pub near : IsWidth w
+  pub far : IsWidth v
+  -- its converter was fed what was accepted
+  pub converter : converting.StandsFor r p.converter x.accepted x.homes
+  -- its beats are those of the crossing
+  pub room : p.room ≡ x.room
+  pub stage : p.stage ≡ x.stage
+  pub ring : p.ring ≡ x.ring
+  pub inbox : p.inbox ≡ x.inbox
+  pub closed : p.closed ≡ x.closed
+  -- a list of events leads there
+  pub reached : IsReached r x
+  -- and so what was taken, and what stands in the pipe, is the far layout of what was accepted
+  pub crosses : Crosses r x

@@ -1,0 +1,65 @@
+ghost use Rattle.std.specs.Prelude.{◌≡◌};
+ghost use Rattle.tl_ring.specs.Names.{build_fault_number, build_fault_name, end_fault_number, end_fault_name};
+
+use thiserror::Error;
+
+/// Why no ring was made. `RingSize` is tested first.
+#[derive(Clone, Copy, PartialEq, Eq, Debug, Error)]
+#[error("{} {}", self.number(), self.name())]
+pub enum BuildFault {
+    /// 12: the ring is to hold no beat, or more than 4,096 (this project's choice).
+    RingSize,
+    /// 13: the allocator refused the ring's memory.
+    OutOfMemory,
+}
+
+impl BuildFault {
+    /// The fault's number, 12 or 13 (this project's choice).
+    pub fn number(&self) -> u8
+        ensures { result ≡ build_fault_number self.now }
+    {
+        match self {
+            BuildFault::RingSize => 12,
+            BuildFault::OutOfMemory => 13,
+        }
+    }
+
+    /// The fault's name, spelled as the variant (this project's choice).
+    pub fn name(&self) -> &'static str
+        ensures { result.now ≡ build_fault_name self.now }
+    {
+        match self {
+            BuildFault::RingSize => "RingSize",
+            BuildFault::OutOfMemory => "OutOfMemory",
+        }
+    }
+}
+
+/// Why a sending end is not closed.
+#[derive(Clone, Copy, PartialEq, Eq, Debug, Error)]
+#[error("{} {}", self.number(), self.name())]
+pub enum EndFault {
+    /// 11: a burst is unfinished, and a close would cut it (this project's choice; that no burst is
+    /// left unfinished is TileLink's: burst rules).
+    MidBurst,
+}
+
+impl EndFault {
+    /// The fault's number, 11 (this project's choice).
+    pub fn number(&self) -> u8
+        ensures { result ≡ end_fault_number self.now }
+    {
+        match self {
+            EndFault::MidBurst => 11,
+        }
+    }
+
+    /// The fault's name, spelled as the variant (this project's choice).
+    pub fn name(&self) -> &'static str
+        ensures { result.now ≡ end_fault_name self.now }
+    {
+        match self {
+            EndFault::MidBurst => "MidBurst",
+        }
+    }
+}

@@ -1,0 +1,180 @@
+ghost use Rattle.std.specs.Prelude.{◌≡◌, ◌≤◌, ◌<◌, ◌-◌, ◌↔◌, ◌⊎◌, [], length, min, slice_get, true, Some, IsOk, IsTrue, IfOk, IfErr, OnOk, OnErr};
+ghost use Rattle.tl_lanes.specs.Lanes.{IsWidth};
+ghost use Rattle.tl_burst.specs.Handing.{IsAdmitted, rest_of, fault_after};
+ghost use Rattle.tl_ring.specs.Crossing.{World, empty, offered, pushed, popped, took, shut, inbox_room};
+ghost use Rattle.tl_ring.specs.Pipe.{StandsFor, IsReady, IsDrained};
+
+use crate::fault::{BuildFault, EndFault};
+use crate::queue::{Queue, read_front};
+use crate::stage::stage_beat;
+use crate::standing::Standing;
+use circular_buffer::HeapCircularBuffer;
+use std::alloc::{Allocator, Global};
+use std::marker::Model;
+use tl_convert::Converter;
+use tl_msg::{Beat, BeatFault, Channel};
+
+/// The most beats that a ring may hold (this project's choice).
+const MAX_RING: usize = 4096;
+
+/// The crossing of one channel within one thread, from a bus of `W` bytes to a bus of `V` bytes.
+///
+/// Near beats are offered at one end, and the far beats that they make due are taken at the other, each once and in order. Between
+/// the ends lie a stage, a ring and an inbox: `offer` fills the stage, `pump` moves beats from the stage into the ring, `fetch`
+/// from the ring into the inbox, and `take` takes them from there. Stage and inbox hold at most 64 beats each, the ring as many
+/// as `new` was asked for (this project's choice, after a crossing between two clocks).
+#[derive(Drop)]
+pub struct SyncPipe<K: Channel, const W: usize, const V: usize, A: Allocator = Global> {
+    converter: Converter<K, W, V>,
+    stage: Queue<Beat<K, V>>,
+    ring: HeapCircularBuffer<Beat<K, V>, A>,
+    inbox: Queue<Beat<K, V>>,
+    closed: bool,
+}
+
+impl<K: Channel, const W: usize, const V: usize, A: Allocator> Model for SyncPipe<K, W, V, A> {
+    ghost use Rattle.std.specs.Prelude.{◌≤◌};
+    ghost use Rattle.tl_ring.specs.Pipe.{Pipe};
+
+    ghost Value = { Pipe K.Head V };
+
+    ghost view = { λ p. record {
+      converter = p.converter;
+      room = p.ring.capacity;
+      stage = p.stage;
+      ring = p.ring.items;
+      inbox = p.inbox;
+      closed = p.closed;
+    } };
+
+    ghost invariant = { λ p. (1 ≤ p.ring.capacity) × (p.ring.capacity ≤ 4096) };
+}
+
+impl<K: Channel, const W: usize, const V: usize, A: Allocator> SyncPipe<K, W, V, A> {
+    /// A new pipe with a ring of `ring` beats, the only memory that it takes. Refused with `RingSize` exactly where `ring` is 0 or
+    /// above 4,096, and else with `OutOfMemory` where the allocator has no memory for it.
+    pub fn new(alloc: A, ring: usize) -> Result<Self, BuildFault>
+        requires near { IsWidth W }
+        requires far { IsWidth V }
+        ensures new { IfOk result (λ pipe. StandsFor K.rules {w = W} pipe (empty ring)) }
+        ensures size { IsOk result → (1 ≤ ring) × (ring ≤ 4096) }
+        ensures ring_size { IfErr result (λ fault.
+            (fault ≡ BuildFault.RingSize) ↔ ((ring ≡ 0) ⊎ (4096 < ring))) }
+    {
+        if ring == 0 || ring > MAX_RING {
+            return Err(BuildFault::RingSize);
+        }
+        let Ok(ring) = HeapCircularBuffer::with_capacity(alloc, ring) else {
+            return Err(BuildFault::OutOfMemory);
+        };
+        Ok(SyncPipe {
+            converter: Converter::new(),
+            stage: Queue::new(),
+            ring,
+            inbox: Queue::new(),
+            closed: false,
+        })
+    }
+
+    /// Whether a beat may be offered: nothing is staged and the pipe isn't closed.
+    pub fn ready(&self) -> bool
+        ensures { IsTrue result ↔ IsReady self.now }
+    {
+        !self.closed && self.stage.is_empty()
+    }
+
+    /// Offers a near beat where the pipe is ready. It is accepted exactly where no burst is interrupted and no rule of the link
+    /// broken by it after the beats that were accepted before, and the far beats that it completes, at most 64, are then staged.
+    /// Else it is refused with its first fault, and nothing changes. The home is read at a first beat of D alone, where it is the
+    /// address of the request that the message answers.
+    pub fn offer(&mut self, beat: Beat<K, W>, home: u64) -> Result<(), BeatFault>
+        requires near { IsWidth W }
+        requires far { IsWidth V }
+        requires ready { IsReady self.old }
+        // for every crossing that the pipe stands for
+        ensures admitted { (x : World K.Head W V) → StandsFor K.rules self.old x →
+            IsOk result ↔ IsAdmitted K.rules x.accepted beat }
+        ensures accepted { (x : World K.Head W V) → StandsFor K.rules self.old x →
+            OnOk result (StandsFor K.rules self.new (offered K.rules beat home x)) }
+        ensures first_fault { (x : World K.Head W V) → StandsFor K.rules self.old x →
+            IfErr result (λ fault. fault_after K.rules x.accepted beat ≡ Some fault) }
+        // for every pipe
+        ensures refused { OnErr result (self.new ≡ self.old) }
+    {
+        stage_beat(&mut self.converter, &beat, home, &mut self.stage)
+    }
+
+    /// Moves staged beats to the ring, as many as it has room for, and answers their number.
+    pub fn pump(&mut self) -> usize
+        ensures count { result ≡ min (length self.old.stage) (self.old.room - length self.old.ring) }
+        ensures moved { (x : World K.Head W V) → StandsFor K.rules self.old x →
+            StandsFor K.rules self.new (pushed result x) }
+        ensures most { result ≤ 64 }
+    {
+        let count = self.ring.fill_from_slice(self.stage.as_slice());
+        self.stage.drop_front(count);
+        count
+    }
+
+    /// Moves beats from the ring to the inbox, as many as it has room for, and answers their number.
+    pub fn fetch(&mut self) -> usize
+        ensures count { result ≡ min (length self.old.ring) (inbox_room - length self.old.inbox) }
+        ensures moved { (x : World K.Head W V) → StandsFor K.rules self.old x →
+            StandsFor K.rules self.new (popped result x) }
+        ensures most { result ≤ 64 }
+    {
+        let count = self.ring.len().min(self.inbox.room());
+        read_front(&mut self.ring, &mut self.inbox, count);
+        count
+    }
+
+    /// Takes the first beat of the inbox. None exactly where the inbox is empty.
+    pub fn take(&mut self) -> Option<Beat<K, V>>
+        ensures beat { result ≡ slice_get self.old.inbox 0 }
+        ensures taken { (x : World K.Head W V) → StandsFor K.rules self.old x →
+            StandsFor K.rules self.new (took x) }
+    {
+        self.inbox.pop_front()
+    }
+
+    /// Ends the offers. Refused exactly where a burst is unfinished, and nothing changes then. What is staged stays so, and still
+    /// crosses. A second close answers Ok and changes nothing.
+    pub fn close(&mut self) -> Result<(), EndFault>
+        // for every crossing that the pipe stands for
+        ensures between { (x : World K.Head W V) → StandsFor K.rules self.old x →
+            IsOk result ↔ (rest_of K.rules W x.accepted ≡ []) }
+        ensures closed { (x : World K.Head W V) → StandsFor K.rules self.old x →
+            OnOk result (StandsFor K.rules self.new (shut x)) }
+        // for every pipe
+        ensures again { self.old.closed ≡ true → IsOk result × (self.new ≡ self.old) }
+        ensures refused { OnErr result (self.new ≡ self.old) }
+    {
+        if !self.closed && !self.converter.at_boundary() {
+            return Err(EndFault::MidBurst);
+        }
+        self.closed = true;
+        Ok(())
+    }
+
+    /// Whether the pipe is closed and nothing is under way: all that was accepted has then been taken.
+    pub fn drained(&self) -> bool
+        ensures { IsTrue result ↔ IsDrained self.now }
+    {
+        let under_way = self.stage.len() + self.ring.len() + self.inbox.len();
+        self.closed && under_way == 0
+    }
+
+    /// How many far beats stand in the stage, in the ring and in the inbox.
+    pub fn standing(&self) -> Standing
+        ensures staged { result.staged ≡ length self.now.stage }
+        ensures in_ring { result.in_ring ≡ length self.now.ring }
+        ensures inbox { result.inbox ≡ length self.now.inbox }
+        ensures most { (result.staged ≤ 64) × (result.in_ring ≤ 4096) × (result.inbox ≤ 64) }
+    {
+        Standing {
+            staged: self.stage.len(),
+            in_ring: self.ring.len(),
+            inbox: self.inbox.len(),
+        }
+    }
+}

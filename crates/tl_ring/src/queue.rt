@@ -1,0 +1,131 @@
+//! A line of at most 64 items, first in and first out, that takes no memory of its own.
+ghost use Rattle.std.specs.Prelude.{◌≡◌, ◌+◌, ◌-◌, ◌≤◌, ◌++◌, ◌↔◌, [], IsTrue, length, drop, take, slice_get};
+ghost use Rattle.circular_buffer.specs.Buffer.{buffer};
+
+use arrayvec::ArrayVec;
+use circular_buffer::HeapCircularBuffer;
+use std::alloc::Allocator;
+use std::marker::Model;
+
+/// How many items a queue holds.
+pub(crate) const ROOM: usize = 64;
+
+/// A line of items: those of the array from `first` on. Those before it have left, and their places are used again once the
+/// array is full.
+#[derive(Drop)]
+pub(crate) struct Queue<T> {
+    pub(crate) items: ArrayVec<T, 64>,
+    pub(crate) first: usize,
+}
+
+impl<T> Model for Queue<T> {
+    ghost use Rattle.std.specs.Prelude.{◌≤◌, List, length, drop};
+
+    ghost Value = { List T };
+
+    ghost view = { λ q. drop q.first q.items.items };
+
+    ghost invariant = { λ q. q.first ≤ length q.items.items };
+}
+
+impl<T: Copy + Default> Queue<T> {
+    pub(crate) fn new() -> Self
+        ensures { result ≡ [] }
+    {
+        Queue {
+            items: ArrayVec::new(),
+            first: 0,
+        }
+    }
+
+    pub(crate) fn len(&self) -> usize
+        ensures value { result ≡ length self.now }
+        ensures within { result ≤ 64 }
+    {
+        self.items.len() - self.first
+    }
+
+    #[tactic(auto, using(std::proofs::lemmas::List::nil_from_length))]
+    pub(crate) fn is_empty(&self) -> bool
+        ensures { IsTrue result ↔ (self.now ≡ []) }
+    {
+        self.len() == 0
+    }
+
+    // How many more items there is room for.
+    pub(crate) fn room(&self) -> usize
+        ensures value { result ≡ 64 - length self.now }
+        ensures within { length self.now ≤ 64 }
+    {
+        ROOM - self.len()
+    }
+
+    pub(crate) fn as_slice(&self) -> &[T]
+        ensures value { result.now ≡ self.now }
+        ensures within { length result.now ≤ 64 }
+    {
+        &self.items.as_slice()[self.first..]
+    }
+
+    // Removes the first `count` items.
+    pub(crate) fn drop_front(&mut self, count: usize)
+        requires { count ≤ length self.old }
+        ensures { self.new ≡ drop count self.old }
+    {
+        let left = self.len() - count;
+        self.first = self.items.len() - left;
+    }
+
+    // Removes the first item and answers it.
+    pub(crate) fn pop_front(&mut self) -> Option<T>
+        ensures value { result ≡ slice_get self.old 0 }
+        ensures rest { self.new ≡ drop 1 self.old }
+    {
+        let item = *self.as_slice().first()?;
+        self.drop_front(1);
+        Some(item)
+    }
+
+    // Appends all of `more`.
+    pub(crate) fn append(&mut self, more: &[T])
+        requires { length self.old + length more.now ≤ 64 }
+        ensures { self.new ≡ self.old ++ more.now }
+    {
+        if more.len() > ROOM - self.items.len() {
+            cut_front(&mut self.items, self.first);
+            self.first = 0;
+        }
+        match self.items.try_extend_from_slice(more) {
+            Ok(()) => {}
+            Err(_) => unreachable!(),
+        }
+    }
+}
+
+// Removes the first `count` items, and moves the others to the start.
+fn cut_front<T: Copy + Default>(items: &mut ArrayVec<T, 64>, count: usize)
+    requires { count ≤ length items.old.items }
+    ensures { items.new.items ≡ drop count items.old.items }
+{
+    let left = items.len() - count;
+    items.as_mut_slice().copy_within(count.., 0);
+    items.truncate(left);
+}
+
+// Moves the first `count` items of a ring to the end of a queue.
+pub(crate) fn read_front<T: Copy + Default, A: Allocator>(
+    ring: &mut HeapCircularBuffer<T, A>,
+    queue: &mut Queue<T>,
+    count: usize,
+)
+    requires there { count ≤ length ring.old.items }
+    requires room { length queue.old + count ≤ 64 }
+    ensures ring { ring.new ≡ buffer (drop count ring.old.items) ring.old.capacity }
+    ensures queue { queue.new ≡ queue.old ++ take count ring.old.items }
+{
+    let (front, back) = ring.as_slices();
+    let from_front = count.min(front.len());
+    queue.append(&front[..from_front]);
+    queue.append(&back[..count - from_front]);
+    ring.truncate_front(ring.len() - count);
+}

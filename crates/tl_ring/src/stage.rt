@@ -1,0 +1,67 @@
+//! How a near beat gets into the stage.
+ghost use Rattle.std.specs.Prelude.{◌≡◌, ◌<◌, ◌^◌, ◌↔◌, ◌++◌, [], ◌∷◌, List, ℕ, Some, All, length, IsOk, OnOk, OnErr, IfErr};
+ghost use Rattle.tl_lanes.specs.Lanes.{IsWidth};
+ghost use Rattle.tl_msg.specs.Beats.{IsBeat};
+ghost use Rattle.tl_msg.specs.declared.beat.BeatOf.{BeatOf};
+ghost use Rattle.tl_burst.specs.Handing.{IsAdmitted, homes_with, fault_after};
+ghost use Rattle.tl_convert.specs.Due.{due};
+ghost use Rattle.tl_convert.specs.Converting as converting;
+
+use crate::queue::Queue;
+use tl_convert::Converter;
+use tl_msg::{Beat, BeatFault, Channel};
+
+// The lanes of a beat are as many as its width.
+fn has_lanes<const W: usize>(lanes: &[u8; W])
+    ensures { length lanes.now ≡ W }
+{}
+
+// Each lane has a byte.
+fn has_bytes(lanes: &[u8])
+    ensures { All (λ byte. byte < 256) lanes.now }
+{}
+
+// A beat and its home are such as memory can hold.
+fn is_beat<K: Channel, const W: usize>(beat: &Beat<K, W>, home: u64)
+    ensures beat { IsBeat K.rules beat.now }
+    ensures home { K.rules.lane_address beat.now.head home < 2 ^ 64 }
+{
+    let _mask = beat.mask;
+    let _address = K::lane_address(&beat.head, 0);
+    let _home = K::lane_address(&beat.head, home);
+    has_lanes(&beat.lanes);
+    has_bytes(&beat.lanes);
+}
+
+// Feeds a near beat to the converter, and puts the far beats that it completes into the stage, which is empty.
+pub(crate) fn stage_beat<K: Channel, const W: usize, const V: usize>(
+    converter: &mut Converter<K, W, V>,
+    beat: &Beat<K, W>,
+    home: u64,
+    stage: &mut Queue<Beat<K, V>>,
+) -> Result<(), BeatFault>
+    requires near { IsWidth W }
+    requires far { IsWidth V }
+    requires empty { stage.old ≡ [] }
+    ensures beat { IsBeat K.rules beat.now }
+    ensures home { K.rules.lane_address beat.now.head home < 2 ^ 64 }
+    ensures admitted { (bs : List (BeatOf K.Head W)) (homes : List ℕ) →
+        converting.StandsFor K.rules converter.old bs homes → IsOk result ↔ IsAdmitted K.rules bs beat.now }
+    ensures stands { (bs : List (BeatOf K.Head W)) (homes : List ℕ) →
+        converting.StandsFor K.rules converter.old bs homes →
+        OnOk result (converting.StandsFor K.rules converter.new (bs ++ beat.now ∷ []) (homes_with K.rules bs homes beat.now home)) }
+    ensures due { (bs : List (BeatOf K.Head W)) (homes : List ℕ) →
+        converting.StandsFor K.rules converter.old bs homes →
+        OnOk result (due K.rules W V (bs ++ beat.now ∷ []) (homes_with K.rules bs homes beat.now home) ≡
+        due K.rules W V bs homes ++ stage.new) }
+    ensures first_fault { (bs : List (BeatOf K.Head W)) (homes : List ℕ) →
+        converting.StandsFor K.rules converter.old bs homes →
+        IfErr result (λ fault. fault_after K.rules bs beat.now ≡ Some fault) }
+    ensures refused { OnErr result (converter.new ≡ converter.old) }
+    ensures stage { OnErr result (stage.new ≡ []) }
+{
+    is_beat::<K, W>(beat, home);
+    stage.items.clear();
+    stage.first = 0;
+    converter.feed_into(beat, home, &mut stage.items)
+}

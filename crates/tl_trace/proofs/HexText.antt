@@ -1,0 +1,141 @@
+-- Writing digits.
+use Rattle.std.proofs.Common.{◌≡◌, ℕ, zero, suc, ◌+◌, ◌-◌, ◌*◌, ◌/◌, ◌%◌, ◌<◌, ◌≤◌, List, [], ◌∷◌, ◌++◌, length, get_or, set, take, drop, refl, sym, ap, ◌∙◌, arith, append_assoc, append-nil, length-append, drop-cons}
+use Rattle.std.proofs.lemmas.List.{length-set, drop-append-le, get_or-take, length-take-le, length-drop, take_all}
+use Rattle.std.specs.Char.{digit_char}
+use Rattle.tl_trace.specs.Fields.{number_of_lanes}
+use Rattle.tl_trace.specs.Lines.{hex}
+use Rattle.tl_trace.proofs.LaneDigits.{drop_set}
+
+pub length-hex : (count value : ℕ) → length (hex count value) ≡ count
+length-hex zero value = refl
+length-hex (suc count) value = length-append (hex count (value / 16)) (digit_char (value % 16) ∷ []) ∙ omega (arith, length-hex count (value / 16))
+
+-- the last digits
+pub drop-hex : (k count value : ℕ) → drop k (hex (k + count) value) ≡ hex count value
+drop-hex k zero value = let e : k + 0 ≡ k = omega arith in ap (λ (n : ℕ). drop k (hex n value)) e ∙ all_of (hex k value) k (omega (arith, length-hex k value))
+  where
+    all_of : (xs : List ℕ) (n : ℕ) → length xs ≤ n → drop n xs ≡ []
+    all_of [] zero le = refl
+    all_of [] (suc n) le = refl
+    all_of (x ∷ xs) zero le = absurd (omega arith)
+    all_of (x ∷ xs) (suc n) le = all_of xs n (omega arith)
+drop-hex k (suc count) value =
+    let e : k + suc count ≡ suc (k + count) = omega arith in
+    let long : k ≤ length (hex (k + count) (value / 16)) = omega (arith, length-hex (k + count) (value / 16)) in
+    ap (λ (n : ℕ). drop k (hex n value)) e ∙ drop-append-le k (hex (k + count) (value / 16)) (digit_char (value % 16) ∷ []) long
+    ∙ ap (λ (xs : List ℕ). xs ++ digit_char (value % 16) ∷ []) (drop-hex k count (value / 16))
+
+pub last-hex : (count value : ℕ) → count ≤ 16 → drop (16 - count) (hex 16 value) ≡ hex count value
+last-hex count value le = let e : 16 ≡ (16 - count) + count = omega arith in ap (λ (n : ℕ). drop (16 - count) (hex n value)) e ∙ drop-hex (16 - count) count value
+
+pub last-range : (digits : List ℕ) (count value : ℕ) → digits ≡ hex 16 value → count ≤ 16 → take (16 - (16 - count)) (drop (16 - count) digits) ≡ hex count value
+last-range digits count value e le =
+    let long : length (drop (16 - count) digits) ≤ 16 - (16 - count) = omega (arith, length-drop (16 - count) digits, ap length e, length-hex 16 value) in
+    take_all (16 - (16 - count)) (drop (16 - count) digits) long ∙ ap (λ (ds : List ℕ). drop (16 - count) ds) e ∙ last-hex count value le
+
+pub record HexSoFar (value : ℕ) (digits : List ℕ) (rest i : ℕ) : Type 0 where
+  pub long : length digits ≡ 16
+  pub made : hex (16 - i) rest ++ drop (16 - i) digits ≡ hex 16 value
+
+pub hex_start : (value : ℕ) (digits : List ℕ) → length digits ≡ 16 → HexSoFar value digits value 0
+hex_start value digits long = record { long = long; made = ap (λ (xs : List ℕ). hex 16 value ++ xs) (none digits 16 long) ∙ append-nil (hex 16 value) }
+  where
+    none : (xs : List ℕ) (n : ℕ) → length xs ≡ n → drop n xs ≡ []
+    none [] n e = rw (sym e) refl
+    none (x ∷ xs) zero e = absurd (omega arith)
+    none (x ∷ xs) (suc n) e = none xs n (omega arith)
+
+pub hex_next : (value : ℕ) (digits : List ℕ) (rest i digit : ℕ) → i < 16 → HexSoFar value digits rest i → digit ≡ digit_char (rest % 16) → HexSoFar value (set digits (15 - i) digit) (rest / 16) (i + 1)
+hex_next value digits rest i digit lt far is =
+    let less : 16 - (i + 1) ≡ 15 - i = omega arith in
+    let more : 16 - i ≡ suc (15 - i) = omega arith in
+    let within : 15 - i < length digits = omega (arith, far.long) in
+    let there : drop (15 - i) (set digits (15 - i) digit) ≡ digit ∷ drop (suc (15 - i)) digits = drop_set digits (15 - i) digit within in
+    record {
+      long = length-set digits (15 - i) digit ∙ far.long;
+      made = ap (λ (n : ℕ). hex n (rest / 16) ++ drop n (set digits (15 - i) digit)) less
+          ∙ ap (λ (xs : List ℕ). hex (15 - i) (rest / 16) ++ xs) (there ∙ ap (λ (x : ℕ). x ∷ drop (suc (15 - i)) digits) is)
+          ∙ sym (append_assoc (hex (15 - i) (rest / 16)) (digit_char (rest % 16) ∷ []) (drop (suc (15 - i)) digits))
+          ∙ ap (λ (n : ℕ). hex n rest ++ drop n digits) (sym more) ∙ far.made;
+    }
+
+pub hex_done : (value : ℕ) (digits : List ℕ) (rest i : ℕ) → 16 ≤ i → HexSoFar value digits rest i → digits ≡ hex 16 value
+hex_done value digits rest i le far = let none : 0 ≡ 16 - i = omega arith in ap (λ (n : ℕ). hex n rest ++ drop n digits) none ∙ far.made
+
+-- ---- lanes
+
+pub record LanesSoFar (lanes : List ℕ) (w : ℕ) (digits : List ℕ) (i : ℕ) : Type 0 where
+  pub long : length digits ≡ 128
+  pub made : take (2 * i) digits ≡ hex (2 * i) (number_of_lanes (drop (w - i) (take w lanes)))
+
+pub lanes_start : (lanes : List ℕ) (w : ℕ) (digits : List ℕ) → length digits ≡ 128 → w ≤ length lanes → LanesSoFar lanes w digits 0
+lanes_start lanes w digits long le = record { long = long; made = refl }
+
+take_two : (xs : List ℕ) (n a b : ℕ) → n + 1 < length xs → take (n + 2) (set (set xs n a) (n + 1) b) ≡ take n xs ++ a ∷ b ∷ []
+take_two [] n a b lt = absurd (omega arith)
+take_two (x ∷ []) n a b lt = absurd (omega arith)
+take_two (x ∷ y ∷ xs) zero a b lt = refl
+take_two (x ∷ y ∷ xs) (suc n) a b lt =
+    let e : suc n + 2 ≡ suc (n + 2) = omega arith in
+    let e' : suc n + 1 ≡ suc (n + 1) = omega arith in
+    rw (e, e') (ap (λ (ys : List ℕ). x ∷ ys) (take_two (y ∷ xs) n a b (omega arith)))
+
+lane_small : (lanes : List ℕ) (i : ℕ) → get_or lanes i 0 < 256 → (rest : ℕ) → ((get_or lanes i 0 + 256 * rest) / 16 / 16 ≡ rest) × ((get_or lanes i 0 + 256 * rest) / 16 % 16 ≡ get_or lanes i 0 / 16 % 16) × ((get_or lanes i 0 + 256 * rest) % 16 ≡ get_or lanes i 0 % 16)
+lane_small lanes i lt rest = (omega arith, omega arith, omega arith)
+
+pub lanes_next : (lanes : List ℕ) (w : ℕ) (digits : List ℕ) (i high low : ℕ) → i < w → w ≤ 64 → w ≤ length lanes → ((k : ℕ) → get_or lanes k 0 < 256) → LanesSoFar lanes w digits i
+    → high ≡ digit_char (get_or lanes (w - 1 - i) 0 / 16 % 16) → low ≡ digit_char (get_or lanes (w - 1 - i) 0 % 16) → LanesSoFar lanes w (set (set digits (2 * i) high) (2 * i + 1) low) (i + 1)
+lanes_next lanes w digits i high low lt few le bytes far h l =
+    let k = w - 1 - i in
+    let lane = get_or lanes k 0 in
+    let rest = number_of_lanes (drop (w - i) (take w lanes)) in
+    let long : length (take w lanes) ≡ w = length-take-le w lanes le in
+    let within : k < length (take w lanes) = omega (arith, long) in
+    let more : suc k ≡ w - i = omega arith in
+    let same : get_or (take w lanes) k 0 ≡ lane = get_or-take w lanes k 0 (omega arith) in
+    let here : drop k (take w lanes) ≡ lane ∷ drop (w - i) (take w lanes) = drop-cons (take w lanes) k 0 within ∙ ap (λ (x : ℕ). x ∷ drop (suc k) (take w lanes)) same ∙ ap (λ (n : ℕ). lane ∷ drop n (take w lanes)) more in
+    let less : w - (i + 1) ≡ k = omega arith in
+    let number : number_of_lanes (drop (w - (i + 1)) (take w lanes)) ≡ lane + 256 * rest = ap (λ (n : ℕ). number_of_lanes (drop n (take w lanes))) less ∙ ap number_of_lanes here in
+    let parts = lane_small lanes k (bytes k) rest in
+    let twice : 2 * (i + 1) ≡ 2 * i + 2 = omega arith in
+    let twice' : 2 * (i + 1) ≡ suc (suc (2 * i)) = omega arith in
+    let right : hex (2 * (i + 1)) (lane + 256 * rest) ≡ hex (2 * i) rest ++ high ∷ low ∷ [] =
+    ap (λ (n : ℕ). hex n (lane + 256 * rest)) twice'
+    ∙ append_assoc (hex (2 * i) ((lane + 256 * rest) / 16 / 16)) (digit_char ((lane + 256 * rest) / 16 % 16) ∷ []) (digit_char ((lane + 256 * rest) % 16) ∷ [])
+    ∙ ap (λ (n : ℕ). hex (2 * i) n ++ digit_char ((lane + 256 * rest) / 16 % 16) ∷ digit_char ((lane + 256 * rest) % 16) ∷ []) parts.0
+    ∙ ap (λ (n : ℕ). hex (2 * i) rest ++ digit_char n ∷ digit_char ((lane + 256 * rest) % 16) ∷ []) parts.1
+    ∙ ap (λ (n : ℕ). hex (2 * i) rest ++ digit_char (lane / 16 % 16) ∷ digit_char n ∷ []) parts.2
+    ∙ ap (λ (n : ℕ). hex (2 * i) rest ++ n ∷ digit_char (lane % 16) ∷ []) (sym h) ∙ ap (λ (n : ℕ). hex (2 * i) rest ++ high ∷ n ∷ []) (sym l) in
+    record {
+      long = length-set (set digits (2 * i) high) (2 * i + 1) low ∙ length-set digits (2 * i) high ∙ far.long;
+      made = ap (λ (n : ℕ). take n (set (set digits (2 * i) high) (2 * i + 1) low)) twice ∙ take_two digits (2 * i) high low (omega (arith, far.long))
+          ∙ ap (λ (xs : List ℕ). xs ++ high ∷ low ∷ []) far.made ∙ sym right ∙ ap (λ (n : ℕ). hex (2 * (i + 1)) n) (sym number);
+    }
+
+pub lanes_done : (lanes : List ℕ) (w : ℕ) (digits : List ℕ) (i : ℕ) → w ≤ i → i ≤ w → LanesSoFar lanes w digits i → take (2 * w) digits ≡ hex (2 * w) (number_of_lanes (take w lanes))
+lanes_done lanes w digits i le ge far =
+    let same : w ≡ i = omega arith in
+    let none : w - i ≡ 0 = omega arith in
+    ap (λ (n : ℕ). take (2 * n) digits) same ∙ far.made ∙ ap (λ (n : ℕ). hex (2 * i) (number_of_lanes (drop n (take w lanes)))) none ∙ ap (λ (n : ℕ). hex (2 * n) (number_of_lanes (take w lanes))) (sym same)
+
+pub two_digits : (w lane rest : ℕ) → lane < 256 → hex (2 * suc w) (lane + 256 * rest) ≡ hex (2 * w) rest ++ digit_char (lane / 16 % 16) ∷ digit_char (lane % 16) ∷ []
+two_digits w lane rest lt =
+    let twice : 2 * suc w ≡ suc (suc (2 * w)) = omega arith in
+    let up : (lane + 256 * rest) / 16 / 16 ≡ rest = omega arith in
+    let high : (lane + 256 * rest) / 16 % 16 ≡ lane / 16 % 16 = omega arith in
+    let low : (lane + 256 * rest) % 16 ≡ lane % 16 = omega arith in
+    ap (λ (n : ℕ). hex n (lane + 256 * rest)) twice
+    ∙ append_assoc (hex (2 * w) ((lane + 256 * rest) / 16 / 16)) (digit_char ((lane + 256 * rest) / 16 % 16) ∷ []) (digit_char ((lane + 256 * rest) % 16) ∷ [])
+    ∙ ap (λ (n : ℕ). hex (2 * w) n ++ digit_char ((lane + 256 * rest) / 16 % 16) ∷ digit_char ((lane + 256 * rest) % 16) ∷ []) up
+    ∙ ap (λ (n : ℕ). hex (2 * w) rest ++ digit_char n ∷ digit_char ((lane + 256 * rest) % 16) ∷ []) high
+    ∙ ap (λ (n : ℕ). hex (2 * w) rest ++ digit_char (lane / 16 % 16) ∷ digit_char n ∷ []) low
+
+-- lanes from w on leave no digit
+pub hex_take : (lanes : List ℕ) (w : ℕ) → ((k : ℕ) → get_or lanes k 0 < 256) → hex (2 * w) (number_of_lanes (take w lanes)) ≡ hex (2 * w) (number_of_lanes lanes)
+hex_take lanes zero bytes = refl
+hex_take [] (suc w) bytes = refl
+hex_take (lane ∷ lanes) (suc w) bytes =
+    let lt : lane < 256 = bytes 0 in
+    two_digits w lane (number_of_lanes (take w lanes)) lt
+    ∙ ap (λ (xs : List ℕ). xs ++ digit_char (lane / 16 % 16) ∷ digit_char (lane % 16) ∷ []) (hex_take lanes w (λ k. bytes (suc k)))
+    ∙ sym (two_digits w lane (number_of_lanes lanes) lt)

@@ -1,0 +1,47 @@
+-- The parts of a line as they are written.
+use Rattle.std.proofs.Common.{◌≡◌, ℕ, ◌+◌, ◌*◌, ◌/◌, ◌^◌, ◌≤◌, Bool, true, false, cond, List, [], ◌∷◌, ◌++◌, refl, sym, ap, ◌∙◌, arith, append_assoc, append-nil}
+use Rattle.std.proofs.Math.Nat.{pow-le-pow_right}
+use Rattle.std.specs.List.{flat_map}
+use Rattle.tl_lanes.specs.Lanes.{IsWidth}
+use Rattle.tl_msg.specs.declared.beat.BeatOf.{BeatOf}
+use Rattle.tl_trace.specs.Fields.{Field, Form, mask, data_lanes, corrupt, bit, digit_count, value_of, fields, number_of_lanes}
+use Rattle.tl_trace.specs.Lines.{hex, head_text, line_text}
+
+flat_map-append : (g : Field → List ℕ) (xs ys : List Field) → flat_map g (xs ++ ys) ≡ flat_map g xs ++ flat_map g ys
+flat_map-append g [] ys = refl
+flat_map-append g (x ∷ xs) ys = ap (λ (zs : List ℕ). g x ++ zs) (flat_map-append g xs ys) ∙ sym (append_assoc (g x) (flat_map g xs) (flat_map g ys))
+
+one_part : (g : Field → List ℕ) (m : Bool) (x : Field) → flat_map g (cond m (x ∷ []) []) ≡ cond m (g x) []
+one_part g true x = append-nil (g x)
+one_part g false x = refl
+
+two_parts : (g : Field → List ℕ) (m : Bool) (x y : Field) → flat_map g (cond m (x ∷ y ∷ []) []) ≡ cond m (g x ++ g y) []
+two_parts g true x y = ap (λ (ys : List ℕ). g x ++ ys) (append-nil (g y))
+two_parts g false x y = refl
+
+pub line_parts : {H : Type 0} (f : Form H) {n : ℕ} (w : ℕ) (b : BeatOf H n)
+    → flat_map (λ field. 32 ∷ hex (digit_count w field) (value_of f b field)) f.head_fields ≡ flat_map (λ field. 32 ∷ hex (digit_count 0 field) (f.value b.head field)) f.head_fields
+    → (head_text f b.head ++ cond f.rules.masked (32 ∷ hex ((w + 3) / 4) b.mask) [])
+    ++ cond f.rules.corrupts ((32 ∷ hex (2 * w) (number_of_lanes b.lanes)) ++ 32 ∷ hex 1 (bit b.corrupt)) []
+    ≡ line_text f w b
+line_parts f w b narrow =
+    let g : Field → List ℕ = λ field. 32 ∷ hex (digit_count w field) (value_of f b field) in
+    let masks = cond f.rules.masked (mask ∷ []) [] in
+    let datas = cond f.rules.corrupts (data_lanes ∷ corrupt ∷ []) [] in
+    let head = flat_map (λ field. 32 ∷ hex (digit_count 0 field) (f.value b.head field)) f.head_fields in
+    let whole : flat_map g (fields f) ≡ (head ++ cond f.rules.masked (g mask) []) ++ cond f.rules.corrupts (g data_lanes ++ g corrupt) [] =
+    flat_map-append g (f.head_fields ++ masks) datas
+    ∙ ap (λ (xs : List ℕ). xs ++ flat_map g datas) (flat_map-append g f.head_fields masks ∙ ap (λ (xs : List ℕ). xs ++ flat_map g masks) narrow ∙ ap (λ (xs : List ℕ). head ++ xs) (one_part g f.rules.masked mask))
+    ∙ ap (λ (xs : List ℕ). (head ++ cond f.rules.masked (g mask) []) ++ xs) (two_parts g f.rules.corrupts data_lanes corrupt) in
+    ap (λ (xs : List ℕ). f.rules.letter ∷ xs) (sym whole)
+
+pub width_most : (w : ℕ) → IsWidth w → w ≤ 64
+width_most w k = most k.0 k.1 k.2
+  where
+    most : (k : ℕ) → k ≤ 6 → w ≡ 2 ^ k → w ≤ 64
+    most k le e = let top : 2 ^ k ≤ 2 ^ 6 = pow-le-pow_right {n = 2} (omega arith) {i = k} {j = 6} le in omega arith
+
+-- a head, two parts and a line end, put one after the other
+pub joined : (a h b c d e head masks datas : List ℕ) → a ≡ [] → h ≡ head → b ≡ a ++ h → c ≡ b ++ masks → d ≡ c ++ datas → e ≡ d ++ 10 ∷ [] → e ≡ ((head ++ masks) ++ datas) ++ 10 ∷ []
+joined a h b c d e head masks datas none is first second third last =
+    last ∙ ap (λ (xs : List ℕ). xs ++ 10 ∷ []) (third ∙ ap (λ (xs : List ℕ). xs ++ datas) (second ∙ ap (λ (xs : List ℕ). xs ++ masks) (first ∙ ap (λ (xs : List ℕ). xs ++ h) none ∙ is)))

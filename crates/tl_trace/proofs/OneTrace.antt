@@ -1,0 +1,303 @@
+-- No text tells two traces.
+use Rattle.std.proofs.Common.{◌≡◌, ℕ, zero, suc, Bool, true, false, not, nat_eq, nat_lt, ◌&&◌, ◌||◌, List, [], ◌∷◌, ◌++◌, length, map, refl, sym, ap, ◌∙◌, arith, append_assoc, eq-eqb, subst}
+use Rattle.std.specs.Prelude.{decimal, codes, ◌==◌}
+use Rattle.std.proofs.lemmas.Bool.{eqb-true, ltb-true}
+use Rattle.std.proofs.lemmas.Fmt.{decimal_is_IsNumeral}
+use Rattle.std.specs.Fmt.{digits}
+use Rattle.std.specs.List.{list_all, list_any, slice_index}
+use Rattle.std.specs.Str.Parse.{digits_value}
+use Rattle.tl_msg.specs.declared.beat.BeatOf.{BeatOf}
+use Rattle.tl_msg.specs.declared.head.HeadA.{HeadA}
+use Rattle.tl_msg.specs.declared.head.HeadB.{HeadB}
+use Rattle.tl_msg.specs.declared.head.HeadC.{HeadC}
+use Rattle.tl_msg.specs.declared.head.HeadD.{HeadD}
+use Rattle.tl_msg.specs.declared.head.HeadE.{HeadE}
+use Rattle.tl_trace.specs.Fields.{Form, bit, fields, value_of, number_of_lanes, form_a, form_b, form_c, form_d, form_e}
+use Rattle.tl_trace.specs.Lines.{is_lanes, IsLine, is_writable, is_plain, is_kept}
+use Rattle.tl_trace.specs.Texts.{widths, is_width, newline, header_text, SaysLine, is_kept_line, TellsLines, Tells}
+use Rattle.tl_trace.specs.declared.line.Line.{Line}
+use Rattle.tl_trace.specs.declared.line.Line.TheVariants.{A, B, C, D, E}
+use Rattle.tl_trace.proofs.Shaped.{first_of_and, second_of_and}
+use Rattle.tl_trace.proofs.Headers.{width_small}
+use Rattle.tl_trace.proofs.Cover.{says_free}
+
+-- ---- cutting at a byte
+
+abbrev pub Without : (stop : ℕ) → List ℕ → Type 0
+Without stop xs = list_any (λ b. b == stop) xs ≡ false
+
+pub record Split (xs ys more more' : List ℕ) : Type 0 where
+  pub front : xs ≡ ys
+  pub back : more ≡ more'
+
+or_left : (x y : Bool) → x || y ≡ false → x ≡ false
+or_left true y e = e
+or_left false y e = refl
+
+or_right : (x y : Bool) → x || y ≡ false → y ≡ false
+or_right true y e = absurd cc
+or_right false y e = e
+
+not_stop : (b stop : ℕ) → (b == stop) ≡ false → b ≡ stop → false ≡ true
+not_stop b stop other e = sym other ∙ eq-eqb b stop e
+
+split_at : (stop : ℕ) (xs ys more more' : List ℕ) → xs ++ stop ∷ more ≡ ys ++ stop ∷ more' → Without stop xs → Without stop ys → Split xs ys more more'
+split_at stop [] [] more more' e none none' = record { front = refl; back = cc }
+split_at stop [] (y ∷ ys) more more' e none none' =
+    let same : y ≡ stop = cc in let bad = not_stop y stop (or_left (y == stop) (list_any (λ b. b == stop) ys) none') same in absurd cc
+split_at stop (x ∷ xs) [] more more' e none none' =
+    let same : x ≡ stop = cc in let bad = not_stop x stop (or_left (x == stop) (list_any (λ b. b == stop) xs) none) same in absurd cc
+split_at stop (x ∷ xs) (y ∷ ys) more more' e none none' =
+    let same : x ≡ y = cc in
+    let rest : xs ++ stop ∷ more ≡ ys ++ stop ∷ more' = cc in
+    let more_split = split_at stop xs ys more more' rest (or_right (x == stop) (list_any (λ b. b == stop) xs) none) (or_right (y == stop) (list_any (λ b. b == stop) ys) none') in
+    record { front = ap (λ (b : ℕ). b ∷ xs) same ∙ ap (λ (zs : List ℕ). y ∷ zs) more_split.front; back = more_split.back }
+
+-- ---- the header
+
+pub in_list : (p : ℕ → Bool) (xs : List ℕ) (w : ℕ) → list_any (λ x. w == x) xs ≡ true → list_all p xs ≡ true → p w ≡ true
+in_list p [] w e all = absurd cc
+in_list p (x ∷ xs) w e all = pick (w == x) refl e (first_of_and (p x) (list_all p xs) all) (in_list p xs w) (second_of_and (p x) (list_all p xs) all)
+  where
+    pick : (b : Bool) → (w == x) ≡ b → b || list_any (λ y. w == y) xs ≡ true → p x ≡ true → (list_any (λ y. w == y) xs ≡ true → list_all p xs ≡ true → p w ≡ true) → list_all p xs ≡ true → p w ≡ true
+    pick true is any here more rest = ap p (eqb-true w x is) ∙ here
+    pick false is any here more rest = more any rest
+
+not_true : (b : Bool) → not b ≡ true → b ≡ false
+not_true true e = sym e
+not_true false e = refl
+
+no_space : (w : ℕ) → is_width w ≡ true → Without 32 (decimal w)
+unfolding digits
+no_space w is = not_true (list_any (λ b. b == 32) (decimal w)) (in_list (λ w. not (list_any (λ b. b == 32) (decimal w))) widths w is refl)
+
+pub no_newline : (w : ℕ) → is_width w ≡ true → Without 10 (decimal w)
+unfolding digits
+no_newline w is = not_true (list_any (λ b. b == 10) (decimal w)) (in_list (λ w. not (list_any (λ b. b == 10) (decimal w))) widths w is refl)
+
+same_number : (m n : ℕ) → is_width m ≡ true → is_width n ≡ true → decimal m ≡ decimal n → m ≡ n
+same_number m n is is' e =
+    let small = width_small m is in
+    let small' = width_small n is' in
+    sym (decimal_is_IsNumeral m (omega arith)).1 ∙ ap (digits_value 10) e ∙ (decimal_is_IsNumeral n (omega arith)).1
+
+cancel : (xs ys zs : List ℕ) → xs ++ ys ≡ xs ++ zs → ys ≡ zs
+cancel [] ys zs e = e
+cancel (x ∷ xs) ys zs e = cancel xs ys zs cc
+
+pub record SameHeader (client manager client' manager' : ℕ) (rest rest' : List ℕ) : Type 0 where
+  pub clients : client ≡ client'
+  pub managers : manager ≡ manager'
+  pub rests : rest ≡ rest'
+
+regroup : (a b c d e : List ℕ) → a ++ b ++ c ++ d ++ newline ++ e ≡ a ++ (b ++ (c ++ (d ++ newline ++ e)))
+regroup a b c d e = simp append_assoc
+
+flat : (a b c d e : List ℕ) → (a ++ b ++ c ++ d) ++ newline ++ e ≡ a ++ (b ++ (c ++ (d ++ 10 ∷ e)))
+flat a b c d e = simp append_assoc
+
+pub same_header : (client manager client' manager' : ℕ) (rest rest' : List ℕ) → is_width client ≡ true → is_width manager ≡ true → is_width client' ≡ true → is_width manager' ≡ true
+    → header_text client manager ++ newline ++ rest ≡ header_text client' manager' ++ newline ++ rest' → SameHeader client manager client' manager' rest rest'
+same_header client manager client' manager' rest rest' c m c' m' e =
+    let e1 = sym (flat (codes "tilelink-trace 1 client ") (decimal client) (codes " manager ") (decimal manager) rest) ∙ e ∙ flat (codes "tilelink-trace 1 client ") (decimal client') (codes " manager ") (decimal manager') rest' in
+    let e2 = cancel (codes "tilelink-trace 1 client ") (decimal client ++ (codes " manager " ++ (decimal manager ++ 10 ∷ rest))) (decimal client' ++ (codes " manager " ++ (decimal manager' ++ 10 ∷ rest'))) e1 in
+    let s1 = split_at 32 (decimal client) (decimal client') (codes "manager " ++ (decimal manager ++ 10 ∷ rest)) (codes "manager " ++ (decimal manager' ++ 10 ∷ rest')) e2 (no_space client c) (no_space client' c') in
+    let e3 = cancel (codes "manager ") (decimal manager ++ 10 ∷ rest) (decimal manager' ++ 10 ∷ rest') s1.back in
+    let s2 = split_at 10 (decimal manager) (decimal manager') rest rest' e3 (no_newline manager m) (no_newline manager' m') in
+    record { clients = same_number client client' c c' s1.front; managers = same_number manager manager' m m' s2.front; rests = s2.back }
+
+-- ---- one beat
+
+pub lanes_same : (n : ℕ) (xs ys : List ℕ) → length xs ≡ n → length ys ≡ n → list_all (λ lane. nat_lt lane 256) xs ≡ true → list_all (λ lane. nat_lt lane 256) ys ≡ true → number_of_lanes xs ≡ number_of_lanes ys → xs ≡ ys
+lanes_same n [] [] l l' b b' e = refl
+lanes_same n [] (y ∷ ys) l l' b b' e = absurd (omega arith)
+lanes_same n (x ∷ xs) [] l l' b b' e = absurd (omega arith)
+lanes_same zero (x ∷ xs) (y ∷ ys) l l' b b' e = absurd (omega arith)
+lanes_same (suc n) (x ∷ xs) (y ∷ ys) l l' b b' e =
+    let small = ltb-true x 256 (first_of_and (nat_lt x 256) (list_all (λ lane. nat_lt lane 256) xs) b) in
+    let small' = ltb-true y 256 (first_of_and (nat_lt y 256) (list_all (λ lane. nat_lt lane 256) ys) b') in
+    let low : x ≡ y = omega arith in
+    let rest : number_of_lanes xs ≡ number_of_lanes ys = omega arith in
+    let more = lanes_same n xs ys (omega arith) (omega arith) (second_of_and (nat_lt x 256) (list_all (λ lane. nat_lt lane 256) xs) b) (second_of_and (nat_lt y 256) (list_all (λ lane. nat_lt lane 256) ys) b') rest in
+    ap (λ (z : ℕ). z ∷ xs) low ∙ ap (λ (zs : List ℕ). y ∷ zs) more
+
+kept_lanes : {H : Type 0} (f : Form H) (w : ℕ) (x y : BeatOf H 64) → is_kept f w x ≡ true → is_kept f w y ≡ true → number_of_lanes x.lanes ≡ number_of_lanes y.lanes → x.lanes ≡ y.lanes
+kept_lanes f w x y kept kept' e =
+    let a = first_of_and (is_lanes 64 x.lanes) (is_writable f w x && is_plain f x) kept in
+    let b = first_of_and (is_lanes 64 y.lanes) (is_writable f w y && is_plain f y) kept' in
+    lanes_same 64 x.lanes y.lanes
+    (eqb-true (length x.lanes) 64 (first_of_and (nat_eq (length x.lanes) 64) (list_all (λ lane. nat_lt lane 256) x.lanes) a))
+    (eqb-true (length y.lanes) 64 (first_of_and (nat_eq (length y.lanes) 64) (list_all (λ lane. nat_lt lane 256) y.lanes) b))
+    (second_of_and (nat_eq (length x.lanes) 64) (list_all (λ lane. nat_lt lane 256) x.lanes) a) (second_of_and (nat_eq (length y.lanes) 64) (list_all (λ lane. nat_lt lane 256) y.lanes) b) e
+
+pub plain_of : {H : Type 0} (f : Form H) (w : ℕ) (x : BeatOf H 64) → is_kept f w x ≡ true → is_plain f x ≡ true
+plain_of f w x kept = second_of_and (is_writable f w x) (is_plain f x) (second_of_and (is_lanes 64 x.lanes) (is_writable f w x && is_plain f x) kept)
+
+bit_same : (x y : Bool) → bit x ≡ bit y → x ≡ y
+bit_same true true e = refl
+bit_same true false e = absurd (omega arith)
+bit_same false true e = absurd (omega arith)
+bit_same false false e = refl
+
+beat_same : {H : Type 0} (x y : BeatOf H 64) → x.head ≡ y.head → x.mask ≡ y.mask → x.lanes ≡ y.lanes → x.corrupt ≡ y.corrupt → x ≡ y
+beat_same {H} x y h m l c =
+    let e1 : x ≡ record { head = y.head; mask = x.mask; lanes = x.lanes; corrupt = x.corrupt } = ap (λ (z : H). let b : BeatOf H 64 = record { head = z; mask = x.mask; lanes = x.lanes; corrupt = x.corrupt } in b) h in
+    let e2 : record { head = y.head; mask = x.mask; lanes = x.lanes; corrupt = x.corrupt } ≡ record { head = y.head; mask = y.mask; lanes = x.lanes; corrupt = x.corrupt } = ap (λ (z : ℕ). let b : BeatOf H 64 = record { head = y.head; mask = z; lanes = x.lanes; corrupt = x.corrupt } in b) m in
+    let e3 : record { head = y.head; mask = y.mask; lanes = x.lanes; corrupt = x.corrupt } ≡ record { head = y.head; mask = y.mask; lanes = y.lanes; corrupt = x.corrupt } = ap (λ (z : List ℕ). let b : BeatOf H 64 = record { head = y.head; mask = y.mask; lanes = z; corrupt = x.corrupt } in b) l in
+    let e4 : record { head = y.head; mask = y.mask; lanes = y.lanes; corrupt = x.corrupt } ≡ y = ap (λ (z : Bool). let b : BeatOf H 64 = record { head = y.head; mask = y.mask; lanes = y.lanes; corrupt = z } in b) c in
+    e1 ∙ e2 ∙ e3 ∙ e4
+
+same_values : {H : Type 0} (f : Form H) (w : ℕ) (x y : BeatOf H 64) (text : List ℕ) → IsLine f w x text → IsLine f w y text → map (value_of f x) (fields f) ≡ map (value_of f y) (fields f)
+same_values f w x y text a b = sym a.says ∙ b.says
+
+head_a : (x y : HeadA) → x.opcode ≡ y.opcode → x.param ≡ y.param → x.size ≡ y.size → x.source ≡ y.source → x.address ≡ y.address → x ≡ y
+head_a x y e0 e1 e2 e3 e4 =
+    ap (λ (z : ℕ). let h : HeadA = record { opcode = z; param = x.param; size = x.size; source = x.source; address = x.address } in h) e0
+    ∙ ap (λ (z : ℕ). let h : HeadA = record { opcode = y.opcode; param = z; size = x.size; source = x.source; address = x.address } in h) e1
+    ∙ ap (λ (z : ℕ). let h : HeadA = record { opcode = y.opcode; param = y.param; size = z; source = x.source; address = x.address } in h) e2
+    ∙ ap (λ (z : ℕ). let h : HeadA = record { opcode = y.opcode; param = y.param; size = y.size; source = z; address = x.address } in h) e3
+    ∙ ap (λ (z : ℕ). let h : HeadA = record { opcode = y.opcode; param = y.param; size = y.size; source = y.source; address = z } in h) e4
+
+head_b : (x y : HeadB) → x.opcode ≡ y.opcode → x.param ≡ y.param → x.size ≡ y.size → x.source ≡ y.source → x.address ≡ y.address → x ≡ y
+head_b x y e0 e1 e2 e3 e4 =
+    ap (λ (z : ℕ). let h : HeadB = record { opcode = z; param = x.param; size = x.size; source = x.source; address = x.address } in h) e0
+    ∙ ap (λ (z : ℕ). let h : HeadB = record { opcode = y.opcode; param = z; size = x.size; source = x.source; address = x.address } in h) e1
+    ∙ ap (λ (z : ℕ). let h : HeadB = record { opcode = y.opcode; param = y.param; size = z; source = x.source; address = x.address } in h) e2
+    ∙ ap (λ (z : ℕ). let h : HeadB = record { opcode = y.opcode; param = y.param; size = y.size; source = z; address = x.address } in h) e3
+    ∙ ap (λ (z : ℕ). let h : HeadB = record { opcode = y.opcode; param = y.param; size = y.size; source = y.source; address = z } in h) e4
+
+head_c : (x y : HeadC) → x.opcode ≡ y.opcode → x.param ≡ y.param → x.size ≡ y.size → x.source ≡ y.source → x.address ≡ y.address → x ≡ y
+head_c x y e0 e1 e2 e3 e4 =
+    ap (λ (z : ℕ). let h : HeadC = record { opcode = z; param = x.param; size = x.size; source = x.source; address = x.address } in h) e0
+    ∙ ap (λ (z : ℕ). let h : HeadC = record { opcode = y.opcode; param = z; size = x.size; source = x.source; address = x.address } in h) e1
+    ∙ ap (λ (z : ℕ). let h : HeadC = record { opcode = y.opcode; param = y.param; size = z; source = x.source; address = x.address } in h) e2
+    ∙ ap (λ (z : ℕ). let h : HeadC = record { opcode = y.opcode; param = y.param; size = y.size; source = z; address = x.address } in h) e3
+    ∙ ap (λ (z : ℕ). let h : HeadC = record { opcode = y.opcode; param = y.param; size = y.size; source = y.source; address = z } in h) e4
+
+head_d : (x y : HeadD) → x.opcode ≡ y.opcode → x.param ≡ y.param → x.size ≡ y.size → x.source ≡ y.source → x.sink ≡ y.sink → x.denied ≡ y.denied → x ≡ y
+head_d x y e0 e1 e2 e3 e4 e5 =
+    ap (λ (z : ℕ). let h : HeadD = record { opcode = z; param = x.param; size = x.size; source = x.source; sink = x.sink; denied = x.denied } in h) e0
+    ∙ ap (λ (z : ℕ). let h : HeadD = record { opcode = y.opcode; param = z; size = x.size; source = x.source; sink = x.sink; denied = x.denied } in h) e1
+    ∙ ap (λ (z : ℕ). let h : HeadD = record { opcode = y.opcode; param = y.param; size = z; source = x.source; sink = x.sink; denied = x.denied } in h) e2
+    ∙ ap (λ (z : ℕ). let h : HeadD = record { opcode = y.opcode; param = y.param; size = y.size; source = z; sink = x.sink; denied = x.denied } in h) e3
+    ∙ ap (λ (z : ℕ). let h : HeadD = record { opcode = y.opcode; param = y.param; size = y.size; source = y.source; sink = z; denied = x.denied } in h) e4
+    ∙ ap (λ (z : Bool). let h : HeadD = record { opcode = y.opcode; param = y.param; size = y.size; source = y.source; sink = y.sink; denied = z } in h) e5
+
+head_e : (x y : HeadE) → x.sink ≡ y.sink → x ≡ y
+head_e x y e0 =
+    ap (λ (z : ℕ). let h : HeadE = record { sink = z } in h) e0
+
+same_7 : (x0 x1 x2 x3 x4 x5 x6 y0 y1 y2 y3 y4 y5 y6 : ℕ) → x0 ∷ x1 ∷ x2 ∷ x3 ∷ x4 ∷ x5 ∷ x6 ∷ [] ≡ y0 ∷ y1 ∷ y2 ∷ y3 ∷ y4 ∷ y5 ∷ y6 ∷ [] → (x0 ≡ y0) × (x1 ≡ y1) × (x2 ≡ y2) × (x3 ≡ y3) × (x4 ≡ y4) × (x5 ≡ y5) × (x6 ≡ y6)
+same_7 x0 x1 x2 x3 x4 x5 x6 y0 y1 y2 y3 y4 y5 y6 e = (cc, cc, cc, cc, cc, cc, cc)
+
+same_8 : (x0 x1 x2 x3 x4 x5 x6 x7 y0 y1 y2 y3 y4 y5 y6 y7 : ℕ) → x0 ∷ x1 ∷ x2 ∷ x3 ∷ x4 ∷ x5 ∷ x6 ∷ x7 ∷ [] ≡ y0 ∷ y1 ∷ y2 ∷ y3 ∷ y4 ∷ y5 ∷ y6 ∷ y7 ∷ [] → (x0 ≡ y0) × (x1 ≡ y1) × (x2 ≡ y2) × (x3 ≡ y3) × (x4 ≡ y4) × (x5 ≡ y5) × (x6 ≡ y6) × (x7 ≡ y7)
+same_8 x0 x1 x2 x3 x4 x5 x6 x7 y0 y1 y2 y3 y4 y5 y6 y7 e = (cc, cc, cc, cc, cc, cc, cc, cc)
+
+line_a : (w : ℕ) (x y : BeatOf HeadA 64) (text : List ℕ) → is_kept form_a w x ≡ true → is_kept form_a w y ≡ true → IsLine form_a w x text → IsLine form_a w y text → x ≡ y
+line_a w x y text kept kept' a b =
+    let v = same_8 _ _ _ _ _ _ _ _ _ _ _ _ _ _ _ _ (same_values form_a w x y text a b) in
+    beat_same x y (head_a x.head y.head v.0 v.1 v.2 v.3 v.4) v.5 (kept_lanes form_a w x y kept kept' v.6) (bit_same x.corrupt y.corrupt v.7)
+
+line_b : (w : ℕ) (x y : BeatOf HeadB 64) (text : List ℕ) → is_kept form_b w x ≡ true → is_kept form_b w y ≡ true → IsLine form_b w x text → IsLine form_b w y text → x ≡ y
+line_b w x y text kept kept' a b =
+    let v = same_8 _ _ _ _ _ _ _ _ _ _ _ _ _ _ _ _ (same_values form_b w x y text a b) in
+    beat_same x y (head_b x.head y.head v.0 v.1 v.2 v.3 v.4) v.5 (kept_lanes form_b w x y kept kept' v.6) (bit_same x.corrupt y.corrupt v.7)
+
+mask_zero : (masked : Bool) (mask : ℕ) (other : Bool) → masked ≡ false → (masked || nat_eq mask 0) && other ≡ true → mask ≡ 0
+mask_zero true mask other e h = absurd cc
+mask_zero false mask other e h = eqb-true mask 0 (first_of_and (nat_eq mask 0) other h)
+
+no_mask : {H : Type 0} (f : Form H) (w : ℕ) (x y : BeatOf H 64) → is_kept f w x ≡ true → is_kept f w y ≡ true → f.rules.masked ≡ false → x.mask ≡ y.mask
+no_mask f w x y kept kept' e =
+    mask_zero f.rules.masked x.mask (f.rules.corrupts || (list_all (λ lane. nat_eq lane 0) x.lanes && not x.corrupt)) e (plain_of f w x kept)
+    ∙ sym (mask_zero f.rules.masked y.mask (f.rules.corrupts || (list_all (λ lane. nat_eq lane 0) y.lanes && not y.corrupt)) e (plain_of f w y kept'))
+
+line_c : (w : ℕ) (x y : BeatOf HeadC 64) (text : List ℕ) → is_kept form_c w x ≡ true → is_kept form_c w y ≡ true → IsLine form_c w x text → IsLine form_c w y text → x ≡ y
+line_c w x y text kept kept' a b =
+    let v = same_7 _ _ _ _ _ _ _ _ _ _ _ _ _ _ (same_values form_c w x y text a b) in
+    beat_same x y (head_c x.head y.head v.0 v.1 v.2 v.3 v.4) (no_mask form_c w x y kept kept' refl) (kept_lanes form_c w x y kept kept' v.5) (bit_same x.corrupt y.corrupt v.6)
+
+line_d : (w : ℕ) (x y : BeatOf HeadD 64) (text : List ℕ) → is_kept form_d w x ≡ true → is_kept form_d w y ≡ true → IsLine form_d w x text → IsLine form_d w y text → x ≡ y
+line_d w x y text kept kept' a b =
+    let v = same_8 _ _ _ _ _ _ _ _ _ _ _ _ _ _ _ _ (same_values form_d w x y text a b) in
+    beat_same x y (head_d x.head y.head v.0 v.1 v.2 v.3 v.4 (bit_same x.head.denied y.head.denied v.5)) (no_mask form_d w x y kept kept' refl) (kept_lanes form_d w x y kept kept' v.6) (bit_same x.corrupt y.corrupt v.7)
+
+no_lanes : (lanes : List ℕ) → list_all (λ lane. nat_eq lane 0) lanes ≡ true → number_of_lanes lanes ≡ 0
+no_lanes [] e = refl
+no_lanes (lane ∷ lanes) e =
+    let here : lane ≡ 0 = eqb-true lane 0 (first_of_and (nat_eq lane 0) (list_all (λ lane. nat_eq lane 0) lanes) e) in
+    let rest = no_lanes lanes (second_of_and (nat_eq lane 0) (list_all (λ lane. nat_eq lane 0) lanes) e) in
+    omega arith
+
+plain_e : (w : ℕ) (x : BeatOf HeadE 64) → is_kept form_e w x ≡ true → (list_all (λ lane. nat_eq lane 0) x.lanes ≡ true) × (x.corrupt ≡ false)
+plain_e w x kept =
+    let plain = second_of_and (nat_eq x.mask 0) (list_all (λ lane. nat_eq lane 0) x.lanes && not x.corrupt) (plain_of form_e w x kept) in
+    (first_of_and (list_all (λ lane. nat_eq lane 0) x.lanes) (not x.corrupt) plain, not_true x.corrupt (second_of_and (list_all (λ lane. nat_eq lane 0) x.lanes) (not x.corrupt) plain))
+
+line_e : (w : ℕ) (x y : BeatOf HeadE 64) (text : List ℕ) → is_kept form_e w x ≡ true → is_kept form_e w y ≡ true → IsLine form_e w x text → IsLine form_e w y text → x ≡ y
+line_e w x y text kept kept' a b =
+    let v : x.head.sink ∷ [] ≡ y.head.sink ∷ [] = same_values form_e w x y text a b in
+    let px = plain_e w x kept in
+    let py = plain_e w y kept' in
+    beat_same x y (head_e x.head y.head cc) (no_mask form_e w x y kept kept' refl) (kept_lanes form_e w x y kept kept' (no_lanes x.lanes px.0 ∙ sym (no_lanes y.lanes py.0))) (px.1 ∙ sym py.1)
+
+letter_of : Line → ℕ
+letter_of (A b) = 65
+letter_of (B b) = 66
+letter_of (C b) = 67
+letter_of (D b) = 68
+letter_of (E b) = 69
+
+letter_is : (client manager : ℕ) (line : Line) (text : List ℕ) → SaysLine client manager line text → slice_index text 0 ≡ letter_of line
+unfolding letter_of
+letter_is client manager (A b) text says = says.letter
+letter_is client manager (B b) text says = says.letter
+letter_is client manager (C b) text says = says.letter
+letter_is client manager (D b) text says = says.letter
+letter_is client manager (E b) text says = says.letter
+
+same_letter : (client manager : ℕ) (line line' : Line) (text : List ℕ) → SaysLine client manager line text → SaysLine client manager line' text → letter_of line ≡ letter_of line'
+same_letter client manager line line' text says says' = sym (letter_is client manager line text says) ∙ letter_is client manager line' text says'
+
+line_same : (client manager : ℕ) (line line' : Line) (text : List ℕ) → is_kept_line client manager line ≡ true → is_kept_line client manager line' ≡ true → SaysLine client manager line text → SaysLine client manager line' text → letter_of line ≡ letter_of line' → line ≡ line'
+unfolding letter_of
+line_same client manager (A x) (A y) text kept kept' says says' e = ap A (line_a client x y text kept kept' says says')
+line_same client manager (B x) (B y) text kept kept' says says' e = ap B (line_b manager x y text kept kept' says says')
+line_same client manager (C x) (C y) text kept kept' says says' e = ap C (line_c client x y text kept kept' says says')
+line_same client manager (D x) (D y) text kept kept' says says' e = ap D (line_d manager x y text kept kept' says says')
+line_same client manager (E x) (E y) text kept kept' says says' e = ap E (line_e client x y text kept kept' says says')
+line_same client manager x y text kept kept' says says' e = absurd (omega arith)
+
+long_line : (body rest : List ℕ) → body ++ newline ++ rest ≡ [] → ⊥
+long_line [] rest e = cc
+long_line (b ∷ body) rest e = cc
+
+pub lines_same : (client manager : ℕ) (lines lines' : List Line) (text : List ℕ) → list_all (is_kept_line client manager) lines ≡ true → list_all (is_kept_line client manager) lines' ≡ true
+    → TellsLines client manager lines text → TellsLines client manager lines' text → lines ≡ lines'
+lines_same client manager [] [] text kept kept' told told' = refl
+lines_same client manager [] (line ∷ lines') text kept kept' told told' = absurd (long_line told'.0 told'.1 (sym told'.2 ∙ told))
+lines_same client manager (line ∷ lines) [] text kept kept' told told' = absurd (long_line told.0 told.1 (sym told.2 ∙ told'))
+lines_same client manager (line ∷ lines) (line' ∷ lines') text kept kept' told told' =
+    let free = says_free client manager line told.0 told.3 in
+    let free' = says_free client manager line' told'.0 told'.3 in
+    let parts = split_at 10 told.0 told'.0 told.1 told'.1 (sym (append_assoc told.0 newline told.1) ∙ sym told.2 ∙ told'.2 ∙ append_assoc told'.0 newline told'.1) free free' in
+    let P : List ℕ → Type 0 = SaysLine client manager line' in
+    let says' = subst P (sym parts.front) told'.3 in
+    let Q : List ℕ → Type 0 = TellsLines client manager lines' in
+    let rest' = subst Q (sym parts.back) told'.4 in
+    let here = line_same client manager line line' told.0 (first_of_and (is_kept_line client manager line) (list_all (is_kept_line client manager) lines) kept) (first_of_and (is_kept_line client manager line') (list_all (is_kept_line client manager) lines') kept') told.3 says' (same_letter client manager line line' told.0 told.3 says') in
+    let more = lines_same client manager lines lines' told.1 (second_of_and (is_kept_line client manager line) (list_all (is_kept_line client manager) lines) kept) (second_of_and (is_kept_line client manager line') (list_all (is_kept_line client manager) lines') kept') told.4 rest' in
+    ap (λ (l : Line). l ∷ lines) here ∙ ap (λ (ls : List Line). line' ∷ ls) more
+
+pub one_trace : (text : List ℕ) (client manager : ℕ) (lines : List Line) (client' manager' : ℕ) (lines' : List Line) → Tells text client manager lines → Tells text client' manager' lines'
+    → (client ≡ client') × (manager ≡ manager') × (lines ≡ lines')
+one_trace text client manager lines client' manager' lines' t t' =
+    let h = same_header client manager client' manager' t.rest t'.rest t.trace.client_width t.trace.manager_width t'.trace.client_width t'.trace.manager_width (sym t.header ∙ t'.header) in
+    let P : ℕ → Type 0 = λ c. TellsLines c manager' lines' t.rest in
+    let Q : ℕ → Type 0 = λ m. TellsLines client m lines' t.rest in
+    let R : List ℕ → Type 0 = TellsLines client' manager' lines' in
+    let K : ℕ → Type 0 = λ c. list_all (is_kept_line c manager') lines' ≡ true in
+    let L : ℕ → Type 0 = λ m. list_all (is_kept_line client m) lines' ≡ true in
+    let told' = subst Q (sym h.managers) (subst P (sym h.clients) (subst R (sym h.rests) t'.told)) in
+    let kept' = subst L (sym h.managers) (subst K (sym h.clients) t'.trace.kept) in
+    (h.clients, h.managers, lines_same client manager lines lines' t.rest t.trace.kept kept' t.told told')

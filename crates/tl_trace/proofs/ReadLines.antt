@@ -1,0 +1,152 @@
+-- A later line, and the walk over the lines of a text.
+use Rattle.std.proofs.Common.{◌≡◌, ◌≢◌, ℕ, zero, suc, ◌+◌, ◌<◌, ◌≤◌, Bool, true, false, ◌&&◌, ◌||◌, List, [], ◌∷◌, ◌++◌, length, map, get_or, take, drop, replicate, Option, Some, None, is_none, refl, sym, ap, ◌∙◌, arith, append_assoc, append-nil, add-one}
+use Rattle.std.specs.List.{list_all, list_any, slice_range, slice_get}
+use Rattle.tl_msg.specs.declared.beat.BeatOf.{BeatOf}
+use Rattle.tl_msg.specs.declared.head.HeadA.{HeadA}
+use Rattle.tl_msg.specs.declared.head.HeadB.{HeadB}
+use Rattle.tl_msg.specs.declared.head.HeadC.{HeadC}
+use Rattle.tl_msg.specs.declared.head.HeadD.{HeadD}
+use Rattle.tl_msg.specs.declared.head.HeadE.{HeadE}
+use Rattle.tl_trace.specs.Fields.{Form, form_a, form_b, form_c, form_d, form_e}
+use Rattle.tl_trace.specs.Lines.{is_lanes, is_writable, is_plain, is_kept}
+use Rattle.tl_trace.specs.Texts.{newline, SaysLine, TellsLines, is_kept_line}
+use Rattle.tl_trace.specs.Faults.{is_newline, onto_first, cut, body, end_fault, later_fault, faults, IsFirstFault, IsReadableTo}
+use Rattle.tl_trace.specs.Reading.{IsRead, IsReadLine}
+use Rattle.tl_trace.specs.declared.line.Line.{Line}
+use Rattle.tl_trace.specs.declared.line.Line.TheVariants.{A, B, C, D, E}
+use Rattle.tl_trace.specs.declared.fault.TraceKind.{TraceKind}
+use Rattle.tl_trace.specs.declared.fault.TraceKind.TheVariants.{NoEnd}
+use Rattle.tl_trace.proofs.Shaped.{first_of_and, second_of_and, faultless}
+
+pub kept_writable : {H : Type 0} (f : Form H) {n : ℕ} (w : ℕ) (b : BeatOf H n) → is_kept f w b ≡ true → is_writable f w b ≡ true
+kept_writable f {n} w b kept = first_of_and (is_writable f w b) (is_plain f b) (second_of_and (is_lanes n b.lanes) (is_writable f w b && is_plain f b) kept)
+
+pub read_as_a : (client manager : ℕ) (text : List ℕ) (b : BeatOf HeadA 64) → IsRead form_a client text b → IsReadLine client manager text (A b)
+read_as_a client manager text b r = record { says = r.line; kept = r.kept; faultless = rw r.line.letter (faultless form_a client b text r.line (kept_writable form_a client b r.kept)) }
+
+pub read_as_b : (client manager : ℕ) (text : List ℕ) (b : BeatOf HeadB 64) → IsRead form_b manager text b → IsReadLine client manager text (B b)
+read_as_b client manager text b r = record { says = r.line; kept = r.kept; faultless = rw r.line.letter (faultless form_b manager b text r.line (kept_writable form_b manager b r.kept)) }
+
+pub read_as_c : (client manager : ℕ) (text : List ℕ) (b : BeatOf HeadC 64) → IsRead form_c client text b → IsReadLine client manager text (C b)
+read_as_c client manager text b r = record { says = r.line; kept = r.kept; faultless = rw r.line.letter (faultless form_c client b text r.line (kept_writable form_c client b r.kept)) }
+
+pub read_as_d : (client manager : ℕ) (text : List ℕ) (b : BeatOf HeadD 64) → IsRead form_d manager text b → IsReadLine client manager text (D b)
+read_as_d client manager text b r = record { says = r.line; kept = r.kept; faultless = rw r.line.letter (faultless form_d manager b text r.line (kept_writable form_d manager b r.kept)) }
+
+pub read_as_e : (client manager : ℕ) (text : List ℕ) (b : BeatOf HeadE 64) → IsRead form_e client text b → IsReadLine client manager text (E b)
+read_as_e client manager text b r = record { says = r.line; kept = r.kept; faultless = rw r.line.letter (faultless form_e client b text r.line (kept_writable form_e client b r.kept)) }
+
+-- ---- cutting
+
+-- no byte of the list is a line end
+abbrev pub IsFree : List ℕ → Type 0
+IsFree bytes = list_any is_newline bytes ≡ false
+
+or_left : (x y : Bool) → x || y ≡ false → x ≡ false
+or_left true y e = e
+or_left false y e = refl
+
+or_right : (x y : Bool) → x || y ≡ false → y ≡ false
+or_right true y e = absurd cc
+or_right false y e = e
+
+pub cut_line : (line more : List ℕ) → IsFree line → cut (line ++ newline ++ more) ≡ (line ++ newline) ∷ cut more
+cut_line [] more free = refl
+cut_line (byte ∷ line) more free =
+    let no : is_newline byte ≡ false = or_left (is_newline byte) (list_any is_newline line) free in
+    let rest = cut_line line more (or_right (is_newline byte) (list_any is_newline line) free) in
+    rw (no, rest) refl
+
+pub cut_last : (byte : ℕ) (line : List ℕ) → IsFree (byte ∷ line) → cut (byte ∷ line) ≡ (byte ∷ line) ∷ []
+cut_last byte [] free = let no : is_newline byte ≡ false = or_left (is_newline byte) false free in rw no refl
+cut_last byte (next ∷ line) free =
+    let no : is_newline byte ≡ false = or_left (is_newline byte) (list_any is_newline (next ∷ line)) free in
+    let rest = cut_last next line (or_right (is_newline byte) (list_any is_newline (next ∷ line)) free) in
+    rw no (ap (onto_first byte) rest)
+
+pub body_line : (line : List ℕ) → IsFree line → body (line ++ newline) ≡ line
+body_line [] free = refl
+body_line (byte ∷ line) free =
+    let no : is_newline byte ≡ false = or_left (is_newline byte) (list_any is_newline line) free in
+    rw no (ap (λ (xs : List ℕ). byte ∷ xs) (body_line line (or_right (is_newline byte) (list_any is_newline line) free)))
+
+pub body_last : (line : List ℕ) → IsFree line → body line ≡ line
+body_last [] free = refl
+body_last (byte ∷ line) free =
+    let no : is_newline byte ≡ false = or_left (is_newline byte) (list_any is_newline line) free in
+    rw no (ap (λ (xs : List ℕ). byte ∷ xs) (body_last line (or_right (is_newline byte) (list_any is_newline line) free)))
+
+has_end : (line : List ℕ) → list_any is_newline (line ++ newline) ≡ true
+has_end [] = refl
+has_end (byte ∷ line) = or_true (is_newline byte) (list_any is_newline (line ++ newline)) (has_end line)
+  where
+    or_true : (x y : Bool) → y ≡ true → x || y ≡ true
+    or_true true y e = refl
+    or_true false y e = e
+
+pub ended : (line : List ℕ) → end_fault (line ++ newline) ≡ None
+ended line = rw (has_end line) refl
+
+pub unended : (line : List ℕ) → IsFree line → end_fault line ≡ Some NoEnd
+unended line free = rw free refl
+
+pub free_take : (n : ℕ) (bytes : List ℕ) → ((k : ℕ) → k < n → get_or bytes k 0 ≢ 10) → IsFree (take n bytes)
+free_take zero bytes h = refl
+free_take (suc n) [] h = refl
+free_take (suc n) (byte ∷ bytes) h =
+    let ne : byte ≢ 10 = h 0 (omega arith) in
+    let no : is_newline byte ≡ false = grind arith in
+    rw no (free_take n bytes (λ k lt. h (suc k) (omega arith)))
+
+-- ---- lines of a text
+
+pub first_fault : (text : List ℕ) (before : ℕ) (kind : TraceKind) (more : List (Option TraceKind)) → faults text ≡ replicate before None ++ Some kind ∷ more → IsFirstFault text (before + 1) kind
+first_fault text before kind more e = record { before = before; place = refl; here = ap (λ (xs : List (Option TraceKind)). slice_get xs before) e ∙ get_after before; none_before = ap (λ (xs : List (Option TraceKind)). list_all is_none (take before xs)) e ∙ none_to before }
+  where
+    get_after : (n : ℕ) → slice_get (replicate n None ++ Some kind ∷ more) n ≡ Some (Some kind)
+    get_after zero = refl
+    get_after (suc n) = get_after n
+
+    none_to : (n : ℕ) → list_all is_none (take n (replicate n None ++ Some kind ∷ more)) ≡ true
+    none_to zero = refl
+    none_to (suc n) = none_to n
+
+none_in : (n : ℕ) (more : List (Option TraceKind)) → list_all is_none (take n (replicate n None ++ more)) ≡ true
+none_in zero more = refl
+none_in (suc n) more = none_in n more
+
+long_enough : (n : ℕ) (more : List (Option TraceKind)) → n ≤ length (replicate n None ++ more)
+long_enough zero more = omega arith
+long_enough (suc n) more = let rest : n ≤ length (replicate n None ++ more) = long_enough n more in omega arith
+
+pub readable_to : (text : List ℕ) (line : ℕ) (more : List (Option TraceKind)) → 1 < line → faults text ≡ replicate line None ++ more → IsReadableTo text line
+readable_to text line more lt e = record {
+  stored = lt;
+  within = let enough = long_enough line more in omega (arith, ap length e, enough);
+  none = ap (λ (xs : List (Option TraceKind)). list_all is_none (take line xs)) e ∙ none_in line more;
+}
+
+pub one_more : (n : ℕ) (more : List (Option TraceKind)) → replicate n None ++ None ∷ more ≡ replicate (n + 1) None ++ more
+one_more n more = onto n ∙ ap (λ (k : ℕ). replicate k None ++ more) (sym (add-one n))
+  where
+    onto : (n : ℕ) → replicate n None ++ None ∷ more ≡ replicate (suc n) None ++ more
+    onto zero = refl
+    onto (suc n) = ap (λ (xs : List (Option TraceKind)). None ∷ xs) (onto n)
+
+pub told_more : (client manager : ℕ) (lines : List Line) (line : Line) (text body : List ℕ) → TellsLines client manager lines text → SaysLine client manager line body
+    → TellsLines client manager (lines ++ line ∷ []) (text ++ body ++ newline)
+told_more client manager [] line text body told says = (body, [], ap (λ (xs : List ℕ). xs ++ body ++ newline) told ∙ sym (append-nil (body ++ newline)), says, refl)
+told_more client manager (first ∷ lines) line text body told says =
+    let front = told.0 in
+    let rest = told.1 in
+    (front, rest ++ body ++ newline, ap (λ (xs : List ℕ). xs ++ body ++ newline) told.2 ∙ simp append_assoc, told.3, told_more client manager lines line rest body told.4 says)
+
+-- what the walk has read of a text
+pub record SoFar (text : List ℕ) (start client manager : ℕ) (lines : List Line) (at before : ℕ) : Type 0 where
+  pub begun : start ≤ at
+  pub within : at ≤ length text
+  pub few : before ≤ at
+  pub one : 1 ≤ before
+  pub told : TellsLines client manager lines (slice_range text start at)
+  pub kept : list_all (is_kept_line client manager) lines ≡ true
+  pub faultless : faults text ≡ replicate before None ++ map (later_fault client manager) (cut (drop at text))

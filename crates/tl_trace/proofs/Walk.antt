@@ -1,0 +1,182 @@
+-- One step of the walk over the lines of a text.
+use Rattle.std.proofs.Common.{◌≡◌, ℕ, zero, suc, ◌+◌, ◌-◌, ◌<◌, ◌≤◌, true, ◌&&◌, List, [], ◌∷◌, ◌++◌, length, map, get_or, take, drop, replicate, Option, Some, None, refl, sym, ap, ◌∙◌, arith, drop-cons, append_assoc, append-nil, add-one, length-drop, inl, inr, subst, rules}
+use Rattle.std.proofs.lemmas.List.Folds.{drop_split, list_all-append}
+use Rattle.std.proofs.lemmas.Bool.{cases_eq}
+use Rattle.std.proofs.lemmas.List.{drop-drop, get_or-drop, take_all}
+use Rattle.std.proofs.Math.Seq.{take-add}
+use Rattle.std.specs.List.{list_all, slice_range}
+use Rattle.tl_msg.specs.Firsts.{◌or_else◌}
+use Rattle.tl_trace.specs.Texts.{newline, is_kept_line, TellsLines}
+use Rattle.tl_trace.specs.Faults.{cut, or_empty, lines_of, body, body_fault, later_fault, widths_of, faults_after, faults_of_lines, faults, IsFirstFault, IsReadableTo}
+use Rattle.tl_trace.specs.Reading.{LineAt, IsReadLine}
+use Rattle.tl_trace.specs.declared.line.Line.{Line}
+use Rattle.tl_trace.specs.declared.fault.TraceKind.{TraceKind}
+use Rattle.tl_trace.specs.declared.fault.TraceKind.TheVariants.{Header, NoEnd}
+use Rattle.tl_trace.proofs.Shaped.{and_of}
+use Rattle.tl_trace.proofs.ReadLines.{IsFree, SoFar, cut_line, cut_last, body_line, body_last, ended, unended, free_take, first_fault, readable_to, one_more, told_more}
+
+pub free_line : (text : List ℕ) (at end : ℕ) → LineAt text at end → IsFree (slice_range text at end)
+free_line text at end line = free_take (end - at) (drop at text) (λ k lt e. line.free k (omega arith) (sym (get_or-drop at text k 0) ∙ e))
+
+drop_all : (xs : List ℕ) (n : ℕ) → length xs ≤ n → drop n xs ≡ []
+drop_all [] zero le = refl
+drop_all [] (suc n) le = refl
+drop_all (x ∷ xs) zero le = absurd (omega arith)
+drop_all (x ∷ xs) (suc n) le = drop_all xs n (omega arith)
+
+pub split_line : (text : List ℕ) (at end : ℕ) → LineAt text at end → end < length text → drop at text ≡ slice_range text at end ++ newline ++ drop (end + 1) text
+split_line text at end line lt =
+    drop_split text at end line.from
+    ∙ ap (λ (xs : List ℕ). slice_range text at end ++ xs) (drop-cons text end 0 lt ∙ ap (λ (x : ℕ). x ∷ drop (suc end) text) (line.stop lt) ∙ ap (λ (n : ℕ). 10 ∷ drop n text) (sym (add-one end)))
+    ∙ sym (append_assoc (slice_range text at end) newline (drop (end + 1) text))
+
+pub last_line : (text : List ℕ) (at end : ℕ) → LineAt text at end → end ≡ length text → drop at text ≡ slice_range text at end
+last_line text at end line e = drop_split text at end line.from ∙ ap (λ (xs : List ℕ). slice_range text at end ++ xs) (drop_all text end (omega arith)) ∙ append-nil (slice_range text at end)
+
+or_none : {F : Type 0} (o : Option F) → o or_else None ≡ o
+or_none None = refl
+or_none (Some x) = refl
+
+pub later_line : (client manager : ℕ) (line : List ℕ) → IsFree line → later_fault client manager (line ++ newline) ≡ body_fault client manager line
+later_line client manager line free =
+    ap (λ (o : Option TraceKind). body_fault client manager (body (line ++ newline)) or_else o) (ended line) ∙ or_none (body_fault client manager (body (line ++ newline)))
+    ∙ ap (λ (b : List ℕ). body_fault client manager b) (body_line line free)
+
+pub later_last : (client manager : ℕ) (line : List ℕ) → IsFree line → later_fault client manager line ≡ body_fault client manager line or_else Some NoEnd
+later_last client manager line free =
+    ap (λ (o : Option TraceKind). body_fault client manager (body line) or_else o) (unended line free)
+    ∙ ap (λ (b : List ℕ). body_fault client manager b or_else Some NoEnd) (body_last line free)
+
+cut_whole : (line : List ℕ) → 0 < length line → IsFree line → cut line ≡ line ∷ []
+cut_whole [] lt free = absurd (omega arith)
+cut_whole (byte ∷ line) lt free = cut_last byte line free
+
+cut_here : (text : List ℕ) (at end : ℕ) → LineAt text at end → end < length text → cut (drop at text) ≡ (slice_range text at end ++ newline) ∷ cut (drop (end + 1) text)
+cut_here text at end line lt = ap cut (split_line text at end line lt) ∙ cut_line (slice_range text at end) (drop (end + 1) text) (free_line text at end line)
+
+cut_there : (text : List ℕ) (at end : ℕ) → LineAt text at end → at < length text → end ≡ length text → cut (drop at text) ≡ slice_range text at end ∷ []
+cut_there text at end line lt e =
+    let whole = last_line text at end line e in
+    let long : 0 < length (slice_range text at end) = omega (arith, ap length whole, length-drop at text) in
+    ap cut whole ∙ cut_whole (slice_range text at end) long (free_line text at end line)
+
+pub refused : (text : List ℕ) (start client manager : ℕ) (lines : List Line) (at before end : ℕ) (kind : TraceKind) → SoFar text start client manager lines at before → LineAt text at end → at < length text
+    → body_fault client manager (slice_range text at end) ≡ Some kind → IsFirstFault text (before + 1) kind
+refused text start client manager lines at before end kind far line lt fault =
+    let b = slice_range text at end in
+    let free = free_line text at end line in
+    elim (cases_eq end (length text)) [
+      | inl e ↦
+          let is : later_fault client manager b ≡ Some kind = later_last client manager b free ∙ ap (λ (o : Option TraceKind). o or_else Some NoEnd) fault in
+          first_fault text before kind [] (far.faultless ∙ ap (λ (xs : List (List ℕ)). replicate before None ++ map (later_fault client manager) xs) (cut_there text at end line lt e)
+          ∙ ap (λ (o : Option TraceKind). replicate before None ++ o ∷ []) is)
+      | inr ne ↦
+          let is : later_fault client manager (b ++ newline) ≡ Some kind = later_line client manager b free ∙ fault in
+          let more = map (later_fault client manager) (cut (drop (end + 1) text)) in
+          first_fault text before kind more (far.faultless ∙ ap (λ (xs : List (List ℕ)). replicate before None ++ map (later_fault client manager) xs) (cut_here text at end line (omega (arith, line.to, ne)))
+          ∙ ap (λ (o : Option TraceKind). replicate before None ++ o ∷ more) is)
+    ]
+
+pub no_end : (text : List ℕ) (start client manager : ℕ) (lines : List Line) (at before end : ℕ) (beat : Line) → SoFar text start client manager lines at before → LineAt text at end → at < length text
+    → IsReadLine client manager (slice_range text at end) beat → end ≡ length text → IsFirstFault text (before + 1) NoEnd
+no_end text start client manager lines at before end beat far line lt read e =
+    let b = slice_range text at end in
+    let is : later_fault client manager b ≡ Some NoEnd = later_last client manager b (free_line text at end line) ∙ ap (λ (o : Option TraceKind). o or_else Some NoEnd) read.faultless in
+    first_fault text before NoEnd [] (far.faultless ∙ ap (λ (xs : List (List ℕ)). replicate before None ++ map (later_fault client manager) xs) (cut_there text at end line lt e)
+    ∙ ap (λ (o : Option TraceKind). replicate before None ++ o ∷ []) is)
+
+-- one more line has no fault
+more_faultless : (text : List ℕ) (start client manager : ℕ) (lines : List Line) (at before end : ℕ) (beat : Line) → SoFar text start client manager lines at before → LineAt text at end
+    → IsReadLine client manager (slice_range text at end) beat → end < length text → faults text ≡ replicate (before + 1) None ++ map (later_fault client manager) (cut (drop (end + 1) text))
+more_faultless text start client manager lines at before end beat far line read lt =
+    let b = slice_range text at end in
+    let more = map (later_fault client manager) (cut (drop (end + 1) text)) in
+    let is : later_fault client manager (b ++ newline) ≡ None = later_line client manager b (free_line text at end line) ∙ read.faultless in
+    far.faultless ∙ ap (λ (xs : List (List ℕ)). replicate before None ++ map (later_fault client manager) xs) (cut_here text at end line lt)
+    ∙ ap (λ (o : Option TraceKind). replicate before None ++ o ∷ more) is ∙ one_more before more
+
+pub unstored : (text : List ℕ) (start client manager : ℕ) (lines : List Line) (at before end : ℕ) (beat : Line) → SoFar text start client manager lines at before → LineAt text at end
+    → IsReadLine client manager (slice_range text at end) beat → end < length text → IsReadableTo text (before + 1)
+unstored text start client manager lines at before end beat far line read lt =
+    readable_to text (before + 1) (map (later_fault client manager) (cut (drop (end + 1) text))) (omega (arith, far.one)) (more_faultless text start client manager lines at before end beat far line read lt)
+
+range_split : (xs : List ℕ) (i j k : ℕ) → i ≤ j → j ≤ k → slice_range xs i k ≡ slice_range xs i j ++ slice_range xs j k
+range_split xs i j k le le' =
+    let sum : k - i ≡ (j - i) + (k - j) = omega arith in
+    let back : i + (j - i) ≡ j = omega arith in
+    ap (λ (n : ℕ). take n (drop i xs)) sum ∙ take-add (j - i) (k - j) (drop i xs)
+    ∙ ap (λ (ys : List ℕ). slice_range xs i j ++ take (k - j) ys) (drop-drop (j - i) i xs ∙ ap (λ (n : ℕ). drop n xs) back)
+
+one_byte : (xs : List ℕ) (at : ℕ) → at < length xs → slice_range xs at (at + 1) ≡ get_or xs at 0 ∷ []
+one_byte xs at lt =
+    let one : (at + 1) - at ≡ 1 = omega arith in
+    ap (λ (n : ℕ). take n (drop at xs)) one ∙ ap (λ (ys : List ℕ). take 1 ys) (drop-cons xs at 0 lt)
+
+pub advance : (text : List ℕ) (start client manager : ℕ) (lines : List Line) (at before end : ℕ) (beat : Line) → SoFar text start client manager lines at before → LineAt text at end
+    → IsReadLine client manager (slice_range text at end) beat → end < length text → SoFar text start client manager (lines ++ beat ∷ []) (end + 1) (before + 1)
+advance text start client manager lines at before end beat far line read lt =
+    let b = slice_range text at end in
+    let stop : slice_range text end (end + 1) ≡ newline = one_byte text end lt ∙ ap (λ (x : ℕ). x ∷ []) (line.stop lt) in
+    let whole : slice_range text start (end + 1) ≡ slice_range text start at ++ b ++ newline =
+    range_split text start at (end + 1) far.begun (omega (arith, line.from))
+    ∙ ap (λ (ys : List ℕ). slice_range text start at ++ ys) (range_split text at end (end + 1) line.from (omega arith) ∙ ap (λ (ys : List ℕ). b ++ ys) stop)
+    ∙ sym (append_assoc (slice_range text start at) b newline) in
+    let told = told_more client manager lines beat (slice_range text start at) b far.told read.says in
+    let P : List ℕ → Type 0 = λ ys. TellsLines client manager (lines ++ beat ∷ []) ys in
+    record {
+      begun = omega (arith, far.begun, line.from);
+      within = omega arith;
+      few = omega (arith, far.few, line.from);
+      one = omega arith;
+      told = subst P (sym whole) told;
+      kept = list_all-append (is_kept_line client manager) lines (beat ∷ []) ∙ and_of (list_all (is_kept_line client manager) lines) (is_kept_line client manager beat && true) far.kept (and_of (is_kept_line client manager beat) true read.kept refl);
+      faultless = more_faultless text start client manager lines at before end beat far line read lt;
+    }
+
+-- ---- the header
+
+pub header_lines : (text : List ℕ) (end : ℕ) → LineAt text 0 end → end < length text → lines_of text ≡ (slice_range text 0 end ++ newline) ∷ cut (drop (end + 1) text)
+header_lines text end line lt = ap or_empty (cut_here text 0 end line lt)
+
+no_text : (text : List ℕ) → length text ≡ 0 → text ≡ []
+no_text [] e = refl
+no_text (byte ∷ text) e = absurd (omega arith)
+
+range_to : (text : List ℕ) → slice_range text 0 (length text) ≡ text
+range_to text = search (rules, take_all)
+
+pub header_last : (text : List ℕ) (end : ℕ) → LineAt text 0 end → end ≡ length text → lines_of text ≡ slice_range text 0 end ∷ []
+header_last text end line e = elim (cases_eq (length text) 0) [
+  | inl none ↦
+      let empty = no_text text none in
+      let zero_end : end ≡ 0 = e ∙ none in
+      let this : slice_range text 0 end ≡ [] = ap (λ (n : ℕ). slice_range text 0 n) zero_end in
+      ap lines_of empty ∙ ap (λ (l : List ℕ). l ∷ []) (sym this)
+  | inr some ↦ ap or_empty (cut_there text 0 end line (omega (arith, some)) e)
+]
+
+pub no_header : (text : List ℕ) (end : ℕ) → LineAt text 0 end → widths_of (slice_range text 0 end) ≡ None → IsFirstFault text 1 Header
+no_header text end line none =
+    let b = slice_range text 0 end in
+    let free = free_line text 0 end line in
+    elim (cases_eq end (length text)) [
+      | inl e ↦ first_fault text 0 Header [] (ap faults_of_lines (header_last text end line e) ∙ ap (λ (o : Option (ℕ × ℕ)). faults_after o b []) (ap widths_of (body_last b free) ∙ none))
+      | inr ne ↦ first_fault text 0 Header [] (ap faults_of_lines (header_lines text end line (omega (arith, line.to, ne)))
+          ∙ ap (λ (o : Option (ℕ × ℕ)). faults_after o (b ++ newline) (cut (drop (end + 1) text))) (ap widths_of (body_line b free) ∙ none))
+    ]
+
+pub no_header_end : (text : List ℕ) (end : ℕ) (pair : ℕ × ℕ) → LineAt text 0 end → widths_of (slice_range text 0 end) ≡ Some pair → end ≡ length text → IsFirstFault text 1 NoEnd
+no_header_end text end pair line some e =
+    let b = slice_range text 0 end in
+    let free = free_line text 0 end line in
+    first_fault text 0 NoEnd [] (ap faults_of_lines (header_last text end line e) ∙ ap (λ (o : Option (ℕ × ℕ)). faults_after o b []) (ap widths_of (body_last b free) ∙ some)
+    ∙ ap (λ (o : Option TraceKind). o ∷ []) (unended b free))
+
+pub header_faults : (text : List ℕ) (end : ℕ) (pair : ℕ × ℕ) → LineAt text 0 end → widths_of (slice_range text 0 end) ≡ Some pair → end < length text
+    → faults text ≡ None ∷ map (later_fault pair.0 pair.1) (cut (drop (end + 1) text))
+header_faults text end pair line some lt =
+    let b = slice_range text 0 end in
+    let free = free_line text 0 end line in
+    let lines = cut (drop (end + 1) text) in
+    ap faults_of_lines (header_lines text end line lt) ∙ ap (λ (o : Option (ℕ × ℕ)). faults_after o (b ++ newline) lines) (ap widths_of (body_line b free) ∙ some)
+    ∙ ap (λ (o : Option TraceKind). o ∷ map (later_fault pair.0 pair.1) lines) (ended b)

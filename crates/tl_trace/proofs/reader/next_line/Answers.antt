@@ -1,0 +1,15 @@
+use Rattle.std.proofs.Common.{arith}
+use Rattle.std.specs.List.{slice_range}
+use Rattle.tl_trace.proofs.Cover.{says_free, free_between}
+use Rattle.tl_trace.proofs.reader.next_line.Goals as goal
+
+pub returns-in-Ok-clause-line : goal.returns-in-Ok-clause-line
+returns-in-Ok-clause-line c =
+    let end = c.in-Some.ensures in
+    let b = slice_range c.args.text.now c.args.at c.in-Some.end in
+    record {
+      from = omega (arith, end.0);
+      to = omega (arith, end.1);
+      free = free_between c.args.text.now c.args.at c.in-Some.end (omega (arith, end.1)) (says_free c.args.client c.args.manager c.in-Ok.line b c.in-Ok.ensures.ok.says);
+      stop = λ _. end.2;
+    }

@@ -1,0 +1,188 @@
+//! The text of a head.
+ghost use Rattle.std.specs.Prelude.{◌≡◌, ◌+◌, ◌≤◌, ◌∷◌, ◌++◌, ◌/◌, ◌%◌, [], ℕ, Bool, true, false, refl, length, flat_map};
+ghost use Rattle.std.specs.Char.{digit_char};
+ghost use Rattle.arrayvec.specs.ArrayVec.{array_vec_len};
+ghost use Rattle.tl_trace.specs.Fields.{Form, digit_count, value_of, form_a, form_b, form_c, form_d, form_e};
+ghost use Rattle.tl_trace.specs.Lines.{hex, head_text};
+ghost use Rattle.tl_msg.specs.declared.beat.BeatOf.{BeatOf};
+
+use crate::text::{digits_of, high_digit, low_digit};
+use arrayvec::ArrayVec;
+use tl_msg::{ChA, ChB, ChC, ChD, ChE, Channel, HeadA, HeadB, HeadC, HeadD, HeadE};
+
+/// A channel whose heads can be written.
+pub trait HeadText: Channel {
+    /// Whether its lines have data and corrupt: all but those of E.
+    const HAS_DATA: bool;
+
+    ghost form: { Form Self.Head };
+
+    ghost HAS_DATA: { Bool };
+
+    /// The line from its letter up to the last field before mask and data, without LF; on E the whole line.
+    fn head_text(head: &Self::Head) -> ArrayVec<u8, 32>
+        ensures { result.items ≡ head_text form head.now };
+
+    ghost same_rules: { form.rules ≡ Self.rules };
+
+    ghost masked_form: { form.rules.masked ≡ Self.MASKED };
+
+    ghost data_form: { form.rules.corrupts ≡ HAS_DATA };
+
+    ghost narrow_head: { (n w : ℕ) (b : BeatOf Self.Head n) → flat_map (λ field. 32 ∷ hex (digit_count w field) (value_of form b field)) form.head_fields ≡ flat_map (λ field. 32 ∷ hex (digit_count 0 field) (form.value b.head field)) form.head_fields };
+}
+
+/// Appends bytes.
+fn put(text: &mut ArrayVec<u8, 32>, bytes: &[u8])
+    requires { array_vec_len text.old + length bytes.now ≤ 32 }
+    ensures items { text.new.items ≡ text.old.items ++ bytes.now }
+    ensures len { array_vec_len text.new ≡ array_vec_len text.old + length bytes.now }
+{
+    let _ = text.try_extend_from_slice(bytes);
+}
+
+/// The letter, opcode, param, size and source.
+fn message_text(letter: u8, opcode: u8, param: u8, size: u8, source: u8) -> [u8; 10]
+    ensures { result ≡ letter ∷ 32 ∷ digit_char (opcode % 16) ∷ 32 ∷ digit_char (param % 16) ∷ 32 ∷ digit_char (size % 16) ∷ 32 ∷ digit_char (source / 16 % 16) ∷ digit_char (source % 16) ∷ [] }
+{
+    [
+        letter,
+        b' ',
+        low_digit(opcode),
+        b' ',
+        low_digit(param),
+        b' ',
+        low_digit(size),
+        b' ',
+        high_digit(source),
+        low_digit(source),
+    ]
+}
+
+/// The head of a message with an address.
+fn addressed_text(message: &[u8; 10], address: u64) -> ArrayVec<u8, 32>
+    ensures { result.items ≡ message.now ++ 32 ∷ hex 16 address }
+{
+    let mut text = ArrayVec::new();
+    put(&mut text, message);
+    text.push(b' ');
+    put(&mut text, &digits_of(address));
+    text
+}
+
+impl HeadText for ChA {
+    const HAS_DATA: bool = true;
+
+    ghost form = { form_a };
+
+    ghost HAS_DATA = { true };
+
+    fn head_text(head: &HeadA) -> ArrayVec<u8, 32> {
+        let message = message_text(b'A', head.opcode, head.param, head.size, head.source);
+        addressed_text(&message, head.address)
+    }
+
+    ghost same_rules = { refl };
+
+    ghost masked_form = { refl };
+
+    ghost data_form = { refl };
+
+    ghost narrow_head = { λ n w b. refl };
+}
+
+impl HeadText for ChB {
+    const HAS_DATA: bool = true;
+
+    ghost form = { form_b };
+
+    ghost HAS_DATA = { true };
+
+    fn head_text(head: &HeadB) -> ArrayVec<u8, 32> {
+        let message = message_text(b'B', head.opcode, head.param, head.size, head.source);
+        addressed_text(&message, head.address)
+    }
+
+    ghost same_rules = { refl };
+
+    ghost masked_form = { refl };
+
+    ghost data_form = { refl };
+
+    ghost narrow_head = { λ n w b. refl };
+}
+
+impl HeadText for ChC {
+    const HAS_DATA: bool = true;
+
+    ghost form = { form_c };
+
+    ghost HAS_DATA = { true };
+
+    fn head_text(head: &HeadC) -> ArrayVec<u8, 32> {
+        let message = message_text(b'C', head.opcode, head.param, head.size, head.source);
+        addressed_text(&message, head.address)
+    }
+
+    ghost same_rules = { refl };
+
+    ghost masked_form = { refl };
+
+    ghost data_form = { refl };
+
+    ghost narrow_head = { λ n w b. refl };
+}
+
+impl HeadText for ChD {
+    const HAS_DATA: bool = true;
+
+    ghost form = { form_d };
+
+    ghost HAS_DATA = { true };
+
+    fn head_text(head: &HeadD) -> ArrayVec<u8, 32> {
+        let message = message_text(b'D', head.opcode, head.param, head.size, head.source);
+        let rest = [
+            b' ',
+            high_digit(head.sink),
+            low_digit(head.sink),
+            b' ',
+            low_digit(head.denied as u8),
+        ];
+        let mut text = ArrayVec::new();
+        put(&mut text, &message);
+        put(&mut text, &rest);
+        text
+    }
+
+    ghost same_rules = { refl };
+
+    ghost masked_form = { refl };
+
+    ghost data_form = { refl };
+
+    ghost narrow_head = { λ n w b. refl };
+}
+
+impl HeadText for ChE {
+    const HAS_DATA: bool = false;
+
+    ghost form = { form_e };
+
+    ghost HAS_DATA = { false };
+
+    fn head_text(head: &HeadE) -> ArrayVec<u8, 32> {
+        let line = [b'E', b' ', high_digit(head.sink), low_digit(head.sink)];
+        let mut text = ArrayVec::new();
+        put(&mut text, &line);
+        text
+    }
+
+    ghost same_rules = { refl };
+
+    ghost masked_form = { refl };
+
+    ghost data_form = { refl };
+
+    ghost narrow_head = { λ n w b. refl };
+}

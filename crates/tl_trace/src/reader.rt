@@ -1,0 +1,190 @@
+//! Reading a text.
+ghost use Rattle.std.specs.Prelude.{ℕ, ◌≡◌, ◌≢◌, ◌≤◌, ◌<◌, ◌+◌, true, false, None, Some, ◌∷◌, drop, map, length, slice_index, slice_range, IfSome, IfOk, IfErr};
+ghost use Rattle.std.specs.List.{list_any};
+ghost use Rattle.tl_trace.specs.Texts.{Tells, TellsLines, is_kept_line};
+ghost use Rattle.tl_trace.specs.Faults.{is_newline, cut, faults, body_fault, later_fault, IsFirstFault, IsReadableTo};
+ghost use Rattle.tl_trace.specs.Reading.{IsReadLine, LineAt};
+ghost use Rattle.std.specs.List.{list_all};
+ghost use Rattle.tl_trace.specs.declared.fault.TraceKind.TheVariants.{OutOfMemory};
+
+use crate::fault::{TraceFault, TraceKind};
+use crate::header::widths_of;
+use crate::line::Line;
+use crate::line_reader::{mask_digits, read_a, read_b, read_c, read_d, read_e};
+use crate::trace::Trace;
+use std::alloc::Global;
+
+/// The place of the first LF from `at` on, or the text's length.
+fn line_end(text: &[u8], at: usize) -> usize
+    requires { at ≤ length text.now }
+    ensures from { at ≤ result }
+    ensures to { result ≤ length text.now }
+    ensures free { (k : ℕ) → at + k < result → slice_index text.now (at + k) ≢ 10 }
+    ensures end { result < length text.now → slice_index text.now result ≡ 10 }
+{
+    match text[at..].iter().position(|byte| *byte == b'\n') {
+        Some(n) => at + n,
+        None => text.len(),
+    }
+}
+
+/// The beat of a later line, without its LF.
+fn read_line(text: &[u8], client: usize, manager: usize) -> Result<Line, TraceKind>
+    requires client { client ≤ 64 }
+    requires manager { manager ≤ 64 }
+    ensures ok { IfOk result (IsReadLine client manager text.now) }
+    ensures err { IfErr result (λ kind. body_fault client manager text.now ≡ Some kind) }
+    ensures kinds { IfErr result (λ kind. kind ≢ OutOfMemory) }
+{
+    match text.first() {
+        Some(b'A') => Ok(Line::A(read_a(text, client)?)),
+        Some(b'B') => Ok(Line::B(read_b(text, manager)?)),
+        Some(b'C') => Ok(Line::C(read_c(text, client)?)),
+        Some(b'D') => Ok(Line::D(read_d(text, manager)?)),
+        Some(b'E') => Ok(Line::E(read_e(text, client)?)),
+        _ => Err(TraceKind::Channel),
+    }
+}
+
+/// The length of a line with this letter, without its LF.
+fn usual_length(letter: u8, client: usize, manager: usize) -> Option<usize>
+    requires client { client ≤ 64 }
+    requires manager { manager ≤ 64 }
+    ensures { IfSome result (λ n. (1 ≤ n) × (n ≤ 175)) }
+{
+    match letter {
+        b'A' => Some(31 + mask_digits(client) + 2 * client),
+        b'B' => Some(31 + mask_digits(manager) + 2 * manager),
+        b'C' => Some(30 + 2 * client),
+        b'D' => Some(18 + 2 * manager),
+        b'E' => Some(4),
+        _ => None,
+    }
+}
+
+/// The end of a line whose LF stands where its letter and the widths say.
+fn usual_end(text: &[u8], at: usize, client: usize, manager: usize) -> Option<usize>
+    requires client { client ≤ 64 }
+    requires manager { manager ≤ 64 }
+    requires at { at < length text.now }
+    ensures { IfSome result (λ end. (at < end) × (end < length text.now) × (slice_index text.now end ≡ 10)) }
+{
+    let long = usual_length(text[at], client, manager)?;
+    if long >= text.len() - at || text[at + long] != b'\n' {
+        return None;
+    }
+    Some(at + long)
+}
+
+/// How many lines can be stored of this text at most, from line 2 on. A line whose LF stands elsewhere is faulty.
+fn most_lines(text: &[u8], start: usize, client: usize, manager: usize) -> usize
+    requires client { client ≤ 64 }
+    requires manager { manager ≤ 64 }
+{
+    let mut lines = 0;
+    let mut at = start;
+    while at < text.len() {
+        let Some(end) = usual_end(text, at, client, manager) else {
+            return lines;
+        };
+        at = end + 1;
+        lines += 1;
+    }
+    lines
+}
+
+/// The end of the line from `at` on, and its beat.
+fn next_line(
+    text: &[u8],
+    at: usize,
+    client: usize,
+    manager: usize,
+) -> (usize, Result<Line, TraceKind>)
+    requires client { client ≤ 64 }
+    requires manager { manager ≤ 64 }
+    requires at { at < length text.now }
+    ensures line { LineAt text.now at result.0 }
+    ensures ok { IfOk result.1 (IsReadLine client manager (slice_range text.now at result.0)) }
+    ensures err { IfErr result.1 (λ kind. body_fault client manager (slice_range text.now at result.0) ≡ Some kind) }
+    ensures kinds { IfErr result.1 (λ kind. kind ≢ OutOfMemory) }
+{
+    if let Some(end) = usual_end(text, at, client, manager) {
+        if let Ok(line) = read_line(&text[at..end], client, manager) {
+            return (end, Ok(line));
+        }
+    }
+    let end = line_end(text, at);
+    (end, read_line(&text[at..end], client, manager))
+}
+
+/// The beats of the lines from `start` on, where the first of them is line 2.
+fn read_lines(
+    alloc: Global,
+    text: &[u8],
+    start: usize,
+    client: usize,
+    manager: usize,
+) -> Result<Vec<Line>, TraceFault>
+    requires client { client ≤ 64 }
+    requires manager { manager ≤ 64 }
+    requires start { (1 ≤ start) × (start ≤ length text.now) }
+    requires header { faults text.now ≡ None ∷ map (later_fault client manager) (cut (drop start text.now)) }
+    ensures told { IfOk result (λ lines. TellsLines client manager lines.items (drop start text.now)) }
+    ensures kept { IfOk result (λ lines. list_all (is_kept_line client manager) lines.items ≡ true) }
+    ensures fault { IfErr result (λ e. e.kind ≢ OutOfMemory → IsFirstFault text.now e.line e.kind) }
+    ensures memory { IfErr result (λ e. e.kind ≡ OutOfMemory → IsReadableTo text.now e.line) }
+{
+    let mut lines = Vec::new(alloc);
+    let has_room = lines
+        .reserve(most_lines(text, start, client, manager))
+        .is_ok();
+    let mut at = start;
+    let mut before = 1u64;
+    while at < text.len() {
+        let line = before + 1;
+        let (end, read) = next_line(text, at, client, manager);
+        let beat = match read {
+            Ok(beat) => beat,
+            Err(kind) => return Err(TraceFault { line, kind }),
+        };
+        if end == text.len() {
+            let kind = TraceKind::NoEnd;
+            return Err(TraceFault { line, kind });
+        }
+        if !has_room || lines.push(beat).is_err() {
+            let kind = TraceKind::OutOfMemory;
+            return Err(TraceFault { line, kind });
+        }
+        at = end + 1;
+        before = line;
+    }
+    Ok(lines)
+}
+
+/// Reads a text. The trace is the one that the text tells. A fault is the first one of the text, with its line;
+/// `OutOfMemory` has the first line whose beat could not be stored, and no line up to it has a fault.
+pub fn read(alloc: Global, text: &[u8]) -> Result<Trace, TraceFault>
+    ensures told { IfOk result (λ t. Tells text.now t.client t.manager t.lines.items) }
+    ensures fault { IfErr result (λ e. e.kind ≢ OutOfMemory → IsFirstFault text.now e.line e.kind) }
+    ensures memory { IfErr result (λ e. e.kind ≡ OutOfMemory → IsReadableTo text.now e.line) }
+{
+    let end = line_end(text, 0);
+    let Some((client, manager)) = widths_of(&text[..end]) else {
+        return Err(TraceFault {
+            line: 1,
+            kind: TraceKind::Header,
+        });
+    };
+    if end >= text.len() {
+        return Err(TraceFault {
+            line: 1,
+            kind: TraceKind::NoEnd,
+        });
+    }
+    let lines = read_lines(alloc, text, end + 1, client, manager)?;
+    Ok(Trace {
+        client,
+        manager,
+        lines,
+    })
+}

@@ -1,0 +1,175 @@
+//! Writing lines, reports and traces.
+ghost use Rattle.std.specs.Prelude.{◌≡◌, ◌≤◌, ◌+◌, ◌*◌, ◌/◌, ◌++◌, ◌∷◌, [], if◌then◌else◌, length, decimal, OnOk, OnErr, IfOk};
+ghost use Rattle.arrayvec.specs.ArrayVec.{array_vec_len};
+ghost use Rattle.tl_lanes.specs.Lanes.{IsWidth};
+ghost use Rattle.tl_trace.specs.Fields.{bit, number_of_lanes};
+ghost use Rattle.tl_trace.specs.Lines.{hex, line_text, beats_text};
+ghost use Rattle.tl_trace.specs.Texts.{newline, text_of_line, trace_text};
+ghost use Rattle.tl_trace.specs.Reports.{verdict_text, report_line};
+
+use crate::fault::OutOfMemory;
+use crate::head_text::HeadText;
+use crate::header::header;
+use crate::line::Line;
+use crate::line_reader::mask_digits;
+use crate::text::{Text, put, put_byte, put_decimal, put_field, put_lanes};
+use crate::trace::Trace;
+use arrayvec::ArrayVec;
+use std::alloc::Global;
+use tl_msg::{Beat, ChA, ChB, ChC, ChD, ChE, Verdict};
+
+/// Appends the mask of a channel that has one.
+fn put_mask<K: HeadText>(text: &mut Text, mask: u64, w: usize)
+    requires width { w ≤ 64 }
+    requires room { array_vec_len text.old ≤ 32 }
+    ensures items { text.new.items ≡ text.old.items ++ (if K.form.rules.masked then 32 ∷ hex ((w + 3) / 4) mask else []) }
+    ensures len { array_vec_len text.new ≤ 49 }
+{
+    if !K::MASKED {
+        return;
+    }
+    put_field(text, mask, mask_digits(w));
+}
+
+/// Appends the data and corrupt of a channel that has them.
+fn put_data<K: HeadText>(text: &mut Text, lanes: &[u8], corrupt: bool, w: usize)
+    requires width { w ≤ 64 }
+    requires lanes { w ≤ length lanes.now }
+    requires room { array_vec_len text.old ≤ 49 }
+    ensures items { text.new.items ≡ text.old.items ++ (if K.form.rules.corrupts then (32 ∷ hex (2 * w) (number_of_lanes lanes.now)) ++ 32 ∷ hex 1 (bit corrupt) else []) }
+    ensures len { array_vec_len text.new ≤ 180 }
+{
+    if !K::HAS_DATA {
+        return;
+    }
+    put_lanes(text, lanes, w);
+    put_field(text, corrupt as u64, 1);
+}
+
+/// The line of a beat on the first `w` of its lanes, with its LF.
+fn line_on<K: HeadText, const N: usize>(beat: &Beat<K, N>, w: usize) -> Text
+    requires width { w ≤ 64 }
+    requires lanes { w ≤ N }
+    ensures { result.items ≡ line_text K.form w beat.now ++ newline }
+{
+    let mut text = ArrayVec::new();
+    put(&mut text, K::head_text(&beat.head).as_slice());
+    put_mask::<K>(&mut text, beat.mask, w);
+    put_data::<K>(&mut text, &beat.lanes, beat.corrupt, w);
+    put_byte(&mut text, b'\n');
+    text
+}
+
+/// The line of a beat, with its LF. A field is written by its lowest digits, so the text of a writable beat is its line.
+pub fn line_of<K: HeadText, const W: usize>(beat: &Beat<K, W>) -> ArrayVec<u8, 320>
+    requires { IsWidth W }
+    ensures { result.items ≡ line_text K.form W beat.now ++ newline }
+{
+    line_on::<K, W>(beat, W)
+}
+
+/// Appends the lines of beats, in order, each with its LF. Where a growth is refused the contents stay as they were.
+pub fn write_far<K: HeadText, const W: usize>(
+    out: &mut Vec<u8>,
+    beats: &[Beat<K, W>],
+) -> Result<(), OutOfMemory>
+    requires { IsWidth W }
+    ensures ok { OnOk result (out.new.items ≡ out.old.items ++ beats_text K.form W beats.now) }
+    ensures err { OnErr result (out.new.items ≡ out.old.items) }
+{
+    let start = out.len();
+    for beat in beats {
+        if out
+            .extend_from_slice(line_of::<K, W>(beat).as_slice())
+            .is_err()
+        {
+            out.truncate(start);
+            return Err(OutOfMemory);
+        }
+    }
+    Ok(())
+}
+
+/// Appends a word, the number of near beats, and that of far beats.
+#[tactic(auto, using(crate::proofs::Decimals::length_decimal))]
+fn put_counts(text: &mut Text, word: &[u8], near: u64, far: u64)
+    requires { array_vec_len text.old + length word.now ≤ 100 }
+    ensures items { text.new.items ≡ text.old.items ++ (word.now ++ decimal near ++ 32 ∷ decimal far) }
+    ensures len { array_vec_len text.new ≤ 200 }
+{
+    put(text, word);
+    put_decimal(text, near);
+    put_byte(text, b' ');
+    put_decimal(text, far);
+}
+
+/// Appends a word, the number of near beats, and the name of a fault.
+#[tactic(auto, using(crate::proofs::Decimals::length_decimal))]
+fn put_fault(text: &mut Text, word: &[u8], at: u64, name: &str)
+    requires room { array_vec_len text.old + length word.now ≤ 100 }
+    requires short { length name.now ≤ 50 }
+    ensures items { text.new.items ≡ text.old.items ++ (word.now ++ decimal at ++ 32 ∷ name.now) }
+    ensures len { array_vec_len text.new ≤ 200 }
+{
+    put(text, word);
+    put_decimal(text, at);
+    put_byte(text, b' ');
+    put(text, name.as_bytes());
+}
+
+/// Appends what a report says of a verdict.
+fn put_verdict(text: &mut Text, verdict: &Verdict)
+    requires { array_vec_len text.old ≤ 50 }
+    ensures items { text.new.items ≡ text.old.items ++ verdict_text verdict.now }
+    ensures len { array_vec_len text.new ≤ 200 }
+{
+    match verdict {
+        Verdict::Done { near, far } => put_counts(text, b"done ", *near, *far),
+        Verdict::Cut { near, far } => put_counts(text, b"cut ", *near, *far),
+        Verdict::Refused { at, fault } => put_fault(text, b"refused ", *at, fault.name()),
+        Verdict::Waiting { at, fault } => put_fault(text, b"waiting ", *at, fault.name()),
+    }
+}
+
+/// Appends the report line of the channel with this letter, with its LF. Where a growth is refused the contents stay as they were.
+pub fn write_report(out: &mut Vec<u8>, letter: u8, verdict: &Verdict) -> Result<(), OutOfMemory>
+    ensures ok { OnOk result (out.new.items ≡ out.old.items ++ report_line letter verdict.now) }
+    ensures err { OnErr result (out.new.items ≡ out.old.items) }
+{
+    let mut text = ArrayVec::new();
+    put(&mut text, b"= ");
+    put_byte(&mut text, letter);
+    put_byte(&mut text, b' ');
+    put_verdict(&mut text, verdict);
+    put_byte(&mut text, b'\n');
+    out.extend_from_slice(text.as_slice())?;
+    Ok(())
+}
+
+/// The line of a beat of a trace, with its LF.
+fn line_of_trace(client: usize, manager: usize, line: &Line) -> Text
+    requires client { client ≤ 64 }
+    requires manager { manager ≤ 64 }
+    ensures { result.items ≡ text_of_line client manager line.now ++ newline }
+{
+    match line {
+        Line::A(beat) => line_on::<ChA, 64>(beat, client),
+        Line::B(beat) => line_on::<ChB, 64>(beat, manager),
+        Line::C(beat) => line_on::<ChC, 64>(beat, client),
+        Line::D(beat) => line_on::<ChD, 64>(beat, manager),
+        Line::E(beat) => line_on::<ChE, 64>(beat, client),
+    }
+}
+
+/// The text of a trace: what is read of it is this trace again.
+pub fn write_trace(alloc: Global, trace: &Trace) -> Result<Vec<u8>, OutOfMemory>
+    ensures { IfOk result (λ text. text.items ≡ trace_text trace.now.client trace.now.manager trace.now.lines.items) }
+{
+    let mut out = Vec::new(alloc);
+    out.extend_from_slice(header(trace.client, trace.manager).as_slice())?;
+    out.push(b'\n')?;
+    for line in &trace.lines {
+        out.extend_from_slice(line_of_trace(trace.client, trace.manager, line).as_slice())?;
+    }
+    Ok(out)
+}
