@@ -20,12 +20,12 @@ use Rattle.tl_bridge.proofs.Sides.{nth_stays}
 use Rattle.tl_bridge.proofs.Grows.{homes_more}
 
 -- one message more
-from_ask : (before ms : List Mark) (h : HeadA) → homes_from before (ms ++ Asks h ∷ []) ≡ homes_from before ms
+pub from_ask : (before ms : List Mark) (h : HeadA) → homes_from before (ms ++ Asks h ∷ []) ≡ homes_from before ms
 from_ask before [] h = refl
 from_ask before (Asks x ∷ ms) h = from_ask (before ++ Asks x ∷ []) ms h
 from_ask before (Answers x ∷ ms) h = ap (λ q. home_after before x ∷ q) (from_ask (before ++ Answers x ∷ []) ms h)
 
-from_answer : (before ms : List Mark) (h : HeadD) → homes_from before (ms ++ Answers h ∷ []) ≡ homes_from before ms ++ home_after (before ++ ms) h ∷ []
+pub from_answer : (before ms : List Mark) (h : HeadD) → homes_from before (ms ++ Answers h ∷ []) ≡ homes_from before ms ++ home_after (before ++ ms) h ∷ []
 from_answer before [] h = ap (λ q. home_after q h ∷ []) (sym (append-nil before))
 from_answer before (Asks x ∷ ms) h =
     from_answer (before ++ Asks x ∷ []) ms h ∙

@@ -6,3 +6,5 @@ pub mod Histories
 pub mod Rounds
 pub mod Tables
 pub mod Laws
+pub mod Tracked
+pub mod Bridges

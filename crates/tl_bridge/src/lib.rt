@@ -2,8 +2,12 @@
 #![tactic(auto)]
 
 pub mod laws;
+mod noting;
+mod sync_bridge;
 mod tables;
 #[cfg(test)]
 mod tests;
+mod tracked_pipe;
 
+pub use sync_bridge::{Standings, SyncBridge};
 pub use tables::{Request, RequestTable, SourceTable};

@@ -1,5 +1,5 @@
 //! How a near beat gets into the stage.
-ghost use Rattle.std.specs.Prelude.{◌≡◌, ◌<◌, ◌^◌, ◌↔◌, ◌++◌, [], ◌∷◌, List, ℕ, Some, All, length, IsOk, OnOk, OnErr, IfErr};
+ghost use Rattle.std.specs.Prelude.{◌≡◌, ◌<◌, ◌^◌, ◌↔◌, ◌++◌, [], ◌∷◌, List, ℕ, Some, IsOk, OnOk, OnErr, IfErr};
 ghost use Rattle.tl_lanes.specs.Lanes.{IsWidth};
 ghost use Rattle.tl_msg.specs.Beats.{IsBeat};
 ghost use Rattle.tl_msg.specs.declared.beat.BeatOf.{BeatOf};
@@ -9,28 +9,15 @@ ghost use Rattle.tl_convert.specs.Converting as converting;
 
 use crate::queue::Queue;
 use tl_convert::Converter;
-use tl_msg::{Beat, BeatFault, Channel};
-
-// The lanes of a beat are as many as its width.
-fn has_lanes<const W: usize>(lanes: &[u8; W])
-    ensures { length lanes.now ≡ W }
-{}
-
-// Each lane has a byte.
-fn has_bytes(lanes: &[u8])
-    ensures { All (λ byte. byte < 256) lanes.now }
-{}
+use tl_msg::{Beat, BeatFault, Channel, ranges_of_beat};
 
 // A beat and its home are such as memory can hold.
 fn is_beat<K: Channel, const W: usize>(beat: &Beat<K, W>, home: u64)
     ensures beat { IsBeat K.rules beat.now }
     ensures home { K.rules.lane_address beat.now.head home < 2 ^ 64 }
 {
-    let _mask = beat.mask;
-    let _address = K::lane_address(&beat.head, 0);
     let _home = K::lane_address(&beat.head, home);
-    has_lanes(&beat.lanes);
-    has_bytes(&beat.lanes);
+    ranges_of_beat::<K, W>(beat);
 }
 
 // Feeds a near beat to the converter, and puts the far beats that it completes into the stage, which is empty.

@@ -1,3 +1,5 @@
+mod Rows
+pub mod Crossing
+pub mod Answering
 pub mod Reading
-pub mod Widths
 pub mod Writing

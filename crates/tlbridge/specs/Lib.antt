@@ -1,3 +1,5 @@
+pub mod Answer
 pub mod Orders
 pub mod Faults
+pub mod Crossing
 pub mod Texts

@@ -1,5 +1,5 @@
 -- What an order may hold (this project's choice).
-use Rattle.std.specs.Prelude.{ℕ, ◌≤◌}
+use Rattle.std.specs.Prelude.{ℕ, ◌≤◌, Bool, true, false}
 use Rattle.tlbridge.specs.declared.order.Order.{Order}
 use Rattle.tlbridge.specs.declared.order.Order.TheVariants.{Run, Check}
 
@@ -16,3 +16,8 @@ HasTurnsUpTo most Check = Unit {0}
 -- a ring of 1 to 4096 beats, and 1 to 1000 turns
 abbrev pub IsInRange : Order → Type 0
 IsInRange order = IsRunnable order × HasTurnsUpTo 1000 order
+
+-- the order is a check, which prints no far beats
+abbrev pub is_check : Order → Bool
+is_check (Run ring turns sync) = false
+is_check Check = true

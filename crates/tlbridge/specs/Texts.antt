@@ -1,7 +1,14 @@
 -- What a run over a text does to its reader and its writer (this project's choice).
-use Rattle.std.specs.Prelude.{◌≢◌, ◌≤◌, ◌<◌, ℕ, List, length, Option, Result, Ok, Err, IfSome, Bool}
-use Rattle.std.specs.Io.KnownBytes.{Keeps, IsAtEnd}
-use Rattle.tlbridge.specs.declared.fault.TraceKind.TheVariants as kinds
+use Rattle.std.specs.Prelude.{◌≡◌, ◌≢◌, ◌+◌, ◌≤◌, ◌<◌, ◌⊎◌, ℕ, List, length, take, slice_get, Option, Some, Result, Ok, Err, IfSome, Bool, true, false}
+use Rattle.std.specs.List.{list_all}
+use Rattle.std.specs.Io.KnownBytes.{Keeps, Appends, IsAtEnd}
+use Rattle.tl_trace.specs.Texts.{Tells}
+use Rattle.tl_trace.specs.Faults.{IsFirstFault}
+use Rattle.tl_trace.specs.declared.line.Line.{Line}
+use Rattle.tl_trace.specs.declared.line.Line.TheVariants.{A, B, C, D, E}
+use Rattle.tl_trace.specs.declared.fault.TraceFault.{TraceFault}
+use Rattle.tl_trace.specs.declared.fault.TraceKind.TheVariants as kinds
+use Rattle.tlbridge.specs.Answer.{answer_of, are_done}
 use Rattle.tlbridge.specs.declared.fault.TextFault.{TextFault}
 use Rattle.tlbridge.specs.declared.fault.TextFault.TheVariants as faults
 
@@ -9,27 +16,73 @@ use Rattle.tlbridge.specs.declared.fault.TextFault.TheVariants as faults
 abbrev pub most_bytes : ℕ
 most_bytes = 67108864
 
+-- a line of channel A
+abbrev pub is_of_a : Line → Bool
+is_of_a (A beat) = true
+is_of_a (B beat) = false
+is_of_a (C beat) = false
+is_of_a (D beat) = false
+is_of_a (E beat) = false
+
+-- this is the answer to a trace, and `done` says whether all channels are done
+pub record IsAnswerTo (client manager : ℕ) (lines : List Line) (check : Bool) (answer : List ℕ) (done : Bool) : Type 0 where
+  pub answered : answer ≡ answer_of client manager lines check
+  pub all_done : done ≡ are_done client manager lines
+
+-- the text tells a trace whose lines are all of channel A, and this is the answer to it
+pub record IsAnswer (text : List ℕ) (check : Bool) (answer : List ℕ) (done : Bool) : Type 0 where
+  pub client : ℕ
+  pub manager : ℕ
+  pub lines : List Line
+  pub told : Tells text client manager lines
+  pub of_a : list_all is_of_a lines ≡ true
+  pub answers : IsAnswerTo client manager lines check answer done
+
+-- the first of the lines that is of another channel than A is refused. The header is line 1
+pub record IsFirstOther (lines : List Line) (fault : TraceFault) : Type 0 where
+  pub before : ℕ
+  pub line : Line
+  pub here : slice_get lines before ≡ Some line
+  pub other : is_of_a line ≡ false
+  pub none_before : list_all is_of_a (take before lines) ≡ true
+  pub place : fault.line ≡ before + 2
+  pub kind : fault.kind ≡ kinds.Channel
+
+-- the text tells a trace, and this is its first line of another channel than A
+pub record IsOfOtherChannel (text : List ℕ) (fault : TraceFault) : Type 0 where
+  pub client : ℕ
+  pub manager : ℕ
+  pub lines : List Line
+  pub told : Tells text client manager lines
+  pub other : IsFirstOther lines fault
+
+-- why a text has no answer: its first fault, or, where it tells a trace, its first line of another channel than A (until both sides exist)
+abbrev pub HasNoAnswer : (text : List ℕ) → TraceFault → Type 0
+HasNoAnswer text fault = IsFirstFault text fault.line fault.kind ⊎ IsOfOtherChannel text fault
+
 -- the reader gave all that it had, and that was not too long
 abbrev pub WasReadWhole : (unread left : Option (List ℕ)) → Type 0
 WasReadWhole unread left = IsAtEnd left × IfSome unread (λ text. length text ≤ most_bytes)
 
--- what the reader had and has left, what the writer held and holds, and how the run ended: a text
--- is read to its end before anything of its answer is written, and a run that fails before has
--- written nothing. Bytes are spoken of only where the reader or the writer tells them.
-abbrev pub ReadsAllBeforeWriting : (unread left held holds : Option (List ℕ)) → Result Bool TextFault → Type 0
-ReadsAllBeforeWriting unread left held holds (Ok all_done) = WasReadWhole unread left
-ReadsAllBeforeWriting unread left held holds (Err (faults.Trace fault)) = WasReadWhole unread left × Keeps held holds × (fault.kind ≢ kinds.OutOfMemory)
-ReadsAllBeforeWriting unread left held holds (Err faults.Stalled) = ⊥
-ReadsAllBeforeWriting unread left held holds (Err faults.Read) = Keeps held holds
-ReadsAllBeforeWriting unread left held holds (Err faults.Write) = WasReadWhole unread left
-ReadsAllBeforeWriting unread left held holds (Err faults.TooLong) = Keeps held holds × IfSome unread (λ text. most_bytes < length text)
-ReadsAllBeforeWriting unread left held holds (Err faults.OutOfMemory) = Keeps held holds
+-- What the reader had and has left, what the writer held and holds, whether the order is a check, and how the run ended. A text is read to its end
+-- before anything of its answer is written, what is written is its answer, and a run that fails before has written nothing. Bytes are spoken of
+-- only where the reader or the writer tells them
+abbrev pub AnswersText : (unread left held holds : Option (List ℕ)) → (check : Bool) → Result Bool TextFault → Type 0
+AnswersText unread left held holds check (Ok done) =
+    WasReadWhole unread left × IfSome unread (λ text. (answer : List ℕ) × IsAnswer text check answer done × Appends held holds answer)
+AnswersText unread left held holds check (Err (faults.Trace fault)) =
+    WasReadWhole unread left × Keeps held holds × (fault.kind ≢ kinds.OutOfMemory) × IfSome unread (λ text. HasNoAnswer text fault)
+AnswersText unread left held holds check (Err faults.Stalled) = ⊥
+AnswersText unread left held holds check (Err faults.Read) = Keeps held holds
+AnswersText unread left held holds check (Err faults.Write) = WasReadWhole unread left
+AnswersText unread left held holds check (Err faults.TooLong) = Keeps held holds × IfSome unread (λ text. most_bytes < length text)
+AnswersText unread left held holds check (Err faults.OutOfMemory) = Keeps held holds
 
--- what a text by itself can be refused for: a fault of a line, or want of memory, which has no line
-abbrev pub IsOfText : TextFault → Type 0
-IsOfText (faults.Trace fault) = fault.kind ≢ kinds.OutOfMemory
-IsOfText faults.Stalled = ⊥
-IsOfText faults.Read = ⊥
-IsOfText faults.Write = ⊥
-IsOfText faults.TooLong = ⊥
-IsOfText faults.OutOfMemory = Unit {0}
+-- what a text by itself can be refused for: its own fault, or want of memory
+abbrev pub IsOfText : (text : List ℕ) → TextFault → Type 0
+IsOfText text (faults.Trace fault) = (fault.kind ≢ kinds.OutOfMemory) × HasNoAnswer text fault
+IsOfText text faults.Stalled = ⊥
+IsOfText text faults.Read = ⊥
+IsOfText text faults.Write = ⊥
+IsOfText text faults.TooLong = ⊥
+IsOfText text faults.OutOfMemory = Unit {0}

@@ -4,8 +4,9 @@
 ghost use Rattle.std.specs.Prelude.{IfOk};
 ghost use Rattle.tlbridge.specs.Orders.{IsInRange};
 
+mod answer;
+mod channel_a;
 mod fault;
-mod first_path;
 mod order;
 #[cfg(test)]
 mod tests;

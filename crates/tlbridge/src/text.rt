@@ -1,12 +1,12 @@
 //! From the bytes that come in to the bytes that go out.
 ghost use Rattle.std.specs.Prelude.{◌≡◌, ◌≢◌, ◌≤◌, ◌<◌, length, IfSome, IfOk, OnOk, IfErr, IsErrOf};
 ghost use Rattle.std.specs.Io.KnownBytes.{Appends, IsAtEnd};
-ghost use Rattle.tlbridge.specs.Orders.{IsRunnable};
-ghost use Rattle.tlbridge.specs.Texts.{ReadsAllBeforeWriting, most_bytes};
+ghost use Rattle.tlbridge.specs.Orders.{IsRunnable, is_check};
+ghost use Rattle.tlbridge.specs.Texts.{AnswersText, most_bytes};
 ghost use Rattle.tlbridge.specs.declared.fault.TextFault.TheVariants.{Read as ReadFault, Write as WriteFault, TooLong, OutOfMemory};
 
+use crate::answer::answer_to;
 use crate::fault::TextFault;
-use crate::first_path::answer_of;
 use crate::order::Order;
 use std::alloc::{AllocError, Global};
 use std::io::{Read, Write};
@@ -69,9 +69,15 @@ fn write_whole<W: Write>(writer: &mut W, bytes: &[u8]) -> Result<(), TextFault>
 /// Reads a trace to the end of the input, and writes the answer to it: true where all five
 /// channels are done.
 ///
-/// Nothing is written before the whole answer is made. After a Write fault it isn't said how much
-/// went out. Until the crates of the bridge stand, a trace may hold lines of channel A alone, with
-/// Get and PutFullData, to a manager that is no wider than the client.
+/// The answer is that of the definitions: the widths, the beats that arrive (a check leaves them
+/// out), and how far each channel comes. The order is one that `order_of` gives.
+///
+/// All of the input is read first: `Read` where a read fails or is interrupted, `TooLong` above
+/// 67,108,864 bytes. Then the text is judged: `Trace` with its first fault and that one's line. Until
+/// both sides of the bridge exist, a trace may hold lines of channel A alone: where the text has no
+/// fault of its own, its first line of another channel is refused as `Channel`. Nothing is written
+/// before the whole answer is made. `Write` where a write fails, is interrupted or takes no byte;
+/// after it, it isn't said how much went out. `OutOfMemory` comes before anything is written.
 pub fn run_text<T: Threads, R: Read, W: Write>(
     _rt: &T,
     alloc: Global,
@@ -80,11 +86,11 @@ pub fn run_text<T: Threads, R: Read, W: Write>(
     order: &Order,
 ) -> Result<bool, TextFault>
     requires { IsRunnable order.now }
-    ensures { ReadsAllBeforeWriting (R.remaining reader.old) (R.remaining reader.new)
-        (W.contents writer.old) (W.contents writer.new) result }
+    ensures { AnswersText (R.remaining reader.old) (R.remaining reader.new)
+        (W.contents writer.old) (W.contents writer.new) (is_check order.now) result }
 {
     let text = read_all(alloc, reader)?;
-    let answer = answer_of(alloc, &text, order)?;
+    let answer = answer_to(alloc, &text, matches!(order, Order::Check))?;
     write_whole(writer, &answer.text)?;
     Ok(answer.all_done)
 }

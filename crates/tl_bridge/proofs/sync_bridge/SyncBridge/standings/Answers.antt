@@ -1,0 +1,19 @@
+use denote.Param.{layout, param, number}
+use Rattle.tl_bridge.specs.contracts.sync_bridge.SyncBridge.{the_row}
+use Rattle.tl_bridge.proofs.FieldSizes.{part_small}
+use Rattle.tl_bridge.proofs.sync_bridge.SyncBridge.standings.Goals as goal
+
+pub standing-requires : goal.standing-requires
+standing-requires g c = search (part_small (layout (the_row (param 0 (number g.row.C)) (param 1 (number g.row.M)) (param 2 g.row.A) g.A.Allocator)) 0 9223372036854775808)
+
+pub standing-requires-2 : goal.standing-requires-2
+standing-requires-2 g c = search (part_small (layout (the_row (param 0 (number g.row.C)) (param 1 (number g.row.M)) (param 2 g.row.A) g.A.Allocator)) 1 9223372036854775808)
+
+pub standing-requires-3 : goal.standing-requires-3
+standing-requires-3 g c = search (part_small (layout (the_row (param 0 (number g.row.C)) (param 1 (number g.row.M)) (param 2 g.row.A) g.A.Allocator)) 2 9223372036854775808)
+
+pub standing-requires-4 : goal.standing-requires-4
+standing-requires-4 g c = search (part_small (layout (the_row (param 0 (number g.row.C)) (param 1 (number g.row.M)) (param 2 g.row.A) g.A.Allocator)) 3 9223372036854775808)
+
+pub standing-requires-5 : goal.standing-requires-5
+standing-requires-5 g c = search (part_small (layout (the_row (param 0 (number g.row.C)) (param 1 (number g.row.M)) (param 2 g.row.A) g.A.Allocator)) 4 9223372036854775808)

@@ -1,0 +1,51 @@
+-- The answer to a text (this project's choice). It has the widths of the trace that the text tells, then the beats that arrive on the other side,
+-- and then one line for each channel that reports how far it came.
+use Rattle.std.specs.Prelude.{◌++◌, ℕ, Bool, true, false, cond, List, [], ◌∷◌, codes, decimal}
+use Rattle.std.specs.List.{list_all}
+use Rattle.tl_msg.specs.declared.verdict.Verdict.{Verdict}
+use Rattle.tl_msg.specs.declared.verdict.Verdict.TheVariants.{Done, Cut, Refused, Waiting}
+use Rattle.tl_bridge.specs.Outcomes.{FarBeats, Verdicts, far_beats, verdicts}
+use Rattle.tl_trace.specs.Fields.{form_a, form_b, form_c, form_d, form_e}
+use Rattle.tl_trace.specs.Lines.{beats_text}
+use Rattle.tl_trace.specs.Texts.{newline}
+use Rattle.tl_trace.specs.Scripts.{beats_a, beats_b, beats_c, beats_d, beats_e}
+use Rattle.tl_trace.specs.Reports.{report_line}
+use Rattle.tl_trace.specs.declared.line.Line.{Line}
+
+-- the first line, with its end
+abbrev pub far_header : (client manager : ℕ) → List ℕ
+far_header client manager = codes "tilelink-far 1 client " ++ decimal client ++ codes " manager " ++ decimal manager ++ newline
+
+-- the far beats of A, then those of B, C, D and E, each channel in the order in which they are taken: the manager side takes A, C and E, on its own
+-- lanes, and the client side takes B and D
+abbrev pub far_lines : {C M : ℕ} → FarBeats C M → List ℕ
+far_lines {C = C} {M = M} far =
+    beats_text form_a M far.a ++ beats_text form_b C far.b ++ beats_text form_c M far.c ++ beats_text form_d C far.d ++ beats_text form_e M far.e
+
+-- one line for each channel, A to E
+abbrev pub report : Verdicts → List ℕ
+report v = report_line 65 v.a ++ report_line 66 v.b ++ report_line 67 v.c ++ report_line 68 v.d ++ report_line 69 v.e
+
+-- all beats of a channel were accepted, and no burst is unfinished
+abbrev pub is_done : Verdict → Bool
+is_done (Done near far) = true
+is_done (Cut near far) = false
+is_done (Refused at fault) = false
+is_done (Waiting at fault) = false
+
+-- the two sides' widths and the beats of a trace
+module _ (client manager : ℕ) (lines : List Line) where
+  -- what arrives of its five lists, by the definitions of the link
+  abbrev pub arrives : FarBeats client manager
+  arrives = far_beats (beats_a client lines) (beats_b manager lines) (beats_c client lines) (beats_d manager lines) (beats_e client lines)
+
+  abbrev pub ends : Verdicts
+  ends = verdicts (beats_a client lines) (beats_b manager lines) (beats_c client lines) (beats_d manager lines) (beats_e client lines)
+
+  -- the whole answer; a check leaves out the far beats
+  abbrev pub answer_of : (check : Bool) → List ℕ
+  answer_of check = far_header client manager ++ cond check [] (far_lines arrives) ++ report ends
+
+  -- all five channels are done
+  abbrev pub are_done : Bool
+  are_done = list_all is_done (ends.a ∷ ends.b ∷ ends.c ∷ ends.d ∷ ends.e ∷ [])
