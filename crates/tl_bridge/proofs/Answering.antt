@@ -1,5 +1,5 @@
 -- What a side answers to a beat, by the beat's fault, by whether it opens a message, and by what the side's history says of its source.
-use Rattle.std.proofs.Common.{◌≡◌, ℕ, Bool, true, false, cond, Option, None, Some, List, [], ◌∷◌, ◌++◌, refl, sym, ap, ◌∙◌}
+use Rattle.std.proofs.Common.{◌≡◌, ℕ, Bool, true, false, cond, Option, None, Some, List, refl, sym, ap, ◌∙◌}
 use Rattle.std.specs.Prelude.{◌==◌}
 use Rattle.std.specs.Option.{option_map_or, is_some}
 use Rattle.tl_msg.specs.Tables.{rules_a, rules_d}

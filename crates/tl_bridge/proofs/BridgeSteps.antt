@@ -1,5 +1,5 @@
 -- Each call of a bridge takes it to what it stands for after the same events.
-use Rattle.std.proofs.Common.{◌≡◌, ◌≢◌, ◌↔◌, ℕ, zero, suc, Bool, true, false, cond, Option, None, Some, List, [], ◌∷◌, ◌++◌, map, length, take, drop, refl, sym, ap, subst, ◌∙◌, append-nil}
+use Rattle.std.proofs.Common.{◌≡◌, ◌↔◌, ℕ, zero, suc, Bool, true, false, cond, Option, None, Some, List, [], ◌∷◌, ◌++◌, map, length, take, drop, refl, sym, ap, subst, ◌∙◌, append-nil}
 use Rattle.std.specs.Prelude.{◌==◌, Result, Ok, Err, OnOk, OnErr, IsOk, IsErr, slice_get}
 use Rattle.tl_msg.specs.Tables.{rules_a, rules_b, rules_c, rules_d, rules_e}
 use Rattle.tl_msg.specs.declared.head.HeadA.{HeadA}
@@ -9,7 +9,7 @@ use Rattle.tl_msg.specs.declared.head.HeadD.{HeadD}
 use Rattle.tl_msg.specs.declared.head.HeadE.{HeadE}
 use Rattle.tl_msg.specs.declared.beat.BeatOf.{BeatOf}
 use Rattle.tl_burst.specs.Begun.{left}
-use Rattle.tl_burst.specs.Handing.{rest_of, with_home, homes_with}
+use Rattle.tl_burst.specs.Handing.{rest_of, with_home}
 use Rattle.tl_convert.specs.Due.{due}
 use Rattle.tl_ring.specs.Crossing.{World, offered, took}
 use Rattle.tl_ring.specs.Pipe.{Pipe}
@@ -20,7 +20,7 @@ use Rattle.tl_bridge.specs.Tables.{AreBusy, AreOpen}
 use Rattle.tl_bridge.specs.Tracked.{Tracked}
 use Rattle.tl_bridge.specs.Tracked as tracking
 use Rattle.tl_bridge.specs.Bridges.{Bridge, Past, StandsFor, begun_with, after_offer_a, after_offer_d, after_take_a, after_take_d}
-use Rattle.tl_bridge.proofs.Comparisons.{equal_true, not_equal, true_equal}
+use Rattle.tl_bridge.proofs.Comparisons.{equal_true, not_equal}
 use Rattle.tl_bridge.proofs.Homes.{from_ask, from_answer}
 use Rattle.tl_bridge.proofs.Marks.{asked_ask, asked_answer, answered_ask, answered_answer, marks_ask_first, marks_ask_inside, marks_answer_first, marks_answer_inside}
 
@@ -112,44 +112,83 @@ module _ {C M : ℕ} (s : Bridge C M) (x : Past C M) (h : StandsFor s x) where
   pub with_a : (p : Tracked HeadA M) (y : World HeadA C M) → tracking.StandsFor rules_a p y → y.accepted ≡ x.a.accepted → y.taken ≡ x.a.taken →
       StandsFor (record s { a = p }) (record x { a = y })
   with_a p y k accepted taken = record {
-    a = k; b = h.b; c = h.c; d = h.d; e = h.e;
+    a = k;
+    b = h.b;
+    c = h.c;
+    d = h.d;
+    e = h.e;
     client_asked = h.client_asked ∙ sym accepted;
     client_answered = h.client_answered;
     manager_asked = h.manager_asked ∙ sym taken;
     manager_answered = h.manager_answered;
-    homes = h.homes; sources = h.sources; requests = h.requests;
+    homes = h.homes;
+    sources = h.sources;
+    requests = h.requests;
   }
 
   pub with_b : (p : Pipe HeadB C) (y : World HeadB M C) → piping.StandsFor rules_b p y → StandsFor (record s { b = p }) (record x { b = y })
   with_b p y k = record {
-    a = h.a; b = k; c = h.c; d = h.d; e = h.e;
-    client_asked = h.client_asked; client_answered = h.client_answered; manager_asked = h.manager_asked; manager_answered = h.manager_answered;
-    homes = h.homes; sources = h.sources; requests = h.requests;
+    a = h.a;
+    b = k;
+    c = h.c;
+    d = h.d;
+    e = h.e;
+    client_asked = h.client_asked;
+    client_answered = h.client_answered;
+    manager_asked = h.manager_asked;
+    manager_answered = h.manager_answered;
+    homes = h.homes;
+    sources = h.sources;
+    requests = h.requests;
   }
 
   pub with_c : (p : Pipe HeadC M) (y : World HeadC C M) → piping.StandsFor rules_c p y → StandsFor (record s { c = p }) (record x { c = y })
   with_c p y k = record {
-    a = h.a; b = h.b; c = k; d = h.d; e = h.e;
-    client_asked = h.client_asked; client_answered = h.client_answered; manager_asked = h.manager_asked; manager_answered = h.manager_answered;
-    homes = h.homes; sources = h.sources; requests = h.requests;
+    a = h.a;
+    b = h.b;
+    c = k;
+    d = h.d;
+    e = h.e;
+    client_asked = h.client_asked;
+    client_answered = h.client_answered;
+    manager_asked = h.manager_asked;
+    manager_answered = h.manager_answered;
+    homes = h.homes;
+    sources = h.sources;
+    requests = h.requests;
   }
 
   pub with_d : (p : Tracked HeadD C) (y : World HeadD M C) → tracking.StandsFor rules_d p y → y.accepted ≡ x.d.accepted → y.taken ≡ x.d.taken →
       y.homes ≡ x.d.homes → StandsFor (record s { d = p }) (record x { d = y })
   with_d p y k accepted taken homes = record {
-    a = h.a; b = h.b; c = h.c; d = k; e = h.e;
+    a = h.a;
+    b = h.b;
+    c = h.c;
+    d = k;
+    e = h.e;
     client_asked = h.client_asked;
     client_answered = h.client_answered ∙ sym taken;
     manager_asked = h.manager_asked;
     manager_answered = h.manager_answered ∙ sym accepted;
-    homes = h.homes ∙ sym homes; sources = h.sources; requests = h.requests;
+    homes = h.homes ∙ sym homes;
+    sources = h.sources;
+    requests = h.requests;
   }
 
   pub with_e : (p : Pipe HeadE M) (y : World HeadE C M) → piping.StandsFor rules_e p y → StandsFor (record s { e = p }) (record x { e = y })
   with_e p y k = record {
-    a = h.a; b = h.b; c = h.c; d = h.d; e = k;
-    client_asked = h.client_asked; client_answered = h.client_answered; manager_asked = h.manager_asked; manager_answered = h.manager_answered;
-    homes = h.homes; sources = h.sources; requests = h.requests;
+    a = h.a;
+    b = h.b;
+    c = h.c;
+    d = h.d;
+    e = k;
+    client_asked = h.client_asked;
+    client_answered = h.client_answered;
+    manager_asked = h.manager_asked;
+    manager_answered = h.manager_answered;
+    homes = h.homes;
+    sources = h.sources;
+    requests = h.requests;
   }
 
   -- a beat of A is accepted
@@ -157,7 +196,11 @@ module _ {C M : ℕ} (s : Bridge C M) (x : Past C M) (h : StandsFor s x) where
       first ≡ (left rules_a C x.a.accepted == 0) → AreBusy t (begun_with first (Asks b.head) (marks x.client)) →
       StandsFor (record s { a = p; sources = t }) (after_offer_a b x)
   offered_a p b t first k opens busy = record {
-    a = k; b = h.b; c = h.c; d = h.d; e = h.e;
+    a = k;
+    b = h.b;
+    c = h.c;
+    d = h.d;
+    e = h.e;
     client_asked = asked_ask x.client b ∙ ap (λ q. q ++ b ∷ []) h.client_asked;
     client_answered = answered_ask x.client b ∙ h.client_answered;
     manager_asked = h.manager_asked;
@@ -188,7 +231,11 @@ module _ {C M : ℕ} (s : Bridge C M) (x : Past C M) (h : StandsFor s x) where
         stage = drop (length (due rules_d M C x.d.accepted x.d.homes)) (due rules_d M C (x.d.accepted ++ b ∷ []) hs);
       }) homes_same in
       record {
-        a = h.a; b = h.b; c = h.c; d = subst (λ (y : World HeadD M C). tracking.StandsFor rules_d p y) crossed k; e = h.e;
+        a = h.a;
+        b = h.b;
+        c = h.c;
+        d = subst (λ (y : World HeadD M C). tracking.StandsFor rules_d p y) crossed k;
+        e = h.e;
         client_asked = h.client_asked;
         client_answered = h.client_answered;
         manager_asked = asked_answer x.manager b ∙ h.manager_asked;
@@ -202,7 +249,11 @@ module _ {C M : ℕ} (s : Bridge C M) (x : Past C M) (h : StandsFor s x) where
   pub taken_a : (p : Tracked HeadA M) (t : List (Option Request)) → tracking.StandsFor rules_a p (took x.a) →
       AreOpen t (marks (x.manager ++ map Ask (take 1 x.a.inbox))) → StandsFor (record s { a = p; requests = t }) (after_take_a x)
   taken_a p t k noted = record {
-    a = k; b = h.b; c = h.c; d = h.d; e = h.e;
+    a = k;
+    b = h.b;
+    c = h.c;
+    d = h.d;
+    e = h.e;
     client_asked = h.client_asked;
     client_answered = h.client_answered;
     manager_asked = asked_taken_a x.manager x.a.inbox ∙ ap (λ q. q ++ take 1 x.a.inbox) h.manager_asked;
@@ -216,7 +267,11 @@ module _ {C M : ℕ} (s : Bridge C M) (x : Past C M) (h : StandsFor s x) where
   pub taken_d : (p : Tracked HeadD C) (t : List Bool) → tracking.StandsFor rules_d p (took x.d) →
       AreBusy t (marks (x.client ++ map Answer (take 1 x.d.inbox))) → StandsFor (record s { d = p; sources = t }) (after_take_d x)
   taken_d p t k noted = record {
-    a = h.a; b = h.b; c = h.c; d = k; e = h.e;
+    a = h.a;
+    b = h.b;
+    c = h.c;
+    d = k;
+    e = h.e;
     client_asked = asked_taken_d x.client x.d.inbox ∙ h.client_asked;
     client_answered = answered_taken_d x.client x.d.inbox ∙ ap (λ q. q ++ take 1 x.d.inbox) h.client_answered;
     manager_asked = h.manager_asked;

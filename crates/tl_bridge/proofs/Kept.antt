@@ -1,6 +1,5 @@
 -- A beat that begins no response other than ReleaseAck changes no table.
 use Rattle.std.proofs.Common.{◌≡◌, Bool, true, false, Option, List, refl}
-use Rattle.tl_msg.specs.declared.head.HeadA.{HeadA}
 use Rattle.tl_msg.specs.declared.head.HeadD.{HeadD}
 use Rattle.tl_bridge.specs.declared.tables.Request.{Request}
 use Rattle.tl_bridge.specs.Requests.{is_release_ack}

@@ -1,6 +1,6 @@
 -- What a contract sees of the bridge of both sides in one thread: five crossings, and what each side has seen of A and D. A, C and E cross
 -- from the client's side, at width C, to the manager's, at width M; B and D cross back (this project's choice).
-use Rattle.std.specs.Prelude.{◌≡◌, ◌-◌, ◌+◌, ◌==◌, ◌++◌, ℕ, Bool, Option, None, Some, List, [], ◌∷◌, length, map, take, min, cond, if◌then◌else◌}
+use Rattle.std.specs.Prelude.{◌≡◌, ◌-◌, ◌+◌, ◌++◌, ℕ, Bool, Option, None, Some, List, [], ◌∷◌, length, map, take, min, if◌then◌else◌}
 use Rattle.std.specs.Option.{option_map_or}
 use Rattle.tl_msg.specs.Rules.{Rules}
 use Rattle.tl_msg.specs.Tables.{rules_a, rules_b, rules_c, rules_d, rules_e}

@@ -1,5 +1,5 @@
 -- What a contract sees of a crossing that knows of both its ends whether they are inside a burst.
-use Rattle.std.specs.Prelude.{◌≡◌, ℕ, Option, List}
+use Rattle.std.specs.Prelude.{◌≡◌, ℕ, Option}
 use Rattle.tl_msg.specs.Rules.{Rules}
 use Rattle.tl_burst.specs.Handing.{burst_after}
 use Rattle.tl_ring.specs.Crossing.{World}

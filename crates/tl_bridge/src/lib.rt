@@ -4,6 +4,8 @@
 pub mod laws;
 mod noting;
 mod sync_bridge;
+#[cfg(test)]
+mod sync_tests;
 mod tables;
 #[cfg(test)]
 mod tests;

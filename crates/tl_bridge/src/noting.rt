@@ -21,7 +21,11 @@ fn is_release_ack(head: &HeadD) -> bool
 }
 
 // Asks whether the source of a request is free, where it opens a message.
-pub(crate) fn ask_for_source(sources: &SourceTable, head: &HeadA, first: bool) -> Result<(), SideFault>
+pub(crate) fn ask_for_source(
+    sources: &SourceTable,
+    head: &HeadA,
+    first: bool,
+) -> Result<(), SideFault>
     ensures refused { (ms : List Mark) → AreBusy sources.now ms → IfErr result (λ fault. (fault ≡ SourceBusy) × (first ≡ true) × (is_some (open_request head.now.source ms) ≡ true)) }
     ensures free { (ms : List Mark) → AreBusy sources.now ms → OnOk result (first ≡ true → is_some (open_request head.now.source ms) ≡ false) }
 {
@@ -32,7 +36,11 @@ pub(crate) fn ask_for_source(sources: &SourceTable, head: &HeadA, first: bool) -
 }
 
 // Asks for the home of a response, where it opens a message: the address of the request that it answers, and 0 for ReleaseAck.
-pub(crate) fn ask_for_home(requests: &RequestTable, head: &HeadD, first: bool) -> Result<u64, SideFault>
+pub(crate) fn ask_for_home(
+    requests: &RequestTable,
+    head: &HeadD,
+    first: bool,
+) -> Result<u64, SideFault>
     ensures refused { (ms : List Mark) → AreOpen requests.now ms → IfErr result (λ fault. (first ≡ true) × (stops_response ms head.now ≡ Some fault)) }
     ensures home { (ms : List Mark) → AreOpen requests.now ms → IfOk result (λ home. first ≡ true → (stops_response ms head.now ≡ None) × (home ≡ home_after ms head.now)) }
 {

@@ -12,12 +12,16 @@ ghost use Rattle.tl_bridge.specs.Bridges.{after_offer_a, after_offer_b, after_of
 ghost use Rattle.tl_bridge.specs.Bridges.{after_take_a, after_take_b, after_take_c, after_take_d, after_take_e};
 ghost use Rattle.tl_bridge.specs.Bridges.{after_close_a, after_close_b, after_close_c, after_close_d, after_close_e};
 
-use crate::noting::{ask_for_home, ask_for_source, note_answered, note_asked, note_request, note_response};
+use crate::noting::{
+    ask_for_home, ask_for_source, note_answered, note_asked, note_request, note_response,
+};
 use crate::tables::{RequestTable, SourceTable};
 use crate::tracked_pipe::TrackedPipe;
 use std::alloc::{Allocator, Global};
 use std::marker::Model;
-use tl_msg::{Beat, BeatOf, ChA, ChB, ChC, ChD, ChE, Channel, HeadA, HeadB, HeadC, HeadD, HeadE, SideFault};
+use tl_msg::{
+    Beat, BeatOf, ChA, ChB, ChC, ChD, ChE, Channel, HeadA, HeadB, HeadC, HeadD, HeadE, SideFault,
+};
 use tl_ring::{BuildFault, EndFault, Standing, SyncPipe};
 
 /// How many far beats stand at each place of each channel.

@@ -84,7 +84,12 @@ impl<K: Channel, const W: usize, const V: usize, A: Allocator> TrackedPipe<K, W,
     }
 
     // Offers a near beat, of which `check` told the place.
-    pub(crate) fn offer(&mut self, beat: Beat<K, W>, place: Place<K>, home: u64) -> Result<(), BeatFault>
+    pub(crate) fn offer(
+        &mut self,
+        beat: Beat<K, W>,
+        place: Place<K>,
+        home: u64,
+    ) -> Result<(), BeatFault>
         requires near { IsWidth W }
         requires far { IsWidth V }
         requires ready { IsReady self.old.pipe }

@@ -1,4 +1,4 @@
-use Rattle.std.proofs.Common.{◌≡◌, None, Some, refl, ap}
+use Rattle.std.proofs.Common.{None, Some, refl, ap}
 use Rattle.std.specs.Option.{option_map_or}
 use Rattle.std.proofs.lemmas.Result.{err_from_is_err_and}
 use Rattle.tl_msg.specs.declared.fault.SideFault.TheVariants.{Beat}
@@ -20,7 +20,7 @@ returns-in_err-offer-clause-admitted g c = λ x h.
 pub returns-clause-admitted : goal.returns-clause-admitted
 returns-clause-admitted g c = λ x h.
     let laws : ChannelLaws g.K.Channel.rules = laws-of g.met.K.Channel.same_heads g.met.K.Channel.same_is
-      g.met.K.Channel.small g.met.K.Channel.partial_carries g.met.K.Channel.masked_address g.met.K.Channel.home_kept in
+    g.met.K.Channel.small g.met.K.Channel.partial_carries g.met.K.Channel.masked_address g.met.K.Channel.home_kept in
     let handed : IsHanded g.K.Channel.rules x.accepted = record { homes = x.homes; messages = h.crosses.messages; rest = h.crosses.rest; handed = h.crosses.handed } in
     let admitted = (c.in_ok-offer.ensures.admitted x h).0 refl in
     let none = admitted-none g.K.Channel.rules g.row.W c.requires.near laws x.accepted c.args.beat handed admitted in

@@ -22,16 +22,16 @@ new-requires-5 g c = (search (part_small (layout (the_row (param 0 (number g.row
 
 pub returns-clause-new : goal.returns-clause-new
 returns-clause-new g c = record {
-      a = c.in_ok-a.ensures.new;
-      b = c.in_ok-b.ensures.new;
-      c = c.in_ok-c.ensures.new;
-      d = c.in_ok-d.ensures.new;
-      e = c.in_ok-e.ensures.new;
-      client_asked = refl;
-      client_answered = refl;
-      manager_asked = refl;
-      manager_answered = refl;
-      homes = refl;
-      sources = new_busy _ c.new-6.ensures;
-      requests = new_open _ c.new-7.ensures;
-    }
+  a = c.in_ok-a.ensures.new;
+  b = c.in_ok-b.ensures.new;
+  c = c.in_ok-c.ensures.new;
+  d = c.in_ok-d.ensures.new;
+  e = c.in_ok-e.ensures.new;
+  client_asked = refl;
+  client_answered = refl;
+  manager_asked = refl;
+  manager_answered = refl;
+  homes = refl;
+  sources = new_busy _ c.new-6.ensures;
+  requests = new_open _ c.new-7.ensures;
+}

@@ -58,9 +58,9 @@ returns-in_err-offer-clause-fault g c = λ x k.
     rw (p.1, p.2) (client_fault x.client c.args.beat x.a.accepted h.client_asked _ (c.in_err-offer.ensures.first_fault x.a h.a))
 
 pub returns-in_err-offer-clause-refused : goal.returns-in_err-offer-clause-refused
-returns-in_err-offer-clause-refused g c = 
+returns-in_err-offer-clause-refused g c =
     let p = err_from_is_err_and c.from_residual-in_err-offer.result c.from_residual-in_err-offer.ensures.1 in
-    rw p.1 (ap (λ q. record { a = q; b = c.self.inside.b; c = c.self.inside.c; d = c.self.inside.d; e = c.self.inside.e; sources = c.self.inside.sources; requests = c.self.inside.requests; }) c.in_err-offer.ensures.refused ∙ c.self.view_is)
+    rw p.1 (ap (λ q. record { a = q; b = c.self.inside.b; c = c.self.inside.c; d = c.self.inside.d; e = c.self.inside.e; sources = c.self.inside.sources; requests = c.self.inside.requests }) c.in_err-offer.ensures.refused ∙ c.self.view_is)
 
 pub returns-clause-admitted : goal.returns-clause-admitted
 returns-clause-admitted g c = λ x k.

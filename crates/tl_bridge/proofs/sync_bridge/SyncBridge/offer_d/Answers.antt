@@ -60,9 +60,9 @@ returns-in_err-offer-clause-fault g c = λ x k.
     rw (p.1, p.2) (manager_fault x.manager c.args.beat x.d.accepted h.manager_answered _ (c.in_err-offer.ensures.first_fault x.d h.d))
 
 pub returns-in_err-offer-clause-refused : goal.returns-in_err-offer-clause-refused
-returns-in_err-offer-clause-refused g c = 
+returns-in_err-offer-clause-refused g c =
     let p = err_from_is_err_and c.from_residual-in_err-offer.result c.from_residual-in_err-offer.ensures.1 in
-    rw p.1 (ap (λ q. record { a = c.self.inside.a; b = c.self.inside.b; c = c.self.inside.c; d = q; e = c.self.inside.e; sources = c.self.inside.sources; requests = c.self.inside.requests; }) c.in_err-offer.ensures.refused ∙ c.self.view_is)
+    rw p.1 (ap (λ q. record { a = c.self.inside.a; b = c.self.inside.b; c = c.self.inside.c; d = q; e = c.self.inside.e; sources = c.self.inside.sources; requests = c.self.inside.requests }) c.in_err-offer.ensures.refused ∙ c.self.view_is)
 
 pub returns-clause-admitted : goal.returns-clause-admitted
 returns-clause-admitted g c = λ x k.

@@ -28,5 +28,5 @@ returns-clause-taken g c = λ x k.
     let noted = c.note_request.ensures (marks x.manager) h.requests in
     let first = c.opens_there-first.ensures x.a h.a in
     let more = noted_ask x.manager c.in_ok-beat.beat x.a.taken c.opens_there-first.result h.manager_asked first ∙
-        ap (λ q. marks (x.manager ++ map Ask q)) (sym some) in
+    ap (λ q. marks (x.manager ++ map Ask q)) (sym some) in
     taken_a _ x h _ _ (c.take.ensures.taken x.a h.a) (subst (λ ms. AreOpen c.note_request.new.requests ms) more noted)

@@ -28,5 +28,5 @@ returns-clause-taken g c = λ x k.
     let noted = c.note_answered.ensures (marks x.client) h.sources in
     let first = c.opens_there-first.ensures x.d h.d in
     let more = noted_answer x.client c.in_ok-beat.beat x.d.taken c.opens_there-first.result h.client_answered first ∙
-        ap (λ q. marks (x.client ++ map Answer q)) (sym some) in
+    ap (λ q. marks (x.client ++ map Answer q)) (sym some) in
     taken_d _ x h _ _ (c.take.ensures.taken x.d h.d) (subst (λ ms. AreBusy c.note_answered.new.sources ms) more noted)

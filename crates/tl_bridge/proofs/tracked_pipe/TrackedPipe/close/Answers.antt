@@ -16,6 +16,6 @@ returns-clause-again g c = λ closed.
     (again.0, ap (λ p. record { pipe = p; offered = c.self.inside.offered; taken = c.self.inside.taken }) again.1 ∙ c.self.view_is)
 
 pub returns-clause-refused : goal.returns-clause-refused
-returns-clause-refused g c = 
+returns-clause-refused g c =
     on_err_to c.close.result
     (λ same. ap (λ p. record { pipe = p; offered = c.self.inside.offered; taken = c.self.inside.taken }) same ∙ c.self.view_is) c.close.ensures.refused
