@@ -43,6 +43,13 @@ fn no_beats<const M: usize>() -> ArrayVec<Beat<ChA, M>, 64>
     ArrayVec::new()
 }
 
+/// Makes room again.
+fn forget<const M: usize>(given: &mut ArrayVec<Beat<ChA, M>, 64>)
+    ensures { given.new.items ≡ [] }
+{
+    given.clear();
+}
+
 /// Puts the far beats of a near beat behind those before it.
 fn append<const M: usize>(
     far: &mut Vec<Beat<ChA, M>>,
@@ -117,8 +124,9 @@ pub fn cross_a<const C: usize, const M: usize>(
     let mut converter = Converter::<ChA, C, M>::new();
     let mut busy = SourceTable::new();
     let mut far = Vec::new(alloc);
+    let mut given = no_beats();
     for (near, beat) in beats.iter().enumerate() {
-        let mut given = no_beats();
+        forget(&mut given);
         if let Err(fault) = offer(&mut converter, &mut busy, beat, &mut given) {
             let verdict = stopped(near as u64, fault);
             return Ok(Crossed { far, verdict });
