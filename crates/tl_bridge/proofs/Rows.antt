@@ -12,7 +12,7 @@ use Rattle.tl_msg.specs.declared.verdict.Verdict.{Verdict}
 use Rattle.tl_msg.specs.declared.verdict.Verdict.TheVariants.{Done, Cut, Refused, Waiting}
 use Rattle.tl_bridge.specs.Settling.{far_d}
 use Rattle.tl_bridge.specs.Histories.{Ask, Answer, client_answer, manager_answer, manager_home}
-use Rattle.tl_bridge.specs.Outcomes.{alone, verdict_a, verdict_d, verdict_alone, settled_far_a, settled_far_d}
+use Rattle.tl_bridge.specs.Outcomes.{verdict_a, verdict_d, verdict_alone, settled_far_a, settled_far_d}
 
 -- a beat of A on w lanes, all of which hold zero
 abbrev asks : (w opcode size source address mask : ℕ) → BeatOf HeadA w
@@ -102,7 +102,7 @@ broken = refl
 broken_wide : outcome {C = 4} {M = 8} (asks 4 0 3 1 16 15 ∷ asks 4 0 3 2 16 15 ∷ []) [] ≡ (Refused 1 (Beat HeadChanged), Done 0 0)
 broken_wide = refl
 
-broken_alone : alone rules_a {w = 4} (asks 4 0 3 1 16 15 ∷ asks 4 0 3 2 16 15 ∷ []) ≡ 1
+broken_alone : verdict_alone rules_a {w = 4} 4 (asks 4 0 3 1 16 15 ∷ asks 4 0 3 2 16 15 ∷ []) ≡ Refused 1 (Beat HeadChanged)
 broken_alone = refl
 
 -- three of four beats at twice the width

@@ -1,18 +1,11 @@
 -- How far a script comes, in the words of the link: lists in which no burst is interrupted.
-use Rattle.std.specs.Prelude.{◌≡◌, ◌≤◌, ◌↔◌, ℕ, None, Some, List, [], length, take, slice_get}
-use Rattle.tl_msg.specs.Rules.{Rules}
+use Rattle.std.specs.Prelude.{◌≡◌, ◌↔◌, ℕ, None, Some, List, [], take, slice_get}
 use Rattle.tl_msg.specs.Tables.{rules_a, rules_d}
 use Rattle.tl_msg.specs.declared.head.HeadA.{HeadA}
 use Rattle.tl_msg.specs.declared.head.HeadD.{HeadD}
 use Rattle.tl_msg.specs.declared.beat.BeatOf.{BeatOf}
 use Rattle.tl_burst.specs.Handing.{IsHanded, IsAdmitted, rest_of, fault_after}
 use Rattle.tl_burst.specs.Begun.{left}
-
--- n beats are the longest front of a list that is handed
-pub record IsLongestHanded {H : Type 0} (r : Rules H) {w : ℕ} (bs : List (BeatOf H w)) (n : ℕ) : Type 0 where
-  pub within : n ≤ length bs
-  pub handed : IsHanded r (take n bs)
-  pub longest : (k : ℕ) → k ≤ length bs → IsHanded r (take k bs) → k ≤ n
 
 -- Where i beats of A and j of D were accepted, they are handed; the next beat of a list has no fault exactly where it is admitted, and it opens a
 -- message exactly where nothing is left of the last one: so a step accepts only beats that are admitted, and a verdict names a beat's fault exactly

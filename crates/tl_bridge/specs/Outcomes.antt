@@ -1,6 +1,6 @@
 -- What a script ends in: the far beats and the verdict of each channel (this project's choice).
-use Rattle.std.specs.Prelude.{suc, ◌==◌, ◌++◌, ℕ, Option, None, Some, List, [], ◌∷◌, length, map, take, slice_get, cond, if◌then◌else◌}
-use Rattle.std.specs.Option.{option_map_or, is_none}
+use Rattle.std.specs.Prelude.{◌==◌, ℕ, Option, None, Some, List, length, map, take, slice_get, if◌then◌else◌}
+use Rattle.std.specs.Option.{option_map_or}
 use Rattle.tl_msg.specs.Rules.{Rules}
 use Rattle.tl_msg.specs.Tables.{rules_a, rules_b, rules_c, rules_d, rules_e}
 use Rattle.tl_msg.specs.declared.head.HeadA.{HeadA}
@@ -16,6 +16,7 @@ use Rattle.tl_msg.specs.declared.verdict.Verdict.TheVariants.{Done, Cut, Refused
 use Rattle.tl_burst.specs.Handing.{fault_after}
 use Rattle.tl_burst.specs.Begun.{heads, left}
 use Rattle.tl_convert.specs.Due.{due}
+use Rattle.tl_convert.specs.Accepted.{accepted_of}
 use Rattle.tl_bridge.specs.Settling.{settled_state, far_a, far_d, stops_a, stops_d}
 
 -- a verdict: n near beats were accepted and make so many far beats due, the last message lacks so many beats, and the next beat, if there
@@ -28,23 +29,16 @@ verdict_of n far lacks (Some (Some SourceBusy)) = Waiting n SourceBusy
 verdict_of n far lacks (Some (Some NoRequest)) = Waiting n NoRequest
 verdict_of n far lacks (Some (Some SizeMismatch)) = Refused n SizeMismatch
 
--- a channel that nothing couples to another one: B, C and E
+-- a channel that nothing couples to another one, B, C or E: of its list the longest first part that is handed is accepted, which is the beats
+-- before the first one that has a fault where it stands
 module _ {H : Type 0} (r : Rules H) {w : ℕ} where
-  -- how many beats of a list are accepted, after those before it
-  abbrev pub alone_after : (before bs : List (BeatOf H w)) → ℕ
-  alone_after before [] = 0
-  alone_after before (b ∷ bs) = cond (is_none (fault_after r before b)) (suc (alone_after (before ++ b ∷ []) bs)) 0
-
-  -- as many as are handed
-  abbrev pub alone : List (BeatOf H w) → ℕ
-  alone bs = alone_after [] bs
-
   abbrev pub far_alone : (v : ℕ) → List (BeatOf H w) → List (BeatOf H v)
-  far_alone v bs = due r w v (take (alone bs) bs) (map (λ h. r.lane_address h 0) (heads r w (take (alone bs) bs)))
+  far_alone v bs = due r w v (accepted_of r bs) (map (λ h. r.lane_address h 0) (heads r w (accepted_of r bs)))
 
   abbrev pub verdict_alone : (v : ℕ) → List (BeatOf H w) → Verdict
-  verdict_alone v bs = verdict_of (alone bs) (length (far_alone v bs)) (left r w (take (alone bs) bs))
-      (option_map_or (λ b. Some (option_map_or (λ fault. Some (Beat fault)) (fault_after r (take (alone bs) bs) b) None)) (slice_get bs (alone bs)) None)
+  verdict_alone v bs = let n = length (accepted_of r bs) in
+      verdict_of n (length (far_alone v bs)) (left r w (accepted_of r bs))
+      (option_map_or (λ b. Some (option_map_or (λ fault. Some (Beat fault)) (fault_after r (accepted_of r bs) b) None)) (slice_get bs n) None)
 
 -- A and D, at their settled state
 module _ {C M : ℕ} (a : List (BeatOf HeadA C)) (d : List (BeatOf HeadD M)) where

@@ -9,8 +9,7 @@ ghost use Rattle.tl_msg.specs.Beats.{IsBeat};
 ghost use Rattle.tl_msg.specs.Tables.{rules_a, rules_d};
 ghost use Rattle.tl_bridge.specs.Steps.{Reaches};
 ghost use Rattle.tl_bridge.specs.Settling.{IsSettledState, settled_state, goes_a, goes_d};
-ghost use Rattle.tl_bridge.specs.Outcomes.{alone};
-ghost use Rattle.tl_bridge.specs.Laws.{IsLongestHanded, IsAtAdmitted};
+ghost use Rattle.tl_bridge.specs.Laws.{IsAtAdmitted};
 ghost use Rattle.tl_bridge.specs.Histories.{Event};
 ghost use Rattle.tl_bridge.specs.Rounds.{IsOver, IsSettledRun};
 
@@ -43,13 +42,4 @@ pub fn steps_are_admitted<const C: usize, const M: usize>()
 {
     faults_are_exact::<ChA, C>();
     faults_are_exact::<ChD, M>();
-}
-
-/// On a channel that nothing couples to another one, as B, C and E, the longest front of a list that
-/// is handed is accepted.
-pub fn longest_is_accepted<K: Channel, const W: usize>()
-    requires { IsWidth W }
-    ensures { (bs : List (BeatOf K.Head W)) → All (λ b. IsBeat K.rules b) bs → IsLongestHanded K.rules bs (alone K.rules bs) }
-{
-    faults_are_exact::<K, W>();
 }

@@ -1,6 +1,5 @@
-use crate::laws::{every_run, longest_is_accepted, one_settled_state, steps_are_admitted};
+use crate::laws::{every_run, one_settled_state, steps_are_admitted};
 use crate::{Request, RequestTable, SourceTable};
-use tl_msg::{ChB, ChC, ChE};
 
 #[test]
 fn sources_in_use(rt: HostRuntime) {
@@ -46,7 +45,4 @@ fn laws_can_be_called(_rt: HostRuntime) {
     one_settled_state();
     every_run();
     steps_are_admitted::<4, 16>();
-    longest_is_accepted::<ChB, 8>();
-    longest_is_accepted::<ChC, 4>();
-    longest_is_accepted::<ChE, 1>();
 }
