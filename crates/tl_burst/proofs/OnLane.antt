@@ -5,10 +5,9 @@ use Rattle.std.proofs.Math.Arith.{digits_div}
 use Rattle.tl_msg.specs.Rules.{Rules}
 use Rattle.tl_msg.specs.declared.beat.BeatOf.{BeatOf}
 use Rattle.tl_lanes.specs.Lanes.{IsWidth, lane_of}
-use Rattle.tl_lanes.proofs.Widths.{lanes_differ}
+use Rattle.tl_lanes.proofs.Widths.{lanes_differ, lane_cases, lane-shift}
 use Rattle.tl_burst.specs.Messages.{Message, byte_on, per_beat}
 use Rattle.tl_burst.proofs.Places.{byte_on-some, byte_on-none, per-pos, per-le}
-use Rattle.tl_burst.proofs.LaneShift.{lane_cases, lane-shift}
 
 -- two beats with the same fields are the same
 pub same_beat : {H : Type 0} {v : ℕ} (a b : BeatOf H v) → a.head ≡ b.head → a.mask ≡ b.mask → a.lanes ≡ b.lanes → a.corrupt ≡ b.corrupt → a ≡ b

@@ -1,6 +1,5 @@
 mod Rows
 pub mod Widths
-pub mod Counts
 pub mod Masks
 pub mod ActiveLanes
 pub mod LaneRuns
