@@ -5,7 +5,7 @@ ghost use Rattle.tl_lanes.specs.Lanes.{IsWidth};
 use anyhow::{Result, bail};
 use std::alloc::Global;
 use tl_lanes::{active, beats};
-use tl_msg::{BeatOf, ChA, ChE, HeadA, HeadE};
+use tl_msg::{BeatOf, ChA, ChD, ChE, HeadA, HeadD, HeadE};
 use tl_trace::{OutOfMemory, write_far};
 
 /// Appends the lines of a PutFullData: of 64 bytes, and of 4,096 at each eighth message.
@@ -52,6 +52,99 @@ fn put_grant_ack(text: &mut Vec<u8>, number: u64) -> Result<(), OutOfMemory> {
     write_far::<ChE, 1>(text, &[beat])
 }
 
+/// The bytes of a beat, where it carries data: they vary from lane to lane and from beat to beat.
+fn lanes_from<const W: usize>(carries: bool, seed: u8) -> [u8; W] {
+    let mut lanes = [0u8; W];
+    if carries {
+        let mut byte = seed;
+        for lane in &mut lanes {
+            byte = byte.wrapping_mul(5).wrapping_add(1);
+            *lane = byte;
+        }
+    }
+    lanes
+}
+
+/// Appends the lines of a request of 64 bytes, a Get or a PutFullData.
+fn put_request<const C: usize>(
+    text: &mut Vec<u8>,
+    number: u64,
+    reads: bool,
+) -> Result<(), OutOfMemory>
+    requires { IsWidth C }
+{
+    let head = HeadA {
+        opcode: if reads { 4 } else { 0 },
+        param: 0,
+        size: 6,
+        source: (number % 256) as u8,
+        address: number % 65_536 * 64,
+    };
+    for index in 0..beats(!reads, head.size, C) {
+        let beat = BeatOf {
+            head,
+            mask: active(head.address, head.size, C),
+            lanes: lanes_from(!reads, index as u8 ^ head.source),
+            corrupt: false,
+        };
+        write_far::<ChA, C>(text, &[beat])?;
+    }
+    Ok(())
+}
+
+/// Appends the lines of the response to it, an AccessAckData or an AccessAck.
+fn put_response<const M: usize>(
+    text: &mut Vec<u8>,
+    number: u64,
+    reads: bool,
+) -> Result<(), OutOfMemory>
+    requires { IsWidth M }
+{
+    let head = HeadD {
+        opcode: if reads { 1 } else { 0 },
+        param: 0,
+        size: 6,
+        source: (number % 256) as u8,
+        sink: 0,
+        denied: false,
+    };
+    for index in 0..beats(reads, head.size, M) {
+        let beat = BeatOf {
+            head,
+            mask: 0,
+            lanes: lanes_from(reads, index as u8 ^ head.source),
+            corrupt: false,
+        };
+        write_far::<ChD, M>(text, &[beat])?;
+    }
+    Ok(())
+}
+
+/// Appends a request and its response: bytes are read and written in turns.
+fn put_exchange<const C: usize, const M: usize>(
+    text: &mut Vec<u8>,
+    number: u64,
+) -> Result<(), OutOfMemory>
+    requires client { IsWidth C }
+    requires manager { IsWidth M }
+{
+    let reads = number % 2 == 0;
+    put_request::<C>(text, number, reads)?;
+    put_response::<M>(text, number, reads)
+}
+
+/// Appends an exchange between a client and a manager of these widths.
+fn put_pair(text: &mut Vec<u8>, client: usize, manager: usize, number: u64) -> Result<()> {
+    match (client, manager) {
+        (8, 8) => put_exchange::<8, 8>(text, number)?,
+        (4, 16) => put_exchange::<4, 16>(text, number)?,
+        (64, 8) => put_exchange::<64, 8>(text, number)?,
+        (8, 64) => put_exchange::<8, 64>(text, number)?,
+        _ => bail!("no exchanges are made for client {client} manager {manager}"),
+    }
+    Ok(())
+}
+
 /// Appends a message of channel A or E.
 fn put(text: &mut Vec<u8>, channel: &str, client: usize, number: u64) -> Result<()> {
     match (channel, client) {
@@ -64,7 +157,7 @@ fn put(text: &mut Vec<u8>, channel: &str, client: usize, number: u64) -> Result<
     Ok(())
 }
 
-/// A trace of whole messages, of at least so many bytes.
+/// A trace of whole messages, or of whole exchanges on A and D, of at least so many bytes.
 pub fn trace(
     alloc: Global,
     channel: &str,
@@ -78,7 +171,11 @@ pub fn trace(
         if text.len() >= bytes {
             break;
         }
-        put(&mut text, channel, client, number)?;
+        if channel == "AD" {
+            put_pair(&mut text, client, manager, number)?;
+        } else {
+            put(&mut text, channel, client, number)?;
+        }
     }
     Ok(text)
 }

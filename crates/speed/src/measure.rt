@@ -19,13 +19,13 @@ use tl_trace::{HeadText, Line, Trace, read, script_of, write_far};
 const MOST_BYTES: usize = 67_108_864;
 
 /// Prints the time that has passed since `start`.
-fn print_time(rt: &(impl Clock + Print), name: &str, start: Instant) -> io::Result<()> {
+pub(crate) fn print_time(rt: &(impl Clock + Print), name: &str, start: Instant) -> io::Result<()> {
     let nanos = start.elapsed(rt)?.as_nanos();
     println!(rt; "{name} {nanos}")
 }
 
 /// Prints the most memory that the process has had so far, in KiB.
-fn print_peak(rt: &(impl Files + Print + AllocGlobal), name: &str) -> io::Result<()> {
+pub(crate) fn print_peak(rt: &(impl Files + Print + AllocGlobal), name: &str) -> io::Result<()> {
     let status = fs::read_to_string(rt, "/proc/self/status")?;
     for line in status.lines() {
         let mut words = line.split_whitespace();

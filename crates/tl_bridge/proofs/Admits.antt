@@ -10,10 +10,10 @@ use Rattle.tl_burst.specs.Handing.{IsHanded, IsAdmitted, fault_after}
 use Rattle.tl_bridge.specs.Steps.{Reaches}
 use Rattle.tl_bridge.specs.Settling.{goes_a, goes_d}
 use Rattle.tl_bridge.specs.Laws.{IsAtAdmitted}
-use Rattle.tl_bridge.proofs.FarHeads.{reads, opens_is}
+use Rattle.tl_convert.proofs.FarHeads.{reads, opens_is}
 use Rattle.tl_bridge.proofs.SameHeads.{same_a, same_d}
 use Rattle.tl_bridge.proofs.Settles.{Good, good}
-use Rattle.tl_bridge.proofs.Accepting.{each_beat, no_faults_handed}
+use Rattle.tl_convert.proofs.Accepting.{each_beat, no_faults_handed}
 
 pub at_admitted : {C M : ℕ} → 0 < C → 0 < M →
     ((bs : List (BeatOf HeadA C)) (b : BeatOf HeadA C) → IsHanded rules_a bs → IsBeat rules_a b → (fault_after rules_a bs b ≡ None) ↔ IsAdmitted rules_a bs b) →

@@ -12,7 +12,7 @@ use Rattle.tl_convert.proofs.DuePrefix.{due-prefix}
 use Rattle.tl_convert.proofs.FarHanded.{far-handed}
 use Rattle.tl_ring.specs.Crossing.{World}
 use Rattle.tl_ring.specs.Laws.{Crosses}
-use Rattle.tl_bridge.proofs.Comparisons.{equal_true, not_equal}
+use Rattle.tl_convert.proofs.Comparisons.{equal_true, not_equal}
 
 module _ {H : Type 0} (r : Rules H) where
   -- no burst is open exactly where nothing is left of the last message

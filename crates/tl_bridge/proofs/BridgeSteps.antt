@@ -20,7 +20,7 @@ use Rattle.tl_bridge.specs.Tables.{AreBusy, AreOpen}
 use Rattle.tl_bridge.specs.Tracked.{Tracked}
 use Rattle.tl_bridge.specs.Tracked as tracking
 use Rattle.tl_bridge.specs.Bridges.{Bridge, Past, StandsFor, begun_with, after_offer_a, after_offer_d, after_take_a, after_take_d}
-use Rattle.tl_bridge.proofs.Comparisons.{equal_true, not_equal}
+use Rattle.tl_convert.proofs.Comparisons.{equal_true, not_equal}
 use Rattle.tl_bridge.proofs.Homes.{from_ask, from_answer}
 use Rattle.tl_bridge.proofs.Marks.{asked_ask, asked_answer, answered_ask, answered_answer, marks_ask_first, marks_ask_inside, marks_answer_first, marks_answer_inside}
 

@@ -4,11 +4,11 @@ use Rattle.tl_msg.specs.Tables.{rules_a, rules_d}
 use Rattle.tl_msg.specs.declared.head.HeadA.{HeadA}
 use Rattle.tl_msg.specs.declared.head.HeadD.{HeadD}
 use Rattle.tl_msg.specs.declared.beat.BeatOf.{BeatOf}
-use Rattle.tl_bridge.proofs.Extends.{Extends, more, take-grows}
-use Rattle.tl_bridge.proofs.Begins.{heads_extend}
-use Rattle.tl_bridge.proofs.FarHeads.{NoFaults}
+use Rattle.tl_convert.proofs.Extends.{Extends, more, take-grows}
+use Rattle.tl_convert.proofs.Begins.{heads_extend}
+use Rattle.tl_convert.proofs.FarHeads.{NoFaults}
 use Rattle.tl_bridge.proofs.SameHeads.{same_a, same_d}
-use Rattle.tl_bridge.proofs.Prefixes.{due_extends}
+use Rattle.tl_convert.proofs.Prefixes.{due_extends}
 use Rattle.tl_bridge.specs.Requests.{home_of, homes_after}
 use Rattle.tl_bridge.specs.Settling.{far_a, far_d, requests, responses}
 use Rattle.tl_burst.specs.Begun.{heads}

@@ -11,7 +11,7 @@ use Rattle.tl_bridge.specs.Requests.{is_release_ack, is_request_of, responses_to
 use Rattle.tl_bridge.specs.Steps.{Reaches}
 use Rattle.tl_bridge.specs.Settling.{goes_a, goes_d, responses, far_a, far_d}
 use Rattle.tl_bridge.specs.Histories.{Event, asked, answered, Mark, Asks, Answers, marks, open_request, home_after, homes_from, manager_homes}
-use Rattle.tl_bridge.proofs.Extends.{Extends, more, extends-on}
+use Rattle.tl_convert.proofs.Extends.{Extends, more, extends-on}
 use Rattle.tl_bridge.proofs.Orders.{asks, answers, Ordered, unmarked, ask, answer, ClientIs, ManagerIs}
 use Rattle.tl_bridge.proofs.Settles.{good, there_on}
 use Rattle.tl_bridge.proofs.Manager.{manager_asks, manager_answers, whole_asks}

@@ -13,9 +13,9 @@ use Rattle.tl_msg.specs.declared.fault.BeatFault.{BeatFault}
 use Rattle.tl_msg.specs.declared.fault.SideFault.{SideFault}
 use Rattle.tl_msg.specs.declared.fault.SideFault.TheVariants.{Beat, NoRequest, SizeMismatch}
 use Rattle.std.proofs.lemmas.List.{take-append-drop}
-use Rattle.tl_bridge.proofs.Extends.{Extends, count_by-append, count-grows, take-next}
-use Rattle.tl_bridge.proofs.Comparisons.{equal_true, less_true, not_less_false, none_past}
-use Rattle.tl_bridge.proofs.Begins.{heads_open, heads_grow, heads_extend}
+use Rattle.tl_convert.proofs.Extends.{Extends, count_by-append, count-grows, take-next}
+use Rattle.tl_convert.proofs.Comparisons.{equal_true, less_true, not_less_false, none_past}
+use Rattle.tl_convert.proofs.Begins.{heads_open, heads_grow, heads_extend}
 use Rattle.tl_bridge.proofs.Orders.{asks, answers, Ordered, ask, answer, ManagerIs}
 use Rattle.tl_bridge.proofs.Settles.{good, there_on, there_behind, back_behind}
 use Rattle.tl_bridge.proofs.Opens.{Match, matches, asks_heads, answers_heads}

@@ -9,9 +9,9 @@ use Rattle.std.specs.List.{filter}
 use Rattle.tl_msg.specs.Tables.{rules_a, rules_d}
 use Rattle.tl_msg.specs.declared.head.HeadA.{HeadA}
 use Rattle.tl_msg.specs.declared.head.HeadD.{HeadD}
-use Rattle.tl_bridge.proofs.Extends.{count_by-append}
+use Rattle.tl_convert.proofs.Extends.{count_by-append}
 use Rattle.tl_bridge.proofs.Orders.{Ordered, answer, answers, ask, asks, unmarked}
-use Rattle.tl_bridge.proofs.Comparisons.{none_past}
+use Rattle.tl_convert.proofs.Comparisons.{none_past}
 use Rattle.tl_bridge.specs.Histories.{Answer, Answers, Ask, Asks, Event, Mark, answered, asked, marks_from, open_after, open_from, open_request}
 use Rattle.tl_bridge.specs.Requests.{is_release_ack, is_request_of, is_response_to, partner, requests_of, responses_to}
 use Rattle.tl_burst.specs.Begun.{heads_from}

@@ -6,7 +6,7 @@ use Rattle.tl_msg.specs.declared.beat.BeatOf.{BeatOf}
 use Rattle.tl_bridge.specs.Requests.{is_release_ack}
 use Rattle.tl_bridge.specs.Settling.{far_a, far_d, goes_a, goes_d}
 use Rattle.tl_bridge.specs.Histories.{Event, asked, answered, Mark, Asks, Answers, marks, open_request}
-use Rattle.tl_bridge.proofs.Extends.{Extends}
+use Rattle.tl_convert.proofs.Extends.{Extends}
 
 -- the requests and the responses among messages that begin
 abbrev pub asks : List Mark → List HeadA

@@ -8,7 +8,7 @@ use Rattle.tl_msg.specs.declared.beat.BeatOf.{BeatOf}
 use Rattle.tl_msg.specs.declared.fault.SideFault.{SideFault}
 use Rattle.tl_bridge.proofs.Sides as sides
 use Rattle.tl_bridge.proofs.Manager as manager
-use Rattle.tl_bridge.proofs.Extends.{more, of_prefix, extends-on}
+use Rattle.tl_convert.proofs.Extends.{more, of_prefix, extends-on}
 use Rattle.tl_bridge.proofs.Orders.{unmarked, ClientIs, ManagerIs}
 use Rattle.tl_bridge.proofs.Settles.{good, round_reaches, one_settled}
 use Rattle.tl_bridge.proofs.Homes.{manager_homes_are}

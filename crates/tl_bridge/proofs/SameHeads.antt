@@ -5,7 +5,7 @@ use Rattle.std.specs.Bool.{beq}
 use Rattle.tl_msg.specs.Tables.{rules_a, rules_d}
 use Rattle.tl_msg.specs.declared.head.HeadA.{HeadA}
 use Rattle.tl_msg.specs.declared.head.HeadD.{HeadD}
-use Rattle.tl_bridge.proofs.Comparisons.{true_equal}
+use Rattle.tl_convert.proofs.Comparisons.{true_equal}
 
 each : (b c : Bool) → (b && c) ≡ true → (b ≡ true) × (c ≡ true)
 each true true e = (refl, refl)

@@ -11,10 +11,10 @@ use Rattle.tl_msg.specs.declared.beat.BeatOf.{BeatOf}
 use Rattle.tl_msg.specs.declared.fault.BeatFault.{BeatFault}
 use Rattle.tl_msg.specs.declared.fault.SideFault.{SideFault}
 use Rattle.tl_msg.specs.declared.fault.SideFault.TheVariants.{Beat, SourceBusy, NoRequest, SizeMismatch}
-use Rattle.tl_bridge.proofs.Extends.{Extends, count_by-append, count-grows, take-next}
-use Rattle.tl_bridge.proofs.Comparisons.{equal_true, true_equal, less_true, true_less, map_true, map_imp}
-use Rattle.tl_bridge.proofs.Begins.{heads_open, heads_inside_one}
-use Rattle.tl_bridge.proofs.FarHeads.{NoFaults, no-faults-start, no-faults-next, reads, due_behind, due_grows}
+use Rattle.tl_convert.proofs.Extends.{Extends, count_by-append, count-grows, take-next}
+use Rattle.tl_convert.proofs.Comparisons.{equal_true, true_equal, less_true, true_less, map_true, map_imp}
+use Rattle.tl_convert.proofs.Begins.{heads_open, heads_inside_one}
+use Rattle.tl_convert.proofs.FarHeads.{NoFaults, no-faults-start, no-faults-next, reads, due_behind, due_grows}
 use Rattle.tl_bridge.proofs.SameHeads.{same_a, same_d}
 use Rattle.tl_bridge.proofs.Orders.{IsRound}
 use Rattle.tl_bridge.proofs.Persist.{settles}

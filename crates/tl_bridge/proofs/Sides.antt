@@ -13,9 +13,9 @@ use Rattle.tl_msg.specs.declared.head.HeadD.{HeadD}
 use Rattle.tl_msg.specs.declared.beat.BeatOf.{BeatOf}
 use Rattle.tl_msg.specs.declared.fault.BeatFault.{BeatFault}
 use Rattle.tl_msg.specs.declared.fault.SideFault.TheVariants.{Beat, SourceBusy}
-use Rattle.tl_bridge.proofs.Extends.{Extends, more, count_by-append, count-grows, take-next}
-use Rattle.tl_bridge.proofs.Comparisons.{equal_true, true_equal, not_equal, map_true, some_not_none, is_there, there_is, none_past}
-use Rattle.tl_bridge.proofs.Begins.{heads_open, heads_inside_one, heads_extend}
+use Rattle.tl_convert.proofs.Extends.{Extends, more, count_by-append, count-grows, take-next}
+use Rattle.tl_convert.proofs.Comparisons.{equal_true, true_equal, not_equal, map_true, some_not_none, is_there, there_is, none_past}
+use Rattle.tl_convert.proofs.Begins.{heads_open, heads_inside_one, heads_extend}
 use Rattle.tl_bridge.proofs.Orders.{asks, answers, Ordered, ask, answer, ClientIs}
 use Rattle.tl_bridge.proofs.Settles.{good, there_behind, back_grows, back_behind}
 use Rattle.tl_bridge.proofs.Opens.{Match, matches, asks_heads, answers_heads}

@@ -8,3 +8,7 @@ pub mod Tables
 pub mod Laws
 pub mod Tracked
 pub mod Bridges
+pub mod Running
+pub mod Arriving
+pub mod Scripts
+pub mod Names

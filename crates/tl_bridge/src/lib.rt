@@ -3,13 +3,20 @@
 
 pub mod laws;
 mod noting;
+mod offering;
+mod outcome;
+mod rounds;
 mod sync_bridge;
+mod sync_run;
 #[cfg(test)]
 mod sync_tests;
 mod tables;
+mod taking;
 #[cfg(test)]
 mod tests;
 mod tracked_pipe;
 
+pub use outcome::{Outcome, RunFault};
 pub use sync_bridge::{Standings, SyncBridge};
+pub use sync_run::run_sync;
 pub use tables::{Request, RequestTable, SourceTable};

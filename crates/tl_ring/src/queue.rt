@@ -123,6 +123,9 @@ pub(crate) fn read_front<T: Copy + Default, A: Allocator>(
     ensures ring { ring.new ≡ buffer (drop count ring.old.items) ring.old.capacity }
     ensures queue { queue.new ≡ queue.old ++ take count ring.old.items }
 {
+    if count == 0 {
+        return;
+    }
     let (front, back) = ring.as_slices();
     let from_front = count.min(front.len());
     queue.append(&front[..from_front]);

@@ -1,5 +1,5 @@
 mod Rows
-pub mod Crossing
+pub mod Lengths
 pub mod Answering
 pub mod Reading
 pub mod Writing

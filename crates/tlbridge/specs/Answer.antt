@@ -5,6 +5,7 @@ use Rattle.std.specs.List.{list_all}
 use Rattle.tl_msg.specs.declared.verdict.Verdict.{Verdict}
 use Rattle.tl_msg.specs.declared.verdict.Verdict.TheVariants.{Done, Cut, Refused, Waiting}
 use Rattle.tl_bridge.specs.Outcomes.{FarBeats, Verdicts, far_beats, verdicts}
+use Rattle.tl_bridge.specs.declared.outcome.Outcome.{Outcome}
 use Rattle.tl_trace.specs.Fields.{form_a, form_b, form_c, form_d, form_e}
 use Rattle.tl_trace.specs.Lines.{beats_text}
 use Rattle.tl_trace.specs.Texts.{newline}
@@ -16,11 +17,19 @@ use Rattle.tl_trace.specs.declared.line.Line.{Line}
 abbrev pub far_header : (client manager : ℕ) → List ℕ
 far_header client manager = codes "tilelink-far 1 client " ++ decimal client ++ codes " manager " ++ decimal manager ++ newline
 
+-- the far beats that a run took
+abbrev pub taken : {C M : ℕ} → Outcome C M → FarBeats C M
+taken outcome = record { a = outcome.a.items; b = outcome.b.items; c = outcome.c.items; d = outcome.d.items; e = outcome.e.items }
+
 -- the far beats of A, then those of B, C, D and E, each channel in the order in which they are taken: the manager side takes A, C and E, on its own
 -- lanes, and the client side takes B and D
 abbrev pub far_lines : {C M : ℕ} → FarBeats C M → List ℕ
 far_lines {C = C} {M = M} far =
     beats_text form_a M far.a ++ beats_text form_b C far.b ++ beats_text form_c M far.c ++ beats_text form_d C far.d ++ beats_text form_e M far.e
+
+-- the five verdicts in the order of their channels
+abbrev pub in_order : Verdicts → List Verdict
+in_order v = v.a ∷ v.b ∷ v.c ∷ v.d ∷ v.e ∷ []
 
 -- one line for each channel, A to E
 abbrev pub report : Verdicts → List ℕ
@@ -48,4 +57,4 @@ module _ (client manager : ℕ) (lines : List Line) where
 
   -- all five channels are done
   abbrev pub are_done : Bool
-  are_done = list_all is_done (ends.a ∷ ends.b ∷ ends.c ∷ ends.d ∷ ends.e ∷ [])
+  are_done = list_all is_done (in_order ends)

@@ -1,5 +1,4 @@
 pub mod Answer
 pub mod Orders
 pub mod Faults
-pub mod Crossing
 pub mod Texts

@@ -21,3 +21,8 @@ IsInRange order = IsRunnable order × HasTurnsUpTo 1000 order
 abbrev pub is_check : Order → Bool
 is_check (Run ring turns sync) = false
 is_check Check = true
+
+-- how many beats a ring holds; a check's rings hold one
+abbrev pub ring_of : Order → ℕ
+ring_of (Run ring turns sync) = ring
+ring_of Check = 1

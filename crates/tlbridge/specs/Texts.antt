@@ -1,12 +1,9 @@
 -- What a run over a text does to its reader and its writer (this project's choice).
-use Rattle.std.specs.Prelude.{◌≡◌, ◌≢◌, ◌+◌, ◌≤◌, ◌<◌, ◌⊎◌, ℕ, List, length, take, slice_get, Option, Some, Result, Ok, Err, IfSome, Bool, true, false}
-use Rattle.std.specs.List.{list_all}
+use Rattle.std.specs.Prelude.{◌≡◌, ◌≢◌, ◌≤◌, ◌<◌, ℕ, List, length, Option, Result, Ok, Err, IfSome, Bool}
 use Rattle.std.specs.Io.KnownBytes.{Keeps, Appends, IsAtEnd}
 use Rattle.tl_trace.specs.Texts.{Tells}
 use Rattle.tl_trace.specs.Faults.{IsFirstFault}
 use Rattle.tl_trace.specs.declared.line.Line.{Line}
-use Rattle.tl_trace.specs.declared.line.Line.TheVariants.{A, B, C, D, E}
-use Rattle.tl_trace.specs.declared.fault.TraceFault.{TraceFault}
 use Rattle.tl_trace.specs.declared.fault.TraceKind.TheVariants as kinds
 use Rattle.tlbridge.specs.Answer.{answer_of, are_done}
 use Rattle.tlbridge.specs.declared.fault.TextFault.{TextFault}
@@ -16,49 +13,18 @@ use Rattle.tlbridge.specs.declared.fault.TextFault.TheVariants as faults
 abbrev pub most_bytes : ℕ
 most_bytes = 67108864
 
--- a line of channel A
-abbrev pub is_of_a : Line → Bool
-is_of_a (A beat) = true
-is_of_a (B beat) = false
-is_of_a (C beat) = false
-is_of_a (D beat) = false
-is_of_a (E beat) = false
-
 -- this is the answer to a trace, and `done` says whether all channels are done
 pub record IsAnswerTo (client manager : ℕ) (lines : List Line) (check : Bool) (answer : List ℕ) (done : Bool) : Type 0 where
   pub answered : answer ≡ answer_of client manager lines check
   pub all_done : done ≡ are_done client manager lines
 
--- the text tells a trace whose lines are all of channel A, and this is the answer to it
+-- the text tells a trace, and this is the answer to it
 pub record IsAnswer (text : List ℕ) (check : Bool) (answer : List ℕ) (done : Bool) : Type 0 where
   pub client : ℕ
   pub manager : ℕ
   pub lines : List Line
   pub told : Tells text client manager lines
-  pub of_a : list_all is_of_a lines ≡ true
   pub answers : IsAnswerTo client manager lines check answer done
-
--- the first of the lines that is of another channel than A is refused. The header is line 1
-pub record IsFirstOther (lines : List Line) (fault : TraceFault) : Type 0 where
-  pub before : ℕ
-  pub line : Line
-  pub here : slice_get lines before ≡ Some line
-  pub other : is_of_a line ≡ false
-  pub none_before : list_all is_of_a (take before lines) ≡ true
-  pub place : fault.line ≡ before + 2
-  pub kind : fault.kind ≡ kinds.Channel
-
--- the text tells a trace, and this is its first line of another channel than A
-pub record IsOfOtherChannel (text : List ℕ) (fault : TraceFault) : Type 0 where
-  pub client : ℕ
-  pub manager : ℕ
-  pub lines : List Line
-  pub told : Tells text client manager lines
-  pub other : IsFirstOther lines fault
-
--- why a text has no answer: its first fault, or, where it tells a trace, its first line of another channel than A (until both sides exist)
-abbrev pub HasNoAnswer : (text : List ℕ) → TraceFault → Type 0
-HasNoAnswer text fault = IsFirstFault text fault.line fault.kind ⊎ IsOfOtherChannel text fault
 
 -- the reader gave all that it had, and that was not too long
 abbrev pub WasReadWhole : (unread left : Option (List ℕ)) → Type 0
@@ -71,7 +37,7 @@ abbrev pub AnswersText : (unread left held holds : Option (List ℕ)) → (check
 AnswersText unread left held holds check (Ok done) =
     WasReadWhole unread left × IfSome unread (λ text. (answer : List ℕ) × IsAnswer text check answer done × Appends held holds answer)
 AnswersText unread left held holds check (Err (faults.Trace fault)) =
-    WasReadWhole unread left × Keeps held holds × (fault.kind ≢ kinds.OutOfMemory) × IfSome unread (λ text. HasNoAnswer text fault)
+    WasReadWhole unread left × Keeps held holds × (fault.kind ≢ kinds.OutOfMemory) × IfSome unread (λ text. IsFirstFault text fault.line fault.kind)
 AnswersText unread left held holds check (Err faults.Stalled) = ⊥
 AnswersText unread left held holds check (Err faults.Read) = Keeps held holds
 AnswersText unread left held holds check (Err faults.Write) = WasReadWhole unread left
@@ -80,7 +46,7 @@ AnswersText unread left held holds check (Err faults.OutOfMemory) = Keeps held h
 
 -- what a text by itself can be refused for: its own fault, or want of memory
 abbrev pub IsOfText : (text : List ℕ) → TextFault → Type 0
-IsOfText text (faults.Trace fault) = (fault.kind ≢ kinds.OutOfMemory) × HasNoAnswer text fault
+IsOfText text (faults.Trace fault) = (fault.kind ≢ kinds.OutOfMemory) × IsFirstFault text fault.line fault.kind
 IsOfText text faults.Stalled = ⊥
 IsOfText text faults.Read = ⊥
 IsOfText text faults.Write = ⊥

@@ -10,8 +10,7 @@ use tl_trace::{OutOfMemory as NoMemory, TraceFault, TraceKind};
 /// Why a text gets no answer.
 #[derive(Clone, Copy, Debug, PartialEq, Eq, Error)]
 pub enum TextFault {
-    /// The text is no trace, or, until both sides of the bridge exist, one with a line of another
-    /// channel than A.
+    /// The text is no trace.
     #[error(transparent)]
     Trace(TraceFault),
     /// The two sides stopped moving before all beats had arrived.

@@ -5,7 +5,6 @@ ghost use Rattle.std.specs.Prelude.{IfOk};
 ghost use Rattle.tlbridge.specs.Orders.{IsInRange};
 
 mod answer;
-mod channel_a;
 mod fault;
 mod order;
 #[cfg(test)]

@@ -1,6 +1,6 @@
 //! The command line.
-ghost use Rattle.std.specs.Prelude.{◌≤◌, IfOk, IfSome};
-ghost use Rattle.tlbridge.specs.Orders.{IsInRange};
+ghost use Rattle.std.specs.Prelude.{◌≡◌, ◌≤◌, IfOk, IfSome};
+ghost use Rattle.tlbridge.specs.Orders.{IsInRange, IsRunnable, ring_of};
 
 use clap::error::{Error, ErrorKind};
 use clap::{Arg, ArgAction, ArgMatches, Command, value_parser};
@@ -13,8 +13,9 @@ const MOST_TURNS: usize = 1000;
 /// What the program is asked to do with a trace.
 #[derive(Clone, Copy, Debug, PartialEq, Eq)]
 pub enum Order {
-    /// Sends it across the bridge. Each ring holds `ring` beats, and the two sides meet after
-    /// `turns` turns; with `sync` both sides run in one thread.
+    /// Sends it across the bridge, whose rings hold `ring` beats each. Both sides run in one thread
+    /// for now, with or without `sync`, and take one turn each between two meetings, whatever `turns`
+    /// says.
     Run {
         ring: usize,
         turns: usize,
@@ -22,6 +23,19 @@ pub enum Order {
     },
     /// Reports how far each channel comes.
     Check,
+}
+
+impl Order {
+    /// How many beats a ring holds; a check's rings hold one.
+    pub fn ring(&self) -> usize
+        ensures is { result ≡ ring_of self.now }
+        ensures size { IsRunnable self.now → (1 ≤ result) × (result ≤ 4096) }
+    {
+        match self {
+            Order::Run { ring, .. } => *ring,
+            Order::Check => 1,
+        }
+    }
 }
 
 /// An option with a number from 1 to `most`.
@@ -39,10 +53,11 @@ fn number<'a>(alloc: Global, name: &'a str, most: usize, usual: &'a str, help: &
 
 fn run_command<'a>(alloc: Global) -> Result<Command<'a>, AllocError> {
     let ring = "Beats that the ring of a channel holds, 1 to 4096";
-    let turns = "Turns of each side between two meetings, 1 to 1000";
+    let turns =
+        "Turns of each side between two meetings, 1 to 1000; accepted, but without effect: both sides run in one thread for now";
     let sync = Arg::new(alloc, "sync")
         .long("sync")
-        .help("Runs both sides in one thread")
+        .help("Runs both sides in one thread; so does every run for now")
         .action(ArgAction::SetTrue);
     Command::new(alloc, "run")
         .about(

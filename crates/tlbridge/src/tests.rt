@@ -224,7 +224,7 @@ const CASES: [Case<'static>; 27] = [
 ];
 
 /// Texts that are no trace, and the fault that is reported.
-const UNREADABLE: [(&str, &str); 17] = [
+const UNREADABLE: [(&str, &str); 15] = [
     ("", "line 1: 14 Header"),
     ("tilelink-trace 1 client 3 manager 2\n", "line 1: 14 Header"),
     ("tilelink-trace 2 client 4 manager 4\n", "line 1: 14 Header"),
@@ -236,10 +236,6 @@ const UNREADABLE: [(&str, &str); 17] = [
     (
         "tilelink-trace 1 client 2 manager 2\nA 4 0 1 00 0000000000000000 4 0000 0\n",
         "line 2: 18 Range",
-    ),
-    (
-        "tilelink-trace 1 client 2 manager 2\nA 1 0 1 00 0000000000000000 3 0000 0\nC 4 0 1 00 0000000000000000 0000 0\nE 0a\n",
-        "line 3: 15 Channel",
     ),
     (
         "tilelink-trace 1 client 2 manager 2\nE 0a\nE 0A\n",
@@ -267,10 +263,6 @@ const UNREADABLE: [(&str, &str); 17] = [
     ),
     (
         "tilelink-trace 1 client 2 manager 2\nF 00\n",
-        "line 2: 15 Channel",
-    ),
-    (
-        "tilelink-trace 1 client 2 manager 2\nE 0a\n",
         "line 2: 15 Channel",
     ),
     (

@@ -73,11 +73,11 @@ fn write_whole<W: Write>(writer: &mut W, bytes: &[u8]) -> Result<(), TextFault>
 /// out), and how far each channel comes. The order is one that `order_of` gives.
 ///
 /// All of the input is read first: `Read` where a read fails or is interrupted, `TooLong` above
-/// 67,108,864 bytes. Then the text is judged: `Trace` with its first fault and that one's line. Until
-/// both sides of the bridge exist, a trace may hold lines of channel A alone: where the text has no
-/// fault of its own, its first line of another channel is refused as `Channel`. Nothing is written
-/// before the whole answer is made. `Write` where a write fails, is interrupted or takes no byte;
-/// after it, it isn't said how much went out. `OutOfMemory` comes before anything is written.
+/// 67,108,864 bytes. Then the text is judged: `Trace` with its first fault and that one's line. Then
+/// both sides of the bridge run, in one thread for now, over rings of the order's size. Nothing is
+/// written before the whole answer is made. `Write` where a write fails, is interrupted or takes no
+/// byte; after it, it isn't said how much went out. `OutOfMemory` comes before anything is written,
+/// and `Stalled` never.
 pub fn run_text<T: Threads, R: Read, W: Write>(
     _rt: &T,
     alloc: Global,
@@ -90,7 +90,8 @@ pub fn run_text<T: Threads, R: Read, W: Write>(
         (W.contents writer.old) (W.contents writer.new) (is_check order.now) result }
 {
     let text = read_all(alloc, reader)?;
-    let answer = answer_to(alloc, &text, matches!(order, Order::Check))?;
+    let check = matches!(order, Order::Check);
+    let answer = answer_to(alloc, text, check, order.ring())?;
     write_whole(writer, &answer.text)?;
     Ok(answer.all_done)
 }

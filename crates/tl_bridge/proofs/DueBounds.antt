@@ -1,0 +1,142 @@
+-- How many far beats the accepted beats of a list make due at most: 4,096 for each near beat, which is the most that a message has, and as many
+-- for one that is unfinished.
+use Rattle.std.proofs.Common.{◌≡◌, ◌+◌, ◌*◌, ◌≤◌, ℕ, Bool, true, false, cond, Option, None, Some, List, [], ◌∷◌, ◌++◌, length, drop, refl, sym, subst, arith, zero-le, length-append}
+use Rattle.std.proofs.lemmas.List.{length-take}
+use Rattle.std.proofs.lemmas.List.FromFn.{length-map-range_with_len}
+use Rattle.std.specs.Prelude.{slice_index, is_none, ◌&&◌, ◌==◌}
+use Rattle.tl_lanes.specs.Lanes.{IsWidth}
+use Rattle.tl_msg.specs.Rules.{Rules}
+use Rattle.tl_msg.specs.Firsts.{unless, ◌or_else◌}
+use Rattle.tl_msg.specs.Laws.{small_fault}
+use Rattle.tl_msg.specs.Kinds.{column_a, column_b, column_c, column_d, kind_at}
+use Rattle.tl_msg.specs.Tables.{rules_a, rules_b, rules_c, rules_d, rules_e, is_aligned}
+use Rattle.tl_msg.specs.declared.head.HeadA.{HeadA}
+use Rattle.tl_msg.specs.declared.head.HeadB.{HeadB}
+use Rattle.tl_msg.specs.declared.head.HeadC.{HeadC}
+use Rattle.tl_msg.specs.declared.head.HeadD.{HeadD}
+use Rattle.tl_msg.specs.declared.head.HeadE.{HeadE}
+use Rattle.tl_msg.specs.declared.beat.BeatOf.{BeatOf}
+use Rattle.tl_msg.specs.declared.fault.BeatFault.{BeatFault}
+use Rattle.tl_burst.specs.Messages.{beats_of, beat_at, layout}
+use Rattle.tl_burst.specs.Reading.{message_of}
+use Rattle.tl_burst.specs.Handing.{ends, rest_of, fault_in, fault_after, burst_of}
+use Rattle.tl_burst.proofs.Burst.{beats-bounds, rest-snoc}
+use Rattle.tl_convert.specs.Due.{far_beats_of, part, due_after, due}
+use Rattle.tl_convert.specs.Accepted.{accepted_of, accepted_after}
+use Rattle.tl_convert.proofs.Comparisons.{true_equal}
+use Rattle.tl_convert.proofs.Extends.{both}
+
+-- a first fault that isn't there
+first-none : (o q : Option BeatFault) → (o or_else q) ≡ None → o ≡ None
+first-none None q e = refl
+first-none (Some f) q e = e
+
+-- a test that finds no fault
+unless-true : (b : Bool) (f : BeatFault) → unless b f ≡ None → b ≡ true
+unless-true true f e = refl
+unless-true false f e = cc
+
+module _ {H : Type 0} (r : Rules H) (w v : ℕ) where
+  -- heads of messages of at most 4,096 bytes, all through
+  pub data AreSmall : List (BeatOf H w) → Type 0 where
+    none_small : AreSmall []
+    more_small : (b : BeatOf H w) (bs : List (BeatOf H w)) → r.size b.head ≤ 12 → AreSmall bs → AreSmall (b ∷ bs)
+
+  -- with one more at the end
+  small-snoc : (bs : List (BeatOf H w)) (b : BeatOf H w) → AreSmall bs → r.size b.head ≤ 12 → AreSmall (bs ++ b ∷ [])
+  small-snoc [] b none_small l = more_small b [] l none_small
+  small-snoc (x ∷ xs) b (more_small _ _ k s) l = more_small x (xs ++ b ∷ []) k (small-snoc xs b s l)
+
+  module _ (small : (h : H) → r.fault h ≡ None → r.size h ≤ 12) (same : (g h : H) → r.same g h ≡ true → r.size g ≡ r.size h) where
+    -- a beat that has no fault after small ones is small
+    next-small : (rest : List (BeatOf H w)) (b : BeatOf H w) → AreSmall rest → fault_in r (burst_of r rest) b ≡ None → r.size b.head ≤ 12
+    next-small [] b s e = small b.head (first-none (r.fault b.head) _ e)
+    next-small (x ∷ xs) b (more_small _ _ k s) e = subst (λ n. n ≤ 12) (sym (same b.head x.head (unless-true _ _ (first-none _ _ e)))) k
+
+    -- and so is the rest after it
+    rest-small : (rest : List (BeatOf H w)) (b : BeatOf H w) → AreSmall rest → r.size b.head ≤ 12 → AreSmall (cond (ends r w rest b) [] (rest ++ b ∷ []))
+    rest-small rest b s l = both (λ q. AreSmall q) (ends r w rest b) (λ e. none_small) (λ e. small-snoc rest b s l)
+
+    -- all beats that are accepted are small
+    pub accepted-small : (seen bs : List (BeatOf H w)) → AreSmall (rest_of r w seen) → AreSmall (accepted_after r seen bs)
+    accepted-small seen [] s = none_small
+    accepted-small seen (b ∷ bs) s =
+        here (fault_after r seen b) refl
+        (λ l. accepted-small (seen ++ b ∷ []) bs (subst (λ q. AreSmall q) (sym (rest-snoc r w [] seen b)) (rest-small (rest_of r w seen) b s l)))
+      where
+        here : (o : Option BeatFault) → fault_after r seen b ≡ o → (r.size b.head ≤ 12 → AreSmall (accepted_after r (seen ++ b ∷ []) bs)) →
+            AreSmall (cond (is_none (fault_after r seen b)) (b ∷ accepted_after r (seen ++ b ∷ []) bs) [])
+        here None e others =
+            let l : r.size b.head ≤ 12 = next-small (rest_of r w seen) b s e in
+            subst (λ o. AreSmall (cond (is_none o) (b ∷ accepted_after r (seen ++ b ∷ []) bs) [])) (sym e)
+            (more_small b (accepted_after r (seen ++ b ∷ []) bs) l (others l))
+        here (Some f) e others = subst (λ o. AreSmall (cond (is_none o) (b ∷ accepted_after r (seen ++ b ∷ []) bs) [])) (sym e) none_small
+
+  -- no more beats are accepted than there are
+  accepted-length : (seen bs : List (BeatOf H w)) → length (accepted_after r seen bs) ≤ length bs
+  accepted-length seen [] = zero-le
+  accepted-length seen (b ∷ bs) =
+      let l : length (accepted_after r (seen ++ b ∷ []) bs) ≤ length bs = accepted-length (seen ++ b ∷ []) bs in
+      both (λ q. length q ≤ length (b ∷ bs)) (is_none (fault_after r seen b)) (λ e. omega arith) (λ e. zero-le)
+
+  module _ (vw : IsWidth v) where
+    -- an unfinished message
+    part-most : (home : ℕ) (rest : List (BeatOf H w)) → AreSmall rest → length (part r w v home rest) ≤ 4096
+    part-most home [] s = zero-le
+    part-most home (b ∷ bs) (more_small _ _ l s) =
+        let n = length-take (far_beats_of r b.head w v (length (b ∷ bs))) (layout r (message_of r b.head w home (b ∷ bs)) v) in
+        let k : length (layout r (message_of r b.head w home (b ∷ bs)) v) ≡ beats_of r b.head v =
+        length-map-range_with_len (beat_at r (message_of r b.head w home (b ∷ bs)) v) 0 (beats_of r b.head v) in
+        let m : beats_of r b.head v ≤ 4096 = (beats-bounds r b.head v vw l).1 in
+        omega arith
+
+    -- a list, after the beats of an unfinished message
+    pub due-most : (seen : List (BeatOf H w)) (homes : List ℕ) (bs : List (BeatOf H w)) → AreSmall seen → AreSmall bs →
+        length (due_after r w v seen homes bs) ≤ 4096 * (length bs + 1)
+    due-most seen homes [] s none_small = part-most (slice_index homes 0) seen s
+    due-most seen homes (b ∷ bs) s (more_small _ _ l t) =
+        let first : List (BeatOf H v) = layout r (message_of r b.head w (slice_index homes 0) (seen ++ b ∷ [])) v in
+        let k : length first ≡ beats_of r b.head v = length-map-range_with_len (beat_at r (message_of r b.head w (slice_index homes 0) (seen ++ b ∷ [])) v) 0 (beats_of r b.head v) in
+        let m : beats_of r b.head v ≤ 4096 = (beats-bounds r b.head v vw l).1 in
+        let n = length-append first (due_after r w v [] (drop 1 homes) bs) in
+        both (λ q. length q ≤ 4096 * (length (b ∷ bs) + 1)) (ends r w seen b)
+        (λ e. let h : length (due_after r w v [] (drop 1 homes) bs) ≤ 4096 * (length bs + 1) = due-most [] (drop 1 homes) bs none_small t in omega arith)
+        (λ e. let h : length (due_after r w v (seen ++ b ∷ []) homes bs) ≤ 4096 * (length bs + 1) = due-most (seen ++ b ∷ []) homes bs (small-snoc seen b s l) t in omega arith)
+
+    -- the far beats that the accepted beats of a list make due
+    pub accepted-most : (small : (h : H) → r.fault h ≡ None → r.size h ≤ 12) (same : (g h : H) → r.same g h ≡ true → r.size g ≡ r.size h) →
+        (homes : List ℕ) (bs : List (BeatOf H w)) → length (due r w v (accepted_of r bs) homes) ≤ 4096 * (length bs + 1)
+    accepted-most small same homes bs =
+        let l : length (accepted_of r bs) ≤ length bs = accepted-length [] bs in
+        let m : length (due r w v (accepted_of r bs) homes) ≤ 4096 * (length (accepted_of r bs) + 1) =
+        due-most [] homes (accepted_of r bs) none_small (accepted-small small same [] bs none_small) in
+        omega arith
+
+-- ---- the five channels
+
+-- two tests
+two : (b c : Bool) → (b && c) ≡ true → (b ≡ true) × (c ≡ true)
+two true true e = (refl, refl)
+two true false e = cc
+two false c e = cc
+
+-- the third of some tests
+third : (b c : Bool) (x y : ℕ) (d : Bool) → (b && (c && (x == y && d))) ≡ true → x ≡ y
+third b c x y d e = true_equal x y (two (x == y) d (two c (x == y && d) (two b (c && (x == y && d)) e).1).1).0
+
+-- how many far beats the accepted beats of a list make due, on each channel
+module _ {w : ℕ} (v : ℕ) (vw : IsWidth v) (homes : List ℕ) where
+  pub most-a : (bs : List (BeatOf HeadA w)) → length (due rules_a w v (accepted_of rules_a bs) homes) ≤ 4096 * (length bs + 1)
+  most-a bs = accepted-most rules_a w v vw (λ h e. small_fault (kind_at column_a h.opcode) h.param h.size (is_aligned h.address h.size) e) (λ g h e. third _ _ g.size h.size _ e) homes bs
+
+  pub most-b : (bs : List (BeatOf HeadB w)) → length (due rules_b w v (accepted_of rules_b bs) homes) ≤ 4096 * (length bs + 1)
+  most-b bs = accepted-most rules_b w v vw (λ h e. small_fault (kind_at column_b h.opcode) h.param h.size (is_aligned h.address h.size) e) (λ g h e. third _ _ g.size h.size _ e) homes bs
+
+  pub most-c : (bs : List (BeatOf HeadC w)) → length (due rules_c w v (accepted_of rules_c bs) homes) ≤ 4096 * (length bs + 1)
+  most-c bs = accepted-most rules_c w v vw (λ h e. small_fault (kind_at column_c h.opcode) h.param h.size (is_aligned h.address h.size) e) (λ g h e. third _ _ g.size h.size _ e) homes bs
+
+  pub most-d : (bs : List (BeatOf HeadD w)) → length (due rules_d w v (accepted_of rules_d bs) homes) ≤ 4096 * (length bs + 1)
+  most-d bs = accepted-most rules_d w v vw (λ h e. small_fault (kind_at column_d h.opcode) h.param h.size true e) (λ g h e. third _ _ g.size h.size _ e) homes bs
+
+  pub most-e : (bs : List (BeatOf HeadE w)) → length (due rules_e w v (accepted_of rules_e bs) homes) ≤ 4096 * (length bs + 1)
+  most-e bs = accepted-most rules_e w v vw (λ h e. zero-le) (λ g h e. refl) homes bs

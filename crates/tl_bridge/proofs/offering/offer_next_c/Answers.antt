@@ -1,0 +1,37 @@
+use Rattle.std.proofs.Common.{rules, ◌∷◌, [], refl, sym, subst}
+use Rattle.tl_bridge.specs.Bridges.{StandsFor}
+use Rattle.tl_msg.specs.Tables.{rules_c}
+use Rattle.tl_bridge.proofs.OfferSteps.{read_some, read_none, not_ready}
+use Rattle.tl_bridge.proofs.offering.offer_next_c.Goals as goal
+
+pub returns-in-Ok : goal.returns-in-Ok
+returns-in-Ok g c = λ x k.
+    let none = read_none c.args.beats.now c.args.at c.in_default.ensures.lookup.0 in
+    ([], _, c.in-Ok.ensures.closed x k, (none, (c.in-Ok.ensures.between x k).0 refl, refl, refl))
+
+pub returns-in-Err : goal.returns-in-Err
+returns-in-Err g c = λ x k.
+    let none = read_none c.args.beats.now c.args.at c.in_default.ensures.lookup.0 in
+    let between = c.in-Err.ensures.between x k in
+    ([], x.c, subst (λ s. StandsFor s x) (sym c.in-Err.ensures.refused) k, (none, (λ whole. let ok = between.1 whole in cc), refl, refl))
+
+pub returns-then-not-ready_c : goal.returns-then-not-ready_c
+returns-then-not-ready_c g c = λ x k.
+    let some = read_some c.args.beats.now c.args.at c.in-Some.beat.now c.in-Some.ensures.lookup.0 c.in-Some.ensures.lookup.1 in
+    let waits = not_ready rules_c c.args.bridge.now.c x.c k.c (λ ready. let ok = c.if-not-ready_c.ensures.1 ready in cc) in
+    ([], x.c, k, (c.in-Some.beat.now, some, waits, refl, refl))
+
+pub offer_c-requires : goal.offer_c-requires
+offer_c-requires g c = (search rules, (search rules, (c.requires.client, (c.requires.manager, c.if-not-ready_c.ensures.0 refl))))
+
+pub returns-in-Ok-offer_c : goal.returns-in-Ok-offer_c
+returns-in-Ok-offer_c g c = λ x k.
+    let some = read_some c.args.beats.now c.args.at c.in-Some.beat.now c.in-Some.ensures.lookup.0 c.in-Some.ensures.lookup.1 in
+    let admitted = (c.in-Ok-offer_c.ensures.admitted x k).0 refl in
+    (c.in-Some.beat.now ∷ [], _, c.in-Ok-offer_c.ensures.accepted x k, (c.in-Some.beat.now, some, admitted, refl, refl))
+
+pub returns-in-Err-offer_c : goal.returns-in-Err-offer_c
+returns-in-Err-offer_c g c = λ x k.
+    let some = read_some c.args.beats.now c.args.at c.in-Some.beat.now c.in-Some.ensures.lookup.0 c.in-Some.ensures.lookup.1 in
+    let stands = subst (λ s. StandsFor s x) (sym c.in-Err-offer_c.ensures.refused) k in
+    ([], x.c, stands, (c.in-Some.beat.now, some, c.in-Err-offer_c.ensures.fault x k, refl, refl))

@@ -1,0 +1,77 @@
+//! What a run ends in, or why there is none.
+ghost use Rattle.std.specs.Prelude.{◌≡◌};
+ghost use Rattle.tl_bridge.specs.Names.{run_fault_number, run_fault_name, of_build_fault};
+ghost use Rattle.tl_bridge.specs.declared.outcome.RunFault.TheVariants.{OutOfMemory};
+
+use std::alloc::AllocError;
+use thiserror::Error;
+use tl_msg::{Beat, ChA, ChB, ChC, ChD, ChE, Verdict};
+use tl_ring::BuildFault;
+
+/// What a script ends in: the far beats that each side took, one verdict for each channel from A to E, and how many rounds the run
+/// had. The manager's side takes A, C and E, on `M` lanes; the client's side takes B and D, on `C` lanes.
+#[derive(Drop)]
+pub struct Outcome<const C: usize, const M: usize> {
+    pub a: Vec<Beat<ChA, M>>,
+    pub b: Vec<Beat<ChB, C>>,
+    pub c: Vec<Beat<ChC, M>>,
+    pub d: Vec<Beat<ChD, C>>,
+    pub e: Vec<Beat<ChE, M>>,
+    pub verdicts: [Verdict; 5],
+    pub rounds: u64,
+}
+
+/// Why a script was not run. `RingSize` is tested first.
+#[derive(Clone, Copy, PartialEq, Eq, Debug, Error)]
+#[error("{} {}", self.number(), self.name())]
+pub enum RunFault {
+    /// 12: the rings are to hold no beat, or more than 4,096 (this project's choice).
+    RingSize,
+    /// 13: there was no memory for the rings or for the far beats.
+    OutOfMemory,
+    /// 20: the two sides stopped moving before all beats had arrived.
+    Stalled,
+}
+
+impl RunFault {
+    /// The fault's number: 12, 13 or 20 (this project's choice).
+    pub fn number(&self) -> u8
+        ensures { result ≡ run_fault_number self.now }
+    {
+        match self {
+            RunFault::RingSize => 12,
+            RunFault::OutOfMemory => 13,
+            RunFault::Stalled => 20,
+        }
+    }
+
+    /// The fault's name, spelled as the variant (this project's choice).
+    pub fn name(&self) -> &'static str
+        ensures { result.now ≡ run_fault_name self.now }
+    {
+        match self {
+            RunFault::RingSize => "RingSize",
+            RunFault::OutOfMemory => "OutOfMemory",
+            RunFault::Stalled => "Stalled",
+        }
+    }
+}
+
+impl From<BuildFault> for RunFault {
+    ghost from_gives = { λ fault e. e ≡ of_build_fault fault };
+
+    fn from(fault: BuildFault) -> RunFault {
+        match fault {
+            BuildFault::RingSize => RunFault::RingSize,
+            BuildFault::OutOfMemory => RunFault::OutOfMemory,
+        }
+    }
+}
+
+impl From<AllocError> for RunFault {
+    ghost from_gives = { λ _ e. e ≡ OutOfMemory };
+
+    fn from(_e: AllocError) -> RunFault {
+        RunFault::OutOfMemory
+    }
+}

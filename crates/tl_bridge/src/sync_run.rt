@@ -1,0 +1,57 @@
+//! The run of a whole script in one thread.
+ghost use Rattle.std.specs.Prelude.{◌≡◌, ◌≢◌, ◌≤◌, ◌<◌, ◌⊎◌, ◌↔◌, IsOk, IfOk, IfErr};
+ghost use Rattle.tl_lanes.specs.Lanes.{IsWidth};
+ghost use Rattle.tl_bridge.specs.declared.outcome.RunFault.TheVariants.{RingSize, Stalled};
+ghost use Rattle.tl_bridge.specs.Scripts.{HasShortLists, SettlesTo};
+
+use crate::outcome::{Outcome, RunFault};
+use crate::rounds::{run_rounds, verdict};
+use crate::sync_bridge::SyncBridge;
+use crate::taking::Taken;
+use std::alloc::Global;
+use tl_trace::Script;
+
+/// Runs a script over a bridge in one thread, to its end: the far beats and the verdicts are those that the script settles to.
+///
+/// The run is made of rounds. In each, both sides take all that stands in their inboxes; then each offers the next beat of each of its
+/// channels, where that one is ready, the client's side first; then staged beats go into the rings, and beats of the rings into the
+/// inboxes, as many as there is room for. A refused beat stays next. A channel whose list is used up between two messages is closed.
+/// The run ends after the first round in which no beat was accepted and after which nothing is under way.
+///
+/// The rings hold `ring` beats each. Refused with `RingSize` exactly where that is 0 or above 4,096, which is tested first, and else
+/// with `OutOfMemory` where there is no memory for the rings or for the far beats: all of it is asked for before the first round.
+/// `Stalled` never comes. Each list has at most `2^40` beats.
+pub fn run_sync<const C: usize, const M: usize>(
+    alloc: Global,
+    script: &Script<C, M>,
+    ring: usize,
+) -> Result<Outcome<C, M>, RunFault>
+    requires client { IsWidth C }
+    requires manager { IsWidth M }
+    requires short { HasShortLists script.now }
+    ensures outcome { IfOk result (SettlesTo script.now) }
+    ensures size { IsOk result → (1 ≤ ring) × (ring ≤ 4096) }
+    ensures ring_size { IfErr result (λ fault. (fault ≡ RingSize) ↔ ((ring ≡ 0) ⊎ (4096 < ring))) }
+    ensures never_stalled { IfErr result (λ fault. fault ≢ Stalled) }
+{
+    let mut bridge = SyncBridge::<C, M>::new(alloc, ring)?;
+    let mut far = Taken::new(alloc, script)?;
+    let end = run_rounds(&mut bridge, script, &mut far);
+    let verdicts = [
+        verdict(&end.stops.a, end.at.a, far.a.len()),
+        verdict(&end.stops.b, end.at.b, far.b.len()),
+        verdict(&end.stops.c, end.at.c, far.c.len()),
+        verdict(&end.stops.d, end.at.d, far.d.len()),
+        verdict(&end.stops.e, end.at.e, far.e.len()),
+    ];
+    let Taken { a, b, c, d, e } = far;
+    Ok(Outcome {
+        a,
+        b,
+        c,
+        d,
+        e,
+        verdicts,
+        rounds: end.rounds,
+    })
+}
