@@ -6,6 +6,8 @@ mod noting;
 mod offering;
 mod outcome;
 mod rounds;
+#[cfg(test)]
+mod run_tests;
 mod sync_bridge;
 mod sync_run;
 #[cfg(test)]

@@ -5,6 +5,10 @@ ghost use Rattle.std.specs.Prelude.{IfOk};
 ghost use Rattle.tlbridge.specs.Orders.{IsInRange};
 
 mod answer;
+#[cfg(test)]
+mod cases;
+#[cfg(test)]
+mod examples;
 mod fault;
 mod order;
 #[cfg(test)]
