@@ -1,6 +1,8 @@
 -- Writing digits.
-use Rattle.std.proofs.Common.{◌≡◌, ℕ, zero, suc, ◌+◌, ◌-◌, ◌*◌, ◌/◌, ◌%◌, ◌<◌, ◌≤◌, List, [], ◌∷◌, ◌++◌, length, get_or, set, take, drop, refl, sym, ap, ◌∙◌, arith, append_assoc, append-nil, length-append, drop-cons}
-use Rattle.std.proofs.lemmas.List.{length-set, drop-append-le, get_or-take, length-take-le, length-drop, take_all}
+use Rattle.std.proofs.Common.{subst, ◌≡◌, ℕ, zero, suc, ◌+◌, ◌-◌, ◌*◌, ◌/◌, ◌%◌, ◌<◌, ◌≤◌, List, [], ◌∷◌, ◌++◌, length, get_or, set, take, drop, refl, sym, ap, ◌∙◌, arith, append_assoc, append-nil, length-append, drop-cons}
+use Rattle.std.proofs.lemmas.List.{length-set, get_or-take, length-take-le, take_all, take_more_set}
+use Rattle.std.proofs.lemmas.Slice.{take-put_mid}
+use borrow.Rule.Slice.PartMut.{put_mid}
 use Rattle.std.specs.Char.{digit_char}
 use Rattle.tl_trace.specs.Fields.{number_of_lanes}
 use Rattle.tl_trace.specs.Lines.{hex}
@@ -10,65 +12,69 @@ pub length-hex : (count value : ℕ) → length (hex count value) ≡ count
 length-hex zero value = refl
 length-hex (suc count) value = length-append (hex count (value / 16)) (digit_char (value % 16) ∷ []) ∙ omega (arith, length-hex count (value / 16))
 
--- the last digits
-pub drop-hex : (k count value : ℕ) → drop k (hex (k + count) value) ≡ hex count value
-drop-hex k zero value = let e : k + 0 ≡ k = omega arith in ap (λ (n : ℕ). drop k (hex n value)) e ∙ all_of (hex k value) k (omega (arith, length-hex k value))
-  where
-    all_of : (xs : List ℕ) (n : ℕ) → length xs ≤ n → drop n xs ≡ []
-    all_of [] zero le = refl
-    all_of [] (suc n) le = refl
-    all_of (x ∷ xs) zero le = absurd (omega arith)
-    all_of (x ∷ xs) (suc n) le = all_of xs n (omega arith)
-drop-hex k (suc count) value =
-    let e : k + suc count ≡ suc (k + count) = omega arith in
-    let long : k ≤ length (hex (k + count) (value / 16)) = omega (arith, length-hex (k + count) (value / 16)) in
-    ap (λ (n : ℕ). drop k (hex n value)) e ∙ drop-append-le k (hex (k + count) (value / 16)) (digit_char (value % 16) ∷ []) long
-    ∙ ap (λ (xs : List ℕ). xs ++ digit_char (value % 16) ∷ []) (drop-hex k count (value / 16))
+pub record HexSoFar (n value : ℕ) (digits : List ℕ) (rest i : ℕ) : Type 0 where
+  pub long : length digits ≡ n
+  pub made : hex (n - i) rest ++ drop (n - i) digits ≡ hex n value
 
-pub last-hex : (count value : ℕ) → count ≤ 16 → drop (16 - count) (hex 16 value) ≡ hex count value
-last-hex count value le = let e : 16 ≡ (16 - count) + count = omega arith in ap (λ (n : ℕ). drop (16 - count) (hex n value)) e ∙ drop-hex (16 - count) count value
-
-pub last-range : (digits : List ℕ) (count value : ℕ) → digits ≡ hex 16 value → count ≤ 16 → take (16 - (16 - count)) (drop (16 - count) digits) ≡ hex count value
-last-range digits count value e le =
-    let long : length (drop (16 - count) digits) ≤ 16 - (16 - count) = omega (arith, length-drop (16 - count) digits, ap length e, length-hex 16 value) in
-    take_all (16 - (16 - count)) (drop (16 - count) digits) long ∙ ap (λ (ds : List ℕ). drop (16 - count) ds) e ∙ last-hex count value le
-
-pub record HexSoFar (value : ℕ) (digits : List ℕ) (rest i : ℕ) : Type 0 where
-  pub long : length digits ≡ 16
-  pub made : hex (16 - i) rest ++ drop (16 - i) digits ≡ hex 16 value
-
-pub hex_start : (value : ℕ) (digits : List ℕ) → length digits ≡ 16 → HexSoFar value digits value 0
-hex_start value digits long = record { long = long; made = ap (λ (xs : List ℕ). hex 16 value ++ xs) (none digits 16 long) ∙ append-nil (hex 16 value) }
+pub hex_start : (n value : ℕ) (digits : List ℕ) → length digits ≡ n → HexSoFar n value digits value 0
+hex_start n value digits long =
+    let all : n - 0 ≡ n = omega arith in
+    record { long = long; made = ap (λ (k : ℕ). hex k value ++ drop k digits) all ∙ ap (λ (xs : List ℕ). hex n value ++ xs) (none digits n long) ∙ append-nil (hex n value) }
   where
     none : (xs : List ℕ) (n : ℕ) → length xs ≡ n → drop n xs ≡ []
     none [] n e = rw (sym e) refl
     none (x ∷ xs) zero e = absurd (omega arith)
     none (x ∷ xs) (suc n) e = none xs n (omega arith)
 
-pub hex_next : (value : ℕ) (digits : List ℕ) (rest i digit : ℕ) → i < 16 → HexSoFar value digits rest i → digit ≡ digit_char (rest % 16) → HexSoFar value (set digits (15 - i) digit) (rest / 16) (i + 1)
-hex_next value digits rest i digit lt far is =
-    let less : 16 - (i + 1) ≡ 15 - i = omega arith in
-    let more : 16 - i ≡ suc (15 - i) = omega arith in
-    let within : 15 - i < length digits = omega (arith, far.long) in
-    let there : drop (15 - i) (set digits (15 - i) digit) ≡ digit ∷ drop (suc (15 - i)) digits = drop_set digits (15 - i) digit within in
+pub hex_next : (n value : ℕ) (digits : List ℕ) (rest i digit : ℕ) → i < n → HexSoFar n value digits rest i → digit ≡ digit_char (rest % 16) → HexSoFar n value (set digits (n - 1 - i) digit) (rest / 16) (i + 1)
+hex_next n value digits rest i digit lt far is =
+    let k = n - 1 - i in
+    let less : n - (i + 1) ≡ k = omega arith in
+    let more : n - i ≡ suc k = omega arith in
+    let within : k < length digits = omega (arith, far.long) in
+    let there : drop k (set digits k digit) ≡ digit ∷ drop (suc k) digits = drop_set digits k digit within in
     record {
-      long = length-set digits (15 - i) digit ∙ far.long;
-      made = ap (λ (n : ℕ). hex n (rest / 16) ++ drop n (set digits (15 - i) digit)) less
-          ∙ ap (λ (xs : List ℕ). hex (15 - i) (rest / 16) ++ xs) (there ∙ ap (λ (x : ℕ). x ∷ drop (suc (15 - i)) digits) is)
-          ∙ sym (append_assoc (hex (15 - i) (rest / 16)) (digit_char (rest % 16) ∷ []) (drop (suc (15 - i)) digits))
-          ∙ ap (λ (n : ℕ). hex n rest ++ drop n digits) (sym more) ∙ far.made;
+      long = length-set digits k digit ∙ far.long;
+      made = ap (λ (m : ℕ). hex m (rest / 16) ++ drop m (set digits k digit)) less
+          ∙ ap (λ (xs : List ℕ). hex k (rest / 16) ++ xs) (there ∙ ap (λ (x : ℕ). x ∷ drop (suc k) digits) is)
+          ∙ sym (append_assoc (hex k (rest / 16)) (digit_char (rest % 16) ∷ []) (drop (suc k) digits))
+          ∙ ap (λ (m : ℕ). hex m rest ++ drop m digits) (sym more) ∙ far.made;
     }
 
-pub hex_done : (value : ℕ) (digits : List ℕ) (rest i : ℕ) → 16 ≤ i → HexSoFar value digits rest i → digits ≡ hex 16 value
-hex_done value digits rest i le far = let none : 0 ≡ 16 - i = omega arith in ap (λ (n : ℕ). hex n rest ++ drop n digits) none ∙ far.made
+pub hex_done : (n value : ℕ) (digits : List ℕ) (rest i : ℕ) → n ≤ i → HexSoFar n value digits rest i → digits ≡ hex n value
+hex_done n value digits rest i le far = let none : 0 ≡ n - i = omega arith in ap (λ (m : ℕ). hex m rest ++ drop m digits) none ∙ far.made
+
+-- two digits at a time
+pub pair_next : (value : ℕ) (digits : List ℕ) (rest i low high : ℕ) → i < 8 → HexSoFar 16 value digits rest (2 * i) → low ≡ digit_char (rest % 256 % 16) → high ≡ digit_char (rest % 256 / 16 % 16)
+    → HexSoFar 16 value (set (set digits (15 - 2 * i) low) (14 - 2 * i) high) (rest / 256) (2 * (i + 1))
+pair_next value digits rest i low high lt far l h =
+    let low_is : rest % 256 % 16 ≡ rest % 16 = omega arith in
+    let high_is : rest % 256 / 16 % 16 ≡ rest / 16 % 16 = omega arith in
+    let one : HexSoFar 16 value (set digits (15 - 2 * i) low) (rest / 16) (2 * i + 1) = hex_next 16 value digits rest (2 * i) low (omega arith) far (l ∙ ap digit_char low_is) in
+    let two : HexSoFar 16 value (set (set digits (15 - 2 * i) low) (15 - (2 * i + 1)) high) (rest / 16 / 16) (2 * i + 1 + 1) =
+    hex_next 16 value (set digits (15 - 2 * i) low) (rest / 16) (2 * i + 1) high (omega arith) one (h ∙ ap digit_char high_is) in
+    let place : 15 - (2 * i + 1) ≡ 14 - 2 * i = omega arith in
+    let left : rest / 16 / 16 ≡ rest / 256 = omega arith in
+    let count : 2 * i + 1 + 1 ≡ 2 * (i + 1) = omega arith in
+    let P : ℕ → Type 0 = λ k. HexSoFar 16 value (set (set digits (15 - 2 * i) low) k high) (rest / 16 / 16) (2 * i + 1 + 1) in
+    let Q : ℕ → Type 0 = λ r. HexSoFar 16 value (set (set digits (15 - 2 * i) low) (14 - 2 * i) high) r (2 * i + 1 + 1) in
+    let R : ℕ → Type 0 = λ c. HexSoFar 16 value (set (set digits (15 - 2 * i) low) (14 - 2 * i) high) (rest / 256) c in
+    subst R count (subst Q left (subst P place two))
+
+-- a space, and digits behind it
+pub after_space : (line digits made : List ℕ) (at k n : ℕ) → at < length line → n ≡ at + 1 + length digits → digits ≡ made → take n (put_mid (at + 1) k (set line at 32) digits) ≡ take at line ++ 32 ∷ made
+after_space line digits made at k n lt e is =
+    let within : at + 1 ≤ length (set line at 32) = omega (arith, length-set line at 32) in
+    take-put_mid (at + 1) k (set line at 32) digits n e within ∙ ap (λ (xs : List ℕ). xs ++ digits) (take_more_set line at 32 lt)
+    ∙ append_assoc (take at line) (32 ∷ []) digits ∙ ap (λ (xs : List ℕ). take at line ++ 32 ∷ xs) is
 
 -- ---- lanes
 
 pub record LanesSoFar (lanes : List ℕ) (w : ℕ) (digits : List ℕ) (i : ℕ) : Type 0 where
-  pub long : length digits ≡ 128
+  pub long : length digits ≡ 2 * w
   pub made : take (2 * i) digits ≡ hex (2 * i) (number_of_lanes (drop (w - i) (take w lanes)))
 
-pub lanes_start : (lanes : List ℕ) (w : ℕ) (digits : List ℕ) → length digits ≡ 128 → w ≤ length lanes → LanesSoFar lanes w digits 0
+pub lanes_start : (lanes : List ℕ) (w : ℕ) (digits : List ℕ) → length digits ≡ 2 * w → w ≤ length lanes → LanesSoFar lanes w digits 0
 lanes_start lanes w digits long le = record { long = long; made = refl }
 
 take_two : (xs : List ℕ) (n a b : ℕ) → n + 1 < length xs → take (n + 2) (set (set xs n a) (n + 1) b) ≡ take n xs ++ a ∷ b ∷ []
@@ -112,11 +118,11 @@ lanes_next lanes w digits i high low lt few le bytes far h l =
           ∙ ap (λ (xs : List ℕ). xs ++ high ∷ low ∷ []) far.made ∙ sym right ∙ ap (λ (n : ℕ). hex (2 * (i + 1)) n) (sym number);
     }
 
-pub lanes_done : (lanes : List ℕ) (w : ℕ) (digits : List ℕ) (i : ℕ) → w ≤ i → i ≤ w → LanesSoFar lanes w digits i → take (2 * w) digits ≡ hex (2 * w) (number_of_lanes (take w lanes))
+pub lanes_done : (lanes : List ℕ) (w : ℕ) (digits : List ℕ) (i : ℕ) → w ≤ i → i ≤ w → LanesSoFar lanes w digits i → digits ≡ hex (2 * w) (number_of_lanes (take w lanes))
 lanes_done lanes w digits i le ge far =
     let same : w ≡ i = omega arith in
     let none : w - i ≡ 0 = omega arith in
-    ap (λ (n : ℕ). take (2 * n) digits) same ∙ far.made ∙ ap (λ (n : ℕ). hex (2 * i) (number_of_lanes (drop n (take w lanes)))) none ∙ ap (λ (n : ℕ). hex (2 * n) (number_of_lanes (take w lanes))) (sym same)
+    sym (take_all (2 * w) digits (omega (arith, far.long))) ∙ ap (λ (n : ℕ). take (2 * n) digits) same ∙ far.made ∙ ap (λ (n : ℕ). hex (2 * i) (number_of_lanes (drop n (take w lanes)))) none ∙ ap (λ (n : ℕ). hex (2 * n) (number_of_lanes (take w lanes))) (sym same)
 
 pub two_digits : (w lane rest : ℕ) → lane < 256 → hex (2 * suc w) (lane + 256 * rest) ≡ hex (2 * w) rest ++ digit_char (lane / 16 % 16) ∷ digit_char (lane % 16) ∷ []
 two_digits w lane rest lt =

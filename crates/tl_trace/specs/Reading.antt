@@ -1,12 +1,21 @@
 -- What the parts of the reader give. Only contracts of private functions cite these words.
-use Rattle.std.specs.Prelude.{◌≡◌, ◌≢◌, ◌≤◌, length, ◌<◌, true, ◌+◌, ◌*◌, ◌==◌, ℕ, List, [], ◌∷◌, map, Option, Some, None, if◌then◌else◌, slice_index, slice_range}
+use Rattle.std.specs.Prelude.{◌≡◌, ◌≢◌, ◌≤◌, length, ◌<◌, true, ◌+◌, ◌*◌, ◌^◌, ◌==◌, ℕ, List, [], ◌∷◌, map, Option, Some, None, if◌then◌else◌, slice_index, slice_range}
 use Rattle.std.specs.List.{list_all}
 use Rattle.std.specs.Str.Parse.{digits_value}
 use Rattle.std.specs.Char.{digit_value}
-use Rattle.tl_trace.specs.Fields.{Form}
-use Rattle.tl_trace.specs.Texts.{SaysLine, is_kept_line}
+use Rattle.tl_trace.specs.Fields.{Form, number_of_lanes}
+use Rattle.tl_trace.specs.Texts.{SaysLine, TellsLines, is_kept_line}
 use Rattle.tl_trace.specs.Faults.{body_fault}
 use Rattle.tl_trace.specs.declared.line.Line.{Line}
+use Rattle.tl_trace.specs.declared.near.Near.{Near}
+use Rattle.tl_trace.specs.declared.near.Near.TheVariants.{OfA, OfB, OfC, OfD, OfE}
+use Rattle.tl_trace.specs.declared.script.Script.{Script}
+use Rattle.tl_trace.specs.Scripts.{IsScriptOf, beat_of_a, beat_of_b, beat_of_c, beat_of_d, beat_of_e}
+use Rattle.tl_msg.specs.declared.head.HeadA.{HeadA}
+use Rattle.tl_msg.specs.declared.head.HeadB.{HeadB}
+use Rattle.tl_msg.specs.declared.head.HeadC.{HeadC}
+use Rattle.tl_msg.specs.declared.head.HeadD.{HeadD}
+use Rattle.tl_msg.specs.declared.head.HeadE.{HeadE}
 use Rattle.tl_trace.specs.declared.line_reader.Message.{Message}
 use Rattle.tl_trace.specs.declared.line_reader.Masked.{Masked}
 use Rattle.tl_trace.specs.declared.line_reader.Addressed.{Addressed}
@@ -74,3 +83,60 @@ pub record LineAt (text : List ℕ) (at end : ℕ) : Type 0 where
   pub to : end ≤ length text
   pub free : (k : ℕ) → at + k < end → slice_index text (at + k) ≢ 10
   pub stop : end < length text → slice_index text end ≡ 10
+
+-- the beat of a near line, where it is one of the channel
+abbrev pub near_a : {client manager : ℕ} → Near client manager → Option (BeatOf HeadA client)
+near_a (OfA b) = Some b
+near_a _ = None
+
+abbrev pub near_b : {client manager : ℕ} → Near client manager → Option (BeatOf HeadB manager)
+near_b (OfB b) = Some b
+near_b _ = None
+
+abbrev pub near_c : {client manager : ℕ} → Near client manager → Option (BeatOf HeadC client)
+near_c (OfC b) = Some b
+near_c _ = None
+
+abbrev pub near_d : {client manager : ℕ} → Near client manager → Option (BeatOf HeadD manager)
+near_d (OfD b) = Some b
+near_d _ = None
+
+abbrev pub near_e : {client manager : ℕ} → Near client manager → Option (BeatOf HeadE client)
+near_e (OfE b) = Some b
+near_e _ = None
+
+-- a near beat is that of a line of a trace
+pub record IsNearOf {client manager : ℕ} (line : Line) (near : Near client manager) : Type 0 where
+  pub a : near_a near ≡ beat_of_a client line
+  pub b : near_b near ≡ beat_of_b manager line
+  pub c : near_c near ≡ beat_of_c client line
+  pub d : near_d near ≡ beat_of_d manager line
+  pub e : near_e near ≡ beat_of_e client line
+
+-- a near beat is what the line says
+pub record IsReadNear {client manager : ℕ} (text : List ℕ) (near : Near client manager) : Type 0 where
+  pub line : Line
+  pub read : IsReadLine client manager text line
+  pub same : IsNearOf line near
+
+-- the later lines of a text, and their beats by channel
+pub record TellsRest {client manager : ℕ} (text : List ℕ) (s : Script client manager) : Type 0 where
+  pub lines : List Line
+  pub told : TellsLines client manager lines text
+  pub kept : list_all (is_kept_line client manager) lines ≡ true
+  pub script : IsScriptOf lines s
+
+-- a space at a place, and after it so many digits of this number
+pub record IsField (text : List ℕ) (at count value : ℕ) : Type 0 where
+  pub here : field_at text at count ≡ Some value
+  pub small : value < 16 ^ count
+
+-- opcode, param, size and source stand at their places
+pub record IsMessage (text : List ℕ) (m : Message) : Type 0 where
+  pub fields : message_at text ≡ map Some (message_values m)
+  pub small : IsSmall m
+
+-- lanes and corrupt stand from this place on
+pub record IsData (text : List ℕ) (at w : ℕ) (lanes : List ℕ) (corrupt : ℕ) : Type 0 where
+  pub fields : data_at text at w ≡ map Some (number_of_lanes lanes ∷ corrupt ∷ [])
+  pub small : number_of_lanes lanes < 256 ^ w

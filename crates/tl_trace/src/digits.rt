@@ -20,7 +20,7 @@ static DIGIT_VALUES: [u8; 256] = [
 ];
 
 /// The value of a lower-case digit, or 16.
-fn digit(byte: u8) -> u8
+pub fn digit(byte: u8) -> u8
     ensures { result ≡ digit_of byte }
 {
     DIGIT_VALUES[byte as usize]

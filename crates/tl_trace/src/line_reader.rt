@@ -13,11 +13,11 @@ use tl_msg::{Beat, BeatOf, ChA, ChB, ChC, ChD, ChE, HeadA, HeadB, HeadC, HeadD, 
 
 /// The fields that the heads of A to D begin with.
 #[derive(Clone, Copy)]
-struct Message {
-    opcode: u64,
-    param: u64,
-    size: u64,
-    source: u64,
+pub struct Message {
+    pub opcode: u64,
+    pub param: u64,
+    pub size: u64,
+    pub source: u64,
 }
 
 fn read_message(text: &[u8]) -> Option<Message>
@@ -52,7 +52,7 @@ fn read_data(text: &[u8], at: usize, w: usize, lanes: &mut [u8; 64]) -> Option<u
 }
 
 /// Whether the mask has no bit at or past `w`.
-fn mask_fits(mask: u64, w: usize) -> bool
+pub fn mask_fits(mask: u64, w: usize) -> bool
     requires { w ≤ 64 }
     ensures { result ≡ nat_lt mask (2 ^ w) }
 {
@@ -158,7 +158,7 @@ fn read_response(text: &[u8], w: usize, lanes: &mut [u8; 64]) -> Option<Response
 }
 
 /// Whether opcode and param are in range.
-fn is_message(message: &Message, params: u64) -> bool
+pub fn is_message(message: &Message, params: u64) -> bool
     ensures { result ≡ (nat_lt message.now.opcode 8 && nat_lt message.now.param params) }
 {
     message.opcode < 8 && message.param < params

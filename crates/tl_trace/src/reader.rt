@@ -15,7 +15,7 @@ use crate::trace::Trace;
 use std::alloc::Global;
 
 /// The place of the first LF from `at` on, or the text's length.
-fn line_end(text: &[u8], at: usize) -> usize
+pub fn line_end(text: &[u8], at: usize) -> usize
     requires { at ≤ length text.now }
     ensures from { at ≤ result }
     ensures to { result ≤ length text.now }
@@ -63,7 +63,7 @@ fn usual_length(letter: u8, client: usize, manager: usize) -> Option<usize>
 }
 
 /// The end of a line whose LF stands where its letter and the widths say.
-fn usual_end(text: &[u8], at: usize, client: usize, manager: usize) -> Option<usize>
+pub fn usual_end(text: &[u8], at: usize, client: usize, manager: usize) -> Option<usize>
     requires client { client ≤ 64 }
     requires manager { manager ≤ 64 }
     requires at { at < length text.now }
@@ -94,7 +94,7 @@ fn most_lines(text: &[u8], start: usize, client: usize, manager: usize) -> usize
 }
 
 /// The end of the line from `at` on, and its beat.
-fn next_line(
+pub fn next_line(
     text: &[u8],
     at: usize,
     client: usize,

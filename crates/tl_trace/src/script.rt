@@ -20,7 +20,7 @@ pub struct Script<const C: usize, const M: usize> {
 }
 
 /// The first `W` lanes of a beat.
-fn on_lanes<H: Copy, const W: usize>(beat: &BeatOf<H, 64>) -> BeatOf<H, W>
+pub fn on_lanes<H: Copy, const W: usize>(beat: &BeatOf<H, 64>) -> BeatOf<H, W>
     requires { W ≤ 64 }
     ensures { result ≡ on_lanes W beat.now }
 {

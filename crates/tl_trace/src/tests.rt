@@ -1,7 +1,8 @@
 ghost use Rattle.std.specs.Prelude.{◌≤◌, length};
 
 use crate::{
-    TraceFault, TraceKind, line_of, read, script_of, write_far, write_report, write_trace,
+    TraceFault, TraceKind, line_of, read, read_script, script_of, widths_of_text, write_far,
+    write_report, write_trace,
 };
 use std::alloc::{AllocError, Global};
 use std::test::Fail;
@@ -89,6 +90,23 @@ fn reads_and_writes_lanes(rt: HostRuntime) -> Result<(), Fail> {
         [0x88, 0x77, 0x66, 0x55, 0x44, 0x33, 0x22, 0x11]
     );
     assert_eq!(rt; script.a[0].mask, 0xf0);
+    Ok(())
+}
+
+#[test]
+fn reads_a_script_of_five_beats(rt: HostRuntime) -> Result<(), Fail> {
+    let widths = widths_of_text(&FIVE);
+    assert!(rt; widths == Some((4, 8)));
+    let script = read_script::<4, 8>(rt.alloc(), &FIVE)?;
+    assert_eq!(rt; script.a.len(), 1);
+    assert_eq!(rt; script.a[0].head.address, 0x40);
+    assert_eq!(rt; script.b.len(), 1);
+    assert_eq!(rt; script.b[0].mask, 0xff);
+    assert_eq!(rt; script.c.len(), 1);
+    assert_eq!(rt; script.d.len(), 1);
+    assert_eq!(rt; script.d[0].head.source, 1);
+    assert_eq!(rt; script.e.len(), 1);
+    assert_eq!(rt; script.e[0].head.sink, 7);
     Ok(())
 }
 

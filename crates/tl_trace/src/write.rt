@@ -1,5 +1,5 @@
 //! Writing lines, reports and traces.
-ghost use Rattle.std.specs.Prelude.{◌≡◌, ◌≤◌, ◌+◌, ◌*◌, ◌/◌, ◌++◌, ◌∷◌, [], if◌then◌else◌, length, decimal, OnOk, OnErr, IfOk};
+ghost use Rattle.std.specs.Prelude.{◌≡◌, ◌≤◌, ◌+◌, ◌*◌, ◌/◌, ◌++◌, ◌∷◌, [], if◌then◌else◌, take, length, decimal, OnOk, OnErr, IfOk};
 ghost use Rattle.arrayvec.specs.ArrayVec.{array_vec_len};
 ghost use Rattle.tl_lanes.specs.Lanes.{IsWidth};
 ghost use Rattle.tl_trace.specs.Fields.{bit, number_of_lanes};
@@ -12,38 +12,59 @@ use crate::head_text::HeadText;
 use crate::header::header;
 use crate::line::Line;
 use crate::line_reader::mask_digits;
-use crate::text::{Text, put, put_byte, put_decimal, put_field, put_lanes};
+use crate::text::{
+    Room, Text, fill, fill_byte, fill_field, fill_lanes, put, put_byte, put_decimal,
+};
 use crate::trace::Trace;
 use arrayvec::ArrayVec;
 use std::alloc::Global;
 use tl_msg::{Beat, ChA, ChB, ChC, ChD, ChE, Verdict};
 
-/// Appends the mask of a channel that has one.
-fn put_mask<K: HeadText>(text: &mut Text, mask: u64, w: usize)
+/// Writes the mask of a channel that has one, and gives the place behind it.
+fn fill_mask<K: HeadText>(line: &mut Room, at: usize, mask: u64, w: usize) -> usize
     requires width { w ≤ 64 }
-    requires room { array_vec_len text.old ≤ 32 }
-    ensures items { text.new.items ≡ text.old.items ++ (if K.form.rules.masked then 32 ∷ hex ((w + 3) / 4) mask else []) }
-    ensures len { array_vec_len text.new ≤ 49 }
+    requires room { at ≤ 32 }
+    ensures items { take result line.new ≡ take at line.old ++ (if K.form.rules.masked then 32 ∷ hex ((w + 3) / 4) mask else []) }
+    ensures end { result ≤ 49 }
 {
     if !K::MASKED {
-        return;
+        return at;
     }
-    put_field(text, mask, mask_digits(w));
+    fill_field(line, at, mask, mask_digits(w))
 }
 
-/// Appends the data and corrupt of a channel that has them.
-fn put_data<K: HeadText>(text: &mut Text, lanes: &[u8], corrupt: bool, w: usize)
+/// Writes the data and corrupt of a channel that has them, and gives the place behind them.
+fn fill_data<K: HeadText>(
+    line: &mut Room,
+    at: usize,
+    lanes: &[u8],
+    corrupt: bool,
+    w: usize,
+) -> usize
     requires width { w ≤ 64 }
     requires lanes { w ≤ length lanes.now }
-    requires room { array_vec_len text.old ≤ 49 }
-    ensures items { text.new.items ≡ text.old.items ++ (if K.form.rules.corrupts then (32 ∷ hex (2 * w) (number_of_lanes lanes.now)) ++ 32 ∷ hex 1 (bit corrupt) else []) }
-    ensures len { array_vec_len text.new ≤ 180 }
+    requires room { at ≤ 49 }
+    ensures items { take result line.new ≡ take at line.old ++ (if K.form.rules.corrupts then (32 ∷ hex (2 * w) (number_of_lanes lanes.now)) ++ 32 ∷ hex 1 (bit corrupt) else []) }
+    ensures end { result ≤ 180 }
 {
     if !K::HAS_DATA {
-        return;
+        return at;
     }
-    put_lanes(text, lanes, w);
-    put_field(text, corrupt as u64, 1);
+    let end = fill_lanes(line, at, lanes, w);
+    fill_field(line, end, corrupt as u64, 1)
+}
+
+/// Writes the line of a beat on the first `w` of its lanes, with its LF, and gives its length.
+fn fill_line<K: HeadText, const N: usize>(line: &mut Room, beat: &Beat<K, N>, w: usize) -> usize
+    requires width { w ≤ 64 }
+    requires lanes { w ≤ N }
+    ensures items { take result line.new ≡ line_text K.form w beat.now ++ newline }
+    ensures end { result ≤ 192 }
+{
+    let head = fill(line, 0, K::head_text(&beat.head).as_slice());
+    let mask = fill_mask::<K>(line, head, beat.mask, w);
+    let data = fill_data::<K>(line, mask, &beat.lanes, beat.corrupt, w);
+    fill_byte(line, data, b'\n')
 }
 
 /// The line of a beat on the first `w` of its lanes, with its LF.
@@ -52,11 +73,10 @@ fn line_on<K: HeadText, const N: usize>(beat: &Beat<K, N>, w: usize) -> Text
     requires lanes { w ≤ N }
     ensures { result.items ≡ line_text K.form w beat.now ++ newline }
 {
+    let mut line = [0; 192];
+    let end = fill_line::<K, N>(&mut line, beat, w);
     let mut text = ArrayVec::new();
-    put(&mut text, K::head_text(&beat.head).as_slice());
-    put_mask::<K>(&mut text, beat.mask, w);
-    put_data::<K>(&mut text, &beat.lanes, beat.corrupt, w);
-    put_byte(&mut text, b'\n');
+    put(&mut text, &line[..end]);
     text
 }
 
@@ -78,11 +98,14 @@ pub fn write_far<K: HeadText, const W: usize>(
     ensures err { OnErr result (out.new.items ≡ out.old.items) }
 {
     let start = out.len();
+    let mut line = [0; 192];
+    if let Some(first) = beats.first() {
+        let end = fill_line::<K, W>(&mut line, first, W);
+        out.reserve(beats.len().saturating_mul(end))?;
+    }
     for beat in beats {
-        if out
-            .extend_from_slice(line_of::<K, W>(beat).as_slice())
-            .is_err()
-        {
+        let end = fill_line::<K, W>(&mut line, beat, W);
+        if out.extend_from_slice(&line[..end]).is_err() {
             out.truncate(start);
             return Err(OutOfMemory);
         }

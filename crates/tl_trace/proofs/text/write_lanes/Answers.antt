@@ -1,9 +1,9 @@
-use Rattle.std.proofs.Common.{refl, arith, ◌∙◌}
+use Rattle.std.proofs.Common.{arith, ◌∙◌}
 use Rattle.tl_trace.proofs.HexText.{lanes_start, lanes_next, lanes_done, hex_take}
-use Rattle.tl_trace.proofs.text.digits_of_lanes.Goals as goal
+use Rattle.tl_trace.proofs.text.write_lanes.Goals as goal
 
 pub loop-i-init : goal.loop-i-init
-loop-i-init c = lanes_start c.args.lanes.now c.args.w _ refl (omega (arith, c.requires.lanes))
+loop-i-init c = lanes_start c.args.lanes.now c.args.w _ c.requires.room (omega (arith, c.requires.lanes))
 
 pub loop-i-preserved : goal.loop-i-preserved
 loop-i-preserved c = lanes_next c.args.lanes.now c.args.w c.loop-i.digits c.loop-i.i c.high_digit.result c.low_digit.result c.loop-i-test.true c.requires.width c.requires.lanes (λ k. omega (arith, c.type_inv.lanes k)) c.loop-i.invariant

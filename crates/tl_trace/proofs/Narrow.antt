@@ -1,0 +1,114 @@
+-- A narrow beat, as a line of a trace keeps it.
+use Rattle.std.proofs.Common.{◌≡◌, ℕ, zero, suc, ◌+◌, ◌-◌, ◌*◌, ◌≤◌, Bool, true, false, nat_eq, nat_lt, ◌&&◌, ◌||◌, not, List, [], ◌∷◌, ◌++◌, length, map, take, replicate, refl, sym, ap, ◌∙◌, arith, eq-eqb, Some}
+use Rattle.std.proofs.lemmas.Bool.{eqb-true}
+use Rattle.std.proofs.Math.Seq.{take-append_seam}
+use Rattle.std.proofs.lemmas.List.{length-append, length-replicate}
+use Rattle.std.proofs.lemmas.List.Folds.{list_all-append}
+use Rattle.std.specs.List.{list_all}
+use Rattle.tl_msg.specs.declared.beat.BeatOf.{BeatOf}
+use Rattle.tl_msg.specs.declared.head.HeadA.{HeadA}
+use Rattle.tl_msg.specs.declared.head.HeadB.{HeadB}
+use Rattle.tl_msg.specs.declared.head.HeadC.{HeadC}
+use Rattle.tl_msg.specs.declared.head.HeadD.{HeadD}
+use Rattle.tl_msg.specs.declared.head.HeadE.{HeadE}
+use Rattle.tl_trace.specs.Fields.{Field, opcode, param, size, source, address, sink, denied, mask, data_lanes, corrupt, Form, fields, values, value_of, number_of_lanes, form_a, form_b, form_c, form_d, form_e}
+use Rattle.tl_trace.specs.Lines.{is_lanes, is_writable, is_plain}
+use Rattle.tl_trace.specs.Scripts.{on_lanes}
+use Rattle.tl_trace.specs.Reading.{IsRead, IsReadNear}
+use Rattle.tl_trace.specs.declared.line.Line.TheVariants.{A, B, C, D, E}
+use Rattle.tl_trace.specs.declared.near.Near.TheVariants.{OfA, OfB, OfC, OfD, OfE}
+use Rattle.tl_trace.proofs.Shaped.{and_of, first_of_and, second_of_and}
+use Rattle.tl_trace.proofs.ReadLines.{read_as_a, read_as_b, read_as_c, read_as_d, read_as_e}
+
+-- ---- a narrow beat, as a line of a trace keeps it
+
+abbrev pub wide : {H : Type 0} {n : ℕ} → BeatOf H n → BeatOf H 64
+wide {H} {n} b = record { head = b.head; mask = b.mask; lanes = b.lanes ++ replicate (64 - n) 0; corrupt = b.corrupt }
+
+wide_number : (lanes : List ℕ) (k : ℕ) → number_of_lanes (lanes ++ replicate k 0) ≡ number_of_lanes lanes
+wide_number [] zero = refl
+wide_number [] (suc k) = let rest = wide_number [] k in omega arith
+wide_number (lane ∷ lanes) k = ap (λ (n : ℕ). lane + 256 * n) (wide_number lanes k)
+
+zero_bytes : (k : ℕ) → list_all (λ lane. nat_lt lane 256) (replicate k 0) ≡ true
+zero_bytes zero = refl
+zero_bytes (suc k) = zero_bytes k
+
+zeros : (k : ℕ) → list_all (λ lane. nat_eq lane 0) (replicate k 0) ≡ true
+zeros zero = refl
+zeros (suc k) = zeros k
+
+same_value : {H : Type 0} (f : Form H) {n : ℕ} (b : BeatOf H n) (field : Field) → value_of f (wide b) field ≡ value_of f b field
+same_value f {n} b data_lanes = wide_number b.lanes (64 - n)
+same_value f b opcode = refl
+same_value f b param = refl
+same_value f b size = refl
+same_value f b source = refl
+same_value f b address = refl
+same_value f b sink = refl
+same_value f b denied = refl
+same_value f b mask = refl
+same_value f b corrupt = refl
+
+same_values : {H : Type 0} (f : Form H) {n : ℕ} (b : BeatOf H n) (fs : List Field) → map (value_of f (wide b)) fs ≡ map (value_of f b) fs
+same_values f b [] = refl
+same_values f b (field ∷ fs) = rw (same_value f b field) (ap (λ (xs : List ℕ). value_of f b field ∷ xs) (same_values f b fs))
+
+same_writable : {H : Type 0} (f : Form H) {n : ℕ} (w : ℕ) (b : BeatOf H n) (fs : List Field)
+    → list_all (λ field. nat_lt (value_of f (wide b) field) (values f w field)) fs ≡ list_all (λ field. nat_lt (value_of f b field) (values f w field)) fs
+same_writable f w b [] = refl
+same_writable f w b (field ∷ fs) = rw (same_value f b field) (ap (λ (x : Bool). nat_lt (value_of f b field) (values f w field) && x) (same_writable f w b fs))
+
+wide_lanes : (n : ℕ) (lanes : List ℕ) → n ≤ 64 → is_lanes n lanes ≡ true → is_lanes 64 (lanes ++ replicate (64 - n) 0) ≡ true
+wide_lanes n lanes le e =
+    let long : length lanes ≡ n = eqb-true (length lanes) n (first_of_and (nat_eq (length lanes) n) (list_all (λ lane. nat_lt lane 256) lanes) e) in
+    let bytes = second_of_and (nat_eq (length lanes) n) (list_all (λ lane. nat_lt lane 256) lanes) e in
+    let all : length (lanes ++ replicate (64 - n) 0) ≡ 64 = omega (arith, length-append lanes (replicate (64 - n) 0), length-replicate {A = ℕ} (64 - n) 0, long) in
+    and_of (nat_eq (length (lanes ++ replicate (64 - n) 0)) 64) (list_all (λ lane. nat_lt lane 256) (lanes ++ replicate (64 - n) 0)) (eq-eqb (length (lanes ++ replicate (64 - n) 0)) 64 all)
+    (list_all-append (λ lane. nat_lt lane 256) lanes (replicate (64 - n) 0) ∙ and_of (list_all (λ lane. nat_lt lane 256) lanes) (list_all (λ lane. nat_lt lane 256) (replicate (64 - n) 0)) bytes (zero_bytes (64 - n)))
+
+wide_zero : (lanes : List ℕ) (k : ℕ) → list_all (λ lane. nat_eq lane 0) (lanes ++ replicate k 0) ≡ list_all (λ lane. nat_eq lane 0) lanes
+wide_zero [] k = zeros k
+wide_zero (lane ∷ lanes) k = ap (λ (x : Bool). nat_eq lane 0 && x) (wide_zero lanes k)
+
+wide_plain : {H : Type 0} (f : Form H) {n : ℕ} (b : BeatOf H n) → is_plain f (wide b) ≡ is_plain f b
+wide_plain f {n} b = ap (λ (x : Bool). (f.rules.masked || nat_eq b.mask 0) && (f.rules.corrupts || (x && not b.corrupt))) (wide_zero b.lanes (64 - n))
+
+pub widened : {H : Type 0} (f : Form H) (w : ℕ) (text : List ℕ) (b : BeatOf H w) → w ≤ 64 → IsRead f w text b → IsRead f w text (wide b)
+widened f w text b le r =
+    let lanes = first_of_and (is_lanes w b.lanes) (is_writable f w b && is_plain f b) r.kept in
+    let rest = second_of_and (is_lanes w b.lanes) (is_writable f w b && is_plain f b) r.kept in
+    let writable : is_writable f w (wide b) ≡ true = same_writable f w b (fields f) ∙ first_of_and (is_writable f w b) (is_plain f b) rest in
+    let plain : is_plain f (wide b) ≡ true = wide_plain f b ∙ second_of_and (is_writable f w b) (is_plain f b) rest in
+    record {
+      line = record { letter = r.line.letter; long = r.line.long; shaped = r.line.shaped; says = r.line.says ∙ sym (same_values f b (fields f)) };
+      kept = and_of (is_lanes 64 (b.lanes ++ replicate (64 - w) 0)) (is_writable f w (wide b) && is_plain f (wide b)) (wide_lanes w b.lanes le lanes) (and_of (is_writable f w (wide b)) (is_plain f (wide b)) writable plain);
+    }
+
+narrowed : {H : Type 0} (f : Form H) (w : ℕ) (text : List ℕ) (b : BeatOf H w) → IsRead f w text b → take w (b.lanes ++ replicate (64 - w) 0) ≡ b.lanes
+narrowed f w text b r =
+    let long : length b.lanes ≡ w = eqb-true (length b.lanes) w (first_of_and (nat_eq (length b.lanes) w) (list_all (λ lane. nat_lt lane 256) b.lanes) (first_of_and (is_lanes w b.lanes) (is_writable f w b && is_plain f b) r.kept)) in
+    ap (λ (k : ℕ). take k (b.lanes ++ replicate (64 - w) 0)) (sym long) ∙ take-append_seam b.lanes (replicate (64 - w) 0)
+
+same_beat : {H : Type 0} (f : Form H) (w : ℕ) (text : List ℕ) (b : BeatOf H w) → IsRead f w text b → b ≡ on_lanes w (wide b)
+same_beat {H} f w text b r =
+    let narrow : List ℕ → BeatOf H w = λ ls. record { head = b.head; mask = b.mask; lanes = ls; corrupt = b.corrupt } in
+    sym (ap narrow (narrowed f w text b r))
+
+pub near_a : (c m : ℕ) (text : List ℕ) (b : BeatOf HeadA c) → c ≤ 64 → IsRead form_a c text b → IsReadNear {client = c} {manager = m} text (OfA b)
+near_a c m text b le r = record { line = A (wide b); read = read_as_a c m text (wide b) (widened form_a c text b le r); same = record { a = ap Some (same_beat form_a c text b r); b = refl; c = refl; d = refl; e = refl } }
+
+pub near_b : (c m : ℕ) (text : List ℕ) (b : BeatOf HeadB m) → m ≤ 64 → IsRead form_b m text b → IsReadNear {client = c} {manager = m} text (OfB b)
+near_b c m text b le r = record { line = B (wide b); read = read_as_b c m text (wide b) (widened form_b m text b le r); same = record { a = refl; b = ap Some (same_beat form_b m text b r); c = refl; d = refl; e = refl } }
+
+pub near_c : (c m : ℕ) (text : List ℕ) (b : BeatOf HeadC c) → c ≤ 64 → IsRead form_c c text b → IsReadNear {client = c} {manager = m} text (OfC b)
+near_c c m text b le r = record { line = C (wide b); read = read_as_c c m text (wide b) (widened form_c c text b le r); same = record { a = refl; b = refl; c = ap Some (same_beat form_c c text b r); d = refl; e = refl } }
+
+pub near_d : (c m : ℕ) (text : List ℕ) (b : BeatOf HeadD m) → m ≤ 64 → IsRead form_d m text b → IsReadNear {client = c} {manager = m} text (OfD b)
+near_d c m text b le r = record { line = D (wide b); read = read_as_d c m text (wide b) (widened form_d m text b le r); same = record { a = refl; b = refl; c = refl; d = ap Some (same_beat form_d m text b r); e = refl } }
+
+pub near_e : (c m : ℕ) (text : List ℕ) (b : BeatOf HeadE c) → c ≤ 64 → IsRead form_e c text b → IsReadNear {client = c} {manager = m} text (OfE b)
+near_e c m text b le r = record { line = E (wide b); read = read_as_e c m text (wide b) (widened form_e c text b le r); same = record { a = refl; b = refl; c = refl; d = refl; e = ap Some (same_beat form_e c text b r) } }
+
+pub plain_zero : (w : ℕ) (h : HeadE) → is_plain form_e {n = w} (record { head = h; mask = 0; lanes = replicate w 0; corrupt = false }) ≡ true
+plain_zero w h = rw (zeros w) refl

@@ -1,0 +1,12 @@
+use Rattle.std.proofs.Common.{◌≡◌, ◌<◌, ◌+◌, ◌*◌, length, ap, ◌∙◌, arith}
+use Rattle.tl_trace.specs.Fields.{number_of_lanes}
+use Rattle.tl_trace.specs.Lines.{hex}
+use Rattle.tl_trace.proofs.HexText.{after_space, length-hex}
+use Rattle.tl_trace.proofs.text.fill_lanes.Goals as goal
+
+pub returns-clause-items : goal.returns-clause-items
+returns-clause-items c =
+    let digits = hex (2 * c.args.w) (number_of_lanes c.args.lanes.now) in
+    let long : length c.write_lanes.new.digits ≡ 2 * c.args.w = ap length c.write_lanes.ensures ∙ length-hex (2 * c.args.w) (number_of_lanes c.args.lanes.now) in
+    let within : c.args.at < length c.args.line.now = omega (arith, c.requires.room, c.fits-line) in
+    after_space c.args.line.now c.write_lanes.new.digits digits c.args.at _ (c.args.at + 1 + 2 * c.args.w) within (omega (arith, long)) c.write_lanes.ensures

@@ -1,0 +1,13 @@
+use Rattle.std.proofs.Common.{arith, rules, ◌≤◌}
+use Rattle.tl_trace.proofs.LineText.{width_most}
+use Rattle.tl_trace.proofs.write.write_far.Goals as goal
+
+pub fill_line-end-requires : goal.fill_line-end-requires
+fill_line-end-requires g c =
+    let same : g.row.W ≤ g.row.W = omega arith in
+    (search rules, (width_most g.row.W c.requires, same))
+
+pub fill_line-end-requires-in-loop-beat : goal.fill_line-end-requires-in-loop-beat
+fill_line-end-requires-in-loop-beat g c =
+    let same : g.row.W ≤ g.row.W = omega arith in
+    (search rules, (width_most g.row.W c.requires, same))
