@@ -58,7 +58,8 @@ fn convert<K: HeadText, const W: usize, const V: usize>(
 {
     for beat in near {
         given.clear();
-        converter.feed_into(beat, 0, given)?;
+        let place = converter.check(beat)?;
+        converter.feed_at(beat, place, 0, given);
         far.extend_from_slice(given.as_slice())?;
     }
     Ok(())

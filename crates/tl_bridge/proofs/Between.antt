@@ -1,44 +1,35 @@
--- Whether the next beat opens a message, at each end of a crossing.
-use Rattle.std.proofs.Common.{◌≡◌, ◌↔◌, ℕ, Option, None, Some, List, [], ◌∷◌, ◌++◌, true, refl, sym, ap, ◌∙◌, append_assoc}
-use Rattle.std.specs.Prelude.{◌==◌, Bool, false, not}
-use Rattle.std.specs.Option.{is_none, is_some}
-use Rattle.tl_lanes.specs.Lanes.{IsWidth}
+-- Whether the next beat opens a message, and what a check says of it.
+use Rattle.std.proofs.Common.{◌≡◌, ◌↔◌, ℕ, Option, List, [], ◌∷◌, refl, sym, subst, ◌∙◌, arith}
+use Rattle.std.specs.Prelude.{◌==◌}
 use Rattle.tl_msg.specs.Rules.{Rules}
 use Rattle.tl_msg.specs.declared.beat.BeatOf.{BeatOf}
 use Rattle.tl_burst.specs.Begun.{left}
-use Rattle.tl_burst.specs.Handing.{IsHanded, rest_of, burst_of, burst_after}
+use Rattle.tl_burst.specs.Handing.{rest_of, burst_of}
+use Rattle.tl_burst.specs.Tracking.{IsPlaceOf, count_in}
+use Rattle.tl_burst.specs.declared.place.Place.{Place}
 use Rattle.tl_burst.proofs.BegunMessages.{left-zero}
-use Rattle.tl_convert.proofs.DuePrefix.{due-prefix}
-use Rattle.tl_convert.proofs.FarHanded.{far-handed}
-use Rattle.tl_ring.specs.Crossing.{World}
-use Rattle.tl_ring.specs.Laws.{Crosses}
 use Rattle.tl_convert.proofs.Comparisons.{equal_true, not_equal}
+use Rattle.tl_ring.specs.Crossing.{World}
+use Rattle.tl_ring.specs.Pipe.{Pipe, StandsFor}
+use Rattle.tl_bridge.specs.Books.{IsNext}
 
-module _ {H : Type 0} (r : Rules H) where
-  -- no burst is open exactly where nothing is left of the last message
-  pub between : {w : ℕ} (bs : List (BeatOf H w)) (burst : Option (H × ℕ)) → IsHanded r bs → burst ≡ burst_after r bs →
-      is_none burst ≡ (left r w bs == 0)
-  between {w} bs burst h e = ap (λ x. is_none x) e ∙ by_rest (rest_of r w bs) (left-zero r w h.handed)
+module _ {H K : Type 0} (r : Rules H) {w : ℕ} (bs : List (BeatOf H w)) (b : BeatOf H w) (place : Place K H) where
+  -- a beat stands at the first place exactly where nothing is left of the last message
+  pub opens : IsNext r bs b place → (place.index == 0) ≡ (left r w bs == 0)
+  opens next = by_rest (rest_of r w bs) (left-zero r w next.handed.handed) next.is_place.index
     where
-      by_rest : (rest : List (BeatOf H w)) → (left r w bs ≡ 0) ↔ (rest ≡ []) → is_none (burst_of r rest) ≡ (left r w bs == 0)
-      by_rest [] f = sym (equal_true (left r w bs) 0 (f.1 refl))
-      by_rest (b ∷ rest) f = sym (not_equal (left r w bs) 0 (λ e. let g : (b ∷ rest) ≡ [] = f.0 e in cc))
+      by_rest : (rest : List (BeatOf H w)) → (left r w bs ≡ 0) ↔ (rest ≡ []) → place.index ≡ count_in (burst_of r rest) →
+          (place.index == 0) ≡ (left r w bs == 0)
+      by_rest [] f e = equal_true place.index 0 e ∙ sym (equal_true (left r w bs) 0 (f.1 refl))
+      by_rest (x ∷ rest) f e =
+          not_equal place.index 0 (λ z. absurd (omega arith)) ∙ sym (not_equal (left r w bs) 0 (λ z. let g : (x ∷ rest) ≡ [] = f.0 z in cc))
 
-  module _ {w v : ℕ} (near : IsWidth w) (far : IsWidth v) (partial_masked : (h : H) → r.partial h ≡ true → r.masked ≡ true) where
-    pub accepted_handed : (x : World H w v) → Crosses r x → IsHanded r x.accepted
-    accepted_handed x c = record { homes = x.homes; messages = c.messages; rest = c.rest; handed = c.handed }
-
-    -- what was taken is handed, since it is the front of what is due
-    pub taken_handed : (x : World H w v) → Crosses r x → IsHanded r x.taken
-    taken_handed x c =
-        let there = far-handed r w v near far partial_masked c.handed in
-        let joined : x.taken ++ (x.inbox ++ x.ring ++ x.stage) ≡ x.taken ++ x.inbox ++ x.ring ++ x.stage = simp append_assoc in
-        let front = due-prefix r v v far far partial_masked there.handed x.taken (x.inbox ++ x.ring ++ x.stage) (sym c.beats ∙ sym joined) in
-        record { homes = front.earlier_homes; messages = front.messages; rest = front.rest; handed = front.handed }
-
--- what `is_none` answers
-pub told_none : {A : Type 0} (o : Option A) (b : Bool) → is_some o ≡ not b → b ≡ is_none o
-told_none None true e = refl
-told_none None false e = cc
-told_none (Some x) true e = cc
-told_none (Some x) false e = refl
+  -- what a pipe's check says is said of the beats that were accepted
+  pub next_at : {v : ℕ} (p : Pipe H v) (x : World H w v) → StandsFor r p x → bs ≡ x.accepted → IsPlaceOf r w p.converter.burst b place → IsNext r bs b place
+  next_at p x stands same is =
+      let Q : List (BeatOf H w) → Type 0 = λ q. IsNext r q b place in
+      let P : Option (H × ℕ) → Type 0 = λ burst. IsPlaceOf r w burst b place in
+      subst Q (sym same) (record {
+        handed = record { homes = x.homes; messages = stands.crosses.messages; rest = stands.crosses.rest; handed = stands.crosses.handed };
+        is_place = subst P stands.converter.burst_is is;
+      })

@@ -1,7 +1,12 @@
 -- Each call of a bridge takes it to what it stands for after the same events.
 use Rattle.std.proofs.Common.{◌≡◌, ◌↔◌, ℕ, zero, suc, Bool, true, false, cond, Option, None, Some, List, [], ◌∷◌, ◌++◌, map, length, take, drop, refl, sym, ap, subst, ◌∙◌, append-nil}
 use Rattle.std.specs.Prelude.{◌==◌, Result, Ok, Err, OnOk, OnErr, IsOk, IsErr, slice_get}
+use Rattle.tl_msg.specs.Rules.{Rules}
+use Rattle.tl_msg.specs.Firsts.{unless, ◌or_else◌}
+use Rattle.tl_msg.specs.Faults.{mask_fits, is_clean, IsLawfulBeat}
 use Rattle.tl_msg.specs.Tables.{rules_a, rules_b, rules_c, rules_d, rules_e}
+use Rattle.tl_msg.specs.declared.fault.BeatFault.TheVariants.{Mask, Corrupt}
+use Rattle.tl_msg.proofs.Firsts.{first_none}
 use Rattle.tl_msg.specs.declared.head.HeadA.{HeadA}
 use Rattle.tl_msg.specs.declared.head.HeadB.{HeadB}
 use Rattle.tl_msg.specs.declared.head.HeadC.{HeadC}
@@ -14,11 +19,8 @@ use Rattle.tl_convert.specs.Due.{due}
 use Rattle.tl_ring.specs.Crossing.{World, offered, took}
 use Rattle.tl_ring.specs.Pipe.{Pipe}
 use Rattle.tl_ring.specs.Pipe as piping
-use Rattle.tl_bridge.specs.declared.tables.Request.{Request}
 use Rattle.tl_bridge.specs.Histories.{Event, Ask, Answer, Mark, Asks, Answers, asked, answered, marks, home_after, homes_from, manager_home, manager_homes}
-use Rattle.tl_bridge.specs.Tables.{AreBusy, AreOpen}
-use Rattle.tl_bridge.specs.Tracked.{Tracked}
-use Rattle.tl_bridge.specs.Tracked as tracking
+use Rattle.tl_bridge.specs.Books.{Client, Manager, KnowsClient, KnowsManager}
 use Rattle.tl_bridge.specs.Bridges.{Bridge, Past, StandsFor, begun_with, after_offer_a, after_offer_d, after_take_a, after_take_d}
 use Rattle.tl_convert.proofs.Comparisons.{equal_true, not_equal}
 use Rattle.tl_bridge.proofs.Homes.{from_ask, from_answer}
@@ -81,8 +83,8 @@ homes_opened b homes home (x ∷ rest) n f =
     ap (λ t. homes ++ cond t (home ∷ []) []) (not_equal n 0 (λ e. let g : (x ∷ rest) ≡ [] = f.0 e in cc)) ∙ append-nil homes
 
 same_homes : {w : ℕ} (homes : List ℕ) (home other : ℕ) (rest : List (BeatOf HeadD w)) (n : ℕ) → (n ≡ 0) ↔ (rest ≡ []) →
-    ((n == 0) ≡ true → home ≡ other) → with_home rules_d home rest homes ≡ with_home rules_d other rest homes
-same_homes homes home other [] n f e = ap (λ x. homes ++ x ∷ []) (e (equal_true n 0 (f.1 refl)))
+    (n ≡ 0 → home ≡ other) → with_home rules_d home rest homes ≡ with_home rules_d other rest homes
+same_homes homes home other [] n f e = ap (λ x. homes ++ x ∷ []) (e (f.1 refl))
 same_homes homes home other (x ∷ rest) n f e = refl
 
 -- the first beat of an inbox is taken, if there is one
@@ -109,7 +111,7 @@ module _ {w : ℕ} (es : List (Event w)) where
 
 module _ {C M : ℕ} (s : Bridge C M) (x : Past C M) (h : StandsFor s x) where
   -- what happens between the ends of a crossing, or closes it
-  pub with_a : (p : Tracked HeadA M) (y : World HeadA C M) → tracking.StandsFor rules_a p y → y.accepted ≡ x.a.accepted → y.taken ≡ x.a.taken →
+  pub with_a : (p : Pipe HeadA M) (y : World HeadA C M) → piping.StandsFor rules_a p y → y.accepted ≡ x.a.accepted → y.taken ≡ x.a.taken →
       StandsFor (record s { a = p }) (record x { a = y })
   with_a p y k accepted taken = record {
     a = k;
@@ -122,8 +124,8 @@ module _ {C M : ℕ} (s : Bridge C M) (x : Past C M) (h : StandsFor s x) where
     manager_asked = h.manager_asked ∙ sym taken;
     manager_answered = h.manager_answered;
     homes = h.homes;
-    sources = h.sources;
-    requests = h.requests;
+    client = h.client;
+    manager = h.manager;
   }
 
   pub with_b : (p : Pipe HeadB C) (y : World HeadB M C) → piping.StandsFor rules_b p y → StandsFor (record s { b = p }) (record x { b = y })
@@ -138,8 +140,8 @@ module _ {C M : ℕ} (s : Bridge C M) (x : Past C M) (h : StandsFor s x) where
     manager_asked = h.manager_asked;
     manager_answered = h.manager_answered;
     homes = h.homes;
-    sources = h.sources;
-    requests = h.requests;
+    client = h.client;
+    manager = h.manager;
   }
 
   pub with_c : (p : Pipe HeadC M) (y : World HeadC C M) → piping.StandsFor rules_c p y → StandsFor (record s { c = p }) (record x { c = y })
@@ -154,11 +156,11 @@ module _ {C M : ℕ} (s : Bridge C M) (x : Past C M) (h : StandsFor s x) where
     manager_asked = h.manager_asked;
     manager_answered = h.manager_answered;
     homes = h.homes;
-    sources = h.sources;
-    requests = h.requests;
+    client = h.client;
+    manager = h.manager;
   }
 
-  pub with_d : (p : Tracked HeadD C) (y : World HeadD M C) → tracking.StandsFor rules_d p y → y.accepted ≡ x.d.accepted → y.taken ≡ x.d.taken →
+  pub with_d : (p : Pipe HeadD C) (y : World HeadD M C) → piping.StandsFor rules_d p y → y.accepted ≡ x.d.accepted → y.taken ≡ x.d.taken →
       y.homes ≡ x.d.homes → StandsFor (record s { d = p }) (record x { d = y })
   with_d p y k accepted taken homes = record {
     a = h.a;
@@ -171,8 +173,8 @@ module _ {C M : ℕ} (s : Bridge C M) (x : Past C M) (h : StandsFor s x) where
     manager_asked = h.manager_asked;
     manager_answered = h.manager_answered ∙ sym accepted;
     homes = h.homes ∙ sym homes;
-    sources = h.sources;
-    requests = h.requests;
+    client = h.client;
+    manager = h.manager;
   }
 
   pub with_e : (p : Pipe HeadE M) (y : World HeadE C M) → piping.StandsFor rules_e p y → StandsFor (record s { e = p }) (record x { e = y })
@@ -187,15 +189,14 @@ module _ {C M : ℕ} (s : Bridge C M) (x : Past C M) (h : StandsFor s x) where
     manager_asked = h.manager_asked;
     manager_answered = h.manager_answered;
     homes = h.homes;
-    sources = h.sources;
-    requests = h.requests;
+    client = h.client;
+    manager = h.manager;
   }
 
   -- a beat of A is accepted
-  pub offered_a : (p : Tracked HeadA M) (b : BeatOf HeadA C) (t : List Bool) (first : Bool) → tracking.StandsFor rules_a p (offered rules_a b 0 x.a) →
-      first ≡ (left rules_a C x.a.accepted == 0) → AreBusy t (begun_with first (Asks b.head) (marks x.client)) →
-      StandsFor (record s { a = p; sources = t }) (after_offer_a b x)
-  offered_a p b t first k opens busy = record {
+  pub offered_a : (p : Pipe HeadA M) (b : BeatOf HeadA C) (book : Client) → piping.StandsFor rules_a p (offered rules_a b 0 x.a) →
+      KnowsClient book (x.client ++ Ask b ∷ []) → StandsFor (record s { a = p; client = book }) (after_offer_a b x)
+  offered_a p b book k noted = record {
     a = k;
     b = h.b;
     c = h.c;
@@ -206,19 +207,19 @@ module _ {C M : ℕ} (s : Bridge C M) (x : Past C M) (h : StandsFor s x) where
     manager_asked = h.manager_asked;
     manager_answered = h.manager_answered;
     homes = h.homes;
-    sources = subst (λ ms. AreBusy t ms) (noted_ask x.client b x.a.accepted first h.client_asked opens) busy;
-    requests = h.requests;
+    client = noted;
+    manager = h.manager;
   }
 
   -- a beat of D is accepted
-  pub offered_d : (p : Tracked HeadD C) (b : BeatOf HeadD M) (home : ℕ) (t : List (Option Request)) (first : Bool) →
-      (left rules_d M x.d.accepted ≡ 0) ↔ (rest_of rules_d M x.d.accepted ≡ []) → tracking.StandsFor rules_d p (offered rules_d b home x.d) →
-      first ≡ (left rules_d M x.d.accepted == 0) → (first ≡ true → home ≡ home_after (marks x.manager) b.head) →
-      AreOpen t (begun_with first (Answers b.head) (marks x.manager)) → StandsFor (record s { d = p; requests = t }) (after_offer_d b x)
-  offered_d p b home t first between k opens right noted =
+  pub offered_d : (p : Pipe HeadD C) (b : BeatOf HeadD M) (home : ℕ) (book : Manager) →
+      (left rules_d M x.d.accepted ≡ 0) ↔ (rest_of rules_d M x.d.accepted ≡ []) → piping.StandsFor rules_d p (offered rules_d b home x.d) →
+      (left rules_d M x.d.accepted ≡ 0 → home ≡ manager_home x.manager b.head) →
+      KnowsManager book (x.manager ++ Answer b ∷ []) → StandsFor (record s { d = p; manager = book }) (after_offer_d b x)
+  offered_d p b home book between k right noted =
       let given : ℕ = manager_home x.manager b.head in
       let homes_same : with_home rules_d home (rest_of rules_d M x.d.accepted) x.d.homes ≡ with_home rules_d given (rest_of rules_d M x.d.accepted) x.d.homes =
-      same_homes x.d.homes home given (rest_of rules_d M x.d.accepted) (left rules_d M x.d.accepted) between (λ e. right (opens ∙ e)) in
+      same_homes x.d.homes home given (rest_of rules_d M x.d.accepted) (left rules_d M x.d.accepted) between right in
       let homes_now : manager_homes (x.manager ++ Answer b ∷ []) ≡ with_home rules_d given (rest_of rules_d M x.d.accepted) x.d.homes =
       homes_answer x.manager b ∙
       ap (λ q. manager_homes x.manager ++ cond (left rules_d M q == 0) (given ∷ []) []) h.manager_answered ∙
@@ -234,21 +235,21 @@ module _ {C M : ℕ} (s : Bridge C M) (x : Past C M) (h : StandsFor s x) where
         a = h.a;
         b = h.b;
         c = h.c;
-        d = subst (λ (y : World HeadD M C). tracking.StandsFor rules_d p y) crossed k;
+        d = subst (λ (y : World HeadD M C). piping.StandsFor rules_d p y) crossed k;
         e = h.e;
         client_asked = h.client_asked;
         client_answered = h.client_answered;
         manager_asked = asked_answer x.manager b ∙ h.manager_asked;
         manager_answered = answered_answer x.manager b ∙ ap (λ q. q ++ b ∷ []) h.manager_answered;
         homes = homes_now;
-        sources = h.sources;
-        requests = subst (λ ms. AreOpen t ms) (noted_answer x.manager b x.d.accepted first h.manager_answered opens) noted;
+        client = h.client;
+        manager = noted;
       }
 
   -- a beat of A is taken, or none
-  pub taken_a : (p : Tracked HeadA M) (t : List (Option Request)) → tracking.StandsFor rules_a p (took x.a) →
-      AreOpen t (marks (x.manager ++ map Ask (take 1 x.a.inbox))) → StandsFor (record s { a = p; requests = t }) (after_take_a x)
-  taken_a p t k noted = record {
+  pub taken_a : (p : Pipe HeadA M) (book : Manager) → piping.StandsFor rules_a p (took x.a) →
+      KnowsManager book (x.manager ++ map Ask (take 1 x.a.inbox)) → StandsFor (record s { a = p; manager = book }) (after_take_a x)
+  taken_a p book k noted = record {
     a = k;
     b = h.b;
     c = h.c;
@@ -259,14 +260,14 @@ module _ {C M : ℕ} (s : Bridge C M) (x : Past C M) (h : StandsFor s x) where
     manager_asked = asked_taken_a x.manager x.a.inbox ∙ ap (λ q. q ++ take 1 x.a.inbox) h.manager_asked;
     manager_answered = answered_taken_a x.manager x.a.inbox ∙ h.manager_answered;
     homes = homes_taken_a x.manager x.a.inbox ∙ h.homes;
-    sources = h.sources;
-    requests = noted;
+    client = h.client;
+    manager = noted;
   }
 
   -- a beat of D is taken, or none
-  pub taken_d : (p : Tracked HeadD C) (t : List Bool) → tracking.StandsFor rules_d p (took x.d) →
-      AreBusy t (marks (x.client ++ map Answer (take 1 x.d.inbox))) → StandsFor (record s { d = p; sources = t }) (after_take_d x)
-  taken_d p t k noted = record {
+  pub taken_d : (p : Pipe HeadD C) (book : Client) → piping.StandsFor rules_d p (took x.d) →
+      KnowsClient book (x.client ++ map Answer (take 1 x.d.inbox)) → StandsFor (record s { d = p; client = book }) (after_take_d x)
+  taken_d p book k noted = record {
     a = h.a;
     b = h.b;
     c = h.c;
@@ -277,14 +278,18 @@ module _ {C M : ℕ} (s : Bridge C M) (x : Past C M) (h : StandsFor s x) where
     manager_asked = h.manager_asked;
     manager_answered = h.manager_answered;
     homes = h.homes;
-    sources = noted;
-    requests = h.requests;
+    client = noted;
+    manager = h.manager;
   }
 
 -- what an Ok shows, from what it has shown
 pub on_ok_to : {T E P Q : Type 0} (r : Result T E) → (P → Q) → OnOk r P → OnOk r Q
 on_ok_to (Ok v) f p = f p
 on_ok_to (Err e) f p = tt
+
+-- the head of a lawful beat has no fault
+pub lawful_head : {H : Type 0} (r : Rules H) {w : ℕ} (b : BeatOf H w) → IsLawfulBeat r b → r.fault b.head ≡ None
+lawful_head r b e = first_none (r.fault b.head) (unless (mask_fits r b) Mask or_else unless (is_clean r b) Corrupt) e
 
 -- what an inbox has first
 pub some_taken : {A : Type 0} (bs : List A) (b : A) → slice_get bs 0 ≡ Some b → take 1 bs ≡ b ∷ []

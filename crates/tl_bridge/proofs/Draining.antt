@@ -155,7 +155,7 @@ module _ {C M : ℕ} where
 
   -- the inbox of each channel is being emptied
   abbrev pub IsEmptyingA : Bridge C M → Vec (BeatOf HeadA M) Global → Bridge C M → Vec (BeatOf HeadA M) Global → Type 0
-  IsEmptyingA old before now far = IsEmptying StandsFor after_takes_a (λ s. s.a.pipe.inbox) old before now far
+  IsEmptyingA old before now far = IsEmptying StandsFor after_takes_a (λ s. s.a.inbox) old before now far
 
   abbrev pub IsEmptyingB : Bridge C M → Vec (BeatOf HeadB C) Global → Bridge C M → Vec (BeatOf HeadB C) Global → Type 0
   IsEmptyingB old before now far = IsEmptying StandsFor after_takes_b (λ s. s.b.inbox) old before now far
@@ -164,7 +164,7 @@ module _ {C M : ℕ} where
   IsEmptyingC old before now far = IsEmptying StandsFor after_takes_c (λ s. s.c.inbox) old before now far
 
   abbrev pub IsEmptyingD : Bridge C M → Vec (BeatOf HeadD C) Global → Bridge C M → Vec (BeatOf HeadD C) Global → Type 0
-  IsEmptyingD old before now far = IsEmptying StandsFor after_takes_d (λ s. s.d.pipe.inbox) old before now far
+  IsEmptyingD old before now far = IsEmptying StandsFor after_takes_d (λ s. s.d.inbox) old before now far
 
   abbrev pub IsEmptyingE : Bridge C M → Vec (BeatOf HeadE M) Global → Bridge C M → Vec (BeatOf HeadE M) Global → Type 0
   IsEmptyingE old before now far = IsEmptying StandsFor after_takes_e (λ s. s.e.inbox) old before now far

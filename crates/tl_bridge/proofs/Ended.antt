@@ -37,7 +37,7 @@ way_in n far p = n + (length far + length p.inbox + length p.ring) + (length far
 
 -- how far all five have come
 abbrev pub way_here : {C M : ℕ} → Counts → FarBeats C M → Bridge C M → ℕ
-way_here n far s = way_in n.a far.a s.a.pipe + way_in n.b far.b s.b + way_in n.c far.c s.c + way_in n.d far.d s.d.pipe + way_in n.e far.e s.e
+way_here n far s = way_in n.a far.a s.a + way_in n.b far.b s.b + way_in n.c far.c s.c + way_in n.d far.d s.d + way_in n.e far.e s.e
 
 -- how far a channel comes at most
 abbrev pub way_end : {H : Type 0} (r : Rules H) {w : ℕ} (v : ℕ) → List (BeatOf H w) → ℕ
@@ -61,11 +61,11 @@ standing-is : {H : Type 0} (r : Rules H) {w v : ℕ} (p : Pipe H v) (x : World H
 standing-is r p x s f i = rw (i.staged, i.in_ring, i.inbox, f.stage, f.ring, f.inbox) refl
 
 -- and so in all five
-pub all-standing-is : {C M : ℕ} (s : Bridge C M) (x : Past C M) (t : Standings) → StandsFor s x → IsStanding s.a.pipe t.a → IsStanding s.b t.b →
-    IsStanding s.c t.c → IsStanding s.d.pipe t.d → IsStanding s.e t.e → all_standing t ≡ all_under_way x
+pub all-standing-is : {C M : ℕ} (s : Bridge C M) (x : Past C M) (t : Standings) → StandsFor s x → IsStanding s.a t.a → IsStanding s.b t.b →
+    IsStanding s.c t.c → IsStanding s.d t.d → IsStanding s.e t.e → all_standing t ≡ all_under_way x
 all-standing-is s x t f a b c d e =
-    sums (standing-is rules_a s.a.pipe x.a t.a f.a.pipe a) (standing-is rules_b s.b x.b t.b f.b b) (standing-is rules_c s.c x.c t.c f.c c)
-    (standing-is rules_d s.d.pipe x.d t.d f.d.pipe d) (standing-is rules_e s.e x.e t.e f.e e)
+    sums (standing-is rules_a s.a x.a t.a f.a a) (standing-is rules_b s.b x.b t.b f.b b) (standing-is rules_c s.c x.c t.c f.c c)
+    (standing-is rules_d s.d x.d t.d f.d d) (standing-is rules_e s.e x.e t.e f.e e)
 
 module _ {C M : ℕ} (a : List (BeatOf HeadA C)) (b : List (BeatOf HeadB M)) (c : List (BeatOf HeadC C)) (d : List (BeatOf HeadD M)) (e : List (BeatOf HeadE C)) where
   -- how far a run comes at most
@@ -75,8 +75,8 @@ module _ {C M : ℕ} (a : List (BeatOf HeadA C)) (b : List (BeatOf HeadB M)) (c 
   -- it has come as far as what has happened says
   pub way-is : (n : Counts) (far : FarBeats C M) (s : Bridge C M) (x : Past C M) → StandsFor s x → IsAt a b c d e n far x → way_here n far s ≡ way_of n x
   way-is n far s x f i =
-      sums (way-in-is rules_a a n.a far.a s.a.pipe x.a f.a.pipe i.a_sent) (way-in-is rules_b b n.b far.b s.b x.b f.b i.b_sent)
-      (way-in-is rules_c c n.c far.c s.c x.c f.c i.c_sent) (way-in-is rules_d d n.d far.d s.d.pipe x.d f.d.pipe i.d_sent)
+      sums (way-in-is rules_a a n.a far.a s.a x.a f.a i.a_sent) (way-in-is rules_b b n.b far.b s.b x.b f.b i.b_sent)
+      (way-in-is rules_c c n.c far.c s.c x.c f.c i.c_sent) (way-in-is rules_d d n.d far.d s.d x.d f.d i.d_sent)
       (way-in-is rules_e e n.e far.e s.e x.e f.e i.e_sent)
 
   -- it comes no further than that
@@ -84,8 +84,8 @@ module _ {C M : ℕ} (a : List (BeatOf HeadA C)) (b : List (BeatOf HeadB M)) (c 
       way_here n far s ≤ run_end
   way-ends cw mw n far s x f i =
       subst (λ k. k ≤ run_end) (sym (way-is n far s x f i))
-      (sums-most (way-most rules_a cw mw a n.a far.a x.a i.a_sent f.a.pipe.crosses) (way-most rules_b mw cw b n.b far.b x.b i.b_sent f.b.crosses)
-      (way-most rules_c cw mw c n.c far.c x.c i.c_sent f.c.crosses) (way-most rules_d mw cw d n.d far.d x.d i.d_sent f.d.pipe.crosses)
+      (sums-most (way-most rules_a cw mw a n.a far.a x.a i.a_sent f.a.crosses) (way-most rules_b mw cw b n.b far.b x.b i.b_sent f.b.crosses)
+      (way-most rules_c cw mw c n.c far.c x.c i.c_sent f.c.crosses) (way-most rules_d mw cw d n.d far.d x.d i.d_sent f.d.crosses)
       (way-most rules_e cw mw e n.e far.e x.e i.e_sent f.e.crosses))
 
   -- which is few

@@ -59,10 +59,10 @@ module _ {H : Type 0} (r : Rules H) {w v : ℕ} where
 pub moved-stands : {C M : ℕ} (s t u : Bridge C M) (x : Past C M) → StandsFor s x → StandsFor t (after_pump s x) →
     StandsFor u (after_fetch t (after_pump s x)) → StandsFor u (after_moves x)
 moved-stands s t u x f g h =
-    let in_a = moved-is rules_a s.a.pipe t.a.pipe x.a f.a.pipe g.a.pipe in
+    let in_a = moved-is rules_a s.a t.a x.a f.a g.a in
     let in_b = moved-is rules_b s.b t.b x.b f.b g.b in
     let in_c = moved-is rules_c s.c t.c x.c f.c g.c in
-    let in_d = moved-is rules_d s.d.pipe t.d.pipe x.d f.d.pipe g.d.pipe in
+    let in_d = moved-is rules_d s.d t.d x.d f.d g.d in
     let in_e = moved-is rules_e s.e t.e x.e f.e g.e in
     let y = after_fetch t (after_pump s x) in
     subst (λ z. StandsFor u (record x { a = moved x.a; b = moved x.b; c = moved x.c; d = moved x.d; e = z })) in_e
@@ -155,7 +155,7 @@ module _ {C M : ℕ} (cw : IsWidth C) (mw : IsWidth M) (a : List (BeatOf HeadA C
     d_sent = sent-round rules_d d n.d (manager_answer (x.manager ++ map Ask x.a.inbox)) (λ y. manager_home (x.manager ++ map Ask x.a.inbox) y.head) far.d x.d o.d h.beats_d h.past.d i.d_sent
         (λ y f. subst (λ q. fault_after rules_d q y ≡ None) (answered-asks x.manager x.a.inbox ∙ stands.manager_answered) (manager-own (x.manager ++ map Ask x.a.inbox) y f)) h.does_d;
     e_sent = sent-round rules_e e n.e (stops_alone rules_e x.e.accepted) (λ _. 0) far.e x.e o.e h.beats_e h.past.e i.e_sent (λ y f. alone-own rules_e x.e.accepted y f) h.does_e;
-    a_homed = homed-round rules_a a n.a (client_answer (x.client ++ map Answer x.d.inbox)) (λ _. 0) x.a o.a h.beats_a h.past.a (λ y. some-beats rules_a y C cw) stands.a.pipe.crosses i.a_homed (λ y. refl) h.does_a;
+    a_homed = homed-round rules_a a n.a (client_answer (x.client ++ map Answer x.d.inbox)) (λ _. 0) x.a o.a h.beats_a h.past.a (λ y. some-beats rules_a y C cw) stands.a.crosses i.a_homed (λ y. refl) h.does_a;
     b_homed = homed-round rules_b b n.b (stops_alone rules_b x.b.accepted) (λ _. 0) x.b o.b h.beats_b h.past.b (λ y. some-beats rules_b y M mw) stands.b.crosses i.b_homed (λ y. refl) h.does_b;
     c_homed = homed-round rules_c c n.c (stops_alone rules_c x.c.accepted) (λ _. 0) x.c o.c h.beats_c h.past.c (λ y. some-beats rules_c y C cw) stands.c.crosses i.c_homed (λ y. refl) h.does_c;
     e_homed = homed-round rules_e e n.e (stops_alone rules_e x.e.accepted) (λ _. 0) x.e o.e h.beats_e h.past.e (λ y. some-beats rules_e y C cw) stands.e.crosses i.e_homed (λ y. refl) h.does_e;
@@ -231,10 +231,10 @@ module _ {C M : ℕ} (cw : IsWidth C) (mw : IsWidth M) (a : List (BeatOf HeadA C
   pub inboxes-fit : (far : Taken C M) (s : Bridge C M) (x : Past C M) → StandsFor s x → IsAt a b c d e n (taken_beats far) x → HasRoomFor a b c d e far →
       HasRoomForInboxes s far
   inboxes-fit far s x stands i has = record {
-    a = room-in rules_a cw mw a n.a far.a.items x.a s.a.pipe.inbox far.a.len far.a.cap far.a.ok.0 stands.a.pipe.inbox i.a_sent stands.a.pipe.crosses has.in_a;
+    a = room-in rules_a cw mw a n.a far.a.items x.a s.a.inbox far.a.len far.a.cap far.a.ok.0 stands.a.inbox i.a_sent stands.a.crosses has.in_a;
     b = room-in rules_b mw cw b n.b far.b.items x.b s.b.inbox far.b.len far.b.cap far.b.ok.0 stands.b.inbox i.b_sent stands.b.crosses has.in_b;
     c = room-in rules_c cw mw c n.c far.c.items x.c s.c.inbox far.c.len far.c.cap far.c.ok.0 stands.c.inbox i.c_sent stands.c.crosses has.in_c;
-    d = room-in rules_d mw cw d n.d far.d.items x.d s.d.pipe.inbox far.d.len far.d.cap far.d.ok.0 stands.d.pipe.inbox i.d_sent stands.d.pipe.crosses has.in_d;
+    d = room-in rules_d mw cw d n.d far.d.items x.d s.d.inbox far.d.len far.d.cap far.d.ok.0 stands.d.inbox i.d_sent stands.d.crosses has.in_d;
     e = room-in rules_e cw mw e n.e far.e.items x.e s.e.inbox far.e.len far.e.cap far.e.ok.0 stands.e.inbox i.e_sent stands.e.crosses has.in_e;
   }
 
@@ -251,4 +251,4 @@ module _ {C M : ℕ} (cw : IsWidth C) (mw : IsWidth M) (a : List (BeatOf HeadA C
   -- what was taken stands behind what was taken before
   pub taken-is : (s : Bridge C M) (old new : Taken C M) (x : Past C M) → StandsFor s x → HasTaken s old new → taken_beats new ≡ with_inboxes (taken_beats old) x
   taken-is s old new x stands t =
-      rw (t.a, t.b, t.c, t.d, t.e, stands.a.pipe.inbox, stands.b.inbox, stands.c.inbox, stands.d.pipe.inbox, stands.e.inbox) refl
+      rw (t.a, t.b, t.c, t.d, t.e, stands.a.inbox, stands.b.inbox, stands.c.inbox, stands.d.inbox, stands.e.inbox) refl

@@ -57,8 +57,8 @@ module _ {C M : ℕ} (cw : IsWidth C) (mw : IsWidth M) (a : List (BeatOf HeadA C
       Does rules_d d j (manager_answer (x.manager ++ map Ask x.a.inbox)) (λ b. manager_home (x.manager ++ map Ask x.a.inbox) b.head) (emptied x.d) p answers z →
       Run a d (i + steps o) (j + steps p) ((x.client ++ map Answer x.d.inbox) ++ map Ask asks) ((x.manager ++ map Ask x.a.inbox) ++ map Answer answers)
   run-round o p asks answers y z does_a does_d =
-      let on_d : IsPrefix (answered x.client ++ x.d.inbox) (due_far_d a d j) = inbox-due rules_d x.d stands.d.pipe.crosses (answered x.client) stands.client_answered (due_far_d a d j) due-d in
-      let on_a : IsPrefix (asked x.manager ++ x.a.inbox) (due_far_a a d i) = inbox-due rules_a x.a stands.a.pipe.crosses (asked x.manager) stands.manager_asked (due_far_a a d i) due-a in
+      let on_d : IsPrefix (answered x.client ++ x.d.inbox) (due_far_d a d j) = inbox-due rules_d x.d stands.d.crosses (answered x.client) stands.client_answered (due_far_d a d j) due-d in
+      let on_a : IsPrefix (asked x.manager ++ x.a.inbox) (due_far_a a d i) = inbox-due rules_a x.a stands.a.crosses (asked x.manager) stands.manager_asked (due_far_a a d i) due-a in
       let client : ClientMoves a d j i x.client i (x.client ++ map Answer x.d.inbox) = client-takes-all a d j i x.client i x.client x.d.inbox client_rests on_d in
       let manager : ManagerMoves a d i j x.manager j (x.manager ++ map Ask x.a.inbox) = manager-takes-all a d i j x.manager j x.manager x.a.inbox manager_rests on_a in
       round i j (i + steps o) (j + steps p) x.client ((x.client ++ map Answer x.d.inbox) ++ map Ask asks)
@@ -80,11 +80,11 @@ module _ {C M : ℕ} (cw : IsWidth C) (mw : IsWidth M) (a : List (BeatOf HeadA C
 
     -- all beats of A that are due were taken
     asked-all : asked x.manager ≡ due_far_a a d i
-    asked-all = stands.manager_asked ∙ all-taken rules_a x.a stands.a.pipe.crosses a_rests ∙ due-a
+    asked-all = stands.manager_asked ∙ all-taken rules_a x.a stands.a.crosses a_rests ∙ due-a
 
     -- all beats of D that are due were taken
     answered-all : answered x.client ≡ due_far_d a d j
-    answered-all = stands.client_answered ∙ all-taken rules_d x.d stands.d.pipe.crosses d_rests ∙ due-d
+    answered-all = stands.client_answered ∙ all-taken rules_d x.d stands.d.crosses d_rests ∙ due-d
 
     -- the run is over
     is-over : IsOver a d i j x.client x.manager
@@ -119,7 +119,7 @@ module _ {C M : ℕ} (cw : IsWidth C) (mw : IsWidth M) (a : List (BeatOf HeadA C
     a-verdict =
         let s : State = settled_state a d in
         stop-verdict rules_a a i (client_answer x.client) x.a.accepted (stops_a a d i j) settled.a_answer (length far_a) stop_a a_stops
-        (handed-accepted rules_a x.a stands.a.pipe.crosses) a_sent.accepted ∙
+        (handed-accepted rules_a x.a stands.a.crosses) a_sent.accepted ∙
         ap (λ q. verdict-a-at i j q) far-a-is ∙ ap (λ n. verdict-a-at n j (due_far_a a d n)) settled.a_there ∙ ap (λ m. verdict-a-at s.a m (due_far_a a d s.a)) settled.d_there
 
     -- D ends with the verdict of the settled state
@@ -127,7 +127,7 @@ module _ {C M : ℕ} (cw : IsWidth C) (mw : IsWidth M) (a : List (BeatOf HeadA C
     d-verdict =
         let s : State = settled_state a d in
         stop-verdict rules_d d j (manager_answer x.manager) x.d.accepted (stops_d a d i j) settled.d_answer (length far_d) stop_d d_stops
-        (handed-accepted rules_d x.d stands.d.pipe.crosses) d_sent.accepted ∙
+        (handed-accepted rules_d x.d stands.d.crosses) d_sent.accepted ∙
         ap (λ q. verdict-d-at i j q) far-d-is ∙ ap (λ n. verdict-d-at n j (due_far_d a d j)) settled.a_there ∙ ap (λ m. verdict-d-at s.a m (due_far_d a d m)) settled.d_there
 
     pub run-end : IsSettledEnd

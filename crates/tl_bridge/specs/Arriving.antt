@@ -29,18 +29,18 @@ module _ {C M : ℕ} where
 
   -- the lists have room for all that stands in the inboxes
   pub record HasRoomForInboxes (s : Bridge C M) (t : Taken C M) : Type 0 where
-    pub a : vec_len t.a + length s.a.pipe.inbox ≤ vec_capacity t.a
+    pub a : vec_len t.a + length s.a.inbox ≤ vec_capacity t.a
     pub b : vec_len t.b + length s.b.inbox ≤ vec_capacity t.b
     pub c : vec_len t.c + length s.c.inbox ≤ vec_capacity t.c
-    pub d : vec_len t.d + length s.d.pipe.inbox ≤ vec_capacity t.d
+    pub d : vec_len t.d + length s.d.inbox ≤ vec_capacity t.d
     pub e : vec_len t.e + length s.e.inbox ≤ vec_capacity t.e
 
   -- all that stood in the inboxes stands in the lists, behind what stood there
   pub record HasTaken (s : Bridge C M) (old new : Taken C M) : Type 0 where
-    pub a : new.a.items ≡ old.a.items ++ s.a.pipe.inbox
+    pub a : new.a.items ≡ old.a.items ++ s.a.inbox
     pub b : new.b.items ≡ old.b.items ++ s.b.inbox
     pub c : new.c.items ≡ old.c.items ++ s.c.inbox
-    pub d : new.d.items ≡ old.d.items ++ s.d.pipe.inbox
+    pub d : new.d.items ≡ old.d.items ++ s.d.inbox
     pub e : new.e.items ≡ old.e.items ++ s.e.inbox
 
   -- the lists have as much room as before

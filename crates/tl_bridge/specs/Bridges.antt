@@ -17,23 +17,20 @@ use Rattle.tl_ring.specs.Crossing.{World, empty, offered, pushed, popped, took, 
 use Rattle.tl_ring.specs.Pipe.{Pipe}
 use Rattle.tl_ring.specs.Pipe as piping
 use Rattle.tl_ring.specs.declared.standing.Standing.{Standing}
-use Rattle.tl_bridge.specs.declared.tables.Request.{Request}
 use Rattle.tl_bridge.specs.Requests.{is_release_ack}
-use Rattle.tl_bridge.specs.Histories.{Event, Ask, Answer, Mark, asked, answered, marks, open_request, to_request, manager_home, manager_homes}
-use Rattle.tl_bridge.specs.Tables.{AreBusy, AreOpen}
-use Rattle.tl_bridge.specs.Tracked.{Tracked}
-use Rattle.tl_bridge.specs.Tracked as tracking
+use Rattle.tl_bridge.specs.Histories.{Event, Ask, Answer, Mark, asked, answered, open_request, to_request, manager_home, manager_homes}
+use Rattle.tl_bridge.specs.Books.{Client, Manager, KnowsClient, KnowsManager}
 
 -- a bridge as it is now: it keeps no history
 pub record Bridge (C M : ℕ) : Type 0 where
-  pub a : Tracked HeadA M
+  pub a : Pipe HeadA M
   pub b : Pipe HeadB C
   pub c : Pipe HeadC M
-  pub d : Tracked HeadD C
+  pub d : Pipe HeadD C
   pub e : Pipe HeadE M
-  -- the busy sources of the client's side, and the open requests of the manager's
-  pub sources : List Bool
-  pub requests : List (Option Request)
+  -- what each side keeps of its own beats
+  pub client : Client
+  pub manager : Manager
 
 -- what has happened at a bridge: the history of each side, and what crossed on each channel
 pub record Past (C M : ℕ) : Type 0 where
@@ -48,10 +45,10 @@ pub record Past (C M : ℕ) : Type 0 where
 -- a bridge stands for a past
 pub record StandsFor {C M : ℕ} (s : Bridge C M) (x : Past C M) : Type 0 where
   -- each of its crossings is where that of the past is
-  pub a : tracking.StandsFor rules_a s.a x.a
+  pub a : piping.StandsFor rules_a s.a x.a
   pub b : piping.StandsFor rules_b s.b x.b
   pub c : piping.StandsFor rules_c s.c x.c
-  pub d : tracking.StandsFor rules_d s.d x.d
+  pub d : piping.StandsFor rules_d s.d x.d
   pub e : piping.StandsFor rules_e s.e x.e
   -- the histories are those of the crossings A and D
   pub client_asked : asked x.client ≡ x.a.accepted
@@ -60,9 +57,9 @@ pub record StandsFor {C M : ℕ} (s : Bridge C M) (x : Past C M) : Type 0 where
   pub manager_answered : answered x.manager ≡ x.d.accepted
   -- the home of each message of D is the one that the manager's history gave it
   pub homes : manager_homes x.manager ≡ x.d.homes
-  -- a source is busy, and a request open, where the history of its side says so
-  pub sources : AreBusy s.sources (marks x.client)
-  pub requests : AreOpen s.requests (marks x.manager)
+  -- each side's book is kept up to its history
+  pub client : KnowsClient s.client x.client
+  pub manager : KnowsManager s.manager x.manager
 
 -- what stops a beat on a channel that nothing couples to another one; None is Ok
 abbrev pub stops_alone : {H : Type 0} (r : Rules H) {w : ℕ} → List (BeatOf H w) → BeatOf H w → Option SideFault
@@ -154,24 +151,24 @@ module _ {C M : ℕ} where
   -- a bridge pumps, or fetches, on all channels
   abbrev pub after_pump : Bridge C M → Past C M → Past C M
   after_pump s x = record x {
-    a = pushed (pump_count s.a.pipe) x.a;
+    a = pushed (pump_count s.a) x.a;
     b = pushed (pump_count s.b) x.b;
     c = pushed (pump_count s.c) x.c;
-    d = pushed (pump_count s.d.pipe) x.d;
+    d = pushed (pump_count s.d) x.d;
     e = pushed (pump_count s.e) x.e;
   }
 
   abbrev pub after_fetch : Bridge C M → Past C M → Past C M
   after_fetch s x = record x {
-    a = popped (fetch_count s.a.pipe) x.a;
+    a = popped (fetch_count s.a) x.a;
     b = popped (fetch_count s.b) x.b;
     c = popped (fetch_count s.c) x.c;
-    d = popped (fetch_count s.d.pipe) x.d;
+    d = popped (fetch_count s.d) x.d;
     e = popped (fetch_count s.e) x.e;
   }
 
   abbrev pub all_pumped : Bridge C M → ℕ
-  all_pumped s = pump_count s.a.pipe + pump_count s.b + pump_count s.c + pump_count s.d.pipe + pump_count s.e
+  all_pumped s = pump_count s.a + pump_count s.b + pump_count s.c + pump_count s.d + pump_count s.e
 
   abbrev pub all_fetched : Bridge C M → ℕ
-  all_fetched s = fetch_count s.a.pipe + fetch_count s.b + fetch_count s.c + fetch_count s.d.pipe + fetch_count s.e
+  all_fetched s = fetch_count s.a + fetch_count s.b + fetch_count s.c + fetch_count s.d + fetch_count s.e

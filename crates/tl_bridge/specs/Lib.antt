@@ -6,7 +6,7 @@ pub mod Histories
 pub mod Rounds
 pub mod Tables
 pub mod Laws
-pub mod Tracked
+pub mod Books
 pub mod Bridges
 pub mod Running
 pub mod Arriving

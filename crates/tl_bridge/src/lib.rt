@@ -1,8 +1,8 @@
 //! The two sides of the bridge: what ties channel D to channel A, and what a script settles to.
 #![tactic(auto)]
 
+mod books;
 pub mod laws;
-mod noting;
 mod offering;
 mod outcome;
 mod rounds;
@@ -16,7 +16,6 @@ mod tables;
 mod taking;
 #[cfg(test)]
 mod tests;
-mod tracked_pipe;
 
 pub use outcome::{Outcome, RunFault};
 pub use sync_bridge::{Standings, SyncBridge};

@@ -12,11 +12,7 @@ ghost use Rattle.tl_bridge.specs.Bridges.{after_offer_a, after_offer_b, after_of
 ghost use Rattle.tl_bridge.specs.Bridges.{after_take_a, after_take_b, after_take_c, after_take_d, after_take_e};
 ghost use Rattle.tl_bridge.specs.Bridges.{after_close_a, after_close_b, after_close_c, after_close_d, after_close_e};
 
-use crate::noting::{
-    ask_for_home, ask_for_source, note_answered, note_asked, note_request, note_response,
-};
-use crate::tables::{RequestTable, SourceTable};
-use crate::tracked_pipe::TrackedPipe;
+use crate::books::{ClientBook, ManagerBook};
 use std::alloc::{Allocator, Global};
 use std::marker::Model;
 use tl_msg::{
@@ -46,13 +42,13 @@ pub struct Standings {
 /// which a source is busy and a request is open: this project's choice).
 #[derive(Drop)]
 pub struct SyncBridge<const C: usize, const M: usize, A: Allocator = Global> {
-    a: TrackedPipe<ChA, C, M, A>,
+    a: SyncPipe<ChA, C, M, A>,
     b: SyncPipe<ChB, M, C, A>,
     c: SyncPipe<ChC, C, M, A>,
-    d: TrackedPipe<ChD, M, C, A>,
+    d: SyncPipe<ChD, M, C, A>,
     e: SyncPipe<ChE, C, M, A>,
-    sources: SourceTable,
-    requests: RequestTable,
+    client: ClientBook<C>,
+    manager: ManagerBook<M>,
 }
 
 impl<const C: usize, const M: usize, A: Allocator> Model for SyncBridge<C, M, A> {
@@ -66,25 +62,26 @@ impl<const C: usize, const M: usize, A: Allocator> Model for SyncBridge<C, M, A>
       c = s.c;
       d = s.d;
       e = s.e;
-      sources = s.sources;
-      requests = s.requests;
+      client = s.client;
+      manager = s.manager;
     } };
 }
 
 // Offers a beat on a channel that nothing couples to another one.
 fn offer_alone<K: Channel, const W: usize, const V: usize, A: Allocator>(
     pipe: &mut SyncPipe<K, W, V, A>,
-    beat: Beat<K, W>,
+    beat: &Beat<K, W>,
 ) -> Result<(), SideFault>
     requires near { IsWidth W }
     requires far { IsWidth V }
     requires ready { IsReady pipe.old }
-    ensures admitted { (x : World K.Head W V) → piping.StandsFor K.rules pipe.old x → IsOk result ↔ (stops_alone K.rules x.accepted beat ≡ None) }
-    ensures accepted { (x : World K.Head W V) → piping.StandsFor K.rules pipe.old x → OnOk result (piping.StandsFor K.rules pipe.new (offered K.rules beat 0 x)) }
-    ensures fault { (x : World K.Head W V) → piping.StandsFor K.rules pipe.old x → IfErr result (λ fault. stops_alone K.rules x.accepted beat ≡ Some fault) }
+    ensures admitted { (x : World K.Head W V) → piping.StandsFor K.rules pipe.old x → IsOk result ↔ (stops_alone K.rules x.accepted beat.now ≡ None) }
+    ensures accepted { (x : World K.Head W V) → piping.StandsFor K.rules pipe.old x → OnOk result (piping.StandsFor K.rules pipe.new (offered K.rules beat.now 0 x)) }
+    ensures fault { (x : World K.Head W V) → piping.StandsFor K.rules pipe.old x → IfErr result (λ fault. stops_alone K.rules x.accepted beat.now ≡ Some fault) }
     ensures refused { OnErr result (pipe.new ≡ pipe.old) }
 {
-    pipe.offer(beat, 0)?;
+    let place = pipe.check(beat)?;
+    pipe.offer_at(beat, place, 0);
     Ok(())
 }
 
@@ -98,10 +95,10 @@ impl<const C: usize, const M: usize, A: Allocator + Copy> SyncBridge<C, M, A> {
         ensures size { IsOk result → (1 ≤ ring) × (ring ≤ 4096) }
         ensures ring_size { IfErr result (λ fault. (fault ≡ BuildFault.RingSize) ↔ ((ring ≡ 0) ⊎ (4096 < ring))) }
     {
-        let a = TrackedPipe::new(alloc, ring)?;
+        let a = SyncPipe::new(alloc, ring)?;
         let b = SyncPipe::new(alloc, ring)?;
         let c = SyncPipe::new(alloc, ring)?;
-        let d = TrackedPipe::new(alloc, ring)?;
+        let d = SyncPipe::new(alloc, ring)?;
         let e = SyncPipe::new(alloc, ring)?;
         Ok(SyncBridge {
             a,
@@ -109,8 +106,8 @@ impl<const C: usize, const M: usize, A: Allocator + Copy> SyncBridge<C, M, A> {
             c,
             d,
             e,
-            sources: SourceTable::new(),
-            requests: RequestTable::new(),
+            client: ClientBook::new(),
+            manager: ManagerBook::new(),
         })
     }
 }
@@ -118,7 +115,7 @@ impl<const C: usize, const M: usize, A: Allocator + Copy> SyncBridge<C, M, A> {
 impl<const C: usize, const M: usize, A: Allocator> SyncBridge<C, M, A> {
     /// Whether a beat of A may be offered: nothing of A is staged, and the channel isn't closed.
     pub fn ready_a(&self) -> bool
-        ensures { IsTrue result ↔ IsReady self.now.a.pipe }
+        ensures { IsTrue result ↔ IsReady self.now.a }
     {
         self.a.ready()
     }
@@ -139,7 +136,7 @@ impl<const C: usize, const M: usize, A: Allocator> SyncBridge<C, M, A> {
 
     /// Whether a beat of D may be offered: nothing of D is staged, and the channel isn't closed.
     pub fn ready_d(&self) -> bool
-        ensures { IsTrue result ↔ IsReady self.now.d.pipe }
+        ensures { IsTrue result ↔ IsReady self.now.d }
     {
         self.d.ready()
     }
@@ -157,17 +154,15 @@ impl<const C: usize, const M: usize, A: Allocator> SyncBridge<C, M, A> {
     pub fn offer_a(&mut self, beat: BeatOf<HeadA, C>) -> Result<(), SideFault>
         requires client { IsWidth C }
         requires manager { IsWidth M }
-        requires ready { IsReady self.old.a.pipe }
+        requires ready { IsReady self.old.a }
         ensures admitted { (x : Past C M) → StandsFor self.old x → IsOk result ↔ (client_answer x.client beat.entry ≡ None) }
         ensures accepted { (x : Past C M) → StandsFor self.old x → OnOk result (StandsFor self.new (after_offer_a beat.entry x)) }
         ensures fault { (x : Past C M) → StandsFor self.old x → IfErr result (λ fault. client_answer x.client beat.entry ≡ Some fault) }
         ensures refused { OnErr result (self.new ≡ self.old) }
     {
         let place = self.a.check(&beat)?;
-        let first = self.a.opens();
-        ask_for_source(&self.sources, &beat.head, first)?;
-        self.a.offer(beat, place, 0)?;
-        note_asked(&mut self.sources, &beat.head, first);
+        self.client.ask(&place)?;
+        self.a.offer_at(&beat, place, 0);
         Ok(())
     }
 
@@ -182,7 +177,7 @@ impl<const C: usize, const M: usize, A: Allocator> SyncBridge<C, M, A> {
         ensures fault { (x : Past C M) → StandsFor self.old x → IfErr result (λ fault. stops_alone rules_b x.b.accepted beat.entry ≡ Some fault) }
         ensures refused { OnErr result (self.new ≡ self.old) }
     {
-        offer_alone::<ChB, M, C, A>(&mut self.b, beat)
+        offer_alone::<ChB, M, C, A>(&mut self.b, &beat)
     }
 
     /// The client's side offers a beat of C where C is ready. It is refused exactly with the beat's own fault, and nothing changes
@@ -196,7 +191,7 @@ impl<const C: usize, const M: usize, A: Allocator> SyncBridge<C, M, A> {
         ensures fault { (x : Past C M) → StandsFor self.old x → IfErr result (λ fault. stops_alone rules_c x.c.accepted beat.entry ≡ Some fault) }
         ensures refused { OnErr result (self.new ≡ self.old) }
     {
-        offer_alone::<ChC, C, M, A>(&mut self.c, beat)
+        offer_alone::<ChC, C, M, A>(&mut self.c, &beat)
     }
 
     /// The manager's side offers a beat of D where D is ready. It is refused with the beat's own fault, else, where it opens a
@@ -206,17 +201,15 @@ impl<const C: usize, const M: usize, A: Allocator> SyncBridge<C, M, A> {
     pub fn offer_d(&mut self, beat: BeatOf<HeadD, M>) -> Result<(), SideFault>
         requires client { IsWidth C }
         requires manager { IsWidth M }
-        requires ready { IsReady self.old.d.pipe }
+        requires ready { IsReady self.old.d }
         ensures admitted { (x : Past C M) → StandsFor self.old x → IsOk result ↔ (manager_answer x.manager beat.entry ≡ None) }
         ensures accepted { (x : Past C M) → StandsFor self.old x → OnOk result (StandsFor self.new (after_offer_d beat.entry x)) }
         ensures fault { (x : Past C M) → StandsFor self.old x → IfErr result (λ fault. manager_answer x.manager beat.entry ≡ Some fault) }
         ensures refused { OnErr result (self.new ≡ self.old) }
     {
         let place = self.d.check(&beat)?;
-        let first = self.d.opens();
-        let home = ask_for_home(&self.requests, &beat.head, first)?;
-        self.d.offer(beat, place, home)?;
-        note_response(&mut self.requests, &beat.head, first);
+        let home = self.manager.answer(&place)?;
+        self.d.offer_at(&beat, place, home);
         Ok(())
     }
 
@@ -230,18 +223,17 @@ impl<const C: usize, const M: usize, A: Allocator> SyncBridge<C, M, A> {
         ensures fault { (x : Past C M) → StandsFor self.old x → IfErr result (λ fault. stops_alone rules_e x.e.accepted beat.entry ≡ Some fault) }
         ensures refused { OnErr result (self.new ≡ self.old) }
     {
-        offer_alone::<ChE, C, M, A>(&mut self.e, beat)
+        offer_alone::<ChE, C, M, A>(&mut self.e, &beat)
     }
 
     /// The manager's side takes the first beat of A's inbox. None exactly where it is empty. A first beat begins its request: from now on it may be answered.
     pub fn take_a(&mut self) -> Option<BeatOf<HeadA, M>>
         requires far { IsWidth M }
-        ensures beat { result ≡ slice_get self.old.a.pipe.inbox 0 }
+        ensures beat { result ≡ slice_get self.old.a.inbox 0 }
         ensures taken { (x : Past C M) → StandsFor self.old x → StandsFor self.new (after_take_a x) }
     {
-        let first = self.a.opens_there();
         let beat = self.a.take()?;
-        note_request(&mut self.requests, &beat.head, first);
+        self.manager.note_ask(&beat.head);
         Some(beat)
     }
 
@@ -264,12 +256,11 @@ impl<const C: usize, const M: usize, A: Allocator> SyncBridge<C, M, A> {
     /// The client's side takes the first beat of D's inbox. None exactly where it is empty. A first beat other than of ReleaseAck frees its source.
     pub fn take_d(&mut self) -> Option<BeatOf<HeadD, C>>
         requires far { IsWidth C }
-        ensures beat { result ≡ slice_get self.old.d.pipe.inbox 0 }
+        ensures beat { result ≡ slice_get self.old.d.inbox 0 }
         ensures taken { (x : Past C M) → StandsFor self.old x → StandsFor self.new (after_take_d x) }
     {
-        let first = self.d.opens_there();
         let beat = self.d.take()?;
-        note_answered(&mut self.sources, &beat.head, first);
+        self.client.note_answer(&beat.head);
         Some(beat)
     }
 
@@ -286,7 +277,7 @@ impl<const C: usize, const M: usize, A: Allocator> SyncBridge<C, M, A> {
     pub fn close_a(&mut self) -> Result<(), EndFault>
         ensures between { (x : Past C M) → StandsFor self.old x → IsOk result ↔ (rest_of rules_a C x.a.accepted ≡ []) }
         ensures closed { (x : Past C M) → StandsFor self.old x → OnOk result (StandsFor self.new (after_close_a x)) }
-        ensures again { self.old.a.pipe.closed ≡ true → IsOk result × (self.new ≡ self.old) }
+        ensures again { self.old.a.closed ≡ true → IsOk result × (self.new ≡ self.old) }
         ensures refused { OnErr result (self.new ≡ self.old) }
     {
         self.a.close()
@@ -319,7 +310,7 @@ impl<const C: usize, const M: usize, A: Allocator> SyncBridge<C, M, A> {
     pub fn close_d(&mut self) -> Result<(), EndFault>
         ensures between { (x : Past C M) → StandsFor self.old x → IsOk result ↔ (rest_of rules_d M x.d.accepted ≡ []) }
         ensures closed { (x : Past C M) → StandsFor self.old x → OnOk result (StandsFor self.new (after_close_d x)) }
-        ensures again { self.old.d.pipe.closed ≡ true → IsOk result × (self.new ≡ self.old) }
+        ensures again { self.old.d.closed ≡ true → IsOk result × (self.new ≡ self.old) }
         ensures refused { OnErr result (self.new ≡ self.old) }
     {
         self.d.close()
@@ -366,10 +357,10 @@ impl<const C: usize, const M: usize, A: Allocator> SyncBridge<C, M, A> {
 
     /// How many far beats stand in the stage, the ring and the inbox of each channel.
     pub fn standings(&self) -> Standings
-        ensures a { IsStanding self.now.a.pipe result.a }
+        ensures a { IsStanding self.now.a result.a }
         ensures b { IsStanding self.now.b result.b }
         ensures c { IsStanding self.now.c result.c }
-        ensures d { IsStanding self.now.d.pipe result.d }
+        ensures d { IsStanding self.now.d result.d }
         ensures e { IsStanding self.now.e result.e }
     {
         Standings {

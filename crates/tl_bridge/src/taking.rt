@@ -62,9 +62,9 @@ fn take_all_a<const C: usize, const M: usize>(
 )
     requires far { IsWidth M }
     requires past { HasPast bridge.old }
-    requires room { vec_len far.old + length bridge.old.a.pipe.inbox ≤ vec_capacity far.old }
+    requires room { vec_len far.old + length bridge.old.a.inbox ≤ vec_capacity far.old }
     ensures taken { (x : Past C M) → StandsFor bridge.old x → StandsFor bridge.new (after_takes_a x) }
-    ensures far { far.new.items ≡ far.old.items ++ bridge.old.a.pipe.inbox }
+    ensures far { far.new.items ≡ far.old.items ++ bridge.old.a.inbox }
     ensures capacity { vec_capacity far.new ≡ vec_capacity far.old }
 {
     'beats: while let Some(beat) = bridge.take_a() {
@@ -111,9 +111,9 @@ fn take_all_d<const C: usize, const M: usize>(
 )
     requires far { IsWidth C }
     requires past { HasPast bridge.old }
-    requires room { vec_len far.old + length bridge.old.d.pipe.inbox ≤ vec_capacity far.old }
+    requires room { vec_len far.old + length bridge.old.d.inbox ≤ vec_capacity far.old }
     ensures taken { (x : Past C M) → StandsFor bridge.old x → StandsFor bridge.new (after_takes_d x) }
-    ensures far { far.new.items ≡ far.old.items ++ bridge.old.d.pipe.inbox }
+    ensures far { far.new.items ≡ far.old.items ++ bridge.old.d.inbox }
     ensures capacity { vec_capacity far.new ≡ vec_capacity far.old }
 {
     'beats: while let Some(beat) = bridge.take_d() {

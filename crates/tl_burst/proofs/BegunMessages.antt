@@ -16,6 +16,26 @@ module _ {H : Type 0} (r : Rules H) (w : ℕ) where
   left-after zero (x ∷ xs) others e = absurd (omega arith)
   left-after (suc k) (x ∷ xs) others e = left-after k xs others (omega arith)
 
+  -- one beat more
+  left-snoc : (k : ℕ) (bs : List (BeatOf H w)) (b : BeatOf H w) → left_from r w k (bs ++ b ∷ []) ≡ left_from r w (left_from r w k bs) (b ∷ [])
+  left-snoc k [] b = refl
+  left-snoc zero (x ∷ bs) b = left-snoc (beats_of r x.head w - 1) bs b
+  left-snoc (suc k) (x ∷ bs) b = left-snoc k bs b
+
+  left-first : (n : ℕ) (b : BeatOf H w) → n ≡ 0 → left_from r w n (b ∷ []) ≡ beats_of r b.head w - 1
+  left-first zero b e = refl
+  left-first (suc n) b e = absurd (omega arith)
+
+  left-later : (n : ℕ) (b : BeatOf H w) → n ≢ 0 → left_from r w n (b ∷ []) ≡ n - 1
+  left-later zero b ne = absurd (ne refl)
+  left-later (suc n) b ne = omega arith
+
+  pub left-begins : (bs : List (BeatOf H w)) (b : BeatOf H w) → left r w bs ≡ 0 → left r w (bs ++ b ∷ []) ≡ beats_of r b.head w - 1
+  left-begins bs b e = left-snoc 0 bs b ∙ left-first (left r w bs) b e
+
+  pub left-goes : (bs : List (BeatOf H w)) (b : BeatOf H w) → left r w bs ≢ 0 → left r w (bs ++ b ∷ []) ≡ left r w bs - 1
+  left-goes bs b ne = left-snoc 0 bs b ∙ left-later (left r w bs) b ne
+
   left-inside : (k : ℕ) (xs : List (BeatOf H w)) → length xs ≤ k → left_from r w k xs ≡ k - length xs
   left-inside zero [] le = refl
   left-inside (suc k) [] le = omega arith

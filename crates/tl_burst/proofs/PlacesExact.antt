@@ -1,5 +1,5 @@
 -- The places of beats without a fault.
-use Rattle.std.proofs.Common.{◌≡◌, ◌+◌, ◌==◌, ◌↔◌, ℕ, Bool, true, false, not, if◌then◌else◌, Option, None, Some, replicate, refl, sym, ap, ◌∙◌, eq-eqb}
+use Rattle.std.proofs.Common.{◌≡◌, ◌<◌, ◌+◌, ◌==◌, ◌↔◌, ◌++◌, ℕ, Bool, true, false, not, if◌then◌else◌, Option, None, Some, Result, Ok, Err, IsOk, IfOk, List, [], ◌∷◌, length, replicate, refl, sym, ap, subst, ◌∙◌, arith, eq-eqb, length-append}
 use Rattle.std.specs.Prelude.{◌||◌}
 use Rattle.std.specs.Int.Bits.{and_self, bit_and}
 use Rattle.tl_lanes.specs.Lanes.{IsWidth}
@@ -9,11 +9,13 @@ use Rattle.tl_msg.specs.Faults.{is_within, full_mask, mask_fits, is_clean}
 use Rattle.tl_msg.specs.declared.beat.BeatOf.{BeatOf}
 use Rattle.tl_msg.specs.declared.fault.BeatFault.TheVariants.{Mask, Corrupt, HeadChanged}
 use Rattle.tl_msg.proofs.Firsts.{both_none, unless_true}
-use Rattle.tl_burst.specs.Messages.{beats_of}
-use Rattle.tl_burst.specs.Handing.{fault_in}
+use Rattle.tl_burst.specs.Messages.{Message, beats_of}
+use Rattle.tl_burst.specs.Handing.{Handed, burst_of, burst_after, fault_in}
 use Rattle.tl_burst.specs.Tracking.{IsOpen, IsPlace, IsPlaceOf}
 use Rattle.tl_burst.specs.declared.place.Place.{Place}
-use Rattle.tl_burst.proofs.FaultsExact.{ChannelLaws, none-lawful, none-held}
+use Rattle.tl_burst.proofs.Admitted.{Open, open-of}
+use Rattle.tl_burst.proofs.FaultsExact.{ChannelLaws, none-lawful, none-held, begun-lawful}
+use Rattle.tl_burst.proofs.RestOf.{RestIs, some-first}
 use Rattle.tl_burst.proofs.Steps.{place-within}
 
 -- the mask of all active lanes is one that a message may have
@@ -61,3 +63,36 @@ module _ {H : Type 0} (r : Rules H) (w : ℕ) (ww : IsWidth w) (laws : ChannelLa
           last = is.last ∙ ap (λ h. place.index + 1 == beats_of r h w) (sym is.head);
         },
   )
+
+  -- what a check says of a beat without a fault is that it stands at the place
+  pub place-told : {K E : Type 0} (burst : Option (H × ℕ)) (b : BeatOf H w) (answer : Result (Place K H) E) → IsOk answer ↔ (fault_in r burst b ≡ None) →
+      IfOk answer (λ place. place.head ≡ b.head) → IfOk answer (IsPlace r w burst) → IfOk answer (IsPlaceOf r w burst b)
+  place-told burst b (Ok place) accepts head is = record {
+    accepted = accepts.0 refl;
+    head = head;
+    index = is.index;
+    last = is.last ∙ ap (λ h. place.index + 1 == beats_of r h w) head;
+  }
+  place-told burst b (Err e) accepts head is = tt
+
+  -- handed beats leave such a burst open, or none
+  begun-inside : {homes : List ℕ} (b : BeatOf H w) (rest : List (BeatOf H w)) → Open r w homes (b ∷ rest) → length (b ∷ rest) < beats_of r b.head w
+  begun-inside b rest o =
+      let same : beats_of r b.head w ≡ beats_of r o.m.head w = ap (λ h. beats_of r h w) (o.spells.each 0 b refl).head in
+      let count : length ((b ∷ rest) ++ o.more) ≡ beats_of r o.m.head w = o.spells.count in
+      let (x, xs, some) = some-first o.more o.wants in
+      let more : length o.more ≡ length (x ∷ xs) = ap length some in
+      omega (arith, length-append (b ∷ rest) o.more)
+
+  open-rest : {bs : List (BeatOf H w)} {homes : List ℕ} {ms : List (Message H)} (rest : List (BeatOf H w)) → Handed r w bs homes ms rest →
+      IsOpen r w (burst_of r rest)
+  open-rest [] handed = tt
+  open-rest (b ∷ rest) handed = (begun-lawful r w ww laws handed b.head refl, omega arith, begun-inside b rest (open-of r w handed (λ e. cc)))
+
+  -- so the place of a beat that may come after them is one that `advance` takes
+  pub place-after : {K : Type 0} {bs : List (BeatOf H w)} {homes : List ℕ} {ms : List (Message H)} {rest : List (BeatOf H w)} → Handed r w bs homes ms rest →
+      (burst : Option (H × ℕ)) (b : BeatOf H w) (place : Place K H) → burst ≡ burst_after r bs → IsPlaceOf r w burst b place → IsPlace r w burst place
+  place-after {bs = bs} {rest = rest} handed burst b place e is =
+      let P : Option (H × ℕ) → Type 0 = λ o. IsOpen r w o in
+      let here : burst_of r rest ≡ burst = ap (λ xs. burst_of r xs) (RestIs r w handed) ∙ sym e in
+      (places-exact burst place (subst P here (open-rest rest handed))).1 (b, is)

@@ -5,18 +5,26 @@ use Rattle.tl_msg.specs.Beats.{IsBeat}
 use Rattle.tl_msg.specs.declared.beat.BeatOf.{BeatOf}
 use Rattle.tl_lanes.specs.Lanes.{IsWidth}
 use Rattle.tl_burst.specs.Messages.{beats_of}
+use Rattle.tl_burst.specs.Tracking.{IsPlace, IsPlaceOf}
+use Rattle.tl_burst.specs.declared.place.Place.{Place}
 use Rattle.tl_burst.specs.Handing.{IsHanded, IsHandedWith, IsAdmitted, rest_of, burst_after, fault_in, fault_after, homes_with}
 use Rattle.tl_burst.proofs.Fits.{FitsMask, head_of}
 use Rattle.tl_burst.proofs.RestOf.{RestIs}
 use Rattle.tl_burst.proofs.FaultsExact.{ChannelLaws, none-accepts, none-admitted, none-held, begun-lawful}
+use Rattle.tl_burst.proofs.PlacesExact.{place-after}
 use Rattle.tl_convert.specs.Due.{due}
 use Rattle.tl_convert.specs.Giving.{Run, Given}
-use Rattle.tl_convert.specs.Converting.{Progress, StandsFor}
+use Rattle.tl_convert.specs.Converting.{Progress, StandsFor, IsFed}
 use Rattle.tl_convert.proofs.ConvertStep.{run-of, due-grows, stands-more}
 
 -- beats that are handed with some homes are handed
 pub is-handed : {H : Type 0} {r : Rules H} {w : ℕ} {bs : List (BeatOf H w)} {homes : List ℕ} → IsHandedWith r bs homes → IsHanded r bs
 is-handed {homes = homes} (ms, rest, handed) = record { homes = homes; messages = ms; rest = rest; handed = handed }
+
+-- the place of a beat that may come next is one that the tracker takes
+pub place-next : {H K : Type 0} {w v : ℕ} (r : Rules H) → IsWidth w → ChannelLaws r → (state : Progress H v) → IsFed r w state →
+    (b : BeatOf H w) (place : Place K H) → IsPlaceOf r w state.burst b place → IsPlace r w state.burst place
+place-next {w = w} r ww laws state (bs, homes, stands) b place is = place-after r w ww laws stands.handed.2 state.burst b place stands.burst_is is
 
 -- a converter that has taken a beat
 pub record Fed {H : Type 0} {w v : ℕ} (r : Rules H) (new : Progress H v) (bs : List (BeatOf H w)) (homes : List ℕ) (b : BeatOf H w) (home : ℕ) (out : List (BeatOf H v)) : Type 0 where

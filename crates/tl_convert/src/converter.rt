@@ -1,15 +1,16 @@
-ghost use Rattle.std.specs.Prelude.{◌≡◌, ◌↔◌, ◌++◌, ◌∷◌, [], ℕ, Some, List, All, IfOk, IfErr, IsOk, OnOk, OnErr, IsTrue};
+ghost use Rattle.std.specs.Prelude.{◌≡◌, ◌↔◌, ◌++◌, ◌∷◌, [], ℕ, Some, List, All, IfOk, IfErr, IsOk, OnOk, OnErr, IsTrue, length};
 ghost use Rattle.tl_lanes.specs.Lanes.{IsWidth};
 ghost use Rattle.tl_msg.specs.Faults.{IsLawfulBeat};
 ghost use Rattle.tl_msg.specs.declared.beat.BeatOf.{BeatOf};
 ghost use Rattle.tl_burst.specs.Handing.{IsAdmitted, rest_of, fault_after, homes_with};
+ghost use Rattle.tl_burst.specs.Tracking.{IsPlaceOf};
 ghost use Rattle.tl_convert.specs.Due.{due};
 ghost use Rattle.tl_convert.specs.Converting.{StandsFor};
 
 use crate::giving::give;
 use arrayvec::ArrayVec;
 use std::marker::Model;
-use tl_burst::Tracker;
+use tl_burst::{Place, Tracker};
 use tl_msg::{Beat, BeatFault, Channel, ranges_of_beat};
 
 /// Gives the beats of one channel at another width: from a bus of `W` bytes to a bus of `V` bytes.
@@ -46,13 +47,68 @@ impl<K: Channel, const W: usize, const V: usize> Converter<K, W, V> {
         }
     }
 
-    /// Takes the next near beat, and gives the far beats that it completes, at most 64.
+    /// Whether `beat` may be the next near beat, and where it stands in its message. Nothing changes.
+    ///
+    /// The beat is refused with its first fault, exactly where it is not admitted after the beats that were fed: outside a burst
+    /// Opcode, Param, Size, Unaligned, Mask, Corrupt, and inside one HeadChanged, Mask.
+    pub fn check(&self, beat: &Beat<K, W>) -> Result<Place<K>, BeatFault>
+        requires { IsWidth W }
+
+        // for all near beats, with their homes, that the converter stands for
+        ensures admitted { (bs : List (BeatOf K.Head W)) (homes : List ℕ) →
+            StandsFor K.rules self.now bs homes → IsOk result ↔ IsAdmitted K.rules bs beat.now }
+        ensures fault { (bs : List (BeatOf K.Head W)) (homes : List ℕ) →
+            StandsFor K.rules self.now bs homes →
+            IfErr result (λ fault. fault_after K.rules bs beat.now ≡ Some fault) }
+        ensures index { (bs : List (BeatOf K.Head W)) (homes : List ℕ) →
+            StandsFor K.rules self.now bs homes →
+            IfOk result (λ place. place.index ≡ length (rest_of K.rules W bs)) }
+
+        // for every converter
+        ensures place { IfOk result (IsPlaceOf K.rules W self.now.burst beat.now) }
+    {
+        self.tracker.check(beat)
+    }
+
+    /// Takes the next near beat at its place, which [`Converter::check`] gave, and puts the far beats that it completes, at most 64,
+    /// into `out`, an empty list of the caller's.
     ///
     /// `home` is read at the first beat of a message on D alone. It may be any number; bytes then go on from lane 0 after the
     /// last lane.
-    ///
-    /// The beat is refused with its first fault, exactly where it is not admitted after the beats that were fed: outside a burst
-    /// Opcode, Param, Size, Unaligned, Mask, Corrupt, and inside one HeadChanged, Mask. A refusal changes nothing.
+    pub fn feed_at(
+        &mut self,
+        beat: &Beat<K, W>,
+        place: Place<K>,
+        home: u64,
+        out: &mut ArrayVec<Beat<K, V>, 64>,
+    )
+        requires near { IsWidth W }
+        requires far { IsWidth V }
+        requires place { IsPlaceOf K.rules W self.old.burst beat.now place }
+        requires empty { out.old.items ≡ [] }
+
+        // for all near beats, with their homes, that the converter stands for
+        ensures stands { (bs : List (BeatOf K.Head W)) (homes : List ℕ) →
+            StandsFor K.rules self.old bs homes →
+            StandsFor K.rules self.new (bs ++ beat.now ∷ []) (homes_with K.rules bs homes beat.now home) }
+        ensures due { (bs : List (BeatOf K.Head W)) (homes : List ℕ) →
+            StandsFor K.rules self.old bs homes →
+            due K.rules W V (bs ++ beat.now ∷ []) (homes_with K.rules bs homes beat.now home) ≡
+            due K.rules W V bs homes ++ out.new.items }
+
+        // for every converter
+        ensures lawful { All (λ b. IsLawfulBeat K.rules b) out.new.items }
+    {
+        ranges_of_beat::<K, W>(beat);
+        if place.index == 0 {
+            self.home = K::lane_address(&beat.head, home);
+        }
+        give::<K, W, V>(beat, &mut self.partial, self.home, place.index, out);
+        self.tracker.advance(place);
+    }
+
+    /// Takes the next near beat where [`Converter::check`] admits it, and gives the far beats that it completes, at most 64. The
+    /// home is read as [`Converter::feed_at`] reads it. A refusal changes nothing.
     pub fn feed(
         &mut self,
         beat: Beat<K, W>,
@@ -78,49 +134,10 @@ impl<K: Channel, const W: usize, const V: usize> Converter<K, W, V> {
         ensures lawful { IfOk result (λ out. All (λ b. IsLawfulBeat K.rules b) out.items) }
         ensures unchanged { OnErr result (self.new ≡ self.old) }
     {
+        let place = self.check(&beat)?;
         let mut out = ArrayVec::new();
-        self.feed_into(&beat, home, &mut out)?;
+        self.feed_at(&beat, place, home, &mut out);
         Ok(out)
-    }
-
-    /// Takes the next near beat as [`Converter::feed`] does, and puts the far beats that it completes into `out`, an empty list of
-    /// the caller's. A refusal leaves the list empty.
-    pub fn feed_into(
-        &mut self,
-        beat: &Beat<K, W>,
-        home: u64,
-        out: &mut ArrayVec<Beat<K, V>, 64>,
-    ) -> Result<(), BeatFault>
-        requires near { IsWidth W }
-        requires far { IsWidth V }
-        requires empty { out.old.items ≡ [] }
-
-        // for all near beats, with their homes, that the converter stands for
-        ensures admitted { (bs : List (BeatOf K.Head W)) (homes : List ℕ) →
-            StandsFor K.rules self.old bs homes → IsOk result ↔ IsAdmitted K.rules bs beat.now }
-        ensures fault { (bs : List (BeatOf K.Head W)) (homes : List ℕ) →
-            StandsFor K.rules self.old bs homes → IfErr result (λ fault. fault_after K.rules bs beat.now ≡ Some fault) }
-        ensures stands { (bs : List (BeatOf K.Head W)) (homes : List ℕ) →
-            StandsFor K.rules self.old bs homes →
-            OnOk result (StandsFor K.rules self.new (bs ++ beat.now ∷ []) (homes_with K.rules bs homes beat.now home)) }
-        ensures due { (bs : List (BeatOf K.Head W)) (homes : List ℕ) →
-            StandsFor K.rules self.old bs homes →
-            OnOk result (due K.rules W V (bs ++ beat.now ∷ []) (homes_with K.rules bs homes beat.now home) ≡
-            due K.rules W V bs homes ++ out.new.items) }
-
-        // for every converter
-        ensures lawful { OnOk result (All (λ b. IsLawfulBeat K.rules b) out.new.items) }
-        ensures unchanged { OnErr result (self.new ≡ self.old) }
-        ensures nothing { OnErr result (out.new ≡ out.old) }
-    {
-        ranges_of_beat::<K, W>(beat);
-        let place = self.tracker.check(beat)?;
-        if place.index == 0 {
-            self.home = K::lane_address(&beat.head, home);
-        }
-        give::<K, W, V>(beat, &mut self.partial, self.home, place.index, out);
-        self.tracker.advance(place);
-        Ok(())
     }
 
     /// Whether no burst is unfinished: every message whose first beat was fed is whole.

@@ -1,10 +1,13 @@
--- What an answer shows, from two other facts of it.
-use Rattle.std.specs.Prelude.{Result, Ok, Err, IsOk, OnOk, OnErr, refl}
+-- What an answer shows.
+use Rattle.std.specs.Prelude.{◌≡◌, ◌∷◌, Option, None, Some, IfSome, List, [], All, Result, Ok, Err, IsErr, IsOk, slice_get}
+use Rattle.std.proofs.Common.{subst, arith}
 
-pub on_ok_both : {T E P Q R : Type 0} (r : Result T E) → (IsOk r → P → Q → R) → OnOk r P → OnOk r Q → OnOk r R
-on_ok_both (Ok v) f p q = f refl p q
-on_ok_both (Err e) f p q = tt
+pub err_not_ok : {T E : Type 0} (r : Result T E) → IsErr r → IsOk r → ⊥
+err_not_ok (Ok y) e o = cc
+err_not_ok (Err y) e o = cc
 
-pub on_err_both : {T E P Q R : Type 0} (r : Result T E) → (P → Q → R) → OnErr r P → OnErr r Q → OnErr r R
-on_err_both (Ok v) f p q = tt
-on_err_both (Err e) f p q = f p q
+-- what holds of each item of a list holds of the first one, if there is one
+pub first_of_all : {A : Type 0} (P : A → Type 0) (xs : List A) (first : Option A) → first ≡ slice_get xs 0 → All P xs → IfSome first P
+first_of_all P xs None e all = tt
+first_of_all P [] (Some x) e all = absurd (cc)
+first_of_all P (y ∷ ys) (Some x) e all = let same : y ≡ x = cc in subst P same (all 0 y (omega arith))

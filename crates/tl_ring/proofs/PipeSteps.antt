@@ -119,8 +119,3 @@ module _ {H : Type 0} (r : Rules H) {w v : ℕ} (partial_masked : (h : H) → r.
   pub closed_between : (p : Pipe H v) (x : World H w v) → StandsFor r p x → p.closed ≡ true → rest_of r w x.accepted ≡ []
   closed_between p x h closed =
       sym (RestIs r w h.crosses.handed) ∙ h.crosses.closed_whole (sym h.closed ∙ closed)
-
--- a pipe with the same converter and stage is the same
-pub same_pipe : {H : Type 0} {v : ℕ} (p : Pipe H v) (c : Progress H v) (stage : List (BeatOf H v)) → c ≡ p.converter → stage ≡ p.stage →
-    ◌≡◌ {A = Pipe H v} (record p { converter = c; stage = stage }) p
-same_pipe p c stage e f = λ i. record p { converter = e i; stage = f i }

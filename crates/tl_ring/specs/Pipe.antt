@@ -1,7 +1,8 @@
 -- What a contract sees of the one-thread pipe.
-use Rattle.std.specs.Prelude.{◌≡◌, ℕ, Bool, true, false, List, []}
+use Rattle.std.specs.Prelude.{◌≡◌, ℕ, Bool, true, false, List, [], All}
 use Rattle.tl_lanes.specs.Lanes.{IsWidth}
 use Rattle.tl_msg.specs.Rules.{Rules}
+use Rattle.tl_msg.specs.Faults.{IsLawfulBeat}
 use Rattle.tl_msg.specs.declared.beat.BeatOf.{BeatOf}
 use Rattle.tl_convert.specs.Converting.{Progress}
 use Rattle.tl_convert.specs.Converting as converting
@@ -28,6 +29,10 @@ module _ {H : Type 0} {v : ℕ} where
   -- the pipe is closed and no beat is under way
   abbrev pub IsDrained : Pipe H v → Type 0
   IsDrained p = (p.closed ≡ true) × (p.stage ≡ []) × (p.ring ≡ []) × (p.inbox ≡ [])
+
+-- beats that are lawful each by itself
+abbrev pub AreLawful : {H : Type 0} → Rules H → {v : ℕ} → List (BeatOf H v) → Type 0
+AreLawful r bs = All (λ b. IsLawfulBeat r b) bs
 
 -- the pipe stands for a crossing, as its calls so far have made it
 pub record StandsFor {H : Type 0} (r : Rules H) {w v : ℕ} (p : Pipe H v) (x : World H w v) : Type 0 where

@@ -1,6 +1,8 @@
-ghost use Rattle.std.specs.Prelude.{◌≡◌, ◌≤◌, ◌<◌, ◌-◌, ◌↔◌, ◌⊎◌, [], length, min, slice_get, true, Some, IsOk, IsTrue, IfOk, IfErr, OnOk, OnErr};
+ghost use Rattle.std.specs.Prelude.{◌≡◌, ◌≤◌, ◌<◌, ◌-◌, ◌↔◌, ◌⊎◌, [], length, min, slice_get, true, Some, IsOk, IsTrue, IfOk, IfErr, IfSome, OnOk, OnErr};
 ghost use Rattle.tl_lanes.specs.Lanes.{IsWidth};
+ghost use Rattle.tl_msg.specs.Faults.{IsLawfulBeat};
 ghost use Rattle.tl_burst.specs.Handing.{IsAdmitted, rest_of, fault_after};
+ghost use Rattle.tl_burst.specs.Tracking.{IsPlaceOf};
 ghost use Rattle.tl_ring.specs.Crossing.{World, empty, offered, pushed, popped, took, shut, inbox_room};
 ghost use Rattle.tl_ring.specs.Pipe.{StandsFor, IsReady, IsDrained};
 
@@ -11,6 +13,7 @@ use crate::standing::Standing;
 use circular_buffer::HeapCircularBuffer;
 use std::alloc::{Allocator, Global};
 use std::marker::Model;
+use tl_burst::Place;
 use tl_convert::Converter;
 use tl_msg::{Beat, BeatFault, Channel};
 
@@ -34,7 +37,7 @@ pub struct SyncPipe<K: Channel, const W: usize, const V: usize, A: Allocator = G
 
 impl<K: Channel, const W: usize, const V: usize, A: Allocator> Model for SyncPipe<K, W, V, A> {
     ghost use Rattle.std.specs.Prelude.{◌≤◌};
-    ghost use Rattle.tl_ring.specs.Pipe.{Pipe};
+    ghost use Rattle.tl_ring.specs.Pipe.{Pipe, AreLawful};
 
     ghost Value = { Pipe K.Head V };
 
@@ -47,7 +50,8 @@ impl<K: Channel, const W: usize, const V: usize, A: Allocator> Model for SyncPip
       closed = p.closed;
     } };
 
-    ghost invariant = { λ p. (1 ≤ p.ring.capacity) × (p.ring.capacity ≤ 4096) };
+    ghost invariant = { λ p. (1 ≤ p.ring.capacity) × (p.ring.capacity ≤ 4096) ×
+        AreLawful K.rules p.stage × AreLawful K.rules p.ring.items × AreLawful K.rules p.inbox };
 }
 
 impl<K: Channel, const W: usize, const V: usize, A: Allocator> SyncPipe<K, W, V, A> {
@@ -83,10 +87,39 @@ impl<K: Channel, const W: usize, const V: usize, A: Allocator> SyncPipe<K, W, V,
         !self.closed && self.stage.is_empty()
     }
 
-    /// Offers a near beat where the pipe is ready. It is accepted exactly where no burst is interrupted and no rule of the link
-    /// broken by it after the beats that were accepted before, and the far beats that it completes, at most 64, are then staged.
-    /// Else it is refused with its first fault, and nothing changes. The home is read at a first beat of D alone, where it is the
-    /// address of the request that the message answers.
+    /// Whether `beat` may be the next near beat, and where it stands in its message. It is refused with its first fault, exactly
+    /// where a burst is interrupted or a rule of the link broken by it after the beats that were accepted before. Nothing changes.
+    pub fn check(&self, beat: &Beat<K, W>) -> Result<Place<K>, BeatFault>
+        requires { IsWidth W }
+        // for every crossing that the pipe stands for
+        ensures admitted { (x : World K.Head W V) → StandsFor K.rules self.now x →
+            IsOk result ↔ IsAdmitted K.rules x.accepted beat.now }
+        ensures first_fault { (x : World K.Head W V) → StandsFor K.rules self.now x →
+            IfErr result (λ fault. fault_after K.rules x.accepted beat.now ≡ Some fault) }
+        ensures index { (x : World K.Head W V) → StandsFor K.rules self.now x →
+            IfOk result (λ place. place.index ≡ length (rest_of K.rules W x.accepted)) }
+        // for every pipe
+        ensures place { IfOk result (IsPlaceOf K.rules W self.now.converter.burst beat.now) }
+    {
+        self.converter.check(beat)
+    }
+
+    /// Offers a near beat where the pipe is ready, at its place, which [`SyncPipe::check`] gave. The far beats that it completes,
+    /// at most 64, are then staged. The home is read at a first beat of D alone, where it is the address of the request that the
+    /// message answers.
+    pub fn offer_at(&mut self, beat: &Beat<K, W>, place: Place<K>, home: u64)
+        requires near { IsWidth W }
+        requires far { IsWidth V }
+        requires ready { IsReady self.old }
+        requires place { IsPlaceOf K.rules W self.old.converter.burst beat.now place }
+        ensures { (x : World K.Head W V) → StandsFor K.rules self.old x →
+            StandsFor K.rules self.new (offered K.rules beat.now home x) }
+    {
+        stage_beat(&mut self.converter, beat, place, home, &mut self.stage);
+    }
+
+    /// Offers a near beat where the pipe is ready. It is accepted exactly where [`SyncPipe::check`] admits it, as
+    /// [`SyncPipe::offer_at`] does. Else it is refused with its first fault, and nothing changes.
     pub fn offer(&mut self, beat: Beat<K, W>, home: u64) -> Result<(), BeatFault>
         requires near { IsWidth W }
         requires far { IsWidth V }
@@ -101,7 +134,9 @@ impl<K: Channel, const W: usize, const V: usize, A: Allocator> SyncPipe<K, W, V,
         // for every pipe
         ensures refused { OnErr result (self.new ≡ self.old) }
     {
-        stage_beat(&mut self.converter, &beat, home, &mut self.stage)
+        let place = self.check(&beat)?;
+        self.offer_at(&beat, place, home);
+        Ok(())
     }
 
     /// Moves staged beats to the ring, as many as it has room for, and answers their number.
@@ -128,9 +163,11 @@ impl<K: Channel, const W: usize, const V: usize, A: Allocator> SyncPipe<K, W, V,
         count
     }
 
-    /// Takes the first beat of the inbox. None exactly where the inbox is empty.
+    /// Takes the first beat of the inbox. None exactly where the inbox is empty. Each beat is lawful by itself: a new tracker of the
+    /// far width does not refuse it.
     pub fn take(&mut self) -> Option<Beat<K, V>>
         ensures beat { result ≡ slice_get self.old.inbox 0 }
+        ensures lawful { IfSome result (λ beat. IsLawfulBeat K.rules beat) }
         ensures taken { (x : World K.Head W V) → StandsFor K.rules self.old x →
             StandsFor K.rules self.new (took x) }
     {

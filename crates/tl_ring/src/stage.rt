@@ -1,15 +1,18 @@
 //! How a near beat gets into the stage.
-ghost use Rattle.std.specs.Prelude.{◌≡◌, ◌<◌, ◌^◌, ◌↔◌, ◌++◌, [], ◌∷◌, List, ℕ, Some, IsOk, OnOk, OnErr, IfErr};
+ghost use Rattle.std.specs.Prelude.{◌≡◌, ◌<◌, ◌^◌, ◌++◌, [], ◌∷◌, List, ℕ};
 ghost use Rattle.tl_lanes.specs.Lanes.{IsWidth};
 ghost use Rattle.tl_msg.specs.Beats.{IsBeat};
 ghost use Rattle.tl_msg.specs.declared.beat.BeatOf.{BeatOf};
-ghost use Rattle.tl_burst.specs.Handing.{IsAdmitted, homes_with, fault_after};
+ghost use Rattle.tl_burst.specs.Handing.{homes_with};
+ghost use Rattle.tl_burst.specs.Tracking.{IsPlaceOf};
 ghost use Rattle.tl_convert.specs.Due.{due};
 ghost use Rattle.tl_convert.specs.Converting as converting;
+ghost use Rattle.tl_ring.specs.Pipe.{AreLawful};
 
 use crate::queue::Queue;
+use tl_burst::Place;
 use tl_convert::Converter;
-use tl_msg::{Beat, BeatFault, Channel, ranges_of_beat};
+use tl_msg::{Beat, Channel, ranges_of_beat};
 
 // A beat and its home are such as memory can hold.
 fn is_beat<K: Channel, const W: usize>(beat: &Beat<K, W>, home: u64)
@@ -20,35 +23,31 @@ fn is_beat<K: Channel, const W: usize>(beat: &Beat<K, W>, home: u64)
     ranges_of_beat::<K, W>(beat);
 }
 
-// Feeds a near beat to the converter, and puts the far beats that it completes into the stage, which is empty.
+// Feeds a near beat at its place to the converter, and puts the far beats that it completes into the stage, which is empty.
 pub(crate) fn stage_beat<K: Channel, const W: usize, const V: usize>(
     converter: &mut Converter<K, W, V>,
     beat: &Beat<K, W>,
+    place: Place<K>,
     home: u64,
     stage: &mut Queue<Beat<K, V>>,
-) -> Result<(), BeatFault>
+)
     requires near { IsWidth W }
     requires far { IsWidth V }
+    requires place { IsPlaceOf K.rules W converter.old.burst beat.now place }
     requires empty { stage.old ≡ [] }
     ensures beat { IsBeat K.rules beat.now }
     ensures home { K.rules.lane_address beat.now.head home < 2 ^ 64 }
-    ensures admitted { (bs : List (BeatOf K.Head W)) (homes : List ℕ) →
-        converting.StandsFor K.rules converter.old bs homes → IsOk result ↔ IsAdmitted K.rules bs beat.now }
     ensures stands { (bs : List (BeatOf K.Head W)) (homes : List ℕ) →
         converting.StandsFor K.rules converter.old bs homes →
-        OnOk result (converting.StandsFor K.rules converter.new (bs ++ beat.now ∷ []) (homes_with K.rules bs homes beat.now home)) }
+        converting.StandsFor K.rules converter.new (bs ++ beat.now ∷ []) (homes_with K.rules bs homes beat.now home) }
     ensures due { (bs : List (BeatOf K.Head W)) (homes : List ℕ) →
         converting.StandsFor K.rules converter.old bs homes →
-        OnOk result (due K.rules W V (bs ++ beat.now ∷ []) (homes_with K.rules bs homes beat.now home) ≡
-        due K.rules W V bs homes ++ stage.new) }
-    ensures first_fault { (bs : List (BeatOf K.Head W)) (homes : List ℕ) →
-        converting.StandsFor K.rules converter.old bs homes →
-        IfErr result (λ fault. fault_after K.rules bs beat.now ≡ Some fault) }
-    ensures refused { OnErr result (converter.new ≡ converter.old) }
-    ensures stage { OnErr result (stage.new ≡ []) }
+        due K.rules W V (bs ++ beat.now ∷ []) (homes_with K.rules bs homes beat.now home) ≡
+        due K.rules W V bs homes ++ stage.new }
+    ensures lawful { AreLawful K.rules stage.new }
 {
     is_beat::<K, W>(beat, home);
     stage.items.clear();
     stage.first = 0;
-    converter.feed_into(beat, home, &mut stage.items)
+    converter.feed_at(beat, place, home, &mut stage.items);
 }

@@ -21,7 +21,7 @@ returns-in-Err g c = λ x k.
 pub returns-then-not-ready_a : goal.returns-then-not-ready_a
 returns-then-not-ready_a g c = λ x k.
     let some = read_some c.args.beats.now c.args.at c.in-Some.beat.now c.in-Some.ensures.lookup.0 c.in-Some.ensures.lookup.1 in
-    let waits = not_ready rules_a c.args.bridge.now.a.pipe x.a k.a.pipe (λ ready. let ok = c.if-not-ready_a.ensures.1 ready in cc) in
+    let waits = not_ready rules_a c.args.bridge.now.a x.a k.a (λ ready. let ok = c.if-not-ready_a.ensures.1 ready in cc) in
     let same = subst (λ es. StandsFor c.args.bridge.now (record x { client = es })) (sym (append-nil x.client)) k in
     ([], x.a, same, (c.in-Some.beat.now, some, waits, refl, refl))
 

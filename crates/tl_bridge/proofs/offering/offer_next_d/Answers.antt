@@ -21,7 +21,7 @@ returns-in-Err g c = λ x k.
 pub returns-then-not-ready_d : goal.returns-then-not-ready_d
 returns-then-not-ready_d g c = λ x k.
     let some = read_some c.args.beats.now c.args.at c.in-Some.beat.now c.in-Some.ensures.lookup.0 c.in-Some.ensures.lookup.1 in
-    let waits = not_ready rules_d c.args.bridge.now.d.pipe x.d k.d.pipe (λ ready. let ok = c.if-not-ready_d.ensures.1 ready in cc) in
+    let waits = not_ready rules_d c.args.bridge.now.d x.d k.d (λ ready. let ok = c.if-not-ready_d.ensures.1 ready in cc) in
     let same = subst (λ es. StandsFor c.args.bridge.now (record x { manager = es })) (sym (append-nil x.manager)) k in
     ([], x.d, same, (c.in-Some.beat.now, some, waits, refl, refl))
 

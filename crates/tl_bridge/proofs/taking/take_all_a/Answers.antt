@@ -5,31 +5,31 @@ use Rattle.tl_bridge.proofs.Draining.{emptying-begins, emptying-room, emptying-s
 use Rattle.tl_bridge.proofs.taking.take_all_a.Goals as goal
 
 pub beats-init : goal.beats-init
-beats-init g c = emptying-begins StandsFor after_takes_a (λ s. s.a.pipe.inbox) c.args.bridge.now c.args.far.now c.requires.past c.requires.room
+beats-init g c = emptying-begins StandsFor after_takes_a (λ s. s.a.inbox) c.args.bridge.now c.args.far.now c.requires.past c.requires.room
 
 pub push_reserved-requires : goal.push_reserved-requires
 push_reserved-requires g c =
-    emptying-room StandsFor after_takes_a (λ s. s.a.pipe.inbox) c.args.bridge.now c.args.far.now c.beats.bridge c.beats.far c.beats.invariant c.in-Some.beat c.in-Some.ensures.beat
+    emptying-room StandsFor after_takes_a (λ s. s.a.inbox) c.args.bridge.now c.args.far.now c.beats.bridge c.beats.far c.beats.invariant c.in-Some.beat c.in-Some.ensures.beat
 
 pub beats-smaller : goal.beats-smaller
 beats-smaller g c =
-    emptying-shorter StandsFor after_takes_a (λ s. s.a.pipe.inbox) c.args.bridge.now c.args.far.now c.beats.bridge c.beats.far c.beats.invariant after_take_a (λ x. x.a.inbox)
-    (λ s x h. h.a.pipe.inbox) (λ x. refl) c.take_a.new.self c.in-Some.ensures.taken c.in-Some.beat c.in-Some.ensures.beat
+    emptying-shorter StandsFor after_takes_a (λ s. s.a.inbox) c.args.bridge.now c.args.far.now c.beats.bridge c.beats.far c.beats.invariant after_take_a (λ x. x.a.inbox)
+    (λ s x h. h.a.inbox) (λ x. refl) c.take_a.new.self c.in-Some.ensures.taken c.in-Some.beat c.in-Some.ensures.beat
 
 pub beats-preserved : goal.beats-preserved
 beats-preserved g c =
-    emptying-goes-on StandsFor after_takes_a (λ s. s.a.pipe.inbox) c.args.bridge.now c.args.far.now c.beats.bridge c.beats.far c.beats.invariant after_take_a (λ x. x.a.inbox)
-    (λ s x h. h.a.pipe.inbox) (λ x. refl) c.take_a.new.self c.in-Some.ensures.taken c.in-Some.beat c.push_reserved.new.self c.in-Some.ensures.beat took-all-a
+    emptying-goes-on StandsFor after_takes_a (λ s. s.a.inbox) c.args.bridge.now c.args.far.now c.beats.bridge c.beats.far c.beats.invariant after_take_a (λ x. x.a.inbox)
+    (λ s x h. h.a.inbox) (λ x. refl) c.take_a.new.self c.in-Some.ensures.taken c.in-Some.beat c.push_reserved.new.self c.in-Some.ensures.beat took-all-a
     c.push_reserved.ensures.items c.push_reserved.ensures.len c.push_reserved.ensures.capacity
 
 pub returns-clause-taken : goal.returns-clause-taken
 returns-clause-taken g c =
-    emptied-stands StandsFor after_takes_a (λ s. s.a.pipe.inbox) c.args.bridge.now c.args.far.now c.beats.bridge c.beats.far c.beats.invariant after_take_a (λ x. x.a.inbox)
-    (λ s x h. h.a.pipe.inbox) (λ x. refl) c.take_a.new.self c.in_default.ensures.taken c.in_default.ensures.beat took-none-a
+    emptied-stands StandsFor after_takes_a (λ s. s.a.inbox) c.args.bridge.now c.args.far.now c.beats.bridge c.beats.far c.beats.invariant after_take_a (λ x. x.a.inbox)
+    (λ s x h. h.a.inbox) (λ x. refl) c.take_a.new.self c.in_default.ensures.taken c.in_default.ensures.beat took-none-a
 
 pub returns-clause-far : goal.returns-clause-far
 returns-clause-far g c =
-    emptied-items StandsFor after_takes_a (λ s. s.a.pipe.inbox) c.args.bridge.now c.args.far.now c.beats.bridge c.beats.far c.beats.invariant c.in_default.ensures.beat
+    emptied-items StandsFor after_takes_a (λ s. s.a.inbox) c.args.bridge.now c.args.far.now c.beats.bridge c.beats.far c.beats.invariant c.in_default.ensures.beat
 
 pub returns-clause-capacity : goal.returns-clause-capacity
 returns-clause-capacity g c = c.beats.invariant.capacity

@@ -19,8 +19,8 @@ returns-clause-closed g c = λ x k.
 pub returns-clause-again : goal.returns-clause-again
 returns-clause-again g c = λ closed.
     let again = c.close.ensures.again (rw (← c.self.view_is) at closed) in
-    (again.0, ap (λ p. record { a = c.self.inside.a; b = p; c = c.self.inside.c; d = c.self.inside.d; e = c.self.inside.e; sources = c.self.inside.sources; requests = c.self.inside.requests }) again.1 ∙ c.self.view_is)
+    (again.0, ap (λ p. record { a = c.self.inside.a; b = p; c = c.self.inside.c; d = c.self.inside.d; e = c.self.inside.e; client = c.self.inside.client; manager = c.self.inside.manager }) again.1 ∙ c.self.view_is)
 
 pub returns-clause-refused : goal.returns-clause-refused
 returns-clause-refused g c =
-    on_err_to c.close.result (λ same. ap (λ p. record { a = c.self.inside.a; b = p; c = c.self.inside.c; d = c.self.inside.d; e = c.self.inside.e; sources = c.self.inside.sources; requests = c.self.inside.requests }) same ∙ c.self.view_is) c.close.ensures.refused
+    on_err_to c.close.result (λ same. ap (λ p. record { a = c.self.inside.a; b = p; c = c.self.inside.c; d = c.self.inside.d; e = c.self.inside.e; client = c.self.inside.client; manager = c.self.inside.manager }) same ∙ c.self.view_is) c.close.ensures.refused

@@ -2,7 +2,6 @@ use Rattle.std.proofs.Common.{subst}
 use Rattle.tl_msg.specs.Tables.{rules_a, rules_b, rules_c, rules_d, rules_e}
 use Rattle.tl_ring.specs.Crossing.{popped}
 use Rattle.tl_ring.specs.Pipe as piping
-use Rattle.tl_bridge.specs.Tracked as tracking
 use denote.Param.{layout, param, number}
 use Rattle.tl_bridge.specs.contracts.sync_bridge.SyncBridge.{the_row}
 use Rattle.tl_bridge.proofs.FieldSizes.{part_small}
@@ -26,16 +25,16 @@ fetch-e-requires g c = search (part_small (layout (the_row (param 0 (number g.ro
 pub returns-clause-moved : goal.returns-clause-moved
 returns-clause-moved g c = rw (← c.self.view_is) (λ x h.
     record {
-      a = (subst (λ n. tracking.StandsFor rules_a c.fetch-a.new.self (popped n x.a)) c.fetch-a.ensures.count (c.fetch-a.ensures.moved x.a h.a));
+      a = (subst (λ n. piping.StandsFor rules_a c.fetch-a.new.self (popped n x.a)) c.fetch-a.ensures.count (c.fetch-a.ensures.moved x.a h.a));
       b = (subst (λ n. piping.StandsFor rules_b c.fetch-b.new.self (popped n x.b)) c.fetch-b.ensures.count (c.fetch-b.ensures.moved x.b h.b));
       c = (subst (λ n. piping.StandsFor rules_c c.fetch-c.new.self (popped n x.c)) c.fetch-c.ensures.count (c.fetch-c.ensures.moved x.c h.c));
-      d = (subst (λ n. tracking.StandsFor rules_d c.fetch-d.new.self (popped n x.d)) c.fetch-d.ensures.count (c.fetch-d.ensures.moved x.d h.d));
+      d = (subst (λ n. piping.StandsFor rules_d c.fetch-d.new.self (popped n x.d)) c.fetch-d.ensures.count (c.fetch-d.ensures.moved x.d h.d));
       e = (subst (λ n. piping.StandsFor rules_e c.fetch-e.new.self (popped n x.e)) c.fetch-e.ensures.count (c.fetch-e.ensures.moved x.e h.e));
       client_asked = h.client_asked;
       client_answered = h.client_answered;
       manager_asked = h.manager_asked;
       manager_answered = h.manager_answered;
       homes = h.homes;
-      sources = h.sources;
-      requests = h.requests;
+      client = h.client;
+      manager = h.manager;
     })

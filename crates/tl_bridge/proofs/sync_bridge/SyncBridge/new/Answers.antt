@@ -1,5 +1,4 @@
 use Rattle.std.proofs.Common.{refl}
-use Rattle.tl_bridge.proofs.Entries.{new_busy, new_open}
 use denote.Param.{layout, param, number}
 use Rattle.tl_bridge.specs.contracts.sync_bridge.SyncBridge.{the_row}
 use Rattle.tl_bridge.proofs.FieldSizes.{part_small}
@@ -32,6 +31,6 @@ returns-clause-new g c = record {
   manager_asked = refl;
   manager_answered = refl;
   homes = refl;
-  sources = new_busy _ c.new-6.ensures;
-  requests = new_open _ c.new-7.ensures;
+  client = c.new-6.ensures;
+  manager = c.new-7.ensures;
 }

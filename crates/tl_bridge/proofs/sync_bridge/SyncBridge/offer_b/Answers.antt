@@ -21,4 +21,4 @@ returns-clause-fault g c = λ x k. let h = rw (← c.self.view_is) at k in c.off
 
 pub returns-clause-refused : goal.returns-clause-refused
 returns-clause-refused g c =
-    on_err_to c.offer_alone.result (λ same. ap (λ p. record { a = c.self.inside.a; b = p; c = c.self.inside.c; d = c.self.inside.d; e = c.self.inside.e; sources = c.self.inside.sources; requests = c.self.inside.requests }) same ∙ c.self.view_is) c.offer_alone.ensures.refused
+    on_err_to c.offer_alone.result (λ same. ap (λ p. record { a = c.self.inside.a; b = p; c = c.self.inside.c; d = c.self.inside.d; e = c.self.inside.e; client = c.self.inside.client; manager = c.self.inside.manager }) same ∙ c.self.view_is) c.offer_alone.ensures.refused

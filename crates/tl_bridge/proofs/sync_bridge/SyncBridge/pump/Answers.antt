@@ -2,7 +2,6 @@ use Rattle.std.proofs.Common.{subst}
 use Rattle.tl_msg.specs.Tables.{rules_a, rules_b, rules_c, rules_d, rules_e}
 use Rattle.tl_ring.specs.Crossing.{pushed}
 use Rattle.tl_ring.specs.Pipe as piping
-use Rattle.tl_bridge.specs.Tracked as tracking
 use denote.Param.{layout, param, number}
 use Rattle.tl_bridge.specs.contracts.sync_bridge.SyncBridge.{the_row}
 use Rattle.tl_bridge.proofs.FieldSizes.{part_small}
@@ -26,16 +25,16 @@ pump-e-requires g c = search (part_small (layout (the_row (param 0 (number g.row
 pub returns-clause-moved : goal.returns-clause-moved
 returns-clause-moved g c = rw (← c.self.view_is) (λ x h.
     record {
-      a = (subst (λ n. tracking.StandsFor rules_a c.pump-a.new.self (pushed n x.a)) c.pump-a.ensures.count (c.pump-a.ensures.moved x.a h.a));
+      a = (subst (λ n. piping.StandsFor rules_a c.pump-a.new.self (pushed n x.a)) c.pump-a.ensures.count (c.pump-a.ensures.moved x.a h.a));
       b = (subst (λ n. piping.StandsFor rules_b c.pump-b.new.self (pushed n x.b)) c.pump-b.ensures.count (c.pump-b.ensures.moved x.b h.b));
       c = (subst (λ n. piping.StandsFor rules_c c.pump-c.new.self (pushed n x.c)) c.pump-c.ensures.count (c.pump-c.ensures.moved x.c h.c));
-      d = (subst (λ n. tracking.StandsFor rules_d c.pump-d.new.self (pushed n x.d)) c.pump-d.ensures.count (c.pump-d.ensures.moved x.d h.d));
+      d = (subst (λ n. piping.StandsFor rules_d c.pump-d.new.self (pushed n x.d)) c.pump-d.ensures.count (c.pump-d.ensures.moved x.d h.d));
       e = (subst (λ n. piping.StandsFor rules_e c.pump-e.new.self (pushed n x.e)) c.pump-e.ensures.count (c.pump-e.ensures.moved x.e h.e));
       client_asked = h.client_asked;
       client_answered = h.client_answered;
       manager_asked = h.manager_asked;
       manager_answered = h.manager_answered;
       homes = h.homes;
-      sources = h.sources;
-      requests = h.requests;
+      client = h.client;
+      manager = h.manager;
     })

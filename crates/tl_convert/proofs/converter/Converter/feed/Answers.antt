@@ -9,12 +9,12 @@ not-both (Err y) e o = cc
 true-false : false ≡ true → ⊥
 true-false e = cc
 
-pub returns-in_err-feed_into-clause-admitted : goal.returns-in_err-feed_into-clause-admitted
-returns-in_err-feed_into-clause-admitted g c = λ bs homes stands.
-    let k = c.in_err-feed_into.ensures.admitted bs homes stands in
+pub returns-in_err-place-clause-admitted : goal.returns-in_err-place-clause-admitted
+returns-in_err-place-clause-admitted g c = λ bs homes stands.
+    let k = c.in_err-place.ensures.admitted bs homes stands in
     (λ ok. absurd (not-both c.from_residual.result c.from_residual.ensures.0 ok), λ admitted. absurd (true-false (k.1 admitted)))
 
-pub returns-in_err-feed_into-clause-fault : goal.returns-in_err-feed_into-clause-fault
-returns-in_err-feed_into-clause-fault g c = λ bs homes stands.
+pub returns-in_err-place-clause-fault : goal.returns-in_err-place-clause-fault
+returns-in_err-place-clause-fault g c = λ bs homes stands.
     let p = err_from_is_err_and c.from_residual.result c.from_residual.ensures.1 in
-    rw (p.1, p.2) (c.in_err-feed_into.ensures.fault bs homes stands)
+    rw (p.1, p.2) (c.in_err-place.ensures.fault bs homes stands)
