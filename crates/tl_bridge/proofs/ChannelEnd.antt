@@ -23,8 +23,8 @@ use Rattle.tl_convert.proofs.CountLoop.{accepted-all, accepted-stop}
 use Rattle.tl_ring.specs.Crossing.{World}
 use Rattle.tl_ring.specs.Laws.{Crosses}
 use Rattle.tl_bridge.specs.Arriving.{HasRoom}
-use Rattle.tl_bridge.specs.Bridges.{stops_alone}
-use Rattle.tl_bridge.specs.Outcomes.{verdict_of, far_alone, verdict_alone}
+use Rattle.tl_sides.specs.Bridges.{stops_alone}
+use Rattle.tl_settle.specs.Outcomes.{verdict_of, far_alone, verdict_alone}
 use Rattle.tl_bridge.specs.Running.{Stops, IsSent, IsHomed, under_way, way, stop_verdict}
 use Rattle.tl_bridge.specs.declared.offering.Stop.{Stop}
 use Rattle.tl_bridge.specs.declared.offering.Stop.TheVariants.{Whole, Unfinished, Refused}

@@ -9,8 +9,8 @@ use Rattle.tl_msg.specs.declared.head.HeadD.{HeadD}
 use Rattle.tl_msg.specs.declared.head.HeadE.{HeadE}
 use Rattle.tl_msg.specs.declared.beat.BeatOf.{BeatOf}
 use Rattle.tl_ring.specs.Crossing.{World, took}
-use Rattle.tl_bridge.specs.Histories.{Ask, Answer}
-use Rattle.tl_bridge.specs.Bridges.{Bridge, Past, StandsFor, after_take_a, after_take_b, after_take_c, after_take_d, after_take_e}
+use Rattle.tl_settle.specs.Histories.{Ask, Answer}
+use Rattle.tl_sides.specs.Bridges.{Bridge, Past, StandsFor, after_take_a, after_take_b, after_take_c, after_take_d, after_take_e}
 use Rattle.tl_bridge.specs.Running.{emptied, after_takes_a, after_takes_b, after_takes_c, after_takes_d, after_takes_e}
 
 -- a list that has a first item is that item and the others

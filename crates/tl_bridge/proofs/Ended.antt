@@ -15,10 +15,10 @@ use Rattle.tl_ring.specs.Crossing.{World, empty}
 use Rattle.tl_ring.specs.Pipe.{Pipe}
 use Rattle.tl_ring.specs.Pipe as piping
 use Rattle.tl_ring.specs.declared.standing.Standing.{Standing}
-use Rattle.tl_bridge.specs.declared.sync_bridge.Standings.{Standings}
-use Rattle.tl_bridge.specs.Rounds as rounds
-use Rattle.tl_bridge.specs.Outcomes.{FarBeats}
-use Rattle.tl_bridge.specs.Bridges.{Bridge, Past, StandsFor, IsStanding, nothing_yet}
+use Rattle.tl_sides.specs.declared.sync_bridge.Standings.{Standings}
+use Rattle.tl_settle.specs.Rounds as rounds
+use Rattle.tl_settle.specs.Outcomes.{FarBeats}
+use Rattle.tl_sides.specs.Bridges.{Bridge, Past, StandsFor, IsStanding, nothing_yet}
 use Rattle.tl_bridge.specs.Scripts.{IsShort}
 use Rattle.tl_bridge.specs.Arriving.{HasRoom, HasRoomFor, KeepsRoom}
 use Rattle.tl_bridge.specs.declared.taking.Taken.{Taken}

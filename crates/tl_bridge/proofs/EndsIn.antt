@@ -9,8 +9,8 @@ use Rattle.tl_msg.specs.declared.head.HeadD.{HeadD}
 use Rattle.tl_msg.specs.declared.head.HeadE.{HeadE}
 use Rattle.tl_msg.specs.declared.beat.BeatOf.{BeatOf}
 use Rattle.tl_msg.specs.declared.verdict.Verdict.{Verdict}
-use Rattle.tl_bridge.specs.Outcomes.{FarBeats, far_beats, far_alone, verdicts}
-use Rattle.tl_bridge.specs.Bridges.{Bridge}
+use Rattle.tl_settle.specs.Outcomes.{FarBeats, far_beats, far_alone, verdicts}
+use Rattle.tl_sides.specs.Bridges.{Bridge}
 use Rattle.tl_bridge.specs.Scripts.{near_count, far_count}
 use Rattle.tl_bridge.specs.Running.{way, under_way, HasEnded, stop_verdict}
 use Rattle.tl_bridge.specs.declared.offering.Counts.{Counts}

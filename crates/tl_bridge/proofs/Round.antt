@@ -19,10 +19,10 @@ use Rattle.tl_ring.specs.Crossing.{World, pushed, popped}
 use Rattle.tl_ring.specs.Laws.{Crosses}
 use Rattle.tl_ring.specs.Pipe.{Pipe}
 use Rattle.tl_ring.specs.Pipe as piping
-use Rattle.tl_bridge.specs.Histories.{Event, Ask, Answer, asked, answered, client_answer, manager_answer, manager_home}
-use Rattle.tl_bridge.specs.Rounds.{Run}
-use Rattle.tl_bridge.specs.Outcomes.{FarBeats}
-use Rattle.tl_bridge.specs.Bridges.{Bridge, Past, StandsFor, stops_alone, pump_count, fetch_count, after_pump, after_fetch}
+use Rattle.tl_settle.specs.Histories.{Event, Ask, Answer, asked, answered, client_answer, manager_answer, manager_home}
+use Rattle.tl_settle.specs.Rounds.{Run}
+use Rattle.tl_settle.specs.Outcomes.{FarBeats}
+use Rattle.tl_sides.specs.Bridges.{Bridge, Past, StandsFor, stops_alone, pump_count, fetch_count, after_pump, after_fetch}
 use Rattle.tl_bridge.specs.Scripts.{IsShort}
 use Rattle.tl_bridge.specs.Arriving.{HasRoom, HasRoomFor, HasRoomForInboxes, HasTaken, beats_of as taken_beats}
 use Rattle.tl_bridge.specs.declared.taking.Taken.{Taken}

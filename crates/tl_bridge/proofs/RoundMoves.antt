@@ -6,14 +6,14 @@ use Rattle.tl_msg.specs.declared.head.HeadA.{HeadA}
 use Rattle.tl_msg.specs.declared.head.HeadD.{HeadD}
 use Rattle.tl_msg.specs.declared.beat.BeatOf.{BeatOf}
 use Rattle.tl_ring.specs.Crossing.{World}
-use Rattle.tl_bridge.specs.Settling.{far_a, far_d}
-use Rattle.tl_bridge.specs.Histories.{Event, Ask, Answer, asked, answered, client_answer, manager_answer}
-use Rattle.tl_bridge.specs.Rounds.{ClientMoves, ManagerMoves, client_takes, client_accepts, manager_takes, manager_accepts}
+use Rattle.tl_settle.specs.Settling.{far_a, far_d}
+use Rattle.tl_settle.specs.Histories.{Event, Ask, Answer, asked, answered, client_answer, manager_answer}
+use Rattle.tl_settle.specs.Rounds.{ClientMoves, ManagerMoves, client_takes, client_accepts, manager_takes, manager_accepts}
 use Rattle.tl_bridge.specs.Running.{Does, steps}
 use Rattle.tl_bridge.specs.declared.offering.Offered.{Offered}
 use Rattle.tl_bridge.specs.declared.offering.Offered.TheVariants.{Accepted, Waits, Stopped}
 use Rattle.tl_bridge.specs.declared.offering.Stop.TheVariants.{Whole, Unfinished, Refused}
-use Rattle.tl_bridge.proofs.Marks.{asked_ask, answered_answer}
+use Rattle.tl_settle.proofs.Marks.{asked_ask, answered_answer}
 
 -- the first beat of a list that is due, and the others behind it
 front-one : {A : Type 0} (xs ys : List A) (y : A) (all : List A) → IsPrefix (xs ++ y ∷ ys) all → IsPrefix (xs ++ y ∷ []) all

@@ -12,20 +12,20 @@ use Rattle.tl_msg.specs.declared.beat.BeatOf.{BeatOf}
 use Rattle.tl_msg.specs.declared.verdict.Verdict.{Verdict}
 use Rattle.tl_burst.specs.Begun.{heads, left}
 use Rattle.tl_convert.specs.Due.{due}
-use Rattle.tl_bridge.specs.Histories.{Ask, Answer, asked, answered, client_answer, manager_answer, manager_home, manager_homes}
-use Rattle.tl_bridge.specs.Rounds.{Run, round, ClientMoves, ManagerMoves, client_rests, manager_rests, IsOver, IsSettledRun}
-use Rattle.tl_bridge.specs.Settling.{settled_state, stops_a, stops_d}
-use Rattle.tl_bridge.specs.Settling.{far_a as due_far_a, far_d as due_far_d}
-use Rattle.tl_bridge.specs.Steps.{State}
-use Rattle.tl_bridge.specs.Outcomes.{settled_far_a, settled_far_d, verdict_a, verdict_d, verdict_of}
-use Rattle.tl_bridge.specs.Bridges.{Bridge, Past, StandsFor}
+use Rattle.tl_settle.specs.Histories.{Ask, Answer, asked, answered, client_answer, manager_answer, manager_home, manager_homes}
+use Rattle.tl_settle.specs.Rounds.{Run, round, ClientMoves, ManagerMoves, client_rests, manager_rests, IsOver, IsSettledRun}
+use Rattle.tl_settle.specs.Settling.{settled_state, stops_a, stops_d}
+use Rattle.tl_settle.specs.Settling.{far_a as due_far_a, far_d as due_far_d}
+use Rattle.tl_settle.specs.Steps.{State}
+use Rattle.tl_settle.specs.Outcomes.{settled_far_a, settled_far_d, verdict_a, verdict_d, verdict_of}
+use Rattle.tl_sides.specs.Bridges.{Bridge, Past, StandsFor}
 use Rattle.tl_bridge.specs.Running.{Does, Stops, IsSent, IsHomed, steps, emptied, under_way, stop_verdict}
 use Rattle.tl_bridge.specs.declared.offering.Offered.{Offered}
 use Rattle.tl_bridge.specs.declared.offering.Offered.TheVariants.{Stopped}
 use Rattle.tl_bridge.specs.declared.offering.Stop.{Stop}
 use Rattle.tl_ring.specs.Crossing.{World}
-use Rattle.tl_bridge.proofs.Homes.{far_a_given, far_d_given}
-use Rattle.tl_bridge.proofs.Runs.{RunIs, run_is, over}
+use Rattle.tl_settle.proofs.Homes.{far_a_given, far_d_given}
+use Rattle.tl_settle.proofs.Runs.{RunIs, run_is, over}
 use Rattle.tl_bridge.proofs.RoundMoves.{client-takes-all, manager-takes-all, client-offers, manager-offers}
 use Rattle.tl_bridge.proofs.ChannelEnd.{inbox-due, all-taken, handed-accepted, stop-refuses, stop-verdict}
 

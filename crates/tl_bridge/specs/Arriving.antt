@@ -10,8 +10,8 @@ use Rattle.tl_msg.specs.declared.head.HeadE.{HeadE}
 use Rattle.tl_msg.specs.declared.beat.BeatOf.{BeatOf}
 use Rattle.tl_convert.specs.Due.{due}
 use Rattle.tl_convert.specs.Accepted.{accepted_of}
-use Rattle.tl_bridge.specs.Outcomes.{FarBeats}
-use Rattle.tl_bridge.specs.Bridges.{Bridge, Past, StandsFor}
+use Rattle.tl_settle.specs.Outcomes.{FarBeats}
+use Rattle.tl_sides.specs.Bridges.{Bridge, Past, StandsFor}
 use Rattle.tl_bridge.specs.declared.taking.Taken.{Taken}
 
 -- a bridge for which something stands

@@ -1,13 +1,3 @@
-pub mod Steps
-pub mod Requests
-pub mod Settling
-pub mod Outcomes
-pub mod Histories
-pub mod Rounds
-pub mod Tables
-pub mod Laws
-pub mod Books
-pub mod Bridges
 pub mod Running
 pub mod Arriving
 pub mod Scripts

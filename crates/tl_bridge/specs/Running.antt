@@ -13,15 +13,15 @@ use Rattle.tl_msg.specs.declared.fault.SideFault.TheVariants.{Beat, SourceBusy, 
 use Rattle.tl_msg.specs.declared.verdict.Verdict.{Verdict}
 use Rattle.tl_msg.specs.declared.verdict.Verdict.TheVariants.{Done, Cut, Refused as VerdictRefused, Waiting}
 use Rattle.tl_ring.specs.declared.standing.Standing.{Standing}
-use Rattle.tl_bridge.specs.declared.sync_bridge.Standings.{Standings}
+use Rattle.tl_sides.specs.declared.sync_bridge.Standings.{Standings}
 use Rattle.tl_burst.specs.Begun.{heads}
 use Rattle.tl_burst.specs.Handing.{rest_of}
 use Rattle.tl_convert.specs.Accepted.{accepted_of, accepted_after}
 use Rattle.tl_ring.specs.Crossing.{World, offered, pushed, popped, shut, inbox_room}
-use Rattle.tl_bridge.specs.Histories.{Ask, Answer, client_answer, manager_answer, manager_home}
-use Rattle.tl_bridge.specs.Rounds.{Run}
-use Rattle.tl_bridge.specs.Outcomes.{FarBeats}
-use Rattle.tl_bridge.specs.Bridges.{Bridge, Past, StandsFor, stops_alone, nothing_yet}
+use Rattle.tl_settle.specs.Histories.{Ask, Answer, client_answer, manager_answer, manager_home}
+use Rattle.tl_settle.specs.Rounds.{Run}
+use Rattle.tl_settle.specs.Outcomes.{FarBeats}
+use Rattle.tl_sides.specs.Bridges.{Bridge, Past, StandsFor, stops_alone, nothing_yet}
 use Rattle.tl_bridge.specs.declared.offering.Stop.{Stop}
 use Rattle.tl_bridge.specs.declared.offering.Stop.TheVariants.{Whole, Unfinished, Refused}
 use Rattle.tl_bridge.specs.declared.offering.Offered.{Offered}

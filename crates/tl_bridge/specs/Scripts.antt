@@ -8,8 +8,8 @@ use Rattle.tl_msg.specs.declared.head.HeadE.{HeadE}
 use Rattle.tl_msg.specs.Tables.{rules_b, rules_c, rules_e}
 use Rattle.tl_msg.specs.declared.beat.BeatOf.{BeatOf}
 use Rattle.tl_convert.specs.Accepted.{accepted_of}
-use Rattle.tl_bridge.specs.Settling.{settled_state}
-use Rattle.tl_bridge.specs.Outcomes.{far_beats, verdicts}
+use Rattle.tl_settle.specs.Settling.{settled_state}
+use Rattle.tl_settle.specs.Outcomes.{far_beats, verdicts}
 use Rattle.tl_trace.specs.declared.script.Script.{Script}
 use Rattle.tl_bridge.specs.declared.outcome.Outcome.{Outcome}
 

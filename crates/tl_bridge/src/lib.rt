@@ -1,23 +1,13 @@
-//! The two sides of the bridge: what ties channel D to channel A, and what a script settles to.
+//! The bridge, and the run of a whole script over it.
 #![tactic(auto)]
 
-mod books;
-pub mod laws;
 mod offering;
 mod outcome;
 mod rounds;
-#[cfg(test)]
-mod run_tests;
-mod sync_bridge;
 mod sync_run;
-#[cfg(test)]
-mod sync_tests;
-mod tables;
 mod taking;
-#[cfg(test)]
-mod tests;
 
 pub use outcome::{Outcome, RunFault};
-pub use sync_bridge::{Standings, SyncBridge};
 pub use sync_run::run_sync;
-pub use tables::{Request, RequestTable, SourceTable};
+pub use tl_settle::laws;
+pub use tl_sides::{Request, RequestTable, SourceTable, Standings, SyncBridge};

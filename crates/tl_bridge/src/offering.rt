@@ -9,12 +9,12 @@ ghost use Rattle.tl_msg.specs.declared.head.HeadD.{HeadD};
 ghost use Rattle.tl_msg.specs.declared.head.HeadE.{HeadE};
 ghost use Rattle.tl_msg.specs.declared.beat.BeatOf.{BeatOf};
 ghost use Rattle.tl_ring.specs.Crossing.{World};
-ghost use Rattle.tl_bridge.specs.Histories.{Ask, Answer, client_answer, manager_answer, manager_home};
-ghost use Rattle.tl_bridge.specs.Bridges.{Past, StandsFor, stops_alone};
+ghost use Rattle.tl_settle.specs.Histories.{Ask, Answer, client_answer, manager_answer, manager_home};
+ghost use Rattle.tl_sides.specs.Bridges.{Past, StandsFor, stops_alone};
 ghost use Rattle.tl_bridge.specs.Running.{Does, HasOffered, steps, counted, all_stopped, AreStopped, HaveRoomToCount};
 
-use crate::sync_bridge::SyncBridge;
 use tl_msg::{Beat, ChA, ChB, ChC, ChD, ChE, SideFault};
+use tl_sides::SyncBridge;
 use tl_trace::Script;
 
 /// Why a channel offers no more.

@@ -1,16 +1,16 @@
 //! The rounds of a run in one thread, and how each channel ends.
 ghost use Rattle.std.specs.Prelude.{◌≡◌, ◌↔◌, IsTrue, IfSome, IsNone};
 ghost use Rattle.tl_lanes.specs.Lanes.{IsWidth};
-ghost use Rattle.tl_bridge.specs.Bridges.{Past, StandsFor};
+ghost use Rattle.tl_sides.specs.Bridges.{Past, StandsFor};
 ghost use Rattle.tl_bridge.specs.Scripts.{IsShort};
 ghost use Rattle.tl_bridge.specs.Arriving.{HasRoomFor, KeepsRoom, beats_of};
 ghost use Rattle.tl_bridge.specs.Running.{IsAt, IsUnderWay, IsNew, HasRound, HasEnded, AreStopped, counted, no_beats, standing_count, all_standing, all_under_way, all_stopped, stop_verdict};
 
 use crate::offering::{Counts, Offers, Stop, Stops, count, offer_all};
-use crate::sync_bridge::{Standings, SyncBridge};
 use crate::taking::{Taken, take_all};
 use tl_msg::{SideFault, Verdict};
 use tl_ring::Standing;
+use tl_sides::{Standings, SyncBridge};
 use tl_trace::Script;
 
 /// Where a run has ended: how many beats of each channel were accepted, why it offers no more, and how many rounds there were.

@@ -6,9 +6,9 @@ ghost use Rattle.tl_bridge.specs.Scripts.{HasShortLists, SettlesTo};
 
 use crate::outcome::{Outcome, RunFault};
 use crate::rounds::{run_rounds, verdict};
-use crate::sync_bridge::SyncBridge;
 use crate::taking::Taken;
 use std::alloc::Global;
+use tl_sides::SyncBridge;
 use tl_trace::Script;
 
 /// Runs a script over a bridge in one thread, to its end: the far beats and the verdicts are those that the script settles to.

@@ -1,16 +1,16 @@
 //! The far beats that the two sides of a run take.
 ghost use Rattle.std.specs.Prelude.{◌≡◌, ◌+◌, ◌++◌, ◌≤◌, ◌^◌, [], length, vec_len, vec_capacity, IfOk};
 ghost use Rattle.tl_lanes.specs.Lanes.{IsWidth};
-ghost use Rattle.tl_bridge.specs.Bridges.{Past, StandsFor};
+ghost use Rattle.tl_sides.specs.Bridges.{Past, StandsFor};
 ghost use Rattle.tl_bridge.specs.Running.{after_takes_a, after_takes_b, after_takes_c, after_takes_d, after_takes_e, after_takes};
 ghost use Rattle.tl_bridge.specs.Scripts.{IsShort};
 ghost use Rattle.tl_bridge.specs.Running.{no_beats};
 ghost use Rattle.tl_bridge.specs.Arriving.{beats_of, HasPast, HasRoom, HasRoomFor, HasRoomForInboxes, HasTaken, KeepsRoom};
 
-use crate::sync_bridge::SyncBridge;
 use std::alloc::{AllocError, Global};
 use tl_convert::far_count;
 use tl_msg::{Beat, ChA, ChB, ChC, ChD, ChE, Channel};
+use tl_sides::SyncBridge;
 use tl_trace::Script;
 
 /// The far beats that were taken, by channel, in lists that grow no more.

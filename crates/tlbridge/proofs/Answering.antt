@@ -7,7 +7,7 @@ use Rattle.tl_msg.specs.declared.head.HeadC.{HeadC}
 use Rattle.tl_msg.specs.declared.head.HeadD.{HeadD}
 use Rattle.tl_msg.specs.declared.head.HeadE.{HeadE}
 use Rattle.tl_msg.specs.declared.beat.BeatOf.{BeatOf}
-use Rattle.tl_bridge.specs.Outcomes.{far_beats}
+use Rattle.tl_settle.specs.Outcomes.{far_beats}
 use Rattle.tl_bridge.specs.Scripts.{EndsIn}
 use Rattle.tl_bridge.specs.declared.outcome.Outcome.{Outcome}
 use Rattle.tl_trace.specs.Scripts.{beats_a, beats_b, beats_c, beats_d, beats_e}

@@ -4,7 +4,7 @@ use Rattle.std.specs.Prelude.{◌++◌, ℕ, Bool, true, false, cond, List, [], 
 use Rattle.std.specs.List.{list_all}
 use Rattle.tl_msg.specs.declared.verdict.Verdict.{Verdict}
 use Rattle.tl_msg.specs.declared.verdict.Verdict.TheVariants.{Done, Cut, Refused, Waiting}
-use Rattle.tl_bridge.specs.Outcomes.{FarBeats, Verdicts, far_beats, verdicts}
+use Rattle.tl_settle.specs.Outcomes.{FarBeats, Verdicts, far_beats, verdicts}
 use Rattle.tl_bridge.specs.declared.outcome.Outcome.{Outcome}
 use Rattle.tl_trace.specs.Fields.{form_a, form_b, form_c, form_d, form_e}
 use Rattle.tl_trace.specs.Lines.{beats_text}

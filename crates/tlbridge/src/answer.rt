@@ -2,7 +2,7 @@
 ghost use Rattle.std.specs.Prelude.{◌≡◌, ◌≤◌, ◌++◌, [], cond, length, IfOk, OnOk, IfErr};
 ghost use Rattle.std.specs.List.{list_all};
 ghost use Rattle.tl_lanes.specs.Lanes.{IsWidth};
-ghost use Rattle.tl_bridge.specs.Outcomes.{Verdicts};
+ghost use Rattle.tl_settle.specs.Outcomes.{Verdicts};
 ghost use Rattle.tl_bridge.specs.Scripts.{HasShortLists, SettlesTo};
 ghost use Rattle.tlbridge.specs.Answer.{far_header, far_lines, taken, report, in_order, is_done};
 ghost use Rattle.tlbridge.specs.Texts.{IsAnswerTo, IsAnswer, IsOfText, most_bytes};

@@ -1,9 +1,9 @@
 use Rattle.std.proofs.Common.{rules, arith, refl, subst}
 use Rattle.tl_msg.specs.Tables.{rules_a, rules_b, rules_c, rules_d, rules_e}
-use Rattle.tl_bridge.specs.Histories.{client_answer, manager_answer, manager_home}
-use Rattle.tl_bridge.specs.Bridges.{stops_alone}
+use Rattle.tl_settle.specs.Histories.{client_answer, manager_answer, manager_home}
+use Rattle.tl_sides.specs.Bridges.{stops_alone}
 use Rattle.tl_bridge.specs.Running.{Does}
-use Rattle.tl_bridge.proofs.FieldSizes.{beat_small}
+use Rattle.tl_ring.proofs.FieldSizes.{beat_small}
 use Rattle.tl_bridge.proofs.offering.offer_all.Goals as goal
 
 pub offer_next_a-a-requires : goal.offer_next_a-a-requires

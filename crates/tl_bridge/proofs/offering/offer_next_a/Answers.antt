@@ -1,7 +1,8 @@
-use Rattle.std.proofs.Common.{rules, ◌∷◌, [], refl, sym, subst, append-nil}
-use Rattle.tl_bridge.specs.Bridges.{StandsFor, after_close_a}
+use Rattle.std.proofs.Common.{rules, ◌∷◌, [], refl, sym, subst, append-nil, arith}
+use Rattle.tl_sides.specs.Bridges.{StandsFor, after_close_a}
 use Rattle.tl_msg.specs.Tables.{rules_a}
 use Rattle.tl_bridge.proofs.OfferSteps.{read_some, read_none, not_ready}
+use Rattle.tl_ring.proofs.FieldSizes.{beat_small}
 use Rattle.tl_bridge.proofs.offering.offer_next_a.Goals as goal
 
 pub returns-in-Ok : goal.returns-in-Ok
@@ -26,7 +27,7 @@ returns-then-not-ready_a g c = λ x k.
     ([], x.a, same, (c.in-Some.beat.now, some, waits, refl, refl))
 
 pub offer_a-requires : goal.offer_a-requires
-offer_a-requires g c = (search rules, (search rules, (c.requires.client, (c.requires.manager, c.if-not-ready_a.ensures.0 refl))))
+offer_a-requires g c = (search rules, (beat_small 24 g.row.C (omega arith) c.requires.client, (c.requires.client, (c.requires.manager, c.if-not-ready_a.ensures.0 refl))))
 
 pub returns-in-Ok-offer_a : goal.returns-in-Ok-offer_a
 returns-in-Ok-offer_a g c = λ x k.

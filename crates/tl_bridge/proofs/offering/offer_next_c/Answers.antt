@@ -1,7 +1,8 @@
-use Rattle.std.proofs.Common.{rules, ◌∷◌, [], refl, sym, subst}
-use Rattle.tl_bridge.specs.Bridges.{StandsFor}
+use Rattle.std.proofs.Common.{rules, ◌∷◌, [], refl, sym, subst, arith}
+use Rattle.tl_sides.specs.Bridges.{StandsFor}
 use Rattle.tl_msg.specs.Tables.{rules_c}
 use Rattle.tl_bridge.proofs.OfferSteps.{read_some, read_none, not_ready}
+use Rattle.tl_ring.proofs.FieldSizes.{beat_small}
 use Rattle.tl_bridge.proofs.offering.offer_next_c.Goals as goal
 
 pub returns-in-Ok : goal.returns-in-Ok
@@ -22,7 +23,7 @@ returns-then-not-ready_c g c = λ x k.
     ([], x.c, k, (c.in-Some.beat.now, some, waits, refl, refl))
 
 pub offer_c-requires : goal.offer_c-requires
-offer_c-requires g c = (search rules, (search rules, (c.requires.client, (c.requires.manager, c.if-not-ready_c.ensures.0 refl))))
+offer_c-requires g c = (search rules, (beat_small 24 g.row.C (omega arith) c.requires.client, (c.requires.client, (c.requires.manager, c.if-not-ready_c.ensures.0 refl))))
 
 pub returns-in-Ok-offer_c : goal.returns-in-Ok-offer_c
 returns-in-Ok-offer_c g c = λ x k.

@@ -1,7 +1,8 @@
-use Rattle.std.proofs.Common.{rules, ◌∷◌, [], refl, sym, subst, append-nil}
-use Rattle.tl_bridge.specs.Bridges.{StandsFor, after_close_d}
+use Rattle.std.proofs.Common.{rules, ◌∷◌, [], refl, sym, subst, append-nil, arith}
+use Rattle.tl_sides.specs.Bridges.{StandsFor, after_close_d}
 use Rattle.tl_msg.specs.Tables.{rules_d}
 use Rattle.tl_bridge.proofs.OfferSteps.{read_some, read_none, not_ready}
+use Rattle.tl_ring.proofs.FieldSizes.{beat_small}
 use Rattle.tl_bridge.proofs.offering.offer_next_d.Goals as goal
 
 pub returns-in-Ok : goal.returns-in-Ok
@@ -26,7 +27,7 @@ returns-then-not-ready_d g c = λ x k.
     ([], x.d, same, (c.in-Some.beat.now, some, waits, refl, refl))
 
 pub offer_d-requires : goal.offer_d-requires
-offer_d-requires g c = (search rules, (search rules, (c.requires.client, (c.requires.manager, c.if-not-ready_d.ensures.0 refl))))
+offer_d-requires g c = (search rules, (beat_small 16 g.row.M (omega arith) c.requires.manager, (c.requires.client, (c.requires.manager, c.if-not-ready_d.ensures.0 refl))))
 
 pub returns-in-Ok-offer_d : goal.returns-in-Ok-offer_d
 returns-in-Ok-offer_d g c = λ x k.

@@ -1,6 +1,6 @@
 use Rattle.std.proofs.Common.{rules}
 use Rattle.tl_bridge.specs.Arriving.{beats_of}
-use Rattle.tl_bridge.specs.Bridges.{after_pump}
+use Rattle.tl_sides.specs.Bridges.{after_pump}
 use Rattle.tl_bridge.specs.Running.{after_takes}
 use Rattle.tl_bridge.proofs.Round.{moved-stands, has-round, inboxes-fit, counts-fit, taken-is}
 use Rattle.tl_bridge.proofs.rounds.round.Goals as goal

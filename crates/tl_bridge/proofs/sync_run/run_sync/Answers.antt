@@ -1,6 +1,6 @@
 use Rattle.std.proofs.Common.{rules, refl, ap, ◌∙◌}
 use Rattle.tl_bridge.specs.Arriving.{beats_of}
-use Rattle.tl_bridge.proofs.BridgeSize.{bridge_small}
+use Rattle.tl_sides.proofs.BridgeSize.{bridge_small}
 use Rattle.tl_bridge.proofs.EndsIn.{far-is, verdicts-are, rounds-few, five-same, verdict-is}
 use Rattle.tl_bridge.proofs.sync_run.run_sync.Goals as goal
 

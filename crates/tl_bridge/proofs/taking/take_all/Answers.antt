@@ -1,7 +1,7 @@
 use Rattle.std.proofs.Common.{arith, ◌++◌, ap, ◌∙◌, vec_len, vec_capacity}
 use Rattle.tl_bridge.specs.Running.{after_takes_a, after_takes_b, after_takes_c, after_takes_d}
-use Rattle.tl_bridge.proofs.BridgeSize.{bridge_small}
-use Rattle.tl_bridge.proofs.FieldSizes.{beat_small}
+use Rattle.tl_sides.proofs.BridgeSize.{bridge_small}
+use Rattle.tl_ring.proofs.FieldSizes.{beat_small}
 use Rattle.tl_bridge.proofs.Draining.{same-inbox, same-room}
 use Rattle.tl_bridge.proofs.taking.take_all.Goals as goal
 

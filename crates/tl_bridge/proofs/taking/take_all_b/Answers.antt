@@ -1,5 +1,5 @@
 use Rattle.std.proofs.Common.{refl}
-use Rattle.tl_bridge.specs.Bridges.{StandsFor, after_take_b}
+use Rattle.tl_sides.specs.Bridges.{StandsFor, after_take_b}
 use Rattle.tl_bridge.specs.Running.{after_takes_b}
 use Rattle.tl_bridge.proofs.Draining.{emptying-begins, emptying-room, emptying-shorter, emptying-goes-on, emptied-items, emptied-stands, took-all-b, took-none-b}
 use Rattle.tl_bridge.proofs.taking.take_all_b.Goals as goal

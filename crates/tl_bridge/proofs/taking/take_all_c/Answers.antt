@@ -1,5 +1,5 @@
 use Rattle.std.proofs.Common.{refl}
-use Rattle.tl_bridge.specs.Bridges.{StandsFor, after_take_c}
+use Rattle.tl_sides.specs.Bridges.{StandsFor, after_take_c}
 use Rattle.tl_bridge.specs.Running.{after_takes_c}
 use Rattle.tl_bridge.proofs.Draining.{emptying-begins, emptying-room, emptying-shorter, emptying-goes-on, emptied-items, emptied-stands, took-all-c, took-none-c}
 use Rattle.tl_bridge.proofs.taking.take_all_c.Goals as goal

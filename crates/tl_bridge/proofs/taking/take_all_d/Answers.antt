@@ -1,5 +1,5 @@
 use Rattle.std.proofs.Common.{refl}
-use Rattle.tl_bridge.specs.Bridges.{StandsFor, after_take_d}
+use Rattle.tl_sides.specs.Bridges.{StandsFor, after_take_d}
 use Rattle.tl_bridge.specs.Running.{after_takes_d}
 use Rattle.tl_bridge.proofs.Draining.{emptying-begins, emptying-room, emptying-shorter, emptying-goes-on, emptied-items, emptied-stands, took-all-d, took-none-d}
 use Rattle.tl_bridge.proofs.taking.take_all_d.Goals as goal

@@ -2,7 +2,7 @@ use Rattle.std.proofs.Common.{◌∙◌, ◌++◌, ap, cond, List, [], arith}
 use Rattle.tl_trace.specs.Scripts.{beats_a, beats_b, beats_c, beats_d, beats_e}
 use Rattle.tlbridge.specs.Answer.{far_lines, taken, report, ends}
 use Rattle.tl_trace.specs.declared.line.Line.{Line}
-use Rattle.tl_bridge.specs.Outcomes.{Verdicts}
+use Rattle.tl_settle.specs.Outcomes.{Verdicts}
 use Rattle.tl_bridge.specs.Scripts.{EndsIn}
 use Rattle.tlbridge.proofs.Answering.{answers, answers-at, ends-in}
 use Rattle.tlbridge.proofs.Lengths.{short}

@@ -1,6 +1,15 @@
 use Rattle.std.proofs.Common.{◌≡◌, ◌+◌, length, arith}
 use Rattle.tl_ring.proofs.Moves.{none_in_three}
+use denote.Param.{layout, param, number, copied}
+use Rattle.tl_ring.specs.contracts.pipe.SyncPipe.{the_row}
+use Rattle.tl_ring.proofs.FieldSizes.{part_small}
 use Rattle.tl_ring.proofs.pipe.SyncPipe.drained.Goals as goal
+
+pub len-requires : goal.len-requires
+len-requires g c = search (part_small (layout (the_row (param 0 g.row.K) (param 1 (number g.row.W)) (param 2 (number g.row.V)) (param 3 g.row.A) (copied 4 g.row.K-Head) g.K.Channel g.K.Head.PartialEq g.K.Head.Default g.A.Allocator)) 1 9223372036854775808)
+
+pub len-requires-3 : goal.len-requires-3
+len-requires-3 g c = search (part_small (layout (the_row (param 0 g.row.K) (param 1 (number g.row.W)) (param 2 (number g.row.V)) (param 3 g.row.A) (copied 4 g.row.K-Head) g.K.Channel g.K.Head.PartialEq g.K.Head.Default g.A.Allocator)) 3 9223372036854775808)
 
 -- no beat is under way exactly where stage, ring and inbox are empty
 pub returns-then-self : goal.returns-then-self

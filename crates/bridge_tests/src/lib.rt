@@ -1,0 +1,9 @@
+//! Tests of the bridge, of its tables and of the run of a script, in a crate of their own: a crate with tests is proved twice.
+#![tactic(auto)]
+
+#[cfg(test)]
+mod run_tests;
+#[cfg(test)]
+mod sync_tests;
+#[cfg(test)]
+mod tests;

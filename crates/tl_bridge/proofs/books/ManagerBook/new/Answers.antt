@@ -1,5 +1,0 @@
-use Rattle.tl_bridge.proofs.Entries.{new_open}
-use Rattle.tl_bridge.proofs.books.ManagerBook.new.Goals as goal
-
-pub returns : goal.returns
-returns g c = record { requests = new_open _ c.new.ensures; lacking = c.new-2.ensures }

@@ -1,6 +1,0 @@
-use Rattle.tl_lanes.proofs.Widths.{width_bounds}
-use Rattle.tl_bridge.proofs.Settles.{one_settled}
-use Rattle.tl_bridge.proofs.laws.one_settled_state.Goals as goal
-
-pub returns : goal.returns
-returns start c m near far a d = one_settled (width_bounds c near).0 (width_bounds m far).0 a d

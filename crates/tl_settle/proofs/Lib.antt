@@ -1,0 +1,13 @@
+mod Rows
+pub mod SameHeads
+pub mod Persist
+pub mod Orders
+pub mod Opens
+pub mod Marks
+pub mod Settles
+pub mod Sides
+pub mod Manager
+pub mod Grows
+pub mod Homes
+pub mod Runs
+pub mod Admits

@@ -1,0 +1,94 @@
+-- What a script ends in: the far beats and the verdict of each channel (this project's choice).
+use Rattle.std.specs.Prelude.{◌==◌, ℕ, Option, None, Some, List, length, map, take, slice_get, if◌then◌else◌}
+use Rattle.std.specs.Option.{option_map_or}
+use Rattle.tl_msg.specs.Rules.{Rules}
+use Rattle.tl_msg.specs.Tables.{rules_a, rules_b, rules_c, rules_d, rules_e}
+use Rattle.tl_msg.specs.declared.head.HeadA.{HeadA}
+use Rattle.tl_msg.specs.declared.head.HeadB.{HeadB}
+use Rattle.tl_msg.specs.declared.head.HeadC.{HeadC}
+use Rattle.tl_msg.specs.declared.head.HeadD.{HeadD}
+use Rattle.tl_msg.specs.declared.head.HeadE.{HeadE}
+use Rattle.tl_msg.specs.declared.beat.BeatOf.{BeatOf}
+use Rattle.tl_msg.specs.declared.fault.SideFault.{SideFault}
+use Rattle.tl_msg.specs.declared.fault.SideFault.TheVariants.{Beat, SourceBusy, NoRequest, SizeMismatch}
+use Rattle.tl_msg.specs.declared.verdict.Verdict.{Verdict}
+use Rattle.tl_msg.specs.declared.verdict.Verdict.TheVariants.{Done, Cut, Refused, Waiting}
+use Rattle.tl_burst.specs.Handing.{fault_after}
+use Rattle.tl_burst.specs.Begun.{heads, left}
+use Rattle.tl_convert.specs.Due.{due}
+use Rattle.tl_convert.specs.Accepted.{accepted_of}
+use Rattle.tl_settle.specs.Settling.{settled_state, far_a, far_d, stops_a, stops_d}
+
+-- a verdict: n near beats were accepted and make so many far beats due, the last message lacks so many beats, and the next beat, if there
+-- is one, is stopped by something or by nothing
+abbrev pub verdict_of : (n far lacks : ℕ) → (next : Option (Option SideFault)) → Verdict
+verdict_of n far lacks None = if lacks == 0 then Done n far else Cut n far
+verdict_of n far lacks (Some None) = Cut n far
+verdict_of n far lacks (Some (Some (Beat fault))) = Refused n (Beat fault)
+verdict_of n far lacks (Some (Some SourceBusy)) = Waiting n SourceBusy
+verdict_of n far lacks (Some (Some NoRequest)) = Waiting n NoRequest
+verdict_of n far lacks (Some (Some SizeMismatch)) = Refused n SizeMismatch
+
+-- a channel that nothing couples to another one, B, C or E: of its list the longest first part that is handed is accepted, which is the beats
+-- before the first one that has a fault where it stands
+module _ {H : Type 0} (r : Rules H) {w : ℕ} where
+  abbrev pub far_alone : (v : ℕ) → List (BeatOf H w) → List (BeatOf H v)
+  far_alone v bs = due r w v (accepted_of r bs) (map (λ h. r.lane_address h 0) (heads r w (accepted_of r bs)))
+
+  abbrev pub verdict_alone : (v : ℕ) → List (BeatOf H w) → Verdict
+  verdict_alone v bs = let n = length (accepted_of r bs) in
+      verdict_of n (length (far_alone v bs)) (left r w (accepted_of r bs))
+      (option_map_or (λ b. Some (option_map_or (λ fault. Some (Beat fault)) (fault_after r (accepted_of r bs) b) None)) (slice_get bs n) None)
+
+-- A and D, at their settled state
+module _ {C M : ℕ} (a : List (BeatOf HeadA C)) (d : List (BeatOf HeadD M)) where
+  abbrev pub settled_far_a : List (BeatOf HeadA M)
+  settled_far_a = far_a a d (settled_state a d).a
+
+  abbrev pub settled_far_d : List (BeatOf HeadD C)
+  settled_far_d = far_d a d (settled_state a d).d
+
+  abbrev pub verdict_a : Verdict
+  verdict_a = let s = settled_state a d in
+      verdict_of s.a (length (far_a a d s.a)) (left rules_a C (take s.a a))
+      (option_map_or (λ b. Some (stops_a a d s.a s.d b)) (slice_get a s.a) None)
+
+  abbrev pub verdict_d : Verdict
+  verdict_d = let s = settled_state a d in
+      verdict_of s.d (length (far_d a d s.d)) (left rules_d M (take s.d d))
+      (option_map_or (λ b. Some (stops_d a d s.a s.d b)) (slice_get d s.d) None)
+
+-- the far beats of the five channels: the manager side takes A, C and E, the client side B and D
+pub record FarBeats (C M : ℕ) : Type 0 where
+  pub a : List (BeatOf HeadA M)
+  pub b : List (BeatOf HeadB C)
+  pub c : List (BeatOf HeadC M)
+  pub d : List (BeatOf HeadD C)
+  pub e : List (BeatOf HeadE M)
+
+pub record Verdicts : Type 0 where
+  pub a : Verdict
+  pub b : Verdict
+  pub c : Verdict
+  pub d : Verdict
+  pub e : Verdict
+
+-- what the five lists of a script end in
+module _ {C M : ℕ} (a : List (BeatOf HeadA C)) (b : List (BeatOf HeadB M)) (c : List (BeatOf HeadC C)) (d : List (BeatOf HeadD M)) (e : List (BeatOf HeadE C)) where
+  abbrev pub far_beats : FarBeats C M
+  far_beats = record {
+    a = settled_far_a a d;
+    b = far_alone rules_b C b;
+    c = far_alone rules_c M c;
+    d = settled_far_d a d;
+    e = far_alone rules_e M e;
+  }
+
+  abbrev pub verdicts : Verdicts
+  verdicts = record {
+    a = verdict_a a d;
+    b = verdict_alone rules_b C b;
+    c = verdict_alone rules_c M c;
+    d = verdict_d a d;
+    e = verdict_alone rules_e M e;
+  }

@@ -1,0 +1,79 @@
+-- How far a script comes: which beats of A and D may go, and where both stop (TileLink: source and size of responses; when a source is free
+-- again and when a response may be offered: this project's choice).
+use Rattle.std.specs.Prelude.{◌+◌, ◌==◌, ℕ, Bool, false, Option, None, Some, List, [], length, map, take, nat_lt, slice_get, if◌then◌else◌}
+use Rattle.std.specs.Option.{option_map_or, is_none}
+use Rattle.tl_msg.specs.Tables.{rules_a, rules_d}
+use Rattle.tl_msg.specs.declared.head.HeadA.{HeadA}
+use Rattle.tl_msg.specs.declared.head.HeadD.{HeadD}
+use Rattle.tl_msg.specs.declared.beat.BeatOf.{BeatOf}
+use Rattle.tl_msg.specs.declared.fault.SideFault.{SideFault}
+use Rattle.tl_msg.specs.declared.fault.SideFault.TheVariants.{Beat, SourceBusy, NoRequest, SizeMismatch}
+use Rattle.tl_burst.specs.Handing.{fault_after}
+use Rattle.tl_burst.specs.Begun.{heads, left}
+use Rattle.tl_convert.specs.Due.{due}
+use Rattle.tl_settle.specs.Requests.{requests_of, responses_to, is_release_ack, partner, homes_after}
+use Rattle.tl_settle.specs.Steps.{State, settle, IsTheSettled}
+
+-- the near beats a of channel A, at the client's width C, and d of channel D, at the manager's width M
+module _ {C M : ℕ} (a : List (BeatOf HeadA C)) (d : List (BeatOf HeadD M)) where
+  -- the requests that begin in the first i beats of A, and in the far beats that these make due
+  abbrev pub requests : (i : ℕ) → List HeadA
+  requests i = heads rules_a C (take i a)
+
+  abbrev pub far_a : (i : ℕ) → List (BeatOf HeadA M)
+  far_a i = due rules_a C M (take i a) (map (λ h. h.address) (requests i))
+
+  abbrev pub requests_there : (i : ℕ) → List HeadA
+  requests_there i = heads rules_a M (far_a i)
+
+  -- the messages that begin in the first j beats of D, and in the far beats that these make due
+  abbrev pub responses : (j : ℕ) → List HeadD
+  responses j = heads rules_d M (take j d)
+
+  abbrev pub far_d : (j : ℕ) → List (BeatOf HeadD C)
+  far_d j = due rules_d M C (take j d) (homes_after (heads rules_a C a) [] (responses j))
+
+  abbrev pub responses_there : (j : ℕ) → List HeadD
+  responses_there j = heads rules_d C (far_d j)
+
+  -- a source is free where each of its requests has an answer that began at the client's side
+  abbrev pub is_free : (i j s : ℕ) → Bool
+  is_free i j s = requests_of s (requests i) == responses_to s (responses_there j)
+
+  -- what stops the next beat of A: a fault of its own, or, where it opens a message, a source that is not free
+  abbrev pub stops_a : (i j : ℕ) → BeatOf HeadA C → Option SideFault
+  stops_a i j b =
+      option_map_or (λ fault. Some (Beat fault)) (fault_after rules_a (take i a) b)
+      (if left rules_a C (take i a) == 0
+      then (if is_free i j b.head.source then None else Some SourceBusy)
+      else None)
+
+  -- what stops a response that opens a message: no request of its source waits at the manager's side, or it has another size
+  abbrev pub unanswered : (i j : ℕ) → HeadD → Option SideFault
+  unanswered i j h =
+      if nat_lt (responses_to h.source (responses j)) (requests_of h.source (requests_there i))
+      then (if option_map_or (λ q. q.size == h.size) (partner (heads rules_a C a) (responses j) h.source) false
+      then None else Some SizeMismatch)
+      else Some NoRequest
+
+  -- what stops the next beat of D: a fault of its own, or, where it opens a message other than ReleaseAck, its request
+  abbrev pub stops_d : (i j : ℕ) → BeatOf HeadD M → Option SideFault
+  stops_d i j b =
+      option_map_or (λ fault. Some (Beat fault)) (fault_after rules_d (take j d) b)
+      (if left rules_d M (take j d) == 0
+      then (if is_release_ack b.head then None else unanswered i j b.head)
+      else None)
+
+  -- whether the next beat may go
+  abbrev pub goes_a : (i j : ℕ) → Bool
+  goes_a i j = option_map_or (λ b. is_none (stops_a i j b)) (slice_get a i) false
+
+  abbrev pub goes_d : (i j : ℕ) → Bool
+  goes_d i j = option_map_or (λ b. is_none (stops_d i j b)) (slice_get d j) false
+
+  -- the state in the end, whatever the order of steps
+  abbrev pub settled_state : State
+  settled_state = settle goes_a goes_d (length a + length d) (record { a = 0; d = 0 })
+
+  abbrev pub IsSettledState : State → Type 0
+  IsSettledState s = IsTheSettled goes_a goes_d s

@@ -1,0 +1,73 @@
+-- What a side answers to a beat, by the beat's fault, by whether it opens a message, and by what the side's history says of its source.
+use Rattle.std.proofs.Common.{◌≡◌, ℕ, Bool, true, false, cond, Option, None, Some, List, refl, sym, ap, ◌∙◌}
+use Rattle.std.specs.Prelude.{◌==◌}
+use Rattle.std.specs.Option.{option_map_or, is_some}
+use Rattle.tl_msg.specs.Tables.{rules_a, rules_d}
+use Rattle.tl_msg.specs.declared.head.HeadA.{HeadA}
+use Rattle.tl_msg.specs.declared.head.HeadD.{HeadD}
+use Rattle.tl_msg.specs.declared.beat.BeatOf.{BeatOf}
+use Rattle.tl_msg.specs.declared.fault.BeatFault.{BeatFault}
+use Rattle.tl_msg.specs.declared.fault.SideFault.{SideFault}
+use Rattle.tl_msg.specs.declared.fault.SideFault.TheVariants.{Beat, SourceBusy}
+use Rattle.tl_burst.specs.Begun.{left}
+use Rattle.tl_burst.specs.Handing.{fault_after}
+use Rattle.tl_settle.specs.Histories.{Event, asked, answered, marks, open_request, client_answer, manager_answer}
+use Rattle.tl_sides.specs.Bridges.{stops_response}
+
+-- the beat's fault comes first, and then, where it opens a message, what the side says
+abbrev gate : Option BeatFault → (opens : Bool) → Option SideFault → Option SideFault
+gate fault opens side = option_map_or (λ f. Some (Beat f)) fault (cond opens side None)
+
+gate_fault : (fault : Option BeatFault) (opens : Bool) (side : Option SideFault) (f : BeatFault) → fault ≡ Some f → gate fault opens side ≡ Some (Beat f)
+gate_fault fault opens side f e = ap (λ x. gate x opens side) e
+
+gate_side : (fault : Option BeatFault) (opens : Bool) (side : Option SideFault) (f : SideFault) → fault ≡ None → opens ≡ true → side ≡ Some f →
+    gate fault opens side ≡ Some f
+gate_side fault opens side f none first e = ap (λ x. gate x opens side) none ∙ ap (λ x. gate None x side) first ∙ e
+
+gate_none : (fault : Option BeatFault) (opens : Bool) (side : Option SideFault) → fault ≡ None → (opens ≡ true → side ≡ None) → gate fault opens side ≡ None
+gate_none fault true side none free = ap (λ x. gate x true side) none ∙ free refl
+gate_none fault false side none free = ap (λ x. gate x false side) none
+
+abbrev busy_fault : Bool → Option SideFault
+busy_fault busy = cond busy (Some SourceBusy) None
+
+-- the client's side, where `accepted` are the beats of A that it has accepted
+module _ {w : ℕ} (es : List (Event w)) (b : BeatOf HeadA w) (accepted : List (BeatOf HeadA w)) (same : asked es ≡ accepted) where
+  pub client_fault : (f : BeatFault) → fault_after rules_a accepted b ≡ Some f → client_answer es b ≡ Some (Beat f)
+  client_fault f e =
+      gate_fault (fault_after rules_a (asked es) b) (left rules_a w (asked es) == 0) (busy_fault (is_some (open_request b.head.source (marks es)))) f
+      (ap (λ q. fault_after rules_a q b) same ∙ e)
+
+  pub client_busy : (first : Bool) → first ≡ (left rules_a w accepted == 0) → fault_after rules_a accepted b ≡ None → first ≡ true →
+      is_some (open_request b.head.source (marks es)) ≡ true → client_answer es b ≡ Some SourceBusy
+  client_busy first opens none begins busy =
+      gate_side (fault_after rules_a (asked es) b) (left rules_a w (asked es) == 0) (busy_fault (is_some (open_request b.head.source (marks es)))) SourceBusy
+      (ap (λ q. fault_after rules_a q b) same ∙ none) (ap (λ q. left rules_a w q == 0) same ∙ sym opens ∙ begins) (ap busy_fault busy)
+
+  pub client_none : (first : Bool) → first ≡ (left rules_a w accepted == 0) → fault_after rules_a accepted b ≡ None →
+      (first ≡ true → is_some (open_request b.head.source (marks es)) ≡ false) → client_answer es b ≡ None
+  client_none first opens none free =
+      gate_none (fault_after rules_a (asked es) b) (left rules_a w (asked es) == 0) (busy_fault (is_some (open_request b.head.source (marks es))))
+      (ap (λ q. fault_after rules_a q b) same ∙ none)
+      (λ begins. ap busy_fault (free (opens ∙ ap (λ q. left rules_a w q == 0) (sym same) ∙ begins)))
+
+-- the manager's side, where `accepted` are the beats of D that it has accepted
+module _ {w : ℕ} (es : List (Event w)) (b : BeatOf HeadD w) (accepted : List (BeatOf HeadD w)) (same : answered es ≡ accepted) where
+  pub manager_fault : (f : BeatFault) → fault_after rules_d accepted b ≡ Some f → manager_answer es b ≡ Some (Beat f)
+  manager_fault f e =
+      gate_fault (fault_after rules_d (answered es) b) (left rules_d w (answered es) == 0) (stops_response (marks es) b.head) f
+      (ap (λ q. fault_after rules_d q b) same ∙ e)
+
+  pub manager_stops : (first : Bool) (f : SideFault) → first ≡ (left rules_d w accepted == 0) → fault_after rules_d accepted b ≡ None → first ≡ true →
+      stops_response (marks es) b.head ≡ Some f → manager_answer es b ≡ Some f
+  manager_stops first f opens none begins stops =
+      gate_side (fault_after rules_d (answered es) b) (left rules_d w (answered es) == 0) (stops_response (marks es) b.head) f
+      (ap (λ q. fault_after rules_d q b) same ∙ none) (ap (λ q. left rules_d w q == 0) same ∙ sym opens ∙ begins) stops
+
+  pub manager_none : (first : Bool) → first ≡ (left rules_d w accepted == 0) → fault_after rules_d accepted b ≡ None →
+      (first ≡ true → stops_response (marks es) b.head ≡ None) → manager_answer es b ≡ None
+  manager_none first opens none free =
+      gate_none (fault_after rules_d (answered es) b) (left rules_d w (answered es) == 0) (stops_response (marks es) b.head)
+      (ap (λ q. fault_after rules_d q b) same ∙ none)
+      (λ begins. free (opens ∙ ap (λ q. left rules_d w q == 0) (sym same) ∙ begins))

@@ -1,0 +1,312 @@
+-- Each call of a bridge takes it to what it stands for after the same events.
+use Rattle.std.proofs.Common.{◌≡◌, ◌↔◌, ℕ, zero, suc, Bool, true, false, cond, Option, None, Some, List, [], ◌∷◌, ◌++◌, map, length, take, drop, refl, sym, ap, subst, ◌∙◌, append-nil}
+use Rattle.std.specs.Prelude.{◌==◌, Result, Ok, Err, OnOk, OnErr, IsOk, IsErr, slice_get}
+use Rattle.tl_msg.specs.Rules.{Rules}
+use Rattle.tl_msg.specs.Firsts.{unless, ◌or_else◌}
+use Rattle.tl_msg.specs.Faults.{mask_fits, is_clean, IsLawfulBeat}
+use Rattle.tl_msg.specs.Tables.{rules_a, rules_b, rules_c, rules_d, rules_e}
+use Rattle.tl_msg.specs.declared.fault.BeatFault.TheVariants.{Mask, Corrupt}
+use Rattle.tl_msg.proofs.Firsts.{first_none}
+use Rattle.tl_msg.specs.declared.head.HeadA.{HeadA}
+use Rattle.tl_msg.specs.declared.head.HeadB.{HeadB}
+use Rattle.tl_msg.specs.declared.head.HeadC.{HeadC}
+use Rattle.tl_msg.specs.declared.head.HeadD.{HeadD}
+use Rattle.tl_msg.specs.declared.head.HeadE.{HeadE}
+use Rattle.tl_msg.specs.declared.beat.BeatOf.{BeatOf}
+use Rattle.tl_burst.specs.Begun.{left}
+use Rattle.tl_burst.specs.Handing.{rest_of, with_home}
+use Rattle.tl_convert.specs.Due.{due}
+use Rattle.tl_ring.specs.Crossing.{World, offered, took}
+use Rattle.tl_ring.specs.Pipe.{Pipe}
+use Rattle.tl_ring.specs.Pipe as piping
+use Rattle.tl_settle.specs.Histories.{Event, Ask, Answer, Mark, Asks, Answers, asked, answered, marks, home_after, homes_from, manager_home, manager_homes}
+use Rattle.tl_sides.specs.Books.{Client, Manager, KnowsClient, KnowsManager}
+use Rattle.tl_sides.specs.Bridges.{Bridge, Past, StandsFor, begun_with, after_offer_a, after_offer_d, after_take_a, after_take_d}
+use Rattle.tl_convert.proofs.Comparisons.{equal_true, not_equal}
+use Rattle.tl_settle.proofs.Homes.{from_ask, from_answer}
+use Rattle.tl_settle.proofs.Marks.{asked_ask, asked_answer, answered_ask, answered_answer, marks_ask_first, marks_ask_inside, marks_answer_first, marks_answer_inside}
+
+-- the messages of a history with one event more
+pub marks_ask : {w : ℕ} (es : List (Event w)) (b : BeatOf HeadA w) →
+    marks (es ++ Ask b ∷ []) ≡ begun_with (left rules_a w (asked es) == 0) (Asks b.head) (marks es)
+marks_ask {w} es b = by_left (left rules_a w (asked es)) refl
+  where
+    by_left : (n : ℕ) → left rules_a w (asked es) ≡ n → marks (es ++ Ask b ∷ []) ≡ begun_with (left rules_a w (asked es) == 0) (Asks b.head) (marks es)
+    by_left zero e = marks_ask_first 0 0 es b e ∙ ap (λ t. begun_with t (Asks b.head) (marks es)) (sym (equal_true (left rules_a w (asked es)) 0 e))
+    by_left (suc n) e =
+        marks_ask_inside 0 0 n es b e ∙
+        ap (λ t. begun_with t (Asks b.head) (marks es)) (sym (not_equal (left rules_a w (asked es)) 0 (λ z. absurd (cc (z, e)))))
+
+pub marks_answer : {w : ℕ} (es : List (Event w)) (b : BeatOf HeadD w) →
+    marks (es ++ Answer b ∷ []) ≡ begun_with (left rules_d w (answered es) == 0) (Answers b.head) (marks es)
+marks_answer {w} es b = by_left (left rules_d w (answered es)) refl
+  where
+    by_left : (n : ℕ) → left rules_d w (answered es) ≡ n → marks (es ++ Answer b ∷ []) ≡ begun_with (left rules_d w (answered es) == 0) (Answers b.head) (marks es)
+    by_left zero e = marks_answer_first 0 0 es b e ∙ ap (λ t. begun_with t (Answers b.head) (marks es)) (sym (equal_true (left rules_d w (answered es)) 0 e))
+    by_left (suc n) e =
+        marks_answer_inside 0 0 n es b e ∙
+        ap (λ t. begun_with t (Answers b.head) (marks es)) (sym (not_equal (left rules_d w (answered es)) 0 (λ z. absurd (cc (z, e)))))
+
+-- what a side has noted of an event is what its history says, where `seen` are the beats of that channel
+pub noted_ask : {w : ℕ} (es : List (Event w)) (b : BeatOf HeadA w) (seen : List (BeatOf HeadA w)) (first : Bool) → asked es ≡ seen →
+    first ≡ (left rules_a w seen == 0) → begun_with first (Asks b.head) (marks es) ≡ marks (es ++ Ask b ∷ [])
+noted_ask {w} es b seen first same opens =
+    ap (λ t. begun_with t (Asks b.head) (marks es)) (opens ∙ ap (λ q. left rules_a w q == 0) (sym same)) ∙ sym (marks_ask es b)
+
+pub noted_answer : {w : ℕ} (es : List (Event w)) (b : BeatOf HeadD w) (seen : List (BeatOf HeadD w)) (first : Bool) → answered es ≡ seen →
+    first ≡ (left rules_d w seen == 0) → begun_with first (Answers b.head) (marks es) ≡ marks (es ++ Answer b ∷ [])
+noted_answer {w} es b seen first same opens =
+    ap (λ t. begun_with t (Answers b.head) (marks es)) (opens ∙ ap (λ q. left rules_d w q == 0) (sym same)) ∙ sym (marks_answer es b)
+
+-- the homes of a history with one event more
+homes_begun_ask : (t : Bool) (ms : List Mark) (h : HeadA) → homes_from [] (begun_with t (Asks h) ms) ≡ homes_from [] ms
+homes_begun_ask true ms h = from_ask [] ms h
+homes_begun_ask false ms h = refl
+
+homes_ask : {w : ℕ} (es : List (Event w)) (b : BeatOf HeadA w) → manager_homes (es ++ Ask b ∷ []) ≡ manager_homes es
+homes_ask {w} es b = ap (λ ms. homes_from [] ms) (marks_ask es b) ∙ homes_begun_ask (left rules_a w (asked es) == 0) (marks es) b.head
+
+homes_begun_answer : (t : Bool) (ms : List Mark) (h : HeadD) →
+    homes_from [] (begun_with t (Answers h) ms) ≡ homes_from [] ms ++ cond t (home_after ms h ∷ []) []
+homes_begun_answer true ms h = from_answer [] ms h
+homes_begun_answer false ms h = sym (append-nil (homes_from [] ms))
+
+homes_answer : {w : ℕ} (es : List (Event w)) (b : BeatOf HeadD w) →
+    manager_homes (es ++ Answer b ∷ []) ≡ manager_homes es ++ cond (left rules_d w (answered es) == 0) (manager_home es b.head ∷ []) []
+homes_answer {w} es b = ap (λ ms. homes_from [] ms) (marks_answer es b) ∙ homes_begun_answer (left rules_d w (answered es) == 0) (marks es) b.head
+
+-- the home of a beat is read where it opens a message alone
+homes_opened : {w : ℕ} (b : BeatOf HeadD w) (homes : List ℕ) (home : ℕ) (rest : List (BeatOf HeadD w)) (n : ℕ) → (n ≡ 0) ↔ (rest ≡ []) →
+    homes ++ cond (n == 0) (home ∷ []) [] ≡ with_home rules_d home rest homes
+homes_opened b homes home [] n f = ap (λ t. homes ++ cond t (home ∷ []) []) (equal_true n 0 (f.1 refl))
+homes_opened b homes home (x ∷ rest) n f =
+    ap (λ t. homes ++ cond t (home ∷ []) []) (not_equal n 0 (λ e. let g : (x ∷ rest) ≡ [] = f.0 e in cc)) ∙ append-nil homes
+
+same_homes : {w : ℕ} (homes : List ℕ) (home other : ℕ) (rest : List (BeatOf HeadD w)) (n : ℕ) → (n ≡ 0) ↔ (rest ≡ []) →
+    (n ≡ 0 → home ≡ other) → with_home rules_d home rest homes ≡ with_home rules_d other rest homes
+same_homes homes home other [] n f e = ap (λ x. homes ++ x ∷ []) (e (f.1 refl))
+same_homes homes home other (x ∷ rest) n f e = refl
+
+-- the first beat of an inbox is taken, if there is one
+module _ {w : ℕ} (es : List (Event w)) where
+  asked_taken_a : (bs : List (BeatOf HeadA w)) → asked (es ++ map Ask (take 1 bs)) ≡ asked es ++ take 1 bs
+  asked_taken_a [] = ap asked (append-nil es) ∙ sym (append-nil (asked es))
+  asked_taken_a (b ∷ bs) = asked_ask es b
+
+  answered_taken_a : (bs : List (BeatOf HeadA w)) → answered (es ++ map Ask (take 1 bs)) ≡ answered es
+  answered_taken_a [] = ap answered (append-nil es)
+  answered_taken_a (b ∷ bs) = answered_ask es b
+
+  homes_taken_a : (bs : List (BeatOf HeadA w)) → manager_homes (es ++ map Ask (take 1 bs)) ≡ manager_homes es
+  homes_taken_a [] = ap manager_homes (append-nil es)
+  homes_taken_a (b ∷ bs) = homes_ask es b
+
+  asked_taken_d : (bs : List (BeatOf HeadD w)) → asked (es ++ map Answer (take 1 bs)) ≡ asked es
+  asked_taken_d [] = ap asked (append-nil es)
+  asked_taken_d (b ∷ bs) = asked_answer es b
+
+  answered_taken_d : (bs : List (BeatOf HeadD w)) → answered (es ++ map Answer (take 1 bs)) ≡ answered es ++ take 1 bs
+  answered_taken_d [] = ap answered (append-nil es) ∙ sym (append-nil (answered es))
+  answered_taken_d (b ∷ bs) = answered_answer es b
+
+module _ {C M : ℕ} (s : Bridge C M) (x : Past C M) (h : StandsFor s x) where
+  -- what happens between the ends of a crossing, or closes it
+  pub with_a : (p : Pipe HeadA M) (y : World HeadA C M) → piping.StandsFor rules_a p y → y.accepted ≡ x.a.accepted → y.taken ≡ x.a.taken →
+      StandsFor (record s { a = p }) (record x { a = y })
+  with_a p y k accepted taken = record {
+    a = k;
+    b = h.b;
+    c = h.c;
+    d = h.d;
+    e = h.e;
+    client_asked = h.client_asked ∙ sym accepted;
+    client_answered = h.client_answered;
+    manager_asked = h.manager_asked ∙ sym taken;
+    manager_answered = h.manager_answered;
+    homes = h.homes;
+    client = h.client;
+    manager = h.manager;
+  }
+
+  pub with_b : (p : Pipe HeadB C) (y : World HeadB M C) → piping.StandsFor rules_b p y → StandsFor (record s { b = p }) (record x { b = y })
+  with_b p y k = record {
+    a = h.a;
+    b = k;
+    c = h.c;
+    d = h.d;
+    e = h.e;
+    client_asked = h.client_asked;
+    client_answered = h.client_answered;
+    manager_asked = h.manager_asked;
+    manager_answered = h.manager_answered;
+    homes = h.homes;
+    client = h.client;
+    manager = h.manager;
+  }
+
+  pub with_c : (p : Pipe HeadC M) (y : World HeadC C M) → piping.StandsFor rules_c p y → StandsFor (record s { c = p }) (record x { c = y })
+  with_c p y k = record {
+    a = h.a;
+    b = h.b;
+    c = k;
+    d = h.d;
+    e = h.e;
+    client_asked = h.client_asked;
+    client_answered = h.client_answered;
+    manager_asked = h.manager_asked;
+    manager_answered = h.manager_answered;
+    homes = h.homes;
+    client = h.client;
+    manager = h.manager;
+  }
+
+  pub with_d : (p : Pipe HeadD C) (y : World HeadD M C) → piping.StandsFor rules_d p y → y.accepted ≡ x.d.accepted → y.taken ≡ x.d.taken →
+      y.homes ≡ x.d.homes → StandsFor (record s { d = p }) (record x { d = y })
+  with_d p y k accepted taken homes = record {
+    a = h.a;
+    b = h.b;
+    c = h.c;
+    d = k;
+    e = h.e;
+    client_asked = h.client_asked;
+    client_answered = h.client_answered ∙ sym taken;
+    manager_asked = h.manager_asked;
+    manager_answered = h.manager_answered ∙ sym accepted;
+    homes = h.homes ∙ sym homes;
+    client = h.client;
+    manager = h.manager;
+  }
+
+  pub with_e : (p : Pipe HeadE M) (y : World HeadE C M) → piping.StandsFor rules_e p y → StandsFor (record s { e = p }) (record x { e = y })
+  with_e p y k = record {
+    a = h.a;
+    b = h.b;
+    c = h.c;
+    d = h.d;
+    e = k;
+    client_asked = h.client_asked;
+    client_answered = h.client_answered;
+    manager_asked = h.manager_asked;
+    manager_answered = h.manager_answered;
+    homes = h.homes;
+    client = h.client;
+    manager = h.manager;
+  }
+
+  -- a beat of A is accepted
+  pub offered_a : (p : Pipe HeadA M) (b : BeatOf HeadA C) (book : Client) → piping.StandsFor rules_a p (offered rules_a b 0 x.a) →
+      KnowsClient book (x.client ++ Ask b ∷ []) → StandsFor (record s { a = p; client = book }) (after_offer_a b x)
+  offered_a p b book k noted = record {
+    a = k;
+    b = h.b;
+    c = h.c;
+    d = h.d;
+    e = h.e;
+    client_asked = asked_ask x.client b ∙ ap (λ q. q ++ b ∷ []) h.client_asked;
+    client_answered = answered_ask x.client b ∙ h.client_answered;
+    manager_asked = h.manager_asked;
+    manager_answered = h.manager_answered;
+    homes = h.homes;
+    client = noted;
+    manager = h.manager;
+  }
+
+  -- a beat of D is accepted
+  pub offered_d : (p : Pipe HeadD C) (b : BeatOf HeadD M) (home : ℕ) (book : Manager) →
+      (left rules_d M x.d.accepted ≡ 0) ↔ (rest_of rules_d M x.d.accepted ≡ []) → piping.StandsFor rules_d p (offered rules_d b home x.d) →
+      (left rules_d M x.d.accepted ≡ 0 → home ≡ manager_home x.manager b.head) →
+      KnowsManager book (x.manager ++ Answer b ∷ []) → StandsFor (record s { d = p; manager = book }) (after_offer_d b x)
+  offered_d p b home book between k right noted =
+      let given : ℕ = manager_home x.manager b.head in
+      let homes_same : with_home rules_d home (rest_of rules_d M x.d.accepted) x.d.homes ≡ with_home rules_d given (rest_of rules_d M x.d.accepted) x.d.homes =
+      same_homes x.d.homes home given (rest_of rules_d M x.d.accepted) (left rules_d M x.d.accepted) between right in
+      let homes_now : manager_homes (x.manager ++ Answer b ∷ []) ≡ with_home rules_d given (rest_of rules_d M x.d.accepted) x.d.homes =
+      homes_answer x.manager b ∙
+      ap (λ q. manager_homes x.manager ++ cond (left rules_d M q == 0) (given ∷ []) []) h.manager_answered ∙
+      ap (λ q. q ++ cond (left rules_d M x.d.accepted == 0) (given ∷ []) []) h.homes ∙
+      homes_opened b x.d.homes given (rest_of rules_d M x.d.accepted) (left rules_d M x.d.accepted) between in
+      let crossed : offered rules_d b home x.d ≡ offered rules_d b given x.d =
+      ap (λ hs. record x.d {
+        accepted = x.d.accepted ++ b ∷ [];
+        homes = hs;
+        stage = drop (length (due rules_d M C x.d.accepted x.d.homes)) (due rules_d M C (x.d.accepted ++ b ∷ []) hs);
+      }) homes_same in
+      record {
+        a = h.a;
+        b = h.b;
+        c = h.c;
+        d = subst (λ (y : World HeadD M C). piping.StandsFor rules_d p y) crossed k;
+        e = h.e;
+        client_asked = h.client_asked;
+        client_answered = h.client_answered;
+        manager_asked = asked_answer x.manager b ∙ h.manager_asked;
+        manager_answered = answered_answer x.manager b ∙ ap (λ q. q ++ b ∷ []) h.manager_answered;
+        homes = homes_now;
+        client = h.client;
+        manager = noted;
+      }
+
+  -- a beat of A is taken, or none
+  pub taken_a : (p : Pipe HeadA M) (book : Manager) → piping.StandsFor rules_a p (took x.a) →
+      KnowsManager book (x.manager ++ map Ask (take 1 x.a.inbox)) → StandsFor (record s { a = p; manager = book }) (after_take_a x)
+  taken_a p book k noted = record {
+    a = k;
+    b = h.b;
+    c = h.c;
+    d = h.d;
+    e = h.e;
+    client_asked = h.client_asked;
+    client_answered = h.client_answered;
+    manager_asked = asked_taken_a x.manager x.a.inbox ∙ ap (λ q. q ++ take 1 x.a.inbox) h.manager_asked;
+    manager_answered = answered_taken_a x.manager x.a.inbox ∙ h.manager_answered;
+    homes = homes_taken_a x.manager x.a.inbox ∙ h.homes;
+    client = h.client;
+    manager = noted;
+  }
+
+  -- a beat of D is taken, or none
+  pub taken_d : (p : Pipe HeadD C) (book : Client) → piping.StandsFor rules_d p (took x.d) →
+      KnowsClient book (x.client ++ map Answer (take 1 x.d.inbox)) → StandsFor (record s { d = p; client = book }) (after_take_d x)
+  taken_d p book k noted = record {
+    a = h.a;
+    b = h.b;
+    c = h.c;
+    d = k;
+    e = h.e;
+    client_asked = asked_taken_d x.client x.d.inbox ∙ h.client_asked;
+    client_answered = answered_taken_d x.client x.d.inbox ∙ ap (λ q. q ++ take 1 x.d.inbox) h.client_answered;
+    manager_asked = h.manager_asked;
+    manager_answered = h.manager_answered;
+    homes = h.homes;
+    client = noted;
+    manager = h.manager;
+  }
+
+-- what an Ok shows, from what it has shown
+pub on_ok_to : {T E P Q : Type 0} (r : Result T E) → (P → Q) → OnOk r P → OnOk r Q
+on_ok_to (Ok v) f p = f p
+on_ok_to (Err e) f p = tt
+
+-- the head of a lawful beat has no fault
+pub lawful_head : {H : Type 0} (r : Rules H) {w : ℕ} (b : BeatOf H w) → IsLawfulBeat r b → r.fault b.head ≡ None
+lawful_head r b e = first_none (r.fault b.head) (unless (mask_fits r b) Mask or_else unless (is_clean r b) Corrupt) e
+
+-- what an inbox has first
+pub some_taken : {A : Type 0} (bs : List A) (b : A) → slice_get bs 0 ≡ Some b → take 1 bs ≡ b ∷ []
+some_taken [] b e = cc
+some_taken (x ∷ bs) b e = let f : x ≡ b = cc in ap (λ y. y ∷ []) f
+
+pub none_taken : {A : Type 0} (bs : List A) → slice_get bs 0 ≡ None → take 1 bs ≡ []
+none_taken [] e = refl
+none_taken (x ∷ bs) e = cc
+
+pub err_not_ok : {T E : Type 0} (r : Result T E) → IsErr r → IsOk r → ⊥
+err_not_ok (Ok y) e o = cc
+err_not_ok (Err y) e o = cc
+
+pub none_not_some : {A : Type 0} {o : Option A} {x : A} → o ≡ Some x → o ≡ None → ⊥
+none_not_some e f = cc
+
+pub on_err_to : {T E P Q : Type 0} (r : Result T E) → (P → Q) → OnErr r P → OnErr r Q
+on_err_to (Ok v) f p = tt
+on_err_to (Err e) f p = f p

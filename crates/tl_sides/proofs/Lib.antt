@@ -1,0 +1,6 @@
+pub mod Entries
+pub mod Between
+pub mod Answering
+pub mod BridgeSteps
+mod Kept
+pub mod BridgeSize

@@ -1,0 +1,36 @@
+-- What each side keeps between its calls, and that it is enough to know the side's history (this project's choice).
+use Rattle.std.specs.Prelude.{◌≡◌, ℕ, Bool, Option, List}
+use Rattle.tl_msg.specs.Rules.{Rules}
+use Rattle.tl_msg.specs.Tables.{rules_a, rules_d}
+use Rattle.tl_msg.specs.declared.beat.BeatOf.{BeatOf}
+use Rattle.tl_burst.specs.Begun.{left}
+use Rattle.tl_burst.specs.Handing.{IsHanded, burst_after}
+use Rattle.tl_burst.specs.Tracking.{IsPlaceOf}
+use Rattle.tl_burst.specs.declared.place.Place.{Place}
+use Rattle.tl_sides.specs.declared.tables.Request.{Request}
+use Rattle.tl_settle.specs.Histories.{Event, asked, answered, marks}
+use Rattle.tl_sides.specs.Tables.{AreBusy, AreOpen}
+
+-- the client's side: its busy sources, and how many beats the last response that it takes still lacks
+pub record Client : Type 0 where
+  pub sources : List Bool
+  pub lacking : ℕ
+
+-- the manager's side: the open requests, and how many beats the last request that it takes still lacks
+pub record Manager : Type 0 where
+  pub requests : List (Option Request)
+  pub lacking : ℕ
+
+-- a book is kept up to this history of its side
+pub record KnowsClient {w : ℕ} (book : Client) (es : List (Event w)) : Type 0 where
+  pub sources : AreBusy book.sources (marks es)
+  pub lacking : book.lacking ≡ left rules_d w (answered es)
+
+pub record KnowsManager {w : ℕ} (book : Manager) (es : List (Event w)) : Type 0 where
+  pub requests : AreOpen book.requests (marks es)
+  pub lacking : book.lacking ≡ left rules_a w (asked es)
+
+-- after these beats, no burst of which is interrupted, a beat has no fault and stands at this place
+pub record IsNext {H K : Type 0} (r : Rules H) {w : ℕ} (bs : List (BeatOf H w)) (b : BeatOf H w) (place : Place K H) : Type 0 where
+  pub handed : IsHanded r bs
+  pub is_place : IsPlaceOf r w (burst_after r bs) b place

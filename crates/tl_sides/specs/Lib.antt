@@ -1,0 +1,3 @@
+pub mod Tables
+pub mod Books
+pub mod Bridges

@@ -1,0 +1,227 @@
+//! What each side of the bridge keeps between its calls: which requests wait for a response, and where the beats that it takes begin
+//! a message.
+ghost use Rattle.std.specs.Prelude.{◌≡◌, ◌↔◌, ◌++◌, ◌∷◌, [], Bool, List, true, false, Some, None, IsOk, IfOk, IfErr, OnOk, OnErr};
+ghost use Rattle.std.specs.Option.{is_some};
+ghost use Rattle.tl_lanes.specs.Lanes.{IsWidth};
+ghost use Rattle.tl_msg.specs.Tables.{rules_a, rules_d};
+ghost use Rattle.tl_msg.specs.declared.head.HeadA.{HeadA};
+ghost use Rattle.tl_msg.specs.declared.head.HeadD.{HeadD};
+ghost use Rattle.tl_msg.specs.declared.beat.BeatOf.{BeatOf};
+ghost use Rattle.tl_msg.specs.declared.fault.SideFault.TheVariants.{SourceBusy};
+ghost use Rattle.tl_burst.specs.Begun.{left};
+ghost use Rattle.tl_settle.specs.Requests.{is_release_ack};
+ghost use Rattle.tl_settle.specs.Histories.{Event, Ask, Answer, Mark, Asks, Answers, asked, answered, client_answer, manager_answer, manager_home, open_request, home_after};
+ghost use Rattle.tl_sides.specs.Tables.{AreBusy, AreOpen};
+ghost use Rattle.tl_sides.specs.Books.{KnowsClient, KnowsManager, IsNext};
+ghost use Rattle.tl_sides.specs.Bridges.{begun_with, stops_response};
+
+use crate::tables::{Request, RequestTable, SourceTable};
+use std::marker::Model;
+use tl_burst::{BurstCounter, Place};
+use tl_msg::{ChA, ChD, HeadA, HeadD, SideFault};
+
+/// The opcode of ReleaseAck, which answers a message of channel C, and no request (TileLink: opcode tables).
+const RELEASE_ACK: u8 = 6;
+
+// The book of the client's side, on a bus of `C` bytes: it asks on A and is answered on D. `KnowsClient` says up to which history of
+// the side's own beats it is kept.
+#[derive(Drop)]
+pub(crate) struct ClientBook<const C: usize> {
+    sources: SourceTable,
+    responses: BurstCounter<ChD, C>,
+}
+
+impl<const C: usize> Model for ClientBook<C> {
+    ghost use Rattle.tl_sides.specs.Books.{Client};
+
+    ghost Value = { Client };
+
+    ghost view = { λ b. record { sources = b.sources; lacking = b.responses } };
+}
+
+impl<const C: usize> ClientBook<C> {
+    // The book of a side that has no history.
+    pub(crate) fn new() -> Self
+        ensures { KnowsClient {w = C} result [] }
+    {
+        ClientBook {
+            sources: SourceTable::new(),
+            responses: BurstCounter::new(),
+        }
+    }
+
+    // Asks whether a beat of A may go that has no fault of its own and stands at this place, and notes it where it may. Else nothing
+    // changes.
+    pub(crate) fn ask(&mut self, place: &Place<ChA>) -> Result<(), SideFault>
+        // for every history that the book knows
+        ensures admitted { (es : List (Event C)) (b : BeatOf HeadA C) → KnowsClient self.old es → IsNext rules_a (asked es) b place.now →
+            IsOk result ↔ (client_answer es b ≡ None) }
+        ensures noted { (es : List (Event C)) (b : BeatOf HeadA C) → KnowsClient self.old es → IsNext rules_a (asked es) b place.now →
+            OnOk result (KnowsClient self.new (es ++ Ask b ∷ [])) }
+        ensures fault { (es : List (Event C)) (b : BeatOf HeadA C) → KnowsClient self.old es → IsNext rules_a (asked es) b place.now →
+            IfErr result (λ fault. client_answer es b ≡ Some fault) }
+        // for every book
+        ensures refused { OnErr result (self.new ≡ self.old) }
+    {
+        let first = place.index == 0;
+        ask_for_source(&self.sources, &place.head, first)?;
+        note_asked(&mut self.sources, &place.head, first);
+        Ok(())
+    }
+
+    // Notes that the side takes a beat of D with this head.
+    pub(crate) fn note_answer(&mut self, head: &HeadD)
+        requires width { IsWidth C }
+        requires lawful { rules_d.fault head.now ≡ None }
+        ensures { (es : List (Event C)) (b : BeatOf HeadD C) → KnowsClient self.old es → b.head ≡ head.now →
+            KnowsClient self.new (es ++ Answer b ∷ []) }
+    {
+        let first = self.responses.first();
+        self.responses.pass(head);
+        note_answered(&mut self.sources, head, first);
+    }
+}
+
+// The book of the manager's side, on a bus of `M` bytes: it is asked on A and answers on D. `KnowsManager` says up to which history
+// of the side's own beats it is kept.
+#[derive(Drop)]
+pub(crate) struct ManagerBook<const M: usize> {
+    requests: RequestTable,
+    asks: BurstCounter<ChA, M>,
+}
+
+impl<const M: usize> Model for ManagerBook<M> {
+    ghost use Rattle.tl_sides.specs.Books.{Manager};
+
+    ghost Value = { Manager };
+
+    ghost view = { λ b. record { requests = b.requests; lacking = b.asks } };
+}
+
+impl<const M: usize> ManagerBook<M> {
+    // The book of a side that has no history.
+    pub(crate) fn new() -> Self
+        ensures { KnowsManager {w = M} result [] }
+    {
+        ManagerBook {
+            requests: RequestTable::new(),
+            asks: BurstCounter::new(),
+        }
+    }
+
+    // Asks whether a beat of D may go that has no fault of its own and stands at this place, and notes it where it may, with its home
+    // as the answer where it opens a message. Else nothing changes.
+    pub(crate) fn answer(&mut self, place: &Place<ChD>) -> Result<u64, SideFault>
+        // for every history that the book knows
+        ensures admitted { (es : List (Event M)) (b : BeatOf HeadD M) → KnowsManager self.old es → IsNext rules_d (answered es) b place.now →
+            IsOk result ↔ (manager_answer es b ≡ None) }
+        ensures noted { (es : List (Event M)) (b : BeatOf HeadD M) → KnowsManager self.old es → IsNext rules_d (answered es) b place.now →
+            OnOk result (KnowsManager self.new (es ++ Answer b ∷ [])) }
+        ensures home { (es : List (Event M)) (b : BeatOf HeadD M) → KnowsManager self.old es → IsNext rules_d (answered es) b place.now →
+            left rules_d M (answered es) ≡ 0 → IfOk result (λ home. home ≡ manager_home es b.head) }
+        ensures fault { (es : List (Event M)) (b : BeatOf HeadD M) → KnowsManager self.old es → IsNext rules_d (answered es) b place.now →
+            IfErr result (λ fault. manager_answer es b ≡ Some fault) }
+        // for every book
+        ensures refused { OnErr result (self.new ≡ self.old) }
+    {
+        let first = place.index == 0;
+        let home = ask_for_home(&self.requests, &place.head, first)?;
+        note_response(&mut self.requests, &place.head, first);
+        Ok(home)
+    }
+
+    // Notes that the side takes a beat of A with this head.
+    pub(crate) fn note_ask(&mut self, head: &HeadA)
+        requires width { IsWidth M }
+        requires lawful { rules_a.fault head.now ≡ None }
+        ensures { (es : List (Event M)) (b : BeatOf HeadA M) → KnowsManager self.old es → b.head ≡ head.now →
+            KnowsManager self.new (es ++ Ask b ∷ []) }
+    {
+        let first = self.asks.first();
+        self.asks.pass(head);
+        note_request(&mut self.requests, head, first);
+    }
+}
+
+// Whether a message of D answers no request.
+fn is_release_ack(head: &HeadD) -> bool
+    ensures { result ≡ Rattle.tl_settle.specs.Requests.is_release_ack head.now }
+{
+    head.opcode == RELEASE_ACK
+}
+
+// Asks whether the source of a request is free, where it opens a message.
+fn ask_for_source(
+    sources: &SourceTable,
+    head: &HeadA,
+    first: bool,
+) -> Result<(), SideFault>
+    ensures refused { (ms : List Mark) → AreBusy sources.now ms → IfErr result (λ fault. (fault ≡ SourceBusy) × (first ≡ true) × (is_some (open_request head.now.source ms) ≡ true)) }
+    ensures free { (ms : List Mark) → AreBusy sources.now ms → OnOk result (first ≡ true → is_some (open_request head.now.source ms) ≡ false) }
+{
+    if first && sources.busy(head.source) {
+        return Err(SideFault::SourceBusy);
+    }
+    Ok(())
+}
+
+// Asks for the home of a response, where it opens a message: the address of the request that it answers, and 0 for ReleaseAck.
+fn ask_for_home(
+    requests: &RequestTable,
+    head: &HeadD,
+    first: bool,
+) -> Result<u64, SideFault>
+    ensures refused { (ms : List Mark) → AreOpen requests.now ms → IfErr result (λ fault. (first ≡ true) × (stops_response ms head.now ≡ Some fault)) }
+    ensures home { (ms : List Mark) → AreOpen requests.now ms → IfOk result (λ home. first ≡ true → (stops_response ms head.now ≡ None) × (home ≡ home_after ms head.now)) }
+{
+    if !first || is_release_ack(head) {
+        return Ok(0);
+    }
+    let Some(request) = requests.get(head.source) else {
+        return Err(SideFault::NoRequest);
+    };
+    if request.size != head.size {
+        return Err(SideFault::SizeMismatch);
+    }
+    Ok(request.address)
+}
+
+// A request makes its source busy, where it opens a message.
+fn note_asked(sources: &mut SourceTable, head: &HeadA, first: bool)
+    ensures { (ms : List Mark) → AreBusy sources.old ms → AreBusy sources.new (begun_with first (Asks head.now) ms) }
+{
+    if first {
+        sources.begin(head.source);
+    }
+}
+
+// A response other than ReleaseAck frees its source, where it opens a message.
+fn note_answered(sources: &mut SourceTable, head: &HeadD, first: bool)
+    ensures { (ms : List Mark) → AreBusy sources.old ms → AreBusy sources.new (begun_with first (Answers head.now) ms) }
+{
+    if first && !is_release_ack(head) {
+        sources.end(head.source);
+    }
+}
+
+// A request begins, where it opens a message.
+fn note_request(requests: &mut RequestTable, head: &HeadA, first: bool)
+    ensures { (ms : List Mark) → AreOpen requests.old ms → AreOpen requests.new (begun_with first (Asks head.now) ms) }
+{
+    if first {
+        let request = Request {
+            size: head.size,
+            address: head.address,
+        };
+        requests.begin(head.source, request);
+    }
+}
+
+// A response other than ReleaseAck ends its request, where it opens a message.
+fn note_response(requests: &mut RequestTable, head: &HeadD, first: bool)
+    ensures { (ms : List Mark) → AreOpen requests.old ms → AreOpen requests.new (begun_with first (Answers head.now) ms) }
+{
+    if first && !is_release_ack(head) {
+        requests.end(head.source);
+    }
+}

@@ -1,0 +1,374 @@
+//! The bridge of both sides in one thread.
+ghost use Rattle.std.specs.Prelude.{◌≡◌, ◌≤◌, ◌<◌, ◌↔◌, ◌⊎◌, [], None, Some, true, slice_get, IsOk, IsTrue, IfOk, IfErr, OnOk, OnErr};
+ghost use Rattle.tl_lanes.specs.Lanes.{IsWidth};
+ghost use Rattle.tl_msg.specs.Tables.{rules_a, rules_b, rules_c, rules_d, rules_e};
+ghost use Rattle.tl_burst.specs.Handing.{rest_of, fault_after};
+ghost use Rattle.tl_ring.specs.Crossing.{World, offered};
+ghost use Rattle.tl_ring.specs.Pipe.{IsReady};
+ghost use Rattle.tl_ring.specs.Pipe as piping;
+ghost use Rattle.tl_settle.specs.Histories.{client_answer, manager_answer};
+ghost use Rattle.tl_sides.specs.Bridges.{Past, StandsFor, IsStanding, stops_alone, nothing_yet, all_pumped, all_fetched, after_pump, after_fetch};
+ghost use Rattle.tl_sides.specs.Bridges.{after_offer_a, after_offer_b, after_offer_c, after_offer_d, after_offer_e};
+ghost use Rattle.tl_sides.specs.Bridges.{after_take_a, after_take_b, after_take_c, after_take_d, after_take_e};
+ghost use Rattle.tl_sides.specs.Bridges.{after_close_a, after_close_b, after_close_c, after_close_d, after_close_e};
+
+use crate::books::{ClientBook, ManagerBook};
+use std::alloc::{Allocator, Global};
+use std::marker::Model;
+use tl_msg::{
+    Beat, BeatOf, ChA, ChB, ChC, ChD, ChE, Channel, HeadA, HeadB, HeadC, HeadD, HeadE, SideFault,
+};
+use tl_ring::{BuildFault, EndFault, Standing, SyncPipe};
+
+/// How many far beats stand at each place of each channel.
+#[derive(Clone, Copy, PartialEq, Eq, Debug, Default)]
+pub struct Standings {
+    pub a: Standing,
+    pub b: Standing,
+    pub c: Standing,
+    pub d: Standing,
+    pub e: Standing,
+}
+
+/// Both sides of the bridge within one thread: five crossings, and what ties channel D to channel A.
+///
+/// The client's side, on a bus of `C` bytes, offers beats of A, C and E and takes those of B and D; the manager's side, on a bus of
+/// `M` bytes, offers beats of B and D and takes those of A, C and E. Between an offer and a take lie a stage of 64 beats, a ring and
+/// an inbox of 64 beats: `pump` moves beats from the stages into the rings, and `fetch` from the rings into the inboxes.
+///
+/// A source has one request in flight: it is busy from the first beat of A that the client's side offers until that side takes the
+/// first beat of the response. A response may be offered once the first beat of its request was taken, has the request's size, and
+/// stands on lanes by the request's address. ReleaseAck answers no request (TileLink: source and size of responses; the moments at
+/// which a source is busy and a request is open: this project's choice).
+#[derive(Drop)]
+pub struct SyncBridge<const C: usize, const M: usize, A: Allocator = Global> {
+    a: SyncPipe<ChA, C, M, A>,
+    b: SyncPipe<ChB, M, C, A>,
+    c: SyncPipe<ChC, C, M, A>,
+    d: SyncPipe<ChD, M, C, A>,
+    e: SyncPipe<ChE, C, M, A>,
+    client: ClientBook<C>,
+    manager: ManagerBook<M>,
+}
+
+impl<const C: usize, const M: usize, A: Allocator> Model for SyncBridge<C, M, A> {
+    ghost use Rattle.tl_sides.specs.Bridges.{Bridge};
+
+    ghost Value = { Bridge C M };
+
+    ghost view = { λ s. record {
+      a = s.a;
+      b = s.b;
+      c = s.c;
+      d = s.d;
+      e = s.e;
+      client = s.client;
+      manager = s.manager;
+    } };
+}
+
+// Offers a beat on a channel that nothing couples to another one.
+fn offer_alone<K: Channel, const W: usize, const V: usize, A: Allocator>(
+    pipe: &mut SyncPipe<K, W, V, A>,
+    beat: &Beat<K, W>,
+) -> Result<(), SideFault>
+    requires near { IsWidth W }
+    requires far { IsWidth V }
+    requires ready { IsReady pipe.old }
+    ensures admitted { (x : World K.Head W V) → piping.StandsFor K.rules pipe.old x → IsOk result ↔ (stops_alone K.rules x.accepted beat.now ≡ None) }
+    ensures accepted { (x : World K.Head W V) → piping.StandsFor K.rules pipe.old x → OnOk result (piping.StandsFor K.rules pipe.new (offered K.rules beat.now 0 x)) }
+    ensures fault { (x : World K.Head W V) → piping.StandsFor K.rules pipe.old x → IfErr result (λ fault. stops_alone K.rules x.accepted beat.now ≡ Some fault) }
+    ensures refused { OnErr result (pipe.new ≡ pipe.old) }
+{
+    let place = pipe.check(beat)?;
+    pipe.offer_at(beat, place, 0);
+    Ok(())
+}
+
+impl<const C: usize, const M: usize, A: Allocator + Copy> SyncBridge<C, M, A> {
+    /// A new bridge with five rings of `ring` beats each, the only memory that it takes. Refused with `RingSize` exactly where
+    /// `ring` is 0 or above 4,096, and else with `OutOfMemory` where the allocator has no memory for a ring.
+    pub fn new(alloc: A, ring: usize) -> Result<Self, BuildFault>
+        requires client { IsWidth C }
+        requires manager { IsWidth M }
+        ensures new { IfOk result (λ bridge. StandsFor bridge (nothing_yet ring)) }
+        ensures size { IsOk result → (1 ≤ ring) × (ring ≤ 4096) }
+        ensures ring_size { IfErr result (λ fault. (fault ≡ BuildFault.RingSize) ↔ ((ring ≡ 0) ⊎ (4096 < ring))) }
+    {
+        let a = SyncPipe::new(alloc, ring)?;
+        let b = SyncPipe::new(alloc, ring)?;
+        let c = SyncPipe::new(alloc, ring)?;
+        let d = SyncPipe::new(alloc, ring)?;
+        let e = SyncPipe::new(alloc, ring)?;
+        Ok(SyncBridge {
+            a,
+            b,
+            c,
+            d,
+            e,
+            client: ClientBook::new(),
+            manager: ManagerBook::new(),
+        })
+    }
+}
+
+impl<const C: usize, const M: usize, A: Allocator> SyncBridge<C, M, A> {
+    /// Whether a beat of A may be offered: nothing of A is staged, and the channel isn't closed.
+    pub fn ready_a(&self) -> bool
+        ensures { IsTrue result ↔ IsReady self.now.a }
+    {
+        self.a.ready()
+    }
+
+    /// Whether a beat of B may be offered: nothing of B is staged, and the channel isn't closed.
+    pub fn ready_b(&self) -> bool
+        ensures { IsTrue result ↔ IsReady self.now.b }
+    {
+        self.b.ready()
+    }
+
+    /// Whether a beat of C may be offered: nothing of C is staged, and the channel isn't closed.
+    pub fn ready_c(&self) -> bool
+        ensures { IsTrue result ↔ IsReady self.now.c }
+    {
+        self.c.ready()
+    }
+
+    /// Whether a beat of D may be offered: nothing of D is staged, and the channel isn't closed.
+    pub fn ready_d(&self) -> bool
+        ensures { IsTrue result ↔ IsReady self.now.d }
+    {
+        self.d.ready()
+    }
+
+    /// Whether a beat of E may be offered: nothing of E is staged, and the channel isn't closed.
+    pub fn ready_e(&self) -> bool
+        ensures { IsTrue result ↔ IsReady self.now.e }
+    {
+        self.e.ready()
+    }
+
+    /// The client's side offers a beat of A where A is ready. It is refused with the beat's own fault, else, where it opens a
+    /// message, with `SourceBusy` exactly where its source is busy. A refusal changes nothing. An accepted first beat makes its
+    /// source busy, and the far beats that the beat completes are staged.
+    pub fn offer_a(&mut self, beat: BeatOf<HeadA, C>) -> Result<(), SideFault>
+        requires client { IsWidth C }
+        requires manager { IsWidth M }
+        requires ready { IsReady self.old.a }
+        ensures admitted { (x : Past C M) → StandsFor self.old x → IsOk result ↔ (client_answer x.client beat.entry ≡ None) }
+        ensures accepted { (x : Past C M) → StandsFor self.old x → OnOk result (StandsFor self.new (after_offer_a beat.entry x)) }
+        ensures fault { (x : Past C M) → StandsFor self.old x → IfErr result (λ fault. client_answer x.client beat.entry ≡ Some fault) }
+        ensures refused { OnErr result (self.new ≡ self.old) }
+    {
+        let place = self.a.check(&beat)?;
+        self.client.ask(&place)?;
+        self.a.offer_at(&beat, place, 0);
+        Ok(())
+    }
+
+    /// The manager's side offers a beat of B where B is ready. It is refused exactly with the beat's own fault, and nothing changes
+    /// then. Else the far beats that it completes are staged.
+    pub fn offer_b(&mut self, beat: BeatOf<HeadB, M>) -> Result<(), SideFault>
+        requires client { IsWidth C }
+        requires manager { IsWidth M }
+        requires ready { IsReady self.old.b }
+        ensures admitted { (x : Past C M) → StandsFor self.old x → IsOk result ↔ (stops_alone rules_b x.b.accepted beat.entry ≡ None) }
+        ensures accepted { (x : Past C M) → StandsFor self.old x → OnOk result (StandsFor self.new (after_offer_b beat.entry x)) }
+        ensures fault { (x : Past C M) → StandsFor self.old x → IfErr result (λ fault. stops_alone rules_b x.b.accepted beat.entry ≡ Some fault) }
+        ensures refused { OnErr result (self.new ≡ self.old) }
+    {
+        offer_alone::<ChB, M, C, A>(&mut self.b, &beat)
+    }
+
+    /// The client's side offers a beat of C where C is ready. It is refused exactly with the beat's own fault, and nothing changes
+    /// then. Else the far beats that it completes are staged.
+    pub fn offer_c(&mut self, beat: BeatOf<HeadC, C>) -> Result<(), SideFault>
+        requires client { IsWidth C }
+        requires manager { IsWidth M }
+        requires ready { IsReady self.old.c }
+        ensures admitted { (x : Past C M) → StandsFor self.old x → IsOk result ↔ (stops_alone rules_c x.c.accepted beat.entry ≡ None) }
+        ensures accepted { (x : Past C M) → StandsFor self.old x → OnOk result (StandsFor self.new (after_offer_c beat.entry x)) }
+        ensures fault { (x : Past C M) → StandsFor self.old x → IfErr result (λ fault. stops_alone rules_c x.c.accepted beat.entry ≡ Some fault) }
+        ensures refused { OnErr result (self.new ≡ self.old) }
+    {
+        offer_alone::<ChC, C, M, A>(&mut self.c, &beat)
+    }
+
+    /// The manager's side offers a beat of D where D is ready. It is refused with the beat's own fault, else, where it opens a
+    /// message other than ReleaseAck, with `NoRequest` exactly where its source has no open request, and with `SizeMismatch`
+    /// exactly where that request has another size. A refusal changes nothing. An accepted first beat ends its request, whose
+    /// address is the message's home, and the far beats that the beat completes are staged.
+    pub fn offer_d(&mut self, beat: BeatOf<HeadD, M>) -> Result<(), SideFault>
+        requires client { IsWidth C }
+        requires manager { IsWidth M }
+        requires ready { IsReady self.old.d }
+        ensures admitted { (x : Past C M) → StandsFor self.old x → IsOk result ↔ (manager_answer x.manager beat.entry ≡ None) }
+        ensures accepted { (x : Past C M) → StandsFor self.old x → OnOk result (StandsFor self.new (after_offer_d beat.entry x)) }
+        ensures fault { (x : Past C M) → StandsFor self.old x → IfErr result (λ fault. manager_answer x.manager beat.entry ≡ Some fault) }
+        ensures refused { OnErr result (self.new ≡ self.old) }
+    {
+        let place = self.d.check(&beat)?;
+        let home = self.manager.answer(&place)?;
+        self.d.offer_at(&beat, place, home);
+        Ok(())
+    }
+
+    /// The client's side offers a beat of E where E is ready. No beat of E has a fault. The far beat is staged.
+    pub fn offer_e(&mut self, beat: BeatOf<HeadE, C>) -> Result<(), SideFault>
+        requires client { IsWidth C }
+        requires manager { IsWidth M }
+        requires ready { IsReady self.old.e }
+        ensures admitted { (x : Past C M) → StandsFor self.old x → IsOk result ↔ (stops_alone rules_e x.e.accepted beat.entry ≡ None) }
+        ensures accepted { (x : Past C M) → StandsFor self.old x → OnOk result (StandsFor self.new (after_offer_e beat.entry x)) }
+        ensures fault { (x : Past C M) → StandsFor self.old x → IfErr result (λ fault. stops_alone rules_e x.e.accepted beat.entry ≡ Some fault) }
+        ensures refused { OnErr result (self.new ≡ self.old) }
+    {
+        offer_alone::<ChE, C, M, A>(&mut self.e, &beat)
+    }
+
+    /// The manager's side takes the first beat of A's inbox. None exactly where it is empty. A first beat begins its request: from now on it may be answered.
+    pub fn take_a(&mut self) -> Option<BeatOf<HeadA, M>>
+        requires far { IsWidth M }
+        ensures beat { result ≡ slice_get self.old.a.inbox 0 }
+        ensures taken { (x : Past C M) → StandsFor self.old x → StandsFor self.new (after_take_a x) }
+    {
+        let beat = self.a.take()?;
+        self.manager.note_ask(&beat.head);
+        Some(beat)
+    }
+
+    /// The client's side takes the first beat of B's inbox. None exactly where it is empty.
+    pub fn take_b(&mut self) -> Option<BeatOf<HeadB, C>>
+        ensures beat { result ≡ slice_get self.old.b.inbox 0 }
+        ensures taken { (x : Past C M) → StandsFor self.old x → StandsFor self.new (after_take_b x) }
+    {
+        self.b.take()
+    }
+
+    /// The manager's side takes the first beat of C's inbox. None exactly where it is empty.
+    pub fn take_c(&mut self) -> Option<BeatOf<HeadC, M>>
+        ensures beat { result ≡ slice_get self.old.c.inbox 0 }
+        ensures taken { (x : Past C M) → StandsFor self.old x → StandsFor self.new (after_take_c x) }
+    {
+        self.c.take()
+    }
+
+    /// The client's side takes the first beat of D's inbox. None exactly where it is empty. A first beat other than of ReleaseAck frees its source.
+    pub fn take_d(&mut self) -> Option<BeatOf<HeadD, C>>
+        requires far { IsWidth C }
+        ensures beat { result ≡ slice_get self.old.d.inbox 0 }
+        ensures taken { (x : Past C M) → StandsFor self.old x → StandsFor self.new (after_take_d x) }
+    {
+        let beat = self.d.take()?;
+        self.client.note_answer(&beat.head);
+        Some(beat)
+    }
+
+    /// The manager's side takes the first beat of E's inbox. None exactly where it is empty.
+    pub fn take_e(&mut self) -> Option<BeatOf<HeadE, M>>
+        ensures beat { result ≡ slice_get self.old.e.inbox 0 }
+        ensures taken { (x : Past C M) → StandsFor self.old x → StandsFor self.new (after_take_e x) }
+    {
+        self.e.take()
+    }
+
+    /// The client's side ends its offers of A. Refused exactly where a burst is unfinished, and nothing changes then. What is
+    /// staged stays so, and still crosses. A second close answers Ok and changes nothing.
+    pub fn close_a(&mut self) -> Result<(), EndFault>
+        ensures between { (x : Past C M) → StandsFor self.old x → IsOk result ↔ (rest_of rules_a C x.a.accepted ≡ []) }
+        ensures closed { (x : Past C M) → StandsFor self.old x → OnOk result (StandsFor self.new (after_close_a x)) }
+        ensures again { self.old.a.closed ≡ true → IsOk result × (self.new ≡ self.old) }
+        ensures refused { OnErr result (self.new ≡ self.old) }
+    {
+        self.a.close()
+    }
+
+    /// The manager's side ends its offers of B. Refused exactly where a burst is unfinished, and nothing changes then. What is
+    /// staged stays so, and still crosses. A second close answers Ok and changes nothing.
+    pub fn close_b(&mut self) -> Result<(), EndFault>
+        ensures between { (x : Past C M) → StandsFor self.old x → IsOk result ↔ (rest_of rules_b M x.b.accepted ≡ []) }
+        ensures closed { (x : Past C M) → StandsFor self.old x → OnOk result (StandsFor self.new (after_close_b x)) }
+        ensures again { self.old.b.closed ≡ true → IsOk result × (self.new ≡ self.old) }
+        ensures refused { OnErr result (self.new ≡ self.old) }
+    {
+        self.b.close()
+    }
+
+    /// The client's side ends its offers of C. Refused exactly where a burst is unfinished, and nothing changes then. What is
+    /// staged stays so, and still crosses. A second close answers Ok and changes nothing.
+    pub fn close_c(&mut self) -> Result<(), EndFault>
+        ensures between { (x : Past C M) → StandsFor self.old x → IsOk result ↔ (rest_of rules_c C x.c.accepted ≡ []) }
+        ensures closed { (x : Past C M) → StandsFor self.old x → OnOk result (StandsFor self.new (after_close_c x)) }
+        ensures again { self.old.c.closed ≡ true → IsOk result × (self.new ≡ self.old) }
+        ensures refused { OnErr result (self.new ≡ self.old) }
+    {
+        self.c.close()
+    }
+
+    /// The manager's side ends its offers of D. Refused exactly where a burst is unfinished, and nothing changes then. What is
+    /// staged stays so, and still crosses. A second close answers Ok and changes nothing.
+    pub fn close_d(&mut self) -> Result<(), EndFault>
+        ensures between { (x : Past C M) → StandsFor self.old x → IsOk result ↔ (rest_of rules_d M x.d.accepted ≡ []) }
+        ensures closed { (x : Past C M) → StandsFor self.old x → OnOk result (StandsFor self.new (after_close_d x)) }
+        ensures again { self.old.d.closed ≡ true → IsOk result × (self.new ≡ self.old) }
+        ensures refused { OnErr result (self.new ≡ self.old) }
+    {
+        self.d.close()
+    }
+
+    /// The client's side ends its offers of E. Refused exactly where a burst is unfinished, and nothing changes then. What is
+    /// staged stays so, and still crosses. A second close answers Ok and changes nothing.
+    pub fn close_e(&mut self) -> Result<(), EndFault>
+        ensures between { (x : Past C M) → StandsFor self.old x → IsOk result ↔ (rest_of rules_e C x.e.accepted ≡ []) }
+        ensures closed { (x : Past C M) → StandsFor self.old x → OnOk result (StandsFor self.new (after_close_e x)) }
+        ensures again { self.old.e.closed ≡ true → IsOk result × (self.new ≡ self.old) }
+        ensures refused { OnErr result (self.new ≡ self.old) }
+    {
+        self.e.close()
+    }
+
+    /// Moves staged beats to the rings on all channels, as many as each ring has room for, and answers how many these are in all.
+    pub fn pump(&mut self) -> usize
+        ensures count { result ≡ all_pumped self.old }
+        ensures moved { (x : Past C M) → StandsFor self.old x → StandsFor self.new (after_pump self.old x) }
+        ensures most { result ≤ 320 }
+    {
+        let a = self.a.pump();
+        let b = self.b.pump();
+        let c = self.c.pump();
+        let d = self.d.pump();
+        let e = self.e.pump();
+        a + b + c + d + e
+    }
+
+    /// Moves beats from the rings to the inboxes on all channels, as many as each inbox has room for, and answers how many these are in all.
+    pub fn fetch(&mut self) -> usize
+        ensures count { result ≡ all_fetched self.old }
+        ensures moved { (x : Past C M) → StandsFor self.old x → StandsFor self.new (after_fetch self.old x) }
+        ensures most { result ≤ 320 }
+    {
+        let a = self.a.fetch();
+        let b = self.b.fetch();
+        let c = self.c.fetch();
+        let d = self.d.fetch();
+        let e = self.e.fetch();
+        a + b + c + d + e
+    }
+
+    /// How many far beats stand in the stage, the ring and the inbox of each channel.
+    pub fn standings(&self) -> Standings
+        ensures a { IsStanding self.now.a result.a }
+        ensures b { IsStanding self.now.b result.b }
+        ensures c { IsStanding self.now.c result.c }
+        ensures d { IsStanding self.now.d result.d }
+        ensures e { IsStanding self.now.e result.e }
+    {
+        Standings {
+            a: self.a.standing(),
+            b: self.b.standing(),
+            c: self.c.standing(),
+            d: self.d.standing(),
+            e: self.e.standing(),
+        }
+    }
+}
