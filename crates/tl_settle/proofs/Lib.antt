@@ -11,3 +11,4 @@ pub mod Grows
 pub mod Homes
 pub mod Runs
 pub mod Admits
+mod LastOpen

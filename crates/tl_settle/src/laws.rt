@@ -9,7 +9,7 @@ ghost use Rattle.tl_msg.specs.Beats.{IsBeat};
 ghost use Rattle.tl_msg.specs.Tables.{rules_a, rules_d};
 ghost use Rattle.tl_settle.specs.Steps.{Reaches};
 ghost use Rattle.tl_settle.specs.Settling.{IsSettledState, settled_state, goes_a, goes_d};
-ghost use Rattle.tl_settle.specs.Laws.{IsAtAdmitted};
+ghost use Rattle.tl_settle.specs.Laws.{IsAtAdmitted, OpenIsLast};
 ghost use Rattle.tl_settle.specs.Histories.{Event};
 ghost use Rattle.tl_settle.specs.Rounds.{IsOver, IsSettledRun};
 
@@ -43,3 +43,10 @@ pub fn steps_are_admitted<const C: usize, const M: usize>()
     faults_are_exact::<ChA, C>();
     faults_are_exact::<ChD, M>();
 }
+
+/// Among messages that have begun, the open request of a source is its last message, where that is
+/// a request; and a source is busy exactly where no response other than ReleaseAck has begun since a
+/// request of it (TileLink: source and size of responses; the moments: this project's choice).
+pub fn open_request_is_last()
+    ensures { OpenIsLast }
+{}
