@@ -1,0 +1,215 @@
+use arrayvec::ArrayVec;
+use std::test::Fail;
+use tl_convert::{Converter, far_count};
+use tl_lanes::is_width;
+use tl_msg::{Beat, BeatFault, BeatOf, ChA, ChD, HeadA, HeadD};
+
+/// Whether a converter of D takes this near beat, and gives these far beats for it.
+fn gives<const W: usize, const V: usize>(
+    converter: &mut Converter<ChD, W, V>,
+    near: Beat<ChD, W>,
+    home: u64,
+    far: &[Beat<ChD, V>],
+) -> bool {
+    if !is_width(W) || !is_width(V) {
+        return false;
+    }
+    match converter.feed(near, home) {
+        Ok(out) => out.as_slice() == far,
+        Err(_) => false,
+    }
+}
+
+/// Bytes that count up from `first`, one on each lane.
+fn counting<const W: usize>(first: u8) -> [u8; W] {
+    let mut lanes = [0; W];
+    let mut byte = first;
+    for lane in &mut lanes {
+        *lane = byte;
+        byte = byte.wrapping_add(1);
+    }
+    lanes
+}
+
+/// A beat of PutFullData of 16 bytes, of source 1.
+fn put<const W: usize>(address: u64, mask: u64, lanes: [u8; W]) -> Beat<ChA, W> {
+    let head = HeadA {
+        opcode: 0,
+        param: 0,
+        size: 4,
+        source: 1,
+        address,
+    };
+    BeatOf {
+        head,
+        mask,
+        lanes,
+        corrupt: false,
+    }
+}
+
+/// A beat of a response that carries data: GrantData of 64 bytes for size 6, else AccessAckData.
+fn response<const W: usize>(size: u8, lanes: [u8; W], corrupt: bool) -> Beat<ChD, W> {
+    let head = HeadD {
+        opcode: if size == 6 { 5 } else { 1 },
+        param: 0,
+        size,
+        source: 5,
+        sink: 9,
+        denied: false,
+    };
+    BeatOf {
+        head,
+        mask: 0,
+        lanes,
+        corrupt,
+    }
+}
+
+#[test]
+fn widened_response(rt: HostRuntime) {
+    let mut converter = Converter::<ChD, 8, 32>::new();
+    for (first, far) in [
+        (0, None),
+        (8, None),
+        (16, None),
+        (24, Some((0, true))),
+        (32, None),
+        (40, None),
+        (48, None),
+        (56, Some((32, false))),
+    ] {
+        let near = response(6, counting(first), first == 16);
+        let home = if first == 0 { 0x100 } else { 0x999 };
+        let is_given = match far {
+            Some((byte, corrupt)) => {
+                let far = response(6, counting(byte), corrupt);
+                gives(&mut converter, near, home, &[far])
+            }
+            None => gives(&mut converter, near, home, &[]),
+        };
+        assert!(rt; is_given, "byte {first}");
+    }
+    assert!(rt; converter.at_boundary());
+}
+
+#[test]
+fn narrowed_response(rt: HostRuntime) {
+    let mut converter = Converter::<ChD, 32, 8>::new();
+    for (first, corrupt) in [(0, true), (32, false)] {
+        let far = [
+            response(6, counting(first), corrupt),
+            response(6, counting(first + 8), corrupt),
+            response(6, counting(first + 16), corrupt),
+            response(6, counting(first + 24), corrupt),
+        ];
+        let near = response(6, counting(first), corrupt);
+        assert!(rt; gives(&mut converter, near, 0x100, &far), "byte {first}");
+    }
+    assert!(rt; converter.at_boundary());
+}
+
+#[test]
+fn short_responses_at_their_addresses(rt: HostRuntime) {
+    let lanes = [
+        0x88, 0x99, 0x00, 0x11, 0x22, 0x33, 0x44, 0x55, 0x66, 0x77, 0x88, 0x99, 0xaa, 0xbb, 0xcc,
+        0xdd,
+    ];
+    let mut at_lane_12 = Converter::<ChD, 16, 4>::new();
+    let far = response(2, [0xaa, 0xbb, 0xcc, 0xdd], false);
+    assert!(rt; gives(&mut at_lane_12, response(2, lanes, false), 0x100c, &[far]));
+
+    // round the end of the bus, and round the end of the addresses
+    let mut wide = Converter::<ChD, 4, 8>::new();
+    assert!(rt; gives(&mut wide, response(3, [3, 0, 1, 2], false), 0x1005, &[]));
+    assert!(rt; !wide.at_boundary());
+    let far = response(3, [3, 4, 5, 6, 7, 0, 1, 2], false);
+    assert!(rt; gives(&mut wide, response(3, [7, 4, 5, 6], false), 0, &[far]));
+
+    let mut narrow = Converter::<ChD, 8, 2>::new();
+    let near = [0x22, 0x33, 0x55, 0x55, 0x55, 0x55, 0x00, 0x11];
+    let far = [
+        response(2, [0x00, 0x11], false),
+        response(2, [0x22, 0x33], false),
+    ];
+    assert!(rt; gives(&mut narrow, response(2, near, false), u64::MAX - 1, &far));
+}
+
+#[test]
+#[tactic(auto, using(tl_lanes::proofs::Widths::width_4, tl_lanes::proofs::Widths::width_8))]
+fn boundaries_of_a_burst(rt: HostRuntime) -> Result<(), Fail> {
+    let mut converter = Converter::<ChA, 4, 8>::new();
+    assert!(rt; converter.at_boundary());
+    for (first, index, far) in [
+        (0, 0, None),
+        (4, 1, Some(0)),
+        (8, 2, None),
+        (12, 3, Some(8)),
+    ] {
+        let other = put(0x40, 0xf, [first; 4]);
+        if index > 0 {
+            assert_eq!(rt; converter.check(&other).err(), Some(BeatFault::HeadChanged));
+            assert_eq!(rt;
+                converter.feed(other, 0).err(),
+                Some(BeatFault::HeadChanged)
+            );
+        }
+        let near = put(0x20, 0xf, counting(first));
+        let place = converter.check(&near)?;
+        assert_eq!(rt; (place.index, place.last), (index, index == 3));
+        let mut out = ArrayVec::new();
+        converter.feed_at(&near, place, 0, &mut out);
+        assert_eq!(rt; out.pop(), far.map(|byte| put(0x20, 0xff, counting(byte))));
+        assert!(rt; out.is_empty());
+        assert_eq!(rt; converter.at_boundary(), index == 3);
+    }
+    Ok(())
+}
+
+#[test]
+#[tactic(auto, using(tl_lanes::proofs::Widths::width_1, tl_lanes::proofs::Widths::width_64))]
+fn request_of_4096_bytes(rt: HostRuntime) -> Result<(), Fail> {
+    let head = HeadA {
+        opcode: 4,
+        param: 0,
+        size: 12,
+        source: 0,
+        address: 0x2000,
+    };
+    let near = BeatOf {
+        head,
+        mask: u64::MAX,
+        lanes: [0x55; 64],
+        corrupt: false,
+    };
+    let far = BeatOf {
+        head,
+        mask: 1,
+        lanes: [0],
+        corrupt: false,
+    };
+    let mut converter = Converter::<ChA, 64, 1>::new();
+    assert_eq!(rt; converter.feed(near, 0)?.as_slice(), &[far][..]);
+    assert!(rt; converter.at_boundary());
+    Ok(())
+}
+
+/// How many far beats a list of near beats of 4 bytes gives.
+fn count<const V: usize>(beats: &[Beat<ChA, 4>]) -> usize {
+    if is_width(4) && is_width(V) && beats.len() <= 5 {
+        far_count::<ChA, 4, V>(beats)
+    } else {
+        usize::MAX
+    }
+}
+
+#[test]
+fn counts_of_far_beats(rt: HostRuntime) {
+    let next = put(0x20, 0xf, [0; 4]);
+    let changed = [next, next, put(0x40, 0xf, [0; 4]), next, next];
+    assert_eq!(rt; count::<8>(&[next, next, next]), 1);
+    assert_eq!(rt; count::<4>(&[next, next, next]), 3);
+    assert_eq!(rt; count::<1>(&[next, next, next]), 12);
+    assert_eq!(rt; count::<8>(&[]), 0);
+    assert_eq!(rt; count::<4>(&changed), 2, "up to the head that changed");
+}

@@ -1,0 +1,91 @@
+use tl_lanes::{active, beat_bytes, beats, is_width, lane, move_lanes, move_mask};
+
+#[test]
+fn widths(rt: HostRuntime) {
+    for (w, expected) in [
+        (0, false),
+        (1, true),
+        (2, true),
+        (3, false),
+        (4, true),
+        (8, true),
+        (16, true),
+        (32, true),
+        (64, true),
+        (128, false),
+    ] {
+        assert_eq!(rt; is_width(w), expected, "width {w}");
+    }
+}
+
+#[test]
+fn bytes_and_beats(rt: HostRuntime) {
+    for (size, w, bytes, count) in [
+        (0, 64, 1, 1),
+        (1, 4, 2, 1),
+        (3, 4, 4, 2),
+        (12, 1, 1, 4096),
+        (12, 64, 64, 64),
+    ] {
+        assert!(rt; is_width(w) && size <= 12);
+        let answers = (
+            beat_bytes(size, w),
+            beats(true, size, w),
+            beats(false, size, w),
+        );
+        assert_eq!(rt; answers, (bytes, count, 1), "size {size}, width {w}");
+    }
+}
+
+#[test]
+fn lanes_of_bytes(rt: HostRuntime) {
+    for (address, i, size, w, first, mask) in [
+        (0x1004, 0, 2, 8, 4, 0xf0),
+        (0x18, 0, 3, 16, 8, 0xff00),
+        (0x100c, 0, 2, 16, 12, 0xf000),
+        (0, 63, 12, 64, 63, u64::MAX),
+        (3, 1, 1, 4, 0, 0x9),
+        (u64::MAX, 0, 0, 64, 63, 1 << 63),
+        (u64::MAX, 1, 1, 64, 0, 1 << 63 | 1),
+    ] {
+        assert!(rt; is_width(w) && size <= 12);
+        let answers = (lane(address, i, w), active(address, size, w));
+        assert_eq!(rt; answers, (first, mask), "address {address:x}");
+    }
+}
+
+#[test]
+fn moved_bits(rt: HostRuntime) {
+    for (from, w, to, v, at, count, moved) in [
+        (0xf0, 8, 0, 4, 4, 4, 0xf),
+        (0x5, 4, 0xf0, 8, 0, 4, 0xf5),
+        // round the end of the bus of 4
+        (0x9, 4, 0xff, 8, 3, 4, 0x9f),
+        (u64::MAX, 64, 0, 64, 0, 64, u64::MAX),
+        (u64::MAX, 64, 0x3, 4, 5, 0, 0x3),
+    ] {
+        assert!(rt; is_width(w) && is_width(v) && count <= w && count <= v);
+        assert_eq!(rt;
+            move_mask(from, w, to, v, at, count),
+            moved,
+            "mask {from:x} into {to:x}"
+        );
+    }
+}
+
+/// Lanes that hold 9, but for the lanes of `count` bytes from `at` on, which are those of `from`.
+fn moved<const W: usize, const V: usize>(from: [u8; W], at: u64, count: usize) -> [u8; V] {
+    let mut to = [9; V];
+    if is_width(W) && is_width(V) && count <= W && count <= V {
+        move_lanes::<W, V>(&from, &mut to, at, count);
+    }
+    to
+}
+
+#[test]
+fn moved_lanes(rt: HostRuntime) {
+    assert_eq!(rt; moved::<4, 8>([0, 1, 2, 3], 4, 0), [9; 8]);
+    assert_eq!(rt; moved::<4, 8>([0, 1, 2, 3], 4, 4), [9, 9, 9, 9, 0, 1, 2, 3]);
+    assert_eq!(rt; moved::<8, 4>([0, 1, 2, 3, 4, 5, 6, 7], 3, 3), [4, 5, 9, 3]);
+    assert_eq!(rt; moved::<64, 64>([7; 64], 0, 64), [7; 64]);
+}

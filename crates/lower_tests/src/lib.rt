@@ -1,0 +1,12 @@
+//! Tests of lanes, messages, bursts and the converter, in a crate of their own: a crate with tests
+//! is proved twice.
+#![tactic(auto)]
+
+#[cfg(test)]
+mod bursts;
+#[cfg(test)]
+mod conversion;
+#[cfg(test)]
+mod lanes;
+#[cfg(test)]
+mod messages;
