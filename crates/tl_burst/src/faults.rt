@@ -1,4 +1,5 @@
 ghost use Rattle.std.specs.Prelude.{◌≡◌, ◌≤◌, None};
+ghost use Rattle.tl_lanes.specs.declared.limits.TheConstants.{MAX_SIZE};
 ghost use Rattle.tl_lanes.specs.Lanes.{IsWidth};
 ghost use Rattle.tl_msg.specs.Faults as faults;
 
@@ -44,7 +45,7 @@ pub fn continuing_fault<K: Channel, const W: usize>(
 /// exactly the active lanes. On C, D and E it is not read.
 fn mask_fits<K: Channel, const W: usize>(beat: &Beat<K, W>) -> bool
     requires width { IsWidth W }
-    requires small { K.rules.size beat.now.head ≤ 12 }
+    requires small { K.rules.size beat.now.head ≤ MAX_SIZE }
     ensures { result ≡ faults.mask_fits K.rules beat.now }
 {
     if !K::MASKED {

@@ -5,6 +5,7 @@ use Rattle.std.specs.List.{range_with_len}
 use Rattle.std.specs.Int.{bit_at}
 use Rattle.tl_msg.specs.Rules.{Rules}
 use Rattle.tl_msg.specs.declared.beat.BeatOf.{BeatOf}
+use Rattle.tl_lanes.specs.declared.limits.TheConstants.{WIDEST}
 use Rattle.tl_lanes.specs.Lanes.{lane_of}
 use Rattle.tl_burst.specs.Messages.{Message, Cell, per_beat, beat_at, some_of, is_bad}
 use Rattle.tl_burst.specs.Reading.{cell_of}
@@ -18,7 +19,7 @@ pub record Filled {H : Type 0} (r : Rules H) (m : Message H) (v j end : ℕ) (b 
   pub blank : (l : ℕ) → ((i : ℕ) → j * per_beat r m.head v ≤ i → i < end → lane_of m.home i v ≢ l) → slice_index b.lanes l ≡ 0
   pub bits : (i : ℕ) (c : Cell) → j * per_beat r m.head v ≤ i → i < end → slice_get m.cells i ≡ Some c →
       bit_at b.mask (lane_of m.home i v) ≡ cond (r.masked && c.on) 1 0
-  pub clear : (l : ℕ) → l < 64 → ((i : ℕ) → j * per_beat r m.head v ≤ i → i < end → lane_of m.home i v ≢ l) → bit_at b.mask l ≡ 0
+  pub clear : (l : ℕ) → l < WIDEST → ((i : ℕ) → j * per_beat r m.head v ≤ i → i < end → lane_of m.home i v ≢ l) → bit_at b.mask l ≡ 0
   pub small : b.mask < 2 ^ 64
   pub corrupt : b.corrupt ≡ some_of (is_bad r m) (j * per_beat r m.head v) (end - j * per_beat r m.head v)
 
@@ -40,7 +41,7 @@ pub record Poured {H : Type 0} {W V : ℕ} (masked : Bool) (from : BeatOf H W) (
   pub moved : (k : ℕ) → k < count → slice_index new.lanes (lane_of at k V) ≡ slice_index from.lanes (lane_of at k W)
   pub kept : (l : ℕ) → ((k : ℕ) → k < count → lane_of at k V ≢ l) → slice_index new.lanes l ≡ slice_index old.lanes l
   pub bits : (k : ℕ) → k < count → bit_at new.mask (lane_of at k V) ≡ cond masked (bit_at from.mask (lane_of at k W)) (bit_at old.mask (lane_of at k V))
-  pub bits_kept : (l : ℕ) → l < 64 → ((k : ℕ) → k < count → lane_of at k V ≢ l) → bit_at new.mask l ≡ bit_at old.mask l
+  pub bits_kept : (l : ℕ) → l < WIDEST → ((k : ℕ) → k < count → lane_of at k V ≢ l) → bit_at new.mask l ≡ bit_at old.mask l
   pub small : old.mask < 2 ^ 64 → new.mask < 2 ^ 64
   pub corrupt : new.corrupt ≡ old.corrupt || from.corrupt
 

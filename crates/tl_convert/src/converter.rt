@@ -11,6 +11,7 @@ use crate::giving::give;
 use arrayvec::ArrayVec;
 use std::marker::Model;
 use tl_burst::{Place, Tracker};
+use tl_lanes::WIDEST;
 use tl_msg::{Beat, BeatFault, Channel, ranges_of_beat};
 
 /// Gives the beats of one channel at another width: from a bus of `W` bytes to a bus of `V` bytes.
@@ -80,7 +81,7 @@ impl<K: Channel, const W: usize, const V: usize> Converter<K, W, V> {
         beat: &Beat<K, W>,
         place: Place<K>,
         home: u64,
-        out: &mut ArrayVec<Beat<K, V>, 64>,
+        out: &mut ArrayVec<Beat<K, V>, WIDEST>,
     )
         requires near { IsWidth W }
         requires far { IsWidth V }
@@ -113,7 +114,7 @@ impl<K: Channel, const W: usize, const V: usize> Converter<K, W, V> {
         &mut self,
         beat: Beat<K, W>,
         home: u64,
-    ) -> Result<ArrayVec<Beat<K, V>, 64>, BeatFault>
+    ) -> Result<ArrayVec<Beat<K, V>, WIDEST>, BeatFault>
         requires near { IsWidth W }
         requires far { IsWidth V }
 

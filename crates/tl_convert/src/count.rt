@@ -1,4 +1,5 @@
 ghost use Rattle.std.specs.Prelude.{◌≡◌, ◌≤◌, ◌^◌, ℕ, List, length};
+ghost use Rattle.tl_lanes.specs.declared.limits.TheConstants.{MAX_SIZE, WIDEST};
 ghost use Rattle.tl_lanes.specs.Lanes.{IsWidth};
 ghost use Rattle.tl_convert.specs.Due.{due};
 ghost use Rattle.tl_convert.specs.Accepted.{accepted_of};
@@ -12,9 +13,9 @@ use tl_msg::{Beat, Channel};
 fn far_beats_at<K: Channel, const W: usize, const V: usize>(place: &Place<K>) -> usize
     requires near { IsWidth W }
     requires far { IsWidth V }
-    requires small { K.rules.size place.now.head ≤ 12 }
+    requires small { K.rules.size place.now.head ≤ MAX_SIZE }
     ensures gives { Gives K.rules W V place.now.head place.now.index result }
-    ensures few { result ≤ 64 }
+    ensures few { result ≤ WIDEST }
 {
     if !K::carries_data(&place.head) {
         return 1;

@@ -1,6 +1,7 @@
 //! The far beats that a near beat gives.
 
 ghost use Rattle.std.specs.Prelude.{◌≡◌, ◌≤◌, List, [], true, false};
+ghost use Rattle.tl_lanes.specs.declared.limits.TheConstants.{MAX_SIZE};
 ghost use Rattle.tl_lanes.specs.Lanes.{IsWidth};
 ghost use Rattle.tl_msg.specs.declared.beat.BeatOf.{BeatOf};
 ghost use Rattle.tl_burst.specs.Messages.{layout, of_head};
@@ -8,7 +9,7 @@ ghost use Rattle.tl_convert.specs.Giving.{Run, Given, GivenData};
 
 use crate::pouring::{blank, pour};
 use arrayvec::ArrayVec;
-use tl_lanes::{active, beat_bytes};
+use tl_lanes::{WIDEST, active, beat_bytes};
 use tl_msg::{Beat, Channel};
 
 // Gives the far beats of a near beat with data, of whose message `index` beats came before.
@@ -17,11 +18,11 @@ fn give_data<K: Channel, const W: usize, const V: usize>(
     partial: &mut Beat<K, V>,
     home: u64,
     index: u32,
-    out: &mut ArrayVec<Beat<K, V>, 64>,
+    out: &mut ArrayVec<Beat<K, V>, WIDEST>,
 )
     requires near { IsWidth W }
     requires far { IsWidth V }
-    requires small { K.rules.size beat.now.head ≤ 12 }
+    requires small { K.rules.size beat.now.head ≤ MAX_SIZE }
     requires data { K.rules.carries beat.now.head ≡ true }
     requires empty { out.old.items ≡ [] }
     ensures { (bs : List (BeatOf K.Head W)) → Run K.rules index home beat.now partial.old bs →
@@ -38,10 +39,10 @@ fn give_data<K: Channel, const W: usize, const V: usize>(
 fn give_head<K: Channel, const V: usize>(
     head: K::Head,
     home: u64,
-    out: &mut ArrayVec<Beat<K, V>, 64>,
+    out: &mut ArrayVec<Beat<K, V>, WIDEST>,
 )
     requires far { IsWidth V }
-    requires small { K.rules.size head ≤ 12 }
+    requires small { K.rules.size head ≤ MAX_SIZE }
     requires no_data { K.rules.carries head ≡ false }
     requires empty { out.old.items ≡ [] }
     ensures { out.new.items ≡ layout K.rules (of_head head home) V }
@@ -59,11 +60,11 @@ pub(crate) fn give<K: Channel, const W: usize, const V: usize>(
     partial: &mut Beat<K, V>,
     home: u64,
     index: u32,
-    out: &mut ArrayVec<Beat<K, V>, 64>,
+    out: &mut ArrayVec<Beat<K, V>, WIDEST>,
 )
     requires near { IsWidth W }
     requires far { IsWidth V }
-    requires small { K.rules.size beat.now.head ≤ 12 }
+    requires small { K.rules.size beat.now.head ≤ MAX_SIZE }
     requires empty { out.old.items ≡ [] }
     ensures { (bs : List (BeatOf K.Head W)) → Run K.rules index home beat.now partial.old bs →
         Given K.rules home beat.now partial.new bs out.new.items }

@@ -1,12 +1,13 @@
 //! How the bytes of a near beat with data get into far beats.
 
 ghost use Rattle.std.specs.Prelude.{◌≡◌, ◌≤◌, ◌<◌, ◌+◌, ◌%◌, ◌^◌, []};
+ghost use Rattle.tl_lanes.specs.declared.limits.TheConstants.{MAX_SIZE};
 ghost use Rattle.tl_lanes.specs.Lanes.{IsWidth};
 ghost use Rattle.tl_burst.specs.Messages.{Message, per_beat};
 ghost use Rattle.tl_convert.specs.Pouring.{Poured, Source, Pours, IsBlank};
 
 use arrayvec::ArrayVec;
-use tl_lanes::{beat_bytes, move_lanes, move_mask};
+use tl_lanes::{WIDEST, beat_bytes, move_lanes, move_mask};
 use tl_msg::{Beat, Channel};
 
 // Puts `count` bytes of a near beat, the first of which has address `at`, into a far beat, with their mask bits and the corrupt bit.
@@ -49,11 +50,11 @@ pub(crate) fn pour<K: Channel, const W: usize, const V: usize>(
     partial: &mut Beat<K, V>,
     home: u64,
     first: usize,
-    out: &mut ArrayVec<Beat<K, V>, 64>,
+    out: &mut ArrayVec<Beat<K, V>, WIDEST>,
 )
     requires near { IsWidth W }
     requires far { IsWidth V }
-    requires small { K.rules.size beat.now.head ≤ 12 }
+    requires small { K.rules.size beat.now.head ≤ MAX_SIZE }
     requires whole { first % per_beat K.rules beat.now.head W ≡ 0 }
     requires room { first < 2 ^ 40 }
     requires empty { out.old.items ≡ [] }

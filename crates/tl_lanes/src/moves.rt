@@ -3,9 +3,11 @@
 
 ghost use Rattle.std.specs.Prelude.{◌≡◌, ◌≢◌, ◌≤◌, ◌<◌, ◌+◌, ◌⊎◌, ℕ, length, slice_index};
 ghost use Rattle.std.specs.Int.{bit_at};
+ghost use Rattle.tl_lanes.specs.declared.limits.TheConstants.{WIDEST};
 ghost use Rattle.tl_lanes.specs.Lanes.{IsWidth, lane_of};
 
 use crate::lane;
+use crate::limits::Mask;
 use crate::runs::{ones, run_of_lanes};
 
 // Copies `count` lanes, from lane `near` on, to lanes `far` and on.
@@ -40,10 +42,10 @@ pub(crate) fn move_each<const W: usize, const V: usize>(
 }
 
 // The mask `to` with `count` bits of `from`, those from bit `near` on, at bits `far` and on.
-pub(crate) fn move_run_of_bits(from: u64, near: usize, to: u64, far: usize, count: usize) -> u64
-    requires near_inside { near < 64 }
-    requires far_inside { far < 64 }
-    requires far_room { far + count ≤ 64 }
+pub(crate) fn move_run_of_bits(from: Mask, near: usize, to: Mask, far: usize, count: usize) -> Mask
+    requires near_inside { near < WIDEST }
+    requires far_inside { far < WIDEST }
+    requires far_room { far + count ≤ WIDEST }
     ensures moved { (k : ℕ) → k < count → bit_at result (far + k) ≡ bit_at from (near + k) }
     ensures kept { (l : ℕ) → (l < far) ⊎ (far + count ≤ l) → bit_at result l ≡ bit_at to l }
 {
@@ -52,7 +54,7 @@ pub(crate) fn move_run_of_bits(from: u64, near: usize, to: u64, far: usize, coun
 }
 
 // The mask `to` with the bits of `count` bytes from address `at` on, byte by byte.
-pub(crate) fn move_each_bit(from: u64, w: usize, to: u64, v: usize, at: u64, count: usize) -> u64
+pub(crate) fn move_each_bit(from: Mask, w: usize, to: Mask, v: usize, at: u64, count: usize) -> Mask
     requires near { IsWidth w }
     requires far { IsWidth v }
     requires near_room { count ≤ w }

@@ -1,23 +1,26 @@
 //! Masks of lanes that stand side by side.
 
 ghost use Rattle.std.specs.Prelude.{◌≡◌, ◌≤◌, ◌<◌, ◌+◌, ◌-◌, ◌^◌};
+ghost use Rattle.tl_lanes.specs.declared.limits.TheConstants.{WIDEST};
 
-// The mask of the lowest `count` lanes, of at most 64.
-pub(crate) fn ones(count: usize) -> u64
-    requires { count ≤ 64 }
+use crate::limits::{Mask, WIDEST};
+
+// The mask of the lowest `count` lanes.
+pub(crate) fn ones(count: usize) -> Mask
+    requires { count ≤ WIDEST }
     ensures { result ≡ 2 ^ count - 1 }
 {
-    if count == 64 {
-        u64::MAX
+    if count == WIDEST {
+        Mask::MAX
     } else {
         (1 << count) - 1
     }
 }
 
 // The mask of `count` lanes from lane `first` on.
-pub(crate) fn run_of_lanes(first: usize, count: usize) -> u64
-    requires inside { first < 64 }
-    requires room { first + count ≤ 64 }
+pub(crate) fn run_of_lanes(first: usize, count: usize) -> Mask
+    requires inside { first < WIDEST }
+    requires room { first + count ≤ WIDEST }
     ensures { result ≡ 2 ^ (first + count) - 2 ^ first }
 {
     ones(count) << first
