@@ -164,6 +164,7 @@ module _ {H : Type 0} (r : Rules H) where
           omega arith;
     }
 
+  module _ (v : ℕ) (vw : IsWidth v) (m : Message H) (all_cells : length m.cells ≡ cond (r.carries m.head) (2 ^ r.size m.head) 0) where
     gathered-on : (j l : ℕ) → lane_on r (gathered r v m) v j l ≡ lane_on r m v j l
     gathered-on j l =
         elim (byte_on r m v j l) as (λ o.
@@ -179,7 +180,7 @@ module _ {H : Type 0} (r : Rules H) where
       head = refl;
       bytes = λ i c e q.
           let back = with_bad-back (is_bad_with r v m) 0 m.cells i c e in
-          let inside = carries-cell (r.carries m.head) m.cells (2 ^ r.size m.head) i back.0 lawful.cells back.1 in
+          let inside = carries-cell (r.carries m.head) m.cells (2 ^ r.size m.head) i back.0 all_cells back.1 in
           let there : byte_on r m v j (lane_of m.home i v) ≡ Some i = byte_on-some r m v vw i j (lane_of m.home i v) inside.1 q refl in
           let value : lane_value r m v j (lane_of m.home i v) ≡ back.0.byte = rw there (rw back.1 refl) in
           map-at (lane_value r m v j) v (lane_of m.home i v) 0 (lane-lt m.home i v vw) ∙ ap Some (value ∙ sym back.2);
@@ -190,7 +191,7 @@ module _ {H : Type 0} (r : Rules H) where
       mask = λ _. mask_of-same (λ l. r.masked && lane_on r m v j l) (λ l. r.masked && lane_on r (gathered r v m) v j l) v
           (λ l. ap (λ b. r.masked && b) (sym (gathered-on j l)));
       clean = λ _ empty.
-          let none_in : length m.cells ≡ 0 = lawful.cells ∙ ap (λ b. cond b (2 ^ r.size m.head) 0) empty in
+          let none_in : length m.cells ≡ 0 = all_cells ∙ ap (λ b. cond b (2 ^ r.size m.head) 0) empty in
           some_of-none (is_bad r m) (j * per_beat r m.head v) (per_beat r m.head v) (λ i. no-cell m.cells i none_in);
     }
 
@@ -210,10 +211,11 @@ module _ {H : Type 0} (r : Rules H) where
       ap mk (with_bad-same (is_bad_with r v m) 0 m.cells (λ i c e. let z : i ≡ 0 + i = omega arith in even i c e ∙ ap (is_bad_with r v m) z))
 
   -- the layout of a message that is evenly bad brings it
-  pub layout-spells-even : (v : ℕ) (m : Message H) → IsWidth v → IsLawful r m → IsEvenlyBad r v m → Spells r m v (layout r m v)
-  layout-spells-even v m vw lawful even =
+  pub layout-spells-even : (v : ℕ) (m : Message H) → IsWidth v → length m.cells ≡ cond (r.carries m.head) (2 ^ r.size m.head) 0 → IsEvenlyBad r v m →
+      Spells r m v (layout r m v)
+  layout-spells-even v m vw all_cells even =
       let P : Message H → Type 0 = λ y. Spells r y v (layout r m v) in
-      subst P (gathered-same v m even) (layout-spells v vw m lawful)
+      subst P (gathered-same v m even) (layout-spells v vw m all_cells)
 
   -- the layouts of lawful messages, joined, and then what is handed, are handed
   pub layouts-then : (v : ℕ) → IsWidth v → (ms : List (Message H)) → ((i : ℕ) (m : Message H) → slice_get ms i ≡ Some m → IsLawful r m) →
@@ -221,7 +223,7 @@ module _ {H : Type 0} (r : Rules H) where
       Handed r v (flat_map (λ m. layout r m v) ms ++ others) (map (λ m. m.home) ms ++ homes) (map (gathered r v) ms ++ ms') rest
   layouts-then v vw [] lawful then = then
   layouts-then v vw (m ∷ ms) lawful then =
-      rw append_assoc (whole (gathered r v m) (layout r m v) _ _ _ _ (gathered-lawful v vw m (lawful 0 m refl)) (layout-spells v vw m (lawful 0 m refl))
+      rw append_assoc (whole (gathered r v m) (layout r m v) _ _ _ _ (gathered-lawful v vw m (lawful 0 m refl)) (layout-spells v vw m (lawful 0 m refl).cells)
       (layouts-then v vw ms (λ i x e. lawful (suc i) x e) then))
 
   pub layouts-handed : (v : ℕ) → IsWidth v → (ms : List (Message H)) → ((i : ℕ) (m : Message H) → slice_get ms i ≡ Some m → IsLawful r m) →
@@ -249,7 +251,7 @@ module _ {H : Type 0} (r : Rules H) where
           lawful = gathered-lawful v vw m lawful;
           home_is = refl;
           more = map (beat_at r m v) (range_with_len k (beats_of r m.head v - k));
-          spells = subst P layout-parts (layout-spells v vw m lawful);
+          spells = subst P layout-parts (layout-spells v vw m lawful.cells);
           left = λ e.
               let n : length (map (beat_at r m v) (range_with_len k (beats_of r m.head v - k))) ≡ beats_of r m.head v - k =
               length-map-range_with_len (beat_at r m v) k (beats_of r m.head v - k) in
@@ -400,7 +402,7 @@ module _ {H : Type 0} (r : Rules H) where
         subst P (sym t) (h (λ e. cc))
 
     pub far-handed : {bs : List (BeatOf H w)} {homes : List ℕ} {ms : List (Message H)} {rest : List (BeatOf H w)} →
-        Handed r w bs homes ms rest → FarIsHanded r v bs homes ms rest
+        Handed r w bs homes ms rest → FarIsHanded r (due r w v bs homes) homes ms rest
     far-handed nothing = record { far_rest = []; handed = nothing; same_begun = λ m ne b f. absurd (f refl) }
     far-handed (begun m rest more lawful spells some left) =
         let lt : length rest < beats_of r m.head w = shorter m rest more lawful spells some left in
@@ -438,6 +440,6 @@ module _ {H : Type 0} (r : Rules H) where
           far_rest = ih.far_rest;
           handed = subst P (sym is_due) (subst Q (sym homes_are)
               (whole (gathered r v m) (layout r m v) (due r w v others homes) (far_homes r ms homes ih.far_rest) (map (gathered r v) ms) ih.far_rest
-              (gathered-lawful v vw m lawful) (layout-spells v vw m lawful) ih.handed));
+              (gathered-lawful v vw m lawful) (layout-spells v vw m lawful.cells) ih.handed));
           same_begun = λ m' ne b f. ih.same_begun m' ne b f;
         }

@@ -1,11 +1,11 @@
 -- Laws of the far beats that are due.
-use Rattle.std.specs.Prelude.{◌≡◌, ◌≢◌, ◌+◌, ◌*◌, ◌/◌, ◌++◌, ◌==◌, ℕ, Bool, cond, Some, List, [], length, map, take, slice_get, All}
+use Rattle.std.specs.Prelude.{◌≡◌, ◌≢◌, ◌+◌, ◌*◌, ◌/◌, ◌^◌, ◌++◌, ◌==◌, ℕ, Bool, cond, Some, List, [], length, map, take, slice_get, All}
 use mathlib.Core.List.{IsPrefix}
 use Rattle.std.specs.List.{enumerate_from}
 use Rattle.tl_msg.specs.Rules.{Rules}
 use Rattle.tl_msg.specs.declared.beat.BeatOf.{BeatOf}
 use Rattle.tl_msg.specs.Faults.{IsLawfulBeat}
-use Rattle.tl_burst.specs.Messages.{Cell, Message, IsLawful, per_beat, is_bad, some_of, layout}
+use Rattle.tl_burst.specs.Messages.{Cell, Message, per_beat, is_bad, some_of, layout}
 use Rattle.tl_burst.specs.Spelling.{Spells}
 use Rattle.tl_burst.specs.Handing.{Handed}
 use Rattle.tl_convert.specs.Due.{due, DueOf, IsDue, Begins}
@@ -49,24 +49,28 @@ module _ {H : Type 0} (r : Rules H) where
     cells = map (λ place. record { byte = place.1.byte; on = place.1.on; bad = is_bad_with v m place.0 }) (enumerate_from 0 m.cells);
   }
 
-  -- the layout of a message brings it
+  -- the layout of a message brings it, lawful or not: its bytes are all that this needs
   abbrev pub LayoutSpells : (v : ℕ) → Type 0
-  LayoutSpells v = (m : Message H) → IsLawful r m → IsEvenlyBad v m → Spells r m v (layout r m v)
+  LayoutSpells v = (m : Message H) →
+      length m.cells ≡ cond (r.carries m.head) (2 ^ r.size m.head) 0 → IsEvenlyBad v m →
+      Spells r m v (layout r m v)
 
   -- the homes of the messages that have begun in far beats: one for each whole message, and one more where the far rest is not empty
   abbrev pub far_homes : {v : ℕ} → (ms : List (Message H)) (homes : List ℕ) (far_rest : List (BeatOf H v)) → List ℕ
   far_homes ms homes far_rest = take (length ms + cond (length far_rest == 0) 0 1) homes
 
-  -- what is due is handed on the far side, by the same messages with corrupt gathered, and what it has begun is the message that the near side has begun
-  pub record FarIsHanded {w : ℕ} (v : ℕ) (bs : List (BeatOf H w)) (homes : List ℕ) (ms : List (Message H)) (rest : List (BeatOf H w)) : Type 0 where
+  -- far beats are handed on the far side, by the same messages with corrupt gathered, and what they
+  -- have begun is the message that the near side has begun
+  pub record FarIsHanded {w v : ℕ} (far : List (BeatOf H v)) (homes : List ℕ)
+      (ms : List (Message H)) (rest : List (BeatOf H w)) : Type 0 where
     pub far_rest : List (BeatOf H v)
-    pub handed : Handed r v (due r w v bs homes) (far_homes ms homes far_rest) (map (gathered v) ms) far_rest
+    pub handed : Handed r v far (far_homes ms homes far_rest) (map (gathered v) ms) far_rest
     pub same_begun : (m : Message H) → rest ≢ [] → Begins r m (slice_get homes (length ms)) rest → far_rest ≢ [] →
         Begins r (gathered v m) (slice_get homes (length ms)) far_rest
 
   abbrev pub DueIsHanded : (w v : ℕ) → Type 0
   DueIsHanded w v = (bs : List (BeatOf H w)) (homes : List ℕ) (ms : List (Message H)) (rest : List (BeatOf H w)) →
-      Handed r w bs homes ms rest → FarIsHanded v bs homes ms rest
+      Handed r w bs homes ms rest → FarIsHanded (due r w v bs homes) homes ms rest
 
   -- each far beat that is due is lawful at its width: a new tracker does not refuse it
   abbrev pub DueIsLawful : (w v : ℕ) → Type 0

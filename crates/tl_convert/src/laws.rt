@@ -21,7 +21,8 @@ pub fn due_grows<K: Channel, const W: usize, const V: usize>()
     ensures { DueGrows K.rules W V }
 {}
 
-/// The far layout of a message brings that message, where in each far beat all bytes are corrupt or none is.
+/// The far layout of a message, lawful or not, brings that message, where in each far beat all bytes
+/// are corrupt or none is.
 pub fn layout_spells<K: Channel, const V: usize>()
     requires far { IsWidth V }
     ensures { LayoutSpells K.rules V }

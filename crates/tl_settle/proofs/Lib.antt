@@ -12,3 +12,5 @@ pub mod Homes
 pub mod Runs
 pub mod Admits
 mod LastOpen
+mod Brings
+mod EndsSettled

@@ -5,3 +5,4 @@ pub mod Outcomes
 pub mod Histories
 pub mod Rounds
 pub mod Laws
+pub mod InMessages

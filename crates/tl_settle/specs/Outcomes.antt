@@ -19,15 +19,14 @@ use Rattle.tl_convert.specs.Due.{due}
 use Rattle.tl_convert.specs.Accepted.{accepted_of}
 use Rattle.tl_settle.specs.Settling.{settled_state, far_a, far_d, stops_a, stops_d}
 
--- a verdict: n near beats were accepted and make so many far beats due, the last message lacks so many beats, and the next beat, if there
--- is one, is stopped by something or by nothing
-abbrev pub verdict_of : (n far lacks : ℕ) → (next : Option (Option SideFault)) → Verdict
+-- a verdict: n near beats were accepted and make so many far beats due, the last message lacks so
+-- many beats, and the next beat is stopped by something, or there is none
+abbrev pub verdict_of : (n far lacks : ℕ) → (stopped_by : Option SideFault) → Verdict
 verdict_of n far lacks None = if lacks == 0 then Done n far else Cut n far
-verdict_of n far lacks (Some None) = Cut n far
-verdict_of n far lacks (Some (Some (Beat fault))) = Refused n (Beat fault)
-verdict_of n far lacks (Some (Some SourceBusy)) = Waiting n SourceBusy
-verdict_of n far lacks (Some (Some NoRequest)) = Waiting n NoRequest
-verdict_of n far lacks (Some (Some SizeMismatch)) = Refused n SizeMismatch
+verdict_of n far lacks (Some (Beat fault)) = Refused n (Beat fault)
+verdict_of n far lacks (Some SourceBusy) = Waiting n SourceBusy
+verdict_of n far lacks (Some NoRequest) = Waiting n NoRequest
+verdict_of n far lacks (Some SizeMismatch) = Refused n SizeMismatch
 
 -- a channel that nothing couples to another one, B, C or E: of its list the longest first part that is handed is accepted, which is the beats
 -- before the first one that has a fault where it stands
@@ -38,7 +37,9 @@ module _ {H : Type 0} (r : Rules H) {w : ℕ} where
   abbrev pub verdict_alone : (v : ℕ) → List (BeatOf H w) → Verdict
   verdict_alone v bs = let n = length (accepted_of r bs) in
       verdict_of n (length (far_alone v bs)) (left r w (accepted_of r bs))
-      (option_map_or (λ b. Some (option_map_or (λ fault. Some (Beat fault)) (fault_after r (accepted_of r bs) b) None)) (slice_get bs n) None)
+      (option_map_or
+      (λ b. option_map_or (λ fault. Some (Beat fault)) (fault_after r (accepted_of r bs) b) None)
+      (slice_get bs n) None)
 
 -- A and D, at their settled state
 module _ {C M : ℕ} (a : List (BeatOf HeadA C)) (d : List (BeatOf HeadD M)) where
@@ -51,12 +52,12 @@ module _ {C M : ℕ} (a : List (BeatOf HeadA C)) (d : List (BeatOf HeadD M)) whe
   abbrev pub verdict_a : Verdict
   verdict_a = let s = settled_state a d in
       verdict_of s.a (length (far_a a d s.a)) (left rules_a C (take s.a a))
-      (option_map_or (λ b. Some (stops_a a d s.a s.d b)) (slice_get a s.a) None)
+      (option_map_or (λ b. stops_a a d s.a s.d b) (slice_get a s.a) None)
 
   abbrev pub verdict_d : Verdict
   verdict_d = let s = settled_state a d in
       verdict_of s.d (length (far_d a d s.d)) (left rules_d M (take s.d d))
-      (option_map_or (λ b. Some (stops_d a d s.a s.d b)) (slice_get d s.d) None)
+      (option_map_or (λ b. stops_d a d s.a s.d b) (slice_get d s.d) None)
 
 -- the far beats of the five channels: the manager side takes A, C and E, the client side B and D
 pub record FarBeats (C M : ℕ) : Type 0 where

@@ -40,13 +40,16 @@ module _ {C M : ℕ} (a : List (BeatOf HeadA C)) (d : List (BeatOf HeadD M)) whe
   abbrev pub is_free : (i j s : ℕ) → Bool
   is_free i j s = requests_of s (requests i) == responses_to s (responses_there j)
 
-  -- what stops the next beat of A: a fault of its own, or, where it opens a message, a source that is not free
+  -- what holds back a request that would begin: a source that is not free
+  abbrev pub held_request : (i j : ℕ) → HeadA → Option SideFault
+  held_request i j h = if is_free i j h.source then None else Some SourceBusy
+
+  -- what stops the next beat of A: a fault of its own, or, where it opens a message, what holds that
+  -- back
   abbrev pub stops_a : (i j : ℕ) → BeatOf HeadA C → Option SideFault
   stops_a i j b =
       option_map_or (λ fault. Some (Beat fault)) (fault_after rules_a (take i a) b)
-      (if left rules_a C (take i a) == 0
-      then (if is_free i j b.head.source then None else Some SourceBusy)
-      else None)
+      (if left rules_a C (take i a) == 0 then held_request i j b.head else None)
 
   -- what stops a response that opens a message: no request of its source waits at the manager's side, or it has another size
   abbrev pub unanswered : (i j : ℕ) → HeadD → Option SideFault
@@ -56,13 +59,17 @@ module _ {C M : ℕ} (a : List (BeatOf HeadA C)) (d : List (BeatOf HeadD M)) whe
       then None else Some SizeMismatch)
       else Some NoRequest
 
-  -- what stops the next beat of D: a fault of its own, or, where it opens a message other than ReleaseAck, its request
+  -- what holds back a response that would begin: nothing holds back ReleaseAck, and any other waits
+  -- for its request
+  abbrev pub held_response : (i j : ℕ) → HeadD → Option SideFault
+  held_response i j h = if is_release_ack h then None else unanswered i j h
+
+  -- what stops the next beat of D: a fault of its own, or, where it opens a message, what holds that
+  -- back
   abbrev pub stops_d : (i j : ℕ) → BeatOf HeadD M → Option SideFault
   stops_d i j b =
       option_map_or (λ fault. Some (Beat fault)) (fault_after rules_d (take j d) b)
-      (if left rules_d M (take j d) == 0
-      then (if is_release_ack b.head then None else unanswered i j b.head)
-      else None)
+      (if left rules_d M (take j d) == 0 then held_response i j b.head else None)
 
   -- whether the next beat may go
   abbrev pub goes_a : (i j : ℕ) → Bool

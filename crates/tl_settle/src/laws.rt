@@ -1,20 +1,28 @@
 //! Laws over the definitions, for the proofs above. Each function is there for its contract, and
 //! changes nothing.
-ghost use Rattle.std.specs.Prelude.{ℕ, List, All};
+ghost use Rattle.std.specs.Prelude.{◌≡◌, ◌<◌, ◌↔◌, ◌^◌, ◌++◌, ◌∷◌, [], ℕ, None, List, All};
 ghost use Rattle.tl_lanes.specs.Lanes.{IsWidth};
 ghost use Rattle.tl_msg.specs.declared.head.HeadA.{HeadA};
+ghost use Rattle.tl_msg.specs.declared.head.HeadB.{HeadB};
+ghost use Rattle.tl_msg.specs.declared.head.HeadC.{HeadC};
 ghost use Rattle.tl_msg.specs.declared.head.HeadD.{HeadD};
+ghost use Rattle.tl_msg.specs.declared.head.HeadE.{HeadE};
 ghost use Rattle.tl_msg.specs.declared.beat.BeatOf.{BeatOf};
 ghost use Rattle.tl_msg.specs.Beats.{IsBeat};
-ghost use Rattle.tl_msg.specs.Tables.{rules_a, rules_d};
+ghost use Rattle.tl_msg.specs.Tables.{rules_a, rules_b, rules_c, rules_d, rules_e};
+ghost use Rattle.tl_burst.specs.Handing.{IsHanded, IsHandedWith, IsAdmitted, homes_with, fault_after};
+ghost use Rattle.tl_convert.specs.Accepted.{AcceptedIsLongest};
+ghost use Rattle.tl_convert.specs.Laws.{DueIsOne, DueIsHanded};
 ghost use Rattle.tl_settle.specs.Steps.{Reaches};
 ghost use Rattle.tl_settle.specs.Settling.{IsSettledState, settled_state, goes_a, goes_d};
 ghost use Rattle.tl_settle.specs.Laws.{IsAtAdmitted, OpenIsLast};
+ghost use Rattle.tl_settle.specs.InMessages.{EndsInMessages};
 ghost use Rattle.tl_settle.specs.Histories.{Event};
 ghost use Rattle.tl_settle.specs.Rounds.{IsOver, IsSettledRun};
 
-use tl_burst::laws::faults_are_exact;
-use tl_msg::{ChA, ChD, Channel};
+use tl_burst::laws::{faults_are_exact, homes_are_kept};
+use tl_convert::laws::{accepted_is_longest, due_is_handed, due_is_one};
+use tl_msg::{ChA, ChB, ChC, ChD, ChE, Channel};
 
 /// For every script there is one settled state, and no order of steps goes past it.
 pub fn one_settled_state()
@@ -50,3 +58,47 @@ pub fn steps_are_admitted<const C: usize, const M: usize>()
 pub fn open_request_is_last()
     ensures { OpenIsLast }
 {}
+
+/// What any five lists of beats that memory can hold end in, in whole messages. For each channel:
+/// the beats that are accepted bring whole messages, one after the other, and then perhaps the
+/// first beats of one more; what arrives on the far side is their layout there, of the last one as
+/// much as has come, and no burst of it is interrupted; and the verdict is `Done` or `Cut` where
+/// all beats are accepted, and else says what becomes of the next one (TileLink: burst rules, byte
+/// lanes, source and size of responses; the moments and the verdicts: this project's choice).
+pub fn ends_in_messages<const C: usize, const M: usize>()
+    requires client { IsWidth C }
+    requires manager { IsWidth M }
+    ensures { (a : List (BeatOf HeadA C)) (b : List (BeatOf HeadB M))
+        (c : List (BeatOf HeadC C)) (d : List (BeatOf HeadD M)) (e : List (BeatOf HeadE C)) →
+        All (λ x. IsBeat rules_a x) a → All (λ x. IsBeat rules_b x) b →
+        All (λ x. IsBeat rules_c x) c → All (λ x. IsBeat rules_d x) d →
+        All (λ x. IsBeat rules_e x) e → EndsInMessages a b c d e }
+{
+    one_channel::<ChA, C, M>();
+    one_channel::<ChB, M, C>();
+    one_channel::<ChC, C, M>();
+    one_channel::<ChD, M, C>();
+    one_channel::<ChE, C, M>();
+}
+
+// What the layers below say of one channel by itself.
+fn one_channel<K: Channel, const W: usize, const V: usize>()
+    requires near { IsWidth W }
+    requires far { IsWidth V }
+    ensures exact { (bs : List (BeatOf K.Head W)) (b : BeatOf K.Head W) →
+        IsHanded K.rules bs → IsBeat K.rules b →
+        (fault_after K.rules bs b ≡ None) ↔ IsAdmitted K.rules bs b }
+    ensures kept { (bs : List (BeatOf K.Head W)) (homes : List ℕ) (b : BeatOf K.Head W) (home : ℕ) →
+        IsHandedWith K.rules bs homes → IsBeat K.rules b → fault_after K.rules bs b ≡ None →
+        K.rules.lane_address b.head home < 2 ^ 64 →
+        IsHandedWith K.rules (bs ++ b ∷ []) (homes_with K.rules bs homes b home) }
+    ensures one { DueIsOne K.rules W V }
+    ensures far_side { DueIsHanded K.rules W V }
+    ensures longest { AcceptedIsLongest K.rules W }
+{
+    faults_are_exact::<K, W>();
+    homes_are_kept::<K, W>();
+    due_is_one::<K, W, V>();
+    due_is_handed::<K, W, V>();
+    accepted_is_longest::<K, W>();
+}
