@@ -25,8 +25,9 @@ module _ {H : Type 0} (r : Rules H) {w v : ℕ} where
     pub ring_room : length x.ring ≤ x.room
     pub inbox_size : length x.inbox ≤ inbox_room
 
--- after every list of events all beats are where they belong, and once closed nothing more is accepted
+-- every list of events leads to a world; in each all beats are where they belong, and once closed nothing more is accepted
 pub record EveryRunCrosses {H : Type 0} (r : Rules H) : Type 0 where
+  pub leads : (w v room : ℕ) (es : List (Event H w)) → IsWidth w → IsWidth v → (x : World H w v) × Run r (empty room) es x
   pub crosses : (w v room : ℕ) (es : List (Event H w)) (x : World H w v) → IsWidth w → IsWidth v → Run r (empty room) es x → Crosses r x
   pub shut : (w v room : ℕ) (es later : List (Event H w)) (x y : World H w v) → IsWidth w → IsWidth v →
       Run r (empty room) es x → x.closed ≡ true → Run r x later y → (y.closed ≡ true) × (y.accepted ≡ x.accepted)
