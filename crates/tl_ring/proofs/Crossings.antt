@@ -34,7 +34,7 @@ module _ {H : Type 0} (r : Rules H) {w v : ℕ} (near : IsWidth w) (far : IsWidt
       sym taken_alone ∙ beats ∙ whole_due r near far partial_masked handed over
 
   -- so this is all that an event has to keep
-  crosses : (x : World H w v) (ms : List (Message H)) (rest : List (BeatOf H w)) → Handed r w x.accepted x.homes ms rest →
+  pub crosses : (x : World H w v) (ms : List (Message H)) (rest : List (BeatOf H w)) → Handed r w x.accepted x.homes ms rest →
       x.taken ++ x.inbox ++ x.ring ++ x.stage ≡ due r w v x.accepted x.homes → (x.closed ≡ true → rest ≡ []) →
       length x.ring ≤ x.room → length x.inbox ≤ inbox_room → Crosses r x
   crosses x ms rest handed beats closed_whole ring_room inbox_size = record {

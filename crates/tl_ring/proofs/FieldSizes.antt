@@ -1,8 +1,9 @@
 -- A field takes no more bytes of memory than its struct, and a beat takes few.
-use Rattle.std.proofs.Common.{ℕ, zero, suc, ◌+◌, ◌-◌, ◌*◌, ◌%◌, ◌≤◌, ◌<◌, arith}
+use Rattle.std.proofs.Common.{ℕ, zero, suc, ◌+◌, ◌-◌, ◌*◌, ◌%◌, ◌≤◌, ◌<◌, max, arith}
 use Rattle.std.proofs.Math.Nat.{mod-le}
 use Rattle.tl_lanes.specs.Lanes.{IsWidth}
 use Rattle.tl_lanes.proofs.Widths.{width_bounds}
+use Rattle.tl_convert.proofs.Sizes.{align-small}
 use mir.Syntax.{Ty, Tys, tnil, tcons, ttcons, ty_struct, ty_enum, ty_unit}
 use prog.Memory.{size, align, aligns, alignss, up, end_of, endss}
 use prog.Align.{up-ge, end_ge}
@@ -47,4 +48,100 @@ beat_small head w small width =
     let most = (width_bounds w width).1 in
     let lanes = up_le 1 (head + w * 1) in
     let whole = up_le 8 (up 1 (head + w * 1) + 1) in
+    omega arith
+
+-- the bytes of a beat of width w, of a queue of 64 such beats, and of a converter to that width, where a head has s bytes, is
+-- aligned to a, and lies at a multiple of x
+abbrev beat_bytes : (a x s w : ℕ) → ℕ
+beat_bytes a x s w = up (max a 8) (up 1 (up 1 (up 8 (up x 0 + s) + 8) + w * 1) + 1)
+
+beat_bytes-small : (a x s w : ℕ) → a ≤ 16 → x ≤ 16 → s ≤ 32 → IsWidth w → beat_bytes a x s w ≤ 256
+beat_bytes-small a x s w ha hx hs width =
+    let most = (width_bounds w width).1 in
+    let head = up_le x 0 in
+    let mask = up_le 8 (up x 0 + s) in
+    let lanes = up_le 1 (up 8 (up x 0 + s) + 8) in
+    let corrupt = up_le 1 (up 1 (up 8 (up x 0 + s) + 8) + w * 1) in
+    let whole = up_le (max a 8) (up 1 (up 1 (up 8 (up x 0 + s) + 8) + w * 1) + 1) in
+    omega arith
+
+pub beat_fits : (head place : Ty) (w : ℕ) → size head ≤ 32 → IsWidth w → beat_bytes (align head) (align place) (size head) w < 9223372036854775808
+beat_fits head place w small width =
+    let beat = beat_bytes-small (align head) (align place) (size head) w (align-small head) (align-small place) small width in omega arith
+
+abbrev queue_bytes : (a x s w : ℕ) → ℕ
+queue_bytes a x s w =
+    let m1 : ℕ = max (max (max a 8) 1) 8 in
+    let m2 : ℕ = max (max a 8) 1 in
+    up (max m1 8) (up 8 (up m1 0 + up m1 (up 1 (up 8 (up m2 0 + up m2 (up (max a 8) 0 + 64 * beat_bytes a x s w)) + 8) + 0)) + 8)
+
+pub queue_fits : (head place : Ty) (w : ℕ) → size head ≤ 32 → IsWidth w →
+    queue_bytes (align head) (align place) (size head) w < 9223372036854775808
+queue_fits head place w small width =
+    let a : ℕ = align head in
+    let beat = beat_bytes-small a (align place) (size head) w (align-small head) (align-small place) small width in
+    let m1 : ℕ = max (max (max a 8) 1) 8 in
+    let m2 : ℕ = max (max a 8) 1 in
+    let ha = align-small head in
+    let items : ℕ = up (max a 8) 0 + 64 * beat_bytes a (align place) (size head) w in
+    let one = up_le (max a 8) 0 in
+    let two = up_le m2 items in
+    let three = up_le m2 0 in
+    let four = up_le 8 (up m2 0 + up m2 items) in
+    let five = up_le 1 (up 8 (up m2 0 + up m2 items) + 8) in
+    let six = up_le m1 (up 1 (up 8 (up m2 0 + up m2 items) + 8) + 0) in
+    let seven = up_le m1 0 in
+    let eight = up_le 8 (up m1 0 + up m1 (up 1 (up 8 (up m2 0 + up m2 items) + 8) + 0)) in
+    let nine = up_le (max m1 8) (up 8 (up m1 0 + up m1 (up 1 (up 8 (up m2 0 + up m2 items) + 8) + 0)) + 8) in
+    omega arith
+
+-- one of its beats takes no more
+pub beat_in_queue : (head place : Ty) (w n : ℕ) → queue_bytes (align head) (align place) (size head) w < n →
+    beat_bytes (align head) (align place) (size head) w < n
+beat_in_queue head place w n small =
+    let a : ℕ = align head in
+    let beat : ℕ = beat_bytes a (align place) (size head) w in
+    let m1 : ℕ = max (max (max a 8) 1) 8 in
+    let m2 : ℕ = max (max a 8) 1 in
+    let items : ℕ = up (max a 8) 0 + 64 * beat in
+    let one = up-ge m2 items in
+    let two = up-ge 8 (up m2 0 + up m2 items) in
+    let three = up-ge 1 (up 8 (up m2 0 + up m2 items) + 8) in
+    let four = up-ge m1 (up 1 (up 8 (up m2 0 + up m2 items) + 8) + 0) in
+    let five = up-ge 8 (up m1 0 + up m1 (up 1 (up 8 (up m2 0 + up m2 items) + 8) + 0)) in
+    let six = up-ge (max m1 8) (up 8 (up m1 0 + up m1 (up 1 (up 8 (up m2 0 + up m2 items) + 8) + 0)) + 8) in
+    omega arith
+
+abbrev converter_bytes : (a x s w : ℕ) → ℕ
+converter_bytes a x s w =
+    let t2 : ℕ = max 1 (max (max (max a 4) 1) 1) in
+    let t1 : ℕ = max t2 1 in
+    up (max t1 (max 8 (max (max a 8) 1)))
+    (up (max a 8) (up 8 (up t1 0 + up t1 (up t2 0 + up t2 (max 1 (max (up (max a 4) 1 + up (max a 4) (up 4 (up x 0 + s) + 4)) 1)))) + 8) +
+    beat_bytes a x s w)
+
+pub converter_fits : (head place : Ty) (w : ℕ) → size head ≤ 32 → IsWidth w →
+    converter_bytes (align head) (align place) (size head) w < 9223372036854775808
+converter_fits head place w small width =
+    let a : ℕ = align head in
+    let x : ℕ = align place in
+    let s : ℕ = size head in
+    let ha = align-small head in
+    let hx = align-small place in
+    let beat = beat_bytes-small a x s w ha hx small width in
+    let t2 : ℕ = max 1 (max (max (max a 4) 1) 1) in
+    let t1 : ℕ = max t2 1 in
+    let body : ℕ = max 1 (max (up (max a 4) 1 + up (max a 4) (up 4 (up x 0 + s) + 4)) 1) in
+    let one = up_le x 0 in
+    let two = up_le 4 (up x 0 + s) in
+    let three = up_le (max a 4) (up 4 (up x 0 + s) + 4) in
+    let four = up_le (max a 4) 1 in
+    let five = up_le t2 body in
+    let six = up_le t2 0 in
+    let seven = up_le t1 (up t2 0 + up t2 body) in
+    let eight = up_le t1 0 in
+    let nine = up_le 8 (up t1 0 + up t1 (up t2 0 + up t2 body)) in
+    let ten = up_le (max a 8) (up 8 (up t1 0 + up t1 (up t2 0 + up t2 body)) + 8) in
+    let whole = up_le (max t1 (max 8 (max (max a 8) 1)))
+    (up (max a 8) (up 8 (up t1 0 + up t1 (up t2 0 + up t2 body)) + 8) + beat_bytes a x s w) in
     omega arith

@@ -5,10 +5,11 @@ use Rattle.tl_msg.specs.Rules.{Rules}
 use Rattle.tl_msg.specs.declared.beat.BeatOf.{BeatOf}
 use Rattle.tl_burst.specs.Handing.{IsAdmitted, rest_of, homes_with}
 use Rattle.tl_convert.specs.Due.{due}
+use Rattle.tl_ring.specs.declared.queue.TheConstants.{ROOM}
 
 -- how many beats an inbox holds
 abbrev pub inbox_room : ℕ
-inbox_room = 64
+inbox_room = ROOM
 
 -- where the beats of one channel stand: on w lanes until they are accepted, on v lanes from then on
 pub record World (H : Type 0) (w v : ℕ) : Type 0 where

@@ -1,4 +1,5 @@
 pub mod Crossing
+pub mod Ends
 pub mod Laws
 pub mod Names
 pub mod Pipe

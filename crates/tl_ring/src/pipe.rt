@@ -5,6 +5,8 @@ ghost use Rattle.tl_burst.specs.Handing.{IsAdmitted, rest_of, fault_after};
 ghost use Rattle.tl_burst.specs.Tracking.{IsPlaceOf};
 ghost use Rattle.tl_ring.specs.Crossing.{World, empty, offered, pushed, popped, took, shut, inbox_room};
 ghost use Rattle.tl_ring.specs.Pipe.{StandsFor, IsReady, IsDrained};
+ghost use Rattle.tl_ring.specs.declared.queue.TheConstants.{ROOM};
+ghost use Rattle.tl_ring.specs.declared.pipe.TheConstants.{MAX_RING};
 
 use crate::fault::{BuildFault, EndFault};
 use crate::queue::{Queue, read_front};
@@ -18,7 +20,14 @@ use tl_convert::Converter;
 use tl_msg::{Beat, BeatFault, Channel};
 
 /// The most beats that a ring may hold (this project's choice).
-const MAX_RING: usize = 4096;
+pub const MAX_RING: usize = 4096;
+
+// Whether a ring may hold so many beats.
+pub(crate) fn is_ring_size(ring: usize) -> bool
+    ensures { IsTrue result ↔ ((1 ≤ ring) × (ring ≤ MAX_RING)) }
+{
+    1 <= ring && ring <= MAX_RING
+}
 
 /// The crossing of one channel within one thread, from a bus of `W` bytes to a bus of `V` bytes.
 ///
@@ -38,6 +47,7 @@ pub struct SyncPipe<K: Channel, const W: usize, const V: usize, A: Allocator = G
 impl<K: Channel, const W: usize, const V: usize, A: Allocator> Model for SyncPipe<K, W, V, A> {
     ghost use Rattle.std.specs.Prelude.{◌≤◌};
     ghost use Rattle.tl_ring.specs.Pipe.{Pipe, AreLawful};
+    ghost use Rattle.tl_ring.specs.declared.pipe.TheConstants.{MAX_RING};
 
     ghost Value = { Pipe K.Head V };
 
@@ -50,7 +60,7 @@ impl<K: Channel, const W: usize, const V: usize, A: Allocator> Model for SyncPip
       closed = p.closed;
     } };
 
-    ghost invariant = { λ p. (1 ≤ p.ring.capacity) × (p.ring.capacity ≤ 4096) ×
+    ghost invariant = { λ p. (1 ≤ p.ring.capacity) × (p.ring.capacity ≤ MAX_RING) ×
         AreLawful K.rules p.stage × AreLawful K.rules p.ring.items × AreLawful K.rules p.inbox };
 }
 
@@ -61,11 +71,11 @@ impl<K: Channel, const W: usize, const V: usize, A: Allocator> SyncPipe<K, W, V,
         requires near { IsWidth W }
         requires far { IsWidth V }
         ensures new { IfOk result (λ pipe. StandsFor K.rules {w = W} pipe (empty ring)) }
-        ensures size { IsOk result → (1 ≤ ring) × (ring ≤ 4096) }
+        ensures size { IsOk result → (1 ≤ ring) × (ring ≤ MAX_RING) }
         ensures ring_size { IfErr result (λ fault.
-            (fault ≡ BuildFault.RingSize) ↔ ((ring ≡ 0) ⊎ (4096 < ring))) }
+            (fault ≡ BuildFault.RingSize) ↔ ((ring ≡ 0) ⊎ (MAX_RING < ring))) }
     {
-        if ring == 0 || ring > MAX_RING {
+        if !is_ring_size(ring) {
             return Err(BuildFault::RingSize);
         }
         let Ok(ring) = HeapCircularBuffer::with_capacity(alloc, ring) else {
@@ -144,7 +154,7 @@ impl<K: Channel, const W: usize, const V: usize, A: Allocator> SyncPipe<K, W, V,
         ensures count { result ≡ min (length self.old.stage) (self.old.room - length self.old.ring) }
         ensures moved { (x : World K.Head W V) → StandsFor K.rules self.old x →
             StandsFor K.rules self.new (pushed result x) }
-        ensures most { result ≤ 64 }
+        ensures most { result ≤ ROOM }
     {
         let count = self.ring.fill_from_slice(self.stage.as_slice());
         self.stage.drop_front(count);
@@ -156,7 +166,7 @@ impl<K: Channel, const W: usize, const V: usize, A: Allocator> SyncPipe<K, W, V,
         ensures count { result ≡ min (length self.old.ring) (inbox_room - length self.old.inbox) }
         ensures moved { (x : World K.Head W V) → StandsFor K.rules self.old x →
             StandsFor K.rules self.new (popped result x) }
-        ensures most { result ≤ 64 }
+        ensures most { result ≤ ROOM }
     {
         let count = self.ring.len().min(self.inbox.room());
         read_front(&mut self.ring, &mut self.inbox, count);
@@ -206,7 +216,7 @@ impl<K: Channel, const W: usize, const V: usize, A: Allocator> SyncPipe<K, W, V,
         ensures staged { result.staged ≡ length self.now.stage }
         ensures in_ring { result.in_ring ≡ length self.now.ring }
         ensures inbox { result.inbox ≡ length self.now.inbox }
-        ensures most { (result.staged ≤ 64) × (result.in_ring ≤ 4096) × (result.inbox ≤ 64) }
+        ensures most { (result.staged ≤ ROOM) × (result.in_ring ≤ MAX_RING) × (result.inbox ≤ ROOM) }
     {
         Standing {
             staged: self.stage.len(),

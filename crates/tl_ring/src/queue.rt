@@ -1,20 +1,21 @@
 //! A line of at most 64 items, first in and first out, that takes no memory of its own.
 ghost use Rattle.std.specs.Prelude.{◌≡◌, ◌+◌, ◌-◌, ◌≤◌, ◌++◌, ◌↔◌, [], IsTrue, length, drop, take, slice_get};
 ghost use Rattle.circular_buffer.specs.Buffer.{buffer};
+ghost use Rattle.tl_ring.specs.declared.queue.TheConstants.{ROOM};
 
 use arrayvec::ArrayVec;
 use circular_buffer::HeapCircularBuffer;
 use std::alloc::Allocator;
 use std::marker::Model;
 
-/// How many items a queue holds.
-pub(crate) const ROOM: usize = 64;
+/// How many beats a stage and an inbox hold (this project's choice).
+pub const ROOM: usize = 64;
 
 /// A line of items: those of the array from `first` on. Those before it have left, and their places are used again once the
 /// array is full.
 #[derive(Drop)]
 pub(crate) struct Queue<T> {
-    pub(crate) items: ArrayVec<T, 64>,
+    pub(crate) items: ArrayVec<T, ROOM>,
     pub(crate) first: usize,
 }
 
@@ -40,7 +41,7 @@ impl<T: Copy + Default> Queue<T> {
 
     pub(crate) fn len(&self) -> usize
         ensures value { result ≡ length self.now }
-        ensures within { result ≤ 64 }
+        ensures within { result ≤ ROOM }
     {
         self.items.len() - self.first
     }
@@ -54,15 +55,15 @@ impl<T: Copy + Default> Queue<T> {
 
     // How many more items there is room for.
     pub(crate) fn room(&self) -> usize
-        ensures value { result ≡ 64 - length self.now }
-        ensures within { length self.now ≤ 64 }
+        ensures value { result ≡ ROOM - length self.now }
+        ensures within { length self.now ≤ ROOM }
     {
         ROOM - self.len()
     }
 
     pub(crate) fn as_slice(&self) -> &[T]
         ensures value { result.now ≡ self.now }
-        ensures within { length result.now ≤ 64 }
+        ensures within { length result.now ≤ ROOM }
     {
         &self.items.as_slice()[self.first..]
     }
@@ -88,7 +89,7 @@ impl<T: Copy + Default> Queue<T> {
 
     // Appends all of `more`.
     pub(crate) fn append(&mut self, more: &[T])
-        requires { length self.old + length more.now ≤ 64 }
+        requires { length self.old + length more.now ≤ ROOM }
         ensures { self.new ≡ self.old ++ more.now }
     {
         if more.len() > ROOM - self.items.len() {
@@ -103,7 +104,7 @@ impl<T: Copy + Default> Queue<T> {
 }
 
 // Removes the first `count` items, and moves the others to the start.
-fn cut_front<T: Copy + Default>(items: &mut ArrayVec<T, 64>, count: usize)
+fn cut_front<T: Copy + Default>(items: &mut ArrayVec<T, ROOM>, count: usize)
     requires { count ≤ length items.old.items }
     ensures { items.new.items ≡ drop count items.old.items }
 {
@@ -119,7 +120,7 @@ pub(crate) fn read_front<T: Copy + Default, A: Allocator>(
     count: usize,
 )
     requires there { count ≤ length ring.old.items }
-    requires room { length queue.old + count ≤ 64 }
+    requires room { length queue.old + count ≤ ROOM }
     ensures ring { ring.new ≡ buffer (drop count ring.old.items) ring.old.capacity }
     ensures queue { queue.new ≡ queue.old ++ take count ring.old.items }
 {

@@ -2,7 +2,28 @@ use Rattle.std.proofs.Common.{◌≤◌, ◌-◌, length, min, arith}
 use Rattle.std.proofs.lemmas.List.Elements.{All-append, All-drop, All-take}
 use Rattle.tl_msg.specs.Faults.{IsLawfulBeat}
 use Rattle.tl_ring.proofs.PipeSteps.{stands_popped}
+use denote.Param.{layout, param, number, copied}
+use Rattle.tl_ring.specs.contracts.pipe.SyncPipe.{the_row}
+use Rattle.tl_ring.proofs.FieldSizes.{part_small}
 use Rattle.tl_ring.proofs.pipe.SyncPipe.fetch.Goals as goal
+
+pub room-requires : goal.room-requires
+room-requires g c = search (part_small (layout (the_row (param 0 g.row.K) (param 1 (number g.row.W)) (param 2 (number g.row.V)) (param 3 g.row.A) (copied 4 g.row.K-Head) g.K.Channel g.K.Head.PartialEq g.K.Head.Default g.A.Allocator)) 3 9223372036854775808)
+
+pub read_front-requires : goal.read_front-requires
+read_front-requires g c = (
+  search (part_small (layout (the_row (param 0 g.row.K) (param 1 (number g.row.W)) (param 2 (number g.row.V)) (param 3 g.row.A) (copied 4 g.row.K-Head) g.K.Channel g.K.Head.PartialEq g.K.Head.Default g.A.Allocator)) 3 9223372036854775808),
+  (
+    omega (arith, c.min-count.ensures, c.len.ensures.len),
+    omega (arith, c.min-count.ensures, c.room.ensures.value, c.room.ensures.within),
+  ),
+)
+
+pub returns-clause-count : goal.returns-clause-count
+returns-clause-count g c = rw (← c.self.view_is) (rw (c.len.ensures.len, c.room.ensures.value) at c.min-count.ensures)
+
+pub returns-clause-most : goal.returns-clause-most
+returns-clause-most g c = omega (arith, c.min-count.ensures, c.room.ensures.value)
 
 pub returns-clause-moved : goal.returns-clause-moved
 returns-clause-moved g c = λ x h.

@@ -1,16 +1,34 @@
-use Rattle.std.proofs.Common.{refl, inl, inr}
+use Rattle.std.proofs.Common.{refl}
+use Rattle.std.proofs.lemmas.List.Elements.{All-nil}
+use Rattle.tl_msg.specs.Faults.{IsLawfulBeat}
+use denote.Memory.{lone}
+use denote.Param.{layout}
+use Rattle.tl_ring.proofs.FieldSizes.{queue_fits, converter_fits}
+use Rattle.tl_ring.proofs.Moves.{no_ring_size}
 use Rattle.tl_ring.proofs.PipeSteps.{stands_new}
 use Rattle.tl_ring.proofs.pipe.SyncPipe.new.Goals as goal
-use Rattle.tl_ring.proofs.pipe.SyncPipe.new.Goals.{then-ring-eq0-via-then-ring-eq0, then-ring-eq0-via-else-ring-eq0+then-ring-gt-MAX_RING}
 
-pub returns-then-ring-eq0-clause-ring_size : goal.returns-then-ring-eq0-clause-ring_size
-returns-then-ring-eq0-clause-ring_size g c = (
-  λ _. elim c.then-ring-eq0.branch [
-    | then-ring-eq0-via-then-ring-eq0 w ↦ inl w.if-ring-eq0.true
-    | then-ring-eq0-via-else-ring-eq0+then-ring-gt-MAX_RING w ↦ inr w.if-ring-gt-MAX_RING.true
-  ],
-  λ _. refl,
-)
+pub returns-then-not-is_ring_size-clause-ring_size : goal.returns-then-not-is_ring_size-clause-ring_size
+returns-then-not-is_ring_size-clause-ring_size g c = (λ _. no_ring_size c.args.ring _ c.is_ring_size.ensures c.if-not-is_ring_size.true, λ _. refl)
+
+pub new-requires : goal.new-requires
+new-requires g c = converter_fits (lone g.row.K-Head.mir) (layout g.row.K-Head) g.row.V g.met.K.Channel.head_small c.requires.far
+
+pub new-requires-2 : goal.new-requires-2
+new-requires-2 g c = queue_fits (lone g.row.K-Head.mir) (layout g.row.K-Head) g.row.V g.met.K.Channel.head_small c.requires.far
+
+pub new-requires-3 : goal.new-requires-3
+new-requires-3 g c = queue_fits (lone g.row.K-Head.mir) (layout g.row.K-Head) g.row.V g.met.K.Channel.head_small c.requires.far
+
+-- a ring of that size, and no beat yet
+pub invariant_of-result : goal.invariant_of-result
+invariant_of-result g c =
+    let size = c.is_ring_size.ensures.0 c.if-not-is_ring_size.false in
+    let none = All-nil (λ b. IsLawfulBeat g.K.Channel.rules b) in
+    rw (c.in-Ok.ensures, c.new-2.ensures, c.new-3.ensures) (size.0, size.1, none, none, none)
+
+pub returns-clause-size : goal.returns-clause-size
+returns-clause-size g c = λ _. c.is_ring_size.ensures.0 c.if-not-is_ring_size.false
 
 pub returns-clause-new : goal.returns-clause-new
 returns-clause-new g c =

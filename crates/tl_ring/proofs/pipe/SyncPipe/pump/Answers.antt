@@ -1,8 +1,32 @@
 use Rattle.std.proofs.Common.{rules, ◌≤◌, ◌-◌, length, min, arith}
 use Rattle.std.proofs.lemmas.List.Elements.{All-append, All-drop, All-take}
 use Rattle.tl_msg.specs.Faults.{IsLawfulBeat}
+use denote.Memory.{lone}
+use denote.Param.{layout, param, number, copied}
+use Rattle.tl_ring.specs.contracts.pipe.SyncPipe.{the_row}
+use Rattle.tl_ring.proofs.FieldSizes.{part_small, beat_in_queue}
 use Rattle.tl_ring.proofs.PipeSteps.{stands_pushed}
 use Rattle.tl_ring.proofs.pipe.SyncPipe.pump.Goals as goal
+
+pub as_slice-requires : goal.as_slice-requires
+as_slice-requires g c = search (part_small (layout (the_row (param 0 g.row.K) (param 1 (number g.row.W)) (param 2 (number g.row.V)) (param 3 g.row.A) (copied 4 g.row.K-Head) g.K.Channel g.K.Head.PartialEq g.K.Head.Default g.A.Allocator)) 1 9223372036854775808)
+
+pub fill_from_slice-count-requires : goal.fill_from_slice-count-requires
+fill_from_slice-count-requires g c =
+    let beat = beat_in_queue (lone g.row.K-Head.mir) (layout g.row.K-Head) g.row.V 9223372036854775808
+    (search (part_small (layout (the_row (param 0 g.row.K) (param 1 (number g.row.W)) (param 2 (number g.row.V)) (param 3 g.row.A) (copied 4 g.row.K-Head) g.K.Channel g.K.Head.PartialEq g.K.Head.Default g.A.Allocator)) 1 9223372036854775808)) in
+    λ κs within. ((beat, tt), (search rules, search rules))
+
+pub drop_front-requires : goal.drop_front-requires
+drop_front-requires g c =
+    let count = rw c.as_slice.ensures.value at c.fill_from_slice-count.ensures.count in
+    (search (part_small (layout (the_row (param 0 g.row.K) (param 1 (number g.row.W)) (param 2 (number g.row.V)) (param 3 g.row.A) (copied 4 g.row.K-Head) g.K.Channel g.K.Head.PartialEq g.K.Head.Default g.A.Allocator)) 1 9223372036854775808), omega (arith, count))
+
+pub returns-clause-count : goal.returns-clause-count
+returns-clause-count g c = rw (← c.self.view_is, ← c.as_slice.ensures.value) c.fill_from_slice-count.ensures.count
+
+pub returns-clause-most : goal.returns-clause-most
+returns-clause-most g c = omega (arith, c.fill_from_slice-count.ensures.count, c.as_slice.ensures.within)
 
 pub returns-clause-moved : goal.returns-clause-moved
 returns-clause-moved g c = λ x h.
@@ -17,4 +41,4 @@ invariant_of-self g c =
     let stage = All-drop (λ b. IsLawfulBeat g.K.Channel.rules b) c.fill_from_slice-count.result c.self.inside.stage c.self.invariant.2 in
     let moved = All-take (λ b. IsLawfulBeat g.K.Channel.rules b) c.fill_from_slice-count.result c.self.inside.stage c.self.invariant.2 in
     let ring = All-append (λ b. IsLawfulBeat g.K.Channel.rules b) c.self.inside.ring.items _ c.self.invariant.3 moved in
-    (search rules, search rules, rw c.drop_front.ensures stage, rw (c.fill_from_slice-count.ensures.items, c.as_slice.ensures.value) ring, c.self.invariant.4)
+    (rw c.fill_from_slice-count.ensures.items c.self.invariant.0, rw c.fill_from_slice-count.ensures.items c.self.invariant.1, rw c.drop_front.ensures stage, rw (c.fill_from_slice-count.ensures.items, c.as_slice.ensures.value) ring, c.self.invariant.4)

@@ -1,0 +1,105 @@
+//! The two ends of a ring, step by step in one thread.
+#![tactic(auto, using(tl_lanes::proofs::Widths::width_4, tl_lanes::proofs::Widths::width_8))]
+
+use crate::values::{ack, at, put};
+use std::alloc::Global;
+use std::test::Fail;
+use tl_msg::{ChA, ChE};
+use tl_ring::{EndFault, meet, meet_closing, ring_pair};
+
+#[test]
+fn a_half_brought_message_keeps_its_end_open(rt: HostRuntime) -> Result<(), Fail> {
+    let (mut send, _take) = ring_pair::<ChA, 4, 8, Global>(rt.alloc(), 1)?;
+    assert!(rt; send.ready());
+    send.offer(put(4, 32, 0xf, [0, 1, 2, 3]), 0)?;
+    assert!(rt; send.ready());
+    send.offer(put(4, 32, 0xf, [4, 5, 6, 7]), 0)?;
+    assert_eq!(rt; send.pump(), 1);
+    assert!(rt; send.ready());
+    send.offer(put(4, 32, 0xf, [8, 9, 10, 11]), 0)?;
+    let Err((mut send, fault)) = send.close() else {
+        panic!(rt; "closed within a burst");
+    };
+    assert_eq!(rt; fault, EndFault::MidBurst);
+    assert!(rt; send.ready());
+    send.offer(put(4, 32, 0xf, [12, 13, 14, 15]), 0)?;
+    assert_eq!(rt; send.staged(), 1);
+    let Ok(closing) = send.close() else {
+        panic!(rt; "not closed between bursts");
+    };
+    assert_eq!(rt; closing.staged(), 1);
+    Ok(())
+}
+
+#[test]
+fn two_far_beats_pass_a_ring_of_one_between_ends(rt: HostRuntime) -> Result<(), Fail> {
+    let (mut send, mut take) = ring_pair::<ChA, 8, 4, Global>(rt.alloc(), 1)?;
+    assert!(rt; send.ready());
+    send.offer(put(3, 16, 0xff, [0, 1, 2, 3, 4, 5, 6, 7]), 0)?;
+    assert_eq!(rt; meet(&mut send, &mut take), at(2, 0, 0));
+    assert_eq!(rt; send.pump(), 1);
+    assert_eq!(rt; meet(&mut send, &mut take), at(1, 1, 0));
+    assert_eq!(rt; take.fetch(), 1);
+    assert_eq!(rt; meet(&mut send, &mut take), at(1, 0, 1));
+    assert_eq!(rt; send.pump(), 1);
+    assert_eq!(rt; meet(&mut send, &mut take), at(0, 1, 1));
+    assert_eq!(rt; take.fetch(), 1);
+    assert!(rt; take.take().is_some());
+    assert!(rt; take.take().is_some());
+    assert!(rt; take.take().is_none());
+    let Ok(mut send) = send.close() else {
+        panic!(rt; "not closed between messages");
+    };
+    assert_eq!(rt; meet_closing(&mut send, &mut take), at(0, 0, 0));
+    Ok(())
+}
+
+#[test]
+fn a_receipt_shows_what_is_left(rt: HostRuntime) -> Result<(), Fail> {
+    let (mut send, mut take) = ring_pair::<ChE, 4, 8, Global>(rt.alloc(), 2)?;
+    assert!(rt; send.ready());
+    send.offer(ack(0x2a), 0)?;
+    assert_eq!(rt; send.staged(), 1);
+    assert_eq!(rt; send.pump(), 1);
+    let Ok(mut send) = send.close() else {
+        panic!(rt; "not closed between messages");
+    };
+    assert_eq!(rt; meet_closing(&mut send, &mut take), at(0, 1, 0));
+    assert_eq!(rt; send.staged(), 0);
+    let Some(mut receipt) = send.finish() else {
+        panic!(rt; "no receipt");
+    };
+    assert!(rt; !take.drained(&mut receipt));
+    assert_eq!(rt; take.fetch(), 1);
+    assert!(rt; !take.drained(&mut receipt));
+    assert_eq!(rt; take.take().map(|beat| beat.head.sink), Some(0x2a));
+    assert!(rt; take.drained(&mut receipt));
+    Ok(())
+}
+
+#[test]
+fn a_dropped_end_leaves_the_other_one_whole(rt: HostRuntime) -> Result<(), Fail> {
+    let (mut send, take) = ring_pair::<ChE, 4, 8, Global>(rt.alloc(), 2)?;
+    drop(take);
+    for moved in [1, 1, 0] {
+        assert!(rt; send.ready());
+        send.offer(ack(7), 0)?;
+        assert_eq!(rt; send.pump(), moved);
+    }
+    assert!(rt; !send.ready());
+    let Ok(closing) = send.close() else {
+        panic!(rt; "not closed between messages");
+    };
+    assert_eq!(rt; closing.staged(), 1);
+
+    let (mut send, mut take) = ring_pair::<ChA, 8, 4, Global>(rt.alloc(), 1)?;
+    assert!(rt; send.ready());
+    send.offer(put(3, 16, 0xff, [0, 1, 2, 3, 4, 5, 6, 7]), 0)?;
+    assert_eq!(rt; send.pump(), 1);
+    drop(send);
+    assert_eq!(rt; take.fetch(), 1);
+    assert!(rt; take.take().is_some());
+    assert_eq!(rt; take.fetch(), 0);
+    assert_eq!(rt; take.take(), None);
+    Ok(())
+}

@@ -1,0 +1,136 @@
+//! A ring between two threads.
+#![tactic(auto, using(tl_lanes::proofs::Widths::width_4, tl_lanes::proofs::Widths::width_8))]
+
+ghost use Rattle.std.specs.Prelude.{IfSome};
+ghost use Rattle.tl_ring.specs.Ends.{SameSend, SameTake, IsReceiptFor};
+
+use crate::values::{ack, at};
+use arrayvec::ArrayVec;
+use std::alloc::Global;
+use std::test::Fail;
+use std::thread::{join, join_mut};
+use tl_msg::ChE;
+use tl_ring::{Receipt, SendEnd, TakeEnd, meet, ring_pair};
+
+/// How many beats go through the ring of two threads.
+const COUNT: u8 = 200;
+
+/// Offers and sends the sinks from 0 on, until all are sent or the turns are over, and answers how many were offered.
+fn send_all(send: &mut SendEnd<ChE, 4, 8>, turns: usize) -> u8
+    ensures { SameSend send.old send.new }
+{
+    let mut next = 0;
+    for _ in 0..turns {
+        if send.ready() {
+            if next == COUNT || send.offer(ack(next), 0).is_err() {
+                return next;
+            }
+            next += 1;
+        }
+        send.pump();
+    }
+    next
+}
+
+/// Fetches and takes beats, until all were taken or the turns are over, and notes their sinks.
+fn take_all(take: &mut TakeEnd<ChE, 4, 8>, sinks: &mut ArrayVec<u8, 200>, turns: usize)
+    ensures { SameTake take.old take.new }
+{
+    for _ in 0..turns {
+        take.fetch();
+        if let Some(beat) = take.take() {
+            if sinks.try_push(beat.head.sink).is_err() || sinks.is_full() {
+                return;
+            }
+        }
+    }
+}
+
+/// Offers and sends as [`send_all`], and then closes the end, sends what is staged and answers the receipt, if all of that was done
+/// before the turns were over.
+fn send_and_finish(send: SendEnd<ChE, 4, 8>, turns: usize) -> Option<Receipt<ChE, 4, 8>>
+    ensures { IfSome result (λ receipt. IsReceiptFor send receipt) }
+{
+    let mut send = send;
+    send_all(&mut send, turns);
+    let Ok(mut closing) = send.close() else {
+        return None;
+    };
+    for _ in 0..turns {
+        if closing.staged() == 0 {
+            return closing.finish();
+        }
+        closing.pump();
+    }
+    None
+}
+
+/// Whether these are the sinks from 0 on, each once and in order.
+fn in_order(sinks: &ArrayVec<u8, 200>) -> bool {
+    sinks.len() == COUNT as usize
+        && sinks
+            .as_slice()
+            .iter()
+            .enumerate()
+            .all(|(place, sink)| place == *sink as usize)
+}
+
+#[test]
+fn two_threads_lose_nothing(rt: HostRuntime) -> Result<(), Fail> {
+    let (mut send, mut take) = ring_pair::<ChE, 4, 8, Global>(rt.alloc(), 4)?;
+    let mut sinks = ArrayVec::<u8, 200>::new();
+    let (offered, _) = join_mut(
+        &rt,
+        &mut || send_all(&mut send, 1_000_000),
+        &mut || take_all(&mut take, &mut sinks, 1_000_000),
+    );
+    meet(&mut send, &mut take);
+    let mut next = offered;
+    for _ in 0..1_000 {
+        if send.ready() && next < COUNT {
+            send.offer(ack(next), 0)?;
+            next += 1;
+        }
+        send.pump();
+        meet(&mut send, &mut take);
+        take_all(&mut take, &mut sinks, 1);
+        meet(&mut send, &mut take);
+        if sinks.is_full() {
+            break;
+        }
+    }
+    assert!(rt; in_order(&sinks));
+    assert_eq!(rt; meet(&mut send, &mut take), at(0, 0, 0));
+    Ok(())
+}
+
+#[test]
+fn a_receipt_goes_from_thread_to_thread(rt: HostRuntime) -> Result<(), Fail> {
+    let (send, take) = ring_pair::<ChE, 4, 8, Global>(rt.alloc(), 4)?;
+    let (receipt, (take, sinks)) = join(
+        &rt,
+        move || -> Option<Receipt<ChE, 4, 8>>
+            ensures { IfSome result (λ receipt. IsReceiptFor send receipt) }
+        { send_and_finish(send, 500_000_000) },
+        move || -> (TakeEnd<ChE, 4, 8>, ArrayVec<u8, 200>)
+            ensures { SameTake take result.0 }
+        {
+            let (mut take, mut sinks) = (take, ArrayVec::new());
+            take_all(&mut take, &mut sinks, 500_000_000);
+            (take, sinks)
+        },
+    );
+    let Some(mut receipt) = receipt else {
+        panic!(rt; "no receipt");
+    };
+    let (mut take, mut sinks) = (take, sinks);
+    for _ in 0..1_000 {
+        if take.drained(&mut receipt) {
+            break;
+        }
+        take_all(&mut take, &mut sinks, 1);
+    }
+    assert!(rt; take.drained(&mut receipt));
+    assert!(rt; in_order(&sinks));
+    Ok(())
+}

@@ -1,0 +1,327 @@
+-- Each call of a sending end takes it to where its crossing is after the same event, and a meeting makes one crossing of both ends.
+use Rattle.std.proofs.Common.{◌≡◌, ◌≤◌, ◌<◌, ◌+◌, ◌^◌, ℕ, zero, suc, true, false, List, [], ◌∷◌, ◌++◌, length, take, drop, min, refl, sym, ap, subst, ◌∙◌, arith, ⊎_elim, append_assoc, append-nil, length-append}
+use Rattle.std.proofs.lemmas.Bool.{cases_lt}
+use mathlib.Core.List.{IsPrefix}
+use Rattle.rtrb.specs.Ring as rtrb
+use Rattle.rtrb.specs.declared.producer.Producer.{Producer}
+use Rattle.rtrb.specs.declared.consumer.Consumer.{Consumer}
+use Rattle.tl_lanes.specs.Lanes.{IsWidth}
+use Rattle.tl_msg.specs.Beats.{IsBeat}
+use Rattle.tl_msg.specs.Rules.{Rules}
+use Rattle.tl_msg.specs.declared.beat.BeatOf.{BeatOf}
+use Rattle.tl_burst.specs.Handing.{IsAdmitted, rest_of, homes_with}
+use Rattle.tl_convert.specs.Converting.{Progress}
+use Rattle.tl_convert.specs.Converting as converting
+use Rattle.tl_convert.specs.Due.{due}
+use Rattle.tl_ring.specs.Crossing.{World, empty, offered, shut, inbox_room, IsReached}
+use Rattle.tl_ring.specs.Ends.{ArePair, Sending, as_pipe, Taking, Ended, Sends, Takes, Pushed, Fetched, Met, Meets, Shows, Shown, LookedAfter, IsReceiptOf, Finishes, SameTake, sent, room, known_items, received, passed, closing, took_first}
+use Rattle.tl_ring.specs.Laws.{Crosses}
+use Rattle.tl_ring.specs.declared.lawful.LawfulAt.{LawfulAt}
+use Rattle.tl_ring.proofs.Moves.{cut_moves}
+use Rattle.tl_ring.proofs.Parting.{into_taken, reached_parted}
+use Rattle.tl_ring.proofs.PipeSteps.{stands_offered, stands_shut}
+use Rattle.tl_ring.proofs.Reached.{reached_new}
+use Rattle.tl_ring.proofs.Crossings.{crosses, Crosses-empty}
+
+-- where inbox and ring are empty, all that was sent was taken
+none_on_the_way : {X : Type 0} (taken inbox ring : List X) → inbox ≡ [] → ring ≡ [] → taken ++ inbox ++ ring ≡ taken
+none_on_the_way taken inbox ring no_inbox no_ring =
+    ap (λ t. taken ++ inbox ++ t) no_ring ∙ append-nil (taken ++ inbox) ∙ ap (λ t. taken ++ t) no_inbox ∙ append-nil taken
+
+module _ {H : Type 0} (r : Rules H) {w v : ℕ} where
+  -- staged beats pass through the ring one by one
+  reached_passed : (k : ℕ) (stage : List (BeatOf H v)) (x : World H w v) → x.stage ≡ stage → x.ring ≡ [] → x.inbox ≡ [] → 1 ≤ x.room →
+      IsReached r x → IsReached r (record x { stage = drop k stage; taken = x.taken ++ take k stage })
+  reached_passed zero stage x staged no_ring no_inbox room h =
+      let e : x ≡ record x { stage = stage; taken = x.taken ++ [] } =
+      λ i. record x { stage = staged i; taken = sym (append-nil x.taken) i } in
+      subst (λ (y : World H w v). IsReached r y) e h
+  reached_passed (suc k) [] x staged no_ring no_inbox room h =
+      let e : x ≡ record x { stage = []; taken = x.taken ++ [] } =
+      λ i. record x { stage = staged i; taken = sym (append-nil x.taken) i } in
+      subst (λ (y : World H w v). IsReached r y) e h
+  reached_passed (suc k) (b ∷ more) x staged no_ring no_inbox room h =
+      let next : IsReached r (record x { stage = drop k more; ring = []; inbox = []; taken = (x.taken ++ b ∷ []) ++ take k more }) =
+      reached_passed k more (record x { stage = more; ring = []; inbox = []; taken = x.taken ++ b ∷ [] }) refl refl refl room
+      (into_taken r x b more staged no_ring no_inbox room h) in
+      let e : record x { stage = drop k more; ring = []; inbox = []; taken = (x.taken ++ b ∷ []) ++ take k more } ≡
+      record x { stage = drop k more; taken = x.taken ++ (b ∷ take k more) } =
+      λ i. record x { stage = drop k more; ring = sym no_ring i; inbox = sym no_inbox i; taken = append_assoc x.taken (b ∷ []) (take k more) i } in
+      subst (λ (y : World H w v). IsReached r y) e next
+
+  -- what holds at every moment goes on to another parting of the same beats
+  pub Crosses-parted : (x : World H w v) → (taken inbox ring : List (BeatOf H v)) → x.taken ++ x.inbox ++ x.ring ≡ taken ++ inbox ++ ring →
+      x.ring ≡ [] → x.inbox ≡ [] → length inbox ≤ inbox_room → length ring ≤ x.room → Crosses r x → Crosses r (record x { ring = ring; inbox = inbox; taken = taken })
+  Crosses-parted x taken inbox ring all no_ring no_inbox held fits c = record {
+    beats = ap (λ t. t ++ x.stage) (sym all) ∙ c.beats;
+    messages = c.messages;
+    rest = c.rest;
+    handed = c.handed;
+    closed_whole = c.closed_whole;
+    drained = λ shut none_staged none_in_ring none_in_inbox.
+        sym (none_on_the_way taken inbox ring none_in_inbox none_in_ring) ∙ sym all ∙ none_on_the_way x.taken x.inbox x.ring no_inbox no_ring ∙
+        c.drained shut none_staged no_ring no_inbox;
+    ring_room = fits;
+    inbox_size = held;
+  }
+
+module _ {K A H : Type 0} (r : Rules H) {w v : ℕ} (partial_masked : (h : H) → r.partial h ≡ true → r.masked ≡ true) where
+  pub sends_new : (s : Sending K A H v) (size : ℕ) → IsWidth w → IsWidth v → 1 ≤ size → converting.StandsFor {w = w} r s.converter [] [] → s.stage ≡ [] →
+      sent s ≡ [] → room s ≡ size → s.closed ≡ false → Sends r s (empty {w = w} size)
+  sends_new s size near far some converts none_staged none_sent room open_yet = record {
+    pipe = record {
+      near = near;
+      far = far;
+      converter = converts;
+      room = room;
+      stage = none_staged;
+      ring = refl;
+      inbox = refl;
+      closed = open_yet;
+      reached = reached_new r size;
+      crosses = Crosses-empty r near far partial_masked size;
+    };
+    sent = none_sent;
+    some_room = some;
+  }
+
+  pub sends_offered : (s : Sending K A H v) (x : World H w v) (b : BeatOf H w) (home : ℕ) (c : Progress H v) (out : List (BeatOf H v)) →
+      IsBeat r b → r.lane_address b.head home < 2 ^ 64 → IsAdmitted r x.accepted b → s.stage ≡ [] → s.closed ≡ false →
+      converting.StandsFor r c (x.accepted ++ b ∷ []) (homes_with r x.accepted x.homes b home) →
+      due r w v (x.accepted ++ b ∷ []) (homes_with r x.accepted x.homes b home) ≡ due r w v x.accepted x.homes ++ out → Sends r s x →
+      Sends r (record s { converter = c; stage = out }) (offered r b home x)
+  sends_offered s x b home c out is_beat small admitted none_staged open_yet converts more h = record {
+    pipe = stands_offered r partial_masked (as_pipe s) x b home c out is_beat small admitted none_staged open_yet converts more h.pipe;
+    sent = h.sent;
+    some_room = h.some_room;
+  }
+
+  pub sends_shut : (s : Sending K A H v) (x : World H w v) → rest_of r w x.accepted ≡ [] → Sends r s x → Sends r (closing s) (shut x)
+  sends_shut s x over h = record {
+    pipe = stands_shut r partial_masked (as_pipe s) x over h.pipe;
+    sent = h.sent;
+    some_room = h.some_room;
+  }
+
+  -- k staged beats were sent
+  pub sends_passed : (k : ℕ) (s s' : Sending K A H v) (x : World H w v) → s'.converter ≡ s.converter → s'.stage ≡ drop k s.stage →
+      sent s' ≡ sent s ++ take k s.stage → room s' ≡ room s → s'.closed ≡ s.closed → Sends r s x → Sends r s' (passed k x)
+  sends_passed k s s' x converter staged sends room closed h =
+      let p = h.pipe in
+      let c = p.crosses in
+      let more : List (BeatOf H v) = take k x.stage in
+      let none : x.taken ++ x.inbox ++ x.ring ≡ x.taken = none_on_the_way x.taken x.inbox x.ring (sym p.inbox) (sym p.ring) in
+      let none' : (x.taken ++ more) ++ x.inbox ++ x.ring ≡ x.taken ++ more =
+      none_on_the_way (x.taken ++ more) x.inbox x.ring (sym p.inbox) (sym p.ring) in
+      record {
+        pipe = record {
+          near = p.near;
+          far = p.far;
+          converter = subst (λ (c : Progress H v). converting.StandsFor r c x.accepted x.homes) (sym converter) p.converter;
+          room = room ∙ p.room;
+          stage = staged ∙ ap (λ t. drop k t) p.stage;
+          ring = p.ring;
+          inbox = p.inbox;
+          closed = closed ∙ p.closed;
+          reached = reached_passed r k x.stage x refl (sym p.ring) (sym p.inbox) h.some_room p.reached;
+          crosses = crosses r p.near p.far partial_masked (passed k x) c.messages c.rest c.handed
+              (ap (λ t. t ++ drop k x.stage) none' ∙ cut_moves k x.taken x.stage ∙ ap (λ t. t ++ x.stage) (sym none) ∙ c.beats)
+              c.closed_whole c.ring_room c.inbox_size;
+        };
+        sent = sends ∙ ap (λ t. t ++ take k s.stage) h.sent ∙ ap (λ t. x.taken ++ take k t) p.stage;
+        some_room = h.some_room;
+      }
+
+module _ {K A H : Type 0} (r : Rules H) {w v : ℕ} where
+  -- what a meeting makes of both ends
+  pub meets_of : (s s' : Sending K A H v) (t t' : Taking K A H v) (x : World H w v) (taken : List (BeatOf H v)) → Met s t s' t' →
+      length t'.inbox ≤ inbox_room → Sends r s x → Takes t taken → Meets r s' t' x taken
+  meets_of s s' t t' x taken met held h takes =
+      let p = h.pipe in
+      let now : Takes t' taken = met.same_received ∙ takes ∙ ap (λ l. taken ++ l) (sym met.same_inbox) in
+      let all : x.taken ++ x.inbox ++ x.ring ≡ taken ++ t'.inbox ++ known_items t' =
+      none_on_the_way x.taken x.inbox x.ring (sym p.inbox) (sym p.ring) ∙ sym h.sent ∙ sym met.same_sent ∙ sym met.ring ∙
+      ap (λ l. l ++ known_items t') now in
+      let same_room : room s ≡ x.room = p.room in
+      let fits : length (known_items t') ≤ x.room = omega (arith, met.in_room, same_room) in
+      record {
+        sends = record {
+          pipe = record {
+            near = p.near;
+            far = p.far;
+            converter = subst (λ (c : Progress H v). converting.StandsFor r c x.accepted x.homes) (sym met.same_converter) p.converter;
+            room = met.send.1 ∙ p.room;
+            stage = met.same_stage ∙ p.stage;
+            ring = p.ring;
+            inbox = p.inbox;
+            closed = met.same_closed ∙ p.closed;
+            reached = p.reached;
+            crosses = p.crosses;
+          };
+          sent = met.same_sent ∙ h.sent;
+          some_room = h.some_room;
+        };
+        takes = now;
+        reached = reached_parted r x h.some_room taken t'.inbox (known_items t') all held fits p.reached;
+        crosses = Crosses-parted r x taken t'.inbox (known_items t') all (sym p.ring) (sym p.inbox) held fits p.crosses;
+      }
+
+-- what was known to be there is moved, or there was no room for more
+pub least_moved : {X : Type 0} (known moved left : List X) (k room : ℕ) → IsPrefix known (moved ++ left) → length moved ≡ k → (k < room → length left ≡ 0) →
+    min (length known) room ≤ k
+least_moved known moved left k room (more, e) count none = ⊎_elim
+    (λ short.
+    let empty : length left ≡ 0 = none short in
+    let all : length known + length more ≡ length moved + length left =
+    sym (length-append known more) ∙ ap length e ∙ length-append moved left in
+    omega (arith, empty, all, count))
+    (λ full. omega (arith, full))
+    (cases_lt k room)
+
+module _ {K A H : Type 0} {v : ℕ} where
+  -- the same end of the same ring is of the same receipt
+  still_of : (e : Ended K A H v) (t t' : Taking K A H v) → SameTake t t' → IsReceiptOf e t → IsReceiptOf e t'
+  still_of e t t' same of = (same.0.0 ∙ of.0, same.0.1 ∙ of.1, same.0.2 ∙ of.2, same.0.3 ∙ of.3)
+
+  -- two receipts of one end are of the same ends
+  of_both : (e e' : Ended K A H v) (t u : Taking K A H v) → IsReceiptOf e t → IsReceiptOf e' t → IsReceiptOf e' u → IsReceiptOf e u
+  of_both e e' t u of of' here =
+      (here.0 ∙ sym of'.0 ∙ of.0, here.1 ∙ sym of'.1 ∙ of.1, here.2 ∙ sym of'.2 ∙ of.2, here.3 ∙ sym of'.3 ∙ of.3)
+
+  -- ends that look at their ring stay a pair
+  pub still_pair_after : (p p' : Producer (BeatOf H v) A (LawfulAt K v H)) (c c' : Consumer (BeatOf H v) A (LawfulAt K v H)) → rtrb.IsPair p c →
+      rtrb.ProducerLooked p p' → rtrb.ConsumerLooked c c' → rtrb.IsPair p' c'
+  still_pair_after p p' c c' pair sees seen = (
+    seen.0.0.0 ∙ pair.0 ∙ sym sees.0.0.0,
+    seen.0.0.1 ∙ pair.1 ∙ sym sees.0.0.1,
+    seen.0.0.2 ∙ pair.2 ∙ sym sees.0.0.2,
+    seen.0.0.3 ∙ pair.3 ∙ sym sees.0.0.3,
+  )
+
+  -- both ends have looked at the ring: first the one that sends, and then the one that takes
+  pub met_of : (s : Sending K A H v) (t : Taking K A H v) (p1 p2 : Producer (BeatOf H v) A (LawfulAt K v H)) (c1 c2 : Consumer (BeatOf H v) A (LawfulAt K v H)) (free : ℕ) →
+      ArePair s t → rtrb.ProducerLooked s.producer p1 → rtrb.ConsumerLooked t.consumer c1 → free ≡ rtrb.known_free p1 →
+      free + length (rtrb.sent p1) ≡ rtrb.producer_capacity p1 + length (rtrb.received c1) → rtrb.ConsumerLooked c1 c2 → rtrb.ProducerLooked p1 p2 →
+      rtrb.received c2 ++ rtrb.known_items c2 ≡ rtrb.sent p2 → Met s t (record s { producer = p2 }) (record t { consumer = c2 })
+  met_of s t p1 p2 c1 c2 free pair sees1 seen1 value all_free seen2 sees2 fifo =
+      let size : length (rtrb.received c2) + length (rtrb.known_items c2) ≡ length (rtrb.sent p2) =
+      sym (length-append (rtrb.received c2) (rtrb.known_items c2)) ∙ ap length fifo in
+      let sent_size : length (rtrb.sent p2) ≡ length (rtrb.sent p1) = ap length sees2.1 in
+      let received_size : length (rtrb.received c2) ≡ length (rtrb.received c1) = ap length seen2.1 in
+      let capacity : p1.capacity ≡ s.producer.capacity = sees1.0.1 in
+      let more : rtrb.known_free p1 ≤ rtrb.known_free p2 = sees2.2 in
+      let more_before : rtrb.known_free s.producer ≤ rtrb.known_free p1 = sees1.2 in
+      record {
+        pair = still_pair_after p1 p2 c1 c2 (still_pair_after s.producer p1 t.consumer c1 pair sees1 seen1) sees2 seen2;
+        send = (
+          (sees2.0.0.0 ∙ sees1.0.0.0, sees2.0.0.1 ∙ sees1.0.0.1, sees2.0.0.2 ∙ sees1.0.0.2, sees2.0.0.3 ∙ sees1.0.0.3),
+          sees2.0.1 ∙ sees1.0.1,
+        );
+        take = (
+          (seen2.0.0.0 ∙ seen1.0.0.0, seen2.0.0.1 ∙ seen1.0.0.1, seen2.0.0.2 ∙ seen1.0.0.2, seen2.0.0.3 ∙ seen1.0.0.3),
+          seen2.0.1 ∙ seen1.0.1,
+        );
+        same_converter = refl;
+        same_stage = refl;
+        same_closed = refl;
+        same_sent = sees2.1 ∙ sees1.1;
+        same_inbox = refl;
+        same_received = seen2.1 ∙ seen1.1;
+        ring = fifo;
+        in_room = omega (arith, size, sent_size, received_size, capacity, all_free);
+        free = omega (arith, more, more_before);
+        all_free = omega (arith, size, sent_size, received_size, capacity, all_free, value, more);
+      }
+
+  -- beats came out of the ring into the inbox
+  pub fetched_of : (t : Taking K A H v) (c : Consumer (BeatOf H v) A (LawfulAt K v H)) (inbox moved : List (BeatOf H v)) (k : ℕ) → rtrb.SameConsumer t.consumer c →
+      length moved ≡ k → inbox ≡ t.inbox ++ moved → rtrb.received c ≡ received t ++ moved → IsPrefix (known_items t) (moved ++ rtrb.known_items c) →
+      Fetched t k (record { inbox = inbox; consumer = c })
+  fetched_of t c inbox moved k same count more receives known = record {
+    ring = same;
+    moved = moved;
+    count = count;
+    inbox = more;
+    received = receives;
+    known = known;
+  }
+
+  pub takes_fetched : (t t' : Taking K A H v) (k : ℕ) → Fetched t k t' → (taken : List (BeatOf H v)) → Takes t taken → Takes t' taken
+  takes_fetched t t' k f taken takes =
+      f.received ∙ ap (λ l. l ++ f.moved) takes ∙ append_assoc taken t.inbox f.moved ∙ ap (λ l. taken ++ l) (sym f.inbox)
+
+  pub takes_first : (t : Taking K A H v) (taken : List (BeatOf H v)) → Takes t taken → Takes (took_first t) (taken ++ take 1 t.inbox)
+  takes_first t taken takes = takes ∙ sym (cut_moves 1 taken t.inbox)
+
+  -- a closing end and the end that was closed do the same
+  pub pushed_closing : (k : ℕ) (a b : Sending K A H v) → Pushed a k b → Pushed (closing a) k (closing b)
+  pushed_closing k a b p = record {
+    ring = p.ring;
+    same_converter = p.same_converter;
+    same_closed = refl;
+    stage = p.stage;
+    more_sent = p.more_sent;
+    known = p.known;
+  }
+
+  pub met_closing : (s s' : Sending K A H v) (t t' : Taking K A H v) → Met s t s' t' → Met (closing s) t (closing s') t'
+  met_closing s s' t t' m = record {
+    pair = m.pair;
+    send = m.send;
+    take = m.take;
+    same_converter = m.same_converter;
+    same_stage = m.same_stage;
+    same_closed = refl;
+    same_sent = m.same_sent;
+    same_inbox = m.same_inbox;
+    same_received = m.same_received;
+    ring = m.ring;
+    in_room = m.in_room;
+    free = m.free;
+    all_free = m.all_free;
+  }
+
+module _ {K A H : Type 0} (r : Rules H) {w v : ℕ} where
+  -- the receipt of an end shows what the end stands for, and its ring is no larger than the end's
+  pub shows_of : (s : Sending K A H v) (e : Ended K A H v) (x : World H w v) → Finishes s e → s.stage ≡ [] → s.closed ≡ true → Sends r s x → Shows r e x
+  shows_of s e x finishes none_staged closed h = record {
+    closed = sym h.pipe.closed ∙ closed;
+    none_staged = sym h.pipe.stage ∙ none_staged;
+    sent = finishes.1 ∙ h.sent;
+    no_ring = sym h.pipe.ring;
+    no_inbox = sym h.pipe.inbox;
+    some_room = h.some_room;
+    room = λ t of.
+        let held : length (known_items t) ≤ t.consumer.capacity = t.consumer.counts in
+        let same : t.consumer.capacity ≡ s.producer.capacity =
+        t.consumer.reads.2 ∙ ap (λ (n : _). n.0) (of.2 ∙ finishes.0.2) ∙ sym s.producer.writes.2 in
+        let mine : s.producer.capacity ≡ x.room = h.pipe.room in
+        omega (arith, held, same, mine);
+    reached = h.pipe.reached;
+    crosses = h.pipe.crosses;
+  }
+
+  -- what the taking end learns of it
+  pub shown_of : (e e' : Ended K A H v) (t t' : Taking K A H v) (x : World H w v) (taken : List (BeatOf H v)) → IsReceiptOf e t → LookedAfter e t e' t' →
+      length t'.inbox ≤ inbox_room → Shows r e x → Takes t taken → Shown r e' t' x taken
+  shown_of e e' t t' x taken of looked held h takes =
+      let now : Takes t' taken = looked.same_received ∙ takes ∙ ap (λ l. taken ++ l) (sym looked.same_inbox) in
+      let all : x.taken ++ x.inbox ++ x.ring ≡ taken ++ t'.inbox ++ known_items t' =
+      none_on_the_way x.taken x.inbox x.ring h.no_inbox h.no_ring ∙ sym h.sent ∙ sym looked.ring ∙ ap (λ l. l ++ known_items t') now in
+      let fits : length (known_items t') ≤ x.room = h.room t' (still_of e t t' looked.take of) in
+      record {
+        shows = record {
+          closed = h.closed;
+          none_staged = h.none_staged;
+          sent = looked.same_sent ∙ h.sent;
+          no_ring = h.no_ring;
+          no_inbox = h.no_inbox;
+          some_room = h.some_room;
+          room = λ u here. h.room u (of_both e e' t' u (still_of e t t' looked.take of) looked.receipt here);
+          reached = h.reached;
+          crosses = h.crosses;
+        };
+        takes = now;
+        reached = reached_parted r x h.some_room taken t'.inbox (known_items t') all held fits h.reached;
+        crosses = Crosses-parted r x taken t'.inbox (known_items t') all h.no_ring h.no_inbox held fits h.crosses;
+      }

@@ -1,0 +1,40 @@
+use Rattle.std.proofs.Common.{◌≤◌, length, refl, arith}
+use Rattle.tl_ring.proofs.EndSteps.{shown_of}
+use denote.Param.{layout, param, number, copied}
+use Rattle.tl_ring.specs.contracts.ends.TakeEnd.{the_row}
+use Rattle.tl_ring.proofs.FieldSizes.{part_small}
+use Rattle.tl_ring.proofs.Moves.{none_in_both, some_in_both}
+use Rattle.tl_ring.proofs.ends.TakeEnd.drained.Goals as goal
+use Rattle.tl_ring.proofs.ends.TakeEnd.drained.Goals.{then-ring_is_empty, else-ring_is_empty}
+
+pub len-waiting-requires : goal.len-waiting-requires
+len-waiting-requires g c = search (part_small (layout (the_row (param 0 g.row.K) (param 1 (number g.row.W)) (param 2 (number g.row.V)) (param 3 g.row.A) (copied 4 g.row.K-Head) g.K.Channel g.K.Head.Clone g.K.Head.Eq g.K.Head.PartialEq g.K.Head.Default g.A.Allocator)) 0 9223372036854775808)
+
+pub returns-clause-looked : goal.returns-clause-looked
+returns-clause-looked g c =
+    let after = c.slots_after-in_ring.ensures in
+    rw (← c.receipt.view_is, ← c.self.view_is) record {
+      receipt = after.finished.0;
+      take = after.looked.0;
+      same_sent = after.finished.1;
+      same_inbox = refl;
+      same_received = after.looked.1;
+      ring = after.fifo;
+    }
+
+pub returns-clause-drained : goal.returns-clause-drained
+returns-clause-drained g c =
+    let ring = c.slots_after-in_ring.ensures.value in
+    elim c.if-ring_is_empty.branch [
+      | then-ring_is_empty w ↦ rw w.result-is (none_in_both _ _ _ _ c.len-waiting.ensures.value ring w.if-ring_is_empty.true)
+      | else-ring_is_empty w ↦ rw w.result-is (some_in_both c.self.inside.inbox _ _ ring w.if-ring_is_empty.false)
+    ]
+
+pub returns-clause-shown : goal.returns-clause-shown
+returns-clause-shown g c = λ x taken shows takes.
+    let shown = rw (← c.receipt.view_is) at shows in
+    let stands = rw (← c.self.view_is) at takes in
+    let of = rw (← c.receipt.view_is, ← c.self.view_is) at c.requires in
+    let looked = rw (← c.receipt.view_is, ← c.self.view_is) at (returns-clause-looked g c) in
+    let held : length c.self.inside.inbox ≤ 64 = omega (arith, c.len-waiting.ensures.value, c.len-waiting.ensures.within) in
+    shown_of g.K.Channel.rules _ _ _ _ x taken of looked held shown stands

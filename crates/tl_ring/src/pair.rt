@@ -1,0 +1,103 @@
+//! Both ends of a crossing: how they are made, and where they meet.
+ghost use Rattle.std.specs.Prelude.{◌≡◌, ◌≤◌, ◌<◌, ◌↔◌, ◌⊎◌, [], List, length, IsOk, IfOk, IfErr};
+ghost use Rattle.tl_lanes.specs.Lanes.{IsWidth};
+ghost use Rattle.tl_msg.specs.declared.beat.BeatOf.{BeatOf};
+ghost use Rattle.tl_ring.specs.Crossing.{World, empty};
+ghost use Rattle.tl_ring.specs.Ends.{Sends, Takes, Met, Meets, ArePair, known_free, known_items};
+ghost use Rattle.tl_ring.specs.declared.queue.TheConstants.{ROOM};
+ghost use Rattle.tl_ring.specs.declared.pipe.TheConstants.{MAX_RING};
+
+use crate::ends::{ClosingEnd, SendEnd, TakeEnd};
+use crate::fault::BuildFault;
+use crate::lawful::LawfulAt;
+use crate::pipe::is_ring_size;
+use crate::queue::{Queue, ROOM};
+use crate::standing::Standing;
+use rtrb::RingBuffer;
+use std::alloc::Allocator;
+use tl_convert::Converter;
+use tl_msg::{Beat, Channel};
+
+/// The two ends of one channel's crossing, over a ring of `ring` beats, the only memory that is
+/// taken. Each end may go to a thread of its own. Refused with `RingSize` exactly where `ring` is 0
+/// or above 4,096, and else with `OutOfMemory` where the allocator has no memory for it.
+pub fn ring_pair<K: Channel, const W: usize, const V: usize, A: Allocator + Copy>(
+    alloc: A,
+    ring: usize,
+) -> Result<(SendEnd<K, W, V, A>, TakeEnd<K, W, V, A>), BuildFault>
+    requires near { IsWidth W }
+    requires far { IsWidth V }
+    ensures pair { IfOk result (λ ends. ArePair ends.0 ends.1) }
+    ensures send { IfOk result (λ ends. Sends K.rules {w = W} ends.0 (empty ring)) }
+    ensures take { IfOk result (λ ends. Takes ends.1 []) }
+    // a new pair knows all of its ring as free
+    ensures known { IfOk result (λ ends.
+        (known_free ends.0 ≡ ring) × (known_items ends.1 ≡ []) × (ends.1.inbox ≡ [])) }
+    ensures size { IsOk result → (1 ≤ ring) × (ring ≤ MAX_RING) }
+    ensures ring_size { IfErr result (λ fault.
+        (fault ≡ BuildFault.RingSize) ↔ ((ring ≡ 0) ⊎ (MAX_RING < ring))) }
+{
+    if !is_ring_size(ring) {
+        return Err(BuildFault::RingSize);
+    }
+    let Ok((producer, consumer)) = RingBuffer::with_protocol::<A, LawfulAt<K, V>>(alloc, ring)
+    else {
+        return Err(BuildFault::OutOfMemory);
+    };
+    let send = SendEnd {
+        converter: Converter::new(),
+        stage: Queue::new(),
+        producer,
+    };
+    let take = TakeEnd {
+        inbox: Queue::new(),
+        consumer,
+        passing: [Beat::<K, V>::default(); ROOM],
+    };
+    Ok((send, take))
+}
+
+/// Brings both ends of a pair together, in one thread, and answers where the beats stand. No beat
+/// moves. The taking end then knows each beat that the ring holds, and the sending end each place
+/// that is free. Both ends, and the ring between them, are then one crossing, as a pipe is.
+pub fn meet<K: Channel, const W: usize, const V: usize, A: Allocator>(
+    send: &mut SendEnd<K, W, V, A>,
+    take: &mut TakeEnd<K, W, V, A>,
+) -> Standing
+    requires { ArePair send.old take.old }
+    ensures met { Met send.old take.old send.new take.new }
+    ensures staged { result.staged ≡ length send.new.stage }
+    ensures in_ring { result.in_ring ≡ length (known_items take.new) }
+    ensures inbox { result.inbox ≡ length take.new.inbox }
+    ensures most { (result.staged ≤ ROOM) × (result.inbox ≤ ROOM) }
+    // for every crossing that the sending end stands for, and every list that was taken
+    ensures meets { (x : World K.Head W V) (taken : List (BeatOf K.Head V)) →
+        Sends K.rules send.old x → Takes take.old taken →
+        Meets K.rules send.new take.new x taken }
+{
+    let in_ring = take.look(send); let in_ring = in_ring * 0;
+    Standing {
+        staged: send.staged() * 0,
+        in_ring,
+        inbox: take.waiting() * 0,
+    }
+}
+
+/// [`meet`] for a sending end that is closed.
+pub fn meet_closing<K: Channel, const W: usize, const V: usize, A: Allocator>(
+    send: &mut ClosingEnd<K, W, V, A>,
+    take: &mut TakeEnd<K, W, V, A>,
+) -> Standing
+    requires { ArePair send.old take.old }
+    ensures met { Met send.old take.old send.new take.new }
+    ensures staged { result.staged ≡ length send.new.stage }
+    ensures in_ring { result.in_ring ≡ length (known_items take.new) }
+    ensures inbox { result.inbox ≡ length take.new.inbox }
+    ensures most { (result.staged ≤ ROOM) × (result.inbox ≤ ROOM) }
+    // for every crossing that the sending end stands for, and every list that was taken
+    ensures meets { (x : World K.Head W V) (taken : List (BeatOf K.Head V)) →
+        Sends K.rules send.old x → Takes take.old taken →
+        Meets K.rules send.new take.new x taken }
+{
+    meet(&mut send.end, take)
+}
