@@ -19,10 +19,10 @@ use Rattle.tl_settle.specs.Settling.{far_a as due_far_a, far_d as due_far_d}
 use Rattle.tl_settle.specs.Steps.{State}
 use Rattle.tl_settle.specs.Outcomes.{settled_far_a, settled_far_d, verdict_a, verdict_d, verdict_of}
 use Rattle.tl_sides.specs.Bridges.{Bridge, Past, StandsFor}
-use Rattle.tl_bridge.specs.Running.{Does, Stops, IsSent, IsHomed, steps, emptied, under_way, stop_verdict}
-use Rattle.tl_bridge.specs.declared.offering.Offered.{Offered}
-use Rattle.tl_bridge.specs.declared.offering.Offered.TheVariants.{Stopped}
-use Rattle.tl_bridge.specs.declared.offering.Stop.{Stop}
+use Rattle.tl_bridge.specs.Inner.Running.{Does, Stops, IsSent, IsHomed, steps, emptied, under_way, stop_verdict}
+use Rattle.tl_bridge.specs.declared.channel_state.Offered.{Offered}
+use Rattle.tl_bridge.specs.declared.channel_state.Offered.TheVariants.{Stopped}
+use Rattle.tl_bridge.specs.declared.channel_state.Stop.{Stop}
 use Rattle.tl_ring.specs.Crossing.{World}
 use Rattle.tl_settle.proofs.Homes.{far_a_given, far_d_given}
 use Rattle.tl_settle.proofs.Runs.{RunIs, run_is, over}

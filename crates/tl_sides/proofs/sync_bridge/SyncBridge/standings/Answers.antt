@@ -19,7 +19,7 @@ pub standing-requires-5 : goal.standing-requires-5
 standing-requires-5 g c = search (part_small (layout (the_row (param 0 (number g.row.C)) (param 1 (number g.row.M)) (param 2 g.row.A) g.A.Allocator)) 4 9223372036854775808)
 
 pub returns-clause-a : goal.returns-clause-a
-returns-clause-a g c = rw (← c.self.view_is) c.standing.ensures
+returns-clause-a g c = rw (← c.self.view_is) (record { staged = c.standing.ensures.staged; in_ring = c.standing.ensures.in_ring; inbox = c.standing.ensures.inbox })
 
 pub returns-clause-b : goal.returns-clause-b
 returns-clause-b g c = rw (← c.self.view_is) (record { staged = c.standing-2.ensures.staged; in_ring = c.standing-2.ensures.in_ring; inbox = c.standing-2.ensures.inbox })
@@ -28,7 +28,7 @@ pub returns-clause-c : goal.returns-clause-c
 returns-clause-c g c = rw (← c.self.view_is) (record { staged = c.standing-3.ensures.staged; in_ring = c.standing-3.ensures.in_ring; inbox = c.standing-3.ensures.inbox })
 
 pub returns-clause-d : goal.returns-clause-d
-returns-clause-d g c = rw (← c.self.view_is) c.standing-4.ensures
+returns-clause-d g c = rw (← c.self.view_is) (record { staged = c.standing-4.ensures.staged; in_ring = c.standing-4.ensures.in_ring; inbox = c.standing-4.ensures.inbox })
 
 pub returns-clause-e : goal.returns-clause-e
 returns-clause-e g c = rw (← c.self.view_is) (record { staged = c.standing-5.ensures.staged; in_ring = c.standing-5.ensures.in_ring; inbox = c.standing-5.ensures.inbox })
