@@ -2,6 +2,8 @@
 #![tactic(auto)]
 
 #[cfg(test)]
+mod beats;
+#[cfg(test)]
 mod run_tests;
 #[cfg(test)]
 mod sync_tests;

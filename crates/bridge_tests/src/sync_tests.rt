@@ -1,41 +1,65 @@
 #![tactic(auto, using(tl_lanes::proofs::Widths::width_4, tl_lanes::proofs::Widths::width_16))]
 
+use crate::beats::{data, get};
+use linked_list_allocator::LocalHeap;
+use std::alloc::Global;
 use std::test::Fail;
 use tl_bridge::{Standings, SyncBridge};
-use tl_msg::{BeatFault, BeatOf, HeadA, HeadD, SideFault};
+use tl_msg::{Beat, BeatFault, BeatOf, ChA, ChB, ChC, ChD, ChE, HeadB, HeadC, HeadE, SideFault};
 use tl_ring::BuildFault;
 
-/// Get of 4 bytes.
-fn get(source: u8, address: u64) -> BeatOf<HeadA, 4> {
-    BeatOf {
-        head: HeadA {
-            opcode: 4,
-            param: 0,
-            size: 2,
-            source,
-            address,
-        },
-        mask: 0xf,
-        lanes: [0; 4],
-        corrupt: false,
+/// What a bridge says to an offer. None where the channel is not ready.
+type Answer = Option<Result<(), SideFault>>;
+
+fn ask(bridge: &mut SyncBridge<4, 16>, beat: Beat<ChA, 4>) -> Answer {
+    if !bridge.ready_a() {
+        return None;
     }
+    Some(bridge.offer_a(beat))
 }
 
-/// A beat of a response with data.
-fn data<const W: usize>(opcode: u8, size: u8, source: u8, lanes: [u8; W]) -> BeatOf<HeadD, W> {
-    BeatOf {
-        head: HeadD {
-            opcode,
-            param: 0,
-            size,
-            source,
-            sink: 0,
-            denied: false,
-        },
-        mask: 0,
-        lanes,
-        corrupt: false,
+fn answer(bridge: &mut SyncBridge<4, 16>, beat: Beat<ChD, 16>) -> Answer {
+    if !bridge.ready_d() {
+        return None;
     }
+    Some(bridge.offer_d(beat))
+}
+
+fn probe(bridge: &mut SyncBridge<4, 16>, beat: Beat<ChB, 16>) -> Answer {
+    if !bridge.ready_b() {
+        return None;
+    }
+    Some(bridge.offer_b(beat))
+}
+
+fn release(bridge: &mut SyncBridge<4, 16>, beat: Beat<ChC, 4>) -> Answer {
+    if !bridge.ready_c() {
+        return None;
+    }
+    Some(bridge.offer_c(beat))
+}
+
+fn acknowledge(bridge: &mut SyncBridge<4, 16>, beat: Beat<ChE, 4>) -> Answer {
+    if !bridge.ready_e() {
+        return None;
+    }
+    Some(bridge.offer_e(beat))
+}
+
+fn build(alloc: Global, ring: usize) -> Result<SyncBridge<4, 16>, BuildFault> {
+    SyncBridge::new(alloc, ring)
+}
+
+/// The mask of the beat that the manager's side takes from A.
+fn asked_mask(bridge: &mut SyncBridge<4, 16>) -> Option<u64> {
+    let beat = bridge.take_a()?;
+    Some(beat.mask)
+}
+
+/// The lanes of the beat that the client's side takes from D.
+fn answered_lanes(bridge: &mut SyncBridge<4, 16>) -> Option<[u8; 4]> {
+    let beat = bridge.take_d()?;
+    Some(beat.lanes)
 }
 
 /// The bytes 88 to dd of a response, of which the last four stand on the lanes of address 100c.
@@ -43,107 +67,128 @@ const LANES: [u8; 16] = [
     0x88, 0x99, 0x00, 0x11, 0x22, 0x33, 0x44, 0x55, 0x66, 0x77, 0x88, 0x99, 0xaa, 0xbb, 0xcc, 0xdd,
 ];
 
+const ACCEPTED: Answer = Some(Ok(()));
+
+const NO_REQUEST: Answer = Some(Err(SideFault::NoRequest));
+
+const SIZE_MISMATCH: Answer = Some(Err(SideFault::SizeMismatch));
+
+const SOURCE_BUSY: Answer = Some(Err(SideFault::SourceBusy));
+
 #[test]
 fn a_request_and_its_response(rt: HostRuntime) -> Result<(), Fail> {
-    let mut bridge = SyncBridge::<4, 16>::new(rt.alloc(), 4)?;
-    assert!(rt; bridge.ready_d());
-    assert_eq!(rt;
-        bridge.offer_d(data(1, 2, 0x11, LANES)),
-        Err(SideFault::NoRequest)
-    );
-    assert!(rt; bridge.ready_a());
-    assert_eq!(rt; bridge.offer_a(get(0x11, 0x100c)), Ok(()));
+    let mut bridge = build(rt.alloc(), 4)?;
+    let response = data(1, 2, 0x11, LANES);
+    assert!(rt; answer(&mut bridge, response) == NO_REQUEST);
+    assert!(rt; ask(&mut bridge, get(0x11, 0x100c)) == ACCEPTED);
     assert_eq!(rt; bridge.pump(), 1);
     assert_eq!(rt; bridge.fetch(), 1);
-    let asked = bridge.take_a();
-    assert_eq!(rt; asked.map(|beat| beat.mask), Some(0xf000));
-    assert!(rt; bridge.ready_d());
-    assert_eq!(rt;
-        bridge.offer_d(data(1, 3, 0x11, LANES)),
-        Err(SideFault::SizeMismatch)
-    );
-    assert!(rt; bridge.ready_d());
-    assert_eq!(rt; bridge.offer_d(data(1, 2, 0x11, LANES)), Ok(()));
+    assert_eq!(rt; asked_mask(&mut bridge), Some(0xf000));
+    assert!(rt; answer(&mut bridge, data(1, 3, 0x11, LANES)) == SIZE_MISMATCH);
+    assert!(rt; answer(&mut bridge, response) == ACCEPTED);
     assert_eq!(rt; bridge.pump(), 1);
-    assert!(rt; bridge.ready_d());
-    assert_eq!(rt;
-        bridge.offer_d(data(1, 2, 0x11, LANES)),
-        Err(SideFault::NoRequest)
-    );
-    assert!(rt; bridge.ready_a());
-    assert_eq!(rt;
-        bridge.offer_a(get(0x11, 0x100c)),
-        Err(SideFault::SourceBusy)
-    );
+    assert!(rt; answer(&mut bridge, response) == NO_REQUEST);
+    assert!(rt; ask(&mut bridge, get(0x11, 0x100c)) == SOURCE_BUSY);
     assert_eq!(rt; bridge.fetch(), 1);
-    assert!(rt; bridge.ready_a());
-    assert_eq!(rt;
-        bridge.offer_a(get(0x11, 0x100c)),
-        Err(SideFault::SourceBusy)
-    );
-    assert_eq!(rt;
-        bridge.take_d(),
-        Some(data(1, 2, 0x11, [0xaa, 0xbb, 0xcc, 0xdd]))
-    );
-    assert!(rt; bridge.ready_a());
-    assert_eq!(rt; bridge.offer_a(get(0x11, 0x100c)), Ok(()));
+    assert!(rt; ask(&mut bridge, get(0x11, 0x100c)) == SOURCE_BUSY);
+    assert_eq!(rt; answered_lanes(&mut bridge), Some([0xaa, 0xbb, 0xcc, 0xdd]));
+    assert!(rt; ask(&mut bridge, get(0x11, 0x100c)) == ACCEPTED);
     Ok(())
 }
 
 #[test]
 fn a_faulty_beat_of_a_free_source(rt: HostRuntime) -> Result<(), Fail> {
-    let mut bridge = SyncBridge::<4, 16>::new(rt.alloc(), 4)?;
-    assert!(rt; bridge.ready_d());
-    assert_eq!(rt;
-        bridge.offer_d(data(3, 2, 0x11, LANES)),
-        Err(SideFault::Beat(BeatFault::Opcode))
-    );
+    let mut bridge = build(rt.alloc(), 4)?;
+    let fault = Some(Err(SideFault::Beat(BeatFault::Opcode)));
+    assert!(rt; answer(&mut bridge, data(3, 2, 0x11, LANES)) == fault);
     Ok(())
 }
 
-/// A request crosses and its response crosses back.
-fn exchange(
-    bridge: &mut SyncBridge<4, 4>,
-    request: BeatOf<HeadA, 4>,
-    response: BeatOf<HeadD, 4>,
-) -> bool {
-    if !bridge.ready_a() || bridge.offer_a(request).is_err() {
-        return false;
-    }
-    bridge.pump();
-    bridge.fetch();
-    if bridge.take_a() != Some(request) || !bridge.ready_d() || bridge.offer_d(response).is_err() {
-        return false;
-    }
-    bridge.pump();
-    bridge.fetch();
-    bridge.take_d() == Some(response)
+#[test]
+fn probes_releases_and_acknowledgements(rt: HostRuntime) -> Result<(), Fail> {
+    let mut bridge = build(rt.alloc(), 1)?;
+    let block = BeatOf {
+        head: HeadB {
+            opcode: 6,
+            param: 2,
+            size: 2,
+            source: 0,
+            address: 0x80,
+        },
+        mask: 0xf,
+        lanes: [0; 16],
+        corrupt: false,
+    };
+    let ack = BeatOf {
+        head: HeadC {
+            opcode: 4,
+            param: 1,
+            size: 2,
+            source: 0,
+            address: 0x80,
+        },
+        mask: 0,
+        lanes: [0; 4],
+        corrupt: false,
+    };
+    let sink = BeatOf {
+        head: HeadE { sink: 7 },
+        mask: 0,
+        lanes: [0; 4],
+        corrupt: false,
+    };
+    assert!(rt; probe(&mut bridge, block) == ACCEPTED);
+    assert!(rt; release(&mut bridge, ack) == ACCEPTED);
+    assert!(rt; acknowledge(&mut bridge, sink) == ACCEPTED);
+    assert_eq!(rt; bridge.pump(), 3);
+    assert_eq!(rt; bridge.fetch(), 3);
+    assert_eq!(rt; bridge.standings().c.inbox, 1);
+    assert_eq!(rt; bridge.take_b().map(|beat| beat.head), Some(block.head));
+    assert_eq!(rt; bridge.take_c().map(|beat| beat.head), Some(ack.head));
+    assert_eq!(rt; bridge.take_e().map(|beat| beat.head), Some(sink.head));
+    assert!(rt; bridge.standings() == Standings::default());
+    Ok(())
 }
 
 #[test]
-fn a_source_used_twice(rt: HostRuntime) -> Result<(), Fail> {
-    let mut bridge = SyncBridge::<4, 4>::new(rt.alloc(), 1)?;
-    assert!(rt; exchange(&mut bridge, get(1, 0), data(1, 2, 1, [0x11; 4])));
-    assert!(rt; exchange(&mut bridge, get(1, 4), data(1, 2, 1, [0x22; 4])));
-    assert_eq!(rt; bridge.close_a(), Ok(()));
-    assert_eq!(rt; bridge.close_d(), Ok(()));
-    assert!(rt; !bridge.ready_a());
-    assert_eq!(rt; bridge.standings(), Standings::default());
+fn closed_channels_are_not_ready(rt: HostRuntime) -> Result<(), Fail> {
+    let mut bridge = build(rt.alloc(), 1)?;
+    let closed = [
+        bridge.close_a().is_ok() && !bridge.ready_a(),
+        bridge.close_b().is_ok() && !bridge.ready_b(),
+        bridge.close_c().is_ok() && !bridge.ready_c(),
+        bridge.close_d().is_ok() && !bridge.ready_d(),
+        bridge.close_e().is_ok() && !bridge.ready_e(),
+    ];
+    assert!(rt; closed == [true; 5]);
     Ok(())
 }
 
 #[test]
 fn ring_sizes(rt: HostRuntime) {
-    assert!(rt;
-        matches!(
-            SyncBridge::<4, 4>::new(rt.alloc(), 0),
-            Err(BuildFault::RingSize)
-        )
-    );
-    assert!(rt;
-        matches!(
-            SyncBridge::<4, 4>::new(rt.alloc(), 4097),
-            Err(BuildFault::RingSize)
-        )
-    );
+    assert!(rt; build(rt.alloc(), 0).err() == Some(BuildFault::RingSize));
+    assert!(rt; build(rt.alloc(), 4097).err() == Some(BuildFault::RingSize));
+}
+
+/// Why no bridge is made over this heap, if none is.
+fn refusal(heap: &LocalHeap) -> Option<BuildFault> {
+    SyncBridge::<4, 16, &LocalHeap>::new(heap, 16).err()
+}
+
+#[test]
+fn a_refused_growth_is_out_of_memory(rt: HostRuntime) -> Result<(), Fail> {
+    let mut refused = 0;
+    for size in 0..64usize {
+        let heap = LocalHeap::new(rt.alloc(), 256 * size)?;
+        match refusal(&heap) {
+            Some(fault) => {
+                assert!(rt; fault == BuildFault::OutOfMemory);
+                refused = size + 1;
+            }
+            None => assert!(rt; refused > 0),
+        }
+        assert_eq!(rt; heap.used(), 0);
+    }
+    assert!(rt; refused < 64);
+    Ok(())
 }

@@ -13,7 +13,7 @@ use Rattle.tl_msg.specs.declared.fault.BeatFault.{BeatFault}
 use Rattle.tl_msg.specs.declared.fault.SideFault.{SideFault}
 use Rattle.tl_msg.specs.declared.fault.SideFault.TheVariants.{Beat, SourceBusy, NoRequest, SizeMismatch}
 use Rattle.tl_msg.specs.declared.verdict.Verdict.{Verdict}
-use Rattle.tl_msg.specs.declared.verdict.Verdict.TheVariants.{Done, Cut}
+use Rattle.tl_msg.specs.declared.verdict.Verdict.TheVariants as ending
 use Rattle.tl_burst.specs.Begun.{heads, left}
 use Rattle.tl_burst.specs.Handing.{IsHanded, fault_after}
 use Rattle.tl_burst.proofs.BegunMessages.{left-zero}
@@ -22,13 +22,13 @@ use Rattle.tl_convert.specs.Accepted.{accepted_of, accepted_after}
 use Rattle.tl_convert.proofs.CountLoop.{accepted-all, accepted-stop}
 use Rattle.tl_ring.specs.Crossing.{World}
 use Rattle.tl_ring.specs.Laws.{Crosses}
-use Rattle.tl_bridge.specs.Arriving.{HasRoom}
-use Rattle.tl_sides.specs.Bridges.{stops_alone}
+use Rattle.tl_bridge.specs.Inner.Arriving.{HasRoom}
+use Rattle.tl_sides.specs.Crossings.{stops_alone}
 use Rattle.tl_settle.specs.Outcomes.{verdict_of, far_alone, verdict_alone}
-use Rattle.tl_bridge.specs.Running.{Stops, IsSent, IsHomed, under_way, way, stop_verdict}
-use Rattle.tl_bridge.specs.declared.offering.Stop.{Stop}
-use Rattle.tl_bridge.specs.declared.offering.Stop.TheVariants.{Whole, Unfinished, Refused}
-use Rattle.tl_bridge.specs.declared.offering.Offered.TheVariants.{Stopped}
+use Rattle.tl_bridge.specs.Inner.Running.{Stops, IsSent, IsHomed, under_way, progress, stop_verdict}
+use Rattle.tl_bridge.specs.declared.channel_state.Stop.{Stop}
+use Rattle.tl_bridge.specs.declared.channel_state.Stop.TheVariants.{Done, Cut, Refused}
+use Rattle.tl_bridge.specs.declared.channel_state.Offered.TheVariants.{Stopped}
 use Rattle.tl_convert.proofs.Comparisons.{equal_true, not_equal, none_past}
 use Rattle.tl_convert.proofs.DueCounts.{due_length}
 
@@ -76,38 +76,38 @@ module _ {H : Type 0} (r : Rules H) {w : ℕ} (bs : List (BeatOf H w)) (n : ℕ)
   -- a channel that stands still refuses its next beat, if it has one
   pub stop-refuses : (stop : Stop) → Stops r bs n answer accepted (Stopped stop) → (b : BeatOf H w) → slice_get bs n ≡ Some b → answer b ≢ None
   stop-refuses (Refused fault) (c, at, is) b got = λ none. let same : c ≡ b = cc in let refused : answer b ≡ Some fault = subst (λ q. answer q ≡ Some fault) same is in cc
-  stop-refuses Whole (past, rest) b got = cc
-  stop-refuses Unfinished (past, rest) b got = cc
+  stop-refuses Done (past, rest) b got = cc
+  stop-refuses Cut (past, rest) b got = cc
 
   module _ (stops : BeatOf H w → Option SideFault) (same : (b : BeatOf H w) → answer b ≡ stops b) (far : ℕ) where
     -- the verdict, by what is left of the last message and what becomes of the next beat
-    abbrev verdict_by : ℕ → Option (Option SideFault) → Verdict
+    abbrev verdict_by : ℕ → Option SideFault → Verdict
     verdict_by lacks next = verdict_of n far lacks next
 
     -- what becomes of the next beat
-    abbrev next_by : Option (BeatOf H w) → Option (Option SideFault)
-    next_by o = option_map_or (λ b. Some (stops b)) o None
+    abbrev next_by : Option (BeatOf H w) → Option SideFault
+    next_by o = option_map_or (λ b. stops b) o None
 
     -- the verdict where the next beat is refused
     by-refused : (lacks : ℕ) (fault : SideFault) (b : BeatOf H w) → slice_get bs n ≡ Some b → answer b ≡ Some fault →
-        verdict_by lacks (Some (Some fault)) ≡ verdict_by lacks (next_by (slice_get bs n))
+        verdict_by lacks (Some fault) ≡ verdict_by lacks (next_by (slice_get bs n))
     by-refused lacks fault b at is =
         let told : Some fault ≡ stops b = sym is ∙ same b in
-        ap (λ q. verdict_by lacks (Some q)) told ∙ ap (λ o. verdict_by lacks (next_by o)) (sym at)
+        ap (λ q. verdict_by lacks q) told ∙ ap (λ o. verdict_by lacks (next_by o)) (sym at)
 
     -- the verdict where no beat is left
     by-past : (lacks : ℕ) (t : Bool) → (lacks == 0) ≡ t → slice_get bs n ≡ None →
-        (if t then Done n far else Cut n far) ≡ verdict_by lacks (next_by (slice_get bs n))
+        (if t then ending.Done n far else ending.Cut n far) ≡ verdict_by lacks (next_by (slice_get bs n))
     by-past lacks t e past =
-        ap (λ u. if u then Done n far else Cut n far) (sym e) ∙ ap (λ o. verdict_by lacks (next_by o)) (sym past)
+        ap (λ u. if u then ending.Done n far else ending.Cut n far) (sym e) ∙ ap (λ o. verdict_by lacks (next_by o)) (sym past)
 
     -- the verdict of a channel that stands still is that of what its side answers to the next beat
     pub stop-verdict : (stop : Stop) → Stops r bs n answer accepted (Stopped stop) → IsHanded r accepted → accepted ≡ take n bs →
-        stop_verdict stop n far ≡ verdict_of n far (left r w (take n bs)) (option_map_or (λ b. Some (stops b)) (slice_get bs n) None)
-    stop-verdict Whole (past, rest) h e =
+        stop_verdict stop n far ≡ verdict_of n far (left r w (take n bs)) (option_map_or (λ b. stops b) (slice_get bs n) None)
+    stop-verdict Done (past, rest) h e =
         let none : left r w (take n bs) ≡ 0 = ap (λ q. left r w q) (sym e) ∙ (left-zero r w h.handed).1 rest in
         by-past (left r w (take n bs)) true (equal_true (left r w (take n bs)) 0 none) past
-    stop-verdict Unfinished (past, rest) h e =
+    stop-verdict Cut (past, rest) h e =
         let some : left r w (take n bs) ≢ 0 = λ z. rest ((left-zero r w h.handed).0 (ap (λ q. left r w q) e ∙ z)) in
         by-past (left r w (take n bs)) false (not_equal (left r w (take n bs)) 0 some) past
     stop-verdict (Refused (Beat fault)) (b, at, is) h e = by-refused (left r w (take n bs)) (Beat fault) b at is
@@ -137,16 +137,16 @@ module _ {H : Type 0} (r : Rules H) {w v : ℕ} (ww : IsWidth w) (vw : IsWidth v
       omega arith
 
   -- a channel comes no further than this
-  pub way-most : IsSent r bs n far x → Crosses r x → way n x ≤ length bs + 2 * length (due r w v (accepted_of r bs) [])
-  way-most s c =
+  pub progress-most : IsSent r bs n far x → Crosses r x → progress n x ≤ length bs + 2 * length (due r w v (accepted_of r bs) [])
+  progress-most s c =
       let stand = all_stand c in
       let most = due_most s x.homes [] in
       let few : n ≤ length bs = s.most in
       omega arith
 
   -- where nothing is under way, a channel has come so far
-  pub way-end : IsSent r bs n far x → under_way x ≡ 0 → way n x ≡ n + 2 * length far
-  way-end s rest =
+  pub progress-end : IsSent r bs n far x → under_way x ≡ 0 → progress n x ≡ n + 2 * length far
+  progress-end s rest =
       let taken : length far ≡ length x.taken = ap length s.taken in
       omega arith
 
@@ -156,8 +156,8 @@ module _ {H : Type 0} (r : Rules H) {w v : ℕ} (ww : IsWidth w) (vw : IsWidth v
 
   -- a channel that nothing couples to another one, and that stands still, has accepted all that it ever accepts
   accepted_end : (stop : Stop) → Stops r bs n (stops_alone r x.accepted) x.accepted (Stopped stop) → IsSent r bs n far x → accepted_of r bs ≡ take n bs
-  accepted_end Whole stops s = accepted-all r bs n s.lawful (none_past bs n stops.0)
-  accepted_end Unfinished stops s = accepted-all r bs n s.lawful (none_past bs n stops.0)
+  accepted_end Done stops s = accepted-all r bs n s.lawful (none_past bs n stops.0)
+  accepted_end Cut stops s = accepted-all r bs n s.lawful (none_past bs n stops.0)
   accepted_end (Refused fault) (b, there, answer) s =
       let own = own_fault (fault_after r x.accepted b) fault answer in
       accepted-stop r bs n s.lawful b (slice_get_within bs n b there) (stands_there bs n b there) own.0
@@ -166,7 +166,7 @@ module _ {H : Type 0} (r : Rules H) {w v : ℕ} (ww : IsWidth w) (vw : IsWidth v
   -- a verdict by what was accepted, as the definition of the outcome reads it
   abbrev verdict_at : (near beats : ℕ) → List (BeatOf H w) → Verdict
   verdict_at near beats accepted =
-      verdict_of near beats (left r w accepted) (option_map_or (λ b. Some (stops_alone r accepted b)) (slice_get bs near) None)
+      verdict_of near beats (left r w accepted) (option_map_or (λ b. stops_alone r accepted b) (slice_get bs near) None)
 
   -- a channel that nothing couples to another one, B, C or E, ends where the definitions say
   module _ (stop : Stop) (stops : Stops r bs n (stops_alone r x.accepted) x.accepted (Stopped stop)) where
@@ -181,7 +181,7 @@ module _ {H : Type 0} (r : Rules H) {w v : ℕ} (ww : IsWidth w) (vw : IsWidth v
     pub verdict-end : IsSent r bs n far x → Crosses r x → IsHomed r x → under_way x ≡ 0 → stop_verdict stop n (length far) ≡ verdict_alone r v bs
     verdict-end s c homed rest =
         stop-verdict r bs n (stops_alone r x.accepted) x.accepted (stops_alone r x.accepted) (λ b. refl) (length far) stop stops (handed-accepted r x c) s.accepted ∙
-        ap (λ q. verdict_of n (length far) (left r w q) (option_map_or (λ b. Some (stops_alone r x.accepted b)) (slice_get bs n) None)) (sym s.accepted) ∙
+        ap (λ q. verdict_of n (length far) (left r w q) (option_map_or (λ b. stops_alone r x.accepted b) (slice_get bs n) None)) (sym s.accepted) ∙
         ap (λ q. verdict_at n (length far) q) (s.accepted ∙ sym (accepted_end stop stops s)) ∙
         ap (λ k. verdict_at k (length far) (accepted_of r bs)) (count-end s) ∙
         ap (λ k. verdict_at (length (accepted_of r bs)) k (accepted_of r bs)) (ap length (far-end s c homed rest))

@@ -14,10 +14,11 @@ use Rattle.tl_burst.proofs.BegunMessages.{left-zero}
 use Rattle.tl_convert.proofs.CountLoop.{one-more, accepted-next}
 use Rattle.tl_ring.specs.Crossing.{World, offered, shut, inbox_room}
 use Rattle.tl_ring.specs.Laws.{Crosses}
-use Rattle.tl_bridge.specs.Running.{Does, Stops, IsSent, IsHomed, IsStopped, steps, emptied, moved_in, moved, push_count, pop_count, way, under_way}
-use Rattle.tl_bridge.specs.declared.offering.Offered.{Offered}
-use Rattle.tl_bridge.specs.declared.offering.Offered.TheVariants.{Accepted, Waits, Stopped}
-use Rattle.tl_bridge.specs.declared.offering.Stop.TheVariants.{Whole, Unfinished, Refused}
+use Rattle.tl_bridge.proofs.Moving.{moved_in, moved, push_count, pop_count}
+use Rattle.tl_bridge.specs.Inner.Running.{Does, Stops, IsSent, IsHomed, IsStopped, steps, emptied, progress, under_way}
+use Rattle.tl_bridge.specs.declared.channel_state.Offered.{Offered}
+use Rattle.tl_bridge.specs.declared.channel_state.Offered.TheVariants.{Accepted, NotReady, Stopped}
+use Rattle.tl_bridge.specs.declared.channel_state.Stop.TheVariants.{Done, Cut, Refused}
 use Rattle.tl_convert.proofs.Begins.{heads_open, heads_inside_one}
 
 -- no beat more is the same number of beats
@@ -68,8 +69,8 @@ module _ {H : Type 0} {w v : ℕ} (z : World H w v) where
       ap (λ n. length z.inbox + n) (length-take-le (pop_count (moved_in z)) (moved_in z).ring (min-le_left (length (moved_in z).ring) (inbox_room - length z.inbox)))
 
   -- a channel comes further by what goes into its ring and what comes out of it
-  way-moved : (k : ℕ) → way k (moved z) ≡ way k z + (push_count z + pop_count (moved_in z))
-  way-moved k =
+  progress-moved : (k : ℕ) → progress k (moved z) ≡ progress k z + (push_count z + pop_count (moved_in z))
+  progress-moved k =
       by-sizes (length z.taken) (length (moved z).inbox) (length (moved z).ring) (length z.inbox) (length z.ring) (length (moved_in z).ring)
       (push_count z) (pop_count (moved_in z)) inbox-filled ring-left ring-filled
     where
@@ -94,8 +95,8 @@ module _ {H : Type 0} {w v : ℕ} (z : World H w v) where
       (ap (λ n. push_count z + min n (inbox_room - length z.inbox)) (sym ring-filled) ∙ e)
 
 -- all of an inbox is taken: the channel has come as far as it had
-way-emptied : {H : Type 0} {w v : ℕ} (x : World H w v) (k : ℕ) → way k (emptied x) ≡ way k x
-way-emptied x k = by-sizes (length (x.taken ++ x.inbox)) (length x.taken) (length x.inbox) (length x.ring) (length-append x.taken x.inbox)
+progress-emptied : {H : Type 0} {w v : ℕ} (x : World H w v) (k : ℕ) → progress k (emptied x) ≡ progress k x
+progress-emptied x k = by-sizes (length (x.taken ++ x.inbox)) (length x.taken) (length x.inbox) (length x.ring) (length-append x.taken x.inbox)
   where
     by-sizes : (all taken inbox ring : ℕ) → all ≡ taken + inbox → k + (all + 0 + ring) + (all + 0) ≡ k + (taken + inbox + ring) + (taken + inbox)
     by-sizes all taken inbox ring e = omega arith
@@ -168,11 +169,11 @@ module _ {H : Type 0} (r : Rules H) {w v : ℕ} (bs : List (BeatOf H w)) (n : �
       IsSent r bs (n + steps o) (far ++ x.inbox) (moved y)
   sent-round far x Accepted accepted y s own (b, next, none, one, is) =
       subst (λ z. IsSent r bs (n + 1) (far ++ x.inbox) (moved z)) (sym is) (sent-more far x s b next (own b none) (home b))
-  sent-round far x Waits accepted y s own (b, next, full, none, is) =
+  sent-round far x NotReady accepted y s own (b, next, full, none, is) =
       subst (λ z. IsSent r bs (n + 0) (far ++ x.inbox) (moved z)) (sym is) (sent-still far x s)
-  sent-round far x (Stopped Whole) accepted y s own (last, whole, none, is) =
+  sent-round far x (Stopped Done) accepted y s own (last, whole, none, is) =
       subst (λ z. IsSent r bs (n + 0) (far ++ x.inbox) (moved z)) (sym is) (sent-shut far x s last)
-  sent-round far x (Stopped Unfinished) accepted y s own (last, begun, none, is) =
+  sent-round far x (Stopped Cut) accepted y s own (last, begun, none, is) =
       subst (λ z. IsSent r bs (n + 0) (far ++ x.inbox) (moved z)) (sym is) (sent-still far x s)
   sent-round far x (Stopped (Refused fault)) accepted y s own (b, next, refused, none, is) =
       subst (λ z. IsSent r bs (n + 0) (far ++ x.inbox) (moved z)) (sym is) (sent-still far x s)
@@ -190,9 +191,9 @@ module _ {H : Type 0} (r : Rules H) {w v : ℕ} (bs : List (BeatOf H w)) (n : �
   homed-round x Accepted accepted y some crosses homed none (b, next, lawful, one, is) =
       subst (λ z. IsHomed r (moved z)) (sym is)
       (subst (λ k. IsHomed r (moved (offered r b k (emptied x)))) (sym (none b)) (homed-more x b crosses homed))
-  homed-round x Waits accepted y some crosses homed none (b, next, full, nothing, is) = subst (λ z. IsHomed r (moved z)) (sym is) homed
-  homed-round x (Stopped Whole) accepted y some crosses homed none (last, whole, nothing, is) = subst (λ z. IsHomed r (moved z)) (sym is) homed
-  homed-round x (Stopped Unfinished) accepted y some crosses homed none (last, begun, nothing, is) = subst (λ z. IsHomed r (moved z)) (sym is) homed
+  homed-round x NotReady accepted y some crosses homed none (b, next, full, nothing, is) = subst (λ z. IsHomed r (moved z)) (sym is) homed
+  homed-round x (Stopped Done) accepted y some crosses homed none (last, whole, nothing, is) = subst (λ z. IsHomed r (moved z)) (sym is) homed
+  homed-round x (Stopped Cut) accepted y some crosses homed none (last, begun, nothing, is) = subst (λ z. IsHomed r (moved z)) (sym is) homed
   homed-round x (Stopped (Refused fault)) accepted y some crosses homed none (b, next, refused, nothing, is) =
       subst (λ z. IsHomed r (moved z)) (sym is) homed
 
@@ -202,10 +203,10 @@ module _ {H : Type 0} (r : Rules H) {w v : ℕ} (bs : List (BeatOf H w)) (n : �
   pub stops-round : (x : World H w v) (o : Offered) (accepted : List (BeatOf H w)) (y : World H w v) → Does r bs n answer home (emptied x) o accepted y →
       Stops r bs (n + steps o) answer (moved y).accepted o
   stops-round x Accepted accepted y does = tt
-  stops-round x Waits accepted y does = tt
-  stops-round x (Stopped Whole) accepted y (last, whole, none, is) =
+  stops-round x NotReady accepted y does = tt
+  stops-round x (Stopped Done) accepted y (last, whole, none, is) =
       (subst (λ k. slice_get bs k ≡ None) (none-more n) last, subst (λ z. rest_of r w (moved z).accepted ≡ []) (sym is) whole)
-  stops-round x (Stopped Unfinished) accepted y (last, begun, none, is) =
+  stops-round x (Stopped Cut) accepted y (last, begun, none, is) =
       (subst (λ k. slice_get bs k ≡ None) (none-more n) last, subst (λ z. rest_of r w (moved z).accepted ≢ []) (sym is) begun)
   stops-round x (Stopped (Refused fault)) accepted y (b, next, refused, none, is) =
       (b, subst (λ k. slice_get bs k ≡ Some b) (none-more n) next, refused)
@@ -214,61 +215,61 @@ module _ {H : Type 0} (r : Rules H) {w v : ℕ} (bs : List (BeatOf H w)) (n : �
   pub accepted-round : (x : World H w v) (o : Offered) (accepted : List (BeatOf H w)) (y : World H w v) → Does r bs n answer home x o accepted y →
       ((o ≡ Accepted) × (b : BeatOf H w) × (slice_get bs n ≡ Some b) × (answer b ≡ None) × (accepted ≡ b ∷ [])) ⊎ ((steps o ≡ 0) × (accepted ≡ []))
   accepted-round x Accepted accepted y (b, next, lawful, one, is) = inl (refl, b, next, lawful, one)
-  accepted-round x Waits accepted y (b, next, full, none, is) = inr (refl, none)
-  accepted-round x (Stopped Whole) accepted y (last, whole, none, is) = inr (refl, none)
-  accepted-round x (Stopped Unfinished) accepted y (last, begun, none, is) = inr (refl, none)
+  accepted-round x NotReady accepted y (b, next, full, none, is) = inr (refl, none)
+  accepted-round x (Stopped Done) accepted y (last, whole, none, is) = inr (refl, none)
+  accepted-round x (Stopped Cut) accepted y (last, begun, none, is) = inr (refl, none)
   accepted-round x (Stopped (Refused fault)) accepted y (b, next, refused, none, is) = inr (refl, none)
 
   -- ---- how far it comes
 
-  module _ (x z : World H w v) (as_far : way n z ≡ way n x) where
+  module _ (x z : World H w v) (as_far : progress n z ≡ progress n x) where
     -- no beat is accepted: the channel comes further by what its ring does
-    goes-on : way (n + 0) (moved z) ≡ way n x + (push_count z + pop_count (moved_in z))
+    goes-on : progress (n + 0) (moved z) ≡ progress n x + (push_count z + pop_count (moved_in z))
     goes-on =
-        ap (λ k. way k (moved z)) (sym (none-more n)) ∙ way-moved z n ∙ ap (λ k. k + (push_count z + pop_count (moved_in z))) as_far
+        ap (λ k. progress k (moved z)) (sym (none-more n)) ∙ progress-moved z n ∙ ap (λ k. k + (push_count z + pop_count (moved_in z))) as_far
 
     -- no beat is accepted, but beats go in or come out
-    way-on : 1 ≤ push_count z + pop_count (moved_in z) →
-        (way n x ≤ way (n + 0) (moved z)) × (way n x + 1 ≤ way (n + 0) (moved z))
-    way-on some = by-sum (way n x) (push_count z + pop_count (moved_in z)) (way (n + 0) (moved z)) some goes-on
+    progress-on : 1 ≤ push_count z + pop_count (moved_in z) →
+        (progress n x ≤ progress (n + 0) (moved z)) × (progress n x + 1 ≤ progress (n + 0) (moved z))
+    progress-on some = by-sum (progress n x) (push_count z + pop_count (moved_in z)) (progress (n + 0) (moved z)) some goes-on
       where
         by-sum : (before more after : ℕ) → 1 ≤ more → after ≡ before + more → (before ≤ after) × (before + 1 ≤ after)
         by-sum before more after some e = (omega arith, omega arith)
 
     -- no beat is accepted: the channel has come as far as before at least
-    way-keeps : way n x ≤ way (n + 0) (moved z)
-    way-keeps = by-sum (way n x) (push_count z + pop_count (moved_in z)) (way (n + 0) (moved z)) goes-on
+    progress-keeps : progress n x ≤ progress (n + 0) (moved z)
+    progress-keeps = by-sum (progress n x) (push_count z + pop_count (moved_in z)) (progress (n + 0) (moved z)) goes-on
       where
         by-sum : (before more after : ℕ) → after ≡ before + more → before ≤ after
         by-sum before more after e = omega arith
 
     -- no beat is accepted, and the channel stands still
-    way-stopped : 1 ≤ z.room → length z.inbox ≡ 0 →
-        (way n x ≤ way (n + 0) (moved z)) × ((way n x + 1 ≤ way (n + 0) (moved z)) ⊎ (Unit {0} × (under_way (moved z) ≡ 0)))
-    way-stopped some none = ⊎_elim
-        (λ (e : push_count z + pop_count (moved_in z) ≡ 0). (way-keeps, inr (tt, under-way-moved z ∙ at-rest z some none e)))
-        (λ (more : 1 ≤ push_count z + pop_count (moved_in z)). ((way-on more).0, inl (way-on more).1))
+    progress-stopped : 1 ≤ z.room → length z.inbox ≡ 0 →
+        (progress n x ≤ progress (n + 0) (moved z)) × ((progress n x + 1 ≤ progress (n + 0) (moved z)) ⊎ (Unit {0} × (under_way (moved z) ≡ 0)))
+    progress-stopped some none = ⊎_elim
+        (λ (e : push_count z + pop_count (moved_in z) ≡ 0). (progress-keeps, inr (tt, under-way-moved z ∙ at-rest z some none e)))
+        (λ (more : 1 ≤ push_count z + pop_count (moved_in z)). ((progress-on more).0, inl (progress-on more).1))
         (none-or-some (push_count z + pop_count (moved_in z)))
 
     -- no beat is accepted, since others wait before it
-    way-waits : 1 ≤ z.room → length z.inbox ≡ 0 → z.stage ≢ [] →
-        (way n x ≤ way (n + 0) (moved z)) × ((way n x + 1 ≤ way (n + 0) (moved z)) ⊎ (⊥ × (under_way (moved z) ≡ 0)))
-    way-waits some none full = ⊎_elim
+    progress-waits : 1 ≤ z.room → length z.inbox ≡ 0 → z.stage ≢ [] →
+        (progress n x ≤ progress (n + 0) (moved z)) × ((progress n x + 1 ≤ progress (n + 0) (moved z)) ⊎ (⊥ × (under_way (moved z) ≡ 0)))
+    progress-waits some none full = ⊎_elim
         (λ (e : push_count z + pop_count (moved_in z) ≡ 0).
         let rest : under_way z ≡ 0 = at-rest z some none e in
         let empty : length z.stage ≡ 0 = omega arith in
         absurd (full (nil_from_length z.stage empty)))
-        (λ (more : 1 ≤ push_count z + pop_count (moved_in z)). ((way-on more).0, inl (way-on more).1))
+        (λ (more : 1 ≤ push_count z + pop_count (moved_in z)). ((progress-on more).0, inl (progress-on more).1))
         (none-or-some (push_count z + pop_count (moved_in z)))
 
   -- a beat is accepted
-  way-accepts : (x z : World H w v) → way (n + 1) z ≡ way (n + 1) x →
-      (way n x ≤ way (n + 1) (moved z)) × ((way n x + 1 ≤ way (n + 1) (moved z)) ⊎ (⊥ × (under_way (moved z) ≡ 0)))
-  way-accepts x z as_far =
-      let e : way (n + 1) (moved z) ≡ way (n + 1) x + (push_count z + pop_count (moved_in z)) =
-      way-moved z (n + 1) ∙ ap (λ k. k + (push_count z + pop_count (moved_in z))) as_far in
-      let p : (way n x ≤ way (n + 1) (moved z)) × (way n x + 1 ≤ way (n + 1) (moved z)) =
-      by-sum (length x.taken + length x.inbox + length x.ring) (length x.taken + length x.inbox) (push_count z + pop_count (moved_in z)) (way (n + 1) (moved z)) e in
+  progress-accepts : (x z : World H w v) → progress (n + 1) z ≡ progress (n + 1) x →
+      (progress n x ≤ progress (n + 1) (moved z)) × ((progress n x + 1 ≤ progress (n + 1) (moved z)) ⊎ (⊥ × (under_way (moved z) ≡ 0)))
+  progress-accepts x z as_far =
+      let e : progress (n + 1) (moved z) ≡ progress (n + 1) x + (push_count z + pop_count (moved_in z)) =
+      progress-moved z (n + 1) ∙ ap (λ k. k + (push_count z + pop_count (moved_in z))) as_far in
+      let p : (progress n x ≤ progress (n + 1) (moved z)) × (progress n x + 1 ≤ progress (n + 1) (moved z)) =
+      by-sum (length x.taken + length x.inbox + length x.ring) (length x.taken + length x.inbox) (push_count z + pop_count (moved_in z)) (progress (n + 1) (moved z)) e in
       (p.0, inl p.1)
     where
       by-sum : (through out more after : ℕ) → after ≡ n + 1 + through + out + more → (n + through + out ≤ after) × (n + through + out + 1 ≤ after)
@@ -284,21 +285,21 @@ module _ {H : Type 0} (r : Rules H) {w v : ℕ} (bs : List (BeatOf H w)) (n : �
       absurd (omega arith)
 
   -- the channel has come further, or it stands still and nothing is under way
-  pub way-round : (far : List (BeatOf H v)) (x : World H w v) (o : Offered) (accepted : List (BeatOf H w)) (y : World H w v) →
+  pub progress-round : (far : List (BeatOf H v)) (x : World H w v) (o : Offered) (accepted : List (BeatOf H w)) (y : World H w v) →
       IsSent r bs n far x → Does r bs n answer home (emptied x) o accepted y →
-      (way n x ≤ way (n + steps o) (moved y)) × ((way n x + 1 ≤ way (n + steps o) (moved y)) ⊎ (IsStopped o × (under_way (moved y) ≡ 0)))
-  way-round far x Accepted accepted y s (b, next, lawful, one, is) =
-      subst (λ z. (way n x ≤ way (n + 1) (moved z)) × ((way n x + 1 ≤ way (n + 1) (moved z)) ⊎ (⊥ × (under_way (moved z) ≡ 0)))) (sym is)
-      (way-accepts x (offered r b (home b) (emptied x)) (way-emptied x (n + 1)))
-  way-round far x Waits accepted y s (b, next, full, none, is) =
-      subst (λ z. (way n x ≤ way (n + 0) (moved z)) × ((way n x + 1 ≤ way (n + 0) (moved z)) ⊎ (⊥ × (under_way (moved z) ≡ 0)))) (sym is)
-      (way-waits x (emptied x) (way-emptied x n) s.room refl (stage-full far x s b next full))
-  way-round far x (Stopped Whole) accepted y s (last, whole, none, is) =
-      subst (λ z. (way n x ≤ way (n + 0) (moved z)) × ((way n x + 1 ≤ way (n + 0) (moved z)) ⊎ (Unit {0} × (under_way (moved z) ≡ 0)))) (sym is)
-      (way-stopped x (shut (emptied x)) (way-emptied x n) s.room refl)
-  way-round far x (Stopped Unfinished) accepted y s (last, begun, none, is) =
-      subst (λ z. (way n x ≤ way (n + 0) (moved z)) × ((way n x + 1 ≤ way (n + 0) (moved z)) ⊎ (Unit {0} × (under_way (moved z) ≡ 0)))) (sym is)
-      (way-stopped x (emptied x) (way-emptied x n) s.room refl)
-  way-round far x (Stopped (Refused fault)) accepted y s (b, next, refused, none, is) =
-      subst (λ z. (way n x ≤ way (n + 0) (moved z)) × ((way n x + 1 ≤ way (n + 0) (moved z)) ⊎ (Unit {0} × (under_way (moved z) ≡ 0)))) (sym is)
-      (way-stopped x (emptied x) (way-emptied x n) s.room refl)
+      (progress n x ≤ progress (n + steps o) (moved y)) × ((progress n x + 1 ≤ progress (n + steps o) (moved y)) ⊎ (IsStopped o × (under_way (moved y) ≡ 0)))
+  progress-round far x Accepted accepted y s (b, next, lawful, one, is) =
+      subst (λ z. (progress n x ≤ progress (n + 1) (moved z)) × ((progress n x + 1 ≤ progress (n + 1) (moved z)) ⊎ (⊥ × (under_way (moved z) ≡ 0)))) (sym is)
+      (progress-accepts x (offered r b (home b) (emptied x)) (progress-emptied x (n + 1)))
+  progress-round far x NotReady accepted y s (b, next, full, none, is) =
+      subst (λ z. (progress n x ≤ progress (n + 0) (moved z)) × ((progress n x + 1 ≤ progress (n + 0) (moved z)) ⊎ (⊥ × (under_way (moved z) ≡ 0)))) (sym is)
+      (progress-waits x (emptied x) (progress-emptied x n) s.room refl (stage-full far x s b next full))
+  progress-round far x (Stopped Done) accepted y s (last, whole, none, is) =
+      subst (λ z. (progress n x ≤ progress (n + 0) (moved z)) × ((progress n x + 1 ≤ progress (n + 0) (moved z)) ⊎ (Unit {0} × (under_way (moved z) ≡ 0)))) (sym is)
+      (progress-stopped x (shut (emptied x)) (progress-emptied x n) s.room refl)
+  progress-round far x (Stopped Cut) accepted y s (last, begun, none, is) =
+      subst (λ z. (progress n x ≤ progress (n + 0) (moved z)) × ((progress n x + 1 ≤ progress (n + 0) (moved z)) ⊎ (Unit {0} × (under_way (moved z) ≡ 0)))) (sym is)
+      (progress-stopped x (emptied x) (progress-emptied x n) s.room refl)
+  progress-round far x (Stopped (Refused fault)) accepted y s (b, next, refused, none, is) =
+      subst (λ z. (progress n x ≤ progress (n + 0) (moved z)) × ((progress n x + 1 ≤ progress (n + 0) (moved z)) ⊎ (Unit {0} × (under_way (moved z) ≡ 0)))) (sym is)
+      (progress-stopped x (emptied x) (progress-emptied x n) s.room refl)

@@ -2,16 +2,20 @@
 use Rattle.std.proofs.Common.{◌≡◌, ℕ, ◌+◌, ◌≤◌, ◌<◌, None, Some, List, [], ◌∷◌, ◌++◌, length, take, drop, map, Vec, Global, vec_len, vec_capacity, refl, sym, ap, subst, ◌∙◌, append-nil, append_assoc, take-append-drop, arith}
 use Rattle.std.proofs.lemmas.List.{map-append}
 use Rattle.std.specs.Prelude.{slice_get}
+use Rattle.tl_msg.specs.Rules.{Rules}
+use Rattle.tl_msg.specs.Tables.{rules_b, rules_c, rules_e}
 use Rattle.tl_msg.specs.declared.head.HeadA.{HeadA}
-use Rattle.tl_msg.specs.declared.head.HeadB.{HeadB}
-use Rattle.tl_msg.specs.declared.head.HeadC.{HeadC}
 use Rattle.tl_msg.specs.declared.head.HeadD.{HeadD}
-use Rattle.tl_msg.specs.declared.head.HeadE.{HeadE}
 use Rattle.tl_msg.specs.declared.beat.BeatOf.{BeatOf}
 use Rattle.tl_ring.specs.Crossing.{World, took}
-use Rattle.tl_settle.specs.Histories.{Ask, Answer}
-use Rattle.tl_sides.specs.Bridges.{Bridge, Past, StandsFor, after_take_a, after_take_b, after_take_c, after_take_d, after_take_e}
-use Rattle.tl_bridge.specs.Running.{emptied, after_takes_a, after_takes_b, after_takes_c, after_takes_d, after_takes_e}
+use Rattle.tl_ring.specs.Pipe.{Pipe}
+use Rattle.tl_ring.specs.Pipe as piping
+use Rattle.tl_settle.specs.Histories.{Event, Ask, Answer}
+use Rattle.tl_sides.specs.Books.{Client, Manager}
+use Rattle.tl_sides.specs.Bridges.{Bridge, Past, StandsFor}
+use Rattle.tl_sides.proofs.BridgeSteps.{asked_answers, answered_asks, homes_asks}
+use Rattle.tl_sides.specs.Crossings.{ManagerIsAsked, ClientIsAnswered}
+use Rattle.tl_bridge.specs.Inner.Running.{emptied, after_takes}
 
 -- a list that has a first item is that item and the others
 pub first-and-rest : {A : Type 0} (bs : List A) (b : A) → Some b ≡ slice_get bs 0 → bs ≡ b ∷ drop 1 bs
@@ -87,13 +91,6 @@ module _ {S X B : Type 0} (Stands : S → X → Type 0) (all : X → X) (inbox :
           let k = i.stands x h in
           subst (λ y. Stands next y) (still k.0 (sym (model now k.0 k.1) ∙ no-first (inbox now) none) ∙ k.2) (goes k.0 k.1)
 
--- two inboxes that are both that of a past are the same, and so is the room that they want
-pub same-inbox : {B : Type 0} {now old past : List B} → now ≡ past → old ≡ past → now ≡ old
-same-inbox e f = e ∙ sym f
-
-pub same-room : {B : Type 0} {now old past : List B} (len room : ℕ) → now ≡ past → old ≡ past → len + length old ≤ room → len + length now ≤ room
-same-room len room e f h = subst (λ q. len + length q ≤ room) (f ∙ sym e) h
-
 -- one beat and then the others are all of an inbox
 pub took-all : {H : Type 0} {w v : ℕ} (x : World H w v) → emptied (took x) ≡ emptied x
 took-all x = ap (λ q. record x { inbox = []; taken = q }) (append_assoc x.taken (take 1 x.inbox) (drop 1 x.inbox) ∙ ap (λ q. x.taken ++ q) (take-append-drop 1 x.inbox))
@@ -103,68 +100,50 @@ pub took-none : {H : Type 0} {w v : ℕ} (x : World H w v) → x.inbox ≡ [] �
 took-none x e =
     ap (λ q. record x { inbox = drop 1 q; taken = x.taken ++ take 1 q }) e ∙ sym (ap (λ q. record x { inbox = []; taken = x.taken ++ q }) e)
 
--- the same of what is noted of the beats
-noted-all : {A E : Type 0} (note : A → E) (es : List E) (bs : List A) → (es ++ map note (take 1 bs)) ++ map note (drop 1 bs) ≡ es ++ map note bs
-noted-all note es bs =
-    append_assoc es (map note (take 1 bs)) (map note (drop 1 bs)) ∙
-    ap (λ q. es ++ q) (sym (map-append note (take 1 bs) (drop 1 bs)) ∙ ap (λ q. map note q) (take-append-drop 1 bs))
+-- the same where a side notes the beats in its history
+module _ {H E : Type 0} {w v : ℕ} (note : BeatOf H v → E) where
+  abbrev pub noted-one : List E × World H w v → List E × World H w v
+  noted-one p = (p.0 ++ map note (take 1 p.1.inbox), took p.1)
 
-noted-none : {A E : Type 0} (note : A → E) (es : List E) (bs : List A) → bs ≡ [] → es ++ map note (take 1 bs) ≡ es ++ map note bs
-noted-none note es bs e = ap (λ q. es ++ map note (take 1 q)) e ∙ sym (ap (λ q. es ++ map note q) e)
+  abbrev pub noted-all : List E × World H w v → List E × World H w v
+  noted-all p = (p.0 ++ map note p.1.inbox, emptied p.1)
 
-module _ {C M : ℕ} where
-  -- one beat and then the others are all of an inbox of a bridge
-  pub took-all-a : (x : Past C M) → after_takes_a (after_take_a x) ≡ after_takes_a x
-  took-all-a x =
-      ap (λ q. record x { manager = q; a = emptied (took x.a) }) (noted-all Ask x.manager x.a.inbox) ∙
-      ap (λ q. record x { manager = x.manager ++ map Ask x.a.inbox; a = q }) (took-all x.a)
+  pub noted-took-all : (p : List E × World H w v) → noted-all (noted-one p) ≡ noted-all p
+  noted-took-all (es, x) =
+      ap (λ q. (q, emptied (took x))) (append_assoc es (map note (take 1 x.inbox)) (map note (drop 1 x.inbox)) ∙
+      ap (λ q. es ++ q) (sym (map-append note (take 1 x.inbox) (drop 1 x.inbox)) ∙ ap (λ q. map note q) (take-append-drop 1 x.inbox))) ∙
+      ap (λ q. (es ++ map note x.inbox, q)) (took-all x)
 
-  pub took-all-b : (x : Past C M) → after_takes_b (after_take_b x) ≡ after_takes_b x
-  took-all-b x = ap (λ q. record x { b = q }) (took-all x.b)
+  pub noted-took-none : (p : List E × World H w v) → p.1.inbox ≡ [] → noted-one p ≡ noted-all p
+  noted-took-none (es, x) e =
+      ap (λ q. (es ++ map note (take 1 q), took x)) e ∙ sym (ap (λ q. (es ++ map note q, took x)) e) ∙ ap (λ q. (es ++ map note x.inbox, q)) (took-none x e)
 
-  pub took-all-c : (x : Past C M) → after_takes_c (after_take_c x) ≡ after_takes_c x
-  took-all-c x = ap (λ q. record x { c = q }) (took-all x.c)
+-- the crossings that a pipe stands for
+abbrev pub PipeStands : {H : Type 0} (r : Rules H) {w v : ℕ} → Pipe H v → World H w v → Type 0
+PipeStands r p x = piping.StandsFor r p x
 
-  pub took-all-d : (x : Past C M) → after_takes_d (after_take_d x) ≡ after_takes_d x
-  took-all-d x =
-      ap (λ q. record x { client = q; d = emptied (took x.d) }) (noted-all Answer x.client x.d.inbox) ∙
-      ap (λ q. record x { client = x.client ++ map Answer x.d.inbox; d = q }) (took-all x.d)
+-- the histories and crossings that a side's book and pipe stand for
+abbrev pub AskedStands : {C M : ℕ} → Manager × Pipe HeadA M → List (Event M) × World HeadA C M → Type 0
+AskedStands s p = ManagerIsAsked s.0 s.1 p.0 p.1
 
-  pub took-all-e : (x : Past C M) → after_takes_e (after_take_e x) ≡ after_takes_e x
-  took-all-e x = ap (λ q. record x { e = q }) (took-all x.e)
+abbrev pub AnsweredStands : {C M : ℕ} → Client × Pipe HeadD C → List (Event C) × World HeadD M C → Type 0
+AnsweredStands s p = ClientIsAnswered s.0 s.1 p.0 p.1
 
-  -- taking one beat of an empty inbox of a bridge takes all of it
-  pub took-none-a : (x : Past C M) → x.a.inbox ≡ [] → after_take_a x ≡ after_takes_a x
-  took-none-a x e =
-      ap (λ q. record x { manager = q; a = took x.a }) (noted-none Ask x.manager x.a.inbox e) ∙
-      ap (λ q. record x { manager = x.manager ++ map Ask x.a.inbox; a = q }) (took-none x.a e)
-
-  pub took-none-b : (x : Past C M) → x.b.inbox ≡ [] → after_take_b x ≡ after_takes_b x
-  took-none-b x e = ap (λ q. record x { b = q }) (took-none x.b e)
-
-  pub took-none-c : (x : Past C M) → x.c.inbox ≡ [] → after_take_c x ≡ after_takes_c x
-  took-none-c x e = ap (λ q. record x { c = q }) (took-none x.c e)
-
-  pub took-none-d : (x : Past C M) → x.d.inbox ≡ [] → after_take_d x ≡ after_takes_d x
-  took-none-d x e =
-      ap (λ q. record x { client = q; d = took x.d }) (noted-none Answer x.client x.d.inbox e) ∙
-      ap (λ q. record x { client = x.client ++ map Answer x.d.inbox; d = q }) (took-none x.d e)
-
-  pub took-none-e : (x : Past C M) → x.e.inbox ≡ [] → after_take_e x ≡ after_takes_e x
-  took-none-e x e = ap (λ q. record x { e = q }) (took-none x.e e)
-
-  -- the inbox of each channel is being emptied
-  abbrev pub IsEmptyingA : Bridge C M → Vec (BeatOf HeadA M) Global → Bridge C M → Vec (BeatOf HeadA M) Global → Type 0
-  IsEmptyingA old before now far = IsEmptying StandsFor after_takes_a (λ s. s.a.inbox) old before now far
-
-  abbrev pub IsEmptyingB : Bridge C M → Vec (BeatOf HeadB C) Global → Bridge C M → Vec (BeatOf HeadB C) Global → Type 0
-  IsEmptyingB old before now far = IsEmptying StandsFor after_takes_b (λ s. s.b.inbox) old before now far
-
-  abbrev pub IsEmptyingC : Bridge C M → Vec (BeatOf HeadC M) Global → Bridge C M → Vec (BeatOf HeadC M) Global → Type 0
-  IsEmptyingC old before now far = IsEmptying StandsFor after_takes_c (λ s. s.c.inbox) old before now far
-
-  abbrev pub IsEmptyingD : Bridge C M → Vec (BeatOf HeadD C) Global → Bridge C M → Vec (BeatOf HeadD C) Global → Type 0
-  IsEmptyingD old before now far = IsEmptying StandsFor after_takes_d (λ s. s.d.inbox) old before now far
-
-  abbrev pub IsEmptyingE : Bridge C M → Vec (BeatOf HeadE M) Global → Bridge C M → Vec (BeatOf HeadE M) Global → Type 0
-  IsEmptyingE old before now far = IsEmptying StandsFor after_takes_e (λ s. s.e.inbox) old before now far
+-- each side has taken all that stood in its inboxes
+pub all-emptied : {C M : ℕ} (s t : Bridge C M) (x : Past C M) → StandsFor s x → ManagerIsAsked t.manager t.a (x.manager ++ map Ask x.a.inbox) (emptied x.a) →
+    piping.StandsFor rules_b t.b (emptied x.b) → piping.StandsFor rules_c t.c (emptied x.c) →
+    ClientIsAnswered t.client t.d (x.client ++ map Answer x.d.inbox) (emptied x.d) → piping.StandsFor rules_e t.e (emptied x.e) → StandsFor t (after_takes x)
+all-emptied s t x h a b c d e = record {
+  a = a.stands;
+  b = b;
+  c = c;
+  d = d.stands;
+  e = e;
+  client_asked = asked_answers x.client x.d.inbox ∙ h.client_asked;
+  client_answered = d.same;
+  manager_asked = a.same;
+  manager_answered = answered_asks x.manager x.a.inbox ∙ h.manager_answered;
+  homes = homes_asks x.manager x.a.inbox ∙ h.homes;
+  client = d.knows;
+  manager = a.knows;
+}

@@ -15,38 +15,37 @@ use Rattle.tl_ring.specs.Crossing.{World, empty}
 use Rattle.tl_ring.specs.Pipe.{Pipe}
 use Rattle.tl_ring.specs.Pipe as piping
 use Rattle.tl_ring.specs.declared.standing.Standing.{Standing}
-use Rattle.tl_sides.specs.declared.sync_bridge.Standings.{Standings}
 use Rattle.tl_settle.specs.Rounds as rounds
-use Rattle.tl_settle.specs.Outcomes.{FarBeats}
+use Rattle.tl_settle.specs.Outcomes.{Beats}
 use Rattle.tl_sides.specs.Bridges.{Bridge, Past, StandsFor, IsStanding, nothing_yet}
 use Rattle.tl_bridge.specs.Scripts.{IsShort}
-use Rattle.tl_bridge.specs.Arriving.{HasRoom, HasRoomFor, KeepsRoom}
-use Rattle.tl_bridge.specs.declared.taking.Taken.{Taken}
-use Rattle.tl_bridge.specs.Running.{IsSent, AreStopped, IsNew, IsUnderWay, way, under_way, counted, way_of, all_under_way, standing_count, all_standing, all_stopped, no_beats, IsAt, AllStop, HasRound, HasEnded}
-use Rattle.tl_bridge.specs.declared.offering.Offers.{Offers}
-use Rattle.tl_bridge.specs.declared.offering.Counts.{Counts}
-use Rattle.tl_bridge.specs.declared.offering.Stops.{Stops as AllStops}
-use Rattle.tl_bridge.proofs.ChannelEnd.{way-most}
+use Rattle.tl_bridge.specs.Inner.Arriving.{HasRoom, HasRoomFor, KeepsRoom}
+use Rattle.tl_bridge.specs.declared.taken.Taken.{Taken}
+use Rattle.tl_bridge.specs.Inner.Running.{IsSent, AreStopped, IsNew, IsUnderWay, progress, under_way, counted, all_progress, all_under_way, standing_count, all_standing, all_stopped, no_beats, IsAt, AllStop, HasRound, HasEnded}
+use Rattle.tl_bridge.specs.declared.channel_state.Offered.{Offered}
+use Rattle.tl_bridge.specs.declared.channel_state.Stop.{Stop}
+use Rattle.tl_sides.specs.declared.per_channel.PerChannel.{PerChannel}
+use Rattle.tl_bridge.proofs.ChannelEnd.{progress-most}
 use Rattle.tl_bridge.proofs.DueBounds.{most-a, most-b, most-c, most-d, most-e}
 
 -- ---- how far a run has come
 
 -- how far a channel has come, where so many beats were accepted and these were taken
-abbrev pub way_in : {H : Type 0} {v : ℕ} → ℕ → List (BeatOf H v) → Pipe H v → ℕ
-way_in n far p = n + (length far + length p.inbox + length p.ring) + (length far + length p.inbox)
+abbrev pub progress_in : {H : Type 0} {v : ℕ} → ℕ → List (BeatOf H v) → Pipe H v → ℕ
+progress_in n far p = n + (length far + length p.inbox + length p.ring) + (length far + length p.inbox)
 
 -- how far all five have come
-abbrev pub way_here : {C M : ℕ} → Counts → FarBeats C M → Bridge C M → ℕ
-way_here n far s = way_in n.a far.a s.a + way_in n.b far.b s.b + way_in n.c far.c s.c + way_in n.d far.d s.d + way_in n.e far.e s.e
+abbrev pub progress_here : {C M : ℕ} → PerChannel ℕ → Beats M C → Bridge C M → ℕ
+progress_here n far s = progress_in n.a far.a s.a + progress_in n.b far.b s.b + progress_in n.c far.c s.c + progress_in n.d far.d s.d + progress_in n.e far.e s.e
 
 -- how far a channel comes at most
-abbrev pub way_end : {H : Type 0} (r : Rules H) {w : ℕ} (v : ℕ) → List (BeatOf H w) → ℕ
-way_end r {w = w} v bs = length bs + 2 * length (due r w v (accepted_of r bs) [])
+abbrev pub progress_end : {H : Type 0} (r : Rules H) {w : ℕ} (v : ℕ) → List (BeatOf H w) → ℕ
+progress_end r {w = w} v bs = length bs + 2 * length (due r w v (accepted_of r bs) [])
 
 -- it is how far its crossing has come
-way-in-is : {H : Type 0} (r : Rules H) {w v : ℕ} (bs : List (BeatOf H w)) (n : ℕ) (far : List (BeatOf H v)) (p : Pipe H v) (x : World H w v) →
-    piping.StandsFor r p x → IsSent r bs n far x → way_in n far p ≡ way n x
-way-in-is r bs n far p x s i = rw (i.taken, s.inbox, s.ring) refl
+progress-in-is : {H : Type 0} (r : Rules H) {w v : ℕ} (bs : List (BeatOf H w)) (n : ℕ) (far : List (BeatOf H v)) (p : Pipe H v) (x : World H w v) →
+    piping.StandsFor r p x → IsSent r bs n far x → progress_in n far p ≡ progress n x
+progress-in-is r bs n far p x s i = rw (i.taken, s.inbox, s.ring) refl
 
 -- five numbers that are the same, and five that are bounded
 sums : {a b c d e a' b' c' d' e' : ℕ} → a ≡ a' → b ≡ b' → c ≡ c' → d ≡ d' → e ≡ e' → a + b + c + d + e ≡ a' + b' + c' + d' + e'
@@ -61,37 +60,37 @@ standing-is : {H : Type 0} (r : Rules H) {w v : ℕ} (p : Pipe H v) (x : World H
 standing-is r p x s f i = rw (i.staged, i.in_ring, i.inbox, f.stage, f.ring, f.inbox) refl
 
 -- and so in all five
-pub all-standing-is : {C M : ℕ} (s : Bridge C M) (x : Past C M) (t : Standings) → StandsFor s x → IsStanding s.a t.a → IsStanding s.b t.b →
+pub all-standing-is : {C M : ℕ} (s : Bridge C M) (x : Past C M) (t : PerChannel Standing) → StandsFor s x → IsStanding s.a t.a → IsStanding s.b t.b →
     IsStanding s.c t.c → IsStanding s.d t.d → IsStanding s.e t.e → all_standing t ≡ all_under_way x
 all-standing-is s x t f a b c d e =
     sums (standing-is rules_a s.a x.a t.a f.a a) (standing-is rules_b s.b x.b t.b f.b b) (standing-is rules_c s.c x.c t.c f.c c)
     (standing-is rules_d s.d x.d t.d f.d d) (standing-is rules_e s.e x.e t.e f.e e)
 
-module _ {C M : ℕ} (a : List (BeatOf HeadA C)) (b : List (BeatOf HeadB M)) (c : List (BeatOf HeadC C)) (d : List (BeatOf HeadD M)) (e : List (BeatOf HeadE C)) where
+module _ {C M : ℕ} (near : Beats C M) where
   -- how far a run comes at most
   abbrev pub run_end : ℕ
-  run_end = way_end rules_a M a + way_end rules_b C b + way_end rules_c M c + way_end rules_d C d + way_end rules_e M e
+  run_end = progress_end rules_a M near.a + progress_end rules_b C near.b + progress_end rules_c M near.c + progress_end rules_d C near.d + progress_end rules_e M near.e
 
   -- it has come as far as what has happened says
-  pub way-is : (n : Counts) (far : FarBeats C M) (s : Bridge C M) (x : Past C M) → StandsFor s x → IsAt a b c d e n far x → way_here n far s ≡ way_of n x
-  way-is n far s x f i =
-      sums (way-in-is rules_a a n.a far.a s.a x.a f.a i.a_sent) (way-in-is rules_b b n.b far.b s.b x.b f.b i.b_sent)
-      (way-in-is rules_c c n.c far.c s.c x.c f.c i.c_sent) (way-in-is rules_d d n.d far.d s.d x.d f.d i.d_sent)
-      (way-in-is rules_e e n.e far.e s.e x.e f.e i.e_sent)
+  pub progress-is : (n : PerChannel ℕ) (far : Beats M C) (s : Bridge C M) (x : Past C M) → StandsFor s x → IsAt near n far x → progress_here n far s ≡ all_progress n x
+  progress-is n far s x f i =
+      sums (progress-in-is rules_a near.a n.a far.a s.a x.a f.a i.a_sent) (progress-in-is rules_b near.b n.b far.b s.b x.b f.b i.b_sent)
+      (progress-in-is rules_c near.c n.c far.c s.c x.c f.c i.c_sent) (progress-in-is rules_d near.d n.d far.d s.d x.d f.d i.d_sent)
+      (progress-in-is rules_e near.e n.e far.e s.e x.e f.e i.e_sent)
 
   -- it comes no further than that
-  pub way-ends : IsWidth C → IsWidth M → (n : Counts) (far : FarBeats C M) (s : Bridge C M) (x : Past C M) → StandsFor s x → IsAt a b c d e n far x →
-      way_here n far s ≤ run_end
-  way-ends cw mw n far s x f i =
-      subst (λ k. k ≤ run_end) (sym (way-is n far s x f i))
-      (sums-most (way-most rules_a cw mw a n.a far.a x.a i.a_sent f.a.crosses) (way-most rules_b mw cw b n.b far.b x.b i.b_sent f.b.crosses)
-      (way-most rules_c cw mw c n.c far.c x.c i.c_sent f.c.crosses) (way-most rules_d mw cw d n.d far.d x.d i.d_sent f.d.crosses)
-      (way-most rules_e cw mw e n.e far.e x.e i.e_sent f.e.crosses))
+  pub progress-ends : IsWidth C → IsWidth M → (n : PerChannel ℕ) (far : Beats M C) (s : Bridge C M) (x : Past C M) → StandsFor s x → IsAt near n far x →
+      progress_here n far s ≤ run_end
+  progress-ends cw mw n far s x f i =
+      subst (λ k. k ≤ run_end) (sym (progress-is n far s x f i))
+      (sums-most (progress-most rules_a cw mw near.a n.a far.a x.a i.a_sent f.a.crosses) (progress-most rules_b mw cw near.b n.b far.b x.b i.b_sent f.b.crosses)
+      (progress-most rules_c cw mw near.c n.c far.c x.c i.c_sent f.c.crosses) (progress-most rules_d mw cw near.d n.d far.d x.d i.d_sent f.d.crosses)
+      (progress-most rules_e cw mw near.e n.e far.e x.e i.e_sent f.e.crosses))
 
   -- which is few
-  pub end-few : IsWidth C → IsWidth M → IsShort a b c d e → run_end < 2 ^ 60
+  pub end-few : IsWidth C → IsWidth M → IsShort near → run_end < 2 ^ 60
   end-few cw mw s =
-      bounded _ _ _ _ _ _ _ _ _ _ s.few_a s.few_b s.few_c s.few_d s.few_e (most-a M mw [] a) (most-b C cw [] b) (most-c M mw [] c) (most-d C cw [] d) (most-e M mw [] e)
+      bounded _ _ _ _ _ _ _ _ _ _ s.few_a s.few_b s.few_c s.few_d s.few_e (most-a M mw [] near.a) (most-b C cw [] near.b) (most-c M mw [] near.c) (most-d C cw [] near.d) (most-e M mw [] near.e)
     where
       bounded : (f g h i j k l m n o : ℕ) → f ≤ 2 ^ 40 → g ≤ 2 ^ 40 → h ≤ 2 ^ 40 → i ≤ 2 ^ 40 → j ≤ 2 ^ 40 →
           k ≤ 4096 * (f + 1) → l ≤ 4096 * (g + 1) → m ≤ 4096 * (h + 1) → n ≤ 4096 * (i + 1) → o ≤ 4096 * (j + 1) →
@@ -100,26 +99,26 @@ module _ {C M : ℕ} (a : List (BeatOf HeadA C)) (b : List (BeatOf HeadB M)) (c 
 
   -- ---- a round
 
-  module _ (n : Counts) (far far' : FarBeats C M) (s t : Bridge C M) (x : Past C M) (o : Offers) (f : StandsFor s x) (i : IsAt a b c d e n far x)
-      (h : HasRound a b c d e n far' x t o) where
+  module _ (n : PerChannel ℕ) (far far' : Beats M C) (s t : Bridge C M) (x : Past C M) (o : PerChannel Offered) (f : StandsFor s x) (i : IsAt near n far x)
+      (h : HasRound near n far' x t o) where
     -- a round that is not the last one
-    pub further : (AreStopped o → all_under_way h.past ≡ 0 → ⊥) → way_here n far s + 1 ≤ way_here (counted n o) far' t
+    pub further : (AreStopped o → all_under_way h.past ≡ 0 → ⊥) → progress_here n far s + 1 ≤ progress_here (counted n o) far' t
     further goes =
-        let before : way_here n far s ≡ way_of n x = way-is n far s x f i in
-        let after : way_here (counted n o) far' t ≡ way_of (counted n o) h.past = way-is (counted n o) far' t h.past h.stands h.is_at in
-        let most : way_of n x + 1 ≤ way_of (counted n o) h.past = ⊎_elim (λ l. l) (λ z. absurd (goes z.0 z.1)) h.goes in
-        subst (λ k. k + 1 ≤ way_here (counted n o) far' t) (sym before) (subst (λ k. way_of n x + 1 ≤ k) (sym after) most)
+        let before : progress_here n far s ≡ all_progress n x = progress-is n far s x f i in
+        let after : progress_here (counted n o) far' t ≡ all_progress (counted n o) h.past = progress-is (counted n o) far' t h.past h.stands h.is_at in
+        let most : all_progress n x + 1 ≤ all_progress (counted n o) h.past = ⊎_elim (λ l. l) (λ z. absurd (goes z.0 z.1)) h.goes in
+        subst (λ k. k + 1 ≤ progress_here (counted n o) far' t) (sym before) (subst (λ k. all_progress n x + 1 ≤ k) (sym after) most)
 
     -- the last one
-    pub ended : (rounds : ℕ) → rounds ≤ way_here n far s → (stops : AllStops) → o ≡ all_stopped stops → all_under_way h.past ≡ 0 →
-        HasEnded a b c d e (counted n o) far' t stops (rounds + 1)
+    pub ended : (rounds : ℕ) → rounds ≤ progress_here n far s → (stops : PerChannel Stop) → o ≡ all_stopped stops → all_under_way h.past ≡ 0 →
+        HasEnded near (counted n o) far' t stops (rounds + 1)
     ended rounds few stops same rest =
-        let before : way_here n far s ≡ way_of n x = way-is n far s x f i in
+        let before : progress_here n far s ≡ all_progress n x = progress-is n far s x f i in
         record {
           past = h.past;
           stands = h.stands;
           is_at = h.is_at;
-          all_stop = subst (λ q. AllStop a b c d e (counted n o) h.past q) same h.stops;
+          all_stop = subst (λ q. AllStop near (counted n o) h.past q) same h.stops;
           at_rest = rest;
           few_rounds = counts (subst (λ k. rounds ≤ k) before few) h.keeps;
         }
@@ -130,10 +129,10 @@ module _ {C M : ℕ} (a : List (BeatOf HeadA C)) (b : List (BeatOf HeadB M)) (c 
   -- ---- the first round
 
   -- a run is under way at a new bridge
-  pub starts : (n : Counts) (far : FarBeats C M) (s : Bridge C M) → n ≡ record { a = 0; b = 0; c = 0; d = 0; e = 0 } → far ≡ no_beats → IsNew s →
-      IsUnderWay a b c d e n far s
+  pub starts : (n : PerChannel ℕ) (far : Beats M C) (s : Bridge C M) → n ≡ record { a = 0; b = 0; c = 0; d = 0; e = 0 } → far ≡ no_beats → IsNew s →
+      IsUnderWay near n far s
   starts n far s none empty (room, some, f) =
-      let begins : (r : ℕ) → 1 ≤ r → IsAt a b c d e (record { a = 0; b = 0; c = 0; d = 0; e = 0 }) no_beats (nothing_yet r) = λ r l. record {
+      let begins : (r : ℕ) → 1 ≤ r → IsAt near (record { a = 0; b = 0; c = 0; d = 0; e = 0 }) no_beats (nothing_yet r) = λ r l. record {
         run = rounds.begins;
         a_sent = record { accepted = refl; most = omega arith; lawful = refl; taken = refl; shuts = λ k. search k; room = l };
         b_sent = record { accepted = refl; most = omega arith; lawful = refl; taken = refl; shuts = λ k. search k; room = l };
@@ -148,25 +147,21 @@ module _ {C M : ℕ} (a : List (BeatOf HeadA C)) (b : List (BeatOf HeadB M)) (c 
       record {
         past = nothing_yet room;
         stands = f;
-        is_at = subst (λ k. IsAt a b c d e k far (nothing_yet room)) (sym none) (subst (λ k. IsAt a b c d e (record { a = 0; b = 0; c = 0; d = 0; e = 0 }) k (nothing_yet room)) (sym empty) (begins room some));
+        is_at = subst (λ k. IsAt near k far (nothing_yet room)) (sym none) (subst (λ k. IsAt near (record { a = 0; b = 0; c = 0; d = 0; e = 0 }) k (nothing_yet room)) (sym empty) (begins room some));
       }
 
   -- the lists keep their room
-  pub keeps-room : (old new : Taken C M) → KeepsRoom old new → HasRoomFor a b c d e old → HasRoomFor a b c d e new
+  pub keeps-room : (old new : Taken C M) → KeepsRoom old new → HasRoomFor near old → HasRoomFor near new
   keeps-room old new k h = record {
-    in_a = subst (λ q. HasRoom rules_a M a q) (sym k.a) h.in_a;
-    in_b = subst (λ q. HasRoom rules_b C b q) (sym k.b) h.in_b;
-    in_c = subst (λ q. HasRoom rules_c M c q) (sym k.c) h.in_c;
-    in_d = subst (λ q. HasRoom rules_d C d q) (sym k.d) h.in_d;
-    in_e = subst (λ q. HasRoom rules_e M e q) (sym k.e) h.in_e;
+    in_a = subst (λ q. HasRoom rules_a M near.a q) (sym k.a) h.in_a;
+    in_b = subst (λ q. HasRoom rules_b C near.b q) (sym k.b) h.in_b;
+    in_c = subst (λ q. HasRoom rules_c M near.c q) (sym k.c) h.in_c;
+    in_d = subst (λ q. HasRoom rules_d C near.d q) (sym k.d) h.in_d;
+    in_e = subst (λ q. HasRoom rules_e M near.e q) (sym k.e) h.in_e;
   }
 
   -- and it is under way after a round
-  pub under-way-after : (n m : Counts) (far' : FarBeats C M) (x : Past C M) (t : Bridge C M) (o : Offers) → m ≡ counted n o →
-      HasRound a b c d e n far' x t o → IsUnderWay a b c d e m far' t
+  pub under-way-after : (n m : PerChannel ℕ) (far' : Beats M C) (x : Past C M) (t : Bridge C M) (o : PerChannel Offered) → m ≡ counted n o →
+      HasRound near n far' x t o → IsUnderWay near m far' t
   under-way-after n m far' x t o same h =
-      subst (λ k. IsUnderWay a b c d e k far' t) (sym same) (record { past = h.past; stands = h.stands; is_at = h.is_at })
-
--- counts that are all zero
-pub no-counts : (n : Counts) → (n.a ≡ 0) × ((n.b ≡ 0) × ((n.c ≡ 0) × ((n.d ≡ 0) × (n.e ≡ 0)))) → n ≡ record { a = 0; b = 0; c = 0; d = 0; e = 0 }
-no-counts n z = rw (z.0, z.1.0, z.1.1.0, z.1.1.1.0, z.1.1.1.1) refl
+      subst (λ k. IsUnderWay near k far' t) (sym same) (record { past = h.past; stands = h.stands; is_at = h.is_at })

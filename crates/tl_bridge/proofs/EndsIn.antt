@@ -9,14 +9,13 @@ use Rattle.tl_msg.specs.declared.head.HeadD.{HeadD}
 use Rattle.tl_msg.specs.declared.head.HeadE.{HeadE}
 use Rattle.tl_msg.specs.declared.beat.BeatOf.{BeatOf}
 use Rattle.tl_msg.specs.declared.verdict.Verdict.{Verdict}
-use Rattle.tl_settle.specs.Outcomes.{FarBeats, far_beats, far_alone, verdicts}
+use Rattle.tl_settle.specs.Outcomes.{Beats, far_beats, far_alone, verdicts}
 use Rattle.tl_sides.specs.Bridges.{Bridge}
 use Rattle.tl_bridge.specs.Scripts.{near_count, far_count}
-use Rattle.tl_bridge.specs.Running.{way, under_way, HasEnded, stop_verdict}
-use Rattle.tl_bridge.specs.declared.offering.Counts.{Counts}
-use Rattle.tl_bridge.specs.declared.offering.Stop.{Stop}
-use Rattle.tl_bridge.specs.declared.offering.Stops.{Stops as AllStops}
-use Rattle.tl_bridge.proofs.ChannelEnd.{way-end, count-end, far-end, verdict-end}
+use Rattle.tl_bridge.specs.Inner.Running.{progress, under_way, HasEnded, stop_verdict}
+use Rattle.tl_sides.specs.declared.per_channel.PerChannel.{PerChannel}
+use Rattle.tl_bridge.specs.declared.channel_state.Stop.{Stop}
+use Rattle.tl_bridge.proofs.ChannelEnd.{progress-end, count-end, far-end, verdict-end}
 use Rattle.tl_bridge.proofs.RunRound.{IsSettledEnd, run-end}
 
 -- five numbers whose sum is zero
@@ -36,8 +35,7 @@ five-same f g h i j = rw (f, g, h, i, j) refl
 pub verdict-is : (stop : Stop) (near : ℕ) {len far : ℕ} {v : Verdict} → len ≡ far → v ≡ stop_verdict stop near len → v ≡ stop_verdict stop near far
 verdict-is stop near e f = f ∙ ap (λ k. stop_verdict stop near k) e
 
-module _ {C M : ℕ} (cw : IsWidth C) (mw : IsWidth M) (a : List (BeatOf HeadA C)) (b : List (BeatOf HeadB M)) (c : List (BeatOf HeadC C)) (d : List (BeatOf HeadD M))
-    (e : List (BeatOf HeadE C)) (n : Counts) (far : FarBeats C M) (s : Bridge C M) (stops : AllStops) (rounds : ℕ) (h : HasEnded a b c d e n far s stops rounds) where
+module _ {C M : ℕ} (cw : IsWidth C) (mw : IsWidth M) (near : Beats C M) (n : PerChannel ℕ) (far : Beats M C) (s : Bridge C M) (stops : PerChannel Stop) (rounds : ℕ) (h : HasEnded near n far s stops rounds) where
   -- nothing is under way on any channel
   rests : (under_way h.past.a ≡ 0) × (under_way h.past.b ≡ 0) × (under_way h.past.c ≡ 0) × (under_way h.past.d ≡ 0) × (under_way h.past.e ≡ 0)
   rests = each-zero (under_way h.past.a) (under_way h.past.b) (under_way h.past.c) (under_way h.past.d) (under_way h.past.e) h.at_rest
@@ -58,45 +56,45 @@ module _ {C M : ℕ} (cw : IsWidth C) (mw : IsWidth M) (a : List (BeatOf HeadA C
   e-rests = rests.4
 
   -- A and D have settled
-  pub has-settled : IsSettledEnd cw mw a d n.a n.d s h.past h.stands h.is_at.run h.is_at.a_homed far.a far.d h.is_at.a_sent h.is_at.d_sent stops.a stops.d
+  pub has-settled : IsSettledEnd cw mw near.a near.d n.a n.d s h.past h.stands h.is_at.run h.is_at.a_homed far.a far.d h.is_at.a_sent h.is_at.d_sent stops.a stops.d
       h.all_stop.stop_a h.all_stop.stop_d a-rests d-rests
-  has-settled = run-end cw mw a d n.a n.d s h.past h.stands h.is_at.run h.is_at.a_homed far.a far.d h.is_at.a_sent h.is_at.d_sent stops.a stops.d
+  has-settled = run-end cw mw near.a near.d n.a n.d s h.past h.stands h.is_at.run h.is_at.a_homed far.a far.d h.is_at.a_sent h.is_at.d_sent stops.a stops.d
       h.all_stop.stop_a h.all_stop.stop_d a-rests d-rests
 
   -- what was taken is what the script settles to
-  pub b-far : far.b ≡ far_alone rules_b C b
-  b-far = far-end rules_b mw cw b n.b far.b h.past.b stops.b h.all_stop.stop_b h.is_at.b_sent h.stands.b.crosses h.is_at.b_homed b-rests
+  pub b-far : far.b ≡ far_alone rules_b C near.b
+  b-far = far-end rules_b mw cw near.b n.b far.b h.past.b stops.b h.all_stop.stop_b h.is_at.b_sent h.stands.b.crosses h.is_at.b_homed b-rests
 
-  pub c-far : far.c ≡ far_alone rules_c M c
-  c-far = far-end rules_c cw mw c n.c far.c h.past.c stops.c h.all_stop.stop_c h.is_at.c_sent h.stands.c.crosses h.is_at.c_homed c-rests
+  pub c-far : far.c ≡ far_alone rules_c M near.c
+  c-far = far-end rules_c cw mw near.c n.c far.c h.past.c stops.c h.all_stop.stop_c h.is_at.c_sent h.stands.c.crosses h.is_at.c_homed c-rests
 
-  pub e-far : far.e ≡ far_alone rules_e M e
-  e-far = far-end rules_e cw mw e n.e far.e h.past.e stops.e h.all_stop.stop_e h.is_at.e_sent h.stands.e.crosses h.is_at.e_homed e-rests
+  pub e-far : far.e ≡ far_alone rules_e M near.e
+  e-far = far-end rules_e cw mw near.e n.e far.e h.past.e stops.e h.all_stop.stop_e h.is_at.e_sent h.stands.e.crosses h.is_at.e_homed e-rests
 
-  pub far-is : far ≡ far_beats a b c d e
+  pub far-is : far ≡ far_beats near
   far-is = rw (← has-settled.a_far, ← has-settled.d_far, ← b-far, ← c-far, ← e-far) refl
 
   -- and so are the verdicts
   pub verdicts-are : stop_verdict stops.a n.a (length far.a) ∷ stop_verdict stops.b n.b (length far.b) ∷ stop_verdict stops.c n.c (length far.c) ∷
       stop_verdict stops.d n.d (length far.d) ∷ stop_verdict stops.e n.e (length far.e) ∷ [] ≡
-      (let v = verdicts a b c d e in v.a ∷ v.b ∷ v.c ∷ v.d ∷ v.e ∷ [])
+      (let v = verdicts near in v.a ∷ v.b ∷ v.c ∷ v.d ∷ v.e ∷ [])
   verdicts-are =
       five-same has-settled.a_verdict
-      (verdict-end rules_b mw cw b n.b far.b h.past.b stops.b h.all_stop.stop_b h.is_at.b_sent h.stands.b.crosses h.is_at.b_homed b-rests)
-      (verdict-end rules_c cw mw c n.c far.c h.past.c stops.c h.all_stop.stop_c h.is_at.c_sent h.stands.c.crosses h.is_at.c_homed c-rests)
+      (verdict-end rules_b mw cw near.b n.b far.b h.past.b stops.b h.all_stop.stop_b h.is_at.b_sent h.stands.b.crosses h.is_at.b_homed b-rests)
+      (verdict-end rules_c cw mw near.c n.c far.c h.past.c stops.c h.all_stop.stop_c h.is_at.c_sent h.stands.c.crosses h.is_at.c_homed c-rests)
       has-settled.d_verdict
-      (verdict-end rules_e cw mw e n.e far.e h.past.e stops.e h.all_stop.stop_e h.is_at.e_sent h.stands.e.crosses h.is_at.e_homed e-rests)
+      (verdict-end rules_e cw mw near.e n.e far.e h.past.e stops.e h.all_stop.stop_e h.is_at.e_sent h.stands.e.crosses h.is_at.e_homed e-rests)
 
   -- there were few rounds
-  pub rounds-few : rounds ≤ near_count a b c d e + 2 * far_count a b c d e + 1
+  pub rounds-few : rounds ≤ near_count near + 2 * far_count near + 1
   rounds-few =
-      sum-rounds rounds (way n.a h.past.a) (way n.b h.past.b) (way n.c h.past.c) (way n.d h.past.d) (way n.e h.past.e) _ _ _ _ _
-      (length (far_beats a b c d e).a) (length (far_beats a b c d e).b) (length (far_beats a b c d e).c) (length (far_beats a b c d e).d) (length (far_beats a b c d e).e) h.few_rounds
-      (way-end rules_a cw mw a n.a far.a h.past.a h.is_at.a_sent a-rests ∙ ap (λ q. n.a + 2 * length q) has-settled.a_far ∙ ap (λ k. k + 2 * length (far_beats a b c d e).a) has-settled.a_count)
-      (way-end rules_b mw cw b n.b far.b h.past.b h.is_at.b_sent b-rests ∙ ap (λ q. n.b + 2 * length q) b-far ∙
-      ap (λ k. k + 2 * length (far_beats a b c d e).b) (count-end rules_b mw cw b n.b far.b h.past.b stops.b h.all_stop.stop_b h.is_at.b_sent))
-      (way-end rules_c cw mw c n.c far.c h.past.c h.is_at.c_sent c-rests ∙ ap (λ q. n.c + 2 * length q) c-far ∙
-      ap (λ k. k + 2 * length (far_beats a b c d e).c) (count-end rules_c cw mw c n.c far.c h.past.c stops.c h.all_stop.stop_c h.is_at.c_sent))
-      (way-end rules_d mw cw d n.d far.d h.past.d h.is_at.d_sent d-rests ∙ ap (λ q. n.d + 2 * length q) has-settled.d_far ∙ ap (λ k. k + 2 * length (far_beats a b c d e).d) has-settled.d_count)
-      (way-end rules_e cw mw e n.e far.e h.past.e h.is_at.e_sent e-rests ∙ ap (λ q. n.e + 2 * length q) e-far ∙
-      ap (λ k. k + 2 * length (far_beats a b c d e).e) (count-end rules_e cw mw e n.e far.e h.past.e stops.e h.all_stop.stop_e h.is_at.e_sent))
+      sum-rounds rounds (progress n.a h.past.a) (progress n.b h.past.b) (progress n.c h.past.c) (progress n.d h.past.d) (progress n.e h.past.e) _ _ _ _ _
+      (length (far_beats near).a) (length (far_beats near).b) (length (far_beats near).c) (length (far_beats near).d) (length (far_beats near).e) h.few_rounds
+      (progress-end rules_a cw mw near.a n.a far.a h.past.a h.is_at.a_sent a-rests ∙ ap (λ q. n.a + 2 * length q) has-settled.a_far ∙ ap (λ k. k + 2 * length (far_beats near).a) has-settled.a_count)
+      (progress-end rules_b mw cw near.b n.b far.b h.past.b h.is_at.b_sent b-rests ∙ ap (λ q. n.b + 2 * length q) b-far ∙
+      ap (λ k. k + 2 * length (far_beats near).b) (count-end rules_b mw cw near.b n.b far.b h.past.b stops.b h.all_stop.stop_b h.is_at.b_sent))
+      (progress-end rules_c cw mw near.c n.c far.c h.past.c h.is_at.c_sent c-rests ∙ ap (λ q. n.c + 2 * length q) c-far ∙
+      ap (λ k. k + 2 * length (far_beats near).c) (count-end rules_c cw mw near.c n.c far.c h.past.c stops.c h.all_stop.stop_c h.is_at.c_sent))
+      (progress-end rules_d mw cw near.d n.d far.d h.past.d h.is_at.d_sent d-rests ∙ ap (λ q. n.d + 2 * length q) has-settled.d_far ∙ ap (λ k. k + 2 * length (far_beats near).d) has-settled.d_count)
+      (progress-end rules_e cw mw near.e n.e far.e h.past.e h.is_at.e_sent e-rests ∙ ap (λ q. n.e + 2 * length q) e-far ∙
+      ap (λ k. k + 2 * length (far_beats near).e) (count-end rules_e cw mw near.e n.e far.e h.past.e stops.e h.all_stop.stop_e h.is_at.e_sent))

@@ -21,18 +21,20 @@ use Rattle.tl_ring.specs.Pipe.{Pipe}
 use Rattle.tl_ring.specs.Pipe as piping
 use Rattle.tl_settle.specs.Histories.{Event, Ask, Answer, asked, answered, client_answer, manager_answer, manager_home}
 use Rattle.tl_settle.specs.Rounds.{Run}
-use Rattle.tl_settle.specs.Outcomes.{FarBeats}
-use Rattle.tl_sides.specs.Bridges.{Bridge, Past, StandsFor, stops_alone, pump_count, fetch_count, after_pump, after_fetch}
+use Rattle.tl_settle.specs.Outcomes.{Beats}
+use Rattle.tl_sides.specs.Bridges.{Bridge, Past, StandsFor, pump_count, fetch_count, after_pump, after_fetch}
+use Rattle.tl_sides.specs.Crossings.{stops_alone}
+use Rattle.tl_sides.proofs.BridgeSteps.{asked_answers, answered_asks}
 use Rattle.tl_bridge.specs.Scripts.{IsShort}
-use Rattle.tl_bridge.specs.Arriving.{HasRoom, HasRoomFor, HasRoomForInboxes, HasTaken, beats_of as taken_beats}
-use Rattle.tl_bridge.specs.declared.taking.Taken.{Taken}
-use Rattle.tl_bridge.specs.Running.{HaveRoomToCount, Does, Stops, IsSent, IsStopped, AreStopped, steps, emptied, moved, push_count, pop_count, after_takes, after_moves, counted, way_of, all_under_way, with_inboxes, HasOffered, IsAt, AllStop, HasRound}
-use Rattle.tl_bridge.specs.declared.offering.Stop.TheVariants.{Whole, Unfinished, Refused}
-use Rattle.tl_bridge.specs.declared.offering.Offered.{Offered}
-use Rattle.tl_bridge.specs.declared.offering.Offered.TheVariants.{Accepted, Waits, Stopped}
-use Rattle.tl_bridge.specs.declared.offering.Offers.{Offers}
-use Rattle.tl_bridge.specs.declared.offering.Counts.{Counts}
-use Rattle.tl_bridge.proofs.ChannelRound.{sent-round, homed-round, stops-round, way-round}
+use Rattle.tl_bridge.specs.Inner.Arriving.{HasRoom, HasRoomFor, HasRoomForInboxes, HasTaken, beats_of as taken_beats}
+use Rattle.tl_bridge.specs.declared.taken.Taken.{Taken}
+use Rattle.tl_bridge.proofs.Moving.{moved, push_count, pop_count, after_moves, with_inboxes}
+use Rattle.tl_bridge.specs.Inner.Running.{HaveRoomToCount, Does, Stops, IsSent, IsStopped, AreStopped, steps, emptied, after_takes, counted, all_progress, all_under_way, HasOffered, IsAt, AllStop, HasRound}
+use Rattle.tl_bridge.specs.declared.channel_state.Stop.TheVariants.{Done, Cut, Refused}
+use Rattle.tl_bridge.specs.declared.channel_state.Offered.{Offered}
+use Rattle.tl_bridge.specs.declared.channel_state.Offered.TheVariants.{Accepted, NotReady, Stopped}
+use Rattle.tl_sides.specs.declared.per_channel.PerChannel.{PerChannel}
+use Rattle.tl_bridge.proofs.ChannelRound.{sent-round, homed-round, stops-round, progress-round}
 use Rattle.tl_bridge.proofs.RunRound.{run-round}
 use Rattle.tl_bridge.proofs.ChannelEnd.{room-for}
 
@@ -71,21 +73,7 @@ moved-stands s t u x f g h =
     (subst (λ z. StandsFor u (record x { a = moved x.a; b = z; c = y.c; d = y.d; e = y.e })) in_b
     (subst (λ z. StandsFor u (record x { a = z; b = y.b; c = y.c; d = y.d; e = y.e })) in_a h))))
 
--- ---- histories
-
--- answers that were taken are no requests
-pub asked-answers : {w : ℕ} (es : List (Event w)) (bs : List (BeatOf HeadD w)) → asked (es ++ map Answer bs) ≡ asked es
-asked-answers [] [] = refl
-asked-answers [] (b ∷ bs) = asked-answers [] bs
-asked-answers (Ask b ∷ es) bs = ap (λ q. b ∷ q) (asked-answers es bs)
-asked-answers (Answer b ∷ es) bs = asked-answers es bs
-
--- requests that were taken are no answers
-pub answered-asks : {w : ℕ} (es : List (Event w)) (bs : List (BeatOf HeadA w)) → answered (es ++ map Ask bs) ≡ answered es
-answered-asks [] [] = refl
-answered-asks [] (b ∷ bs) = answered-asks [] bs
-answered-asks (Ask b ∷ es) bs = answered-asks es bs
-answered-asks (Answer b ∷ es) bs = ap (λ q. b ∷ q) (answered-asks es bs)
+-- ---- beats that are let through
 
 -- a beat that nothing stops has no fault of its own
 pub own-none : (o : Option BeatFault) (other : Option SideFault) → option_map_or (λ fault. Some (Beat fault)) o other ≡ None → o ≡ None
@@ -99,19 +87,19 @@ module _ {H : Type 0} (r : Rules H) {w v : ℕ} (bs : List (BeatOf H w)) (n : �
   pub none-accepted : (x : World H w v) (o : Offered) (accepted : List (BeatOf H w)) (y : World H w v) → IsStopped o → Does r bs n answer home x o accepted y →
       (accepted ≡ []) × (y.accepted ≡ x.accepted)
   none-accepted x Accepted accepted y s does = elim s [ ]
-  none-accepted x Waits accepted y s does = elim s [ ]
+  none-accepted x NotReady accepted y s does = elim s [ ]
   none-accepted x (Stopped (Refused f)) accepted y s (b, g, e, none, same) = (none, ap (λ z. z.accepted) same)
-  none-accepted x (Stopped Whole) accepted y s (g, e, none, same) = (none, ap (λ z. z.accepted) same)
-  none-accepted x (Stopped Unfinished) accepted y s (g, e, none, same) = (none, ap (λ z. z.accepted) same)
+  none-accepted x (Stopped Done) accepted y s (g, e, none, same) = (none, ap (λ z. z.accepted) same)
+  none-accepted x (Stopped Cut) accepted y s (g, e, none, same) = (none, ap (λ z. z.accepted) same)
 
 -- what is answered to it may be said in another way
 pub stops-same : {H : Type 0} (r : Rules H) {w : ℕ} (bs : List (BeatOf H w)) (n : ℕ) (answer other : BeatOf H w → Option SideFault) (accepted : List (BeatOf H w)) (o : Offered) →
     (IsStopped o → (b : BeatOf H w) → other b ≡ answer b) → Stops r bs n answer accepted o → Stops r bs n other accepted o
 stops-same r bs n answer other accepted Accepted same s = tt
-stops-same r bs n answer other accepted Waits same s = tt
+stops-same r bs n answer other accepted NotReady same s = tt
 stops-same r bs n answer other accepted (Stopped (Refused f)) same (b, g, e) = (b, g, same tt b ∙ e)
-stops-same r bs n answer other accepted (Stopped Whole) same s = s
-stops-same r bs n answer other accepted (Stopped Unfinished) same s = s
+stops-same r bs n answer other accepted (Stopped Done) same s = s
+stops-same r bs n answer other accepted (Stopped Cut) same s = s
 
 -- ---- two channels together
 
@@ -139,77 +127,76 @@ client-own es b e = own-none (fault_after rules_a (asked es) b) _ e
 pub manager-own : {w : ℕ} (es : List (Event w)) (b : BeatOf HeadD w) → manager_answer es b ≡ None → fault_after rules_d (answered es) b ≡ None
 manager-own es b e = own-none (fault_after rules_d (answered es) b) _ e
 
-module _ {C M : ℕ} (cw : IsWidth C) (mw : IsWidth M) (a : List (BeatOf HeadA C)) (b : List (BeatOf HeadB M)) (c : List (BeatOf HeadC C)) (d : List (BeatOf HeadD M))
-    (e : List (BeatOf HeadE C)) (n : Counts) (far : FarBeats C M) (x : Past C M) (s t : Bridge C M) (o : Offers) (stands : StandsFor s x) (i : IsAt a b c d e n far x)
-    (h : HasOffered a b c d e n (after_takes x) t o) where
+module _ {C M : ℕ} (cw : IsWidth C) (mw : IsWidth M) (near : Beats C M) (n : PerChannel ℕ) (far : Beats M C) (x : Past C M) (s t : Bridge C M) (o : PerChannel Offered) (stands : StandsFor s x) (i : IsAt near n far x)
+    (h : HasOffered near n (after_takes x) t o) where
   -- where the run stands after the round
-  pub at-round : IsAt a b c d e (counted n o) (with_inboxes far x) (after_moves h.past)
+  pub at-round : IsAt near (counted n o) (with_inboxes far x) (after_moves h.past)
   at-round = record {
-    run = subst (λ q. Run a d (n.a + steps o.a) (n.d + steps o.d) q h.past.manager) (sym h.client)
-        (subst (λ q. Run a d (n.a + steps o.a) (n.d + steps o.d) ((x.client ++ map Answer x.d.inbox) ++ map Ask h.beats_a) q) (sym h.manager)
-        (run-round cw mw a d n.a n.d s x stands i.run i.a_homed o.a o.d h.beats_a h.beats_d h.past.a h.past.d h.does_a h.does_d));
-    a_sent = sent-round rules_a a n.a (client_answer (x.client ++ map Answer x.d.inbox)) (λ _. 0) far.a x.a o.a h.beats_a h.past.a i.a_sent
-        (λ y f. subst (λ q. fault_after rules_a q y ≡ None) (asked-answers x.client x.d.inbox ∙ stands.client_asked) (client-own (x.client ++ map Answer x.d.inbox) y f)) h.does_a;
-    b_sent = sent-round rules_b b n.b (stops_alone rules_b x.b.accepted) (λ _. 0) far.b x.b o.b h.beats_b h.past.b i.b_sent (λ y f. alone-own rules_b x.b.accepted y f) h.does_b;
-    c_sent = sent-round rules_c c n.c (stops_alone rules_c x.c.accepted) (λ _. 0) far.c x.c o.c h.beats_c h.past.c i.c_sent (λ y f. alone-own rules_c x.c.accepted y f) h.does_c;
-    d_sent = sent-round rules_d d n.d (manager_answer (x.manager ++ map Ask x.a.inbox)) (λ y. manager_home (x.manager ++ map Ask x.a.inbox) y.head) far.d x.d o.d h.beats_d h.past.d i.d_sent
-        (λ y f. subst (λ q. fault_after rules_d q y ≡ None) (answered-asks x.manager x.a.inbox ∙ stands.manager_answered) (manager-own (x.manager ++ map Ask x.a.inbox) y f)) h.does_d;
-    e_sent = sent-round rules_e e n.e (stops_alone rules_e x.e.accepted) (λ _. 0) far.e x.e o.e h.beats_e h.past.e i.e_sent (λ y f. alone-own rules_e x.e.accepted y f) h.does_e;
-    a_homed = homed-round rules_a a n.a (client_answer (x.client ++ map Answer x.d.inbox)) (λ _. 0) x.a o.a h.beats_a h.past.a (λ y. some-beats rules_a y C cw) stands.a.crosses i.a_homed (λ y. refl) h.does_a;
-    b_homed = homed-round rules_b b n.b (stops_alone rules_b x.b.accepted) (λ _. 0) x.b o.b h.beats_b h.past.b (λ y. some-beats rules_b y M mw) stands.b.crosses i.b_homed (λ y. refl) h.does_b;
-    c_homed = homed-round rules_c c n.c (stops_alone rules_c x.c.accepted) (λ _. 0) x.c o.c h.beats_c h.past.c (λ y. some-beats rules_c y C cw) stands.c.crosses i.c_homed (λ y. refl) h.does_c;
-    e_homed = homed-round rules_e e n.e (stops_alone rules_e x.e.accepted) (λ _. 0) x.e o.e h.beats_e h.past.e (λ y. some-beats rules_e y C cw) stands.e.crosses i.e_homed (λ y. refl) h.does_e;
+    run = subst (λ q. Run near.a near.d (n.a + steps o.a) (n.d + steps o.d) q h.past.manager) (sym h.client)
+        (subst (λ q. Run near.a near.d (n.a + steps o.a) (n.d + steps o.d) ((x.client ++ map Answer x.d.inbox) ++ map Ask h.beats_a) q) (sym h.manager)
+        (run-round cw mw near.a near.d n.a n.d s x stands i.run i.a_homed o.a o.d h.beats_a h.beats_d h.past.a h.past.d h.does_a h.does_d));
+    a_sent = sent-round rules_a near.a n.a (client_answer (x.client ++ map Answer x.d.inbox)) (λ _. 0) far.a x.a o.a h.beats_a h.past.a i.a_sent
+        (λ y f. subst (λ q. fault_after rules_a q y ≡ None) (asked_answers x.client x.d.inbox ∙ stands.client_asked) (client-own (x.client ++ map Answer x.d.inbox) y f)) h.does_a;
+    b_sent = sent-round rules_b near.b n.b (stops_alone rules_b x.b.accepted) (λ _. 0) far.b x.b o.b h.beats_b h.past.b i.b_sent (λ y f. alone-own rules_b x.b.accepted y f) h.does_b;
+    c_sent = sent-round rules_c near.c n.c (stops_alone rules_c x.c.accepted) (λ _. 0) far.c x.c o.c h.beats_c h.past.c i.c_sent (λ y f. alone-own rules_c x.c.accepted y f) h.does_c;
+    d_sent = sent-round rules_d near.d n.d (manager_answer (x.manager ++ map Ask x.a.inbox)) (λ y. manager_home (x.manager ++ map Ask x.a.inbox) y.head) far.d x.d o.d h.beats_d h.past.d i.d_sent
+        (λ y f. subst (λ q. fault_after rules_d q y ≡ None) (answered_asks x.manager x.a.inbox ∙ stands.manager_answered) (manager-own (x.manager ++ map Ask x.a.inbox) y f)) h.does_d;
+    e_sent = sent-round rules_e near.e n.e (stops_alone rules_e x.e.accepted) (λ _. 0) far.e x.e o.e h.beats_e h.past.e i.e_sent (λ y f. alone-own rules_e x.e.accepted y f) h.does_e;
+    a_homed = homed-round rules_a near.a n.a (client_answer (x.client ++ map Answer x.d.inbox)) (λ _. 0) x.a o.a h.beats_a h.past.a (λ y. some-beats rules_a y C cw) stands.a.crosses i.a_homed (λ y. refl) h.does_a;
+    b_homed = homed-round rules_b near.b n.b (stops_alone rules_b x.b.accepted) (λ _. 0) x.b o.b h.beats_b h.past.b (λ y. some-beats rules_b y M mw) stands.b.crosses i.b_homed (λ y. refl) h.does_b;
+    c_homed = homed-round rules_c near.c n.c (stops_alone rules_c x.c.accepted) (λ _. 0) x.c o.c h.beats_c h.past.c (λ y. some-beats rules_c y C cw) stands.c.crosses i.c_homed (λ y. refl) h.does_c;
+    e_homed = homed-round rules_e near.e n.e (stops_alone rules_e x.e.accepted) (λ _. 0) x.e o.e h.beats_e h.past.e (λ y. some-beats rules_e y C cw) stands.e.crosses i.e_homed (λ y. refl) h.does_e;
   }
 
   -- why it stands still there, where it does
-  pub stops-there : AllStop a b c d e (counted n o) (after_moves h.past) o
+  pub stops-there : AllStop near (counted n o) (after_moves h.past) o
   stops-there = record {
-    stop_a = stops-same rules_a a (n.a + steps o.a) (client_answer (x.client ++ map Answer x.d.inbox)) (client_answer h.past.client) h.past.a.accepted o.a
+    stop_a = stops-same rules_a near.a (n.a + steps o.a) (client_answer (x.client ++ map Answer x.d.inbox)) (client_answer h.past.client) h.past.a.accepted o.a
         (λ z y. ap (λ q. client_answer q y) (h.client ∙ ap (λ q. (x.client ++ map Answer x.d.inbox) ++ map Ask q)
-        (none-accepted rules_a a n.a (client_answer (x.client ++ map Answer x.d.inbox)) (λ _. 0) (emptied x.a) o.a h.beats_a h.past.a z h.does_a).0 ∙
+        (none-accepted rules_a near.a n.a (client_answer (x.client ++ map Answer x.d.inbox)) (λ _. 0) (emptied x.a) o.a h.beats_a h.past.a z h.does_a).0 ∙
         append-nil (x.client ++ map Answer x.d.inbox)))
-        (stops-round rules_a a n.a (client_answer (x.client ++ map Answer x.d.inbox)) (λ _. 0) x.a o.a h.beats_a h.past.a h.does_a);
-    stop_b = stops-same rules_b b (n.b + steps o.b) (stops_alone rules_b x.b.accepted) (stops_alone rules_b h.past.b.accepted) h.past.b.accepted o.b
-        (λ z y. ap (λ q. stops_alone rules_b q y) (none-accepted rules_b b n.b (stops_alone rules_b x.b.accepted) (λ _. 0) (emptied x.b) o.b h.beats_b h.past.b z h.does_b).1)
-        (stops-round rules_b b n.b (stops_alone rules_b x.b.accepted) (λ _. 0) x.b o.b h.beats_b h.past.b h.does_b);
-    stop_c = stops-same rules_c c (n.c + steps o.c) (stops_alone rules_c x.c.accepted) (stops_alone rules_c h.past.c.accepted) h.past.c.accepted o.c
-        (λ z y. ap (λ q. stops_alone rules_c q y) (none-accepted rules_c c n.c (stops_alone rules_c x.c.accepted) (λ _. 0) (emptied x.c) o.c h.beats_c h.past.c z h.does_c).1)
-        (stops-round rules_c c n.c (stops_alone rules_c x.c.accepted) (λ _. 0) x.c o.c h.beats_c h.past.c h.does_c);
-    stop_d = stops-same rules_d d (n.d + steps o.d) (manager_answer (x.manager ++ map Ask x.a.inbox)) (manager_answer h.past.manager) h.past.d.accepted o.d
+        (stops-round rules_a near.a n.a (client_answer (x.client ++ map Answer x.d.inbox)) (λ _. 0) x.a o.a h.beats_a h.past.a h.does_a);
+    stop_b = stops-same rules_b near.b (n.b + steps o.b) (stops_alone rules_b x.b.accepted) (stops_alone rules_b h.past.b.accepted) h.past.b.accepted o.b
+        (λ z y. ap (λ q. stops_alone rules_b q y) (none-accepted rules_b near.b n.b (stops_alone rules_b x.b.accepted) (λ _. 0) (emptied x.b) o.b h.beats_b h.past.b z h.does_b).1)
+        (stops-round rules_b near.b n.b (stops_alone rules_b x.b.accepted) (λ _. 0) x.b o.b h.beats_b h.past.b h.does_b);
+    stop_c = stops-same rules_c near.c (n.c + steps o.c) (stops_alone rules_c x.c.accepted) (stops_alone rules_c h.past.c.accepted) h.past.c.accepted o.c
+        (λ z y. ap (λ q. stops_alone rules_c q y) (none-accepted rules_c near.c n.c (stops_alone rules_c x.c.accepted) (λ _. 0) (emptied x.c) o.c h.beats_c h.past.c z h.does_c).1)
+        (stops-round rules_c near.c n.c (stops_alone rules_c x.c.accepted) (λ _. 0) x.c o.c h.beats_c h.past.c h.does_c);
+    stop_d = stops-same rules_d near.d (n.d + steps o.d) (manager_answer (x.manager ++ map Ask x.a.inbox)) (manager_answer h.past.manager) h.past.d.accepted o.d
         (λ z y. ap (λ q. manager_answer q y) (h.manager ∙ ap (λ q. (x.manager ++ map Ask x.a.inbox) ++ map Answer q)
-        (none-accepted rules_d d n.d (manager_answer (x.manager ++ map Ask x.a.inbox)) (λ y. manager_home (x.manager ++ map Ask x.a.inbox) y.head) (emptied x.d) o.d h.beats_d h.past.d z h.does_d).0 ∙
+        (none-accepted rules_d near.d n.d (manager_answer (x.manager ++ map Ask x.a.inbox)) (λ y. manager_home (x.manager ++ map Ask x.a.inbox) y.head) (emptied x.d) o.d h.beats_d h.past.d z h.does_d).0 ∙
         append-nil (x.manager ++ map Ask x.a.inbox)))
-        (stops-round rules_d d n.d (manager_answer (x.manager ++ map Ask x.a.inbox)) (λ y. manager_home (x.manager ++ map Ask x.a.inbox) y.head) x.d o.d h.beats_d h.past.d h.does_d);
-    stop_e = stops-same rules_e e (n.e + steps o.e) (stops_alone rules_e x.e.accepted) (stops_alone rules_e h.past.e.accepted) h.past.e.accepted o.e
-        (λ z y. ap (λ q. stops_alone rules_e q y) (none-accepted rules_e e n.e (stops_alone rules_e x.e.accepted) (λ _. 0) (emptied x.e) o.e h.beats_e h.past.e z h.does_e).1)
-        (stops-round rules_e e n.e (stops_alone rules_e x.e.accepted) (λ _. 0) x.e o.e h.beats_e h.past.e h.does_e);
+        (stops-round rules_d near.d n.d (manager_answer (x.manager ++ map Ask x.a.inbox)) (λ y. manager_home (x.manager ++ map Ask x.a.inbox) y.head) x.d o.d h.beats_d h.past.d h.does_d);
+    stop_e = stops-same rules_e near.e (n.e + steps o.e) (stops_alone rules_e x.e.accepted) (stops_alone rules_e h.past.e.accepted) h.past.e.accepted o.e
+        (λ z y. ap (λ q. stops_alone rules_e q y) (none-accepted rules_e near.e n.e (stops_alone rules_e x.e.accepted) (λ _. 0) (emptied x.e) o.e h.beats_e h.past.e z h.does_e).1)
+        (stops-round rules_e near.e n.e (stops_alone rules_e x.e.accepted) (λ _. 0) x.e o.e h.beats_e h.past.e h.does_e);
   }
 
   -- it has come further in the round, or it stands still and nothing is under way
-  pub moves-round : Moves (way_of n x) (way_of (counted n o) (after_moves h.past)) (all_under_way (after_moves h.past))
+  pub moves-round : Moves (all_progress n x) (all_progress (counted n o) (after_moves h.past)) (all_under_way (after_moves h.past))
       ((((IsStopped o.a × IsStopped o.b) × IsStopped o.c) × IsStopped o.d) × IsStopped o.e)
   moves-round =
       both-move (both-move (both-move (both-move
-      (way-round rules_a a n.a (client_answer (x.client ++ map Answer x.d.inbox)) (λ _. 0) far.a x.a o.a h.beats_a h.past.a i.a_sent h.does_a)
-      (way-round rules_b b n.b (stops_alone rules_b x.b.accepted) (λ _. 0) far.b x.b o.b h.beats_b h.past.b i.b_sent h.does_b))
-      (way-round rules_c c n.c (stops_alone rules_c x.c.accepted) (λ _. 0) far.c x.c o.c h.beats_c h.past.c i.c_sent h.does_c))
-      (way-round rules_d d n.d (manager_answer (x.manager ++ map Ask x.a.inbox)) (λ y. manager_home (x.manager ++ map Ask x.a.inbox) y.head) far.d x.d o.d h.beats_d h.past.d i.d_sent h.does_d))
-      (way-round rules_e e n.e (stops_alone rules_e x.e.accepted) (λ _. 0) far.e x.e o.e h.beats_e h.past.e i.e_sent h.does_e)
+      (progress-round rules_a near.a n.a (client_answer (x.client ++ map Answer x.d.inbox)) (λ _. 0) far.a x.a o.a h.beats_a h.past.a i.a_sent h.does_a)
+      (progress-round rules_b near.b n.b (stops_alone rules_b x.b.accepted) (λ _. 0) far.b x.b o.b h.beats_b h.past.b i.b_sent h.does_b))
+      (progress-round rules_c near.c n.c (stops_alone rules_c x.c.accepted) (λ _. 0) far.c x.c o.c h.beats_c h.past.c i.c_sent h.does_c))
+      (progress-round rules_d near.d n.d (manager_answer (x.manager ++ map Ask x.a.inbox)) (λ y. manager_home (x.manager ++ map Ask x.a.inbox) y.head) far.d x.d o.d h.beats_d h.past.d i.d_sent h.does_d))
+      (progress-round rules_e near.e n.e (stops_alone rules_e x.e.accepted) (λ _. 0) far.e x.e o.e h.beats_e h.past.e i.e_sent h.does_e)
 
   -- the round
-  pub has-round : (far' : FarBeats C M) (u : Bridge C M) → far' ≡ with_inboxes far x → StandsFor u (after_moves h.past) → HasRound a b c d e n far' x u o
+  pub has-round : (far' : Beats M C) (u : Bridge C M) → far' ≡ with_inboxes far x → StandsFor u (after_moves h.past) → HasRound near n far' x u o
   has-round far' u same there = record {
     past = after_moves h.past;
     stands = there;
-    is_at = subst (λ q. IsAt a b c d e (counted n o) q (after_moves h.past)) (sym same) at-round;
+    is_at = subst (λ q. IsAt near (counted n o) q (after_moves h.past)) (sym same) at-round;
     stops = stops-there;
     keeps = moves-round.0;
     goes = goes-on moves-round.1;
   }
     where
-      goes-on : (way_of n x + 1 ≤ way_of (counted n o) (after_moves h.past)) ⊎
+      goes-on : (all_progress n x + 1 ≤ all_progress (counted n o) (after_moves h.past)) ⊎
           (((((IsStopped o.a × IsStopped o.b) × IsStopped o.c) × IsStopped o.d) × IsStopped o.e) × (all_under_way (after_moves h.past) ≡ 0)) →
-          (way_of n x + 1 ≤ way_of (counted n o) (after_moves h.past)) ⊎ (AreStopped o × (all_under_way (after_moves h.past) ≡ 0))
+          (all_progress n x + 1 ≤ all_progress (counted n o) (after_moves h.past)) ⊎ (AreStopped o × (all_under_way (after_moves h.past) ≡ 0))
       goes-on (inl l) = inl l
       goes-on (inr (((((fa, fb), fc), fd), fe), z)) = inr ((fa, fb, fc, fd, fe), z)
 
@@ -225,21 +212,20 @@ room-in : {H : Type 0} (r : Rules H) {w v : ℕ} (ww : IsWidth w) (vw : IsWidth 
     len + length inbox ≤ capacity
 room-in r ww vw bs n far x inbox len capacity e f s c has = rw (e, f) (room-for r ww vw bs n far x s c capacity has)
 
-module _ {C M : ℕ} (cw : IsWidth C) (mw : IsWidth M) (a : List (BeatOf HeadA C)) (b : List (BeatOf HeadB M)) (c : List (BeatOf HeadC C)) (d : List (BeatOf HeadD M))
-    (e : List (BeatOf HeadE C)) (n : Counts) where
+module _ {C M : ℕ} (cw : IsWidth C) (mw : IsWidth M) (near : Beats C M) (n : PerChannel ℕ) where
   -- all that stands in the inboxes may be taken
-  pub inboxes-fit : (far : Taken C M) (s : Bridge C M) (x : Past C M) → StandsFor s x → IsAt a b c d e n (taken_beats far) x → HasRoomFor a b c d e far →
+  pub inboxes-fit : (far : Taken C M) (s : Bridge C M) (x : Past C M) → StandsFor s x → IsAt near n (taken_beats far) x → HasRoomFor near far →
       HasRoomForInboxes s far
   inboxes-fit far s x stands i has = record {
-    a = room-in rules_a cw mw a n.a far.a.items x.a s.a.inbox far.a.len far.a.cap far.a.ok.0 stands.a.inbox i.a_sent stands.a.crosses has.in_a;
-    b = room-in rules_b mw cw b n.b far.b.items x.b s.b.inbox far.b.len far.b.cap far.b.ok.0 stands.b.inbox i.b_sent stands.b.crosses has.in_b;
-    c = room-in rules_c cw mw c n.c far.c.items x.c s.c.inbox far.c.len far.c.cap far.c.ok.0 stands.c.inbox i.c_sent stands.c.crosses has.in_c;
-    d = room-in rules_d mw cw d n.d far.d.items x.d s.d.inbox far.d.len far.d.cap far.d.ok.0 stands.d.inbox i.d_sent stands.d.crosses has.in_d;
-    e = room-in rules_e cw mw e n.e far.e.items x.e s.e.inbox far.e.len far.e.cap far.e.ok.0 stands.e.inbox i.e_sent stands.e.crosses has.in_e;
+    a = room-in rules_a cw mw near.a n.a far.a.items x.a s.a.inbox far.a.len far.a.cap far.a.ok.0 stands.a.inbox i.a_sent stands.a.crosses has.in_a;
+    b = room-in rules_b mw cw near.b n.b far.b.items x.b s.b.inbox far.b.len far.b.cap far.b.ok.0 stands.b.inbox i.b_sent stands.b.crosses has.in_b;
+    c = room-in rules_c cw mw near.c n.c far.c.items x.c s.c.inbox far.c.len far.c.cap far.c.ok.0 stands.c.inbox i.c_sent stands.c.crosses has.in_c;
+    d = room-in rules_d mw cw near.d n.d far.d.items x.d s.d.inbox far.d.len far.d.cap far.d.ok.0 stands.d.inbox i.d_sent stands.d.crosses has.in_d;
+    e = room-in rules_e cw mw near.e n.e far.e.items x.e s.e.inbox far.e.len far.e.cap far.e.ok.0 stands.e.inbox i.e_sent stands.e.crosses has.in_e;
   }
 
   -- one beat more of each list may be counted
-  pub counts-fit : (far : FarBeats C M) (x : Past C M) → IsAt a b c d e n far x → IsShort a b c d e → HaveRoomToCount n
+  pub counts-fit : (far : Beats M C) (x : Past C M) → IsAt near n far x → IsShort near → HaveRoomToCount n
   counts-fit far x i short = record {
     a = few-enough i.a_sent.most short.few_a;
     b = few-enough i.b_sent.most short.few_b;

@@ -9,10 +9,10 @@ use Rattle.tl_ring.specs.Crossing.{World}
 use Rattle.tl_settle.specs.Settling.{far_a, far_d}
 use Rattle.tl_settle.specs.Histories.{Event, Ask, Answer, asked, answered, client_answer, manager_answer}
 use Rattle.tl_settle.specs.Rounds.{ClientMoves, ManagerMoves, client_takes, client_accepts, manager_takes, manager_accepts}
-use Rattle.tl_bridge.specs.Running.{Does, steps}
-use Rattle.tl_bridge.specs.declared.offering.Offered.{Offered}
-use Rattle.tl_bridge.specs.declared.offering.Offered.TheVariants.{Accepted, Waits, Stopped}
-use Rattle.tl_bridge.specs.declared.offering.Stop.TheVariants.{Whole, Unfinished, Refused}
+use Rattle.tl_bridge.specs.Inner.Running.{Does, steps}
+use Rattle.tl_bridge.specs.declared.channel_state.Offered.{Offered}
+use Rattle.tl_bridge.specs.declared.channel_state.Offered.TheVariants.{Accepted, NotReady, Stopped}
+use Rattle.tl_bridge.specs.declared.channel_state.Stop.TheVariants.{Done, Cut, Refused}
 use Rattle.tl_settle.proofs.Marks.{asked_ask, answered_answer}
 
 -- the first beat of a list that is due, and the others behind it
@@ -66,10 +66,10 @@ module _ {C M : ℕ} (a : List (BeatOf HeadA C)) (d : List (BeatOf HeadD M)) whe
       let next : suc y ≡ y + 1 = omega arith in
       subst (λ q. ClientMoves a d j x es (y + 1) (fs ++ map Ask q)) (sym is)
       (subst (λ n. ClientMoves a d j x es n (fs ++ Ask b ∷ [])) next (client_accepts y fs b moves at ok))
-  client-offers j x es y fs home before Waits bs after moves (b, at, why, none, same) = client-stays j x es y fs bs moves none
+  client-offers j x es y fs home before NotReady bs after moves (b, at, why, none, same) = client-stays j x es y fs bs moves none
   client-offers j x es y fs home before (Stopped (Refused fault)) bs after moves (b, at, why, none, same) = client-stays j x es y fs bs moves none
-  client-offers j x es y fs home before (Stopped Whole) bs after moves (past, rest, none, same) = client-stays j x es y fs bs moves none
-  client-offers j x es y fs home before (Stopped Unfinished) bs after moves (past, rest, none, same) = client-stays j x es y fs bs moves none
+  client-offers j x es y fs home before (Stopped Done) bs after moves (past, rest, none, same) = client-stays j x es y fs bs moves none
+  client-offers j x es y fs home before (Stopped Cut) bs after moves (past, rest, none, same) = client-stays j x es y fs bs moves none
 
   -- the manager's side offers its next beat, if it may
   pub manager-offers : (i x : ℕ) (es : List (Event M)) (y : ℕ) (fs : List (Event M)) (home : BeatOf HeadD M → ℕ) (before : World HeadD M C) (o : Offered)
@@ -79,7 +79,7 @@ module _ {C M : ℕ} (a : List (BeatOf HeadA C)) (d : List (BeatOf HeadD M)) whe
       let next : suc y ≡ y + 1 = omega arith in
       subst (λ q. ManagerMoves a d i x es (y + 1) (fs ++ map Answer q)) (sym is)
       (subst (λ n. ManagerMoves a d i x es n (fs ++ Answer b ∷ [])) next (manager_accepts y fs b moves at ok))
-  manager-offers i x es y fs home before Waits bs after moves (b, at, why, none, same) = manager-stays i x es y fs bs moves none
+  manager-offers i x es y fs home before NotReady bs after moves (b, at, why, none, same) = manager-stays i x es y fs bs moves none
   manager-offers i x es y fs home before (Stopped (Refused fault)) bs after moves (b, at, why, none, same) = manager-stays i x es y fs bs moves none
-  manager-offers i x es y fs home before (Stopped Whole) bs after moves (past, rest, none, same) = manager-stays i x es y fs bs moves none
-  manager-offers i x es y fs home before (Stopped Unfinished) bs after moves (past, rest, none, same) = manager-stays i x es y fs bs moves none
+  manager-offers i x es y fs home before (Stopped Done) bs after moves (past, rest, none, same) = manager-stays i x es y fs bs moves none
+  manager-offers i x es y fs home before (Stopped Cut) bs after moves (past, rest, none, same) = manager-stays i x es y fs bs moves none

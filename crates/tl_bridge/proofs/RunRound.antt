@@ -19,10 +19,10 @@ use Rattle.tl_settle.specs.Settling.{far_a as due_far_a, far_d as due_far_d}
 use Rattle.tl_settle.specs.Steps.{State}
 use Rattle.tl_settle.specs.Outcomes.{settled_far_a, settled_far_d, verdict_a, verdict_d, verdict_of}
 use Rattle.tl_sides.specs.Bridges.{Bridge, Past, StandsFor}
-use Rattle.tl_bridge.specs.Running.{Does, Stops, IsSent, IsHomed, steps, emptied, under_way, stop_verdict}
-use Rattle.tl_bridge.specs.declared.offering.Offered.{Offered}
-use Rattle.tl_bridge.specs.declared.offering.Offered.TheVariants.{Stopped}
-use Rattle.tl_bridge.specs.declared.offering.Stop.{Stop}
+use Rattle.tl_bridge.specs.Inner.Running.{Does, Stops, IsSent, IsHomed, steps, emptied, under_way, stop_verdict}
+use Rattle.tl_bridge.specs.declared.channel_state.Offered.{Offered}
+use Rattle.tl_bridge.specs.declared.channel_state.Offered.TheVariants.{Stopped}
+use Rattle.tl_bridge.specs.declared.channel_state.Stop.{Stop}
 use Rattle.tl_ring.specs.Crossing.{World}
 use Rattle.tl_settle.proofs.Homes.{far_a_given, far_d_given}
 use Rattle.tl_settle.proofs.Runs.{RunIs, run_is, over}
@@ -109,10 +109,10 @@ module _ {C M : ℕ} (cw : IsWidth C) (mw : IsWidth M) (a : List (BeatOf HeadA C
 
     -- the verdicts of a state
     abbrev verdict-a-at : ℕ → ℕ → List (BeatOf HeadA M) → Verdict
-    verdict-a-at n m far = verdict_of n (length far) (left rules_a C (take n a)) (option_map_or (λ b. Some (stops_a a d n m b)) (slice_get a n) None)
+    verdict-a-at n m far = verdict_of n (length far) (left rules_a C (take n a)) (option_map_or (λ b. stops_a a d n m b) (slice_get a n) None)
 
     abbrev verdict-d-at : ℕ → ℕ → List (BeatOf HeadD C) → Verdict
-    verdict-d-at n m far = verdict_of m (length far) (left rules_d M (take m d)) (option_map_or (λ b. Some (stops_d a d n m b)) (slice_get d m) None)
+    verdict-d-at n m far = verdict_of m (length far) (left rules_d M (take m d)) (option_map_or (λ b. stops_d a d n m b) (slice_get d m) None)
 
     -- A ends with the verdict of the settled state
     a-verdict : stop_verdict stop_a i (length far_a) ≡ verdict_a a d

@@ -1,4 +1,3 @@
-pub mod Running
-pub mod Arriving
 pub mod Scripts
 pub mod Names
+pub mod Inner

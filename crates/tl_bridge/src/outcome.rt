@@ -1,11 +1,13 @@
 //! What a run ends in, or why there is none.
 ghost use Rattle.std.specs.Prelude.{◌≡◌};
+ghost use Rattle.tl_bridge.specs.Inner.Running.{stop_verdict};
 ghost use Rattle.tl_bridge.specs.Names.{run_fault_number, run_fault_name, of_build_fault};
 ghost use Rattle.tl_bridge.specs.declared.outcome.RunFault.TheVariants.{OutOfMemory};
 
+use crate::channel_state::Stop;
 use std::alloc::AllocError;
 use thiserror::Error;
-use tl_msg::{Beat, ChA, ChB, ChC, ChD, ChE, Verdict};
+use tl_msg::{Beat, ChA, ChB, ChC, ChD, ChE, SideFault, Verdict};
 use tl_ring::BuildFault;
 
 /// What a script ends in: the far beats that each side took, one verdict for each channel from A to E, and how many rounds the run
@@ -73,5 +75,20 @@ impl From<AllocError> for RunFault {
 
     fn from(_e: AllocError) -> RunFault {
         RunFault::OutOfMemory
+    }
+}
+
+// The verdict of a channel that offers no more, where so many near beats were accepted and so many far beats taken.
+pub(crate) fn verdict(stop: &Stop, near: usize, far: usize) -> Verdict
+    ensures { result ≡ stop_verdict stop.now near far }
+{
+    let (near, far) = (near as u64, far as u64);
+    match *stop {
+        Stop::Done => Verdict::Done { near, far },
+        Stop::Cut => Verdict::Cut { near, far },
+        Stop::Refused(fault) => match fault {
+            SideFault::Beat(_) | SideFault::SizeMismatch => Verdict::Refused { at: near, fault },
+            SideFault::SourceBusy | SideFault::NoRequest => Verdict::Waiting { at: near, fault },
+        },
     }
 }

@@ -2,22 +2,22 @@
 ghost use Rattle.std.specs.Prelude.{◌≡◌, ◌↔◌, IsTrue, IfSome, IsNone};
 ghost use Rattle.tl_lanes.specs.Lanes.{IsWidth};
 ghost use Rattle.tl_sides.specs.Bridges.{Past, StandsFor};
-ghost use Rattle.tl_bridge.specs.Scripts.{IsShort};
-ghost use Rattle.tl_bridge.specs.Arriving.{HasRoomFor, KeepsRoom, beats_of};
-ghost use Rattle.tl_bridge.specs.Running.{IsAt, IsUnderWay, IsNew, HasRound, HasEnded, AreStopped, counted, no_beats, standing_count, all_standing, all_under_way, all_stopped, stop_verdict};
+ghost use Rattle.tl_bridge.specs.Scripts.{HasShortLists, near_beats};
+ghost use Rattle.tl_bridge.specs.Inner.Arriving.{HasRoomFor, KeepsRoom, beats_of};
+ghost use Rattle.tl_bridge.specs.Inner.Running.{IsAt, IsUnderWay, IsNew, HasRound, HasEnded, AreStopped, counted, no_beats, standing_count, all_standing, all_under_way, all_stopped};
 
-use crate::offering::{Counts, Offers, Stop, Stops, count, offer_all};
-use crate::taking::{Taken, take_all};
-use tl_msg::{SideFault, Verdict};
+use crate::channel_state::{Offered, Stop, add_accepted, all_stops};
+use crate::offers::offer_on_each;
+use crate::taken::{Taken, take_from_each};
 use tl_ring::Standing;
-use tl_sides::{Standings, SyncBridge};
+use tl_sides::{PerChannel, Standings, SyncBridge};
 use tl_trace::Script;
 
 /// Where a run has ended: how many beats of each channel were accepted, why it offers no more, and how many rounds there were.
 #[derive(Drop)]
 pub(crate) struct End {
-    pub at: Counts,
-    pub stops: Stops,
+    pub at: PerChannel<usize>,
+    pub stops: PerChannel<Stop>,
     pub rounds: u64,
 }
 
@@ -44,22 +44,23 @@ fn are_empty(standings: &Standings) -> bool
 fn round<const C: usize, const M: usize>(
     bridge: &mut SyncBridge<C, M>,
     script: &Script<C, M>,
-    at: &mut Counts,
+    at: &mut PerChannel<usize>,
     far: &mut Taken<C, M>,
-) -> Offers
+) -> PerChannel<Offered>
     requires client { IsWidth C }
     requires manager { IsWidth M }
-    requires short { IsShort script.now.a.items script.now.b.items script.now.c.items script.now.d.items script.now.e.items }
-    requires room { HasRoomFor script.now.a.items script.now.b.items script.now.c.items script.now.d.items script.now.e.items far.old }
-    requires under_way { IsUnderWay script.now.a.items script.now.b.items script.now.c.items script.now.d.items script.now.e.items at.old (beats_of far.old) bridge.old }
-    ensures round { (x : Past C M) → StandsFor bridge.old x → IsAt script.now.a.items script.now.b.items script.now.c.items script.now.d.items script.now.e.items at.old (beats_of far.old) x →
-        HasRound script.now.a.items script.now.b.items script.now.c.items script.now.d.items script.now.e.items at.old (beats_of far.new) x bridge.new result }
+    requires short { HasShortLists script.now }
+    requires room { HasRoomFor (near_beats script.now) far.old }
+    requires under_way { IsUnderWay (near_beats script.now) at.old (beats_of far.old) bridge.old }
+    ensures round { (x : Past C M) → StandsFor bridge.old x →
+        IsAt (near_beats script.now) at.old (beats_of far.old) x →
+        HasRound (near_beats script.now) at.old (beats_of far.new) x bridge.new result }
     ensures counted { at.new ≡ counted at.old result }
     ensures capacity { KeepsRoom far.old far.new }
 {
-    take_all(bridge, far);
-    let offers = offer_all(bridge, script, at);
-    count(at, &offers);
+    take_from_each(bridge, far);
+    let offers = offer_on_each(bridge, script, at);
+    add_accepted(at, &offers);
     bridge.pump();
     bridge.fetch();
     offers
@@ -68,13 +69,16 @@ fn round<const C: usize, const M: usize>(
 // Why each channel offers no more after a round, where nothing is under way. None where there is another round.
 fn stops_at_rest<const C: usize, const M: usize>(
     bridge: &SyncBridge<C, M>,
-    offers: &Offers,
-) -> Option<Stops>
+    offers: &PerChannel<Offered>,
+) -> Option<PerChannel<Stop>>
+    requires client { IsWidth C }
+    requires manager { IsWidth M }
     ensures stops { IfSome result (λ stops. offers.now ≡ all_stopped stops) }
     ensures rests { (x : Past C M) → StandsFor bridge.now x → IfSome result (λ _. all_under_way x ≡ 0) }
-    ensures goes { (x : Past C M) → StandsFor bridge.now x → IsNone result → AreStopped offers.now → all_under_way x ≡ 0 → ⊥ }
+    ensures goes { (x : Past C M) → StandsFor bridge.now x → IsNone result →
+        AreStopped offers.now → all_under_way x ≡ 0 → ⊥ }
 {
-    let stops = offers.stops()?;
+    let stops = all_stops(offers)?;
     if !are_empty(&bridge.standings()) {
         return None;
     }
@@ -89,13 +93,20 @@ pub(crate) fn run_rounds<const C: usize, const M: usize>(
 ) -> End
     requires client { IsWidth C }
     requires manager { IsWidth M }
-    requires short { IsShort script.now.a.items script.now.b.items script.now.c.items script.now.d.items script.now.e.items }
-    requires room { HasRoomFor script.now.a.items script.now.b.items script.now.c.items script.now.d.items script.now.e.items far.old }
+    requires short { HasShortLists script.now }
+    requires room { HasRoomFor (near_beats script.now) far.old }
     requires new { IsNew bridge.old }
     requires empty { beats_of far.old ≡ no_beats }
-    ensures { HasEnded script.now.a.items script.now.b.items script.now.c.items script.now.d.items script.now.e.items result.at (beats_of far.new) bridge.new result.stops result.rounds }
+    ensures { HasEnded (near_beats script.now) result.at (beats_of far.new) bridge.new result.stops
+        result.rounds }
 {
-    let mut at = Counts::default();
+    let mut at = PerChannel {
+        a: 0,
+        b: 0,
+        c: 0,
+        d: 0,
+        e: 0,
+    };
     let mut rounds = 0;
     'rounds: loop {
         let offers = round(bridge, script, &mut at, far);
@@ -103,20 +114,5 @@ pub(crate) fn run_rounds<const C: usize, const M: usize>(
         if let Some(stops) = stops_at_rest(bridge, &offers) {
             return End { at, stops, rounds };
         }
-    }
-}
-
-// The verdict of a channel that offers no more, where so many near beats were accepted and so many far beats taken.
-pub(crate) fn verdict(stop: &Stop, near: usize, far: usize) -> Verdict
-    ensures { result ≡ stop_verdict stop.now near far }
-{
-    let (near, far) = (near as u64, far as u64);
-    match *stop {
-        Stop::Whole => Verdict::Done { near, far },
-        Stop::Unfinished => Verdict::Cut { near, far },
-        Stop::Refused(fault) => match fault {
-            SideFault::Beat(_) | SideFault::SizeMismatch => Verdict::Refused { at: near, fault },
-            SideFault::SourceBusy | SideFault::NoRequest => Verdict::Waiting { at: near, fault },
-        },
     }
 }

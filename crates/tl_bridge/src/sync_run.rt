@@ -4,9 +4,9 @@ ghost use Rattle.tl_lanes.specs.Lanes.{IsWidth};
 ghost use Rattle.tl_bridge.specs.declared.outcome.RunFault.TheVariants.{RingSize, Stalled};
 ghost use Rattle.tl_bridge.specs.Scripts.{HasShortLists, SettlesTo};
 
-use crate::outcome::{Outcome, RunFault};
-use crate::rounds::{run_rounds, verdict};
-use crate::taking::Taken;
+use crate::outcome::{Outcome, RunFault, verdict};
+use crate::rounds::run_rounds;
+use crate::taken::Taken;
 use std::alloc::Global;
 use tl_sides::SyncBridge;
 use tl_trace::Script;

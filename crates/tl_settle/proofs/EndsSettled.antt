@@ -26,8 +26,8 @@ use Rattle.tl_convert.proofs.Begins.{some_beats, heads_open, heads_inside_one}
 use Rattle.tl_convert.proofs.Comparisons.{equal_true, map_true, there_is}
 use Rattle.tl_convert.proofs.Extends.{Extends, take-next, take-past, count_by-append}
 use Rattle.tl_convert.proofs.FarHeads.{NoFaults, no-faults-less}
-use Rattle.tl_settle.specs.InMessages.{Brings, BringsAlone, EndsInMessages}
-use Rattle.tl_settle.specs.Outcomes.{verdict_of, far_alone, verdict_alone}
+use Rattle.tl_settle.specs.InMessages.{AreBeats, Brings, BringsAlone, EndsInMessages}
+use Rattle.tl_settle.specs.Outcomes.{Beats, verdict_of, far_alone, verdict_alone}
 use Rattle.tl_settle.specs.Requests.{homes_after, home_of, is_release_ack, is_request_of, is_response_to, partner, requests_of, responses_to}
 use Rattle.tl_settle.specs.Settling.{IsSettledState, far_a, far_d, goes_a, goes_d, held_request, held_response, is_free, requests, responses, settled_state, stops_a, stops_d}
 use Rattle.tl_settle.specs.Steps.{Reaches, Settled, State, by_a, by_d, start}
@@ -266,23 +266,21 @@ alone r {w} {v} near far known fixed bs all =
 pub script_ends : {C M : ℕ} → 0 < C → 0 < M →
     Known rules_a C M → Known rules_b M C → Known rules_c C M → Known rules_d M C →
     Known rules_e C M →
-    (a : List (BeatOf HeadA C)) (b : List (BeatOf HeadB M)) (c : List (BeatOf HeadC C))
-    (d : List (BeatOf HeadD M)) (e : List (BeatOf HeadE C)) →
-    All (λ x. IsBeat rules_a x) a → All (λ x. IsBeat rules_b x) b → All (λ x. IsBeat rules_c x) c →
-    All (λ x. IsBeat rules_d x) d →
-    All (λ x. IsBeat rules_e x) e → EndsInMessages a b c d e
-script_ends near far on_a on_b on_c on_d on_e a b c d e all_a all_b all_c all_d all_e =
+    (bs : Beats C M) → AreBeats bs → EndsInMessages bs
+script_ends near far on_a on_b on_c on_d on_e bs held =
+    let a = bs.a in
+    let d = bs.d in
     let settled : IsSettledState a d (settled_state a d) = one_settled near far a d in
-    let beats_a = each_beat rules_a on_a.exact a all_a in
-    let beats_d = each_beat rules_d on_d.exact d all_d in
+    let beats_a = each_beat rules_a on_a.exact a held.a in
+    let beats_d = each_beat rules_d on_d.exact d held.d in
     let s : State = settled_state a d in
     let stands : Settled (goes_a a d) (goes_d a d) s.a s.d = settled.settled in
     record {
       settled = settled;
-      admitted = λ i j r. at_admitted near far on_a.exact on_d.exact a d all_a all_d i j r;
+      admitted = λ i j r. at_admitted near far on_a.exact on_d.exact a d held.a held.d i j r;
       on_a = ends_a near far a d on_a on_d beats_a beats_d s.a s.d stands.reached stands.a_stops;
-      on_b = alone rules_b far near on_b (λ h x. refl) b all_b;
-      on_c = alone rules_c near far on_c (λ h x. refl) c all_c;
+      on_b = alone rules_b far near on_b (λ h x. refl) bs.b held.b;
+      on_c = alone rules_c near far on_c (λ h x. refl) bs.c held.c;
       on_d = ends_d near far a d on_a on_d beats_a beats_d s.a s.d stands.reached stands.d_stops;
-      on_e = alone rules_e near far on_e (λ h x. refl) e all_e;
+      on_e = alone rules_e near far on_e (λ h x. refl) bs.e held.e;
     }

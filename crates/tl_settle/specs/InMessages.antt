@@ -1,14 +1,10 @@
 -- What a script ends in, said of whole messages: which of them each channel accepts, what arrives,
 -- and what stops it (TileLink: burst rules, byte lanes, source and size of responses; the moments
 -- and the verdicts: this project's choice).
-use Rattle.std.specs.Prelude.{◌≡◌, ◌≢◌, ◌≤◌, ◌++◌, ℕ, None, Some, Option, List, [], length, map, take, slice_get}
+use Rattle.std.specs.Prelude.{◌≡◌, ◌≢◌, ◌≤◌, ◌++◌, ℕ, None, Some, Option, List, [], length, map, take, slice_get, All}
+use Rattle.tl_msg.specs.Beats.{IsBeat}
 use Rattle.tl_msg.specs.Rules.{Rules}
 use Rattle.tl_msg.specs.Tables.{rules_a, rules_b, rules_c, rules_d, rules_e}
-use Rattle.tl_msg.specs.declared.head.HeadA.{HeadA}
-use Rattle.tl_msg.specs.declared.head.HeadB.{HeadB}
-use Rattle.tl_msg.specs.declared.head.HeadC.{HeadC}
-use Rattle.tl_msg.specs.declared.head.HeadD.{HeadD}
-use Rattle.tl_msg.specs.declared.head.HeadE.{HeadE}
 use Rattle.tl_msg.specs.declared.beat.BeatOf.{BeatOf}
 use Rattle.tl_msg.specs.declared.fault.BeatFault.{BeatFault}
 use Rattle.tl_msg.specs.declared.fault.SideFault.{SideFault}
@@ -24,7 +20,7 @@ use Rattle.tl_convert.specs.Laws.{FarIsHanded}
 use Rattle.tl_settle.specs.Requests.{homes_after}
 use Rattle.tl_settle.specs.Steps.{Reaches}
 use Rattle.tl_settle.specs.Settling.{IsSettledState, goes_a, goes_d, held_request, held_response, requests, responses, settled_state}
-use Rattle.tl_settle.specs.Outcomes.{far_beats, verdicts}
+use Rattle.tl_settle.specs.Outcomes.{Beats, far_beats, verdicts}
 use Rattle.tl_settle.specs.Laws.{IsAtAdmitted}
 
 module _ {H : Type 0} (r : Rules H) {w : ℕ} where
@@ -77,24 +73,33 @@ module _ {H : Type 0} (r : Rules H) {w : ℕ} where
         let homes = map (λ h. r.lane_address h 0) (heads r w (take n near)) in
         Brings near far n homes (λ h. None) verdict
 
--- the five lists of a script
-module _ {C M : ℕ} (a : List (BeatOf HeadA C)) (b : List (BeatOf HeadB M))
-    (c : List (BeatOf HeadC C)) (d : List (BeatOf HeadD M)) (e : List (BeatOf HeadE C)) where
+-- the near beats of a script
+module _ {C M : ℕ} (near : Beats C M) where
+  -- they are such as memory can hold
+  pub record AreBeats : Type 0 where
+    pub a : All (λ x. IsBeat rules_a x) near.a
+    pub b : All (λ x. IsBeat rules_b x) near.b
+    pub c : All (λ x. IsBeat rules_c x) near.c
+    pub d : All (λ x. IsBeat rules_d x) near.d
+    pub e : All (λ x. IsBeat rules_e x) near.e
+
   -- They end at the one settled state of A and D, to which steps lead that accept admitted beats
   -- alone. There a request is held back while its source is busy, and a response other than
   -- ReleaseAck while no request of its source waits for it, or where that has another size. The
   -- home of a request is its address, that of a response the address of the request that it
   -- answers.
   pub record EndsInMessages : Type 0 where
-    pub settled : IsSettledState a d (settled_state a d)
-    pub admitted : (i j : ℕ) → Reaches (goes_a a d) (goes_d a d) i j → IsAtAdmitted a d i j
-    pub on_a : let s = settled_state a d in
-        Brings rules_a a (far_beats a b c d e).a s.a (map (λ h. h.address) (requests a d s.a))
-        (held_request a d s.a s.d) (verdicts a b c d e).a
-    pub on_b : BringsAlone rules_b b (far_beats a b c d e).b (verdicts a b c d e).b
-    pub on_c : BringsAlone rules_c c (far_beats a b c d e).c (verdicts a b c d e).c
-    pub on_d : let s = settled_state a d in
-        Brings rules_d d (far_beats a b c d e).d s.d
-        (homes_after (requests a d s.a) [] (responses a d s.d))
-        (held_response a d s.a s.d) (verdicts a b c d e).d
-    pub on_e : BringsAlone rules_e e (far_beats a b c d e).e (verdicts a b c d e).e
+    pub settled : IsSettledState near.a near.d (settled_state near.a near.d)
+    pub admitted : (i j : ℕ) → Reaches (goes_a near.a near.d) (goes_d near.a near.d) i j →
+        IsAtAdmitted near.a near.d i j
+    pub on_a : let s = settled_state near.a near.d in
+        Brings rules_a near.a (far_beats near).a s.a
+        (map (λ h. h.address) (requests near.a near.d s.a))
+        (held_request near.a near.d s.a s.d) (verdicts near).a
+    pub on_b : BringsAlone rules_b near.b (far_beats near).b (verdicts near).b
+    pub on_c : BringsAlone rules_c near.c (far_beats near).c (verdicts near).c
+    pub on_d : let s = settled_state near.a near.d in
+        Brings rules_d near.d (far_beats near).d s.d
+        (homes_after (requests near.a near.d s.a) [] (responses near.a near.d s.d))
+        (held_response near.a near.d s.a s.d) (verdicts near).d
+    pub on_e : BringsAlone rules_e near.e (far_beats near).e (verdicts near).e

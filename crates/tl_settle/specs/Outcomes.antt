@@ -59,13 +59,14 @@ module _ {C M : ℕ} (a : List (BeatOf HeadA C)) (d : List (BeatOf HeadD M)) whe
       verdict_of s.d (length (far_d a d s.d)) (left rules_d M (take s.d d))
       (option_map_or (λ b. stops_d a d s.a s.d b) (slice_get d s.d) None)
 
--- the far beats of the five channels: the manager side takes A, C and E, the client side B and D
-pub record FarBeats (C M : ℕ) : Type 0 where
-  pub a : List (BeatOf HeadA M)
-  pub b : List (BeatOf HeadB C)
-  pub c : List (BeatOf HeadC M)
-  pub d : List (BeatOf HeadD C)
-  pub e : List (BeatOf HeadE M)
+-- the beats of the five channels, those of A, C and E on C lanes and those of B and D on M lanes: the near beats of a script, on the lanes of
+-- their senders. Its far beats, on the lanes of their takers, are Beats M C
+pub record Beats (C M : ℕ) : Type 0 where
+  pub a : List (BeatOf HeadA C)
+  pub b : List (BeatOf HeadB M)
+  pub c : List (BeatOf HeadC C)
+  pub d : List (BeatOf HeadD M)
+  pub e : List (BeatOf HeadE C)
 
 pub record Verdicts : Type 0 where
   pub a : Verdict
@@ -74,22 +75,22 @@ pub record Verdicts : Type 0 where
   pub d : Verdict
   pub e : Verdict
 
--- what the five lists of a script end in
-module _ {C M : ℕ} (a : List (BeatOf HeadA C)) (b : List (BeatOf HeadB M)) (c : List (BeatOf HeadC C)) (d : List (BeatOf HeadD M)) (e : List (BeatOf HeadE C)) where
-  abbrev pub far_beats : FarBeats C M
+-- what the near beats of a script end in
+module _ {C M : ℕ} (near : Beats C M) where
+  abbrev pub far_beats : Beats M C
   far_beats = record {
-    a = settled_far_a a d;
-    b = far_alone rules_b C b;
-    c = far_alone rules_c M c;
-    d = settled_far_d a d;
-    e = far_alone rules_e M e;
+    a = settled_far_a near.a near.d;
+    b = far_alone rules_b C near.b;
+    c = far_alone rules_c M near.c;
+    d = settled_far_d near.a near.d;
+    e = far_alone rules_e M near.e;
   }
 
   abbrev pub verdicts : Verdicts
   verdicts = record {
-    a = verdict_a a d;
-    b = verdict_alone rules_b C b;
-    c = verdict_alone rules_c M c;
-    d = verdict_d a d;
-    e = verdict_alone rules_e M e;
+    a = verdict_a near.a near.d;
+    b = verdict_alone rules_b C near.b;
+    c = verdict_alone rules_c M near.c;
+    d = verdict_d near.a near.d;
+    e = verdict_alone rules_e M near.e;
   }

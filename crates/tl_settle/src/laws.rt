@@ -3,20 +3,18 @@
 ghost use Rattle.std.specs.Prelude.{◌≡◌, ◌<◌, ◌↔◌, ◌^◌, ◌++◌, ◌∷◌, [], ℕ, None, List, All};
 ghost use Rattle.tl_lanes.specs.Lanes.{IsWidth};
 ghost use Rattle.tl_msg.specs.declared.head.HeadA.{HeadA};
-ghost use Rattle.tl_msg.specs.declared.head.HeadB.{HeadB};
-ghost use Rattle.tl_msg.specs.declared.head.HeadC.{HeadC};
 ghost use Rattle.tl_msg.specs.declared.head.HeadD.{HeadD};
-ghost use Rattle.tl_msg.specs.declared.head.HeadE.{HeadE};
 ghost use Rattle.tl_msg.specs.declared.beat.BeatOf.{BeatOf};
 ghost use Rattle.tl_msg.specs.Beats.{IsBeat};
-ghost use Rattle.tl_msg.specs.Tables.{rules_a, rules_b, rules_c, rules_d, rules_e};
+ghost use Rattle.tl_msg.specs.Tables.{rules_a, rules_d};
 ghost use Rattle.tl_burst.specs.Handing.{IsHanded, IsHandedWith, IsAdmitted, homes_with, fault_after};
 ghost use Rattle.tl_convert.specs.Accepted.{AcceptedIsLongest};
 ghost use Rattle.tl_convert.specs.Laws.{DueIsOne, DueIsHanded};
 ghost use Rattle.tl_settle.specs.Steps.{Reaches};
 ghost use Rattle.tl_settle.specs.Settling.{IsSettledState, settled_state, goes_a, goes_d};
 ghost use Rattle.tl_settle.specs.Laws.{IsAtAdmitted, OpenIsLast};
-ghost use Rattle.tl_settle.specs.InMessages.{EndsInMessages};
+ghost use Rattle.tl_settle.specs.InMessages.{AreBeats, EndsInMessages};
+ghost use Rattle.tl_settle.specs.Outcomes.{Beats};
 ghost use Rattle.tl_settle.specs.Histories.{Event};
 ghost use Rattle.tl_settle.specs.Rounds.{IsOver, IsSettledRun};
 
@@ -59,7 +57,7 @@ pub fn open_request_is_last()
     ensures { OpenIsLast }
 {}
 
-/// What any five lists of beats that memory can hold end in, in whole messages. For each channel:
+/// What a script of beats that memory can hold ends in, in whole messages. For each channel:
 /// the beats that are accepted bring whole messages, one after the other, and then perhaps the
 /// first beats of one more; what arrives on the far side is their layout there, of the last one as
 /// much as has come, and no burst of it is interrupted; and the verdict is `Done` or `Cut` where
@@ -68,11 +66,7 @@ pub fn open_request_is_last()
 pub fn ends_in_messages<const C: usize, const M: usize>()
     requires client { IsWidth C }
     requires manager { IsWidth M }
-    ensures { (a : List (BeatOf HeadA C)) (b : List (BeatOf HeadB M))
-        (c : List (BeatOf HeadC C)) (d : List (BeatOf HeadD M)) (e : List (BeatOf HeadE C)) →
-        All (λ x. IsBeat rules_a x) a → All (λ x. IsBeat rules_b x) b →
-        All (λ x. IsBeat rules_c x) c → All (λ x. IsBeat rules_d x) d →
-        All (λ x. IsBeat rules_e x) e → EndsInMessages a b c d e }
+    ensures { (near : Beats C M) → AreBeats near → EndsInMessages near }
 {
     one_channel::<ChA, C, M>();
     one_channel::<ChB, M, C>();

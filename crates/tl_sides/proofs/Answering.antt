@@ -12,7 +12,7 @@ use Rattle.tl_msg.specs.declared.fault.SideFault.TheVariants.{Beat, SourceBusy}
 use Rattle.tl_burst.specs.Begun.{left}
 use Rattle.tl_burst.specs.Handing.{fault_after}
 use Rattle.tl_settle.specs.Histories.{Event, asked, answered, marks, open_request, client_answer, manager_answer}
-use Rattle.tl_sides.specs.Bridges.{stops_response}
+use Rattle.tl_sides.specs.Inner.Noting.{stops_response}
 
 -- the beat's fault comes first, and then, where it opens a message, what the side says
 abbrev gate : Option BeatFault → (opens : Bool) → Option SideFault → Option SideFault

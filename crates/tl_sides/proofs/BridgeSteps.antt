@@ -1,5 +1,5 @@
 -- Each call of a bridge takes it to what it stands for after the same events.
-use Rattle.std.proofs.Common.{◌≡◌, ◌↔◌, ℕ, zero, suc, Bool, true, false, cond, Option, None, Some, List, [], ◌∷◌, ◌++◌, map, length, take, drop, refl, sym, ap, subst, ◌∙◌, append-nil}
+use Rattle.std.proofs.Common.{◌≡◌, ◌↔◌, ℕ, zero, suc, Bool, true, false, cond, Option, None, Some, List, [], ◌∷◌, ◌++◌, map, length, take, drop, refl, sym, ap, subst, ◌∙◌, append-nil, append_assoc}
 use Rattle.std.specs.Prelude.{◌==◌, Result, Ok, Err, OnOk, OnErr, IsOk, IsErr, slice_get}
 use Rattle.tl_msg.specs.Rules.{Rules}
 use Rattle.tl_msg.specs.Firsts.{unless, ◌or_else◌}
@@ -16,12 +16,14 @@ use Rattle.tl_msg.specs.declared.beat.BeatOf.{BeatOf}
 use Rattle.tl_burst.specs.Begun.{left}
 use Rattle.tl_burst.specs.Handing.{rest_of, with_home}
 use Rattle.tl_convert.specs.Due.{due}
-use Rattle.tl_ring.specs.Crossing.{World, offered, took}
+use Rattle.tl_ring.specs.Crossing.{World, offered}
 use Rattle.tl_ring.specs.Pipe.{Pipe}
 use Rattle.tl_ring.specs.Pipe as piping
 use Rattle.tl_settle.specs.Histories.{Event, Ask, Answer, Mark, Asks, Answers, asked, answered, marks, home_after, homes_from, manager_home, manager_homes}
 use Rattle.tl_sides.specs.Books.{Client, Manager, KnowsClient, KnowsManager}
-use Rattle.tl_sides.specs.Bridges.{Bridge, Past, StandsFor, begun_with, after_offer_a, after_offer_d, after_take_a, after_take_d}
+use Rattle.tl_sides.specs.Inner.Noting.{begun_with}
+use Rattle.tl_sides.specs.Crossings.{ClientAsks, ManagerIsAsked, ManagerAnswers, ClientIsAnswered}
+use Rattle.tl_sides.specs.Bridges.{Bridge, Past, StandsFor}
 use Rattle.tl_convert.proofs.Comparisons.{equal_true, not_equal}
 use Rattle.tl_settle.proofs.Homes.{from_ask, from_answer}
 use Rattle.tl_settle.proofs.Marks.{asked_ask, asked_answer, answered_ask, answered_answer, marks_ask_first, marks_ask_inside, marks_answer_first, marks_answer_inside}
@@ -87,29 +89,72 @@ same_homes : {w : ℕ} (homes : List ℕ) (home other : ℕ) (rest : List (BeatO
 same_homes homes home other [] n f e = ap (λ x. homes ++ x ∷ []) (e (f.1 refl))
 same_homes homes home other (x ∷ rest) n f e = refl
 
+-- the requests of a history, and its responses, with so many more of either
+pub asked_answers : {w : ℕ} (es : List (Event w)) (bs : List (BeatOf HeadD w)) → asked (es ++ map Answer bs) ≡ asked es
+asked_answers [] [] = refl
+asked_answers [] (b ∷ bs) = asked_answers [] bs
+asked_answers (Ask b ∷ es) bs = ap (λ q. b ∷ q) (asked_answers es bs)
+asked_answers (Answer b ∷ es) bs = asked_answers es bs
+
+pub answered_asks : {w : ℕ} (es : List (Event w)) (bs : List (BeatOf HeadA w)) → answered (es ++ map Ask bs) ≡ answered es
+answered_asks [] [] = refl
+answered_asks [] (b ∷ bs) = answered_asks [] bs
+answered_asks (Ask b ∷ es) bs = answered_asks es bs
+answered_asks (Answer b ∷ es) bs = ap (λ q. b ∷ q) (answered_asks es bs)
+
+-- requests give no message of D a home
+pub homes_asks : {w : ℕ} (es : List (Event w)) (bs : List (BeatOf HeadA w)) → manager_homes (es ++ map Ask bs) ≡ manager_homes es
+homes_asks es [] = ap manager_homes (append-nil es)
+homes_asks es (b ∷ bs) = ap manager_homes (sym (append_assoc es (Ask b ∷ []) (map Ask bs))) ∙ homes_asks (es ++ Ask b ∷ []) bs ∙ homes_ask es b
+
 -- the first beat of an inbox is taken, if there is one
-module _ {w : ℕ} (es : List (Event w)) where
-  asked_taken_a : (bs : List (BeatOf HeadA w)) → asked (es ++ map Ask (take 1 bs)) ≡ asked es ++ take 1 bs
-  asked_taken_a [] = ap asked (append-nil es) ∙ sym (append-nil (asked es))
-  asked_taken_a (b ∷ bs) = asked_ask es b
+pub asked_taken : {w : ℕ} (es : List (Event w)) (bs : List (BeatOf HeadA w)) → asked (es ++ map Ask (take 1 bs)) ≡ asked es ++ take 1 bs
+asked_taken es [] = ap asked (append-nil es) ∙ sym (append-nil (asked es))
+asked_taken es (b ∷ bs) = asked_ask es b
 
-  answered_taken_a : (bs : List (BeatOf HeadA w)) → answered (es ++ map Ask (take 1 bs)) ≡ answered es
-  answered_taken_a [] = ap answered (append-nil es)
-  answered_taken_a (b ∷ bs) = answered_ask es b
+pub answered_taken : {w : ℕ} (es : List (Event w)) (bs : List (BeatOf HeadD w)) → answered (es ++ map Answer (take 1 bs)) ≡ answered es ++ take 1 bs
+answered_taken es [] = ap answered (append-nil es) ∙ sym (append-nil (answered es))
+answered_taken es (b ∷ bs) = answered_answer es b
 
-  homes_taken_a : (bs : List (BeatOf HeadA w)) → manager_homes (es ++ map Ask (take 1 bs)) ≡ manager_homes es
-  homes_taken_a [] = ap manager_homes (append-nil es)
-  homes_taken_a (b ∷ bs) = homes_ask es b
-
-  asked_taken_d : (bs : List (BeatOf HeadD w)) → asked (es ++ map Answer (take 1 bs)) ≡ asked es
-  asked_taken_d [] = ap asked (append-nil es)
-  asked_taken_d (b ∷ bs) = asked_answer es b
-
-  answered_taken_d : (bs : List (BeatOf HeadD w)) → answered (es ++ map Answer (take 1 bs)) ≡ answered es ++ take 1 bs
-  answered_taken_d [] = ap answered (append-nil es) ∙ sym (append-nil (answered es))
-  answered_taken_d (b ∷ bs) = answered_answer es b
+-- a beat of D is accepted at its end, where the book gives its message the home that the history says
+pub answered_more : {C M : ℕ} (es : List (Event M)) (x : World HeadD M C) (book : Manager) (p : Pipe HeadD C) (b : BeatOf HeadD M) (home : ℕ) →
+    answered es ≡ x.accepted → manager_homes es ≡ x.homes → (left rules_d M x.accepted ≡ 0) ↔ (rest_of rules_d M x.accepted ≡ []) →
+    piping.StandsFor rules_d p (offered rules_d b home x) → (left rules_d M x.accepted ≡ 0 → home ≡ manager_home es b.head) →
+    KnowsManager book (es ++ Answer b ∷ []) → ManagerAnswers book p (es ++ Answer b ∷ []) (offered rules_d b (manager_home es b.head) x)
+answered_more {C} {M} es x book p b home same homes between k right noted =
+    let given : ℕ = manager_home es b.head in
+    let homes_same : with_home rules_d home (rest_of rules_d M x.accepted) x.homes ≡ with_home rules_d given (rest_of rules_d M x.accepted) x.homes =
+    same_homes x.homes home given (rest_of rules_d M x.accepted) (left rules_d M x.accepted) between right in
+    let crossed : offered rules_d b home x ≡ offered rules_d b given x =
+    ap (λ hs. record x {
+      accepted = x.accepted ++ b ∷ [];
+      homes = hs;
+      stage = drop (length (due rules_d M C x.accepted x.homes)) (due rules_d M C (x.accepted ++ b ∷ []) hs);
+    }) homes_same in
+    record {
+      knows = noted;
+      stands = subst (λ (y : World HeadD M C). piping.StandsFor rules_d p y) crossed k;
+      same = answered_answer es b ∙ ap (λ q. q ++ b ∷ []) same;
+      homes = homes_answer es b ∙
+          ap (λ q. manager_homes es ++ cond (left rules_d M q == 0) (given ∷ []) []) same ∙
+          ap (λ q. q ++ cond (left rules_d M x.accepted == 0) (given ∷ []) []) homes ∙
+          homes_opened b x.homes given (rest_of rules_d M x.accepted) (left rules_d M x.accepted) between;
+    }
 
 module _ {C M : ℕ} (s : Bridge C M) (x : Past C M) (h : StandsFor s x) where
+  -- the ends of A and D in the hands of their sides
+  pub client_asks : ClientAsks s.client s.a x.client x.a
+  client_asks = record { knows = h.client; stands = h.a; same = h.client_asked }
+
+  pub manager_is_asked : ManagerIsAsked s.manager s.a x.manager x.a
+  manager_is_asked = record { knows = h.manager; stands = h.a; same = h.manager_asked }
+
+  pub manager_answers : ManagerAnswers s.manager s.d x.manager x.d
+  manager_answers = record { knows = h.manager; stands = h.d; same = h.manager_answered; homes = h.homes }
+
+  pub client_is_answered : ClientIsAnswered s.client s.d x.client x.d
+  client_is_answered = record { knows = h.client; stands = h.d; same = h.client_answered }
+
   -- what happens between the ends of a crossing, or closes it
   pub with_a : (p : Pipe HeadA M) (y : World HeadA C M) → piping.StandsFor rules_a p y → y.accepted ≡ x.a.accepted → y.taken ≡ x.a.taken →
       StandsFor (record s { a = p }) (record x { a = y })
@@ -193,94 +238,100 @@ module _ {C M : ℕ} (s : Bridge C M) (x : Past C M) (h : StandsFor s x) where
     manager = h.manager;
   }
 
-  -- a beat of A is accepted
-  pub offered_a : (p : Pipe HeadA M) (b : BeatOf HeadA C) (book : Client) → piping.StandsFor rules_a p (offered rules_a b 0 x.a) →
-      KnowsClient book (x.client ++ Ask b ∷ []) → StandsFor (record s { a = p; client = book }) (after_offer_a b x)
-  offered_a p b book k noted = record {
-    a = k;
+  -- the client's side offers on A, where its history gets so many requests more
+  pub asks_on : (p : Pipe HeadA M) (book : Client) (bs : List (BeatOf HeadA C)) (y : World HeadA C M) → y.taken ≡ x.a.taken →
+      ClientAsks book p (x.client ++ map Ask bs) y → StandsFor (record s { a = p; client = book }) (record x { client = x.client ++ map Ask bs; a = y })
+  asks_on p book bs y taken k = record {
+    a = k.stands;
     b = h.b;
     c = h.c;
     d = h.d;
     e = h.e;
-    client_asked = asked_ask x.client b ∙ ap (λ q. q ++ b ∷ []) h.client_asked;
-    client_answered = answered_ask x.client b ∙ h.client_answered;
-    manager_asked = h.manager_asked;
+    client_asked = k.same;
+    client_answered = answered_asks x.client bs ∙ h.client_answered;
+    manager_asked = h.manager_asked ∙ sym taken;
     manager_answered = h.manager_answered;
     homes = h.homes;
-    client = noted;
+    client = k.knows;
     manager = h.manager;
   }
 
-  -- a beat of D is accepted
-  pub offered_d : (p : Pipe HeadD C) (b : BeatOf HeadD M) (home : ℕ) (book : Manager) →
-      (left rules_d M x.d.accepted ≡ 0) ↔ (rest_of rules_d M x.d.accepted ≡ []) → piping.StandsFor rules_d p (offered rules_d b home x.d) →
-      (left rules_d M x.d.accepted ≡ 0 → home ≡ manager_home x.manager b.head) →
-      KnowsManager book (x.manager ++ Answer b ∷ []) → StandsFor (record s { d = p; manager = book }) (after_offer_d b x)
-  offered_d p b home book between k right noted =
-      let given : ℕ = manager_home x.manager b.head in
-      let homes_same : with_home rules_d home (rest_of rules_d M x.d.accepted) x.d.homes ≡ with_home rules_d given (rest_of rules_d M x.d.accepted) x.d.homes =
-      same_homes x.d.homes home given (rest_of rules_d M x.d.accepted) (left rules_d M x.d.accepted) between right in
-      let homes_now : manager_homes (x.manager ++ Answer b ∷ []) ≡ with_home rules_d given (rest_of rules_d M x.d.accepted) x.d.homes =
-      homes_answer x.manager b ∙
-      ap (λ q. manager_homes x.manager ++ cond (left rules_d M q == 0) (given ∷ []) []) h.manager_answered ∙
-      ap (λ q. q ++ cond (left rules_d M x.d.accepted == 0) (given ∷ []) []) h.homes ∙
-      homes_opened b x.d.homes given (rest_of rules_d M x.d.accepted) (left rules_d M x.d.accepted) between in
-      let crossed : offered rules_d b home x.d ≡ offered rules_d b given x.d =
-      ap (λ hs. record x.d {
-        accepted = x.d.accepted ++ b ∷ [];
-        homes = hs;
-        stage = drop (length (due rules_d M C x.d.accepted x.d.homes)) (due rules_d M C (x.d.accepted ++ b ∷ []) hs);
-      }) homes_same in
-      record {
-        a = h.a;
-        b = h.b;
-        c = h.c;
-        d = subst (λ (y : World HeadD M C). piping.StandsFor rules_d p y) crossed k;
-        e = h.e;
-        client_asked = h.client_asked;
-        client_answered = h.client_answered;
-        manager_asked = asked_answer x.manager b ∙ h.manager_asked;
-        manager_answered = answered_answer x.manager b ∙ ap (λ q. q ++ b ∷ []) h.manager_answered;
-        homes = homes_now;
-        client = h.client;
-        manager = noted;
-      }
-
-  -- a beat of A is taken, or none
-  pub taken_a : (p : Pipe HeadA M) (book : Manager) → piping.StandsFor rules_a p (took x.a) →
-      KnowsManager book (x.manager ++ map Ask (take 1 x.a.inbox)) → StandsFor (record s { a = p; manager = book }) (after_take_a x)
-  taken_a p book k noted = record {
-    a = k;
-    b = h.b;
-    c = h.c;
-    d = h.d;
-    e = h.e;
-    client_asked = h.client_asked;
-    client_answered = h.client_answered;
-    manager_asked = asked_taken_a x.manager x.a.inbox ∙ ap (λ q. q ++ take 1 x.a.inbox) h.manager_asked;
-    manager_answered = answered_taken_a x.manager x.a.inbox ∙ h.manager_answered;
-    homes = homes_taken_a x.manager x.a.inbox ∙ h.homes;
-    client = h.client;
-    manager = noted;
-  }
-
-  -- a beat of D is taken, or none
-  pub taken_d : (p : Pipe HeadD C) (book : Client) → piping.StandsFor rules_d p (took x.d) →
-      KnowsClient book (x.client ++ map Answer (take 1 x.d.inbox)) → StandsFor (record s { d = p; client = book }) (after_take_d x)
-  taken_d p book k noted = record {
+  -- the manager's side offers on D
+  pub answers_on : (p : Pipe HeadD C) (book : Manager) (bs : List (BeatOf HeadD M)) (y : World HeadD M C) → y.taken ≡ x.d.taken →
+      ManagerAnswers book p (x.manager ++ map Answer bs) y → StandsFor (record s { d = p; manager = book }) (record x { manager = x.manager ++ map Answer bs; d = y })
+  answers_on p book bs y taken k = record {
     a = h.a;
     b = h.b;
     c = h.c;
-    d = k;
+    d = k.stands;
     e = h.e;
-    client_asked = asked_taken_d x.client x.d.inbox ∙ h.client_asked;
-    client_answered = answered_taken_d x.client x.d.inbox ∙ ap (λ q. q ++ take 1 x.d.inbox) h.client_answered;
+    client_asked = h.client_asked;
+    client_answered = h.client_answered ∙ sym taken;
+    manager_asked = asked_answers x.manager bs ∙ h.manager_asked;
+    manager_answered = k.same;
+    homes = k.homes;
+    client = h.client;
+    manager = k.knows;
+  }
+
+  -- the manager's side takes on A
+  pub asked_on : (p : Pipe HeadA M) (book : Manager) (bs : List (BeatOf HeadA M)) (y : World HeadA C M) → y.accepted ≡ x.a.accepted →
+      ManagerIsAsked book p (x.manager ++ map Ask bs) y → StandsFor (record s { a = p; manager = book }) (record x { manager = x.manager ++ map Ask bs; a = y })
+  asked_on p book bs y accepted k = record {
+    a = k.stands;
+    b = h.b;
+    c = h.c;
+    d = h.d;
+    e = h.e;
+    client_asked = h.client_asked ∙ sym accepted;
+    client_answered = h.client_answered;
+    manager_asked = k.same;
+    manager_answered = answered_asks x.manager bs ∙ h.manager_answered;
+    homes = homes_asks x.manager bs ∙ h.homes;
+    client = h.client;
+    manager = k.knows;
+  }
+
+  -- the client's side takes on D
+  pub answered_on : (p : Pipe HeadD C) (book : Client) (bs : List (BeatOf HeadD C)) (y : World HeadD M C) → y.accepted ≡ x.d.accepted → y.homes ≡ x.d.homes →
+      ClientIsAnswered book p (x.client ++ map Answer bs) y → StandsFor (record s { d = p; client = book }) (record x { client = x.client ++ map Answer bs; d = y })
+  answered_on p book bs y accepted homes k = record {
+    a = h.a;
+    b = h.b;
+    c = h.c;
+    d = k.stands;
+    e = h.e;
+    client_asked = asked_answers x.client bs ∙ h.client_asked;
+    client_answered = k.same;
     manager_asked = h.manager_asked;
-    manager_answered = h.manager_answered;
-    homes = h.homes;
-    client = noted;
+    manager_answered = h.manager_answered ∙ sym accepted;
+    homes = h.homes ∙ sym homes;
+    client = k.knows;
     manager = h.manager;
   }
+
+-- a refusal that changes none of the parts changes nothing
+module _ {C M : ℕ} (s : Bridge C M) where
+  pub same_a : (p : Pipe HeadA M) → p ≡ s.a → record s { a = p } ≡ s
+  same_a p e = ap (λ q. record s { a = q }) e
+
+  pub same_b : (p : Pipe HeadB C) → p ≡ s.b → record s { b = p } ≡ s
+  same_b p e = ap (λ q. record s { b = q }) e
+
+  pub same_c : (p : Pipe HeadC M) → p ≡ s.c → record s { c = p } ≡ s
+  same_c p e = ap (λ q. record s { c = q }) e
+
+  pub same_d : (p : Pipe HeadD C) → p ≡ s.d → record s { d = p } ≡ s
+  same_d p e = ap (λ q. record s { d = q }) e
+
+  pub same_e : (p : Pipe HeadE M) → p ≡ s.e → record s { e = p } ≡ s
+  same_e p e = ap (λ q. record s { e = q }) e
+
+  pub same_request : (p : Pipe HeadA M) (book : Client) → (book ≡ s.client) × (p ≡ s.a) → record s { a = p; client = book } ≡ s
+  same_request p book e = ap (λ q. record s { a = q; client = book }) e.1 ∙ ap (λ q. record s { client = q }) e.0
+
+  pub same_response : (p : Pipe HeadD C) (book : Manager) → (book ≡ s.manager) × (p ≡ s.d) → record s { d = p; manager = book } ≡ s
+  same_response p book e = ap (λ q. record s { d = q; manager = book }) e.1 ∙ ap (λ q. record s { manager = q }) e.0
 
 -- what an Ok shows, from what it has shown
 pub on_ok_to : {T E P Q : Type 0} (r : Result T E) → (P → Q) → OnOk r P → OnOk r Q

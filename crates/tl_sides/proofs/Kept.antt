@@ -5,7 +5,7 @@ use Rattle.tl_sides.specs.declared.tables.Request.{Request}
 use Rattle.tl_settle.specs.Requests.{is_release_ack}
 use Rattle.tl_settle.specs.Histories.{Mark, Answers}
 use Rattle.tl_sides.specs.Tables.{AreBusy, AreOpen}
-use Rattle.tl_sides.specs.Bridges.{begun_with}
+use Rattle.tl_sides.specs.Inner.Noting.{begun_with}
 use Rattle.tl_sides.proofs.Entries.{acknowledged_busy, acknowledged_open}
 
 pub kept_busy : (first : Bool) (t : List Bool) (ms : List Mark) (h : HeadD) → (first ≡ true → is_release_ack h ≡ true) → AreBusy t ms →

@@ -1,8 +1,6 @@
 -- What a contract sees of the bridge of both sides in one thread: five crossings, and what each side has seen of A and D. A, C and E cross
 -- from the client's side, at width C, to the manager's, at width M; B and D cross back (this project's choice).
-use Rattle.std.specs.Prelude.{◌≡◌, ◌-◌, ◌+◌, ◌++◌, ℕ, Bool, Option, None, Some, List, [], ◌∷◌, length, map, take, min, if◌then◌else◌}
-use Rattle.std.specs.Option.{option_map_or}
-use Rattle.tl_msg.specs.Rules.{Rules}
+use Rattle.std.specs.Prelude.{◌≡◌, ◌-◌, ◌+◌, ◌++◌, ℕ, List, [], ◌∷◌, length, map, take, min}
 use Rattle.tl_msg.specs.Tables.{rules_a, rules_b, rules_c, rules_d, rules_e}
 use Rattle.tl_msg.specs.declared.head.HeadA.{HeadA}
 use Rattle.tl_msg.specs.declared.head.HeadB.{HeadB}
@@ -10,15 +8,11 @@ use Rattle.tl_msg.specs.declared.head.HeadC.{HeadC}
 use Rattle.tl_msg.specs.declared.head.HeadD.{HeadD}
 use Rattle.tl_msg.specs.declared.head.HeadE.{HeadE}
 use Rattle.tl_msg.specs.declared.beat.BeatOf.{BeatOf}
-use Rattle.tl_msg.specs.declared.fault.SideFault.{SideFault}
-use Rattle.tl_msg.specs.declared.fault.SideFault.TheVariants.{Beat}
-use Rattle.tl_burst.specs.Handing.{fault_after}
 use Rattle.tl_ring.specs.Crossing.{World, empty, offered, pushed, popped, took, shut, inbox_room}
 use Rattle.tl_ring.specs.Pipe.{Pipe}
 use Rattle.tl_ring.specs.Pipe as piping
 use Rattle.tl_ring.specs.declared.standing.Standing.{Standing}
-use Rattle.tl_settle.specs.Requests.{is_release_ack}
-use Rattle.tl_settle.specs.Histories.{Event, Ask, Answer, Mark, asked, answered, open_request, to_request, manager_home, manager_homes}
+use Rattle.tl_settle.specs.Histories.{Event, Ask, Answer, asked, answered, manager_home, manager_homes}
 use Rattle.tl_sides.specs.Books.{Client, Manager, KnowsClient, KnowsManager}
 
 -- a bridge as it is now: it keeps no history
@@ -60,18 +54,6 @@ pub record StandsFor {C M : ℕ} (s : Bridge C M) (x : Past C M) : Type 0 where
   -- each side's book is kept up to its history
   pub client : KnowsClient s.client x.client
   pub manager : KnowsManager s.manager x.manager
-
--- what stops a beat on a channel that nothing couples to another one; None is Ok
-abbrev pub stops_alone : {H : Type 0} (r : Rules H) {w : ℕ} → List (BeatOf H w) → BeatOf H w → Option SideFault
-stops_alone r bs b = option_map_or (λ fault. Some (Beat fault)) (fault_after r bs b) None
-
--- what the open requests say to a response that opens a message; None is Ok
-abbrev pub stops_response : List Mark → HeadD → Option SideFault
-stops_response ms h = if is_release_ack h then None else to_request (open_request h.source ms) h
-
--- the messages that have begun, with one more where a beat is a first one
-abbrev pub begun_with : (first : Bool) → Mark → List Mark → List Mark
-begun_with first m ms = if first then ms ++ m ∷ [] else ms
 
 -- how many beats a pump moves, and a fetch
 abbrev pub pump_count : {H : Type 0} {v : ℕ} → Pipe H v → ℕ

@@ -1,5 +1,4 @@
-//! What each side of the bridge keeps between its calls: which requests wait for a response, and where the beats that it takes begin
-//! a message.
+//! What each side of the bridge knows: its book, kept up to the history of its own beats of A and D.
 ghost use Rattle.std.specs.Prelude.{◌≡◌, ◌↔◌, ◌++◌, ◌∷◌, [], Bool, List, true, false, Some, None, IsOk, IfOk, IfErr, OnOk, OnErr};
 ghost use Rattle.std.specs.Option.{is_some};
 ghost use Rattle.tl_lanes.specs.Lanes.{IsWidth};
@@ -13,7 +12,7 @@ ghost use Rattle.tl_settle.specs.Requests.{is_release_ack};
 ghost use Rattle.tl_settle.specs.Histories.{Event, Ask, Answer, Mark, Asks, Answers, asked, answered, client_answer, manager_answer, manager_home, open_request, home_after};
 ghost use Rattle.tl_sides.specs.Tables.{AreBusy, AreOpen};
 ghost use Rattle.tl_sides.specs.Books.{KnowsClient, KnowsManager, IsNext};
-ghost use Rattle.tl_sides.specs.Bridges.{begun_with, stops_response};
+ghost use Rattle.tl_sides.specs.Inner.Noting.{begun_with, stops_response};
 
 use crate::tables::{Request, RequestTable, SourceTable};
 use std::marker::Model;
@@ -23,10 +22,14 @@ use tl_msg::{ChA, ChD, HeadA, HeadD, SideFault};
 /// The opcode of ReleaseAck, which answers a message of channel C, and no request (TileLink: opcode tables).
 const RELEASE_ACK: u8 = 6;
 
-// The book of the client's side, on a bus of `C` bytes: it asks on A and is answered on D. `KnowsClient` says up to which history of
-// the side's own beats it is kept.
+/// What the client's side, on a bus of `C` bytes, keeps of the beats of A that it offers and of the
+/// beats of D that it takes: which sources are busy, and where it stands in D. It decides whether a
+/// request may go. Whoever holds the side's ends of A and D calls it, once for each beat.
+///
+/// A source is busy from the first beat of its request, accepted on A, until the first beat of the
+/// response is taken on D (TileLink: source of requests; the moments: this project's choice).
 #[derive(Drop)]
-pub(crate) struct ClientBook<const C: usize> {
+pub struct ClientBook<const C: usize> {
     sources: SourceTable,
     responses: BurstCounter<ChD, C>,
 }
@@ -40,8 +43,8 @@ impl<const C: usize> Model for ClientBook<C> {
 }
 
 impl<const C: usize> ClientBook<C> {
-    // The book of a side that has no history.
-    pub(crate) fn new() -> Self
+    /// The book of a side that has accepted and taken nothing yet.
+    pub fn new() -> Self
         ensures { KnowsClient {w = C} result [] }
     {
         ClientBook {
@@ -50,15 +53,19 @@ impl<const C: usize> ClientBook<C> {
         }
     }
 
-    // Asks whether a beat of A may go that has no fault of its own and stands at this place, and notes it where it may. Else nothing
-    // changes.
-    pub(crate) fn ask(&mut self, place: &Place<ChA>) -> Result<(), SideFault>
+    /// Asks whether a beat of A may go that has no fault of its own and stands at this place, and
+    /// notes it where it may. It is refused with `SourceBusy` exactly where it opens a message and
+    /// its source is busy, and nothing changes then.
+    pub fn ask(&mut self, place: &Place<ChA>) -> Result<(), SideFault>
         // for every history that the book knows
-        ensures admitted { (es : List (Event C)) (b : BeatOf HeadA C) → KnowsClient self.old es → IsNext rules_a (asked es) b place.now →
+        ensures admitted { (es : List (Event C)) (b : BeatOf HeadA C) → KnowsClient self.old es →
+            IsNext rules_a (asked es) b place.now →
             IsOk result ↔ (client_answer es b ≡ None) }
-        ensures noted { (es : List (Event C)) (b : BeatOf HeadA C) → KnowsClient self.old es → IsNext rules_a (asked es) b place.now →
+        ensures noted { (es : List (Event C)) (b : BeatOf HeadA C) → KnowsClient self.old es →
+            IsNext rules_a (asked es) b place.now →
             OnOk result (KnowsClient self.new (es ++ Ask b ∷ [])) }
-        ensures fault { (es : List (Event C)) (b : BeatOf HeadA C) → KnowsClient self.old es → IsNext rules_a (asked es) b place.now →
+        ensures fault { (es : List (Event C)) (b : BeatOf HeadA C) → KnowsClient self.old es →
+            IsNext rules_a (asked es) b place.now →
             IfErr result (λ fault. client_answer es b ≡ Some fault) }
         // for every book
         ensures refused { OnErr result (self.new ≡ self.old) }
@@ -69,8 +76,8 @@ impl<const C: usize> ClientBook<C> {
         Ok(())
     }
 
-    // Notes that the side takes a beat of D with this head.
-    pub(crate) fn note_answer(&mut self, head: &HeadD)
+    /// Notes that the side takes a beat of D with this head, which no fault of its own stops.
+    pub fn note_answer(&mut self, head: &HeadD)
         requires width { IsWidth C }
         requires lawful { rules_d.fault head.now ≡ None }
         ensures { (es : List (Event C)) (b : BeatOf HeadD C) → KnowsClient self.old es → b.head ≡ head.now →
@@ -82,10 +89,15 @@ impl<const C: usize> ClientBook<C> {
     }
 }
 
-// The book of the manager's side, on a bus of `M` bytes: it is asked on A and answers on D. `KnowsManager` says up to which history
-// of the side's own beats it is kept.
+/// What the manager's side, on a bus of `M` bytes, keeps of the beats of A that it takes and of the
+/// beats of D that it offers: the open requests, and where it stands in A. It decides whether a
+/// response may go, and at which address it stands. Whoever holds the side's ends of A and D calls
+/// it, once for each beat.
+///
+/// A request is open from its first beat, taken on A, until the first beat of the response is
+/// accepted on D (TileLink: source and size of responses; the moments: this project's choice).
 #[derive(Drop)]
-pub(crate) struct ManagerBook<const M: usize> {
+pub struct ManagerBook<const M: usize> {
     requests: RequestTable,
     asks: BurstCounter<ChA, M>,
 }
@@ -99,8 +111,8 @@ impl<const M: usize> Model for ManagerBook<M> {
 }
 
 impl<const M: usize> ManagerBook<M> {
-    // The book of a side that has no history.
-    pub(crate) fn new() -> Self
+    /// The book of a side that has accepted and taken nothing yet.
+    pub fn new() -> Self
         ensures { KnowsManager {w = M} result [] }
     {
         ManagerBook {
@@ -109,17 +121,24 @@ impl<const M: usize> ManagerBook<M> {
         }
     }
 
-    // Asks whether a beat of D may go that has no fault of its own and stands at this place, and notes it where it may, with its home
-    // as the answer where it opens a message. Else nothing changes.
-    pub(crate) fn answer(&mut self, place: &Place<ChD>) -> Result<u64, SideFault>
+    /// Asks whether a beat of D may go that has no fault of its own and stands at this place, and
+    /// notes it where it may. Where it opens a message, the answer is the message's home: the
+    /// address of its request in bytes, and 0 for ReleaseAck. It is refused with `NoRequest` exactly
+    /// where it opens a message other than ReleaseAck and its source has no open request, with
+    /// `SizeMismatch` exactly where that request has another size, and nothing changes then.
+    pub fn answer(&mut self, place: &Place<ChD>) -> Result<u64, SideFault>
         // for every history that the book knows
-        ensures admitted { (es : List (Event M)) (b : BeatOf HeadD M) → KnowsManager self.old es → IsNext rules_d (answered es) b place.now →
+        ensures admitted { (es : List (Event M)) (b : BeatOf HeadD M) → KnowsManager self.old es →
+            IsNext rules_d (answered es) b place.now →
             IsOk result ↔ (manager_answer es b ≡ None) }
-        ensures noted { (es : List (Event M)) (b : BeatOf HeadD M) → KnowsManager self.old es → IsNext rules_d (answered es) b place.now →
+        ensures noted { (es : List (Event M)) (b : BeatOf HeadD M) → KnowsManager self.old es →
+            IsNext rules_d (answered es) b place.now →
             OnOk result (KnowsManager self.new (es ++ Answer b ∷ [])) }
-        ensures home { (es : List (Event M)) (b : BeatOf HeadD M) → KnowsManager self.old es → IsNext rules_d (answered es) b place.now →
+        ensures home { (es : List (Event M)) (b : BeatOf HeadD M) → KnowsManager self.old es →
+            IsNext rules_d (answered es) b place.now →
             left rules_d M (answered es) ≡ 0 → IfOk result (λ home. home ≡ manager_home es b.head) }
-        ensures fault { (es : List (Event M)) (b : BeatOf HeadD M) → KnowsManager self.old es → IsNext rules_d (answered es) b place.now →
+        ensures fault { (es : List (Event M)) (b : BeatOf HeadD M) → KnowsManager self.old es →
+            IsNext rules_d (answered es) b place.now →
             IfErr result (λ fault. manager_answer es b ≡ Some fault) }
         // for every book
         ensures refused { OnErr result (self.new ≡ self.old) }
@@ -130,8 +149,8 @@ impl<const M: usize> ManagerBook<M> {
         Ok(home)
     }
 
-    // Notes that the side takes a beat of A with this head.
-    pub(crate) fn note_ask(&mut self, head: &HeadA)
+    /// Notes that the side takes a beat of A with this head, which no fault of its own stops.
+    pub fn note_ask(&mut self, head: &HeadA)
         requires width { IsWidth M }
         requires lawful { rules_a.fault head.now ≡ None }
         ensures { (es : List (Event M)) (b : BeatOf HeadA M) → KnowsManager self.old es → b.head ≡ head.now →
@@ -151,11 +170,7 @@ fn is_release_ack(head: &HeadD) -> bool
 }
 
 // Asks whether the source of a request is free, where it opens a message.
-fn ask_for_source(
-    sources: &SourceTable,
-    head: &HeadA,
-    first: bool,
-) -> Result<(), SideFault>
+fn ask_for_source(sources: &SourceTable, head: &HeadA, first: bool) -> Result<(), SideFault>
     ensures refused { (ms : List Mark) → AreBusy sources.now ms → IfErr result (λ fault. (fault ≡ SourceBusy) × (first ≡ true) × (is_some (open_request head.now.source ms) ≡ true)) }
     ensures free { (ms : List Mark) → AreBusy sources.now ms → OnOk result (first ≡ true → is_some (open_request head.now.source ms) ≡ false) }
 {
@@ -166,11 +181,7 @@ fn ask_for_source(
 }
 
 // Asks for the home of a response, where it opens a message: the address of the request that it answers, and 0 for ReleaseAck.
-fn ask_for_home(
-    requests: &RequestTable,
-    head: &HeadD,
-    first: bool,
-) -> Result<u64, SideFault>
+fn ask_for_home(requests: &RequestTable, head: &HeadD, first: bool) -> Result<u64, SideFault>
     ensures refused { (ms : List Mark) → AreOpen requests.now ms → IfErr result (λ fault. (first ≡ true) × (stops_response ms head.now ≡ Some fault)) }
     ensures home { (ms : List Mark) → AreOpen requests.now ms → IfOk result (λ home. first ≡ true → (stops_response ms head.now ≡ None) × (home ≡ home_after ms head.now)) }
 {

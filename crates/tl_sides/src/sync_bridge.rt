@@ -2,33 +2,25 @@
 ghost use Rattle.std.specs.Prelude.{◌≡◌, ◌≤◌, ◌<◌, ◌↔◌, ◌⊎◌, [], None, Some, true, slice_get, IsOk, IsTrue, IfOk, IfErr, OnOk, OnErr};
 ghost use Rattle.tl_lanes.specs.Lanes.{IsWidth};
 ghost use Rattle.tl_msg.specs.Tables.{rules_a, rules_b, rules_c, rules_d, rules_e};
-ghost use Rattle.tl_burst.specs.Handing.{rest_of, fault_after};
-ghost use Rattle.tl_ring.specs.Crossing.{World, offered};
+ghost use Rattle.tl_burst.specs.Handing.{rest_of};
 ghost use Rattle.tl_ring.specs.Pipe.{IsReady};
-ghost use Rattle.tl_ring.specs.Pipe as piping;
 ghost use Rattle.tl_settle.specs.Histories.{client_answer, manager_answer};
-ghost use Rattle.tl_sides.specs.Bridges.{Past, StandsFor, IsStanding, stops_alone, nothing_yet, all_pumped, all_fetched, after_pump, after_fetch};
+ghost use Rattle.tl_sides.specs.Bridges.{Past, StandsFor, IsStanding, nothing_yet, all_pumped, all_fetched, after_pump, after_fetch};
+ghost use Rattle.tl_sides.specs.Crossings.{stops_alone};
 ghost use Rattle.tl_sides.specs.Bridges.{after_offer_a, after_offer_b, after_offer_c, after_offer_d, after_offer_e};
 ghost use Rattle.tl_sides.specs.Bridges.{after_take_a, after_take_b, after_take_c, after_take_d, after_take_e};
 ghost use Rattle.tl_sides.specs.Bridges.{after_close_a, after_close_b, after_close_c, after_close_d, after_close_e};
 
 use crate::books::{ClientBook, ManagerBook};
+use crate::crossing::{offer_alone, offer_request, offer_response, take_request, take_response};
+use crate::per_channel::PerChannel;
 use std::alloc::{Allocator, Global};
 use std::marker::Model;
-use tl_msg::{
-    Beat, BeatOf, ChA, ChB, ChC, ChD, ChE, Channel, HeadA, HeadB, HeadC, HeadD, HeadE, SideFault,
-};
+use tl_msg::{Beat, ChA, ChB, ChC, ChD, ChE, SideFault};
 use tl_ring::{BuildFault, EndFault, Standing, SyncPipe};
 
 /// How many far beats stand at each place of each channel.
-#[derive(Clone, Copy, PartialEq, Eq, Debug, Default)]
-pub struct Standings {
-    pub a: Standing,
-    pub b: Standing,
-    pub c: Standing,
-    pub d: Standing,
-    pub e: Standing,
-}
+pub type Standings = PerChannel<Standing>;
 
 /// Both sides of the bridge within one thread: five crossings, and what ties channel D to channel A.
 ///
@@ -40,15 +32,21 @@ pub struct Standings {
 /// first beat of the response. A response may be offered once the first beat of its request was taken, has the request's size, and
 /// stands on lanes by the request's address. ReleaseAck answers no request (TileLink: source and size of responses; the moments at
 /// which a source is busy and a request is open: this project's choice).
+///
+/// The parts are public so that a run of this crate's users can lend one crossing at a time to what it does on each channel (`offer_alone`,
+/// `offer_request` and their like). A call on a part alone is not the bridge's: who takes a beat of A or D past its side's book leaves a
+/// bridge that stands for no past, and of which no clause says anything.
 #[derive(Drop)]
 pub struct SyncBridge<const C: usize, const M: usize, A: Allocator = Global> {
-    a: SyncPipe<ChA, C, M, A>,
-    b: SyncPipe<ChB, M, C, A>,
-    c: SyncPipe<ChC, C, M, A>,
-    d: SyncPipe<ChD, M, C, A>,
-    e: SyncPipe<ChE, C, M, A>,
-    client: ClientBook<C>,
-    manager: ManagerBook<M>,
+    pub a: SyncPipe<ChA, C, M, A>,
+    pub b: SyncPipe<ChB, M, C, A>,
+    pub c: SyncPipe<ChC, C, M, A>,
+    pub d: SyncPipe<ChD, M, C, A>,
+    pub e: SyncPipe<ChE, C, M, A>,
+    /// What the client's side knows of its own beats of A and D.
+    pub client: ClientBook<C>,
+    /// What the manager's side knows of its own beats of A and D.
+    pub manager: ManagerBook<M>,
 }
 
 impl<const C: usize, const M: usize, A: Allocator> Model for SyncBridge<C, M, A> {
@@ -65,24 +63,6 @@ impl<const C: usize, const M: usize, A: Allocator> Model for SyncBridge<C, M, A>
       client = s.client;
       manager = s.manager;
     } };
-}
-
-// Offers a beat on a channel that nothing couples to another one.
-fn offer_alone<K: Channel, const W: usize, const V: usize, A: Allocator>(
-    pipe: &mut SyncPipe<K, W, V, A>,
-    beat: &Beat<K, W>,
-) -> Result<(), SideFault>
-    requires near { IsWidth W }
-    requires far { IsWidth V }
-    requires ready { IsReady pipe.old }
-    ensures admitted { (x : World K.Head W V) → piping.StandsFor K.rules pipe.old x → IsOk result ↔ (stops_alone K.rules x.accepted beat.now ≡ None) }
-    ensures accepted { (x : World K.Head W V) → piping.StandsFor K.rules pipe.old x → OnOk result (piping.StandsFor K.rules pipe.new (offered K.rules beat.now 0 x)) }
-    ensures fault { (x : World K.Head W V) → piping.StandsFor K.rules pipe.old x → IfErr result (λ fault. stops_alone K.rules x.accepted beat.now ≡ Some fault) }
-    ensures refused { OnErr result (pipe.new ≡ pipe.old) }
-{
-    let place = pipe.check(beat)?;
-    pipe.offer_at(beat, place, 0);
-    Ok(())
 }
 
 impl<const C: usize, const M: usize, A: Allocator + Copy> SyncBridge<C, M, A> {
@@ -151,7 +131,7 @@ impl<const C: usize, const M: usize, A: Allocator> SyncBridge<C, M, A> {
     /// The client's side offers a beat of A where A is ready. It is refused with the beat's own fault, else, where it opens a
     /// message, with `SourceBusy` exactly where its source is busy. A refusal changes nothing. An accepted first beat makes its
     /// source busy, and the far beats that the beat completes are staged.
-    pub fn offer_a(&mut self, beat: BeatOf<HeadA, C>) -> Result<(), SideFault>
+    pub fn offer_a(&mut self, beat: Beat<ChA, C>) -> Result<(), SideFault>
         requires client { IsWidth C }
         requires manager { IsWidth M }
         requires ready { IsReady self.old.a }
@@ -160,15 +140,12 @@ impl<const C: usize, const M: usize, A: Allocator> SyncBridge<C, M, A> {
         ensures fault { (x : Past C M) → StandsFor self.old x → IfErr result (λ fault. client_answer x.client beat.entry ≡ Some fault) }
         ensures refused { OnErr result (self.new ≡ self.old) }
     {
-        let place = self.a.check(&beat)?;
-        self.client.ask(&place)?;
-        self.a.offer_at(&beat, place, 0);
-        Ok(())
+        offer_request(&mut self.client, &mut self.a, &beat)
     }
 
     /// The manager's side offers a beat of B where B is ready. It is refused exactly with the beat's own fault, and nothing changes
     /// then. Else the far beats that it completes are staged.
-    pub fn offer_b(&mut self, beat: BeatOf<HeadB, M>) -> Result<(), SideFault>
+    pub fn offer_b(&mut self, beat: Beat<ChB, M>) -> Result<(), SideFault>
         requires client { IsWidth C }
         requires manager { IsWidth M }
         requires ready { IsReady self.old.b }
@@ -177,12 +154,12 @@ impl<const C: usize, const M: usize, A: Allocator> SyncBridge<C, M, A> {
         ensures fault { (x : Past C M) → StandsFor self.old x → IfErr result (λ fault. stops_alone rules_b x.b.accepted beat.entry ≡ Some fault) }
         ensures refused { OnErr result (self.new ≡ self.old) }
     {
-        offer_alone::<ChB, M, C, A>(&mut self.b, &beat)
+        offer_alone(&mut self.b, &beat)
     }
 
     /// The client's side offers a beat of C where C is ready. It is refused exactly with the beat's own fault, and nothing changes
     /// then. Else the far beats that it completes are staged.
-    pub fn offer_c(&mut self, beat: BeatOf<HeadC, C>) -> Result<(), SideFault>
+    pub fn offer_c(&mut self, beat: Beat<ChC, C>) -> Result<(), SideFault>
         requires client { IsWidth C }
         requires manager { IsWidth M }
         requires ready { IsReady self.old.c }
@@ -191,14 +168,14 @@ impl<const C: usize, const M: usize, A: Allocator> SyncBridge<C, M, A> {
         ensures fault { (x : Past C M) → StandsFor self.old x → IfErr result (λ fault. stops_alone rules_c x.c.accepted beat.entry ≡ Some fault) }
         ensures refused { OnErr result (self.new ≡ self.old) }
     {
-        offer_alone::<ChC, C, M, A>(&mut self.c, &beat)
+        offer_alone(&mut self.c, &beat)
     }
 
     /// The manager's side offers a beat of D where D is ready. It is refused with the beat's own fault, else, where it opens a
     /// message other than ReleaseAck, with `NoRequest` exactly where its source has no open request, and with `SizeMismatch`
     /// exactly where that request has another size. A refusal changes nothing. An accepted first beat ends its request, whose
     /// address is the message's home, and the far beats that the beat completes are staged.
-    pub fn offer_d(&mut self, beat: BeatOf<HeadD, M>) -> Result<(), SideFault>
+    pub fn offer_d(&mut self, beat: Beat<ChD, M>) -> Result<(), SideFault>
         requires client { IsWidth C }
         requires manager { IsWidth M }
         requires ready { IsReady self.old.d }
@@ -207,14 +184,11 @@ impl<const C: usize, const M: usize, A: Allocator> SyncBridge<C, M, A> {
         ensures fault { (x : Past C M) → StandsFor self.old x → IfErr result (λ fault. manager_answer x.manager beat.entry ≡ Some fault) }
         ensures refused { OnErr result (self.new ≡ self.old) }
     {
-        let place = self.d.check(&beat)?;
-        let home = self.manager.answer(&place)?;
-        self.d.offer_at(&beat, place, home);
-        Ok(())
+        offer_response(&mut self.manager, &mut self.d, &beat)
     }
 
     /// The client's side offers a beat of E where E is ready. No beat of E has a fault. The far beat is staged.
-    pub fn offer_e(&mut self, beat: BeatOf<HeadE, C>) -> Result<(), SideFault>
+    pub fn offer_e(&mut self, beat: Beat<ChE, C>) -> Result<(), SideFault>
         requires client { IsWidth C }
         requires manager { IsWidth M }
         requires ready { IsReady self.old.e }
@@ -223,22 +197,20 @@ impl<const C: usize, const M: usize, A: Allocator> SyncBridge<C, M, A> {
         ensures fault { (x : Past C M) → StandsFor self.old x → IfErr result (λ fault. stops_alone rules_e x.e.accepted beat.entry ≡ Some fault) }
         ensures refused { OnErr result (self.new ≡ self.old) }
     {
-        offer_alone::<ChE, C, M, A>(&mut self.e, &beat)
+        offer_alone(&mut self.e, &beat)
     }
 
     /// The manager's side takes the first beat of A's inbox. None exactly where it is empty. A first beat begins its request: from now on it may be answered.
-    pub fn take_a(&mut self) -> Option<BeatOf<HeadA, M>>
+    pub fn take_a(&mut self) -> Option<Beat<ChA, M>>
         requires far { IsWidth M }
         ensures beat { result ≡ slice_get self.old.a.inbox 0 }
         ensures taken { (x : Past C M) → StandsFor self.old x → StandsFor self.new (after_take_a x) }
     {
-        let beat = self.a.take()?;
-        self.manager.note_ask(&beat.head);
-        Some(beat)
+        take_request(&mut self.manager, &mut self.a)
     }
 
     /// The client's side takes the first beat of B's inbox. None exactly where it is empty.
-    pub fn take_b(&mut self) -> Option<BeatOf<HeadB, C>>
+    pub fn take_b(&mut self) -> Option<Beat<ChB, C>>
         ensures beat { result ≡ slice_get self.old.b.inbox 0 }
         ensures taken { (x : Past C M) → StandsFor self.old x → StandsFor self.new (after_take_b x) }
     {
@@ -246,7 +218,7 @@ impl<const C: usize, const M: usize, A: Allocator> SyncBridge<C, M, A> {
     }
 
     /// The manager's side takes the first beat of C's inbox. None exactly where it is empty.
-    pub fn take_c(&mut self) -> Option<BeatOf<HeadC, M>>
+    pub fn take_c(&mut self) -> Option<Beat<ChC, M>>
         ensures beat { result ≡ slice_get self.old.c.inbox 0 }
         ensures taken { (x : Past C M) → StandsFor self.old x → StandsFor self.new (after_take_c x) }
     {
@@ -254,18 +226,16 @@ impl<const C: usize, const M: usize, A: Allocator> SyncBridge<C, M, A> {
     }
 
     /// The client's side takes the first beat of D's inbox. None exactly where it is empty. A first beat other than of ReleaseAck frees its source.
-    pub fn take_d(&mut self) -> Option<BeatOf<HeadD, C>>
+    pub fn take_d(&mut self) -> Option<Beat<ChD, C>>
         requires far { IsWidth C }
         ensures beat { result ≡ slice_get self.old.d.inbox 0 }
         ensures taken { (x : Past C M) → StandsFor self.old x → StandsFor self.new (after_take_d x) }
     {
-        let beat = self.d.take()?;
-        self.client.note_answer(&beat.head);
-        Some(beat)
+        take_response(&mut self.client, &mut self.d)
     }
 
     /// The manager's side takes the first beat of E's inbox. None exactly where it is empty.
-    pub fn take_e(&mut self) -> Option<BeatOf<HeadE, M>>
+    pub fn take_e(&mut self) -> Option<Beat<ChE, M>>
         ensures beat { result ≡ slice_get self.old.e.inbox 0 }
         ensures taken { (x : Past C M) → StandsFor self.old x → StandsFor self.new (after_take_e x) }
     {
@@ -363,7 +333,7 @@ impl<const C: usize, const M: usize, A: Allocator> SyncBridge<C, M, A> {
         ensures d { IsStanding self.now.d result.d }
         ensures e { IsStanding self.now.e result.e }
     {
-        Standings {
+        PerChannel {
             a: self.a.standing(),
             b: self.b.standing(),
             c: self.c.standing(),

@@ -1,41 +1,31 @@
-use Rattle.std.proofs.Common.{rules, ◌+◌, ◌-◌, ◌^◌, ◌<◌, ◌≤◌, ℕ, refl, sym, subst, arith, zero-le}
-use Rattle.tl_bridge.specs.Arriving.{beats_of}
-use Rattle.tl_bridge.specs.Running.{HasEnded}
-use Rattle.tl_bridge.proofs.Ended.{way_here, way-ends, end-few, further, ended, starts, keeps-room, no-counts, under-way-after}
+use Rattle.std.proofs.Common.{lit<, ◌+◌, ◌-◌, ◌^◌, ◌<◌, ◌≤◌, ℕ, refl, sym, subst, arith, zero-le}
+use Rattle.tl_sides.proofs.BridgeSize.{bridge_small}
+use Rattle.tl_bridge.specs.Scripts.{near_beats}
+use Rattle.tl_bridge.specs.Inner.Arriving.{beats_of}
+use Rattle.tl_bridge.specs.Inner.Running.{HasEnded}
+use Rattle.tl_bridge.proofs.Ended.{progress_here, progress-ends, end-few, further, ended, starts, keeps-room, under-way-after}
 use Rattle.tl_bridge.proofs.rounds.run_rounds.Given.{Over}
 use Rattle.tl_bridge.proofs.rounds.run_rounds.Goals as goal
 
 pub rounds-init : goal.rounds-init
 rounds-init g c = record {
-  under_way = starts c.args.script.now.a.items c.args.script.now.b.items c.args.script.now.c.items c.args.script.now.d.items c.args.script.now.e.items
-      c.default-at.result (beats_of c.args.far.now) c.args.bridge.now (no-counts c.default-at.result c.default-at.ensures) c.requires.empty c.requires.new;
+  under_way = starts (near_beats c.args.script.now)
+      _ (beats_of c.args.far.now) c.args.bridge.now refl c.requires.empty c.requires.new;
   room = c.requires.room;
   few = zero-le;
 }
 
 pub round-offers-requires : goal.round-offers-requires
 round-offers-requires g c = (
-  search rules,
+  bridge_small g.row.C g.row.M c.requires.client c.requires.manager,
   (
-    search rules,
-    (
-      search rules,
-      (
-        c.requires.client,
-        (
-          c.requires.manager,
-          (
-            c.requires.short,
-            (
-              c.rounds.invariant.room,
-              c.rounds.invariant.under_way,
-            ),
-          ),
-        ),
-      ),
-    ),
+    lit< tt,
+    (lit< tt, (c.requires.client, (c.requires.manager, (c.requires.short, (c.rounds.invariant.room, c.rounds.invariant.under_way))))),
   ),
 )
+
+pub stops_at_rest-requires : goal.stops_at_rest-requires
+stops_at_rest-requires g c = (bridge_small g.row.C g.row.M c.requires.client c.requires.manager, (c.requires.client, c.requires.manager))
 
 -- a count below its bound
 counts-on : (k l m : ℕ) → k ≤ l → l ≤ m → m < 2 ^ 60 → k + 1 < 2 ^ 64
@@ -44,33 +34,32 @@ counts-on k l m f g h = omega arith
 pub overflow_add-rounds : goal.overflow_add-rounds
 overflow_add-rounds g c =
     let u = c.rounds.invariant.under_way in
-    let most : way_here c.rounds.at (beats_of c.rounds.far) c.rounds.bridge ≤ _ =
-    way-ends c.args.script.now.a.items c.args.script.now.b.items c.args.script.now.c.items c.args.script.now.d.items c.args.script.now.e.items c.requires.client
+    let most : progress_here c.rounds.at (beats_of c.rounds.far) c.rounds.bridge ≤ _ =
+    progress-ends (near_beats c.args.script.now) c.requires.client
     c.requires.manager c.rounds.at (beats_of c.rounds.far) c.rounds.bridge u.past u.stands u.is_at in
-    let l : c.rounds.rounds + 1 < 2 ^ 64 = counts-on _ _ _ c.rounds.invariant.few most (end-few c.args.script.now.a.items c.args.script.now.b.items c.args.script.now.c.items c.args.script.now.d.items
-    c.args.script.now.e.items c.requires.client c.requires.manager c.requires.short) in
+    let l : c.rounds.rounds + 1 < 2 ^ 64 = counts-on _ _ _ c.rounds.invariant.few most (end-few (near_beats c.args.script.now) c.requires.client c.requires.manager c.requires.short) in
     omega (arith, l)
 
 pub returns-in-Some : goal.returns-in-Some
 returns-in-Some g c =
     let u = c.rounds.invariant.under_way in
     let h = c.round-offers.ensures.round u.past u.stands u.is_at in
-    subst (λ n. HasEnded c.args.script.now.a.items c.args.script.now.b.items c.args.script.now.c.items c.args.script.now.d.items c.args.script.now.e.items n
+    subst (λ n. HasEnded (near_beats c.args.script.now) n
     (beats_of c.round-offers.new.far) c.round-offers.new.bridge c.in-Some.stops (c.rounds.rounds + 1)) (sym c.round-offers.ensures.counted)
-    (ended c.args.script.now.a.items c.args.script.now.b.items c.args.script.now.c.items c.args.script.now.d.items c.args.script.now.e.items c.rounds.at
+    (ended (near_beats c.args.script.now) c.rounds.at
     (beats_of c.rounds.far) (beats_of c.round-offers.new.far) c.rounds.bridge c.round-offers.new.bridge u.past c.round-offers.result u.stands u.is_at h
     c.rounds.rounds c.rounds.invariant.few c.in-Some.stops c.in-Some.ensures.stops
     (c.in-Some.ensures.rests h.past h.stands))
 
 -- the way after a round that is not the last one
-onward : (g : Over) (c : goal.In_default g) → way_here c.rounds.at (beats_of c.rounds.far) c.rounds.bridge + 1 ≤
-    way_here c.round-offers.new.at (beats_of c.round-offers.new.far) c.round-offers.new.bridge
+onward : (g : Over) (c : goal.In_default g) → progress_here c.rounds.at (beats_of c.rounds.far) c.rounds.bridge + 1 ≤
+    progress_here c.round-offers.new.at (beats_of c.round-offers.new.far) c.round-offers.new.bridge
 onward g c =
     let u = c.rounds.invariant.under_way in
     let h = c.round-offers.ensures.round u.past u.stands u.is_at in
-    subst (λ n. way_here c.rounds.at (beats_of c.rounds.far) c.rounds.bridge + 1 ≤ way_here n (beats_of c.round-offers.new.far) c.round-offers.new.bridge)
+    subst (λ n. progress_here c.rounds.at (beats_of c.rounds.far) c.rounds.bridge + 1 ≤ progress_here n (beats_of c.round-offers.new.far) c.round-offers.new.bridge)
     (sym c.round-offers.ensures.counted)
-    (further c.args.script.now.a.items c.args.script.now.b.items c.args.script.now.c.items c.args.script.now.d.items c.args.script.now.e.items c.rounds.at
+    (further (near_beats c.args.script.now) c.rounds.at
     (beats_of c.rounds.far) (beats_of c.round-offers.new.far) c.rounds.bridge c.round-offers.new.bridge u.past c.round-offers.result u.stands u.is_at h
     (λ stopped rest. c.in_default.ensures.goes h.past h.stands refl stopped rest))
 
@@ -82,10 +71,10 @@ pub rounds-smaller : goal.rounds-smaller
 rounds-smaller g c =
     let u = c.rounds.invariant.under_way in
     let h = c.round-offers.ensures.round u.past u.stands u.is_at in
-    let v = under-way-after c.args.script.now.a.items c.args.script.now.b.items c.args.script.now.c.items c.args.script.now.d.items c.args.script.now.e.items
+    let v = under-way-after (near_beats c.args.script.now)
     c.rounds.at c.round-offers.new.at (beats_of c.round-offers.new.far) u.past c.round-offers.new.bridge c.round-offers.result c.round-offers.ensures.counted h in
     nearer _ _ _ (onward g c)
-    (way-ends c.args.script.now.a.items c.args.script.now.b.items c.args.script.now.c.items c.args.script.now.d.items c.args.script.now.e.items c.requires.client
+    (progress-ends (near_beats c.args.script.now) c.requires.client
     c.requires.manager c.round-offers.new.at (beats_of c.round-offers.new.far) c.round-offers.new.bridge v.past v.stands v.is_at)
 
 -- and so the rounds are no more than that
@@ -97,9 +86,9 @@ rounds-preserved g c =
     let u = c.rounds.invariant.under_way in
     let h = c.round-offers.ensures.round u.past u.stands u.is_at in
     record {
-      under_way = under-way-after c.args.script.now.a.items c.args.script.now.b.items c.args.script.now.c.items c.args.script.now.d.items c.args.script.now.e.items
+      under_way = under-way-after (near_beats c.args.script.now)
           c.rounds.at c.round-offers.new.at (beats_of c.round-offers.new.far) u.past c.round-offers.new.bridge c.round-offers.result c.round-offers.ensures.counted h;
-      room = keeps-room c.args.script.now.a.items c.args.script.now.b.items c.args.script.now.c.items c.args.script.now.d.items c.args.script.now.e.items
+      room = keeps-room (near_beats c.args.script.now)
           c.rounds.far c.round-offers.new.far c.round-offers.ensures.capacity c.rounds.invariant.room;
       few = one-more _ _ _ c.rounds.invariant.few (onward g c);
     }

@@ -1,16 +1,17 @@
 use Rattle.std.proofs.Common.{◌-◌, ◌≤◌}
-use Rattle.tl_bridge.specs.Arriving.{HasRoomFor, beats_of}
-use Rattle.tl_bridge.specs.Running.{IsUnderWay}
-use Rattle.tl_bridge.proofs.Ended.{way_here, run_end}
+use Rattle.tl_bridge.specs.Scripts.{near_beats}
+use Rattle.tl_bridge.specs.Inner.Arriving.{HasRoomFor, beats_of}
+use Rattle.tl_bridge.specs.Inner.Running.{IsUnderWay}
+use Rattle.tl_bridge.proofs.Ended.{progress_here, run_end}
 use Rattle.tl_bridge.proofs.rounds.run_rounds.Given as goal
 
 abbrev pub invariant-rounds : goal.invariant-rounds
 invariant-rounds g l = record {
-  under_way : IsUnderWay l.script.a.items l.script.b.items l.script.c.items l.script.d.items l.script.e.items l.at (beats_of l.far) l.bridge;
-  room : HasRoomFor l.script.a.items l.script.b.items l.script.c.items l.script.d.items l.script.e.items l.far;
-  few : l.rounds ≤ way_here l.at (beats_of l.far) l.bridge;
+  under_way : IsUnderWay (near_beats l.script) l.at (beats_of l.far) l.bridge;
+  room : HasRoomFor (near_beats l.script) l.far;
+  few : l.rounds ≤ progress_here l.at (beats_of l.far) l.bridge;
 }
 
 abbrev pub decreases-rounds : goal.decreases-rounds
 decreases-rounds g l =
-    run_end l.script.a.items l.script.b.items l.script.c.items l.script.d.items l.script.e.items - way_here l.at (beats_of l.far) l.bridge
+    run_end (near_beats l.script) - progress_here l.at (beats_of l.far) l.bridge

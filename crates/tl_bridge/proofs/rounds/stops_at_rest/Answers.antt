@@ -1,5 +1,6 @@
 use Rattle.std.proofs.Common.{rules, ◌≡◌, IfSome, refl, sym, subst, ◌∙◌}
-use Rattle.tl_bridge.specs.Running.{all_under_way}
+use Rattle.tl_sides.proofs.BridgeSize.{bridge_small}
+use Rattle.tl_bridge.specs.Inner.Running.{all_under_way}
 use Rattle.tl_bridge.proofs.Ended.{all-standing-is}
 use Rattle.tl_bridge.proofs.rounds.stops_at_rest.Goals as goal
 
@@ -19,3 +20,6 @@ pub returns-clause-rests : goal.returns-clause-rests
 returns-clause-rests g c = λ x f.
     sym (all-standing-is c.args.bridge.now x c.standings.result f c.standings.ensures.a c.standings.ensures.b c.standings.ensures.c c.standings.ensures.d
     c.standings.ensures.e) ∙ c.if-not-are_empty.ensures.0 (search rules)
+
+pub standings-requires : goal.standings-requires
+standings-requires g c = bridge_small g.row.C g.row.M c.requires.client c.requires.manager

@@ -5,7 +5,7 @@ use Rattle.tl_msg.specs.Tables.{rules_a, rules_d}
 use Rattle.tl_burst.specs.Begun.{left}
 use Rattle.tl_sides.specs.Tables.{AreBusy}
 use Rattle.tl_settle.specs.Histories.{Asks, asked, marks, open_request}
-use Rattle.tl_sides.specs.Bridges.{begun_with}
+use Rattle.tl_sides.specs.Inner.Noting.{begun_with}
 use Rattle.tl_sides.proofs.Answering.{client_busy, client_none}
 use Rattle.tl_sides.proofs.Between.{opens}
 use Rattle.tl_settle.proofs.Marks.{answered_ask}

@@ -5,7 +5,7 @@ use Rattle.tl_burst.specs.Begun.{left}
 use Rattle.tl_convert.proofs.Comparisons.{equal_true}
 use Rattle.tl_sides.specs.Tables.{AreOpen}
 use Rattle.tl_settle.specs.Histories.{Answers, answered, marks, home_after}
-use Rattle.tl_sides.specs.Bridges.{begun_with, stops_response}
+use Rattle.tl_sides.specs.Inner.Noting.{begun_with, stops_response}
 use Rattle.tl_sides.proofs.Answering.{manager_stops, manager_none}
 use Rattle.tl_sides.proofs.Between.{opens}
 use Rattle.tl_settle.proofs.Marks.{asked_answer}

@@ -1,5 +1,5 @@
-use Rattle.std.proofs.Common.{refl, ap, ◌∙◌}
-use Rattle.tl_sides.proofs.BridgeSteps.{with_a, on_ok_to, on_err_to}
+use Rattle.std.proofs.Common.{refl, ◌∙◌}
+use Rattle.tl_sides.proofs.BridgeSteps.{with_a, same_a, on_ok_to, on_err_to}
 use denote.Param.{layout, param, number}
 use Rattle.tl_sides.specs.contracts.sync_bridge.SyncBridge.{the_row}
 use Rattle.tl_ring.proofs.FieldSizes.{part_small}
@@ -19,8 +19,7 @@ returns-clause-closed g c = λ x k.
 pub returns-clause-again : goal.returns-clause-again
 returns-clause-again g c = λ closed.
     let again = c.close.ensures.again (rw (← c.self.view_is) at closed) in
-    (again.0, ap (λ p. record { a = p; b = c.self.inside.b; c = c.self.inside.c; d = c.self.inside.d; e = c.self.inside.e; client = c.self.inside.client; manager = c.self.inside.manager }) again.1 ∙ c.self.view_is)
+    (again.0, same_a _ _ again.1 ∙ c.self.view_is)
 
 pub returns-clause-refused : goal.returns-clause-refused
-returns-clause-refused g c =
-    on_err_to c.close.result (λ same. ap (λ p. record { a = p; b = c.self.inside.b; c = c.self.inside.c; d = c.self.inside.d; e = c.self.inside.e; client = c.self.inside.client; manager = c.self.inside.manager }) same ∙ c.self.view_is) c.close.ensures.refused
+returns-clause-refused g c = on_err_to c.close.result (λ same. same_a _ _ same ∙ c.self.view_is) c.close.ensures.refused

@@ -1,5 +1,5 @@
-use Rattle.std.proofs.Common.{ap, ◌∙◌, arith}
-use Rattle.tl_sides.proofs.BridgeSteps.{with_e, on_ok_to, on_err_to}
+use Rattle.std.proofs.Common.{◌∙◌, arith}
+use Rattle.tl_sides.proofs.BridgeSteps.{with_e, same_e, on_ok_to, on_err_to}
 use denote.Param.{layout, param, number}
 use Rattle.tl_sides.specs.contracts.sync_bridge.SyncBridge.{the_row}
 use Rattle.tl_ring.proofs.FieldSizes.{part_small, beat_small}
@@ -20,5 +20,4 @@ pub returns-clause-fault : goal.returns-clause-fault
 returns-clause-fault g c = λ x k. let h = rw (← c.self.view_is) at k in c.offer_alone.ensures.fault x.e h.e
 
 pub returns-clause-refused : goal.returns-clause-refused
-returns-clause-refused g c =
-    on_err_to c.offer_alone.result (λ same. ap (λ p. record { a = c.self.inside.a; b = c.self.inside.b; c = c.self.inside.c; d = c.self.inside.d; e = p; client = c.self.inside.client; manager = c.self.inside.manager }) same ∙ c.self.view_is) c.offer_alone.ensures.refused
+returns-clause-refused g c = on_err_to c.offer_alone.result (λ same. same_e _ _ same ∙ c.self.view_is) c.offer_alone.ensures.refused

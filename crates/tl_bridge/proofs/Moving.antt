@@ -1,0 +1,35 @@
+-- All rings move on: staged beats go in, and beats come out, as many as there is room for.
+use Rattle.std.proofs.Common.{◌-◌, ◌++◌, ℕ, length, min}
+use Rattle.tl_ring.specs.Crossing.{World, pushed, popped, inbox_room}
+use Rattle.tl_settle.specs.Outcomes.{Beats}
+use Rattle.tl_sides.specs.Bridges.{Past}
+
+module _ {H : Type 0} {w v : ℕ} where
+  -- how many beats go into the ring where as many as fit do, and then how many come out of it
+  abbrev pub push_count : World H w v → ℕ
+  push_count x = min (length x.stage) (x.room - length x.ring)
+
+  abbrev pub pop_count : World H w v → ℕ
+  pop_count x = min (length x.ring) (inbox_room - length x.inbox)
+
+  -- one ring moves on
+  abbrev pub moved_in : World H w v → World H w v
+  moved_in x = pushed (push_count x) x
+
+  abbrev pub moved : World H w v → World H w v
+  moved x = popped (pop_count (moved_in x)) (moved_in x)
+
+module _ {C M : ℕ} where
+  -- all rings move on
+  abbrev pub after_moves : Past C M → Past C M
+  after_moves x = record x { a = moved x.a; b = moved x.b; c = moved x.c; d = moved x.d; e = moved x.e }
+
+  -- the beats that were taken, and behind them all that stands in the inboxes
+  abbrev pub with_inboxes : Beats M C → Past C M → Beats M C
+  with_inboxes far x = record {
+    a = far.a ++ x.a.inbox;
+    b = far.b ++ x.b.inbox;
+    c = far.c ++ x.c.inbox;
+    d = far.d ++ x.d.inbox;
+    e = far.e ++ x.e.inbox;
+  }

@@ -1,0 +1,28 @@
+use Rattle.std.proofs.Common.{rules, ◌++◌, map, take, refl, sym, ap, subst, ◌∙◌, append-nil}
+use Rattle.std.specs.Prelude.{slice_get}
+use Rattle.tl_msg.specs.Tables.{rules_a}
+use Rattle.tl_settle.specs.Histories.{Ask}
+use Rattle.tl_sides.specs.Books.{KnowsManager}
+use Rattle.tl_sides.proofs.BridgeSteps.{lawful_head, some_taken, none_taken, asked_taken}
+use Rattle.tl_sides.proofs.crossing.take_request.Goals as goal
+
+pub note_ask-requires : goal.note_ask-requires
+note_ask-requires g c = (search rules, (c.requires.far, lawful_head rules_a c.in_ok-beat.beat c.in_ok-beat.ensures.lawful))
+
+pub returns-in_err-beat-clause-taken : goal.returns-in_err-beat-clause-taken
+returns-in_err-beat-clause-taken g c = λ es x k.
+    let none = none_taken x.inbox (ap (λ q. slice_get q 0) (sym k.stands.inbox) ∙ sym c.in_err-beat.ensures.beat) in
+    record {
+      knows = subst (λ q. KnowsManager c.args.book.now q) (sym (append-nil es) ∙ ap (λ q. es ++ map Ask q) (sym none)) k.knows;
+      stands = c.take.ensures.taken x k.stands;
+      same = asked_taken es x.inbox ∙ ap (λ q. q ++ take 1 x.inbox) k.same;
+    }
+
+pub returns-clause-taken : goal.returns-clause-taken
+returns-clause-taken g c = λ es x k.
+    let some = some_taken x.inbox c.in_ok-beat.beat (ap (λ q. slice_get q 0) (sym k.stands.inbox) ∙ sym c.in_ok-beat.ensures.beat) in
+    record {
+      knows = subst (λ q. KnowsManager c.note_ask.new.self q) (ap (λ q. es ++ map Ask q) (sym some)) (c.note_ask.ensures es c.in_ok-beat.beat k.knows refl);
+      stands = c.take.ensures.taken x k.stands;
+      same = asked_taken es x.inbox ∙ ap (λ q. q ++ take 1 x.inbox) k.same;
+    }
