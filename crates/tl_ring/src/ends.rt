@@ -1,5 +1,5 @@
 //! The two ends of a crossing between two threads.
-ghost use Rattle.std.specs.Prelude.{◌≡◌, ◌≤◌, ◌-◌, ◌↔◌, ◌++◌, [], List, length, min, take, slice_get, Some, IsOk, IsTrue, IfOk, IfErr, IfSome, OnOk, OnErr};
+ghost use Rattle.std.specs.Prelude.{◌≡◌, ◌≤◌, ◌-◌, ◌↔◌, ◌++◌, [], List, false, length, min, take, slice_get, Some, IsOk, IsTrue, IfOk, IfErr, IfSome, OnOk, OnErr};
 ghost use Rattle.tl_lanes.specs.Lanes.{IsWidth};
 ghost use Rattle.tl_msg.specs.Faults.{IsLawfulBeat};
 ghost use Rattle.tl_msg.specs.declared.beat.BeatOf.{BeatOf};
@@ -66,6 +66,15 @@ impl<K: Channel, const W: usize, const V: usize, A: Allocator> SendEnd<K, W, V, 
         self.stage.len()
     }
 
+    /// Whether the end may be closed: no burst is unfinished, so [`SendEnd::close`] answers Ok.
+    pub fn may_close(&self) -> bool
+        // for every crossing that the end stands for
+        ensures { (x : World K.Head W V) → Sends K.rules self.now x →
+            IsTrue result ↔ (rest_of K.rules W x.accepted ≡ []) }
+    {
+        self.converter.at_boundary()
+    }
+
     /// Whether `beat` may be the next near beat, and where it stands in its message. It is refused
     /// with its first fault, exactly where a burst is interrupted or a rule of the link broken by
     /// it after the beats that were accepted before. Nothing changes.
@@ -97,6 +106,7 @@ impl<K: Channel, const W: usize, const V: usize, A: Allocator> SendEnd<K, W, V, 
             Sends K.rules self.new (offered K.rules beat.now home x) }
         // for every end
         ensures ring { self.new.producer ≡ self.old.producer }
+        ensures open { self.new.closed ≡ false }
     {
         stage_beat(&mut self.converter, beat, place, home, &mut self.stage);
     }

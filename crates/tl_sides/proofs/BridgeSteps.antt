@@ -116,30 +116,38 @@ pub answered_taken : {w : ℕ} (es : List (Event w)) (bs : List (BeatOf HeadD w)
 answered_taken es [] = ap answered (append-nil es) ∙ sym (append-nil (answered es))
 answered_taken es (b ∷ bs) = answered_answer es b
 
+-- a beat of D crosses by its home where it opens a message alone
+pub home_given : {w v : ℕ} (x : World HeadD w v) (b : BeatOf HeadD w) (home given : ℕ) →
+    (left rules_d w x.accepted ≡ 0) ↔ (rest_of rules_d w x.accepted ≡ []) → (left rules_d w x.accepted ≡ 0 → home ≡ given) →
+    offered rules_d b home x ≡ offered rules_d b given x
+home_given {w} {v} x b home given between right = ap (λ hs. record x {
+  accepted = x.accepted ++ b ∷ [];
+  homes = hs;
+  stage = drop (length (due rules_d w v x.accepted x.homes)) (due rules_d w v (x.accepted ++ b ∷ []) hs);
+}) (same_homes x.homes home given (rest_of rules_d w x.accepted) (left rules_d w x.accepted) between right)
+
+-- the homes of a history that accepts a beat of D, where these beats were accepted
+pub homes_given : {w : ℕ} (es : List (Event w)) (b : BeatOf HeadD w) (accepted : List (BeatOf HeadD w)) (homes : List ℕ) →
+    (left rules_d w accepted ≡ 0) ↔ (rest_of rules_d w accepted ≡ []) → answered es ≡ accepted → manager_homes es ≡ homes →
+    manager_homes (es ++ Answer b ∷ []) ≡ with_home rules_d (manager_home es b.head) (rest_of rules_d w accepted) homes
+homes_given {w} es b accepted homes between same so_far =
+    let given : ℕ = manager_home es b.head in
+    homes_answer es b ∙
+    ap (λ q. manager_homes es ++ cond (left rules_d w q == 0) (given ∷ []) []) same ∙
+    ap (λ q. q ++ cond (left rules_d w accepted == 0) (given ∷ []) []) so_far ∙
+    homes_opened b homes given (rest_of rules_d w accepted) (left rules_d w accepted) between
+
 -- a beat of D is accepted at its end, where the book gives its message the home that the history says
 pub answered_more : {C M : ℕ} (es : List (Event M)) (x : World HeadD M C) (book : Manager) (p : Pipe HeadD C) (b : BeatOf HeadD M) (home : ℕ) →
     answered es ≡ x.accepted → manager_homes es ≡ x.homes → (left rules_d M x.accepted ≡ 0) ↔ (rest_of rules_d M x.accepted ≡ []) →
     piping.StandsFor rules_d p (offered rules_d b home x) → (left rules_d M x.accepted ≡ 0 → home ≡ manager_home es b.head) →
     KnowsManager book (es ++ Answer b ∷ []) → ManagerAnswers book p (es ++ Answer b ∷ []) (offered rules_d b (manager_home es b.head) x)
-answered_more {C} {M} es x book p b home same homes between k right noted =
-    let given : ℕ = manager_home es b.head in
-    let homes_same : with_home rules_d home (rest_of rules_d M x.accepted) x.homes ≡ with_home rules_d given (rest_of rules_d M x.accepted) x.homes =
-    same_homes x.homes home given (rest_of rules_d M x.accepted) (left rules_d M x.accepted) between right in
-    let crossed : offered rules_d b home x ≡ offered rules_d b given x =
-    ap (λ hs. record x {
-      accepted = x.accepted ++ b ∷ [];
-      homes = hs;
-      stage = drop (length (due rules_d M C x.accepted x.homes)) (due rules_d M C (x.accepted ++ b ∷ []) hs);
-    }) homes_same in
-    record {
-      knows = noted;
-      stands = subst (λ (y : World HeadD M C). piping.StandsFor rules_d p y) crossed k;
-      same = answered_answer es b ∙ ap (λ q. q ++ b ∷ []) same;
-      homes = homes_answer es b ∙
-          ap (λ q. manager_homes es ++ cond (left rules_d M q == 0) (given ∷ []) []) same ∙
-          ap (λ q. q ++ cond (left rules_d M x.accepted == 0) (given ∷ []) []) homes ∙
-          homes_opened b x.homes given (rest_of rules_d M x.accepted) (left rules_d M x.accepted) between;
-    }
+answered_more {C} {M} es x book p b home same homes between k right noted = record {
+  knows = noted;
+  stands = subst (λ (y : World HeadD M C). piping.StandsFor rules_d p y) (home_given x b home (manager_home es b.head) between right) k;
+  same = answered_answer es b ∙ ap (λ q. q ++ b ∷ []) same;
+  homes = homes_given es b x.accepted x.homes between same homes;
+}
 
 module _ {C M : ℕ} (s : Bridge C M) (x : Past C M) (h : StandsFor s x) where
   -- the ends of A and D in the hands of their sides

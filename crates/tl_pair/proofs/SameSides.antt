@@ -1,0 +1,39 @@
+-- The same side of the same bridge, through several calls.
+use Rattle.std.proofs.Common.{ℕ}
+use Rattle.tl_ring.proofs.Same.{same_send, same_send_then, same_take, same_take_then, still_pair}
+use Rattle.tl_pair.specs.Sides.{ClientState, ManagerState, AreSides, SameClient, SameManager}
+
+module _ {A : Type 0} {C M : ℕ} where
+  pub same_client : (s : ClientState A C M) → SameClient s s
+  same_client s = record { a = same_send s.a; b = same_take s.b; c = same_send s.c; d = same_take s.d; e = same_send s.e }
+
+  pub same_client_then : (s t u : ClientState A C M) → SameClient s t → SameClient t u → SameClient s u
+  same_client_then s t u f g = record {
+    a = same_send_then s.a t.a u.a f.a g.a;
+    b = same_take_then s.b t.b u.b f.b g.b;
+    c = same_send_then s.c t.c u.c f.c g.c;
+    d = same_take_then s.d t.d u.d f.d g.d;
+    e = same_send_then s.e t.e u.e f.e g.e;
+  }
+
+  pub same_manager : (t : ManagerState A C M) → SameManager t t
+  same_manager t = record { a = same_take t.a; b = same_send t.b; c = same_take t.c; d = same_send t.d; e = same_take t.e }
+
+  pub same_manager_then : (s t u : ManagerState A C M) → SameManager s t → SameManager t u → SameManager s u
+  same_manager_then s t u f g = record {
+    a = same_take_then s.a t.a u.a f.a g.a;
+    b = same_send_then s.b t.b u.b f.b g.b;
+    c = same_take_then s.c t.c u.c f.c g.c;
+    d = same_send_then s.d t.d u.d f.d g.d;
+    e = same_take_then s.e t.e u.e f.e g.e;
+  }
+
+  -- two sides stay those of one bridge while each goes on by itself
+  pub still_sides : (s s' : ClientState A C M) (t t' : ManagerState A C M) → SameClient s s' → SameManager t t' → AreSides s t → AreSides s' t'
+  still_sides s s' t t' client manager sides = record {
+    a = still_pair s.a s'.a t.a t'.a client.a manager.a sides.a;
+    b = still_pair t.b t'.b s.b s'.b manager.b client.b sides.b;
+    c = still_pair s.c s'.c t.c t'.c client.c manager.c sides.c;
+    d = still_pair t.d t'.d s.d s'.d manager.d client.d sides.d;
+    e = still_pair s.e s'.e t.e t'.e client.e manager.e sides.e;
+  }

@@ -1,0 +1,74 @@
+-- A sending end pumps and meets alike whether it is closed or not, and what a pump and a fetch moved is seen in the stage and in the inbox.
+use Rattle.std.proofs.Common.{◌≡◌, ◌≤◌, ◌-◌, ◌+◌, ◌++◌, ℕ, Bool, true, false, List, length, drop, min, refl, sym, ap, subst, ◌∙◌, arith, length-append}
+use Rattle.std.proofs.lemmas.List.{length-drop}
+use Rattle.tl_ring.specs.Crossing.{inbox_room}
+use Rattle.tl_ring.specs.Ends.{Sending, Taking, Pushed, Fetched, Met, known_free, known_items}
+use Rattle.tl_pair.specs.Ends.{Pumps, Fetches, pump_count, fetch_count}
+
+module _ {K A H : Type 0} {v : ℕ} where
+  -- an open end is the end itself
+  pub open_end : (s : Sending K A H v) (closed : Bool) → s.closed ≡ false → closed ≡ false → record s { closed = closed } ≡ s
+  open_end s closed inside outside = let same : closed ≡ s.closed = outside ∙ sym inside in λ i. record s { closed = same i }
+
+  -- a closed end is closed anew
+  pub closed_again : (s : Sending K A H v) (closed : Bool) → closed ≡ true → record s { closed = true } ≡ record s { closed = closed }
+  closed_again s closed e = λ i. record s { closed = sym e i }
+
+  pub pushed_alike : (closed : Bool) (k : ℕ) (a b : Sending K A H v) → Pushed a k b → Pushed (record a { closed = closed }) k (record b { closed = closed })
+  pushed_alike closed k a b p = record {
+    ring = p.ring;
+    same_converter = p.same_converter;
+    same_closed = refl;
+    stage = p.stage;
+    more_sent = p.more_sent;
+    known = p.known;
+  }
+
+  pub met_alike : (closed : Bool) (s s' : Sending K A H v) (t t' : Taking K A H v) → Met s t s' t' →
+      Met (record s { closed = closed }) t (record s' { closed = closed }) t'
+  met_alike closed s s' t t' m = record {
+    pair = m.pair;
+    send = m.send;
+    take = m.take;
+    same_converter = m.same_converter;
+    same_stage = m.same_stage;
+    same_closed = refl;
+    same_sent = m.same_sent;
+    same_inbox = m.same_inbox;
+    same_received = m.same_received;
+    ring = m.ring;
+    in_room = m.in_room;
+    free = m.free;
+    all_free = m.all_free;
+  }
+
+  -- the count of a pump is what left the stage
+  pub pump_counted : (k : ℕ) (s s' : Sending K A H v) → k ≤ length s.stage → Pushed s k s' → k ≡ pump_count s s'
+  pump_counted k s s' most p =
+      let left : length s'.stage ≡ length s.stage - k = ap length p.stage ∙ length-drop k s.stage in
+      omega (arith, left, most)
+
+  pub pumps_of : (k : ℕ) (s s' : Sending K A H v) → min (length s.stage) (known_free s) ≤ k → k ≤ length s.stage → Pushed s k s' → Pumps s s'
+  pumps_of k s s' least most p =
+      let count = pump_counted k s s' most p in
+      record {
+        least = subst (λ n. min (length s.stage) (known_free s) ≤ n) count least;
+        pushed = subst (λ n. Pushed s n s') count p;
+      }
+
+  -- the count of a fetch is what came into the inbox
+  pub fetch_counted : (k : ℕ) (t t' : Taking K A H v) → Fetched t k t' → k ≡ fetch_count t t'
+  fetch_counted k t t' f =
+      let size : length t'.inbox ≡ length t.inbox + length f.moved = ap length f.inbox ∙ length-append t.inbox f.moved in
+      let count : length f.moved ≡ k = f.count in
+      omega (arith, size, count)
+
+  pub fetches_of : (k : ℕ) (t t' : Taking K A H v) → min (length (known_items t)) (inbox_room - length t.inbox) ≤ k →
+      k ≤ inbox_room - length t.inbox → Fetched t k t' → Fetches t t'
+  fetches_of k t t' least most f =
+      let count = fetch_counted k t t' f in
+      record {
+        least = subst (λ n. min (length (known_items t)) (inbox_room - length t.inbox) ≤ n) count least;
+        most = subst (λ n. n ≤ inbox_room - length t.inbox) count most;
+        fetched = subst (λ n. Fetched t n t') count f;
+      }

@@ -1,0 +1,36 @@
+use Rattle.std.proofs.Common.{◌++◌, map, refl, sym, ap, subst, ◌∙◌, append-nil}
+use Rattle.tl_msg.specs.Tables.{rules_d}
+use Rattle.tl_settle.specs.Histories.{Answer, answered}
+use Rattle.tl_sides.specs.Books.{KnowsClient}
+use Rattle.tl_sides.proofs.BridgeSteps.{lawful_head, some_taken, none_taken}
+use Rattle.tl_pair.proofs.SideSteps.{client_taken_d}
+use denote.Param.{layout, param, number}
+use Rattle.tl_ring.proofs.FieldSizes.{part_small}
+use Rattle.tl_pair.specs.contracts.client_side.ClientSide.{the_row}
+use Rattle.tl_pair.proofs.client_side.ClientSide.take_d.Goals as goal
+
+pub take-requires : goal.take-requires
+take-requires g c = search (part_small (layout (the_row (param 0 (number g.row.C)) (param 1 (number g.row.M)) (param 2 g.row.A) g.A.Allocator)) 3 9223372036854775808)
+
+pub note_answer-requires : goal.note_answer-requires
+note_answer-requires g c = (search (part_small (layout (the_row (param 0 (number g.row.C)) (param 1 (number g.row.M)) (param 2 g.row.A) g.A.Allocator)) 5 9223372036854775808), (c.requires.far, lawful_head rules_d c.in_ok-beat.beat c.in_ok-beat.ensures.lawful))
+
+pub returns-in_err-beat-clause-rest : goal.returns-in_err-beat-clause-rest
+returns-in_err-beat-clause-rest g c = rw (← c.self.view_is) (ap (λ q. record { a = c.self.inside.a; b = c.self.inside.b; c = c.self.inside.c; d = q; e = c.self.inside.e; book = c.self.inside.book }) c.take.ensures.rest)
+
+pub returns-in_err-beat-clause-taken : goal.returns-in_err-beat-clause-taken
+returns-in_err-beat-clause-taken g c = rw (← c.self.view_is) (λ x h.
+    let none = none_taken c.self.inside.d.inbox (sym c.in_err-beat.ensures.beat) in
+    let same = sym (append-nil x.history) ∙ ap (λ q. x.history ++ map Answer q) (sym none) in
+    client_taken_d _ x h _ c.self.inside.d.inbox _ (c.take.ensures.takes (answered x.history) h.d)
+    (subst (λ q. KnowsClient c.self.inside.book q) same h.book))
+
+pub returns-clause-rest : goal.returns-clause-rest
+returns-clause-rest g c = rw (← c.self.view_is) (ap (λ q. record { a = c.self.inside.a; b = c.self.inside.b; c = c.self.inside.c; d = q; e = c.self.inside.e; book = c.note_answer.new.self }) c.take.ensures.rest)
+
+pub returns-clause-taken : goal.returns-clause-taken
+returns-clause-taken g c = rw (← c.self.view_is) (λ x h.
+    let some = some_taken c.self.inside.d.inbox c.in_ok-beat.beat (sym c.in_ok-beat.ensures.beat) in
+    let more = ap (λ q. x.history ++ map Answer q) (sym some) in
+    client_taken_d _ x h _ c.self.inside.d.inbox _ (c.take.ensures.takes (answered x.history) h.d)
+    (subst (λ q. KnowsClient c.note_answer.new.self q) more (c.note_answer.ensures x.history c.in_ok-beat.beat h.book refl)))

@@ -1,0 +1,28 @@
+use Rattle.std.proofs.Common.{rules, sym, subst}
+use Rattle.tl_ring.specs.Crossing.{offered}
+use Rattle.tl_ring.specs.Ends.{Sends}
+use Rattle.tl_pair.proofs.Senders.{open_end}
+use denote.Param.{layout, param, copied, number}
+use Rattle.tl_ring.proofs.FieldSizes.{part_small}
+use Rattle.tl_pair.specs.contracts.sender.Sender.{the_row}
+use Rattle.tl_pair.proofs.sender.Sender.offer_at.Goals as goal
+
+pub offer_at-requires : goal.offer_at-requires
+offer_at-requires g c =
+    let place = rw (← c.self.view_is) at c.requires.place in
+    let ready = rw (← c.self.view_is) at c.requires.ready in
+    (search (part_small (layout (the_row (param 0 g.row.K) (param 1 (number g.row.W)) (param 2 (number g.row.V)) (param 3 g.row.A) (copied 4 g.row.K-Head) g.K.Channel g.K.Head.Clone
+        g.K.Head.Eq g.K.Head.PartialEq g.K.Head.Default g.A.Allocator)) 0 9223372036854775808), (search rules, (c.requires.near, (c.requires.far, (ready.0, place)))))
+
+pub returns-clause-accepted : goal.returns-clause-accepted
+returns-clause-accepted g c = λ x k.
+    let h = rw (← c.self.view_is) at k in
+    let ready = rw (← c.self.view_is) at c.requires.ready in
+    let before = open_end c.self.inside.end c.self.inside.closed c.self.invariant ready.1 in
+    let after = open_end c.offer_at.new.self c.self.inside.closed c.offer_at.ensures.open ready.1 in
+    let next = offered g.K.Channel.rules c.args.beat.now c.args.home x in
+    subst (λ s. Sends g.K.Channel.rules s next) (sym after)
+    (c.offer_at.ensures.accepted x (subst (λ s. Sends g.K.Channel.rules s x) before h))
+
+pub returns-clause-ring : goal.returns-clause-ring
+returns-clause-ring g c = rw (← c.self.view_is) c.offer_at.ensures.ring

@@ -1,0 +1,88 @@
+//! Both sides of the bridge: how they are made, and where they meet.
+ghost use Rattle.std.specs.Prelude.{◌≡◌, ◌≤◌, ◌<◌, ◌↔◌, ◌⊎◌, [], length, IsOk, IfOk, IfErr};
+ghost use Rattle.tl_lanes.specs.Lanes.{IsWidth};
+ghost use Rattle.tl_ring.specs.Ends.{Met};
+ghost use Rattle.tl_pair.specs.Ends.{AreStanding};
+ghost use Rattle.tl_pair.specs.Sides.{ClientPast, ManagerPast, ClientStandsFor, ManagerStandsFor, AreSides, IsNewClient, IsNewManager, SidesMeet, new_client, new_manager};
+
+use crate::client_side::ClientSide;
+use crate::manager_side::ManagerSide;
+use crate::sender::open_pair;
+use std::alloc::Allocator;
+use tl_msg::{ChA, ChB, ChC, ChD, ChE};
+use tl_ring::BuildFault;
+use tl_sides::{ClientBook, ManagerBook, Standings};
+
+/// The two sides of a new bridge, for two threads, over five rings of `ring` beats each, the only memory that is taken. Refused with
+/// `RingSize` exactly where `ring` is 0 or above 4,096, and else with `OutOfMemory` where the allocator has no memory for a ring.
+pub fn bridge<const C: usize, const M: usize, A: Allocator + Copy>(
+    alloc: A,
+    ring: usize,
+) -> Result<(ClientSide<C, M, A>, ManagerSide<C, M, A>), BuildFault>
+    requires client { IsWidth C }
+    requires manager { IsWidth M }
+    ensures pair { IfOk result (λ sides. AreSides sides.0 sides.1) }
+    ensures client { IfOk result (λ sides. ClientStandsFor sides.0 (new_client ring)) }
+    ensures manager { IfOk result (λ sides. ManagerStandsFor sides.1 (new_manager ring)) }
+    // a new side knows all of its rings as free, and has nothing in its inboxes
+    ensures client_knows { IfOk result (λ sides. IsNewClient ring sides.0) }
+    ensures manager_knows { IfOk result (λ sides. IsNewManager ring sides.1) }
+    ensures size { IsOk result → (1 ≤ ring) × (ring ≤ 4096) }
+    ensures ring_size { IfErr result (λ fault.
+        (fault ≡ BuildFault.RingSize) ↔ ((ring ≡ 0) ⊎ (4096 < ring))) }
+{
+    let (a, a_take) = open_pair::<ChA, C, M, A>(alloc, ring)?;
+    let (b, b_take) = open_pair::<ChB, M, C, A>(alloc, ring)?;
+    let (c, c_take) = open_pair::<ChC, C, M, A>(alloc, ring)?;
+    let (d, d_take) = open_pair::<ChD, M, C, A>(alloc, ring)?;
+    let (e, e_take) = open_pair::<ChE, C, M, A>(alloc, ring)?;
+    let client = ClientSide {
+        a,
+        b: b_take,
+        c,
+        d: d_take,
+        e,
+        book: ClientBook::new(),
+    };
+    let manager = ManagerSide {
+        a: a_take,
+        b,
+        c: c_take,
+        d,
+        e: e_take,
+        book: ManagerBook::new(),
+    };
+    Ok((client, manager))
+}
+
+/// Brings both sides of one [`bridge`] call together, in one thread, and answers how many far beats stand in the stage, the ring and
+/// the inbox of each channel. No beat moves. Each side then knows all that is in the rings that it takes from, and each place that is
+/// free in those that it sends to.
+pub fn meet_sides<const C: usize, const M: usize, A: Allocator>(
+    client: &mut ClientSide<C, M, A>,
+    manager: &mut ManagerSide<C, M, A>,
+) -> Standings
+    requires { AreSides client.old manager.old }
+    ensures a { Met client.old.a manager.old.a client.new.a manager.new.a }
+    ensures b { Met manager.old.b client.old.b manager.new.b client.new.b }
+    ensures c { Met client.old.c manager.old.c client.new.c manager.new.c }
+    ensures d { Met manager.old.d client.old.d manager.new.d client.new.d }
+    ensures e { Met client.old.e manager.old.e client.new.e manager.new.e }
+    ensures standing_a { AreStanding client.new.a manager.new.a result.a }
+    ensures standing_b { AreStanding manager.new.b client.new.b result.b }
+    ensures standing_c { AreStanding client.new.c manager.new.c result.c }
+    ensures standing_d { AreStanding manager.new.d client.new.d result.d }
+    ensures standing_e { AreStanding client.new.e manager.new.e result.e }
+    ensures books { (client.new.book ≡ client.old.book) × (manager.new.book ≡ manager.old.book) }
+    // for every past that each side stands for
+    ensures meets { (x : ClientPast C M) (y : ManagerPast C M) →
+        ClientStandsFor client.old x → ManagerStandsFor manager.old y → SidesMeet client.new manager.new x y }
+{
+    Standings {
+        a: client.a.meet(&mut manager.a),
+        b: manager.b.meet(&mut client.b),
+        c: client.c.meet(&mut manager.c),
+        d: manager.d.meet(&mut client.d),
+        e: client.e.meet(&mut manager.e),
+    }
+}
