@@ -5,14 +5,14 @@ ghost use Rattle.tl_bridge.specs.Scripts.{IsShort};
 
 use crate::measure::{print_peak, print_time};
 use anyhow::{Result, bail};
-use std::alloc::Global;
 use std::fs::Files;
 use std::io::Read;
 use std::rt::Clock;
 use std::time::Instant;
+use tl_answer::answer_of;
 use tl_bridge::{Outcome, run_sync};
-use tl_msg::{ChA, ChB, ChC, ChD, ChE, Verdict};
-use tl_trace::{OutOfMemory, Script, Trace, read, script_of, write_far, write_report};
+use tl_msg::Verdict;
+use tl_trace::{Script, Trace, read, script_of};
 
 /// The most beats of a channel that a run takes.
 const MOST_BEATS: usize = 1 << 40;
@@ -74,29 +74,6 @@ fn outcome_from<const C: usize, const M: usize>(
     Ok(outcome)
 }
 
-/// The lines of the far beats, and of the reports. A check leaves the far beats out.
-fn answer<const C: usize, const M: usize>(
-    alloc: Global,
-    outcome: &Outcome<C, M>,
-    check: bool,
-) -> Result<Vec<u8>, OutOfMemory>
-    requires client { IsWidth C }
-    requires manager { IsWidth M }
-{
-    let mut text = Vec::new(alloc);
-    if !check {
-        write_far::<ChA, M>(&mut text, &outcome.a)?;
-        write_far::<ChB, C>(&mut text, &outcome.b)?;
-        write_far::<ChC, M>(&mut text, &outcome.c)?;
-        write_far::<ChD, C>(&mut text, &outcome.d)?;
-        write_far::<ChE, M>(&mut text, &outcome.e)?;
-    }
-    for (letter, verdict) in b"ABCDE".iter().zip(&outcome.verdicts) {
-        write_report(&mut text, *letter, verdict)?;
-    }
-    Ok(text)
-}
-
 /// Prints how many beats were accepted and taken, on all channels together. Refused where a channel is not done.
 fn print_counts(rt: &impl Print, verdicts: &[Verdict; 5], rounds: u64) -> Result<()> {
     let (mut near_beats, mut far_beats) = (0u64, 0u64);
@@ -125,9 +102,9 @@ fn run_pair<const C: usize, const M: usize>(
     let script = script_from::<C, M>(rt, trace)?;
     let outcome = outcome_from::<C, M>(rt, script, ring)?;
     let start = Instant::now(rt)?;
-    let text = answer::<C, M>(rt.alloc(), &outcome, check)?;
+    let answer = answer_of::<C, M>(rt.alloc(), &outcome, check)?;
     print_time(rt, "write", start)?;
-    println!(rt; "far_bytes {}", text.len())?;
+    println!(rt; "far_bytes {}", answer.text.len())?;
     print_counts(rt, &outcome.verdicts, outcome.rounds)
 }
 

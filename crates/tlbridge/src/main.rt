@@ -1,70 +1,57 @@
-//! A bridge for TileLink links, over a trace.
+//! The program: a bridge for TileLink links, over a trace. It decides nothing by itself: what the
+//! words ask for, what the answer is, how it ends and what standard error gets is said by the
+//! libraries that it calls.
 #![tactic(auto)]
 
 ghost use Rattle.std.specs.Prelude.{IfOk};
-ghost use Rattle.tlbridge.specs.Orders.{IsInRange};
-
-mod answer;
-#[cfg(test)]
-mod cases;
-#[cfg(test)]
-mod examples;
-mod fault;
-mod order;
-#[cfg(test)]
-mod tests;
-mod text;
+ghost use Rattle.tl_order.specs.Orders.{IsInRange};
 
 use clap::Error;
-use fault::TextFault;
-use order::{Order, not_text, order_of};
 use std::alloc::AllocError;
 use std::io;
 use std::process::ExitCode;
-use text::run_text;
+use tl_answer::{FaultLine, Order, TextFault, exit_status, run_text};
+use tl_words::{not_utf8, order_of};
 
-/// The order on the command line.
+/// The order on the command line: every word of it goes to `order_of`.
 fn order_from(rt: &HostRuntime) -> Result<Order, Error>
     ensures { IfOk result IsInRange }
 {
-    let args = match std::env::args(rt) {
-        Ok(args) => args,
+    let words = match std::env::args(rt) {
+        Ok(words) => words,
         Err(error) if error.kind() == io::ErrorKind::OutOfMemory => {
             return Err(Error::from(AllocError));
         }
-        Err(_) => return Err(not_text(rt.alloc())?),
+        Err(_) => return Err(not_utf8(rt.alloc())?),
     };
-    let args: Vec<String> = args.collect(rt.alloc())?;
-    let words: Vec<&str> = args.iter().map(|word| word.as_str()).collect(rt.alloc())?;
+    let words: Vec<String> = words.collect(rt.alloc())?;
+    let words: Vec<&str> = words.iter().map(|word| word.as_str()).collect(rt.alloc())?;
     order_of(rt.alloc(), &words)
 }
 
-/// Says why there is no answer: status 3 for an unreadable trace, else 4. The status says it where
-/// standard error can't be written.
-fn explain(rt: &HostRuntime, fault: TextFault) -> ExitCode {
-    let _ = eprintln!(rt; "tlbridge: {fault}");
-    match fault {
-        TextFault::Trace(_) => ExitCode::from(3),
-        _ => ExitCode::from(4),
+/// The exit status of an ending, after the line of its fault. The status says it where standard
+/// error can't be written.
+fn status(rt: &HostRuntime, ending: Result<bool, TextFault>) -> ExitCode {
+    if let Err(fault) = ending {
+        let _ = eprint!(rt; "{}", FaultLine { fault });
     }
+    ExitCode::from(exit_status(&ending))
 }
 
 /// Prints what clap says of the command line: status 0 for help that was asked for, else 2.
 fn refuse(rt: &HostRuntime, error: &Error) -> ExitCode {
     if error.print(rt).is_err() && !error.use_stderr() {
-        return explain(rt, TextFault::Write);
+        return status(rt, Err(TextFault::Write));
     }
     ExitCode::from(error.exit_code() as u8)
 }
 
 fn main(rt: HostRuntime) -> ExitCode {
-    let order = match order_from(&rt) {
-        Ok(order) => order,
-        Err(error) => return refuse(&rt, &error),
-    };
-    match run_text(&rt, rt.alloc(), &mut rt.stdin(), &mut rt.stdout(), &order) {
-        Ok(true) => ExitCode::SUCCESS,
-        Ok(false) => ExitCode::from(1),
-        Err(fault) => explain(&rt, fault),
+    match order_from(&rt) {
+        Ok(order) => {
+            let ending = run_text(&rt, rt.alloc(), &mut rt.stdin(), &mut rt.stdout(), &order);
+            status(&rt, ending)
+        }
+        Err(error) => refuse(&rt, &error),
     }
 }

@@ -1,0 +1,138 @@
+use std::io;
+use std::io::{Read, Write};
+use std::test::Fail;
+use tl_answer::{Order, TextFault, run_text};
+
+const RUN: Order = Order::Run {
+    ring: 16,
+    turns: 4,
+    sync: false,
+};
+
+const GET: &str =
+    "tilelink-trace 1 client 8 manager 4\nA 4 0 2 07 0000000000001004 f0 1122334455667788 0\n";
+
+const GET_ANSWER: &str =
+    "tilelink-far 1 client 8 manager 4\nA 4 0 2 07 0000000000001004 f 00000000 0\n= A done 1 1\n= B done 0 0\n= C done 0 0\n= D done 0 0\n= E done 0 0\n";
+
+const GET_CHECK: &str =
+    "tilelink-far 1 client 8 manager 4\n= A done 1 1\n= B done 0 0\n= C done 0 0\n= D done 0 0\n= E done 0 0\n";
+
+/// Gives a text, some bytes a call, and fails at one call.
+#[derive(Drop)]
+struct Pieces<'a> {
+    rest: &'a [u8],
+    most: usize,
+    calls: u64,
+    bad_call: u64,
+    kind: io::ErrorKind,
+}
+
+impl<'a> Read for Pieces<'a> {
+    fn read(&mut self, buf: &mut [u8]) -> io::Result<usize> {
+        self.calls = self.calls.saturating_add(1);
+        if self.calls == self.bad_call {
+            return Err(io::Error::from(self.kind));
+        }
+        let n = buf.len().min(self.most).min(self.rest.len());
+        buf[..n].copy_from_slice(&self.rest[..n]);
+        self.rest = &self.rest[n..];
+        Ok(n)
+    }
+}
+
+/// Takes some bytes a call, and fails at one call and, if it is asked to, at a flush.
+#[derive(Drop)]
+struct Slow {
+    taken: Vec<u8>,
+    most: usize,
+    calls: u64,
+    bad_call: u64,
+    kind: io::ErrorKind,
+    flushes: bool,
+}
+
+impl Write for Slow {
+    fn write(&mut self, buf: &[u8]) -> io::Result<usize> {
+        self.calls = self.calls.saturating_add(1);
+        if self.calls == self.bad_call {
+            return Err(io::Error::from(self.kind));
+        }
+        let n = buf.len().min(self.most);
+        self.taken.extend_from_slice(&buf[..n])?;
+        Ok(n)
+    }
+
+    fn flush(&mut self) -> io::Result<()> {
+        if self.flushes {
+            Ok(())
+        } else {
+            Err(io::Error::from(io::ErrorKind::Other))
+        }
+    }
+}
+
+fn get_in(most: usize, bad_call: u64, kind: io::ErrorKind) -> Pieces<'static> {
+    Pieces {
+        rest: GET.as_bytes(),
+        most,
+        calls: 0,
+        bad_call,
+        kind,
+    }
+}
+
+/// The trace has 86 bytes, so call 87 finds the end of it.
+#[test]
+fn readers(rt: HostRuntime) -> Result<(), Fail> {
+    let alloc = rt.alloc();
+    let mut out = Vec::new(alloc);
+    let mut reader = get_in(1, 0, io::ErrorKind::Other);
+    assert!(rt; run_text(&rt, alloc, &mut reader, &mut out, &RUN) == Ok(true));
+    assert!(rt; out.as_slice() == GET_ANSWER.as_bytes());
+    for bad_call in [1, 2, 86, 87] {
+        for kind in [io::ErrorKind::Interrupted, io::ErrorKind::Other] {
+            let mut out = Vec::new(alloc);
+            let mut reader = get_in(1, bad_call, kind);
+            let result = run_text(&rt, alloc, &mut reader, &mut out, &RUN);
+            assert!(rt; result == Err(TextFault::Read), "call {bad_call}");
+            assert!(rt; out.is_empty());
+        }
+    }
+    Ok(())
+}
+
+#[test]
+fn writers(rt: HostRuntime) -> Result<(), Fail> {
+    let alloc = rt.alloc();
+    for (most, bad_call, flushes, wanted) in [
+        (1, 0, true, Ok(true)),
+        (0, 0, true, Err(TextFault::Write)),
+        (50, 1, true, Err(TextFault::Write)),
+        (50, 2, true, Err(TextFault::Write)),
+        (1000, 0, false, Err(TextFault::Write)),
+    ] {
+        for kind in [io::ErrorKind::Interrupted, io::ErrorKind::Other] {
+            for (order, answer) in [(RUN, GET_ANSWER), (Order::Check, GET_CHECK)] {
+                let mut writer = Slow {
+                    taken: Vec::new(alloc),
+                    most,
+                    calls: 0,
+                    bad_call,
+                    kind,
+                    flushes,
+                };
+                let mut reader = GET.as_bytes();
+                let result = run_text(&rt, alloc, &mut reader, &mut writer, &order);
+                assert!(rt;
+                    result == wanted,
+                    "{most} bytes a call, call {bad_call} fails"
+                );
+                if result.is_ok() {
+                    assert!(rt; writer.taken.as_slice() == answer.as_bytes());
+                }
+            }
+        }
+    }
+    Ok(())
+}

@@ -1,0 +1,65 @@
+-- The widths of a text's header, and a text that has none.
+use Rattle.std.proofs.Common.{◌≡◌, ◌≢◌, ◌∷◌, [], ◌||◌, ℕ, Bool, true, false, List, None, Some, if◌then◌else◌, refl, ap, ◌∙◌, subst}
+use Rattle.std.specs.Prelude.{◌==◌}
+use Rattle.std.proofs.lemmas.Bool.{eqb-true}
+use Rattle.tl_trace.specs.Texts.{is_width}
+use Rattle.tl_trace.specs.Faults.{body, cut, onto_first, or_empty, is_newline, widths_of, faults_after, faults_of_lines, IsFirstFault}
+use Rattle.tl_trace.specs.declared.fault.TraceKind.TheVariants.{Header}
+use Rattle.tl_trace.proofs.Headers.{both_widths}
+use Rattle.tl_trace.proofs.ReadLines.{first_fault}
+
+abbrev first_line : List (List ℕ) → List ℕ
+first_line [] = []
+first_line (line ∷ lines) = line
+
+abbrev later_lines : List (List ℕ) → List (List ℕ)
+later_lines [] = []
+later_lines (line ∷ lines) = lines
+
+first_onto : (byte : ℕ) (lines : List (List ℕ)) → first_line (onto_first byte lines) ≡ byte ∷ first_line lines
+first_onto byte [] = refl
+first_onto byte (line ∷ lines) = refl
+
+body_more : (byte : ℕ) (ends : Bool) (lines : List (List ℕ)) (rest : List ℕ) → is_newline byte ≡ ends → body (first_line lines) ≡ rest →
+    body (first_line (if ends then (byte ∷ []) ∷ lines else onto_first byte lines)) ≡ (if ends then [] else byte ∷ rest)
+body_more byte true lines rest is same = rw is refl
+body_more byte false lines rest is same = ap body (first_onto byte lines) ∙ rw is (ap (λ xs. byte ∷ xs) same)
+
+-- the first line of a text, without its end, is what stands before the text's first line end
+body_first : (text : List ℕ) → body (first_line (cut text)) ≡ body text
+body_first [] = refl
+body_first (byte ∷ text) = body_more byte (is_newline byte) (cut text) (body text) refl (body_first text)
+
+faults_first : (lines : List (List ℕ)) →
+    faults_of_lines (or_empty lines) ≡ faults_after (widths_of (body (first_line lines))) (first_line lines) (later_lines lines)
+faults_first [] = refl
+faults_first (line ∷ lines) = refl
+
+-- a text without a header has that fault on its first line
+pub no_header : (text : List ℕ) → widths_of (body text) ≡ None → IsFirstFault text 1 Header
+no_header text none = first_fault text 0 Header [] (faults_first (cut text)
+    ∙ ap (λ widths. faults_after widths (first_line (cut text)) (later_lines (cut text))) (ap widths_of (body_first text) ∙ none))
+
+pick : (w a : ℕ) (here rest : Bool) → (w == a) ≡ here → here || rest ≡ true → w ≢ a → rest ≡ true
+pick w a true rest is any not = absurd (not (eqb-true w a is))
+pick w a false rest is any not = any
+
+only : (w : ℕ) (here : Bool) → (w == 64) ≡ here → here || false ≡ true → w ≡ 64
+only w true is any = eqb-true w 64 is
+only w false is any = absurd cc
+
+-- a width that is none of the first six is the seventh
+pub last_width : (w : ℕ) → is_width w ≡ true → w ≢ 1 → w ≢ 2 → w ≢ 4 → w ≢ 8 → w ≢ 16 → w ≢ 32 → w ≡ 64
+last_width w is n1 n2 n4 n8 n16 n32 = only w (w == 64) refl
+    (pick w 32 (w == 32) _ refl (pick w 16 (w == 16) _ refl (pick w 8 (w == 8) _ refl (pick w 4 (w == 4) _ refl
+    (pick w 2 (w == 2) _ refl (pick w 1 (w == 1) _ refl is n1) n2) n4) n8) n16) n32)
+
+pub last_manager : (text : List ℕ) (client manager : ℕ) → widths_of text ≡ Some (client, manager) →
+    manager ≢ 1 → manager ≢ 2 → manager ≢ 4 → manager ≢ 8 → manager ≢ 16 → manager ≢ 32 → widths_of text ≡ Some (client, 64)
+last_manager text client manager is n1 n2 n4 n8 n16 n32 =
+    subst (λ w. widths_of text ≡ Some (client, w)) (last_width manager (both_widths text (client, manager) is).1 n1 n2 n4 n8 n16 n32) is
+
+pub last_client : (text : List ℕ) (client manager : ℕ) → widths_of text ≡ Some (client, manager) →
+    client ≢ 1 → client ≢ 2 → client ≢ 4 → client ≢ 8 → client ≢ 16 → client ≢ 32 → widths_of text ≡ Some (64, manager)
+last_client text client manager is n1 n2 n4 n8 n16 n32 =
+    subst (λ w. widths_of text ≡ Some (w, manager)) (last_width client (both_widths text (client, manager) is).0 n1 n2 n4 n8 n16 n32) is

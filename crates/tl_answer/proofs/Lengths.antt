@@ -1,0 +1,64 @@
+-- A trace has no more lines than its text has bytes, and no channel has more beats than the trace has lines.
+use Rattle.std.proofs.Common.{◌≡◌, ◌≤◌, ◌^◌, ℕ, suc, List, [], ◌∷◌, ◌++◌, length, Option, None, Some, sym, ap, subst, arith}
+use Rattle.std.proofs.lemmas.List.{length-append}
+use Rattle.std.specs.List.{filter_map, cons_option}
+use Rattle.tl_msg.specs.declared.head.HeadA.{HeadA}
+use Rattle.tl_msg.specs.declared.head.HeadB.{HeadB}
+use Rattle.tl_msg.specs.declared.head.HeadC.{HeadC}
+use Rattle.tl_msg.specs.declared.head.HeadD.{HeadD}
+use Rattle.tl_msg.specs.declared.head.HeadE.{HeadE}
+use Rattle.tl_msg.specs.declared.beat.BeatOf.{BeatOf}
+use Rattle.tl_bridge.specs.Scripts.{IsShort}
+use Rattle.tl_trace.specs.Texts.{Tells, TellsLines, newline, header_text}
+use Rattle.tl_trace.specs.Scripts.{beats_a, beats_b, beats_c, beats_d, beats_e, beat_of_a, beat_of_b, beat_of_c, beat_of_d, beat_of_e}
+use Rattle.tl_trace.specs.declared.line.Line.{Line}
+use Rattle.tl_answer.specs.Texts.{most_bytes}
+
+-- one choice adds at most one item
+one-more : {X : Type 0} (o : Option X) (xs : List X) → length (cons_option o xs) ≤ suc (length xs)
+one-more None xs = omega arith
+one-more (Some x) xs = omega arith
+
+-- what is chosen of a list is no longer than the list
+chosen : {A X : Type 0} (h : A → Option X) (xs : List A) → length (filter_map h xs) ≤ length xs
+chosen h [] = omega arith
+chosen h (x ∷ xs) = let below = chosen h xs in let more = one-more (h x) (filter_map h xs) in omega arith
+
+-- a text with a line end is longer than what follows the line end
+longer : (before after : List ℕ) → suc (length after) ≤ length (before ++ newline ++ after)
+longer before after = let whole = length-append (before ++ newline) after in let start = length-append before newline in omega arith
+
+-- each line has a byte, its end
+lines-in-bytes : (client manager : ℕ) (lines : List Line) (text : List ℕ) → TellsLines client manager lines text → length lines ≤ length text
+lines-in-bytes client manager [] text told = omega arith
+lines-in-bytes client manager (line ∷ lines) text (body, rest, same, says, told) =
+    let below = lines-in-bytes client manager lines rest told in
+    let more : suc (length rest) ≤ length text = subst (λ t. suc (length rest) ≤ length t) (sym same) (longer body rest) in
+    omega arith
+
+-- a trace has no more lines than its text has bytes
+pub lines-few : (text : List ℕ) (client manager : ℕ) (lines : List Line) → Tells text client manager lines → length text ≤ most_bytes →
+    length lines ≤ most_bytes
+lines-few text client manager lines tells few =
+    let below = lines-in-bytes client manager lines tells.rest tells.told in
+    let more : suc (length tells.rest) ≤ length text =
+    subst (λ t. suc (length tells.rest) ≤ length t) (sym tells.header) (longer (header_text client manager) tells.rest) in
+    omega arith
+
+-- what is chosen of so many lines can be counted
+few-chosen : {X : Type 0} (h : Line → Option X) (lines : List Line) → length lines ≤ most_bytes → (xs : List X) → xs ≡ filter_map h lines →
+    length xs ≤ 2 ^ 40
+few-chosen h lines few xs is =
+    let below = chosen h lines in let same : length xs ≡ length (filter_map h lines) = ap length is in omega arith
+
+-- the lists of a trace that is not too long are not too long
+pub short : (C M : ℕ) (lines : List Line) → length lines ≤ most_bytes →
+    (a : List (BeatOf HeadA C)) (b : List (BeatOf HeadB M)) (c : List (BeatOf HeadC C)) (d : List (BeatOf HeadD M)) (e : List (BeatOf HeadE C)) →
+    a ≡ beats_a C lines → b ≡ beats_b M lines → c ≡ beats_c C lines → d ≡ beats_d M lines → e ≡ beats_e C lines → IsShort a b c d e
+short C M lines few a b c d e is-a is-b is-c is-d is-e = record {
+  few_a = few-chosen (beat_of_a C) lines few a is-a;
+  few_b = few-chosen (beat_of_b M) lines few b is-b;
+  few_c = few-chosen (beat_of_c C) lines few c is-c;
+  few_d = few-chosen (beat_of_d M) lines few d is-d;
+  few_e = few-chosen (beat_of_e C) lines few e is-e;
+}

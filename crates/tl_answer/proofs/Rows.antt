@@ -1,0 +1,113 @@
+-- Whole answers, computed.
+use Rattle.std.proofs.Common.{◌≡◌, ◌∷◌, ◌++◌, ℕ, true, false, List, [], replicate, refl}
+use Rattle.std.specs.Prelude.{codes, flat_map}
+use Rattle.std.specs.Fmt.{digits}
+use Rattle.tl_trace.specs.Texts.{newline}
+use Rattle.tl_trace.specs.declared.line.Line.{Line}
+use Rattle.tl_trace.specs.declared.line.Line.TheVariants as line
+use Rattle.tl_answer.specs.Answer.{answer_of, are_done}
+
+-- lines, each with its end
+abbrev lines_of : List (List ℕ) → List ℕ
+lines_of lines = flat_map (λ l. l ++ newline) lines
+
+-- a Get of 4 bytes at 0x1004 on a bus of 8, whose inactive lanes hold something
+abbrev get : List Line
+get = line.A (record {
+  head = record { opcode = 4; param = 0; size = 2; source = 7; address = 0x1004 };
+  mask = 0xf0;
+  lanes = 0x88 ∷ 0x77 ∷ 0x66 ∷ 0x55 ∷ 0x44 ∷ 0x33 ∷ 0x22 ∷ 0x11 ∷ replicate 56 0;
+  corrupt = false;
+}) ∷ []
+
+-- three of the four beats of a put of 16 bytes, on a bus of 4
+abbrev put : (first : ℕ) → Line
+put first = line.A (record {
+  head = record { opcode = 0; param = 0; size = 4; source = 1; address = 0x20 };
+  mask = 0xf;
+  lanes = first ∷ first ∷ first ∷ first ∷ replicate 60 0;
+  corrupt = false;
+})
+
+abbrev three : List Line
+three = put 3 ∷ put 7 ∷ put 0xb ∷ []
+
+get_to_a_narrower_bus : answer_of 8 4 get false ≡ lines_of
+    (codes "tilelink-far 1 client 8 manager 4" ∷ codes "A 4 0 2 07 0000000000001004 f 00000000 0" ∷
+    codes "= A done 1 1" ∷ codes "= B done 0 0" ∷ codes "= C done 0 0" ∷ codes "= D done 0 0" ∷ codes "= E done 0 0" ∷ [])
+unfolding digits
+get_to_a_narrower_bus = refl
+
+get_checked : answer_of 8 4 get true ≡ lines_of
+    (codes "tilelink-far 1 client 8 manager 4" ∷
+    codes "= A done 1 1" ∷ codes "= B done 0 0" ∷ codes "= C done 0 0" ∷ codes "= D done 0 0" ∷ codes "= E done 0 0" ∷ [])
+unfolding digits
+get_checked = refl
+
+get_is_done : are_done 8 4 get ≡ true
+get_is_done = refl
+
+no_beats : answer_of 8 8 [] false ≡ lines_of
+    (codes "tilelink-far 1 client 8 manager 8" ∷
+    codes "= A done 0 0" ∷ codes "= B done 0 0" ∷ codes "= C done 0 0" ∷ codes "= D done 0 0" ∷ codes "= E done 0 0" ∷ [])
+unfolding digits
+no_beats = refl
+
+-- a far beat is given when its last byte has come, and the burst is cut
+cut_burst : answer_of 4 8 three false ≡ lines_of
+    (codes "tilelink-far 1 client 4 manager 8" ∷ codes "A 0 0 4 01 0000000000000020 ff 0707070703030303 0" ∷
+    codes "= A cut 3 1" ∷ codes "= B done 0 0" ∷ codes "= C done 0 0" ∷ codes "= D done 0 0" ∷ codes "= E done 0 0" ∷ [])
+unfolding digits
+cut_burst = refl
+
+cut_is_not_done : are_done 4 8 three ≡ false
+cut_is_not_done = refl
+
+-- ---- both sides
+
+-- the response to a Get at 0x1004, from a bus of 8: its data stands on the upper four lanes
+abbrev reply : (sink : ℕ) → Line
+reply sink = line.D (record {
+  head = record { opcode = 1; param = 0; size = 2; source = 7; sink = sink; denied = false };
+  mask = 0;
+  lanes = 0x88 ∷ 0x77 ∷ 0x66 ∷ 0x55 ∷ 0x44 ∷ 0x33 ∷ 0x22 ∷ 0x11 ∷ replicate 56 0;
+  corrupt = false;
+})
+
+-- the Get is answered, though its line comes last
+get_answered : answer_of 8 8 (reply 3 ∷ get) false ≡ lines_of
+    (codes "tilelink-far 1 client 8 manager 8" ∷
+    codes "A 4 0 2 07 0000000000001004 f0 0000000000000000 0" ∷ codes "D 1 0 2 07 03 0 1122334400000000 0" ∷
+    codes "= A done 1 1" ∷ codes "= B done 0 0" ∷ codes "= C done 0 0" ∷ codes "= D done 1 1" ∷ codes "= E done 0 0" ∷ [])
+unfolding digits
+get_answered = refl
+
+-- a second response to it has no request
+get_answered_twice : answer_of 8 8 (get ++ reply 3 ∷ reply 4 ∷ []) true ≡ lines_of
+    (codes "tilelink-far 1 client 8 manager 8" ∷
+    codes "= A done 1 1" ∷ codes "= B done 0 0" ∷ codes "= C done 0 0" ∷ codes "= D waiting 1 NoRequest" ∷ codes "= E done 0 0" ∷ [])
+unfolding digits
+get_answered_twice = refl
+
+waiting_is_not_done : are_done 8 8 (get ++ reply 3 ∷ reply 4 ∷ []) ≡ false
+waiting_is_not_done = refl
+
+-- a beat on each channel: rights to a block are asked for and granted, and another block is probed
+abbrev five : List Line
+five =
+    line.E (record { head = record { sink = 7 }; mask = 0; lanes = replicate 64 0; corrupt = false }) ∷
+    line.D (record { head = record { opcode = 4; param = 0; size = 6; source = 1; sink = 7; denied = false }; mask = 0; lanes = replicate 64 0; corrupt = false }) ∷
+    line.C (record { head = record { opcode = 4; param = 1; size = 6; source = 0; address = 0x80 }; mask = 0; lanes = replicate 64 0; corrupt = false }) ∷
+    line.B (record { head = record { opcode = 7; param = 2; size = 6; source = 0; address = 0x80 }; mask = 0xff; lanes = replicate 64 0; corrupt = false }) ∷
+    line.A (record { head = record { opcode = 7; param = 2; size = 6; source = 1; address = 0x40 }; mask = 0xf; lanes = replicate 64 0; corrupt = false }) ∷ []
+
+five_cross : answer_of 4 8 five false ≡ lines_of
+    (codes "tilelink-far 1 client 4 manager 8" ∷
+    codes "A 7 2 6 01 0000000000000040 ff 0000000000000000 0" ∷ codes "B 7 2 6 00 0000000000000080 f 00000000 0" ∷
+    codes "C 4 1 6 00 0000000000000080 0000000000000000 0" ∷ codes "D 4 0 6 01 07 0 00000000 0" ∷ codes "E 07" ∷
+    codes "= A done 1 1" ∷ codes "= B done 1 1" ∷ codes "= C done 1 1" ∷ codes "= D done 1 1" ∷ codes "= E done 1 1" ∷ [])
+unfolding digits
+five_cross = refl
+
+five_are_done : are_done 4 8 five ≡ true
+five_are_done = refl

@@ -1,0 +1,4 @@
+pub mod Answer
+pub mod Faults
+pub mod Texts
+pub mod Statuses

@@ -1,0 +1,31 @@
+-- How the program ends (this project's choice).
+use Rattle.std.specs.Prelude.{◌++◌, ℕ, List, [], Option, None, Some, Bool, true, false, Result, Ok, Err, codes, decimal}
+use Rattle.tl_trace.specs.Texts.{newline}
+use Rattle.tl_answer.specs.Faults.{text_fault_line, text_fault_number, text_fault_name}
+use Rattle.tl_answer.specs.declared.fault.TextFault.{TextFault}
+use Rattle.tl_answer.specs.declared.fault.TextFault.TheVariants as faults
+
+-- the text is no trace: 3, and any other fault: 4
+abbrev pub fault_status : TextFault → ℕ
+fault_status (faults.Trace fault) = 3
+fault_status faults.Stalled = 4
+fault_status faults.Read = 4
+fault_status faults.Write = 4
+fault_status faults.TooLong = 4
+fault_status faults.OutOfMemory = 4
+
+-- 0 where all channels are done, 1 where one is not
+abbrev pub status_of : Result Bool TextFault → ℕ
+status_of (Ok true) = 0
+status_of (Ok false) = 1
+status_of (Err fault) = fault_status fault
+
+-- what stands before the fault's number
+abbrev pub place_text : (line : Option ℕ) → List ℕ
+place_text (Some line) = codes "line " ++ decimal line ++ codes ": "
+place_text None = []
+
+-- the line on standard error, with its end: the program's name, the line of a trace's fault, the fault's number and name
+abbrev pub fault_text : TextFault → List ℕ
+fault_text fault =
+    codes "tlbridge: " ++ place_text (text_fault_line fault) ++ decimal (text_fault_number fault) ++ codes " " ++ text_fault_name fault ++ newline

@@ -1,0 +1,100 @@
+//! From the bytes that come in to the bytes that go out.
+ghost use Rattle.std.specs.Prelude.{◌≡◌, ◌≢◌, ◌≤◌, ◌<◌, length, IfSome, IfOk, OnOk, IfErr, IsErrOf};
+ghost use Rattle.std.specs.Io.KnownBytes.{Appends, IsAtEnd};
+ghost use Rattle.tl_order.specs.Orders.{IsRunnable, is_check};
+ghost use Rattle.tl_answer.specs.Texts.{AnswersText, most_bytes};
+ghost use Rattle.tl_answer.specs.declared.fault.TextFault.TheVariants.{Read as ReadFault, Write as WriteFault, TooLong, OutOfMemory};
+
+use crate::answer::answer_text;
+use crate::fault::TextFault;
+use std::alloc::{AllocError, Global};
+use std::io::{Read, Write};
+use std::thread::Threads;
+use tl_order::Order;
+
+/// The most bytes that a text may have (this project's choice).
+pub const MAX_BYTES: usize = 67_108_864;
+
+/// The bytes that one read may give.
+const READ_BYTES: usize = 65_536;
+
+/// Room for a read of so many bytes.
+fn read_buffer(alloc: Global, bytes: usize) -> Result<Vec<u8>, AllocError>
+    requires { 0 < bytes }
+    ensures { IfOk result (λ v. 0 < length v.items) }
+{
+    vec![in alloc; 0u8; bytes]
+}
+
+/// All that a reader gives, where it is not too long. A read that is interrupted has failed.
+fn read_all<R: Read>(alloc: Global, reader: &mut R) -> Result<Vec<u8>, TextFault>
+    ensures all { IfOk result (λ v. IfSome (R.remaining reader.old) (λ text. v.items ≡ text)) }
+    ensures few { IfOk result (λ v. length v.items ≤ most_bytes) }
+    ensures end { OnOk result (IsAtEnd (R.remaining reader.new)) }
+    ensures long { IsErrOf result TooLong → IfSome (R.remaining reader.old) (λ text.
+        most_bytes < length text) }
+    ensures kinds { IfErr result (λ e. (e ≢ ReadFault) → (e ≢ TooLong) → e ≡ OutOfMemory) }
+{
+    let mut all = Vec::new(alloc);
+    let mut buffer = read_buffer(alloc, READ_BYTES)?;
+    for _ in 0..=MAX_BYTES {
+        match reader.read(buffer.as_mut_slice()) {
+            Ok(0) => return Ok(all),
+            Ok(n) => {
+                if n > MAX_BYTES - all.len() {
+                    return Err(TextFault::TooLong);
+                }
+                all.extend_from_slice(&buffer[..n])?;
+            }
+            Err(_) => return Err(TextFault::Read),
+        }
+    }
+    Err(TextFault::TooLong)
+}
+
+/// Writes all bytes and flushes. A write that takes none or is interrupted has failed.
+fn write_all<W: Write>(writer: &mut W, bytes: &[u8]) -> Result<(), TextFault>
+    ensures all { OnOk result (Appends (W.contents writer.old) (W.contents writer.new) bytes.now) }
+    ensures kind { IfErr result (λ e. e ≡ WriteFault) }
+{
+    let mut written = 0;
+    while written < bytes.len() {
+        match writer.write(&bytes[written..]) {
+            Ok(0) | Err(_) => return Err(TextFault::Write),
+            Ok(n) => written += n,
+        }
+    }
+    if writer.flush().is_err() {
+        return Err(TextFault::Write);
+    }
+    Ok(())
+}
+
+/// Reads a trace to the end of the input, and writes the answer to it: true where all five
+/// channels are done.
+///
+/// The answer is that of the definitions: the widths, the beats that arrive (a check leaves them
+/// out), and how far each channel comes. The order is one that `order_of` gives.
+///
+/// All of the input is read first: `Read` where a read fails or is interrupted, `TooLong` above
+/// 67,108,864 bytes. Then the text is judged: `Trace` with its first fault and that fault's line.
+/// Then both sides of the bridge run, in one thread for now, over rings of the order's size.
+/// Nothing is written before the whole answer is made. `Write` where a write fails, is interrupted
+/// or takes no byte; after it, it isn't said how much went out. `OutOfMemory` comes before anything
+/// is written, and `Stalled` never.
+pub fn run_text<T: Threads, R: Read, W: Write>(
+    _rt: &T,
+    alloc: Global,
+    reader: &mut R,
+    writer: &mut W,
+    order: &Order,
+) -> Result<bool, TextFault>
+    requires { IsRunnable order.now }
+    ensures { AnswersText (R.remaining reader.old) (R.remaining reader.new)
+        (W.contents writer.old) (W.contents writer.new) (is_check order.now) result }
+{
+    let text = read_all(alloc, reader)?;
+    let answer = answer_text(alloc, text, order.is_check(), order.ring())?;
+    write_all(writer, &answer.text)?;
+    Ok(answer.all_done)
+}

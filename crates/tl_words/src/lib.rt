@@ -1,0 +1,125 @@
+//! The command line: what its words ask for, and what is said of words that ask for nothing.
+#![tactic(auto)]
+
+ghost use Rattle.std.specs.Prelude.{◌≤◌, IfOk};
+ghost use Rattle.tl_order.specs.Orders.{IsInRange};
+ghost use Rattle.tl_words.specs.Inner.Numbers.{HasNumber, IsRunOf};
+
+use clap::error::{Error, ErrorKind};
+use clap::{Arg, ArgAction, ArgMatches, Command};
+use std::alloc::{AllocError, Global};
+use tl_order::{MAX_RING, MAX_TURNS, Order};
+
+/// An option with a number. `number_of` says which numbers it takes.
+fn number_option<'a>(alloc: Global, name: &'a str, default: &'a str, help: &'a str) -> Arg<'a> {
+    Arg::new(alloc, name)
+        .long(name)
+        .value_name("N")
+        .help(help)
+        .action(ArgAction::Set)
+        .default_value(default)
+}
+
+fn sync_option<'a>(alloc: Global) -> Arg<'a> {
+    Arg::new(alloc, "sync")
+        .long("sync")
+        .help("Runs both sides in one thread; so does every run for now")
+        .action(ArgAction::SetTrue)
+}
+
+fn run_command<'a>(alloc: Global) -> Result<Command<'a>, AllocError> {
+    let ring =
+        "Beats that the ring of each channel holds, 1 to 4096; the answer is the same for each";
+    let turns =
+        "Turns of each side between two meetings, 1 to 1000; taken, but without effect: both sides run in one thread for now";
+    let about =
+        "Prints the beats that arrive across the bridge, and a report line for each channel. Standard input holds the trace.";
+    Command::new(alloc, "run")
+        .about(about)
+        .arg(number_option(alloc, "ring", "16", ring))?
+        .arg(number_option(alloc, "turns", "4", turns))?
+        .arg(sync_option(alloc))
+}
+
+fn command<'a>(alloc: Global) -> Result<Command<'a>, AllocError> {
+    let about =
+        "Sends a TileLink trace across a clock and width bridge. Standard input holds the trace, standard output gets the answer.";
+    let check = Command::new(alloc, "check").about(
+        "Prints the report lines alone. Standard input holds the trace.",
+    );
+    Command::new(alloc, "tlbridge")
+        .about(about)
+        .subcommand_required(true)
+        .subcommand(run_command(alloc)?)?
+        .subcommand(check)
+}
+
+/// A refusal in these words, below which the usage stands.
+fn refusal(alloc: Global, message: &str) -> Result<Error, AllocError> {
+    let mut command = command(alloc)?;
+    command.error(ErrorKind::ValueValidation, message)
+}
+
+/// The refusal of an option's word that is no number from 1 to `max`.
+fn out_of_range(alloc: Global, name: &str, word: &str, max: usize) -> Result<Error, AllocError> {
+    let message = format!(in alloc;
+        "invalid value '{word}' for '--{name} <N>': it has to be a number from 1 to {max}"
+    )?;
+    refusal(alloc, &message)
+}
+
+/// The number of an option, which lies in 1 to `max`.
+fn number_of(
+    alloc: Global,
+    matches: &ArgMatches<'_>,
+    name: &str,
+    max: usize,
+) -> Result<usize, Error>
+    ensures range { IfOk result (λ n. (1 ≤ n) × (n ≤ max)) }
+    ensures said { IfOk result (HasNumber matches.now name.now) }
+{
+    let word = matches.get_str(name).unwrap_or("");
+    match word.parse::<usize>() {
+        Ok(number) if 1 <= number && number <= max => Ok(number),
+        _ => Err(out_of_range(alloc, name, word, max)?),
+    }
+}
+
+/// The order of the words of `run`.
+fn run_order(alloc: Global, matches: &ArgMatches<'_>) -> Result<Order, Error>
+    ensures range { IfOk result IsInRange }
+    ensures said { IfOk result (IsRunOf matches.now) }
+{
+    Ok(Order::Run {
+        ring: number_of(alloc, matches, "ring", MAX_RING)?,
+        turns: number_of(alloc, matches, "turns", MAX_TURNS)?,
+        sync: matches.get_flag("sync"),
+    })
+}
+
+/// The order of a command line whose words `command` takes: `run`, or else `check`.
+fn order_in(alloc: Global, matches: &ArgMatches<'_>) -> Result<Order, Error>
+    ensures { IfOk result IsInRange }
+{
+    match matches.subcommand_matches("run") {
+        Some(inner) => run_order(alloc, inner),
+        None => Ok(Order::Check),
+    }
+}
+
+/// The order that the words of a command line give. The first word is the program's name.
+///
+/// Every other command line is refused by clap's error, and so is a want of memory. Help that is
+/// asked for comes as an error, too: its `exit_code` is 0, and `print` writes it to standard
+/// output. The `exit_code` of every other error is 2, and `print` writes it to standard error.
+pub fn order_of<'a>(alloc: Global, words: &'a [&'a str]) -> Result<Order, Error>
+    ensures { IfOk result IsInRange }
+{
+    let matches = command(alloc)?.try_get_matches_from(words)?;
+    order_in(alloc, &matches)
+}
+
+/// The refusal of a command line with a word that is not UTF-8.
+pub fn not_utf8(alloc: Global) -> Result<Error, AllocError> {
+    refusal(alloc, "a word of the command line is not UTF-8")
+}

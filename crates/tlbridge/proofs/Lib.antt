@@ -1,5 +1,0 @@
-mod Rows
-pub mod Lengths
-pub mod Answering
-pub mod Reading
-pub mod Writing

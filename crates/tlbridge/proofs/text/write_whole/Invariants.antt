@@ -1,9 +1,0 @@
-use Rattle.std.proofs.Common.{length, ◌-◌}
-use Rattle.tlbridge.proofs.Writing.{SoFar}
-use Rattle.tlbridge.proofs.text.write_whole.Given as goal
-
-abbrev pub invariant-loop-written : goal.invariant-loop-written
-invariant-loop-written g l = SoFar (g.W.Write.contents l.fn.writer) (g.W.Write.contents l.writer) l.bytes l.written
-
-abbrev pub decreases-loop-written : goal.decreases-loop-written
-decreases-loop-written g l = length l.bytes - l.written

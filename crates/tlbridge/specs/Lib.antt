@@ -1,4 +1,0 @@
-pub mod Answer
-pub mod Orders
-pub mod Faults
-pub mod Texts
