@@ -2,15 +2,10 @@
 use Rattle.std.proofs.Common.{◌≡◌, ◌≤◌, ◌^◌, ℕ, suc, List, [], ◌∷◌, ◌++◌, length, Option, None, Some, sym, ap, subst, arith}
 use Rattle.std.proofs.lemmas.List.{length-append}
 use Rattle.std.specs.List.{filter_map, cons_option}
-use Rattle.tl_msg.specs.declared.head.HeadA.{HeadA}
-use Rattle.tl_msg.specs.declared.head.HeadB.{HeadB}
-use Rattle.tl_msg.specs.declared.head.HeadC.{HeadC}
-use Rattle.tl_msg.specs.declared.head.HeadD.{HeadD}
-use Rattle.tl_msg.specs.declared.head.HeadE.{HeadE}
-use Rattle.tl_msg.specs.declared.beat.BeatOf.{BeatOf}
-use Rattle.tl_bridge.specs.Scripts.{IsShort}
+use Rattle.tl_bridge.specs.Scripts.{HasShortLists}
 use Rattle.tl_trace.specs.Texts.{Tells, TellsLines, newline, header_text}
-use Rattle.tl_trace.specs.Scripts.{beats_a, beats_b, beats_c, beats_d, beats_e, beat_of_a, beat_of_b, beat_of_c, beat_of_d, beat_of_e}
+use Rattle.tl_trace.specs.Scripts.{IsScriptOf, beat_of_a, beat_of_b, beat_of_c, beat_of_d, beat_of_e}
+use Rattle.tl_trace.specs.declared.script.Script.{Script}
 use Rattle.tl_trace.specs.declared.line.Line.{Line}
 use Rattle.tl_answer.specs.Texts.{most_bytes}
 
@@ -52,13 +47,11 @@ few-chosen h lines few xs is =
     let below = chosen h lines in let same : length xs ≡ length (filter_map h lines) = ap length is in omega arith
 
 -- the lists of a trace that is not too long are not too long
-pub short : (C M : ℕ) (lines : List Line) → length lines ≤ most_bytes →
-    (a : List (BeatOf HeadA C)) (b : List (BeatOf HeadB M)) (c : List (BeatOf HeadC C)) (d : List (BeatOf HeadD M)) (e : List (BeatOf HeadE C)) →
-    a ≡ beats_a C lines → b ≡ beats_b M lines → c ≡ beats_c C lines → d ≡ beats_d M lines → e ≡ beats_e C lines → IsShort a b c d e
-short C M lines few a b c d e is-a is-b is-c is-d is-e = record {
-  few_a = few-chosen (beat_of_a C) lines few a is-a;
-  few_b = few-chosen (beat_of_b M) lines few b is-b;
-  few_c = few-chosen (beat_of_c C) lines few c is-c;
-  few_d = few-chosen (beat_of_d M) lines few d is-d;
-  few_e = few-chosen (beat_of_e C) lines few e is-e;
+pub short : (C M : ℕ) (lines : List Line) → length lines ≤ most_bytes → (s : Script C M) → IsScriptOf lines s → HasShortLists s
+short C M lines few s is = record {
+  few_a = few-chosen (beat_of_a C) lines few s.a.items is.a;
+  few_b = few-chosen (beat_of_b M) lines few s.b.items is.b;
+  few_c = few-chosen (beat_of_c C) lines few s.c.items is.c;
+  few_d = few-chosen (beat_of_d M) lines few s.d.items is.d;
+  few_e = few-chosen (beat_of_e C) lines few s.e.items is.e;
 }

@@ -4,7 +4,7 @@ use Rattle.std.specs.Prelude.{◌++◌, ℕ, Bool, true, false, cond, List, [], 
 use Rattle.std.specs.List.{list_all}
 use Rattle.tl_msg.specs.declared.verdict.Verdict.{Verdict}
 use Rattle.tl_msg.specs.declared.verdict.Verdict.TheVariants.{Done, Cut, Refused, Waiting}
-use Rattle.tl_settle.specs.Outcomes.{FarBeats, Verdicts, far_beats, verdicts}
+use Rattle.tl_settle.specs.Outcomes.{Beats, Verdicts, far_beats, verdicts}
 use Rattle.tl_bridge.specs.declared.outcome.Outcome.{Outcome}
 use Rattle.tl_trace.specs.Fields.{form_a, form_b, form_c, form_d, form_e}
 use Rattle.tl_trace.specs.Lines.{beats_text}
@@ -18,12 +18,12 @@ abbrev pub far_header : (client manager : ℕ) → List ℕ
 far_header client manager = codes "tilelink-far 1 client " ++ decimal client ++ codes " manager " ++ decimal manager ++ newline
 
 -- the far beats that a run took
-abbrev pub taken : {C M : ℕ} → Outcome C M → FarBeats C M
+abbrev pub taken : {C M : ℕ} → Outcome C M → Beats M C
 taken outcome = record { a = outcome.a.items; b = outcome.b.items; c = outcome.c.items; d = outcome.d.items; e = outcome.e.items }
 
 -- the far beats of A, then those of B, C, D and E, each channel in the order in which they are taken: the manager side takes A, C and E, on its own
 -- lanes, and the client side takes B and D
-abbrev pub far_lines : {C M : ℕ} → FarBeats C M → List ℕ
+abbrev pub far_lines : {C M : ℕ} → Beats M C → List ℕ
 far_lines {C = C} {M = M} far =
     beats_text form_a M far.a ++ beats_text form_b C far.b ++ beats_text form_c M far.c ++ beats_text form_d C far.d ++ beats_text form_e M far.e
 
@@ -44,12 +44,22 @@ is_done (Waiting at fault) = false
 
 -- the two sides' widths and the beats of a trace
 module _ (client manager : ℕ) (lines : List Line) where
-  -- what arrives of its five lists, by the definitions of the link
-  abbrev pub arrives : FarBeats client manager
-  arrives = far_beats (beats_a client lines) (beats_b manager lines) (beats_c client lines) (beats_d manager lines) (beats_e client lines)
+  -- its near beats by channel, each list in the order of its lines
+  abbrev pub near : Beats client manager
+  near = record {
+    a = beats_a client lines;
+    b = beats_b manager lines;
+    c = beats_c client lines;
+    d = beats_d manager lines;
+    e = beats_e client lines;
+  }
+
+  -- what arrives of them, by the definitions of the link
+  abbrev pub arrives : Beats manager client
+  arrives = far_beats near
 
   abbrev pub ends : Verdicts
-  ends = verdicts (beats_a client lines) (beats_b manager lines) (beats_c client lines) (beats_d manager lines) (beats_e client lines)
+  ends = verdicts near
 
   -- the whole answer; a check leaves out the far beats
   abbrev pub answer_of : (check : Bool) → List ℕ

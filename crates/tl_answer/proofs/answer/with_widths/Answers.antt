@@ -1,11 +1,10 @@
 use Rattle.std.proofs.Common.{◌≤◌, length, List, subst, sym, arith}
 use Rattle.tl_trace.specs.Texts.{Tells}
-use Rattle.tl_trace.specs.Scripts.{beats_a, beats_b, beats_c, beats_d, beats_e}
 use Rattle.tl_trace.specs.declared.line.Line.{Line}
 use Rattle.tl_bridge.specs.Scripts.{EndsIn}
-use Rattle.tl_answer.specs.Answer.{ends}
+use Rattle.tl_answer.specs.Answer.{ends, near}
 use Rattle.tl_answer.specs.Texts.{most_bytes}
-use Rattle.tl_answer.proofs.Answering.{answers-text, ends-in}
+use Rattle.tl_answer.proofs.Answering.{answers-text, near-is}
 use Rattle.tl_answer.proofs.Lengths.{lines-few, short}
 use Rattle.tl_answer.proofs.answer.with_widths.Goals as goal
 
@@ -13,7 +12,7 @@ pub outcome_of-requires : goal.outcome_of-requires
 outcome_of-requires g c =
     let told = c.in_ok-script.ensures.told in
     let few = lines-few _ _ _ told.lines told.told (subst (λ text. length text ≤ most_bytes) (sym c.deref.ensures.value) c.requires.few) in
-    let lists = short g.row.C g.row.M told.lines few _ _ _ _ _ told.script.a told.script.b told.script.c told.script.d told.script.e in
+    let lists = short g.row.C g.row.M told.lines few _ told.script in
     (omega arith, (omega arith, (c.requires.client, (c.requires.manager, (lists, c.requires.ring_size)))))
 
 pub returns-clause-ok : goal.returns-clause-ok
@@ -26,6 +25,5 @@ returns-clause-ok g c =
     lines : List Line
     lines = c.in_ok-script.ensures.told.lines
 
-    ended : EndsIn (beats_a g.row.C lines) (beats_b g.row.M lines) (beats_c g.row.C lines) (beats_d g.row.M lines) (beats_e g.row.C lines) c.in_ok-outcome.outcome
-    ended =
-        let script = c.in_ok-script.ensures.told.script in ends-in script.a script.b script.c script.d script.e c.in_ok-outcome.ensures.ok
+    ended : EndsIn (near g.row.C g.row.M lines) c.in_ok-outcome.outcome
+    ended = subst (λ bs. EndsIn bs c.in_ok-outcome.outcome) (near-is lines _ c.in_ok-script.ensures.told.script) c.in_ok-outcome.ensures.ok
