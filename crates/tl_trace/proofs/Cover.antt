@@ -1,14 +1,13 @@
 -- A line of the right shape is its letter and its fields, and nothing else.
-use Rattle.std.proofs.Common.{◌≡◌, ◌≢◌, ℕ, zero, suc, ◌+◌, ◌-◌, ◌<◌, ◌≤◌, Bool, true, false, nat_eq, ◌||◌, List, [], ◌∷◌, ◌++◌, length, map, get_or, drop, sum, refl, sym, ap, ◌∙◌, arith, drop-cons, append_assoc, append-nil, add-one, eq-eqb}
+use Rattle.std.proofs.Common.{◌≡◌, ◌≢◌, ℕ, zero, suc, ◌+◌, ◌-◌, ◌<◌, ◌≤◌, Bool, true, false, nat_eq, ◌||◌, List, [], ◌∷◌, ◌++◌, length, get_or, drop, refl, sym, ap, ◌∙◌, arith, drop-cons, append_assoc, append-nil, add-one, eq-eqb}
 use Rattle.std.proofs.lemmas.Bool.{eqb-true}
 use Rattle.std.proofs.lemmas.List.{length-take-le, length-drop, get_or-take, get_or-drop}
 use Rattle.std.proofs.lemmas.Bool.Decides.{nat_tests}
 use Rattle.std.proofs.lemmas.List.Folds.{drop_split, list_any-append}
-use Rattle.std.proofs.lemmas.List.Sums.{sum_by-cons}
 use Rattle.std.specs.List.{list_all, list_any, flat_map, slice_range, slice_index}
 use Rattle.tl_msg.specs.declared.beat.BeatOf.{BeatOf}
-use Rattle.tl_trace.specs.Fields.{Field, Form, digit_count, fields, form_a, form_b, form_c, form_d, form_e}
-use Rattle.tl_trace.specs.Lines.{Place, places_from, places, is_hex, digits_at, is_shaped_at, IsLine}
+use Rattle.tl_trace.specs.Fields.{Field, Form, digit_count, length_of, fields, form_a, form_b, form_c, form_d, form_e}
+use Rattle.tl_trace.specs.Lines.{FieldPlace, places_from, places, is_hex, digits_at, is_shaped_at, IsLine}
 use Rattle.tl_trace.specs.Faults.{is_newline}
 use Rattle.tl_trace.specs.Texts.{SaysLine}
 use Rattle.tl_trace.specs.declared.line.Line.{Line}
@@ -16,34 +15,29 @@ use Rattle.tl_trace.specs.declared.line.Line.TheVariants.{A, B, C, D, E}
 use Rattle.tl_trace.proofs.Shaped.{first_of_and, second_of_and}
 use Rattle.tl_trace.proofs.ReadLines.{IsFree}
 
--- how many bytes the fields take
-abbrev pub room_of : (w : ℕ) → List Field → ℕ
-room_of w fs = sum (map (λ field. 1 + digit_count w field) fs)
-
 -- a field as it stands in the text
-abbrev pub stands : List ℕ → Place → List ℕ
+abbrev pub stands : List ℕ → FieldPlace → List ℕ
 stands text p = 32 ∷ digits_at text p
 
-pub field_there : (text : List ℕ) (p : Place) → is_shaped_at text p ≡ true → p.at < length text → drop p.at text ≡ stands text p ++ drop (p.at + 1 + p.count) text
+pub field_there : (text : List ℕ) (p : FieldPlace) → is_shaped_at text p ≡ true → p.at < length text → drop p.at text ≡ stands text p ++ drop (p.at + 1 + p.count) text
 field_there text p shaped lt =
     let space : slice_index text p.at ≡ 32 = eqb-true (slice_index text p.at) 32 (first_of_and (nat_eq (slice_index text p.at) 32) (list_all is_hex (digits_at text p)) shaped) in
     drop-cons text p.at 0 lt ∙ ap (λ (x : ℕ). x ∷ drop (suc p.at) text) space
     ∙ ap (λ (n : ℕ). 32 ∷ drop n text) (sym (add-one p.at))
     ∙ ap (λ (xs : List ℕ). 32 ∷ xs) (drop_split text (p.at + 1) (p.at + 1 + p.count) (omega arith))
 
-pub cover : (text : List ℕ) (at w : ℕ) (fs : List Field) → list_all (is_shaped_at text) (places_from at w fs) ≡ true → at + room_of w fs ≤ length text
-    → drop at text ≡ flat_map (stands text) (places_from at w fs) ++ drop (at + room_of w fs) text
+pub cover : (text : List ℕ) (at w : ℕ) (fs : List Field) → list_all (is_shaped_at text) (places_from at w fs) ≡ true → at + length_of w fs ≤ length text
+    → drop at text ≡ flat_map (stands text) (places_from at w fs) ++ drop (at + length_of w fs) text
 cover text at w [] shaped le = let e : at ≡ at + 0 = omega arith in ap (λ (n : ℕ). drop n text) e
 cover text at w (field ∷ more) shaped le =
-    let p : Place = record { field = field; at = at; count = digit_count w field } in
+    let p : FieldPlace = record { field = field; at = at; count = digit_count w field } in
     let next = at + 1 + digit_count w field in
     let rest = places_from next w more in
-    let room : room_of w (field ∷ more) ≡ 1 + digit_count w field + room_of w more = sum_by-cons (λ n. n) (1 + digit_count w field) (map (λ field. 1 + digit_count w field) more) in
     let there = field_there text p (first_of_and (is_shaped_at text p) (list_all (is_shaped_at text) rest) shaped) (omega arith) in
     let after = cover text next w more (second_of_and (is_shaped_at text p) (list_all (is_shaped_at text) rest) shaped) (omega arith) in
-    let end : next + room_of w more ≡ at + room_of w (field ∷ more) = omega arith in
+    let end : next + length_of w more ≡ at + length_of w (field ∷ more) = omega arith in
     there ∙ ap (λ (xs : List ℕ). stands text p ++ xs) (after ∙ ap (λ (n : ℕ). flat_map (stands text) rest ++ drop n text) end)
-    ∙ sym (append_assoc (stands text p) (flat_map (stands text) rest) (drop (at + room_of w (field ∷ more)) text))
+    ∙ sym (append_assoc (stands text p) (flat_map (stands text) rest) (drop (at + length_of w (field ∷ more)) text))
 
 drop_all : (xs : List ℕ) (n : ℕ) → length xs ≤ n → drop n xs ≡ []
 drop_all [] zero le = refl
@@ -54,10 +48,10 @@ drop_all (x ∷ xs) (suc n) le = drop_all xs n (omega arith)
 pub whole_line : {H : Type 0} (f : Form H) {n : ℕ} (w : ℕ) (b : BeatOf H n) (text : List ℕ) → IsLine f w b text → text ≡ f.rules.letter ∷ flat_map (stands text) (places f w)
 whole_line f w b text line =
     let long : 0 < length text = omega (arith, line.long) in
-    let fits : 1 + room_of w (fields f) ≤ length text = omega (arith, line.long) in
+    let fits : 1 + length_of w (fields f) ≤ length text = omega (arith, line.long) in
     drop-cons text 0 0 long ∙ ap (λ (x : ℕ). x ∷ drop 1 text) line.letter
     ∙ ap (λ (xs : List ℕ). f.rules.letter ∷ xs) (cover text 1 w (fields f) line.shaped fits
-    ∙ ap (λ (xs : List ℕ). flat_map (stands text) (places f w) ++ xs) (drop_all text (1 + room_of w (fields f)) (omega (arith, line.long))) ∙ append-nil (flat_map (stands text) (places f w)))
+    ∙ ap (λ (xs : List ℕ). flat_map (stands text) (places f w) ++ xs) (drop_all text (1 + length_of w (fields f)) (omega (arith, line.long))) ∙ append-nil (flat_map (stands text) (places f w)))
 
 -- ---- no line end in a line
 
@@ -72,7 +66,7 @@ digits_free : (ds : List ℕ) → list_all is_hex ds ≡ true → IsFree ds
 digits_free [] h = refl
 digits_free (d ∷ ds) h = or_both (is_newline d) (list_any is_newline ds) (hex_no_end d (first_of_and (is_hex d) (list_all is_hex ds) h)) (digits_free ds (second_of_and (is_hex d) (list_all is_hex ds) h))
 
-fields_free : (text : List ℕ) (ps : List Place) → list_all (is_shaped_at text) ps ≡ true → IsFree (flat_map (stands text) ps)
+fields_free : (text : List ℕ) (ps : List FieldPlace) → list_all (is_shaped_at text) ps ≡ true → IsFree (flat_map (stands text) ps)
 fields_free text [] h = refl
 fields_free text (p ∷ ps) h =
     let here = digits_free (digits_at text p) (second_of_and (nat_eq (slice_index text p.at) 32) (list_all is_hex (digits_at text p)) (first_of_and (is_shaped_at text p) (list_all (is_shaped_at text) ps) h)) in

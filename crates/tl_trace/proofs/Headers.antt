@@ -1,5 +1,5 @@
 -- Finding the widths of a header.
-use Rattle.std.proofs.Common.{◌-◌, ◌/◌, ◌%◌, ◌||◌, nat_le, get_or, ◌≡◌, ℕ, zero, suc, ◌+◌, ◌<◌, ◌≤◌, Bool, true, false, cond, List, [], ◌∷◌, length, map, take, Option, None, Some, refl, sym, ap, ◌∙◌, arith, add-one}
+use Rattle.std.proofs.Common.{◌-◌, ◌||◌, nat_le, get_or, ◌≡◌, ℕ, zero, suc, ◌+◌, ◌<◌, ◌≤◌, Bool, true, false, cond, List, [], ◌∷◌, length, map, take, Option, None, Some, refl, sym, ap, ◌∙◌, arith, add-one}
 use Rattle.std.specs.Prelude.{find, slice_get, bytes_eq, ◌==◌}
 use Rattle.std.specs.List.{list_all, list_any, slice_range}
 use Rattle.std.specs.Bool.{Decides}
@@ -44,14 +44,12 @@ pair_at [] i lt = absurd (omega arith)
 pair_at (x ∷ xs) zero lt = refl
 pair_at (x ∷ xs) (suc i) lt = pair_at xs i (omega arith)
 
-pub width_pair : (table : List ℕ) (i : ℕ) → i < 49
-    → agree_below (λ k. get_or (map (λ p. p.0) width_pairs) k 0) (λ k. get_or table (k / 7) 0) 49 ≡ true
-    → agree_below (λ k. get_or (map (λ p. p.1) width_pairs) k 0) (λ k. get_or table (k % 7) 0) 49 ≡ true
-    → slice_get width_pairs i ≡ Some (get_or table (i / 7) 0, get_or table (i % 7) 0)
-width_pair table i lt clients managers =
+pub width_pair : (g h : ℕ → ℕ) (i : ℕ) → i < 49 → agree_below (λ k. get_or (map (λ p. p.0) width_pairs) k 0) g 49 ≡ true → agree_below (λ k. get_or (map (λ p. p.1) width_pairs) k 0) h 49 ≡ true
+    → slice_get width_pairs i ≡ Some (g i, h i)
+width_pair g h i lt clients managers =
     pair_at width_pairs i lt
-    ∙ ap (λ (n : ℕ). Some (n, get_or (map (λ p. p.1) width_pairs) i 0)) (agree_at (λ k. get_or (map (λ p. p.0) width_pairs) k 0) (λ k. get_or table (k / 7) 0) 49 clients i lt)
-    ∙ ap (λ (n : ℕ). Some (get_or table (i / 7) 0, n)) (agree_at (λ k. get_or (map (λ p. p.1) width_pairs) k 0) (λ k. get_or table (k % 7) 0) 49 managers i lt)
+    ∙ ap (λ (n : ℕ). Some (n, get_or (map (λ p. p.1) width_pairs) i 0)) (agree_at (λ k. get_or (map (λ p. p.0) width_pairs) k 0) g 49 clients i lt)
+    ∙ ap (λ (n : ℕ). Some (g i, n)) (agree_at (λ k. get_or (map (λ p. p.1) width_pairs) k 0) h 49 managers i lt)
 
 pub found : (text : List ℕ) (i : ℕ) (pair : ℕ × ℕ) → IsPassed text i → slice_get width_pairs i ≡ Some pair → names text pair ≡ true → widths_of text ≡ Some pair
 unfolding widths_of

@@ -9,7 +9,7 @@ use Rattle.std.specs.List.{list_all}
 use Rattle.std.specs.Str.Parse.{digits_value}
 use Rattle.std.specs.Char.{digit_value}
 use Rattle.tl_trace.specs.Lines.{is_hex}
-use Rattle.tl_trace.specs.Reading.{digit_of, number_of}
+use Rattle.tl_trace.specs.Inner.Reading.{digit_of, number_of}
 
 pub room : (n i d : ℕ) → i < 16 → n < 16 ^ i → d ≤ 15 → n * 16 + d < 2 ^ 64
 room n i d lt small below =

@@ -6,7 +6,7 @@ use borrow.Rule.Slice.PartMut.{put_mid}
 use Rattle.std.specs.Char.{digit_char}
 use Rattle.tl_trace.specs.Fields.{number_of_lanes}
 use Rattle.tl_trace.specs.Lines.{hex}
-use Rattle.tl_trace.proofs.LaneDigits.{drop_set}
+use Rattle.tl_trace.proofs.ReadDigits.{drop_set}
 
 pub length-hex : (count value : ℕ) → length (hex count value) ≡ count
 length-hex zero value = refl
@@ -45,20 +45,20 @@ pub hex_done : (n value : ℕ) (digits : List ℕ) (rest i : ℕ) → n ≤ i �
 hex_done n value digits rest i le far = let none : 0 ≡ n - i = omega arith in ap (λ (m : ℕ). hex m rest ++ drop m digits) none ∙ far.made
 
 -- two digits at a time
-pub pair_next : (value : ℕ) (digits : List ℕ) (rest i low high : ℕ) → i < 8 → HexSoFar 16 value digits rest (2 * i) → low ≡ digit_char (rest % 256 % 16) → high ≡ digit_char (rest % 256 / 16 % 16)
-    → HexSoFar 16 value (set (set digits (15 - 2 * i) low) (14 - 2 * i) high) (rest / 256) (2 * (i + 1))
-pair_next value digits rest i low high lt far l h =
+pub pair_next : (n value : ℕ) (digits : List ℕ) (rest i low high : ℕ) → 2 * i + 1 < n → HexSoFar n value digits rest (2 * i) → low ≡ digit_char (rest % 256 % 16) → high ≡ digit_char (rest % 256 / 16 % 16)
+    → HexSoFar n value (set (set digits (n - 1 - 2 * i) low) (n - 2 - 2 * i) high) (rest / 256) (2 * (i + 1))
+pair_next n value digits rest i low high lt far l h =
     let low_is : rest % 256 % 16 ≡ rest % 16 = omega arith in
     let high_is : rest % 256 / 16 % 16 ≡ rest / 16 % 16 = omega arith in
-    let one : HexSoFar 16 value (set digits (15 - 2 * i) low) (rest / 16) (2 * i + 1) = hex_next 16 value digits rest (2 * i) low (omega arith) far (l ∙ ap digit_char low_is) in
-    let two : HexSoFar 16 value (set (set digits (15 - 2 * i) low) (15 - (2 * i + 1)) high) (rest / 16 / 16) (2 * i + 1 + 1) =
-    hex_next 16 value (set digits (15 - 2 * i) low) (rest / 16) (2 * i + 1) high (omega arith) one (h ∙ ap digit_char high_is) in
-    let place : 15 - (2 * i + 1) ≡ 14 - 2 * i = omega arith in
+    let one : HexSoFar n value (set digits (n - 1 - 2 * i) low) (rest / 16) (2 * i + 1) = hex_next n value digits rest (2 * i) low (omega arith) far (l ∙ ap digit_char low_is) in
+    let two : HexSoFar n value (set (set digits (n - 1 - 2 * i) low) (n - 1 - (2 * i + 1)) high) (rest / 16 / 16) (2 * i + 1 + 1) =
+    hex_next n value (set digits (n - 1 - 2 * i) low) (rest / 16) (2 * i + 1) high lt one (h ∙ ap digit_char high_is) in
+    let place : n - 1 - (2 * i + 1) ≡ n - 2 - 2 * i = omega arith in
     let left : rest / 16 / 16 ≡ rest / 256 = omega arith in
     let count : 2 * i + 1 + 1 ≡ 2 * (i + 1) = omega arith in
-    let P : ℕ → Type 0 = λ k. HexSoFar 16 value (set (set digits (15 - 2 * i) low) k high) (rest / 16 / 16) (2 * i + 1 + 1) in
-    let Q : ℕ → Type 0 = λ r. HexSoFar 16 value (set (set digits (15 - 2 * i) low) (14 - 2 * i) high) r (2 * i + 1 + 1) in
-    let R : ℕ → Type 0 = λ c. HexSoFar 16 value (set (set digits (15 - 2 * i) low) (14 - 2 * i) high) (rest / 256) c in
+    let P : ℕ → Type 0 = λ k. HexSoFar n value (set (set digits (n - 1 - 2 * i) low) k high) (rest / 16 / 16) (2 * i + 1 + 1) in
+    let Q : ℕ → Type 0 = λ r. HexSoFar n value (set (set digits (n - 1 - 2 * i) low) (n - 2 - 2 * i) high) r (2 * i + 1 + 1) in
+    let R : ℕ → Type 0 = λ c. HexSoFar n value (set (set digits (n - 1 - 2 * i) low) (n - 2 - 2 * i) high) (rest / 256) c in
     subst R count (subst Q left (subst P place two))
 
 -- a space, and digits behind it

@@ -14,7 +14,7 @@ use Rattle.tl_msg.specs.declared.head.HeadE.{HeadE}
 use Rattle.tl_trace.specs.Fields.{Field, opcode, param, size, source, address, sink, denied, mask, data_lanes, corrupt, Form, fields, values, value_of, number_of_lanes, form_a, form_b, form_c, form_d, form_e}
 use Rattle.tl_trace.specs.Lines.{is_lanes, is_writable, is_plain}
 use Rattle.tl_trace.specs.Scripts.{on_lanes}
-use Rattle.tl_trace.specs.Reading.{IsRead, IsReadNear}
+use Rattle.tl_trace.specs.Inner.Reading.{IsRead, IsReadNear}
 use Rattle.tl_trace.specs.declared.line.Line.TheVariants.{A, B, C, D, E}
 use Rattle.tl_trace.specs.declared.near.Near.TheVariants.{OfA, OfB, OfC, OfD, OfE}
 use Rattle.tl_trace.proofs.Shaped.{and_of, first_of_and, second_of_and}

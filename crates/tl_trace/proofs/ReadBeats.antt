@@ -1,12 +1,13 @@
 -- Reading beats by channel: what has been read, and one step more.
-use Rattle.std.proofs.Common.{◌≡◌, ℕ, ◌+◌, ◌<◌, false, true, Result, Ok, Err, arith, List, [], ◌∷◌, ◌++◌, length, drop, Option, None, Some, refl, sym, ap, ◌∙◌}
+use Rattle.std.proofs.Common.{◌≡◌, ℕ, ◌+◌, ◌<◌, false, true, Result, Ok, Err, arith, List, [], ◌∷◌, ◌++◌, length, drop, take, get_or, subst, Option, None, Some, refl, sym, ap, ◌∙◌}
+use Rattle.std.proofs.lemmas.List.{take_more}
 use Rattle.std.proofs.lemmas.List.Elements.{filter_map-append}
 use Rattle.std.specs.List.{filter_map, cons_option, slice_range}
 use Rattle.std.specs.Option.{option_to_list}
 use Rattle.std.specs.Result.{is_err}
 use Rattle.std.specs.Prelude.{OnOk, IfOk}
 use Rattle.tl_trace.specs.Scripts.{IsScriptOf, beat_of_a, beat_of_b, beat_of_c, beat_of_d, beat_of_e}
-use Rattle.tl_trace.specs.Reading.{IsReadNear, LineAt, near_a, near_b, near_c, near_d, near_e}
+use Rattle.tl_trace.specs.Inner.Reading.{IsNearOf, IsPushed, IsReadNear, LineAt, near_a, near_b, near_c, near_d, near_e}
 use Rattle.tl_trace.specs.declared.line.Line.{Line}
 use Rattle.tl_trace.specs.declared.near.Near.{Near}
 use Rattle.tl_trace.specs.declared.script.Script.{Script}
@@ -35,22 +36,35 @@ grown {X} h lines line o before now was is same =
     is ∙ ap (λ (xs : List X). xs ++ option_to_list o) was ∙ ap (λ (p : Option X). filter_map h lines ++ option_to_list p) same
     ∙ ap (λ (xs : List X). filter_map h lines ++ xs) (sym (one (h line))) ∙ sym (filter_map-append h lines (line ∷ []))
 
+-- a beat more, of one channel
+pub pushed : {C M : ℕ} (lines : List Line) (line : Line) (s s' : Script C M) (near : Near C M) → IsScriptOf lines s → IsNearOf line near → IsPushed near s s' → IsScriptOf (lines ++ line ∷ []) s'
+pushed {C} {M} lines line s s' near far same put = record {
+  a = grown (beat_of_a C) lines line (near_a near) s.a.items s'.a.items far.a put.a same.a;
+  b = grown (beat_of_b M) lines line (near_b near) s.b.items s'.b.items far.b put.b same.b;
+  c = grown (beat_of_c C) lines line (near_c near) s.c.items s'.c.items far.c put.c same.c;
+  d = grown (beat_of_d M) lines line (near_d near) s.d.items s'.d.items far.d put.d same.d;
+  e = grown (beat_of_e C) lines line (near_e near) s.e.items s'.e.items far.e put.e same.e;
+}
+
+-- the beat of the line at i
+pub script_more : {C M : ℕ} (xs lines : List Line) (i : ℕ) (d : Line) (s s' : Script C M) (near : Near C M) → i < length xs → xs ≡ lines → IsScriptOf (take i lines) s → IsNearOf (get_or xs i d) near → IsPushed near s s'
+    → IsScriptOf (take (i + 1) lines) s'
+script_more {C} {M} xs lines i d s s' near lt same far is put =
+    let here : take (i + 1) lines ≡ take i lines ++ get_or xs i d ∷ [] = ap (take (i + 1)) (sym same) ∙ take_more xs i d lt ∙ ap (λ (ys : List Line). take i ys ++ get_or xs i d ∷ []) same in
+    let P : List Line → Type 0 = λ ys. IsScriptOf ys s' in
+    subst P (sym here) (pushed (take i lines) (get_or xs i d) s s' near far is put)
+
+pub on_was : {A E : Type 0} {P : Type 0} (r : Result A E) (v : A) → OnOk r P → r ≡ Ok v → P
+on_was (Ok w) v p e = p
+on_was (Err x) v p e = absurd cc
+
 pub more : {C M : ℕ} (text : List ℕ) (start : ℕ) (s s' : Script C M) (at before end : ℕ) (near : Near C M) → Progress text start s at before → LineAt text at end
-    → IsReadNear (slice_range text at end) near → end < length text
-    → s'.a.items ≡ s.a.items ++ option_to_list (near_a near) → s'.b.items ≡ s.b.items ++ option_to_list (near_b near) → s'.c.items ≡ s.c.items ++ option_to_list (near_c near)
-    → s'.d.items ≡ s.d.items ++ option_to_list (near_d near) → s'.e.items ≡ s.e.items ++ option_to_list (near_e near)
-    → Progress text start s' (end + 1) (before + 1)
-more {C} {M} text start s s' at before end near p line r lt ea eb ec ed ee =
+    → IsReadNear (slice_range text at end) near → end < length text → IsPushed near s s' → Progress text start s' (end + 1) (before + 1)
+more {C} {M} text start s s' at before end near p line r lt put =
     record {
       lines = p.lines ++ r.line ∷ [];
       far = advance text start C M p.lines at before end r.line p.far line r.read lt;
-      script = record {
-        a = grown (beat_of_a C) p.lines r.line (near_a near) s.a.items s'.a.items p.script.a ea r.same.a;
-        b = grown (beat_of_b M) p.lines r.line (near_b near) s.b.items s'.b.items p.script.b eb r.same.b;
-        c = grown (beat_of_c C) p.lines r.line (near_c near) s.c.items s'.c.items p.script.c ec r.same.c;
-        d = grown (beat_of_d M) p.lines r.line (near_d near) s.d.items s'.d.items p.script.d ed r.same.d;
-        e = grown (beat_of_e C) p.lines r.line (near_e near) s.e.items s'.e.items p.script.e ee r.same.e;
-      };
+      script = pushed p.lines r.line s s' near p.script r.same put;
     }
 
 pub on_ok : {A E : Type 0} {P : Type 0} (r : Result A E) → OnOk r P → is_err r ≡ false → P

@@ -11,7 +11,7 @@ use Rattle.tl_trace.specs.Fields.{Form, form_a, form_b, form_c, form_d, form_e}
 use Rattle.tl_trace.specs.Lines.{is_lanes, is_writable, is_plain, is_kept}
 use Rattle.tl_trace.specs.Texts.{newline, SaysLine, TellsLines, is_kept_line}
 use Rattle.tl_trace.specs.Faults.{is_newline, onto_first, cut, body, end_fault, later_fault, faults, IsFirstFault, IsReadableTo}
-use Rattle.tl_trace.specs.Reading.{IsRead, IsReadLine}
+use Rattle.tl_trace.specs.Inner.Reading.{IsRead, IsReadLine}
 use Rattle.tl_trace.specs.declared.line.Line.{Line}
 use Rattle.tl_trace.specs.declared.line.Line.TheVariants.{A, B, C, D, E}
 use Rattle.tl_trace.specs.declared.fault.TraceKind.{TraceKind}

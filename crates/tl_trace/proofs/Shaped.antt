@@ -4,9 +4,9 @@ use Rattle.std.specs.List.{list_all, list_any, slice_index}
 use Rattle.tl_msg.specs.declared.beat.BeatOf.{BeatOf}
 use Rattle.tl_trace.specs.declared.fault.TraceKind.TheVariants.{Length, Shape, Range}
 use Rattle.tl_trace.specs.Fields.{Field, Form, bit, digit_count, fields, values, value_of, line_length}
-use Rattle.tl_trace.specs.Lines.{Place, places_from, places, is_hex, digits_at, is_shaped_at, value_at, is_in_range, is_lanes, IsLine, is_writable, is_plain}
+use Rattle.tl_trace.specs.Lines.{FieldPlace, places_from, places, is_hex, digits_at, is_shaped_at, value_at, is_in_range, is_lanes, IsLine, is_writable, is_plain}
 use Rattle.tl_trace.specs.Faults.{form_fault}
-use Rattle.tl_trace.specs.Reading.{number_of, field_at, fields_at, IsRead}
+use Rattle.tl_trace.specs.Inner.Reading.{number_of, field_at, fields_from, IsRead}
 
 pub and_of : (x y : Bool) → x ≡ true → y ≡ true → x && y ≡ true
 and_of true true e e' = refl
@@ -36,15 +36,15 @@ unguarded true true x e = absurd cc
 unguarded true false x e = refl
 unguarded false b x e = refl
 
-field_is : (text : List ℕ) (p : Place) (v : ℕ) → field_at text p.at p.count ≡ Some v → (is_shaped_at text p ≡ true) × (value_at text p ≡ v)
+field_is : (text : List ℕ) (p : FieldPlace) (v : ℕ) → field_at text p.at p.count ≡ Some v → (is_shaped_at text p ≡ true) × (value_at text p ≡ v)
 unfolding field_at number_of
 field_is text p v e = guarded (nat_eq (slice_index text p.at) 32) (list_all is_hex (digits_at text p)) (value_at text p) v e
 
-field_is_not : (text : List ℕ) (p : Place) → field_at text p.at p.count ≡ None → is_shaped_at text p ≡ false
+field_is_not : (text : List ℕ) (p : FieldPlace) → field_at text p.at p.count ≡ None → is_shaped_at text p ≡ false
 unfolding field_at number_of
 field_is_not text p e = unguarded (nat_eq (slice_index text p.at) 32) (list_all is_hex (digits_at text p)) (value_at text p) e
 
-pub record Read (text : List ℕ) (ps : List Place) (vs : List ℕ) : Type 0 where
+pub record Read (text : List ℕ) (ps : List FieldPlace) (vs : List ℕ) : Type 0 where
   pub shaped : list_all (is_shaped_at text) ps ≡ true
   pub values : map (value_at text) ps ≡ vs
 
@@ -54,7 +54,7 @@ head_of x y xs ys e = cc
 tail_of : {A : Type 0} (x y : A) (xs ys : List A) → x ∷ xs ≡ y ∷ ys → xs ≡ ys
 tail_of x y xs ys e = cc
 
-pub reads : (text : List ℕ) (ps : List Place) (vs : List ℕ) → map (λ p. field_at text p.at p.count) ps ≡ map Some vs → Read text ps vs
+pub reads : (text : List ℕ) (ps : List FieldPlace) (vs : List ℕ) → map (λ p. field_at text p.at p.count) ps ≡ map Some vs → Read text ps vs
 reads text [] [] e = record { shaped = refl; values = refl }
 reads text [] (v ∷ vs) e = absurd cc
 reads text (p ∷ ps) [] e = absurd cc
@@ -74,12 +74,12 @@ and_false_right : (x y : Bool) → y ≡ false → x && y ≡ false
 and_false_right true y e = e
 and_false_right false y e = refl
 
-unread_at : (text : List ℕ) (p : Place) (o : Option ℕ) (none shaped : Bool) → field_at text p.at p.count ≡ o → is_none o || none ≡ true → (none ≡ true → shaped ≡ false)
+unread_at : (text : List ℕ) (p : FieldPlace) (o : Option ℕ) (none shaped : Bool) → field_at text p.at p.count ≡ o → is_none o || none ≡ true → (none ≡ true → shaped ≡ false)
     → is_shaped_at text p && shaped ≡ false
 unread_at text p None none shaped here e more = and_false (is_shaped_at text p) shaped (field_is_not text p here)
 unread_at text p (Some v) none shaped here e more = and_false_right (is_shaped_at text p) shaped (more e)
 
-pub unread : (text : List ℕ) (ps : List Place) → list_any is_none (map (λ p. field_at text p.at p.count) ps) ≡ true → list_all (is_shaped_at text) ps ≡ false
+pub unread : (text : List ℕ) (ps : List FieldPlace) → list_any is_none (map (λ p. field_at text p.at p.count) ps) ≡ true → list_all (is_shaped_at text) ps ≡ false
 unread text [] e = absurd cc
 unread text (p ∷ ps) e = unread_at text p (field_at text p.at p.count) (list_any is_none (map (λ p. field_at text p.at p.count) ps)) (list_all (is_shaped_at text) ps) refl e (unread text ps)
 
@@ -94,7 +94,7 @@ text_below : {H : Type 0} (f : Form H) (w at : ℕ) (text : List ℕ) (fs : List
 text_below f w at text [] vs e = refl
 text_below f w at text (field ∷ more) [] e = absurd cc
 text_below f w at text (field ∷ more) (v ∷ vs) e =
-    let p : Place = record { field = field; at = at; count = digit_count w field } in
+    let p : FieldPlace = record { field = field; at = at; count = digit_count w field } in
     let rest = places_from (at + 1 + digit_count w field) w more in
     let here : value_at text p ≡ v = head_of (value_at text p) v (map (value_at text) rest) vs e in
     let there = text_below f w (at + 1 + digit_count w field) text more vs (tail_of (value_at text p) v (map (value_at text) rest) vs e) in
@@ -114,7 +114,7 @@ pub same_range : {H : Type 0} (f : Form H) {n : ℕ} (w : ℕ) (b : BeatOf H n) 
 same_range f w b text line = text_below f w 1 text (fields f) _ line.says ∙ sym (beat_below f w b (fields f) (map (value_of f b) (fields f)) refl)
 
 pub made : {H : Type 0} (f : Form H) {n : ℕ} (w : ℕ) (b : BeatOf H n) (text : List ℕ) (vs : List ℕ) → slice_index text 0 ≡ f.rules.letter → length text ≡ line_length f w
-    → fields_at f w text ≡ map Some vs → map (value_of f b) (fields f) ≡ vs → below f w (fields f) vs ≡ true → is_lanes n b.lanes ≡ true → is_plain f b ≡ true → IsRead f w text b
+    → fields_from w text 1 (fields f) ≡ map Some vs → map (value_of f b) (fields f) ≡ vs → below f w (fields f) vs ≡ true → is_lanes n b.lanes ≡ true → is_plain f b ≡ true → IsRead f w text b
 made {H} f {n} w b text vs letter long read same range lanes plain =
     let r = reads text (places f w) vs read in
     record {
@@ -125,10 +125,10 @@ made {H} f {n} w b text vs letter long read same range lanes plain =
 pub wrong_length : {H : Type 0} (f : Form H) (w : ℕ) (text : List ℕ) → length text ≢ line_length f w → form_fault f w text ≡ Some Length
 wrong_length f w text ne = let no : nat_eq (length text) (line_length f w) ≡ false = grind arith in rw no refl
 
-pub wrong_shape : {H : Type 0} (f : Form H) (w : ℕ) (text : List ℕ) → length text ≡ line_length f w → list_any is_none (fields_at f w text) ≡ true → form_fault f w text ≡ Some Shape
+pub wrong_shape : {H : Type 0} (f : Form H) (w : ℕ) (text : List ℕ) → length text ≡ line_length f w → list_any is_none (fields_from w text 1 (fields f)) ≡ true → form_fault f w text ≡ Some Shape
 wrong_shape f w text long none = rw (eq-eqb (length text) (line_length f w) long, unread text (places f w) none) refl
 
-pub wrong_range : {H : Type 0} (f : Form H) (w : ℕ) (text : List ℕ) (vs : List ℕ) → length text ≡ line_length f w → fields_at f w text ≡ map Some vs → below f w (fields f) vs ≡ false → form_fault f w text ≡ Some Range
+pub wrong_range : {H : Type 0} (f : Form H) (w : ℕ) (text : List ℕ) (vs : List ℕ) → length text ≡ line_length f w → fields_from w text 1 (fields f) ≡ map Some vs → below f w (fields f) vs ≡ false → form_fault f w text ≡ Some Range
 wrong_range f w text vs long read range =
     let r = reads text (places f w) vs read in
     let out : is_in_range f w text ≡ false = text_below f w 1 text (fields f) vs r.values ∙ range in

@@ -6,17 +6,16 @@ use Rattle.std.proofs.lemmas.Bool.{ltb-true}
 use Rattle.std.proofs.lemmas.Bool.Decides.{nat_tests}
 use Rattle.std.proofs.lemmas.List.{length-take-le, length-drop}
 use Rattle.std.proofs.lemmas.List.Folds.{list_all-append}
-use Rattle.std.proofs.lemmas.List.Sums.{sum_by-cons}
 use Rattle.std.proofs.lemmas.Int.Digits.{digits_value_push}
 use Rattle.std.specs.List.{list_all, flat_map, slice_range, slice_index}
 use Rattle.std.specs.Str.Parse.{digits_value}
 use Rattle.std.specs.Char.{digit_value, digit_char}
 use Rattle.tl_msg.specs.declared.beat.BeatOf.{BeatOf}
-use Rattle.tl_trace.specs.Fields.{Field, Form, opcode, param, size, source, address, sink, denied, mask, data_lanes, corrupt, digit_count, values, value_of, fields}
-use Rattle.tl_trace.specs.Lines.{Place, places_from, hex, is_hex, digits_at, value_at, is_shaped_at, IsLine, is_writable, line_text}
+use Rattle.tl_trace.specs.Fields.{Field, Form, opcode, param, size, source, address, sink, denied, mask, data_lanes, corrupt, digit_count, length_of, values, value_of, fields}
+use Rattle.tl_trace.specs.Lines.{FieldPlace, places_from, hex, is_hex, digits_at, value_at, is_shaped_at, IsLine, is_writable, line_text}
 use Rattle.tl_trace.proofs.Shaped.{and_of, first_of_and, second_of_and}
 use Rattle.tl_trace.proofs.HexText.{length-hex}
-use Rattle.tl_trace.proofs.Cover.{room_of, stands, whole_line}
+use Rattle.tl_trace.proofs.Cover.{stands, whole_line}
 
 -- ---- digits
 
@@ -85,14 +84,13 @@ head_of x y xs ys e = cc
 tail_of : (x y : ℕ) (xs ys : List ℕ) → x ∷ xs ≡ y ∷ ys → xs ≡ ys
 tail_of x y xs ys e = cc
 
-pub as_spelled : (text : List ℕ) (at w : ℕ) (value : Field → ℕ) (fs : List Field) → list_all (is_shaped_at text) (places_from at w fs) ≡ true → at + room_of w fs ≤ length text
+pub as_spelled : (text : List ℕ) (at w : ℕ) (value : Field → ℕ) (fs : List Field) → list_all (is_shaped_at text) (places_from at w fs) ≡ true → at + length_of w fs ≤ length text
     → map (value_at text) (places_from at w fs) ≡ map value fs → flat_map (stands text) (places_from at w fs) ≡ flat_map (spelled w value) fs
 as_spelled text at w value [] shaped le says = refl
 as_spelled text at w value (field ∷ more) shaped le says =
-    let p : Place = record { field = field; at = at; count = digit_count w field } in
+    let p : FieldPlace = record { field = field; at = at; count = digit_count w field } in
     let next = at + 1 + digit_count w field in
     let rest = places_from next w more in
-    let room : room_of w (field ∷ more) ≡ 1 + digit_count w field + room_of w more = sum_by-cons (λ n. n) (1 + digit_count w field) (map (λ field. 1 + digit_count w field) more) in
     let here = head_of (value_at text p) (value field) (map (value_at text) rest) (map value more) says in
     let there = tail_of (value_at text p) (value field) (map (value_at text) rest) (map value more) says in
     let digits = second_of_and (nat_eq (slice_index text at) 32) (list_all is_hex (digits_at text p)) (first_of_and (is_shaped_at text p) (list_all (is_shaped_at text) rest) shaped) in
@@ -117,10 +115,9 @@ middle before digits after i j at long =
     ∙ ap (λ (xs : List ℕ). take (length digits) xs) (drop-append_seam before (digits ++ after))
     ∙ take-append_seam digits after
 
-length-spelled : (w : ℕ) (value : Field → ℕ) (fs : List Field) → length (flat_map (spelled w value) fs) ≡ room_of w fs
+length-spelled : (w : ℕ) (value : Field → ℕ) (fs : List Field) → length (flat_map (spelled w value) fs) ≡ length_of w fs
 length-spelled w value [] = refl
 length-spelled w value (field ∷ more) =
-    let room : room_of w (field ∷ more) ≡ 1 + digit_count w field + room_of w more = sum_by-cons (λ n. n) (1 + digit_count w field) (map (λ field. 1 + digit_count w field) more) in
     length-append (spelled w value field) (flat_map (spelled w value) more) ∙ omega (arith, length-hex (digit_count w field) (value field), length-spelled w value more)
 
 -- what stands in a text at the places of fields
@@ -133,7 +130,7 @@ pub placed : (text before : List ℕ) (at w : ℕ) (value fits : Field → ℕ) 
 placed text before at w value fits [] e long small wide = record { shaped = refl; says = refl }
 placed text before at w value fits (field ∷ more) e long small wide =
     let count = digit_count w field in
-    let p : Place = record { field = field; at = at; count = count } in
+    let p : FieldPlace = record { field = field; at = at; count = count } in
     let digits = hex count (value field) in
     let rest = flat_map (spelled w value) more in
     let next = at + 1 + count in
@@ -199,5 +196,5 @@ pub is_line : {H : Type 0} (f : Form H) → f.params ≤ 16 → {n : ℕ} (w : �
 is_line f few w b writable =
     let text = line_text f w b in
     let there = placed text (f.rules.letter ∷ []) 1 w (value_of f b) (values f w) (fields f) refl refl writable (wide f few w) in
-    let long : length (flat_map (spelled w (value_of f b)) (fields f)) ≡ room_of w (fields f) = length-spelled w (value_of f b) (fields f) in
+    let long : length (flat_map (spelled w (value_of f b)) (fields f)) ≡ length_of w (fields f) = length-spelled w (value_of f b) (fields f) in
     record { letter = refl; long = omega (arith, long); shaped = there.shaped; says = there.says }

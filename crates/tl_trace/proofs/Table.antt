@@ -1,7 +1,7 @@
 -- A table of 256 bytes against a definition.
 use Rattle.std.proofs.Common.{◌≡◌, ℕ, zero, suc, ◌<◌, Bool, true, false, ◌&&◌, nat_eq, get_or, List, refl, arith, inl, inr}
 use Rattle.std.proofs.lemmas.Bool.{cases_eq, eqb-true}
-use Rattle.tl_trace.specs.Reading.{digit_of}
+use Rattle.tl_trace.specs.Inner.Reading.{digit_of}
 
 -- the two are the same below n
 unfoldable pub agree_below : (f g : ℕ → ℕ) → ℕ → Bool

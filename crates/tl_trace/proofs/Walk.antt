@@ -8,7 +8,7 @@ use Rattle.std.specs.List.{list_all, slice_range}
 use Rattle.tl_msg.specs.Firsts.{◌or_else◌}
 use Rattle.tl_trace.specs.Texts.{newline, is_kept_line, TellsLines}
 use Rattle.tl_trace.specs.Faults.{cut, or_empty, lines_of, body, body_fault, later_fault, widths_of, faults_after, faults_of_lines, faults, IsFirstFault, IsReadableTo}
-use Rattle.tl_trace.specs.Reading.{LineAt, IsReadLine}
+use Rattle.tl_trace.specs.Inner.Reading.{LineAt, IsReadLine}
 use Rattle.tl_trace.specs.declared.line.Line.{Line}
 use Rattle.tl_trace.specs.declared.fault.TraceKind.{TraceKind}
 use Rattle.tl_trace.specs.declared.fault.TraceKind.TheVariants.{Header, NoEnd}

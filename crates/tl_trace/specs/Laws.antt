@@ -2,10 +2,13 @@
 use Rattle.std.specs.Prelude.{◌^◌, ◌≤◌, ◌≡◌, ◌↔◌, ◌+◌, ◌-◌, ◌*◌, ◌<◌, ℕ, true, List, slice_index}
 use Rattle.std.specs.Char.{digit_value}
 use Rattle.tl_msg.specs.declared.beat.BeatOf.{BeatOf}
-use Rattle.tl_trace.specs.Fields.{Form, number_of_lanes}
+use Rattle.tl_trace.specs.Fields.{Form, HasIds, number_of_lanes}
 use Rattle.tl_trace.specs.Lines.{hex, is_lanes, IsLine, is_writable, line_text}
 use Rattle.tl_trace.specs.Texts.{Tells, IsTrace, trace_text}
+use Rattle.tl_msg.specs.Beats.{IsBeat}
+use Rattle.tl_msg.specs.Faults.{IsLawfulBeat}
 use Rattle.tl_trace.specs.Faults.{is_readable}
+use Rattle.tl_trace.specs.Scripts.{HasBeats}
 use Rattle.tl_trace.specs.declared.line.Line.{Line}
 
 -- no text tells two traces
@@ -35,3 +38,11 @@ LanesByPairs = (w l : ℕ) (lanes : List ℕ) → is_lanes w lanes ≡ true → 
 -- where the data is in range, lanes at and past the width are 0
 abbrev pub ZeroLanesPastTheWidth : Type 0
 ZeroLanesPastTheWidth = (w l : ℕ) (lanes : List ℕ) → number_of_lanes lanes < 256 ^ w → w ≤ l → slice_index lanes l ≡ 0
+
+-- a lawful beat at its width, as memory holds it, is writable
+abbrev pub LawfulIsWritable : {H : Type 0} → Form H → Type 0
+LawfulIsWritable {H} f = (w : ℕ) (b : BeatOf H w) → IsBeat f.rules b → HasIds f b.head → IsLawfulBeat f.rules b → is_writable f w b ≡ true
+
+-- the beats of a trace are beats as memory holds them
+abbrev pub TracesHaveBeats : Type 0
+TracesHaveBeats = (client manager : ℕ) (lines : List Line) → IsTrace client manager lines → HasBeats client manager lines

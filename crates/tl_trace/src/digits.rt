@@ -1,8 +1,8 @@
-//! Reading hexadecimal digits.
-ghost use Rattle.std.specs.Prelude.{◌≡◌, ◌≤◌, ◌+◌, ◌*◌, ◌<◌, ◌^◌, length, IfSome, MatchOption, OnSome, Some, None, true};
-ghost use Rattle.tl_trace.specs.Lines.{is_lanes};
+//! Reading hexadecimal digits without a test of each: bad ones show in one number at the end.
+ghost use Rattle.std.specs.Prelude.{if◌then◌else◌, ◌==◌, ◌≡◌, ◌≤◌, ◌+◌, ◌*◌, length, true};
 ghost use Rattle.tl_trace.specs.Fields.{number_of_lanes};
-ghost use Rattle.tl_trace.specs.Reading.{digit_of, number_of, field_at};
+ghost use Rattle.tl_trace.specs.Lines.{is_lanes};
+ghost use Rattle.tl_trace.specs.Inner.Reading.{digit_of, IsNumber};
 
 /// The value of each byte as a lower-case hexadecimal digit, and 16 for every other byte.
 static DIGIT_VALUES: [u8; 256] = [
@@ -20,78 +20,60 @@ static DIGIT_VALUES: [u8; 256] = [
 ];
 
 /// The value of a lower-case digit, or 16.
-pub fn digit(byte: u8) -> u8
+fn digit(byte: u8) -> u8
     ensures { result ≡ digit_of byte }
 {
     DIGIT_VALUES[byte as usize]
 }
 
-/// The number that at most 16 digits spell.
-#[tactic(auto, unfolding(crate::specs::Reading::number_of))]
-fn number(digits: &[u8]) -> Option<u64>
-    requires { length digits.now ≤ 16 }
-    ensures value { result ≡ number_of digits.now }
-    ensures small { IfSome result (λ n. n < 16 ^ length digits.now) }
+/// A field as a number; where `bad` is above 15 its text has not the shape of one.
+#[derive(Clone, Copy)]
+pub struct Number {
+    pub value: u64,
+    pub bad: u8,
+}
+
+/// 0 where the byte is a space, else a bad digit.
+fn space(byte: u8) -> u8
+    ensures { result ≡ (if byte == 32 then 0 else 16) }
 {
-    let mut value = 0u64;
-    for byte in digits {
-        let digit = digit(*byte);
-        if digit > 15 {
-            return None;
-        }
-        value = value * 16 + digit as u64;
-    }
-    Some(value)
+    if byte == b' ' { 0 } else { 16 }
 }
 
 /// The number after a space at a place, of so many digits.
-#[tactic(auto, unfolding(crate::specs::Reading::field_at))]
-pub fn field(text: &[u8], at: usize, count: usize) -> Option<u64>
+pub fn field(text: &[u8], at: usize, count: usize) -> Number
     requires few { count ≤ 16 }
     requires room { at + 1 + count ≤ length text.now }
-    ensures value { result ≡ field_at text.now at count }
-    ensures small { IfSome result (λ n. n < 16 ^ count) }
+    ensures { IsNumber text.now at count result.value result.bad }
 {
-    if text[at] != b' ' {
-        return None;
+    let mut bad = space(text[at]);
+    let mut value = 0u64;
+    for byte in &text[at + 1..at + 1 + count] {
+        let digit = digit(*byte);
+        bad |= digit;
+        value = value.wrapping_mul(16).wrapping_add(digit as u64);
     }
-    number(&text[at + 1..at + 1 + count])
+    Number { value, bad }
 }
 
-/// Two digits for each of `w` lanes, highest lane first.
-fn read_lanes(digits: &[u8], w: usize, lanes: &mut [u8; 64]) -> Option<()>
-    requires width { w ≤ 64 }
-    requires long { length digits.now ≡ 2 * w }
-    requires bytes { is_lanes 64 lanes.old ≡ true }
+/// The first `w` lanes after a space at a place, two digits for each, highest lane first. An answer above 15 says that
+/// their text has not the shape of a number.
+pub fn lanes_field<const N: usize>(text: &[u8], at: usize, w: usize, lanes: &mut [u8]) -> u8
+    requires width { w ≤ N }
+    requires most { N ≤ 64 }
+    requires room { at + 1 + 2 * w ≤ length text.now }
+    requires lanes { is_lanes N lanes.old ≡ true }
     requires zero { number_of_lanes lanes.old ≡ 0 }
-    ensures small { OnSome result (number_of_lanes lanes.new < 256 ^ w) }
-    ensures bytes { OnSome result (is_lanes 64 lanes.new ≡ true) }
-    ensures value { MatchOption result (number_of digits.now ≡ None) (λ _. number_of digits.now ≡ Some (number_of_lanes lanes.new)) }
+    ensures bytes { is_lanes N lanes.new ≡ true }
+    ensures value { IsNumber text.now at (2 * w) (number_of_lanes lanes.new) result }
 {
+    let digits = &text[at + 1..at + 1 + 2 * w];
+    let mut bad = space(text[at]);
     for i in 0..w {
         let high = digit(digits[2 * i]);
         let low = digit(digits[2 * i + 1]);
-        if high > 15 || low > 15 {
-            return None;
-        }
-        lanes[w - 1 - i] = high * 16 + low;
+        bad |= high | low;
+        lanes[w - 1 - i] = high.wrapping_mul(16).wrapping_add(low);
     }
-    Some(())
-}
-
-/// The lanes after a space at a place.
-#[tactic(auto, unfolding(crate::specs::Reading::field_at))]
-pub fn data(text: &[u8], at: usize, w: usize, lanes: &mut [u8; 64]) -> Option<()>
-    requires width { w ≤ 64 }
-    requires room { at + 1 + 2 * w ≤ length text.now }
-    requires bytes { is_lanes 64 lanes.old ≡ true }
-    requires zero { number_of_lanes lanes.old ≡ 0 }
-    ensures small { OnSome result (number_of_lanes lanes.new < 256 ^ w) }
-    ensures bytes { OnSome result (is_lanes 64 lanes.new ≡ true) }
-    ensures value { MatchOption result (field_at text.now at (2 * w) ≡ None) (λ _. field_at text.now at (2 * w) ≡ Some (number_of_lanes lanes.new)) }
-{
-    if text[at] != b' ' {
-        return None;
-    }
-    read_lanes(&text[at + 1..at + 1 + 2 * w], w, lanes)
+    bad
 }

@@ -1,12 +1,15 @@
 //! The text of a head.
-ghost use Rattle.std.specs.Prelude.{◌≡◌, ◌+◌, ◌≤◌, ◌∷◌, ◌++◌, ◌/◌, ◌%◌, [], ℕ, Bool, true, false, refl, length, flat_map};
+ghost use Rattle.std.specs.Prelude.{◌≡◌, ◌∷◌, ◌++◌, ◌%◌, ℕ, Bool, true, false, refl, flat_map};
 ghost use Rattle.std.specs.Char.{digit_char};
-ghost use Rattle.arrayvec.specs.ArrayVec.{array_vec_len};
 ghost use Rattle.tl_trace.specs.Fields.{Form, digit_count, value_of, form_a, form_b, form_c, form_d, form_e};
 ghost use Rattle.tl_trace.specs.Lines.{hex, head_text};
+ghost use Rattle.tl_trace.specs.declared.places.TheConstants.{ADDRESS_DIGITS, ID_DIGITS};
 ghost use Rattle.tl_msg.specs.declared.beat.BeatOf.{BeatOf};
 
-use crate::text::{digits_of, high_digit, low_digit};
+use crate::places::{
+    ADDRESS_DIGITS, COMMON_END, FIRST_AT, ID_DIGITS, PARAM_AT, SIZE_AT, SOURCE_AT,
+};
+use crate::text::{digits_of, low_digit, put};
 use arrayvec::ArrayVec;
 use tl_msg::{ChA, ChB, ChC, ChD, ChE, Channel, HeadA, HeadB, HeadC, HeadD, HeadE};
 
@@ -32,41 +35,27 @@ pub trait HeadText: Channel {
     ghost narrow_head: { (n w : ℕ) (b : BeatOf Self.Head n) → flat_map (λ field. 32 ∷ hex (digit_count w field) (value_of form b field)) form.head_fields ≡ flat_map (λ field. 32 ∷ hex (digit_count 0 field) (form.value b.head field)) form.head_fields };
 }
 
-/// Appends bytes.
-fn put(text: &mut ArrayVec<u8, 32>, bytes: &[u8])
-    requires { array_vec_len text.old + length bytes.now ≤ 32 }
-    ensures items { text.new.items ≡ text.old.items ++ bytes.now }
-    ensures len { array_vec_len text.new ≡ array_vec_len text.old + length bytes.now }
-{
-    let _ = text.try_extend_from_slice(bytes);
-}
-
 /// The letter, opcode, param, size and source.
-fn message_text(letter: u8, opcode: u8, param: u8, size: u8, source: u8) -> [u8; 10]
-    ensures { result ≡ letter ∷ 32 ∷ digit_char (opcode % 16) ∷ 32 ∷ digit_char (param % 16) ∷ 32 ∷ digit_char (size % 16) ∷ 32 ∷ digit_char (source / 16 % 16) ∷ digit_char (source % 16) ∷ [] }
+fn common_text(letter: u8, opcode: u8, param: u8, size: u8, source: u8) -> [u8; COMMON_END]
+    ensures { result ≡ letter ∷ 32 ∷ digit_char (opcode % 16) ∷ 32 ∷ digit_char (param % 16) ∷ 32 ∷ digit_char (size % 16) ∷ 32 ∷ hex ID_DIGITS source }
 {
-    [
-        letter,
-        b' ',
-        low_digit(opcode),
-        b' ',
-        low_digit(param),
-        b' ',
-        low_digit(size),
-        b' ',
-        high_digit(source),
-        low_digit(source),
-    ]
+    let mut text = [b' '; COMMON_END];
+    text[0] = letter;
+    text[FIRST_AT + 1] = low_digit(opcode);
+    text[PARAM_AT + 1] = low_digit(param);
+    text[SIZE_AT + 1] = low_digit(size);
+    text[SOURCE_AT + 1..].copy_from_slice(&digits_of::<ID_DIGITS>(source as u64));
+    text
 }
 
 /// The head of a message with an address.
-fn addressed_text(message: &[u8; 10], address: u64) -> ArrayVec<u8, 32>
-    ensures { result.items ≡ message.now ++ 32 ∷ hex 16 address }
+fn addressed_text(common: &[u8; COMMON_END], address: u64) -> ArrayVec<u8, 32>
+    ensures { result.items ≡ common.now ++ 32 ∷ hex ADDRESS_DIGITS address }
 {
     let mut text = ArrayVec::new();
-    put(&mut text, message);
+    put(&mut text, common);
     text.push(b' ');
-    put(&mut text, &digits_of(address));
+    put(&mut text, &digits_of::<ADDRESS_DIGITS>(address));
     text
 }
 
@@ -78,8 +67,8 @@ impl HeadText for ChA {
     ghost HAS_DATA = { true };
 
     fn head_text(head: &HeadA) -> ArrayVec<u8, 32> {
-        let message = message_text(b'A', head.opcode, head.param, head.size, head.source);
-        addressed_text(&message, head.address)
+        let common = common_text(b'A', head.opcode, head.param, head.size, head.source);
+        addressed_text(&common, head.address)
     }
 
     ghost same_rules = { refl };
@@ -99,8 +88,8 @@ impl HeadText for ChB {
     ghost HAS_DATA = { true };
 
     fn head_text(head: &HeadB) -> ArrayVec<u8, 32> {
-        let message = message_text(b'B', head.opcode, head.param, head.size, head.source);
-        addressed_text(&message, head.address)
+        let common = common_text(b'B', head.opcode, head.param, head.size, head.source);
+        addressed_text(&common, head.address)
     }
 
     ghost same_rules = { refl };
@@ -120,8 +109,8 @@ impl HeadText for ChC {
     ghost HAS_DATA = { true };
 
     fn head_text(head: &HeadC) -> ArrayVec<u8, 32> {
-        let message = message_text(b'C', head.opcode, head.param, head.size, head.source);
-        addressed_text(&message, head.address)
+        let common = common_text(b'C', head.opcode, head.param, head.size, head.source);
+        addressed_text(&common, head.address)
     }
 
     ghost same_rules = { refl };
@@ -141,17 +130,12 @@ impl HeadText for ChD {
     ghost HAS_DATA = { true };
 
     fn head_text(head: &HeadD) -> ArrayVec<u8, 32> {
-        let message = message_text(b'D', head.opcode, head.param, head.size, head.source);
-        let rest = [
-            b' ',
-            high_digit(head.sink),
-            low_digit(head.sink),
-            b' ',
-            low_digit(head.denied as u8),
-        ];
+        let common = common_text(b'D', head.opcode, head.param, head.size, head.source);
         let mut text = ArrayVec::new();
-        put(&mut text, &message);
-        put(&mut text, &rest);
+        put(&mut text, &common);
+        text.push(b' ');
+        put(&mut text, &digits_of::<ID_DIGITS>(head.sink as u64));
+        put(&mut text, &[b' ', low_digit(head.denied as u8)]);
         text
     }
 
@@ -172,9 +156,9 @@ impl HeadText for ChE {
     ghost HAS_DATA = { false };
 
     fn head_text(head: &HeadE) -> ArrayVec<u8, 32> {
-        let line = [b'E', b' ', high_digit(head.sink), low_digit(head.sink)];
         let mut text = ArrayVec::new();
-        put(&mut text, &line);
+        put(&mut text, b"E ");
+        put(&mut text, &digits_of::<ID_DIGITS>(head.sink as u64));
         text
     }
 

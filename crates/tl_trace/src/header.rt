@@ -6,8 +6,8 @@ ghost use Rattle.tl_trace.specs.Faults.{widths_of};
 use crate::text::{Text, put, put_decimal};
 use arrayvec::ArrayVec;
 
-/// The widths that a header can name.
-static WIDTHS: [usize; 7] = [1, 2, 4, 8, 16, 32, 64];
+/// How many widths a header can name: 1, and six times the double of the one before.
+const WIDTHS: usize = 7;
 
 /// The header of these widths, without its LF.
 #[tactic(auto, using(crate::proofs::Decimals::length_decimal))]
@@ -22,13 +22,13 @@ pub fn header(client: usize, manager: usize) -> Text
     text
 }
 
-/// The widths of a header.
+/// The widths of a header: those whose header the text is, byte for byte.
 pub fn widths_of(text: &[u8]) -> Option<(usize, usize)>
     ensures { result ≡ widths_of text.now }
 {
-    for i in 0..49 {
-        let client = WIDTHS[i / 7];
-        let manager = WIDTHS[i % 7];
+    for i in 0..WIDTHS * WIDTHS {
+        let client = 1 << (i / WIDTHS);
+        let manager = 1 << (i % WIDTHS);
         if text == header(client, manager).as_slice() {
             return Some((client, manager));
         }

@@ -1,6 +1,6 @@
-//! Laws of texts and traces.
+//! Laws of texts and traces: each function does nothing, and its contract is the law.
 ghost use Rattle.tl_trace.specs.Fields.{form_a, form_b, form_c, form_d, form_e};
-ghost use Rattle.tl_trace.specs.Laws.{OneTrace, OneText, FaultlessTexts, IsOnlyLine, LanesByPairs, ZeroLanesPastTheWidth};
+ghost use Rattle.tl_trace.specs.Laws.{OneTrace, OneText, FaultlessTexts, IsOnlyLine, LanesByPairs, LawfulIsWritable, TracesHaveBeats, ZeroLanesPastTheWidth};
 
 /// Each trace of writable beats has exactly one text.
 pub fn one_text()
@@ -34,4 +34,18 @@ pub fn faultless_texts()
 /// Of a beat whose data is in range on `w` lanes, the lanes at and past `w` are 0.
 pub fn zero_lanes()
     ensures { ZeroLanesPastTheWidth }
+{}
+
+/// A lawful beat is writable, on each channel: so what is due is written as its lines.
+pub fn lawful_beats_are_writable()
+    ensures a { LawfulIsWritable form_a }
+    ensures b { LawfulIsWritable form_b }
+    ensures c { LawfulIsWritable form_c }
+    ensures d { LawfulIsWritable form_d }
+    ensures e { LawfulIsWritable form_e }
+{}
+
+/// The beats of a trace, and so those of the script of a text, are beats as memory holds them.
+pub fn traces_have_beats()
+    ensures { TracesHaveBeats }
 {}

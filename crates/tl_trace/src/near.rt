@@ -1,10 +1,12 @@
-//! A line's beat on its sender's lanes.
-ghost use Rattle.std.specs.Prelude.{◌≡◌, ◌≤◌, ◌++◌, ◌∷◌, [], OnOk};
-ghost use Rattle.std.specs.Option.{option_to_list};
-ghost use Rattle.tl_trace.specs.Reading.{near_a, near_b, near_c, near_d, near_e, IsNearOf};
+//! The beat of a line on its sender's lanes.
+ghost use Rattle.std.specs.Prelude.{◌≡◌, ◌≢◌, ◌≤◌, Some, OnOk, IfOk, IfErr};
+ghost use Rattle.tl_trace.specs.Inner.Reading.{IsNearOf, IsPushed, IsReadNear};
+ghost use Rattle.tl_trace.specs.Faults.{body_fault};
+ghost use Rattle.tl_trace.specs.declared.fault.TraceKind.TheVariants as faults;
 
-use crate::fault::OutOfMemory;
+use crate::fault::{OutOfMemory, TraceKind};
 use crate::line::Line;
+use crate::line_reader::read_beat;
 use crate::script::{Script, on_lanes};
 use tl_msg::{Beat, ChA, ChB, ChC, ChD, ChE, HeadA, HeadB, HeadC, HeadD, HeadE};
 
@@ -18,7 +20,25 @@ pub enum Near<const C: usize, const M: usize> {
     OfE(Beat<ChE, C>),
 }
 
-/// The beat of a line, on its sender's lanes.
+/// The beat of a later line, without its LF.
+pub fn read_near<const C: usize, const M: usize>(text: &[u8]) -> Result<Near<C, M>, TraceKind>
+    requires client { C ≤ 64 }
+    requires manager { M ≤ 64 }
+    ensures ok { IfOk result (IsReadNear text.now) }
+    ensures err { IfErr result (λ kind. body_fault C M text.now ≡ Some kind) }
+    ensures kinds { IfErr result (λ kind. kind ≢ faults.OutOfMemory) }
+{
+    match text.first() {
+        Some(b'A') => Ok(Near::OfA(read_beat::<ChA, C>(text, C)?)),
+        Some(b'B') => Ok(Near::OfB(read_beat::<ChB, M>(text, M)?)),
+        Some(b'C') => Ok(Near::OfC(read_beat::<ChC, C>(text, C)?)),
+        Some(b'D') => Ok(Near::OfD(read_beat::<ChD, M>(text, M)?)),
+        Some(b'E') => Ok(Near::OfE(read_beat::<ChE, C>(text, C)?)),
+        _ => Err(TraceKind::Channel),
+    }
+}
+
+/// The beat of a line of a trace, on its sender's lanes.
 pub fn near_of<const C: usize, const M: usize>(line: &Line) -> Near<C, M>
     requires client { C ≤ 64 }
     requires manager { M ≤ 64 }
@@ -38,11 +58,7 @@ pub fn push_near<const C: usize, const M: usize>(
     script: &mut Script<C, M>,
     near: Near<C, M>,
 ) -> Result<(), OutOfMemory>
-    ensures a { OnOk result (script.new.a.items ≡ script.old.a.items ++ option_to_list (near_a near.entry)) }
-    ensures b { OnOk result (script.new.b.items ≡ script.old.b.items ++ option_to_list (near_b near.entry)) }
-    ensures c { OnOk result (script.new.c.items ≡ script.old.c.items ++ option_to_list (near_c near.entry)) }
-    ensures d { OnOk result (script.new.d.items ≡ script.old.d.items ++ option_to_list (near_d near.entry)) }
-    ensures e { OnOk result (script.new.e.items ≡ script.old.e.items ++ option_to_list (near_e near.entry)) }
+    ensures { OnOk result (IsPushed near.entry script.old script.new) }
 {
     match near {
         Near::OfA(beat) => script.a.push(beat)?,

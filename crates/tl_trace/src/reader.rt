@@ -1,18 +1,20 @@
-//! Reading a text.
+//! From a text to its trace.
 ghost use Rattle.std.specs.Prelude.{ℕ, ◌≡◌, ◌≢◌, ◌≤◌, ◌<◌, ◌+◌, true, false, None, Some, ◌∷◌, drop, map, length, slice_index, slice_range, IfSome, IfOk, IfErr};
 ghost use Rattle.std.specs.List.{list_any};
 ghost use Rattle.tl_trace.specs.Texts.{Tells, TellsLines, is_kept_line};
 ghost use Rattle.tl_trace.specs.Faults.{is_newline, cut, faults, body_fault, later_fault, IsFirstFault, IsReadableTo};
-ghost use Rattle.tl_trace.specs.Reading.{IsReadLine, LineAt};
+ghost use Rattle.tl_trace.specs.Inner.Reading.{IsReadLine, LineAt};
 ghost use Rattle.std.specs.List.{list_all};
 ghost use Rattle.tl_trace.specs.declared.fault.TraceKind.TheVariants.{OutOfMemory};
 
 use crate::fault::{TraceFault, TraceKind};
 use crate::header::widths_of;
 use crate::line::Line;
-use crate::line_reader::{mask_digits, read_a, read_b, read_c, read_d, read_e};
+use crate::line_reader::read_beat;
+use crate::places::line_len;
 use crate::trace::Trace;
 use std::alloc::Global;
+use tl_msg::{ChA, ChB, ChC, ChD, ChE};
 
 /// The place of the first LF from `at` on, or the text's length.
 pub fn line_end(text: &[u8], at: usize) -> usize
@@ -37,39 +39,39 @@ fn read_line(text: &[u8], client: usize, manager: usize) -> Result<Line, TraceKi
     ensures kinds { IfErr result (λ kind. kind ≢ OutOfMemory) }
 {
     match text.first() {
-        Some(b'A') => Ok(Line::A(read_a(text, client)?)),
-        Some(b'B') => Ok(Line::B(read_b(text, manager)?)),
-        Some(b'C') => Ok(Line::C(read_c(text, client)?)),
-        Some(b'D') => Ok(Line::D(read_d(text, manager)?)),
-        Some(b'E') => Ok(Line::E(read_e(text, client)?)),
+        Some(b'A') => Ok(Line::A(read_beat::<ChA, 64>(text, client)?)),
+        Some(b'B') => Ok(Line::B(read_beat::<ChB, 64>(text, manager)?)),
+        Some(b'C') => Ok(Line::C(read_beat::<ChC, 64>(text, client)?)),
+        Some(b'D') => Ok(Line::D(read_beat::<ChD, 64>(text, manager)?)),
+        Some(b'E') => Ok(Line::E(read_beat::<ChE, 64>(text, client)?)),
         _ => Err(TraceKind::Channel),
     }
 }
 
 /// The length of a line with this letter, without its LF.
-fn usual_length(letter: u8, client: usize, manager: usize) -> Option<usize>
+fn expected_length(letter: u8, client: usize, manager: usize) -> Option<usize>
     requires client { client ≤ 64 }
     requires manager { manager ≤ 64 }
-    ensures { IfSome result (λ n. (1 ≤ n) × (n ≤ 175)) }
+    ensures { IfSome result (λ n. (1 ≤ n) × (n ≤ 180)) }
 {
     match letter {
-        b'A' => Some(31 + mask_digits(client) + 2 * client),
-        b'B' => Some(31 + mask_digits(manager) + 2 * manager),
-        b'C' => Some(30 + 2 * client),
-        b'D' => Some(18 + 2 * manager),
-        b'E' => Some(4),
+        b'A' => Some(line_len::<ChA>(client)),
+        b'B' => Some(line_len::<ChB>(manager)),
+        b'C' => Some(line_len::<ChC>(client)),
+        b'D' => Some(line_len::<ChD>(manager)),
+        b'E' => Some(line_len::<ChE>(client)),
         _ => None,
     }
 }
 
 /// The end of a line whose LF stands where its letter and the widths say.
-pub fn usual_end(text: &[u8], at: usize, client: usize, manager: usize) -> Option<usize>
+pub fn expected_end(text: &[u8], at: usize, client: usize, manager: usize) -> Option<usize>
     requires client { client ≤ 64 }
     requires manager { manager ≤ 64 }
     requires at { at < length text.now }
     ensures { IfSome result (λ end. (at < end) × (end < length text.now) × (slice_index text.now end ≡ 10)) }
 {
-    let long = usual_length(text[at], client, manager)?;
+    let long = expected_length(text[at], client, manager)?;
     if long >= text.len() - at || text[at + long] != b'\n' {
         return None;
     }
@@ -77,14 +79,14 @@ pub fn usual_end(text: &[u8], at: usize, client: usize, manager: usize) -> Optio
 }
 
 /// How many lines can be stored of this text at most, from line 2 on. A line whose LF stands elsewhere is faulty.
-fn most_lines(text: &[u8], start: usize, client: usize, manager: usize) -> usize
+fn max_lines(text: &[u8], start: usize, client: usize, manager: usize) -> usize
     requires client { client ≤ 64 }
     requires manager { manager ≤ 64 }
 {
     let mut lines = 0;
     let mut at = start;
     while at < text.len() {
-        let Some(end) = usual_end(text, at, client, manager) else {
+        let Some(end) = expected_end(text, at, client, manager) else {
             return lines;
         };
         at = end + 1;
@@ -108,7 +110,7 @@ pub fn next_line(
     ensures err { IfErr result.1 (λ kind. body_fault client manager (slice_range text.now at result.0) ≡ Some kind) }
     ensures kinds { IfErr result.1 (λ kind. kind ≢ OutOfMemory) }
 {
-    if let Some(end) = usual_end(text, at, client, manager) {
+    if let Some(end) = expected_end(text, at, client, manager) {
         if let Ok(line) = read_line(&text[at..end], client, manager) {
             return (end, Ok(line));
         }
@@ -136,7 +138,7 @@ fn read_lines(
 {
     let mut lines = Vec::new(alloc);
     let has_room = lines
-        .reserve(most_lines(text, start, client, manager))
+        .reserve(max_lines(text, start, client, manager))
         .is_ok();
     let mut at = start;
     let mut before = 1u64;
@@ -163,6 +165,7 @@ fn read_lines(
 
 /// Reads a text. The trace is the one that the text tells. A fault is the first one of the text, with its line;
 /// `OutOfMemory` has the first line whose beat could not be stored, and no line up to it has a fault.
+/// The lines are counted first, so that memory for them is taken once.
 pub fn read(alloc: Global, text: &[u8]) -> Result<Trace, TraceFault>
     ensures told { IfOk result (λ t. Tells text.now t.client t.manager t.lines.items) }
     ensures fault { IfErr result (λ e. e.kind ≢ OutOfMemory → IsFirstFault text.now e.line e.kind) }

@@ -1,10 +1,10 @@
 //! The beats of a trace by channel.
-ghost use Rattle.std.specs.Prelude.{◌≡◌, ◌≤◌, IfOk};
-ghost use Rattle.tl_trace.specs.Scripts.{on_lanes, beats_a, beats_b, beats_c, beats_d, beats_e};
+ghost use Rattle.std.specs.Prelude.{◌≡◌, ◌≤◌, [], IfOk};
+ghost use Rattle.tl_trace.specs.Scripts.{IsScriptOf, on_lanes, beats_a, beats_b, beats_c, beats_d, beats_e};
 ghost use Rattle.tl_lanes.specs.Lanes.{IsWidth};
 
 use crate::fault::OutOfMemory;
-use crate::line::Line;
+use crate::near::{near_of, push_near};
 use crate::trace::Trace;
 use std::alloc::Global;
 use tl_msg::{Beat, BeatOf, ChA, ChB, ChC, ChD, ChE};
@@ -12,10 +12,15 @@ use tl_msg::{Beat, BeatOf, ChA, ChB, ChC, ChD, ChE};
 /// The near beats of the five channels, each on its sender's lanes. The order between channels has no meaning.
 #[derive(Drop)]
 pub struct Script<const C: usize, const M: usize> {
+    /// What the client side sends on A, on its `C` lanes, in order.
     pub a: Vec<Beat<ChA, C>>,
+    /// What the manager side sends on B, on its `M` lanes, in order.
     pub b: Vec<Beat<ChB, M>>,
+    /// What the client side sends on C, on its `C` lanes, in order.
     pub c: Vec<Beat<ChC, C>>,
+    /// What the manager side sends on D, on its `M` lanes, in order.
     pub d: Vec<Beat<ChD, M>>,
+    /// What the client side sends on E, in order.
     pub e: Vec<Beat<ChE, C>>,
 }
 
@@ -34,6 +39,19 @@ pub fn on_lanes<H: Copy, const W: usize>(beat: &BeatOf<H, 64>) -> BeatOf<H, W>
     }
 }
 
+/// A script without beats.
+pub fn empty_script<const C: usize, const M: usize>(alloc: Global) -> Script<C, M>
+    ensures { IsScriptOf [] result }
+{
+    Script {
+        a: Vec::new(alloc),
+        b: Vec::new(alloc),
+        c: Vec::new(alloc),
+        d: Vec::new(alloc),
+        e: Vec::new(alloc),
+    }
+}
+
 /// The beats of a trace of these widths by channel, each channel's in the order of its lines.
 pub fn script_of<const C: usize, const M: usize>(
     alloc: Global,
@@ -49,19 +67,9 @@ pub fn script_of<const C: usize, const M: usize>(
     ensures d { IfOk result (λ s. s.d.items ≡ beats_d M trace.now.lines.items) }
     ensures e { IfOk result (λ s. s.e.items ≡ beats_e C trace.now.lines.items) }
 {
-    let mut a = Vec::new(alloc);
-    let mut b = Vec::new(alloc);
-    let mut c = Vec::new(alloc);
-    let mut d = Vec::new(alloc);
-    let mut e = Vec::new(alloc);
+    let mut script = empty_script(alloc);
     for line in &trace.lines {
-        match line {
-            Line::A(beat) => a.push(on_lanes(beat))?,
-            Line::B(beat) => b.push(on_lanes(beat))?,
-            Line::C(beat) => c.push(on_lanes(beat))?,
-            Line::D(beat) => d.push(on_lanes(beat))?,
-            Line::E(beat) => e.push(on_lanes(beat))?,
-        }
+        push_near(&mut script, near_of::<C, M>(line))?;
     }
-    Ok(Script { a, b, c, d, e })
+    Ok(script)
 }

@@ -2,18 +2,17 @@
 ghost use Rattle.std.specs.Prelude.{◌≡◌, ◌≢◌, ◌≤◌, ◌<◌, None, Some, ◌∷◌, drop, map, length, slice_range, IfOk, IfErr};
 ghost use Rattle.tl_trace.specs.Scripts.{TellsScript};
 ghost use Rattle.tl_trace.specs.Faults.{body, cut, faults, body_fault, later_fault, widths_of, IsFirstFault, IsReadableTo};
-ghost use Rattle.tl_trace.specs.Reading.{IsReadNear, LineAt, TellsRest};
+ghost use Rattle.tl_trace.specs.Inner.Reading.{IsReadNear, LineAt, TellsRest};
 ghost use Rattle.tl_trace.specs.declared.fault.TraceKind.TheVariants.{OutOfMemory};
 
 use crate::fault::{TraceFault, TraceKind};
 use crate::header::widths_of;
-use crate::near::{Near, near_of, push_near};
-use crate::quick_line::quick_line;
-use crate::reader::{line_end, next_line, usual_end};
-use crate::script::Script;
+use crate::near::{Near, push_near, read_near};
+use crate::reader::{expected_end, line_end};
+use crate::script::{Script, empty_script};
 use std::alloc::Global;
 
-/// The widths that the first line of a text names.
+/// The widths in bytes, of the client and of the manager, that the first line of a text names; `None` where it is no header.
 pub fn widths_of_text(text: &[u8]) -> Option<(usize, usize)>
     ensures { result ≡ widths_of (body text.now) }
 {
@@ -33,16 +32,13 @@ fn next_near<const C: usize, const M: usize>(
     ensures err { IfErr result.1 (λ kind. body_fault C M (slice_range text.now at result.0) ≡ Some kind) }
     ensures kinds { IfErr result.1 (λ kind. kind ≢ OutOfMemory) }
 {
-    if let Some(end) = usual_end(text, at, C, M) {
-        if let Some(near) = quick_line::<C, M>(&text[at..end]) {
+    if let Some(end) = expected_end(text, at, C, M) {
+        if let Ok(near) = read_near::<C, M>(&text[at..end]) {
             return (end, Ok(near));
         }
     }
-    let (end, read) = next_line(text, at, C, M);
-    match read {
-        Ok(line) => (end, Ok(near_of(&line))),
-        Err(kind) => (end, Err(kind)),
-    }
+    let end = line_end(text, at);
+    (end, read_near::<C, M>(&text[at..end]))
 }
 
 /// The beats of the lines from `start` on, where the first of them is line 2.
@@ -59,13 +55,7 @@ fn read_beats<const C: usize, const M: usize>(
     ensures fault { IfErr result (λ e. e.kind ≢ OutOfMemory → IsFirstFault text.now e.line e.kind) }
     ensures memory { IfErr result (λ e. e.kind ≡ OutOfMemory → IsReadableTo text.now e.line) }
 {
-    let mut script = Script {
-        a: Vec::new(alloc),
-        b: Vec::new(alloc),
-        c: Vec::new(alloc),
-        d: Vec::new(alloc),
-        e: Vec::new(alloc),
-    };
+    let mut script = empty_script(alloc);
     let mut at = start;
     let mut before = 1u64;
     while at < text.len() {
@@ -89,8 +79,8 @@ fn read_beats<const C: usize, const M: usize>(
     Ok(script)
 }
 
-/// Reads a text whose first line names these widths. The script is that of the trace that the text tells; a fault is
-/// what `read` says it is.
+/// Reads a text whose first line names these widths, from its lines straight into the lists of a script, with no trace
+/// between them. The script is that of the trace that the text tells; a fault is what `read` says it is.
 pub fn read_script<const C: usize, const M: usize>(
     alloc: Global,
     text: &[u8],

@@ -1,4 +1,4 @@
-//! Pieces of text.
+//! Digits, fields and words, put into a line or a piece of text.
 ghost use Rattle.std.specs.Prelude.{◌≡◌, ◌≤◌, ◌<◌, ◌+◌, ◌*◌, ◌%◌, ◌/◌, ◌++◌, ◌∷◌, [], take, length, decimal};
 ghost use Rattle.std.specs.Char.{digit_char};
 ghost use Rattle.arrayvec.specs.ArrayVec.{array_vec_len};
@@ -62,16 +62,17 @@ pub fn high_digit(value: u8) -> u8
     PAIRS[2 * value as usize]
 }
 
-/// The 16 digits of a number.
-pub fn digits_of(value: u64) -> [u8; 16]
-    ensures { result ≡ hex 16 value }
+/// The lowest digits of a number, of which there is an even number.
+pub fn digits_of<const COUNT: usize>(value: u64) -> [u8; COUNT]
+    requires { COUNT ≡ 2 * (COUNT / 2) }
+    ensures { result ≡ hex COUNT value }
 {
-    let mut digits = [0u8; 16];
+    let mut digits = [0u8; COUNT];
     let mut rest = value;
-    for i in 0..8 {
+    for i in 0..COUNT / 2 {
         let byte = (rest % 256) as u8;
-        digits[15 - 2 * i] = low_digit(byte);
-        digits[14 - 2 * i] = high_digit(byte);
+        digits[COUNT - 1 - 2 * i] = low_digit(byte);
+        digits[COUNT - 2 - 2 * i] = high_digit(byte);
         rest /= 256;
     }
     digits
@@ -150,9 +151,9 @@ pub fn fill_byte(line: &mut Room, at: usize, byte: u8) -> usize
     at + 1
 }
 
-/// Appends bytes.
-pub fn put(text: &mut Text, bytes: &[u8])
-    requires { array_vec_len text.old + length bytes.now ≤ 320 }
+/// Appends bytes, for which there is room.
+pub fn put<const N: usize>(text: &mut ArrayVec<u8, N>, bytes: &[u8])
+    requires { array_vec_len text.old + length bytes.now ≤ N }
     ensures items { text.new.items ≡ text.old.items ++ bytes.now }
     ensures len { array_vec_len text.new ≡ array_vec_len text.old + length bytes.now }
 {

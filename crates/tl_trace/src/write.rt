@@ -11,7 +11,7 @@ use crate::fault::OutOfMemory;
 use crate::head_text::HeadText;
 use crate::header::header;
 use crate::line::Line;
-use crate::line_reader::mask_digits;
+use crate::places::mask_digits;
 use crate::text::{
     Room, Text, fill, fill_byte, fill_field, fill_lanes, put, put_byte, put_decimal,
 };
@@ -80,7 +80,8 @@ fn line_on<K: HeadText, const N: usize>(beat: &Beat<K, N>, w: usize) -> Text
     text
 }
 
-/// The line of a beat, with its LF. A field is written by its lowest digits, so the text of a writable beat is its line.
+/// The line of a beat on `W` lanes, with its LF: at most 176 bytes, those of A and B at width 64.
+/// A field is written by its lowest digits, so the text of a writable beat is its line.
 pub fn line_of<K: HeadText, const W: usize>(beat: &Beat<K, W>) -> ArrayVec<u8, 320>
     requires { IsWidth W }
     ensures { result.items ≡ line_text K.form W beat.now ++ newline }
@@ -154,7 +155,8 @@ fn put_verdict(text: &mut Text, verdict: &Verdict)
     }
 }
 
-/// Appends the report line of the channel with this letter, with its LF. Where a growth is refused the contents stay as they were.
+/// Appends the report line of the channel with this letter, with its LF. Any byte is taken as the letter.
+/// Where a growth is refused the contents stay as they were.
 pub fn write_report(out: &mut Vec<u8>, letter: u8, verdict: &Verdict) -> Result<(), OutOfMemory>
     ensures ok { OnOk result (out.new.items ≡ out.old.items ++ report_line letter verdict.now) }
     ensures err { OnErr result (out.new.items ≡ out.old.items) }
@@ -185,6 +187,7 @@ fn line_of_trace(client: usize, manager: usize, line: &Line) -> Text
 }
 
 /// The text of a trace: what is read of it is this trace again.
+/// `OutOfMemory` where a growth is refused.
 pub fn write_trace(alloc: Global, trace: &Trace) -> Result<Vec<u8>, OutOfMemory>
     ensures { IfOk result (λ text. text.items ≡ trace_text trace.now.client trace.now.manager trace.now.lines.items) }
 {

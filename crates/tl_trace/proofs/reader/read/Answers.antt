@@ -1,4 +1,4 @@
-use Rattle.tl_trace.specs.Reading.{LineAt}
+use Rattle.tl_trace.specs.Inner.Reading.{LineAt}
 use Rattle.std.proofs.Common.{◌<◌, ◌≡◌, ◌+◌, ◌++◌, List, ℕ, Some, length, drop, arith, ap, ◌∙◌}
 use Rattle.std.specs.List.{slice_range}
 use Rattle.tl_trace.specs.Texts.{newline}

@@ -3,11 +3,11 @@ use Rattle.std.specs.List.{slice_range}
 use Rattle.tl_trace.proofs.Cover.{says_free, free_between}
 use Rattle.tl_trace.proofs.script_reader.next_near.Goals as goal
 
-pub returns-in-Some-quick_line-clause-line : goal.returns-in-Some-quick_line-clause-line
-returns-in-Some-quick_line-clause-line g c =
+pub returns-in-Ok-clause-line : goal.returns-in-Ok-clause-line
+returns-in-Ok-clause-line g c =
     let end = c.in-Some.ensures in
     let b = slice_range c.args.text.now c.args.at c.in-Some.end in
-    let read = c.in-Some-quick_line.ensures in
+    let read = c.in-Ok.ensures.ok in
     record {
       from = omega (arith, end.0);
       to = omega (arith, end.1);

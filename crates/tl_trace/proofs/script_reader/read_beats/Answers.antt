@@ -1,7 +1,6 @@
-use Rattle.std.proofs.Common.{◌≡◌, ◌<◌, ◌-◌, ◌++◌, ℕ, [], length, take, drop, arith, ap, refl, sym, ◌∙◌, false}
-use Rattle.std.specs.Option.{option_to_list}
+use Rattle.std.proofs.Common.{◌≡◌, ◌<◌, ◌-◌, ℕ, [], length, take, drop, arith, ap, refl, sym, ◌∙◌, false}
 use Rattle.std.specs.Result.{is_err}
-use Rattle.tl_trace.specs.Reading.{near_a, near_b, near_c, near_d, near_e}
+use Rattle.tl_trace.specs.Inner.Reading.{IsPushed}
 use Rattle.tl_trace.proofs.ReadBeats.{more, on_ok}
 use Rattle.tl_trace.proofs.Walk.{refused, no_end, unstored}
 use Rattle.tl_trace.proofs.script_reader.read_beats.Goals as goal
@@ -20,7 +19,7 @@ loop-at-init g c =
         kept = refl;
         faultless = c.requires.header;
       };
-      script = record { a = c.new.ensures.items; b = c.new-2.ensures.items; c = c.new-3.ensures.items; d = c.new-4.ensures.items; e = c.new-5.ensures.items };
+      script = c.empty_script-script.ensures;
     }
 
 pub returns-in-Err-clause-fault : goal.returns-in-Err-clause-fault
@@ -54,9 +53,5 @@ loop-at-preserved g c =
     let s' = c.push_near.new.script in
     let near = c.in-Ok.near in
     let went : is_err c.push_near.result ≡ false = sym c.is_err.ensures.value ∙ c.if-is_err.false in
-    let a : s'.a.items ≡ s.a.items ++ option_to_list (near_a near) = on_ok c.push_near.result c.push_near.ensures.a went in
-    let b : s'.b.items ≡ s.b.items ++ option_to_list (near_b near) = on_ok c.push_near.result c.push_near.ensures.b went in
-    let c' : s'.c.items ≡ s.c.items ++ option_to_list (near_c near) = on_ok c.push_near.result c.push_near.ensures.c went in
-    let d : s'.d.items ≡ s.d.items ++ option_to_list (near_d near) = on_ok c.push_near.result c.push_near.ensures.d went in
-    let e : s'.e.items ≡ s.e.items ++ option_to_list (near_e near) = on_ok c.push_near.result c.push_near.ensures.e went in
-    more c.args.text.now c.args.start s s' c.loop-at.at c.loop-at.before c.next_near-end.result.0 near c.loop-at.invariant line ok lt a b c' d e
+    let put : IsPushed near s s' = on_ok c.push_near.result c.push_near.ensures went in
+    more c.args.text.now c.args.start s s' c.loop-at.at c.loop-at.before c.next_near-end.result.0 near c.loop-at.invariant line ok lt put

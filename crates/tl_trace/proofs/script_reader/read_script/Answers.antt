@@ -2,7 +2,7 @@ use Rattle.std.proofs.Common.{◌≡◌, ◌≤◌, ◌<◌, ◌+◌, ◌++◌, 
 use Rattle.std.specs.List.{slice_range}
 use Rattle.tl_trace.specs.Texts.{newline}
 use Rattle.tl_trace.specs.Faults.{widths_of}
-use Rattle.tl_trace.specs.Reading.{LineAt}
+use Rattle.tl_trace.specs.Inner.Reading.{LineAt}
 use Rattle.tl_trace.proofs.Headers.{both_widths, is_header, width_small}
 use Rattle.tl_trace.proofs.Walk.{no_header_end, header_faults, split_line}
 use Rattle.tl_trace.proofs.ReadBeats.{first_line, if_ok_more}

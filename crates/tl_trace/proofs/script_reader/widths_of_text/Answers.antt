@@ -1,6 +1,6 @@
 use Rattle.std.proofs.Common.{◌∙◌, sym, ap}
 use Rattle.tl_trace.specs.Faults.{widths_of}
-use Rattle.tl_trace.specs.Reading.{LineAt}
+use Rattle.tl_trace.specs.Inner.Reading.{LineAt}
 use Rattle.tl_trace.proofs.Headers.{from_start}
 use Rattle.tl_trace.proofs.ReadBeats.{first_line}
 use Rattle.tl_trace.proofs.script_reader.widths_of_text.Goals as goal

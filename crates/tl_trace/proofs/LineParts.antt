@@ -1,0 +1,280 @@
+-- A line in three parts: the head, the mask, data and corrupt; once for the form of every channel.
+use Rattle.std.proofs.Common.{◌≡◌, ℕ, ◌+◌, ◌*◌, ◌^◌, ◌<◌, ◌≤◌, Bool, true, false, cond, not, nat_eq, nat_lt, ◌&&◌, ◌||◌, List, [], ◌∷◌, ◌++◌, length, map, Option, Some, is_none, refl, sym, ap, ◌∙◌, arith, bit_or, length-append}
+use Rattle.std.proofs.lemmas.Bool.{lt-ltb, le-ltb}
+use Rattle.std.proofs.lemmas.List.{map-append}
+use Rattle.std.proofs.lemmas.List.Folds.{list_any-append}
+use Rattle.std.proofs.lemmas.Nat.{pow_pos}
+use Rattle.std.specs.List.{list_all, list_any}
+use Rattle.tl_msg.specs.declared.beat.BeatOf.{BeatOf}
+use Rattle.tl_trace.specs.Fields.{Field, length_of, opcode, param, size, source, address, sink, denied, mask, data_lanes, corrupt, Form, bit, digit_count, fields, mask_fields, data_fields, values, value_of, line_length, number_of_lanes}
+use Rattle.tl_trace.specs.Lines.{is_plain}
+use Rattle.tl_trace.specs.Inner.Reading.{field_at, fields_from, is_head_field, head_value, is_head_in_range, IsNumber, IsPart, IsHead, IsHeadOf, mask_values, data_values}
+use Rattle.tl_trace.specs.declared.head_reader.HeadFields.{HeadFields}
+use Rattle.tl_trace.proofs.Shaped.{and_of, below}
+use Rattle.tl_trace.proofs.ReadDigits.{left_good, right_good, bad_or}
+
+-- ---- one part after the other
+
+pub number_part : (w : ℕ) (text : List ℕ) (at : ℕ) (field : Field) (v bad : ℕ) → IsNumber text at (digit_count w field) v bad → IsPart w text at (field ∷ []) (v ∷ []) bad
+number_part w text at field v bad n = record {
+  good = λ le. ap (λ (o : Option ℕ). o ∷ []) (n.good le);
+  none = λ lt. ap (λ (o : Option ℕ). is_none o || false) (n.none lt);
+}
+
+pub no_part : (w : ℕ) (text : List ℕ) (at : ℕ) → IsPart w text at [] [] 0
+no_part w text at = record { good = λ le. refl; none = λ lt. absurd (omega (arith, lt)) }
+
+fields_append : (w : ℕ) (text : List ℕ) (at : ℕ) (xs ys : List Field) → fields_from w text at (xs ++ ys) ≡ fields_from w text at xs ++ fields_from w text (at + length_of w xs) ys
+fields_append w text at [] ys = let same : at ≡ at + 0 = omega arith in ap (λ (k : ℕ). fields_from w text k ys) same
+fields_append w text at (x ∷ xs) ys =
+    let next = at + 1 + digit_count w x in
+    let same : next + length_of w xs ≡ at + (1 + digit_count w x + length_of w xs) = omega arith in
+    ap (λ (os : List (Option ℕ)). field_at text at (digit_count w x) ∷ os) (fields_append w text next xs ys ∙ ap (λ (k : ℕ). fields_from w text next xs ++ fields_from w text k ys) same)
+
+pub length_append : (w : ℕ) (xs ys : List Field) → length_of w (xs ++ ys) ≡ length_of w xs + length_of w ys
+length_append w [] ys = omega arith
+length_append w (x ∷ xs) ys = let rest = length_append w xs ys in omega (arith, rest)
+
+or_first : (x y : Bool) → x ≡ true → x || y ≡ true
+or_first true y e = refl
+or_first false y e = absurd cc
+
+or_second : (x y : Bool) → y ≡ true → x || y ≡ true
+or_second true y e = refl
+or_second false y e = e
+
+pub both_parts : (w : ℕ) (text : List ℕ) (at next : ℕ) (xs ys : List Field) (us vs : List ℕ) (bad bad' : ℕ) → next ≡ at + length_of w xs
+    → IsPart w text at xs us bad → IsPart w text next ys vs bad' → IsPart w text at (xs ++ ys) (us ++ vs) (bit_or bad bad')
+both_parts w text at next xs ys us vs bad bad' there p q =
+    let split : fields_from w text at (xs ++ ys) ≡ fields_from w text at xs ++ fields_from w text next ys = fields_append w text at xs ys ∙ ap (λ (k : ℕ). fields_from w text at xs ++ fields_from w text k ys) (sym there) in
+    record {
+      good = λ le. split ∙ ap (λ (os : List (Option ℕ)). os ++ fields_from w text next ys) (p.good (left_good bad bad' le))
+          ∙ ap (λ (os : List (Option ℕ)). map Some us ++ os) (q.good (right_good bad bad' le)) ∙ sym (map-append Some us vs);
+      none = λ lt. ap (list_any is_none) split ∙ list_any-append is_none (fields_from w text at xs) (fields_from w text next ys)
+          ∙ bad_or bad bad' lt (λ big. or_first _ _ (p.none big)) (λ big. or_second _ _ (q.none big));
+    }
+
+-- one field more
+pub and_field : (w : ℕ) (text : List ℕ) (at next : ℕ) (xs : List Field) (us : List ℕ) (bad : ℕ) (field : Field) (v bad' : ℕ) → next ≡ at + length_of w xs
+    → IsPart w text at xs us bad → IsNumber text next (digit_count w field) v bad' → IsPart w text at (xs ++ field ∷ []) (us ++ v ∷ []) (bit_or bad bad')
+and_field w text at next xs us bad field v bad' there p n = both_parts w text at next xs (field ∷ []) us (v ∷ []) bad bad' there p (number_part w text next field v bad' n)
+
+-- ---- the fields of a head, on any width
+
+one_of_both : (x y : Bool) → x && y ≡ true → (x ≡ true) × (y ≡ true)
+one_of_both true y e = (refl, e)
+one_of_both false y e = absurd cc
+
+head_count : (w : ℕ) (field : Field) → is_head_field field ≡ true → digit_count w field ≡ digit_count 0 field
+head_count w opcode e = refl
+head_count w param e = refl
+head_count w size e = refl
+head_count w source e = refl
+head_count w address e = refl
+head_count w sink e = refl
+head_count w denied e = refl
+head_count w mask e = absurd cc
+head_count w data_lanes e = absurd cc
+head_count w corrupt e = absurd cc
+
+head_from : (w : ℕ) (text : List ℕ) (at : ℕ) (fs : List Field) → list_all is_head_field fs ≡ true → fields_from w text at fs ≡ fields_from 0 text at fs
+head_from w text at [] e = refl
+head_from w text at (field ∷ fs) e =
+    let both = one_of_both (is_head_field field) (list_all is_head_field fs) e in
+    ap (λ (k : ℕ). field_at text at k ∷ fields_from w text (at + 1 + k) fs) (head_count w field both.0)
+    ∙ ap (λ (os : List (Option ℕ)). field_at text at (digit_count 0 field) ∷ os) (head_from w text (at + 1 + digit_count 0 field) fs both.1)
+
+pub head_length : (w : ℕ) (fs : List Field) → list_all is_head_field fs ≡ true → length_of w fs ≡ length_of 0 fs
+head_length w [] e = refl
+head_length w (field ∷ fs) e =
+    let both = one_of_both (is_head_field field) (list_all is_head_field fs) e in
+    let here = head_count w field both.0 in
+    let rest = head_length w fs both.1 in
+    omega (arith, here, rest)
+
+pub head_part : (w : ℕ) (text : List ℕ) (at : ℕ) (fs : List Field) (vs : List ℕ) (bad : ℕ) → list_all is_head_field fs ≡ true → IsPart 0 text at fs vs bad → IsPart w text at fs vs bad
+head_part w text at fs vs bad heads p = record {
+  good = λ le. head_from w text at fs heads ∙ p.good le;
+  none = λ lt. ap (list_any is_none) (head_from w text at fs heads) ∙ p.none lt;
+}
+
+module _ {H : Type 0} (f : Form H) where
+  head_limit : (w : ℕ) (field : Field) → is_head_field field ≡ true → values f w field ≡ values f 0 field
+  head_limit w opcode e = refl
+  head_limit w param e = refl
+  head_limit w size e = refl
+  head_limit w source e = refl
+  head_limit w address e = refl
+  head_limit w sink e = refl
+  head_limit w denied e = refl
+  head_limit w mask e = absurd cc
+  head_limit w data_lanes e = absurd cc
+  head_limit w corrupt e = absurd cc
+
+  head_below : (w : ℕ) (r : HeadFields) (fs : List Field) → list_all is_head_field fs ≡ true → below f w fs (map (head_value r) fs) ≡ list_all (λ field. nat_lt (head_value r field) (values f 0 field)) fs
+  head_below w r [] e = refl
+  head_below w r (field ∷ fs) e =
+      let both = one_of_both (is_head_field field) (list_all is_head_field fs) e in
+      ap (λ (k : ℕ). nat_lt (head_value r field) k && below f w fs (map (head_value r) fs)) (head_limit w field both.0)
+      ∙ ap (λ (b : Bool). nat_lt (head_value r field) (values f 0 field) && b) (head_below w r fs both.1)
+
+  head_of_beat : {n : ℕ} (b : BeatOf H n) (field : Field) → is_head_field field ≡ true → value_of f b field ≡ f.value b.head field
+  head_of_beat b opcode e = refl
+  head_of_beat b param e = refl
+  head_of_beat b size e = refl
+  head_of_beat b source e = refl
+  head_of_beat b address e = refl
+  head_of_beat b sink e = refl
+  head_of_beat b denied e = refl
+  head_of_beat b mask e = absurd cc
+  head_of_beat b data_lanes e = absurd cc
+  head_of_beat b corrupt e = absurd cc
+
+  head_said : {n : ℕ} (b : BeatOf H n) (fs : List Field) → list_all is_head_field fs ≡ true → map (value_of f b) fs ≡ map (f.value b.head) fs
+  head_said b [] e = refl
+  head_said b (field ∷ fs) e =
+      let both = one_of_both (is_head_field field) (list_all is_head_field fs) e in
+      ap (λ (k : ℕ). k ∷ map (value_of f b) fs) (head_of_beat b field both.0) ∙ ap (λ (ks : List ℕ). f.value b.head field ∷ ks) (head_said b fs both.1)
+
+  pub data_part : (w : ℕ) (text : List ℕ) (at d c bad bad' : ℕ) → f.rules.corrupts ≡ true → IsNumber text at (2 * w) d bad → IsNumber text (at + 1 + 2 * w) 1 c bad'
+      → IsPart w text at (data_fields f) (data_values f d c) (bit_or bad bad')
+  data_part w text at d c bad bad' has lanes bits = part f.rules.corrupts has
+    where
+      there : at + 1 + 2 * w ≡ at + length_of w (data_lanes ∷ [])
+      there = omega arith
+
+      part : (b : Bool) → b ≡ true → IsPart w text at (cond b (data_lanes ∷ corrupt ∷ []) []) (cond b (d ∷ c ∷ []) []) (bit_or bad bad')
+      part true e = and_field w text at (at + 1 + 2 * w) (data_lanes ∷ []) (d ∷ []) bad corrupt c bad' there (number_part w text at data_lanes d bad lanes) bits
+      part false e = absurd cc
+
+  -- ---- the whole line
+
+  abbrev pub line_values : (r : HeadFields) (m d c : ℕ) → List ℕ
+  line_values r m d c = (map (head_value r) f.head_fields ++ mask_values f m) ++ data_values f d c
+
+  pub line_long : (w : ℕ) → list_all is_head_field f.head_fields ≡ true → line_length f w ≡ 1 + length_of 0 f.head_fields + length_of w (mask_fields f) + length_of w (data_fields f)
+  line_long w heads =
+      let head = head_length w f.head_fields heads in
+      let two = length_append w f.head_fields (mask_fields f) in
+      let three = length_append w (f.head_fields ++ mask_fields f) (data_fields f) in
+      omega (arith, head, two, three)
+
+  pub line_part : (w : ℕ) (text : List ℕ) (r : HeadFields) (m d c mask_bad data_bad mask_at data_at : ℕ) → list_all is_head_field f.head_fields ≡ true
+      → mask_at ≡ 1 + length_of 0 f.head_fields → data_at ≡ mask_at + length_of w (mask_fields f)
+      → IsHead text f.head_fields r → IsPart w text mask_at (mask_fields f) (mask_values f m) mask_bad → IsPart w text data_at (data_fields f) (data_values f d c) data_bad
+      → IsPart w text 1 (fields f) (line_values r m d c) (bit_or (bit_or r.bad mask_bad) data_bad)
+  line_part w text r m d c mask_bad data_bad mask_at data_at heads first second head masks datas =
+      let wide = head_length w f.head_fields heads in
+      let two = length_append w f.head_fields (mask_fields f) in
+      let there : mask_at ≡ 1 + length_of w f.head_fields = omega (arith, wide, first) in
+      let there' : data_at ≡ 1 + length_of w (f.head_fields ++ mask_fields f) = omega (arith, wide, two, first, second) in
+      let front = both_parts w text 1 mask_at f.head_fields (mask_fields f) (map (head_value r) f.head_fields) (mask_values f m) r.bad mask_bad there (head_part w text 1 f.head_fields (map (head_value r) f.head_fields) r.bad heads head.part) masks in
+      both_parts w text 1 data_at (f.head_fields ++ mask_fields f) (data_fields f) (map (head_value r) f.head_fields ++ mask_values f m) (data_values f d c) (bit_or r.bad mask_bad) data_bad there' front datas
+
+  and_and : (a b c : Bool) → (a && b) && c ≡ a && (b && c)
+  and_and true b c = refl
+  and_and false b c = refl
+
+  below_append : (w : ℕ) (xs ys : List Field) (us vs : List ℕ) → length us ≡ length xs → below f w (xs ++ ys) (us ++ vs) ≡ below f w xs us && below f w ys vs
+  below_append w [] ys [] vs e = refl
+  below_append w [] ys (u ∷ us) vs e = absurd (omega arith)
+  below_append w (x ∷ xs) ys [] vs e = absurd (omega arith)
+  below_append w (x ∷ xs) ys (u ∷ us) vs e =
+      ap (λ (b : Bool). nat_lt u (values f w x) && b) (below_append w xs ys us vs (omega arith)) ∙ sym (and_and (nat_lt u (values f w x)) (below f w xs us) (below f w ys vs))
+
+  length_map : (g : Field → ℕ) (fs : List Field) → length (map g fs) ≡ length fs
+  length_map g [] = refl
+  length_map g (x ∷ fs) = let rest = length_map g fs in omega (arith, rest)
+
+  mask_long : (m : ℕ) (b : Bool) → length {A = ℕ} (cond b (m ∷ []) []) ≡ length {A = Field} (cond b (mask ∷ []) [])
+  mask_long m true = refl
+  mask_long m false = refl
+
+  lengths : (r : HeadFields) (m : ℕ) → length (map (head_value r) f.head_fields ++ mask_values f m) ≡ length (f.head_fields ++ mask_fields f)
+  lengths r m = grow (map (head_value r) f.head_fields) (mask_values f m) f.head_fields (mask_fields f) (length_map (head_value r) f.head_fields) (mask_long m f.rules.masked)
+    where
+      grow : (us vs : List ℕ) (xs ys : List Field) → length us ≡ length xs → length vs ≡ length ys → length (us ++ vs) ≡ length (xs ++ ys)
+      grow us vs xs ys e e' = omega (arith, length-append us vs, length-append xs ys, e, e')
+
+  mask_test : (w m : ℕ) (b : Bool) → (b ≡ false → m ≡ 0) → below f w (cond b (mask ∷ []) []) (cond b (m ∷ []) []) ≡ nat_lt m (2 ^ w)
+  mask_test w m true none = and_true (nat_lt m (2 ^ w))
+    where
+      and_true : (x : Bool) → x && true ≡ x
+      and_true true = refl
+      and_true false = refl
+  mask_test w m false none = sym (lt-ltb m (2 ^ w) (let zero = none refl in let most = pow_pos w in omega (arith, zero, most)))
+
+  data_test : (w d c : ℕ) (b : Bool) → (b ≡ false → c ≡ 0) → d < 256 ^ w → below f w (cond b (data_lanes ∷ corrupt ∷ []) []) (cond b (d ∷ c ∷ []) []) ≡ nat_lt c 2
+  data_test w d c true none small = rw (lt-ltb d (256 ^ w) small) (and_true (nat_lt c 2))
+    where
+      and_true : (x : Bool) → x && true ≡ x
+      and_true true = refl
+      and_true false = refl
+  data_test w d c false none small = sym (lt-ltb c 2 (let zero = none refl in omega (arith, zero)))
+
+  -- a line is in range where its head, its mask and corrupt are
+  pub line_range : (w : ℕ) (r : HeadFields) (m d c : ℕ) → list_all is_head_field f.head_fields ≡ true → (f.rules.masked ≡ false → m ≡ 0) → (f.rules.corrupts ≡ false → c ≡ 0) → d < 256 ^ w
+      → below f w (fields f) (line_values r m d c) ≡ (is_head_in_range f r && nat_lt m (2 ^ w)) && nat_lt c 2
+  line_range w r m d c heads no_mask no_data small =
+      below_append w (f.head_fields ++ mask_fields f) (data_fields f) (map (head_value r) f.head_fields ++ mask_values f m) (data_values f d c) (lengths r m)
+      ∙ ap (λ (b : Bool). b && below f w (data_fields f) (data_values f d c)) (below_append w f.head_fields (mask_fields f) (map (head_value r) f.head_fields) (mask_values f m) (length_map (head_value r) f.head_fields)
+      ∙ ap (λ (b : Bool). b && below f w (mask_fields f) (mask_values f m)) (head_below w r f.head_fields heads)
+      ∙ ap (λ (b : Bool). is_head_in_range f r && b) (mask_test w m f.rules.masked no_mask))
+      ∙ ap (λ (b : Bool). (is_head_in_range f r && nat_lt m (2 ^ w)) && b) (data_test w d c f.rules.corrupts no_data small)
+
+  mask_said : {n : ℕ} (b : BeatOf H n) (t : Bool) → map (value_of f b) (cond t (mask ∷ []) []) ≡ cond t (b.mask ∷ []) []
+  mask_said b true = refl
+  mask_said b false = refl
+
+  data_said : {n : ℕ} (b : BeatOf H n) (t : Bool) → map (value_of f b) (cond t (data_lanes ∷ corrupt ∷ []) []) ≡ cond t (number_of_lanes b.lanes ∷ bit b.corrupt ∷ []) []
+  data_said b true = refl
+  data_said b false = refl
+
+  pub line_said : {n : ℕ} (b : BeatOf H n) (r : HeadFields) (c : ℕ) → list_all is_head_field f.head_fields ≡ true → IsHeadOf f r b.head → bit b.corrupt ≡ c
+      → map (value_of f b) (fields f) ≡ line_values r b.mask (number_of_lanes b.lanes) c
+  line_said b r c heads head same =
+      map-append (value_of f b) (f.head_fields ++ mask_fields f) (data_fields f)
+      ∙ ap (λ (vs : List ℕ). vs ++ map (value_of f b) (data_fields f)) (map-append (value_of f b) f.head_fields (mask_fields f)
+      ∙ ap (λ (vs : List ℕ). vs ++ map (value_of f b) (mask_fields f)) (head_said b f.head_fields heads ∙ head.same)
+      ∙ ap (λ (vs : List ℕ). map (head_value r) f.head_fields ++ vs) (mask_said b f.rules.masked))
+      ∙ ap (λ (vs : List ℕ). (map (head_value r) f.head_fields ++ mask_values f b.mask) ++ vs) (data_said b f.rules.corrupts ∙ ap (λ (k : ℕ). cond f.rules.corrupts (number_of_lanes b.lanes ∷ k ∷ []) []) same)
+
+  pub line_plain : {n : ℕ} (b : BeatOf H n) → (f.rules.masked ≡ false → b.mask ≡ 0) → (f.rules.corrupts ≡ false → (list_all (λ lane. nat_eq lane 0) b.lanes ≡ true) × (b.corrupt ≡ false)) → is_plain f b ≡ true
+  line_plain b no_mask no_data = and_of (f.rules.masked || nat_eq b.mask 0) (f.rules.corrupts || (list_all (λ lane. nat_eq lane 0) b.lanes && not b.corrupt)) (left f.rules.masked no_mask) (right f.rules.corrupts no_data)
+    where
+      left : (t : Bool) → (t ≡ false → b.mask ≡ 0) → t || nat_eq b.mask 0 ≡ true
+      left true none = refl
+      left false none = rw (none refl) refl
+
+      right : (t : Bool) → (t ≡ false → (list_all (λ lane. nat_eq lane 0) b.lanes ≡ true) × (b.corrupt ≡ false)) → t || (list_all (λ lane. nat_eq lane 0) b.lanes && not b.corrupt) ≡ true
+      right true none = refl
+      right false none = rw ((none refl).0, (none refl).1) refl
+
+  -- ---- what the readers need
+
+  pub below_is : (w : ℕ) (r : HeadFields) (m d c : ℕ) (bad : Bool) → list_all is_head_field f.head_fields ≡ true → (f.rules.masked ≡ false → m ≡ 0) → (f.rules.corrupts ≡ false → c ≡ 0) → d < 256 ^ w
+      → (is_head_in_range f r && nat_lt m (2 ^ w)) && nat_lt c 2 ≡ bad → below f w (fields f) (line_values r m d c) ≡ bad
+  below_is w r m d c bad heads no_mask no_data small is = line_range w r m d c heads no_mask no_data small ∙ is
+
+  pub no_head : (r : HeadFields) (m c : Bool) → is_head_in_range f r ≡ false → (is_head_in_range f r && m) && c ≡ false
+  no_head r m c none = rw none refl
+
+pub out_mask : (h m c : Bool) → m ≡ false → (h && m) && c ≡ false
+out_mask true m c none = rw none refl
+out_mask false m c none = refl
+
+pub out_corrupt : (h m c : Bool) → c ≡ false → (h && m) && c ≡ false
+out_corrupt true true c none = none
+out_corrupt true false c none = refl
+out_corrupt false m c none = refl
+
+pub in_all : (h m c : Bool) → h ≡ true → m ≡ true → c ≡ true → (h && m) && c ≡ true
+in_all true true c e e' e'' = e''
+in_all true false c e e' e'' = absurd cc
+in_all false m c e e' e'' = absurd cc
+
+pub high : (c : ℕ) → 1 < c → nat_lt c 2 ≡ false
+high c lt = le-ltb c 2 (omega arith)
+
+pub low : (c : ℕ) → c ≤ 1 → nat_lt c 2 ≡ true
+low c le = lt-ltb c 2 (omega arith)

@@ -1,0 +1,252 @@
+-- Numbers read without a test of each digit: a bad digit shows in the bits above the lowest four.
+use Rattle.std.proofs.Common.{◌≡◌, ℕ, zero, suc, ◌+◌, ◌-◌, ◌*◌, ◌%◌, ◌^◌, ◌<◌, ◌≤◌, Bool, true, false, cond, nat_eq, nat_lt, List, [], ◌∷◌, length, get_or, set, take, drop, replicate, Option, Some, None, refl, sym, ap, ◌∙◌, add-one, arith, eq-eqb, subst, bit_or}
+use Rattle.std.proofs.Math.Nat.{pow-suc}
+use Rattle.std.proofs.lemmas.Bool.{eqb-true, lt-ltb, ltb-true, ltb-false}
+use Rattle.std.proofs.lemmas.Nat.{le_or_l, le_or_r, or_lt}
+use Rattle.std.proofs.lemmas.List.{length-set, length-replicate, length-take-le, length-drop}
+use Rattle.std.specs.List.{list_all, slice_range, slice_index}
+use Rattle.std.specs.Str.Parse.{digits_value}
+use Rattle.tl_trace.specs.Fields.{number_of_lanes}
+use Rattle.tl_trace.specs.Lines.{is_hex, is_lanes}
+use Rattle.tl_trace.specs.Inner.Reading.{digit_of, number_of, field_at, IsNumber}
+use Rattle.tl_trace.proofs.HexDigits.{room, wider, step, fails, is_done}
+use Rattle.tl_trace.proofs.Shaped.{and_of, first_of_and, second_of_and}
+
+-- ---- bad digits
+
+pub left_good : (x y : ℕ) → bit_or x y ≤ 15 → x ≤ 15
+left_good x y le = omega (arith, le_or_l x y, le)
+
+pub right_good : (x y : ℕ) → bit_or x y ≤ 15 → y ≤ 15
+right_good x y le = omega (arith, le_or_r x y, le)
+
+pub bad_or : {A : Type 0} (x y : ℕ) → 15 < bit_or x y → (15 < x → A) → (15 < y → A) → A
+bad_or {A} x y lt left right = pick (nat_lt 15 x) (nat_lt 15 y) refl refl
+  where
+    pick : (p q : Bool) → nat_lt 15 x ≡ p → nat_lt 15 y ≡ q → A
+    pick true q e e' = left (ltb-true 15 x e)
+    pick false true e e' = right (ltb-true 15 y e')
+    pick false false e e' =
+        let few : x < 2 ^ 4 = omega (arith, ltb-false 15 x e) in
+        let few' : y < 2 ^ 4 = omega (arith, ltb-false 15 y e') in
+        absurd (omega (arith, or_lt 4 x y few few', lt))
+
+none_either : {A : Type 0} (b : Bool) (o : Option A) → o ≡ None → cond b o None ≡ None
+none_either true o e = e
+none_either false o e = refl
+
+unspelt : (text : List ℕ) (at count i d : ℕ) → i < length (slice_range text (at + 1) (at + 1 + count)) → d ≡ digit_of (get_or (slice_range text (at + 1) (at + 1 + count)) i 0) → 15 < d
+    → field_at text at count ≡ None
+unfolding field_at
+unspelt text at count i d lt digit big =
+    let ds = slice_range text (at + 1) (at + 1 + count) in
+    none_either (nat_eq (slice_index text at) 32) (number_of ds) (fails ds i d lt digit big)
+
+pub range_long : (text : List ℕ) (at n : ℕ) → at + n ≤ length text → length (slice_range text at (at + n)) ≡ n
+range_long text at n le =
+    let here : (at + n) - at ≡ n = omega arith in
+    length-take-le ((at + n) - at) (drop at text) (omega (arith, length-drop at text)) ∙ here
+
+-- ---- a number
+
+-- the digits so far are digits, and the number is theirs
+pub record Spelt (digits : List ℕ) (i n : ℕ) : Type 0 where
+  pub good : list_all is_hex (take i digits) ≡ true
+  pub value : n ≡ digits_value 16 (take i digits)
+  pub small : n < 16 ^ i
+
+-- the space stands, and the digits so far are digits, unless one was bad: then there is no number
+pub record Field (text : List ℕ) (at count i n bad : ℕ) : Type 0 where
+  pub space : bad ≤ 15 → slice_index text at ≡ 32
+  pub spelt : bad ≤ 15 → Spelt (slice_range text (at + 1) (at + 1 + count)) i n
+  pub spoilt : 15 < bad → field_at text at count ≡ None
+
+-- the space, where nothing was read yet
+pub spaced : (text : List ℕ) (at count bad : ℕ) → bad ≡ cond (nat_eq (slice_index text at) 32) 0 16 → (bad ≤ 15 → slice_index text at ≡ 32) × (15 < bad → field_at text at count ≡ None)
+unfolding field_at
+spaced text at count bad is = pick (nat_eq (slice_index text at) 32) refl is
+  where
+    pick : (b : Bool) → nat_eq (slice_index text at) 32 ≡ b → bad ≡ cond b 0 16 → (bad ≤ 15 → slice_index text at ≡ 32) × (15 < bad → cond (nat_eq (slice_index text at) 32) (number_of (slice_range text (at + 1) (at + 1 + count))) None ≡ None)
+    pick true e is = ((λ le. eqb-true (slice_index text at) 32 e), λ lt. absurd (omega (arith, is, lt)))
+    pick false e is = ((λ le. absurd (omega (arith, is, le))), λ lt. rw e refl)
+
+pub field_start : (text : List ℕ) (at count bad : ℕ) → bad ≡ cond (nat_eq (slice_index text at) 32) 0 16 → Field text at count 0 0 bad
+field_start text at count bad is =
+    let s = spaced text at count bad is in
+    record { space = s.0; spelt = λ le. record { good = refl; value = refl; small = omega arith }; spoilt = s.1 }
+
+spelt_more : (ds : List ℕ) (i n d : ℕ) → i < length ds → i < 16 → Spelt ds i n → d ≡ digit_of (get_or ds i 0) → d ≤ 15 → Spelt ds (i + 1) ((n * 16 % 2 ^ 64 + d) % 2 ^ 64)
+spelt_more ds i n d lt few s digit le =
+    let top : n * 16 + d < 2 ^ 64 = room n i d few s.small le in
+    let same : (n * 16 % 2 ^ 64 + d) % 2 ^ 64 ≡ n * 16 + d = omega arith in
+    let more = step ds i n d lt s.good s.value digit le in
+    let P : ℕ → Type 0 = Spelt ds (i + 1) in
+    subst P (sym same) (record { good = more.0; value = more.1; small = wider n i d s.small le })
+
+pub field_more : (text : List ℕ) (at count i n bad d : ℕ) → i < length (slice_range text (at + 1) (at + 1 + count)) → i < 16 → Field text at count i n bad
+    → d ≡ digit_of (get_or (slice_range text (at + 1) (at + 1 + count)) i 0) → Field text at count (i + 1) ((n * 16 % 2 ^ 64 + d) % 2 ^ 64) (bit_or bad d)
+field_more text at count i n bad d lt few f digit = record {
+  space = λ le. f.space (left_good bad d le);
+  spelt = λ le. spelt_more (slice_range text (at + 1) (at + 1 + count)) i n d lt few (f.spelt (left_good bad d le)) digit (right_good bad d le);
+  spoilt = λ big. bad_or bad d big f.spoilt (unspelt text at count i d lt digit);
+}
+
+field_good : (text : List ℕ) (at count n : ℕ) → slice_index text at ≡ 32 → number_of (slice_range text (at + 1) (at + 1 + count)) ≡ Some n → field_at text at count ≡ Some n
+unfolding field_at
+field_good text at count n space number = rw space number
+
+pub field_done : (text : List ℕ) (at count i n bad : ℕ) → count ≤ i → i ≤ count → at + 1 + count ≤ length text → Field text at count i n bad → IsNumber text at count n bad
+field_done text at count i n bad le ge fits f =
+    let ds = slice_range text (at + 1) (at + 1 + count) in
+    let same : i ≡ count = omega arith in
+    let long : length ds ≡ count = range_long text (at + 1) count fits in
+    let P : ℕ → Type 0 = λ k. n < 16 ^ k in
+    record {
+      good = λ good. let s = f.spelt good in field_good text at count n (f.space good) (is_done ds i n (omega (arith, long)) s.good s.value);
+      small = λ good. subst P same (f.spelt good).small;
+      none = f.spoilt;
+    }
+
+-- ---- lanes
+
+pub zero_lanes : (lanes : List ℕ) (w : ℕ) → number_of_lanes lanes ≡ 0 → number_of_lanes (drop w lanes) ≡ 0
+zero_lanes lanes zero e = e
+zero_lanes [] (suc w) e = refl
+zero_lanes (lane ∷ lanes) (suc w) e = zero_lanes lanes w (omega arith)
+
+pub drop_set : (lanes : List ℕ) (i v : ℕ) → i < length lanes → drop i (set lanes i v) ≡ v ∷ drop (suc i) lanes
+drop_set [] i v lt = absurd (omega arith)
+drop_set (lane ∷ lanes) zero v lt = refl
+drop_set (lane ∷ lanes) (suc i) v lt = drop_set lanes i v (omega arith)
+
+pub bytes_set : (lanes : List ℕ) (i v : ℕ) → v < 256 → list_all (λ lane. nat_lt lane 256) lanes ≡ true → list_all (λ lane. nat_lt lane 256) (set lanes i v) ≡ true
+bytes_set [] i v lt e = refl
+bytes_set (lane ∷ lanes) zero v lt e = and_of (nat_lt v 256) (list_all (λ lane. nat_lt lane 256) lanes) (lt-ltb v 256 lt) (second_of_and (nat_lt lane 256) (list_all (λ lane. nat_lt lane 256) lanes) e)
+bytes_set (lane ∷ lanes) (suc i) v lt e = and_of (nat_lt lane 256) (list_all (λ lane. nat_lt lane 256) (set lanes i v)) (first_of_and (nat_lt lane 256) (list_all (λ lane. nat_lt lane 256) lanes) e)
+    (bytes_set lanes i v lt (second_of_and (nat_lt lane 256) (list_all (λ lane. nat_lt lane 256) lanes) e))
+
+zero_bytes : (n : ℕ) → list_all (λ lane. nat_lt lane 256) (replicate n 0) ≡ true
+zero_bytes zero = refl
+zero_bytes (suc n) = zero_bytes n
+
+pub zero_are : (w : ℕ) → is_lanes w (replicate w 0) ≡ true
+zero_are w =
+    let long : length (replicate {A = ℕ} w 0) ≡ w = length-replicate {A = ℕ} w 0 in
+    rw (eq-eqb (length (replicate {A = ℕ} w 0)) w long) (zero_bytes w)
+
+pub squares : (w : ℕ) → 256 ^ w ≡ 16 ^ (2 * w)
+squares zero = refl
+squares (suc w) =
+    let e : 2 * suc w ≡ suc (suc (2 * w)) = omega arith in
+    let one : 256 ^ suc w ≡ 256 ^ w * 256 = pow-suc 256 w in
+    let two : 16 ^ suc (suc (2 * w)) ≡ 16 ^ suc (2 * w) * 16 = pow-suc 16 (suc (2 * w)) in
+    let three : 16 ^ suc (2 * w) ≡ 16 ^ (2 * w) * 16 = pow-suc 16 (2 * w) in
+    let rest = squares w in
+    omega (arith, one, two, three, rest) ∙ ap (λ (n : ℕ). 16 ^ n) (sym e)
+
+-- lanes so far, from the highest
+pub record Laid (digits lanes : List ℕ) (w i : ℕ) : Type 0 where
+  pub small : number_of_lanes (drop (w - i) lanes) < 256 ^ i
+  pub good : list_all is_hex (take (2 * i) digits) ≡ true
+  pub value : number_of_lanes (drop (w - i) lanes) ≡ digits_value 16 (take (2 * i) digits)
+
+-- the first w of n lanes
+pub record Lanes (text lanes : List ℕ) (n at w i bad : ℕ) : Type 0 where
+  pub long : length lanes ≡ n
+  pub bytes : list_all (λ lane. nat_lt lane 256) lanes ≡ true
+  pub space : bad ≤ 15 → slice_index text at ≡ 32
+  pub laid : bad ≤ 15 → Laid (slice_range text (at + 1) (at + 1 + 2 * w)) lanes w i
+  pub spoilt : 15 < bad → field_at text at (2 * w) ≡ None
+
+pub lanes_start : (text lanes : List ℕ) (n at w bad : ℕ) → is_lanes n lanes ≡ true → number_of_lanes lanes ≡ 0 → bad ≡ cond (nat_eq (slice_index text at) 32) 0 16 → Lanes text lanes n at w 0 bad
+lanes_start text lanes n at w bad all dark is =
+    let s = spaced text at (2 * w) bad is in
+    let long : length lanes ≡ n = eqb-true (length lanes) n (first_of_and (nat_eq (length lanes) n) (list_all (λ lane. nat_lt lane 256) lanes) all) in
+    let bytes = second_of_and (nat_eq (length lanes) n) (list_all (λ lane. nat_lt lane 256) lanes) all in
+    let whole : w - 0 ≡ w = omega arith in
+    let none : number_of_lanes (drop (w - 0) lanes) ≡ 0 = ap (λ (k : ℕ). number_of_lanes (drop k lanes)) whole ∙ zero_lanes lanes w dark in
+    record { long = long; bytes = bytes; space = s.0; laid = λ le. record { small = omega (arith, none); good = refl; value = none }; spoilt = s.1 }
+
+laid_more : (ds lanes : List ℕ) (w i high low : ℕ) → i < w → w ≤ length lanes → length ds ≡ 2 * w → Laid ds lanes w i
+    → high ≡ digit_of (get_or ds (2 * i) 0) → high ≤ 15 → low ≡ digit_of (get_or ds (2 * i + 1) 0) → low ≤ 15
+    → Laid ds (set lanes (w - 1 - i) (high * 16 + low)) w (i + 1)
+laid_more ds lanes w i high low lt wide long far h h_le l l_le =
+    let number = digits_value 16 (take (2 * i) ds) in
+    let one = step ds (2 * i) number high (omega arith) far.good refl h h_le in
+    let two = step ds (2 * i + 1) (number * 16 + high) low (omega arith) one.0 one.1 l l_le in
+    let twice : 2 * (i + 1) ≡ 2 * i + 1 + 1 = omega arith in
+    let place : w - (i + 1) ≡ w - 1 - i = omega arith in
+    let after : suc (w - 1 - i) ≡ w - i = omega arith in
+    let within : w - 1 - i < length lanes = omega (arith, wide) in
+    let is : drop (w - 1 - i) (set lanes (w - 1 - i) (high * 16 + low)) ≡ (high * 16 + low) ∷ drop (w - i) lanes = drop_set lanes (w - 1 - i) (high * 16 + low) within ∙ ap (λ (k : ℕ). (high * 16 + low) ∷ drop k lanes) after in
+    record {
+      small =
+          let most : 256 ^ suc i ≡ 256 ^ i * 256 = pow-suc 256 i in
+          let same : number_of_lanes (drop (w - (i + 1)) (set lanes (w - 1 - i) (high * 16 + low))) ≡ (high * 16 + low) + 256 * number_of_lanes (drop (w - i) lanes) =
+          ap (λ (k : ℕ). number_of_lanes (drop k (set lanes (w - 1 - i) (high * 16 + low)))) place ∙ ap number_of_lanes is in
+          rw (same, add-one i, most) (omega (arith, far.small));
+      good = ap (λ (k : ℕ). list_all is_hex (take k ds)) twice ∙ two.0;
+      value = ap (λ (k : ℕ). number_of_lanes (drop k (set lanes (w - 1 - i) (high * 16 + low)))) place ∙ ap number_of_lanes is
+          ∙ omega (arith, far.value) ∙ two.1 ∙ ap (λ (k : ℕ). digits_value 16 (take k ds)) (sym twice);
+    }
+
+pub lanes_more : (text lanes : List ℕ) (n at w i bad high low : ℕ) → i < w → w ≤ n → length (slice_range text (at + 1) (at + 1 + 2 * w)) ≡ 2 * w → Lanes text lanes n at w i bad
+    → high ≡ digit_of (get_or (slice_range text (at + 1) (at + 1 + 2 * w)) (2 * i) 0) → low ≡ digit_of (get_or (slice_range text (at + 1) (at + 1 + 2 * w)) (2 * i + 1) 0)
+    → Lanes text (set lanes (w - 1 - i) ((high * 16 % 256 + low) % 256)) n at w (i + 1) (bit_or bad (bit_or high low))
+lanes_more text lanes n at w i bad high low lt most long far h l =
+    let ds = slice_range text (at + 1) (at + 1 + 2 * w) in
+    record {
+      long = length-set lanes (w - 1 - i) ((high * 16 % 256 + low) % 256) ∙ far.long;
+      bytes = bytes_set lanes (w - 1 - i) ((high * 16 % 256 + low) % 256) (omega arith) far.bytes;
+      space = λ le. far.space (left_good bad (bit_or high low) le);
+      laid = λ le.
+          let both = right_good bad (bit_or high low) le in
+          let h_le = left_good high low both in
+          let l_le = right_good high low both in
+          let same : (high * 16 % 256 + low) % 256 ≡ high * 16 + low = omega arith in
+          let P : ℕ → Type 0 = λ v. Laid ds (set lanes (w - 1 - i) v) w (i + 1) in
+          subst P (sym same) (laid_more ds lanes w i high low lt (omega (arith, far.long)) long (far.laid (left_good bad (bit_or high low) le)) h h_le l l_le);
+      spoilt = λ big. bad_or bad (bit_or high low) big far.spoilt (λ worse. bad_or high low worse
+          (unspelt text at (2 * w) (2 * i) high (omega (arith, long)) h)
+          (unspelt text at (2 * w) (2 * i + 1) low (omega (arith, long)) l));
+    }
+
+pub lanes_are : (text lanes : List ℕ) (n at w i bad : ℕ) → Lanes text lanes n at w i bad → is_lanes n lanes ≡ true
+lanes_are text lanes n at w i bad far = rw (eq-eqb (length lanes) n far.long) far.bytes
+
+pub lanes_done : (text lanes : List ℕ) (n at w i bad : ℕ) → w ≤ i → i ≤ w → at + 1 + 2 * w ≤ length text → Lanes text lanes n at w i bad → IsNumber text at (2 * w) (number_of_lanes lanes) bad
+lanes_done text lanes n at w i bad le ge fits far =
+    let ds = slice_range text (at + 1) (at + 1 + 2 * w) in
+    let long : length ds ≡ 2 * w = range_long text (at + 1) (2 * w) fits in
+    let whole : w - i ≡ 0 = omega arith in
+    let same : i ≡ w = omega arith in
+    let here : number_of_lanes (drop (w - i) lanes) ≡ number_of_lanes lanes = ap (λ (k : ℕ). number_of_lanes (drop k lanes)) whole in
+    let P : ℕ → Type 0 = λ k. number_of_lanes lanes < 256 ^ k in
+    record {
+      good = λ good.
+          let laid = far.laid good in
+          field_good text at (2 * w) (number_of_lanes lanes) (far.space good) (is_done ds (2 * i) (number_of_lanes lanes) (omega (arith, long)) laid.good (sym here ∙ laid.value));
+      small = λ good.
+          let laid = far.laid good in
+          let small : number_of_lanes lanes < 256 ^ i = omega (arith, here, laid.small) in
+          powers w (number_of_lanes lanes) (subst P same small);
+      none = far.spoilt;
+    }
+  where
+    powers : (w n : ℕ) → n < 256 ^ w → n < 16 ^ (2 * w)
+    powers w n lt = let e = squares w in omega (arith, e, lt)
+
+pub lanes_small : (w n : ℕ) → n < 16 ^ (2 * w) → n < 256 ^ w
+lanes_small w n lt = let e = squares w in omega (arith, e, lt)
+
+pub zero_small : (w n : ℕ) → n ≡ 0 → n < 256 ^ w
+zero_small zero n e = omega arith
+zero_small (suc w) n e = let more : 256 ^ suc w ≡ 256 ^ w * 256 = pow-suc 256 w in let rest = zero_small w n e in omega (arith, more, rest)
+
+pub zero_number : (n : ℕ) → number_of_lanes (replicate n 0) ≡ 0
+zero_number zero = refl
+zero_number (suc n) = let rest = zero_number n in omega (arith, rest)
+
+pub zero_bits : (n : ℕ) → list_all (λ lane. nat_eq lane 0) (replicate n 0) ≡ true
+zero_bits zero = refl
+zero_bits (suc n) = zero_bits n

@@ -1,5 +1,0 @@
-use Rattle.std.proofs.Common.{lit<, lit≤, refl, rules}
-use Rattle.tl_trace.proofs.tests.reads_and_writes_lanes.Goals as goal
-
-pub script_of-requires : goal.script_of-requires
-script_of-requires g c = (lit< tt, ((3, lit≤ tt, refl), ((2, lit≤ tt, refl), (search rules, search rules))))

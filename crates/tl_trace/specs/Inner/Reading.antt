@@ -1,0 +1,177 @@
+-- What the parts of the reader give. Only contracts of private functions cite these words.
+use Rattle.std.specs.Prelude.{◌≡◌, ◌≢◌, ◌≤◌, ◌<◌, ◌+◌, ◌^◌, ◌==◌, ◌&&◌, ℕ, Bool, true, false, List, [], ◌∷◌, ◌++◌, map, length, Option, Some, None, MatchOption, is_none, nat_lt, if◌then◌else◌, slice_index, slice_range}
+use Rattle.std.specs.List.{list_all, list_any}
+use Rattle.std.specs.Option.{option_to_list}
+use Rattle.std.specs.Str.Parse.{digits_value}
+use Rattle.std.specs.Char.{digit_value}
+use Rattle.tl_trace.specs.Fields.{Field, opcode, param, size, source, address, sink, denied, mask, data_lanes, corrupt, Form, id_digits, values}
+use Rattle.tl_trace.specs.Texts.{SaysLine, TellsLines, is_kept_line}
+use Rattle.tl_trace.specs.Faults.{body_fault}
+use Rattle.tl_trace.specs.declared.head_reader.HeadFields.{HeadFields}
+use Rattle.tl_trace.specs.declared.head_reader.CommonFields.{CommonFields}
+use Rattle.tl_trace.specs.declared.line.Line.{Line}
+use Rattle.tl_trace.specs.declared.near.Near.{Near}
+use Rattle.tl_trace.specs.declared.near.Near.TheVariants.{OfA, OfB, OfC, OfD, OfE}
+use Rattle.tl_trace.specs.declared.script.Script.{Script}
+use Rattle.tl_trace.specs.Scripts.{IsScriptOf, beat_of_a, beat_of_b, beat_of_c, beat_of_d, beat_of_e}
+use Rattle.tl_msg.specs.declared.head.HeadA.{HeadA}
+use Rattle.tl_msg.specs.declared.head.HeadB.{HeadB}
+use Rattle.tl_msg.specs.declared.head.HeadC.{HeadC}
+use Rattle.tl_msg.specs.declared.head.HeadD.{HeadD}
+use Rattle.tl_msg.specs.declared.head.HeadE.{HeadE}
+use Rattle.tl_msg.specs.declared.beat.BeatOf.{BeatOf}
+use Rattle.tl_trace.specs.Lines.{is_hex, places_from, IsLine, is_kept}
+
+-- the value of a lower-case digit, and 16 of every other byte
+abbrev pub digit_of : (byte : ℕ) → ℕ
+digit_of byte = if is_hex byte then digit_value byte else 16
+
+-- the number that digits spell, if each is one
+unfoldable pub number_of : List ℕ → Option ℕ
+number_of digits = if list_all is_hex digits then Some (digits_value 16 digits) else None
+
+-- a space at a place, and after it a number of so many digits
+unfoldable pub field_at : List ℕ → (at count : ℕ) → Option ℕ
+field_at text at count = if slice_index text at == 32 then number_of (slice_range text (at + 1) (at + 1 + count)) else None
+
+-- the fields that stand from a place on, where they have their shape
+abbrev pub fields_from : (w : ℕ) → List ℕ → (at : ℕ) → List Field → List (Option ℕ)
+fields_from w text at fs = map (λ p. field_at text p.at p.count) (places_from at w fs)
+
+-- a field of a head: the width does not change its digits
+abbrev pub is_head_field : Field → Bool
+is_head_field mask = false
+is_head_field data_lanes = false
+is_head_field corrupt = false
+is_head_field _ = true
+
+-- the fields of a head as they were read, 0 for each that it has not
+abbrev pub head_value : HeadFields → Field → ℕ
+head_value r opcode = r.opcode
+head_value r param = r.param
+head_value r size = r.size
+head_value r source = r.source
+head_value r address = r.address
+head_value r sink = r.sink
+head_value r denied = r.denied
+head_value r _ = 0
+
+-- what their digits can spell
+pub record IsSmall (r : HeadFields) : Type 0 where
+  pub size : r.size < 16
+  pub source : r.source < 16 ^ id_digits
+  pub address : r.address < 2 ^ 64
+  pub sink : r.sink < 16 ^ id_digits
+  pub opcode : r.opcode < 16
+  pub param : r.param < 16
+
+-- where bad is at most 15, the number stands after a space at a place; else there is none of so many digits
+pub record IsNumber (text : List ℕ) (at count value bad : ℕ) : Type 0 where
+  pub good : bad ≤ 15 → field_at text at count ≡ Some value
+  pub small : bad ≤ 15 → value < 16 ^ count
+  pub none : 15 < bad → field_at text at count ≡ None
+
+-- where bad is at most 15, fields with these values stand from a place on; else one of them has not its shape
+pub record IsPart (w : ℕ) (text : List ℕ) (at : ℕ) (fs : List Field) (vs : List ℕ) (bad : ℕ) : Type 0 where
+  pub good : bad ≤ 15 → fields_from w text at fs ≡ map Some vs
+  pub none : 15 < bad → list_any is_none (fields_from w text at fs) ≡ true
+
+-- the fields that a line begins with, behind its letter
+pub record IsHead (text : List ℕ) (fs : List Field) (r : HeadFields) : Type 0 where
+  pub part : IsPart 0 text 1 fs (map (head_value r) fs) r.bad
+  pub small : r.bad ≤ 15 → IsSmall r
+
+-- opcode and param are in range, and these are the fields
+pub record IsCommon (r : HeadFields) (params : ℕ) (m : CommonFields) : Type 0 where
+  pub range : nat_lt r.opcode 8 && nat_lt r.param params ≡ true
+  pub opcode : m.opcode ≡ r.opcode
+  pub param : m.param ≡ r.param
+  pub size : m.size ≡ r.size
+  pub source : m.source ≡ r.source
+
+module _ {H : Type 0} (f : Form H) where
+  -- each field of a head has one of its values
+  abbrev pub is_head_in_range : HeadFields → Bool
+  is_head_in_range r = list_all (λ field. nat_lt (head_value r field) (values f 0 field)) f.head_fields
+
+  -- the head of these fields, where each has one of its values
+  pub record IsHeadOf (r : HeadFields) (h : H) : Type 0 where
+    pub range : is_head_in_range r ≡ true
+    pub same : map (f.value h) f.head_fields ≡ map (head_value r) f.head_fields
+
+  abbrev pub Takes : HeadFields → Option H → Type 0
+  Takes r o = MatchOption o (is_head_in_range r ≡ false) (IsHeadOf r)
+
+  abbrev pub mask_values : (m : ℕ) → List ℕ
+  mask_values m = if f.rules.masked then m ∷ [] else []
+
+  abbrev pub data_values : (d c : ℕ) → List ℕ
+  data_values d c = if f.rules.corrupts then d ∷ c ∷ [] else []
+
+-- a beat that the line says, as a trace keeps it
+pub record IsRead {H : Type 0} (f : Form H) (w : ℕ) (text : List ℕ) {n : ℕ} (b : BeatOf H n) : Type 0 where
+  pub line : IsLine f w b text
+  pub kept : is_kept f w b ≡ true
+
+-- the same of a later line of any channel
+pub record IsReadLine (client manager : ℕ) (text : List ℕ) (line : Line) : Type 0 where
+  pub says : SaysLine client manager line text
+  pub kept : is_kept_line client manager line ≡ true
+  pub faultless : body_fault client manager text ≡ None
+
+-- the line from one place to the next line end
+pub record LineAt (text : List ℕ) (at end : ℕ) : Type 0 where
+  pub from : at ≤ end
+  pub to : end ≤ length text
+  pub free : (k : ℕ) → at + k < end → slice_index text (at + k) ≢ 10
+  pub stop : end < length text → slice_index text end ≡ 10
+
+-- the beat of a near line, where it is one of the channel
+abbrev pub near_a : {client manager : ℕ} → Near client manager → Option (BeatOf HeadA client)
+near_a (OfA b) = Some b
+near_a _ = None
+
+abbrev pub near_b : {client manager : ℕ} → Near client manager → Option (BeatOf HeadB manager)
+near_b (OfB b) = Some b
+near_b _ = None
+
+abbrev pub near_c : {client manager : ℕ} → Near client manager → Option (BeatOf HeadC client)
+near_c (OfC b) = Some b
+near_c _ = None
+
+abbrev pub near_d : {client manager : ℕ} → Near client manager → Option (BeatOf HeadD manager)
+near_d (OfD b) = Some b
+near_d _ = None
+
+abbrev pub near_e : {client manager : ℕ} → Near client manager → Option (BeatOf HeadE client)
+near_e (OfE b) = Some b
+near_e _ = None
+
+-- a near beat is that of a line of a trace
+pub record IsNearOf {client manager : ℕ} (line : Line) (near : Near client manager) : Type 0 where
+  pub a : near_a near ≡ beat_of_a client line
+  pub b : near_b near ≡ beat_of_b manager line
+  pub c : near_c near ≡ beat_of_c client line
+  pub d : near_d near ≡ beat_of_d manager line
+  pub e : near_e near ≡ beat_of_e client line
+
+-- a beat was put behind those of its channel
+pub record IsPushed {client manager : ℕ} (near : Near client manager) (before after : Script client manager) : Type 0 where
+  pub a : after.a.items ≡ before.a.items ++ option_to_list (near_a near)
+  pub b : after.b.items ≡ before.b.items ++ option_to_list (near_b near)
+  pub c : after.c.items ≡ before.c.items ++ option_to_list (near_c near)
+  pub d : after.d.items ≡ before.d.items ++ option_to_list (near_d near)
+  pub e : after.e.items ≡ before.e.items ++ option_to_list (near_e near)
+
+-- a near beat is what the line says
+pub record IsReadNear {client manager : ℕ} (text : List ℕ) (near : Near client manager) : Type 0 where
+  pub line : Line
+  pub read : IsReadLine client manager text line
+  pub same : IsNearOf line near
+
+-- the later lines of a text, and their beats by channel
+pub record TellsRest {client manager : ℕ} (text : List ℕ) (s : Script client manager) : Type 0 where
+  pub lines : List Line
+  pub told : TellsLines client manager lines text
+  pub kept : list_all (is_kept_line client manager) lines ≡ true
+  pub script : IsScriptOf lines s

@@ -1,0 +1,240 @@
+//! Reading the heads of the five channels.
+ghost use Rattle.std.specs.Prelude.{◌≡◌, ◌≤◌, ◌+◌, ◌&&◌, true, false, refl, length, map, nat_lt, MatchOption};
+ghost use Rattle.std.specs.List.{list_all};
+ghost use Rattle.tl_trace.specs.Fields.{addressed, common, length_of};
+ghost use Rattle.tl_trace.specs.declared.places.TheConstants.{COMMON_END, ADDRESSED_END};
+ghost use Rattle.tl_trace.specs.Inner.Reading.{IsHead, IsSmall, IsCommon, Takes, is_head_field};
+
+use crate::digits::field;
+use crate::head_text::HeadText;
+use crate::places::{
+    ACK_END, ADDRESS_DIGITS, ADDRESSED_END, COMMON_END, DENIED_AT, FIRST_AT, ID_DIGITS, PARAM_AT,
+    RESPONSE_END, SIZE_AT, SOURCE_AT,
+};
+use tl_msg::{ChA, ChB, ChC, ChD, ChE, HeadA, HeadB, HeadC, HeadD, HeadE};
+
+/// The fields of a head as numbers, 0 for each that the channel has not; where `bad` is above 15 the text of one has not
+/// its shape.
+#[derive(Clone, Copy)]
+pub struct HeadFields {
+    pub opcode: u64,
+    pub param: u64,
+    pub size: u64,
+    pub source: u64,
+    pub address: u64,
+    pub sink: u64,
+    pub denied: u64,
+    pub bad: u8,
+}
+
+/// A channel whose heads can be read.
+pub trait ReadHead: HeadText {
+    /// The place behind the last field of the head.
+    fn head_end() -> usize
+        ensures end { result ≡ 1 + length_of 0 Self.form.head_fields }
+        ensures few { result ≤ 32 };
+
+    /// The fields of the head of a line.
+    fn read_head(text: &[u8]) -> HeadFields
+        requires { 1 + length_of 0 Self.form.head_fields ≤ length text.now }
+        ensures { IsHead text.now Self.form.head_fields result };
+
+    /// The head of these fields, if each has one of its values.
+    fn head_of(fields: &HeadFields) -> Option<Self::Head>
+        requires { IsSmall fields.now }
+        ensures { Takes Self.form fields.now result };
+
+    ghost head_alone: { list_all is_head_field Self.form.head_fields ≡ true };
+}
+
+/// The fields that the heads of A to D begin with.
+fn read_common(text: &[u8]) -> HeadFields
+    requires { COMMON_END ≤ length text.now }
+    ensures { IsHead text.now common result }
+{
+    let opcode = field(text, FIRST_AT, 1);
+    let param = field(text, PARAM_AT, 1);
+    let size = field(text, SIZE_AT, 1);
+    let source = field(text, SOURCE_AT, ID_DIGITS);
+    HeadFields {
+        opcode: opcode.value,
+        param: param.value,
+        size: size.value,
+        source: source.value,
+        address: 0,
+        sink: 0,
+        denied: 0,
+        bad: opcode.bad | param.bad | size.bad | source.bad,
+    }
+}
+
+/// The fields of a head with an address.
+fn read_addressed(text: &[u8]) -> HeadFields
+    requires { ADDRESSED_END ≤ length text.now }
+    ensures { IsHead text.now addressed result }
+{
+    let common = read_common(text);
+    let address = field(text, COMMON_END, ADDRESS_DIGITS);
+    HeadFields {
+        address: address.value,
+        bad: common.bad | address.bad,
+        ..common
+    }
+}
+
+/// The fields that the heads of A to D begin with.
+#[derive(Clone, Copy)]
+struct CommonFields {
+    opcode: u8,
+    param: u8,
+    size: u8,
+    source: u8,
+}
+
+/// The common fields, if the opcode is below 8 and the param below `params`.
+fn common_of(fields: &HeadFields, params: u64) -> Option<CommonFields>
+    requires { IsSmall fields.now }
+    ensures { MatchOption result ((nat_lt fields.now.opcode 8 && nat_lt fields.now.param params) ≡ false) (IsCommon fields.now params) }
+{
+    if fields.opcode >= 8 || fields.param >= params {
+        return None;
+    }
+    Some(CommonFields {
+        opcode: fields.opcode as u8,
+        param: fields.param as u8,
+        size: fields.size as u8,
+        source: fields.source as u8,
+    })
+}
+
+impl ReadHead for ChA {
+    fn head_end() -> usize {
+        ADDRESSED_END
+    }
+
+    fn read_head(text: &[u8]) -> HeadFields {
+        read_addressed(text)
+    }
+
+    fn head_of(fields: &HeadFields) -> Option<HeadA> {
+        let common = common_of(fields, 8)?;
+        Some(HeadA {
+            opcode: common.opcode,
+            param: common.param,
+            size: common.size,
+            source: common.source,
+            address: fields.address,
+        })
+    }
+
+    ghost head_alone = { refl };
+}
+
+impl ReadHead for ChB {
+    fn head_end() -> usize {
+        ADDRESSED_END
+    }
+
+    fn read_head(text: &[u8]) -> HeadFields {
+        read_addressed(text)
+    }
+
+    fn head_of(fields: &HeadFields) -> Option<HeadB> {
+        let common = common_of(fields, 8)?;
+        Some(HeadB {
+            opcode: common.opcode,
+            param: common.param,
+            size: common.size,
+            source: common.source,
+            address: fields.address,
+        })
+    }
+
+    ghost head_alone = { refl };
+}
+
+impl ReadHead for ChC {
+    fn head_end() -> usize {
+        ADDRESSED_END
+    }
+
+    fn read_head(text: &[u8]) -> HeadFields {
+        read_addressed(text)
+    }
+
+    fn head_of(fields: &HeadFields) -> Option<HeadC> {
+        let common = common_of(fields, 8)?;
+        Some(HeadC {
+            opcode: common.opcode,
+            param: common.param,
+            size: common.size,
+            source: common.source,
+            address: fields.address,
+        })
+    }
+
+    ghost head_alone = { refl };
+}
+
+impl ReadHead for ChD {
+    fn head_end() -> usize {
+        RESPONSE_END
+    }
+
+    fn read_head(text: &[u8]) -> HeadFields {
+        let common = read_common(text);
+        let sink = field(text, COMMON_END, ID_DIGITS);
+        let denied = field(text, DENIED_AT, 1);
+        HeadFields {
+            sink: sink.value,
+            denied: denied.value,
+            bad: common.bad | sink.bad | denied.bad,
+            ..common
+        }
+    }
+
+    fn head_of(fields: &HeadFields) -> Option<HeadD> {
+        let common = common_of(fields, 4)?;
+        if fields.denied > 1 {
+            return None;
+        }
+        Some(HeadD {
+            opcode: common.opcode,
+            param: common.param,
+            size: common.size,
+            source: common.source,
+            sink: fields.sink as u8,
+            denied: fields.denied == 1,
+        })
+    }
+
+    ghost head_alone = { refl };
+}
+
+impl ReadHead for ChE {
+    fn head_end() -> usize {
+        ACK_END
+    }
+
+    fn read_head(text: &[u8]) -> HeadFields {
+        let sink = field(text, FIRST_AT, ID_DIGITS);
+        HeadFields {
+            opcode: 0,
+            param: 0,
+            size: 0,
+            source: 0,
+            address: 0,
+            sink: sink.value,
+            denied: 0,
+            bad: sink.bad,
+        }
+    }
+
+    fn head_of(fields: &HeadFields) -> Option<HeadE> {
+        Some(HeadE {
+            sink: fields.sink as u8,
+        })
+    }
+
+    ghost head_alone = { refl };
+}
