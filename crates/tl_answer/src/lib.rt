@@ -4,6 +4,7 @@
 
 mod answer;
 mod fault;
+pub mod laws;
 mod status;
 mod text;
 
