@@ -1,4 +1,5 @@
-//! Tests of the bridge, of its tables and of the run of a script, in a crate of their own: a crate with tests is proved twice.
+//! Tests of the bridge, of its tables and of the run of a script, in a crate of their own: a crate
+//! with tests is proved twice.
 #![tactic(auto)]
 
 #[cfg(test)]

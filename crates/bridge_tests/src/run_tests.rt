@@ -35,19 +35,31 @@ fn run<const C: usize, const M: usize>(
 /// A channel with no beat.
 const NONE: Verdict = Verdict::Done { near: 0, far: 0 };
 
+/// Two requests of one source.
+fn requests() -> [Beat<ChA, 4>; 2] {
+    [get(1, 0), get(1, 4)]
+}
+
+/// A response to each.
+fn responses() -> [Beat<ChD, 4>; 2] {
+    [data(1, 2, 1, [0x11; 4]), data(1, 2, 1, [0x22; 4])]
+}
+
+/// Their run over rings of this size.
+fn run_of_one_source(alloc: Global, ring: usize) -> Result<Outcome<4, 4>, Fail> {
+    let a = Vec::from_array(alloc, requests())?;
+    let d = Vec::from_array(alloc, responses())?;
+    Ok(run::<4, 4>(alloc, a, d, ring)??)
+}
+
 #[test]
 fn a_source_used_twice(rt: HostRuntime) -> Result<(), Fail> {
-    let alloc = rt.alloc();
+    let two = Verdict::Done { near: 2, far: 2 };
     for ring in [1, 4096] {
-        let requests = vec![in alloc; get(1, 0), get(1, 4)]?;
-        let responses = vec![in alloc; data(1, 2, 1, [0x11; 4]), data(1, 2, 1, [0x22; 4])]?;
-        let end = run::<4, 4>(alloc, requests, responses, ring)??;
-        let two = Verdict::Done { near: 2, far: 2 };
+        let end = run_of_one_source(rt.alloc(), ring)?;
         assert!(rt; end.verdicts == [two, NONE, NONE, two, NONE]);
-        assert!(rt; end.a.as_slice() == [get(1, 0), get(1, 4)].as_slice());
-        assert!(rt;
-            end.d.as_slice() == [data(1, 2, 1, [0x11; 4]), data(1, 2, 1, [0x22; 4])].as_slice()
-        );
+        assert!(rt; end.a.as_slice() == requests().as_slice());
+        assert!(rt; end.d.as_slice() == responses().as_slice());
         assert!(rt; end.rounds <= 13);
     }
     Ok(())

@@ -5,17 +5,17 @@ use linked_list_allocator::LocalHeap;
 use std::alloc::Global;
 use std::test::Fail;
 use tl_bridge::{Standings, SyncBridge};
-use tl_msg::{Beat, BeatFault, BeatOf, ChA, ChB, ChC, ChD, ChE, HeadB, HeadC, HeadE, SideFault};
+use tl_msg::{Beat, BeatFault, BeatOf, ChB, ChD, ChE, HeadB, HeadC, HeadE, SideFault};
 use tl_ring::BuildFault;
 
 /// What a bridge says to an offer. None where the channel is not ready.
 type Answer = Option<Result<(), SideFault>>;
 
-fn ask(bridge: &mut SyncBridge<4, 16>, beat: Beat<ChA, 4>) -> Answer {
+fn ask(bridge: &mut SyncBridge<4, 16>, source: u8, address: u64) -> Answer {
     if !bridge.ready_a() {
         return None;
     }
-    Some(bridge.offer_a(beat))
+    Some(bridge.offer_a(get(source, address)))
 }
 
 fn answer(bridge: &mut SyncBridge<4, 16>, beat: Beat<ChD, 16>) -> Answer {
@@ -32,11 +32,16 @@ fn probe(bridge: &mut SyncBridge<4, 16>, beat: Beat<ChB, 16>) -> Answer {
     Some(bridge.offer_b(beat))
 }
 
-fn release(bridge: &mut SyncBridge<4, 16>, beat: Beat<ChC, 4>) -> Answer {
+fn release(bridge: &mut SyncBridge<4, 16>, head: HeadC) -> Answer {
     if !bridge.ready_c() {
         return None;
     }
-    Some(bridge.offer_c(beat))
+    Some(bridge.offer_c(BeatOf {
+        head,
+        mask: 0,
+        lanes: [0; 4],
+        corrupt: false,
+    }))
 }
 
 fn acknowledge(bridge: &mut SyncBridge<4, 16>, beat: Beat<ChE, 4>) -> Answer {
@@ -80,7 +85,7 @@ fn a_request_and_its_response(rt: HostRuntime) -> Result<(), Fail> {
     let mut bridge = build(rt.alloc(), 4)?;
     let response = data(1, 2, 0x11, LANES);
     assert!(rt; answer(&mut bridge, response) == NO_REQUEST);
-    assert!(rt; ask(&mut bridge, get(0x11, 0x100c)) == ACCEPTED);
+    assert!(rt; ask(&mut bridge, 0x11, 0x100c) == ACCEPTED);
     assert_eq!(rt; bridge.pump(), 1);
     assert_eq!(rt; bridge.fetch(), 1);
     assert_eq!(rt; asked_mask(&mut bridge), Some(0xf000));
@@ -88,11 +93,11 @@ fn a_request_and_its_response(rt: HostRuntime) -> Result<(), Fail> {
     assert!(rt; answer(&mut bridge, response) == ACCEPTED);
     assert_eq!(rt; bridge.pump(), 1);
     assert!(rt; answer(&mut bridge, response) == NO_REQUEST);
-    assert!(rt; ask(&mut bridge, get(0x11, 0x100c)) == SOURCE_BUSY);
+    assert!(rt; ask(&mut bridge, 0x11, 0x100c) == SOURCE_BUSY);
     assert_eq!(rt; bridge.fetch(), 1);
-    assert!(rt; ask(&mut bridge, get(0x11, 0x100c)) == SOURCE_BUSY);
+    assert!(rt; ask(&mut bridge, 0x11, 0x100c) == SOURCE_BUSY);
     assert_eq!(rt; answered_lanes(&mut bridge), Some([0xaa, 0xbb, 0xcc, 0xdd]));
-    assert!(rt; ask(&mut bridge, get(0x11, 0x100c)) == ACCEPTED);
+    assert!(rt; ask(&mut bridge, 0x11, 0x100c) == ACCEPTED);
     Ok(())
 }
 
@@ -119,17 +124,12 @@ fn probes_releases_and_acknowledgements(rt: HostRuntime) -> Result<(), Fail> {
         lanes: [0; 16],
         corrupt: false,
     };
-    let ack = BeatOf {
-        head: HeadC {
-            opcode: 4,
-            param: 1,
-            size: 2,
-            source: 0,
-            address: 0x80,
-        },
-        mask: 0,
-        lanes: [0; 4],
-        corrupt: false,
+    let ack = HeadC {
+        opcode: 4,
+        param: 1,
+        size: 2,
+        source: 0,
+        address: 0x80,
     };
     let sink = BeatOf {
         head: HeadE { sink: 7 },
@@ -144,23 +144,40 @@ fn probes_releases_and_acknowledgements(rt: HostRuntime) -> Result<(), Fail> {
     assert_eq!(rt; bridge.fetch(), 3);
     assert_eq!(rt; bridge.standings().c.inbox, 1);
     assert_eq!(rt; bridge.take_b().map(|beat| beat.head), Some(block.head));
-    assert_eq!(rt; bridge.take_c().map(|beat| beat.head), Some(ack.head));
+    assert_eq!(rt; bridge.take_c().map(|beat| beat.head), Some(ack));
     assert_eq!(rt; bridge.take_e().map(|beat| beat.head), Some(sink.head));
     assert!(rt; bridge.standings() == Standings::default());
     Ok(())
 }
 
+fn closes_a(bridge: &mut SyncBridge<4, 16>) -> bool {
+    bridge.close_a().is_ok() && !bridge.ready_a()
+}
+
+fn closes_b(bridge: &mut SyncBridge<4, 16>) -> bool {
+    bridge.close_b().is_ok() && !bridge.ready_b()
+}
+
+fn closes_c(bridge: &mut SyncBridge<4, 16>) -> bool {
+    bridge.close_c().is_ok() && !bridge.ready_c()
+}
+
+fn closes_d(bridge: &mut SyncBridge<4, 16>) -> bool {
+    bridge.close_d().is_ok() && !bridge.ready_d()
+}
+
+fn closes_e(bridge: &mut SyncBridge<4, 16>) -> bool {
+    bridge.close_e().is_ok() && !bridge.ready_e()
+}
+
 #[test]
 fn closed_channels_are_not_ready(rt: HostRuntime) -> Result<(), Fail> {
     let mut bridge = build(rt.alloc(), 1)?;
-    let closed = [
-        bridge.close_a().is_ok() && !bridge.ready_a(),
-        bridge.close_b().is_ok() && !bridge.ready_b(),
-        bridge.close_c().is_ok() && !bridge.ready_c(),
-        bridge.close_d().is_ok() && !bridge.ready_d(),
-        bridge.close_e().is_ok() && !bridge.ready_e(),
-    ];
-    assert!(rt; closed == [true; 5]);
+    assert!(rt; closes_a(&mut bridge));
+    assert!(rt; closes_b(&mut bridge));
+    assert!(rt; closes_c(&mut bridge));
+    assert!(rt; closes_d(&mut bridge));
+    assert!(rt; closes_e(&mut bridge));
     Ok(())
 }
 

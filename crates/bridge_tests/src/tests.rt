@@ -27,17 +27,17 @@ fn requests_that_wait(rt: HostRuntime) {
         address: u64::MAX - 63,
     };
     let mut table = RequestTable::new();
-    assert_eq!(rt; table.get(0x11), None);
+    assert!(rt; table.get(0x11) == None);
     table.begin(0x11, first);
     table.begin(0xff, second);
-    assert_eq!(rt; table.get(0x11), Some(first));
-    assert_eq!(rt; table.get(0xff), Some(second));
+    assert!(rt; table.get(0x11) == Some(first));
+    assert!(rt; table.get(0xff) == Some(second));
     table.begin(0x11, second);
-    assert_eq!(rt; table.get(0x11), Some(second));
+    assert!(rt; table.get(0x11) == Some(second));
     table.end(0x12);
     table.end(0x11);
-    assert_eq!(rt; table.get(0x11), None);
-    assert_eq!(rt; table.get(0xff), Some(second));
+    assert!(rt; table.get(0x11) == None);
+    assert!(rt; table.get(0xff) == Some(second));
 }
 
 #[test]

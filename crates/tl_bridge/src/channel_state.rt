@@ -1,5 +1,5 @@
 //! What becomes of the next beat of a channel in a round of a run.
-ghost use Rattle.std.specs.Prelude.{◌≡◌, ℕ, IfSome, IsNone};
+ghost use Rattle.std.specs.Prelude.{◌≡◌, IfSome, IsNone};
 ghost use Rattle.tl_sides.specs.declared.per_channel.PerChannel.{PerChannel};
 ghost use Rattle.tl_bridge.specs.Inner.Running.{AreStopped, HaveRoomToCount, all_stopped, counted, steps};
 

@@ -1,4 +1,5 @@
-//! The run of a whole script over a bridge, `run_sync`, and the names of the crates below that its callers need, with `SyncBridge`.
+//! The run of a whole script over a bridge, `run_sync`, and the names of the crates below that its
+//! callers need, with `SyncBridge`.
 #![tactic(auto)]
 
 mod channel_state;

@@ -1,5 +1,5 @@
 //! The near beats that the two sides of a run offer, at most one of each channel in a round.
-ghost use Rattle.std.specs.Prelude.{◌≡◌, ◌++◌, [], List, Option, Some, map, slice_get, IfOk, IfErr, OnOk};
+ghost use Rattle.std.specs.Prelude.{◌≡◌, ◌++◌, List, Some, map, slice_get, IfOk, IfErr, OnOk};
 ghost use Rattle.tl_lanes.specs.Lanes.{IsWidth};
 ghost use Rattle.tl_msg.specs.Tables.{rules_a, rules_d};
 ghost use Rattle.tl_msg.specs.declared.head.HeadA.{HeadA};
@@ -21,8 +21,8 @@ use tl_sides::{
 };
 use tl_trace::Script;
 
-// The next beat of a channel, of which `at` were accepted, where its pipe is ready for it; else what becomes of it. A channel that has
-// none is closed, where no burst is unfinished.
+// The next beat of a channel, of which `at` were accepted, where its pipe is ready for it; else
+// what becomes of it. A channel that has none is closed, where no burst is unfinished.
 fn next_beat<'a, K: Channel, const W: usize, const V: usize>(
     pipe: &mut SyncPipe<K, W, V>,
     beats: &'a [Beat<K, W>],
@@ -104,7 +104,8 @@ fn offer_next_response<const C: usize, const M: usize>(
     ensures { (es : List (Event M)) (x : World HeadD M C) → ManagerAnswers book.old pipe.old es x →
         (accepted : List (BeatOf HeadD M)) × (y : World HeadD M C) ×
         ManagerAnswers book.new pipe.new (es ++ map Answer accepted) y ×
-        Does rules_d beats.now at (manager_answer es) (λ b. manager_home es b.head) x result accepted y }
+        Does rules_d beats.now at (manager_answer es) (λ b. manager_home es b.head) x result
+        accepted y }
 {
     match next_beat(pipe, beats, at) {
         Ok(beat) => match offer_response(book, pipe, beat) {
@@ -115,7 +116,8 @@ fn offer_next_response<const C: usize, const M: usize>(
     }
 }
 
-// Each side offers the next beat of each of its channels: first the client's side, then the manager's, each in the order of letters.
+// Each side offers the next beat of each of its channels: first the client's side, then the
+// manager's, each in the order of letters.
 pub(crate) fn offer_on_each<const C: usize, const M: usize>(
     bridge: &mut SyncBridge<C, M>,
     script: &Script<C, M>,

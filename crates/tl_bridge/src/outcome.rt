@@ -10,8 +10,9 @@ use thiserror::Error;
 use tl_msg::{Beat, ChA, ChB, ChC, ChD, ChE, SideFault, Verdict};
 use tl_ring::BuildFault;
 
-/// What a script ends in: the far beats that each side took, one verdict for each channel from A to E, and how many rounds the run
-/// had. The manager's side takes A, C and E, on `M` lanes; the client's side takes B and D, on `C` lanes.
+/// What a script ends in: the far beats that each side took, one verdict for each channel from A to
+/// E, and how many rounds the run had. The manager's side takes A, C and E, on `M` lanes; the
+/// client's side takes B and D, on `C` lanes.
 #[derive(Drop)]
 pub struct Outcome<const C: usize, const M: usize> {
     pub a: Vec<Beat<ChA, M>>,
@@ -78,7 +79,8 @@ impl From<AllocError> for RunFault {
     }
 }
 
-// The verdict of a channel that offers no more, where so many near beats were accepted and so many far beats taken.
+// The verdict of a channel that offers no more, where so many near beats were accepted and so many
+// far beats taken.
 pub(crate) fn verdict(stop: &Stop, near: usize, far: usize) -> Verdict
     ensures { result ≡ stop_verdict stop.now near far }
 {

@@ -13,7 +13,8 @@ use tl_ring::Standing;
 use tl_sides::{PerChannel, Standings, SyncBridge};
 use tl_trace::Script;
 
-/// Where a run has ended: how many beats of each channel were accepted, why it offers no more, and how many rounds there were.
+/// Where a run has ended: how many beats of each channel were accepted, why it offers no more, and
+/// how many rounds there were.
 #[derive(Drop)]
 pub(crate) struct End {
     pub at: PerChannel<usize>,
@@ -39,8 +40,9 @@ fn are_empty(standings: &Standings) -> bool
         && is_empty(&standings.e)
 }
 
-// One round: both sides take all that stands in their inboxes, then each offers the next beat of each of its channels, and then what
-// is staged and what stands in the rings moves on, as far as there is room.
+// One round: both sides take all that stands in their inboxes, then each offers the next beat of
+// each of its channels, and then what is staged and what stands in the rings moves on, as far as
+// there is room.
 fn round<const C: usize, const M: usize>(
     bridge: &mut SyncBridge<C, M>,
     script: &Script<C, M>,
@@ -66,7 +68,8 @@ fn round<const C: usize, const M: usize>(
     offers
 }
 
-// Why each channel offers no more after a round, where nothing is under way. None where there is another round.
+// Why each channel offers no more after a round, where nothing is under way. None where there is
+// another round.
 fn stops_at_rest<const C: usize, const M: usize>(
     bridge: &SyncBridge<C, M>,
     offers: &PerChannel<Offered>,
@@ -74,7 +77,8 @@ fn stops_at_rest<const C: usize, const M: usize>(
     requires client { IsWidth C }
     requires manager { IsWidth M }
     ensures stops { IfSome result (λ stops. offers.now ≡ all_stopped stops) }
-    ensures rests { (x : Past C M) → StandsFor bridge.now x → IfSome result (λ _. all_under_way x ≡ 0) }
+    ensures rests { (x : Past C M) → StandsFor bridge.now x →
+        IfSome result (λ _. all_under_way x ≡ 0) }
     ensures goes { (x : Past C M) → StandsFor bridge.now x → IsNone result →
         AreStopped offers.now → all_under_way x ≡ 0 → ⊥ }
 {
@@ -85,7 +89,8 @@ fn stops_at_rest<const C: usize, const M: usize>(
     Some(stops)
 }
 
-// Rounds, up to the first one in which no channel could offer more, and after which nothing is under way.
+// Rounds, up to the first one in which no channel could offer more, and after which nothing is
+// under way.
 pub(crate) fn run_rounds<const C: usize, const M: usize>(
     bridge: &mut SyncBridge<C, M>,
     script: &Script<C, M>,

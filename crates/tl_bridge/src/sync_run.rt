@@ -11,16 +11,20 @@ use std::alloc::Global;
 use tl_sides::SyncBridge;
 use tl_trace::Script;
 
-/// Runs a script over a bridge in one thread, to its end: the far beats and the verdicts are those that the script settles to.
+/// Runs a script over a bridge in one thread, to its end: the far beats and the verdicts are those
+/// that the script settles to.
 ///
-/// The run is made of rounds. In each, both sides take all that stands in their inboxes; then each offers the next beat of each of its
-/// channels, where that one is ready, the client's side first; then staged beats go into the rings, and beats of the rings into the
-/// inboxes, as many as there is room for. A refused beat stays next. A channel whose list is used up between two messages is closed.
-/// The run ends after the first round in which no beat was accepted and after which nothing is under way.
+/// The run is made of rounds. In each, both sides take all that stands in their inboxes; then each
+/// offers the next beat of each of its channels, where that one is ready, the client's side first;
+/// then staged beats go into the rings, and beats of the rings into the inboxes, as many as there
+/// is room for. A refused beat stays next. A channel whose list is used up between two messages is
+/// closed. The run ends after the first round in which no beat was accepted and after which nothing
+/// is under way.
 ///
-/// The rings hold `ring` beats each. Refused with `RingSize` exactly where that is 0 or above 4,096, which is tested first, and else
-/// with `OutOfMemory` where there is no memory for the rings or for the far beats: all of it is asked for before the first round.
-/// `Stalled` never comes. Each list has at most `2^40` beats.
+/// The rings hold `ring` beats each. Refused with `RingSize` exactly where that is 0 or above
+/// 4,096, which is tested first, and else with `OutOfMemory` where there is no memory for the rings
+/// or for the far beats: all of it is asked for before the first round. `Stalled` never comes. Each
+/// list has at most `2^40` beats.
 pub fn run_sync<const C: usize, const M: usize>(
     alloc: Global,
     script: &Script<C, M>,

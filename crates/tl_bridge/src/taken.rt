@@ -1,7 +1,6 @@
 //! The far beats that the two sides of a run take.
 ghost use Rattle.std.specs.Prelude.{◌≡◌, ◌+◌, ◌++◌, ◌≤◌, ◌^◌, [], List, length, map, vec_len, vec_capacity, IfOk};
 ghost use Rattle.tl_lanes.specs.Lanes.{IsWidth};
-ghost use Rattle.tl_msg.specs.Tables.{rules_a, rules_d};
 ghost use Rattle.tl_msg.specs.declared.head.HeadA.{HeadA};
 ghost use Rattle.tl_msg.specs.declared.head.HeadD.{HeadD};
 ghost use Rattle.tl_ring.specs.Crossing.{World};
@@ -86,7 +85,8 @@ fn take_all_requests<const C: usize, const M: usize>(
     far: &mut Vec<Beat<ChA, M>>,
 )
     requires width { IsWidth M }
-    requires past { (es : List (Event M)) × (x : World HeadA C M) × ManagerIsAsked book.old pipe.old es x }
+    requires past { (es : List (Event M)) × (x : World HeadA C M) ×
+        ManagerIsAsked book.old pipe.old es x }
     requires room { vec_len far.old + length pipe.old.inbox ≤ vec_capacity far.old }
     ensures taken { (es : List (Event M)) (x : World HeadA C M) →
         ManagerIsAsked book.old pipe.old es x →
@@ -106,7 +106,8 @@ fn take_all_responses<const C: usize, const M: usize>(
     far: &mut Vec<Beat<ChD, C>>,
 )
     requires width { IsWidth C }
-    requires past { (es : List (Event C)) × (x : World HeadD M C) × ClientIsAnswered book.old pipe.old es x }
+    requires past { (es : List (Event C)) × (x : World HeadD M C) ×
+        ClientIsAnswered book.old pipe.old es x }
     requires room { vec_len far.old + length pipe.old.inbox ≤ vec_capacity far.old }
     ensures taken { (es : List (Event C)) (x : World HeadD M C) →
         ClientIsAnswered book.old pipe.old es x →
@@ -119,7 +120,8 @@ fn take_all_responses<const C: usize, const M: usize>(
     }
 }
 
-// Each side takes all that stands in its inboxes: first the client's side, then the manager's, each in the order of letters.
+// Each side takes all that stands in its inboxes: first the client's side, then the manager's, each
+// in the order of letters.
 pub(crate) fn take_from_each<const C: usize, const M: usize>(
     bridge: &mut SyncBridge<C, M>,
     far: &mut Taken<C, M>,

@@ -20,13 +20,13 @@ use Rattle.tl_ring.specs.Crossing.{World, offered}
 use Rattle.tl_ring.specs.Pipe.{Pipe}
 use Rattle.tl_ring.specs.Pipe as piping
 use Rattle.tl_settle.specs.Histories.{Event, Ask, Answer, Mark, Asks, Answers, asked, answered, marks, home_after, homes_from, manager_home, manager_homes}
-use Rattle.tl_sides.specs.Books.{Client, Manager, KnowsClient, KnowsManager}
+use Rattle.tl_sides.specs.Books.{Client, Manager, KnowsManager}
 use Rattle.tl_sides.specs.Inner.Noting.{begun_with}
 use Rattle.tl_sides.specs.Crossings.{ClientAsks, ManagerIsAsked, ManagerAnswers, ClientIsAnswered}
 use Rattle.tl_sides.specs.Bridges.{Bridge, Past, StandsFor}
 use Rattle.tl_convert.proofs.Comparisons.{equal_true, not_equal}
 use Rattle.tl_settle.proofs.Homes.{from_ask, from_answer}
-use Rattle.tl_settle.proofs.Marks.{asked_ask, asked_answer, answered_ask, answered_answer, marks_ask_first, marks_ask_inside, marks_answer_first, marks_answer_inside}
+use Rattle.tl_settle.proofs.Marks.{asked_ask, answered_answer, marks_ask_first, marks_ask_inside, marks_answer_first, marks_answer_inside}
 
 -- the messages of a history with one event more
 pub marks_ask : {w : ℕ} (es : List (Event w)) (b : BeatOf HeadA w) →

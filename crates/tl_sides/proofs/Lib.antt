@@ -3,4 +3,5 @@ pub mod Between
 pub mod Answering
 pub mod BridgeSteps
 mod Kept
+mod Sums
 pub mod BridgeSize

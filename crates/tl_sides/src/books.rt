@@ -1,5 +1,6 @@
-//! What each side of the bridge knows: its book, kept up to the history of its own beats of A and D.
-ghost use Rattle.std.specs.Prelude.{◌≡◌, ◌↔◌, ◌++◌, ◌∷◌, [], Bool, List, true, false, Some, None, IsOk, IfOk, IfErr, OnOk, OnErr};
+//! What each side of the bridge knows: its book, kept up to the history of its own beats of A and
+//! D.
+ghost use Rattle.std.specs.Prelude.{◌≡◌, ◌↔◌, ◌++◌, ◌∷◌, [], List, true, false, Some, None, IsOk, IfOk, IfErr, OnOk, OnErr};
 ghost use Rattle.std.specs.Option.{is_some};
 ghost use Rattle.tl_lanes.specs.Lanes.{IsWidth};
 ghost use Rattle.tl_msg.specs.Tables.{rules_a, rules_d};
@@ -19,7 +20,8 @@ use std::marker::Model;
 use tl_burst::{BurstCounter, Place};
 use tl_msg::{ChA, ChD, HeadA, HeadD, SideFault};
 
-/// The opcode of ReleaseAck, which answers a message of channel C, and no request (TileLink: opcode tables).
+/// The opcode of ReleaseAck, which answers a message of channel C, and no request (TileLink: opcode
+/// tables).
 const RELEASE_ACK: u8 = 6;
 
 /// What the client's side, on a bus of `C` bytes, keeps of the beats of A that it offers and of the
@@ -80,7 +82,8 @@ impl<const C: usize> ClientBook<C> {
     pub fn note_answer(&mut self, head: &HeadD)
         requires width { IsWidth C }
         requires lawful { rules_d.fault head.now ≡ None }
-        ensures { (es : List (Event C)) (b : BeatOf HeadD C) → KnowsClient self.old es → b.head ≡ head.now →
+        ensures { (es : List (Event C)) (b : BeatOf HeadD C) → KnowsClient self.old es →
+            b.head ≡ head.now →
             KnowsClient self.new (es ++ Answer b ∷ []) }
     {
         let first = self.responses.first();
@@ -123,9 +126,9 @@ impl<const M: usize> ManagerBook<M> {
 
     /// Asks whether a beat of D may go that has no fault of its own and stands at this place, and
     /// notes it where it may. Where it opens a message, the answer is the message's home: the
-    /// address of its request in bytes, and 0 for ReleaseAck. It is refused with `NoRequest` exactly
-    /// where it opens a message other than ReleaseAck and its source has no open request, with
-    /// `SizeMismatch` exactly where that request has another size, and nothing changes then.
+    /// address of its request in bytes, and 0 for ReleaseAck. It is refused with `NoRequest`
+    /// exactly where it opens a message other than ReleaseAck and its source has no open request,
+    /// with `SizeMismatch` exactly where that request has another size, and nothing changes then.
     pub fn answer(&mut self, place: &Place<ChD>) -> Result<u64, SideFault>
         // for every history that the book knows
         ensures admitted { (es : List (Event M)) (b : BeatOf HeadD M) → KnowsManager self.old es →
@@ -153,7 +156,8 @@ impl<const M: usize> ManagerBook<M> {
     pub fn note_ask(&mut self, head: &HeadA)
         requires width { IsWidth M }
         requires lawful { rules_a.fault head.now ≡ None }
-        ensures { (es : List (Event M)) (b : BeatOf HeadA M) → KnowsManager self.old es → b.head ≡ head.now →
+        ensures { (es : List (Event M)) (b : BeatOf HeadA M) → KnowsManager self.old es →
+            b.head ≡ head.now →
             KnowsManager self.new (es ++ Ask b ∷ []) }
     {
         let first = self.asks.first();
@@ -171,8 +175,11 @@ fn is_release_ack(head: &HeadD) -> bool
 
 // Asks whether the source of a request is free, where it opens a message.
 fn ask_for_source(sources: &SourceTable, head: &HeadA, first: bool) -> Result<(), SideFault>
-    ensures refused { (ms : List Mark) → AreBusy sources.now ms → IfErr result (λ fault. (fault ≡ SourceBusy) × (first ≡ true) × (is_some (open_request head.now.source ms) ≡ true)) }
-    ensures free { (ms : List Mark) → AreBusy sources.now ms → OnOk result (first ≡ true → is_some (open_request head.now.source ms) ≡ false) }
+    ensures refused { (ms : List Mark) → AreBusy sources.now ms →
+        IfErr result (λ fault. (fault ≡ SourceBusy) × (first ≡ true) ×
+        (is_some (open_request head.now.source ms) ≡ true)) }
+    ensures free { (ms : List Mark) → AreBusy sources.now ms →
+        OnOk result (first ≡ true → is_some (open_request head.now.source ms) ≡ false) }
 {
     if first && sources.busy(head.source) {
         return Err(SideFault::SourceBusy);
@@ -180,10 +187,14 @@ fn ask_for_source(sources: &SourceTable, head: &HeadA, first: bool) -> Result<()
     Ok(())
 }
 
-// Asks for the home of a response, where it opens a message: the address of the request that it answers, and 0 for ReleaseAck.
+// Asks for the home of a response, where it opens a message: the address of the request that it
+// answers, and 0 for ReleaseAck.
 fn ask_for_home(requests: &RequestTable, head: &HeadD, first: bool) -> Result<u64, SideFault>
-    ensures refused { (ms : List Mark) → AreOpen requests.now ms → IfErr result (λ fault. (first ≡ true) × (stops_response ms head.now ≡ Some fault)) }
-    ensures home { (ms : List Mark) → AreOpen requests.now ms → IfOk result (λ home. first ≡ true → (stops_response ms head.now ≡ None) × (home ≡ home_after ms head.now)) }
+    ensures refused { (ms : List Mark) → AreOpen requests.now ms →
+        IfErr result (λ fault. (first ≡ true) × (stops_response ms head.now ≡ Some fault)) }
+    ensures home { (ms : List Mark) → AreOpen requests.now ms →
+        IfOk result (λ home. first ≡ true →
+        (stops_response ms head.now ≡ None) × (home ≡ home_after ms head.now)) }
 {
     if !first || is_release_ack(head) {
         return Ok(0);
@@ -199,7 +210,8 @@ fn ask_for_home(requests: &RequestTable, head: &HeadD, first: bool) -> Result<u6
 
 // A request makes its source busy, where it opens a message.
 fn note_asked(sources: &mut SourceTable, head: &HeadA, first: bool)
-    ensures { (ms : List Mark) → AreBusy sources.old ms → AreBusy sources.new (begun_with first (Asks head.now) ms) }
+    ensures { (ms : List Mark) → AreBusy sources.old ms →
+        AreBusy sources.new (begun_with first (Asks head.now) ms) }
 {
     if first {
         sources.begin(head.source);
@@ -208,7 +220,8 @@ fn note_asked(sources: &mut SourceTable, head: &HeadA, first: bool)
 
 // A response other than ReleaseAck frees its source, where it opens a message.
 fn note_answered(sources: &mut SourceTable, head: &HeadD, first: bool)
-    ensures { (ms : List Mark) → AreBusy sources.old ms → AreBusy sources.new (begun_with first (Answers head.now) ms) }
+    ensures { (ms : List Mark) → AreBusy sources.old ms →
+        AreBusy sources.new (begun_with first (Answers head.now) ms) }
 {
     if first && !is_release_ack(head) {
         sources.end(head.source);
@@ -217,7 +230,8 @@ fn note_answered(sources: &mut SourceTable, head: &HeadD, first: bool)
 
 // A request begins, where it opens a message.
 fn note_request(requests: &mut RequestTable, head: &HeadA, first: bool)
-    ensures { (ms : List Mark) → AreOpen requests.old ms → AreOpen requests.new (begun_with first (Asks head.now) ms) }
+    ensures { (ms : List Mark) → AreOpen requests.old ms →
+        AreOpen requests.new (begun_with first (Asks head.now) ms) }
 {
     if first {
         let request = Request {
@@ -230,7 +244,8 @@ fn note_request(requests: &mut RequestTable, head: &HeadA, first: bool)
 
 // A response other than ReleaseAck ends its request, where it opens a message.
 fn note_response(requests: &mut RequestTable, head: &HeadD, first: bool)
-    ensures { (ms : List Mark) → AreOpen requests.old ms → AreOpen requests.new (begun_with first (Answers head.now) ms) }
+    ensures { (ms : List Mark) → AreOpen requests.old ms →
+        AreOpen requests.new (begun_with first (Answers head.now) ms) }
 {
     if first && !is_release_ack(head) {
         requests.end(head.source);

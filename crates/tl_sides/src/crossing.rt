@@ -1,4 +1,5 @@
-//! What a side does at its end of one channel: it offers near beats and takes far beats. On A and D its book decides and notes.
+//! What a side does at its end of one channel: it offers near beats and takes far beats. On A and D
+//! its book decides and notes.
 ghost use Rattle.std.specs.Prelude.{◌≡◌, ◌↔◌, ◌++◌, ◌∷◌, [], List, map, take, slice_get, None, Some, IsOk, IfErr, OnOk, OnErr};
 ghost use Rattle.tl_lanes.specs.Lanes.{IsWidth};
 ghost use Rattle.tl_msg.specs.Tables.{rules_a, rules_d};

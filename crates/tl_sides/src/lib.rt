@@ -1,4 +1,5 @@
-//! What each side of the bridge knows, what it does at its end of each channel, and the bridge of both sides in one thread.
+//! What each side of the bridge knows, what it does at its end of each channel, and the bridge of
+//! both sides in one thread.
 #![tactic(auto)]
 
 mod books;

@@ -22,26 +22,36 @@ use tl_ring::{BuildFault, EndFault, Standing, SyncPipe};
 /// How many far beats stand at each place of each channel.
 pub type Standings = PerChannel<Standing>;
 
-/// Both sides of the bridge within one thread: five crossings, and what ties channel D to channel A.
+/// Both sides of the bridge within one thread: five crossings, and what ties channel D to channel
+/// A.
 ///
-/// The client's side, on a bus of `C` bytes, offers beats of A, C and E and takes those of B and D; the manager's side, on a bus of
-/// `M` bytes, offers beats of B and D and takes those of A, C and E. Between an offer and a take lie a stage of 64 beats, a ring and
-/// an inbox of 64 beats: `pump` moves beats from the stages into the rings, and `fetch` from the rings into the inboxes.
+/// The client's side, on a bus of `C` bytes, offers beats of A, C and E and takes those of B and D;
+/// the manager's side, on a bus of `M` bytes, offers beats of B and D and takes those of A, C and
+/// E. Between an offer and a take lie a stage of 64 beats, a ring and an inbox of 64 beats: `pump`
+/// moves beats from the stages into the rings, and `fetch` from the rings into the inboxes.
 ///
-/// A source has one request in flight: it is busy from the first beat of A that the client's side offers until that side takes the
-/// first beat of the response. A response may be offered once the first beat of its request was taken, has the request's size, and
-/// stands on lanes by the request's address. ReleaseAck answers no request (TileLink: source and size of responses; the moments at
-/// which a source is busy and a request is open: this project's choice).
+/// A source has one request in flight: it is busy from the first beat of A that the client's side
+/// offers until that side takes the first beat of the response. A response may be offered once the
+/// first beat of its request was taken, has the request's size, and stands on lanes by the
+/// request's address. ReleaseAck answers no request (TileLink: source and size of responses; the
+/// moments at which a source is busy and a request is open: this project's choice).
 ///
-/// The parts are public so that a run of this crate's users can lend one crossing at a time to what it does on each channel (`offer_alone`,
-/// `offer_request` and their like). A call on a part alone is not the bridge's: who takes a beat of A or D past its side's book leaves a
-/// bridge that stands for no past, and of which no clause says anything.
+/// The parts are public, so that a run may lend one crossing at a time, with the book of its side,
+/// to what it does on that channel ([`crate::offer_alone`], [`crate::offer_request`],
+/// [`crate::offer_response`], [`crate::take_request`], [`crate::take_response`]). A call on a part
+/// alone is not the bridge's: a beat of A or D that passes its side's book leaves a bridge that
+/// stands for no past, and no clause says anything of it.
 #[derive(Drop)]
 pub struct SyncBridge<const C: usize, const M: usize, A: Allocator = Global> {
+    /// The crossing of A, from the client's side to the manager's.
     pub a: SyncPipe<ChA, C, M, A>,
+    /// The crossing of B, from the manager's side to the client's.
     pub b: SyncPipe<ChB, M, C, A>,
+    /// The crossing of C, from the client's side to the manager's.
     pub c: SyncPipe<ChC, C, M, A>,
+    /// The crossing of D, from the manager's side to the client's.
     pub d: SyncPipe<ChD, M, C, A>,
+    /// The crossing of E, from the client's side to the manager's.
     pub e: SyncPipe<ChE, C, M, A>,
     /// What the client's side knows of its own beats of A and D.
     pub client: ClientBook<C>,
@@ -66,14 +76,16 @@ impl<const C: usize, const M: usize, A: Allocator> Model for SyncBridge<C, M, A>
 }
 
 impl<const C: usize, const M: usize, A: Allocator + Copy> SyncBridge<C, M, A> {
-    /// A new bridge with five rings of `ring` beats each, the only memory that it takes. Refused with `RingSize` exactly where
-    /// `ring` is 0 or above 4,096, and else with `OutOfMemory` where the allocator has no memory for a ring.
+    /// A new bridge with five rings of `ring` beats each, the only memory that it takes. Refused
+    /// with `RingSize` exactly where `ring` is 0 or above 4,096, and else with `OutOfMemory` where
+    /// the allocator has no memory for a ring.
     pub fn new(alloc: A, ring: usize) -> Result<Self, BuildFault>
         requires client { IsWidth C }
         requires manager { IsWidth M }
         ensures new { IfOk result (λ bridge. StandsFor bridge (nothing_yet ring)) }
         ensures size { IsOk result → (1 ≤ ring) × (ring ≤ 4096) }
-        ensures ring_size { IfErr result (λ fault. (fault ≡ BuildFault.RingSize) ↔ ((ring ≡ 0) ⊎ (4096 < ring))) }
+        ensures ring_size { IfErr result (λ fault. (fault ≡ BuildFault.RingSize) ↔
+            ((ring ≡ 0) ⊎ (4096 < ring))) }
     {
         let a = SyncPipe::new(alloc, ring)?;
         let b = SyncPipe::new(alloc, ring)?;
@@ -128,83 +140,103 @@ impl<const C: usize, const M: usize, A: Allocator> SyncBridge<C, M, A> {
         self.e.ready()
     }
 
-    /// The client's side offers a beat of A where A is ready. It is refused with the beat's own fault, else, where it opens a
-    /// message, with `SourceBusy` exactly where its source is busy. A refusal changes nothing. An accepted first beat makes its
-    /// source busy, and the far beats that the beat completes are staged.
+    /// The client's side offers a beat of A where A is ready. It is refused with the beat's own
+    /// fault, else, where it opens a message, with `SourceBusy` exactly where its source is busy. A
+    /// refusal changes nothing. An accepted first beat makes its source busy, and the far beats
+    /// that the beat completes are staged.
     pub fn offer_a(&mut self, beat: Beat<ChA, C>) -> Result<(), SideFault>
         requires client { IsWidth C }
         requires manager { IsWidth M }
         requires ready { IsReady self.old.a }
-        ensures admitted { (x : Past C M) → StandsFor self.old x → IsOk result ↔ (client_answer x.client beat.entry ≡ None) }
-        ensures accepted { (x : Past C M) → StandsFor self.old x → OnOk result (StandsFor self.new (after_offer_a beat.entry x)) }
-        ensures fault { (x : Past C M) → StandsFor self.old x → IfErr result (λ fault. client_answer x.client beat.entry ≡ Some fault) }
+        ensures admitted { (x : Past C M) → StandsFor self.old x →
+            IsOk result ↔ (client_answer x.client beat.entry ≡ None) }
+        ensures accepted { (x : Past C M) → StandsFor self.old x →
+            OnOk result (StandsFor self.new (after_offer_a beat.entry x)) }
+        ensures fault { (x : Past C M) → StandsFor self.old x →
+            IfErr result (λ fault. client_answer x.client beat.entry ≡ Some fault) }
         ensures refused { OnErr result (self.new ≡ self.old) }
     {
         offer_request(&mut self.client, &mut self.a, &beat)
     }
 
-    /// The manager's side offers a beat of B where B is ready. It is refused exactly with the beat's own fault, and nothing changes
-    /// then. Else the far beats that it completes are staged.
+    /// The manager's side offers a beat of B where B is ready. It is refused exactly with the
+    /// beat's own fault, and nothing changes then. Else the far beats that it completes are staged.
     pub fn offer_b(&mut self, beat: Beat<ChB, M>) -> Result<(), SideFault>
         requires client { IsWidth C }
         requires manager { IsWidth M }
         requires ready { IsReady self.old.b }
-        ensures admitted { (x : Past C M) → StandsFor self.old x → IsOk result ↔ (stops_alone rules_b x.b.accepted beat.entry ≡ None) }
-        ensures accepted { (x : Past C M) → StandsFor self.old x → OnOk result (StandsFor self.new (after_offer_b beat.entry x)) }
-        ensures fault { (x : Past C M) → StandsFor self.old x → IfErr result (λ fault. stops_alone rules_b x.b.accepted beat.entry ≡ Some fault) }
+        ensures admitted { (x : Past C M) → StandsFor self.old x →
+            IsOk result ↔ (stops_alone rules_b x.b.accepted beat.entry ≡ None) }
+        ensures accepted { (x : Past C M) → StandsFor self.old x →
+            OnOk result (StandsFor self.new (after_offer_b beat.entry x)) }
+        ensures fault { (x : Past C M) → StandsFor self.old x →
+            IfErr result (λ fault. stops_alone rules_b x.b.accepted beat.entry ≡ Some fault) }
         ensures refused { OnErr result (self.new ≡ self.old) }
     {
         offer_alone(&mut self.b, &beat)
     }
 
-    /// The client's side offers a beat of C where C is ready. It is refused exactly with the beat's own fault, and nothing changes
-    /// then. Else the far beats that it completes are staged.
+    /// The client's side offers a beat of C where C is ready. It is refused exactly with the beat's
+    /// own fault, and nothing changes then. Else the far beats that it completes are staged.
     pub fn offer_c(&mut self, beat: Beat<ChC, C>) -> Result<(), SideFault>
         requires client { IsWidth C }
         requires manager { IsWidth M }
         requires ready { IsReady self.old.c }
-        ensures admitted { (x : Past C M) → StandsFor self.old x → IsOk result ↔ (stops_alone rules_c x.c.accepted beat.entry ≡ None) }
-        ensures accepted { (x : Past C M) → StandsFor self.old x → OnOk result (StandsFor self.new (after_offer_c beat.entry x)) }
-        ensures fault { (x : Past C M) → StandsFor self.old x → IfErr result (λ fault. stops_alone rules_c x.c.accepted beat.entry ≡ Some fault) }
+        ensures admitted { (x : Past C M) → StandsFor self.old x →
+            IsOk result ↔ (stops_alone rules_c x.c.accepted beat.entry ≡ None) }
+        ensures accepted { (x : Past C M) → StandsFor self.old x →
+            OnOk result (StandsFor self.new (after_offer_c beat.entry x)) }
+        ensures fault { (x : Past C M) → StandsFor self.old x →
+            IfErr result (λ fault. stops_alone rules_c x.c.accepted beat.entry ≡ Some fault) }
         ensures refused { OnErr result (self.new ≡ self.old) }
     {
         offer_alone(&mut self.c, &beat)
     }
 
-    /// The manager's side offers a beat of D where D is ready. It is refused with the beat's own fault, else, where it opens a
-    /// message other than ReleaseAck, with `NoRequest` exactly where its source has no open request, and with `SizeMismatch`
-    /// exactly where that request has another size. A refusal changes nothing. An accepted first beat ends its request, whose
+    /// The manager's side offers a beat of D where D is ready. It is refused with the beat's own
+    /// fault, else, where it opens a message other than ReleaseAck, with `NoRequest` exactly where
+    /// its source has no open request, and with `SizeMismatch` exactly where that request has
+    /// another size. A refusal changes nothing. An accepted first beat ends its request, whose
     /// address is the message's home, and the far beats that the beat completes are staged.
     pub fn offer_d(&mut self, beat: Beat<ChD, M>) -> Result<(), SideFault>
         requires client { IsWidth C }
         requires manager { IsWidth M }
         requires ready { IsReady self.old.d }
-        ensures admitted { (x : Past C M) → StandsFor self.old x → IsOk result ↔ (manager_answer x.manager beat.entry ≡ None) }
-        ensures accepted { (x : Past C M) → StandsFor self.old x → OnOk result (StandsFor self.new (after_offer_d beat.entry x)) }
-        ensures fault { (x : Past C M) → StandsFor self.old x → IfErr result (λ fault. manager_answer x.manager beat.entry ≡ Some fault) }
+        ensures admitted { (x : Past C M) → StandsFor self.old x →
+            IsOk result ↔ (manager_answer x.manager beat.entry ≡ None) }
+        ensures accepted { (x : Past C M) → StandsFor self.old x →
+            OnOk result (StandsFor self.new (after_offer_d beat.entry x)) }
+        ensures fault { (x : Past C M) → StandsFor self.old x →
+            IfErr result (λ fault. manager_answer x.manager beat.entry ≡ Some fault) }
         ensures refused { OnErr result (self.new ≡ self.old) }
     {
         offer_response(&mut self.manager, &mut self.d, &beat)
     }
 
-    /// The client's side offers a beat of E where E is ready. No beat of E has a fault. The far beat is staged.
+    /// The client's side offers a beat of E where E is ready. No beat of E has a fault. The far
+    /// beat is staged.
     pub fn offer_e(&mut self, beat: Beat<ChE, C>) -> Result<(), SideFault>
         requires client { IsWidth C }
         requires manager { IsWidth M }
         requires ready { IsReady self.old.e }
-        ensures admitted { (x : Past C M) → StandsFor self.old x → IsOk result ↔ (stops_alone rules_e x.e.accepted beat.entry ≡ None) }
-        ensures accepted { (x : Past C M) → StandsFor self.old x → OnOk result (StandsFor self.new (after_offer_e beat.entry x)) }
-        ensures fault { (x : Past C M) → StandsFor self.old x → IfErr result (λ fault. stops_alone rules_e x.e.accepted beat.entry ≡ Some fault) }
+        ensures admitted { (x : Past C M) → StandsFor self.old x →
+            IsOk result ↔ (stops_alone rules_e x.e.accepted beat.entry ≡ None) }
+        ensures accepted { (x : Past C M) → StandsFor self.old x →
+            OnOk result (StandsFor self.new (after_offer_e beat.entry x)) }
+        ensures fault { (x : Past C M) → StandsFor self.old x →
+            IfErr result (λ fault. stops_alone rules_e x.e.accepted beat.entry ≡ Some fault) }
         ensures refused { OnErr result (self.new ≡ self.old) }
     {
         offer_alone(&mut self.e, &beat)
     }
 
-    /// The manager's side takes the first beat of A's inbox. None exactly where it is empty. A first beat begins its request: from now on it may be answered.
+    /// The manager's side takes the first beat of A's inbox. None exactly where it is empty. A
+    /// first beat begins its request: from now on it may be answered.
     pub fn take_a(&mut self) -> Option<Beat<ChA, M>>
         requires far { IsWidth M }
         ensures beat { result ≡ slice_get self.old.a.inbox 0 }
-        ensures taken { (x : Past C M) → StandsFor self.old x → StandsFor self.new (after_take_a x) }
+        ensures taken { (x : Past C M) → StandsFor self.old x →
+            StandsFor self.new (after_take_a x) }
     {
         take_request(&mut self.manager, &mut self.a)
     }
@@ -212,7 +244,8 @@ impl<const C: usize, const M: usize, A: Allocator> SyncBridge<C, M, A> {
     /// The client's side takes the first beat of B's inbox. None exactly where it is empty.
     pub fn take_b(&mut self) -> Option<Beat<ChB, C>>
         ensures beat { result ≡ slice_get self.old.b.inbox 0 }
-        ensures taken { (x : Past C M) → StandsFor self.old x → StandsFor self.new (after_take_b x) }
+        ensures taken { (x : Past C M) → StandsFor self.old x →
+            StandsFor self.new (after_take_b x) }
     {
         self.b.take()
     }
@@ -220,16 +253,19 @@ impl<const C: usize, const M: usize, A: Allocator> SyncBridge<C, M, A> {
     /// The manager's side takes the first beat of C's inbox. None exactly where it is empty.
     pub fn take_c(&mut self) -> Option<Beat<ChC, M>>
         ensures beat { result ≡ slice_get self.old.c.inbox 0 }
-        ensures taken { (x : Past C M) → StandsFor self.old x → StandsFor self.new (after_take_c x) }
+        ensures taken { (x : Past C M) → StandsFor self.old x →
+            StandsFor self.new (after_take_c x) }
     {
         self.c.take()
     }
 
-    /// The client's side takes the first beat of D's inbox. None exactly where it is empty. A first beat other than of ReleaseAck frees its source.
+    /// The client's side takes the first beat of D's inbox. None exactly where it is empty. A first
+    /// beat other than of ReleaseAck frees its source.
     pub fn take_d(&mut self) -> Option<Beat<ChD, C>>
         requires far { IsWidth C }
         ensures beat { result ≡ slice_get self.old.d.inbox 0 }
-        ensures taken { (x : Past C M) → StandsFor self.old x → StandsFor self.new (after_take_d x) }
+        ensures taken { (x : Past C M) → StandsFor self.old x →
+            StandsFor self.new (after_take_d x) }
     {
         take_response(&mut self.client, &mut self.d)
     }
@@ -237,70 +273,88 @@ impl<const C: usize, const M: usize, A: Allocator> SyncBridge<C, M, A> {
     /// The manager's side takes the first beat of E's inbox. None exactly where it is empty.
     pub fn take_e(&mut self) -> Option<Beat<ChE, M>>
         ensures beat { result ≡ slice_get self.old.e.inbox 0 }
-        ensures taken { (x : Past C M) → StandsFor self.old x → StandsFor self.new (after_take_e x) }
+        ensures taken { (x : Past C M) → StandsFor self.old x →
+            StandsFor self.new (after_take_e x) }
     {
         self.e.take()
     }
 
-    /// The client's side ends its offers of A. Refused exactly where a burst is unfinished, and nothing changes then. What is
-    /// staged stays so, and still crosses. A second close answers Ok and changes nothing.
+    /// The client's side ends its offers of A. Refused exactly where a burst is unfinished, and
+    /// nothing changes then. What is staged stays so, and still crosses. A second close answers Ok
+    /// and changes nothing.
     pub fn close_a(&mut self) -> Result<(), EndFault>
-        ensures between { (x : Past C M) → StandsFor self.old x → IsOk result ↔ (rest_of rules_a C x.a.accepted ≡ []) }
-        ensures closed { (x : Past C M) → StandsFor self.old x → OnOk result (StandsFor self.new (after_close_a x)) }
+        ensures between { (x : Past C M) → StandsFor self.old x →
+            IsOk result ↔ (rest_of rules_a C x.a.accepted ≡ []) }
+        ensures closed { (x : Past C M) → StandsFor self.old x →
+            OnOk result (StandsFor self.new (after_close_a x)) }
         ensures again { self.old.a.closed ≡ true → IsOk result × (self.new ≡ self.old) }
         ensures refused { OnErr result (self.new ≡ self.old) }
     {
         self.a.close()
     }
 
-    /// The manager's side ends its offers of B. Refused exactly where a burst is unfinished, and nothing changes then. What is
-    /// staged stays so, and still crosses. A second close answers Ok and changes nothing.
+    /// The manager's side ends its offers of B. Refused exactly where a burst is unfinished, and
+    /// nothing changes then. What is staged stays so, and still crosses. A second close answers Ok
+    /// and changes nothing.
     pub fn close_b(&mut self) -> Result<(), EndFault>
-        ensures between { (x : Past C M) → StandsFor self.old x → IsOk result ↔ (rest_of rules_b M x.b.accepted ≡ []) }
-        ensures closed { (x : Past C M) → StandsFor self.old x → OnOk result (StandsFor self.new (after_close_b x)) }
+        ensures between { (x : Past C M) → StandsFor self.old x →
+            IsOk result ↔ (rest_of rules_b M x.b.accepted ≡ []) }
+        ensures closed { (x : Past C M) → StandsFor self.old x →
+            OnOk result (StandsFor self.new (after_close_b x)) }
         ensures again { self.old.b.closed ≡ true → IsOk result × (self.new ≡ self.old) }
         ensures refused { OnErr result (self.new ≡ self.old) }
     {
         self.b.close()
     }
 
-    /// The client's side ends its offers of C. Refused exactly where a burst is unfinished, and nothing changes then. What is
-    /// staged stays so, and still crosses. A second close answers Ok and changes nothing.
+    /// The client's side ends its offers of C. Refused exactly where a burst is unfinished, and
+    /// nothing changes then. What is staged stays so, and still crosses. A second close answers Ok
+    /// and changes nothing.
     pub fn close_c(&mut self) -> Result<(), EndFault>
-        ensures between { (x : Past C M) → StandsFor self.old x → IsOk result ↔ (rest_of rules_c C x.c.accepted ≡ []) }
-        ensures closed { (x : Past C M) → StandsFor self.old x → OnOk result (StandsFor self.new (after_close_c x)) }
+        ensures between { (x : Past C M) → StandsFor self.old x →
+            IsOk result ↔ (rest_of rules_c C x.c.accepted ≡ []) }
+        ensures closed { (x : Past C M) → StandsFor self.old x →
+            OnOk result (StandsFor self.new (after_close_c x)) }
         ensures again { self.old.c.closed ≡ true → IsOk result × (self.new ≡ self.old) }
         ensures refused { OnErr result (self.new ≡ self.old) }
     {
         self.c.close()
     }
 
-    /// The manager's side ends its offers of D. Refused exactly where a burst is unfinished, and nothing changes then. What is
-    /// staged stays so, and still crosses. A second close answers Ok and changes nothing.
+    /// The manager's side ends its offers of D. Refused exactly where a burst is unfinished, and
+    /// nothing changes then. What is staged stays so, and still crosses. A second close answers Ok
+    /// and changes nothing.
     pub fn close_d(&mut self) -> Result<(), EndFault>
-        ensures between { (x : Past C M) → StandsFor self.old x → IsOk result ↔ (rest_of rules_d M x.d.accepted ≡ []) }
-        ensures closed { (x : Past C M) → StandsFor self.old x → OnOk result (StandsFor self.new (after_close_d x)) }
+        ensures between { (x : Past C M) → StandsFor self.old x →
+            IsOk result ↔ (rest_of rules_d M x.d.accepted ≡ []) }
+        ensures closed { (x : Past C M) → StandsFor self.old x →
+            OnOk result (StandsFor self.new (after_close_d x)) }
         ensures again { self.old.d.closed ≡ true → IsOk result × (self.new ≡ self.old) }
         ensures refused { OnErr result (self.new ≡ self.old) }
     {
         self.d.close()
     }
 
-    /// The client's side ends its offers of E. Refused exactly where a burst is unfinished, and nothing changes then. What is
-    /// staged stays so, and still crosses. A second close answers Ok and changes nothing.
+    /// The client's side ends its offers of E. Refused exactly where a burst is unfinished, and
+    /// nothing changes then. What is staged stays so, and still crosses. A second close answers Ok
+    /// and changes nothing.
     pub fn close_e(&mut self) -> Result<(), EndFault>
-        ensures between { (x : Past C M) → StandsFor self.old x → IsOk result ↔ (rest_of rules_e C x.e.accepted ≡ []) }
-        ensures closed { (x : Past C M) → StandsFor self.old x → OnOk result (StandsFor self.new (after_close_e x)) }
+        ensures between { (x : Past C M) → StandsFor self.old x →
+            IsOk result ↔ (rest_of rules_e C x.e.accepted ≡ []) }
+        ensures closed { (x : Past C M) → StandsFor self.old x →
+            OnOk result (StandsFor self.new (after_close_e x)) }
         ensures again { self.old.e.closed ≡ true → IsOk result × (self.new ≡ self.old) }
         ensures refused { OnErr result (self.new ≡ self.old) }
     {
         self.e.close()
     }
 
-    /// Moves staged beats to the rings on all channels, as many as each ring has room for, and answers how many these are in all.
+    /// Moves staged beats to the rings on all channels, as many as each ring has room for, and
+    /// answers how many these are in all.
     pub fn pump(&mut self) -> usize
         ensures count { result ≡ all_pumped self.old }
-        ensures moved { (x : Past C M) → StandsFor self.old x → StandsFor self.new (after_pump self.old x) }
+        ensures moved { (x : Past C M) → StandsFor self.old x →
+            StandsFor self.new (after_pump self.old x) }
         ensures most { result ≤ 320 }
     {
         let a = self.a.pump();
@@ -311,10 +365,12 @@ impl<const C: usize, const M: usize, A: Allocator> SyncBridge<C, M, A> {
         a + b + c + d + e
     }
 
-    /// Moves beats from the rings to the inboxes on all channels, as many as each inbox has room for, and answers how many these are in all.
+    /// Moves beats from the rings to the inboxes on all channels, as many as each inbox has room
+    /// for, and answers how many these are in all.
     pub fn fetch(&mut self) -> usize
         ensures count { result ≡ all_fetched self.old }
-        ensures moved { (x : Past C M) → StandsFor self.old x → StandsFor self.new (after_fetch self.old x) }
+        ensures moved { (x : Past C M) → StandsFor self.old x →
+            StandsFor self.new (after_fetch self.old x) }
         ensures most { result ≤ 320 }
     {
         let a = self.a.fetch();

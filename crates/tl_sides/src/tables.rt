@@ -97,7 +97,8 @@ impl RequestTable {
     /// A request of this source begins. It takes the place of the one that the source had, if any;
     /// the other sources stay as they are.
     pub fn begin(&mut self, source: u8, request: Request)
-        ensures { (s : ℕ) → entry self.new s ≡ cond (source == s) (Some request) (entry self.old s) }
+        ensures { (s : ℕ) →
+            entry self.new s ≡ cond (source == s) (Some request) (entry self.old s) }
     {
         self.entries[source as usize] = Some(request);
     }

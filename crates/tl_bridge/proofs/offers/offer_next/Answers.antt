@@ -1,4 +1,4 @@
-use Rattle.std.proofs.Common.{rules, ◌∷◌, [], refl, sym, subst}
+use Rattle.std.proofs.Common.{◌∷◌, [], refl, sym, subst}
 use Rattle.tl_ring.specs.Pipe as piping
 use Rattle.tl_sides.specs.Crossings.{stops_alone}
 use Rattle.tl_bridge.proofs.offers.offer_next.Goals as goal
@@ -19,9 +19,3 @@ pub returns-in-Err : goal.returns-in-Err
 returns-in-Err g c = λ x k.
     let rests = c.in-Err.ensures.rests x k in
     ([], rests.0, rests.1, rests.2 (stops_alone g.K.Channel.rules x.accepted) (λ _. 0))
-
-pub next_beat-requires : goal.next_beat-requires
-next_beat-requires g c = search rules
-
-pub offer_alone-requires : goal.offer_alone-requires
-offer_alone-requires g c = (search rules, (search rules, (c.requires.near, (c.requires.far, c.in-Ok.ensures.ready))))

@@ -1,4 +1,4 @@
-use Rattle.std.proofs.Common.{rules, ◌∷◌, [], refl, sym, subst, ◌∙◌}
+use Rattle.std.proofs.Common.{◌∷◌, [], refl, sym, subst, ◌∙◌}
 use Rattle.tl_msg.specs.Tables.{rules_a}
 use Rattle.tl_ring.specs.Pipe as piping
 use Rattle.tl_settle.specs.Histories.{client_answer}
@@ -25,9 +25,3 @@ returns-in-Err g c = λ es x k.
     let does = rests.2 (client_answer es) (λ _. 0) in
     let kept = does-keeps rules_a c.args.beats.now c.args.at (client_answer es) (λ _. 0) x rests.0 c.in-Err.offered does in
     ([], rests.0, asks_still _ _ _ es x rests.0 refl k.knows k.same kept.0 rests.1, does)
-
-pub next_beat-requires : goal.next_beat-requires
-next_beat-requires g c = search rules
-
-pub offer_request-requires : goal.offer_request-requires
-offer_request-requires g c = (search rules, (search rules, (search rules, (c.requires.near, (c.requires.far, c.in-Ok.ensures.ready)))))

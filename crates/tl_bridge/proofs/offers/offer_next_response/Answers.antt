@@ -1,4 +1,4 @@
-use Rattle.std.proofs.Common.{rules, ◌∷◌, [], refl, sym, subst, ◌∙◌}
+use Rattle.std.proofs.Common.{◌∷◌, [], refl, sym, subst, ◌∙◌}
 use Rattle.tl_msg.specs.Tables.{rules_d}
 use Rattle.tl_ring.specs.Pipe as piping
 use Rattle.tl_settle.specs.Histories.{manager_answer, manager_home}
@@ -25,9 +25,3 @@ returns-in-Err g c = λ es x k.
     let does = rests.2 (manager_answer es) (λ b. manager_home es b.head) in
     let kept = does-keeps rules_d c.args.beats.now c.args.at (manager_answer es) (λ b. manager_home es b.head) x rests.0 c.in-Err.offered does in
     ([], rests.0, answers_still _ _ _ es x rests.0 refl k.knows k.same k.homes kept rests.1, does)
-
-pub next_beat-requires : goal.next_beat-requires
-next_beat-requires g c = search rules
-
-pub offer_response-requires : goal.offer_response-requires
-offer_response-requires g c = (search rules, (search rules, (search rules, (c.requires.near, (c.requires.far, c.in-Ok.ensures.ready)))))

@@ -1,5 +1,4 @@
 use Rattle.std.proofs.Common.{length}
-use Rattle.tl_ring.specs.Crossing.{World}
 use Rattle.tl_bridge.specs.Inner.Running.{emptied}
 use Rattle.tl_bridge.proofs.Draining.{IsEmptying, PipeStands}
 use Rattle.tl_bridge.proofs.taken.take_all.Given as goal

@@ -1,7 +1,8 @@
-use Rattle.std.proofs.Common.{subst}
+use Rattle.std.proofs.Common.{arith, refl, subst}
 use Rattle.tl_msg.specs.Tables.{rules_a, rules_b, rules_c, rules_d, rules_e}
 use Rattle.tl_ring.specs.Crossing.{popped}
 use Rattle.tl_ring.specs.Pipe as piping
+use Rattle.tl_sides.proofs.Sums.{sum_2, sum_3, sum_4, sum_5, sum_most}
 use denote.Param.{layout, param, number}
 use Rattle.tl_sides.specs.contracts.sync_bridge.SyncBridge.{the_row}
 use Rattle.tl_ring.proofs.FieldSizes.{part_small}
@@ -21,6 +22,24 @@ fetch-d-requires g c = search (part_small (layout (the_row (param 0 (number g.ro
 
 pub fetch-e-requires : goal.fetch-e-requires
 fetch-e-requires g c = search (part_small (layout (the_row (param 0 (number g.row.C)) (param 1 (number g.row.M)) (param 2 g.row.A) g.A.Allocator)) 4 9223372036854775808)
+
+pub overflow_add-result : goal.overflow_add-result
+overflow_add-result g c = let few = sum_2 c.fetch-a.result c.fetch-b.result c.fetch-a.ensures.most c.fetch-b.ensures.most in omega (arith, few)
+
+pub overflow_add-result-2 : goal.overflow_add-result-2
+overflow_add-result-2 g c = let few = sum_3 c.fetch-a.result c.fetch-b.result c.fetch-c.result c.fetch-a.ensures.most c.fetch-b.ensures.most c.fetch-c.ensures.most in omega (arith, few)
+
+pub overflow_add-result-3 : goal.overflow_add-result-3
+overflow_add-result-3 g c = let few = sum_4 c.fetch-a.result c.fetch-b.result c.fetch-c.result c.fetch-d.result c.fetch-a.ensures.most c.fetch-b.ensures.most c.fetch-c.ensures.most c.fetch-d.ensures.most in omega (arith, few)
+
+pub overflow_add-result-4 : goal.overflow_add-result-4
+overflow_add-result-4 g c = let few = sum_5 c.fetch-a.result c.fetch-b.result c.fetch-c.result c.fetch-d.result c.fetch-e.result c.fetch-a.ensures.most c.fetch-b.ensures.most c.fetch-c.ensures.most c.fetch-d.ensures.most c.fetch-e.ensures.most in omega (arith, few)
+
+pub returns-clause-count : goal.returns-clause-count
+returns-clause-count g c = rw (← c.self.view_is) (rw (c.fetch-a.ensures.count, c.fetch-b.ensures.count, c.fetch-c.ensures.count, c.fetch-d.ensures.count, c.fetch-e.ensures.count) refl)
+
+pub returns-clause-most : goal.returns-clause-most
+returns-clause-most g c = sum_most c.fetch-a.result c.fetch-b.result c.fetch-c.result c.fetch-d.result c.fetch-e.result c.fetch-a.ensures.most c.fetch-b.ensures.most c.fetch-c.ensures.most c.fetch-d.ensures.most c.fetch-e.ensures.most
 
 pub returns-clause-moved : goal.returns-clause-moved
 returns-clause-moved g c = rw (← c.self.view_is) (λ x h.

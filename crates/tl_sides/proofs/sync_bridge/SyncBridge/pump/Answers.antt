@@ -1,7 +1,8 @@
-use Rattle.std.proofs.Common.{subst}
+use Rattle.std.proofs.Common.{arith, refl, subst}
 use Rattle.tl_msg.specs.Tables.{rules_a, rules_b, rules_c, rules_d, rules_e}
 use Rattle.tl_ring.specs.Crossing.{pushed}
 use Rattle.tl_ring.specs.Pipe as piping
+use Rattle.tl_sides.proofs.Sums.{sum_2, sum_3, sum_4, sum_5, sum_most}
 use denote.Param.{layout, param, number}
 use Rattle.tl_sides.specs.contracts.sync_bridge.SyncBridge.{the_row}
 use Rattle.tl_ring.proofs.FieldSizes.{part_small}
@@ -21,6 +22,24 @@ pump-d-requires g c = search (part_small (layout (the_row (param 0 (number g.row
 
 pub pump-e-requires : goal.pump-e-requires
 pump-e-requires g c = search (part_small (layout (the_row (param 0 (number g.row.C)) (param 1 (number g.row.M)) (param 2 g.row.A) g.A.Allocator)) 4 9223372036854775808)
+
+pub overflow_add-result : goal.overflow_add-result
+overflow_add-result g c = let few = sum_2 c.pump-a.result c.pump-b.result c.pump-a.ensures.most c.pump-b.ensures.most in omega (arith, few)
+
+pub overflow_add-result-2 : goal.overflow_add-result-2
+overflow_add-result-2 g c = let few = sum_3 c.pump-a.result c.pump-b.result c.pump-c.result c.pump-a.ensures.most c.pump-b.ensures.most c.pump-c.ensures.most in omega (arith, few)
+
+pub overflow_add-result-3 : goal.overflow_add-result-3
+overflow_add-result-3 g c = let few = sum_4 c.pump-a.result c.pump-b.result c.pump-c.result c.pump-d.result c.pump-a.ensures.most c.pump-b.ensures.most c.pump-c.ensures.most c.pump-d.ensures.most in omega (arith, few)
+
+pub overflow_add-result-4 : goal.overflow_add-result-4
+overflow_add-result-4 g c = let few = sum_5 c.pump-a.result c.pump-b.result c.pump-c.result c.pump-d.result c.pump-e.result c.pump-a.ensures.most c.pump-b.ensures.most c.pump-c.ensures.most c.pump-d.ensures.most c.pump-e.ensures.most in omega (arith, few)
+
+pub returns-clause-count : goal.returns-clause-count
+returns-clause-count g c = rw (← c.self.view_is) (rw (c.pump-a.ensures.count, c.pump-b.ensures.count, c.pump-c.ensures.count, c.pump-d.ensures.count, c.pump-e.ensures.count) refl)
+
+pub returns-clause-most : goal.returns-clause-most
+returns-clause-most g c = sum_most c.pump-a.result c.pump-b.result c.pump-c.result c.pump-d.result c.pump-e.result c.pump-a.ensures.most c.pump-b.ensures.most c.pump-c.ensures.most c.pump-d.ensures.most c.pump-e.ensures.most
 
 pub returns-clause-moved : goal.returns-clause-moved
 returns-clause-moved g c = rw (← c.self.view_is) (λ x h.
