@@ -1,6 +1,7 @@
 //! The answer to a text, without a reader and a writer.
 ghost use Rattle.std.specs.Prelude.{◌≡◌, ◌≤◌, ◌++◌, [], cond, length, Some, IfOk, OnOk, IfErr};
 ghost use Rattle.std.specs.List.{list_all};
+ghost use Rattle.tl_ring.specs.declared.pipe.TheConstants.{MAX_RING};
 ghost use Rattle.tl_lanes.specs.Lanes.{IsWidth};
 ghost use Rattle.tl_settle.specs.Outcomes.{Verdicts};
 ghost use Rattle.tl_bridge.specs.Scripts.{HasShortLists, SettlesTo};
@@ -84,7 +85,7 @@ fn outcome_of<const C: usize, const M: usize>(
     requires client { IsWidth C }
     requires manager { IsWidth M }
     requires short { HasShortLists script.now }
-    requires ring_size { (1 ≤ ring) × (ring ≤ 4096) }
+    requires ring_size { (1 ≤ ring) × (ring ≤ MAX_RING) }
     ensures ok { IfOk result (SettlesTo script.now) }
     ensures err { IfErr result (λ fault. fault ≡ NoMemory) }
 {
@@ -132,7 +133,7 @@ fn with_widths<const C: usize, const M: usize>(
     requires manager { IsWidth M }
     requires widths { widths_of (body text.items) ≡ Some (C, M) }
     requires few { length text.items ≤ most_bytes }
-    requires ring_size { (1 ≤ ring) × (ring ≤ 4096) }
+    requires ring_size { (1 ≤ ring) × (ring ≤ MAX_RING) }
     ensures ok { IfOk result (λ made. IsAnswer text.items check made.text.items made.all_done) }
     ensures err { IfErr result (IsOfText text.items) }
 {
@@ -154,7 +155,7 @@ fn with_client<const C: usize>(
     requires client { IsWidth C }
     requires widths { widths_of (body text.items) ≡ Some (C, manager) }
     requires few { length text.items ≤ most_bytes }
-    requires ring_size { (1 ≤ ring) × (ring ≤ 4096) }
+    requires ring_size { (1 ≤ ring) × (ring ≤ MAX_RING) }
     ensures ok { IfOk result (λ made. IsAnswer text.items check made.text.items made.all_done) }
     ensures err { IfErr result (IsOfText text.items) }
 {
@@ -181,7 +182,7 @@ pub fn answer_text(
     ring: usize,
 ) -> Result<Answer, TextFault>
     requires few { length text.items ≤ most_bytes }
-    requires ring_size { (1 ≤ ring) × (ring ≤ 4096) }
+    requires ring_size { (1 ≤ ring) × (ring ≤ MAX_RING) }
     ensures ok { IfOk result (λ made. IsAnswer text.items check made.text.items made.all_done) }
     ensures err { IfErr result (IsOfText text.items) }
 {

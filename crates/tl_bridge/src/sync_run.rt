@@ -1,5 +1,6 @@
 //! The run of a whole script in one thread.
 ghost use Rattle.std.specs.Prelude.{◌≡◌, ◌≢◌, ◌≤◌, ◌<◌, ◌⊎◌, ◌↔◌, IsOk, IfOk, IfErr};
+ghost use Rattle.tl_ring.specs.declared.pipe.TheConstants.{MAX_RING};
 ghost use Rattle.tl_lanes.specs.Lanes.{IsWidth};
 ghost use Rattle.tl_bridge.specs.declared.outcome.RunFault.TheVariants.{RingSize, Stalled};
 ghost use Rattle.tl_bridge.specs.Scripts.{HasShortLists, SettlesTo};
@@ -34,8 +35,8 @@ pub fn run_sync<const C: usize, const M: usize>(
     requires manager { IsWidth M }
     requires short { HasShortLists script.now }
     ensures outcome { IfOk result (SettlesTo script.now) }
-    ensures size { IsOk result → (1 ≤ ring) × (ring ≤ 4096) }
-    ensures ring_size { IfErr result (λ fault. (fault ≡ RingSize) ↔ ((ring ≡ 0) ⊎ (4096 < ring))) }
+    ensures size { IsOk result → (1 ≤ ring) × (ring ≤ MAX_RING) }
+    ensures ring_size { IfErr result (λ fault. (fault ≡ RingSize) ↔ ((ring ≡ 0) ⊎ (MAX_RING < ring))) }
     ensures never_stalled { IfErr result (λ fault. fault ≢ Stalled) }
 {
     let mut bridge = SyncBridge::<C, M>::new(alloc, ring)?;

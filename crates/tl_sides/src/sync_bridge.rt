@@ -1,5 +1,6 @@
 //! The bridge of both sides in one thread.
 ghost use Rattle.std.specs.Prelude.{◌≡◌, ◌≤◌, ◌<◌, ◌↔◌, ◌⊎◌, [], None, Some, true, slice_get, IsOk, IsTrue, IfOk, IfErr, OnOk, OnErr};
+ghost use Rattle.tl_ring.specs.declared.pipe.TheConstants.{MAX_RING};
 ghost use Rattle.tl_lanes.specs.Lanes.{IsWidth};
 ghost use Rattle.tl_msg.specs.Tables.{rules_a, rules_b, rules_c, rules_d, rules_e};
 ghost use Rattle.tl_burst.specs.Handing.{rest_of};
@@ -83,9 +84,9 @@ impl<const C: usize, const M: usize, A: Allocator + Copy> SyncBridge<C, M, A> {
         requires client { IsWidth C }
         requires manager { IsWidth M }
         ensures new { IfOk result (λ bridge. StandsFor bridge (nothing_yet ring)) }
-        ensures size { IsOk result → (1 ≤ ring) × (ring ≤ 4096) }
+        ensures size { IsOk result → (1 ≤ ring) × (ring ≤ MAX_RING) }
         ensures ring_size { IfErr result (λ fault. (fault ≡ BuildFault.RingSize) ↔
-            ((ring ≡ 0) ⊎ (4096 < ring))) }
+            ((ring ≡ 0) ⊎ (MAX_RING < ring))) }
     {
         let a = SyncPipe::new(alloc, ring)?;
         let b = SyncPipe::new(alloc, ring)?;

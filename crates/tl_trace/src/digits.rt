@@ -1,5 +1,6 @@
 //! Reading hexadecimal digits without a test of each: bad ones show in one number at the end.
 ghost use Rattle.std.specs.Prelude.{if◌then◌else◌, ◌==◌, ◌≡◌, ◌≤◌, ◌+◌, ◌*◌, length, true};
+ghost use Rattle.tl_lanes.specs.declared.limits.TheConstants.{WIDEST};
 ghost use Rattle.tl_trace.specs.Fields.{number_of_lanes};
 ghost use Rattle.tl_trace.specs.Lines.{is_lanes};
 ghost use Rattle.tl_trace.specs.Inner.Reading.{digit_of, IsNumber};
@@ -60,7 +61,7 @@ pub fn field(text: &[u8], at: usize, count: usize) -> Number
 /// their text has not the shape of a number.
 pub fn lanes_field<const N: usize>(text: &[u8], at: usize, w: usize, lanes: &mut [u8]) -> u8
     requires width { w ≤ N }
-    requires most { N ≤ 64 }
+    requires most { N ≤ WIDEST }
     requires room { at + 1 + 2 * w ≤ length text.now }
     requires lanes { is_lanes N lanes.old ≡ true }
     requires zero { number_of_lanes lanes.old ≡ 0 }

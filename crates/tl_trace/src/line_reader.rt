@@ -1,5 +1,6 @@
 //! Reading a line of a known channel.
 ghost use Rattle.std.specs.Prelude.{◌≡◌, ◌≢◌, ◌≤◌, ◌+◌, ◌/◌, ◌^◌, true, false, length, slice_index, nat_lt, Some, ◌<◌, IfOk, IfErr};
+ghost use Rattle.tl_lanes.specs.declared.limits.TheConstants.{WIDEST};
 ghost use Rattle.tl_trace.specs.Fields.{length_of, mask_fields, data_fields, line_length, number_of_lanes};
 ghost use Rattle.tl_trace.specs.Lines.{is_lanes};
 ghost use Rattle.tl_trace.specs.Faults.{form_fault};
@@ -11,19 +12,20 @@ use crate::fault::TraceKind;
 use crate::head_reader::ReadHead;
 use crate::head_text::HeadText;
 use crate::places::{line_len, mask_digits, mask_len};
+use tl_lanes::WIDEST;
 use tl_msg::{Beat, BeatOf};
 
 /// Whether the mask has no bit at or past `w`.
 fn mask_fits(mask: u64, w: usize) -> bool
-    requires { w ≤ 64 }
+    requires { w ≤ WIDEST }
     ensures { result ≡ nat_lt mask (2 ^ w) }
 {
-    w >= 64 || mask < 1u64 << w
+    w >= WIDEST || mask < 1u64 << w
 }
 
 /// The mask from this place on, 0 on a channel that has none.
 fn read_mask<K: HeadText>(text: &[u8], at: usize, w: usize) -> Number
-    requires width { w ≤ 64 }
+    requires width { w ≤ WIDEST }
     requires room { at + length_of w (mask_fields K.form) ≤ length text.now }
     ensures part { IsPart w text.now at (mask_fields K.form) (mask_values K.form result.value) result.bad }
     ensures none { K.form.rules.masked ≡ false → result.value ≡ 0 }
@@ -42,7 +44,7 @@ fn read_data<K: HeadText, const N: usize>(
     lanes: &mut [u8],
 ) -> Number
     requires width { w ≤ N }
-    requires most { N ≤ 64 }
+    requires most { N ≤ WIDEST }
     requires room { at + length_of w (data_fields K.form) ≤ length text.now }
     requires lanes { is_lanes N lanes.old ≡ true }
     requires zero { number_of_lanes lanes.old ≡ 0 }
@@ -68,7 +70,7 @@ pub fn read_beat<K: ReadHead, const N: usize>(
     w: usize,
 ) -> Result<Beat<K, N>, TraceKind>
     requires width { w ≤ N }
-    requires most { N ≤ 64 }
+    requires most { N ≤ WIDEST }
     requires letter { slice_index text.now 0 ≡ K.form.rules.letter }
     ensures ok { IfOk result (IsRead K.form w text.now) }
     ensures err { IfErr result (λ kind. form_fault K.form w text.now ≡ Some kind) }

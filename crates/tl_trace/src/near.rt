@@ -1,5 +1,6 @@
 //! The beat of a line on its sender's lanes.
 ghost use Rattle.std.specs.Prelude.{◌≡◌, ◌≢◌, ◌≤◌, Some, OnOk, IfOk, IfErr};
+ghost use Rattle.tl_lanes.specs.declared.limits.TheConstants.{WIDEST};
 ghost use Rattle.tl_trace.specs.Inner.Reading.{IsNearOf, IsPushed, IsReadNear};
 ghost use Rattle.tl_trace.specs.Faults.{body_fault};
 ghost use Rattle.tl_trace.specs.declared.fault.TraceKind.TheVariants as faults;
@@ -22,8 +23,8 @@ pub enum Near<const C: usize, const M: usize> {
 
 /// The beat of a later line, without its LF.
 pub fn read_near<const C: usize, const M: usize>(text: &[u8]) -> Result<Near<C, M>, TraceKind>
-    requires client { C ≤ 64 }
-    requires manager { M ≤ 64 }
+    requires client { C ≤ WIDEST }
+    requires manager { M ≤ WIDEST }
     ensures ok { IfOk result (IsReadNear text.now) }
     ensures err { IfErr result (λ kind. body_fault C M text.now ≡ Some kind) }
     ensures kinds { IfErr result (λ kind. kind ≢ faults.OutOfMemory) }
@@ -40,8 +41,8 @@ pub fn read_near<const C: usize, const M: usize>(text: &[u8]) -> Result<Near<C, 
 
 /// The beat of a line of a trace, on its sender's lanes.
 pub fn near_of<const C: usize, const M: usize>(line: &Line) -> Near<C, M>
-    requires client { C ≤ 64 }
-    requires manager { M ≤ 64 }
+    requires client { C ≤ WIDEST }
+    requires manager { M ≤ WIDEST }
     ensures { IsNearOf line.now result }
 {
     match line {

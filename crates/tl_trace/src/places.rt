@@ -1,6 +1,7 @@
 //! Where the fields of a line stand, and how long it is: behind its letter come a space and the field's digits for each
 //! field, one after the other. All places and lengths follow from the digits of the fields.
 ghost use Rattle.std.specs.Prelude.{◌≡◌, ◌≤◌, ◌+◌, ◌/◌};
+ghost use Rattle.tl_lanes.specs.declared.limits.TheConstants.{WIDEST};
 ghost use Rattle.tl_trace.specs.Fields.{length_of, mask_fields, data_fields, line_length};
 
 use crate::head_reader::ReadHead;
@@ -41,7 +42,7 @@ pub const ACK_END: usize = FIRST_AT + 1 + ID_DIGITS;
 
 /// The digits of the mask of `w` lanes.
 pub fn mask_digits(w: usize) -> usize
-    requires { w ≤ 64 }
+    requires { w ≤ WIDEST }
     ensures { result ≡ (w + 3) / 4 }
 {
     (w + 3) / 4
@@ -49,7 +50,7 @@ pub fn mask_digits(w: usize) -> usize
 
 /// The bytes of the mask in a line, with its space.
 pub fn mask_len<K: HeadText>(w: usize) -> usize
-    requires { w ≤ 64 }
+    requires { w ≤ WIDEST }
     ensures long { result ≡ length_of w (mask_fields K.form) }
     ensures few { result ≤ 17 }
 {
@@ -58,7 +59,7 @@ pub fn mask_len<K: HeadText>(w: usize) -> usize
 
 /// The bytes of data and corrupt in a line, each with its space.
 fn data_len<K: HeadText>(w: usize) -> usize
-    requires { w ≤ 64 }
+    requires { w ≤ WIDEST }
     ensures long { result ≡ length_of w (data_fields K.form) }
     ensures few { result ≤ 131 }
 {
@@ -67,7 +68,7 @@ fn data_len<K: HeadText>(w: usize) -> usize
 
 /// The length of a line on `w` lanes, without its LF.
 pub fn line_len<K: ReadHead>(w: usize) -> usize
-    requires { w ≤ 64 }
+    requires { w ≤ WIDEST }
     ensures long { result ≡ line_length K.form w }
     ensures few { (1 ≤ result) × (result ≤ 180) }
 {

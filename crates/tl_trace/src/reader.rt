@@ -5,6 +5,7 @@ ghost use Rattle.tl_trace.specs.Texts.{Tells, TellsLines, is_kept_line};
 ghost use Rattle.tl_trace.specs.Faults.{is_newline, cut, faults, body_fault, later_fault, IsFirstFault, IsReadableTo};
 ghost use Rattle.tl_trace.specs.Inner.Reading.{IsReadLine, LineAt};
 ghost use Rattle.std.specs.List.{list_all};
+ghost use Rattle.tl_lanes.specs.declared.limits.TheConstants.{WIDEST};
 ghost use Rattle.tl_trace.specs.declared.fault.TraceKind.TheVariants.{OutOfMemory};
 
 use crate::fault::{TraceFault, TraceKind};
@@ -14,6 +15,7 @@ use crate::line_reader::read_beat;
 use crate::places::line_len;
 use crate::trace::Trace;
 use std::alloc::Global;
+use tl_lanes::WIDEST;
 use tl_msg::{ChA, ChB, ChC, ChD, ChE};
 
 /// The place of the first LF from `at` on, or the text's length.
@@ -32,26 +34,26 @@ pub fn line_end(text: &[u8], at: usize) -> usize
 
 /// The beat of a later line, without its LF.
 fn read_line(text: &[u8], client: usize, manager: usize) -> Result<Line, TraceKind>
-    requires client { client ≤ 64 }
-    requires manager { manager ≤ 64 }
+    requires client { client ≤ WIDEST }
+    requires manager { manager ≤ WIDEST }
     ensures ok { IfOk result (IsReadLine client manager text.now) }
     ensures err { IfErr result (λ kind. body_fault client manager text.now ≡ Some kind) }
     ensures kinds { IfErr result (λ kind. kind ≢ OutOfMemory) }
 {
     match text.first() {
-        Some(b'A') => Ok(Line::A(read_beat::<ChA, 64>(text, client)?)),
-        Some(b'B') => Ok(Line::B(read_beat::<ChB, 64>(text, manager)?)),
-        Some(b'C') => Ok(Line::C(read_beat::<ChC, 64>(text, client)?)),
-        Some(b'D') => Ok(Line::D(read_beat::<ChD, 64>(text, manager)?)),
-        Some(b'E') => Ok(Line::E(read_beat::<ChE, 64>(text, client)?)),
+        Some(b'A') => Ok(Line::A(read_beat::<ChA, WIDEST>(text, client)?)),
+        Some(b'B') => Ok(Line::B(read_beat::<ChB, WIDEST>(text, manager)?)),
+        Some(b'C') => Ok(Line::C(read_beat::<ChC, WIDEST>(text, client)?)),
+        Some(b'D') => Ok(Line::D(read_beat::<ChD, WIDEST>(text, manager)?)),
+        Some(b'E') => Ok(Line::E(read_beat::<ChE, WIDEST>(text, client)?)),
         _ => Err(TraceKind::Channel),
     }
 }
 
 /// The length of a line with this letter, without its LF.
 fn expected_length(letter: u8, client: usize, manager: usize) -> Option<usize>
-    requires client { client ≤ 64 }
-    requires manager { manager ≤ 64 }
+    requires client { client ≤ WIDEST }
+    requires manager { manager ≤ WIDEST }
     ensures { IfSome result (λ n. (1 ≤ n) × (n ≤ 180)) }
 {
     match letter {
@@ -66,8 +68,8 @@ fn expected_length(letter: u8, client: usize, manager: usize) -> Option<usize>
 
 /// The end of a line whose LF stands where its letter and the widths say.
 pub fn expected_end(text: &[u8], at: usize, client: usize, manager: usize) -> Option<usize>
-    requires client { client ≤ 64 }
-    requires manager { manager ≤ 64 }
+    requires client { client ≤ WIDEST }
+    requires manager { manager ≤ WIDEST }
     requires at { at < length text.now }
     ensures { IfSome result (λ end. (at < end) × (end < length text.now) × (slice_index text.now end ≡ 10)) }
 {
@@ -80,8 +82,8 @@ pub fn expected_end(text: &[u8], at: usize, client: usize, manager: usize) -> Op
 
 /// How many lines can be stored of this text at most, from line 2 on. A line whose LF stands elsewhere is faulty.
 fn max_lines(text: &[u8], start: usize, client: usize, manager: usize) -> usize
-    requires client { client ≤ 64 }
-    requires manager { manager ≤ 64 }
+    requires client { client ≤ WIDEST }
+    requires manager { manager ≤ WIDEST }
 {
     let mut lines = 0;
     let mut at = start;
@@ -102,8 +104,8 @@ pub fn next_line(
     client: usize,
     manager: usize,
 ) -> (usize, Result<Line, TraceKind>)
-    requires client { client ≤ 64 }
-    requires manager { manager ≤ 64 }
+    requires client { client ≤ WIDEST }
+    requires manager { manager ≤ WIDEST }
     requires at { at < length text.now }
     ensures line { LineAt text.now at result.0 }
     ensures ok { IfOk result.1 (IsReadLine client manager (slice_range text.now at result.0)) }
@@ -127,8 +129,8 @@ fn read_lines(
     client: usize,
     manager: usize,
 ) -> Result<Vec<Line>, TraceFault>
-    requires client { client ≤ 64 }
-    requires manager { manager ≤ 64 }
+    requires client { client ≤ WIDEST }
+    requires manager { manager ≤ WIDEST }
     requires start { (1 ≤ start) × (start ≤ length text.now) }
     requires header { faults text.now ≡ None ∷ map (later_fault client manager) (cut (drop start text.now)) }
     ensures told { IfOk result (λ lines. TellsLines client manager lines.items (drop start text.now)) }

@@ -1,5 +1,6 @@
 //! The beats of a trace by channel.
 ghost use Rattle.std.specs.Prelude.{◌≡◌, ◌≤◌, [], IfOk};
+ghost use Rattle.tl_lanes.specs.declared.limits.TheConstants.{WIDEST};
 ghost use Rattle.tl_trace.specs.Scripts.{IsScriptOf, on_lanes, beats_a, beats_b, beats_c, beats_d, beats_e};
 ghost use Rattle.tl_lanes.specs.Lanes.{IsWidth};
 
@@ -7,6 +8,7 @@ use crate::fault::OutOfMemory;
 use crate::near::{near_of, push_near};
 use crate::trace::Trace;
 use std::alloc::Global;
+use tl_lanes::WIDEST;
 use tl_msg::{Beat, BeatOf, ChA, ChB, ChC, ChD, ChE};
 
 /// The near beats of the five channels, each on its sender's lanes. The order between channels has no meaning.
@@ -25,8 +27,8 @@ pub struct Script<const C: usize, const M: usize> {
 }
 
 /// The first `W` lanes of a beat.
-pub fn on_lanes<H: Copy, const W: usize>(beat: &BeatOf<H, 64>) -> BeatOf<H, W>
-    requires { W ≤ 64 }
+pub fn on_lanes<H: Copy, const W: usize>(beat: &BeatOf<H, WIDEST>) -> BeatOf<H, W>
+    requires { W ≤ WIDEST }
     ensures { result ≡ on_lanes W beat.now }
 {
     let mut lanes = [0u8; W];

@@ -1,5 +1,6 @@
 //! From a text to its script.
 ghost use Rattle.std.specs.Prelude.{◌≡◌, ◌≢◌, ◌≤◌, ◌<◌, None, Some, ◌∷◌, drop, map, length, slice_range, IfOk, IfErr};
+ghost use Rattle.tl_lanes.specs.declared.limits.TheConstants.{WIDEST};
 ghost use Rattle.tl_trace.specs.Scripts.{TellsScript};
 ghost use Rattle.tl_trace.specs.Faults.{body, cut, faults, body_fault, later_fault, widths_of, IsFirstFault, IsReadableTo};
 ghost use Rattle.tl_trace.specs.Inner.Reading.{IsReadNear, LineAt, TellsRest};
@@ -24,8 +25,8 @@ fn next_near<const C: usize, const M: usize>(
     text: &[u8],
     at: usize,
 ) -> (usize, Result<Near<C, M>, TraceKind>)
-    requires client { C ≤ 64 }
-    requires manager { M ≤ 64 }
+    requires client { C ≤ WIDEST }
+    requires manager { M ≤ WIDEST }
     requires at { at < length text.now }
     ensures line { LineAt text.now at result.0 }
     ensures ok { IfOk result.1 (IsReadNear (slice_range text.now at result.0)) }
@@ -47,8 +48,8 @@ fn read_beats<const C: usize, const M: usize>(
     text: &[u8],
     start: usize,
 ) -> Result<Script<C, M>, TraceFault>
-    requires client { C ≤ 64 }
-    requires manager { M ≤ 64 }
+    requires client { C ≤ WIDEST }
+    requires manager { M ≤ WIDEST }
     requires start { (1 ≤ start) × (start ≤ length text.now) }
     requires header { faults text.now ≡ None ∷ map (later_fault C M) (cut (drop start text.now)) }
     ensures told { IfOk result (TellsRest (drop start text.now)) }

@@ -1,6 +1,7 @@
 //! Digits, fields and words, put into a line or a piece of text.
 ghost use Rattle.std.specs.Prelude.{◌≡◌, ◌≤◌, ◌<◌, ◌+◌, ◌*◌, ◌%◌, ◌/◌, ◌++◌, ◌∷◌, [], take, length, decimal};
 ghost use Rattle.std.specs.Char.{digit_char};
+ghost use Rattle.tl_lanes.specs.declared.limits.TheConstants.{WIDEST};
 ghost use Rattle.arrayvec.specs.ArrayVec.{array_vec_len};
 ghost use Rattle.tl_trace.specs.Fields.{number_of_lanes};
 ghost use Rattle.tl_trace.specs.Lines.{hex};
@@ -92,7 +93,7 @@ fn write_digits(digits: &mut [u8], value: u64, count: usize)
 
 /// Writes two digits for each of the first `w` lanes, highest lane first.
 fn write_lanes(digits: &mut [u8], lanes: &[u8], w: usize)
-    requires width { w ≤ 64 }
+    requires width { w ≤ WIDEST }
     requires lanes { w ≤ length lanes.now }
     requires room { length digits.old ≡ 2 * w }
     ensures { digits.new ≡ hex (2 * w) (number_of_lanes lanes.now) }
@@ -129,7 +130,7 @@ pub fn fill_field(line: &mut Room, at: usize, value: u64, count: usize) -> usize
 
 /// Writes a space and two digits for each of the first `w` lanes, and gives the place behind them.
 pub fn fill_lanes(line: &mut Room, at: usize, lanes: &[u8], w: usize) -> usize
-    requires width { w ≤ 64 }
+    requires width { w ≤ WIDEST }
     requires lanes { w ≤ length lanes.now }
     requires room { at + 1 + 2 * w ≤ 192 }
     ensures items { take result line.new ≡ take at line.old ++ 32 ∷ hex (2 * w) (number_of_lanes lanes.now) }

@@ -1,5 +1,6 @@
 //! Writing lines, reports and traces.
 ghost use Rattle.std.specs.Prelude.{◌≡◌, ◌≤◌, ◌+◌, ◌*◌, ◌/◌, ◌++◌, ◌∷◌, [], if◌then◌else◌, take, length, decimal, OnOk, OnErr, IfOk};
+ghost use Rattle.tl_lanes.specs.declared.limits.TheConstants.{WIDEST};
 ghost use Rattle.arrayvec.specs.ArrayVec.{array_vec_len};
 ghost use Rattle.tl_lanes.specs.Lanes.{IsWidth};
 ghost use Rattle.tl_trace.specs.Fields.{bit, number_of_lanes};
@@ -18,11 +19,12 @@ use crate::text::{
 use crate::trace::Trace;
 use arrayvec::ArrayVec;
 use std::alloc::Global;
+use tl_lanes::WIDEST;
 use tl_msg::{Beat, ChA, ChB, ChC, ChD, ChE, Verdict};
 
 /// Writes the mask of a channel that has one, and gives the place behind it.
 fn fill_mask<K: HeadText>(line: &mut Room, at: usize, mask: u64, w: usize) -> usize
-    requires width { w ≤ 64 }
+    requires width { w ≤ WIDEST }
     requires room { at ≤ 32 }
     ensures items { take result line.new ≡ take at line.old ++ (if K.form.rules.masked then 32 ∷ hex ((w + 3) / 4) mask else []) }
     ensures end { result ≤ 49 }
@@ -41,7 +43,7 @@ fn fill_data<K: HeadText>(
     corrupt: bool,
     w: usize,
 ) -> usize
-    requires width { w ≤ 64 }
+    requires width { w ≤ WIDEST }
     requires lanes { w ≤ length lanes.now }
     requires room { at ≤ 49 }
     ensures items { take result line.new ≡ take at line.old ++ (if K.form.rules.corrupts then (32 ∷ hex (2 * w) (number_of_lanes lanes.now)) ++ 32 ∷ hex 1 (bit corrupt) else []) }
@@ -56,7 +58,7 @@ fn fill_data<K: HeadText>(
 
 /// Writes the line of a beat on the first `w` of its lanes, with its LF, and gives its length.
 fn fill_line<K: HeadText, const N: usize>(line: &mut Room, beat: &Beat<K, N>, w: usize) -> usize
-    requires width { w ≤ 64 }
+    requires width { w ≤ WIDEST }
     requires lanes { w ≤ N }
     ensures items { take result line.new ≡ line_text K.form w beat.now ++ newline }
     ensures end { result ≤ 192 }
@@ -69,7 +71,7 @@ fn fill_line<K: HeadText, const N: usize>(line: &mut Room, beat: &Beat<K, N>, w:
 
 /// The line of a beat on the first `w` of its lanes, with its LF.
 fn line_on<K: HeadText, const N: usize>(beat: &Beat<K, N>, w: usize) -> Text
-    requires width { w ≤ 64 }
+    requires width { w ≤ WIDEST }
     requires lanes { w ≤ N }
     ensures { result.items ≡ line_text K.form w beat.now ++ newline }
 {
@@ -173,16 +175,16 @@ pub fn write_report(out: &mut Vec<u8>, letter: u8, verdict: &Verdict) -> Result<
 
 /// The line of a beat of a trace, with its LF.
 fn line_of_trace(client: usize, manager: usize, line: &Line) -> Text
-    requires client { client ≤ 64 }
-    requires manager { manager ≤ 64 }
+    requires client { client ≤ WIDEST }
+    requires manager { manager ≤ WIDEST }
     ensures { result.items ≡ text_of_line client manager line.now ++ newline }
 {
     match line {
-        Line::A(beat) => line_on::<ChA, 64>(beat, client),
-        Line::B(beat) => line_on::<ChB, 64>(beat, manager),
-        Line::C(beat) => line_on::<ChC, 64>(beat, client),
-        Line::D(beat) => line_on::<ChD, 64>(beat, manager),
-        Line::E(beat) => line_on::<ChE, 64>(beat, client),
+        Line::A(beat) => line_on::<ChA, WIDEST>(beat, client),
+        Line::B(beat) => line_on::<ChB, WIDEST>(beat, manager),
+        Line::C(beat) => line_on::<ChC, WIDEST>(beat, client),
+        Line::D(beat) => line_on::<ChD, WIDEST>(beat, manager),
+        Line::E(beat) => line_on::<ChE, WIDEST>(beat, client),
     }
 }
 
