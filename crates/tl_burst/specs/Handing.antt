@@ -1,5 +1,5 @@
 -- Lists of beats in which no burst is interrupted, by the SiFive TileLink Specification 1.8: burst rules.
-use Rattle.std.specs.Prelude.{◌≡◌, ◌≢◌, ◌+◌, ◌==◌, ℕ, Bool, cond, Option, None, Some, List, [], ◌∷◌, ◌++◌, length}
+use Rattle.std.specs.Prelude.{◌≢◌, ◌+◌, ◌==◌, ℕ, Bool, cond, Option, None, Some, List, [], ◌∷◌, ◌++◌, length}
 use Rattle.tl_msg.specs.Rules.{Rules}
 use Rattle.tl_msg.specs.Faults.{opening_fault, continuing_fault}
 use Rattle.tl_msg.specs.declared.beat.BeatOf.{BeatOf}
@@ -62,13 +62,6 @@ module _ {H : Type 0} (r : Rules H) where
   -- the burst that is open after beats that were accepted
   abbrev pub burst_after : {w : ℕ} → (bs : List (BeatOf H w)) → Option (H × ℕ)
   burst_after {w} bs = burst_of (rest_of w bs)
-
-  -- a beat opens a message, or continues one
-  abbrev pub Opens : {w : ℕ} → (bs : List (BeatOf H w)) → BeatOf H w → Type 0
-  Opens {w} bs b = IsAdmitted bs b × (rest_of w bs ≡ [])
-
-  abbrev pub Continues : {w : ℕ} → (bs : List (BeatOf H w)) → BeatOf H w → Type 0
-  Continues {w} bs b = IsAdmitted bs b × (rest_of w bs ≢ [])
 
   -- the first fault of a beat where this burst is open, or none is: outside a burst, and inside one (order: this project's choice)
   abbrev pub fault_in : {w : ℕ} → (burst : Option (H × ℕ)) → BeatOf H w → Option BeatFault

@@ -13,8 +13,8 @@ use Rattle.tl_burst.proofs.Fits.{FitsMask, head_of}
 use Rattle.tl_burst.proofs.Burst.{rest-snoc, more-carries}
 use Rattle.tl_burst.proofs.RestOf.{RestIs}
 use Rattle.tl_convert.specs.Due.{due, far_beats_of}
-use Rattle.tl_convert.specs.Pouring.{Filled}
-use Rattle.tl_convert.specs.Giving.{Run, Given}
+use Rattle.tl_convert.specs.Partial.{Filled}
+use Rattle.tl_convert.specs.Inner.Giving.{Run, Given}
 use Rattle.tl_convert.specs.Converting.{Progress, StandsFor}
 use Rattle.tl_convert.proofs.FarHanded.{spelled-heads, all-heads}
 use Rattle.tl_convert.proofs.DueOne.{rest-begins}

@@ -13,7 +13,7 @@ use Rattle.tl_burst.proofs.RestOf.{RestIs}
 use Rattle.tl_burst.proofs.FaultsExact.{ChannelLaws, none-accepts, none-admitted, none-held, begun-lawful}
 use Rattle.tl_burst.proofs.PlacesExact.{place-after}
 use Rattle.tl_convert.specs.Due.{due}
-use Rattle.tl_convert.specs.Giving.{Run, Given}
+use Rattle.tl_convert.specs.Inner.Giving.{Run, Given}
 use Rattle.tl_convert.specs.Converting.{Progress, StandsFor, IsFed}
 use Rattle.tl_convert.proofs.ConvertStep.{run-of, due-grows, stands-more}
 

@@ -13,7 +13,8 @@ use Rattle.tl_lanes.specs.Lanes.{IsWidth, lane_of}
 use Rattle.tl_lanes.proofs.Widths.{lanes_differ, lane-lt, lane-lt-64, width_bounds, lane-shift}
 use Rattle.tl_burst.specs.Messages.{Message, Cell, per_beat, lane_value, lane_on, mask_at, beat_at, some_of, is_bad}
 use Rattle.tl_burst.specs.Reading.{cell_of}
-use Rattle.tl_convert.specs.Pouring.{Filled, Brings, Poured}
+use Rattle.tl_convert.specs.Partial.{Filled}
+use Rattle.tl_convert.specs.Inner.Pouring.{Brings, Poured}
 use Rattle.tl_burst.proofs.Places.{per-le}
 use Rattle.tl_lanes.proofs.Masks.{mask_of-lt, bit_at-mask_of}
 use Rattle.tl_burst.proofs.Numbers.{zeros}

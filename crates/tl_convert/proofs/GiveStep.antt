@@ -7,8 +7,9 @@ use Rattle.tl_msg.specs.declared.beat.BeatOf.{BeatOf}
 use Rattle.tl_lanes.specs.Lanes.{IsWidth}
 use Rattle.tl_burst.specs.Messages.{Message, per_beat, beats_of, beat_at}
 use Rattle.tl_burst.proofs.Fits.{FitsMask}
-use Rattle.tl_convert.specs.Pouring.{Filled, Source, Pours, IsBlank}
-use Rattle.tl_convert.specs.Giving.{Run, GivenData}
+use Rattle.tl_convert.specs.Partial.{Filled}
+use Rattle.tl_convert.specs.Inner.Pouring.{Source, Pours, IsBlank}
+use Rattle.tl_convert.specs.Inner.Giving.{Run, GivenData}
 use Rattle.tl_burst.proofs.Places.{per-pos}
 use Rattle.tl_convert.proofs.Filling.{Filled-none}
 use Rattle.tl_burst.proofs.Runs.{of_cells, run-is}

@@ -9,7 +9,8 @@ use Rattle.tl_msg.specs.Rules.{Rules}
 use Rattle.tl_msg.specs.declared.beat.BeatOf.{BeatOf}
 use Rattle.tl_lanes.specs.Lanes.{IsWidth, bytes_per_beat}
 use Rattle.tl_burst.specs.Messages.{Message, per_beat, beat_at}
-use Rattle.tl_convert.specs.Pouring.{Filled, Brings, Poured, Source, Pours, IsBlank, far_beats}
+use Rattle.tl_convert.specs.Partial.{Filled}
+use Rattle.tl_convert.specs.Inner.Pouring.{Brings, Poured, Source, Pours, IsBlank, far_beats}
 use Rattle.tl_burst.proofs.Places.{per-pos}
 use Rattle.tl_burst.proofs.Numbers.{parts, div-up, per-power, powers-divide}
 use Rattle.tl_convert.proofs.Filling.{Filled-more, Filled-none, Filled-whole}

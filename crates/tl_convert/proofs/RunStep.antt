@@ -16,7 +16,8 @@ use Rattle.tl_burst.specs.Reading.{cell_of, message_of}
 use Rattle.tl_convert.specs.Due.{part, due_after}
 use Rattle.tl_burst.specs.Handing.{ends}
 use Rattle.tl_burst.proofs.Fits.{FitsMask, head_of}
-use Rattle.tl_convert.specs.Pouring.{Filled, Source, Pours, far_beats}
+use Rattle.tl_convert.specs.Partial.{Filled}
+use Rattle.tl_convert.specs.Inner.Pouring.{Source, Pours, far_beats}
 use Rattle.tl_burst.proofs.Places.{per-pos}
 use Rattle.tl_burst.proofs.Numbers.{div-up}
 use Rattle.tl_burst.proofs.LaneShift.{same-lane}

@@ -6,7 +6,7 @@ use Rattle.tl_burst.specs.Messages.{per_beat}
 use Rattle.tl_burst.specs.Reading.{message_of}
 use Rattle.tl_burst.specs.Handing.{IsHandedWith, burst_after, rest_of}
 use Rattle.tl_convert.specs.Due.{far_beats_of}
-use Rattle.tl_convert.specs.Pouring.{Filled}
+use Rattle.tl_convert.specs.Partial.{Filled}
 
 -- a converter between two near beats
 pub record Progress (H : Type 0) (v : ℕ) : Type 0 where

@@ -3,7 +3,7 @@ ghost use Rattle.tl_lanes.specs.declared.limits.TheConstants.{MAX_SIZE, WIDEST};
 ghost use Rattle.tl_lanes.specs.Lanes.{IsWidth};
 ghost use Rattle.tl_convert.specs.Due.{due};
 ghost use Rattle.tl_convert.specs.Accepted.{accepted_of};
-ghost use Rattle.tl_convert.specs.Counting.{Gives};
+ghost use Rattle.tl_convert.specs.Inner.Counting.{Gives};
 
 use tl_burst::{Place, Tracker};
 use tl_lanes::beat_bytes;

@@ -5,7 +5,7 @@ ghost use Rattle.tl_lanes.specs.declared.limits.TheConstants.{MAX_SIZE};
 ghost use Rattle.tl_lanes.specs.Lanes.{IsWidth};
 ghost use Rattle.tl_msg.specs.declared.beat.BeatOf.{BeatOf};
 ghost use Rattle.tl_burst.specs.Messages.{layout, of_head};
-ghost use Rattle.tl_convert.specs.Giving.{Run, Given, GivenData};
+ghost use Rattle.tl_convert.specs.Inner.Giving.{Run, Given, GivenData};
 
 use crate::pouring::{blank, pour};
 use arrayvec::ArrayVec;

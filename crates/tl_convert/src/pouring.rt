@@ -4,7 +4,7 @@ ghost use Rattle.std.specs.Prelude.{◌≡◌, ◌≤◌, ◌<◌, ◌+◌, ◌%
 ghost use Rattle.tl_lanes.specs.declared.limits.TheConstants.{MAX_SIZE};
 ghost use Rattle.tl_lanes.specs.Lanes.{IsWidth};
 ghost use Rattle.tl_burst.specs.Messages.{Message, per_beat};
-ghost use Rattle.tl_convert.specs.Pouring.{Poured, Source, Pours, IsBlank};
+ghost use Rattle.tl_convert.specs.Inner.Pouring.{Poured, Source, Pours, IsBlank};
 
 use arrayvec::ArrayVec;
 use tl_lanes::{WIDEST, beat_bytes, move_lanes, move_mask};

@@ -4,7 +4,7 @@ use Rattle.tl_msg.specs.declared.beat.BeatOf.{BeatOf}
 use Rattle.tl_lanes.specs.Lanes.{bytes_per_beat}
 use Rattle.tl_lanes.proofs.Widths.{width_bounds}
 use Rattle.tl_burst.specs.Messages.{per_beat}
-use Rattle.tl_convert.specs.Pouring.{IsBlank}
+use Rattle.tl_convert.specs.Inner.Pouring.{IsBlank}
 use Rattle.tl_convert.proofs.giving.give_data.Goals.{then-index-eq0, else-index-eq0}
 use Rattle.tl_convert.proofs.GiveStep.{give-all}
 use Rattle.tl_convert.proofs.giving.give_data.Goals as goal

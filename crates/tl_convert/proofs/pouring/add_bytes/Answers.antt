@@ -1,6 +1,6 @@
 use Rattle.std.proofs.Common.{◌≡◌, ◌||◌, ℕ, refl, sym, subst, ◌∙◌, true, false, cond, Bool}
 use Rattle.tl_msg.specs.declared.beat.BeatOf.{BeatOf}
-use Rattle.tl_convert.specs.Pouring.{Poured}
+use Rattle.tl_convert.specs.Inner.Pouring.{Poured}
 use Rattle.tl_convert.proofs.pouring.add_bytes.Goals.{then-MASKED, else-MASKED}
 use Rattle.tl_convert.proofs.pouring.add_bytes.Goals as goal
 

@@ -5,7 +5,7 @@ use Rattle.tl_msg.specs.declared.beat.BeatOf.{BeatOf}
 use Rattle.tl_lanes.specs.Lanes.{bytes_per_beat}
 use Rattle.tl_lanes.proofs.Widths.{width_bounds}
 use Rattle.tl_burst.specs.Messages.{per_beat}
-use Rattle.tl_convert.specs.Pouring.{Pours}
+use Rattle.tl_convert.specs.Inner.Pouring.{Pours}
 use Rattle.tl_convert.proofs.PourStep.{Chunk, chunk-at, chunk-all, pour-stays, pour-ends}
 use Rattle.tl_convert.proofs.pouring.pour.Goals.{then-done-chunk-eq0, else-done-chunk-eq0}
 use Rattle.tl_convert.proofs.pouring.pour.Goals as goal

@@ -6,7 +6,7 @@ use Rattle.tl_burst.specs.Handing.{rest_of, burst_after, fault_in, homes_with}
 use Rattle.tl_burst.specs.Messages.{beats_of}
 use Rattle.tl_burst.proofs.FaultsExact.{ChannelLaws, laws-of}
 use Rattle.tl_burst.proofs.Steps.{count-of}
-use Rattle.tl_convert.specs.Giving.{Run}
+use Rattle.tl_convert.specs.Inner.Giving.{Run}
 use Rattle.tl_convert.specs.Converting.{Progress, StandsFor}
 use Rattle.tl_convert.specs.Due.{due}
 use Rattle.tl_convert.proofs.FarHanded.{far-handed}

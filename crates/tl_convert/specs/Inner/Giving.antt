@@ -6,7 +6,7 @@ use Rattle.tl_burst.specs.Messages.{per_beat, beats_of}
 use Rattle.tl_burst.specs.Reading.{message_of}
 use Rattle.tl_burst.proofs.Fits.{FitsMask, head_of}
 use Rattle.tl_convert.specs.Due.{part, due_after, far_beats_of}
-use Rattle.tl_convert.specs.Pouring.{Filled}
+use Rattle.tl_convert.specs.Partial.{Filled}
 
 -- the beats of the message that came before this one, and the far beat that they have begun
 pub record Run {H : Type 0} {W V : ℕ} (r : Rules H) (index home : ℕ) (b : BeatOf H W) (partial : BeatOf H V) (bs : List (BeatOf H W)) : Type 0 where
