@@ -1,6 +1,7 @@
 -- The same side of the same bridge, through several calls.
-use Rattle.std.proofs.Common.{ℕ}
+use Rattle.std.proofs.Common.{◌≡◌, ℕ, sym, subst}
 use Rattle.tl_ring.proofs.Same.{same_send, same_send_then, same_take, same_take_then, still_pair}
+use Rattle.tl_ring.specs.Ends.{SameSend, SameTake}
 use Rattle.tl_pair.specs.Sides.{ClientState, ManagerState, AreSides, SameClient, SameManager}
 
 module _ {A : Type 0} {C M : ℕ} where
@@ -36,4 +37,44 @@ module _ {A : Type 0} {C M : ℕ} where
     c = still_pair s.c s'.c t.c t'.c client.c manager.c sides.c;
     d = still_pair t.d t'.d s.d s'.d manager.d client.d sides.d;
     e = still_pair s.e s'.e t.e t'.e client.e manager.e sides.e;
+  }
+
+-- a call that moves on the channels that a side sends, and leaves those that it takes, or the
+-- other way round
+module _ {A : Type 0} {C M : ℕ} (s s' : ClientState A C M) where
+  pub client_sends : s'.b ≡ s.b → s'.d ≡ s.d → SameSend s.a s'.a → SameSend s.c s'.c → SameSend s.e s'.e → SameClient s s'
+  client_sends b d on_a on_c on_e = record {
+    a = on_a;
+    b = subst (λ t. SameTake s.b t) (sym b) (same_take s.b);
+    c = on_c;
+    d = subst (λ t. SameTake s.d t) (sym d) (same_take s.d);
+    e = on_e;
+  }
+
+  pub client_takes : s'.a ≡ s.a → s'.c ≡ s.c → s'.e ≡ s.e → SameTake s.b s'.b → SameTake s.d s'.d → SameClient s s'
+  client_takes a c e on_b on_d = record {
+    a = subst (λ t. SameSend s.a t) (sym a) (same_send s.a);
+    b = on_b;
+    c = subst (λ t. SameSend s.c t) (sym c) (same_send s.c);
+    d = on_d;
+    e = subst (λ t. SameSend s.e t) (sym e) (same_send s.e);
+  }
+
+module _ {A : Type 0} {C M : ℕ} (t t' : ManagerState A C M) where
+  pub manager_sends : t'.a ≡ t.a → t'.c ≡ t.c → t'.e ≡ t.e → SameSend t.b t'.b → SameSend t.d t'.d → SameManager t t'
+  manager_sends a c e on_b on_d = record {
+    a = subst (λ x. SameTake t.a x) (sym a) (same_take t.a);
+    b = on_b;
+    c = subst (λ x. SameTake t.c x) (sym c) (same_take t.c);
+    d = on_d;
+    e = subst (λ x. SameTake t.e x) (sym e) (same_take t.e);
+  }
+
+  pub manager_takes : t'.b ≡ t.b → t'.d ≡ t.d → SameTake t.a t'.a → SameTake t.c t'.c → SameTake t.e t'.e → SameManager t t'
+  manager_takes b d on_a on_c on_e = record {
+    a = on_a;
+    b = subst (λ x. SameSend t.b x) (sym b) (same_send t.b);
+    c = on_c;
+    d = subst (λ x. SameSend t.d x) (sym d) (same_send t.d);
+    e = on_e;
   }

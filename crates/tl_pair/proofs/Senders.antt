@@ -1,5 +1,6 @@
--- A sending end pumps and meets alike whether it is closed or not, and what a pump and a fetch moved is seen in the stage and in the inbox.
-use Rattle.std.proofs.Common.{◌≡◌, ◌≤◌, ◌-◌, ◌+◌, ◌++◌, ℕ, Bool, true, false, List, length, drop, min, refl, sym, ap, subst, ◌∙◌, arith, length-append}
+-- A sending end pumps and meets alike whether it is closed or not, and what a pump and a fetch
+-- moved is seen in the stage and in the inbox.
+use Rattle.std.proofs.Common.{◌≡◌, ◌≤◌, ◌-◌, ◌+◌, ℕ, Bool, true, false, length, min, refl, sym, ap, subst, ◌∙◌, arith, length-append}
 use Rattle.std.proofs.lemmas.List.{length-drop}
 use Rattle.tl_ring.specs.Crossing.{inbox_room}
 use Rattle.tl_ring.specs.Ends.{Sending, Taking, Pushed, Fetched, Met, known_free, known_items}

@@ -1,5 +1,5 @@
 -- Each call of a side takes it to what it stands for after the same event.
-use Rattle.std.proofs.Common.{◌≡◌, ◌↔◌, ℕ, List, [], ◌∷◌, ◌++◌, map, take, refl, sym, ap, subst, ◌∙◌}
+use Rattle.std.proofs.Common.{◌≡◌, ◌↔◌, ℕ, List, [], ◌∷◌, ◌++◌, map, take, sym, ap, subst, ◌∙◌}
 use Rattle.tl_msg.specs.Tables.{rules_a, rules_b, rules_c, rules_d, rules_e}
 use Rattle.tl_msg.specs.declared.channel.ChA.{ChA}
 use Rattle.tl_msg.specs.declared.channel.ChB.{ChB}
@@ -207,4 +207,3 @@ module _ {A : Type 0} {C M : ℕ} (s : ManagerState A C M) (x : ManagerPast C M)
     homes = homes_asks x.history (take 1 inbox) ∙ h.homes;
     book = noted;
   }
-

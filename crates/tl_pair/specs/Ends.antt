@@ -5,19 +5,22 @@ use Rattle.tl_ring.specs.Ends.{Sending, Taking, Pushed, Fetched, known_free, kno
 use Rattle.tl_ring.specs.declared.standing.Standing.{Standing}
 
 module _ {K A H : Type 0} {v : ℕ} where
-  -- how many beats left the stage of a sending end, and how many came into the inbox of a taking end
+  -- how many beats left the stage of a sending end, and how many came into the inbox of a taking
+  -- end
   abbrev pub pump_count : (before after : Sending K A H v) → ℕ
   pump_count s s' = length s.stage - length s'.stage
 
   abbrev pub fetch_count : (before after : Taking K A H v) → ℕ
   fetch_count t t' = length t'.inbox - length t.inbox
 
-  -- a pump moves at least as many beats as the end knows to find a place, and no other than staged ones
+  -- a pump moves at least as many beats as the end knows to find a place, and no other than staged
+  -- ones
   pub record Pumps (s s' : Sending K A H v) : Type 0 where
     pub least : min (length s.stage) (known_free s) ≤ pump_count s s'
     pub pushed : Pushed s (pump_count s s') s'
 
-  -- a fetch moves at least as many beats as the end knows to be there, and no more than the inbox has room for
+  -- a fetch moves at least as many beats as the end knows to be there, and no more than the inbox
+  -- has room for
   pub record Fetches (t t' : Taking K A H v) : Type 0 where
     pub least : min (length (known_items t)) (inbox_room - length t.inbox) ≤ fetch_count t t'
     pub most : fetch_count t t' ≤ inbox_room - length t.inbox

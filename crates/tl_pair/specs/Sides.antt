@@ -1,6 +1,7 @@
--- What a contract sees of each side of the bridge. A, C and E cross from the client's side, at width C, to the manager's, at width M; B and D
--- cross back. What a side stands for is its own alone: where the beats are that it has sent, and which ones will come, only a meeting tells
--- (this project's choice).
+-- What a contract sees of each side of the bridge. A, C and E cross from the client's side, at
+-- width C, to the manager's, at width M; B and D cross back. What a side stands for is its own
+-- alone: where the beats are that it has sent, and which ones will come, only a meeting tells (this
+-- project's choice).
 use Rattle.std.specs.Prelude.{◌≡◌, ◌++◌, ℕ, List, [], ◌∷◌, map}
 use Rattle.tl_msg.specs.Tables.{rules_a, rules_b, rules_c, rules_d, rules_e}
 use Rattle.tl_msg.specs.declared.channel.ChA.{ChA}
@@ -37,8 +38,9 @@ pub record ManagerState (A : Type 0) (C M : ℕ) : Type 0 where
   pub e : Taking ChE A HeadE M
   pub book : Manager
 
--- what has happened at a side: its history of A and D, the crossing of each channel that it sends, as if each beat was taken as soon as it was
--- sent, and the beats that it took of each other channel but A and D, whose beats the history has
+-- what has happened at a side: its history of A and D, the crossing of each channel that it sends,
+-- as if each beat was taken as soon as it was sent, and the beats that it took of each other
+-- channel but A and D, whose beats the history has
 pub record ClientPast (C M : ℕ) : Type 0 where
   pub history : List (Event C)
   pub a : World HeadA C M
@@ -53,8 +55,10 @@ pub record ManagerPast (C M : ℕ) : Type 0 where
   pub d : World HeadD M C
   pub e : List (BeatOf HeadE M)
 
--- a side stands for a past: its history tells what it accepted and took of A and D, and its book is kept up to it
-pub record ClientStandsFor {A : Type 0} {C M : ℕ} (s : ClientState A C M) (x : ClientPast C M) : Type 0 where
+-- a side stands for a past: its history tells what it accepted and took of A and D, and its book is
+-- kept up to it
+pub record ClientStandsFor {A : Type 0} {C M : ℕ} (s : ClientState A C M)
+    (x : ClientPast C M) : Type 0 where
   pub a : Sends rules_a s.a x.a
   pub b : Takes s.b x.b
   pub c : Sends rules_c s.c x.c
@@ -63,7 +67,8 @@ pub record ClientStandsFor {A : Type 0} {C M : ℕ} (s : ClientState A C M) (x :
   pub accepted : asked x.history ≡ x.a.accepted
   pub book : KnowsClient s.book x.history
 
-pub record ManagerStandsFor {A : Type 0} {C M : ℕ} (s : ManagerState A C M) (x : ManagerPast C M) : Type 0 where
+pub record ManagerStandsFor {A : Type 0} {C M : ℕ} (s : ManagerState A C M)
+    (x : ManagerPast C M) : Type 0 where
   pub a : Takes s.a (asked x.history)
   pub b : Sends rules_b s.b x.b
   pub c : Takes s.c x.c
@@ -84,7 +89,8 @@ module _ {C M : ℕ} where
 
   -- the client's side accepts a beat
   abbrev pub client_offers_a : BeatOf HeadA C → ClientPast C M → ClientPast C M
-  client_offers_a b x = record x { history = x.history ++ Ask b ∷ []; a = offered rules_a b 0 x.a }
+  client_offers_a b x =
+      record x { history = x.history ++ Ask b ∷ []; a = offered rules_a b 0 x.a }
 
   abbrev pub client_offers_c : BeatOf HeadC C → ClientPast C M → ClientPast C M
   client_offers_c b x = record x { c = offered rules_c b 0 x.c }
@@ -109,12 +115,16 @@ module _ {C M : ℕ} where
   abbrev pub client_closes_e : ClientPast C M → ClientPast C M
   client_closes_e x = record x { e = shut x.e }
 
-  -- the manager's side accepts a beat; the home of a message of D is the address of the request that is open there then, and 0 of ReleaseAck
+  -- the manager's side accepts a beat; the home of a message of D is the address of the request
+  -- that is open there then, and 0 of ReleaseAck
   abbrev pub manager_offers_b : BeatOf HeadB M → ManagerPast C M → ManagerPast C M
   manager_offers_b b x = record x { b = offered rules_b b 0 x.b }
 
   abbrev pub manager_offers_d : BeatOf HeadD M → ManagerPast C M → ManagerPast C M
-  manager_offers_d b x = record x { history = x.history ++ Answer b ∷ []; d = offered rules_d b (manager_home x.history b.head) x.d }
+  manager_offers_d b x = record x {
+    history = x.history ++ Answer b ∷ [];
+    d = offered rules_d b (manager_home x.history b.head) x.d;
+  }
 
   -- it takes these beats: one, or none
   abbrev pub manager_takes_a : List (BeatOf HeadA M) → ManagerPast C M → ManagerPast C M
@@ -136,7 +146,11 @@ module _ {C M : ℕ} where
 module _ {A : Type 0} {C M : ℕ} where
   -- a side pumps: each crossing goes on by as many beats as left its stage
   abbrev pub client_pumps : (before after : ClientState A C M) → ClientPast C M → ClientPast C M
-  client_pumps s s' x = record x { a = after_pump s.a s'.a x.a; c = after_pump s.c s'.c x.c; e = after_pump s.e s'.e x.e }
+  client_pumps s s' x = record x {
+    a = after_pump s.a s'.a x.a;
+    c = after_pump s.c s'.c x.c;
+    e = after_pump s.e s'.e x.e;
+  }
 
   abbrev pub manager_pumps : (before after : ManagerState A C M) → ManagerPast C M → ManagerPast C M
   manager_pumps s s' x = record x { b = after_pump s.b s'.b x.b; d = after_pump s.d s'.d x.d }
@@ -179,9 +193,11 @@ module _ {A : Type 0} {C M : ℕ} where
     pub d : SameSend t.d t'.d
     pub e : SameTake t.e t'.e
 
-  -- what a meeting of both sides says of what they stood for: each still stands for it, and each channel is one crossing, to which a list of
-  -- events leads; so what was taken, and what stands in inbox, ring and stage, is the far layout of what was accepted
-  pub record SidesMeet (s : ClientState A C M) (t : ManagerState A C M) (x : ClientPast C M) (y : ManagerPast C M) : Type 0 where
+  -- what a meeting of both sides says of what they stood for: each still stands for it, and each
+  -- channel is one crossing, to which a list of events leads; so what was taken, and what stands in
+  -- inbox, ring and stage, is the far layout of what was accepted
+  pub record SidesMeet (s : ClientState A C M) (t : ManagerState A C M) (x : ClientPast C M)
+      (y : ManagerPast C M) : Type 0 where
     pub client : ClientStandsFor s x
     pub manager : ManagerStandsFor t y
     pub a : Meets rules_a s.a t.a x.a (asked y.history)

@@ -7,7 +7,7 @@ ghost use Rattle.tl_burst.specs.Handing.{rest_of};
 ghost use Rattle.tl_ring.specs.Ends.{as_pipe, closing, took_first};
 ghost use Rattle.tl_ring.specs.Pipe.{IsReady};
 ghost use Rattle.tl_settle.specs.Histories.{client_answer};
-ghost use Rattle.tl_sides.specs.Bridges.{stops_alone};
+ghost use Rattle.tl_sides.specs.Crossings.{stops_alone};
 ghost use Rattle.tl_pair.specs.Ends.{Pumps, Fetches, pump_count, fetch_count};
 ghost use Rattle.tl_pair.specs.Sides.{ClientPast, ClientStandsFor, client_pumps};
 ghost use Rattle.tl_pair.specs.Sides.{client_offers_a, client_offers_c, client_offers_e, client_takes_b, client_takes_d, client_closes_a, client_closes_c, client_closes_e};
@@ -19,13 +19,16 @@ use tl_msg::{BeatOf, ChA, ChB, ChC, ChD, ChE, HeadA, HeadB, HeadC, HeadD, HeadE,
 use tl_ring::{EndFault, TakeEnd};
 use tl_sides::ClientBook;
 
-/// The client's side of the bridge, on a bus of `C` bytes. It offers beats of A, C and E, and takes those of B and D.
+/// The client's side of the bridge, on a bus of `C` bytes. It offers beats of A, C and E, and takes
+/// those of B and D.
 ///
-/// Between an offer and a take lie a stage of 64 beats, a ring and an inbox of 64 beats: `pump` moves beats from this side's stages
-/// into its rings, and `fetch` from the other side's rings into this side's inboxes. No call waits for the other side.
+/// Between an offer and a take lie a stage of 64 beats, a ring and an inbox of 64 beats: `pump`
+/// moves beats from this side's stages into its rings, and `fetch` from the other side's rings into
+/// this side's inboxes. No call waits for the other side.
 ///
-/// A source is busy from the first beat of A that this side offers until it takes the first beat of the response (TileLink: source
-/// and size of responses; the moments at which a source is busy: this project's choice).
+/// A source is busy from the first beat of A that this side offers until it takes the first beat of
+/// the response (TileLink: source and size of responses; the moments at which a source is busy:
+/// this project's choice).
 #[derive(Drop)]
 pub struct ClientSide<const C: usize, const M: usize, A: Allocator = Global> {
     pub(crate) a: Sender<ChA, C, M, A>,
@@ -66,9 +69,10 @@ impl<const C: usize, const M: usize, A: Allocator> ClientSide<C, M, A> {
         self.e.ready()
     }
 
-    /// Offers a beat of A where A is ready. It is refused with the beat's own fault, else, where it opens a message, with
-    /// `SourceBusy` exactly where its source is busy. A refusal changes nothing. An accepted first beat makes its source busy, and the
-    /// far beats that the beat completes, at most 64, are staged.
+    /// Offers a beat of A where A is ready. It is refused with the beat's own fault, else, where it
+    /// opens a message, with `SourceBusy` exactly where its source is busy. A refusal changes
+    /// nothing. An accepted first beat makes its source busy, and the far beats that the beat
+    /// completes, at most 64, are staged.
     pub fn offer_a(&mut self, beat: BeatOf<HeadA, C>) -> Result<(), SideFault>
         requires near { IsWidth C }
         requires far { IsWidth M }
@@ -91,8 +95,8 @@ impl<const C: usize, const M: usize, A: Allocator> ClientSide<C, M, A> {
         Ok(())
     }
 
-    /// Offers a beat of C where C is ready. It is refused exactly with the beat's own fault, and nothing changes then. Else the far
-    /// beats that it completes, at most 64, are staged.
+    /// Offers a beat of C where C is ready. It is refused exactly with the beat's own fault, and
+    /// nothing changes then. Else the far beats that it completes, at most 64, are staged.
     pub fn offer_c(&mut self, beat: BeatOf<HeadC, C>) -> Result<(), SideFault>
         requires near { IsWidth C }
         requires far { IsWidth M }
@@ -132,7 +136,8 @@ impl<const C: usize, const M: usize, A: Allocator> ClientSide<C, M, A> {
         self.e.offer_alone(&beat)
     }
 
-    /// Takes the first beat of B's inbox, which is lawful at `C` bytes. None exactly where it is empty.
+    /// Takes the first beat of B's inbox, which is lawful at `C` bytes. None exactly where it is
+    /// empty.
     pub fn take_b(&mut self) -> Option<BeatOf<HeadB, C>>
         ensures beat { result ≡ slice_get self.old.b.inbox 0 }
         ensures lawful { IfSome result (λ beat. IsLawfulBeat rules_b beat) }
@@ -144,8 +149,8 @@ impl<const C: usize, const M: usize, A: Allocator> ClientSide<C, M, A> {
         self.b.take()
     }
 
-    /// Takes the first beat of D's inbox, which is lawful at `C` bytes. None exactly where it is empty. A first beat other than of
-    /// ReleaseAck frees its source.
+    /// Takes the first beat of D's inbox, which is lawful at `C` bytes. None exactly where it is
+    /// empty. A first beat other than of ReleaseAck frees its source.
     pub fn take_d(&mut self) -> Option<BeatOf<HeadD, C>>
         requires far { IsWidth C }
         ensures beat { result ≡ slice_get self.old.d.inbox 0 }
@@ -160,8 +165,8 @@ impl<const C: usize, const M: usize, A: Allocator> ClientSide<C, M, A> {
         Some(beat)
     }
 
-    /// Ends the offers of A. Refused exactly where a burst is unfinished, and nothing changes then. What is staged stays so, and still
-    /// crosses. A second close answers Ok and changes nothing.
+    /// Ends the offers of A. Refused exactly where a burst is unfinished, and nothing changes then.
+    /// What is staged stays so, and still crosses. A second close answers Ok and changes nothing.
     pub fn close_a(&mut self) -> Result<(), EndFault>
         // for every past that the side stands for
         ensures between { (x : ClientPast C M) → ClientStandsFor self.old x →
@@ -176,8 +181,8 @@ impl<const C: usize, const M: usize, A: Allocator> ClientSide<C, M, A> {
         self.a.close()
     }
 
-    /// Ends the offers of C. Refused exactly where a burst is unfinished, and nothing changes then. What is staged stays so, and still
-    /// crosses. A second close answers Ok and changes nothing.
+    /// Ends the offers of C. Refused exactly where a burst is unfinished, and nothing changes then.
+    /// What is staged stays so, and still crosses. A second close answers Ok and changes nothing.
     pub fn close_c(&mut self) -> Result<(), EndFault>
         // for every past that the side stands for
         ensures between { (x : ClientPast C M) → ClientStandsFor self.old x →
@@ -192,8 +197,8 @@ impl<const C: usize, const M: usize, A: Allocator> ClientSide<C, M, A> {
         self.c.close()
     }
 
-    /// Ends the offers of E. Refused exactly where a burst is unfinished, and nothing changes then. What is staged stays so, and still
-    /// crosses. A second close answers Ok and changes nothing.
+    /// Ends the offers of E. Refused exactly where a burst is unfinished, and nothing changes then.
+    /// What is staged stays so, and still crosses. A second close answers Ok and changes nothing.
     pub fn close_e(&mut self) -> Result<(), EndFault>
         // for every past that the side stands for
         ensures between { (x : ClientPast C M) → ClientStandsFor self.old x →
@@ -208,8 +213,8 @@ impl<const C: usize, const M: usize, A: Allocator> ClientSide<C, M, A> {
         self.e.close()
     }
 
-    /// Moves staged beats into the rings on each channel that this side offers, at least as many as it knows to find a place, and
-    /// answers how many these are in all.
+    /// Moves staged beats into the rings on each channel that this side offers, at least as many as
+    /// it knows to find a place, and answers how many these are in all.
     pub fn pump(&mut self) -> usize
         ensures total { result ≡ pump_count self.old.a self.new.a + pump_count self.old.c self.new.c + pump_count self.old.e self.new.e }
         ensures most { result ≤ 192 }
@@ -227,8 +232,9 @@ impl<const C: usize, const M: usize, A: Allocator> ClientSide<C, M, A> {
         a + c + e
     }
 
-    /// Moves beats from the rings into the inboxes on each channel that this side takes, at least as many as it knows to be there and
-    /// each inbox has room for, and answers how many these are in all.
+    /// Moves beats from the rings into the inboxes on each channel that this side takes, at least
+    /// as many as it knows to be there and each inbox has room for, and answers how many these are
+    /// in all.
     pub fn fetch(&mut self) -> usize
         ensures total { result ≡ fetch_count self.old.b self.new.b + fetch_count self.old.d self.new.d }
         ensures most { result ≤ 128 }
@@ -236,7 +242,8 @@ impl<const C: usize, const M: usize, A: Allocator> ClientSide<C, M, A> {
         ensures d { Fetches self.old.d self.new.d }
         ensures rest { self.new ≡ record self.old { b = self.new.b; d = self.new.d } }
         // for every past that the side stands for
-        ensures stands { (x : ClientPast C M) → ClientStandsFor self.old x → ClientStandsFor self.new x }
+        ensures stands { (x : ClientPast C M) → ClientStandsFor self.old x →
+            ClientStandsFor self.new x }
     {
         let b = self.b.fetch();
         let d = self.d.fetch();

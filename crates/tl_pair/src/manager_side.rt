@@ -7,7 +7,7 @@ ghost use Rattle.tl_burst.specs.Handing.{rest_of};
 ghost use Rattle.tl_ring.specs.Ends.{as_pipe, closing, took_first};
 ghost use Rattle.tl_ring.specs.Pipe.{IsReady};
 ghost use Rattle.tl_settle.specs.Histories.{manager_answer};
-ghost use Rattle.tl_sides.specs.Bridges.{stops_alone};
+ghost use Rattle.tl_sides.specs.Crossings.{stops_alone};
 ghost use Rattle.tl_pair.specs.Ends.{Pumps, Fetches, pump_count, fetch_count};
 ghost use Rattle.tl_pair.specs.Sides.{ManagerPast, ManagerStandsFor, manager_pumps};
 ghost use Rattle.tl_pair.specs.Sides.{manager_offers_b, manager_offers_d, manager_takes_a, manager_takes_c, manager_takes_e, manager_closes_b, manager_closes_d};
@@ -19,14 +19,17 @@ use tl_msg::{BeatOf, ChA, ChB, ChC, ChD, ChE, HeadA, HeadB, HeadC, HeadD, HeadE,
 use tl_ring::{EndFault, TakeEnd};
 use tl_sides::ManagerBook;
 
-/// The manager's side of the bridge, on a bus of `M` bytes. It offers beats of B and D, and takes those of A, C and E.
+/// The manager's side of the bridge, on a bus of `M` bytes. It offers beats of B and D, and takes
+/// those of A, C and E.
 ///
-/// Between an offer and a take lie a stage of 64 beats, a ring and an inbox of 64 beats: `pump` moves beats from this side's stages
-/// into its rings, and `fetch` from the other side's rings into this side's inboxes. No call waits for the other side.
+/// Between an offer and a take lie a stage of 64 beats, a ring and an inbox of 64 beats: `pump`
+/// moves beats from this side's stages into its rings, and `fetch` from the other side's rings into
+/// this side's inboxes. No call waits for the other side.
 ///
-/// A response may be offered once this side has taken the first beat of its request, has the request's size, and stands on lanes by
-/// the request's address. ReleaseAck answers no request (TileLink: source and size of responses; the moments at which a request is
-/// open: this project's choice).
+/// A response may be offered once this side has taken the first beat of its request, has the
+/// request's size, and stands on lanes by the request's address. ReleaseAck answers no request
+/// (TileLink: source and size of responses; the moments at which a request is open: this project's
+/// choice).
 #[derive(Drop)]
 pub struct ManagerSide<const C: usize, const M: usize, A: Allocator = Global> {
     pub(crate) a: TakeEnd<ChA, C, M, A>,
@@ -60,8 +63,8 @@ impl<const C: usize, const M: usize, A: Allocator> ManagerSide<C, M, A> {
         self.d.ready()
     }
 
-    /// Offers a beat of B where B is ready. It is refused exactly with the beat's own fault, and nothing changes then. Else the far
-    /// beats that it completes, at most 64, are staged.
+    /// Offers a beat of B where B is ready. It is refused exactly with the beat's own fault, and
+    /// nothing changes then. Else the far beats that it completes, at most 64, are staged.
     pub fn offer_b(&mut self, beat: BeatOf<HeadB, M>) -> Result<(), SideFault>
         requires near { IsWidth M }
         requires far { IsWidth C }
@@ -81,10 +84,11 @@ impl<const C: usize, const M: usize, A: Allocator> ManagerSide<C, M, A> {
         self.b.offer_alone(&beat)
     }
 
-    /// Offers a beat of D where D is ready. It is refused with the beat's own fault, else, where it opens a message other than
-    /// ReleaseAck, with `NoRequest` exactly where its source has no open request, and with `SizeMismatch` exactly where that request
-    /// has another size. A refusal changes nothing. An accepted first beat ends its request, whose address is the message's home, and
-    /// the far beats that the beat completes, at most 64, are staged.
+    /// Offers a beat of D where D is ready. It is refused with the beat's own fault, else, where it
+    /// opens a message other than ReleaseAck, with `NoRequest` exactly where its source has no open
+    /// request, and with `SizeMismatch` exactly where that request has another size. A refusal
+    /// changes nothing. An accepted first beat ends its request, whose address is the message's
+    /// home, and the far beats that the beat completes, at most 64, are staged.
     pub fn offer_d(&mut self, beat: BeatOf<HeadD, M>) -> Result<(), SideFault>
         requires near { IsWidth M }
         requires far { IsWidth C }
@@ -107,8 +111,8 @@ impl<const C: usize, const M: usize, A: Allocator> ManagerSide<C, M, A> {
         Ok(())
     }
 
-    /// Takes the first beat of A's inbox, which is lawful at `M` bytes. None exactly where it is empty. A first beat begins its
-    /// request: from now on it may be answered.
+    /// Takes the first beat of A's inbox, which is lawful at `M` bytes. None exactly where it is
+    /// empty. A first beat begins its request: from now on it may be answered.
     pub fn take_a(&mut self) -> Option<BeatOf<HeadA, M>>
         requires far { IsWidth M }
         ensures beat { result ≡ slice_get self.old.a.inbox 0 }
@@ -123,7 +127,8 @@ impl<const C: usize, const M: usize, A: Allocator> ManagerSide<C, M, A> {
         Some(beat)
     }
 
-    /// Takes the first beat of C's inbox, which is lawful at `M` bytes. None exactly where it is empty.
+    /// Takes the first beat of C's inbox, which is lawful at `M` bytes. None exactly where it is
+    /// empty.
     pub fn take_c(&mut self) -> Option<BeatOf<HeadC, M>>
         ensures beat { result ≡ slice_get self.old.c.inbox 0 }
         ensures lawful { IfSome result (λ beat. IsLawfulBeat rules_c beat) }
@@ -135,7 +140,8 @@ impl<const C: usize, const M: usize, A: Allocator> ManagerSide<C, M, A> {
         self.c.take()
     }
 
-    /// Takes the first beat of E's inbox, which is lawful at `M` bytes. None exactly where it is empty.
+    /// Takes the first beat of E's inbox, which is lawful at `M` bytes. None exactly where it is
+    /// empty.
     pub fn take_e(&mut self) -> Option<BeatOf<HeadE, M>>
         ensures beat { result ≡ slice_get self.old.e.inbox 0 }
         ensures lawful { IfSome result (λ beat. IsLawfulBeat rules_e beat) }
@@ -147,8 +153,8 @@ impl<const C: usize, const M: usize, A: Allocator> ManagerSide<C, M, A> {
         self.e.take()
     }
 
-    /// Ends the offers of B. Refused exactly where a burst is unfinished, and nothing changes then. What is staged stays so, and still
-    /// crosses. A second close answers Ok and changes nothing.
+    /// Ends the offers of B. Refused exactly where a burst is unfinished, and nothing changes then.
+    /// What is staged stays so, and still crosses. A second close answers Ok and changes nothing.
     pub fn close_b(&mut self) -> Result<(), EndFault>
         // for every past that the side stands for
         ensures between { (x : ManagerPast C M) → ManagerStandsFor self.old x →
@@ -163,8 +169,8 @@ impl<const C: usize, const M: usize, A: Allocator> ManagerSide<C, M, A> {
         self.b.close()
     }
 
-    /// Ends the offers of D. Refused exactly where a burst is unfinished, and nothing changes then. What is staged stays so, and still
-    /// crosses. A second close answers Ok and changes nothing.
+    /// Ends the offers of D. Refused exactly where a burst is unfinished, and nothing changes then.
+    /// What is staged stays so, and still crosses. A second close answers Ok and changes nothing.
     pub fn close_d(&mut self) -> Result<(), EndFault>
         // for every past that the side stands for
         ensures between { (x : ManagerPast C M) → ManagerStandsFor self.old x →
@@ -179,8 +185,8 @@ impl<const C: usize, const M: usize, A: Allocator> ManagerSide<C, M, A> {
         self.d.close()
     }
 
-    /// Moves staged beats into the rings on each channel that this side offers, at least as many as it knows to find a place, and
-    /// answers how many these are in all.
+    /// Moves staged beats into the rings on each channel that this side offers, at least as many as
+    /// it knows to find a place, and answers how many these are in all.
     pub fn pump(&mut self) -> usize
         ensures total { result ≡ pump_count self.old.b self.new.b + pump_count self.old.d self.new.d }
         ensures most { result ≤ 128 }
@@ -196,8 +202,9 @@ impl<const C: usize, const M: usize, A: Allocator> ManagerSide<C, M, A> {
         b + d
     }
 
-    /// Moves beats from the rings into the inboxes on each channel that this side takes, at least as many as it knows to be there and
-    /// each inbox has room for, and answers how many these are in all.
+    /// Moves beats from the rings into the inboxes on each channel that this side takes, at least
+    /// as many as it knows to be there and each inbox has room for, and answers how many these are
+    /// in all.
     pub fn fetch(&mut self) -> usize
         ensures total { result ≡ fetch_count self.old.a self.new.a + fetch_count self.old.c self.new.c + fetch_count self.old.e self.new.e }
         ensures most { result ≤ 192 }
@@ -206,7 +213,8 @@ impl<const C: usize, const M: usize, A: Allocator> ManagerSide<C, M, A> {
         ensures e { Fetches self.old.e self.new.e }
         ensures rest { self.new ≡ record self.old { a = self.new.a; c = self.new.c; e = self.new.e } }
         // for every past that the side stands for
-        ensures stands { (x : ManagerPast C M) → ManagerStandsFor self.old x → ManagerStandsFor self.new x }
+        ensures stands { (x : ManagerPast C M) → ManagerStandsFor self.old x →
+            ManagerStandsFor self.new x }
     {
         let a = self.a.fetch();
         let c = self.c.fetch();

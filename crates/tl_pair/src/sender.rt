@@ -7,7 +7,7 @@ ghost use Rattle.tl_burst.specs.Tracking.{IsPlaceOf};
 ghost use Rattle.tl_ring.specs.Crossing.{World, empty, offered, shut};
 ghost use Rattle.tl_ring.specs.Ends.{Sends, Takes, Met, ArePair, Meets, as_pipe, closing, known_free, known_items};
 ghost use Rattle.tl_ring.specs.Pipe.{IsReady};
-ghost use Rattle.tl_sides.specs.Bridges.{stops_alone};
+ghost use Rattle.tl_sides.specs.Crossings.{stops_alone};
 ghost use Rattle.tl_pair.specs.Ends.{Pumps, AreStanding, pump_count, after_pump};
 
 use std::alloc::{Allocator, Global};
@@ -16,7 +16,8 @@ use tl_burst::Place;
 use tl_msg::{Beat, BeatFault, Channel, SideFault};
 use tl_ring::{BuildFault, EndFault, SendEnd, Standing, TakeEnd, meet, ring_pair};
 
-// The sending end of a channel, and whether it is closed. No beat is offered to a closed one, and what is staged still crosses.
+// The sending end of a channel, and whether it is closed. No beat is offered to a closed one, and
+// what is staged still crosses.
 #[derive(Drop)]
 pub(crate) struct Sender<K: Channel, const W: usize, const V: usize, A: Allocator = Global> {
     end: SendEnd<K, W, V, A>,
@@ -45,9 +46,11 @@ pub(crate) fn open_pair<K: Channel, const W: usize, const V: usize, A: Allocator
     ensures pair { IfOk result (λ ends. ArePair ends.0 ends.1) }
     ensures send { IfOk result (λ ends. Sends K.rules {w = W} ends.0 (empty ring)) }
     ensures take { IfOk result (λ ends. Takes ends.1 []) }
-    ensures known { IfOk result (λ ends. (known_free ends.0 ≡ ring) × (known_items ends.1 ≡ []) × (ends.1.inbox ≡ [])) }
+    ensures known { IfOk result (λ ends.
+        (known_free ends.0 ≡ ring) × (known_items ends.1 ≡ []) × (ends.1.inbox ≡ [])) }
     ensures size { IsOk result → (1 ≤ ring) × (ring ≤ 4096) }
-    ensures ring_size { IfErr result (λ fault. (fault ≡ BuildFault.RingSize) ↔ ((ring ≡ 0) ⊎ (4096 < ring))) }
+    ensures ring_size { IfErr result (λ fault.
+        (fault ≡ BuildFault.RingSize) ↔ ((ring ≡ 0) ⊎ (4096 < ring))) }
 {
     let (end, take) = ring_pair(alloc, ring)?;
     let send = Sender { end, closed: false };
@@ -139,7 +142,8 @@ impl<K: Channel, const W: usize, const V: usize, A: Allocator> Sender<K, W, V, A
         ensures met { Met self.old take.old self.new take.new }
         ensures standing { AreStanding self.new take.new result }
         ensures meets { (x : World K.Head W V) (taken : List (BeatOf K.Head V)) →
-            Sends K.rules self.old x → Takes take.old taken → Meets K.rules self.new take.new x taken }
+            Sends K.rules self.old x → Takes take.old taken →
+            Meets K.rules self.new take.new x taken }
     {
         meet(&mut self.end, take)
     }

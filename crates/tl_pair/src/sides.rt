@@ -13,8 +13,9 @@ use tl_msg::{ChA, ChB, ChC, ChD, ChE};
 use tl_ring::BuildFault;
 use tl_sides::{ClientBook, ManagerBook, Standings};
 
-/// The two sides of a new bridge, for two threads, over five rings of `ring` beats each, the only memory that is taken. Refused with
-/// `RingSize` exactly where `ring` is 0 or above 4,096, and else with `OutOfMemory` where the allocator has no memory for a ring.
+/// The two sides of a new bridge, for two threads, over five rings of `ring` beats each, the only
+/// memory that is taken. Refused with `RingSize` exactly where `ring` is 0 or above 4,096, and else
+/// with `OutOfMemory` where the allocator has no memory for a ring.
 pub fn bridge<const C: usize, const M: usize, A: Allocator + Copy>(
     alloc: A,
     ring: usize,
@@ -55,9 +56,10 @@ pub fn bridge<const C: usize, const M: usize, A: Allocator + Copy>(
     Ok((client, manager))
 }
 
-/// Brings both sides of one [`bridge`] call together, in one thread, and answers how many far beats stand in the stage, the ring and
-/// the inbox of each channel. No beat moves. Each side then knows all that is in the rings that it takes from, and each place that is
-/// free in those that it sends to.
+/// Brings both sides of one [`bridge`] call together, in one thread, and answers how many far beats
+/// stand in the stage, the ring and the inbox of each channel. No beat moves. Each side then knows
+/// all that is in the rings that it takes from, and each place that is free in those that it sends
+/// to.
 pub fn meet_sides<const C: usize, const M: usize, A: Allocator>(
     client: &mut ClientSide<C, M, A>,
     manager: &mut ManagerSide<C, M, A>,
@@ -76,7 +78,8 @@ pub fn meet_sides<const C: usize, const M: usize, A: Allocator>(
     ensures books { (client.new.book ≡ client.old.book) × (manager.new.book ≡ manager.old.book) }
     // for every past that each side stands for
     ensures meets { (x : ClientPast C M) (y : ManagerPast C M) →
-        ClientStandsFor client.old x → ManagerStandsFor manager.old y → SidesMeet client.new manager.new x y }
+        ClientStandsFor client.old x → ManagerStandsFor manager.old y →
+        SidesMeet client.new manager.new x y }
 {
     Standings {
         a: client.a.meet(&mut manager.a),

@@ -55,7 +55,7 @@ are_bytes : (xs : List ℕ) → Known (All (λ byte. byte < 256) xs)
 are_bytes [] = inl (All-nil (λ byte. byte < 256))
 are_bytes (x ∷ xs) = ⊎_elim
     (λ first. ⊎_elim (λ others. inl (All-cons (λ byte. byte < 256) x xs first others))
-      (λ never. inr (λ all. never (All-tail (λ byte. byte < 256) x xs all))) (are_bytes xs))
+    (λ never. inr (λ all. never (All-tail (λ byte. byte < 256) x xs all))) (are_bytes xs))
     (λ never. inr (λ all. never (All-head (λ byte. byte < 256) x xs all))) (is_most (suc x) 256)
 
 module _ {H : Type 0} (r : Rules H) {w v : ℕ} (near : IsWidth w) (far : IsWidth v)
@@ -66,7 +66,7 @@ module _ {H : Type 0} (r : Rules H) {w v : ℕ} (near : IsWidth w) (far : IsWidt
       (λ held. inl (record { address = held.0; lanes = held.1.0; bytes = held.1.1.0; mask = held.1.1.1 }))
       (λ never. inr (λ beat. never (beat.address, (beat.lanes, (beat.bytes, beat.mask)))))
       (both (is_most (suc (r.lane_address b.head 0)) (2 ^ 64))
-        (both (is_same (length b.lanes) w) (both (are_bytes b.lanes) (is_most (suc b.mask) (2 ^ 64)))))
+      (both (is_same (length b.lanes) w) (both (are_bytes b.lanes) (is_most (suc b.mask) (2 ^ 64)))))
 
   is_admitted : (bs : List (BeatOf H w)) (b : BeatOf H w) → IsHanded r bs → IsBeat r b → Known (IsAdmitted r bs b)
   is_admitted bs b handed beat =
@@ -86,6 +86,6 @@ module _ {H : Type 0} (r : Rules H) {w v : ℕ} (near : IsWidth w) (far : IsWidt
   leads [] x c = (x, done x)
   leads (e ∷ es) x c = ⊎_elim
       (λ possible. let after = leads es (effect r x e) (Crosses-effect r near far partial_masked laws x e possible c) in
-        (after.0, happens x after.0 e es possible after.1))
+      (after.0, happens x after.0 e es possible after.1))
       (λ never. let after = leads es x c in (after.0, fails x after.0 e es never after.1))
       (is_possible x e c)

@@ -1,24 +1,251 @@
-use Rattle.std.proofs.Common.{refl}
+use Rattle.std.proofs.Common.{refl, rules, arith, lit<}
+use Rattle.std.proofs.lemmas.Result.{err_from_is_err_and}
 use denote.Param.{layout, param, number}
-use Rattle.tl_ring.proofs.FieldSizes.{part_small}
+use Rattle.tl_ring.proofs.FieldSizes.{part_small, beat_small}
+use Rattle.tl_sides.proofs.BridgeSteps.{err_not_ok}
 use Rattle.tl_pair.specs.contracts.client_side.ClientSide as client
 use Rattle.tl_pair.specs.contracts.manager_side.ManagerSide as manager
 use Rattle.tl_pair.proofs.sides.bridge.Goals as goal
 
+-- the parts of both sides take no more memory than these, which the result holds; what a call has shown of them is left aside
 pub open_pair-requires : goal.open_pair-requires
-open_pair-requires g c = (search (part_small (layout (client.the_row (param 0 (number g.row.C)) (param 1 (number g.row.M)) (param 2 g.row.A) g.A.Allocator)) 0 9223372036854775808), (search (part_small (layout (manager.the_row (param 0 (number g.row.C)) (param 1 (number g.row.M)) (param 2 g.row.A) g.A.Allocator)) 0 9223372036854775808), (c.requires.client, c.requires.manager)))
+open_pair-requires g c =
+    let known = c.requires-raw in
+    (let c = known in search (part_small (layout (client.the_row (param 0 (number g.row.C)) (param 1 (number g.row.M)) (param 2 g.row.A) g.A.Allocator)) 0 9223372036854775808), (let c = known in search (part_small (layout (manager.the_row (param 0 (number g.row.C)) (param 1 (number g.row.M)) (param 2 g.row.A) g.A.Allocator)) 0 9223372036854775808), (c.requires.client, c.requires.manager)))
+
+pub returns-in_err-a-clause-pair : goal.returns-in_err-a-clause-pair
+returns-in_err-a-clause-pair g c = let p = err_from_is_err_and c.from_residual.result c.from_residual.ensures.1 in rw p.1 tt
+
+pub returns-in_err-a-clause-client : goal.returns-in_err-a-clause-client
+returns-in_err-a-clause-client g c = let p = err_from_is_err_and c.from_residual.result c.from_residual.ensures.1 in rw p.1 tt
+
+pub returns-in_err-a-clause-manager : goal.returns-in_err-a-clause-manager
+returns-in_err-a-clause-manager g c = let p = err_from_is_err_and c.from_residual.result c.from_residual.ensures.1 in rw p.1 tt
+
+pub returns-in_err-a-clause-client_knows : goal.returns-in_err-a-clause-client_knows
+returns-in_err-a-clause-client_knows g c = let p = err_from_is_err_and c.from_residual.result c.from_residual.ensures.1 in rw p.1 tt
+
+pub returns-in_err-a-clause-manager_knows : goal.returns-in_err-a-clause-manager_knows
+returns-in_err-a-clause-manager_knows g c = let p = err_from_is_err_and c.from_residual.result c.from_residual.ensures.1 in rw p.1 tt
+
+pub returns-in_err-a-clause-size : goal.returns-in_err-a-clause-size
+returns-in_err-a-clause-size g c = λ ok. absurd (err_not_ok c.from_residual.result c.from_residual.ensures.0 ok)
+
+pub returns-in_err-a-clause-ring_size : goal.returns-in_err-a-clause-ring_size
+returns-in_err-a-clause-ring_size g c = let p = err_from_is_err_and c.from_residual.result c.from_residual.ensures.1 in rw (p.1, p.2) c.in_err-a.ensures.ring_size
 
 pub open_pair-requires-2 : goal.open_pair-requires-2
-open_pair-requires-2 g c = (search (part_small (layout (manager.the_row (param 0 (number g.row.C)) (param 1 (number g.row.M)) (param 2 g.row.A) g.A.Allocator)) 1 9223372036854775808), (search (part_small (layout (client.the_row (param 0 (number g.row.C)) (param 1 (number g.row.M)) (param 2 g.row.A) g.A.Allocator)) 1 9223372036854775808), (c.requires.manager, c.requires.client)))
+open_pair-requires-2 g c =
+    let known = c.requires-raw in
+    (let c = known in search (part_small (layout (manager.the_row (param 0 (number g.row.C)) (param 1 (number g.row.M)) (param 2 g.row.A) g.A.Allocator)) 1 9223372036854775808), (let c = known in search (part_small (layout (client.the_row (param 0 (number g.row.C)) (param 1 (number g.row.M)) (param 2 g.row.A) g.A.Allocator)) 1 9223372036854775808), (c.requires.manager, c.requires.client)))
+
+pub drop-a_take-inside-requires : goal.drop-a_take-inside-requires
+drop-a_take-inside-requires g c κs =
+    let small = beat_small 24 g.row.M (omega arith) c.requires.manager in
+    let c = small in λ lives. ((lit< tt, (small, tt)), (search rules, (lives, search rules)))
+
+pub drop-a-inside-requires : goal.drop-a-inside-requires
+drop-a-inside-requires g c κs =
+    let small = beat_small 24 g.row.M (omega arith) c.requires.manager in
+    let c = small in λ lives. ((lit< tt, (small, tt)), (search rules, (lives, search rules)))
+
+pub returns-in_err-b-clause-pair : goal.returns-in_err-b-clause-pair
+returns-in_err-b-clause-pair g c = let p = err_from_is_err_and c.from_residual-in_err-b.result c.from_residual-in_err-b.ensures.1 in rw p.1 tt
+
+pub returns-in_err-b-clause-client : goal.returns-in_err-b-clause-client
+returns-in_err-b-clause-client g c = let p = err_from_is_err_and c.from_residual-in_err-b.result c.from_residual-in_err-b.ensures.1 in rw p.1 tt
+
+pub returns-in_err-b-clause-manager : goal.returns-in_err-b-clause-manager
+returns-in_err-b-clause-manager g c = let p = err_from_is_err_and c.from_residual-in_err-b.result c.from_residual-in_err-b.ensures.1 in rw p.1 tt
+
+pub returns-in_err-b-clause-client_knows : goal.returns-in_err-b-clause-client_knows
+returns-in_err-b-clause-client_knows g c = let p = err_from_is_err_and c.from_residual-in_err-b.result c.from_residual-in_err-b.ensures.1 in rw p.1 tt
+
+pub returns-in_err-b-clause-manager_knows : goal.returns-in_err-b-clause-manager_knows
+returns-in_err-b-clause-manager_knows g c = let p = err_from_is_err_and c.from_residual-in_err-b.result c.from_residual-in_err-b.ensures.1 in rw p.1 tt
+
+pub returns-in_err-b-clause-size : goal.returns-in_err-b-clause-size
+returns-in_err-b-clause-size g c = λ ok. absurd (err_not_ok c.from_residual-in_err-b.result c.from_residual-in_err-b.ensures.0 ok)
+
+pub returns-in_err-b-clause-ring_size : goal.returns-in_err-b-clause-ring_size
+returns-in_err-b-clause-ring_size g c = let p = err_from_is_err_and c.from_residual-in_err-b.result c.from_residual-in_err-b.ensures.1 in rw (p.1, p.2) c.in_err-b.ensures.ring_size
 
 pub open_pair-requires-3 : goal.open_pair-requires-3
-open_pair-requires-3 g c = (search (part_small (layout (client.the_row (param 0 (number g.row.C)) (param 1 (number g.row.M)) (param 2 g.row.A) g.A.Allocator)) 2 9223372036854775808), (search (part_small (layout (manager.the_row (param 0 (number g.row.C)) (param 1 (number g.row.M)) (param 2 g.row.A) g.A.Allocator)) 2 9223372036854775808), (c.requires.client, c.requires.manager)))
+open_pair-requires-3 g c =
+    let known = c.requires-raw in
+    (let c = known in search (part_small (layout (client.the_row (param 0 (number g.row.C)) (param 1 (number g.row.M)) (param 2 g.row.A) g.A.Allocator)) 2 9223372036854775808), (let c = known in search (part_small (layout (manager.the_row (param 0 (number g.row.C)) (param 1 (number g.row.M)) (param 2 g.row.A) g.A.Allocator)) 2 9223372036854775808), (c.requires.client, c.requires.manager)))
+
+pub drop-b_take-inside-requires : goal.drop-b_take-inside-requires
+drop-b_take-inside-requires g c κs =
+    let small = beat_small 24 g.row.C (omega arith) c.requires.client in
+    let c = small in λ lives. ((lit< tt, (small, tt)), (search rules, (lives, search rules)))
+
+pub drop-b-inside-requires : goal.drop-b-inside-requires
+drop-b-inside-requires g c κs =
+    let small = beat_small 24 g.row.C (omega arith) c.requires.client in
+    let c = small in λ lives. ((lit< tt, (small, tt)), (search rules, (lives, search rules)))
+
+pub drop-a_take-inside-requires-in_err-c : goal.drop-a_take-inside-requires-in_err-c
+drop-a_take-inside-requires-in_err-c g c κs =
+    let small = beat_small 24 g.row.M (omega arith) c.requires.manager in
+    let c = small in λ lives. ((lit< tt, (small, tt)), (search rules, (lives, search rules)))
+
+pub drop-a-inside-requires-in_err-c : goal.drop-a-inside-requires-in_err-c
+drop-a-inside-requires-in_err-c g c κs =
+    let small = beat_small 24 g.row.M (omega arith) c.requires.manager in
+    let c = small in λ lives. ((lit< tt, (small, tt)), (search rules, (lives, search rules)))
+
+pub returns-in_err-c-clause-pair : goal.returns-in_err-c-clause-pair
+returns-in_err-c-clause-pair g c = let p = err_from_is_err_and c.from_residual-in_err-c.result c.from_residual-in_err-c.ensures.1 in rw p.1 tt
+
+pub returns-in_err-c-clause-client : goal.returns-in_err-c-clause-client
+returns-in_err-c-clause-client g c = let p = err_from_is_err_and c.from_residual-in_err-c.result c.from_residual-in_err-c.ensures.1 in rw p.1 tt
+
+pub returns-in_err-c-clause-manager : goal.returns-in_err-c-clause-manager
+returns-in_err-c-clause-manager g c = let p = err_from_is_err_and c.from_residual-in_err-c.result c.from_residual-in_err-c.ensures.1 in rw p.1 tt
+
+pub returns-in_err-c-clause-client_knows : goal.returns-in_err-c-clause-client_knows
+returns-in_err-c-clause-client_knows g c = let p = err_from_is_err_and c.from_residual-in_err-c.result c.from_residual-in_err-c.ensures.1 in rw p.1 tt
+
+pub returns-in_err-c-clause-manager_knows : goal.returns-in_err-c-clause-manager_knows
+returns-in_err-c-clause-manager_knows g c = let p = err_from_is_err_and c.from_residual-in_err-c.result c.from_residual-in_err-c.ensures.1 in rw p.1 tt
+
+pub returns-in_err-c-clause-size : goal.returns-in_err-c-clause-size
+returns-in_err-c-clause-size g c = λ ok. absurd (err_not_ok c.from_residual-in_err-c.result c.from_residual-in_err-c.ensures.0 ok)
+
+pub returns-in_err-c-clause-ring_size : goal.returns-in_err-c-clause-ring_size
+returns-in_err-c-clause-ring_size g c = let p = err_from_is_err_and c.from_residual-in_err-c.result c.from_residual-in_err-c.ensures.1 in rw (p.1, p.2) c.in_err-c.ensures.ring_size
 
 pub open_pair-requires-4 : goal.open_pair-requires-4
-open_pair-requires-4 g c = (search (part_small (layout (manager.the_row (param 0 (number g.row.C)) (param 1 (number g.row.M)) (param 2 g.row.A) g.A.Allocator)) 3 9223372036854775808), (search (part_small (layout (client.the_row (param 0 (number g.row.C)) (param 1 (number g.row.M)) (param 2 g.row.A) g.A.Allocator)) 3 9223372036854775808), (c.requires.manager, c.requires.client)))
+open_pair-requires-4 g c =
+    let known = c.requires-raw in
+    (let c = known in search (part_small (layout (manager.the_row (param 0 (number g.row.C)) (param 1 (number g.row.M)) (param 2 g.row.A) g.A.Allocator)) 3 9223372036854775808), (let c = known in search (part_small (layout (client.the_row (param 0 (number g.row.C)) (param 1 (number g.row.M)) (param 2 g.row.A) g.A.Allocator)) 3 9223372036854775808), (c.requires.manager, c.requires.client)))
+
+pub drop-c_take-inside-requires : goal.drop-c_take-inside-requires
+drop-c_take-inside-requires g c κs =
+    let small = beat_small 24 g.row.M (omega arith) c.requires.manager in
+    let c = small in λ lives. ((lit< tt, (small, tt)), (search rules, (lives, search rules)))
+
+pub drop-c-inside-requires : goal.drop-c-inside-requires
+drop-c-inside-requires g c κs =
+    let small = beat_small 24 g.row.M (omega arith) c.requires.manager in
+    let c = small in λ lives. ((lit< tt, (small, tt)), (search rules, (lives, search rules)))
+
+pub drop-b_take-inside-requires-in_err-d : goal.drop-b_take-inside-requires-in_err-d
+drop-b_take-inside-requires-in_err-d g c κs =
+    let small = beat_small 24 g.row.C (omega arith) c.requires.client in
+    let c = small in λ lives. ((lit< tt, (small, tt)), (search rules, (lives, search rules)))
+
+pub drop-b-inside-requires-in_err-d : goal.drop-b-inside-requires-in_err-d
+drop-b-inside-requires-in_err-d g c κs =
+    let small = beat_small 24 g.row.C (omega arith) c.requires.client in
+    let c = small in λ lives. ((lit< tt, (small, tt)), (search rules, (lives, search rules)))
+
+pub drop-a_take-inside-requires-in_err-d : goal.drop-a_take-inside-requires-in_err-d
+drop-a_take-inside-requires-in_err-d g c κs =
+    let small = beat_small 24 g.row.M (omega arith) c.requires.manager in
+    let c = small in λ lives. ((lit< tt, (small, tt)), (search rules, (lives, search rules)))
+
+pub drop-a-inside-requires-in_err-d : goal.drop-a-inside-requires-in_err-d
+drop-a-inside-requires-in_err-d g c κs =
+    let small = beat_small 24 g.row.M (omega arith) c.requires.manager in
+    let c = small in λ lives. ((lit< tt, (small, tt)), (search rules, (lives, search rules)))
+
+pub returns-in_err-d-clause-pair : goal.returns-in_err-d-clause-pair
+returns-in_err-d-clause-pair g c = let p = err_from_is_err_and c.from_residual-in_err-d.result c.from_residual-in_err-d.ensures.1 in rw p.1 tt
+
+pub returns-in_err-d-clause-client : goal.returns-in_err-d-clause-client
+returns-in_err-d-clause-client g c = let p = err_from_is_err_and c.from_residual-in_err-d.result c.from_residual-in_err-d.ensures.1 in rw p.1 tt
+
+pub returns-in_err-d-clause-manager : goal.returns-in_err-d-clause-manager
+returns-in_err-d-clause-manager g c = let p = err_from_is_err_and c.from_residual-in_err-d.result c.from_residual-in_err-d.ensures.1 in rw p.1 tt
+
+pub returns-in_err-d-clause-client_knows : goal.returns-in_err-d-clause-client_knows
+returns-in_err-d-clause-client_knows g c = let p = err_from_is_err_and c.from_residual-in_err-d.result c.from_residual-in_err-d.ensures.1 in rw p.1 tt
+
+pub returns-in_err-d-clause-manager_knows : goal.returns-in_err-d-clause-manager_knows
+returns-in_err-d-clause-manager_knows g c = let p = err_from_is_err_and c.from_residual-in_err-d.result c.from_residual-in_err-d.ensures.1 in rw p.1 tt
+
+pub returns-in_err-d-clause-size : goal.returns-in_err-d-clause-size
+returns-in_err-d-clause-size g c = λ ok. absurd (err_not_ok c.from_residual-in_err-d.result c.from_residual-in_err-d.ensures.0 ok)
+
+pub returns-in_err-d-clause-ring_size : goal.returns-in_err-d-clause-ring_size
+returns-in_err-d-clause-ring_size g c = let p = err_from_is_err_and c.from_residual-in_err-d.result c.from_residual-in_err-d.ensures.1 in rw (p.1, p.2) c.in_err-d.ensures.ring_size
 
 pub open_pair-requires-5 : goal.open_pair-requires-5
-open_pair-requires-5 g c = (search (part_small (layout (client.the_row (param 0 (number g.row.C)) (param 1 (number g.row.M)) (param 2 g.row.A) g.A.Allocator)) 4 9223372036854775808), (search (part_small (layout (manager.the_row (param 0 (number g.row.C)) (param 1 (number g.row.M)) (param 2 g.row.A) g.A.Allocator)) 4 9223372036854775808), (c.requires.client, c.requires.manager)))
+open_pair-requires-5 g c =
+    let known = c.requires-raw in
+    (let c = known in search (part_small (layout (client.the_row (param 0 (number g.row.C)) (param 1 (number g.row.M)) (param 2 g.row.A) g.A.Allocator)) 4 9223372036854775808), (let c = known in search (part_small (layout (manager.the_row (param 0 (number g.row.C)) (param 1 (number g.row.M)) (param 2 g.row.A) g.A.Allocator)) 4 9223372036854775808), (c.requires.client, c.requires.manager)))
+
+pub drop-d_take-inside-requires : goal.drop-d_take-inside-requires
+drop-d_take-inside-requires g c κs =
+    let small = beat_small 16 g.row.C (omega arith) c.requires.client in
+    let c = small in λ lives. ((lit< tt, (small, tt)), (search rules, (lives, search rules)))
+
+pub drop-d-inside-requires : goal.drop-d-inside-requires
+drop-d-inside-requires g c κs =
+    let small = beat_small 16 g.row.C (omega arith) c.requires.client in
+    let c = small in λ lives. ((lit< tt, (small, tt)), (search rules, (lives, search rules)))
+
+pub drop-c_take-inside-requires-in_err-e : goal.drop-c_take-inside-requires-in_err-e
+drop-c_take-inside-requires-in_err-e g c κs =
+    let small = beat_small 24 g.row.M (omega arith) c.requires.manager in
+    let c = small in λ lives. ((lit< tt, (small, tt)), (search rules, (lives, search rules)))
+
+pub drop-c-inside-requires-in_err-e : goal.drop-c-inside-requires-in_err-e
+drop-c-inside-requires-in_err-e g c κs =
+    let small = beat_small 24 g.row.M (omega arith) c.requires.manager in
+    let c = small in λ lives. ((lit< tt, (small, tt)), (search rules, (lives, search rules)))
+
+pub drop-b_take-inside-requires-in_err-e : goal.drop-b_take-inside-requires-in_err-e
+drop-b_take-inside-requires-in_err-e g c κs =
+    let small = beat_small 24 g.row.C (omega arith) c.requires.client in
+    let c = small in λ lives. ((lit< tt, (small, tt)), (search rules, (lives, search rules)))
+
+pub drop-b-inside-requires-in_err-e : goal.drop-b-inside-requires-in_err-e
+drop-b-inside-requires-in_err-e g c κs =
+    let small = beat_small 24 g.row.C (omega arith) c.requires.client in
+    let c = small in λ lives. ((lit< tt, (small, tt)), (search rules, (lives, search rules)))
+
+pub drop-a_take-inside-requires-in_err-e : goal.drop-a_take-inside-requires-in_err-e
+drop-a_take-inside-requires-in_err-e g c κs =
+    let small = beat_small 24 g.row.M (omega arith) c.requires.manager in
+    let c = small in λ lives. ((lit< tt, (small, tt)), (search rules, (lives, search rules)))
+
+pub drop-a-inside-requires-in_err-e : goal.drop-a-inside-requires-in_err-e
+drop-a-inside-requires-in_err-e g c κs =
+    let small = beat_small 24 g.row.M (omega arith) c.requires.manager in
+    let c = small in λ lives. ((lit< tt, (small, tt)), (search rules, (lives, search rules)))
+
+pub returns-in_err-e-clause-pair : goal.returns-in_err-e-clause-pair
+returns-in_err-e-clause-pair g c = let p = err_from_is_err_and c.from_residual-in_err-e.result c.from_residual-in_err-e.ensures.1 in rw p.1 tt
+
+pub returns-in_err-e-clause-client : goal.returns-in_err-e-clause-client
+returns-in_err-e-clause-client g c = let p = err_from_is_err_and c.from_residual-in_err-e.result c.from_residual-in_err-e.ensures.1 in rw p.1 tt
+
+pub returns-in_err-e-clause-manager : goal.returns-in_err-e-clause-manager
+returns-in_err-e-clause-manager g c = let p = err_from_is_err_and c.from_residual-in_err-e.result c.from_residual-in_err-e.ensures.1 in rw p.1 tt
+
+pub returns-in_err-e-clause-client_knows : goal.returns-in_err-e-clause-client_knows
+returns-in_err-e-clause-client_knows g c = let p = err_from_is_err_and c.from_residual-in_err-e.result c.from_residual-in_err-e.ensures.1 in rw p.1 tt
+
+pub returns-in_err-e-clause-manager_knows : goal.returns-in_err-e-clause-manager_knows
+returns-in_err-e-clause-manager_knows g c = let p = err_from_is_err_and c.from_residual-in_err-e.result c.from_residual-in_err-e.ensures.1 in rw p.1 tt
+
+pub returns-in_err-e-clause-size : goal.returns-in_err-e-clause-size
+returns-in_err-e-clause-size g c = λ ok. absurd (err_not_ok c.from_residual-in_err-e.result c.from_residual-in_err-e.ensures.0 ok)
+
+pub returns-in_err-e-clause-ring_size : goal.returns-in_err-e-clause-ring_size
+returns-in_err-e-clause-ring_size g c = let p = err_from_is_err_and c.from_residual-in_err-e.result c.from_residual-in_err-e.ensures.1 in rw (p.1, p.2) c.in_err-e.ensures.ring_size
+
+pub returns-clause-pair : goal.returns-clause-pair
+returns-clause-pair g c = record {
+  a = c.in_ok-a.ensures.pair;
+  b = c.in_ok-b.ensures.pair;
+  c = c.in_ok-c.ensures.pair;
+  d = c.in_ok-d.ensures.pair;
+  e = c.in_ok-e.ensures.pair;
+}
 
 pub returns-clause-client : goal.returns-clause-client
 returns-clause-client g c = record {
@@ -42,3 +269,27 @@ returns-clause-manager g c = record {
   homes = refl;
   book = c.new-2.ensures;
 }
+
+pub returns-clause-client_knows : goal.returns-clause-client_knows
+returns-clause-client_knows g c = record {
+  a = c.in_ok-a.ensures.known.0;
+  b = (c.in_ok-b.ensures.known.1, c.in_ok-b.ensures.known.2);
+  c = c.in_ok-c.ensures.known.0;
+  d = (c.in_ok-d.ensures.known.1, c.in_ok-d.ensures.known.2);
+  e = c.in_ok-e.ensures.known.0;
+}
+
+pub returns-clause-manager_knows : goal.returns-clause-manager_knows
+returns-clause-manager_knows g c = record {
+  a = (c.in_ok-a.ensures.known.1, c.in_ok-a.ensures.known.2);
+  b = c.in_ok-b.ensures.known.0;
+  c = (c.in_ok-c.ensures.known.1, c.in_ok-c.ensures.known.2);
+  d = c.in_ok-d.ensures.known.0;
+  e = (c.in_ok-e.ensures.known.1, c.in_ok-e.ensures.known.2);
+}
+
+pub returns-clause-size : goal.returns-clause-size
+returns-clause-size g c = λ ok. c.in_ok-a.ensures.size refl
+
+pub returns-clause-ring_size : goal.returns-clause-ring_size
+returns-clause-ring_size g c = tt

@@ -9,32 +9,32 @@ use Rattle.tl_pair.proofs.sides.meet_sides.Goals as goal
 pub meet-requires : goal.meet-requires
 meet-requires g c =
     let sides = rw (← c.client.view_is, ← c.manager.view_is) at c.requires in
-    let formed = c.well_formed in
-    (let c = formed in search (part_small (layout (client.the_row (param 0 (number g.row.C)) (param 1 (number g.row.M)) (param 2 g.row.A) g.A.Allocator)) 0 9223372036854775808), (let c = formed in search (part_small (layout (manager.the_row (param 0 (number g.row.C)) (param 1 (number g.row.M)) (param 2 g.row.A) g.A.Allocator)) 0 9223372036854775808), sides.a))
+    let known = c.requires-raw in
+    (let c = known in search (part_small (layout (client.the_row (param 0 (number g.row.C)) (param 1 (number g.row.M)) (param 2 g.row.A) g.A.Allocator)) 0 9223372036854775808), (let c = known in search (part_small (layout (manager.the_row (param 0 (number g.row.C)) (param 1 (number g.row.M)) (param 2 g.row.A) g.A.Allocator)) 0 9223372036854775808), sides.a))
 
 pub meet-requires-2 : goal.meet-requires-2
 meet-requires-2 g c =
     let sides = rw (← c.client.view_is, ← c.manager.view_is) at c.requires in
-    let formed = c.well_formed in
-    (let c = formed in search (part_small (layout (manager.the_row (param 0 (number g.row.C)) (param 1 (number g.row.M)) (param 2 g.row.A) g.A.Allocator)) 1 9223372036854775808), (let c = formed in search (part_small (layout (client.the_row (param 0 (number g.row.C)) (param 1 (number g.row.M)) (param 2 g.row.A) g.A.Allocator)) 1 9223372036854775808), sides.b))
+    let known = c.requires-raw in
+    (let c = known in search (part_small (layout (manager.the_row (param 0 (number g.row.C)) (param 1 (number g.row.M)) (param 2 g.row.A) g.A.Allocator)) 1 9223372036854775808), (let c = known in search (part_small (layout (client.the_row (param 0 (number g.row.C)) (param 1 (number g.row.M)) (param 2 g.row.A) g.A.Allocator)) 1 9223372036854775808), sides.b))
 
 pub meet-requires-3 : goal.meet-requires-3
 meet-requires-3 g c =
     let sides = rw (← c.client.view_is, ← c.manager.view_is) at c.requires in
-    let formed = c.well_formed in
-    (let c = formed in search (part_small (layout (client.the_row (param 0 (number g.row.C)) (param 1 (number g.row.M)) (param 2 g.row.A) g.A.Allocator)) 2 9223372036854775808), (let c = formed in search (part_small (layout (manager.the_row (param 0 (number g.row.C)) (param 1 (number g.row.M)) (param 2 g.row.A) g.A.Allocator)) 2 9223372036854775808), sides.c))
+    let known = c.requires-raw in
+    (let c = known in search (part_small (layout (client.the_row (param 0 (number g.row.C)) (param 1 (number g.row.M)) (param 2 g.row.A) g.A.Allocator)) 2 9223372036854775808), (let c = known in search (part_small (layout (manager.the_row (param 0 (number g.row.C)) (param 1 (number g.row.M)) (param 2 g.row.A) g.A.Allocator)) 2 9223372036854775808), sides.c))
 
 pub meet-requires-4 : goal.meet-requires-4
 meet-requires-4 g c =
     let sides = rw (← c.client.view_is, ← c.manager.view_is) at c.requires in
-    let formed = c.well_formed in
-    (let c = formed in search (part_small (layout (manager.the_row (param 0 (number g.row.C)) (param 1 (number g.row.M)) (param 2 g.row.A) g.A.Allocator)) 3 9223372036854775808), (let c = formed in search (part_small (layout (client.the_row (param 0 (number g.row.C)) (param 1 (number g.row.M)) (param 2 g.row.A) g.A.Allocator)) 3 9223372036854775808), sides.d))
+    let known = c.requires-raw in
+    (let c = known in search (part_small (layout (manager.the_row (param 0 (number g.row.C)) (param 1 (number g.row.M)) (param 2 g.row.A) g.A.Allocator)) 3 9223372036854775808), (let c = known in search (part_small (layout (client.the_row (param 0 (number g.row.C)) (param 1 (number g.row.M)) (param 2 g.row.A) g.A.Allocator)) 3 9223372036854775808), sides.d))
 
 pub meet-requires-5 : goal.meet-requires-5
 meet-requires-5 g c =
     let sides = rw (← c.client.view_is, ← c.manager.view_is) at c.requires in
-    let formed = c.well_formed in
-    (let c = formed in search (part_small (layout (client.the_row (param 0 (number g.row.C)) (param 1 (number g.row.M)) (param 2 g.row.A) g.A.Allocator)) 4 9223372036854775808), (let c = formed in search (part_small (layout (manager.the_row (param 0 (number g.row.C)) (param 1 (number g.row.M)) (param 2 g.row.A) g.A.Allocator)) 4 9223372036854775808), sides.e))
+    let known = c.requires-raw in
+    (let c = known in search (part_small (layout (client.the_row (param 0 (number g.row.C)) (param 1 (number g.row.M)) (param 2 g.row.A) g.A.Allocator)) 4 9223372036854775808), (let c = known in search (part_small (layout (manager.the_row (param 0 (number g.row.C)) (param 1 (number g.row.M)) (param 2 g.row.A) g.A.Allocator)) 4 9223372036854775808), sides.e))
 
 pub returns-clause-a : goal.returns-clause-a
 returns-clause-a g c = rw (← c.client.view_is, ← c.manager.view_is) c.meet.ensures.met

@@ -13,7 +13,7 @@ pub fetch-d-requires : goal.fetch-d-requires
 fetch-d-requires g c = search (part_small (layout (the_row (param 0 (number g.row.C)) (param 1 (number g.row.M)) (param 2 g.row.A) g.A.Allocator)) 3 9223372036854775808)
 
 pub returns-clause-total : goal.returns-clause-total
-returns-clause-total g c = 
+returns-clause-total g c =
     let count_b = fetch_counted c.fetch-b.result _ _ c.fetch-b.ensures.fetched in
     let count_d = fetch_counted c.fetch-d.result _ _ c.fetch-d.ensures.fetched in
     rw (← c.self.view_is) (λ i. count_b i + count_d i)

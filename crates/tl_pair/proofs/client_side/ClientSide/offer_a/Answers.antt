@@ -12,12 +12,15 @@ use Rattle.tl_pair.specs.contracts.client_side.ClientSide.{the_row}
 use Rattle.tl_pair.proofs.client_side.ClientSide.offer_a.Goals as goal
 
 pub check-requires : goal.check-requires
-check-requires g c = 
+check-requires g c =
     let ready = rw (← c.self.view_is) at c.requires.ready in
     (search (part_small (layout (the_row (param 0 (number g.row.C)) (param 1 (number g.row.M)) (param 2 g.row.A) g.A.Allocator)) 0 9223372036854775808), (beat_small 24 g.row.C (omega arith) c.requires.near, (c.requires.near, ready)))
 
+pub ask-requires : goal.ask-requires
+ask-requires g c = search (part_small (layout (the_row (param 0 (number g.row.C)) (param 1 (number g.row.M)) (param 2 g.row.A) g.A.Allocator)) 5 9223372036854775808)
+
 pub offer_at-requires : goal.offer_at-requires
-offer_at-requires g c = 
+offer_at-requires g c =
     let ready = rw (← c.self.view_is) at c.requires.ready in
     (search (part_small (layout (the_row (param 0 (number g.row.C)) (param 1 (number g.row.M)) (param 2 g.row.A) g.A.Allocator)) 0 9223372036854775808), (beat_small 24 g.row.C (omega arith) c.requires.near, (c.requires.near, (c.requires.far, (ready, c.in_ok-place.ensures.place)))))
 
@@ -37,8 +40,7 @@ pub returns-in_err-ask-clause-admitted : goal.returns-in_err-ask-clause-admitted
 returns-in_err-ask-clause-admitted g c = λ x k.
     let h = rw (← c.self.view_is) at k in
     let next = next_at rules_a (asked x.history) c.args.beat c.in_ok-place.place _ x.a h.a.pipe h.accepted c.in_ok-place.ensures.place in
-    let answer = c.in_err-ask.ensures.admitted x.history c.args.beat h.book next in
-    (
+    let answer = c.in_err-ask.ensures.admitted x.history c.args.beat h.book next in (
       λ ok. absurd (err_not_ok c.from_residual-in_err-ask.result c.from_residual-in_err-ask.ensures.0 ok),
       λ none. absurd (let ok = answer.1 none in cc),
     )
@@ -54,7 +56,7 @@ pub returns-in_err-ask-clause-rest : goal.returns-in_err-ask-clause-rest
 returns-in_err-ask-clause-rest g c = rw (← c.self.view_is) refl
 
 pub returns-in_err-ask-clause-refused : goal.returns-in_err-ask-clause-refused
-returns-in_err-ask-clause-refused g c = 
+returns-in_err-ask-clause-refused g c =
     let p = err_from_is_err_and c.from_residual-in_err-ask.result c.from_residual-in_err-ask.ensures.1 in
     rw p.1 (ap (λ q. record { a = c.self.inside.a; b = c.self.inside.b; c = c.self.inside.c; d = c.self.inside.d; e = c.self.inside.e; book = q }) c.in_err-ask.ensures.refused ∙ c.self.view_is)
 

@@ -1,5 +1,6 @@
 use Rattle.std.proofs.Common.{refl, ap, arith}
 use Rattle.tl_sides.proofs.BridgeSteps.{on_ok_to, on_err_to}
+use Rattle.tl_pair.specs.Sides.{ClientState}
 use Rattle.tl_pair.proofs.SideSteps.{client_c}
 use denote.Param.{layout, param, number}
 use Rattle.tl_ring.proofs.FieldSizes.{part_small, beat_small}
@@ -7,7 +8,7 @@ use Rattle.tl_pair.specs.contracts.client_side.ClientSide.{the_row}
 use Rattle.tl_pair.proofs.client_side.ClientSide.offer_c.Goals as goal
 
 pub offer_alone-requires : goal.offer_alone-requires
-offer_alone-requires g c = 
+offer_alone-requires g c =
     let ready = rw (← c.self.view_is) at c.requires.ready in
     (search (part_small (layout (the_row (param 0 (number g.row.C)) (param 1 (number g.row.M)) (param 2 g.row.A) g.A.Allocator)) 2 9223372036854775808), (beat_small 24 g.row.C (omega arith) c.requires.near, (c.requires.near, (c.requires.far, ready))))
 
@@ -26,7 +27,7 @@ pub returns-clause-ring : goal.returns-clause-ring
 returns-clause-ring g c = rw (← c.self.view_is) c.offer_alone.ensures.ring
 
 pub returns-clause-rest : goal.returns-clause-rest
-returns-clause-rest g c = rw (← c.self.view_is) refl
+returns-clause-rest g c = ap (λ (q : ClientState g.row.A.Denot g.row.C g.row.M). record q { c = c.offer_alone.new.self }) c.self.view_is
 
 pub returns-clause-refused : goal.returns-clause-refused
 returns-clause-refused g c = rw (← c.self.view_is) (on_err_to c.offer_alone.result (λ e. ap (λ q. record { a = c.self.inside.a; b = c.self.inside.b; c = q; d = c.self.inside.d; e = c.self.inside.e; book = c.self.inside.book }) e) c.offer_alone.ensures.refused)

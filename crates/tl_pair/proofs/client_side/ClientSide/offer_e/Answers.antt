@@ -7,7 +7,7 @@ use Rattle.tl_pair.specs.contracts.client_side.ClientSide.{the_row}
 use Rattle.tl_pair.proofs.client_side.ClientSide.offer_e.Goals as goal
 
 pub offer_alone-requires : goal.offer_alone-requires
-offer_alone-requires g c = 
+offer_alone-requires g c =
     let ready = rw (← c.self.view_is) at c.requires.ready in
     (search (part_small (layout (the_row (param 0 (number g.row.C)) (param 1 (number g.row.M)) (param 2 g.row.A) g.A.Allocator)) 4 9223372036854775808), (beat_small 16 g.row.C (omega arith) c.requires.near, (c.requires.near, (c.requires.far, ready))))
 

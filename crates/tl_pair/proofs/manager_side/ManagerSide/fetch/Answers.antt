@@ -16,7 +16,7 @@ pub fetch-e-requires : goal.fetch-e-requires
 fetch-e-requires g c = search (part_small (layout (the_row (param 0 (number g.row.C)) (param 1 (number g.row.M)) (param 2 g.row.A) g.A.Allocator)) 4 9223372036854775808)
 
 pub returns-clause-total : goal.returns-clause-total
-returns-clause-total g c = 
+returns-clause-total g c =
     let count_a = fetch_counted c.fetch-a.result _ _ c.fetch-a.ensures.fetched in
     let count_c = fetch_counted c.fetch-c.result _ _ c.fetch-c.ensures.fetched in
     let count_e = fetch_counted c.fetch-e.result _ _ c.fetch-e.ensures.fetched in

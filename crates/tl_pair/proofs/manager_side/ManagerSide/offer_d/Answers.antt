@@ -14,12 +14,15 @@ use Rattle.tl_pair.specs.contracts.manager_side.ManagerSide.{the_row}
 use Rattle.tl_pair.proofs.manager_side.ManagerSide.offer_d.Goals as goal
 
 pub check-requires : goal.check-requires
-check-requires g c = 
+check-requires g c =
     let ready = rw (← c.self.view_is) at c.requires.ready in
     (search (part_small (layout (the_row (param 0 (number g.row.C)) (param 1 (number g.row.M)) (param 2 g.row.A) g.A.Allocator)) 3 9223372036854775808), (beat_small 16 g.row.M (omega arith) c.requires.near, (c.requires.near, ready)))
 
+pub answer-requires : goal.answer-requires
+answer-requires g c = search (part_small (layout (the_row (param 0 (number g.row.C)) (param 1 (number g.row.M)) (param 2 g.row.A) g.A.Allocator)) 5 9223372036854775808)
+
 pub offer_at-requires : goal.offer_at-requires
-offer_at-requires g c = 
+offer_at-requires g c =
     let ready = rw (← c.self.view_is) at c.requires.ready in
     (search (part_small (layout (the_row (param 0 (number g.row.C)) (param 1 (number g.row.M)) (param 2 g.row.A) g.A.Allocator)) 3 9223372036854775808), (beat_small 16 g.row.M (omega arith) c.requires.near, (c.requires.near, (c.requires.far, (ready, c.in_ok-place.ensures.place)))))
 
@@ -39,8 +42,7 @@ pub returns-in_err-home-clause-admitted : goal.returns-in_err-home-clause-admitt
 returns-in_err-home-clause-admitted g c = λ x k.
     let h = rw (← c.self.view_is) at k in
     let next = next_at rules_d (answered x.history) c.args.beat c.in_ok-place.place _ x.d h.d.pipe h.accepted c.in_ok-place.ensures.place in
-    let answer = c.in_err-home.ensures.admitted x.history c.args.beat h.book next in
-    (
+    let answer = c.in_err-home.ensures.admitted x.history c.args.beat h.book next in (
       λ ok. absurd (err_not_ok c.from_residual-in_err-home.result c.from_residual-in_err-home.ensures.0 ok),
       λ none. absurd (let ok = answer.1 none in cc),
     )
@@ -56,7 +58,7 @@ pub returns-in_err-home-clause-rest : goal.returns-in_err-home-clause-rest
 returns-in_err-home-clause-rest g c = rw (← c.self.view_is) refl
 
 pub returns-in_err-home-clause-refused : goal.returns-in_err-home-clause-refused
-returns-in_err-home-clause-refused g c = 
+returns-in_err-home-clause-refused g c =
     let p = err_from_is_err_and c.from_residual-in_err-home.result c.from_residual-in_err-home.ensures.1 in
     rw p.1 (ap (λ q. record { a = c.self.inside.a; b = c.self.inside.b; c = c.self.inside.c; d = c.self.inside.d; e = c.self.inside.e; book = q }) c.in_err-home.ensures.refused ∙ c.self.view_is)
 

@@ -1,6 +1,5 @@
 use Rattle.std.proofs.Common.{◌≡◌, false, [], rules, refl, subst}
 use Rattle.tl_burst.specs.Handing.{rest_of}
-use Rattle.tl_ring.specs.Crossing.{World}
 use Rattle.tl_ring.specs.Ends.{Sends}
 use Rattle.tl_ring.proofs.EndSteps.{sends_shut}
 use Rattle.tl_ring.proofs.PipeSteps.{closed_between}
@@ -13,7 +12,7 @@ use Rattle.tl_pair.proofs.sender.Sender.close.Goals.{else-not-self-via-then-not-
 
 pub may_close-requires : goal.may_close-requires
 may_close-requires g c = search (part_small (layout (the_row (param 0 g.row.K) (param 1 (number g.row.W)) (param 2 (number g.row.V)) (param 3 g.row.A) (copied 4 g.row.K-Head) g.K.Channel g.K.Head.Clone
-        g.K.Head.Eq g.K.Head.PartialEq g.K.Head.Default g.A.Allocator)) 0 9223372036854775808)
+    g.K.Head.Eq g.K.Head.PartialEq g.K.Head.Default g.A.Allocator)) 0 9223372036854775808)
 
 pub returns-then-not-may_close-clause-between : goal.returns-then-not-may_close-clause-between
 returns-then-not-may_close-clause-between g c = λ x k.

@@ -7,8 +7,11 @@ use Rattle.tl_pair.specs.contracts.sender.Sender.{the_row}
 use Rattle.tl_pair.proofs.sender.Sender.meet.Goals as goal
 
 pub meet-requires : goal.meet-requires
-meet-requires g c = (search (part_small (layout (the_row (param 0 g.row.K) (param 1 (number g.row.W)) (param 2 (number g.row.V)) (param 3 g.row.A) (copied 4 g.row.K-Head) g.K.Channel g.K.Head.Clone
-        g.K.Head.Eq g.K.Head.PartialEq g.K.Head.Default g.A.Allocator)) 0 9223372036854775808), (search rules, rw (← c.self.view_is) at c.requires))
+meet-requires g c = (
+  search (part_small (layout (the_row (param 0 g.row.K) (param 1 (number g.row.W)) (param 2 (number g.row.V)) (param 3 g.row.A) (copied 4 g.row.K-Head) g.K.Channel g.K.Head.Clone
+      g.K.Head.Eq g.K.Head.PartialEq g.K.Head.Default g.A.Allocator)) 0 9223372036854775808),
+  (let known = c.requires-raw in let c = known in search rules, rw (← c.self.view_is) at c.requires),
+)
 
 pub returns-clause-met : goal.returns-clause-met
 returns-clause-met g c = rw (← c.self.view_is) (met_alike c.self.inside.closed _ _ _ _ c.meet.ensures.met)
