@@ -1,7 +1,7 @@
 //! Measures whole runs.
 ghost use Rattle.std.specs.Prelude.{◌≡◌, IsTrue};
 ghost use Rattle.tl_lanes.specs.Lanes.{IsWidth};
-ghost use Rattle.tl_bridge.specs.Scripts.{IsShort};
+ghost use Rattle.tl_bridge.specs.Scripts.{HasShortLists};
 
 use crate::measure::{print_peak, print_time};
 use anyhow::{Result, bail};
@@ -47,7 +47,7 @@ fn script_from<const C: usize, const M: usize>(
 
 /// Whether a run takes the lists of a script.
 fn is_short<const C: usize, const M: usize>(script: &Script<C, M>) -> bool
-    ensures { IsTrue result → IsShort script.now.a.items script.now.b.items script.now.c.items script.now.d.items script.now.e.items }
+    ensures { IsTrue result → HasShortLists script.now }
 {
     script.a.len() <= MOST_BEATS
         && script.b.len() <= MOST_BEATS
