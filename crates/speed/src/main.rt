@@ -8,11 +8,8 @@
 //! - `speed run RING` reads a trace that `make AD` made, runs it over rings of so many beats, and writes the answer into memory;
 //!   `speed check` does so with rings of one beat, and leaves the far beats out of the answer. What they print is like that of
 //!   `measure`.
-//! - `speed ends A|E WIDTH RING BEATS` sends so many beats through one crossing, between its two ends in one thread and in two, and
-//!   through plain `rtrb` likewise.
 #![tactic(auto)]
 
-mod ends;
 mod make;
 mod measure;
 mod whole;
@@ -39,12 +36,9 @@ fn main(rt: HostRuntime) -> Result<()> {
         whole::run(&rt, &mut rt.stdin(), words[2].parse()?, false)?;
     } else if words.len() == 2 && words[1].as_str() == "check" {
         whole::run(&rt, &mut rt.stdin(), 1, true)?;
-    } else if words.len() == 6 && words[1].as_str() == "ends" {
-        let (width, ring) = (words[3].parse()?, words[4].parse()?);
-        ends::measure(&rt, words[2].as_str(), width, ring, words[5].parse()?)?;
     } else {
         println!(rt;
-            "usage: speed make A|E|AD CLIENT MANAGER BYTES, speed ends A|E WIDTH RING BEATS, or one of measure, run RING and check < TRACE"
+            "usage: speed make A|E|AD CLIENT MANAGER BYTES, or one of measure, run RING and check < TRACE"
         )?;
     }
     Ok(())
