@@ -22,11 +22,11 @@ use Rattle.tl_bridge.specs.declared.channel_state.Stop.TheVariants.{Done, Cut, R
 use Rattle.tl_convert.proofs.Begins.{heads_open, heads_inside_one}
 
 -- no beat more is the same number of beats
-none-more : (n : ℕ) → n ≡ n + 0
+pub none-more : (n : ℕ) → n ≡ n + 0
 none-more n = omega arith
 
 -- where a list has no more item, it has ended
-past-end : {X : Type 0} (xs : List X) (i : ℕ) → slice_get xs i ≡ None → length xs ≤ i
+pub past-end : {X : Type 0} (xs : List X) (i : ℕ) → slice_get xs i ≡ None → length xs ≤ i
 past-end [] i e = omega arith
 past-end (x ∷ xs) zero e = cc
 past-end (x ∷ xs) (suc i) e = let h : length xs ≤ i = past-end xs i e in omega arith
@@ -114,7 +114,7 @@ module _ {H : Type 0} (r : Rules H) {w : ℕ} (xs : List (BeatOf H w)) (homes : 
   home-by (c ∷ rest) (suc l) e f = is ∙ ap (λ q. map (λ h. r.lane_address h 0) q) (sym (heads_inside_one r w 0 l xs b e))
 
   -- the homes are those that the heads say
-  homes-say : (left r w xs ≡ 0) ↔ (rest_of r w xs ≡ []) → homes_with r xs homes b 0 ≡ map (λ h. r.lane_address h 0) (heads r w (xs ++ b ∷ []))
+  pub homes-say : (left r w xs ≡ 0) ↔ (rest_of r w xs ≡ []) → homes_with r xs homes b 0 ≡ map (λ h. r.lane_address h 0) (heads r w (xs ++ b ∷ []))
   homes-say f = home-by (rest_of r w xs) (left r w xs) refl f
 
 module _ {H : Type 0} (r : Rules H) {w v : ℕ} (bs : List (BeatOf H w)) (n : ℕ) (answer : BeatOf H w → Option SideFault) (home : BeatOf H w → ℕ) where

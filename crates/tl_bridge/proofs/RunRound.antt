@@ -1,5 +1,5 @@
 -- What a round does to channels A and D of a run, and where they end.
-use Rattle.std.proofs.Common.{◌≡◌, ◌+◌, ◌++◌, ◌<◌, ℕ, None, Some, List, length, map, take, sym, ap, ◌∙◌}
+use Rattle.std.proofs.Common.{◌≡◌, ◌+◌, ◌++◌, ◌<◌, ℕ, None, List, length, map, take, sym, ap, ◌∙◌}
 use Rattle.std.specs.Prelude.{slice_get}
 use Rattle.std.specs.Option.{option_map_or}
 use mathlib.Core.List.{IsPrefix}
@@ -32,7 +32,7 @@ use Rattle.tl_bridge.proofs.ChannelEnd.{inbox-due, all-taken, handed-accepted, s
 module _ {C M : ℕ} (cw : IsWidth C) (mw : IsWidth M) (a : List (BeatOf HeadA C)) (d : List (BeatOf HeadD M)) (i j : ℕ) (s : Bridge C M) (x : Past C M)
     (stands : StandsFor s x) (run : Run a d i j x.client x.manager) (homed : IsHomed rules_a x.a) where
   -- what the accepted beats of A make due is the far list of the definitions
-  due-a : due rules_a C M x.a.accepted x.a.homes ≡ due_far_a a d i
+  pub due-a : due rules_a C M x.a.accepted x.a.homes ≡ due_far_a a d i
   due-a =
       let near : 0 < C = (width_bounds C cw).0 in
       let far : 0 < M = (width_bounds M mw).0 in
@@ -42,7 +42,7 @@ module _ {C M : ℕ} (cw : IsWidth C) (mw : IsWidth M) (a : List (BeatOf HeadA C
       far_a_given near far a d i j x.client is.client
 
   -- what the accepted beats of D make due is the far list of the definitions
-  due-d : due rules_d M C x.d.accepted x.d.homes ≡ due_far_d a d j
+  pub due-d : due rules_d M C x.d.accepted x.d.homes ≡ due_far_d a d j
   due-d =
       let near : 0 < C = (width_bounds C cw).0 in
       let far : 0 < M = (width_bounds M mw).0 in

@@ -1,5 +1,5 @@
 //! What becomes of the next beat of a channel in a round of a run.
-ghost use Rattle.std.specs.Prelude.{◌≡◌, IfSome, IsNone};
+ghost use Rattle.std.specs.Prelude.{◌≡◌, ◌≢◌, ◌↔◌, ℕ, IsTrue, IfSome, IsNone};
 ghost use Rattle.tl_sides.specs.declared.per_channel.PerChannel.{PerChannel};
 ghost use Rattle.tl_bridge.specs.Inner.Running.{AreStopped, HaveRoomToCount, all_stopped, counted, steps};
 
@@ -29,6 +29,16 @@ pub(crate) enum Offered {
 }
 
 impl Offered {
+    // Whether it is accepted.
+    pub(crate) fn is_accepted(&self) -> bool
+        ensures { IsTrue result ↔ (steps self.now ≢ 0) }
+    {
+        match self {
+            Offered::Accepted => true,
+            Offered::NotReady | Offered::Stopped(_) => false,
+        }
+    }
+
     // How many beats were accepted.
     fn steps(&self) -> usize
         ensures { result ≡ steps self.now }

@@ -1,13 +1,15 @@
 //! The rounds of a run in one thread, and how each channel ends.
 ghost use Rattle.std.specs.Prelude.{◌≡◌, ◌↔◌, IsTrue, IfSome, IsNone};
 ghost use Rattle.tl_lanes.specs.Lanes.{IsWidth};
-ghost use Rattle.tl_sides.specs.Bridges.{Past, StandsFor};
-ghost use Rattle.tl_bridge.specs.Scripts.{HasShortLists, near_beats};
+ghost use Rattle.tl_settle.specs.Outcomes.{Beats};
+ghost use Rattle.tl_sides.specs.Bridges.{Bridge, Past, StandsFor};
+ghost use Rattle.tl_bridge.specs.Scripts.{EndsIn, HasShortLists, near_beats};
 ghost use Rattle.tl_bridge.specs.Inner.Arriving.{HasRoomFor, KeepsRoom, beats_of};
 ghost use Rattle.tl_bridge.specs.Inner.Running.{IsAt, IsUnderWay, IsNew, HasRound, HasEnded, AreStopped, counted, no_beats, standing_count, all_standing, all_under_way, all_stopped};
 
 use crate::channel_state::{Offered, Stop, add_accepted, all_stops};
 use crate::offers::offer_on_each;
+use crate::outcome::{Outcome, verdict};
 use crate::taken::{Taken, take_from_each};
 use tl_ring::Standing;
 use tl_sides::{PerChannel, Standings, SyncBridge};
@@ -30,7 +32,7 @@ fn is_empty(standing: &Standing) -> bool
 }
 
 // Whether nothing is under way.
-fn are_empty(standings: &Standings) -> bool
+pub(crate) fn are_empty(standings: &Standings) -> bool
     ensures { IsTrue result ↔ (all_standing standings.now ≡ 0) }
 {
     is_empty(&standings.a)
@@ -119,5 +121,34 @@ pub(crate) fn run_rounds<const C: usize, const M: usize>(
         if let Some(stops) = stops_at_rest(bridge, &offers) {
             return End { at, stops, rounds };
         }
+    }
+}
+
+// The outcome of a run that has ended.
+pub(crate) fn outcome_of<const C: usize, const M: usize>(
+    end: End,
+    far: Taken<C, M>,
+) -> Outcome<C, M>
+    requires client { IsWidth C }
+    requires manager { IsWidth M }
+    ensures { (near : Beats C M) (s : Bridge C M) → HasEnded near end.at (beats_of far.entry) s end.stops end.rounds →
+        EndsIn near result }
+{
+    let verdicts = [
+        verdict(&end.stops.a, end.at.a, far.a.len()),
+        verdict(&end.stops.b, end.at.b, far.b.len()),
+        verdict(&end.stops.c, end.at.c, far.c.len()),
+        verdict(&end.stops.d, end.at.d, far.d.len()),
+        verdict(&end.stops.e, end.at.e, far.e.len()),
+    ];
+    let Taken { a, b, c, d, e } = far;
+    Outcome {
+        a,
+        b,
+        c,
+        d,
+        e,
+        verdicts,
+        rounds: end.rounds,
     }
 }

@@ -5,8 +5,8 @@ ghost use Rattle.tl_lanes.specs.Lanes.{IsWidth};
 ghost use Rattle.tl_bridge.specs.declared.outcome.RunFault.TheVariants.{RingSize, Stalled};
 ghost use Rattle.tl_bridge.specs.Scripts.{HasShortLists, SettlesTo};
 
-use crate::outcome::{Outcome, RunFault, verdict};
-use crate::rounds::run_rounds;
+use crate::outcome::{Outcome, RunFault};
+use crate::rounds::{outcome_of, run_rounds};
 use crate::taken::Taken;
 use std::alloc::Global;
 use tl_sides::SyncBridge;
@@ -42,21 +42,5 @@ pub fn run_sync<const C: usize, const M: usize>(
     let mut bridge = SyncBridge::<C, M>::new(alloc, ring)?;
     let mut far = Taken::new(alloc, script)?;
     let end = run_rounds(&mut bridge, script, &mut far);
-    let verdicts = [
-        verdict(&end.stops.a, end.at.a, far.a.len()),
-        verdict(&end.stops.b, end.at.b, far.b.len()),
-        verdict(&end.stops.c, end.at.c, far.c.len()),
-        verdict(&end.stops.d, end.at.d, far.d.len()),
-        verdict(&end.stops.e, end.at.e, far.e.len()),
-    ];
-    let Taken { a, b, c, d, e } = far;
-    Ok(Outcome {
-        a,
-        b,
-        c,
-        d,
-        e,
-        verdicts,
-        rounds: end.rounds,
-    })
+    Ok(outcome_of(end, far))
 }

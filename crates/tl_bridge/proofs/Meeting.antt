@@ -1,0 +1,340 @@
+-- Both sides of a run at a meeting: they are as one bridge in one thread.
+use Rattle.std.proofs.Common.{◌≡◌, ◌+◌, ◌≤◌, ◌<◌, ◌↔◌, ◌⊎◌, ◌++◌, ℕ, Bool, true, List, length, refl, sym, ap, subst, ◌∙◌, arith, length-append, ⊎_elim}
+use mathlib.Core.List.{IsPrefix}
+use Rattle.tl_lanes.specs.Lanes.{IsWidth}
+use Rattle.tl_msg.specs.Rules.{Rules}
+use Rattle.tl_msg.specs.Tables.{rules_a, rules_b, rules_c, rules_d, rules_e}
+use Rattle.tl_msg.specs.declared.beat.BeatOf.{BeatOf}
+use Rattle.tl_ring.specs.Crossing.{World}
+use Rattle.tl_ring.specs.Ends.{Sending, Taking, Met, Meets, seen_by, sent, received, known_items}
+use Rattle.tl_ring.specs.Pipe as piping
+use Rattle.tl_ring.specs.declared.standing.Standing.{Standing}
+use Rattle.tl_settle.specs.Histories.{asked, answered}
+use Rattle.tl_settle.specs.Rounds as rounds
+use Rattle.tl_settle.specs.Rounds.{round, client_rests, manager_rests}
+use Rattle.tl_settle.specs.Settling.{far_a, far_d}
+use Rattle.tl_settle.specs.Outcomes.{Beats}
+use Rattle.tl_sides.specs.Bridges.{StandsFor}
+use Rattle.tl_sides.specs.declared.per_channel.PerChannel.{PerChannel}
+use Rattle.tl_pair.specs.Ends.{AreStanding}
+use Rattle.tl_pair.specs.Sides.{ClientState, ManagerState, ClientPast, ManagerPast, ClientStandsFor, ManagerStandsFor, AreSides, SidesMeet, new_client, new_manager}
+use Rattle.tl_bridge.specs.Scripts.{IsShort}
+use Rattle.tl_bridge.specs.Inner.Arriving.{HasRoomFor, beats_of}
+use Rattle.tl_bridge.specs.Inner.Running.{IsAt, AllStop, HasEnded, all_progress, all_stopped, all_under_way, no_beats, progress, standing_count, under_way}
+use Rattle.tl_bridge.specs.Inner.Sides.{ClientIsAt, ManagerIsAt, ClientMayPlay, ManagerMayPlay, ClientHasPlayed, ManagerHasPlayed, HasMet, HasPlayed, AreNew, bridge_of, met_progress, none_ready, past_of, pipe_of}
+use Rattle.tl_bridge.specs.declared.channel_state.Offered.{Offered}
+use Rattle.tl_bridge.specs.declared.channel_state.Stop.{Stop}
+use Rattle.tl_bridge.specs.declared.outcome.RunFault.{RunFault}
+use Rattle.tl_bridge.specs.declared.outcome.RunFault.TheVariants.{RingSize, Stalled}
+use Rattle.tl_bridge.specs.declared.taken.Taken.{Taken}
+use Rattle.tl_bridge.proofs.ChannelEnd.{inbox-due}
+use Rattle.tl_bridge.proofs.ChannelOffer.{sent-passed}
+use Rattle.tl_bridge.proofs.Ended.{progress-is, progress-ends, run_end}
+use Rattle.tl_bridge.proofs.Round.{counts-fit, inboxes-fit}
+use Rattle.tl_bridge.proofs.RunRound.{due-a, due-d}
+
+-- ---- one channel
+
+module _ {K A H : Type 0} (r : Rules H) {w v : ℕ} (s : Sending K A H v) (t : Taking K A H v) (x : World H w v) (taken : List (BeatOf H v)) (m : Meets r s t x taken) where
+  -- both ends are as a pipe
+  met-pipe : piping.StandsFor r (pipe_of s t) (seen_by r t x taken)
+  met-pipe = record {
+    near = m.sends.pipe.near;
+    far = m.sends.pipe.far;
+    converter = m.sends.pipe.converter;
+    room = m.sends.pipe.room;
+    stage = m.sends.pipe.stage;
+    ring = refl;
+    inbox = refl;
+    closed = m.sends.pipe.closed;
+    reached = m.reached;
+    crosses = m.crosses;
+  }
+
+  -- how far the channel has come
+  met-progress : (n : ℕ) → received t ++ known_items t ≡ sent s → progress n (seen_by r t x taken) ≡ n + length (sent s) + length (received t)
+  met-progress n ring =
+      let out : length (received t) ≡ length taken + length t.inbox = ap length m.takes ∙ length-append taken t.inbox in
+      let into : length (sent s) ≡ length (received t) + length (known_items t) = sym (ap length ring) ∙ length-append (received t) (known_items t) in
+      sums n (length taken) (length t.inbox) (length (known_items t)) (length (sent s)) (length (received t)) out into
+    where
+      sums : (n taken inbox ring into out : ℕ) → out ≡ taken + inbox → into ≡ out + ring → n + (taken + inbox + ring) + (taken + inbox) ≡ n + into + out
+      sums n taken inbox ring into out e f = omega arith
+
+  -- how many beats are under way
+  met-standing : (n : Standing) → AreStanding s t n → standing_count n ≡ under_way (seen_by r t x taken)
+  met-standing n is = sums is.staged is.in_ring is.inbox (ap length m.sends.pipe.stage)
+    where
+      sums : {p q u p' q' u' p'' : ℕ} → p ≡ p' → q ≡ q' → u ≡ u' → p' ≡ p'' → p + q + u ≡ p'' + q' + u'
+      sums e f g h = omega arith
+
+-- an end that has met has come as far as before
+met-sent : {K A H : Type 0} {v : ℕ} (s : Sending K A H v) (t : Taking K A H v) (s' : Sending K A H v) (t' : Taking K A H v) → Met s t s' t' →
+    length (sent s') ≡ length (sent s)
+met-sent s t s' t' m = ap length m.same_sent
+
+met-received : {K A H : Type 0} {v : ℕ} (s : Sending K A H v) (t : Taking K A H v) (s' : Sending K A H v) (t' : Taking K A H v) → Met s t s' t' →
+    length (received t') ≡ length (received t)
+met-received s t s' t' m = ap length m.same_received
+
+five : {a b c d e a' b' c' d' e' : ℕ} → a ≡ a' → b ≡ b' → c ≡ c' → d ≡ d' → e ≡ e' → a + b + c + d + e ≡ a' + b' + c' + d' + e'
+five f g h i j = omega arith
+
+-- ---- both sides
+
+module _ {A : Type 0} {C M : ℕ} (near : Beats C M) (n : PerChannel ℕ) (far : Beats M C) (s : ClientState A C M) (t : ManagerState A C M) (h : HasMet near n far s t) where
+  -- the bridge that both are stands for what has happened
+  pub met-stands : StandsFor (bridge_of s t) (past_of s t h.client h.manager)
+  met-stands = record {
+    a = met-pipe rules_a s.a t.a h.client.a (asked h.manager.history) h.meet.a;
+    b = met-pipe rules_b t.b s.b h.manager.b h.client.b h.meet.b;
+    c = met-pipe rules_c s.c t.c h.client.c h.manager.c h.meet.c;
+    d = met-pipe rules_d t.d s.d h.manager.d (answered h.client.history) h.meet.d;
+    e = met-pipe rules_e s.e t.e h.client.e h.manager.e h.meet.e;
+    client_asked = h.meet.client.accepted;
+    client_answered = refl;
+    manager_asked = refl;
+    manager_answered = h.meet.manager.accepted;
+    homes = h.meet.manager.homes;
+    client = h.meet.client.book;
+    manager = h.meet.manager.book;
+  }
+
+  -- the run has come as far as both sides say
+  pub met-way : met_progress n s t ≡ all_progress n (past_of s t h.client h.manager)
+  met-way =
+      sums _ _ _ _ _ _ _ _ _ _ _ _ _ _ _ _ _ _ _ _
+      (met-progress rules_a s.a t.a h.client.a (asked h.manager.history) h.meet.a n.a h.ring_a)
+      (met-progress rules_b t.b s.b h.manager.b h.client.b h.meet.b n.b h.ring_b)
+      (met-progress rules_c s.c t.c h.client.c h.manager.c h.meet.c n.c h.ring_c)
+      (met-progress rules_d t.d s.d h.manager.d (answered h.client.history) h.meet.d n.d h.ring_d)
+      (met-progress rules_e s.e t.e h.client.e h.manager.e h.meet.e n.e h.ring_e)
+    where
+      sums : (a b c d e ka ia oa kb ib ob kc ic oc kd id od ke ie oe : ℕ) → a ≡ ka + ia + oa → b ≡ kb + ib + ob → c ≡ kc + ic + oc → d ≡ kd + id + od → e ≡ ke + ie + oe →
+          (ka + kc + ke + ia + ic + ie + ob + od) + (kb + kd + ib + id + oa + oc + oe) ≡ a + b + c + d + e
+      sums a b c d e ka ia oa kb ib ob kc ic oc kd id od ke ie oe p q r s t = omega arith
+
+  -- where it has ended
+  pub met-ended : (stops : PerChannel Stop) (count : ℕ) → AllStop near n (past_of s t h.client h.manager) (all_stopped stops) →
+      all_under_way (past_of s t h.client h.manager) ≡ 0 → count ≤ met_progress n s t + 1 → HasEnded near n far (bridge_of s t) stops count
+  met-ended stops count stop rest few = record {
+    past = past_of s t h.client h.manager;
+    stands = met-stands;
+    is_at = h.is_at;
+    all_stop = stop;
+    at_rest = rest;
+    few_rounds = subst (λ k. count ≤ k + 1) met-way few;
+  }
+
+  -- it comes no further than this
+  pub met-most : IsWidth C → IsWidth M → met_progress n s t ≤ run_end near
+  met-most cw mw =
+      let x = past_of s t h.client h.manager in
+      subst (λ k. k ≤ run_end near) (progress-is near n far (bridge_of s t) x met-stands h.is_at ∙ sym met-way)
+      (progress-ends near cw mw n far (bridge_of s t) x met-stands h.is_at)
+
+  -- ---- a round begins
+
+  module _ (cw : IsWidth C) (mw : IsWidth M) where
+    -- each side stands at its beginning
+    pub client-begins : ClientIsAt near n.d n.a h.client.history n far.b far.d s none_ready
+    client-begins = record {
+      past = h.client;
+      stands = h.meet.client;
+      moves = client_rests;
+      a_sent = sent-passed rules_a near.a n.a far.a (past_of s t h.client h.manager).a h.client.a h.is_at.a_sent refl refl refl h.client.a.taken refl;
+      c_sent = sent-passed rules_c near.c n.c far.c (past_of s t h.client h.manager).c h.client.c h.is_at.c_sent refl refl refl h.client.c.taken refl;
+      e_sent = sent-passed rules_e near.e n.e far.e (past_of s t h.client h.manager).e h.client.e h.is_at.e_sent refl refl refl h.client.e.taken refl;
+      a_homed = h.is_at.a_homed;
+      c_homed = h.is_at.c_homed;
+      e_homed = h.is_at.e_homed;
+      b_taken = h.is_at.b_sent.taken;
+      d_taken = h.is_at.d_sent.taken;
+      stop_a = tt;
+      stop_c = tt;
+      stop_e = tt;
+    }
+
+    pub manager-begins : ManagerIsAt near n.a n.d h.manager.history n far.a far.c far.e t none_ready
+    manager-begins = record {
+      past = h.manager;
+      stands = h.meet.manager;
+      moves = manager_rests;
+      b_sent = sent-passed rules_b near.b n.b far.b (past_of s t h.client h.manager).b h.manager.b h.is_at.b_sent refl refl refl h.manager.b.taken refl;
+      d_sent = sent-passed rules_d near.d n.d far.d (past_of s t h.client h.manager).d h.manager.d h.is_at.d_sent refl refl refl h.manager.d.taken refl;
+      b_homed = h.is_at.b_homed;
+      a_taken = h.is_at.a_sent.taken;
+      c_taken = h.is_at.c_sent.taken;
+      e_taken = h.is_at.e_sent.taken;
+      stop_b = tt;
+      stop_d = tt;
+    }
+
+    -- all that stands in its inboxes is due
+    pub client-due : IsPrefix (far.d ++ s.d.inbox) (far_d near.a near.d n.d)
+    client-due =
+        let x = past_of s t h.client h.manager in
+        inbox-due rules_d x.d h.meet.d.crosses far.d h.is_at.d_sent.taken (far_d near.a near.d n.d)
+        (due-d cw mw near.a near.d n.a n.d (bridge_of s t) x met-stands h.is_at.run h.is_at.a_homed)
+
+    pub manager-due : IsPrefix (far.a ++ t.a.inbox) (far_a near.a near.d n.a)
+    manager-due =
+        let x = past_of s t h.client h.manager in
+        inbox-due rules_a x.a h.meet.a.crosses far.a h.is_at.a_sent.taken (far_a near.a near.d n.a)
+        (due-a cw mw near.a near.d n.a n.d (bridge_of s t) x met-stands h.is_at.run h.is_at.a_homed)
+
+module _ {A : Type 0} {C M : ℕ} (cw : IsWidth C) (mw : IsWidth M) (near : Beats C M) (short : IsShort near) (n : PerChannel ℕ) (far : Taken C M) (s : ClientState A C M) (t : ManagerState A C M)
+    (h : HasMet near n (beats_of far) s t) (has : HasRoomFor near far) where
+  -- so each side may play
+  pub client-may : ClientMayPlay near n far.b far.d s
+  client-may =
+      let fit = inboxes-fit cw mw near n far (bridge_of s t) (past_of s t h.client h.manager) (met-stands near n (beats_of far) s t h) h.is_at has in
+      record {
+        few = counts-fit cw mw near n (beats_of far) (past_of s t h.client h.manager) h.is_at short;
+        j = n.d;
+        m = n.a;
+        es = h.client.history;
+        is_at = client-begins near n (beats_of far) s t h cw mw;
+        due = client-due near n (beats_of far) s t h cw mw;
+        room_b = fit.b;
+        room_d = fit.d;
+      }
+
+  pub manager-may : ManagerMayPlay near n far.a far.c far.e t
+  manager-may =
+      let fit = inboxes-fit cw mw near n far (bridge_of s t) (past_of s t h.client h.manager) (met-stands near n (beats_of far) s t h) h.is_at has in
+      record {
+        few = counts-fit cw mw near n (beats_of far) (past_of s t h.client h.manager) h.is_at short;
+        i = n.a;
+        m = n.d;
+        es = h.manager.history;
+        is_at = manager-begins near n (beats_of far) s t h cw mw;
+        due = manager-due near n (beats_of far) s t h cw mw;
+        room_a = fit.a;
+        room_c = fit.c;
+        room_e = fit.e;
+      }
+
+-- ---- a meeting
+
+-- both sides after a meeting of these
+pub record Meeting {A : Type 0} {C M : ℕ} (s : ClientState A C M) (t : ManagerState A C M) (s' : ClientState A C M) (t' : ManagerState A C M) (standings : PerChannel Standing) : Type 0 where
+  pub a : Met s.a t.a s'.a t'.a
+  pub b : Met t.b s.b t'.b s'.b
+  pub c : Met s.c t.c s'.c t'.c
+  pub d : Met t.d s.d t'.d s'.d
+  pub e : Met s.e t.e s'.e t'.e
+  pub in_a : AreStanding s'.a t'.a standings.a
+  pub in_b : AreStanding t'.b s'.b standings.b
+  pub in_c : AreStanding s'.c t'.c standings.c
+  pub in_d : AreStanding t'.d s'.d standings.d
+  pub in_e : AreStanding s'.e t'.e standings.e
+
+module _ {A : Type 0} {C M : ℕ} (s : ClientState A C M) (t : ManagerState A C M) (s' : ClientState A C M) (t' : ManagerState A C M) (standings : PerChannel Standing) (m : Meeting s t s' t' standings) where
+  still-sides : AreSides s' t'
+  still-sides = record { a = m.a.pair; b = m.b.pair; c = m.c.pair; d = m.d.pair; e = m.e.pair }
+
+  same-progress : (n : PerChannel ℕ) → met_progress n s' t' ≡ met_progress n s t
+  same-progress n =
+      sums _ _ _ _ _ _ _ _ _ _ _ _ _ _ _ _ _ _ _ _ _ _ _ _ _ (met-sent s.a t.a s'.a t'.a m.a) (met-sent t.b s.b t'.b s'.b m.b) (met-sent s.c t.c s'.c t'.c m.c) (met-sent t.d s.d t'.d s'.d m.d) (met-sent s.e t.e s'.e t'.e m.e)
+      (met-received s.a t.a s'.a t'.a m.a) (met-received t.b s.b t'.b s'.b m.b) (met-received s.c t.c s'.c t'.c m.c) (met-received t.d s.d t'.d s'.d m.d) (met-received s.e t.e s'.e t'.e m.e)
+    where
+      sums : (ka kb kc kd ke sa sb sc sd se ra rb rc rd re sa' sb' sc' sd' se' ra' rb' rc' rd' re' : ℕ) → sa' ≡ sa → sb' ≡ sb → sc' ≡ sc → sd' ≡ sd → se' ≡ se →
+          ra' ≡ ra → rb' ≡ rb → rc' ≡ rc → rd' ≡ rd → re' ≡ re →
+          (ka + kc + ke + sa' + sc' + se' + rb' + rd') + (kb + kd + sb' + sd' + ra' + rc' + re') ≡ (ka + kc + ke + sa + sc + se + rb + rd) + (kb + kd + sb + sd + ra + rc + re)
+      sums v0 v1 v2 v3 v4 v5 v6 v7 v8 v9 v10 v11 v12 v13 v14 v15 v16 v17 v18 v19 v20 v21 v22 v23 v24 a b c d e f g h i j = omega arith
+
+  -- two new sides have met
+  pub new-met : (near : Beats C M) (n : PerChannel ℕ) (far : Beats M C) → n ≡ record { a = 0; b = 0; c = 0; d = 0; e = 0 } → far ≡ no_beats → (new : AreNew s t) →
+      SidesMeet s' t' (new_client new.space) (new_manager new.space) → HasMet near n far s' t'
+  new-met near n far none empty new meets =
+      let l = new.some in
+      let begins : IsAt near (record { a = 0; b = 0; c = 0; d = 0; e = 0 }) no_beats (past_of s' t' (new_client new.space) (new_manager new.space)) = record {
+        run = rounds.begins;
+        a_sent = record { accepted = refl; most = omega arith; lawful = refl; taken = refl; shuts = λ k. search k; room = l };
+        b_sent = record { accepted = refl; most = omega arith; lawful = refl; taken = refl; shuts = λ k. search k; room = l };
+        c_sent = record { accepted = refl; most = omega arith; lawful = refl; taken = refl; shuts = λ k. search k; room = l };
+        d_sent = record { accepted = refl; most = omega arith; lawful = refl; taken = refl; shuts = λ k. search k; room = l };
+        e_sent = record { accepted = refl; most = omega arith; lawful = refl; taken = refl; shuts = λ k. search k; room = l };
+        a_homed = refl;
+        b_homed = refl;
+        c_homed = refl;
+        e_homed = refl;
+      } in
+      record {
+        client = new_client new.space;
+        manager = new_manager new.space;
+        sides = still-sides;
+        meet = meets;
+        ring_a = m.a.ring;
+        ring_b = m.b.ring;
+        ring_c = m.c.ring;
+        ring_d = m.d.ring;
+        ring_e = m.e.ring;
+        is_at = subst (λ k. IsAt near k far (past_of s' t' (new_client new.space) (new_manager new.space))) (sym none)
+            (subst (λ k. IsAt near (record { a = 0; b = 0; c = 0; d = 0; e = 0 }) k (past_of s' t' (new_client new.space) (new_manager new.space))) (sym empty) begins);
+      }
+
+  -- both sides have played a round, and met
+  pub both-played : (near : Beats C M) (n : PerChannel ℕ) (far far' : Taken C M) (s0 : ClientState A C M) (t0 : ManagerState A C M) (h : HasMet near n (beats_of far) s0 t0) →
+      IsWidth C → IsWidth M → (nc nm : PerChannel ℕ) (oc om : PerChannel Offered) (mc mm moved : Bool) →
+      (client : ClientHasPlayed near n far.b far.d s0 nc far'.b far'.d s oc mc) → (manager : ManagerHasPlayed near n far.a far.c far.e t0 nm far'.a far'.c far'.e t om mm) →
+      (moved ≡ true → (mc ≡ true) ⊎ (mm ≡ true)) →
+      ((x : ClientPast C M) (y : ManagerPast C M) → ClientStandsFor s x → ManagerStandsFor t y → SidesMeet s' t' x y) →
+      HasPlayed near n (beats_of far) s0 t0 (record { a = nc.a; b = nm.b; c = nc.c; d = nm.d; e = nc.e }) (beats_of far') s' t'
+      (record { a = oc.a; b = om.b; c = oc.c; d = om.d; e = oc.e }) moved standings
+  both-played near n far far' s0 t0 h cw mw nc nm oc om mc mm moved client manager which meets =
+      let k = client.is_at n.d n.a h.client.history none_ready (client-begins near n (beats_of far) s0 t0 h cw mw) (client-due near n (beats_of far) s0 t0 h cw mw) in
+      let l = manager.is_at n.a n.d h.manager.history none_ready (manager-begins near n (beats_of far) s0 t0 h cw mw) (manager-due near n (beats_of far) s0 t0 h cw mw) in
+      let n' : PerChannel ℕ = record { a = nc.a; b = nm.b; c = nc.c; d = nm.d; e = nc.e } in
+      let past = past_of s' t' k.past l.past in
+      let met = meets k.past l.past k.stands l.stands in
+      let same = same-progress n' in
+      let least = client.goes.keeps in
+      let least' = manager.goes.keeps in
+      record {
+        met = record {
+          client = k.past;
+          manager = l.past;
+          sides = still-sides;
+          meet = met;
+          ring_a = m.a.ring;
+          ring_b = m.b.ring;
+          ring_c = m.c.ring;
+          ring_d = m.d.ring;
+          ring_e = m.e.ring;
+          is_at = record {
+            run = round n.a n.d nc.a nm.d h.client.history k.past.history h.manager.history l.past.history h.is_at.run k.moves l.moves;
+            a_sent = sent-passed rules_a near.a nc.a k.past.a.taken k.past.a past.a k.a_sent refl refl refl far'.a.items l.a_taken;
+            b_sent = sent-passed rules_b near.b nm.b l.past.b.taken l.past.b past.b l.b_sent refl refl refl far'.b.items k.b_taken;
+            c_sent = sent-passed rules_c near.c nc.c k.past.c.taken k.past.c past.c k.c_sent refl refl refl far'.c.items l.c_taken;
+            d_sent = sent-passed rules_d near.d nm.d l.past.d.taken l.past.d past.d l.d_sent refl refl refl far'.d.items k.d_taken;
+            e_sent = sent-passed rules_e near.e nc.e k.past.e.taken k.past.e past.e k.e_sent refl refl refl far'.e.items l.e_taken;
+            a_homed = k.a_homed;
+            b_homed = l.b_homed;
+            c_homed = k.c_homed;
+            e_homed = k.e_homed;
+          };
+        };
+        stops = record { stop_a = k.stop_a; stop_b = l.stop_b; stop_c = k.stop_c; stop_d = l.stop_d; stop_e = k.stop_e };
+        keeps = keeps-on _ _ _ _ _ least least' same;
+        goes = λ some. ⊎_elim (λ e. let further = client.goes.goes e in goes-left _ _ _ _ _ further least' same) (λ e. let further = manager.goes.goes e in goes-right _ _ _ _ _ least further same) (which some);
+        standing = five (met-standing rules_a s'.a t'.a k.past.a (asked l.past.history) met.a standings.a m.in_a)
+            (met-standing rules_b t'.b s'.b l.past.b k.past.b met.b standings.b m.in_b)
+            (met-standing rules_c s'.c t'.c k.past.c l.past.c met.c standings.c m.in_c)
+            (met-standing rules_d t'.d s'.d l.past.d (answered k.past.history) met.d standings.d m.in_d)
+            (met-standing rules_e s'.e t'.e k.past.e l.past.e met.e standings.e m.in_e);
+      }
+    where
+      keeps-on : (p q p' q' whole : ℕ) → p ≤ p' → q ≤ q' → whole ≡ p' + q' → p + q ≤ whole
+      keeps-on p q p' q' whole f g e = omega arith
+
+      goes-left : (p q p' q' whole : ℕ) → p + 1 ≤ p' → q ≤ q' → whole ≡ p' + q' → p + q + 1 ≤ whole
+      goes-left p q p' q' whole f g e = omega arith
+
+      goes-right : (p q p' q' whole : ℕ) → p ≤ p' → q + 1 ≤ q' → whole ≡ p' + q' → p + q + 1 ≤ whole
+      goes-right p q p' q' whole f g e = omega arith
+
+-- a run that stalls has rings of a lawful size
+pub stalled-apart : (fault : RunFault) (ring : ℕ) → fault ≡ Stalled → 1 ≤ ring → ring ≤ 4096 → (fault ≡ RingSize) ↔ ((ring ≡ 0) ⊎ (4096 < ring))
+stalled-apart fault ring is some most = (λ e. let bad : Stalled ≡ RingSize = sym is ∙ e in cc, λ e. ⊎_elim (λ z. absurd (omega arith)) (λ z. absurd (omega arith)) e)

@@ -1,0 +1,82 @@
+use Rattle.std.proofs.Common.{rules, lit<, ◌+◌, ◌-◌, ◌^◌, ◌<◌, ◌≤◌, ℕ, refl, sym, subst, ◌∙◌, arith, zero-le}
+use Rattle.tl_bridge.specs.Scripts.{near_beats}
+use Rattle.tl_bridge.specs.Inner.Arriving.{beats_of}
+use Rattle.tl_bridge.specs.Inner.Running.{AllStop}
+use Rattle.tl_bridge.specs.Inner.Sides.{past_of}
+use Rattle.tl_bridge.proofs.Ended.{end-few, keeps-room}
+use Rattle.tl_bridge.proofs.SideSizes.{client_small, manager_small}
+use Rattle.tl_bridge.proofs.Meeting.{met-most, met-ended, new-met}
+use Rattle.tl_bridge.proofs.thread_rounds.play_rounds.Goals as goal
+
+pub meet_sides-requires : goal.meet_sides-requires
+meet_sides-requires g c = (client_small g.row.C g.row.M c.requires.client c.requires.manager, (manager_small g.row.C g.row.M c.requires.client c.requires.manager, c.requires.new.sides))
+
+pub rounds-init : goal.rounds-init
+rounds-init g c = record {
+  met = new-met c.args.client.now c.args.manager.now c.meet_sides.new.client c.meet_sides.new.manager c.meet_sides.result
+      (record {
+        a = c.meet_sides.ensures.a;
+        b = c.meet_sides.ensures.b;
+        c = c.meet_sides.ensures.c;
+        d = c.meet_sides.ensures.d;
+        e = c.meet_sides.ensures.e;
+        in_a = c.meet_sides.ensures.standing_a;
+        in_b = c.meet_sides.ensures.standing_b;
+        in_c = c.meet_sides.ensures.standing_c;
+        in_d = c.meet_sides.ensures.standing_d;
+        in_e = c.meet_sides.ensures.standing_e;
+      })
+      (near_beats c.args.script.now) _ (beats_of c.args.far.now) refl c.requires.empty c.requires.new
+      (c.meet_sides.ensures.meets _ _ c.requires.new.client c.requires.new.manager);
+  room = c.requires.room;
+  few = zero-le;
+}
+
+pub round-played-requires : goal.round-played-requires
+round-played-requires g c = (search rules, (search rules, (client_small g.row.C g.row.M c.requires.client c.requires.manager, (manager_small g.row.C g.row.M c.requires.client c.requires.manager, (lit< tt, (lit< tt, (c.requires.client, (c.requires.manager, (c.requires.short, (c.rounds.invariant.room, c.rounds.invariant.met))))))))))
+
+-- a count below its bound
+counts-on : (k l m : ℕ) → k ≤ l → l ≤ m → m < 2 ^ 60 → k + 1 < 2 ^ 64
+counts-on k l m f g h = omega arith
+
+pub overflow_add-rounds : goal.overflow_add-rounds
+overflow_add-rounds g c =
+    let i = c.rounds.invariant in
+    let l : c.rounds.rounds + 1 < 2 ^ 64 = counts-on _ _ _ i.few (met-most (near_beats c.args.script.now) c.rounds.at (beats_of c.rounds.far) c.rounds.client c.rounds.manager i.met c.requires.client c.requires.manager)
+    (end-few (near_beats c.args.script.now) c.requires.client c.requires.manager c.requires.short) in
+    omega (arith, l)
+
+-- one round more
+last-one : (k l m : ℕ) → k ≤ l → l ≤ m → k + 1 ≤ m + 1
+last-one k l m g h = omega arith
+
+pub returns-in-Some-clause-ended : goal.returns-in-Some-clause-ended
+returns-in-Some-clause-ended g c =
+    let h = c.round-played.ensures.round in
+    let near = near_beats c.args.script.now in
+    met-ended near c.round-played.new.at (beats_of c.round-played.new.far) c.round-played.new.client c.round-played.new.manager h.met c.in-Some.stops (c.rounds.rounds + 1)
+    (subst (λ o. AllStop near c.round-played.new.at (past_of c.round-played.new.client c.round-played.new.manager h.met.client h.met.manager) o) c.in-Some.ensures.stops h.stops)
+    (sym h.standing ∙ c.in-Some.ensures.rests) (last-one _ _ _ c.rounds.invariant.few h.keeps)
+
+-- a number that grows is nearer to its bound
+nearer : (k l m : ℕ) → k + 1 ≤ l → l ≤ m → m - l < m - k
+nearer k l m g h = omega arith
+
+pub rounds-smaller : goal.rounds-smaller
+rounds-smaller g c =
+    let h = c.round-played.ensures.round in
+    nearer _ _ _ (h.goes (search rules))
+    (met-most (near_beats c.args.script.now) c.round-played.new.at (beats_of c.round-played.new.far) c.round-played.new.client c.round-played.new.manager h.met c.requires.client c.requires.manager)
+
+-- and so the rounds are no more than that
+one-more : (k l m : ℕ) → k ≤ l → l + 1 ≤ m → k + 1 ≤ m
+one-more k l m g h = omega arith
+
+pub rounds-preserved : goal.rounds-preserved
+rounds-preserved g c =
+    let h = c.round-played.ensures.round in
+    record {
+      met = h.met;
+      room = keeps-room (near_beats c.args.script.now) c.rounds.far c.round-played.new.far c.round-played.ensures.capacity c.rounds.invariant.room;
+      few = one-more _ _ _ c.rounds.invariant.few (h.goes (search rules));
+    }

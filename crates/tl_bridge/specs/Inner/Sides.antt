@@ -1,0 +1,239 @@
+-- What each side of a run does within a round, and what both have come to at a meeting. Only contracts of private functions cite these words.
+use Rattle.std.specs.Prelude.{◌≡◌, ◌+◌, ◌≤◌, ◌++◌, ℕ, Bool, true, List, length, map, vec_len, vec_capacity}
+use Rattle.std.specs.Global.{Vec}
+use mathlib.Core.List.{IsPrefix}
+use Rattle.tl_msg.specs.Tables.{rules_a, rules_b, rules_c, rules_d, rules_e}
+use Rattle.tl_msg.specs.declared.head.HeadA.{HeadA}
+use Rattle.tl_msg.specs.declared.head.HeadB.{HeadB}
+use Rattle.tl_msg.specs.declared.head.HeadC.{HeadC}
+use Rattle.tl_msg.specs.declared.head.HeadD.{HeadD}
+use Rattle.tl_msg.specs.declared.head.HeadE.{HeadE}
+use Rattle.tl_msg.specs.declared.beat.BeatOf.{BeatOf}
+use Rattle.tl_ring.specs.Ends.{Sending, Taking, seen_by, sent, received, known_items, room}
+use Rattle.tl_ring.specs.Pipe.{Pipe}
+use Rattle.tl_ring.specs.declared.standing.Standing.{Standing}
+use Rattle.tl_settle.specs.Histories.{Event, Ask, Answer, asked, answered, client_answer, manager_answer, manager_home}
+use Rattle.tl_settle.specs.Rounds.{ClientMoves, ManagerMoves}
+use Rattle.tl_settle.specs.Settling.{far_a, far_d}
+use Rattle.tl_settle.specs.Outcomes.{Beats}
+use Rattle.tl_sides.specs.declared.per_channel.PerChannel.{PerChannel}
+use Rattle.tl_sides.specs.Crossings.{stops_alone}
+use Rattle.tl_sides.specs.Bridges.{Bridge, Past}
+use Rattle.tl_pair.specs.Sides.{ClientState, ManagerState, ClientPast, ManagerPast, ClientStandsFor, ManagerStandsFor, AreSides, SameClient, SameManager, SidesMeet, new_client, new_manager}
+use Rattle.tl_bridge.specs.Inner.Running.{Does, Stops, IsSent, IsHomed, IsAt, AllStop, HaveRoomToCount, all_standing, all_under_way, steps}
+use Rattle.tl_bridge.specs.declared.channel_state.Offered.{Offered}
+use Rattle.tl_bridge.specs.declared.channel_state.Offered.TheVariants.{NotReady}
+
+-- no channel was offered a beat
+abbrev pub none_ready : PerChannel Offered
+none_ready = record { a = NotReady; b = NotReady; c = NotReady; d = NotReady; e = NotReady }
+
+-- how many beats were accepted on all channels
+abbrev pub all_steps : PerChannel Offered → ℕ
+all_steps o = steps o.a + steps o.b + steps o.c + steps o.d + steps o.e
+
+-- ---- what no call but a pump and a fetch changes
+
+module _ {A : Type 0} {C M : ℕ} where
+  -- a side's ends of the rings are as they were
+  pub record SameClientEnds (s s' : ClientState A C M) : Type 0 where
+    pub a : s'.a.producer ≡ s.a.producer
+    pub b : s'.b.consumer ≡ s.b.consumer
+    pub c : s'.c.producer ≡ s.c.producer
+    pub d : s'.d.consumer ≡ s.d.consumer
+    pub e : s'.e.producer ≡ s.e.producer
+
+  pub record SameManagerEnds (t t' : ManagerState A C M) : Type 0 where
+    pub a : t'.a.consumer ≡ t.a.consumer
+    pub b : t'.b.producer ≡ t.b.producer
+    pub c : t'.c.consumer ≡ t.c.consumer
+    pub d : t'.d.producer ≡ t.d.producer
+    pub e : t'.e.consumer ≡ t.e.consumer
+
+  -- how far a side has come: the beats that it accepted, those that it sent, and those that it received
+  abbrev pub client_progress : PerChannel ℕ → ClientState A C M → ℕ
+  client_progress n s = n.a + n.c + n.e + length (sent s.a) + length (sent s.c) + length (sent s.e) + length (received s.b) + length (received s.d)
+
+  abbrev pub manager_progress : PerChannel ℕ → ManagerState A C M → ℕ
+  manager_progress n t = n.b + n.d + length (sent t.b) + length (sent t.d) + length (received t.a) + length (received t.c) + length (received t.e)
+
+  -- the same side has come as far as before at least, and further where something moved
+  pub record ClientGoes (n : PerChannel ℕ) (s : ClientState A C M) (n' : PerChannel ℕ) (s' : ClientState A C M) (moved : Bool) : Type 0 where
+    pub same : SameClient s s'
+    pub keeps : client_progress n s ≤ client_progress n' s'
+    pub goes : moved ≡ true → client_progress n s + 1 ≤ client_progress n' s'
+
+  pub record ManagerGoes (n : PerChannel ℕ) (t : ManagerState A C M) (n' : PerChannel ℕ) (t' : ManagerState A C M) (moved : Bool) : Type 0 where
+    pub same : SameManager t t'
+    pub keeps : manager_progress n t ≤ manager_progress n' t'
+    pub goes : moved ≡ true → manager_progress n t + 1 ≤ manager_progress n' t'
+
+-- ---- offers
+
+module _ {A : Type 0} {C M : ℕ} (near : Beats C M) (n : PerChannel ℕ) where
+  -- a side has offered the next beat of each of its channels, if it might
+  pub record ClientHasOffered (x : ClientPast C M) (s : ClientState A C M) (o : PerChannel Offered) : Type 0 where
+    pub past : ClientPast C M
+    pub stands : ClientStandsFor s past
+    pub beats_a : List (BeatOf HeadA C)
+    pub beats_c : List (BeatOf HeadC C)
+    pub beats_e : List (BeatOf HeadE C)
+    pub history : past.history ≡ x.history ++ map Ask beats_a
+    pub taken : past.b ≡ x.b
+    pub does_a : Does rules_a near.a n.a (client_answer x.history) (λ _. 0) x.a o.a beats_a past.a
+    pub does_c : Does rules_c near.c n.c (stops_alone rules_c x.c.accepted) (λ _. 0) x.c o.c beats_c past.c
+    pub does_e : Does rules_e near.e n.e (stops_alone rules_e x.e.accepted) (λ _. 0) x.e o.e beats_e past.e
+
+  pub record ManagerHasOffered (x : ManagerPast C M) (t : ManagerState A C M) (o : PerChannel Offered) : Type 0 where
+    pub past : ManagerPast C M
+    pub stands : ManagerStandsFor t past
+    pub beats_b : List (BeatOf HeadB M)
+    pub beats_d : List (BeatOf HeadD M)
+    pub history : past.history ≡ x.history ++ map Answer beats_d
+    pub taken_c : past.c ≡ x.c
+    pub taken_e : past.e ≡ x.e
+    pub does_b : Does rules_b near.b n.b (stops_alone rules_b x.b.accepted) (λ _. 0) x.b o.b beats_b past.b
+    pub does_d : Does rules_d near.d n.d (manager_answer x.history) (λ b. manager_home x.history b.head) x.d o.d beats_d past.d
+
+-- ---- a side within a round
+
+module _ {A : Type 0} {C M : ℕ} (near : Beats C M) where
+  -- Where the client's side stands within a round that began with history es, where m beats of A and j of D were accepted: so many beats of each list
+  -- are accepted now, these far beats are taken, and this became of its last offers
+  pub record ClientIsAt (j m : ℕ) (es : List (Event C)) (n : PerChannel ℕ) (far_of_b : List (BeatOf HeadB C)) (far_of_d : List (BeatOf HeadD C)) (s : ClientState A C M)
+      (o : PerChannel Offered) : Type 0 where
+    pub past : ClientPast C M
+    pub stands : ClientStandsFor s past
+    pub moves : ClientMoves near.a near.d j m es n.a past.history
+    pub a_sent : IsSent rules_a near.a n.a past.a.taken past.a
+    pub c_sent : IsSent rules_c near.c n.c past.c.taken past.c
+    pub e_sent : IsSent rules_e near.e n.e past.e.taken past.e
+    pub a_homed : IsHomed rules_a past.a
+    pub c_homed : IsHomed rules_c past.c
+    pub e_homed : IsHomed rules_e past.e
+    pub b_taken : far_of_b ≡ past.b
+    pub d_taken : far_of_d ≡ answered past.history
+    pub stop_a : Stops rules_a near.a n.a (client_answer past.history) past.a.accepted o.a
+    pub stop_c : Stops rules_c near.c n.c (stops_alone rules_c past.c.accepted) past.c.accepted o.c
+    pub stop_e : Stops rules_e near.e n.e (stops_alone rules_e past.e.accepted) past.e.accepted o.e
+
+  -- the same of the manager's side, in a round that began where i beats of A and m of D were accepted
+  pub record ManagerIsAt (i m : ℕ) (es : List (Event M)) (n : PerChannel ℕ) (far_of_a : List (BeatOf HeadA M)) (far_of_c : List (BeatOf HeadC M)) (far_of_e : List (BeatOf HeadE M))
+      (t : ManagerState A C M) (o : PerChannel Offered) : Type 0 where
+    pub past : ManagerPast C M
+    pub stands : ManagerStandsFor t past
+    pub moves : ManagerMoves near.a near.d i m es n.d past.history
+    pub b_sent : IsSent rules_b near.b n.b past.b.taken past.b
+    pub d_sent : IsSent rules_d near.d n.d past.d.taken past.d
+    pub b_homed : IsHomed rules_b past.b
+    pub a_taken : far_of_a ≡ asked past.history
+    pub c_taken : far_of_c ≡ past.c
+    pub e_taken : far_of_e ≡ past.e
+    pub stop_b : Stops rules_b near.b n.b (stops_alone rules_b past.b.accepted) past.b.accepted o.b
+    pub stop_d : Stops rules_d near.d n.d (manager_answer past.history) past.d.accepted o.d
+
+  -- a side may play a round: it stands at its beginning, and its lists have room for all that stands in its inboxes, all of which is due
+  pub record ClientMayPlay (n : PerChannel ℕ) (far_of_b : Vec (BeatOf HeadB C)) (far_of_d : Vec (BeatOf HeadD C)) (s : ClientState A C M) : Type 0 where
+    pub few : HaveRoomToCount n
+    pub j : ℕ
+    pub m : ℕ
+    pub es : List (Event C)
+    pub is_at : ClientIsAt j m es n far_of_b.items far_of_d.items s none_ready
+    pub due : IsPrefix (far_of_d.items ++ s.d.inbox) (far_d near.a near.d j)
+    pub room_b : vec_len far_of_b + length s.b.inbox ≤ vec_capacity far_of_b
+    pub room_d : vec_len far_of_d + length s.d.inbox ≤ vec_capacity far_of_d
+
+  pub record ManagerMayPlay (n : PerChannel ℕ) (far_of_a : Vec (BeatOf HeadA M)) (far_of_c : Vec (BeatOf HeadC M)) (far_of_e : Vec (BeatOf HeadE M)) (t : ManagerState A C M) : Type 0 where
+    pub few : HaveRoomToCount n
+    pub i : ℕ
+    pub m : ℕ
+    pub es : List (Event M)
+    pub is_at : ManagerIsAt i m es n far_of_a.items far_of_c.items far_of_e.items t none_ready
+    pub due : IsPrefix (far_of_a.items ++ t.a.inbox) (far_a near.a near.d i)
+    pub room_a : vec_len far_of_a + length t.a.inbox ≤ vec_capacity far_of_a
+    pub room_c : vec_len far_of_c + length t.c.inbox ≤ vec_capacity far_of_c
+    pub room_e : vec_len far_of_e + length t.e.inbox ≤ vec_capacity far_of_e
+
+  -- a side has played a round
+  pub record ClientHasPlayed (n : PerChannel ℕ) (far_of_b : Vec (BeatOf HeadB C)) (far_of_d : Vec (BeatOf HeadD C)) (s : ClientState A C M) (n' : PerChannel ℕ)
+      (far_of_b' : Vec (BeatOf HeadB C)) (far_of_d' : Vec (BeatOf HeadD C)) (s' : ClientState A C M) (o : PerChannel Offered) (moved : Bool) : Type 0 where
+    pub goes : ClientGoes n s n' s' moved
+    pub capacity_b : vec_capacity far_of_b' ≡ vec_capacity far_of_b
+    pub capacity_d : vec_capacity far_of_d' ≡ vec_capacity far_of_d
+    pub is_at : (j m : ℕ) (es : List (Event C)) (p : PerChannel Offered) → ClientIsAt j m es n far_of_b.items far_of_d.items s p →
+        IsPrefix (far_of_d.items ++ s.d.inbox) (far_d near.a near.d j) → ClientIsAt j m es n' far_of_b'.items far_of_d'.items s' o
+
+  pub record ManagerHasPlayed (n : PerChannel ℕ) (far_of_a : Vec (BeatOf HeadA M)) (far_of_c : Vec (BeatOf HeadC M)) (far_of_e : Vec (BeatOf HeadE M)) (t : ManagerState A C M) (n' : PerChannel ℕ)
+      (far_of_a' : Vec (BeatOf HeadA M)) (far_of_c' : Vec (BeatOf HeadC M)) (far_of_e' : Vec (BeatOf HeadE M)) (t' : ManagerState A C M) (o : PerChannel Offered) (moved : Bool) : Type 0 where
+    pub goes : ManagerGoes n t n' t' moved
+    pub capacity_a : vec_capacity far_of_a' ≡ vec_capacity far_of_a
+    pub capacity_c : vec_capacity far_of_c' ≡ vec_capacity far_of_c
+    pub capacity_e : vec_capacity far_of_e' ≡ vec_capacity far_of_e
+    pub is_at : (i m : ℕ) (es : List (Event M)) (p : PerChannel Offered) → ManagerIsAt i m es n far_of_a.items far_of_c.items far_of_e.items t p →
+        IsPrefix (far_of_a.items ++ t.a.inbox) (far_a near.a near.d i) → ManagerIsAt i m es n' far_of_a'.items far_of_c'.items far_of_e'.items t' o
+
+-- ---- a meeting
+
+-- the pipe that has all that stands between two ends of a ring, once they have met
+abbrev pub pipe_of : {K A H : Type 0} {v : ℕ} → Sending K A H v → Taking K A H v → Pipe H v
+pipe_of s t = record { converter = s.converter; room = room s; stage = s.stage; ring = known_items t; inbox = t.inbox; closed = s.closed }
+
+module _ {A : Type 0} {C M : ℕ} where
+  -- the bridge in one thread that both sides are, once they have met
+  abbrev pub bridge_of : ClientState A C M → ManagerState A C M → Bridge C M
+  bridge_of s t = record {
+    a = pipe_of s.a t.a;
+    b = pipe_of t.b s.b;
+    c = pipe_of s.c t.c;
+    d = pipe_of t.d s.d;
+    e = pipe_of s.e t.e;
+    client = s.book;
+    manager = t.book;
+  }
+
+  -- and what has happened at it
+  abbrev pub past_of : ClientState A C M → ManagerState A C M → ClientPast C M → ManagerPast C M → Past C M
+  past_of s t x y = record {
+    client = x.history;
+    manager = y.history;
+    a = seen_by rules_a t.a x.a (asked y.history);
+    b = seen_by rules_b s.b y.b x.b;
+    c = seen_by rules_c t.c x.c y.c;
+    d = seen_by rules_d s.d y.d (answered x.history);
+    e = seen_by rules_e t.e x.e y.e;
+  }
+
+  -- how far a run has come at a meeting
+  abbrev pub met_progress : PerChannel ℕ → ClientState A C M → ManagerState A C M → ℕ
+  met_progress n s t = client_progress n s + manager_progress n t
+
+  -- both sides have met, where so many beats of each list were accepted and these far beats taken
+  pub record HasMet (near : Beats C M) (n : PerChannel ℕ) (far : Beats M C) (s : ClientState A C M) (t : ManagerState A C M) : Type 0 where
+    pub client : ClientPast C M
+    pub manager : ManagerPast C M
+    pub sides : AreSides s t
+    pub meet : SidesMeet s t client manager
+    -- each taking end knows all of its ring
+    pub ring_a : received t.a ++ known_items t.a ≡ sent s.a
+    pub ring_b : received s.b ++ known_items s.b ≡ sent t.b
+    pub ring_c : received t.c ++ known_items t.c ≡ sent s.c
+    pub ring_d : received s.d ++ known_items s.d ≡ sent t.d
+    pub ring_e : received t.e ++ known_items t.e ≡ sent s.e
+    pub is_at : IsAt near n far (past_of s t client manager)
+
+  -- a round: where both sides meet after it, why each channel stands still where it does, and that the run has come further in it where anything moved
+  pub record HasPlayed (near : Beats C M) (n : PerChannel ℕ) (far : Beats M C) (s : ClientState A C M) (t : ManagerState A C M) (n' : PerChannel ℕ) (far' : Beats M C)
+      (s' : ClientState A C M) (t' : ManagerState A C M) (o : PerChannel Offered) (moved : Bool) (standings : PerChannel Standing) : Type 0 where
+    pub met : HasMet near n' far' s' t'
+    pub stops : AllStop near n' (past_of s' t' met.client met.manager) o
+    pub keeps : met_progress n s t ≤ met_progress n' s' t'
+    pub goes : moved ≡ true → met_progress n s t + 1 ≤ met_progress n' s' t'
+    pub standing : all_standing standings ≡ all_under_way (past_of s' t' met.client met.manager)
+
+  -- two new sides
+  pub record AreNew (s : ClientState A C M) (t : ManagerState A C M) : Type 0 where
+    pub sides : AreSides s t
+    pub space : ℕ
+    pub some : 1 ≤ space
+    pub client : ClientStandsFor s (new_client space)
+    pub manager : ManagerStandsFor t (new_manager space)

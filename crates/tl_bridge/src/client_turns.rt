@@ -1,0 +1,248 @@
+//! What the client's side does in a round of a run in two threads.
+ghost use Rattle.std.specs.Prelude.{◌≡◌, ◌+◌, ◌++◌, ◌≤◌, ℕ, List, length, map, vec_len, vec_capacity};
+ghost use Rattle.tl_lanes.specs.Lanes.{IsWidth};
+ghost use Rattle.tl_msg.specs.Tables.{rules_a, rules_c, rules_e};
+ghost use Rattle.tl_msg.specs.declared.head.HeadA.{HeadA};
+ghost use Rattle.tl_msg.specs.declared.head.HeadB.{HeadB};
+ghost use Rattle.tl_msg.specs.declared.head.HeadC.{HeadC};
+ghost use Rattle.tl_msg.specs.declared.head.HeadD.{HeadD};
+ghost use Rattle.tl_msg.specs.declared.head.HeadE.{HeadE};
+ghost use Rattle.tl_msg.specs.declared.beat.BeatOf.{BeatOf};
+ghost use Rattle.tl_ring.specs.Crossing.{World};
+ghost use Rattle.tl_settle.specs.Histories.{Event, Ask, client_answer};
+ghost use Rattle.tl_sides.specs.Crossings.{stops_alone};
+ghost use Rattle.tl_pair.specs.Sides.{ClientPast, ClientStandsFor, client_takes_b, client_takes_d};
+ghost use Rattle.tl_bridge.specs.Scripts.{HasShortLists, near_beats};
+ghost use Rattle.tl_bridge.specs.declared.channel_state.Offered.TheVariants.{NotReady};
+ghost use Rattle.tl_bridge.specs.Inner.Running.{Does, HaveRoomToCount, counted};
+ghost use Rattle.tl_bridge.specs.Inner.Sides.{SameClientEnds, ClientHasOffered, ClientGoes, ClientIsAt, ClientMayPlay, ClientHasPlayed};
+
+use crate::channel_state::{Offered, Stop, add_accepted};
+use crate::gates::Gate;
+use crate::turns::Turn;
+use tl_msg::{Beat, ChA, ChB, ChC, ChD, ChE};
+use tl_pair::ClientSide;
+use tl_sides::PerChannel;
+use tl_trace::Script;
+
+// The client's side takes all that stands in the inbox of B.
+fn take_all_b<const C: usize, const M: usize>(
+    side: &mut ClientSide<C, M>,
+    far: &mut Vec<Beat<ChB, C>>,
+)
+    requires width { IsWidth C }
+    requires past { (x : ClientPast C M) × ClientStandsFor side.old x }
+    requires room { vec_len far.old + length side.old.b.inbox ≤ vec_capacity far.old }
+    ensures taken { (x : ClientPast C M) → ClientStandsFor side.old x →
+        ClientStandsFor side.new (client_takes_b side.old.b.inbox x) }
+    ensures far { far.new.items ≡ far.old.items ++ side.old.b.inbox }
+    ensures capacity { vec_capacity far.new ≡ vec_capacity far.old }
+    ensures rest { side.new ≡ record side.old { b = side.new.b } }
+    ensures end { side.new.b.consumer ≡ side.old.b.consumer }
+{
+    'beats: while let Some(beat) = side.take_b() {
+        far.push_reserved(beat);
+    }
+}
+
+// The client's side takes all that stands in the inbox of D.
+fn take_all_d<const C: usize, const M: usize>(
+    side: &mut ClientSide<C, M>,
+    far: &mut Vec<Beat<ChD, C>>,
+)
+    requires width { IsWidth C }
+    requires past { (x : ClientPast C M) × ClientStandsFor side.old x }
+    requires room { vec_len far.old + length side.old.d.inbox ≤ vec_capacity far.old }
+    ensures taken { (x : ClientPast C M) → ClientStandsFor side.old x →
+        ClientStandsFor side.new (client_takes_d side.old.d.inbox x) }
+    ensures far { far.new.items ≡ far.old.items ++ side.old.d.inbox }
+    ensures capacity { vec_capacity far.new ≡ vec_capacity far.old }
+    ensures rest { side.new ≡ record side.old { d = side.new.d; book = side.new.book } }
+    ensures end { side.new.d.consumer ≡ side.old.d.consumer }
+{
+    'beats: while let Some(beat) = side.take_d() {
+        far.push_reserved(beat);
+    }
+}
+
+// The client's side offers the next beat of A, of which `at` were accepted.
+fn offer_a<const C: usize, const M: usize>(
+    side: &mut ClientSide<C, M>,
+    beats: &[Beat<ChA, C>],
+    at: usize,
+) -> Offered
+    requires near { IsWidth C }
+    requires far { IsWidth M }
+    ensures ends { SameClientEnds side.old side.new }
+    ensures offers { (x : ClientPast C M) → ClientStandsFor side.old x →
+        (accepted : List (BeatOf HeadA C)) × (y : World HeadA C M) ×
+        ClientStandsFor side.new (record x { history = x.history ++ map Ask accepted; a = y }) ×
+        Does rules_a beats.now at (client_answer x.history) (λ _. 0) x.a result accepted y }
+{
+    let Some(beat) = beats.get(at) else {
+        return match side.close_a() {
+            Ok(()) => Offered::Stopped(Stop::Done),
+            Err(_) => Offered::Stopped(Stop::Cut),
+        };
+    };
+    if !side.ready_a() {
+        return Offered::NotReady;
+    }
+    match side.offer_a(*beat) {
+        Ok(()) => Offered::Accepted,
+        Err(fault) => Offered::Stopped(Stop::Refused(fault)),
+    }
+}
+
+// The client's side offers the next beat of C, of which `at` were accepted.
+fn offer_c<const C: usize, const M: usize>(
+    side: &mut ClientSide<C, M>,
+    beats: &[Beat<ChC, C>],
+    at: usize,
+) -> Offered
+    requires near { IsWidth C }
+    requires far { IsWidth M }
+    ensures ends { SameClientEnds side.old side.new }
+    ensures offers { (x : ClientPast C M) → ClientStandsFor side.old x →
+        (accepted : List (BeatOf HeadC C)) × (y : World HeadC C M) ×
+        ClientStandsFor side.new (record x { c = y }) ×
+        Does rules_c beats.now at (stops_alone rules_c x.c.accepted) (λ _. 0) x.c result accepted y }
+{
+    let Some(beat) = beats.get(at) else {
+        return match side.close_c() {
+            Ok(()) => Offered::Stopped(Stop::Done),
+            Err(_) => Offered::Stopped(Stop::Cut),
+        };
+    };
+    if !side.ready_c() {
+        return Offered::NotReady;
+    }
+    match side.offer_c(*beat) {
+        Ok(()) => Offered::Accepted,
+        Err(fault) => Offered::Stopped(Stop::Refused(fault)),
+    }
+}
+
+// The client's side offers the next beat of E, of which `at` were accepted.
+fn offer_e<const C: usize, const M: usize>(
+    side: &mut ClientSide<C, M>,
+    beats: &[Beat<ChE, C>],
+    at: usize,
+) -> Offered
+    requires near { IsWidth C }
+    requires far { IsWidth M }
+    ensures ends { SameClientEnds side.old side.new }
+    ensures offers { (x : ClientPast C M) → ClientStandsFor side.old x →
+        (accepted : List (BeatOf HeadE C)) × (y : World HeadE C M) ×
+        ClientStandsFor side.new (record x { e = y }) ×
+        Does rules_e beats.now at (stops_alone rules_e x.e.accepted) (λ _. 0) x.e result accepted y }
+{
+    let Some(beat) = beats.get(at) else {
+        return match side.close_e() {
+            Ok(()) => Offered::Stopped(Stop::Done),
+            Err(_) => Offered::Stopped(Stop::Cut),
+        };
+    };
+    if !side.ready_e() {
+        return Offered::NotReady;
+    }
+    match side.offer_e(*beat) {
+        Ok(()) => Offered::Accepted,
+        Err(fault) => Offered::Stopped(Stop::Refused(fault)),
+    }
+}
+
+// The client's side takes all that stands in its inboxes.
+fn take_each<const C: usize, const M: usize>(
+    side: &mut ClientSide<C, M>,
+    far_b: &mut Vec<Beat<ChB, C>>,
+    far_d: &mut Vec<Beat<ChD, C>>,
+)
+    requires width { IsWidth C }
+    requires past { (x : ClientPast C M) × ClientStandsFor side.old x }
+    requires room_b { vec_len far_b.old + length side.old.b.inbox ≤ vec_capacity far_b.old }
+    requires room_d { vec_len far_d.old + length side.old.d.inbox ≤ vec_capacity far_d.old }
+    ensures taken { (x : ClientPast C M) → ClientStandsFor side.old x →
+        ClientStandsFor side.new (client_takes_d side.old.d.inbox (client_takes_b side.old.b.inbox x)) }
+    ensures far_b { far_b.new.items ≡ far_b.old.items ++ side.old.b.inbox }
+    ensures far_d { far_d.new.items ≡ far_d.old.items ++ side.old.d.inbox }
+    ensures capacity_b { vec_capacity far_b.new ≡ vec_capacity far_b.old }
+    ensures capacity_d { vec_capacity far_d.new ≡ vec_capacity far_d.old }
+    ensures ends { SameClientEnds side.old side.new }
+{
+    take_all_b(side, far_b);
+    take_all_d(side, far_d);
+}
+
+// The client's side offers the next beat of each of its channels, in the order of letters.
+fn offer_each<const C: usize, const M: usize>(
+    side: &mut ClientSide<C, M>,
+    script: &Script<C, M>,
+    at: &PerChannel<usize>,
+) -> PerChannel<Offered>
+    requires client { IsWidth C }
+    requires manager { IsWidth M }
+    ensures offers { (x : ClientPast C M) → ClientStandsFor side.old x →
+        ClientHasOffered (near_beats script.now) at.now x side.new result }
+    ensures ends { SameClientEnds side.old side.new }
+    ensures others { (result.b ≡ NotReady) × (result.d ≡ NotReady) }
+{
+    let a = offer_a(side, &script.a, at.a);
+    let c = offer_c(side, &script.c, at.c);
+    let e = offer_e(side, &script.e, at.e);
+    PerChannel {
+        a,
+        b: Offered::NotReady,
+        c,
+        d: Offered::NotReady,
+        e,
+    }
+}
+
+// A turn of the client's side: it offers the next beat of each of its channels, pumps and fetches.
+fn turn<const C: usize, const M: usize>(
+    side: &mut ClientSide<C, M>,
+    script: &Script<C, M>,
+    at: &mut PerChannel<usize>,
+) -> Turn
+    requires client { IsWidth C }
+    requires manager { IsWidth M }
+    requires few { HaveRoomToCount at.old }
+    ensures goes { ClientGoes at.old side.old at.new side.new result.moved }
+    ensures counted { at.new ≡ counted at.old result.offers }
+    ensures others { (at.new.b ≡ at.old.b) × (at.new.d ≡ at.old.d) }
+    ensures is_at { (j m : ℕ) (es : List (Event C)) (far_of_b : List (BeatOf HeadB C)) (far_of_d : List (BeatOf HeadD C)) (o : PerChannel Offered) →
+        ClientIsAt (near_beats script.now) j m es at.old far_of_b far_of_d side.old o →
+        ClientIsAt (near_beats script.now) j m es at.new far_of_b far_of_d side.new result.offers }
+{
+    let offers = offer_each(side, script, at);
+    add_accepted(at, &offers);
+    let pumped = side.pump();
+    let fetched = side.fetch();
+    Turn::new(offers, pumped + fetched)
+}
+
+// What the client's side does in a round.
+pub(crate) fn play<G: Gate, const C: usize, const M: usize>(
+    side: &mut ClientSide<C, M>,
+    script: &Script<C, M>,
+    at: &mut PerChannel<usize>,
+    far_b: &mut Vec<Beat<ChB, C>>,
+    far_d: &mut Vec<Beat<ChD, C>>,
+    turns: usize,
+    gate: &mut G,
+) -> Turn
+    requires client { IsWidth C }
+    requires manager { IsWidth M }
+    requires short { HasShortLists script.now }
+    requires ready { ClientMayPlay (near_beats script.now) at.old far_b.old far_d.old side.old }
+    ensures { ClientHasPlayed (near_beats script.now) at.old far_b.old far_d.old side.old at.new far_b.new far_d.new side.new result.offers result.moved }
+{
+    gate.pass();
+    take_each(side, far_b, far_d);
+    let mut played = Turn::none();
+    'turns: for _ in 0..turns {
+        played = played.then(turn(side, script, at));
+    }
+    played
+}

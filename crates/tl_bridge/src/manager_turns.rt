@@ -1,0 +1,244 @@
+//! What the manager's side does in a round of a run in two threads.
+ghost use Rattle.std.specs.Prelude.{◌≡◌, ◌+◌, ◌++◌, ◌≤◌, ℕ, List, length, map, vec_len, vec_capacity};
+ghost use Rattle.tl_lanes.specs.Lanes.{IsWidth};
+ghost use Rattle.tl_msg.specs.Tables.{rules_b, rules_d};
+ghost use Rattle.tl_msg.specs.declared.head.HeadA.{HeadA};
+ghost use Rattle.tl_msg.specs.declared.head.HeadB.{HeadB};
+ghost use Rattle.tl_msg.specs.declared.head.HeadC.{HeadC};
+ghost use Rattle.tl_msg.specs.declared.head.HeadD.{HeadD};
+ghost use Rattle.tl_msg.specs.declared.head.HeadE.{HeadE};
+ghost use Rattle.tl_msg.specs.declared.beat.BeatOf.{BeatOf};
+ghost use Rattle.tl_ring.specs.Crossing.{World};
+ghost use Rattle.tl_settle.specs.Histories.{Event, Answer, manager_answer, manager_home};
+ghost use Rattle.tl_sides.specs.Crossings.{stops_alone};
+ghost use Rattle.tl_pair.specs.Sides.{ManagerPast, ManagerStandsFor, manager_takes_a, manager_takes_c, manager_takes_e};
+ghost use Rattle.tl_bridge.specs.Scripts.{HasShortLists, near_beats};
+ghost use Rattle.tl_bridge.specs.declared.channel_state.Offered.TheVariants.{NotReady};
+ghost use Rattle.tl_bridge.specs.Inner.Running.{Does, HaveRoomToCount, counted};
+ghost use Rattle.tl_bridge.specs.Inner.Sides.{SameManagerEnds, ManagerHasOffered, ManagerGoes, ManagerIsAt, ManagerMayPlay, ManagerHasPlayed};
+
+use crate::channel_state::{Offered, Stop, add_accepted};
+use crate::gates::Gate;
+use crate::turns::Turn;
+use tl_msg::{Beat, ChA, ChB, ChC, ChD, ChE};
+use tl_pair::ManagerSide;
+use tl_sides::PerChannel;
+use tl_trace::Script;
+
+// The manager's side takes all that stands in the inbox of A.
+fn take_all_a<const C: usize, const M: usize>(
+    side: &mut ManagerSide<C, M>,
+    far: &mut Vec<Beat<ChA, M>>,
+)
+    requires width { IsWidth M }
+    requires past { (x : ManagerPast C M) × ManagerStandsFor side.old x }
+    requires room { vec_len far.old + length side.old.a.inbox ≤ vec_capacity far.old }
+    ensures taken { (x : ManagerPast C M) → ManagerStandsFor side.old x →
+        ManagerStandsFor side.new (manager_takes_a side.old.a.inbox x) }
+    ensures far { far.new.items ≡ far.old.items ++ side.old.a.inbox }
+    ensures capacity { vec_capacity far.new ≡ vec_capacity far.old }
+    ensures rest { side.new ≡ record side.old { a = side.new.a; book = side.new.book } }
+    ensures end { side.new.a.consumer ≡ side.old.a.consumer }
+{
+    'beats: while let Some(beat) = side.take_a() {
+        far.push_reserved(beat);
+    }
+}
+
+// The manager's side takes all that stands in the inbox of C.
+fn take_all_c<const C: usize, const M: usize>(
+    side: &mut ManagerSide<C, M>,
+    far: &mut Vec<Beat<ChC, M>>,
+)
+    requires width { IsWidth M }
+    requires past { (x : ManagerPast C M) × ManagerStandsFor side.old x }
+    requires room { vec_len far.old + length side.old.c.inbox ≤ vec_capacity far.old }
+    ensures taken { (x : ManagerPast C M) → ManagerStandsFor side.old x →
+        ManagerStandsFor side.new (manager_takes_c side.old.c.inbox x) }
+    ensures far { far.new.items ≡ far.old.items ++ side.old.c.inbox }
+    ensures capacity { vec_capacity far.new ≡ vec_capacity far.old }
+    ensures rest { side.new ≡ record side.old { c = side.new.c } }
+    ensures end { side.new.c.consumer ≡ side.old.c.consumer }
+{
+    'beats: while let Some(beat) = side.take_c() {
+        far.push_reserved(beat);
+    }
+}
+
+// The manager's side takes all that stands in the inbox of E.
+fn take_all_e<const C: usize, const M: usize>(
+    side: &mut ManagerSide<C, M>,
+    far: &mut Vec<Beat<ChE, M>>,
+)
+    requires width { IsWidth M }
+    requires past { (x : ManagerPast C M) × ManagerStandsFor side.old x }
+    requires room { vec_len far.old + length side.old.e.inbox ≤ vec_capacity far.old }
+    ensures taken { (x : ManagerPast C M) → ManagerStandsFor side.old x →
+        ManagerStandsFor side.new (manager_takes_e side.old.e.inbox x) }
+    ensures far { far.new.items ≡ far.old.items ++ side.old.e.inbox }
+    ensures capacity { vec_capacity far.new ≡ vec_capacity far.old }
+    ensures rest { side.new ≡ record side.old { e = side.new.e } }
+    ensures end { side.new.e.consumer ≡ side.old.e.consumer }
+{
+    'beats: while let Some(beat) = side.take_e() {
+        far.push_reserved(beat);
+    }
+}
+
+// The manager's side offers the next beat of B, of which `at` were accepted.
+fn offer_b<const C: usize, const M: usize>(
+    side: &mut ManagerSide<C, M>,
+    beats: &[Beat<ChB, M>],
+    at: usize,
+) -> Offered
+    requires near { IsWidth M }
+    requires far { IsWidth C }
+    ensures ends { SameManagerEnds side.old side.new }
+    ensures offers { (x : ManagerPast C M) → ManagerStandsFor side.old x →
+        (accepted : List (BeatOf HeadB M)) × (y : World HeadB M C) ×
+        ManagerStandsFor side.new (record x { b = y }) ×
+        Does rules_b beats.now at (stops_alone rules_b x.b.accepted) (λ _. 0) x.b result accepted y }
+{
+    let Some(beat) = beats.get(at) else {
+        return match side.close_b() {
+            Ok(()) => Offered::Stopped(Stop::Done),
+            Err(_) => Offered::Stopped(Stop::Cut),
+        };
+    };
+    if !side.ready_b() {
+        return Offered::NotReady;
+    }
+    match side.offer_b(*beat) {
+        Ok(()) => Offered::Accepted,
+        Err(fault) => Offered::Stopped(Stop::Refused(fault)),
+    }
+}
+
+// The manager's side offers the next beat of D, of which `at` were accepted.
+fn offer_d<const C: usize, const M: usize>(
+    side: &mut ManagerSide<C, M>,
+    beats: &[Beat<ChD, M>],
+    at: usize,
+) -> Offered
+    requires near { IsWidth M }
+    requires far { IsWidth C }
+    ensures ends { SameManagerEnds side.old side.new }
+    ensures offers { (x : ManagerPast C M) → ManagerStandsFor side.old x →
+        (accepted : List (BeatOf HeadD M)) × (y : World HeadD M C) ×
+        ManagerStandsFor side.new (record x { history = x.history ++ map Answer accepted; d = y }) ×
+        Does rules_d beats.now at (manager_answer x.history) (λ b. manager_home x.history b.head) x.d result accepted y }
+{
+    let Some(beat) = beats.get(at) else {
+        return match side.close_d() {
+            Ok(()) => Offered::Stopped(Stop::Done),
+            Err(_) => Offered::Stopped(Stop::Cut),
+        };
+    };
+    if !side.ready_d() {
+        return Offered::NotReady;
+    }
+    match side.offer_d(*beat) {
+        Ok(()) => Offered::Accepted,
+        Err(fault) => Offered::Stopped(Stop::Refused(fault)),
+    }
+}
+
+// The manager's side takes all that stands in its inboxes.
+fn take_each<const C: usize, const M: usize>(
+    side: &mut ManagerSide<C, M>,
+    far_a: &mut Vec<Beat<ChA, M>>,
+    far_c: &mut Vec<Beat<ChC, M>>,
+    far_e: &mut Vec<Beat<ChE, M>>,
+)
+    requires width { IsWidth M }
+    requires past { (x : ManagerPast C M) × ManagerStandsFor side.old x }
+    requires room_a { vec_len far_a.old + length side.old.a.inbox ≤ vec_capacity far_a.old }
+    requires room_c { vec_len far_c.old + length side.old.c.inbox ≤ vec_capacity far_c.old }
+    requires room_e { vec_len far_e.old + length side.old.e.inbox ≤ vec_capacity far_e.old }
+    ensures taken { (x : ManagerPast C M) → ManagerStandsFor side.old x →
+        ManagerStandsFor side.new (manager_takes_e side.old.e.inbox (manager_takes_c side.old.c.inbox (manager_takes_a side.old.a.inbox x))) }
+    ensures far_a { far_a.new.items ≡ far_a.old.items ++ side.old.a.inbox }
+    ensures far_c { far_c.new.items ≡ far_c.old.items ++ side.old.c.inbox }
+    ensures far_e { far_e.new.items ≡ far_e.old.items ++ side.old.e.inbox }
+    ensures capacity_a { vec_capacity far_a.new ≡ vec_capacity far_a.old }
+    ensures capacity_c { vec_capacity far_c.new ≡ vec_capacity far_c.old }
+    ensures capacity_e { vec_capacity far_e.new ≡ vec_capacity far_e.old }
+    ensures ends { SameManagerEnds side.old side.new }
+{
+    take_all_a(side, far_a);
+    take_all_c(side, far_c);
+    take_all_e(side, far_e);
+}
+
+// The manager's side offers the next beat of each of its channels, in the order of letters.
+fn offer_each<const C: usize, const M: usize>(
+    side: &mut ManagerSide<C, M>,
+    script: &Script<C, M>,
+    at: &PerChannel<usize>,
+) -> PerChannel<Offered>
+    requires client { IsWidth C }
+    requires manager { IsWidth M }
+    ensures offers { (x : ManagerPast C M) → ManagerStandsFor side.old x →
+        ManagerHasOffered (near_beats script.now) at.now x side.new result }
+    ensures ends { SameManagerEnds side.old side.new }
+    ensures others { (result.a ≡ NotReady) × (result.c ≡ NotReady) × (result.e ≡ NotReady) }
+{
+    let b = offer_b(side, &script.b, at.b);
+    let d = offer_d(side, &script.d, at.d);
+    PerChannel {
+        a: Offered::NotReady,
+        b,
+        c: Offered::NotReady,
+        d,
+        e: Offered::NotReady,
+    }
+}
+
+// A turn of the manager's side: it offers the next beat of each of its channels, pumps and fetches.
+fn turn<const C: usize, const M: usize>(
+    side: &mut ManagerSide<C, M>,
+    script: &Script<C, M>,
+    at: &mut PerChannel<usize>,
+) -> Turn
+    requires client { IsWidth C }
+    requires manager { IsWidth M }
+    requires few { HaveRoomToCount at.old }
+    ensures goes { ManagerGoes at.old side.old at.new side.new result.moved }
+    ensures counted { at.new ≡ counted at.old result.offers }
+    ensures others { (at.new.a ≡ at.old.a) × (at.new.c ≡ at.old.c) × (at.new.e ≡ at.old.e) }
+    ensures is_at { (i m : ℕ) (es : List (Event M)) (far_of_a : List (BeatOf HeadA M)) (far_of_c : List (BeatOf HeadC M)) (far_of_e : List (BeatOf HeadE M)) (o : PerChannel Offered) →
+        ManagerIsAt (near_beats script.now) i m es at.old far_of_a far_of_c far_of_e side.old o →
+        ManagerIsAt (near_beats script.now) i m es at.new far_of_a far_of_c far_of_e side.new result.offers }
+{
+    let offers = offer_each(side, script, at);
+    add_accepted(at, &offers);
+    let pumped = side.pump();
+    let fetched = side.fetch();
+    Turn::new(offers, pumped + fetched)
+}
+
+// What the manager's side does in a round.
+pub(crate) fn play<G: Gate, const C: usize, const M: usize>(
+    side: &mut ManagerSide<C, M>,
+    script: &Script<C, M>,
+    at: &mut PerChannel<usize>,
+    far_a: &mut Vec<Beat<ChA, M>>,
+    far_c: &mut Vec<Beat<ChC, M>>,
+    far_e: &mut Vec<Beat<ChE, M>>,
+    turns: usize,
+    gate: &mut G,
+) -> Turn
+    requires client { IsWidth C }
+    requires manager { IsWidth M }
+    requires short { HasShortLists script.now }
+    requires ready { ManagerMayPlay (near_beats script.now) at.old far_a.old far_c.old far_e.old side.old }
+    ensures { ManagerHasPlayed (near_beats script.now) at.old far_a.old far_c.old far_e.old side.old at.new far_a.new far_c.new far_e.new side.new result.offers result.moved }
+{
+    gate.pass();
+    take_each(side, far_a, far_c, far_e);
+    let mut played = Turn::none();
+    'turns: for _ in 0..turns {
+        played = played.then(turn(side, script, at));
+    }
+    played
+}

@@ -1,0 +1,60 @@
+//! The run of a whole script in two threads.
+ghost use Rattle.std.specs.Prelude.{◌≡◌, ◌≤◌, ◌<◌, ◌⊎◌, ◌↔◌, IsOk, IfOk, IfErr};
+ghost use Rattle.tl_lanes.specs.Lanes.{IsWidth};
+ghost use Rattle.tl_bridge.specs.declared.outcome.RunFault.TheVariants.{RingSize};
+ghost use Rattle.tl_bridge.specs.Scripts.{HasShortLists, SettlesTo};
+
+use crate::gates::Gate;
+use crate::outcome::{Outcome, RunFault};
+use crate::rounds::outcome_of;
+use crate::taken::Taken;
+use crate::thread_rounds::play_rounds;
+use std::alloc::Global;
+use std::thread::Threads;
+use tl_trace::Script;
+
+/// Runs a script over a bridge whose two sides are each in a thread of their own, to its end: the far beats and the verdicts are those
+/// that the script settles to, whatever the size of the rings, the number of turns, and the order in which the two threads do what
+/// they do; so they are those of [`run_sync`](crate::run_sync).
+///
+/// The run is made of rounds. In each, each side passes its gate, takes all that stood in its inboxes when the two sides met last, and
+/// then `turns` times offers the next beat of each of its channels that is ready, moves staged beats into its rings, and beats of the
+/// other side's rings into its inboxes. Both sides do so at the same time; then they meet. A refused beat stays next. A channel whose
+/// list is used up between two messages is closed. The run ends after the first round in which no beat was accepted and after which
+/// nothing is under way.
+///
+/// The rings hold `ring` beats each. Refused with `RingSize` exactly where that is 0 or above 4,096, which is tested first, with
+/// `OutOfMemory` where there is no memory for the rings or for the far beats, all of which is asked for before the first round, and
+/// with `Stalled` after a round in which nothing moved and after which beats are under way. `turns` is 1 at least, and each list has
+/// at most `2^40` beats.
+pub fn run_threads<R: Threads, G: Gate + Send, H: Gate + Send, const C: usize, const M: usize>(
+    rt: &R,
+    alloc: Global,
+    script: &Script<C, M>,
+    ring: usize,
+    turns: usize,
+    client_gate: &mut G,
+    manager_gate: &mut H,
+) -> Result<Outcome<C, M>, RunFault>
+    requires client { IsWidth C }
+    requires manager { IsWidth M }
+    requires short { HasShortLists script.now }
+    requires turns { 1 ≤ turns }
+    ensures outcome { IfOk result (SettlesTo script.now) }
+    ensures size { IsOk result → (1 ≤ ring) × (ring ≤ 4096) }
+    ensures ring_size { IfErr result (λ fault. (fault ≡ RingSize) ↔ ((ring ≡ 0) ⊎ (4096 < ring))) }
+{
+    let (mut client, mut manager) = tl_pair::bridge::<C, M, Global>(alloc, ring)?;
+    let mut far = Taken::new(alloc, script)?;
+    let end = play_rounds(
+        rt,
+        &mut client,
+        &mut manager,
+        script,
+        &mut far,
+        turns,
+        client_gate,
+        manager_gate,
+    )?;
+    Ok(outcome_of(end, far))
+}

@@ -1,0 +1,72 @@
+//! What a side of a run in two threads has done in some turns.
+ghost use Rattle.std.specs.Prelude.{◌≡◌, ◌≢◌, ◌⊎◌, ◌↔◌, ℕ, true};
+ghost use Rattle.tl_sides.specs.declared.per_channel.PerChannel.{PerChannel};
+ghost use Rattle.tl_bridge.specs.declared.channel_state.Offered.{Offered};
+ghost use Rattle.tl_bridge.specs.Inner.Sides.{all_steps, none_ready};
+
+use crate::channel_state::Offered;
+use tl_sides::PerChannel;
+
+/// What a side has done in some turns: what became of its next beats in the last one, whether it accepted a beat in any, and whether
+/// it accepted, pumped or fetched one.
+#[derive(Clone, Copy, Drop)]
+pub(crate) struct Turn {
+    pub offers: PerChannel<Offered>,
+    pub accepted: bool,
+    pub moved: bool,
+}
+
+// Whether one of two things is so.
+pub(crate) fn either(one: bool, other: bool) -> bool
+    ensures { (result ≡ true) ↔ ((one ≡ true) ⊎ (other ≡ true)) }
+{
+    one || other
+}
+
+impl Turn {
+    // No turn.
+    pub(crate) fn none() -> Turn
+        ensures { (result.offers ≡ none_ready) × (result.moved ≢ true) }
+    {
+        Turn {
+            offers: PerChannel {
+                a: Offered::NotReady,
+                b: Offered::NotReady,
+                c: Offered::NotReady,
+                d: Offered::NotReady,
+                e: Offered::NotReady,
+            },
+            accepted: false,
+            moved: false,
+        }
+    }
+
+    // One turn, in which these were the offers, and so many beats were pumped and fetched.
+    pub(crate) fn new(offers: PerChannel<Offered>, others: usize) -> Turn
+        ensures offers { result.offers ≡ offers }
+        ensures moved { (result.moved ≡ true) ↔ ((all_steps offers ≢ 0) ⊎ (others ≢ 0)) }
+    {
+        let accepted = offers.a.is_accepted()
+            || offers.b.is_accepted()
+            || offers.c.is_accepted()
+            || offers.d.is_accepted()
+            || offers.e.is_accepted();
+        Turn {
+            offers,
+            accepted,
+            moved: accepted || others != 0,
+        }
+    }
+
+    // These turns, and another one after them.
+    pub(crate) fn then(self, last: Turn) -> Turn
+        ensures offers { result.offers ≡ last.offers }
+        ensures moved { result.moved ≡ true → (self.moved ≡ true) ⊎ (last.moved ≡ true) }
+    {
+        Turn {
+            offers: last.offers,
+            accepted: either(self.accepted, last.accepted),
+            moved: either(self.moved, last.moved),
+        }
+    }
+}
