@@ -10,3 +10,11 @@ mod run_tests;
 mod sync_tests;
 #[cfg(test)]
 mod tests;
+
+use std::alloc::Allocator;
+use tl_bridge::SyncBridge;
+
+/// Lets a bridge go, with all that it holds.
+pub fn let_go<const C: usize, const M: usize, A: Allocator>(bridge: SyncBridge<C, M, A>) {
+    drop(bridge);
+}
