@@ -48,7 +48,8 @@ module _ {H : Type 0} (r : Rules H) (w : ℕ) where
   heads-after zero (x ∷ xs) others e = absurd (omega arith)
   heads-after (suc k) (x ∷ xs) others e = heads-after k xs others (omega arith)
 
-  heads-inside : (k : ℕ) (xs : List (BeatOf H w)) → length xs ≤ k → heads_from r w k xs ≡ []
+  -- beats inside a message open none
+  pub heads-inside : (k : ℕ) (xs : List (BeatOf H w)) → length xs ≤ k → heads_from r w k xs ≡ []
   heads-inside zero [] le = refl
   heads-inside (suc k) [] le = refl
   heads-inside zero (x ∷ xs) le = absurd (omega arith)

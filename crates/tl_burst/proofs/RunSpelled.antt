@@ -17,7 +17,8 @@ use Rattle.tl_burst.proofs.Fits.{MaskFits, FitsMask}
 use Rattle.tl_burst.proofs.Places.{byte_on-some}
 use Rattle.tl_burst.proofs.RestOf.{some-first}
 use Rattle.tl_burst.proofs.Runs.{of_cells, run_cells, cell_at, run-is, run-length, run-cell}
-use Rattle.tl_burst.proofs.SpelledRun.{Fitting, room-of, mask-is, bool-cases}
+use Rattle.tl_burst.proofs.SpelledRun.{Fitting, room-of, mask-is}
+use Rattle.std.proofs.lemmas.Bool.{cases_Bool}
 
 -- an element of a join stands in one of its parts
 parts-get : {A : Type 0} (xs ys : List A) (j : ℕ) (b : A) → slice_get (xs ++ ys) j ≡ Some b →
@@ -101,7 +102,7 @@ module _ {H : Type 0} (r : Rules H) (h : H) (x w : ℕ) (ww : IsWidth w)
         on = λ e. All-from_get_or (λ (c : Cell). c.on ≡ true) [] (record { byte = 0; on = true; bad = false }) (λ i lt. absurd (omega arith));
         bytes = All-from_get_or (λ (c : Cell). c.byte < 256) [] (record { byte = 0; on = true; bad = false }) (λ i lt. absurd (omega arith));
       }))
-      (bool-cases (r.carries h))
+      (cases_Bool (r.carries h))
 
   -- a beat without data
   plain-beat : (b : BeatOf H w) (j : ℕ) → r.carries h ≡ false → j < beats_of r h w → Fitting r h x w j b → SpellsBeat r (of_cells r h x []) w j b
@@ -113,7 +114,7 @@ module _ {H : Type 0} (r : Rules H) (h : H) (x w : ℕ) (ww : IsWidth w)
         (λ i l lo hi there e. ⊎_elim
         (λ p. let t : r.carries h ≡ true = partial_carries h p in absurd (cc))
         (λ p. rw e (rw none_of (sym (ap (λ q. cond q (bit_at b.mask l == 1) true) p))))
-        (bool-cases (r.partial h)));
+        (cases_Bool (r.partial h)));
     clean = fit.clean;
   }
 
@@ -208,7 +209,7 @@ module _ {H : Type 0} (r : Rules H) (h : H) (x w : ℕ) (ww : IsWidth w)
             let P : Message H → Type 0 = λ m. SpellsBeat r m w j b in
             let q : of_cells r h x [] ≡ message_of r h w x bs = rw none_of refl in
             subst P q (plain-beat b j none_of lt (fits j b here)))
-            (bool-cases (r.carries h)))
+            (cases_Bool (r.carries h)))
             (λ (t, et, there).
             let at = range-get (beat_at r (message_of r h w x bs) w) (length bs) (beats_of r h w - length bs) t b there in
             let lt : t < beats_of r h w - length bs = at.0 in
@@ -223,6 +224,6 @@ module _ {H : Type 0} (r : Rules H) (h : H) (x w : ℕ) (ww : IsWidth w)
             (λ none_of.
             let one : beats_of r h w ≡ 1 = rw none_of refl in
             absurd (omega arith))
-            (bool-cases (r.carries h)))
+            (cases_Bool (r.carries h)))
             (parts-get bs (wanted bs) j b e);
       }

@@ -42,6 +42,10 @@ some_of-same f g a zero h = refl
 some_of-same f g a (suc n) h =
     ap (λ b. b || f (a + n)) (some_of-same f g a n (λ x lo hi. h x lo (omega arith))) ∙ ap (λ b. some_of g a n || b) (h (a + n) (omega arith) (omega arith))
 
+pub some_of-none : (f : ℕ → Bool) (a n : ℕ) → ((x : ℕ) → f x ≡ false) → some_of f a n ≡ false
+some_of-none f a zero h = refl
+some_of-none f a (suc n) h = rw (some_of-none f a n h) (h (a + n))
+
 module _ {H : Type 0} (r : Rules H) where
   abbrev pub of_cells : H → ℕ → List Cell → Message H
   of_cells h x cs = record { head = h; home = x; cells = cs }

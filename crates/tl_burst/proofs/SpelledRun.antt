@@ -91,10 +91,6 @@ true-false : (b : Bool) → b ≡ true → b ≡ false → ⊥
 true-false true e f = cc
 true-false false e f = cc
 
-pub bool-cases : (b : Bool) → (b ≡ true) ⊎ (b ≡ false)
-bool-cases true = inl refl
-bool-cases false = inr refl
-
 -- a byte of a full message is on
 on-of : (cs : List Cell) (c : Bool) (n i : ℕ) → length cs ≡ cond c n 0 → i < n → All (λ y. y.on ≡ true) cs →
     option_map_or (λ y. y.on) (slice_get cs i) (not c) ≡ true

@@ -11,6 +11,7 @@ use Rattle.tl_burst.specs.Messages.{Message, beats_of, per_beat, beat_at, layout
 use Rattle.tl_burst.specs.Begun.{heads, heads_from, left_from}
 use Rattle.tl_convert.specs.Due.{far_beats_of}
 use Rattle.tl_convert.proofs.Extends.{Extends, more, extends-cons}
+use Rattle.tl_burst.proofs.BegunMessages.{heads-inside}
 
 pub take-nil : {A : Type 0} (c : ℕ) → take {A = A} c [] ≡ []
 take-nil zero = refl
@@ -42,12 +43,6 @@ more-due r w v wide h n k e =
     le-div (x / per_beat r h v) y (per_beat r h v) p (le_trans z q)
 
 module _ {H : Type 0} (r : Rules H) (w : ℕ) where
-  -- beats inside a message open none
-  heads_inside : (k : ℕ) (xs : List (BeatOf H w)) → length xs ≤ k → heads_from r w k xs ≡ []
-  heads_inside k [] h = refl
-  heads_inside zero (x ∷ xs) h = absurd (omega arith)
-  heads_inside (suc k) (x ∷ xs) h = heads_inside k xs (omega arith)
-
   -- after the last beat of a message the next one opens
   heads_past : (k : ℕ) (xs ys : List (BeatOf H w)) → length xs ≡ k → heads_from r w k (xs ++ ys) ≡ heads_from r w 0 ys
   heads_past zero [] ys h = refl
@@ -109,7 +104,7 @@ module _ {H : Type 0} (r : Rules H) (w : ℕ) where
         let rest : List (BeatOf H w) = map (beat_at r m w) (range_with_len (0 + 1) k) in
         let n : length rest ≡ k = length-map-range_with_len (beat_at r m w) (0 + 1) k in
         let l : length (take c rest) ≤ k = let q = length-take c rest in omega arith in
-        ap (λ q. m.head ∷ q) (heads_inside (beats_of r m.head w - 1) (take c rest) (omega arith) ∙ sym (take-nil c))
+        ap (λ q. m.head ∷ q) (heads-inside r w (beats_of r m.head w - 1) (take c rest) (omega arith) ∙ sym (take-nil c))
 
     pub heads_cut : (m : Message H) (c : ℕ) → heads r w (take c (layout r m w)) ≡ take c (m.head ∷ [])
     heads_cut m c = cut_cut m (beats_of r m.head w) c refl

@@ -1,5 +1,5 @@
 -- Comparisons of numbers and questions to options, and what they tell.
-use Rattle.std.proofs.Common.{◌≡◌, ◌≤◌, ◌<◌, ◌≢◌, ℕ, zero, suc, Bool, true, false, Option, None, Some, List, [], ◌∷◌, length, refl, arith, zero-le}
+use Rattle.std.proofs.Common.{◌≡◌, ◌≤◌, ◌<◌, ◌≢◌, ℕ, zero, suc, Bool, true, false, Option, None, Some, List, [], ◌∷◌, ◌++◌, length, refl, arith, zero-le}
 use Rattle.std.proofs.lemmas.Bool.Decides.{nat_tests}
 use Rattle.std.specs.Prelude.{nat_lt, ◌==◌, slice_get}
 use Rattle.std.specs.Option.{option_map_or, is_some}
@@ -51,3 +51,8 @@ pub none_past : {X : Type 0} (xs : List X) (k : ℕ) → slice_get xs k ≡ None
 none_past [] k e = zero-le
 none_past (x ∷ xs) zero e = cc
 none_past (x ∷ xs) (suc k) e = let h : length xs ≤ k = none_past xs k e in omega arith
+
+-- the last element of a list
+pub seam : {X : Type 0} (xs : List X) (y : X) → slice_get (xs ++ y ∷ []) (length xs) ≡ Some y
+seam [] y = refl
+seam (x ∷ xs) y = seam xs y

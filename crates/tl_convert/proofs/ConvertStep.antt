@@ -1,7 +1,7 @@
 -- How what a converter stands for goes on by a near beat.
-use Rattle.std.proofs.Common.{◌≡◌, ◌<◌, ◌+◌, ◌*◌, ◌≢◌, ◌⊎◌, ◌++◌, ℕ, true, false, cond, Some, List, [], ◌∷◌, length, drop, slice_get, slice_index, refl, sym, ap, subst, ◌∙◌, arith, ⊎_elim, inl, inr, append-nil}
+use Rattle.std.proofs.Common.{◌≡◌, ◌<◌, ◌+◌, ◌*◌, ◌≢◌, ◌++◌, ℕ, true, false, cond, Some, List, [], ◌∷◌, length, drop, slice_get, slice_index, refl, sym, ap, subst, ◌∙◌, arith, ⊎_elim, append-nil}
 use Rattle.std.proofs.lemmas.Bool.Decides.{eqb_tells}
-use Rattle.std.proofs.lemmas.List.{length_push}
+use Rattle.std.proofs.lemmas.List.{length_push, nil_from_length}
 use Rattle.std.proofs.lemmas.Option.{same_Some}
 use Rattle.tl_msg.specs.Rules.{Rules}
 use Rattle.tl_msg.specs.declared.beat.BeatOf.{BeatOf}
@@ -19,18 +19,7 @@ use Rattle.tl_convert.specs.Converting.{Progress, StandsFor}
 use Rattle.tl_convert.proofs.FarHanded.{spelled-heads, all-heads}
 use Rattle.tl_convert.proofs.DueOne.{rest-begins}
 use Rattle.tl_convert.proofs.DueStep.{open_home, due-more, homes-count, homes-left, no-rest}
-
-nil-or : {A : Type 0} (xs : List A) → (xs ≡ []) ⊎ (xs ≢ [])
-nil-or [] = inl refl
-nil-or (x ∷ xs) = inr (λ e. cc)
-
-length-nil : {A : Type 0} (xs : List A) → length xs ≡ 0 → xs ≡ []
-length-nil [] e = refl
-length-nil (x ∷ xs) e = absurd (omega arith)
-
-seam : {A : Type 0} (xs : List A) (y : A) → slice_get (xs ++ y ∷ []) (length xs) ≡ Some y
-seam [] y = refl
-seam (x ∷ xs) y = seam xs y
+use Rattle.tl_convert.proofs.Comparisons.{seam}
 
 module _ {H : Type 0} (r : Rules H) {w : ℕ} where
   -- the burst that a rest has begun, by its first beat
@@ -67,7 +56,7 @@ module _ {H : Type 0} {w v : ℕ} (r : Rules H) (ww : IsWidth w) (vw : IsWidth v
   here = (let P : List (BeatOf H w) → Type 0 = λ q. Handed r w bs homes before.handed.0 q in subst P (RestIs r w before.handed.2) before.handed.2)
 
   first : index ≡ 0 → rest_of r w bs ≡ []
-  first z = length-nil (rest_of r w bs) (sym index_is ∙ z)
+  first z = nil_from_length (rest_of r w bs) (sym index_is ∙ z)
 
   later : index ≢ 0 → rest_of r w bs ≢ []
   later ne e = ne (index_is ∙ ap length e)

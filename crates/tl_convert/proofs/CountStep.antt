@@ -17,7 +17,7 @@ use Rattle.tl_burst.proofs.Places.{per-pos}
 use Rattle.tl_burst.proofs.Runs.{of_cells, near-fill, far-fill}
 use Rattle.tl_convert.specs.Due.{due_after, due, part, far_beats_of}
 use Rattle.tl_convert.specs.Inner.Counting.{Gives}
-use Rattle.tl_convert.proofs.FarHanded.{bool-cases}
+use Rattle.std.proofs.lemmas.Bool.{cases_Bool}
 
 module _ {H : Type 0} (r : Rules H) (w v : ℕ) where
   -- the homes that the whole messages leave, and their far beats
@@ -112,7 +112,7 @@ module _ {H : Type 0} (r : Rules H) (w v : ℕ) where
         let none_yet : length rest ≡ 0 = omega arith in
         let z : far_beats_of r b.head w v (length rest) ≡ 0 = ap (far_beats_of r b.head w v) none_yet ∙ none-of b.head in
         omega arith)
-        (bool-cases (r.carries b.head)))
+        (cases_Bool (r.carries b.head)))
         (λ s.
         let t : ends r w rest b ≡ false = s.0 in
         let ne : length rest + 1 ≢ beats_of r b.head w = s.1 in

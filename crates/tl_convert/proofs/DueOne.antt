@@ -10,8 +10,7 @@ use Rattle.tl_burst.specs.Spelling.{Spells}
 use Rattle.tl_burst.specs.Handing.{Handed, nothing, begun, whole}
 use Rattle.tl_burst.specs.Reading.{message_of}
 use Rattle.tl_convert.specs.Due.{part, due, far_beats_of, layouts, layout_part, Begins, DueOf, between, within}
-use Rattle.tl_burst.specs.Handing.{rest_of}
-use Rattle.tl_burst.proofs.RestOf.{RestIs}
+use Rattle.tl_burst.proofs.RestOf.{rest-unique}
 use Rattle.tl_convert.proofs.FarHanded.{message-is, not-empty, far-proper, part-first, some-length}
 use Rattle.tl_convert.proofs.DuePrefix.{due-begun, due-whole}
 
@@ -27,11 +26,6 @@ same-front (x ∷ xs) (y ∷ ys) o o' n e =
     (ap (λ z. z ∷ xs) head ∙ ap (λ zs. y ∷ zs) k.0, k.1)
 
 module _ {H : Type 0} (r : Rules H) (w v : ℕ) (ww : IsWidth w) (vw : IsWidth v) (partial_masked : (h : H) → r.partial h ≡ true → r.masked ≡ true) where
-  -- the rest is the same, however the list was read
-  rest-unique : {x y : List (BeatOf H w)} {hs hs' : List ℕ} {ms ms' : List (Message H)} {rest rest' : List (BeatOf H w)} →
-      Handed r w x hs ms rest → Handed r w y hs' ms' rest' → x ≡ y → rest ≡ rest'
-  rest-unique h h' e = RestIs r w h ∙ ap (rest_of r w) e ∙ sym (RestIs r w h')
-
   rest-shorter : {x : List (BeatOf H w)} {hs : List ℕ} {ms : List (Message H)} {rest : List (BeatOf H w)} → Handed r w x hs ms rest → length rest ≤ length x
   rest-shorter nothing = omega arith
   rest-shorter (begun m rest more l s n1 n2) = omega arith
@@ -44,7 +38,7 @@ module _ {H : Type 0} (r : Rules H) (w v : ℕ) (ww : IsWidth w) (vw : IsWidth v
   not-both : (m m' : Message H) (rest more bs o rest' : List (BeatOf H w)) (h' : List ℕ) (ms' : List (Message H)) →
       IsLawful r m → Spells r m w (rest ++ more) → rest ≢ [] → more ≢ [] → IsLawful r m' → Spells r m' w bs → Handed r w o h' ms' rest' → rest ≡ bs ++ o → ⊥
   not-both m m' rest more bs o rest' h' ms' l s n1 n2 l' s' t e =
-      let same : rest ≡ rest' = rest-unique (begun m rest more l s n1 n2) (whole m' bs o h' ms' rest' l' s' t) e in
+      let same : rest ≡ rest' = rest-unique r w (begun m rest more l s n1 n2) (whole m' bs o h' ms' rest' l' s' t) e in
       let a : length rest ≡ length rest' = ap length same in
       let b : length rest' ≤ length o = rest-shorter t in
       let c : length rest ≡ length bs + length o = ap length e ∙ length-append bs o in
@@ -88,7 +82,7 @@ module _ {H : Type 0} (r : Rules H) (w v : ℕ) (ww : IsWidth w) (vw : IsWidth v
 
   pub one-rest : (bs : List (BeatOf H w)) (homes : List ℕ) (ms ms' : List (Message H)) (rest rest' : List (BeatOf H w)) →
       Handed r w bs homes ms rest → Handed r w bs homes ms' rest' → (ms ≡ ms') × (rest ≡ rest')
-  one-rest bs homes ms ms' rest rest' h h' = (messages-unique h h' refl refl, rest-unique h h' refl)
+  one-rest bs homes ms ms' rest rest' h h' = (messages-unique h h' refl refl, rest-unique r w h h' refl)
 
   -- what is due of a list is the layouts of its messages, and then what is due of its rest
   pub due-is : {bs : List (BeatOf H w)} {homes : List ℕ} {ms : List (Message H)} {rest : List (BeatOf H w)} → Handed r w bs homes ms rest →

@@ -6,8 +6,9 @@ use Rattle.tl_lanes.specs.Lanes.{IsWidth}
 use Rattle.tl_burst.specs.Messages.{Message, beats_of, layout}
 use Rattle.tl_burst.specs.Handing.{Handed, nothing, begun, whole, ends}
 use Rattle.tl_convert.specs.Due.{due_after, due, part, layouts}
-use Rattle.tl_convert.proofs.FarHanded.{eq-false, snoc-join, spelled-heads, shorter}
+use Rattle.tl_convert.proofs.FarHanded.{snoc-join, spelled-heads, shorter}
 use Rattle.tl_convert.proofs.DuePrefix.{due-whole}
+use Rattle.tl_convert.proofs.Comparisons.{not_equal}
 
 -- the home of the burst that a rest has begun
 abbrev pub open_home : {H : Type 0} {w : ℕ} → ℕ → List (BeatOf H w) → List ℕ
@@ -20,7 +21,7 @@ open-some x (b ∷ bs) ne = refl
 
 pub no-rest : {H : Type 0} {w : ℕ} (rest : List (BeatOf H w)) → rest ≢ [] → (length rest == 0) ≡ false
 no-rest [] ne = absurd (ne refl)
-no-rest (b ∷ bs) ne = eq-false (suc (length bs)) 0 (λ e. absurd (omega arith))
+no-rest (b ∷ bs) ne = not_equal (suc (length bs)) 0 (λ e. absurd (omega arith))
 
 module _ {H : Type 0} (r : Rules H) (w v : ℕ) (ww : IsWidth w) (vw : IsWidth v) (partial_masked : (h : H) → r.partial h ≡ true → r.masked ≡ true) where
   -- beats that only begin a message are passed over
@@ -29,7 +30,7 @@ module _ {H : Type 0} (r : Rules H) (w v : ℕ) (ww : IsWidth w) (vw : IsWidth v
   begun-then h homes seen [] ys heads short = ap (λ q. due_after r w v q homes ys) (sym (append-nil seen))
   begun-then h homes seen (b ∷ bs) ys heads short =
       let s : beats_of r b.head w ≡ beats_of r h w = ap (λ g. beats_of r g w) (heads 0 b refl) in
-      let t : ends r w seen b ≡ false = eq-false (length seen + 1) (beats_of r b.head w) (λ q. absurd (omega arith)) in
+      let t : ends r w seen b ≡ false = not_equal (length seen + 1) (beats_of r b.head w) (λ q. absurd (omega arith)) in
       let len : length (seen ++ b ∷ []) ≡ length seen + 1 = length-append seen (b ∷ []) in
       rw t (begun-then h homes (seen ++ b ∷ []) bs ys (λ j y q. heads (suc j) y q) (omega arith) ∙
       ap (λ q. due_after r w v q homes ys) (snoc-join seen b bs))

@@ -1,11 +1,11 @@
 -- What is due is handed at the far width, by the same messages with corrupt gathered.
-use Rattle.std.proofs.Common.{◌≡◌, ◌≤◌, ◌<◌, ◌+◌, ◌-◌, ◌*◌, ◌/◌, ◌^◌, ◌≢◌, ◌==◌, ◌⊎◌, ◌&&◌, ◌++◌, ℕ, zero, suc, Bool, true, false, cond, not, Option, None, Some, List, [], ◌∷◌, length, get_or, take, map, slice_get, flat_map, refl, sym, ap, subst, ◌∙◌, arith, rules, inl, inr, ⊎_elim, append-nil, append_assoc, length-append}
+use Rattle.std.proofs.Common.{◌≡◌, ◌≤◌, ◌<◌, ◌+◌, ◌-◌, ◌*◌, ◌/◌, ◌^◌, ◌≢◌, ◌==◌, ◌&&◌, ◌++◌, ℕ, zero, suc, Bool, true, false, cond, not, Option, None, Some, List, [], ◌∷◌, length, get_or, take, map, slice_get, flat_map, refl, sym, ap, subst, ◌∙◌, arith, rules, ⊎_elim, append-nil, append_assoc, length-append}
 use Rattle.std.specs.List.{range_with_len, enumerate_from}
 use Rattle.std.specs.Option.{option_map_or}
 use Rattle.std.specs.Int.{bit_at}
 use Rattle.std.proofs.lemmas.Option.{slice_get-get_or, get_or_from_slice_get, slice_get_within, none-some, same_Some}
 use Rattle.std.proofs.lemmas.List.FromFn.{get_or-map-range_with_len, length-map-range_with_len, fill_by_all}
-use Rattle.std.proofs.lemmas.Bool.Decides.{eqb_tells, leb_tells}
+use Rattle.std.proofs.lemmas.Bool.Decides.{leb_tells}
 use Rattle.std.proofs.Math.Nat.{mul-le-mul_right, div-mul-le_self}
 use Rattle.tl_msg.specs.Rules.{Rules}
 use Rattle.tl_msg.specs.declared.beat.BeatOf.{BeatOf}
@@ -19,11 +19,14 @@ use Rattle.tl_convert.specs.Due.{part, due_after, due, far_beats_of, Begins}
 use Rattle.tl_convert.specs.Laws.{is_bad_with, IsEvenlyBad, gathered, far_homes, FarIsHanded}
 use Rattle.tl_burst.proofs.Places.{byte_on-some, per-pos}
 use Rattle.tl_lanes.proofs.Masks.{bit_at-mask_of}
-use Rattle.tl_burst.proofs.Runs.{mask_of-same, map-parts, of_cells, cell_at, run_cells, run-is, near-fill, whole-same}
+use Rattle.tl_burst.proofs.Runs.{mask_of-same, map-parts, of_cells, cell_at, run_cells, run-is, near-fill, whole-same, some_of-none}
 use Rattle.tl_convert.proofs.RunStep.{run_end, end-room, part-is}
 use Rattle.tl_burst.proofs.Burst.{more-carries}
 use Rattle.tl_burst.proofs.Numbers.{slice_get-left}
 use Rattle.tl_burst.proofs.Fits.{head_of}
+use Rattle.std.proofs.lemmas.Bool.{cases_Bool}
+use Rattle.std.proofs.lemmas.List.{nil_from_length}
+use Rattle.tl_convert.proofs.Comparisons.{equal_true, not_equal, there_is}
 
 -- cells whose corrupt is f of their place
 abbrev pub with_bad : (ℕ → Bool) → ℕ → List Cell → List Cell
@@ -61,10 +64,6 @@ with_bad-same f a (c ∷ cs) h =
     ap (λ b. record { byte = c.byte; on = c.on; bad = b } ∷ with_bad f (a + 1) cs) (sym (h 0 c refl ∙ ap f z)) ∙
     ap (λ xs. c ∷ xs) (with_bad-same f (a + 1) cs (λ i d e.
     let y : a + suc i ≡ a + 1 + i = omega arith in h (suc i) d e ∙ ap f y))
-
-some_of-none : (f : ℕ → Bool) (a n : ℕ) → ((x : ℕ) → f x ≡ false) → some_of f a n ≡ false
-some_of-none f a zero h = refl
-some_of-none f a (suc n) h = rw (some_of-none f a n h) (h (a + n))
 
 no-cell : (cs : List Cell) (i : ℕ) → length cs ≡ 0 → option_map_or (λ c. c.bad) (slice_get cs i) false ≡ false
 no-cell [] i e = refl
@@ -105,28 +104,9 @@ on-is true false on x pm full bit = let e : false ≡ true = pm refl in absurd (
 on-is true true true x pm full bit = let e : x ≡ 1 = bit refl in rw e refl
 on-is true true false x pm full bit = let e : x ≡ 0 = bit refl in rw e refl
 
-pub bool-cases : (b : Bool) → (b ≡ true) ⊎ (b ≡ false)
-bool-cases true = inl refl
-bool-cases false = inr refl
-
-pub eq-true : (a b : ℕ) → a ≡ b → (a == b) ≡ true
-eq-true a b e = ⊎_elim (λ s. s.0) (λ s. absurd (s.1 e)) (eqb_tells a b)
-
-pub eq-false : (a b : ℕ) → a ≢ b → (a == b) ≡ false
-eq-false a b ne = ⊎_elim (λ s. absurd (ne s.1)) (λ s. s.0) (eqb_tells a b)
-
-pub has-at : {A : Type 0} (xs : List A) (j : ℕ) → j < length xs → (b : A) × (slice_get xs j ≡ Some b)
-has-at [] j lt = absurd (omega arith)
-has-at (x ∷ xs) zero lt = (x, refl)
-has-at (x ∷ xs) (suc j) lt = has-at xs j (omega arith)
-
 pub some-length : {A : Type 0} (xs : List A) → xs ≢ [] → 0 < length xs
 some-length [] ne = absurd (ne refl)
 some-length (x ∷ xs) ne = omega arith
-
-pub no-length : {A : Type 0} (xs : List A) → length xs ≡ 0 → xs ≡ []
-no-length [] e = refl
-no-length (x ∷ xs) e = absurd (omega arith)
 
 pub snoc-join : {A : Type 0} (xs : List A) (y : A) (ys : List A) → (xs ++ y ∷ []) ++ ys ≡ xs ++ y ∷ ys
 snoc-join [] y ys = refl
@@ -274,7 +254,7 @@ module _ {H : Type 0} (r : Rules H) where
           let le : k / per_beat r m.head w * per_beat r m.head w ≤ k = div-mul-le_self k (per_beat r m.head w) in
           let j : k / per_beat r m.head w < beats_of r m.head w = less-factor (k / per_beat r m.head w) (beats_of r m.head w) (per_beat r m.head w) (omega arith) in
           let count : length bs ≡ beats_of r m.head w = spells.count in
-          let b = has-at bs (k / per_beat r m.head w) (omega arith) in
+          let b = there_is bs (k / per_beat r m.head w) (omega arith) in
           let beat : SpellsBeat r m w (k / per_beat r m.head w) b.0 = spells.each (k / per_beat r m.head w) b.0 b.1 in
           let lane : ℕ = lane_of m.home k w in
           let there : byte_on r m w (k / per_beat r m.head w) (lane_of m.home k w) ≡ Some k =
@@ -301,10 +281,10 @@ module _ {H : Type 0} (r : Rules H) where
           cell-is carries k lt (get_or m.cells k d) (slice_get-get_or m.cells k d (omega arith))) in
           run-is r m.head w v m.home ww vw carries bs ∙ ap (λ cs. of_cells r m.head m.home cs) (sym cells))
           (λ empty.
-          let none_in : m.cells ≡ [] = no-length m.cells (lawful.cells ∙ ap (λ b. cond b (2 ^ r.size m.head) 0) empty) in
+          let none_in : m.cells ≡ [] = nil_from_length m.cells (lawful.cells ∙ ap (λ b. cond b (2 ^ r.size m.head) 0) empty) in
           let all : message_of r m.head w m.home bs ≡ of_cells r m.head m.home [] = rw empty refl in
           all ∙ ap (λ cs. of_cells r m.head m.home cs) (sym none_in))
-          (bool-cases (r.carries m.head))
+          (cases_Bool (r.carries m.head))
 
     -- what is due of a list that begins with the beats of a message
     pub whole-due : (h : H) (x : ℕ) (homes : List ℕ) (o seen bs : List (BeatOf H w)) → ((j : ℕ) (b : BeatOf H w) → slice_get bs j ≡ Some b → b.head ≡ h) →
@@ -314,12 +294,12 @@ module _ {H : Type 0} (r : Rules H) where
     whole-due h x homes o seen (b ∷ []) heads some count =
         let e : b.head ≡ h = heads 0 b refl in
         let n : length seen + 1 ≡ beats_of r h w = omega arith in
-        let t : ends r w seen b ≡ true = eq-true (length seen + 1) (beats_of r b.head w) (n ∙ ap (λ g. beats_of r g w) (sym e)) in
+        let t : ends r w seen b ≡ true = equal_true (length seen + 1) (beats_of r b.head w) (n ∙ ap (λ g. beats_of r g w) (sym e)) in
         rw t (ap (λ g. layout r (message_of r g w x (seen ++ b ∷ [])) v ++ due_after r w v [] homes o) e)
     whole-due h x homes o seen (b ∷ c ∷ cs) heads some count =
         let e : b.head ≡ h = heads 0 b refl in
         let s : beats_of r b.head w ≡ beats_of r h w = ap (λ g. beats_of r g w) e in
-        let t : ends r w seen b ≡ false = eq-false (length seen + 1) (beats_of r b.head w) (λ q. absurd (omega arith)) in
+        let t : ends r w seen b ≡ false = not_equal (length seen + 1) (beats_of r b.head w) (λ q. absurd (omega arith)) in
         let len : length (seen ++ b ∷ []) ≡ length seen + 1 = length-append seen (b ∷ []) in
         rw t (whole-due h x homes o (seen ++ b ∷ []) (c ∷ cs) (λ j y q. heads (suc j) y q) (λ q. cc) (omega arith) ∙
         ap (λ q. layout r (message_of r h w x q) v ++ due_after r w v [] homes o) (snoc-join seen b (c ∷ cs)))
@@ -330,7 +310,7 @@ module _ {H : Type 0} (r : Rules H) where
     begun-due h x seen [] heads short = ap (λ q. part r w v x q) (sym (append-nil seen))
     begun-due h x seen (b ∷ bs) heads short =
         let s : beats_of r b.head w ≡ beats_of r h w = ap (λ g. beats_of r g w) (heads 0 b refl) in
-        let t : ends r w seen b ≡ false = eq-false (length seen + 1) (beats_of r b.head w) (λ q. absurd (omega arith)) in
+        let t : ends r w seen b ≡ false = not_equal (length seen + 1) (beats_of r b.head w) (λ q. absurd (omega arith)) in
         let len : length (seen ++ b ∷ []) ≡ length seen + 1 = length-append seen (b ∷ []) in
         rw t (begun-due h x (seen ++ b ∷ []) bs (λ j y q. heads (suc j) y q) (omega arith) ∙ ap (λ q. part r w v x q) (snoc-join seen b bs))
 
@@ -347,7 +327,7 @@ module _ {H : Type 0} (r : Rules H) where
         let z : 0 * per_beat r m.head w ≡ 0 = omega arith in
         less-factor 0 (beats_of r m.head w) (per_beat r m.head w) (omega arith))
         (λ empty. let n : beats_of r m.head w ≡ 1 = rw empty refl in omega arith)
-        (bool-cases (r.carries m.head))
+        (cases_Bool (r.carries m.head))
 
     pub not-empty : (m : Message H) (bs : List (BeatOf H w)) → Spells r m w bs → bs ≢ []
     not-empty m bs spells e =
@@ -397,7 +377,7 @@ module _ {H : Type 0} (r : Rules H) where
         Handed r v far_rest (far_homes r [] (x ∷ []) far_rest) [] far_rest
     begun-homes x [] h = nothing
     begun-homes x (b ∷ bs) h =
-        let t : (suc (length bs) == 0) ≡ false = eq-false (suc (length bs)) 0 (λ e. absurd (omega arith)) in
+        let t : (suc (length bs) == 0) ≡ false = not_equal (suc (length bs)) 0 (λ e. absurd (omega arith)) in
         let P : Bool → Type 0 = λ q. Handed r v (b ∷ bs) (take (0 + cond q 0 1) (x ∷ [])) [] (b ∷ bs) in
         subst P (sym t) (h (λ e. cc))
 

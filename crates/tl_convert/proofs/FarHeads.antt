@@ -15,7 +15,8 @@ use Rattle.tl_convert.specs.Due.{far_beats_of, due}
 use Rattle.tl_convert.proofs.Extends.{Extends, more, extends-same, extends-front, extends-on, take-grows, take-next, take-past, grows}
 use Rattle.tl_convert.proofs.Comparisons.{true_equal, false_apart}
 use Rattle.tl_convert.proofs.Begins.{take-nil, some_beats, more-due, heads_open, heads_inside_one, left_open, left_inside_one}
-use Rattle.tl_convert.proofs.Finished.{finished_after, rest_more, finished_more, far_opened, heads_due}
+use Rattle.tl_convert.proofs.Finished.{finished_after, finished_more, far_opened, heads_due}
+use Rattle.tl_burst.proofs.Burst.{rest-snoc}
 
 -- none of the first i beats has a fault after those before it
 pub record NoFaults {H : Type 0} (r : Rules H) {w : ℕ} (bs : List (BeatOf H w)) (i : ℕ) : Type 0 where
@@ -117,9 +118,9 @@ module _ {H : Type 0} (r : Rules H) (exact : (x y : H) → r.same x y ≡ true �
       let next = step bs b (rest_of r w bs) (ends r w (rest_of r w bs) b) refl (keeps_head r exact bs b fine) (k.heads_are, k.left_is, k.short) in
       record {
         heads_are = next.0 ∙ ap (λ q. q ++ rest_heads r w (cond (ends r w (rest_of r w bs) b) [] (rest_of r w bs ++ b ∷ []))) (sym (finished_more r w [] bs b)) ∙
-            ap (λ q. finished_after r w [] (bs ++ b ∷ []) ++ rest_heads r w q) (sym (rest_more r w [] bs b));
-        left_is = next.1 ∙ ap lacks (sym (rest_more r w [] bs b));
-        short = subst IsShort (sym (rest_more r w [] bs b)) next.2;
+            ap (λ q. finished_after r w [] (bs ++ b ∷ []) ++ rest_heads r w q) (sym (rest-snoc r w [] bs b));
+        left_is = next.1 ∙ ap lacks (sym (rest-snoc r w [] bs b));
+        short = subst IsShort (sym (rest-snoc r w [] bs b)) next.2;
       }
 
   -- each list without faults is read so
@@ -177,7 +178,7 @@ module _ {H : Type 0} (r : Rules H) (exact : (x y : H) → r.same x y ≡ true �
     due_grows_one : (bs : List (BeatOf H w)) (b : BeatOf H w) (hs ks : List ℕ) → fault_after r bs b ≡ None →
         Extends (heads r v (due r w v bs hs)) (heads r v (due r w v (bs ++ b ∷ []) ks))
     due_grows_one bs b hs ks fine =
-        rw (heads_due r w v some_far hs bs, heads_due r w v some_far ks (bs ++ b ∷ []), finished_more r w [] bs b, rest_more r w [] bs b)
+        rw (heads_due r w v some_far hs bs, heads_due r w v some_far ks (bs ++ b ∷ []), finished_more r w [] bs b, rest-snoc r w [] bs b)
         (one_more (finished_after r w [] bs) b (rest_of r w bs) (ends r w (rest_of r w bs) b) (keeps_head r exact bs b fine))
 
     -- so more near beats make no fewer begin, whatever the homes

@@ -10,15 +10,14 @@ use Rattle.std.proofs.Math.Pow.{pow_mono}
 use Rattle.tl_msg.specs.Rules.{Rules}
 use Rattle.tl_msg.specs.declared.beat.BeatOf.{BeatOf}
 use Rattle.tl_lanes.specs.Lanes.{IsWidth, lane_of}
-use Rattle.tl_lanes.proofs.Widths.{lanes_differ, lane-lt, lane-lt-64, width_bounds, lane-shift}
+use Rattle.tl_lanes.proofs.Widths.{lane-lt, lane-lt-64, width_bounds, lane-shift}
 use Rattle.tl_burst.specs.Messages.{Message, Cell, per_beat, lane_value, lane_on, mask_at, beat_at, some_of, is_bad}
 use Rattle.tl_burst.specs.Reading.{cell_of}
 use Rattle.tl_convert.specs.Partial.{Filled}
 use Rattle.tl_convert.specs.Inner.Pouring.{Brings, Poured}
-use Rattle.tl_burst.proofs.Places.{per-le}
 use Rattle.tl_lanes.proofs.Masks.{mask_of-lt, bit_at-mask_of}
 use Rattle.tl_burst.proofs.Numbers.{zeros}
-use Rattle.tl_burst.proofs.OnLane.{same_beat, on_lane}
+use Rattle.tl_burst.proofs.OnLane.{same_beat, on_lane, apart-lanes}
 
 abbrev digit : Bool → ℕ
 digit b = cond b 1 0
@@ -62,11 +61,6 @@ bit-cell true true (suc zero) y lt none_of all_of = refl
 bit-cell true true (suc (suc x)) y lt none_of all_of = absurd (omega arith)
 
 module _ {H : Type 0} (r : Rules H) (m : Message H) (v : ℕ) (vw : IsWidth v) where
-  -- bytes of one beat stand on different lanes
-  apart-lanes : (j i i' : ℕ) → j * per_beat r m.head v ≤ i → i < i' → i' < j * per_beat r m.head v + per_beat r m.head v →
-      lane_of m.home i v ≢ lane_of m.home i' v
-  apart-lanes j i i' lo lt hi = let le : per_beat r m.head v ≤ v = per-le r m v vw in lanes_differ m.home i i' v vw lt (omega arith)
-
   -- a beat without a byte
   pub Filled-none : (j : ℕ) (b : BeatOf H v) → b.head ≡ m.head → b.lanes ≡ replicate v 0 → length b.lanes ≡ v → b.mask ≡ 0 → b.corrupt ≡ false →
       Filled r m v j (j * per_beat r m.head v) b
@@ -89,11 +83,11 @@ module _ {H : Type 0} (r : Rules H) (m : Message H) (v : ℕ) (vw : IsWidth v) w
 
     -- an older byte's lane isn't written
     old-lane : (i k : ℕ) → j * per_beat r m.head v ≤ i → i < d → k < q → lane_of at k v ≢ lane_of m.home i v
-    old-lane i k il id kq e = apart-lanes j i (d + k) il (omega arith) (omega arith) (sym e ∙ there k v vw)
+    old-lane i k il id kq e = apart-lanes r m v vw j i (d + k) il (omega arith) (omega arith) (sym e ∙ there k v vw)
 
     -- nor has a new byte's lane an older byte
     new-lane : (i i' : ℕ) → d ≤ i → i < d + q → j * per_beat r m.head v ≤ i' → i' < d → lane_of m.home i' v ≢ lane_of m.home i v
-    new-lane i i' il ih il' ih' e = apart-lanes j i' i il' (omega arith) (omega arith) e
+    new-lane i i' il ih il' ih' e = apart-lanes r m v vw j i' i il' (omega arith) (omega arith) e
 
     -- a new byte's place
     place : (i x : ℕ) → IsWidth x → d ≤ i → lane_of at (i - d) x ≡ lane_of m.home i x

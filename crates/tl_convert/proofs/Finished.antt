@@ -23,13 +23,6 @@ module _ {H : Type 0} (r : Rules H) (w : ℕ) where
   finished_after seen [] = []
   finished_after seen (b ∷ bs) = cond (ends r w seen b) (b.head ∷ finished_after [] bs) (finished_after (seen ++ b ∷ []) bs)
 
-  -- the rest, and the messages that are whole, after one more beat
-  pub rest_more : (seen xs : List (BeatOf H w)) (b : BeatOf H w) →
-      rest_after r w seen (xs ++ b ∷ []) ≡ cond (ends r w (rest_after r w seen xs) b) [] (rest_after r w seen xs ++ b ∷ [])
-  rest_more seen [] b = refl
-  rest_more seen (x ∷ xs) b =
-      both-two (λ y z. y ≡ cond (ends r w z b) [] (z ++ b ∷ [])) (ends r w seen x) (rest_more [] xs b) (rest_more (seen ++ x ∷ []) xs b)
-
   pub finished_more : (seen xs : List (BeatOf H w)) (b : BeatOf H w) →
       finished_after seen (xs ++ b ∷ []) ≡ finished_after seen xs ++ cond (ends r w (rest_after r w seen xs) b) (b.head ∷ []) []
   finished_more seen [] b = refl

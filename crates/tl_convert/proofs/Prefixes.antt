@@ -5,7 +5,7 @@ use Rattle.std.proofs.Math.Nat.{div-lt_iff_lt-mul, lt-div-mul-add, div-mul-le_se
 use Rattle.std.specs.Prelude.{slice_get, slice_index, find, ◌==◌, ◌&&◌, ◌||◌}
 use Rattle.std.specs.List.{range_with_len}
 use Rattle.std.specs.Option.{option_map_or}
-use Rattle.tl_lanes.specs.Lanes.{lane_of, mask_of}
+use Rattle.tl_lanes.specs.Lanes.{lane_of}
 use Rattle.tl_msg.specs.Rules.{Rules}
 use Rattle.tl_msg.specs.declared.beat.BeatOf.{BeatOf}
 use Rattle.tl_burst.specs.Messages.{Message, Cell, beats_of, per_beat, byte_on, lane_value, lane_on, mask_at, is_bad, some_of, beat_at, layout}
@@ -16,8 +16,10 @@ use Rattle.tl_convert.specs.Due.{far_beats_of, part, due}
 use Rattle.tl_convert.proofs.Extends.{Extends, more, extends-same, extends-front, take-some, take-grows, take-next, take-past, grows}
 use Rattle.tl_convert.proofs.Comparisons.{true_equal}
 use Rattle.tl_convert.proofs.Begins.{per-beat-some, more-due}
-use Rattle.tl_convert.proofs.Finished.{finished_after, rest_more, laid_after, homes_left, due_split, laid_more, homes_more, laid_homes, left_homes, left_count}
+use Rattle.tl_convert.proofs.Finished.{finished_after, laid_after, homes_left, due_split, laid_more, homes_more, laid_homes, left_homes, left_count}
 use Rattle.tl_convert.proofs.FarHeads.{NoFaults, IsRead, reads, KeepsHead, keeps_head, no-faults-less}
+use Rattle.tl_burst.proofs.Runs.{mask_of-same}
+use Rattle.tl_burst.proofs.Burst.{rest-snoc}
 
 map_agree : {X : Type 0} (f g : ℕ → X) (s n c : ℕ) → ((t : ℕ) → t < s + c → f t ≡ g t) → take c (map f (range_with_len s n)) ≡ take c (map g (range_with_len s n))
 map_agree f g s n zero h = refl
@@ -30,10 +32,6 @@ map_agree f g s (suc n) (suc c) h =
 map_same : {X : Type 0} (f g : ℕ → X) (xs : List ℕ) → ((t : ℕ) → f t ≡ g t) → map f xs ≡ map g xs
 map_same f g [] h = refl
 map_same f g (x ∷ xs) h = ap (λ y. y ∷ map f xs) (h x) ∙ ap (λ q. g x ∷ q) (map_same f g xs h)
-
-mask_same : (f g : ℕ → Bool) (n : ℕ) → ((t : ℕ) → f t ≡ g t) → mask_of f n ≡ mask_of g n
-mask_same f g zero h = refl
-mask_same f g (suc n) h = ap (λ x. x + cond (f n) (2 ^ n) 0) (mask_same f g n h) ∙ ap (λ b. mask_of g n + cond b (2 ^ n) 0) (h n)
 
 some_same : (f g : ℕ → Bool) (a n : ℕ) → ((t : ℕ) → t < a + n → f t ≡ g t) → some_of f a n ≡ some_of g a n
 some_same f g a zero h = refl
@@ -95,7 +93,7 @@ module _ {H : Type 0} (r : Rules H) (h : H) (home v : ℕ) (wide : 0 < v) where
     pub beat_same : beat_at r (told xs) v t ≡ beat_at r (told ys) v t
     beat_same =
         let masks : mask_at r (told xs) v t ≡ mask_at r (told ys) v t =
-        mask_same (λ l. r.masked && lane_on r (told xs) v t l) (λ l. r.masked && lane_on r (told ys) v t l) v
+        mask_of-same (λ l. r.masked && lane_on r (told xs) v t l) (λ l. r.masked && lane_on r (told ys) v t l) v
         (λ l. ap (λ b. r.masked && b) (get_same l (λ c. c.on) _ false (byte_on r (told xs) v t l) refl)) in
         let lanes : map (lane_value r (told xs) v t) (range_with_len 0 v) ≡ map (lane_value r (told ys) v t) (range_with_len 0 v) =
         map_same (lane_value r (told xs) v t) (lane_value r (told ys) v t) (range_with_len 0 v)
@@ -172,7 +170,7 @@ module _ {H : Type 0} (r : Rules H) (exact : (x y : H) → r.same x y ≡ true �
       part r w v (slice_index q 0) (rest_of r w (bs ++ b ∷ [])))) (homes_more r w v [] homes bs b) ∙
       ap (λ q. laid_after r w v [] homes bs ++
       (cond (ends r w (rest_of r w bs) b) (layout r (message_of r b.head w (slice_index (homes_left r w v [] homes bs) 0) (rest_of r w bs ++ b ∷ [])) v) [] ++
-      part r w v (slice_index (cond (ends r w (rest_of r w bs) b) (drop 1 (homes_left r w v [] homes bs)) (homes_left r w v [] homes bs)) 0) q)) (rest_more r w [] bs b)
+      part r w v (slice_index (cond (ends r w (rest_of r w bs) b) (drop 1 (homes_left r w v [] homes bs)) (homes_left r w v [] homes bs)) 0) q)) (rest-snoc r w [] bs b)
 
   count_opened : (finished : List H) (rest : List (BeatOf H w)) (n : ℕ) → length (finished ++ rest_heads r w rest) ≤ n →
       (length finished ≤ n) × (0 < length rest → length finished < n)

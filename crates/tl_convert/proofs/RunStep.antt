@@ -22,10 +22,7 @@ use Rattle.tl_burst.proofs.Places.{per-pos}
 use Rattle.tl_burst.proofs.Numbers.{div-up}
 use Rattle.tl_burst.proofs.LaneShift.{same-lane}
 use Rattle.tl_burst.proofs.Runs.{map-parts, some_of-same, of_cells, run_cells, run-is, run-length, run-cell, near-fill, far-fill, cells-same, whole-same}
-
-seam : {A : Type 0} (xs : List A) (y : A) → slice_get (xs ++ y ∷ []) (length xs) ≡ Some y
-seam [] y = refl
-seam (x ∷ xs) y = seam xs y
+use Rattle.tl_convert.proofs.Comparisons.{seam}
 
 heads-more : {H : Type 0} {w : ℕ} (bs : List (BeatOf H w)) (b : BeatOf H w) (h : H) → b.head ≡ h → ((g : H) → head_of bs ≡ Some g → g ≡ h) →
     (g : H) → head_of (bs ++ b ∷ []) ≡ Some g → g ≡ h

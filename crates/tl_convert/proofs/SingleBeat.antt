@@ -1,21 +1,17 @@
 -- The far beat of a message without data.
-use Rattle.std.proofs.Common.{◌≡◌, ◌≤◌, ◌+◌, ◌*◌, ◌^◌, ◌&&◌, ℕ, zero, suc, Bool, true, false, [], ◌∷◌, length, get_or, map, replicate, refl, sym, ap, ◌∙◌, arith, ⊎_elim}
+use Rattle.std.proofs.Common.{◌≡◌, ◌≤◌, ◌+◌, ◌*◌, ◌^◌, ◌&&◌, ℕ, zero, suc, true, false, [], ◌∷◌, length, get_or, map, replicate, refl, sym, ap, ◌∙◌, arith, ⊎_elim}
 use Rattle.std.specs.List.{range_with_len}
 use Rattle.std.proofs.lemmas.List.FromFn.{fill_by_all}
 use Rattle.tl_msg.specs.Rules.{Rules}
 use Rattle.tl_msg.specs.declared.beat.BeatOf.{BeatOf}
 use Rattle.tl_lanes.proofs.ActiveLanes.{is_active-from_lane, is_active-false}
 use Rattle.tl_lanes.specs.Lanes.{IsWidth}
-use Rattle.tl_burst.specs.Messages.{per_beat, beats_of, lane_value, lane_on, mask_at, beat_at, layout, of_head, some_of, is_bad}
+use Rattle.tl_burst.specs.Messages.{per_beat, beats_of, lane_value, lane_on, mask_at, beat_at, layout, of_head, is_bad}
 use Rattle.tl_lanes.specs.Lanes.{mask_of, is_active, active_mask}
-use Rattle.tl_burst.proofs.Runs.{mask_of-same}
-use Rattle.tl_burst.proofs.SpelledRun.{bool-cases}
+use Rattle.tl_burst.proofs.Runs.{mask_of-same, some_of-none}
 use Rattle.tl_burst.proofs.OnLane.{on_lane, same_beat}
 use Rattle.tl_burst.proofs.Numbers.{zeros}
-
-some_of-none : (f : ℕ → Bool) (a n : ℕ) → ((x : ℕ) → f x ≡ false) → some_of f a n ≡ false
-some_of-none f a zero h = refl
-some_of-none f a (suc n) h = rw (some_of-none f a n h) (h (a + n))
+use Rattle.std.proofs.lemmas.Bool.{cases_Bool}
 
 no-mask : (n : ℕ) → mask_of (λ l. false) n ≡ 0
 no-mask zero = refl
@@ -47,7 +43,7 @@ module _ {H : Type 0} (r : Rules H) (h : H) (v x : ℕ) (vw : IsWidth v) (empty 
       (λ l. sym (lane-is l) ∙ ap (λ y. y && lane_on r (of_head h x) v 0 l) (sym masked)))
       (λ plain. off plain ∙ sym (mask_of-same (λ l. r.masked && lane_on r (of_head h x) v 0 l) (λ l. false) v
       (λ l. ap (λ y. y && lane_on r (of_head h x) v 0 l) plain) ∙ no-mask v))
-      (bool-cases r.masked)
+      (cases_Bool r.masked)
 
   pub single-is : b ∷ [] ≡ layout r (of_head h x) v
   single-is =

@@ -5,3 +5,4 @@ pub mod ActiveLanes
 pub mod LaneRuns
 pub mod LaneMoves
 pub mod MaskMoves
+pub mod Sizes

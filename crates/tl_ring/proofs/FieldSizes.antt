@@ -1,9 +1,8 @@
 -- A field takes no more bytes of memory than its struct, and a beat takes few.
 use Rattle.std.proofs.Common.{ℕ, zero, suc, ◌+◌, ◌-◌, ◌*◌, ◌%◌, ◌≤◌, ◌<◌, max, arith}
-use Rattle.std.proofs.Math.Nat.{mod-le}
 use Rattle.tl_lanes.specs.Lanes.{IsWidth}
 use Rattle.tl_lanes.proofs.Widths.{width_bounds}
-use Rattle.tl_convert.proofs.Sizes.{align-small}
+use Rattle.tl_lanes.proofs.Sizes.{align-small, up_le}
 use mir.Syntax.{Ty, Tys, tnil, tcons, ttcons, ty_struct, ty_enum, ty_unit}
 use prog.Memory.{size, align, aligns, alignss, up, end_of, endss}
 use prog.Align.{up-ge, end_ge}
@@ -37,10 +36,6 @@ pub first_part_small : (t : Ty) (n : ℕ) → size t < n → size (first_part t)
 first_part_small (ty_enum name (ttcons (tcons t ts) tss)) n small =
     let h = end_holds 1 (tcons t ts) 0 in let g = up-ge (alignss (ttcons (tcons t ts) tss)) (endss (ttcons (tcons t ts) tss)) in omega arith
 first_part_small t n small = omega arith
-
--- a place is rounded up by no more than the step
-up_le : (k e : ℕ) → up k e ≤ e + k
-up_le k e = let m : (k - e % k) % k ≤ k - e % k = mod-le (k - e % k) k in omega arith
 
 -- a beat whose head takes few bytes fits in memory
 pub beat_small : (head w : ℕ) → head ≤ 64 → IsWidth w → up 8 (up 1 (head + w * 1) + 1) < 9223372036854775808

@@ -8,6 +8,7 @@ use Rattle.tl_msg.specs.declared.head.HeadD.{HeadD}
 use Rattle.tl_settle.specs.Histories.{Answers, Asks, Mark, open_after, open_from, open_request}
 use Rattle.tl_settle.specs.Laws.{is_of, answers_to, IsOpenRequest, IsBusy}
 use Rattle.tl_settle.specs.Requests.{is_request_of, is_response_to}
+use Rattle.std.proofs.lemmas.Bool.{not-true}
 
 open_over : (s : ℕ) (o : Option HeadA) (xs ys : List Mark) → open_from s o (xs ++ ys) ≡ open_from s (open_from s o xs) ys
 open_over s o [] ys = refl
@@ -21,18 +22,14 @@ second_is : (x y : Bool) → (x && y) ≡ true → y ≡ true
 second_is true y e = e
 second_is false y e = let f : false ≡ true = e in cc
 
-not_false : (b : Bool) → not b ≡ true → b ≡ false
-not_false true e = sym e
-not_false false e = refl
-
 -- messages of other sources leave an open request as it is
 rests : (s : ℕ) (o : Option HeadA) (ms : List Mark) → list_all (λ m. not (is_of s m)) ms ≡ true → open_from s o ms ≡ o
 rests s o [] e = refl
 rests s o (Asks h ∷ ms) e =
-    let other = not_false (is_request_of s h) (first_is (not (is_request_of s h)) (list_all (λ m. not (is_of s m)) ms) e) in
+    let other = not-true (is_request_of s h) (first_is (not (is_request_of s h)) (list_all (λ m. not (is_of s m)) ms) e) in
     ap (λ b. open_from s (cond b (Some h) o) ms) other ∙ rests s o ms (second_is (not (is_request_of s h)) (list_all (λ m. not (is_of s m)) ms) e)
 rests s o (Answers h ∷ ms) e =
-    let other = not_false (is_response_to s h) (first_is (not (is_response_to s h)) (list_all (λ m. not (is_of s m)) ms) e) in
+    let other = not-true (is_response_to s h) (first_is (not (is_response_to s h)) (list_all (λ m. not (is_of s m)) ms) e) in
     ap (λ b. open_from s (cond b None o) ms) other ∙ rests s o ms (second_is (not (is_response_to s h)) (list_all (λ m. not (is_of s m)) ms) e)
 
 pub last_is_open : (s : ℕ) (ms : List Mark) (h : HeadA) → IsOpenRequest s ms h → open_request s ms ≡ Some h
@@ -102,7 +99,7 @@ stays : (s : ℕ) (o : Option HeadA) (ms : List Mark) → is_some o ≡ true →
 stays s o [] is e = is
 stays s o (Asks h ∷ ms) is e = stays s (cond (is_request_of s h) (Some h) o) ms (some_cond (is_request_of s h) h o is) e
 stays s o (Answers h ∷ ms) is e =
-    let other = not_false (is_response_to s h) (first_is (not (is_response_to s h)) (list_all (λ m. not (answers_to s m)) ms) e) in
+    let other = not-true (is_response_to s h) (first_is (not (is_response_to s h)) (list_all (λ m. not (answers_to s m)) ms) e) in
     ap (λ b. is_some (open_from s (cond b None o) ms)) other ∙
     stays s o ms is (second_is (not (is_response_to s h)) (list_all (λ m. not (answers_to s m)) ms) e)
 

@@ -1,16 +1,12 @@
 -- Heads of which all fields are the same are the same head.
 use Rattle.std.proofs.Common.{◌≡◌, Bool, true, false, refl, ap, ◌∙◌}
-use Rattle.std.specs.Prelude.{◌&&◌, ◌==◌}
+use Rattle.std.specs.Prelude.{◌==◌}
 use Rattle.std.specs.Bool.{beq}
 use Rattle.tl_msg.specs.Tables.{rules_a, rules_d}
 use Rattle.tl_msg.specs.declared.head.HeadA.{HeadA}
 use Rattle.tl_msg.specs.declared.head.HeadD.{HeadD}
 use Rattle.tl_convert.proofs.Comparisons.{true_equal}
-
-each : (b c : Bool) → (b && c) ≡ true → (b ≡ true) × (c ≡ true)
-each true true e = (refl, refl)
-each true false e = cc
-each false c e = cc
+use Rattle.std.proofs.lemmas.Bool.{and_parts}
 
 same_bool : (x y : Bool) → beq x y ≡ true → x ≡ y
 same_bool true true e = refl
@@ -20,10 +16,10 @@ same_bool false false e = refl
 
 pub same_a : (x y : HeadA) → rules_a.same x y ≡ true → x ≡ y
 same_a x y e =
-    let opcode = each (x.opcode == y.opcode) _ e in
-    let param = each (x.param == y.param) _ opcode.1 in
-    let size = each (x.size == y.size) _ param.1 in
-    let source = each (x.source == y.source) (x.address == y.address) size.1 in
+    let opcode = and_parts (x.opcode == y.opcode) _ e in
+    let param = and_parts (x.param == y.param) _ opcode.1 in
+    let size = and_parts (x.size == y.size) _ param.1 in
+    let source = and_parts (x.source == y.source) (x.address == y.address) size.1 in
     let o : x.opcode ≡ y.opcode = true_equal x.opcode y.opcode opcode.0 in
     let p : x.param ≡ y.param = true_equal x.param y.param param.0 in
     let z : x.size ≡ y.size = true_equal x.size y.size size.0 in
@@ -35,11 +31,11 @@ same_a x y e =
 
 pub same_d : (x y : HeadD) → rules_d.same x y ≡ true → x ≡ y
 same_d x y e =
-    let opcode = each (x.opcode == y.opcode) _ e in
-    let param = each (x.param == y.param) _ opcode.1 in
-    let size = each (x.size == y.size) _ param.1 in
-    let source = each (x.source == y.source) _ size.1 in
-    let sink = each (x.sink == y.sink) (beq x.denied y.denied) source.1 in
+    let opcode = and_parts (x.opcode == y.opcode) _ e in
+    let param = and_parts (x.param == y.param) _ opcode.1 in
+    let size = and_parts (x.size == y.size) _ param.1 in
+    let source = and_parts (x.source == y.source) _ size.1 in
+    let sink = and_parts (x.sink == y.sink) (beq x.denied y.denied) source.1 in
     let o : x.opcode ≡ y.opcode = true_equal x.opcode y.opcode opcode.0 in
     let p : x.param ≡ y.param = true_equal x.param y.param param.0 in
     let z : x.size ≡ y.size = true_equal x.size y.size size.0 in

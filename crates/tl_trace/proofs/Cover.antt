@@ -1,6 +1,6 @@
 -- A line of the right shape is its letter and its fields, and nothing else.
 use Rattle.std.proofs.Common.{◌≡◌, ◌≢◌, ℕ, zero, suc, ◌+◌, ◌-◌, ◌<◌, ◌≤◌, Bool, true, false, nat_eq, ◌||◌, List, [], ◌∷◌, ◌++◌, length, get_or, drop, refl, sym, ap, ◌∙◌, arith, drop-cons, append_assoc, append-nil, add-one, eq-eqb}
-use Rattle.std.proofs.lemmas.Bool.{eqb-true}
+use Rattle.std.proofs.lemmas.Bool.{eqb-true, or_from}
 use Rattle.std.proofs.lemmas.List.{length-take-le, length-drop, get_or-take, get_or-drop}
 use Rattle.std.proofs.lemmas.Bool.Decides.{nat_tests}
 use Rattle.std.proofs.lemmas.List.Folds.{drop_split, list_any-append}
@@ -39,7 +39,7 @@ cover text at w (field ∷ more) shaped le =
     there ∙ ap (λ (xs : List ℕ). stands text p ++ xs) (after ∙ ap (λ (n : ℕ). flat_map (stands text) rest ++ drop n text) end)
     ∙ sym (append_assoc (stands text p) (flat_map (stands text) rest) (drop (at + length_of w (field ∷ more)) text))
 
-drop_all : (xs : List ℕ) (n : ℕ) → length xs ≤ n → drop n xs ≡ []
+pub drop_all : (xs : List ℕ) (n : ℕ) → length xs ≤ n → drop n xs ≡ []
 drop_all [] zero le = refl
 drop_all [] (suc n) le = refl
 drop_all (x ∷ xs) zero le = absurd (omega arith)
@@ -58,24 +58,20 @@ whole_line f w b text line =
 hex_no_end : (byte : ℕ) → is_hex byte ≡ true → is_newline byte ≡ false
 hex_no_end byte h = grind (arith, nat_tests)
 
-or_both : (x y : Bool) → x ≡ false → y ≡ false → x || y ≡ false
-or_both true y e e' = e
-or_both false y e e' = e'
-
 digits_free : (ds : List ℕ) → list_all is_hex ds ≡ true → IsFree ds
 digits_free [] h = refl
-digits_free (d ∷ ds) h = or_both (is_newline d) (list_any is_newline ds) (hex_no_end d (first_of_and (is_hex d) (list_all is_hex ds) h)) (digits_free ds (second_of_and (is_hex d) (list_all is_hex ds) h))
+digits_free (d ∷ ds) h = or_from (is_newline d) (list_any is_newline ds) (hex_no_end d (first_of_and (is_hex d) (list_all is_hex ds) h)) (digits_free ds (second_of_and (is_hex d) (list_all is_hex ds) h))
 
 fields_free : (text : List ℕ) (ps : List FieldPlace) → list_all (is_shaped_at text) ps ≡ true → IsFree (flat_map (stands text) ps)
 fields_free text [] h = refl
 fields_free text (p ∷ ps) h =
     let here = digits_free (digits_at text p) (second_of_and (nat_eq (slice_index text p.at) 32) (list_all is_hex (digits_at text p)) (first_of_and (is_shaped_at text p) (list_all (is_shaped_at text) ps) h)) in
     let more = fields_free text ps (second_of_and (is_shaped_at text p) (list_all (is_shaped_at text) ps) h) in
-    list_any-append is_newline (stands text p) (flat_map (stands text) ps) ∙ or_both (list_any is_newline (stands text p)) (list_any is_newline (flat_map (stands text) ps)) here more
+    list_any-append is_newline (stands text p) (flat_map (stands text) ps) ∙ or_from (list_any is_newline (stands text p)) (list_any is_newline (flat_map (stands text) ps)) here more
 
 pub line_free : {H : Type 0} (f : Form H) {n : ℕ} (w : ℕ) (b : BeatOf H n) (text : List ℕ) → is_newline f.rules.letter ≡ false → IsLine f w b text → IsFree text
 line_free f w b text letter line =
-    ap (list_any is_newline) (whole_line f w b text line) ∙ or_both (is_newline f.rules.letter) (list_any is_newline (flat_map (stands text) (places f w))) letter (fields_free text (places f w) line.shaped)
+    ap (list_any is_newline) (whole_line f w b text line) ∙ or_from (is_newline f.rules.letter) (list_any is_newline (flat_map (stands text) (places f w))) letter (fields_free text (places f w) line.shaped)
 
 pub says_free : (client manager : ℕ) (line : Line) (text : List ℕ) → SaysLine client manager line text → IsFree text
 says_free client manager (A b) text says = line_free form_a client b text refl says

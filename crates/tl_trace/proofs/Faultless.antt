@@ -3,7 +3,7 @@ use Rattle.std.proofs.Common.{◌≡◌, ℕ, Bool, true, false, cond, ◌&&◌,
 use Rattle.std.specs.Prelude.{decimal, codes, find, bytes_eq, ◌==◌}
 use Rattle.std.specs.Bool.{Decides}
 use Rattle.std.specs.List.{list_all, list_any}
-use Rattle.std.proofs.lemmas.Bool.{eqb-true}
+use Rattle.std.proofs.lemmas.Bool.{eqb-true, or_from}
 use Rattle.std.proofs.lemmas.List.Folds.{list_any-append}
 use Rattle.std.proofs.lemmas.Slice.Eq.{bytes_eq-Decides}
 use Rattle.tl_trace.specs.Texts.{widths, is_width, newline, header_text, SaysLine, is_kept_line, TellsLines, Tells}
@@ -20,18 +20,14 @@ use Rattle.tl_trace.proofs.OneTrace.{in_list, no_newline, same_header}
 
 -- ---- the header
 
-or_both : (x y : Bool) → x ≡ false → y ≡ false → x || y ≡ false
-or_both true y e e' = e
-or_both false y e e' = e'
-
 header_free : (client manager : ℕ) → is_width client ≡ true → is_width manager ≡ true → IsFree (header_text client manager)
 header_free client manager c m =
     let a = codes "tilelink-trace 1 client " in
     let b = codes " manager " in
     list_any-append is_newline (a ++ decimal client ++ b) (decimal manager)
-    ∙ or_both (list_any is_newline (a ++ decimal client ++ b)) (list_any is_newline (decimal manager))
-    (list_any-append is_newline (a ++ decimal client) b ∙ or_both (list_any is_newline (a ++ decimal client)) (list_any is_newline b)
-    (list_any-append is_newline a (decimal client) ∙ or_both (list_any is_newline a) (list_any is_newline (decimal client)) refl (no_newline client c)) refl)
+    ∙ or_from (list_any is_newline (a ++ decimal client ++ b)) (list_any is_newline (decimal manager))
+    (list_any-append is_newline (a ++ decimal client) b ∙ or_from (list_any is_newline (a ++ decimal client)) (list_any is_newline b)
+    (list_any-append is_newline a (decimal client) ∙ or_from (list_any is_newline a) (list_any is_newline (decimal client)) refl (no_newline client c)) refl)
     (no_newline manager m)
 
 abbrev is_pair : (client manager : ℕ) → ℕ × ℕ → Bool

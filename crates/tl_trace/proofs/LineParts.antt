@@ -1,6 +1,6 @@
 -- A line in three parts: the head, the mask, data and corrupt; once for the form of every channel.
 use Rattle.std.proofs.Common.{◌≡◌, ℕ, ◌+◌, ◌*◌, ◌^◌, ◌<◌, ◌≤◌, Bool, true, false, cond, not, nat_eq, nat_lt, ◌&&◌, ◌||◌, List, [], ◌∷◌, ◌++◌, length, map, Option, Some, is_none, refl, sym, ap, ◌∙◌, arith, bit_or, length-append}
-use Rattle.std.proofs.lemmas.Bool.{lt-ltb, le-ltb}
+use Rattle.std.proofs.lemmas.Bool.{lt-ltb, le-ltb, and_parts}
 use Rattle.std.proofs.lemmas.List.{map-append}
 use Rattle.std.proofs.lemmas.List.Folds.{list_any-append}
 use Rattle.std.proofs.lemmas.Nat.{pow_pos}
@@ -61,10 +61,6 @@ and_field w text at next xs us bad field v bad' there p n = both_parts w text at
 
 -- ---- the fields of a head, on any width
 
-one_of_both : (x y : Bool) → x && y ≡ true → (x ≡ true) × (y ≡ true)
-one_of_both true y e = (refl, e)
-one_of_both false y e = absurd cc
-
 head_count : (w : ℕ) (field : Field) → is_head_field field ≡ true → digit_count w field ≡ digit_count 0 field
 head_count w opcode e = refl
 head_count w param e = refl
@@ -80,14 +76,14 @@ head_count w corrupt e = absurd cc
 head_from : (w : ℕ) (text : List ℕ) (at : ℕ) (fs : List Field) → list_all is_head_field fs ≡ true → fields_from w text at fs ≡ fields_from 0 text at fs
 head_from w text at [] e = refl
 head_from w text at (field ∷ fs) e =
-    let both = one_of_both (is_head_field field) (list_all is_head_field fs) e in
+    let both = and_parts (is_head_field field) (list_all is_head_field fs) e in
     ap (λ (k : ℕ). field_at text at k ∷ fields_from w text (at + 1 + k) fs) (head_count w field both.0)
     ∙ ap (λ (os : List (Option ℕ)). field_at text at (digit_count 0 field) ∷ os) (head_from w text (at + 1 + digit_count 0 field) fs both.1)
 
 pub head_length : (w : ℕ) (fs : List Field) → list_all is_head_field fs ≡ true → length_of w fs ≡ length_of 0 fs
 head_length w [] e = refl
 head_length w (field ∷ fs) e =
-    let both = one_of_both (is_head_field field) (list_all is_head_field fs) e in
+    let both = and_parts (is_head_field field) (list_all is_head_field fs) e in
     let here = head_count w field both.0 in
     let rest = head_length w fs both.1 in
     omega (arith, here, rest)
@@ -114,7 +110,7 @@ module _ {H : Type 0} (f : Form H) where
   head_below : (w : ℕ) (r : HeadFields) (fs : List Field) → list_all is_head_field fs ≡ true → below f w fs (map (head_value r) fs) ≡ list_all (λ field. nat_lt (head_value r field) (values f 0 field)) fs
   head_below w r [] e = refl
   head_below w r (field ∷ fs) e =
-      let both = one_of_both (is_head_field field) (list_all is_head_field fs) e in
+      let both = and_parts (is_head_field field) (list_all is_head_field fs) e in
       ap (λ (k : ℕ). nat_lt (head_value r field) k && below f w fs (map (head_value r) fs)) (head_limit w field both.0)
       ∙ ap (λ (b : Bool). nat_lt (head_value r field) (values f 0 field) && b) (head_below w r fs both.1)
 
@@ -133,7 +129,7 @@ module _ {H : Type 0} (f : Form H) where
   head_said : {n : ℕ} (b : BeatOf H n) (fs : List Field) → list_all is_head_field fs ≡ true → map (value_of f b) fs ≡ map (f.value b.head) fs
   head_said b [] e = refl
   head_said b (field ∷ fs) e =
-      let both = one_of_both (is_head_field field) (list_all is_head_field fs) e in
+      let both = and_parts (is_head_field field) (list_all is_head_field fs) e in
       ap (λ (k : ℕ). k ∷ map (value_of f b) fs) (head_of_beat b field both.0) ∙ ap (λ (ks : List ℕ). f.value b.head field ∷ ks) (head_said b fs both.1)
 
   pub data_part : (w : ℕ) (text : List ℕ) (at d c bad bad' : ℕ) → f.rules.corrupts ≡ true → IsNumber text at (2 * w) d bad → IsNumber text (at + 1 + 2 * w) 1 c bad'

@@ -19,6 +19,7 @@ use Rattle.tl_trace.specs.declared.line.Line.TheVariants.{A, B, C, D, E}
 use Rattle.tl_trace.specs.declared.near.Near.TheVariants.{OfA, OfB, OfC, OfD, OfE}
 use Rattle.tl_trace.proofs.Shaped.{and_of, first_of_and, second_of_and}
 use Rattle.tl_trace.proofs.ReadLines.{read_as_a, read_as_b, read_as_c, read_as_d, read_as_e}
+use Rattle.tl_trace.proofs.ReadDigits.{zero_bytes, zero_bits}
 
 -- ---- a narrow beat, as a line of a trace keeps it
 
@@ -29,14 +30,6 @@ wide_number : (lanes : List ℕ) (k : ℕ) → number_of_lanes (lanes ++ replica
 wide_number [] zero = refl
 wide_number [] (suc k) = let rest = wide_number [] k in omega arith
 wide_number (lane ∷ lanes) k = ap (λ (n : ℕ). lane + 256 * n) (wide_number lanes k)
-
-zero_bytes : (k : ℕ) → list_all (λ lane. nat_lt lane 256) (replicate k 0) ≡ true
-zero_bytes zero = refl
-zero_bytes (suc k) = zero_bytes k
-
-zeros : (k : ℕ) → list_all (λ lane. nat_eq lane 0) (replicate k 0) ≡ true
-zeros zero = refl
-zeros (suc k) = zeros k
 
 same_value : {H : Type 0} (f : Form H) {n : ℕ} (b : BeatOf H n) (field : Field) → value_of f (wide b) field ≡ value_of f b field
 same_value f {n} b data_lanes = wide_number b.lanes (64 - n)
@@ -68,7 +61,7 @@ wide_lanes n lanes le e =
     (list_all-append (λ lane. nat_lt lane 256) lanes (replicate (64 - n) 0) ∙ and_of (list_all (λ lane. nat_lt lane 256) lanes) (list_all (λ lane. nat_lt lane 256) (replicate (64 - n) 0)) bytes (zero_bytes (64 - n)))
 
 wide_zero : (lanes : List ℕ) (k : ℕ) → list_all (λ lane. nat_eq lane 0) (lanes ++ replicate k 0) ≡ list_all (λ lane. nat_eq lane 0) lanes
-wide_zero [] k = zeros k
+wide_zero [] k = zero_bits k
 wide_zero (lane ∷ lanes) k = ap (λ (x : Bool). nat_eq lane 0 && x) (wide_zero lanes k)
 
 wide_plain : {H : Type 0} (f : Form H) {n : ℕ} (b : BeatOf H n) → is_plain f (wide b) ≡ is_plain f b
@@ -111,4 +104,4 @@ pub near_e : (c m : ℕ) (text : List ℕ) (b : BeatOf HeadE c) → c ≤ 64 →
 near_e c m text b le r = record { line = E (wide b); read = read_as_e c m text (wide b) (widened form_e c text b le r); same = record { a = refl; b = refl; c = refl; d = refl; e = ap Some (same_beat form_e c text b r) } }
 
 pub plain_zero : (w : ℕ) (h : HeadE) → is_plain form_e {n = w} (record { head = h; mask = 0; lanes = replicate w 0; corrupt = false }) ≡ true
-plain_zero w h = rw (zeros w) refl
+plain_zero w h = rw (zero_bits w) refl

@@ -1,7 +1,7 @@
 -- No text tells two traces.
 use Rattle.std.proofs.Common.{◌≡◌, ℕ, zero, suc, Bool, true, false, not, nat_eq, nat_lt, ◌&&◌, ◌||◌, List, [], ◌∷◌, ◌++◌, length, map, refl, sym, ap, ◌∙◌, arith, append_assoc, eq-eqb, subst}
 use Rattle.std.specs.Prelude.{decimal, codes, ◌==◌}
-use Rattle.std.proofs.lemmas.Bool.{eqb-true, ltb-true}
+use Rattle.std.proofs.lemmas.Bool.{eqb-true, ltb-true, not-true}
 use Rattle.std.proofs.lemmas.Fmt.{decimal_is_IsNumeral}
 use Rattle.std.specs.Fmt.{digits}
 use Rattle.std.specs.List.{list_all, list_any, slice_index}
@@ -17,7 +17,7 @@ use Rattle.tl_trace.specs.Lines.{is_lanes, IsLine, is_writable, is_plain, is_kep
 use Rattle.tl_trace.specs.Texts.{widths, is_width, newline, header_text, SaysLine, is_kept_line, TellsLines, Tells}
 use Rattle.tl_trace.specs.declared.line.Line.{Line}
 use Rattle.tl_trace.specs.declared.line.Line.TheVariants.{A, B, C, D, E}
-use Rattle.tl_trace.proofs.Shaped.{first_of_and, second_of_and}
+use Rattle.tl_trace.proofs.Shaped.{first_of_and, second_of_and, first_of_or, second_of_or}
 use Rattle.tl_trace.proofs.Headers.{width_small}
 use Rattle.tl_trace.proofs.Cover.{says_free}
 
@@ -30,27 +30,19 @@ pub record Split (xs ys more more' : List ℕ) : Type 0 where
   pub front : xs ≡ ys
   pub back : more ≡ more'
 
-or_left : (x y : Bool) → x || y ≡ false → x ≡ false
-or_left true y e = e
-or_left false y e = refl
-
-or_right : (x y : Bool) → x || y ≡ false → y ≡ false
-or_right true y e = absurd cc
-or_right false y e = e
-
 not_stop : (b stop : ℕ) → (b == stop) ≡ false → b ≡ stop → false ≡ true
 not_stop b stop other e = sym other ∙ eq-eqb b stop e
 
 split_at : (stop : ℕ) (xs ys more more' : List ℕ) → xs ++ stop ∷ more ≡ ys ++ stop ∷ more' → Without stop xs → Without stop ys → Split xs ys more more'
 split_at stop [] [] more more' e none none' = record { front = refl; back = cc }
 split_at stop [] (y ∷ ys) more more' e none none' =
-    let same : y ≡ stop = cc in let bad = not_stop y stop (or_left (y == stop) (list_any (λ b. b == stop) ys) none') same in absurd cc
+    let same : y ≡ stop = cc in let bad = not_stop y stop (first_of_or (y == stop) (list_any (λ b. b == stop) ys) none') same in absurd cc
 split_at stop (x ∷ xs) [] more more' e none none' =
-    let same : x ≡ stop = cc in let bad = not_stop x stop (or_left (x == stop) (list_any (λ b. b == stop) xs) none) same in absurd cc
+    let same : x ≡ stop = cc in let bad = not_stop x stop (first_of_or (x == stop) (list_any (λ b. b == stop) xs) none) same in absurd cc
 split_at stop (x ∷ xs) (y ∷ ys) more more' e none none' =
     let same : x ≡ y = cc in
     let rest : xs ++ stop ∷ more ≡ ys ++ stop ∷ more' = cc in
-    let more_split = split_at stop xs ys more more' rest (or_right (x == stop) (list_any (λ b. b == stop) xs) none) (or_right (y == stop) (list_any (λ b. b == stop) ys) none') in
+    let more_split = split_at stop xs ys more more' rest (second_of_or (x == stop) (list_any (λ b. b == stop) xs) none) (second_of_or (y == stop) (list_any (λ b. b == stop) ys) none') in
     record { front = ap (λ (b : ℕ). b ∷ xs) same ∙ ap (λ (zs : List ℕ). y ∷ zs) more_split.front; back = more_split.back }
 
 -- ---- the header
@@ -63,17 +55,13 @@ in_list p (x ∷ xs) w e all = pick (w == x) refl e (first_of_and (p x) (list_al
     pick true is any here more rest = ap p (eqb-true w x is) ∙ here
     pick false is any here more rest = more any rest
 
-not_true : (b : Bool) → not b ≡ true → b ≡ false
-not_true true e = sym e
-not_true false e = refl
-
 no_space : (w : ℕ) → is_width w ≡ true → Without 32 (decimal w)
 unfolding digits
-no_space w is = not_true (list_any (λ b. b == 32) (decimal w)) (in_list (λ w. not (list_any (λ b. b == 32) (decimal w))) widths w is refl)
+no_space w is = not-true (list_any (λ b. b == 32) (decimal w)) (in_list (λ w. not (list_any (λ b. b == 32) (decimal w))) widths w is refl)
 
 pub no_newline : (w : ℕ) → is_width w ≡ true → Without 10 (decimal w)
 unfolding digits
-no_newline w is = not_true (list_any (λ b. b == 10) (decimal w)) (in_list (λ w. not (list_any (λ b. b == 10) (decimal w))) widths w is refl)
+no_newline w is = not-true (list_any (λ b. b == 10) (decimal w)) (in_list (λ w. not (list_any (λ b. b == 10) (decimal w))) widths w is refl)
 
 same_number : (m n : ℕ) → is_width m ≡ true → is_width n ≡ true → decimal m ≡ decimal n → m ≡ n
 same_number m n is is' e =
@@ -232,7 +220,7 @@ no_lanes (lane ∷ lanes) e =
 plain_e : (w : ℕ) (x : BeatOf HeadE 64) → is_kept form_e w x ≡ true → (list_all (λ lane. nat_eq lane 0) x.lanes ≡ true) × (x.corrupt ≡ false)
 plain_e w x kept =
     let plain = second_of_and (nat_eq x.mask 0) (list_all (λ lane. nat_eq lane 0) x.lanes && not x.corrupt) (plain_of form_e w x kept) in
-    (first_of_and (list_all (λ lane. nat_eq lane 0) x.lanes) (not x.corrupt) plain, not_true x.corrupt (second_of_and (list_all (λ lane. nat_eq lane 0) x.lanes) (not x.corrupt) plain))
+    (first_of_and (list_all (λ lane. nat_eq lane 0) x.lanes) (not x.corrupt) plain, not-true x.corrupt (second_of_and (list_all (λ lane. nat_eq lane 0) x.lanes) (not x.corrupt) plain))
 
 line_e : (w : ℕ) (x y : BeatOf HeadE 64) (text : List ℕ) → is_kept form_e w x ≡ true → is_kept form_e w y ≡ true → IsLine form_e w x text → IsLine form_e w y text → x ≡ y
 line_e w x y text kept kept' a b =

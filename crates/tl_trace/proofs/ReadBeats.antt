@@ -1,5 +1,5 @@
 -- Reading beats by channel: what has been read, and one step more.
-use Rattle.std.proofs.Common.{◌≡◌, ℕ, ◌+◌, ◌<◌, false, true, Result, Ok, Err, arith, List, [], ◌∷◌, ◌++◌, length, drop, take, get_or, subst, Option, None, Some, refl, sym, ap, ◌∙◌}
+use Rattle.std.proofs.Common.{◌≡◌, ℕ, ◌+◌, ◌<◌, false, Result, Ok, Err, arith, List, [], ◌∷◌, ◌++◌, length, drop, take, get_or, subst, Option, None, Some, refl, sym, ap, ◌∙◌}
 use Rattle.std.proofs.lemmas.List.{take_more}
 use Rattle.std.proofs.lemmas.List.Elements.{filter_map-append}
 use Rattle.std.specs.List.{filter_map, cons_option, slice_range}
@@ -17,7 +17,8 @@ use Rattle.tl_trace.proofs.ReadLines.{SoFar, IsFree, body_last}
 use Rattle.tl_trace.proofs.Walk.{advance, free_line, split_line, last_line}
 use Rattle.std.proofs.lemmas.Bool.{cases_eq}
 use Rattle.std.specs.List.{list_any}
-use Rattle.std.proofs.Common.{inl, inr, ◌||◌, Bool}
+use Rattle.std.proofs.Common.{inl, inr}
+use Rattle.tl_trace.proofs.Shaped.{first_of_or, second_of_or}
 
 -- what has been read of a text
 pub record Progress {C M : ℕ} (text : List ℕ) (start : ℕ) (s : Script C M) (at before : ℕ) : Type 0 where
@@ -71,19 +72,11 @@ pub on_ok : {A E : Type 0} {P : Type 0} (r : Result A E) → OnOk r P → is_err
 on_ok (Ok v) p e = p
 on_ok (Err x) p e = absurd cc
 
-or_left : (x y : Bool) → x || y ≡ false → x ≡ false
-or_left true y e = e
-or_left false y e = refl
-
-or_right : (x y : Bool) → x || y ≡ false → y ≡ false
-or_right true y e = absurd cc
-or_right false y e = e
-
 body_more : (line more : List ℕ) → IsFree line → body (line ++ newline ++ more) ≡ line
 body_more [] more free = refl
 body_more (byte ∷ line) more free =
-    let no : is_newline byte ≡ false = or_left (is_newline byte) (list_any is_newline line) free in
-    rw no (ap (λ (xs : List ℕ). byte ∷ xs) (body_more line more (or_right (is_newline byte) (list_any is_newline line) free)))
+    let no : is_newline byte ≡ false = first_of_or (is_newline byte) (list_any is_newline line) free in
+    rw no (ap (λ (xs : List ℕ). byte ∷ xs) (body_more line more (second_of_or (is_newline byte) (list_any is_newline line) free)))
 
 -- the first line of a text without its end
 pub first_line : (text : List ℕ) (end : ℕ) → LineAt text 0 end → body text ≡ slice_range text 0 end

@@ -125,7 +125,7 @@ bytes_set (lane ∷ lanes) zero v lt e = and_of (nat_lt v 256) (list_all (λ lan
 bytes_set (lane ∷ lanes) (suc i) v lt e = and_of (nat_lt lane 256) (list_all (λ lane. nat_lt lane 256) (set lanes i v)) (first_of_and (nat_lt lane 256) (list_all (λ lane. nat_lt lane 256) lanes) e)
     (bytes_set lanes i v lt (second_of_and (nat_lt lane 256) (list_all (λ lane. nat_lt lane 256) lanes) e))
 
-zero_bytes : (n : ℕ) → list_all (λ lane. nat_lt lane 256) (replicate n 0) ≡ true
+pub zero_bytes : (n : ℕ) → list_all (λ lane. nat_lt lane 256) (replicate n 0) ≡ true
 zero_bytes zero = refl
 zero_bytes (suc n) = zero_bytes n
 

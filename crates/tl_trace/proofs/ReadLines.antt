@@ -16,7 +16,7 @@ use Rattle.tl_trace.specs.declared.line.Line.{Line}
 use Rattle.tl_trace.specs.declared.line.Line.TheVariants.{A, B, C, D, E}
 use Rattle.tl_trace.specs.declared.fault.TraceKind.{TraceKind}
 use Rattle.tl_trace.specs.declared.fault.TraceKind.TheVariants.{NoEnd}
-use Rattle.tl_trace.proofs.Shaped.{first_of_and, second_of_and, faultless}
+use Rattle.tl_trace.proofs.Shaped.{first_of_and, second_of_and, faultless, first_of_or, second_of_or}
 
 pub kept_writable : {H : Type 0} (f : Form H) {n : ℕ} (w : ℕ) (b : BeatOf H n) → is_kept f w b ≡ true → is_writable f w b ≡ true
 kept_writable f {n} w b kept = first_of_and (is_writable f w b) (is_plain f b) (second_of_and (is_lanes n b.lanes) (is_writable f w b && is_plain f b) kept)
@@ -42,39 +42,31 @@ read_as_e client manager text b r = record { says = r.line; kept = r.kept; fault
 abbrev pub IsFree : List ℕ → Type 0
 IsFree bytes = list_any is_newline bytes ≡ false
 
-or_left : (x y : Bool) → x || y ≡ false → x ≡ false
-or_left true y e = e
-or_left false y e = refl
-
-or_right : (x y : Bool) → x || y ≡ false → y ≡ false
-or_right true y e = absurd cc
-or_right false y e = e
-
 pub cut_line : (line more : List ℕ) → IsFree line → cut (line ++ newline ++ more) ≡ (line ++ newline) ∷ cut more
 cut_line [] more free = refl
 cut_line (byte ∷ line) more free =
-    let no : is_newline byte ≡ false = or_left (is_newline byte) (list_any is_newline line) free in
-    let rest = cut_line line more (or_right (is_newline byte) (list_any is_newline line) free) in
+    let no : is_newline byte ≡ false = first_of_or (is_newline byte) (list_any is_newline line) free in
+    let rest = cut_line line more (second_of_or (is_newline byte) (list_any is_newline line) free) in
     rw (no, rest) refl
 
 pub cut_last : (byte : ℕ) (line : List ℕ) → IsFree (byte ∷ line) → cut (byte ∷ line) ≡ (byte ∷ line) ∷ []
-cut_last byte [] free = let no : is_newline byte ≡ false = or_left (is_newline byte) false free in rw no refl
+cut_last byte [] free = let no : is_newline byte ≡ false = first_of_or (is_newline byte) false free in rw no refl
 cut_last byte (next ∷ line) free =
-    let no : is_newline byte ≡ false = or_left (is_newline byte) (list_any is_newline (next ∷ line)) free in
-    let rest = cut_last next line (or_right (is_newline byte) (list_any is_newline (next ∷ line)) free) in
+    let no : is_newline byte ≡ false = first_of_or (is_newline byte) (list_any is_newline (next ∷ line)) free in
+    let rest = cut_last next line (second_of_or (is_newline byte) (list_any is_newline (next ∷ line)) free) in
     rw no (ap (onto_first byte) rest)
 
 pub body_line : (line : List ℕ) → IsFree line → body (line ++ newline) ≡ line
 body_line [] free = refl
 body_line (byte ∷ line) free =
-    let no : is_newline byte ≡ false = or_left (is_newline byte) (list_any is_newline line) free in
-    rw no (ap (λ (xs : List ℕ). byte ∷ xs) (body_line line (or_right (is_newline byte) (list_any is_newline line) free)))
+    let no : is_newline byte ≡ false = first_of_or (is_newline byte) (list_any is_newline line) free in
+    rw no (ap (λ (xs : List ℕ). byte ∷ xs) (body_line line (second_of_or (is_newline byte) (list_any is_newline line) free)))
 
 pub body_last : (line : List ℕ) → IsFree line → body line ≡ line
 body_last [] free = refl
 body_last (byte ∷ line) free =
-    let no : is_newline byte ≡ false = or_left (is_newline byte) (list_any is_newline line) free in
-    rw no (ap (λ (xs : List ℕ). byte ∷ xs) (body_last line (or_right (is_newline byte) (list_any is_newline line) free)))
+    let no : is_newline byte ≡ false = first_of_or (is_newline byte) (list_any is_newline line) free in
+    rw no (ap (λ (xs : List ℕ). byte ∷ xs) (body_last line (second_of_or (is_newline byte) (list_any is_newline line) free)))
 
 has_end : (line : List ℕ) → list_any is_newline (line ++ newline) ≡ true
 has_end [] = refl

@@ -1,5 +1,6 @@
 -- From the fields of a line to what the line says, once for the form of every channel.
 use Rattle.std.proofs.Common.{◌≡◌, ◌≢◌, ℕ, zero, suc, ◌+◌, ◌≤◌, Bool, true, false, cond, nat_eq, nat_lt, ◌&&◌, ◌||◌, List, [], ◌∷◌, length, map, Option, Some, None, is_none, refl, sym, ap, ◌∙◌, arith, eq-eqb}
+use Rattle.std.proofs.lemmas.Bool.{or_parts}
 use Rattle.std.specs.List.{list_all, list_any, slice_index}
 use Rattle.tl_msg.specs.declared.beat.BeatOf.{BeatOf}
 use Rattle.tl_trace.specs.declared.fault.TraceKind.TheVariants.{Length, Shape, Range}
@@ -12,6 +13,12 @@ pub and_of : (x y : Bool) → x ≡ true → y ≡ true → x && y ≡ true
 and_of true true e e' = refl
 and_of true false e e' = e'
 and_of false y e e' = e
+
+pub first_of_or : (x y : Bool) → x || y ≡ false → x ≡ false
+first_of_or x y e = (or_parts x y e).0
+
+pub second_of_or : (x y : Bool) → x || y ≡ false → y ≡ false
+second_of_or x y e = (or_parts x y e).1
 
 pub first_of_and : (x y : Bool) → x && y ≡ true → x ≡ true
 first_of_and true y e = refl

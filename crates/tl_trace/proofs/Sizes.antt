@@ -1,11 +1,7 @@
 -- The bytes of memory that beats on at most 64 lanes take.
-use Rattle.std.proofs.Common.{ℕ, ◌+◌, ◌-◌, ◌*◌, ◌%◌, ◌≤◌, ◌<◌, max, arith}
-use Rattle.std.proofs.Math.Nat.{mod-le}
+use Rattle.std.proofs.Common.{ℕ, ◌+◌, ◌*◌, ◌≤◌, ◌<◌, max, arith}
 use prog.Memory.{up}
-
--- a place is rounded up by no more than the step
-up_le : (k e : ℕ) → up k e ≤ e + k
-up_le k e = let m : (k - e % k) % k ≤ k - e % k = mod-le (k - e % k) k in omega arith
+use Rattle.tl_lanes.proofs.Sizes.{up_le}
 
 -- the head, a mask in it, a byte for each lane, and corrupt
 abbrev pub beat_size : (head w : ℕ) → ℕ

@@ -16,6 +16,8 @@ use Rattle.tl_trace.specs.Lines.{FieldPlace, places_from, hex, is_hex, digits_at
 use Rattle.tl_trace.proofs.Shaped.{and_of, first_of_and, second_of_and}
 use Rattle.tl_trace.proofs.HexText.{length-hex}
 use Rattle.tl_trace.proofs.Cover.{stands, whole_line}
+use Rattle.tl_trace.proofs.HexDigits.{hex_small}
+use Rattle.tl_trace.proofs.ReadDigits.{squares}
 
 -- ---- digits
 
@@ -27,9 +29,6 @@ digit_back d lt = grind (arith, nat_tests)
 
 char_back : (c : ℕ) → is_hex c ≡ true → digit_char (digit_value c) ≡ c
 char_back c h = grind (arith, nat_tests)
-
-value_small : (c : ℕ) → is_hex c ≡ true → digit_value c < 16
-value_small c h = grind (arith, nat_tests)
 
 pub hex_all : (count value : ℕ) → list_all is_hex (hex count value) ≡ true
 hex_all zero value = refl
@@ -63,7 +62,7 @@ hex_back (suc count) ds e h =
     let all = sym (list_all-append is_hex front (last ∷ [])) ∙ ap (list_all is_hex) (sym split) ∙ h in
     let good = first_of_and (list_all is_hex front) (is_hex last && true) all in
     let lasts = first_of_and (is_hex last) true (second_of_and (list_all is_hex front) (is_hex last && true) all) in
-    let small = value_small last lasts in
+    let small = hex_small last lasts in
     let value : digits_value 16 ds ≡ digits_value 16 front * 16 + digit_value last = ap (digits_value 16) split ∙ digits_value_push 16 front last in
     let up : digits_value 16 ds / 16 ≡ digits_value 16 front = omega arith in
     let low : digits_value 16 ds % 16 ≡ digit_value last = omega arith in
@@ -163,17 +162,6 @@ pow_16 (suc k) =
     let all : 16 ^ suc k ≡ 2 ^ suc (suc (suc (suc (4 * k)))) = omega arith in
     all ∙ ap (λ (n : ℕ). 2 ^ n) (sym e)
 
-pow_256 : (w : ℕ) → 256 ^ w ≡ 16 ^ (2 * w)
-pow_256 zero = refl
-pow_256 (suc w) =
-    let e : 2 * suc w ≡ suc (suc (2 * w)) = omega arith in
-    let a : 16 ^ suc (suc (2 * w)) ≡ 16 ^ suc (2 * w) * 16 = pow-suc 16 (suc (2 * w)) in
-    let b : 16 ^ suc (2 * w) ≡ 16 ^ (2 * w) * 16 = pow-suc 16 (2 * w) in
-    let top : 256 ^ suc w ≡ 256 ^ w * 256 = pow-suc 256 w in
-    let rest = pow_256 w in
-    let all : 256 ^ suc w ≡ 16 ^ suc (suc (2 * w)) = omega arith in
-    all ∙ ap (λ (n : ℕ). 16 ^ n) (sym e)
-
 mask_wide : (w : ℕ) → 2 ^ w ≤ 16 ^ ((w + 3) / 4)
 mask_wide w =
     let most : w ≤ 4 * ((w + 3) / 4) = omega arith in
@@ -189,7 +177,7 @@ wide f few w address = lit≤ tt
 wide f few w sink = lit≤ tt
 wide f few w denied = lit≤ tt
 wide f few w mask = mask_wide w
-wide f few w data_lanes = omega (arith, pow_256 w)
+wide f few w data_lanes = omega (arith, squares w)
 wide f few w corrupt = lit≤ tt
 
 pub is_line : {H : Type 0} (f : Form H) → f.params ≤ 16 → {n : ℕ} (w : ℕ) (b : BeatOf H n) → is_writable f w b ≡ true → IsLine f w b (line_text f w b)

@@ -1,6 +1,6 @@
 -- A table of 256 bytes against a definition.
-use Rattle.std.proofs.Common.{◌≡◌, ℕ, zero, suc, ◌<◌, Bool, true, false, ◌&&◌, nat_eq, get_or, List, refl, arith, inl, inr}
-use Rattle.std.proofs.lemmas.Bool.{cases_eq, eqb-true}
+use Rattle.std.proofs.Common.{◌≡◌, ℕ, zero, suc, ◌<◌, Bool, true, ◌&&◌, nat_eq, get_or, List, arith, inl, inr}
+use Rattle.std.proofs.lemmas.Bool.{cases_eq, eqb-true, and_parts}
 use Rattle.tl_trace.specs.Inner.Reading.{digit_of}
 
 -- the two are the same below n
@@ -8,16 +8,11 @@ unfoldable pub agree_below : (f g : ℕ → ℕ) → ℕ → Bool
 agree_below f g zero = true
 agree_below f g (suc n) = nat_eq (f n) (g n) && agree_below f g n
 
-both_of : (x y : Bool) → x && y ≡ true → (x ≡ true) × (y ≡ true)
-both_of true true e = (refl, refl)
-both_of true false e = absurd cc
-both_of false y e = absurd cc
-
 pub agree_at : (f g : ℕ → ℕ) (n : ℕ) → agree_below f g n ≡ true → (b : ℕ) → b < n → f b ≡ g b
 unfolding agree_below
 agree_at f g zero h b lt = absurd (omega arith)
 agree_at f g (suc n) h b lt =
-    let both = both_of (nat_eq (f n) (g n)) (agree_below f g n) h in
+    let both = and_parts (nat_eq (f n) (g n)) (agree_below f g n) h in
     elim (cases_eq b n) [ inl same ↦ rw same (eqb-true _ _ both.0) | inr other ↦ agree_at f g n both.1 b (omega arith) ]
 
 pub from_table : (table : List ℕ) (b : ℕ) → b < 256 → agree_below (λ k. get_or table k 0) digit_of 256 ≡ true → get_or table b 0 ≡ digit_of b

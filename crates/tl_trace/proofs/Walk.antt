@@ -1,5 +1,5 @@
 -- One step of the walk over the lines of a text.
-use Rattle.std.proofs.Common.{◌≡◌, ℕ, zero, suc, ◌+◌, ◌-◌, ◌<◌, ◌≤◌, true, ◌&&◌, List, [], ◌∷◌, ◌++◌, length, map, get_or, take, drop, replicate, Option, Some, None, refl, sym, ap, ◌∙◌, arith, drop-cons, append_assoc, append-nil, add-one, length-drop, inl, inr, subst, rules}
+use Rattle.std.proofs.Common.{◌≡◌, ℕ, suc, ◌+◌, ◌-◌, ◌<◌, ◌≤◌, true, ◌&&◌, List, [], ◌∷◌, ◌++◌, length, map, get_or, take, drop, replicate, Option, Some, None, refl, sym, ap, ◌∙◌, arith, drop-cons, append_assoc, append-nil, add-one, length-drop, inl, inr, subst, rules}
 use Rattle.std.proofs.lemmas.List.Folds.{drop_split, list_all-append}
 use Rattle.std.proofs.lemmas.Bool.{cases_eq}
 use Rattle.std.proofs.lemmas.List.{drop-drop, get_or-drop, take_all}
@@ -14,15 +14,10 @@ use Rattle.tl_trace.specs.declared.fault.TraceKind.{TraceKind}
 use Rattle.tl_trace.specs.declared.fault.TraceKind.TheVariants.{Header, NoEnd}
 use Rattle.tl_trace.proofs.Shaped.{and_of}
 use Rattle.tl_trace.proofs.ReadLines.{IsFree, SoFar, cut_line, cut_last, body_line, body_last, ended, unended, free_take, first_fault, readable_to, one_more, told_more}
+use Rattle.tl_trace.proofs.Cover.{drop_all}
 
 pub free_line : (text : List ℕ) (at end : ℕ) → LineAt text at end → IsFree (slice_range text at end)
 free_line text at end line = free_take (end - at) (drop at text) (λ k lt e. line.free k (omega arith) (sym (get_or-drop at text k 0) ∙ e))
-
-drop_all : (xs : List ℕ) (n : ℕ) → length xs ≤ n → drop n xs ≡ []
-drop_all [] zero le = refl
-drop_all [] (suc n) le = refl
-drop_all (x ∷ xs) zero le = absurd (omega arith)
-drop_all (x ∷ xs) (suc n) le = drop_all xs n (omega arith)
 
 pub split_line : (text : List ℕ) (at end : ℕ) → LineAt text at end → end < length text → drop at text ≡ slice_range text at end ++ newline ++ drop (end + 1) text
 split_line text at end line lt =

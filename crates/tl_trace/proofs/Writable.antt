@@ -1,6 +1,6 @@
 -- A lawful beat is writable.
-use Rattle.std.proofs.Common.{◌≡◌, ℕ, zero, suc, ◌^◌, ◌<◌, Bool, true, false, cond, nat_eq, nat_le, nat_lt, ◌&&◌, List, [], ◌∷◌, length, Option, None, Some, refl, arith, subst, bit_and}
-use Rattle.std.proofs.lemmas.Bool.{eqb-true, lt-ltb, ltb-true, leb-true}
+use Rattle.std.proofs.Common.{◌≡◌, ℕ, zero, suc, ◌^◌, ◌<◌, Bool, true, false, cond, nat_eq, nat_le, nat_lt, List, [], ◌∷◌, length, Option, None, Some, refl, arith, subst, bit_and}
+use Rattle.std.proofs.lemmas.Bool.{eqb-true, lt-ltb, ltb-true, leb-true, and_parts}
 use Rattle.std.proofs.lemmas.Nat.{and_le_r}
 use Rattle.std.specs.Option.{option_map_or}
 use Rattle.std.specs.Prelude.{All}
@@ -15,6 +15,7 @@ use Rattle.tl_msg.specs.declared.kind.Kind.{Kind}
 use Rattle.tl_trace.specs.Fields.{bit, form_a, form_b, form_c, form_d, form_e, number_of_lanes}
 use Rattle.tl_trace.specs.Laws.{LawfulIsWritable}
 use Rattle.tl_trace.proofs.Widths.{lanes_fit}
+use Rattle.tl_msg.proofs.Firsts.{unless_none}
 
 -- ---- the first of several faults is none
 
@@ -25,10 +26,6 @@ no_first (Some v) y e = absurd cc
 no_second : {F : Type 0} (x y : Option F) → x or_else y ≡ None → y ≡ None
 no_second None y e = e
 no_second (Some v) y e = absurd cc
-
-holds : {F : Type 0} (b : Bool) (fault : F) → unless b fault ≡ None → b ≡ true
-holds true fault e = refl
-holds false fault e = absurd cc
 
 -- ---- the head
 
@@ -41,8 +38,8 @@ pub record Limits (column : Column) (limit o p z : ℕ) : Type 0 where
 of_kind : (kind : Kind) (limit p z : ℕ) (aligned : Bool) → nat_le (params kind) limit ≡ true → head_fault (Some kind) p z aligned ≡ None → (p < limit) × (z < 16)
 of_kind kind limit p z aligned few e =
     let rest = no_second (unless (nat_lt p (params kind)) Param) (unless (nat_le z 12) Size or_else unless aligned Unaligned) e in
-    let param = holds (nat_lt p (params kind)) Param (no_first (unless (nat_lt p (params kind)) Param) (unless (nat_le z 12) Size or_else unless aligned Unaligned) e) in
-    let size = holds (nat_le z 12) Size (no_first (unless (nat_le z 12) Size) (unless aligned Unaligned) rest) in
+    let param = unless_none (nat_lt p (params kind)) Param (no_first (unless (nat_lt p (params kind)) Param) (unless (nat_le z 12) Size or_else unless aligned Unaligned) e) in
+    let size = unless_none (nat_le z 12) Size (no_first (unless (nat_le z 12) Size) (unless aligned Unaligned) rest) in
     let lt = ltb-true p (params kind) param in
     let le = leb-true (params kind) limit few in
     let most = leb-true z 12 size in
@@ -52,18 +49,14 @@ of_kind kind limit p z aligned few e =
 abbrev few_params : (limit : ℕ) → Option Kind → Bool
 few_params limit kind = option_map_or (λ k. nat_le (params k) limit) kind true
 
-both : (x y : Bool) → x && y ≡ true → (x ≡ true) × (y ≡ true)
-both true y e = (refl, e)
-both false y e = absurd cc
-
 in_column : (column : Column) (limit o p z : ℕ) (aligned : Bool) → list_all (few_params limit) column ≡ true → head_fault (kind_at column o) p z aligned ≡ None → Limits column limit o p z
 in_column [] limit o p z aligned few e = absurd cc
 in_column (None ∷ kinds) limit zero p z aligned few e = absurd cc
 in_column (Some kind ∷ kinds) limit zero p z aligned few e =
-    let l = of_kind kind limit p z aligned (both (nat_le (params kind) limit) (list_all (few_params limit) kinds) few).0 e in
+    let l = of_kind kind limit p z aligned (and_parts (nat_le (params kind) limit) (list_all (few_params limit) kinds) few).0 e in
     record { opcode = omega arith; param = l.0; size = l.1 }
 in_column (kind ∷ kinds) limit (suc o) p z aligned few e =
-    let l = in_column kinds limit o p z aligned (both (few_params limit kind) (list_all (few_params limit) kinds) few).1 e in
+    let l = in_column kinds limit o p z aligned (and_parts (few_params limit kind) (list_all (few_params limit) kinds) few).1 e in
     record { opcode = omega (arith, l.opcode); param = l.param; size = l.size }
 
 -- ---- the mask, and the rest
@@ -89,7 +82,7 @@ pub lawful_a : LawfulIsWritable form_a
 lawful_a w b held ids lawful =
     let head = no_first (rules_a.fault b.head) (unless (mask_fits rules_a b) Mask or_else unless (is_clean rules_a b) Corrupt) lawful in
     let rest = no_second (rules_a.fault b.head) (unless (mask_fits rules_a b) Mask or_else unless (is_clean rules_a b) Corrupt) lawful in
-    let fits = holds (mask_fits rules_a b) Mask (no_first (unless (mask_fits rules_a b) Mask) (unless (is_clean rules_a b) Corrupt) rest) in
+    let fits = unless_none (mask_fits rules_a b) Mask (no_first (unless (mask_fits rules_a b) Mask) (unless (is_clean rules_a b) Corrupt) rest) in
     let l = in_column column_a 8 b.head.opcode b.head.param b.head.size (is_aligned b.head.address b.head.size) refl head in
     let m = mask_small (rules_a.partial b.head) b.mask (full_mask rules_a b.head w) w (active_mask-lt b.head.address b.head.size w) fits in
     rw (
@@ -107,7 +100,7 @@ pub lawful_b : LawfulIsWritable form_b
 lawful_b w b held ids lawful =
     let head = no_first (rules_b.fault b.head) (unless (mask_fits rules_b b) Mask or_else unless (is_clean rules_b b) Corrupt) lawful in
     let rest = no_second (rules_b.fault b.head) (unless (mask_fits rules_b b) Mask or_else unless (is_clean rules_b b) Corrupt) lawful in
-    let fits = holds (mask_fits rules_b b) Mask (no_first (unless (mask_fits rules_b b) Mask) (unless (is_clean rules_b b) Corrupt) rest) in
+    let fits = unless_none (mask_fits rules_b b) Mask (no_first (unless (mask_fits rules_b b) Mask) (unless (is_clean rules_b b) Corrupt) rest) in
     let l = in_column column_b 8 b.head.opcode b.head.param b.head.size (is_aligned b.head.address b.head.size) refl head in
     let m = mask_small (rules_b.partial b.head) b.mask (full_mask rules_b b.head w) w (active_mask-lt b.head.address b.head.size w) fits in
     rw (

@@ -11,7 +11,7 @@ use crate::places::{
     ACK_END, ADDRESS_DIGITS, ADDRESSED_END, COMMON_END, DENIED_AT, FIRST_AT, ID_DIGITS, PARAM_AT,
     RESPONSE_END, SIZE_AT, SOURCE_AT,
 };
-use tl_msg::{ChA, ChB, ChC, ChD, ChE, HeadA, HeadB, HeadC, HeadD, HeadE};
+use tl_msg::{ChA, ChB, ChC, ChD, ChE, HeadA, HeadB, HeadC, HeadD, HeadE, SinkId, SourceId};
 
 /// The fields of a head as numbers, 0 for each that the channel has not; where `bad` is above 15 the text of one has not
 /// its shape.
@@ -88,7 +88,7 @@ struct CommonFields {
     opcode: u8,
     param: u8,
     size: u8,
-    source: u8,
+    source: SourceId,
 }
 
 /// The common fields, if the opcode is below 8 and the param below `params`.
@@ -103,7 +103,7 @@ fn common_of(fields: &HeadFields, params: u64) -> Option<CommonFields>
         opcode: fields.opcode as u8,
         param: fields.param as u8,
         size: fields.size as u8,
-        source: fields.source as u8,
+        source: fields.source as SourceId,
     })
 }
 
@@ -203,7 +203,7 @@ impl ReadHead for ChD {
             param: common.param,
             size: common.size,
             source: common.source,
-            sink: fields.sink as u8,
+            sink: fields.sink as SinkId,
             denied: fields.denied == 1,
         })
     }
@@ -232,7 +232,7 @@ impl ReadHead for ChE {
 
     fn head_of(fields: &HeadFields) -> Option<HeadE> {
         Some(HeadE {
-            sink: fields.sink as u8,
+            sink: fields.sink as SinkId,
         })
     }
 

@@ -11,7 +11,7 @@ use crate::places::{
 };
 use crate::text::{digits_of, low_digit, put};
 use arrayvec::ArrayVec;
-use tl_msg::{ChA, ChB, ChC, ChD, ChE, Channel, HeadA, HeadB, HeadC, HeadD, HeadE};
+use tl_msg::{ChA, ChB, ChC, ChD, ChE, Channel, HeadA, HeadB, HeadC, HeadD, HeadE, SourceId};
 
 /// A channel whose heads can be written.
 pub trait HeadText: Channel {
@@ -36,7 +36,7 @@ pub trait HeadText: Channel {
 }
 
 /// The letter, opcode, param, size and source.
-fn common_text(letter: u8, opcode: u8, param: u8, size: u8, source: u8) -> [u8; COMMON_END]
+fn common_text(letter: u8, opcode: u8, param: u8, size: u8, source: SourceId) -> [u8; COMMON_END]
     ensures { result ≡ letter ∷ 32 ∷ digit_char (opcode % 16) ∷ 32 ∷ digit_char (param % 16) ∷ 32 ∷ digit_char (size % 16) ∷ 32 ∷ hex ID_DIGITS source }
 {
     let mut text = [b' '; COMMON_END];

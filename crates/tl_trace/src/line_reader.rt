@@ -12,15 +12,15 @@ use crate::fault::TraceKind;
 use crate::head_reader::ReadHead;
 use crate::head_text::HeadText;
 use crate::places::{line_len, mask_digits, mask_len};
-use tl_lanes::WIDEST;
+use tl_lanes::{Mask, WIDEST};
 use tl_msg::{Beat, BeatOf};
 
 /// Whether the mask has no bit at or past `w`.
-fn mask_fits(mask: u64, w: usize) -> bool
+fn mask_fits(mask: Mask, w: usize) -> bool
     requires { w ≤ WIDEST }
     ensures { result ≡ nat_lt mask (2 ^ w) }
 {
-    w >= WIDEST || mask < 1u64 << w
+    w >= WIDEST || mask < (1 as Mask) << w
 }
 
 /// The mask from this place on, 0 on a channel that has none.

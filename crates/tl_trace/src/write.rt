@@ -19,11 +19,11 @@ use crate::text::{
 use crate::trace::Trace;
 use arrayvec::ArrayVec;
 use std::alloc::Global;
-use tl_lanes::WIDEST;
+use tl_lanes::{Mask, WIDEST};
 use tl_msg::{Beat, ChA, ChB, ChC, ChD, ChE, Verdict};
 
 /// Writes the mask of a channel that has one, and gives the place behind it.
-fn fill_mask<K: HeadText>(line: &mut Room, at: usize, mask: u64, w: usize) -> usize
+fn fill_mask<K: HeadText>(line: &mut Room, at: usize, mask: Mask, w: usize) -> usize
     requires width { w ≤ WIDEST }
     requires room { at ≤ 32 }
     ensures items { take result line.new ≡ take at line.old ++ (if K.form.rules.masked then 32 ∷ hex ((w + 3) / 4) mask else []) }
