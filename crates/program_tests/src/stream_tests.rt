@@ -9,6 +9,12 @@ const RUN: Order = Order::Run {
     sync: false,
 };
 
+const SYNC: Order = Order::Run {
+    ring: 16,
+    turns: 4,
+    sync: true,
+};
+
 const GET: &str =
     "tilelink-trace 1 client 8 manager 4\nA 4 0 2 07 0000000000001004 f0 1122334455667788 0\n";
 
@@ -113,7 +119,11 @@ fn writers(rt: HostRuntime) -> Result<(), Fail> {
         (1000, 0, false, Err(TextFault::Write)),
     ] {
         for kind in [io::ErrorKind::Interrupted, io::ErrorKind::Other] {
-            for (order, answer) in [(RUN, GET_ANSWER), (Order::Check, GET_CHECK)] {
+            for (order, answer) in [
+                (RUN, GET_ANSWER),
+                (SYNC, GET_ANSWER),
+                (Order::Check, GET_CHECK),
+            ] {
                 let mut writer = Slow {
                     taken: Vec::new(alloc),
                     most,

@@ -40,5 +40,10 @@ fn refused_words(rt: HostRuntime) -> Result<(), Fail> {
         return Err(Fail::from("help gave an order"));
     };
     assert!(rt; !error.use_stderr() && error.exit_code() == 0);
+    let Err(error) = order_of(alloc, &["tlbridge", "--version"]) else {
+        return Err(Fail::from("the version gave an order"));
+    };
+    assert!(rt; error.kind() == ErrorKind::DisplayVersion);
+    assert!(rt; !error.use_stderr() && error.exit_code() == 0);
     Ok(())
 }

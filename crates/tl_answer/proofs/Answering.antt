@@ -1,6 +1,6 @@
 -- What a run ends in makes the answer.
 use Rattle.std.specs.Prelude.{Result, Ok, Err, IfOk}
-use Rattle.std.proofs.Common.{◌≡◌, ℕ, Bool, cond, List, [], ◌++◌, refl, ap, subst, ◌∙◌}
+use Rattle.std.proofs.Common.{◌≡◌, ℕ, Bool, cond, List, [], ◌++◌, refl, ap, ◌∙◌}
 use Rattle.std.specs.List.{list_all}
 use Rattle.tl_settle.specs.Outcomes.{Beats, far_beats}
 use Rattle.tl_bridge.specs.Scripts.{EndsIn, near_beats}

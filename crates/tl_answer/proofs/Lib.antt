@@ -4,3 +4,4 @@ pub mod Answering
 pub mod Reading
 pub mod Writing
 pub mod Headers
+pub mod Running

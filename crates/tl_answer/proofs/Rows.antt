@@ -5,7 +5,13 @@ use Rattle.std.specs.Fmt.{digits}
 use Rattle.tl_trace.specs.Texts.{newline}
 use Rattle.tl_trace.specs.declared.line.Line.{Line}
 use Rattle.tl_trace.specs.declared.line.Line.TheVariants as line
+use Rattle.tl_order.specs.declared.TheConstants as order
+use Rattle.tl_ring.specs.declared.pipe.TheConstants as ring
 use Rattle.tl_answer.specs.Answer.{answer_of, are_done}
+
+-- the largest ring that an order may ask for is the largest that there is
+largest_ring : order.MAX_RING ≡ ring.MAX_RING
+largest_ring = refl
 
 -- lines, each with its end
 abbrev lines_of : List (List ℕ) → List ℕ

@@ -1,10 +1,11 @@
 //! The answer to a text, without a reader and a writer.
-ghost use Rattle.std.specs.Prelude.{◌≡◌, ◌≤◌, ◌++◌, [], cond, length, Some, IfOk, OnOk, IfErr};
+ghost use Rattle.std.specs.Prelude.{◌≡◌, ◌≢◌, ◌≤◌, ◌++◌, ℕ, List, [], cond, length, Some, false, IfOk, OnOk, IfErr};
 ghost use Rattle.std.specs.List.{list_all};
-ghost use Rattle.tl_ring.specs.declared.pipe.TheConstants.{MAX_RING};
 ghost use Rattle.tl_lanes.specs.Lanes.{IsWidth};
 ghost use Rattle.tl_settle.specs.Outcomes.{Verdicts};
 ghost use Rattle.tl_bridge.specs.Scripts.{HasShortLists, SettlesTo};
+ghost use Rattle.tl_bridge.specs.declared.outcome.RunFault.TheVariants.{RingSize, Stalled};
+ghost use Rattle.tl_order.specs.Orders.{IsRunnable, is_check, is_sync};
 ghost use Rattle.tl_trace.specs.Faults.{body, widths_of};
 ghost use Rattle.tl_answer.specs.Answer.{far_header, far_lines, taken, report, in_order, is_done};
 ghost use Rattle.tl_answer.specs.Texts.{IsAnswer, IsOfText, most_bytes};
@@ -12,8 +13,10 @@ ghost use Rattle.tl_answer.specs.declared.fault.TextFault.TheVariants.{OutOfMemo
 
 use crate::fault::TextFault;
 use std::alloc::{AllocError, Global};
-use tl_bridge::{Outcome, RunFault, run_sync};
+use std::thread::Threads;
+use tl_bridge::{NoGate, Outcome, RunFault, run_sync, run_threads};
 use tl_msg::{ChA, ChB, ChC, ChD, ChE, Verdict};
+use tl_order::Order;
 use tl_trace::{
     OutOfMemory, Script, TraceFault, TraceKind, read_script, widths_of_text, write_far,
     write_report,
@@ -76,20 +79,53 @@ fn are_done(verdicts: &[Verdict; 5]) -> bool
         .all(|verdict| matches!(verdict, Verdict::Done { .. }))
 }
 
-/// What a script ends in, over rings of a size that rings may have.
-fn outcome_of<const C: usize, const M: usize>(
+/// The run of a script that the order asks for: in one thread, or with each side in its own.
+fn run_script<T: Threads, const C: usize, const M: usize>(
+    rt: &T,
     alloc: Global,
     script: &Script<C, M>,
-    ring: usize,
+    order: &Order,
+) -> Result<Outcome<C, M>, RunFault>
+    requires client { IsWidth C }
+    requires manager { IsWidth M }
+    requires short { HasShortLists script.now }
+    requires runnable { IsRunnable order.now }
+    ensures ok { IfOk result (SettlesTo script.now) }
+    ensures ring_size { IfErr result (λ fault. fault ≢ RingSize) }
+    ensures stalled { IfErr result (λ fault. fault ≡ Stalled → is_sync order.now ≡ false) }
+{
+    let ring = order.ring();
+    if order.is_sync() {
+        return run_sync::<C, M>(alloc, script, ring);
+    }
+    let (client_gate, manager_gate) = (&mut NoGate, &mut NoGate);
+    let turns = order.turns();
+    run_threads::<T, NoGate, NoGate, C, M>(
+        rt,
+        alloc,
+        script,
+        ring,
+        turns,
+        client_gate,
+        manager_gate,
+    )
+}
+
+/// What a script ends in, by that run. The fault is one that any text may have.
+fn outcome_of<T: Threads, const C: usize, const M: usize>(
+    rt: &T,
+    alloc: Global,
+    script: &Script<C, M>,
+    order: &Order,
 ) -> Result<Outcome<C, M>, TextFault>
     requires client { IsWidth C }
     requires manager { IsWidth M }
     requires short { HasShortLists script.now }
-    requires ring_size { (1 ≤ ring) × (ring ≤ MAX_RING) }
+    requires runnable { IsRunnable order.now }
     ensures ok { IfOk result (SettlesTo script.now) }
-    ensures err { IfErr result (λ fault. fault ≡ NoMemory) }
+    ensures err { IfErr result (λ fault. (text : List ℕ) → IsOfText text order.now fault) }
 {
-    match run_sync::<C, M>(alloc, script, ring) {
+    match run_script::<T, C, M>(rt, alloc, script, order) {
         Ok(outcome) => Ok(outcome),
         Err(RunFault::OutOfMemory) => Err(TextFault::OutOfMemory),
         Err(RunFault::Stalled) => Err(TextFault::Stalled),
@@ -123,68 +159,71 @@ pub fn answer_of<const C: usize, const M: usize>(
 
 /// The answer to a text whose header names these widths. The text is let go before the run, and the
 /// script after it.
-fn with_widths<const C: usize, const M: usize>(
+fn with_widths<T: Threads, const C: usize, const M: usize>(
+    rt: &T,
     alloc: Global,
     text: Vec<u8>,
-    check: bool,
-    ring: usize,
+    order: &Order,
 ) -> Result<Answer, TextFault>
     requires client { IsWidth C }
     requires manager { IsWidth M }
     requires widths { widths_of (body text.items) ≡ Some (C, M) }
     requires few { length text.items ≤ most_bytes }
-    requires ring_size { (1 ≤ ring) × (ring ≤ MAX_RING) }
-    ensures ok { IfOk result (λ made. IsAnswer text.items check made.text.items made.all_done) }
-    ensures err { IfErr result (IsOfText text.items) }
+    requires runnable { IsRunnable order.now }
+    ensures ok { IfOk result (λ made.
+        IsAnswer text.items (is_check order.now) made.text.items made.all_done) }
+    ensures err { IfErr result (IsOfText text.items order.now) }
 {
     let script = read_script::<C, M>(alloc, &text)?;
     drop(text);
-    let outcome = outcome_of::<C, M>(alloc, &script, ring)?;
+    let outcome = outcome_of::<T, C, M>(rt, alloc, &script, order)?;
     drop(script);
-    answer_of(alloc, &outcome, check)
+    answer_of(alloc, &outcome, order.is_check())
 }
 
 /// The same, for a client of `C` bytes: the manager's width is one of seven.
-fn with_client<const C: usize>(
+fn with_client<T: Threads, const C: usize>(
+    rt: &T,
     alloc: Global,
     text: Vec<u8>,
     manager: usize,
-    check: bool,
-    ring: usize,
+    order: &Order,
 ) -> Result<Answer, TextFault>
     requires client { IsWidth C }
     requires widths { widths_of (body text.items) ≡ Some (C, manager) }
     requires few { length text.items ≤ most_bytes }
-    requires ring_size { (1 ≤ ring) × (ring ≤ MAX_RING) }
-    ensures ok { IfOk result (λ made. IsAnswer text.items check made.text.items made.all_done) }
-    ensures err { IfErr result (IsOfText text.items) }
+    requires runnable { IsRunnable order.now }
+    ensures ok { IfOk result (λ made.
+        IsAnswer text.items (is_check order.now) made.text.items made.all_done) }
+    ensures err { IfErr result (IsOfText text.items order.now) }
 {
     match manager {
-        1 => with_widths::<C, 1>(alloc, text, check, ring),
-        2 => with_widths::<C, 2>(alloc, text, check, ring),
-        4 => with_widths::<C, 4>(alloc, text, check, ring),
-        8 => with_widths::<C, 8>(alloc, text, check, ring),
-        16 => with_widths::<C, 16>(alloc, text, check, ring),
-        32 => with_widths::<C, 32>(alloc, text, check, ring),
-        _ => with_widths::<C, 64>(alloc, text, check, ring),
+        1 => with_widths::<T, C, 1>(rt, alloc, text, order),
+        2 => with_widths::<T, C, 2>(rt, alloc, text, order),
+        4 => with_widths::<T, C, 4>(rt, alloc, text, order),
+        8 => with_widths::<T, C, 8>(rt, alloc, text, order),
+        16 => with_widths::<T, C, 16>(rt, alloc, text, order),
+        32 => with_widths::<T, C, 32>(rt, alloc, text, order),
+        _ => with_widths::<T, C, 64>(rt, alloc, text, order),
     }
 }
 
-/// The answer to a text, which is let go once it is read: the widths, the far beats unless `check`
-/// leaves them out, and the five report lines. `ring` is how many beats each ring holds; the answer
-/// is the same for each.
+/// The answer to a text, which is let go once it is read: the widths, the far beats unless the order
+/// is a check, and the five report lines. It is the same for each order that is no check.
 ///
-/// Refused with `Trace` and the text's first fault and its line, or with `OutOfMemory`.
-pub fn answer_text(
+/// Refused with `Trace` and the text's first fault and its line, with `OutOfMemory`, or with
+/// `Stalled`, the last one only where each side runs in a thread of its own.
+pub fn answer_text<T: Threads>(
+    rt: &T,
     alloc: Global,
     text: Vec<u8>,
-    check: bool,
-    ring: usize,
+    order: &Order,
 ) -> Result<Answer, TextFault>
     requires few { length text.items ≤ most_bytes }
-    requires ring_size { (1 ≤ ring) × (ring ≤ MAX_RING) }
-    ensures ok { IfOk result (λ made. IsAnswer text.items check made.text.items made.all_done) }
-    ensures err { IfErr result (IsOfText text.items) }
+    requires runnable { IsRunnable order.now }
+    ensures ok { IfOk result (λ made.
+        IsAnswer text.items (is_check order.now) made.text.items made.all_done) }
+    ensures err { IfErr result (IsOfText text.items order.now) }
 {
     let Some((client, manager)) = widths_of_text(&text) else {
         return Err(TextFault::from(TraceFault {
@@ -193,12 +232,12 @@ pub fn answer_text(
         }));
     };
     match client {
-        1 => with_client::<1>(alloc, text, manager, check, ring),
-        2 => with_client::<2>(alloc, text, manager, check, ring),
-        4 => with_client::<4>(alloc, text, manager, check, ring),
-        8 => with_client::<8>(alloc, text, manager, check, ring),
-        16 => with_client::<16>(alloc, text, manager, check, ring),
-        32 => with_client::<32>(alloc, text, manager, check, ring),
-        _ => with_client::<64>(alloc, text, manager, check, ring),
+        1 => with_client::<T, 1>(rt, alloc, text, manager, order),
+        2 => with_client::<T, 2>(rt, alloc, text, manager, order),
+        4 => with_client::<T, 4>(rt, alloc, text, manager, order),
+        8 => with_client::<T, 8>(rt, alloc, text, manager, order),
+        16 => with_client::<T, 16>(rt, alloc, text, manager, order),
+        32 => with_client::<T, 32>(rt, alloc, text, manager, order),
+        _ => with_client::<T, 64>(rt, alloc, text, manager, order),
     }
 }

@@ -1,7 +1,7 @@
 //! From the bytes that come in to the bytes that go out.
 ghost use Rattle.std.specs.Prelude.{◌≡◌, ◌≢◌, ◌≤◌, ◌<◌, length, IfSome, IfOk, OnOk, IfErr, IsErrOf};
 ghost use Rattle.std.specs.Io.KnownBytes.{Appends, IsAtEnd};
-ghost use Rattle.tl_order.specs.Orders.{IsRunnable, is_check};
+ghost use Rattle.tl_order.specs.Orders.{IsRunnable};
 ghost use Rattle.tl_answer.specs.Texts.{AnswersText, most_bytes};
 ghost use Rattle.tl_answer.specs.declared.fault.TextFault.TheVariants.{Read as ReadFault, Write as WriteFault, TooLong, OutOfMemory};
 
@@ -78,12 +78,14 @@ fn write_all<W: Write>(writer: &mut W, bytes: &[u8]) -> Result<(), TextFault>
 ///
 /// All of the input is read first: `Read` where a read fails or is interrupted, `TooLong` above
 /// 67,108,864 bytes. Then the text is judged: `Trace` with its first fault and that fault's line.
-/// Then both sides of the bridge run, in one thread for now, over rings of the order's size.
-/// Nothing is written before the whole answer is made. `Write` where a write fails, is interrupted
-/// or takes no byte; after it, it isn't said how much went out. `OutOfMemory` comes before anything
-/// is written, and `Stalled` never.
+/// Then both sides of the bridge run over rings of the order's size: each in a thread of its own,
+/// where they meet after each round of the order's turns, or both in one where the order is a check
+/// or says `sync`. `Stalled` comes from a run in two threads alone, after a round in which nothing
+/// moved. Nothing is written before the whole answer is made. `Write` where a write fails, is
+/// interrupted or takes no byte; after it, it isn't said how much went out. `OutOfMemory` and
+/// `Stalled` come before anything is written.
 pub fn run_text<T: Threads, R: Read, W: Write>(
-    _rt: &T,
+    rt: &T,
     alloc: Global,
     reader: &mut R,
     writer: &mut W,
@@ -91,10 +93,10 @@ pub fn run_text<T: Threads, R: Read, W: Write>(
 ) -> Result<bool, TextFault>
     requires { IsRunnable order.now }
     ensures { AnswersText (R.remaining reader.old) (R.remaining reader.new)
-        (W.contents writer.old) (W.contents writer.new) (is_check order.now) result }
+        (W.contents writer.old) (W.contents writer.new) order.now result }
 {
     let text = read_all(alloc, reader)?;
-    let answer = answer_text(alloc, text, order.is_check(), order.ring())?;
+    let answer = answer_text(rt, alloc, text, order)?;
     write_all(writer, &answer.text)?;
     Ok(answer.all_done)
 }

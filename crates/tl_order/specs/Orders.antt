@@ -1,11 +1,12 @@
 -- What an order may hold (this project's choice).
 use Rattle.std.specs.Prelude.{ℕ, ◌≤◌, Bool, true, false}
+use Rattle.tl_order.specs.declared.TheConstants.{MAX_RING, MAX_TURNS}
 use Rattle.tl_order.specs.declared.Order.{Order}
 use Rattle.tl_order.specs.declared.Order.TheVariants.{Run, Check}
 
--- the bridge can do it: a ring holds 1 to 4096 beats, and the sides take a turn before they meet
+-- the bridge can do it: a ring holds a beat at least and not too many, and the sides take a turn before they meet
 abbrev pub IsRunnable : Order → Type 0
-IsRunnable (Run ring turns sync) = (1 ≤ ring) × (ring ≤ 4096) × (1 ≤ turns)
+IsRunnable (Run ring turns sync) = (1 ≤ ring) × (ring ≤ MAX_RING) × (1 ≤ turns)
 IsRunnable Check = Unit {0}
 
 -- the sides take at most so many turns before they meet
@@ -13,16 +14,26 @@ abbrev pub HasTurnsUpTo : (most : ℕ) → Order → Type 0
 HasTurnsUpTo most (Run ring turns sync) = turns ≤ most
 HasTurnsUpTo most Check = Unit {0}
 
--- a ring of 1 to 4096 beats, and 1 to 1000 turns
+-- neither the ring nor the turns are too many
 abbrev pub IsInRange : Order → Type 0
-IsInRange order = IsRunnable order × HasTurnsUpTo 1000 order
+IsInRange order = IsRunnable order × HasTurnsUpTo MAX_TURNS order
 
 -- the order is a check, which prints no far beats
 abbrev pub is_check : Order → Bool
 is_check (Run ring turns sync) = false
 is_check Check = true
 
+-- both sides run in one thread, as they do in a check
+abbrev pub is_sync : Order → Bool
+is_sync (Run ring turns sync) = sync
+is_sync Check = true
+
 -- how many beats a ring holds; a check's rings hold one
 abbrev pub ring_of : Order → ℕ
 ring_of (Run ring turns sync) = ring
 ring_of Check = 1
+
+-- how many turns a side takes before they meet; in a check it takes one
+abbrev pub turns_of : Order → ℕ
+turns_of (Run ring turns sync) = turns
+turns_of Check = 1

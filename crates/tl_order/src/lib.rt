@@ -2,7 +2,8 @@
 #![tactic(auto)]
 
 ghost use Rattle.std.specs.Prelude.{◌≡◌, ◌≤◌};
-ghost use Rattle.tl_order.specs.Orders.{IsRunnable, is_check, ring_of};
+ghost use Rattle.tl_order.specs.declared.TheConstants.{MAX_RING};
+ghost use Rattle.tl_order.specs.Orders.{IsRunnable, is_check, is_sync, ring_of, turns_of};
 
 /// The most beats that a ring holds (this project's choice).
 pub const MAX_RING: usize = 4096;
@@ -13,17 +14,16 @@ pub const MAX_TURNS: usize = 1000;
 /// What the program is asked to do with a trace.
 #[derive(Clone, Copy, Debug, PartialEq, Eq)]
 pub enum Order {
-    /// Sends it across the bridge. Both sides run in one thread for now, with or without `sync`,
-    /// and take one turn each between two meetings, whatever `turns` says.
+    /// Sends it across the bridge.
     Run {
         /// The beats that each ring holds, 1 to 4,096.
         ring: usize,
-        /// The turns of each side between two meetings, 1 to 1,000.
+        /// The turns of each side between two meetings of the two threads, 1 to 1,000.
         turns: usize,
-        /// Whether both sides are to run in one thread.
+        /// Whether both sides run in one thread, where `turns` changes nothing.
         sync: bool,
     },
-    /// Reports how far each channel comes.
+    /// Reports how far each channel comes. Both sides run in one thread.
     Check,
 }
 
@@ -31,11 +31,32 @@ impl Order {
     /// How many beats a ring holds; a check's rings hold one.
     pub fn ring(&self) -> usize
         ensures is { result ≡ ring_of self.now }
-        ensures size { IsRunnable self.now → (1 ≤ result) × (result ≤ 4096) }
+        ensures size { IsRunnable self.now → (1 ≤ result) × (result ≤ MAX_RING) }
     {
         match self {
             Order::Run { ring, .. } => *ring,
             Order::Check => 1,
+        }
+    }
+
+    /// How many turns each side takes between two meetings; in a check it takes one.
+    pub fn turns(&self) -> usize
+        ensures is { result ≡ turns_of self.now }
+        ensures some { IsRunnable self.now → 1 ≤ result }
+    {
+        match self {
+            Order::Run { turns, .. } => *turns,
+            Order::Check => 1,
+        }
+    }
+
+    /// Whether both sides run in one thread, as they do in a check.
+    pub fn is_sync(&self) -> bool
+        ensures { result ≡ is_sync self.now }
+    {
+        match self {
+            Order::Run { sync, .. } => *sync,
+            Order::Check => true,
         }
     }
 

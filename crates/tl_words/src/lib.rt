@@ -10,6 +10,9 @@ use clap::{Arg, ArgAction, ArgMatches, Command};
 use std::alloc::{AllocError, Global};
 use tl_order::{MAX_RING, MAX_TURNS, Order};
 
+/// The program's version.
+const VERSION: &str = "0.1.0";
+
 /// An option with a number. `number_of` says which numbers it takes.
 fn number_option<'a>(alloc: Global, name: &'a str, default: &'a str, help: &'a str) -> Arg<'a> {
     Arg::new(alloc, name)
@@ -23,7 +26,9 @@ fn number_option<'a>(alloc: Global, name: &'a str, default: &'a str, help: &'a s
 fn sync_option<'a>(alloc: Global) -> Arg<'a> {
     Arg::new(alloc, "sync")
         .long("sync")
-        .help("Runs both sides in one thread; so does every run for now")
+        .help(
+            "Runs both sides in one thread, without --turns: for one core; the answer is the same",
+        )
         .action(ArgAction::SetTrue)
 }
 
@@ -31,9 +36,9 @@ fn run_command<'a>(alloc: Global) -> Result<Command<'a>, AllocError> {
     let ring =
         "Beats that the ring of each channel holds, 1 to 4096; the answer is the same for each";
     let turns =
-        "Turns of each side between two meetings, 1 to 1000; taken, but without effect: both sides run in one thread for now";
+        "Turns of each side between two meetings of the two threads, 1 to 1000; the answer is the same for each";
     let about =
-        "Prints the beats that arrive across the bridge, and a report line for each channel. Standard input holds the trace.";
+        "Prints the beats that arrive across the bridge, and a report line for each channel. Standard input holds the trace. Each side runs in a thread of its own. The defaults are slow on a long trace: --turns 1000 --ring 4096 is for those.";
     Command::new(alloc, "run")
         .about(about)
         .arg(number_option(alloc, "ring", "16", ring))?
@@ -49,6 +54,7 @@ fn command<'a>(alloc: Global) -> Result<Command<'a>, AllocError> {
     );
     Command::new(alloc, "tlbridge")
         .about(about)
+        .version(VERSION)
         .subcommand_required(true)
         .subcommand(run_command(alloc)?)?
         .subcommand(check)
@@ -109,9 +115,10 @@ fn order_in(alloc: Global, matches: &ArgMatches<'_>) -> Result<Order, Error>
 
 /// The order that the words of a command line give. The first word is the program's name.
 ///
-/// Every other command line is refused by clap's error, and so is a want of memory. Help that is
-/// asked for comes as an error, too: its `exit_code` is 0, and `print` writes it to standard
-/// output. The `exit_code` of every other error is 2, and `print` writes it to standard error.
+/// Every other command line is refused by clap's error, and so is a want of memory. Help and the
+/// version, where they are asked for, come as errors, too: their `exit_code` is 0, and `print` writes
+/// them to standard output. The `exit_code` of every other error is 2, and `print` writes it to
+/// standard error.
 pub fn order_of<'a>(alloc: Global, words: &'a [&'a str]) -> Result<Order, Error>
     ensures { IfOk result IsInRange }
 {

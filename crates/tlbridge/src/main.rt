@@ -38,7 +38,8 @@ fn status(rt: &HostRuntime, ending: Result<bool, TextFault>) -> ExitCode {
     ExitCode::from(exit_status(&ending))
 }
 
-/// Prints what clap says of the command line: status 0 for help that was asked for, else 2.
+/// Prints what clap says of the command line: status 0 for help or the version, where they are asked
+/// for, else 2.
 fn refuse(rt: &HostRuntime, error: &Error) -> ExitCode {
     if error.print(rt).is_err() && !error.use_stderr() {
         return status(rt, Err(TextFault::Write));

@@ -1,0 +1,16 @@
+-- What a run is refused for.
+use Rattle.std.specs.Prelude.{Result, IfErr}
+use Rattle.std.proofs.Common.{◌≡◌, ◌≢◌, ◌≤◌, ◌<◌, ◌⊎◌, ◌↔◌, ℕ, inl, inr, arith}
+use Rattle.std.proofs.lemmas.Result.{IfErr-weaker}
+use Rattle.tl_bridge.specs.declared.outcome.RunFault.{RunFault}
+use Rattle.tl_bridge.specs.declared.outcome.RunFault.TheVariants.{RingSize}
+use Rattle.tl_ring.specs.declared.pipe.TheConstants.{MAX_RING}
+
+-- not for its rings, where they are of a size that rings may have
+pub size-is-right : {X : Type 0} (result : Result X RunFault) (ring : ℕ) → 1 ≤ ring → ring ≤ MAX_RING →
+    IfErr result (λ fault. (fault ≡ RingSize) ↔ ((ring ≡ 0) ⊎ (MAX_RING < ring))) → IfErr result (λ fault. fault ≢ RingSize)
+size-is-right result ring some few refused =
+    IfErr-weaker result (λ fault. (fault ≡ RingSize) ↔ ((ring ≡ 0) ⊎ (MAX_RING < ring))) (λ fault. fault ≢ RingSize) (λ fault when is. elim (when.0 is) [
+      | inl none ↦ omega (arith, none, some)
+      | inr more ↦ omega (arith, more, few)
+    ]) refused
