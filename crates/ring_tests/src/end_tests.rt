@@ -1,28 +1,66 @@
 //! The two ends of a ring, step by step in one thread.
 #![tactic(auto, using(tl_lanes::proofs::Widths::width_4, tl_lanes::proofs::Widths::width_8))]
 
+ghost use Rattle.std.specs.Prelude.{◌≡◌};
+ghost use Rattle.tl_ring.specs.Ends.{ArePair};
+
 use crate::values::{ack, at, put};
 use std::alloc::Global;
 use std::test::Fail;
 use tl_msg::{ChA, ChE};
-use tl_ring::{EndFault, meet, meet_closing, ring_pair};
+use tl_ring::{EndFault, SendEnd, Standing, TakeEnd, meet, meet_closing, ring_pair};
+
+/// Offers a quarter of a message of 16 bytes, and answers whether it was accepted.
+fn quarter_offered(send: &mut SendEnd<ChA, 4, 8>, lanes: [u8; 4]) -> bool {
+    send.ready() && send.offer(put(4, 32, 0xf, lanes), 0).is_ok()
+}
+
+/// Offers a message of 8 bytes, which is two beats on 4 lanes, and answers whether it was accepted.
+fn offered(send: &mut SendEnd<ChA, 8, 4>) -> bool
+    ensures { send.new.producer ≡ send.old.producer }
+{
+    send.ready()
+        && send
+            .offer(put(3, 16, 0xff, [0, 1, 2, 3, 4, 5, 6, 7]), 0)
+            .is_ok()
+}
+
+/// Pumps or fetches, and answers how many beats that moved, and where the beats stand then.
+fn moved(
+    send: &mut SendEnd<ChA, 8, 4>,
+    take: &mut TakeEnd<ChA, 8, 4>,
+    pumps: bool,
+) -> (usize, Standing)
+    requires { ArePair send.old take.old }
+    ensures { ArePair send.new take.new }
+{
+    let count = if pumps { send.pump() } else { take.fetch() };
+    (count, meet(send, take))
+}
+
+/// Whether each of three takes gave a beat.
+fn taken(take: &mut TakeEnd<ChA, 8, 4>) -> [bool; 3]
+    ensures { take.new.consumer ≡ take.old.consumer }
+{
+    [
+        take.take().is_some(),
+        take.take().is_some(),
+        take.take().is_some(),
+    ]
+}
 
 #[test]
 fn a_half_brought_message_keeps_its_end_open(rt: HostRuntime) -> Result<(), Fail> {
     let (mut send, _take) = ring_pair::<ChA, 4, 8, Global>(rt.alloc(), 1)?;
-    assert!(rt; send.ready());
-    send.offer(put(4, 32, 0xf, [0, 1, 2, 3]), 0)?;
-    assert!(rt; send.ready());
-    send.offer(put(4, 32, 0xf, [4, 5, 6, 7]), 0)?;
-    assert_eq!(rt; send.pump(), 1);
-    assert!(rt; send.ready());
-    send.offer(put(4, 32, 0xf, [8, 9, 10, 11]), 0)?;
+    for (lanes, moved) in [([0, 1, 2, 3], 0), ([4, 5, 6, 7], 1), ([8, 9, 10, 11], 0)] {
+        assert!(rt; quarter_offered(&mut send, lanes));
+        assert_eq!(rt; send.pump(), moved);
+    }
     let Err((mut send, fault)) = send.close() else {
         panic!(rt; "closed within a burst");
     };
     assert_eq!(rt; fault, EndFault::MidBurst);
-    assert!(rt; send.ready());
-    send.offer(put(4, 32, 0xf, [12, 13, 14, 15]), 0)?;
+    assert!(rt; quarter_offered(&mut send, [12, 13, 14, 15]));
     assert_eq!(rt; send.staged(), 1);
     let Ok(closing) = send.close() else {
         panic!(rt; "not closed between bursts");
@@ -34,19 +72,18 @@ fn a_half_brought_message_keeps_its_end_open(rt: HostRuntime) -> Result<(), Fail
 #[test]
 fn two_far_beats_pass_a_ring_of_one_between_ends(rt: HostRuntime) -> Result<(), Fail> {
     let (mut send, mut take) = ring_pair::<ChA, 8, 4, Global>(rt.alloc(), 1)?;
-    assert!(rt; send.ready());
-    send.offer(put(3, 16, 0xff, [0, 1, 2, 3, 4, 5, 6, 7]), 0)?;
+    assert!(rt; offered(&mut send));
     assert_eq!(rt; meet(&mut send, &mut take), at(2, 0, 0));
-    assert_eq!(rt; send.pump(), 1);
-    assert_eq!(rt; meet(&mut send, &mut take), at(1, 1, 0));
-    assert_eq!(rt; take.fetch(), 1);
-    assert_eq!(rt; meet(&mut send, &mut take), at(1, 0, 1));
-    assert_eq!(rt; send.pump(), 1);
-    assert_eq!(rt; meet(&mut send, &mut take), at(0, 1, 1));
-    assert_eq!(rt; take.fetch(), 1);
-    assert!(rt; take.take().is_some());
-    assert!(rt; take.take().is_some());
-    assert!(rt; take.take().is_none());
+    let moves = [
+        (true, at(1, 1, 0)),
+        (false, at(1, 0, 1)),
+        (true, at(0, 1, 1)),
+        (false, at(0, 0, 2)),
+    ];
+    for (pumps, standing) in moves {
+        assert_eq!(rt; moved(&mut send, &mut take, pumps), (1, standing));
+    }
+    assert_eq!(rt; taken(&mut take), [true, true, false]);
     let Ok(mut send) = send.close() else {
         panic!(rt; "not closed between messages");
     };
@@ -93,13 +130,12 @@ fn a_dropped_end_leaves_the_other_one_whole(rt: HostRuntime) -> Result<(), Fail>
     assert_eq!(rt; closing.staged(), 1);
 
     let (mut send, mut take) = ring_pair::<ChA, 8, 4, Global>(rt.alloc(), 1)?;
-    assert!(rt; send.ready());
-    send.offer(put(3, 16, 0xff, [0, 1, 2, 3, 4, 5, 6, 7]), 0)?;
+    assert!(rt; offered(&mut send));
     assert_eq!(rt; send.pump(), 1);
     drop(send);
-    assert_eq!(rt; take.fetch(), 1);
-    assert!(rt; take.take().is_some());
-    assert_eq!(rt; take.fetch(), 0);
-    assert_eq!(rt; take.take(), None);
+    for left in [1, 0] {
+        assert_eq!(rt; take.fetch(), left);
+        assert!(rt; take.take().is_some() == (left != 0));
+    }
     Ok(())
 }

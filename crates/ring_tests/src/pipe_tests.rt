@@ -22,75 +22,94 @@ fn release() -> BeatOf<HeadC, 64> {
     }
 }
 
+/// Offers a message of 8 bytes, which is two beats on 4 lanes, and answers whether it was accepted.
+fn offered(pipe: &mut SyncPipe<ChA, 8, 4>) -> bool {
+    pipe.ready()
+        && pipe
+            .offer(put(3, 16, 0xff, [0, 1, 2, 3, 4, 5, 6, 7]), 0)
+            .is_ok()
+}
+
+/// How many beats two pumps, a fetch, a pump and a fetch move.
+fn moved(pipe: &mut SyncPipe<ChA, 8, 4>) -> [usize; 5] {
+    [
+        pipe.pump(),
+        pipe.pump(),
+        pipe.fetch(),
+        pipe.pump(),
+        pipe.fetch(),
+    ]
+}
+
 #[test]
 fn two_far_beats_pass_a_ring_of_one(rt: HostRuntime) -> Result<(), Fail> {
     let mut pipe = SyncPipe::<ChA, 8, 4>::new(rt.alloc(), 1)?;
-    assert!(rt; pipe.ready());
-    pipe.offer(put(3, 16, 0xff, [0, 1, 2, 3, 4, 5, 6, 7]), 0)?;
+    assert!(rt; offered(&mut pipe) && !pipe.ready());
     assert_eq!(rt; pipe.standing(), at(2, 0, 0));
-    assert!(rt; !pipe.ready());
-    assert_eq!(rt; pipe.pump(), 1);
-    assert_eq!(rt; pipe.pump(), 0);
-    assert_eq!(rt; pipe.fetch(), 1);
-    assert_eq!(rt; pipe.pump(), 1);
-    assert_eq!(rt; pipe.fetch(), 1);
+    assert_eq!(rt; moved(&mut pipe), [1, 0, 1, 1, 1]);
     assert!(rt; pipe.ready());
-    assert_eq!(rt; pipe.take(), Some(put(3, 16, 0xf, [0, 1, 2, 3])));
-    assert_eq!(rt; pipe.take(), Some(put(3, 16, 0xf, [4, 5, 6, 7])));
-    assert_eq!(rt; pipe.take(), None);
-    pipe.close()?;
-    assert!(rt; pipe.drained());
-    assert!(rt; !pipe.ready());
+    let far = [put(3, 16, 0xf, [0, 1, 2, 3]), put(3, 16, 0xf, [4, 5, 6, 7])];
+    assert_eq!(rt;
+        [pipe.take(), pipe.take(), pipe.take()],
+        [Some(far[0]), Some(far[1]), None]
+    );
+    assert_eq!(rt; pipe.close(), Ok(()));
+    assert!(rt; pipe.drained() && !pipe.ready());
     Ok(())
 }
 
 #[test]
 fn staged_beats_cross_after_a_close(rt: HostRuntime) -> Result<(), Fail> {
     let mut pipe = SyncPipe::<ChA, 8, 4>::new(rt.alloc(), 1)?;
-    assert!(rt; pipe.ready());
-    pipe.offer(put(3, 16, 0xff, [0, 1, 2, 3, 4, 5, 6, 7]), 0)?;
-    assert_eq!(rt; pipe.close(), Ok(()));
+    assert!(rt; offered(&mut pipe));
+    assert_eq!(rt; [pipe.close(), pipe.close()], [Ok(()); 2]);
     assert_eq!(rt; pipe.standing(), at(2, 0, 0));
-    assert_eq!(rt; pipe.close(), Ok(()));
     assert!(rt; !pipe.drained());
-    for _ in 0..2 {
-        assert_eq!(rt; pipe.pump(), 1);
-        assert_eq!(rt; pipe.fetch(), 1);
+    assert_eq!(rt; moved(&mut pipe), [1, 0, 1, 1, 1]);
+    for left in [2, 1, 0] {
+        assert!(rt; pipe.drained() == (left == 0));
+        assert!(rt; pipe.take().is_some() == (left != 0));
     }
-    for _ in 0..2 {
-        assert!(rt; !pipe.drained());
-        assert!(rt; pipe.take().is_some());
-    }
-    assert!(rt; pipe.drained());
     Ok(())
+}
+
+/// Offers half of a message of 8 bytes, and answers whether it was accepted.
+fn half_offered(pipe: &mut SyncPipe<ChA, 4, 8>, lanes: [u8; 4]) -> bool {
+    pipe.ready() && pipe.offer(put(3, 16, 0xf, lanes), 0).is_ok()
 }
 
 #[test]
 fn a_close_waits_for_the_end_of_a_burst(rt: HostRuntime) -> Result<(), Fail> {
     let mut pipe = SyncPipe::<ChA, 4, 8>::new(rt.alloc(), 1)?;
-    assert!(rt; pipe.ready());
-    pipe.offer(put(3, 16, 0xf, [0, 1, 2, 3]), 0)?;
-    assert_eq!(rt; pipe.close(), Err(EndFault::MidBurst));
-    assert_eq!(rt; pipe.standing(), at(0, 0, 0));
-    assert!(rt; pipe.ready());
-    pipe.offer(put(3, 16, 0xf, [4, 5, 6, 7]), 0)?;
-    assert_eq!(rt; pipe.close(), Ok(()));
-    assert_eq!(rt; pipe.standing(), at(1, 0, 0));
+    let parts = [
+        ([0, 1, 2, 3], Err(EndFault::MidBurst), at(0, 0, 0)),
+        ([4, 5, 6, 7], Ok(()), at(1, 0, 0)),
+    ];
+    for (lanes, closed, standing) in parts {
+        assert!(rt; half_offered(&mut pipe, lanes));
+        assert_eq!(rt; pipe.close(), closed);
+        assert_eq!(rt; pipe.standing(), standing);
+    }
     Ok(())
+}
+
+/// Offers the beat of [`release`], pumps and fetches, and answers how many far beats that moved.
+fn released(pipe: &mut SyncPipe<ChC, 64, 1>) -> [usize; 2] {
+    if pipe.ready() && pipe.offer(release(), 0).is_ok() {
+        [pipe.pump(), pipe.fetch()]
+    } else {
+        [0, 0]
+    }
 }
 
 #[test]
 fn a_full_inbox_takes_no_more(rt: HostRuntime) -> Result<(), Fail> {
     let mut pipe = SyncPipe::<ChC, 64, 1>::new(rt.alloc(), 4096)?;
-    assert!(rt; pipe.ready());
-    pipe.offer(release(), 0)?;
-    assert_eq!(rt; pipe.pump(), 64);
-    assert_eq!(rt; pipe.fetch(), 64);
-    assert!(rt; pipe.ready());
-    pipe.offer(release(), 0)?;
-    assert_eq!(rt; pipe.pump(), 64);
+    assert_eq!(rt;
+        [released(&mut pipe), released(&mut pipe)],
+        [[64, 64], [64, 0]]
+    );
     assert_eq!(rt; pipe.standing(), at(0, 64, 64));
-    assert_eq!(rt; pipe.fetch(), 0);
     assert!(rt; pipe.take().is_some());
     assert_eq!(rt; pipe.fetch(), 1);
     assert_eq!(rt; pipe.standing(), at(0, 63, 64));

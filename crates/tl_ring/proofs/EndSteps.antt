@@ -1,5 +1,5 @@
 -- Each call of a sending end takes it to where its crossing is after the same event, and a meeting makes one crossing of both ends.
-use Rattle.std.proofs.Common.{◌≡◌, ◌≤◌, ◌<◌, ◌+◌, ◌^◌, ℕ, zero, suc, true, false, List, [], ◌∷◌, ◌++◌, length, take, drop, min, refl, sym, ap, subst, ◌∙◌, arith, ⊎_elim, append_assoc, append-nil, length-append}
+use Rattle.std.proofs.Common.{◌≡◌, ◌≤◌, ◌<◌, ◌+◌, ◌^◌, ℕ, Bool, zero, suc, true, false, List, [], ◌∷◌, ◌++◌, length, take, drop, min, refl, sym, ap, subst, ◌∙◌, arith, ⊎_elim, append_assoc, append-nil, length-append}
 use Rattle.std.proofs.lemmas.Bool.{cases_lt}
 use mathlib.Core.List.{IsPrefix}
 use Rattle.rtrb.specs.Ring as rtrb
@@ -16,12 +16,12 @@ use Rattle.tl_convert.specs.Due.{due}
 use Rattle.tl_ring.specs.Crossing.{World, empty, offered, shut, inbox_room, IsReached}
 use Rattle.tl_ring.specs.Ends.{ArePair, Sending, as_pipe, Taking, Ended, Sends, Takes, Pushed, Fetched, Met, Meets, Shows, Shown, LookedAfter, IsReceiptOf, Finishes, SameTake, sent, room, known_items, received, passed, closing, took_first}
 use Rattle.tl_ring.specs.Laws.{Crosses}
+use Rattle.tl_ring.specs.Pipe.{Pipe, StandsFor}
 use Rattle.tl_ring.specs.declared.lawful.LawfulAt.{LawfulAt}
 use Rattle.tl_ring.proofs.Moves.{cut_moves}
 use Rattle.tl_ring.proofs.Parting.{into_taken, reached_parted}
-use Rattle.tl_ring.proofs.PipeSteps.{stands_offered, stands_shut}
-use Rattle.tl_ring.proofs.Reached.{reached_new}
-use Rattle.tl_ring.proofs.Crossings.{crosses, Crosses-empty}
+use Rattle.tl_ring.proofs.PipeSteps.{stands_new, stands_offered, stands_shut}
+use Rattle.tl_ring.proofs.Crossings.{crosses}
 
 -- where inbox and ring are empty, all that was sent was taken
 none_on_the_way : {X : Type 0} (taken inbox ring : List X) → inbox ≡ [] → ring ≡ [] → taken ++ inbox ++ ring ≡ taken
@@ -69,18 +69,7 @@ module _ {K A H : Type 0} (r : Rules H) {w v : ℕ} (partial_masked : (h : H) �
   pub sends_new : (s : Sending K A H v) (size : ℕ) → IsWidth w → IsWidth v → 1 ≤ size → converting.StandsFor {w = w} r s.converter [] [] → s.stage ≡ [] →
       sent s ≡ [] → room s ≡ size → s.closed ≡ false → Sends r s (empty {w = w} size)
   sends_new s size near far some converts none_staged none_sent room open_yet = record {
-    pipe = record {
-      near = near;
-      far = far;
-      converter = converts;
-      room = room;
-      stage = none_staged;
-      ring = refl;
-      inbox = refl;
-      closed = open_yet;
-      reached = reached_new r size;
-      crosses = Crosses-empty r near far partial_masked size;
-    };
+    pipe = stands_new r partial_masked (as_pipe s) size near far converts room none_staged refl refl open_yet;
     sent = none_sent;
     some_room = some;
   }
@@ -142,22 +131,13 @@ module _ {K A H : Type 0} (r : Rules H) {w v : ℕ} where
       let all : x.taken ++ x.inbox ++ x.ring ≡ taken ++ t'.inbox ++ known_items t' =
       none_on_the_way x.taken x.inbox x.ring (sym p.inbox) (sym p.ring) ∙ sym h.sent ∙ sym met.same_sent ∙ sym met.ring ∙
       ap (λ l. l ++ known_items t') now in
+      let still : as_pipe s' ≡ as_pipe s = λ i.
+      record { converter = met.same_converter i; room = met.send.1 i; stage = met.same_stage i; ring = []; inbox = []; closed = met.same_closed i } in
       let same_room : room s ≡ x.room = p.room in
       let fits : length (known_items t') ≤ x.room = omega (arith, met.in_room, same_room) in
       record {
         sends = record {
-          pipe = record {
-            near = p.near;
-            far = p.far;
-            converter = subst (λ (c : Progress H v). converting.StandsFor r c x.accepted x.homes) (sym met.same_converter) p.converter;
-            room = met.send.1 ∙ p.room;
-            stage = met.same_stage ∙ p.stage;
-            ring = p.ring;
-            inbox = p.inbox;
-            closed = met.same_closed ∙ p.closed;
-            reached = p.reached;
-            crosses = p.crosses;
-          };
+          pipe = subst (λ (p : Pipe H v). StandsFor r p x) (sym still) p;
           sent = met.same_sent ∙ h.sent;
           some_room = h.some_room;
         };
@@ -253,9 +233,9 @@ module _ {K A H : Type 0} {v : ℕ} where
   pub takes_first : (t : Taking K A H v) (taken : List (BeatOf H v)) → Takes t taken → Takes (took_first t) (taken ++ take 1 t.inbox)
   takes_first t taken takes = takes ∙ sym (cut_moves 1 taken t.inbox)
 
-  -- a closing end and the end that was closed do the same
-  pub pushed_closing : (k : ℕ) (a b : Sending K A H v) → Pushed a k b → Pushed (closing a) k (closing b)
-  pushed_closing k a b p = record {
+  -- a pump and a meeting do the same, whether the end is closed or not
+  pub pushed_alike : (closed : Bool) (k : ℕ) (a b : Sending K A H v) → Pushed a k b → Pushed (record a { closed = closed }) k (record b { closed = closed })
+  pushed_alike closed k a b p = record {
     ring = p.ring;
     same_converter = p.same_converter;
     same_closed = refl;
@@ -264,8 +244,9 @@ module _ {K A H : Type 0} {v : ℕ} where
     known = p.known;
   }
 
-  pub met_closing : (s s' : Sending K A H v) (t t' : Taking K A H v) → Met s t s' t' → Met (closing s) t (closing s') t'
-  met_closing s s' t t' m = record {
+  pub met_alike : (closed : Bool) (s s' : Sending K A H v) (t t' : Taking K A H v) → Met s t s' t' →
+      Met (record s { closed = closed }) t (record s' { closed = closed }) t'
+  met_alike closed s s' t t' m = record {
     pair = m.pair;
     send = m.send;
     take = m.take;

@@ -67,3 +67,6 @@ no_ring_size ring answer exact refused = ⊎_elim
     (λ within. let t : answer ≡ true = exact.1 (some, within) in absurd (cc))
     (cases_lt MAX_RING ring))
     (cases_lt ring 1)
+
+pub ring_size_only : (ring : ℕ) → (1 ≤ ring) × (ring ≤ MAX_RING) → (ring ≡ 0) ⊎ (MAX_RING < ring) → ⊥
+ring_size_only ring size refused = ⊎_elim (λ none. omega arith) (λ above. omega arith) refused

@@ -16,19 +16,19 @@ use Rattle.tl_ring.proofs.Reached.{reached_new, reached_offered, reached_pushed,
 use Rattle.tl_ring.proofs.Crossings.{Crosses-empty, Crosses-fed, Crosses-pushed, Crosses-popped, Crosses-took, Crosses-shut}
 
 module _ {H : Type 0} (r : Rules H) {w v : ℕ} (partial_masked : (h : H) → r.partial h ≡ true → r.masked ≡ true) where
-  pub stands_new : (c : Progress H v) (room : ℕ) → IsWidth w → IsWidth v → converting.StandsFor {w = w} r c [] [] →
-      StandsFor r (record { converter = c; room = room; stage = []; ring = []; inbox = []; closed = false }) (empty {w = w} room)
-  stands_new c room near far converts = record {
+  pub stands_new : (p : Pipe H v) (size : ℕ) → IsWidth w → IsWidth v → converting.StandsFor {w = w} r p.converter [] [] → p.room ≡ size → p.stage ≡ [] →
+      p.ring ≡ [] → p.inbox ≡ [] → p.closed ≡ false → StandsFor r p (empty {w = w} size)
+  stands_new p size near far converts room none_staged no_ring no_inbox still = record {
     near = near;
     far = far;
     converter = converts;
-    room = refl;
-    stage = refl;
-    ring = refl;
-    inbox = refl;
-    closed = refl;
-    reached = reached_new r room;
-    crosses = Crosses-empty r near far partial_masked room;
+    room = room;
+    stage = none_staged;
+    ring = no_ring;
+    inbox = no_inbox;
+    closed = still;
+    reached = reached_new r size;
+    crosses = Crosses-empty r near far partial_masked size;
   }
 
   pub stands_offered : (p : Pipe H v) (x : World H w v) (b : BeatOf H w) (home : ℕ) (c : Progress H v) (out : List (BeatOf H v)) →

@@ -1,6 +1,7 @@
 -- Every list of events leads to a world: whether an event is possible can be told.
 use Rattle.std.proofs.Common.{◌≡◌, ◌≤◌, ◌<◌, ◌-◌, ◌^◌, ℕ, suc, Bool, true, false, Option, None, Some, List, [], ◌∷◌, length, min, refl, ⊎_elim, inl, inr, arith}
 use Rattle.std.specs.Prelude.{◌⊎◌, All}
+use Rattle.std.proofs.lemmas.Bool.{cases_lt}
 use Rattle.std.proofs.lemmas.List.Elements.{All-nil, All-cons, All-head, All-tail}
 use Rattle.tl_lanes.specs.Lanes.{IsWidth}
 use Rattle.tl_msg.specs.Beats.{IsBeat}
@@ -29,11 +30,8 @@ all_five (inl p) (inl q) (inr never) t u = inr (λ all. never all.2)
 all_five (inl p) (inr never) s t u = inr (λ all. never all.1)
 all_five (inr never) q s t u = inr (λ all. never all.0)
 
-less_or_more : (a b : ℕ) → (a ≤ b) ⊎ (b < a)
-less_or_more a b = grind arith
-
 is_most : (a b : ℕ) → Known (a ≤ b)
-is_most a b = ⊎_elim (λ less. inl less) (λ (more : b < a). inr (λ (less : a ≤ b). omega arith)) (less_or_more a b)
+is_most a b = ⊎_elim (λ (more : b < a). inr (λ (less : a ≤ b). omega arith)) (λ less. inl less) (cases_lt b a)
 
 is_same : (a b : ℕ) → Known (a ≡ b)
 is_same a b = ⊎_elim (λ less. ⊎_elim (λ more. inl (omega arith)) (λ never. inr (λ e. never (omega arith))) (is_most b a))

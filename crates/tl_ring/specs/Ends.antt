@@ -78,7 +78,7 @@ module _ {K A H : Type 0} {v : ℕ} where
   abbrev pub IsReceiptOf : Ended K A H v → Taking K A H v → Type 0
   IsReceiptOf e t = rtrb.IsFinishedOf e.finished t.consumer
 
-  -- the receipt of this sending end, as it was or is
+  -- the receipt of the taking end that is a pair with this sending end
   abbrev pub IsReceiptFor : Sending K A H v → Ended K A H v → Type 0
   IsReceiptFor s e = (t : Taking K A H v) → ArePair s t → IsReceiptOf e t
 

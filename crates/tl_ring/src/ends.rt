@@ -6,7 +6,7 @@ ghost use Rattle.tl_msg.specs.declared.beat.BeatOf.{BeatOf};
 ghost use Rattle.tl_burst.specs.Handing.{IsAdmitted, rest_of, fault_after};
 ghost use Rattle.tl_burst.specs.Tracking.{IsPlaceOf};
 ghost use Rattle.tl_ring.specs.Crossing.{World, offered, shut, inbox_room};
-ghost use Rattle.tl_ring.specs.Ends.{Sends, Takes, Pushed, Fetched, Met, Shows, Shown, LookedAfter, IsReceiptOf, Finishes, known_free, known_items, ArePair, passed, closing, took_first};
+ghost use Rattle.tl_ring.specs.Ends.{Sends, Takes, Pushed, Fetched, Met, Shows, Shown, LookedAfter, IsReceiptOf, IsReceiptFor, Finishes, known_free, known_items, ArePair, passed, closing, took_first};
 ghost use Rattle.tl_ring.specs.declared.queue.TheConstants.{ROOM};
 
 use crate::fault::EndFault;
@@ -211,6 +211,8 @@ impl<K: Channel, const W: usize, const V: usize, A: Allocator> ClosingEnd<K, W, 
     pub fn finish(self) -> Option<Receipt<K, W, V, A>>
         requires { self.stage ≡ [] }
         ensures receipt { IfSome result (λ receipt. Finishes self receipt) }
+        // the taking end of the same ring may be asked with it
+        ensures taker { IfSome result (λ receipt. IsReceiptFor self receipt) }
         // for every crossing that the end stands for
         ensures shows { (x : World K.Head W V) → Sends K.rules self x →
             IfSome result (λ receipt. Shows K.rules receipt x) }

@@ -29,7 +29,7 @@ impl<T> Model for Queue<T> {
     ghost invariant = { λ q. q.first ≤ length q.items.items };
 }
 
-impl<T: Copy + Default> Queue<T> {
+impl<T: Default> Queue<T> {
     pub(crate) fn new() -> Self
         ensures { result ≡ [] }
     {
@@ -38,7 +38,9 @@ impl<T: Copy + Default> Queue<T> {
             first: 0,
         }
     }
+}
 
+impl<T> Queue<T> {
     pub(crate) fn len(&self) -> usize
         ensures value { result ≡ length self.now }
         ensures within { result ≤ ROOM }
@@ -76,7 +78,9 @@ impl<T: Copy + Default> Queue<T> {
         let left = self.len() - count;
         self.first = self.items.len() - left;
     }
+}
 
+impl<T: Copy> Queue<T> {
     // Removes the first item and answers it.
     pub(crate) fn pop_front(&mut self) -> Option<T>
         ensures value { result ≡ slice_get self.old 0 }
@@ -86,7 +90,9 @@ impl<T: Copy + Default> Queue<T> {
         self.drop_front(1);
         Some(item)
     }
+}
 
+impl<T: Copy + Default> Queue<T> {
     // Appends all of `more`.
     pub(crate) fn append(&mut self, more: &[T])
         requires { length self.old + length more.now ≤ ROOM }

@@ -1,4 +1,5 @@
-use Rattle.std.proofs.Common.{append_assoc, refl}
+use Rattle.std.proofs.Common.{◌≡◌, ◌+◌, length, append-nil, append_assoc, length-append, rules, refl, sym, ap, arith}
+use Rattle.std.proofs.lemmas.List.{length-take}
 use Rattle.tl_ring.proofs.Moves.{take_of_two}
 use Rattle.tl_ring.proofs.queue.read_front.Goals as goal
 
@@ -6,3 +7,32 @@ use Rattle.tl_ring.proofs.queue.read_front.Goals as goal
 pub returns-clause-queue : goal.returns-clause-queue
 returns-clause-queue g c =
     rw (c.append-2.ensures, c.append.ensures, append_assoc, c.min-from_front.ensures, take_of_two, c.as_slices.ensures) refl
+
+pub returns-then-count-eq0-clause-queue : goal.returns-then-count-eq0-clause-queue
+returns-then-count-eq0-clause-queue g c = rw c.if-count-eq0.true (sym (append-nil c.args.queue.now))
+
+pub slice_bounds-append-end : goal.slice_bounds-append-end
+slice_bounds-append-end g c = simp length-take (omega (arith, c.min-from_front.ensures))
+
+pub append-requires : goal.append-requires
+append-requires g c = (
+  let known = c.requires-raw in let c = known in search rules,
+  simp length-take (omega (arith, c.requires.room, c.min-from_front.ensures)),
+)
+
+pub slice_bounds-append-count : goal.slice_bounds-append-count
+slice_bounds-append-count g c = omega (arith, c.min-from_front.ensures)
+
+pub slice_bounds-append-length : goal.slice_bounds-append-length
+slice_bounds-append-length g c =
+    let both = simp length-append at (ap length c.as_slices.ensures) in
+    simp length-take (omega (arith, both, c.requires.there, c.min-from_front.ensures))
+
+pub append-requires-2 : goal.append-requires-2
+append-requires-2 g c = (
+  let known = c.requires-raw in let c = known in search rules,
+  simp (c.append.ensures, length-append, length-take) (omega (arith, c.requires.room, c.min-from_front.ensures)),
+)
+
+pub overflow_sub-len : goal.overflow_sub-len
+overflow_sub-len g c = omega (arith, c.requires.there, c.len.ensures.len)

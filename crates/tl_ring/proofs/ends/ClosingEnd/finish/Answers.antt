@@ -1,9 +1,15 @@
-use Rattle.std.proofs.Common.{refl}
+use Rattle.std.proofs.Common.{refl, sym, ◌∙◌}
 use Rattle.tl_ring.proofs.EndSteps.{shows_of}
 use Rattle.tl_ring.proofs.ends.ClosingEnd.finish.Goals as goal
 
 pub returns-clause-receipt : goal.returns-clause-receipt
 returns-clause-receipt g c = rw (← c.self.view_is, ← c.end.view_is) c.in_ok-finished.ensures
+
+-- whoever is a pair with this end reads what the receipt shows
+pub returns-clause-taker : goal.returns-clause-taker
+returns-clause-taker g c =
+    let same = c.in_ok-finished.ensures.0 in
+    rw (← c.self.view_is, ← c.end.view_is) (λ t pair. (pair.0 ∙ sym same.0, pair.1 ∙ sym same.1, pair.2 ∙ sym same.2, pair.3 ∙ sym same.3))
 
 pub returns-clause-shows : goal.returns-clause-shows
 returns-clause-shows g c = λ x h.

@@ -1,5 +1,8 @@
-use Rattle.std.proofs.Common.{rules, refl, ap}
+use Rattle.std.proofs.Common.{refl, ap}
+use denote.Memory.{lone}
+use denote.Param.{layout}
 use Rattle.tl_convert.proofs.FeedStep.{is-handed}
+use Rattle.tl_ring.proofs.FieldSizes.{beat_fits, queue_fits, converter_fits}
 use Rattle.tl_ring.proofs.EndSteps.{sends_offered}
 use Rattle.tl_ring.proofs.ends.SendEnd.offer_at.Goals as goal
 
@@ -7,7 +10,12 @@ pub stage_beat-requires : goal.stage_beat-requires
 stage_beat-requires g c =
     let place = rw (← c.self.view_is) at c.requires.place in
     let ready = rw (← c.self.view_is) at c.requires.ready in
-    (search rules, (search rules, (search rules, (search rules, (c.requires.near, (c.requires.far, (place, ready)))))))
+    let head = lone g.row.K-Head.mir in
+    let at = layout g.row.K-Head in
+    let small = g.met.K.Channel.head_small in (
+      converter_fits head at g.row.V small c.requires.far,
+      (beat_fits head at g.row.W small c.requires.near, (queue_fits head at g.row.V small c.requires.far, (beat_fits head at g.row.V small c.requires.far, (c.requires.near, (c.requires.far, (place, ready)))))),
+    )
 
 pub returns-clause-accepted : goal.returns-clause-accepted
 returns-clause-accepted g c = λ x h.
@@ -20,3 +28,9 @@ returns-clause-accepted g c = λ x h.
 
 pub returns-clause-ring : goal.returns-clause-ring
 returns-clause-ring g c = ap (λ (s : _). s.producer) c.self.view_is
+
+pub returns-clause-open : goal.returns-clause-open
+returns-clause-open g c = refl
+
+pub invariant_of-self : goal.invariant_of-self
+invariant_of-self g c = c.stage_beat.ensures.lawful

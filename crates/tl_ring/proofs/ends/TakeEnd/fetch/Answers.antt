@@ -1,11 +1,13 @@
 use Rattle.std.proofs.Common.{◌≤◌, ◌≡◌, length, rules, ◌∙◌, arith}
+use Rattle.std.proofs.lemmas.List.{length-take}
 use Rattle.std.proofs.lemmas.List.Elements.{All-append}
 use Rattle.tl_msg.specs.Faults.{IsLawfulBeat}
 use Rattle.tl_ring.proofs.EndSteps.{fetched_of, takes_fetched, least_moved}
 use Rattle.tl_ring.proofs.Fronts.{all_allowed, all_front, front_of, front_size}
+use denote.Memory.{lone}
 use denote.Param.{layout, param, number, copied}
 use Rattle.tl_ring.specs.contracts.ends.TakeEnd.{the_row}
-use Rattle.tl_ring.proofs.FieldSizes.{part_small}
+use Rattle.tl_ring.proofs.FieldSizes.{part_small, beat_in_queue}
 use Rattle.tl_ring.proofs.ends.TakeEnd.fetch.Goals as goal
 
 pub room-room-requires : goal.room-room-requires
@@ -45,3 +47,50 @@ returns-clause-fetched g c =
 
 pub returns-clause-takes : goal.returns-clause-takes
 returns-clause-takes g c = λ taken takes. takes_fetched _ _ _ (returns-clause-fetched g c) taken takes
+
+pub returns-clause-most : goal.returns-clause-most
+returns-clause-most g c =
+    let p = c.pop_partial_slice-count in
+    let inside : p.result ≤ length p.new.slice = search rules in
+    let size : length p.new.slice ≡ c.room-room.result = search rules in
+    rw (← c.self.view_is) (omega (arith, inside, size, c.room-room.ensures.value))
+
+pub pop_partial_slice-count-requires : goal.pop_partial_slice-count-requires
+pop_partial_slice-count-requires g c =
+    let beat = beat_in_queue (lone g.row.K-Head.mir) (layout g.row.K-Head) g.row.V 9223372036854775808
+    (search (part_small (layout (the_row (param 0 g.row.K) (param 1 (number g.row.W)) (param 2 (number g.row.V)) (param 3 g.row.A) (copied 4 g.row.K-Head)
+    g.K.Channel g.K.Head.Clone g.K.Head.Eq g.K.Head.PartialEq g.K.Head.Default g.A.Allocator)) 0 9223372036854775808)) in
+    λ κs within. ((beat, (omega arith, (beat, tt))), (search rules, (search rules, search rules)))
+
+pub shared_whole_as_front-append : goal.shared_whole_as_front-append
+shared_whole_as_front-append g c =
+    let p = c.pop_partial_slice-count in
+    let inside : p.result ≤ length p.new.slice = search rules in
+    let size : length p.new.slice ≡ c.room-room.result = search rules in (
+      omega (arith, inside, size, c.room-room.ensures.value),
+      search (part_small (layout (the_row (param 0 g.row.K) (param 1 (number g.row.W)) (param 2 (number g.row.V)) (param 3 g.row.A) (copied 4 g.row.K-Head)
+          g.K.Channel g.K.Head.Clone g.K.Head.Eq g.K.Head.PartialEq g.K.Head.Default g.A.Allocator)) 2 9223372036854775808),
+    )
+
+pub append-requires-room-T-Clone : goal.append-requires-room-T-Clone
+append-requires-room-T-Clone g c κs within =
+    beat_in_queue (lone g.row.K-Head.mir) (layout g.row.K-Head) g.row.V 9223372036854775808
+    (search (part_small (layout (the_row (param 0 g.row.K) (param 1 (number g.row.W)) (param 2 (number g.row.V)) (param 3 g.row.A) (copied 4 g.row.K-Head)
+    g.K.Channel g.K.Head.Clone g.K.Head.Eq g.K.Head.PartialEq g.K.Head.Default g.A.Allocator)) 0 9223372036854775808))
+
+pub append-requires-room-T-Default : goal.append-requires-room-T-Default
+append-requires-room-T-Default g c κs within =
+    beat_in_queue (lone g.row.K-Head.mir) (layout g.row.K-Head) g.row.V 9223372036854775808
+    (search (part_small (layout (the_row (param 0 g.row.K) (param 1 (number g.row.W)) (param 2 (number g.row.V)) (param 3 g.row.A) (copied 4 g.row.K-Head)
+    g.K.Channel g.K.Head.Clone g.K.Head.Eq g.K.Head.PartialEq g.K.Head.Default g.A.Allocator)) 0 9223372036854775808))
+
+-- what was popped is no more than the inbox has room for
+pub append-requires : goal.append-requires
+append-requires g c =
+    let p = c.pop_partial_slice-count in
+    let inside : p.result ≤ length p.new.slice = search rules in
+    let size : length p.new.slice ≡ c.room-room.result = search rules in (
+      search (part_small (layout (the_row (param 0 g.row.K) (param 1 (number g.row.W)) (param 2 (number g.row.V)) (param 3 g.row.A) (copied 4 g.row.K-Head)
+          g.K.Channel g.K.Head.Clone g.K.Head.Eq g.K.Head.PartialEq g.K.Head.Default g.A.Allocator)) 0 9223372036854775808),
+      simp length-take (omega (arith, inside, size, c.room-room.ensures.value, c.room-room.ensures.within)),
+    )

@@ -2,9 +2,10 @@ use Rattle.std.proofs.Common.{◌≤◌, ◌-◌, length, min, arith}
 use Rattle.std.proofs.lemmas.List.Elements.{All-append, All-drop, All-take}
 use Rattle.tl_msg.specs.Faults.{IsLawfulBeat}
 use Rattle.tl_ring.proofs.PipeSteps.{stands_popped}
+use denote.Memory.{lone}
 use denote.Param.{layout, param, number, copied}
 use Rattle.tl_ring.specs.contracts.pipe.SyncPipe.{the_row}
-use Rattle.tl_ring.proofs.FieldSizes.{part_small}
+use Rattle.tl_ring.proofs.FieldSizes.{part_small, beat_in_queue}
 use Rattle.tl_ring.proofs.pipe.SyncPipe.fetch.Goals as goal
 
 pub room-requires : goal.room-requires
@@ -38,3 +39,13 @@ invariant_of-self g c =
     let moved = All-take (λ b. IsLawfulBeat g.K.Channel.rules b) c.min-count.result c.self.inside.ring.items c.self.invariant.3 in
     let inbox = All-append (λ b. IsLawfulBeat g.K.Channel.rules b) c.self.inside.inbox _ c.self.invariant.4 moved in
     rw (c.read_front.ensures.ring, c.read_front.ensures.queue) (c.self.invariant.0, c.self.invariant.1, c.self.invariant.2, ring, inbox)
+
+pub read_front-requires-room-T-Clone : goal.read_front-requires-room-T-Clone
+read_front-requires-room-T-Clone g c κs within =
+    beat_in_queue (lone g.row.K-Head.mir) (layout g.row.K-Head) g.row.V 9223372036854775808
+    (search (part_small (layout (the_row (param 0 g.row.K) (param 1 (number g.row.W)) (param 2 (number g.row.V)) (param 3 g.row.A) (copied 4 g.row.K-Head) g.K.Channel g.K.Head.PartialEq g.K.Head.Default g.A.Allocator)) 3 9223372036854775808))
+
+pub read_front-requires-room-T-Default : goal.read_front-requires-room-T-Default
+read_front-requires-room-T-Default g c κs within =
+    beat_in_queue (lone g.row.K-Head.mir) (layout g.row.K-Head) g.row.V 9223372036854775808
+    (search (part_small (layout (the_row (param 0 g.row.K) (param 1 (number g.row.W)) (param 2 (number g.row.V)) (param 3 g.row.A) (copied 4 g.row.K-Head) g.K.Channel g.K.Head.PartialEq g.K.Head.Default g.A.Allocator)) 3 9223372036854775808))

@@ -3,8 +3,8 @@ use Rattle.std.proofs.lemmas.List.Elements.{All-nil}
 use Rattle.tl_msg.specs.Faults.{IsLawfulBeat}
 use denote.Memory.{lone}
 use denote.Param.{layout}
-use Rattle.tl_ring.proofs.FieldSizes.{queue_fits, converter_fits}
-use Rattle.tl_ring.proofs.Moves.{no_ring_size}
+use Rattle.tl_ring.proofs.FieldSizes.{beat_fits, queue_fits, converter_fits}
+use Rattle.tl_ring.proofs.Moves.{no_ring_size, ring_size_only}
 use Rattle.tl_ring.proofs.PipeSteps.{stands_new}
 use Rattle.tl_ring.proofs.pipe.SyncPipe.new.Goals as goal
 
@@ -32,4 +32,16 @@ returns-clause-size g c = λ _. c.is_ring_size.ensures.0 c.if-not-is_ring_size.f
 
 pub returns-clause-new : goal.returns-clause-new
 returns-clause-new g c =
-    rw (c.new-2.ensures, c.new-3.ensures, c.in-Ok.ensures) (stands_new g.K.Channel.rules g.met.K.Channel.partial_masked c.new.result c.args.ring c.requires.near c.requires.far c.new.ensures)
+    rw c.in-Ok.ensures
+    (stands_new g.K.Channel.rules g.met.K.Channel.partial_masked _ c.args.ring c.requires.near c.requires.far c.new.ensures refl c.new-2.ensures refl c.new-3.ensures refl)
+
+pub new-requires-2-room-T-Default : goal.new-requires-2-room-T-Default
+new-requires-2-room-T-Default g c κs within = beat_fits (lone g.row.K-Head.mir) (layout g.row.K-Head) g.row.V g.met.K.Channel.head_small c.requires.far
+
+pub new-requires-3-room-T-Default : goal.new-requires-3-room-T-Default
+new-requires-3-room-T-Default g c κs within = beat_fits (lone g.row.K-Head.mir) (layout g.row.K-Head) g.row.V g.met.K.Channel.head_small c.requires.far
+
+pub returns-in_default-clause-ring_size : goal.returns-in_default-clause-ring_size
+returns-in_default-clause-ring_size g c =
+    let size = c.is_ring_size.ensures.0 c.if-not-is_ring_size.false in
+    (λ same. absurd (cc), λ none. absurd (ring_size_only c.args.ring size none))

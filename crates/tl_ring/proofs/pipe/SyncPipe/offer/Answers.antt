@@ -1,11 +1,10 @@
 use Rattle.std.proofs.lemmas.Result.{err_from_is_err_and}
-use Rattle.tl_ring.proofs.Answered.{err_not_ok}
+use Rattle.tl_ring.proofs.Answered.{refused_too}
 use Rattle.tl_ring.proofs.pipe.SyncPipe.offer.Goals as goal
 
 pub returns-in_err-place-clause-admitted : goal.returns-in_err-place-clause-admitted
 returns-in_err-place-clause-admitted g c = λ x stands.
-    let k = c.in_err-place.ensures.admitted x stands in
-    (λ ok. absurd (err_not_ok c.from_residual.result c.from_residual.ensures.0 ok), λ admitted. absurd (let t = k.1 admitted in cc))
+    refused_too c.from_residual.result c.from_residual.ensures.0 (c.in_err-place.ensures.admitted x stands)
 
 pub returns-in_err-place-clause-first_fault : goal.returns-in_err-place-clause-first_fault
 returns-in_err-place-clause-first_fault g c = λ x stands.

@@ -16,3 +16,6 @@ pub invariant_of-self : goal.invariant_of-self
 invariant_of-self g c =
     let inbox = All-drop (λ b. IsLawfulBeat g.K.Channel.rules b) 1 c.self.inside.inbox c.self.invariant.4 in
     rw c.pop_front.ensures.rest (c.self.invariant.0, c.self.invariant.1, c.self.invariant.2, c.self.invariant.3, inbox)
+
+pub returns-clause-beat : goal.returns-clause-beat
+returns-clause-beat g c = rw (← c.self.view_is) c.pop_front.ensures.value
