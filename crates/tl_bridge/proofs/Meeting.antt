@@ -1,5 +1,6 @@
 -- Both sides of a run at a meeting: they are as one bridge in one thread.
-use Rattle.std.proofs.Common.{◌≡◌, ◌+◌, ◌≤◌, ◌<◌, ◌↔◌, ◌⊎◌, ◌++◌, ℕ, Bool, true, List, length, refl, sym, ap, subst, ◌∙◌, arith, length-append, ⊎_elim}
+use Rattle.std.proofs.Common.{◌≡◌, ◌≢◌, ◌+◌, ◌≤◌, ◌<◌, ◌↔◌, ◌⊎◌, ◌++◌, ℕ, Bool, true, List, length, refl, sym, ap, subst, ◌∙◌, arith, length-append, ⊎_elim}
+use Rattle.std.specs.Prelude.{Result, Ok, Err, IfErr}
 use mathlib.Core.List.{IsPrefix}
 use Rattle.tl_lanes.specs.Lanes.{IsWidth}
 use Rattle.tl_msg.specs.Rules.{Rules}
@@ -9,6 +10,7 @@ use Rattle.tl_ring.specs.Crossing.{World}
 use Rattle.tl_ring.specs.Ends.{Sending, Taking, Met, Meets, seen_by, sent, received, known_items}
 use Rattle.tl_ring.specs.Pipe as piping
 use Rattle.tl_ring.specs.declared.standing.Standing.{Standing}
+use Rattle.tl_ring.specs.declared.pipe.TheConstants.{MAX_RING}
 use Rattle.tl_settle.specs.Histories.{asked, answered}
 use Rattle.tl_settle.specs.Rounds as rounds
 use Rattle.tl_settle.specs.Rounds.{round, client_rests, manager_rests}
@@ -25,7 +27,7 @@ use Rattle.tl_bridge.specs.Inner.Sides.{ClientIsAt, ManagerIsAt, ClientMayPlay, 
 use Rattle.tl_bridge.specs.declared.channel_state.Offered.{Offered}
 use Rattle.tl_bridge.specs.declared.channel_state.Stop.{Stop}
 use Rattle.tl_bridge.specs.declared.outcome.RunFault.{RunFault}
-use Rattle.tl_bridge.specs.declared.outcome.RunFault.TheVariants.{RingSize, Stalled}
+use Rattle.tl_bridge.specs.declared.outcome.RunFault.TheVariants.{RingSize}
 use Rattle.tl_bridge.specs.declared.taken.Taken.{Taken}
 use Rattle.tl_bridge.proofs.ChannelEnd.{inbox-due}
 use Rattle.tl_bridge.proofs.ChannelOffer.{sent-passed}
@@ -335,6 +337,8 @@ module _ {A : Type 0} {C M : ℕ} (s : ClientState A C M) (t : ManagerState A C 
       goes-right : (p q p' q' whole : ℕ) → p ≤ p' → q + 1 ≤ q' → whole ≡ p' + q' → p + q + 1 ≤ whole
       goes-right p q p' q' whole f g e = omega arith
 
--- a run that stalls has rings of a lawful size
-pub stalled-apart : (fault : RunFault) (ring : ℕ) → fault ≡ Stalled → 1 ≤ ring → ring ≤ 4096 → (fault ≡ RingSize) ↔ ((ring ≡ 0) ⊎ (4096 < ring))
-stalled-apart fault ring is some most = (λ e. let bad : Stalled ≡ RingSize = sym is ∙ e in cc, λ e. ⊎_elim (λ z. absurd (omega arith)) (λ z. absurd (omega arith)) e)
+-- a run of two sides has rings of a lawful size
+pub fits-apart : {T : Type 0} (given : Result T RunFault) (ring : ℕ) → IfErr given (λ fault. fault ≢ RingSize) → 1 ≤ ring → ring ≤ MAX_RING →
+    IfErr given (λ fault. (fault ≡ RingSize) ↔ ((ring ≡ 0) ⊎ (MAX_RING < ring)))
+fits-apart (Ok outcome) ring other some most = tt
+fits-apart (Err fault) ring other some most = (λ e. absurd (other e), λ e. ⊎_elim (λ z. absurd (omega arith)) (λ z. absurd (omega arith)) e)

@@ -19,51 +19,12 @@ ghost use Rattle.tl_bridge.specs.Inner.Sides.{SameClientEnds, ClientHasOffered, 
 
 use crate::channel_state::{Offered, Stop, add_accepted};
 use crate::gates::Gate;
+use crate::inboxes::take_all;
 use crate::turns::Turn;
 use tl_msg::{Beat, ChA, ChB, ChC, ChD, ChE};
 use tl_pair::ClientSide;
 use tl_sides::PerChannel;
 use tl_trace::Script;
-
-// The client's side takes all that stands in the inbox of B.
-fn take_all_b<const C: usize, const M: usize>(
-    side: &mut ClientSide<C, M>,
-    far: &mut Vec<Beat<ChB, C>>,
-)
-    requires width { IsWidth C }
-    requires past { (x : ClientPast C M) × ClientStandsFor side.old x }
-    requires room { vec_len far.old + length side.old.b.inbox ≤ vec_capacity far.old }
-    ensures taken { (x : ClientPast C M) → ClientStandsFor side.old x →
-        ClientStandsFor side.new (client_takes_b side.old.b.inbox x) }
-    ensures far { far.new.items ≡ far.old.items ++ side.old.b.inbox }
-    ensures capacity { vec_capacity far.new ≡ vec_capacity far.old }
-    ensures rest { side.new ≡ record side.old { b = side.new.b } }
-    ensures end { side.new.b.consumer ≡ side.old.b.consumer }
-{
-    'beats: while let Some(beat) = side.take_b() {
-        far.push_reserved(beat);
-    }
-}
-
-// The client's side takes all that stands in the inbox of D.
-fn take_all_d<const C: usize, const M: usize>(
-    side: &mut ClientSide<C, M>,
-    far: &mut Vec<Beat<ChD, C>>,
-)
-    requires width { IsWidth C }
-    requires past { (x : ClientPast C M) × ClientStandsFor side.old x }
-    requires room { vec_len far.old + length side.old.d.inbox ≤ vec_capacity far.old }
-    ensures taken { (x : ClientPast C M) → ClientStandsFor side.old x →
-        ClientStandsFor side.new (client_takes_d side.old.d.inbox x) }
-    ensures far { far.new.items ≡ far.old.items ++ side.old.d.inbox }
-    ensures capacity { vec_capacity far.new ≡ vec_capacity far.old }
-    ensures rest { side.new ≡ record side.old { d = side.new.d; book = side.new.book } }
-    ensures end { side.new.d.consumer ≡ side.old.d.consumer }
-{
-    'beats: while let Some(beat) = side.take_d() {
-        far.push_reserved(beat);
-    }
-}
 
 // The client's side offers the next beat of A, of which `at` were accepted.
 fn offer_a<const C: usize, const M: usize>(
@@ -159,7 +120,6 @@ fn take_each<const C: usize, const M: usize>(
     far_d: &mut Vec<Beat<ChD, C>>,
 )
     requires width { IsWidth C }
-    requires past { (x : ClientPast C M) × ClientStandsFor side.old x }
     requires room_b { vec_len far_b.old + length side.old.b.inbox ≤ vec_capacity far_b.old }
     requires room_d { vec_len far_d.old + length side.old.d.inbox ≤ vec_capacity far_d.old }
     ensures taken { (x : ClientPast C M) → ClientStandsFor side.old x →
@@ -170,8 +130,8 @@ fn take_each<const C: usize, const M: usize>(
     ensures capacity_d { vec_capacity far_d.new ≡ vec_capacity far_d.old }
     ensures ends { SameClientEnds side.old side.new }
 {
-    take_all_b(side, far_b);
-    take_all_d(side, far_d);
+    take_all(side, far_b);
+    take_all(side, far_d);
 }
 
 // The client's side offers the next beat of each of its channels, in the order of letters.

@@ -5,6 +5,7 @@
 mod channel_state;
 mod client_turns;
 mod gates;
+mod inboxes;
 mod manager_turns;
 mod offers;
 mod outcome;

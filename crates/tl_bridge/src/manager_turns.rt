@@ -19,71 +19,12 @@ ghost use Rattle.tl_bridge.specs.Inner.Sides.{SameManagerEnds, ManagerHasOffered
 
 use crate::channel_state::{Offered, Stop, add_accepted};
 use crate::gates::Gate;
+use crate::inboxes::take_all;
 use crate::turns::Turn;
 use tl_msg::{Beat, ChA, ChB, ChC, ChD, ChE};
 use tl_pair::ManagerSide;
 use tl_sides::PerChannel;
 use tl_trace::Script;
-
-// The manager's side takes all that stands in the inbox of A.
-fn take_all_a<const C: usize, const M: usize>(
-    side: &mut ManagerSide<C, M>,
-    far: &mut Vec<Beat<ChA, M>>,
-)
-    requires width { IsWidth M }
-    requires past { (x : ManagerPast C M) × ManagerStandsFor side.old x }
-    requires room { vec_len far.old + length side.old.a.inbox ≤ vec_capacity far.old }
-    ensures taken { (x : ManagerPast C M) → ManagerStandsFor side.old x →
-        ManagerStandsFor side.new (manager_takes_a side.old.a.inbox x) }
-    ensures far { far.new.items ≡ far.old.items ++ side.old.a.inbox }
-    ensures capacity { vec_capacity far.new ≡ vec_capacity far.old }
-    ensures rest { side.new ≡ record side.old { a = side.new.a; book = side.new.book } }
-    ensures end { side.new.a.consumer ≡ side.old.a.consumer }
-{
-    'beats: while let Some(beat) = side.take_a() {
-        far.push_reserved(beat);
-    }
-}
-
-// The manager's side takes all that stands in the inbox of C.
-fn take_all_c<const C: usize, const M: usize>(
-    side: &mut ManagerSide<C, M>,
-    far: &mut Vec<Beat<ChC, M>>,
-)
-    requires width { IsWidth M }
-    requires past { (x : ManagerPast C M) × ManagerStandsFor side.old x }
-    requires room { vec_len far.old + length side.old.c.inbox ≤ vec_capacity far.old }
-    ensures taken { (x : ManagerPast C M) → ManagerStandsFor side.old x →
-        ManagerStandsFor side.new (manager_takes_c side.old.c.inbox x) }
-    ensures far { far.new.items ≡ far.old.items ++ side.old.c.inbox }
-    ensures capacity { vec_capacity far.new ≡ vec_capacity far.old }
-    ensures rest { side.new ≡ record side.old { c = side.new.c } }
-    ensures end { side.new.c.consumer ≡ side.old.c.consumer }
-{
-    'beats: while let Some(beat) = side.take_c() {
-        far.push_reserved(beat);
-    }
-}
-
-// The manager's side takes all that stands in the inbox of E.
-fn take_all_e<const C: usize, const M: usize>(
-    side: &mut ManagerSide<C, M>,
-    far: &mut Vec<Beat<ChE, M>>,
-)
-    requires width { IsWidth M }
-    requires past { (x : ManagerPast C M) × ManagerStandsFor side.old x }
-    requires room { vec_len far.old + length side.old.e.inbox ≤ vec_capacity far.old }
-    ensures taken { (x : ManagerPast C M) → ManagerStandsFor side.old x →
-        ManagerStandsFor side.new (manager_takes_e side.old.e.inbox x) }
-    ensures far { far.new.items ≡ far.old.items ++ side.old.e.inbox }
-    ensures capacity { vec_capacity far.new ≡ vec_capacity far.old }
-    ensures rest { side.new ≡ record side.old { e = side.new.e } }
-    ensures end { side.new.e.consumer ≡ side.old.e.consumer }
-{
-    'beats: while let Some(beat) = side.take_e() {
-        far.push_reserved(beat);
-    }
-}
 
 // The manager's side offers the next beat of B, of which `at` were accepted.
 fn offer_b<const C: usize, const M: usize>(
@@ -151,7 +92,6 @@ fn take_each<const C: usize, const M: usize>(
     far_e: &mut Vec<Beat<ChE, M>>,
 )
     requires width { IsWidth M }
-    requires past { (x : ManagerPast C M) × ManagerStandsFor side.old x }
     requires room_a { vec_len far_a.old + length side.old.a.inbox ≤ vec_capacity far_a.old }
     requires room_c { vec_len far_c.old + length side.old.c.inbox ≤ vec_capacity far_c.old }
     requires room_e { vec_len far_e.old + length side.old.e.inbox ≤ vec_capacity far_e.old }
@@ -165,9 +105,9 @@ fn take_each<const C: usize, const M: usize>(
     ensures capacity_e { vec_capacity far_e.new ≡ vec_capacity far_e.old }
     ensures ends { SameManagerEnds side.old side.new }
 {
-    take_all_a(side, far_a);
-    take_all_c(side, far_c);
-    take_all_e(side, far_e);
+    take_all(side, far_a);
+    take_all(side, far_c);
+    take_all(side, far_e);
 }
 
 // The manager's side offers the next beat of each of its channels, in the order of letters.

@@ -1,8 +1,10 @@
 //! The run of a whole script in two threads.
-ghost use Rattle.std.specs.Prelude.{◌≡◌, ◌≤◌, ◌<◌, ◌⊎◌, ◌↔◌, IsOk, IfOk, IfErr};
+ghost use Rattle.std.specs.Prelude.{◌≡◌, ◌≢◌, ◌≤◌, ◌<◌, ◌⊎◌, ◌↔◌, IsOk, IfOk, IfErr};
+ghost use Rattle.tl_ring.specs.declared.pipe.TheConstants.{MAX_RING};
 ghost use Rattle.tl_lanes.specs.Lanes.{IsWidth};
 ghost use Rattle.tl_bridge.specs.declared.outcome.RunFault.TheVariants.{RingSize};
 ghost use Rattle.tl_bridge.specs.Scripts.{HasShortLists, SettlesTo};
+ghost use Rattle.tl_bridge.specs.Inner.Sides.{AreNew};
 
 use crate::gates::Gate;
 use crate::outcome::{Outcome, RunFault};
@@ -11,6 +13,7 @@ use crate::taken::Taken;
 use crate::thread_rounds::play_rounds;
 use std::alloc::Global;
 use std::thread::Threads;
+use tl_pair::{ClientSide, ManagerSide};
 use tl_trace::Script;
 
 /// Runs a script over a bridge whose two sides are each in a thread of their own, to its end: the far beats and the verdicts are those
@@ -41,15 +44,45 @@ pub fn run_threads<R: Threads, G: Gate + Send, H: Gate + Send, const C: usize, c
     requires short { HasShortLists script.now }
     requires turns { 1 ≤ turns }
     ensures outcome { IfOk result (SettlesTo script.now) }
-    ensures size { IsOk result → (1 ≤ ring) × (ring ≤ 4096) }
-    ensures ring_size { IfErr result (λ fault. (fault ≡ RingSize) ↔ ((ring ≡ 0) ⊎ (4096 < ring))) }
+    ensures size { IsOk result → (1 ≤ ring) × (ring ≤ MAX_RING) }
+    ensures ring_size { IfErr result (λ fault. (fault ≡ RingSize) ↔ ((ring ≡ 0) ⊎ (MAX_RING < ring))) }
 {
     let (mut client, mut manager) = tl_pair::bridge::<C, M, Global>(alloc, ring)?;
+    run_sides(
+        rt,
+        alloc,
+        &mut client,
+        &mut manager,
+        script,
+        turns,
+        client_gate,
+        manager_gate,
+    )
+}
+
+// The run of a script over two new sides. (They are dropped where they were made, and so at one place.)
+fn run_sides<R: Threads, G: Gate + Send, H: Gate + Send, const C: usize, const M: usize>(
+    rt: &R,
+    alloc: Global,
+    client: &mut ClientSide<C, M>,
+    manager: &mut ManagerSide<C, M>,
+    script: &Script<C, M>,
+    turns: usize,
+    client_gate: &mut G,
+    manager_gate: &mut H,
+) -> Result<Outcome<C, M>, RunFault>
+    requires client { IsWidth C }
+    requires manager { IsWidth M }
+    requires short { HasShortLists script.now }
+    requires new { AreNew client.old manager.old }
+    ensures outcome { IfOk result (SettlesTo script.now) }
+    ensures ring_fits { IfErr result (λ fault. fault ≢ RingSize) }
+{
     let mut far = Taken::new(alloc, script)?;
     let end = play_rounds(
         rt,
-        &mut client,
-        &mut manager,
+        client,
+        manager,
         script,
         &mut far,
         turns,

@@ -10,7 +10,7 @@ use Rattle.tl_bridge.proofs.client_turns.play.Goals as goal
 pub take_each-requires : goal.take_each-requires
 take_each-requires g c =
     let ready = c.requires.ready in
-    (client_small g.row.C g.row.M c.requires.client c.requires.manager, (beat_small 24 g.row.C (omega arith) c.requires.client, (beat_small 16 g.row.C (omega arith) c.requires.client, (c.requires.client, ((ready.is_at.past, ready.is_at.stands), (ready.room_b, ready.room_d))))))
+    (client_small g.row.C g.row.M c.requires.client c.requires.manager, (beat_small 24 g.row.C (omega arith) c.requires.client, (beat_small 16 g.row.C (omega arith) c.requires.client, (c.requires.client, (ready.room_b, ready.room_d)))))
 
 pub turns-init : goal.turns-init
 turns-init g c = (

@@ -10,7 +10,7 @@ use Rattle.tl_bridge.proofs.manager_turns.play.Goals as goal
 pub take_each-requires : goal.take_each-requires
 take_each-requires g c =
     let ready = c.requires.ready in
-    (manager_small g.row.C g.row.M c.requires.client c.requires.manager, (beat_small 24 g.row.M (omega arith) c.requires.manager, (beat_small 24 g.row.M (omega arith) c.requires.manager, (beat_small 16 g.row.M (omega arith) c.requires.manager, (c.requires.manager, ((ready.is_at.past, ready.is_at.stands), (ready.room_a, (ready.room_c, ready.room_e))))))))
+    (manager_small g.row.C g.row.M c.requires.client c.requires.manager, (beat_small 24 g.row.M (omega arith) c.requires.manager, (beat_small 24 g.row.M (omega arith) c.requires.manager, (beat_small 16 g.row.M (omega arith) c.requires.manager, (c.requires.manager, (ready.room_a, (ready.room_c, ready.room_e)))))))
 
 pub turns-init : goal.turns-init
 turns-init g c = (

@@ -1,4 +1,4 @@
-use Rattle.std.proofs.Common.{rules, refl, sym, subst}
+use Rattle.std.proofs.Common.{refl, sym, subst}
 use Rattle.tl_ring.specs.Crossing.{shut}
 use Rattle.tl_ring.specs.Pipe as piping
 use Rattle.tl_bridge.proofs.OfferSteps.{read_some, read_none, not_ready}
@@ -29,10 +29,10 @@ pub returns-clause-ready : goal.returns-clause-ready
 returns-clause-ready g c = c.if-not-ready.ensures.0 refl
 
 pub close-requires : goal.close-requires
-close-requires g c = search rules
+close-requires g c = search refl
 
 pub ready-requires : goal.ready-requires
-ready-requires g c = search rules
+ready-requires g c = search refl
 
 pub returns-in-Ok-clause-next : goal.returns-in-Ok-clause-next
 returns-in-Ok-clause-next g c = tt

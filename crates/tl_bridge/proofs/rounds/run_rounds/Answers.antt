@@ -1,8 +1,9 @@
-use Rattle.std.proofs.Common.{lit<, ◌+◌, ◌-◌, ◌^◌, ◌<◌, ◌≤◌, ℕ, refl, sym, subst, arith, zero-le}
+use Rattle.std.proofs.Common.{lit<, ◌+◌, ◌^◌, ◌<◌, ◌≤◌, refl, sym, subst, arith, zero-le}
 use Rattle.tl_sides.proofs.BridgeSize.{bridge_small}
 use Rattle.tl_bridge.specs.Scripts.{near_beats}
 use Rattle.tl_bridge.specs.Inner.Arriving.{beats_of}
 use Rattle.tl_bridge.specs.Inner.Running.{HasEnded}
+use Rattle.tl_bridge.proofs.Counting.{counts-on, nearer, one-round-more}
 use Rattle.tl_bridge.proofs.Ended.{progress_here, progress-ends, end-few, further, ended, starts, keeps-room, under-way-after}
 use Rattle.tl_bridge.proofs.rounds.run_rounds.Given.{Over}
 use Rattle.tl_bridge.proofs.rounds.run_rounds.Goals as goal
@@ -26,10 +27,6 @@ round-offers-requires g c = (
 
 pub stops_at_rest-requires : goal.stops_at_rest-requires
 stops_at_rest-requires g c = (bridge_small g.row.C g.row.M c.requires.client c.requires.manager, (c.requires.client, c.requires.manager))
-
--- a count below its bound
-counts-on : (k l m : ℕ) → k ≤ l → l ≤ m → m < 2 ^ 60 → k + 1 < 2 ^ 64
-counts-on k l m f g h = omega arith
 
 pub overflow_add-rounds : goal.overflow_add-rounds
 overflow_add-rounds g c =
@@ -63,10 +60,6 @@ onward g c =
     (beats_of c.rounds.far) (beats_of c.round-offers.new.far) c.rounds.bridge c.round-offers.new.bridge u.past c.round-offers.result u.stands u.is_at h
     (λ stopped rest. c.in_default.ensures.goes h.past h.stands refl stopped rest))
 
--- a number that grows is nearer to its bound
-nearer : (k l m : ℕ) → k + 1 ≤ l → l ≤ m → m - l < m - k
-nearer k l m g h = omega arith
-
 pub rounds-smaller : goal.rounds-smaller
 rounds-smaller g c =
     let u = c.rounds.invariant.under_way in
@@ -77,10 +70,6 @@ rounds-smaller g c =
     (progress-ends (near_beats c.args.script.now) c.requires.client
     c.requires.manager c.round-offers.new.at (beats_of c.round-offers.new.far) c.round-offers.new.bridge v.past v.stands v.is_at)
 
--- and so the rounds are no more than that
-one-more : (k l m : ℕ) → k ≤ l → l + 1 ≤ m → k + 1 ≤ m
-one-more k l m g h = omega arith
-
 pub rounds-preserved : goal.rounds-preserved
 rounds-preserved g c =
     let u = c.rounds.invariant.under_way in
@@ -90,5 +79,5 @@ rounds-preserved g c =
           c.rounds.at c.round-offers.new.at (beats_of c.round-offers.new.far) u.past c.round-offers.new.bridge c.round-offers.result c.round-offers.ensures.counted h;
       room = keeps-room (near_beats c.args.script.now)
           c.rounds.far c.round-offers.new.far c.round-offers.ensures.capacity c.rounds.invariant.room;
-      few = one-more _ _ _ c.rounds.invariant.few (onward g c);
+      few = one-round-more _ _ _ c.rounds.invariant.few (onward g c);
     }

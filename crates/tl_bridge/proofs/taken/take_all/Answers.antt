@@ -33,3 +33,6 @@ returns-clause-far g c =
 
 pub returns-clause-capacity : goal.returns-clause-capacity
 returns-clause-capacity g c = c.beats.invariant.capacity
+
+pub take-requires : goal.take-requires
+take-requires g c = search refl

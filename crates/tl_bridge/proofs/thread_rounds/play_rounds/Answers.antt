@@ -1,8 +1,9 @@
-use Rattle.std.proofs.Common.{rules, lit<, ◌+◌, ◌-◌, ◌^◌, ◌<◌, ◌≤◌, ℕ, refl, sym, subst, ◌∙◌, arith, zero-le}
+use Rattle.std.proofs.Common.{rules, lit<, ◌+◌, ◌^◌, ◌<◌, refl, sym, subst, ◌∙◌, arith, zero-le}
 use Rattle.tl_bridge.specs.Scripts.{near_beats}
 use Rattle.tl_bridge.specs.Inner.Arriving.{beats_of}
 use Rattle.tl_bridge.specs.Inner.Running.{AllStop}
 use Rattle.tl_bridge.specs.Inner.Sides.{past_of}
+use Rattle.tl_bridge.proofs.Counting.{counts-on, last-one, nearer, one-round-more}
 use Rattle.tl_bridge.proofs.Ended.{end-few, keeps-room}
 use Rattle.tl_bridge.proofs.SideSizes.{client_small, manager_small}
 use Rattle.tl_bridge.proofs.Meeting.{met-most, met-ended, new-met}
@@ -35,20 +36,12 @@ rounds-init g c = record {
 pub round-played-requires : goal.round-played-requires
 round-played-requires g c = (search rules, (search rules, (client_small g.row.C g.row.M c.requires.client c.requires.manager, (manager_small g.row.C g.row.M c.requires.client c.requires.manager, (lit< tt, (lit< tt, (c.requires.client, (c.requires.manager, (c.requires.short, (c.rounds.invariant.room, c.rounds.invariant.met))))))))))
 
--- a count below its bound
-counts-on : (k l m : ℕ) → k ≤ l → l ≤ m → m < 2 ^ 60 → k + 1 < 2 ^ 64
-counts-on k l m f g h = omega arith
-
 pub overflow_add-rounds : goal.overflow_add-rounds
 overflow_add-rounds g c =
     let i = c.rounds.invariant in
     let l : c.rounds.rounds + 1 < 2 ^ 64 = counts-on _ _ _ i.few (met-most (near_beats c.args.script.now) c.rounds.at (beats_of c.rounds.far) c.rounds.client c.rounds.manager i.met c.requires.client c.requires.manager)
     (end-few (near_beats c.args.script.now) c.requires.client c.requires.manager c.requires.short) in
     omega (arith, l)
-
--- one round more
-last-one : (k l m : ℕ) → k ≤ l → l ≤ m → k + 1 ≤ m + 1
-last-one k l m g h = omega arith
 
 pub returns-in-Some-clause-ended : goal.returns-in-Some-clause-ended
 returns-in-Some-clause-ended g c =
@@ -58,19 +51,11 @@ returns-in-Some-clause-ended g c =
     (subst (λ o. AllStop near c.round-played.new.at (past_of c.round-played.new.client c.round-played.new.manager h.met.client h.met.manager) o) c.in-Some.ensures.stops h.stops)
     (sym h.standing ∙ c.in-Some.ensures.rests) (last-one _ _ _ c.rounds.invariant.few h.keeps)
 
--- a number that grows is nearer to its bound
-nearer : (k l m : ℕ) → k + 1 ≤ l → l ≤ m → m - l < m - k
-nearer k l m g h = omega arith
-
 pub rounds-smaller : goal.rounds-smaller
 rounds-smaller g c =
     let h = c.round-played.ensures.round in
     nearer _ _ _ (h.goes (search rules))
     (met-most (near_beats c.args.script.now) c.round-played.new.at (beats_of c.round-played.new.far) c.round-played.new.client c.round-played.new.manager h.met c.requires.client c.requires.manager)
-
--- and so the rounds are no more than that
-one-more : (k l m : ℕ) → k ≤ l → l + 1 ≤ m → k + 1 ≤ m
-one-more k l m g h = omega arith
 
 pub rounds-preserved : goal.rounds-preserved
 rounds-preserved g c =
@@ -78,5 +63,5 @@ rounds-preserved g c =
     record {
       met = h.met;
       room = keeps-room (near_beats c.args.script.now) c.rounds.far c.round-played.new.far c.round-played.ensures.capacity c.rounds.invariant.room;
-      few = one-more _ _ _ c.rounds.invariant.few (h.goes (search rules));
+      few = one-round-more _ _ _ c.rounds.invariant.few (h.goes (search rules));
     }

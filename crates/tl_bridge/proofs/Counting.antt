@@ -1,0 +1,18 @@
+-- The rounds of a run are counted, and end.
+use Rattle.std.proofs.Common.{◌+◌, ◌-◌, ◌^◌, ◌<◌, ◌≤◌, ℕ, arith}
+
+-- a count below its bound may go on
+pub counts-on : (k l m : ℕ) → k ≤ l → l ≤ m → m < 2 ^ 60 → k + 1 < 2 ^ 64
+counts-on k l m f g h = omega arith
+
+-- the last round is one more
+pub last-one : (k l m : ℕ) → k ≤ l → l ≤ m → k + 1 ≤ m + 1
+last-one k l m g h = omega arith
+
+-- a number that grows is nearer to its bound
+pub nearer : (k l m : ℕ) → k + 1 ≤ l → l ≤ m → m - l < m - k
+nearer k l m g h = omega arith
+
+-- and so the rounds are no more than that
+pub one-round-more : (k l m : ℕ) → k ≤ l → l + 1 ≤ m → k + 1 ≤ m
+one-round-more k l m g h = omega arith

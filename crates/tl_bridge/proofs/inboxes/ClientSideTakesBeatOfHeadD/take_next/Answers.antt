@@ -1,0 +1,9 @@
+use Rattle.std.proofs.Common.{ap}
+use Rattle.tl_bridge.specs.Inner.Taking.{but_d}
+use Rattle.tl_bridge.proofs.inboxes.ClientSideTakesBeatOfHeadD.take_next.Goals as goal
+
+pub returns-clause-left : goal.returns-clause-left
+returns-clause-left g c = ap (λ s. s.d.inbox) c.take_d.ensures.rest
+
+pub returns-clause-becomes : goal.returns-clause-becomes
+returns-clause-becomes g c = record { stands = c.take_d.ensures.taken; keeps = ap but_d c.take_d.ensures.rest }
