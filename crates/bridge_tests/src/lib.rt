@@ -1,11 +1,10 @@
-//! Tests of the bridge, of its tables and of the run of a script, in a crate of their own: a crate
-//! with tests is proved twice.
+//! Tests of the bridge and of its tables, in a crate of their own: a crate with tests is proved twice.
 #![tactic(auto)]
 
 #[cfg(test)]
 mod beats;
 #[cfg(test)]
-mod run_tests;
+mod fault_tests;
 #[cfg(test)]
 mod sync_tests;
 #[cfg(test)]

@@ -5,7 +5,7 @@ use linked_list_allocator::LocalHeap;
 use std::alloc::Global;
 use std::test::Fail;
 use tl_bridge::{Standings, SyncBridge};
-use tl_msg::{Beat, BeatFault, BeatOf, ChB, ChD, ChE, HeadB, HeadC, HeadE, SideFault};
+use tl_msg::{Beat, BeatFault, BeatOf, ChA, ChB, ChD, ChE, HeadB, HeadC, HeadE, SideFault};
 use tl_ring::BuildFault;
 
 /// What a bridge says to an offer. None where the channel is not ready.
@@ -207,5 +207,36 @@ fn a_refused_growth_is_out_of_memory(rt: HostRuntime) -> Result<(), Fail> {
         assert_eq!(rt; heap.used(), 0);
     }
     assert!(rt; refused < 64);
+    Ok(())
+}
+
+/// What arrives of a request, at once.
+fn ask_across(bridge: &mut SyncBridge<4, 4>, request: Beat<ChA, 4>) -> Option<Beat<ChA, 4>> {
+    if !bridge.ready_a() || bridge.offer_a(request).is_err() {
+        return None;
+    }
+    bridge.pump();
+    bridge.fetch();
+    bridge.take_a()
+}
+
+/// What arrives of a response, at once.
+fn answer_across(bridge: &mut SyncBridge<4, 4>, response: Beat<ChD, 4>) -> Option<Beat<ChD, 4>> {
+    if !bridge.ready_d() || bridge.offer_d(response).is_err() {
+        return None;
+    }
+    bridge.pump();
+    bridge.fetch();
+    bridge.take_d()
+}
+
+#[test]
+fn a_source_used_twice(rt: HostRuntime) -> Result<(), Fail> {
+    let mut bridge = SyncBridge::<4, 4>::new(rt.alloc(), 1)?;
+    for (address, byte) in [(0, 0x11), (4, 0x22)] {
+        let (request, response) = (get(1, address), data(1, 2, 1, [byte; 4]));
+        assert!(rt; ask_across(&mut bridge, request) == Some(request));
+        assert!(rt; answer_across(&mut bridge, response) == Some(response));
+    }
     Ok(())
 }
