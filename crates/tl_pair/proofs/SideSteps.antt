@@ -1,5 +1,8 @@
--- Each call of a side takes it to what it stands for after the same event.
-use Rattle.std.proofs.Common.{◌≡◌, ◌↔◌, ℕ, List, [], ◌∷◌, ◌++◌, map, take, sym, ap, subst, ◌∙◌}
+-- Each call of a side takes it to what it stands for after the same event: its ends have their places in it, as `Places` of tl_sides says.
+use Rattle.std.proofs.Common.{◌≡◌, ◌↔◌, ◌≤◌, ◌+◌, ℕ, true, Option, None, Some, List, [], ◌∷◌, ◌++◌, map, take, refl, sym, ap, subst, ◌∙◌, arith}
+use Rattle.std.specs.Prelude.{◌-◌, Result, Ok, Err, OnOk, OnErr, IsOk, IfErr, IfSome, slice_get, length, min}
+use Rattle.tl_msg.specs.Faults.{IsLawfulBeat}
+use Rattle.tl_msg.specs.Rules.{Rules}
 use Rattle.tl_msg.specs.Tables.{rules_a, rules_b, rules_c, rules_d, rules_e}
 use Rattle.tl_msg.specs.declared.channel.ChA.{ChA}
 use Rattle.tl_msg.specs.declared.channel.ChB.{ChB}
@@ -14,196 +17,397 @@ use Rattle.tl_msg.specs.declared.head.HeadE.{HeadE}
 use Rattle.tl_msg.specs.declared.beat.BeatOf.{BeatOf}
 use Rattle.tl_burst.specs.Begun.{left}
 use Rattle.tl_burst.specs.Handing.{rest_of}
-use Rattle.tl_ring.specs.Crossing.{World, offered}
-use Rattle.tl_ring.specs.Ends.{Sending, Taking, Sends, Takes}
-use Rattle.tl_settle.specs.Histories.{Ask, Answer, asked, answered, manager_home}
+use Rattle.tl_ring.specs.Crossing.{World, offered, shut, inbox_room}
+use Rattle.tl_ring.specs.Ends.{Sending, Taking, Sends, Takes, Fetched, closing, took_first, known_items}
+use Rattle.tl_ring.specs.declared.fault.EndFault.{EndFault}
+use Rattle.tl_msg.specs.declared.fault.SideFault.{SideFault}
+use Rattle.tl_sides.specs.Crossings.{stops_alone}
+use Rattle.tl_sides.proofs.Places.{Place, offers_alone, shuts, stopped, went, on_ok_to}
+use Rattle.tl_settle.specs.Histories.{Ask, Answer, asked, answered, manager_home, manager_homes, client_answer, manager_answer}
 use Rattle.tl_settle.proofs.Marks.{asked_ask, asked_answer, answered_ask, answered_answer}
 use Rattle.tl_sides.specs.Books.{Client, Manager, KnowsClient, KnowsManager}
 use Rattle.tl_sides.proofs.BridgeSteps.{home_given, homes_given, asked_answers, asked_taken, answered_asks, answered_taken, homes_asks}
+use Rattle.tl_pair.specs.Ends.{Pumps, Fetches, pump_count, fetch_count, after_pump}
+use Rattle.tl_pair.proofs.Senders.{fetch_counted, fetches_of}
 use Rattle.tl_pair.specs.Sides.{ClientState, ManagerState, ClientPast, ManagerPast, ClientStandsFor, ManagerStandsFor}
-use Rattle.tl_pair.specs.Sides.{client_offers_a, client_takes_d, manager_offers_d, manager_takes_a}
+use Rattle.tl_pair.specs.Sides.{client_pumps, manager_pumps, client_offers_a, client_takes_d, manager_offers_d, manager_takes_a}
+
+-- the place of an end in a side
+abbrev pub Sender : {H : Type 0} (r : Rules H) {S X : Type 0} (Stands : S → X → Type 0) (K A : Type 0) (w v : ℕ) →
+    (World H w v → World H w v → Type 0) → Type 0
+Sender {H} r Stands K A w v Keeps = Place Stands (Sends {K = K} {A = A} r {w = w} {v = v}) Keeps
+
+module _ {K A H : Type 0} (r : Rules H) {w v : ℕ} {S X : Type 0} {Stands : S → X → Type 0} {Keeps : World H w v → World H w v → Type 0}
+    (at : Sender r Stands K A w v Keeps) where
+  -- what an offer on a channel that nothing couples to another one says of the side before and after, where the end is then `p`
+  abbrev pub SideOffers : (b : BeatOf H w) (s s' : S) (p : Sending K A H v) (result : Result Unit SideFault) → Type 0
+  SideOffers b s s' p result = record {
+    admitted : (x : X) → Stands s x → IsOk result ↔ (stops_alone r (at.seen x).accepted b ≡ None);
+    accepted : (x : X) → Stands s x → OnOk result (Stands s' (at.after x (offered r b 0 (at.seen x))));
+    fault : (x : X) → Stands s x → IfErr result (λ fault. stops_alone r (at.seen x).accepted b ≡ Some fault);
+    ring : p.producer ≡ (at.part s).producer;
+    rest : s' ≡ at.put s p;
+    refused : OnErr result (s' ≡ s);
+  }
+
+  pub side_offers : (b : BeatOf H w) → ((y : World H w v) → Keeps y (offered r b 0 y)) → {inside s : S} → inside ≡ s → (p : Sending K A H v)
+      (result : Result Unit SideFault) → record {
+        admitted : (y : World H w v) → Sends r (at.part inside) y → IsOk result ↔ (stops_alone r y.accepted b ≡ None);
+        accepted : (y : World H w v) → Sends r (at.part inside) y → OnOk result (Sends r p (offered r b 0 y));
+        fault : (y : World H w v) → Sends r (at.part inside) y → IfErr result (λ fault. stops_alone r y.accepted b ≡ Some fault);
+        ring : p.producer ≡ (at.part inside).producer;
+        refused : OnErr result (p ≡ at.part inside);
+      } → SideOffers b s (at.put inside p) p result
+  side_offers b keeps {inside} view p result e =
+      subst (λ q. SideOffers b q (at.put inside p) p result) view (
+      let k = offers_alone at r b keeps {inside = inside} refl p result (record { admitted = e.admitted; accepted = e.accepted; fault = e.fault; refused = e.refused }) in
+      record { admitted = k.admitted; accepted = k.accepted; fault = k.fault; ring = e.ring; rest = refl; refused = k.refused })
+
+  -- and a close
+  abbrev pub SideCloses : (s s' : S) (result : Result Unit EndFault) → Type 0
+  SideCloses s s' result = record {
+    between : (x : X) → Stands s x → IsOk result ↔ (rest_of r w (at.seen x).accepted ≡ []);
+    stands : (x : X) → Stands s x → OnOk result (Stands s' (at.after x (shut (at.seen x))));
+    closed : OnOk result (s' ≡ at.put s (closing (at.part s)));
+    again : (at.part s).closed ≡ true → IsOk result × (s' ≡ s);
+    refused : OnErr result (s' ≡ s);
+  }
+
+  pub side_closes : ((y : World H w v) → Keeps y (shut y)) → {inside s : S} → inside ≡ s → (p : Sending K A H v) (result : Result Unit EndFault) → record {
+    between : (y : World H w v) → Sends r (at.part inside) y → IsOk result ↔ (rest_of r w y.accepted ≡ []);
+    stands : (y : World H w v) → Sends r (at.part inside) y → OnOk result (Sends r p (shut y));
+    closed : OnOk result (p ≡ closing (at.part inside));
+    again : (at.part inside).closed ≡ true → IsOk result × (p ≡ at.part inside);
+    refused : OnErr result (p ≡ at.part inside);
+  } → SideCloses s (at.put inside p) result
+  side_closes keeps {inside} view p result e =
+      subst (λ q. SideCloses q (at.put inside p) result) view (
+      let k = shuts at r (λ q. q.closed) keeps {inside = inside} refl p result (record { between = e.between; closed = e.stands; again = e.again; refused = e.refused }) in
+      record { between = k.between; stands = k.closed; closed = on_ok_to result (λ q. ap (λ z. at.put inside z) q) e.closed; again = k.again; refused = k.refused })
+
+-- the place of an end that takes, and what a take says
+module _ {K A H : Type 0} (r : Rules H) {v : ℕ} {S X : Type 0} {Stands : S → X → Type 0}
+    (at : Place Stands (Takes {K = K} {A = A} {H = H} {v = v}) (λ x y. Unit)) where
+  abbrev pub SideTakes : (s s' : S) (result : Option (BeatOf H v)) → Type 0
+  SideTakes s s' result = record {
+    beat : result ≡ slice_get (at.part s).inbox 0;
+    lawful : IfSome result (λ b. IsLawfulBeat r b);
+    rest : s' ≡ at.put s (took_first (at.part s));
+    taken : (x : X) → Stands s x → Stands s' (at.after x (at.seen x ++ take 1 (at.part s).inbox));
+  }
+
+  pub side_takes : {inside s : S} → inside ≡ s → (t : Taking K A H v) (result : Option (BeatOf H v)) → record {
+    beat : result ≡ slice_get (at.part inside).inbox 0;
+    lawful : IfSome result (λ b. IsLawfulBeat r b);
+    rest : t ≡ took_first (at.part inside);
+    takes : (taken : List (BeatOf H v)) → Takes (at.part inside) taken → Takes t (taken ++ take 1 (at.part inside).inbox);
+  } → SideTakes s (at.put inside t) result
+  side_takes {inside} view t result e = subst (λ q. SideTakes q (at.put inside t) result) view (record {
+    beat = e.beat;
+    lawful = e.lawful;
+    rest = ap (λ q. at.put inside q) e.rest;
+    taken = λ x h. at.moves inside x h t (at.seen x ++ take 1 (at.part inside).inbox) (e.takes (at.seen x) (at.stands inside x h)) tt;
+  })
+
+-- what a pump of an end says, and a fetch
+abbrev pub PumpsEnd : {K A H : Type 0} (r : Rules H) (w : ℕ) {v : ℕ} (s s' : Sending K A H v) (n : ℕ) → Type 0
+PumpsEnd {K} {A} {H} r w {v} s s' n = record {
+  count : n ≡ pump_count s s';
+  most : n ≤ 64;
+  pumps : Pumps s s';
+  stands : (x : World H w v) → Sends r s x → Sends r s' (after_pump s s' x);
+}
+
+abbrev pub FetchesEnd : {K A H : Type 0} {v : ℕ} (t t' : Taking K A H v) (n : ℕ) → Type 0
+FetchesEnd {K} {A} {H} {v} t t' n = record {
+  least : min (length (known_items t)) (inbox_room - length t.inbox) ≤ n;
+  most : n ≤ inbox_room - length t.inbox;
+  fetched : Fetched t n t';
+  takes : (taken : List (BeatOf H v)) → Takes t taken → Takes t' taken;
+}
+
+module _ {A : Type 0} {C M : ℕ} where
+  -- a side stands for a past where each of its ends does, and its book knows its history
+  pub client_of : {s : ClientState A C M} {x : ClientPast C M} → Sends rules_a s.a x.a → Takes s.b x.b → Sends rules_c s.c x.c →
+      Takes s.d (answered x.history) → Sends rules_e s.e x.e → asked x.history ≡ x.a.accepted → KnowsClient s.book x.history → ClientStandsFor s x
+  client_of a b c d e accepted book = record { a = a; b = b; c = c; d = d; e = e; accepted = accepted; book = book }
+
+  pub manager_of : {s : ManagerState A C M} {x : ManagerPast C M} → Takes s.a (asked x.history) → Sends rules_b s.b x.b → Takes s.c x.c →
+      Sends rules_d s.d x.d → Takes s.e x.e → answered x.history ≡ x.d.accepted → manager_homes x.history ≡ x.d.homes →
+      KnowsManager s.book x.history → ManagerStandsFor s x
+  manager_of a b c d e accepted homes book = record { a = a; b = b; c = c; d = d; e = e; accepted = accepted; homes = homes; book = book }
+
+  -- the places of the ends that send: one goes on that is in no history, or whose accepted beats, and their homes, stay
+  abbrev pub client_a : Sender rules_a (ClientStandsFor {A = A} {C = C} {M = M}) ChA A C M (λ x y. y.accepted ≡ x.accepted)
+  client_a = record {
+    part = λ s. s.a;
+    put = λ s p. record s { a = p };
+    back = λ s. refl;
+    seen = λ x. x.a;
+    after = λ x y. record x { a = y };
+    stands = λ s x h. h.a;
+    moves = λ s x h p y k same. client_of k h.b h.c h.d h.e (h.accepted ∙ sym same) h.book;
+  }
+
+  abbrev pub client_c : Sender rules_c (ClientStandsFor {A = A} {C = C} {M = M}) ChC A C M (λ x y. Unit)
+  client_c = record {
+    part = λ s. s.c;
+    put = λ s p. record s { c = p };
+    back = λ s. refl;
+    seen = λ x. x.c;
+    after = λ x y. record x { c = y };
+    stands = λ s x h. h.c;
+    moves = λ s x h p y k free. client_of h.a h.b k h.d h.e h.accepted h.book;
+  }
+
+  abbrev pub client_e : Sender rules_e (ClientStandsFor {A = A} {C = C} {M = M}) ChE A C M (λ x y. Unit)
+  client_e = record {
+    part = λ s. s.e;
+    put = λ s p. record s { e = p };
+    back = λ s. refl;
+    seen = λ x. x.e;
+    after = λ x y. record x { e = y };
+    stands = λ s x h. h.e;
+    moves = λ s x h p y k free. client_of h.a h.b h.c h.d k h.accepted h.book;
+  }
+
+  abbrev pub manager_b : Sender rules_b (ManagerStandsFor {A = A} {C = C} {M = M}) ChB A M C (λ x y. Unit)
+  manager_b = record {
+    part = λ s. s.b;
+    put = λ s p. record s { b = p };
+    back = λ s. refl;
+    seen = λ x. x.b;
+    after = λ x y. record x { b = y };
+    stands = λ s x h. h.b;
+    moves = λ s x h p y k free. manager_of h.a k h.c h.d h.e h.accepted h.homes h.book;
+  }
+
+  abbrev pub manager_d : Sender rules_d (ManagerStandsFor {A = A} {C = C} {M = M}) ChD A M C (λ x y. (y.accepted ≡ x.accepted) × (y.homes ≡ x.homes))
+  manager_d = record {
+    part = λ s. s.d;
+    put = λ s p. record s { d = p };
+    back = λ s. refl;
+    seen = λ x. x.d;
+    after = λ x y. record x { d = y };
+    stands = λ s x h. h.d;
+    moves = λ s x h p y k same. manager_of h.a h.b h.c k h.e (h.accepted ∙ sym same.0) (h.homes ∙ sym same.1) h.book;
+  }
+
+  -- and of those that take, but for those of A and D, whose beats are in the histories
+  abbrev pub client_b : Place (ClientStandsFor {A = A} {C = C} {M = M}) (Takes {K = ChB} {A = A} {H = HeadB} {v = C}) (λ x y. Unit)
+  client_b = record {
+    part = λ s. s.b;
+    put = λ s t. record s { b = t };
+    back = λ s. refl;
+    seen = λ x. x.b;
+    after = λ x y. record x { b = y };
+    stands = λ s x h. h.b;
+    moves = λ s x h t y k free. client_of h.a k h.c h.d h.e h.accepted h.book;
+  }
+
+  abbrev pub manager_c : Place (ManagerStandsFor {A = A} {C = C} {M = M}) (Takes {K = ChC} {A = A} {H = HeadC} {v = M}) (λ x y. Unit)
+  manager_c = record {
+    part = λ s. s.c;
+    put = λ s t. record s { c = t };
+    back = λ s. refl;
+    seen = λ x. x.c;
+    after = λ x y. record x { c = y };
+    stands = λ s x h. h.c;
+    moves = λ s x h t y k free. manager_of h.a h.b k h.d h.e h.accepted h.homes h.book;
+  }
+
+  abbrev pub manager_e : Place (ManagerStandsFor {A = A} {C = C} {M = M}) (Takes {K = ChE} {A = A} {H = HeadE} {v = M}) (λ x y. Unit)
+  manager_e = record {
+    part = λ s. s.e;
+    put = λ s t. record s { e = t };
+    back = λ s. refl;
+    seen = λ x. x.e;
+    after = λ x y. record x { e = y };
+    stands = λ s x h. h.e;
+    moves = λ s x h t y k free. manager_of h.a h.b h.c h.d k h.accepted h.homes h.book;
+  }
+
+  -- a side pumps, and fetches, on all of its channels
+  abbrev pub ClientPumps : (s s' : ClientState A C M) (n : ℕ) → Type 0
+  ClientPumps s s' n = record {
+    total : n ≡ pump_count s.a s'.a + pump_count s.c s'.c + pump_count s.e s'.e;
+    most : n ≤ 192;
+    a : Pumps s.a s'.a;
+    c : Pumps s.c s'.c;
+    e : Pumps s.e s'.e;
+    rest : s' ≡ record s { a = s'.a; c = s'.c; e = s'.e };
+    stands : (x : ClientPast C M) → ClientStandsFor s x → ClientStandsFor s' (client_pumps s s' x);
+  }
+
+  pub client_pumped : {inside s : ClientState A C M} → inside ≡ s → (a : Sending ChA A HeadA M) (c : Sending ChC A HeadC M) (e : Sending ChE A HeadE M)
+      (i j k : ℕ) → PumpsEnd rules_a C inside.a a i → PumpsEnd rules_c C inside.c c j → PumpsEnd rules_e C inside.e e k →
+      ClientPumps s (record inside { a = a; c = c; e = e }) (i + j + k)
+  client_pumped {inside} view a c e i j k on_a on_c on_e = subst (λ s. ClientPumps s (record inside { a = a; c = c; e = e }) (i + j + k)) view (record {
+    total = λ t. on_a.count t + on_c.count t + on_e.count t;
+    most = omega (arith, on_a.most, on_c.most, on_e.most);
+    a = on_a.pumps;
+    c = on_c.pumps;
+    e = on_e.pumps;
+    rest = refl;
+    stands = λ x h. client_of (on_a.stands x.a h.a) h.b (on_c.stands x.c h.c) h.d (on_e.stands x.e h.e) h.accepted h.book;
+  })
+
+  abbrev pub ManagerPumps : (s s' : ManagerState A C M) (n : ℕ) → Type 0
+  ManagerPumps s s' n = record {
+    total : n ≡ pump_count s.b s'.b + pump_count s.d s'.d;
+    most : n ≤ 128;
+    b : Pumps s.b s'.b;
+    d : Pumps s.d s'.d;
+    rest : s' ≡ record s { b = s'.b; d = s'.d };
+    stands : (x : ManagerPast C M) → ManagerStandsFor s x → ManagerStandsFor s' (manager_pumps s s' x);
+  }
+
+  pub manager_pumped : {inside s : ManagerState A C M} → inside ≡ s → (b : Sending ChB A HeadB C) (d : Sending ChD A HeadD C) (i j : ℕ) →
+      PumpsEnd rules_b M inside.b b i → PumpsEnd rules_d M inside.d d j → ManagerPumps s (record inside { b = b; d = d }) (i + j)
+  manager_pumped {inside} view b d i j on_b on_d = subst (λ s. ManagerPumps s (record inside { b = b; d = d }) (i + j)) view (record {
+    total = λ t. on_b.count t + on_d.count t;
+    most = omega (arith, on_b.most, on_d.most);
+    b = on_b.pumps;
+    d = on_d.pumps;
+    rest = refl;
+    stands = λ x h. manager_of h.a (on_b.stands x.b h.b) h.c (on_d.stands x.d h.d) h.e h.accepted h.homes h.book;
+  })
+
+  abbrev pub ClientFetches : (s s' : ClientState A C M) (n : ℕ) → Type 0
+  ClientFetches s s' n = record {
+    total : n ≡ fetch_count s.b s'.b + fetch_count s.d s'.d;
+    most : n ≤ 128;
+    b : Fetches s.b s'.b;
+    d : Fetches s.d s'.d;
+    rest : s' ≡ record s { b = s'.b; d = s'.d };
+    stands : (x : ClientPast C M) → ClientStandsFor s x → ClientStandsFor s' x;
+  }
+
+  pub client_fetched : {inside s : ClientState A C M} → inside ≡ s → (b : Taking ChB A HeadB C) (d : Taking ChD A HeadD C) (i j : ℕ) →
+      FetchesEnd inside.b b i → FetchesEnd inside.d d j → ClientFetches s (record inside { b = b; d = d }) (i + j)
+  client_fetched {inside} view b d i j on_b on_d = subst (λ s. ClientFetches s (record inside { b = b; d = d }) (i + j)) view (
+      let count_b = fetch_counted i inside.b b on_b.fetched in
+      let count_d = fetch_counted j inside.d d on_d.fetched in
+      record {
+        total = λ t. count_b t + count_d t;
+        most = omega (arith, on_b.most, on_d.most);
+        b = fetches_of i inside.b b on_b.least on_b.most on_b.fetched;
+        d = fetches_of j inside.d d on_d.least on_d.most on_d.fetched;
+        rest = refl;
+        stands = λ x h. client_of h.a (on_b.takes x.b h.b) h.c (on_d.takes (answered x.history) h.d) h.e h.accepted h.book;
+      })
+
+  abbrev pub ManagerFetches : (s s' : ManagerState A C M) (n : ℕ) → Type 0
+  ManagerFetches s s' n = record {
+    total : n ≡ fetch_count s.a s'.a + fetch_count s.c s'.c + fetch_count s.e s'.e;
+    most : n ≤ 192;
+    a : Fetches s.a s'.a;
+    c : Fetches s.c s'.c;
+    e : Fetches s.e s'.e;
+    rest : s' ≡ record s { a = s'.a; c = s'.c; e = s'.e };
+    stands : (x : ManagerPast C M) → ManagerStandsFor s x → ManagerStandsFor s' x;
+  }
+
+  pub manager_fetched : {inside s : ManagerState A C M} → inside ≡ s → (a : Taking ChA A HeadA M) (c : Taking ChC A HeadC M) (e : Taking ChE A HeadE M)
+      (i j k : ℕ) → FetchesEnd inside.a a i → FetchesEnd inside.c c j → FetchesEnd inside.e e k →
+      ManagerFetches s (record inside { a = a; c = c; e = e }) (i + j + k)
+  manager_fetched {inside} view a c e i j k on_a on_c on_e = subst (λ s. ManagerFetches s (record inside { a = a; c = c; e = e }) (i + j + k)) view (
+      let count_a = fetch_counted i inside.a a on_a.fetched in
+      let count_c = fetch_counted j inside.c c on_c.fetched in
+      let count_e = fetch_counted k inside.e e on_e.fetched in
+      record {
+        total = λ t. count_a t + count_c t + count_e t;
+        most = omega (arith, on_a.most, on_c.most, on_e.most);
+        a = fetches_of i inside.a a on_a.least on_a.most on_a.fetched;
+        c = fetches_of j inside.c c on_c.least on_c.most on_c.fetched;
+        e = fetches_of k inside.e e on_e.least on_e.most on_e.fetched;
+        rest = refl;
+        stands = λ x h. manager_of (on_a.takes (asked x.history) h.a) h.b (on_c.takes x.c h.c) h.d (on_e.takes x.e h.e) h.accepted h.homes h.book;
+      })
 
 module _ {A : Type 0} {C M : ℕ} (s : ClientState A C M) (x : ClientPast C M) (h : ClientStandsFor s x) where
-  -- a channel that the side sends goes on
-  pub client_a : (p : Sending ChA A HeadA M) (y : World HeadA C M) → Sends rules_a p y → y.accepted ≡ x.a.accepted →
-      ClientStandsFor (record s { a = p }) (record x { a = y })
-  client_a p y k same = record {
-    a = k;
-    b = h.b;
-    c = h.c;
-    d = h.d;
-    e = h.e;
-    accepted = h.accepted ∙ sym same;
-    book = h.book;
-  }
-
-  pub client_c : (p : Sending ChC A HeadC M) (y : World HeadC C M) → Sends rules_c p y →
-      ClientStandsFor (record s { c = p }) (record x { c = y })
-  client_c p y k = record {
-    a = h.a;
-    b = h.b;
-    c = k;
-    d = h.d;
-    e = h.e;
-    accepted = h.accepted;
-    book = h.book;
-  }
-
-  pub client_e : (p : Sending ChE A HeadE M) (y : World HeadE C M) → Sends rules_e p y →
-      ClientStandsFor (record s { e = p }) (record x { e = y })
-  client_e p y k = record {
-    a = h.a;
-    b = h.b;
-    c = h.c;
-    d = h.d;
-    e = k;
-    accepted = h.accepted;
-    book = h.book;
-  }
-
-  -- a channel that the side takes goes on, and no beat of A or D is taken
-  pub client_b : (t : Taking ChB A HeadB C) (taken : List (BeatOf HeadB C)) → Takes t taken →
-      ClientStandsFor (record s { b = t }) (record x { b = taken })
-  client_b t taken k = record {
-    a = h.a;
-    b = k;
-    c = h.c;
-    d = h.d;
-    e = h.e;
-    accepted = h.accepted;
-    book = h.book;
-  }
-
-  pub client_d : (t : Taking ChD A HeadD C) → Takes t (answered x.history) → ClientStandsFor (record s { d = t }) x
-  client_d t k = record {
-    a = h.a;
-    b = h.b;
-    c = h.c;
-    d = k;
-    e = h.e;
-    accepted = h.accepted;
-    book = h.book;
-  }
-
   -- a beat of A is accepted
   pub client_offered_a : (p : Sending ChA A HeadA M) (b : BeatOf HeadA C) (book : Client) → Sends rules_a p (offered rules_a b 0 x.a) →
       KnowsClient book (x.history ++ Ask b ∷ []) → ClientStandsFor (record s { a = p; book = book }) (client_offers_a b x)
-  client_offered_a p b book k noted = record {
-    a = k;
-    b = h.b;
-    c = h.c;
-    d = subst (λ q. Takes s.d q) (sym (answered_ask x.history b)) h.d;
-    e = h.e;
-    accepted = asked_ask x.history b ∙ ap (λ q. q ++ b ∷ []) h.accepted;
-    book = noted;
-  }
+  client_offered_a p b book k noted =
+      client_of k h.b h.c (subst (λ q. Takes s.d q) (sym (answered_ask x.history b)) h.d) h.e
+      (asked_ask x.history b ∙ ap (λ q. q ++ b ∷ []) h.accepted) noted
 
   -- the first beats of D, one or none, are taken
   pub client_taken_d : (t : Taking ChD A HeadD C) (inbox : List (BeatOf HeadD C)) (book : Client) → Takes t (answered x.history ++ take 1 inbox) →
       KnowsClient book (x.history ++ map Answer (take 1 inbox)) → ClientStandsFor (record s { d = t; book = book }) (client_takes_d (take 1 inbox) x)
-  client_taken_d t inbox book k noted = record {
-    a = h.a;
-    b = h.b;
-    c = h.c;
-    d = subst (λ q. Takes t q) (sym (answered_taken x.history inbox)) k;
-    e = h.e;
-    accepted = asked_answers x.history (take 1 inbox) ∙ h.accepted;
-    book = noted;
-  }
+  client_taken_d t inbox book k noted =
+      client_of h.a h.b h.c (subst (λ q. Takes t q) (sym (answered_taken x.history inbox)) k) h.e
+      (asked_answers x.history (take 1 inbox) ∙ h.accepted) noted
 
 module _ {A : Type 0} {C M : ℕ} (s : ManagerState A C M) (x : ManagerPast C M) (h : ManagerStandsFor s x) where
-  -- a channel that the side sends goes on
-  pub manager_b : (p : Sending ChB A HeadB C) (y : World HeadB M C) → Sends rules_b p y →
-      ManagerStandsFor (record s { b = p }) (record x { b = y })
-  manager_b p y k = record {
-    a = h.a;
-    b = k;
-    c = h.c;
-    d = h.d;
-    e = h.e;
-    accepted = h.accepted;
-    homes = h.homes;
-    book = h.book;
-  }
-
-  pub manager_d : (p : Sending ChD A HeadD C) (y : World HeadD M C) → Sends rules_d p y → y.accepted ≡ x.d.accepted → y.homes ≡ x.d.homes →
-      ManagerStandsFor (record s { d = p }) (record x { d = y })
-  manager_d p y k same homes = record {
-    a = h.a;
-    b = h.b;
-    c = h.c;
-    d = k;
-    e = h.e;
-    accepted = h.accepted ∙ sym same;
-    homes = h.homes ∙ sym homes;
-    book = h.book;
-  }
-
-  -- a channel that the side takes goes on, and no beat of A or D is taken
-  pub manager_a : (t : Taking ChA A HeadA M) → Takes t (asked x.history) → ManagerStandsFor (record s { a = t }) x
-  manager_a t k = record {
-    a = k;
-    b = h.b;
-    c = h.c;
-    d = h.d;
-    e = h.e;
-    accepted = h.accepted;
-    homes = h.homes;
-    book = h.book;
-  }
-
-  pub manager_c : (t : Taking ChC A HeadC M) (taken : List (BeatOf HeadC M)) → Takes t taken →
-      ManagerStandsFor (record s { c = t }) (record x { c = taken })
-  manager_c t taken k = record {
-    a = h.a;
-    b = h.b;
-    c = k;
-    d = h.d;
-    e = h.e;
-    accepted = h.accepted;
-    homes = h.homes;
-    book = h.book;
-  }
-
-  pub manager_e : (t : Taking ChE A HeadE M) (taken : List (BeatOf HeadE M)) → Takes t taken →
-      ManagerStandsFor (record s { e = t }) (record x { e = taken })
-  manager_e t taken k = record {
-    a = h.a;
-    b = h.b;
-    c = h.c;
-    d = h.d;
-    e = k;
-    accepted = h.accepted;
-    homes = h.homes;
-    book = h.book;
-  }
-
   -- a beat of D is accepted
   pub manager_offered_d : (p : Sending ChD A HeadD C) (b : BeatOf HeadD M) (home : ℕ) (book : Manager) →
       (left rules_d M x.d.accepted ≡ 0) ↔ (rest_of rules_d M x.d.accepted ≡ []) → Sends rules_d p (offered rules_d b home x.d) →
       (left rules_d M x.d.accepted ≡ 0 → home ≡ manager_home x.history b.head) → KnowsManager book (x.history ++ Answer b ∷ []) →
       ManagerStandsFor (record s { d = p; book = book }) (manager_offers_d b x)
-  manager_offered_d p b home book between k right noted = record {
-    a = subst (λ q. Takes s.a q) (sym (asked_answer x.history b)) h.a;
-    b = h.b;
-    c = h.c;
-    d = subst (λ (y : World HeadD M C). Sends rules_d p y) (home_given x.d b home (manager_home x.history b.head) between right) k;
-    e = h.e;
-    accepted = answered_answer x.history b ∙ ap (λ q. q ++ b ∷ []) h.accepted;
-    homes = homes_given x.history b x.d.accepted x.d.homes between h.accepted h.homes;
-    book = noted;
-  }
+  manager_offered_d p b home book between k right noted =
+      manager_of (subst (λ q. Takes s.a q) (sym (asked_answer x.history b)) h.a) h.b h.c
+      (subst (λ (y : World HeadD M C). Sends rules_d p y) (home_given x.d b home (manager_home x.history b.head) between right) k) h.e
+      (answered_answer x.history b ∙ ap (λ q. q ++ b ∷ []) h.accepted) (homes_given x.history b x.d.accepted x.d.homes between h.accepted h.homes) noted
 
   -- the first beats of A, one or none, are taken
   pub manager_taken_a : (t : Taking ChA A HeadA M) (inbox : List (BeatOf HeadA M)) (book : Manager) → Takes t (asked x.history ++ take 1 inbox) →
       KnowsManager book (x.history ++ map Ask (take 1 inbox)) → ManagerStandsFor (record s { a = t; book = book }) (manager_takes_a (take 1 inbox) x)
-  manager_taken_a t inbox book k noted = record {
-    a = subst (λ q. Takes t q) (sym (asked_taken x.history inbox)) k;
-    b = h.b;
-    c = h.c;
-    d = h.d;
-    e = h.e;
-    accepted = answered_asks x.history (take 1 inbox) ∙ h.accepted;
-    homes = homes_asks x.history (take 1 inbox) ∙ h.homes;
-    book = noted;
+  manager_taken_a t inbox book k noted =
+      manager_of (subst (λ q. Takes t q) (sym (asked_taken x.history inbox)) k) h.b h.c h.d h.e
+      (answered_asks x.history (take 1 inbox) ∙ h.accepted) (homes_asks x.history (take 1 inbox) ∙ h.homes) noted
+
+-- what an offer of a request says, and of a response, of the side before and after
+module _ {A : Type 0} {C M : ℕ} where
+  abbrev pub ClientAsked : (b : BeatOf HeadA C) (s s' : ClientState A C M) (r : Result Unit SideFault) → Type 0
+  ClientAsked b s s' r = record {
+    admitted : (x : ClientPast C M) → ClientStandsFor s x → IsOk r ↔ (client_answer x.history b ≡ None);
+    accepted : (x : ClientPast C M) → ClientStandsFor s x → OnOk r (ClientStandsFor s' (client_offers_a b x));
+    fault : (x : ClientPast C M) → ClientStandsFor s x → IfErr r (λ fault. client_answer x.history b ≡ Some fault);
+    ring : s'.a.producer ≡ s.a.producer;
+    rest : s' ≡ record s { a = s'.a; book = s'.book };
+    refused : OnErr r (s' ≡ s);
   }
+
+  pub client_stopped : {inside s : ClientState A C M} → inside ≡ s → (b : BeatOf HeadA C) (book : Client) → book ≡ inside.book →
+      (r : Result Unit SideFault) (f : SideFault) → r ≡ Err f → ((x : ClientPast C M) → ClientStandsFor inside x → client_answer x.history b ≡ Some f) →
+      ClientAsked b s (record inside { book = book }) r
+  client_stopped {inside} view b book same r f err says = subst (λ s. ClientAsked b s (record inside { book = book }) r) view (
+      let k = stopped ClientStandsFor (λ x. client_answer x.history b) (λ x. client_offers_a b x) inside (record inside { book = book }) r f err
+      (ap (λ q. record inside { book = q }) same) says in
+      record { admitted = k.admitted; accepted = k.accepted; fault = k.fault; ring = refl; rest = refl; refused = k.refused })
+
+  pub client_went : {inside s : ClientState A C M} → inside ≡ s → (b : BeatOf HeadA C) (p : Sending ChA A HeadA M) (book : Client) →
+      p.producer ≡ inside.a.producer → ((x : ClientPast C M) → ClientStandsFor inside x → client_answer x.history b ≡ None) →
+      ((x : ClientPast C M) → ClientStandsFor inside x → ClientStandsFor (record inside { a = p; book = book }) (client_offers_a b x)) →
+      ClientAsked b s (record inside { a = p; book = book }) (Ok tt)
+  client_went {inside} view b p book ring free stands = subst (λ s. ClientAsked b s (record inside { a = p; book = book }) (Ok tt)) view (
+      let k = went ClientStandsFor (λ x. client_answer x.history b) (λ x. client_offers_a b x) inside (record inside { a = p; book = book }) free stands in
+      record { admitted = k.admitted; accepted = k.accepted; fault = k.fault; ring = ring; rest = refl; refused = k.refused })
+
+  abbrev pub ManagerAnswered : (b : BeatOf HeadD M) (s s' : ManagerState A C M) (r : Result Unit SideFault) → Type 0
+  ManagerAnswered b s s' r = record {
+    admitted : (x : ManagerPast C M) → ManagerStandsFor s x → IsOk r ↔ (manager_answer x.history b ≡ None);
+    accepted : (x : ManagerPast C M) → ManagerStandsFor s x → OnOk r (ManagerStandsFor s' (manager_offers_d b x));
+    fault : (x : ManagerPast C M) → ManagerStandsFor s x → IfErr r (λ fault. manager_answer x.history b ≡ Some fault);
+    ring : s'.d.producer ≡ s.d.producer;
+    rest : s' ≡ record s { d = s'.d; book = s'.book };
+    refused : OnErr r (s' ≡ s);
+  }
+
+  pub manager_stopped : {inside s : ManagerState A C M} → inside ≡ s → (b : BeatOf HeadD M) (book : Manager) → book ≡ inside.book →
+      (r : Result Unit SideFault) (f : SideFault) → r ≡ Err f → ((x : ManagerPast C M) → ManagerStandsFor inside x → manager_answer x.history b ≡ Some f) →
+      ManagerAnswered b s (record inside { book = book }) r
+  manager_stopped {inside} view b book same r f err says = subst (λ s. ManagerAnswered b s (record inside { book = book }) r) view (
+      let k = stopped ManagerStandsFor (λ x. manager_answer x.history b) (λ x. manager_offers_d b x) inside (record inside { book = book }) r f err
+      (ap (λ q. record inside { book = q }) same) says in
+      record { admitted = k.admitted; accepted = k.accepted; fault = k.fault; ring = refl; rest = refl; refused = k.refused })
+
+  pub manager_went : {inside s : ManagerState A C M} → inside ≡ s → (b : BeatOf HeadD M) (p : Sending ChD A HeadD C) (book : Manager) →
+      p.producer ≡ inside.d.producer → ((x : ManagerPast C M) → ManagerStandsFor inside x → manager_answer x.history b ≡ None) →
+      ((x : ManagerPast C M) → ManagerStandsFor inside x → ManagerStandsFor (record inside { d = p; book = book }) (manager_offers_d b x)) →
+      ManagerAnswered b s (record inside { d = p; book = book }) (Ok tt)
+  manager_went {inside} view b p book ring free stands = subst (λ s. ManagerAnswered b s (record inside { d = p; book = book }) (Ok tt)) view (
+      let k = went ManagerStandsFor (λ x. manager_answer x.history b) (λ x. manager_offers_d b x) inside (record inside { d = p; book = book }) free stands in
+      record { admitted = k.admitted; accepted = k.accepted; fault = k.fault; ring = ring; rest = refl; refused = k.refused })

@@ -5,6 +5,7 @@ ghost use Rattle.tl_msg.specs.declared.beat.BeatOf.{BeatOf};
 ghost use Rattle.tl_burst.specs.Handing.{rest_of, fault_after};
 ghost use Rattle.tl_burst.specs.Tracking.{IsPlaceOf};
 ghost use Rattle.tl_ring.specs.Crossing.{World, empty, offered, shut};
+ghost use Rattle.tl_ring.specs.declared.pipe.TheConstants.{MAX_RING};
 ghost use Rattle.tl_ring.specs.Ends.{Sends, Takes, Met, ArePair, Meets, as_pipe, closing, known_free, known_items};
 ghost use Rattle.tl_ring.specs.Pipe.{IsReady};
 ghost use Rattle.tl_sides.specs.Crossings.{stops_alone};
@@ -48,9 +49,9 @@ pub(crate) fn open_pair<K: Channel, const W: usize, const V: usize, A: Allocator
     ensures take { IfOk result (λ ends. Takes ends.1 []) }
     ensures known { IfOk result (λ ends.
         (known_free ends.0 ≡ ring) × (known_items ends.1 ≡ []) × (ends.1.inbox ≡ [])) }
-    ensures size { IsOk result → (1 ≤ ring) × (ring ≤ 4096) }
+    ensures size { IsOk result → (1 ≤ ring) × (ring ≤ MAX_RING) }
     ensures ring_size { IfErr result (λ fault.
-        (fault ≡ BuildFault.RingSize) ↔ ((ring ≡ 0) ⊎ (4096 < ring))) }
+        (fault ≡ BuildFault.RingSize) ↔ ((ring ≡ 0) ⊎ (MAX_RING < ring))) }
 {
     let (end, take) = ring_pair(alloc, ring)?;
     let send = Sender { end, closed: false };

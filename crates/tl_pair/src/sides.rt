@@ -1,6 +1,7 @@
 //! Both sides of the bridge: how they are made, and where they meet.
 ghost use Rattle.std.specs.Prelude.{◌≡◌, ◌≤◌, ◌<◌, ◌↔◌, ◌⊎◌, [], length, IsOk, IfOk, IfErr};
 ghost use Rattle.tl_lanes.specs.Lanes.{IsWidth};
+ghost use Rattle.tl_ring.specs.declared.pipe.TheConstants.{MAX_RING};
 ghost use Rattle.tl_ring.specs.Ends.{Met};
 ghost use Rattle.tl_pair.specs.Ends.{AreStanding};
 ghost use Rattle.tl_pair.specs.Sides.{ClientPast, ManagerPast, ClientStandsFor, ManagerStandsFor, AreSides, IsNewClient, IsNewManager, SidesMeet, new_client, new_manager};
@@ -28,9 +29,9 @@ pub fn bridge<const C: usize, const M: usize, A: Allocator + Copy>(
     // a new side knows all of its rings as free, and has nothing in its inboxes
     ensures client_knows { IfOk result (λ sides. IsNewClient ring sides.0) }
     ensures manager_knows { IfOk result (λ sides. IsNewManager ring sides.1) }
-    ensures size { IsOk result → (1 ≤ ring) × (ring ≤ 4096) }
+    ensures size { IsOk result → (1 ≤ ring) × (ring ≤ MAX_RING) }
     ensures ring_size { IfErr result (λ fault.
-        (fault ≡ BuildFault.RingSize) ↔ ((ring ≡ 0) ⊎ (4096 < ring))) }
+        (fault ≡ BuildFault.RingSize) ↔ ((ring ≡ 0) ⊎ (MAX_RING < ring))) }
 {
     let (a, a_take) = open_pair::<ChA, C, M, A>(alloc, ring)?;
     let (b, b_take) = open_pair::<ChB, M, C, A>(alloc, ring)?;

@@ -1,10 +1,11 @@
 -- Each call of a bridge takes it to what it stands for after the same events.
-use Rattle.std.proofs.Common.{◌≡◌, ◌↔◌, ℕ, zero, suc, Bool, true, false, cond, Option, None, Some, List, [], ◌∷◌, ◌++◌, map, length, take, drop, refl, sym, ap, subst, ◌∙◌, append-nil, append_assoc}
-use Rattle.std.specs.Prelude.{◌==◌, Result, Ok, Err, OnOk, OnErr, IsOk, IsErr, slice_get}
+use Rattle.std.proofs.Common.{◌≡◌, ◌≤◌, ◌+◌, ◌↔◌, ℕ, zero, suc, Bool, true, false, cond, Option, None, Some, List, [], ◌∷◌, ◌++◌, map, length, take, drop, refl, sym, ap, subst, ◌∙◌, append-nil, append_assoc}
+use Rattle.std.specs.Prelude.{◌==◌, Result, Ok, Err, IsOk, IsErr, slice_get}
 use Rattle.tl_msg.specs.Rules.{Rules}
 use Rattle.tl_msg.specs.Firsts.{unless, ◌or_else◌}
 use Rattle.tl_msg.specs.Faults.{mask_fits, is_clean, IsLawfulBeat}
 use Rattle.tl_msg.specs.Tables.{rules_a, rules_b, rules_c, rules_d, rules_e}
+use Rattle.tl_msg.specs.declared.fault.SideFault.{SideFault}
 use Rattle.tl_msg.specs.declared.fault.BeatFault.TheVariants.{Mask, Corrupt}
 use Rattle.tl_msg.proofs.Firsts.{first_none}
 use Rattle.tl_msg.specs.declared.head.HeadA.{HeadA}
@@ -16,17 +17,20 @@ use Rattle.tl_msg.specs.declared.beat.BeatOf.{BeatOf}
 use Rattle.tl_burst.specs.Begun.{left}
 use Rattle.tl_burst.specs.Handing.{rest_of, with_home}
 use Rattle.tl_convert.specs.Due.{due}
-use Rattle.tl_ring.specs.Crossing.{World, offered}
+use Rattle.tl_ring.specs.Crossing.{World, offered, pushed, popped}
+use Rattle.tl_ring.specs.declared.queue.TheConstants.{ROOM}
 use Rattle.tl_ring.specs.Pipe.{Pipe}
 use Rattle.tl_ring.specs.Pipe as piping
-use Rattle.tl_settle.specs.Histories.{Event, Ask, Answer, Mark, Asks, Answers, asked, answered, marks, home_after, homes_from, manager_home, manager_homes}
-use Rattle.tl_sides.specs.Books.{Client, Manager, KnowsManager}
+use Rattle.tl_settle.specs.Histories.{Event, Ask, Answer, Mark, Asks, Answers, asked, answered, marks, home_after, homes_from, manager_home, manager_homes, client_answer, manager_answer}
+use Rattle.tl_sides.specs.Books.{Client, Manager, KnowsClient, KnowsManager}
 use Rattle.tl_sides.specs.Inner.Noting.{begun_with}
 use Rattle.tl_sides.specs.Crossings.{ClientAsks, ManagerIsAsked, ManagerAnswers, ClientIsAnswered}
-use Rattle.tl_sides.specs.Bridges.{Bridge, Past, StandsFor}
+use Rattle.tl_sides.specs.Bridges.{Bridge, Past, StandsFor, pump_count, fetch_count, all_pumped, all_fetched, after_offer_a, after_offer_d, after_pump, after_fetch}
+use Rattle.tl_sides.proofs.Sums.{sum_most}
+use Rattle.tl_sides.proofs.Places.{Place, Offers, OffersOfTwo, offers, both}
 use Rattle.tl_convert.proofs.Comparisons.{equal_true, not_equal}
 use Rattle.tl_settle.proofs.Homes.{from_ask, from_answer}
-use Rattle.tl_settle.proofs.Marks.{asked_ask, answered_answer, marks_ask_first, marks_ask_inside, marks_answer_first, marks_answer_inside}
+use Rattle.tl_settle.proofs.Marks.{asked_ask, asked_answer, answered_ask, answered_answer, marks_ask_first, marks_ask_inside, marks_answer_first, marks_answer_inside}
 
 -- the messages of a history with one event more
 pub marks_ask : {w : ℕ} (es : List (Event w)) (b : BeatOf HeadA w) →
@@ -163,188 +167,110 @@ module _ {C M : ℕ} (s : Bridge C M) (x : Past C M) (h : StandsFor s x) where
   pub client_is_answered : ClientIsAnswered s.client s.d x.client x.d
   client_is_answered = record { knows = h.client; stands = h.d; same = h.client_answered }
 
-  -- what happens between the ends of a crossing, or closes it
-  pub with_a : (p : Pipe HeadA M) (y : World HeadA C M) → piping.StandsFor rules_a p y → y.accepted ≡ x.a.accepted → y.taken ≡ x.a.taken →
-      StandsFor (record s { a = p }) (record x { a = y })
-  with_a p y k accepted taken = record {
-    a = k;
-    b = h.b;
-    c = h.c;
-    d = h.d;
-    e = h.e;
-    client_asked = h.client_asked ∙ sym accepted;
-    client_answered = h.client_answered;
-    manager_asked = h.manager_asked ∙ sym taken;
-    manager_answered = h.manager_answered;
-    homes = h.homes;
+  -- the crossings go on, and what was accepted and taken of A and D, and the homes, stay
+  pub go_on : (a : Pipe HeadA M) (b : Pipe HeadB C) (c : Pipe HeadC M) (d : Pipe HeadD C) (e : Pipe HeadE M)
+      (xa : World HeadA C M) (xb : World HeadB M C) (xc : World HeadC C M) (xd : World HeadD M C) (xe : World HeadE C M) →
+      piping.StandsFor rules_a a xa → piping.StandsFor rules_b b xb → piping.StandsFor rules_c c xc → piping.StandsFor rules_d d xd →
+      piping.StandsFor rules_e e xe → (xa.accepted ≡ x.a.accepted) × (xa.taken ≡ x.a.taken) →
+      (xd.accepted ≡ x.d.accepted) × (xd.taken ≡ x.d.taken) × (xd.homes ≡ x.d.homes) →
+      StandsFor (record s { a = a; b = b; c = c; d = d; e = e }) (record x { a = xa; b = xb; c = xc; d = xd; e = xe })
+  go_on a b c d e xa xb xc xd xe ka kb kc kd ke same_a same_d = record {
+    a = ka;
+    b = kb;
+    c = kc;
+    d = kd;
+    e = ke;
+    client_asked = h.client_asked ∙ sym same_a.0;
+    client_answered = h.client_answered ∙ sym same_d.1;
+    manager_asked = h.manager_asked ∙ sym same_a.1;
+    manager_answered = h.manager_answered ∙ sym same_d.0;
+    homes = h.homes ∙ sym same_d.2;
     client = h.client;
     manager = h.manager;
   }
+
+  -- what happens between the ends of one crossing, or closes it
+  pub with_a : (p : Pipe HeadA M) (y : World HeadA C M) → piping.StandsFor rules_a p y → (y.accepted ≡ x.a.accepted) × (y.taken ≡ x.a.taken) →
+      StandsFor (record s { a = p }) (record x { a = y })
+  with_a p y k same = go_on p s.b s.c s.d s.e y x.b x.c x.d x.e k h.b h.c h.d h.e same (refl, refl, refl)
 
   pub with_b : (p : Pipe HeadB C) (y : World HeadB M C) → piping.StandsFor rules_b p y → StandsFor (record s { b = p }) (record x { b = y })
-  with_b p y k = record {
-    a = h.a;
-    b = k;
-    c = h.c;
-    d = h.d;
-    e = h.e;
-    client_asked = h.client_asked;
-    client_answered = h.client_answered;
-    manager_asked = h.manager_asked;
-    manager_answered = h.manager_answered;
-    homes = h.homes;
-    client = h.client;
-    manager = h.manager;
-  }
+  with_b p y k = go_on s.a p s.c s.d s.e x.a y x.c x.d x.e h.a k h.c h.d h.e (refl, refl) (refl, refl, refl)
 
   pub with_c : (p : Pipe HeadC M) (y : World HeadC C M) → piping.StandsFor rules_c p y → StandsFor (record s { c = p }) (record x { c = y })
-  with_c p y k = record {
-    a = h.a;
-    b = h.b;
-    c = k;
-    d = h.d;
-    e = h.e;
-    client_asked = h.client_asked;
-    client_answered = h.client_answered;
-    manager_asked = h.manager_asked;
-    manager_answered = h.manager_answered;
-    homes = h.homes;
-    client = h.client;
-    manager = h.manager;
-  }
+  with_c p y k = go_on s.a s.b p s.d s.e x.a x.b y x.d x.e h.a h.b k h.d h.e (refl, refl) (refl, refl, refl)
 
-  pub with_d : (p : Pipe HeadD C) (y : World HeadD M C) → piping.StandsFor rules_d p y → y.accepted ≡ x.d.accepted → y.taken ≡ x.d.taken →
-      y.homes ≡ x.d.homes → StandsFor (record s { d = p }) (record x { d = y })
-  with_d p y k accepted taken homes = record {
-    a = h.a;
-    b = h.b;
-    c = h.c;
-    d = k;
-    e = h.e;
-    client_asked = h.client_asked;
-    client_answered = h.client_answered ∙ sym taken;
-    manager_asked = h.manager_asked;
-    manager_answered = h.manager_answered ∙ sym accepted;
-    homes = h.homes ∙ sym homes;
-    client = h.client;
-    manager = h.manager;
-  }
+  pub with_d : (p : Pipe HeadD C) (y : World HeadD M C) → piping.StandsFor rules_d p y →
+      (y.accepted ≡ x.d.accepted) × (y.taken ≡ x.d.taken) × (y.homes ≡ x.d.homes) → StandsFor (record s { d = p }) (record x { d = y })
+  with_d p y k same = go_on s.a s.b s.c p s.e x.a x.b x.c y x.e h.a h.b h.c k h.e (refl, refl) same
 
   pub with_e : (p : Pipe HeadE M) (y : World HeadE C M) → piping.StandsFor rules_e p y → StandsFor (record s { e = p }) (record x { e = y })
-  with_e p y k = record {
-    a = h.a;
+  with_e p y k = go_on s.a s.b s.c s.d p x.a x.b x.c x.d y h.a h.b h.c h.d k (refl, refl) (refl, refl, refl)
+
+  -- the client's side goes on, on A and D
+  pub client_goes_on : (a : Pipe HeadA M) (d : Pipe HeadD C) (book : Client) (es : List (Event C)) (xa : World HeadA C M) (xd : World HeadD M C) →
+      piping.StandsFor rules_a a xa → piping.StandsFor rules_d d xd → asked es ≡ xa.accepted → answered es ≡ xd.taken → KnowsClient book es →
+      xa.taken ≡ x.a.taken → (xd.accepted ≡ x.d.accepted) × (xd.homes ≡ x.d.homes) →
+      StandsFor (record s { a = a; d = d; client = book }) (record x { client = es; a = xa; d = xd })
+  client_goes_on a d book es xa xd ka kd asks answers knows taken same = record {
+    a = ka;
     b = h.b;
     c = h.c;
-    d = h.d;
-    e = k;
-    client_asked = h.client_asked;
-    client_answered = h.client_answered;
-    manager_asked = h.manager_asked;
-    manager_answered = h.manager_answered;
-    homes = h.homes;
-    client = h.client;
+    d = kd;
+    e = h.e;
+    client_asked = asks;
+    client_answered = answers;
+    manager_asked = h.manager_asked ∙ sym taken;
+    manager_answered = h.manager_answered ∙ sym same.0;
+    homes = h.homes ∙ sym same.1;
+    client = knows;
     manager = h.manager;
+  }
+
+  -- and the manager's side
+  pub manager_goes_on : (a : Pipe HeadA M) (d : Pipe HeadD C) (book : Manager) (es : List (Event M)) (xa : World HeadA C M) (xd : World HeadD M C) →
+      piping.StandsFor rules_a a xa → piping.StandsFor rules_d d xd → asked es ≡ xa.taken → answered es ≡ xd.accepted →
+      manager_homes es ≡ xd.homes → KnowsManager book es → xa.accepted ≡ x.a.accepted → xd.taken ≡ x.d.taken →
+      StandsFor (record s { a = a; d = d; manager = book }) (record x { manager = es; a = xa; d = xd })
+  manager_goes_on a d book es xa xd ka kd asks answers homes knows accepted taken = record {
+    a = ka;
+    b = h.b;
+    c = h.c;
+    d = kd;
+    e = h.e;
+    client_asked = h.client_asked ∙ sym accepted;
+    client_answered = h.client_answered ∙ sym taken;
+    manager_asked = asks;
+    manager_answered = answers;
+    homes = homes;
+    client = h.client;
+    manager = knows;
   }
 
   -- the client's side offers on A, where its history gets so many requests more
   pub asks_on : (p : Pipe HeadA M) (book : Client) (bs : List (BeatOf HeadA C)) (y : World HeadA C M) → y.taken ≡ x.a.taken →
       ClientAsks book p (x.client ++ map Ask bs) y → StandsFor (record s { a = p; client = book }) (record x { client = x.client ++ map Ask bs; a = y })
-  asks_on p book bs y taken k = record {
-    a = k.stands;
-    b = h.b;
-    c = h.c;
-    d = h.d;
-    e = h.e;
-    client_asked = k.same;
-    client_answered = answered_asks x.client bs ∙ h.client_answered;
-    manager_asked = h.manager_asked ∙ sym taken;
-    manager_answered = h.manager_answered;
-    homes = h.homes;
-    client = k.knows;
-    manager = h.manager;
-  }
+  asks_on p book bs y taken k =
+      client_goes_on p s.d book (x.client ++ map Ask bs) y x.d k.stands h.d k.same (answered_asks x.client bs ∙ h.client_answered) k.knows taken (refl, refl)
 
   -- the manager's side offers on D
   pub answers_on : (p : Pipe HeadD C) (book : Manager) (bs : List (BeatOf HeadD M)) (y : World HeadD M C) → y.taken ≡ x.d.taken →
       ManagerAnswers book p (x.manager ++ map Answer bs) y → StandsFor (record s { d = p; manager = book }) (record x { manager = x.manager ++ map Answer bs; d = y })
-  answers_on p book bs y taken k = record {
-    a = h.a;
-    b = h.b;
-    c = h.c;
-    d = k.stands;
-    e = h.e;
-    client_asked = h.client_asked;
-    client_answered = h.client_answered ∙ sym taken;
-    manager_asked = asked_answers x.manager bs ∙ h.manager_asked;
-    manager_answered = k.same;
-    homes = k.homes;
-    client = h.client;
-    manager = k.knows;
-  }
+  answers_on p book bs y taken k =
+      manager_goes_on s.a p book (x.manager ++ map Answer bs) x.a y h.a k.stands (asked_answers x.manager bs ∙ h.manager_asked) k.same k.homes k.knows refl taken
 
   -- the manager's side takes on A
   pub asked_on : (p : Pipe HeadA M) (book : Manager) (bs : List (BeatOf HeadA M)) (y : World HeadA C M) → y.accepted ≡ x.a.accepted →
       ManagerIsAsked book p (x.manager ++ map Ask bs) y → StandsFor (record s { a = p; manager = book }) (record x { manager = x.manager ++ map Ask bs; a = y })
-  asked_on p book bs y accepted k = record {
-    a = k.stands;
-    b = h.b;
-    c = h.c;
-    d = h.d;
-    e = h.e;
-    client_asked = h.client_asked ∙ sym accepted;
-    client_answered = h.client_answered;
-    manager_asked = k.same;
-    manager_answered = answered_asks x.manager bs ∙ h.manager_answered;
-    homes = homes_asks x.manager bs ∙ h.homes;
-    client = h.client;
-    manager = k.knows;
-  }
+  asked_on p book bs y accepted k =
+      manager_goes_on p s.d book (x.manager ++ map Ask bs) y x.d k.stands h.d k.same (answered_asks x.manager bs ∙ h.manager_answered)
+      (homes_asks x.manager bs ∙ h.homes) k.knows accepted refl
 
   -- the client's side takes on D
   pub answered_on : (p : Pipe HeadD C) (book : Client) (bs : List (BeatOf HeadD C)) (y : World HeadD M C) → y.accepted ≡ x.d.accepted → y.homes ≡ x.d.homes →
       ClientIsAnswered book p (x.client ++ map Answer bs) y → StandsFor (record s { d = p; client = book }) (record x { client = x.client ++ map Answer bs; d = y })
-  answered_on p book bs y accepted homes k = record {
-    a = h.a;
-    b = h.b;
-    c = h.c;
-    d = k.stands;
-    e = h.e;
-    client_asked = asked_answers x.client bs ∙ h.client_asked;
-    client_answered = k.same;
-    manager_asked = h.manager_asked;
-    manager_answered = h.manager_answered ∙ sym accepted;
-    homes = h.homes ∙ sym homes;
-    client = k.knows;
-    manager = h.manager;
-  }
-
--- a refusal that changes none of the parts changes nothing
-module _ {C M : ℕ} (s : Bridge C M) where
-  pub same_a : (p : Pipe HeadA M) → p ≡ s.a → record s { a = p } ≡ s
-  same_a p e = ap (λ q. record s { a = q }) e
-
-  pub same_b : (p : Pipe HeadB C) → p ≡ s.b → record s { b = p } ≡ s
-  same_b p e = ap (λ q. record s { b = q }) e
-
-  pub same_c : (p : Pipe HeadC M) → p ≡ s.c → record s { c = p } ≡ s
-  same_c p e = ap (λ q. record s { c = q }) e
-
-  pub same_d : (p : Pipe HeadD C) → p ≡ s.d → record s { d = p } ≡ s
-  same_d p e = ap (λ q. record s { d = q }) e
-
-  pub same_e : (p : Pipe HeadE M) → p ≡ s.e → record s { e = p } ≡ s
-  same_e p e = ap (λ q. record s { e = q }) e
-
-  pub same_request : (p : Pipe HeadA M) (book : Client) → (book ≡ s.client) × (p ≡ s.a) → record s { a = p; client = book } ≡ s
-  same_request p book e = ap (λ q. record s { a = q; client = book }) e.1 ∙ ap (λ q. record s { client = q }) e.0
-
-  pub same_response : (p : Pipe HeadD C) (book : Manager) → (book ≡ s.manager) × (p ≡ s.d) → record s { d = p; manager = book } ≡ s
-  same_response p book e = ap (λ q. record s { d = q; manager = book }) e.1 ∙ ap (λ q. record s { manager = q }) e.0
-
--- what an Ok shows, from what it has shown
-pub on_ok_to : {T E P Q : Type 0} (r : Result T E) → (P → Q) → OnOk r P → OnOk r Q
-on_ok_to (Ok v) f p = f p
-on_ok_to (Err e) f p = tt
+  answered_on p book bs y accepted homes k =
+      client_goes_on s.a p book (x.client ++ map Answer bs) x.a y h.a k.stands (asked_answers x.client bs ∙ h.client_asked) k.same k.knows refl (accepted, homes)
 
 -- the head of a lawful beat has no fault
 pub lawful_head : {H : Type 0} (r : Rules H) {w : ℕ} (b : BeatOf H w) → IsLawfulBeat r b → r.fault b.head ≡ None
@@ -366,6 +292,159 @@ err_not_ok (Err y) e o = cc
 pub none_not_some : {A : Type 0} {o : Option A} {x : A} → o ≡ Some x → o ≡ None → ⊥
 none_not_some e f = cc
 
-pub on_err_to : {T E P Q : Type 0} (r : Result T E) → (P → Q) → OnErr r P → OnErr r Q
-on_err_to (Ok v) f p = tt
-on_err_to (Err e) f p = f p
+-- the places of the crossings in a bridge: one goes on whose beats, taken and accepted, are in no history, or stay
+abbrev pub Crossing : (C M : ℕ) {H : Type 0} (r : Rules H) (w v : ℕ) → (World H w v → World H w v → Type 0) → Type 0
+Crossing C M r w v Keeps = Place (StandsFor {C = C} {M = M}) (piping.StandsFor r {w = w} {v = v}) Keeps
+
+module _ {C M : ℕ} where
+  abbrev pub at_a : Crossing C M rules_a C M (λ x y. (y.accepted ≡ x.accepted) × (y.taken ≡ x.taken))
+  at_a = record {
+    part = λ s. s.a;
+    put = λ s p. record s { a = p };
+    back = λ s. refl;
+    seen = λ x. x.a;
+    after = λ x y. record x { a = y };
+    stands = λ s x h. h.a;
+    moves = λ s x h. with_a s x h;
+  }
+
+  abbrev pub at_b : Crossing C M rules_b M C (λ x y. Unit)
+  at_b = record {
+    part = λ s. s.b;
+    put = λ s p. record s { b = p };
+    back = λ s. refl;
+    seen = λ x. x.b;
+    after = λ x y. record x { b = y };
+    stands = λ s x h. h.b;
+    moves = λ s x h p y k free. with_b s x h p y k;
+  }
+
+  abbrev pub at_c : Crossing C M rules_c C M (λ x y. Unit)
+  at_c = record {
+    part = λ s. s.c;
+    put = λ s p. record s { c = p };
+    back = λ s. refl;
+    seen = λ x. x.c;
+    after = λ x y. record x { c = y };
+    stands = λ s x h. h.c;
+    moves = λ s x h p y k free. with_c s x h p y k;
+  }
+
+  abbrev pub at_d : Crossing C M rules_d M C (λ x y. (y.accepted ≡ x.accepted) × (y.taken ≡ x.taken) × (y.homes ≡ x.homes))
+  at_d = record {
+    part = λ s. s.d;
+    put = λ s p. record s { d = p };
+    back = λ s. refl;
+    seen = λ x. x.d;
+    after = λ x y. record x { d = y };
+    stands = λ s x h. h.d;
+    moves = λ s x h. with_d s x h;
+  }
+
+  abbrev pub at_e : Crossing C M rules_e C M (λ x y. Unit)
+  at_e = record {
+    part = λ s. s.e;
+    put = λ s p. record s { e = p };
+    back = λ s. refl;
+    seen = λ x. x.e;
+    after = λ x y. record x { e = y };
+    stands = λ s x h. h.e;
+    moves = λ s x h p y k free. with_e s x h p y k;
+  }
+
+  -- and of the ends of A and D at which a side offers, with its book
+  abbrev at_requests : Place {S = Bridge C M} {X = Past C M} {P = Client × Pipe HeadA M} {W = List (Event C) × World HeadA C M} StandsFor
+      (λ p y. ClientAsks p.0 p.1 y.0 y.1) (λ x y. (answered y.0 ≡ answered x.0) × (y.1.taken ≡ x.1.taken))
+  at_requests = record {
+    part = λ s. (s.client, s.a);
+    put = λ s p. record s { client = p.0; a = p.1 };
+    back = λ s. refl;
+    seen = λ x. (x.client, x.a);
+    after = λ x y. record x { client = y.0; a = y.1 };
+    stands = λ s x h. client_asks s x h;
+    moves = λ s x h p y k same. client_goes_on s x h p.1 s.d p.0 y.0 y.1 x.d k.stands h.d k.same (same.0 ∙ h.client_answered) k.knows same.1 (refl, refl);
+  }
+
+  abbrev at_responses : Place {S = Bridge C M} {X = Past C M} {P = Manager × Pipe HeadD C} {W = List (Event M) × World HeadD M C} StandsFor
+      (λ p y. ManagerAnswers p.0 p.1 y.0 y.1) (λ x y. (asked y.0 ≡ asked x.0) × (y.1.taken ≡ x.1.taken))
+  at_responses = record {
+    part = λ s. (s.manager, s.d);
+    put = λ s p. record s { manager = p.0; d = p.1 };
+    back = λ s. refl;
+    seen = λ x. (x.manager, x.d);
+    after = λ x y. record x { manager = y.0; d = y.1 };
+    stands = λ s x h. manager_answers s x h;
+    moves = λ s x h p y k same. manager_goes_on s x h s.a p.1 p.0 y.0 x.a y.1 h.a k.stands (same.0 ∙ h.manager_asked) k.same k.homes k.knows refl same.1;
+  }
+
+  -- a request is offered
+  pub offers_request : (b : BeatOf HeadA C) {inside s : Bridge C M} → inside ≡ s → (book : Client) (p : Pipe HeadA M) (r : Result Unit SideFault) →
+      OffersOfTwo ClientAsks (λ es y. client_answer es b) (λ es. es ++ Ask b ∷ []) (λ es y. offered rules_a b 0 y) inside.client book inside.a p r →
+      Offers StandsFor (λ x. client_answer x.client b) (λ x. after_offer_a b x) s (record inside { client = book; a = p }) r
+  offers_request b {inside} view book p r e =
+      offers at_requests (λ y. client_answer y.0 b) (λ y. (y.0 ++ Ask b ∷ [], offered rules_a b 0 y.1)) (λ y. (answered_ask y.0 b, refl)) view (book, p) r
+      (both ClientAsks (λ es y. client_answer es b) (λ es. es ++ Ask b ∷ []) (λ es y. offered rules_a b 0 y) inside.client book inside.a p r e)
+
+  -- and a response
+  pub offers_response : (b : BeatOf HeadD M) {inside s : Bridge C M} → inside ≡ s → (book : Manager) (p : Pipe HeadD C) (r : Result Unit SideFault) →
+      OffersOfTwo ManagerAnswers (λ es y. manager_answer es b) (λ es. es ++ Answer b ∷ []) (λ es y. offered rules_d b (manager_home es b.head) y)
+      inside.manager book inside.d p r →
+      Offers StandsFor (λ x. manager_answer x.manager b) (λ x. after_offer_d b x) s (record inside { manager = book; d = p }) r
+  offers_response b {inside} view book p r e =
+      offers at_responses (λ y. manager_answer y.0 b) (λ y. (y.0 ++ Answer b ∷ [], offered rules_d b (manager_home y.0 b.head) y.1))
+      (λ y. (asked_answer y.0 b, refl)) view (book, p) r
+      (both ManagerAnswers (λ es y. manager_answer es b) (λ es. es ++ Answer b ∷ []) (λ es y. offered rules_d b (manager_home es b.head) y)
+      inside.manager book inside.d p r e)
+
+-- what a pump of a crossing says, or a fetch, which moves n of its beats by `step`
+abbrev pub Moves : {H : Type 0} (r : Rules H) (w : ℕ) {v : ℕ} (p p' : Pipe H v) (result n : ℕ) (step : ℕ → World H w v → World H w v) → Type 0
+Moves {H} r w {v} p p' result n step = record {
+  count : result ≡ n;
+  moved : (x : World H w v) → piping.StandsFor r p x → piping.StandsFor r p' (step result x);
+  most : result ≤ ROOM;
+}
+
+moved_by : {H : Type 0} (r : Rules H) (w : ℕ) {v : ℕ} (p p' : Pipe H v) (result n : ℕ) (step : ℕ → World H w v → World H w v) →
+    Moves r w p p' result n step → (x : World H w v) → piping.StandsFor r p x → piping.StandsFor r p' (step n x)
+moved_by r w p p' result n step e x h = subst (λ k. piping.StandsFor r p' (step k x)) e.count (e.moved x h)
+
+module _ {C M : ℕ} where
+  -- and what one of all five says
+  abbrev pub AllMove : (s s' : Bridge C M) (result total : ℕ) (next : Past C M → Past C M) → Type 0
+  AllMove s s' result total next = record {
+    count : result ≡ total;
+    moved : (x : Past C M) → StandsFor s x → StandsFor s' (next x);
+    most : result ≤ 320;
+  }
+
+  pub all_pushed : {inside s : Bridge C M} → inside ≡ s → (a : Pipe HeadA M) (b : Pipe HeadB C) (c : Pipe HeadC M) (d : Pipe HeadD C) (e : Pipe HeadE M)
+      (i j k l m : ℕ) → Moves rules_a C inside.a a i (pump_count inside.a) pushed → Moves rules_b M inside.b b j (pump_count inside.b) pushed →
+      Moves rules_c C inside.c c k (pump_count inside.c) pushed → Moves rules_d M inside.d d l (pump_count inside.d) pushed →
+      Moves rules_e C inside.e e m (pump_count inside.e) pushed →
+      AllMove s (record inside { a = a; b = b; c = c; d = d; e = e }) (i + j + k + l + m) (all_pumped s) (after_pump s)
+  all_pushed {inside} view a b c d e i j k l m on_a on_b on_c on_d on_e =
+      subst (λ s. AllMove s (record inside { a = a; b = b; c = c; d = d; e = e }) (i + j + k + l + m) (all_pumped s) (after_pump s)) view (record {
+        count = λ t. on_a.count t + on_b.count t + on_c.count t + on_d.count t + on_e.count t;
+        moved = λ x h. go_on inside x h a b c d e (pushed (pump_count inside.a) x.a) (pushed (pump_count inside.b) x.b) (pushed (pump_count inside.c) x.c)
+            (pushed (pump_count inside.d) x.d) (pushed (pump_count inside.e) x.e) (moved_by rules_a C inside.a a i (pump_count inside.a) pushed on_a x.a h.a)
+            (moved_by rules_b M inside.b b j (pump_count inside.b) pushed on_b x.b h.b) (moved_by rules_c C inside.c c k (pump_count inside.c) pushed on_c x.c h.c)
+            (moved_by rules_d M inside.d d l (pump_count inside.d) pushed on_d x.d h.d) (moved_by rules_e C inside.e e m (pump_count inside.e) pushed on_e x.e h.e)
+            (refl, refl) (refl, refl, refl);
+        most = sum_most i j k l m on_a.most on_b.most on_c.most on_d.most on_e.most;
+      })
+
+  pub all_popped : {inside s : Bridge C M} → inside ≡ s → (a : Pipe HeadA M) (b : Pipe HeadB C) (c : Pipe HeadC M) (d : Pipe HeadD C) (e : Pipe HeadE M)
+      (i j k l m : ℕ) → Moves rules_a C inside.a a i (fetch_count inside.a) popped → Moves rules_b M inside.b b j (fetch_count inside.b) popped →
+      Moves rules_c C inside.c c k (fetch_count inside.c) popped → Moves rules_d M inside.d d l (fetch_count inside.d) popped →
+      Moves rules_e C inside.e e m (fetch_count inside.e) popped →
+      AllMove s (record inside { a = a; b = b; c = c; d = d; e = e }) (i + j + k + l + m) (all_fetched s) (after_fetch s)
+  all_popped {inside} view a b c d e i j k l m on_a on_b on_c on_d on_e =
+      subst (λ s. AllMove s (record inside { a = a; b = b; c = c; d = d; e = e }) (i + j + k + l + m) (all_fetched s) (after_fetch s)) view (record {
+        count = λ t. on_a.count t + on_b.count t + on_c.count t + on_d.count t + on_e.count t;
+        moved = λ x h. go_on inside x h a b c d e (popped (fetch_count inside.a) x.a) (popped (fetch_count inside.b) x.b) (popped (fetch_count inside.c) x.c)
+            (popped (fetch_count inside.d) x.d) (popped (fetch_count inside.e) x.e) (moved_by rules_a C inside.a a i (fetch_count inside.a) popped on_a x.a h.a)
+            (moved_by rules_b M inside.b b j (fetch_count inside.b) popped on_b x.b h.b) (moved_by rules_c C inside.c c k (fetch_count inside.c) popped on_c x.c h.c)
+            (moved_by rules_d M inside.d d l (fetch_count inside.d) popped on_d x.d h.d) (moved_by rules_e C inside.e e m (fetch_count inside.e) popped on_e x.e h.e)
+            (refl, refl) (refl, refl, refl);
+        most = sum_most i j k l m on_a.most on_b.most on_c.most on_d.most on_e.most;
+      })

@@ -1,7 +1,9 @@
 pub mod Entries
 pub mod Between
 pub mod Answering
+pub mod Places
 pub mod BridgeSteps
 mod Kept
 mod Sums
 pub mod BridgeSize
+mod BridgeLayout

@@ -5,6 +5,9 @@ ghost use Rattle.tl_sides.specs.Tables.{is_busy, entry};
 
 use std::marker::Model;
 
+/// How many sources there are: a source is a number of 8 bits (this project's choice).
+const SOURCES: usize = 256;
+
 /// A request that waits for its response (TileLink: source and size of responses).
 #[derive(Clone, Copy, PartialEq, Eq, Debug)]
 pub struct Request {
@@ -18,7 +21,7 @@ pub struct Request {
 /// yet. In a contract it is a list that says of each source whether it is busy.
 #[derive(Drop)]
 pub struct SourceTable {
-    busy: [bool; 256],
+    busy: [bool; SOURCES],
 }
 
 impl Model for SourceTable {
@@ -35,7 +38,9 @@ impl SourceTable {
     pub fn new() -> Self
         ensures { (s : ℕ) → is_busy result s ≡ false }
     {
-        SourceTable { busy: [false; 256] }
+        SourceTable {
+            busy: [false; SOURCES],
+        }
     }
 
     /// Whether a source is busy.
@@ -65,7 +70,7 @@ impl SourceTable {
 /// request of each source, or None.
 #[derive(Drop)]
 pub struct RequestTable {
-    entries: [Option<Request>; 256],
+    entries: [Option<Request>; SOURCES],
 }
 
 impl Model for RequestTable {
@@ -83,7 +88,7 @@ impl RequestTable {
         ensures { (s : ℕ) → entry result s ≡ None }
     {
         RequestTable {
-            entries: [None; 256],
+            entries: [None; SOURCES],
         }
     }
 

@@ -2,7 +2,7 @@ use Rattle.std.proofs.Common.{refl, rules, arith, lit<}
 use Rattle.std.proofs.lemmas.Result.{err_from_is_err_and}
 use denote.Param.{layout, param, number}
 use Rattle.tl_ring.proofs.FieldSizes.{part_small, beat_small}
-use Rattle.tl_sides.proofs.BridgeSteps.{err_not_ok}
+use Rattle.tl_sides.proofs.Places.{not_made, not_ok, refused_by}
 use Rattle.tl_pair.specs.contracts.client_side.ClientSide as client
 use Rattle.tl_pair.specs.contracts.manager_side.ManagerSide as manager
 use Rattle.tl_pair.proofs.sides.bridge.Goals as goal
@@ -13,26 +13,18 @@ open_pair-requires g c =
     let known = c.requires-raw in
     (let c = known in search (part_small (layout (client.the_row (param 0 (number g.row.C)) (param 1 (number g.row.M)) (param 2 g.row.A) g.A.Allocator)) 0 9223372036854775808), (let c = known in search (part_small (layout (manager.the_row (param 0 (number g.row.C)) (param 1 (number g.row.M)) (param 2 g.row.A) g.A.Allocator)) 0 9223372036854775808), (c.requires.client, c.requires.manager)))
 
-pub returns-in_err-a-clause-pair : goal.returns-in_err-a-clause-pair
-returns-in_err-a-clause-pair g c = let p = err_from_is_err_and c.from_residual.result c.from_residual.ensures.1 in rw p.1 tt
-
-pub returns-in_err-a-clause-client : goal.returns-in_err-a-clause-client
-returns-in_err-a-clause-client g c = let p = err_from_is_err_and c.from_residual.result c.from_residual.ensures.1 in rw p.1 tt
-
-pub returns-in_err-a-clause-manager : goal.returns-in_err-a-clause-manager
-returns-in_err-a-clause-manager g c = let p = err_from_is_err_and c.from_residual.result c.from_residual.ensures.1 in rw p.1 tt
-
-pub returns-in_err-a-clause-client_knows : goal.returns-in_err-a-clause-client_knows
-returns-in_err-a-clause-client_knows g c = let p = err_from_is_err_and c.from_residual.result c.from_residual.ensures.1 in rw p.1 tt
-
-pub returns-in_err-a-clause-manager_knows : goal.returns-in_err-a-clause-manager_knows
-returns-in_err-a-clause-manager_knows g c = let p = err_from_is_err_and c.from_residual.result c.from_residual.ensures.1 in rw p.1 tt
-
-pub returns-in_err-a-clause-size : goal.returns-in_err-a-clause-size
-returns-in_err-a-clause-size g c = λ ok. absurd (err_not_ok c.from_residual.result c.from_residual.ensures.0 ok)
-
-pub returns-in_err-a-clause-ring_size : goal.returns-in_err-a-clause-ring_size
-returns-in_err-a-clause-ring_size g c = let p = err_from_is_err_and c.from_residual.result c.from_residual.ensures.1 in rw (p.1, p.2) c.in_err-a.ensures.ring_size
+pub returns-in_err-a : goal.returns-in_err-a
+returns-in_err-a g c =
+    let p = err_from_is_err_and c.from_residual.result c.from_residual.ensures.1 in
+    record {
+      pair = not_made _ _ p.0 p.1;
+      client = not_made _ _ p.0 p.1;
+      manager = not_made _ _ p.0 p.1;
+      client_knows = not_made _ _ p.0 p.1;
+      manager_knows = not_made _ _ p.0 p.1;
+      size = not_ok _ p.0 p.1;
+      ring_size = refused_by _ _ p.0 _ p.1 p.2 c.in_err-a.ensures.ring_size;
+    }
 
 pub open_pair-requires-2 : goal.open_pair-requires-2
 open_pair-requires-2 g c =
@@ -49,26 +41,18 @@ drop-a-inside-requires g c κs =
     let small = beat_small 24 g.row.M (omega arith) c.requires.manager in
     let c = small in λ lives. ((lit< tt, (small, tt)), (search rules, (lives, search rules)))
 
-pub returns-in_err-b-clause-pair : goal.returns-in_err-b-clause-pair
-returns-in_err-b-clause-pair g c = let p = err_from_is_err_and c.from_residual-in_err-b.result c.from_residual-in_err-b.ensures.1 in rw p.1 tt
-
-pub returns-in_err-b-clause-client : goal.returns-in_err-b-clause-client
-returns-in_err-b-clause-client g c = let p = err_from_is_err_and c.from_residual-in_err-b.result c.from_residual-in_err-b.ensures.1 in rw p.1 tt
-
-pub returns-in_err-b-clause-manager : goal.returns-in_err-b-clause-manager
-returns-in_err-b-clause-manager g c = let p = err_from_is_err_and c.from_residual-in_err-b.result c.from_residual-in_err-b.ensures.1 in rw p.1 tt
-
-pub returns-in_err-b-clause-client_knows : goal.returns-in_err-b-clause-client_knows
-returns-in_err-b-clause-client_knows g c = let p = err_from_is_err_and c.from_residual-in_err-b.result c.from_residual-in_err-b.ensures.1 in rw p.1 tt
-
-pub returns-in_err-b-clause-manager_knows : goal.returns-in_err-b-clause-manager_knows
-returns-in_err-b-clause-manager_knows g c = let p = err_from_is_err_and c.from_residual-in_err-b.result c.from_residual-in_err-b.ensures.1 in rw p.1 tt
-
-pub returns-in_err-b-clause-size : goal.returns-in_err-b-clause-size
-returns-in_err-b-clause-size g c = λ ok. absurd (err_not_ok c.from_residual-in_err-b.result c.from_residual-in_err-b.ensures.0 ok)
-
-pub returns-in_err-b-clause-ring_size : goal.returns-in_err-b-clause-ring_size
-returns-in_err-b-clause-ring_size g c = let p = err_from_is_err_and c.from_residual-in_err-b.result c.from_residual-in_err-b.ensures.1 in rw (p.1, p.2) c.in_err-b.ensures.ring_size
+pub returns-in_err-b : goal.returns-in_err-b
+returns-in_err-b g c =
+    let p = err_from_is_err_and c.from_residual-in_err-b.result c.from_residual-in_err-b.ensures.1 in
+    record {
+      pair = not_made _ _ p.0 p.1;
+      client = not_made _ _ p.0 p.1;
+      manager = not_made _ _ p.0 p.1;
+      client_knows = not_made _ _ p.0 p.1;
+      manager_knows = not_made _ _ p.0 p.1;
+      size = not_ok _ p.0 p.1;
+      ring_size = refused_by _ _ p.0 _ p.1 p.2 c.in_err-b.ensures.ring_size;
+    }
 
 pub open_pair-requires-3 : goal.open_pair-requires-3
 open_pair-requires-3 g c =
@@ -95,26 +79,18 @@ drop-a-inside-requires-in_err-c g c κs =
     let small = beat_small 24 g.row.M (omega arith) c.requires.manager in
     let c = small in λ lives. ((lit< tt, (small, tt)), (search rules, (lives, search rules)))
 
-pub returns-in_err-c-clause-pair : goal.returns-in_err-c-clause-pair
-returns-in_err-c-clause-pair g c = let p = err_from_is_err_and c.from_residual-in_err-c.result c.from_residual-in_err-c.ensures.1 in rw p.1 tt
-
-pub returns-in_err-c-clause-client : goal.returns-in_err-c-clause-client
-returns-in_err-c-clause-client g c = let p = err_from_is_err_and c.from_residual-in_err-c.result c.from_residual-in_err-c.ensures.1 in rw p.1 tt
-
-pub returns-in_err-c-clause-manager : goal.returns-in_err-c-clause-manager
-returns-in_err-c-clause-manager g c = let p = err_from_is_err_and c.from_residual-in_err-c.result c.from_residual-in_err-c.ensures.1 in rw p.1 tt
-
-pub returns-in_err-c-clause-client_knows : goal.returns-in_err-c-clause-client_knows
-returns-in_err-c-clause-client_knows g c = let p = err_from_is_err_and c.from_residual-in_err-c.result c.from_residual-in_err-c.ensures.1 in rw p.1 tt
-
-pub returns-in_err-c-clause-manager_knows : goal.returns-in_err-c-clause-manager_knows
-returns-in_err-c-clause-manager_knows g c = let p = err_from_is_err_and c.from_residual-in_err-c.result c.from_residual-in_err-c.ensures.1 in rw p.1 tt
-
-pub returns-in_err-c-clause-size : goal.returns-in_err-c-clause-size
-returns-in_err-c-clause-size g c = λ ok. absurd (err_not_ok c.from_residual-in_err-c.result c.from_residual-in_err-c.ensures.0 ok)
-
-pub returns-in_err-c-clause-ring_size : goal.returns-in_err-c-clause-ring_size
-returns-in_err-c-clause-ring_size g c = let p = err_from_is_err_and c.from_residual-in_err-c.result c.from_residual-in_err-c.ensures.1 in rw (p.1, p.2) c.in_err-c.ensures.ring_size
+pub returns-in_err-c : goal.returns-in_err-c
+returns-in_err-c g c =
+    let p = err_from_is_err_and c.from_residual-in_err-c.result c.from_residual-in_err-c.ensures.1 in
+    record {
+      pair = not_made _ _ p.0 p.1;
+      client = not_made _ _ p.0 p.1;
+      manager = not_made _ _ p.0 p.1;
+      client_knows = not_made _ _ p.0 p.1;
+      manager_knows = not_made _ _ p.0 p.1;
+      size = not_ok _ p.0 p.1;
+      ring_size = refused_by _ _ p.0 _ p.1 p.2 c.in_err-c.ensures.ring_size;
+    }
 
 pub open_pair-requires-4 : goal.open_pair-requires-4
 open_pair-requires-4 g c =
@@ -151,26 +127,18 @@ drop-a-inside-requires-in_err-d g c κs =
     let small = beat_small 24 g.row.M (omega arith) c.requires.manager in
     let c = small in λ lives. ((lit< tt, (small, tt)), (search rules, (lives, search rules)))
 
-pub returns-in_err-d-clause-pair : goal.returns-in_err-d-clause-pair
-returns-in_err-d-clause-pair g c = let p = err_from_is_err_and c.from_residual-in_err-d.result c.from_residual-in_err-d.ensures.1 in rw p.1 tt
-
-pub returns-in_err-d-clause-client : goal.returns-in_err-d-clause-client
-returns-in_err-d-clause-client g c = let p = err_from_is_err_and c.from_residual-in_err-d.result c.from_residual-in_err-d.ensures.1 in rw p.1 tt
-
-pub returns-in_err-d-clause-manager : goal.returns-in_err-d-clause-manager
-returns-in_err-d-clause-manager g c = let p = err_from_is_err_and c.from_residual-in_err-d.result c.from_residual-in_err-d.ensures.1 in rw p.1 tt
-
-pub returns-in_err-d-clause-client_knows : goal.returns-in_err-d-clause-client_knows
-returns-in_err-d-clause-client_knows g c = let p = err_from_is_err_and c.from_residual-in_err-d.result c.from_residual-in_err-d.ensures.1 in rw p.1 tt
-
-pub returns-in_err-d-clause-manager_knows : goal.returns-in_err-d-clause-manager_knows
-returns-in_err-d-clause-manager_knows g c = let p = err_from_is_err_and c.from_residual-in_err-d.result c.from_residual-in_err-d.ensures.1 in rw p.1 tt
-
-pub returns-in_err-d-clause-size : goal.returns-in_err-d-clause-size
-returns-in_err-d-clause-size g c = λ ok. absurd (err_not_ok c.from_residual-in_err-d.result c.from_residual-in_err-d.ensures.0 ok)
-
-pub returns-in_err-d-clause-ring_size : goal.returns-in_err-d-clause-ring_size
-returns-in_err-d-clause-ring_size g c = let p = err_from_is_err_and c.from_residual-in_err-d.result c.from_residual-in_err-d.ensures.1 in rw (p.1, p.2) c.in_err-d.ensures.ring_size
+pub returns-in_err-d : goal.returns-in_err-d
+returns-in_err-d g c =
+    let p = err_from_is_err_and c.from_residual-in_err-d.result c.from_residual-in_err-d.ensures.1 in
+    record {
+      pair = not_made _ _ p.0 p.1;
+      client = not_made _ _ p.0 p.1;
+      manager = not_made _ _ p.0 p.1;
+      client_knows = not_made _ _ p.0 p.1;
+      manager_knows = not_made _ _ p.0 p.1;
+      size = not_ok _ p.0 p.1;
+      ring_size = refused_by _ _ p.0 _ p.1 p.2 c.in_err-d.ensures.ring_size;
+    }
 
 pub open_pair-requires-5 : goal.open_pair-requires-5
 open_pair-requires-5 g c =
@@ -217,26 +185,18 @@ drop-a-inside-requires-in_err-e g c κs =
     let small = beat_small 24 g.row.M (omega arith) c.requires.manager in
     let c = small in λ lives. ((lit< tt, (small, tt)), (search rules, (lives, search rules)))
 
-pub returns-in_err-e-clause-pair : goal.returns-in_err-e-clause-pair
-returns-in_err-e-clause-pair g c = let p = err_from_is_err_and c.from_residual-in_err-e.result c.from_residual-in_err-e.ensures.1 in rw p.1 tt
-
-pub returns-in_err-e-clause-client : goal.returns-in_err-e-clause-client
-returns-in_err-e-clause-client g c = let p = err_from_is_err_and c.from_residual-in_err-e.result c.from_residual-in_err-e.ensures.1 in rw p.1 tt
-
-pub returns-in_err-e-clause-manager : goal.returns-in_err-e-clause-manager
-returns-in_err-e-clause-manager g c = let p = err_from_is_err_and c.from_residual-in_err-e.result c.from_residual-in_err-e.ensures.1 in rw p.1 tt
-
-pub returns-in_err-e-clause-client_knows : goal.returns-in_err-e-clause-client_knows
-returns-in_err-e-clause-client_knows g c = let p = err_from_is_err_and c.from_residual-in_err-e.result c.from_residual-in_err-e.ensures.1 in rw p.1 tt
-
-pub returns-in_err-e-clause-manager_knows : goal.returns-in_err-e-clause-manager_knows
-returns-in_err-e-clause-manager_knows g c = let p = err_from_is_err_and c.from_residual-in_err-e.result c.from_residual-in_err-e.ensures.1 in rw p.1 tt
-
-pub returns-in_err-e-clause-size : goal.returns-in_err-e-clause-size
-returns-in_err-e-clause-size g c = λ ok. absurd (err_not_ok c.from_residual-in_err-e.result c.from_residual-in_err-e.ensures.0 ok)
-
-pub returns-in_err-e-clause-ring_size : goal.returns-in_err-e-clause-ring_size
-returns-in_err-e-clause-ring_size g c = let p = err_from_is_err_and c.from_residual-in_err-e.result c.from_residual-in_err-e.ensures.1 in rw (p.1, p.2) c.in_err-e.ensures.ring_size
+pub returns-in_err-e : goal.returns-in_err-e
+returns-in_err-e g c =
+    let p = err_from_is_err_and c.from_residual-in_err-e.result c.from_residual-in_err-e.ensures.1 in
+    record {
+      pair = not_made _ _ p.0 p.1;
+      client = not_made _ _ p.0 p.1;
+      manager = not_made _ _ p.0 p.1;
+      client_knows = not_made _ _ p.0 p.1;
+      manager_knows = not_made _ _ p.0 p.1;
+      size = not_ok _ p.0 p.1;
+      ring_size = refused_by _ _ p.0 _ p.1 p.2 c.in_err-e.ensures.ring_size;
+    }
 
 pub returns-clause-pair : goal.returns-clause-pair
 returns-clause-pair g c = record {

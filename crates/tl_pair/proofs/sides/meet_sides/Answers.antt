@@ -2,6 +2,7 @@ use Rattle.std.proofs.Common.{refl}
 use Rattle.tl_settle.specs.Histories.{asked, answered}
 use denote.Param.{layout, param, number}
 use Rattle.tl_ring.proofs.FieldSizes.{part_small}
+use Rattle.tl_pair.proofs.SideSteps.{client_of, manager_of}
 use Rattle.tl_pair.specs.contracts.client_side.ClientSide as client
 use Rattle.tl_pair.specs.contracts.manager_side.ManagerSide as manager
 use Rattle.tl_pair.proofs.sides.meet_sides.Goals as goal
@@ -71,34 +72,17 @@ returns-clause-books g c = rw (← c.client.view_is, ← c.manager.view_is) (ref
 
 pub returns-clause-meets : goal.returns-clause-meets
 returns-clause-meets g c = rw (← c.client.view_is, ← c.manager.view_is) (λ x y h k.
-    let at_a = c.meet.ensures.meets x.a (asked y.history) h.a k.a in
-    let at_b = c.meet-2.ensures.meets y.b x.b k.b h.b in
-    let at_c = c.meet-3.ensures.meets x.c y.c h.c k.c in
-    let at_d = c.meet-4.ensures.meets y.d (answered x.history) k.d h.d in
-    let at_e = c.meet-5.ensures.meets x.e y.e h.e k.e in
+    let on_a = c.meet.ensures.meets x.a (asked y.history) h.a k.a in
+    let on_b = c.meet-2.ensures.meets y.b x.b k.b h.b in
+    let on_c = c.meet-3.ensures.meets x.c y.c h.c k.c in
+    let on_d = c.meet-4.ensures.meets y.d (answered x.history) k.d h.d in
+    let on_e = c.meet-5.ensures.meets x.e y.e h.e k.e in
     record {
-      client = record {
-        a = at_a.sends;
-        b = at_b.takes;
-        c = at_c.sends;
-        d = at_d.takes;
-        e = at_e.sends;
-        accepted = h.accepted;
-        book = h.book;
-      };
-      manager = record {
-        a = at_a.takes;
-        b = at_b.sends;
-        c = at_c.takes;
-        d = at_d.sends;
-        e = at_e.takes;
-        accepted = k.accepted;
-        homes = k.homes;
-        book = k.book;
-      };
-      a = at_a;
-      b = at_b;
-      c = at_c;
-      d = at_d;
-      e = at_e;
+      client = client_of on_a.sends on_b.takes on_c.sends on_d.takes on_e.sends h.accepted h.book;
+      manager = manager_of on_a.takes on_b.sends on_c.takes on_d.sends on_e.takes k.accepted k.homes k.book;
+      a = on_a;
+      b = on_b;
+      c = on_c;
+      d = on_d;
+      e = on_e;
     })

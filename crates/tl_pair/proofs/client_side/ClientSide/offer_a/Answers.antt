@@ -1,11 +1,10 @@
-use Rattle.std.proofs.Common.{true, refl, ap, ◌∙◌, arith}
+use Rattle.std.proofs.Common.{true, refl, arith}
 use Rattle.std.proofs.lemmas.Result.{err_from_is_err_and}
 use Rattle.tl_msg.specs.Tables.{rules_a}
 use Rattle.tl_settle.specs.Histories.{asked}
 use Rattle.tl_sides.proofs.Answering.{client_fault}
 use Rattle.tl_sides.proofs.Between.{next_at}
-use Rattle.tl_sides.proofs.BridgeSteps.{err_not_ok, none_not_some}
-use Rattle.tl_pair.proofs.SideSteps.{client_offered_a}
+use Rattle.tl_pair.proofs.SideSteps.{client_offered_a, client_stopped, client_went}
 use denote.Param.{layout, param, number}
 use Rattle.tl_ring.proofs.FieldSizes.{part_small, beat_small}
 use Rattle.tl_pair.specs.contracts.client_side.ClientSide.{the_row}
@@ -24,57 +23,26 @@ offer_at-requires g c =
     let ready = rw (← c.self.view_is) at c.requires.ready in
     (search (part_small (layout (the_row (param 0 (number g.row.C)) (param 1 (number g.row.M)) (param 2 g.row.A) g.A.Allocator)) 0 9223372036854775808), (beat_small 24 g.row.C (omega arith) c.requires.near, (c.requires.near, (c.requires.far, (ready, c.in_ok-place.ensures.place)))))
 
-pub returns-in_err-place-clause-admitted : goal.returns-in_err-place-clause-admitted
-returns-in_err-place-clause-admitted g c = λ x k.
-    let h = rw (← c.self.view_is) at k in
-    let stops = client_fault x.history c.args.beat x.a.accepted h.accepted _ (c.in_err-place.ensures.first_fault x.a h.a) in
-    (λ ok. absurd (err_not_ok c.from_residual.result c.from_residual.ensures.0 ok), λ none. absurd (none_not_some stops none))
-
-pub returns-in_err-place-clause-fault : goal.returns-in_err-place-clause-fault
-returns-in_err-place-clause-fault g c = λ x k.
-    let h = rw (← c.self.view_is) at k in
+pub returns-in_err-place : goal.returns-in_err-place
+returns-in_err-place g c =
     let p = err_from_is_err_and c.from_residual.result c.from_residual.ensures.1 in
-    rw (p.1, p.2) (client_fault x.history c.args.beat x.a.accepted h.accepted _ (c.in_err-place.ensures.first_fault x.a h.a))
-
-pub returns-in_err-ask-clause-admitted : goal.returns-in_err-ask-clause-admitted
-returns-in_err-ask-clause-admitted g c = λ x k.
+    client_stopped (refl {a = c.args.self.now}) c.args.beat _ refl _ p.0 p.1 (λ x k.
     let h = rw (← c.self.view_is) at k in
-    let next = next_at rules_a (asked x.history) c.args.beat c.in_ok-place.place _ x.a h.a.pipe h.accepted c.in_ok-place.ensures.place in
-    let answer = c.in_err-ask.ensures.admitted x.history c.args.beat h.book next in (
-      λ ok. absurd (err_not_ok c.from_residual-in_err-ask.result c.from_residual-in_err-ask.ensures.0 ok),
-      λ none. absurd (let ok = answer.1 none in cc),
-    )
+    rw p.2 (client_fault x.history c.args.beat x.a.accepted h.accepted _ (c.in_err-place.ensures.first_fault x.a h.a)))
 
-pub returns-in_err-ask-clause-fault : goal.returns-in_err-ask-clause-fault
-returns-in_err-ask-clause-fault g c = λ x k.
-    let h = rw (← c.self.view_is) at k in
-    let next = next_at rules_a (asked x.history) c.args.beat c.in_ok-place.place _ x.a h.a.pipe h.accepted c.in_ok-place.ensures.place in
+pub returns-in_err-ask : goal.returns-in_err-ask
+returns-in_err-ask g c =
     let p = err_from_is_err_and c.from_residual-in_err-ask.result c.from_residual-in_err-ask.ensures.1 in
-    rw (p.1, p.2) (c.in_err-ask.ensures.fault x.history c.args.beat h.book next)
-
-pub returns-in_err-ask-clause-rest : goal.returns-in_err-ask-clause-rest
-returns-in_err-ask-clause-rest g c = rw (← c.self.view_is) refl
-
-pub returns-in_err-ask-clause-refused : goal.returns-in_err-ask-clause-refused
-returns-in_err-ask-clause-refused g c =
-    let p = err_from_is_err_and c.from_residual-in_err-ask.result c.from_residual-in_err-ask.ensures.1 in
-    rw p.1 (ap (λ q. record { a = c.self.inside.a; b = c.self.inside.b; c = c.self.inside.c; d = c.self.inside.d; e = c.self.inside.e; book = q }) c.in_err-ask.ensures.refused ∙ c.self.view_is)
-
-pub returns-clause-admitted : goal.returns-clause-admitted
-returns-clause-admitted g c = λ x k.
-    let h = rw (← c.self.view_is) at k in
+    client_stopped c.self.view_is c.args.beat _ c.in_err-ask.ensures.refused _ p.0 p.1 (λ x h.
     let next = next_at rules_a (asked x.history) c.args.beat c.in_ok-place.place _ x.a h.a.pipe h.accepted c.in_ok-place.ensures.place in
-    let answer = c.in_ok-ask.ensures.admitted x.history c.args.beat h.book next in
-    (λ ok. answer.0 (refl {a = true}), λ none. refl {a = true})
+    rw p.2 (c.in_err-ask.ensures.fault x.history c.args.beat h.book next))
 
-pub returns-clause-rest : goal.returns-clause-rest
-returns-clause-rest g c = rw (← c.self.view_is) refl
-
-pub returns-clause-ring : goal.returns-clause-ring
-returns-clause-ring g c = rw (← c.self.view_is) c.offer_at.ensures.ring
-
-pub returns-clause-accepted : goal.returns-clause-accepted
-returns-clause-accepted g c = λ x k.
-    let h = rw (← c.self.view_is) at k in
+pub returns : goal.returns
+returns g c =
+    client_went c.self.view_is c.args.beat c.offer_at.new.self _ c.offer_at.ensures.ring
+    (λ x h.
     let next = next_at rules_a (asked x.history) c.args.beat c.in_ok-place.place _ x.a h.a.pipe h.accepted c.in_ok-place.ensures.place in
-    client_offered_a _ x h _ c.args.beat _ (c.offer_at.ensures.accepted x.a h.a) (c.in_ok-ask.ensures.noted x.history c.args.beat h.book next)
+    let answer = c.in_ok-ask.ensures.admitted x.history c.args.beat h.book next in answer.0 (refl {a = true}))
+    (λ x h.
+    let next = next_at rules_a (asked x.history) c.args.beat c.in_ok-place.place _ x.a h.a.pipe h.accepted c.in_ok-place.ensures.place in
+    client_offered_a _ x h _ c.args.beat _ (c.offer_at.ensures.accepted x.a h.a) (c.in_ok-ask.ensures.noted x.history c.args.beat h.book next))

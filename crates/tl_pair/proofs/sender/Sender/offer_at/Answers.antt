@@ -12,8 +12,8 @@ pub offer_at-requires : goal.offer_at-requires
 offer_at-requires g c =
     let place = rw (← c.self.view_is) at c.requires.place in
     let ready = rw (← c.self.view_is) at c.requires.ready in (
-      search (part_small (layout (the_row (param 0 g.row.K) (param 1 (number g.row.W)) (param 2 (number g.row.V)) (param 3 g.row.A) (copied 4 g.row.K-Head) g.K.Channel g.K.Head.Clone
-          g.K.Head.Eq g.K.Head.PartialEq g.K.Head.Default g.A.Allocator)) 0 9223372036854775808),
+      (let known = c.requires-raw in let c = known in search (part_small (layout (the_row (param 0 g.row.K) (param 1 (number g.row.W)) (param 2 (number g.row.V)) (param 3 g.row.A) (copied 4 g.row.K-Head) g.K.Channel g.K.Head.Clone
+          g.K.Head.Eq g.K.Head.PartialEq g.K.Head.Default g.A.Allocator)) 0 9223372036854775808)),
       (beat_fits (lone g.row.K-Head.mir) (layout g.row.K-Head) g.row.W g.met.K.Channel.head_small c.requires.near, (c.requires.near, (c.requires.far, (ready.0, place)))),
     )
 

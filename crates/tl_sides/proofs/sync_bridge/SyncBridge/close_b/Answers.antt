@@ -1,25 +1,12 @@
-use Rattle.std.proofs.Common.{◌∙◌}
-use Rattle.tl_sides.proofs.BridgeSteps.{with_b, same_b, on_ok_to, on_err_to}
-use denote.Param.{layout, param, number}
-use Rattle.tl_sides.specs.contracts.sync_bridge.SyncBridge.{the_row}
+use Rattle.tl_msg.specs.Tables.{rules_b}
+use Rattle.tl_sides.proofs.Places.{shuts}
+use Rattle.tl_sides.proofs.BridgeSteps.{at_b}
+use Rattle.tl_sides.proofs.BridgeLayout.{bridge_layout}
 use Rattle.tl_ring.proofs.FieldSizes.{part_small}
 use Rattle.tl_sides.proofs.sync_bridge.SyncBridge.close_b.Goals as goal
 
 pub close-requires : goal.close-requires
-close-requires g c = search (part_small (layout (the_row (param 0 (number g.row.C)) (param 1 (number g.row.M)) (param 2 g.row.A) g.A.Allocator)) 1 9223372036854775808)
+close-requires g c = search (part_small (bridge_layout g.row.C g.row.M g.row.A g.A.Allocator) 1 9223372036854775808)
 
-pub returns-clause-between : goal.returns-clause-between
-returns-clause-between g c = λ x k. let h = rw (← c.self.view_is) at k in c.close.ensures.between x.b h.b
-
-pub returns-clause-closed : goal.returns-clause-closed
-returns-clause-closed g c = λ x k.
-    let h = rw (← c.self.view_is) at k in
-    on_ok_to c.close.result (λ closed. with_b _ x h _ _ closed) (c.close.ensures.closed x.b h.b)
-
-pub returns-clause-again : goal.returns-clause-again
-returns-clause-again g c = λ closed.
-    let again = c.close.ensures.again (rw (← c.self.view_is) at closed) in
-    (again.0, same_b _ _ again.1 ∙ c.self.view_is)
-
-pub returns-clause-refused : goal.returns-clause-refused
-returns-clause-refused g c = on_err_to c.close.result (λ same. same_b _ _ same ∙ c.self.view_is) c.close.ensures.refused
+pub returns : goal.returns
+returns g c = shuts at_b rules_b (λ p. p.closed) (λ y. tt) c.self.view_is _ _ c.close.ensures

@@ -1,29 +1,17 @@
-use Rattle.std.proofs.Common.{arith, ◌∷◌, [], refl, ◌∙◌}
-use Rattle.tl_sides.proofs.BridgeSteps.{client_asks, asks_on, same_request, on_ok_to, on_err_to}
-use denote.Param.{layout, param, number}
-use Rattle.tl_sides.specs.contracts.sync_bridge.SyncBridge.{the_row}
+use Rattle.std.proofs.Common.{arith}
+use Rattle.tl_sides.proofs.BridgeSteps.{offers_request}
+use Rattle.tl_sides.proofs.BridgeLayout.{bridge_layout}
 use Rattle.tl_ring.proofs.FieldSizes.{part_small, beat_small}
 use Rattle.tl_sides.proofs.sync_bridge.SyncBridge.offer_a.Goals as goal
 
 pub offer_request-requires : goal.offer_request-requires
 offer_request-requires g c = (
-  search (part_small (layout (the_row (param 0 (number g.row.C)) (param 1 (number g.row.M)) (param 2 g.row.A) g.A.Allocator)) 5 9223372036854775808),
+  search (part_small (bridge_layout g.row.C g.row.M g.row.A g.A.Allocator) 5 9223372036854775808),
   (
-    search (part_small (layout (the_row (param 0 (number g.row.C)) (param 1 (number g.row.M)) (param 2 g.row.A) g.A.Allocator)) 0 9223372036854775808),
+    search (part_small (bridge_layout g.row.C g.row.M g.row.A g.A.Allocator) 0 9223372036854775808),
     (beat_small 24 g.row.C (omega arith) c.requires.client, (c.requires.client, (c.requires.manager, rw (← c.self.view_is) at c.requires.ready))),
   ),
 )
 
-pub returns-clause-admitted : goal.returns-clause-admitted
-returns-clause-admitted g c = λ x k. let h = rw (← c.self.view_is) at k in c.offer_request.ensures.admitted x.client x.a (client_asks _ x h)
-
-pub returns-clause-accepted : goal.returns-clause-accepted
-returns-clause-accepted g c = λ x k.
-    let h = rw (← c.self.view_is) at k in
-    on_ok_to c.offer_request.result (λ more. asks_on _ x h _ _ (c.args.beat ∷ []) _ refl more) (c.offer_request.ensures.accepted x.client x.a (client_asks _ x h))
-
-pub returns-clause-fault : goal.returns-clause-fault
-returns-clause-fault g c = λ x k. let h = rw (← c.self.view_is) at k in c.offer_request.ensures.fault x.client x.a (client_asks _ x h)
-
-pub returns-clause-refused : goal.returns-clause-refused
-returns-clause-refused g c = on_err_to c.offer_request.result (λ same. same_request _ _ _ same ∙ c.self.view_is) c.offer_request.ensures.refused
+pub returns : goal.returns
+returns g c = offers_request c.args.beat c.self.view_is c.offer_request.new.book c.offer_request.new.pipe _ c.offer_request.ensures

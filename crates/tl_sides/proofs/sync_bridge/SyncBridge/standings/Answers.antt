@@ -1,22 +1,21 @@
-use denote.Param.{layout, param, number}
-use Rattle.tl_sides.specs.contracts.sync_bridge.SyncBridge.{the_row}
+use Rattle.tl_sides.proofs.BridgeLayout.{bridge_layout}
 use Rattle.tl_ring.proofs.FieldSizes.{part_small}
 use Rattle.tl_sides.proofs.sync_bridge.SyncBridge.standings.Goals as goal
 
 pub standing-requires : goal.standing-requires
-standing-requires g c = search (part_small (layout (the_row (param 0 (number g.row.C)) (param 1 (number g.row.M)) (param 2 g.row.A) g.A.Allocator)) 0 9223372036854775808)
+standing-requires g c = search (part_small (bridge_layout g.row.C g.row.M g.row.A g.A.Allocator) 0 9223372036854775808)
 
 pub standing-requires-2 : goal.standing-requires-2
-standing-requires-2 g c = search (part_small (layout (the_row (param 0 (number g.row.C)) (param 1 (number g.row.M)) (param 2 g.row.A) g.A.Allocator)) 1 9223372036854775808)
+standing-requires-2 g c = search (part_small (bridge_layout g.row.C g.row.M g.row.A g.A.Allocator) 1 9223372036854775808)
 
 pub standing-requires-3 : goal.standing-requires-3
-standing-requires-3 g c = search (part_small (layout (the_row (param 0 (number g.row.C)) (param 1 (number g.row.M)) (param 2 g.row.A) g.A.Allocator)) 2 9223372036854775808)
+standing-requires-3 g c = search (part_small (bridge_layout g.row.C g.row.M g.row.A g.A.Allocator) 2 9223372036854775808)
 
 pub standing-requires-4 : goal.standing-requires-4
-standing-requires-4 g c = search (part_small (layout (the_row (param 0 (number g.row.C)) (param 1 (number g.row.M)) (param 2 g.row.A) g.A.Allocator)) 3 9223372036854775808)
+standing-requires-4 g c = search (part_small (bridge_layout g.row.C g.row.M g.row.A g.A.Allocator) 3 9223372036854775808)
 
 pub standing-requires-5 : goal.standing-requires-5
-standing-requires-5 g c = search (part_small (layout (the_row (param 0 (number g.row.C)) (param 1 (number g.row.M)) (param 2 g.row.A) g.A.Allocator)) 4 9223372036854775808)
+standing-requires-5 g c = search (part_small (bridge_layout g.row.C g.row.M g.row.A g.A.Allocator) 4 9223372036854775808)
 
 pub returns-clause-a : goal.returns-clause-a
 returns-clause-a g c = rw (← c.self.view_is) (record { staged = c.standing.ensures.staged; in_ring = c.standing.ensures.in_ring; inbox = c.standing.ensures.inbox })

@@ -1,14 +1,13 @@
 use Rattle.std.proofs.Common.{arith, take, refl}
 use Rattle.tl_sides.proofs.BridgeSteps.{manager_is_asked, asked_on}
-use denote.Param.{layout, param, number}
-use Rattle.tl_sides.specs.contracts.sync_bridge.SyncBridge.{the_row}
+use Rattle.tl_sides.proofs.BridgeLayout.{bridge_layout}
 use Rattle.tl_ring.proofs.FieldSizes.{part_small, beat_small}
 use Rattle.tl_sides.proofs.sync_bridge.SyncBridge.take_a.Goals as goal
 
 pub take_request-requires : goal.take_request-requires
 take_request-requires g c = (
-  search (part_small (layout (the_row (param 0 (number g.row.C)) (param 1 (number g.row.M)) (param 2 g.row.A) g.A.Allocator)) 6 9223372036854775808),
-  (search (part_small (layout (the_row (param 0 (number g.row.C)) (param 1 (number g.row.M)) (param 2 g.row.A) g.A.Allocator)) 0 9223372036854775808), (beat_small 24 g.row.M (omega arith) c.requires.far, c.requires.far)),
+  search (part_small (bridge_layout g.row.C g.row.M g.row.A g.A.Allocator) 6 9223372036854775808),
+  (search (part_small (bridge_layout g.row.C g.row.M g.row.A g.A.Allocator) 0 9223372036854775808), (beat_small 24 g.row.M (omega arith) c.requires.far, c.requires.far)),
 )
 
 pub returns-clause-taken : goal.returns-clause-taken
