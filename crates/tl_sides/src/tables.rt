@@ -4,9 +4,10 @@ ghost use Rattle.tl_sides.specs.declared.tables.Request.{Request};
 ghost use Rattle.tl_sides.specs.Tables.{is_busy, entry};
 
 use std::marker::Model;
+use tl_msg::SourceId;
 
-/// How many sources there are: a source is a number of 8 bits (this project's choice).
-const SOURCES: usize = 256;
+/// How many sources there are, by the bits of a [`SourceId`].
+const SOURCES: usize = 1 << SourceId::BITS;
 
 /// A request that waits for its response (TileLink: source and size of responses).
 #[derive(Clone, Copy, PartialEq, Eq, Debug)]
@@ -44,14 +45,14 @@ impl SourceTable {
     }
 
     /// Whether a source is busy.
-    pub fn busy(&self, source: u8) -> bool
+    pub fn busy(&self, source: SourceId) -> bool
         ensures { result ≡ is_busy self.now source }
     {
         self.busy[source as usize]
     }
 
     /// A request of this source begins: from now on it is busy. The other sources stay as they are.
-    pub fn begin(&mut self, source: u8)
+    pub fn begin(&mut self, source: SourceId)
         ensures { (s : ℕ) → is_busy self.new s ≡ cond (source == s) true (is_busy self.old s) }
     {
         self.busy[source as usize] = true;
@@ -59,7 +60,7 @@ impl SourceTable {
 
     /// A response to this source begins: from now on it is free. The other sources stay as they
     /// are, and a source that was free stays free.
-    pub fn end(&mut self, source: u8)
+    pub fn end(&mut self, source: SourceId)
         ensures { (s : ℕ) → is_busy self.new s ≡ cond (source == s) false (is_busy self.old s) }
     {
         self.busy[source as usize] = false;
@@ -93,7 +94,7 @@ impl RequestTable {
     }
 
     /// The request of a source.
-    pub fn get(&self, source: u8) -> Option<Request>
+    pub fn get(&self, source: SourceId) -> Option<Request>
         ensures { result ≡ entry self.now source }
     {
         self.entries[source as usize]
@@ -101,7 +102,7 @@ impl RequestTable {
 
     /// A request of this source begins. It takes the place of the one that the source had, if any;
     /// the other sources stay as they are.
-    pub fn begin(&mut self, source: u8, request: Request)
+    pub fn begin(&mut self, source: SourceId, request: Request)
         ensures { (s : ℕ) →
             entry self.new s ≡ cond (source == s) (Some request) (entry self.old s) }
     {
@@ -110,7 +111,7 @@ impl RequestTable {
 
     /// A response to this source begins: its request is answered. A source without a request stays
     /// so, and the other sources stay as they are.
-    pub fn end(&mut self, source: u8)
+    pub fn end(&mut self, source: SourceId)
         ensures { (s : ℕ) → entry self.new s ≡ cond (source == s) None (entry self.old s) }
     {
         self.entries[source as usize] = None;
