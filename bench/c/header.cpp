@@ -1,0 +1,22 @@
+// The header in C++: two pairs of widths, and the two structures as the library has them.
+#include "tlbridge.h"
+#include "tlbridge.h"
+#include <cstddef>
+#include <cstdio>
+
+TLBRIDGE(8, 4)
+TLBRIDGE(4, 8)
+
+static_assert(sizeof(tl_beat) == 24 && offsetof(tl_beat, opcode) == 16 && offsetof(tl_beat, corrupt) == 22, "a beat");
+static_assert(sizeof(tl_8_4_handle) == 16 && sizeof(tl_standings) == 15 * sizeof(std::size_t), "a handle and the standings");
+
+int main() {
+    tl_8_4_handle narrow = {};
+    tl_4_8_handle widen = {};
+    int wrong = tl_8_4_open(&narrow, 1) != TL_OK || tl_4_8_open(&widen, 0) != TL_RING_SIZE || !tl_8_4_ready_e(&narrow) ||
+                tl_4_8_close_d(&widen) != TL_NO_BRIDGE || tl_8_4_version() != TL_VERSION;
+    tl_8_4_free(&narrow);
+    tl_4_8_free(&widen);
+    std::printf("C++: %d checks passed, %d failed\n", !wrong, wrong);
+    return wrong;
+}

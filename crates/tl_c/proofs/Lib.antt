@@ -1,0 +1,4 @@
+mod AsBox
+mod BothWidths
+mod Closing
+mod Numbers

@@ -1,0 +1,10 @@
+use Rattle.std.proofs.Common.{rules, sym, ◌∙◌, lit<}
+use Rattle.tl_c.proofs.BothWidths.{client, manager}
+use Rattle.tl_c.proofs.Numbers.{side_fault_numbered}
+use Rattle.tl_c.proofs.offers.offer_b.Goals as goal
+
+pub offer_b-requires : goal.offer_b-requires
+offer_b-requires c = (lit< tt, (lit< tt, (client, (manager, search rules))))
+
+pub returns-in-Err-clause-accepted : goal.returns-in-Err-clause-accepted
+returns-in-Err-clause-accepted c = λ x k e. absurd (side_fault_numbered c.in-Err.fault (sym c.number.ensures ∙ e))

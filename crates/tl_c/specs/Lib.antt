@@ -1,0 +1,4 @@
+pub mod Handle
+pub mod Names
+pub mod Fields
+pub mod Calls

@@ -1,0 +1,154 @@
+//! The bridge of both sides for C: a handle, and the calls of `SyncBridge` on it, with numbers and
+//! with pointers to bytes.
+//!
+//! The client's side offers beats of A, C and E and takes those of B and D; the manager's side
+//! offers beats of B and D and takes those of A, C and E. A call's contract says which event of the
+//! bridge's past it is, and by that past what it answers. `include/tlbridge.h` says what a caller
+//! that is not proved owes.
+#![tactic(auto)]
+
+mod answers;
+mod closes;
+mod counts;
+mod fields;
+mod handle;
+mod held;
+mod offers;
+mod parts;
+mod takes;
+mod widths;
+
+ghost use Rattle.std.specs.Prelude.{◌≡◌, ◌≢◌, ◌<◌, ◌⊎◌, ◌↔◌, None, false, true};
+ghost use Rattle.tl_ring.specs.declared.pipe.TheConstants.{MAX_RING};
+ghost use Rattle.tl_sides.specs.Bridges.{Past, nothing_yet};
+ghost use Rattle.tl_c.specs.Calls.{HoldsPast, IsDrained, past_pumped, past_fetched, pumped_count, fetched_count, channel_counts};
+
+use crate::answers::OUT_OF_MEMORY;
+use crate::counts::{ChannelCounts, beat_counts, is_idle};
+use crate::handle::Handle;
+use crate::held::Held;
+use crate::widths::{CLIENT, MANAGER};
+use std::alloc::Global;
+use tl_sides::SyncBridge;
+
+/// Makes a bridge with five rings of `ring` beats and gives it to the handle. A bridge that the
+/// handle held before is let go first.
+///
+/// 0 where it is made. Else the handle holds none: 12 exactly where `ring` is 0 or above 4,096, 13
+/// where there is no memory.
+#[unsafe(no_mangle)]
+pub extern "C" fn tl_open(alloc: Global, handle: &mut Handle, ring: usize) -> u8
+    ensures new { result ≡ 0 → HoldsPast handle.new.owned.held (nothing_yet ring) }
+    ensures ring_size { (result ≡ 12) ↔ ((ring ≡ 0) ⊎ (MAX_RING < ring)) }
+    ensures faults { (result ≡ 0) ⊎ ((result ≡ 12) ⊎ (result ≡ 13)) }
+    ensures refused { result ≢ 0 → handle.new.owned.held ≡ None }
+{
+    if let Some(held) = handle.take(alloc) {
+        drop(held);
+    }
+    let bridge = match SyncBridge::<CLIENT, MANAGER>::new(alloc, ring) {
+        Ok(bridge) => bridge,
+        Err(fault) => return fault.number(),
+    };
+    match Box::new(alloc, Held { bridge }) {
+        Ok(held) => {
+            *handle = Handle::of(held);
+            0
+        }
+        Err(_) => OUT_OF_MEMORY,
+    }
+}
+
+/// Lets the bridge go, if the handle holds one: the handle holds none then.
+#[unsafe(no_mangle)]
+pub extern "C" fn tl_free(alloc: Global, handle: &mut Handle)
+    ensures { handle.new.owned.held ≡ None }
+{
+    if let Some(held) = handle.take(alloc) {
+        drop(held);
+    }
+}
+
+/// Moves staged beats to the rings on all channels, as many as each ring has room for, and answers
+/// how many these are in all: at most 320, and 0 where no bridge is held.
+#[unsafe(no_mangle)]
+pub extern "C" fn tl_pump(alloc: Global, handle: &mut Handle) -> usize
+    ensures count { result ≡ pumped_count handle.old.owned.held }
+    ensures no_bridge { handle.old.owned.held ≡ None → handle.new.owned.held ≡ None }
+    ensures moved { (x : Past CLIENT MANAGER) → HoldsPast handle.old.owned.held x →
+        HoldsPast handle.new.owned.held (past_pumped handle.old.owned.held x) }
+{
+    let Some(mut held) = handle.take(alloc) else {
+        return 0;
+    };
+    let count = held.bridge.pump();
+    *handle = Handle::of(held);
+    count
+}
+
+/// Moves beats from the rings to the inboxes on all channels, as many as each inbox has room for,
+/// and answers how many these are in all: at most 320, and 0 where no bridge is held.
+#[unsafe(no_mangle)]
+pub extern "C" fn tl_fetch(alloc: Global, handle: &mut Handle) -> usize
+    ensures count { result ≡ fetched_count handle.old.owned.held }
+    ensures no_bridge { handle.old.owned.held ≡ None → handle.new.owned.held ≡ None }
+    ensures moved { (x : Past CLIENT MANAGER) → HoldsPast handle.old.owned.held x →
+        HoldsPast handle.new.owned.held (past_fetched handle.old.owned.held x) }
+{
+    let Some(mut held) = handle.take(alloc) else {
+        return 0;
+    };
+    let count = held.bridge.fetch();
+    *handle = Handle::of(held);
+    count
+}
+
+/// Writes how many far beats stand in the stage, the ring and the inbox of each channel: whether a
+/// bridge is held. Where none is, nothing is written.
+#[unsafe(no_mangle)]
+pub extern "C" fn tl_standings(
+    alloc: Global,
+    handle: &mut Handle,
+    counts: &mut ChannelCounts,
+) -> bool
+    ensures no_bridge { handle.old.owned.held ≡ None →
+        (result ≡ false) × (counts.new ≡ counts.old) }
+    ensures counts { (x : Past CLIENT MANAGER) → HoldsPast handle.old.owned.held x →
+        (result ≡ true) × (counts.new ≡ channel_counts x) }
+    ensures same { handle.new.owned.held ≡ handle.old.owned.held }
+{
+    let Some(held) = handle.take(alloc) else {
+        return false;
+    };
+    let standings = held.bridge.standings();
+    *handle = Handle::of(held);
+    *counts = ChannelCounts {
+        a: beat_counts(standings.a),
+        b: beat_counts(standings.b),
+        c: beat_counts(standings.c),
+        d: beat_counts(standings.d),
+        e: beat_counts(standings.e),
+    };
+    true
+}
+
+/// Whether a bridge is held and all its standings are 0: what was taken then is all that the
+/// accepted beats make due.
+#[unsafe(no_mangle)]
+pub extern "C" fn tl_drained(alloc: Global, handle: &mut Handle) -> bool
+    ensures no_bridge { handle.old.owned.held ≡ None → result ≡ false }
+    ensures drained { (x : Past CLIENT MANAGER) → HoldsPast handle.old.owned.held x →
+        (result ≡ true) ↔ IsDrained x }
+    ensures same { handle.new.owned.held ≡ handle.old.owned.held }
+{
+    let Some(held) = handle.take(alloc) else {
+        return false;
+    };
+    let standings = held.bridge.standings();
+    *handle = Handle::of(held);
+    is_idle(standings.a)
+        && is_idle(standings.b)
+        && is_idle(standings.c)
+        && is_idle(standings.d)
+        && is_idle(standings.e)
+}

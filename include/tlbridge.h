@@ -1,0 +1,151 @@
+/* A TileLink clock and width bridge for C: both sides in one thread, behind a handle.
+ *
+ * A library libtlbridge_C_M.a is for one pair of widths: C bytes on the client's link, M on the manager's, each 1, 2, 4, 8, 16, 32 or
+ * 64 (bench/make-library C M makes it). TLBRIDGE(C, M) declares its calls, and may stand for several pairs in one file:
+ *
+ *     #include "tlbridge.h"
+ *     TLBRIDGE(8, 4)
+ *
+ *     tl_8_4_handle bridge = {0};
+ *     uint8_t fault = tl_8_4_open(&bridge, 16);
+ *
+ * The client's side offers beats of A, C and E and takes those of B and D; the manager's side offers beats of B and D and takes
+ * those of A, C and E. An accepted near beat stages the far beats that it completes; pump moves them into rings, fetch from there
+ * into inboxes, and take out of these. docs/LIBRARY.md says what is proved of each call.
+ *
+ * What is trusted. The proofs hold for every sequence of calls, if
+ *   - each pointer is to memory of its type, whole and aligned, that nothing else uses during the call, and no two pointers of one
+ *     call overlap;
+ *   - a handle is all zero before its first call, is changed by these calls alone, is never copied, and goes to the calls of its own
+ *     pair of widths;
+ *   - one handle is in one call at a time, and stays in the thread that opened it. Different handles are independent;
+ *   - no call is made in a signal handler, or in the forked child of a process with threads;
+ *   - malloc, realloc and free are one allocator, which aligns a block of n bytes to each power of two up to 16 that divides n.
+ * A handle whose bridge was freed is zero again: each call on it is answered as on one that was never opened.
+ */
+#ifndef TLBRIDGE_H
+#define TLBRIDGE_H
+
+#include <stdbool.h>
+#include <stddef.h>
+#include <stdint.h>
+
+/* The library's version that this header is of. */
+#define TL_VERSION 1
+
+/* What offer, close and open answer. 0 is success; in each other case nothing changed (but that a refused open leaves no bridge). */
+enum {
+    TL_OK = 0,
+    /* faults of a beat: docs/SPECIFICATION.md, section 6 */
+    TL_OPCODE = 1,
+    TL_PARAM = 2,
+    TL_SIZE = 3,
+    TL_UNALIGNED = 4,
+    TL_MASK = 5,
+    TL_CORRUPT = 6,
+    TL_HEAD_CHANGED = 7,
+    /* what the other channel says: section 9. The first two are for now: the same beat may be offered again later */
+    TL_SOURCE_BUSY = 8,
+    TL_NO_REQUEST = 9,
+    TL_SIZE_MISMATCH = 10,
+    /* of close */
+    TL_MID_BURST = 11,
+    /* of open */
+    TL_RING_SIZE = 12,
+    TL_OUT_OF_MEMORY = 13,
+    /* the handle holds no bridge */
+    TL_NO_BRIDGE = 253,
+    /* the channel takes no beat now: far beats are staged, or it is closed */
+    TL_NOT_READY = 254
+};
+
+/* The bytes of an answer's name, with the zeros at its end. */
+#define TL_NAME_BYTES 16
+
+/* The most beats that a ring holds. */
+#define TL_MAX_RING 4096
+
+/* The fields of a beat on any channel, but its lanes. A field that the channel lacks is not read, and is written 0. */
+typedef struct {
+    uint64_t address; /* A, B, C */
+    uint64_t mask;    /* A, B: one bit per lane, lane 0 lowest */
+    uint8_t opcode;   /* A to D */
+    uint8_t param;    /* A to D */
+    uint8_t size;     /* A to D: the message has 2^size bytes */
+    uint8_t source;   /* A to D */
+    uint8_t sink;     /* D, E */
+    uint8_t denied;   /* D: 0, or any other number for set; written 0 or 1 */
+    uint8_t corrupt;  /* A to D: as denied */
+} tl_beat;
+
+/* How many far beats of one channel wait at each place. */
+typedef struct {
+    size_t staged;
+    size_t in_ring;
+    size_t inbox;
+} tl_counts;
+
+typedef struct {
+    tl_counts a, b, c, d, e;
+} tl_standings;
+
+/* The name of a call for one pair of widths, as TL_CALL(8, 4, open): for code that is written over the pair. */
+#define TL_CALL_OF(client, manager, call) tl_##client##_##manager##_##call
+#define TL_CALL(client, manager, call) TL_CALL_OF(client, manager, call)
+
+#ifdef __cplusplus
+#define TL_BEGIN extern "C" {
+#define TL_END }
+#else
+#define TL_BEGIN
+#define TL_END
+#endif
+
+/* The calls of one pair of widths. In the names of types and calls, CLIENT and MANAGER stand for the pair. All are total: on a handle
+ * that holds no bridge they answer TL_NO_BRIDGE, false or 0 and change nothing.
+ *
+ *   tl_CLIENT_MANAGER_handle             all zero, it holds no bridge
+ *   open(handle, ring)                   makes a bridge with five rings of that many beats, 1 to 4,096, and lets the one go that the handle
+ *                                        held. TL_OK, TL_RING_SIZE or TL_OUT_OF_MEMORY; in the last two cases the handle holds none
+ *   free(handle)                         lets the bridge go, if there is one
+ *   ready_x(handle)                      whether a beat of x may be offered: nothing of x is staged, and x isn't closed
+ *   offer_x(handle, beat, lanes)         offers a near beat: TL_OK, its first fault (1 to 10), TL_NOT_READY or TL_NO_BRIDGE. `lanes` has as
+ *                                        many bytes as the sender's link, lane 0 first
+ *   take_x(handle, beat, lanes)          takes the first far beat and writes it: whether there was one; else nothing is written. `lanes` has
+ *                                        as many bytes as the receiver's link; those outside of the mask are 0
+ *   close_x(handle)                      ends the offers of x: TL_OK, TL_MID_BURST or TL_NO_BRIDGE. What is staged still crosses
+ *   pump(handle), fetch(handle)          move what there is room for, from the stages to the rings and from the rings to the inboxes, on
+ *                                        all channels: how many beats
+ *   standings(handle, standings)         writes how many far beats wait, and where: whether a bridge is held
+ *   drained(handle)                      whether a bridge is held in which no far beat waits
+ *   answer_name(answer, name)            writes the name of an answer, as "SourceBusy", ended by zeros; zeros alone for a number that no
+ *                                        call answers
+ *   version()                            TL_VERSION of the library */
+#define TLBRIDGE(client, manager) \
+    TL_BEGIN \
+    typedef struct { \
+        void *bridge; \
+        bool live; \
+    } TL_CALL(client, manager, handle); \
+    uint8_t TL_CALL(client, manager, open)(TL_CALL(client, manager, handle) *handle, size_t ring); \
+    void TL_CALL(client, manager, free)(TL_CALL(client, manager, handle) *handle); \
+    size_t TL_CALL(client, manager, pump)(TL_CALL(client, manager, handle) *handle); \
+    size_t TL_CALL(client, manager, fetch)(TL_CALL(client, manager, handle) *handle); \
+    bool TL_CALL(client, manager, standings)(TL_CALL(client, manager, handle) *handle, tl_standings *standings); \
+    bool TL_CALL(client, manager, drained)(TL_CALL(client, manager, handle) *handle); \
+    void TL_CALL(client, manager, answer_name)(uint8_t answer, uint8_t name[TL_NAME_BYTES]); \
+    uint32_t TL_CALL(client, manager, version)(void); \
+    TL_CHANNEL(client, manager, a, client, manager) \
+    TL_CHANNEL(client, manager, b, manager, client) \
+    TL_CHANNEL(client, manager, c, client, manager) \
+    TL_CHANNEL(client, manager, d, manager, client) \
+    TL_CHANNEL(client, manager, e, client, manager) \
+    TL_END
+
+#define TL_CHANNEL(client, manager, x, near_width, far_width) \
+    bool TL_CALL(client, manager, ready_##x)(TL_CALL(client, manager, handle) *handle); \
+    uint8_t TL_CALL(client, manager, offer_##x)(TL_CALL(client, manager, handle) *handle, const tl_beat *beat, const uint8_t lanes[near_width]); \
+    bool TL_CALL(client, manager, take_##x)(TL_CALL(client, manager, handle) *handle, tl_beat *beat, uint8_t lanes[far_width]); \
+    uint8_t TL_CALL(client, manager, close_##x)(TL_CALL(client, manager, handle) *handle);
+
+#endif
