@@ -5,11 +5,14 @@
 //!   of Gets and PutFullDatas in turns, each with its response, of 64 bytes each.
 //! - `speed measure` reads a trace of A or E lines on standard input. It prints what it measured: on each line a name and a number,
 //!   a time in nanoseconds, a peak of memory in KiB or a count.
-//! - `speed run RING` reads a trace that `make AD` made, runs it over rings of so many beats, and writes the answer into memory;
-//!   `speed check` does so with rings of one beat, and leaves the far beats out of the answer. What they print is like that of
-//!   `measure`.
+//! - `speed sync RING` reads a trace that `make AD` made, runs it in one thread over rings of so many beats, and writes the answer
+//!   into memory; `speed run RING TURNS` does so in two threads, which meet after so many turns each; `speed check` is `sync 1`, and
+//!   leaves the far beats out of the answer. What they print is like that of `measure`, and each times bare joins of two threads, too.
+//! - `speed ends CHANNEL WIDTH RING BEATS` sends so many beats of A or E through the two ends of a crossing at equal widths, and
+//!   through plain `rtrb`, in one thread and in two. What it prints is like that of `measure`.
 #![tactic(auto)]
 
+mod ends;
 mod make;
 mod measure;
 mod whole;
@@ -17,6 +20,7 @@ mod whole;
 use anyhow::Result;
 use std::env;
 use std::io::Write;
+use whole::Way;
 
 fn main(rt: HostRuntime) -> Result<()> {
     let words: Vec<String> = env::args(&rt)?.collect(rt.alloc())?;
@@ -32,13 +36,34 @@ fn main(rt: HostRuntime) -> Result<()> {
         rt.stdout().write_all(&text)?;
     } else if words.len() == 2 && words[1].as_str() == "measure" {
         measure::measure(&rt, &mut rt.stdin())?;
-    } else if words.len() == 3 && words[1].as_str() == "run" {
-        whole::run(&rt, &mut rt.stdin(), words[2].parse()?, false)?;
+    } else if words.len() == 4 && words[1].as_str() == "run" {
+        let (ring, turns) = (words[2].parse()?, words[3].parse()?);
+        let way = Way {
+            ring,
+            turns: Some(turns),
+            check: false,
+        };
+        whole::run(&rt, &mut rt.stdin(), way)?;
+    } else if words.len() == 3 && words[1].as_str() == "sync" {
+        let way = Way {
+            ring: words[2].parse()?,
+            turns: None,
+            check: false,
+        };
+        whole::run(&rt, &mut rt.stdin(), way)?;
     } else if words.len() == 2 && words[1].as_str() == "check" {
-        whole::run(&rt, &mut rt.stdin(), 1, true)?;
+        let way = Way {
+            ring: 1,
+            turns: None,
+            check: true,
+        };
+        whole::run(&rt, &mut rt.stdin(), way)?;
+    } else if words.len() == 6 && words[1].as_str() == "ends" {
+        let (width, ring, count) = (words[3].parse()?, words[4].parse()?, words[5].parse()?);
+        ends::measure(&rt, words[2].as_str(), width, ring, count)?;
     } else {
         println!(rt;
-            "usage: speed make A|E|AD CLIENT MANAGER BYTES, or one of measure, run RING and check < TRACE"
+            "usage: speed make A|E|AD CLIENT MANAGER BYTES, or speed ends A|E WIDTH RING BEATS, or one of measure, sync RING, run RING TURNS and check < TRACE"
         )?;
     }
     Ok(())

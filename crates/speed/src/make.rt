@@ -8,6 +8,15 @@ use tl_lanes::{active, beats};
 use tl_msg::{BeatOf, ChA, ChD, ChE, HeadA, HeadD, HeadE};
 use tl_trace::{OutOfMemory, write_far};
 
+/// Sets the bytes of a beat. They vary from lane to lane, and from seed to seed.
+fn fill(lanes: &mut [u8], seed: u8) {
+    let mut byte = seed;
+    for lane in lanes {
+        byte = byte.wrapping_mul(5).wrapping_add(1);
+        *lane = byte;
+    }
+}
+
 /// Appends the lines of a PutFullData: of 64 bytes, and of 4,096 at each eighth message.
 fn put_message<const C: usize>(text: &mut Vec<u8>, number: u64) -> Result<(), OutOfMemory>
     requires { IsWidth C }
@@ -20,13 +29,9 @@ fn put_message<const C: usize>(text: &mut Vec<u8>, number: u64) -> Result<(), Ou
         address: number % 65_536 * 4096,
     };
     let mask = active(head.address, head.size, C);
-    let mut lanes = [0u8; C];
-    let mut byte = head.source;
-    for _ in 0..beats(true, head.size, C) {
-        for lane in &mut lanes {
-            byte = byte.wrapping_mul(5).wrapping_add(1);
-            *lane = byte;
-        }
+    for index in 0..beats(true, head.size, C) {
+        let mut lanes = [0u8; C];
+        fill(&mut lanes, (index % 256) as u8 ^ head.source);
         let beat = BeatOf {
             head,
             mask,
@@ -52,19 +57,6 @@ fn put_grant_ack(text: &mut Vec<u8>, number: u64) -> Result<(), OutOfMemory> {
     write_far::<ChE, 1>(text, &[beat])
 }
 
-/// The bytes of a beat, where it carries data: they vary from lane to lane and from beat to beat.
-fn lanes_from<const W: usize>(carries: bool, seed: u8) -> [u8; W] {
-    let mut lanes = [0u8; W];
-    if carries {
-        let mut byte = seed;
-        for lane in &mut lanes {
-            byte = byte.wrapping_mul(5).wrapping_add(1);
-            *lane = byte;
-        }
-    }
-    lanes
-}
-
 /// Appends the lines of a request of 64 bytes, a Get or a PutFullData.
 fn put_request<const C: usize>(
     text: &mut Vec<u8>,
@@ -81,10 +73,14 @@ fn put_request<const C: usize>(
         address: number % 65_536 * 64,
     };
     for index in 0..beats(!reads, head.size, C) {
+        let mut lanes = [0u8; C];
+        if !reads {
+            fill(&mut lanes, index as u8 ^ head.source);
+        }
         let beat = BeatOf {
             head,
             mask: active(head.address, head.size, C),
-            lanes: lanes_from(!reads, index as u8 ^ head.source),
+            lanes,
             corrupt: false,
         };
         write_far::<ChA, C>(text, &[beat])?;
@@ -109,10 +105,14 @@ fn put_response<const M: usize>(
         denied: false,
     };
     for index in 0..beats(reads, head.size, M) {
+        let mut lanes = [0u8; M];
+        if reads {
+            fill(&mut lanes, index as u8 ^ head.source);
+        }
         let beat = BeatOf {
             head,
             mask: 0,
-            lanes: lanes_from(reads, index as u8 ^ head.source),
+            lanes,
             corrupt: false,
         };
         write_far::<ChD, M>(text, &[beat])?;

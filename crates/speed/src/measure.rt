@@ -1,5 +1,6 @@
 //! Measures reading, conversion and writing.
-ghost use Rattle.std.specs.Prelude.{◌≡◌};
+ghost use Rattle.std.specs.Prelude.{◌≡◌, Some};
+ghost use Rattle.tl_trace.specs.Faults.{body, widths_of};
 ghost use Rattle.tl_lanes.specs.Lanes.{IsWidth};
 
 use anyhow::{Result, bail};
@@ -7,13 +8,12 @@ use arrayvec::ArrayVec;
 use std::alloc::Global;
 use std::fs::Files;
 use std::io::Read;
-use std::mem::size_of;
 use std::rt::Clock;
 use std::time::Instant;
 use std::{fs, io};
 use tl_convert::Converter;
 use tl_msg::{Beat, ChA, ChE};
-use tl_trace::{HeadText, Line, Trace, read, script_of, write_far};
+use tl_trace::{HeadText, read_script, widths_of_text, write_far};
 
 /// The bytes of the longest trace that the bridge takes.
 const MOST_BYTES: usize = 67_108_864;
@@ -24,17 +24,18 @@ pub(crate) fn print_time(rt: &(impl Clock + Print), name: &str, start: Instant) 
     println!(rt; "{name} {nanos}")
 }
 
+/// The most memory that a process has had so far, in KiB, of the text of its status.
+fn peak_of(status: &str) -> &str {
+    match status.split_once("VmHWM:") {
+        Some((_, after)) => after.split_whitespace().next().unwrap_or("0"),
+        None => "0",
+    }
+}
+
 /// Prints the most memory that the process has had so far, in KiB.
 pub(crate) fn print_peak(rt: &(impl Files + Print + AllocGlobal), name: &str) -> io::Result<()> {
     let status = fs::read_to_string(rt, "/proc/self/status")?;
-    for line in status.lines() {
-        let mut words = line.split_whitespace();
-        if words.next() == Some("VmHWM:") {
-            let peak = words.next().unwrap_or("0");
-            println!(rt; "{name} {peak}")?;
-        }
-    }
-    Ok(())
+    println!(rt; "{name} {}", peak_of(&status))
 }
 
 fn line_ends(text: &[u8]) -> usize {
@@ -42,7 +43,9 @@ fn line_ends(text: &[u8]) -> usize {
 }
 
 /// Room for the far beats of one near beat.
-fn no_beats<K: HeadText, const V: usize>() -> ArrayVec<Beat<K, V>, 64> {
+fn no_beats<K: HeadText, const V: usize>() -> ArrayVec<Beat<K, V>, 64>
+    requires { IsWidth V }
+{
     ArrayVec::new()
 }
 
@@ -100,16 +103,18 @@ fn measure_channel<K: HeadText, const W: usize, const V: usize>(
 }
 
 fn measure_pair<const C: usize, const M: usize>(
-    rt: &(impl Clock + Print),
-    alloc: Global,
-    trace: &Trace,
+    rt: &(impl Clock + Print + Files + AllocGlobal),
+    text: &[u8],
 ) -> Result<()>
-    requires client_width { IsWidth C }
-    requires manager_width { IsWidth M }
-    requires client { trace.now.client ≡ C }
-    requires manager { trace.now.manager ≡ M }
+    requires client { IsWidth C }
+    requires manager { IsWidth M }
+    requires widths { widths_of (body text.now) ≡ Some (C, M) }
 {
-    let script = script_of::<C, M>(alloc, trace)?;
+    let alloc = rt.alloc();
+    let start = Instant::now(rt)?;
+    let script = read_script::<C, M>(alloc, text)?;
+    print_time(rt, "read", start)?;
+    print_peak(rt, "peak")?;
     if script.a.is_empty() {
         let mut converter = Converter::<ChE, C, M>::new();
         let mut given = no_beats::<ChE, M>();
@@ -121,14 +126,14 @@ fn measure_pair<const C: usize, const M: usize>(
     }
 }
 
-fn measure_trace(rt: &(impl Clock + Print), alloc: Global, trace: &Trace) -> Result<()> {
-    match (trace.client, trace.manager) {
-        (8, 8) => measure_pair::<8, 8>(rt, alloc, trace),
-        (4, 64) => measure_pair::<4, 64>(rt, alloc, trace),
-        (64, 4) => measure_pair::<64, 4>(rt, alloc, trace),
-        (64, 1) => measure_pair::<64, 1>(rt, alloc, trace),
-        (8, 32) => measure_pair::<8, 32>(rt, alloc, trace),
-        (client, manager) => bail!("client {client} manager {manager} is not measured"),
+fn measure_text(rt: &(impl Clock + Print + Files + AllocGlobal), text: &[u8]) -> Result<()> {
+    match widths_of_text(text) {
+        Some((8, 8)) => measure_pair::<8, 8>(rt, text),
+        Some((4, 64)) => measure_pair::<4, 64>(rt, text),
+        Some((64, 4)) => measure_pair::<64, 4>(rt, text),
+        Some((64, 1)) => measure_pair::<64, 1>(rt, text),
+        Some((8, 32)) => measure_pair::<8, 32>(rt, text),
+        _ => bail!("nothing is measured at these widths"),
     }
 }
 
@@ -148,11 +153,5 @@ pub fn measure(
     print_time(rt, "count", start)?;
     let bytes = text.len();
     println!(rt; "bytes {bytes}\nlines {lines}")?;
-
-    let start = Instant::now(rt)?;
-    let trace = read(rt.alloc(), &text)?;
-    print_time(rt, "read", start)?;
-    print_peak(rt, "peak")?;
-    println!(rt; "line_bytes {}", size_of::<Line>())?;
-    measure_trace(rt, rt.alloc(), &trace)
+    measure_text(rt, &text)
 }

@@ -1,48 +1,47 @@
 //! Measures whole runs.
-ghost use Rattle.std.specs.Prelude.{◌≡◌, IsTrue};
+ghost use Rattle.std.specs.Prelude.{◌≡◌, ◌≤◌, IsTrue, Some};
 ghost use Rattle.tl_lanes.specs.Lanes.{IsWidth};
+ghost use Rattle.tl_trace.specs.Faults.{body, widths_of};
 ghost use Rattle.tl_bridge.specs.Scripts.{HasShortLists};
 
 use crate::measure::{print_peak, print_time};
 use anyhow::{Result, bail};
+use std::alloc::Global;
 use std::fs::Files;
 use std::io::Read;
 use std::rt::Clock;
+use std::thread::{Threads, join_mut};
 use std::time::Instant;
 use tl_answer::answer_of;
-use tl_bridge::{Outcome, run_sync};
+use tl_bridge::{NoGate, Outcome, RunFault, run_sync, run_threads};
 use tl_msg::Verdict;
-use tl_trace::{Script, Trace, read, script_of};
+use tl_trace::{Script, TraceFault, read_script, widths_of_text};
 
 /// The most beats of a channel that a run takes.
 const MOST_BEATS: usize = 1 << 40;
 
-/// Reads a trace into memory. Its text is let go.
-fn trace_from(rt: &(impl Clock + Print + AllocGlobal), reader: &mut impl Read) -> Result<Trace> {
-    let mut text = Vec::new(rt.alloc());
-    reader.read_to_end(&mut text)?;
-    let start = Instant::now(rt)?;
-    let trace = read(rt.alloc(), &text)?;
-    print_time(rt, "read", start)?;
-    let (bytes, lines) = (text.len(), trace.lines.len().saturating_add(1));
-    println!(rt; "bytes {bytes}\nlines {lines}")?;
-    Ok(trace)
+/// How many bare joins are timed.
+const JOINS: u64 = 1000;
+
+/// How a trace is run.
+#[derive(Clone, Copy)]
+pub struct Way {
+    /// The beats that each ring holds.
+    pub ring: usize,
+    /// The turns of each side between two meetings, where each side has a thread of its own.
+    pub turns: Option<usize>,
+    /// Whether the answer has no far beats.
+    pub check: bool,
 }
 
-/// The script of a trace, which is let go.
+/// The script of a text, which is let go.
 fn script_from<const C: usize, const M: usize>(
-    rt: &(impl Clock + Print + AllocGlobal),
-    trace: Trace,
-) -> Result<Script<C, M>>
-    requires client_width { IsWidth C }
-    requires manager_width { IsWidth M }
-    requires client { trace.client ≡ C }
-    requires manager { trace.manager ≡ M }
+    alloc: Global,
+    text: Vec<u8>,
+) -> Result<Script<C, M>, TraceFault>
+    requires { widths_of (body text.items) ≡ Some (C, M) }
 {
-    let start = Instant::now(rt)?;
-    let script = script_of::<C, M>(rt.alloc(), &trace)?;
-    print_time(rt, "script", start)?;
-    Ok(script)
+    read_script::<C, M>(alloc, &text)
 }
 
 /// Whether a run takes the lists of a script.
@@ -56,11 +55,35 @@ fn is_short<const C: usize, const M: usize>(script: &Script<C, M>) -> bool
         && script.e.len() <= MOST_BEATS
 }
 
+/// Runs a script in one thread, or in two.
+fn outcome_of<const C: usize, const M: usize>(
+    rt: &(impl Threads + AllocGlobal),
+    script: &Script<C, M>,
+    way: Way,
+) -> Result<Outcome<C, M>, RunFault>
+    requires client { IsWidth C }
+    requires manager { IsWidth M }
+    requires short { HasShortLists script.now }
+{
+    match way.turns {
+        Some(turns) if turns > 0 => run_threads(
+            rt,
+            rt.alloc(),
+            script,
+            way.ring,
+            turns,
+            &mut NoGate,
+            &mut NoGate,
+        ),
+        _ => run_sync(rt.alloc(), script, way.ring),
+    }
+}
+
 /// Runs a script, which is let go.
 fn outcome_from<const C: usize, const M: usize>(
-    rt: &(impl Clock + Print + AllocGlobal),
+    rt: &(impl Clock + Print + Threads + AllocGlobal),
     script: Script<C, M>,
-    ring: usize,
+    way: Way,
 ) -> Result<Outcome<C, M>>
     requires client { IsWidth C }
     requires manager { IsWidth M }
@@ -69,7 +92,7 @@ fn outcome_from<const C: usize, const M: usize>(
         bail!("the trace has too many beats");
     }
     let start = Instant::now(rt)?;
-    let outcome = run_sync::<C, M>(rt.alloc(), &script, ring)?;
+    let outcome = outcome_of::<C, M>(rt, &script, way)?;
     print_time(rt, "run", start)?;
     Ok(outcome)
 }
@@ -89,53 +112,63 @@ fn print_counts(rt: &impl Print, verdicts: &[Verdict; 5], rounds: u64) -> Result
 }
 
 fn run_pair<const C: usize, const M: usize>(
-    rt: &(impl Clock + Print + AllocGlobal),
-    trace: Trace,
-    ring: usize,
-    check: bool,
+    rt: &(impl Clock + Print + Threads + AllocGlobal),
+    text: Vec<u8>,
+    way: Way,
 ) -> Result<()>
-    requires client_width { IsWidth C }
-    requires manager_width { IsWidth M }
-    requires client { trace.client ≡ C }
-    requires manager { trace.manager ≡ M }
+    requires client { IsWidth C }
+    requires manager { IsWidth M }
+    requires widths { widths_of (body text.items) ≡ Some (C, M) }
 {
-    let script = script_from::<C, M>(rt, trace)?;
-    let outcome = outcome_from::<C, M>(rt, script, ring)?;
     let start = Instant::now(rt)?;
-    let answer = answer_of::<C, M>(rt.alloc(), &outcome, check)?;
+    let script = script_from::<C, M>(rt.alloc(), text)?;
+    print_time(rt, "read", start)?;
+    let outcome = outcome_from::<C, M>(rt, script, way)?;
+    let start = Instant::now(rt)?;
+    let answer = answer_of::<C, M>(rt.alloc(), &outcome, way.check)?;
     print_time(rt, "write", start)?;
     println!(rt; "far_bytes {}", answer.text.len())?;
     print_counts(rt, &outcome.verdicts, outcome.rounds)
 }
 
-fn run_trace(
-    rt: &(impl Clock + Print + AllocGlobal),
-    trace: Trace,
-    ring: usize,
-    check: bool,
+fn run_text(
+    rt: &(impl Clock + Print + Threads + AllocGlobal),
+    text: Vec<u8>,
+    way: Way,
 ) -> Result<()> {
-    match (trace.client, trace.manager) {
-        (8, 8) => run_pair::<8, 8>(rt, trace, ring, check),
-        (4, 16) => run_pair::<4, 16>(rt, trace, ring, check),
-        (64, 8) => run_pair::<64, 8>(rt, trace, ring, check),
-        (8, 64) => run_pair::<8, 64>(rt, trace, ring, check),
-        (client, manager) => bail!("client {client} manager {manager} is not run"),
+    match widths_of_text(&text) {
+        Some((8, 8)) => run_pair::<8, 8>(rt, text, way),
+        Some((4, 16)) => run_pair::<4, 16>(rt, text, way),
+        Some((64, 8)) => run_pair::<64, 8>(rt, text, way),
+        Some((8, 64)) => run_pair::<8, 64>(rt, text, way),
+        _ => bail!("no runs are measured at these widths"),
     }
 }
 
-/// Reads a trace, runs it over rings of `ring` beats, and writes the answer into memory. Each part is timed, and all of it, with
-/// standard input.
+/// Starts two threads that do nothing, and joins them, as each round of a run in two threads does: so many times. It is timed.
+fn measure_joins(rt: &(impl Clock + Print + Threads)) -> Result<()> {
+    let start = Instant::now(rt)?;
+    for _ in 0..JOINS {
+        join_mut(rt, &mut || {}, &mut || {});
+    }
+    print_time(rt, "joined", start)?;
+    println!(rt; "joins {JOINS}")?;
+    Ok(())
+}
+
+/// Reads a trace, runs it, and writes the answer into memory. Each part is timed, and all of it, with standard input; then bare joins.
 pub fn run(
-    rt: &(impl Clock + Print + Files + AllocGlobal),
+    rt: &(impl Clock + Print + Files + Threads + AllocGlobal),
     reader: &mut impl Read,
-    ring: usize,
-    check: bool,
+    way: Way,
 ) -> Result<()> {
     print_peak(rt, "peak_before")?;
     let start = Instant::now(rt)?;
-    let trace = trace_from(rt, reader)?;
-    run_trace(rt, trace, ring, check)?;
+    let mut text = Vec::new(rt.alloc());
+    reader.read_to_end(&mut text)?;
+    println!(rt; "bytes {}", text.len())?;
+    run_text(rt, text, way)?;
     print_time(rt, "all", start)?;
     print_peak(rt, "peak")?;
-    Ok(())
+    measure_joins(rt)
 }
