@@ -1,6 +1,5 @@
 /* Every call of the library for one pair of widths: each refusal, random messages against the plain layout of docs/SPECIFICATION.md, and
- * random calls. Compiled with
- * -DCLIENT=8 -DMANAGER=4 -Wl,--wrap=malloc, as bench/library does. The last line counts the checks. */
+ * random calls. Compiled with -DCLIENT=8 -DMANAGER=4 -Wl,--wrap=malloc, as bench/library does. The last line counts the checks. */
 #include "tlbridge.h"
 #include <stdio.h>
 #include <stdlib.h>
