@@ -112,7 +112,7 @@ typedef struct {
  *   offer_x(handle, beat, lanes)         offers a near beat: TL_OK, its first fault (1 to 10), TL_NOT_READY or TL_NO_BRIDGE. `lanes` has as
  *                                        many bytes as the sender's link, lane 0 first
  *   take_x(handle, beat, lanes)          takes the first far beat and writes it: whether there was one; else nothing is written. `lanes` has
- *                                        as many bytes as the receiver's link; those outside of the mask are 0
+ *                                        as many bytes as the receiver's link; a lane without a byte of the message is 0
  *   close_x(handle)                      ends the offers of x: TL_OK, TL_MID_BURST or TL_NO_BRIDGE. What is staged still crosses
  *   pump(handle), fetch(handle)          move what there is room for, from the stages to the rings and from the rings to the inboxes, on
  *                                        all channels: how many beats
