@@ -181,32 +181,34 @@ fn closed_channels_are_not_ready(rt: HostRuntime) -> Result<(), Fail> {
     Ok(())
 }
 
-#[test]
-fn ring_sizes(rt: HostRuntime) {
-    assert!(rt; build(rt.alloc(), 0).err() == Some(BuildFault::RingSize));
-    assert!(rt; build(rt.alloc(), 4097).err() == Some(BuildFault::RingSize));
-}
-
 /// Why no bridge is made over this heap, if none is.
-fn refusal(heap: &LocalHeap) -> Option<BuildFault> {
-    SyncBridge::<4, 16, &LocalHeap>::new(heap, 16).err()
+fn refusal(heap: &LocalHeap, ring: usize) -> Option<BuildFault> {
+    SyncBridge::<4, 16, &LocalHeap>::new(heap, ring).err()
 }
 
 #[test]
-fn a_refused_growth_is_out_of_memory(rt: HostRuntime) -> Result<(), Fail> {
-    let mut refused = 0;
-    for size in 0..64usize {
-        let heap = LocalHeap::new(rt.alloc(), 256 * size)?;
-        match refusal(&heap) {
-            Some(fault) => {
-                assert!(rt; fault == BuildFault::OutOfMemory);
-                refused = size + 1;
-            }
-            None => assert!(rt; refused > 0),
-        }
+fn a_ring_has_1_to_4096_beats(rt: HostRuntime) -> Result<(), Fail> {
+    let heap = LocalHeap::new(rt.alloc(), 0)?;
+    for ring in [0, 4097] {
+        assert_eq!(rt; refusal(&heap, ring), Some(BuildFault::RingSize));
+    }
+    for ring in [1, 4096] {
+        assert_eq!(rt; refusal(&heap, ring), Some(BuildFault::OutOfMemory));
+    }
+    Ok(())
+}
+
+/// A heap hands out 16 bytes at least, so each growth is the one that is refused at some size.
+#[test]
+fn each_refused_growth_is_out_of_memory(rt: HostRuntime) -> Result<(), Fail> {
+    let mut fault = None;
+    for size in 0..1024usize {
+        let heap = LocalHeap::new(rt.alloc(), 16 * size)?;
+        fault = refusal(&heap, 16);
+        assert!(rt; fault != Some(BuildFault::RingSize));
         assert_eq!(rt; heap.used(), 0);
     }
-    assert!(rt; refused < 64);
+    assert_eq!(rt; fault, None);
     Ok(())
 }
 

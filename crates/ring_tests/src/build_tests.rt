@@ -26,15 +26,17 @@ fn a_ring_has_1_to_4096_beats(rt: HostRuntime) -> Result<(), Fail> {
     Ok(())
 }
 
+/// A heap hands out 16 bytes at least, so each growth is the one that is refused at some size.
 #[test]
 fn each_refused_growth_is_out_of_memory(rt: HostRuntime) -> Result<(), Fail> {
-    for size in 0..64usize {
-        let heap = LocalHeap::new(rt.alloc(), 32 * size)?;
-        let [pipe, pair] = refusals(&heap, 16);
+    let mut faults = [None; 2];
+    for size in 0..128usize {
+        let heap = LocalHeap::new(rt.alloc(), 16 * size)?;
+        faults = refusals(&heap, 16);
+        let [pipe, pair] = faults;
         assert!(rt; pipe != Some(BuildFault::RingSize) && pair != Some(BuildFault::RingSize));
         assert_eq!(rt; heap.used(), 0);
     }
-    let heap = LocalHeap::new(rt.alloc(), 2048)?;
-    assert_eq!(rt; refusals(&heap, 16), [None; 2]);
+    assert_eq!(rt; faults, [None; 2]);
     Ok(())
 }

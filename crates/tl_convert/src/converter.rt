@@ -33,7 +33,8 @@ impl<K: Channel, const W: usize, const V: usize> Model for Converter<K, W, V> {
 
     ghost view = { λ c. record { burst = c.tracker; home = c.home; partial = c.partial } };
 
-    ghost invariant = { λ c. IsFed K.rules W (record { burst = c.tracker; home = c.home; partial = c.partial }) };
+    ghost invariant = { λ c. IsFed K.rules W
+        (record { burst = c.tracker; home = c.home; partial = c.partial }) };
 }
 
 impl<K: Channel, const W: usize, const V: usize> Converter<K, W, V> {
@@ -91,7 +92,8 @@ impl<K: Channel, const W: usize, const V: usize> Converter<K, W, V> {
         // for all near beats, with their homes, that the converter stands for
         ensures stands { (bs : List (BeatOf K.Head W)) (homes : List ℕ) →
             StandsFor K.rules self.old bs homes →
-            StandsFor K.rules self.new (bs ++ beat.now ∷ []) (homes_with K.rules bs homes beat.now home) }
+            StandsFor K.rules self.new (bs ++ beat.now ∷ [])
+            (homes_with K.rules bs homes beat.now home) }
         ensures due { (bs : List (BeatOf K.Head W)) (homes : List ℕ) →
             StandsFor K.rules self.old bs homes →
             due K.rules W V (bs ++ beat.now ∷ []) (homes_with K.rules bs homes beat.now home) ≡
@@ -122,13 +124,16 @@ impl<K: Channel, const W: usize, const V: usize> Converter<K, W, V> {
         ensures admitted { (bs : List (BeatOf K.Head W)) (homes : List ℕ) →
             StandsFor K.rules self.old bs homes → IsOk result ↔ IsAdmitted K.rules bs beat }
         ensures fault { (bs : List (BeatOf K.Head W)) (homes : List ℕ) →
-            StandsFor K.rules self.old bs homes → IfErr result (λ fault. fault_after K.rules bs beat ≡ Some fault) }
+            StandsFor K.rules self.old bs homes →
+            IfErr result (λ fault. fault_after K.rules bs beat ≡ Some fault) }
         ensures stands { (bs : List (BeatOf K.Head W)) (homes : List ℕ) →
             StandsFor K.rules self.old bs homes →
-            OnOk result (StandsFor K.rules self.new (bs ++ beat ∷ []) (homes_with K.rules bs homes beat home)) }
+            OnOk result (StandsFor K.rules self.new (bs ++ beat ∷ [])
+            (homes_with K.rules bs homes beat home)) }
         ensures due { (bs : List (BeatOf K.Head W)) (homes : List ℕ) →
             StandsFor K.rules self.old bs homes →
-            IfOk result (λ out. due K.rules W V (bs ++ beat ∷ []) (homes_with K.rules bs homes beat home) ≡
+            IfOk result (λ out.
+            due K.rules W V (bs ++ beat ∷ []) (homes_with K.rules bs homes beat home) ≡
             due K.rules W V bs homes ++ out.items) }
 
         // for every converter

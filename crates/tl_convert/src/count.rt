@@ -35,7 +35,8 @@ pub fn far_count<K: Channel, const W: usize, const V: usize>(beats: &[Beat<K, W>
     requires near { IsWidth W }
     requires far { IsWidth V }
     requires few { length beats.now ≤ 2 ^ 40 }
-    ensures { (homes : List ℕ) → result ≡ length (due K.rules W V (accepted_of K.rules beats.now) homes) }
+    ensures { (homes : List ℕ) →
+        result ≡ length (due K.rules W V (accepted_of K.rules beats.now) homes) }
 {
     let mut tracker = Tracker::<K, W>::new();
     let mut count = 0;

@@ -58,7 +58,8 @@ pub(crate) fn pour<K: Channel, const W: usize, const V: usize>(
     requires whole { first % per_beat K.rules beat.now.head W ≡ 0 }
     requires room { first < 2 ^ 40 }
     requires empty { out.old.items ≡ [] }
-    ensures { (m : Message K.Head) → Source K.rules m home first beat.now → Pours K.rules m V first first partial.old [] →
+    ensures { (m : Message K.Head) → Source K.rules m home first beat.now →
+        Pours K.rules m V first first partial.old [] →
         Pours K.rules m V first (first + per_beat K.rules m.head W) partial.new out.new.items }
 {
     let size = K::size(&beat.head);

@@ -15,8 +15,10 @@ pub(crate) fn move_run(from: &[u8], near: usize, to: &mut [u8], far: usize, coun
     requires near_room { near + count ≤ length from.now }
     requires far_room { far + count ≤ length to.old }
     ensures size { length to.new ≡ length to.old }
-    ensures moved { (k : ℕ) → k < count → slice_index to.new (far + k) ≡ slice_index from.now (near + k) }
-    ensures kept { (l : ℕ) → (l < far) ⊎ (far + count ≤ l) → slice_index to.new l ≡ slice_index to.old l }
+    ensures moved { (k : ℕ) → k < count →
+        slice_index to.new (far + k) ≡ slice_index from.now (near + k) }
+    ensures kept { (l : ℕ) → (l < far) ⊎ (far + count ≤ l) →
+        slice_index to.new l ≡ slice_index to.old l }
 {
     to[far..far + count].copy_from_slice(&from[near..near + count]);
 }
@@ -33,8 +35,10 @@ pub(crate) fn move_each<const W: usize, const V: usize>(
     requires near_room { count ≤ W }
     requires far_room { count ≤ V }
     ensures size { length to.new ≡ V }
-    ensures moved { (k : ℕ) → k < count → slice_index to.new (lane_of at k V) ≡ slice_index from.now (lane_of at k W) }
-    ensures kept { (l : ℕ) → ((k : ℕ) → k < count → lane_of at k V ≢ l) → slice_index to.new l ≡ slice_index to.old l }
+    ensures moved { (k : ℕ) → k < count →
+        slice_index to.new (lane_of at k V) ≡ slice_index from.now (lane_of at k W) }
+    ensures kept { (l : ℕ) → ((k : ℕ) → k < count → lane_of at k V ≢ l) →
+        slice_index to.new l ≡ slice_index to.old l }
 {
     for k in 0..count {
         to[lane(at, k, V)] = from[lane(at, k, W)];
@@ -59,8 +63,10 @@ pub(crate) fn move_each_bit(from: Mask, w: usize, to: Mask, v: usize, at: u64, c
     requires far { IsWidth v }
     requires near_room { count ≤ w }
     requires far_room { count ≤ v }
-    ensures moved { (k : ℕ) → k < count → bit_at result (lane_of at k v) ≡ bit_at from (lane_of at k w) }
-    ensures kept { (l : ℕ) → ((k : ℕ) → k < count → lane_of at k v ≢ l) → bit_at result l ≡ bit_at to l }
+    ensures moved { (k : ℕ) → k < count →
+        bit_at result (lane_of at k v) ≡ bit_at from (lane_of at k w) }
+    ensures kept { (l : ℕ) → ((k : ℕ) → k < count → lane_of at k v ≢ l) →
+        bit_at result l ≡ bit_at to l }
 {
     let mut mask = to;
     for k in 0..count {

@@ -290,7 +290,8 @@ impl<K: Channel, const W: usize, const V: usize, A: Allocator> TakeEnd<K, W, V, 
     /// that the inbox has room for, or as many as are there: no fewer than the end knows of. After
     /// a meeting it knows each beat that the ring holds.
     pub fn fetch(&mut self) -> usize
-        ensures least { min (length (known_items self.old)) (inbox_room - length self.old.inbox) ≤ result }
+        ensures least { min (length (known_items self.old))
+            (inbox_room - length self.old.inbox) ≤ result }
         ensures most { result ≤ inbox_room - length self.old.inbox }
         ensures fetched { Fetched self.old result self.new }
         ensures takes { (taken : List (BeatOf K.Head V)) →

@@ -151,7 +151,8 @@ impl<K: Channel, const W: usize, const V: usize, A: Allocator> SyncPipe<K, W, V,
 
     /// Moves staged beats to the ring, as many as it has room for, and answers their number.
     pub fn pump(&mut self) -> usize
-        ensures count { result ≡ min (length self.old.stage) (self.old.room - length self.old.ring) }
+        ensures count { result ≡
+            min (length self.old.stage) (self.old.room - length self.old.ring) }
         ensures moved { (x : World K.Head W V) → StandsFor K.rules self.old x →
             StandsFor K.rules self.new (pushed result x) }
         ensures most { result ≤ ROOM }
@@ -216,7 +217,8 @@ impl<K: Channel, const W: usize, const V: usize, A: Allocator> SyncPipe<K, W, V,
         ensures staged { result.staged ≡ length self.now.stage }
         ensures in_ring { result.in_ring ≡ length self.now.ring }
         ensures inbox { result.inbox ≡ length self.now.inbox }
-        ensures most { (result.staged ≤ ROOM) × (result.in_ring ≤ MAX_RING) × (result.inbox ≤ ROOM) }
+        ensures most { (result.staged ≤ ROOM) × (result.in_ring ≤ MAX_RING) ×
+            (result.inbox ≤ ROOM) }
     {
         Standing {
             staged: self.stage.len(),

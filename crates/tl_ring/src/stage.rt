@@ -39,7 +39,8 @@ pub(crate) fn stage_beat<K: Channel, const W: usize, const V: usize>(
     ensures home { K.rules.lane_address beat.now.head home < 2 ^ 64 }
     ensures stands { (bs : List (BeatOf K.Head W)) (homes : List ℕ) →
         converting.StandsFor K.rules converter.old bs homes →
-        converting.StandsFor K.rules converter.new (bs ++ beat.now ∷ []) (homes_with K.rules bs homes beat.now home) }
+        converting.StandsFor K.rules converter.new (bs ++ beat.now ∷ [])
+        (homes_with K.rules bs homes beat.now home) }
     ensures due { (bs : List (BeatOf K.Head W)) (homes : List ℕ) →
         converting.StandsFor K.rules converter.old bs homes →
         due K.rules W V (bs ++ beat.now ∷ []) (homes_with K.rules bs homes beat.now home) ≡

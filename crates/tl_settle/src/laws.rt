@@ -24,7 +24,8 @@ use tl_msg::{ChA, ChB, ChC, ChD, ChE, Channel};
 
 /// For every script there is one settled state, and no order of steps goes past it.
 pub fn one_settled_state()
-    ensures { (c m : ℕ) → IsWidth c → IsWidth m → (a : List (BeatOf HeadA c)) (d : List (BeatOf HeadD m)) →
+    ensures { (c m : ℕ) → IsWidth c → IsWidth m →
+        (a : List (BeatOf HeadA c)) (d : List (BeatOf HeadD m)) →
         IsSettledState a d (settled_state a d) }
 {}
 
@@ -32,7 +33,8 @@ pub fn one_settled_state()
 /// state, each side answers the next beat of its list as the verdict says, and each response was
 /// given the address of the request that it answers.
 pub fn every_run()
-    ensures { (c m : ℕ) → IsWidth c → IsWidth m → (a : List (BeatOf HeadA c)) (d : List (BeatOf HeadD m)) →
+    ensures { (c m : ℕ) → IsWidth c → IsWidth m →
+        (a : List (BeatOf HeadA c)) (d : List (BeatOf HeadD m)) →
         (i j : ℕ) (client : List (Event c)) (manager : List (Event m)) →
         IsOver a d i j client manager → IsSettledRun a d i j client manager }
 {}
@@ -43,7 +45,8 @@ pub fn every_run()
 pub fn steps_are_admitted<const C: usize, const M: usize>()
     requires client { IsWidth C }
     requires manager { IsWidth M }
-    ensures { (a : List (BeatOf HeadA C)) (d : List (BeatOf HeadD M)) → All (λ b. IsBeat rules_a b) a → All (λ b. IsBeat rules_d b) d →
+    ensures { (a : List (BeatOf HeadA C)) (d : List (BeatOf HeadD M)) →
+        All (λ b. IsBeat rules_a b) a → All (λ b. IsBeat rules_d b) d →
         (i j : ℕ) → Reaches (goes_a a d) (goes_d a d) i j → IsAtAdmitted a d i j }
 {
     faults_are_exact::<ChA, C>();

@@ -94,7 +94,9 @@ struct CommonFields {
 /// The common fields, if the opcode is below 8 and the param below `params`.
 fn common_of(fields: &HeadFields, params: u64) -> Option<CommonFields>
     requires { IsSmall fields.now }
-    ensures { MatchOption result ((nat_lt fields.now.opcode 8 && nat_lt fields.now.param params) ≡ false) (IsCommon fields.now params) }
+    ensures { MatchOption result
+        ((nat_lt fields.now.opcode 8 && nat_lt fields.now.param params) ≡ false)
+        (IsCommon fields.now params) }
 {
     if fields.opcode >= 8 || fields.param >= params {
         return None;

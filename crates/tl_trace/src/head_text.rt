@@ -32,12 +32,18 @@ pub trait HeadText: Channel {
 
     ghost data_form: { form.rules.corrupts ≡ HAS_DATA };
 
-    ghost narrow_head: { (n w : ℕ) (b : BeatOf Self.Head n) → flat_map (λ field. 32 ∷ hex (digit_count w field) (value_of form b field)) form.head_fields ≡ flat_map (λ field. 32 ∷ hex (digit_count 0 field) (form.value b.head field)) form.head_fields };
+    ghost narrow_head: { (n w : ℕ) (b : BeatOf Self.Head n) →
+        flat_map (λ field. 32 ∷ hex (digit_count w field) (value_of form b field))
+        form.head_fields ≡
+        flat_map (λ field. 32 ∷ hex (digit_count 0 field) (form.value b.head field))
+        form.head_fields };
 }
 
 /// The letter, opcode, param, size and source.
 fn common_text(letter: u8, opcode: u8, param: u8, size: u8, source: SourceId) -> [u8; COMMON_END]
-    ensures { result ≡ letter ∷ 32 ∷ digit_char (opcode % 16) ∷ 32 ∷ digit_char (param % 16) ∷ 32 ∷ digit_char (size % 16) ∷ 32 ∷ hex ID_DIGITS source }
+    ensures { result ≡ letter ∷ 32 ∷ digit_char (opcode % 16) ∷
+        32 ∷ digit_char (param % 16) ∷ 32 ∷ digit_char (size % 16) ∷
+        32 ∷ hex ID_DIGITS source }
 {
     let mut text = [b' '; COMMON_END];
     text[0] = letter;

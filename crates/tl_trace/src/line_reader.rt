@@ -27,7 +27,8 @@ fn mask_fits(mask: Mask, w: usize) -> bool
 fn read_mask<K: HeadText>(text: &[u8], at: usize, w: usize) -> Number
     requires width { w ≤ WIDEST }
     requires room { at + length_of w (mask_fields K.form) ≤ length text.now }
-    ensures part { IsPart w text.now at (mask_fields K.form) (mask_values K.form result.value) result.bad }
+    ensures part { IsPart w text.now at (mask_fields K.form) (mask_values K.form result.value)
+        result.bad }
     ensures none { K.form.rules.masked ≡ false → result.value ≡ 0 }
 {
     if !K::MASKED {
@@ -48,7 +49,8 @@ fn read_data<K: HeadText, const N: usize>(
     requires room { at + length_of w (data_fields K.form) ≤ length text.now }
     requires lanes { is_lanes N lanes.old ≡ true }
     requires zero { number_of_lanes lanes.old ≡ 0 }
-    ensures part { IsPart w text.now at (data_fields K.form) (data_values K.form (number_of_lanes lanes.new) result.value) result.bad }
+    ensures part { IsPart w text.now at (data_fields K.form)
+        (data_values K.form (number_of_lanes lanes.new) result.value) result.bad }
     ensures bytes { is_lanes N lanes.new ≡ true }
     ensures small { result.bad ≤ 15 → number_of_lanes lanes.new < 256 ^ w }
     ensures none { K.form.rules.corrupts ≡ false → (lanes.new ≡ lanes.old) × (result.value ≡ 0) }

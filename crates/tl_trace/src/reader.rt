@@ -71,7 +71,8 @@ pub fn expected_end(text: &[u8], at: usize, client: usize, manager: usize) -> Op
     requires client { client ≤ WIDEST }
     requires manager { manager ≤ WIDEST }
     requires at { at < length text.now }
-    ensures { IfSome result (λ end. (at < end) × (end < length text.now) × (slice_index text.now end ≡ 10)) }
+    ensures { IfSome result (λ end. (at < end) × (end < length text.now) ×
+        (slice_index text.now end ≡ 10)) }
 {
     let long = expected_length(text[at], client, manager)?;
     if long >= text.len() - at || text[at + long] != b'\n' {
@@ -109,7 +110,8 @@ pub fn next_line(
     requires at { at < length text.now }
     ensures line { LineAt text.now at result.0 }
     ensures ok { IfOk result.1 (IsReadLine client manager (slice_range text.now at result.0)) }
-    ensures err { IfErr result.1 (λ kind. body_fault client manager (slice_range text.now at result.0) ≡ Some kind) }
+    ensures err { IfErr result.1 (λ kind.
+        body_fault client manager (slice_range text.now at result.0) ≡ Some kind) }
     ensures kinds { IfErr result.1 (λ kind. kind ≢ OutOfMemory) }
 {
     if let Some(end) = expected_end(text, at, client, manager) {
@@ -132,9 +134,12 @@ fn read_lines(
     requires client { client ≤ WIDEST }
     requires manager { manager ≤ WIDEST }
     requires start { (1 ≤ start) × (start ≤ length text.now) }
-    requires header { faults text.now ≡ None ∷ map (later_fault client manager) (cut (drop start text.now)) }
-    ensures told { IfOk result (λ lines. TellsLines client manager lines.items (drop start text.now)) }
-    ensures kept { IfOk result (λ lines. list_all (is_kept_line client manager) lines.items ≡ true) }
+    requires header { faults text.now ≡
+        None ∷ map (later_fault client manager) (cut (drop start text.now)) }
+    ensures told { IfOk result (λ lines.
+        TellsLines client manager lines.items (drop start text.now)) }
+    ensures kept { IfOk result (λ lines.
+        list_all (is_kept_line client manager) lines.items ≡ true) }
     ensures fault { IfErr result (λ e. e.kind ≢ OutOfMemory → IsFirstFault text.now e.line e.kind) }
     ensures memory { IfErr result (λ e. e.kind ≡ OutOfMemory → IsReadableTo text.now e.line) }
 {

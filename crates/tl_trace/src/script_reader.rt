@@ -30,7 +30,8 @@ fn next_near<const C: usize, const M: usize>(
     requires at { at < length text.now }
     ensures line { LineAt text.now at result.0 }
     ensures ok { IfOk result.1 (IsReadNear (slice_range text.now at result.0)) }
-    ensures err { IfErr result.1 (λ kind. body_fault C M (slice_range text.now at result.0) ≡ Some kind) }
+    ensures err { IfErr result.1 (λ kind.
+        body_fault C M (slice_range text.now at result.0) ≡ Some kind) }
     ensures kinds { IfErr result.1 (λ kind. kind ≢ OutOfMemory) }
 {
     if let Some(end) = expected_end(text, at, C, M) {

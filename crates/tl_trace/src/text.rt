@@ -133,7 +133,8 @@ pub fn fill_lanes(line: &mut Room, at: usize, lanes: &[u8], w: usize) -> usize
     requires width { w ≤ WIDEST }
     requires lanes { w ≤ length lanes.now }
     requires room { at + 1 + 2 * w ≤ 192 }
-    ensures items { take result line.new ≡ take at line.old ++ 32 ∷ hex (2 * w) (number_of_lanes lanes.now) }
+    ensures items { take result line.new ≡
+        take at line.old ++ 32 ∷ hex (2 * w) (number_of_lanes lanes.now) }
     ensures end { result ≡ at + 1 + 2 * w }
 {
     let end = at + 1 + 2 * w;

@@ -26,7 +26,8 @@ use tl_msg::{Beat, ChA, ChB, ChC, ChD, ChE, Verdict};
 fn fill_mask<K: HeadText>(line: &mut Room, at: usize, mask: Mask, w: usize) -> usize
     requires width { w ≤ WIDEST }
     requires room { at ≤ 32 }
-    ensures items { take result line.new ≡ take at line.old ++ (if K.form.rules.masked then 32 ∷ hex ((w + 3) / 4) mask else []) }
+    ensures items { take result line.new ≡
+        take at line.old ++ (if K.form.rules.masked then 32 ∷ hex ((w + 3) / 4) mask else []) }
     ensures end { result ≤ 49 }
 {
     if !K::MASKED {
@@ -46,7 +47,10 @@ fn fill_data<K: HeadText>(
     requires width { w ≤ WIDEST }
     requires lanes { w ≤ length lanes.now }
     requires room { at ≤ 49 }
-    ensures items { take result line.new ≡ take at line.old ++ (if K.form.rules.corrupts then (32 ∷ hex (2 * w) (number_of_lanes lanes.now)) ++ 32 ∷ hex 1 (bit corrupt) else []) }
+    ensures items { take result line.new ≡ take at line.old ++
+        (if K.form.rules.corrupts
+        then (32 ∷ hex (2 * w) (number_of_lanes lanes.now)) ++ 32 ∷ hex 1 (bit corrupt)
+        else []) }
     ensures end { result ≤ 180 }
 {
     if !K::HAS_DATA {
@@ -120,7 +124,8 @@ pub fn write_far<K: HeadText, const W: usize>(
 #[tactic(auto, using(crate::proofs::Decimals::length_decimal))]
 fn put_counts(text: &mut Text, word: &[u8], near: u64, far: u64)
     requires { array_vec_len text.old + length word.now ≤ 100 }
-    ensures items { text.new.items ≡ text.old.items ++ (word.now ++ decimal near ++ 32 ∷ decimal far) }
+    ensures items { text.new.items ≡
+        text.old.items ++ (word.now ++ decimal near ++ 32 ∷ decimal far) }
     ensures len { array_vec_len text.new ≤ 200 }
 {
     put(text, word);
@@ -191,7 +196,8 @@ fn line_of_trace(client: usize, manager: usize, line: &Line) -> Text
 /// The text of a trace: what is read of it is this trace again.
 /// `OutOfMemory` where a growth is refused.
 pub fn write_trace(alloc: Global, trace: &Trace) -> Result<Vec<u8>, OutOfMemory>
-    ensures { IfOk result (λ text. text.items ≡ trace_text trace.now.client trace.now.manager trace.now.lines.items) }
+    ensures { IfOk result (λ text. text.items ≡
+        trace_text trace.now.client trace.now.manager trace.now.lines.items) }
 {
     let mut out = Vec::new(alloc);
     out.extend_from_slice(header(trace.client, trace.manager).as_slice())?;

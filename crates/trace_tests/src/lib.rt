@@ -2,4 +2,6 @@
 #![tactic(auto)]
 
 #[cfg(test)]
+mod growth_tests;
+#[cfg(test)]
 mod tests;
