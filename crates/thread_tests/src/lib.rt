@@ -4,6 +4,8 @@
 #[cfg(test)]
 mod gate_tests;
 #[cfg(test)]
+mod growth_tests;
+#[cfg(test)]
 mod run_tests;
 #[cfg(test)]
 mod runs;

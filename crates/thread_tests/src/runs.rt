@@ -26,7 +26,7 @@ pub enum Ending {
 }
 
 /// Whether each list has at most 4,096 beats.
-fn is_short<const C: usize, const M: usize>(script: &Script<C, M>) -> bool
+pub fn is_short<const C: usize, const M: usize>(script: &Script<C, M>) -> bool
     ensures { IsTrue result → HasShortLists script.now }
 {
     script.a.len() <= 4096

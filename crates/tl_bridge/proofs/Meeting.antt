@@ -1,6 +1,7 @@
 -- Both sides of a run at a meeting: they are as one bridge in one thread.
 use Rattle.std.proofs.Common.{◌≡◌, ◌≢◌, ◌+◌, ◌≤◌, ◌<◌, ◌↔◌, ◌⊎◌, ◌++◌, ℕ, Bool, true, List, length, refl, sym, ap, subst, ◌∙◌, arith, length-append, ⊎_elim}
 use Rattle.std.specs.Prelude.{Result, Ok, Err, IfErr}
+use Rattle.std.specs.Global.{Global}
 use mathlib.Core.List.{IsPrefix}
 use Rattle.tl_lanes.specs.Lanes.{IsWidth}
 use Rattle.tl_msg.specs.Rules.{Rules}
@@ -21,14 +22,15 @@ use Rattle.tl_sides.specs.declared.per_channel.PerChannel.{PerChannel}
 use Rattle.tl_pair.specs.Ends.{AreStanding}
 use Rattle.tl_pair.specs.Sides.{ClientState, ManagerState, ClientPast, ManagerPast, ClientStandsFor, ManagerStandsFor, AreSides, SidesMeet, new_client, new_manager}
 use Rattle.tl_bridge.specs.Scripts.{IsShort}
-use Rattle.tl_bridge.specs.Inner.Arriving.{HasRoomFor, beats_of}
-use Rattle.tl_bridge.specs.Inner.Running.{IsAt, AllStop, HasEnded, all_progress, all_stopped, all_under_way, no_beats, progress, standing_count, under_way}
+use Rattle.tl_bridge.specs.Inner.Arriving.{HasRoomFor, HasRoomForInboxes, beats_of, taken_of}
+use Rattle.tl_bridge.specs.Inner.Running.{IsAt, AllStop, HasEnded, HaveRoomToCount, all_progress, all_stopped, all_under_way, no_beats, progress, standing_count, under_way}
 use Rattle.tl_bridge.specs.Inner.Sides.{ClientIsAt, ManagerIsAt, ClientMayPlay, ManagerMayPlay, ClientHasPlayed, ManagerHasPlayed, HasMet, HasPlayed, AreNew, bridge_of, met_progress, none_ready, past_of, pipe_of}
-use Rattle.tl_bridge.specs.declared.channel_state.Offered.{Offered}
 use Rattle.tl_bridge.specs.declared.channel_state.Stop.{Stop}
 use Rattle.tl_bridge.specs.declared.outcome.RunFault.{RunFault}
 use Rattle.tl_bridge.specs.declared.outcome.RunFault.TheVariants.{RingSize}
-use Rattle.tl_bridge.specs.declared.taken.Taken.{Taken}
+use Rattle.tl_bridge.specs.declared.client_turns.ClientRun.{ClientRun}
+use Rattle.tl_bridge.specs.declared.manager_turns.ManagerRun.{ManagerRun}
+use Rattle.tl_bridge.specs.declared.turns.Turn.{Turn}
 use Rattle.tl_bridge.proofs.ChannelEnd.{inbox-due}
 use Rattle.tl_bridge.proofs.ChannelOffer.{sent-passed}
 use Rattle.tl_bridge.proofs.Ended.{progress-is, progress-ends, run_end}
@@ -185,37 +187,41 @@ module _ {A : Type 0} {C M : ℕ} (near : Beats C M) (n : PerChannel ℕ) (far :
         inbox-due rules_a x.a h.meet.a.crosses far.a h.is_at.a_sent.taken (far_a near.a near.d n.a)
         (due-a cw mw near.a near.d n.a n.d (bridge_of s t) x met-stands h.is_at.run h.is_at.a_homed)
 
-module _ {A : Type 0} {C M : ℕ} (cw : IsWidth C) (mw : IsWidth M) (near : Beats C M) (short : IsShort near) (n : PerChannel ℕ) (far : Taken C M) (s : ClientState A C M) (t : ManagerState A C M)
-    (h : HasMet near n (beats_of far) s t) (has : HasRoomFor near far) where
+module _ {C M : ℕ} (cw : IsWidth C) (mw : IsWidth M) (near : Beats C M) (short : IsShort near) (n : PerChannel ℕ) (x : ClientRun C M) (y : ManagerRun C M)
+    (h : HasMet near n (beats_of (taken_of x y)) x.side y.side) (has : HasRoomFor near (taken_of x y)) where
   -- so each side may play
-  pub client-may : ClientMayPlay near n far.b far.d s
-  client-may =
-      let fit = inboxes-fit cw mw near n far (bridge_of s t) (past_of s t h.client h.manager) (met-stands near n (beats_of far) s t h) h.is_at has in
-      record {
-        few = counts-fit cw mw near n (beats_of far) (past_of s t h.client h.manager) h.is_at short;
-        j = n.d;
-        m = n.a;
-        es = h.client.history;
-        is_at = client-begins near n (beats_of far) s t h cw mw;
-        due = client-due near n (beats_of far) s t h cw mw;
-        room_b = fit.b;
-        room_d = fit.d;
-      }
+  few : HaveRoomToCount n
+  few = counts-fit cw mw near n (beats_of (taken_of x y)) (past_of x.side y.side h.client h.manager) h.is_at short
 
-  pub manager-may : ManagerMayPlay near n far.a far.c far.e t
-  manager-may =
-      let fit = inboxes-fit cw mw near n far (bridge_of s t) (past_of s t h.client h.manager) (met-stands near n (beats_of far) s t h) h.is_at has in
-      record {
-        few = counts-fit cw mw near n (beats_of far) (past_of s t h.client h.manager) h.is_at short;
-        i = n.a;
-        m = n.d;
-        es = h.manager.history;
-        is_at = manager-begins near n (beats_of far) s t h cw mw;
-        due = manager-due near n (beats_of far) s t h cw mw;
-        room_a = fit.a;
-        room_c = fit.c;
-        room_e = fit.e;
-      }
+  fit : HasRoomForInboxes (bridge_of x.side y.side) (taken_of x y)
+  fit =
+      let far = beats_of (taken_of x y) in
+      inboxes-fit cw mw near n (taken_of x y) (bridge_of x.side y.side) (past_of x.side y.side h.client h.manager) (met-stands near n far x.side y.side h) h.is_at has
+
+  pub client-may : ClientMayPlay near n x
+  client-may = record {
+    few = few;
+    j = n.d;
+    m = n.a;
+    es = h.client.history;
+    is_at = client-begins near n (beats_of (taken_of x y)) x.side y.side h cw mw;
+    due = client-due near n (beats_of (taken_of x y)) x.side y.side h cw mw;
+    room_b = fit.b;
+    room_d = fit.d;
+  }
+
+  pub manager-may : ManagerMayPlay near n y
+  manager-may = record {
+    few = few;
+    i = n.a;
+    m = n.d;
+    es = h.manager.history;
+    is_at = manager-begins near n (beats_of (taken_of x y)) x.side y.side h cw mw;
+    due = manager-due near n (beats_of (taken_of x y)) x.side y.side h cw mw;
+    room_a = fit.a;
+    room_c = fit.c;
+    room_e = fit.e;
+  }
 
 -- ---- a meeting
 
@@ -277,28 +283,36 @@ module _ {A : Type 0} {C M : ℕ} (s : ClientState A C M) (t : ManagerState A C 
             (subst (λ k. IsAt near (record { a = 0; b = 0; c = 0; d = 0; e = 0 }) k (past_of s' t' (new_client new.space) (new_manager new.space))) (sym empty) begins);
       }
 
-  -- both sides have played a round, and met
-  pub both-played : (near : Beats C M) (n : PerChannel ℕ) (far far' : Taken C M) (s0 : ClientState A C M) (t0 : ManagerState A C M) (h : HasMet near n (beats_of far) s0 t0) →
-      IsWidth C → IsWidth M → (nc nm : PerChannel ℕ) (oc om : PerChannel Offered) (mc mm moved : Bool) →
-      (client : ClientHasPlayed near n far.b far.d s0 nc far'.b far'.d s oc mc) → (manager : ManagerHasPlayed near n far.a far.c far.e t0 nm far'.a far'.c far'.e t om mm) →
-      (moved ≡ true → (mc ≡ true) ⊎ (mm ≡ true)) →
-      ((x : ClientPast C M) (y : ManagerPast C M) → ClientStandsFor s x → ManagerStandsFor t y → SidesMeet s' t' x y) →
-      HasPlayed near n (beats_of far) s0 t0 (record { a = nc.a; b = nm.b; c = nc.c; d = nm.d; e = nc.e }) (beats_of far') s' t'
-      (record { a = oc.a; b = om.b; c = oc.c; d = om.d; e = oc.e }) moved standings
-  both-played near n far far' s0 t0 h cw mw nc nm oc om mc mm moved client manager which meets =
-      let k = client.is_at n.d n.a h.client.history none_ready (client-begins near n (beats_of far) s0 t0 h cw mw) (client-due near n (beats_of far) s0 t0 h cw mw) in
-      let l = manager.is_at n.a n.d h.manager.history none_ready (manager-begins near n (beats_of far) s0 t0 h cw mw) (manager-due near n (beats_of far) s0 t0 h cw mw) in
-      let n' : PerChannel ℕ = record { a = nc.a; b = nm.b; c = nc.c; d = nm.d; e = nc.e } in
+-- both sides have played a round, and met
+module _ {C M : ℕ} (cw : IsWidth C) (mw : IsWidth M) (near : Beats C M) (n : PerChannel ℕ) (x : ClientRun C M) (y : ManagerRun C M)
+    (h : HasMet near n (beats_of (taken_of x y)) x.side y.side) (x' : ClientRun C M) (y' : ManagerRun C M) (there back : Turn)
+    (client : ClientHasPlayed near n x x' there) (manager : ManagerHasPlayed near n y y' back) (s' : ClientState Global C M) (t' : ManagerState Global C M)
+    (standings : PerChannel Standing) (m : Meeting x'.side y'.side s' t' standings)
+    (meets : (p : ClientPast C M) (q : ManagerPast C M) → ClientStandsFor x'.side p → ManagerStandsFor y'.side q → SidesMeet s' t' p q)
+    (accepted moved : Bool) (which : moved ≡ true → (there.moved ≡ true) ⊎ (back.moved ≡ true)) where
+  pub both-played : HasPlayed near n x.side y.side (record {
+    at = record { a = there.at.a; b = back.at.b; c = there.at.c; d = back.at.d; e = there.at.e };
+    offers = record { a = there.offers.a; b = back.offers.b; c = there.offers.c; d = back.offers.d; e = there.offers.e };
+    accepted = accepted;
+    moved = moved;
+    standings = standings;
+  }) (beats_of (taken_of x' y')) s' t'
+  both-played =
+      let far = beats_of (taken_of x y) in
+      let far' = beats_of (taken_of x' y') in
+      let k = client.is_at n.d n.a h.client.history none_ready (client-begins near n far x.side y.side h cw mw) (client-due near n far x.side y.side h cw mw) in
+      let l = manager.is_at n.a n.d h.manager.history none_ready (manager-begins near n far x.side y.side h cw mw) (manager-due near n far x.side y.side h cw mw) in
+      let n' : PerChannel ℕ = record { a = there.at.a; b = back.at.b; c = there.at.c; d = back.at.d; e = there.at.e } in
       let past = past_of s' t' k.past l.past in
       let met = meets k.past l.past k.stands l.stands in
-      let same = same-progress n' in
+      let same = same-progress x'.side y'.side s' t' standings m n' in
       let least = client.goes.keeps in
       let least' = manager.goes.keeps in
       record {
         met = record {
           client = k.past;
           manager = l.past;
-          sides = still-sides;
+          sides = still-sides x'.side y'.side s' t' standings m;
           meet = met;
           ring_a = m.a.ring;
           ring_b = m.b.ring;
@@ -306,12 +320,12 @@ module _ {A : Type 0} {C M : ℕ} (s : ClientState A C M) (t : ManagerState A C 
           ring_d = m.d.ring;
           ring_e = m.e.ring;
           is_at = record {
-            run = round n.a n.d nc.a nm.d h.client.history k.past.history h.manager.history l.past.history h.is_at.run k.moves l.moves;
-            a_sent = sent-passed rules_a near.a nc.a k.past.a.taken k.past.a past.a k.a_sent refl refl refl far'.a.items l.a_taken;
-            b_sent = sent-passed rules_b near.b nm.b l.past.b.taken l.past.b past.b l.b_sent refl refl refl far'.b.items k.b_taken;
-            c_sent = sent-passed rules_c near.c nc.c k.past.c.taken k.past.c past.c k.c_sent refl refl refl far'.c.items l.c_taken;
-            d_sent = sent-passed rules_d near.d nm.d l.past.d.taken l.past.d past.d l.d_sent refl refl refl far'.d.items k.d_taken;
-            e_sent = sent-passed rules_e near.e nc.e k.past.e.taken k.past.e past.e k.e_sent refl refl refl far'.e.items l.e_taken;
+            run = round n.a n.d there.at.a back.at.d h.client.history k.past.history h.manager.history l.past.history h.is_at.run k.moves l.moves;
+            a_sent = sent-passed rules_a near.a there.at.a k.past.a.taken k.past.a past.a k.a_sent refl refl refl far'.a l.a_taken;
+            b_sent = sent-passed rules_b near.b back.at.b l.past.b.taken l.past.b past.b l.b_sent refl refl refl far'.b k.b_taken;
+            c_sent = sent-passed rules_c near.c there.at.c k.past.c.taken k.past.c past.c k.c_sent refl refl refl far'.c l.c_taken;
+            d_sent = sent-passed rules_d near.d back.at.d l.past.d.taken l.past.d past.d l.d_sent refl refl refl far'.d k.d_taken;
+            e_sent = sent-passed rules_e near.e there.at.e k.past.e.taken k.past.e past.e k.e_sent refl refl refl far'.e l.e_taken;
             a_homed = k.a_homed;
             b_homed = l.b_homed;
             c_homed = k.c_homed;

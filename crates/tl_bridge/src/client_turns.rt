@@ -14,10 +14,10 @@ ghost use Rattle.tl_sides.specs.Crossings.{stops_alone};
 ghost use Rattle.tl_pair.specs.Sides.{ClientPast, ClientStandsFor, client_takes_b, client_takes_d};
 ghost use Rattle.tl_bridge.specs.Scripts.{HasShortLists, near_beats};
 ghost use Rattle.tl_bridge.specs.declared.channel_state.Offered.TheVariants.{NotReady};
-ghost use Rattle.tl_bridge.specs.Inner.Running.{Does, HaveRoomToCount, counted};
+ghost use Rattle.tl_bridge.specs.Inner.Running.{Does, HaveRoomToCount};
 ghost use Rattle.tl_bridge.specs.Inner.Sides.{SameClientEnds, ClientHasOffered, ClientGoes, ClientIsAt, ClientMayPlay, ClientHasPlayed};
 
-use crate::channel_state::{Offered, Stop, add_accepted};
+use crate::channel_state::{Offered, Stop};
 use crate::gates::Gate;
 use crate::inboxes::take_all;
 use crate::turns::Turn;
@@ -25,6 +25,31 @@ use tl_msg::{Beat, ChA, ChB, ChC, ChD, ChE};
 use tl_pair::ClientSide;
 use tl_sides::PerChannel;
 use tl_trace::Script;
+
+/// What the client's thread holds for a whole run: its side, and the far beats that it has taken, in
+/// lists that grow no more.
+#[derive(Drop)]
+pub(crate) struct ClientRun<const C: usize, const M: usize> {
+    pub side: ClientSide<C, M>,
+    pub far_b: Vec<Beat<ChB, C>>,
+    pub far_d: Vec<Beat<ChD, C>>,
+}
+
+impl<const C: usize, const M: usize> ClientRun<C, M> {
+    // The lists, when the side is done with.
+    pub(crate) fn into_lists(self) -> (Vec<Beat<ChB, C>>, Vec<Beat<ChD, C>>)
+        requires client { IsWidth C }
+        requires manager { IsWidth M }
+        ensures { result ≡ (self.entry.far_b, self.entry.far_d) }
+    {
+        let ClientRun {
+            side: _,
+            far_b,
+            far_d,
+        } = self;
+        (far_b, far_d)
+    }
+}
 
 // The client's side offers the next beat of A, of which `at` were accepted.
 fn offer_a<const C: usize, const M: usize>(
@@ -67,7 +92,8 @@ fn offer_c<const C: usize, const M: usize>(
     ensures offers { (x : ClientPast C M) → ClientStandsFor side.old x →
         (accepted : List (BeatOf HeadC C)) × (y : World HeadC C M) ×
         ClientStandsFor side.new (record x { c = y }) ×
-        Does rules_c beats.now at (stops_alone rules_c x.c.accepted) (λ _. 0) x.c result accepted y }
+        Does rules_c beats.now at (stops_alone rules_c x.c.accepted) (λ _. 0)
+        x.c result accepted y }
 {
     let Some(beat) = beats.get(at) else {
         return match side.close_c() {
@@ -96,7 +122,8 @@ fn offer_e<const C: usize, const M: usize>(
     ensures offers { (x : ClientPast C M) → ClientStandsFor side.old x →
         (accepted : List (BeatOf HeadE C)) × (y : World HeadE C M) ×
         ClientStandsFor side.new (record x { e = y }) ×
-        Does rules_e beats.now at (stops_alone rules_e x.e.accepted) (λ _. 0) x.e result accepted y }
+        Does rules_e beats.now at (stops_alone rules_e x.e.accepted) (λ _. 0)
+        x.e result accepted y }
 {
     let Some(beat) = beats.get(at) else {
         return match side.close_e() {
@@ -123,7 +150,8 @@ fn take_each<const C: usize, const M: usize>(
     requires room_b { vec_len far_b.old + length side.old.b.inbox ≤ vec_capacity far_b.old }
     requires room_d { vec_len far_d.old + length side.old.d.inbox ≤ vec_capacity far_d.old }
     ensures taken { (x : ClientPast C M) → ClientStandsFor side.old x →
-        ClientStandsFor side.new (client_takes_d side.old.d.inbox (client_takes_b side.old.b.inbox x)) }
+        ClientStandsFor side.new
+        (client_takes_d side.old.d.inbox (client_takes_b side.old.b.inbox x)) }
     ensures far_b { far_b.new.items ≡ far_b.old.items ++ side.old.b.inbox }
     ensures far_d { far_d.new.items ≡ far_d.old.items ++ side.old.d.inbox }
     ensures capacity_b { vec_capacity far_b.new ≡ vec_capacity far_b.old }
@@ -163,46 +191,50 @@ fn offer_each<const C: usize, const M: usize>(
 fn turn<const C: usize, const M: usize>(
     side: &mut ClientSide<C, M>,
     script: &Script<C, M>,
-    at: &mut PerChannel<usize>,
+    at: &PerChannel<usize>,
 ) -> Turn
     requires client { IsWidth C }
     requires manager { IsWidth M }
-    requires few { HaveRoomToCount at.old }
-    ensures goes { ClientGoes at.old side.old at.new side.new result.moved }
-    ensures counted { at.new ≡ counted at.old result.offers }
-    ensures others { (at.new.b ≡ at.old.b) × (at.new.d ≡ at.old.d) }
-    ensures is_at { (j m : ℕ) (es : List (Event C)) (far_of_b : List (BeatOf HeadB C)) (far_of_d : List (BeatOf HeadD C)) (o : PerChannel Offered) →
-        ClientIsAt (near_beats script.now) j m es at.old far_of_b far_of_d side.old o →
-        ClientIsAt (near_beats script.now) j m es at.new far_of_b far_of_d side.new result.offers }
+    requires few { HaveRoomToCount at.now }
+    ensures goes { ClientGoes at.now side.old result.at side.new result.moved }
+    ensures others { (result.at.b ≡ at.now.b) × (result.at.d ≡ at.now.d) }
+    ensures is_at { (j m : ℕ) (es : List (Event C)) (far_of_b : List (BeatOf HeadB C))
+        (far_of_d : List (BeatOf HeadD C)) (o : PerChannel Offered) →
+        ClientIsAt (near_beats script.now) j m es at.now far_of_b far_of_d side.old o →
+        ClientIsAt (near_beats script.now) j m es result.at far_of_b far_of_d side.new
+        result.offers }
 {
     let offers = offer_each(side, script, at);
-    add_accepted(at, &offers);
     let pumped = side.pump();
     let fetched = side.fetch();
-    Turn::new(offers, pumped + fetched)
+    Turn::new(at, offers, pumped + fetched)
 }
 
-// What the client's side does in a round.
+// What the client's side does in a round, before which so many beats of each channel were accepted.
+// A turn in which nothing moves is its last: the ones after it would find the same, until the other
+// side moves.
 pub(crate) fn play<G: Gate, const C: usize, const M: usize>(
-    side: &mut ClientSide<C, M>,
+    run: &mut ClientRun<C, M>,
     script: &Script<C, M>,
-    at: &mut PerChannel<usize>,
-    far_b: &mut Vec<Beat<ChB, C>>,
-    far_d: &mut Vec<Beat<ChD, C>>,
+    at: &PerChannel<usize>,
     turns: usize,
     gate: &mut G,
 ) -> Turn
     requires client { IsWidth C }
     requires manager { IsWidth M }
     requires short { HasShortLists script.now }
-    requires ready { ClientMayPlay (near_beats script.now) at.old far_b.old far_d.old side.old }
-    ensures { ClientHasPlayed (near_beats script.now) at.old far_b.old far_d.old side.old at.new far_b.new far_d.new side.new result.offers result.moved }
+    requires ready { ClientMayPlay (near_beats script.now) at.now run.old }
+    ensures { ClientHasPlayed (near_beats script.now) at.now run.old run.new result }
 {
     gate.pass();
-    take_each(side, far_b, far_d);
-    let mut played = Turn::none();
+    take_each(&mut run.side, &mut run.far_b, &mut run.far_d);
+    let mut played = Turn::none(at);
     'turns: for _ in 0..turns {
-        played = played.then(turn(side, script, at));
+        let last = turn(&mut run.side, script, &played.at);
+        played = played.then(last);
+        if !last.moved {
+            return played;
+        }
     }
     played
 }

@@ -27,7 +27,8 @@ pub(crate) trait Takes<B> {
 
     ghost takes_none: { (s : Self) → Becomes s [] s };
 
-    ghost takes_then: { (s t u : Self) (i j : List B) → Becomes s i t → Becomes t j u → Becomes s (i ++ j) u };
+    ghost takes_then: { (s t u : Self) (i j : List B) → Becomes s i t → Becomes t j u →
+        Becomes s (i ++ j) u };
 }
 
 impl<const C: usize, const M: usize> Takes<BeatOf<HeadB, C>> for ClientSide<C, M> {

@@ -14,10 +14,10 @@ ghost use Rattle.tl_sides.specs.Crossings.{stops_alone};
 ghost use Rattle.tl_pair.specs.Sides.{ManagerPast, ManagerStandsFor, manager_takes_a, manager_takes_c, manager_takes_e};
 ghost use Rattle.tl_bridge.specs.Scripts.{HasShortLists, near_beats};
 ghost use Rattle.tl_bridge.specs.declared.channel_state.Offered.TheVariants.{NotReady};
-ghost use Rattle.tl_bridge.specs.Inner.Running.{Does, HaveRoomToCount, counted};
+ghost use Rattle.tl_bridge.specs.Inner.Running.{Does, HaveRoomToCount};
 ghost use Rattle.tl_bridge.specs.Inner.Sides.{SameManagerEnds, ManagerHasOffered, ManagerGoes, ManagerIsAt, ManagerMayPlay, ManagerHasPlayed};
 
-use crate::channel_state::{Offered, Stop, add_accepted};
+use crate::channel_state::{Offered, Stop};
 use crate::gates::Gate;
 use crate::inboxes::take_all;
 use crate::turns::Turn;
@@ -25,6 +25,33 @@ use tl_msg::{Beat, ChA, ChB, ChC, ChD, ChE};
 use tl_pair::ManagerSide;
 use tl_sides::PerChannel;
 use tl_trace::Script;
+
+/// What the manager's thread holds for a whole run: its side, and the far beats that it has taken,
+/// in lists that grow no more.
+#[derive(Drop)]
+pub(crate) struct ManagerRun<const C: usize, const M: usize> {
+    pub side: ManagerSide<C, M>,
+    pub far_a: Vec<Beat<ChA, M>>,
+    pub far_c: Vec<Beat<ChC, M>>,
+    pub far_e: Vec<Beat<ChE, M>>,
+}
+
+impl<const C: usize, const M: usize> ManagerRun<C, M> {
+    // The lists, when the side is done with.
+    pub(crate) fn into_lists(self) -> (Vec<Beat<ChA, M>>, Vec<Beat<ChC, M>>, Vec<Beat<ChE, M>>)
+        requires client { IsWidth C }
+        requires manager { IsWidth M }
+        ensures { result ≡ (self.entry.far_a, self.entry.far_c, self.entry.far_e) }
+    {
+        let ManagerRun {
+            side: _,
+            far_a,
+            far_c,
+            far_e,
+        } = self;
+        (far_a, far_c, far_e)
+    }
+}
 
 // The manager's side offers the next beat of B, of which `at` were accepted.
 fn offer_b<const C: usize, const M: usize>(
@@ -38,7 +65,8 @@ fn offer_b<const C: usize, const M: usize>(
     ensures offers { (x : ManagerPast C M) → ManagerStandsFor side.old x →
         (accepted : List (BeatOf HeadB M)) × (y : World HeadB M C) ×
         ManagerStandsFor side.new (record x { b = y }) ×
-        Does rules_b beats.now at (stops_alone rules_b x.b.accepted) (λ _. 0) x.b result accepted y }
+        Does rules_b beats.now at (stops_alone rules_b x.b.accepted) (λ _. 0)
+        x.b result accepted y }
 {
     let Some(beat) = beats.get(at) else {
         return match side.close_b() {
@@ -67,7 +95,8 @@ fn offer_d<const C: usize, const M: usize>(
     ensures offers { (x : ManagerPast C M) → ManagerStandsFor side.old x →
         (accepted : List (BeatOf HeadD M)) × (y : World HeadD M C) ×
         ManagerStandsFor side.new (record x { history = x.history ++ map Answer accepted; d = y }) ×
-        Does rules_d beats.now at (manager_answer x.history) (λ b. manager_home x.history b.head) x.d result accepted y }
+        Does rules_d beats.now at (manager_answer x.history)
+        (λ b. manager_home x.history b.head) x.d result accepted y }
 {
     let Some(beat) = beats.get(at) else {
         return match side.close_d() {
@@ -96,7 +125,8 @@ fn take_each<const C: usize, const M: usize>(
     requires room_c { vec_len far_c.old + length side.old.c.inbox ≤ vec_capacity far_c.old }
     requires room_e { vec_len far_e.old + length side.old.e.inbox ≤ vec_capacity far_e.old }
     ensures taken { (x : ManagerPast C M) → ManagerStandsFor side.old x →
-        ManagerStandsFor side.new (manager_takes_e side.old.e.inbox (manager_takes_c side.old.c.inbox (manager_takes_a side.old.a.inbox x))) }
+        ManagerStandsFor side.new (manager_takes_e side.old.e.inbox
+        (manager_takes_c side.old.c.inbox (manager_takes_a side.old.a.inbox x))) }
     ensures far_a { far_a.new.items ≡ far_a.old.items ++ side.old.a.inbox }
     ensures far_c { far_c.new.items ≡ far_c.old.items ++ side.old.c.inbox }
     ensures far_e { far_e.new.items ≡ far_e.old.items ++ side.old.e.inbox }
@@ -138,47 +168,56 @@ fn offer_each<const C: usize, const M: usize>(
 fn turn<const C: usize, const M: usize>(
     side: &mut ManagerSide<C, M>,
     script: &Script<C, M>,
-    at: &mut PerChannel<usize>,
+    at: &PerChannel<usize>,
 ) -> Turn
     requires client { IsWidth C }
     requires manager { IsWidth M }
-    requires few { HaveRoomToCount at.old }
-    ensures goes { ManagerGoes at.old side.old at.new side.new result.moved }
-    ensures counted { at.new ≡ counted at.old result.offers }
-    ensures others { (at.new.a ≡ at.old.a) × (at.new.c ≡ at.old.c) × (at.new.e ≡ at.old.e) }
-    ensures is_at { (i m : ℕ) (es : List (Event M)) (far_of_a : List (BeatOf HeadA M)) (far_of_c : List (BeatOf HeadC M)) (far_of_e : List (BeatOf HeadE M)) (o : PerChannel Offered) →
-        ManagerIsAt (near_beats script.now) i m es at.old far_of_a far_of_c far_of_e side.old o →
-        ManagerIsAt (near_beats script.now) i m es at.new far_of_a far_of_c far_of_e side.new result.offers }
+    requires few { HaveRoomToCount at.now }
+    ensures goes { ManagerGoes at.now side.old result.at side.new result.moved }
+    ensures others { (result.at.a ≡ at.now.a) × (result.at.c ≡ at.now.c) ×
+        (result.at.e ≡ at.now.e) }
+    ensures is_at { (i m : ℕ) (es : List (Event M)) (far_of_a : List (BeatOf HeadA M))
+        (far_of_c : List (BeatOf HeadC M)) (far_of_e : List (BeatOf HeadE M))
+        (o : PerChannel Offered) →
+        ManagerIsAt (near_beats script.now) i m es at.now far_of_a far_of_c far_of_e side.old o →
+        ManagerIsAt (near_beats script.now) i m es result.at far_of_a far_of_c far_of_e side.new
+        result.offers }
 {
     let offers = offer_each(side, script, at);
-    add_accepted(at, &offers);
     let pumped = side.pump();
     let fetched = side.fetch();
-    Turn::new(offers, pumped + fetched)
+    Turn::new(at, offers, pumped + fetched)
 }
 
-// What the manager's side does in a round.
+// What the manager's side does in a round, before which so many beats of each channel were
+// accepted. A turn in which nothing moves is its last, as on the client's side.
 pub(crate) fn play<G: Gate, const C: usize, const M: usize>(
-    side: &mut ManagerSide<C, M>,
+    run: &mut ManagerRun<C, M>,
     script: &Script<C, M>,
-    at: &mut PerChannel<usize>,
-    far_a: &mut Vec<Beat<ChA, M>>,
-    far_c: &mut Vec<Beat<ChC, M>>,
-    far_e: &mut Vec<Beat<ChE, M>>,
+    at: &PerChannel<usize>,
     turns: usize,
     gate: &mut G,
 ) -> Turn
     requires client { IsWidth C }
     requires manager { IsWidth M }
     requires short { HasShortLists script.now }
-    requires ready { ManagerMayPlay (near_beats script.now) at.old far_a.old far_c.old far_e.old side.old }
-    ensures { ManagerHasPlayed (near_beats script.now) at.old far_a.old far_c.old far_e.old side.old at.new far_a.new far_c.new far_e.new side.new result.offers result.moved }
+    requires ready { ManagerMayPlay (near_beats script.now) at.now run.old }
+    ensures { ManagerHasPlayed (near_beats script.now) at.now run.old run.new result }
 {
     gate.pass();
-    take_each(side, far_a, far_c, far_e);
-    let mut played = Turn::none();
+    take_each(
+        &mut run.side,
+        &mut run.far_a,
+        &mut run.far_c,
+        &mut run.far_e,
+    );
+    let mut played = Turn::none(at);
     'turns: for _ in 0..turns {
-        played = played.then(turn(side, script, at));
+        let last = turn(&mut run.side, script, &played.at);
+        played = played.then(last);
+        if !last.moved {
+            return played;
+        }
     }
     played
 }

@@ -131,7 +131,8 @@ pub(crate) fn outcome_of<const C: usize, const M: usize>(
 ) -> Outcome<C, M>
     requires client { IsWidth C }
     requires manager { IsWidth M }
-    ensures { (near : Beats C M) (s : Bridge C M) → HasEnded near end.at (beats_of far.entry) s end.stops end.rounds →
+    ensures { (near : Beats C M) (s : Bridge C M) →
+        HasEnded near end.at (beats_of far.entry) s end.stops end.rounds →
         EndsIn near result }
 {
     let verdicts = [

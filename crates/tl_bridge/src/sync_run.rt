@@ -36,7 +36,8 @@ pub fn run_sync<const C: usize, const M: usize>(
     requires short { HasShortLists script.now }
     ensures outcome { IfOk result (SettlesTo script.now) }
     ensures size { IsOk result → (1 ≤ ring) × (ring ≤ MAX_RING) }
-    ensures ring_size { IfErr result (λ fault. (fault ≡ RingSize) ↔ ((ring ≡ 0) ⊎ (MAX_RING < ring))) }
+    ensures ring_size { IfErr result (λ fault. (fault ≡ RingSize) ↔
+        ((ring ≡ 0) ⊎ (MAX_RING < ring))) }
     ensures never_stalled { IfErr result (λ fault. fault ≢ Stalled) }
 {
     let mut bridge = SyncBridge::<C, M>::new(alloc, ring)?;

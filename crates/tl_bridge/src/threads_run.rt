@@ -3,33 +3,39 @@ ghost use Rattle.std.specs.Prelude.{◌≡◌, ◌≢◌, ◌≤◌, ◌<◌, �
 ghost use Rattle.tl_ring.specs.declared.pipe.TheConstants.{MAX_RING};
 ghost use Rattle.tl_lanes.specs.Lanes.{IsWidth};
 ghost use Rattle.tl_bridge.specs.declared.outcome.RunFault.TheVariants.{RingSize};
-ghost use Rattle.tl_bridge.specs.Scripts.{HasShortLists, SettlesTo};
-ghost use Rattle.tl_bridge.specs.Inner.Sides.{AreNew};
+ghost use Rattle.tl_bridge.specs.Scripts.{HasShortLists, SettlesTo, near_beats};
+ghost use Rattle.tl_bridge.specs.Inner.Arriving.{beats_of, taken_of};
+ghost use Rattle.tl_bridge.specs.Inner.Running.{HasEnded};
+ghost use Rattle.tl_bridge.specs.Inner.Sides.{AreNew, bridge_of};
 
+use crate::client_turns::ClientRun;
 use crate::gates::Gate;
+use crate::manager_turns::ManagerRun;
 use crate::outcome::{Outcome, RunFault};
-use crate::rounds::outcome_of;
+use crate::rounds::{End, outcome_of};
 use crate::taken::Taken;
 use crate::thread_rounds::play_rounds;
 use std::alloc::Global;
 use std::thread::Threads;
-use tl_pair::{ClientSide, ManagerSide};
 use tl_trace::Script;
 
-/// Runs a script over a bridge whose two sides are each in a thread of their own, to its end: the far beats and the verdicts are those
-/// that the script settles to, whatever the size of the rings, the number of turns, and the order in which the two threads do what
-/// they do; so they are those of [`run_sync`](crate::run_sync).
+/// Runs a script over a bridge whose two sides are each in a thread of their own, to its end: the
+/// far beats and the verdicts are those that the script settles to, whatever the size of the rings,
+/// the number of turns, and the order in which the two threads do what they do; so they are those
+/// of [`run_sync`](crate::run_sync).
 ///
-/// The run is made of rounds. In each, each side passes its gate, takes all that stood in its inboxes when the two sides met last, and
-/// then `turns` times offers the next beat of each of its channels that is ready, moves staged beats into its rings, and beats of the
-/// other side's rings into its inboxes. Both sides do so at the same time; then they meet. A refused beat stays next. A channel whose
-/// list is used up between two messages is closed. The run ends after the first round in which no beat was accepted and after which
-/// nothing is under way.
+/// The run is made of rounds. In each, each side passes its gate, takes all that stood in its
+/// inboxes when the two sides met last, and then `turns` times offers the next beat of each of its
+/// channels that is ready, moves staged beats into its rings, and beats of the other side's rings
+/// into its inboxes. Both sides do so at the same time; then they meet. A refused beat stays next.
+/// A channel whose list is used up between two messages is closed. The run ends after the first
+/// round in which no beat was accepted and after which nothing is under way.
 ///
-/// The rings hold `ring` beats each. Refused with `RingSize` exactly where that is 0 or above 4,096, which is tested first, with
-/// `OutOfMemory` where there is no memory for the rings or for the far beats, all of which is asked for before the first round, and
-/// with `Stalled` after a round in which nothing moved and after which beats are under way. `turns` is 1 at least, and each list has
-/// at most `2^40` beats.
+/// The rings hold `ring` beats each. Refused with `RingSize` exactly where that is 0 or above
+/// 4,096, which is tested first, with `OutOfMemory` where there is no memory for the rings or for
+/// the far beats, all of which is asked for before the first round, and with `Stalled` after a
+/// round in which nothing moved and after which beats are under way. `turns` is 1 at least, and
+/// each list has at most `2^40` beats.
 pub fn run_threads<R: Threads, G: Gate + Send, H: Gate + Send, const C: usize, const M: usize>(
     rt: &R,
     alloc: Global,
@@ -45,10 +51,22 @@ pub fn run_threads<R: Threads, G: Gate + Send, H: Gate + Send, const C: usize, c
     requires turns { 1 ≤ turns }
     ensures outcome { IfOk result (SettlesTo script.now) }
     ensures size { IsOk result → (1 ≤ ring) × (ring ≤ MAX_RING) }
-    ensures ring_size { IfErr result (λ fault. (fault ≡ RingSize) ↔ ((ring ≡ 0) ⊎ (MAX_RING < ring))) }
+    ensures ring_size { IfErr result (λ fault. (fault ≡ RingSize) ↔
+        ((ring ≡ 0) ⊎ (MAX_RING < ring))) }
 {
-    let (mut client, mut manager) = tl_pair::bridge::<C, M, Global>(alloc, ring)?;
-    run_sides(
+    let (client, manager) = tl_pair::bridge::<C, M, Global>(alloc, ring)?;
+    let mut client = ClientRun {
+        side: client,
+        far_b: Vec::new(alloc),
+        far_d: Vec::new(alloc),
+    };
+    let mut manager = ManagerRun {
+        side: manager,
+        far_a: Vec::new(alloc),
+        far_c: Vec::new(alloc),
+        far_e: Vec::new(alloc),
+    };
+    let ended = run_sides(
         rt,
         alloc,
         &mut client,
@@ -57,37 +75,46 @@ pub fn run_threads<R: Threads, G: Gate + Send, H: Gate + Send, const C: usize, c
         turns,
         client_gate,
         manager_gate,
-    )
+    );
+    let (b, d) = client.into_lists();
+    let (a, c, e) = manager.into_lists();
+    let end = ended?;
+    Ok(outcome_of(end, Taken { a, b, c, d, e }))
 }
 
-// The run of a script over two new sides. (They are dropped where they were made, and so at one place.)
+// The rounds of a run over two new sides, which get lists with room for all far beats.
 fn run_sides<R: Threads, G: Gate + Send, H: Gate + Send, const C: usize, const M: usize>(
     rt: &R,
     alloc: Global,
-    client: &mut ClientSide<C, M>,
-    manager: &mut ManagerSide<C, M>,
+    client: &mut ClientRun<C, M>,
+    manager: &mut ManagerRun<C, M>,
     script: &Script<C, M>,
     turns: usize,
     client_gate: &mut G,
     manager_gate: &mut H,
-) -> Result<Outcome<C, M>, RunFault>
+) -> Result<End, RunFault>
     requires client { IsWidth C }
     requires manager { IsWidth M }
     requires short { HasShortLists script.now }
-    requires new { AreNew client.old manager.old }
-    ensures outcome { IfOk result (SettlesTo script.now) }
+    requires new { AreNew client.old.side manager.old.side }
+    ensures ended { IfOk result (λ end. HasEnded (near_beats script.now) end.at
+        (beats_of (taken_of client.new manager.new)) (bridge_of client.new.side manager.new.side)
+        end.stops end.rounds) }
     ensures ring_fits { IfErr result (λ fault. fault ≢ RingSize) }
 {
-    let mut far = Taken::new(alloc, script)?;
-    let end = play_rounds(
+    let Taken { a, b, c, d, e } = Taken::new(alloc, script)?;
+    manager.far_a = a;
+    client.far_b = b;
+    manager.far_c = c;
+    client.far_d = d;
+    manager.far_e = e;
+    play_rounds(
         rt,
         client,
         manager,
         script,
-        &mut far,
         turns,
         client_gate,
         manager_gate,
-    )?;
-    Ok(outcome_of(end, far))
+    )
 }

@@ -1,16 +1,19 @@
 //! What a side of a run in two threads has done in some turns.
-ghost use Rattle.std.specs.Prelude.{◌≡◌, ◌≢◌, ◌⊎◌, ◌↔◌, ℕ, true};
+ghost use Rattle.std.specs.Prelude.{◌≡◌, ◌≢◌, ◌⊎◌, ◌↔◌, true};
 ghost use Rattle.tl_sides.specs.declared.per_channel.PerChannel.{PerChannel};
 ghost use Rattle.tl_bridge.specs.declared.channel_state.Offered.{Offered};
+ghost use Rattle.tl_bridge.specs.Inner.Running.{HaveRoomToCount, counted};
 ghost use Rattle.tl_bridge.specs.Inner.Sides.{all_steps, none_ready};
 
-use crate::channel_state::Offered;
+use crate::channel_state::{Offered, add_accepted};
 use tl_sides::PerChannel;
 
-/// What a side has done in some turns: what became of its next beats in the last one, whether it accepted a beat in any, and whether
-/// it accepted, pumped or fetched one.
+/// What a side has done in some turns: how many beats of each channel were accepted after them, what
+/// became of its next beats in the last one, whether it accepted a beat in any, and whether it
+/// accepted, pumped or fetched one.
 #[derive(Clone, Copy, Drop)]
 pub(crate) struct Turn {
+    pub at: PerChannel<usize>,
     pub offers: PerChannel<Offered>,
     pub accepted: bool,
     pub moved: bool,
@@ -25,10 +28,13 @@ pub(crate) fn either(one: bool, other: bool) -> bool
 
 impl Turn {
     // No turn.
-    pub(crate) fn none() -> Turn
-        ensures { (result.offers ≡ none_ready) × (result.moved ≢ true) }
+    pub(crate) fn none(at: &PerChannel<usize>) -> Turn
+        ensures at { result.at ≡ at.now }
+        ensures offers { result.offers ≡ none_ready }
+        ensures moved { result.moved ≢ true }
     {
         Turn {
+            at: *at,
             offers: PerChannel {
                 a: Offered::NotReady,
                 b: Offered::NotReady,
@@ -41,8 +47,11 @@ impl Turn {
         }
     }
 
-    // One turn, in which these were the offers, and so many beats were pumped and fetched.
-    pub(crate) fn new(offers: PerChannel<Offered>, others: usize) -> Turn
+    // One turn, before which so many beats were accepted, in which these were the offers, and so many
+    // beats were pumped and fetched.
+    pub(crate) fn new(at: &PerChannel<usize>, offers: PerChannel<Offered>, others: usize) -> Turn
+        requires few { HaveRoomToCount at.now }
+        ensures at { result.at ≡ counted at.now offers }
         ensures offers { result.offers ≡ offers }
         ensures moved { (result.moved ≡ true) ↔ ((all_steps offers ≢ 0) ⊎ (others ≢ 0)) }
     {
@@ -51,7 +60,10 @@ impl Turn {
             || offers.c.is_accepted()
             || offers.d.is_accepted()
             || offers.e.is_accepted();
+        let mut at = *at;
+        add_accepted(&mut at, &offers);
         Turn {
+            at,
             offers,
             accepted,
             moved: accepted || others != 0,
@@ -60,10 +72,12 @@ impl Turn {
 
     // These turns, and another one after them.
     pub(crate) fn then(self, last: Turn) -> Turn
+        ensures at { result.at ≡ last.at }
         ensures offers { result.offers ≡ last.offers }
         ensures moved { result.moved ≡ true → (self.moved ≡ true) ⊎ (last.moved ≡ true) }
     {
         Turn {
+            at: last.at,
             offers: last.offers,
             accepted: either(self.accepted, last.accepted),
             moved: either(self.moved, last.moved),

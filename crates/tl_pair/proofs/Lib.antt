@@ -1,3 +1,4 @@
 pub mod Senders
+mod Layouts
 pub mod SideSteps
 pub mod SameSides

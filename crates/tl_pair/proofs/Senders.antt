@@ -1,9 +1,8 @@
--- A sending end pumps and meets alike whether it is closed or not, and what a pump and a fetch
--- moved is seen in the stage and in the inbox.
-use Rattle.std.proofs.Common.{◌≡◌, ◌≤◌, ◌-◌, ◌+◌, ℕ, Bool, true, false, length, min, refl, sym, ap, subst, ◌∙◌, arith, length-append}
+-- What a pump and a fetch moved is seen in the stage and in the inbox.
+use Rattle.std.proofs.Common.{◌≡◌, ◌≤◌, ◌-◌, ◌+◌, ℕ, Bool, true, false, length, min, sym, ap, subst, ◌∙◌, arith, length-append}
 use Rattle.std.proofs.lemmas.List.{length-drop}
 use Rattle.tl_ring.specs.Crossing.{inbox_room}
-use Rattle.tl_ring.specs.Ends.{Sending, Taking, Pushed, Fetched, Met, known_free, known_items}
+use Rattle.tl_ring.specs.Ends.{Sending, Taking, Pushed, Fetched, known_free, known_items}
 use Rattle.tl_pair.specs.Ends.{Pumps, Fetches, pump_count, fetch_count}
 
 module _ {K A H : Type 0} {v : ℕ} where
@@ -14,34 +13,6 @@ module _ {K A H : Type 0} {v : ℕ} where
   -- a closed end is closed anew
   pub closed_again : (s : Sending K A H v) (closed : Bool) → closed ≡ true → record s { closed = true } ≡ record s { closed = closed }
   closed_again s closed e = λ i. record s { closed = sym e i }
-
-  pub pushed_alike : (closed : Bool) (k : ℕ) (a b : Sending K A H v) → Pushed a k b → Pushed (record a { closed = closed }) k (record b { closed = closed })
-  pushed_alike closed k a b p = record {
-    ring = p.ring;
-    same_converter = p.same_converter;
-    same_closed = refl;
-    stage = p.stage;
-    more_sent = p.more_sent;
-    known = p.known;
-  }
-
-  pub met_alike : (closed : Bool) (s s' : Sending K A H v) (t t' : Taking K A H v) → Met s t s' t' →
-      Met (record s { closed = closed }) t (record s' { closed = closed }) t'
-  met_alike closed s s' t t' m = record {
-    pair = m.pair;
-    send = m.send;
-    take = m.take;
-    same_converter = m.same_converter;
-    same_stage = m.same_stage;
-    same_closed = refl;
-    same_sent = m.same_sent;
-    same_inbox = m.same_inbox;
-    same_received = m.same_received;
-    ring = m.ring;
-    in_room = m.in_room;
-    free = m.free;
-    all_free = m.all_free;
-  }
 
   -- the count of a pump is what left the stage
   pub pump_counted : (k : ℕ) (s s' : Sending K A H v) → k ≤ length s.stage → Pushed s k s' → k ≡ pump_count s s'

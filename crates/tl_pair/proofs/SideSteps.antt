@@ -18,18 +18,19 @@ use Rattle.tl_msg.specs.declared.beat.BeatOf.{BeatOf}
 use Rattle.tl_burst.specs.Begun.{left}
 use Rattle.tl_burst.specs.Handing.{rest_of}
 use Rattle.tl_ring.specs.Crossing.{World, offered, shut, inbox_room}
-use Rattle.tl_ring.specs.Ends.{Sending, Taking, Sends, Takes, Fetched, closing, took_first, known_items}
+use Rattle.tl_ring.specs.Ends.{Sending, Taking, Sends, Takes, Fetched, Met, Meets, closing, took_first, known_items}
+use Rattle.tl_ring.specs.declared.standing.Standing.{Standing}
 use Rattle.tl_ring.specs.declared.fault.EndFault.{EndFault}
 use Rattle.tl_msg.specs.declared.fault.SideFault.{SideFault}
 use Rattle.tl_sides.specs.Crossings.{stops_alone}
-use Rattle.tl_sides.proofs.Places.{Place, offers_alone, shuts, stopped, went, on_ok_to}
+use Rattle.tl_sides.proofs.Places.{Place, Offers, offers_alone, shuts, stopped, went, on_ok_to}
 use Rattle.tl_settle.specs.Histories.{Ask, Answer, asked, answered, manager_home, manager_homes, client_answer, manager_answer}
 use Rattle.tl_settle.proofs.Marks.{asked_ask, asked_answer, answered_ask, answered_answer}
 use Rattle.tl_sides.specs.Books.{Client, Manager, KnowsClient, KnowsManager}
 use Rattle.tl_sides.proofs.BridgeSteps.{home_given, homes_given, asked_answers, asked_taken, answered_asks, answered_taken, homes_asks}
-use Rattle.tl_pair.specs.Ends.{Pumps, Fetches, pump_count, fetch_count, after_pump}
+use Rattle.tl_pair.specs.Ends.{Pumps, Fetches, AreStanding, pump_count, fetch_count, after_pump}
 use Rattle.tl_pair.proofs.Senders.{fetch_counted, fetches_of}
-use Rattle.tl_pair.specs.Sides.{ClientState, ManagerState, ClientPast, ManagerPast, ClientStandsFor, ManagerStandsFor}
+use Rattle.tl_pair.specs.Sides.{ClientState, ManagerState, ClientPast, ManagerPast, ClientStandsFor, ManagerStandsFor, AreSides, SidesMeet}
 use Rattle.tl_pair.specs.Sides.{client_pumps, manager_pumps, client_offers_a, client_takes_d, manager_offers_d, manager_takes_a}
 
 -- the place of an end in a side
@@ -358,56 +359,133 @@ module _ {A : Type 0} {C M : ℕ} (s : ManagerState A C M) (x : ManagerPast C M)
       manager_of (subst (λ q. Takes t q) (sym (asked_taken x.history inbox)) k) h.b h.c h.d h.e
       (answered_asks x.history (take 1 inbox) ∙ h.accepted) (homes_asks x.history (take 1 inbox) ∙ h.homes) noted
 
--- what an offer of a request says, and of a response, of the side before and after
+-- an offer that passes the book of a side: what refuses it, what it leads to, and what it says of its end's ring and of the other fields
+pub record Passing {S X : Type 0} (Stands : S → X → Type 0) : Type 1 where
+  pub stops : X → Option SideFault
+  pub next : X → X
+  pub ring : S → S → Type 0
+  pub rest : S → S → Type 0
+
+module _ {S X : Type 0} {Stands : S → X → Type 0} (offer : Passing Stands) where
+  abbrev pub Passes : (s s' : S) (r : Result Unit SideFault) → Type 0
+  Passes s s' r = record {
+    admitted : (x : X) → Stands s x → IsOk r ↔ (offer.stops x ≡ None);
+    accepted : (x : X) → Stands s x → OnOk r (Stands s' (offer.next x));
+    fault : (x : X) → Stands s x → IfErr r (λ fault. offer.stops x ≡ Some fault);
+    ring : offer.ring s s';
+    rest : offer.rest s s';
+    refused : OnErr r (s' ≡ s);
+  }
+
+  pub passes_of : {inside s : S} → inside ≡ s → (s' : S) (r : Result Unit SideFault) → Offers Stands offer.stops offer.next inside s' r →
+      offer.ring inside s' → offer.rest inside s' → Passes s s' r
+  passes_of view s' r k ring rest = subst (λ s. Passes s s' r) view (record {
+    admitted = k.admitted;
+    accepted = k.accepted;
+    fault = k.fault;
+    ring = ring;
+    rest = rest;
+    refused = k.refused;
+  })
+
+  -- it is refused, and changes nothing, or accepted
+  pub passes_not : {inside s : S} → inside ≡ s → (s' : S) → s' ≡ inside → offer.ring inside s' → offer.rest inside s' → (r : Result Unit SideFault)
+      (f : SideFault) → r ≡ Err f → ((x : X) → Stands inside x → offer.stops x ≡ Some f) → Passes s s' r
+  passes_not {inside} view s' same ring rest r f err says =
+      passes_of view s' r (stopped Stands offer.stops offer.next inside s' r f err same says) ring rest
+
+  pub passes_on : {inside s : S} → inside ≡ s → (s' : S) → offer.ring inside s' → offer.rest inside s' →
+      ((x : X) → Stands inside x → offer.stops x ≡ None) → ((x : X) → Stands inside x → Stands s' (offer.next x)) → Passes s s' (Ok tt)
+  passes_on {inside} view s' ring rest free stands =
+      passes_of view s' (Ok tt) (went Stands offer.stops offer.next inside s' free stands) ring rest
+
+-- a request, at the client's side, and a response, at the manager's
+abbrev pub asking : {A : Type 0} {C M : ℕ} → BeatOf HeadA C → Passing (ClientStandsFor {A = A} {C = C} {M = M})
+asking b = record {
+  stops = λ x. client_answer x.history b;
+  next = λ x. client_offers_a b x;
+  ring = λ s s'. s'.a.producer ≡ s.a.producer;
+  rest = λ s s'. s' ≡ record s { a = s'.a; book = s'.book };
+}
+
+abbrev pub answering : {A : Type 0} {C M : ℕ} → BeatOf HeadD M → Passing (ManagerStandsFor {A = A} {C = C} {M = M})
+answering b = record {
+  stops = λ x. manager_answer x.history b;
+  next = λ x. manager_offers_d b x;
+  ring = λ s s'. s'.d.producer ≡ s.d.producer;
+  rest = λ s s'. s' ≡ record s { d = s'.d; book = s'.book };
+}
+
+-- a side whose book stays is the side itself
+pub same_asker : {A : Type 0} {C M : ℕ} {s : ClientState A C M} {book : Client} → book ≡ s.book → record s { book = book } ≡ s
+same_asker {s = s} e = ap (λ q. record s { book = q }) e
+
+pub same_answerer : {A : Type 0} {C M : ℕ} {s : ManagerState A C M} {book : Manager} → book ≡ s.book → record s { book = book } ≡ s
+same_answerer {s = s} e = ap (λ q. record s { book = q }) e
+
+-- what a meeting of both ends of a channel says
+abbrev pub MeetsEnds : {K A H : Type 0} (r : Rules H) (w : ℕ) {v : ℕ} (s s' : Sending K A H v) (t t' : Taking K A H v) (n : Standing) → Type 0
+MeetsEnds {K} {A} {H} r w {v} s s' t t' n = record {
+  met : Met s t s' t';
+  standing : AreStanding s' t' n;
+  meets : (x : World H w v) (taken : List (BeatOf H v)) → Sends r s x → Takes t taken → Meets r s' t' x taken;
+}
+
+-- both sides meet on all of their channels
 module _ {A : Type 0} {C M : ℕ} where
-  abbrev pub ClientAsked : (b : BeatOf HeadA C) (s s' : ClientState A C M) (r : Result Unit SideFault) → Type 0
-  ClientAsked b s s' r = record {
-    admitted : (x : ClientPast C M) → ClientStandsFor s x → IsOk r ↔ (client_answer x.history b ≡ None);
-    accepted : (x : ClientPast C M) → ClientStandsFor s x → OnOk r (ClientStandsFor s' (client_offers_a b x));
-    fault : (x : ClientPast C M) → ClientStandsFor s x → IfErr r (λ fault. client_answer x.history b ≡ Some fault);
-    ring : s'.a.producer ≡ s.a.producer;
-    rest : s' ≡ record s { a = s'.a; book = s'.book };
-    refused : OnErr r (s' ≡ s);
+  pub sides_inside : {inside s : ClientState A C M} → inside ≡ s → {within t : ManagerState A C M} → within ≡ t → AreSides s t → AreSides inside within
+  sides_inside {inside} {s} client {within} manager sides = subst (λ q. AreSides q within) (sym client) (subst (λ q. AreSides s q) (sym manager) sides)
+
+  abbrev pub SidesMet : (s s' : ClientState A C M) (t t' : ManagerState A C M) (i j k l m : Standing) → Type 0
+  SidesMet s s' t t' i j k l m = record {
+    a : Met s.a t.a s'.a t'.a;
+    b : Met t.b s.b t'.b s'.b;
+    c : Met s.c t.c s'.c t'.c;
+    d : Met t.d s.d t'.d s'.d;
+    e : Met s.e t.e s'.e t'.e;
+    standing_a : AreStanding s'.a t'.a i;
+    standing_b : AreStanding t'.b s'.b j;
+    standing_c : AreStanding s'.c t'.c k;
+    standing_d : AreStanding t'.d s'.d l;
+    standing_e : AreStanding s'.e t'.e m;
+    books : (s'.book ≡ s.book) × (t'.book ≡ t.book);
+    meets : (x : ClientPast C M) (y : ManagerPast C M) → ClientStandsFor s x → ManagerStandsFor t y → SidesMeet s' t' x y;
   }
 
-  pub client_stopped : {inside s : ClientState A C M} → inside ≡ s → (b : BeatOf HeadA C) (book : Client) → book ≡ inside.book →
-      (r : Result Unit SideFault) (f : SideFault) → r ≡ Err f → ((x : ClientPast C M) → ClientStandsFor inside x → client_answer x.history b ≡ Some f) →
-      ClientAsked b s (record inside { book = book }) r
-  client_stopped {inside} view b book same r f err says = subst (λ s. ClientAsked b s (record inside { book = book }) r) view (
-      let k = stopped ClientStandsFor (λ x. client_answer x.history b) (λ x. client_offers_a b x) inside (record inside { book = book }) r f err
-      (ap (λ q. record inside { book = q }) same) says in
-      record { admitted = k.admitted; accepted = k.accepted; fault = k.fault; ring = refl; rest = refl; refused = k.refused })
-
-  pub client_went : {inside s : ClientState A C M} → inside ≡ s → (b : BeatOf HeadA C) (p : Sending ChA A HeadA M) (book : Client) →
-      p.producer ≡ inside.a.producer → ((x : ClientPast C M) → ClientStandsFor inside x → client_answer x.history b ≡ None) →
-      ((x : ClientPast C M) → ClientStandsFor inside x → ClientStandsFor (record inside { a = p; book = book }) (client_offers_a b x)) →
-      ClientAsked b s (record inside { a = p; book = book }) (Ok tt)
-  client_went {inside} view b p book ring free stands = subst (λ s. ClientAsked b s (record inside { a = p; book = book }) (Ok tt)) view (
-      let k = went ClientStandsFor (λ x. client_answer x.history b) (λ x. client_offers_a b x) inside (record inside { a = p; book = book }) free stands in
-      record { admitted = k.admitted; accepted = k.accepted; fault = k.fault; ring = ring; rest = refl; refused = k.refused })
-
-  abbrev pub ManagerAnswered : (b : BeatOf HeadD M) (s s' : ManagerState A C M) (r : Result Unit SideFault) → Type 0
-  ManagerAnswered b s s' r = record {
-    admitted : (x : ManagerPast C M) → ManagerStandsFor s x → IsOk r ↔ (manager_answer x.history b ≡ None);
-    accepted : (x : ManagerPast C M) → ManagerStandsFor s x → OnOk r (ManagerStandsFor s' (manager_offers_d b x));
-    fault : (x : ManagerPast C M) → ManagerStandsFor s x → IfErr r (λ fault. manager_answer x.history b ≡ Some fault);
-    ring : s'.d.producer ≡ s.d.producer;
-    rest : s' ≡ record s { d = s'.d; book = s'.book };
-    refused : OnErr r (s' ≡ s);
-  }
-
-  pub manager_stopped : {inside s : ManagerState A C M} → inside ≡ s → (b : BeatOf HeadD M) (book : Manager) → book ≡ inside.book →
-      (r : Result Unit SideFault) (f : SideFault) → r ≡ Err f → ((x : ManagerPast C M) → ManagerStandsFor inside x → manager_answer x.history b ≡ Some f) →
-      ManagerAnswered b s (record inside { book = book }) r
-  manager_stopped {inside} view b book same r f err says = subst (λ s. ManagerAnswered b s (record inside { book = book }) r) view (
-      let k = stopped ManagerStandsFor (λ x. manager_answer x.history b) (λ x. manager_offers_d b x) inside (record inside { book = book }) r f err
-      (ap (λ q. record inside { book = q }) same) says in
-      record { admitted = k.admitted; accepted = k.accepted; fault = k.fault; ring = refl; rest = refl; refused = k.refused })
-
-  pub manager_went : {inside s : ManagerState A C M} → inside ≡ s → (b : BeatOf HeadD M) (p : Sending ChD A HeadD C) (book : Manager) →
-      p.producer ≡ inside.d.producer → ((x : ManagerPast C M) → ManagerStandsFor inside x → manager_answer x.history b ≡ None) →
-      ((x : ManagerPast C M) → ManagerStandsFor inside x → ManagerStandsFor (record inside { d = p; book = book }) (manager_offers_d b x)) →
-      ManagerAnswered b s (record inside { d = p; book = book }) (Ok tt)
-  manager_went {inside} view b p book ring free stands = subst (λ s. ManagerAnswered b s (record inside { d = p; book = book }) (Ok tt)) view (
-      let k = went ManagerStandsFor (λ x. manager_answer x.history b) (λ x. manager_offers_d b x) inside (record inside { d = p; book = book }) free stands in
-      record { admitted = k.admitted; accepted = k.accepted; fault = k.fault; ring = ring; rest = refl; refused = k.refused })
+  pub sides_met : {inside s : ClientState A C M} → inside ≡ s → {within t : ManagerState A C M} → within ≡ t →
+      (a : Sending ChA A HeadA M) (b : Taking ChB A HeadB C) (c : Sending ChC A HeadC M) (d : Taking ChD A HeadD C) (e : Sending ChE A HeadE M)
+      (ta : Taking ChA A HeadA M) (tb : Sending ChB A HeadB C) (tc : Taking ChC A HeadC M) (td : Sending ChD A HeadD C) (te : Taking ChE A HeadE M)
+      (i j k l m : Standing) → MeetsEnds rules_a C inside.a a within.a ta i → MeetsEnds rules_b M within.b tb inside.b b j →
+      MeetsEnds rules_c C inside.c c within.c tc k → MeetsEnds rules_d M within.d td inside.d d l → MeetsEnds rules_e C inside.e e within.e te m →
+      SidesMet s (record inside { a = a; b = b; c = c; d = d; e = e }) t (record within { a = ta; b = tb; c = tc; d = td; e = te }) i j k l m
+  sides_met {inside} client {within} {t} manager a b c d e ta tb tc td te i j k l m at_a at_b at_c at_d at_e =
+      let s' : ClientState A C M = record inside { a = a; b = b; c = c; d = d; e = e } in
+      let t' : ManagerState A C M = record within { a = ta; b = tb; c = tc; d = td; e = te } in
+      subst (λ q. SidesMet q s' t t' i j k l m) client (subst (λ q. SidesMet inside s' q t' i j k l m) manager (record {
+        a = at_a.met;
+        b = at_b.met;
+        c = at_c.met;
+        d = at_d.met;
+        e = at_e.met;
+        standing_a = at_a.standing;
+        standing_b = at_b.standing;
+        standing_c = at_c.standing;
+        standing_d = at_d.standing;
+        standing_e = at_e.standing;
+        books = (refl, refl);
+        meets = λ x y h k.
+            let on_a = at_a.meets x.a (asked y.history) h.a k.a in
+            let on_b = at_b.meets y.b x.b k.b h.b in
+            let on_c = at_c.meets x.c y.c h.c k.c in
+            let on_d = at_d.meets y.d (answered x.history) k.d h.d in
+            let on_e = at_e.meets x.e y.e h.e k.e in
+            record {
+              client = client_of on_a.sends on_b.takes on_c.sends on_d.takes on_e.sends h.accepted h.book;
+              manager = manager_of on_a.takes on_b.sends on_c.takes on_d.sends on_e.takes k.accepted k.homes k.book;
+              a = on_a;
+              b = on_b;
+              c = on_c;
+              d = on_d;
+              e = on_e;
+            };
+      }))

@@ -155,7 +155,8 @@ impl<const C: usize, const M: usize, A: Allocator> ClientSide<C, M, A> {
         requires far { IsWidth C }
         ensures beat { result ≡ slice_get self.old.d.inbox 0 }
         ensures lawful { IfSome result (λ beat. IsLawfulBeat rules_d beat) }
-        ensures rest { self.new ≡ record self.old { d = took_first self.old.d; book = self.new.book } }
+        ensures rest { self.new ≡
+            record self.old { d = took_first self.old.d; book = self.new.book } }
         // for every past that the side stands for
         ensures taken { (x : ClientPast C M) → ClientStandsFor self.old x →
             ClientStandsFor self.new (client_takes_d (take 1 self.old.d.inbox) x) }
@@ -216,12 +217,14 @@ impl<const C: usize, const M: usize, A: Allocator> ClientSide<C, M, A> {
     /// Moves staged beats into the rings on each channel that this side offers, at least as many as
     /// it knows to find a place, and answers how many these are in all.
     pub fn pump(&mut self) -> usize
-        ensures total { result ≡ pump_count self.old.a self.new.a + pump_count self.old.c self.new.c + pump_count self.old.e self.new.e }
+        ensures total { result ≡ pump_count self.old.a self.new.a +
+            pump_count self.old.c self.new.c + pump_count self.old.e self.new.e }
         ensures most { result ≤ 192 }
         ensures a { Pumps self.old.a self.new.a }
         ensures c { Pumps self.old.c self.new.c }
         ensures e { Pumps self.old.e self.new.e }
-        ensures rest { self.new ≡ record self.old { a = self.new.a; c = self.new.c; e = self.new.e } }
+        ensures rest { self.new ≡
+            record self.old { a = self.new.a; c = self.new.c; e = self.new.e } }
         // for every past that the side stands for
         ensures stands { (x : ClientPast C M) → ClientStandsFor self.old x →
             ClientStandsFor self.new (client_pumps self.old self.new x) }
@@ -236,7 +239,8 @@ impl<const C: usize, const M: usize, A: Allocator> ClientSide<C, M, A> {
     /// as many as it knows to be there and each inbox has room for, and answers how many these are
     /// in all.
     pub fn fetch(&mut self) -> usize
-        ensures total { result ≡ fetch_count self.old.b self.new.b + fetch_count self.old.d self.new.d }
+        ensures total { result ≡
+            fetch_count self.old.b self.new.b + fetch_count self.old.d self.new.d }
         ensures most { result ≤ 128 }
         ensures b { Fetches self.old.b self.new.b }
         ensures d { Fetches self.old.d self.new.d }

@@ -117,7 +117,8 @@ impl<const C: usize, const M: usize, A: Allocator> ManagerSide<C, M, A> {
         requires far { IsWidth M }
         ensures beat { result ≡ slice_get self.old.a.inbox 0 }
         ensures lawful { IfSome result (λ beat. IsLawfulBeat rules_a beat) }
-        ensures rest { self.new ≡ record self.old { a = took_first self.old.a; book = self.new.book } }
+        ensures rest { self.new ≡
+            record self.old { a = took_first self.old.a; book = self.new.book } }
         // for every past that the side stands for
         ensures taken { (x : ManagerPast C M) → ManagerStandsFor self.old x →
             ManagerStandsFor self.new (manager_takes_a (take 1 self.old.a.inbox) x) }
@@ -188,7 +189,8 @@ impl<const C: usize, const M: usize, A: Allocator> ManagerSide<C, M, A> {
     /// Moves staged beats into the rings on each channel that this side offers, at least as many as
     /// it knows to find a place, and answers how many these are in all.
     pub fn pump(&mut self) -> usize
-        ensures total { result ≡ pump_count self.old.b self.new.b + pump_count self.old.d self.new.d }
+        ensures total { result ≡
+            pump_count self.old.b self.new.b + pump_count self.old.d self.new.d }
         ensures most { result ≤ 128 }
         ensures b { Pumps self.old.b self.new.b }
         ensures d { Pumps self.old.d self.new.d }
@@ -206,12 +208,14 @@ impl<const C: usize, const M: usize, A: Allocator> ManagerSide<C, M, A> {
     /// as many as it knows to be there and each inbox has room for, and answers how many these are
     /// in all.
     pub fn fetch(&mut self) -> usize
-        ensures total { result ≡ fetch_count self.old.a self.new.a + fetch_count self.old.c self.new.c + fetch_count self.old.e self.new.e }
+        ensures total { result ≡ fetch_count self.old.a self.new.a +
+            fetch_count self.old.c self.new.c + fetch_count self.old.e self.new.e }
         ensures most { result ≤ 192 }
         ensures a { Fetches self.old.a self.new.a }
         ensures c { Fetches self.old.c self.new.c }
         ensures e { Fetches self.old.e self.new.e }
-        ensures rest { self.new ≡ record self.old { a = self.new.a; c = self.new.c; e = self.new.e } }
+        ensures rest { self.new ≡
+            record self.old { a = self.new.a; c = self.new.c; e = self.new.e } }
         // for every past that the side stands for
         ensures stands { (x : ManagerPast C M) → ManagerStandsFor self.old x →
             ManagerStandsFor self.new x }

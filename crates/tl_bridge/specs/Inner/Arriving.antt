@@ -8,6 +8,8 @@ use Rattle.tl_convert.specs.Accepted.{accepted_of}
 use Rattle.tl_settle.specs.Outcomes.{Beats}
 use Rattle.tl_sides.specs.Bridges.{Bridge, Past, StandsFor}
 use Rattle.tl_bridge.specs.declared.taken.Taken.{Taken}
+use Rattle.tl_bridge.specs.declared.client_turns.ClientRun.{ClientRun}
+use Rattle.tl_bridge.specs.declared.manager_turns.ManagerRun.{ManagerRun}
 
 -- a bridge for which something stands
 abbrev pub HasPast : {C M : ℕ} → Bridge C M → Type 0
@@ -21,6 +23,10 @@ module _ {C M : ℕ} where
   -- the beats that were taken
   abbrev pub beats_of : Taken C M → Beats M C
   beats_of t = record { a = t.a.items; b = t.b.items; c = t.c.items; d = t.d.items; e = t.e.items }
+
+  -- the lists of both sides in their threads
+  abbrev pub taken_of : ClientRun C M → ManagerRun C M → Taken C M
+  taken_of x y = record { a = y.far_a; b = x.far_b; c = y.far_c; d = x.far_d; e = y.far_e }
 
   -- the lists have room for all that stands in the inboxes
   pub record HasRoomForInboxes (s : Bridge C M) (t : Taken C M) : Type 0 where

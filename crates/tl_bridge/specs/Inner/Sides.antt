@@ -1,6 +1,5 @@
 -- What each side of a run does within a round, and what both have come to at a meeting. Only contracts of private functions cite these words.
 use Rattle.std.specs.Prelude.{◌≡◌, ◌+◌, ◌≤◌, ◌++◌, ℕ, Bool, true, List, length, map, vec_len, vec_capacity}
-use Rattle.std.specs.Global.{Vec}
 use mathlib.Core.List.{IsPrefix}
 use Rattle.tl_msg.specs.Tables.{rules_a, rules_b, rules_c, rules_d, rules_e}
 use Rattle.tl_msg.specs.declared.head.HeadA.{HeadA}
@@ -11,7 +10,6 @@ use Rattle.tl_msg.specs.declared.head.HeadE.{HeadE}
 use Rattle.tl_msg.specs.declared.beat.BeatOf.{BeatOf}
 use Rattle.tl_ring.specs.Ends.{Sending, Taking, seen_by, sent, received, known_items, room}
 use Rattle.tl_ring.specs.Pipe.{Pipe}
-use Rattle.tl_ring.specs.declared.standing.Standing.{Standing}
 use Rattle.tl_settle.specs.Histories.{Event, Ask, Answer, asked, answered, client_answer, manager_answer, manager_home}
 use Rattle.tl_settle.specs.Rounds.{ClientMoves, ManagerMoves}
 use Rattle.tl_settle.specs.Settling.{far_a, far_d}
@@ -23,6 +21,10 @@ use Rattle.tl_pair.specs.Sides.{ClientState, ManagerState, ClientPast, ManagerPa
 use Rattle.tl_bridge.specs.Inner.Running.{Does, Stops, IsSent, IsHomed, IsAt, AllStop, HaveRoomToCount, all_standing, all_under_way, steps}
 use Rattle.tl_bridge.specs.declared.channel_state.Offered.{Offered}
 use Rattle.tl_bridge.specs.declared.channel_state.Offered.TheVariants.{NotReady}
+use Rattle.tl_bridge.specs.declared.client_turns.ClientRun.{ClientRun}
+use Rattle.tl_bridge.specs.declared.manager_turns.ManagerRun.{ManagerRun}
+use Rattle.tl_bridge.specs.declared.turns.Turn.{Turn}
+use Rattle.tl_bridge.specs.declared.thread_rounds.Played.{Played}
 
 -- no channel was offered a beat
 abbrev pub none_ready : PerChannel Offered
@@ -132,45 +134,48 @@ module _ {A : Type 0} {C M : ℕ} (near : Beats C M) where
     pub stop_b : Stops rules_b near.b n.b (stops_alone rules_b past.b.accepted) past.b.accepted o.b
     pub stop_d : Stops rules_d near.d n.d (manager_answer past.history) past.d.accepted o.d
 
+-- ---- a round of a side in its thread
+
+module _ {C M : ℕ} (near : Beats C M) (n : PerChannel ℕ) where
   -- a side may play a round: it stands at its beginning, and its lists have room for all that stands in its inboxes, all of which is due
-  pub record ClientMayPlay (n : PerChannel ℕ) (far_of_b : Vec (BeatOf HeadB C)) (far_of_d : Vec (BeatOf HeadD C)) (s : ClientState A C M) : Type 0 where
+  pub record ClientMayPlay (x : ClientRun C M) : Type 0 where
     pub few : HaveRoomToCount n
     pub j : ℕ
     pub m : ℕ
     pub es : List (Event C)
-    pub is_at : ClientIsAt j m es n far_of_b.items far_of_d.items s none_ready
-    pub due : IsPrefix (far_of_d.items ++ s.d.inbox) (far_d near.a near.d j)
-    pub room_b : vec_len far_of_b + length s.b.inbox ≤ vec_capacity far_of_b
-    pub room_d : vec_len far_of_d + length s.d.inbox ≤ vec_capacity far_of_d
+    pub is_at : ClientIsAt near j m es n x.far_b.items x.far_d.items x.side none_ready
+    pub due : IsPrefix (x.far_d.items ++ x.side.d.inbox) (far_d near.a near.d j)
+    pub room_b : vec_len x.far_b + length x.side.b.inbox ≤ vec_capacity x.far_b
+    pub room_d : vec_len x.far_d + length x.side.d.inbox ≤ vec_capacity x.far_d
 
-  pub record ManagerMayPlay (n : PerChannel ℕ) (far_of_a : Vec (BeatOf HeadA M)) (far_of_c : Vec (BeatOf HeadC M)) (far_of_e : Vec (BeatOf HeadE M)) (t : ManagerState A C M) : Type 0 where
+  pub record ManagerMayPlay (y : ManagerRun C M) : Type 0 where
     pub few : HaveRoomToCount n
     pub i : ℕ
     pub m : ℕ
     pub es : List (Event M)
-    pub is_at : ManagerIsAt i m es n far_of_a.items far_of_c.items far_of_e.items t none_ready
-    pub due : IsPrefix (far_of_a.items ++ t.a.inbox) (far_a near.a near.d i)
-    pub room_a : vec_len far_of_a + length t.a.inbox ≤ vec_capacity far_of_a
-    pub room_c : vec_len far_of_c + length t.c.inbox ≤ vec_capacity far_of_c
-    pub room_e : vec_len far_of_e + length t.e.inbox ≤ vec_capacity far_of_e
+    pub is_at : ManagerIsAt near i m es n y.far_a.items y.far_c.items y.far_e.items y.side none_ready
+    pub due : IsPrefix (y.far_a.items ++ y.side.a.inbox) (far_a near.a near.d i)
+    pub room_a : vec_len y.far_a + length y.side.a.inbox ≤ vec_capacity y.far_a
+    pub room_c : vec_len y.far_c + length y.side.c.inbox ≤ vec_capacity y.far_c
+    pub room_e : vec_len y.far_e + length y.side.e.inbox ≤ vec_capacity y.far_e
 
-  -- a side has played a round
-  pub record ClientHasPlayed (n : PerChannel ℕ) (far_of_b : Vec (BeatOf HeadB C)) (far_of_d : Vec (BeatOf HeadD C)) (s : ClientState A C M) (n' : PerChannel ℕ)
-      (far_of_b' : Vec (BeatOf HeadB C)) (far_of_d' : Vec (BeatOf HeadD C)) (s' : ClientState A C M) (o : PerChannel Offered) (moved : Bool) : Type 0 where
-    pub goes : ClientGoes n s n' s' moved
-    pub capacity_b : vec_capacity far_of_b' ≡ vec_capacity far_of_b
-    pub capacity_d : vec_capacity far_of_d' ≡ vec_capacity far_of_d
-    pub is_at : (j m : ℕ) (es : List (Event C)) (p : PerChannel Offered) → ClientIsAt j m es n far_of_b.items far_of_d.items s p →
-        IsPrefix (far_of_d.items ++ s.d.inbox) (far_d near.a near.d j) → ClientIsAt j m es n' far_of_b'.items far_of_d'.items s' o
+  -- a side has played a round, or a part of it
+  pub record ClientHasPlayed (x x' : ClientRun C M) (u : Turn) : Type 0 where
+    pub goes : ClientGoes n x.side u.at x'.side u.moved
+    pub capacity_b : vec_capacity x'.far_b ≡ vec_capacity x.far_b
+    pub capacity_d : vec_capacity x'.far_d ≡ vec_capacity x.far_d
+    pub is_at : (j m : ℕ) (es : List (Event C)) (o : PerChannel Offered) → ClientIsAt near j m es n x.far_b.items x.far_d.items x.side o →
+        IsPrefix (x.far_d.items ++ x.side.d.inbox) (far_d near.a near.d j) →
+        ClientIsAt near j m es u.at x'.far_b.items x'.far_d.items x'.side u.offers
 
-  pub record ManagerHasPlayed (n : PerChannel ℕ) (far_of_a : Vec (BeatOf HeadA M)) (far_of_c : Vec (BeatOf HeadC M)) (far_of_e : Vec (BeatOf HeadE M)) (t : ManagerState A C M) (n' : PerChannel ℕ)
-      (far_of_a' : Vec (BeatOf HeadA M)) (far_of_c' : Vec (BeatOf HeadC M)) (far_of_e' : Vec (BeatOf HeadE M)) (t' : ManagerState A C M) (o : PerChannel Offered) (moved : Bool) : Type 0 where
-    pub goes : ManagerGoes n t n' t' moved
-    pub capacity_a : vec_capacity far_of_a' ≡ vec_capacity far_of_a
-    pub capacity_c : vec_capacity far_of_c' ≡ vec_capacity far_of_c
-    pub capacity_e : vec_capacity far_of_e' ≡ vec_capacity far_of_e
-    pub is_at : (i m : ℕ) (es : List (Event M)) (p : PerChannel Offered) → ManagerIsAt i m es n far_of_a.items far_of_c.items far_of_e.items t p →
-        IsPrefix (far_of_a.items ++ t.a.inbox) (far_a near.a near.d i) → ManagerIsAt i m es n' far_of_a'.items far_of_c'.items far_of_e'.items t' o
+  pub record ManagerHasPlayed (y y' : ManagerRun C M) (u : Turn) : Type 0 where
+    pub goes : ManagerGoes n y.side u.at y'.side u.moved
+    pub capacity_a : vec_capacity y'.far_a ≡ vec_capacity y.far_a
+    pub capacity_c : vec_capacity y'.far_c ≡ vec_capacity y.far_c
+    pub capacity_e : vec_capacity y'.far_e ≡ vec_capacity y.far_e
+    pub is_at : (i m : ℕ) (es : List (Event M)) (o : PerChannel Offered) → ManagerIsAt near i m es n y.far_a.items y.far_c.items y.far_e.items y.side o →
+        IsPrefix (y.far_a.items ++ y.side.a.inbox) (far_a near.a near.d i) →
+        ManagerIsAt near i m es u.at y'.far_a.items y'.far_c.items y'.far_e.items y'.side u.offers
 
 -- ---- a meeting
 
@@ -222,13 +227,13 @@ module _ {A : Type 0} {C M : ℕ} where
     pub is_at : IsAt near n far (past_of s t client manager)
 
   -- a round: where both sides meet after it, why each channel stands still where it does, and that the run has come further in it where anything moved
-  pub record HasPlayed (near : Beats C M) (n : PerChannel ℕ) (far : Beats M C) (s : ClientState A C M) (t : ManagerState A C M) (n' : PerChannel ℕ) (far' : Beats M C)
-      (s' : ClientState A C M) (t' : ManagerState A C M) (o : PerChannel Offered) (moved : Bool) (standings : PerChannel Standing) : Type 0 where
-    pub met : HasMet near n' far' s' t'
-    pub stops : AllStop near n' (past_of s' t' met.client met.manager) o
-    pub keeps : met_progress n s t ≤ met_progress n' s' t'
-    pub goes : moved ≡ true → met_progress n s t + 1 ≤ met_progress n' s' t'
-    pub standing : all_standing standings ≡ all_under_way (past_of s' t' met.client met.manager)
+  pub record HasPlayed (near : Beats C M) (n : PerChannel ℕ) (s : ClientState A C M) (t : ManagerState A C M) (p : Played) (far : Beats M C) (s' : ClientState A C M)
+      (t' : ManagerState A C M) : Type 0 where
+    pub met : HasMet near p.at far s' t'
+    pub stops : AllStop near p.at (past_of s' t' met.client met.manager) p.offers
+    pub keeps : met_progress n s t ≤ met_progress p.at s' t'
+    pub goes : p.moved ≡ true → met_progress n s t + 1 ≤ met_progress p.at s' t'
+    pub standing : all_standing p.standings ≡ all_under_way (past_of s' t' met.client met.manager)
 
   -- two new sides
   pub record AreNew (s : ClientState A C M) (t : ManagerState A C M) : Type 0 where

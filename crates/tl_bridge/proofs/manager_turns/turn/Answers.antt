@@ -1,7 +1,7 @@
 use Rattle.std.proofs.Common.{◌+◌, sym, ap, subst, ◌∙◌, rules}
 use Rattle.tl_pair.specs.Sides.{manager_pumps}
 use Rattle.tl_bridge.specs.Scripts.{near_beats}
-use Rattle.tl_bridge.specs.Inner.Running.{counted, steps}
+use Rattle.tl_bridge.specs.Inner.Running.{steps}
 use Rattle.tl_bridge.specs.Inner.Sides.{ManagerIsAt, ManagerGoes}
 use Rattle.tl_bridge.proofs.ChannelRound.{none-more}
 use Rattle.tl_bridge.proofs.SideEnds.{manager-pumped, manager-fetched, manager-turn-goes}
@@ -18,26 +18,23 @@ pump-pumped-requires g c = manager_small g.row.C g.row.M c.requires.client c.req
 pub fetch-fetched-requires : goal.fetch-fetched-requires
 fetch-fetched-requires g c = manager_small g.row.C g.row.M c.requires.client c.requires.manager
 
-pub add_accepted-requires : goal.add_accepted-requires
-add_accepted-requires g c = record { few = c.requires.few }
+pub new-requires : goal.new-requires
+new-requires g c = record { few = c.requires.few }
 
 pub returns-clause-goes : goal.returns-clause-goes
 returns-clause-goes g c =
     let t = c.offer_each-offers.new.side in
     let u = c.pump-pumped.new.self in
     let v = c.fetch-fetched.new.self in
-    subst (λ k. ManagerGoes c.args.at.now c.args.side.now k v c.new.result.moved) (sym c.add_accepted.ensures)
+    subst (λ k. ManagerGoes c.args.at.now c.args.side.now k v c.new.result.moved) (sym c.new.ensures.at)
     (manager-turn-goes c.args.at.now c.args.side.now t u v c.offer_each-offers.result c.pump-pumped.result c.fetch-fetched.result c.new.result.moved c.offer_each-offers.ensures.ends
     c.offer_each-offers.ensures.others
     (manager-pumped t u c.pump-pumped.result c.pump-pumped.ensures.rest c.pump-pumped.ensures.b c.pump-pumped.ensures.d c.pump-pumped.ensures.total)
     (manager-fetched u v c.fetch-fetched.result c.fetch-fetched.ensures.rest c.fetch-fetched.ensures.a c.fetch-fetched.ensures.c c.fetch-fetched.ensures.e c.fetch-fetched.ensures.total)
     (c.new.ensures.moved).0)
 
-pub returns-clause-counted : goal.returns-clause-counted
-returns-clause-counted g c = c.add_accepted.ensures ∙ ap (λ q. counted c.args.at.now q) (sym c.new.ensures.offers)
-
 pub returns-clause-others : goal.returns-clause-others
-returns-clause-others g c = (ap (λ q. q.a) c.add_accepted.ensures ∙ ap (λ q. c.args.at.now.a + steps q) c.offer_each-offers.ensures.others.0 ∙ sym (none-more c.args.at.now.a), ap (λ q. q.c) c.add_accepted.ensures ∙ ap (λ q. c.args.at.now.c + steps q) c.offer_each-offers.ensures.others.1 ∙ sym (none-more c.args.at.now.c), ap (λ q. q.e) c.add_accepted.ensures ∙ ap (λ q. c.args.at.now.e + steps q) c.offer_each-offers.ensures.others.2 ∙ sym (none-more c.args.at.now.e))
+returns-clause-others g c = (ap (λ q. q.a) c.new.ensures.at ∙ ap (λ q. c.args.at.now.a + steps q) c.offer_each-offers.ensures.others.0 ∙ sym (none-more c.args.at.now.a), ap (λ q. q.c) c.new.ensures.at ∙ ap (λ q. c.args.at.now.c + steps q) c.offer_each-offers.ensures.others.1 ∙ sym (none-more c.args.at.now.c), ap (λ q. q.e) c.new.ensures.at ∙ ap (λ q. c.args.at.now.e + steps q) c.offer_each-offers.ensures.others.2 ∙ sym (none-more c.args.at.now.e))
 
 pub returns-clause-is_at : goal.returns-clause-is_at
 returns-clause-is_at g c = λ j m es fa fc fe o h.
@@ -45,7 +42,7 @@ returns-clause-is_at g c = λ j m es fa fc fe o h.
     let u = c.pump-pumped.new.self in
     let v = c.fetch-fetched.new.self in
     let k = c.offer_each-offers.ensures.offers h.past h.stands in
-    subst (λ p. ManagerIsAt (near_beats c.args.script.now) j m es c.add_accepted.new.at fa fc fe v p) (sym c.new.ensures.offers)
-    (subst (λ n. ManagerIsAt (near_beats c.args.script.now) j m es n fa fc fe v c.offer_each-offers.result) (sym c.add_accepted.ensures)
+    subst (λ p. ManagerIsAt (near_beats c.args.script.now) j m es c.new.result.at fa fc fe v p) (sym c.new.ensures.offers)
+    (subst (λ n. ManagerIsAt (near_beats c.args.script.now) j m es n fa fc fe v c.offer_each-offers.result) (sym c.new.ensures.at)
     (manager-turned (near_beats c.args.script.now) j m es c.args.at.now fa fc fe c.args.side.now t u v o c.offer_each-offers.result h k
     (c.fetch-fetched.ensures.stands (manager_pumps t u k.past) (c.pump-pumped.ensures.stands k.past k.stands))))

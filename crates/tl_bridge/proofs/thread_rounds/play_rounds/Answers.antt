@@ -1,11 +1,11 @@
 use Rattle.std.proofs.Common.{rules, lit<, ◌+◌, ◌^◌, ◌<◌, refl, sym, subst, ◌∙◌, arith, zero-le}
 use Rattle.tl_bridge.specs.Scripts.{near_beats}
-use Rattle.tl_bridge.specs.Inner.Arriving.{beats_of}
+use Rattle.tl_bridge.specs.Inner.Arriving.{beats_of, taken_of}
 use Rattle.tl_bridge.specs.Inner.Running.{AllStop}
 use Rattle.tl_bridge.specs.Inner.Sides.{past_of}
 use Rattle.tl_bridge.proofs.Counting.{counts-on, last-one, nearer, one-round-more}
 use Rattle.tl_bridge.proofs.Ended.{end-few, keeps-room}
-use Rattle.tl_bridge.proofs.SideSizes.{client_small, manager_small}
+use Rattle.tl_bridge.proofs.SideSizes.{client_small, manager_small, client_run_small, manager_run_small}
 use Rattle.tl_bridge.proofs.Meeting.{met-most, met-ended, new-met}
 use Rattle.tl_bridge.proofs.thread_rounds.play_rounds.Goals as goal
 
@@ -14,7 +14,7 @@ meet_sides-requires g c = (client_small g.row.C g.row.M c.requires.client c.requ
 
 pub rounds-init : goal.rounds-init
 rounds-init g c = record {
-  met = new-met c.args.client.now c.args.manager.now c.meet_sides.new.client c.meet_sides.new.manager c.meet_sides.result
+  met = new-met c.args.client.now.side c.args.manager.now.side c.meet_sides.new.client c.meet_sides.new.manager c.meet_sides.result
       (record {
         a = c.meet_sides.ensures.a;
         b = c.meet_sides.ensures.b;
@@ -27,19 +27,19 @@ rounds-init g c = record {
         in_d = c.meet_sides.ensures.standing_d;
         in_e = c.meet_sides.ensures.standing_e;
       })
-      (near_beats c.args.script.now) _ (beats_of c.args.far.now) refl c.requires.empty c.requires.new
+      (near_beats c.args.script.now) _ (beats_of (taken_of c.args.client.now c.args.manager.now)) refl c.requires.empty c.requires.new
       (c.meet_sides.ensures.meets _ _ c.requires.new.client c.requires.new.manager);
   room = c.requires.room;
   few = zero-le;
 }
 
 pub round-played-requires : goal.round-played-requires
-round-played-requires g c = (search rules, (search rules, (client_small g.row.C g.row.M c.requires.client c.requires.manager, (manager_small g.row.C g.row.M c.requires.client c.requires.manager, (lit< tt, (lit< tt, (c.requires.client, (c.requires.manager, (c.requires.short, (c.rounds.invariant.room, c.rounds.invariant.met))))))))))
+round-played-requires g c = (search rules, (search rules, (client_run_small g.row.C g.row.M c.requires.client c.requires.manager, (manager_run_small g.row.C g.row.M c.requires.client c.requires.manager, (lit< tt, (c.requires.client, (c.requires.manager, (c.requires.short, (c.rounds.invariant.room, c.rounds.invariant.met)))))))))
 
 pub overflow_add-rounds : goal.overflow_add-rounds
 overflow_add-rounds g c =
     let i = c.rounds.invariant in
-    let l : c.rounds.rounds + 1 < 2 ^ 64 = counts-on _ _ _ i.few (met-most (near_beats c.args.script.now) c.rounds.at (beats_of c.rounds.far) c.rounds.client c.rounds.manager i.met c.requires.client c.requires.manager)
+    let l : c.rounds.rounds + 1 < 2 ^ 64 = counts-on _ _ _ i.few (met-most (near_beats c.args.script.now) c.rounds.at (beats_of (taken_of c.rounds.client c.rounds.manager)) c.rounds.client.side c.rounds.manager.side i.met c.requires.client c.requires.manager)
     (end-few (near_beats c.args.script.now) c.requires.client c.requires.manager c.requires.short) in
     omega (arith, l)
 
@@ -47,21 +47,21 @@ pub returns-in-Some-clause-ended : goal.returns-in-Some-clause-ended
 returns-in-Some-clause-ended g c =
     let h = c.round-played.ensures.round in
     let near = near_beats c.args.script.now in
-    met-ended near c.round-played.new.at (beats_of c.round-played.new.far) c.round-played.new.client c.round-played.new.manager h.met c.in-Some.stops (c.rounds.rounds + 1)
-    (subst (λ o. AllStop near c.round-played.new.at (past_of c.round-played.new.client c.round-played.new.manager h.met.client h.met.manager) o) c.in-Some.ensures.stops h.stops)
+    met-ended near c.round-played.result.at (beats_of (taken_of c.round-played.new.client c.round-played.new.manager)) c.round-played.new.client.side c.round-played.new.manager.side h.met c.in-Some.stops (c.rounds.rounds + 1)
+    (subst (λ o. AllStop near c.round-played.result.at (past_of c.round-played.new.client.side c.round-played.new.manager.side h.met.client h.met.manager) o) c.in-Some.ensures.stops h.stops)
     (sym h.standing ∙ c.in-Some.ensures.rests) (last-one _ _ _ c.rounds.invariant.few h.keeps)
 
 pub rounds-smaller : goal.rounds-smaller
 rounds-smaller g c =
     let h = c.round-played.ensures.round in
     nearer _ _ _ (h.goes (search rules))
-    (met-most (near_beats c.args.script.now) c.round-played.new.at (beats_of c.round-played.new.far) c.round-played.new.client c.round-played.new.manager h.met c.requires.client c.requires.manager)
+    (met-most (near_beats c.args.script.now) c.round-played.result.at (beats_of (taken_of c.round-played.new.client c.round-played.new.manager)) c.round-played.new.client.side c.round-played.new.manager.side h.met c.requires.client c.requires.manager)
 
 pub rounds-preserved : goal.rounds-preserved
 rounds-preserved g c =
     let h = c.round-played.ensures.round in
     record {
       met = h.met;
-      room = keeps-room (near_beats c.args.script.now) c.rounds.far c.round-played.new.far c.round-played.ensures.capacity c.rounds.invariant.room;
+      room = keeps-room (near_beats c.args.script.now) (taken_of c.rounds.client c.rounds.manager) (taken_of c.round-played.new.client c.round-played.new.manager) c.round-played.ensures.capacity c.rounds.invariant.room;
       few = one-round-more _ _ _ c.rounds.invariant.few (h.goes (search rules));
     }

@@ -1,16 +1,16 @@
 use Rattle.std.proofs.Common.{◌-◌, ◌≤◌}
 use Rattle.tl_bridge.specs.Scripts.{near_beats}
-use Rattle.tl_bridge.specs.Inner.Arriving.{HasRoomFor, beats_of}
+use Rattle.tl_bridge.specs.Inner.Arriving.{HasRoomFor, beats_of, taken_of}
 use Rattle.tl_bridge.specs.Inner.Sides.{HasMet, met_progress}
 use Rattle.tl_bridge.proofs.Ended.{run_end}
 use Rattle.tl_bridge.proofs.thread_rounds.play_rounds.Given as goal
 
 abbrev pub invariant-rounds : goal.invariant-rounds
 invariant-rounds g l = record {
-  met : HasMet (near_beats l.script) l.at (beats_of l.far) l.client l.manager;
-  room : HasRoomFor (near_beats l.script) l.far;
-  few : l.rounds ≤ met_progress l.at l.client l.manager;
+  met : HasMet (near_beats l.script) l.at (beats_of (taken_of l.client l.manager)) l.client.side l.manager.side;
+  room : HasRoomFor (near_beats l.script) (taken_of l.client l.manager);
+  few : l.rounds ≤ met_progress l.at l.client.side l.manager.side;
 }
 
 abbrev pub decreases-rounds : goal.decreases-rounds
-decreases-rounds g l = run_end (near_beats l.script) - met_progress l.at l.client l.manager
+decreases-rounds g l = run_end (near_beats l.script) - met_progress l.at l.client.side l.manager.side

@@ -1,12 +1,11 @@
 use Rattle.tl_msg.specs.Tables.{rules_e}
 use Rattle.tl_pair.proofs.SideSteps.{client_e, side_closes}
-use denote.Param.{layout, param, number}
 use Rattle.tl_ring.proofs.FieldSizes.{part_small}
-use Rattle.tl_pair.specs.contracts.client_side.ClientSide.{the_row}
+use Rattle.tl_pair.proofs.Layouts.{client_layout}
 use Rattle.tl_pair.proofs.client_side.ClientSide.close_e.Goals as goal
 
 pub close-requires : goal.close-requires
-close-requires g c = search (part_small (layout (the_row (param 0 (number g.row.C)) (param 1 (number g.row.M)) (param 2 g.row.A) g.A.Allocator)) 4 9223372036854775808)
+close-requires g c = search (part_small (client_layout g.row.C g.row.M g.row.A g.A.Allocator) 4 9223372036854775808)
 
 pub returns : goal.returns
 returns g c = side_closes rules_e client_e (λ y. tt) c.self.view_is _ _ c.close.ensures

@@ -1,14 +1,13 @@
 use Rattle.tl_pair.proofs.SideSteps.{client_fetched}
-use denote.Param.{layout, param, number}
 use Rattle.tl_ring.proofs.FieldSizes.{part_small}
-use Rattle.tl_pair.specs.contracts.client_side.ClientSide.{the_row}
+use Rattle.tl_pair.proofs.Layouts.{client_layout}
 use Rattle.tl_pair.proofs.client_side.ClientSide.fetch.Goals as goal
 
 pub fetch-b-requires : goal.fetch-b-requires
-fetch-b-requires g c = search (part_small (layout (the_row (param 0 (number g.row.C)) (param 1 (number g.row.M)) (param 2 g.row.A) g.A.Allocator)) 1 9223372036854775808)
+fetch-b-requires g c = search (part_small (client_layout g.row.C g.row.M g.row.A g.A.Allocator) 1 9223372036854775808)
 
 pub fetch-d-requires : goal.fetch-d-requires
-fetch-d-requires g c = search (part_small (layout (the_row (param 0 (number g.row.C)) (param 1 (number g.row.M)) (param 2 g.row.A) g.A.Allocator)) 3 9223372036854775808)
+fetch-d-requires g c = search (part_small (client_layout g.row.C g.row.M g.row.A g.A.Allocator) 3 9223372036854775808)
 
 pub returns : goal.returns
 returns g c = client_fetched c.self.view_is _ _ _ _ c.fetch-b.ensures c.fetch-d.ensures

@@ -1,12 +1,11 @@
 use Rattle.tl_msg.specs.Tables.{rules_b}
 use Rattle.tl_pair.proofs.SideSteps.{client_b, side_takes}
-use denote.Param.{layout, param, number}
 use Rattle.tl_ring.proofs.FieldSizes.{part_small}
-use Rattle.tl_pair.specs.contracts.client_side.ClientSide.{the_row}
+use Rattle.tl_pair.proofs.Layouts.{client_layout}
 use Rattle.tl_pair.proofs.client_side.ClientSide.take_b.Goals as goal
 
 pub take-requires : goal.take-requires
-take-requires g c = search (part_small (layout (the_row (param 0 (number g.row.C)) (param 1 (number g.row.M)) (param 2 g.row.A) g.A.Allocator)) 1 9223372036854775808)
+take-requires g c = search (part_small (client_layout g.row.C g.row.M g.row.A g.A.Allocator) 1 9223372036854775808)
 
 pub returns : goal.returns
 returns g c = side_takes rules_b client_b c.self.view_is _ _ c.take.ensures

@@ -4,16 +4,15 @@ use Rattle.tl_settle.specs.Histories.{Answer, answered}
 use Rattle.tl_sides.specs.Books.{KnowsClient}
 use Rattle.tl_sides.proofs.BridgeSteps.{lawful_head, some_taken, none_taken}
 use Rattle.tl_pair.proofs.SideSteps.{client_taken_d}
-use denote.Param.{layout, param, number}
 use Rattle.tl_ring.proofs.FieldSizes.{part_small}
-use Rattle.tl_pair.specs.contracts.client_side.ClientSide.{the_row}
+use Rattle.tl_pair.proofs.Layouts.{client_layout}
 use Rattle.tl_pair.proofs.client_side.ClientSide.take_d.Goals as goal
 
 pub take-requires : goal.take-requires
-take-requires g c = search (part_small (layout (the_row (param 0 (number g.row.C)) (param 1 (number g.row.M)) (param 2 g.row.A) g.A.Allocator)) 3 9223372036854775808)
+take-requires g c = search (part_small (client_layout g.row.C g.row.M g.row.A g.A.Allocator) 3 9223372036854775808)
 
 pub note_answer-requires : goal.note_answer-requires
-note_answer-requires g c = (search (part_small (layout (the_row (param 0 (number g.row.C)) (param 1 (number g.row.M)) (param 2 g.row.A) g.A.Allocator)) 5 9223372036854775808), (c.requires.far, lawful_head rules_d c.in_ok-beat.beat c.in_ok-beat.ensures.lawful))
+note_answer-requires g c = (search (part_small (client_layout g.row.C g.row.M g.row.A g.A.Allocator) 5 9223372036854775808), (c.requires.far, lawful_head rules_d c.in_ok-beat.beat c.in_ok-beat.ensures.lawful))
 
 pub returns-in_err-beat-clause-rest : goal.returns-in_err-beat-clause-rest
 returns-in_err-beat-clause-rest g c = rw (← c.self.view_is) (ap (λ q. record { a = c.self.inside.a; b = c.self.inside.b; c = c.self.inside.c; d = q; e = c.self.inside.e; book = c.self.inside.book }) c.take.ensures.rest)

@@ -1,14 +1,13 @@
 use Rattle.tl_pair.proofs.SideSteps.{manager_pumped}
-use denote.Param.{layout, param, number}
 use Rattle.tl_ring.proofs.FieldSizes.{part_small}
-use Rattle.tl_pair.specs.contracts.manager_side.ManagerSide.{the_row}
+use Rattle.tl_pair.proofs.Layouts.{manager_layout}
 use Rattle.tl_pair.proofs.manager_side.ManagerSide.pump.Goals as goal
 
 pub pump-b-requires : goal.pump-b-requires
-pump-b-requires g c = search (part_small (layout (the_row (param 0 (number g.row.C)) (param 1 (number g.row.M)) (param 2 g.row.A) g.A.Allocator)) 1 9223372036854775808)
+pump-b-requires g c = search (part_small (manager_layout g.row.C g.row.M g.row.A g.A.Allocator) 1 9223372036854775808)
 
 pub pump-d-requires : goal.pump-d-requires
-pump-d-requires g c = search (part_small (layout (the_row (param 0 (number g.row.C)) (param 1 (number g.row.M)) (param 2 g.row.A) g.A.Allocator)) 3 9223372036854775808)
+pump-d-requires g c = search (part_small (manager_layout g.row.C g.row.M g.row.A g.A.Allocator) 3 9223372036854775808)
 
 pub returns : goal.returns
 returns g c = manager_pumped c.self.view_is _ _ _ _ c.pump-b.ensures c.pump-d.ensures

@@ -1,10 +1,9 @@
-use denote.Param.{layout, param, number}
 use Rattle.tl_ring.proofs.FieldSizes.{part_small}
-use Rattle.tl_pair.specs.contracts.manager_side.ManagerSide.{the_row}
+use Rattle.tl_pair.proofs.Layouts.{manager_layout}
 use Rattle.tl_pair.proofs.manager_side.ManagerSide.ready_d.Goals as goal
 
 pub ready-requires : goal.ready-requires
-ready-requires g c = search (part_small (layout (the_row (param 0 (number g.row.C)) (param 1 (number g.row.M)) (param 2 g.row.A) g.A.Allocator)) 3 9223372036854775808)
+ready-requires g c = search (part_small (manager_layout g.row.C g.row.M g.row.A g.A.Allocator) 3 9223372036854775808)
 
 pub returns : goal.returns
 returns g c = rw (← c.self.view_is) c.ready.ensures

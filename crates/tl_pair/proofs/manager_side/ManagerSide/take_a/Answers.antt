@@ -4,16 +4,15 @@ use Rattle.tl_settle.specs.Histories.{Ask, asked}
 use Rattle.tl_sides.specs.Books.{KnowsManager}
 use Rattle.tl_sides.proofs.BridgeSteps.{lawful_head, some_taken, none_taken}
 use Rattle.tl_pair.proofs.SideSteps.{manager_taken_a}
-use denote.Param.{layout, param, number}
 use Rattle.tl_ring.proofs.FieldSizes.{part_small}
-use Rattle.tl_pair.specs.contracts.manager_side.ManagerSide.{the_row}
+use Rattle.tl_pair.proofs.Layouts.{manager_layout}
 use Rattle.tl_pair.proofs.manager_side.ManagerSide.take_a.Goals as goal
 
 pub take-requires : goal.take-requires
-take-requires g c = search (part_small (layout (the_row (param 0 (number g.row.C)) (param 1 (number g.row.M)) (param 2 g.row.A) g.A.Allocator)) 0 9223372036854775808)
+take-requires g c = search (part_small (manager_layout g.row.C g.row.M g.row.A g.A.Allocator) 0 9223372036854775808)
 
 pub note_ask-requires : goal.note_ask-requires
-note_ask-requires g c = (search (part_small (layout (the_row (param 0 (number g.row.C)) (param 1 (number g.row.M)) (param 2 g.row.A) g.A.Allocator)) 5 9223372036854775808), (c.requires.far, lawful_head rules_a c.in_ok-beat.beat c.in_ok-beat.ensures.lawful))
+note_ask-requires g c = (search (part_small (manager_layout g.row.C g.row.M g.row.A g.A.Allocator) 5 9223372036854775808), (c.requires.far, lawful_head rules_a c.in_ok-beat.beat c.in_ok-beat.ensures.lawful))
 
 pub returns-in_err-beat-clause-rest : goal.returns-in_err-beat-clause-rest
 returns-in_err-beat-clause-rest g c = rw (← c.self.view_is) (ap (λ q. record { a = q; b = c.self.inside.b; c = c.self.inside.c; d = c.self.inside.d; e = c.self.inside.e; book = c.self.inside.book }) c.take.ensures.rest)

@@ -29,3 +29,6 @@ returns-clause-accepted g c = λ x k.
 
 pub returns-clause-ring : goal.returns-clause-ring
 returns-clause-ring g c = rw (← c.self.view_is) c.offer_at.ensures.ring
+
+pub invariant_of-self : goal.invariant_of-self
+invariant_of-self g c = c.offer_at.ensures.open

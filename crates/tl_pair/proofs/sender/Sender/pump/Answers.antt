@@ -1,7 +1,7 @@
 use Rattle.std.proofs.Common.{subst}
 use Rattle.tl_ring.specs.Ends.{Sends, passed}
-use Rattle.tl_ring.proofs.EndSteps.{sends_passed}
-use Rattle.tl_pair.proofs.Senders.{pushed_alike, pump_counted, pumps_of}
+use Rattle.tl_ring.proofs.EndSteps.{sends_passed, pushed_alike}
+use Rattle.tl_pair.proofs.Senders.{pump_counted, pumps_of}
 use denote.Param.{layout, param, copied, number}
 use Rattle.tl_ring.proofs.FieldSizes.{part_small}
 use Rattle.tl_pair.specs.contracts.sender.Sender.{the_row}
