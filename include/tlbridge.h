@@ -29,6 +29,7 @@
 #include <stdbool.h>
 #include <stddef.h>
 #include <stdint.h>
+#include <stdlib.h>
 
 /* The library's version that this header is of. */
 #define TL_VERSION 1
@@ -50,9 +51,17 @@ enum {
     TL_SIZE_MISMATCH = 10,
     /* of close */
     TL_MID_BURST = 11,
-    /* of open */
+    /* of open; no memory is an answer of tl_answer_trace, too */
     TL_RING_SIZE = 12,
     TL_OUT_OF_MEMORY = 13,
+    /* of tl_answer_trace: what the first faulty line of a text has, and a text of more than 67,108,864 bytes; section 11 */
+    TL_HEADER = 14,
+    TL_CHANNEL_LETTER = 15,
+    TL_LENGTH = 16,
+    TL_SHAPE = 17,
+    TL_RANGE = 18,
+    TL_NO_END = 19,
+    TL_TOO_LONG = 23,
     /* the handle holds no bridge */
     TL_NO_BRIDGE = 253,
     /* the channel takes no beat now: far beats are staged, or it is closed */
@@ -147,5 +156,31 @@ typedef struct {
     uint8_t TL_CALL(client, manager, offer_##x)(TL_CALL(client, manager, handle) *handle, const tl_beat *beat, const uint8_t lanes[near_width]); \
     bool TL_CALL(client, manager, take_##x)(TL_CALL(client, manager, handle) *handle, tl_beat *beat, uint8_t lanes[far_width]); \
     uint8_t TL_CALL(client, manager, close_##x)(TL_CALL(client, manager, handle) *handle);
+
+TL_BEGIN
+
+/* The answer to a whole trace, or why there is none. It is of another library, libtlbridge_trace.a, which has no pair of widths:
+ * bench/make-library trace makes it. */
+typedef struct {
+    const uint8_t *text; /* the answer's bytes, no zero at their end; NULL where there is none */
+    size_t length;
+    uint64_t line;    /* the line of the trace that has the fault, counted from 1; 0 where no line has it */
+    uint8_t all_done; /* 1 where all five channels are done, else 0 */
+} tl_answer;
+
+/* Answers the text of a trace as `tlbridge run` does, and where `check` is not 0, as `tlbridge check`: TL_OK, or the text's fault, 13 to 23.
+ * What `answer` held is written over. Its text is the caller's, to be given back by tl_answer_free or free. `text` is `length` bytes, and
+ * not NULL where there are none. Calls of several threads are independent. */
+uint8_t tl_answer_trace(const uint8_t *text, size_t length, uint8_t check, tl_answer *answer);
+
+/* Gives the text of an answer back: the answer has none then. */
+static inline void tl_answer_free(tl_answer *answer) {
+    free((void *)answer->text);
+    answer->text = NULL;
+    answer->length = 0;
+    answer->all_done = 0;
+}
+
+TL_END
 
 #endif

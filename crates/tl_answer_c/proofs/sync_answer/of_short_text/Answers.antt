@@ -1,0 +1,25 @@
+use Rattle.std.proofs.Common.{rules, refl, sym, subst, arith}
+use Rattle.tl_answer.specs.Texts.{IsOfText}
+use Rattle.tl_answer.proofs.Headers.{last_client, no_header}
+use Rattle.tl_answer_c.specs.Calls.{in_one_thread}
+use Rattle.tl_answer_c.proofs.sync_answer.of_short_text.Goals as goal
+
+pub returns-in_default-clause-err : goal.returns-in_default-clause-err
+returns-in_default-clause-err c =
+    subst (IsOfText c.args.text.now in_one_thread) (sym c.from.ensures) (search rules, no_header c.args.text.now (sym c.in_default.ensures))
+
+pub with_client-requires-in-4-clause-client : goal.with_client-requires-in-4-clause-client
+with_client-requires-in-4-clause-client c = (2, omega arith, refl)
+
+pub with_client-requires-in-8-clause-client : goal.with_client-requires-in-8-clause-client
+with_client-requires-in-8-clause-client c = (3, omega arith, refl)
+
+pub with_client-requires-in-16-clause-client : goal.with_client-requires-in-16-clause-client
+with_client-requires-in-16-clause-client c = (4, omega arith, refl)
+
+pub with_client-requires-in-32-clause-client : goal.with_client-requires-in-32-clause-client
+with_client-requires-in-32-clause-client c = (5, omega arith, refl)
+
+pub with_client-requires-in_default-client-clause-widths : goal.with_client-requires-in_default-client-clause-widths
+with_client-requires-in_default-client-clause-widths c =
+    last_client _ _ _ (sym c.in-Some.ensures) (search rules) (search rules) (search rules) (search rules) (search rules) (search rules)

@@ -1,0 +1,31 @@
+use Rattle.std.proofs.Common.{List, subst, arith}
+use Rattle.std.proofs.lemmas.Result.{err_from_is_err_and}
+use Rattle.tl_trace.specs.declared.line.Line.{Line}
+use Rattle.tl_bridge.specs.Scripts.{EndsIn}
+use Rattle.tl_answer.specs.Answer.{ends, near}
+use Rattle.tl_answer.proofs.Answering.{answers-text, near-is}
+use Rattle.tl_answer.proofs.Lengths.{lines-few, short}
+use Rattle.tl_answer_c.proofs.sync_answer.with_widths.Goals as goal
+
+pub outcome_of-requires : goal.outcome_of-requires
+outcome_of-requires g c =
+    let told = c.in_ok-script.ensures.told in
+    let lists = short g.row.C g.row.M told.lines (lines-few _ _ _ told.lines told.told c.requires.few) _ told.script in
+    (omega arith, (omega arith, (c.requires.client, (c.requires.manager, lists))))
+
+pub returns-clause-ok : goal.returns-clause-ok
+returns-clause-ok g c =
+    answers-text c.args.text.now g.row.C g.row.M lines c.args.check c.in_ok-outcome.outcome
+    c.in_ok-script.ensures.told.told ended c.answer_of.result
+    (c.answer_of.ensures.text (ends g.row.C g.row.M lines) ended.verdicts_are) c.answer_of.ensures.done
+  where
+    lines : List Line
+    lines = c.in_ok-script.ensures.told.lines
+
+    ended : EndsIn (near g.row.C g.row.M lines) c.in_ok-outcome.outcome
+    ended = subst (λ bs. EndsIn bs c.in_ok-outcome.outcome) (near-is lines _ c.in_ok-script.ensures.told.script) c.in_ok-outcome.ensures.ok
+
+pub returns-in_err-outcome-clause-err : goal.returns-in_err-outcome-clause-err
+returns-in_err-outcome-clause-err g c =
+    let p = err_from_is_err_and c.from_residual-in_err-outcome.result c.from_residual-in_err-outcome.ensures.1 in
+    rw (p.1, p.2) (c.in_err-outcome.ensures.err c.args.text.now)

@@ -1,0 +1,58 @@
+-- What C is told of the answer to a text (this project's choice).
+use Rattle.std.specs.Prelude.{◌≡◌, ◌<◌, ◌==◌, ℕ, Bool, true, not, if◌then◌else◌, List, length, Option, None, Some}
+use denote.RawPtr.{null_ptr}
+use Rattle.std.specs.Vec.{vec_ptr, vec_len}
+use Rattle.tl_order.specs.declared.Order.{Order}
+use Rattle.tl_order.specs.declared.Order.TheVariants.{Run}
+use Rattle.tl_answer.specs.Faults.{text_fault_number, text_fault_line}
+use Rattle.tl_answer.specs.Texts.{IsAnswer, IsOfText, most_bytes}
+use Rattle.tl_answer.specs.declared.answer.Answer.{Answer}
+use Rattle.tl_answer.specs.declared.fault.TextFault.{TextFault}
+use Rattle.tl_answer.specs.declared.fault.TextFault.TheVariants as faults
+use Rattle.tl_answer_c.specs.declared.block.AnswerBlock.{AnswerBlock}
+
+-- a flag is set where it is not 0
+abbrev pub is_set : ℕ → Bool
+is_set n = not (n == 0)
+
+-- both sides run in one thread
+abbrev pub in_one_thread : Order
+in_one_thread = Run 1 1 true
+
+-- what a call refuses a text for: it is too long, or what a run in one thread refuses it for
+abbrev pub IsOfCall : (text : List ℕ) → TextFault → Type 0
+IsOfCall text faults.TooLong = most_bytes < length text
+IsOfCall text (faults.Trace fault) = IsOfText text in_one_thread (faults.Trace fault)
+IsOfCall text faults.Stalled = ⊥
+IsOfCall text faults.Read = ⊥
+IsOfCall text faults.Write = ⊥
+IsOfCall text faults.OutOfMemory = Unit {0}
+
+-- the block of an answer's text, as it was given away
+abbrev pub block_of : Answer → AnswerBlock
+block_of made = record {
+  text = vec_ptr made.text;
+  length = vec_len made.text;
+  line = 0;
+  all_done = if made.all_done then 1 else 0;
+}
+
+abbrev pub line_or_0 : Option ℕ → ℕ
+line_or_0 None = 0
+line_or_0 (Some line) = line
+
+abbrev pub no_block : (line : Option ℕ) → AnswerBlock
+no_block line = record { text = null_ptr; length = 0; line = line_or_0 line; all_done = 0 }
+
+-- C was given the block of the answer to the text
+pub record IsGiven (text : List ℕ) (check : Bool) (block : AnswerBlock) : Type 0 where
+  pub made : Answer
+  pub given : block ≡ block_of made
+  pub answers : IsAnswer text check made.text.items made.all_done
+
+-- C was told the number and the line of the text's fault, and given no block
+pub record IsRefusal (text : List ℕ) (number : ℕ) (block : AnswerBlock) : Type 0 where
+  pub fault : TextFault
+  pub of_call : IsOfCall text fault
+  pub numbered : number ≡ text_fault_number fault
+  pub none : block ≡ no_block (text_fault_line fault)

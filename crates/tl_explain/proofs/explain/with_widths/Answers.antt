@@ -1,0 +1,35 @@
+use Rattle.std.proofs.Common.{◌∙◌, ◌++◌, true, List, ap, subst, arith}
+use Rattle.tl_trace.specs.declared.line.Line.{Line}
+use Rattle.tl_bridge.specs.Scripts.{EndsIn}
+use Rattle.tl_answer.specs.Answer.{ends, near}
+use Rattle.tl_answer.proofs.Answering.{answers, near-is}
+use Rattle.tl_answer.proofs.Lengths.{lines-few, short}
+use Rattle.tl_explain.proofs.explain.with_widths.Goals as goal
+
+pub outcome_of-requires : goal.outcome_of-requires
+outcome_of-requires g c =
+    let told = c.in_ok-script.ensures.told in
+    let few = lines-few _ _ _ told.lines told.told c.requires.few in
+    let lists = short g.row.C g.row.M told.lines few _ told.script in
+    (omega arith, (omega arith, (c.requires.client, (c.requires.manager, lists))))
+
+pub returns : goal.returns
+returns g c = record {
+  sentences = c.into_bytes-text.result.items;
+  answer = c.in_ok-answer.answer.text.items;
+  ends = c.in_ok-extend_from_slice.ensures.items ∙ ap (λ text. c.into_bytes-text.result.items ++ text) c.deref.ensures.value;
+  answered = record {
+    client = g.row.C;
+    manager = g.row.M;
+    lines = lines;
+    told = c.in_ok-script.ensures.told.told;
+    answers = answers g.row.C g.row.M lines true c.in_ok-outcome.outcome ended _
+        (c.in_ok-answer.ensures.text (ends g.row.C g.row.M lines) ended.verdicts_are) _ c.in_ok-answer.ensures.done;
+  };
+}
+  where
+    lines : List Line
+    lines = c.in_ok-script.ensures.told.lines
+
+    ended : EndsIn (near g.row.C g.row.M lines) c.in_ok-outcome.outcome
+    ended = subst (λ bs. EndsIn bs c.in_ok-outcome.outcome) (near-is lines _ c.in_ok-script.ensures.told.script) c.in_ok-outcome.ensures

@@ -1,0 +1,247 @@
+//! From a text to what came of each of its lines.
+ghost use Rattle.std.specs.Prelude.{◌≡◌, ◌≤◌, length, Some, IfOk};
+ghost use Rattle.tl_lanes.specs.Lanes.{IsWidth};
+ghost use Rattle.tl_bridge.specs.Scripts.{HasShortLists, SettlesTo};
+ghost use Rattle.tl_trace.specs.Faults.{body, widths_of};
+ghost use Rattle.tl_answer.specs.Texts.{most_bytes};
+ghost use Rattle.tl_explain.specs.Explained.{IsExplanation};
+
+use crate::channel::{put_near, requests_of};
+use crate::look::Look;
+use crate::requests::Requests;
+use crate::walk::Walk;
+use std::alloc::{AllocError, Global};
+use std::fmt::Write;
+use tl_answer::{TextFault, answer_of};
+use tl_bridge::{Outcome, PerChannel, run_sync};
+use tl_msg::{ChA, ChB, ChC, ChD, ChE, Verdict};
+use tl_trace::{Script, TraceFault, TraceKind, read_script, widths_of_text};
+
+/// The beats that each ring holds; what a run ends in does not depend on it.
+const RING: usize = 16;
+
+/// What came of each line of a text, and whether all five channels are done.
+#[derive(Drop)]
+pub struct Explanation {
+    pub text: Vec<u8>,
+    pub all_done: bool,
+}
+
+/// Writes what came of a line with this letter.
+fn put_letter<const C: usize, const M: usize>(
+    out: &mut String,
+    line: u64,
+    letter: u8,
+    script: &Script<C, M>,
+    outcome: &Outcome<C, M>,
+    walks: &mut PerChannel<Walk>,
+    requests: &mut Requests,
+    look: &Look,
+) -> Result<(), AllocError>
+    requires client { IsWidth C }
+    requires manager { IsWidth M }
+{
+    let [a, b, c, d, e] = &outcome.verdicts;
+    match letter {
+        b'A' => put_near::<ChA, C, M>(
+            out,
+            line,
+            &script.a,
+            &outcome.a,
+            a,
+            &mut walks.a,
+            requests,
+            look,
+        ),
+        b'B' => put_near::<ChB, M, C>(
+            out,
+            line,
+            &script.b,
+            &outcome.b,
+            b,
+            &mut walks.b,
+            requests,
+            look,
+        ),
+        b'C' => put_near::<ChC, C, M>(
+            out,
+            line,
+            &script.c,
+            &outcome.c,
+            c,
+            &mut walks.c,
+            requests,
+            look,
+        ),
+        b'D' => put_near::<ChD, M, C>(
+            out,
+            line,
+            &script.d,
+            &outcome.d,
+            d,
+            &mut walks.d,
+            requests,
+            look,
+        ),
+        b'E' => put_near::<ChE, C, M>(
+            out,
+            line,
+            &script.e,
+            &outcome.e,
+            e,
+            &mut walks.e,
+            requests,
+            look,
+        ),
+        _ => Ok(()),
+    }
+}
+
+/// Writes where a channel's lines end within a burst.
+fn put_cut(
+    out: &mut String,
+    letter: char,
+    walk: &Walk,
+    verdict: &Verdict,
+) -> Result<(), AllocError> {
+    let Verdict::Cut { .. } = verdict else {
+        return Ok(());
+    };
+    let (line, index, beats) = (walk.first_line, walk.index, walk.beats);
+    writeln!(
+        out,
+        "{letter} ends within the burst that line {line} begins: {index} of its {beats} beats are there"
+    )
+}
+
+/// What came of each line from line 2 on, in sentences.
+fn sentences_of<const C: usize, const M: usize>(
+    alloc: Global,
+    text: &[u8],
+    script: &Script<C, M>,
+    outcome: &Outcome<C, M>,
+    look: &Look,
+) -> Result<String, AllocError>
+    requires client { IsWidth C }
+    requires manager { IsWidth M }
+{
+    let mut out = String::new(alloc);
+    let mut walks = PerChannel::<Walk>::default();
+    let mut requests = requests_of::<C>(alloc, text, &script.a, &outcome.verdicts[0])?;
+    let mut line = 1u64;
+    let mut begins = false;
+    for byte in text {
+        if begins {
+            line = line.saturating_add(1);
+            put_letter(
+                &mut out,
+                line,
+                *byte,
+                script,
+                outcome,
+                &mut walks,
+                &mut requests,
+                look,
+            )?;
+        }
+        begins = *byte == b'\n';
+    }
+    put_cut(&mut out, 'A', &walks.a, &outcome.verdicts[0])?;
+    put_cut(&mut out, 'B', &walks.b, &outcome.verdicts[1])?;
+    put_cut(&mut out, 'C', &walks.c, &outcome.verdicts[2])?;
+    put_cut(&mut out, 'D', &walks.d, &outcome.verdicts[3])?;
+    Ok(out)
+}
+
+/// What a script ends in. No fault but want of memory comes: a run in one thread never stalls, and
+/// rings may hold 16 beats.
+fn outcome_of<const C: usize, const M: usize>(
+    alloc: Global,
+    script: &Script<C, M>,
+) -> Result<Outcome<C, M>, TextFault>
+    requires client { IsWidth C }
+    requires manager { IsWidth M }
+    requires short { HasShortLists script.now }
+    ensures { IfOk result (SettlesTo script.now) }
+{
+    match run_sync::<C, M>(alloc, script, RING) {
+        Ok(outcome) => Ok(outcome),
+        Err(_) => Err(TextFault::OutOfMemory),
+    }
+}
+
+/// The explanation of a text whose header names these widths.
+fn with_widths<const C: usize, const M: usize>(
+    alloc: Global,
+    text: &[u8],
+    look: &Look,
+) -> Result<Explanation, TextFault>
+    requires client { IsWidth C }
+    requires manager { IsWidth M }
+    requires widths { widths_of (body text.now) ≡ Some (C, M) }
+    requires few { length text.now ≤ most_bytes }
+    ensures { IfOk result (λ made. IsExplanation text.now made.text.items made.all_done) }
+{
+    let script = read_script::<C, M>(alloc, text)?;
+    let outcome = outcome_of::<C, M>(alloc, &script)?;
+    let sentences = sentences_of(alloc, text, &script, &outcome, look)?;
+    let answer = answer_of(alloc, &outcome, true)?;
+    let mut text = sentences.into_bytes();
+    text.extend_from_slice(&answer.text)?;
+    Ok(Explanation {
+        text,
+        all_done: answer.all_done,
+    })
+}
+
+/// The same, for a client of `C` bytes: the manager's width is one of seven.
+fn with_client<const C: usize>(
+    alloc: Global,
+    text: &[u8],
+    manager: usize,
+    look: &Look,
+) -> Result<Explanation, TextFault>
+    requires client { IsWidth C }
+    requires widths { widths_of (body text.now) ≡ Some (C, manager) }
+    requires few { length text.now ≤ most_bytes }
+    ensures { IfOk result (λ made. IsExplanation text.now made.text.items made.all_done) }
+{
+    match manager {
+        1 => with_widths::<C, 1>(alloc, text, look),
+        2 => with_widths::<C, 2>(alloc, text, look),
+        4 => with_widths::<C, 4>(alloc, text, look),
+        8 => with_widths::<C, 8>(alloc, text, look),
+        16 => with_widths::<C, 16>(alloc, text, look),
+        32 => with_widths::<C, 32>(alloc, text, look),
+        _ => with_widths::<C, 64>(alloc, text, look),
+    }
+}
+
+/// What came of each line of a text, in the order of its lines, and then the answer that
+/// `tlbridge check` gives to it.
+///
+/// A line has a sentence: whether its beat was accepted, and which far beats it completed, or how
+/// much of the next one is there; or why it was refused, or waits, or was not offered. Below an
+/// accepted one stand the lines of the far beats that it completed, each behind four spaces.
+///
+/// Refused with `Trace` and the text's first fault and its line, or with `OutOfMemory`.
+pub fn explain_text(alloc: Global, text: &[u8], look: &Look) -> Result<Explanation, TextFault>
+    requires few { length text.now ≤ most_bytes }
+    ensures { IfOk result (λ made. IsExplanation text.now made.text.items made.all_done) }
+{
+    let Some((client, manager)) = widths_of_text(text) else {
+        return Err(TextFault::from(TraceFault {
+            line: 1,
+            kind: TraceKind::Header,
+        }));
+    };
+    match client {
+        1 => with_client::<1>(alloc, text, manager, look),
+        2 => with_client::<2>(alloc, text, manager, look),
+        4 => with_client::<4>(alloc, text, manager, look),
+        8 => with_client::<8>(alloc, text, manager, look),
+        16 => with_client::<16>(alloc, text, manager, look),
+        32 => with_client::<32>(alloc, text, manager, look),
+        _ => with_client::<64>(alloc, text, manager, look),
+    }
+}

@@ -1,0 +1,34 @@
+//! What came of a near beat, by the verdict on its channel.
+ghost use Rattle.std.specs.Prelude.{◌≡◌};
+ghost use Rattle.tl_explain.specs.Fates.{fate_of};
+
+use tl_msg::{SideFault, Verdict};
+
+/// What came of a near beat.
+#[derive(Clone, Copy)]
+pub enum Fate {
+    /// Its side accepted it.
+    Accepted,
+    /// It breaks a rule of the link, for good.
+    Refused(SideFault),
+    /// It would be accepted once the other channel goes on, which it does not.
+    Waiting(SideFault),
+    /// A beat before it on its channel was not accepted, so it never came to its turn.
+    NotOffered,
+}
+
+/// What came of the beat before which there are `at` on its channel.
+pub fn fate_at(at: u64, verdict: &Verdict) -> Fate
+    ensures { result ≡ fate_of at verdict.now }
+{
+    match *verdict {
+        Verdict::Done { near, .. } | Verdict::Cut { near, .. } if at < near => Fate::Accepted,
+        Verdict::Done { .. } | Verdict::Cut { .. } => Fate::NotOffered,
+        Verdict::Refused { at: near, .. } | Verdict::Waiting { at: near, .. } if at < near => {
+            Fate::Accepted
+        }
+        Verdict::Refused { at: near, fault } if at == near => Fate::Refused(fault),
+        Verdict::Waiting { at: near, fault } if at == near => Fate::Waiting(fault),
+        _ => Fate::NotOffered,
+    }
+}

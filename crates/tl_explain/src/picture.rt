@@ -1,0 +1,70 @@
+//! Pictures of lanes.
+use crate::lane_list::has_lane;
+use std::alloc::AllocError;
+use std::fmt::Write;
+use tl_lanes::Mask;
+
+/// How many lanes stand in a row.
+const ROW: usize = 16;
+
+/// What a beat has on its lanes.
+#[derive(Clone, Copy)]
+pub struct Picture {
+    /// The lanes that bytes of the message stand on.
+    pub active: Mask,
+    /// The lanes whose bytes are written; all active ones on a channel without masks.
+    pub mask: Mask,
+    /// Whether the message carries data.
+    pub has_data: bool,
+}
+
+impl Picture {
+    /// Writes a lane: its byte, or `##` where the message carries no data; `--` where the mask leaves
+    /// it out, `..` where it is not active, and `!!` where the mask has it all the same.
+    fn put_lane(&self, out: &mut String, lane: usize, byte: u8) -> Result<(), AllocError> {
+        match (has_lane(self.active, lane), has_lane(self.mask, lane)) {
+            (false, false) => write!(out, " .."),
+            (false, true) => write!(out, " !!"),
+            (true, false) => write!(out, " --"),
+            (true, true) if self.has_data => write!(out, " {byte:02x}"),
+            (true, true) => write!(out, " ##"),
+        }
+    }
+
+    /// Writes the lanes from `from` on, at most a row of them, highest first: their numbers, and
+    /// below them their bytes.
+    fn put_row(
+        &self,
+        out: &mut String,
+        name: &str,
+        lanes: &[u8],
+        from: usize,
+    ) -> Result<(), AllocError> {
+        write!(out, "    lane")?;
+        for i in 0..ROW {
+            let lane = from.saturating_add(ROW - 1 - i);
+            if lane < lanes.len() {
+                write!(out, " {lane:2}")?;
+            }
+        }
+        write!(out, "\n    {name}")?;
+        for i in 0..ROW {
+            let lane = from.saturating_add(ROW - 1 - i);
+            if lane < lanes.len() {
+                self.put_lane(out, lane, lanes[lane])?;
+            }
+        }
+        writeln!(out)
+    }
+
+    /// Writes all lanes of a beat, highest first, in rows of 16. The name has four letters.
+    pub fn put(&self, out: &mut String, name: &str, lanes: &[u8]) -> Result<(), AllocError> {
+        for row in 0..4 {
+            let from = (3 - row) * ROW;
+            if from < lanes.len() {
+                self.put_row(out, name, lanes, from)?;
+            }
+        }
+        Ok(())
+    }
+}

@@ -1,0 +1,164 @@
+//! A beat as sentences speak of it, whichever its channel.
+use std::alloc::AllocError;
+use std::fmt::Write;
+use tl_lanes::{MAX_SIZE, Mask};
+use tl_msg::{Beat, ChA, ChB, ChC, ChD, ChE, HeadA, HeadB, HeadC, HeadD, HeadE, Kind};
+use tl_trace::HeadText;
+
+/// The fields of a beat, but its lanes. What its channel does not have is 0.
+#[derive(Clone, Copy, Default)]
+pub struct Seen {
+    /// `A` to `E`.
+    pub letter: char,
+    /// The message of the opcode, where the channel has one. None on E.
+    pub kind: Option<Kind>,
+    pub opcode: u8,
+    pub param: u8,
+    /// The message is of `2^size` bytes.
+    pub size: u8,
+    pub source: u8,
+    pub address: u64,
+    pub sink: u8,
+    pub denied: bool,
+    pub mask: Mask,
+    pub corrupt: bool,
+}
+
+/// A channel of whose beats sentences speak.
+pub trait Told: HeadText {
+    /// The fields of a head.
+    fn seen(head: &Self::Head) -> Seen;
+}
+
+impl Told for ChA {
+    fn seen(head: &HeadA) -> Seen {
+        Seen {
+            letter: 'A',
+            kind: Kind::on_a(head.opcode),
+            opcode: head.opcode,
+            param: head.param,
+            size: head.size,
+            source: head.source,
+            address: head.address,
+            ..Seen::default()
+        }
+    }
+}
+
+impl Told for ChB {
+    fn seen(head: &HeadB) -> Seen {
+        Seen {
+            letter: 'B',
+            kind: Kind::on_b(head.opcode),
+            opcode: head.opcode,
+            param: head.param,
+            size: head.size,
+            source: head.source,
+            address: head.address,
+            ..Seen::default()
+        }
+    }
+}
+
+impl Told for ChC {
+    fn seen(head: &HeadC) -> Seen {
+        Seen {
+            letter: 'C',
+            kind: Kind::on_c(head.opcode),
+            opcode: head.opcode,
+            param: head.param,
+            size: head.size,
+            source: head.source,
+            address: head.address,
+            ..Seen::default()
+        }
+    }
+}
+
+impl Told for ChD {
+    fn seen(head: &HeadD) -> Seen {
+        Seen {
+            letter: 'D',
+            kind: Kind::on_d(head.opcode),
+            opcode: head.opcode,
+            param: head.param,
+            size: head.size,
+            source: head.source,
+            sink: head.sink,
+            denied: head.denied,
+            ..Seen::default()
+        }
+    }
+}
+
+impl Told for ChE {
+    fn seen(head: &HeadE) -> Seen {
+        Seen {
+            letter: 'E',
+            sink: head.sink,
+            ..Seen::default()
+        }
+    }
+}
+
+/// The fields of a beat.
+pub fn seen_of<K: Told, const W: usize>(beat: &Beat<K, W>) -> Seen {
+    Seen {
+        mask: beat.mask,
+        corrupt: beat.corrupt,
+        ..K::seen(&beat.head)
+    }
+}
+
+impl Seen {
+    /// Whether its message carries data.
+    pub fn carries_data(&self) -> bool {
+        self.kind.is_some_and(Kind::carries_data)
+    }
+
+    /// Whether it is a response that answers a request of A: any on D but ReleaseAck.
+    pub fn answers_request(&self) -> bool {
+        self.letter == 'D' && !matches!(self.kind, Some(Kind::ReleaseAck))
+    }
+
+    /// Writes the message's name, as the standard spells it.
+    pub fn put_name(&self, out: &mut String) -> Result<(), AllocError> {
+        if self.letter == 'E' {
+            return write!(out, "GrantAck");
+        }
+        match self.kind {
+            Some(kind) => write!(out, "{kind:?}"),
+            None => write!(out, "opcode {}", self.opcode),
+        }
+    }
+
+    /// Writes its channel, its message, and the fields by which one knows it.
+    pub fn put(&self, out: &mut String) -> Result<(), AllocError> {
+        write!(out, "{} ", self.letter)?;
+        self.put_name(out)?;
+        if self.letter == 'E' {
+            return write!(out, ", sink {:02x}", self.sink);
+        }
+        write!(out, ", source {:02x}, ", self.source)?;
+        put_length(out, self.size)?;
+        if self.letter != 'D' {
+            write!(out, " at 0x{:x}", self.address)?;
+        }
+        if self.denied {
+            write!(out, ", denied")?;
+        }
+        if self.corrupt {
+            write!(out, ", corrupt")?;
+        }
+        Ok(())
+    }
+}
+
+/// Writes how long a message of this size is.
+pub fn put_length(out: &mut String, size: u8) -> Result<(), AllocError> {
+    match size {
+        0 => write!(out, "1 byte"),
+        1..=MAX_SIZE => write!(out, "{} bytes", 1u32 << size),
+        _ => write!(out, "2^{size} bytes"),
+    }
+}

@@ -1,0 +1,240 @@
+//! A text that is no trace: its first faulty line, the place of the fault, and what was expected.
+ghost use Rattle.tl_lanes.specs.Lanes.{IsWidth};
+
+use std::alloc::{AllocError, Global};
+use std::fmt::Write;
+use tl_msg::{ChA, ChB, ChC, ChD, ChE};
+use tl_trace::{TraceFault, TraceKind, line_of, read, widths_of_text};
+
+/// How many bytes of a line are shown.
+const SHOWN: usize = 200;
+
+/// The digits of a line.
+const DIGITS: &[u8; 16] = b"0123456789abcdef";
+
+/// The line with this letter of a beat in which all is 0, on `W` lanes: the form of the channel's
+/// lines. None where no channel has the letter.
+fn form_on<const W: usize>(alloc: Global, letter: u8) -> Result<Option<Vec<u8>>, AllocError>
+    requires { IsWidth W }
+{
+    let line = match letter {
+        b'A' => line_of::<ChA, W>(&Default::default()),
+        b'B' => line_of::<ChB, W>(&Default::default()),
+        b'C' => line_of::<ChC, W>(&Default::default()),
+        b'D' => line_of::<ChD, W>(&Default::default()),
+        b'E' => line_of::<ChE, W>(&Default::default()),
+        _ => return Ok(None),
+    };
+    let mut form = Vec::new(alloc);
+    form.extend_from_slice(line.as_slice().trim_ascii_end())?;
+    Ok(Some(form))
+}
+
+/// The form of the lines with this letter, where there is one, on a link of these widths.
+fn form_of(
+    alloc: Global,
+    letter: u8,
+    client: usize,
+    manager: usize,
+) -> Result<Option<Vec<u8>>, AllocError> {
+    let width = match letter {
+        b'B' | b'D' => manager,
+        _ => client,
+    };
+    match width {
+        1 => form_on::<1>(alloc, letter),
+        2 => form_on::<2>(alloc, letter),
+        4 => form_on::<4>(alloc, letter),
+        8 => form_on::<8>(alloc, letter),
+        16 => form_on::<16>(alloc, letter),
+        32 => form_on::<32>(alloc, letter),
+        _ => form_on::<64>(alloc, letter),
+    }
+}
+
+/// The line of this number, without its LF.
+fn line_at(text: &[u8], number: u64) -> &[u8] {
+    let mut line = 1u64;
+    let mut start = 0;
+    for (at, byte) in text.iter().enumerate() {
+        if *byte == b'\n' {
+            if line == number {
+                return text.get(start..at).unwrap_or(&[]);
+            }
+            line = line.saturating_add(1);
+            start = at.saturating_add(1);
+        }
+    }
+    text.get(start..).unwrap_or(&[])
+}
+
+/// Whether the first bytes of a line, and the rest of a form behind them, make a line of a trace
+/// with this header.
+fn is_readable(
+    alloc: Global,
+    header: &[u8],
+    line: &[u8],
+    count: usize,
+    form: &[u8],
+) -> Result<bool, AllocError> {
+    let mut text = Vec::new(alloc);
+    text.extend_from_slice(header)?;
+    text.push(b'\n')?;
+    if let Some(front) = line.get(..count) {
+        text.extend_from_slice(front)?;
+    }
+    if let Some(rest) = form.get(count..) {
+        text.extend_from_slice(rest)?;
+    }
+    text.push(b'\n')?;
+    let trace = read(alloc, &text);
+    Ok(trace.is_ok())
+}
+
+/// The first place of a line at which it is no line of this form, or where the shorter of both ends.
+fn bad_place(alloc: Global, header: &[u8], line: &[u8], form: &[u8]) -> Result<usize, AllocError> {
+    let most = line.len().min(form.len());
+    for at in 0..most {
+        if !is_readable(alloc, header, line, at.saturating_add(1), form)? {
+            return Ok(at);
+        }
+    }
+    Ok(most)
+}
+
+/// The largest digit that may stand at this place of a line, behind the bytes before it.
+fn largest_digit(
+    alloc: Global,
+    header: &[u8],
+    line: &[u8],
+    at: usize,
+    form: &[u8],
+) -> Result<u8, AllocError> {
+    let mut tried = Vec::new(alloc);
+    tried.extend_from_slice(line)?;
+    let mut largest = b'0';
+    for digit in DIGITS {
+        if let Some(byte) = tried.get_mut(at) {
+            *byte = *digit;
+        }
+        if is_readable(alloc, header, &tried, at.saturating_add(1), form)? {
+            largest = *digit;
+        }
+    }
+    Ok(largest)
+}
+
+/// How many first bytes a line has in common with a header of two widths.
+fn header_place(alloc: Global, line: &[u8]) -> Result<usize, AllocError> {
+    let mut most = 0;
+    for i in 0..49u32 {
+        let (client, manager) = (1 << (i / 7), 1 << (i % 7));
+        let header = format!(in alloc; "tilelink-trace 1 client {client} manager {manager}")?;
+        let bytes = header.as_bytes();
+        let same = line
+            .iter()
+            .zip(bytes.iter())
+            .take_while(|(x, y)| *x == *y)
+            .count();
+        most = same.max(most);
+    }
+    Ok(most)
+}
+
+/// Writes the first bytes of a line, each that is no printable ASCII as a question mark.
+fn put_shown(out: &mut String, line: &[u8]) -> Result<(), AllocError> {
+    write!(out, "    ")?;
+    for byte in line.get(..SHOWN).unwrap_or(line) {
+        let shown = if matches!(*byte, 32..=126) {
+            *byte
+        } else {
+            b'?'
+        };
+        out.push(shown as char)?;
+    }
+    writeln!(out)
+}
+
+/// Writes a mark below a place.
+fn put_caret(out: &mut String, at: usize) -> Result<(), AllocError> {
+    write!(out, "    ")?;
+    for _ in 0..at.min(SHOWN) {
+        write!(out, " ")?;
+    }
+    writeln!(out, "^")
+}
+
+/// Writes what was expected at a place of a line of this form, and gives the place.
+fn put_expected(
+    out: &mut String,
+    alloc: Global,
+    header: &[u8],
+    line: &[u8],
+    form: &[u8],
+    kind: TraceKind,
+) -> Result<usize, AllocError> {
+    let at = bad_place(alloc, header, line, form)?;
+    match kind {
+        TraceKind::Length => {
+            let (has, wants) = (line.len(), form.len());
+            write!(
+                out,
+                "the line has {has} characters and has to have {wants}, in the form below the mark"
+            )?;
+        }
+        TraceKind::Range => {
+            let largest = largest_digit(alloc, header, line, at, form)?;
+            write!(out, "expected a digit from 0 to {}", largest as char)?;
+        }
+        TraceKind::NoEnd => write!(out, "the line has to end with a newline (LF)")?,
+        _ if form.get(at) == Some(&b' ') => write!(out, "expected a space")?,
+        _ => write!(out, "expected a digit, 0 to 9 or a to f")?,
+    }
+    Ok(at)
+}
+
+/// The faulty line of a text, with a mark below the place of its fault, and what was expected there.
+pub fn show_fault(alloc: Global, text: &[u8], fault: &TraceFault) -> Result<String, AllocError> {
+    let mut out = String::new(alloc);
+    let line = line_at(text, fault.line);
+    let header = line_at(text, 1);
+    write!(
+        &mut out,
+        "line {}: {} {}: ",
+        fault.line,
+        fault.number(),
+        fault.name()
+    )?;
+    let (client, manager) = widths_of_text(text).unwrap_or((1, 1));
+    let letter = line.first().copied().unwrap_or(0);
+    let form = if fault.line == 1 {
+        None
+    } else {
+        form_of(alloc, letter, client, manager)?
+    };
+    let at = match (&form, fault.kind) {
+        (Some(form), kind) => put_expected(&mut out, alloc, header, line, form, kind)?,
+        (None, TraceKind::NoEnd) => {
+            write!(&mut out, "the line has to end with a newline (LF)")?;
+            line.len()
+        }
+        (None, TraceKind::Channel) => {
+            write!(&mut out, "expected a channel's letter, A to E")?;
+            0
+        }
+        (None, _) => {
+            write!(
+                &mut out,
+                "expected the header 'tilelink-trace 1 client C manager M', where C and M are bytes, each 1, 2, 4, 8, 16, 32 or 64"
+            )?;
+            header_place(alloc, line)?
+        }
+    };
+    writeln!(&mut out)?;
+    put_shown(&mut out, line)?;
+    put_caret(&mut out, at)?;
+    if let (Some(form), TraceKind::Length) = (&form, fault.kind) {
+        put_shown(&mut out, form)?;
+    }
+    Ok(out)
+}

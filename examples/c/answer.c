@@ -1,0 +1,18 @@
+/* Answers the trace on standard input, as `tlbridge run --sync`: docs/LIBRARY.md. */
+#include "tlbridge.h"
+#include <stdio.h>
+
+int main(void) {
+    static uint8_t text[1 << 20];
+    size_t length = fread(text, 1, sizeof text, stdin);
+    tl_answer answer;
+    uint8_t fault = tl_answer_trace(text, length, false, &answer);
+    if (fault != TL_OK) {
+        fprintf(stderr, "line %llu: fault %d\n", (unsigned long long)answer.line, fault);
+        return 3;
+    }
+    fwrite(answer.text, 1, answer.length, stdout);
+    int status = answer.all_done ? 0 : 1;
+    tl_answer_free(&answer);
+    return status;
+}
