@@ -1,3 +1,4 @@
+use std::alloc::Global;
 use std::io;
 use std::io::{Read, Write};
 use std::test::Fail;
@@ -88,7 +89,7 @@ fn get_in(most: usize, bad_call: u64, kind: io::ErrorKind) -> Pieces<'static> {
     }
 }
 
-/// The trace has 86 bytes, so call 87 finds the end of it.
+/// The trace has 86 bytes, so call 87 finds the end of it. Each call fails in turn.
 #[test]
 fn readers(rt: HostRuntime) -> Result<(), Fail> {
     let alloc = rt.alloc();
@@ -96,7 +97,7 @@ fn readers(rt: HostRuntime) -> Result<(), Fail> {
     let mut reader = get_in(1, 0, io::ErrorKind::Other);
     assert!(rt; run_text(&rt, alloc, &mut reader, &mut out, &RUN) == Ok(true));
     assert!(rt; out.as_slice() == GET_ANSWER.as_bytes());
-    for bad_call in [1, 2, 86, 87] {
+    for bad_call in 1..=87 {
         for kind in [io::ErrorKind::Interrupted, io::ErrorKind::Other] {
             let mut out = Vec::new(alloc);
             let mut reader = get_in(1, bad_call, kind);
@@ -108,39 +109,57 @@ fn readers(rt: HostRuntime) -> Result<(), Fail> {
     Ok(())
 }
 
+/// Takes some bytes a call, and fails at one call.
+fn slow_writer(alloc: Global, most: usize, bad_call: u64, kind: io::ErrorKind) -> Slow {
+    Slow {
+        taken: Vec::new(alloc),
+        most,
+        calls: 0,
+        bad_call,
+        kind,
+        flushes: true,
+    }
+}
+
+const ORDERS: [(Order, &str); 3] = [
+    (RUN, GET_ANSWER),
+    (SYNC, GET_ANSWER),
+    (Order::Check, GET_CHECK),
+];
+
 #[test]
 fn writers(rt: HostRuntime) -> Result<(), Fail> {
     let alloc = rt.alloc();
-    for (most, bad_call, flushes, wanted) in [
-        (1, 0, true, Ok(true)),
-        (0, 0, true, Err(TextFault::Write)),
-        (50, 1, true, Err(TextFault::Write)),
-        (50, 2, true, Err(TextFault::Write)),
-        (1000, 0, false, Err(TextFault::Write)),
-    ] {
-        for kind in [io::ErrorKind::Interrupted, io::ErrorKind::Other] {
-            for (order, answer) in [
-                (RUN, GET_ANSWER),
-                (SYNC, GET_ANSWER),
-                (Order::Check, GET_CHECK),
-            ] {
-                let mut writer = Slow {
-                    taken: Vec::new(alloc),
-                    most,
-                    calls: 0,
-                    bad_call,
-                    kind,
-                    flushes,
-                };
+    for (order, answer) in ORDERS {
+        for (most, flushes, wanted) in [
+            (1, true, Ok(true)),
+            (0, true, Err(TextFault::Write)),
+            (1000, false, Err(TextFault::Write)),
+        ] {
+            let mut writer = slow_writer(alloc, most, 0, io::ErrorKind::Other);
+            writer.flushes = flushes;
+            let mut reader = GET.as_bytes();
+            let result = run_text(&rt, alloc, &mut reader, &mut writer, &order);
+            assert!(rt; result == wanted, "{most} bytes a call");
+            if result.is_ok() {
+                assert!(rt; writer.taken.as_slice() == answer.as_bytes());
+            }
+        }
+    }
+    Ok(())
+}
+
+/// Each write of one byte fails in turn.
+#[test]
+fn writers_that_fail(rt: HostRuntime) -> Result<(), Fail> {
+    let alloc = rt.alloc();
+    for (order, answer) in ORDERS {
+        for bad_call in 1..=answer.len() as u64 {
+            for kind in [io::ErrorKind::Interrupted, io::ErrorKind::Other] {
+                let mut writer = slow_writer(alloc, 1, bad_call, kind);
                 let mut reader = GET.as_bytes();
                 let result = run_text(&rt, alloc, &mut reader, &mut writer, &order);
-                assert!(rt;
-                    result == wanted,
-                    "{most} bytes a call, call {bad_call} fails"
-                );
-                if result.is_ok() {
-                    assert!(rt; writer.taken.as_slice() == answer.as_bytes());
-                }
+                assert!(rt; result == Err(TextFault::Write), "call {bad_call}");
             }
         }
     }
