@@ -1,0 +1,1 @@
+./tlexplain < examples/get.trace > /dev/full

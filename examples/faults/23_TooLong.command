@@ -1,0 +1,1 @@
+yes 'E 00' | head -c 67108865 | ./tlexplain
