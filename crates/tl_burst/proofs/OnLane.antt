@@ -1,20 +1,12 @@
--- The byte on a lane of a beat, and beats with the same fields.
-use Rattle.std.proofs.Common.{◌≡◌, ◌≤◌, ◌<◌, ◌+◌, ◌-◌, ◌*◌, ◌/◌, ◌%◌, ◌^◌, ◌≢◌, ◌⊎◌, ℕ, Bool, Some, None, List, sym, ap, ◌∙◌, arith, inl, inr, ⊎_elim}
+-- The byte on a lane of a beat.
+use Rattle.std.proofs.Common.{◌≡◌, ◌≤◌, ◌<◌, ◌+◌, ◌-◌, ◌*◌, ◌/◌, ◌%◌, ◌^◌, ◌≢◌, ◌⊎◌, ℕ, Some, None, sym, ap, ◌∙◌, arith, inl, inr, ⊎_elim}
 use Rattle.std.proofs.Math.Nat.{mod-add-div, mod-lt}
 use Rattle.std.proofs.Math.Arith.{digits_div}
 use Rattle.tl_msg.specs.Rules.{Rules}
-use Rattle.tl_msg.specs.declared.beat.BeatOf.{BeatOf}
 use Rattle.tl_lanes.specs.Lanes.{IsWidth, lane_of}
 use Rattle.tl_lanes.proofs.Widths.{lanes_differ, lane_cases, lane-shift}
 use Rattle.tl_burst.specs.Messages.{Message, byte_on, per_beat}
 use Rattle.tl_burst.proofs.Places.{byte_on-some, byte_on-none, per-pos, per-le}
-
--- two beats with the same fields are the same
-pub same_beat : {H : Type 0} {v : ℕ} (a b : BeatOf H v) → a.head ≡ b.head → a.mask ≡ b.mask → a.lanes ≡ b.lanes → a.corrupt ≡ b.corrupt → a ≡ b
-same_beat {H = H} {v = v} a b h m l c =
-    let mk : H → ℕ → List ℕ → Bool → BeatOf H v = λ x y z t. record { head = x; mask = y; lanes = z; corrupt = t } in
-    ap (λ x. mk x a.mask a.lanes a.corrupt) h ∙ ap (λ x. mk b.head x a.lanes a.corrupt) m ∙
-    ap (λ x. mk b.head b.mask x a.corrupt) l ∙ ap (λ x. mk b.head b.mask b.lanes x) c
 
 module _ {H : Type 0} (r : Rules H) (m : Message H) (v : ℕ) (vw : IsWidth v) where
   -- bytes of one beat stand on different lanes

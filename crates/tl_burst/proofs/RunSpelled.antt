@@ -34,7 +34,8 @@ range-get f a n k b e =
     let lt : k < n = omega arith in
     (lt, sym (get_or_from_slice_get (map f (range_with_len a n)) k b b e) ∙ get_or-map-range_with_len f a n k (a + k) b lt refl)
 
-get-range : {A : Type 0} (f : ℕ → A) (n k : ℕ) → k < n → slice_get (map f (range_with_len 0 n)) k ≡ Some (f k)
+-- an element of a map over a range
+pub get-range : {A : Type 0} (f : ℕ → A) (n k : ℕ) → k < n → slice_get (map f (range_with_len 0 n)) k ≡ Some (f k)
 get-range f n k lt =
     let c : length (map f (range_with_len 0 n)) ≡ n = length-map-range_with_len f 0 n in
     slice_get-get_or (map f (range_with_len 0 n)) k (f k) (omega arith) ∙ ap Some (get_or-map-range_with_len f 0 n k k (f k) lt (omega arith))

@@ -1,5 +1,6 @@
 -- The message that a run of beats brings, read back, and its cells.
 use Rattle.std.proofs.Common.{◌≡◌, ◌≤◌, ◌<◌, ◌+◌, ◌*◌, ◌/◌, ◌%◌, ◌^◌, ◌&&◌, ◌||◌, ◌++◌, ℕ, zero, suc, Bool, true, false, cond, Some, List, [], ◌∷◌, length, map, slice_get, refl, sym, ap, ◌∙◌, arith, ⊎_elim}
+use Rattle.tl_msg.proofs.Beats.{same_beat}
 use Rattle.std.specs.List.{range_with_len}
 use Rattle.std.specs.Option.{option_map_or}
 use Rattle.std.proofs.lemmas.Option.{slice_get-get_or}
@@ -12,7 +13,7 @@ use Rattle.tl_burst.specs.Messages.{Message, Cell, per_beat, beats_of, lane_valu
 use Rattle.tl_lanes.specs.Lanes.{mask_of}
 use Rattle.tl_burst.specs.Reading.{cell_of, message_of}
 use Rattle.tl_burst.proofs.Places.{per-pos}
-use Rattle.tl_burst.proofs.OnLane.{on_lane, same_beat}
+use Rattle.tl_burst.proofs.OnLane.{on_lane}
 use Rattle.tl_burst.proofs.Numbers.{slice_get-left, per-power, powers-divide, parts}
 
 -- maps that agree on a range

@@ -1,5 +1,5 @@
 -- A beat that brings a part of a lawful message: its mask fits, and a mask that fits is the message's.
-use Rattle.std.proofs.Common.{◌≡◌, ◌≤◌, ◌<◌, ◌+◌, ◌-◌, ◌*◌, ◌/◌, ◌%◌, ◌^◌, ◌≢◌, ◌==◌, ◌⊎◌, ◌&&◌, ℕ, zero, suc, Bool, true, false, cond, not, Some, List, [], ◌∷◌, length, get_or, slice_get, slice_index, refl, sym, ap, subst, ◌∙◌, arith, inl, inr, ⊎_elim}
+use Rattle.std.proofs.Common.{◌≡◌, ◌≤◌, ◌<◌, ◌+◌, ◌-◌, ◌*◌, ◌/◌, ◌%◌, ◌^◌, ◌≢◌, ◌==◌, ◌⊎◌, ◌&&◌, ℕ, zero, suc, Bool, true, false, cond, not, Some, List, [], ◌∷◌, length, get_or, slice_get, slice_index, refl, sym, ap, subst, ◌∙◌, arith, ⊎_elim}
 use Rattle.std.specs.Prelude.{All}
 use Rattle.std.specs.Option.{option_map_or}
 use Rattle.std.specs.Int.{bit_at}
@@ -7,6 +7,7 @@ use Rattle.std.proofs.lemmas.Bool.Decides.{eqb_tells, leb_tells}
 use Rattle.std.proofs.lemmas.Option.{slice_get-get_or, get_or_from_slice_get, slice_get_within}
 use Rattle.std.proofs.lemmas.List.Elements.{All-get_or}
 use Rattle.std.proofs.lemmas.Nat.Bits.{bit_at-lt, bit_at_above, same_from_bits}
+use Rattle.std.proofs.lemmas.Bool.{true≢false}
 use Rattle.std.proofs.Math.Nat.{mod-lt, mul-le-mul_right}
 use Rattle.std.proofs.Math.Arith.{digits_div, digits_mod}
 use Rattle.tl_msg.specs.Rules.{Rules}
@@ -87,10 +88,6 @@ bit-digit true true zero lt all_of e = refl
 bit-digit true true (suc zero) lt all_of e = refl
 bit-digit true true (suc (suc x)) lt all_of e = absurd (omega arith)
 
-true-false : (b : Bool) → b ≡ true → b ≡ false → ⊥
-true-false true e f = cc
-true-false false e f = cc
-
 -- a byte of a full message is on
 on-of : (cs : List Cell) (c : Bool) (n i : ℕ) → length cs ≡ cond c n 0 → i < n → All (λ y. y.on ≡ true) cs →
     option_map_or (λ y. y.on) (slice_get cs i) (not c) ≡ true
@@ -147,7 +144,7 @@ module _ {H : Type 0} (r : Rules H) (m : Message H) (w j : ℕ) (ww : IsWidth w)
             (λ (i, lo, hi, there, e). byte-active m.home (r.size m.head) w i l ww (per-pos r m w ww) (omega arith) there)
             (λ (never, e).
             let off : lane_on r m w j l ≡ false = rw e refl in
-            absurd (true-false (lane_on r m w j l) on off))
+            absurd (true≢false (sym on ∙ off)))
             (on_lane r m w ww j room l))
             (leb_tells w l);
         full = λ f l act.

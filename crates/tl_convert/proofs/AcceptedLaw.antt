@@ -9,8 +9,8 @@ use Rattle.tl_msg.specs.declared.fault.BeatFault.{BeatFault}
 use Rattle.tl_lanes.specs.Lanes.{IsWidth}
 use Rattle.tl_burst.specs.Handing.{IsHanded, nothing, fault_after}
 use Rattle.tl_burst.proofs.FaultsExact.{ChannelLaws, faults-exact, admitted-none}
+use Rattle.tl_burst.proofs.Fronts.{front-handed}
 use Rattle.tl_convert.specs.Accepted.{accepted_after, IsLongest}
-use Rattle.tl_convert.proofs.DuePrefix.{due-prefix}
 
 pub no-fault : (o : Option BeatFault) → is_none o ≡ true → o ≡ None
 no-fault None e = refl
@@ -34,7 +34,7 @@ module _ {H : Type 0} (r : Rules H) {w : ℕ} where
       subst P (sym e) (b ∷ bs, refl))
       (none-or-some (fault_after r seen b))
 
-  module _ (ww : IsWidth w) (laws : ChannelLaws r) (partial_masked : (h : H) → r.partial h ≡ true → r.masked ≡ true) where
+  module _ (ww : IsWidth w) (laws : ChannelLaws r) where
     pub accepted-handed : (seen bs : List (BeatOf H w)) → ((i : ℕ) (b : BeatOf H w) → slice_get bs i ≡ Some b → IsBeat r b) → IsHanded r seen →
         IsHanded r (seen ++ accepted_after r seen bs)
     accepted-handed seen [] beats before = (let P : List (BeatOf H w) → Type 0 = λ q. IsHanded r q in subst P (sym (append-nil seen)) before)
@@ -52,12 +52,6 @@ module _ {H : Type 0} (r : Rules H) {w : ℕ} where
         subst P (sym e) (subst Q (sym (append-nil seen)) before))
         (none-or-some (fault_after r seen b))
 
-    -- the first part of a list that is handed is handed
-    pub earlier-handed : (xs ys : List (BeatOf H w)) → IsHanded r (xs ++ ys) → IsHanded r xs
-    earlier-handed xs ys all =
-        let k = due-prefix r w w ww ww partial_masked all.handed xs ys refl in
-        record { homes = k.earlier_homes; messages = k.messages; rest = k.rest; handed = k.handed }
-
     pub accepted-longest : (seen bs xs more : List (BeatOf H w)) → xs ++ more ≡ bs → IsHanded r (seen ++ xs) → IsPrefix xs (accepted_after r seen bs)
     accepted-longest seen bs [] more e handed = (accepted_after r seen bs, refl)
     accepted-longest seen [] (x ∷ xs) more e handed = absurd (cc)
@@ -67,8 +61,8 @@ module _ {H : Type 0} (r : Rules H) {w : ℕ} where
         let P : List (BeatOf H w) → Type 0 = λ q. IsHanded r q in
         let Q : BeatOf H w → Type 0 = λ y. IsHanded r (seen ++ y ∷ xs) in
         let all : IsHanded r ((seen ++ b ∷ []) ++ xs) = subst P (sym (append_assoc seen (b ∷ []) xs)) (subst Q same handed) in
-        let after : IsHanded r (seen ++ b ∷ []) = earlier-handed (seen ++ b ∷ []) xs all in
-        let before : IsHanded r seen = earlier-handed seen (b ∷ []) after in
+        let after : IsHanded r (seen ++ b ∷ []) = front-handed r w (seen ++ b ∷ []) xs all in
+        let before : IsHanded r seen = front-handed r w seen (b ∷ []) after in
         let clean : fault_after r seen b ≡ None = admitted-none r w ww laws seen b before after in
         let k = accepted-longest (seen ++ b ∷ []) bs xs more tail all in
         let R : Option BeatFault → Type 0 = λ o. IsPrefix (x ∷ xs) (cond (is_none o) (b ∷ accepted_after r (seen ++ b ∷ []) bs) []) in

@@ -4,7 +4,7 @@ use Rattle.std.specs.List.{range_with_len, enumerate_from}
 use Rattle.std.specs.Option.{option_map_or}
 use Rattle.std.specs.Int.{bit_at}
 use Rattle.std.proofs.lemmas.Option.{slice_get-get_or, get_or_from_slice_get, slice_get_within, none-some, same_Some}
-use Rattle.std.proofs.lemmas.List.FromFn.{get_or-map-range_with_len, length-map-range_with_len, fill_by_all}
+use Rattle.std.proofs.lemmas.List.FromFn.{length-map-range_with_len, fill_by_all}
 use Rattle.std.proofs.lemmas.Bool.Decides.{leb_tells}
 use Rattle.std.proofs.Math.Nat.{mul-le-mul_right, div-mul-le_self}
 use Rattle.tl_msg.specs.Rules.{Rules}
@@ -24,6 +24,7 @@ use Rattle.tl_convert.proofs.RunStep.{run_end, end-room, part-is}
 use Rattle.tl_burst.proofs.Burst.{more-carries}
 use Rattle.tl_burst.proofs.Numbers.{slice_get-left}
 use Rattle.tl_burst.proofs.Fits.{head_of}
+use Rattle.tl_burst.proofs.RunSpelled.{get-range}
 use Rattle.std.proofs.lemmas.Bool.{cases_Bool}
 use Rattle.std.proofs.lemmas.List.{nil_from_length}
 use Rattle.tl_convert.proofs.Comparisons.{equal_true, not_equal, there_is}
@@ -74,18 +75,13 @@ pub carries-cell : (carries : Bool) (cs : List Cell) (n i : ℕ) (c : Cell) → 
 carries-cell true cs n i c e g = let lt : i < length cs = slice_get_within cs i c g in (refl, omega arith)
 carries-cell false cs n i c e g = let lt : i < length cs = slice_get_within cs i c g in absurd (omega arith)
 
--- an element of a map over a range
-pub map-at : {A : Type 0} (f : ℕ → A) (n j : ℕ) (d : A) → j < n → slice_get (map f (range_with_len 0 n)) j ≡ Some (f j)
-map-at f n j d lt =
-    slice_get-get_or (map f (range_with_len 0 n)) j d (let k : length (map f (range_with_len 0 n)) ≡ n = length-map-range_with_len f 0 n in omega arith) ∙
-    ap Some (get_or-map-range_with_len f 0 n j j d lt (omega arith))
-
+-- an element of a map over a range, read back
 pub map-back : {A : Type 0} (f : ℕ → A) (n j : ℕ) (b : A) → slice_get (map f (range_with_len 0 n)) j ≡ Some b → (j < n) × (f j ≡ b)
 map-back {A = A} f n j b e =
     let k : length (map f (range_with_len 0 n)) ≡ n = length-map-range_with_len f 0 n in
     let lt : j < length (map f (range_with_len 0 n)) = slice_get_within (map f (range_with_len 0 n)) j b e in
     let inside : j < n = omega arith in
-    (inside, same_Some {A = A} (f j) b (sym (map-at f n j b inside) ∙ e))
+    (inside, same_Some {A = A} (f j) b (sym (get-range f n j inside) ∙ e))
 
 -- two cells with the same fields are the same
 pub same_cell : (a b : Cell) → a.byte ≡ b.byte → a.on ≡ b.on → a.bad ≡ b.bad → a ≡ b
@@ -163,7 +159,7 @@ module _ {H : Type 0} (r : Rules H) where
           let inside = carries-cell (r.carries m.head) m.cells (2 ^ r.size m.head) i back.0 all_cells back.1 in
           let there : byte_on r m v j (lane_of m.home i v) ≡ Some i = byte_on-some r m v vw i j (lane_of m.home i v) inside.1 q refl in
           let value : lane_value r m v j (lane_of m.home i v) ≡ back.0.byte = rw there (rw back.1 refl) in
-          map-at (lane_value r m v j) v (lane_of m.home i v) 0 (lane-lt m.home i v vw) ∙ ap Some (value ∙ sym back.2);
+          get-range (lane_value r m v j) v (lane_of m.home i v) (lane-lt m.home i v vw) ∙ ap Some (value ∙ sym back.2);
       bad = λ i c e q.
           let back = with_bad-back (is_bad_with r v m) 0 m.cells i c e in
           let z : 0 + i ≡ i = omega arith in

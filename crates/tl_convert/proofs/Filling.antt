@@ -1,5 +1,6 @@
 -- A far beat that is filled chunk by chunk, until it is the one of the layout.
 use Rattle.std.proofs.Common.{◌≡◌, ◌≤◌, ◌<◌, ◌+◌, ◌-◌, ◌*◌, ◌%◌, ◌^◌, ◌≢◌, ◌==◌, ◌&&◌, ◌||◌, ℕ, zero, suc, Bool, true, false, cond, Some, length, get_or, map, slice_get, slice_index, refl, sym, ap, ◌∙◌, arith, ⊎_elim, replicate}
+use Rattle.tl_msg.proofs.Beats.{same_beat}
 use Rattle.std.specs.List.{range_with_len}
 use Rattle.std.specs.Int.{bit_at}
 use Rattle.std.proofs.lemmas.Bool.Decides.{leb_tells}
@@ -17,7 +18,7 @@ use Rattle.tl_convert.specs.Partial.{Filled}
 use Rattle.tl_convert.specs.Inner.Pouring.{Brings, Poured}
 use Rattle.tl_lanes.proofs.Masks.{mask_of-lt, bit_at-mask_of}
 use Rattle.tl_burst.proofs.Numbers.{zeros}
-use Rattle.tl_burst.proofs.OnLane.{same_beat, on_lane, apart-lanes}
+use Rattle.tl_burst.proofs.OnLane.{on_lane, apart-lanes}
 
 abbrev digit : Bool → ℕ
 digit b = cond b 1 0

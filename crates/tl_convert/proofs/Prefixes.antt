@@ -1,8 +1,10 @@
 -- What is due of a list goes on as the list does, where no beat has a fault.
 use Rattle.std.proofs.Common.{◌≡◌, ◌≤◌, ◌<◌, ◌+◌, ◌*◌, ◌/◌, ◌^◌, ℕ, zero, suc, Bool, true, false, cond, Option, None, Some, List, [], ◌∷◌, ◌++◌, length, take, drop, map, refl, sym, ap, subst, ◌∙◌, arith, append_assoc, length-append}
+use Rattle.tl_msg.proofs.Firsts.{find_holds}
 use Rattle.std.proofs.lemmas.List.{length_push}
+use Rattle.std.proofs.lemmas.Bool.{and_parts}
 use Rattle.std.proofs.Math.Nat.{div-lt_iff_lt-mul, lt-div-mul-add, div-mul-le_self, mul-le-mul_right}
-use Rattle.std.specs.Prelude.{slice_get, slice_index, find, ◌==◌, ◌&&◌, ◌||◌}
+use Rattle.std.specs.Prelude.{slice_get, slice_index, ◌==◌, ◌&&◌, ◌||◌}
 use Rattle.std.specs.List.{range_with_len}
 use Rattle.std.specs.Option.{option_map_or}
 use Rattle.tl_lanes.specs.Lanes.{lane_of}
@@ -38,14 +40,6 @@ some_same f g a zero h = refl
 some_same f g a (suc n) h =
     ap (λ x. x || f (a + n)) (some_same f g a n (λ t l. h t (omega arith))) ∙ ap (λ b. some_of g a n || b) (h (a + n) (omega arith))
 
-find_holds : {X : Type 0} (f : X → Bool) (xs : List X) (x : X) → find f xs ≡ Some x → f x ≡ true
-find_holds f [] x e = cc
-find_holds f (y ∷ xs) x e = here (f y) refl (find_holds f xs x) e
-  where
-    here : (b : Bool) → f y ≡ b → (find f xs ≡ Some x → f x ≡ true) → cond b (Some y) (find f xs) ≡ Some x → f x ≡ true
-    here true q later e = let h : y ≡ x = cc in subst (λ z. f z ≡ true) h q
-    here false q later e = later e
-
 get_agree : {X : Type 0} (k i : ℕ) (xs ys : List X) → i < k → take k xs ≡ take k ys → slice_get xs i ≡ slice_get ys i
 get_agree zero i xs ys l e = absurd (omega arith)
 get_agree (suc k) i [] [] l e = refl
@@ -63,10 +57,6 @@ first_front : (xs ys : List ℕ) → 0 < length xs → slice_index xs 0 ≡ slic
 first_front [] ys l = absurd (omega arith)
 first_front (x ∷ xs) ys l = refl
 
-and_first : (b c : Bool) → (b && c) ≡ true → b ≡ true
-and_first true c e = refl
-and_first false c e = e
-
 module _ {H : Type 0} (r : Rules H) (h : H) (home v : ℕ) (wide : 0 < v) where
   abbrev told : List Cell → Message H
   told cells = record { head = h; home = home; cells = cells }
@@ -78,7 +68,7 @@ module _ {H : Type 0} (r : Rules H) (h : H) (home v : ℕ) (wide : 0 < v) where
   below_end : (xs : List Cell) (t l i : ℕ) → byte_on r (told xs) v t l ≡ Some i → i < t * per_beat r h v + per_beat r h v
   below_end xs t l i e =
       let f = find_holds (λ i. (i / per_beat r h v == t) && (lane_of home i v == l)) (range_with_len 0 (2 ^ r.size h)) i e in
-      let q : i / per_beat r h v ≡ t = true_equal (i / per_beat r h v) t (and_first _ _ f) in
+      let q : i / per_beat r h v ≡ t = true_equal (i / per_beat r h v) t (and_parts _ _ f).0 in
       subst (λ x. i < x * per_beat r h v + per_beat r h v) q (lt-div-mul-add (per-beat-some r v wide h))
 
   -- beats of two messages whose first k bytes are the same

@@ -1,5 +1,6 @@
 -- The far beat of a message without data.
 use Rattle.std.proofs.Common.{◌≡◌, ◌≤◌, ◌+◌, ◌*◌, ◌^◌, ◌&&◌, ℕ, zero, suc, true, false, [], ◌∷◌, length, get_or, map, replicate, refl, sym, ap, ◌∙◌, arith, ⊎_elim}
+use Rattle.tl_msg.proofs.Beats.{same_beat}
 use Rattle.std.specs.List.{range_with_len}
 use Rattle.std.proofs.lemmas.List.FromFn.{fill_by_all}
 use Rattle.tl_msg.specs.Rules.{Rules}
@@ -9,7 +10,7 @@ use Rattle.tl_lanes.specs.Lanes.{IsWidth}
 use Rattle.tl_burst.specs.Messages.{per_beat, beats_of, lane_value, lane_on, mask_at, beat_at, layout, of_head, is_bad}
 use Rattle.tl_lanes.specs.Lanes.{mask_of, is_active, active_mask}
 use Rattle.tl_burst.proofs.Runs.{mask_of-same, some_of-none}
-use Rattle.tl_burst.proofs.OnLane.{on_lane, same_beat}
+use Rattle.tl_burst.proofs.OnLane.{on_lane}
 use Rattle.tl_burst.proofs.Numbers.{zeros}
 use Rattle.std.proofs.lemmas.Bool.{cases_Bool}
 

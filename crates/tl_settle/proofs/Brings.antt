@@ -46,17 +46,19 @@ gathered_heads : {H : Type 0} (r : Rules H) (v : ℕ) (ms : List (Message H)) �
 gathered_heads r v [] = refl
 gathered_heads r v (m ∷ ms) = ap (λ q. m.head ∷ q) (gathered_heads r v ms)
 
--- what the layers below say of one channel
-pub record Known {H : Type 0} (r : Rules H) (w v : ℕ) : Type 0 where
-  pub exact : (bs : List (BeatOf H w)) (b : BeatOf H w) → IsHanded r bs → IsBeat r b →
-      (fault_after r bs b ≡ None) ↔ IsAdmitted r bs b
-  pub kept : (bs : List (BeatOf H w)) (homes : List ℕ) (b : BeatOf H w) (home : ℕ) →
+-- what the layers below say of one channel, as `one_channel` ensures it
+abbrev pub Known : {H : Type 0} (r : Rules H) (w v : ℕ) → Type 0
+Known {H} r w v = record {
+  exact : (bs : List (BeatOf H w)) (b : BeatOf H w) → IsHanded r bs → IsBeat r b →
+      (fault_after r bs b ≡ None) ↔ IsAdmitted r bs b;
+  kept : (bs : List (BeatOf H w)) (homes : List ℕ) (b : BeatOf H w) (home : ℕ) →
       IsHandedWith r bs homes → IsBeat r b → fault_after r bs b ≡ None →
       r.lane_address b.head home < 2 ^ 64 →
-      IsHandedWith r (bs ++ b ∷ []) (homes_with r bs homes b home)
-  pub one : DueIsOne r w v
-  pub far_side : DueIsHanded r w v
-  pub longest : AcceptedIsLongest r w
+      IsHandedWith r (bs ++ b ∷ []) (homes_with r bs homes b home);
+  one : DueIsOne r w v;
+  far_side : DueIsHanded r w v;
+  longest : AcceptedIsLongest r w;
+}
 
 module _ {H : Type 0} (r : Rules H) {w : ℕ} (some : (h : H) → 0 < beats_of r h w) where
   -- where a head tells the home, the homes are those that the heads tell

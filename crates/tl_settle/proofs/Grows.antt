@@ -1,5 +1,6 @@
 -- What is due goes on as more beats of a script are accepted.
 use Rattle.std.proofs.Common.{◌≡◌, ◌≤◌, ◌<◌, ℕ, suc, List, [], ◌∷◌, ◌++◌, length, map, refl, sym, ap, ◌∙◌, arith, append_assoc, append-nil}
+use Rattle.std.proofs.lemmas.List.{length-map, map-append}
 use Rattle.tl_msg.specs.Tables.{rules_a, rules_d}
 use Rattle.tl_msg.specs.declared.head.HeadA.{HeadA}
 use Rattle.tl_msg.specs.declared.head.HeadD.{HeadD}
@@ -14,15 +15,7 @@ use Rattle.tl_settle.specs.Settling.{far_a, far_d, requests, responses}
 use Rattle.tl_burst.specs.Begun.{heads}
 
 map_grows : {X Y : Type 0} (f : X → Y) {xs ys : List X} → Extends xs ys → Extends (map f xs) (map f ys)
-map_grows f (more xs rest) = rw (map_both f xs rest) (more (map f xs) (map f rest))
-  where
-    map_both : {X Y : Type 0} (f : X → Y) (us vs : List X) → map f (us ++ vs) ≡ map f us ++ map f vs
-    map_both f [] vs = refl
-    map_both f (u ∷ us) vs = ap (λ q. f u ∷ q) (map_both f us vs)
-
-length_of_map : {X Y : Type 0} (f : X → Y) (xs : List X) → length (map f xs) ≡ length xs
-length_of_map f [] = refl
-length_of_map f (x ∷ xs) = ap suc (length_of_map f xs)
+map_grows f (more xs rest) = rw (map-append f xs rest) (more (map f xs) (map f rest))
 
 -- the homes of more messages begin with those of the first
 pub homes_more : (qs : List HeadA) (before hs ks : List HeadD) → homes_after qs before (hs ++ ks) ≡ homes_after qs before hs ++ homes_after qs (before ++ hs) ks
@@ -43,7 +36,7 @@ module _ {C M : ℕ} (near : 0 < C) (far : 0 < M) (a : List (BeatOf HeadA C)) (d
   far_a_grows i x l f =
       due_extends rules_a same_a C M near far a (λ k. map (λ h. h.address) (requests a d k)) i x l f
       (λ k. map_grows (λ h. h.address) (heads_extend rules_a C (take-grows k (suc k) a (omega arith))))
-      (λ k. let n : length (map (λ h. h.address) (requests a d k)) ≡ length (requests a d k) = length_of_map (λ h. h.address) (requests a d k) in omega arith)
+      (λ k. let n : length (map (λ h. h.address) (requests a d k)) ≡ length (requests a d k) = length-map (requests a d k) (λ h. h.address) in omega arith)
 
   pub far_d_grows : (j y : ℕ) → j ≤ y → NoFaults rules_d d y → Extends (far_d a d j) (far_d a d y)
   far_d_grows j y l f =

@@ -8,29 +8,22 @@ use Rattle.tl_msg.specs.declared.head.HeadD.{HeadD}
 use Rattle.tl_settle.specs.Histories.{Answers, Asks, Mark, open_after, open_from, open_request}
 use Rattle.tl_settle.specs.Laws.{is_of, answers_to, IsOpenRequest, IsBusy}
 use Rattle.tl_settle.specs.Requests.{is_request_of, is_response_to}
-use Rattle.std.proofs.lemmas.Bool.{not-true}
+use Rattle.std.proofs.lemmas.Bool.{not-true, and_parts}
+use Rattle.std.proofs.lemmas.Option.{same_Some}
 
 open_over : (s : ℕ) (o : Option HeadA) (xs ys : List Mark) → open_from s o (xs ++ ys) ≡ open_from s (open_from s o xs) ys
 open_over s o [] ys = refl
 open_over s o (x ∷ xs) ys = open_over s (open_after s o x) xs ys
 
-first_is : (x y : Bool) → (x && y) ≡ true → x ≡ true
-first_is true y e = refl
-first_is false y e = e
-
-second_is : (x y : Bool) → (x && y) ≡ true → y ≡ true
-second_is true y e = e
-second_is false y e = let f : false ≡ true = e in cc
-
 -- messages of other sources leave an open request as it is
 rests : (s : ℕ) (o : Option HeadA) (ms : List Mark) → list_all (λ m. not (is_of s m)) ms ≡ true → open_from s o ms ≡ o
 rests s o [] e = refl
 rests s o (Asks h ∷ ms) e =
-    let other = not-true (is_request_of s h) (first_is (not (is_request_of s h)) (list_all (λ m. not (is_of s m)) ms) e) in
-    ap (λ b. open_from s (cond b (Some h) o) ms) other ∙ rests s o ms (second_is (not (is_request_of s h)) (list_all (λ m. not (is_of s m)) ms) e)
+    let other = not-true (is_request_of s h) (and_parts (not (is_request_of s h)) (list_all (λ m. not (is_of s m)) ms) e).0 in
+    ap (λ b. open_from s (cond b (Some h) o) ms) other ∙ rests s o ms (and_parts (not (is_request_of s h)) (list_all (λ m. not (is_of s m)) ms) e).1
 rests s o (Answers h ∷ ms) e =
-    let other = not-true (is_response_to s h) (first_is (not (is_response_to s h)) (list_all (λ m. not (is_of s m)) ms) e) in
-    ap (λ b. open_from s (cond b None o) ms) other ∙ rests s o ms (second_is (not (is_response_to s h)) (list_all (λ m. not (is_of s m)) ms) e)
+    let other = not-true (is_response_to s h) (and_parts (not (is_response_to s h)) (list_all (λ m. not (is_of s m)) ms) e).0 in
+    ap (λ b. open_from s (cond b None o) ms) other ∙ rests s o ms (and_parts (not (is_response_to s h)) (list_all (λ m. not (is_of s m)) ms) e).1
 
 pub last_is_open : (s : ℕ) (ms : List Mark) (h : HeadA) → IsOpenRequest s ms h → open_request s ms ≡ Some h
 last_is_open s ms h i =
@@ -41,16 +34,13 @@ last_is_open s ms h i =
 abbrev Found : (s : ℕ) (o : Option HeadA) (ms : List Mark) (h : HeadA) → Type 0
 Found s o ms h = IsOpenRequest s ms h ⊎ ((o ≡ Some h) × (list_all (λ m. not (is_of s m)) ms ≡ true))
 
-some_same : (g h : HeadA) → Some g ≡ Some h → g ≡ h
-some_same g h e = cc
-
 by_request : (s : ℕ) (o : Option HeadA) (g : HeadA) (ms : List Mark) (h : HeadA) (b : Bool) → is_request_of s g ≡ b →
     cond b (Some g) o ≡ Some h → list_all (λ m. not (is_of s m)) ms ≡ true → Found s o (Asks g ∷ ms) h
 by_request s o g ms h true is e rest = inl (record {
   before = [];
   after = ms;
-  parts = ap (λ q. Asks q ∷ ms) (some_same g h e);
-  is_its = ap (λ q. is_request_of s q) (sym (some_same g h e)) ∙ is;
+  parts = ap (λ q. Asks q ∷ ms) (same_Some g h e);
+  is_its = ap (λ q. is_request_of s q) (sym (same_Some g h e)) ∙ is;
   is_last = rest;
 })
 by_request s o g ms h false is e rest = inr (e, ap (λ q. not q && list_all (λ m. not (is_of s m)) ms) is ∙ rest)
@@ -84,10 +74,10 @@ open_is_last s ms h e = ⊎_elim (λ i. i) (λ p. let f : None ≡ Some h = p.0 
 -- a message that is of no source answers none
 no_answer : (s : ℕ) (ms : List Mark) → list_all (λ m. not (is_of s m)) ms ≡ true → list_all (λ m. not (answers_to s m)) ms ≡ true
 no_answer s [] e = refl
-no_answer s (Asks h ∷ ms) e = no_answer s ms (second_is (not (is_request_of s h)) (list_all (λ m. not (is_of s m)) ms) e)
+no_answer s (Asks h ∷ ms) e = no_answer s ms (and_parts (not (is_request_of s h)) (list_all (λ m. not (is_of s m)) ms) e).1
 no_answer s (Answers h ∷ ms) e =
-    ap (λ q. q && list_all (λ m. not (answers_to s m)) ms) (first_is (not (is_response_to s h)) (list_all (λ m. not (is_of s m)) ms) e) ∙
-    no_answer s ms (second_is (not (is_response_to s h)) (list_all (λ m. not (is_of s m)) ms) e)
+    ap (λ q. q && list_all (λ m. not (answers_to s m)) ms) (and_parts (not (is_response_to s h)) (list_all (λ m. not (is_of s m)) ms) e).0 ∙
+    no_answer s ms (and_parts (not (is_response_to s h)) (list_all (λ m. not (is_of s m)) ms) e).1
 
 some_cond : (b : Bool) (h : HeadA) (o : Option HeadA) → is_some o ≡ true → is_some (cond b (Some h) o) ≡ true
 some_cond true h o e = refl
@@ -99,9 +89,9 @@ stays : (s : ℕ) (o : Option HeadA) (ms : List Mark) → is_some o ≡ true →
 stays s o [] is e = is
 stays s o (Asks h ∷ ms) is e = stays s (cond (is_request_of s h) (Some h) o) ms (some_cond (is_request_of s h) h o is) e
 stays s o (Answers h ∷ ms) is e =
-    let other = not-true (is_response_to s h) (first_is (not (is_response_to s h)) (list_all (λ m. not (answers_to s m)) ms) e) in
+    let other = not-true (is_response_to s h) (and_parts (not (is_response_to s h)) (list_all (λ m. not (answers_to s m)) ms) e).0 in
     ap (λ b. is_some (open_from s (cond b None o) ms)) other ∙
-    stays s o ms is (second_is (not (is_response_to s h)) (list_all (λ m. not (answers_to s m)) ms) e)
+    stays s o ms is (and_parts (not (is_response_to s h)) (list_all (λ m. not (answers_to s m)) ms) e).1
 
 pub unanswered_is_busy : (s : ℕ) (ms : List Mark) → IsBusy s ms → is_some (open_request s ms) ≡ true
 unanswered_is_busy s ms i =

@@ -11,7 +11,7 @@ use Rattle.tl_msg.specs.declared.head.HeadA.{HeadA}
 use Rattle.tl_msg.specs.declared.head.HeadD.{HeadD}
 use Rattle.tl_convert.proofs.Extends.{count_by-append}
 use Rattle.tl_settle.proofs.Orders.{Ordered, answer, answers, ask, asks, unmarked}
-use Rattle.tl_convert.proofs.Comparisons.{none_past}
+use Rattle.tl_convert.proofs.Comparisons.{none_past, true_equal}
 use Rattle.tl_settle.specs.Histories.{Answer, Answers, Ask, Asks, Event, Mark, answered, asked, marks_from, open_after, open_from, open_request}
 use Rattle.tl_settle.specs.Requests.{is_release_ack, is_request_of, is_response_to, partner, requests_of, responses_to}
 use Rattle.tl_burst.specs.Begun.{heads_from}
@@ -127,10 +127,7 @@ response_source : (s : ℕ) (h : HeadD) (t : Bool) → is_release_ack h ≡ t �
 response_source s h true e r = absurd (let f : false ≡ true = ap (λ b. not b && (h.source == s)) (sym e) ∙ r in cc)
 response_source s h false e r =
     let f : (h.source == s) ≡ true = ap (λ b. not b && (h.source == s)) (sym e) ∙ r in
-    (refl, same_number h.source s f)
-  where
-    same_number : (x y : ℕ) → (x == y) ≡ true → x ≡ y
-    same_number x y e = grind (arith, nat_tests)
+    (refl, true_equal h.source s f)
 
 pub matches : {ms : List Mark} → Ordered ms → (s : ℕ) → Match (open_request s ms) (asks ms) (answers ms) s
 matches unmarked s = record { is = refl; low = zero-le; high = zero-le }

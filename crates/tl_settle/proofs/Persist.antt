@@ -1,5 +1,6 @@
 -- Any two lists whose steps stay possible: one settled state, and no run goes past it.
 use Rattle.std.proofs.Common.{◌≡◌, ◌≤◌, ◌<◌, ◌+◌, ◌⊎◌, ℕ, zero, suc, Bool, true, false, refl, sym, ap, subst, ◌∙◌, arith, zero-le, ⊎_elim, cond}
+use Rattle.std.proofs.lemmas.Bool.{true≢false}
 use Rattle.tl_settle.specs.Steps.{IsTheSettled, Reaches, Settled, State, by_a, by_d, next, settle, start}
 
 -- A step that may go stays possible while the other list goes on: so there is one settled state, and no run goes past it.
@@ -18,9 +19,6 @@ module _ (goes_a goes_d : ℕ → ℕ → Bool) (n m : ℕ)
     good (by_a i j r g) = good_a i j (good r) g
     good (by_d i j r g) = good_d i j (good r) g
 
-    clash : {b : Bool} → b ≡ true → b ≡ false → ⊥
-    clash p q = cc
-
     -- a number that isn't above k, or is k itself
     split : (i k : ℕ) → i ≤ k → (suc i ≤ k) ⊎ (i ≡ k)
     split i k h = grind arith
@@ -33,14 +31,14 @@ module _ (goes_a goes_d : ℕ → ℕ → Bool) (n m : ℕ)
         ⊎_elim (λ more. (more, before.1))
         (λ (e : i ≡ x).
         let here : goes_a x j ≡ true = rw (← e) g in
-        absurd (clash (stays_a x j y (good s.reached) before.1 here) s.a_stops))
+        absurd (true≢false (sym (stays_a x j y (good s.reached) before.1 here) ∙ s.a_stops)))
         (split i x before.0)
     past (by_d i j r g) x y s =
         let before : (i ≤ x) × (j ≤ y) = past r x y s in
         ⊎_elim (λ more. (before.0, more))
         (λ (e : j ≡ y).
         let here : goes_d i y ≡ true = rw (← e) g in
-        absurd (clash (stays_d i y x (good s.reached) before.0 here) s.d_stops))
+        absurd (true≢false (sym (stays_d i y x (good s.reached) before.0 here) ∙ s.d_stops)))
         (split j y before.1)
 
     -- the next state, by what goes

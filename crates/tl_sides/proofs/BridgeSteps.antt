@@ -1,6 +1,6 @@
 -- Each call of a bridge takes it to what it stands for after the same events.
 use Rattle.std.proofs.Common.{◌≡◌, ◌≤◌, ◌+◌, ◌↔◌, ℕ, zero, suc, Bool, true, false, cond, Option, None, Some, List, [], ◌∷◌, ◌++◌, map, length, take, drop, refl, sym, ap, subst, ◌∙◌, append-nil, append_assoc}
-use Rattle.std.specs.Prelude.{◌==◌, Result, Ok, Err, IsOk, IsErr, slice_get}
+use Rattle.std.specs.Prelude.{◌==◌, Result, slice_get}
 use Rattle.tl_msg.specs.Rules.{Rules}
 use Rattle.tl_msg.specs.Firsts.{unless, ◌or_else◌}
 use Rattle.tl_msg.specs.Faults.{mask_fits, is_clean, IsLawfulBeat}
@@ -16,6 +16,7 @@ use Rattle.tl_msg.specs.declared.head.HeadE.{HeadE}
 use Rattle.tl_msg.specs.declared.beat.BeatOf.{BeatOf}
 use Rattle.tl_burst.specs.Begun.{left}
 use Rattle.tl_burst.specs.Handing.{rest_of, with_home}
+pub use Rattle.tl_convert.proofs.Refusals.{err_not_ok}
 use Rattle.tl_convert.specs.Due.{due}
 use Rattle.tl_ring.specs.Crossing.{World, offered, pushed, popped}
 use Rattle.tl_ring.specs.declared.queue.TheConstants.{ROOM}
@@ -284,10 +285,6 @@ some_taken (x ∷ bs) b e = let f : x ≡ b = cc in ap (λ y. y ∷ []) f
 pub none_taken : {A : Type 0} (bs : List A) → slice_get bs 0 ≡ None → take 1 bs ≡ []
 none_taken [] e = refl
 none_taken (x ∷ bs) e = cc
-
-pub err_not_ok : {T E : Type 0} (r : Result T E) → IsErr r → IsOk r → ⊥
-err_not_ok (Ok y) e o = cc
-err_not_ok (Err y) e o = cc
 
 pub none_not_some : {A : Type 0} {o : Option A} {x : A} → o ≡ Some x → o ≡ None → ⊥
 none_not_some e f = cc

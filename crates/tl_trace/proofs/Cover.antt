@@ -1,6 +1,6 @@
 -- A line of the right shape is its letter and its fields, and nothing else.
 use Rattle.std.proofs.Common.{◌≡◌, ◌≢◌, ℕ, zero, suc, ◌+◌, ◌-◌, ◌<◌, ◌≤◌, Bool, true, false, nat_eq, ◌||◌, List, [], ◌∷◌, ◌++◌, length, get_or, drop, refl, sym, ap, ◌∙◌, arith, drop-cons, append_assoc, append-nil, add-one, eq-eqb}
-use Rattle.std.proofs.lemmas.Bool.{eqb-true, or_from}
+use Rattle.std.proofs.lemmas.Bool.{eqb-true, or_from, and_parts, or_parts}
 use Rattle.std.proofs.lemmas.List.{length-take-le, length-drop, get_or-take, get_or-drop}
 use Rattle.std.proofs.lemmas.Bool.Decides.{nat_tests}
 use Rattle.std.proofs.lemmas.List.Folds.{drop_split, list_any-append}
@@ -12,7 +12,6 @@ use Rattle.tl_trace.specs.Faults.{is_newline}
 use Rattle.tl_trace.specs.Texts.{SaysLine}
 use Rattle.tl_trace.specs.declared.line.Line.{Line}
 use Rattle.tl_trace.specs.declared.line.Line.TheVariants.{A, B, C, D, E}
-use Rattle.tl_trace.proofs.Shaped.{first_of_and, second_of_and}
 use Rattle.tl_trace.proofs.ReadLines.{IsFree}
 
 -- a field as it stands in the text
@@ -21,7 +20,7 @@ stands text p = 32 ∷ digits_at text p
 
 pub field_there : (text : List ℕ) (p : FieldPlace) → is_shaped_at text p ≡ true → p.at < length text → drop p.at text ≡ stands text p ++ drop (p.at + 1 + p.count) text
 field_there text p shaped lt =
-    let space : slice_index text p.at ≡ 32 = eqb-true (slice_index text p.at) 32 (first_of_and (nat_eq (slice_index text p.at) 32) (list_all is_hex (digits_at text p)) shaped) in
+    let space : slice_index text p.at ≡ 32 = eqb-true (slice_index text p.at) 32 (and_parts (nat_eq (slice_index text p.at) 32) (list_all is_hex (digits_at text p)) shaped).0 in
     drop-cons text p.at 0 lt ∙ ap (λ (x : ℕ). x ∷ drop (suc p.at) text) space
     ∙ ap (λ (n : ℕ). 32 ∷ drop n text) (sym (add-one p.at))
     ∙ ap (λ (xs : List ℕ). 32 ∷ xs) (drop_split text (p.at + 1) (p.at + 1 + p.count) (omega arith))
@@ -33,8 +32,8 @@ cover text at w (field ∷ more) shaped le =
     let p : FieldPlace = record { field = field; at = at; count = digit_count w field } in
     let next = at + 1 + digit_count w field in
     let rest = places_from next w more in
-    let there = field_there text p (first_of_and (is_shaped_at text p) (list_all (is_shaped_at text) rest) shaped) (omega arith) in
-    let after = cover text next w more (second_of_and (is_shaped_at text p) (list_all (is_shaped_at text) rest) shaped) (omega arith) in
+    let there = field_there text p (and_parts (is_shaped_at text p) (list_all (is_shaped_at text) rest) shaped).0 (omega arith) in
+    let after = cover text next w more (and_parts (is_shaped_at text p) (list_all (is_shaped_at text) rest) shaped).1 (omega arith) in
     let end : next + length_of w more ≡ at + length_of w (field ∷ more) = omega arith in
     there ∙ ap (λ (xs : List ℕ). stands text p ++ xs) (after ∙ ap (λ (n : ℕ). flat_map (stands text) rest ++ drop n text) end)
     ∙ sym (append_assoc (stands text p) (flat_map (stands text) rest) (drop (at + length_of w (field ∷ more)) text))
@@ -60,13 +59,13 @@ hex_no_end byte h = grind (arith, nat_tests)
 
 digits_free : (ds : List ℕ) → list_all is_hex ds ≡ true → IsFree ds
 digits_free [] h = refl
-digits_free (d ∷ ds) h = or_from (is_newline d) (list_any is_newline ds) (hex_no_end d (first_of_and (is_hex d) (list_all is_hex ds) h)) (digits_free ds (second_of_and (is_hex d) (list_all is_hex ds) h))
+digits_free (d ∷ ds) h = or_from (is_newline d) (list_any is_newline ds) (hex_no_end d (and_parts (is_hex d) (list_all is_hex ds) h).0) (digits_free ds (and_parts (is_hex d) (list_all is_hex ds) h).1)
 
 fields_free : (text : List ℕ) (ps : List FieldPlace) → list_all (is_shaped_at text) ps ≡ true → IsFree (flat_map (stands text) ps)
 fields_free text [] h = refl
 fields_free text (p ∷ ps) h =
-    let here = digits_free (digits_at text p) (second_of_and (nat_eq (slice_index text p.at) 32) (list_all is_hex (digits_at text p)) (first_of_and (is_shaped_at text p) (list_all (is_shaped_at text) ps) h)) in
-    let more = fields_free text ps (second_of_and (is_shaped_at text p) (list_all (is_shaped_at text) ps) h) in
+    let here = digits_free (digits_at text p) (and_parts (nat_eq (slice_index text p.at) 32) (list_all is_hex (digits_at text p)) (and_parts (is_shaped_at text p) (list_all (is_shaped_at text) ps) h).0).1 in
+    let more = fields_free text ps (and_parts (is_shaped_at text p) (list_all (is_shaped_at text) ps) h).1 in
     list_any-append is_newline (stands text p) (flat_map (stands text) ps) ∙ or_from (list_any is_newline (stands text p)) (list_any is_newline (flat_map (stands text) ps)) here more
 
 pub line_free : {H : Type 0} (f : Form H) {n : ℕ} (w : ℕ) (b : BeatOf H n) (text : List ℕ) → is_newline f.rules.letter ≡ false → IsLine f w b text → IsFree text
@@ -83,11 +82,7 @@ says_free client manager (E b) text says = line_free form_e client b text refl s
 free_at : (xs : List ℕ) (k : ℕ) → k < length xs → IsFree xs → get_or xs k 0 ≢ 10
 free_at [] k lt free e = absurd (omega arith)
 free_at (x ∷ xs) zero lt free e = absurd (let no : nat_eq x 10 || list_any is_newline xs ≡ false = free in let yes : nat_eq x 10 ≡ true = eq-eqb x 10 e in let bad = ap (λ (b : Bool). b || list_any is_newline xs) (sym yes) ∙ no in cc)
-free_at (x ∷ xs) (suc k) lt free e = free_at xs k (omega arith) (right (is_newline x) (list_any is_newline xs) free) e
-  where
-    right : (x y : Bool) → x || y ≡ false → y ≡ false
-    right true y e = absurd cc
-    right false y e = e
+free_at (x ∷ xs) (suc k) lt free e = free_at xs k (omega arith) (or_parts (is_newline x) (list_any is_newline xs) free).1 e
 
 pub free_between : (text : List ℕ) (at end : ℕ) → end ≤ length text → IsFree (slice_range text at end) → (k : ℕ) → at + k < end → slice_index text (at + k) ≢ 10
 free_between text at end le free k lt e =

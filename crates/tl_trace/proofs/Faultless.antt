@@ -3,7 +3,7 @@ use Rattle.std.proofs.Common.{◌≡◌, ℕ, Bool, true, false, cond, ◌&&◌,
 use Rattle.std.specs.Prelude.{decimal, codes, find, bytes_eq, ◌==◌}
 use Rattle.std.specs.Bool.{Decides}
 use Rattle.std.specs.List.{list_all, list_any}
-use Rattle.std.proofs.lemmas.Bool.{eqb-true, or_from}
+use Rattle.std.proofs.lemmas.Bool.{eqb-true, or_from, and_parts}
 use Rattle.std.proofs.lemmas.List.Folds.{list_any-append}
 use Rattle.std.proofs.lemmas.Slice.Eq.{bytes_eq-Decides}
 use Rattle.tl_trace.specs.Texts.{widths, is_width, newline, header_text, SaysLine, is_kept_line, TellsLines, Tells}
@@ -11,7 +11,6 @@ use Rattle.tl_trace.specs.Faults.{is_newline, cut, or_empty, width_pairs, widths
 use Rattle.tl_trace.specs.declared.fault.TraceKind.{TraceKind}
 use Rattle.tl_trace.specs.declared.line.Line.{Line}
 use Rattle.tl_trace.specs.declared.line.Line.TheVariants.{A, B, C, D, E}
-use Rattle.tl_trace.proofs.Shaped.{first_of_and, second_of_and}
 use Rattle.tl_trace.proofs.ReadLines.{IsFree, cut_line, body_line, ended, read_as_a, read_as_b, read_as_c, read_as_d, read_as_e}
 use Rattle.tl_trace.proofs.Walk.{later_line}
 use Rattle.tl_trace.proofs.Headers.{names, is_header, both_widths}
@@ -54,8 +53,8 @@ yes_of b xs ys d e = d.1 e
 
 named : (client manager : ℕ) (q : ℕ × ℕ) → is_pair client manager q ≡ true → names (header_text client manager) q ≡ true
 named client manager q e =
-    let c = eqb-true client q.0 (first_of_and (client == q.0) (manager == q.1) e) in
-    let m = eqb-true manager q.1 (second_of_and (client == q.0) (manager == q.1) e) in
+    let c = eqb-true client q.0 (and_parts (client == q.0) (manager == q.1) e).0 in
+    let m = eqb-true manager q.1 (and_parts (client == q.0) (manager == q.1) e).1 in
     let same : header_text client manager ≡ header_text q.0 q.1 = ap (λ (n : ℕ). header_text n manager) c ∙ ap (λ (n : ℕ). header_text q.0 n) m in
     yes_of (bytes_eq (header_text client manager) (header_text q.0 q.1)) (header_text client manager) (header_text q.0 q.1) (bytes_eq-Decides (header_text client manager) (header_text q.0 q.1)) same
 
@@ -85,8 +84,8 @@ lines_faultless client manager (line ∷ lines) text kept told =
     let body = told.0 in
     let rest = told.1 in
     let free = says_free client manager line body told.3 in
-    let fault : later_fault client manager (body ++ newline) ≡ None = later_line client manager body free ∙ says_faultless client manager line body (first_of_and (is_kept_line client manager line) (list_all (is_kept_line client manager) lines) kept) told.3 in
-    let more = lines_faultless client manager lines rest (second_of_and (is_kept_line client manager line) (list_all (is_kept_line client manager) lines) kept) told.4 in
+    let fault : later_fault client manager (body ++ newline) ≡ None = later_line client manager body free ∙ says_faultless client manager line body (and_parts (is_kept_line client manager line) (list_all (is_kept_line client manager) lines) kept).0 told.3 in
+    let more = lines_faultless client manager lines rest (and_parts (is_kept_line client manager line) (list_all (is_kept_line client manager) lines) kept).1 told.4 in
     ap (λ (t : List ℕ). list_all is_none (map (later_fault client manager) (cut t))) told.2
     ∙ ap (λ (ls : List (List ℕ)). list_all is_none (map (later_fault client manager) ls)) (cut_line body rest free)
     ∙ ap (λ (o : Option TraceKind). is_none o && list_all is_none (map (later_fault client manager) (cut rest))) fault ∙ more

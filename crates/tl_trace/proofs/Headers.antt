@@ -1,13 +1,13 @@
 -- Finding the widths of a header.
 use Rattle.std.proofs.Common.{◌-◌, ◌||◌, nat_le, get_or, ◌≡◌, ℕ, zero, suc, ◌+◌, ◌<◌, ◌≤◌, Bool, true, false, cond, List, [], ◌∷◌, length, map, take, Option, None, Some, refl, sym, ap, ◌∙◌, arith, add-one}
+use Rattle.tl_msg.proofs.Firsts.{find_holds}
 use Rattle.std.specs.Prelude.{find, slice_get, bytes_eq, ◌==◌}
 use Rattle.std.specs.List.{list_all, list_any, slice_range}
 use Rattle.std.specs.Bool.{Decides}
 use Rattle.std.proofs.lemmas.List.{take_all}
-use Rattle.std.proofs.lemmas.Bool.{eqb-true, leb-true}
+use Rattle.std.proofs.lemmas.Bool.{eqb-true, leb-true, and_parts}
 use Rattle.std.proofs.lemmas.Slice.Eq.{bytes_eq-Decides}
 use Rattle.tl_trace.proofs.Table.{agree_below, agree_at}
-use Rattle.tl_trace.proofs.Shaped.{first_of_and, second_of_and}
 use Rattle.tl_trace.specs.Texts.{header_text, widths, is_width}
 use Rattle.tl_trace.specs.Faults.{width_pairs, widths_of}
 
@@ -64,21 +64,13 @@ not_found text i le far = ap (find (names text)) (sym (take_all i width_pairs le
 
 -- ---- what is found
 
-split_is : (p : ℕ × ℕ → Bool) (y x : ℕ × ℕ) (o : Option (ℕ × ℕ)) (b : Bool) → p y ≡ b → cond b (Some y) o ≡ Some x → (o ≡ Some x → p x ≡ true) → p x ≡ true
-split_is p y x o true here e more = let same : x ≡ y = cc in rw (same, here) refl
-split_is p y x o false here e more = more e
-
-find_is : (p : ℕ × ℕ → Bool) (xs : List (ℕ × ℕ)) (x : ℕ × ℕ) → find p xs ≡ Some x → p x ≡ true
-find_is p [] x e = absurd cc
-find_is p (y ∷ xs) x e = split_is p y x (find p xs) (p y) refl e (find_is p xs x)
-
 split_all : (q : ℕ × ℕ → Bool) (y x : ℕ × ℕ) (o : Option (ℕ × ℕ)) (b : Bool) → q y ≡ true → cond b (Some y) o ≡ Some x → (o ≡ Some x → q x ≡ true) → q x ≡ true
 split_all q y x o true here e more = let same : x ≡ y = cc in rw (same, here) refl
 split_all q y x o false here e more = more e
 
 find_all : (p q : ℕ × ℕ → Bool) (xs : List (ℕ × ℕ)) (x : ℕ × ℕ) → list_all q xs ≡ true → find p xs ≡ Some x → q x ≡ true
 find_all p q [] x all e = absurd cc
-find_all p q (y ∷ xs) x all e = split_all q y x (find p xs) (p y) (first_of_and (q y) (list_all q xs) all) e (find_all p q xs x (second_of_and (q y) (list_all q xs) all))
+find_all p q (y ∷ xs) x all e = split_all q y x (find p xs) (p y) (and_parts (q y) (list_all q xs) all).0 e (find_all p q xs x (and_parts (q y) (list_all q xs) all).1)
 
 pub both_widths : (text : List ℕ) (pair : ℕ × ℕ) → widths_of text ≡ Some pair → (is_width pair.0 ≡ true) × (is_width pair.1 ≡ true)
 unfolding widths_of
@@ -87,7 +79,7 @@ both_widths text pair e =
 
 pub is_header : (text : List ℕ) (pair : ℕ × ℕ) → widths_of text ≡ Some pair → text ≡ header_text pair.0 pair.1
 unfolding widths_of
-is_header text pair e = same_bytes (bytes_eq text (header_text pair.0 pair.1)) text (header_text pair.0 pair.1) (bytes_eq-Decides text (header_text pair.0 pair.1)) (find_is (names text) width_pairs pair e)
+is_header text pair e = same_bytes (bytes_eq text (header_text pair.0 pair.1)) text (header_text pair.0 pair.1) (bytes_eq-Decides text (header_text pair.0 pair.1)) (find_holds (names text) width_pairs pair e)
   where
     same_bytes : (b : Bool) (xs ys : List ℕ) → Decides b (xs ≡ ys) → b ≡ true → xs ≡ ys
     same_bytes true xs ys d e = d.0 refl
@@ -95,7 +87,7 @@ is_header text pair e = same_bytes (bytes_eq text (header_text pair.0 pair.1)) t
 
 narrow : (xs : List ℕ) (w : ℕ) → list_any (λ width. w == width) xs ≡ true → list_all (λ width. nat_le width 64) xs ≡ true → w ≤ 64
 narrow [] w e all = absurd cc
-narrow (x ∷ xs) w e all = pick x (w == x) refl e (second_of_and (nat_le x 64) (list_all (λ width. nat_le width 64) xs) all) (first_of_and (nat_le x 64) (list_all (λ width. nat_le width 64) xs) all) (narrow xs w)
+narrow (x ∷ xs) w e all = pick x (w == x) refl e (and_parts (nat_le x 64) (list_all (λ width. nat_le width 64) xs) all).1 (and_parts (nat_le x 64) (list_all (λ width. nat_le width 64) xs) all).0 (narrow xs w)
   where
     pick : (x : ℕ) (b : Bool) → (w == x) ≡ b → b || list_any (λ width. w == width) xs ≡ true → list_all (λ width. nat_le width 64) xs ≡ true → nat_le x 64 ≡ true → (list_any (λ width. w == width) xs ≡ true → list_all (λ width. nat_le width 64) xs ≡ true → w ≤ 64) → w ≤ 64
     pick x true is e all le more = let same : w ≡ x = eqb-true w x is in let small : x ≤ 64 = leb-true x 64 le in omega arith

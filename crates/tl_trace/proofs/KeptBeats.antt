@@ -1,9 +1,10 @@
 -- The beats of a trace are beats as memory holds them.
 use Rattle.std.proofs.Common.{◌≡◌, ℕ, zero, suc, ◌^◌, ◌<◌, ◌≤◌, Bool, true, false, nat_eq, nat_lt, ◌&&◌, ◌||◌, List, [], ◌∷◌, length, take, Option, None, Some, refl, sym, ap, ◌∙◌, subst, arith}
 use Rattle.std.proofs.Math.Nat.{pow-le-pow_right}
-use Rattle.std.proofs.lemmas.Bool.{eqb-true, ltb-true}
+use Rattle.std.proofs.lemmas.Bool.{eqb-true, ltb-true, and_parts}
 use Rattle.std.proofs.lemmas.List.{length-take-le}
 use Rattle.std.proofs.lemmas.List.Elements.{All-cons}
+use Rattle.std.proofs.lemmas.Option.{same_Some}
 use Rattle.std.specs.Prelude.{All, not, slice_get}
 use Rattle.std.specs.List.{list_all, filter_map, cons_option}
 use Rattle.tl_msg.specs.Beats.{IsBeat}
@@ -21,7 +22,6 @@ use Rattle.tl_trace.specs.Scripts.{HasBeats, on_lanes, beat_of_a, beat_of_b, bea
 use Rattle.tl_trace.specs.declared.line.Line.{Line}
 use Rattle.tl_trace.specs.declared.line.Line.TheVariants.{A, B, C, D, E}
 use Rattle.tl_trace.proofs.Headers.{width_small}
-use Rattle.tl_trace.proofs.Shaped.{first_of_and, second_of_and}
 
 -- ---- lanes
 
@@ -32,38 +32,38 @@ some_bytes : (w : ℕ) (lanes : List ℕ) → list_all (λ lane. nat_lt lane 256
 some_bytes zero lanes bytes = none_of (λ byte. byte < 256)
 some_bytes (suc w) [] bytes = none_of (λ byte. byte < 256)
 some_bytes (suc w) (lane ∷ lanes) bytes =
-    All-cons (λ byte. byte < 256) lane (take w lanes) (ltb-true lane 256 (first_of_and (nat_lt lane 256) (list_all (λ lane. nat_lt lane 256) lanes) bytes))
-    (some_bytes w lanes (second_of_and (nat_lt lane 256) (list_all (λ lane. nat_lt lane 256) lanes) bytes))
+    All-cons (λ byte. byte < 256) lane (take w lanes) (ltb-true lane 256 (and_parts (nat_lt lane 256) (list_all (λ lane. nat_lt lane 256) lanes) bytes).0)
+    (some_bytes w lanes (and_parts (nat_lt lane 256) (list_all (λ lane. nat_lt lane 256) lanes) bytes).1)
 
 most : (w m : ℕ) → w ≤ 64 → m < 2 ^ w → m < 2 ^ 64
 most w m le lt = let top : 2 ^ w ≤ 2 ^ 64 = pow-le-pow_right {n = 2} (omega arith) {i = w} {j = 64} le in omega arith
 
 module _ {H : Type 0} (f : Form H) where
   kept_lanes : (b : BeatOf H 64) (w : ℕ) → is_kept f w b ≡ true → is_lanes 64 b.lanes ≡ true
-  kept_lanes b w kept = first_of_and (is_lanes 64 b.lanes) (is_writable f w b && is_plain f b) kept
+  kept_lanes b w kept = (and_parts (is_lanes 64 b.lanes) (is_writable f w b && is_plain f b) kept).0
 
   pub kept_writable : (b : BeatOf H 64) (w : ℕ) → is_kept f w b ≡ true → is_writable f w b ≡ true
-  kept_writable b w kept = first_of_and (is_writable f w b) (is_plain f b) (second_of_and (is_lanes 64 b.lanes) (is_writable f w b && is_plain f b) kept)
+  kept_writable b w kept = (and_parts (is_writable f w b) (is_plain f b) (and_parts (is_lanes 64 b.lanes) (is_writable f w b && is_plain f b) kept).1).0
 
   pub kept_plain : (b : BeatOf H 64) (w : ℕ) → is_kept f w b ≡ true → is_plain f b ≡ true
-  kept_plain b w kept = second_of_and (is_writable f w b) (is_plain f b) (second_of_and (is_lanes 64 b.lanes) (is_writable f w b && is_plain f b) kept)
+  kept_plain b w kept = (and_parts (is_writable f w b) (is_plain f b) (and_parts (is_lanes 64 b.lanes) (is_writable f w b && is_plain f b) kept).1).1
 
   pub kept_beat : (b : BeatOf H 64) (w : ℕ) → w ≤ 64 → is_kept f w b ≡ true → f.rules.lane_address b.head 0 < 2 ^ 64 → b.mask < 2 ^ 64 → IsBeat f.rules (on_lanes w b)
   kept_beat b w le kept place bits =
       let lanes = kept_lanes b w kept in
-      let long : length b.lanes ≡ 64 = eqb-true (length b.lanes) 64 (first_of_and (nat_eq (length b.lanes) 64) (list_all (λ lane. nat_lt lane 256) b.lanes) lanes) in
+      let long : length b.lanes ≡ 64 = eqb-true (length b.lanes) 64 (and_parts (nat_eq (length b.lanes) 64) (list_all (λ lane. nat_lt lane 256) b.lanes) lanes).0 in
       record {
         address = place;
         lanes = length-take-le w b.lanes (omega (arith, long));
-        bytes = some_bytes w b.lanes (second_of_and (nat_eq (length b.lanes) 64) (list_all (λ lane. nat_lt lane 256) b.lanes) lanes);
+        bytes = some_bytes w b.lanes (and_parts (nat_eq (length b.lanes) 64) (list_all (λ lane. nat_lt lane 256) b.lanes) lanes).1;
         mask = bits;
       }
 
 -- the field at a place of those that are all in range
 in_range : (q : Field → Bool) (fs : List Field) (i : ℕ) (field : Field) → list_all q fs ≡ true → slice_get fs i ≡ Some field → q field ≡ true
 in_range q [] i field e at = absurd cc
-in_range q (x ∷ fs) zero field e at = let same : x ≡ field = cc in ap q (sym same) ∙ first_of_and (q x) (list_all q fs) e
-in_range q (x ∷ fs) (suc i) field e at = in_range q fs i field (second_of_and (q x) (list_all q fs) e) at
+in_range q (x ∷ fs) zero field e at = let same : x ≡ field = cc in ap q (sym same) ∙ (and_parts (q x) (list_all q fs) e).0
+in_range q (x ∷ fs) (suc i) field e at = in_range q fs i field (and_parts (q x) (list_all q fs) e).1 at
 
 or_second : (x y : Bool) → x ≡ false → x || y ≡ true → y ≡ true
 or_second true y none e = absurd cc
@@ -71,7 +71,7 @@ or_second false y none e = e
 
 no_mask : {H : Type 0} (f : Form H) (b : BeatOf H 64) (w : ℕ) → f.rules.masked ≡ false → is_kept f w b ≡ true → b.mask < 2 ^ 64
 no_mask f b w none kept =
-    let test = first_of_and (f.rules.masked || nat_eq b.mask 0) (f.rules.corrupts || (list_all (λ lane. nat_eq lane 0) b.lanes && not b.corrupt)) (kept_plain f b w kept) in
+    let test = (and_parts (f.rules.masked || nat_eq b.mask 0) (f.rules.corrupts || (list_all (λ lane. nat_eq lane 0) b.lanes && not b.corrupt)) (kept_plain f b w kept)).0 in
     let zero_mask = eqb-true b.mask 0 (or_second f.rules.masked (nat_eq b.mask 0) none test) in
     omega (arith, zero_mask)
 
@@ -105,14 +105,11 @@ held_e b w le kept = kept_beat form_e b w le kept (omega arith) (no_mask form_e 
 all_held : {X : Type 0} (P : X → Type 0) (h : Line → Option X) (q : Line → Bool) (lines : List Line) → ((line : Line) (x : X) → q line ≡ true → h line ≡ Some x → P x) → list_all q lines ≡ true → All P (filter_map h lines)
 all_held P h q [] each kept = none_of P
 all_held {X} P h q (line ∷ lines) each kept =
-    put (h line) refl (all_held P h q lines each (second_of_and (q line) (list_all q lines) kept))
+    put (h line) refl (all_held P h q lines each (and_parts (q line) (list_all q lines) kept).1)
   where
     put : (o : Option X) → h line ≡ o → All P (filter_map h lines) → All P (cons_option o (filter_map h lines))
     put None is rest = rest
-    put (Some x) is rest = All-cons P x (filter_map h lines) (each line x (first_of_and (q line) (list_all q lines) kept) is) rest
-
-inside : {X : Type 0} (x y : X) → Some x ≡ Some y → x ≡ y
-inside x y e = cc
+    put (Some x) is rest = All-cons P x (filter_map h lines) (each line x (and_parts (q line) (list_all q lines) kept).0 is) rest
 
 pub has_beats : (client manager : ℕ) (lines : List Line) → IsTrace client manager lines → HasBeats client manager lines
 has_beats client manager lines t =
@@ -128,7 +125,7 @@ has_beats client manager lines t =
     }
   where
     each_a : client ≤ 64 → (line : Line) (x : BeatOf HeadA client) → is_kept_line client manager line ≡ true → beat_of_a client line ≡ Some x → IsBeat rules_a x
-    each_a le (A b) x kept is = let P : BeatOf HeadA client → Type 0 = λ y. IsBeat rules_a y in subst P (inside (on_lanes client b) x is) (held_a b client le kept)
+    each_a le (A b) x kept is = let P : BeatOf HeadA client → Type 0 = λ y. IsBeat rules_a y in subst P (same_Some (on_lanes client b) x is) (held_a b client le kept)
     each_a le (B b) x kept is = absurd cc
     each_a le (C b) x kept is = absurd cc
     each_a le (D b) x kept is = absurd cc
@@ -136,7 +133,7 @@ has_beats client manager lines t =
 
     each_b : manager ≤ 64 → (line : Line) (x : BeatOf HeadB manager) → is_kept_line client manager line ≡ true → beat_of_b manager line ≡ Some x → IsBeat rules_b x
     each_b le (A b) x kept is = absurd cc
-    each_b le (B b) x kept is = let P : BeatOf HeadB manager → Type 0 = λ y. IsBeat rules_b y in subst P (inside (on_lanes manager b) x is) (held_b b manager le kept)
+    each_b le (B b) x kept is = let P : BeatOf HeadB manager → Type 0 = λ y. IsBeat rules_b y in subst P (same_Some (on_lanes manager b) x is) (held_b b manager le kept)
     each_b le (C b) x kept is = absurd cc
     each_b le (D b) x kept is = absurd cc
     each_b le (E b) x kept is = absurd cc
@@ -144,7 +141,7 @@ has_beats client manager lines t =
     each_c : client ≤ 64 → (line : Line) (x : BeatOf HeadC client) → is_kept_line client manager line ≡ true → beat_of_c client line ≡ Some x → IsBeat rules_c x
     each_c le (A b) x kept is = absurd cc
     each_c le (B b) x kept is = absurd cc
-    each_c le (C b) x kept is = let P : BeatOf HeadC client → Type 0 = λ y. IsBeat rules_c y in subst P (inside (on_lanes client b) x is) (held_c b client le kept)
+    each_c le (C b) x kept is = let P : BeatOf HeadC client → Type 0 = λ y. IsBeat rules_c y in subst P (same_Some (on_lanes client b) x is) (held_c b client le kept)
     each_c le (D b) x kept is = absurd cc
     each_c le (E b) x kept is = absurd cc
 
@@ -152,7 +149,7 @@ has_beats client manager lines t =
     each_d le (A b) x kept is = absurd cc
     each_d le (B b) x kept is = absurd cc
     each_d le (C b) x kept is = absurd cc
-    each_d le (D b) x kept is = let P : BeatOf HeadD manager → Type 0 = λ y. IsBeat rules_d y in subst P (inside (on_lanes manager b) x is) (held_d b manager le kept)
+    each_d le (D b) x kept is = let P : BeatOf HeadD manager → Type 0 = λ y. IsBeat rules_d y in subst P (same_Some (on_lanes manager b) x is) (held_d b manager le kept)
     each_d le (E b) x kept is = absurd cc
 
     each_e : client ≤ 64 → (line : Line) (x : BeatOf HeadE client) → is_kept_line client manager line ≡ true → beat_of_e client line ≡ Some x → IsBeat rules_e x
@@ -160,4 +157,4 @@ has_beats client manager lines t =
     each_e le (B b) x kept is = absurd cc
     each_e le (C b) x kept is = absurd cc
     each_e le (D b) x kept is = absurd cc
-    each_e le (E b) x kept is = let P : BeatOf HeadE client → Type 0 = λ y. IsBeat rules_e y in subst P (inside (on_lanes client b) x is) (held_e b client le kept)
+    each_e le (E b) x kept is = let P : BeatOf HeadE client → Type 0 = λ y. IsBeat rules_e y in subst P (same_Some (on_lanes client b) x is) (held_e b client le kept)

@@ -1,7 +1,8 @@
 -- A line in three parts: the head, the mask, data and corrupt; once for the form of every channel.
 use Rattle.std.proofs.Common.{◌≡◌, ℕ, ◌+◌, ◌*◌, ◌^◌, ◌<◌, ◌≤◌, Bool, true, false, cond, not, nat_eq, nat_lt, ◌&&◌, ◌||◌, List, [], ◌∷◌, ◌++◌, length, map, Option, Some, is_none, refl, sym, ap, ◌∙◌, arith, bit_or, length-append}
-use Rattle.std.proofs.lemmas.Bool.{lt-ltb, le-ltb, and_parts}
-use Rattle.std.proofs.lemmas.List.{map-append}
+use Rattle.std.proofs.Math.Bool.{and-true}
+use Rattle.std.proofs.lemmas.Bool.{lt-ltb, le-ltb, and_parts, and_from, or_left, or_right}
+use Rattle.std.proofs.lemmas.List.{map-append, length-map}
 use Rattle.std.proofs.lemmas.List.Folds.{list_any-append}
 use Rattle.std.proofs.lemmas.Nat.{pow_pos}
 use Rattle.std.specs.List.{list_all, list_any}
@@ -10,7 +11,7 @@ use Rattle.tl_trace.specs.Fields.{Field, length_of, opcode, param, size, source,
 use Rattle.tl_trace.specs.Lines.{is_plain}
 use Rattle.tl_trace.specs.Inner.Reading.{field_at, fields_from, is_head_field, head_value, is_head_in_range, IsNumber, IsPart, IsHead, IsHeadOf, mask_values, data_values}
 use Rattle.tl_trace.specs.declared.head_reader.HeadFields.{HeadFields}
-use Rattle.tl_trace.proofs.Shaped.{and_of, below}
+use Rattle.tl_trace.proofs.Shaped.{below}
 use Rattle.tl_trace.proofs.ReadDigits.{left_good, right_good, bad_or}
 
 -- ---- one part after the other
@@ -35,14 +36,6 @@ pub length_append : (w : ℕ) (xs ys : List Field) → length_of w (xs ++ ys) �
 length_append w [] ys = omega arith
 length_append w (x ∷ xs) ys = let rest = length_append w xs ys in omega (arith, rest)
 
-or_first : (x y : Bool) → x ≡ true → x || y ≡ true
-or_first true y e = refl
-or_first false y e = absurd cc
-
-or_second : (x y : Bool) → y ≡ true → x || y ≡ true
-or_second true y e = refl
-or_second false y e = e
-
 pub both_parts : (w : ℕ) (text : List ℕ) (at next : ℕ) (xs ys : List Field) (us vs : List ℕ) (bad bad' : ℕ) → next ≡ at + length_of w xs
     → IsPart w text at xs us bad → IsPart w text next ys vs bad' → IsPart w text at (xs ++ ys) (us ++ vs) (bit_or bad bad')
 both_parts w text at next xs ys us vs bad bad' there p q =
@@ -51,7 +44,7 @@ both_parts w text at next xs ys us vs bad bad' there p q =
       good = λ le. split ∙ ap (λ (os : List (Option ℕ)). os ++ fields_from w text next ys) (p.good (left_good bad bad' le))
           ∙ ap (λ (os : List (Option ℕ)). map Some us ++ os) (q.good (right_good bad bad' le)) ∙ sym (map-append Some us vs);
       none = λ lt. ap (list_any is_none) split ∙ list_any-append is_none (fields_from w text at xs) (fields_from w text next ys)
-          ∙ bad_or bad bad' lt (λ big. or_first _ _ (p.none big)) (λ big. or_second _ _ (q.none big));
+          ∙ bad_or bad bad' lt (λ big. or_left _ _ (p.none big)) (λ big. or_right _ _ (q.none big));
     }
 
 -- one field more
@@ -178,34 +171,22 @@ module _ {H : Type 0} (f : Form H) where
   below_append w (x ∷ xs) ys (u ∷ us) vs e =
       ap (λ (b : Bool). nat_lt u (values f w x) && b) (below_append w xs ys us vs (omega arith)) ∙ sym (and_and (nat_lt u (values f w x)) (below f w xs us) (below f w ys vs))
 
-  length_map : (g : Field → ℕ) (fs : List Field) → length (map g fs) ≡ length fs
-  length_map g [] = refl
-  length_map g (x ∷ fs) = let rest = length_map g fs in omega (arith, rest)
-
   mask_long : (m : ℕ) (b : Bool) → length {A = ℕ} (cond b (m ∷ []) []) ≡ length {A = Field} (cond b (mask ∷ []) [])
   mask_long m true = refl
   mask_long m false = refl
 
   lengths : (r : HeadFields) (m : ℕ) → length (map (head_value r) f.head_fields ++ mask_values f m) ≡ length (f.head_fields ++ mask_fields f)
-  lengths r m = grow (map (head_value r) f.head_fields) (mask_values f m) f.head_fields (mask_fields f) (length_map (head_value r) f.head_fields) (mask_long m f.rules.masked)
+  lengths r m = grow (map (head_value r) f.head_fields) (mask_values f m) f.head_fields (mask_fields f) (length-map f.head_fields (head_value r)) (mask_long m f.rules.masked)
     where
       grow : (us vs : List ℕ) (xs ys : List Field) → length us ≡ length xs → length vs ≡ length ys → length (us ++ vs) ≡ length (xs ++ ys)
       grow us vs xs ys e e' = omega (arith, length-append us vs, length-append xs ys, e, e')
 
   mask_test : (w m : ℕ) (b : Bool) → (b ≡ false → m ≡ 0) → below f w (cond b (mask ∷ []) []) (cond b (m ∷ []) []) ≡ nat_lt m (2 ^ w)
-  mask_test w m true none = and_true (nat_lt m (2 ^ w))
-    where
-      and_true : (x : Bool) → x && true ≡ x
-      and_true true = refl
-      and_true false = refl
+  mask_test w m true none = and-true (nat_lt m (2 ^ w))
   mask_test w m false none = sym (lt-ltb m (2 ^ w) (let zero = none refl in let most = pow_pos w in omega (arith, zero, most)))
 
   data_test : (w d c : ℕ) (b : Bool) → (b ≡ false → c ≡ 0) → d < 256 ^ w → below f w (cond b (data_lanes ∷ corrupt ∷ []) []) (cond b (d ∷ c ∷ []) []) ≡ nat_lt c 2
-  data_test w d c true none small = rw (lt-ltb d (256 ^ w) small) (and_true (nat_lt c 2))
-    where
-      and_true : (x : Bool) → x && true ≡ x
-      and_true true = refl
-      and_true false = refl
+  data_test w d c true none small = rw (lt-ltb d (256 ^ w) small) (and-true (nat_lt c 2))
   data_test w d c false none small = sym (lt-ltb c 2 (let zero = none refl in omega (arith, zero)))
 
   -- a line is in range where its head, its mask and corrupt are
@@ -213,7 +194,7 @@ module _ {H : Type 0} (f : Form H) where
       → below f w (fields f) (line_values r m d c) ≡ (is_head_in_range f r && nat_lt m (2 ^ w)) && nat_lt c 2
   line_range w r m d c heads no_mask no_data small =
       below_append w (f.head_fields ++ mask_fields f) (data_fields f) (map (head_value r) f.head_fields ++ mask_values f m) (data_values f d c) (lengths r m)
-      ∙ ap (λ (b : Bool). b && below f w (data_fields f) (data_values f d c)) (below_append w f.head_fields (mask_fields f) (map (head_value r) f.head_fields) (mask_values f m) (length_map (head_value r) f.head_fields)
+      ∙ ap (λ (b : Bool). b && below f w (data_fields f) (data_values f d c)) (below_append w f.head_fields (mask_fields f) (map (head_value r) f.head_fields) (mask_values f m) (length-map f.head_fields (head_value r))
       ∙ ap (λ (b : Bool). b && below f w (mask_fields f) (mask_values f m)) (head_below w r f.head_fields heads)
       ∙ ap (λ (b : Bool). is_head_in_range f r && b) (mask_test w m f.rules.masked no_mask))
       ∙ ap (λ (b : Bool). (is_head_in_range f r && nat_lt m (2 ^ w)) && b) (data_test w d c f.rules.corrupts no_data small)
@@ -236,7 +217,7 @@ module _ {H : Type 0} (f : Form H) where
       ∙ ap (λ (vs : List ℕ). (map (head_value r) f.head_fields ++ mask_values f b.mask) ++ vs) (data_said b f.rules.corrupts ∙ ap (λ (k : ℕ). cond f.rules.corrupts (number_of_lanes b.lanes ∷ k ∷ []) []) same)
 
   pub line_plain : {n : ℕ} (b : BeatOf H n) → (f.rules.masked ≡ false → b.mask ≡ 0) → (f.rules.corrupts ≡ false → (list_all (λ lane. nat_eq lane 0) b.lanes ≡ true) × (b.corrupt ≡ false)) → is_plain f b ≡ true
-  line_plain b no_mask no_data = and_of (f.rules.masked || nat_eq b.mask 0) (f.rules.corrupts || (list_all (λ lane. nat_eq lane 0) b.lanes && not b.corrupt)) (left f.rules.masked no_mask) (right f.rules.corrupts no_data)
+  line_plain b no_mask no_data = and_from (f.rules.masked || nat_eq b.mask 0) (f.rules.corrupts || (list_all (λ lane. nat_eq lane 0) b.lanes && not b.corrupt)) (left f.rules.masked no_mask) (right f.rules.corrupts no_data)
     where
       left : (t : Bool) → (t ≡ false → b.mask ≡ 0) → t || nat_eq b.mask 0 ≡ true
       left true none = refl

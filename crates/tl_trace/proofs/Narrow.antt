@@ -1,6 +1,6 @@
 -- A narrow beat, as a line of a trace keeps it.
 use Rattle.std.proofs.Common.{◌≡◌, ℕ, zero, suc, ◌+◌, ◌-◌, ◌*◌, ◌≤◌, Bool, true, false, nat_eq, nat_lt, ◌&&◌, ◌||◌, not, List, [], ◌∷◌, ◌++◌, length, map, take, replicate, refl, sym, ap, ◌∙◌, arith, eq-eqb, Some}
-use Rattle.std.proofs.lemmas.Bool.{eqb-true}
+use Rattle.std.proofs.lemmas.Bool.{eqb-true, and_parts, and_from}
 use Rattle.std.proofs.Math.Seq.{take-append_seam}
 use Rattle.std.proofs.lemmas.List.{length-append, length-replicate}
 use Rattle.std.proofs.lemmas.List.Folds.{list_all-append}
@@ -17,7 +17,6 @@ use Rattle.tl_trace.specs.Scripts.{on_lanes}
 use Rattle.tl_trace.specs.Inner.Reading.{IsRead, IsReadNear}
 use Rattle.tl_trace.specs.declared.line.Line.TheVariants.{A, B, C, D, E}
 use Rattle.tl_trace.specs.declared.near.Near.TheVariants.{OfA, OfB, OfC, OfD, OfE}
-use Rattle.tl_trace.proofs.Shaped.{and_of, first_of_and, second_of_and}
 use Rattle.tl_trace.proofs.ReadLines.{read_as_a, read_as_b, read_as_c, read_as_d, read_as_e}
 use Rattle.tl_trace.proofs.ReadDigits.{zero_bytes, zero_bits}
 
@@ -54,11 +53,11 @@ same_writable f w b (field ∷ fs) = rw (same_value f b field) (ap (λ (x : Bool
 
 wide_lanes : (n : ℕ) (lanes : List ℕ) → n ≤ 64 → is_lanes n lanes ≡ true → is_lanes 64 (lanes ++ replicate (64 - n) 0) ≡ true
 wide_lanes n lanes le e =
-    let long : length lanes ≡ n = eqb-true (length lanes) n (first_of_and (nat_eq (length lanes) n) (list_all (λ lane. nat_lt lane 256) lanes) e) in
-    let bytes = second_of_and (nat_eq (length lanes) n) (list_all (λ lane. nat_lt lane 256) lanes) e in
+    let long : length lanes ≡ n = eqb-true (length lanes) n (and_parts (nat_eq (length lanes) n) (list_all (λ lane. nat_lt lane 256) lanes) e).0 in
+    let bytes = (and_parts (nat_eq (length lanes) n) (list_all (λ lane. nat_lt lane 256) lanes) e).1 in
     let all : length (lanes ++ replicate (64 - n) 0) ≡ 64 = omega (arith, length-append lanes (replicate (64 - n) 0), length-replicate {A = ℕ} (64 - n) 0, long) in
-    and_of (nat_eq (length (lanes ++ replicate (64 - n) 0)) 64) (list_all (λ lane. nat_lt lane 256) (lanes ++ replicate (64 - n) 0)) (eq-eqb (length (lanes ++ replicate (64 - n) 0)) 64 all)
-    (list_all-append (λ lane. nat_lt lane 256) lanes (replicate (64 - n) 0) ∙ and_of (list_all (λ lane. nat_lt lane 256) lanes) (list_all (λ lane. nat_lt lane 256) (replicate (64 - n) 0)) bytes (zero_bytes (64 - n)))
+    and_from (nat_eq (length (lanes ++ replicate (64 - n) 0)) 64) (list_all (λ lane. nat_lt lane 256) (lanes ++ replicate (64 - n) 0)) (eq-eqb (length (lanes ++ replicate (64 - n) 0)) 64 all)
+    (list_all-append (λ lane. nat_lt lane 256) lanes (replicate (64 - n) 0) ∙ and_from (list_all (λ lane. nat_lt lane 256) lanes) (list_all (λ lane. nat_lt lane 256) (replicate (64 - n) 0)) bytes (zero_bytes (64 - n)))
 
 wide_zero : (lanes : List ℕ) (k : ℕ) → list_all (λ lane. nat_eq lane 0) (lanes ++ replicate k 0) ≡ list_all (λ lane. nat_eq lane 0) lanes
 wide_zero [] k = zero_bits k
@@ -69,18 +68,18 @@ wide_plain f {n} b = ap (λ (x : Bool). (f.rules.masked || nat_eq b.mask 0) && (
 
 pub widened : {H : Type 0} (f : Form H) (w : ℕ) (text : List ℕ) (b : BeatOf H w) → w ≤ 64 → IsRead f w text b → IsRead f w text (wide b)
 widened f w text b le r =
-    let lanes = first_of_and (is_lanes w b.lanes) (is_writable f w b && is_plain f b) r.kept in
-    let rest = second_of_and (is_lanes w b.lanes) (is_writable f w b && is_plain f b) r.kept in
-    let writable : is_writable f w (wide b) ≡ true = same_writable f w b (fields f) ∙ first_of_and (is_writable f w b) (is_plain f b) rest in
-    let plain : is_plain f (wide b) ≡ true = wide_plain f b ∙ second_of_and (is_writable f w b) (is_plain f b) rest in
+    let lanes = (and_parts (is_lanes w b.lanes) (is_writable f w b && is_plain f b) r.kept).0 in
+    let rest = (and_parts (is_lanes w b.lanes) (is_writable f w b && is_plain f b) r.kept).1 in
+    let writable : is_writable f w (wide b) ≡ true = same_writable f w b (fields f) ∙ (and_parts (is_writable f w b) (is_plain f b) rest).0 in
+    let plain : is_plain f (wide b) ≡ true = wide_plain f b ∙ (and_parts (is_writable f w b) (is_plain f b) rest).1 in
     record {
       line = record { letter = r.line.letter; long = r.line.long; shaped = r.line.shaped; says = r.line.says ∙ sym (same_values f b (fields f)) };
-      kept = and_of (is_lanes 64 (b.lanes ++ replicate (64 - w) 0)) (is_writable f w (wide b) && is_plain f (wide b)) (wide_lanes w b.lanes le lanes) (and_of (is_writable f w (wide b)) (is_plain f (wide b)) writable plain);
+      kept = and_from (is_lanes 64 (b.lanes ++ replicate (64 - w) 0)) (is_writable f w (wide b) && is_plain f (wide b)) (wide_lanes w b.lanes le lanes) (and_from (is_writable f w (wide b)) (is_plain f (wide b)) writable plain);
     }
 
 narrowed : {H : Type 0} (f : Form H) (w : ℕ) (text : List ℕ) (b : BeatOf H w) → IsRead f w text b → take w (b.lanes ++ replicate (64 - w) 0) ≡ b.lanes
 narrowed f w text b r =
-    let long : length b.lanes ≡ w = eqb-true (length b.lanes) w (first_of_and (nat_eq (length b.lanes) w) (list_all (λ lane. nat_lt lane 256) b.lanes) (first_of_and (is_lanes w b.lanes) (is_writable f w b && is_plain f b) r.kept)) in
+    let long : length b.lanes ≡ w = eqb-true (length b.lanes) w (and_parts (nat_eq (length b.lanes) w) (list_all (λ lane. nat_lt lane 256) b.lanes) (and_parts (is_lanes w b.lanes) (is_writable f w b && is_plain f b) r.kept).0).0 in
     ap (λ (k : ℕ). take k (b.lanes ++ replicate (64 - w) 0)) (sym long) ∙ take-append_seam b.lanes (replicate (64 - w) 0)
 
 same_beat : {H : Type 0} (f : Form H) (w : ℕ) (text : List ℕ) (b : BeatOf H w) → IsRead f w text b → b ≡ on_lanes w (wide b)

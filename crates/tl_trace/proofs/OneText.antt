@@ -1,11 +1,11 @@
 -- Each trace has exactly one text.
 use Rattle.std.proofs.Common.{◌≡◌, ℕ, true, List, [], ◌∷◌, ◌++◌, refl, ap, ◌∙◌, lit≤}
 use Rattle.std.specs.List.{list_all}
+use Rattle.std.proofs.lemmas.Bool.{and_parts}
 use Rattle.tl_trace.specs.Fields.{form_a, form_b, form_c, form_d, form_e}
 use Rattle.tl_trace.specs.Texts.{newline, header_text, SaysLine, is_kept_line, text_of_line, IsTrace, TellsLines, Tells, lines_text, trace_text}
 use Rattle.tl_trace.specs.declared.line.Line.{Line}
 use Rattle.tl_trace.specs.declared.line.Line.TheVariants.{A, B, C, D, E}
-use Rattle.tl_trace.proofs.Shaped.{first_of_and, second_of_and}
 use Rattle.tl_trace.proofs.ReadLines.{kept_writable}
 use Rattle.tl_trace.proofs.Spelling.{only_line, is_line}
 
@@ -34,8 +34,8 @@ lines_only client manager (line ∷ lines) text told =
 pub lines_told : (client manager : ℕ) (lines : List Line) → list_all (is_kept_line client manager) lines ≡ true → TellsLines client manager lines (lines_text client manager lines)
 lines_told client manager [] kept = refl
 lines_told client manager (line ∷ lines) kept =
-    let here = says_it client manager line (first_of_and (is_kept_line client manager line) (list_all (is_kept_line client manager) lines) kept) in
-    let rest = lines_told client manager lines (second_of_and (is_kept_line client manager line) (list_all (is_kept_line client manager) lines) kept) in
+    let here = says_it client manager line (and_parts (is_kept_line client manager line) (list_all (is_kept_line client manager) lines) kept).0 in
+    let rest = lines_told client manager lines (and_parts (is_kept_line client manager line) (list_all (is_kept_line client manager) lines) kept).1 in
     (text_of_line client manager line, lines_text client manager lines, refl, here, rest)
 
 pub text_only : (client manager : ℕ) (lines : List Line) (text : List ℕ) → Tells text client manager lines → text ≡ trace_text client manager lines

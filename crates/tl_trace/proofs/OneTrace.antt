@@ -1,7 +1,8 @@
 -- No text tells two traces.
 use Rattle.std.proofs.Common.{◌≡◌, ℕ, zero, suc, Bool, true, false, not, nat_eq, nat_lt, ◌&&◌, ◌||◌, List, [], ◌∷◌, ◌++◌, length, map, refl, sym, ap, ◌∙◌, arith, append_assoc, eq-eqb, subst}
+use Rattle.tl_msg.proofs.Beats.{same_beat}
 use Rattle.std.specs.Prelude.{decimal, codes, ◌==◌}
-use Rattle.std.proofs.lemmas.Bool.{eqb-true, ltb-true, not-true}
+use Rattle.std.proofs.lemmas.Bool.{eqb-true, ltb-true, not-true, and_parts, or_parts}
 use Rattle.std.proofs.lemmas.Fmt.{decimal_is_IsNumeral}
 use Rattle.std.specs.Fmt.{digits}
 use Rattle.std.specs.List.{list_all, list_any, slice_index}
@@ -17,7 +18,6 @@ use Rattle.tl_trace.specs.Lines.{is_lanes, IsLine, is_writable, is_plain, is_kep
 use Rattle.tl_trace.specs.Texts.{widths, is_width, newline, header_text, SaysLine, is_kept_line, TellsLines, Tells}
 use Rattle.tl_trace.specs.declared.line.Line.{Line}
 use Rattle.tl_trace.specs.declared.line.Line.TheVariants.{A, B, C, D, E}
-use Rattle.tl_trace.proofs.Shaped.{first_of_and, second_of_and, first_of_or, second_of_or}
 use Rattle.tl_trace.proofs.Headers.{width_small}
 use Rattle.tl_trace.proofs.Cover.{says_free}
 
@@ -36,20 +36,20 @@ not_stop b stop other e = sym other ∙ eq-eqb b stop e
 split_at : (stop : ℕ) (xs ys more more' : List ℕ) → xs ++ stop ∷ more ≡ ys ++ stop ∷ more' → Without stop xs → Without stop ys → Split xs ys more more'
 split_at stop [] [] more more' e none none' = record { front = refl; back = cc }
 split_at stop [] (y ∷ ys) more more' e none none' =
-    let same : y ≡ stop = cc in let bad = not_stop y stop (first_of_or (y == stop) (list_any (λ b. b == stop) ys) none') same in absurd cc
+    let same : y ≡ stop = cc in let bad = not_stop y stop (or_parts (y == stop) (list_any (λ b. b == stop) ys) none').0 same in absurd cc
 split_at stop (x ∷ xs) [] more more' e none none' =
-    let same : x ≡ stop = cc in let bad = not_stop x stop (first_of_or (x == stop) (list_any (λ b. b == stop) xs) none) same in absurd cc
+    let same : x ≡ stop = cc in let bad = not_stop x stop (or_parts (x == stop) (list_any (λ b. b == stop) xs) none).0 same in absurd cc
 split_at stop (x ∷ xs) (y ∷ ys) more more' e none none' =
     let same : x ≡ y = cc in
     let rest : xs ++ stop ∷ more ≡ ys ++ stop ∷ more' = cc in
-    let more_split = split_at stop xs ys more more' rest (second_of_or (x == stop) (list_any (λ b. b == stop) xs) none) (second_of_or (y == stop) (list_any (λ b. b == stop) ys) none') in
+    let more_split = split_at stop xs ys more more' rest (or_parts (x == stop) (list_any (λ b. b == stop) xs) none).1 (or_parts (y == stop) (list_any (λ b. b == stop) ys) none').1 in
     record { front = ap (λ (b : ℕ). b ∷ xs) same ∙ ap (λ (zs : List ℕ). y ∷ zs) more_split.front; back = more_split.back }
 
 -- ---- the header
 
 pub in_list : (p : ℕ → Bool) (xs : List ℕ) (w : ℕ) → list_any (λ x. w == x) xs ≡ true → list_all p xs ≡ true → p w ≡ true
 in_list p [] w e all = absurd cc
-in_list p (x ∷ xs) w e all = pick (w == x) refl e (first_of_and (p x) (list_all p xs) all) (in_list p xs w) (second_of_and (p x) (list_all p xs) all)
+in_list p (x ∷ xs) w e all = pick (w == x) refl e (and_parts (p x) (list_all p xs) all).0 (in_list p xs w) (and_parts (p x) (list_all p xs) all).1
   where
     pick : (b : Bool) → (w == x) ≡ b → b || list_any (λ y. w == y) xs ≡ true → p x ≡ true → (list_any (λ y. w == y) xs ≡ true → list_all p xs ≡ true → p w ≡ true) → list_all p xs ≡ true → p w ≡ true
     pick true is any here more rest = ap p (eqb-true w x is) ∙ here
@@ -102,38 +102,30 @@ lanes_same n [] (y ∷ ys) l l' b b' e = absurd (omega arith)
 lanes_same n (x ∷ xs) [] l l' b b' e = absurd (omega arith)
 lanes_same zero (x ∷ xs) (y ∷ ys) l l' b b' e = absurd (omega arith)
 lanes_same (suc n) (x ∷ xs) (y ∷ ys) l l' b b' e =
-    let small = ltb-true x 256 (first_of_and (nat_lt x 256) (list_all (λ lane. nat_lt lane 256) xs) b) in
-    let small' = ltb-true y 256 (first_of_and (nat_lt y 256) (list_all (λ lane. nat_lt lane 256) ys) b') in
+    let small = ltb-true x 256 (and_parts (nat_lt x 256) (list_all (λ lane. nat_lt lane 256) xs) b).0 in
+    let small' = ltb-true y 256 (and_parts (nat_lt y 256) (list_all (λ lane. nat_lt lane 256) ys) b').0 in
     let low : x ≡ y = omega arith in
     let rest : number_of_lanes xs ≡ number_of_lanes ys = omega arith in
-    let more = lanes_same n xs ys (omega arith) (omega arith) (second_of_and (nat_lt x 256) (list_all (λ lane. nat_lt lane 256) xs) b) (second_of_and (nat_lt y 256) (list_all (λ lane. nat_lt lane 256) ys) b') rest in
+    let more = lanes_same n xs ys (omega arith) (omega arith) (and_parts (nat_lt x 256) (list_all (λ lane. nat_lt lane 256) xs) b).1 (and_parts (nat_lt y 256) (list_all (λ lane. nat_lt lane 256) ys) b').1 rest in
     ap (λ (z : ℕ). z ∷ xs) low ∙ ap (λ (zs : List ℕ). y ∷ zs) more
 
 kept_lanes : {H : Type 0} (f : Form H) (w : ℕ) (x y : BeatOf H 64) → is_kept f w x ≡ true → is_kept f w y ≡ true → number_of_lanes x.lanes ≡ number_of_lanes y.lanes → x.lanes ≡ y.lanes
 kept_lanes f w x y kept kept' e =
-    let a = first_of_and (is_lanes 64 x.lanes) (is_writable f w x && is_plain f x) kept in
-    let b = first_of_and (is_lanes 64 y.lanes) (is_writable f w y && is_plain f y) kept' in
+    let a = (and_parts (is_lanes 64 x.lanes) (is_writable f w x && is_plain f x) kept).0 in
+    let b = (and_parts (is_lanes 64 y.lanes) (is_writable f w y && is_plain f y) kept').0 in
     lanes_same 64 x.lanes y.lanes
-    (eqb-true (length x.lanes) 64 (first_of_and (nat_eq (length x.lanes) 64) (list_all (λ lane. nat_lt lane 256) x.lanes) a))
-    (eqb-true (length y.lanes) 64 (first_of_and (nat_eq (length y.lanes) 64) (list_all (λ lane. nat_lt lane 256) y.lanes) b))
-    (second_of_and (nat_eq (length x.lanes) 64) (list_all (λ lane. nat_lt lane 256) x.lanes) a) (second_of_and (nat_eq (length y.lanes) 64) (list_all (λ lane. nat_lt lane 256) y.lanes) b) e
+    (eqb-true (length x.lanes) 64 (and_parts (nat_eq (length x.lanes) 64) (list_all (λ lane. nat_lt lane 256) x.lanes) a).0)
+    (eqb-true (length y.lanes) 64 (and_parts (nat_eq (length y.lanes) 64) (list_all (λ lane. nat_lt lane 256) y.lanes) b).0)
+    (and_parts (nat_eq (length x.lanes) 64) (list_all (λ lane. nat_lt lane 256) x.lanes) a).1 (and_parts (nat_eq (length y.lanes) 64) (list_all (λ lane. nat_lt lane 256) y.lanes) b).1 e
 
 pub plain_of : {H : Type 0} (f : Form H) (w : ℕ) (x : BeatOf H 64) → is_kept f w x ≡ true → is_plain f x ≡ true
-plain_of f w x kept = second_of_and (is_writable f w x) (is_plain f x) (second_of_and (is_lanes 64 x.lanes) (is_writable f w x && is_plain f x) kept)
+plain_of f w x kept = (and_parts (is_writable f w x) (is_plain f x) (and_parts (is_lanes 64 x.lanes) (is_writable f w x && is_plain f x) kept).1).1
 
 bit_same : (x y : Bool) → bit x ≡ bit y → x ≡ y
 bit_same true true e = refl
 bit_same true false e = absurd (omega arith)
 bit_same false true e = absurd (omega arith)
 bit_same false false e = refl
-
-beat_same : {H : Type 0} (x y : BeatOf H 64) → x.head ≡ y.head → x.mask ≡ y.mask → x.lanes ≡ y.lanes → x.corrupt ≡ y.corrupt → x ≡ y
-beat_same {H} x y h m l c =
-    let e1 : x ≡ record { head = y.head; mask = x.mask; lanes = x.lanes; corrupt = x.corrupt } = ap (λ (z : H). let b : BeatOf H 64 = record { head = z; mask = x.mask; lanes = x.lanes; corrupt = x.corrupt } in b) h in
-    let e2 : record { head = y.head; mask = x.mask; lanes = x.lanes; corrupt = x.corrupt } ≡ record { head = y.head; mask = y.mask; lanes = x.lanes; corrupt = x.corrupt } = ap (λ (z : ℕ). let b : BeatOf H 64 = record { head = y.head; mask = z; lanes = x.lanes; corrupt = x.corrupt } in b) m in
-    let e3 : record { head = y.head; mask = y.mask; lanes = x.lanes; corrupt = x.corrupt } ≡ record { head = y.head; mask = y.mask; lanes = y.lanes; corrupt = x.corrupt } = ap (λ (z : List ℕ). let b : BeatOf H 64 = record { head = y.head; mask = y.mask; lanes = z; corrupt = x.corrupt } in b) l in
-    let e4 : record { head = y.head; mask = y.mask; lanes = y.lanes; corrupt = x.corrupt } ≡ y = ap (λ (z : Bool). let b : BeatOf H 64 = record { head = y.head; mask = y.mask; lanes = y.lanes; corrupt = z } in b) c in
-    e1 ∙ e2 ∙ e3 ∙ e4
 
 same_values : {H : Type 0} (f : Form H) (w : ℕ) (x y : BeatOf H 64) (text : List ℕ) → IsLine f w x text → IsLine f w y text → map (value_of f x) (fields f) ≡ map (value_of f y) (fields f)
 same_values f w x y text a b = sym a.says ∙ b.says
@@ -184,16 +176,16 @@ same_8 x0 x1 x2 x3 x4 x5 x6 x7 y0 y1 y2 y3 y4 y5 y6 y7 e = (cc, cc, cc, cc, cc, 
 line_a : (w : ℕ) (x y : BeatOf HeadA 64) (text : List ℕ) → is_kept form_a w x ≡ true → is_kept form_a w y ≡ true → IsLine form_a w x text → IsLine form_a w y text → x ≡ y
 line_a w x y text kept kept' a b =
     let v = same_8 _ _ _ _ _ _ _ _ _ _ _ _ _ _ _ _ (same_values form_a w x y text a b) in
-    beat_same x y (head_a x.head y.head v.0 v.1 v.2 v.3 v.4) v.5 (kept_lanes form_a w x y kept kept' v.6) (bit_same x.corrupt y.corrupt v.7)
+    same_beat x y (head_a x.head y.head v.0 v.1 v.2 v.3 v.4) v.5 (kept_lanes form_a w x y kept kept' v.6) (bit_same x.corrupt y.corrupt v.7)
 
 line_b : (w : ℕ) (x y : BeatOf HeadB 64) (text : List ℕ) → is_kept form_b w x ≡ true → is_kept form_b w y ≡ true → IsLine form_b w x text → IsLine form_b w y text → x ≡ y
 line_b w x y text kept kept' a b =
     let v = same_8 _ _ _ _ _ _ _ _ _ _ _ _ _ _ _ _ (same_values form_b w x y text a b) in
-    beat_same x y (head_b x.head y.head v.0 v.1 v.2 v.3 v.4) v.5 (kept_lanes form_b w x y kept kept' v.6) (bit_same x.corrupt y.corrupt v.7)
+    same_beat x y (head_b x.head y.head v.0 v.1 v.2 v.3 v.4) v.5 (kept_lanes form_b w x y kept kept' v.6) (bit_same x.corrupt y.corrupt v.7)
 
 mask_zero : (masked : Bool) (mask : ℕ) (other : Bool) → masked ≡ false → (masked || nat_eq mask 0) && other ≡ true → mask ≡ 0
 mask_zero true mask other e h = absurd cc
-mask_zero false mask other e h = eqb-true mask 0 (first_of_and (nat_eq mask 0) other h)
+mask_zero false mask other e h = eqb-true mask 0 (and_parts (nat_eq mask 0) other h).0
 
 no_mask : {H : Type 0} (f : Form H) (w : ℕ) (x y : BeatOf H 64) → is_kept f w x ≡ true → is_kept f w y ≡ true → f.rules.masked ≡ false → x.mask ≡ y.mask
 no_mask f w x y kept kept' e =
@@ -203,31 +195,31 @@ no_mask f w x y kept kept' e =
 line_c : (w : ℕ) (x y : BeatOf HeadC 64) (text : List ℕ) → is_kept form_c w x ≡ true → is_kept form_c w y ≡ true → IsLine form_c w x text → IsLine form_c w y text → x ≡ y
 line_c w x y text kept kept' a b =
     let v = same_7 _ _ _ _ _ _ _ _ _ _ _ _ _ _ (same_values form_c w x y text a b) in
-    beat_same x y (head_c x.head y.head v.0 v.1 v.2 v.3 v.4) (no_mask form_c w x y kept kept' refl) (kept_lanes form_c w x y kept kept' v.5) (bit_same x.corrupt y.corrupt v.6)
+    same_beat x y (head_c x.head y.head v.0 v.1 v.2 v.3 v.4) (no_mask form_c w x y kept kept' refl) (kept_lanes form_c w x y kept kept' v.5) (bit_same x.corrupt y.corrupt v.6)
 
 line_d : (w : ℕ) (x y : BeatOf HeadD 64) (text : List ℕ) → is_kept form_d w x ≡ true → is_kept form_d w y ≡ true → IsLine form_d w x text → IsLine form_d w y text → x ≡ y
 line_d w x y text kept kept' a b =
     let v = same_8 _ _ _ _ _ _ _ _ _ _ _ _ _ _ _ _ (same_values form_d w x y text a b) in
-    beat_same x y (head_d x.head y.head v.0 v.1 v.2 v.3 v.4 (bit_same x.head.denied y.head.denied v.5)) (no_mask form_d w x y kept kept' refl) (kept_lanes form_d w x y kept kept' v.6) (bit_same x.corrupt y.corrupt v.7)
+    same_beat x y (head_d x.head y.head v.0 v.1 v.2 v.3 v.4 (bit_same x.head.denied y.head.denied v.5)) (no_mask form_d w x y kept kept' refl) (kept_lanes form_d w x y kept kept' v.6) (bit_same x.corrupt y.corrupt v.7)
 
 no_lanes : (lanes : List ℕ) → list_all (λ lane. nat_eq lane 0) lanes ≡ true → number_of_lanes lanes ≡ 0
 no_lanes [] e = refl
 no_lanes (lane ∷ lanes) e =
-    let here : lane ≡ 0 = eqb-true lane 0 (first_of_and (nat_eq lane 0) (list_all (λ lane. nat_eq lane 0) lanes) e) in
-    let rest = no_lanes lanes (second_of_and (nat_eq lane 0) (list_all (λ lane. nat_eq lane 0) lanes) e) in
+    let here : lane ≡ 0 = eqb-true lane 0 (and_parts (nat_eq lane 0) (list_all (λ lane. nat_eq lane 0) lanes) e).0 in
+    let rest = no_lanes lanes (and_parts (nat_eq lane 0) (list_all (λ lane. nat_eq lane 0) lanes) e).1 in
     omega arith
 
 plain_e : (w : ℕ) (x : BeatOf HeadE 64) → is_kept form_e w x ≡ true → (list_all (λ lane. nat_eq lane 0) x.lanes ≡ true) × (x.corrupt ≡ false)
 plain_e w x kept =
-    let plain = second_of_and (nat_eq x.mask 0) (list_all (λ lane. nat_eq lane 0) x.lanes && not x.corrupt) (plain_of form_e w x kept) in
-    (first_of_and (list_all (λ lane. nat_eq lane 0) x.lanes) (not x.corrupt) plain, not-true x.corrupt (second_of_and (list_all (λ lane. nat_eq lane 0) x.lanes) (not x.corrupt) plain))
+    let plain = (and_parts (nat_eq x.mask 0) (list_all (λ lane. nat_eq lane 0) x.lanes && not x.corrupt) (plain_of form_e w x kept)).1 in
+    ((and_parts (list_all (λ lane. nat_eq lane 0) x.lanes) (not x.corrupt) plain).0, not-true x.corrupt (and_parts (list_all (λ lane. nat_eq lane 0) x.lanes) (not x.corrupt) plain).1)
 
 line_e : (w : ℕ) (x y : BeatOf HeadE 64) (text : List ℕ) → is_kept form_e w x ≡ true → is_kept form_e w y ≡ true → IsLine form_e w x text → IsLine form_e w y text → x ≡ y
 line_e w x y text kept kept' a b =
     let v : x.head.sink ∷ [] ≡ y.head.sink ∷ [] = same_values form_e w x y text a b in
     let px = plain_e w x kept in
     let py = plain_e w y kept' in
-    beat_same x y (head_e x.head y.head cc) (no_mask form_e w x y kept kept' refl) (kept_lanes form_e w x y kept kept' (no_lanes x.lanes px.0 ∙ sym (no_lanes y.lanes py.0))) (px.1 ∙ sym py.1)
+    same_beat x y (head_e x.head y.head cc) (no_mask form_e w x y kept kept' refl) (kept_lanes form_e w x y kept kept' (no_lanes x.lanes px.0 ∙ sym (no_lanes y.lanes py.0))) (px.1 ∙ sym py.1)
 
 letter_of : Line → ℕ
 letter_of (A b) = 65
@@ -273,8 +265,8 @@ lines_same client manager (line ∷ lines) (line' ∷ lines') text kept kept' to
     let says' = subst P (sym parts.front) told'.3 in
     let Q : List ℕ → Type 0 = TellsLines client manager lines' in
     let rest' = subst Q (sym parts.back) told'.4 in
-    let here = line_same client manager line line' told.0 (first_of_and (is_kept_line client manager line) (list_all (is_kept_line client manager) lines) kept) (first_of_and (is_kept_line client manager line') (list_all (is_kept_line client manager) lines') kept') told.3 says' (same_letter client manager line line' told.0 told.3 says') in
-    let more = lines_same client manager lines lines' told.1 (second_of_and (is_kept_line client manager line) (list_all (is_kept_line client manager) lines) kept) (second_of_and (is_kept_line client manager line') (list_all (is_kept_line client manager) lines') kept') told.4 rest' in
+    let here = line_same client manager line line' told.0 (and_parts (is_kept_line client manager line) (list_all (is_kept_line client manager) lines) kept).0 (and_parts (is_kept_line client manager line') (list_all (is_kept_line client manager) lines') kept').0 told.3 says' (same_letter client manager line line' told.0 told.3 says') in
+    let more = lines_same client manager lines lines' told.1 (and_parts (is_kept_line client manager line) (list_all (is_kept_line client manager) lines) kept).1 (and_parts (is_kept_line client manager line') (list_all (is_kept_line client manager) lines') kept').1 told.4 rest' in
     ap (λ (l : Line). l ∷ lines) here ∙ ap (λ (ls : List Line). line' ∷ ls) more
 
 pub one_trace : (text : List ℕ) (client manager : ℕ) (lines : List Line) (client' manager' : ℕ) (lines' : List Line) → Tells text client manager lines → Tells text client' manager' lines'

@@ -1,11 +1,10 @@
 -- The two digits of a lane.
 use Rattle.std.proofs.Common.{◌≡◌, ℕ, zero, suc, ◌+◌, ◌-◌, ◌*◌, ◌/◌, ◌%◌, ◌<◌, true, nat_eq, nat_lt, List, [], ◌∷◌, ◌++◌, length, get_or, refl, ap, ◌∙◌, arith}
-use Rattle.std.proofs.lemmas.Bool.{eqb-true, ltb-true}
+use Rattle.std.proofs.lemmas.Bool.{eqb-true, ltb-true, and_parts}
 use Rattle.std.specs.List.{list_all, slice_index}
 use Rattle.std.specs.Char.{digit_value, digit_char}
 use Rattle.tl_trace.specs.Fields.{number_of_lanes}
 use Rattle.tl_trace.specs.Lines.{hex, is_lanes}
-use Rattle.tl_trace.proofs.Shaped.{first_of_and, second_of_and}
 use Rattle.tl_trace.proofs.HexText.{length-hex, two_digits}
 use Rattle.tl_trace.proofs.Spelling.{digit_back}
 
@@ -31,7 +30,7 @@ pub pairs : (w l : ℕ) (lanes : List ℕ) → length lanes ≡ w → list_all (
 pairs zero l lanes long bytes lt = absurd (omega arith)
 pairs (suc w) l [] long bytes lt = absurd (omega arith)
 pairs (suc w) zero (lane ∷ lanes) long bytes lt =
-    let small = ltb-true lane 256 (first_of_and (nat_lt lane 256) (list_all (λ lane. nat_lt lane 256) lanes) bytes) in
+    let small = ltb-true lane 256 (and_parts (nat_lt lane 256) (list_all (λ lane. nat_lt lane 256) lanes) bytes).0 in
     let rest = hex (2 * w) (number_of_lanes lanes) in
     let high = digit_char (lane / 16 % 16) in
     let low = digit_char (lane % 16) in
@@ -44,7 +43,7 @@ pairs (suc w) zero (lane ∷ lanes) long bytes lt =
     ∙ ap (λ (d : ℕ). digit_value d * 16 + digit_value (slice_index (rest ++ high ∷ low ∷ []) (2 * w + 1))) two.0
     ∙ ap (λ (d : ℕ). digit_value high * 16 + digit_value d) two.1 ∙ omega (arith, above, below)
 pairs (suc w) (suc l) (lane ∷ lanes) long bytes lt =
-    let small = ltb-true lane 256 (first_of_and (nat_lt lane 256) (list_all (λ lane. nat_lt lane 256) lanes) bytes) in
+    let small = ltb-true lane 256 (and_parts (nat_lt lane 256) (list_all (λ lane. nat_lt lane 256) lanes) bytes).0 in
     let rest = hex (2 * w) (number_of_lanes lanes) in
     let high = digit_char (lane / 16 % 16) in
     let low = digit_char (lane % 16) in
@@ -57,8 +56,8 @@ pairs (suc w) (suc l) (lane ∷ lanes) long bytes lt =
     ∙ ap (λ (k : ℕ). pair_at (rest ++ high ∷ low ∷ []) k) place
     ∙ ap (λ (d : ℕ). digit_value d * 16 + digit_value (slice_index (rest ++ high ∷ low ∷ []) (i + 1))) first
     ∙ ap (λ (d : ℕ). digit_value (slice_index rest i) * 16 + digit_value d) second
-    ∙ pairs w l lanes (omega arith) (second_of_and (nat_lt lane 256) (list_all (λ lane. nat_lt lane 256) lanes) bytes) (omega arith)
+    ∙ pairs w l lanes (omega arith) (and_parts (nat_lt lane 256) (list_all (λ lane. nat_lt lane 256) lanes) bytes).1 (omega arith)
 
 pub by_pairs : (w l : ℕ) (lanes : List ℕ) → is_lanes w lanes ≡ true → l < w → pair_at (hex (2 * w) (number_of_lanes lanes)) (2 * (w - 1 - l)) ≡ get_or lanes l 0
 by_pairs w l lanes is lt =
-    pairs w l lanes (eqb-true (length lanes) w (first_of_and (nat_eq (length lanes) w) (list_all (λ lane. nat_lt lane 256) lanes) is)) (second_of_and (nat_eq (length lanes) w) (list_all (λ lane. nat_lt lane 256) lanes) is) lt
+    pairs w l lanes (eqb-true (length lanes) w (and_parts (nat_eq (length lanes) w) (list_all (λ lane. nat_lt lane 256) lanes) is).0) (and_parts (nat_eq (length lanes) w) (list_all (λ lane. nat_lt lane 256) lanes) is).1 lt

@@ -15,10 +15,9 @@ use Rattle.tl_trace.specs.Texts.{newline}
 use Rattle.tl_trace.specs.Faults.{is_newline, body}
 use Rattle.tl_trace.proofs.ReadLines.{SoFar, IsFree, body_last}
 use Rattle.tl_trace.proofs.Walk.{advance, free_line, split_line, last_line}
-use Rattle.std.proofs.lemmas.Bool.{cases_eq}
+use Rattle.std.proofs.lemmas.Bool.{cases_eq, or_parts}
 use Rattle.std.specs.List.{list_any}
 use Rattle.std.proofs.Common.{inl, inr}
-use Rattle.tl_trace.proofs.Shaped.{first_of_or, second_of_or}
 
 -- what has been read of a text
 pub record Progress {C M : ℕ} (text : List ℕ) (start : ℕ) (s : Script C M) (at before : ℕ) : Type 0 where
@@ -75,8 +74,8 @@ on_ok (Err x) p e = absurd cc
 body_more : (line more : List ℕ) → IsFree line → body (line ++ newline ++ more) ≡ line
 body_more [] more free = refl
 body_more (byte ∷ line) more free =
-    let no : is_newline byte ≡ false = first_of_or (is_newline byte) (list_any is_newline line) free in
-    rw no (ap (λ (xs : List ℕ). byte ∷ xs) (body_more line more (second_of_or (is_newline byte) (list_any is_newline line) free)))
+    let no : is_newline byte ≡ false = (or_parts (is_newline byte) (list_any is_newline line) free).0 in
+    rw no (ap (λ (xs : List ℕ). byte ∷ xs) (body_more line more (or_parts (is_newline byte) (list_any is_newline line) free).1))
 
 -- the first line of a text without its end
 pub first_line : (text : List ℕ) (end : ℕ) → LineAt text 0 end → body text ≡ slice_range text 0 end

@@ -1,7 +1,7 @@
 -- Numbers read without a test of each digit: a bad digit shows in the bits above the lowest four.
 use Rattle.std.proofs.Common.{◌≡◌, ℕ, zero, suc, ◌+◌, ◌-◌, ◌*◌, ◌%◌, ◌^◌, ◌<◌, ◌≤◌, Bool, true, false, cond, nat_eq, nat_lt, List, [], ◌∷◌, length, get_or, set, take, drop, replicate, Option, Some, None, refl, sym, ap, ◌∙◌, add-one, arith, eq-eqb, subst, bit_or}
 use Rattle.std.proofs.Math.Nat.{pow-suc}
-use Rattle.std.proofs.lemmas.Bool.{eqb-true, lt-ltb, ltb-true, ltb-false}
+use Rattle.std.proofs.lemmas.Bool.{eqb-true, lt-ltb, ltb-true, ltb-false, and_parts, and_from}
 use Rattle.std.proofs.lemmas.Nat.{le_or_l, le_or_r, or_lt}
 use Rattle.std.proofs.lemmas.List.{length-set, length-replicate, length-take-le, length-drop}
 use Rattle.std.specs.List.{list_all, slice_range, slice_index}
@@ -10,7 +10,6 @@ use Rattle.tl_trace.specs.Fields.{number_of_lanes}
 use Rattle.tl_trace.specs.Lines.{is_hex, is_lanes}
 use Rattle.tl_trace.specs.Inner.Reading.{digit_of, number_of, field_at, IsNumber}
 use Rattle.tl_trace.proofs.HexDigits.{room, wider, step, fails, is_done}
-use Rattle.tl_trace.proofs.Shaped.{and_of, first_of_and, second_of_and}
 
 -- ---- bad digits
 
@@ -121,9 +120,9 @@ drop_set (lane ∷ lanes) (suc i) v lt = drop_set lanes i v (omega arith)
 
 pub bytes_set : (lanes : List ℕ) (i v : ℕ) → v < 256 → list_all (λ lane. nat_lt lane 256) lanes ≡ true → list_all (λ lane. nat_lt lane 256) (set lanes i v) ≡ true
 bytes_set [] i v lt e = refl
-bytes_set (lane ∷ lanes) zero v lt e = and_of (nat_lt v 256) (list_all (λ lane. nat_lt lane 256) lanes) (lt-ltb v 256 lt) (second_of_and (nat_lt lane 256) (list_all (λ lane. nat_lt lane 256) lanes) e)
-bytes_set (lane ∷ lanes) (suc i) v lt e = and_of (nat_lt lane 256) (list_all (λ lane. nat_lt lane 256) (set lanes i v)) (first_of_and (nat_lt lane 256) (list_all (λ lane. nat_lt lane 256) lanes) e)
-    (bytes_set lanes i v lt (second_of_and (nat_lt lane 256) (list_all (λ lane. nat_lt lane 256) lanes) e))
+bytes_set (lane ∷ lanes) zero v lt e = and_from (nat_lt v 256) (list_all (λ lane. nat_lt lane 256) lanes) (lt-ltb v 256 lt) (and_parts (nat_lt lane 256) (list_all (λ lane. nat_lt lane 256) lanes) e).1
+bytes_set (lane ∷ lanes) (suc i) v lt e = and_from (nat_lt lane 256) (list_all (λ lane. nat_lt lane 256) (set lanes i v)) (and_parts (nat_lt lane 256) (list_all (λ lane. nat_lt lane 256) lanes) e).0
+    (bytes_set lanes i v lt (and_parts (nat_lt lane 256) (list_all (λ lane. nat_lt lane 256) lanes) e).1)
 
 pub zero_bytes : (n : ℕ) → list_all (λ lane. nat_lt lane 256) (replicate n 0) ≡ true
 zero_bytes zero = refl
@@ -161,8 +160,8 @@ pub record Lanes (text lanes : List ℕ) (n at w i bad : ℕ) : Type 0 where
 pub lanes_start : (text lanes : List ℕ) (n at w bad : ℕ) → is_lanes n lanes ≡ true → number_of_lanes lanes ≡ 0 → bad ≡ cond (nat_eq (slice_index text at) 32) 0 16 → Lanes text lanes n at w 0 bad
 lanes_start text lanes n at w bad all dark is =
     let s = spaced text at (2 * w) bad is in
-    let long : length lanes ≡ n = eqb-true (length lanes) n (first_of_and (nat_eq (length lanes) n) (list_all (λ lane. nat_lt lane 256) lanes) all) in
-    let bytes = second_of_and (nat_eq (length lanes) n) (list_all (λ lane. nat_lt lane 256) lanes) all in
+    let long : length lanes ≡ n = eqb-true (length lanes) n (and_parts (nat_eq (length lanes) n) (list_all (λ lane. nat_lt lane 256) lanes) all).0 in
+    let bytes = (and_parts (nat_eq (length lanes) n) (list_all (λ lane. nat_lt lane 256) lanes) all).1 in
     let whole : w - 0 ≡ w = omega arith in
     let none : number_of_lanes (drop (w - 0) lanes) ≡ 0 = ap (λ (k : ℕ). number_of_lanes (drop k lanes)) whole ∙ zero_lanes lanes w dark in
     record { long = long; bytes = bytes; space = s.0; laid = λ le. record { small = omega (arith, none); good = refl; value = none }; spoilt = s.1 }

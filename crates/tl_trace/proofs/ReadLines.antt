@@ -1,6 +1,7 @@
 -- A later line, and the walk over the lines of a text.
-use Rattle.std.proofs.Common.{◌≡◌, ◌≢◌, ℕ, zero, suc, ◌+◌, ◌<◌, ◌≤◌, Bool, true, false, ◌&&◌, ◌||◌, List, [], ◌∷◌, ◌++◌, length, map, get_or, take, drop, replicate, Option, Some, None, is_none, refl, sym, ap, ◌∙◌, arith, append_assoc, append-nil, add-one}
+use Rattle.std.proofs.Common.{◌≡◌, ◌≢◌, ℕ, zero, suc, ◌+◌, ◌<◌, ◌≤◌, true, false, ◌&&◌, List, [], ◌∷◌, ◌++◌, length, map, get_or, take, drop, replicate, Option, Some, None, is_none, refl, sym, ap, ◌∙◌, arith, append_assoc, append-nil, add-one}
 use Rattle.std.specs.List.{list_all, list_any, slice_range, slice_get}
+use Rattle.std.proofs.lemmas.Bool.{and_parts, or_parts, or_right}
 use Rattle.tl_msg.specs.declared.beat.BeatOf.{BeatOf}
 use Rattle.tl_msg.specs.declared.head.HeadA.{HeadA}
 use Rattle.tl_msg.specs.declared.head.HeadB.{HeadB}
@@ -16,10 +17,10 @@ use Rattle.tl_trace.specs.declared.line.Line.{Line}
 use Rattle.tl_trace.specs.declared.line.Line.TheVariants.{A, B, C, D, E}
 use Rattle.tl_trace.specs.declared.fault.TraceKind.{TraceKind}
 use Rattle.tl_trace.specs.declared.fault.TraceKind.TheVariants.{NoEnd}
-use Rattle.tl_trace.proofs.Shaped.{first_of_and, second_of_and, faultless, first_of_or, second_of_or}
+use Rattle.tl_trace.proofs.Shaped.{faultless}
 
 pub kept_writable : {H : Type 0} (f : Form H) {n : ℕ} (w : ℕ) (b : BeatOf H n) → is_kept f w b ≡ true → is_writable f w b ≡ true
-kept_writable f {n} w b kept = first_of_and (is_writable f w b) (is_plain f b) (second_of_and (is_lanes n b.lanes) (is_writable f w b && is_plain f b) kept)
+kept_writable f {n} w b kept = (and_parts (is_writable f w b) (is_plain f b) (and_parts (is_lanes n b.lanes) (is_writable f w b && is_plain f b) kept).1).0
 
 pub read_as_a : (client manager : ℕ) (text : List ℕ) (b : BeatOf HeadA 64) → IsRead form_a client text b → IsReadLine client manager text (A b)
 read_as_a client manager text b r = record { says = r.line; kept = r.kept; faultless = rw r.line.letter (faultless form_a client b text r.line (kept_writable form_a client b r.kept)) }
@@ -45,36 +46,32 @@ IsFree bytes = list_any is_newline bytes ≡ false
 pub cut_line : (line more : List ℕ) → IsFree line → cut (line ++ newline ++ more) ≡ (line ++ newline) ∷ cut more
 cut_line [] more free = refl
 cut_line (byte ∷ line) more free =
-    let no : is_newline byte ≡ false = first_of_or (is_newline byte) (list_any is_newline line) free in
-    let rest = cut_line line more (second_of_or (is_newline byte) (list_any is_newline line) free) in
+    let no : is_newline byte ≡ false = (or_parts (is_newline byte) (list_any is_newline line) free).0 in
+    let rest = cut_line line more (or_parts (is_newline byte) (list_any is_newline line) free).1 in
     rw (no, rest) refl
 
 pub cut_last : (byte : ℕ) (line : List ℕ) → IsFree (byte ∷ line) → cut (byte ∷ line) ≡ (byte ∷ line) ∷ []
-cut_last byte [] free = let no : is_newline byte ≡ false = first_of_or (is_newline byte) false free in rw no refl
+cut_last byte [] free = let no : is_newline byte ≡ false = (or_parts (is_newline byte) false free).0 in rw no refl
 cut_last byte (next ∷ line) free =
-    let no : is_newline byte ≡ false = first_of_or (is_newline byte) (list_any is_newline (next ∷ line)) free in
-    let rest = cut_last next line (second_of_or (is_newline byte) (list_any is_newline (next ∷ line)) free) in
+    let no : is_newline byte ≡ false = (or_parts (is_newline byte) (list_any is_newline (next ∷ line)) free).0 in
+    let rest = cut_last next line (or_parts (is_newline byte) (list_any is_newline (next ∷ line)) free).1 in
     rw no (ap (onto_first byte) rest)
 
 pub body_line : (line : List ℕ) → IsFree line → body (line ++ newline) ≡ line
 body_line [] free = refl
 body_line (byte ∷ line) free =
-    let no : is_newline byte ≡ false = first_of_or (is_newline byte) (list_any is_newline line) free in
-    rw no (ap (λ (xs : List ℕ). byte ∷ xs) (body_line line (second_of_or (is_newline byte) (list_any is_newline line) free)))
+    let no : is_newline byte ≡ false = (or_parts (is_newline byte) (list_any is_newline line) free).0 in
+    rw no (ap (λ (xs : List ℕ). byte ∷ xs) (body_line line (or_parts (is_newline byte) (list_any is_newline line) free).1))
 
 pub body_last : (line : List ℕ) → IsFree line → body line ≡ line
 body_last [] free = refl
 body_last (byte ∷ line) free =
-    let no : is_newline byte ≡ false = first_of_or (is_newline byte) (list_any is_newline line) free in
-    rw no (ap (λ (xs : List ℕ). byte ∷ xs) (body_last line (second_of_or (is_newline byte) (list_any is_newline line) free)))
+    let no : is_newline byte ≡ false = (or_parts (is_newline byte) (list_any is_newline line) free).0 in
+    rw no (ap (λ (xs : List ℕ). byte ∷ xs) (body_last line (or_parts (is_newline byte) (list_any is_newline line) free).1))
 
 has_end : (line : List ℕ) → list_any is_newline (line ++ newline) ≡ true
 has_end [] = refl
-has_end (byte ∷ line) = or_true (is_newline byte) (list_any is_newline (line ++ newline)) (has_end line)
-  where
-    or_true : (x y : Bool) → y ≡ true → x || y ≡ true
-    or_true true y e = refl
-    or_true false y e = e
+has_end (byte ∷ line) = or_right (is_newline byte) (list_any is_newline (line ++ newline)) (has_end line)
 
 pub ended : (line : List ℕ) → end_fault (line ++ newline) ≡ None
 ended line = rw (has_end line) refl

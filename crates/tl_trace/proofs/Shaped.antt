@@ -1,6 +1,6 @@
 -- From the fields of a line to what the line says, once for the form of every channel.
 use Rattle.std.proofs.Common.{◌≡◌, ◌≢◌, ℕ, zero, suc, ◌+◌, ◌≤◌, Bool, true, false, cond, nat_eq, nat_lt, ◌&&◌, ◌||◌, List, [], ◌∷◌, length, map, Option, Some, None, is_none, refl, sym, ap, ◌∙◌, arith, eq-eqb}
-use Rattle.std.proofs.lemmas.Bool.{or_parts}
+use Rattle.std.proofs.lemmas.Bool.{and_from, and_left, and_right}
 use Rattle.std.specs.List.{list_all, list_any, slice_index}
 use Rattle.tl_msg.specs.declared.beat.BeatOf.{BeatOf}
 use Rattle.tl_trace.specs.declared.fault.TraceKind.TheVariants.{Length, Shape, Range}
@@ -8,30 +8,6 @@ use Rattle.tl_trace.specs.Fields.{Field, Form, bit, digit_count, fields, values,
 use Rattle.tl_trace.specs.Lines.{FieldPlace, places_from, places, is_hex, digits_at, is_shaped_at, value_at, is_in_range, is_lanes, IsLine, is_writable, is_plain}
 use Rattle.tl_trace.specs.Faults.{form_fault}
 use Rattle.tl_trace.specs.Inner.Reading.{number_of, field_at, fields_from, IsRead}
-
-pub and_of : (x y : Bool) → x ≡ true → y ≡ true → x && y ≡ true
-and_of true true e e' = refl
-and_of true false e e' = e'
-and_of false y e e' = e
-
-pub first_of_or : (x y : Bool) → x || y ≡ false → x ≡ false
-first_of_or x y e = (or_parts x y e).0
-
-pub second_of_or : (x y : Bool) → x || y ≡ false → y ≡ false
-second_of_or x y e = (or_parts x y e).1
-
-pub first_of_and : (x y : Bool) → x && y ≡ true → x ≡ true
-first_of_and true y e = refl
-first_of_and false y e = e
-
-pub second_of_and : (x y : Bool) → x && y ≡ true → y ≡ true
-second_of_and true y e = e
-second_of_and false true e = refl
-second_of_and false false e = e
-
-pub and-true : (x : Bool) → x && true ≡ x
-and-true true = refl
-and-true false = refl
 
 guarded : {A : Type 0} (a b : Bool) (x v : A) → cond a (cond b (Some x) None) None ≡ Some v → (a && b ≡ true) × (x ≡ v)
 guarded true true x v e = (refl, cc)
@@ -55,10 +31,10 @@ pub record Read (text : List ℕ) (ps : List FieldPlace) (vs : List ℕ) : Type 
   pub shaped : list_all (is_shaped_at text) ps ≡ true
   pub values : map (value_at text) ps ≡ vs
 
-head_of : {A : Type 0} (x y : A) (xs ys : List A) → x ∷ xs ≡ y ∷ ys → x ≡ y
+pub head_of : {A : Type 0} (x y : A) (xs ys : List A) → x ∷ xs ≡ y ∷ ys → x ≡ y
 head_of x y xs ys e = cc
 
-tail_of : {A : Type 0} (x y : A) (xs ys : List A) → x ∷ xs ≡ y ∷ ys → xs ≡ ys
+pub tail_of : {A : Type 0} (x y : A) (xs ys : List A) → x ∷ xs ≡ y ∷ ys → xs ≡ ys
 tail_of x y xs ys e = cc
 
 pub reads : (text : List ℕ) (ps : List FieldPlace) (vs : List ℕ) → map (λ p. field_at text p.at p.count) ps ≡ map Some vs → Read text ps vs
@@ -69,22 +45,14 @@ reads text (p ∷ ps) (v ∷ vs) e =
     let here = field_is text p v (head_of (field_at text p.at p.count) (Some v) (map (λ p. field_at text p.at p.count) ps) (map Some vs) e) in
     let more = reads text ps vs (tail_of (field_at text p.at p.count) (Some v) (map (λ p. field_at text p.at p.count) ps) (map Some vs) e) in
     record {
-      shaped = and_of (is_shaped_at text p) (list_all (is_shaped_at text) ps) here.0 more.shaped;
+      shaped = and_from (is_shaped_at text p) (list_all (is_shaped_at text) ps) here.0 more.shaped;
       values = ap (λ (x : ℕ). x ∷ map (value_at text) ps) here.1 ∙ ap (λ (xs : List ℕ). v ∷ xs) more.values;
     }
 
-and_false : (x y : Bool) → x ≡ false → x && y ≡ false
-and_false true y e = absurd cc
-and_false false y e = refl
-
-and_false_right : (x y : Bool) → y ≡ false → x && y ≡ false
-and_false_right true y e = e
-and_false_right false y e = refl
-
 unread_at : (text : List ℕ) (p : FieldPlace) (o : Option ℕ) (none shaped : Bool) → field_at text p.at p.count ≡ o → is_none o || none ≡ true → (none ≡ true → shaped ≡ false)
     → is_shaped_at text p && shaped ≡ false
-unread_at text p None none shaped here e more = and_false (is_shaped_at text p) shaped (field_is_not text p here)
-unread_at text p (Some v) none shaped here e more = and_false_right (is_shaped_at text p) shaped (more e)
+unread_at text p None none shaped here e more = and_left (is_shaped_at text p) shaped (field_is_not text p here)
+unread_at text p (Some v) none shaped here e more = and_right (is_shaped_at text p) shaped (more e)
 
 pub unread : (text : List ℕ) (ps : List FieldPlace) → list_any is_none (map (λ p. field_at text p.at p.count) ps) ≡ true → list_all (is_shaped_at text) ps ≡ false
 unread text [] e = absurd cc
@@ -126,7 +94,7 @@ made {H} f {n} w b text vs letter long read same range lanes plain =
     let r = reads text (places f w) vs read in
     record {
       line = record { letter = letter; long = long; shaped = r.shaped; says = r.values ∙ sym same };
-      kept = and_of (is_lanes n b.lanes) (is_writable f w b && is_plain f b) lanes (and_of (is_writable f w b) (is_plain f b) (beat_below f w b (fields f) vs same ∙ range) plain);
+      kept = and_from (is_lanes n b.lanes) (is_writable f w b && is_plain f b) lanes (and_from (is_writable f w b) (is_plain f b) (beat_below f w b (fields f) vs same ∙ range) plain);
     }
 
 pub wrong_length : {H : Type 0} (f : Form H) (w : ℕ) (text : List ℕ) → length text ≢ line_length f w → form_fault f w text ≡ Some Length

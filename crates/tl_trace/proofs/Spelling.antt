@@ -2,7 +2,7 @@
 use Rattle.std.proofs.Common.{◌≡◌, ℕ, zero, suc, ◌+◌, ◌-◌, ◌*◌, ◌/◌, ◌%◌, ◌^◌, ◌<◌, ◌≤◌, true, nat_eq, nat_lt, ◌&&◌, List, [], ◌∷◌, ◌++◌, length, map, get_or, take, drop, refl, sym, ap, ◌∙◌, arith, append_assoc, length-append, eq-eqb, lit≤}
 use Rattle.std.proofs.Math.Nat.{pow-suc, pow-le-pow_right}
 use Rattle.std.proofs.Math.Seq.{get_or-append_seam, take-append_seam, drop-append_seam}
-use Rattle.std.proofs.lemmas.Bool.{ltb-true}
+use Rattle.std.proofs.lemmas.Bool.{ltb-true, and_parts, and_from}
 use Rattle.std.proofs.lemmas.Bool.Decides.{nat_tests}
 use Rattle.std.proofs.lemmas.List.{length-take-le, length-drop}
 use Rattle.std.proofs.lemmas.List.Folds.{list_all-append}
@@ -13,11 +13,11 @@ use Rattle.std.specs.Char.{digit_value, digit_char}
 use Rattle.tl_msg.specs.declared.beat.BeatOf.{BeatOf}
 use Rattle.tl_trace.specs.Fields.{Field, Form, opcode, param, size, source, address, sink, denied, mask, data_lanes, corrupt, digit_count, length_of, values, value_of, fields}
 use Rattle.tl_trace.specs.Lines.{FieldPlace, places_from, hex, is_hex, digits_at, value_at, is_shaped_at, IsLine, is_writable, line_text}
-use Rattle.tl_trace.proofs.Shaped.{and_of, first_of_and, second_of_and}
 use Rattle.tl_trace.proofs.HexText.{length-hex}
 use Rattle.tl_trace.proofs.Cover.{stands, whole_line}
 use Rattle.tl_trace.proofs.HexDigits.{hex_small}
 use Rattle.tl_trace.proofs.ReadDigits.{squares}
+use Rattle.tl_trace.proofs.Shaped.{head_of, tail_of}
 
 -- ---- digits
 
@@ -34,7 +34,7 @@ pub hex_all : (count value : ℕ) → list_all is_hex (hex count value) ≡ true
 hex_all zero value = refl
 hex_all (suc count) value =
     list_all-append is_hex (hex count (value / 16)) (digit_char (value % 16) ∷ [])
-    ∙ and_of (list_all is_hex (hex count (value / 16))) (is_hex (digit_char (value % 16)) && true) (hex_all count (value / 16)) (and_of (is_hex (digit_char (value % 16))) true (hex_digit_of (value % 16) (omega arith)) refl)
+    ∙ and_from (list_all is_hex (hex count (value / 16))) (is_hex (digit_char (value % 16)) && true) (hex_all count (value / 16)) (and_from (is_hex (digit_char (value % 16))) true (hex_digit_of (value % 16) (omega arith)) refl)
 
 pub hex_value : (count value : ℕ) → value < 16 ^ count → digits_value 16 (hex count value) ≡ value
 hex_value zero value lt = omega arith
@@ -60,8 +60,8 @@ hex_back (suc count) ds e h =
     let last = get_or ds count 0 in
     let split : ds ≡ front ++ last ∷ [] = last_first count ds e in
     let all = sym (list_all-append is_hex front (last ∷ [])) ∙ ap (list_all is_hex) (sym split) ∙ h in
-    let good = first_of_and (list_all is_hex front) (is_hex last && true) all in
-    let lasts = first_of_and (is_hex last) true (second_of_and (list_all is_hex front) (is_hex last && true) all) in
+    let good = (and_parts (list_all is_hex front) (is_hex last && true) all).0 in
+    let lasts = (and_parts (is_hex last) true (and_parts (list_all is_hex front) (is_hex last && true) all).1).0 in
     let small = hex_small last lasts in
     let value : digits_value 16 ds ≡ digits_value 16 front * 16 + digit_value last = ap (digits_value 16) split ∙ digits_value_push 16 front last in
     let up : digits_value 16 ds / 16 ≡ digits_value 16 front = omega arith in
@@ -77,12 +77,6 @@ hex_back (suc count) ds e h =
 abbrev pub spelled : ℕ → (Field → ℕ) → Field → List ℕ
 spelled w value field = 32 ∷ hex (digit_count w field) (value field)
 
-head_of : (x y : ℕ) (xs ys : List ℕ) → x ∷ xs ≡ y ∷ ys → x ≡ y
-head_of x y xs ys e = cc
-
-tail_of : (x y : ℕ) (xs ys : List ℕ) → x ∷ xs ≡ y ∷ ys → xs ≡ ys
-tail_of x y xs ys e = cc
-
 pub as_spelled : (text : List ℕ) (at w : ℕ) (value : Field → ℕ) (fs : List Field) → list_all (is_shaped_at text) (places_from at w fs) ≡ true → at + length_of w fs ≤ length text
     → map (value_at text) (places_from at w fs) ≡ map value fs → flat_map (stands text) (places_from at w fs) ≡ flat_map (spelled w value) fs
 as_spelled text at w value [] shaped le says = refl
@@ -92,12 +86,12 @@ as_spelled text at w value (field ∷ more) shaped le says =
     let rest = places_from next w more in
     let here = head_of (value_at text p) (value field) (map (value_at text) rest) (map value more) says in
     let there = tail_of (value_at text p) (value field) (map (value_at text) rest) (map value more) says in
-    let digits = second_of_and (nat_eq (slice_index text at) 32) (list_all is_hex (digits_at text p)) (first_of_and (is_shaped_at text p) (list_all (is_shaped_at text) rest) shaped) in
+    let digits = (and_parts (nat_eq (slice_index text at) 32) (list_all is_hex (digits_at text p)) (and_parts (is_shaped_at text p) (list_all (is_shaped_at text) rest) shaped).0).1 in
     let count : (at + 1 + digit_count w field) - (at + 1) ≡ digit_count w field = omega arith in
     let long : length (digits_at text p) ≡ digit_count w field = length-take-le ((at + 1 + digit_count w field) - (at + 1)) (drop (at + 1) text) (omega (arith, length-drop (at + 1) text)) ∙ count in
     let same : digits_at text p ≡ hex (digit_count w field) (value field) = sym (hex_back (digit_count w field) (digits_at text p) long digits) ∙ ap (λ (n : ℕ). hex (digit_count w field) n) here in
     ap (λ (ds : List ℕ). (32 ∷ ds) ++ flat_map (stands text) rest) same
-    ∙ ap (λ (xs : List ℕ). spelled w value field ++ xs) (as_spelled text next w value more (second_of_and (is_shaped_at text p) (list_all (is_shaped_at text) rest) shaped) (omega arith) there)
+    ∙ ap (λ (xs : List ℕ). spelled w value field ++ xs) (as_spelled text next w value more (and_parts (is_shaped_at text p) (list_all (is_shaped_at text) rest) shaped).1 (omega arith) there)
 
 pub only_line : {H : Type 0} (f : Form H) {n : ℕ} (w : ℕ) (b : BeatOf H n) (text : List ℕ) → IsLine f w b text → text ≡ line_text f w b
 only_line f w b text line =
@@ -140,11 +134,11 @@ placed text before at w value fits (field ∷ more) e long small wide =
     let same : digits_at text p ≡ digits = ap (λ (t : List ℕ). slice_range t (at + 1) (at + 1 + count)) split ∙ middle (before ++ 32 ∷ []) digits rest (at + 1) (at + 1 + count) front (omega (arith, length-hex count (value field))) in
     let whole : text ≡ (before ++ spelled w value field) ++ rest = seam ∙ sym (append_assoc before (spelled w value field) rest) in
     let further : length (before ++ spelled w value field) ≡ next = length-append before (spelled w value field) ∙ omega (arith, length-hex count (value field)) in
-    let here = ltb-true (value field) (fits field) (first_of_and (nat_lt (value field) (fits field)) (list_all (λ field. nat_lt (value field) (fits field)) more) small) in
+    let here = ltb-true (value field) (fits field) (and_parts (nat_lt (value field) (fits field)) (list_all (λ field. nat_lt (value field) (fits field)) more) small).0 in
     let below : value field < 16 ^ count = omega (arith, wide field) in
-    let after = placed text (before ++ spelled w value field) next w value fits more whole further (second_of_and (nat_lt (value field) (fits field)) (list_all (λ field. nat_lt (value field) (fits field)) more) small) wide in
+    let after = placed text (before ++ spelled w value field) next w value fits more whole further (and_parts (nat_lt (value field) (fits field)) (list_all (λ field. nat_lt (value field) (fits field)) more) small).1 wide in
     record {
-      shaped = and_of (is_shaped_at text p) (list_all (is_shaped_at text) (places_from next w more)) (and_of (nat_eq (slice_index text at) 32) (list_all is_hex (digits_at text p)) (eq-eqb (slice_index text at) 32 space) (ap (list_all is_hex) same ∙ hex_all count (value field))) after.shaped;
+      shaped = and_from (is_shaped_at text p) (list_all (is_shaped_at text) (places_from next w more)) (and_from (nat_eq (slice_index text at) 32) (list_all is_hex (digits_at text p)) (eq-eqb (slice_index text at) 32 space) (ap (list_all is_hex) same ∙ hex_all count (value field))) after.shaped;
       says = ap (λ (n : ℕ). n ∷ map (value_at text) (places_from next w more)) (ap (digits_value 16) same ∙ hex_value count (value field) below) ∙ ap (λ (ns : List ℕ). value field ∷ ns) after.says;
     }
 

@@ -1,7 +1,7 @@
 -- One step of the walk over the lines of a text.
 use Rattle.std.proofs.Common.{◌≡◌, ℕ, suc, ◌+◌, ◌-◌, ◌<◌, ◌≤◌, true, ◌&&◌, List, [], ◌∷◌, ◌++◌, length, map, get_or, take, drop, replicate, Option, Some, None, refl, sym, ap, ◌∙◌, arith, drop-cons, append_assoc, append-nil, add-one, length-drop, inl, inr, subst, rules}
 use Rattle.std.proofs.lemmas.List.Folds.{drop_split, list_all-append}
-use Rattle.std.proofs.lemmas.Bool.{cases_eq}
+use Rattle.std.proofs.lemmas.Bool.{cases_eq, and_from}
 use Rattle.std.proofs.lemmas.List.{drop-drop, get_or-drop, take_all}
 use Rattle.std.proofs.Math.Seq.{take-add}
 use Rattle.std.specs.List.{list_all, slice_range}
@@ -12,7 +12,6 @@ use Rattle.tl_trace.specs.Inner.Reading.{LineAt, IsReadLine}
 use Rattle.tl_trace.specs.declared.line.Line.{Line}
 use Rattle.tl_trace.specs.declared.fault.TraceKind.{TraceKind}
 use Rattle.tl_trace.specs.declared.fault.TraceKind.TheVariants.{Header, NoEnd}
-use Rattle.tl_trace.proofs.Shaped.{and_of}
 use Rattle.tl_trace.proofs.ReadLines.{IsFree, SoFar, cut_line, cut_last, body_line, body_last, ended, unended, free_take, first_fault, readable_to, one_more, told_more}
 use Rattle.tl_trace.proofs.Cover.{drop_all}
 
@@ -124,7 +123,7 @@ advance text start client manager lines at before end beat far line read lt =
       few = omega (arith, far.few, line.from);
       one = omega arith;
       told = subst P (sym whole) told;
-      kept = list_all-append (is_kept_line client manager) lines (beat ∷ []) ∙ and_of (list_all (is_kept_line client manager) lines) (is_kept_line client manager beat && true) far.kept (and_of (is_kept_line client manager beat) true read.kept refl);
+      kept = list_all-append (is_kept_line client manager) lines (beat ∷ []) ∙ and_from (list_all (is_kept_line client manager) lines) (is_kept_line client manager beat && true) far.kept (and_from (is_kept_line client manager beat) true read.kept refl);
       faultless = more_faultless text start client manager lines at before end beat far line read lt;
     }
 

@@ -2,12 +2,11 @@
 use Rattle.std.proofs.Common.{◌≡◌, ℕ, zero, suc, ◌*◌, ◌^◌, ◌<◌, ◌≤◌, Bool, true, false, nat_lt, ◌||◌, List, [], ◌∷◌, length, refl, sym, arith, lit≤, subst}
 use Rattle.std.specs.Prelude.{◌==◌}
 use Rattle.std.proofs.Math.Nat.{pow-suc}
-use Rattle.std.proofs.lemmas.Bool.{eqb-true, ltb-true}
+use Rattle.std.proofs.lemmas.Bool.{eqb-true, ltb-true, and_parts}
 use Rattle.std.specs.List.{list_all, list_any, slice_index}
 use Rattle.tl_lanes.specs.Lanes.{IsWidth}
 use Rattle.tl_trace.specs.Fields.{number_of_lanes}
 use Rattle.tl_trace.specs.Texts.{is_width}
-use Rattle.tl_trace.proofs.Shaped.{first_of_and, second_of_and}
 
 one_of : (w a : ℕ) (b rest : Bool) → (w == a) ≡ b → b || rest ≡ true → IsWidth a → (rest ≡ true → IsWidth w) → IsWidth w
 one_of w a true rest is e here more = let P : ℕ → Type 0 = IsWidth in subst P (sym (eqb-true w a is)) here
@@ -28,8 +27,8 @@ width_of w e =
 pub lanes_fit : (lanes : List ℕ) → list_all (λ lane. nat_lt lane 256) lanes ≡ true → number_of_lanes lanes < 256 ^ length lanes
 lanes_fit [] bytes = lit≤ tt
 lanes_fit (lane ∷ lanes) bytes =
-    let small = ltb-true lane 256 (first_of_and (nat_lt lane 256) (list_all (λ lane. nat_lt lane 256) lanes) bytes) in
-    let rest = lanes_fit lanes (second_of_and (nat_lt lane 256) (list_all (λ lane. nat_lt lane 256) lanes) bytes) in
+    let small = ltb-true lane 256 (and_parts (nat_lt lane 256) (list_all (λ lane. nat_lt lane 256) lanes) bytes).0 in
+    let rest = lanes_fit lanes (and_parts (nat_lt lane 256) (list_all (λ lane. nat_lt lane 256) lanes) bytes).1 in
     let most : 256 ^ suc (length lanes) ≡ 256 ^ length lanes * 256 = pow-suc 256 (length lanes) in
     let here : length (lane ∷ lanes) ≡ suc (length lanes) = refl in
     let P : ℕ → Type 0 = λ k. number_of_lanes (lane ∷ lanes) < 256 ^ k in

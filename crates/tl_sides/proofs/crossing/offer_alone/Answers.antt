@@ -1,9 +1,9 @@
 use Rattle.std.proofs.Common.{None, Some, refl, sym, ap, ◌∙◌}
+use Rattle.tl_convert.proofs.Refusals.{refused_for}
 use Rattle.std.specs.Option.{option_map_or}
 use Rattle.std.proofs.lemmas.Result.{err_from_is_err_and}
 use Rattle.tl_msg.specs.declared.fault.SideFault.TheVariants.{Beat}
 use Rattle.tl_burst.specs.Handing.{fault_in}
-use Rattle.tl_sides.proofs.BridgeSteps.{err_not_ok, none_not_some}
 use Rattle.tl_sides.proofs.crossing.offer_alone.Goals as goal
 
 pub returns-in_err-place-clause-fault : goal.returns-in_err-place-clause-fault
@@ -14,7 +14,7 @@ returns-in_err-place-clause-fault g c = λ x h.
 pub returns-in_err-place-clause-admitted : goal.returns-in_err-place-clause-admitted
 returns-in_err-place-clause-admitted g c = λ x h.
     let stops = ap (λ o. option_map_or (λ fault. Some (Beat fault)) o None) (c.in_err-place.ensures.first_fault x h) in
-    (λ ok. absurd (err_not_ok c.from_residual.result c.from_residual.ensures.0 ok), λ none. absurd (none_not_some stops none))
+    refused_for c.from_residual.result c.from_residual.ensures.0 stops
 
 pub returns-clause-admitted : goal.returns-clause-admitted
 returns-clause-admitted g c = λ x h.

@@ -1,4 +1,5 @@
 use Rattle.std.proofs.Common.{refl, ap, ◌∙◌}
+use Rattle.tl_convert.proofs.Refusals.{refused_too, refused_for}
 use Rattle.std.proofs.lemmas.Result.{err_from_is_err_and}
 use Rattle.tl_msg.specs.Tables.{rules_d}
 use Rattle.tl_burst.specs.Begun.{left}
@@ -6,13 +7,13 @@ use Rattle.tl_burst.proofs.BegunMessages.{left-zero}
 use Rattle.tl_settle.specs.Histories.{answered}
 use Rattle.tl_sides.proofs.Answering.{manager_fault}
 use Rattle.tl_sides.proofs.Between.{next_at}
-use Rattle.tl_sides.proofs.BridgeSteps.{answered_more, err_not_ok, none_not_some}
+use Rattle.tl_sides.proofs.BridgeSteps.{answered_more}
 use Rattle.tl_sides.proofs.crossing.offer_response.Goals as goal
 
 pub returns-in_err-place-clause-admitted : goal.returns-in_err-place-clause-admitted
 returns-in_err-place-clause-admitted g c = λ es x k.
     let stops = manager_fault es c.args.beat.now x.accepted k.same _ (c.in_err-place.ensures.first_fault x k.stands) in
-    (λ ok. absurd (err_not_ok c.from_residual.result c.from_residual.ensures.0 ok), λ none. absurd (none_not_some stops none))
+    refused_for c.from_residual.result c.from_residual.ensures.0 stops
 
 pub returns-in_err-place-clause-fault : goal.returns-in_err-place-clause-fault
 returns-in_err-place-clause-fault g c = λ es x k.
@@ -22,8 +23,7 @@ returns-in_err-place-clause-fault g c = λ es x k.
 pub returns-in_err-home-clause-admitted : goal.returns-in_err-home-clause-admitted
 returns-in_err-home-clause-admitted g c = λ es x k.
     let next = next_at rules_d (answered es) c.args.beat.now c.in_ok-place.place _ x k.stands k.same c.in_ok-place.ensures.place in
-    let answer = c.in_err-home.ensures.admitted es c.args.beat.now k.knows next in
-    (λ ok. absurd (err_not_ok c.from_residual-in_err-home.result c.from_residual-in_err-home.ensures.0 ok), λ none. absurd (let ok = answer.1 none in cc))
+    refused_too c.from_residual-in_err-home.result c.from_residual-in_err-home.ensures.0 (c.in_err-home.ensures.admitted es c.args.beat.now k.knows next)
 
 pub returns-in_err-home-clause-fault : goal.returns-in_err-home-clause-fault
 returns-in_err-home-clause-fault g c = λ es x k.

@@ -1,8 +1,16 @@
-use Rattle.std.proofs.Common.{lit<}
+use Rattle.std.proofs.Common.{◌≡◌, ◌≤◌, ℕ, List, length, take, lit<}
+use Rattle.std.proofs.lemmas.List.{take_all}
 use Rattle.tl_trace.proofs.LineText.{width_most}
 use Rattle.tl_trace.proofs.Sizes.{near_small}
 use Rattle.tl_trace.proofs.ReadBeats.{script_more, on_was}
+use Rattle.tl_trace.specs.Scripts.{IsScriptOf}
+use Rattle.tl_trace.specs.declared.line.Line.{Line}
+use Rattle.tl_trace.specs.declared.script.Script.{Script}
 use Rattle.tl_trace.proofs.script.script_of.Goals as goal
+
+-- at the end of the loop all lines were taken
+whole : {C M : ℕ} (s : Script C M) (lines items : List Line) (i : ℕ) → items ≡ lines → length items ≤ i → IsScriptOf (take i lines) s → IsScriptOf lines s
+whole s lines items i same past is = let long : length lines ≤ i = rw same at past in rw (take_all i lines long) at is
 
 pub loop-line-preserved : goal.loop-line-preserved
 loop-line-preserved g c =
@@ -20,3 +28,18 @@ near_of-requires g c =
 
 pub push_near-requires : goal.push_near-requires
 push_near-requires g c = (lit< tt, near_small g.row.C g.row.M (width_most g.row.C c.requires.client_width) (width_most g.row.M c.requires.manager_width))
+
+pub returns-clause-a : goal.returns-clause-a
+returns-clause-a g c = (whole c.loop-line.script c.args.trace.now.lines.items _ c.loop-line.line-index c.deref-line-items.ensures.value c.loop-line-test.false c.loop-line.invariant).a
+
+pub returns-clause-b : goal.returns-clause-b
+returns-clause-b g c = (whole c.loop-line.script c.args.trace.now.lines.items _ c.loop-line.line-index c.deref-line-items.ensures.value c.loop-line-test.false c.loop-line.invariant).b
+
+pub returns-clause-c : goal.returns-clause-c
+returns-clause-c g c = (whole c.loop-line.script c.args.trace.now.lines.items _ c.loop-line.line-index c.deref-line-items.ensures.value c.loop-line-test.false c.loop-line.invariant).c
+
+pub returns-clause-d : goal.returns-clause-d
+returns-clause-d g c = (whole c.loop-line.script c.args.trace.now.lines.items _ c.loop-line.line-index c.deref-line-items.ensures.value c.loop-line-test.false c.loop-line.invariant).d
+
+pub returns-clause-e : goal.returns-clause-e
+returns-clause-e g c = (whole c.loop-line.script c.args.trace.now.lines.items _ c.loop-line.line-index c.deref-line-items.ensures.value c.loop-line-test.false c.loop-line.invariant).e

@@ -1,4 +1,5 @@
 use Rattle.std.proofs.Common.{arith, rules, ◌≤◌}
+use Rattle.std.proofs.lemmas.List.{take_all}
 use Rattle.tl_trace.proofs.LineText.{width_most}
 use Rattle.tl_trace.proofs.write.write_far.Goals as goal
 
@@ -11,3 +12,6 @@ pub fill_line-end-requires-in-loop-beat : goal.fill_line-end-requires-in-loop-be
 fill_line-end-requires-in-loop-beat g c =
     let same : g.row.W ≤ g.row.W = omega arith in
     (search rules, (width_most g.row.W c.requires, same))
+
+pub returns-clause-ok : goal.returns-clause-ok
+returns-clause-ok g c = rw (take_all c.loop-beat.beat-index c.args.beats.now c.loop-beat-test.false) at c.loop-beat.invariant.made

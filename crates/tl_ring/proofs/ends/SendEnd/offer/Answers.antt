@@ -1,5 +1,5 @@
 use Rattle.std.proofs.lemmas.Result.{err_from_is_err_and}
-use Rattle.tl_ring.proofs.Answered.{refused_too}
+use Rattle.tl_convert.proofs.Refusals.{refused_too}
 use Rattle.tl_ring.proofs.ends.SendEnd.offer.Goals as goal
 
 pub returns-in_err-place-clause-admitted : goal.returns-in_err-place-clause-admitted

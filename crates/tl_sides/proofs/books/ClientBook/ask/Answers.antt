@@ -1,4 +1,5 @@
 use Rattle.std.proofs.Common.{◌==◌, Some, refl, sym, ap, subst, ◌∙◌}
+use Rattle.tl_convert.proofs.Refusals.{refused_for}
 use Rattle.std.specs.Option.{is_some}
 use Rattle.std.proofs.lemmas.Result.{err_from_is_err_and}
 use Rattle.tl_msg.specs.Tables.{rules_a, rules_d}
@@ -9,7 +10,7 @@ use Rattle.tl_sides.specs.Inner.Noting.{begun_with}
 use Rattle.tl_sides.proofs.Answering.{client_busy, client_none}
 use Rattle.tl_sides.proofs.Between.{opens}
 use Rattle.tl_settle.proofs.Marks.{answered_ask}
-use Rattle.tl_sides.proofs.BridgeSteps.{noted_ask, err_not_ok, none_not_some}
+use Rattle.tl_sides.proofs.BridgeSteps.{noted_ask}
 use Rattle.tl_sides.proofs.books.ClientBook.ask.Goals as goal
 
 pub returns-in_err-ask_for_source-clause-admitted : goal.returns-in_err-ask_for_source-clause-admitted
@@ -18,7 +19,7 @@ returns-in_err-ask_for_source-clause-admitted g c = λ es b k next.
     let r = c.in_err-ask_for_source.ensures.refused (marks es) h.sources in
     let busy = ap (λ q. is_some (open_request q.source (marks es))) (sym next.is_place.head) ∙ r.2 in
     let stops = client_busy es b (asked es) refl (c.args.place.now.index == 0) (opens rules_a (asked es) b c.args.place.now next) next.is_place.accepted r.1 busy in
-    (λ ok. absurd (err_not_ok c.from_residual.result c.from_residual.ensures.0 ok), λ none. absurd (none_not_some stops none))
+    refused_for c.from_residual.result c.from_residual.ensures.0 stops
 
 pub returns-in_err-ask_for_source-clause-fault : goal.returns-in_err-ask_for_source-clause-fault
 returns-in_err-ask_for_source-clause-fault g c = λ es b k next.

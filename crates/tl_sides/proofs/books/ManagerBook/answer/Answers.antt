@@ -3,13 +3,14 @@ use Rattle.std.proofs.lemmas.Result.{err_from_is_err_and}
 use Rattle.tl_msg.specs.Tables.{rules_a, rules_d}
 use Rattle.tl_burst.specs.Begun.{left}
 use Rattle.tl_convert.proofs.Comparisons.{equal_true}
+use Rattle.tl_convert.proofs.Refusals.{refused_for}
 use Rattle.tl_sides.specs.Tables.{AreOpen}
 use Rattle.tl_settle.specs.Histories.{Answers, answered, marks, home_after}
 use Rattle.tl_sides.specs.Inner.Noting.{begun_with, stops_response}
 use Rattle.tl_sides.proofs.Answering.{manager_stops, manager_none}
 use Rattle.tl_sides.proofs.Between.{opens}
 use Rattle.tl_settle.proofs.Marks.{asked_answer}
-use Rattle.tl_sides.proofs.BridgeSteps.{noted_answer, err_not_ok, none_not_some}
+use Rattle.tl_sides.proofs.BridgeSteps.{noted_answer}
 use Rattle.tl_sides.proofs.books.ManagerBook.answer.Goals as goal
 
 pub returns-in_err-home-clause-admitted : goal.returns-in_err-home-clause-admitted
@@ -18,7 +19,7 @@ returns-in_err-home-clause-admitted g c = λ es b k next.
     let r = c.in_err-home.ensures.refused (marks es) h.requests in
     let says = ap (λ q. stops_response (marks es) q) (sym next.is_place.head) ∙ r.1 in
     let stops = manager_stops es b (answered es) refl (c.args.place.now.index == 0) _ (opens rules_d (answered es) b c.args.place.now next) next.is_place.accepted r.0 says in
-    (λ ok. absurd (err_not_ok c.from_residual.result c.from_residual.ensures.0 ok), λ none. absurd (none_not_some stops none))
+    refused_for c.from_residual.result c.from_residual.ensures.0 stops
 
 pub returns-in_err-home-clause-fault : goal.returns-in_err-home-clause-fault
 returns-in_err-home-clause-fault g c = λ es b k next.
