@@ -55,49 +55,100 @@ fn build(alloc: Global, ring: usize) -> Result<SyncBridge<4, 16>, BuildFault> {
     SyncBridge::new(alloc, ring)
 }
 
-/// The mask of the beat that the manager's side takes from A.
-fn asked_mask(bridge: &mut SyncBridge<4, 16>) -> Option<u64> {
-    let beat = bridge.take_a()?;
-    Some(beat.mask)
-}
-
-/// The lanes of the beat that the client's side takes from D.
-fn answered_lanes(bridge: &mut SyncBridge<4, 16>) -> Option<[u8; 4]> {
-    let beat = bridge.take_d()?;
-    Some(beat.lanes)
-}
-
 /// The bytes 88 to dd of a response, of which the last four stand on the lanes of address 100c.
 const LANES: [u8; 16] = [
     0x88, 0x99, 0x00, 0x11, 0x22, 0x33, 0x44, 0x55, 0x66, 0x77, 0x88, 0x99, 0xaa, 0xbb, 0xcc, 0xdd,
 ];
 
-const ACCEPTED: Answer = Some(Ok(()));
+/// A call of the bridge.
+#[derive(Clone, Copy)]
+enum Call {
+    /// The client's side offers a Get from address 100c.
+    Ask,
+    /// The manager's side offers a response of this size.
+    Answer(u8),
+    Pump,
+    Fetch,
+    /// The manager's side takes a beat of A.
+    TakeAsk,
+    /// The client's side takes a beat of D.
+    TakeAnswer,
+}
 
-const NO_REQUEST: Answer = Some(Err(SideFault::NoRequest));
+/// What comes of it.
+#[derive(Clone, Copy, PartialEq, Eq)]
+enum Said {
+    NotReady,
+    Accepted,
+    Refused(SideFault),
+    Moved(usize),
+    Nothing,
+    /// The mask of a beat of A.
+    Asked(u64),
+    /// The lanes of a beat of D.
+    Answered([u8; 4]),
+}
 
-const SIZE_MISMATCH: Answer = Some(Err(SideFault::SizeMismatch));
+/// What an offer comes to.
+fn as_said(answer: Answer) -> Said {
+    match answer {
+        None => Said::NotReady,
+        Some(Ok(())) => Said::Accepted,
+        Some(Err(fault)) => Said::Refused(fault),
+    }
+}
 
-const SOURCE_BUSY: Answer = Some(Err(SideFault::SourceBusy));
+fn take_ask(bridge: &mut SyncBridge<4, 16>) -> Said {
+    match bridge.take_a() {
+        Some(beat) => Said::Asked(beat.mask),
+        None => Said::Nothing,
+    }
+}
+
+fn take_answer(bridge: &mut SyncBridge<4, 16>) -> Said {
+    match bridge.take_d() {
+        Some(beat) => Said::Answered(beat.lanes),
+        None => Said::Nothing,
+    }
+}
+
+/// One call of the bridge.
+fn play(bridge: &mut SyncBridge<4, 16>, call: Call) -> Said {
+    match call {
+        Call::Ask => as_said(ask(bridge, 0x11, 0x100c)),
+        Call::Answer(size) => as_said(answer(bridge, data(1, size, 0x11, LANES))),
+        Call::Pump => Said::Moved(bridge.pump()),
+        Call::Fetch => Said::Moved(bridge.fetch()),
+        Call::TakeAsk => take_ask(bridge),
+        Call::TakeAnswer => take_answer(bridge),
+    }
+}
+
+/// The calls of a request and its response, and what comes of each.
+const CALLS: [(Call, Said); 15] = [
+    (Call::Answer(2), Said::Refused(SideFault::NoRequest)),
+    (Call::Ask, Said::Accepted),
+    (Call::Pump, Said::Moved(1)),
+    (Call::Fetch, Said::Moved(1)),
+    (Call::TakeAsk, Said::Asked(0xf000)),
+    (Call::Answer(3), Said::Refused(SideFault::SizeMismatch)),
+    (Call::Answer(2), Said::Accepted),
+    (Call::Pump, Said::Moved(1)),
+    (Call::Answer(2), Said::Refused(SideFault::NoRequest)),
+    (Call::Ask, Said::Refused(SideFault::SourceBusy)),
+    (Call::Fetch, Said::Moved(1)),
+    (Call::Ask, Said::Refused(SideFault::SourceBusy)),
+    (Call::TakeAnswer, Said::Answered([0xaa, 0xbb, 0xcc, 0xdd])),
+    (Call::Ask, Said::Accepted),
+    (Call::TakeAnswer, Said::Nothing),
+];
 
 #[test]
 fn a_request_and_its_response(rt: HostRuntime) -> Result<(), Fail> {
     let mut bridge = build(rt.alloc(), 4)?;
-    let response = data(1, 2, 0x11, LANES);
-    assert!(rt; answer(&mut bridge, response) == NO_REQUEST);
-    assert!(rt; ask(&mut bridge, 0x11, 0x100c) == ACCEPTED);
-    assert_eq!(rt; bridge.pump(), 1);
-    assert_eq!(rt; bridge.fetch(), 1);
-    assert_eq!(rt; asked_mask(&mut bridge), Some(0xf000));
-    assert!(rt; answer(&mut bridge, data(1, 3, 0x11, LANES)) == SIZE_MISMATCH);
-    assert!(rt; answer(&mut bridge, response) == ACCEPTED);
-    assert_eq!(rt; bridge.pump(), 1);
-    assert!(rt; answer(&mut bridge, response) == NO_REQUEST);
-    assert!(rt; ask(&mut bridge, 0x11, 0x100c) == SOURCE_BUSY);
-    assert_eq!(rt; bridge.fetch(), 1);
-    assert!(rt; ask(&mut bridge, 0x11, 0x100c) == SOURCE_BUSY);
-    assert_eq!(rt; answered_lanes(&mut bridge), Some([0xaa, 0xbb, 0xcc, 0xdd]));
-    assert!(rt; ask(&mut bridge, 0x11, 0x100c) == ACCEPTED);
+    for (number, (call, wanted)) in CALLS.iter().enumerate() {
+        assert!(rt; play(&mut bridge, *call) == *wanted, "call {number}");
+    }
     Ok(())
 }
 
@@ -109,43 +160,59 @@ fn a_faulty_beat_of_a_free_source(rt: HostRuntime) -> Result<(), Fail> {
     Ok(())
 }
 
-#[test]
-fn probes_releases_and_acknowledgements(rt: HostRuntime) -> Result<(), Fail> {
-    let mut bridge = build(rt.alloc(), 1)?;
-    let block = BeatOf {
-        head: HeadB {
-            opcode: 6,
-            param: 2,
-            size: 2,
-            source: 0,
-            address: 0x80,
-        },
-        mask: 0xf,
-        lanes: [0; 16],
-        corrupt: false,
-    };
-    let ack = HeadC {
-        opcode: 4,
-        param: 1,
+const BLOCK: Beat<ChB, 16> = BeatOf {
+    head: HeadB {
+        opcode: 6,
+        param: 2,
         size: 2,
         source: 0,
         address: 0x80,
+    },
+    mask: 0xf,
+    lanes: [0; 16],
+    corrupt: false,
+};
+
+const ACK: HeadC = HeadC {
+    opcode: 4,
+    param: 1,
+    size: 2,
+    source: 0,
+    address: 0x80,
+};
+
+const SINK: Beat<ChE, 4> = BeatOf {
+    head: HeadE { sink: 7 },
+    mask: 0,
+    lanes: [0; 4],
+    corrupt: false,
+};
+
+/// Offers a beat of B, one of C and one of E, and answers whether they were accepted.
+fn all_offered(bridge: &mut SyncBridge<4, 16>) -> bool {
+    let accepted = Some(Ok(()));
+    probe(bridge, BLOCK) == accepted
+        && release(bridge, ACK) == accepted
+        && acknowledge(bridge, SINK) == accepted
+}
+
+/// Takes a beat of B, one of C and one of E, and answers whether they are those that were offered.
+fn all_taken(bridge: &mut SyncBridge<4, 16>) -> bool {
+    let (Some(block), Some(ack), Some(sink)) = (bridge.take_b(), bridge.take_c(), bridge.take_e())
+    else {
+        return false;
     };
-    let sink = BeatOf {
-        head: HeadE { sink: 7 },
-        mask: 0,
-        lanes: [0; 4],
-        corrupt: false,
-    };
-    assert!(rt; probe(&mut bridge, block) == ACCEPTED);
-    assert!(rt; release(&mut bridge, ack) == ACCEPTED);
-    assert!(rt; acknowledge(&mut bridge, sink) == ACCEPTED);
-    assert_eq!(rt; bridge.pump(), 3);
-    assert_eq!(rt; bridge.fetch(), 3);
-    assert_eq!(rt; bridge.standings().c.inbox, 1);
-    assert_eq!(rt; bridge.take_b().map(|beat| beat.head), Some(block.head));
-    assert_eq!(rt; bridge.take_c().map(|beat| beat.head), Some(ack));
-    assert_eq!(rt; bridge.take_e().map(|beat| beat.head), Some(sink.head));
+    block.head == BLOCK.head && ack.head == ACK && sink.head == SINK.head
+}
+
+#[test]
+fn probes_releases_and_acknowledgements(rt: HostRuntime) -> Result<(), Fail> {
+    let mut bridge = build(rt.alloc(), 1)?;
+    assert!(rt; all_offered(&mut bridge));
+    assert!(rt; bridge.pump() == 3);
+    assert!(rt; bridge.fetch() == 3);
+    assert!(rt; bridge.standings().c.inbox == 1);
+    assert!(rt; all_taken(&mut bridge));
     assert!(rt; bridge.standings() == Standings::default());
     Ok(())
 }
@@ -170,14 +237,21 @@ fn closes_e(bridge: &mut SyncBridge<4, 16>) -> bool {
     bridge.close_e().is_ok() && !bridge.ready_e()
 }
 
+/// Closes each channel, and answers whether it was closed and is not ready then.
+fn closed(bridge: &mut SyncBridge<4, 16>) -> [bool; 5] {
+    [
+        closes_a(bridge),
+        closes_b(bridge),
+        closes_c(bridge),
+        closes_d(bridge),
+        closes_e(bridge),
+    ]
+}
+
 #[test]
 fn closed_channels_are_not_ready(rt: HostRuntime) -> Result<(), Fail> {
     let mut bridge = build(rt.alloc(), 1)?;
-    assert!(rt; closes_a(&mut bridge));
-    assert!(rt; closes_b(&mut bridge));
-    assert!(rt; closes_c(&mut bridge));
-    assert!(rt; closes_d(&mut bridge));
-    assert!(rt; closes_e(&mut bridge));
+    assert!(rt; closed(&mut bridge) == [true; 5]);
     Ok(())
 }
 
@@ -190,10 +264,10 @@ fn refusal(heap: &LocalHeap, ring: usize) -> Option<BuildFault> {
 fn a_ring_has_1_to_4096_beats(rt: HostRuntime) -> Result<(), Fail> {
     let heap = LocalHeap::new(rt.alloc(), 0)?;
     for ring in [0, 4097] {
-        assert_eq!(rt; refusal(&heap, ring), Some(BuildFault::RingSize));
+        assert!(rt; refusal(&heap, ring) == Some(BuildFault::RingSize));
     }
     for ring in [1, 4096] {
-        assert_eq!(rt; refusal(&heap, ring), Some(BuildFault::OutOfMemory));
+        assert!(rt; refusal(&heap, ring) == Some(BuildFault::OutOfMemory));
     }
     Ok(())
 }
@@ -206,9 +280,9 @@ fn each_refused_growth_is_out_of_memory(rt: HostRuntime) -> Result<(), Fail> {
         let heap = LocalHeap::new(rt.alloc(), 16 * size)?;
         fault = refusal(&heap, 16);
         assert!(rt; fault != Some(BuildFault::RingSize));
-        assert_eq!(rt; heap.used(), 0);
+        assert!(rt; heap.used() == 0);
     }
-    assert_eq!(rt; fault, None);
+    assert!(rt; fault == None);
     Ok(())
 }
 

@@ -1,5 +1,4 @@
 use arrayvec::ArrayVec;
-use std::test::Fail;
 use tl_convert::{Converter, far_count};
 use tl_lanes::is_width;
 use tl_msg::{Beat, BeatFault, BeatOf, ChA, ChD, HeadA, HeadD};
@@ -135,9 +134,37 @@ fn short_responses_at_their_addresses(rt: HostRuntime) {
     assert!(rt; gives(&mut narrow, response(2, near, false), u64::MAX - 1, &far));
 }
 
-#[test]
+/// Takes a near beat of A, and answers its index, whether it is the last one of its burst, and the far
+/// beat that it gives, if it gives one. None where it is refused, or gives more.
 #[tactic(auto, using(tl_lanes::proofs::Widths::width_4, tl_lanes::proofs::Widths::width_8))]
-fn boundaries_of_a_burst(rt: HostRuntime) -> Result<(), Fail> {
+fn fed(
+    converter: &mut Converter<ChA, 4, 8>,
+    near: &Beat<ChA, 4>,
+) -> Option<(u32, bool, Option<Beat<ChA, 8>>)> {
+    let place = converter.check(near).ok()?;
+    let (index, last) = (place.index, place.last);
+    let mut out = ArrayVec::new();
+    converter.feed_at(near, place, 0, &mut out);
+    let far = out.pop();
+    if out.is_empty() {
+        Some((index, last, far))
+    } else {
+        None
+    }
+}
+
+/// The faults that the test of a beat and its feed answer.
+#[tactic(auto, using(tl_lanes::proofs::Widths::width_4, tl_lanes::proofs::Widths::width_8))]
+fn faults(
+    converter: &mut Converter<ChA, 4, 8>,
+    near: Beat<ChA, 4>,
+) -> (Option<BeatFault>, Option<BeatFault>) {
+    let tested = converter.check(&near).err();
+    (tested, converter.feed(near, 0).err())
+}
+
+#[test]
+fn boundaries_of_a_burst(rt: HostRuntime) {
     let mut converter = Converter::<ChA, 4, 8>::new();
     assert!(rt; converter.at_boundary());
     for (first, index, far) in [
@@ -146,29 +173,37 @@ fn boundaries_of_a_burst(rt: HostRuntime) -> Result<(), Fail> {
         (8, 2, None),
         (12, 3, Some(8)),
     ] {
-        let other = put(0x40, 0xf, [first; 4]);
         if index > 0 {
-            assert_eq!(rt; converter.check(&other).err(), Some(BeatFault::HeadChanged));
-            assert_eq!(rt;
-                converter.feed(other, 0).err(),
-                Some(BeatFault::HeadChanged)
-            );
+            let changed = Some(BeatFault::HeadChanged);
+            let other = put(0x40, 0xf, [first; 4]);
+            assert!(rt; faults(&mut converter, other) == (changed, changed));
         }
-        let near = put(0x20, 0xf, counting(first));
-        let place = converter.check(&near)?;
-        assert_eq!(rt; (place.index, place.last), (index, index == 3));
-        let mut out = ArrayVec::new();
-        converter.feed_at(&near, place, 0, &mut out);
-        assert_eq!(rt; out.pop(), far.map(|byte| put(0x20, 0xff, counting(byte))));
-        assert!(rt; out.is_empty());
-        assert_eq!(rt; converter.at_boundary(), index == 3);
+        let far = match far {
+            Some(byte) => Some(put(0x20, 0xff, counting(byte))),
+            None => None,
+        };
+        let given = fed(&mut converter, &put(0x20, 0xf, counting(first)));
+        assert!(rt; given == Some((index, index == 3, far)), "byte {first}");
+        assert!(rt; converter.at_boundary() == (index == 3));
     }
-    Ok(())
+}
+
+/// Whether a converter takes this near beat, and gives this far beat alone for it.
+#[tactic(auto, using(tl_lanes::proofs::Widths::width_1, tl_lanes::proofs::Widths::width_64))]
+fn gives_one(
+    converter: &mut Converter<ChA, 64, 1>,
+    near: Beat<ChA, 64>,
+    far: Beat<ChA, 1>,
+) -> bool {
+    match converter.feed(near, 0) {
+        Ok(out) => out.as_slice() == [far].as_slice(),
+        Err(_) => false,
+    }
 }
 
 #[test]
 #[tactic(auto, using(tl_lanes::proofs::Widths::width_1, tl_lanes::proofs::Widths::width_64))]
-fn request_of_4096_bytes(rt: HostRuntime) -> Result<(), Fail> {
+fn request_of_4096_bytes(rt: HostRuntime) {
     let head = HeadA {
         opcode: 4,
         param: 0,
@@ -189,9 +224,8 @@ fn request_of_4096_bytes(rt: HostRuntime) -> Result<(), Fail> {
         corrupt: false,
     };
     let mut converter = Converter::<ChA, 64, 1>::new();
-    assert_eq!(rt; converter.feed(near, 0)?.as_slice(), &[far][..]);
+    assert!(rt; gives_one(&mut converter, near, far));
     assert!(rt; converter.at_boundary());
-    Ok(())
 }
 
 /// How many far beats a list of near beats of 4 bytes gives.
@@ -206,10 +240,11 @@ fn count<const V: usize>(beats: &[Beat<ChA, 4>]) -> usize {
 #[test]
 fn counts_of_far_beats(rt: HostRuntime) {
     let next = put(0x20, 0xf, [0; 4]);
+    let three = [next; 3];
+    assert!(rt; count::<8>(&three) == 1);
+    assert!(rt; count::<4>(&three) == 3);
+    assert!(rt; count::<1>(&three) == 12);
+    assert!(rt; count::<8>(&[]) == 0);
     let changed = [next, next, put(0x40, 0xf, [0; 4]), next, next];
-    assert_eq!(rt; count::<8>(&[next, next, next]), 1);
-    assert_eq!(rt; count::<4>(&[next, next, next]), 3);
-    assert_eq!(rt; count::<1>(&[next, next, next]), 12);
-    assert_eq!(rt; count::<8>(&[]), 0);
-    assert_eq!(rt; count::<4>(&changed), 2, "up to the head that changed");
+    assert!(rt; count::<4>(&changed) == 2, "up to the head that changed");
 }

@@ -14,8 +14,20 @@ fn widths(rt: HostRuntime) {
         (64, true),
         (128, false),
     ] {
-        assert_eq!(rt; is_width(w), expected, "width {w}");
+        assert!(rt; is_width(w) == expected, "width {w}");
     }
+}
+
+/// The bytes that each beat of a message of this size has, and its beats with data and without.
+fn counts(size: u8, w: usize) -> Option<(usize, usize, usize)> {
+    if !is_width(w) || size > 12 {
+        return None;
+    }
+    Some((
+        beat_bytes(size, w),
+        beats(true, size, w),
+        beats(false, size, w),
+    ))
 }
 
 #[test]
@@ -27,13 +39,10 @@ fn bytes_and_beats(rt: HostRuntime) {
         (12, 1, 1, 4096),
         (12, 64, 64, 64),
     ] {
-        assert!(rt; is_width(w) && size <= 12);
-        let answers = (
-            beat_bytes(size, w),
-            beats(true, size, w),
-            beats(false, size, w),
+        assert!(rt;
+            counts(size, w) == Some((bytes, count, 1)),
+            "size {size}, width {w}"
         );
-        assert_eq!(rt; answers, (bytes, count, 1), "size {size}, width {w}");
     }
 }
 
@@ -49,8 +58,8 @@ fn lanes_of_bytes(rt: HostRuntime) {
         (u64::MAX, 1, 1, 64, 0, 1 << 63 | 1),
     ] {
         assert!(rt; is_width(w) && size <= 12);
-        let answers = (lane(address, i, w), active(address, size, w));
-        assert_eq!(rt; answers, (first, mask), "address {address:x}");
+        assert!(rt; lane(address, i, w) == first, "address {address}");
+        assert!(rt; active(address, size, w) == mask, "address {address}");
     }
 }
 
@@ -65,10 +74,9 @@ fn moved_bits(rt: HostRuntime) {
         (u64::MAX, 64, 0x3, 4, 5, 0, 0x3),
     ] {
         assert!(rt; is_width(w) && is_width(v) && count <= w && count <= v);
-        assert_eq!(rt;
-            move_mask(from, w, to, v, at, count),
-            moved,
-            "mask {from:x} into {to:x}"
+        assert!(rt;
+            move_mask(from, w, to, v, at, count) == moved,
+            "mask {from} into {to}"
         );
     }
 }
@@ -84,8 +92,8 @@ fn moved<const W: usize, const V: usize>(from: [u8; W], at: u64, count: usize) -
 
 #[test]
 fn moved_lanes(rt: HostRuntime) {
-    assert_eq!(rt; moved::<4, 8>([0, 1, 2, 3], 4, 0), [9; 8]);
-    assert_eq!(rt; moved::<4, 8>([0, 1, 2, 3], 4, 4), [9, 9, 9, 9, 0, 1, 2, 3]);
-    assert_eq!(rt; moved::<8, 4>([0, 1, 2, 3, 4, 5, 6, 7], 3, 3), [4, 5, 9, 3]);
-    assert_eq!(rt; moved::<64, 64>([7; 64], 0, 64), [7; 64]);
+    assert!(rt; moved::<4, 8>([0, 1, 2, 3], 4, 0) == [9; 8]);
+    assert!(rt; moved::<4, 8>([0, 1, 2, 3], 4, 4) == [9, 9, 9, 9, 0, 1, 2, 3]);
+    assert!(rt; moved::<8, 4>([0, 1, 2, 3, 4, 5, 6, 7], 3, 3) == [4, 5, 9, 3]);
+    assert!(rt; moved::<64, 64>([7; 64], 0, 64) == [7; 64]);
 }

@@ -1,4 +1,4 @@
-use std::test::Fail;
+use std::alloc::Global;
 use tl_msg::{
     Beat, BeatFault, BeatOf, ChA, ChB, ChC, ChD, ChE, Channel, HeadA, HeadB, HeadC, HeadD, HeadE,
     Kind, SideFault, Verdict,
@@ -27,29 +27,44 @@ const SIDE_FAULTS: [SideFault; 10] = [
     SideFault::SizeMismatch,
 ];
 
+/// What is printed of each of them.
+const TEXTS: [&str; 10] = [
+    "1 Opcode",
+    "2 Param",
+    "3 Size",
+    "4 Unaligned",
+    "5 Mask",
+    "6 Corrupt",
+    "7 HeadChanged",
+    "8 SourceBusy",
+    "9 NoRequest",
+    "10 SizeMismatch",
+];
+
+/// Whether a fault of a side is printed as this text.
+fn is_printed(alloc: Global, fault: &SideFault, text: &str) -> bool {
+    match format!(in alloc; "{fault}") {
+        Ok(printed) => printed.as_str() == text,
+        Err(_) => false,
+    }
+}
+
+/// Whether a fault of a beat is printed as this text.
+fn is_beat_fault_printed(alloc: Global, fault: &BeatFault, text: &str) -> bool {
+    match format!(in alloc; "{fault}") {
+        Ok(printed) => printed.as_str() == text,
+        Err(_) => false,
+    }
+}
+
 #[test]
-fn faults_are_printed(rt: HostRuntime) -> Result<(), Fail> {
-    let texts = [
-        "1 Opcode",
-        "2 Param",
-        "3 Size",
-        "4 Unaligned",
-        "5 Mask",
-        "6 Corrupt",
-        "7 HeadChanged",
-        "8 SourceBusy",
-        "9 NoRequest",
-        "10 SizeMismatch",
-    ];
-    for (fault, text) in SIDE_FAULTS.into_iter().zip(texts) {
-        let printed = format!(in rt.alloc(); "{fault}")?;
-        assert_eq!(rt; printed.as_str(), text);
+fn faults_are_printed(rt: HostRuntime) {
+    for (fault, text) in SIDE_FAULTS.iter().zip(&TEXTS) {
+        assert!(rt; is_printed(rt.alloc(), fault, text), "{text}");
         if let SideFault::Beat(fault) = fault {
-            let printed = format!(in rt.alloc(); "{fault}")?;
-            assert_eq!(rt; printed.as_str(), text);
+            assert!(rt; is_beat_fault_printed(rt.alloc(), fault, text), "{text}");
         }
     }
-    Ok(())
 }
 
 /// Whether each item is equal to itself, and to no other of the list.
@@ -178,18 +193,9 @@ fn channels_and_their_default_beats(rt: HostRuntime) {
         denied: false,
     };
     let e = HeadE { sink: 0 };
-    assert_eq!(rt; channel::<ChA>(&Default::default(), &a), (b'A', true, true));
-    assert_eq!(rt; channel::<ChB>(&Default::default(), &b), (b'B', true, true));
-    assert_eq!(rt;
-        channel::<ChC>(&Default::default(), &c),
-        (b'C', false, true)
-    );
-    assert_eq!(rt;
-        channel::<ChD>(&Default::default(), &d),
-        (b'D', false, true)
-    );
-    assert_eq!(rt;
-        channel::<ChE>(&Default::default(), &e),
-        (b'E', false, true)
-    );
+    assert!(rt; channel::<ChA>(&Default::default(), &a) == (b'A', true, true));
+    assert!(rt; channel::<ChB>(&Default::default(), &b) == (b'B', true, true));
+    assert!(rt; channel::<ChC>(&Default::default(), &c) == (b'C', false, true));
+    assert!(rt; channel::<ChD>(&Default::default(), &d) == (b'D', false, true));
+    assert!(rt; channel::<ChE>(&Default::default(), &e) == (b'E', false, true));
 }

@@ -18,10 +18,10 @@ fn refusals(heap: &LocalHeap, ring: usize) -> [Option<BuildFault>; 2] {
 fn a_ring_has_1_to_4096_beats(rt: HostRuntime) -> Result<(), Fail> {
     let heap = LocalHeap::new(rt.alloc(), 0)?;
     for ring in [0, 4097] {
-        assert_eq!(rt; refusals(&heap, ring), [Some(BuildFault::RingSize); 2]);
+        assert!(rt; refusals(&heap, ring) == [Some(BuildFault::RingSize); 2]);
     }
     for ring in [1, 4096] {
-        assert_eq!(rt; refusals(&heap, ring), [Some(BuildFault::OutOfMemory); 2]);
+        assert!(rt; refusals(&heap, ring) == [Some(BuildFault::OutOfMemory); 2]);
     }
     Ok(())
 }
@@ -35,8 +35,8 @@ fn each_refused_growth_is_out_of_memory(rt: HostRuntime) -> Result<(), Fail> {
         faults = refusals(&heap, 16);
         let [pipe, pair] = faults;
         assert!(rt; pipe != Some(BuildFault::RingSize) && pair != Some(BuildFault::RingSize));
-        assert_eq!(rt; heap.used(), 0);
+        assert!(rt; heap.used() == 0);
     }
-    assert_eq!(rt; faults, [None; 2]);
+    assert!(rt; faults == [None; 2]);
     Ok(())
 }

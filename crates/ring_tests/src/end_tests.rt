@@ -2,13 +2,13 @@
 #![tactic(auto, using(tl_lanes::proofs::Widths::width_4, tl_lanes::proofs::Widths::width_8))]
 
 ghost use Rattle.std.specs.Prelude.{◌≡◌};
-ghost use Rattle.tl_ring.specs.Ends.{ArePair};
+ghost use Rattle.tl_ring.specs.Ends.{ArePair, SameSend, IsReceiptOf};
 
 use crate::values::{ack, at, put};
 use std::alloc::Global;
 use std::test::Fail;
 use tl_msg::{ChA, ChE};
-use tl_ring::{EndFault, SendEnd, Standing, TakeEnd, meet, meet_closing, ring_pair};
+use tl_ring::{EndFault, Receipt, SendEnd, Standing, TakeEnd, meet, meet_closing, ring_pair};
 
 /// Offers a quarter of a message of 16 bytes, and answers whether it was accepted.
 fn quarter_offered(send: &mut SendEnd<ChA, 4, 8>, lanes: [u8; 4]) -> bool {
@@ -54,18 +54,18 @@ fn a_half_brought_message_keeps_its_end_open(rt: HostRuntime) -> Result<(), Fail
     let (mut send, _take) = ring_pair::<ChA, 4, 8, Global>(rt.alloc(), 1)?;
     for (lanes, moved) in [([0, 1, 2, 3], 0), ([4, 5, 6, 7], 1), ([8, 9, 10, 11], 0)] {
         assert!(rt; quarter_offered(&mut send, lanes));
-        assert_eq!(rt; send.pump(), moved);
+        assert!(rt; send.pump() == moved);
     }
     let Err((mut send, fault)) = send.close() else {
         panic!(rt; "closed within a burst");
     };
-    assert_eq!(rt; fault, EndFault::MidBurst);
+    assert!(rt; fault == EndFault::MidBurst);
     assert!(rt; quarter_offered(&mut send, [12, 13, 14, 15]));
-    assert_eq!(rt; send.staged(), 1);
+    assert!(rt; send.staged() == 1);
     let Ok(closing) = send.close() else {
         panic!(rt; "not closed between bursts");
     };
-    assert_eq!(rt; closing.staged(), 1);
+    assert!(rt; closing.staged() == 1);
     Ok(())
 }
 
@@ -73,7 +73,7 @@ fn a_half_brought_message_keeps_its_end_open(rt: HostRuntime) -> Result<(), Fail
 fn two_far_beats_pass_a_ring_of_one_between_ends(rt: HostRuntime) -> Result<(), Fail> {
     let (mut send, mut take) = ring_pair::<ChA, 8, 4, Global>(rt.alloc(), 1)?;
     assert!(rt; offered(&mut send));
-    assert_eq!(rt; meet(&mut send, &mut take), at(2, 0, 0));
+    assert!(rt; meet(&mut send, &mut take) == at(2, 0, 0));
     let moves = [
         (true, at(1, 1, 0)),
         (false, at(1, 0, 1)),
@@ -81,36 +81,53 @@ fn two_far_beats_pass_a_ring_of_one_between_ends(rt: HostRuntime) -> Result<(), 
         (false, at(0, 0, 2)),
     ];
     for (pumps, standing) in moves {
-        assert_eq!(rt; moved(&mut send, &mut take, pumps), (1, standing));
+        assert!(rt; moved(&mut send, &mut take, pumps) == (1, standing));
     }
-    assert_eq!(rt; taken(&mut take), [true, true, false]);
+    assert!(rt; taken(&mut take) == [true, true, false]);
     let Ok(mut send) = send.close() else {
         panic!(rt; "not closed between messages");
     };
-    assert_eq!(rt; meet_closing(&mut send, &mut take), at(0, 0, 0));
+    assert!(rt; meet_closing(&mut send, &mut take) == at(0, 0, 0));
     Ok(())
+}
+
+/// Offers and sends a GrantAck, and answers whether it was accepted and went into the ring.
+fn acknowledged(send: &mut SendEnd<ChE, 4, 8>, sink: u8) -> bool
+    ensures { SameSend send.old send.new }
+{
+    if !send.ready() || send.offer(ack(sink), 0).is_err() {
+        return false;
+    }
+    send.staged() == 1 && send.pump() == 1
+}
+
+/// Whether a receipt says that a beat is in the ring, then that it is in the inbox, and then, when it
+/// was taken and is this GrantAck, that nothing is left.
+fn is_emptied(take: &mut TakeEnd<ChE, 4, 8>, receipt: &mut Receipt<ChE, 4, 8>, sink: u8) -> bool
+    requires { IsReceiptOf receipt.old take.old }
+{
+    if take.drained(receipt) || take.fetch() != 1 || take.drained(receipt) {
+        return false;
+    }
+    match take.take() {
+        Some(beat) => beat.head.sink == sink && take.drained(receipt),
+        None => false,
+    }
 }
 
 #[test]
 fn a_receipt_shows_what_is_left(rt: HostRuntime) -> Result<(), Fail> {
     let (mut send, mut take) = ring_pair::<ChE, 4, 8, Global>(rt.alloc(), 2)?;
-    assert!(rt; send.ready());
-    send.offer(ack(0x2a), 0)?;
-    assert_eq!(rt; send.staged(), 1);
-    assert_eq!(rt; send.pump(), 1);
+    assert!(rt; acknowledged(&mut send, 0x2a));
     let Ok(mut send) = send.close() else {
         panic!(rt; "not closed between messages");
     };
-    assert_eq!(rt; meet_closing(&mut send, &mut take), at(0, 1, 0));
-    assert_eq!(rt; send.staged(), 0);
+    assert!(rt; meet_closing(&mut send, &mut take) == at(0, 1, 0));
+    assert!(rt; send.staged() == 0);
     let Some(mut receipt) = send.finish() else {
         panic!(rt; "no receipt");
     };
-    assert!(rt; !take.drained(&mut receipt));
-    assert_eq!(rt; take.fetch(), 1);
-    assert!(rt; !take.drained(&mut receipt));
-    assert_eq!(rt; take.take().map(|beat| beat.head.sink), Some(0x2a));
-    assert!(rt; take.drained(&mut receipt));
+    assert!(rt; is_emptied(&mut take, &mut receipt, 0x2a));
     Ok(())
 }
 
@@ -119,22 +136,21 @@ fn a_dropped_end_leaves_the_other_one_whole(rt: HostRuntime) -> Result<(), Fail>
     let (mut send, take) = ring_pair::<ChE, 4, 8, Global>(rt.alloc(), 2)?;
     drop(take);
     for moved in [1, 1, 0] {
-        assert!(rt; send.ready());
-        send.offer(ack(7), 0)?;
-        assert_eq!(rt; send.pump(), moved);
+        assert!(rt; send.ready() && send.offer(ack(7), 0).is_ok());
+        assert!(rt; send.pump() == moved);
     }
     assert!(rt; !send.ready());
     let Ok(closing) = send.close() else {
         panic!(rt; "not closed between messages");
     };
-    assert_eq!(rt; closing.staged(), 1);
+    assert!(rt; closing.staged() == 1);
 
     let (mut send, mut take) = ring_pair::<ChA, 8, 4, Global>(rt.alloc(), 1)?;
     assert!(rt; offered(&mut send));
-    assert_eq!(rt; send.pump(), 1);
+    assert!(rt; send.pump() == 1);
     drop(send);
     for left in [1, 0] {
-        assert_eq!(rt; take.fetch(), left);
+        assert!(rt; take.fetch() == left);
         assert!(rt; take.take().is_some() == (left != 0));
     }
     Ok(())

@@ -2,7 +2,7 @@
 #![tactic(auto, using(tl_lanes::proofs::Widths::width_4, tl_lanes::proofs::Widths::width_8))]
 
 ghost use Rattle.std.specs.Prelude.{IfSome};
-ghost use Rattle.tl_ring.specs.Ends.{SameSend, SameTake, IsReceiptFor};
+ghost use Rattle.tl_ring.specs.Ends.{ArePair, SameSend, SameTake, IsReceiptFor};
 
 use crate::values::{ack, at};
 use arrayvec::ArrayVec;
@@ -65,6 +65,25 @@ fn send_and_finish(send: SendEnd<ChE, 4, 8>, turns: usize) -> Option<Receipt<ChE
     None
 }
 
+/// Offers the next sink, if the end is ready, sends what it can, and takes what arrives, with a meeting after each. Answers the
+/// sink after those that were accepted.
+fn send_and_take(
+    send: &mut SendEnd<ChE, 4, 8>,
+    take: &mut TakeEnd<ChE, 4, 8>,
+    sinks: &mut ArrayVec<u8, 200>,
+    next: u8,
+) -> u8
+    requires { ArePair send.old take.old }
+    ensures { ArePair send.new take.new }
+{
+    let is_accepted = send.ready() && next < COUNT && send.offer(ack(next), 0).is_ok();
+    send.pump();
+    meet(send, take);
+    take_all(take, sinks, 1);
+    meet(send, take);
+    if is_accepted { next + 1 } else { next }
+}
+
 /// Whether these are the sinks from 0 on, each once and in order.
 fn in_order(sinks: &ArrayVec<u8, 200>) -> bool {
     sinks.len() == COUNT as usize
@@ -87,20 +106,13 @@ fn two_threads_lose_nothing(rt: HostRuntime) -> Result<(), Fail> {
     meet(&mut send, &mut take);
     let mut next = offered;
     for _ in 0..1_000 {
-        if send.ready() && next < COUNT {
-            send.offer(ack(next), 0)?;
-            next += 1;
-        }
-        send.pump();
-        meet(&mut send, &mut take);
-        take_all(&mut take, &mut sinks, 1);
-        meet(&mut send, &mut take);
+        next = send_and_take(&mut send, &mut take, &mut sinks, next);
         if sinks.is_full() {
             break;
         }
     }
     assert!(rt; in_order(&sinks));
-    assert_eq!(rt; meet(&mut send, &mut take), at(0, 0, 0));
+    assert!(rt; meet(&mut send, &mut take) == at(0, 0, 0));
     Ok(())
 }
 

@@ -2,6 +2,7 @@
 //! slices.
 ghost use Rattle.tl_lanes.specs.Lanes.{IsWidth};
 
+use crate::measure::print_time;
 use anyhow::{Result, bail};
 use rtrb::{Consumer, Producer, RingBuffer};
 use std::alloc::Global;
@@ -160,10 +161,37 @@ fn send_and_take<S: Sender<B, W>, T: Taker, B, const W: usize>(
     masks
 }
 
-/// Sends so many beats from a sender to a taker, in one thread and then in two, which run free. Both passes are timed.
+/// What the times of a pair of ends are printed under: those of one thread, and of two.
+type Names = [&'static str; 2];
+
+const CROSSING: Names = ["crossing_one_thread", "crossing_two_threads"];
+
+const PLAIN: Names = ["plain_one_thread", "plain_two_threads"];
+
+/// Sends so many beats from a sender to a taker in two threads, which run free. Answers the sum of their masks.
+fn join_both<S: Sender<B, W> + Send, T: Taker + Send, B: Sync, const W: usize>(
+    rt: &impl Threads,
+    sender: &mut S,
+    taker: &mut T,
+    beats: &[B],
+    count: usize,
+) -> u64
+    requires { IsWidth W }
+{
+    let (_, masks) = join_mut(
+        rt,
+        &mut ||
+            requires { IsWidth W }
+        { send_all(sender, beats, count) },
+        &mut || take_all(taker, count),
+    );
+    masks
+}
+
+/// Sends so many beats from a sender to a taker, in one thread and then in two. Both passes are timed.
 fn measure_pair<S: Sender<B, W> + Send, T: Taker + Send, B: Sync, const W: usize>(
     rt: &(impl Clock + Print + Threads),
-    name: &str,
+    names: Names,
     sender: &mut S,
     taker: &mut T,
     beats: &[B],
@@ -171,20 +199,13 @@ fn measure_pair<S: Sender<B, W> + Send, T: Taker + Send, B: Sync, const W: usize
 ) -> Result<()>
     requires { IsWidth W }
 {
+    let [one_thread, two_threads] = names;
     let start = Instant::now(rt)?;
     let one = send_and_take(sender, taker, beats, count);
-    let nanos = start.elapsed(rt)?.as_nanos();
-    println!(rt; "{name}_one_thread {nanos}")?;
+    print_time(rt, one_thread, start)?;
     let start = Instant::now(rt)?;
-    let (_, two) = join_mut(
-        rt,
-        &mut ||
-            requires { IsWidth W }
-        { send_all(sender, beats, count) },
-        &mut || take_all(taker, count),
-    );
-    let nanos = start.elapsed(rt)?.as_nanos();
-    println!(rt; "{name}_two_threads {nanos}")?;
+    let two = join_both(rt, sender, taker, beats, count);
+    print_time(rt, two_threads, start)?;
     if one != two {
         bail!("the two passes took other beats");
     }
@@ -229,20 +250,92 @@ fn acks(alloc: Global) -> Result<Vec<Beat<ChE, 8>>> {
 }
 
 #[tactic(auto, using(tl_lanes::proofs::Widths::width_8))]
+fn cross_requests_of_8(
+    rt: &(impl Clock + Print + Threads + AllocGlobal),
+    beats: &[Beat<ChA, 8>],
+    ring: usize,
+    count: usize,
+) -> Result<()> {
+    let (mut send, mut take) = ring_pair::<ChA, 8, 8, Global>(rt.alloc(), ring)?;
+    measure_pair::<_, _, _, 8>(rt, CROSSING, &mut send, &mut take, beats, count)
+}
+
+#[tactic(auto, using(tl_lanes::proofs::Widths::width_8))]
+fn pass_requests_of_8(
+    rt: &(impl Clock + Print + Threads + AllocGlobal),
+    beats: &[Beat<ChA, 8>],
+    ring: usize,
+    count: usize,
+) -> Result<()> {
+    let (mut producer, consumer) = RingBuffer::new(rt.alloc(), ring)?;
+    let mut taker = PlainTaker {
+        end: consumer,
+        room: [BeatOf::default(); ROOM],
+    };
+    measure_pair::<_, _, _, 8>(rt, PLAIN, &mut producer, &mut taker, beats, count)
+}
+
+#[tactic(auto, using(tl_lanes::proofs::Widths::width_64))]
+fn cross_requests_of_64(
+    rt: &(impl Clock + Print + Threads + AllocGlobal),
+    beats: &[Beat<ChA, 64>],
+    ring: usize,
+    count: usize,
+) -> Result<()> {
+    let (mut send, mut take) = ring_pair::<ChA, 64, 64, Global>(rt.alloc(), ring)?;
+    measure_pair::<_, _, _, 64>(rt, CROSSING, &mut send, &mut take, beats, count)
+}
+
+#[tactic(auto, using(tl_lanes::proofs::Widths::width_64))]
+fn pass_requests_of_64(
+    rt: &(impl Clock + Print + Threads + AllocGlobal),
+    beats: &[Beat<ChA, 64>],
+    ring: usize,
+    count: usize,
+) -> Result<()> {
+    let (mut producer, consumer) = RingBuffer::new(rt.alloc(), ring)?;
+    let mut taker = PlainTaker {
+        end: consumer,
+        room: [BeatOf::default(); ROOM],
+    };
+    measure_pair::<_, _, _, 64>(rt, PLAIN, &mut producer, &mut taker, beats, count)
+}
+
+#[tactic(auto, using(tl_lanes::proofs::Widths::width_8))]
+fn cross_acks(
+    rt: &(impl Clock + Print + Threads + AllocGlobal),
+    beats: &[Beat<ChE, 8>],
+    ring: usize,
+    count: usize,
+) -> Result<()> {
+    let (mut send, mut take) = ring_pair::<ChE, 8, 8, Global>(rt.alloc(), ring)?;
+    measure_pair::<_, _, _, 8>(rt, CROSSING, &mut send, &mut take, beats, count)
+}
+
+#[tactic(auto, using(tl_lanes::proofs::Widths::width_8))]
+fn pass_acks(
+    rt: &(impl Clock + Print + Threads + AllocGlobal),
+    beats: &[Beat<ChE, 8>],
+    ring: usize,
+    count: usize,
+) -> Result<()> {
+    let (mut producer, consumer) = RingBuffer::new(rt.alloc(), ring)?;
+    let mut taker = PlainTaker {
+        end: consumer,
+        room: [BeatOf::default(); ROOM],
+    };
+    measure_pair::<_, _, _, 8>(rt, PLAIN, &mut producer, &mut taker, beats, count)
+}
+
+#[tactic(auto, using(tl_lanes::proofs::Widths::width_8))]
 fn measure_requests_of_8(
     rt: &(impl Clock + Print + Threads + AllocGlobal),
     ring: usize,
     count: usize,
 ) -> Result<()> {
     let beats = requests::<8>(rt.alloc())?;
-    let (mut send, mut take) = ring_pair::<ChA, 8, 8, Global>(rt.alloc(), ring)?;
-    measure_pair::<_, _, _, 8>(rt, "crossing", &mut send, &mut take, &beats, count)?;
-    let (mut producer, consumer) = RingBuffer::new(rt.alloc(), ring)?;
-    let mut taker = PlainTaker {
-        end: consumer,
-        room: [BeatOf::default(); ROOM],
-    };
-    measure_pair::<_, _, _, 8>(rt, "plain", &mut producer, &mut taker, &beats, count)
+    cross_requests_of_8(rt, &beats, ring, count)?;
+    pass_requests_of_8(rt, &beats, ring, count)
 }
 
 #[tactic(auto, using(tl_lanes::proofs::Widths::width_64))]
@@ -252,31 +345,18 @@ fn measure_requests_of_64(
     count: usize,
 ) -> Result<()> {
     let beats = requests::<64>(rt.alloc())?;
-    let (mut send, mut take) = ring_pair::<ChA, 64, 64, Global>(rt.alloc(), ring)?;
-    measure_pair::<_, _, _, 64>(rt, "crossing", &mut send, &mut take, &beats, count)?;
-    let (mut producer, consumer) = RingBuffer::new(rt.alloc(), ring)?;
-    let mut taker = PlainTaker {
-        end: consumer,
-        room: [BeatOf::default(); ROOM],
-    };
-    measure_pair::<_, _, _, 64>(rt, "plain", &mut producer, &mut taker, &beats, count)
+    cross_requests_of_64(rt, &beats, ring, count)?;
+    pass_requests_of_64(rt, &beats, ring, count)
 }
 
-#[tactic(auto, using(tl_lanes::proofs::Widths::width_8))]
 fn measure_acks(
     rt: &(impl Clock + Print + Threads + AllocGlobal),
     ring: usize,
     count: usize,
 ) -> Result<()> {
     let beats = acks(rt.alloc())?;
-    let (mut send, mut take) = ring_pair::<ChE, 8, 8, Global>(rt.alloc(), ring)?;
-    measure_pair::<_, _, _, 8>(rt, "crossing", &mut send, &mut take, &beats, count)?;
-    let (mut producer, consumer) = RingBuffer::new(rt.alloc(), ring)?;
-    let mut taker = PlainTaker {
-        end: consumer,
-        room: [BeatOf::default(); ROOM],
-    };
-    measure_pair::<_, _, _, 8>(rt, "plain", &mut producer, &mut taker, &beats, count)
+    cross_acks(rt, &beats, ring, count)?;
+    pass_acks(rt, &beats, ring, count)
 }
 
 /// Sends so many beats of a channel through a ring of `ring` beats, four times: between both ends in one thread and in two, and

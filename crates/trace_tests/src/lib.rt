@@ -2,6 +2,8 @@
 #![tactic(auto)]
 
 #[cfg(test)]
+mod five;
+#[cfg(test)]
 mod growth_tests;
 #[cfg(test)]
 mod tests;

@@ -1,11 +1,11 @@
-#![tactic(auto, using(tl_lanes::proofs::Widths::width_4, tl_lanes::proofs::Widths::width_8))]
+#![tactic(auto, using(tl_lanes::proofs::Widths::width_4))]
 
+use crate::five::{is_script_of_five, is_written_as, script_made, script_read};
 use std::alloc::{AllocError, Global};
 use std::test::Fail;
 use tl_msg::{BeatOf, ChA, ChE, HeadA, HeadE, SideFault, Verdict};
 use tl_trace::{
-    Line, OutOfMemory, TraceFault, TraceKind, line_of, read, read_script, script_of,
-    widths_of_text, write_far, write_report, write_trace,
+    Line, OutOfMemory, Trace, TraceFault, TraceKind, line_of, read, write_far, write_report,
 };
 
 /// One beat on each channel, line by line.
@@ -209,31 +209,15 @@ fn reads_and_writes_five_beats(rt: HostRuntime) -> Result<(), Fail> {
     let text = with_line(rt.alloc(), 6, b"")?;
     assert_eq!(rt; text.len(), 206);
     let trace = read(rt.alloc(), &text)?;
-    let written = write_trace(rt.alloc(), &trace)?;
-    assert!(rt; written.as_slice() == text.as_slice());
-    assert!(rt; trace.client == 4 && trace.manager == 8);
-    if trace.client == 4 && trace.manager == 8 {
-        let s = script_of::<4, 8>(rt.alloc(), &trace)?;
-        let lengths = [s.a.len(), s.b.len(), s.c.len(), s.d.len(), s.e.len()];
-        assert_eq!(rt; lengths, [1; 5]);
-    }
+    assert!(rt; is_written_as(rt.alloc(), &trace, &text)?);
+    assert!(rt; is_script_of_five(&script_made(rt.alloc(), &trace)?));
     Ok(())
 }
 
 #[test]
 fn reads_a_script_of_five_beats(rt: HostRuntime) -> Result<(), Fail> {
     let text = with_line(rt.alloc(), 6, b"")?;
-    let widths = widths_of_text(&text);
-    assert_eq!(rt; widths, Some((4, 8)));
-    if widths == Some((4, 8)) {
-        let s = read_script::<4, 8>(rt.alloc(), &text)?;
-        let lengths = [s.a.len(), s.b.len(), s.c.len(), s.d.len(), s.e.len()];
-        assert_eq!(rt; lengths, [1; 5]);
-        assert_eq!(rt; s.a.first().map(|beat| beat.head.address), Some(0x40));
-        assert_eq!(rt; s.b.first().map(|beat| beat.mask), Some(0xff));
-        assert_eq!(rt; s.d.first().map(|beat| beat.head.source), Some(1));
-        assert_eq!(rt; s.e.first().map(|beat| beat.head.sink), Some(7));
-    }
+    assert!(rt; is_script_of_five(&script_read(rt.alloc(), &text)?));
     Ok(())
 }
 
@@ -252,30 +236,54 @@ fn faults_print_number_and_name(rt: HostRuntime) -> Result<(), Fail> {
 fn answers_the_first_fault(rt: HostRuntime) -> Result<(), Fail> {
     for (at, bytes, line, kind) in &FAULTY {
         let text = with_line(rt.alloc(), *at, bytes)?;
-        assert_eq!(rt; fault_of(rt.alloc(), &text), Some((*line, *kind)));
+        assert!(rt;
+            fault_of(rt.alloc(), &text) == Some((*line, *kind)),
+            "line {line}"
+        );
     }
     Ok(())
+}
+
+/// Where each line of the text of five beats ends, without its LF.
+const ENDS: [(usize, u64); 6] = [(35, 1), (40, 2), (75, 3), (114, 4), (164, 5), (205, 6)];
+
+/// The fault of the first `n` bytes of that text.
+fn fault_of_cut(n: usize) -> Option<(u64, TraceKind)> {
+    for &(end, line) in &ENDS {
+        if n == end {
+            return Some((line, TraceKind::NoEnd));
+        }
+        if n < end {
+            let kind = if line == 1 {
+                TraceKind::Header
+            } else {
+                TraceKind::Length
+            };
+            return Some((line, kind));
+        }
+        if n - 1 == end {
+            return None;
+        }
+    }
+    None
 }
 
 #[test]
 fn answers_cut_texts(rt: HostRuntime) -> Result<(), Fail> {
     let text = with_line(rt.alloc(), 6, b"")?;
-    let ends = [35, 40, 75, 114, 164, 205];
     for n in 0..206 {
-        let lines = 1 + ends.iter().filter(|end| **end < n).count() as u64;
-        let is_whole = ends.iter().any(|end| *end + 1 == n);
-        let kind = if ends.contains(&n) {
-            TraceKind::NoEnd
-        } else if n < 35 {
-            TraceKind::Header
-        } else {
-            TraceKind::Length
-        };
-        let expected = if is_whole { None } else { Some((lines, kind)) };
         let cut = Vec::from_slice(rt.alloc(), text.get(..n).unwrap_or(&[]))?;
-        assert_eq!(rt; fault_of(rt.alloc(), &cut), expected);
+        assert!(rt; fault_of(rt.alloc(), &cut) == fault_of_cut(n), "{n} bytes");
     }
     Ok(())
+}
+
+/// Whether the first line of a trace is a beat of A with these lanes and this mask.
+fn begins_with_a(trace: &Trace, lanes: &[u8], mask: u64) -> bool {
+    match trace.lines.first() {
+        Some(Line::A(beat)) => &beat.lanes[..8] == lanes && beat.mask == mask,
+        _ => false,
+    }
 }
 
 #[test]
@@ -283,47 +291,46 @@ fn reads_and_writes_lanes(rt: HostRuntime) -> Result<(), Fail> {
     let text =
         b"tilelink-trace 1 client 8 manager 4\nA 4 0 2 07 0000000000001004 f0 1122334455667788 0\n";
     let trace = read(rt.alloc(), text)?;
-    let written = write_trace(rt.alloc(), &trace)?;
-    assert!(rt; written.as_slice() == text.as_slice());
-    let Some(Line::A(beat)) = trace.lines.first() else {
-        return Err(Fail::from("no beat of A"));
-    };
-    assert!(rt; beat.lanes[..8] == [0x88, 0x77, 0x66, 0x55, 0x44, 0x33, 0x22, 0x11]);
-    assert_eq!(rt; beat.mask, 0xf0);
+    assert!(rt; is_written_as(rt.alloc(), &trace, text)?);
+    let lanes = [0x88, 0x77, 0x66, 0x55, 0x44, 0x33, 0x22, 0x11];
+    assert!(rt; begins_with_a(&trace, &lanes, 0xf0));
     Ok(())
 }
 
-#[test]
-fn writes_lines_and_reports(rt: HostRuntime) -> Result<(), Fail> {
-    let head = HeadE { sink: 0x2a };
-    let ack = BeatOf {
-        head,
-        mask: 0,
-        lanes: [0u8; 4],
-        corrupt: false,
-    };
-    let line = line_of::<ChE, 4>(&ack);
-    assert!(rt; line.as_slice() == b"E 2a\n".as_slice());
-    let head = HeadA {
+/// GrantAck of sink 2a.
+const ACK: BeatOf<HeadE, 4> = BeatOf {
+    head: HeadE { sink: 0x2a },
+    mask: 0,
+    lanes: [0; 4],
+    corrupt: false,
+};
+
+/// A beat of PutFullData of 8 bytes.
+const PUT: BeatOf<HeadA, 4> = BeatOf {
+    head: HeadA {
         opcode: 0,
         param: 0,
         size: 3,
         source: 1,
         address: 0x10,
-    };
-    let put = BeatOf {
-        head,
-        mask: 0xf,
-        lanes: [0, 1, 2, 3],
-        corrupt: true,
-    };
+    },
+    mask: 0xf,
+    lanes: [0, 1, 2, 3],
+    corrupt: true,
+};
+
+/// A verdict on a source in use.
+const WAITING: Verdict = Verdict::Waiting {
+    at: 3,
+    fault: SideFault::SourceBusy,
+};
+
+#[test]
+fn writes_lines_and_reports(rt: HostRuntime) -> Result<(), Fail> {
+    assert!(rt; line_of::<ChE, 4>(&ACK).as_slice() == b"E 2a\n".as_slice());
     let mut out = Vec::from_slice(rt.alloc(), b"x")?;
-    write_far::<ChA, 4>(&mut out, &[put, put])?;
-    let waiting = Verdict::Waiting {
-        at: 3,
-        fault: SideFault::SourceBusy,
-    };
-    write_report(&mut out, b'A', &waiting)?;
+    write_far::<ChA, 4>(&mut out, &[PUT, PUT])?;
+    write_report(&mut out, b'A', &WAITING)?;
     write_report(&mut out, b'C', &Verdict::Done { near: 1, far: 64 })?;
     let written =
         b"xA 0 0 3 01 0000000000000010 f 03020100 1\nA 0 0 3 01 0000000000000010 f 03020100 1\n= A waiting 3 SourceBusy\n= C done 1 64\n";
