@@ -98,9 +98,15 @@ fn as_said(answer: Answer) -> Said {
     }
 }
 
+/// The mask of the beat that the manager's side takes from A.
+fn asked_mask(bridge: &mut SyncBridge<4, 16>) -> Option<u64> {
+    let beat = bridge.take_a()?;
+    Some(beat.mask)
+}
+
 fn take_ask(bridge: &mut SyncBridge<4, 16>) -> Said {
-    match bridge.take_a() {
-        Some(beat) => Said::Asked(beat.mask),
+    match asked_mask(bridge) {
+        Some(mask) => Said::Asked(mask),
         None => Said::Nothing,
     }
 }
