@@ -1,7 +1,8 @@
-use Rattle.std.proofs.Common.{rules, ℕ, ◌≤◌, ◌<◌, ◌^◌, sym, ap, subst, ◌∙◌, arith}
+use Rattle.std.proofs.Common.{rules, ◌<◌, ◌^◌, sym, ap, subst, ◌∙◌, arith}
 use Rattle.tl_ring.proofs.FieldSizes.{beat_small}
 use Rattle.tl_bridge.specs.Scripts.{near_beats}
 use Rattle.tl_bridge.specs.Inner.Sides.{none_ready}
+use Rattle.tl_bridge.proofs.Counting.{few-enough}
 use Rattle.tl_bridge.proofs.SidePlays.{client-played-none, client-played-then}
 use Rattle.tl_bridge.proofs.SideSizes.{client_small}
 use Rattle.tl_bridge.proofs.client_turns.play.Goals as goal
@@ -14,19 +15,16 @@ take_each-requires g c =
 pub turns-init : goal.turns-init
 turns-init g c = (
   client-played-none (near_beats c.args.script.now) c.args.at.now c.args.run.now (record { side = c.take_each.new.side; far_b = c.take_each.new.far_b; far_d = c.take_each.new.far_d }) c.none-played.result c.none-played.ensures.at c.none-played.ensures.offers
-      c.none-played.ensures.moved c.take_each.ensures.taken c.take_each.ensures.far_b c.take_each.ensures.far_d c.take_each.ensures.capacity_b c.take_each.ensures.capacity_d c.take_each.ensures.ends,
+      c.none-played.ensures.moved c.take_each.ensures,
   ap (λ u. u.b) c.none-played.ensures.at,
   ap (λ u. u.d) c.none-played.ensures.at,
 )
-
-below : {n l : ℕ} → n ≤ l → l ≤ 2 ^ 40 → n < 2 ^ 41
-below e f = omega arith
 
 pub turn-last-requires : goal.turn-last-requires
 turn-last-requires g c =
     let ready = c.requires.ready in
     let k = c.turns.invariant.0.is_at ready.j ready.m ready.es none_ready ready.is_at ready.due in
-    (client_small g.row.C g.row.M c.requires.client c.requires.manager, (search rules, (c.requires.client, (c.requires.manager, record { a = below k.a_sent.most c.requires.short.few_a; b = subst (λ q. q < 2 ^ 41) (sym c.turns.invariant.1) ready.few.b; c = below k.c_sent.most c.requires.short.few_c; d = subst (λ q. q < 2 ^ 41) (sym c.turns.invariant.2) ready.few.d; e = below k.e_sent.most c.requires.short.few_e }))))
+    (client_small g.row.C g.row.M c.requires.client c.requires.manager, (search rules, (c.requires.client, (c.requires.manager, record { a = few-enough k.a_sent.most c.requires.short.few_a; b = subst (λ q. q < 2 ^ 41) (sym c.turns.invariant.1) ready.few.b; c = few-enough k.c_sent.most c.requires.short.few_c; d = subst (λ q. q < 2 ^ 41) (sym c.turns.invariant.2) ready.few.d; e = few-enough k.e_sent.most c.requires.short.few_e }))))
 
 pub turns-preserved : goal.turns-preserved
 turns-preserved g c = let i = c.turns.invariant in (

@@ -1,7 +1,8 @@
-use Rattle.std.proofs.Common.{rules, ℕ, ◌≤◌, ◌<◌, ◌^◌, sym, ap, subst, ◌∙◌, arith}
+use Rattle.std.proofs.Common.{rules, ◌<◌, ◌^◌, sym, ap, subst, ◌∙◌, arith}
 use Rattle.tl_ring.proofs.FieldSizes.{beat_small}
 use Rattle.tl_bridge.specs.Scripts.{near_beats}
 use Rattle.tl_bridge.specs.Inner.Sides.{none_ready}
+use Rattle.tl_bridge.proofs.Counting.{few-enough}
 use Rattle.tl_bridge.proofs.SidePlays.{manager-played-none, manager-played-then}
 use Rattle.tl_bridge.proofs.SideSizes.{manager_small}
 use Rattle.tl_bridge.proofs.manager_turns.play.Goals as goal
@@ -14,20 +15,17 @@ take_each-requires g c =
 pub turns-init : goal.turns-init
 turns-init g c = (
   manager-played-none (near_beats c.args.script.now) c.args.at.now c.args.run.now (record { side = c.take_each.new.side; far_a = c.take_each.new.far_a; far_c = c.take_each.new.far_c; far_e = c.take_each.new.far_e }) c.none-played.result c.none-played.ensures.at c.none-played.ensures.offers
-      c.none-played.ensures.moved c.take_each.ensures.taken c.take_each.ensures.far_a c.take_each.ensures.far_c c.take_each.ensures.far_e c.take_each.ensures.capacity_a c.take_each.ensures.capacity_c c.take_each.ensures.capacity_e c.take_each.ensures.ends,
+      c.none-played.ensures.moved c.take_each.ensures,
   ap (λ u. u.a) c.none-played.ensures.at,
   ap (λ u. u.c) c.none-played.ensures.at,
   ap (λ u. u.e) c.none-played.ensures.at,
 )
 
-below : {n l : ℕ} → n ≤ l → l ≤ 2 ^ 40 → n < 2 ^ 41
-below e f = omega arith
-
 pub turn-last-requires : goal.turn-last-requires
 turn-last-requires g c =
     let ready = c.requires.ready in
     let k = c.turns.invariant.0.is_at ready.i ready.m ready.es none_ready ready.is_at ready.due in
-    (manager_small g.row.C g.row.M c.requires.client c.requires.manager, (search rules, (c.requires.client, (c.requires.manager, record { a = subst (λ q. q < 2 ^ 41) (sym c.turns.invariant.1) ready.few.a; b = below k.b_sent.most c.requires.short.few_b; c = subst (λ q. q < 2 ^ 41) (sym c.turns.invariant.2) ready.few.c; d = below k.d_sent.most c.requires.short.few_d; e = subst (λ q. q < 2 ^ 41) (sym c.turns.invariant.3) ready.few.e }))))
+    (manager_small g.row.C g.row.M c.requires.client c.requires.manager, (search rules, (c.requires.client, (c.requires.manager, record { a = subst (λ q. q < 2 ^ 41) (sym c.turns.invariant.1) ready.few.a; b = few-enough k.b_sent.most c.requires.short.few_b; c = subst (λ q. q < 2 ^ 41) (sym c.turns.invariant.2) ready.few.c; d = few-enough k.d_sent.most c.requires.short.few_d; e = subst (λ q. q < 2 ^ 41) (sym c.turns.invariant.3) ready.few.e }))))
 
 pub turns-preserved : goal.turns-preserved
 turns-preserved g c = let i = c.turns.invariant in (
