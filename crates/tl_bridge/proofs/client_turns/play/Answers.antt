@@ -29,7 +29,7 @@ turn-last-requires g c =
 pub turns-preserved : goal.turns-preserved
 turns-preserved g c = let i = c.turns.invariant in (
   client-played-then (near_beats c.args.script.now) c.args.at.now c.args.run.now c.turns.run c.turn-last.new.side c.turns.played c.turn-last.result c.then-played.result i.0 c.turn-last.ensures.goes
-      (λ j m es. c.turn-last.ensures.is_at j m es c.turns.run.far_b.items c.turns.run.far_d.items c.turns.played.offers) c.then-played.ensures.at c.then-played.ensures.offers c.then-played.ensures.moved,
+      (λ j m es. c.turn-last.ensures.is_at j m es c.turns.run.far_b.items c.turns.run.far_d.items c.turns.played.offers) c.then-played.ensures.at c.then-played.ensures.offers c.then-played.ensures.moved.0,
   ap (λ u. u.b) c.then-played.ensures.at ∙ c.turn-last.ensures.others.0 ∙ c.turns.invariant.1,
   ap (λ u. u.d) c.then-played.ensures.at ∙ c.turn-last.ensures.others.1 ∙ c.turns.invariant.2,
 )
@@ -39,4 +39,4 @@ returns g c = c.turns.invariant.0
 
 pub returns-then-not-last : goal.returns-then-not-last
 returns-then-not-last g c = let i = c.turns.invariant in client-played-then (near_beats c.args.script.now) c.args.at.now c.args.run.now c.turns.run c.turn-last.new.side c.turns.played c.turn-last.result c.then-played.result i.0 c.turn-last.ensures.goes
-    (λ j m es. c.turn-last.ensures.is_at j m es c.turns.run.far_b.items c.turns.run.far_d.items c.turns.played.offers) c.then-played.ensures.at c.then-played.ensures.offers c.then-played.ensures.moved
+    (λ j m es. c.turn-last.ensures.is_at j m es c.turns.run.far_b.items c.turns.run.far_d.items c.turns.played.offers) c.then-played.ensures.at c.then-played.ensures.offers c.then-played.ensures.moved.0

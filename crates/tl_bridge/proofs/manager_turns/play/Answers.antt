@@ -30,7 +30,7 @@ turn-last-requires g c =
 pub turns-preserved : goal.turns-preserved
 turns-preserved g c = let i = c.turns.invariant in (
   manager-played-then (near_beats c.args.script.now) c.args.at.now c.args.run.now c.turns.run c.turn-last.new.side c.turns.played c.turn-last.result c.then-played.result i.0 c.turn-last.ensures.goes
-      (λ j m es. c.turn-last.ensures.is_at j m es c.turns.run.far_a.items c.turns.run.far_c.items c.turns.run.far_e.items c.turns.played.offers) c.then-played.ensures.at c.then-played.ensures.offers c.then-played.ensures.moved,
+      (λ j m es. c.turn-last.ensures.is_at j m es c.turns.run.far_a.items c.turns.run.far_c.items c.turns.run.far_e.items c.turns.played.offers) c.then-played.ensures.at c.then-played.ensures.offers c.then-played.ensures.moved.0,
   ap (λ u. u.a) c.then-played.ensures.at ∙ c.turn-last.ensures.others.0 ∙ c.turns.invariant.1,
   ap (λ u. u.c) c.then-played.ensures.at ∙ c.turn-last.ensures.others.1 ∙ c.turns.invariant.2,
   ap (λ u. u.e) c.then-played.ensures.at ∙ c.turn-last.ensures.others.2 ∙ c.turns.invariant.3,
@@ -41,4 +41,4 @@ returns g c = c.turns.invariant.0
 
 pub returns-then-not-last : goal.returns-then-not-last
 returns-then-not-last g c = let i = c.turns.invariant in manager-played-then (near_beats c.args.script.now) c.args.at.now c.args.run.now c.turns.run c.turn-last.new.side c.turns.played c.turn-last.result c.then-played.result i.0 c.turn-last.ensures.goes
-    (λ j m es. c.turn-last.ensures.is_at j m es c.turns.run.far_a.items c.turns.run.far_c.items c.turns.run.far_e.items c.turns.played.offers) c.then-played.ensures.at c.then-played.ensures.offers c.then-played.ensures.moved
+    (λ j m es. c.turn-last.ensures.is_at j m es c.turns.run.far_a.items c.turns.run.far_c.items c.turns.run.far_e.items c.turns.played.offers) c.then-played.ensures.at c.then-played.ensures.offers c.then-played.ensures.moved.0
