@@ -18,7 +18,8 @@ use Rattle.tl_bridge.specs.Inner.Running.{Does, Stops, IsSent, IsHomed, steps}
 use Rattle.tl_bridge.specs.declared.channel_state.Offered.{Offered}
 use Rattle.tl_bridge.specs.declared.channel_state.Offered.TheVariants.{Accepted, NotReady, Stopped}
 use Rattle.tl_bridge.specs.declared.channel_state.Stop.TheVariants.{Done, Cut, Refused}
-use Rattle.tl_bridge.proofs.ChannelRound.{none-more, past-end, homes-say}
+use Rattle.tl_convert.proofs.Comparisons.{none_past}
+use Rattle.tl_bridge.proofs.ChannelRound.{none-more, homes-say}
 
 -- the beats that a side took are the last of its history
 pub answered-all : {w : ℕ} (es : List (Event w)) (bs : List (BeatOf HeadD w)) → answered (es ++ map Answer bs) ≡ answered es ++ bs
@@ -42,7 +43,7 @@ module _ {H : Type 0} (r : Rules H) {w v : ℕ} (bs : List (BeatOf H w)) (n : �
     -- the channel was closed, behind its last beat
     closed : slice_get bs n ≡ None → IsSent r bs (n + 0) (shut x).taken (shut x)
     closed e =
-        let past : length bs ≤ n = past-end bs n e in
+        let past : length bs ≤ n = none_past bs n e in
         let most : n ≤ length bs = s.most in
         let all : n ≡ length bs = omega arith in
         subst (λ k. IsSent r bs k (shut x).taken (shut x)) (none-more n) (record {

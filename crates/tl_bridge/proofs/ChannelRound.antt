@@ -19,17 +19,12 @@ use Rattle.tl_bridge.specs.Inner.Running.{Does, Stops, IsSent, IsHomed, IsStoppe
 use Rattle.tl_bridge.specs.declared.channel_state.Offered.{Offered}
 use Rattle.tl_bridge.specs.declared.channel_state.Offered.TheVariants.{Accepted, NotReady, Stopped}
 use Rattle.tl_bridge.specs.declared.channel_state.Stop.TheVariants.{Done, Cut, Refused}
+use Rattle.tl_convert.proofs.Comparisons.{none_past}
 use Rattle.tl_convert.proofs.Begins.{heads_open, heads_inside_one}
 
 -- no beat more is the same number of beats
 pub none-more : (n : ℕ) → n ≡ n + 0
 none-more n = omega arith
-
--- where a list has no more item, it has ended
-pub past-end : {X : Type 0} (xs : List X) (i : ℕ) → slice_get xs i ≡ None → length xs ≤ i
-past-end [] i e = omega arith
-past-end (x ∷ xs) zero e = cc
-past-end (x ∷ xs) (suc i) e = let h : length xs ≤ i = past-end xs i e in omega arith
 
 -- how many items are left of a list whose first k are gone
 size-behind : {X : Type 0} (k : ℕ) (xs : List X) → k ≤ length xs → length (drop k xs) + k ≡ length xs
@@ -135,7 +130,7 @@ module _ {H : Type 0} (r : Rules H) {w v : ℕ} (bs : List (BeatOf H w)) (n : �
     -- the channel was closed, behind its last beat
     sent-shut : slice_get bs n ≡ None → IsSent r bs (n + 0) (far ++ x.inbox) (moved (shut (emptied x)))
     sent-shut e =
-        let past : length bs ≤ n = past-end bs n e in
+        let past : length bs ≤ n = none_past bs n e in
         let most : n ≤ length bs = s.most in
         let all : n ≡ length bs = omega arith in
         subst (λ k. IsSent r bs k (far ++ x.inbox) (moved (shut (emptied x)))) (none-more n) (record {

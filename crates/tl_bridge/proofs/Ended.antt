@@ -21,6 +21,7 @@ use Rattle.tl_bridge.specs.declared.channel_state.Offered.{Offered}
 use Rattle.tl_bridge.specs.declared.channel_state.Stop.{Stop}
 use Rattle.tl_sides.specs.declared.per_channel.PerChannel.{PerChannel}
 use Rattle.tl_bridge.proofs.ChannelEnd.{progress-most}
+use Rattle.tl_bridge.proofs.Counting.{same-sums}
 use Rattle.tl_bridge.proofs.DueBounds.{most-a, most-b, most-c, most-d, most-e}
 
 -- ---- how far a run has come
@@ -42,10 +43,7 @@ progress-in-is : {H : Type 0} (r : Rules H) {w v : ℕ} (bs : List (BeatOf H w))
     piping.StandsFor r p x → IsSent r bs n far x → progress_in n far p ≡ progress n x
 progress-in-is r bs n far p x s i = rw (i.taken, s.inbox, s.ring) refl
 
--- five numbers that are the same, and five that are bounded
-sums : {a b c d e a' b' c' d' e' : ℕ} → a ≡ a' → b ≡ b' → c ≡ c' → d ≡ d' → e ≡ e' → a + b + c + d + e ≡ a' + b' + c' + d' + e'
-sums f g h i j = omega arith
-
+-- five numbers that are bounded
 sums-most : {a b c d e a' b' c' d' e' : ℕ} → a ≤ a' → b ≤ b' → c ≤ c' → d ≤ d' → e ≤ e' → a + b + c + d + e ≤ a' + b' + c' + d' + e'
 sums-most f g h i j = omega arith
 
@@ -58,7 +56,7 @@ standing-is r p x s f i = rw (i.staged, i.in_ring, i.inbox, f.stage, f.ring, f.i
 pub all-standing-is : {C M : ℕ} (s : Bridge C M) (x : Past C M) (t : PerChannel Standing) → StandsFor s x → IsStanding s.a t.a → IsStanding s.b t.b →
     IsStanding s.c t.c → IsStanding s.d t.d → IsStanding s.e t.e → all_standing t ≡ all_under_way x
 all-standing-is s x t f a b c d e =
-    sums (standing-is rules_a s.a x.a t.a f.a a) (standing-is rules_b s.b x.b t.b f.b b) (standing-is rules_c s.c x.c t.c f.c c)
+    same-sums (standing-is rules_a s.a x.a t.a f.a a) (standing-is rules_b s.b x.b t.b f.b b) (standing-is rules_c s.c x.c t.c f.c c)
     (standing-is rules_d s.d x.d t.d f.d d) (standing-is rules_e s.e x.e t.e f.e e)
 
 module _ {C M : ℕ} (near : Beats C M) where
@@ -69,7 +67,7 @@ module _ {C M : ℕ} (near : Beats C M) where
   -- it has come as far as what has happened says
   pub progress-is : (n : PerChannel ℕ) (far : Beats M C) (s : Bridge C M) (x : Past C M) → StandsFor s x → IsAt near n far x → progress_here n far s ≡ all_progress n x
   progress-is n far s x f i =
-      sums (progress-in-is rules_a near.a n.a far.a s.a x.a f.a i.a_sent) (progress-in-is rules_b near.b n.b far.b s.b x.b f.b i.b_sent)
+      same-sums (progress-in-is rules_a near.a n.a far.a s.a x.a f.a i.a_sent) (progress-in-is rules_b near.b n.b far.b s.b x.b f.b i.b_sent)
       (progress-in-is rules_c near.c n.c far.c s.c x.c f.c i.c_sent) (progress-in-is rules_d near.d n.d far.d s.d x.d f.d i.d_sent)
       (progress-in-is rules_e near.e n.e far.e s.e x.e f.e i.e_sent)
 

@@ -33,6 +33,7 @@ use Rattle.tl_bridge.specs.declared.manager_turns.ManagerRun.{ManagerRun}
 use Rattle.tl_bridge.specs.declared.turns.Turn.{Turn}
 use Rattle.tl_bridge.proofs.ChannelEnd.{inbox-due}
 use Rattle.tl_bridge.proofs.ChannelOffer.{sent-passed}
+use Rattle.tl_bridge.proofs.Counting.{same-sums}
 use Rattle.tl_bridge.proofs.Ended.{progress-is, progress-ends, run_end}
 use Rattle.tl_bridge.proofs.Round.{counts-fit, inboxes-fit}
 use Rattle.tl_bridge.proofs.RunRound.{due-a, due-d}
@@ -80,9 +81,6 @@ met-sent s t s' t' m = ap length m.same_sent
 met-received : {K A H : Type 0} {v : ℕ} (s : Sending K A H v) (t : Taking K A H v) (s' : Sending K A H v) (t' : Taking K A H v) → Met s t s' t' →
     length (received t') ≡ length (received t)
 met-received s t s' t' m = ap length m.same_received
-
-five : {a b c d e a' b' c' d' e' : ℕ} → a ≡ a' → b ≡ b' → c ≡ c' → d ≡ d' → e ≡ e' → a + b + c + d + e ≡ a' + b' + c' + d' + e'
-five f g h i j = omega arith
 
 -- ---- both sides
 
@@ -335,7 +333,7 @@ module _ {C M : ℕ} (cw : IsWidth C) (mw : IsWidth M) (near : Beats C M) (n : P
         stops = record { stop_a = k.stop_a; stop_b = l.stop_b; stop_c = k.stop_c; stop_d = l.stop_d; stop_e = k.stop_e };
         keeps = keeps-on _ _ _ _ _ least least' same;
         goes = λ some. ⊎_elim (λ e. let further = client.goes.goes e in goes-left _ _ _ _ _ further least' same) (λ e. let further = manager.goes.goes e in goes-right _ _ _ _ _ least further same) (which some);
-        standing = five (met-standing rules_a s'.a t'.a k.past.a (asked l.past.history) met.a standings.a m.in_a)
+        standing = same-sums (met-standing rules_a s'.a t'.a k.past.a (asked l.past.history) met.a standings.a m.in_a)
             (met-standing rules_b t'.b s'.b l.past.b k.past.b met.b standings.b m.in_b)
             (met-standing rules_c s'.c t'.c k.past.c l.past.c met.c standings.c m.in_c)
             (met-standing rules_d t'.d s'.d l.past.d (answered k.past.history) met.d standings.d m.in_d)

@@ -1,5 +1,5 @@
 -- A round of a run: what the five channels do in it together.
-use Rattle.std.proofs.Common.{◌≡◌, ◌+◌, ◌^◌, ◌++◌, ◌≤◌, ◌<◌, ◌⊎◌, ℕ, Option, None, Some, List, [], length, map, refl, sym, ap, subst, ◌∙◌, arith, append-nil, inl, inr}
+use Rattle.std.proofs.Common.{◌≡◌, ◌+◌, ◌++◌, ◌≤◌, ◌⊎◌, ℕ, Option, None, Some, List, [], length, map, refl, sym, ap, subst, ◌∙◌, arith, append-nil, inl, inr}
 use Rattle.std.specs.Option.{option_map_or}
 use Rattle.tl_lanes.specs.Lanes.{IsWidth}
 use Rattle.tl_msg.specs.Rules.{Rules}
@@ -34,6 +34,7 @@ use Rattle.tl_sides.specs.declared.per_channel.PerChannel.{PerChannel}
 use Rattle.tl_bridge.proofs.ChannelRound.{sent-round, homed-round, stops-round, progress-round}
 use Rattle.tl_bridge.proofs.RunRound.{run-round}
 use Rattle.tl_bridge.proofs.ChannelEnd.{room-for}
+use Rattle.tl_bridge.proofs.Counting.{few-enough}
 
 -- ---- the moves of the rings
 
@@ -198,10 +199,6 @@ module _ {C M : ℕ} (cw : IsWidth C) (mw : IsWidth M) (near : Beats C M) (n : P
       goes-on (inr (((((fa, fb), fc), fd), fe), z)) = inr ((fa, fb, fc, fd, fe), z)
 
 -- ---- what a round asks for
-
--- a count that has not passed a short list may be counted on
-few-enough : {n l : ℕ} → n ≤ l → l ≤ 2 ^ 40 → n < 2 ^ 41
-few-enough m f = omega arith
 
 -- a list of far beats has room for an inbox, where all that is due fits
 room-in : {H : Type 0} (r : Rules H) {w v : ℕ} (ww : IsWidth w) (vw : IsWidth v) (bs : List (BeatOf H w)) (n : ℕ) (far : List (BeatOf H v)) (x : World H w v)

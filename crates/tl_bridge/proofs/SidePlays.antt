@@ -1,11 +1,10 @@
 -- What a side's thread does in a round, told of all that it holds.
-use Rattle.std.proofs.Common.{◌≡◌, ◌≢◌, ◌⊎◌, ◌++◌, ℕ, true, List, Global, vec_capacity, sym, subst}
+use Rattle.std.proofs.Common.{◌≡◌, ◌≢◌, ◌⊎◌, ℕ, true, List, Global, sym, subst}
 use Rattle.tl_settle.specs.Histories.{Event}
 use Rattle.tl_settle.specs.Outcomes.{Beats}
 use Rattle.tl_sides.specs.declared.per_channel.PerChannel.{PerChannel}
-use Rattle.tl_pair.specs.Sides.{ClientState, ManagerState, ClientPast, ManagerPast, ClientStandsFor, ManagerStandsFor}
-use Rattle.tl_pair.specs.Sides.{client_takes_b, client_takes_d, manager_takes_a, manager_takes_c, manager_takes_e}
-use Rattle.tl_bridge.specs.Inner.Sides.{ClientGoes, ManagerGoes, ClientIsAt, ManagerIsAt, ClientHasPlayed, ManagerHasPlayed, SameClientEnds, SameManagerEnds, none_ready}
+use Rattle.tl_pair.specs.Sides.{ClientState, ManagerState}
+use Rattle.tl_bridge.specs.Inner.Sides.{ClientGoes, ManagerGoes, ClientIsAt, ManagerIsAt, ClientHasPlayed, ManagerHasPlayed, ClientHasTaken, ManagerHasTaken, none_ready}
 use Rattle.tl_bridge.specs.declared.client_turns.ClientRun.{ClientRun}
 use Rattle.tl_bridge.specs.declared.manager_turns.ManagerRun.{ManagerRun}
 use Rattle.tl_bridge.specs.declared.turns.Turn.{Turn}
@@ -14,34 +13,26 @@ use Rattle.tl_bridge.proofs.SideRound.{client-took, manager-took}
 
 module _ {C M : ℕ} (near : Beats C M) (n : PerChannel ℕ) where
   -- it has taken all that stood in its inboxes, and made no turn
-  pub client-played-none : (x x' : ClientRun C M) (u : Turn) → u.at ≡ n → u.offers ≡ none_ready → (u.moved ≢ true) →
-      ((p : ClientPast C M) → ClientStandsFor x.side p → ClientStandsFor x'.side (client_takes_d x.side.d.inbox (client_takes_b x.side.b.inbox p))) →
-      x'.far_b.items ≡ x.far_b.items ++ x.side.b.inbox → x'.far_d.items ≡ x.far_d.items ++ x.side.d.inbox → vec_capacity x'.far_b ≡ vec_capacity x.far_b →
-      vec_capacity x'.far_d ≡ vec_capacity x.far_d → SameClientEnds x.side x'.side → ClientHasPlayed near n x x' u
-  client-played-none x x' u at none still taken far_b far_d room_b room_d ends = record {
-    goes = subst (λ k. ClientGoes n x.side k x'.side u.moved) (sym at) (client-goes-still n x.side x'.side u.moved ends still);
-    capacity_b = room_b;
-    capacity_d = room_d;
+  pub client-played-none : (x x' : ClientRun C M) (u : Turn) → u.at ≡ n → u.offers ≡ none_ready → (u.moved ≢ true) → ClientHasTaken x x' → ClientHasPlayed near n x x' u
+  client-played-none x x' u at none still t = record {
+    goes = subst (λ k. ClientGoes n x.side k x'.side u.moved) (sym at) (client-goes-still n x.side x'.side u.moved t.ends still);
+    capacity_b = t.capacity_b;
+    capacity_d = t.capacity_d;
     is_at = λ j m es o h due. subst (λ k. ClientIsAt near j m es k x'.far_b.items x'.far_d.items x'.side u.offers) (sym at)
         (subst (λ q. ClientIsAt near j m es n x'.far_b.items x'.far_d.items x'.side q) (sym none)
-        (client-took near j m es n x.far_b.items x'.far_b.items x.far_d.items x'.far_d.items x.side x'.side o h due (taken h.past h.stands) far_b far_d));
+        (client-took near j m es n x.far_b.items x'.far_b.items x.far_d.items x'.far_d.items x.side x'.side o h due (t.taken h.past h.stands) t.far_b t.far_d));
   }
 
-  pub manager-played-none : (y y' : ManagerRun C M) (u : Turn) → u.at ≡ n → u.offers ≡ none_ready → (u.moved ≢ true) →
-      ((q : ManagerPast C M) → ManagerStandsFor y.side q →
-      ManagerStandsFor y'.side (manager_takes_e y.side.e.inbox (manager_takes_c y.side.c.inbox (manager_takes_a y.side.a.inbox q)))) →
-      y'.far_a.items ≡ y.far_a.items ++ y.side.a.inbox → y'.far_c.items ≡ y.far_c.items ++ y.side.c.inbox → y'.far_e.items ≡ y.far_e.items ++ y.side.e.inbox →
-      vec_capacity y'.far_a ≡ vec_capacity y.far_a → vec_capacity y'.far_c ≡ vec_capacity y.far_c → vec_capacity y'.far_e ≡ vec_capacity y.far_e →
-      SameManagerEnds y.side y'.side → ManagerHasPlayed near n y y' u
-  manager-played-none y y' u at none still taken far_a far_c far_e room_a room_c room_e ends = record {
-    goes = subst (λ k. ManagerGoes n y.side k y'.side u.moved) (sym at) (manager-goes-still n y.side y'.side u.moved ends still);
-    capacity_a = room_a;
-    capacity_c = room_c;
-    capacity_e = room_e;
+  pub manager-played-none : (y y' : ManagerRun C M) (u : Turn) → u.at ≡ n → u.offers ≡ none_ready → (u.moved ≢ true) → ManagerHasTaken y y' → ManagerHasPlayed near n y y' u
+  manager-played-none y y' u at none still t = record {
+    goes = subst (λ k. ManagerGoes n y.side k y'.side u.moved) (sym at) (manager-goes-still n y.side y'.side u.moved t.ends still);
+    capacity_a = t.capacity_a;
+    capacity_c = t.capacity_c;
+    capacity_e = t.capacity_e;
     is_at = λ i m es o h due. subst (λ k. ManagerIsAt near i m es k y'.far_a.items y'.far_c.items y'.far_e.items y'.side u.offers) (sym at)
         (subst (λ q. ManagerIsAt near i m es n y'.far_a.items y'.far_c.items y'.far_e.items y'.side q) (sym none)
-        (manager-took near i m es n y.far_a.items y'.far_a.items y.far_c.items y'.far_c.items y.far_e.items y'.far_e.items y.side y'.side o h due (taken h.past h.stands)
-        far_a far_c far_e));
+        (manager-took near i m es n y.far_a.items y'.far_a.items y.far_c.items y'.far_c.items y.far_e.items y'.far_e.items y.side y'.side o h due (t.taken h.past h.stands)
+        t.far_a t.far_c t.far_e));
   }
 
   -- it has made one turn more

@@ -1,11 +1,6 @@
--- A side of a run takes all that stands in an inbox, one beat after another, and accepts no beat of A or D.
-use Rattle.std.proofs.Common.{◌≡◌, ℕ, ◌+◌, ◌≤◌, ◌<◌, None, Some, List, [], ◌∷◌, ◌++◌, length, take, drop, map, Vec, Global, vec_len, vec_capacity, refl, sym, ap, subst, ◌∙◌, append-nil, append_assoc, arith}
+-- A side of a run takes all that stands in an inbox, one beat after another.
+use Rattle.std.proofs.Common.{◌≡◌, ◌+◌, ◌≤◌, ◌<◌, None, Some, List, [], ◌∷◌, ◌++◌, length, take, drop, Vec, Global, vec_len, vec_capacity, refl, sym, ap, subst, ◌∙◌, append-nil, append_assoc, arith}
 use Rattle.std.specs.Prelude.{slice_get}
-use Rattle.tl_msg.specs.declared.head.HeadA.{HeadA}
-use Rattle.tl_msg.specs.declared.head.HeadD.{HeadD}
-use Rattle.tl_ring.specs.Crossing.{World}
-use Rattle.tl_settle.specs.Histories.{Ask, Answer}
-use Rattle.tl_pair.specs.Sides.{ClientState, ManagerState, ClientPast, ManagerPast, ClientStandsFor, ManagerStandsFor}
 use Rattle.tl_bridge.proofs.Draining.{first-and-rest, no-first}
 
 -- what takes beats from an inbox: whether it may, and what it becomes
@@ -67,13 +62,3 @@ module _ {S B : Type 0} (inbox : S → List B) (Can : S → Type 0) (Becomes : S
 
           pub taken-items : far.items ≡ before.items ++ inbox old
           taken-items = i.items ∙ ap (λ q. before.items ++ q) whole
-
--- ---- no beat of A or D is accepted
-
-pub no-ask : {A : Type 0} {C M : ℕ} (s : ClientState A C M) (x : ClientPast C M) (y : World HeadA C M) → ClientStandsFor s (record x { a = y }) →
-    ClientStandsFor s (record x { history = x.history ++ map Ask []; a = y })
-no-ask s x y h = subst (λ q. ClientStandsFor s (record x { history = q; a = y })) (sym (append-nil x.history)) h
-
-pub no-answer : {A : Type 0} {C M : ℕ} (t : ManagerState A C M) (x : ManagerPast C M) (y : World HeadD M C) → ManagerStandsFor t (record x { d = y }) →
-    ManagerStandsFor t (record x { history = x.history ++ map Answer []; d = y })
-no-answer t x y h = subst (λ q. ManagerStandsFor t (record x { history = q; d = y })) (sym (append-nil x.history)) h

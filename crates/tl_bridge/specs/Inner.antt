@@ -1,4 +1,5 @@
 pub mod Running
 pub mod Arriving
 pub mod Taking
+pub mod Offering
 pub mod Sides

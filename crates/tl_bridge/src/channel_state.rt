@@ -1,9 +1,11 @@
 //! What becomes of the next beat of a channel in a round of a run.
-ghost use Rattle.std.specs.Prelude.{◌≡◌, ◌≢◌, ◌↔◌, ℕ, IsTrue, IfSome, IsNone};
+ghost use Rattle.std.specs.Prelude.{◌≡◌, ◌≢◌, ◌↔◌, IsTrue, IfSome, IsNone};
 ghost use Rattle.tl_sides.specs.declared.per_channel.PerChannel.{PerChannel};
+ghost use Rattle.tl_bridge.specs.Inner.Offering.{close_outcome, offer_outcome};
 ghost use Rattle.tl_bridge.specs.Inner.Running.{AreStopped, HaveRoomToCount, all_stopped, counted, steps};
 
 use tl_msg::SideFault;
+use tl_ring::EndFault;
 use tl_sides::PerChannel;
 
 /// Why a channel offers no more: the words of its verdict.
@@ -29,6 +31,26 @@ pub(crate) enum Offered {
 }
 
 impl Offered {
+    // What becomes of a beat, by the answer to its offer.
+    pub(crate) fn from_offer(answer: Result<(), SideFault>) -> Offered
+        ensures { result ≡ offer_outcome answer }
+    {
+        match answer {
+            Ok(()) => Offered::Accepted,
+            Err(fault) => Offered::Stopped(Stop::Refused(fault)),
+        }
+    }
+
+    // What becomes of a channel that has no beat left, by the answer to its close.
+    pub(crate) fn from_close(answer: Result<(), EndFault>) -> Offered
+        ensures { result ≡ close_outcome answer }
+    {
+        match answer {
+            Ok(()) => Offered::Stopped(Stop::Done),
+            Err(_) => Offered::Stopped(Stop::Cut),
+        }
+    }
+
     // Whether it is accepted.
     pub(crate) fn is_accepted(&self) -> bool
         ensures { IsTrue result ↔ (steps self.now ≢ 0) }

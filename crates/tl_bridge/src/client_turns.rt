@@ -1,23 +1,18 @@
 //! What the client's side does in a round of a run in two threads.
-ghost use Rattle.std.specs.Prelude.{◌≡◌, ◌+◌, ◌++◌, ◌≤◌, ℕ, List, length, map, vec_len, vec_capacity};
+ghost use Rattle.std.specs.Prelude.{◌≡◌, ◌+◌, ◌≤◌, ℕ, List, length, vec_len, vec_capacity};
 ghost use Rattle.tl_lanes.specs.Lanes.{IsWidth};
-ghost use Rattle.tl_msg.specs.Tables.{rules_a, rules_c, rules_e};
-ghost use Rattle.tl_msg.specs.declared.head.HeadA.{HeadA};
 ghost use Rattle.tl_msg.specs.declared.head.HeadB.{HeadB};
-ghost use Rattle.tl_msg.specs.declared.head.HeadC.{HeadC};
 ghost use Rattle.tl_msg.specs.declared.head.HeadD.{HeadD};
-ghost use Rattle.tl_msg.specs.declared.head.HeadE.{HeadE};
 ghost use Rattle.tl_msg.specs.declared.beat.BeatOf.{BeatOf};
-ghost use Rattle.tl_ring.specs.Crossing.{World};
-ghost use Rattle.tl_settle.specs.Histories.{Event, Ask, client_answer};
-ghost use Rattle.tl_sides.specs.Crossings.{stops_alone};
-ghost use Rattle.tl_pair.specs.Sides.{ClientPast, ClientStandsFor, client_takes_b, client_takes_d};
+ghost use Rattle.tl_settle.specs.Histories.{Event};
+ghost use Rattle.tl_pair.specs.Sides.{ClientPast, ClientStandsFor};
 ghost use Rattle.tl_bridge.specs.Scripts.{HasShortLists, near_beats};
 ghost use Rattle.tl_bridge.specs.declared.channel_state.Offered.TheVariants.{NotReady};
-ghost use Rattle.tl_bridge.specs.Inner.Running.{Does, HaveRoomToCount};
-ghost use Rattle.tl_bridge.specs.Inner.Sides.{SameClientEnds, ClientHasOffered, ClientGoes, ClientIsAt, ClientMayPlay, ClientHasPlayed};
+ghost use Rattle.tl_bridge.specs.Inner.Offering.{OffersNext, on_a, on_c, on_e};
+ghost use Rattle.tl_bridge.specs.Inner.Running.{HaveRoomToCount};
+ghost use Rattle.tl_bridge.specs.Inner.Sides.{SameClientEnds, ClientHasTaken, ClientHasOffered, ClientGoes, ClientIsAt, ClientMayPlay, ClientHasPlayed};
 
-use crate::channel_state::{Offered, Stop};
+use crate::channel_state::Offered;
 use crate::gates::Gate;
 use crate::inboxes::take_all;
 use crate::turns::Turn;
@@ -59,25 +54,15 @@ fn offer_a<const C: usize, const M: usize>(
 ) -> Offered
     requires near { IsWidth C }
     requires far { IsWidth M }
-    ensures ends { SameClientEnds side.old side.new }
-    ensures offers { (x : ClientPast C M) → ClientStandsFor side.old x →
-        (accepted : List (BeatOf HeadA C)) × (y : World HeadA C M) ×
-        ClientStandsFor side.new (record x { history = x.history ++ map Ask accepted; a = y }) ×
-        Does rules_a beats.now at (client_answer x.history) (λ _. 0) x.a result accepted y }
+    ensures { OffersNext on_a beats.now at side.old result side.new }
 {
     let Some(beat) = beats.get(at) else {
-        return match side.close_a() {
-            Ok(()) => Offered::Stopped(Stop::Done),
-            Err(_) => Offered::Stopped(Stop::Cut),
-        };
+        return Offered::from_close(side.close_a());
     };
     if !side.ready_a() {
         return Offered::NotReady;
     }
-    match side.offer_a(*beat) {
-        Ok(()) => Offered::Accepted,
-        Err(fault) => Offered::Stopped(Stop::Refused(fault)),
-    }
+    Offered::from_offer(side.offer_a(*beat))
 }
 
 // The client's side offers the next beat of C, of which `at` were accepted.
@@ -88,26 +73,15 @@ fn offer_c<const C: usize, const M: usize>(
 ) -> Offered
     requires near { IsWidth C }
     requires far { IsWidth M }
-    ensures ends { SameClientEnds side.old side.new }
-    ensures offers { (x : ClientPast C M) → ClientStandsFor side.old x →
-        (accepted : List (BeatOf HeadC C)) × (y : World HeadC C M) ×
-        ClientStandsFor side.new (record x { c = y }) ×
-        Does rules_c beats.now at (stops_alone rules_c x.c.accepted) (λ _. 0)
-        x.c result accepted y }
+    ensures { OffersNext on_c beats.now at side.old result side.new }
 {
     let Some(beat) = beats.get(at) else {
-        return match side.close_c() {
-            Ok(()) => Offered::Stopped(Stop::Done),
-            Err(_) => Offered::Stopped(Stop::Cut),
-        };
+        return Offered::from_close(side.close_c());
     };
     if !side.ready_c() {
         return Offered::NotReady;
     }
-    match side.offer_c(*beat) {
-        Ok(()) => Offered::Accepted,
-        Err(fault) => Offered::Stopped(Stop::Refused(fault)),
-    }
+    Offered::from_offer(side.offer_c(*beat))
 }
 
 // The client's side offers the next beat of E, of which `at` were accepted.
@@ -118,26 +92,15 @@ fn offer_e<const C: usize, const M: usize>(
 ) -> Offered
     requires near { IsWidth C }
     requires far { IsWidth M }
-    ensures ends { SameClientEnds side.old side.new }
-    ensures offers { (x : ClientPast C M) → ClientStandsFor side.old x →
-        (accepted : List (BeatOf HeadE C)) × (y : World HeadE C M) ×
-        ClientStandsFor side.new (record x { e = y }) ×
-        Does rules_e beats.now at (stops_alone rules_e x.e.accepted) (λ _. 0)
-        x.e result accepted y }
+    ensures { OffersNext on_e beats.now at side.old result side.new }
 {
     let Some(beat) = beats.get(at) else {
-        return match side.close_e() {
-            Ok(()) => Offered::Stopped(Stop::Done),
-            Err(_) => Offered::Stopped(Stop::Cut),
-        };
+        return Offered::from_close(side.close_e());
     };
     if !side.ready_e() {
         return Offered::NotReady;
     }
-    match side.offer_e(*beat) {
-        Ok(()) => Offered::Accepted,
-        Err(fault) => Offered::Stopped(Stop::Refused(fault)),
-    }
+    Offered::from_offer(side.offer_e(*beat))
 }
 
 // The client's side takes all that stands in its inboxes.
@@ -149,14 +112,9 @@ fn take_each<const C: usize, const M: usize>(
     requires width { IsWidth C }
     requires room_b { vec_len far_b.old + length side.old.b.inbox ≤ vec_capacity far_b.old }
     requires room_d { vec_len far_d.old + length side.old.d.inbox ≤ vec_capacity far_d.old }
-    ensures taken { (x : ClientPast C M) → ClientStandsFor side.old x →
-        ClientStandsFor side.new
-        (client_takes_d side.old.d.inbox (client_takes_b side.old.b.inbox x)) }
-    ensures far_b { far_b.new.items ≡ far_b.old.items ++ side.old.b.inbox }
-    ensures far_d { far_d.new.items ≡ far_d.old.items ++ side.old.d.inbox }
-    ensures capacity_b { vec_capacity far_b.new ≡ vec_capacity far_b.old }
-    ensures capacity_d { vec_capacity far_d.new ≡ vec_capacity far_d.old }
-    ensures ends { SameClientEnds side.old side.new }
+    ensures { ClientHasTaken
+        (record { side = side.old; far_b = far_b.old; far_d = far_d.old })
+        (record { side = side.new; far_b = far_b.new; far_d = far_d.new }) }
 {
     take_all(side, far_b);
     take_all(side, far_d);

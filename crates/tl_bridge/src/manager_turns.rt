@@ -1,23 +1,19 @@
 //! What the manager's side does in a round of a run in two threads.
-ghost use Rattle.std.specs.Prelude.{◌≡◌, ◌+◌, ◌++◌, ◌≤◌, ℕ, List, length, map, vec_len, vec_capacity};
+ghost use Rattle.std.specs.Prelude.{◌≡◌, ◌+◌, ◌≤◌, ℕ, List, length, vec_len, vec_capacity};
 ghost use Rattle.tl_lanes.specs.Lanes.{IsWidth};
-ghost use Rattle.tl_msg.specs.Tables.{rules_b, rules_d};
 ghost use Rattle.tl_msg.specs.declared.head.HeadA.{HeadA};
-ghost use Rattle.tl_msg.specs.declared.head.HeadB.{HeadB};
 ghost use Rattle.tl_msg.specs.declared.head.HeadC.{HeadC};
-ghost use Rattle.tl_msg.specs.declared.head.HeadD.{HeadD};
 ghost use Rattle.tl_msg.specs.declared.head.HeadE.{HeadE};
 ghost use Rattle.tl_msg.specs.declared.beat.BeatOf.{BeatOf};
-ghost use Rattle.tl_ring.specs.Crossing.{World};
-ghost use Rattle.tl_settle.specs.Histories.{Event, Answer, manager_answer, manager_home};
-ghost use Rattle.tl_sides.specs.Crossings.{stops_alone};
-ghost use Rattle.tl_pair.specs.Sides.{ManagerPast, ManagerStandsFor, manager_takes_a, manager_takes_c, manager_takes_e};
+ghost use Rattle.tl_settle.specs.Histories.{Event};
+ghost use Rattle.tl_pair.specs.Sides.{ManagerPast, ManagerStandsFor};
 ghost use Rattle.tl_bridge.specs.Scripts.{HasShortLists, near_beats};
 ghost use Rattle.tl_bridge.specs.declared.channel_state.Offered.TheVariants.{NotReady};
-ghost use Rattle.tl_bridge.specs.Inner.Running.{Does, HaveRoomToCount};
-ghost use Rattle.tl_bridge.specs.Inner.Sides.{SameManagerEnds, ManagerHasOffered, ManagerGoes, ManagerIsAt, ManagerMayPlay, ManagerHasPlayed};
+ghost use Rattle.tl_bridge.specs.Inner.Offering.{OffersNext, on_b, on_d};
+ghost use Rattle.tl_bridge.specs.Inner.Running.{HaveRoomToCount};
+ghost use Rattle.tl_bridge.specs.Inner.Sides.{SameManagerEnds, ManagerHasTaken, ManagerHasOffered, ManagerGoes, ManagerIsAt, ManagerMayPlay, ManagerHasPlayed};
 
-use crate::channel_state::{Offered, Stop};
+use crate::channel_state::Offered;
 use crate::gates::Gate;
 use crate::inboxes::take_all;
 use crate::turns::Turn;
@@ -61,26 +57,15 @@ fn offer_b<const C: usize, const M: usize>(
 ) -> Offered
     requires near { IsWidth M }
     requires far { IsWidth C }
-    ensures ends { SameManagerEnds side.old side.new }
-    ensures offers { (x : ManagerPast C M) → ManagerStandsFor side.old x →
-        (accepted : List (BeatOf HeadB M)) × (y : World HeadB M C) ×
-        ManagerStandsFor side.new (record x { b = y }) ×
-        Does rules_b beats.now at (stops_alone rules_b x.b.accepted) (λ _. 0)
-        x.b result accepted y }
+    ensures { OffersNext on_b beats.now at side.old result side.new }
 {
     let Some(beat) = beats.get(at) else {
-        return match side.close_b() {
-            Ok(()) => Offered::Stopped(Stop::Done),
-            Err(_) => Offered::Stopped(Stop::Cut),
-        };
+        return Offered::from_close(side.close_b());
     };
     if !side.ready_b() {
         return Offered::NotReady;
     }
-    match side.offer_b(*beat) {
-        Ok(()) => Offered::Accepted,
-        Err(fault) => Offered::Stopped(Stop::Refused(fault)),
-    }
+    Offered::from_offer(side.offer_b(*beat))
 }
 
 // The manager's side offers the next beat of D, of which `at` were accepted.
@@ -91,26 +76,15 @@ fn offer_d<const C: usize, const M: usize>(
 ) -> Offered
     requires near { IsWidth M }
     requires far { IsWidth C }
-    ensures ends { SameManagerEnds side.old side.new }
-    ensures offers { (x : ManagerPast C M) → ManagerStandsFor side.old x →
-        (accepted : List (BeatOf HeadD M)) × (y : World HeadD M C) ×
-        ManagerStandsFor side.new (record x { history = x.history ++ map Answer accepted; d = y }) ×
-        Does rules_d beats.now at (manager_answer x.history)
-        (λ b. manager_home x.history b.head) x.d result accepted y }
+    ensures { OffersNext on_d beats.now at side.old result side.new }
 {
     let Some(beat) = beats.get(at) else {
-        return match side.close_d() {
-            Ok(()) => Offered::Stopped(Stop::Done),
-            Err(_) => Offered::Stopped(Stop::Cut),
-        };
+        return Offered::from_close(side.close_d());
     };
     if !side.ready_d() {
         return Offered::NotReady;
     }
-    match side.offer_d(*beat) {
-        Ok(()) => Offered::Accepted,
-        Err(fault) => Offered::Stopped(Stop::Refused(fault)),
-    }
+    Offered::from_offer(side.offer_d(*beat))
 }
 
 // The manager's side takes all that stands in its inboxes.
@@ -124,16 +98,9 @@ fn take_each<const C: usize, const M: usize>(
     requires room_a { vec_len far_a.old + length side.old.a.inbox ≤ vec_capacity far_a.old }
     requires room_c { vec_len far_c.old + length side.old.c.inbox ≤ vec_capacity far_c.old }
     requires room_e { vec_len far_e.old + length side.old.e.inbox ≤ vec_capacity far_e.old }
-    ensures taken { (x : ManagerPast C M) → ManagerStandsFor side.old x →
-        ManagerStandsFor side.new (manager_takes_e side.old.e.inbox
-        (manager_takes_c side.old.c.inbox (manager_takes_a side.old.a.inbox x))) }
-    ensures far_a { far_a.new.items ≡ far_a.old.items ++ side.old.a.inbox }
-    ensures far_c { far_c.new.items ≡ far_c.old.items ++ side.old.c.inbox }
-    ensures far_e { far_e.new.items ≡ far_e.old.items ++ side.old.e.inbox }
-    ensures capacity_a { vec_capacity far_a.new ≡ vec_capacity far_a.old }
-    ensures capacity_c { vec_capacity far_c.new ≡ vec_capacity far_c.old }
-    ensures capacity_e { vec_capacity far_e.new ≡ vec_capacity far_e.old }
-    ensures ends { SameManagerEnds side.old side.new }
+    ensures { ManagerHasTaken
+        (record { side = side.old; far_a = far_a.old; far_c = far_c.old; far_e = far_e.old })
+        (record { side = side.new; far_a = far_a.new; far_c = far_c.new; far_e = far_e.new }) }
 {
     take_all(side, far_a);
     take_all(side, far_c);

@@ -74,7 +74,9 @@ impl Turn {
     pub(crate) fn then(self, last: Turn) -> Turn
         ensures at { result.at ≡ last.at }
         ensures offers { result.offers ≡ last.offers }
-        ensures moved { result.moved ≡ true → (self.moved ≡ true) ⊎ (last.moved ≡ true) }
+        ensures accepted { (result.accepted ≡ true) ↔
+            ((self.accepted ≡ true) ⊎ (last.accepted ≡ true)) }
+        ensures moved { (result.moved ≡ true) ↔ ((self.moved ≡ true) ⊎ (last.moved ≡ true)) }
     {
         Turn {
             at: last.at,

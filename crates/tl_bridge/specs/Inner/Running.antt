@@ -65,10 +65,6 @@ module _ {H : Type 0} (r : Rules H) {w v : ℕ} (bs : List (BeatOf H w)) (n : �
   Does answer home x (Stopped Cut) accepted y =
       (slice_get bs n ≡ None) × (rest_of r w x.accepted ≢ []) × (accepted ≡ []) × (y ≡ x)
 
-  -- no beat is offered, whatever the channel's side would answer
-  abbrev pub Rests : (x : World H w v) → Offered → (y : World H w v) → Type 0
-  Rests x o y = (answer : BeatOf H w → Option SideFault) (home : BeatOf H w → ℕ) → Does answer home x o [] y
-
   -- the first n beats of a list were accepted, all of them before the first one that has a fault of its own, and `far` was taken
   pub record IsSent (far : List (BeatOf H v)) (x : World H w v) : Type 0 where
     pub accepted : x.accepted ≡ take n bs

@@ -18,6 +18,7 @@ use Rattle.tl_sides.specs.declared.per_channel.PerChannel.{PerChannel}
 use Rattle.tl_sides.specs.Crossings.{stops_alone}
 use Rattle.tl_sides.specs.Bridges.{Bridge, Past}
 use Rattle.tl_pair.specs.Sides.{ClientState, ManagerState, ClientPast, ManagerPast, ClientStandsFor, ManagerStandsFor, AreSides, SameClient, SameManager, SidesMeet, new_client, new_manager}
+use Rattle.tl_pair.specs.Sides.{client_takes_b, client_takes_d, manager_takes_a, manager_takes_c, manager_takes_e}
 use Rattle.tl_bridge.specs.Inner.Running.{Does, Stops, IsSent, IsHomed, IsAt, AllStop, HaveRoomToCount, all_standing, all_under_way, steps}
 use Rattle.tl_bridge.specs.declared.channel_state.Offered.{Offered}
 use Rattle.tl_bridge.specs.declared.channel_state.Offered.TheVariants.{NotReady}
@@ -133,6 +134,29 @@ module _ {A : Type 0} {C M : ℕ} (near : Beats C M) where
     pub e_taken : far_of_e ≡ past.e
     pub stop_b : Stops rules_b near.b n.b (stops_alone rules_b past.b.accepted) past.b.accepted o.b
     pub stop_d : Stops rules_d near.d n.d (manager_answer past.history) past.d.accepted o.d
+
+-- ---- takes
+
+module _ {C M : ℕ} where
+  -- a side has taken all that stood in its inboxes, into its lists
+  pub record ClientHasTaken (x x' : ClientRun C M) : Type 0 where
+    pub taken : (p : ClientPast C M) → ClientStandsFor x.side p → ClientStandsFor x'.side (client_takes_d x.side.d.inbox (client_takes_b x.side.b.inbox p))
+    pub far_b : x'.far_b.items ≡ x.far_b.items ++ x.side.b.inbox
+    pub far_d : x'.far_d.items ≡ x.far_d.items ++ x.side.d.inbox
+    pub capacity_b : vec_capacity x'.far_b ≡ vec_capacity x.far_b
+    pub capacity_d : vec_capacity x'.far_d ≡ vec_capacity x.far_d
+    pub ends : SameClientEnds x.side x'.side
+
+  pub record ManagerHasTaken (y y' : ManagerRun C M) : Type 0 where
+    pub taken : (q : ManagerPast C M) → ManagerStandsFor y.side q →
+        ManagerStandsFor y'.side (manager_takes_e y.side.e.inbox (manager_takes_c y.side.c.inbox (manager_takes_a y.side.a.inbox q)))
+    pub far_a : y'.far_a.items ≡ y.far_a.items ++ y.side.a.inbox
+    pub far_c : y'.far_c.items ≡ y.far_c.items ++ y.side.c.inbox
+    pub far_e : y'.far_e.items ≡ y.far_e.items ++ y.side.e.inbox
+    pub capacity_a : vec_capacity y'.far_a ≡ vec_capacity y.far_a
+    pub capacity_c : vec_capacity y'.far_c ≡ vec_capacity y.far_c
+    pub capacity_e : vec_capacity y'.far_e ≡ vec_capacity y.far_e
+    pub ends : SameManagerEnds y.side y'.side
 
 -- ---- a round of a side in its thread
 

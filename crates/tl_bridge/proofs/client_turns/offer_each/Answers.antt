@@ -19,9 +19,9 @@ offer_e-e-requires g c = (client_small g.row.C g.row.M c.requires.client c.requi
 
 pub returns-clause-offers : goal.returns-clause-offers
 returns-clause-offers g c = λ x h.
-    let on_a = c.offer_a-a.ensures.offers x h in
-    let on_c = c.offer_c-c.ensures.offers (record x { history = x.history ++ map Ask on_a.0; a = on_a.1 }) on_a.2 in
-    let on_e = c.offer_e-e.ensures.offers (record x { history = x.history ++ map Ask on_a.0; a = on_a.1; c = on_c.1 }) on_c.2 in
+    let on_a = c.offer_a-a.ensures.does x h in
+    let on_c = c.offer_c-c.ensures.does (record x { history = x.history ++ map Ask on_a.0; a = on_a.1 }) on_a.2 in
+    let on_e = c.offer_e-e.ensures.does (record x { history = x.history ++ map Ask on_a.0; a = on_a.1; c = on_c.1 }) on_c.2 in
     record {
       past = record x { history = x.history ++ map Ask on_a.0; a = on_a.1; c = on_c.1; e = on_e.1 };
       stands = on_e.2;
@@ -36,4 +36,4 @@ returns-clause-offers g c = λ x h.
     }
 
 pub returns-clause-ends : goal.returns-clause-ends
-returns-clause-ends g c = client-ends-then _ _ _ (client-ends-then _ _ _ (c.offer_a-a.ensures.ends) c.offer_c-c.ensures.ends) c.offer_e-e.ensures.ends
+returns-clause-ends g c = client-ends-then _ _ _ (client-ends-then _ _ _ (c.offer_a-a.ensures.same) c.offer_c-c.ensures.same) c.offer_e-e.ensures.same

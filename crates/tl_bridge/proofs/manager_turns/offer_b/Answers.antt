@@ -1,10 +1,10 @@
-use Rattle.std.proofs.Common.{[], ◌∷◌, refl, sym, subst, arith}
-use Rattle.tl_msg.specs.Tables.{rules_b}
-use Rattle.tl_ring.specs.Crossing.{offered, shut}
-use Rattle.tl_ring.specs.Ends.{as_pipe}
+use Rattle.std.proofs.Common.{refl, ap, arith}
+use Rattle.tl_ring.specs.Ends.{as_pipe, closing}
 use Rattle.tl_ring.proofs.FieldSizes.{beat_small}
-use Rattle.tl_pair.specs.Sides.{ManagerStandsFor}
-use Rattle.tl_bridge.proofs.OfferSteps.{read_some, read_none, not_ready}
+use Rattle.tl_bridge.specs.Inner.Offering.{on_b}
+use Rattle.tl_bridge.specs.Inner.Sides.{SameManagerEnds}
+use Rattle.tl_bridge.proofs.SideEnds.{manager-ends-same}
+use Rattle.tl_bridge.proofs.SideOffers.{waits, answers, closes, holds-after}
 use Rattle.tl_bridge.proofs.SideSizes.{manager_small}
 use Rattle.tl_bridge.proofs.manager_turns.offer_b.Goals as goal
 
@@ -17,35 +17,21 @@ ready_b-requires g c = manager_small g.row.C g.row.M c.requires.far c.requires.n
 pub offer_b-requires : goal.offer_b-requires
 offer_b-requires g c = (manager_small g.row.C g.row.M c.requires.far c.requires.near, (beat_small 24 g.row.M (omega arith) c.requires.near, (c.requires.near, (c.requires.far, c.if-not-ready_b.ensures.0 refl))))
 
-pub returns-in-Ok-clause-offers : goal.returns-in-Ok-clause-offers
-returns-in-Ok-clause-offers g c = λ x k.
-    let none = read_none c.args.beats.now c.args.at c.in_default.ensures.lookup.0 in
-    ([], shut x.b, c.in-Ok.ensures.stands x k, (none, (c.in-Ok.ensures.between x k).0 refl, refl, refl))
+pub returns-in_default : goal.returns-in_default
+returns-in_default g c =
+    let s = c.args.side.now in
+    let ended = c.close_b.ensures in
+    let ends = holds-after (SameManagerEnds s) c.close_b.result s c.close_b.new.self (record s { b = closing s.b }) ended.closed ended.refused (manager-ends-same s) (record { a = refl; b = refl; c = refl; d = refl; e = refl }) in
+    rw (c.from_close.ensures) (closes on_b c.args.beats.now c.args.at s c.in_default.ensures.lookup.0 c.close_b.result c.close_b.new.self ends ended.refused ended.between ended.stands)
 
-pub returns-in-Err-clause-offers : goal.returns-in-Err-clause-offers
-returns-in-Err-clause-offers g c = λ x k.
-    let none = read_none c.args.beats.now c.args.at c.in_default.ensures.lookup.0 in
-    let between = c.in-Err.ensures.between x k in
-    let stands = subst (λ q. ManagerStandsFor q x) (sym c.in-Err.ensures.refused) k in
-    ([], x.b, stands, (none, (λ whole. let ok = between.1 whole in cc), refl, refl))
+pub returns-then-not-ready_b : goal.returns-then-not-ready_b
+returns-then-not-ready_b g c =
+    let s = c.args.side.now in
+    waits on_b c.args.beats.now c.args.at s c.in-Some.beat.now c.in-Some.ensures.lookup.0 c.in-Some.ensures.lookup.1 (as_pipe s.b) (λ x h. h.b.pipe) (λ ready. let ok = c.if-not-ready_b.ensures.1 ready in cc) (manager-ends-same s)
 
-pub returns-then-not-ready_b-clause-offers : goal.returns-then-not-ready_b-clause-offers
-returns-then-not-ready_b-clause-offers g c = λ x k.
-    let some = read_some c.args.beats.now c.args.at c.in-Some.beat.now c.in-Some.ensures.lookup.0 c.in-Some.ensures.lookup.1 in
-    let waits = not_ready rules_b (as_pipe c.args.side.now.b) x.b k.b.pipe (λ ready. let ok = c.if-not-ready_b.ensures.1 ready in cc) in
-    ([], x.b, k, (c.in-Some.beat.now, some, waits, refl, refl))
-
-pub returns-in-Ok-offer_b-clause-offers : goal.returns-in-Ok-offer_b-clause-offers
-returns-in-Ok-offer_b-clause-offers g c = λ x k.
-    let some = read_some c.args.beats.now c.args.at c.in-Some.beat.now c.in-Some.ensures.lookup.0 c.in-Some.ensures.lookup.1 in (
-      c.in-Some.beat.now ∷ [],
-      offered rules_b c.in-Some.beat.now 0 x.b,
-      c.in-Ok-offer_b.ensures.accepted x k,
-      (c.in-Some.beat.now, some, (c.in-Ok-offer_b.ensures.admitted x k).0 refl, refl, refl),
-    )
-
-pub returns-in-Err-offer_b-clause-offers : goal.returns-in-Err-offer_b-clause-offers
-returns-in-Err-offer_b-clause-offers g c = λ x k.
-    let some = read_some c.args.beats.now c.args.at c.in-Some.beat.now c.in-Some.ensures.lookup.0 c.in-Some.ensures.lookup.1 in
-    let stands = subst (λ q. ManagerStandsFor q x) (sym c.in-Err-offer_b.ensures.refused) k in
-    ([], x.b, stands, (c.in-Some.beat.now, some, c.in-Err-offer_b.ensures.fault x k, refl, refl))
+pub returns : goal.returns
+returns g c =
+    let told = c.offer_b.ensures in
+    rw (c.from_offer.ensures)
+    (answers on_b c.args.beats.now c.args.at c.args.side.now c.in-Some.beat.now c.in-Some.ensures.lookup.0 c.in-Some.ensures.lookup.1 c.offer_b.result c.offer_b.new.self
+    (record { a = ap (λ q. q.a.consumer) told.rest; b = told.ring; c = ap (λ q. q.c.consumer) told.rest; d = ap (λ q. q.d.producer) told.rest; e = ap (λ q. q.e.consumer) told.rest }) told.admitted told.accepted told.fault told.refused)

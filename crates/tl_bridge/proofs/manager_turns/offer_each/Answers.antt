@@ -16,8 +16,8 @@ offer_d-d-requires g c = (manager_small g.row.C g.row.M c.requires.client c.requ
 
 pub returns-clause-offers : goal.returns-clause-offers
 returns-clause-offers g c = λ x h.
-    let on_b = c.offer_b-b.ensures.offers x h in
-    let on_d = c.offer_d-d.ensures.offers (record x { b = on_b.1 }) on_b.2 in
+    let on_b = c.offer_b-b.ensures.does x h in
+    let on_d = c.offer_d-d.ensures.does (record x { b = on_b.1 }) on_b.2 in
     record {
       past = record x { b = on_b.1; history = x.history ++ map Answer on_d.0; d = on_d.1 };
       stands = on_d.2;
@@ -31,4 +31,4 @@ returns-clause-offers g c = λ x h.
     }
 
 pub returns-clause-ends : goal.returns-clause-ends
-returns-clause-ends g c = manager-ends-then _ _ _ (c.offer_b-b.ensures.ends) c.offer_d-d.ensures.ends
+returns-clause-ends g c = manager-ends-then _ _ _ (c.offer_b-b.ensures.same) c.offer_d-d.ensures.same

@@ -1,21 +1,29 @@
-use Rattle.std.proofs.Common.{◌∷◌, [], refl, sym, subst}
-use Rattle.tl_ring.specs.Pipe as piping
-use Rattle.tl_sides.specs.Crossings.{stops_alone}
+use Rattle.tl_bridge.specs.Inner.Offering.{on_pipe}
+use Rattle.tl_bridge.proofs.SideOffers.{waits, answers, closes}
 use Rattle.tl_bridge.proofs.offers.offer_next.Goals as goal
+use Rattle.std.proofs.Common.{refl}
 
-pub returns-in-Ok-offer_alone : goal.returns-in-Ok-offer_alone
-returns-in-Ok-offer_alone g c = λ x k.
-    let here = subst (λ p. piping.StandsFor g.K.Channel.rules p x) (sym c.in-Ok.ensures.same) k in
-    let admitted = (c.in-Ok-offer_alone.ensures.admitted x here).0 refl in
-    (c.in-Ok.beat.now ∷ [], _, c.in-Ok-offer_alone.ensures.accepted x here, (c.in-Ok.beat.now, c.in-Ok.ensures.next, admitted, refl, refl))
+pub close-requires : goal.close-requires
+close-requires g c = search refl
 
-pub returns-in-Err-offer_alone : goal.returns-in-Err-offer_alone
-returns-in-Err-offer_alone g c = λ x k.
-    let here = subst (λ p. piping.StandsFor g.K.Channel.rules p x) (sym c.in-Ok.ensures.same) k in
-    let still = subst (λ p. piping.StandsFor g.K.Channel.rules p x) (sym c.in-Err-offer_alone.ensures.refused) here in
-    ([], x, still, (c.in-Ok.beat.now, c.in-Ok.ensures.next, c.in-Err-offer_alone.ensures.fault x here, refl, refl))
+pub ready-requires : goal.ready-requires
+ready-requires g c = search refl
 
-pub returns-in-Err : goal.returns-in-Err
-returns-in-Err g c = λ x k.
-    let rests = c.in-Err.ensures.rests x k in
-    ([], rests.0, rests.1, rests.2 (stops_alone g.K.Channel.rules x.accepted) (λ _. 0))
+pub offer_alone-requires : goal.offer_alone-requires
+offer_alone-requires g c = (search refl, (search refl, (c.requires.near, (c.requires.far, c.if-not-ready.ensures.0 refl))))
+
+pub returns-in_default : goal.returns-in_default
+returns-in_default g c =
+    let ended = c.close.ensures in
+    rw (c.from_close.ensures) (closes (on_pipe g.K.Channel.rules) c.args.beats.now c.args.at c.args.pipe.now c.in_default.ensures.lookup.0 c.close.result c.close.new.self tt ended.refused ended.between ended.closed)
+
+pub returns-then-not-ready : goal.returns-then-not-ready
+returns-then-not-ready g c =
+    let pipe = c.args.pipe.now in
+    waits (on_pipe g.K.Channel.rules) c.args.beats.now c.args.at pipe c.in-Some.beat.now c.in-Some.ensures.lookup.0 c.in-Some.ensures.lookup.1 pipe (λ x h. h) (λ ready. let ok = c.if-not-ready.ensures.1 ready in cc) tt
+
+pub returns : goal.returns
+returns g c =
+    let told = c.offer_alone.ensures in
+    rw (c.from_offer.ensures)
+    (answers (on_pipe g.K.Channel.rules) c.args.beats.now c.args.at c.args.pipe.now c.in-Some.beat.now c.in-Some.ensures.lookup.0 c.in-Some.ensures.lookup.1 c.offer_alone.result c.offer_alone.new.pipe tt told.admitted told.accepted told.fault told.refused)

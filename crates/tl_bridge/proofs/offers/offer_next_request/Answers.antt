@@ -1,27 +1,36 @@
-use Rattle.std.proofs.Common.{◌∷◌, [], refl, sym, subst, ◌∙◌}
-use Rattle.tl_msg.specs.Tables.{rules_a}
-use Rattle.tl_ring.specs.Pipe as piping
-use Rattle.tl_settle.specs.Histories.{client_answer}
-use Rattle.tl_sides.specs.Crossings.{ClientAsks}
-use Rattle.tl_bridge.proofs.OfferSteps.{does-keeps, asks_still}
+use Rattle.std.proofs.Common.{refl, ap, lit<, arith}
+use Rattle.std.proofs.lemmas.Result.{on_ok_weaker, on_err_weaker}
+use Rattle.tl_ring.proofs.FieldSizes.{beat_small}
+use Rattle.tl_sides.proofs.BridgeSize.{bridge_part_small}
+use Rattle.tl_bridge.specs.Inner.Offering.{on_requests}
+use Rattle.tl_bridge.proofs.SideOffers.{waits, answers, closes, both-same}
 use Rattle.tl_bridge.proofs.offers.offer_next_request.Goals as goal
 
-pub returns-in-Ok-offer_request : goal.returns-in-Ok-offer_request
-returns-in-Ok-offer_request g c = λ es x k.
-    let here = subst (λ p. ClientAsks c.args.book.now p es x) (sym c.in-Ok.ensures.same) k in
-    let admitted = (c.in-Ok-offer_request.ensures.admitted es x here).0 refl in
-    (c.in-Ok.beat.now ∷ [], _, c.in-Ok-offer_request.ensures.accepted es x here, (c.in-Ok.beat.now, c.in-Ok.ensures.next, admitted, refl, refl))
+pub close-requires : goal.close-requires
+close-requires g c = bridge_part_small g.row.C g.row.M 0 c.requires.near c.requires.far
 
-pub returns-in-Err-offer_request : goal.returns-in-Err-offer_request
-returns-in-Err-offer_request g c = λ es x k.
-    let here = subst (λ p. ClientAsks c.args.book.now p es x) (sym c.in-Ok.ensures.same) k in
-    let refused = c.in-Err-offer_request.ensures.refused in
-    let stands = subst (λ p. piping.StandsFor rules_a p x) (sym (refused.1 ∙ c.in-Ok.ensures.same)) k.stands in
-    ([], x, asks_still _ _ _ es x x refused.0 k.knows k.same refl stands, (c.in-Ok.beat.now, c.in-Ok.ensures.next, c.in-Err-offer_request.ensures.fault es x here, refl, refl))
+pub ready-requires : goal.ready-requires
+ready-requires g c = bridge_part_small g.row.C g.row.M 0 c.requires.near c.requires.far
 
-pub returns-in-Err : goal.returns-in-Err
-returns-in-Err g c = λ es x k.
-    let rests = c.in-Err.ensures.rests x k.stands in
-    let does = rests.2 (client_answer es) (λ _. 0) in
-    let kept = does-keeps rules_a c.args.beats.now c.args.at (client_answer es) (λ _. 0) x rests.0 c.in-Err.offered does in
-    ([], rests.0, asks_still _ _ _ es x rests.0 refl k.knows k.same kept.0 rests.1, does)
+pub offer_request-requires : goal.offer_request-requires
+offer_request-requires g c = (lit< tt, (bridge_part_small g.row.C g.row.M 0 c.requires.near c.requires.far, (beat_small 24 g.row.C (omega arith) c.requires.near, (c.requires.near, (c.requires.far, c.if-not-ready.ensures.0 refl)))))
+
+pub returns-in_default : goal.returns-in_default
+returns-in_default g c =
+    let book = c.args.book.now in
+    let ended = c.close.ensures in
+    rw (c.from_close.ensures)
+    (closes on_requests c.args.beats.now c.args.at (book, c.args.pipe.now) c.in_default.ensures.lookup.0 c.close.result (book, c.close.new.self) tt (on_err_weaker c.close.result (λ e. ap (λ q. (book, q)) e) ended.refused)
+    (λ x h. ended.between x.1 h.stands) (λ x h. on_ok_weaker c.close.result (λ q. record { knows = h.knows; stands = q; same = h.same }) (ended.closed x.1 h.stands)))
+
+pub returns-then-not-ready : goal.returns-then-not-ready
+returns-then-not-ready g c =
+    let pipe = c.args.pipe.now in
+    waits on_requests c.args.beats.now c.args.at (c.args.book.now, pipe) c.in-Some.beat.now c.in-Some.ensures.lookup.0 c.in-Some.ensures.lookup.1 pipe (λ x h. h.stands) (λ ready. let ok = c.if-not-ready.ensures.1 ready in cc) tt
+
+pub returns : goal.returns
+returns g c =
+    let told = c.offer_request.ensures in
+    rw (c.from_offer.ensures)
+    (answers on_requests c.args.beats.now c.args.at (c.args.book.now, c.args.pipe.now) c.in-Some.beat.now c.in-Some.ensures.lookup.0 c.in-Some.ensures.lookup.1 c.offer_request.result (c.offer_request.new.book, c.offer_request.new.pipe) tt
+    (λ x h. told.admitted x.0 x.1 h) (λ x h. told.accepted x.0 x.1 h) (λ x h. told.fault x.0 x.1 h) (on_err_weaker c.offer_request.result (λ e. both-same e) told.refused))

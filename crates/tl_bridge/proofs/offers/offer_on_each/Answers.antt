@@ -33,11 +33,11 @@ offer_next_response-d-requires g c =
 pub returns : goal.returns
 returns g c = λ x k.
     let h = rw (← c.bridge.view_is) at k in
-    let on_a = c.offer_next_request-a.ensures x.client x.a (client_asks _ x h) in
-    let on_b = c.offer_next-b.ensures x.b h.b in
-    let on_c = c.offer_next-c.ensures x.c h.c in
-    let on_d = c.offer_next_response-d.ensures x.manager x.d (manager_answers _ x h) in
-    let on_e = c.offer_next-e.ensures x.e h.e in
+    let on_a = c.offer_next_request-a.ensures.does (x.client, x.a) (client_asks _ x h) in
+    let on_b = c.offer_next-b.ensures.does x.b h.b in
+    let on_c = c.offer_next-c.ensures.does x.c h.c in
+    let on_d = c.offer_next_response-d.ensures.does (x.manager, x.d) (manager_answers _ x h) in
+    let on_e = c.offer_next-e.ensures.does x.e h.e in
     all-offered (near_beats c.args.script.now) c.args.at.now _ x h _ _
     (on_a.0, on_a.1, on_a.2, subst (λ bs. Does rules_a bs c.args.at.now.a (client_answer x.client) (λ _. 0) x.a c.offer_next_request-a.result on_a.0 on_a.1) c.deref.ensures.value on_a.3)
     (on_b.0, on_b.1, on_b.2, subst (λ bs. Does rules_b bs c.args.at.now.b (stops_alone rules_b x.b.accepted) (λ _. 0) x.b c.offer_next-b.result on_b.0 on_b.1) c.deref-4.ensures.value on_b.3)
