@@ -1,4 +1,4 @@
--- How the program ends (this project's choice).
+-- How a program ends (this project's choice).
 use Rattle.std.specs.Prelude.{◌++◌, ℕ, List, [], Option, None, Some, Bool, true, false, Result, Ok, Err, codes, decimal}
 use Rattle.tl_trace.specs.Texts.{newline}
 use Rattle.tl_answer.specs.Faults.{text_fault_line, text_fault_number, text_fault_name}
@@ -26,6 +26,6 @@ place_text (Some line) = codes "line " ++ decimal line ++ codes ": "
 place_text None = []
 
 -- the line on standard error, with its end: the program's name, the line of a trace's fault, the fault's number and name
-abbrev pub fault_text : TextFault → List ℕ
-fault_text fault =
-    codes "tlbridge: " ++ place_text (text_fault_line fault) ++ decimal (text_fault_number fault) ++ codes " " ++ text_fault_name fault ++ newline
+abbrev pub fault_text : (program : List ℕ) → TextFault → List ℕ
+fault_text program fault =
+    program ++ (codes ": " ++ place_text (text_fault_line fault) ++ decimal (text_fault_number fault) ++ codes " " ++ text_fault_name fault ++ newline)

@@ -1,8 +1,9 @@
 -- What a run over a text does to its reader and its writer (this project's choice).
-use Rattle.std.specs.Prelude.{◌≡◌, ◌≢◌, ◌≤◌, ◌<◌, ℕ, List, length, Option, Result, Ok, Err, IfSome, Bool, false}
+use Rattle.std.specs.Prelude.{◌≡◌, ◌≢◌, ◌≤◌, ◌<◌, ℕ, List, length, Option, Result, Ok, Err, IfSome, Bool, true, false}
 use Rattle.std.specs.Io.KnownBytes.{Keeps, Appends, IsAtEnd}
 use Rattle.tl_order.specs.Orders.{is_check, is_sync}
 use Rattle.tl_order.specs.declared.Order.{Order}
+use Rattle.tl_order.specs.declared.Order.TheVariants.{Run}
 use Rattle.tl_trace.specs.Texts.{Tells}
 use Rattle.tl_trace.specs.Faults.{IsFirstFault}
 use Rattle.tl_trace.specs.declared.line.Line.{Line}
@@ -45,6 +46,10 @@ AnswersText unread left held holds order (Err faults.Read) = Keeps held holds
 AnswersText unread left held holds order (Err faults.Write) = WasReadWhole unread left
 AnswersText unread left held holds order (Err faults.TooLong) = Keeps held holds × IfSome unread (λ text. most_bytes < length text)
 AnswersText unread left held holds order (Err faults.OutOfMemory) = Keeps held holds
+
+-- both sides run in one thread
+abbrev pub in_one_thread : Order
+in_one_thread = Run 1 1 true
 
 -- what a text by itself can be refused for: its own fault, want of memory, or that its run in two threads stalled
 abbrev pub IsOfText : (text : List ℕ) → Order → TextFault → Type 0

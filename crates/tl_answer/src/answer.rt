@@ -11,6 +11,7 @@ ghost use Rattle.tl_answer.specs.Answer.{far_header, far_lines, taken, report, i
 ghost use Rattle.tl_answer.specs.Texts.{IsAnswer, IsOfText, most_bytes};
 ghost use Rattle.tl_answer.specs.declared.fault.TextFault.TheVariants.{OutOfMemory as NoMemory};
 
+use crate::at_width;
 use crate::fault::TextFault;
 use std::alloc::{AllocError, Global};
 use std::thread::Threads;
@@ -197,15 +198,7 @@ fn with_client<T: Threads, const C: usize>(
         IsAnswer text.items (is_check order.now) made.text.items made.all_done) }
     ensures err { IfErr result (IsOfText text.items order.now) }
 {
-    match manager {
-        1 => with_widths::<T, C, 1>(rt, alloc, text, order),
-        2 => with_widths::<T, C, 2>(rt, alloc, text, order),
-        4 => with_widths::<T, C, 4>(rt, alloc, text, order),
-        8 => with_widths::<T, C, 8>(rt, alloc, text, order),
-        16 => with_widths::<T, C, 16>(rt, alloc, text, order),
-        32 => with_widths::<T, C, 32>(rt, alloc, text, order),
-        _ => with_widths::<T, C, 64>(rt, alloc, text, order),
-    }
+    at_width!(manager, with_widths::<T, C, _>(rt, alloc, text, order))
 }
 
 /// The answer to a text, which is let go once it is read: the widths, the far beats unless the order
@@ -231,13 +224,5 @@ pub fn answer_text<T: Threads>(
             kind: TraceKind::Header,
         }));
     };
-    match client {
-        1 => with_client::<T, 1>(rt, alloc, text, manager, order),
-        2 => with_client::<T, 2>(rt, alloc, text, manager, order),
-        4 => with_client::<T, 4>(rt, alloc, text, manager, order),
-        8 => with_client::<T, 8>(rt, alloc, text, manager, order),
-        16 => with_client::<T, 16>(rt, alloc, text, manager, order),
-        32 => with_client::<T, 32>(rt, alloc, text, manager, order),
-        _ => with_client::<T, 64>(rt, alloc, text, manager, order),
-    }
+    at_width!(client, with_client::<T, _>(rt, alloc, text, manager, order))
 }

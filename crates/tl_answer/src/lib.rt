@@ -6,10 +6,13 @@ mod answer;
 mod fault;
 pub mod laws;
 mod status;
+mod sync_answer;
 mod text;
+mod widths;
 
 pub use answer::{Answer, answer_of, answer_text};
 pub use fault::TextFault;
 pub use status::{FaultLine, exit_status};
-pub use text::{MAX_BYTES, run_text};
+pub use sync_answer::{answer_sync, outcome_of};
+pub use text::{MAX_BYTES, read_all, run_text, write_all};
 pub use tl_order::Order;

@@ -1,4 +1,4 @@
-//! How the program ends: its exit status, and the line on standard error where there is no answer.
+//! How a program ends: its exit status, and the line on standard error where there is no answer.
 ghost use Rattle.std.specs.Prelude.{◌≡◌, Some};
 ghost use Rattle.tl_answer.specs.Statuses.{status_of, fault_text};
 
@@ -19,21 +19,23 @@ pub fn exit_status(ending: &Result<bool, TextFault>) -> u8
     }
 }
 
-/// The line on standard error where there is no answer (this project's choice): `tlbridge: `, then
-/// `line L: ` for a fault of a trace, then the fault's number and name, and the LF.
+/// The line on standard error where there is no answer (this project's choice): the program's name
+/// and `: `, then `line L: ` for a fault of a trace, then the fault's number and name, and the LF.
 #[derive(Clone, Copy, Debug)]
 pub struct FaultLine {
+    /// The name of the program that ends.
+    pub program: &'static str,
     pub fault: TextFault,
 }
 
 impl fmt::Display for FaultLine {
-    ghost output = { λ line. Some (fault_text line.fault) };
+    ghost output = { λ line. Some (fault_text line.program.now line.fault) };
 
     fn fmt<W: fmt::Write>(&self, f: &mut fmt::Formatter<W>) -> fmt::Result {
-        let (number, name) = (self.fault.number(), self.fault.name());
+        let (program, number, name) = (self.program, self.fault.number(), self.fault.name());
         match self.fault.line() {
-            Some(line) => writeln!(f, "tlbridge: line {line}: {number} {name}"),
-            None => writeln!(f, "tlbridge: {number} {name}"),
+            Some(line) => writeln!(f, "{program}: line {line}: {number} {name}"),
+            None => writeln!(f, "{program}: {number} {name}"),
         }
     }
 }

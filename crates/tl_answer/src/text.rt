@@ -26,8 +26,11 @@ fn read_buffer(alloc: Global, bytes: usize) -> Result<Vec<u8>, AllocError>
     vec![in alloc; 0u8; bytes]
 }
 
-/// All that a reader gives, where it is not too long. A read that is interrupted has failed.
-fn read_all<R: Read>(alloc: Global, reader: &mut R) -> Result<Vec<u8>, TextFault>
+/// All that a reader gives, up to its end.
+///
+/// Refused with `Read` where a read fails or is interrupted, with `TooLong` above 67,108,864 bytes,
+/// or with `OutOfMemory`; how much was read then isn't said.
+pub fn read_all<R: Read>(alloc: Global, reader: &mut R) -> Result<Vec<u8>, TextFault>
     ensures all { IfOk result (λ v. IfSome (R.remaining reader.old) (λ text. v.items ≡ text)) }
     ensures few { IfOk result (λ v. length v.items ≤ most_bytes) }
     ensures end { OnOk result (IsAtEnd (R.remaining reader.new)) }
@@ -52,8 +55,11 @@ fn read_all<R: Read>(alloc: Global, reader: &mut R) -> Result<Vec<u8>, TextFault
     Err(TextFault::TooLong)
 }
 
-/// Writes all bytes and flushes. A write that takes none or is interrupted has failed.
-fn write_all<W: Write>(writer: &mut W, bytes: &[u8]) -> Result<(), TextFault>
+/// Writes all bytes and flushes.
+///
+/// Refused with `Write` alone, where a write or the flush fails, is interrupted or takes no byte;
+/// after it, it isn't said how much went out.
+pub fn write_all<W: Write>(writer: &mut W, bytes: &[u8]) -> Result<(), TextFault>
     ensures all { OnOk result (Appends (W.contents writer.old) (W.contents writer.new) bytes.now) }
     ensures kind { IfErr result (λ e. e ≡ WriteFault) }
 {

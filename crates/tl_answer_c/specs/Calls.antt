@@ -1,11 +1,9 @@
 -- What C is told of the answer to a text (this project's choice).
-use Rattle.std.specs.Prelude.{◌≡◌, ◌<◌, ◌==◌, ℕ, Bool, true, not, if◌then◌else◌, List, length, Option, None, Some}
+use Rattle.std.specs.Prelude.{◌≡◌, ◌<◌, ◌==◌, ℕ, Bool, not, if◌then◌else◌, List, length, Option, None, Some}
 use denote.RawPtr.{null_ptr}
 use Rattle.std.specs.Vec.{vec_ptr, vec_len}
-use Rattle.tl_order.specs.declared.Order.{Order}
-use Rattle.tl_order.specs.declared.Order.TheVariants.{Run}
 use Rattle.tl_answer.specs.Faults.{text_fault_number, text_fault_line}
-use Rattle.tl_answer.specs.Texts.{IsAnswer, IsOfText, most_bytes}
+use Rattle.tl_answer.specs.Texts.{IsAnswer, IsOfText, in_one_thread, most_bytes}
 use Rattle.tl_answer.specs.declared.answer.Answer.{Answer}
 use Rattle.tl_answer.specs.declared.fault.TextFault.{TextFault}
 use Rattle.tl_answer.specs.declared.fault.TextFault.TheVariants as faults
@@ -14,10 +12,6 @@ use Rattle.tl_answer_c.specs.declared.block.AnswerBlock.{AnswerBlock}
 -- a flag is set where it is not 0
 abbrev pub is_set : ℕ → Bool
 is_set n = not (n == 0)
-
--- both sides run in one thread
-abbrev pub in_one_thread : Order
-in_one_thread = Run 1 1 true
 
 -- what a call refuses a text for: it is too long, or what a run in one thread refuses it for
 abbrev pub IsOfCall : (text : List ℕ) → TextFault → Type 0

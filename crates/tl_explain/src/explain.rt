@@ -1,9 +1,8 @@
 //! From a text to what came of each of its lines.
-ghost use Rattle.std.specs.Prelude.{◌≡◌, ◌≤◌, length, Some, IfOk};
+ghost use Rattle.std.specs.Prelude.{◌≡◌, ◌≤◌, length, Some, IfOk, IfErr};
 ghost use Rattle.tl_lanes.specs.Lanes.{IsWidth};
-ghost use Rattle.tl_bridge.specs.Scripts.{HasShortLists, SettlesTo};
 ghost use Rattle.tl_trace.specs.Faults.{body, widths_of};
-ghost use Rattle.tl_answer.specs.Texts.{most_bytes};
+ghost use Rattle.tl_answer.specs.Texts.{IsOfText, in_one_thread, most_bytes};
 ghost use Rattle.tl_explain.specs.Explained.{IsExplanation};
 
 use crate::channel::{put_near, requests_of};
@@ -12,13 +11,10 @@ use crate::requests::Requests;
 use crate::walk::Walk;
 use std::alloc::{AllocError, Global};
 use std::fmt::Write;
-use tl_answer::{TextFault, answer_of};
-use tl_bridge::{Outcome, PerChannel, run_sync};
+use tl_answer::{TextFault, answer_of, at_width, outcome_of};
+use tl_bridge::{Outcome, PerChannel};
 use tl_msg::{ChA, ChB, ChC, ChD, ChE, Verdict};
 use tl_trace::{Script, TraceFault, TraceKind, read_script, widths_of_text};
-
-/// The beats that each ring holds; what a run ends in does not depend on it.
-const RING: usize = 16;
 
 /// What came of each line of a text, and whether all five channels are done.
 #[derive(Drop)]
@@ -153,23 +149,6 @@ fn sentences_of<const C: usize, const M: usize>(
     Ok(out)
 }
 
-/// What a script ends in. No fault but want of memory comes: a run in one thread never stalls, and
-/// rings may hold 16 beats.
-fn outcome_of<const C: usize, const M: usize>(
-    alloc: Global,
-    script: &Script<C, M>,
-) -> Result<Outcome<C, M>, TextFault>
-    requires client { IsWidth C }
-    requires manager { IsWidth M }
-    requires short { HasShortLists script.now }
-    ensures { IfOk result (SettlesTo script.now) }
-{
-    match run_sync::<C, M>(alloc, script, RING) {
-        Ok(outcome) => Ok(outcome),
-        Err(_) => Err(TextFault::OutOfMemory),
-    }
-}
-
 /// The explanation of a text whose header names these widths.
 fn with_widths<const C: usize, const M: usize>(
     alloc: Global,
@@ -180,7 +159,8 @@ fn with_widths<const C: usize, const M: usize>(
     requires manager { IsWidth M }
     requires widths { widths_of (body text.now) ≡ Some (C, M) }
     requires few { length text.now ≤ most_bytes }
-    ensures { IfOk result (λ made. IsExplanation text.now made.text.items made.all_done) }
+    ensures ok { IfOk result (λ made. IsExplanation text.now made.text.items made.all_done) }
+    ensures err { IfErr result (IsOfText text.now in_one_thread) }
 {
     let script = read_script::<C, M>(alloc, text)?;
     let outcome = outcome_of::<C, M>(alloc, &script)?;
@@ -204,17 +184,10 @@ fn with_client<const C: usize>(
     requires client { IsWidth C }
     requires widths { widths_of (body text.now) ≡ Some (C, manager) }
     requires few { length text.now ≤ most_bytes }
-    ensures { IfOk result (λ made. IsExplanation text.now made.text.items made.all_done) }
+    ensures ok { IfOk result (λ made. IsExplanation text.now made.text.items made.all_done) }
+    ensures err { IfErr result (IsOfText text.now in_one_thread) }
 {
-    match manager {
-        1 => with_widths::<C, 1>(alloc, text, look),
-        2 => with_widths::<C, 2>(alloc, text, look),
-        4 => with_widths::<C, 4>(alloc, text, look),
-        8 => with_widths::<C, 8>(alloc, text, look),
-        16 => with_widths::<C, 16>(alloc, text, look),
-        32 => with_widths::<C, 32>(alloc, text, look),
-        _ => with_widths::<C, 64>(alloc, text, look),
-    }
+    at_width!(manager, with_widths::<C, _>(alloc, text, look))
 }
 
 /// What came of each line of a text, in the order of its lines, and then the answer that
@@ -227,7 +200,8 @@ fn with_client<const C: usize>(
 /// Refused with `Trace` and the text's first fault and its line, or with `OutOfMemory`.
 pub fn explain_text(alloc: Global, text: &[u8], look: &Look) -> Result<Explanation, TextFault>
     requires few { length text.now ≤ most_bytes }
-    ensures { IfOk result (λ made. IsExplanation text.now made.text.items made.all_done) }
+    ensures ok { IfOk result (λ made. IsExplanation text.now made.text.items made.all_done) }
+    ensures err { IfErr result (IsOfText text.now in_one_thread) }
 {
     let Some((client, manager)) = widths_of_text(text) else {
         return Err(TextFault::from(TraceFault {
@@ -235,13 +209,5 @@ pub fn explain_text(alloc: Global, text: &[u8], look: &Look) -> Result<Explanati
             kind: TraceKind::Header,
         }));
     };
-    match client {
-        1 => with_client::<1>(alloc, text, manager, look),
-        2 => with_client::<2>(alloc, text, manager, look),
-        4 => with_client::<4>(alloc, text, manager, look),
-        8 => with_client::<8>(alloc, text, manager, look),
-        16 => with_client::<16>(alloc, text, manager, look),
-        32 => with_client::<32>(alloc, text, manager, look),
-        _ => with_client::<64>(alloc, text, manager, look),
-    }
+    at_width!(client, with_client::<_>(alloc, text, manager, look))
 }

@@ -2,7 +2,7 @@
 ghost use Rattle.tl_lanes.specs.Lanes.{IsWidth};
 
 use crate::lane_list::put_lanes;
-use crate::seen::{Seen, put_length};
+use crate::seen::{Seen, put_address, put_id, put_length};
 use std::alloc::AllocError;
 use std::fmt::Write;
 use tl_lanes::{MAX_SIZE, active};
@@ -27,7 +27,7 @@ fn put_param(out: &mut String, beat: &Seen) -> Result<(), AllocError> {
     write!(out, "the param is {}, but ", beat.param)?;
     beat.put_name(out)?;
     match beat.kind.map_or(0, Kind::params) {
-        0 | 1 => write!(out, " has only the param 0"),
+        0 | 1 => out.push_str(" has only the param 0"),
         params => write!(out, " has only the params 0 to {}", params - 1),
     }
 }
@@ -37,65 +37,58 @@ fn put_mask(out: &mut String, beat: &Seen, w: usize) -> Result<(), AllocError>
     requires { IsWidth w }
 {
     if beat.size > MAX_SIZE {
-        return write!(out, "the mask is wrong");
+        return out.push_str("the mask is wrong");
     }
     let lanes = active(beat.address, beat.size, w);
     if beat.kind.is_some_and(Kind::is_partial) {
-        write!(out, "the mask has ")?;
+        out.push_str("the mask has ")?;
         put_lanes(out, beat.mask & !lanes)?;
-        write!(out, ", but it may have active lanes alone, which are ")?;
+        out.push_str(", but it may have active lanes alone, which are ")?;
         return put_lanes(out, lanes);
     }
-    write!(out, "the mask has ")?;
+    out.push_str("the mask has ")?;
     put_lanes(out, beat.mask)?;
-    write!(
-        out,
-        ", but it has to have exactly the active lanes, which are "
-    )?;
+    out.push_str(", but it has to have exactly the active lanes, which are ")?;
     put_lanes(out, lanes)
+}
+
+/// Writes a number that a burst's first beat has otherwise.
+fn put_numbers(out: &mut String, name: &str, now: u8, was: u8) -> Result<(), AllocError> {
+    write!(out, "the {name} is {now} and was {was}")
+}
+
+/// Writes a source or a sink that a burst's first beat has otherwise.
+fn put_ids(out: &mut String, text: &str, now: u8, was: u8) -> Result<(), AllocError> {
+    put_id(out, text, now)?;
+    put_id(out, " and was ", was)
 }
 
 /// Writes the first field in which the head of a beat is not that of its burst's first beat.
 fn put_change(out: &mut String, beat: &Seen, first: &Seen) -> Result<(), AllocError> {
     if beat.opcode != first.opcode {
-        return write!(
-            out,
-            "the opcode is {} and was {}",
-            beat.opcode, first.opcode
-        );
+        return put_numbers(out, "opcode", beat.opcode, first.opcode);
     }
     if beat.param != first.param {
-        return write!(out, "the param is {} and was {}", beat.param, first.param);
+        return put_numbers(out, "param", beat.param, first.param);
     }
     if beat.size != first.size {
-        return write!(out, "the size is {} and was {}", beat.size, first.size);
+        return put_numbers(out, "size", beat.size, first.size);
     }
     if beat.source != first.source {
-        return write!(
-            out,
-            "the source is {:02x} and was {:02x}",
-            beat.source, first.source
-        );
+        return put_ids(out, "the source is ", beat.source, first.source);
     }
     if beat.address != first.address {
-        return write!(
-            out,
-            "the address is 0x{:x} and was 0x{:x}",
-            beat.address, first.address
-        );
+        put_address(out, "the address is ", beat.address)?;
+        return put_address(out, " and was ", first.address);
     }
     if beat.sink != first.sink {
-        return write!(
-            out,
-            "the sink is {:02x} and was {:02x}",
-            beat.sink, first.sink
-        );
+        return put_ids(out, "the sink is ", beat.sink, first.sink);
     }
-    write!(
-        out,
-        "denied is {} and was {}",
-        beat.denied as u8, first.denied as u8
-    )
+    out.push_str(if beat.denied {
+        "denied is 1 and was 0"
+    } else {
+        "denied is 0 and was 1"
+    })
 }
 
 /// Writes what is wrong with a beat on `w` lanes. Where a burst is open, `first` is its first beat,
@@ -119,18 +112,15 @@ pub fn put_beat_fault(
             beat.size
         ),
         BeatFault::Unaligned => {
-            write!(
-                out,
-                "the address 0x{:x} is no multiple of the message's ",
-                beat.address
-            )?;
+            put_address(out, "the address ", beat.address)?;
+            out.push_str(" is no multiple of the message's ")?;
             put_length(out, beat.size)
         }
         BeatFault::Mask => put_mask(out, beat, w),
         BeatFault::Corrupt => {
-            write!(out, "corrupt is 1, but ")?;
+            out.push_str("corrupt is 1, but ")?;
             beat.put_name(out)?;
-            write!(out, " carries no data, so it has to be 0")
+            out.push_str(" carries no data, so it has to be 0")
         }
         BeatFault::HeadChanged => {
             write!(out, "inside the burst that line {first_line} begins, ")?;

@@ -11,9 +11,9 @@ pub fn has_lane(mask: Mask, lane: usize) -> bool {
 /// Writes the lanes of a mask: `no lane`, `lane 3`, or `lanes 0, 2 to 5`.
 pub fn put_lanes(out: &mut String, mask: Mask) -> Result<(), AllocError> {
     match mask.count_ones() {
-        0 => return write!(out, "no lane"),
-        1 => write!(out, "lane")?,
-        _ => write!(out, "lanes")?,
+        0 => return out.push_str("no lane"),
+        1 => out.push_str("lane")?,
+        _ => out.push_str("lanes")?,
     }
     let mut separator = " ";
     for lane in 0..WIDEST {

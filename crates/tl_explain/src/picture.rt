@@ -1,5 +1,6 @@
 //! Pictures of lanes.
 use crate::lane_list::has_lane;
+use crate::seen::put_id;
 use std::alloc::AllocError;
 use std::fmt::Write;
 use tl_lanes::Mask;
@@ -22,13 +23,14 @@ impl Picture {
     /// Writes a lane: its byte, or `##` where the message carries no data; `--` where the mask leaves
     /// it out, `..` where it is not active, and `!!` where the mask has it all the same.
     fn put_lane(&self, out: &mut String, lane: usize, byte: u8) -> Result<(), AllocError> {
-        match (has_lane(self.active, lane), has_lane(self.mask, lane)) {
-            (false, false) => write!(out, " .."),
-            (false, true) => write!(out, " !!"),
-            (true, false) => write!(out, " --"),
-            (true, true) if self.has_data => write!(out, " {byte:02x}"),
-            (true, true) => write!(out, " ##"),
-        }
+        let shown = match (has_lane(self.active, lane), has_lane(self.mask, lane)) {
+            (false, false) => " ..",
+            (false, true) => " !!",
+            (true, false) => " --",
+            (true, true) if self.has_data => return put_id(out, " ", byte),
+            (true, true) => " ##",
+        };
+        out.push_str(shown)
     }
 
     /// Writes the lanes from `from` on, at most a row of them, highest first: their numbers, and
@@ -40,21 +42,22 @@ impl Picture {
         lanes: &[u8],
         from: usize,
     ) -> Result<(), AllocError> {
-        write!(out, "    lane")?;
+        out.push_str("    lane")?;
         for i in 0..ROW {
             let lane = from.saturating_add(ROW - 1 - i);
             if lane < lanes.len() {
                 write!(out, " {lane:2}")?;
             }
         }
-        write!(out, "\n    {name}")?;
+        out.push_str("\n    ")?;
+        out.push_str(name)?;
         for i in 0..ROW {
             let lane = from.saturating_add(ROW - 1 - i);
             if lane < lanes.len() {
                 self.put_lane(out, lane, lanes[lane])?;
             }
         }
-        writeln!(out)
+        out.push('\n')
     }
 
     /// Writes all lanes of a beat, highest first, in rows of 16. The name has four letters.

@@ -124,7 +124,7 @@ impl Seen {
     /// Writes the message's name, as the standard spells it.
     pub fn put_name(&self, out: &mut String) -> Result<(), AllocError> {
         if self.letter == 'E' {
-            return write!(out, "GrantAck");
+            return out.push_str("GrantAck");
         }
         match self.kind {
             Some(kind) => write!(out, "{kind:?}"),
@@ -134,30 +134,37 @@ impl Seen {
 
     /// Writes its channel, its message, and the fields by which one knows it.
     pub fn put(&self, out: &mut String) -> Result<(), AllocError> {
-        write!(out, "{} ", self.letter)?;
+        out.push(self.letter)?;
+        out.push(' ')?;
         self.put_name(out)?;
         if self.letter == 'E' {
-            return write!(out, ", sink {:02x}", self.sink);
+            return put_id(out, ", sink ", self.sink);
         }
-        write!(out, ", source {:02x}, ", self.source)?;
+        put_id(out, ", source ", self.source)?;
+        out.push_str(", ")?;
         put_length(out, self.size)?;
         if self.letter != 'D' {
-            write!(out, " at 0x{:x}", self.address)?;
+            put_address(out, " at ", self.address)?;
         }
-        if self.denied {
-            write!(out, ", denied")?;
-        }
-        if self.corrupt {
-            write!(out, ", corrupt")?;
-        }
-        Ok(())
+        out.push_str(if self.denied { ", denied" } else { "" })?;
+        out.push_str(if self.corrupt { ", corrupt" } else { "" })
     }
+}
+
+/// Writes a source or a sink, behind this text.
+pub fn put_id(out: &mut String, text: &str, id: u8) -> Result<(), AllocError> {
+    write!(out, "{text}{id:02x}")
+}
+
+/// Writes an address, behind this text.
+pub fn put_address(out: &mut String, text: &str, address: u64) -> Result<(), AllocError> {
+    write!(out, "{text}0x{address:x}")
 }
 
 /// Writes how long a message of this size is.
 pub fn put_length(out: &mut String, size: u8) -> Result<(), AllocError> {
     match size {
-        0 => write!(out, "1 byte"),
+        0 => out.push_str("1 byte"),
         1..=MAX_SIZE => write!(out, "{} bytes", 1u32 << size),
         _ => write!(out, "2^{size} bytes"),
     }

@@ -5,7 +5,7 @@ use crate::fate::{Fate, fate_at};
 use crate::faults::put_beat_fault;
 use crate::look::{Colour, Look};
 use crate::requests::{Request, Requests};
-use crate::seen::{Seen, put_length};
+use crate::seen::{Seen, put_id, put_length};
 use crate::walk::{Brought, Walk};
 use std::alloc::AllocError;
 use std::fmt::Write;
@@ -13,43 +13,35 @@ use tl_msg::{SideFault, Verdict};
 
 /// Writes why a beat of A waits: its source is busy with this request.
 fn put_busy(out: &mut String, source: u8, request: Option<Request>) -> Result<(), AllocError> {
-    write!(
-        out,
-        "source {source:02x} still waits for the response to its "
-    )?;
+    put_id(out, "source ", source)?;
+    out.push_str(" still waits for the response to its ")?;
     match request {
         Some(request) => write!(out, "request in line {}", request.line)?,
-        None => write!(out, "last request")?,
+        None => out.push_str("last request")?,
     }
-    write!(out, ": answer it on D, or use another source")
+    out.push_str(": answer it on D, or use another source")
 }
 
 /// Writes why a beat of D waits: no request of its source has arrived that it could answer.
 fn put_no_request(out: &mut String, source: u8, open: Option<Request>) -> Result<(), AllocError> {
-    match open {
-        Some(request) => write!(
-            out,
-            "the request of source {source:02x} in line {} has not arrived: bytes of its first far beat are missing",
-            request.line
-        ),
-        None => write!(
-            out,
-            "no request of source {source:02x} waits for a response: send one on A, or mend the source"
-        ),
-    }
+    let Some(request) = open else {
+        put_id(out, "no request of source ", source)?;
+        return out.push_str(" waits for a response: send one on A, or mend the source");
+    };
+    put_id(out, "the request of source ", source)?;
+    write!(out, " in line {}", request.line)?;
+    out.push_str(" has not arrived: bytes of its first far beat are missing")
 }
 
 /// Writes why a beat of D is refused: its size is not that of this request.
 fn put_mismatch(out: &mut String, beat: &Seen, open: Option<Request>) -> Result<(), AllocError> {
-    write!(out, "the response is of ")?;
+    out.push_str("the response is of ")?;
     put_length(out, beat.size)?;
-    match open {
-        Some(request) => {
-            write!(out, ", but its request, in line {}, is of ", request.line)?;
-            put_length(out, request.size)
-        }
-        None => write!(out, ", but its request is of another size"),
-    }
+    let Some(request) = open else {
+        return out.push_str(", but its request is of another size");
+    };
+    write!(out, ", but its request, in line {}, is of ", request.line)?;
+    put_length(out, request.size)
 }
 
 /// Writes the fault of a beat in a sentence.
@@ -130,10 +122,67 @@ fn put_accepted(
     if brought.beats > 1 {
         write!(out, ", beat {} of {}", brought.beat, brought.beats)?;
     }
-    write!(out, ": ")?;
+    out.push_str(": ")?;
     look.put(out, Colour::Green, "accepted")?;
     put_brought(out, &brought)?;
     put_answered(out, beat, brought.beat, walk, requests)
+}
+
+/// Writes why a beat was not accepted, after a word that says how it fares.
+fn put_held(
+    out: &mut String,
+    beat: &Seen,
+    fault: SideFault,
+    walk: &Walk,
+    requests: &Requests,
+    look: &Look,
+    word: (Colour, &str),
+    w: usize,
+) -> Result<(), AllocError>
+    requires { IsWidth w }
+{
+    let (colour, text) = word;
+    out.push_str(": ")?;
+    look.put(out, colour, text)?;
+    out.push_str(", ")?;
+    put_fault(out, beat, fault, walk, requests, w)
+}
+
+/// Writes that a beat never came to its turn, and why.
+fn put_not_offered(out: &mut String, walk: &Walk) -> Result<(), AllocError> {
+    write!(out, ": not offered, since line {}", walk.stop_line)?;
+    out.push_str(if walk.waits { " waits" } else { " was refused" })
+}
+
+/// Writes what came of a beat, and how the walk goes on by it.
+fn put_fate(
+    out: &mut String,
+    line: u64,
+    beat: &Seen,
+    fate: Fate,
+    walk: &mut Walk,
+    requests: &mut Requests,
+    look: &Look,
+    w: usize,
+    v: usize,
+) -> Result<(), AllocError>
+    requires near { IsWidth w }
+    requires far { IsWidth v }
+{
+    match fate {
+        Fate::Accepted => put_accepted(out, line, beat, walk, requests, look, w, v),
+        Fate::Refused(fault) => {
+            walk.stop(line, false);
+            let word = (Colour::Red, "refused");
+            put_held(out, beat, fault, walk, requests, look, word, w)
+        }
+        Fate::Waiting(fault) => {
+            walk.stop(line, true);
+            let word = (Colour::Yellow, "waiting");
+            put_held(out, beat, fault, walk, requests, look, word, w)
+        }
+        Fate::NotOffered => put_not_offered(out, walk),
+    }
 }
 
 /// Writes what came of the beat of a line, from a bus of `w` bytes to one of `v`, and says whether it
@@ -155,29 +204,8 @@ pub fn put_line(
     write!(out, "line {line}: ")?;
     beat.put(out)?;
     let fate = fate_at(walk.near as u64, verdict);
-    match fate {
-        Fate::Accepted => put_accepted(out, line, beat, walk, requests, look, w, v)?,
-        Fate::Refused(fault) => {
-            walk.stop_line = line;
-            write!(out, ": ")?;
-            look.put(out, Colour::Red, "refused")?;
-            write!(out, ", ")?;
-            put_fault(out, beat, fault, walk, requests, w)?;
-        }
-        Fate::Waiting(fault) => {
-            walk.stop_line = line;
-            walk.waits = true;
-            write!(out, ": ")?;
-            look.put(out, Colour::Yellow, "waiting")?;
-            write!(out, ", ")?;
-            put_fault(out, beat, fault, walk, requests, w)?;
-        }
-        Fate::NotOffered => {
-            let why = if walk.waits { "waits" } else { "was refused" };
-            write!(out, ": not offered, since line {} {why}", walk.stop_line)?;
-        }
-    }
+    put_fate(out, line, beat, fate, walk, requests, look, w, v)?;
     walk.near = walk.near.saturating_add(1);
-    writeln!(out)?;
+    out.push('\n')?;
     Ok(matches!(fate, Fate::Accepted))
 }

@@ -1,8 +1,10 @@
 //! A text that is no trace: its first faulty line, the place of the fault, and what was expected.
+ghost use Rattle.std.specs.Prelude.{◌≤◌, length};
 ghost use Rattle.tl_lanes.specs.Lanes.{IsWidth};
 
 use std::alloc::{AllocError, Global};
 use std::fmt::Write;
+use tl_answer::at_width;
 use tl_msg::{ChA, ChB, ChC, ChD, ChE};
 use tl_trace::{TraceFault, TraceKind, line_of, read, widths_of_text};
 
@@ -41,31 +43,28 @@ fn form_of(
         b'B' | b'D' => manager,
         _ => client,
     };
-    match width {
-        1 => form_on::<1>(alloc, letter),
-        2 => form_on::<2>(alloc, letter),
-        4 => form_on::<4>(alloc, letter),
-        8 => form_on::<8>(alloc, letter),
-        16 => form_on::<16>(alloc, letter),
-        32 => form_on::<32>(alloc, letter),
-        _ => form_on::<64>(alloc, letter),
+    at_width!(width, form_on::<_>(alloc, letter))
+}
+
+/// How many bytes of a text stand before its first LF.
+fn line_end(text: &[u8]) -> usize
+    ensures { result ≤ length text.now }
+{
+    match text.iter().position(|byte| *byte == b'\n') {
+        Some(end) => end,
+        None => text.len(),
     }
 }
 
 /// The line of this number, without its LF.
 fn line_at(text: &[u8], number: u64) -> &[u8] {
-    let mut line = 1u64;
-    let mut start = 0;
-    for (at, byte) in text.iter().enumerate() {
-        if *byte == b'\n' {
-            if line == number {
-                return text.get(start..at).unwrap_or(&[]);
-            }
-            line = line.saturating_add(1);
-            start = at.saturating_add(1);
-        }
+    let mut rest = text;
+    for _ in 1..number {
+        let end = line_end(rest);
+        rest = rest.get(end.saturating_add(1)..).unwrap_or(&[]);
     }
-    text.get(start..).unwrap_or(&[])
+    let end = line_end(rest);
+    &rest[..end]
 }
 
 /// Whether the first bytes of a line, and the rest of a form behind them, make a line of a trace

@@ -45,6 +45,12 @@ pub struct Brought {
 }
 
 impl Walk {
+    /// Stops at the beat of this line, which waits or was refused.
+    pub fn stop(&mut self, line: u64, waits: bool) {
+        self.stop_line = line;
+        self.waits = waits;
+    }
+
     /// Goes on by an accepted beat, from a bus of `w` bytes to one of `v`.
     pub fn accept(&mut self, beat: &Seen, line: u64, w: usize, v: usize) -> Brought
         requires near { IsWidth w }

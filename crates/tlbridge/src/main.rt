@@ -13,6 +13,9 @@ use std::process::ExitCode;
 use tl_answer::{FaultLine, Order, TextFault, exit_status, run_text};
 use tl_words::{not_utf8, order_of};
 
+/// The program's name, as its lines on standard error begin with it.
+const PROGRAM: &str = "tlbridge";
+
 /// The order on the command line: every word of it goes to `order_of`.
 fn order_from(rt: &HostRuntime) -> Result<Order, Error>
     ensures { IfOk result IsInRange }
@@ -33,7 +36,13 @@ fn order_from(rt: &HostRuntime) -> Result<Order, Error>
 /// error can't be written.
 fn status(rt: &HostRuntime, ending: Result<bool, TextFault>) -> ExitCode {
     if let Err(fault) = ending {
-        let _ = eprint!(rt; "{}", FaultLine { fault });
+        let _ = eprint!(rt;
+            "{}",
+            FaultLine {
+                program: PROGRAM,
+                fault
+            }
+        );
     }
     ExitCode::from(exit_status(&ending))
 }

@@ -12,6 +12,9 @@ use tl_answer::{FaultLine, TextFault, exit_status};
 use tl_explain::{FAULTS, Look, run_explain};
 use words::{Wish, not_utf8, wish_of};
 
+/// The program's name, as its lines on standard error begin with it.
+const PROGRAM: &str = "tlexplain";
+
 /// What the command line asks for.
 fn wish_from(rt: &HostRuntime) -> Result<Wish, Error> {
     let words = match std::env::args(rt) {
@@ -29,7 +32,13 @@ fn wish_from(rt: &HostRuntime) -> Result<Wish, Error> {
 /// The exit status of an ending, after the line of its fault.
 fn status(rt: &HostRuntime, ending: Result<bool, TextFault>) -> ExitCode {
     if let Err(fault) = ending {
-        let _ = eprint!(rt; "{}", FaultLine { fault });
+        let _ = eprint!(rt;
+            "{}",
+            FaultLine {
+                program: PROGRAM,
+                fault
+            }
+        );
     }
     ExitCode::from(exit_status(&ending))
 }

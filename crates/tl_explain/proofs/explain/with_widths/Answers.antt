@@ -13,8 +13,8 @@ outcome_of-requires g c =
     let lists = short g.row.C g.row.M told.lines few _ told.script in
     (omega arith, (omega arith, (c.requires.client, (c.requires.manager, lists))))
 
-pub returns : goal.returns
-returns g c = record {
+pub returns-clause-ok : goal.returns-clause-ok
+returns-clause-ok g c = record {
   sentences = c.into_bytes-text.result.items;
   answer = c.in_ok-answer.answer.text.items;
   ends = c.in_ok-extend_from_slice.ensures.items ∙ ap (λ text. c.into_bytes-text.result.items ++ text) c.deref.ensures.value;
@@ -32,4 +32,4 @@ returns g c = record {
     lines = c.in_ok-script.ensures.told.lines
 
     ended : EndsIn (near g.row.C g.row.M lines) c.in_ok-outcome.outcome
-    ended = subst (λ bs. EndsIn bs c.in_ok-outcome.outcome) (near-is lines _ c.in_ok-script.ensures.told.script) c.in_ok-outcome.ensures
+    ended = subst (λ bs. EndsIn bs c.in_ok-outcome.outcome) (near-is lines _ c.in_ok-script.ensures.told.script) c.in_ok-outcome.ensures.ok

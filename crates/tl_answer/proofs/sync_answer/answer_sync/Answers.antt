@@ -1,8 +1,7 @@
 use Rattle.std.proofs.Common.{rules, refl, sym, subst, arith}
-use Rattle.tl_answer.specs.Texts.{IsOfText}
+use Rattle.tl_answer.specs.Texts.{IsOfText, in_one_thread}
 use Rattle.tl_answer.proofs.Headers.{last_client, no_header}
-use Rattle.tl_answer_c.specs.Calls.{in_one_thread}
-use Rattle.tl_answer_c.proofs.sync_answer.of_short_text.Goals as goal
+use Rattle.tl_answer.proofs.sync_answer.answer_sync.Goals as goal
 
 pub returns-in_default-clause-err : goal.returns-in_default-clause-err
 returns-in_default-clause-err c =

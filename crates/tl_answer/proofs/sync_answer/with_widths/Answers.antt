@@ -1,11 +1,10 @@
 use Rattle.std.proofs.Common.{List, subst, arith}
-use Rattle.std.proofs.lemmas.Result.{err_from_is_err_and}
 use Rattle.tl_trace.specs.declared.line.Line.{Line}
 use Rattle.tl_bridge.specs.Scripts.{EndsIn}
 use Rattle.tl_answer.specs.Answer.{ends, near}
 use Rattle.tl_answer.proofs.Answering.{answers-text, near-is}
 use Rattle.tl_answer.proofs.Lengths.{lines-few, short}
-use Rattle.tl_answer_c.proofs.sync_answer.with_widths.Goals as goal
+use Rattle.tl_answer.proofs.sync_answer.with_widths.Goals as goal
 
 pub outcome_of-requires : goal.outcome_of-requires
 outcome_of-requires g c =
@@ -24,8 +23,3 @@ returns-clause-ok g c =
 
     ended : EndsIn (near g.row.C g.row.M lines) c.in_ok-outcome.outcome
     ended = subst (λ bs. EndsIn bs c.in_ok-outcome.outcome) (near-is lines _ c.in_ok-script.ensures.told.script) c.in_ok-outcome.ensures.ok
-
-pub returns-in_err-outcome-clause-err : goal.returns-in_err-outcome-clause-err
-returns-in_err-outcome-clause-err g c =
-    let p = err_from_is_err_and c.from_residual-in_err-outcome.result c.from_residual-in_err-outcome.ensures.1 in
-    rw (p.1, p.2) (c.in_err-outcome.ensures.err c.args.text.now)
