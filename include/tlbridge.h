@@ -1,4 +1,4 @@
-/* A TileLink clock and width bridge for C: both sides in one thread, behind a handle.
+/* A TileLink clock and width bridge for C: both sides in one thread, behind a handle, or each in a thread of its own, behind two.
  *
  * A library libtlbridge_C_M.a is for one pair of widths: C bytes on the client's link, M on the manager's, each 1, 2, 4, 8, 16, 32 or
  * 64 (bench/make-library C M makes it). TLBRIDGE(C, M) declares its calls, and may stand for several pairs in one file:
@@ -13,15 +13,27 @@
  * those of A, C and E. An accepted near beat stages the far beats that it completes; pump moves them into rings, fetch from there
  * into inboxes, and take out of these. docs/LIBRARY.md says what is proved of each call.
  *
+ * A library libtlbridge_sides_C_M.a (bench/make-library sides C M) has the same for two threads, with a handle of each side;
+ * TLBRIDGE_SIDES(C, M) declares its calls:
+ *
+ *     TLBRIDGE_SIDES(8, 4)
+ *
+ *     tl_sides_8_4_client client = {0};
+ *     tl_sides_8_4_manager manager = {0};
+ *     uint8_t fault = tl_sides_8_4_open(&client, &manager, 16);
+ *
  * What is trusted. The proofs hold for every sequence of calls, if
  *   - each pointer is to memory of its type, whole and aligned, that nothing else uses during the call, and no two pointers of one
  *     call overlap;
  *   - a handle is all zero before its first call, is changed by these calls alone, is never copied, and goes to the calls of its own
- *     pair of widths;
- *   - one handle is in one call at a time, and stays in the thread that opened it. Different handles are independent;
+ *     pair of widths and its own side;
+ *   - one handle is in one call at a time. That of both sides stays in the thread that opened it. That of one side may go to another
+ *     thread where the calls on it before come first, as by pthread_create, pthread_join or a mutex. Different handles are
+ *     independent, and so are the two of one bridge: their calls may be made at the same moment. Only open, which lets go what its two
+ *     handles hold, and meet have both, and the two that meet come from one open;
  *   - no call is made in a signal handler, or in the forked child of a process with threads;
  *   - malloc, realloc and free are one allocator, which aligns a block of n bytes to each power of two up to 16 that divides n.
- * A handle whose bridge was freed is zero again: each call on it is answered as on one that was never opened.
+ * A handle whose bridge or side was freed is zero again: each call on it is answered as on one that was never opened.
  */
 #ifndef TLBRIDGE_H
 #define TLBRIDGE_H
@@ -32,7 +44,7 @@
 #include <stdlib.h>
 
 /* The library's version that this header is of. */
-#define TL_VERSION 1
+#define TL_VERSION 2
 
 /* What offer, close and open answer. 0 is success; in each other case nothing changed (but that a refused open leaves no bridge). */
 enum {
@@ -62,7 +74,9 @@ enum {
     TL_RANGE = 18,
     TL_NO_END = 19,
     TL_TOO_LONG = 23,
-    /* the handle holds no bridge */
+    /* the handle of one side holds none */
+    TL_NO_SIDE = 252,
+    /* the handle of both sides holds no bridge */
     TL_NO_BRIDGE = 253,
     /* the channel takes no beat now: far beats are staged, or it is closed */
     TL_NOT_READY = 254
@@ -156,6 +170,62 @@ typedef struct {
     uint8_t TL_CALL(client, manager, offer_##x)(TL_CALL(client, manager, handle) *handle, const tl_beat *beat, const uint8_t lanes[near_width]); \
     bool TL_CALL(client, manager, take_##x)(TL_CALL(client, manager, handle) *handle, tl_beat *beat, uint8_t lanes[far_width]); \
     uint8_t TL_CALL(client, manager, close_##x)(TL_CALL(client, manager, handle) *handle);
+
+/* The name of a call on one side, as TL_SIDES_CALL(8, 4, open). */
+#define TL_SIDES_CALL_OF(client, manager, call) tl_sides_##client##_##manager##_##call
+#define TL_SIDES_CALL(client, manager, call) TL_SIDES_CALL_OF(client, manager, call)
+
+/* The calls of the two sides of one pair of widths, each side behind a handle of its own, for a thread of its own. No call waits for
+ * the other side. All are total: on a handle that holds no side they answer TL_NO_SIDE, false or 0 and change nothing. `side` is the
+ * client's handle for the offers of A, C and E and the takes of B and D, and the manager's for the offers of B and D and the takes of
+ * A, C and E.
+ *
+ *   tl_sides_CLIENT_MANAGER_client       all zero, it holds no side; so does
+ *   tl_sides_CLIENT_MANAGER_manager
+ *   open(client, manager, ring)          makes a bridge with five rings of that many beats, 1 to 4,096, gives each handle its side, and lets
+ *                                        those go that the handles held, before a thread has one of them. TL_OK, TL_RING_SIZE or
+ *                                        TL_OUT_OF_MEMORY; in the last two cases both handles hold none
+ *   free_client(client),                 let a side go, if there is one. The other side goes on by itself: nothing new comes from the one
+ *   free_manager(manager)                that is gone, and what is sent to it fills its rings and its stages
+ *   ready_x(side), offer_x(side, ..),    as on the handle of both sides, but for TL_NO_SIDE
+ *   take_x(side, ..), close_x(side)
+ *   pump_client(client),                 move what the side knows to find a place, or more, from its stages to its rings: how many beats
+ *   pump_manager(manager)
+ *   fetch_client(client),                move what the side knows to be there, or more, from the other side's rings to its inboxes, where
+ *   fetch_manager(manager)               these have room: how many beats
+ *   meet(client, manager, standings)     both sides of one open in one thread again: writes how many far beats wait, and where: whether
+ *                                        both handles hold a side; else nothing is written
+ *   answer_name(answer, name)            writes the name of an answer
+ *   version()                            TL_VERSION of the library */
+#define TLBRIDGE_SIDES(cw, mw) \
+    TL_BEGIN \
+    TL_SIDE(cw, mw, client) \
+    TL_SIDE(cw, mw, manager) \
+    uint8_t TL_SIDES_CALL(cw, mw, open)(TL_SIDES_CALL(cw, mw, client) *client, TL_SIDES_CALL(cw, mw, manager) *manager, size_t ring); \
+    void TL_SIDES_CALL(cw, mw, answer_name)(uint8_t answer, uint8_t name[TL_NAME_BYTES]); \
+    uint32_t TL_SIDES_CALL(cw, mw, version)(void); \
+    bool TL_SIDES_CALL(cw, mw, meet)(TL_SIDES_CALL(cw, mw, client) *client, TL_SIDES_CALL(cw, mw, manager) *manager, tl_standings *standings); \
+    TL_SIDES_CHANNEL(cw, mw, a, client, cw, manager, mw) \
+    TL_SIDES_CHANNEL(cw, mw, b, manager, mw, client, cw) \
+    TL_SIDES_CHANNEL(cw, mw, c, client, cw, manager, mw) \
+    TL_SIDES_CHANNEL(cw, mw, d, manager, mw, client, cw) \
+    TL_SIDES_CHANNEL(cw, mw, e, client, cw, manager, mw) \
+    TL_END
+
+#define TL_SIDE(cw, mw, side) \
+    typedef struct { \
+        void *held; \
+        bool live; \
+    } TL_SIDES_CALL(cw, mw, side); \
+    void TL_SIDES_CALL(cw, mw, free_##side)(TL_SIDES_CALL(cw, mw, side) *side); \
+    size_t TL_SIDES_CALL(cw, mw, pump_##side)(TL_SIDES_CALL(cw, mw, side) *side); \
+    size_t TL_SIDES_CALL(cw, mw, fetch_##side)(TL_SIDES_CALL(cw, mw, side) *side);
+
+#define TL_SIDES_CHANNEL(cw, mw, x, near, near_width, far, far_width) \
+    bool TL_SIDES_CALL(cw, mw, ready_##x)(TL_SIDES_CALL(cw, mw, near) *near); \
+    uint8_t TL_SIDES_CALL(cw, mw, offer_##x)(TL_SIDES_CALL(cw, mw, near) *near, const tl_beat *beat, const uint8_t lanes[near_width]); \
+    bool TL_SIDES_CALL(cw, mw, take_##x)(TL_SIDES_CALL(cw, mw, far) *far, tl_beat *beat, uint8_t lanes[far_width]); \
+    uint8_t TL_SIDES_CALL(cw, mw, close_##x)(TL_SIDES_CALL(cw, mw, near) *near);
 
 TL_BEGIN
 

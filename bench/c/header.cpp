@@ -6,9 +6,11 @@
 
 TLBRIDGE(8, 4)
 TLBRIDGE(4, 8)
+TLBRIDGE_SIDES(8, 4)
 
 static_assert(sizeof(tl_beat) == 24 && offsetof(tl_beat, opcode) == 16 && offsetof(tl_beat, corrupt) == 22, "a beat");
 static_assert(sizeof(tl_8_4_handle) == 16 && sizeof(tl_standings) == 15 * sizeof(std::size_t), "a handle and the standings");
+static_assert(sizeof(tl_sides_8_4_client) == 16 && offsetof(tl_sides_8_4_manager, live) == 8, "the handles of the two sides");
 
 int main() {
     tl_8_4_handle narrow = {};

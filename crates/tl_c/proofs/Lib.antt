@@ -1,4 +1,2 @@
 mod AsBox
 mod BothWidths
-mod Closing
-mod Numbers

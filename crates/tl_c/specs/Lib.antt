@@ -1,4 +1,2 @@
 pub mod Handle
-pub mod Names
-pub mod Fields
 pub mod Calls

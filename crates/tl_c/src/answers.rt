@@ -1,53 +1,17 @@
-//! What calls answer, and its names.
+//! The names of what calls answer, and the library's version.
 ghost use Rattle.std.specs.Prelude.{◌≡◌};
-ghost use Rattle.tl_c.specs.Names.{answer_name, zero_ended};
+ghost use Rattle.tl_c_beats.specs.Names.{answer_name, zero_ended};
+ghost use Rattle.tl_c_beats.specs.declared.answers.TheConstants.{VERSION};
 
-/// The answer of a call where the handle holds no bridge (this project's choice).
-pub const NO_BRIDGE: u8 = 253;
-
-/// The answer to an offer where its channel takes no beat now: one is staged, or the channel is
-/// closed (this project's choice).
-pub const NOT_READY: u8 = 254;
-
-/// The number of the fault of a refused allocation.
-pub const OUT_OF_MEMORY: u8 = 13;
-
-/// The library's version: it grows with each change of a call (this project's choice).
-pub const VERSION: u32 = 1;
-
-/// The bytes of an answer's name, the zeros at its end included.
-pub const NAME_BYTES: usize = 16;
-
-// The names of 0 to 13, in that order.
-const NAMES: [[u8; NAME_BYTES]; 14] = [
-    *b"Ok\0\0\0\0\0\0\0\0\0\0\0\0\0\0",
-    *b"Opcode\0\0\0\0\0\0\0\0\0\0",
-    *b"Param\0\0\0\0\0\0\0\0\0\0\0",
-    *b"Size\0\0\0\0\0\0\0\0\0\0\0\0",
-    *b"Unaligned\0\0\0\0\0\0\0",
-    *b"Mask\0\0\0\0\0\0\0\0\0\0\0\0",
-    *b"Corrupt\0\0\0\0\0\0\0\0\0",
-    *b"HeadChanged\0\0\0\0\0",
-    *b"SourceBusy\0\0\0\0\0\0",
-    *b"NoRequest\0\0\0\0\0\0\0",
-    *b"SizeMismatch\0\0\0\0",
-    *b"MidBurst\0\0\0\0\0\0\0\0",
-    *b"RingSize\0\0\0\0\0\0\0\0",
-    *b"OutOfMemory\0\0\0\0\0",
-];
+use tl_c_beats::{NAME_BYTES, VERSION, answer_name};
 
 /// Writes the name of what a call answered, ended by zeros: that of the fault of this number, `Ok`,
-/// `NoBridge` or `NotReady`. For a number that no call answers it writes zeros alone.
+/// `NoSide`, `NoBridge` or `NotReady`. For a number that no call answers it writes zeros alone.
 #[unsafe(no_mangle)]
 pub extern "C" fn tl_answer_name(answer: u8, name: &mut [u8; NAME_BYTES])
     ensures { name.new ≡ zero_ended (answer_name answer) }
 {
-    *name = match answer {
-        0..14 => NAMES[answer as usize],
-        NO_BRIDGE => *b"NoBridge\0\0\0\0\0\0\0\0",
-        NOT_READY => *b"NotReady\0\0\0\0\0\0\0\0",
-        _ => [0; NAME_BYTES],
-    };
+    *name = answer_name(answer);
 }
 
 /// The library's version.

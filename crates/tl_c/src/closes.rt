@@ -3,12 +3,13 @@ ghost use Rattle.std.specs.Prelude.{◌≡◌, ◌≢◌, None};
 ghost use Rattle.tl_msg.specs.Tables.{rules_a, rules_b, rules_c, rules_d, rules_e};
 ghost use Rattle.tl_burst.specs.Handing.{rest_of};
 ghost use Rattle.tl_sides.specs.Bridges.{Past, after_close_a, after_close_b, after_close_c, after_close_d, after_close_e};
-ghost use Rattle.tl_c.specs.Calls.{HoldsPast, close_answer};
+ghost use Rattle.tl_c_beats.specs.Answers.{close_answer};
+ghost use Rattle.tl_c.specs.Calls.{HoldsPast};
 
-use crate::answers::NO_BRIDGE;
 use crate::handle::Handle;
 use crate::widths::{CLIENT, MANAGER};
 use std::alloc::Global;
+use tl_c_beats::NO_BRIDGE;
 
 /// The client's side ends its offers of A.
 ///

@@ -1,44 +1,7 @@
-//! How many far beats wait, as C is told.
+//! Whether far beats of a channel wait.
 ghost use Rattle.std.specs.Prelude.{◌≡◌, ◌↔◌, IsTrue};
 
 use tl_ring::Standing;
-
-/// How many far beats of one channel wait at each place between its two ends.
-#[repr(C)]
-#[derive(Drop)]
-pub struct BeatCounts {
-    /// The beats that wait for a place in the ring, at most 64.
-    pub staged: usize,
-    /// The beats in the ring, at most as many as it holds.
-    pub in_ring: usize,
-    /// The beats that were fetched and not yet taken, at most 64.
-    pub inbox: usize,
-}
-
-/// How many far beats of each channel wait.
-#[repr(C)]
-#[derive(Drop)]
-pub struct ChannelCounts {
-    pub a: BeatCounts,
-    pub b: BeatCounts,
-    pub c: BeatCounts,
-    pub d: BeatCounts,
-    pub e: BeatCounts,
-}
-
-pub(crate) fn beat_counts(standing: Standing) -> BeatCounts
-    ensures { result ≡ record {
-      staged = standing.staged;
-      in_ring = standing.in_ring;
-      inbox = standing.inbox;
-    } }
-{
-    BeatCounts {
-        staged: standing.staged,
-        in_ring: standing.in_ring,
-        inbox: standing.inbox,
-    }
-}
 
 // Whether no beat waits.
 pub(crate) fn is_idle(standing: Standing) -> bool

@@ -4,11 +4,11 @@ ghost use Rattle.tl_c.specs.Handle.{holds, held_coded};
 ghost use Rattle.tl_c.specs.declared.held.Held.{Held};
 
 use crate::held::Held;
-use crate::parts::Parts;
 use std::alloc::Global;
 use std::marker::Model;
 use std::mem::replace;
 use std::ptr::null_mut;
+use tl_c_beats::Parts;
 
 /// The right to a boxed bridge, or to nothing.
 #[repr(C)]

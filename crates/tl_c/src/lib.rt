@@ -10,11 +10,9 @@
 mod answers;
 mod closes;
 mod counts;
-mod fields;
 mod handle;
 mod held;
 mod offers;
-mod parts;
 mod takes;
 mod widths;
 
@@ -23,12 +21,12 @@ ghost use Rattle.tl_ring.specs.declared.pipe.TheConstants.{MAX_RING};
 ghost use Rattle.tl_sides.specs.Bridges.{Past, nothing_yet};
 ghost use Rattle.tl_c.specs.Calls.{HoldsPast, IsDrained, past_pumped, past_fetched, pumped_count, fetched_count, channel_counts};
 
-use crate::answers::OUT_OF_MEMORY;
-use crate::counts::{ChannelCounts, beat_counts, is_idle};
+use crate::counts::is_idle;
 use crate::handle::Handle;
 use crate::held::Held;
 use crate::widths::{CLIENT, MANAGER};
 use std::alloc::Global;
+use tl_c_beats::{ChannelCounts, OUT_OF_MEMORY, beat_counts};
 use tl_sides::SyncBridge;
 
 /// Makes a bridge with five rings of `ring` beats and gives it to the handle. A bridge that the

@@ -4,15 +4,15 @@ ghost use Rattle.tl_msg.specs.Tables.{rules_b, rules_c, rules_e};
 ghost use Rattle.tl_settle.specs.Histories.{client_answer, manager_answer};
 ghost use Rattle.tl_sides.specs.Crossings.{stops_alone};
 ghost use Rattle.tl_sides.specs.Bridges.{Past, after_offer_a, after_offer_b, after_offer_c, after_offer_d, after_offer_e};
-ghost use Rattle.tl_c.specs.Fields.{beat_a, beat_b, beat_c, beat_d, beat_e};
-ghost use Rattle.tl_c.specs.Calls.{HoldsPast, is_ready, offer_answer};
+ghost use Rattle.tl_c_beats.specs.Fields.{beat_a, beat_b, beat_c, beat_d, beat_e};
+ghost use Rattle.tl_c_beats.specs.Answers.{is_ready, offer_answer};
+ghost use Rattle.tl_c.specs.Calls.{HoldsPast};
 
-use crate::answers::{NO_BRIDGE, NOT_READY};
-use crate::fields::{BeatFields, beat_a, beat_b, beat_c, beat_d, beat_e};
 use crate::handle::Handle;
 use crate::held::Held;
 use crate::widths::{CLIENT, MANAGER};
 use std::alloc::Global;
+use tl_c_beats::{BeatFields, NO_BRIDGE, NOT_READY, beat_a, beat_b, beat_c, beat_d, beat_e};
 
 /// Whether the client's side may offer a beat of A: a bridge is held, nothing of A is staged, and
 /// A isn't closed.

@@ -1,13 +1,14 @@
 //! The takes of each channel.
 ghost use Rattle.std.specs.Prelude.{◌≡◌, None, true, false, slice_get};
 ghost use Rattle.tl_sides.specs.Bridges.{Past, after_take_a, after_take_b, after_take_c, after_take_d, after_take_e};
-ghost use Rattle.tl_c.specs.Fields.{fields_a, fields_b, fields_c, fields_d, fields_e};
-ghost use Rattle.tl_c.specs.Calls.{HoldsPast, IsTold};
+ghost use Rattle.tl_c_beats.specs.Fields.{fields_a, fields_b, fields_c, fields_d, fields_e};
+ghost use Rattle.tl_c_beats.specs.Answers.{IsTold};
+ghost use Rattle.tl_c.specs.Calls.{HoldsPast};
 
-use crate::fields::{BeatFields, fields_a, fields_b, fields_c, fields_d, fields_e};
 use crate::handle::Handle;
 use crate::widths::{CLIENT, MANAGER};
 use std::alloc::Global;
+use tl_c_beats::{BeatFields, fields_a, fields_b, fields_c, fields_d, fields_e};
 
 /// The manager's side takes the first beat of A's inbox, and writes it: whether there was one. Where
 /// there was none, nothing changes.

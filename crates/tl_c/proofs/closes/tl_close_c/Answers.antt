@@ -1,5 +1,5 @@
 use Rattle.std.proofs.Common.{◌∙◌, sym, refl}
-use Rattle.tl_c.proofs.Closing.{close_ok, close_err}
+use Rattle.tl_c_beats.proofs.Closing.{close_ok, close_err}
 use Rattle.tl_c.proofs.closes.tl_close_c.Goals.{in-Ok, in-Err}
 use Rattle.tl_c.proofs.closes.tl_close_c.Goals as goal
 

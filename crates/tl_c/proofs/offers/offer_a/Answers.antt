@@ -1,6 +1,6 @@
 use Rattle.std.proofs.Common.{sym, ◌∙◌, lit<}
 use Rattle.tl_c.proofs.BothWidths.{client, manager}
-use Rattle.tl_c.proofs.Numbers.{side_fault_numbered}
+use Rattle.tl_c_beats.proofs.Numbers.{side_fault_numbered}
 use Rattle.tl_c.proofs.offers.offer_a.Goals as goal
 
 pub offer_a-requires : goal.offer_a-requires

@@ -1,6 +1,6 @@
 use Rattle.std.proofs.Common.{rules, sym, ◌∙◌, lit<}
 use Rattle.tl_c.proofs.BothWidths.{client, manager}
-use Rattle.tl_c.proofs.Numbers.{side_fault_numbered}
+use Rattle.tl_c_beats.proofs.Numbers.{side_fault_numbered}
 use Rattle.tl_c.proofs.offers.offer_b.Goals as goal
 
 pub offer_b-requires : goal.offer_b-requires

@@ -1,0 +1,40 @@
+-- What a call answers, by the past of the side or of the bridge that the handle holds (this project's choice).
+use Rattle.std.specs.Prelude.{◌≡◌, ℕ, Bool, true, false, Option, Some, None, List, [], ◌∷◌, if◌then◌else◌}
+use Rattle.tl_msg.specs.declared.beat.BeatOf.{BeatOf}
+use Rattle.tl_msg.specs.declared.fault.SideFault.{SideFault}
+use Rattle.tl_msg.specs.Names.{side_fault_number}
+use Rattle.tl_ring.specs.declared.fault.EndFault.TheVariants.{MidBurst}
+use Rattle.tl_ring.specs.Crossing.{World}
+use Rattle.tl_ring.specs.Names.{end_fault_number}
+use Rattle.tl_c_beats.specs.declared.answers.TheConstants.{NOT_READY}
+use Rattle.tl_c_beats.specs.declared.fields.BeatFields.{BeatFields}
+
+-- a channel may be offered a beat: it isn't closed, and nothing of it is staged
+abbrev pub is_free : {A : Type 0} → (closed : Bool) (stage : List A) → Bool
+is_free false [] = true
+is_free false (b ∷ bs) = false
+is_free true bs = false
+
+abbrev pub is_ready : {H : Type 0} {w v : ℕ} → World H w v → Bool
+is_ready x = is_free x.closed x.stage
+
+-- 0, or the number of the fault
+abbrev pub fault_answer : Option SideFault → ℕ
+fault_answer None = 0
+fault_answer (Some fault) = side_fault_number fault
+
+-- what an offer answers, where the rules of its side say this of the beat
+abbrev pub offer_answer : {H : Type 0} {w v : ℕ} → World H w v → Option SideFault → ℕ
+offer_answer x verdict = if is_ready x then fault_answer verdict else NOT_READY
+
+-- what a close answers, where the accepted beats leave this rest of a message
+abbrev pub close_answer : {A : Type 0} → (rest : List A) → ℕ
+close_answer [] = 0
+close_answer (b ∷ bs) = end_fault_number MidBurst
+
+-- C was told the first beat of an inbox
+pub record IsTold {H : Type 0} {w : ℕ} (fields_of : BeatOf H w → BeatFields) (first : Option (BeatOf H w)) (written : BeatFields) (bytes : List ℕ) : Type 0 where
+  pub beat : BeatOf H w
+  pub is_first : first ≡ Some beat
+  pub fields : written ≡ fields_of beat
+  pub lanes : bytes ≡ beat.lanes

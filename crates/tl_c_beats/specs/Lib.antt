@@ -1,0 +1,3 @@
+pub mod Names
+pub mod Fields
+pub mod Answers

@@ -1,0 +1,182 @@
+//! A beat as C passes it.
+ghost use Rattle.std.specs.Prelude.{◌≡◌};
+ghost use Rattle.tl_c_beats.specs.Fields.{beat_a, beat_b, beat_c, beat_d, beat_e, fields_a, fields_b, fields_c, fields_d, fields_e};
+
+use tl_msg::{BeatOf, HeadA, HeadB, HeadC, HeadD, HeadE};
+
+/// The fields of a beat on any of the five channels, but its lanes. A field that the channel lacks
+/// is not read, and is written 0. `denied` and `corrupt` are set where they are not 0, and are
+/// written 1 there.
+#[repr(C)]
+#[derive(Drop)]
+pub struct BeatFields {
+    pub address: u64,
+    pub mask: u64,
+    pub opcode: u8,
+    pub param: u8,
+    pub size: u8,
+    pub source: u8,
+    pub sink: u8,
+    pub denied: u8,
+    pub corrupt: u8,
+}
+
+pub fn beat_a<const W: usize>(fields: &BeatFields, lanes: &[u8; W]) -> BeatOf<HeadA, W>
+    ensures { result ≡ beat_a fields.now lanes.now }
+{
+    BeatOf {
+        head: HeadA {
+            opcode: fields.opcode,
+            param: fields.param,
+            size: fields.size,
+            source: fields.source,
+            address: fields.address,
+        },
+        mask: fields.mask,
+        lanes: *lanes,
+        corrupt: fields.corrupt != 0,
+    }
+}
+
+pub fn fields_a<const W: usize>(beat: &BeatOf<HeadA, W>) -> BeatFields
+    ensures { result ≡ fields_a beat.now }
+{
+    BeatFields {
+        address: beat.head.address,
+        mask: beat.mask,
+        opcode: beat.head.opcode,
+        param: beat.head.param,
+        size: beat.head.size,
+        source: beat.head.source,
+        sink: 0,
+        denied: 0,
+        corrupt: u8::from(beat.corrupt),
+    }
+}
+
+pub fn beat_b<const W: usize>(fields: &BeatFields, lanes: &[u8; W]) -> BeatOf<HeadB, W>
+    ensures { result ≡ beat_b fields.now lanes.now }
+{
+    BeatOf {
+        head: HeadB {
+            opcode: fields.opcode,
+            param: fields.param,
+            size: fields.size,
+            source: fields.source,
+            address: fields.address,
+        },
+        mask: fields.mask,
+        lanes: *lanes,
+        corrupt: fields.corrupt != 0,
+    }
+}
+
+pub fn fields_b<const W: usize>(beat: &BeatOf<HeadB, W>) -> BeatFields
+    ensures { result ≡ fields_b beat.now }
+{
+    BeatFields {
+        address: beat.head.address,
+        mask: beat.mask,
+        opcode: beat.head.opcode,
+        param: beat.head.param,
+        size: beat.head.size,
+        source: beat.head.source,
+        sink: 0,
+        denied: 0,
+        corrupt: u8::from(beat.corrupt),
+    }
+}
+
+pub fn beat_c<const W: usize>(fields: &BeatFields, lanes: &[u8; W]) -> BeatOf<HeadC, W>
+    ensures { result ≡ beat_c fields.now lanes.now }
+{
+    BeatOf {
+        head: HeadC {
+            opcode: fields.opcode,
+            param: fields.param,
+            size: fields.size,
+            source: fields.source,
+            address: fields.address,
+        },
+        mask: fields.mask,
+        lanes: *lanes,
+        corrupt: fields.corrupt != 0,
+    }
+}
+
+pub fn fields_c<const W: usize>(beat: &BeatOf<HeadC, W>) -> BeatFields
+    ensures { result ≡ fields_c beat.now }
+{
+    BeatFields {
+        address: beat.head.address,
+        mask: beat.mask,
+        opcode: beat.head.opcode,
+        param: beat.head.param,
+        size: beat.head.size,
+        source: beat.head.source,
+        sink: 0,
+        denied: 0,
+        corrupt: u8::from(beat.corrupt),
+    }
+}
+
+pub fn beat_d<const W: usize>(fields: &BeatFields, lanes: &[u8; W]) -> BeatOf<HeadD, W>
+    ensures { result ≡ beat_d fields.now lanes.now }
+{
+    BeatOf {
+        head: HeadD {
+            opcode: fields.opcode,
+            param: fields.param,
+            size: fields.size,
+            source: fields.source,
+            sink: fields.sink,
+            denied: fields.denied != 0,
+        },
+        mask: fields.mask,
+        lanes: *lanes,
+        corrupt: fields.corrupt != 0,
+    }
+}
+
+pub fn fields_d<const W: usize>(beat: &BeatOf<HeadD, W>) -> BeatFields
+    ensures { result ≡ fields_d beat.now }
+{
+    BeatFields {
+        address: 0,
+        mask: beat.mask,
+        opcode: beat.head.opcode,
+        param: beat.head.param,
+        size: beat.head.size,
+        source: beat.head.source,
+        sink: beat.head.sink,
+        denied: u8::from(beat.head.denied),
+        corrupt: u8::from(beat.corrupt),
+    }
+}
+
+pub fn beat_e<const W: usize>(fields: &BeatFields, lanes: &[u8; W]) -> BeatOf<HeadE, W>
+    ensures { result ≡ beat_e fields.now lanes.now }
+{
+    BeatOf {
+        head: HeadE { sink: fields.sink },
+        mask: fields.mask,
+        lanes: *lanes,
+        corrupt: fields.corrupt != 0,
+    }
+}
+
+pub fn fields_e<const W: usize>(beat: &BeatOf<HeadE, W>) -> BeatFields
+    ensures { result ≡ fields_e beat.now }
+{
+    BeatFields {
+        address: 0,
+        mask: beat.mask,
+        opcode: 0,
+        param: 0,
+        size: 0,
+        source: 0,
+        sink: beat.head.sink,
+        denied: 0,
+        corrupt: u8::from(beat.corrupt),
+    }
+}

@@ -1,0 +1,16 @@
+//! What the libraries for C have in common: a beat as C passes it, how many wait, what calls
+//! answer, and a box taken apart.
+#![tactic(auto)]
+
+mod answers;
+mod counts;
+mod fields;
+mod parts;
+
+pub use answers::{NAME_BYTES, NO_BRIDGE, NO_SIDE, NOT_READY, OUT_OF_MEMORY, VERSION, answer_name};
+pub use counts::{BeatCounts, ChannelCounts, beat_counts};
+pub use fields::{
+    BeatFields, beat_a, beat_b, beat_c, beat_d, beat_e, fields_a, fields_b, fields_c, fields_d,
+    fields_e,
+};
+pub use parts::Parts;

@@ -1,0 +1,3 @@
+mod BothWidths
+mod ClientAsBox
+mod ManagerAsBox

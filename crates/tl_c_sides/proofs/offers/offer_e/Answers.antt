@@ -1,0 +1,10 @@
+use Rattle.std.proofs.Common.{sym, ◌∙◌, lit<}
+use Rattle.tl_c_beats.proofs.Numbers.{side_fault_numbered}
+use Rattle.tl_c_sides.proofs.BothWidths.{client, manager}
+use Rattle.tl_c_sides.proofs.offers.offer_e.Goals as goal
+
+pub offer_e-requires : goal.offer_e-requires
+offer_e-requires c = (lit< tt, (lit< tt, (client, (manager, c.ready_e.ensures.0 c.if-not-ready_e.false))))
+
+pub returns-in-Err-clause-accepted : goal.returns-in-Err-clause-accepted
+returns-in-Err-clause-accepted c = λ x k e. absurd (side_fault_numbered c.in-Err.fault (sym c.number.ensures ∙ e))

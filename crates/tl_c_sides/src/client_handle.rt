@@ -1,0 +1,101 @@
+//! The handle by which C holds the client's side of a bridge.
+ghost use Rattle.std.specs.Prelude.{◌≡◌, ◌≢◌, ◌↔◌, true, Option, Some, None, IfSome};
+ghost use Rattle.tl_c_sides.specs.Handles.{holds_client, client_coded};
+ghost use Rattle.tl_c_sides.specs.declared.held.ClientHeld.{ClientHeld};
+
+use crate::held::ClientHeld;
+use std::alloc::Global;
+use std::marker::Model;
+use std::mem::replace;
+use std::ptr::null_mut;
+use tl_c_beats::Parts;
+
+/// The right to a boxed side, or to nothing.
+#[repr(C)]
+#[derive(Drop)]
+pub struct OwnedClient {
+    ptr: *mut (),
+    alloc: Global,
+    pub ghost held: { Option ClientHeld } by { client_coded },
+}
+
+impl Model for OwnedClient {
+    ghost also_owns = { λ o. holds_client o.alloc o.ptr o.held };
+}
+
+impl OwnedClient {
+    fn nothing(alloc: Global) -> OwnedClient
+        ensures { result.held ≡ None }
+    {
+        OwnedClient {
+            ptr: null_mut(),
+            alloc,
+        }
+    }
+
+    fn of_parts(parts: Parts<ClientHeld, Global>) -> OwnedClient
+        ensures { result.held ≡ Some parts.value }
+    {
+        let Parts { ptr, alloc } = parts;
+        OwnedClient {
+            ptr: ptr as *mut (),
+            alloc,
+        }
+    }
+
+    fn into_parts(self) -> Parts<ClientHeld, Global>
+        requires { self.held ≢ None }
+        ensures { self.held ≡ Some result.value }
+    {
+        let OwnedClient { ptr, alloc } = self;
+        Parts {
+            ptr: ptr as *mut ClientHeld,
+            alloc,
+        }
+    }
+}
+
+/// A handle as C keeps it: a pointer, and whether a side stands there. With both zero it holds
+/// none.
+#[repr(C)]
+#[derive(Drop)]
+pub struct ClientHandle {
+    pub owned: OwnedClient,
+    live: bool,
+    ghost tied: { (live ≡ true) ↔ (owned.held ≢ None) },
+}
+
+impl ClientHandle {
+    /// A handle that holds no side.
+    pub fn nothing(alloc: Global) -> ClientHandle
+        ensures { result.owned.held ≡ None }
+    {
+        ClientHandle {
+            owned: OwnedClient::nothing(alloc),
+            live: false,
+        }
+    }
+
+    /// A handle that holds this side.
+    pub fn of(held: Box<ClientHeld>) -> ClientHandle
+        ensures { result.owned.held ≡ Some held.value }
+    {
+        ClientHandle {
+            owned: OwnedClient::of_parts(Parts::of(held)),
+            live: true,
+        }
+    }
+
+    /// Takes the side out of the handle, which holds none then.
+    pub fn take(&mut self, alloc: Global) -> Option<Box<ClientHeld>>
+        ensures some { IfSome result (λ held. self.old.owned.held ≡ Some held.value) }
+        ensures none { result ≡ None → self.old.owned.held ≡ None }
+        ensures after { self.new.owned.held ≡ None }
+    {
+        if !self.live {
+            return None;
+        }
+        let ClientHandle { owned, live: _ } = replace(self, ClientHandle::nothing(alloc));
+        Some(owned.into_parts().into_box())
+    }
+}

@@ -1,0 +1,95 @@
+//! The two sides of a bridge for C, each for a thread of its own: two handles, and the calls of
+//! `ClientSide` and `ManagerSide` on them, with numbers and with pointers to bytes.
+//!
+//! The client's side offers beats of A, C and E and takes those of B and D; the manager's side
+//! offers beats of B and D and takes those of A, C and E. A call's contract says which event of the
+//! side's past it is, and by that past what it answers. No call waits for the other side.
+//! `include/tlbridge.h` says what a caller that is not proved owes.
+#![tactic(auto)]
+
+mod answers;
+mod client_handle;
+mod closes;
+mod held;
+mod manager_handle;
+mod meetings;
+mod moves;
+mod offers;
+mod takes;
+mod widths;
+
+ghost use Rattle.std.specs.Prelude.{◌≡◌, ◌≢◌, ◌<◌, ◌⊎◌, ◌↔◌, None};
+ghost use Rattle.tl_ring.specs.declared.pipe.TheConstants.{MAX_RING};
+ghost use Rattle.tl_pair.specs.Sides.{ClientPast, ManagerPast, new_client, new_manager};
+ghost use Rattle.tl_c_sides.specs.Calls.{HoldsClient, HoldsManager, HoldSides};
+
+use crate::client_handle::ClientHandle;
+use crate::held::{ClientHeld, ManagerHeld};
+use crate::manager_handle::ManagerHandle;
+use crate::widths::{CLIENT, MANAGER};
+use std::alloc::Global;
+use tl_c_beats::OUT_OF_MEMORY;
+use tl_pair::bridge;
+
+/// Makes a bridge with five rings of `ring` beats and gives its sides to the two handles. Sides
+/// that the handles held before are let go first.
+///
+/// 0 where it is made. Else both handles hold none: 12 exactly where `ring` is 0 or above 4,096, 13
+/// where there is no memory.
+#[unsafe(no_mangle)]
+pub extern "C" fn tl_open(
+    alloc: Global,
+    client: &mut ClientHandle,
+    manager: &mut ManagerHandle,
+    ring: usize,
+) -> u8
+    ensures sides { result ≡ 0 → HoldSides client.new.owned.held manager.new.owned.held }
+    ensures client { result ≡ 0 → HoldsClient client.new.owned.held (new_client ring) }
+    ensures manager { result ≡ 0 → HoldsManager manager.new.owned.held (new_manager ring) }
+    ensures ring_size { (result ≡ 12) ↔ ((ring ≡ 0) ⊎ (MAX_RING < ring)) }
+    ensures faults { (result ≡ 0) ⊎ ((result ≡ 12) ⊎ (result ≡ 13)) }
+    ensures refused { result ≢ 0 →
+        (client.new.owned.held ≡ None) × (manager.new.owned.held ≡ None) }
+{
+    if let Some(held) = client.take(alloc) {
+        drop(held);
+    }
+    if let Some(held) = manager.take(alloc) {
+        drop(held);
+    }
+    let (client_side, manager_side) = match bridge::<CLIENT, MANAGER, Global>(alloc, ring) {
+        Ok(sides) => sides,
+        Err(fault) => return fault.number(),
+    };
+    let Ok(client_held) = Box::new(alloc, ClientHeld { side: client_side }) else {
+        return OUT_OF_MEMORY;
+    };
+    let Ok(manager_held) = Box::new(alloc, ManagerHeld { side: manager_side }) else {
+        return OUT_OF_MEMORY;
+    };
+    *client = ClientHandle::of(client_held);
+    *manager = ManagerHandle::of(manager_held);
+    0
+}
+
+/// Lets the client's side go, if the handle holds one: the handle holds none then. The manager's
+/// side goes on by itself.
+#[unsafe(no_mangle)]
+pub extern "C" fn tl_free_client(alloc: Global, client: &mut ClientHandle)
+    ensures { client.new.owned.held ≡ None }
+{
+    if let Some(held) = client.take(alloc) {
+        drop(held);
+    }
+}
+
+/// Lets the manager's side go, if the handle holds one: the handle holds none then. The client's
+/// side goes on by itself.
+#[unsafe(no_mangle)]
+pub extern "C" fn tl_free_manager(alloc: Global, manager: &mut ManagerHandle)
+    ensures { manager.new.owned.held ≡ None }
+{
+    if let Some(held) = manager.take(alloc) {
+        drop(held);
+    }
+}

@@ -1,0 +1,101 @@
+//! The handle by which C holds the manager's side of a bridge.
+ghost use Rattle.std.specs.Prelude.{◌≡◌, ◌≢◌, ◌↔◌, true, Option, Some, None, IfSome};
+ghost use Rattle.tl_c_sides.specs.Handles.{holds_manager, manager_coded};
+ghost use Rattle.tl_c_sides.specs.declared.held.ManagerHeld.{ManagerHeld};
+
+use crate::held::ManagerHeld;
+use std::alloc::Global;
+use std::marker::Model;
+use std::mem::replace;
+use std::ptr::null_mut;
+use tl_c_beats::Parts;
+
+/// The right to a boxed side, or to nothing.
+#[repr(C)]
+#[derive(Drop)]
+pub struct OwnedManager {
+    ptr: *mut (),
+    alloc: Global,
+    pub ghost held: { Option ManagerHeld } by { manager_coded },
+}
+
+impl Model for OwnedManager {
+    ghost also_owns = { λ o. holds_manager o.alloc o.ptr o.held };
+}
+
+impl OwnedManager {
+    fn nothing(alloc: Global) -> OwnedManager
+        ensures { result.held ≡ None }
+    {
+        OwnedManager {
+            ptr: null_mut(),
+            alloc,
+        }
+    }
+
+    fn of_parts(parts: Parts<ManagerHeld, Global>) -> OwnedManager
+        ensures { result.held ≡ Some parts.value }
+    {
+        let Parts { ptr, alloc } = parts;
+        OwnedManager {
+            ptr: ptr as *mut (),
+            alloc,
+        }
+    }
+
+    fn into_parts(self) -> Parts<ManagerHeld, Global>
+        requires { self.held ≢ None }
+        ensures { self.held ≡ Some result.value }
+    {
+        let OwnedManager { ptr, alloc } = self;
+        Parts {
+            ptr: ptr as *mut ManagerHeld,
+            alloc,
+        }
+    }
+}
+
+/// A handle as C keeps it: a pointer, and whether a side stands there. With both zero it holds
+/// none.
+#[repr(C)]
+#[derive(Drop)]
+pub struct ManagerHandle {
+    pub owned: OwnedManager,
+    live: bool,
+    ghost tied: { (live ≡ true) ↔ (owned.held ≢ None) },
+}
+
+impl ManagerHandle {
+    /// A handle that holds no side.
+    pub fn nothing(alloc: Global) -> ManagerHandle
+        ensures { result.owned.held ≡ None }
+    {
+        ManagerHandle {
+            owned: OwnedManager::nothing(alloc),
+            live: false,
+        }
+    }
+
+    /// A handle that holds this side.
+    pub fn of(held: Box<ManagerHeld>) -> ManagerHandle
+        ensures { result.owned.held ≡ Some held.value }
+    {
+        ManagerHandle {
+            owned: OwnedManager::of_parts(Parts::of(held)),
+            live: true,
+        }
+    }
+
+    /// Takes the side out of the handle, which holds none then.
+    pub fn take(&mut self, alloc: Global) -> Option<Box<ManagerHeld>>
+        ensures some { IfSome result (λ held. self.old.owned.held ≡ Some held.value) }
+        ensures none { result ≡ None → self.old.owned.held ≡ None }
+        ensures after { self.new.owned.held ≡ None }
+    {
+        if !self.live {
+            return None;
+        }
+        let ManagerHandle { owned, live: _ } = replace(self, ManagerHandle::nothing(alloc));
+        Some(owned.into_parts().into_box())
+    }
+}
