@@ -19,5 +19,5 @@ mod walk;
 
 pub use explain::{Explanation, explain_text};
 pub use look::Look;
-pub use meanings::FAULTS;
+pub use meanings::{FAULTS, meaning};
 pub use stream::run_explain;

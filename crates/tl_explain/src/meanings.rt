@@ -1,4 +1,8 @@
 //! The faults by number, each in a sentence.
+use tl_answer::TextFault;
+
+/// Where the sentence begins in a line of `FAULTS`, behind number and name.
+const SENTENCE: usize = 16;
 
 /// The faults of the program `tlbridge` and of the bridge's calls, a line each: number, name, and
 /// what it means.
@@ -27,3 +31,12 @@ pub const FAULTS: [&str; 23] = [
     "22 Write        standard output could not be written\n",
     "23 TooLong      the trace has more than 67108864 bytes (64 MiB)\n",
 ];
+
+/// What a fault means: the sentence of its line of `FAULTS`, with the newline at its end.
+pub fn meaning(fault: &TextFault) -> &'static str {
+    let place = usize::from(fault.number()).wrapping_sub(1);
+    match FAULTS.get(place) {
+        Some(line) => line.get(SENTENCE..).unwrap_or(line),
+        None => "\n",
+    }
+}

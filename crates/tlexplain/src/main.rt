@@ -9,7 +9,7 @@ use std::alloc::AllocError;
 use std::io::{self, IsTerminal};
 use std::process::ExitCode;
 use tl_answer::{FaultLine, TextFault, exit_status};
-use tl_explain::{FAULTS, Look, run_explain};
+use tl_explain::{FAULTS, Look, meaning, run_explain};
 use words::{Wish, not_utf8, wish_of};
 
 /// The program's name, as its lines on standard error begin with it.
@@ -29,7 +29,8 @@ fn wish_from(rt: &HostRuntime) -> Result<Wish, Error> {
     wish_of(rt.alloc(), &words)
 }
 
-/// The exit status of an ending, after the line of its fault.
+/// The exit status of an ending, after the line of its fault, and what it means where no line of the
+/// trace shows it.
 fn status(rt: &HostRuntime, ending: Result<bool, TextFault>) -> ExitCode {
     if let Err(fault) = ending {
         let _ = eprint!(rt;
@@ -39,6 +40,9 @@ fn status(rt: &HostRuntime, ending: Result<bool, TextFault>) -> ExitCode {
                 fault
             }
         );
+        if !matches!(fault, TextFault::Trace(_)) {
+            let _ = eprint!(rt; "    {}", meaning(&fault));
+        }
     }
     ExitCode::from(exit_status(&ending))
 }
