@@ -5,7 +5,7 @@ ghost use Rattle.tl_trace.specs.Inner.Reading.{IsNearOf, IsPushed, IsReadNear};
 ghost use Rattle.tl_trace.specs.Faults.{body_fault};
 ghost use Rattle.tl_trace.specs.declared.fault.TraceKind.TheVariants as faults;
 
-use crate::fault::{OutOfMemory, TraceKind};
+use crate::fault::TraceKind;
 use crate::line::Line;
 use crate::line_reader::read_beat;
 use crate::script::{Script, on_lanes};
