@@ -9,7 +9,7 @@ use thiserror::Error;
 pub enum BuildFault {
     /// 12: the ring is to hold no beat, or more than 4,096 (this project's choice).
     RingSize,
-    /// 13: the allocator refused the ring's memory.
+    /// 13: the allocator refused memory: for a ring or, of a whole bridge, for a side's table.
     OutOfMemory,
 }
 
