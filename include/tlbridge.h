@@ -43,8 +43,8 @@
 #include <stdint.h>
 #include <stdlib.h>
 
-/* The library's version that this header is of. */
-#define TL_VERSION 2
+/* The library's version that this header is of: another has other calls or other structures. */
+#define TL_VERSION 3
 
 /* What offer, close and open answer. 0 is success; in each other case nothing changed (but that a refused open leaves no bridge). */
 enum {
@@ -88,17 +88,19 @@ enum {
 /* The most beats that a ring holds. */
 #define TL_MAX_RING 4096
 
-/* The fields of a beat on any channel, but its lanes. A field that the channel lacks is not read, and is written 0. */
+/* The fields of a beat on any channel, but its lanes: 32 bytes with no gap between two fields. A field that the channel lacks is not
+ * read, and is written 0. */
 typedef struct {
-    uint64_t address; /* A, B, C */
-    uint64_t mask;    /* A, B: one bit per lane, lane 0 lowest */
-    uint8_t opcode;   /* A to D */
-    uint8_t param;    /* A to D */
-    uint8_t size;     /* A to D: the message has 2^size bytes */
-    uint8_t source;   /* A to D */
-    uint8_t sink;     /* D, E */
-    uint8_t denied;   /* D: 0, or any other number for set; written 0 or 1 */
-    uint8_t corrupt;  /* A to D: as denied */
+    uint64_t address;    /* A, B, C */
+    uint64_t mask;       /* A, B: one bit per lane, lane 0 lowest */
+    uint16_t source;     /* A to D; byte 16 */
+    uint16_t sink;       /* D, E; byte 18 */
+    uint8_t opcode;      /* A to D; byte 20 */
+    uint8_t param;       /* A to D */
+    uint8_t size;        /* A to D: the message has 2^size bytes */
+    uint8_t denied;      /* D: 0, or any other number for set; written 0 or 1 */
+    uint8_t corrupt;     /* A to D: as denied; byte 24 */
+    uint8_t reserved[7]; /* not read, and written 0 */
 } tl_beat;
 
 /* How many far beats of one channel wait at each place. */
@@ -129,7 +131,8 @@ typedef struct {
  *
  *   tl_CLIENT_MANAGER_handle             all zero, it holds no bridge
  *   open(handle, ring)                   makes a bridge with five rings of that many beats, 1 to 4,096, and lets the one go that the handle
- *                                        held. TL_OK, TL_RING_SIZE or TL_OUT_OF_MEMORY; in the last two cases the handle holds none
+ *                                        held. TL_OK, TL_RING_SIZE or TL_OUT_OF_MEMORY; in the last two cases the handle holds none. It takes
+ *                                        all memory that the bridge needs: the rings, and 1,088 KiB of tables for the 65,536 sources
  *   free(handle)                         lets the bridge go, if there is one
  *   ready_x(handle)                      whether a beat of x may be offered: nothing of x is staged, and x isn't closed
  *   offer_x(handle, beat, lanes)         offers a near beat: TL_OK, its first fault (1 to 10), TL_NOT_READY or TL_NO_BRIDGE. `lanes` has as

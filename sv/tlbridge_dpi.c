@@ -82,7 +82,7 @@ READY_AND_CLOSE(c)
 READY_AND_CLOSE(d)
 READY_AND_CLOSE(e)
 
-static tl_beat message(uint8_t opcode, uint8_t param, uint8_t size, uint8_t source, uint64_t address, svBit corrupt) {
+static tl_beat message(uint8_t opcode, uint8_t param, uint8_t size, uint16_t source, uint64_t address, svBit corrupt) {
     tl_beat beat = {};
     beat.opcode = opcode;
     beat.param = param;
@@ -97,7 +97,7 @@ static tl_beat message(uint8_t opcode, uint8_t param, uint8_t size, uint8_t sour
 
 /* A and B, which have a mask. */
 #define MASKED(x, near_width, far_width) \
-    uint8_t tlbridge_offer_##x(void *bridge, uint8_t opcode, uint8_t param, uint8_t size, uint8_t source, uint64_t address, uint64_t mask, \
+    uint8_t tlbridge_offer_##x(void *bridge, uint8_t opcode, uint8_t param, uint8_t size, uint16_t source, uint64_t address, uint64_t mask, \
                                const svBitVecVal *data, svBit corrupt) { \
         tl_beat beat = message(opcode, param, size, source, address, corrupt); \
         uint8_t lanes[near_width]; \
@@ -105,7 +105,7 @@ static tl_beat message(uint8_t opcode, uint8_t param, uint8_t size, uint8_t sour
         read_lanes(lanes, data, near_width); \
         return CALL(offer_##x)(BRIDGE, &beat, lanes); \
     } \
-    svBit tlbridge_take_##x(void *bridge, uint8_t *opcode, uint8_t *param, uint8_t *size, uint8_t *source, uint64_t *address, uint64_t *mask, \
+    svBit tlbridge_take_##x(void *bridge, uint8_t *opcode, uint8_t *param, uint8_t *size, uint16_t *source, uint64_t *address, uint64_t *mask, \
                             svBitVecVal *data, svBit *corrupt) { \
         tl_beat beat = {}; \
         uint8_t lanes[far_width] = {0}; \
@@ -120,7 +120,7 @@ static tl_beat message(uint8_t opcode, uint8_t param, uint8_t size, uint8_t sour
 MASKED(a, TLBRIDGE_CLIENT, TLBRIDGE_MANAGER)
 MASKED(b, TLBRIDGE_MANAGER, TLBRIDGE_CLIENT)
 
-uint8_t tlbridge_offer_c(void *bridge, uint8_t opcode, uint8_t param, uint8_t size, uint8_t source, uint64_t address, const svBitVecVal *data,
+uint8_t tlbridge_offer_c(void *bridge, uint8_t opcode, uint8_t param, uint8_t size, uint16_t source, uint64_t address, const svBitVecVal *data,
                          svBit corrupt) {
     tl_beat beat = message(opcode, param, size, source, address, corrupt);
     uint8_t lanes[TLBRIDGE_CLIENT];
@@ -128,7 +128,7 @@ uint8_t tlbridge_offer_c(void *bridge, uint8_t opcode, uint8_t param, uint8_t si
     return CALL(offer_c)(BRIDGE, &beat, lanes);
 }
 
-svBit tlbridge_take_c(void *bridge, uint8_t *opcode, uint8_t *param, uint8_t *size, uint8_t *source, uint64_t *address, svBitVecVal *data,
+svBit tlbridge_take_c(void *bridge, uint8_t *opcode, uint8_t *param, uint8_t *size, uint16_t *source, uint64_t *address, svBitVecVal *data,
                       svBit *corrupt) {
     tl_beat beat = {};
     uint8_t lanes[TLBRIDGE_MANAGER] = {0};
@@ -140,7 +140,7 @@ svBit tlbridge_take_c(void *bridge, uint8_t *opcode, uint8_t *param, uint8_t *si
     return some;
 }
 
-uint8_t tlbridge_offer_d(void *bridge, uint8_t opcode, uint8_t param, uint8_t size, uint8_t source, uint8_t sink, svBit denied,
+uint8_t tlbridge_offer_d(void *bridge, uint8_t opcode, uint8_t param, uint8_t size, uint16_t source, uint16_t sink, svBit denied,
                          const svBitVecVal *data, svBit corrupt) {
     tl_beat beat = message(opcode, param, size, source, 0, corrupt);
     uint8_t lanes[TLBRIDGE_MANAGER];
@@ -150,7 +150,7 @@ uint8_t tlbridge_offer_d(void *bridge, uint8_t opcode, uint8_t param, uint8_t si
     return CALL(offer_d)(BRIDGE, &beat, lanes);
 }
 
-svBit tlbridge_take_d(void *bridge, uint8_t *opcode, uint8_t *param, uint8_t *size, uint8_t *source, uint8_t *sink, svBit *denied,
+svBit tlbridge_take_d(void *bridge, uint8_t *opcode, uint8_t *param, uint8_t *size, uint16_t *source, uint16_t *sink, svBit *denied,
                       svBitVecVal *data, svBit *corrupt) {
     tl_beat beat = {};
     uint8_t lanes[TLBRIDGE_CLIENT] = {0};
@@ -163,14 +163,14 @@ svBit tlbridge_take_d(void *bridge, uint8_t *opcode, uint8_t *param, uint8_t *si
     return some;
 }
 
-uint8_t tlbridge_offer_e(void *bridge, uint8_t sink) {
+uint8_t tlbridge_offer_e(void *bridge, uint16_t sink) {
     tl_beat beat = {};
     uint8_t lanes[TLBRIDGE_CLIENT] = {0};
     beat.sink = sink;
     return CALL(offer_e)(BRIDGE, &beat, lanes);
 }
 
-svBit tlbridge_take_e(void *bridge, uint8_t *sink) {
+svBit tlbridge_take_e(void *bridge, uint16_t *sink) {
     tl_beat beat = {};
     uint8_t lanes[TLBRIDGE_MANAGER];
     svBit some = CALL(take_e)(BRIDGE, &beat, lanes);

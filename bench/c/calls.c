@@ -123,7 +123,7 @@ static void without_memory(void) {
         }
     }
     CHECK(answer == TL_OK);
-    CHECK(refused == 6); /* five rings and the bridge */
+    CHECK(refused == 8); /* five rings, two tables and the bridge */
     CALL(free)(&bridge);
 }
 
@@ -139,6 +139,7 @@ static void crosses(handle *bridge, int x, const message *m) {
             for (int i = 0; i < near_width[x]; i++)
                 if (!m->data && x != E) lanes[i] = (uint8_t)draw(256);
             if (beat.corrupt) beat.corrupt = (uint8_t)(1 + draw(255));
+            memset(beat.reserved, (int)draw(256), sizeof beat.reserved);
             CHECK(offer[x](bridge, &beat, lanes) == TL_OK);
             sent++;
             if (sent < near_beats) CHECK(close_it[x](bridge) == TL_MID_BURST);
@@ -162,14 +163,15 @@ static void messages(void) {
     message m;
     CHECK(CALL(open)(&bridge, 5) == TL_OK);
     for (int i = 0; i < 400; i++) {
-        uint8_t size = (uint8_t)(draw(16) ? draw(8) : draw(13)), source = (uint8_t)draw(256);
+        uint8_t size = (uint8_t)(draw(16) ? draw(8) : draw(13));
+        uint16_t source = draw_id();
         uint64_t address = draw((uint64_t)1 << 40) << size;
         /* a request, whose source stays busy until its response is taken */
         draw_message(&m, A, source, size, address);
         crosses(&bridge, A, &m);
-        draw_message(&m, B, (uint8_t)draw(256), size, address);
+        draw_message(&m, B, draw_id(), size, address);
         crosses(&bridge, B, &m);
-        draw_message(&m, C, (uint8_t)draw(256), size, address);
+        draw_message(&m, C, draw_id(), size, address);
         crosses(&bridge, C, &m);
         draw_message(&m, D, source, size, address);
         crosses(&bridge, D, &m);
@@ -232,6 +234,28 @@ static void refusals(void) {
     CALL(free)(&bridge);
 }
 
+/* The bridge of ids_of_16_bits. */
+static handle ids;
+
+static uint8_t offer_ids(int x, const tl_beat *beat, const uint8_t *lanes) {
+    return offer[x](&ids, beat, lanes);
+}
+
+static bool take_ids(int x, tl_beat *beat, uint8_t *lanes) {
+    return take[x](&ids, beat, lanes);
+}
+
+static void settle_ids(void) {
+    settle(&ids);
+}
+
+static void wide_ids(void) {
+    CHECK(CALL(open)(&ids, 4) == TL_OK);
+    ids_of_16_bits(&(bridge_calls){offer_ids, take_ids, settle_ids});
+    CHECK(CALL(drained)(&ids));
+    CALL(free)(&ids);
+}
+
 /* Random calls with random fields: what each answers agrees with the standings before and after it. */
 static void random_calls(int count) {
     handle bridges[2] = {{0}, {0}};
@@ -243,8 +267,8 @@ static void random_calls(int count) {
         beat.opcode = (uint8_t)draw(9);
         beat.param = (uint8_t)(draw(4) ? 0 : draw(8));
         beat.size = (uint8_t)(draw(2) ? 3 : draw(14));
-        beat.source = (uint8_t)draw(4);
-        beat.sink = (uint8_t)draw(256);
+        beat.source = (uint16_t)(draw(2) + 256 * draw(2));
+        beat.sink = draw_id();
         beat.denied = (uint8_t)(draw(4) == 0);
         beat.corrupt = (uint8_t)(draw(8) == 0);
         uint8_t lanes[MAX_LANES];
@@ -310,6 +334,7 @@ int main(void) {
     handles();
     without_memory();
     refusals();
+    wide_ids();
     messages();
     random_calls(10000);
     printf("%d to %d bytes: %ld checks passed, %ld failed\n", CLIENT, MANAGER, passed, failed);

@@ -8,7 +8,9 @@ TLBRIDGE(8, 4)
 TLBRIDGE(4, 8)
 TLBRIDGE_SIDES(8, 4)
 
-static_assert(sizeof(tl_beat) == 24 && offsetof(tl_beat, opcode) == 16 && offsetof(tl_beat, corrupt) == 22, "a beat");
+static_assert(sizeof(tl_beat) == 32 && offsetof(tl_beat, source) == 16 && offsetof(tl_beat, sink) == 18 && offsetof(tl_beat, opcode) == 20 &&
+                  offsetof(tl_beat, corrupt) == 24 && offsetof(tl_beat, reserved) == 25,
+              "a beat");
 static_assert(sizeof(tl_8_4_handle) == 16 && sizeof(tl_standings) == 15 * sizeof(std::size_t), "a handle and the standings");
 static_assert(sizeof(tl_sides_8_4_client) == 16 && offsetof(tl_sides_8_4_manager, live) == 8, "the handles of the two sides");
 

@@ -62,13 +62,17 @@ static void lay_out(const message *m, int x, int width, int at, tl_beat *beat, u
     }
 }
 
+static uint16_t draw_id(void) {
+    return (uint16_t)draw(65536);
+}
+
 /* A lawful message on channel x; one of a response has the source, size and home that are given. */
-static void draw_message(message *m, int x, uint8_t source, uint8_t size, uint64_t home) {
+static void draw_message(message *m, int x, uint16_t source, uint8_t size, uint64_t home) {
     static const uint8_t opcodes[5][8] = {{0, 1, 2, 3, 4, 5, 6, 7}, {0, 1, 2, 3, 4, 5, 6, 7}, {0, 1, 2, 4, 5, 6, 7, 7}, {0, 1, 2, 4, 5, 0, 1, 5}, {0}};
     static const int params[4][8] = {{1, 1, 5, 4, 1, 2, 3, 3}, {1, 1, 5, 4, 1, 2, 3, 3}, {1, 1, 1, 1, 6, 6, 6, 6}, {1, 1, 1, 1, 3, 3, 1, 1}};
     memset(m, 0, sizeof *m);
     if (x == E) {
-        m->head.sink = (uint8_t)draw(256);
+        m->head.sink = draw_id();
         return;
     }
     m->head.opcode = opcodes[x][draw(8)];
@@ -77,7 +81,7 @@ static void draw_message(message *m, int x, uint8_t source, uint8_t size, uint64
     m->head.source = source;
     m->home = home;
     if (x == D) {
-        m->head.sink = (uint8_t)draw(256);
+        m->head.sink = draw_id();
         m->head.denied = (uint8_t)draw(2);
         m->data = m->head.opcode == 1 || m->head.opcode == 5;
     } else {
@@ -93,7 +97,53 @@ static void draw_message(message *m, int x, uint8_t source, uint8_t size, uint64
     for (int i = 0; i < 1 << size; i += near_bytes) memset(m->bad + i, draw(4) == 0, (size_t)near_bytes);
 }
 
+/* Byte for byte: between two fields there is no gap. */
 static bool same(const tl_beat *x, const tl_beat *y) {
-    return x->address == y->address && x->mask == y->mask && x->opcode == y->opcode && x->param == y->param && x->size == y->size &&
-           x->source == y->source && x->sink == y->sink && x->denied == y->denied && x->corrupt == y->corrupt;
+    return memcmp(x, y, sizeof *x) == 0;
+}
+
+/* The calls of one bridge, behind whichever handles it has. */
+typedef struct {
+    uint8_t (*offer)(int x, const tl_beat *beat, const uint8_t *lanes);
+    bool (*take)(int x, tl_beat *beat, uint8_t *lanes);
+    void (*settle)(void);
+} bridge_calls;
+
+/* Two requests in flight whose sources differ above the eighth bit alone, Intent of one byte and of two: over a bridge on which nothing was
+ * sent yet. */
+static void ids_of_16_bits(const bridge_calls *bridge) {
+    uint8_t lanes[MAX_LANES] = {0};
+    tl_beat one = {.opcode = 5, .size = 0, .source = 0x0007, .mask = 1};
+    tl_beat other = {.opcode = 5, .size = 1, .source = 0x8007, .mask = CLIENT == 1 ? 1 : 3}, beat;
+    tl_beat to_one = {.opcode = 2, .size = 0, .source = 0x0007, .sink = 0xfe00}, to_other = {.opcode = 2, .size = 1, .source = 0x8007, .sink = 0x00fe};
+    CHECK(bridge->offer(A, &one, lanes) == TL_OK);
+    bridge->settle();
+    CHECK(bridge->offer(A, &one, lanes) == TL_SOURCE_BUSY);
+    CHECK(bridge->offer(A, &other, lanes) == TL_OK);
+    bridge->settle();
+    CHECK(bridge->offer(A, &other, lanes) == TL_SOURCE_BUSY);
+    /* the request of the other waits in the inbox */
+    CHECK(bridge->take(A, &beat, lanes) && beat.source == one.source && beat.size == one.size);
+    CHECK(bridge->offer(D, &to_other, lanes) == TL_NO_REQUEST);
+    CHECK(bridge->take(A, &beat, lanes) && beat.source == other.source && beat.size == other.size);
+    beat = to_one, beat.size = other.size;
+    CHECK(bridge->offer(D, &beat, lanes) == TL_SIZE_MISMATCH);
+    beat = to_other, beat.size = one.size;
+    CHECK(bridge->offer(D, &beat, lanes) == TL_SIZE_MISMATCH);
+    CHECK(bridge->offer(D, &to_other, lanes) == TL_OK);
+    bridge->settle();
+    CHECK(bridge->take(D, &beat, lanes) && same(&beat, &to_other));
+    CHECK(bridge->offer(A, &one, lanes) == TL_SOURCE_BUSY);
+    CHECK(bridge->offer(A, &other, lanes) == TL_OK);
+    CHECK(bridge->offer(D, &to_one, lanes) == TL_OK);
+    bridge->settle();
+    CHECK(bridge->take(D, &beat, lanes) && same(&beat, &to_one));
+    CHECK(bridge->take(A, &beat, lanes) && beat.source == other.source);
+    /* the other channels have ids, too */
+    tl_beat probe = {.opcode = 6, .source = 0xff03, .mask = 1}, release = {.opcode = 6, .source = 0x03ff}, ack = {.sink = 0x0180};
+    CHECK(bridge->offer(B, &probe, lanes) == TL_OK && bridge->offer(C, &release, lanes) == TL_OK && bridge->offer(E, &ack, lanes) == TL_OK);
+    bridge->settle();
+    CHECK(bridge->take(B, &beat, lanes) && same(&beat, &probe));
+    CHECK(bridge->take(C, &beat, lanes) && same(&beat, &release));
+    CHECK(bridge->take(E, &beat, lanes) && same(&beat, &ack));
 }

@@ -11,7 +11,7 @@ int main(void) {
     tl_4_8_handle widen = {0};
     if (tl_8_4_open(&narrow, 4) || tl_4_8_open(&widen, 4)) return 2;
     /* ReleaseData of 4,096 bytes */
-    tl_beat sent = {.opcode = 7, .size = 12, .source = 3, .address = 0x8000}, half, got;
+    tl_beat sent = {.opcode = 7, .size = 12, .source = 0x0103, .address = 0x8000}, half, got;
     uint8_t lanes[8], half_lanes[4], got_lanes[8];
     long same = 0, other = 0;
     for (int beat = 0; beat < 512; beat++) {
@@ -26,7 +26,7 @@ int main(void) {
             tl_4_8_fetch(&widen);
         }
         while (tl_4_8_take_c(&widen, &got, got_lanes))
-            if (memcmp(lanes, got_lanes, 8) == 0 && got.corrupt == sent.corrupt && got.address == sent.address)
+            if (memcmp(lanes, got_lanes, 8) == 0 && got.corrupt == sent.corrupt && got.address == sent.address && got.source == sent.source)
                 same++;
             else
                 other++;

@@ -136,7 +136,7 @@ static void without_memory(void) {
         }
     }
     CHECK(answer == TL_OK);
-    CHECK(refused == 12); /* of each ring its beats and what both ends share, and the two sides */
+    CHECK(refused == 14); /* of each ring its beats and what both ends share, two tables, and the two sides */
     CALL(free_client)(&client);
     CALL(free_manager)(&manager);
 }
@@ -199,12 +199,35 @@ static void refusals(void) {
     CALL(free_manager)(&manager);
 }
 
+/* The bridge of ids_of_16_bits. */
+static client_handle ids_client;
+static manager_handle ids_manager;
+
+static uint8_t offer_ids(int x, const tl_beat *beat, const uint8_t *lanes) {
+    return offer[x](from_client(x) ? (void *)&ids_client : (void *)&ids_manager, beat, lanes);
+}
+
+static bool take_ids(int x, tl_beat *beat, uint8_t *lanes) {
+    return take[x](from_client(x) ? (void *)&ids_manager : (void *)&ids_client, beat, lanes);
+}
+
+static void settle_ids(void) {
+    settle(&ids_client, &ids_manager);
+}
+
+static void wide_ids(void) {
+    CHECK(CALL(open)(&ids_client, &ids_manager, 4) == TL_OK);
+    ids_of_16_bits(&(bridge_calls){offer_ids, take_ids, settle_ids});
+    CALL(free_client)(&ids_client);
+    CALL(free_manager)(&ids_manager);
+}
+
 /* What waits, and where, of beats of E, of which each near beat makes one far beat. */
 static void meetings(void) {
     client_handle client = {0};
     manager_handle manager = {0};
     tl_standings all;
-    tl_beat ack = {.sink = 5}, beat;
+    tl_beat ack = {.sink = 0x0105}, beat;
     uint8_t lanes[MAX_LANES] = {0};
     CHECK(CALL(open)(&client, &manager, 4) == TL_OK);
     CHECK(CALL(meet)(&client, &manager, &all) && all.e.staged + all.e.in_ring + all.e.inbox == 0);
@@ -234,7 +257,7 @@ static void meetings(void) {
         }
         case 3: {
             bool some = take_e(&manager, &beat, lanes);
-            CHECK(some == (inbox > 0) && (!some || beat.sink == 5));
+            CHECK(some == (inbox > 0) && (!some || beat.sink == 0x0105));
             inbox -= some;
             got += some;
             break;
@@ -362,10 +385,12 @@ static void draw_lists(int messages) {
     enum { SOURCES = 16 };
     message m;
     for (int i = 0; i < messages; i++) {
-        uint8_t size = (uint8_t)(draw(64) ? draw(6) : draw(10)), source = (uint8_t)(i % SOURCES);
+        uint8_t size = (uint8_t)(draw(64) ? draw(6) : draw(10));
+        /* four of them differ in their two highest bits alone */
+        uint16_t source = (uint16_t)(i % 4 + 0x4000 * (i % SOURCES / 4));
         uint64_t address = draw((uint64_t)1 << 40) << size;
         for (int x = A; x < CHANNELS; x++) {
-            draw_message(&m, x, x == A || x == D ? source : (uint8_t)draw(256), size, address);
+            draw_message(&m, x, x == A || x == D ? source : draw_id(), size, address);
             if (x == D && m.head.opcode == 6) m.head.opcode = 0;
             for (int at = 0; at < beat_count(&m, near_width[x]); at++) {
                 tl_beat beat;
@@ -509,6 +534,7 @@ int main(int count, char **words) {
     handles();
     without_memory();
     refusals();
+    wide_ids();
     meetings();
     a_side_goes();
     a_side_goes_in_its_thread();

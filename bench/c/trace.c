@@ -73,7 +73,11 @@ static void refusals(void) {
     refused("", 0, TL_HEADER, 1);
     refused("\n", 1, TL_HEADER, 1);
     refused("tilelink-trace 1 client 3 manager 4\n", 36, TL_HEADER, 1);
+    refused("tilelink-trace 3 client 8 manager 4\n", 36, TL_HEADER, 1);
     refused(header, strlen(header) - 1, TL_NO_END, 1);
+    /* version 2, whose ids have four digits */
+    static const char short_id[] = "tilelink-trace 2 client 8 manager 4\nE 0107\nE 07\n";
+    refused(short_id, strlen(short_id), TL_LENGTH, 3);
     for (size_t i = 0; i < sizeof later / sizeof *later; i++) {
         char text[256];
         int length = snprintf(text, sizeof text, "%sE 07\n%sE 08\n", header, later[i].line);

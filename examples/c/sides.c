@@ -24,13 +24,13 @@ int main(void) {
     tl_sides_8_4_manager manager = {0};
     pthread_t thread;
     if (tl_sides_8_4_open(&client, &manager, 16) != TL_OK || pthread_create(&thread, NULL, manage, &manager) != 0) return 1;
-    tl_beat get = {.opcode = 4, .size = 4, .source = 7, .address = 0x80, .mask = 0xff}, data;
+    tl_beat get = {.opcode = 4, .size = 4, .source = 0x107, .address = 0x80, .mask = 0xff}, data;
     uint8_t lanes[8] = {0};
     if (tl_sides_8_4_offer_a(&client, &get, lanes) != TL_OK) return 1;
     while (tl_sides_8_4_pump_client(&client) == 0) {}
     for (int beat = 0; beat < 2; beat++) {
         while (!tl_sides_8_4_take_d(&client, &data, lanes)) tl_sides_8_4_fetch_client(&client);
-        printf("source %d data ", data.source);
+        printf("source %x data ", data.source);
         for (int i = 7; i >= 0; i--) printf("%02x", lanes[i]);
         printf("\n");
     }

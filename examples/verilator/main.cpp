@@ -127,7 +127,7 @@ class Scoreboard {
     }
 
     tl_8_4_handle bridge = {};
-    uint64_t home[256] = {};
+    uint64_t home[1 << 16] = {};
 };
 
 } // namespace

@@ -1,9 +1,9 @@
 //! Beats that the tests offer.
 
-use tl_msg::{Beat, BeatOf, ChA, ChD, HeadA, HeadD};
+use tl_msg::{Beat, BeatOf, ChA, ChD, HeadA, HeadD, SourceId};
 
 /// Get of 4 bytes.
-pub(crate) fn get(source: u8, address: u64) -> Beat<ChA, 4> {
+pub(crate) fn get(source: SourceId, address: u64) -> Beat<ChA, 4> {
     BeatOf {
         head: HeadA {
             opcode: 4,
@@ -22,7 +22,7 @@ pub(crate) fn get(source: u8, address: u64) -> Beat<ChA, 4> {
 pub(crate) fn data<const W: usize>(
     opcode: u8,
     size: u8,
-    source: u8,
+    source: SourceId,
     lanes: [u8; W],
 ) -> Beat<ChD, W> {
     BeatOf {

@@ -5,13 +5,15 @@ use linked_list_allocator::LocalHeap;
 use std::alloc::Global;
 use std::test::Fail;
 use tl_bridge::{Standings, SyncBridge};
-use tl_msg::{Beat, BeatFault, BeatOf, ChA, ChB, ChD, ChE, HeadB, HeadC, HeadE, SideFault};
+use tl_msg::{
+    Beat, BeatFault, BeatOf, ChA, ChB, ChD, ChE, HeadB, HeadC, HeadE, SideFault, SourceId,
+};
 use tl_ring::BuildFault;
 
 /// What a bridge says to an offer. None where the channel is not ready.
 type Answer = Option<Result<(), SideFault>>;
 
-fn ask(bridge: &mut SyncBridge<4, 16>, source: u8, address: u64) -> Answer {
+fn ask(bridge: &mut SyncBridge<4, 16>, source: SourceId, address: u64) -> Answer {
     if !bridge.ready_a() {
         return None;
     }
@@ -278,12 +280,18 @@ fn a_ring_has_1_to_4096_beats(rt: HostRuntime) -> Result<(), Fail> {
     Ok(())
 }
 
-/// A heap hands out 16 bytes at least, so each growth is the one that is refused at some size.
+/// A heap hands out 16 bytes at least, so each ring is the growth that is refused at some size, and
+/// then each table at some greater one.
 #[test]
 fn each_refused_growth_is_out_of_memory(rt: HostRuntime) -> Result<(), Fail> {
-    let mut fault = None;
     for size in 0..1024usize {
         let heap = LocalHeap::new(rt.alloc(), 16 * size)?;
+        assert!(rt; refusal(&heap, 16) == Some(BuildFault::OutOfMemory));
+        assert!(rt; heap.used() == 0);
+    }
+    let mut fault = None;
+    for size in 1..40usize {
+        let heap = LocalHeap::new(rt.alloc(), 0x8000 * size)?;
         fault = refusal(&heap, 16);
         assert!(rt; fault != Some(BuildFault::RingSize));
         assert!(rt; heap.used() == 0);

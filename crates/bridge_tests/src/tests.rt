@@ -1,23 +1,27 @@
+use linked_list_allocator::LocalHeap;
+use std::test::Fail;
 use tl_bridge::laws::{every_run, one_settled_state, steps_are_admitted};
 use tl_bridge::{Request, RequestTable, SourceTable};
+use tl_msg::OutOfMemory;
 
 #[test]
-fn sources_in_use(rt: HostRuntime) {
-    let mut table = SourceTable::new();
-    assert!(rt; !table.busy(0x01));
-    table.begin(0x01);
-    table.begin(0xff);
-    assert!(rt; table.busy(0x01));
-    assert!(rt; table.busy(0xff));
-    assert!(rt; !table.busy(0x02));
-    table.end(0x02);
-    table.end(0x01);
-    assert!(rt; !table.busy(0x01));
-    assert!(rt; table.busy(0xff));
+fn sources_in_use(rt: HostRuntime) -> Result<(), Fail> {
+    let mut table = SourceTable::new(rt.alloc())?;
+    assert!(rt; !table.busy(0x0107));
+    table.begin(0x0107);
+    table.begin(0xffff);
+    assert!(rt; table.busy(0x0107));
+    assert!(rt; table.busy(0xffff));
+    assert!(rt; !table.busy(0x0007));
+    table.end(0x0007);
+    table.end(0x0107);
+    assert!(rt; !table.busy(0x0107));
+    assert!(rt; table.busy(0xffff));
+    Ok(())
 }
 
 #[test]
-fn requests_that_wait(rt: HostRuntime) {
+fn requests_that_wait(rt: HostRuntime) -> Result<(), Fail> {
     let first = Request {
         size: 2,
         address: 0x100c,
@@ -26,18 +30,48 @@ fn requests_that_wait(rt: HostRuntime) {
         size: 6,
         address: u64::MAX - 63,
     };
-    let mut table = RequestTable::new();
-    assert!(rt; table.get(0x11) == None);
-    table.begin(0x11, first);
-    table.begin(0xff, second);
-    assert!(rt; table.get(0x11) == Some(first));
-    assert!(rt; table.get(0xff) == Some(second));
-    table.begin(0x11, second);
-    assert!(rt; table.get(0x11) == Some(second));
-    table.end(0x12);
-    table.end(0x11);
-    assert!(rt; table.get(0x11) == None);
-    assert!(rt; table.get(0xff) == Some(second));
+    let mut table = RequestTable::new(rt.alloc())?;
+    assert!(rt; table.get(0x0111) == None);
+    table.begin(0x0111, first);
+    table.begin(0xffff, second);
+    assert!(rt; table.get(0x0111) == Some(first));
+    assert!(rt; table.get(0xffff) == Some(second));
+    assert!(rt; table.get(0x0011) == None);
+    table.begin(0x0111, second);
+    assert!(rt; table.get(0x0111) == Some(second));
+    table.end(0x0011);
+    table.end(0x0111);
+    assert!(rt; table.get(0x0111) == None);
+    assert!(rt; table.get(0xffff) == Some(second));
+    Ok(())
+}
+
+/// A table of sources takes a byte for each of the 65,536 sources, and one of requests 16 bytes.
+#[test]
+fn tables_take_their_memory_at_once(rt: HostRuntime) -> Result<(), Fail> {
+    let heap = LocalHeap::new(rt.alloc(), 17 << 16)?;
+    let sources = SourceTable::new(&heap)?;
+    assert!(rt; heap.used() == 1 << 16);
+    let requests = RequestTable::new(&heap)?;
+    assert!(rt; heap.used() == 17 << 16);
+    assert!(rt; SourceTable::new(&heap).err() == Some(OutOfMemory));
+    assert!(rt; RequestTable::new(&heap).err() == Some(OutOfMemory));
+    assert!(rt; heap.used() == 17 << 16);
+    drop(sources);
+    drop(requests);
+    assert!(rt; heap.used() == 0);
+    Ok(())
+}
+
+/// A heap hands out 16 bytes at least: it has none for a table that lacks but a few.
+#[test]
+fn tables_without_memory(rt: HostRuntime) -> Result<(), Fail> {
+    let heap = LocalHeap::new(rt.alloc(), (1 << 16) - 16)?;
+    assert!(rt; SourceTable::new(&heap).err() == Some(OutOfMemory));
+    let heap = LocalHeap::new(rt.alloc(), (16 << 16) - 16)?;
+    assert!(rt; RequestTable::new(&heap).err() == Some(OutOfMemory));
+    assert!(rt; heap.used() == 0);
+    Ok(())
 }
 
 #[test]

@@ -23,12 +23,18 @@ fn a_ring_has_1_to_4096_beats(rt: HostRuntime) -> Result<(), Fail> {
     Ok(())
 }
 
-/// A heap hands out 16 bytes at least, so each growth is the one that is refused at some size.
+/// A heap hands out 16 bytes at least, so each ring is the growth that is refused at some size, and
+/// then each table at some greater one.
 #[test]
 fn each_refused_growth_is_out_of_memory(rt: HostRuntime) -> Result<(), Fail> {
-    let mut fault = None;
-    for size in 0..4097usize {
+    for size in 0..4096usize {
         let heap = LocalHeap::new(rt.alloc(), 16 * size)?;
+        assert_eq!(rt; refusal(&heap, 16), Some(BuildFault::OutOfMemory));
+        assert_eq!(rt; heap.used(), 0);
+    }
+    let mut fault = None;
+    for size in 2..40usize {
+        let heap = LocalHeap::new(rt.alloc(), 0x8000 * size)?;
         fault = refusal(&heap, 16);
         assert!(rt; fault != Some(BuildFault::RingSize));
         assert_eq!(rt; heap.used(), 0);

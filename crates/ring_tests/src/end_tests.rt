@@ -7,7 +7,7 @@ ghost use Rattle.tl_ring.specs.Ends.{ArePair, SameSend, IsReceiptOf};
 use crate::values::{ack, at, put};
 use std::alloc::Global;
 use std::test::Fail;
-use tl_msg::{ChA, ChE};
+use tl_msg::{ChA, ChE, SinkId};
 use tl_ring::{EndFault, Receipt, SendEnd, Standing, TakeEnd, meet, meet_closing, ring_pair};
 
 /// Offers a quarter of a message of 16 bytes, and answers whether it was accepted.
@@ -92,7 +92,7 @@ fn two_far_beats_pass_a_ring_of_one_between_ends(rt: HostRuntime) -> Result<(), 
 }
 
 /// Offers and sends a GrantAck, and answers whether it was accepted and went into the ring.
-fn acknowledged(send: &mut SendEnd<ChE, 4, 8>, sink: u8) -> bool
+fn acknowledged(send: &mut SendEnd<ChE, 4, 8>, sink: SinkId) -> bool
     ensures { SameSend send.old send.new }
 {
     if !send.ready() || send.offer(ack(sink), 0).is_err() {
@@ -103,7 +103,7 @@ fn acknowledged(send: &mut SendEnd<ChE, 4, 8>, sink: u8) -> bool
 
 /// Whether a receipt says that a beat is in the ring, then that it is in the inbox, and then, when it
 /// was taken and is this GrantAck, that nothing is left.
-fn is_emptied(take: &mut TakeEnd<ChE, 4, 8>, receipt: &mut Receipt<ChE, 4, 8>, sink: u8) -> bool
+fn is_emptied(take: &mut TakeEnd<ChE, 4, 8>, receipt: &mut Receipt<ChE, 4, 8>, sink: SinkId) -> bool
     requires { IsReceiptOf receipt.old take.old }
 {
     if take.drained(receipt) || take.fetch() != 1 || take.drained(receipt) {

@@ -9,14 +9,14 @@ use arrayvec::ArrayVec;
 use std::alloc::Global;
 use std::test::Fail;
 use std::thread::{join, join_mut};
-use tl_msg::ChE;
+use tl_msg::{ChE, SinkId};
 use tl_ring::{Receipt, SendEnd, TakeEnd, meet, ring_pair};
 
 /// How many beats go through the ring of two threads.
-const COUNT: u8 = 200;
+const COUNT: SinkId = 200;
 
 /// Offers and sends the sinks from 0 on, until all are sent or the turns are over, and answers how many were offered.
-fn send_all(send: &mut SendEnd<ChE, 4, 8>, turns: usize) -> u8
+fn send_all(send: &mut SendEnd<ChE, 4, 8>, turns: usize) -> SinkId
     ensures { SameSend send.old send.new }
 {
     let mut next = 0;
@@ -33,7 +33,7 @@ fn send_all(send: &mut SendEnd<ChE, 4, 8>, turns: usize) -> u8
 }
 
 /// Fetches and takes beats, until all were taken or the turns are over, and notes their sinks.
-fn take_all(take: &mut TakeEnd<ChE, 4, 8>, sinks: &mut ArrayVec<u8, 200>, turns: usize)
+fn take_all(take: &mut TakeEnd<ChE, 4, 8>, sinks: &mut ArrayVec<SinkId, 200>, turns: usize)
     ensures { SameTake take.old take.new }
 {
     for _ in 0..turns {
@@ -70,9 +70,9 @@ fn send_and_finish(send: SendEnd<ChE, 4, 8>, turns: usize) -> Option<Receipt<ChE
 fn send_and_take(
     send: &mut SendEnd<ChE, 4, 8>,
     take: &mut TakeEnd<ChE, 4, 8>,
-    sinks: &mut ArrayVec<u8, 200>,
-    next: u8,
-) -> u8
+    sinks: &mut ArrayVec<SinkId, 200>,
+    next: SinkId,
+) -> SinkId
     requires { ArePair send.old take.old }
     ensures { ArePair send.new take.new }
 {
@@ -85,7 +85,7 @@ fn send_and_take(
 }
 
 /// Whether these are the sinks from 0 on, each once and in order.
-fn in_order(sinks: &ArrayVec<u8, 200>) -> bool {
+fn in_order(sinks: &ArrayVec<SinkId, 200>) -> bool {
     sinks.len() == COUNT as usize
         && sinks
             .as_slice()
@@ -97,7 +97,7 @@ fn in_order(sinks: &ArrayVec<u8, 200>) -> bool {
 #[test]
 fn two_threads_lose_nothing(rt: HostRuntime) -> Result<(), Fail> {
     let (mut send, mut take) = ring_pair::<ChE, 4, 8, Global>(rt.alloc(), 4)?;
-    let mut sinks = ArrayVec::<u8, 200>::new();
+    let mut sinks = ArrayVec::<SinkId, 200>::new();
     let (offered, _) = join_mut(
         &rt,
         &mut || send_all(&mut send, 1_000_000),
@@ -124,7 +124,7 @@ fn a_receipt_goes_from_thread_to_thread(rt: HostRuntime) -> Result<(), Fail> {
         move || -> Option<Receipt<ChE, 4, 8>>
             ensures { IfSome result (λ receipt. IsReceiptFor send receipt) }
         { send_and_finish(send, 500_000_000) },
-        move || -> (TakeEnd<ChE, 4, 8>, ArrayVec<u8, 200>)
+        move || -> (TakeEnd<ChE, 4, 8>, ArrayVec<SinkId, 200>)
             ensures { SameTake take result.0 }
         {
             let (mut take, mut sinks) = (take, ArrayVec::new());

@@ -1,5 +1,5 @@
 //! Beats and standings that several tests name.
-use tl_msg::{BeatOf, HeadA, HeadE};
+use tl_msg::{BeatOf, HeadA, HeadE, SinkId};
 use tl_ring::Standing;
 
 /// A beat of PutFullData to address 16 or 32, of 2 to the power of `size` bytes.
@@ -19,7 +19,7 @@ pub fn put<const W: usize>(size: u8, address: u64, mask: u64, lanes: [u8; W]) ->
 }
 
 /// A beat of GrantAck.
-pub fn ack(sink: u8) -> BeatOf<HeadE, 4> {
+pub fn ack(sink: SinkId) -> BeatOf<HeadE, 4> {
     BeatOf {
         head: HeadE { sink },
         mask: 0,

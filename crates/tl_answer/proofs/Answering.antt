@@ -23,26 +23,28 @@ pub near-is : {C M : ℕ} (lines : List Line) (s : Script C M) → IsScriptOf li
 near-is lines s is = rw is.a (rw is.b (rw is.c (rw is.d (rw is.e refl))))
 
 -- what is written of the outcome of a trace's script is the answer to the trace
-pub answers : (C M : ℕ) (lines : List Line) (check : Bool) (outcome : Outcome C M) →
+pub answers : (version C M : ℕ) (lines : List Line) (check : Bool) (outcome : Outcome C M) →
     EndsIn (near C M lines) outcome →
-    (text : List ℕ) → text ≡ far_header C M ++ cond check [] (far_lines (taken outcome)) ++ report (ends C M lines) →
-    (done : Bool) → done ≡ list_all is_done outcome.verdicts → IsAnswerTo C M lines check text done
-answers C M lines check outcome h text text-is done done-is = record {
-  answered = text-is ∙ ap (λ far. far_header C M ++ cond check [] (far_lines far) ++ report (ends C M lines)) (taken-is (near C M lines) outcome h);
+    (text : List ℕ) → text ≡ far_header version C M ++ cond check [] (far_lines version (taken outcome)) ++ report (ends C M lines) →
+    (done : Bool) → done ≡ list_all is_done outcome.verdicts → IsAnswerTo version C M lines check text done
+answers version C M lines check outcome h text text-is done done-is = record {
+  answered = text-is ∙
+    ap (λ far. far_header version C M ++ cond check [] (far_lines version far) ++ report (ends C M lines)) (taken-is (near C M lines) outcome h);
   all_done = done-is ∙ ap (λ vs. list_all is_done vs) h.verdicts_are;
 }
 
 -- the same of what `answer_of` gives, for a text that tells the trace
-pub answers-text : (text : List ℕ) (C M : ℕ) (lines : List Line) (check : Bool) (outcome : Outcome C M) → Tells text C M lines →
+pub answers-text : (text : List ℕ) (version C M : ℕ) (lines : List Line) (check : Bool) (outcome : Outcome C M) → Tells text version C M lines →
     EndsIn (near C M lines) outcome → (given : Result Answer TextFault) →
-    IfOk given (λ answer. answer.text.items ≡ far_header C M ++ cond check [] (far_lines (taken outcome)) ++ report (ends C M lines)) →
+    IfOk given (λ answer. answer.text.items ≡ far_header version C M ++ cond check [] (far_lines version (taken outcome)) ++ report (ends C M lines)) →
     IfOk given (λ answer. answer.all_done ≡ list_all is_done outcome.verdicts) →
     IfOk given (λ answer. IsAnswer text check answer.text.items answer.all_done)
-answers-text text C M lines check outcome told h (Ok answer) text-is done-is = record {
+answers-text text version C M lines check outcome told h (Ok answer) text-is done-is = record {
+  version = version;
   client = C;
   manager = M;
   lines = lines;
   told = told;
-  answers = answers C M lines check outcome h _ text-is _ done-is;
+  answers = answers version C M lines check outcome h _ text-is _ done-is;
 }
-answers-text text C M lines check outcome told h (Err fault) text-is done-is = tt
+answers-text text version C M lines check outcome told h (Err fault) text-is done-is = tt

@@ -1,11 +1,11 @@
--- The widths of a text's header, and a text that has none.
+-- What a text's header names, and a text that has none.
 use Rattle.std.proofs.Common.{◌≡◌, ◌≢◌, ◌∷◌, [], ◌||◌, ℕ, Bool, true, false, List, None, Some, if◌then◌else◌, refl, ap, ◌∙◌, subst}
 use Rattle.std.specs.Prelude.{◌==◌}
 use Rattle.std.proofs.lemmas.Bool.{eqb-true}
 use Rattle.tl_trace.specs.Texts.{is_width}
-use Rattle.tl_trace.specs.Faults.{body, cut, onto_first, or_empty, is_newline, widths_of, faults_after, faults_of_lines, IsFirstFault}
-use Rattle.tl_trace.specs.declared.fault.TraceKind.TheVariants.{Header}
-use Rattle.tl_trace.proofs.Headers.{both_widths}
+use Rattle.tl_trace.specs.Faults.{body, cut, onto_first, or_empty, is_newline, header_of, HasHeader, faults_after, faults_of_lines, IsFirstFault}
+use Rattle.tl_trace.specs.declared.fault.TraceKind.TheVariants as kinds
+use Rattle.tl_trace.proofs.Headers.{header, known}
 use Rattle.tl_trace.proofs.ReadLines.{first_fault}
 
 abbrev first_line : List (List ℕ) → List ℕ
@@ -31,14 +31,14 @@ body_first [] = refl
 body_first (byte ∷ text) = body_more byte (is_newline byte) (cut text) (body text) refl (body_first text)
 
 faults_first : (lines : List (List ℕ)) →
-    faults_of_lines (or_empty lines) ≡ faults_after (widths_of (body (first_line lines))) (first_line lines) (later_lines lines)
+    faults_of_lines (or_empty lines) ≡ faults_after (header_of (body (first_line lines))) (first_line lines) (later_lines lines)
 faults_first [] = refl
 faults_first (line ∷ lines) = refl
 
 -- a text without a header has that fault on its first line
-pub no_header : (text : List ℕ) → widths_of (body text) ≡ None → IsFirstFault text 1 Header
-no_header text none = first_fault text 0 Header [] (faults_first (cut text)
-    ∙ ap (λ widths. faults_after widths (first_line (cut text)) (later_lines (cut text))) (ap widths_of (body_first text) ∙ none))
+pub no_header : (text : List ℕ) → header_of (body text) ≡ None → IsFirstFault text 1 kinds.Header
+no_header text none = first_fault text 0 kinds.Header [] (faults_first (cut text)
+    ∙ ap (λ header. faults_after header (first_line (cut text)) (later_lines (cut text))) (ap header_of (body_first text) ∙ none))
 
 pick : (w a : ℕ) (here rest : Bool) → (w == a) ≡ here → here || rest ≡ true → w ≢ a → rest ≡ true
 pick w a true rest is any not = absurd (not (eqb-true w a is))
@@ -54,12 +54,12 @@ last_width w is n1 n2 n4 n8 n16 n32 = only w (w == 64) refl
     (pick w 32 (w == 32) _ refl (pick w 16 (w == 16) _ refl (pick w 8 (w == 8) _ refl (pick w 4 (w == 4) _ refl
     (pick w 2 (w == 2) _ refl (pick w 1 (w == 1) _ refl is n1) n2) n4) n8) n16) n32)
 
-pub last_manager : (text : List ℕ) (client manager : ℕ) → widths_of text ≡ Some (client, manager) →
-    manager ≢ 1 → manager ≢ 2 → manager ≢ 4 → manager ≢ 8 → manager ≢ 16 → manager ≢ 32 → widths_of text ≡ Some (client, 64)
-last_manager text client manager is n1 n2 n4 n8 n16 n32 =
-    subst (λ w. widths_of text ≡ Some (client, w)) (last_width manager (both_widths text (client, manager) is).1 n1 n2 n4 n8 n16 n32) is
+pub last_manager : (text : List ℕ) (version client manager : ℕ) → HasHeader text version client manager →
+    manager ≢ 1 → manager ≢ 2 → manager ≢ 4 → manager ≢ 8 → manager ≢ 16 → manager ≢ 32 → HasHeader text version client 64
+last_manager text version client manager is n1 n2 n4 n8 n16 n32 =
+    subst (λ w. HasHeader text version client w) (last_width manager (known (body text) (header version client manager) is).2 n1 n2 n4 n8 n16 n32) is
 
-pub last_client : (text : List ℕ) (client manager : ℕ) → widths_of text ≡ Some (client, manager) →
-    client ≢ 1 → client ≢ 2 → client ≢ 4 → client ≢ 8 → client ≢ 16 → client ≢ 32 → widths_of text ≡ Some (64, manager)
-last_client text client manager is n1 n2 n4 n8 n16 n32 =
-    subst (λ w. widths_of text ≡ Some (w, manager)) (last_width client (both_widths text (client, manager) is).0 n1 n2 n4 n8 n16 n32) is
+pub last_client : (text : List ℕ) (version client manager : ℕ) → HasHeader text version client manager →
+    client ≢ 1 → client ≢ 2 → client ≢ 4 → client ≢ 8 → client ≢ 16 → client ≢ 32 → HasHeader text version 64 manager
+last_client text version client manager is n1 n2 n4 n8 n16 n32 =
+    subst (λ w. HasHeader text version w manager) (last_width client (known (body text) (header version client manager) is).1 n1 n2 n4 n8 n16 n32) is

@@ -24,20 +24,21 @@ longer : (before after : List ℕ) → suc (length after) ≤ length (before ++ 
 longer before after = let whole = length-append (before ++ newline) after in let start = length-append before newline in omega arith
 
 -- each line has a byte, its end
-lines-in-bytes : (client manager : ℕ) (lines : List Line) (text : List ℕ) → TellsLines client manager lines text → length lines ≤ length text
-lines-in-bytes client manager [] text told = omega arith
-lines-in-bytes client manager (line ∷ lines) text (body, rest, same, says, told) =
-    let below = lines-in-bytes client manager lines rest told in
+lines-in-bytes : (version client manager : ℕ) (lines : List Line) (text : List ℕ) → TellsLines version client manager lines text →
+    length lines ≤ length text
+lines-in-bytes version client manager [] text told = omega arith
+lines-in-bytes version client manager (line ∷ lines) text (body, rest, same, says, told) =
+    let below = lines-in-bytes version client manager lines rest told in
     let more : suc (length rest) ≤ length text = subst (λ t. suc (length rest) ≤ length t) (sym same) (longer body rest) in
     omega arith
 
 -- a trace has no more lines than its text has bytes
-pub lines-few : (text : List ℕ) (client manager : ℕ) (lines : List Line) → Tells text client manager lines → length text ≤ most_bytes →
-    length lines ≤ most_bytes
-lines-few text client manager lines tells few =
-    let below = lines-in-bytes client manager lines tells.rest tells.told in
+pub lines-few : (text : List ℕ) (version client manager : ℕ) (lines : List Line) → Tells text version client manager lines →
+    length text ≤ most_bytes → length lines ≤ most_bytes
+lines-few text version client manager lines tells few =
+    let below = lines-in-bytes version client manager lines tells.rest tells.told in
     let more : suc (length tells.rest) ≤ length text =
-    subst (λ t. suc (length tells.rest) ≤ length t) (sym tells.header) (longer (header_text client manager) tells.rest) in
+    subst (λ t. suc (length tells.rest) ≤ length t) (sym tells.header) (longer (header_text version client manager) tells.rest) in
     omega arith
 
 -- what is chosen of so many lines can be counted

@@ -38,13 +38,13 @@ put first = line.A (record {
 abbrev three : List Line
 three = put 3 ∷ put 7 ∷ put 0xb ∷ []
 
-get_to_a_narrower_bus : answer_of 8 4 get false ≡ lines_of
+get_to_a_narrower_bus : answer_of 1 8 4 get false ≡ lines_of
     (codes "tilelink-far 1 client 8 manager 4" ∷ codes "A 4 0 2 07 0000000000001004 f 00000000 0" ∷
     codes "= A done 1 1" ∷ codes "= B done 0 0" ∷ codes "= C done 0 0" ∷ codes "= D done 0 0" ∷ codes "= E done 0 0" ∷ [])
 unfolding digits
 get_to_a_narrower_bus = refl
 
-get_checked : answer_of 8 4 get true ≡ lines_of
+get_checked : answer_of 1 8 4 get true ≡ lines_of
     (codes "tilelink-far 1 client 8 manager 4" ∷
     codes "= A done 1 1" ∷ codes "= B done 0 0" ∷ codes "= C done 0 0" ∷ codes "= D done 0 0" ∷ codes "= E done 0 0" ∷ [])
 unfolding digits
@@ -53,14 +53,14 @@ get_checked = refl
 get_is_done : are_done 8 4 get ≡ true
 get_is_done = refl
 
-no_beats : answer_of 8 8 [] false ≡ lines_of
+no_beats : answer_of 1 8 8 [] false ≡ lines_of
     (codes "tilelink-far 1 client 8 manager 8" ∷
     codes "= A done 0 0" ∷ codes "= B done 0 0" ∷ codes "= C done 0 0" ∷ codes "= D done 0 0" ∷ codes "= E done 0 0" ∷ [])
 unfolding digits
 no_beats = refl
 
 -- a far beat is given when its last byte has come, and the burst is cut
-cut_burst : answer_of 4 8 three false ≡ lines_of
+cut_burst : answer_of 1 4 8 three false ≡ lines_of
     (codes "tilelink-far 1 client 4 manager 8" ∷ codes "A 0 0 4 01 0000000000000020 ff 0707070703030303 0" ∷
     codes "= A cut 3 1" ∷ codes "= B done 0 0" ∷ codes "= C done 0 0" ∷ codes "= D done 0 0" ∷ codes "= E done 0 0" ∷ [])
 unfolding digits
@@ -81,7 +81,7 @@ reply sink = line.D (record {
 })
 
 -- the Get is answered, though its line comes last
-get_answered : answer_of 8 8 (reply 3 ∷ get) false ≡ lines_of
+get_answered : answer_of 1 8 8 (reply 3 ∷ get) false ≡ lines_of
     (codes "tilelink-far 1 client 8 manager 8" ∷
     codes "A 4 0 2 07 0000000000001004 f0 0000000000000000 0" ∷ codes "D 1 0 2 07 03 0 1122334400000000 0" ∷
     codes "= A done 1 1" ∷ codes "= B done 0 0" ∷ codes "= C done 0 0" ∷ codes "= D done 1 1" ∷ codes "= E done 0 0" ∷ [])
@@ -89,7 +89,7 @@ unfolding digits
 get_answered = refl
 
 -- a second response to it has no request
-get_answered_twice : answer_of 8 8 (get ++ reply 3 ∷ reply 4 ∷ []) true ≡ lines_of
+get_answered_twice : answer_of 1 8 8 (get ++ reply 3 ∷ reply 4 ∷ []) true ≡ lines_of
     (codes "tilelink-far 1 client 8 manager 8" ∷
     codes "= A done 1 1" ∷ codes "= B done 0 0" ∷ codes "= C done 0 0" ∷ codes "= D waiting 1 NoRequest" ∷ codes "= E done 0 0" ∷ [])
 unfolding digits
@@ -107,7 +107,7 @@ five =
     line.B (record { head = record { opcode = 7; param = 2; size = 6; source = 0; address = 0x80 }; mask = 0xff; lanes = replicate 64 0; corrupt = false }) ∷
     line.A (record { head = record { opcode = 7; param = 2; size = 6; source = 1; address = 0x40 }; mask = 0xf; lanes = replicate 64 0; corrupt = false }) ∷ []
 
-five_cross : answer_of 4 8 five false ≡ lines_of
+five_cross : answer_of 1 4 8 five false ≡ lines_of
     (codes "tilelink-far 1 client 4 manager 8" ∷
     codes "A 7 2 6 01 0000000000000040 ff 0000000000000000 0" ∷ codes "B 7 2 6 00 0000000000000080 f 00000000 0" ∷
     codes "C 4 1 6 00 0000000000000080 0000000000000000 0" ∷ codes "D 4 0 6 01 07 0 00000000 0" ∷ codes "E 07" ∷
@@ -117,3 +117,44 @@ five_cross = refl
 
 five_are_done : are_done 4 8 five ≡ true
 five_are_done = refl
+
+-- ---- version 2
+
+-- a Get of 4 bytes at 0x1004 on a bus of 8, from a source of 16 bits
+abbrev get_of : (source : ℕ) → Line
+get_of source = line.A (record {
+  head = record { opcode = 4; param = 0; size = 2; source = source; address = 0x1004 };
+  mask = 0xf0;
+  lanes = 0x88 ∷ 0x77 ∷ 0x66 ∷ 0x55 ∷ 0x44 ∷ 0x33 ∷ 0x22 ∷ 0x11 ∷ replicate 56 0;
+  corrupt = false;
+})
+
+wide_source : answer_of 2 8 4 (get_of 0x0107 ∷ []) false ≡ lines_of
+    (codes "tilelink-far 2 client 8 manager 4" ∷ codes "A 4 0 2 0107 0000000000001004 f 00000000 0" ∷
+    codes "= A done 1 1" ∷ codes "= B done 0 0" ∷ codes "= C done 0 0" ∷ codes "= D done 0 0" ∷ codes "= E done 0 0" ∷ [])
+unfolding digits
+wide_source = refl
+
+-- two sources that differ above the eighth bit alone are two sources
+two_wide_sources : answer_of 2 8 4 (get_of 0x0107 ∷ get_of 0x0007 ∷ []) false ≡ lines_of
+    (codes "tilelink-far 2 client 8 manager 4" ∷
+    codes "A 4 0 2 0107 0000000000001004 f 00000000 0" ∷ codes "A 4 0 2 0007 0000000000001004 f 00000000 0" ∷
+    codes "= A done 2 2" ∷ codes "= B done 0 0" ∷ codes "= C done 0 0" ∷ codes "= D done 0 0" ∷ codes "= E done 0 0" ∷ [])
+unfolding digits
+two_wide_sources = refl
+
+-- a source used twice is busy
+wide_source_used_twice : answer_of 2 8 4 (get_of 0x0107 ∷ get_of 0x0107 ∷ []) true ≡ lines_of
+    (codes "tilelink-far 2 client 8 manager 4" ∷
+    codes "= A waiting 1 SourceBusy" ∷ codes "= B done 0 0" ∷ codes "= C done 0 0" ∷ codes "= D done 0 0" ∷ codes "= E done 0 0" ∷ [])
+unfolding digits
+wide_source_used_twice = refl
+
+-- sinks have four digits, too
+five_cross_in_version_2 : answer_of 2 4 8 five false ≡ lines_of
+    (codes "tilelink-far 2 client 4 manager 8" ∷
+    codes "A 7 2 6 0001 0000000000000040 ff 0000000000000000 0" ∷ codes "B 7 2 6 0000 0000000000000080 f 00000000 0" ∷
+    codes "C 4 1 6 0000 0000000000000080 0000000000000000 0" ∷ codes "D 4 0 6 0001 0007 0 00000000 0" ∷ codes "E 0007" ∷
+    codes "= A done 1 1" ∷ codes "= B done 1 1" ∷ codes "= C done 1 1" ∷ codes "= D done 1 1" ∷ codes "= E done 1 1" ∷ [])
+unfolding digits
+five_cross_in_version_2 = refl

@@ -1,4 +1,4 @@
--- The answer to a text (this project's choice). It has the widths of the trace that the text tells, then the beats that arrive on the other side,
+-- The answer to a text (this project's choice). It has the version and the widths of the trace that the text tells, then the beats that arrive on the other side,
 -- and then one line for each channel that reports how far it came.
 use Rattle.std.specs.Prelude.{◌++◌, ℕ, Bool, true, false, cond, List, [], ◌∷◌, codes, decimal}
 use Rattle.std.specs.List.{list_all}
@@ -14,18 +14,20 @@ use Rattle.tl_trace.specs.Reports.{report_line}
 use Rattle.tl_trace.specs.declared.line.Line.{Line}
 
 -- the first line, with its end
-abbrev pub far_header : (client manager : ℕ) → List ℕ
-far_header client manager = codes "tilelink-far 1 client " ++ decimal client ++ codes " manager " ++ decimal manager ++ newline
+abbrev pub far_header : (version client manager : ℕ) → List ℕ
+far_header version client manager =
+    codes "tilelink-far " ++ decimal version ++ codes " client " ++ decimal client ++ codes " manager " ++ decimal manager ++ newline
 
 -- the far beats that a run took
 abbrev pub taken : {C M : ℕ} → Outcome C M → Beats M C
 taken outcome = record { a = outcome.a.items; b = outcome.b.items; c = outcome.c.items; d = outcome.d.items; e = outcome.e.items }
 
 -- the far beats of A, then those of B, C, D and E, each channel in the order in which they are taken: the manager side takes A, C and E, on its own
--- lanes, and the client side takes B and D
-abbrev pub far_lines : {C M : ℕ} → Beats M C → List ℕ
-far_lines {C = C} {M = M} far =
-    beats_text form_a M far.a ++ beats_text form_b C far.b ++ beats_text form_c M far.c ++ beats_text form_d C far.d ++ beats_text form_e M far.e
+-- lanes, and the client side takes B and D; ids have the digits that they have in a trace of the version
+abbrev pub far_lines : {C M : ℕ} → (version : ℕ) → Beats M C → List ℕ
+far_lines {C = C} {M = M} version far =
+    beats_text (form_a version) M far.a ++ beats_text (form_b version) C far.b ++ beats_text (form_c version) M far.c ++
+    beats_text (form_d version) C far.d ++ beats_text (form_e version) M far.e
 
 -- the five verdicts in the order of their channels
 abbrev pub in_order : Verdicts → List Verdict
@@ -61,10 +63,11 @@ module _ (client manager : ℕ) (lines : List Line) where
   abbrev pub ends : Verdicts
   ends = verdicts near
 
-  -- the whole answer; a check leaves out the far beats
-  abbrev pub answer_of : (check : Bool) → List ℕ
-  answer_of check = far_header client manager ++ cond check [] (far_lines arrives) ++ report ends
-
   -- all five channels are done
   abbrev pub are_done : Bool
   are_done = list_all is_done (in_order ends)
+
+-- the whole answer to a trace; a check leaves out the far beats
+abbrev pub answer_of : (version client manager : ℕ) → List Line → (check : Bool) → List ℕ
+answer_of version client manager lines check =
+    far_header version client manager ++ cond check [] (far_lines version (arrives client manager lines)) ++ report (ends client manager lines)

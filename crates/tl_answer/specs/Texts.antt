@@ -1,9 +1,8 @@
 -- What a run over a text does to its reader and its writer (this project's choice).
-use Rattle.std.specs.Prelude.{◌≡◌, ◌≢◌, ◌≤◌, ◌<◌, ℕ, List, length, Option, Result, Ok, Err, IfSome, Bool, true, false}
+use Rattle.std.specs.Prelude.{◌≡◌, ◌≢◌, ◌≤◌, ◌<◌, ℕ, List, length, Option, Result, Ok, Err, IfSome, Bool}
 use Rattle.std.specs.Io.KnownBytes.{Keeps, Appends, IsAtEnd}
-use Rattle.tl_order.specs.Orders.{is_check, is_sync}
+use Rattle.tl_order.specs.Orders.{is_check}
 use Rattle.tl_order.specs.declared.Order.{Order}
-use Rattle.tl_order.specs.declared.Order.TheVariants.{Run}
 use Rattle.tl_trace.specs.Texts.{Tells}
 use Rattle.tl_trace.specs.Faults.{IsFirstFault}
 use Rattle.tl_trace.specs.declared.line.Line.{Line}
@@ -17,45 +16,42 @@ abbrev pub most_bytes : ℕ
 most_bytes = 67108864
 
 -- this is the answer to a trace, and `done` says whether all channels are done
-pub record IsAnswerTo (client manager : ℕ) (lines : List Line) (check : Bool) (answer : List ℕ) (done : Bool) : Type 0 where
-  pub answered : answer ≡ answer_of client manager lines check
+pub record IsAnswerTo (version client manager : ℕ) (lines : List Line) (check : Bool) (answer : List ℕ) (done : Bool) : Type 0 where
+  pub answered : answer ≡ answer_of version client manager lines check
   pub all_done : done ≡ are_done client manager lines
 
 -- the text tells a trace, and this is the answer to it
 pub record IsAnswer (text : List ℕ) (check : Bool) (answer : List ℕ) (done : Bool) : Type 0 where
+  pub version : ℕ
   pub client : ℕ
   pub manager : ℕ
   pub lines : List Line
-  pub told : Tells text client manager lines
-  pub answers : IsAnswerTo client manager lines check answer done
+  pub told : Tells text version client manager lines
+  pub answers : IsAnswerTo version client manager lines check answer done
 
 -- the reader gave all that it had, and that was not too long
 abbrev pub WasReadWhole : (unread left : Option (List ℕ)) → Type 0
 WasReadWhole unread left = IsAtEnd left × IfSome unread (λ text. length text ≤ most_bytes)
 
 -- What the reader had and has left, what the writer held and holds, the order, and how the run ended. A text is read to its end before anything of
--- its answer is written, what is written is its answer, and a run that fails before has written nothing. A run in one thread never stalls. Bytes are
+-- its answer is written, what is written is its answer, and a run that fails before has written nothing. No run stalls. Bytes are
 -- spoken of only where the reader or the writer tells them
 abbrev pub AnswersText : (unread left held holds : Option (List ℕ)) → Order → Result Bool TextFault → Type 0
 AnswersText unread left held holds order (Ok done) =
     WasReadWhole unread left × IfSome unread (λ text. (answer : List ℕ) × IsAnswer text (is_check order) answer done × Appends held holds answer)
 AnswersText unread left held holds order (Err (faults.Trace fault)) =
     WasReadWhole unread left × Keeps held holds × (fault.kind ≢ kinds.OutOfMemory) × IfSome unread (λ text. IsFirstFault text fault.line fault.kind)
-AnswersText unread left held holds order (Err faults.Stalled) = (is_sync order ≡ false) × WasReadWhole unread left × Keeps held holds
+AnswersText unread left held holds order (Err faults.Stalled) = ⊥
 AnswersText unread left held holds order (Err faults.Read) = Keeps held holds
 AnswersText unread left held holds order (Err faults.Write) = WasReadWhole unread left
 AnswersText unread left held holds order (Err faults.TooLong) = Keeps held holds × IfSome unread (λ text. most_bytes < length text)
 AnswersText unread left held holds order (Err faults.OutOfMemory) = Keeps held holds
 
--- both sides run in one thread
-abbrev pub in_one_thread : Order
-in_one_thread = Run 1 1 true
-
--- what a text by itself can be refused for: its own fault, want of memory, or that its run in two threads stalled
-abbrev pub IsOfText : (text : List ℕ) → Order → TextFault → Type 0
-IsOfText text order (faults.Trace fault) = (fault.kind ≢ kinds.OutOfMemory) × IsFirstFault text fault.line fault.kind
-IsOfText text order faults.Stalled = is_sync order ≡ false
-IsOfText text order faults.Read = ⊥
-IsOfText text order faults.Write = ⊥
-IsOfText text order faults.TooLong = ⊥
-IsOfText text order faults.OutOfMemory = Unit {0}
+-- what a text by itself can be refused for: its own fault, or want of memory
+abbrev pub IsOfText : (text : List ℕ) → TextFault → Type 0
+IsOfText text (faults.Trace fault) = (fault.kind ≢ kinds.OutOfMemory) × IsFirstFault text fault.line fault.kind
+IsOfText text faults.Stalled = ⊥
+IsOfText text faults.Read = ⊥
+IsOfText text faults.Write = ⊥
+IsOfText text faults.TooLong = ⊥
+IsOfText text faults.OutOfMemory = Unit {0}

@@ -1,12 +1,12 @@
 //! The answer to a text, without a reader and a writer.
-ghost use Rattle.std.specs.Prelude.{◌≡◌, ◌≢◌, ◌≤◌, ◌++◌, ℕ, List, [], cond, length, Some, false, IfOk, OnOk, IfErr};
+ghost use Rattle.std.specs.Prelude.{◌≡◌, ◌≢◌, ◌≤◌, ◌++◌, [], cond, length, Some, IfOk, OnOk, IfErr};
 ghost use Rattle.std.specs.List.{list_all};
 ghost use Rattle.tl_lanes.specs.Lanes.{IsWidth};
 ghost use Rattle.tl_settle.specs.Outcomes.{Verdicts};
 ghost use Rattle.tl_bridge.specs.Scripts.{HasShortLists, SettlesTo};
 ghost use Rattle.tl_bridge.specs.declared.outcome.RunFault.TheVariants.{RingSize, Stalled};
-ghost use Rattle.tl_order.specs.Orders.{IsRunnable, is_check, is_sync};
-ghost use Rattle.tl_trace.specs.Faults.{body, widths_of};
+ghost use Rattle.tl_order.specs.Orders.{IsRunnable, is_check};
+ghost use Rattle.tl_trace.specs.Faults.{HasHeader};
 ghost use Rattle.tl_answer.specs.Answer.{far_header, far_lines, taken, report, in_order, is_done};
 ghost use Rattle.tl_answer.specs.Texts.{IsAnswer, IsOfText, most_bytes};
 ghost use Rattle.tl_answer.specs.declared.fault.TextFault.TheVariants.{OutOfMemory as NoMemory};
@@ -19,7 +19,7 @@ use tl_bridge::{NoGate, Outcome, RunFault, run_sync, run_threads};
 use tl_msg::{ChA, ChB, ChC, ChD, ChE, Verdict};
 use tl_order::Order;
 use tl_trace::{
-    OutOfMemory, Script, TraceFault, TraceKind, read_script, widths_of_text, write_far,
+    Header, OutOfMemory, Script, TraceFault, TraceKind, header_of_text, read_script, write_far,
     write_report,
 };
 
@@ -31,10 +31,15 @@ pub struct Answer {
 }
 
 /// The first line of an answer.
-fn header(alloc: Global, client: usize, manager: usize) -> Result<Vec<u8>, AllocError>
-    ensures { IfOk result (λ text. text.items ≡ far_header client manager) }
+fn header(
+    alloc: Global,
+    version: u8,
+    client: usize,
+    manager: usize,
+) -> Result<Vec<u8>, AllocError>
+    ensures { IfOk result (λ text. text.items ≡ far_header version client manager) }
 {
-    let line = format!(in alloc; "tilelink-far 1 client {client} manager {manager}\n")?;
+    let line = format!(in alloc; "tilelink-far {version} client {client} manager {manager}\n")?;
     Ok(line.into_bytes())
 }
 
@@ -43,20 +48,21 @@ fn write_arrivals<const C: usize, const M: usize>(
     out: &mut Vec<u8>,
     outcome: &Outcome<C, M>,
     check: bool,
+    version: u8,
 ) -> Result<(), OutOfMemory>
     requires client { IsWidth C }
     requires manager { IsWidth M }
     ensures { OnOk result (out.new.items
-        ≡ out.old.items ++ cond check [] (far_lines (taken outcome.now))) }
+        ≡ out.old.items ++ cond check [] (far_lines version (taken outcome.now))) }
 {
     if check {
         return Ok(());
     }
-    write_far::<ChA, M>(out, &outcome.a)?;
-    write_far::<ChB, C>(out, &outcome.b)?;
-    write_far::<ChC, M>(out, &outcome.c)?;
-    write_far::<ChD, C>(out, &outcome.d)?;
-    write_far::<ChE, M>(out, &outcome.e)
+    write_far::<ChA, M>(out, &outcome.a, version)?;
+    write_far::<ChB, C>(out, &outcome.b, version)?;
+    write_far::<ChC, M>(out, &outcome.c, version)?;
+    write_far::<ChD, C>(out, &outcome.d, version)?;
+    write_far::<ChE, M>(out, &outcome.e, version)
 }
 
 /// Appends the five report lines.
@@ -93,7 +99,7 @@ fn run_script<T: Threads, const C: usize, const M: usize>(
     requires runnable { IsRunnable order.now }
     ensures ok { IfOk result (SettlesTo script.now) }
     ensures ring_size { IfErr result (λ fault. fault ≢ RingSize) }
-    ensures stalled { IfErr result (λ fault. fault ≡ Stalled → is_sync order.now ≡ false) }
+    ensures never_stalled { IfErr result (λ fault. fault ≢ Stalled) }
 {
     let ring = order.ring();
     if order.is_sync() {
@@ -112,7 +118,7 @@ fn run_script<T: Threads, const C: usize, const M: usize>(
     )
 }
 
-/// What a script ends in, by that run. The fault is one that any text may have.
+/// What a script ends in, by that run.
 fn outcome_of<T: Threads, const C: usize, const M: usize>(
     rt: &T,
     alloc: Global,
@@ -124,33 +130,34 @@ fn outcome_of<T: Threads, const C: usize, const M: usize>(
     requires short { HasShortLists script.now }
     requires runnable { IsRunnable order.now }
     ensures ok { IfOk result (SettlesTo script.now) }
-    ensures err { IfErr result (λ fault. (text : List ℕ) → IsOfText text order.now fault) }
+    ensures err { IfErr result (λ fault. fault ≡ NoMemory) }
 {
     match run_script::<T, C, M>(rt, alloc, script, order) {
         Ok(outcome) => Ok(outcome),
         Err(RunFault::OutOfMemory) => Err(TextFault::OutOfMemory),
-        Err(RunFault::Stalled) => Err(TextFault::Stalled),
+        Err(RunFault::Stalled) => unreachable!(),
         Err(RunFault::RingSize) => unreachable!(),
     }
 }
 
-/// The answer that the outcome of a run makes: the widths, the far beats unless `check` leaves them
-/// out, and the five report lines.
+/// The answer that the outcome of a run makes: the version of the trace and the widths, the far
+/// beats unless `check` leaves them out, and the five report lines.
 pub fn answer_of<const C: usize, const M: usize>(
     alloc: Global,
     outcome: &Outcome<C, M>,
     check: bool,
+    version: u8,
 ) -> Result<Answer, TextFault>
     requires client { IsWidth C }
     requires manager { IsWidth M }
     ensures text { (v : Verdicts) → outcome.now.verdicts ≡ in_order v → IfOk result (λ made.
-        made.text.items ≡ far_header C M ++ cond check [] (far_lines (taken outcome.now))
-        ++ report v) }
+        made.text.items ≡ far_header version C M
+        ++ cond check [] (far_lines version (taken outcome.now)) ++ report v) }
     ensures done { IfOk result (λ made. made.all_done ≡ list_all is_done outcome.now.verdicts) }
     ensures err { IfErr result (λ fault. fault ≡ NoMemory) }
 {
-    let mut text = header(alloc, C, M)?;
-    write_arrivals(&mut text, outcome, check)?;
+    let mut text = header(alloc, version, C, M)?;
+    write_arrivals(&mut text, outcome, check, version)?;
     write_reports(&mut text, &outcome.verdicts)?;
     Ok(Answer {
         text,
@@ -158,28 +165,29 @@ pub fn answer_of<const C: usize, const M: usize>(
     })
 }
 
-/// The answer to a text whose header names these widths. The text is let go before the run, and the
-/// script after it.
+/// The answer to a text whose header names this version and these widths. The text is let go before
+/// the run, and the script after it.
 fn with_widths<T: Threads, const C: usize, const M: usize>(
     rt: &T,
     alloc: Global,
     text: Vec<u8>,
+    version: u8,
     order: &Order,
 ) -> Result<Answer, TextFault>
     requires client { IsWidth C }
     requires manager { IsWidth M }
-    requires widths { widths_of (body text.items) ≡ Some (C, M) }
+    requires header { HasHeader text.items version C M }
     requires few { length text.items ≤ most_bytes }
     requires runnable { IsRunnable order.now }
     ensures ok { IfOk result (λ made.
         IsAnswer text.items (is_check order.now) made.text.items made.all_done) }
-    ensures err { IfErr result (IsOfText text.items order.now) }
+    ensures err { IfErr result (IsOfText text.items) }
 {
-    let script = read_script::<C, M>(alloc, &text)?;
+    let script = read_script::<C, M>(alloc, &text, version)?;
     drop(text);
     let outcome = outcome_of::<T, C, M>(rt, alloc, &script, order)?;
     drop(script);
-    answer_of(alloc, &outcome, order.is_check())
+    answer_of(alloc, &outcome, order.is_check(), version)
 }
 
 /// The same, for a client of `C` bytes: the manager's width is one of seven.
@@ -187,25 +195,26 @@ fn with_client<T: Threads, const C: usize>(
     rt: &T,
     alloc: Global,
     text: Vec<u8>,
+    version: u8,
     manager: usize,
     order: &Order,
 ) -> Result<Answer, TextFault>
     requires client { IsWidth C }
-    requires widths { widths_of (body text.items) ≡ Some (C, manager) }
+    requires header { HasHeader text.items version C manager }
     requires few { length text.items ≤ most_bytes }
     requires runnable { IsRunnable order.now }
     ensures ok { IfOk result (λ made.
         IsAnswer text.items (is_check order.now) made.text.items made.all_done) }
-    ensures err { IfErr result (IsOfText text.items order.now) }
+    ensures err { IfErr result (IsOfText text.items) }
 {
-    at_width!(manager, with_widths::<T, C, _>(rt, alloc, text, order))
+    at_width!(manager, with_widths::<T, C, _>(rt, alloc, text, version, order))
 }
 
-/// The answer to a text, which is let go once it is read: the widths, the far beats unless the order
-/// is a check, and the five report lines. It is the same for each order that is no check.
+/// The answer to a text, which is let go once it is read: the version of the trace and the widths,
+/// the far beats unless the order is a check, and the five report lines. It is the same for each
+/// order that is no check.
 ///
-/// Refused with `Trace` and the text's first fault and its line, with `OutOfMemory`, or with
-/// `Stalled`, the last one only where each side runs in a thread of its own.
+/// Refused with `Trace` and the text's first fault and its line, or with `OutOfMemory`.
 pub fn answer_text<T: Threads>(
     rt: &T,
     alloc: Global,
@@ -216,13 +225,13 @@ pub fn answer_text<T: Threads>(
     requires runnable { IsRunnable order.now }
     ensures ok { IfOk result (λ made.
         IsAnswer text.items (is_check order.now) made.text.items made.all_done) }
-    ensures err { IfErr result (IsOfText text.items order.now) }
+    ensures err { IfErr result (IsOfText text.items) }
 {
-    let Some((client, manager)) = widths_of_text(&text) else {
+    let Some(Header { version, client, manager }) = header_of_text(&text) else {
         return Err(TextFault::from(TraceFault {
             line: 1,
             kind: TraceKind::Header,
         }));
     };
-    at_width!(client, with_client::<T, _>(rt, alloc, text, manager, order))
+    at_width!(client, with_client::<T, _>(rt, alloc, text, version, manager, order))
 }

@@ -19,7 +19,7 @@ use tl_trace::laws::traces_have_beats;
 pub fn answers_in_messages<const C: usize, const M: usize>()
     requires client { IsWidth C }
     requires manager { IsWidth M }
-    ensures { (text : List ℕ) (lines : List Line) → Tells text C M lines →
+    ensures { (text : List ℕ) (version : ℕ) (lines : List Line) → Tells text version C M lines →
         EndsInMessages (near C M lines) }
 {
     ends_in_messages::<C, M>();

@@ -2,8 +2,8 @@
 ghost use Rattle.std.specs.Prelude.{◌≡◌, ◌≤◌, length, Some, IfOk, IfErr};
 ghost use Rattle.tl_lanes.specs.Lanes.{IsWidth};
 ghost use Rattle.tl_bridge.specs.Scripts.{HasShortLists, SettlesTo};
-ghost use Rattle.tl_trace.specs.Faults.{body, widths_of};
-ghost use Rattle.tl_answer.specs.Texts.{IsAnswer, IsOfText, in_one_thread, most_bytes};
+ghost use Rattle.tl_trace.specs.Faults.{HasHeader};
+ghost use Rattle.tl_answer.specs.Texts.{IsAnswer, IsOfText, most_bytes};
 ghost use Rattle.tl_answer.specs.declared.fault.TextFault.TheVariants.{OutOfMemory as NoMemory};
 
 use crate::answer::{Answer, answer_of};
@@ -11,7 +11,7 @@ use crate::at_width;
 use crate::fault::TextFault;
 use std::alloc::Global;
 use tl_bridge::{Outcome, RunFault, run_sync};
-use tl_trace::{Script, TraceFault, TraceKind, read_script, widths_of_text};
+use tl_trace::{Header, Script, TraceFault, TraceKind, header_of_text, read_script};
 
 /// How many beats a ring holds: no answer depends on it.
 const RING: usize = 256;
@@ -35,56 +35,59 @@ pub fn outcome_of<const C: usize, const M: usize>(
     }
 }
 
-/// The answer to a text whose header names these widths. The script is let go before the answer is
-/// made.
+/// The answer to a text whose header names this version and these widths. The script is let go
+/// before the answer is made.
 fn with_widths<const C: usize, const M: usize>(
     alloc: Global,
     text: &[u8],
+    version: u8,
     check: bool,
 ) -> Result<Answer, TextFault>
     requires client { IsWidth C }
     requires manager { IsWidth M }
-    requires widths { widths_of (body text.now) ≡ Some (C, M) }
+    requires header { HasHeader text.now version C M }
     requires few { length text.now ≤ most_bytes }
     ensures ok { IfOk result (λ made. IsAnswer text.now check made.text.items made.all_done) }
-    ensures err { IfErr result (IsOfText text.now in_one_thread) }
+    ensures err { IfErr result (IsOfText text.now) }
 {
-    let script = read_script::<C, M>(alloc, text)?;
+    let script = read_script::<C, M>(alloc, text, version)?;
     let outcome = outcome_of::<C, M>(alloc, &script)?;
     drop(script);
-    answer_of(alloc, &outcome, check)
+    answer_of(alloc, &outcome, check, version)
 }
 
 /// The same, for a client of `C` bytes: the manager's width is one of seven.
 fn with_client<const C: usize>(
     alloc: Global,
     text: &[u8],
+    version: u8,
     manager: usize,
     check: bool,
 ) -> Result<Answer, TextFault>
     requires client { IsWidth C }
-    requires widths { widths_of (body text.now) ≡ Some (C, manager) }
+    requires header { HasHeader text.now version C manager }
     requires few { length text.now ≤ most_bytes }
     ensures ok { IfOk result (λ made. IsAnswer text.now check made.text.items made.all_done) }
-    ensures err { IfErr result (IsOfText text.now in_one_thread) }
+    ensures err { IfErr result (IsOfText text.now) }
 {
-    at_width!(manager, with_widths::<C, _>(alloc, text, check))
+    at_width!(manager, with_widths::<C, _>(alloc, text, version, check))
 }
 
 /// The answer to a text that its caller keeps, with both sides of the bridge in one thread: the
-/// widths, the far beats unless it is a check, and the five report lines.
+/// version of the trace and the widths, the far beats unless it is a check, and the five report
+/// lines.
 ///
 /// Refused with `Trace` and the text's first fault and its line, or with `OutOfMemory`.
 pub fn answer_sync(alloc: Global, text: &[u8], check: bool) -> Result<Answer, TextFault>
     requires few { length text.now ≤ most_bytes }
     ensures ok { IfOk result (λ made. IsAnswer text.now check made.text.items made.all_done) }
-    ensures err { IfErr result (IsOfText text.now in_one_thread) }
+    ensures err { IfErr result (IsOfText text.now) }
 {
-    let Some((client, manager)) = widths_of_text(text) else {
+    let Some(Header { version, client, manager }) = header_of_text(text) else {
         return Err(TextFault::from(TraceFault {
             line: 1,
             kind: TraceKind::Header,
         }));
     };
-    at_width!(client, with_client::<_>(alloc, text, manager, check))
+    at_width!(client, with_client::<_>(alloc, text, version, manager, check))
 }

@@ -79,17 +79,17 @@ pub fn write_all<W: Write>(writer: &mut W, bytes: &[u8]) -> Result<(), TextFault
 /// Reads a trace to the end of the input, and writes the answer to it: true where all five
 /// channels are done.
 ///
-/// The answer is that of the definitions: the widths, the beats that arrive (a check leaves them
-/// out), and how far each channel comes. The order is one that `order_of` gives.
+/// The answer is that of the definitions: the version of the trace and the widths, the beats that
+/// arrive (a check leaves them out), and how far each channel comes. The order is one that
+/// `order_of` gives.
 ///
 /// All of the input is read first: `Read` where a read fails or is interrupted, `TooLong` above
 /// 67,108,864 bytes. Then the text is judged: `Trace` with its first fault and that fault's line.
 /// Then both sides of the bridge run over rings of the order's size: each in a thread of its own,
 /// where they meet after each round of the order's turns, or both in one where the order is a check
-/// or says `sync`. `Stalled` comes from a run in two threads alone, after a round in which nothing
-/// moved. Nothing is written before the whole answer is made. `Write` where a write fails, is
-/// interrupted or takes no byte; after it, it isn't said how much went out. `OutOfMemory` and
-/// `Stalled` come before anything is written.
+/// or says `sync`. `Stalled` never comes. Nothing is written before the whole answer is made. `Write`
+/// where a write fails, is interrupted or takes no byte; after it, it isn't said how much went out.
+/// `OutOfMemory` comes before anything is written.
 pub fn run_text<T: Threads, R: Read, W: Write>(
     rt: &T,
     alloc: Global,

@@ -271,7 +271,7 @@ module _ {H : Type 0} (r : Rules H) {w v : ℕ} (bs : List (BeatOf H w)) (n : �
       by-sum through out more after e = (omega arith, omega arith)
 
   -- a channel waits only where beats stand in its stage: a closed one has no beat left
-  stage-full : (far : List (BeatOf H v)) (x : World H w v) → IsSent r bs n far x → (b : BeatOf H w) → slice_get bs n ≡ Some b →
+  pub stage-full : (far : List (BeatOf H v)) (x : World H w v) → IsSent r bs n far x → (b : BeatOf H w) → slice_get bs n ≡ Some b →
       (x.stage ≢ []) ⊎ (x.closed ≡ true) → x.stage ≢ []
   stage-full far x s b next (inl full) = full
   stage-full far x s b next (inr closed) =

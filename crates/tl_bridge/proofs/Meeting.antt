@@ -1,6 +1,5 @@
 -- Both sides of a run at a meeting: they are as one bridge in one thread.
-use Rattle.std.proofs.Common.{◌≡◌, ◌≢◌, ◌+◌, ◌≤◌, ◌<◌, ◌↔◌, ◌⊎◌, ◌++◌, ℕ, Bool, true, List, length, refl, sym, ap, subst, ◌∙◌, arith, length-append, ⊎_elim}
-use Rattle.std.specs.Prelude.{Result, Ok, Err, IfErr}
+use Rattle.std.proofs.Common.{◌≡◌, ◌+◌, ◌≤◌, ◌⊎◌, inl, inr, ◌++◌, ℕ, Bool, true, List, length, refl, sym, ap, subst, ◌∙◌, arith, length-append, ⊎_elim}
 use Rattle.std.specs.Global.{Global}
 use mathlib.Core.List.{IsPrefix}
 use Rattle.tl_lanes.specs.Lanes.{IsWidth}
@@ -11,7 +10,6 @@ use Rattle.tl_ring.specs.Crossing.{World}
 use Rattle.tl_ring.specs.Ends.{Sending, Taking, Met, Meets, seen_by, sent, received, known_items}
 use Rattle.tl_ring.specs.Pipe as piping
 use Rattle.tl_ring.specs.declared.standing.Standing.{Standing}
-use Rattle.tl_ring.specs.declared.pipe.TheConstants.{MAX_RING}
 use Rattle.tl_settle.specs.Histories.{asked, answered}
 use Rattle.tl_settle.specs.Rounds as rounds
 use Rattle.tl_settle.specs.Rounds.{round, client_rests, manager_rests}
@@ -23,11 +21,9 @@ use Rattle.tl_pair.specs.Ends.{AreStanding}
 use Rattle.tl_pair.specs.Sides.{ClientState, ManagerState, ClientPast, ManagerPast, ClientStandsFor, ManagerStandsFor, AreSides, SidesMeet, new_client, new_manager}
 use Rattle.tl_bridge.specs.Scripts.{IsShort}
 use Rattle.tl_bridge.specs.Inner.Arriving.{HasRoomFor, HasRoomForInboxes, beats_of, taken_of}
-use Rattle.tl_bridge.specs.Inner.Running.{IsAt, AllStop, HasEnded, HaveRoomToCount, all_progress, all_stopped, all_under_way, no_beats, progress, standing_count, under_way}
-use Rattle.tl_bridge.specs.Inner.Sides.{ClientIsAt, ManagerIsAt, ClientMayPlay, ManagerMayPlay, ClientHasPlayed, ManagerHasPlayed, HasMet, HasPlayed, AreNew, bridge_of, met_progress, none_ready, past_of, pipe_of}
+use Rattle.tl_bridge.specs.Inner.Running.{IsAt, AllStop, AreStopped, HasEnded, HaveRoomToCount, all_progress, all_standing, all_stopped, all_under_way, no_beats, progress, standing_count, under_way}
+use Rattle.tl_bridge.specs.Inner.Sides.{ClientIsAt, ManagerIsAt, ClientMayPlay, ManagerMayPlay, ClientHasPlayed, ManagerHasPlayed, ClientRests, ManagerRests, HasMet, HasPlayed, AreNew, bridge_of, met_progress, none_ready, past_of, pipe_of}
 use Rattle.tl_bridge.specs.declared.channel_state.Stop.{Stop}
-use Rattle.tl_bridge.specs.declared.outcome.RunFault.{RunFault}
-use Rattle.tl_bridge.specs.declared.outcome.RunFault.TheVariants.{RingSize}
 use Rattle.tl_bridge.specs.declared.client_turns.ClientRun.{ClientRun}
 use Rattle.tl_bridge.specs.declared.manager_turns.ManagerRun.{ManagerRun}
 use Rattle.tl_bridge.specs.declared.turns.Turn.{Turn}
@@ -35,6 +31,7 @@ use Rattle.tl_bridge.proofs.ChannelEnd.{inbox-due}
 use Rattle.tl_bridge.proofs.ChannelOffer.{sent-passed}
 use Rattle.tl_bridge.proofs.Counting.{same-sums}
 use Rattle.tl_bridge.proofs.Ended.{progress-is, progress-ends, run_end}
+use Rattle.tl_bridge.proofs.Resting.{channel-rests, some-free}
 use Rattle.tl_bridge.proofs.Round.{counts-fit, inboxes-fit}
 use Rattle.tl_bridge.proofs.RunRound.{due-a, due-d}
 
@@ -277,6 +274,11 @@ module _ {A : Type 0} {C M : ℕ} (s : ClientState A C M) (t : ManagerState A C 
         ring_c = m.c.ring;
         ring_d = m.d.ring;
         ring_e = m.e.ring;
+        free_a = some-free rules_a s.a s'.a t.a t'.a (new_client new.space).a new.client.a m.a;
+        free_b = some-free rules_b t.b t'.b s.b s'.b (new_manager new.space).b new.manager.b m.b;
+        free_c = some-free rules_c s.c s'.c t.c t'.c (new_client new.space).c new.client.c m.c;
+        free_d = some-free rules_d t.d t'.d s.d s'.d (new_manager new.space).d new.manager.d m.d;
+        free_e = some-free rules_e s.e s'.e t.e t'.e (new_client new.space).e new.client.e m.e;
         is_at = subst (λ k. IsAt near k far (past_of s' t' (new_client new.space) (new_manager new.space))) (sym none)
             (subst (λ k. IsAt near (record { a = 0; b = 0; c = 0; d = 0; e = 0 }) k (past_of s' t' (new_client new.space) (new_manager new.space))) (sym empty) begins);
       }
@@ -287,12 +289,25 @@ module _ {C M : ℕ} (cw : IsWidth C) (mw : IsWidth M) (near : Beats C M) (n : P
     (client : ClientHasPlayed near n x x' there) (manager : ManagerHasPlayed near n y y' back) (s' : ClientState Global C M) (t' : ManagerState Global C M)
     (standings : PerChannel Standing) (m : Meeting x'.side y'.side s' t' standings)
     (meets : (p : ClientPast C M) (q : ManagerPast C M) → ClientStandsFor x'.side p → ManagerStandsFor y'.side q → SidesMeet s' t' p q)
-    (accepted moved : Bool) (which : moved ≡ true → (there.moved ≡ true) ⊎ (back.moved ≡ true)) where
+    (accepted : Bool) (which : accepted ≡ true → (there.accepted ≡ true) ⊎ (back.accepted ≡ true)) where
+  -- where both rest, no channel offers more, and nothing is under way
+  both-rest : ClientRests x.side x'.side there.offers → ManagerRests y.side y'.side back.offers →
+      AreStopped (record { a = there.offers.a; b = back.offers.b; c = there.offers.c; d = back.offers.d; e = there.offers.e }) × (all_standing standings ≡ 0)
+  both-rest f g =
+      let a = channel-rests x.side.a x'.side.a s'.a y.side.a y'.side.a t'.a there.offers.a standings.a h.ring_a h.free_a f.a g.a m.a m.in_a in
+      let b = channel-rests y.side.b y'.side.b t'.b x.side.b x'.side.b s'.b back.offers.b standings.b h.ring_b h.free_b g.b f.b m.b m.in_b in
+      let c = channel-rests x.side.c x'.side.c s'.c y.side.c y'.side.c t'.c there.offers.c standings.c h.ring_c h.free_c f.c g.c m.c m.in_c in
+      let d = channel-rests y.side.d y'.side.d t'.d x.side.d x'.side.d s'.d back.offers.d standings.d h.ring_d h.free_d g.d f.d m.d m.in_d in
+      let e = channel-rests x.side.e x'.side.e s'.e y.side.e y'.side.e t'.e there.offers.e standings.e h.ring_e h.free_e f.e g.e m.e m.in_e in
+      ((a.0, b.0, c.0, d.0, e.0), none a.1 b.1 c.1 d.1 e.1)
+    where
+      none : {a b c d e : ℕ} → a ≡ 0 → b ≡ 0 → c ≡ 0 → d ≡ 0 → e ≡ 0 → a + b + c + d + e ≡ 0
+      none f g h i j = omega arith
+
   pub both-played : HasPlayed near n x.side y.side (record {
     at = record { a = there.at.a; b = back.at.b; c = there.at.c; d = back.at.d; e = there.at.e };
     offers = record { a = there.offers.a; b = back.offers.b; c = there.offers.c; d = back.offers.d; e = there.offers.e };
     accepted = accepted;
-    moved = moved;
     standings = standings;
   }) (beats_of (taken_of x' y')) s' t'
   both-played =
@@ -317,6 +332,11 @@ module _ {C M : ℕ} (cw : IsWidth C) (mw : IsWidth M) (near : Beats C M) (n : P
           ring_c = m.c.ring;
           ring_d = m.d.ring;
           ring_e = m.e.ring;
+          free_a = some-free rules_a x'.side.a s'.a y'.side.a t'.a k.past.a k.stands.a m.a;
+          free_b = some-free rules_b y'.side.b t'.b x'.side.b s'.b l.past.b l.stands.b m.b;
+          free_c = some-free rules_c x'.side.c s'.c y'.side.c t'.c k.past.c k.stands.c m.c;
+          free_d = some-free rules_d y'.side.d t'.d x'.side.d s'.d l.past.d l.stands.d m.d;
+          free_e = some-free rules_e x'.side.e s'.e y'.side.e t'.e k.past.e k.stands.e m.e;
           is_at = record {
             run = round n.a n.d there.at.a back.at.d h.client.history k.past.history h.manager.history l.past.history h.is_at.run k.moves l.moves;
             a_sent = sent-passed rules_a near.a there.at.a k.past.a.taken k.past.a past.a k.a_sent refl refl refl far'.a l.a_taken;
@@ -332,7 +352,11 @@ module _ {C M : ℕ} (cw : IsWidth C) (mw : IsWidth M) (near : Beats C M) (n : P
         };
         stops = record { stop_a = k.stop_a; stop_b = l.stop_b; stop_c = k.stop_c; stop_d = l.stop_d; stop_e = k.stop_e };
         keeps = keeps-on _ _ _ _ _ least least' same;
-        goes = λ some. ⊎_elim (λ e. let further = client.goes.goes e in goes-left _ _ _ _ _ further least' same) (λ e. let further = manager.goes.goes e in goes-right _ _ _ _ _ least further same) (which some);
+        goes = ⊎_elim (λ e. let further = client.goes.goes e in inl (goes-left _ _ _ _ _ further least' same))
+            (λ f. ⊎_elim (λ e. let further = manager.goes.goes e in inl (goes-right _ _ _ _ _ least further same))
+            (λ g. let rest = both-rest f.1 g.1 in inr (λ e. ⊎_elim (λ a. f.0 a) (λ a. g.0 a) (which e), rest.0, rest.1))
+            (manager.rests n.a n.d h.manager.history none_ready (manager-begins near n far x.side y.side h cw mw) (manager-due near n far x.side y.side h cw mw)))
+            (client.rests n.d n.a h.client.history none_ready (client-begins near n far x.side y.side h cw mw) (client-due near n far x.side y.side h cw mw));
         standing = same-sums (met-standing rules_a s'.a t'.a k.past.a (asked l.past.history) met.a standings.a m.in_a)
             (met-standing rules_b t'.b s'.b l.past.b k.past.b met.b standings.b m.in_b)
             (met-standing rules_c s'.c t'.c k.past.c l.past.c met.c standings.c m.in_c)
@@ -348,9 +372,3 @@ module _ {C M : ℕ} (cw : IsWidth C) (mw : IsWidth M) (near : Beats C M) (n : P
 
       goes-right : (p q p' q' whole : ℕ) → p ≤ p' → q + 1 ≤ q' → whole ≡ p' + q' → p + q + 1 ≤ whole
       goes-right p q p' q' whole f g e = omega arith
-
--- a run of two sides has rings of a lawful size
-pub fits-apart : {T : Type 0} (given : Result T RunFault) (ring : ℕ) → IfErr given (λ fault. fault ≢ RingSize) → 1 ≤ ring → ring ≤ MAX_RING →
-    IfErr given (λ fault. (fault ≡ RingSize) ↔ ((ring ≡ 0) ⊎ (MAX_RING < ring)))
-fits-apart (Ok outcome) ring other some most = tt
-fits-apart (Err fault) ring other some most = (λ e. absurd (other e), λ e. ⊎_elim (λ z. absurd (omega arith)) (λ z. absurd (omega arith)) e)

@@ -245,13 +245,21 @@ module _ {A : Type 0} {C M : ℕ} where
       second : (x y z : ℕ) → x ≤ y → y + 1 ≤ z → x + 1 ≤ z
       second v0 v1 v2 a b = omega arith
 
-  -- the ends are as they were, and nothing moved
-  pub client-goes-still : (n : PerChannel ℕ) (s t : ClientState A C M) (moved : Bool) → SameClientEnds s t → (moved ≢ true) → ClientGoes n s n t moved
-  client-goes-still n s t moved ends none =
+  -- turns after takes, which leave the ends as they were
+  pub client-goes-since : (n m : PerChannel ℕ) (s t u : ClientState A C M) (moved : Bool) → SameClientEnds s t → ClientGoes n t m u moved → ClientGoes n s m u moved
+  client-goes-since n m s t u moved ends f =
       let e = client-stays n s t ends in
-      record { same = client-same s t ends; keeps = omega arith; goes = λ m. absurd (none m) }
+      record {
+        same = same_client_then s t u (client-same s t ends) f.same;
+        keeps = subst (λ k. k ≤ client_progress m u) e f.keeps;
+        goes = λ a. subst (λ k. k + 1 ≤ client_progress m u) e (f.goes a);
+      }
 
-  pub manager-goes-still : (n : PerChannel ℕ) (s t : ManagerState A C M) (moved : Bool) → SameManagerEnds s t → (moved ≢ true) → ManagerGoes n s n t moved
-  manager-goes-still n s t moved ends none =
+  pub manager-goes-since : (n m : PerChannel ℕ) (s t u : ManagerState A C M) (moved : Bool) → SameManagerEnds s t → ManagerGoes n t m u moved → ManagerGoes n s m u moved
+  manager-goes-since n m s t u moved ends f =
       let e = manager-stays n s t ends in
-      record { same = manager-same s t ends; keeps = omega arith; goes = λ m. absurd (none m) }
+      record {
+        same = same_manager_then s t u (manager-same s t ends) f.same;
+        keeps = subst (λ k. k ≤ manager_progress m u) e f.keeps;
+        goes = λ a. subst (λ k. k + 1 ≤ manager_progress m u) e (f.goes a);
+      }

@@ -1,5 +1,5 @@
 //! What the client's side does in a round of a run in two threads.
-ghost use Rattle.std.specs.Prelude.{◌≡◌, ◌+◌, ◌≤◌, ℕ, List, length, vec_len, vec_capacity};
+ghost use Rattle.std.specs.Prelude.{◌≡◌, ◌+◌, ◌≤◌, ℕ, List, [], length, vec_len, vec_capacity};
 ghost use Rattle.tl_lanes.specs.Lanes.{IsWidth};
 ghost use Rattle.tl_msg.specs.declared.head.HeadB.{HeadB};
 ghost use Rattle.tl_msg.specs.declared.head.HeadD.{HeadD};
@@ -10,7 +10,7 @@ ghost use Rattle.tl_bridge.specs.Scripts.{HasShortLists, near_beats};
 ghost use Rattle.tl_bridge.specs.declared.channel_state.Offered.TheVariants.{NotReady};
 ghost use Rattle.tl_bridge.specs.Inner.Offering.{OffersNext, on_a, on_c, on_e};
 ghost use Rattle.tl_bridge.specs.Inner.Running.{HaveRoomToCount};
-ghost use Rattle.tl_bridge.specs.Inner.Sides.{SameClientEnds, ClientHasTaken, ClientHasOffered, ClientGoes, ClientIsAt, ClientMayPlay, ClientHasPlayed};
+ghost use Rattle.tl_bridge.specs.Inner.Sides.{SameClientEnds, ClientHasTaken, ClientHasOffered, ClientGoes, ClientIsAt, ClientMovesOrRests, ClientMayPlay, ClientHasPlayed};
 
 use crate::channel_state::Offered;
 use crate::gates::Gate;
@@ -161,6 +161,12 @@ fn turn<const C: usize, const M: usize>(
         ClientIsAt (near_beats script.now) j m es at.now far_of_b far_of_d side.old o →
         ClientIsAt (near_beats script.now) j m es result.at far_of_b far_of_d side.new
         result.offers }
+    // where it has taken all that it received
+    ensures rests { (j m : ℕ) (es : List (Event C)) (far_of_b : List (BeatOf HeadB C))
+        (far_of_d : List (BeatOf HeadD C)) (o : PerChannel Offered) →
+        ClientIsAt (near_beats script.now) j m es at.now far_of_b far_of_d side.old o →
+        side.old.b.inbox ≡ [] → side.old.d.inbox ≡ [] →
+        ClientMovesOrRests side.old side.new result }
 {
     let offers = offer_each(side, script, at);
     let pumped = side.pump();
@@ -186,8 +192,11 @@ pub(crate) fn play<G: Gate, const C: usize, const M: usize>(
 {
     gate.pass();
     take_each(&mut run.side, &mut run.far_b, &mut run.far_d);
-    let mut played = Turn::none(at);
-    'turns: for _ in 0..turns {
+    let mut played = turn(&mut run.side, script, at);
+    if !played.moved {
+        return played;
+    }
+    'turns: for _ in 1..turns {
         let last = turn(&mut run.side, script, &played.at);
         played = played.then(last);
         if !last.moved {

@@ -1,5 +1,5 @@
 //! What the manager's side does in a round of a run in two threads.
-ghost use Rattle.std.specs.Prelude.{◌≡◌, ◌+◌, ◌≤◌, ℕ, List, length, vec_len, vec_capacity};
+ghost use Rattle.std.specs.Prelude.{◌≡◌, ◌+◌, ◌≤◌, ℕ, List, [], length, vec_len, vec_capacity};
 ghost use Rattle.tl_lanes.specs.Lanes.{IsWidth};
 ghost use Rattle.tl_msg.specs.declared.head.HeadA.{HeadA};
 ghost use Rattle.tl_msg.specs.declared.head.HeadC.{HeadC};
@@ -11,7 +11,7 @@ ghost use Rattle.tl_bridge.specs.Scripts.{HasShortLists, near_beats};
 ghost use Rattle.tl_bridge.specs.declared.channel_state.Offered.TheVariants.{NotReady};
 ghost use Rattle.tl_bridge.specs.Inner.Offering.{OffersNext, on_b, on_d};
 ghost use Rattle.tl_bridge.specs.Inner.Running.{HaveRoomToCount};
-ghost use Rattle.tl_bridge.specs.Inner.Sides.{SameManagerEnds, ManagerHasTaken, ManagerHasOffered, ManagerGoes, ManagerIsAt, ManagerMayPlay, ManagerHasPlayed};
+ghost use Rattle.tl_bridge.specs.Inner.Sides.{SameManagerEnds, ManagerHasTaken, ManagerHasOffered, ManagerGoes, ManagerIsAt, ManagerMovesOrRests, ManagerMayPlay, ManagerHasPlayed};
 
 use crate::channel_state::Offered;
 use crate::gates::Gate;
@@ -149,6 +149,13 @@ fn turn<const C: usize, const M: usize>(
         ManagerIsAt (near_beats script.now) i m es at.now far_of_a far_of_c far_of_e side.old o →
         ManagerIsAt (near_beats script.now) i m es result.at far_of_a far_of_c far_of_e side.new
         result.offers }
+    // where it has taken all that it received
+    ensures rests { (i m : ℕ) (es : List (Event M)) (far_of_a : List (BeatOf HeadA M))
+        (far_of_c : List (BeatOf HeadC M)) (far_of_e : List (BeatOf HeadE M))
+        (o : PerChannel Offered) →
+        ManagerIsAt (near_beats script.now) i m es at.now far_of_a far_of_c far_of_e side.old o →
+        side.old.a.inbox ≡ [] → side.old.c.inbox ≡ [] → side.old.e.inbox ≡ [] →
+        ManagerMovesOrRests side.old side.new result }
 {
     let offers = offer_each(side, script, at);
     let pumped = side.pump();
@@ -178,8 +185,11 @@ pub(crate) fn play<G: Gate, const C: usize, const M: usize>(
         &mut run.far_c,
         &mut run.far_e,
     );
-    let mut played = Turn::none(at);
-    'turns: for _ in 0..turns {
+    let mut played = turn(&mut run.side, script, at);
+    if !played.moved {
+        return played;
+    }
+    'turns: for _ in 1..turns {
         let last = turn(&mut run.side, script, &played.at);
         played = played.then(last);
         if !last.moved {

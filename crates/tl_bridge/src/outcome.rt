@@ -30,9 +30,10 @@ pub struct Outcome<const C: usize, const M: usize> {
 pub enum RunFault {
     /// 12: the rings are to hold no beat, or more than 4,096 (this project's choice).
     RingSize,
-    /// 13: there was no memory for the rings or for the far beats.
+    /// 13: there was no memory for the bridge or for the far beats.
     OutOfMemory,
-    /// 20: the two sides stopped moving before all beats had arrived.
+    /// 20: the two sides stopped moving before all beats had arrived. No run ends so: the name stays
+    /// for its number.
     Stalled,
 }
 

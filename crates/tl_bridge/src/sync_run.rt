@@ -23,9 +23,9 @@ use tl_trace::Script;
 /// is under way.
 ///
 /// The rings hold `ring` beats each. Refused with `RingSize` exactly where that is 0 or above
-/// 4,096, which is tested first, and else with `OutOfMemory` where there is no memory for the rings
-/// or for the far beats: all of it is asked for before the first round. `Stalled` never comes. Each
-/// list has at most `2^40` beats.
+/// 4,096, which is tested first, and else with `OutOfMemory` where there is no memory for the
+/// bridge or for the far beats: all of it is asked for before the first round. `Stalled` never
+/// comes. Each list has at most `2^40` beats.
 pub fn run_sync<const C: usize, const M: usize>(
     alloc: Global,
     script: &Script<C, M>,

@@ -1,17 +1,15 @@
 //! The rounds of a run in two threads.
-ghost use Rattle.std.specs.Prelude.{◌≡◌, IfOk, IfErr, IfSome};
+ghost use Rattle.std.specs.Prelude.{◌≡◌, ◌≢◌, true, IfSome, IsNone};
 ghost use Rattle.tl_lanes.specs.Lanes.{IsWidth};
-ghost use Rattle.tl_bridge.specs.declared.outcome.RunFault.TheVariants.{Stalled};
 ghost use Rattle.tl_bridge.specs.Scripts.{HasShortLists, near_beats};
 ghost use Rattle.tl_bridge.specs.Inner.Arriving.{HasRoomFor, KeepsRoom, beats_of, taken_of};
-ghost use Rattle.tl_bridge.specs.Inner.Running.{HasEnded, no_beats, all_standing, all_stopped};
+ghost use Rattle.tl_bridge.specs.Inner.Running.{AreStopped, HasEnded, no_beats, all_standing, all_stopped};
 ghost use Rattle.tl_bridge.specs.Inner.Sides.{ClientMayPlay, ClientHasPlayed, ManagerMayPlay, ManagerHasPlayed, HasMet, HasPlayed, AreNew, bridge_of};
 
 use crate::channel_state::{Offered, Stop, all_stops};
 use crate::client_turns::{self, ClientRun};
 use crate::gates::Gate;
 use crate::manager_turns::{self, ManagerRun};
-use crate::outcome::RunFault;
 use crate::rounds::{End, are_empty};
 use crate::turns::{Turn, either};
 use std::thread::{Threads, join_mut};
@@ -20,14 +18,12 @@ use tl_sides::{PerChannel, Standings};
 use tl_trace::Script;
 
 /// What both sides have done in a round: how many beats of each channel were accepted after it, what
-/// became of their next beats, whether any was accepted, whether one moved, and where the beats
-/// stand.
+/// became of their next beats, whether any was accepted, and where the beats stand.
 #[derive(Drop)]
 struct Played {
     pub at: PerChannel<usize>,
     pub offers: PerChannel<Offered>,
     pub accepted: bool,
-    pub moved: bool,
     pub standings: Standings,
 }
 
@@ -117,7 +113,6 @@ fn round<R: Threads, G: Gate + Send, H: Gate + Send, const C: usize, const M: us
             e: there.offers.e,
         },
         accepted: either(there.accepted, back.accepted),
-        moved: either(there.moved, back.moved),
         standings,
     }
 }
@@ -127,6 +122,8 @@ fn round<R: Threads, G: Gate + Send, H: Gate + Send, const C: usize, const M: us
 fn stops_after(played: &Played) -> Option<PerChannel<Stop>>
     ensures stops { IfSome result (λ stops. played.now.offers ≡ all_stopped stops) }
     ensures rests { IfSome result (λ _. all_standing played.now.standings ≡ 0) }
+    ensures goes { IsNone result → played.now.accepted ≢ true → AreStopped played.now.offers →
+        all_standing played.now.standings ≡ 0 → ⊥ }
 {
     if played.accepted || !are_empty(&played.standings) {
         return None;
@@ -135,7 +132,7 @@ fn stops_after(played: &Played) -> Option<PerChannel<Stop>>
 }
 
 // Rounds, up to the first one in which no beat was accepted and after which nothing is under way.
-// `Stalled` after one in which nothing moved, and after which something is.
+// It comes at the latest when nothing moves in a round.
 pub(crate) fn play_rounds<
     R: Threads,
     G: Gate + Send,
@@ -150,17 +147,16 @@ pub(crate) fn play_rounds<
     turns: usize,
     client_gate: &mut G,
     manager_gate: &mut H,
-) -> Result<End, RunFault>
+) -> End
     requires client { IsWidth C }
     requires manager { IsWidth M }
     requires short { HasShortLists script.now }
     requires room { HasRoomFor (near_beats script.now) (taken_of client.old manager.old) }
     requires new { AreNew client.old.side manager.old.side }
     requires empty { beats_of (taken_of client.old manager.old) ≡ no_beats }
-    ensures ended { IfOk result (λ end. HasEnded (near_beats script.now) end.at
+    ensures { HasEnded (near_beats script.now) result.at
         (beats_of (taken_of client.new manager.new)) (bridge_of client.new.side manager.new.side)
-        end.stops end.rounds) }
-    ensures stalled { IfErr result (λ fault. fault ≡ Stalled) }
+        result.stops result.rounds }
 {
     let mut at = PerChannel {
         a: 0,
@@ -185,10 +181,7 @@ pub(crate) fn play_rounds<
         at = played.at;
         rounds += 1;
         if let Some(stops) = stops_after(&played) {
-            return Ok(End { at, stops, rounds });
-        }
-        if !played.moved {
-            return Err(RunFault::Stalled);
+            return End { at, stops, rounds };
         }
     }
 }

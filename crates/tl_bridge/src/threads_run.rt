@@ -2,7 +2,7 @@
 ghost use Rattle.std.specs.Prelude.{◌≡◌, ◌≢◌, ◌≤◌, ◌<◌, ◌⊎◌, ◌↔◌, IsOk, IfOk, IfErr};
 ghost use Rattle.tl_ring.specs.declared.pipe.TheConstants.{MAX_RING};
 ghost use Rattle.tl_lanes.specs.Lanes.{IsWidth};
-ghost use Rattle.tl_bridge.specs.declared.outcome.RunFault.TheVariants.{RingSize};
+ghost use Rattle.tl_bridge.specs.declared.outcome.RunFault.TheVariants.{RingSize, OutOfMemory, Stalled};
 ghost use Rattle.tl_bridge.specs.Scripts.{HasShortLists, SettlesTo, near_beats};
 ghost use Rattle.tl_bridge.specs.Inner.Arriving.{beats_of, taken_of};
 ghost use Rattle.tl_bridge.specs.Inner.Running.{HasEnded};
@@ -32,10 +32,9 @@ use tl_trace::Script;
 /// round in which no beat was accepted and after which nothing is under way.
 ///
 /// The rings hold `ring` beats each. Refused with `RingSize` exactly where that is 0 or above
-/// 4,096, which is tested first, with `OutOfMemory` where there is no memory for the rings or for
-/// the far beats, all of which is asked for before the first round, and with `Stalled` after a
-/// round in which nothing moved and after which beats are under way. `turns` is 1 at least, and
-/// each list has at most `2^40` beats.
+/// 4,096, which is tested first, and else with `OutOfMemory` where there is no memory for the bridge
+/// or for the far beats: all of it is asked for before the first round. `Stalled` never comes.
+/// `turns` is 1 at least, and each list has at most `2^40` beats.
 pub fn run_threads<R: Threads, G: Gate + Send, H: Gate + Send, const C: usize, const M: usize>(
     rt: &R,
     alloc: Global,
@@ -53,6 +52,7 @@ pub fn run_threads<R: Threads, G: Gate + Send, H: Gate + Send, const C: usize, c
     ensures size { IsOk result → (1 ≤ ring) × (ring ≤ MAX_RING) }
     ensures ring_size { IfErr result (λ fault. (fault ≡ RingSize) ↔
         ((ring ≡ 0) ⊎ (MAX_RING < ring))) }
+    ensures never_stalled { IfErr result (λ fault. fault ≢ Stalled) }
 {
     let (client, manager) = tl_pair::bridge::<C, M, Global>(alloc, ring)?;
     let mut client = ClientRun {
@@ -100,7 +100,7 @@ fn run_sides<R: Threads, G: Gate + Send, H: Gate + Send, const C: usize, const M
     ensures ended { IfOk result (λ end. HasEnded (near_beats script.now) end.at
         (beats_of (taken_of client.new manager.new)) (bridge_of client.new.side manager.new.side)
         end.stops end.rounds) }
-    ensures ring_fits { IfErr result (λ fault. fault ≢ RingSize) }
+    ensures memory { IfErr result (λ fault. fault ≡ OutOfMemory) }
 {
     let Taken { a, b, c, d, e } = Taken::new(alloc, script)?;
     manager.far_a = a;
@@ -108,7 +108,7 @@ fn run_sides<R: Threads, G: Gate + Send, H: Gate + Send, const C: usize, const M
     manager.far_c = c;
     client.far_d = d;
     manager.far_e = e;
-    play_rounds(
+    Ok(play_rounds(
         rt,
         client,
         manager,
@@ -116,5 +116,5 @@ fn run_sides<R: Threads, G: Gate + Send, H: Gate + Send, const C: usize, const M
         turns,
         client_gate,
         manager_gate,
-    )
+    ))
 }

@@ -3,7 +3,7 @@ ghost use Rattle.std.specs.Prelude.{◌≡◌, ◌≢◌, ◌⊎◌, ◌↔◌, 
 ghost use Rattle.tl_sides.specs.declared.per_channel.PerChannel.{PerChannel};
 ghost use Rattle.tl_bridge.specs.declared.channel_state.Offered.{Offered};
 ghost use Rattle.tl_bridge.specs.Inner.Running.{HaveRoomToCount, counted};
-ghost use Rattle.tl_bridge.specs.Inner.Sides.{all_steps, none_ready};
+ghost use Rattle.tl_bridge.specs.Inner.Sides.{all_steps};
 
 use crate::channel_state::{Offered, add_accepted};
 use tl_sides::PerChannel;
@@ -27,32 +27,13 @@ pub(crate) fn either(one: bool, other: bool) -> bool
 }
 
 impl Turn {
-    // No turn.
-    pub(crate) fn none(at: &PerChannel<usize>) -> Turn
-        ensures at { result.at ≡ at.now }
-        ensures offers { result.offers ≡ none_ready }
-        ensures moved { result.moved ≢ true }
-    {
-        Turn {
-            at: *at,
-            offers: PerChannel {
-                a: Offered::NotReady,
-                b: Offered::NotReady,
-                c: Offered::NotReady,
-                d: Offered::NotReady,
-                e: Offered::NotReady,
-            },
-            accepted: false,
-            moved: false,
-        }
-    }
-
     // One turn, before which so many beats were accepted, in which these were the offers, and so many
     // beats were pumped and fetched.
     pub(crate) fn new(at: &PerChannel<usize>, offers: PerChannel<Offered>, others: usize) -> Turn
         requires few { HaveRoomToCount at.now }
         ensures at { result.at ≡ counted at.now offers }
         ensures offers { result.offers ≡ offers }
+        ensures accepted { (result.accepted ≡ true) ↔ (all_steps offers ≢ 0) }
         ensures moved { (result.moved ≡ true) ↔ ((all_steps offers ≢ 0) ⊎ (others ≢ 0)) }
     {
         let accepted = offers.a.is_accepted()

@@ -1,5 +1,5 @@
 -- The beat that the fields tell which C passes, on each channel, and the fields that tell a beat to C (this project's choice).
-use Rattle.std.specs.Prelude.{◌==◌, ℕ, Bool, List, not, if◌then◌else◌}
+use Rattle.std.specs.Prelude.{◌==◌, ℕ, Bool, List, not, replicate, if◌then◌else◌}
 use Rattle.tl_msg.specs.declared.head.HeadA.{HeadA}
 use Rattle.tl_msg.specs.declared.head.HeadB.{HeadB}
 use Rattle.tl_msg.specs.declared.head.HeadC.{HeadC}
@@ -7,6 +7,7 @@ use Rattle.tl_msg.specs.declared.head.HeadD.{HeadD}
 use Rattle.tl_msg.specs.declared.head.HeadE.{HeadE}
 use Rattle.tl_msg.specs.declared.beat.BeatOf.{BeatOf}
 use Rattle.tl_c_beats.specs.declared.fields.BeatFields.{BeatFields}
+use Rattle.tl_c_beats.specs.declared.fields.TheConstants.{RESERVED}
 
 -- a flag is set where it is not 0
 abbrev pub is_set : ℕ → Bool
@@ -14,6 +15,10 @@ is_set n = not (n == 0)
 
 abbrev pub flag : Bool → ℕ
 flag b = if b then 1 else 0
+
+-- the bytes that no field has yet
+abbrev pub unused : List ℕ
+unused = replicate RESERVED 0
 
 -- a beat of any channel, by its head
 abbrev pub beat_with : {H : Type 0} {w : ℕ} → H → BeatFields → List ℕ → BeatOf H w
@@ -26,13 +31,14 @@ abbrev pub fields_a : {w : ℕ} → BeatOf HeadA w → BeatFields
 fields_a b = record {
   address = b.head.address;
   mask = b.mask;
+  source = b.head.source;
+  sink = 0;
   opcode = b.head.opcode;
   param = b.head.param;
   size = b.head.size;
-  source = b.head.source;
-  sink = 0;
   denied = 0;
   corrupt = flag b.corrupt;
+  reserved = unused;
 }
 
 abbrev pub beat_b : {w : ℕ} → BeatFields → List ℕ → BeatOf HeadB w
@@ -42,13 +48,14 @@ abbrev pub fields_b : {w : ℕ} → BeatOf HeadB w → BeatFields
 fields_b b = record {
   address = b.head.address;
   mask = b.mask;
+  source = b.head.source;
+  sink = 0;
   opcode = b.head.opcode;
   param = b.head.param;
   size = b.head.size;
-  source = b.head.source;
-  sink = 0;
   denied = 0;
   corrupt = flag b.corrupt;
+  reserved = unused;
 }
 
 abbrev pub beat_c : {w : ℕ} → BeatFields → List ℕ → BeatOf HeadC w
@@ -58,13 +65,14 @@ abbrev pub fields_c : {w : ℕ} → BeatOf HeadC w → BeatFields
 fields_c b = record {
   address = b.head.address;
   mask = b.mask;
+  source = b.head.source;
+  sink = 0;
   opcode = b.head.opcode;
   param = b.head.param;
   size = b.head.size;
-  source = b.head.source;
-  sink = 0;
   denied = 0;
   corrupt = flag b.corrupt;
+  reserved = unused;
 }
 
 abbrev pub beat_d : {w : ℕ} → BeatFields → List ℕ → BeatOf HeadD w
@@ -74,13 +82,14 @@ abbrev pub fields_d : {w : ℕ} → BeatOf HeadD w → BeatFields
 fields_d b = record {
   address = 0;
   mask = b.mask;
+  source = b.head.source;
+  sink = b.head.sink;
   opcode = b.head.opcode;
   param = b.head.param;
   size = b.head.size;
-  source = b.head.source;
-  sink = b.head.sink;
   denied = flag b.head.denied;
   corrupt = flag b.corrupt;
+  reserved = unused;
 }
 
 abbrev pub beat_e : {w : ℕ} → BeatFields → List ℕ → BeatOf HeadE w
@@ -90,11 +99,12 @@ abbrev pub fields_e : {w : ℕ} → BeatOf HeadE w → BeatFields
 fields_e b = record {
   address = 0;
   mask = b.mask;
+  source = 0;
+  sink = b.head.sink;
   opcode = 0;
   param = 0;
   size = 0;
-  source = 0;
-  sink = b.head.sink;
   denied = 0;
   corrupt = flag b.corrupt;
+  reserved = unused;
 }

@@ -15,8 +15,9 @@ pub const NOT_READY: u8 = 254;
 /// The number of the fault of a refused allocation.
 pub const OUT_OF_MEMORY: u8 = 13;
 
-/// The libraries' version: it grows with each change of a call (this project's choice).
-pub const VERSION: u32 = 2;
+/// The libraries' version: it grows with each change of a call, or of a structure that calls are
+/// given (this project's choice).
+pub const VERSION: u32 = 3;
 
 /// The bytes of an answer's name, the zeros at its end included.
 pub const NAME_BYTES: usize = 16;

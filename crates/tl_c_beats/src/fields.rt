@@ -2,23 +2,28 @@
 ghost use Rattle.std.specs.Prelude.{◌≡◌};
 ghost use Rattle.tl_c_beats.specs.Fields.{beat_a, beat_b, beat_c, beat_d, beat_e, fields_a, fields_b, fields_c, fields_d, fields_e};
 
-use tl_msg::{BeatOf, HeadA, HeadB, HeadC, HeadD, HeadE};
+use tl_msg::{BeatOf, HeadA, HeadB, HeadC, HeadD, HeadE, SinkId, SourceId};
 
-/// The fields of a beat on any of the five channels, but its lanes. A field that the channel lacks
-/// is not read, and is written 0. `denied` and `corrupt` are set where they are not 0, and are
-/// written 1 there.
+/// The bytes of a beat's fields that no field has yet (this project's choice).
+pub const RESERVED: usize = 7;
+
+/// The fields of a beat on any of the five channels, but its lanes: 32 bytes, with no gap between
+/// two fields. A field that the channel lacks is not read, and is written 0. `denied` and `corrupt`
+/// are set where they are not 0, and are written 1 there. `reserved` is not read, and is written 0,
+/// so that each of the 32 bytes has a value.
 #[repr(C)]
 #[derive(Drop)]
 pub struct BeatFields {
     pub address: u64,
     pub mask: u64,
+    pub source: SourceId,
+    pub sink: SinkId,
     pub opcode: u8,
     pub param: u8,
     pub size: u8,
-    pub source: u8,
-    pub sink: u8,
     pub denied: u8,
     pub corrupt: u8,
+    pub reserved: [u8; RESERVED],
 }
 
 pub fn beat_a<const W: usize>(fields: &BeatFields, lanes: &[u8; W]) -> BeatOf<HeadA, W>
@@ -44,13 +49,14 @@ pub fn fields_a<const W: usize>(beat: &BeatOf<HeadA, W>) -> BeatFields
     BeatFields {
         address: beat.head.address,
         mask: beat.mask,
+        source: beat.head.source,
+        sink: 0,
         opcode: beat.head.opcode,
         param: beat.head.param,
         size: beat.head.size,
-        source: beat.head.source,
-        sink: 0,
         denied: 0,
         corrupt: u8::from(beat.corrupt),
+        reserved: [0; RESERVED],
     }
 }
 
@@ -77,13 +83,14 @@ pub fn fields_b<const W: usize>(beat: &BeatOf<HeadB, W>) -> BeatFields
     BeatFields {
         address: beat.head.address,
         mask: beat.mask,
+        source: beat.head.source,
+        sink: 0,
         opcode: beat.head.opcode,
         param: beat.head.param,
         size: beat.head.size,
-        source: beat.head.source,
-        sink: 0,
         denied: 0,
         corrupt: u8::from(beat.corrupt),
+        reserved: [0; RESERVED],
     }
 }
 
@@ -110,13 +117,14 @@ pub fn fields_c<const W: usize>(beat: &BeatOf<HeadC, W>) -> BeatFields
     BeatFields {
         address: beat.head.address,
         mask: beat.mask,
+        source: beat.head.source,
+        sink: 0,
         opcode: beat.head.opcode,
         param: beat.head.param,
         size: beat.head.size,
-        source: beat.head.source,
-        sink: 0,
         denied: 0,
         corrupt: u8::from(beat.corrupt),
+        reserved: [0; RESERVED],
     }
 }
 
@@ -144,13 +152,14 @@ pub fn fields_d<const W: usize>(beat: &BeatOf<HeadD, W>) -> BeatFields
     BeatFields {
         address: 0,
         mask: beat.mask,
+        source: beat.head.source,
+        sink: beat.head.sink,
         opcode: beat.head.opcode,
         param: beat.head.param,
         size: beat.head.size,
-        source: beat.head.source,
-        sink: beat.head.sink,
         denied: u8::from(beat.head.denied),
         corrupt: u8::from(beat.corrupt),
+        reserved: [0; RESERVED],
     }
 }
 
@@ -171,12 +180,13 @@ pub fn fields_e<const W: usize>(beat: &BeatOf<HeadE, W>) -> BeatFields
     BeatFields {
         address: 0,
         mask: beat.mask,
+        source: 0,
+        sink: beat.head.sink,
         opcode: 0,
         param: 0,
         size: 0,
-        source: 0,
-        sink: beat.head.sink,
         denied: 0,
         corrupt: u8::from(beat.corrupt),
+        reserved: [0; RESERVED],
     }
 }

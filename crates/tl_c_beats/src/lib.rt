@@ -10,7 +10,7 @@ mod parts;
 pub use answers::{NAME_BYTES, NO_BRIDGE, NO_SIDE, NOT_READY, OUT_OF_MEMORY, VERSION, answer_name};
 pub use counts::{BeatCounts, ChannelCounts, beat_counts};
 pub use fields::{
-    BeatFields, beat_a, beat_b, beat_c, beat_d, beat_e, fields_a, fields_b, fields_c, fields_d,
-    fields_e,
+    BeatFields, RESERVED, beat_a, beat_b, beat_c, beat_d, beat_e, fields_a, fields_b, fields_c,
+    fields_d, fields_e,
 };
 pub use parts::Parts;

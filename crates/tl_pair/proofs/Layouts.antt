@@ -16,7 +16,7 @@ client_layout C M A ghosts = layout (client.the_row (param 0 (number C)) (param 
 abbrev pub manager_layout : (C M : ℕ) (A : RattleType) → Ghosts A.Denot → Ty
 manager_layout C M A ghosts = layout (manager.the_row (param 0 (number C)) (param 1 (number M)) (param 2 A) ghosts)
 
--- a beat fits in memory whose head has 24 bytes (A, B, C), and one whose head has 16 (D, E)
+-- a beat fits in memory whose head has 24 bytes (A, B, C, D), and one whose head has 16 (E)
 pub head_24 : (w : ℕ) → IsWidth w → up 8 (up 1 (24 + w * 1) + 1) < 9223372036854775808
 head_24 w width = beat_small 24 w (omega arith) width
 

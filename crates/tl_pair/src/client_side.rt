@@ -36,7 +36,7 @@ pub struct ClientSide<const C: usize, const M: usize, A: Allocator = Global> {
     pub(crate) c: Sender<ChC, C, M, A>,
     pub(crate) d: TakeEnd<ChD, M, C, A>,
     pub(crate) e: Sender<ChE, C, M, A>,
-    pub(crate) book: ClientBook<C>,
+    pub(crate) book: ClientBook<C, A>,
 }
 
 impl<const C: usize, const M: usize, A: Allocator> Model for ClientSide<C, M, A> {

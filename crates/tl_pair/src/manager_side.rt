@@ -37,7 +37,7 @@ pub struct ManagerSide<const C: usize, const M: usize, A: Allocator = Global> {
     pub(crate) c: TakeEnd<ChC, C, M, A>,
     pub(crate) d: Sender<ChD, M, C, A>,
     pub(crate) e: TakeEnd<ChE, C, M, A>,
-    pub(crate) book: ManagerBook<M>,
+    pub(crate) book: ManagerBook<M, A>,
 }
 
 impl<const C: usize, const M: usize, A: Allocator> Model for ManagerSide<C, M, A> {

@@ -12,11 +12,12 @@ use crate::sender::open_pair;
 use std::alloc::Allocator;
 use tl_msg::{ChA, ChB, ChC, ChD, ChE};
 use tl_ring::BuildFault;
-use tl_sides::{ClientBook, ManagerBook, Standings};
+use tl_sides::{Standings, new_books};
 
-/// The two sides of a new bridge, for two threads, over five rings of `ring` beats each, the only
-/// memory that is taken. Refused with `RingSize` exactly where `ring` is 0 or above 4,096, and else
-/// with `OutOfMemory` where the allocator has no memory for a ring.
+/// The two sides of a new bridge, for two threads, over five rings of `ring` beats each, and with
+/// the tables of both sides, of 64 KiB and 1 MiB: the only memory that is taken. Refused with
+/// `RingSize` exactly where `ring` is 0 or above 4,096, and else with `OutOfMemory` where the
+/// allocator has no memory for a ring or for a table.
 pub fn bridge<const C: usize, const M: usize, A: Allocator + Copy>(
     alloc: A,
     ring: usize,
@@ -38,13 +39,16 @@ pub fn bridge<const C: usize, const M: usize, A: Allocator + Copy>(
     let (c, c_take) = open_pair::<ChC, C, M, A>(alloc, ring)?;
     let (d, d_take) = open_pair::<ChD, M, C, A>(alloc, ring)?;
     let (e, e_take) = open_pair::<ChE, C, M, A>(alloc, ring)?;
+    let Ok((client_book, manager_book)) = new_books(alloc) else {
+        return Err(BuildFault::OutOfMemory);
+    };
     let client = ClientSide {
         a,
         b: b_take,
         c,
         d: d_take,
         e,
-        book: ClientBook::new(),
+        book: client_book,
     };
     let manager = ManagerSide {
         a: a_take,
@@ -52,7 +56,7 @@ pub fn bridge<const C: usize, const M: usize, A: Allocator + Copy>(
         c: c_take,
         d,
         e: e_take,
-        book: ManagerBook::new(),
+        book: manager_book,
     };
     Ok((client, manager))
 }

@@ -1,7 +1,9 @@
 -- A table stands for a side's history while each request begins an entry and each response other than ReleaseAck ends one.
-use Rattle.std.proofs.Common.{◌≡◌, ℕ, zero, suc, Bool, true, false, cond, Option, None, Some, List, [], ◌∷◌, ◌++◌, refl, sym, ap, ◌∙◌, replicate}
-use Rattle.std.specs.Prelude.{slice_index_or, ◌==◌, ◌&&◌, not}
+use Rattle.std.proofs.Common.{rules, ◌≡◌, ℕ, zero, suc, Bool, true, false, cond, Option, None, Some, List, [], ◌∷◌, ◌++◌, ◌<◌, length, map, refl, sym, ap, ◌∙◌, replicate}
+use Rattle.std.specs.Prelude.{slice_index_or, slice_set, ◌==◌, ◌&&◌, not}
 use Rattle.std.specs.Option.{is_some}
+use Rattle.std.proofs.Math.ListN.{get_or-map}
+use Rattle.std.proofs.lemmas.List.{map-set, length-map}
 use Rattle.tl_msg.specs.declared.head.HeadA.{HeadA}
 use Rattle.tl_msg.specs.declared.head.HeadD.{HeadD}
 use Rattle.tl_sides.specs.declared.tables.Request.{Request}
@@ -14,6 +16,19 @@ pub replicate_any : {A : Type 0} (n s : ℕ) (x : A) → slice_index_or (replica
 replicate_any zero s x = refl
 replicate_any (suc n) zero x = refl
 replicate_any (suc n) (suc s) x = replicate_any n s x
+
+pub mapped_replicate : {A B : Type 0} (f : A → B) (n s : ℕ) (x : A) → slice_index_or (map f (replicate n x)) s (f x) ≡ f x
+mapped_replicate f n s x = get_or-map f (replicate n x) s x ∙ ap f (replicate_any n s x)
+
+-- a table of which one entry was written
+set_any : {A : Type 0} (xs : List A) (i s : ℕ) (x d : A) → i < length xs →
+    slice_index_or (slice_set xs i x) s d ≡ cond (i == s) x (slice_index_or xs s d)
+set_any xs i s x d within = search rules
+
+pub mapped_set : {A B : Type 0} (f : A → B) (xs : List A) (i s : ℕ) (x : A) (d : B) → i < length xs →
+    slice_index_or (map f (slice_set xs i x)) s d ≡ cond (i == s) (f x) (slice_index_or (map f xs) s d)
+mapped_set f xs i s x d within =
+    ap (λ ys. slice_index_or ys s d) (map-set f xs i x) ∙ set_any (map f xs) i s (f x) d (rw (length-map xs f) within)
 
 some_cond : (b : Bool) (h : HeadA) (o : Option HeadA) → is_some (cond b (Some h) o) ≡ cond b true (is_some o)
 some_cond true h o = refl

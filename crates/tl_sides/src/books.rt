@@ -16,9 +16,10 @@ ghost use Rattle.tl_sides.specs.Books.{KnowsClient, KnowsManager, IsNext};
 ghost use Rattle.tl_sides.specs.Inner.Noting.{begun_with, stops_response};
 
 use crate::tables::{Request, RequestTable, SourceTable};
+use std::alloc::{Allocator, Global};
 use std::marker::Model;
 use tl_burst::{BurstCounter, Place};
-use tl_msg::{ChA, ChD, HeadA, HeadD, SideFault};
+use tl_msg::{ChA, ChD, HeadA, HeadD, OutOfMemory, SideFault};
 
 /// The opcode of ReleaseAck, which answers a message of channel C, and no request (TileLink: opcode
 /// tables).
@@ -31,12 +32,12 @@ const RELEASE_ACK: u8 = 6;
 /// A source is busy from the first beat of its request, accepted on A, until the first beat of the
 /// response is taken on D (TileLink: source of requests; the moments: this project's choice).
 #[derive(Drop)]
-pub struct ClientBook<const C: usize> {
-    sources: SourceTable,
+pub struct ClientBook<const C: usize, A: Allocator = Global> {
+    sources: SourceTable<A>,
     responses: BurstCounter<ChD, C>,
 }
 
-impl<const C: usize> Model for ClientBook<C> {
+impl<const C: usize, A: Allocator> Model for ClientBook<C, A> {
     ghost use Rattle.tl_sides.specs.Books.{Client};
 
     ghost Value = { Client };
@@ -44,15 +45,17 @@ impl<const C: usize> Model for ClientBook<C> {
     ghost view = { λ b. record { sources = b.sources; lacking = b.responses } };
 }
 
-impl<const C: usize> ClientBook<C> {
-    /// The book of a side that has accepted and taken nothing yet.
-    pub fn new() -> Self
-        ensures { KnowsClient {w = C} result [] }
+impl<const C: usize, A: Allocator> ClientBook<C, A> {
+    /// The book of a side that has accepted and taken nothing yet. Refused exactly where the
+    /// allocator has no memory for its table.
+    pub fn new(alloc: A) -> Result<Self, OutOfMemory>
+        ensures { IfOk result (λ book. KnowsClient {w = C} book []) }
     {
-        ClientBook {
-            sources: SourceTable::new(),
+        let sources = SourceTable::new(alloc)?;
+        Ok(ClientBook {
+            sources,
             responses: BurstCounter::new(),
-        }
+        })
     }
 
     /// Asks whether a beat of A may go that has no fault of its own and stands at this place, and
@@ -100,12 +103,12 @@ impl<const C: usize> ClientBook<C> {
 /// A request is open from its first beat, taken on A, until the first beat of the response is
 /// accepted on D (TileLink: source and size of responses; the moments: this project's choice).
 #[derive(Drop)]
-pub struct ManagerBook<const M: usize> {
-    requests: RequestTable,
+pub struct ManagerBook<const M: usize, A: Allocator = Global> {
+    requests: RequestTable<A>,
     asks: BurstCounter<ChA, M>,
 }
 
-impl<const M: usize> Model for ManagerBook<M> {
+impl<const M: usize, A: Allocator> Model for ManagerBook<M, A> {
     ghost use Rattle.tl_sides.specs.Books.{Manager};
 
     ghost Value = { Manager };
@@ -113,15 +116,17 @@ impl<const M: usize> Model for ManagerBook<M> {
     ghost view = { λ b. record { requests = b.requests; lacking = b.asks } };
 }
 
-impl<const M: usize> ManagerBook<M> {
-    /// The book of a side that has accepted and taken nothing yet.
-    pub fn new() -> Self
-        ensures { KnowsManager {w = M} result [] }
+impl<const M: usize, A: Allocator> ManagerBook<M, A> {
+    /// The book of a side that has accepted and taken nothing yet. Refused exactly where the
+    /// allocator has no memory for its table.
+    pub fn new(alloc: A) -> Result<Self, OutOfMemory>
+        ensures { IfOk result (λ book. KnowsManager {w = M} book []) }
     {
-        ManagerBook {
-            requests: RequestTable::new(),
+        let requests = RequestTable::new(alloc)?;
+        Ok(ManagerBook {
+            requests,
             asks: BurstCounter::new(),
-        }
+        })
     }
 
     /// Asks whether a beat of D may go that has no fault of its own and stands at this place, and
@@ -166,6 +171,19 @@ impl<const M: usize> ManagerBook<M> {
     }
 }
 
+/// The books of both sides of a new bridge, on buses of `C` and `M` bytes: those of its client's and
+/// of its manager's side. Refused exactly where the allocator has no memory for one of their tables.
+pub fn new_books<const C: usize, const M: usize, A: Allocator + Copy>(
+    alloc: A,
+) -> Result<(ClientBook<C, A>, ManagerBook<M, A>), OutOfMemory>
+    ensures client { IfOk result (λ books. KnowsClient {w = C} books.0 []) }
+    ensures manager { IfOk result (λ books. KnowsManager {w = M} books.1 []) }
+{
+    let client = ClientBook::new(alloc)?;
+    let manager = ManagerBook::new(alloc)?;
+    Ok((client, manager))
+}
+
 // Whether a message of D answers no request.
 fn is_release_ack(head: &HeadD) -> bool
     ensures { result ≡ Rattle.tl_settle.specs.Requests.is_release_ack head.now }
@@ -174,7 +192,11 @@ fn is_release_ack(head: &HeadD) -> bool
 }
 
 // Asks whether the source of a request is free, where it opens a message.
-fn ask_for_source(sources: &SourceTable, head: &HeadA, first: bool) -> Result<(), SideFault>
+fn ask_for_source<A: Allocator>(
+    sources: &SourceTable<A>,
+    head: &HeadA,
+    first: bool,
+) -> Result<(), SideFault>
     ensures refused { (ms : List Mark) → AreBusy sources.now ms →
         IfErr result (λ fault. (fault ≡ SourceBusy) × (first ≡ true) ×
         (is_some (open_request head.now.source ms) ≡ true)) }
@@ -189,7 +211,11 @@ fn ask_for_source(sources: &SourceTable, head: &HeadA, first: bool) -> Result<()
 
 // Asks for the home of a response, where it opens a message: the address of the request that it
 // answers, and 0 for ReleaseAck.
-fn ask_for_home(requests: &RequestTable, head: &HeadD, first: bool) -> Result<u64, SideFault>
+fn ask_for_home<A: Allocator>(
+    requests: &RequestTable<A>,
+    head: &HeadD,
+    first: bool,
+) -> Result<u64, SideFault>
     ensures refused { (ms : List Mark) → AreOpen requests.now ms →
         IfErr result (λ fault. (first ≡ true) × (stops_response ms head.now ≡ Some fault)) }
     ensures home { (ms : List Mark) → AreOpen requests.now ms →
@@ -209,7 +235,7 @@ fn ask_for_home(requests: &RequestTable, head: &HeadD, first: bool) -> Result<u6
 }
 
 // A request makes its source busy, where it opens a message.
-fn note_asked(sources: &mut SourceTable, head: &HeadA, first: bool)
+fn note_asked<A: Allocator>(sources: &mut SourceTable<A>, head: &HeadA, first: bool)
     ensures { (ms : List Mark) → AreBusy sources.old ms →
         AreBusy sources.new (begun_with first (Asks head.now) ms) }
 {
@@ -219,7 +245,7 @@ fn note_asked(sources: &mut SourceTable, head: &HeadA, first: bool)
 }
 
 // A response other than ReleaseAck frees its source, where it opens a message.
-fn note_answered(sources: &mut SourceTable, head: &HeadD, first: bool)
+fn note_answered<A: Allocator>(sources: &mut SourceTable<A>, head: &HeadD, first: bool)
     ensures { (ms : List Mark) → AreBusy sources.old ms →
         AreBusy sources.new (begun_with first (Answers head.now) ms) }
 {
@@ -229,7 +255,7 @@ fn note_answered(sources: &mut SourceTable, head: &HeadD, first: bool)
 }
 
 // A request begins, where it opens a message.
-fn note_request(requests: &mut RequestTable, head: &HeadA, first: bool)
+fn note_request<A: Allocator>(requests: &mut RequestTable<A>, head: &HeadA, first: bool)
     ensures { (ms : List Mark) → AreOpen requests.old ms →
         AreOpen requests.new (begun_with first (Asks head.now) ms) }
 {
@@ -243,7 +269,7 @@ fn note_request(requests: &mut RequestTable, head: &HeadA, first: bool)
 }
 
 // A response other than ReleaseAck ends its request, where it opens a message.
-fn note_response(requests: &mut RequestTable, head: &HeadD, first: bool)
+fn note_response<A: Allocator>(requests: &mut RequestTable<A>, head: &HeadD, first: bool)
     ensures { (ms : List Mark) → AreOpen requests.old ms →
         AreOpen requests.new (begun_with first (Answers head.now) ms) }
 {

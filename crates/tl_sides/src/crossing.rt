@@ -46,7 +46,7 @@ pub fn offer_alone<K: Channel, const W: usize, const V: usize, A: Allocator>(
 /// beat completes are staged (TileLink: source of requests; this project's choice: when a source
 /// is busy).
 pub fn offer_request<const C: usize, const M: usize, A: Allocator>(
-    book: &mut ClientBook<C>,
+    book: &mut ClientBook<C, A>,
     pipe: &mut SyncPipe<ChA, C, M, A>,
     beat: &Beat<ChA, C>,
 ) -> Result<(), SideFault>
@@ -78,7 +78,7 @@ pub fn offer_request<const C: usize, const M: usize, A: Allocator>(
 /// message's home, and the far beats that the beat completes are staged (TileLink: source and size
 /// of responses; this project's choice: when a request is open).
 pub fn offer_response<const C: usize, const M: usize, A: Allocator>(
-    book: &mut ManagerBook<M>,
+    book: &mut ManagerBook<M, A>,
     pipe: &mut SyncPipe<ChD, M, C, A>,
     beat: &Beat<ChD, M>,
 ) -> Result<(), SideFault>
@@ -108,7 +108,7 @@ pub fn offer_response<const C: usize, const M: usize, A: Allocator>(
 /// The manager's side takes the first beat of A's inbox. None exactly where it is empty. A first
 /// beat begins its request: from now on it may be answered (this project's choice).
 pub fn take_request<const C: usize, const M: usize, A: Allocator>(
-    book: &mut ManagerBook<M>,
+    book: &mut ManagerBook<M, A>,
     pipe: &mut SyncPipe<ChA, C, M, A>,
 ) -> Option<Beat<ChA, M>>
     requires far { IsWidth M }
@@ -126,7 +126,7 @@ pub fn take_request<const C: usize, const M: usize, A: Allocator>(
 /// The client's side takes the first beat of D's inbox. None exactly where it is empty. A first
 /// beat other than of ReleaseAck frees its source (this project's choice).
 pub fn take_response<const C: usize, const M: usize, A: Allocator>(
-    book: &mut ClientBook<C>,
+    book: &mut ClientBook<C, A>,
     pipe: &mut SyncPipe<ChD, M, C, A>,
 ) -> Option<Beat<ChD, C>>
     requires far { IsWidth C }

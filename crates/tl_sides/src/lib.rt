@@ -8,7 +8,7 @@ mod per_channel;
 mod sync_bridge;
 mod tables;
 
-pub use books::{ClientBook, ManagerBook};
+pub use books::{ClientBook, ManagerBook, new_books};
 pub use crossing::{offer_alone, offer_request, offer_response, take_request, take_response};
 pub use per_channel::PerChannel;
 pub use sync_bridge::{Standings, SyncBridge};

@@ -12,7 +12,7 @@ ghost use Rattle.tl_sides.specs.Bridges.{after_offer_a, after_offer_b, after_off
 ghost use Rattle.tl_sides.specs.Bridges.{after_take_a, after_take_b, after_take_c, after_take_d, after_take_e};
 ghost use Rattle.tl_sides.specs.Bridges.{after_close_a, after_close_b, after_close_c, after_close_d, after_close_e};
 
-use crate::books::{ClientBook, ManagerBook};
+use crate::books::{ClientBook, ManagerBook, new_books};
 use crate::crossing::{offer_alone, offer_request, offer_response, take_request, take_response};
 use crate::per_channel::PerChannel;
 use std::alloc::{Allocator, Global};
@@ -55,9 +55,9 @@ pub struct SyncBridge<const C: usize, const M: usize, A: Allocator = Global> {
     /// The crossing of E, from the client's side to the manager's.
     pub e: SyncPipe<ChE, C, M, A>,
     /// What the client's side knows of its own beats of A and D.
-    pub client: ClientBook<C>,
+    pub client: ClientBook<C, A>,
     /// What the manager's side knows of its own beats of A and D.
-    pub manager: ManagerBook<M>,
+    pub manager: ManagerBook<M, A>,
 }
 
 impl<const C: usize, const M: usize, A: Allocator> Model for SyncBridge<C, M, A> {
@@ -77,9 +77,10 @@ impl<const C: usize, const M: usize, A: Allocator> Model for SyncBridge<C, M, A>
 }
 
 impl<const C: usize, const M: usize, A: Allocator + Copy> SyncBridge<C, M, A> {
-    /// A new bridge with five rings of `ring` beats each, the only memory that it takes. Refused
-    /// with `RingSize` exactly where `ring` is 0 or above 4,096, and else with `OutOfMemory` where
-    /// the allocator has no memory for a ring.
+    /// A new bridge with five rings of `ring` beats each, and with the tables of both sides, of 64
+    /// KiB and 1 MiB: the only memory that it takes. Refused with `RingSize` exactly where `ring`
+    /// is 0 or above 4,096, and else with `OutOfMemory` where the allocator has no memory for a
+    /// ring or for a table.
     pub fn new(alloc: A, ring: usize) -> Result<Self, BuildFault>
         requires client { IsWidth C }
         requires manager { IsWidth M }
@@ -93,14 +94,17 @@ impl<const C: usize, const M: usize, A: Allocator + Copy> SyncBridge<C, M, A> {
         let c = SyncPipe::new(alloc, ring)?;
         let d = SyncPipe::new(alloc, ring)?;
         let e = SyncPipe::new(alloc, ring)?;
+        let Ok((client, manager)) = new_books(alloc) else {
+            return Err(BuildFault::OutOfMemory);
+        };
         Ok(SyncBridge {
             a,
             b,
             c,
             d,
             e,
-            client: ClientBook::new(),
-            manager: ManagerBook::new(),
+            client,
+            manager,
         })
     }
 }

@@ -72,12 +72,12 @@ pub line_free : {H : Type 0} (f : Form H) {n : ℕ} (w : ℕ) (b : BeatOf H n) (
 line_free f w b text letter line =
     ap (list_any is_newline) (whole_line f w b text line) ∙ or_from (is_newline f.rules.letter) (list_any is_newline (flat_map (stands text) (places f w))) letter (fields_free text (places f w) line.shaped)
 
-pub says_free : (client manager : ℕ) (line : Line) (text : List ℕ) → SaysLine client manager line text → IsFree text
-says_free client manager (A b) text says = line_free form_a client b text refl says
-says_free client manager (B b) text says = line_free form_b manager b text refl says
-says_free client manager (C b) text says = line_free form_c client b text refl says
-says_free client manager (D b) text says = line_free form_d manager b text refl says
-says_free client manager (E b) text says = line_free form_e client b text refl says
+pub says_free : (version client manager : ℕ) (line : Line) (text : List ℕ) → SaysLine version client manager line text → IsFree text
+says_free version client manager (A b) text says = line_free (form_a version) client b text refl says
+says_free version client manager (B b) text says = line_free (form_b version) manager b text refl says
+says_free version client manager (C b) text says = line_free (form_c version) client b text refl says
+says_free version client manager (D b) text says = line_free (form_d version) manager b text refl says
+says_free version client manager (E b) text says = line_free (form_e version) client b text refl says
 
 free_at : (xs : List ℕ) (k : ℕ) → k < length xs → IsFree xs → get_or xs k 0 ≢ 10
 free_at [] k lt free e = absurd (omega arith)

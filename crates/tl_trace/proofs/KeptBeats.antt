@@ -77,28 +77,28 @@ no_mask f b w none kept =
 
 -- ---- each channel
 
-held_a : (b : BeatOf HeadA 64) (w : ℕ) → w ≤ 64 → is_kept form_a w b ≡ true → IsBeat rules_a (on_lanes w b)
-held_a b w le kept =
-    let test = in_range (λ field. nat_lt (value_of form_a b field) (values form_a w field)) (fields form_a) in
-    let writable = kept_writable form_a b w kept in
-    kept_beat form_a b w le kept (ltb-true b.head.address (2 ^ 64) (test 4 address writable refl)) (most w b.mask le (ltb-true b.mask (2 ^ w) (test 5 mask writable refl)))
+held_a : (version : ℕ) (b : BeatOf HeadA 64) (w : ℕ) → w ≤ 64 → is_kept (form_a version) w b ≡ true → IsBeat rules_a (on_lanes w b)
+held_a version b w le kept =
+    let test = in_range (λ field. nat_lt (value_of (form_a version) b field) (values (form_a version) w field)) (fields (form_a version)) in
+    let writable = kept_writable (form_a version) b w kept in
+    kept_beat (form_a version) b w le kept (ltb-true b.head.address (2 ^ 64) (test 4 address writable refl)) (most w b.mask le (ltb-true b.mask (2 ^ w) (test 5 mask writable refl)))
 
-held_b : (b : BeatOf HeadB 64) (w : ℕ) → w ≤ 64 → is_kept form_b w b ≡ true → IsBeat rules_b (on_lanes w b)
-held_b b w le kept =
-    let test = in_range (λ field. nat_lt (value_of form_b b field) (values form_b w field)) (fields form_b) in
-    let writable = kept_writable form_b b w kept in
-    kept_beat form_b b w le kept (ltb-true b.head.address (2 ^ 64) (test 4 address writable refl)) (most w b.mask le (ltb-true b.mask (2 ^ w) (test 5 mask writable refl)))
+held_b : (version : ℕ) (b : BeatOf HeadB 64) (w : ℕ) → w ≤ 64 → is_kept (form_b version) w b ≡ true → IsBeat rules_b (on_lanes w b)
+held_b version b w le kept =
+    let test = in_range (λ field. nat_lt (value_of (form_b version) b field) (values (form_b version) w field)) (fields (form_b version)) in
+    let writable = kept_writable (form_b version) b w kept in
+    kept_beat (form_b version) b w le kept (ltb-true b.head.address (2 ^ 64) (test 4 address writable refl)) (most w b.mask le (ltb-true b.mask (2 ^ w) (test 5 mask writable refl)))
 
-held_c : (b : BeatOf HeadC 64) (w : ℕ) → w ≤ 64 → is_kept form_c w b ≡ true → IsBeat rules_c (on_lanes w b)
-held_c b w le kept =
-    let test = in_range (λ field. nat_lt (value_of form_c b field) (values form_c w field)) (fields form_c) in
-    kept_beat form_c b w le kept (ltb-true b.head.address (2 ^ 64) (test 4 address (kept_writable form_c b w kept) refl)) (no_mask form_c b w refl kept)
+held_c : (version : ℕ) (b : BeatOf HeadC 64) (w : ℕ) → w ≤ 64 → is_kept (form_c version) w b ≡ true → IsBeat rules_c (on_lanes w b)
+held_c version b w le kept =
+    let test = in_range (λ field. nat_lt (value_of (form_c version) b field) (values (form_c version) w field)) (fields (form_c version)) in
+    kept_beat (form_c version) b w le kept (ltb-true b.head.address (2 ^ 64) (test 4 address (kept_writable (form_c version) b w kept) refl)) (no_mask (form_c version) b w refl kept)
 
-held_d : (b : BeatOf HeadD 64) (w : ℕ) → w ≤ 64 → is_kept form_d w b ≡ true → IsBeat rules_d (on_lanes w b)
-held_d b w le kept = kept_beat form_d b w le kept (omega arith) (no_mask form_d b w refl kept)
+held_d : (version : ℕ) (b : BeatOf HeadD 64) (w : ℕ) → w ≤ 64 → is_kept (form_d version) w b ≡ true → IsBeat rules_d (on_lanes w b)
+held_d version b w le kept = kept_beat (form_d version) b w le kept (omega arith) (no_mask (form_d version) b w refl kept)
 
-held_e : (b : BeatOf HeadE 64) (w : ℕ) → w ≤ 64 → is_kept form_e w b ≡ true → IsBeat rules_e (on_lanes w b)
-held_e b w le kept = kept_beat form_e b w le kept (omega arith) (no_mask form_e b w refl kept)
+held_e : (version : ℕ) (b : BeatOf HeadE 64) (w : ℕ) → w ≤ 64 → is_kept (form_e version) w b ≡ true → IsBeat rules_e (on_lanes w b)
+held_e version b w le kept = kept_beat (form_e version) b w le kept (omega arith) (no_mask (form_e version) b w refl kept)
 
 -- ---- the lists
 
@@ -111,11 +111,11 @@ all_held {X} P h q (line ∷ lines) each kept =
     put None is rest = rest
     put (Some x) is rest = All-cons P x (filter_map h lines) (each line x (and_parts (q line) (list_all q lines) kept).0 is) rest
 
-pub has_beats : (client manager : ℕ) (lines : List Line) → IsTrace client manager lines → HasBeats client manager lines
-has_beats client manager lines t =
+pub has_beats : (version client manager : ℕ) (lines : List Line) → IsTrace version client manager lines → HasBeats client manager lines
+has_beats version client manager lines t =
     let c_le = width_small client t.client_width in
     let m_le = width_small manager t.manager_width in
-    let q = is_kept_line client manager in
+    let q = is_kept_line version client manager in
     record {
       a = all_held (λ b. IsBeat rules_a b) (beat_of_a client) q lines (each_a c_le) t.kept;
       b = all_held (λ b. IsBeat rules_b b) (beat_of_b manager) q lines (each_b m_le) t.kept;
@@ -124,37 +124,37 @@ has_beats client manager lines t =
       e = all_held (λ b. IsBeat rules_e b) (beat_of_e client) q lines (each_e c_le) t.kept;
     }
   where
-    each_a : client ≤ 64 → (line : Line) (x : BeatOf HeadA client) → is_kept_line client manager line ≡ true → beat_of_a client line ≡ Some x → IsBeat rules_a x
-    each_a le (A b) x kept is = let P : BeatOf HeadA client → Type 0 = λ y. IsBeat rules_a y in subst P (same_Some (on_lanes client b) x is) (held_a b client le kept)
+    each_a : client ≤ 64 → (line : Line) (x : BeatOf HeadA client) → is_kept_line version client manager line ≡ true → beat_of_a client line ≡ Some x → IsBeat rules_a x
+    each_a le (A b) x kept is = let P : BeatOf HeadA client → Type 0 = λ y. IsBeat rules_a y in subst P (same_Some (on_lanes client b) x is) (held_a version b client le kept)
     each_a le (B b) x kept is = absurd cc
     each_a le (C b) x kept is = absurd cc
     each_a le (D b) x kept is = absurd cc
     each_a le (E b) x kept is = absurd cc
 
-    each_b : manager ≤ 64 → (line : Line) (x : BeatOf HeadB manager) → is_kept_line client manager line ≡ true → beat_of_b manager line ≡ Some x → IsBeat rules_b x
+    each_b : manager ≤ 64 → (line : Line) (x : BeatOf HeadB manager) → is_kept_line version client manager line ≡ true → beat_of_b manager line ≡ Some x → IsBeat rules_b x
     each_b le (A b) x kept is = absurd cc
-    each_b le (B b) x kept is = let P : BeatOf HeadB manager → Type 0 = λ y. IsBeat rules_b y in subst P (same_Some (on_lanes manager b) x is) (held_b b manager le kept)
+    each_b le (B b) x kept is = let P : BeatOf HeadB manager → Type 0 = λ y. IsBeat rules_b y in subst P (same_Some (on_lanes manager b) x is) (held_b version b manager le kept)
     each_b le (C b) x kept is = absurd cc
     each_b le (D b) x kept is = absurd cc
     each_b le (E b) x kept is = absurd cc
 
-    each_c : client ≤ 64 → (line : Line) (x : BeatOf HeadC client) → is_kept_line client manager line ≡ true → beat_of_c client line ≡ Some x → IsBeat rules_c x
+    each_c : client ≤ 64 → (line : Line) (x : BeatOf HeadC client) → is_kept_line version client manager line ≡ true → beat_of_c client line ≡ Some x → IsBeat rules_c x
     each_c le (A b) x kept is = absurd cc
     each_c le (B b) x kept is = absurd cc
-    each_c le (C b) x kept is = let P : BeatOf HeadC client → Type 0 = λ y. IsBeat rules_c y in subst P (same_Some (on_lanes client b) x is) (held_c b client le kept)
+    each_c le (C b) x kept is = let P : BeatOf HeadC client → Type 0 = λ y. IsBeat rules_c y in subst P (same_Some (on_lanes client b) x is) (held_c version b client le kept)
     each_c le (D b) x kept is = absurd cc
     each_c le (E b) x kept is = absurd cc
 
-    each_d : manager ≤ 64 → (line : Line) (x : BeatOf HeadD manager) → is_kept_line client manager line ≡ true → beat_of_d manager line ≡ Some x → IsBeat rules_d x
+    each_d : manager ≤ 64 → (line : Line) (x : BeatOf HeadD manager) → is_kept_line version client manager line ≡ true → beat_of_d manager line ≡ Some x → IsBeat rules_d x
     each_d le (A b) x kept is = absurd cc
     each_d le (B b) x kept is = absurd cc
     each_d le (C b) x kept is = absurd cc
-    each_d le (D b) x kept is = let P : BeatOf HeadD manager → Type 0 = λ y. IsBeat rules_d y in subst P (same_Some (on_lanes manager b) x is) (held_d b manager le kept)
+    each_d le (D b) x kept is = let P : BeatOf HeadD manager → Type 0 = λ y. IsBeat rules_d y in subst P (same_Some (on_lanes manager b) x is) (held_d version b manager le kept)
     each_d le (E b) x kept is = absurd cc
 
-    each_e : client ≤ 64 → (line : Line) (x : BeatOf HeadE client) → is_kept_line client manager line ≡ true → beat_of_e client line ≡ Some x → IsBeat rules_e x
+    each_e : client ≤ 64 → (line : Line) (x : BeatOf HeadE client) → is_kept_line version client manager line ≡ true → beat_of_e client line ≡ Some x → IsBeat rules_e x
     each_e le (A b) x kept is = absurd cc
     each_e le (B b) x kept is = absurd cc
     each_e le (C b) x kept is = absurd cc
     each_e le (D b) x kept is = absurd cc
-    each_e le (E b) x kept is = let P : BeatOf HeadE client → Type 0 = λ y. IsBeat rules_e y in subst P (same_Some (on_lanes client b) x is) (held_e b client le kept)
+    each_e le (E b) x kept is = let P : BeatOf HeadE client → Type 0 = λ y. IsBeat rules_e y in subst P (same_Some (on_lanes client b) x is) (held_e version b client le kept)

@@ -58,9 +58,9 @@ head_count : (w : ℕ) (field : Field) → is_head_field field ≡ true → digi
 head_count w opcode e = refl
 head_count w param e = refl
 head_count w size e = refl
-head_count w source e = refl
+head_count w (source digits) e = refl
 head_count w address e = refl
-head_count w sink e = refl
+head_count w (sink digits) e = refl
 head_count w denied e = refl
 head_count w mask e = absurd cc
 head_count w data_lanes e = absurd cc
@@ -92,9 +92,9 @@ module _ {H : Type 0} (f : Form H) where
   head_limit w opcode e = refl
   head_limit w param e = refl
   head_limit w size e = refl
-  head_limit w source e = refl
+  head_limit w (source digits) e = refl
   head_limit w address e = refl
-  head_limit w sink e = refl
+  head_limit w (sink digits) e = refl
   head_limit w denied e = refl
   head_limit w mask e = absurd cc
   head_limit w data_lanes e = absurd cc
@@ -111,9 +111,9 @@ module _ {H : Type 0} (f : Form H) where
   head_of_beat b opcode e = refl
   head_of_beat b param e = refl
   head_of_beat b size e = refl
-  head_of_beat b source e = refl
+  head_of_beat b (source digits) e = refl
   head_of_beat b address e = refl
-  head_of_beat b sink e = refl
+  head_of_beat b (sink digits) e = refl
   head_of_beat b denied e = refl
   head_of_beat b mask e = absurd cc
   head_of_beat b data_lanes e = absurd cc
@@ -148,11 +148,11 @@ module _ {H : Type 0} (f : Form H) where
       let three = length_append w (f.head_fields ++ mask_fields f) (data_fields f) in
       omega (arith, head, two, three)
 
-  pub line_part : (w : ℕ) (text : List ℕ) (r : HeadFields) (m d c mask_bad data_bad mask_at data_at : ℕ) → list_all is_head_field f.head_fields ≡ true
+  pub line_part : (w digits : ℕ) (text : List ℕ) (r : HeadFields) (m d c mask_bad data_bad mask_at data_at : ℕ) → list_all is_head_field f.head_fields ≡ true
       → mask_at ≡ 1 + length_of 0 f.head_fields → data_at ≡ mask_at + length_of w (mask_fields f)
-      → IsHead text f.head_fields r → IsPart w text mask_at (mask_fields f) (mask_values f m) mask_bad → IsPart w text data_at (data_fields f) (data_values f d c) data_bad
+      → IsHead digits text f.head_fields r → IsPart w text mask_at (mask_fields f) (mask_values f m) mask_bad → IsPart w text data_at (data_fields f) (data_values f d c) data_bad
       → IsPart w text 1 (fields f) (line_values r m d c) (bit_or (bit_or r.bad mask_bad) data_bad)
-  line_part w text r m d c mask_bad data_bad mask_at data_at heads first second head masks datas =
+  line_part w digits text r m d c mask_bad data_bad mask_at data_at heads first second head masks datas =
       let wide = head_length w f.head_fields heads in
       let two = length_append w f.head_fields (mask_fields f) in
       let there : mask_at ≡ 1 + length_of w f.head_fields = omega (arith, wide, first) in

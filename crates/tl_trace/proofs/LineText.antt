@@ -19,12 +19,12 @@ two_parts : (g : Field → List ℕ) (m : Bool) (x y : Field) → flat_map g (co
 two_parts g true x y = ap (λ (ys : List ℕ). g x ++ ys) (append-nil (g y))
 two_parts g false x y = refl
 
-pub line_parts : {H : Type 0} (f : Form H) {n : ℕ} (w : ℕ) (b : BeatOf H n)
+pub line_parts : {H : Type 0} (f : Form H) {n : ℕ} (w : ℕ) (b : BeatOf H n) (masked corrupts : Bool) → f.rules.masked ≡ masked → f.rules.corrupts ≡ corrupts
     → flat_map (λ field. 32 ∷ hex (digit_count w field) (value_of f b field)) f.head_fields ≡ flat_map (λ field. 32 ∷ hex (digit_count 0 field) (f.value b.head field)) f.head_fields
-    → (head_text f b.head ++ cond f.rules.masked (32 ∷ hex ((w + 3) / 4) b.mask) [])
-    ++ cond f.rules.corrupts ((32 ∷ hex (2 * w) (number_of_lanes b.lanes)) ++ 32 ∷ hex 1 (bit b.corrupt)) []
+    → (head_text f b.head ++ cond masked (32 ∷ hex ((w + 3) / 4) b.mask) [])
+    ++ cond corrupts ((32 ∷ hex (2 * w) (number_of_lanes b.lanes)) ++ 32 ∷ hex 1 (bit b.corrupt)) []
     ≡ line_text f w b
-line_parts f w b narrow =
+line_parts f w b masked corrupts has_mask has_data narrow =
     let g : Field → List ℕ = λ field. 32 ∷ hex (digit_count w field) (value_of f b field) in
     let masks = cond f.rules.masked (mask ∷ []) [] in
     let datas = cond f.rules.corrupts (data_lanes ∷ corrupt ∷ []) [] in
@@ -33,7 +33,9 @@ line_parts f w b narrow =
     flat_map-append g (f.head_fields ++ masks) datas
     ∙ ap (λ (xs : List ℕ). xs ++ flat_map g datas) (flat_map-append g f.head_fields masks ∙ ap (λ (xs : List ℕ). xs ++ flat_map g masks) narrow ∙ ap (λ (xs : List ℕ). head ++ xs) (one_part g f.rules.masked mask))
     ∙ ap (λ (xs : List ℕ). (head ++ cond f.rules.masked (g mask) []) ++ xs) (two_parts g f.rules.corrupts data_lanes corrupt) in
-    ap (λ (xs : List ℕ). f.rules.letter ∷ xs) (sym whole)
+    ap (λ (t : Bool). (head_text f b.head ++ cond t (g mask) []) ++ cond corrupts (g data_lanes ++ g corrupt) []) (sym has_mask)
+    ∙ ap (λ (t : Bool). (head_text f b.head ++ cond f.rules.masked (g mask) []) ++ cond t (g data_lanes ++ g corrupt) []) (sym has_data)
+    ∙ ap (λ (xs : List ℕ). f.rules.letter ∷ xs) (sym whole)
 
 pub width_most : (w : ℕ) → IsWidth w → w ≤ 64
 width_most w k = most k.0 k.1 k.2

@@ -35,9 +35,9 @@ same_value f {n} b data_lanes = wide_number b.lanes (64 - n)
 same_value f b opcode = refl
 same_value f b param = refl
 same_value f b size = refl
-same_value f b source = refl
+same_value f b (source digits) = refl
 same_value f b address = refl
-same_value f b sink = refl
+same_value f b (sink digits) = refl
 same_value f b denied = refl
 same_value f b mask = refl
 same_value f b corrupt = refl
@@ -87,20 +87,20 @@ same_beat {H} f w text b r =
     let narrow : List ℕ → BeatOf H w = λ ls. record { head = b.head; mask = b.mask; lanes = ls; corrupt = b.corrupt } in
     sym (ap narrow (narrowed f w text b r))
 
-pub near_a : (c m : ℕ) (text : List ℕ) (b : BeatOf HeadA c) → c ≤ 64 → IsRead form_a c text b → IsReadNear {client = c} {manager = m} text (OfA b)
-near_a c m text b le r = record { line = A (wide b); read = read_as_a c m text (wide b) (widened form_a c text b le r); same = record { a = ap Some (same_beat form_a c text b r); b = refl; c = refl; d = refl; e = refl } }
+pub near_a : (v c m : ℕ) (text : List ℕ) (b : BeatOf HeadA c) → c ≤ 64 → IsRead (form_a v) c text b → IsReadNear {client = c} {manager = m} v text (OfA b)
+near_a v c m text b le r = record { line = A (wide b); read = read_as_a v c m text (wide b) (widened (form_a v) c text b le r); same = record { a = ap Some (same_beat (form_a v) c text b r); b = refl; c = refl; d = refl; e = refl } }
 
-pub near_b : (c m : ℕ) (text : List ℕ) (b : BeatOf HeadB m) → m ≤ 64 → IsRead form_b m text b → IsReadNear {client = c} {manager = m} text (OfB b)
-near_b c m text b le r = record { line = B (wide b); read = read_as_b c m text (wide b) (widened form_b m text b le r); same = record { a = refl; b = ap Some (same_beat form_b m text b r); c = refl; d = refl; e = refl } }
+pub near_b : (v c m : ℕ) (text : List ℕ) (b : BeatOf HeadB m) → m ≤ 64 → IsRead (form_b v) m text b → IsReadNear {client = c} {manager = m} v text (OfB b)
+near_b v c m text b le r = record { line = B (wide b); read = read_as_b v c m text (wide b) (widened (form_b v) m text b le r); same = record { a = refl; b = ap Some (same_beat (form_b v) m text b r); c = refl; d = refl; e = refl } }
 
-pub near_c : (c m : ℕ) (text : List ℕ) (b : BeatOf HeadC c) → c ≤ 64 → IsRead form_c c text b → IsReadNear {client = c} {manager = m} text (OfC b)
-near_c c m text b le r = record { line = C (wide b); read = read_as_c c m text (wide b) (widened form_c c text b le r); same = record { a = refl; b = refl; c = ap Some (same_beat form_c c text b r); d = refl; e = refl } }
+pub near_c : (v c m : ℕ) (text : List ℕ) (b : BeatOf HeadC c) → c ≤ 64 → IsRead (form_c v) c text b → IsReadNear {client = c} {manager = m} v text (OfC b)
+near_c v c m text b le r = record { line = C (wide b); read = read_as_c v c m text (wide b) (widened (form_c v) c text b le r); same = record { a = refl; b = refl; c = ap Some (same_beat (form_c v) c text b r); d = refl; e = refl } }
 
-pub near_d : (c m : ℕ) (text : List ℕ) (b : BeatOf HeadD m) → m ≤ 64 → IsRead form_d m text b → IsReadNear {client = c} {manager = m} text (OfD b)
-near_d c m text b le r = record { line = D (wide b); read = read_as_d c m text (wide b) (widened form_d m text b le r); same = record { a = refl; b = refl; c = refl; d = ap Some (same_beat form_d m text b r); e = refl } }
+pub near_d : (v c m : ℕ) (text : List ℕ) (b : BeatOf HeadD m) → m ≤ 64 → IsRead (form_d v) m text b → IsReadNear {client = c} {manager = m} v text (OfD b)
+near_d v c m text b le r = record { line = D (wide b); read = read_as_d v c m text (wide b) (widened (form_d v) m text b le r); same = record { a = refl; b = refl; c = refl; d = ap Some (same_beat (form_d v) m text b r); e = refl } }
 
-pub near_e : (c m : ℕ) (text : List ℕ) (b : BeatOf HeadE c) → c ≤ 64 → IsRead form_e c text b → IsReadNear {client = c} {manager = m} text (OfE b)
-near_e c m text b le r = record { line = E (wide b); read = read_as_e c m text (wide b) (widened form_e c text b le r); same = record { a = refl; b = refl; c = refl; d = refl; e = ap Some (same_beat form_e c text b r) } }
+pub near_e : (v c m : ℕ) (text : List ℕ) (b : BeatOf HeadE c) → c ≤ 64 → IsRead (form_e v) c text b → IsReadNear {client = c} {manager = m} v text (OfE b)
+near_e v c m text b le r = record { line = E (wide b); read = read_as_e v c m text (wide b) (widened (form_e v) c text b le r); same = record { a = refl; b = refl; c = refl; d = refl; e = ap Some (same_beat (form_e v) c text b r) } }
 
-pub plain_zero : (w : ℕ) (h : HeadE) → is_plain form_e {n = w} (record { head = h; mask = 0; lanes = replicate w 0; corrupt = false }) ≡ true
-plain_zero w h = rw (zero_bits w) refl
+pub plain_zero : (v w : ℕ) (h : HeadE) → is_plain (form_e v) {n = w} (record { head = h; mask = 0; lanes = replicate w 0; corrupt = false }) ≡ true
+plain_zero v w h = rw (zero_bits w) refl

@@ -9,39 +9,39 @@ use Rattle.tl_trace.specs.declared.line.Line.TheVariants.{A, B, C, D, E}
 use Rattle.tl_trace.proofs.ReadLines.{kept_writable}
 use Rattle.tl_trace.proofs.Spelling.{only_line, is_line}
 
-pub says_only : (client manager : ℕ) (line : Line) (text : List ℕ) → SaysLine client manager line text → text ≡ text_of_line client manager line
-says_only client manager (A b) text says = only_line form_a client b text says
-says_only client manager (B b) text says = only_line form_b manager b text says
-says_only client manager (C b) text says = only_line form_c client b text says
-says_only client manager (D b) text says = only_line form_d manager b text says
-says_only client manager (E b) text says = only_line form_e client b text says
+pub says_only : (version client manager : ℕ) (line : Line) (text : List ℕ) → SaysLine version client manager line text → text ≡ text_of_line version client manager line
+says_only version client manager (A b) text says = only_line (form_a version) client b text says
+says_only version client manager (B b) text says = only_line (form_b version) manager b text says
+says_only version client manager (C b) text says = only_line (form_c version) client b text says
+says_only version client manager (D b) text says = only_line (form_d version) manager b text says
+says_only version client manager (E b) text says = only_line (form_e version) client b text says
 
-pub says_it : (client manager : ℕ) (line : Line) → is_kept_line client manager line ≡ true → SaysLine client manager line (text_of_line client manager line)
-says_it client manager (A b) kept = is_line form_a (lit≤ tt) client b (kept_writable form_a client b kept)
-says_it client manager (B b) kept = is_line form_b (lit≤ tt) manager b (kept_writable form_b manager b kept)
-says_it client manager (C b) kept = is_line form_c (lit≤ tt) client b (kept_writable form_c client b kept)
-says_it client manager (D b) kept = is_line form_d (lit≤ tt) manager b (kept_writable form_d manager b kept)
-says_it client manager (E b) kept = is_line form_e (lit≤ tt) client b (kept_writable form_e client b kept)
+pub says_it : (version client manager : ℕ) (line : Line) → is_kept_line version client manager line ≡ true → SaysLine version client manager line (text_of_line version client manager line)
+says_it version client manager (A b) kept = is_line (form_a version) (lit≤ tt) client b (kept_writable (form_a version) client b kept)
+says_it version client manager (B b) kept = is_line (form_b version) (lit≤ tt) manager b (kept_writable (form_b version) manager b kept)
+says_it version client manager (C b) kept = is_line (form_c version) (lit≤ tt) client b (kept_writable (form_c version) client b kept)
+says_it version client manager (D b) kept = is_line (form_d version) (lit≤ tt) manager b (kept_writable (form_d version) manager b kept)
+says_it version client manager (E b) kept = is_line (form_e version) (lit≤ tt) client b (kept_writable (form_e version) client b kept)
 
-pub lines_only : (client manager : ℕ) (lines : List Line) (text : List ℕ) → TellsLines client manager lines text → text ≡ lines_text client manager lines
-lines_only client manager [] text told = told
-lines_only client manager (line ∷ lines) text told =
+pub lines_only : (version client manager : ℕ) (lines : List Line) (text : List ℕ) → TellsLines version client manager lines text → text ≡ lines_text version client manager lines
+lines_only version client manager [] text told = told
+lines_only version client manager (line ∷ lines) text told =
     let body = told.0 in
     let rest = told.1 in
-    told.2 ∙ ap (λ (xs : List ℕ). xs ++ newline ++ rest) (says_only client manager line body told.3)
-    ∙ ap (λ (xs : List ℕ). text_of_line client manager line ++ newline ++ xs) (lines_only client manager lines rest told.4)
+    told.2 ∙ ap (λ (xs : List ℕ). xs ++ newline ++ rest) (says_only version client manager line body told.3)
+    ∙ ap (λ (xs : List ℕ). text_of_line version client manager line ++ newline ++ xs) (lines_only version client manager lines rest told.4)
 
-pub lines_told : (client manager : ℕ) (lines : List Line) → list_all (is_kept_line client manager) lines ≡ true → TellsLines client manager lines (lines_text client manager lines)
-lines_told client manager [] kept = refl
-lines_told client manager (line ∷ lines) kept =
-    let here = says_it client manager line (and_parts (is_kept_line client manager line) (list_all (is_kept_line client manager) lines) kept).0 in
-    let rest = lines_told client manager lines (and_parts (is_kept_line client manager line) (list_all (is_kept_line client manager) lines) kept).1 in
-    (text_of_line client manager line, lines_text client manager lines, refl, here, rest)
+pub lines_told : (version client manager : ℕ) (lines : List Line) → list_all (is_kept_line version client manager) lines ≡ true → TellsLines version client manager lines (lines_text version client manager lines)
+lines_told version client manager [] kept = refl
+lines_told version client manager (line ∷ lines) kept =
+    let here = says_it version client manager line (and_parts (is_kept_line version client manager line) (list_all (is_kept_line version client manager) lines) kept).0 in
+    let rest = lines_told version client manager lines (and_parts (is_kept_line version client manager line) (list_all (is_kept_line version client manager) lines) kept).1 in
+    (text_of_line version client manager line, lines_text version client manager lines, refl, here, rest)
 
-pub text_only : (client manager : ℕ) (lines : List Line) (text : List ℕ) → Tells text client manager lines → text ≡ trace_text client manager lines
-text_only client manager lines text tells =
-    tells.header ∙ ap (λ (xs : List ℕ). header_text client manager ++ newline ++ xs) (lines_only client manager lines tells.rest tells.told)
+pub text_only : (version client manager : ℕ) (lines : List Line) (text : List ℕ) → Tells text version client manager lines → text ≡ trace_text version client manager lines
+text_only version client manager lines text tells =
+    tells.header ∙ ap (λ (xs : List ℕ). header_text version client manager ++ newline ++ xs) (lines_only version client manager lines tells.rest tells.told)
 
-pub text_told : (client manager : ℕ) (lines : List Line) (text : List ℕ) → IsTrace client manager lines → text ≡ trace_text client manager lines → Tells text client manager lines
-text_told client manager lines text trace e =
-    record { trace = trace; rest = lines_text client manager lines; header = e; told = lines_told client manager lines trace.kept }
+pub text_told : (version client manager : ℕ) (lines : List Line) (text : List ℕ) → IsTrace version client manager lines → text ≡ trace_text version client manager lines → Tells text version client manager lines
+text_told version client manager lines text trace e =
+    record { trace = trace; rest = lines_text version client manager lines; header = e; told = lines_told version client manager lines trace.kept }

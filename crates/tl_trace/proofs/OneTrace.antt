@@ -1,5 +1,5 @@
 -- No text tells two traces.
-use Rattle.std.proofs.Common.{◌≡◌, ℕ, zero, suc, Bool, true, false, not, nat_eq, nat_lt, ◌&&◌, ◌||◌, List, [], ◌∷◌, ◌++◌, length, map, refl, sym, ap, ◌∙◌, arith, append_assoc, eq-eqb, subst}
+use Rattle.std.proofs.Common.{◌≡◌, ◌≤◌, ℕ, zero, suc, Bool, true, false, not, nat_eq, nat_lt, ◌&&◌, ◌||◌, List, [], ◌∷◌, ◌++◌, length, map, refl, sym, ap, ◌∙◌, arith, append_assoc, eq-eqb, subst}
 use Rattle.tl_msg.proofs.Beats.{same_beat}
 use Rattle.std.specs.Prelude.{decimal, codes, ◌==◌}
 use Rattle.std.proofs.lemmas.Bool.{eqb-true, ltb-true, not-true, and_parts, or_parts}
@@ -15,10 +15,10 @@ use Rattle.tl_msg.specs.declared.head.HeadD.{HeadD}
 use Rattle.tl_msg.specs.declared.head.HeadE.{HeadE}
 use Rattle.tl_trace.specs.Fields.{Form, bit, fields, value_of, number_of_lanes, form_a, form_b, form_c, form_d, form_e}
 use Rattle.tl_trace.specs.Lines.{is_lanes, IsLine, is_writable, is_plain, is_kept}
-use Rattle.tl_trace.specs.Texts.{widths, is_width, newline, header_text, SaysLine, is_kept_line, TellsLines, Tells}
+use Rattle.tl_trace.specs.Texts.{versions, widths, is_version, is_width, newline, header_text, SaysLine, is_kept_line, TellsLines, Tells}
 use Rattle.tl_trace.specs.declared.line.Line.{Line}
 use Rattle.tl_trace.specs.declared.line.Line.TheVariants.{A, B, C, D, E}
-use Rattle.tl_trace.proofs.Headers.{width_small}
+use Rattle.tl_trace.proofs.Headers.{width_small, version_small}
 use Rattle.tl_trace.proofs.Cover.{says_free}
 
 -- ---- cutting at a byte
@@ -55,44 +55,69 @@ in_list p (x ∷ xs) w e all = pick (w == x) refl e (and_parts (p x) (list_all p
     pick true is any here more rest = ap p (eqb-true w x is) ∙ here
     pick false is any here more rest = more any rest
 
+-- no number of the list has this byte among its digits
+clear : (stop : ℕ) (xs : List ℕ) (n : ℕ) → list_any (λ x. n == x) xs ≡ true → list_all (λ x. not (list_any (λ b. b == stop) (decimal x))) xs ≡ true → Without stop (decimal n)
+clear stop xs n is all = not-true (list_any (λ b. b == stop) (decimal n)) (in_list (λ x. not (list_any (λ b. b == stop) (decimal x))) xs n is all)
+
 no_space : (w : ℕ) → is_width w ≡ true → Without 32 (decimal w)
 unfolding digits
-no_space w is = not-true (list_any (λ b. b == 32) (decimal w)) (in_list (λ w. not (list_any (λ b. b == 32) (decimal w))) widths w is refl)
+no_space w is = clear 32 widths w is refl
 
 pub no_newline : (w : ℕ) → is_width w ≡ true → Without 10 (decimal w)
 unfolding digits
-no_newline w is = not-true (list_any (λ b. b == 10) (decimal w)) (in_list (λ w. not (list_any (λ b. b == 10) (decimal w))) widths w is refl)
+no_newline w is = clear 10 widths w is refl
 
-same_number : (m n : ℕ) → is_width m ≡ true → is_width n ≡ true → decimal m ≡ decimal n → m ≡ n
-same_number m n is is' e =
-    let small = width_small m is in
-    let small' = width_small n is' in
-    sym (decimal_is_IsNumeral m (omega arith)).1 ∙ ap (digits_value 10) e ∙ (decimal_is_IsNumeral n (omega arith)).1
+no_space_in_version : (version : ℕ) → is_version version ≡ true → Without 32 (decimal version)
+unfolding digits
+no_space_in_version version is = clear 32 versions version is refl
+
+pub no_newline_in_version : (version : ℕ) → is_version version ≡ true → Without 10 (decimal version)
+unfolding digits
+no_newline_in_version version is = clear 10 versions version is refl
+
+same_number : (m n : ℕ) → m ≤ 64 → n ≤ 64 → decimal m ≡ decimal n → m ≡ n
+same_number m n small small' e = sym (decimal_is_IsNumeral m (omega arith)).1 ∙ ap (digits_value 10) e ∙ (decimal_is_IsNumeral n (omega arith)).1
 
 cancel : (xs ys zs : List ℕ) → xs ++ ys ≡ xs ++ zs → ys ≡ zs
 cancel [] ys zs e = e
 cancel (x ∷ xs) ys zs e = cancel xs ys zs cc
 
-pub record SameHeader (client manager client' manager' : ℕ) (rest rest' : List ℕ) : Type 0 where
+pub record SameHeader (version client manager version' client' manager' : ℕ) (rest rest' : List ℕ) : Type 0 where
+  pub versions : version ≡ version'
   pub clients : client ≡ client'
   pub managers : manager ≡ manager'
   pub rests : rest ≡ rest'
 
-regroup : (a b c d e : List ℕ) → a ++ b ++ c ++ d ++ newline ++ e ≡ a ++ (b ++ (c ++ (d ++ newline ++ e)))
-regroup a b c d e = simp append_assoc
+flat : (a b c d e f g : List ℕ) → (a ++ b ++ c ++ d ++ e ++ f) ++ newline ++ g ≡ a ++ (b ++ (c ++ (d ++ (e ++ (f ++ 10 ∷ g)))))
+flat a b c d e f g = simp append_assoc
 
-flat : (a b c d e : List ℕ) → (a ++ b ++ c ++ d) ++ newline ++ e ≡ a ++ (b ++ (c ++ (d ++ 10 ∷ e)))
-flat a b c d e = simp append_assoc
+-- what stands behind the version, and behind the client's width
+abbrev behind_version : (client manager : ℕ) → List ℕ → List ℕ
+behind_version client manager rest = decimal client ++ (codes " manager " ++ (decimal manager ++ 10 ∷ rest))
 
-pub same_header : (client manager client' manager' : ℕ) (rest rest' : List ℕ) → is_width client ≡ true → is_width manager ≡ true → is_width client' ≡ true → is_width manager' ≡ true
-    → header_text client manager ++ newline ++ rest ≡ header_text client' manager' ++ newline ++ rest' → SameHeader client manager client' manager' rest rest'
-same_header client manager client' manager' rest rest' c m c' m' e =
-    let e1 = sym (flat (codes "tilelink-trace 1 client ") (decimal client) (codes " manager ") (decimal manager) rest) ∙ e ∙ flat (codes "tilelink-trace 1 client ") (decimal client') (codes " manager ") (decimal manager') rest' in
-    let e2 = cancel (codes "tilelink-trace 1 client ") (decimal client ++ (codes " manager " ++ (decimal manager ++ 10 ∷ rest))) (decimal client' ++ (codes " manager " ++ (decimal manager' ++ 10 ∷ rest'))) e1 in
-    let s1 = split_at 32 (decimal client) (decimal client') (codes "manager " ++ (decimal manager ++ 10 ∷ rest)) (codes "manager " ++ (decimal manager' ++ 10 ∷ rest')) e2 (no_space client c) (no_space client' c') in
-    let e3 = cancel (codes "manager ") (decimal manager ++ 10 ∷ rest) (decimal manager' ++ 10 ∷ rest') s1.back in
+abbrev behind_client : (manager : ℕ) → List ℕ → List ℕ
+behind_client manager rest = decimal manager ++ 10 ∷ rest
+
+whole_header : (version client manager : ℕ) (rest : List ℕ) → header_text version client manager ++ newline ++ rest ≡ codes "tilelink-trace " ++ (decimal version ++ (codes " client " ++ behind_version client manager rest))
+whole_header version client manager rest = flat (codes "tilelink-trace ") (decimal version) (codes " client ") (decimal client) (codes " manager ") (decimal manager) rest
+
+pub same_header : (version client manager version' client' manager' : ℕ) (rest rest' : List ℕ) → is_version version ≡ true → is_width client ≡ true → is_width manager ≡ true
+    → is_version version' ≡ true → is_width client' ≡ true → is_width manager' ≡ true
+    → header_text version client manager ++ newline ++ rest ≡ header_text version' client' manager' ++ newline ++ rest' → SameHeader version client manager version' client' manager' rest rest'
+same_header version client manager version' client' manager' rest rest' v c m v' c' m' e =
+    let e0 = sym (whole_header version client manager rest) ∙ e ∙ whole_header version' client' manager' rest' in
+    let e1 = cancel (codes "tilelink-trace ") (decimal version ++ (codes " client " ++ behind_version client manager rest)) (decimal version' ++ (codes " client " ++ behind_version client' manager' rest')) e0 in
+    let s0 = split_at 32 (decimal version) (decimal version') (codes "client " ++ behind_version client manager rest) (codes "client " ++ behind_version client' manager' rest') e1 (no_space_in_version version v) (no_space_in_version version' v') in
+    let e2 = cancel (codes "client ") (behind_version client manager rest) (behind_version client' manager' rest') s0.back in
+    let s1 = split_at 32 (decimal client) (decimal client') (codes "manager " ++ behind_client manager rest) (codes "manager " ++ behind_client manager' rest') e2 (no_space client c) (no_space client' c') in
+    let e3 = cancel (codes "manager ") (behind_client manager rest) (behind_client manager' rest') s1.back in
     let s2 = split_at 10 (decimal manager) (decimal manager') rest rest' e3 (no_newline manager m) (no_newline manager' m') in
-    record { clients = same_number client client' c c' s1.front; managers = same_number manager manager' m m' s2.front; rests = s2.back }
+    record {
+      versions = same_number version version' (version_small version v) (version_small version' v') s0.front;
+      clients = same_number client client' (width_small client c) (width_small client' c') s1.front;
+      managers = same_number manager manager' (width_small manager m) (width_small manager' m') s2.front;
+      rests = s2.back;
+    }
 
 -- ---- one beat
 
@@ -173,15 +198,15 @@ same_7 x0 x1 x2 x3 x4 x5 x6 y0 y1 y2 y3 y4 y5 y6 e = (cc, cc, cc, cc, cc, cc, cc
 same_8 : (x0 x1 x2 x3 x4 x5 x6 x7 y0 y1 y2 y3 y4 y5 y6 y7 : ℕ) → x0 ∷ x1 ∷ x2 ∷ x3 ∷ x4 ∷ x5 ∷ x6 ∷ x7 ∷ [] ≡ y0 ∷ y1 ∷ y2 ∷ y3 ∷ y4 ∷ y5 ∷ y6 ∷ y7 ∷ [] → (x0 ≡ y0) × (x1 ≡ y1) × (x2 ≡ y2) × (x3 ≡ y3) × (x4 ≡ y4) × (x5 ≡ y5) × (x6 ≡ y6) × (x7 ≡ y7)
 same_8 x0 x1 x2 x3 x4 x5 x6 x7 y0 y1 y2 y3 y4 y5 y6 y7 e = (cc, cc, cc, cc, cc, cc, cc, cc)
 
-line_a : (w : ℕ) (x y : BeatOf HeadA 64) (text : List ℕ) → is_kept form_a w x ≡ true → is_kept form_a w y ≡ true → IsLine form_a w x text → IsLine form_a w y text → x ≡ y
-line_a w x y text kept kept' a b =
-    let v = same_8 _ _ _ _ _ _ _ _ _ _ _ _ _ _ _ _ (same_values form_a w x y text a b) in
-    same_beat x y (head_a x.head y.head v.0 v.1 v.2 v.3 v.4) v.5 (kept_lanes form_a w x y kept kept' v.6) (bit_same x.corrupt y.corrupt v.7)
+line_a : (version w : ℕ) (x y : BeatOf HeadA 64) (text : List ℕ) → is_kept (form_a version) w x ≡ true → is_kept (form_a version) w y ≡ true → IsLine (form_a version) w x text → IsLine (form_a version) w y text → x ≡ y
+line_a version w x y text kept kept' a b =
+    let v = same_8 _ _ _ _ _ _ _ _ _ _ _ _ _ _ _ _ (same_values (form_a version) w x y text a b) in
+    same_beat x y (head_a x.head y.head v.0 v.1 v.2 v.3 v.4) v.5 (kept_lanes (form_a version) w x y kept kept' v.6) (bit_same x.corrupt y.corrupt v.7)
 
-line_b : (w : ℕ) (x y : BeatOf HeadB 64) (text : List ℕ) → is_kept form_b w x ≡ true → is_kept form_b w y ≡ true → IsLine form_b w x text → IsLine form_b w y text → x ≡ y
-line_b w x y text kept kept' a b =
-    let v = same_8 _ _ _ _ _ _ _ _ _ _ _ _ _ _ _ _ (same_values form_b w x y text a b) in
-    same_beat x y (head_b x.head y.head v.0 v.1 v.2 v.3 v.4) v.5 (kept_lanes form_b w x y kept kept' v.6) (bit_same x.corrupt y.corrupt v.7)
+line_b : (version w : ℕ) (x y : BeatOf HeadB 64) (text : List ℕ) → is_kept (form_b version) w x ≡ true → is_kept (form_b version) w y ≡ true → IsLine (form_b version) w x text → IsLine (form_b version) w y text → x ≡ y
+line_b version w x y text kept kept' a b =
+    let v = same_8 _ _ _ _ _ _ _ _ _ _ _ _ _ _ _ _ (same_values (form_b version) w x y text a b) in
+    same_beat x y (head_b x.head y.head v.0 v.1 v.2 v.3 v.4) v.5 (kept_lanes (form_b version) w x y kept kept' v.6) (bit_same x.corrupt y.corrupt v.7)
 
 mask_zero : (masked : Bool) (mask : ℕ) (other : Bool) → masked ≡ false → (masked || nat_eq mask 0) && other ≡ true → mask ≡ 0
 mask_zero true mask other e h = absurd cc
@@ -192,15 +217,15 @@ no_mask f w x y kept kept' e =
     mask_zero f.rules.masked x.mask (f.rules.corrupts || (list_all (λ lane. nat_eq lane 0) x.lanes && not x.corrupt)) e (plain_of f w x kept)
     ∙ sym (mask_zero f.rules.masked y.mask (f.rules.corrupts || (list_all (λ lane. nat_eq lane 0) y.lanes && not y.corrupt)) e (plain_of f w y kept'))
 
-line_c : (w : ℕ) (x y : BeatOf HeadC 64) (text : List ℕ) → is_kept form_c w x ≡ true → is_kept form_c w y ≡ true → IsLine form_c w x text → IsLine form_c w y text → x ≡ y
-line_c w x y text kept kept' a b =
-    let v = same_7 _ _ _ _ _ _ _ _ _ _ _ _ _ _ (same_values form_c w x y text a b) in
-    same_beat x y (head_c x.head y.head v.0 v.1 v.2 v.3 v.4) (no_mask form_c w x y kept kept' refl) (kept_lanes form_c w x y kept kept' v.5) (bit_same x.corrupt y.corrupt v.6)
+line_c : (version w : ℕ) (x y : BeatOf HeadC 64) (text : List ℕ) → is_kept (form_c version) w x ≡ true → is_kept (form_c version) w y ≡ true → IsLine (form_c version) w x text → IsLine (form_c version) w y text → x ≡ y
+line_c version w x y text kept kept' a b =
+    let v = same_7 _ _ _ _ _ _ _ _ _ _ _ _ _ _ (same_values (form_c version) w x y text a b) in
+    same_beat x y (head_c x.head y.head v.0 v.1 v.2 v.3 v.4) (no_mask (form_c version) w x y kept kept' refl) (kept_lanes (form_c version) w x y kept kept' v.5) (bit_same x.corrupt y.corrupt v.6)
 
-line_d : (w : ℕ) (x y : BeatOf HeadD 64) (text : List ℕ) → is_kept form_d w x ≡ true → is_kept form_d w y ≡ true → IsLine form_d w x text → IsLine form_d w y text → x ≡ y
-line_d w x y text kept kept' a b =
-    let v = same_8 _ _ _ _ _ _ _ _ _ _ _ _ _ _ _ _ (same_values form_d w x y text a b) in
-    same_beat x y (head_d x.head y.head v.0 v.1 v.2 v.3 v.4 (bit_same x.head.denied y.head.denied v.5)) (no_mask form_d w x y kept kept' refl) (kept_lanes form_d w x y kept kept' v.6) (bit_same x.corrupt y.corrupt v.7)
+line_d : (version w : ℕ) (x y : BeatOf HeadD 64) (text : List ℕ) → is_kept (form_d version) w x ≡ true → is_kept (form_d version) w y ≡ true → IsLine (form_d version) w x text → IsLine (form_d version) w y text → x ≡ y
+line_d version w x y text kept kept' a b =
+    let v = same_8 _ _ _ _ _ _ _ _ _ _ _ _ _ _ _ _ (same_values (form_d version) w x y text a b) in
+    same_beat x y (head_d x.head y.head v.0 v.1 v.2 v.3 v.4 (bit_same x.head.denied y.head.denied v.5)) (no_mask (form_d version) w x y kept kept' refl) (kept_lanes (form_d version) w x y kept kept' v.6) (bit_same x.corrupt y.corrupt v.7)
 
 no_lanes : (lanes : List ℕ) → list_all (λ lane. nat_eq lane 0) lanes ≡ true → number_of_lanes lanes ≡ 0
 no_lanes [] e = refl
@@ -209,17 +234,17 @@ no_lanes (lane ∷ lanes) e =
     let rest = no_lanes lanes (and_parts (nat_eq lane 0) (list_all (λ lane. nat_eq lane 0) lanes) e).1 in
     omega arith
 
-plain_e : (w : ℕ) (x : BeatOf HeadE 64) → is_kept form_e w x ≡ true → (list_all (λ lane. nat_eq lane 0) x.lanes ≡ true) × (x.corrupt ≡ false)
-plain_e w x kept =
-    let plain = (and_parts (nat_eq x.mask 0) (list_all (λ lane. nat_eq lane 0) x.lanes && not x.corrupt) (plain_of form_e w x kept)).1 in
+plain_e : (version w : ℕ) (x : BeatOf HeadE 64) → is_kept (form_e version) w x ≡ true → (list_all (λ lane. nat_eq lane 0) x.lanes ≡ true) × (x.corrupt ≡ false)
+plain_e version w x kept =
+    let plain = (and_parts (nat_eq x.mask 0) (list_all (λ lane. nat_eq lane 0) x.lanes && not x.corrupt) (plain_of (form_e version) w x kept)).1 in
     ((and_parts (list_all (λ lane. nat_eq lane 0) x.lanes) (not x.corrupt) plain).0, not-true x.corrupt (and_parts (list_all (λ lane. nat_eq lane 0) x.lanes) (not x.corrupt) plain).1)
 
-line_e : (w : ℕ) (x y : BeatOf HeadE 64) (text : List ℕ) → is_kept form_e w x ≡ true → is_kept form_e w y ≡ true → IsLine form_e w x text → IsLine form_e w y text → x ≡ y
-line_e w x y text kept kept' a b =
-    let v : x.head.sink ∷ [] ≡ y.head.sink ∷ [] = same_values form_e w x y text a b in
-    let px = plain_e w x kept in
-    let py = plain_e w y kept' in
-    same_beat x y (head_e x.head y.head cc) (no_mask form_e w x y kept kept' refl) (kept_lanes form_e w x y kept kept' (no_lanes x.lanes px.0 ∙ sym (no_lanes y.lanes py.0))) (px.1 ∙ sym py.1)
+line_e : (version w : ℕ) (x y : BeatOf HeadE 64) (text : List ℕ) → is_kept (form_e version) w x ≡ true → is_kept (form_e version) w y ≡ true → IsLine (form_e version) w x text → IsLine (form_e version) w y text → x ≡ y
+line_e version w x y text kept kept' a b =
+    let v : x.head.sink ∷ [] ≡ y.head.sink ∷ [] = same_values (form_e version) w x y text a b in
+    let px = plain_e version w x kept in
+    let py = plain_e version w y kept' in
+    same_beat x y (head_e x.head y.head cc) (no_mask (form_e version) w x y kept kept' refl) (kept_lanes (form_e version) w x y kept kept' (no_lanes x.lanes px.0 ∙ sym (no_lanes y.lanes py.0))) (px.1 ∙ sym py.1)
 
 letter_of : Line → ℕ
 letter_of (A b) = 65
@@ -228,56 +253,58 @@ letter_of (C b) = 67
 letter_of (D b) = 68
 letter_of (E b) = 69
 
-letter_is : (client manager : ℕ) (line : Line) (text : List ℕ) → SaysLine client manager line text → slice_index text 0 ≡ letter_of line
+letter_is : (version client manager : ℕ) (line : Line) (text : List ℕ) → SaysLine version client manager line text → slice_index text 0 ≡ letter_of line
 unfolding letter_of
-letter_is client manager (A b) text says = says.letter
-letter_is client manager (B b) text says = says.letter
-letter_is client manager (C b) text says = says.letter
-letter_is client manager (D b) text says = says.letter
-letter_is client manager (E b) text says = says.letter
+letter_is version client manager (A b) text says = says.letter
+letter_is version client manager (B b) text says = says.letter
+letter_is version client manager (C b) text says = says.letter
+letter_is version client manager (D b) text says = says.letter
+letter_is version client manager (E b) text says = says.letter
 
-same_letter : (client manager : ℕ) (line line' : Line) (text : List ℕ) → SaysLine client manager line text → SaysLine client manager line' text → letter_of line ≡ letter_of line'
-same_letter client manager line line' text says says' = sym (letter_is client manager line text says) ∙ letter_is client manager line' text says'
+same_letter : (version client manager : ℕ) (line line' : Line) (text : List ℕ) → SaysLine version client manager line text → SaysLine version client manager line' text → letter_of line ≡ letter_of line'
+same_letter version client manager line line' text says says' = sym (letter_is version client manager line text says) ∙ letter_is version client manager line' text says'
 
-line_same : (client manager : ℕ) (line line' : Line) (text : List ℕ) → is_kept_line client manager line ≡ true → is_kept_line client manager line' ≡ true → SaysLine client manager line text → SaysLine client manager line' text → letter_of line ≡ letter_of line' → line ≡ line'
+line_same : (version client manager : ℕ) (line line' : Line) (text : List ℕ) → is_kept_line version client manager line ≡ true → is_kept_line version client manager line' ≡ true → SaysLine version client manager line text → SaysLine version client manager line' text → letter_of line ≡ letter_of line' → line ≡ line'
 unfolding letter_of
-line_same client manager (A x) (A y) text kept kept' says says' e = ap A (line_a client x y text kept kept' says says')
-line_same client manager (B x) (B y) text kept kept' says says' e = ap B (line_b manager x y text kept kept' says says')
-line_same client manager (C x) (C y) text kept kept' says says' e = ap C (line_c client x y text kept kept' says says')
-line_same client manager (D x) (D y) text kept kept' says says' e = ap D (line_d manager x y text kept kept' says says')
-line_same client manager (E x) (E y) text kept kept' says says' e = ap E (line_e client x y text kept kept' says says')
-line_same client manager x y text kept kept' says says' e = absurd (omega arith)
+line_same version client manager (A x) (A y) text kept kept' says says' e = ap A (line_a version client x y text kept kept' says says')
+line_same version client manager (B x) (B y) text kept kept' says says' e = ap B (line_b version manager x y text kept kept' says says')
+line_same version client manager (C x) (C y) text kept kept' says says' e = ap C (line_c version client x y text kept kept' says says')
+line_same version client manager (D x) (D y) text kept kept' says says' e = ap D (line_d version manager x y text kept kept' says says')
+line_same version client manager (E x) (E y) text kept kept' says says' e = ap E (line_e version client x y text kept kept' says says')
+line_same version client manager x y text kept kept' says says' e = absurd (omega arith)
 
 long_line : (body rest : List ℕ) → body ++ newline ++ rest ≡ [] → ⊥
 long_line [] rest e = cc
 long_line (b ∷ body) rest e = cc
 
-pub lines_same : (client manager : ℕ) (lines lines' : List Line) (text : List ℕ) → list_all (is_kept_line client manager) lines ≡ true → list_all (is_kept_line client manager) lines' ≡ true
-    → TellsLines client manager lines text → TellsLines client manager lines' text → lines ≡ lines'
-lines_same client manager [] [] text kept kept' told told' = refl
-lines_same client manager [] (line ∷ lines') text kept kept' told told' = absurd (long_line told'.0 told'.1 (sym told'.2 ∙ told))
-lines_same client manager (line ∷ lines) [] text kept kept' told told' = absurd (long_line told.0 told.1 (sym told.2 ∙ told'))
-lines_same client manager (line ∷ lines) (line' ∷ lines') text kept kept' told told' =
-    let free = says_free client manager line told.0 told.3 in
-    let free' = says_free client manager line' told'.0 told'.3 in
+pub lines_same : (version client manager : ℕ) (lines lines' : List Line) (text : List ℕ) → list_all (is_kept_line version client manager) lines ≡ true → list_all (is_kept_line version client manager) lines' ≡ true
+    → TellsLines version client manager lines text → TellsLines version client manager lines' text → lines ≡ lines'
+lines_same version client manager [] [] text kept kept' told told' = refl
+lines_same version client manager [] (line ∷ lines') text kept kept' told told' = absurd (long_line told'.0 told'.1 (sym told'.2 ∙ told))
+lines_same version client manager (line ∷ lines) [] text kept kept' told told' = absurd (long_line told.0 told.1 (sym told.2 ∙ told'))
+lines_same version client manager (line ∷ lines) (line' ∷ lines') text kept kept' told told' =
+    let free = says_free version client manager line told.0 told.3 in
+    let free' = says_free version client manager line' told'.0 told'.3 in
     let parts = split_at 10 told.0 told'.0 told.1 told'.1 (sym (append_assoc told.0 newline told.1) ∙ sym told.2 ∙ told'.2 ∙ append_assoc told'.0 newline told'.1) free free' in
-    let P : List ℕ → Type 0 = SaysLine client manager line' in
+    let P : List ℕ → Type 0 = SaysLine version client manager line' in
     let says' = subst P (sym parts.front) told'.3 in
-    let Q : List ℕ → Type 0 = TellsLines client manager lines' in
+    let Q : List ℕ → Type 0 = TellsLines version client manager lines' in
     let rest' = subst Q (sym parts.back) told'.4 in
-    let here = line_same client manager line line' told.0 (and_parts (is_kept_line client manager line) (list_all (is_kept_line client manager) lines) kept).0 (and_parts (is_kept_line client manager line') (list_all (is_kept_line client manager) lines') kept').0 told.3 says' (same_letter client manager line line' told.0 told.3 says') in
-    let more = lines_same client manager lines lines' told.1 (and_parts (is_kept_line client manager line) (list_all (is_kept_line client manager) lines) kept).1 (and_parts (is_kept_line client manager line') (list_all (is_kept_line client manager) lines') kept').1 told.4 rest' in
+    let here = line_same version client manager line line' told.0 (and_parts (is_kept_line version client manager line) (list_all (is_kept_line version client manager) lines) kept).0 (and_parts (is_kept_line version client manager line') (list_all (is_kept_line version client manager) lines') kept').0 told.3 says' (same_letter version client manager line line' told.0 told.3 says') in
+    let more = lines_same version client manager lines lines' told.1 (and_parts (is_kept_line version client manager line) (list_all (is_kept_line version client manager) lines) kept).1 (and_parts (is_kept_line version client manager line') (list_all (is_kept_line version client manager) lines') kept').1 told.4 rest' in
     ap (λ (l : Line). l ∷ lines) here ∙ ap (λ (ls : List Line). line' ∷ ls) more
 
-pub one_trace : (text : List ℕ) (client manager : ℕ) (lines : List Line) (client' manager' : ℕ) (lines' : List Line) → Tells text client manager lines → Tells text client' manager' lines'
-    → (client ≡ client') × (manager ≡ manager') × (lines ≡ lines')
-one_trace text client manager lines client' manager' lines' t t' =
-    let h = same_header client manager client' manager' t.rest t'.rest t.trace.client_width t.trace.manager_width t'.trace.client_width t'.trace.manager_width (sym t.header ∙ t'.header) in
-    let P : ℕ → Type 0 = λ c. TellsLines c manager' lines' t.rest in
-    let Q : ℕ → Type 0 = λ m. TellsLines client m lines' t.rest in
-    let R : List ℕ → Type 0 = TellsLines client' manager' lines' in
-    let K : ℕ → Type 0 = λ c. list_all (is_kept_line c manager') lines' ≡ true in
-    let L : ℕ → Type 0 = λ m. list_all (is_kept_line client m) lines' ≡ true in
-    let told' = subst Q (sym h.managers) (subst P (sym h.clients) (subst R (sym h.rests) t'.told)) in
-    let kept' = subst L (sym h.managers) (subst K (sym h.clients) t'.trace.kept) in
-    (h.clients, h.managers, lines_same client manager lines lines' t.rest t.trace.kept kept' t.told told')
+pub one_trace : (text : List ℕ) (version client manager : ℕ) (lines : List Line) (version' client' manager' : ℕ) (lines' : List Line) → Tells text version client manager lines → Tells text version' client' manager' lines'
+    → (version ≡ version') × (client ≡ client') × (manager ≡ manager') × (lines ≡ lines')
+one_trace text version client manager lines version' client' manager' lines' t t' =
+    let h = same_header version client manager version' client' manager' t.rest t'.rest t.trace.known_version t.trace.client_width t.trace.manager_width t'.trace.known_version t'.trace.client_width t'.trace.manager_width (sym t.header ∙ t'.header) in
+    let O : ℕ → Type 0 = λ v. TellsLines v client' manager' lines' t.rest in
+    let P : ℕ → Type 0 = λ c. TellsLines version c manager' lines' t.rest in
+    let Q : ℕ → Type 0 = λ m. TellsLines version client m lines' t.rest in
+    let R : List ℕ → Type 0 = TellsLines version' client' manager' lines' in
+    let J : ℕ → Type 0 = λ v. list_all (is_kept_line v client' manager') lines' ≡ true in
+    let K : ℕ → Type 0 = λ c. list_all (is_kept_line version c manager') lines' ≡ true in
+    let L : ℕ → Type 0 = λ m. list_all (is_kept_line version client m) lines' ≡ true in
+    let told' = subst Q (sym h.managers) (subst P (sym h.clients) (subst O (sym h.versions) (subst R (sym h.rests) t'.told))) in
+    let kept' = subst L (sym h.managers) (subst K (sym h.clients) (subst J (sym h.versions) t'.trace.kept)) in
+    (h.versions, h.clients, h.managers, lines_same version client manager lines lines' t.rest t.trace.kept kept' t.told told')

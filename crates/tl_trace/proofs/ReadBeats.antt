@@ -20,9 +20,9 @@ use Rattle.std.specs.List.{list_any}
 use Rattle.std.proofs.Common.{inl, inr}
 
 -- what has been read of a text
-pub record Progress {C M : ℕ} (text : List ℕ) (start : ℕ) (s : Script C M) (at before : ℕ) : Type 0 where
+pub record Progress {C M : ℕ} (version : ℕ) (text : List ℕ) (start : ℕ) (s : Script C M) (at before : ℕ) : Type 0 where
   pub lines : List Line
-  pub far : SoFar text start C M lines at before
+  pub far : SoFar text start version C M lines at before
   pub script : IsScriptOf lines s
 
 one : {X : Type 0} (o : Option X) → cons_option o [] ≡ option_to_list o
@@ -58,12 +58,12 @@ pub on_was : {A E : Type 0} {P : Type 0} (r : Result A E) (v : A) → OnOk r P �
 on_was (Ok w) v p e = p
 on_was (Err x) v p e = absurd cc
 
-pub more : {C M : ℕ} (text : List ℕ) (start : ℕ) (s s' : Script C M) (at before end : ℕ) (near : Near C M) → Progress text start s at before → LineAt text at end
-    → IsReadNear (slice_range text at end) near → end < length text → IsPushed near s s' → Progress text start s' (end + 1) (before + 1)
-more {C} {M} text start s s' at before end near p line r lt put =
+pub more : {C M : ℕ} (version : ℕ) (text : List ℕ) (start : ℕ) (s s' : Script C M) (at before end : ℕ) (near : Near C M) → Progress version text start s at before → LineAt text at end
+    → IsReadNear version (slice_range text at end) near → end < length text → IsPushed near s s' → Progress version text start s' (end + 1) (before + 1)
+more {C} {M} version text start s s' at before end near p line r lt put =
     record {
       lines = p.lines ++ r.line ∷ [];
-      far = advance text start C M p.lines at before end r.line p.far line r.read lt;
+      far = advance text start version C M p.lines at before end r.line p.far line r.read lt;
       script = pushed p.lines r.line s s' near p.script r.same put;
     }
 

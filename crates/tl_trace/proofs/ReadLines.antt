@@ -22,20 +22,20 @@ use Rattle.tl_trace.proofs.Shaped.{faultless}
 pub kept_writable : {H : Type 0} (f : Form H) {n : ℕ} (w : ℕ) (b : BeatOf H n) → is_kept f w b ≡ true → is_writable f w b ≡ true
 kept_writable f {n} w b kept = (and_parts (is_writable f w b) (is_plain f b) (and_parts (is_lanes n b.lanes) (is_writable f w b && is_plain f b) kept).1).0
 
-pub read_as_a : (client manager : ℕ) (text : List ℕ) (b : BeatOf HeadA 64) → IsRead form_a client text b → IsReadLine client manager text (A b)
-read_as_a client manager text b r = record { says = r.line; kept = r.kept; faultless = rw r.line.letter (faultless form_a client b text r.line (kept_writable form_a client b r.kept)) }
+pub read_as_a : (version client manager : ℕ) (text : List ℕ) (b : BeatOf HeadA 64) → IsRead (form_a version) client text b → IsReadLine version client manager text (A b)
+read_as_a version client manager text b r = record { says = r.line; kept = r.kept; faultless = rw r.line.letter (faultless (form_a version) client b text r.line (kept_writable (form_a version) client b r.kept)) }
 
-pub read_as_b : (client manager : ℕ) (text : List ℕ) (b : BeatOf HeadB 64) → IsRead form_b manager text b → IsReadLine client manager text (B b)
-read_as_b client manager text b r = record { says = r.line; kept = r.kept; faultless = rw r.line.letter (faultless form_b manager b text r.line (kept_writable form_b manager b r.kept)) }
+pub read_as_b : (version client manager : ℕ) (text : List ℕ) (b : BeatOf HeadB 64) → IsRead (form_b version) manager text b → IsReadLine version client manager text (B b)
+read_as_b version client manager text b r = record { says = r.line; kept = r.kept; faultless = rw r.line.letter (faultless (form_b version) manager b text r.line (kept_writable (form_b version) manager b r.kept)) }
 
-pub read_as_c : (client manager : ℕ) (text : List ℕ) (b : BeatOf HeadC 64) → IsRead form_c client text b → IsReadLine client manager text (C b)
-read_as_c client manager text b r = record { says = r.line; kept = r.kept; faultless = rw r.line.letter (faultless form_c client b text r.line (kept_writable form_c client b r.kept)) }
+pub read_as_c : (version client manager : ℕ) (text : List ℕ) (b : BeatOf HeadC 64) → IsRead (form_c version) client text b → IsReadLine version client manager text (C b)
+read_as_c version client manager text b r = record { says = r.line; kept = r.kept; faultless = rw r.line.letter (faultless (form_c version) client b text r.line (kept_writable (form_c version) client b r.kept)) }
 
-pub read_as_d : (client manager : ℕ) (text : List ℕ) (b : BeatOf HeadD 64) → IsRead form_d manager text b → IsReadLine client manager text (D b)
-read_as_d client manager text b r = record { says = r.line; kept = r.kept; faultless = rw r.line.letter (faultless form_d manager b text r.line (kept_writable form_d manager b r.kept)) }
+pub read_as_d : (version client manager : ℕ) (text : List ℕ) (b : BeatOf HeadD 64) → IsRead (form_d version) manager text b → IsReadLine version client manager text (D b)
+read_as_d version client manager text b r = record { says = r.line; kept = r.kept; faultless = rw r.line.letter (faultless (form_d version) manager b text r.line (kept_writable (form_d version) manager b r.kept)) }
 
-pub read_as_e : (client manager : ℕ) (text : List ℕ) (b : BeatOf HeadE 64) → IsRead form_e client text b → IsReadLine client manager text (E b)
-read_as_e client manager text b r = record { says = r.line; kept = r.kept; faultless = rw r.line.letter (faultless form_e client b text r.line (kept_writable form_e client b r.kept)) }
+pub read_as_e : (version client manager : ℕ) (text : List ℕ) (b : BeatOf HeadE 64) → IsRead (form_e version) client text b → IsReadLine version client manager text (E b)
+read_as_e version client manager text b r = record { says = r.line; kept = r.kept; faultless = rw r.line.letter (faultless (form_e version) client b text r.line (kept_writable (form_e version) client b r.kept)) }
 
 -- ---- cutting
 
@@ -122,20 +122,20 @@ one_more n more = onto n ∙ ap (λ (k : ℕ). replicate k None ++ more) (sym (a
     onto zero = refl
     onto (suc n) = ap (λ (xs : List (Option TraceKind)). None ∷ xs) (onto n)
 
-pub told_more : (client manager : ℕ) (lines : List Line) (line : Line) (text body : List ℕ) → TellsLines client manager lines text → SaysLine client manager line body
-    → TellsLines client manager (lines ++ line ∷ []) (text ++ body ++ newline)
-told_more client manager [] line text body told says = (body, [], ap (λ (xs : List ℕ). xs ++ body ++ newline) told ∙ sym (append-nil (body ++ newline)), says, refl)
-told_more client manager (first ∷ lines) line text body told says =
+pub told_more : (version client manager : ℕ) (lines : List Line) (line : Line) (text body : List ℕ) → TellsLines version client manager lines text → SaysLine version client manager line body
+    → TellsLines version client manager (lines ++ line ∷ []) (text ++ body ++ newline)
+told_more version client manager [] line text body told says = (body, [], ap (λ (xs : List ℕ). xs ++ body ++ newline) told ∙ sym (append-nil (body ++ newline)), says, refl)
+told_more version client manager (first ∷ lines) line text body told says =
     let front = told.0 in
     let rest = told.1 in
-    (front, rest ++ body ++ newline, ap (λ (xs : List ℕ). xs ++ body ++ newline) told.2 ∙ simp append_assoc, told.3, told_more client manager lines line rest body told.4 says)
+    (front, rest ++ body ++ newline, ap (λ (xs : List ℕ). xs ++ body ++ newline) told.2 ∙ simp append_assoc, told.3, told_more version client manager lines line rest body told.4 says)
 
 -- what the walk has read of a text
-pub record SoFar (text : List ℕ) (start client manager : ℕ) (lines : List Line) (at before : ℕ) : Type 0 where
+pub record SoFar (text : List ℕ) (start version client manager : ℕ) (lines : List Line) (at before : ℕ) : Type 0 where
   pub begun : start ≤ at
   pub within : at ≤ length text
   pub few : before ≤ at
   pub one : 1 ≤ before
-  pub told : TellsLines client manager lines (slice_range text start at)
-  pub kept : list_all (is_kept_line client manager) lines ≡ true
-  pub faultless : faults text ≡ replicate before None ++ map (later_fault client manager) (cut (drop at text))
+  pub told : TellsLines version client manager lines (slice_range text start at)
+  pub kept : list_all (is_kept_line version client manager) lines ≡ true
+  pub faultless : faults text ≡ replicate before None ++ map (later_fault version client manager) (cut (drop at text))

@@ -18,11 +18,10 @@ beat_small head w small width = let few = beat_few head w small width in omega a
 
 -- a beat of any of the five channels, beside the number of its channel
 pub near_small : (c m : ℕ) → c ≤ 64 → m ≤ 64
-    → up 8 (max (8 + beat_size 24 c) (max (8 + beat_size 24 m) (max (8 + beat_size 24 c) (max (8 + beat_size 16 m) (max (8 + beat_size 16 c) 1))))) < 9223372036854775808
+    → up 8 (max (8 + beat_size 24 c) (max (8 + beat_size 24 m) (max (8 + beat_size 24 c) (max (8 + beat_size 24 m) (max (8 + beat_size 16 c) 1))))) < 9223372036854775808
 near_small c m client manager =
     let a = beat_few 24 c (omega arith) client in
     let b = beat_few 24 m (omega arith) manager in
-    let d = beat_few 16 m (omega arith) manager in
     let e = beat_few 16 c (omega arith) client in
-    let whole = up_le 8 (max (8 + beat_size 24 c) (max (8 + beat_size 24 m) (max (8 + beat_size 24 c) (max (8 + beat_size 16 m) (max (8 + beat_size 16 c) 1))))) in
+    let whole = up_le 8 (max (8 + beat_size 24 c) (max (8 + beat_size 24 m) (max (8 + beat_size 24 c) (max (8 + beat_size 24 m) (max (8 + beat_size 16 c) 1))))) in
     omega arith

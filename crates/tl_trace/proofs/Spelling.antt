@@ -166,9 +166,9 @@ pub wide : {H : Type 0} (f : Form H) → f.params ≤ 16 → (w : ℕ) (field : 
 wide f few w opcode = lit≤ tt
 wide f few w param = few
 wide f few w size = lit≤ tt
-wide f few w source = lit≤ tt
+wide f few w (source digits) = omega arith
 wide f few w address = lit≤ tt
-wide f few w sink = lit≤ tt
+wide f few w (sink digits) = omega arith
 wide f few w denied = lit≤ tt
 wide f few w mask = mask_wide w
 wide f few w data_lanes = omega (arith, squares w)

@@ -7,11 +7,13 @@ use Rattle.std.proofs.Math.Seq.{take-add}
 use Rattle.std.specs.List.{list_all, slice_range}
 use Rattle.tl_msg.specs.Firsts.{◌or_else◌}
 use Rattle.tl_trace.specs.Texts.{newline, is_kept_line, TellsLines}
-use Rattle.tl_trace.specs.Faults.{cut, or_empty, lines_of, body, body_fault, later_fault, widths_of, faults_after, faults_of_lines, faults, IsFirstFault, IsReadableTo}
+use Rattle.tl_trace.specs.Faults.{cut, or_empty, lines_of, body, body_fault, later_fault, header_of, faults_after, faults_of_lines, faults, IsFirstFault, IsReadableTo}
 use Rattle.tl_trace.specs.Inner.Reading.{LineAt, IsReadLine}
 use Rattle.tl_trace.specs.declared.line.Line.{Line}
 use Rattle.tl_trace.specs.declared.fault.TraceKind.{TraceKind}
-use Rattle.tl_trace.specs.declared.fault.TraceKind.TheVariants.{Header, NoEnd}
+use Rattle.tl_trace.specs.declared.fault.TraceKind.TheVariants as kinds
+use Rattle.tl_trace.specs.declared.fault.TraceKind.TheVariants.{NoEnd}
+use Rattle.tl_trace.specs.declared.header.Header.{Header}
 use Rattle.tl_trace.proofs.ReadLines.{IsFree, SoFar, cut_line, cut_last, body_line, body_last, ended, unended, free_take, first_fault, readable_to, one_more, told_more}
 use Rattle.tl_trace.proofs.Cover.{drop_all}
 
@@ -31,15 +33,15 @@ or_none : {F : Type 0} (o : Option F) → o or_else None ≡ o
 or_none None = refl
 or_none (Some x) = refl
 
-pub later_line : (client manager : ℕ) (line : List ℕ) → IsFree line → later_fault client manager (line ++ newline) ≡ body_fault client manager line
-later_line client manager line free =
-    ap (λ (o : Option TraceKind). body_fault client manager (body (line ++ newline)) or_else o) (ended line) ∙ or_none (body_fault client manager (body (line ++ newline)))
-    ∙ ap (λ (b : List ℕ). body_fault client manager b) (body_line line free)
+pub later_line : (version client manager : ℕ) (line : List ℕ) → IsFree line → later_fault version client manager (line ++ newline) ≡ body_fault version client manager line
+later_line version client manager line free =
+    ap (λ (o : Option TraceKind). body_fault version client manager (body (line ++ newline)) or_else o) (ended line) ∙ or_none (body_fault version client manager (body (line ++ newline)))
+    ∙ ap (λ (b : List ℕ). body_fault version client manager b) (body_line line free)
 
-pub later_last : (client manager : ℕ) (line : List ℕ) → IsFree line → later_fault client manager line ≡ body_fault client manager line or_else Some NoEnd
-later_last client manager line free =
-    ap (λ (o : Option TraceKind). body_fault client manager (body line) or_else o) (unended line free)
-    ∙ ap (λ (b : List ℕ). body_fault client manager b or_else Some NoEnd) (body_last line free)
+pub later_last : (version client manager : ℕ) (line : List ℕ) → IsFree line → later_fault version client manager line ≡ body_fault version client manager line or_else Some NoEnd
+later_last version client manager line free =
+    ap (λ (o : Option TraceKind). body_fault version client manager (body line) or_else o) (unended line free)
+    ∙ ap (λ (b : List ℕ). body_fault version client manager b or_else Some NoEnd) (body_last line free)
 
 cut_whole : (line : List ℕ) → 0 < length line → IsFree line → cut line ≡ line ∷ []
 cut_whole [] lt free = absurd (omega arith)
@@ -54,45 +56,45 @@ cut_there text at end line lt e =
     let long : 0 < length (slice_range text at end) = omega (arith, ap length whole, length-drop at text) in
     ap cut whole ∙ cut_whole (slice_range text at end) long (free_line text at end line)
 
-pub refused : (text : List ℕ) (start client manager : ℕ) (lines : List Line) (at before end : ℕ) (kind : TraceKind) → SoFar text start client manager lines at before → LineAt text at end → at < length text
-    → body_fault client manager (slice_range text at end) ≡ Some kind → IsFirstFault text (before + 1) kind
-refused text start client manager lines at before end kind far line lt fault =
+pub refused : (text : List ℕ) (start version client manager : ℕ) (lines : List Line) (at before end : ℕ) (kind : TraceKind) → SoFar text start version client manager lines at before → LineAt text at end → at < length text
+    → body_fault version client manager (slice_range text at end) ≡ Some kind → IsFirstFault text (before + 1) kind
+refused text start version client manager lines at before end kind far line lt fault =
     let b = slice_range text at end in
     let free = free_line text at end line in
     elim (cases_eq end (length text)) [
       | inl e ↦
-          let is : later_fault client manager b ≡ Some kind = later_last client manager b free ∙ ap (λ (o : Option TraceKind). o or_else Some NoEnd) fault in
-          first_fault text before kind [] (far.faultless ∙ ap (λ (xs : List (List ℕ)). replicate before None ++ map (later_fault client manager) xs) (cut_there text at end line lt e)
+          let is : later_fault version client manager b ≡ Some kind = later_last version client manager b free ∙ ap (λ (o : Option TraceKind). o or_else Some NoEnd) fault in
+          first_fault text before kind [] (far.faultless ∙ ap (λ (xs : List (List ℕ)). replicate before None ++ map (later_fault version client manager) xs) (cut_there text at end line lt e)
           ∙ ap (λ (o : Option TraceKind). replicate before None ++ o ∷ []) is)
       | inr ne ↦
-          let is : later_fault client manager (b ++ newline) ≡ Some kind = later_line client manager b free ∙ fault in
-          let more = map (later_fault client manager) (cut (drop (end + 1) text)) in
-          first_fault text before kind more (far.faultless ∙ ap (λ (xs : List (List ℕ)). replicate before None ++ map (later_fault client manager) xs) (cut_here text at end line (omega (arith, line.to, ne)))
+          let is : later_fault version client manager (b ++ newline) ≡ Some kind = later_line version client manager b free ∙ fault in
+          let more = map (later_fault version client manager) (cut (drop (end + 1) text)) in
+          first_fault text before kind more (far.faultless ∙ ap (λ (xs : List (List ℕ)). replicate before None ++ map (later_fault version client manager) xs) (cut_here text at end line (omega (arith, line.to, ne)))
           ∙ ap (λ (o : Option TraceKind). replicate before None ++ o ∷ more) is)
     ]
 
-pub no_end : (text : List ℕ) (start client manager : ℕ) (lines : List Line) (at before end : ℕ) (beat : Line) → SoFar text start client manager lines at before → LineAt text at end → at < length text
-    → IsReadLine client manager (slice_range text at end) beat → end ≡ length text → IsFirstFault text (before + 1) NoEnd
-no_end text start client manager lines at before end beat far line lt read e =
+pub no_end : (text : List ℕ) (start version client manager : ℕ) (lines : List Line) (at before end : ℕ) (beat : Line) → SoFar text start version client manager lines at before → LineAt text at end → at < length text
+    → IsReadLine version client manager (slice_range text at end) beat → end ≡ length text → IsFirstFault text (before + 1) NoEnd
+no_end text start version client manager lines at before end beat far line lt read e =
     let b = slice_range text at end in
-    let is : later_fault client manager b ≡ Some NoEnd = later_last client manager b (free_line text at end line) ∙ ap (λ (o : Option TraceKind). o or_else Some NoEnd) read.faultless in
-    first_fault text before NoEnd [] (far.faultless ∙ ap (λ (xs : List (List ℕ)). replicate before None ++ map (later_fault client manager) xs) (cut_there text at end line lt e)
+    let is : later_fault version client manager b ≡ Some NoEnd = later_last version client manager b (free_line text at end line) ∙ ap (λ (o : Option TraceKind). o or_else Some NoEnd) read.faultless in
+    first_fault text before NoEnd [] (far.faultless ∙ ap (λ (xs : List (List ℕ)). replicate before None ++ map (later_fault version client manager) xs) (cut_there text at end line lt e)
     ∙ ap (λ (o : Option TraceKind). replicate before None ++ o ∷ []) is)
 
 -- one more line has no fault
-more_faultless : (text : List ℕ) (start client manager : ℕ) (lines : List Line) (at before end : ℕ) (beat : Line) → SoFar text start client manager lines at before → LineAt text at end
-    → IsReadLine client manager (slice_range text at end) beat → end < length text → faults text ≡ replicate (before + 1) None ++ map (later_fault client manager) (cut (drop (end + 1) text))
-more_faultless text start client manager lines at before end beat far line read lt =
+more_faultless : (text : List ℕ) (start version client manager : ℕ) (lines : List Line) (at before end : ℕ) (beat : Line) → SoFar text start version client manager lines at before → LineAt text at end
+    → IsReadLine version client manager (slice_range text at end) beat → end < length text → faults text ≡ replicate (before + 1) None ++ map (later_fault version client manager) (cut (drop (end + 1) text))
+more_faultless text start version client manager lines at before end beat far line read lt =
     let b = slice_range text at end in
-    let more = map (later_fault client manager) (cut (drop (end + 1) text)) in
-    let is : later_fault client manager (b ++ newline) ≡ None = later_line client manager b (free_line text at end line) ∙ read.faultless in
-    far.faultless ∙ ap (λ (xs : List (List ℕ)). replicate before None ++ map (later_fault client manager) xs) (cut_here text at end line lt)
+    let more = map (later_fault version client manager) (cut (drop (end + 1) text)) in
+    let is : later_fault version client manager (b ++ newline) ≡ None = later_line version client manager b (free_line text at end line) ∙ read.faultless in
+    far.faultless ∙ ap (λ (xs : List (List ℕ)). replicate before None ++ map (later_fault version client manager) xs) (cut_here text at end line lt)
     ∙ ap (λ (o : Option TraceKind). replicate before None ++ o ∷ more) is ∙ one_more before more
 
-pub unstored : (text : List ℕ) (start client manager : ℕ) (lines : List Line) (at before end : ℕ) (beat : Line) → SoFar text start client manager lines at before → LineAt text at end
-    → IsReadLine client manager (slice_range text at end) beat → end < length text → IsReadableTo text (before + 1)
-unstored text start client manager lines at before end beat far line read lt =
-    readable_to text (before + 1) (map (later_fault client manager) (cut (drop (end + 1) text))) (omega (arith, far.one)) (more_faultless text start client manager lines at before end beat far line read lt)
+pub unstored : (text : List ℕ) (start version client manager : ℕ) (lines : List Line) (at before end : ℕ) (beat : Line) → SoFar text start version client manager lines at before → LineAt text at end
+    → IsReadLine version client manager (slice_range text at end) beat → end < length text → IsReadableTo text (before + 1)
+unstored text start version client manager lines at before end beat far line read lt =
+    readable_to text (before + 1) (map (later_fault version client manager) (cut (drop (end + 1) text))) (omega (arith, far.one)) (more_faultless text start version client manager lines at before end beat far line read lt)
 
 range_split : (xs : List ℕ) (i j k : ℕ) → i ≤ j → j ≤ k → slice_range xs i k ≡ slice_range xs i j ++ slice_range xs j k
 range_split xs i j k le le' =
@@ -106,25 +108,25 @@ one_byte xs at lt =
     let one : (at + 1) - at ≡ 1 = omega arith in
     ap (λ (n : ℕ). take n (drop at xs)) one ∙ ap (λ (ys : List ℕ). take 1 ys) (drop-cons xs at 0 lt)
 
-pub advance : (text : List ℕ) (start client manager : ℕ) (lines : List Line) (at before end : ℕ) (beat : Line) → SoFar text start client manager lines at before → LineAt text at end
-    → IsReadLine client manager (slice_range text at end) beat → end < length text → SoFar text start client manager (lines ++ beat ∷ []) (end + 1) (before + 1)
-advance text start client manager lines at before end beat far line read lt =
+pub advance : (text : List ℕ) (start version client manager : ℕ) (lines : List Line) (at before end : ℕ) (beat : Line) → SoFar text start version client manager lines at before → LineAt text at end
+    → IsReadLine version client manager (slice_range text at end) beat → end < length text → SoFar text start version client manager (lines ++ beat ∷ []) (end + 1) (before + 1)
+advance text start version client manager lines at before end beat far line read lt =
     let b = slice_range text at end in
     let stop : slice_range text end (end + 1) ≡ newline = one_byte text end lt ∙ ap (λ (x : ℕ). x ∷ []) (line.stop lt) in
     let whole : slice_range text start (end + 1) ≡ slice_range text start at ++ b ++ newline =
     range_split text start at (end + 1) far.begun (omega (arith, line.from))
     ∙ ap (λ (ys : List ℕ). slice_range text start at ++ ys) (range_split text at end (end + 1) line.from (omega arith) ∙ ap (λ (ys : List ℕ). b ++ ys) stop)
     ∙ sym (append_assoc (slice_range text start at) b newline) in
-    let told = told_more client manager lines beat (slice_range text start at) b far.told read.says in
-    let P : List ℕ → Type 0 = λ ys. TellsLines client manager (lines ++ beat ∷ []) ys in
+    let told = told_more version client manager lines beat (slice_range text start at) b far.told read.says in
+    let P : List ℕ → Type 0 = λ ys. TellsLines version client manager (lines ++ beat ∷ []) ys in
     record {
       begun = omega (arith, far.begun, line.from);
       within = omega arith;
       few = omega (arith, far.few, line.from);
       one = omega arith;
       told = subst P (sym whole) told;
-      kept = list_all-append (is_kept_line client manager) lines (beat ∷ []) ∙ and_from (list_all (is_kept_line client manager) lines) (is_kept_line client manager beat && true) far.kept (and_from (is_kept_line client manager beat) true read.kept refl);
-      faultless = more_faultless text start client manager lines at before end beat far line read lt;
+      kept = list_all-append (is_kept_line version client manager) lines (beat ∷ []) ∙ and_from (list_all (is_kept_line version client manager) lines) (is_kept_line version client manager beat && true) far.kept (and_from (is_kept_line version client manager beat) true read.kept refl);
+      faultless = more_faultless text start version client manager lines at before end beat far line read lt;
     }
 
 -- ---- the header
@@ -149,28 +151,28 @@ header_last text end line e = elim (cases_eq (length text) 0) [
   | inr some ↦ ap or_empty (cut_there text 0 end line (omega (arith, some)) e)
 ]
 
-pub no_header : (text : List ℕ) (end : ℕ) → LineAt text 0 end → widths_of (slice_range text 0 end) ≡ None → IsFirstFault text 1 Header
+pub no_header : (text : List ℕ) (end : ℕ) → LineAt text 0 end → header_of (slice_range text 0 end) ≡ None → IsFirstFault text 1 kinds.Header
 no_header text end line none =
     let b = slice_range text 0 end in
     let free = free_line text 0 end line in
     elim (cases_eq end (length text)) [
-      | inl e ↦ first_fault text 0 Header [] (ap faults_of_lines (header_last text end line e) ∙ ap (λ (o : Option (ℕ × ℕ)). faults_after o b []) (ap widths_of (body_last b free) ∙ none))
-      | inr ne ↦ first_fault text 0 Header [] (ap faults_of_lines (header_lines text end line (omega (arith, line.to, ne)))
-          ∙ ap (λ (o : Option (ℕ × ℕ)). faults_after o (b ++ newline) (cut (drop (end + 1) text))) (ap widths_of (body_line b free) ∙ none))
+      | inl e ↦ first_fault text 0 kinds.Header [] (ap faults_of_lines (header_last text end line e) ∙ ap (λ (o : Option Header). faults_after o b []) (ap header_of (body_last b free) ∙ none))
+      | inr ne ↦ first_fault text 0 kinds.Header [] (ap faults_of_lines (header_lines text end line (omega (arith, line.to, ne)))
+          ∙ ap (λ (o : Option Header). faults_after o (b ++ newline) (cut (drop (end + 1) text))) (ap header_of (body_line b free) ∙ none))
     ]
 
-pub no_header_end : (text : List ℕ) (end : ℕ) (pair : ℕ × ℕ) → LineAt text 0 end → widths_of (slice_range text 0 end) ≡ Some pair → end ≡ length text → IsFirstFault text 1 NoEnd
-no_header_end text end pair line some e =
+pub no_header_end : (text : List ℕ) (end : ℕ) (h : Header) → LineAt text 0 end → header_of (slice_range text 0 end) ≡ Some h → end ≡ length text → IsFirstFault text 1 NoEnd
+no_header_end text end h line some e =
     let b = slice_range text 0 end in
     let free = free_line text 0 end line in
-    first_fault text 0 NoEnd [] (ap faults_of_lines (header_last text end line e) ∙ ap (λ (o : Option (ℕ × ℕ)). faults_after o b []) (ap widths_of (body_last b free) ∙ some)
+    first_fault text 0 NoEnd [] (ap faults_of_lines (header_last text end line e) ∙ ap (λ (o : Option Header). faults_after o b []) (ap header_of (body_last b free) ∙ some)
     ∙ ap (λ (o : Option TraceKind). o ∷ []) (unended b free))
 
-pub header_faults : (text : List ℕ) (end : ℕ) (pair : ℕ × ℕ) → LineAt text 0 end → widths_of (slice_range text 0 end) ≡ Some pair → end < length text
-    → faults text ≡ None ∷ map (later_fault pair.0 pair.1) (cut (drop (end + 1) text))
-header_faults text end pair line some lt =
+pub header_faults : (text : List ℕ) (end : ℕ) (h : Header) → LineAt text 0 end → header_of (slice_range text 0 end) ≡ Some h → end < length text
+    → faults text ≡ None ∷ map (later_fault h.version h.client h.manager) (cut (drop (end + 1) text))
+header_faults text end h line some lt =
     let b = slice_range text 0 end in
     let free = free_line text 0 end line in
     let lines = cut (drop (end + 1) text) in
-    ap faults_of_lines (header_lines text end line lt) ∙ ap (λ (o : Option (ℕ × ℕ)). faults_after o (b ++ newline) lines) (ap widths_of (body_line b free) ∙ some)
-    ∙ ap (λ (o : Option TraceKind). o ∷ map (later_fault pair.0 pair.1) lines) (ended b)
+    ap faults_of_lines (header_lines text end line lt) ∙ ap (λ (o : Option Header). faults_after o (b ++ newline) lines) (ap header_of (body_line b free) ∙ some)
+    ∙ ap (λ (o : Option TraceKind). o ∷ map (later_fault h.version h.client h.manager) lines) (ended b)

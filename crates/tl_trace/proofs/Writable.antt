@@ -1,5 +1,5 @@
 -- A lawful beat is writable.
-use Rattle.std.proofs.Common.{◌≡◌, ℕ, zero, suc, ◌^◌, ◌<◌, Bool, true, false, cond, nat_eq, nat_le, nat_lt, List, [], ◌∷◌, length, Option, None, Some, refl, arith, subst, bit_and}
+use Rattle.std.proofs.Common.{◌≡◌, ℕ, zero, suc, ◌^◌, ◌<◌, Bool, true, false, cond, ◌&&◌, nat_eq, nat_le, nat_lt, List, [], ◌∷◌, length, Option, None, Some, refl, arith, subst, bit_and}
 use Rattle.std.proofs.lemmas.Bool.{eqb-true, lt-ltb, ltb-true, leb-true, and_parts}
 use Rattle.std.proofs.lemmas.Nat.{and_le_r}
 use Rattle.std.specs.Option.{option_map_or}
@@ -12,7 +12,7 @@ use Rattle.tl_msg.specs.Kinds.{Column, column_a, column_b, column_c, column_d, k
 use Rattle.tl_msg.specs.Tables.{head_fault, is_aligned, rules_a, rules_b, rules_c, rules_d}
 use Rattle.tl_msg.specs.declared.fault.BeatFault.TheVariants.{Param, Size, Unaligned, Mask, Corrupt}
 use Rattle.tl_msg.specs.declared.kind.Kind.{Kind}
-use Rattle.tl_trace.specs.Fields.{bit, form_a, form_b, form_c, form_d, form_e, number_of_lanes}
+use Rattle.tl_trace.specs.Fields.{bit, id_digits, form_a, form_b, form_c, form_d, form_e, number_of_lanes}
 use Rattle.tl_trace.specs.Laws.{LawfulIsWritable}
 use Rattle.tl_trace.proofs.Widths.{lanes_fit}
 use Rattle.tl_msg.proofs.Firsts.{unless_none}
@@ -78,70 +78,75 @@ data_small w lanes long bytes = let P : ℕ → Type 0 = λ k. number_of_lanes l
 
 -- ---- each channel
 
-pub lawful_a : LawfulIsWritable form_a
-lawful_a w b held ids lawful =
+pub lawful_a : (version : ℕ) → LawfulIsWritable (form_a version)
+lawful_a version w b held ids lawful =
     let head = no_first (rules_a.fault b.head) (unless (mask_fits rules_a b) Mask or_else unless (is_clean rules_a b) Corrupt) lawful in
     let rest = no_second (rules_a.fault b.head) (unless (mask_fits rules_a b) Mask or_else unless (is_clean rules_a b) Corrupt) lawful in
     let fits = unless_none (mask_fits rules_a b) Mask (no_first (unless (mask_fits rules_a b) Mask) (unless (is_clean rules_a b) Corrupt) rest) in
     let l = in_column column_a 8 b.head.opcode b.head.param b.head.size (is_aligned b.head.address b.head.size) refl head in
     let m = mask_small (rules_a.partial b.head) b.mask (full_mask rules_a b.head w) w (active_mask-lt b.head.address b.head.size w) fits in
+    let id : nat_lt b.head.source (16 ^ id_digits version) ≡ true = (and_parts (nat_lt b.head.source (16 ^ id_digits version)) true ids).0 in
     rw (
       lt-ltb b.head.opcode 8 l.opcode,
       lt-ltb b.head.param 8 l.param,
       lt-ltb b.head.size 16 l.size,
-      lt-ltb b.head.source 256 ids.0,
+      id,
       lt-ltb b.head.address (2 ^ 64) held.address,
       lt-ltb b.mask (2 ^ w) m,
       lt-ltb (number_of_lanes b.lanes) (256 ^ w) (data_small w b.lanes held.lanes held.bytes),
       bit_small b.corrupt,
     ) refl
 
-pub lawful_b : LawfulIsWritable form_b
-lawful_b w b held ids lawful =
+pub lawful_b : (version : ℕ) → LawfulIsWritable (form_b version)
+lawful_b version w b held ids lawful =
     let head = no_first (rules_b.fault b.head) (unless (mask_fits rules_b b) Mask or_else unless (is_clean rules_b b) Corrupt) lawful in
     let rest = no_second (rules_b.fault b.head) (unless (mask_fits rules_b b) Mask or_else unless (is_clean rules_b b) Corrupt) lawful in
     let fits = unless_none (mask_fits rules_b b) Mask (no_first (unless (mask_fits rules_b b) Mask) (unless (is_clean rules_b b) Corrupt) rest) in
     let l = in_column column_b 8 b.head.opcode b.head.param b.head.size (is_aligned b.head.address b.head.size) refl head in
     let m = mask_small (rules_b.partial b.head) b.mask (full_mask rules_b b.head w) w (active_mask-lt b.head.address b.head.size w) fits in
+    let id : nat_lt b.head.source (16 ^ id_digits version) ≡ true = (and_parts (nat_lt b.head.source (16 ^ id_digits version)) true ids).0 in
     rw (
       lt-ltb b.head.opcode 8 l.opcode,
       lt-ltb b.head.param 8 l.param,
       lt-ltb b.head.size 16 l.size,
-      lt-ltb b.head.source 256 ids.0,
+      id,
       lt-ltb b.head.address (2 ^ 64) held.address,
       lt-ltb b.mask (2 ^ w) m,
       lt-ltb (number_of_lanes b.lanes) (256 ^ w) (data_small w b.lanes held.lanes held.bytes),
       bit_small b.corrupt,
     ) refl
 
-pub lawful_c : LawfulIsWritable form_c
-lawful_c w b held ids lawful =
+pub lawful_c : (version : ℕ) → LawfulIsWritable (form_c version)
+lawful_c version w b held ids lawful =
     let head = no_first (rules_c.fault b.head) (unless (mask_fits rules_c b) Mask or_else unless (is_clean rules_c b) Corrupt) lawful in
     let l = in_column column_c 8 b.head.opcode b.head.param b.head.size (is_aligned b.head.address b.head.size) refl head in
+    let id : nat_lt b.head.source (16 ^ id_digits version) ≡ true = (and_parts (nat_lt b.head.source (16 ^ id_digits version)) true ids).0 in
     rw (
       lt-ltb b.head.opcode 8 l.opcode,
       lt-ltb b.head.param 8 l.param,
       lt-ltb b.head.size 16 l.size,
-      lt-ltb b.head.source 256 ids.0,
+      id,
       lt-ltb b.head.address (2 ^ 64) held.address,
       lt-ltb (number_of_lanes b.lanes) (256 ^ w) (data_small w b.lanes held.lanes held.bytes),
       bit_small b.corrupt,
     ) refl
 
-pub lawful_d : LawfulIsWritable form_d
-lawful_d w b held ids lawful =
+pub lawful_d : (version : ℕ) → LawfulIsWritable (form_d version)
+lawful_d version w b held ids lawful =
     let head = no_first (rules_d.fault b.head) (unless (mask_fits rules_d b) Mask or_else unless (is_clean rules_d b) Corrupt) lawful in
     let l = in_column column_d 4 b.head.opcode b.head.param b.head.size true refl head in
+    let id : nat_lt b.head.source (16 ^ id_digits version) ≡ true = (and_parts (nat_lt b.head.source (16 ^ id_digits version)) (nat_lt b.head.sink (16 ^ id_digits version) && true) ids).0 in
+    let id' : nat_lt b.head.sink (16 ^ id_digits version) ≡ true = (and_parts (nat_lt b.head.sink (16 ^ id_digits version)) true (and_parts (nat_lt b.head.source (16 ^ id_digits version)) (nat_lt b.head.sink (16 ^ id_digits version) && true) ids).1).0 in
     rw (
       lt-ltb b.head.opcode 8 l.opcode,
       lt-ltb b.head.param 4 l.param,
       lt-ltb b.head.size 16 l.size,
-      lt-ltb b.head.source 256 ids.0,
-      lt-ltb b.head.sink 256 ids.1,
+      id,
+      id',
       bit_small b.head.denied,
       lt-ltb (number_of_lanes b.lanes) (256 ^ w) (data_small w b.lanes held.lanes held.bytes),
       bit_small b.corrupt,
     ) refl
 
-pub lawful_e : LawfulIsWritable form_e
-lawful_e w b held ids lawful = rw (lt-ltb b.head.sink 256 ids.1) refl
+pub lawful_e : (version : ℕ) → LawfulIsWritable (form_e version)
+lawful_e version w b held ids lawful = ids

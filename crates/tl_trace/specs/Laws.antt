@@ -13,17 +13,17 @@ use Rattle.tl_trace.specs.declared.line.Line.{Line}
 
 -- no text tells two traces
 abbrev pub OneTrace : Type 0
-OneTrace = (text : List ℕ) (client manager : ℕ) (lines : List Line) (client' manager' : ℕ) (lines' : List Line) →
-    Tells text client manager lines → Tells text client' manager' lines' → (client ≡ client') × (manager ≡ manager') × (lines ≡ lines')
+OneTrace = (text : List ℕ) (version client manager : ℕ) (lines : List Line) (version' client' manager' : ℕ) (lines' : List Line) →
+    Tells text version client manager lines → Tells text version' client' manager' lines' → (version ≡ version') × (client ≡ client') × (manager ≡ manager') × (lines ≡ lines')
 
 -- each trace has exactly one text
 abbrev pub OneText : Type 0
-OneText = (client manager : ℕ) (lines : List Line) (text : List ℕ) → IsTrace client manager lines →
-    Tells text client manager lines ↔ (text ≡ trace_text client manager lines)
+OneText = (version client manager : ℕ) (lines : List Line) (text : List ℕ) → IsTrace version client manager lines →
+    Tells text version client manager lines ↔ (text ≡ trace_text version client manager lines)
 
 -- a text that tells a trace has no fault
 abbrev pub FaultlessTexts : Type 0
-FaultlessTexts = (text : List ℕ) (client manager : ℕ) (lines : List Line) → Tells text client manager lines → is_readable text ≡ true
+FaultlessTexts = (text : List ℕ) (version client manager : ℕ) (lines : List Line) → Tells text version client manager lines → is_readable text ≡ true
 
 -- the text of a writable beat is the only line that says it
 abbrev pub IsOnlyLine : {H : Type 0} → Form H → Type 0
@@ -39,10 +39,10 @@ LanesByPairs = (w l : ℕ) (lanes : List ℕ) → is_lanes w lanes ≡ true → 
 abbrev pub ZeroLanesPastTheWidth : Type 0
 ZeroLanesPastTheWidth = (w l : ℕ) (lanes : List ℕ) → number_of_lanes lanes < 256 ^ w → w ≤ l → slice_index lanes l ≡ 0
 
--- a lawful beat at its width, as memory holds it, is writable
+-- a lawful beat at its width, as memory holds it, is writable where its ids have no more than their digits
 abbrev pub LawfulIsWritable : {H : Type 0} → Form H → Type 0
 LawfulIsWritable {H} f = (w : ℕ) (b : BeatOf H w) → IsBeat f.rules b → HasIds f b.head → IsLawfulBeat f.rules b → is_writable f w b ≡ true
 
 -- the beats of a trace are beats as memory holds them
 abbrev pub TracesHaveBeats : Type 0
-TracesHaveBeats = (client manager : ℕ) (lines : List Line) → IsTrace client manager lines → HasBeats client manager lines
+TracesHaveBeats = (version client manager : ℕ) (lines : List Line) → IsTrace version client manager lines → HasBeats client manager lines

@@ -1,15 +1,14 @@
 //! Reading the heads of the five channels.
-ghost use Rattle.std.specs.Prelude.{◌≡◌, ◌≤◌, ◌+◌, ◌&&◌, true, false, refl, length, map, nat_lt, MatchOption};
+ghost use Rattle.std.specs.Prelude.{ℕ, ◌≡◌, ◌≤◌, ◌+◌, ◌&&◌, true, false, refl, length, map, nat_lt, MatchOption};
 ghost use Rattle.std.specs.List.{list_all};
-ghost use Rattle.tl_trace.specs.Fields.{addressed, common, length_of};
-ghost use Rattle.tl_trace.specs.declared.places.TheConstants.{COMMON_END, ADDRESSED_END};
+ghost use Rattle.tl_trace.specs.Fields.{addressed, common, id_digits, length_of};
 ghost use Rattle.tl_trace.specs.Inner.Reading.{IsHead, IsSmall, IsCommon, Takes, is_head_field};
 
 use crate::digits::field;
 use crate::head_text::HeadText;
 use crate::places::{
-    ACK_END, ADDRESS_DIGITS, ADDRESSED_END, COMMON_END, DENIED_AT, FIRST_AT, ID_DIGITS, PARAM_AT,
-    RESPONSE_END, SIZE_AT, SOURCE_AT,
+    ADDRESS_DIGITS, FIRST_AT, PARAM_AT, SIZE_AT, SOURCE_AT, ack_end, addressed_end, common_end,
+    denied_at, id_digits, response_end,
 };
 use tl_msg::{ChA, ChB, ChC, ChD, ChE, HeadA, HeadB, HeadC, HeadD, HeadE, SinkId, SourceId};
 
@@ -30,32 +29,35 @@ pub struct HeadFields {
 /// A channel whose heads can be read.
 pub trait ReadHead: HeadText {
     /// The place behind the last field of the head.
-    fn head_end() -> usize
-        ensures end { result ≡ 1 + length_of 0 Self.form.head_fields }
+    fn head_end(version: u8) -> usize
+        ensures end { result ≡ 1 + length_of 0 (Self.form version).head_fields }
         ensures few { result ≤ 32 };
 
     /// The fields of the head of a line.
-    fn read_head(text: &[u8]) -> HeadFields
-        requires { 1 + length_of 0 Self.form.head_fields ≤ length text.now }
-        ensures { IsHead text.now Self.form.head_fields result };
+    fn read_head(text: &[u8], version: u8) -> HeadFields
+        requires { 1 + length_of 0 (Self.form version).head_fields ≤ length text.now }
+        ensures { IsHead (id_digits version) text.now (Self.form version).head_fields result };
 
-    /// The head of these fields, if each has one of its values.
+    /// The head of these fields, if each has one of its values. No version has ids of more than four digits.
     fn head_of(fields: &HeadFields) -> Option<Self::Head>
-        requires { IsSmall fields.now }
-        ensures { Takes Self.form fields.now result };
+        requires { IsSmall 4 fields.now }
+        ensures { (version : ℕ) → IsSmall (id_digits version) fields.now →
+            Takes (Self.form version) fields.now result };
 
-    ghost head_alone: { list_all is_head_field Self.form.head_fields ≡ true };
+    ghost head_alone: { (version : ℕ) →
+        list_all is_head_field (Self.form version).head_fields ≡ true };
 }
 
 /// The fields that the heads of A to D begin with.
-fn read_common(text: &[u8]) -> HeadFields
-    requires { COMMON_END ≤ length text.now }
-    ensures { IsHead text.now common result }
+#[inline(always)]
+fn read_common(text: &[u8], version: u8) -> HeadFields
+    requires { 1 + length_of 0 (common version) ≤ length text.now }
+    ensures { IsHead (id_digits version) text.now (common version) result }
 {
     let opcode = field(text, FIRST_AT, 1);
     let param = field(text, PARAM_AT, 1);
     let size = field(text, SIZE_AT, 1);
-    let source = field(text, SOURCE_AT, ID_DIGITS);
+    let source = field(text, SOURCE_AT, id_digits(version));
     HeadFields {
         opcode: opcode.value,
         param: param.value,
@@ -69,12 +71,13 @@ fn read_common(text: &[u8]) -> HeadFields
 }
 
 /// The fields of a head with an address.
-fn read_addressed(text: &[u8]) -> HeadFields
-    requires { ADDRESSED_END ≤ length text.now }
-    ensures { IsHead text.now addressed result }
+#[inline(always)]
+fn read_addressed(text: &[u8], version: u8) -> HeadFields
+    requires { 1 + length_of 0 (addressed version) ≤ length text.now }
+    ensures { IsHead (id_digits version) text.now (addressed version) result }
 {
-    let common = read_common(text);
-    let address = field(text, COMMON_END, ADDRESS_DIGITS);
+    let common = read_common(text, version);
+    let address = field(text, common_end(version), ADDRESS_DIGITS);
     HeadFields {
         address: address.value,
         bad: common.bad | address.bad,
@@ -93,7 +96,7 @@ struct CommonFields {
 
 /// The common fields, if the opcode is below 8 and the param below `params`.
 fn common_of(fields: &HeadFields, params: u64) -> Option<CommonFields>
-    requires { IsSmall fields.now }
+    requires { IsSmall 4 fields.now }
     ensures { MatchOption result
         ((nat_lt fields.now.opcode 8 && nat_lt fields.now.param params) ≡ false)
         (IsCommon fields.now params) }
@@ -110,12 +113,14 @@ fn common_of(fields: &HeadFields, params: u64) -> Option<CommonFields>
 }
 
 impl ReadHead for ChA {
-    fn head_end() -> usize {
-        ADDRESSED_END
+    #[inline]
+    fn head_end(version: u8) -> usize {
+        addressed_end(version)
     }
 
-    fn read_head(text: &[u8]) -> HeadFields {
-        read_addressed(text)
+    #[inline(always)]
+    fn read_head(text: &[u8], version: u8) -> HeadFields {
+        read_addressed(text, version)
     }
 
     fn head_of(fields: &HeadFields) -> Option<HeadA> {
@@ -129,16 +134,18 @@ impl ReadHead for ChA {
         })
     }
 
-    ghost head_alone = { refl };
+    ghost head_alone = { λ version. refl };
 }
 
 impl ReadHead for ChB {
-    fn head_end() -> usize {
-        ADDRESSED_END
+    #[inline]
+    fn head_end(version: u8) -> usize {
+        addressed_end(version)
     }
 
-    fn read_head(text: &[u8]) -> HeadFields {
-        read_addressed(text)
+    #[inline(always)]
+    fn read_head(text: &[u8], version: u8) -> HeadFields {
+        read_addressed(text, version)
     }
 
     fn head_of(fields: &HeadFields) -> Option<HeadB> {
@@ -152,16 +159,18 @@ impl ReadHead for ChB {
         })
     }
 
-    ghost head_alone = { refl };
+    ghost head_alone = { λ version. refl };
 }
 
 impl ReadHead for ChC {
-    fn head_end() -> usize {
-        ADDRESSED_END
+    #[inline]
+    fn head_end(version: u8) -> usize {
+        addressed_end(version)
     }
 
-    fn read_head(text: &[u8]) -> HeadFields {
-        read_addressed(text)
+    #[inline(always)]
+    fn read_head(text: &[u8], version: u8) -> HeadFields {
+        read_addressed(text, version)
     }
 
     fn head_of(fields: &HeadFields) -> Option<HeadC> {
@@ -175,18 +184,20 @@ impl ReadHead for ChC {
         })
     }
 
-    ghost head_alone = { refl };
+    ghost head_alone = { λ version. refl };
 }
 
 impl ReadHead for ChD {
-    fn head_end() -> usize {
-        RESPONSE_END
+    #[inline]
+    fn head_end(version: u8) -> usize {
+        response_end(version)
     }
 
-    fn read_head(text: &[u8]) -> HeadFields {
-        let common = read_common(text);
-        let sink = field(text, COMMON_END, ID_DIGITS);
-        let denied = field(text, DENIED_AT, 1);
+    #[inline(always)]
+    fn read_head(text: &[u8], version: u8) -> HeadFields {
+        let common = read_common(text, version);
+        let sink = field(text, common_end(version), id_digits(version));
+        let denied = field(text, denied_at(version), 1);
         HeadFields {
             sink: sink.value,
             denied: denied.value,
@@ -210,16 +221,18 @@ impl ReadHead for ChD {
         })
     }
 
-    ghost head_alone = { refl };
+    ghost head_alone = { λ version. refl };
 }
 
 impl ReadHead for ChE {
-    fn head_end() -> usize {
-        ACK_END
+    #[inline]
+    fn head_end(version: u8) -> usize {
+        ack_end(version)
     }
 
-    fn read_head(text: &[u8]) -> HeadFields {
-        let sink = field(text, FIRST_AT, ID_DIGITS);
+    #[inline(always)]
+    fn read_head(text: &[u8], version: u8) -> HeadFields {
+        let sink = field(text, FIRST_AT, id_digits(version));
         HeadFields {
             opcode: 0,
             param: 0,
@@ -238,5 +251,5 @@ impl ReadHead for ChE {
         })
     }
 
-    ghost head_alone = { refl };
+    ghost head_alone = { λ version. refl };
 }

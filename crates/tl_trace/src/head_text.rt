@@ -1,14 +1,13 @@
 //! The text of a head.
-ghost use Rattle.std.specs.Prelude.{◌≡◌, ◌∷◌, ◌++◌, ◌%◌, ℕ, Bool, true, false, refl, flat_map};
+ghost use Rattle.std.specs.Prelude.{◌≡◌, ◌≤◌, ◌+◌, ◌∷◌, ◌++◌, ◌%◌, ℕ, Bool, true, false, refl, flat_map};
+ghost use Rattle.arrayvec.specs.ArrayVec.{array_vec_len};
 ghost use Rattle.std.specs.Char.{digit_char};
-ghost use Rattle.tl_trace.specs.Fields.{Form, digit_count, value_of, form_a, form_b, form_c, form_d, form_e};
+ghost use Rattle.tl_trace.specs.Fields.{Form, id_digits, digit_count, value_of, form_a, form_b, form_c, form_d, form_e};
 ghost use Rattle.tl_trace.specs.Lines.{hex, head_text};
-ghost use Rattle.tl_trace.specs.declared.places.TheConstants.{ADDRESS_DIGITS, ID_DIGITS};
+ghost use Rattle.tl_trace.specs.declared.places.TheConstants.{ADDRESS_DIGITS};
 ghost use Rattle.tl_msg.specs.declared.beat.BeatOf.{BeatOf};
 
-use crate::places::{
-    ADDRESS_DIGITS, COMMON_END, FIRST_AT, ID_DIGITS, PARAM_AT, SIZE_AT, SOURCE_AT,
-};
+use crate::places::ADDRESS_DIGITS;
 use crate::text::{digits_of, low_digit, put};
 use arrayvec::ArrayVec;
 use tl_msg::{ChA, ChB, ChC, ChD, ChE, Channel, HeadA, HeadB, HeadC, HeadD, HeadE, SourceId};
@@ -18,51 +17,73 @@ pub trait HeadText: Channel {
     /// Whether its lines have data and corrupt: all but those of E.
     const HAS_DATA: bool;
 
-    ghost form: { Form Self.Head };
+    ghost form: { (version : ℕ) → Form Self.Head };
 
     ghost HAS_DATA: { Bool };
 
-    /// The line from its letter up to the last field before mask and data, without LF; on E the whole line.
-    fn head_text(head: &Self::Head) -> ArrayVec<u8, 32>
-        ensures { result.items ≡ head_text form head.now };
+    /// The line of a trace of this version from its letter up to the last field before mask and data, without LF; on E
+    /// the whole line. A field is written by its lowest digits: an id by two in version 1, and by four in version 2.
+    fn head_text(head: &Self::Head, version: u8) -> ArrayVec<u8, 32>
+        ensures { result.items ≡ head_text (form version) head.now };
 
-    ghost same_rules: { form.rules ≡ Self.rules };
+    ghost same_rules: { (version : ℕ) → (form version).rules ≡ Self.rules };
 
-    ghost masked_form: { form.rules.masked ≡ Self.MASKED };
+    ghost masked_form: { (version : ℕ) → (form version).rules.masked ≡ Self.MASKED };
 
-    ghost data_form: { form.rules.corrupts ≡ HAS_DATA };
+    ghost data_form: { (version : ℕ) → (form version).rules.corrupts ≡ HAS_DATA };
 
-    ghost narrow_head: { (n w : ℕ) (b : BeatOf Self.Head n) →
-        flat_map (λ field. 32 ∷ hex (digit_count w field) (value_of form b field))
-        form.head_fields ≡
-        flat_map (λ field. 32 ∷ hex (digit_count 0 field) (form.value b.head field))
-        form.head_fields };
+    ghost narrow_head: { (version n w : ℕ) (b : BeatOf Self.Head n) →
+        flat_map (λ field. 32 ∷ hex (digit_count w field) (value_of (form version) b field))
+        (form version).head_fields ≡
+        flat_map (λ field. 32 ∷ hex (digit_count 0 field) ((form version).value b.head field))
+        (form version).head_fields };
+}
+
+/// Appends a space and the digits of a source or of a sink.
+#[inline(always)]
+fn put_id(text: &mut ArrayVec<u8, 32>, id: u16, version: u8)
+    requires { array_vec_len text.old ≤ 27 }
+    ensures items { text.new.items ≡ text.old.items ++ 32 ∷ hex (id_digits version) id }
+    ensures len { array_vec_len text.new ≤ array_vec_len text.old + 5 }
+{
+    text.push(b' ');
+    if version == 1 {
+        put(text, &digits_of::<2>(id as u64));
+    } else {
+        put(text, &digits_of::<4>(id as u64));
+    }
 }
 
 /// The letter, opcode, param, size and source.
-fn common_text(letter: u8, opcode: u8, param: u8, size: u8, source: SourceId) -> [u8; COMMON_END]
-    ensures { result ≡ letter ∷ 32 ∷ digit_char (opcode % 16) ∷
+#[inline(always)]
+fn common_text(
+    letter: u8,
+    opcode: u8,
+    param: u8,
+    size: u8,
+    source: SourceId,
+    version: u8,
+) -> ArrayVec<u8, 32>
+    ensures items { result.items ≡ letter ∷ 32 ∷ digit_char (opcode % 16) ∷
         32 ∷ digit_char (param % 16) ∷ 32 ∷ digit_char (size % 16) ∷
-        32 ∷ hex ID_DIGITS source }
+        32 ∷ hex (id_digits version) source }
+    ensures len { array_vec_len result ≤ 12 }
 {
-    let mut text = [b' '; COMMON_END];
-    text[0] = letter;
-    text[FIRST_AT + 1] = low_digit(opcode);
-    text[PARAM_AT + 1] = low_digit(param);
-    text[SIZE_AT + 1] = low_digit(size);
-    text[SOURCE_AT + 1..].copy_from_slice(&digits_of::<ID_DIGITS>(source as u64));
+    let mut text = ArrayVec::new();
+    let (opcode, param, size) = (low_digit(opcode), low_digit(param), low_digit(size));
+    put(&mut text, &[letter, b' ', opcode, b' ', param, b' ', size]);
+    put_id(&mut text, source, version);
     text
 }
 
-/// The head of a message with an address.
-fn addressed_text(common: &[u8; COMMON_END], address: u64) -> ArrayVec<u8, 32>
-    ensures { result.items ≡ common.now ++ 32 ∷ hex ADDRESS_DIGITS address }
+/// Appends a space and the digits of an address.
+#[inline(always)]
+fn put_address(text: &mut ArrayVec<u8, 32>, address: u64)
+    requires { array_vec_len text.old ≤ 12 }
+    ensures { text.new.items ≡ text.old.items ++ 32 ∷ hex ADDRESS_DIGITS address }
 {
-    let mut text = ArrayVec::new();
-    put(&mut text, common);
     text.push(b' ');
-    put(&mut text, &digits_of::<ADDRESS_DIGITS>(address));
-    text
+    put(text, &digits_of::<ADDRESS_DIGITS>(address));
 }
 
 impl HeadText for ChA {
@@ -72,18 +93,21 @@ impl HeadText for ChA {
 
     ghost HAS_DATA = { true };
 
-    fn head_text(head: &HeadA) -> ArrayVec<u8, 32> {
-        let common = common_text(b'A', head.opcode, head.param, head.size, head.source);
-        addressed_text(&common, head.address)
+    #[inline(always)]
+    fn head_text(head: &HeadA, version: u8) -> ArrayVec<u8, 32> {
+        let (opcode, param, size) = (head.opcode, head.param, head.size);
+        let mut text = common_text(b'A', opcode, param, size, head.source, version);
+        put_address(&mut text, head.address);
+        text
     }
 
-    ghost same_rules = { refl };
+    ghost same_rules = { λ version. refl };
 
-    ghost masked_form = { refl };
+    ghost masked_form = { λ version. refl };
 
-    ghost data_form = { refl };
+    ghost data_form = { λ version. refl };
 
-    ghost narrow_head = { λ n w b. refl };
+    ghost narrow_head = { λ version n w b. refl };
 }
 
 impl HeadText for ChB {
@@ -93,18 +117,21 @@ impl HeadText for ChB {
 
     ghost HAS_DATA = { true };
 
-    fn head_text(head: &HeadB) -> ArrayVec<u8, 32> {
-        let common = common_text(b'B', head.opcode, head.param, head.size, head.source);
-        addressed_text(&common, head.address)
+    #[inline(always)]
+    fn head_text(head: &HeadB, version: u8) -> ArrayVec<u8, 32> {
+        let (opcode, param, size) = (head.opcode, head.param, head.size);
+        let mut text = common_text(b'B', opcode, param, size, head.source, version);
+        put_address(&mut text, head.address);
+        text
     }
 
-    ghost same_rules = { refl };
+    ghost same_rules = { λ version. refl };
 
-    ghost masked_form = { refl };
+    ghost masked_form = { λ version. refl };
 
-    ghost data_form = { refl };
+    ghost data_form = { λ version. refl };
 
-    ghost narrow_head = { λ n w b. refl };
+    ghost narrow_head = { λ version n w b. refl };
 }
 
 impl HeadText for ChC {
@@ -114,18 +141,21 @@ impl HeadText for ChC {
 
     ghost HAS_DATA = { true };
 
-    fn head_text(head: &HeadC) -> ArrayVec<u8, 32> {
-        let common = common_text(b'C', head.opcode, head.param, head.size, head.source);
-        addressed_text(&common, head.address)
+    #[inline(always)]
+    fn head_text(head: &HeadC, version: u8) -> ArrayVec<u8, 32> {
+        let (opcode, param, size) = (head.opcode, head.param, head.size);
+        let mut text = common_text(b'C', opcode, param, size, head.source, version);
+        put_address(&mut text, head.address);
+        text
     }
 
-    ghost same_rules = { refl };
+    ghost same_rules = { λ version. refl };
 
-    ghost masked_form = { refl };
+    ghost masked_form = { λ version. refl };
 
-    ghost data_form = { refl };
+    ghost data_form = { λ version. refl };
 
-    ghost narrow_head = { λ n w b. refl };
+    ghost narrow_head = { λ version n w b. refl };
 }
 
 impl HeadText for ChD {
@@ -135,23 +165,22 @@ impl HeadText for ChD {
 
     ghost HAS_DATA = { true };
 
-    fn head_text(head: &HeadD) -> ArrayVec<u8, 32> {
-        let common = common_text(b'D', head.opcode, head.param, head.size, head.source);
-        let mut text = ArrayVec::new();
-        put(&mut text, &common);
-        text.push(b' ');
-        put(&mut text, &digits_of::<ID_DIGITS>(head.sink as u64));
+    #[inline(always)]
+    fn head_text(head: &HeadD, version: u8) -> ArrayVec<u8, 32> {
+        let (opcode, param, size) = (head.opcode, head.param, head.size);
+        let mut text = common_text(b'D', opcode, param, size, head.source, version);
+        put_id(&mut text, head.sink, version);
         put(&mut text, &[b' ', low_digit(head.denied as u8)]);
         text
     }
 
-    ghost same_rules = { refl };
+    ghost same_rules = { λ version. refl };
 
-    ghost masked_form = { refl };
+    ghost masked_form = { λ version. refl };
 
-    ghost data_form = { refl };
+    ghost data_form = { λ version. refl };
 
-    ghost narrow_head = { λ n w b. refl };
+    ghost narrow_head = { λ version n w b. refl };
 }
 
 impl HeadText for ChE {
@@ -161,18 +190,19 @@ impl HeadText for ChE {
 
     ghost HAS_DATA = { false };
 
-    fn head_text(head: &HeadE) -> ArrayVec<u8, 32> {
+    #[inline(always)]
+    fn head_text(head: &HeadE, version: u8) -> ArrayVec<u8, 32> {
         let mut text = ArrayVec::new();
-        put(&mut text, b"E ");
-        put(&mut text, &digits_of::<ID_DIGITS>(head.sink as u64));
+        text.push(b'E');
+        put_id(&mut text, head.sink, version);
         text
     }
 
-    ghost same_rules = { refl };
+    ghost same_rules = { λ version. refl };
 
-    ghost masked_form = { refl };
+    ghost masked_form = { λ version. refl };
 
-    ghost data_form = { refl };
+    ghost data_form = { λ version. refl };
 
-    ghost narrow_head = { λ n w b. refl };
+    ghost narrow_head = { λ version n w b. refl };
 }

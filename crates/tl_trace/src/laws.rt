@@ -1,4 +1,5 @@
 //! Laws of texts and traces: each function does nothing, and its contract is the law.
+ghost use Rattle.std.specs.Prelude.{ℕ};
 ghost use Rattle.tl_trace.specs.Fields.{form_a, form_b, form_c, form_d, form_e};
 ghost use Rattle.tl_trace.specs.Laws.{OneTrace, OneText, FaultlessTexts, IsOnlyLine, LanesByPairs, LawfulIsWritable, TracesHaveBeats, ZeroLanesPastTheWidth};
 
@@ -7,16 +8,16 @@ pub fn one_text()
     ensures { OneText }
 {}
 
-/// The text of a writable beat is the only line that says it, on each channel.
+/// The text of a writable beat is the only line that says it, on each channel, in each version.
 pub fn only_line()
-    ensures a { IsOnlyLine form_a }
-    ensures b { IsOnlyLine form_b }
-    ensures c { IsOnlyLine form_c }
-    ensures d { IsOnlyLine form_d }
-    ensures e { IsOnlyLine form_e }
+    ensures a { (version : ℕ) → IsOnlyLine (form_a version) }
+    ensures b { (version : ℕ) → IsOnlyLine (form_b version) }
+    ensures c { (version : ℕ) → IsOnlyLine (form_c version) }
+    ensures d { (version : ℕ) → IsOnlyLine (form_d version) }
+    ensures e { (version : ℕ) → IsOnlyLine (form_e version) }
 {}
 
-/// No text tells two traces.
+/// No text tells two traces: neither of two versions, nor of other widths or beats.
 pub fn one_trace()
     ensures { OneTrace }
 {}
@@ -36,13 +37,14 @@ pub fn zero_lanes()
     ensures { ZeroLanesPastTheWidth }
 {}
 
-/// A lawful beat is writable, on each channel: so what is due is written as its lines.
+/// A lawful beat is writable, on each channel, where its ids have no more than the version's digits: in version 2 those of
+/// all beats in memory, and in version 1 those below 256. So what is due is written as its lines.
 pub fn lawful_beats_are_writable()
-    ensures a { LawfulIsWritable form_a }
-    ensures b { LawfulIsWritable form_b }
-    ensures c { LawfulIsWritable form_c }
-    ensures d { LawfulIsWritable form_d }
-    ensures e { LawfulIsWritable form_e }
+    ensures a { (version : ℕ) → LawfulIsWritable (form_a version) }
+    ensures b { (version : ℕ) → LawfulIsWritable (form_b version) }
+    ensures c { (version : ℕ) → LawfulIsWritable (form_c version) }
+    ensures d { (version : ℕ) → LawfulIsWritable (form_d version) }
+    ensures e { (version : ℕ) → LawfulIsWritable (form_e version) }
 {}
 
 /// The beats of a trace, and so those of the script of a text, are beats as memory holds them.

@@ -24,12 +24,12 @@ fn mask_fits(mask: Mask, w: usize) -> bool
 }
 
 /// The mask from this place on, 0 on a channel that has none.
-fn read_mask<K: HeadText>(text: &[u8], at: usize, w: usize) -> Number
+fn read_mask<K: HeadText, const VERSION: u8>(text: &[u8], at: usize, w: usize) -> Number
     requires width { w ≤ WIDEST }
-    requires room { at + length_of w (mask_fields K.form) ≤ length text.now }
-    ensures part { IsPart w text.now at (mask_fields K.form) (mask_values K.form result.value)
+    requires room { at + length_of w (mask_fields (K.form VERSION)) ≤ length text.now }
+    ensures part { IsPart w text.now at (mask_fields (K.form VERSION)) (mask_values (K.form VERSION) result.value)
         result.bad }
-    ensures none { K.form.rules.masked ≡ false → result.value ≡ 0 }
+    ensures none { (K.form VERSION).rules.masked ≡ false → result.value ≡ 0 }
 {
     if !K::MASKED {
         return Number { value: 0, bad: 0 };
@@ -38,7 +38,7 @@ fn read_mask<K: HeadText>(text: &[u8], at: usize, w: usize) -> Number
 }
 
 /// Lanes and corrupt from this place on, 0 on a channel that has none.
-fn read_data<K: HeadText, const N: usize>(
+fn read_data<K: HeadText, const N: usize, const VERSION: u8>(
     text: &[u8],
     at: usize,
     w: usize,
@@ -46,14 +46,14 @@ fn read_data<K: HeadText, const N: usize>(
 ) -> Number
     requires width { w ≤ N }
     requires most { N ≤ WIDEST }
-    requires room { at + length_of w (data_fields K.form) ≤ length text.now }
+    requires room { at + length_of w (data_fields (K.form VERSION)) ≤ length text.now }
     requires lanes { is_lanes N lanes.old ≡ true }
     requires zero { number_of_lanes lanes.old ≡ 0 }
-    ensures part { IsPart w text.now at (data_fields K.form)
-        (data_values K.form (number_of_lanes lanes.new) result.value) result.bad }
+    ensures part { IsPart w text.now at (data_fields (K.form VERSION))
+        (data_values (K.form VERSION) (number_of_lanes lanes.new) result.value) result.bad }
     ensures bytes { is_lanes N lanes.new ≡ true }
     ensures small { result.bad ≤ 15 → number_of_lanes lanes.new < 256 ^ w }
-    ensures none { K.form.rules.corrupts ≡ false → (lanes.new ≡ lanes.old) × (result.value ≡ 0) }
+    ensures none { (K.form VERSION).rules.corrupts ≡ false → (lanes.new ≡ lanes.old) × (result.value ≡ 0) }
 {
     if !K::HAS_DATA {
         return Number { value: 0, bad: 0 };
@@ -67,25 +67,30 @@ fn read_data<K: HeadText, const N: usize>(
 }
 
 /// The beat of a line of the channel on `w` lanes, without its LF.
-pub fn read_beat<K: ReadHead, const N: usize>(
+pub fn read_beat<K: ReadHead, const N: usize, const VERSION: u8>(
     text: &[u8],
     w: usize,
 ) -> Result<Beat<K, N>, TraceKind>
     requires width { w ≤ N }
     requires most { N ≤ WIDEST }
-    requires letter { slice_index text.now 0 ≡ K.form.rules.letter }
-    ensures ok { IfOk result (IsRead K.form w text.now) }
-    ensures err { IfErr result (λ kind. form_fault K.form w text.now ≡ Some kind) }
+    requires letter { slice_index text.now 0 ≡ (K.form VERSION).rules.letter }
+    ensures ok { IfOk result (IsRead (K.form VERSION) w text.now) }
+    ensures err { IfErr result (λ kind. form_fault (K.form VERSION) w text.now ≡ Some kind) }
     ensures kinds { IfErr result (λ kind. kind ≢ OutOfMemory) }
 {
-    if text.len() != line_len::<K>(w) {
+    if text.len() != line_len::<K, VERSION>(w) {
         return Err(TraceKind::Length);
     }
-    let fields = K::read_head(text);
-    let mask_at = K::head_end();
-    let mask = read_mask::<K>(text, mask_at, w);
+    let fields = K::read_head(text, VERSION);
+    let mask_at = K::head_end(VERSION);
+    let mask = read_mask::<K, VERSION>(text, mask_at, w);
     let mut lanes = [0u8; N];
-    let corrupt = read_data::<K, N>(text, mask_at + mask_len::<K>(w), w, &mut lanes);
+    let corrupt = read_data::<K, N, VERSION>(
+        text,
+        mask_at + mask_len::<K, VERSION>(w),
+        w,
+        &mut lanes,
+    );
     if (fields.bad | mask.bad | corrupt.bad) > 15 {
         return Err(TraceKind::Shape);
     }

@@ -9,7 +9,7 @@ use crate::fault::TraceKind;
 use crate::line::Line;
 use crate::line_reader::read_beat;
 use crate::script::{Script, on_lanes};
-use tl_msg::{Beat, ChA, ChB, ChC, ChD, ChE, HeadA, HeadB, HeadC, HeadD, HeadE};
+use tl_msg::{Beat, ChA, ChB, ChC, ChD, ChE, HeadA, HeadB, HeadC, HeadD, HeadE, OutOfMemory};
 
 /// One beat of a trace, on its sender's lanes.
 #[derive(Clone, Copy)]
@@ -22,19 +22,21 @@ pub enum Near<const C: usize, const M: usize> {
 }
 
 /// The beat of a later line, without its LF.
-pub fn read_near<const C: usize, const M: usize>(text: &[u8]) -> Result<Near<C, M>, TraceKind>
+pub fn read_near<const C: usize, const M: usize, const VERSION: u8>(
+    text: &[u8],
+) -> Result<Near<C, M>, TraceKind>
     requires client { C ≤ WIDEST }
     requires manager { M ≤ WIDEST }
-    ensures ok { IfOk result (IsReadNear text.now) }
-    ensures err { IfErr result (λ kind. body_fault C M text.now ≡ Some kind) }
+    ensures ok { IfOk result (IsReadNear VERSION text.now) }
+    ensures err { IfErr result (λ kind. body_fault VERSION C M text.now ≡ Some kind) }
     ensures kinds { IfErr result (λ kind. kind ≢ faults.OutOfMemory) }
 {
     match text.first() {
-        Some(b'A') => Ok(Near::OfA(read_beat::<ChA, C>(text, C)?)),
-        Some(b'B') => Ok(Near::OfB(read_beat::<ChB, M>(text, M)?)),
-        Some(b'C') => Ok(Near::OfC(read_beat::<ChC, C>(text, C)?)),
-        Some(b'D') => Ok(Near::OfD(read_beat::<ChD, M>(text, M)?)),
-        Some(b'E') => Ok(Near::OfE(read_beat::<ChE, C>(text, C)?)),
+        Some(b'A') => Ok(Near::OfA(read_beat::<ChA, C, VERSION>(text, C)?)),
+        Some(b'B') => Ok(Near::OfB(read_beat::<ChB, M, VERSION>(text, M)?)),
+        Some(b'C') => Ok(Near::OfC(read_beat::<ChC, C, VERSION>(text, C)?)),
+        Some(b'D') => Ok(Near::OfD(read_beat::<ChD, M, VERSION>(text, M)?)),
+        Some(b'E') => Ok(Near::OfE(read_beat::<ChE, C, VERSION>(text, C)?)),
         _ => Err(TraceKind::Channel),
     }
 }
@@ -55,6 +57,7 @@ pub fn near_of<const C: usize, const M: usize>(line: &Line) -> Near<C, M>
 }
 
 /// Appends a beat to the list of its channel.
+#[inline(always)]
 pub fn push_near<const C: usize, const M: usize>(
     script: &mut Script<C, M>,
     near: Near<C, M>,

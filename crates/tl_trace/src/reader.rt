@@ -1,7 +1,7 @@
 //! From a text to its trace.
 ghost use Rattle.std.specs.Prelude.{ℕ, ◌≡◌, ◌≢◌, ◌≤◌, ◌<◌, ◌+◌, true, false, None, Some, ◌∷◌, drop, map, length, slice_index, slice_range, IfSome, IfOk, IfErr};
 ghost use Rattle.std.specs.List.{list_any};
-ghost use Rattle.tl_trace.specs.Texts.{Tells, TellsLines, is_kept_line};
+ghost use Rattle.tl_trace.specs.Texts.{Tells, TellsLines, is_kept_line, is_version};
 ghost use Rattle.tl_trace.specs.Faults.{is_newline, cut, faults, body_fault, later_fault, IsFirstFault, IsReadableTo};
 ghost use Rattle.tl_trace.specs.Inner.Reading.{IsReadLine, LineAt};
 ghost use Rattle.std.specs.List.{list_all};
@@ -9,7 +9,7 @@ ghost use Rattle.tl_lanes.specs.declared.limits.TheConstants.{WIDEST};
 ghost use Rattle.tl_trace.specs.declared.fault.TraceKind.TheVariants.{OutOfMemory};
 
 use crate::fault::{TraceFault, TraceKind};
-use crate::header::widths_of;
+use crate::header::{Header, header_of};
 use crate::line::Line;
 use crate::line_reader::read_beat;
 use crate::places::line_len;
@@ -33,48 +33,57 @@ pub fn line_end(text: &[u8], at: usize) -> usize
 }
 
 /// The beat of a later line, without its LF.
-fn read_line(text: &[u8], client: usize, manager: usize) -> Result<Line, TraceKind>
+fn read_line<const VERSION: u8>(
+    text: &[u8],
+    client: usize,
+    manager: usize,
+) -> Result<Line, TraceKind>
     requires client { client ≤ WIDEST }
     requires manager { manager ≤ WIDEST }
-    ensures ok { IfOk result (IsReadLine client manager text.now) }
-    ensures err { IfErr result (λ kind. body_fault client manager text.now ≡ Some kind) }
+    ensures ok { IfOk result (IsReadLine VERSION client manager text.now) }
+    ensures err { IfErr result (λ kind. body_fault VERSION client manager text.now ≡ Some kind) }
     ensures kinds { IfErr result (λ kind. kind ≢ OutOfMemory) }
 {
     match text.first() {
-        Some(b'A') => Ok(Line::A(read_beat::<ChA, WIDEST>(text, client)?)),
-        Some(b'B') => Ok(Line::B(read_beat::<ChB, WIDEST>(text, manager)?)),
-        Some(b'C') => Ok(Line::C(read_beat::<ChC, WIDEST>(text, client)?)),
-        Some(b'D') => Ok(Line::D(read_beat::<ChD, WIDEST>(text, manager)?)),
-        Some(b'E') => Ok(Line::E(read_beat::<ChE, WIDEST>(text, client)?)),
+        Some(b'A') => Ok(Line::A(read_beat::<ChA, WIDEST, VERSION>(text, client)?)),
+        Some(b'B') => Ok(Line::B(read_beat::<ChB, WIDEST, VERSION>(text, manager)?)),
+        Some(b'C') => Ok(Line::C(read_beat::<ChC, WIDEST, VERSION>(text, client)?)),
+        Some(b'D') => Ok(Line::D(read_beat::<ChD, WIDEST, VERSION>(text, manager)?)),
+        Some(b'E') => Ok(Line::E(read_beat::<ChE, WIDEST, VERSION>(text, client)?)),
         _ => Err(TraceKind::Channel),
     }
 }
 
 /// The length of a line with this letter, without its LF.
-fn expected_length(letter: u8, client: usize, manager: usize) -> Option<usize>
+fn expected_length<const VERSION: u8>(letter: u8, client: usize, manager: usize) -> Option<usize>
     requires client { client ≤ WIDEST }
     requires manager { manager ≤ WIDEST }
     ensures { IfSome result (λ n. (1 ≤ n) × (n ≤ 180)) }
 {
     match letter {
-        b'A' => Some(line_len::<ChA>(client)),
-        b'B' => Some(line_len::<ChB>(manager)),
-        b'C' => Some(line_len::<ChC>(client)),
-        b'D' => Some(line_len::<ChD>(manager)),
-        b'E' => Some(line_len::<ChE>(client)),
+        b'A' => Some(line_len::<ChA, VERSION>(client)),
+        b'B' => Some(line_len::<ChB, VERSION>(manager)),
+        b'C' => Some(line_len::<ChC, VERSION>(client)),
+        b'D' => Some(line_len::<ChD, VERSION>(manager)),
+        b'E' => Some(line_len::<ChE, VERSION>(client)),
         _ => None,
     }
 }
 
 /// The end of a line whose LF stands where its letter and the widths say.
-pub fn expected_end(text: &[u8], at: usize, client: usize, manager: usize) -> Option<usize>
+pub fn expected_end<const VERSION: u8>(
+    text: &[u8],
+    at: usize,
+    client: usize,
+    manager: usize,
+) -> Option<usize>
     requires client { client ≤ WIDEST }
     requires manager { manager ≤ WIDEST }
     requires at { at < length text.now }
     ensures { IfSome result (λ end. (at < end) × (end < length text.now) ×
         (slice_index text.now end ≡ 10)) }
 {
-    let long = expected_length(text[at], client, manager)?;
+    let long = expected_length::<VERSION>(text[at], client, manager)?;
     if long >= text.len() - at || text[at + long] != b'\n' {
         return None;
     }
@@ -82,14 +91,14 @@ pub fn expected_end(text: &[u8], at: usize, client: usize, manager: usize) -> Op
 }
 
 /// How many lines can be stored of this text at most, from line 2 on. A line whose LF stands elsewhere is faulty.
-fn max_lines(text: &[u8], start: usize, client: usize, manager: usize) -> usize
+fn max_lines<const VERSION: u8>(text: &[u8], start: usize, client: usize, manager: usize) -> usize
     requires client { client ≤ WIDEST }
     requires manager { manager ≤ WIDEST }
 {
     let mut lines = 0;
     let mut at = start;
     while at < text.len() {
-        let Some(end) = expected_end(text, at, client, manager) else {
+        let Some(end) = expected_end::<VERSION>(text, at, client, manager) else {
             return lines;
         };
         at = end + 1;
@@ -99,7 +108,7 @@ fn max_lines(text: &[u8], start: usize, client: usize, manager: usize) -> usize
 }
 
 /// The end of the line from `at` on, and its beat.
-pub fn next_line(
+pub fn next_line<const VERSION: u8>(
     text: &[u8],
     at: usize,
     client: usize,
@@ -109,22 +118,22 @@ pub fn next_line(
     requires manager { manager ≤ WIDEST }
     requires at { at < length text.now }
     ensures line { LineAt text.now at result.0 }
-    ensures ok { IfOk result.1 (IsReadLine client manager (slice_range text.now at result.0)) }
+    ensures ok { IfOk result.1 (IsReadLine VERSION client manager (slice_range text.now at result.0)) }
     ensures err { IfErr result.1 (λ kind.
-        body_fault client manager (slice_range text.now at result.0) ≡ Some kind) }
+        body_fault VERSION client manager (slice_range text.now at result.0) ≡ Some kind) }
     ensures kinds { IfErr result.1 (λ kind. kind ≢ OutOfMemory) }
 {
-    if let Some(end) = expected_end(text, at, client, manager) {
-        if let Ok(line) = read_line(&text[at..end], client, manager) {
+    if let Some(end) = expected_end::<VERSION>(text, at, client, manager) {
+        if let Ok(line) = read_line::<VERSION>(&text[at..end], client, manager) {
             return (end, Ok(line));
         }
     }
     let end = line_end(text, at);
-    (end, read_line(&text[at..end], client, manager))
+    (end, read_line::<VERSION>(&text[at..end], client, manager))
 }
 
 /// The beats of the lines from `start` on, where the first of them is line 2.
-fn read_lines(
+fn read_lines<const VERSION: u8>(
     alloc: Global,
     text: &[u8],
     start: usize,
@@ -135,23 +144,23 @@ fn read_lines(
     requires manager { manager ≤ WIDEST }
     requires start { (1 ≤ start) × (start ≤ length text.now) }
     requires header { faults text.now ≡
-        None ∷ map (later_fault client manager) (cut (drop start text.now)) }
+        None ∷ map (later_fault VERSION client manager) (cut (drop start text.now)) }
     ensures told { IfOk result (λ lines.
-        TellsLines client manager lines.items (drop start text.now)) }
+        TellsLines VERSION client manager lines.items (drop start text.now)) }
     ensures kept { IfOk result (λ lines.
-        list_all (is_kept_line client manager) lines.items ≡ true) }
+        list_all (is_kept_line VERSION client manager) lines.items ≡ true) }
     ensures fault { IfErr result (λ e. e.kind ≢ OutOfMemory → IsFirstFault text.now e.line e.kind) }
     ensures memory { IfErr result (λ e. e.kind ≡ OutOfMemory → IsReadableTo text.now e.line) }
 {
     let mut lines = Vec::new(alloc);
     let has_room = lines
-        .reserve(max_lines(text, start, client, manager))
+        .reserve(max_lines::<VERSION>(text, start, client, manager))
         .is_ok();
     let mut at = start;
     let mut before = 1u64;
     while at < text.len() {
         let line = before + 1;
-        let (end, read) = next_line(text, at, client, manager);
+        let (end, read) = next_line::<VERSION>(text, at, client, manager);
         let beat = match read {
             Ok(beat) => beat,
             Err(kind) => return Err(TraceFault { line, kind }),
@@ -170,16 +179,44 @@ fn read_lines(
     Ok(lines)
 }
 
-/// Reads a text. The trace is the one that the text tells. A fault is the first one of the text, with its line;
-/// `OutOfMemory` has the first line whose beat could not be stored, and no line up to it has a fault.
+/// The same where the version is known only when the text is read.
+fn read_lines_of(
+    alloc: Global,
+    text: &[u8],
+    start: usize,
+    header: Header,
+) -> Result<Vec<Line>, TraceFault>
+    requires version { is_version header.version ≡ true }
+    requires client { header.client ≤ WIDEST }
+    requires manager { header.manager ≤ WIDEST }
+    requires start { (1 ≤ start) × (start ≤ length text.now) }
+    requires header { faults text.now ≡ None ∷
+        map (later_fault header.version header.client header.manager) (cut (drop start text.now)) }
+    ensures told { IfOk result (λ lines. TellsLines header.version header.client header.manager
+        lines.items (drop start text.now)) }
+    ensures kept { IfOk result (λ lines. list_all
+        (is_kept_line header.version header.client header.manager) lines.items ≡ true) }
+    ensures fault { IfErr result (λ e. e.kind ≢ OutOfMemory → IsFirstFault text.now e.line e.kind) }
+    ensures memory { IfErr result (λ e. e.kind ≡ OutOfMemory → IsReadableTo text.now e.line) }
+{
+    if header.version == 1 {
+        read_lines::<1>(alloc, text, start, header.client, header.manager)
+    } else {
+        read_lines::<2>(alloc, text, start, header.client, header.manager)
+    }
+}
+
+/// Reads a text of version 1 or 2. The trace is the one that the text tells. A fault is the first one of the text, with
+/// its line; `OutOfMemory` has the first line whose beat could not be stored, and no line up to it has a fault.
 /// The lines are counted first, so that memory for them is taken once.
 pub fn read(alloc: Global, text: &[u8]) -> Result<Trace, TraceFault>
-    ensures told { IfOk result (λ t. Tells text.now t.client t.manager t.lines.items) }
+    ensures told { IfOk result (λ t.
+        Tells text.now t.version t.client t.manager t.lines.items) }
     ensures fault { IfErr result (λ e. e.kind ≢ OutOfMemory → IsFirstFault text.now e.line e.kind) }
     ensures memory { IfErr result (λ e. e.kind ≡ OutOfMemory → IsReadableTo text.now e.line) }
 {
     let end = line_end(text, 0);
-    let Some((client, manager)) = widths_of(&text[..end]) else {
+    let Some(header) = header_of(&text[..end]) else {
         return Err(TraceFault {
             line: 1,
             kind: TraceKind::Header,
@@ -191,10 +228,11 @@ pub fn read(alloc: Global, text: &[u8]) -> Result<Trace, TraceFault>
             kind: TraceKind::NoEnd,
         });
     }
-    let lines = read_lines(alloc, text, end + 1, client, manager)?;
+    let lines = read_lines_of(alloc, text, end + 1, header)?;
     Ok(Trace {
-        client,
-        manager,
+        version: header.version,
+        client: header.client,
+        manager: header.manager,
         lines,
     })
 }

@@ -4,12 +4,11 @@ ghost use Rattle.tl_lanes.specs.declared.limits.TheConstants.{WIDEST};
 ghost use Rattle.tl_trace.specs.Scripts.{IsScriptOf, on_lanes, beats_a, beats_b, beats_c, beats_d, beats_e};
 ghost use Rattle.tl_lanes.specs.Lanes.{IsWidth};
 
-use crate::fault::OutOfMemory;
 use crate::near::{near_of, push_near};
 use crate::trace::Trace;
 use std::alloc::Global;
 use tl_lanes::WIDEST;
-use tl_msg::{Beat, BeatOf, ChA, ChB, ChC, ChD, ChE};
+use tl_msg::{Beat, BeatOf, ChA, ChB, ChC, ChD, ChE, OutOfMemory};
 
 /// The near beats of the five channels, each on its sender's lanes. The order between channels has no meaning.
 #[derive(Drop)]

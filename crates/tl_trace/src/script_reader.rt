@@ -1,27 +1,28 @@
 //! From a text to its script.
-ghost use Rattle.std.specs.Prelude.{◌≡◌, ◌≢◌, ◌≤◌, ◌<◌, None, Some, ◌∷◌, drop, map, length, slice_range, IfOk, IfErr};
+ghost use Rattle.std.specs.Prelude.{true, ◌≡◌, ◌≢◌, ◌≤◌, ◌<◌, None, Some, ◌∷◌, drop, map, length, slice_range, IfOk, IfErr};
 ghost use Rattle.tl_lanes.specs.declared.limits.TheConstants.{WIDEST};
 ghost use Rattle.tl_trace.specs.Scripts.{TellsScript};
-ghost use Rattle.tl_trace.specs.Faults.{body, cut, faults, body_fault, later_fault, widths_of, IsFirstFault, IsReadableTo};
+ghost use Rattle.tl_trace.specs.Texts.{is_version};
+ghost use Rattle.tl_trace.specs.Faults.{body, cut, faults, body_fault, later_fault, header_of, HasHeader, IsFirstFault, IsReadableTo};
 ghost use Rattle.tl_trace.specs.Inner.Reading.{IsReadNear, LineAt, TellsRest};
 ghost use Rattle.tl_trace.specs.declared.fault.TraceKind.TheVariants.{OutOfMemory};
 
 use crate::fault::{TraceFault, TraceKind};
-use crate::header::widths_of;
+use crate::header::{Header, header_of};
 use crate::near::{Near, push_near, read_near};
 use crate::reader::{expected_end, line_end};
 use crate::script::{Script, empty_script};
 use std::alloc::Global;
 
-/// The widths in bytes, of the client and of the manager, that the first line of a text names; `None` where it is no header.
-pub fn widths_of_text(text: &[u8]) -> Option<(usize, usize)>
-    ensures { result ≡ widths_of (body text.now) }
+/// What the first line of a text names; `None` where it is no header.
+pub fn header_of_text(text: &[u8]) -> Option<Header>
+    ensures { result ≡ header_of (body text.now) }
 {
-    widths_of(&text[..line_end(text, 0)])
+    header_of(&text[..line_end(text, 0)])
 }
 
 /// The end of the line from `at` on, and its beat.
-fn next_near<const C: usize, const M: usize>(
+fn next_near<const C: usize, const M: usize, const VERSION: u8>(
     text: &[u8],
     at: usize,
 ) -> (usize, Result<Near<C, M>, TraceKind>)
@@ -29,22 +30,22 @@ fn next_near<const C: usize, const M: usize>(
     requires manager { M ≤ WIDEST }
     requires at { at < length text.now }
     ensures line { LineAt text.now at result.0 }
-    ensures ok { IfOk result.1 (IsReadNear (slice_range text.now at result.0)) }
+    ensures ok { IfOk result.1 (IsReadNear VERSION (slice_range text.now at result.0)) }
     ensures err { IfErr result.1 (λ kind.
-        body_fault C M (slice_range text.now at result.0) ≡ Some kind) }
+        body_fault VERSION C M (slice_range text.now at result.0) ≡ Some kind) }
     ensures kinds { IfErr result.1 (λ kind. kind ≢ OutOfMemory) }
 {
-    if let Some(end) = expected_end(text, at, C, M) {
-        if let Ok(near) = read_near::<C, M>(&text[at..end]) {
+    if let Some(end) = expected_end::<VERSION>(text, at, C, M) {
+        if let Ok(near) = read_near::<C, M, VERSION>(&text[at..end]) {
             return (end, Ok(near));
         }
     }
     let end = line_end(text, at);
-    (end, read_near::<C, M>(&text[at..end]))
+    (end, read_near::<C, M, VERSION>(&text[at..end]))
 }
 
 /// The beats of the lines from `start` on, where the first of them is line 2.
-fn read_beats<const C: usize, const M: usize>(
+fn read_beats<const C: usize, const M: usize, const VERSION: u8>(
     alloc: Global,
     text: &[u8],
     start: usize,
@@ -52,8 +53,8 @@ fn read_beats<const C: usize, const M: usize>(
     requires client { C ≤ WIDEST }
     requires manager { M ≤ WIDEST }
     requires start { (1 ≤ start) × (start ≤ length text.now) }
-    requires header { faults text.now ≡ None ∷ map (later_fault C M) (cut (drop start text.now)) }
-    ensures told { IfOk result (TellsRest (drop start text.now)) }
+    requires header { faults text.now ≡ None ∷ map (later_fault VERSION C M) (cut (drop start text.now)) }
+    ensures told { IfOk result (TellsRest VERSION (drop start text.now)) }
     ensures fault { IfErr result (λ e. e.kind ≢ OutOfMemory → IsFirstFault text.now e.line e.kind) }
     ensures memory { IfErr result (λ e. e.kind ≡ OutOfMemory → IsReadableTo text.now e.line) }
 {
@@ -62,7 +63,7 @@ fn read_beats<const C: usize, const M: usize>(
     let mut before = 1u64;
     while at < text.len() {
         let line = before + 1;
-        let (end, read) = next_near::<C, M>(text, at);
+        let (end, read) = next_near::<C, M, VERSION>(text, at);
         let near = match read {
             Ok(near) => near,
             Err(kind) => return Err(TraceFault { line, kind }),
@@ -81,14 +82,39 @@ fn read_beats<const C: usize, const M: usize>(
     Ok(script)
 }
 
-/// Reads a text whose first line names these widths, from its lines straight into the lists of a script, with no trace
-/// between them. The script is that of the trace that the text tells; a fault is what `read` says it is.
+/// The same where the version is known only when the text is read.
+fn read_beats_of<const C: usize, const M: usize>(
+    alloc: Global,
+    text: &[u8],
+    start: usize,
+    version: u8,
+) -> Result<Script<C, M>, TraceFault>
+    requires version { is_version version ≡ true }
+    requires client { C ≤ WIDEST }
+    requires manager { M ≤ WIDEST }
+    requires start { (1 ≤ start) × (start ≤ length text.now) }
+    requires header { faults text.now ≡
+        None ∷ map (later_fault version C M) (cut (drop start text.now)) }
+    ensures told { IfOk result (TellsRest version (drop start text.now)) }
+    ensures fault { IfErr result (λ e. e.kind ≢ OutOfMemory → IsFirstFault text.now e.line e.kind) }
+    ensures memory { IfErr result (λ e. e.kind ≡ OutOfMemory → IsReadableTo text.now e.line) }
+{
+    if version == 1 {
+        read_beats::<C, M, 1>(alloc, text, start)
+    } else {
+        read_beats::<C, M, 2>(alloc, text, start)
+    }
+}
+
+/// Reads a text whose first line names this version and these widths, from its lines straight into the lists of a script,
+/// with no trace between them. The script is that of the trace that the text tells; a fault is what `read` says it is.
 pub fn read_script<const C: usize, const M: usize>(
     alloc: Global,
     text: &[u8],
+    version: u8,
 ) -> Result<Script<C, M>, TraceFault>
-    requires widths { widths_of (body text.now) ≡ Some (C, M) }
-    ensures told { IfOk result (TellsScript text.now) }
+    requires header { HasHeader text.now version C M }
+    ensures told { IfOk result (TellsScript version text.now) }
     ensures fault { IfErr result (λ e. e.kind ≢ OutOfMemory → IsFirstFault text.now e.line e.kind) }
     ensures memory { IfErr result (λ e. e.kind ≡ OutOfMemory → IsReadableTo text.now e.line) }
 {
@@ -99,5 +125,5 @@ pub fn read_script<const C: usize, const M: usize>(
             kind: TraceKind::NoEnd,
         });
     }
-    read_beats::<C, M>(alloc, text, end + 1)
+    read_beats_of::<C, M>(alloc, text, end + 1, version)
 }

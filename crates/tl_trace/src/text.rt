@@ -154,6 +154,7 @@ pub fn fill_byte(line: &mut Room, at: usize, byte: u8) -> usize
 }
 
 /// Appends bytes, for which there is room.
+#[inline(always)]
 pub fn put<const N: usize>(text: &mut ArrayVec<u8, N>, bytes: &[u8])
     requires { array_vec_len text.old + length bytes.now ≤ N }
     ensures items { text.new.items ≡ text.old.items ++ bytes.now }

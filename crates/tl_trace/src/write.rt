@@ -4,13 +4,12 @@ ghost use Rattle.tl_lanes.specs.declared.limits.TheConstants.{WIDEST};
 ghost use Rattle.arrayvec.specs.ArrayVec.{array_vec_len};
 ghost use Rattle.tl_lanes.specs.Lanes.{IsWidth};
 ghost use Rattle.tl_trace.specs.Fields.{bit, number_of_lanes};
-ghost use Rattle.tl_trace.specs.Lines.{hex, line_text, beats_text};
+ghost use Rattle.tl_trace.specs.Lines.{hex, head_text, line_text, beats_text};
 ghost use Rattle.tl_trace.specs.Texts.{newline, text_of_line, trace_text};
 ghost use Rattle.tl_trace.specs.Reports.{verdict_text, report_line};
 
-use crate::fault::OutOfMemory;
 use crate::head_text::HeadText;
-use crate::header::header;
+use crate::header::header_text;
 use crate::line::Line;
 use crate::places::mask_digits;
 use crate::text::{
@@ -20,14 +19,27 @@ use crate::trace::Trace;
 use arrayvec::ArrayVec;
 use std::alloc::Global;
 use tl_lanes::{Mask, WIDEST};
-use tl_msg::{Beat, ChA, ChB, ChC, ChD, ChE, Verdict};
+use tl_msg::{Beat, ChA, ChB, ChC, ChD, ChE, OutOfMemory, Verdict};
+
+/// Writes the head of a line, and gives the place behind it. Both branches write the same: in each the version is known
+/// when the program is compiled, and so is the length.
+#[inline]
+fn fill_head<K: HeadText>(line: &mut Room, head: &K::Head, version: u8) -> usize
+    ensures items { take result line.new ≡ head_text (K.form version) head.now }
+    ensures end { result ≤ 32 }
+{
+    if version == 1 {
+        return fill(line, 0, K::head_text(head, 1).as_slice());
+    }
+    fill(line, 0, K::head_text(head, version).as_slice())
+}
 
 /// Writes the mask of a channel that has one, and gives the place behind it.
 fn fill_mask<K: HeadText>(line: &mut Room, at: usize, mask: Mask, w: usize) -> usize
     requires width { w ≤ WIDEST }
     requires room { at ≤ 32 }
     ensures items { take result line.new ≡
-        take at line.old ++ (if K.form.rules.masked then 32 ∷ hex ((w + 3) / 4) mask else []) }
+        take at line.old ++ (if K.MASKED then 32 ∷ hex ((w + 3) / 4) mask else []) }
     ensures end { result ≤ 49 }
 {
     if !K::MASKED {
@@ -48,7 +60,7 @@ fn fill_data<K: HeadText>(
     requires lanes { w ≤ length lanes.now }
     requires room { at ≤ 49 }
     ensures items { take result line.new ≡ take at line.old ++
-        (if K.form.rules.corrupts
+        (if K.HAS_DATA
         then (32 ∷ hex (2 * w) (number_of_lanes lanes.now)) ++ 32 ∷ hex 1 (bit corrupt)
         else []) }
     ensures end { result ≤ 180 }
@@ -61,57 +73,64 @@ fn fill_data<K: HeadText>(
 }
 
 /// Writes the line of a beat on the first `w` of its lanes, with its LF, and gives its length.
-fn fill_line<K: HeadText, const N: usize>(line: &mut Room, beat: &Beat<K, N>, w: usize) -> usize
+fn fill_line<K: HeadText, const N: usize>(
+    line: &mut Room,
+    beat: &Beat<K, N>,
+    w: usize,
+    version: u8,
+) -> usize
     requires width { w ≤ WIDEST }
     requires lanes { w ≤ N }
-    ensures items { take result line.new ≡ line_text K.form w beat.now ++ newline }
+    ensures items { take result line.new ≡ line_text (K.form version) w beat.now ++ newline }
     ensures end { result ≤ 192 }
 {
-    let head = fill(line, 0, K::head_text(&beat.head).as_slice());
+    let head = fill_head::<K>(line, &beat.head, version);
     let mask = fill_mask::<K>(line, head, beat.mask, w);
     let data = fill_data::<K>(line, mask, &beat.lanes, beat.corrupt, w);
     fill_byte(line, data, b'\n')
 }
 
 /// The line of a beat on the first `w` of its lanes, with its LF.
-fn line_on<K: HeadText, const N: usize>(beat: &Beat<K, N>, w: usize) -> Text
+fn line_on<K: HeadText, const N: usize>(beat: &Beat<K, N>, w: usize, version: u8) -> Text
     requires width { w ≤ WIDEST }
     requires lanes { w ≤ N }
-    ensures { result.items ≡ line_text K.form w beat.now ++ newline }
+    ensures { result.items ≡ line_text (K.form version) w beat.now ++ newline }
 {
     let mut line = [0; 192];
-    let end = fill_line::<K, N>(&mut line, beat, w);
+    let end = fill_line::<K, N>(&mut line, beat, w, version);
     let mut text = ArrayVec::new();
     put(&mut text, &line[..end]);
     text
 }
 
-/// The line of a beat on `W` lanes, with its LF: at most 176 bytes, those of A and B at width 64.
-/// A field is written by its lowest digits, so the text of a writable beat is its line.
-pub fn line_of<K: HeadText, const W: usize>(beat: &Beat<K, W>) -> ArrayVec<u8, 320>
+/// The line of a beat on `W` lanes in a trace of this version, with its LF: at most 178 bytes, those of A and B at width 64
+/// in version 2. Ids have two digits in version 1 and four in every other. A field is written by its lowest digits, so the
+/// text of a beat that is writable in this version is its line.
+pub fn line_of<K: HeadText, const W: usize>(beat: &Beat<K, W>, version: u8) -> ArrayVec<u8, 320>
     requires { IsWidth W }
-    ensures { result.items ≡ line_text K.form W beat.now ++ newline }
+    ensures { result.items ≡ line_text (K.form version) W beat.now ++ newline }
 {
-    line_on::<K, W>(beat, W)
+    line_on::<K, W>(beat, W, version)
 }
 
-/// Appends the lines of beats, in order, each with its LF. Where a growth is refused the contents stay as they were.
+/// Appends the lines of beats as `line_of` gives them, in order. Where a growth is refused the contents stay as they were.
 pub fn write_far<K: HeadText, const W: usize>(
     out: &mut Vec<u8>,
     beats: &[Beat<K, W>],
+    version: u8,
 ) -> Result<(), OutOfMemory>
     requires { IsWidth W }
-    ensures ok { OnOk result (out.new.items ≡ out.old.items ++ beats_text K.form W beats.now) }
+    ensures ok { OnOk result (out.new.items ≡ out.old.items ++ beats_text (K.form version) W beats.now) }
     ensures err { OnErr result (out.new.items ≡ out.old.items) }
 {
     let start = out.len();
     let mut line = [0; 192];
     if let Some(first) = beats.first() {
-        let end = fill_line::<K, W>(&mut line, first, W);
+        let end = fill_line::<K, W>(&mut line, first, W, version);
         out.reserve(beats.len().saturating_mul(end))?;
     }
     for beat in beats {
-        let end = fill_line::<K, W>(&mut line, beat, W);
+        let end = fill_line::<K, W>(&mut line, beat, W, version);
         if out.extend_from_slice(&line[..end]).is_err() {
             out.truncate(start);
             return Err(OutOfMemory);
@@ -178,32 +197,33 @@ pub fn write_report(out: &mut Vec<u8>, letter: u8, verdict: &Verdict) -> Result<
     Ok(())
 }
 
-/// The line of a beat of a trace, with its LF.
-fn line_of_trace(client: usize, manager: usize, line: &Line) -> Text
+/// The line of a beat of a trace of this header, with its LF.
+fn line_of_trace(version: u8, client: usize, manager: usize, line: &Line) -> Text
     requires client { client ≤ WIDEST }
     requires manager { manager ≤ WIDEST }
-    ensures { result.items ≡ text_of_line client manager line.now ++ newline }
+    ensures { result.items ≡ text_of_line version client manager line.now ++ newline }
 {
     match line {
-        Line::A(beat) => line_on::<ChA, WIDEST>(beat, client),
-        Line::B(beat) => line_on::<ChB, WIDEST>(beat, manager),
-        Line::C(beat) => line_on::<ChC, WIDEST>(beat, client),
-        Line::D(beat) => line_on::<ChD, WIDEST>(beat, manager),
-        Line::E(beat) => line_on::<ChE, WIDEST>(beat, client),
+        Line::A(beat) => line_on::<ChA, WIDEST>(beat, client, version),
+        Line::B(beat) => line_on::<ChB, WIDEST>(beat, manager, version),
+        Line::C(beat) => line_on::<ChC, WIDEST>(beat, client, version),
+        Line::D(beat) => line_on::<ChD, WIDEST>(beat, manager, version),
+        Line::E(beat) => line_on::<ChE, WIDEST>(beat, client, version),
     }
 }
 
-/// The text of a trace: what is read of it is this trace again.
+/// The text of a trace, in its version: what is read of it is this trace again.
 /// `OutOfMemory` where a growth is refused.
 pub fn write_trace(alloc: Global, trace: &Trace) -> Result<Vec<u8>, OutOfMemory>
     ensures { IfOk result (λ text. text.items ≡
-        trace_text trace.now.client trace.now.manager trace.now.lines.items) }
+        trace_text trace.now.version trace.now.client trace.now.manager trace.now.lines.items) }
 {
+    let (version, client, manager) = (trace.version, trace.client, trace.manager);
     let mut out = Vec::new(alloc);
-    out.extend_from_slice(header(trace.client, trace.manager).as_slice())?;
+    out.extend_from_slice(header_text(version, client, manager).as_slice())?;
     out.push(b'\n')?;
     for line in &trace.lines {
-        out.extend_from_slice(line_of_trace(trace.client, trace.manager, line).as_slice())?;
+        out.extend_from_slice(line_of_trace(version, client, manager, line).as_slice())?;
     }
     Ok(out)
 }

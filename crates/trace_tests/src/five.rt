@@ -3,7 +3,7 @@
 
 use std::alloc::Global;
 use std::test::Fail;
-use tl_trace::{Line, Script, Trace, read_script, script_of, widths_of_text, write_trace};
+use tl_trace::{Header, Line, Script, Trace, header_of_text, read_script, script_of, write_trace};
 
 /// One beat on each channel.
 pub const FIVE: &[u8] = b"tilelink-trace 1 client 4 manager 8
@@ -14,13 +14,55 @@ B 7 2 6 00 0000000000000080 ff 0000000000000000 0
 A 7 2 6 01 0000000000000040 f 00000000 0
 ";
 
+/// One beat on each channel in a trace of version 2. Each id is above 255, and one of [`FIVE`] in its lowest two digits.
+pub const FIVE_2: &[u8] = b"tilelink-trace 2 client 4 manager 8
+E 0107
+D 4 0 6 fe01 ff07 0 0000000000000000 0
+C 4 1 6 0100 0000000000000080 00000000 0
+B 7 2 6 8000 0000000000000080 ff 0000000000000000 0
+A 7 2 6 0201 0000000000000040 f 00000000 0
+";
+
+/// Whether this is the trace of [`FIVE_2`], by its ids.
+pub fn is_five_2(trace: &Trace) -> bool {
+    let (version, lines) = (trace.version, trace.lines.as_slice());
+    let [Line::E(e), Line::D(d), Line::C(c), Line::B(b), Line::A(a)] = lines else {
+        return false;
+    };
+    version == 2
+        && e.head.sink == 0x107
+        && d.head.source == 0xfe01
+        && d.head.sink == 0xff07
+        && c.head.source == 0x100
+        && b.head.source == 0x8000
+        && a.head.source == 0x201
+}
+
+/// Whether this is the script of [`FIVE_2`], by an id of each beat.
+pub fn is_script_of_five_2(script: &Script<4, 8>) -> bool {
+    let (a, b, c) = (
+        script.a.as_slice(),
+        script.b.as_slice(),
+        script.c.as_slice(),
+    );
+    let ([a], [b], [c], [d], [e]) = (a, b, c, script.d.as_slice(), script.e.as_slice()) else {
+        return false;
+    };
+    a.head.source == 0x201
+        && b.head.source == 0x8000
+        && c.head.source == 0x100
+        && d.head.sink == 0xff07
+        && e.head.sink == 0x107
+}
+
 /// Whether this is the trace of [`FIVE`], by a field of each line.
 pub fn is_five(trace: &Trace) -> bool {
     let (client, manager, lines) = (trace.client, trace.manager, trace.lines.as_slice());
     let [Line::E(e), Line::D(d), Line::C(c), Line::B(b), Line::A(a)] = lines else {
         return false;
     };
-    client == 4
+    trace.version == 1
+        && client == 4
         && manager == 8
         && e.head.sink == 7
         && d.head.source == 1
@@ -48,10 +90,17 @@ pub fn is_script_of_five(script: &Script<4, 8>) -> bool {
 
 /// The script that a text of these widths is read into.
 pub fn script_read(alloc: Global, text: &[u8]) -> Result<Script<4, 8>, Fail> {
-    if widths_of_text(text) != Some((4, 8)) {
-        return Err(Fail::from("other widths"));
-    }
-    match read_script::<4, 8>(alloc, text) {
+    let Some(
+        Header {
+            version,
+            client: 4,
+            manager: 8,
+        },
+    ) = header_of_text(text)
+    else {
+        return Err(Fail::from("another header"));
+    };
+    match read_script::<4, 8>(alloc, text, version) {
         Ok(script) => Ok(script),
         Err(fault) => Err(Fail::new(fault)),
     }

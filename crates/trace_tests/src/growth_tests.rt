@@ -53,7 +53,7 @@ const ACK: BeatOf<HeadE, 4> = BeatOf {
 #[test]
 fn write_far_wants_memory(rt: HostRuntime) -> Result<(), Fail> {
     let mut out = Vec::from_slice(rt.alloc(), b"before ")?;
-    if let Err(fault) = write_far::<ChE, 4>(&mut out, &[ACK; 3]) {
+    if let Err(fault) = write_far::<ChE, 4>(&mut out, &[ACK; 3], 1) {
         assert!(rt; out.as_slice() == b"before ".as_slice());
         return Err(Fail::new(fault));
     }

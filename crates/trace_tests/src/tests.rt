@@ -1,11 +1,15 @@
 #![tactic(auto, using(tl_lanes::proofs::Widths::width_4))]
 
-use crate::five::{is_script_of_five, is_written_as, script_made, script_read};
+use crate::five::{
+    FIVE_2, is_five_2, is_script_of_five, is_script_of_five_2, is_written_as, script_made,
+    script_read,
+};
 use std::alloc::{AllocError, Global};
 use std::test::Fail;
-use tl_msg::{BeatOf, ChA, ChE, HeadA, HeadE, SideFault, Verdict};
+use tl_msg::{BeatOf, ChA, ChE, HeadA, HeadE, SideFault, SinkId, Verdict};
 use tl_trace::{
     Line, OutOfMemory, Trace, TraceFault, TraceKind, line_of, read, write_far, write_report,
+    write_trace,
 };
 
 /// One beat on each channel, line by line.
@@ -19,7 +23,7 @@ const FIVE: [&[u8]; 6] = [
 ];
 
 /// What stands in place of one of these lines, and the first fault then, with its line.
-const FAULTY: [(usize, &[u8], u64, TraceKind); 40] = [
+const FAULTY: [(usize, &[u8], u64, TraceKind); 49] = [
     (0, b"", 1, TraceKind::Header),
     (0, b"\n", 1, TraceKind::Header),
     (
@@ -36,9 +40,45 @@ const FAULTY: [(usize, &[u8], u64, TraceKind); 40] = [
     ),
     (
         0,
-        b"tilelink-trace 2 client 4 manager 8\n",
+        b"tilelink-trace 0 client 4 manager 8\n",
         1,
         TraceKind::Header,
+    ),
+    (
+        0,
+        b"tilelink-trace 3 client 4 manager 8\n",
+        1,
+        TraceKind::Header,
+    ),
+    (
+        0,
+        b"tilelink-trace 12 client 4 manager 8\n",
+        1,
+        TraceKind::Header,
+    ),
+    (
+        0,
+        b"tilelink-trace 02 client 4 manager 8\n",
+        1,
+        TraceKind::Header,
+    ),
+    (
+        0,
+        b"tilelink-trace  client 4 manager 8\n",
+        1,
+        TraceKind::Header,
+    ),
+    (
+        0,
+        b"tilelink-trace client 4 manager 8\n",
+        1,
+        TraceKind::Header,
+    ),
+    (
+        0,
+        b"tilelink-trace 2 client 4 manager 8\n",
+        2,
+        TraceKind::Length,
     ),
     (
         0,
@@ -53,6 +93,19 @@ const FAULTY: [(usize, &[u8], u64, TraceKind); 40] = [
     (5, b"G", 6, TraceKind::Channel),
     (1, b"E 0\n", 2, TraceKind::Length),
     (1, b"E 0A0\n", 2, TraceKind::Length),
+    (1, b"E 002a\n", 2, TraceKind::Length),
+    (
+        0,
+        b"tilelink-trace 2 client 2 manager 2\nE 2a\n",
+        2,
+        TraceKind::Length,
+    ),
+    (
+        0,
+        b"tilelink-trace 2 client 2 manager 2\nE 0107\nE 01_7\n",
+        3,
+        TraceKind::Shape,
+    ),
     (1, b"E 07\r\n", 2, TraceKind::Length),
     (
         3,
@@ -297,6 +350,40 @@ fn reads_and_writes_lanes(rt: HostRuntime) -> Result<(), Fail> {
     Ok(())
 }
 
+#[test]
+fn reads_and_writes_version_2(rt: HostRuntime) -> Result<(), Fail> {
+    let trace = read(rt.alloc(), FIVE_2)?;
+    assert!(rt; is_five_2(&trace));
+    assert!(rt; is_script_of_five_2(&script_made(rt.alloc(), &trace)?));
+    let text = write_trace(rt.alloc(), &trace)?;
+    assert!(rt; text.as_slice() == FIVE_2);
+    assert!(rt; is_five_2(&read(rt.alloc(), &text)?));
+    Ok(())
+}
+
+#[test]
+fn reads_a_script_of_version_2(rt: HostRuntime) -> Result<(), Fail> {
+    assert!(rt; is_script_of_five_2(&script_read(rt.alloc(), FIVE_2)?));
+    Ok(())
+}
+
+/// The sinks of two lines of E.
+fn two_sinks(trace: &Trace) -> Option<(SinkId, SinkId)> {
+    match trace.lines.as_slice() {
+        [Line::E(first), Line::E(second)] => Some((first.head.sink, second.head.sink)),
+        _ => None,
+    }
+}
+
+#[test]
+fn keeps_ids_apart(rt: HostRuntime) -> Result<(), Fail> {
+    let text = b"tilelink-trace 2 client 8 manager 4\nE 0107\nE 0007\n";
+    let trace = read(rt.alloc(), text)?;
+    assert!(rt; two_sinks(&trace) == Some((0x107, 7)));
+    assert!(rt; is_written_as(rt.alloc(), &trace, text)?);
+    Ok(())
+}
+
 /// GrantAck of sink 2a.
 const ACK: BeatOf<HeadE, 4> = BeatOf {
     head: HeadE { sink: 0x2a },
@@ -327,13 +414,15 @@ const WAITING: Verdict = Verdict::Waiting {
 
 #[test]
 fn writes_lines_and_reports(rt: HostRuntime) -> Result<(), Fail> {
-    assert!(rt; line_of::<ChE, 4>(&ACK).as_slice() == b"E 2a\n".as_slice());
+    assert!(rt; line_of::<ChE, 4>(&ACK, 1).as_slice() == b"E 2a\n".as_slice());
+    assert!(rt; line_of::<ChE, 4>(&ACK, 2).as_slice() == b"E 002a\n".as_slice());
     let mut out = Vec::from_slice(rt.alloc(), b"x")?;
-    write_far::<ChA, 4>(&mut out, &[PUT, PUT])?;
+    write_far::<ChA, 4>(&mut out, &[PUT, PUT], 1)?;
+    write_far::<ChE, 4>(&mut out, &[ACK], 2)?;
     write_report(&mut out, b'A', &WAITING)?;
     write_report(&mut out, b'C', &Verdict::Done { near: 1, far: 64 })?;
     let written =
-        b"xA 0 0 3 01 0000000000000010 f 03020100 1\nA 0 0 3 01 0000000000000010 f 03020100 1\n= A waiting 3 SourceBusy\n= C done 1 64\n";
+        b"xA 0 0 3 01 0000000000000010 f 03020100 1\nA 0 0 3 01 0000000000000010 f 03020100 1\nE 002a\n= A waiting 3 SourceBusy\n= C done 1 64\n";
     assert!(rt; out.as_slice() == written.as_slice());
     Ok(())
 }

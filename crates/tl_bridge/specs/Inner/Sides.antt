@@ -1,5 +1,5 @@
 -- What each side of a run does within a round, and what both have come to at a meeting. Only contracts of private functions cite these words.
-use Rattle.std.specs.Prelude.{◌≡◌, ◌+◌, ◌≤◌, ◌++◌, ℕ, Bool, true, List, length, map, vec_len, vec_capacity}
+use Rattle.std.specs.Prelude.{◌≡◌, ◌≢◌, ◌+◌, ◌≤◌, ◌⊎◌, ◌++◌, ℕ, Bool, true, List, [], length, map, vec_len, vec_capacity}
 use mathlib.Core.List.{IsPrefix}
 use Rattle.tl_msg.specs.Tables.{rules_a, rules_b, rules_c, rules_d, rules_e}
 use Rattle.tl_msg.specs.declared.head.HeadA.{HeadA}
@@ -8,7 +8,7 @@ use Rattle.tl_msg.specs.declared.head.HeadC.{HeadC}
 use Rattle.tl_msg.specs.declared.head.HeadD.{HeadD}
 use Rattle.tl_msg.specs.declared.head.HeadE.{HeadE}
 use Rattle.tl_msg.specs.declared.beat.BeatOf.{BeatOf}
-use Rattle.tl_ring.specs.Ends.{Sending, Taking, seen_by, sent, received, known_items, room}
+use Rattle.tl_ring.specs.Ends.{Sending, Taking, seen_by, sent, received, known_free, known_items, room}
 use Rattle.tl_ring.specs.Pipe.{Pipe}
 use Rattle.tl_settle.specs.Histories.{Event, Ask, Answer, asked, answered, client_answer, manager_answer, manager_home}
 use Rattle.tl_settle.specs.Rounds.{ClientMoves, ManagerMoves}
@@ -19,7 +19,7 @@ use Rattle.tl_sides.specs.Crossings.{stops_alone}
 use Rattle.tl_sides.specs.Bridges.{Bridge, Past}
 use Rattle.tl_pair.specs.Sides.{ClientState, ManagerState, ClientPast, ManagerPast, ClientStandsFor, ManagerStandsFor, AreSides, SameClient, SameManager, SidesMeet, new_client, new_manager}
 use Rattle.tl_pair.specs.Sides.{client_takes_b, client_takes_d, manager_takes_a, manager_takes_c, manager_takes_e}
-use Rattle.tl_bridge.specs.Inner.Running.{Does, Stops, IsSent, IsHomed, IsAt, AllStop, HaveRoomToCount, all_standing, all_under_way, steps}
+use Rattle.tl_bridge.specs.Inner.Running.{Does, Stops, IsSent, IsHomed, IsAt, AllStop, AreStopped, IsStopped, HaveRoomToCount, all_standing, all_under_way, steps}
 use Rattle.tl_bridge.specs.declared.channel_state.Offered.{Offered}
 use Rattle.tl_bridge.specs.declared.channel_state.Offered.TheVariants.{NotReady}
 use Rattle.tl_bridge.specs.declared.client_turns.ClientRun.{ClientRun}
@@ -158,6 +158,44 @@ module _ {C M : ℕ} where
     pub capacity_e : vec_capacity y'.far_e ≡ vec_capacity y.far_e
     pub ends : SameManagerEnds y.side y'.side
 
+-- ---- a side rests
+
+module _ {K A H : Type 0} {v : ℕ} where
+  -- a sending end sent nothing, since it has nothing staged or knew of no free place. Where nothing is staged, its channel offers no more
+  pub record SendRests (s s' : Sending K A H v) (o : Offered) : Type 0 where
+    pub none_sent : sent s' ≡ sent s
+    pub why : (s'.stage ≡ []) ⊎ (known_free s ≡ 0)
+    pub stops : s'.stage ≡ [] → IsStopped o
+
+  -- a taking end received nothing, since it knew of no beat in the ring, and all that it received before is taken
+  pub record TakeRests (t t' : Taking K A H v) : Type 0 where
+    pub none_received : received t' ≡ received t
+    pub none_known : known_items t ≡ []
+    pub none_left : t'.inbox ≡ []
+
+module _ {A : Type 0} {C M : ℕ} where
+  -- all ends of a side rest
+  pub record ClientRests (s s' : ClientState A C M) (o : PerChannel Offered) : Type 0 where
+    pub a : SendRests s.a s'.a o.a
+    pub b : TakeRests s.b s'.b
+    pub c : SendRests s.c s'.c o.c
+    pub d : TakeRests s.d s'.d
+    pub e : SendRests s.e s'.e o.e
+
+  pub record ManagerRests (t t' : ManagerState A C M) (o : PerChannel Offered) : Type 0 where
+    pub a : TakeRests t.a t'.a
+    pub b : SendRests t.b t'.b o.b
+    pub c : TakeRests t.c t'.c
+    pub d : SendRests t.d t'.d o.d
+    pub e : TakeRests t.e t'.e
+
+  -- a side has moved a beat in some turns, or it has accepted none and rests
+  abbrev pub ClientMovesOrRests : (s s' : ClientState A C M) → Turn → Type 0
+  ClientMovesOrRests s s' u = (u.moved ≡ true) ⊎ ((u.accepted ≢ true) × ClientRests s s' u.offers)
+
+  abbrev pub ManagerMovesOrRests : (t t' : ManagerState A C M) → Turn → Type 0
+  ManagerMovesOrRests t t' u = (u.moved ≡ true) ⊎ ((u.accepted ≢ true) × ManagerRests t t' u.offers)
+
 -- ---- a round of a side in its thread
 
 module _ {C M : ℕ} (near : Beats C M) (n : PerChannel ℕ) where
@@ -191,6 +229,8 @@ module _ {C M : ℕ} (near : Beats C M) (n : PerChannel ℕ) where
     pub is_at : (j m : ℕ) (es : List (Event C)) (o : PerChannel Offered) → ClientIsAt near j m es n x.far_b.items x.far_d.items x.side o →
         IsPrefix (x.far_d.items ++ x.side.d.inbox) (far_d near.a near.d j) →
         ClientIsAt near j m es u.at x'.far_b.items x'.far_d.items x'.side u.offers
+    pub rests : (j m : ℕ) (es : List (Event C)) (o : PerChannel Offered) → ClientIsAt near j m es n x.far_b.items x.far_d.items x.side o →
+        IsPrefix (x.far_d.items ++ x.side.d.inbox) (far_d near.a near.d j) → ClientMovesOrRests x.side x'.side u
 
   pub record ManagerHasPlayed (y y' : ManagerRun C M) (u : Turn) : Type 0 where
     pub goes : ManagerGoes n y.side u.at y'.side u.moved
@@ -200,6 +240,8 @@ module _ {C M : ℕ} (near : Beats C M) (n : PerChannel ℕ) where
     pub is_at : (i m : ℕ) (es : List (Event M)) (o : PerChannel Offered) → ManagerIsAt near i m es n y.far_a.items y.far_c.items y.far_e.items y.side o →
         IsPrefix (y.far_a.items ++ y.side.a.inbox) (far_a near.a near.d i) →
         ManagerIsAt near i m es u.at y'.far_a.items y'.far_c.items y'.far_e.items y'.side u.offers
+    pub rests : (i m : ℕ) (es : List (Event M)) (o : PerChannel Offered) → ManagerIsAt near i m es n y.far_a.items y.far_c.items y.far_e.items y.side o →
+        IsPrefix (y.far_a.items ++ y.side.a.inbox) (far_a near.a near.d i) → ManagerMovesOrRests y.side y'.side u
 
 -- ---- a meeting
 
@@ -248,15 +290,21 @@ module _ {A : Type 0} {C M : ℕ} where
     pub ring_c : received t.c ++ known_items t.c ≡ sent s.c
     pub ring_d : received s.d ++ known_items s.d ≡ sent t.d
     pub ring_e : received t.e ++ known_items t.e ≡ sent s.e
+    -- each sending end knows a free place, unless a beat is in the ring
+    pub free_a : 1 ≤ known_free s.a + length (known_items t.a)
+    pub free_b : 1 ≤ known_free t.b + length (known_items s.b)
+    pub free_c : 1 ≤ known_free s.c + length (known_items t.c)
+    pub free_d : 1 ≤ known_free t.d + length (known_items s.d)
+    pub free_e : 1 ≤ known_free s.e + length (known_items t.e)
     pub is_at : IsAt near n far (past_of s t client manager)
 
-  -- a round: where both sides meet after it, why each channel stands still where it does, and that the run has come further in it where anything moved
+  -- a round: where both sides meet after it, why each channel stands still where it does, and that the run has come further in it, or has accepted no beat, offers no more, and has nothing under way
   pub record HasPlayed (near : Beats C M) (n : PerChannel ℕ) (s : ClientState A C M) (t : ManagerState A C M) (p : Played) (far : Beats M C) (s' : ClientState A C M)
       (t' : ManagerState A C M) : Type 0 where
     pub met : HasMet near p.at far s' t'
     pub stops : AllStop near p.at (past_of s' t' met.client met.manager) p.offers
     pub keeps : met_progress n s t ≤ met_progress p.at s' t'
-    pub goes : p.moved ≡ true → met_progress n s t + 1 ≤ met_progress p.at s' t'
+    pub goes : (met_progress n s t + 1 ≤ met_progress p.at s' t') ⊎ ((p.accepted ≢ true) × AreStopped p.offers × (all_standing p.standings ≡ 0))
     pub standing : all_standing p.standings ≡ all_under_way (past_of s' t' met.client met.manager)
 
   -- two new sides

@@ -4,7 +4,7 @@ use Rattle.std.specs.List.{list_all, list_any}
 use Rattle.std.specs.Option.{option_to_list}
 use Rattle.std.specs.Str.Parse.{digits_value}
 use Rattle.std.specs.Char.{digit_value}
-use Rattle.tl_trace.specs.Fields.{Field, opcode, param, size, source, address, sink, denied, mask, data_lanes, corrupt, Form, id_digits, values}
+use Rattle.tl_trace.specs.Fields.{Field, opcode, param, size, source, address, sink, denied, mask, data_lanes, corrupt, Form, values}
 use Rattle.tl_trace.specs.Texts.{SaysLine, TellsLines, is_kept_line}
 use Rattle.tl_trace.specs.Faults.{body_fault}
 use Rattle.tl_trace.specs.declared.head_reader.HeadFields.{HeadFields}
@@ -50,18 +50,18 @@ abbrev pub head_value : HeadFields → Field → ℕ
 head_value r opcode = r.opcode
 head_value r param = r.param
 head_value r size = r.size
-head_value r source = r.source
+head_value r (source digits) = r.source
 head_value r address = r.address
-head_value r sink = r.sink
+head_value r (sink digits) = r.sink
 head_value r denied = r.denied
 head_value r _ = 0
 
--- what their digits can spell
-pub record IsSmall (r : HeadFields) : Type 0 where
+-- what their digits can spell, where ids have so many
+pub record IsSmall (digits : ℕ) (r : HeadFields) : Type 0 where
   pub size : r.size < 16
-  pub source : r.source < 16 ^ id_digits
+  pub source : r.source < 16 ^ digits
   pub address : r.address < 2 ^ 64
-  pub sink : r.sink < 16 ^ id_digits
+  pub sink : r.sink < 16 ^ digits
   pub opcode : r.opcode < 16
   pub param : r.param < 16
 
@@ -76,10 +76,10 @@ pub record IsPart (w : ℕ) (text : List ℕ) (at : ℕ) (fs : List Field) (vs :
   pub good : bad ≤ 15 → fields_from w text at fs ≡ map Some vs
   pub none : 15 < bad → list_any is_none (fields_from w text at fs) ≡ true
 
--- the fields that a line begins with, behind its letter
-pub record IsHead (text : List ℕ) (fs : List Field) (r : HeadFields) : Type 0 where
+-- the fields that a line begins with, behind its letter, where ids have so many digits
+pub record IsHead (digits : ℕ) (text : List ℕ) (fs : List Field) (r : HeadFields) : Type 0 where
   pub part : IsPart 0 text 1 fs (map (head_value r) fs) r.bad
-  pub small : r.bad ≤ 15 → IsSmall r
+  pub small : r.bad ≤ 15 → IsSmall digits r
 
 -- opcode and param are in range, and these are the fields
 pub record IsCommon (r : HeadFields) (params : ℕ) (m : CommonFields) : Type 0 where
@@ -114,10 +114,10 @@ pub record IsRead {H : Type 0} (f : Form H) (w : ℕ) (text : List ℕ) {n : ℕ
   pub kept : is_kept f w b ≡ true
 
 -- the same of a later line of any channel
-pub record IsReadLine (client manager : ℕ) (text : List ℕ) (line : Line) : Type 0 where
-  pub says : SaysLine client manager line text
-  pub kept : is_kept_line client manager line ≡ true
-  pub faultless : body_fault client manager text ≡ None
+pub record IsReadLine (version client manager : ℕ) (text : List ℕ) (line : Line) : Type 0 where
+  pub says : SaysLine version client manager line text
+  pub kept : is_kept_line version client manager line ≡ true
+  pub faultless : body_fault version client manager text ≡ None
 
 -- the line from one place to the next line end
 pub record LineAt (text : List ℕ) (at end : ℕ) : Type 0 where
@@ -164,14 +164,14 @@ pub record IsPushed {client manager : ℕ} (near : Near client manager) (before 
   pub e : after.e.items ≡ before.e.items ++ option_to_list (near_e near)
 
 -- a near beat is what the line says
-pub record IsReadNear {client manager : ℕ} (text : List ℕ) (near : Near client manager) : Type 0 where
+pub record IsReadNear {client manager : ℕ} (version : ℕ) (text : List ℕ) (near : Near client manager) : Type 0 where
   pub line : Line
-  pub read : IsReadLine client manager text line
+  pub read : IsReadLine version client manager text line
   pub same : IsNearOf line near
 
 -- the later lines of a text, and their beats by channel
-pub record TellsRest {client manager : ℕ} (text : List ℕ) (s : Script client manager) : Type 0 where
+pub record TellsRest {client manager : ℕ} (version : ℕ) (text : List ℕ) (s : Script client manager) : Type 0 where
   pub lines : List Line
-  pub told : TellsLines client manager lines text
-  pub kept : list_all (is_kept_line client manager) lines ≡ true
+  pub told : TellsLines version client manager lines text
+  pub kept : list_all (is_kept_line version client manager) lines ≡ true
   pub script : IsScriptOf lines s

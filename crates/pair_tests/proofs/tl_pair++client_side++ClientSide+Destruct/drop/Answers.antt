@@ -17,3 +17,6 @@ drop-requires-4 g c = search (part_small (layout (the_row (param 0 (number g.row
 
 pub drop-requires-5 : goal.drop-requires-5
 drop-requires-5 g c = search (part_small (layout (the_row (param 0 (number g.row.C)) (param 1 (number g.row.M)) (param 2 g.row.A) g.A.Allocator)) 4 9223372036854775808)
+
+pub drop-requires-6 : goal.drop-requires-6
+drop-requires-6 g c = search (part_small (layout (the_row (param 0 (number g.row.C)) (param 1 (number g.row.M)) (param 2 g.row.A) g.A.Allocator)) 5 9223372036854775808)

@@ -5,4 +5,4 @@ use Rattle.tl_answer.proofs.answer.answer_of.Goals as goal
 pub returns-clause-text : goal.returns-clause-text
 returns-clause-text g c v is =
     c.in_ok-write_reports.ensures v is ∙ ap (λ text. text ++ report v)
-    (c.in_ok-write_arrivals.ensures ∙ ap (λ text. text ++ cond c.args.check [] (far_lines (taken c.args.outcome.now))) c.in_ok-text.ensures)
+    (c.in_ok-write_arrivals.ensures ∙ ap (λ text. text ++ cond c.args.check [] (far_lines c.args.version (taken c.args.outcome.now))) c.in_ok-text.ensures)

@@ -1,5 +1,4 @@
-use Rattle.std.proofs.Common.{lit<, rules, sym, ◌∙◌}
-use Rattle.std.proofs.lemmas.Result.{IfErr-weaker}
+use Rattle.std.proofs.Common.{lit<, rules}
 use Rattle.tl_answer.proofs.Running.{size-is-right}
 use Rattle.tl_answer.proofs.answer.run_script.Goals as goal
 
@@ -17,9 +16,8 @@ returns-clause-ring_size g c =
     let size = c.ring-ring.ensures.size c.requires.runnable in
     size-is-right c.run_threads.result c.ring-ring.result size.0 size.1 c.run_threads.ensures.ring_size
 
-pub returns-clause-stalled : goal.returns-clause-stalled
-returns-clause-stalled g c =
-    IfErr-weaker c.run_threads.result _ _ (λ fault refused is. sym c.is_sync.ensures ∙ c.if-is_sync.false) c.run_threads.ensures.ring_size
+pub returns-clause-never_stalled : goal.returns-clause-never_stalled
+returns-clause-never_stalled g c = c.run_threads.ensures.never_stalled
 
 pub returns-then-is_sync-clause-ok : goal.returns-then-is_sync-clause-ok
 returns-then-is_sync-clause-ok g c = c.run_sync.ensures.outcome
@@ -29,6 +27,5 @@ returns-then-is_sync-clause-ring_size g c =
     let size = c.ring-ring.ensures.size c.requires.runnable in
     size-is-right c.run_sync.result c.ring-ring.result size.0 size.1 c.run_sync.ensures.ring_size
 
-pub returns-then-is_sync-clause-stalled : goal.returns-then-is_sync-clause-stalled
-returns-then-is_sync-clause-stalled g c =
-    IfErr-weaker c.run_sync.result _ _ (λ fault never is. absurd (never is)) c.run_sync.ensures.never_stalled
+pub returns-then-is_sync-clause-never_stalled : goal.returns-then-is_sync-clause-never_stalled
+returns-then-is_sync-clause-never_stalled g c = c.run_sync.ensures.never_stalled

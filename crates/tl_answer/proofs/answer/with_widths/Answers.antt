@@ -1,6 +1,5 @@
 use Rattle.std.specs.Prelude.{IfOk}
 use Rattle.std.proofs.Common.{◌≤◌, length, List, subst, sym, arith}
-use Rattle.std.proofs.lemmas.Result.{err_from_is_err_and}
 use Rattle.tl_trace.specs.Texts.{Tells}
 use Rattle.tl_trace.specs.declared.line.Line.{Line}
 use Rattle.tl_bridge.specs.Scripts.{EndsIn}
@@ -13,7 +12,7 @@ use Rattle.tl_answer.proofs.answer.with_widths.Goals as goal
 pub outcome_of-requires : goal.outcome_of-requires
 outcome_of-requires g c =
     let told = c.in_ok-script.ensures.told in
-    let few = lines-few _ _ _ told.lines told.told (subst (λ text. length text ≤ most_bytes) (sym c.deref.ensures.value) c.requires.few) in
+    let few = lines-few _ _ _ _ told.lines told.told (subst (λ text. length text ≤ most_bytes) (sym c.deref.ensures.value) c.requires.few) in
     let lists = short g.row.C g.row.M told.lines few _ told.script in
     (omega arith, (omega arith, (c.requires.client, (c.requires.manager, (lists, c.requires.runnable)))))
 
@@ -21,8 +20,8 @@ pub returns-clause-ok : goal.returns-clause-ok
 returns-clause-ok g c =
     let told = c.in_ok-script.ensures.told in
     subst (λ check. IfOk c.answer_of.result (λ made. IsAnswer c.args.text.items check made.text.items made.all_done)) c.is_check.ensures
-    (answers-text c.args.text.items g.row.C g.row.M lines c.is_check.result c.in_ok-outcome.outcome
-    (subst (λ text. Tells text g.row.C g.row.M lines) c.deref.ensures.value told.told) ended c.answer_of.result
+    (answers-text c.args.text.items c.args.version g.row.C g.row.M lines c.is_check.result c.in_ok-outcome.outcome
+    (subst (λ text. Tells text c.args.version g.row.C g.row.M lines) c.deref.ensures.value told.told) ended c.answer_of.result
     (c.answer_of.ensures.text (ends g.row.C g.row.M lines) ended.verdicts_are) c.answer_of.ensures.done)
   where
     lines : List Line
@@ -30,8 +29,3 @@ returns-clause-ok g c =
 
     ended : EndsIn (near g.row.C g.row.M lines) c.in_ok-outcome.outcome
     ended = subst (λ bs. EndsIn bs c.in_ok-outcome.outcome) (near-is lines _ c.in_ok-script.ensures.told.script) c.in_ok-outcome.ensures.ok
-
-pub returns-in_err-outcome-clause-err : goal.returns-in_err-outcome-clause-err
-returns-in_err-outcome-clause-err g c =
-    let p = err_from_is_err_and c.from_residual-in_err-outcome.result c.from_residual-in_err-outcome.ensures.1 in
-    rw (p.1, p.2) (c.in_err-outcome.ensures.err c.args.text.items)

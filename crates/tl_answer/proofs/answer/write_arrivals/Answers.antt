@@ -12,7 +12,7 @@ pub write_far-requires-3 : goal.write_far-requires-3
 write_far-requires-3 g c = (beat_small 24 g.row.M (omega arith) c.requires.manager, c.requires.manager)
 
 pub write_far-requires-4 : goal.write_far-requires-4
-write_far-requires-4 g c = (beat_small 16 g.row.C (omega arith) c.requires.client, c.requires.client)
+write_far-requires-4 g c = (beat_small 24 g.row.C (omega arith) c.requires.client, c.requires.client)
 
 pub write_far-requires-5 : goal.write_far-requires-5
 write_far-requires-5 g c = (beat_small 16 g.row.M (omega arith) c.requires.manager, c.requires.manager)

@@ -1,9 +1,11 @@
 use Rattle.std.proofs.Common.{◌+◌, sym, ap, subst, ◌∙◌, rules}
+use Rattle.tl_ring.specs.Ends.{Takes}
 use Rattle.tl_pair.specs.Sides.{client_pumps}
 use Rattle.tl_bridge.specs.Scripts.{near_beats}
 use Rattle.tl_bridge.specs.Inner.Running.{steps}
-use Rattle.tl_bridge.specs.Inner.Sides.{ClientIsAt, ClientGoes}
+use Rattle.tl_bridge.specs.Inner.Sides.{ClientIsAt, ClientGoes, ClientRests, all_steps}
 use Rattle.tl_bridge.proofs.ChannelRound.{none-more}
+use Rattle.tl_bridge.proofs.Resting.{client-rests, moves-or}
 use Rattle.tl_bridge.proofs.SideEnds.{client-pumped, client-fetched, client-turn-goes}
 use Rattle.tl_bridge.proofs.SideRound.{client-turned}
 use Rattle.tl_bridge.proofs.SideSizes.{client_small}
@@ -46,3 +48,19 @@ returns-clause-is_at g c = λ j m es fb fd o h.
     (subst (λ n. ClientIsAt (near_beats c.args.script.now) j m es n fb fd v c.offer_each-offers.result) (sym c.new.ensures.at)
     (client-turned (near_beats c.args.script.now) j m es c.args.at.now fb fd c.args.side.now t u v o c.offer_each-offers.result h k
     (c.fetch-fetched.ensures.stands (client_pumps t u k.past) (c.pump-pumped.ensures.stands k.past k.stands))))
+
+pub returns-clause-rests : goal.returns-clause-rests
+returns-clause-rests g c = λ j m es fb fd o h none_b none_d.
+    let s = c.args.side.now in
+    let t = c.offer_each-offers.new.side in
+    let u = c.pump-pumped.new.self in
+    let v = c.fetch-fetched.new.self in
+    let offers = c.offer_each-offers.result in
+    let after = returns-clause-is_at g c j m es fb fd o h in
+    moves-or (all_steps offers) (c.pump-pumped.result + c.fetch-fetched.result) c.new.result.moved c.new.result.accepted (ClientRests s v c.new.result.offers) c.new.ensures.moved
+    c.new.ensures.accepted
+    (λ none-accepted none-moved. subst (λ p. ClientRests s v p) (sym c.new.ensures.offers)
+    (client-rests (near_beats c.args.script.now) c.args.at.now j m es fb fd s t u v o offers c.pump-pumped.result c.fetch-fetched.result c.offer_each-offers.ensures.ends h
+    (c.offer_each-offers.ensures.offers h.past h.stands) c.pump-pumped.ensures.rest c.pump-pumped.ensures.a c.pump-pumped.ensures.c c.pump-pumped.ensures.e c.pump-pumped.ensures.total
+    c.fetch-fetched.ensures.rest c.fetch-fetched.ensures.b c.fetch-fetched.ensures.d c.fetch-fetched.ensures.total none-accepted none-moved
+    (subst (λ q. Takes v.b q) (sym after.b_taken) after.stands.b) (subst (λ q. Takes v.d q) (sym after.d_taken) after.stands.d) none_b none_d))

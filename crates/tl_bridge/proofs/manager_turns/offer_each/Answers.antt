@@ -12,7 +12,7 @@ pub offer_b-b-requires : goal.offer_b-b-requires
 offer_b-b-requires g c = (manager_small g.row.C g.row.M c.requires.client c.requires.manager, (beat_small 24 g.row.M (omega arith) c.requires.manager, (c.requires.manager, c.requires.client)))
 
 pub offer_d-d-requires : goal.offer_d-d-requires
-offer_d-d-requires g c = (manager_small g.row.C g.row.M c.requires.client c.requires.manager, (beat_small 16 g.row.M (omega arith) c.requires.manager, (c.requires.manager, c.requires.client)))
+offer_d-d-requires g c = (manager_small g.row.C g.row.M c.requires.client c.requires.manager, (beat_small 24 g.row.M (omega arith) c.requires.manager, (c.requires.manager, c.requires.client)))
 
 pub returns-clause-offers : goal.returns-clause-offers
 returns-clause-offers g c = λ x h.

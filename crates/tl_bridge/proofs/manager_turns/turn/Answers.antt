@@ -1,9 +1,11 @@
 use Rattle.std.proofs.Common.{◌+◌, sym, ap, subst, ◌∙◌, rules}
+use Rattle.tl_ring.specs.Ends.{Takes}
 use Rattle.tl_pair.specs.Sides.{manager_pumps}
 use Rattle.tl_bridge.specs.Scripts.{near_beats}
 use Rattle.tl_bridge.specs.Inner.Running.{steps}
-use Rattle.tl_bridge.specs.Inner.Sides.{ManagerIsAt, ManagerGoes}
+use Rattle.tl_bridge.specs.Inner.Sides.{ManagerIsAt, ManagerGoes, ManagerRests, all_steps}
 use Rattle.tl_bridge.proofs.ChannelRound.{none-more}
+use Rattle.tl_bridge.proofs.Resting.{manager-rests, moves-or}
 use Rattle.tl_bridge.proofs.SideEnds.{manager-pumped, manager-fetched, manager-turn-goes}
 use Rattle.tl_bridge.proofs.SideRound.{manager-turned}
 use Rattle.tl_bridge.proofs.SideSizes.{manager_small}
@@ -46,3 +48,20 @@ returns-clause-is_at g c = λ j m es fa fc fe o h.
     (subst (λ n. ManagerIsAt (near_beats c.args.script.now) j m es n fa fc fe v c.offer_each-offers.result) (sym c.new.ensures.at)
     (manager-turned (near_beats c.args.script.now) j m es c.args.at.now fa fc fe c.args.side.now t u v o c.offer_each-offers.result h k
     (c.fetch-fetched.ensures.stands (manager_pumps t u k.past) (c.pump-pumped.ensures.stands k.past k.stands))))
+
+pub returns-clause-rests : goal.returns-clause-rests
+returns-clause-rests g c = λ i m es fa fc fe o h none_a none_c none_e.
+    let s = c.args.side.now in
+    let t = c.offer_each-offers.new.side in
+    let u = c.pump-pumped.new.self in
+    let v = c.fetch-fetched.new.self in
+    let offers = c.offer_each-offers.result in
+    let after = returns-clause-is_at g c i m es fa fc fe o h in
+    moves-or (all_steps offers) (c.pump-pumped.result + c.fetch-fetched.result) c.new.result.moved c.new.result.accepted (ManagerRests s v c.new.result.offers) c.new.ensures.moved
+    c.new.ensures.accepted
+    (λ none-accepted none-moved. subst (λ p. ManagerRests s v p) (sym c.new.ensures.offers)
+    (manager-rests (near_beats c.args.script.now) c.args.at.now i m es fa fc fe s t u v o offers c.pump-pumped.result c.fetch-fetched.result c.offer_each-offers.ensures.ends h
+    (c.offer_each-offers.ensures.offers h.past h.stands) c.pump-pumped.ensures.rest c.pump-pumped.ensures.b c.pump-pumped.ensures.d c.pump-pumped.ensures.total
+    c.fetch-fetched.ensures.rest c.fetch-fetched.ensures.a c.fetch-fetched.ensures.c c.fetch-fetched.ensures.e c.fetch-fetched.ensures.total none-accepted none-moved
+    (subst (λ q. Takes v.a q) (sym after.a_taken) after.stands.a) (subst (λ q. Takes v.c q) (sym after.c_taken) after.stands.c) (subst (λ q. Takes v.e q) (sym after.e_taken) after.stands.e)
+    none_a none_c none_e))

@@ -13,7 +13,7 @@ pub ready-requires : goal.ready-requires
 ready-requires g c = bridge_part_small g.row.C g.row.M 3 c.requires.far c.requires.near
 
 pub offer_response-requires : goal.offer_response-requires
-offer_response-requires g c = (lit< tt, (bridge_part_small g.row.C g.row.M 3 c.requires.far c.requires.near, (beat_small 16 g.row.M (omega arith) c.requires.near, (c.requires.near, (c.requires.far, c.if-not-ready.ensures.0 refl)))))
+offer_response-requires g c = (lit< tt, (bridge_part_small g.row.C g.row.M 3 c.requires.far c.requires.near, (beat_small 24 g.row.M (omega arith) c.requires.near, (c.requires.near, (c.requires.far, c.if-not-ready.ensures.0 refl)))))
 
 pub returns-in_default : goal.returns-in_default
 returns-in_default g c =

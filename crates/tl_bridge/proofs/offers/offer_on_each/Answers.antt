@@ -28,7 +28,7 @@ offer_next-b-requires g c =
 
 pub offer_next_response-d-requires : goal.offer_next_response-d-requires
 offer_next_response-d-requires g c =
-    (lit< tt, (bridge_part_small g.row.C g.row.M 3 c.requires.client c.requires.manager, (beat_small 16 g.row.M (omega arith) c.requires.manager, (c.requires.manager, c.requires.client))))
+    (lit< tt, (bridge_part_small g.row.C g.row.M 3 c.requires.client c.requires.manager, (beat_small 24 g.row.M (omega arith) c.requires.manager, (c.requires.manager, c.requires.client))))
 
 pub returns : goal.returns
 returns g c = λ x k.

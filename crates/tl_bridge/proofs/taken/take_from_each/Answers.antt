@@ -19,7 +19,7 @@ take_all_responses-requires g c =
       (
         bridge_part_small g.row.C g.row.M 3 c.requires.client c.requires.manager,
         (
-          beat_small 16 g.row.C (omega arith) c.requires.client,
+          beat_small 24 g.row.C (omega arith) c.requires.client,
           (c.requires.client, ((x.client, x.d, client_is_answered _ x h), rw (← c.bridge.view_is) at c.requires.room.d)),
         ),
       ),

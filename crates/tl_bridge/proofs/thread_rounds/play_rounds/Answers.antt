@@ -1,12 +1,13 @@
-use Rattle.std.proofs.Common.{rules, lit<, ◌+◌, ◌^◌, ◌<◌, refl, sym, subst, ◌∙◌, arith, zero-le}
+use Rattle.std.proofs.Common.{rules, lit<, ◌+◌, ◌^◌, ◌<◌, ◌≤◌, refl, sym, subst, ◌∙◌, arith, zero-le, ⊎_elim}
 use Rattle.tl_bridge.specs.Scripts.{near_beats}
 use Rattle.tl_bridge.specs.Inner.Arriving.{beats_of, taken_of}
 use Rattle.tl_bridge.specs.Inner.Running.{AllStop}
-use Rattle.tl_bridge.specs.Inner.Sides.{past_of}
+use Rattle.tl_bridge.specs.Inner.Sides.{met_progress, past_of}
 use Rattle.tl_bridge.proofs.Counting.{counts-on, last-one, nearer, one-round-more}
 use Rattle.tl_bridge.proofs.Ended.{end-few, keeps-room}
 use Rattle.tl_bridge.proofs.SideSizes.{client_small, manager_small, client_run_small, manager_run_small}
 use Rattle.tl_bridge.proofs.Meeting.{met-most, met-ended, new-met}
+use Rattle.tl_bridge.proofs.thread_rounds.play_rounds.Given.{Over}
 use Rattle.tl_bridge.proofs.thread_rounds.play_rounds.Goals as goal
 
 pub meet_sides-requires : goal.meet_sides-requires
@@ -43,18 +44,23 @@ overflow_add-rounds g c =
     (end-few (near_beats c.args.script.now) c.requires.client c.requires.manager c.requires.short) in
     omega (arith, l)
 
-pub returns-in-Some-clause-ended : goal.returns-in-Some-clause-ended
-returns-in-Some-clause-ended g c =
+pub returns-in-Some : goal.returns-in-Some
+returns-in-Some g c =
     let h = c.round-played.ensures.round in
     let near = near_beats c.args.script.now in
     met-ended near c.round-played.result.at (beats_of (taken_of c.round-played.new.client c.round-played.new.manager)) c.round-played.new.client.side c.round-played.new.manager.side h.met c.in-Some.stops (c.rounds.rounds + 1)
     (subst (λ o. AllStop near c.round-played.result.at (past_of c.round-played.new.client.side c.round-played.new.manager.side h.met.client h.met.manager) o) c.in-Some.ensures.stops h.stops)
     (sym h.standing ∙ c.in-Some.ensures.rests) (last-one _ _ _ c.rounds.invariant.few h.keeps)
 
+-- a round that is not the last one
+onward : (g : Over) (c : goal.In_default g) → met_progress c.rounds.at c.rounds.client.side c.rounds.manager.side + 1 ≤
+    met_progress c.round-played.result.at c.round-played.new.client.side c.round-played.new.manager.side
+onward g c = ⊎_elim (λ e. e) (λ e. absurd (c.in_default.ensures.goes refl e.0 e.1 e.2)) c.round-played.ensures.round.goes
+
 pub rounds-smaller : goal.rounds-smaller
 rounds-smaller g c =
     let h = c.round-played.ensures.round in
-    nearer _ _ _ (h.goes (search rules))
+    nearer _ _ _ (onward g c)
     (met-most (near_beats c.args.script.now) c.round-played.result.at (beats_of (taken_of c.round-played.new.client c.round-played.new.manager)) c.round-played.new.client.side c.round-played.new.manager.side h.met c.requires.client c.requires.manager)
 
 pub rounds-preserved : goal.rounds-preserved
@@ -63,5 +69,5 @@ rounds-preserved g c =
     record {
       met = h.met;
       room = keeps-room (near_beats c.args.script.now) (taken_of c.rounds.client c.rounds.manager) (taken_of c.round-played.new.client c.round-played.new.manager) c.round-played.ensures.capacity c.rounds.invariant.room;
-      few = one-round-more _ _ _ c.rounds.invariant.few (h.goes (search rules));
+      few = one-round-more _ _ _ c.rounds.invariant.few (onward g c);
     }

@@ -28,7 +28,7 @@ returns-clause-round g c =
       in_d = c.meet_sides-standings.ensures.standing_d;
       in_e = c.meet_sides-standings.ensures.standing_e;
     })
-    c.meet_sides-standings.ensures.meets c.either.result c.either-2.result c.either-2.ensures.0
+    c.meet_sides-standings.ensures.meets c.either.result c.either.ensures.0
 
 pub returns-clause-capacity : goal.returns-clause-capacity
 returns-clause-capacity g c = record {

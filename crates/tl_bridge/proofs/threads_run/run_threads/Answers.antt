@@ -14,7 +14,7 @@ run_sides-ended-requires-after_bounds g c = λ κs bounds.
     (client_run_small g.row.C g.row.M c.requires.client c.requires.manager, (manager_run_small g.row.C g.row.M c.requires.client c.requires.manager, (lit< tt, (c.requires.client, (c.requires.manager, (c.requires.short, record { sides = c.in_ok-client.ensures.pair; space = c.args.ring; some = (c.in_ok-client.ensures.size refl).0; client = c.in_ok-client.ensures.client; manager = c.in_ok-client.ensures.manager }))))))
 
 pub into_lists-b-requires : goal.into_lists-b-requires
-into_lists-b-requires g c = (client_run_small g.row.C g.row.M c.requires.client c.requires.manager, (beat_small 24 g.row.C (omega arith) c.requires.client, (beat_small 16 g.row.C (omega arith) c.requires.client, (c.requires.client, c.requires.manager))))
+into_lists-b-requires g c = (client_run_small g.row.C g.row.M c.requires.client c.requires.manager, (beat_small 24 g.row.C (omega arith) c.requires.client, (beat_small 24 g.row.C (omega arith) c.requires.client, (c.requires.client, c.requires.manager))))
 
 pub into_lists-a-requires : goal.into_lists-a-requires
 into_lists-a-requires g c = (manager_run_small g.row.C g.row.M c.requires.client c.requires.manager, (beat_small 24 g.row.M (omega arith) c.requires.manager, (beat_small 24 g.row.M (omega arith) c.requires.manager, (beat_small 16 g.row.M (omega arith) c.requires.manager, (c.requires.client, c.requires.manager)))))

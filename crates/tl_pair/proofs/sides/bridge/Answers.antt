@@ -147,12 +147,12 @@ open_pair-requires-5 g c =
 
 pub drop-d_take-inside-requires : goal.drop-d_take-inside-requires
 drop-d_take-inside-requires g c κs =
-    let small = beat_small 16 g.row.C (omega arith) c.requires.client in
+    let small = beat_small 24 g.row.C (omega arith) c.requires.client in
     let c = small in λ lives. ((lit< tt, (small, tt)), (search rules, (lives, search rules)))
 
 pub drop-d-inside-requires : goal.drop-d-inside-requires
 drop-d-inside-requires g c κs =
-    let small = beat_small 16 g.row.C (omega arith) c.requires.client in
+    let small = beat_small 24 g.row.C (omega arith) c.requires.client in
     let c = small in λ lives. ((lit< tt, (small, tt)), (search rules, (lives, search rules)))
 
 pub drop-c_take-inside-requires-in_err-e : goal.drop-c_take-inside-requires-in_err-e
@@ -198,6 +198,11 @@ returns-in_err-e g c =
       ring_size = refused_by _ _ p.0 _ p.1 p.2 c.in_err-e.ensures.ring_size;
     }
 
+pub new_books-requires : goal.new_books-requires
+new_books-requires g c =
+    let known = c.requires-raw in
+    (let c = known in search (part_small (layout (client.the_row (param 0 (number g.row.C)) (param 1 (number g.row.M)) (param 2 g.row.A) g.A.Allocator)) 5 9223372036854775808), let c = known in search (part_small (layout (manager.the_row (param 0 (number g.row.C)) (param 1 (number g.row.M)) (param 2 g.row.A) g.A.Allocator)) 5 9223372036854775808))
+
 pub returns-clause-pair : goal.returns-clause-pair
 returns-clause-pair g c = record {
   a = c.in_ok-a.ensures.pair;
@@ -215,7 +220,7 @@ returns-clause-client g c = record {
   d = c.in_ok-d.ensures.take;
   e = c.in_ok-e.ensures.send;
   accepted = refl;
-  book = c.new.ensures;
+  book = c.in-Ok.ensures.client;
 }
 
 pub returns-clause-manager : goal.returns-clause-manager
@@ -227,7 +232,7 @@ returns-clause-manager g c = record {
   e = c.in_ok-e.ensures.take;
   accepted = refl;
   homes = refl;
-  book = c.new-2.ensures;
+  book = c.in-Ok.ensures.manager;
 }
 
 pub returns-clause-client_knows : goal.returns-clause-client_knows

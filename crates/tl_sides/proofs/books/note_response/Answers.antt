@@ -5,12 +5,12 @@ use Rattle.tl_sides.proofs.books.note_response.Goals.{else-first-via-then-first+
 use Rattle.tl_sides.proofs.books.note_response.Goals as goal
 
 pub returns-then-not-is_release_ack : goal.returns-then-not-is_release_ack
-returns-then-not-is_release_ack c = λ ms h.
+returns-then-not-is_release_ack g c = λ ms h.
     let other = sym c.is_release_ack.ensures ∙ c.if-not-is_release_ack.true in
     rw c.if-first.true (ends_open _ _ ms c.args.head.now other h c.end.ensures)
 
 pub returns-else-first : goal.returns-else-first
-returns-else-first c = λ ms h.
+returns-else-first g c = λ ms h.
     kept_open c.args.first _ ms c.args.head.now
     (λ first. elim c.else-first.branch [
       | else-first-via-then-first+else-not-is_release_ack w ↦ sym w.is_release_ack.ensures ∙ w.if-not-is_release_ack.false

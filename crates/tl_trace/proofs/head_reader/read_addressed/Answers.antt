@@ -1,4 +1,4 @@
-use Rattle.std.proofs.Common.{refl, arith}
+use Rattle.std.proofs.Common.{arith}
 use Rattle.tl_trace.specs.Fields.{address}
 use Rattle.tl_trace.proofs.ReadDigits.{left_good, right_good}
 use Rattle.tl_trace.proofs.LineParts.{and_field}
@@ -9,7 +9,7 @@ returns c =
     let common = c.read_common-common in
     let a = c.field-address in
     record {
-      part = and_field 0 c.args.text.now 1 10 _ _ _ address a.result.value a.result.bad refl common.ensures.part a.ensures;
+      part = and_field 0 c.args.text.now 1 c.common_end.result _ _ _ address a.result.value a.result.bad c.common_end.ensures.end common.ensures.part a.ensures;
       small = λ le.
           let s = common.ensures.small (left_good _ a.result.bad le) in
           record { size = s.size; source = s.source; address = omega (arith, a.ensures.small (right_good _ a.result.bad le)); sink = s.sink; opcode = s.opcode; param = s.param };

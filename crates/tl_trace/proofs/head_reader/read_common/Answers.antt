@@ -1,5 +1,7 @@
-use Rattle.std.proofs.Common.{refl, arith}
-use Rattle.tl_trace.specs.Fields.{opcode, param, size, source}
+use Rattle.std.proofs.Common.{ℕ, refl, subst, arith}
+use Rattle.tl_trace.specs.Fields.{opcode, param, size, source, id_digits}
+use Rattle.tl_trace.specs.Inner.Reading.{IsNumber}
+use Rattle.tl_trace.proofs.Ids.{id_limits}
 use Rattle.tl_trace.proofs.ReadDigits.{left_good, right_good}
 use Rattle.tl_trace.proofs.LineParts.{number_part, and_field}
 use Rattle.tl_trace.proofs.head_reader.read_common.Goals as goal
@@ -11,10 +13,12 @@ returns c =
     let p = c.field-param in
     let z = c.field-size in
     let s = c.field-source in
+    let Id : ℕ → Type 0 = λ k. IsNumber text 7 k s.result.value s.result.bad in
+    let id = subst Id c.id_digits.ensures.digits s.ensures in
     let one = number_part 0 text 1 opcode o.result.value o.result.bad o.ensures in
     let two = and_field 0 text 1 3 _ _ o.result.bad param p.result.value p.result.bad refl one p.ensures in
     let three = and_field 0 text 1 5 _ _ _ size z.result.value z.result.bad refl two z.ensures in
-    let four = and_field 0 text 1 7 _ _ _ source s.result.value s.result.bad refl three s.ensures in
+    let four = and_field 0 text 1 7 _ _ _ (source (id_digits c.args.version)) s.result.value s.result.bad refl three id in
     record {
       part = four;
       small = λ le.
@@ -22,9 +26,9 @@ returns c =
           let two_good = left_good _ z.result.bad three_good in
           record {
             size = z.ensures.small (right_good _ z.result.bad three_good);
-            source = s.ensures.small (right_good _ s.result.bad le);
+            source = id.small (right_good _ s.result.bad le);
             address = omega arith;
-            sink = omega arith;
+            sink = (id_limits c.args.version).0;
             opcode = o.ensures.small (left_good _ p.result.bad two_good);
             param = p.ensures.small (right_good _ p.result.bad two_good);
           };

@@ -1,27 +1,28 @@
 use Rattle.std.proofs.Common.{◌≡◌, ◌+◌, ◌^◌, ℕ, true, false, nat_lt, nat_eq, length, arith, sym, ap, ◌∙◌}
 use Rattle.std.specs.List.{list_all}
 use Rattle.tl_msg.specs.declared.beat.BeatOf.{BeatOf}
-use Rattle.tl_trace.specs.Fields.{line_length, number_of_lanes}
+use Rattle.tl_trace.specs.Fields.{id_digits, line_length, number_of_lanes}
 use Rattle.tl_trace.specs.Inner.Reading.{is_head_in_range}
 use Rattle.tl_trace.proofs.Shaped.{made, wrong_shape, wrong_range, bit_of}
 use Rattle.tl_trace.proofs.ReadDigits.{left_good, right_good, zero_are, zero_number, zero_bits}
+use Rattle.tl_trace.proofs.Ids.{four_digits}
 use Rattle.tl_trace.proofs.LineParts.{line_long, line_part, line_values, line_said, line_plain, below_is, no_head, out_mask, out_corrupt, in_all, high, low}
 use Rattle.tl_trace.proofs.line_reader.read_beat.Goals as goal
 use Rattle.tl_trace.proofs.line_reader.read_beat.Goals.{then-not-mask_fits-via-then-not-mask_fits, then-not-mask_fits-via-else-not-mask_fits+then-corrupt-gt1}
 
 pub read_head-fields-requires : goal.read_head-fields-requires
 read_head-fields-requires g c =
-    let parts = line_long g.K.HeadText.form c.args.w g.met.K.ReadHead.head_alone in
+    let parts = line_long (g.K.HeadText.form g.row.VERSION) c.args.w (g.met.K.ReadHead.head_alone g.row.VERSION) in
     omega (arith, parts, c.line_len.ensures.long, c.if-text-line_len.false)
 
 pub read_mask-mask-requires-clause-room : goal.read_mask-mask-requires-clause-room
 read_mask-mask-requires-clause-room g c =
-    let parts = line_long g.K.HeadText.form c.args.w g.met.K.ReadHead.head_alone in
+    let parts = line_long (g.K.HeadText.form g.row.VERSION) c.args.w (g.met.K.ReadHead.head_alone g.row.VERSION) in
     omega (arith, parts, c.line_len.ensures.long, c.if-text-line_len.false, c.head_end-mask_at.ensures.end)
 
 pub read_data-corrupt-requires-clause-room : goal.read_data-corrupt-requires-clause-room
 read_data-corrupt-requires-clause-room g c =
-    let parts = line_long g.K.HeadText.form c.args.w g.met.K.ReadHead.head_alone in
+    let parts = line_long (g.K.HeadText.form g.row.VERSION) c.args.w (g.met.K.ReadHead.head_alone g.row.VERSION) in
     omega (arith, parts, c.line_len.ensures.long, c.if-text-line_len.false, c.head_end-mask_at.ensures.end, c.mask_len.ensures.long)
 
 pub read_data-corrupt-requires-clause-lanes : goal.read_data-corrupt-requires-clause-lanes
@@ -32,44 +33,44 @@ read_data-corrupt-requires-clause-zero g c = zero_number g.row.N
 
 pub returns-then-fields-mask-gt15-clause-err : goal.returns-then-fields-mask-gt15-clause-err
 returns-then-fields-mask-gt15-clause-err g c =
-    let f = g.K.HeadText.form in
+    let f = g.K.HeadText.form g.row.VERSION in
     let long : length c.args.text.now ≡ line_length f c.args.w = omega (arith, c.line_len.ensures.long, c.if-text-line_len.false) in
-    let part = line_part f c.args.w c.args.text.now c.read_head-fields.result c.read_mask-mask.result.value (number_of_lanes c.read_data-corrupt.new.lanes) c.read_data-corrupt.result.value
-    c.read_mask-mask.result.bad c.read_data-corrupt.result.bad c.head_end-mask_at.result _ g.met.K.ReadHead.head_alone c.head_end-mask_at.ensures.end (ap (λ (k : ℕ). c.head_end-mask_at.result + k) c.mask_len.ensures.long)
+    let part = line_part f c.args.w (id_digits g.row.VERSION) c.args.text.now c.read_head-fields.result c.read_mask-mask.result.value (number_of_lanes c.read_data-corrupt.new.lanes) c.read_data-corrupt.result.value
+    c.read_mask-mask.result.bad c.read_data-corrupt.result.bad c.head_end-mask_at.result _ (g.met.K.ReadHead.head_alone g.row.VERSION) c.head_end-mask_at.ensures.end (ap (λ (k : ℕ). c.head_end-mask_at.result + k) c.mask_len.ensures.long)
     c.read_head-fields.ensures c.read_mask-mask.ensures.part c.read_data-corrupt.ensures.part in
     wrong_shape f c.args.w c.args.text.now long (part.none c.if-fields-mask-gt15.true)
 
 pub head_of-requires : goal.head_of-requires
-head_of-requires g c = c.read_head-fields.ensures.small (left_good _ _ (left_good _ _ c.if-fields-mask-gt15.false))
+head_of-requires g c = four_digits g.row.VERSION c.read_head-fields.result (c.read_head-fields.ensures.small (left_good _ _ (left_good _ _ c.if-fields-mask-gt15.false)))
 
 pub returns-in_default-clause-err : goal.returns-in_default-clause-err
 returns-in_default-clause-err g c =
-    let f = g.K.HeadText.form in
+    let f = g.K.HeadText.form g.row.VERSION in
     let long : length c.args.text.now ≡ line_length f c.args.w = omega (arith, c.line_len.ensures.long, c.if-text-line_len.false) in
     let r = c.read_head-fields.result in
     let m = c.read_mask-mask.result.value in
     let d = number_of_lanes c.read_data-corrupt.new.lanes in
     let x = c.read_data-corrupt.result.value in
-    let part = line_part f c.args.w c.args.text.now r m d x
-    c.read_mask-mask.result.bad c.read_data-corrupt.result.bad c.head_end-mask_at.result _ g.met.K.ReadHead.head_alone c.head_end-mask_at.ensures.end (ap (λ (k : ℕ). c.head_end-mask_at.result + k) c.mask_len.ensures.long)
+    let part = line_part f c.args.w (id_digits g.row.VERSION) c.args.text.now r m d x
+    c.read_mask-mask.result.bad c.read_data-corrupt.result.bad c.head_end-mask_at.result _ (g.met.K.ReadHead.head_alone g.row.VERSION) c.head_end-mask_at.ensures.end (ap (λ (k : ℕ). c.head_end-mask_at.result + k) c.mask_len.ensures.long)
     c.read_head-fields.ensures c.read_mask-mask.ensures.part c.read_data-corrupt.ensures.part in
     wrong_range f c.args.w c.args.text.now (line_values f r m d x) long (part.good c.if-fields-mask-gt15.false)
-    (below_is f c.args.w r m d x false g.met.K.ReadHead.head_alone c.read_mask-mask.ensures.none (λ none. (c.read_data-corrupt.ensures.none none).1) (c.read_data-corrupt.ensures.small (right_good _ _ c.if-fields-mask-gt15.false))
-    (no_head f r _ _ c.in_default.ensures))
+    (below_is f c.args.w r m d x false (g.met.K.ReadHead.head_alone g.row.VERSION) c.read_mask-mask.ensures.none (λ none. (c.read_data-corrupt.ensures.none none).1) (c.read_data-corrupt.ensures.small (right_good _ _ c.if-fields-mask-gt15.false))
+    (no_head f r _ _ (c.in_default.ensures g.row.VERSION (c.read_head-fields.ensures.small (left_good _ _ (left_good _ _ c.if-fields-mask-gt15.false))))))
 
 pub returns-then-not-mask_fits-clause-err : goal.returns-then-not-mask_fits-clause-err
 returns-then-not-mask_fits-clause-err g c =
-    let f = g.K.HeadText.form in
+    let f = g.K.HeadText.form g.row.VERSION in
     let long : length c.args.text.now ≡ line_length f c.args.w = omega (arith, c.line_len.ensures.long, c.if-text-line_len.false) in
     let r = c.read_head-fields.result in
     let m = c.read_mask-mask.result.value in
     let d = number_of_lanes c.read_data-corrupt.new.lanes in
     let x = c.read_data-corrupt.result.value in
-    let part = line_part f c.args.w c.args.text.now r m d x
-    c.read_mask-mask.result.bad c.read_data-corrupt.result.bad c.head_end-mask_at.result _ g.met.K.ReadHead.head_alone c.head_end-mask_at.ensures.end (ap (λ (k : ℕ). c.head_end-mask_at.result + k) c.mask_len.ensures.long)
+    let part = line_part f c.args.w (id_digits g.row.VERSION) c.args.text.now r m d x
+    c.read_mask-mask.result.bad c.read_data-corrupt.result.bad c.head_end-mask_at.result _ (g.met.K.ReadHead.head_alone g.row.VERSION) c.head_end-mask_at.ensures.end (ap (λ (k : ℕ). c.head_end-mask_at.result + k) c.mask_len.ensures.long)
     c.read_head-fields.ensures c.read_mask-mask.ensures.part c.read_data-corrupt.ensures.part in
     wrong_range f c.args.w c.args.text.now (line_values f r m d x) long (part.good c.if-fields-mask-gt15.false)
-    (below_is f c.args.w r m d x false g.met.K.ReadHead.head_alone c.read_mask-mask.ensures.none (λ none. (c.read_data-corrupt.ensures.none none).1) (c.read_data-corrupt.ensures.small (right_good _ _ c.if-fields-mask-gt15.false))
+    (below_is f c.args.w r m d x false (g.met.K.ReadHead.head_alone g.row.VERSION) c.read_mask-mask.ensures.none (λ none. (c.read_data-corrupt.ensures.none none).1) (c.read_data-corrupt.ensures.small (right_good _ _ c.if-fields-mask-gt15.false))
     (elim c.then-not-mask_fits.branch [
       | then-not-mask_fits-via-then-not-mask_fits w ↦ out_mask (is_head_in_range f r) _ _ (sym c.mask_fits.ensures ∙ w.if-not-mask_fits.true)
       | then-not-mask_fits-via-else-not-mask_fits+then-corrupt-gt1 w ↦ out_corrupt (is_head_in_range f r) (nat_lt m (2 ^ c.args.w)) _ (high x w.if-corrupt-gt1.true)
@@ -77,20 +78,21 @@ returns-then-not-mask_fits-clause-err g c =
 
 pub returns-clause-ok : goal.returns-clause-ok
 returns-clause-ok g c =
-    let f = g.K.HeadText.form in
+    let f = g.K.HeadText.form g.row.VERSION in
     let long : length c.args.text.now ≡ line_length f c.args.w = omega (arith, c.line_len.ensures.long, c.if-text-line_len.false) in
     let r = c.read_head-fields.result in
     let m = c.read_mask-mask.result.value in
     let d = number_of_lanes c.read_data-corrupt.new.lanes in
     let x = c.read_data-corrupt.result.value in
-    let part = line_part f c.args.w c.args.text.now r m d x
-    c.read_mask-mask.result.bad c.read_data-corrupt.result.bad c.head_end-mask_at.result _ g.met.K.ReadHead.head_alone c.head_end-mask_at.ensures.end (ap (λ (k : ℕ). c.head_end-mask_at.result + k) c.mask_len.ensures.long)
+    let part = line_part f c.args.w (id_digits g.row.VERSION) c.args.text.now r m d x
+    c.read_mask-mask.result.bad c.read_data-corrupt.result.bad c.head_end-mask_at.result _ (g.met.K.ReadHead.head_alone g.row.VERSION) c.head_end-mask_at.ensures.end (ap (λ (k : ℕ). c.head_end-mask_at.result + k) c.mask_len.ensures.long)
     c.read_head-fields.ensures c.read_mask-mask.ensures.part c.read_data-corrupt.ensures.part in
-    let range = below_is f c.args.w r m d x true g.met.K.ReadHead.head_alone c.read_mask-mask.ensures.none (λ none. (c.read_data-corrupt.ensures.none none).1) (c.read_data-corrupt.ensures.small (right_good _ _ c.if-fields-mask-gt15.false))
-    (in_all (is_head_in_range f r) _ _ c.in-Some.ensures.range (sym c.mask_fits.ensures ∙ c.if-not-mask_fits.false) (low x c.if-corrupt-gt1.false)) in
+    let head = c.in-Some.ensures g.row.VERSION (c.read_head-fields.ensures.small (left_good _ _ (left_good _ _ c.if-fields-mask-gt15.false))) in
+    let range = below_is f c.args.w r m d x true (g.met.K.ReadHead.head_alone g.row.VERSION) c.read_mask-mask.ensures.none (λ none. (c.read_data-corrupt.ensures.none none).1) (c.read_data-corrupt.ensures.small (right_good _ _ c.if-fields-mask-gt15.false))
+    (in_all (is_head_in_range f r) _ _ head.range (sym c.mask_fits.ensures ∙ c.if-not-mask_fits.false) (low x c.if-corrupt-gt1.false)) in
     let b : BeatOf g.row.K-Head.Denot g.row.N = record { head = c.in-Some.head; mask = m; lanes = c.read_data-corrupt.new.lanes; corrupt = nat_eq x 1 } in
     made f c.args.w b c.args.text.now (line_values f r m d x) c.requires.letter long (part.good c.if-fields-mask-gt15.false)
-    (line_said f b r x g.met.K.ReadHead.head_alone c.in-Some.ensures (bit_of x c.if-corrupt-gt1.false)) range c.read_data-corrupt.ensures.bytes
+    (line_said f b r x (g.met.K.ReadHead.head_alone g.row.VERSION) head (bit_of x c.if-corrupt-gt1.false)) range c.read_data-corrupt.ensures.bytes
     (line_plain f b c.read_mask-mask.ensures.none (λ none.
     let same = c.read_data-corrupt.ensures.none none in
     (ap (list_all (λ lane. nat_eq lane 0)) same.0 ∙ zero_bits g.row.N, ap (λ (k : ℕ). nat_eq k 1) same.1)))

@@ -9,8 +9,8 @@ returns-then-not-HAS_DATA-clause-small g c _ = zero_small c.args.w (number_of_la
 
 pub returns-clause-part : goal.returns-clause-part
 returns-clause-part g c =
-    let has : g.K.HeadText.form.rules.corrupts ≡ true = g.met.K.HeadText.data_form ∙ sym c.HAS_DATA.ensures ∙ c.if-not-HAS_DATA.false in
-    data_part g.K.HeadText.form c.args.w c.args.text.now c.args.at (number_of_lanes c.lanes_field-bad.new.lanes) c.field-corrupt.result.value c.lanes_field-bad.result c.field-corrupt.result.bad has c.lanes_field-bad.ensures.value c.field-corrupt.ensures
+    let has : (g.K.HeadText.form g.row.VERSION).rules.corrupts ≡ true = g.met.K.HeadText.data_form g.row.VERSION ∙ sym c.HAS_DATA.ensures ∙ c.if-not-HAS_DATA.false in
+    data_part (g.K.HeadText.form g.row.VERSION) c.args.w c.args.text.now c.args.at (number_of_lanes c.lanes_field-bad.new.lanes) c.field-corrupt.result.value c.lanes_field-bad.result c.field-corrupt.result.bad has c.lanes_field-bad.ensures.value c.field-corrupt.ensures
 
 pub returns-clause-small : goal.returns-clause-small
 returns-clause-small g c le = lanes_small c.args.w (number_of_lanes c.lanes_field-bad.new.lanes) (c.lanes_field-bad.ensures.value.small (left_good c.lanes_field-bad.result c.field-corrupt.result.bad le))

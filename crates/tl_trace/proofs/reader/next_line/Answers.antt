@@ -4,12 +4,12 @@ use Rattle.tl_trace.proofs.Cover.{says_free, free_between}
 use Rattle.tl_trace.proofs.reader.next_line.Goals as goal
 
 pub returns-in-Ok-clause-line : goal.returns-in-Ok-clause-line
-returns-in-Ok-clause-line c =
+returns-in-Ok-clause-line g c =
     let end = c.in-Some.ensures in
     let b = slice_range c.args.text.now c.args.at c.in-Some.end in
     record {
       from = omega (arith, end.0);
       to = omega (arith, end.1);
-      free = free_between c.args.text.now c.args.at c.in-Some.end (omega (arith, end.1)) (says_free c.args.client c.args.manager c.in-Ok.line b c.in-Ok.ensures.ok.says);
+      free = free_between c.args.text.now c.args.at c.in-Some.end (omega (arith, end.1)) (says_free g.row.VERSION c.args.client c.args.manager c.in-Ok.line b c.in-Ok.ensures.ok.says);
       stop = λ _. end.2;
     }

@@ -11,6 +11,6 @@ returns-in-Ok-clause-line g c =
     record {
       from = omega (arith, end.0);
       to = omega (arith, end.1);
-      free = free_between c.args.text.now c.args.at c.in-Some.end (omega (arith, end.1)) (says_free g.row.C g.row.M read.line b read.read.says);
+      free = free_between c.args.text.now c.args.at c.in-Some.end (omega (arith, end.1)) (says_free g.row.VERSION g.row.C g.row.M read.line b read.read.says);
       stop = λ _. end.2;
     }

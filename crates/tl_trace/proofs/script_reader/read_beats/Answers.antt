@@ -27,14 +27,14 @@ returns-in-Err-clause-fault g c _ =
     let line = c.next_near-end.ensures.line in
     let err = rw c.in-Err.is at c.next_near-end.ensures.err in
     let p = c.loop-at.invariant in
-    refused c.args.text.now c.args.start g.row.C g.row.M p.lines c.loop-at.at c.loop-at.before c.next_near-end.result.0 c.in-Err.kind p.far line c.loop-at-test.true err
+    refused c.args.text.now c.args.start g.row.VERSION g.row.C g.row.M p.lines c.loop-at.at c.loop-at.before c.next_near-end.result.0 c.in-Err.kind p.far line c.loop-at-test.true err
 
 pub returns-then-end-text-clause-fault : goal.returns-then-end-text-clause-fault
 returns-then-end-text-clause-fault g c _ =
     let line = c.next_near-end.ensures.line in
     let ok = rw c.in-Ok.is at c.next_near-end.ensures.ok in
     let p = c.loop-at.invariant in
-    no_end c.args.text.now c.args.start g.row.C g.row.M p.lines c.loop-at.at c.loop-at.before c.next_near-end.result.0 ok.line p.far line c.loop-at-test.true ok.read c.if-end-text.true
+    no_end c.args.text.now c.args.start g.row.VERSION g.row.C g.row.M p.lines c.loop-at.at c.loop-at.before c.next_near-end.result.0 ok.line p.far line c.loop-at-test.true ok.read c.if-end-text.true
 
 pub returns-then-is_err-clause-memory : goal.returns-then-is_err-clause-memory
 returns-then-is_err-clause-memory g c _ =
@@ -42,7 +42,7 @@ returns-then-is_err-clause-memory g c _ =
     let ok = rw c.in-Ok.is at c.next_near-end.ensures.ok in
     let p = c.loop-at.invariant in
     let lt : c.next_near-end.result.0 < length c.args.text.now = omega (arith, line.to, c.if-end-text.false) in
-    unstored c.args.text.now c.args.start g.row.C g.row.M p.lines c.loop-at.at c.loop-at.before c.next_near-end.result.0 ok.line p.far line ok.read lt
+    unstored c.args.text.now c.args.start g.row.VERSION g.row.C g.row.M p.lines c.loop-at.at c.loop-at.before c.next_near-end.result.0 ok.line p.far line ok.read lt
 
 pub loop-at-preserved : goal.loop-at-preserved
 loop-at-preserved g c =
@@ -54,4 +54,4 @@ loop-at-preserved g c =
     let near = c.in-Ok.near in
     let went : is_err c.push_near.result ≡ false = sym c.is_err.ensures.value ∙ c.if-is_err.false in
     let put : IsPushed near s s' = on_ok c.push_near.result c.push_near.ensures went in
-    more c.args.text.now c.args.start s s' c.loop-at.at c.loop-at.before c.next_near-end.result.0 near c.loop-at.invariant line ok lt put
+    more g.row.VERSION c.args.text.now c.args.start s s' c.loop-at.at c.loop-at.before c.next_near-end.result.0 near c.loop-at.invariant line ok lt put

@@ -13,7 +13,7 @@ pub drop-self-requires-3-room-P-Protocol-2 : goal.drop-self-requires-3-room-P-Pr
 drop-self-requires-3-room-P-Protocol-2 g c κs = search (beat_small 24 g.row.M (omega arith) c.requires.manager)
 
 pub drop-self-requires-4-room-P-Protocol-2 : goal.drop-self-requires-4-room-P-Protocol-2
-drop-self-requires-4-room-P-Protocol-2 g c κs = search (beat_small 16 g.row.C (omega arith) c.requires.client)
+drop-self-requires-4-room-P-Protocol-2 g c κs = search (beat_small 24 g.row.C (omega arith) c.requires.client)
 
 pub drop-self-requires-5-room-P-Protocol-2 : goal.drop-self-requires-5-room-P-Protocol-2
 drop-self-requires-5-room-P-Protocol-2 g c κs = search (beat_small 16 g.row.M (omega arith) c.requires.manager)

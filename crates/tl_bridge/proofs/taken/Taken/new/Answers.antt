@@ -12,7 +12,7 @@ pub room_for-requires-3 : goal.room_for-requires-3
 room_for-requires-3 g c = (beat_small 24 g.row.C (omega arith) c.requires.client, (beat_small 24 g.row.M (omega arith) c.requires.manager, (c.requires.client, (c.requires.manager, subst (λ q. length q ≤ 2 ^ 40) (sym c.deref-3.ensures.value) c.requires.short.few_c))))
 
 pub room_for-requires-4 : goal.room_for-requires-4
-room_for-requires-4 g c = (beat_small 16 g.row.M (omega arith) c.requires.manager, (beat_small 16 g.row.C (omega arith) c.requires.client, (c.requires.manager, (c.requires.client, subst (λ q. length q ≤ 2 ^ 40) (sym c.deref-4.ensures.value) c.requires.short.few_d))))
+room_for-requires-4 g c = (beat_small 24 g.row.M (omega arith) c.requires.manager, (beat_small 24 g.row.C (omega arith) c.requires.client, (c.requires.manager, (c.requires.client, subst (λ q. length q ≤ 2 ^ 40) (sym c.deref-4.ensures.value) c.requires.short.few_d))))
 
 pub room_for-requires-5 : goal.room_for-requires-5
 room_for-requires-5 g c = (beat_small 16 g.row.C (omega arith) c.requires.client, (beat_small 16 g.row.M (omega arith) c.requires.manager, (c.requires.client, (c.requires.manager, subst (λ q. length q ≤ 2 ^ 40) (sym c.deref-5.ensures.value) c.requires.short.few_e))))

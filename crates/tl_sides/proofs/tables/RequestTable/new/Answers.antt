@@ -1,6 +1,10 @@
-use Rattle.std.proofs.Common.{None}
-use Rattle.tl_sides.proofs.Entries.{replicate_any}
+use Rattle.std.proofs.Common.{false, map, ap, ◌∙◌}
+use Rattle.tl_sides.specs.Tables.{entry}
+use Rattle.tl_sides.specs.Inner.Entries.{request_in}
+use Rattle.tl_sides.proofs.Entries.{mapped_replicate}
 use Rattle.tl_sides.proofs.tables.RequestTable.new.Goals as goal
 
 pub returns : goal.returns
-returns c s = replicate_any 256 s None
+returns g c = λ s.
+    ap (λ items. entry (map request_in items) s) (c.in_ok-entries.ensures.items_if_clones_equal (λ y same. same)) ∙
+    mapped_replicate request_in 65536 s (record { «open» = false; size = 0; address = 0 })
