@@ -12,6 +12,8 @@ import sys
 from dataclasses import dataclass, field
 
 WIDTHS = (1, 2, 4, 8, 16, 32, 64)
+# The versions of a trace, each with the digits of a source and of a sink in its lines.
+ID_DIGITS = {1: 2, 2: 4}
 CHANNELS = "ABCDE"
 MASKED = "AB"
 MOST_BYTES = 67_108_864
@@ -48,15 +50,19 @@ OPCODES = {
         6: ("ReleaseAck", 1, False),
     },
 }
-# The fields of a head, each with its number of digits and its largest value in a trace.
-_MESSAGE = (("opcode", 1, 7), ("param", 1, 7), ("size", 1, 15), ("source", 2, 255))
-HEADS = {
-    "A": (*_MESSAGE, ("address", 16, 2**64 - 1)),
-    "B": (*_MESSAGE, ("address", 16, 2**64 - 1)),
-    "C": (*_MESSAGE, ("address", 16, 2**64 - 1)),
-    "D": (_MESSAGE[0], ("param", 1, 3), *_MESSAGE[2:], ("sink", 2, 255), ("denied", 1, 1)),
-    "E": (("sink", 2, 255),),
-}
+
+
+def heads(digits):
+    """The fields of each channel's head, each with its number of digits and its largest value in a trace, where an id has so many."""
+    source, sink = ("source", digits, 16**digits - 1), ("sink", digits, 16**digits - 1)
+    opcode, param, size = ("opcode", 1, 7), ("param", 1, 7), ("size", 1, 15)
+    addressed = (opcode, param, size, source, ("address", 16, 2**64 - 1))
+    response = (opcode, ("param", 1, 3), size, source, sink, ("denied", 1, 1))
+    return {"A": addressed, "B": addressed, "C": addressed, "D": response, "E": (sink,)}
+
+
+# By version and channel.
+HEADS = {version: heads(digits) for version, digits in ID_DIGITS.items()}
 NUMBERS = {"Header": 14, "Channel": 15, "Length": 16, "Shape": 17, "Range": 18, "NoEnd": 19}
 
 
@@ -115,9 +121,9 @@ class Message:
 # ---- Reading
 
 
-def template(channel, width):
+def template(version, channel, width):
     """The form of a line: a space where a space has to be, and else the name of the field that the place belongs to."""
-    parts = [[name] * digits for name, digits, _ in HEADS[channel]]
+    parts = [[name] * digits for name, digits, _ in HEADS[version][channel]]
     if channel in MASKED:
         parts.append(["mask"] * -(-width // 4))
     if channel != "E":
@@ -128,8 +134,13 @@ def template(channel, width):
     return places
 
 
-TEMPLATES = {(channel, width): template(channel, width) for channel in CHANNELS for width in WIDTHS}
-HEADERS = {f"tilelink-trace 1 client {c} manager {m}".encode(): (c, m) for c in WIDTHS for m in WIDTHS}
+TEMPLATES = {
+    (version, channel, width): template(version, channel, width) for version in ID_DIGITS for channel in CHANNELS for width in WIDTHS
+}
+HEADERS = {
+    f"tilelink-trace {version} client {client} manager {manager}".encode(): (version, client, manager)
+    for version in ID_DIGITS for client in WIDTHS for manager in WIDTHS
+}
 DIGITS = b"0123456789abcdef"
 
 
@@ -138,13 +149,14 @@ class Unreadable(Exception):
         self.line, self.name = line, name
 
 
-def beat_of(line, number, widths):
+def beat_of(line, number, header):
     """The channel and the beat of a line without its LF."""
+    version, client, manager = header
     channel = line[:1].decode("latin-1")
     if channel not in CHANNELS or not channel:
         raise Unreadable(number, "Channel")
-    width = widths[channel in "BD"]
-    places = TEMPLATES[channel, width]
+    width = manager if channel in "BD" else client
+    places = TEMPLATES[version, channel, width]
     if len(line) != len(places):
         raise Unreadable(number, "Length")
     values = {}
@@ -156,30 +168,30 @@ def beat_of(line, number, widths):
             raise Unreadable(number, "Shape")
         else:
             values[name] = 16 * values.get(name, 0) + DIGITS.index(byte)
-    largest = {name: most for name, _, most in HEADS[channel]} | {"mask": 2**width - 1, "corrupt": 1}
+    largest = {name: most for name, _, most in HEADS[version][channel]} | {"mask": 2**width - 1, "corrupt": 1}
     if any(value > largest.get(name, value) for name, value in values.items()):
         raise Unreadable(number, "Range")
-    head = {name: values[name] for name, _, _ in HEADS[channel]}
+    head = {name: values[name] for name, _, _ in HEADS[version][channel]}
     lanes = values.get("data", 0).to_bytes(width, "little")
     return channel, Beat(head, values.get("mask", 0), lanes, values.get("corrupt", 0))
 
 
 def read(text):
-    """The two widths and the five lists of beats, or Unreadable."""
+    """The version and the two widths, and the five lists of beats, or Unreadable."""
     *ended, last = text.split(b"\n")
     script = {channel: [] for channel in CHANNELS}
-    widths = None
+    header = None
     for number, line in enumerate([*ended, last] if last or not ended else ended, 1):
         if number == 1:
             if line not in HEADERS:
                 raise Unreadable(1, "Header")
-            widths = HEADERS[line]
+            header = HEADERS[line]
         else:
-            channel, beat = beat_of(line, number, widths)
+            channel, beat = beat_of(line, number, header)
             script[channel].append(beat)
         if number > len(ended):
             raise Unreadable(number, "NoEnd")
-    return widths, script
+    return header, script
 
 
 # ---- What a list of beats brings
@@ -361,8 +373,8 @@ def far_beats(message, near, far):
     return made
 
 
-def line_of(channel, beat, width):
-    words = [channel] + [f"{beat.head[name]:0{digits}x}" for name, digits, _ in HEADS[channel]]
+def line_of(channel, beat, width, version):
+    words = [channel] + [f"{beat.head[name]:0{digits}x}" for name, digits, _ in HEADS[version][channel]]
     if channel in MASKED:
         words.append(f"{beat.mask:0{-(-width // 4)}x}")
     if channel != "E":
@@ -393,7 +405,7 @@ def answer(text, responses_first=False):
     if len(text) > MOST_BYTES:
         return Answer([], "", [], "tlbridge: 23 TooLong\n", 4)
     try:
-        (client, manager), script = read(text)
+        (version, client, manager), script = read(text)
     except Unreadable as fault:
         error = f"tlbridge: line {fault.line}: {NUMBERS[fault.name]} {fault.name}\n"
         return Answer([], "", [], error, 3)
@@ -409,12 +421,12 @@ def answer(text, responses_first=False):
         of = steps[channel]
         messages = of.accepted()
         for message in messages:
-            far_lines += [line_of(channel, beat, of.far) for beat in far_beats(message, of.near, of.far)]
+            far_lines += [line_of(channel, beat, of.far, version) for beat in far_beats(message, of.near, of.far)]
         stop = None
         if of.at < len(of.places):
             stop = (request_stop if channel == "A" else response_stop)(steps["A"], steps["D"])
         verdicts.append(verdict(of, messages, stop))
-    header = f"tilelink-far 1 client {client} manager {manager}"
+    header = f"tilelink-far {version} client {client} manager {manager}"
     status = 0 if all(words.startswith("done") for words in verdicts) else 1
     return Answer(far_lines, header, verdicts, "", status)
 

@@ -240,7 +240,7 @@ fn acks(alloc: Global) -> Result<Vec<Beat<ChE, 8>>> {
     let mut all = Vec::with_capacity(alloc, SOME)?;
     for place in 0..SOME {
         all.push(BeatOf {
-            head: HeadE { sink: place as u8 },
+            head: HeadE { sink: place as u16 },
             mask: 0,
             lanes: [0; 8],
             corrupt: false,

@@ -8,6 +8,9 @@ use tl_lanes::{active, beats};
 use tl_msg::{BeatOf, ChA, ChD, ChE, HeadA, HeadD, HeadE};
 use tl_trace::{OutOfMemory, write_far};
 
+/// The version of the traces that are made.
+const VERSION: u8 = 1;
+
 /// Sets the bytes of a beat. They vary from lane to lane, and from seed to seed.
 fn fill(lanes: &mut [u8], seed: u8) {
     let mut byte = seed;
@@ -25,20 +28,20 @@ fn put_message<const C: usize>(text: &mut Vec<u8>, number: u64) -> Result<(), Ou
         opcode: 0,
         param: 0,
         size: if number % 8 == 7 { 12 } else { 6 },
-        source: (number % 256) as u8,
+        source: (number % 256) as u16,
         address: number % 65_536 * 4096,
     };
     let mask = active(head.address, head.size, C);
     for index in 0..beats(true, head.size, C) {
         let mut lanes = [0u8; C];
-        fill(&mut lanes, (index % 256) as u8 ^ head.source);
+        fill(&mut lanes, (index % 256) as u8 ^ head.source as u8);
         let beat = BeatOf {
             head,
             mask,
             lanes,
             corrupt: false,
         };
-        write_far::<ChA, C>(text, &[beat])?;
+        write_far::<ChA, C>(text, &[beat], VERSION)?;
     }
     Ok(())
 }
@@ -46,7 +49,7 @@ fn put_message<const C: usize>(text: &mut Vec<u8>, number: u64) -> Result<(), Ou
 /// Appends the line of a GrantAck.
 fn put_grant_ack(text: &mut Vec<u8>, number: u64) -> Result<(), OutOfMemory> {
     let head = HeadE {
-        sink: (number % 256) as u8,
+        sink: (number % 256) as u16,
     };
     let beat = BeatOf {
         head,
@@ -54,7 +57,7 @@ fn put_grant_ack(text: &mut Vec<u8>, number: u64) -> Result<(), OutOfMemory> {
         lanes: [0u8; 1],
         corrupt: false,
     };
-    write_far::<ChE, 1>(text, &[beat])
+    write_far::<ChE, 1>(text, &[beat], VERSION)
 }
 
 /// Appends the lines of a request of 64 bytes, a Get or a PutFullData.
@@ -69,13 +72,13 @@ fn put_request<const C: usize>(
         opcode: if reads { 4 } else { 0 },
         param: 0,
         size: 6,
-        source: (number % 256) as u8,
+        source: (number % 256) as u16,
         address: number % 65_536 * 64,
     };
     for index in 0..beats(!reads, head.size, C) {
         let mut lanes = [0u8; C];
         if !reads {
-            fill(&mut lanes, index as u8 ^ head.source);
+            fill(&mut lanes, index as u8 ^ head.source as u8);
         }
         let beat = BeatOf {
             head,
@@ -83,7 +86,7 @@ fn put_request<const C: usize>(
             lanes,
             corrupt: false,
         };
-        write_far::<ChA, C>(text, &[beat])?;
+        write_far::<ChA, C>(text, &[beat], VERSION)?;
     }
     Ok(())
 }
@@ -100,14 +103,14 @@ fn put_response<const M: usize>(
         opcode: if reads { 1 } else { 0 },
         param: 0,
         size: 6,
-        source: (number % 256) as u8,
+        source: (number % 256) as u16,
         sink: 0,
         denied: false,
     };
     for index in 0..beats(reads, head.size, M) {
         let mut lanes = [0u8; M];
         if reads {
-            fill(&mut lanes, index as u8 ^ head.source);
+            fill(&mut lanes, index as u8 ^ head.source as u8);
         }
         let beat = BeatOf {
             head,
@@ -115,7 +118,7 @@ fn put_response<const M: usize>(
             lanes,
             corrupt: false,
         };
-        write_far::<ChD, M>(text, &[beat])?;
+        write_far::<ChD, M>(text, &[beat], VERSION)?;
     }
     Ok(())
 }
@@ -165,7 +168,7 @@ pub fn trace(
     manager: usize,
     bytes: usize,
 ) -> Result<Vec<u8>> {
-    let header = format!(in alloc; "tilelink-trace 1 client {client} manager {manager}\n")?;
+    let header = format!(in alloc; "tilelink-trace {VERSION} client {client} manager {manager}\n")?;
     let mut text = Vec::from_slice(alloc, header.as_bytes())?;
     for number in 0..bytes as u64 {
         if text.len() >= bytes {

@@ -1,6 +1,5 @@
 //! Measures reading, conversion and writing.
-ghost use Rattle.std.specs.Prelude.{◌≡◌, Some};
-ghost use Rattle.tl_trace.specs.Faults.{body, widths_of};
+ghost use Rattle.tl_trace.specs.Faults.{HasHeader};
 ghost use Rattle.tl_lanes.specs.Lanes.{IsWidth};
 
 use anyhow::{Result, bail};
@@ -13,7 +12,7 @@ use std::time::Instant;
 use std::{fs, io};
 use tl_convert::Converter;
 use tl_msg::{Beat, ChA, ChE};
-use tl_trace::{HeadText, read_script, widths_of_text, write_far};
+use tl_trace::{HeadText, header_of_text, read_script, write_far};
 
 /// The bytes of the longest trace that the bridge takes.
 const MOST_BYTES: usize = 67_108_864;
@@ -75,6 +74,7 @@ fn measure_channel<K: HeadText, const W: usize, const V: usize>(
     converter: &mut Converter<K, W, V>,
     given: &mut ArrayVec<Beat<K, V>, 64>,
     near: &[Beat<K, W>],
+    version: u8,
 ) -> Result<()>
     requires near { IsWidth W }
     requires far { IsWidth V }
@@ -90,11 +90,11 @@ fn measure_channel<K: HeadText, const W: usize, const V: usize>(
 
     let mut text = Vec::new(alloc);
     let start = Instant::now(rt)?;
-    write_far::<K, V>(&mut text, &far)?;
+    write_far::<K, V>(&mut text, &far, version)?;
     print_time(rt, "write_first", start)?;
     text.clear();
     let start = Instant::now(rt)?;
-    write_far::<K, V>(&mut text, &far)?;
+    write_far::<K, V>(&mut text, &far, version)?;
     print_time(rt, "write", start)?;
 
     let (near_beats, far_beats, far_bytes) = (near.len(), far.len(), text.len());
@@ -105,34 +105,38 @@ fn measure_channel<K: HeadText, const W: usize, const V: usize>(
 fn measure_pair<const C: usize, const M: usize>(
     rt: &(impl Clock + Print + Files + AllocGlobal),
     text: &[u8],
+    version: u8,
 ) -> Result<()>
     requires client { IsWidth C }
     requires manager { IsWidth M }
-    requires widths { widths_of (body text.now) ≡ Some (C, M) }
+    requires header { HasHeader text.now version C M }
 {
     let alloc = rt.alloc();
     let start = Instant::now(rt)?;
-    let script = read_script::<C, M>(alloc, text)?;
+    let script = read_script::<C, M>(alloc, text, version)?;
     print_time(rt, "read", start)?;
     print_peak(rt, "peak")?;
     if script.a.is_empty() {
         let mut converter = Converter::<ChE, C, M>::new();
         let mut given = no_beats::<ChE, M>();
-        measure_channel(rt, alloc, &mut converter, &mut given, &script.e)
+        measure_channel(rt, alloc, &mut converter, &mut given, &script.e, version)
     } else {
         let mut converter = Converter::<ChA, C, M>::new();
         let mut given = no_beats::<ChA, M>();
-        measure_channel(rt, alloc, &mut converter, &mut given, &script.a)
+        measure_channel(rt, alloc, &mut converter, &mut given, &script.a, version)
     }
 }
 
 fn measure_text(rt: &(impl Clock + Print + Files + AllocGlobal), text: &[u8]) -> Result<()> {
-    match widths_of_text(text) {
-        Some((8, 8)) => measure_pair::<8, 8>(rt, text),
-        Some((4, 64)) => measure_pair::<4, 64>(rt, text),
-        Some((64, 4)) => measure_pair::<64, 4>(rt, text),
-        Some((64, 1)) => measure_pair::<64, 1>(rt, text),
-        Some((8, 32)) => measure_pair::<8, 32>(rt, text),
+    let Some(header) = header_of_text(text) else {
+        bail!("the text is no trace");
+    };
+    match (header.client, header.manager) {
+        (8, 8) => measure_pair::<8, 8>(rt, text, header.version),
+        (4, 64) => measure_pair::<4, 64>(rt, text, header.version),
+        (64, 4) => measure_pair::<64, 4>(rt, text, header.version),
+        (64, 1) => measure_pair::<64, 1>(rt, text, header.version),
+        (8, 32) => measure_pair::<8, 32>(rt, text, header.version),
         _ => bail!("nothing is measured at these widths"),
     }
 }

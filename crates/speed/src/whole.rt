@@ -1,7 +1,7 @@
 //! Measures whole runs.
-ghost use Rattle.std.specs.Prelude.{◌≡◌, ◌≤◌, IsTrue, Some};
+ghost use Rattle.std.specs.Prelude.{◌≤◌, IsTrue};
 ghost use Rattle.tl_lanes.specs.Lanes.{IsWidth};
-ghost use Rattle.tl_trace.specs.Faults.{body, widths_of};
+ghost use Rattle.tl_trace.specs.Faults.{HasHeader};
 ghost use Rattle.tl_bridge.specs.Scripts.{HasShortLists};
 
 use crate::measure::{print_peak, print_time};
@@ -15,7 +15,7 @@ use std::time::Instant;
 use tl_answer::answer_of;
 use tl_bridge::{NoGate, Outcome, RunFault, run_sync, run_threads};
 use tl_msg::Verdict;
-use tl_trace::{Script, TraceFault, read_script, widths_of_text};
+use tl_trace::{Script, TraceFault, header_of_text, read_script};
 
 /// The most beats of a channel that a run takes.
 const MOST_BEATS: usize = 1 << 40;
@@ -38,10 +38,11 @@ pub struct Way {
 fn script_from<const C: usize, const M: usize>(
     alloc: Global,
     text: Vec<u8>,
+    version: u8,
 ) -> Result<Script<C, M>, TraceFault>
-    requires { widths_of (body text.items) ≡ Some (C, M) }
+    requires { HasHeader text.items version C M }
 {
-    read_script::<C, M>(alloc, &text)
+    read_script::<C, M>(alloc, &text, version)
 }
 
 /// Whether a run takes the lists of a script.
@@ -114,18 +115,19 @@ fn print_counts(rt: &impl Print, verdicts: &[Verdict; 5], rounds: u64) -> Result
 fn run_pair<const C: usize, const M: usize>(
     rt: &(impl Clock + Print + Threads + AllocGlobal),
     text: Vec<u8>,
+    version: u8,
     way: Way,
 ) -> Result<()>
     requires client { IsWidth C }
     requires manager { IsWidth M }
-    requires widths { widths_of (body text.items) ≡ Some (C, M) }
+    requires header { HasHeader text.items version C M }
 {
     let start = Instant::now(rt)?;
-    let script = script_from::<C, M>(rt.alloc(), text)?;
+    let script = script_from::<C, M>(rt.alloc(), text, version)?;
     print_time(rt, "read", start)?;
     let outcome = outcome_from::<C, M>(rt, script, way)?;
     let start = Instant::now(rt)?;
-    let answer = answer_of::<C, M>(rt.alloc(), &outcome, way.check)?;
+    let answer = answer_of::<C, M>(rt.alloc(), &outcome, way.check, version)?;
     print_time(rt, "write", start)?;
     println!(rt; "far_bytes {}", answer.text.len())?;
     print_counts(rt, &outcome.verdicts, outcome.rounds)
@@ -136,11 +138,14 @@ fn run_text(
     text: Vec<u8>,
     way: Way,
 ) -> Result<()> {
-    match widths_of_text(&text) {
-        Some((8, 8)) => run_pair::<8, 8>(rt, text, way),
-        Some((4, 16)) => run_pair::<4, 16>(rt, text, way),
-        Some((64, 8)) => run_pair::<64, 8>(rt, text, way),
-        Some((8, 64)) => run_pair::<8, 64>(rt, text, way),
+    let Some(header) = header_of_text(&text) else {
+        bail!("the text is no trace");
+    };
+    match (header.client, header.manager) {
+        (8, 8) => run_pair::<8, 8>(rt, text, header.version, way),
+        (4, 16) => run_pair::<4, 16>(rt, text, header.version, way),
+        (64, 8) => run_pair::<64, 8>(rt, text, header.version, way),
+        (8, 64) => run_pair::<8, 64>(rt, text, header.version, way),
         _ => bail!("no runs are measured at these widths"),
     }
 }

@@ -14,16 +14,21 @@ use std::test::Fail;
 use std::thread::Threads;
 use tl_bridge::{NoGate, Outcome, RunFault, run_sync, run_threads};
 use tl_msg::Verdict;
-use tl_trace::{Script, read_script, widths_of_text};
+use tl_trace::{Header, Script, header_of_text, read_script};
 
 /// The script of [`FIVE`].
 fn script_of_five(alloc: Global) -> Result<Script<4, 8>, Fail>
     ensures { IfOk result HasShortLists }
 {
-    if widths_of_text(FIVE.as_bytes()) != Some((4, 8)) {
-        return Err(Fail::from("other widths"));
+    let header = Header {
+        version: 1,
+        client: 4,
+        manager: 8,
+    };
+    if header_of_text(FIVE.as_bytes()) != Some(header) {
+        return Err(Fail::from("another header"));
     }
-    let script = read_script::<4, 8>(alloc, FIVE.as_bytes())?;
+    let script = read_script::<4, 8>(alloc, FIVE.as_bytes(), 1)?;
     if !is_short(&script) {
         return Err(Fail::from("a long script"));
     }

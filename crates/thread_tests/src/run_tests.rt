@@ -6,7 +6,7 @@ ghost use Rattle.tl_lanes.specs.Lanes.{IsWidth};
 use crate::runs::{Ending, run_text};
 use crate::texts::{
     EACH_WAITS, FIVE, NARROWEST_BEAT, NO_BEAT, RELEASE, SOURCE_USED_TWICE, TO_NARROWEST, TO_WIDEST,
-    WIDEST_BEAT, acknowledgements, repeated,
+    WIDE_SOURCES, WIDEST_BEAT, acknowledgements, repeated,
 };
 use std::alloc::Global;
 use std::test::Fail;
@@ -100,6 +100,7 @@ fn no_ring_and_no_turns_change_the_end(rt: HostRuntime) -> Result<(), Fail> {
     let (one, two) = (done(1, 1), done(2, 2));
     run_each_way::<64, 1, _>(&rt, alloc, RELEASE, [NONE, NONE, done(1, 64), one, NONE])?;
     run_each_way::<4, 4, _>(&rt, alloc, SOURCE_USED_TWICE, [two, NONE, NONE, two, NONE])?;
+    run_each_way::<4, 4, _>(&rt, alloc, WIDE_SOURCES, [two, NONE, NONE, two, NONE])?;
     run_each_way::<4, 4, _>(&rt, alloc, EACH_WAITS, WAITING)?;
     run_each_way::<4, 8, _>(&rt, alloc, FIVE, [one; 5])?;
     Ok(())

@@ -9,7 +9,7 @@ use std::test::Fail;
 use std::thread::Threads;
 use tl_bridge::{Gate, Outcome, RunFault, run_sync, run_threads};
 use tl_msg::Verdict;
-use tl_trace::{Script, read_script, widths_of_text};
+use tl_trace::{Script, header_of_text, read_script};
 
 /// How the run of a script in two threads ended, and its run in one over rings of the same size.
 #[derive(Clone, Copy, PartialEq, Eq, Debug)]
@@ -120,10 +120,13 @@ pub fn run_text<const C: usize, const M: usize, R: Threads, G: Gate + Send, H: G
     requires manager { IsWidth M }
     requires turns { 1 ≤ turns }
 {
-    if widths_of_text(text.as_bytes()) != Some((C, M)) {
+    let Some(header) = header_of_text(text.as_bytes()) else {
+        return Err(Fail::from("no header"));
+    };
+    if header.client != C || header.manager != M {
         return Err(Fail::from("a header of other widths"));
     }
-    let script = read_script::<C, M>(alloc, text.as_bytes())?;
+    let script = read_script::<C, M>(alloc, text.as_bytes(), header.version)?;
     if !is_short(&script) {
         return Err(Fail::from("a long script"));
     }

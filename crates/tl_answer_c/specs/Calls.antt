@@ -3,7 +3,7 @@ use Rattle.std.specs.Prelude.{◌≡◌, ◌<◌, ◌==◌, ℕ, Bool, not, if�
 use denote.RawPtr.{null_ptr}
 use Rattle.std.specs.Vec.{vec_ptr, vec_len}
 use Rattle.tl_answer.specs.Faults.{text_fault_number, text_fault_line}
-use Rattle.tl_answer.specs.Texts.{IsAnswer, IsOfText, in_one_thread, most_bytes}
+use Rattle.tl_answer.specs.Texts.{IsAnswer, IsOfText, most_bytes}
 use Rattle.tl_answer.specs.declared.answer.Answer.{Answer}
 use Rattle.tl_answer.specs.declared.fault.TextFault.{TextFault}
 use Rattle.tl_answer.specs.declared.fault.TextFault.TheVariants as faults
@@ -13,10 +13,10 @@ use Rattle.tl_answer_c.specs.declared.block.AnswerBlock.{AnswerBlock}
 abbrev pub is_set : ℕ → Bool
 is_set n = not (n == 0)
 
--- what a call refuses a text for: it is too long, or what a run in one thread refuses it for
+-- what a call refuses a text for: it is too long, or what any run refuses it for
 abbrev pub IsOfCall : (text : List ℕ) → TextFault → Type 0
 IsOfCall text faults.TooLong = most_bytes < length text
-IsOfCall text (faults.Trace fault) = IsOfText text in_one_thread (faults.Trace fault)
+IsOfCall text (faults.Trace fault) = IsOfText text (faults.Trace fault)
 IsOfCall text faults.Stalled = ⊥
 IsOfCall text faults.Read = ⊥
 IsOfCall text faults.Write = ⊥

@@ -1,5 +1,5 @@
 -- What an explanation of a text is proved to be (this project's choice). Its sentences are for readers, and tests show what they say; after them comes
--- the answer of a check: the widths, and how far each channel came.
+-- the answer of a check: the version and the widths, and how far each channel came.
 use Rattle.std.specs.Prelude.{◌≡◌, ◌≢◌, ◌<◌, ◌++◌, ℕ, Bool, true, List, length, Option, Result, Ok, Err, IfSome}
 use Rattle.std.specs.Io.KnownBytes.{Keeps, Appends}
 use Rattle.tl_trace.specs.Faults.{IsFirstFault}

@@ -2,7 +2,7 @@
 ghost use Rattle.tl_lanes.specs.Lanes.{IsWidth};
 
 use crate::fate::{Fate, fate_at};
-use crate::look::Look;
+use crate::look::Style;
 use crate::picture::Picture;
 use crate::requests::{Request, Requests};
 use crate::seen::{Told, seen_of};
@@ -28,10 +28,11 @@ pub fn requests_of<const C: usize>(
     text: &[u8],
     beats: &[Beat<ChA, C>],
     verdict: &Verdict,
+    version: u8,
 ) -> Result<Requests, AllocError>
     requires { IsWidth C }
 {
-    let mut requests = Requests::new(alloc);
+    let mut requests = Requests::new(alloc)?;
     let mut walk = Walk::default();
     let mut line = 1u64;
     let mut begins = false;
@@ -39,7 +40,7 @@ pub fn requests_of<const C: usize>(
         if begins {
             line = line.saturating_add(1);
             if *byte == b'A' {
-                add_request(&mut requests, line, beats, verdict, &mut walk)?;
+                add_request(&mut requests, line, beats, verdict, &mut walk, version)?;
             }
         }
         begins = *byte == b'\n';
@@ -54,6 +55,7 @@ fn add_request<const C: usize>(
     beats: &[Beat<ChA, C>],
     verdict: &Verdict,
     walk: &mut Walk,
+    version: u8,
 ) -> Result<(), AllocError>
     requires { IsWidth C }
 {
@@ -63,7 +65,7 @@ fn add_request<const C: usize>(
     let Fate::Accepted = fate_at(walk.near as u64, verdict) else {
         return Ok(());
     };
-    let seen = seen_of::<ChA, C>(beat);
+    let seen = seen_of::<ChA, C>(beat, version);
     let begins = walk.index == 0;
     walk.accept(&seen, line, C, C);
     walk.near = walk.near.saturating_add(1);
@@ -85,10 +87,11 @@ fn put_lanes<K: Told, const W: usize>(
     name: &str,
     beat: &Beat<K, W>,
     home: u64,
+    version: u8,
 ) -> Result<(), AllocError>
     requires { IsWidth W }
 {
-    let seen = seen_of::<K, W>(beat);
+    let seen = seen_of::<K, W>(beat, version);
     if seen.size > MAX_SIZE || !(K::MASKED || seen.carries_data()) {
         return Ok(());
     }
@@ -106,16 +109,16 @@ fn put_far<K: Told, const V: usize>(
     out: &mut String,
     beat: &Beat<K, V>,
     home: u64,
-    look: &Look,
+    style: &Style,
 ) -> Result<(), AllocError>
     requires { IsWidth V }
 {
     write!(out, "    ")?;
-    put_bytes(out, line_of::<K, V>(beat).as_slice())?;
-    if !look.lanes {
+    put_bytes(out, line_of::<K, V>(beat, style.version).as_slice())?;
+    if !style.look.lanes {
         return Ok(());
     }
-    put_lanes::<K, V>(out, "far ", beat, home)
+    put_lanes::<K, V>(out, "far ", beat, home, style.version)
 }
 
 /// Writes what came of the next beat of a channel, which stands in this line, and the far beats that
@@ -128,7 +131,7 @@ pub fn put_near<K: Told, const W: usize, const V: usize>(
     verdict: &Verdict,
     walk: &mut Walk,
     requests: &mut Requests,
-    look: &Look,
+    style: &Style,
 ) -> Result<(), AllocError>
     requires near { IsWidth W }
     requires far { IsWidth V }
@@ -136,20 +139,20 @@ pub fn put_near<K: Told, const W: usize, const V: usize>(
     let Some(beat) = near.get(walk.near) else {
         return Ok(());
     };
-    let seen = seen_of::<K, W>(beat);
+    let seen = seen_of::<K, W>(beat, style.version);
     let before = walk.far;
-    let accepted = put_line(out, line, &seen, verdict, walk, requests, look, W, V)?;
-    if look.lanes && (accepted || K::LETTER != b'D') {
+    let accepted = put_line(out, line, &seen, verdict, walk, requests, &style.look, W, V)?;
+    if style.look.lanes && (accepted || K::LETTER != b'D') {
         let home = if K::LETTER == b'D' {
             walk.home
         } else {
             seen.address
         };
-        put_lanes::<K, W>(out, "near", beat, home)?;
+        put_lanes::<K, W>(out, "near", beat, home, style.version)?;
     }
     for at in before..walk.far {
         if let Some(beat) = far.get(at) {
-            put_far::<K, V>(out, beat, walk.home, look)?;
+            put_far::<K, V>(out, beat, walk.home, style)?;
         }
     }
     Ok(())

@@ -1,12 +1,12 @@
 //! From a text to what came of each of its lines.
 ghost use Rattle.std.specs.Prelude.{◌≡◌, ◌≤◌, length, Some, IfOk, IfErr};
 ghost use Rattle.tl_lanes.specs.Lanes.{IsWidth};
-ghost use Rattle.tl_trace.specs.Faults.{body, widths_of};
-ghost use Rattle.tl_answer.specs.Texts.{IsOfText, in_one_thread, most_bytes};
+ghost use Rattle.tl_trace.specs.Faults.{HasHeader};
+ghost use Rattle.tl_answer.specs.Texts.{IsOfText, most_bytes};
 ghost use Rattle.tl_explain.specs.Explained.{IsExplanation};
 
 use crate::channel::{put_near, requests_of};
-use crate::look::Look;
+use crate::look::{Look, Style};
 use crate::requests::Requests;
 use crate::walk::Walk;
 use std::alloc::{AllocError, Global};
@@ -14,7 +14,7 @@ use std::fmt::Write;
 use tl_answer::{TextFault, answer_of, at_width, outcome_of};
 use tl_bridge::{Outcome, PerChannel};
 use tl_msg::{ChA, ChB, ChC, ChD, ChE, Verdict};
-use tl_trace::{Script, TraceFault, TraceKind, read_script, widths_of_text};
+use tl_trace::{Script, TraceFault, TraceKind, header_of_text, read_script};
 
 /// What came of each line of a text, and whether all five channels are done.
 #[derive(Drop)]
@@ -32,7 +32,7 @@ fn put_letter<const C: usize, const M: usize>(
     outcome: &Outcome<C, M>,
     walks: &mut PerChannel<Walk>,
     requests: &mut Requests,
-    look: &Look,
+    style: &Style,
 ) -> Result<(), AllocError>
     requires client { IsWidth C }
     requires manager { IsWidth M }
@@ -47,7 +47,7 @@ fn put_letter<const C: usize, const M: usize>(
             a,
             &mut walks.a,
             requests,
-            look,
+            style,
         ),
         b'B' => put_near::<ChB, M, C>(
             out,
@@ -57,7 +57,7 @@ fn put_letter<const C: usize, const M: usize>(
             b,
             &mut walks.b,
             requests,
-            look,
+            style,
         ),
         b'C' => put_near::<ChC, C, M>(
             out,
@@ -67,7 +67,7 @@ fn put_letter<const C: usize, const M: usize>(
             c,
             &mut walks.c,
             requests,
-            look,
+            style,
         ),
         b'D' => put_near::<ChD, M, C>(
             out,
@@ -77,7 +77,7 @@ fn put_letter<const C: usize, const M: usize>(
             d,
             &mut walks.d,
             requests,
-            look,
+            style,
         ),
         b'E' => put_near::<ChE, C, M>(
             out,
@@ -87,7 +87,7 @@ fn put_letter<const C: usize, const M: usize>(
             e,
             &mut walks.e,
             requests,
-            look,
+            style,
         ),
         _ => Ok(()),
     }
@@ -116,14 +116,15 @@ fn sentences_of<const C: usize, const M: usize>(
     text: &[u8],
     script: &Script<C, M>,
     outcome: &Outcome<C, M>,
-    look: &Look,
+    style: &Style,
 ) -> Result<String, AllocError>
     requires client { IsWidth C }
     requires manager { IsWidth M }
 {
     let mut out = String::new(alloc);
     let mut walks = PerChannel::<Walk>::default();
-    let mut requests = requests_of::<C>(alloc, text, &script.a, &outcome.verdicts[0])?;
+    let (beats, verdict) = (&script.a, &outcome.verdicts[0]);
+    let mut requests = requests_of::<C>(alloc, text, beats, verdict, style.version)?;
     let mut line = 1u64;
     let mut begins = false;
     for byte in text {
@@ -137,7 +138,7 @@ fn sentences_of<const C: usize, const M: usize>(
                 outcome,
                 &mut walks,
                 &mut requests,
-                look,
+                style,
             )?;
         }
         begins = *byte == b'\n';
@@ -149,23 +150,28 @@ fn sentences_of<const C: usize, const M: usize>(
     Ok(out)
 }
 
-/// The explanation of a text whose header names these widths.
+/// The explanation of a text whose header names this version and these widths.
 fn with_widths<const C: usize, const M: usize>(
     alloc: Global,
     text: &[u8],
+    version: u8,
     look: &Look,
 ) -> Result<Explanation, TextFault>
     requires client { IsWidth C }
     requires manager { IsWidth M }
-    requires widths { widths_of (body text.now) ≡ Some (C, M) }
+    requires header { HasHeader text.now version C M }
     requires few { length text.now ≤ most_bytes }
     ensures ok { IfOk result (λ made. IsExplanation text.now made.text.items made.all_done) }
-    ensures err { IfErr result (IsOfText text.now in_one_thread) }
+    ensures err { IfErr result (IsOfText text.now) }
 {
-    let script = read_script::<C, M>(alloc, text)?;
+    let script = read_script::<C, M>(alloc, text, version)?;
     let outcome = outcome_of::<C, M>(alloc, &script)?;
-    let sentences = sentences_of(alloc, text, &script, &outcome, look)?;
-    let answer = answer_of(alloc, &outcome, true)?;
+    let style = Style {
+        look: *look,
+        version,
+    };
+    let sentences = sentences_of(alloc, text, &script, &outcome, &style)?;
+    let answer = answer_of(alloc, &outcome, true, version)?;
     let mut text = sentences.into_bytes();
     text.extend_from_slice(&answer.text)?;
     Ok(Explanation {
@@ -178,16 +184,17 @@ fn with_widths<const C: usize, const M: usize>(
 fn with_client<const C: usize>(
     alloc: Global,
     text: &[u8],
+    version: u8,
     manager: usize,
     look: &Look,
 ) -> Result<Explanation, TextFault>
     requires client { IsWidth C }
-    requires widths { widths_of (body text.now) ≡ Some (C, manager) }
+    requires header { HasHeader text.now version C manager }
     requires few { length text.now ≤ most_bytes }
     ensures ok { IfOk result (λ made. IsExplanation text.now made.text.items made.all_done) }
-    ensures err { IfErr result (IsOfText text.now in_one_thread) }
+    ensures err { IfErr result (IsOfText text.now) }
 {
-    at_width!(manager, with_widths::<C, _>(alloc, text, look))
+    at_width!(manager, with_widths::<C, _>(alloc, text, version, look))
 }
 
 /// What came of each line of a text, in the order of its lines, and then the answer that
@@ -201,13 +208,16 @@ fn with_client<const C: usize>(
 pub fn explain_text(alloc: Global, text: &[u8], look: &Look) -> Result<Explanation, TextFault>
     requires few { length text.now ≤ most_bytes }
     ensures ok { IfOk result (λ made. IsExplanation text.now made.text.items made.all_done) }
-    ensures err { IfErr result (IsOfText text.now in_one_thread) }
+    ensures err { IfErr result (IsOfText text.now) }
 {
-    let Some((client, manager)) = widths_of_text(text) else {
+    let Some(header) = header_of_text(text) else {
         return Err(TextFault::from(TraceFault {
             line: 1,
             kind: TraceKind::Header,
         }));
     };
-    at_width!(client, with_client::<_>(alloc, text, manager, look))
+    at_width!(
+        header.client,
+        with_client::<_>(alloc, text, header.version, header.manager, look)
+    )
 }

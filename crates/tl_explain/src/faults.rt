@@ -57,10 +57,16 @@ fn put_numbers(out: &mut String, name: &str, now: u8, was: u8) -> Result<(), All
     write!(out, "the {name} is {now} and was {was}")
 }
 
-/// Writes a source or a sink that a burst's first beat has otherwise.
-fn put_ids(out: &mut String, text: &str, now: u8, was: u8) -> Result<(), AllocError> {
-    put_id(out, text, now)?;
-    put_id(out, " and was ", was)
+/// Writes a source or a sink that a burst's first beat has otherwise, in a trace of this version.
+fn put_ids(
+    out: &mut String,
+    text: &str,
+    now: u16,
+    was: u16,
+    version: u8,
+) -> Result<(), AllocError> {
+    put_id(out, text, now, version)?;
+    put_id(out, " and was ", was, version)
 }
 
 /// Writes the first field in which the head of a beat is not that of its burst's first beat.
@@ -75,14 +81,20 @@ fn put_change(out: &mut String, beat: &Seen, first: &Seen) -> Result<(), AllocEr
         return put_numbers(out, "size", beat.size, first.size);
     }
     if beat.source != first.source {
-        return put_ids(out, "the source is ", beat.source, first.source);
+        return put_ids(
+            out,
+            "the source is ",
+            beat.source,
+            first.source,
+            beat.version,
+        );
     }
     if beat.address != first.address {
         put_address(out, "the address is ", beat.address)?;
         return put_address(out, " and was ", first.address);
     }
     if beat.sink != first.sink {
-        return put_ids(out, "the sink is ", beat.sink, first.sink);
+        return put_ids(out, "the sink is ", beat.sink, first.sink, beat.version);
     }
     out.push_str(if beat.denied {
         "denied is 1 and was 0"

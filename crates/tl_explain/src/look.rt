@@ -19,6 +19,14 @@ pub enum Colour {
     Yellow = 33,
 }
 
+/// How the lines of one trace are written.
+#[derive(Clone, Copy)]
+pub struct Style {
+    pub look: Look,
+    /// The version of the trace, which says how many digits an id has.
+    pub version: u8,
+}
+
 impl Look {
     /// Writes a word in a colour, where colours are asked for.
     pub fn put(&self, out: &mut String, colour: Colour, word: &str) -> Result<(), AllocError> {

@@ -1,6 +1,5 @@
 //! Pictures of lanes.
 use crate::lane_list::has_lane;
-use crate::seen::put_id;
 use std::alloc::AllocError;
 use std::fmt::Write;
 use tl_lanes::Mask;
@@ -27,7 +26,7 @@ impl Picture {
             (false, false) => " ..",
             (false, true) => " !!",
             (true, false) => " --",
-            (true, true) if self.has_data => return put_id(out, " ", byte),
+            (true, true) if self.has_data => return write!(out, " {byte:02x}"),
             (true, true) => " ##",
         };
         out.push_str(shown)

@@ -8,6 +8,8 @@ use tl_trace::HeadText;
 /// The fields of a beat, but its lanes. What its channel does not have is 0.
 #[derive(Clone, Copy, Default)]
 pub struct Seen {
+    /// The version of its trace, which says how many digits an id has.
+    pub version: u8,
     /// `A` to `E`.
     pub letter: char,
     /// The message of the opcode, where the channel has one. None on E.
@@ -16,9 +18,9 @@ pub struct Seen {
     pub param: u8,
     /// The message is of `2^size` bytes.
     pub size: u8,
-    pub source: u8,
+    pub source: u16,
     pub address: u64,
-    pub sink: u8,
+    pub sink: u16,
     pub denied: bool,
     pub mask: Mask,
     pub corrupt: bool,
@@ -101,9 +103,10 @@ impl Told for ChE {
     }
 }
 
-/// The fields of a beat.
-pub fn seen_of<K: Told, const W: usize>(beat: &Beat<K, W>) -> Seen {
+/// The fields of a beat of a trace of this version.
+pub fn seen_of<K: Told, const W: usize>(beat: &Beat<K, W>, version: u8) -> Seen {
     Seen {
+        version,
         mask: beat.mask,
         corrupt: beat.corrupt,
         ..K::seen(&beat.head)
@@ -138,9 +141,9 @@ impl Seen {
         out.push(' ')?;
         self.put_name(out)?;
         if self.letter == 'E' {
-            return put_id(out, ", sink ", self.sink);
+            return put_id(out, ", sink ", self.sink, self.version);
         }
-        put_id(out, ", source ", self.source)?;
+        put_id(out, ", source ", self.source, self.version)?;
         out.push_str(", ")?;
         put_length(out, self.size)?;
         if self.letter != 'D' {
@@ -151,9 +154,13 @@ impl Seen {
     }
 }
 
-/// Writes a source or a sink, behind this text.
-pub fn put_id(out: &mut String, text: &str, id: u8) -> Result<(), AllocError> {
-    write!(out, "{text}{id:02x}")
+/// Writes a source or a sink, behind this text, with the digits that it has in a trace of this
+/// version.
+pub fn put_id(out: &mut String, text: &str, id: u16, version: u8) -> Result<(), AllocError> {
+    match version {
+        1 => write!(out, "{text}{id:02x}"),
+        _ => write!(out, "{text}{id:04x}"),
+    }
 }
 
 /// Writes an address, behind this text.

@@ -12,8 +12,8 @@ use std::fmt::Write;
 use tl_msg::{SideFault, Verdict};
 
 /// Writes why a beat of A waits: its source is busy with this request.
-fn put_busy(out: &mut String, source: u8, request: Option<Request>) -> Result<(), AllocError> {
-    put_id(out, "source ", source)?;
+fn put_busy(out: &mut String, beat: &Seen, request: Option<Request>) -> Result<(), AllocError> {
+    put_id(out, "source ", beat.source, beat.version)?;
     out.push_str(" still waits for the response to its ")?;
     match request {
         Some(request) => write!(out, "request in line {}", request.line)?,
@@ -23,12 +23,12 @@ fn put_busy(out: &mut String, source: u8, request: Option<Request>) -> Result<()
 }
 
 /// Writes why a beat of D waits: no request of its source has arrived that it could answer.
-fn put_no_request(out: &mut String, source: u8, open: Option<Request>) -> Result<(), AllocError> {
+fn put_no_request(out: &mut String, beat: &Seen, open: Option<Request>) -> Result<(), AllocError> {
     let Some(request) = open else {
-        put_id(out, "no request of source ", source)?;
+        put_id(out, "no request of source ", beat.source, beat.version)?;
         return out.push_str(" waits for a response: send one on A, or mend the source");
     };
-    put_id(out, "the request of source ", source)?;
+    put_id(out, "the request of source ", beat.source, beat.version)?;
     write!(out, " in line {}", request.line)?;
     out.push_str(" has not arrived: bytes of its first far beat are missing")
 }
@@ -60,8 +60,8 @@ fn put_fault(
         SideFault::Beat(fault) => {
             put_beat_fault(out, beat, fault, &walk.first, walk.first_line, w)
         }
-        SideFault::SourceBusy => put_busy(out, beat.source, requests.last(beat.source)),
-        SideFault::NoRequest => put_no_request(out, beat.source, requests.open(beat.source)),
+        SideFault::SourceBusy => put_busy(out, beat, requests.last(beat.source)),
+        SideFault::NoRequest => put_no_request(out, beat, requests.open(beat.source)),
         SideFault::SizeMismatch => put_mismatch(out, beat, requests.open(beat.source)),
     }
 }

@@ -6,7 +6,7 @@ use std::alloc::{AllocError, Global};
 use std::fmt::Write;
 use tl_answer::at_width;
 use tl_msg::{ChA, ChB, ChC, ChD, ChE};
-use tl_trace::{TraceFault, TraceKind, line_of, read, widths_of_text};
+use tl_trace::{Header, TraceFault, TraceKind, header_of_text, line_of, read};
 
 /// How many bytes of a line are shown.
 const SHOWN: usize = 200;
@@ -14,17 +14,21 @@ const SHOWN: usize = 200;
 /// The digits of a line.
 const DIGITS: &[u8; 16] = b"0123456789abcdef";
 
-/// The line with this letter of a beat in which all is 0, on `W` lanes: the form of the channel's
-/// lines. None where no channel has the letter.
-fn form_on<const W: usize>(alloc: Global, letter: u8) -> Result<Option<Vec<u8>>, AllocError>
+/// The line with this letter of a beat in which all is 0, on `W` lanes, in a trace of this version:
+/// the form of the channel's lines. None where no channel has the letter.
+fn form_on<const W: usize>(
+    alloc: Global,
+    letter: u8,
+    version: u8,
+) -> Result<Option<Vec<u8>>, AllocError>
     requires { IsWidth W }
 {
     let line = match letter {
-        b'A' => line_of::<ChA, W>(&Default::default()),
-        b'B' => line_of::<ChB, W>(&Default::default()),
-        b'C' => line_of::<ChC, W>(&Default::default()),
-        b'D' => line_of::<ChD, W>(&Default::default()),
-        b'E' => line_of::<ChE, W>(&Default::default()),
+        b'A' => line_of::<ChA, W>(&Default::default(), version),
+        b'B' => line_of::<ChB, W>(&Default::default(), version),
+        b'C' => line_of::<ChC, W>(&Default::default(), version),
+        b'D' => line_of::<ChD, W>(&Default::default(), version),
+        b'E' => line_of::<ChE, W>(&Default::default(), version),
         _ => return Ok(None),
     };
     let mut form = Vec::new(alloc);
@@ -32,18 +36,13 @@ fn form_on<const W: usize>(alloc: Global, letter: u8) -> Result<Option<Vec<u8>>,
     Ok(Some(form))
 }
 
-/// The form of the lines with this letter, where there is one, on a link of these widths.
-fn form_of(
-    alloc: Global,
-    letter: u8,
-    client: usize,
-    manager: usize,
-) -> Result<Option<Vec<u8>>, AllocError> {
+/// The form of the lines with this letter, where there is one, in a trace with this header.
+fn form_of(alloc: Global, letter: u8, header: &Header) -> Result<Option<Vec<u8>>, AllocError> {
     let width = match letter {
-        b'B' | b'D' => manager,
-        _ => client,
+        b'B' | b'D' => header.manager,
+        _ => header.client,
     };
-    at_width!(width, form_on::<_>(alloc, letter))
+    at_width!(width, form_on::<_>(alloc, letter, header.version))
 }
 
 /// How many bytes of a text stand before its first LF.
@@ -123,12 +122,14 @@ fn largest_digit(
     Ok(largest)
 }
 
-/// How many first bytes a line has in common with a header of two widths.
+/// How many first bytes a line has in common with a header of a version and two widths.
 fn header_place(alloc: Global, line: &[u8]) -> Result<usize, AllocError> {
     let mut most = 0;
-    for i in 0..49u32 {
-        let (client, manager) = (1 << (i / 7), 1 << (i % 7));
-        let header = format!(in alloc; "tilelink-trace 1 client {client} manager {manager}")?;
+    for i in 0..98u32 {
+        let (version, client, manager) = (1 + i / 49, 1 << (i / 7 % 7), 1 << (i % 7));
+        let header = format!(in alloc;
+            "tilelink-trace {version} client {client} manager {manager}"
+        )?;
         let bytes = header.as_bytes();
         let same = line
             .iter()
@@ -163,6 +164,34 @@ fn put_caret(out: &mut String, at: usize) -> Result<(), AllocError> {
     writeln!(out, "^")
 }
 
+/// Writes that a line has another length than this form, and where it has the length of the other
+/// version, in which ids have other digits, that too.
+fn put_lengths(
+    out: &mut String,
+    alloc: Global,
+    header: &[u8],
+    line: &[u8],
+    form: &[u8],
+) -> Result<(), AllocError> {
+    let (has, wants) = (line.len(), form.len());
+    write!(
+        out,
+        "the line has {has} characters and has to have {wants}, in the form below the mark"
+    )?;
+    let (Some(named), Some(letter)) = (header_of_text(header), line.first()) else {
+        return Ok(());
+    };
+    let (version, digits) = if named.version == 1 { (2, 4) } else { (1, 2) };
+    let other = Header { version, ..named };
+    match form_of(alloc, *letter, &other)? {
+        Some(form) if form.len() == has => write!(
+            out,
+            "; it is as long as in version {version}, where an id has {digits} digits"
+        ),
+        _ => Ok(()),
+    }
+}
+
 /// Writes what was expected at a place of a line of this form, and gives the place.
 fn put_expected(
     out: &mut String,
@@ -174,13 +203,7 @@ fn put_expected(
 ) -> Result<usize, AllocError> {
     let at = bad_place(alloc, header, line, form)?;
     match kind {
-        TraceKind::Length => {
-            let (has, wants) = (line.len(), form.len());
-            write!(
-                out,
-                "the line has {has} characters and has to have {wants}, in the form below the mark"
-            )?;
-        }
+        TraceKind::Length => put_lengths(out, alloc, header, line, form)?,
         TraceKind::Range => {
             let largest = largest_digit(alloc, header, line, at, form)?;
             write!(out, "expected a digit from 0 to {}", largest as char)?;
@@ -190,6 +213,45 @@ fn put_expected(
         _ => write!(out, "expected a digit, 0 to 9 or a to f")?,
     }
     Ok(at)
+}
+
+/// Writes what was expected of a line that has no form, and gives the place of its fault.
+fn put_formless(
+    out: &mut String,
+    alloc: Global,
+    line: &[u8],
+    kind: TraceKind,
+) -> Result<usize, AllocError> {
+    match kind {
+        TraceKind::NoEnd => {
+            write!(out, "the line has to end with a newline (LF)")?;
+            Ok(line.len())
+        }
+        TraceKind::Channel => {
+            write!(out, "expected a channel's letter, A to E")?;
+            Ok(0)
+        }
+        _ => {
+            write!(
+                out,
+                "expected the header 'tilelink-trace V client C manager M', where V is the version, 1 or 2, and C and M are bytes, each 1, 2, 4, 8, 16, 32 or 64"
+            )?;
+            header_place(alloc, line)
+        }
+    }
+}
+
+/// The form of a line's channel, where the line is not the first one and its channel is known.
+fn form_at(
+    alloc: Global,
+    text: &[u8],
+    number: u64,
+    line: &[u8],
+) -> Result<Option<Vec<u8>>, AllocError> {
+    match (header_of_text(text), line.first()) {
+        (Some(header), Some(letter)) if number != 1 => form_of(alloc, *letter, &header),
+        _ => Ok(None),
+    }
 }
 
 /// The faulty line of a text, with a mark below the place of its fault, and what was expected there.
@@ -204,30 +266,10 @@ pub fn show_fault(alloc: Global, text: &[u8], fault: &TraceFault) -> Result<Stri
         fault.number(),
         fault.name()
     )?;
-    let (client, manager) = widths_of_text(text).unwrap_or((1, 1));
-    let letter = line.first().copied().unwrap_or(0);
-    let form = if fault.line == 1 {
-        None
-    } else {
-        form_of(alloc, letter, client, manager)?
-    };
-    let at = match (&form, fault.kind) {
-        (Some(form), kind) => put_expected(&mut out, alloc, header, line, form, kind)?,
-        (None, TraceKind::NoEnd) => {
-            write!(&mut out, "the line has to end with a newline (LF)")?;
-            line.len()
-        }
-        (None, TraceKind::Channel) => {
-            write!(&mut out, "expected a channel's letter, A to E")?;
-            0
-        }
-        (None, _) => {
-            write!(
-                &mut out,
-                "expected the header 'tilelink-trace 1 client C manager M', where C and M are bytes, each 1, 2, 4, 8, 16, 32 or 64"
-            )?;
-            header_place(alloc, line)?
-        }
+    let form = form_at(alloc, text, fault.line, line)?;
+    let at = match &form {
+        Some(form) => put_expected(&mut out, alloc, header, line, form, fault.kind)?,
+        None => put_formless(&mut out, alloc, line, fault.kind)?,
     };
     writeln!(&mut out)?;
     put_shown(&mut out, line)?;

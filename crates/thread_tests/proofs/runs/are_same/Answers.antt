@@ -12,7 +12,7 @@ pub eq-requires-then-eq-2-room-A-PartialEq : goal.eq-requires-then-eq-2-room-A-P
 eq-requires-then-eq-2-room-A-PartialEq g c κs = beat_small 24 g.row.M (omega arith) c.requires.manager
 
 pub eq-requires-then-eq-3-room-A-PartialEq : goal.eq-requires-then-eq-3-room-A-PartialEq
-eq-requires-then-eq-3-room-A-PartialEq g c κs = beat_small 16 g.row.C (omega arith) c.requires.client
+eq-requires-then-eq-3-room-A-PartialEq g c κs = beat_small 24 g.row.C (omega arith) c.requires.client
 
 pub eq-requires-then-eq-4-room-A-PartialEq : goal.eq-requires-then-eq-4-room-A-PartialEq
 eq-requires-then-eq-4-room-A-PartialEq g c κs = beat_small 16 g.row.M (omega arith) c.requires.manager

@@ -9,7 +9,7 @@ use Rattle.tl_explain.proofs.explain.with_widths.Goals as goal
 pub outcome_of-requires : goal.outcome_of-requires
 outcome_of-requires g c =
     let told = c.in_ok-script.ensures.told in
-    let few = lines-few _ _ _ told.lines told.told c.requires.few in
+    let few = lines-few _ _ _ _ told.lines told.told c.requires.few in
     let lists = short g.row.C g.row.M told.lines few _ told.script in
     (omega arith, (omega arith, (c.requires.client, (c.requires.manager, lists))))
 
@@ -19,11 +19,12 @@ returns-clause-ok g c = record {
   answer = c.in_ok-answer.answer.text.items;
   ends = c.in_ok-extend_from_slice.ensures.items ∙ ap (λ text. c.into_bytes-text.result.items ++ text) c.deref.ensures.value;
   answered = record {
+    version = c.args.version;
     client = g.row.C;
     manager = g.row.M;
     lines = lines;
     told = c.in_ok-script.ensures.told.told;
-    answers = answers g.row.C g.row.M lines true c.in_ok-outcome.outcome ended _
+    answers = answers c.args.version g.row.C g.row.M lines true c.in_ok-outcome.outcome ended _
         (c.in_ok-answer.ensures.text (ends g.row.C g.row.M lines) ended.verdicts_are) _ c.in_ok-answer.ensures.done;
   };
 }
