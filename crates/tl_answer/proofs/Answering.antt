@@ -29,7 +29,7 @@ pub answers : (version C M : ℕ) (lines : List Line) (check : Bool) (outcome : 
     (done : Bool) → done ≡ list_all is_done outcome.verdicts → IsAnswerTo version C M lines check text done
 answers version C M lines check outcome h text text-is done done-is = record {
   answered = text-is ∙
-    ap (λ far. far_header version C M ++ cond check [] (far_lines version far) ++ report (ends C M lines)) (taken-is (near C M lines) outcome h);
+      ap (λ far. far_header version C M ++ cond check [] (far_lines version far) ++ report (ends C M lines)) (taken-is (near C M lines) outcome h);
   all_done = done-is ∙ ap (λ vs. list_all is_done vs) h.verdicts_are;
 }
 

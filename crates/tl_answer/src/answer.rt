@@ -19,7 +19,7 @@ use tl_bridge::{NoGate, Outcome, RunFault, run_sync, run_threads};
 use tl_msg::{ChA, ChB, ChC, ChD, ChE, Verdict};
 use tl_order::Order;
 use tl_trace::{
-    Header, OutOfMemory, Script, TraceFault, TraceKind, header_of_text, read_script, write_far,
+    OutOfMemory, Script, TraceFault, TraceKind, header_of_text, read_script, write_far,
     write_report,
 };
 
@@ -31,12 +31,7 @@ pub struct Answer {
 }
 
 /// The first line of an answer.
-fn header(
-    alloc: Global,
-    version: u8,
-    client: usize,
-    manager: usize,
-) -> Result<Vec<u8>, AllocError>
+fn header(alloc: Global, version: u8, client: usize, manager: usize) -> Result<Vec<u8>, AllocError>
     ensures { IfOk result (λ text. text.items ≡ far_header version client manager) }
 {
     let line = format!(in alloc; "tilelink-far {version} client {client} manager {manager}\n")?;
@@ -207,7 +202,10 @@ fn with_client<T: Threads, const C: usize>(
         IsAnswer text.items (is_check order.now) made.text.items made.all_done) }
     ensures err { IfErr result (IsOfText text.items) }
 {
-    at_width!(manager, with_widths::<T, C, _>(rt, alloc, text, version, order))
+    at_width!(
+        manager,
+        with_widths::<T, C, _>(rt, alloc, text, version, order)
+    )
 }
 
 /// The answer to a text, which is let go once it is read: the version of the trace and the widths,
@@ -227,11 +225,14 @@ pub fn answer_text<T: Threads>(
         IsAnswer text.items (is_check order.now) made.text.items made.all_done) }
     ensures err { IfErr result (IsOfText text.items) }
 {
-    let Some(Header { version, client, manager }) = header_of_text(&text) else {
+    let Some(header) = header_of_text(&text) else {
         return Err(TextFault::from(TraceFault {
             line: 1,
             kind: TraceKind::Header,
         }));
     };
-    at_width!(client, with_client::<T, _>(rt, alloc, text, version, manager, order))
+    at_width!(
+        header.client,
+        with_client::<T, _>(rt, alloc, text, header.version, header.manager, order)
+    )
 }

@@ -11,7 +11,7 @@ use crate::at_width;
 use crate::fault::TextFault;
 use std::alloc::Global;
 use tl_bridge::{Outcome, RunFault, run_sync};
-use tl_trace::{Header, Script, TraceFault, TraceKind, header_of_text, read_script};
+use tl_trace::{Script, TraceFault, TraceKind, header_of_text, read_script};
 
 /// How many beats a ring holds: no answer depends on it.
 const RING: usize = 256;
@@ -83,11 +83,14 @@ pub fn answer_sync(alloc: Global, text: &[u8], check: bool) -> Result<Answer, Te
     ensures ok { IfOk result (λ made. IsAnswer text.now check made.text.items made.all_done) }
     ensures err { IfErr result (IsOfText text.now) }
 {
-    let Some(Header { version, client, manager }) = header_of_text(text) else {
+    let Some(header) = header_of_text(text) else {
         return Err(TextFault::from(TraceFault {
             line: 1,
             kind: TraceKind::Header,
         }));
     };
-    at_width!(client, with_client::<_>(alloc, text, version, manager, check))
+    at_width!(
+        header.client,
+        with_client::<_>(alloc, text, header.version, header.manager, check)
+    )
 }

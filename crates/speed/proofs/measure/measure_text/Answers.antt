@@ -7,14 +7,14 @@ measure_pair-requires-clause-client g c = width_8
 pub measure_pair-requires-clause-manager : goal.measure_pair-requires-clause-manager
 measure_pair-requires-clause-manager g c = width_8
 
-pub measure_pair-requires-in-Some-eq8-eq32-clause-client : goal.measure_pair-requires-in-Some-eq8-eq32-clause-client
-measure_pair-requires-in-Some-eq8-eq32-clause-client g c = width_8
+pub measure_pair-requires-in-8-eq32-clause-client : goal.measure_pair-requires-in-8-eq32-clause-client
+measure_pair-requires-in-8-eq32-clause-client g c = width_8
 
-pub measure_pair-requires-in-Some-eq8-eq32-clause-manager : goal.measure_pair-requires-in-Some-eq8-eq32-clause-manager
-measure_pair-requires-in-Some-eq8-eq32-clause-manager g c = width_32
+pub measure_pair-requires-in-8-eq32-clause-manager : goal.measure_pair-requires-in-8-eq32-clause-manager
+measure_pair-requires-in-8-eq32-clause-manager g c = width_32
 
-pub measure_pair-requires-in-Some-eq4-eq64-clause-client : goal.measure_pair-requires-in-Some-eq4-eq64-clause-client
-measure_pair-requires-in-Some-eq4-eq64-clause-client g c = width_4
+pub measure_pair-requires-in-4-eq64-clause-client : goal.measure_pair-requires-in-4-eq64-clause-client
+measure_pair-requires-in-4-eq64-clause-client g c = width_4
 
-pub measure_pair-requires-in-Some-eq64-eq4-clause-manager : goal.measure_pair-requires-in-Some-eq64-eq4-clause-manager
-measure_pair-requires-in-Some-eq64-eq4-clause-manager g c = width_4
+pub measure_pair-requires-in-64-eq4-clause-manager : goal.measure_pair-requires-in-64-eq4-clause-manager
+measure_pair-requires-in-64-eq4-clause-manager g c = width_4

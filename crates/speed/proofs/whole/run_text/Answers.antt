@@ -7,11 +7,11 @@ run_pair-requires-clause-client g c = width_8
 pub run_pair-requires-clause-manager : goal.run_pair-requires-clause-manager
 run_pair-requires-clause-manager g c = width_8
 
-pub run_pair-requires-in-Some-eq8-eq64-clause-client : goal.run_pair-requires-in-Some-eq8-eq64-clause-client
-run_pair-requires-in-Some-eq8-eq64-clause-client g c = width_8
+pub run_pair-requires-in-8-eq64-clause-client : goal.run_pair-requires-in-8-eq64-clause-client
+run_pair-requires-in-8-eq64-clause-client g c = width_8
 
-pub run_pair-requires-in-Some-eq4-eq16-clause-client : goal.run_pair-requires-in-Some-eq4-eq16-clause-client
-run_pair-requires-in-Some-eq4-eq16-clause-client g c = width_4
+pub run_pair-requires-in-4-eq16-clause-client : goal.run_pair-requires-in-4-eq16-clause-client
+run_pair-requires-in-4-eq16-clause-client g c = width_4
 
-pub run_pair-requires-in-Some-eq64-eq8-clause-manager : goal.run_pair-requires-in-Some-eq64-eq8-clause-manager
-run_pair-requires-in-Some-eq64-eq8-clause-manager g c = width_8
+pub run_pair-requires-in-64-eq8-clause-manager : goal.run_pair-requires-in-64-eq8-clause-manager
+run_pair-requires-in-64-eq8-clause-manager g c = width_8

@@ -23,5 +23,5 @@ with_client-requires-in-32-clause-client g c = (5, omega arith, refl)
 
 pub with_client-requires-in_default-client-clause-header : goal.with_client-requires-in_default-client-clause-header
 with_client-requires-in_default-client-clause-header g c =
-    let is : HasHeader c.args.text.items c.in-Some.field-0.version c.in-Some.field-0.client c.in-Some.field-0.manager = search rules in
+    let is : HasHeader c.args.text.items c.in-Some.header.version c.in-Some.header.client c.in-Some.header.manager = search rules in
     last_client c.args.text.items _ _ _ is (search rules) (search rules) (search rules) (search rules) (search rules) (search rules)
