@@ -135,6 +135,34 @@ fn outcome_of<T: Threads, const C: usize, const M: usize>(
     }
 }
 
+/// The same as [`answer_of`], in the memory of a text that is empty now.
+fn answer_in<const C: usize, const M: usize>(
+    room: Vec<u8>,
+    alloc: Global,
+    outcome: &Outcome<C, M>,
+    check: bool,
+    version: u8,
+) -> Result<Answer, TextFault>
+    requires client { IsWidth C }
+    requires manager { IsWidth M }
+    requires empty { room.items ≡ [] }
+    ensures text { (v : Verdicts) → outcome.now.verdicts ≡ in_order v → IfOk result (λ made.
+        made.text.items ≡ far_header version C M
+        ++ cond check [] (far_lines version (taken outcome.now)) ++ report v) }
+    ensures done { IfOk result (λ made. made.all_done ≡ list_all is_done outcome.now.verdicts) }
+    ensures err { IfErr result (λ fault. fault ≡ NoMemory) }
+{
+    let mut text = room;
+    let line = header(alloc, version, C, M)?;
+    text.extend_from_slice(&line)?;
+    write_arrivals(&mut text, outcome, check, version)?;
+    write_reports(&mut text, &outcome.verdicts)?;
+    Ok(Answer {
+        text,
+        all_done: are_done(&outcome.verdicts),
+    })
+}
+
 /// The answer that the outcome of a run makes: the version of the trace and the widths, the far
 /// beats unless `check` leaves them out, and the five report lines.
 pub fn answer_of<const C: usize, const M: usize>(
@@ -151,17 +179,24 @@ pub fn answer_of<const C: usize, const M: usize>(
     ensures done { IfOk result (λ made. made.all_done ≡ list_all is_done outcome.now.verdicts) }
     ensures err { IfErr result (λ fault. fault ≡ NoMemory) }
 {
-    let mut text = header(alloc, version, C, M)?;
-    write_arrivals(&mut text, outcome, check, version)?;
-    write_reports(&mut text, &outcome.verdicts)?;
-    Ok(Answer {
-        text,
-        all_done: are_done(&outcome.verdicts),
-    })
+    answer_in(Vec::new(alloc), alloc, outcome, check, version)
+}
+
+/// The memory of a text that was read, for its answer. A check's answer is short, so there the
+/// memory is given back before the run.
+fn room_for_answer(alloc: Global, text: Vec<u8>, check: bool) -> Vec<u8>
+    ensures { result.items ≡ [] }
+{
+    if !check {
+        let mut room = text;
+        room.clear();
+        return room;
+    }
+    Vec::new(alloc)
 }
 
 /// The answer to a text whose header names this version and these widths. The text is let go before
-/// the run, and the script after it.
+/// the run, and its memory is the answer's; the script is let go after the run.
 fn with_widths<T: Threads, const C: usize, const M: usize>(
     rt: &T,
     alloc: Global,
@@ -179,10 +214,11 @@ fn with_widths<T: Threads, const C: usize, const M: usize>(
     ensures err { IfErr result (IsOfText text.items) }
 {
     let script = read_script::<C, M>(alloc, &text, version)?;
-    drop(text);
+    let check = order.is_check();
+    let room = room_for_answer(alloc, text, check);
     let outcome = outcome_of::<T, C, M>(rt, alloc, &script, order)?;
     drop(script);
-    answer_of(alloc, &outcome, order.is_check(), version)
+    answer_in(room, alloc, &outcome, check, version)
 }
 
 /// The same, for a client of `C` bytes: the manager's width is one of seven.

@@ -19,10 +19,10 @@ outcome_of-requires g c =
 pub returns-clause-ok : goal.returns-clause-ok
 returns-clause-ok g c =
     let told = c.in_ok-script.ensures.told in
-    subst (λ check. IfOk c.answer_of.result (λ made. IsAnswer c.args.text.items check made.text.items made.all_done)) c.is_check.ensures
-    (answers-text c.args.text.items c.args.version g.row.C g.row.M lines c.is_check.result c.in_ok-outcome.outcome
-    (subst (λ text. Tells text c.args.version g.row.C g.row.M lines) c.deref.ensures.value told.told) ended c.answer_of.result
-    (c.answer_of.ensures.text (ends g.row.C g.row.M lines) ended.verdicts_are) c.answer_of.ensures.done)
+    subst (λ check. IfOk c.answer_in.result (λ made. IsAnswer c.args.text.items check made.text.items made.all_done)) c.is_check-check.ensures
+    (answers-text c.args.text.items c.args.version g.row.C g.row.M lines c.is_check-check.result c.in_ok-outcome.outcome
+    (subst (λ text. Tells text c.args.version g.row.C g.row.M lines) c.deref.ensures.value told.told) ended c.answer_in.result
+    (c.answer_in.ensures.text (ends g.row.C g.row.M lines) ended.verdicts_are) c.answer_in.ensures.done)
   where
     lines : List Line
     lines = c.in_ok-script.ensures.told.lines
