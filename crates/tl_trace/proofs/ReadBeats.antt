@@ -7,13 +7,14 @@ use Rattle.std.specs.Option.{option_to_list}
 use Rattle.std.specs.Result.{is_err}
 use Rattle.std.specs.Prelude.{OnOk, IfOk}
 use Rattle.tl_trace.specs.Scripts.{IsScriptOf, beat_of_a, beat_of_b, beat_of_c, beat_of_d, beat_of_e}
-use Rattle.tl_trace.specs.Inner.Reading.{IsNearOf, IsPushed, IsReadNear, LineAt, near_a, near_b, near_c, near_d, near_e}
+use Rattle.tl_trace.specs.Inner.Reading.{IsNearOf, IsPushed, IsReadNear, IsNextPushed, IsSameScript, LineAt, near_a, near_b, near_c, near_d, near_e}
 use Rattle.tl_trace.specs.declared.line.Line.{Line}
 use Rattle.tl_trace.specs.declared.near.Near.{Near}
 use Rattle.tl_trace.specs.declared.script.Script.{Script}
 use Rattle.tl_trace.specs.Texts.{newline}
 use Rattle.tl_trace.specs.Faults.{is_newline, body}
 use Rattle.tl_trace.proofs.ReadLines.{SoFar, IsFree, body_last}
+use Rattle.tl_trace.proofs.Cover.{says_free, free_between}
 use Rattle.tl_trace.proofs.Walk.{advance, free_line, split_line, last_line}
 use Rattle.std.proofs.lemmas.Bool.{cases_eq, or_parts}
 use Rattle.std.specs.List.{list_any}
@@ -66,6 +67,26 @@ more {C} {M} version text start s s' at before end near p line r lt put =
       far = advance text start version C M p.lines at before end r.line p.far line r.read lt;
       script = pushed p.lines r.line s s' near p.script r.same put;
     }
+
+-- a line that the quick reader takes
+pub more_quick : {C M : ℕ} (version : ℕ) (text : List ℕ) (start : ℕ) (s s' : Script C M) (at before end : ℕ) → Progress version text start s at before → IsNextPushed version text at s s' end
+    → Progress version text start s' (end + 1) (before + 1)
+more_quick {C} {M} version text start s s' at before end p q =
+    let line : LineAt text at end = record {
+      from = omega (arith, q.from);
+      to = omega (arith, q.to);
+      free = free_between text at end (omega (arith, q.to)) (says_free version C M q.read.line (slice_range text at end) q.read.read.says);
+      stop = λ _. q.stop;
+    } in
+    more version text start s s' at before end q.near p line q.read q.to q.put
+
+-- one that it does not take
+pub unchanged : {C M : ℕ} (version : ℕ) (text : List ℕ) (start : ℕ) (s s' : Script C M) (at before : ℕ) → Progress version text start s at before → IsSameScript s s' → Progress version text start s' at before
+unchanged version text start s s' at before p same = record {
+  lines = p.lines;
+  far = p.far;
+  script = record { a = same.a ∙ p.script.a; b = same.b ∙ p.script.b; c = same.c ∙ p.script.c; d = same.d ∙ p.script.d; e = same.e ∙ p.script.e };
+}
 
 pub on_ok : {A E : Type 0} {P : Type 0} (r : Result A E) → OnOk r P → is_err r ≡ false → P
 on_ok (Ok v) p e = p

@@ -8,7 +8,7 @@ use Rattle.std.specs.List.{list_all, slice_range, slice_index}
 use Rattle.std.specs.Str.Parse.{digits_value}
 use Rattle.tl_trace.specs.Fields.{number_of_lanes}
 use Rattle.tl_trace.specs.Lines.{is_hex, is_lanes}
-use Rattle.tl_trace.specs.Inner.Reading.{digit_of, number_of, field_at, IsNumber}
+use Rattle.tl_trace.specs.Inner.Reading.{digit_of, number_of, field_at, IsNumber, IsPair}
 use Rattle.tl_trace.proofs.HexDigits.{room, wider, step, fails, is_done}
 
 -- ---- bad digits
@@ -143,6 +143,133 @@ squares (suc w) =
     let rest = squares w in
     omega (arith, one, two, three, rest) ∙ ap (λ (n : ℕ). 16 ^ n) (sym e)
 
+-- ---- pairs
+
+high_parts : (d v : ℕ) → v ≡ cond (nat_lt 15 d) 256 (16 * d) → (v ≤ 256) × (v ≤ 255 → (d ≤ 15) × (v ≡ 16 * d)) × (255 < v → 15 < d)
+high_parts d v is = pick (nat_lt 15 d) refl is
+  where
+    pick : (b : Bool) → nat_lt 15 d ≡ b → v ≡ cond b 256 (16 * d) → (v ≤ 256) × (v ≤ 255 → (d ≤ 15) × (v ≡ 16 * d)) × (255 < v → 15 < d)
+    pick true e is = (omega (arith, is), λ le. absurd (omega (arith, is, le)), λ lt. ltb-true 15 d e)
+    pick false e is = let few = ltb-false 15 d e in (omega (arith, is, few), λ le. (omega (arith, few), is), λ lt. absurd (omega (arith, is, few, lt)))
+
+low_parts : (d v : ℕ) → v ≡ cond (nat_lt 15 d) 256 d → (v ≤ 256) × (v ≤ 255 → (d ≤ 15) × (v ≡ d)) × (255 < v → 15 < d)
+low_parts d v is = pick (nat_lt 15 d) refl is
+  where
+    pick : (b : Bool) → nat_lt 15 d ≡ b → v ≡ cond b 256 d → (v ≤ 256) × (v ≤ 255 → (d ≤ 15) × (v ≡ d)) × (255 < v → 15 < d)
+    pick true e is = (omega (arith, is), λ le. absurd (omega (arith, is, le)), λ lt. ltb-true 15 d e)
+    pick false e is = let few = ltb-false 15 d e in (omega (arith, is, few), λ le. (omega (arith, few), is), λ lt. absurd (omega (arith, is, few, lt)))
+
+pub pair_fits : (h l high low : ℕ) → high ≡ cond (nat_lt 15 h) 256 (16 * h) → low ≡ cond (nat_lt 15 l) 256 l → high + low ≤ 512
+pair_fits h l high low high_is low_is = let x = (high_parts h high high_is).0 in let y = (low_parts l low low_is).0 in omega arith
+
+pub pair_good : (first second high low : ℕ) → high ≡ cond (nat_lt 15 (digit_of first)) 256 (16 * digit_of first) → low ≡ cond (nat_lt 15 (digit_of second)) 256 (digit_of second)
+    → high + low ≤ 255 → IsPair first second (high + low)
+pair_good first second high low high_is low_is le =
+    let x = (high_parts (digit_of first) high high_is).1 (omega arith) in
+    let y = (low_parts (digit_of second) low low_is).1 (omega arith) in
+    record { high = x.0; low = y.0; is = omega (arith, x.1, y.1) }
+
+pub pair_bad : (h l high low : ℕ) → high ≡ cond (nat_lt 15 h) 256 (16 * h) → low ≡ cond (nat_lt 15 l) 256 l → 255 < high + low → h ≤ 15 → 15 < l
+pair_bad h l high low high_is low_is big le = pick (nat_lt 255 high) (nat_lt 255 low) refl refl
+  where
+    pick : (p q : Bool) → nat_lt 255 high ≡ p → nat_lt 255 low ≡ q → 15 < l
+    pick p true e e' = (low_parts l low low_is).2 (ltb-true 255 low e')
+    pick true false e e' = let worse = (high_parts h high high_is).2 (ltb-true 255 high e) in absurd (omega (arith, worse, le))
+    pick false false e e' =
+        let x = (high_parts h high high_is).1 (omega (arith, ltb-false 255 high e)) in
+        let y = (low_parts l low low_is).1 (omega (arith, ltb-false 255 low e')) in
+        absurd (omega (arith, x.1, y.1, y.0, le, big))
+
+left_pairs : (x y : ℕ) → bit_or x y ≤ 255 → x ≤ 255
+left_pairs x y le = omega (arith, le_or_l x y, le)
+
+right_pairs : (x y : ℕ) → bit_or x y ≤ 255 → y ≤ 255
+right_pairs x y le = omega (arith, le_or_r x y, le)
+
+bad_pairs : {A : Type 0} (x y : ℕ) → 255 < bit_or x y → (255 < x → A) → (255 < y → A) → A
+bad_pairs {A} x y lt left right = pick (nat_lt 255 x) (nat_lt 255 y) refl refl
+  where
+    pick : (p q : Bool) → nat_lt 255 x ≡ p → nat_lt 255 y ≡ q → A
+    pick true q e e' = left (ltb-true 255 x e)
+    pick false true e e' = right (ltb-true 255 y e')
+    pick false false e e' =
+        let few : x < 2 ^ 8 = omega (arith, ltb-false 255 x e) in
+        let few' : y < 2 ^ 8 = omega (arith, ltb-false 255 y e') in
+        absurd (omega (arith, or_lt 8 x y few few', lt))
+
+marked_good : (pairs bad : ℕ) → bad ≡ cond (nat_lt 255 pairs) 16 0 → bad ≤ 15 → pairs ≤ 255
+marked_good pairs bad is le = pick (nat_lt 255 pairs) refl is
+  where
+    pick : (b : Bool) → nat_lt 255 pairs ≡ b → bad ≡ cond b 16 0 → pairs ≤ 255
+    pick true e is = absurd (omega (arith, is, le))
+    pick false e is = omega (arith, ltb-false 255 pairs e)
+
+marked_bad : (pairs bad : ℕ) → bad ≡ cond (nat_lt 255 pairs) 16 0 → 15 < bad → 255 < pairs
+marked_bad pairs bad is lt = pick (nat_lt 255 pairs) refl is
+  where
+    pick : (b : Bool) → nat_lt 255 pairs ≡ b → bad ≡ cond b 16 0 → 255 < pairs
+    pick true e is = ltb-true 255 pairs e
+    pick false e is = absurd (omega (arith, is, lt))
+
+-- where a pair has no value there is no number
+unspelt_pair : (text : List ℕ) (at count i pair : ℕ) → 2 * i + 1 < length (slice_range text (at + 1) (at + 1 + count))
+    → (255 < pair → digit_of (get_or (slice_range text (at + 1) (at + 1 + count)) (2 * i) 0) ≤ 15 → 15 < digit_of (get_or (slice_range text (at + 1) (at + 1 + count)) (2 * i + 1) 0))
+    → 255 < pair → field_at text at count ≡ None
+unspelt_pair text at count i pair lt either big = pick (nat_lt 15 high) refl
+  where
+    high : ℕ
+    high = digit_of (get_or (slice_range text (at + 1) (at + 1 + count)) (2 * i) 0)
+
+    pick : (b : Bool) → nat_lt 15 high ≡ b → field_at text at count ≡ None
+    pick true e = unspelt text at count (2 * i) high (omega (arith, lt)) refl (ltb-true 15 high e)
+    pick false e = unspelt text at count (2 * i + 1) (digit_of (get_or (slice_range text (at + 1) (at + 1 + count)) (2 * i + 1) 0)) lt refl (either big (omega (arith, ltb-false 15 high e)))
+
+-- the digits so far are digits, and the number is theirs, unless a pair had no value: then there is no number
+pub record Pairs (text : List ℕ) (at count i n pairs : ℕ) : Type 0 where
+  pub spelt : pairs ≤ 255 → Spelt (slice_range text (at + 1) (at + 1 + count)) (2 * i) n
+  pub spoilt : 255 < pairs → field_at text at count ≡ None
+
+pub pairs_start : (text : List ℕ) (at count : ℕ) → Pairs text at count 0 0 0
+pairs_start text at count = record { spelt = λ le. record { good = refl; value = refl; small = omega arith }; spoilt = λ lt. absurd (omega (arith, lt)) }
+
+spelt_pair : (ds : List ℕ) (i n pair : ℕ) → 2 * i + 1 < length ds → 2 * i + 1 < 16 → Spelt ds (2 * i) n → IsPair (get_or ds (2 * i) 0) (get_or ds (2 * i + 1) 0) pair → Spelt ds (2 * (i + 1)) ((n * 256 % 2 ^ 64 + pair) % 2 ^ 64)
+spelt_pair ds i n pair lt few s p =
+    let high = digit_of (get_or ds (2 * i) 0) in
+    let low = digit_of (get_or ds (2 * i + 1) 0) in
+    let one = step ds (2 * i) n high (omega (arith, lt)) s.good s.value refl p.high in
+    let two = step ds (2 * i + 1) (n * 16 + high) low lt one.0 one.1 refl p.low in
+    let small : n * 16 + high < 16 ^ (2 * i + 1) = wider n (2 * i) high s.small p.high in
+    let top : (n * 16 + high) * 16 + low < 2 ^ 64 = room (n * 16 + high) (2 * i + 1) low few small p.low in
+    let same : (n * 256 % 2 ^ 64 + pair) % 2 ^ 64 ≡ (n * 16 + high) * 16 + low = omega (arith, top, p.is) in
+    let twice : 2 * (i + 1) ≡ 2 * i + 1 + 1 = omega arith in
+    let P : ℕ → Type 0 = Spelt ds (2 * (i + 1)) in
+    let Q : ℕ → Type 0 = λ k. Spelt ds k ((n * 16 + high) * 16 + low) in
+    subst P (sym same) (subst Q (sym twice) (record { good = two.0; value = two.1; small = wider (n * 16 + high) (2 * i + 1) low small p.low }))
+
+pub pairs_more : (text : List ℕ) (at count i n pairs pair : ℕ) → 2 * i + 1 < length (slice_range text (at + 1) (at + 1 + count)) → 2 * i + 1 < 16 → Pairs text at count i n pairs
+    → (pair ≤ 255 → IsPair (get_or (slice_range text (at + 1) (at + 1 + count)) (2 * i) 0) (get_or (slice_range text (at + 1) (at + 1 + count)) (2 * i + 1) 0) pair)
+    → (255 < pair → digit_of (get_or (slice_range text (at + 1) (at + 1 + count)) (2 * i) 0) ≤ 15 → 15 < digit_of (get_or (slice_range text (at + 1) (at + 1 + count)) (2 * i + 1) 0))
+    → Pairs text at count (i + 1) ((n * 256 % 2 ^ 64 + pair) % 2 ^ 64) (bit_or pairs pair)
+pairs_more text at count i n pairs pair lt few f good bad = record {
+  spelt = λ le. spelt_pair (slice_range text (at + 1) (at + 1 + count)) i n pair lt few (f.spelt (left_pairs pairs pair le)) (good (right_pairs pairs pair le));
+  spoilt = λ big. bad_pairs pairs pair big f.spoilt (unspelt_pair text at count i pair lt bad);
+}
+
+pub pairs_done : (text : List ℕ) (at count i n pairs space mark : ℕ) → 2 * i ≡ count → at + 1 + count ≤ length text → Pairs text at count i n pairs
+    → space ≡ cond (nat_eq (slice_index text at) 32) 0 16 → mark ≡ cond (nat_lt 255 pairs) 16 0 → IsNumber text at count n (bit_or space mark)
+pairs_done text at count i n pairs space mark same fits f stands marks =
+    let ds = slice_range text (at + 1) (at + 1 + count) in
+    let long : length ds ≡ count = range_long text (at + 1) count fits in
+    let there = spaced text at count space stands in
+    let P : ℕ → Type 0 = λ k. n < 16 ^ k in
+    record {
+      good = λ good.
+          let s = f.spelt (marked_good pairs mark marks (right_good space mark good)) in
+          field_good text at count n (there.0 (left_good space mark good)) (is_done ds (2 * i) n (omega (arith, long, same)) s.good s.value);
+      small = λ good. subst P same (f.spelt (marked_good pairs mark marks (right_good space mark good))).small;
+      none = λ big. bad_or space mark big there.1 (λ worse. f.spoilt (marked_bad pairs mark marks worse));
+    }
+
 -- lanes so far, from the highest
 pub record Laid (digits lanes : List ℕ) (w i : ℕ) : Type 0 where
   pub small : number_of_lanes (drop (w - i) lanes) < 256 ^ i
@@ -150,21 +277,19 @@ pub record Laid (digits lanes : List ℕ) (w i : ℕ) : Type 0 where
   pub value : number_of_lanes (drop (w - i) lanes) ≡ digits_value 16 (take (2 * i) digits)
 
 -- the first w of n lanes
-pub record Lanes (text lanes : List ℕ) (n at w i bad : ℕ) : Type 0 where
+pub record Lanes (text lanes : List ℕ) (n at w i pairs : ℕ) : Type 0 where
   pub long : length lanes ≡ n
   pub bytes : list_all (λ lane. nat_lt lane 256) lanes ≡ true
-  pub space : bad ≤ 15 → slice_index text at ≡ 32
-  pub laid : bad ≤ 15 → Laid (slice_range text (at + 1) (at + 1 + 2 * w)) lanes w i
-  pub spoilt : 15 < bad → field_at text at (2 * w) ≡ None
+  pub laid : pairs ≤ 255 → Laid (slice_range text (at + 1) (at + 1 + 2 * w)) lanes w i
+  pub spoilt : 255 < pairs → field_at text at (2 * w) ≡ None
 
-pub lanes_start : (text lanes : List ℕ) (n at w bad : ℕ) → is_lanes n lanes ≡ true → number_of_lanes lanes ≡ 0 → bad ≡ cond (nat_eq (slice_index text at) 32) 0 16 → Lanes text lanes n at w 0 bad
-lanes_start text lanes n at w bad all dark is =
-    let s = spaced text at (2 * w) bad is in
+pub lanes_start : (text lanes : List ℕ) (n at w : ℕ) → is_lanes n lanes ≡ true → number_of_lanes lanes ≡ 0 → Lanes text lanes n at w 0 0
+lanes_start text lanes n at w all dark =
     let long : length lanes ≡ n = eqb-true (length lanes) n (and_parts (nat_eq (length lanes) n) (list_all (λ lane. nat_lt lane 256) lanes) all).0 in
     let bytes = (and_parts (nat_eq (length lanes) n) (list_all (λ lane. nat_lt lane 256) lanes) all).1 in
     let whole : w - 0 ≡ w = omega arith in
     let none : number_of_lanes (drop (w - 0) lanes) ≡ 0 = ap (λ (k : ℕ). number_of_lanes (drop k lanes)) whole ∙ zero_lanes lanes w dark in
-    record { long = long; bytes = bytes; space = s.0; laid = λ le. record { small = omega (arith, none); good = refl; value = none }; spoilt = s.1 }
+    record { long = long; bytes = bytes; laid = λ le. record { small = omega (arith, none); good = refl; value = none }; spoilt = λ lt. absurd (omega (arith, lt)) }
 
 laid_more : (ds lanes : List ℕ) (w i high low : ℕ) → i < w → w ≤ length lanes → length ds ≡ 2 * w → Laid ds lanes w i
     → high ≡ digit_of (get_or ds (2 * i) 0) → high ≤ 15 → low ≡ digit_of (get_or ds (2 * i + 1) 0) → low ≤ 15
@@ -189,47 +314,48 @@ laid_more ds lanes w i high low lt wide long far h h_le l l_le =
           ∙ omega (arith, far.value) ∙ two.1 ∙ ap (λ (k : ℕ). digits_value 16 (take k ds)) (sym twice);
     }
 
-pub lanes_more : (text lanes : List ℕ) (n at w i bad high low : ℕ) → i < w → w ≤ n → length (slice_range text (at + 1) (at + 1 + 2 * w)) ≡ 2 * w → Lanes text lanes n at w i bad
-    → high ≡ digit_of (get_or (slice_range text (at + 1) (at + 1 + 2 * w)) (2 * i) 0) → low ≡ digit_of (get_or (slice_range text (at + 1) (at + 1 + 2 * w)) (2 * i + 1) 0)
-    → Lanes text (set lanes (w - 1 - i) ((high * 16 % 256 + low) % 256)) n at w (i + 1) (bit_or bad (bit_or high low))
-lanes_more text lanes n at w i bad high low lt most long far h l =
+pub lanes_more : (text lanes : List ℕ) (n at w i pairs pair : ℕ) → i < w → w ≤ n → length (slice_range text (at + 1) (at + 1 + 2 * w)) ≡ 2 * w → Lanes text lanes n at w i pairs
+    → (pair ≤ 255 → IsPair (get_or (slice_range text (at + 1) (at + 1 + 2 * w)) (2 * i) 0) (get_or (slice_range text (at + 1) (at + 1 + 2 * w)) (2 * i + 1) 0) pair)
+    → (255 < pair → digit_of (get_or (slice_range text (at + 1) (at + 1 + 2 * w)) (2 * i) 0) ≤ 15 → 15 < digit_of (get_or (slice_range text (at + 1) (at + 1 + 2 * w)) (2 * i + 1) 0))
+    → Lanes text (set lanes (w - 1 - i) (pair % 256)) n at w (i + 1) (bit_or pairs pair)
+lanes_more text lanes n at w i pairs pair lt most long far good bad =
     let ds = slice_range text (at + 1) (at + 1 + 2 * w) in
     record {
-      long = length-set lanes (w - 1 - i) ((high * 16 % 256 + low) % 256) ∙ far.long;
-      bytes = bytes_set lanes (w - 1 - i) ((high * 16 % 256 + low) % 256) (omega arith) far.bytes;
-      space = λ le. far.space (left_good bad (bit_or high low) le);
+      long = length-set lanes (w - 1 - i) (pair % 256) ∙ far.long;
+      bytes = bytes_set lanes (w - 1 - i) (pair % 256) (omega arith) far.bytes;
       laid = λ le.
-          let both = right_good bad (bit_or high low) le in
-          let h_le = left_good high low both in
-          let l_le = right_good high low both in
-          let same : (high * 16 % 256 + low) % 256 ≡ high * 16 + low = omega arith in
+          let small = right_pairs pairs pair le in
+          let p = good small in
+          let high = digit_of (get_or ds (2 * i) 0) in
+          let low = digit_of (get_or ds (2 * i + 1) 0) in
+          let same : pair % 256 ≡ high * 16 + low = omega (arith, p.is, small) in
           let P : ℕ → Type 0 = λ v. Laid ds (set lanes (w - 1 - i) v) w (i + 1) in
-          subst P (sym same) (laid_more ds lanes w i high low lt (omega (arith, far.long)) long (far.laid (left_good bad (bit_or high low) le)) h h_le l l_le);
-      spoilt = λ big. bad_or bad (bit_or high low) big far.spoilt (λ worse. bad_or high low worse
-          (unspelt text at (2 * w) (2 * i) high (omega (arith, long)) h)
-          (unspelt text at (2 * w) (2 * i + 1) low (omega (arith, long)) l));
+          subst P (sym same) (laid_more ds lanes w i high low lt (omega (arith, far.long)) long (far.laid (left_pairs pairs pair le)) refl p.high refl p.low);
+      spoilt = λ big. bad_pairs pairs pair big far.spoilt (unspelt_pair text at (2 * w) i pair (omega (arith, long)) bad);
     }
 
-pub lanes_are : (text lanes : List ℕ) (n at w i bad : ℕ) → Lanes text lanes n at w i bad → is_lanes n lanes ≡ true
-lanes_are text lanes n at w i bad far = rw (eq-eqb (length lanes) n far.long) far.bytes
+pub lanes_are : (text lanes : List ℕ) (n at w i pairs : ℕ) → Lanes text lanes n at w i pairs → is_lanes n lanes ≡ true
+lanes_are text lanes n at w i pairs far = rw (eq-eqb (length lanes) n far.long) far.bytes
 
-pub lanes_done : (text lanes : List ℕ) (n at w i bad : ℕ) → w ≤ i → i ≤ w → at + 1 + 2 * w ≤ length text → Lanes text lanes n at w i bad → IsNumber text at (2 * w) (number_of_lanes lanes) bad
-lanes_done text lanes n at w i bad le ge fits far =
+pub lanes_done : (text lanes : List ℕ) (n at w i pairs space mark : ℕ) → w ≤ i → i ≤ w → at + 1 + 2 * w ≤ length text → Lanes text lanes n at w i pairs
+    → space ≡ cond (nat_eq (slice_index text at) 32) 0 16 → mark ≡ cond (nat_lt 255 pairs) 16 0 → IsNumber text at (2 * w) (number_of_lanes lanes) (bit_or space mark)
+lanes_done text lanes n at w i pairs space mark le ge fits far stands marks =
     let ds = slice_range text (at + 1) (at + 1 + 2 * w) in
     let long : length ds ≡ 2 * w = range_long text (at + 1) (2 * w) fits in
     let whole : w - i ≡ 0 = omega arith in
     let same : i ≡ w = omega arith in
     let here : number_of_lanes (drop (w - i) lanes) ≡ number_of_lanes lanes = ap (λ (k : ℕ). number_of_lanes (drop k lanes)) whole in
+    let there = spaced text at (2 * w) space stands in
     let P : ℕ → Type 0 = λ k. number_of_lanes lanes < 256 ^ k in
     record {
       good = λ good.
-          let laid = far.laid good in
-          field_good text at (2 * w) (number_of_lanes lanes) (far.space good) (is_done ds (2 * i) (number_of_lanes lanes) (omega (arith, long)) laid.good (sym here ∙ laid.value));
+          let laid = far.laid (marked_good pairs mark marks (right_good space mark good)) in
+          field_good text at (2 * w) (number_of_lanes lanes) (there.0 (left_good space mark good)) (is_done ds (2 * i) (number_of_lanes lanes) (omega (arith, long)) laid.good (sym here ∙ laid.value));
       small = λ good.
-          let laid = far.laid good in
+          let laid = far.laid (marked_good pairs mark marks (right_good space mark good)) in
           let small : number_of_lanes lanes < 256 ^ i = omega (arith, here, laid.small) in
           powers w (number_of_lanes lanes) (subst P same small);
-      none = far.spoilt;
+      none = λ big. bad_or space mark big there.1 (λ worse. far.spoilt (marked_bad pairs mark marks worse));
     }
   where
     powers : (w n : ℕ) → n < 256 ^ w → n < 16 ^ (2 * w)

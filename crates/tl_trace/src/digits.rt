@@ -1,9 +1,9 @@
 //! Reading hexadecimal digits without a test of each: bad ones show in one number at the end.
-ghost use Rattle.std.specs.Prelude.{if◌then◌else◌, ◌==◌, ◌≡◌, ◌≤◌, ◌+◌, ◌*◌, length, true};
+ghost use Rattle.std.specs.Prelude.{if◌then◌else◌, ◌==◌, ◌≡◌, ◌≤◌, ◌<◌, ◌+◌, ◌*◌, ◌/◌, length, nat_lt, true};
 ghost use Rattle.tl_lanes.specs.declared.limits.TheConstants.{WIDEST};
 ghost use Rattle.tl_trace.specs.Fields.{number_of_lanes};
 ghost use Rattle.tl_trace.specs.Lines.{is_lanes};
-ghost use Rattle.tl_trace.specs.Inner.Reading.{digit_of, IsNumber};
+ghost use Rattle.tl_trace.specs.Inner.Reading.{digit_of, IsNumber, IsPair};
 
 /// The value of each byte as a lower-case hexadecimal digit, and 16 for every other byte.
 static DIGIT_VALUES: [u8; 256] = [
@@ -20,7 +20,60 @@ static DIGIT_VALUES: [u8; 256] = [
     16, 16, 16, 16, 16, 16, 16, 16, 16, 16, 16, 16, 16, 16,
 ];
 
+/// The value of each byte as the higher of two lower-case hexadecimal digits, and 256 for every
+/// byte that is none.
+static HIGH_VALUES: [u16; 256] = [
+    256, 256, 256, 256, 256, 256, 256, 256, 256, 256, 256, 256, 256, 256, 256, 256, 256, 256, 256,
+    256, 256, 256, 256, 256, 256, 256, 256, 256, 256, 256, 256, 256, 256, 256, 256, 256, 256, 256,
+    256, 256, 256, 256, 256, 256, 256, 256, 256, 256, 0, 16, 32, 48, 64, 80, 96, 112, 128, 144,
+    256, 256, 256, 256, 256, 256, 256, 256, 256, 256, 256, 256, 256, 256, 256, 256, 256, 256, 256,
+    256, 256, 256, 256, 256, 256, 256, 256, 256, 256, 256, 256, 256, 256, 256, 256, 256, 256, 256,
+    256, 160, 176, 192, 208, 224, 240, 256, 256, 256, 256, 256, 256, 256, 256, 256, 256, 256, 256,
+    256, 256, 256, 256, 256, 256, 256, 256, 256, 256, 256, 256, 256, 256, 256, 256, 256, 256, 256,
+    256, 256, 256, 256, 256, 256, 256, 256, 256, 256, 256, 256, 256, 256, 256, 256, 256, 256, 256,
+    256, 256, 256, 256, 256, 256, 256, 256, 256, 256, 256, 256, 256, 256, 256, 256, 256, 256, 256,
+    256, 256, 256, 256, 256, 256, 256, 256, 256, 256, 256, 256, 256, 256, 256, 256, 256, 256, 256,
+    256, 256, 256, 256, 256, 256, 256, 256, 256, 256, 256, 256, 256, 256, 256, 256, 256, 256, 256,
+    256, 256, 256, 256, 256, 256, 256, 256, 256, 256, 256, 256, 256, 256, 256, 256, 256, 256, 256,
+    256, 256, 256, 256, 256, 256, 256, 256, 256, 256, 256, 256, 256, 256, 256, 256, 256, 256, 256,
+    256, 256, 256, 256, 256, 256, 256, 256,
+];
+
+/// The value of each byte as the lower of two, and 256 for every byte that is none.
+static LOW_VALUES: [u16; 256] = [
+    256, 256, 256, 256, 256, 256, 256, 256, 256, 256, 256, 256, 256, 256, 256, 256, 256, 256, 256,
+    256, 256, 256, 256, 256, 256, 256, 256, 256, 256, 256, 256, 256, 256, 256, 256, 256, 256, 256,
+    256, 256, 256, 256, 256, 256, 256, 256, 256, 256, 0, 1, 2, 3, 4, 5, 6, 7, 8, 9, 256, 256, 256,
+    256, 256, 256, 256, 256, 256, 256, 256, 256, 256, 256, 256, 256, 256, 256, 256, 256, 256, 256,
+    256, 256, 256, 256, 256, 256, 256, 256, 256, 256, 256, 256, 256, 256, 256, 256, 256, 10, 11,
+    12, 13, 14, 15, 256, 256, 256, 256, 256, 256, 256, 256, 256, 256, 256, 256, 256, 256, 256, 256,
+    256, 256, 256, 256, 256, 256, 256, 256, 256, 256, 256, 256, 256, 256, 256, 256, 256, 256, 256,
+    256, 256, 256, 256, 256, 256, 256, 256, 256, 256, 256, 256, 256, 256, 256, 256, 256, 256, 256,
+    256, 256, 256, 256, 256, 256, 256, 256, 256, 256, 256, 256, 256, 256, 256, 256, 256, 256, 256,
+    256, 256, 256, 256, 256, 256, 256, 256, 256, 256, 256, 256, 256, 256, 256, 256, 256, 256, 256,
+    256, 256, 256, 256, 256, 256, 256, 256, 256, 256, 256, 256, 256, 256, 256, 256, 256, 256, 256,
+    256, 256, 256, 256, 256, 256, 256, 256, 256, 256, 256, 256, 256, 256, 256, 256, 256, 256, 256,
+    256, 256, 256, 256, 256, 256, 256, 256, 256, 256, 256, 256, 256, 256, 256, 256, 256, 256, 256,
+    256, 256, 256, 256,
+];
+
+/// 0 for a space, and a bad digit for every other byte: a table is the faster test.
+static SPACE_VALUES: [u8; 256] = [
+    16, 16, 16, 16, 16, 16, 16, 16, 16, 16, 16, 16, 16, 16, 16, 16, 16, 16, 16, 16, 16, 16, 16, 16,
+    16, 16, 16, 16, 16, 16, 16, 16, 0, 16, 16, 16, 16, 16, 16, 16, 16, 16, 16, 16, 16, 16, 16, 16,
+    16, 16, 16, 16, 16, 16, 16, 16, 16, 16, 16, 16, 16, 16, 16, 16, 16, 16, 16, 16, 16, 16, 16, 16,
+    16, 16, 16, 16, 16, 16, 16, 16, 16, 16, 16, 16, 16, 16, 16, 16, 16, 16, 16, 16, 16, 16, 16, 16,
+    16, 16, 16, 16, 16, 16, 16, 16, 16, 16, 16, 16, 16, 16, 16, 16, 16, 16, 16, 16, 16, 16, 16, 16,
+    16, 16, 16, 16, 16, 16, 16, 16, 16, 16, 16, 16, 16, 16, 16, 16, 16, 16, 16, 16, 16, 16, 16, 16,
+    16, 16, 16, 16, 16, 16, 16, 16, 16, 16, 16, 16, 16, 16, 16, 16, 16, 16, 16, 16, 16, 16, 16, 16,
+    16, 16, 16, 16, 16, 16, 16, 16, 16, 16, 16, 16, 16, 16, 16, 16, 16, 16, 16, 16, 16, 16, 16, 16,
+    16, 16, 16, 16, 16, 16, 16, 16, 16, 16, 16, 16, 16, 16, 16, 16, 16, 16, 16, 16, 16, 16, 16, 16,
+    16, 16, 16, 16, 16, 16, 16, 16, 16, 16, 16, 16, 16, 16, 16, 16, 16, 16, 16, 16, 16, 16, 16, 16,
+    16, 16, 16, 16, 16, 16, 16, 16, 16, 16, 16, 16, 16, 16, 16, 16,
+];
+
 /// The value of a lower-case digit, or 16.
+#[inline(always)]
 fn digit(byte: u8) -> u8
     ensures { result ≡ digit_of byte }
 {
@@ -35,14 +88,49 @@ pub struct Number {
 }
 
 /// 0 where the byte is a space, else a bad digit.
+#[inline(always)]
 fn space(byte: u8) -> u8
     ensures { result ≡ (if byte == 32 then 0 else 16) }
 {
-    if byte == b' ' { 0 } else { 16 }
+    SPACE_VALUES[byte as usize]
 }
 
-/// The number after a space at a place, of so many digits.
-pub fn field(text: &[u8], at: usize, count: usize) -> Number
+/// 16 times the value of a digit, or 256.
+#[inline(always)]
+fn high_value(byte: u8) -> u16
+    ensures { result ≡ (if nat_lt 15 (digit_of byte) then 256 else 16 * digit_of byte) }
+{
+    HIGH_VALUES[byte as usize]
+}
+
+/// The value of a digit, or 256.
+#[inline(always)]
+fn low_value(byte: u8) -> u16
+    ensures { result ≡ (if nat_lt 15 (digit_of byte) then 256 else digit_of byte) }
+{
+    LOW_VALUES[byte as usize]
+}
+
+/// The value of two digits, or a number above 255.
+#[inline(always)]
+fn pair(high: u8, low: u8) -> u16
+    ensures good { result ≤ 255 → IsPair high low result }
+    ensures bad { 255 < result → digit_of high ≤ 15 → 15 < digit_of low }
+{
+    high_value(high) + low_value(low)
+}
+
+/// 0 where all pairs whose bits these are have a value, else a bad digit.
+#[inline(always)]
+fn bad_of(pairs: u16) -> u8
+    ensures { result ≡ (if nat_lt 255 pairs then 16 else 0) }
+{
+    if pairs > 255 { 16 } else { 0 }
+}
+
+/// The number after a space at a place, of so many digits, one at a time.
+#[inline(always)]
+pub fn digits_field(text: &[u8], at: usize, count: usize) -> Number
     requires few { count ≤ 16 }
     requires room { at + 1 + count ≤ length text.now }
     ensures { IsNumber text.now at count result.value result.bad }
@@ -57,8 +145,44 @@ pub fn field(text: &[u8], at: usize, count: usize) -> Number
     Number { value, bad }
 }
 
+/// The same two at a time, where the number of digits is even.
+#[inline(always)]
+fn pairs_field(text: &[u8], at: usize, count: usize) -> Number
+    requires even { count ≡ 2 * (count / 2) }
+    requires few { count ≤ 16 }
+    requires room { at + 1 + count ≤ length text.now }
+    ensures { IsNumber text.now at count result.value result.bad }
+{
+    let digits = &text[at + 1..at + 1 + count];
+    let mut pairs = 0u16;
+    let mut value = 0u64;
+    for i in 0..count / 2 {
+        let byte = pair(digits[2 * i], digits[2 * i + 1]);
+        pairs |= byte;
+        value = value.wrapping_mul(256).wrapping_add(byte as u64);
+    }
+    Number {
+        value,
+        bad: space(text[at]) | bad_of(pairs),
+    }
+}
+
+/// The number after a space at a place, of so many digits.
+#[inline(always)]
+pub fn field(text: &[u8], at: usize, count: usize) -> Number
+    requires few { count ≤ 16 }
+    requires room { at + 1 + count ≤ length text.now }
+    ensures { IsNumber text.now at count result.value result.bad }
+{
+    if count % 2 == 0 {
+        return pairs_field(text, at, count);
+    }
+    digits_field(text, at, count)
+}
+
 /// The first `w` lanes after a space at a place, two digits for each, highest lane first. An answer above 15 says that
 /// their text has not the shape of a number.
+#[inline(always)]
 pub fn lanes_field<const N: usize>(text: &[u8], at: usize, w: usize, lanes: &mut [u8]) -> u8
     requires width { w ≤ N }
     requires most { N ≤ WIDEST }
@@ -69,12 +193,11 @@ pub fn lanes_field<const N: usize>(text: &[u8], at: usize, w: usize, lanes: &mut
     ensures value { IsNumber text.now at (2 * w) (number_of_lanes lanes.new) result }
 {
     let digits = &text[at + 1..at + 1 + 2 * w];
-    let mut bad = space(text[at]);
+    let mut pairs = 0u16;
     for i in 0..w {
-        let high = digit(digits[2 * i]);
-        let low = digit(digits[2 * i + 1]);
-        bad |= high | low;
-        lanes[w - 1 - i] = high.wrapping_mul(16).wrapping_add(low);
+        let lane = pair(digits[2 * i], digits[2 * i + 1]);
+        pairs |= lane;
+        lanes[w - 1 - i] = (lane % 256) as u8;
     }
-    bad
+    space(text[at]) | bad_of(pairs)
 }

@@ -95,6 +95,7 @@ struct CommonFields {
 }
 
 /// The common fields, if the opcode is below 8 and the param below `params`.
+#[inline(always)]
 fn common_of(fields: &HeadFields, params: u64) -> Option<CommonFields>
     requires { IsSmall 4 fields.now }
     ensures { MatchOption result
@@ -123,6 +124,7 @@ impl ReadHead for ChA {
         read_addressed(text, version)
     }
 
+    #[inline(always)]
     fn head_of(fields: &HeadFields) -> Option<HeadA> {
         let common = common_of(fields, 8)?;
         Some(HeadA {
@@ -148,6 +150,7 @@ impl ReadHead for ChB {
         read_addressed(text, version)
     }
 
+    #[inline(always)]
     fn head_of(fields: &HeadFields) -> Option<HeadB> {
         let common = common_of(fields, 8)?;
         Some(HeadB {
@@ -173,6 +176,7 @@ impl ReadHead for ChC {
         read_addressed(text, version)
     }
 
+    #[inline(always)]
     fn head_of(fields: &HeadFields) -> Option<HeadC> {
         let common = common_of(fields, 8)?;
         Some(HeadC {
@@ -206,6 +210,7 @@ impl ReadHead for ChD {
         }
     }
 
+    #[inline(always)]
     fn head_of(fields: &HeadFields) -> Option<HeadD> {
         let common = common_of(fields, 4)?;
         if fields.denied > 1 {
@@ -245,6 +250,7 @@ impl ReadHead for ChE {
         }
     }
 
+    #[inline(always)]
     fn head_of(fields: &HeadFields) -> Option<HeadE> {
         Some(HeadE {
             sink: fields.sink as SinkId,

@@ -1,14 +1,12 @@
 //! The text of a head.
-ghost use Rattle.std.specs.Prelude.{◌≡◌, ◌≤◌, ◌+◌, ◌∷◌, ◌++◌, ◌%◌, ℕ, Bool, true, false, refl, flat_map};
-ghost use Rattle.arrayvec.specs.ArrayVec.{array_vec_len};
+ghost use Rattle.std.specs.Prelude.{◌≡◌, ◌≤◌, ◌∷◌, ◌%◌, ℕ, Bool, true, false, refl, take, flat_map};
 ghost use Rattle.std.specs.Char.{digit_char};
 ghost use Rattle.tl_trace.specs.Fields.{Form, id_digits, digit_count, value_of, form_a, form_b, form_c, form_d, form_e};
 ghost use Rattle.tl_trace.specs.Lines.{hex, head_text};
-ghost use Rattle.tl_trace.specs.declared.places.TheConstants.{ADDRESS_DIGITS};
 ghost use Rattle.tl_msg.specs.declared.beat.BeatOf.{BeatOf};
 
-use crate::places::ADDRESS_DIGITS;
-use crate::text::{digits_of, low_digit, put};
+use crate::places::{ADDRESS_DIGITS, id_digits};
+use crate::text::{Room, fill, fill_byte, fill_field, low_digit, put};
 use arrayvec::ArrayVec;
 use tl_msg::{ChA, ChB, ChC, ChD, ChE, Channel, HeadA, HeadB, HeadC, HeadD, HeadE, SourceId};
 
@@ -21,10 +19,24 @@ pub trait HeadText: Channel {
 
     ghost HAS_DATA: { Bool };
 
+    /// Writes the line of a trace of this version from its letter up to the last field before mask
+    /// and data, and gives the place behind it; on E the whole line without LF. A field is written
+    /// by its lowest digits: an id by two in version 1, and by four in version 2.
+    fn fill_head(line: &mut [u8; 192], head: &Self::Head, version: u8) -> usize
+        ensures items { take result line.new ≡ head_text (form version) head.now }
+        ensures end { result ≤ 32 };
+
     /// The line of a trace of this version from its letter up to the last field before mask and data, without LF; on E
     /// the whole line. A field is written by its lowest digits: an id by two in version 1, and by four in version 2.
     fn head_text(head: &Self::Head, version: u8) -> ArrayVec<u8, 32>
-        ensures { result.items ≡ head_text (form version) head.now };
+        ensures { result.items ≡ head_text (form version) head.now }
+    {
+        let mut line = [0; 192];
+        let end = Self::fill_head(&mut line, head, version);
+        let mut text = ArrayVec::new();
+        put(&mut text, &line[..end]);
+        text
+    }
 
     ghost same_rules: { (version : ℕ) → (form version).rules ≡ Self.rules };
 
@@ -39,51 +51,25 @@ pub trait HeadText: Channel {
         (form version).head_fields };
 }
 
-/// Appends a space and the digits of a source or of a sink.
+/// Writes the letter, opcode, param, size and source, and gives the place behind them.
 #[inline(always)]
-fn put_id(text: &mut ArrayVec<u8, 32>, id: u16, version: u8)
-    requires { array_vec_len text.old ≤ 27 }
-    ensures items { text.new.items ≡ text.old.items ++ 32 ∷ hex (id_digits version) id }
-    ensures len { array_vec_len text.new ≤ array_vec_len text.old + 5 }
-{
-    text.push(b' ');
-    if version == 1 {
-        put(text, &digits_of::<2>(id as u64));
-    } else {
-        put(text, &digits_of::<4>(id as u64));
-    }
-}
-
-/// The letter, opcode, param, size and source.
-#[inline(always)]
-fn common_text(
+fn fill_common(
+    line: &mut Room,
     letter: u8,
     opcode: u8,
     param: u8,
     size: u8,
     source: SourceId,
     version: u8,
-) -> ArrayVec<u8, 32>
-    ensures items { result.items ≡ letter ∷ 32 ∷ digit_char (opcode % 16) ∷
+) -> usize
+    ensures items { take result line.new ≡ letter ∷ 32 ∷ digit_char (opcode % 16) ∷
         32 ∷ digit_char (param % 16) ∷ 32 ∷ digit_char (size % 16) ∷
         32 ∷ hex (id_digits version) source }
-    ensures len { array_vec_len result ≤ 12 }
+    ensures end { result ≤ 12 }
 {
-    let mut text = ArrayVec::new();
     let (opcode, param, size) = (low_digit(opcode), low_digit(param), low_digit(size));
-    put(&mut text, &[letter, b' ', opcode, b' ', param, b' ', size]);
-    put_id(&mut text, source, version);
-    text
-}
-
-/// Appends a space and the digits of an address.
-#[inline(always)]
-fn put_address(text: &mut ArrayVec<u8, 32>, address: u64)
-    requires { array_vec_len text.old ≤ 12 }
-    ensures { text.new.items ≡ text.old.items ++ 32 ∷ hex ADDRESS_DIGITS address }
-{
-    text.push(b' ');
-    put(text, &digits_of::<ADDRESS_DIGITS>(address));
+    let id = fill(line, 0, &[letter, b' ', opcode, b' ', param, b' ', size]);
+    fill_field(line, id, source as u64, id_digits(version))
 }
 
 impl HeadText for ChA {
@@ -94,11 +80,10 @@ impl HeadText for ChA {
     ghost HAS_DATA = { true };
 
     #[inline(always)]
-    fn head_text(head: &HeadA, version: u8) -> ArrayVec<u8, 32> {
+    fn fill_head(line: &mut Room, head: &HeadA, version: u8) -> usize {
         let (opcode, param, size) = (head.opcode, head.param, head.size);
-        let mut text = common_text(b'A', opcode, param, size, head.source, version);
-        put_address(&mut text, head.address);
-        text
+        let address = fill_common(line, b'A', opcode, param, size, head.source, version);
+        fill_field(line, address, head.address, ADDRESS_DIGITS)
     }
 
     ghost same_rules = { λ version. refl };
@@ -118,11 +103,10 @@ impl HeadText for ChB {
     ghost HAS_DATA = { true };
 
     #[inline(always)]
-    fn head_text(head: &HeadB, version: u8) -> ArrayVec<u8, 32> {
+    fn fill_head(line: &mut Room, head: &HeadB, version: u8) -> usize {
         let (opcode, param, size) = (head.opcode, head.param, head.size);
-        let mut text = common_text(b'B', opcode, param, size, head.source, version);
-        put_address(&mut text, head.address);
-        text
+        let address = fill_common(line, b'B', opcode, param, size, head.source, version);
+        fill_field(line, address, head.address, ADDRESS_DIGITS)
     }
 
     ghost same_rules = { λ version. refl };
@@ -142,11 +126,10 @@ impl HeadText for ChC {
     ghost HAS_DATA = { true };
 
     #[inline(always)]
-    fn head_text(head: &HeadC, version: u8) -> ArrayVec<u8, 32> {
+    fn fill_head(line: &mut Room, head: &HeadC, version: u8) -> usize {
         let (opcode, param, size) = (head.opcode, head.param, head.size);
-        let mut text = common_text(b'C', opcode, param, size, head.source, version);
-        put_address(&mut text, head.address);
-        text
+        let address = fill_common(line, b'C', opcode, param, size, head.source, version);
+        fill_field(line, address, head.address, ADDRESS_DIGITS)
     }
 
     ghost same_rules = { λ version. refl };
@@ -166,12 +149,11 @@ impl HeadText for ChD {
     ghost HAS_DATA = { true };
 
     #[inline(always)]
-    fn head_text(head: &HeadD, version: u8) -> ArrayVec<u8, 32> {
+    fn fill_head(line: &mut Room, head: &HeadD, version: u8) -> usize {
         let (opcode, param, size) = (head.opcode, head.param, head.size);
-        let mut text = common_text(b'D', opcode, param, size, head.source, version);
-        put_id(&mut text, head.sink, version);
-        put(&mut text, &[b' ', low_digit(head.denied as u8)]);
-        text
+        let sink = fill_common(line, b'D', opcode, param, size, head.source, version);
+        let denied = fill_field(line, sink, head.sink as u64, id_digits(version));
+        fill(line, denied, &[b' ', low_digit(head.denied as u8)])
     }
 
     ghost same_rules = { λ version. refl };
@@ -191,11 +173,9 @@ impl HeadText for ChE {
     ghost HAS_DATA = { false };
 
     #[inline(always)]
-    fn head_text(head: &HeadE, version: u8) -> ArrayVec<u8, 32> {
-        let mut text = ArrayVec::new();
-        text.push(b'E');
-        put_id(&mut text, head.sink, version);
-        text
+    fn fill_head(line: &mut Room, head: &HeadE, version: u8) -> usize {
+        let sink = fill_byte(line, 0, b'E');
+        fill_field(line, sink, head.sink as u64, id_digits(version))
     }
 
     ghost same_rules = { λ version. refl };

@@ -7,7 +7,7 @@ ghost use Rattle.tl_trace.specs.Faults.{form_fault};
 ghost use Rattle.tl_trace.specs.Inner.Reading.{IsPart, IsRead, mask_values, data_values};
 ghost use Rattle.tl_trace.specs.declared.fault.TraceKind.TheVariants.{OutOfMemory};
 
-use crate::digits::{Number, field, lanes_field};
+use crate::digits::{Number, digits_field, field, lanes_field};
 use crate::fault::TraceKind;
 use crate::head_reader::ReadHead;
 use crate::head_text::HeadText;
@@ -16,6 +16,7 @@ use tl_lanes::{Mask, WIDEST};
 use tl_msg::{Beat, BeatOf};
 
 /// Whether the mask has no bit at or past `w`.
+#[inline(always)]
 fn mask_fits(mask: Mask, w: usize) -> bool
     requires { w ≤ WIDEST }
     ensures { result ≡ nat_lt mask (2 ^ w) }
@@ -24,6 +25,7 @@ fn mask_fits(mask: Mask, w: usize) -> bool
 }
 
 /// The mask from this place on, 0 on a channel that has none.
+#[inline(always)]
 fn read_mask<K: HeadText, const VERSION: u8>(text: &[u8], at: usize, w: usize) -> Number
     requires width { w ≤ WIDEST }
     requires room { at + length_of w (mask_fields (K.form VERSION)) ≤ length text.now }
@@ -34,10 +36,12 @@ fn read_mask<K: HeadText, const VERSION: u8>(text: &[u8], at: usize, w: usize) -
     if !K::MASKED {
         return Number { value: 0, bad: 0 };
     }
-    field(text, at, mask_digits(w))
+    // One digit at a time, since at most widths it has one or two.
+    digits_field(text, at, mask_digits(w))
 }
 
 /// Lanes and corrupt from this place on, 0 on a channel that has none.
+#[inline(always)]
 fn read_data<K: HeadText, const N: usize, const VERSION: u8>(
     text: &[u8],
     at: usize,
@@ -67,6 +71,7 @@ fn read_data<K: HeadText, const N: usize, const VERSION: u8>(
 }
 
 /// The beat of a line of the channel on `w` lanes, without its LF.
+#[inline(always)]
 pub fn read_beat<K: ReadHead, const N: usize, const VERSION: u8>(
     text: &[u8],
     w: usize,

@@ -86,6 +86,7 @@ pub fn mask_digits(w: usize) -> usize
 }
 
 /// The bytes of the mask in a line, with its space.
+#[inline(always)]
 pub fn mask_len<K: HeadText, const VERSION: u8>(w: usize) -> usize
     requires { w ≤ WIDEST }
     ensures long { result ≡ length_of w (mask_fields (K.form VERSION)) }
@@ -95,6 +96,7 @@ pub fn mask_len<K: HeadText, const VERSION: u8>(w: usize) -> usize
 }
 
 /// The bytes of data and corrupt in a line, each with its space.
+#[inline(always)]
 fn data_len<K: HeadText, const VERSION: u8>(w: usize) -> usize
     requires { w ≤ WIDEST }
     ensures long { result ≡ length_of w (data_fields (K.form VERSION)) }
@@ -104,6 +106,7 @@ fn data_len<K: HeadText, const VERSION: u8>(w: usize) -> usize
 }
 
 /// The length of a line on `w` lanes, without its LF.
+#[inline(always)]
 pub fn line_len<K: ReadHead, const VERSION: u8>(w: usize) -> usize
     requires { w ≤ WIDEST }
     ensures long { result ≡ line_length (K.form VERSION) w }

@@ -108,6 +108,7 @@ fn max_lines<const VERSION: u8>(text: &[u8], start: usize, client: usize, manage
 }
 
 /// The end of the line from `at` on, and its beat.
+#[inline(never)]
 pub fn next_line<const VERSION: u8>(
     text: &[u8],
     at: usize,

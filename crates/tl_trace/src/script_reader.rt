@@ -1,18 +1,22 @@
 //! From a text to its script.
-ghost use Rattle.std.specs.Prelude.{true, ◌≡◌, ◌≢◌, ◌≤◌, ◌<◌, None, Some, ◌∷◌, drop, map, length, slice_range, IfOk, IfErr};
+ghost use Rattle.std.specs.Prelude.{true, ◌≡◌, ◌≢◌, ◌≤◌, ◌<◌, None, Some, ◌∷◌, drop, map, length, slice_index, IfOk, IfErr, MatchOption};
 ghost use Rattle.tl_lanes.specs.declared.limits.TheConstants.{WIDEST};
 ghost use Rattle.tl_trace.specs.Scripts.{TellsScript};
 ghost use Rattle.tl_trace.specs.Texts.{is_version};
 ghost use Rattle.tl_trace.specs.Faults.{body, cut, faults, body_fault, later_fault, header_of, HasHeader, IsFirstFault, IsReadableTo};
-ghost use Rattle.tl_trace.specs.Inner.Reading.{IsReadNear, LineAt, TellsRest};
+ghost use Rattle.tl_trace.specs.Inner.Reading.{IsLinePushed, IsNextPushed, IsSameScript, TellsRest};
 ghost use Rattle.tl_trace.specs.declared.fault.TraceKind.TheVariants.{OutOfMemory};
 
 use crate::fault::{TraceFault, TraceKind};
+use crate::head_reader::ReadHead;
 use crate::header::{Header, header_of};
-use crate::near::{Near, push_near, read_near};
-use crate::reader::{expected_end, line_end};
+use crate::line_reader::read_beat;
+use crate::near::{near_of, push_near};
+use crate::places::line_len;
+use crate::reader::{line_end, next_line};
 use crate::script::{Script, empty_script};
 use std::alloc::Global;
+use tl_msg::{Beat, ChA, ChB, ChC, ChD, ChE};
 
 /// What the first line of a text names; `None` where it is no header.
 pub fn header_of_text(text: &[u8]) -> Option<Header>
@@ -21,27 +25,56 @@ pub fn header_of_text(text: &[u8]) -> Option<Header>
     header_of(&text[..line_end(text, 0)])
 }
 
-/// The end of the line from `at` on, and its beat.
-fn next_near<const C: usize, const M: usize, const VERSION: u8>(
+/// Puts the beat of the line from `at` on behind those of its channel, and gives the line's end.
+/// `None`, and the list as it was, where the line has a fault, where its LF is not at its place, and
+/// where a growth is refused.
+#[inline(always)]
+fn push_line<K: ReadHead, const W: usize, const VERSION: u8>(
+    list: &mut Vec<Beat<K, W>>,
     text: &[u8],
     at: usize,
-) -> (usize, Result<Near<C, M>, TraceKind>)
+) -> Option<usize>
+    requires width { W ≤ WIDEST }
+    requires at { at < length text.now }
+    requires letter { slice_index text.now at ≡ (K.form VERSION).rules.letter }
+    ensures { MatchOption result (list.new.items ≡ list.old.items)
+        (IsLinePushed (K.form VERSION) W text.now at list.old.items list.new.items) }
+{
+    let long = line_len::<K, VERSION>(W);
+    if long >= text.len() - at || text[at + long] != b'\n' {
+        return None;
+    }
+    let Ok(beat) = read_beat::<K, W, VERSION>(&text[at..at + long], W) else {
+        return None;
+    };
+    if list.push(beat).is_err() {
+        return None;
+    }
+    Some(at + long)
+}
+
+/// The same for a line of any channel: `None`, and the lists as they were, where its letter is none
+/// of the five, too.
+#[inline(always)]
+fn push_next<const C: usize, const M: usize, const VERSION: u8>(
+    script: &mut Script<C, M>,
+    text: &[u8],
+    at: usize,
+) -> Option<usize>
     requires client { C ≤ WIDEST }
     requires manager { M ≤ WIDEST }
     requires at { at < length text.now }
-    ensures line { LineAt text.now at result.0 }
-    ensures ok { IfOk result.1 (IsReadNear VERSION (slice_range text.now at result.0)) }
-    ensures err { IfErr result.1 (λ kind.
-        body_fault VERSION C M (slice_range text.now at result.0) ≡ Some kind) }
-    ensures kinds { IfErr result.1 (λ kind. kind ≢ OutOfMemory) }
+    ensures { MatchOption result (IsSameScript script.old script.new)
+        (IsNextPushed VERSION text.now at script.old script.new) }
 {
-    if let Some(end) = expected_end::<VERSION>(text, at, C, M) {
-        if let Ok(near) = read_near::<C, M, VERSION>(&text[at..end]) {
-            return (end, Ok(near));
-        }
+    match text[at] {
+        b'A' => push_line::<ChA, C, VERSION>(&mut script.a, text, at),
+        b'B' => push_line::<ChB, M, VERSION>(&mut script.b, text, at),
+        b'C' => push_line::<ChC, C, VERSION>(&mut script.c, text, at),
+        b'D' => push_line::<ChD, M, VERSION>(&mut script.d, text, at),
+        b'E' => push_line::<ChE, C, VERSION>(&mut script.e, text, at),
+        _ => None,
     }
-    let end = line_end(text, at);
-    (end, read_near::<C, M, VERSION>(&text[at..end]))
 }
 
 /// The beats of the lines from `start` on, where the first of them is line 2.
@@ -63,9 +96,15 @@ fn read_beats<const C: usize, const M: usize, const VERSION: u8>(
     let mut before = 1u64;
     while at < text.len() {
         let line = before + 1;
-        let (end, read) = next_near::<C, M, VERSION>(text, at);
+        if let Some(end) = push_next::<C, M, VERSION>(&mut script, text, at) {
+            at = end + 1;
+            before = line;
+            continue;
+        }
+        // What that one does not take is read again, by the reader that names the fault of a line.
+        let (end, read) = next_line::<VERSION>(text, at, C, M);
         let near = match read {
-            Ok(near) => near,
+            Ok(read) => near_of::<C, M>(&read),
             Err(kind) => return Err(TraceFault { line, kind }),
         };
         if end == text.len() {

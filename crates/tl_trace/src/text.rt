@@ -41,14 +41,6 @@ static PAIRS: [u8; 512] = [
     57, 102, 97, 102, 98, 102, 99, 102, 100, 102, 101, 102, 102,
 ];
 
-/// The lower-case digit of a value.
-fn digit_of(value: u8) -> u8
-    requires { value < 16 }
-    ensures { result ≡ digit_char value }
-{
-    if value < 10 { 48 + value } else { 87 + value }
-}
-
 /// The digit of the lowest 4 bits.
 pub fn low_digit(value: u8) -> u8
     ensures { result ≡ digit_char (value % 16) }
@@ -63,35 +55,26 @@ pub fn high_digit(value: u8) -> u8
     PAIRS[2 * value as usize]
 }
 
-/// The lowest digits of a number, of which there is an even number.
-pub fn digits_of<const COUNT: usize>(value: u64) -> [u8; COUNT]
-    requires { COUNT ≡ 2 * (COUNT / 2) }
-    ensures { result ≡ hex COUNT value }
-{
-    let mut digits = [0u8; COUNT];
-    let mut rest = value;
-    for i in 0..COUNT / 2 {
-        let byte = (rest % 256) as u8;
-        digits[COUNT - 1 - 2 * i] = low_digit(byte);
-        digits[COUNT - 2 - 2 * i] = high_digit(byte);
-        rest /= 256;
-    }
-    digits
-}
-
-/// Writes the lowest digits of a number.
+/// Writes the lowest digits of a number, two at a time from the last on.
+#[inline(always)]
 fn write_digits(digits: &mut [u8], value: u64, count: usize)
     requires { length digits.old ≡ count }
     ensures { digits.new ≡ hex count value }
 {
     let mut rest = value;
-    for i in 0..count {
-        digits[count - 1 - i] = digit_of((rest % 16) as u8);
-        rest /= 16;
+    for i in 0..count / 2 {
+        let byte = (rest % 256) as u8;
+        digits[count - 1 - 2 * i] = low_digit(byte);
+        digits[count - 2 - 2 * i] = high_digit(byte);
+        rest /= 256;
+    }
+    if count % 2 == 1 {
+        digits[0] = low_digit((rest % 16) as u8);
     }
 }
 
 /// Writes two digits for each of the first `w` lanes, highest lane first.
+#[inline(always)]
 fn write_lanes(digits: &mut [u8], lanes: &[u8], w: usize)
     requires width { w ≤ WIDEST }
     requires lanes { w ≤ length lanes.now }
@@ -106,6 +89,7 @@ fn write_lanes(digits: &mut [u8], lanes: &[u8], w: usize)
 }
 
 /// Writes bytes at a place of a line, and gives the place behind them.
+#[inline(always)]
 pub fn fill(line: &mut Room, at: usize, bytes: &[u8]) -> usize
     requires { at + length bytes.now ≤ 192 }
     ensures items { take result line.new ≡ take at line.old ++ bytes.now }
@@ -117,6 +101,7 @@ pub fn fill(line: &mut Room, at: usize, bytes: &[u8]) -> usize
 }
 
 /// Writes a space and so many digits of a number, and gives the place behind them.
+#[inline(always)]
 pub fn fill_field(line: &mut Room, at: usize, value: u64, count: usize) -> usize
     requires { at + 1 + count ≤ 192 }
     ensures items { take result line.new ≡ take at line.old ++ 32 ∷ hex count value }
@@ -129,6 +114,7 @@ pub fn fill_field(line: &mut Room, at: usize, value: u64, count: usize) -> usize
 }
 
 /// Writes a space and two digits for each of the first `w` lanes, and gives the place behind them.
+#[inline(always)]
 pub fn fill_lanes(line: &mut Room, at: usize, lanes: &[u8], w: usize) -> usize
     requires width { w ≤ WIDEST }
     requires lanes { w ≤ length lanes.now }
@@ -144,6 +130,7 @@ pub fn fill_lanes(line: &mut Room, at: usize, lanes: &[u8], w: usize) -> usize
 }
 
 /// Writes a byte, and gives the place behind it.
+#[inline(always)]
 pub fn fill_byte(line: &mut Room, at: usize, byte: u8) -> usize
     requires { at + 1 ≤ 192 }
     ensures items { take result line.new ≡ take at line.old ++ byte ∷ [] }

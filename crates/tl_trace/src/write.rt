@@ -4,7 +4,7 @@ ghost use Rattle.tl_lanes.specs.declared.limits.TheConstants.{WIDEST};
 ghost use Rattle.arrayvec.specs.ArrayVec.{array_vec_len};
 ghost use Rattle.tl_lanes.specs.Lanes.{IsWidth};
 ghost use Rattle.tl_trace.specs.Fields.{bit, number_of_lanes};
-ghost use Rattle.tl_trace.specs.Lines.{hex, head_text, line_text, beats_text};
+ghost use Rattle.tl_trace.specs.Lines.{hex, line_text, beats_text};
 ghost use Rattle.tl_trace.specs.Texts.{newline, text_of_line, trace_text};
 ghost use Rattle.tl_trace.specs.Reports.{verdict_text, report_line};
 
@@ -12,29 +12,15 @@ use crate::head_text::HeadText;
 use crate::header::header_text;
 use crate::line::Line;
 use crate::places::mask_digits;
-use crate::text::{
-    Room, Text, fill, fill_byte, fill_field, fill_lanes, put, put_byte, put_decimal,
-};
+use crate::text::{Room, Text, fill_byte, fill_field, fill_lanes, put, put_byte, put_decimal};
 use crate::trace::Trace;
 use arrayvec::ArrayVec;
 use std::alloc::Global;
 use tl_lanes::{Mask, WIDEST};
 use tl_msg::{Beat, ChA, ChB, ChC, ChD, ChE, OutOfMemory, Verdict};
 
-/// Writes the head of a line, and gives the place behind it. Both branches write the same: in each the version is known
-/// when the program is compiled, and so is the length.
-#[inline]
-fn fill_head<K: HeadText>(line: &mut Room, head: &K::Head, version: u8) -> usize
-    ensures items { take result line.new ≡ head_text (K.form version) head.now }
-    ensures end { result ≤ 32 }
-{
-    if version == 1 {
-        return fill(line, 0, K::head_text(head, 1).as_slice());
-    }
-    fill(line, 0, K::head_text(head, version).as_slice())
-}
-
 /// Writes the mask of a channel that has one, and gives the place behind it.
+#[inline(always)]
 fn fill_mask<K: HeadText>(line: &mut Room, at: usize, mask: Mask, w: usize) -> usize
     requires width { w ≤ WIDEST }
     requires room { at ≤ 32 }
@@ -49,6 +35,7 @@ fn fill_mask<K: HeadText>(line: &mut Room, at: usize, mask: Mask, w: usize) -> u
 }
 
 /// Writes the data and corrupt of a channel that has them, and gives the place behind them.
+#[inline(always)]
 fn fill_data<K: HeadText>(
     line: &mut Room,
     at: usize,
@@ -73,6 +60,7 @@ fn fill_data<K: HeadText>(
 }
 
 /// Writes the line of a beat on the first `w` of its lanes, with its LF, and gives its length.
+#[inline(always)]
 fn fill_line<K: HeadText, const N: usize>(
     line: &mut Room,
     beat: &Beat<K, N>,
@@ -84,7 +72,7 @@ fn fill_line<K: HeadText, const N: usize>(
     ensures items { take result line.new ≡ line_text (K.form version) w beat.now ++ newline }
     ensures end { result ≤ 192 }
 {
-    let head = fill_head::<K>(line, &beat.head, version);
+    let head = K::fill_head(line, &beat.head, version);
     let mask = fill_mask::<K>(line, head, beat.mask, w);
     let data = fill_data::<K>(line, mask, &beat.lanes, beat.corrupt, w);
     fill_byte(line, data, b'\n')
@@ -113,8 +101,9 @@ pub fn line_of<K: HeadText, const W: usize>(beat: &Beat<K, W>, version: u8) -> A
     line_on::<K, W>(beat, W, version)
 }
 
-/// Appends the lines of beats as `line_of` gives them, in order. Where a growth is refused the contents stay as they were.
-pub fn write_far<K: HeadText, const W: usize>(
+/// The same as `write_far`, where the version may be known when the program is compiled.
+#[inline(always)]
+fn write_lines<K: HeadText, const W: usize>(
     out: &mut Vec<u8>,
     beats: &[Beat<K, W>],
     version: u8,
@@ -137,6 +126,25 @@ pub fn write_far<K: HeadText, const W: usize>(
         }
     }
     Ok(())
+}
+
+/// Appends the lines of beats as `line_of` gives them, in order. Where a growth is refused the
+/// contents stay as they were.
+pub fn write_far<K: HeadText, const W: usize>(
+    out: &mut Vec<u8>,
+    beats: &[Beat<K, W>],
+    version: u8,
+) -> Result<(), OutOfMemory>
+    requires { IsWidth W }
+    ensures ok { OnOk result (out.new.items ≡ out.old.items ++ beats_text (K.form version) W beats.now) }
+    ensures err { OnErr result (out.new.items ≡ out.old.items) }
+{
+    // Both branches do the same: in each the digits of an id are known, and so is the place of
+    // every field.
+    if version == 1 {
+        return write_lines::<K, W>(out, beats, 1);
+    }
+    write_lines::<K, W>(out, beats, version)
 }
 
 /// Appends a word, the number of near beats, and that of far beats.

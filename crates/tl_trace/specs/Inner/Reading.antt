@@ -1,5 +1,5 @@
 -- What the parts of the reader give. Only contracts of private functions cite these words.
-use Rattle.std.specs.Prelude.{◌≡◌, ◌≢◌, ◌≤◌, ◌<◌, ◌+◌, ◌^◌, ◌==◌, ◌&&◌, ℕ, Bool, true, false, List, [], ◌∷◌, ◌++◌, map, length, Option, Some, None, MatchOption, is_none, nat_lt, if◌then◌else◌, slice_index, slice_range}
+use Rattle.std.specs.Prelude.{◌≡◌, ◌≢◌, ◌≤◌, ◌<◌, ◌+◌, ◌*◌, ◌^◌, ◌==◌, ◌&&◌, ℕ, Bool, true, false, List, [], ◌∷◌, ◌++◌, map, length, Option, Some, None, MatchOption, is_none, nat_lt, if◌then◌else◌, slice_index, slice_range}
 use Rattle.std.specs.List.{list_all, list_any}
 use Rattle.std.specs.Option.{option_to_list}
 use Rattle.std.specs.Str.Parse.{digits_value}
@@ -64,6 +64,12 @@ pub record IsSmall (digits : ℕ) (r : HeadFields) : Type 0 where
   pub sink : r.sink < 16 ^ digits
   pub opcode : r.opcode < 16
   pub param : r.param < 16
+
+-- the value of two digits
+pub record IsPair (first second value : ℕ) : Type 0 where
+  pub high : digit_of first ≤ 15
+  pub low : digit_of second ≤ 15
+  pub is : value ≡ digit_of first * 16 + digit_of second
 
 -- where bad is at most 15, the number stands after a space at a place; else there is none of so many digits
 pub record IsNumber (text : List ℕ) (at count value bad : ℕ) : Type 0 where
@@ -168,6 +174,32 @@ pub record IsReadNear {client manager : ℕ} (version : ℕ) (text : List ℕ) (
   pub line : Line
   pub read : IsReadLine version client manager text line
   pub same : IsNearOf line near
+
+-- the beat of the line from a place on, where its LF stands at the end, was put behind those of its channel
+pub record IsLinePushed {H : Type 0} (f : Form H) (w : ℕ) (text : List ℕ) (at : ℕ) (before after : List (BeatOf H w)) (end : ℕ) : Type 0 where
+  pub beat : BeatOf H w
+  pub from : at < end
+  pub to : end < length text
+  pub stop : slice_index text end ≡ 10
+  pub read : IsRead f w (slice_range text at end) beat
+  pub put : after ≡ before ++ beat ∷ []
+
+-- the same of a line of any channel
+pub record IsNextPushed {client manager : ℕ} (version : ℕ) (text : List ℕ) (at : ℕ) (before after : Script client manager) (end : ℕ) : Type 0 where
+  pub near : Near client manager
+  pub from : at < end
+  pub to : end < length text
+  pub stop : slice_index text end ≡ 10
+  pub read : IsReadNear version (slice_range text at end) near
+  pub put : IsPushed near before after
+
+-- two scripts of the same beats
+pub record IsSameScript {client manager : ℕ} (before after : Script client manager) : Type 0 where
+  pub a : after.a.items ≡ before.a.items
+  pub b : after.b.items ≡ before.b.items
+  pub c : after.c.items ≡ before.c.items
+  pub d : after.d.items ≡ before.d.items
+  pub e : after.e.items ≡ before.e.items
 
 -- the later lines of a text, and their beats by channel
 pub record TellsRest {client manager : ℕ} (version : ℕ) (text : List ℕ) (s : Script client manager) : Type 0 where

@@ -1,5 +1,6 @@
+use Rattle.std.proofs.Common.{◌*◌}
 use Rattle.tl_trace.proofs.HexText.{HexSoFar}
 use Rattle.tl_trace.proofs.text.write_digits.Given as goal
 
 abbrev pub invariant-loop-i : goal.invariant-loop-i
-invariant-loop-i l = HexSoFar l.count l.fn.value l.digits l.rest l.i
+invariant-loop-i l = HexSoFar l.count l.fn.value l.digits l.rest (2 * l.i)

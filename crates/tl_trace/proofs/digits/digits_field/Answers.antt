@@ -1,7 +1,7 @@
 use Rattle.std.proofs.Common.{◌≡◌, ◌<◌, ◌+◌, length, arith}
 use Rattle.std.specs.List.{slice_range}
 use Rattle.tl_trace.proofs.ReadDigits.{field_start, field_more, field_done, range_long}
-use Rattle.tl_trace.proofs.digits.field.Goals as goal
+use Rattle.tl_trace.proofs.digits.digits_field.Goals as goal
 
 pub loop-byte-init : goal.loop-byte-init
 loop-byte-init c = field_start c.args.text.now c.args.at c.args.count c.space-bad.result c.space-bad.ensures

@@ -1,7 +1,7 @@
 use Rattle.std.proofs.Common.{arith, rules, ◌≤◌}
 use Rattle.std.proofs.lemmas.List.{take_all}
 use Rattle.tl_trace.proofs.LineText.{width_most}
-use Rattle.tl_trace.proofs.write.write_far.Goals as goal
+use Rattle.tl_trace.proofs.write.write_lines.Goals as goal
 
 pub fill_line-end-requires : goal.fill_line-end-requires
 fill_line-end-requires g c =

@@ -1,6 +1,6 @@
 use Rattle.std.proofs.Common.{◌≡◌, ◌≤◌, ◌++◌, length, take}
 use Rattle.tl_trace.specs.Lines.{beats_text}
-use Rattle.tl_trace.proofs.write.write_far.Given as goal
+use Rattle.tl_trace.proofs.write.write_lines.Given as goal
 
 abbrev pub invariant-loop-beat : goal.invariant-loop-beat
 invariant-loop-beat g l = record {

@@ -1,0 +1,10 @@
+-- The table is held against the definition at each of the 256 bytes, by computing.
+use Rattle.std.proofs.Common.{◌*◌, cond, nat_lt, get_or, refl, arith}
+use Rattle.tl_trace.specs.Inner.Reading.{digit_of}
+use Rattle.tl_trace.specs.declared.digits.TheConstants.{HIGH_VALUES}
+use Rattle.tl_trace.proofs.Table.{agree_below, agree_at}
+use Rattle.tl_trace.proofs.digits.high_value.Goals as goal
+
+pub returns : goal.returns
+unfolding agree_below
+returns c = agree_at (λ k. get_or HIGH_VALUES k 0) (λ k. cond (nat_lt 15 (digit_of k)) 256 (16 * digit_of k)) 256 refl c.args.byte (omega arith)
