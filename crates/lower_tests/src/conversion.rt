@@ -1,5 +1,5 @@
 use arrayvec::ArrayVec;
-use tl_convert::{Converter, far_count};
+use tl_convert::{Converter, far_count, far_room};
 use tl_lanes::is_width;
 use tl_msg::{Beat, BeatFault, BeatOf, ChA, ChD, HeadA, HeadD};
 
@@ -237,6 +237,15 @@ fn count<const V: usize>(beats: &[Beat<ChA, 4>]) -> usize {
     }
 }
 
+/// For how many far beats there is room.
+fn room<const V: usize>(beats: &[Beat<ChA, 4>]) -> usize {
+    if is_width(4) && is_width(V) && beats.len() <= 5 {
+        far_room::<ChA, 4, V>(beats)
+    } else {
+        usize::MAX
+    }
+}
+
 #[test]
 fn counts_of_far_beats(rt: HostRuntime) {
     let next = put(0x20, 0xf, [0; 4]);
@@ -247,4 +256,7 @@ fn counts_of_far_beats(rt: HostRuntime) {
     assert!(rt; count::<8>(&[]) == 0);
     let changed = [next, next, put(0x40, 0xf, [0; 4]), next, next];
     assert!(rt; count::<4>(&changed) == 2, "up to the head that changed");
+    assert!(rt; room::<8>(&changed) == count::<8>(&changed));
+    assert!(rt; room::<4>(&changed) == 5, "at equal widths no beat is read");
+    assert!(rt; room::<1>(&changed) == count::<1>(&changed));
 }

@@ -51,6 +51,8 @@ impl<K: Channel, const W: usize> Tracker<K, W> {
     /// It needs that `W` is a width: 1, 2, 4, 8, 16, 32 or 64 bytes. TileLink: burst rules, byte lanes,
     /// masks, signal descriptions, opcode and param tables. This project's choice: the order of the
     /// faults, and that the mask is exactly the active lanes but on PutPartialData.
+    // inlined, so that its wide answer does not pass through memory
+    #[inline(always)]
     pub fn check(&self, beat: &Beat<K, W>) -> Result<Place<K>, BeatFault>
         requires { IsWidth W }
 

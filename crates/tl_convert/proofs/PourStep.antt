@@ -1,9 +1,9 @@
 -- One chunk of a near beat: where it begins and ends, and what the far beats then are.
-use Rattle.std.proofs.Common.{◌≡◌, ◌≤◌, ◌<◌, ◌+◌, ◌-◌, ◌*◌, ◌/◌, ◌%◌, ◌^◌, ◌≢◌, ◌++◌, ℕ, min, List, [], ◌∷◌, map, sym, ap, subst, ◌∙◌, arith, rules, ⊎_elim}
+use Rattle.std.proofs.Common.{◌≡◌, ◌≤◌, ◌<◌, ◌+◌, ◌-◌, ◌*◌, ◌/◌, ◌%◌, ◌^◌, ◌≢◌, ◌++◌, ℕ, Bool, true, false, cond, min, List, [], ◌∷◌, map, sym, ap, subst, ◌∙◌, arith, rules, ⊎_elim}
 use Rattle.std.specs.List.{range_with_len}
 use Rattle.std.proofs.lemmas.Bool.Decides.{eqb_tells, leb_tells}
 use Rattle.std.proofs.lemmas.List.FromFn.{map-range_with_len_more}
-use Rattle.std.proofs.Math.Nat.{mod-lt, add-mul-mod_self_right, div-eq_of_eq-mul_left, mul-le-mul_right, mul-mod_left, mod-eq_of_lt}
+use Rattle.std.proofs.Math.Nat.{mod-lt, add-mul-mod_self_right, div-eq_of_eq-mul_left, mul-le-mul_right, mul-mod_left, mod-eq_of_lt, div_self}
 use Rattle.std.proofs.Math.Arith.{digits_div}
 use Rattle.tl_msg.specs.Rules.{Rules}
 use Rattle.tl_msg.specs.declared.beat.BeatOf.{BeatOf}
@@ -14,6 +14,15 @@ use Rattle.tl_convert.specs.Inner.Pouring.{Brings, Poured, Source, Pours, IsBlan
 use Rattle.tl_burst.proofs.Places.{per-pos}
 use Rattle.tl_burst.proofs.Numbers.{parts, div-up, per-power, powers-divide}
 use Rattle.tl_convert.proofs.Filling.{Filled-more, Filled-none, Filled-whole}
+
+-- a mask bit, where there is a mask or none
+pub to-old : (masked : Bool) (x y z : ℕ) → masked ≡ true → x ≡ y → x ≡ cond masked y z
+to-old true x y z e h = h
+to-old false x y z e h = cc
+
+pub from-old : (masked : Bool) (x y z : ℕ) → masked ≡ false → x ≡ z → x ≡ cond masked y z
+from-old false x y z e h = h
+from-old true x y z e h = cc
 
 -- a sum that ends a beat
 pub ends-beat : (n q p : ℕ) → 0 < p → 0 < q → n % p + q ≤ p → (n + q) % p ≡ 0 → n / p * p + p ≡ n + q
@@ -111,6 +120,27 @@ module _ {H : Type 0} {W : ℕ} (r : Rules H) (m : Message H) (v home first done
             ap (λ k. map (beat_at r m v) (range_with_len (first / per_beat r m.head v) k)) n;
       }
 
+-- no far beats, where the first byte begins one
+pub pour-none : {H : Type 0} (r : Rules H) (m : Message H) (v first : ℕ) → IsWidth v → (none : BeatOf H v) → IsBlank m.head none →
+    first % per_beat r m.head v ≡ 0 → Pours r m v first first none []
+pour-none r m v first vw none blank begins =
+    let j : ℕ = first / per_beat r m.head v in
+    let s : first / per_beat r m.head v * per_beat r m.head v + first % per_beat r m.head v ≡ first = parts first (per_beat r m.head v) in
+    let e : first / per_beat r m.head v * per_beat r m.head v ≡ first = omega arith in
+    let z : first / per_beat r m.head v - first / per_beat r m.head v ≡ 0 = omega arith in
+    let P : ℕ → Type 0 = λ d. Filled r m v (first / per_beat r m.head v) d none in
+    record {
+      filled = subst P e (Filled-none r m v vw (first / per_beat r m.head v) none blank.head_is blank.lanes blank.size blank.mask blank.corrupt);
+      beats = ap (λ k. map (beat_at r m v) (range_with_len (first / per_beat r m.head v) k)) (sym z);
+    }
+
+-- a run of whole far beats ends with one
+pub whole-ends : (first t q : ℕ) → 0 < q → first % q ≡ 0 → (first + t * q + q) % q ≡ 0
+whole-ends first t q pos e =
+    let s : first / q * q + first % q ≡ first = parts first q in
+    let n : first + t * q + q ≡ (first / q + t + 1) * q = grind arith in
+    ap (λ x. x % q) n ∙ mul-mod_left (first / q + t + 1) q
+
 -- the chunks of a near beat
 pub record Chunk (near wide q first t : ℕ) : Type 0 where
   pub pos : 0 < q
@@ -159,6 +189,33 @@ pub chunk-at : {H : Type 0} (r : Rules H) (head : H) (W v first t size near wide
 chunk-at r head W v first t size near wide q ww vw es en ew eq whole lt =
     let e : per_beat r head W ≡ near = ap (λ z. bytes_per_beat z W) (sym es) ∙ sym en in
     chunks size W v first t near wide q ww vw en ew eq (ap (λ n. first % n) (sym e) ∙ whole) lt
+
+-- a near beat that has fewer bytes than a far beat is one chunk
+pub one-chunk : {H : Type 0} (r : Rules H) (head : H) (W v first size near wide : ℕ) → IsWidth W → IsWidth v →
+    size ≡ r.size head → near ≡ bytes_per_beat size W → wide ≡ bytes_per_beat size v → near < wide →
+    first % per_beat r head W ≡ 0 → (0 < near) × (first % wide + near ≤ wide)
+one-chunk r head W v first size near wide ww vw es en ew less whole =
+    let wn = per-power size W ww in
+    let pos : 0 < near = power-pos near wn.0 (en ∙ wn.1) in
+    let once : near / near ≡ 1 = div_self pos in
+    let k : Chunk near wide near first 0 = chunk-at r head W v first 0 size near wide near ww vw es en ew (omega arith) whole (omega arith) in
+    let start : first + 0 * near ≡ first = omega arith in
+    let P : ℕ → Type 0 = λ d. d % wide + near ≤ wide in
+    (pos, subst P start k.fits)
+
+-- a near beat that has no fewer bytes than a far beat begins with the first byte of one
+pub begins-far : {H : Type 0} (r : Rules H) (head : H) (W v first : ℕ) → IsWidth W → IsWidth v → per_beat r head v ≤ per_beat r head W →
+    first % per_beat r head W ≡ 0 → (0 < per_beat r head v) × (first % per_beat r head v ≡ 0)
+begins-far r head W v first ww vw fits whole =
+    let wn = per-power (r.size head) W ww in
+    let wv = per-power (r.size head) v vw in
+    let d : per_beat r head W ≡ per_beat r head W / per_beat r head v * per_beat r head v =
+    powers-divide wn.0 wv.0 (per_beat r head W) (per_beat r head v) wn.1 wv.1 fits in
+    let s : first / per_beat r head W * per_beat r head W + first % per_beat r head W ≡ first = parts first (per_beat r head W) in
+    let n : first ≡ first / per_beat r head W * (per_beat r head W / per_beat r head v) * per_beat r head v = grind arith in (
+      power-pos (per_beat r head v) wv.0 wv.1,
+      ap (λ x. x % per_beat r head v) n ∙ mul-mod_left (first / per_beat r head W * (per_beat r head W / per_beat r head v)) (per_beat r head v),
+    )
 
 -- the chunks are all of the near beat
 pub chunk-all : {H : Type 0} (r : Rules H) (head : H) (W v first t size near wide q : ℕ) → IsWidth W → IsWidth v →

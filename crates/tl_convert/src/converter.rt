@@ -53,6 +53,7 @@ impl<K: Channel, const W: usize, const V: usize> Converter<K, W, V> {
     ///
     /// The beat is refused with its first fault, exactly where it is not admitted after the beats that were fed: outside a burst
     /// Opcode, Param, Size, Unaligned, Mask, Corrupt, and inside one HeadChanged, Mask.
+    #[inline(always)]
     pub fn check(&self, beat: &Beat<K, W>) -> Result<Place<K>, BeatFault>
         requires { IsWidth W }
 

@@ -49,3 +49,22 @@ pub fn far_count<K: Channel, const W: usize, const V: usize>(beats: &[Beat<K, W>
     }
     count
 }
+
+/// Room for the far beats that a list of near beats gives, up to the first beat that is refused: as
+/// many as these are, or more.
+///
+/// Where both buses are equally wide it is one for each near beat, and no beat is read; else it is
+/// `far_count`. The list has at most `2^40` beats. The homes of the messages don't matter here.
+pub fn far_room<K: Channel, const W: usize, const V: usize>(beats: &[Beat<K, W>]) -> usize
+    requires near { IsWidth W }
+    requires far { IsWidth V }
+    requires few { length beats.now ≤ 2 ^ 40 }
+    ensures { (homes : List ℕ) →
+        length (due K.rules W V (accepted_of K.rules beats.now) homes) ≤ result }
+{
+    if W == V {
+        beats.len()
+    } else {
+        far_count::<K, W, V>(beats)
+    }
+}

@@ -3,6 +3,7 @@
 ghost use Rattle.std.specs.Prelude.{◌≡◌, ◌≤◌, ◌<◌, ◌+◌, ◌%◌, ◌^◌, []};
 ghost use Rattle.tl_lanes.specs.declared.limits.TheConstants.{MAX_SIZE};
 ghost use Rattle.tl_lanes.specs.Lanes.{IsWidth};
+ghost use Rattle.tl_msg.specs.declared.beat.BeatOf.{BeatOf};
 ghost use Rattle.tl_burst.specs.Messages.{Message, per_beat};
 ghost use Rattle.tl_convert.specs.Inner.Pouring.{Poured, Source, Pours, IsBlank};
 
@@ -42,9 +43,97 @@ pub(crate) fn blank<K: Channel, const V: usize>(head: K::Head) -> Beat<K, V>
     }
 }
 
-// Puts the bytes of a near beat with data into far beats, in chunks of as many bytes as a beat has on both sides. `first` is the
-// number of the beat's first byte in its message, and `partial` the far beat that earlier beats have begun. Far beats that become
-// whole go to `out`.
+// A far beat with `count` bytes of a near beat, the first of which has address `at`, and with no
+// others. It is made field by field, so that it does not go through memory before it is pushed.
+fn beat_of_bytes<K: Channel, const W: usize, const V: usize>(
+    beat: &Beat<K, W>,
+    at: u64,
+    count: usize,
+) -> Beat<K, V>
+    requires near { IsWidth W }
+    requires far { IsWidth V }
+    requires near_room { count ≤ W }
+    requires far_room { count ≤ V }
+    ensures { (none : BeatOf K.Head V) → IsBlank beat.now.head none →
+        Poured K.rules.masked beat.now none result at count }
+{
+    let mut lanes = [0; V];
+    move_lanes::<W, V>(&beat.lanes, &mut lanes, at, count);
+    let mut mask = 0;
+    if K::MASKED {
+        mask = move_mask(beat.mask, W, 0, V, at, count);
+    }
+    Beat::<K, V> {
+        head: beat.head,
+        mask,
+        lanes,
+        corrupt: beat.corrupt,
+    }
+}
+
+// Puts the bytes of a near beat with data into far beats, each of which is then whole: a far beat
+// has no more bytes than a near one. `first` is the number of the beat's first byte in its message.
+// No far beat is begun, so `partial` becomes blank.
+fn pour_whole<K: Channel, const W: usize, const V: usize>(
+    beat: &Beat<K, W>,
+    partial: &mut Beat<K, V>,
+    home: u64,
+    first: usize,
+    out: &mut ArrayVec<Beat<K, V>, WIDEST>,
+)
+    requires near { IsWidth W }
+    requires far { IsWidth V }
+    requires small { K.rules.size beat.now.head ≤ MAX_SIZE }
+    requires fits { per_beat K.rules beat.now.head V ≤ per_beat K.rules beat.now.head W }
+    requires whole { first % per_beat K.rules beat.now.head W ≡ 0 }
+    requires room { first < 2 ^ 40 }
+    requires empty { out.old.items ≡ [] }
+    ensures { (m : Message K.Head) → Source K.rules m home first beat.now →
+        Pours K.rules m V first (first + per_beat K.rules m.head W) partial.new out.new.items }
+{
+    let size = K::size(&beat.head);
+    let wide = beat_bytes(size, V);
+    for t in 0..beat_bytes(size, W) / wide {
+        let done = first + t * wide;
+        let far = beat_of_bytes::<K, W, V>(beat, home.wrapping_add(done as u64), wide);
+        out.push(far);
+    }
+    *partial = blank::<K, V>(beat.head);
+}
+
+// Puts the bytes of a near beat with data beside those of `partial`, the far beat that earlier
+// beats have begun: a far beat has more bytes than a near one. `first` is the number of the beat's
+// first byte in its message. A far beat that becomes whole goes to `out`.
+fn pour_part<K: Channel, const W: usize, const V: usize>(
+    beat: &Beat<K, W>,
+    partial: &mut Beat<K, V>,
+    home: u64,
+    first: usize,
+    out: &mut ArrayVec<Beat<K, V>, WIDEST>,
+)
+    requires near { IsWidth W }
+    requires far { IsWidth V }
+    requires small { K.rules.size beat.now.head ≤ MAX_SIZE }
+    requires fits { per_beat K.rules beat.now.head W < per_beat K.rules beat.now.head V }
+    requires whole { first % per_beat K.rules beat.now.head W ≡ 0 }
+    requires room { first < 2 ^ 40 }
+    requires empty { out.old.items ≡ [] }
+    ensures { (m : Message K.Head) → Source K.rules m home first beat.now →
+        Pours K.rules m V first first partial.old [] →
+        Pours K.rules m V first (first + per_beat K.rules m.head W) partial.new out.new.items }
+{
+    let size = K::size(&beat.head);
+    let near = beat_bytes(size, W);
+    add_bytes::<K, W, V>(beat, partial, home.wrapping_add(first as u64), near);
+    if (first + near) % beat_bytes(size, V) == 0 {
+        out.push(*partial);
+        *partial = blank::<K, V>(beat.head);
+    }
+}
+
+// Puts the bytes of a near beat with data into far beats. `first` is the number of the beat's first
+// byte in its message, and `partial` the far beat that earlier beats have begun. Far beats that
+// become whole go to `out`.
 pub(crate) fn pour<K: Channel, const W: usize, const V: usize>(
     beat: &Beat<K, W>,
     partial: &mut Beat<K, V>,
@@ -63,15 +152,9 @@ pub(crate) fn pour<K: Channel, const W: usize, const V: usize>(
         Pours K.rules m V first (first + per_beat K.rules m.head W) partial.new out.new.items }
 {
     let size = K::size(&beat.head);
-    let near = beat_bytes(size, W);
-    let wide = beat_bytes(size, V);
-    let chunk = near.min(wide);
-    for t in 0..near / chunk {
-        let done = first + t * chunk;
-        add_bytes::<K, W, V>(beat, partial, home.wrapping_add(done as u64), chunk);
-        if (done + chunk) % wide == 0 {
-            out.push(*partial);
-            *partial = blank::<K, V>(beat.head);
-        }
+    if beat_bytes(size, V) <= beat_bytes(size, W) {
+        pour_whole::<K, W, V>(beat, partial, home, first, out);
+    } else {
+        pour_part::<K, W, V>(beat, partial, home, first, out);
     }
 }

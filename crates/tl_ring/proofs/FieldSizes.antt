@@ -1,5 +1,5 @@
 -- A field takes no more bytes of memory than its struct, and a beat takes few.
-use Rattle.std.proofs.Common.{ℕ, zero, suc, ◌+◌, ◌-◌, ◌*◌, ◌%◌, ◌≤◌, ◌<◌, max, arith}
+use Rattle.std.proofs.Common.{ℕ, zero, suc, ◌+◌, ◌*◌, ◌≤◌, ◌<◌, max, arith}
 use Rattle.tl_lanes.specs.Lanes.{IsWidth}
 use Rattle.tl_lanes.proofs.Widths.{width_bounds}
 use Rattle.tl_lanes.proofs.Sizes.{align-small, up_le}

@@ -30,6 +30,12 @@ take_of_two n front back = ⊎_elim
     append-nil (take n front) ∙ sym (take-append-le n front back inside))
     (cases_lt (length front) n)
 
+-- the first n of two lists joined, where the first list has them all
+pub take_of_first : {X : Type 0} (n : ℕ) (front back : List X) → n ≤ min n (length front) → take (min n (length front)) front ≡ take n (front ++ back)
+take_of_first n front back all =
+    let none : n - min n (length front) ≡ 0 = omega arith in
+    sym (append-nil (take (min n (length front)) front)) ∙ ap (λ k. take (min n (length front)) front ++ take k back) (sym none) ∙ take_of_two n front back
+
 -- three lists have no element together exactly where each is empty
 pub none_in_three : {X : Type 0} (xs ys zs : List X) (n : ℕ) → n ≡ length xs + length ys + length zs →
     ((n == 0) ≡ true) ↔ ((xs ≡ []) × (ys ≡ []) × (zs ≡ []))

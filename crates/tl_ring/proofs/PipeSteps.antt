@@ -1,5 +1,5 @@
 -- Each call of a pipe takes it to where its crossing is after the same event.
-use Rattle.std.proofs.Common.{◌≡◌, ◌≤◌, ◌<◌, ◌-◌, ◌^◌, ℕ, true, false, List, [], ◌∷◌, ◌++◌, length, take, drop, min, refl, sym, ap, ◌∙◌, arith}
+use Rattle.std.proofs.Common.{◌≡◌, ◌≤◌, ◌<◌, ◌-◌, ◌^◌, ℕ, true, false, List, [], ◌∷◌, ◌++◌, length, take, drop, min, refl, sym, ap, subst, ◌∙◌, arith, append_assoc, take-append-drop}
 use Rattle.std.proofs.Math.Seq.{drop-append_seam}
 use Rattle.tl_lanes.specs.Lanes.{IsWidth}
 use Rattle.tl_msg.specs.Beats.{IsBeat}
@@ -100,6 +100,30 @@ module _ {H : Type 0} (r : Rules H) {w v : ℕ} (partial_masked : (h : H) → r.
     reached = reached_took r x h.reached;
     crosses = Crosses-took r h.near h.far partial_masked x h.crosses;
   }
+
+  -- what a crossing is once all of its inbox is taken
+  abbrev emptied : World H w v → World H w v
+  emptied x = record x { inbox = []; taken = x.taken ++ x.inbox }
+
+  took_then_all : (x : World H w v) → emptied (took x) ≡ emptied x
+  took_then_all x = ap (λ q. record x { inbox = []; taken = q }) (append_assoc x.taken (take 1 x.inbox) (drop 1 x.inbox) ∙ ap (λ q. x.taken ++ q) (take-append-drop 1 x.inbox))
+
+  took_of_none : (x : World H w v) → x.inbox ≡ [] → took x ≡ emptied x
+  took_of_none x e =
+      ap (λ q. record x { inbox = drop 1 q; taken = x.taken ++ take 1 q }) e ∙ sym (ap (λ q. record x { inbox = []; taken = x.taken ++ q }) e)
+
+  -- all beats of the inbox are taken, one after another
+  stands_emptied_of : (left : List (BeatOf H v)) (p : Pipe H v) (x : World H w v) → x.inbox ≡ left → StandsFor r p x →
+      StandsFor r (record p { inbox = [] }) (emptied x)
+  stands_emptied_of [] p x e h =
+      subst (λ y. StandsFor r (record p { inbox = [] }) y) (took_of_none x e)
+      (subst (λ q. StandsFor r (record p { inbox = drop 1 q }) (took x)) (h.inbox ∙ e) (stands_took p x h))
+  stands_emptied_of (b ∷ left) p x e h =
+      subst (λ y. StandsFor r (record p { inbox = [] }) y) (took_then_all x)
+      (stands_emptied_of left (record p { inbox = drop 1 p.inbox }) (took x) (ap (λ q. drop 1 q) e) (stands_took p x h))
+
+  pub stands_emptied : (p : Pipe H v) (x : World H w v) → StandsFor r p x → StandsFor r (record p { inbox = [] }) (emptied x)
+  stands_emptied p x h = stands_emptied_of x.inbox p x refl h
 
   pub stands_shut : (p : Pipe H v) (x : World H w v) → rest_of r w x.accepted ≡ [] → StandsFor r p x → StandsFor r (record p { closed = true }) (shut x)
   stands_shut p x over h = record {

@@ -78,6 +78,7 @@ impl<K: Channel, const W: usize, const V: usize, A: Allocator> SendEnd<K, W, V, 
     /// Whether `beat` may be the next near beat, and where it stands in its message. It is refused
     /// with its first fault, exactly where a burst is interrupted or a rule of the link broken by
     /// it after the beats that were accepted before. Nothing changes.
+    #[inline(always)]
     pub fn check(&self, beat: &Beat<K, W>) -> Result<Place<K>, BeatFault>
         requires { IsWidth W }
         // for every crossing that the end stands for

@@ -1,4 +1,4 @@
-ghost use Rattle.std.specs.Prelude.{◌≡◌, ◌≤◌, ◌<◌, ◌-◌, ◌↔◌, ◌⊎◌, [], length, min, slice_get, true, Some, IsOk, IsTrue, IfOk, IfErr, IfSome, OnOk, OnErr};
+ghost use Rattle.std.specs.Prelude.{◌≡◌, ◌≤◌, ◌<◌, ◌-◌, ◌++◌, ◌↔◌, ◌⊎◌, [], length, min, slice_get, true, Some, All, IsOk, IsTrue, IfOk, IfErr, IfSome, OnOk, OnErr};
 ghost use Rattle.tl_lanes.specs.Lanes.{IsWidth};
 ghost use Rattle.tl_msg.specs.Faults.{IsLawfulBeat};
 ghost use Rattle.tl_burst.specs.Handing.{IsAdmitted, rest_of, fault_after};
@@ -99,6 +99,7 @@ impl<K: Channel, const W: usize, const V: usize, A: Allocator> SyncPipe<K, W, V,
 
     /// Whether `beat` may be the next near beat, and where it stands in its message. It is refused with its first fault, exactly
     /// where a burst is interrupted or a rule of the link broken by it after the beats that were accepted before. Nothing changes.
+    #[inline(always)]
     pub fn check(&self, beat: &Beat<K, W>) -> Result<Place<K>, BeatFault>
         requires { IsWidth W }
         // for every crossing that the pipe stands for
@@ -157,6 +158,9 @@ impl<K: Channel, const W: usize, const V: usize, A: Allocator> SyncPipe<K, W, V,
             StandsFor K.rules self.new (pushed result x) }
         ensures most { result ≤ ROOM }
     {
+        if self.stage.is_empty() {
+            return 0;
+        }
         let count = self.ring.fill_from_slice(self.stage.as_slice());
         self.stage.drop_front(count);
         count
@@ -169,6 +173,9 @@ impl<K: Channel, const W: usize, const V: usize, A: Allocator> SyncPipe<K, W, V,
             StandsFor K.rules self.new (popped result x) }
         ensures most { result ≤ ROOM }
     {
+        if self.ring.is_empty() {
+            return 0;
+        }
         let count = self.ring.len().min(self.inbox.room());
         read_front(&mut self.ring, &mut self.inbox, count);
         count
@@ -183,6 +190,24 @@ impl<K: Channel, const W: usize, const V: usize, A: Allocator> SyncPipe<K, W, V,
             StandsFor K.rules self.new (took x) }
     {
         self.inbox.pop_front()
+    }
+
+    /// The beats of the inbox, in order, for [`SyncPipe::take_all`].
+    pub fn inbox(&self) -> &[Beat<K, V>]
+        ensures beats { result.now ≡ self.now.inbox }
+        ensures lawful { All (λ beat. IsLawfulBeat K.rules beat) result.now }
+    {
+        self.inbox.as_slice()
+    }
+
+    /// Takes all beats of the inbox, which [`SyncPipe::inbox`] shows: as many calls of [`SyncPipe::take`].
+    pub fn take_all(&mut self)
+        ensures { (x : World K.Head W V) → StandsFor K.rules self.old x →
+            StandsFor K.rules self.new
+            (record x { inbox = []; taken = x.taken ++ x.inbox }) }
+    {
+        let count = self.inbox.len();
+        self.inbox.drop_front(count);
     }
 
     /// Ends the offers. Refused exactly where a burst is unfinished, and nothing changes then. What is staged stays so, and still

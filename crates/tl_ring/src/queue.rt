@@ -102,10 +102,25 @@ impl<T: Copy + Default> Queue<T> {
             cut_front(&mut self.items, self.first);
             self.first = 0;
         }
+        if let [item] = more {
+            self.items.push(*item);
+            return;
+        }
         match self.items.try_extend_from_slice(more) {
             Ok(()) => {}
             Err(_) => unreachable!(),
         }
+    }
+}
+
+// Removes all items. A single one, as a stage mostly has, needs no call that writes over many.
+pub(crate) fn remove_all<T: Copy + Default>(items: &mut ArrayVec<T, ROOM>)
+    ensures { items.new.items ≡ [] }
+{
+    if items.len() == 1 {
+        items.pop();
+    } else {
+        items.clear();
     }
 }
 
@@ -136,6 +151,8 @@ pub(crate) fn read_front<T: Copy + Default, A: Allocator>(
     let (front, back) = ring.as_slices();
     let from_front = count.min(front.len());
     queue.append(&front[..from_front]);
-    queue.append(&back[..count - from_front]);
+    if from_front < count {
+        queue.append(&back[..count - from_front]);
+    }
     ring.truncate_front(ring.len() - count);
 }

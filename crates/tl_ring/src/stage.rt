@@ -9,7 +9,7 @@ ghost use Rattle.tl_convert.specs.Due.{due};
 ghost use Rattle.tl_convert.specs.Converting as converting;
 ghost use Rattle.tl_ring.specs.Pipe.{AreLawful};
 
-use crate::queue::Queue;
+use crate::queue::{Queue, remove_all};
 use tl_burst::Place;
 use tl_convert::Converter;
 use tl_msg::{Beat, Channel, ranges_of_beat};
@@ -48,7 +48,7 @@ pub(crate) fn stage_beat<K: Channel, const W: usize, const V: usize>(
     ensures lawful { AreLawful K.rules stage.new }
 {
     is_beat::<K, W>(beat, home);
-    stage.items.clear();
+    remove_all(&mut stage.items);
     stage.first = 0;
     converter.feed_at(beat, place, home, &mut stage.items);
 }

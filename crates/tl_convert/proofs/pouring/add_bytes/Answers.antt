@@ -1,16 +1,9 @@
-use Rattle.std.proofs.Common.{◌≡◌, ◌||◌, ℕ, refl, sym, subst, ◌∙◌, true, false, cond, Bool}
+use Rattle.std.proofs.Common.{◌||◌, refl, sym, subst, ◌∙◌}
 use Rattle.tl_msg.specs.declared.beat.BeatOf.{BeatOf}
 use Rattle.tl_convert.specs.Inner.Pouring.{Poured}
+use Rattle.tl_convert.proofs.PourStep.{to-old, from-old}
 use Rattle.tl_convert.proofs.pouring.add_bytes.Goals.{then-MASKED, else-MASKED}
 use Rattle.tl_convert.proofs.pouring.add_bytes.Goals as goal
-
-to-old : (masked : Bool) (x y z : ℕ) → masked ≡ true → x ≡ y → x ≡ cond masked y z
-to-old true x y z e h = h
-to-old false x y z e h = cc
-
-from-old : (masked : Bool) (x y z : ℕ) → masked ≡ false → x ≡ z → x ≡ cond masked y z
-from-old false x y z e h = h
-from-old true x y z e h = cc
 
 pub returns : goal.returns
 returns g c =

@@ -1,12 +1,16 @@
-use Rattle.std.proofs.Common.{◌≡◌, ◌+◌, length, append-nil, append_assoc, length-append, rules, refl, sym, ap, arith}
+use Rattle.std.proofs.Common.{◌++◌, length, append-nil, append_assoc, length-append, rules, refl, sym, ap, arith}
 use Rattle.std.proofs.lemmas.List.{length-take}
-use Rattle.tl_ring.proofs.Moves.{take_of_two}
+use Rattle.tl_ring.proofs.Moves.{take_of_two, take_of_first}
+use Rattle.tl_ring.proofs.queue.read_front.Goals.{then-from_front-count, else-from_front-count}
 use Rattle.tl_ring.proofs.queue.read_front.Goals as goal
 
 -- what is read of both parts of the ring is its first items
 pub returns-clause-queue : goal.returns-clause-queue
-returns-clause-queue g c =
-    rw (c.append-2.ensures, c.append.ensures, append_assoc, c.min-from_front.ensures, take_of_two, c.as_slices.ensures) refl
+returns-clause-queue g c = elim c.if-from_front-count.branch [
+  | then-from_front-count w ↦ rw (w.queue-is, w.append-then-from_front-count.ensures, c.append.ensures, append_assoc, c.min-from_front.ensures, take_of_two, c.as_slices.ensures) refl
+  | else-from_front-count w ↦ rw (w.queue-is, c.append.ensures, c.min-from_front.ensures, ← c.as_slices.ensures)
+      (ap (λ t. c.args.queue.now ++ t) (take_of_first c.args.count c.as_slices.result.0.now c.as_slices.result.1.now (omega (arith, w.if-from_front-count.false, c.min-from_front.ensures))))
+]
 
 pub returns-then-count-eq0-clause-queue : goal.returns-then-count-eq0-clause-queue
 returns-then-count-eq0-clause-queue g c = rw c.if-count-eq0.true (sym (append-nil c.args.queue.now))
@@ -28,8 +32,8 @@ slice_bounds-append-length g c =
     let both = simp length-append at (ap length c.as_slices.ensures) in
     simp length-take (omega (arith, both, c.requires.there, c.min-from_front.ensures))
 
-pub append-requires-2 : goal.append-requires-2
-append-requires-2 g c = (
+pub append-requires-then-from_front-count : goal.append-requires-then-from_front-count
+append-requires-then-from_front-count g c = (
   let known = c.requires-raw in let c = known in search rules,
   simp (c.append.ensures, length-append, length-take) (omega (arith, c.requires.room, c.min-from_front.ensures)),
 )

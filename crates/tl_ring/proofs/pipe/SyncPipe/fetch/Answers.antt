@@ -1,4 +1,5 @@
-use Rattle.std.proofs.Common.{◌≤◌, ◌-◌, length, min, arith}
+use Rattle.std.proofs.Common.{◌≡◌, ◌≤◌, ◌-◌, length, min, sym, ◌∙◌, arith}
+use Rattle.tl_convert.proofs.Comparisons.{true_equal}
 use Rattle.std.proofs.lemmas.List.Elements.{All-append, All-drop, All-take}
 use Rattle.tl_msg.specs.Faults.{IsLawfulBeat}
 use Rattle.tl_ring.proofs.PipeSteps.{stands_popped}
@@ -49,3 +50,8 @@ pub read_front-requires-room-T-Default : goal.read_front-requires-room-T-Default
 read_front-requires-room-T-Default g c κs within =
     beat_in_queue (lone g.row.K-Head.mir) (layout g.row.K-Head) g.row.V 9223372036854775808
     (search (part_small (layout (the_row (param 0 g.row.K) (param 1 (number g.row.W)) (param 2 (number g.row.V)) (param 3 g.row.A) (copied 4 g.row.K-Head) g.K.Channel g.K.Head.PartialEq g.K.Head.Default g.A.Allocator)) 3 9223372036854775808))
+
+pub returns-then-is_empty-clause-count : goal.returns-then-is_empty-clause-count
+returns-then-is_empty-clause-count g c =
+    let none : length c.self.inside.ring.items ≡ 0 = true_equal (length c.self.inside.ring.items) 0 (sym c.is_empty.ensures ∙ c.if-is_empty.true) in
+    rw (← c.self.view_is) (omega arith)

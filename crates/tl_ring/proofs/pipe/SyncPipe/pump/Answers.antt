@@ -1,4 +1,4 @@
-use Rattle.std.proofs.Common.{rules, ◌≤◌, ◌-◌, length, min, arith}
+use Rattle.std.proofs.Common.{rules, ◌≡◌, ◌≤◌, ◌-◌, [], length, min, ap, arith}
 use Rattle.std.proofs.lemmas.List.Elements.{All-append, All-drop, All-take}
 use Rattle.tl_msg.specs.Faults.{IsLawfulBeat}
 use denote.Memory.{lone}
@@ -42,3 +42,9 @@ invariant_of-self g c =
     let moved = All-take (λ b. IsLawfulBeat g.K.Channel.rules b) c.fill_from_slice-count.result c.self.inside.stage c.self.invariant.2 in
     let ring = All-append (λ b. IsLawfulBeat g.K.Channel.rules b) c.self.inside.ring.items _ c.self.invariant.3 moved in
     (rw c.fill_from_slice-count.ensures.items c.self.invariant.0, rw c.fill_from_slice-count.ensures.items c.self.invariant.1, rw c.drop_front.ensures stage, rw (c.fill_from_slice-count.ensures.items, c.as_slice.ensures.value) ring, c.self.invariant.4)
+
+pub returns-then-is_empty-clause-count : goal.returns-then-is_empty-clause-count
+returns-then-is_empty-clause-count g c =
+    let none : c.self.inside.stage ≡ [] = c.is_empty.ensures.0 c.if-is_empty.true in
+    let count : length c.self.inside.stage ≡ 0 = ap length none in
+    rw (← c.self.view_is) (omega arith)
