@@ -1,5 +1,5 @@
 -- What becomes of the next beat of a channel that a side of a run offers.
-use Rattle.std.proofs.Common.{◌≡◌, ◌↔◌, ℕ, true, false, None, Some, List, [], ◌∷◌, length, Result, Ok, Err, refl, sym, ap, subst, ◌∙◌}
+use Rattle.std.proofs.Common.{◌≡◌, ◌↔◌, ◌+◌, ◌<◌, ◌^◌, ℕ, true, false, None, Some, List, [], ◌∷◌, length, Result, Ok, Err, refl, sym, ap, subst, ◌∙◌, arith}
 use Rattle.std.specs.Prelude.{nat_lt, slice_get, slice_index_or, IsOk, OnOk, OnErr, IfErr}
 use Rattle.tl_msg.specs.declared.beat.BeatOf.{BeatOf}
 use Rattle.tl_msg.specs.declared.fault.SideFault.{SideFault}
@@ -7,8 +7,11 @@ use Rattle.tl_burst.specs.Handing.{rest_of}
 use Rattle.tl_ring.specs.Crossing.{offered, shut}
 use Rattle.tl_ring.specs.Pipe.{Pipe, IsReady, StandsFor}
 use Rattle.tl_ring.specs.declared.fault.EndFault.{EndFault}
+use Rattle.tl_bridge.specs.Inner.Running.{steps}
 use Rattle.tl_bridge.specs.Inner.Offering.{Offering, OffersNext, offer_outcome, close_outcome}
-use Rattle.tl_bridge.specs.declared.channel_state.Offered.TheVariants.{NotReady}
+use Rattle.tl_bridge.specs.declared.channel_state.Offered.{Offered}
+use Rattle.tl_bridge.specs.declared.channel_state.Offered.TheVariants.{Accepted, NotReady, Stopped}
+use Rattle.tl_bridge.proofs.ChannelRound.{none-more}
 use Rattle.tl_bridge.proofs.OfferSteps.{read_some, read_none, not_ready}
 
 module _ {S P H : Type 0} {w v : ℕ} (k : Offering S P H w v) (bs : List (BeatOf H w)) (n : ℕ) (s : S) where
@@ -54,6 +57,17 @@ module _ {S P H : Type 0} {w v : ℕ} (k : Offering S P H w v) (bs : List (BeatO
     same = stays;
     does = λ x h. ([], k.crossing x, still s' refused x h, (read_none bs n past, (λ whole. let ok = (between x h).1 whole in cc), refl, refl));
   }
+
+-- a channel without a beat to offer accepts none
+pub none-closes : (n : ℕ) (r : Result (Unit {0}) EndFault) → n ≡ n + steps (close_outcome r)
+none-closes n (Ok u) = none-more n
+none-closes n (Err e) = none-more n
+
+-- one beat more of a short list may be counted
+pub counts-one : (n : ℕ) (o : Offered) → n < 2 ^ 41 → n + steps o < 2 ^ 64
+counts-one n Accepted few = omega arith
+counts-one n NotReady few = omega arith
+counts-one n (Stopped stop) few = omega arith
 
 -- what holds of a side before a call, and of what it is where the call succeeds, holds after it
 pub holds-after : {T E S : Type 0} (P : S → Type 0) (r : Result T E) (s s' t : S) → OnOk r (s' ≡ t) → OnErr r (s' ≡ s) → P s → P t → P s'

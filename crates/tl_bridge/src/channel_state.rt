@@ -62,7 +62,7 @@ impl Offered {
     }
 
     // How many beats were accepted.
-    fn steps(&self) -> usize
+    pub(crate) fn steps(&self) -> usize
         ensures { result ≡ steps self.now }
     {
         match self {

@@ -7,7 +7,7 @@ ghost use Rattle.tl_bridge.specs.Scripts.{EndsIn, HasShortLists, near_beats};
 ghost use Rattle.tl_bridge.specs.Inner.Arriving.{HasRoomFor, KeepsRoom, beats_of};
 ghost use Rattle.tl_bridge.specs.Inner.Running.{IsAt, IsUnderWay, IsNew, HasRound, HasEnded, AreStopped, counted, no_beats, standing_count, all_standing, all_under_way, all_stopped};
 
-use crate::channel_state::{Offered, Stop, add_accepted, all_stops};
+use crate::channel_state::{Offered, Stop, all_stops};
 use crate::offers::offer_on_each;
 use crate::outcome::{Outcome, verdict};
 use crate::taken::{Taken, take_from_each};
@@ -64,7 +64,6 @@ fn round<const C: usize, const M: usize>(
 {
     take_from_each(bridge, far);
     let offers = offer_on_each(bridge, script, at);
-    add_accepted(at, &offers);
     bridge.pump();
     bridge.fetch();
     offers

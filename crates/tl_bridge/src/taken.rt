@@ -13,10 +13,10 @@ ghost use Rattle.tl_bridge.specs.Inner.Running.{after_takes, emptied, no_beats};
 ghost use Rattle.tl_bridge.specs.Inner.Arriving.{beats_of, HasPast, HasRoom, HasRoomFor, HasRoomForInboxes, HasTaken, KeepsRoom};
 
 use std::alloc::{AllocError, Global};
-use tl_convert::far_count;
+use tl_convert::far_room;
 use tl_msg::{Beat, ChA, ChB, ChC, ChD, ChE, Channel};
 use tl_ring::SyncPipe;
-use tl_sides::{ClientBook, ManagerBook, SyncBridge, take_request, take_response};
+use tl_sides::{ClientBook, ManagerBook, SyncBridge};
 use tl_trace::Script;
 
 /// The far beats that were taken, by channel, in lists that grow no more.
@@ -40,7 +40,7 @@ fn room_for<K: Channel, const W: usize, const V: usize>(
     ensures empty { IfOk result (λ far. far.items ≡ []) }
     ensures room { IfOk result (λ far. HasRoom K.rules V beats.now (vec_capacity far)) }
 {
-    Vec::with_capacity(alloc, far_count::<K, W, V>(beats))
+    Vec::with_capacity(alloc, far_room::<K, W, V>(beats))
 }
 
 impl<const C: usize, const M: usize> Taken<C, M> {
@@ -73,9 +73,10 @@ fn take_all<K: Channel, const W: usize, const V: usize>(
     ensures far { far.new.items ≡ far.old.items ++ pipe.old.inbox }
     ensures capacity { vec_capacity far.new ≡ vec_capacity far.old }
 {
-    'beats: while let Some(beat) = pipe.take() {
-        far.push_reserved(beat);
+    for beat in pipe.inbox() {
+        far.push_reserved(*beat);
     }
+    pipe.take_all();
 }
 
 // The manager's side takes all that stands in the inbox of A.
@@ -94,9 +95,11 @@ fn take_all_requests<const C: usize, const M: usize>(
     ensures far { far.new.items ≡ far.old.items ++ pipe.old.inbox }
     ensures capacity { vec_capacity far.new ≡ vec_capacity far.old }
 {
-    'beats: while let Some(beat) = take_request(book, pipe) {
-        far.push_reserved(beat);
+    for beat in pipe.inbox() {
+        book.note_ask(&beat.head);
+        far.push_reserved(*beat);
     }
+    pipe.take_all();
 }
 
 // The client's side takes all that stands in the inbox of D.
@@ -115,9 +118,11 @@ fn take_all_responses<const C: usize, const M: usize>(
     ensures far { far.new.items ≡ far.old.items ++ pipe.old.inbox }
     ensures capacity { vec_capacity far.new ≡ vec_capacity far.old }
 {
-    'beats: while let Some(beat) = take_response(book, pipe) {
-        far.push_reserved(beat);
+    for beat in pipe.inbox() {
+        book.note_answer(&beat.head);
+        far.push_reserved(*beat);
     }
+    pipe.take_all();
 }
 
 // Each side takes all that stands in its inboxes: first the client's side, then the manager's, each

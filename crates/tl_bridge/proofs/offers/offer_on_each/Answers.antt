@@ -12,32 +12,32 @@ use Rattle.tl_bridge.proofs.offers.offer_on_each.Goals as goal
 
 pub offer_next_request-a-requires : goal.offer_next_request-a-requires
 offer_next_request-a-requires g c =
-    (lit< tt, (bridge_part_small g.row.C g.row.M 0 c.requires.client c.requires.manager, (beat_small 24 g.row.C (omega arith) c.requires.client, (c.requires.client, c.requires.manager))))
+    (lit< tt, (bridge_part_small g.row.C g.row.M 0 c.requires.client c.requires.manager, (beat_small 24 g.row.C (omega arith) c.requires.client, (c.requires.client, (c.requires.manager, c.requires.few.a)))))
 
 pub offer_next-c-requires : goal.offer_next-c-requires
 offer_next-c-requires g c =
-    (bridge_part_small g.row.C g.row.M 2 c.requires.client c.requires.manager, (beat_small 24 g.row.C (omega arith) c.requires.client, (c.requires.client, c.requires.manager)))
+    (bridge_part_small g.row.C g.row.M 2 c.requires.client c.requires.manager, (beat_small 24 g.row.C (omega arith) c.requires.client, (c.requires.client, (c.requires.manager, c.requires.few.c))))
 
 pub offer_next-e-requires : goal.offer_next-e-requires
 offer_next-e-requires g c =
-    (bridge_part_small g.row.C g.row.M 4 c.requires.client c.requires.manager, (beat_small 16 g.row.C (omega arith) c.requires.client, (c.requires.client, c.requires.manager)))
+    (bridge_part_small g.row.C g.row.M 4 c.requires.client c.requires.manager, (beat_small 16 g.row.C (omega arith) c.requires.client, (c.requires.client, (c.requires.manager, c.requires.few.e))))
 
 pub offer_next-b-requires : goal.offer_next-b-requires
 offer_next-b-requires g c =
-    (bridge_part_small g.row.C g.row.M 1 c.requires.client c.requires.manager, (beat_small 24 g.row.M (omega arith) c.requires.manager, (c.requires.manager, c.requires.client)))
+    (bridge_part_small g.row.C g.row.M 1 c.requires.client c.requires.manager, (beat_small 24 g.row.M (omega arith) c.requires.manager, (c.requires.manager, (c.requires.client, c.requires.few.b))))
 
 pub offer_next_response-d-requires : goal.offer_next_response-d-requires
 offer_next_response-d-requires g c =
-    (lit< tt, (bridge_part_small g.row.C g.row.M 3 c.requires.client c.requires.manager, (beat_small 24 g.row.M (omega arith) c.requires.manager, (c.requires.manager, c.requires.client))))
+    (lit< tt, (bridge_part_small g.row.C g.row.M 3 c.requires.client c.requires.manager, (beat_small 24 g.row.M (omega arith) c.requires.manager, (c.requires.manager, (c.requires.client, c.requires.few.d)))))
 
-pub returns : goal.returns
-returns g c = λ x k.
+pub returns-clause-offered : goal.returns-clause-offered
+returns-clause-offered g c = λ x k.
     let h = rw (← c.bridge.view_is) at k in
-    let on_a = c.offer_next_request-a.ensures.does (x.client, x.a) (client_asks _ x h) in
-    let on_b = c.offer_next-b.ensures.does x.b h.b in
-    let on_c = c.offer_next-c.ensures.does x.c h.c in
-    let on_d = c.offer_next_response-d.ensures.does (x.manager, x.d) (manager_answers _ x h) in
-    let on_e = c.offer_next-e.ensures.does x.e h.e in
+    let on_a = c.offer_next_request-a.ensures.offered.does (x.client, x.a) (client_asks _ x h) in
+    let on_b = c.offer_next-b.ensures.offered.does x.b h.b in
+    let on_c = c.offer_next-c.ensures.offered.does x.c h.c in
+    let on_d = c.offer_next_response-d.ensures.offered.does (x.manager, x.d) (manager_answers _ x h) in
+    let on_e = c.offer_next-e.ensures.offered.does x.e h.e in
     all-offered (near_beats c.args.script.now) c.args.at.now _ x h _ _
     (on_a.0, on_a.1, on_a.2, subst (λ bs. Does rules_a bs c.args.at.now.a (client_answer x.client) (λ _. 0) x.a c.offer_next_request-a.result on_a.0 on_a.1) c.deref.ensures.value on_a.3)
     (on_b.0, on_b.1, on_b.2, subst (λ bs. Does rules_b bs c.args.at.now.b (stops_alone rules_b x.b.accepted) (λ _. 0) x.b c.offer_next-b.result on_b.0 on_b.1) c.deref-4.ensures.value on_b.3)

@@ -27,7 +27,19 @@ take_from_each-requires g c = (
 )
 
 pub offer_on_each-offers-requires : goal.offer_on_each-offers-requires
-offer_on_each-offers-requires g c = (bridge_small g.row.C g.row.M c.requires.client c.requires.manager, (lit< tt, (c.requires.client, c.requires.manager)))
+offer_on_each-offers-requires g c = (
+  bridge_small g.row.C g.row.M c.requires.client c.requires.manager,
+  (
+    lit< tt,
+    (
+      c.requires.client,
+      (
+        c.requires.manager,
+        counts-fit c.requires.client c.requires.manager (near_beats c.args.script.now) c.args.at.now (beats_of c.args.far.now) c.requires.under_way.past c.requires.under_way.is_at c.requires.short,
+      ),
+    ),
+  ),
+)
 
 pub pump-requires : goal.pump-requires
 pump-requires g c = bridge_small g.row.C g.row.M c.requires.client c.requires.manager
@@ -35,14 +47,9 @@ pump-requires g c = bridge_small g.row.C g.row.M c.requires.client c.requires.ma
 pub fetch-requires : goal.fetch-requires
 fetch-requires g c = bridge_small g.row.C g.row.M c.requires.client c.requires.manager
 
-pub add_accepted-requires : goal.add_accepted-requires
-add_accepted-requires g c = record {
-  few = counts-fit c.requires.client c.requires.manager (near_beats c.args.script.now) c.args.at.now (beats_of c.args.far.now) c.requires.under_way.past c.requires.under_way.is_at c.requires.short;
-}
-
 pub returns-clause-round : goal.returns-clause-round
 returns-clause-round g c = λ x stands at.
-    let h = c.offer_on_each-offers.ensures (after_takes x) (c.take_from_each.ensures.taken x stands) in
+    let h = c.offer_on_each-offers.ensures.offered (after_takes x) (c.take_from_each.ensures.taken x stands) in
     let pumped = c.pump.ensures.moved h.past h.stands in
     has-round c.requires.client c.requires.manager (near_beats c.args.script.now) c.args.at.now (beats_of c.args.far.now) x c.args.bridge.now c.offer_on_each-offers.new.bridge c.offer_on_each-offers.result stands at h
     (beats_of c.take_from_each.new.far) c.fetch.new.self

@@ -1,38 +1,29 @@
-use Rattle.std.proofs.Common.{refl}
-use Rattle.tl_ring.specs.Crossing.{took}
-use Rattle.tl_bridge.specs.Inner.Running.{emptied}
-use Rattle.tl_bridge.proofs.Draining.{PipeStands, emptying-begins, emptying-room, emptying-shorter, emptying-goes-on, emptied-items, emptied-stands, took-all, took-none}
+use Rattle.std.proofs.Common.{◌+◌, ◌++◌, ◌≤◌, length, ap, ◌∙◌, arith}
+use Rattle.std.proofs.lemmas.List.{take_all}
+use Rattle.std.specs.Prelude.{vec_len, vec_capacity}
+use Rattle.tl_bridge.proofs.Draining.{taking-begins, taking-room, taking-goes-on}
 use Rattle.tl_bridge.proofs.taken.take_all.Goals as goal
 
-pub beats-init : goal.beats-init
-beats-init g c = emptying-begins (PipeStands g.K.Channel.rules) emptied (λ p. p.inbox) c.args.pipe.now c.args.far.now c.requires.past c.requires.room
+pub loop-beat-init : goal.loop-beat-init
+loop-beat-init g c = taking-begins c.args.far.now c.inbox-beat-items.result.now
 
 pub push_reserved-requires : goal.push_reserved-requires
 push_reserved-requires g c =
-    emptying-room (PipeStands g.K.Channel.rules) emptied (λ p. p.inbox) c.args.pipe.now c.args.far.now c.beats.pipe c.beats.far c.beats.invariant c.in-Some.beat c.in-Some.ensures.beat
+    let room : vec_len c.args.far.now + length c.inbox-beat-items.result.now ≤ vec_capacity c.args.far.now = rw c.inbox-beat-items.ensures.beats c.requires.room in
+    taking-room c.args.far.now c.inbox-beat-items.result.now c.loop-beat.beat-index c.loop-beat.far c.loop-beat.invariant c.loop-beat-test.true room
 
-pub beats-smaller : goal.beats-smaller
-beats-smaller g c =
-    emptying-shorter (PipeStands g.K.Channel.rules) emptied (λ p. p.inbox) c.args.pipe.now c.args.far.now c.beats.pipe c.beats.far c.beats.invariant took (λ x. x.inbox)
-    (λ p x h. h.inbox) (λ x. refl) c.take.new.self c.in-Some.ensures.taken c.in-Some.beat c.in-Some.ensures.beat
-
-pub beats-preserved : goal.beats-preserved
-beats-preserved g c =
-    emptying-goes-on (PipeStands g.K.Channel.rules) emptied (λ p. p.inbox) c.args.pipe.now c.args.far.now c.beats.pipe c.beats.far c.beats.invariant took (λ x. x.inbox)
-    (λ p x h. h.inbox) (λ x. refl) c.take.new.self c.in-Some.ensures.taken c.in-Some.beat c.push_reserved.new.self c.in-Some.ensures.beat took-all
-    c.push_reserved.ensures.items c.push_reserved.ensures.len c.push_reserved.ensures.capacity
+pub loop-beat-preserved : goal.loop-beat-preserved
+loop-beat-preserved g c =
+    taking-goes-on c.args.far.now c.inbox-beat-items.result.now c.loop-beat.beat-index c.loop-beat.far c.loop-beat.invariant c.beat-item.result c.push_reserved.new.self
+    c.loop-beat-test.true c.beat-item.is c.push_reserved.ensures.items c.push_reserved.ensures.len c.push_reserved.ensures.capacity
 
 pub returns-clause-taken : goal.returns-clause-taken
-returns-clause-taken g c =
-    emptied-stands (PipeStands g.K.Channel.rules) emptied (λ p. p.inbox) c.args.pipe.now c.args.far.now c.beats.pipe c.beats.far c.beats.invariant took (λ x. x.inbox)
-    (λ p x h. h.inbox) (λ x. refl) c.take.new.self c.in_default.ensures.taken c.in_default.ensures.beat took-none
+returns-clause-taken g c = λ x h. c.take_all.ensures x h
 
 pub returns-clause-far : goal.returns-clause-far
 returns-clause-far g c =
-    emptied-items (PipeStands g.K.Channel.rules) emptied (λ p. p.inbox) c.args.pipe.now c.args.far.now c.beats.pipe c.beats.far c.beats.invariant c.in_default.ensures.beat
+    c.loop-beat.invariant.items ∙
+    ap (λ q. c.args.far.now.items ++ q) (take_all c.loop-beat.beat-index c.inbox-beat-items.result.now (omega (arith, c.loop-beat-test.false)) ∙ c.inbox-beat-items.ensures.beats)
 
 pub returns-clause-capacity : goal.returns-clause-capacity
-returns-clause-capacity g c = c.beats.invariant.capacity
-
-pub take-requires : goal.take-requires
-take-requires g c = search refl
+returns-clause-capacity g c = c.loop-beat.invariant.capacity

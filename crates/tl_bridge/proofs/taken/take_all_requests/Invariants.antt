@@ -1,11 +1,11 @@
-use Rattle.std.proofs.Common.{length}
-use Rattle.tl_settle.specs.Histories.{Ask}
-use Rattle.tl_bridge.proofs.Draining.{IsEmptying, AskedStands, noted-all}
+use Rattle.std.proofs.Common.{◌++◌, List, map, take}
+use Rattle.tl_settle.specs.Histories.{Event, Ask}
+use Rattle.tl_sides.specs.Books.{KnowsManager}
+use Rattle.tl_bridge.proofs.Draining.{IsTaking}
 use Rattle.tl_bridge.proofs.taken.take_all_requests.Given as goal
 
-abbrev pub invariant-beats : goal.invariant-beats
-invariant-beats g l =
-    IsEmptying (AskedStands {C = g.row.C} {M = g.row.M}) (noted-all Ask) (λ s. s.1.inbox) (l.fn.book, l.fn.pipe) l.fn.far (l.book, l.pipe) l.far
-
-abbrev pub decreases-beats : goal.decreases-beats
-decreases-beats g l = length l.pipe.inbox
+abbrev pub invariant-loop-beat : goal.invariant-loop-beat
+invariant-loop-beat g l = record {
+  taking : IsTaking l.fn.far l.beat-items l.beat-index l.far;
+  noted : (es : List (Event g.row.M)) → KnowsManager l.fn.book es → KnowsManager l.book (es ++ map Ask (take l.beat-index l.beat-items));
+}
