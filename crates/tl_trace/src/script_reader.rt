@@ -27,12 +27,13 @@ pub fn header_of_text(text: &[u8]) -> Option<Header>
 
 /// Puts the beat of the line from `at` on behind those of its channel, and gives the line's end.
 /// `None`, and the list as it was, where the line has a fault, where its LF is not at its place, and
-/// where a growth is refused.
+/// where a growth is refused, which `no_room` then says, so that it is not asked for again.
 #[inline(always)]
 fn push_line<K: ReadHead, const W: usize, const VERSION: u8>(
     list: &mut Vec<Beat<K, W>>,
     text: &[u8],
     at: usize,
+    no_room: &mut bool,
 ) -> Option<usize>
     requires width { W ≤ WIDEST }
     requires at { at < length text.now }
@@ -48,6 +49,7 @@ fn push_line<K: ReadHead, const W: usize, const VERSION: u8>(
         return None;
     };
     if list.push(beat).is_err() {
+        *no_room = true;
         return None;
     }
     Some(at + long)
@@ -60,6 +62,7 @@ fn push_next<const C: usize, const M: usize, const VERSION: u8>(
     script: &mut Script<C, M>,
     text: &[u8],
     at: usize,
+    no_room: &mut bool,
 ) -> Option<usize>
     requires client { C ≤ WIDEST }
     requires manager { M ≤ WIDEST }
@@ -68,11 +71,11 @@ fn push_next<const C: usize, const M: usize, const VERSION: u8>(
         (IsNextPushed VERSION text.now at script.old script.new) }
 {
     match text[at] {
-        b'A' => push_line::<ChA, C, VERSION>(&mut script.a, text, at),
-        b'B' => push_line::<ChB, M, VERSION>(&mut script.b, text, at),
-        b'C' => push_line::<ChC, C, VERSION>(&mut script.c, text, at),
-        b'D' => push_line::<ChD, M, VERSION>(&mut script.d, text, at),
-        b'E' => push_line::<ChE, C, VERSION>(&mut script.e, text, at),
+        b'A' => push_line::<ChA, C, VERSION>(&mut script.a, text, at, no_room),
+        b'B' => push_line::<ChB, M, VERSION>(&mut script.b, text, at, no_room),
+        b'C' => push_line::<ChC, C, VERSION>(&mut script.c, text, at, no_room),
+        b'D' => push_line::<ChD, M, VERSION>(&mut script.d, text, at, no_room),
+        b'E' => push_line::<ChE, C, VERSION>(&mut script.e, text, at, no_room),
         _ => None,
     }
 }
@@ -94,9 +97,10 @@ fn read_beats<const C: usize, const M: usize, const VERSION: u8>(
     let mut script = empty_script(alloc);
     let mut at = start;
     let mut before = 1u64;
+    let mut no_room = false;
     while at < text.len() {
         let line = before + 1;
-        if let Some(end) = push_next::<C, M, VERSION>(&mut script, text, at) {
+        if let Some(end) = push_next::<C, M, VERSION>(&mut script, text, at, &mut no_room) {
             at = end + 1;
             before = line;
             continue;
@@ -111,7 +115,7 @@ fn read_beats<const C: usize, const M: usize, const VERSION: u8>(
             let kind = TraceKind::NoEnd;
             return Err(TraceFault { line, kind });
         }
-        if push_near(&mut script, near).is_err() {
+        if no_room || push_near(&mut script, near).is_err() {
             let kind = TraceKind::OutOfMemory;
             return Err(TraceFault { line, kind });
         }

@@ -37,8 +37,8 @@ returns-then-end-text-clause-fault g c _ =
     let p = c.loop-at.invariant in
     no_end c.args.text.now c.args.start g.row.VERSION g.row.C g.row.M p.lines c.loop-at.at c.loop-at.before c.next_line-end.result.0 c.in-Ok.read p.far line c.loop-at-test.true ok c.if-end-text.true
 
-pub returns-then-is_err-clause-memory : goal.returns-then-is_err-clause-memory
-returns-then-is_err-clause-memory g c _ =
+pub returns-then-no_room-clause-memory : goal.returns-then-no_room-clause-memory
+returns-then-no_room-clause-memory g c _ =
     let line = c.next_line-end.ensures.line in
     let ok = rw c.in-Ok.is at c.next_line-end.ensures.ok in
     let p = c.loop-at.invariant in
