@@ -11,9 +11,10 @@ is left, and then lays the messages out at the other width, byte by byte. bench/
 import sys
 from dataclasses import dataclass, field
 
-WIDTHS = (1, 2, 4, 8, 16, 32, 64)
-# The versions of a trace, each with the digits of a source and of a sink in its lines.
+WIDTHS = (1, 2, 4, 8, 16, 32, 64, 128)
+# The versions of a trace, each with the digits of a source and of a sink in its lines, and with its widest bus.
 ID_DIGITS = {1: 2, 2: 4}
+WIDEST = {1: 64, 2: 128}
 CHANNELS = "ABCDE"
 MASKED = "AB"
 MOST_BYTES = 67_108_864
@@ -134,12 +135,17 @@ def template(version, channel, width):
     return places
 
 
+def has_widths(version, client, manager):
+    """Whether a header of the version may name these two widths."""
+    return max(client, manager) <= WIDEST[version]
+
+
 TEMPLATES = {
     (version, channel, width): template(version, channel, width) for version in ID_DIGITS for channel in CHANNELS for width in WIDTHS
 }
 HEADERS = {
     f"tilelink-trace {version} client {client} manager {manager}".encode(): (version, client, manager)
-    for version in ID_DIGITS for client in WIDTHS for manager in WIDTHS
+    for version in ID_DIGITS for client in WIDTHS for manager in WIDTHS if has_widths(version, client, manager)
 }
 DIGITS = b"0123456789abcdef"
 

@@ -1,7 +1,7 @@
 /* A TileLink clock and width bridge for C: both sides in one thread, behind a handle, or each in a thread of its own, behind two.
  *
- * A library libtlbridge_C_M.a is for one pair of widths: C bytes on the client's link, M on the manager's, each 1, 2, 4, 8, 16, 32 or
- * 64 (bench/make-library C M makes it). TLBRIDGE(C, M) declares its calls, and may stand for several pairs in one file:
+ * A library libtlbridge_C_M.a is for one pair of widths: C bytes on the client's link, M on the manager's, each 1, 2, 4, 8, 16, 32, 64
+ * or 128 (bench/make-library C M makes it). TLBRIDGE(C, M) declares its calls, and may stand for several pairs in one file:
  *
  *     #include "tlbridge.h"
  *     TLBRIDGE(8, 4)
@@ -44,7 +44,7 @@
 #include <stdlib.h>
 
 /* The library's version that this header is of: another has other calls or other structures. */
-#define TL_VERSION 3
+#define TL_VERSION 4
 
 /* What offer, close and open answer. 0 is success; in each other case nothing changed (but that a refused open leaves no bridge). */
 enum {
@@ -88,11 +88,19 @@ enum {
 /* The most beats that a ring holds. */
 #define TL_MAX_RING 4096
 
-/* The fields of a beat on any channel, but its lanes: 32 bytes with no gap between two fields. A field that the channel lacks is not
- * read, and is written 0. */
+/* The lanes of the widest link. */
+#define TL_WIDEST 128
+
+/* The fields of a beat on any channel, but its lanes: 40 bytes with no gap between two fields. A field that the channel lacks is not
+ * read, and is written 0.
+ *
+ * A mask has a bit for each lane: lanes 0 to 63 in `mask`, lane 0 lowest, and lanes 64 to 127 in `mask_high`, lane 64 lowest. A program
+ * for links of at most 64 lanes need not name `mask_high`, if a beat is all zero but for the fields that it sets, as in
+ * `tl_beat get = {.opcode = 4, .size = 3, .mask = 0xff};`. On such a link a bit in `mask_high` is TL_MASK, as any other past the width,
+ * and it is written 0. */
 typedef struct {
     uint64_t address;    /* A, B, C */
-    uint64_t mask;       /* A, B: one bit per lane, lane 0 lowest */
+    uint64_t mask;       /* A, B: lanes 0 to 63 */
     uint16_t source;     /* A to D; byte 16 */
     uint16_t sink;       /* D, E; byte 18 */
     uint8_t opcode;      /* A to D; byte 20 */
@@ -101,6 +109,7 @@ typedef struct {
     uint8_t denied;      /* D: 0, or any other number for set; written 0 or 1 */
     uint8_t corrupt;     /* A to D: as denied; byte 24 */
     uint8_t reserved[7]; /* not read, and written 0 */
+    uint64_t mask_high;  /* A, B: lanes 64 to 127; byte 32 */
 } tl_beat;
 
 /* How many far beats of one channel wait at each place. */
@@ -231,6 +240,19 @@ typedef struct {
     uint8_t TL_SIDES_CALL(cw, mw, close_##x)(TL_SIDES_CALL(cw, mw, near) *near);
 
 TL_BEGIN
+
+/* Whether the mask of a beat has the bit of a lane, 0 to 127. */
+static inline bool tl_mask_has(const tl_beat *beat, unsigned lane) {
+    return (lane < 64 ? beat->mask >> lane : beat->mask_high >> (lane - 64)) & 1;
+}
+
+/* Sets the bit of a lane, 0 to 127, in the mask of a beat. */
+static inline void tl_mask_add(tl_beat *beat, unsigned lane) {
+    if (lane < 64)
+        beat->mask |= (uint64_t)1 << lane;
+    else
+        beat->mask_high |= (uint64_t)1 << (lane - 64);
+}
 
 /* The answer to a whole trace, or why there is none. It is of another library, libtlbridge_trace.a, which has no pair of widths:
  * bench/make-library trace makes it. */

@@ -1,5 +1,5 @@
-/* What sv/tlbridge_pkg.sv imports: the calls of include/tlbridge.h with beats as scalars and data as vectors of bits. It is glue, and not
- * proved. Compiled with the same TLBRIDGE_CLIENT and TLBRIDGE_MANAGER as the package. */
+/* What sv/tlbridge_pkg.sv imports: the calls of include/tlbridge.h with beats as scalars, and masks and data as vectors of bits. It is
+ * glue, and not proved. Compiled with the same TLBRIDGE_CLIENT and TLBRIDGE_MANAGER as the package. */
 #include "tlbridge.h"
 #include <stdlib.h>
 #include <string.h>
@@ -26,6 +26,17 @@ static void read_lanes(uint8_t *lanes, const svBitVecVal *data, int width) {
 static void write_lanes(svBitVecVal *data, const uint8_t *lanes, int width) {
     memset(data, 0, sizeof *data * (size_t)((width + 3) / 4));
     for (int i = 0; i < width; i++) data[i / 4] |= (svBitVecVal)lanes[i] << (8 * (i % 4));
+}
+
+/* Lane i is bit i, in words of 32 bits. */
+static void read_mask(tl_beat *beat, const svBitVecVal *mask, int width) {
+    for (int i = 0; i < width; i++)
+        if (mask[i / 32] >> (i % 32) & 1) tl_mask_add(beat, (unsigned)i);
+}
+
+static void write_mask(svBitVecVal *mask, const tl_beat *beat, int width) {
+    memset(mask, 0, sizeof *mask * (size_t)((width + 31) / 32));
+    for (int i = 0; i < width; i++) mask[i / 32] |= (svBitVecVal)tl_mask_has(beat, (unsigned)i) << (i % 32);
 }
 
 void *tlbridge_handle(void) {
@@ -97,22 +108,22 @@ static tl_beat message(uint8_t opcode, uint8_t param, uint8_t size, uint16_t sou
 
 /* A and B, which have a mask. */
 #define MASKED(x, near_width, far_width) \
-    uint8_t tlbridge_offer_##x(void *bridge, uint8_t opcode, uint8_t param, uint8_t size, uint16_t source, uint64_t address, uint64_t mask, \
-                               const svBitVecVal *data, svBit corrupt) { \
+    uint8_t tlbridge_offer_##x(void *bridge, uint8_t opcode, uint8_t param, uint8_t size, uint16_t source, uint64_t address, \
+                               const svBitVecVal *mask, const svBitVecVal *data, svBit corrupt) { \
         tl_beat beat = message(opcode, param, size, source, address, corrupt); \
         uint8_t lanes[near_width]; \
-        beat.mask = mask; \
+        read_mask(&beat, mask, near_width); \
         read_lanes(lanes, data, near_width); \
         return CALL(offer_##x)(BRIDGE, &beat, lanes); \
     } \
-    svBit tlbridge_take_##x(void *bridge, uint8_t *opcode, uint8_t *param, uint8_t *size, uint16_t *source, uint64_t *address, uint64_t *mask, \
-                            svBitVecVal *data, svBit *corrupt) { \
+    svBit tlbridge_take_##x(void *bridge, uint8_t *opcode, uint8_t *param, uint8_t *size, uint16_t *source, uint64_t *address, \
+                            svBitVecVal *mask, svBitVecVal *data, svBit *corrupt) { \
         tl_beat beat = {}; \
         uint8_t lanes[far_width] = {0}; \
         svBit some = CALL(take_##x)(BRIDGE, &beat, lanes); \
         HEAD_OF(beat); \
         *address = beat.address; \
-        *mask = beat.mask; \
+        write_mask(mask, &beat, far_width); \
         *corrupt = beat.corrupt; \
         write_lanes(data, lanes, far_width); \
         return some; \

@@ -185,13 +185,14 @@ static void messages(void) {
 static void refusals(void) {
     handle bridge = {0};
     uint8_t lanes[MAX_LANES] = {0};
-    uint64_t whole = CLIENT == 64 ? UINT64_MAX : ((uint64_t)1 << CLIENT) - 1;
     tl_standings all;
-    CHECK(CALL(open)(&bridge, 64) == TL_OK);
+    CHECK(CALL(open)(&bridge, TL_WIDEST) == TL_OK);
     /* a PutFullData of two near beats */
     uint8_t size = 1;
     while (1 << size < 2 * CLIENT) size++;
-    tl_beat put = {.size = size, .source = 7, .mask = whole}, beat = put;
+    tl_beat put = {.size = size, .source = 7}, beat;
+    fill_mask(&put, CLIENT);
+    beat = put;
     beat.opcode = 8;
     CHECK(offer[A](&bridge, &beat, lanes) == TL_OPCODE);
     beat = put, beat.param = 1;
@@ -202,6 +203,8 @@ static void refusals(void) {
     CHECK(offer[A](&bridge, &beat, lanes) == TL_UNALIGNED);
     beat = put, beat.mask ^= 1;
     CHECK(offer[A](&bridge, &beat, lanes) == TL_MASK);
+    beat = put, beat.mask_high ^= (uint64_t)1 << 63;
+    CHECK(offer[A](&bridge, &beat, lanes) == TL_MASK);
     beat = put, beat.opcode = 4, beat.corrupt = 200;
     CHECK(offer[A](&bridge, &beat, lanes) == TL_CORRUPT);
     CHECK(CALL(standings)(&bridge, &all) && CALL(drained)(&bridge));
@@ -209,7 +212,7 @@ static void refusals(void) {
     CHECK(offer[A](&bridge, &put, lanes) == TL_NOT_READY);
     CHECK(close_it[A](&bridge) == TL_OK && !ready[A](&bridge));
 
-    CHECK(CALL(open)(&bridge, 64) == TL_OK);
+    CHECK(CALL(open)(&bridge, TL_WIDEST) == TL_OK);
     tl_beat response = {.size = size, .source = 7};
     CHECK(offer[D](&bridge, &response, lanes) == TL_NO_REQUEST);
     CHECK(offer[A](&bridge, &put, lanes) == TL_OK);
@@ -234,26 +237,26 @@ static void refusals(void) {
     CALL(free)(&bridge);
 }
 
-/* The bridge of ids_of_16_bits. */
-static handle ids;
+/* The bridge of ids_of_16_bits and of last_lanes. */
+static handle shared;
 
-static uint8_t offer_ids(int x, const tl_beat *beat, const uint8_t *lanes) {
-    return offer[x](&ids, beat, lanes);
+static uint8_t offer_shared(int x, const tl_beat *beat, const uint8_t *lanes) {
+    return offer[x](&shared, beat, lanes);
 }
 
-static bool take_ids(int x, tl_beat *beat, uint8_t *lanes) {
-    return take[x](&ids, beat, lanes);
+static bool take_shared(int x, tl_beat *beat, uint8_t *lanes) {
+    return take[x](&shared, beat, lanes);
 }
 
-static void settle_ids(void) {
-    settle(&ids);
+static void settle_shared(void) {
+    settle(&shared);
 }
 
-static void wide_ids(void) {
-    CHECK(CALL(open)(&ids, 4) == TL_OK);
-    ids_of_16_bits(&(bridge_calls){offer_ids, take_ids, settle_ids});
-    CHECK(CALL(drained)(&ids));
-    CALL(free)(&ids);
+static void over_shared(void (*test)(const bridge_calls *)) {
+    CHECK(CALL(open)(&shared, 4) == TL_OK);
+    test(&(bridge_calls){offer_shared, take_shared, settle_shared});
+    CHECK(CALL(drained)(&shared));
+    CALL(free)(&shared);
 }
 
 /* Random calls with random fields: what each answers agrees with the standings before and after it. */
@@ -263,7 +266,8 @@ static void random_calls(int count) {
         handle *bridge = &bridges[draw(2)];
         tl_standings before, after;
         bool held = CALL(standings)(bridge, &before);
-        tl_beat beat = {.address = draw(2) ? 0 : draw((uint64_t)1 << 40) << 8, .mask = draw(2) ? UINT64_MAX >> (64 - CLIENT) : UINT64_MAX >> (64 - MANAGER)};
+        tl_beat beat = {.address = draw(2) ? 0 : draw((uint64_t)1 << 40) << 8};
+        fill_mask(&beat, draw(2) ? CLIENT : MANAGER);
         beat.opcode = (uint8_t)draw(9);
         beat.param = (uint8_t)(draw(4) ? 0 : draw(8));
         beat.size = (uint8_t)(draw(2) ? 3 : draw(14));
@@ -309,7 +313,7 @@ static void random_calls(int count) {
         } else {
             bool pumps = what % 2;
             moved = pumps ? CALL(pump)(bridge) : CALL(fetch)(bridge);
-            CHECK(moved <= 320);
+            CHECK(moved <= 5 * TL_WIDEST);
             if (CALL(standings)(bridge, &after)) {
                 for (int y = A; y < CHANNELS; y++) {
                     tl_counts b = counts_of(&before, y), a = counts_of(&after, y);
@@ -334,7 +338,8 @@ int main(void) {
     handles();
     without_memory();
     refusals();
-    wide_ids();
+    over_shared(ids_of_16_bits);
+    over_shared(last_lanes);
     messages();
     random_calls(10000);
     printf("%d to %d bytes: %ld checks passed, %ld failed\n", CLIENT, MANAGER, passed, failed);

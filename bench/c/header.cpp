@@ -8,8 +8,9 @@ TLBRIDGE(8, 4)
 TLBRIDGE(4, 8)
 TLBRIDGE_SIDES(8, 4)
 
-static_assert(sizeof(tl_beat) == 32 && offsetof(tl_beat, source) == 16 && offsetof(tl_beat, sink) == 18 && offsetof(tl_beat, opcode) == 20 &&
-                  offsetof(tl_beat, corrupt) == 24 && offsetof(tl_beat, reserved) == 25,
+static_assert(sizeof(tl_beat) == 40 && offsetof(tl_beat, mask) == 8 && offsetof(tl_beat, source) == 16 && offsetof(tl_beat, sink) == 18 &&
+                  offsetof(tl_beat, opcode) == 20 && offsetof(tl_beat, corrupt) == 24 && offsetof(tl_beat, reserved) == 25 &&
+                  offsetof(tl_beat, mask_high) == 32,
               "a beat");
 static_assert(sizeof(tl_8_4_handle) == 16 && sizeof(tl_standings) == 15 * sizeof(std::size_t), "a handle and the standings");
 static_assert(sizeof(tl_sides_8_4_client) == 16 && offsetof(tl_sides_8_4_manager, live) == 8, "the handles of the two sides");

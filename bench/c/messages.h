@@ -30,7 +30,7 @@ enum { A, B, C, D, E, CHANNELS };
 static const int near_width[] = {CLIENT, MANAGER, CLIENT, MANAGER, CLIENT};
 static const int far_width[] = {MANAGER, CLIENT, MANAGER, CLIENT, MANAGER};
 
-enum { MAX_LANES = 64, MAX_BYTES = 4096 };
+enum { MAX_LANES = TL_WIDEST, MAX_BYTES = 4096 };
 
 /* A message, and its layout at a width: docs/SPECIFICATION.md, sections 3 and 4, over the home of its bytes. */
 typedef struct {
@@ -43,7 +43,7 @@ typedef struct {
 } message;
 
 static int beat_bytes(const message *m, int width) {
-    return m->head.size >= 6 || 1 << m->head.size > width ? width : 1 << m->head.size;
+    return 1 << m->head.size > width ? width : 1 << m->head.size;
 }
 
 static int beat_count(const message *m, int width) {
@@ -57,13 +57,24 @@ static void lay_out(const message *m, int x, int width, int at, tl_beat *beat, u
     for (int k = 0; k < bytes; k++) {
         int i = at * bytes + k, lane = (int)((m->home + (uint64_t)i) % (uint64_t)width);
         if (m->data) lanes[lane] = m->bytes[i];
-        if ((x == A || x == B) && (!m->data || m->on[i])) beat->mask |= (uint64_t)1 << lane;
+        if ((x == A || x == B) && (!m->data || m->on[i])) tl_mask_add(beat, (unsigned)lane);
         if (m->data && m->bad[i]) beat->corrupt = 1;
     }
 }
 
 static uint16_t draw_id(void) {
     return (uint16_t)draw(65536);
+}
+
+/* Sets the mask bits of the first lanes of a beat. */
+static void fill_mask(tl_beat *beat, int lanes) {
+    for (int lane = 0; lane < lanes; lane++) tl_mask_add(beat, (unsigned)lane);
+}
+
+/* Whether the mask has the bit of this lane alone. */
+static bool has_one_lane(const tl_beat *beat, int lane) {
+    uint64_t bit = (uint64_t)1 << lane % 64;
+    return tl_mask_has(beat, (unsigned)lane) && beat->mask == (lane < 64 ? bit : 0) && beat->mask_high == (lane < 64 ? 0 : bit);
 }
 
 /* A lawful message on channel x; one of a response has the source, size and home that are given. */
@@ -146,4 +157,39 @@ static void ids_of_16_bits(const bridge_calls *bridge) {
     CHECK(bridge->take(B, &beat, lanes) && same(&beat, &probe));
     CHECK(bridge->take(C, &beat, lanes) && same(&beat, &release));
     CHECK(bridge->take(E, &beat, lanes) && same(&beat, &ack));
+}
+
+/* The last lane of each link, and the lanes past it: over a bridge on which nothing was sent yet. */
+static void last_lanes(const bridge_calls *bridge) {
+    uint8_t lanes[MAX_LANES] = {0}, far_lanes[MAX_LANES];
+    tl_beat far;
+    for (int x = A; x <= B; x++) {
+        int near_last = near_width[x] - 1, far_last = far_width[x] - 1;
+        /* PutPartialData of the byte at an address that has the last lane of every width */
+        tl_beat put = {.opcode = 1, .source = 0x0011, .address = TL_WIDEST - 1}, beat;
+        tl_mask_add(&put, (unsigned)near_last);
+        for (int lane = near_width[x]; lane < MAX_LANES; lane++) {
+            beat = put;
+            tl_mask_add(&beat, (unsigned)lane);
+            CHECK(bridge->offer(x, &beat, lanes) == TL_MASK);
+        }
+        lanes[near_last] = 0xa5;
+        CHECK(bridge->offer(x, &put, lanes) == TL_OK);
+        lanes[near_last] = 0;
+        bridge->settle();
+        CHECK(bridge->take(x, &far, far_lanes) && has_one_lane(&far, far_last) && far_lanes[far_last] == 0xa5);
+        /* the same of a whole beat, with its last byte alone in the mask: the last far beat has it */
+        uint8_t size = 0;
+        while (1 << size < near_width[x]) size++;
+        put = (tl_beat){.opcode = 1, .size = size, .source = 0x0012};
+        tl_mask_add(&put, (unsigned)near_last);
+        CHECK(bridge->offer(x, &put, lanes) == TL_OK);
+        bridge->settle();
+        for (int first = 0; first < near_width[x]; first += far_width[x]) {
+            bool is_last = first + far_width[x] >= near_width[x];
+            CHECK(bridge->take(x, &far, far_lanes));
+            CHECK(is_last ? has_one_lane(&far, near_last % far_width[x]) : far.mask == 0 && far.mask_high == 0);
+        }
+        CHECK(!bridge->take(x, &far, far_lanes));
+    }
 }

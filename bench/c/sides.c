@@ -151,12 +151,13 @@ static void refusals(void) {
     client_handle client = {0};
     manager_handle manager = {0};
     uint8_t lanes[MAX_LANES] = {0};
-    uint64_t whole = CLIENT == 64 ? UINT64_MAX : ((uint64_t)1 << CLIENT) - 1;
-    CHECK(CALL(open)(&client, &manager, 64) == TL_OK);
+    CHECK(CALL(open)(&client, &manager, TL_WIDEST) == TL_OK);
     /* a PutFullData of two near beats */
     uint8_t size = 1;
     while (1 << size < 2 * CLIENT) size++;
-    tl_beat put = {.size = size, .source = 7, .mask = whole}, beat = put;
+    tl_beat put = {.size = size, .source = 7}, beat;
+    fill_mask(&put, CLIENT);
+    beat = put;
     beat.opcode = 8;
     CHECK(offer_a(&client, &beat, lanes) == TL_OPCODE);
     beat = put, beat.param = 1;
@@ -167,13 +168,15 @@ static void refusals(void) {
     CHECK(offer_a(&client, &beat, lanes) == TL_UNALIGNED);
     beat = put, beat.mask ^= 1;
     CHECK(offer_a(&client, &beat, lanes) == TL_MASK);
+    beat = put, beat.mask_high ^= (uint64_t)1 << 63;
+    CHECK(offer_a(&client, &beat, lanes) == TL_MASK);
     beat = put, beat.opcode = 4, beat.corrupt = 200;
     CHECK(offer_a(&client, &beat, lanes) == TL_CORRUPT);
     CHECK(CALL(pump_client)(&client) == 0 && close_a(&client) == TL_OK);
     CHECK(offer_a(&client, &put, lanes) == TL_NOT_READY);
     CHECK(close_a(&client) == TL_OK && !ready_a(&client));
 
-    CHECK(CALL(open)(&client, &manager, 64) == TL_OK);
+    CHECK(CALL(open)(&client, &manager, TL_WIDEST) == TL_OK);
     tl_beat response = {.size = size, .source = 7};
     CHECK(offer_d(&manager, &response, lanes) == TL_NO_REQUEST);
     CHECK(offer_a(&client, &put, lanes) == TL_OK);
@@ -199,27 +202,27 @@ static void refusals(void) {
     CALL(free_manager)(&manager);
 }
 
-/* The bridge of ids_of_16_bits. */
-static client_handle ids_client;
-static manager_handle ids_manager;
+/* The bridge of ids_of_16_bits and of last_lanes. */
+static client_handle shared_client;
+static manager_handle shared_manager;
 
-static uint8_t offer_ids(int x, const tl_beat *beat, const uint8_t *lanes) {
-    return offer[x](from_client(x) ? (void *)&ids_client : (void *)&ids_manager, beat, lanes);
+static uint8_t offer_shared(int x, const tl_beat *beat, const uint8_t *lanes) {
+    return offer[x](from_client(x) ? (void *)&shared_client : (void *)&shared_manager, beat, lanes);
 }
 
-static bool take_ids(int x, tl_beat *beat, uint8_t *lanes) {
-    return take[x](from_client(x) ? (void *)&ids_manager : (void *)&ids_client, beat, lanes);
+static bool take_shared(int x, tl_beat *beat, uint8_t *lanes) {
+    return take[x](from_client(x) ? (void *)&shared_manager : (void *)&shared_client, beat, lanes);
 }
 
-static void settle_ids(void) {
-    settle(&ids_client, &ids_manager);
+static void settle_shared(void) {
+    settle(&shared_client, &shared_manager);
 }
 
-static void wide_ids(void) {
-    CHECK(CALL(open)(&ids_client, &ids_manager, 4) == TL_OK);
-    ids_of_16_bits(&(bridge_calls){offer_ids, take_ids, settle_ids});
-    CALL(free_client)(&ids_client);
-    CALL(free_manager)(&ids_manager);
+static void over_shared(void (*test)(const bridge_calls *)) {
+    CHECK(CALL(open)(&shared_client, &shared_manager, 4) == TL_OK);
+    test(&(bridge_calls){offer_shared, take_shared, settle_shared});
+    CALL(free_client)(&shared_client);
+    CALL(free_manager)(&shared_manager);
 }
 
 /* What waits, and where, of beats of E, of which each near beat makes one far beat. */
@@ -534,7 +537,8 @@ int main(int count, char **words) {
     handles();
     without_memory();
     refusals();
-    wide_ids();
+    over_shared(ids_of_16_bits);
+    over_shared(last_lanes);
     meetings();
     a_side_goes();
     a_side_goes_in_its_thread();

@@ -74,6 +74,10 @@ static void refusals(void) {
     refused("\n", 1, TL_HEADER, 1);
     refused("tilelink-trace 1 client 3 manager 4\n", 36, TL_HEADER, 1);
     refused("tilelink-trace 3 client 8 manager 4\n", 36, TL_HEADER, 1);
+    /* a link of 128 bytes is of version 2 alone */
+    refused("tilelink-trace 1 client 128 manager 4\n", 38, TL_HEADER, 1);
+    refused("tilelink-trace 2 client 4 manager 256\n", 38, TL_HEADER, 1);
+    refused("tilelink-trace 2 client 128 manager 4\nE 0x07\n", 45, TL_SHAPE, 2);
     refused(header, strlen(header) - 1, TL_NO_END, 1);
     /* version 2, whose ids have four digits */
     static const char short_id[] = "tilelink-trace 2 client 8 manager 4\nE 0107\nE 07\n";

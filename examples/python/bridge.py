@@ -9,12 +9,13 @@ import sys
 
 CLIENT, MANAGER = 8, 4
 FAR = {"a": MANAGER, "b": CLIENT, "c": MANAGER, "d": CLIENT, "e": MANAGER}
-VERSION = 3  # of the library whose structures these are
+VERSION = 4  # of the library whose structures these are
 
 
 class Beat(c.Structure):
     _fields_ = ([(n, c.c_uint64) for n in ("address", "mask")] + [(n, c.c_uint16) for n in ("source", "sink")] +
-                [(n, c.c_uint8) for n in ("opcode", "param", "size", "denied", "corrupt")] + [("reserved", c.c_uint8 * 7)])
+                [(n, c.c_uint8) for n in ("opcode", "param", "size", "denied", "corrupt")] +
+                [("reserved", c.c_uint8 * 7), ("mask_high", c.c_uint64)])
 
 
 class Handle(c.Structure):
@@ -49,7 +50,7 @@ class Bridge:
         beat, lanes = Beat(), (c.c_uint8 * FAR[channel])()
         while self.call("pump")(c.byref(self.handle)) + self.call("fetch")(c.byref(self.handle)):
             while self.call("take_" + channel)(c.byref(self.handle), c.byref(beat), lanes):
-                yield {n: getattr(beat, n) for n, _ in Beat._fields_[:-1]}, bytes(lanes)
+                yield {n: getattr(beat, n) for n, _ in Beat._fields_ if n != "reserved"}, bytes(lanes)
 
     def close(self):
         self.call("free")(c.byref(self.handle))

@@ -5,6 +5,7 @@ use linked_list_allocator::LocalHeap;
 use std::alloc::Global;
 use std::test::Fail;
 use tl_bridge::{Standings, SyncBridge};
+use tl_lanes::Mask;
 use tl_msg::{
     Beat, BeatFault, BeatOf, ChA, ChB, ChD, ChE, HeadB, HeadC, HeadE, SideFault, SourceId,
 };
@@ -86,7 +87,7 @@ enum Said {
     Moved(usize),
     Nothing,
     /// The mask of a beat of A.
-    Asked(u64),
+    Asked(Mask),
     /// The lanes of a beat of D.
     Answered([u8; 4]),
 }
@@ -101,7 +102,7 @@ fn as_said(answer: Answer) -> Said {
 }
 
 /// The mask of the beat that the manager's side takes from A.
-fn asked_mask(bridge: &mut SyncBridge<4, 16>) -> Option<u64> {
+fn asked_mask(bridge: &mut SyncBridge<4, 16>) -> Option<Mask> {
     let beat = bridge.take_a()?;
     Some(beat.mask)
 }

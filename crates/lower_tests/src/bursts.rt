@@ -5,7 +5,7 @@ use tl_msg::BeatFault::{self, Corrupt, HeadChanged, Mask, Opcode, Param, Size, U
 use tl_msg::{BeatOf, ChA, ChB, ChC, ChD, ChE, Channel, HeadA, HeadB, HeadC, HeadD, HeadE};
 
 /// A beat of 4 lanes, all of them 0.
-fn beat<H>(head: H, mask: u64, corrupt: bool) -> BeatOf<H, 4> {
+fn beat<H>(head: H, mask: tl_lanes::Mask, corrupt: bool) -> BeatOf<H, 4> {
     BeatOf {
         head,
         mask,
@@ -41,14 +41,14 @@ fn d(opcode: u8, param: u8, size: u8) -> HeadD {
 fn fault_on_a(
     tracker: &Tracker<ChA, 4>,
     head: HeadA,
-    mask: u64,
+    mask: tl_lanes::Mask,
     corrupt: bool,
 ) -> Option<BeatFault> {
     tracker.check(&beat(head, mask, corrupt)).err()
 }
 
 /// The fault of a beat on B that comes first.
-fn fault_on_b(head: HeadB, mask: u64) -> Option<BeatFault> {
+fn fault_on_b(head: HeadB, mask: tl_lanes::Mask) -> Option<BeatFault> {
     Tracker::<ChB, 4>::new()
         .check(&beat(head, mask, false))
         .err()
@@ -82,7 +82,7 @@ fn begun(head: HeadD) -> Tracker<ChD, 4> {
 }
 
 /// The opcode, param, size, address, mask and corrupt of a beat on A, and its fault as the first one.
-const FIRST: [(u8, u8, u8, u64, u64, bool, Option<BeatFault>); 16] = [
+const FIRST: [(u8, u8, u8, u64, tl_lanes::Mask, bool, Option<BeatFault>); 17] = [
     (8, 0, 2, 0, 15, false, Some(Opcode)),
     (4, 1, 2, 0, 15, false, Some(Param)),
     (4, 1, 13, 0, 15, false, Some(Param)),
@@ -92,6 +92,7 @@ const FIRST: [(u8, u8, u8, u64, u64, bool, Option<BeatFault>); 16] = [
     (4, 0, 2, 2, 15, false, Some(Unaligned)),
     (4, 0, 2, 0, 7, false, Some(Mask)),
     (4, 0, 2, 0, 0x1f, false, Some(Mask)),
+    (4, 0, 2, 0, 1 << 64 | 15, false, Some(Mask)),
     (4, 0, 2, 0, 15, true, Some(Corrupt)),
     (4, 0, 2, 4, 15, false, None),
     // PutPartialData of 2 bytes on lanes 2 and 3

@@ -1,6 +1,6 @@
 use arrayvec::ArrayVec;
 use tl_convert::{Converter, far_count, far_room};
-use tl_lanes::is_width;
+use tl_lanes::{Mask, is_width};
 use tl_msg::{Beat, BeatFault, BeatOf, ChA, ChD, HeadA, HeadD};
 
 /// Whether a converter of D takes this near beat, and gives these far beats for it.
@@ -31,7 +31,7 @@ fn counting<const W: usize>(first: u8) -> [u8; W] {
 }
 
 /// A beat of PutFullData of 16 bytes, of source 1.
-fn put<const W: usize>(address: u64, mask: u64, lanes: [u8; W]) -> Beat<ChA, W> {
+fn put<const W: usize>(address: u64, mask: Mask, lanes: [u8; W]) -> Beat<ChA, W> {
     let head = HeadA {
         opcode: 0,
         param: 0,
@@ -188,21 +188,23 @@ fn boundaries_of_a_burst(rt: HostRuntime) {
     }
 }
 
-/// Whether a converter takes this near beat, and gives this far beat alone for it.
-#[tactic(auto, using(tl_lanes::proofs::Widths::width_1, tl_lanes::proofs::Widths::width_64))]
-fn gives_one(
-    converter: &mut Converter<ChA, 64, 1>,
-    near: Beat<ChA, 64>,
-    far: Beat<ChA, 1>,
+/// Whether a converter of A takes this near beat, and gives these far beats for it.
+fn gives_requests<const W: usize, const V: usize>(
+    converter: &mut Converter<ChA, W, V>,
+    near: Beat<ChA, W>,
+    far: &[Beat<ChA, V>],
 ) -> bool {
+    if !is_width(W) || !is_width(V) {
+        return false;
+    }
     match converter.feed(near, 0) {
-        Ok(out) => out.as_slice() == [far].as_slice(),
+        Ok(out) => out.as_slice() == far,
         Err(_) => false,
     }
 }
 
 #[test]
-#[tactic(auto, using(tl_lanes::proofs::Widths::width_1, tl_lanes::proofs::Widths::width_64))]
+#[tactic(auto, using(tl_lanes::proofs::Widths::width_1, tl_lanes::proofs::Widths::width_128))]
 fn request_of_4096_bytes(rt: HostRuntime) {
     let head = HeadA {
         opcode: 4,
@@ -213,8 +215,8 @@ fn request_of_4096_bytes(rt: HostRuntime) {
     };
     let near = BeatOf {
         head,
-        mask: u64::MAX,
-        lanes: [0x55; 64],
+        mask: Mask::MAX,
+        lanes: [0x55; 128],
         corrupt: false,
     };
     let far = BeatOf {
@@ -223,8 +225,66 @@ fn request_of_4096_bytes(rt: HostRuntime) {
         lanes: [0],
         corrupt: false,
     };
-    let mut converter = Converter::<ChA, 64, 1>::new();
-    assert!(rt; gives_one(&mut converter, near, far));
+    let mut converter = Converter::<ChA, 128, 1>::new();
+    assert!(rt; gives_requests(&mut converter, near, &[far]));
+    assert!(rt; converter.at_boundary());
+}
+
+/// A beat of PutPartialData of 128 bytes.
+fn partial<const W: usize>(mask: Mask, first: u8, corrupt: bool) -> Beat<ChA, W> {
+    let head = HeadA {
+        opcode: 1,
+        param: 0,
+        size: 7,
+        source: 0x102,
+        address: 0x80,
+    };
+    BeatOf {
+        head,
+        mask,
+        lanes: counting(first),
+        corrupt,
+    }
+}
+
+/// The mask bits of the lower and of the upper half of a bus of 128 lanes, and both.
+const LOW: Mask = 0xf00000000000000f;
+
+const HIGH: Mask = 0x8000000000000001;
+
+const BOTH: Mask = HIGH << 64 | LOW;
+
+#[test]
+#[tactic(auto, using(tl_lanes::proofs::Widths::width_64, tl_lanes::proofs::Widths::width_128))]
+fn masks_of_both_halves(rt: HostRuntime) {
+    let mut narrow = Converter::<ChA, 128, 64>::new();
+    let far = [partial(LOW, 0, true), partial(HIGH, 64, true)];
+    assert!(rt; gives_requests(&mut narrow, partial(BOTH, 0, true), &far));
+    assert!(rt; narrow.at_boundary());
+
+    let mut wide = Converter::<ChA, 64, 128>::new();
+    assert!(rt; gives_requests(&mut wide, partial(LOW, 0, false), &[]));
+    assert!(rt; !wide.at_boundary());
+    let far = [partial(BOTH, 0, true)];
+    assert!(rt; gives_requests(&mut wide, partial(HIGH, 64, true), &far));
+    assert!(rt; wide.at_boundary());
+
+    let mut same = Converter::<ChA, 128, 128>::new();
+    let beat = partial(BOTH, 0, false);
+    assert!(rt; gives_requests(&mut same, beat, &[beat]));
+}
+
+#[test]
+#[tactic(auto, using(tl_lanes::proofs::Widths::width_1, tl_lanes::proofs::Widths::width_128))]
+fn a_beat_of_128_bytes_gives_128_far_beats(rt: HostRuntime) {
+    let mut converter = Converter::<ChD, 128, 1>::new();
+    let mut far = [response(7, [0], true); 128];
+    let mut byte = 0u8;
+    for beat in &mut far {
+        beat.lanes = [byte];
+        byte = byte.wrapping_add(1);
+    }
+    assert!(rt; gives(&mut converter, response(7, counting(0), true), 0x80, &far));
     assert!(rt; converter.at_boundary());
 }
 

@@ -1,4 +1,4 @@
-use tl_lanes::{active, beat_bytes, beats, is_width, lane, move_lanes, move_mask};
+use tl_lanes::{Mask, WIDEST, active, beat_bytes, beats, is_width, lane, move_lanes, move_mask};
 
 #[test]
 fn widths(rt: HostRuntime) {
@@ -12,10 +12,14 @@ fn widths(rt: HostRuntime) {
         (16, true),
         (32, true),
         (64, true),
-        (128, false),
+        (127, false),
+        (128, true),
+        (129, false),
+        (256, false),
     ] {
         assert!(rt; is_width(w) == expected, "width {w}");
     }
+    assert!(rt; WIDEST == 128);
 }
 
 /// The bytes that each beat of a message of this size has, and its beats with data and without.
@@ -34,10 +38,14 @@ fn counts(size: u8, w: usize) -> Option<(usize, usize, usize)> {
 fn bytes_and_beats(rt: HostRuntime) {
     for (size, w, bytes, count) in [
         (0, 64, 1, 1),
+        (0, 128, 1, 1),
         (1, 4, 2, 1),
         (3, 4, 4, 2),
         (12, 1, 1, 4096),
         (12, 64, 64, 64),
+        (6, 128, 64, 1),
+        (8, 128, 128, 2),
+        (12, 128, 128, 32),
     ] {
         assert!(rt;
             counts(size, w) == Some((bytes, count, 1)),
@@ -46,20 +54,34 @@ fn bytes_and_beats(rt: HostRuntime) {
     }
 }
 
+/// The mask of 64 lanes.
+const HALF: Mask = u64::MAX as Mask;
+
 #[test]
 fn lanes_of_bytes(rt: HostRuntime) {
     for (address, i, size, w, first, mask) in [
         (0x1004, 0, 2, 8, 4, 0xf0),
         (0x18, 0, 3, 16, 8, 0xff00),
         (0x100c, 0, 2, 16, 12, 0xf000),
-        (0, 63, 12, 64, 63, u64::MAX),
+        (0, 63, 12, 64, 63, HALF),
         (3, 1, 1, 4, 0, 0x9),
         (u64::MAX, 0, 0, 64, 63, 1 << 63),
         (u64::MAX, 1, 1, 64, 0, 1 << 63 | 1),
+        (0, 127, 12, 128, 127, Mask::MAX),
+        (0x40, 63, 6, 128, 127, HALF << 64),
+        (0x3e, 2, 2, 128, 64, 0xf << 62),
+        (u64::MAX, 0, 0, 128, 127, 1 << 127),
+        (u64::MAX, 1, 1, 128, 0, 1 << 127 | 1),
     ] {
         assert!(rt; is_width(w) && size <= 12);
-        assert!(rt; lane(address, i, w) == first, "address {address}");
-        assert!(rt; active(address, size, w) == mask, "address {address}");
+        assert!(rt;
+            lane(address, i, w) == first,
+            "address {address}, width {w}"
+        );
+        assert!(rt;
+            active(address, size, w) == mask,
+            "address {address}, width {w}"
+        );
     }
 }
 
@@ -70,8 +92,17 @@ fn moved_bits(rt: HostRuntime) {
         (0x5, 4, 0xf0, 8, 0, 4, 0xf5),
         // round the end of the bus of 4
         (0x9, 4, 0xff, 8, 3, 4, 0x9f),
-        (u64::MAX, 64, 0, 64, 0, 64, u64::MAX),
-        (u64::MAX, 64, 0x3, 4, 5, 0, 0x3),
+        (HALF, 64, 0, 64, 0, 64, HALF),
+        (HALF, 64, 0x3, 4, 5, 0, 0x3),
+        (Mask::MAX, 128, 0, 128, 0, 128, Mask::MAX),
+        // the upper half alone
+        (HALF << 64 | 0x3, 128, 0, 64, 64, 64, HALF),
+        (HALF, 64, 0x3, 128, 64, 64, HALF << 64 | 0x3),
+        // on both sides of bit 64, in one run and round the end of a bus
+        (0xa5 << 60, 128, 1, 128, 60, 8, 0xa5 << 60 | 1),
+        (0xa5 << 60, 128, 0, 64, 60, 8, 0x5 << 60 | 0xa),
+        (0x5 << 60 | 0xa, 64, 0, 128, 60, 8, 0xa5 << 60),
+        (1 << 127 | 1, 128, 0, 2, u64::MAX, 2, 0x3),
     ] {
         assert!(rt; is_width(w) && is_width(v) && count <= w && count <= v);
         assert!(rt;
@@ -90,10 +121,24 @@ fn moved<const W: usize, const V: usize>(from: [u8; W], at: u64, count: usize) -
     to
 }
 
+/// The lanes of a bus of 128 bytes, with one byte on each of the lower half, and another on each of the upper one.
+fn halves(low: u8, high: u8) -> [u8; 128] {
+    let mut lanes = [low; 128];
+    for lane in &mut lanes[64..] {
+        *lane = high;
+    }
+    lanes
+}
+
 #[test]
 fn moved_lanes(rt: HostRuntime) {
     assert!(rt; moved::<4, 8>([0, 1, 2, 3], 4, 0) == [9; 8]);
     assert!(rt; moved::<4, 8>([0, 1, 2, 3], 4, 4) == [9, 9, 9, 9, 0, 1, 2, 3]);
     assert!(rt; moved::<8, 4>([0, 1, 2, 3, 4, 5, 6, 7], 3, 3) == [4, 5, 9, 3]);
     assert!(rt; moved::<64, 64>([7; 64], 0, 64) == [7; 64]);
+    assert!(rt; moved::<128, 128>([7; 128], 0, 128) == [7; 128]);
+    assert!(rt; moved::<128, 64>(halves(1, 2), 0, 64) == [1; 64]);
+    assert!(rt; moved::<128, 64>(halves(1, 2), 64, 64) == [2; 64]);
+    assert!(rt; moved::<64, 128>([2; 64], 64, 64) == halves(9, 2));
+    assert!(rt; moved::<128, 4>(halves(1, 2), 62, 4) == [2, 2, 1, 1]);
 }

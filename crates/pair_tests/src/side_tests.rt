@@ -4,6 +4,7 @@
 ghost use Rattle.tl_pair.specs.Sides.{AreSides, SameClient, SameManager};
 
 use std::test::Fail;
+use tl_lanes::Mask;
 use tl_msg::{Beat, BeatFault, BeatOf, ChA, ChD, HeadA, HeadD, SideFault};
 use tl_pair::{ClientSide, ManagerSide, bridge, meet_sides};
 
@@ -71,7 +72,7 @@ enum Said {
     Moved(usize),
     Nothing,
     /// The mask of a beat of A.
-    Asked(u64),
+    Asked(Mask),
     /// The lanes of a beat of D.
     Answered([u8; 4]),
 }

@@ -1,23 +1,23 @@
 //! The one-thread pipe, step by step.
-#![tactic(auto, using(tl_lanes::proofs::Widths::width_1, tl_lanes::proofs::Widths::width_4, tl_lanes::proofs::Widths::width_8, tl_lanes::proofs::Widths::width_64))]
+#![tactic(auto, using(tl_lanes::proofs::Widths::width_1, tl_lanes::proofs::Widths::width_4, tl_lanes::proofs::Widths::width_8, tl_lanes::proofs::Widths::width_64, tl_lanes::proofs::Widths::width_128))]
 
 use crate::values::{at, put};
 use std::test::Fail;
 use tl_msg::{Beat, BeatOf, ChA, ChC, HeadC};
 use tl_ring::{EndFault, SyncPipe};
 
-/// A beat of ReleaseData of 128 bytes, on 64 lanes.
-fn release() -> BeatOf<HeadC, 64> {
+/// A beat of ReleaseData of 2 to the power of `size` bytes.
+fn release<const W: usize>(size: u8) -> BeatOf<HeadC, W> {
     BeatOf {
         head: HeadC {
             opcode: 7,
             param: 1,
-            size: 7,
+            size,
             source: 3,
-            address: 128,
+            address: 256,
         },
         mask: 0,
-        lanes: [9; 64],
+        lanes: [9; W],
         corrupt: false,
     }
 }
@@ -103,9 +103,9 @@ fn a_close_waits_for_the_end_of_a_burst(rt: HostRuntime) -> Result<(), Fail> {
     Ok(())
 }
 
-/// Offers the beat of [`release`], pumps and fetches, and answers how many far beats that moved.
-fn released(pipe: &mut SyncPipe<ChC, 64, 1>) -> [usize; 2] {
-    if pipe.ready() && pipe.offer(release(), 0).is_ok() {
+/// Offers a beat of a [`release`] of this size, pumps and fetches, and answers how many far beats that moved.
+fn released(pipe: &mut SyncPipe<ChC, 64, 1>, size: u8) -> [usize; 2] {
+    if pipe.ready() && pipe.offer(release(size), 0).is_ok() {
         [pipe.pump(), pipe.fetch()]
     } else {
         [0, 0]
@@ -113,12 +113,43 @@ fn released(pipe: &mut SyncPipe<ChC, 64, 1>) -> [usize; 2] {
 }
 
 #[test]
+fn an_inbox_holds_128_beats(rt: HostRuntime) -> Result<(), Fail> {
+    let mut pipe = SyncPipe::<ChC, 64, 1>::new(rt.alloc(), 4096)?;
+    assert!(rt; [released(&mut pipe, 7), released(&mut pipe, 7)] == [[64, 64]; 2]);
+    assert!(rt; pipe.standing() == at(0, 0, 128));
+    assert!(rt; pipe.take().is_some());
+    assert!(rt; pipe.fetch() == 0);
+    assert!(rt; pipe.standing() == at(0, 0, 127));
+    Ok(())
+}
+
+#[test]
 fn a_full_inbox_takes_no_more(rt: HostRuntime) -> Result<(), Fail> {
     let mut pipe = SyncPipe::<ChC, 64, 1>::new(rt.alloc(), 4096)?;
-    assert!(rt; [released(&mut pipe), released(&mut pipe)] == [[64, 64], [64, 0]]);
-    assert!(rt; pipe.standing() == at(0, 64, 64));
+    for fetched in [64, 64, 0] {
+        assert!(rt; released(&mut pipe, 8) == [64, fetched]);
+    }
+    assert!(rt; pipe.standing() == at(0, 64, 128));
     assert!(rt; pipe.take().is_some());
     assert!(rt; pipe.fetch() == 1);
-    assert!(rt; pipe.standing() == at(0, 63, 64));
+    assert!(rt; pipe.standing() == at(0, 63, 128));
+    Ok(())
+}
+
+/// Offers a beat of the widest bus to the narrowest one, and answers whether it was accepted.
+fn all_offered(pipe: &mut SyncPipe<ChC, 128, 1>) -> bool {
+    pipe.ready() && pipe.offer(release(7), 0).is_ok()
+}
+
+#[test]
+fn a_beat_of_the_widest_bus_fills_stage_and_inbox(rt: HostRuntime) -> Result<(), Fail> {
+    let mut pipe = SyncPipe::<ChC, 128, 1>::new(rt.alloc(), 100)?;
+    assert!(rt; all_offered(&mut pipe) && !pipe.ready());
+    assert!(rt; pipe.standing() == at(128, 0, 0));
+    assert!(rt; [pipe.pump(), pipe.fetch(), pipe.pump(), pipe.fetch()] == [100, 100, 28, 28]);
+    assert!(rt; pipe.standing() == at(0, 0, 128));
+    assert!(rt; all_offered(&mut pipe));
+    assert!(rt; [pipe.pump(), pipe.fetch()] == [100, 0]);
+    assert!(rt; pipe.standing() == at(28, 100, 128));
     Ok(())
 }

@@ -1,9 +1,10 @@
 //! Beats and standings that several tests name.
+use tl_lanes::Mask;
 use tl_msg::{BeatOf, HeadA, HeadE, SinkId};
 use tl_ring::Standing;
 
 /// A beat of PutFullData to address 16 or 32, of 2 to the power of `size` bytes.
-pub fn put<const W: usize>(size: u8, address: u64, mask: u64, lanes: [u8; W]) -> BeatOf<HeadA, W> {
+pub fn put<const W: usize>(size: u8, address: u64, mask: Mask, lanes: [u8; W]) -> BeatOf<HeadA, W> {
     BeatOf {
         head: HeadA {
             opcode: 0,

@@ -9,7 +9,7 @@ use std::alloc::Global;
 use std::rt::Clock;
 use std::thread::{Threads, join_mut};
 use std::time::Instant;
-use tl_lanes::active;
+use tl_lanes::{Mask, active};
 use tl_msg::{Beat, BeatOf, ChA, ChE, Channel, HeadA, HeadE};
 use tl_ring::{ROOM, SendEnd, TakeEnd, ring_pair};
 
@@ -32,7 +32,7 @@ trait Sender<B, const W: usize> {
 /// The taking end of a ring.
 trait Taker {
     /// Takes all that it finds, and answers how many beats that were. Each one's mask is added to the sum, so that it is read.
-    fn take(&mut self, masks: &mut u64) -> usize;
+    fn take(&mut self, masks: &mut Mask) -> usize;
 }
 
 /// Offers the beat of this number where the end is ready. Answers whether it was accepted.
@@ -66,7 +66,7 @@ impl<K: Channel, const W: usize> Sender<Beat<K, W>, W> for SendEnd<K, W, W> {
 }
 
 impl<K: Channel, const W: usize> Taker for TakeEnd<K, W, W> {
-    fn take(&mut self, masks: &mut u64) -> usize {
+    fn take(&mut self, masks: &mut Mask) -> usize {
         let count = self.fetch();
         for _ in 0..count {
             if let Some(beat) = TakeEnd::take(self) {
@@ -99,7 +99,7 @@ struct PlainTaker<H: Copy, const W: usize> {
 }
 
 impl<H: Copy, const W: usize> Taker for PlainTaker<H, W> {
-    fn take(&mut self, masks: &mut u64) -> usize {
+    fn take(&mut self, masks: &mut Mask) -> usize {
         let count = self.end.pop_partial_slice(&mut self.room);
         for beat in &self.room[..count] {
             *masks = masks.wrapping_add(beat.mask);
@@ -125,7 +125,7 @@ fn send_all<S: Sender<B, W>, B, const W: usize>(sender: &mut S, beats: &[B], cou
 }
 
 /// Takes so many beats, and answers the sum of their masks.
-fn take_all<T: Taker>(taker: &mut T, count: usize) -> u64 {
+fn take_all<T: Taker>(taker: &mut T, count: usize) -> Mask {
     let (mut left, mut masks) = (count, 0);
     for _ in 0..TURNS {
         left = left.saturating_sub(taker.take(&mut masks));
@@ -143,7 +143,7 @@ fn send_and_take<S: Sender<B, W>, T: Taker, B, const W: usize>(
     taker: &mut T,
     beats: &[B],
     count: usize,
-) -> u64
+) -> Mask
     requires { IsWidth W }
 {
     let (mut sent, mut left, mut masks) = (0, count, 0);
@@ -175,7 +175,7 @@ fn join_both<S: Sender<B, W> + Send, T: Taker + Send, B: Sync, const W: usize>(
     taker: &mut T,
     beats: &[B],
     count: usize,
-) -> u64
+) -> Mask
     requires { IsWidth W }
 {
     let (_, masks) = join_mut(
@@ -212,16 +212,16 @@ fn measure_pair<S: Sender<B, W> + Send, T: Taker + Send, B: Sync, const W: usize
     Ok(())
 }
 
-/// PutFullDatas of 64 bytes on a bus of `W` bytes.
+/// PutFullDatas of 64 bytes on a bus of `W` bytes, or of as many as a wider bus has.
 fn requests<const W: usize>(alloc: Global) -> Result<Vec<Beat<ChA, W>>>
     requires { IsWidth W }
 {
     let head = HeadA {
         opcode: 0,
         param: 0,
-        size: 6,
+        size: if W > 64 { 7 } else { 6 },
         source: 7,
-        address: 64,
+        address: 128,
     };
     let mut all = Vec::with_capacity(alloc, SOME)?;
     for place in 0..SOME {
@@ -249,56 +249,32 @@ fn acks(alloc: Global) -> Result<Vec<Beat<ChE, 8>>> {
     Ok(all)
 }
 
-#[tactic(auto, using(tl_lanes::proofs::Widths::width_8))]
-fn cross_requests_of_8(
+fn cross_requests<const W: usize>(
     rt: &(impl Clock + Print + Threads + AllocGlobal),
-    beats: &[Beat<ChA, 8>],
+    beats: &[Beat<ChA, W>],
     ring: usize,
     count: usize,
-) -> Result<()> {
-    let (mut send, mut take) = ring_pair::<ChA, 8, 8, Global>(rt.alloc(), ring)?;
-    measure_pair::<_, _, _, 8>(rt, CROSSING, &mut send, &mut take, beats, count)
+) -> Result<()>
+    requires { IsWidth W }
+{
+    let (mut send, mut take) = ring_pair::<ChA, W, W, Global>(rt.alloc(), ring)?;
+    measure_pair::<_, _, _, W>(rt, CROSSING, &mut send, &mut take, beats, count)
 }
 
-#[tactic(auto, using(tl_lanes::proofs::Widths::width_8))]
-fn pass_requests_of_8(
+fn pass_requests<const W: usize>(
     rt: &(impl Clock + Print + Threads + AllocGlobal),
-    beats: &[Beat<ChA, 8>],
+    beats: &[Beat<ChA, W>],
     ring: usize,
     count: usize,
-) -> Result<()> {
+) -> Result<()>
+    requires { IsWidth W }
+{
     let (mut producer, consumer) = RingBuffer::new(rt.alloc(), ring)?;
     let mut taker = PlainTaker {
         end: consumer,
         room: [BeatOf::default(); ROOM],
     };
-    measure_pair::<_, _, _, 8>(rt, PLAIN, &mut producer, &mut taker, beats, count)
-}
-
-#[tactic(auto, using(tl_lanes::proofs::Widths::width_64))]
-fn cross_requests_of_64(
-    rt: &(impl Clock + Print + Threads + AllocGlobal),
-    beats: &[Beat<ChA, 64>],
-    ring: usize,
-    count: usize,
-) -> Result<()> {
-    let (mut send, mut take) = ring_pair::<ChA, 64, 64, Global>(rt.alloc(), ring)?;
-    measure_pair::<_, _, _, 64>(rt, CROSSING, &mut send, &mut take, beats, count)
-}
-
-#[tactic(auto, using(tl_lanes::proofs::Widths::width_64))]
-fn pass_requests_of_64(
-    rt: &(impl Clock + Print + Threads + AllocGlobal),
-    beats: &[Beat<ChA, 64>],
-    ring: usize,
-    count: usize,
-) -> Result<()> {
-    let (mut producer, consumer) = RingBuffer::new(rt.alloc(), ring)?;
-    let mut taker = PlainTaker {
-        end: consumer,
-        room: [BeatOf::default(); ROOM],
-    };
-    measure_pair::<_, _, _, 64>(rt, PLAIN, &mut producer, &mut taker, beats, count)
+    measure_pair::<_, _, _, W>(rt, PLAIN, &mut producer, &mut taker, beats, count)
 }
 
 #[tactic(auto, using(tl_lanes::proofs::Widths::width_8))]
@@ -327,26 +303,16 @@ fn pass_acks(
     measure_pair::<_, _, _, 8>(rt, PLAIN, &mut producer, &mut taker, beats, count)
 }
 
-#[tactic(auto, using(tl_lanes::proofs::Widths::width_8))]
-fn measure_requests_of_8(
+fn measure_requests<const W: usize>(
     rt: &(impl Clock + Print + Threads + AllocGlobal),
     ring: usize,
     count: usize,
-) -> Result<()> {
-    let beats = requests::<8>(rt.alloc())?;
-    cross_requests_of_8(rt, &beats, ring, count)?;
-    pass_requests_of_8(rt, &beats, ring, count)
-}
-
-#[tactic(auto, using(tl_lanes::proofs::Widths::width_64))]
-fn measure_requests_of_64(
-    rt: &(impl Clock + Print + Threads + AllocGlobal),
-    ring: usize,
-    count: usize,
-) -> Result<()> {
-    let beats = requests::<64>(rt.alloc())?;
-    cross_requests_of_64(rt, &beats, ring, count)?;
-    pass_requests_of_64(rt, &beats, ring, count)
+) -> Result<()>
+    requires { IsWidth W }
+{
+    let beats = requests::<W>(rt.alloc())?;
+    cross_requests::<W>(rt, &beats, ring, count)?;
+    pass_requests::<W>(rt, &beats, ring, count)
 }
 
 fn measure_acks(
@@ -361,6 +327,7 @@ fn measure_acks(
 
 /// Sends so many beats of a channel through a ring of `ring` beats, four times: between both ends in one thread and in two, and
 /// through plain `rtrb` likewise. Each pass is timed.
+#[tactic(auto, using(tl_lanes::proofs::Widths::width_8, tl_lanes::proofs::Widths::width_64, tl_lanes::proofs::Widths::width_128))]
 pub fn measure(
     rt: &(impl Clock + Print + Threads + AllocGlobal),
     channel: &str,
@@ -370,8 +337,9 @@ pub fn measure(
 ) -> Result<()> {
     println!(rt; "beats {count}")?;
     match (channel, width) {
-        ("A", 8) => measure_requests_of_8(rt, ring, count),
-        ("A", 64) => measure_requests_of_64(rt, ring, count),
+        ("A", 8) => measure_requests::<8>(rt, ring, count),
+        ("A", 64) => measure_requests::<64>(rt, ring, count),
+        ("A", 128) => measure_requests::<128>(rt, ring, count),
         ("E", 8) => measure_acks(rt, ring, count),
         _ => bail!("channel {channel} at {width} bytes is not measured"),
     }

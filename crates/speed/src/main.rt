@@ -1,8 +1,9 @@
 //! Makes traces, and measures reading, conversion and writing of them, and whole runs. `bench/run` runs it.
 //!
-//! - `speed make A CLIENT MANAGER BYTES` prints a trace of version 1 of at least so many bytes, of PutFullData bursts from a client to a manager
+//! - `speed make A CLIENT MANAGER BYTES` prints a trace of at least so many bytes, of PutFullData bursts from a client to a manager
 //!   of these widths, and `speed make E CLIENT MANAGER BYTES` one of GrantAcks alone. `speed make AD CLIENT MANAGER BYTES` makes one
-//!   of Gets and PutFullDatas in turns, each with its response, of 64 bytes each.
+//!   of Gets and PutFullDatas in turns, each with its response, of 64 bytes each. The trace is one of version 1, but for a bus of 128
+//!   bytes, which version 2 alone has: there such a message has 128 bytes.
 //! - `speed measure` reads a trace of A or E lines on standard input. It prints what it measured: on each line a name and a number,
 //!   a time in nanoseconds, a peak of memory in KiB or a count.
 //! - `speed sync RING` reads a trace that `make AD` made, runs it in one thread over rings of so many beats, and writes the answer

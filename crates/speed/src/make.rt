@@ -1,5 +1,5 @@
 //! Makes traces.
-ghost use Rattle.std.specs.Prelude.{◌<◌};
+ghost use Rattle.std.specs.Prelude.{◌<◌, ◌≤◌};
 ghost use Rattle.tl_lanes.specs.Lanes.{IsWidth};
 
 use anyhow::{Result, bail};
@@ -8,8 +8,23 @@ use tl_lanes::{active, beats};
 use tl_msg::{BeatOf, ChA, ChD, ChE, HeadA, HeadD, HeadE};
 use tl_trace::{OutOfMemory, write_far};
 
-/// The version of the traces that are made.
-const VERSION: u8 = 1;
+/// Whether one of these buses has more than 64 bytes. A trace of such a bus is one of version 2, which alone has it, and its messages
+/// fill that bus: they have 128 bytes where those of other traces have 64.
+fn is_wide(client: usize, manager: usize) -> bool {
+    client.max(manager) > 64
+}
+
+/// The version of a trace.
+fn version_of(wide: bool) -> u8 {
+    if wide { 2 } else { 1 }
+}
+
+/// The size of a message.
+fn size_of(wide: bool) -> u8
+    ensures { result ≤ 7 }
+{
+    if wide { 7 } else { 6 }
+}
 
 /// Sets the bytes of a beat. They vary from lane to lane, and from seed to seed.
 fn fill(lanes: &mut [u8], seed: u8) {
@@ -20,14 +35,18 @@ fn fill(lanes: &mut [u8], seed: u8) {
     }
 }
 
-/// Appends the lines of a PutFullData: of 64 bytes, and of 4,096 at each eighth message.
-fn put_message<const C: usize>(text: &mut Vec<u8>, number: u64) -> Result<(), OutOfMemory>
+/// Appends the lines of a PutFullData: of 64 or 128 bytes, and of 4,096 at each eighth message.
+fn put_message<const C: usize>(
+    text: &mut Vec<u8>,
+    number: u64,
+    wide: bool,
+) -> Result<(), OutOfMemory>
     requires { IsWidth C }
 {
     let head = HeadA {
         opcode: 0,
         param: 0,
-        size: if number % 8 == 7 { 12 } else { 6 },
+        size: if number % 8 == 7 { 12 } else { size_of(wide) },
         source: (number % 256) as u16,
         address: number % 65_536 * 4096,
     };
@@ -41,13 +60,13 @@ fn put_message<const C: usize>(text: &mut Vec<u8>, number: u64) -> Result<(), Ou
             lanes,
             corrupt: false,
         };
-        write_far::<ChA, C>(text, &[beat], VERSION)?;
+        write_far::<ChA, C>(text, &[beat], version_of(wide))?;
     }
     Ok(())
 }
 
 /// Appends the line of a GrantAck.
-fn put_grant_ack(text: &mut Vec<u8>, number: u64) -> Result<(), OutOfMemory> {
+fn put_grant_ack(text: &mut Vec<u8>, number: u64, wide: bool) -> Result<(), OutOfMemory> {
     let head = HeadE {
         sink: (number % 256) as u16,
     };
@@ -57,23 +76,24 @@ fn put_grant_ack(text: &mut Vec<u8>, number: u64) -> Result<(), OutOfMemory> {
         lanes: [0u8; 1],
         corrupt: false,
     };
-    write_far::<ChE, 1>(text, &[beat], VERSION)
+    write_far::<ChE, 1>(text, &[beat], version_of(wide))
 }
 
-/// Appends the lines of a request of 64 bytes, a Get or a PutFullData.
+/// Appends the lines of a request of 64 or 128 bytes, a Get or a PutFullData.
 fn put_request<const C: usize>(
     text: &mut Vec<u8>,
     number: u64,
     reads: bool,
+    wide: bool,
 ) -> Result<(), OutOfMemory>
     requires { IsWidth C }
 {
     let head = HeadA {
         opcode: if reads { 4 } else { 0 },
         param: 0,
-        size: 6,
+        size: size_of(wide),
         source: (number % 256) as u16,
-        address: number % 65_536 * 64,
+        address: number % 65_536 * if wide { 128 } else { 64 },
     };
     for index in 0..beats(!reads, head.size, C) {
         let mut lanes = [0u8; C];
@@ -86,7 +106,7 @@ fn put_request<const C: usize>(
             lanes,
             corrupt: false,
         };
-        write_far::<ChA, C>(text, &[beat], VERSION)?;
+        write_far::<ChA, C>(text, &[beat], version_of(wide))?;
     }
     Ok(())
 }
@@ -96,13 +116,14 @@ fn put_response<const M: usize>(
     text: &mut Vec<u8>,
     number: u64,
     reads: bool,
+    wide: bool,
 ) -> Result<(), OutOfMemory>
     requires { IsWidth M }
 {
     let head = HeadD {
         opcode: if reads { 1 } else { 0 },
         param: 0,
-        size: 6,
+        size: size_of(wide),
         source: (number % 256) as u16,
         sink: 0,
         denied: false,
@@ -118,7 +139,7 @@ fn put_response<const M: usize>(
             lanes,
             corrupt: false,
         };
-        write_far::<ChD, M>(text, &[beat], VERSION)?;
+        write_far::<ChD, M>(text, &[beat], version_of(wide))?;
     }
     Ok(())
 }
@@ -131,9 +152,9 @@ fn put_exchange<const C: usize, const M: usize>(
     requires client { IsWidth C }
     requires manager { IsWidth M }
 {
-    let reads = number % 2 == 0;
-    put_request::<C>(text, number, reads)?;
-    put_response::<M>(text, number, reads)
+    let (reads, wide) = (number % 2 == 0, is_wide(C, M));
+    put_request::<C>(text, number, reads, wide)?;
+    put_response::<M>(text, number, reads, wide)
 }
 
 /// Appends an exchange between a client and a manager of these widths.
@@ -143,18 +164,22 @@ fn put_pair(text: &mut Vec<u8>, client: usize, manager: usize, number: u64) -> R
         (4, 16) => put_exchange::<4, 16>(text, number)?,
         (64, 8) => put_exchange::<64, 8>(text, number)?,
         (8, 64) => put_exchange::<8, 64>(text, number)?,
+        (128, 1) => put_exchange::<128, 1>(text, number)?,
+        (1, 128) => put_exchange::<1, 128>(text, number)?,
         _ => bail!("no exchanges are made for client {client} manager {manager}"),
     }
     Ok(())
 }
 
 /// Appends a message of channel A or E.
-fn put(text: &mut Vec<u8>, channel: &str, client: usize, number: u64) -> Result<()> {
+fn put(text: &mut Vec<u8>, channel: &str, client: usize, number: u64, wide: bool) -> Result<()> {
     match (channel, client) {
-        ("A", 4) => put_message::<4>(text, number)?,
-        ("A", 8) => put_message::<8>(text, number)?,
-        ("A", 64) => put_message::<64>(text, number)?,
-        ("E", _) => put_grant_ack(text, number)?,
+        ("A", 4) => put_message::<4>(text, number, wide)?,
+        ("A", 8) => put_message::<8>(text, number, wide)?,
+        ("A", 64) => put_message::<64>(text, number, wide)?,
+        ("A", 128) => put_message::<128>(text, number, wide)?,
+        ("A", 1) => put_message::<1>(text, number, wide)?,
+        ("E", _) => put_grant_ack(text, number, wide)?,
         _ => bail!("no trace is made for channel {channel} and a client of {client} bytes"),
     }
     Ok(())
@@ -168,7 +193,9 @@ pub fn trace(
     manager: usize,
     bytes: usize,
 ) -> Result<Vec<u8>> {
-    let header = format!(in alloc; "tilelink-trace {VERSION} client {client} manager {manager}\n")?;
+    let wide = is_wide(client, manager);
+    let version = version_of(wide);
+    let header = format!(in alloc; "tilelink-trace {version} client {client} manager {manager}\n")?;
     let mut text = Vec::from_slice(alloc, header.as_bytes())?;
     for number in 0..bytes as u64 {
         if text.len() >= bytes {
@@ -177,7 +204,7 @@ pub fn trace(
         if channel == "AD" {
             put_pair(&mut text, client, manager, number)?;
         } else {
-            put(&mut text, channel, client, number)?;
+            put(&mut text, channel, client, number, wide)?;
         }
     }
     Ok(text)

@@ -11,6 +11,7 @@ use std::rt::Clock;
 use std::time::Instant;
 use std::{fs, io};
 use tl_convert::Converter;
+use tl_lanes::WIDEST;
 use tl_msg::{Beat, ChA, ChE};
 use tl_trace::{HeadText, header_of_text, read_script, write_far};
 
@@ -42,7 +43,7 @@ fn line_ends(text: &[u8]) -> usize {
 }
 
 /// Room for the far beats of one near beat.
-fn no_beats<K: HeadText, const V: usize>() -> ArrayVec<Beat<K, V>, 64>
+fn no_beats<K: HeadText, const V: usize>() -> ArrayVec<Beat<K, V>, WIDEST>
     requires { IsWidth V }
 {
     ArrayVec::new()
@@ -51,7 +52,7 @@ fn no_beats<K: HeadText, const V: usize>() -> ArrayVec<Beat<K, V>, 64>
 /// Feeds near beats to a converter, and appends the far beats that they give.
 fn convert<K: HeadText, const W: usize, const V: usize>(
     converter: &mut Converter<K, W, V>,
-    given: &mut ArrayVec<Beat<K, V>, 64>,
+    given: &mut ArrayVec<Beat<K, V>, WIDEST>,
     near: &[Beat<K, W>],
     far: &mut Vec<Beat<K, V>>,
 ) -> Result<()>
@@ -72,7 +73,7 @@ fn measure_channel<K: HeadText, const W: usize, const V: usize>(
     rt: &(impl Clock + Print),
     alloc: Global,
     converter: &mut Converter<K, W, V>,
-    given: &mut ArrayVec<Beat<K, V>, 64>,
+    given: &mut ArrayVec<Beat<K, V>, WIDEST>,
     near: &[Beat<K, W>],
     version: u8,
 ) -> Result<()>
@@ -137,6 +138,8 @@ fn measure_text(rt: &(impl Clock + Print + Files + AllocGlobal), text: &[u8]) ->
         (64, 4) => measure_pair::<64, 4>(rt, text, header.version),
         (64, 1) => measure_pair::<64, 1>(rt, text, header.version),
         (8, 32) => measure_pair::<8, 32>(rt, text, header.version),
+        (128, 1) => measure_pair::<128, 1>(rt, text, header.version),
+        (1, 128) => measure_pair::<1, 128>(rt, text, header.version),
         _ => bail!("nothing is measured at these widths"),
     }
 }

@@ -146,6 +146,8 @@ fn run_text(
         (4, 16) => run_pair::<4, 16>(rt, text, header.version, way),
         (64, 8) => run_pair::<64, 8>(rt, text, header.version, way),
         (8, 64) => run_pair::<8, 64>(rt, text, header.version, way),
+        (128, 1) => run_pair::<128, 1>(rt, text, header.version, way),
+        (1, 128) => run_pair::<1, 128>(rt, text, header.version, way),
         _ => bail!("no runs are measured at these widths"),
     }
 }

@@ -1,11 +1,12 @@
-#![tactic(auto, using(tl_lanes::proofs::Widths::width_1, tl_lanes::proofs::Widths::width_4, tl_lanes::proofs::Widths::width_8, tl_lanes::proofs::Widths::width_64))]
+#![tactic(auto, using(tl_lanes::proofs::Widths::width_1, tl_lanes::proofs::Widths::width_4, tl_lanes::proofs::Widths::width_8, tl_lanes::proofs::Widths::width_64, tl_lanes::proofs::Widths::width_128))]
 
 ghost use Rattle.std.specs.Prelude.{◌≤◌};
 ghost use Rattle.tl_lanes.specs.Lanes.{IsWidth};
 
 use crate::runs::{Ending, run_text};
 use crate::texts::{
-    EACH_WAITS, FIVE, NARROWEST_BEAT, NO_BEAT, RELEASE, SOURCE_USED_TWICE, TO_NARROWEST, TO_WIDEST,
+    EACH_WAITS, FIVE, FROM_WIDEST, NARROWEST_BEAT, NARROWEST_BEAT_OF_WIDE_ID, NO_BEAT, RELEASE,
+    RELEASE_OF_WIDEST, SOURCE_USED_TWICE, TO_NARROWEST, TO_WIDE, TO_WIDEST, WIDE_BEAT,
     WIDE_SOURCES, WIDEST_BEAT, acknowledgements, repeated,
 };
 use std::alloc::Global;
@@ -99,6 +100,8 @@ fn no_ring_and_no_turns_change_the_end(rt: HostRuntime) -> Result<(), Fail> {
     let alloc = rt.alloc();
     let (one, two) = (done(1, 1), done(2, 2));
     run_each_way::<64, 1, _>(&rt, alloc, RELEASE, [NONE, NONE, done(1, 64), one, NONE])?;
+    let released = [NONE, NONE, done(1, 128), NONE, NONE];
+    run_each_way::<128, 1, _>(&rt, alloc, RELEASE_OF_WIDEST, released)?;
     run_each_way::<4, 4, _>(&rt, alloc, SOURCE_USED_TWICE, [two, NONE, NONE, two, NONE])?;
     run_each_way::<4, 4, _>(&rt, alloc, WIDE_SOURCES, [two, NONE, NONE, two, NONE])?;
     run_each_way::<4, 4, _>(&rt, alloc, EACH_WAITS, WAITING)?;
@@ -136,7 +139,7 @@ fn a_ring_has_1_to_4096_beats(rt: HostRuntime) -> Result<(), Fail> {
 #[test]
 fn the_largest_message_to_the_narrowest_bus(rt: HostRuntime) -> Result<(), Fail> {
     let alloc = rt.alloc();
-    let text = repeated(alloc, TO_NARROWEST, WIDEST_BEAT, 64)?;
+    let text = repeated(alloc, TO_NARROWEST, WIDE_BEAT, 64)?;
     let wanted = [done(64, 4096), NONE, NONE, NONE, NONE];
     let (two, one) = rounds::<64, 1, _>(&rt, alloc, text.as_str(), 1, 1, wanted)?;
     assert!(rt; two <= 8257 && 4097 <= one && one <= 8257);
@@ -146,9 +149,37 @@ fn the_largest_message_to_the_narrowest_bus(rt: HostRuntime) -> Result<(), Fail>
 }
 
 #[test]
+fn a_beat_of_the_widest_bus_to_the_narrowest(rt: HostRuntime) -> Result<(), Fail> {
+    let wanted = [NONE, NONE, done(1, 128), NONE, NONE];
+    let (two, one) = rounds::<128, 1, _>(&rt, rt.alloc(), RELEASE_OF_WIDEST, 1, 1, wanted)?;
+    assert!(rt; two <= 258 && one <= 258);
+    Ok(())
+}
+
+#[test]
+fn the_largest_message_from_the_widest_bus(rt: HostRuntime) -> Result<(), Fail> {
+    let alloc = rt.alloc();
+    let text = repeated(alloc, FROM_WIDEST, WIDEST_BEAT, 32)?;
+    let wanted = [done(32, 4096), NONE, NONE, NONE, NONE];
+    let (_, one) = rounds::<128, 1, _>(&rt, alloc, text.as_str(), 128, 1, wanted)?;
+    assert!(rt; one <= 33);
+    Ok(())
+}
+
+#[test]
 fn the_largest_message_to_the_widest_bus(rt: HostRuntime) -> Result<(), Fail> {
     let alloc = rt.alloc();
-    let text = repeated(alloc, TO_WIDEST, NARROWEST_BEAT, 4096)?;
+    let text = repeated(alloc, TO_WIDEST, NARROWEST_BEAT_OF_WIDE_ID, 4096)?;
+    let wanted = [done(4096, 32), NONE, NONE, NONE, NONE];
+    let (two, one) = rounds::<1, 128, _>(&rt, alloc, text.as_str(), 16, 1000, wanted)?;
+    assert!(rt; two <= 4161 && one <= 4161);
+    Ok(())
+}
+
+#[test]
+fn the_largest_message_to_a_wide_bus(rt: HostRuntime) -> Result<(), Fail> {
+    let alloc = rt.alloc();
+    let text = repeated(alloc, TO_WIDE, NARROWEST_BEAT, 4096)?;
     let wanted = [done(4096, 64), NONE, NONE, NONE, NONE];
     let (two, one) = rounds::<1, 64, _>(&rt, alloc, text.as_str(), 1, 1, wanted)?;
     assert!(rt; two <= 4225 && one <= 4225);

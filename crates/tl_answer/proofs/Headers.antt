@@ -2,11 +2,14 @@
 use Rattle.std.proofs.Common.{◌≡◌, ◌≢◌, ◌∷◌, [], ◌||◌, ℕ, Bool, true, false, List, None, if◌then◌else◌, refl, ap, ◌∙◌, subst}
 use Rattle.std.specs.Prelude.{◌==◌}
 use Rattle.std.proofs.lemmas.Bool.{eqb-true}
-use Rattle.tl_trace.specs.Texts.{is_width}
+use Rattle.tl_lanes.specs.declared.limits.TheConstants.{WIDEST}
+use Rattle.tl_lanes.specs.Lanes.{IsWidth}
+use Rattle.tl_lanes.proofs.Widths.{each_width}
 use Rattle.tl_trace.specs.Faults.{body, cut, onto_first, or_empty, is_newline, header_of, HasHeader, faults_after, faults_of_lines, IsFirstFault}
 use Rattle.tl_trace.specs.declared.fault.TraceKind.TheVariants as kinds
 use Rattle.tl_trace.proofs.Headers.{header, known}
 use Rattle.tl_trace.proofs.ReadLines.{first_fault}
+use Rattle.tl_trace.proofs.Widths.{width_of}
 
 abbrev first_line : List (List ℕ) → List ℕ
 first_line [] = []
@@ -44,22 +47,22 @@ pick : (w a : ℕ) (here rest : Bool) → (w == a) ≡ here → here || rest ≡
 pick w a true rest is any not = absurd (not (eqb-true w a is))
 pick w a false rest is any not = any
 
-only : (w : ℕ) (here : Bool) → (w == 64) ≡ here → here || false ≡ true → w ≡ 64
-only w true is any = eqb-true w 64 is
-only w false is any = absurd cc
-
--- a width that is none of the first six is the seventh
-pub last_width : (w : ℕ) → is_width w ≡ true → w ≢ 1 → w ≢ 2 → w ≢ 4 → w ≢ 8 → w ≢ 16 → w ≢ 32 → w ≡ 64
-last_width w is n1 n2 n4 n8 n16 n32 = only w (w == 64) refl
-    (pick w 32 (w == 32) _ refl (pick w 16 (w == 16) _ refl (pick w 8 (w == 8) _ refl (pick w 4 (w == 4) _ refl
-    (pick w 2 (w == 2) _ refl (pick w 1 (w == 1) _ refl is n1) n2) n4) n8) n16) n32)
+-- a width that is none of the others is the widest
+pub last_width : (w : ℕ) → IsWidth w → w ≢ 1 → w ≢ 2 → w ≢ 4 → w ≢ 8 → w ≢ 16 → w ≢ 32 → w ≢ 64 → w ≡ WIDEST
+last_width w is n1 n2 n4 n8 n16 n32 n64 =
+    eqb-true w WIDEST (pick w 64 (w == 64) _ refl (pick w 32 (w == 32) _ refl (pick w 16 (w == 16) _ refl (pick w 8 (w == 8) _ refl
+    (pick w 4 (w == 4) _ refl (pick w 2 (w == 2) _ refl (pick w 1 (w == 1) _ refl
+    (each_width (λ x. (x == 1) || ((x == 2) || ((x == 4) || ((x == 8) || ((x == 16) || ((x == 32) || ((x == 64) || (x == WIDEST)))))))) refl w is)
+    n1) n2) n4) n8) n16) n32) n64)
 
 pub last_manager : (text : List ℕ) (version client manager : ℕ) → HasHeader text version client manager →
-    manager ≢ 1 → manager ≢ 2 → manager ≢ 4 → manager ≢ 8 → manager ≢ 16 → manager ≢ 32 → HasHeader text version client 64
-last_manager text version client manager is n1 n2 n4 n8 n16 n32 =
-    subst (λ w. HasHeader text version client w) (last_width manager (known (body text) (header version client manager) is).2 n1 n2 n4 n8 n16 n32) is
+    manager ≢ 1 → manager ≢ 2 → manager ≢ 4 → manager ≢ 8 → manager ≢ 16 → manager ≢ 32 → manager ≢ 64 → HasHeader text version client WIDEST
+last_manager text version client manager is n1 n2 n4 n8 n16 n32 n64 =
+    subst (λ w. HasHeader text version client w)
+    (last_width manager (width_of version manager (known (body text) (header version client manager) is).2) n1 n2 n4 n8 n16 n32 n64) is
 
 pub last_client : (text : List ℕ) (version client manager : ℕ) → HasHeader text version client manager →
-    client ≢ 1 → client ≢ 2 → client ≢ 4 → client ≢ 8 → client ≢ 16 → client ≢ 32 → HasHeader text version 64 manager
-last_client text version client manager is n1 n2 n4 n8 n16 n32 =
-    subst (λ w. HasHeader text version w manager) (last_width client (known (body text) (header version client manager) is).1 n1 n2 n4 n8 n16 n32) is
+    client ≢ 1 → client ≢ 2 → client ≢ 4 → client ≢ 8 → client ≢ 16 → client ≢ 32 → client ≢ 64 → HasHeader text version WIDEST manager
+last_client text version client manager is n1 n2 n4 n8 n16 n32 n64 =
+    subst (λ w. HasHeader text version w manager)
+    (last_width client (width_of version client (known (body text) (header version client manager) is).1) n1 n2 n4 n8 n16 n32 n64) is

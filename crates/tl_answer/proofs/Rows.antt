@@ -2,6 +2,7 @@
 use Rattle.std.proofs.Common.{◌≡◌, ◌∷◌, ◌++◌, ℕ, true, false, List, [], replicate, refl}
 use Rattle.std.specs.Prelude.{codes, flat_map}
 use Rattle.std.specs.Fmt.{digits}
+use Rattle.tl_lanes.specs.declared.limits.TheConstants.{WIDEST}
 use Rattle.tl_trace.specs.Texts.{newline}
 use Rattle.tl_trace.specs.declared.line.Line.{Line}
 use Rattle.tl_trace.specs.declared.line.Line.TheVariants as line
@@ -101,11 +102,11 @@ waiting_is_not_done = refl
 -- a beat on each channel: rights to a block are asked for and granted, and another block is probed
 abbrev five : List Line
 five =
-    line.E (record { head = record { sink = 7 }; mask = 0; lanes = replicate 64 0; corrupt = false }) ∷
-    line.D (record { head = record { opcode = 4; param = 0; size = 6; source = 1; sink = 7; denied = false }; mask = 0; lanes = replicate 64 0; corrupt = false }) ∷
-    line.C (record { head = record { opcode = 4; param = 1; size = 6; source = 0; address = 0x80 }; mask = 0; lanes = replicate 64 0; corrupt = false }) ∷
-    line.B (record { head = record { opcode = 7; param = 2; size = 6; source = 0; address = 0x80 }; mask = 0xff; lanes = replicate 64 0; corrupt = false }) ∷
-    line.A (record { head = record { opcode = 7; param = 2; size = 6; source = 1; address = 0x40 }; mask = 0xf; lanes = replicate 64 0; corrupt = false }) ∷ []
+    line.E (record { head = record { sink = 7 }; mask = 0; lanes = replicate WIDEST 0; corrupt = false }) ∷
+    line.D (record { head = record { opcode = 4; param = 0; size = 6; source = 1; sink = 7; denied = false }; mask = 0; lanes = replicate WIDEST 0; corrupt = false }) ∷
+    line.C (record { head = record { opcode = 4; param = 1; size = 6; source = 0; address = 0x80 }; mask = 0; lanes = replicate WIDEST 0; corrupt = false }) ∷
+    line.B (record { head = record { opcode = 7; param = 2; size = 6; source = 0; address = 0x80 }; mask = 0xff; lanes = replicate WIDEST 0; corrupt = false }) ∷
+    line.A (record { head = record { opcode = 7; param = 2; size = 6; source = 1; address = 0x40 }; mask = 0xf; lanes = replicate WIDEST 0; corrupt = false }) ∷ []
 
 five_cross : answer_of 1 4 8 five false ≡ lines_of
     (codes "tilelink-far 1 client 4 manager 8" ∷

@@ -213,15 +213,21 @@ fn with_widths<T: Threads, const C: usize, const M: usize>(
         IsAnswer text.items (is_check order.now) made.text.items made.all_done) }
     ensures err { IfErr result (IsOfText text.items) }
 {
-    let script = read_script::<C, M>(alloc, &text, version)?;
+    let script = match read_script::<C, M>(alloc, &text, version) {
+        Ok(script) => script,
+        Err(fault) => return Err(TextFault::from(fault)),
+    };
     let check = order.is_check();
     let room = room_for_answer(alloc, text, check);
-    let outcome = outcome_of::<T, C, M>(rt, alloc, &script, order)?;
+    let outcome = match outcome_of::<T, C, M>(rt, alloc, &script, order) {
+        Ok(outcome) => outcome,
+        Err(fault) => return Err(fault),
+    };
     drop(script);
     answer_in(room, alloc, &outcome, check, version)
 }
 
-/// The same, for a client of `C` bytes: the manager's width is one of seven.
+/// The same, for a client of `C` bytes: the manager's width is one of eight.
 fn with_client<T: Threads, const C: usize>(
     rt: &T,
     alloc: Global,

@@ -50,13 +50,19 @@ fn with_widths<const C: usize, const M: usize>(
     ensures ok { IfOk result (λ made. IsAnswer text.now check made.text.items made.all_done) }
     ensures err { IfErr result (IsOfText text.now) }
 {
-    let script = read_script::<C, M>(alloc, text, version)?;
-    let outcome = outcome_of::<C, M>(alloc, &script)?;
+    let script = match read_script::<C, M>(alloc, text, version) {
+        Ok(script) => script,
+        Err(fault) => return Err(TextFault::from(fault)),
+    };
+    let outcome = match outcome_of::<C, M>(alloc, &script) {
+        Ok(outcome) => outcome,
+        Err(fault) => return Err(fault),
+    };
     drop(script);
     answer_of(alloc, &outcome, check, version)
 }
 
-/// The same, for a client of `C` bytes: the manager's width is one of seven.
+/// The same, for a client of `C` bytes: the manager's width is one of eight.
 fn with_client<const C: usize>(
     alloc: Global,
     text: &[u8],

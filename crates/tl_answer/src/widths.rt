@@ -1,7 +1,7 @@
 //! The choice of a width that only a text says.
 
 /// Calls a function that is generic in a width, its last parameter, with the width that a number is:
-/// `at_width!(number, name::<A, B, _>(x, y))`. A number that is none of the first six stands for 64.
+/// `at_width!(number, name::<A, B, _>(x, y))`. A number that is none of the first seven stands for 128.
 #[macro_export]
 macro_rules! at_width {
     ($width:expr, $name:ident::<$($before:ident,)* _>($($argument:expr),*)) => {
@@ -12,7 +12,8 @@ macro_rules! at_width {
             8 => $name::<$($before,)* 8>($($argument),*),
             16 => $name::<$($before,)* 16>($($argument),*),
             32 => $name::<$($before,)* 32>($($argument),*),
-            _ => $name::<$($before,)* 64>($($argument),*),
+            64 => $name::<$($before,)* 64>($($argument),*),
+            _ => $name::<$($before,)* 128>($($argument),*),
         }
     };
 }

@@ -12,6 +12,7 @@ use Rattle.tl_burst.specs.Handing.{fault_after, rest_of, with_home, homes_with}
 use Rattle.tl_burst.specs.Messages.{beats_of}
 use Rattle.tl_burst.proofs.BegunMessages.{left-zero}
 use Rattle.tl_convert.proofs.CountLoop.{one-more, accepted-next}
+use Rattle.tl_ring.specs.declared.queue.TheConstants.{ROOM}
 use Rattle.tl_ring.specs.Crossing.{World, offered, shut, inbox_room}
 use Rattle.tl_ring.specs.Laws.{Crosses}
 use Rattle.tl_bridge.proofs.Moving.{moved_in, moved, push_count, pop_count}
@@ -39,7 +40,7 @@ none-or-some (suc n) = inr (omega arith)
 
 -- where nothing can go into a ring or out of it, nothing is there
 none-goes : (stage room ring inbox : ℕ) → 1 ≤ room → inbox ≡ 0 →
-    min stage (room - ring) + min (ring + min stage (room - ring)) (64 - inbox) ≡ 0 → stage + ring + inbox ≡ 0
+    min stage (room - ring) + min (ring + min stage (room - ring)) (ROOM - inbox) ≡ 0 → stage + ring + inbox ≡ 0
 none-goes stage room ring inbox some none e = omega arith
 
 module _ {H : Type 0} {w v : ℕ} (z : World H w v) where

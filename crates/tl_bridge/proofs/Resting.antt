@@ -10,6 +10,7 @@ use Rattle.tl_msg.specs.declared.head.HeadD.{HeadD}
 use Rattle.tl_msg.specs.declared.head.HeadE.{HeadE}
 use Rattle.tl_msg.specs.declared.beat.BeatOf.{BeatOf}
 use Rattle.tl_msg.specs.declared.fault.SideFault.{SideFault}
+use Rattle.tl_ring.specs.declared.queue.TheConstants.{ROOM}
 use Rattle.tl_ring.specs.Crossing.{World, inbox_room}
 use Rattle.tl_ring.specs.Ends.{Sending, Taking, Sends, Takes, Met, sent, received, known_free, known_items, room}
 use Rattle.tl_ring.specs.declared.standing.Standing.{Standing}
@@ -69,7 +70,7 @@ module _ {K A H : Type 0} {v : ℕ} where
         none_left = left;
       }
     where
-      no-more : (known inbox moved : ℕ) → 0 ≡ inbox + moved → min known (64 - inbox) ≤ 0 → known ≡ 0
+      no-more : (known inbox moved : ℕ) → 0 ≡ inbox + moved → min known (ROOM - inbox) ≤ 0 → known ≡ 0
       no-more known inbox moved e least = omega arith
 
   -- all that stood in an inbox was taken

@@ -40,8 +40,13 @@ pub fn run_sync<const C: usize, const M: usize>(
         ((ring ≡ 0) ⊎ (MAX_RING < ring))) }
     ensures never_stalled { IfErr result (λ fault. fault ≢ Stalled) }
 {
-    let mut bridge = SyncBridge::<C, M>::new(alloc, ring)?;
-    let mut far = Taken::new(alloc, script)?;
+    let mut bridge = match SyncBridge::<C, M>::new(alloc, ring) {
+        Ok(bridge) => bridge,
+        Err(fault) => return Err(RunFault::from(fault)),
+    };
+    let Ok(mut far) = Taken::new(alloc, script) else {
+        return Err(RunFault::OutOfMemory);
+    };
     let end = run_rounds(&mut bridge, script, &mut far);
     Ok(outcome_of(end, far))
 }

@@ -54,7 +54,10 @@ pub fn run_threads<R: Threads, G: Gate + Send, H: Gate + Send, const C: usize, c
         ((ring ≡ 0) ⊎ (MAX_RING < ring))) }
     ensures never_stalled { IfErr result (λ fault. fault ≢ Stalled) }
 {
-    let (client, manager) = tl_pair::bridge::<C, M, Global>(alloc, ring)?;
+    let (client, manager) = match tl_pair::bridge::<C, M, Global>(alloc, ring) {
+        Ok(sides) => sides,
+        Err(fault) => return Err(RunFault::from(fault)),
+    };
     let mut client = ClientRun {
         side: client,
         far_b: Vec::new(alloc),
@@ -102,7 +105,9 @@ fn run_sides<R: Threads, G: Gate + Send, H: Gate + Send, const C: usize, const M
         end.stops end.rounds) }
     ensures memory { IfErr result (λ fault. fault ≡ OutOfMemory) }
 {
-    let Taken { a, b, c, d, e } = Taken::new(alloc, script)?;
+    let Ok(Taken { a, b, c, d, e }) = Taken::new(alloc, script) else {
+        return Err(RunFault::OutOfMemory);
+    };
     manager.far_a = a;
     client.far_b = b;
     manager.far_c = c;

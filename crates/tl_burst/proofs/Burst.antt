@@ -13,7 +13,7 @@ use Rattle.tl_burst.specs.Handing.{ends, rest_after}
 count-bounds : (carries : Bool) (size w : ℕ) → IsWidth w → size ≤ 12 → (0 < beats_per_message carries size w) × (beats_per_message carries size w ≤ 4096)
 count-bounds false size w width small = (omega arith, omega arith)
 count-bounds true size w width small =
-    let b : (0 < w) × (w ≤ 64) = width_bounds w width in
+    let b = width_bounds w width in
     let q : 0 < 2 ^ size = search rules in
     let p : 0 < bytes_per_beat size w = omega arith in
     let l : bytes_per_beat size w ≤ 2 ^ size = omega arith in
@@ -29,7 +29,7 @@ beats-bounds r h w width small = count-bounds (r.carries h) (r.size h) w width s
 some-by : (carries : Bool) (size w : ℕ) → IsWidth w → 0 < beats_per_message carries size w
 some-by false size w width = omega arith
 some-by true size w width =
-    let b : (0 < w) × (w ≤ 64) = width_bounds w width in
+    let b = width_bounds w width in
     let q : 0 < 2 ^ size = search rules in
     let p : 0 < bytes_per_beat size w = omega arith in
     let l : bytes_per_beat size w ≤ 2 ^ size = omega arith in

@@ -50,7 +50,7 @@ places-false a b c d never =
 
 module _ {H : Type 0} (r : Rules H) (m : Message H) (w : ℕ) (width : IsWidth w) where
   pub per-pos : 0 < per_beat r m.head w
-  per-pos = let b : (0 < w) × (w ≤ 64) = width_bounds w width in
+  per-pos = let b = width_bounds w width in
       let q : 0 < 2 ^ r.size m.head = search rules in omega arith
 
   pub per-le : per_beat r m.head w ≤ w

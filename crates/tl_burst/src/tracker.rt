@@ -48,7 +48,7 @@ impl<K: Channel, const W: usize> Tracker<K, W> {
     /// `Param`, `Size`, `Unaligned`, `Mask`, `Corrupt`, in this order; inside a burst `HeadChanged`,
     /// then `Mask`. On C, D and E the mask is not read, and E is never refused. Nothing changes.
     ///
-    /// It needs that `W` is a width: 1, 2, 4, 8, 16, 32 or 64 bytes. TileLink: burst rules, byte lanes,
+    /// It needs that `W` is a width: 1, 2, 4, 8, 16, 32, 64 or 128 bytes. TileLink: burst rules, byte lanes,
     /// masks, signal descriptions, opcode and param tables. This project's choice: the order of the
     /// faults, and that the mask is exactly the active lanes but on PutPartialData.
     // inlined, so that its wide answer does not pass through memory

@@ -68,7 +68,8 @@ pub extern "C" fn tl_free(alloc: Global, handle: &mut Handle)
 }
 
 /// Moves staged beats to the rings on all channels, as many as each ring has room for, and answers
-/// how many these are in all: at most 320, and 0 where no bridge is held.
+/// how many these are in all: at most five times [`tl_ring::ROOM`], and 0 where no bridge is
+/// held.
 #[unsafe(no_mangle)]
 pub extern "C" fn tl_pump(alloc: Global, handle: &mut Handle) -> usize
     ensures count { result ≡ pumped_count handle.old.owned.held }
@@ -85,7 +86,8 @@ pub extern "C" fn tl_pump(alloc: Global, handle: &mut Handle) -> usize
 }
 
 /// Moves beats from the rings to the inboxes on all channels, as many as each inbox has room for,
-/// and answers how many these are in all: at most 320, and 0 where no bridge is held.
+/// and answers how many these are in all: at most five times [`tl_ring::ROOM`], and 0 where no
+/// bridge is held.
 #[unsafe(no_mangle)]
 pub extern "C" fn tl_fetch(alloc: Global, handle: &mut Handle) -> usize
     ensures count { result ≡ fetched_count handle.old.owned.held }

@@ -8,6 +8,7 @@ use Rattle.tl_msg.specs.declared.head.HeadE.{HeadE}
 use Rattle.tl_msg.specs.declared.beat.BeatOf.{BeatOf}
 use Rattle.tl_c_beats.specs.declared.fields.BeatFields.{BeatFields}
 use Rattle.tl_c_beats.specs.declared.fields.TheConstants.{RESERVED}
+use Rattle.tl_c_beats.specs.Masks.{whole_mask, low_word, high_word}
 
 -- a flag is set where it is not 0
 abbrev pub is_set : ℕ → Bool
@@ -22,7 +23,7 @@ unused = replicate RESERVED 0
 
 -- a beat of any channel, by its head
 abbrev pub beat_with : {H : Type 0} {w : ℕ} → H → BeatFields → List ℕ → BeatOf H w
-beat_with head f lanes = record { head = head; mask = f.mask; lanes = lanes; corrupt = is_set f.corrupt }
+beat_with head f lanes = record { head = head; mask = whole_mask f.mask f.mask_high; lanes = lanes; corrupt = is_set f.corrupt }
 
 abbrev pub beat_a : {w : ℕ} → BeatFields → List ℕ → BeatOf HeadA w
 beat_a f lanes = beat_with (record { opcode = f.opcode; param = f.param; size = f.size; source = f.source; address = f.address }) f lanes
@@ -30,7 +31,7 @@ beat_a f lanes = beat_with (record { opcode = f.opcode; param = f.param; size = 
 abbrev pub fields_a : {w : ℕ} → BeatOf HeadA w → BeatFields
 fields_a b = record {
   address = b.head.address;
-  mask = b.mask;
+  mask = low_word b.mask;
   source = b.head.source;
   sink = 0;
   opcode = b.head.opcode;
@@ -39,6 +40,7 @@ fields_a b = record {
   denied = 0;
   corrupt = flag b.corrupt;
   reserved = unused;
+  mask_high = high_word b.mask;
 }
 
 abbrev pub beat_b : {w : ℕ} → BeatFields → List ℕ → BeatOf HeadB w
@@ -47,7 +49,7 @@ beat_b f lanes = beat_with (record { opcode = f.opcode; param = f.param; size = 
 abbrev pub fields_b : {w : ℕ} → BeatOf HeadB w → BeatFields
 fields_b b = record {
   address = b.head.address;
-  mask = b.mask;
+  mask = low_word b.mask;
   source = b.head.source;
   sink = 0;
   opcode = b.head.opcode;
@@ -56,6 +58,7 @@ fields_b b = record {
   denied = 0;
   corrupt = flag b.corrupt;
   reserved = unused;
+  mask_high = high_word b.mask;
 }
 
 abbrev pub beat_c : {w : ℕ} → BeatFields → List ℕ → BeatOf HeadC w
@@ -64,7 +67,7 @@ beat_c f lanes = beat_with (record { opcode = f.opcode; param = f.param; size = 
 abbrev pub fields_c : {w : ℕ} → BeatOf HeadC w → BeatFields
 fields_c b = record {
   address = b.head.address;
-  mask = b.mask;
+  mask = low_word b.mask;
   source = b.head.source;
   sink = 0;
   opcode = b.head.opcode;
@@ -73,6 +76,7 @@ fields_c b = record {
   denied = 0;
   corrupt = flag b.corrupt;
   reserved = unused;
+  mask_high = high_word b.mask;
 }
 
 abbrev pub beat_d : {w : ℕ} → BeatFields → List ℕ → BeatOf HeadD w
@@ -81,7 +85,7 @@ beat_d f lanes = beat_with (record { opcode = f.opcode; param = f.param; size = 
 abbrev pub fields_d : {w : ℕ} → BeatOf HeadD w → BeatFields
 fields_d b = record {
   address = 0;
-  mask = b.mask;
+  mask = low_word b.mask;
   source = b.head.source;
   sink = b.head.sink;
   opcode = b.head.opcode;
@@ -90,6 +94,7 @@ fields_d b = record {
   denied = flag b.head.denied;
   corrupt = flag b.corrupt;
   reserved = unused;
+  mask_high = high_word b.mask;
 }
 
 abbrev pub beat_e : {w : ℕ} → BeatFields → List ℕ → BeatOf HeadE w
@@ -98,7 +103,7 @@ beat_e f lanes = beat_with (record { sink = f.sink }) f lanes
 abbrev pub fields_e : {w : ℕ} → BeatOf HeadE w → BeatFields
 fields_e b = record {
   address = 0;
-  mask = b.mask;
+  mask = low_word b.mask;
   source = 0;
   sink = b.head.sink;
   opcode = 0;
@@ -107,4 +112,5 @@ fields_e b = record {
   denied = 0;
   corrupt = flag b.corrupt;
   reserved = unused;
+  mask_high = high_word b.mask;
 }

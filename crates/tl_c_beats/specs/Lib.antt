@@ -1,3 +1,4 @@
 pub mod Names
+pub mod Masks
 pub mod Fields
 pub mod Answers

@@ -17,7 +17,7 @@ pub const OUT_OF_MEMORY: u8 = 13;
 
 /// The libraries' version: it grows with each change of a call, or of a structure that calls are
 /// given (this project's choice).
-pub const VERSION: u32 = 3;
+pub const VERSION: u32 = 4;
 
 /// The bytes of an answer's name, the zeros at its end included.
 pub const NAME_BYTES: usize = 16;

@@ -7,11 +7,11 @@ use tl_ring::Standing;
 #[repr(C)]
 #[derive(Drop)]
 pub struct BeatCounts {
-    /// The beats that wait for a place in the ring, at most 64.
+    /// The beats that wait for a place in the ring, at most [`tl_ring::ROOM`].
     pub staged: usize,
     /// The beats in the ring, at most as many as it holds.
     pub in_ring: usize,
-    /// The beats that were fetched and not yet taken, at most 64.
+    /// The beats that were fetched and not yet taken, at most [`tl_ring::ROOM`].
     pub inbox: usize,
 }
 

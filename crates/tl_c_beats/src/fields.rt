@@ -2,19 +2,21 @@
 ghost use Rattle.std.specs.Prelude.{◌≡◌};
 ghost use Rattle.tl_c_beats.specs.Fields.{beat_a, beat_b, beat_c, beat_d, beat_e, fields_a, fields_b, fields_c, fields_d, fields_e};
 
+use crate::masks::{high_word, low_word, whole_mask};
 use tl_msg::{BeatOf, HeadA, HeadB, HeadC, HeadD, HeadE, SinkId, SourceId};
 
 /// The bytes of a beat's fields that no field has yet (this project's choice).
 pub const RESERVED: usize = 7;
 
-/// The fields of a beat on any of the five channels, but its lanes: 32 bytes, with no gap between
+/// The fields of a beat on any of the five channels, but its lanes: 40 bytes, with no gap between
 /// two fields. A field that the channel lacks is not read, and is written 0. `denied` and `corrupt`
 /// are set where they are not 0, and are written 1 there. `reserved` is not read, and is written 0,
-/// so that each of the 32 bytes has a value.
+/// so that each of the 40 bytes has a value.
 #[repr(C)]
 #[derive(Drop)]
 pub struct BeatFields {
     pub address: u64,
+    /// The lanes of the mask from 0 to 63.
     pub mask: u64,
     pub source: SourceId,
     pub sink: SinkId,
@@ -24,6 +26,8 @@ pub struct BeatFields {
     pub denied: u8,
     pub corrupt: u8,
     pub reserved: [u8; RESERVED],
+    /// The lanes of the mask from 64 on.
+    pub mask_high: u64,
 }
 
 pub fn beat_a<const W: usize>(fields: &BeatFields, lanes: &[u8; W]) -> BeatOf<HeadA, W>
@@ -37,7 +41,7 @@ pub fn beat_a<const W: usize>(fields: &BeatFields, lanes: &[u8; W]) -> BeatOf<He
             source: fields.source,
             address: fields.address,
         },
-        mask: fields.mask,
+        mask: whole_mask(fields.mask, fields.mask_high),
         lanes: *lanes,
         corrupt: fields.corrupt != 0,
     }
@@ -48,7 +52,7 @@ pub fn fields_a<const W: usize>(beat: &BeatOf<HeadA, W>) -> BeatFields
 {
     BeatFields {
         address: beat.head.address,
-        mask: beat.mask,
+        mask: low_word(beat.mask),
         source: beat.head.source,
         sink: 0,
         opcode: beat.head.opcode,
@@ -57,6 +61,7 @@ pub fn fields_a<const W: usize>(beat: &BeatOf<HeadA, W>) -> BeatFields
         denied: 0,
         corrupt: u8::from(beat.corrupt),
         reserved: [0; RESERVED],
+        mask_high: high_word(beat.mask),
     }
 }
 
@@ -71,7 +76,7 @@ pub fn beat_b<const W: usize>(fields: &BeatFields, lanes: &[u8; W]) -> BeatOf<He
             source: fields.source,
             address: fields.address,
         },
-        mask: fields.mask,
+        mask: whole_mask(fields.mask, fields.mask_high),
         lanes: *lanes,
         corrupt: fields.corrupt != 0,
     }
@@ -82,7 +87,7 @@ pub fn fields_b<const W: usize>(beat: &BeatOf<HeadB, W>) -> BeatFields
 {
     BeatFields {
         address: beat.head.address,
-        mask: beat.mask,
+        mask: low_word(beat.mask),
         source: beat.head.source,
         sink: 0,
         opcode: beat.head.opcode,
@@ -91,6 +96,7 @@ pub fn fields_b<const W: usize>(beat: &BeatOf<HeadB, W>) -> BeatFields
         denied: 0,
         corrupt: u8::from(beat.corrupt),
         reserved: [0; RESERVED],
+        mask_high: high_word(beat.mask),
     }
 }
 
@@ -105,7 +111,7 @@ pub fn beat_c<const W: usize>(fields: &BeatFields, lanes: &[u8; W]) -> BeatOf<He
             source: fields.source,
             address: fields.address,
         },
-        mask: fields.mask,
+        mask: whole_mask(fields.mask, fields.mask_high),
         lanes: *lanes,
         corrupt: fields.corrupt != 0,
     }
@@ -116,7 +122,7 @@ pub fn fields_c<const W: usize>(beat: &BeatOf<HeadC, W>) -> BeatFields
 {
     BeatFields {
         address: beat.head.address,
-        mask: beat.mask,
+        mask: low_word(beat.mask),
         source: beat.head.source,
         sink: 0,
         opcode: beat.head.opcode,
@@ -125,6 +131,7 @@ pub fn fields_c<const W: usize>(beat: &BeatOf<HeadC, W>) -> BeatFields
         denied: 0,
         corrupt: u8::from(beat.corrupt),
         reserved: [0; RESERVED],
+        mask_high: high_word(beat.mask),
     }
 }
 
@@ -140,7 +147,7 @@ pub fn beat_d<const W: usize>(fields: &BeatFields, lanes: &[u8; W]) -> BeatOf<He
             sink: fields.sink,
             denied: fields.denied != 0,
         },
-        mask: fields.mask,
+        mask: whole_mask(fields.mask, fields.mask_high),
         lanes: *lanes,
         corrupt: fields.corrupt != 0,
     }
@@ -151,7 +158,7 @@ pub fn fields_d<const W: usize>(beat: &BeatOf<HeadD, W>) -> BeatFields
 {
     BeatFields {
         address: 0,
-        mask: beat.mask,
+        mask: low_word(beat.mask),
         source: beat.head.source,
         sink: beat.head.sink,
         opcode: beat.head.opcode,
@@ -160,6 +167,7 @@ pub fn fields_d<const W: usize>(beat: &BeatOf<HeadD, W>) -> BeatFields
         denied: u8::from(beat.head.denied),
         corrupt: u8::from(beat.corrupt),
         reserved: [0; RESERVED],
+        mask_high: high_word(beat.mask),
     }
 }
 
@@ -168,7 +176,7 @@ pub fn beat_e<const W: usize>(fields: &BeatFields, lanes: &[u8; W]) -> BeatOf<He
 {
     BeatOf {
         head: HeadE { sink: fields.sink },
-        mask: fields.mask,
+        mask: whole_mask(fields.mask, fields.mask_high),
         lanes: *lanes,
         corrupt: fields.corrupt != 0,
     }
@@ -179,7 +187,7 @@ pub fn fields_e<const W: usize>(beat: &BeatOf<HeadE, W>) -> BeatFields
 {
     BeatFields {
         address: 0,
-        mask: beat.mask,
+        mask: low_word(beat.mask),
         source: 0,
         sink: beat.head.sink,
         opcode: 0,
@@ -188,5 +196,6 @@ pub fn fields_e<const W: usize>(beat: &BeatOf<HeadE, W>) -> BeatFields
         denied: 0,
         corrupt: u8::from(beat.corrupt),
         reserved: [0; RESERVED],
+        mask_high: high_word(beat.mask),
     }
 }

@@ -5,6 +5,8 @@
 mod answers;
 mod counts;
 mod fields;
+pub mod laws;
+mod masks;
 mod parts;
 
 pub use answers::{NAME_BYTES, NO_BRIDGE, NO_SIDE, NOT_READY, OUT_OF_MEMORY, VERSION, answer_name};
@@ -13,4 +15,5 @@ pub use fields::{
     BeatFields, RESERVED, beat_a, beat_b, beat_c, beat_d, beat_e, fields_a, fields_b, fields_c,
     fields_d, fields_e,
 };
+pub use masks::{high_word, low_word, whole_mask};
 pub use parts::Parts;

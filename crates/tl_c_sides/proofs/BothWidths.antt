@@ -1,10 +1,13 @@
--- Both widths are among the seven.
+-- Both widths are among the eight.
+use Rattle.std.proofs.Common.{refl, arith}
 use Rattle.tl_lanes.specs.Lanes.{IsWidth}
-use Rattle.tl_lanes.proofs.Widths.{width_1, width_2, width_4, width_8, width_16, width_32, width_64}
+use Rattle.tl_lanes.proofs.Widths.{width_sure}
 use Rattle.tl_c_sides.specs.declared.widths.TheConstants.{CLIENT, MANAGER}
 
 pub client : IsWidth CLIENT
-client = search (width_1, width_2, width_4, width_8, width_16, width_32, width_64)
+unfolding lib.Count.ones
+client = width_sure CLIENT (omega arith) refl
 
 pub manager : IsWidth MANAGER
-manager = search (width_1, width_2, width_4, width_8, width_16, width_32, width_64)
+unfolding lib.Count.ones
+manager = width_sure MANAGER (omega arith) refl

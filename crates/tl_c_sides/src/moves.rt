@@ -1,5 +1,6 @@
 //! How beats of a side get on.
-ghost use Rattle.std.specs.Prelude.{◌≡◌, ◌≤◌, None};
+ghost use Rattle.std.specs.Prelude.{◌≡◌, ◌≤◌, ◌*◌, None};
+ghost use Rattle.tl_ring.specs.declared.queue.TheConstants.{ROOM};
 ghost use Rattle.tl_pair.specs.Sides.{ClientPast, ManagerPast};
 ghost use Rattle.tl_c_sides.specs.Calls.{HoldsClient, HoldsManager, KeepsClient, KeepsManager, ClientPumps, ManagerPumps, ClientFetches, ManagerFetches, client_pumped, manager_pumped};
 
@@ -9,11 +10,12 @@ use crate::widths::{CLIENT, MANAGER};
 use std::alloc::Global;
 
 /// Moves staged beats of A, C and E into their rings, at least as many as the side knows to find a
-/// place, and answers how many these are in all: at most 192, and 0 where no side is held.
+/// place, and answers how many these are in all: at most three times [`tl_ring::ROOM`], and 0
+/// where no side is held.
 #[unsafe(no_mangle)]
 pub extern "C" fn tl_pump_client(alloc: Global, client: &mut ClientHandle) -> usize
     ensures moves { ClientPumps client.old.owned.held client.new.owned.held result }
-    ensures most { result ≤ 192 }
+    ensures most { result ≤ 3 * ROOM }
     ensures stands { (x : ClientPast CLIENT MANAGER) → HoldsClient client.old.owned.held x →
         HoldsClient client.new.owned.held
         (client_pumped client.old.owned.held client.new.owned.held x) }
@@ -28,12 +30,12 @@ pub extern "C" fn tl_pump_client(alloc: Global, client: &mut ClientHandle) -> us
 }
 
 /// Moves beats of B and D from their rings into the inboxes, at least as many as the side knows to
-/// be there and each inbox has room for, and answers how many these are in all: at most 128, and 0
-/// where no side is held.
+/// be there and each inbox has room for, and answers how many these are in all: at most twice
+/// [`tl_ring::ROOM`], and 0 where no side is held.
 #[unsafe(no_mangle)]
 pub extern "C" fn tl_fetch_client(alloc: Global, client: &mut ClientHandle) -> usize
     ensures moves { ClientFetches client.old.owned.held client.new.owned.held result }
-    ensures most { result ≤ 128 }
+    ensures most { result ≤ 2 * ROOM }
     ensures stands { (x : ClientPast CLIENT MANAGER) → HoldsClient client.old.owned.held x →
         HoldsClient client.new.owned.held x }
     ensures kept { KeepsClient client.old.owned.held client.new.owned.held }
@@ -47,11 +49,12 @@ pub extern "C" fn tl_fetch_client(alloc: Global, client: &mut ClientHandle) -> u
 }
 
 /// Moves staged beats of B and D into their rings, at least as many as the side knows to find a
-/// place, and answers how many these are in all: at most 128, and 0 where no side is held.
+/// place, and answers how many these are in all: at most twice [`tl_ring::ROOM`], and 0 where no
+/// side is held.
 #[unsafe(no_mangle)]
 pub extern "C" fn tl_pump_manager(alloc: Global, manager: &mut ManagerHandle) -> usize
     ensures moves { ManagerPumps manager.old.owned.held manager.new.owned.held result }
-    ensures most { result ≤ 128 }
+    ensures most { result ≤ 2 * ROOM }
     ensures stands { (x : ManagerPast CLIENT MANAGER) → HoldsManager manager.old.owned.held x →
         HoldsManager manager.new.owned.held
         (manager_pumped manager.old.owned.held manager.new.owned.held x) }
@@ -66,12 +69,12 @@ pub extern "C" fn tl_pump_manager(alloc: Global, manager: &mut ManagerHandle) ->
 }
 
 /// Moves beats of A, C and E from their rings into the inboxes, at least as many as the side knows
-/// to be there and each inbox has room for, and answers how many these are in all: at most 192, and
-/// 0 where no side is held.
+/// to be there and each inbox has room for, and answers how many these are in all: at most three
+/// times [`tl_ring::ROOM`], and 0 where no side is held.
 #[unsafe(no_mangle)]
 pub extern "C" fn tl_fetch_manager(alloc: Global, manager: &mut ManagerHandle) -> usize
     ensures moves { ManagerFetches manager.old.owned.held manager.new.owned.held result }
-    ensures most { result ≤ 192 }
+    ensures most { result ≤ 3 * ROOM }
     ensures stands { (x : ManagerPast CLIENT MANAGER) → HoldsManager manager.old.owned.held x →
         HoldsManager manager.new.owned.held x }
     ensures kept { KeepsManager manager.old.owned.held manager.new.owned.held }

@@ -10,8 +10,9 @@ use Rattle.std.proofs.lemmas.Nat.Bits.{bit_at-lt, bit_at-zero, bit_at_above, sam
 use Rattle.std.proofs.Math.Pow.{pow_mono}
 use Rattle.tl_msg.specs.Rules.{Rules}
 use Rattle.tl_msg.specs.declared.beat.BeatOf.{BeatOf}
+use Rattle.tl_lanes.specs.declared.limits.TheConstants.{WIDEST}
 use Rattle.tl_lanes.specs.Lanes.{IsWidth, lane_of}
-use Rattle.tl_lanes.proofs.Widths.{lane-lt, lane-lt-64, width_bounds, lane-shift}
+use Rattle.tl_lanes.proofs.Widths.{lane-lt, lane-lt_widest, width_bounds, lane-shift}
 use Rattle.tl_burst.specs.Messages.{Message, Cell, per_beat, lane_value, lane_on, mask_at, beat_at, some_of, is_bad}
 use Rattle.tl_burst.specs.Reading.{cell_of}
 use Rattle.tl_convert.specs.Partial.{Filled}
@@ -116,14 +117,14 @@ module _ {H : Type 0} (r : Rules H) (m : Message H) (v : ℕ) (vw : IsWidth v) w
           let k : i - d < q = (let z : d ≤ i = s.1 in omega arith) in
           let on : c ≡ cell_of r m.head W (lane_of m.home i W) (Some beat) = cell-is i c s.1 ih e in
           let clear : bit_at old.mask (lane_of m.home i v) ≡ 0 =
-          filled.clear (lane_of m.home i v) (lane-lt-64 m.home i v vw) (λ i' il' ih'. new-lane i i' s.1 ih il' ih') in
+          filled.clear (lane_of m.home i v) (lane-lt_widest m.home i v vw) (λ i' il' ih'. new-lane i i' s.1 ih il' ih') in
           ap (λ x. bit_at new.mask x) (sym (place i v vw s.1)) ∙ poured.bits (i - d) k ∙
           ap (λ x. cond r.masked (bit_at beat.mask x) (bit_at old.mask (lane_of at (i - d) v))) (place i W ww s.1) ∙
           ap (λ x. cond r.masked (bit_at beat.mask (lane_of m.home i W)) (bit_at old.mask x)) (place i v vw s.1) ∙
           bit-cell r.masked (r.partial m.head) (bit_at beat.mask (lane_of m.home i W)) (bit_at old.mask (lane_of m.home i v))
           (bit_at-lt beat.mask (lane_of m.home i W)) (λ _. clear) (λ t f. brings.bits t f i s.1 ih) ∙
           ap (λ y. cond (r.masked && y.on) 1 0) (sym on))
-          (λ s. poured.bits_kept (lane_of m.home i v) (lane-lt-64 m.home i v vw) (λ k kq. old-lane i k il s.1 kq) ∙ filled.bits i c il s.1 e)
+          (λ s. poured.bits_kept (lane_of m.home i v) (lane-lt_widest m.home i v vw) (λ k kq. old-lane i k il s.1 kq) ∙ filled.bits i c il s.1 e)
           (leb_tells d i);
       clear = λ l lt never. poured.bits_kept l lt (λ k kq e. never (d + k) (omega arith) (omega arith) (sym (there k v vw) ∙ e)) ∙
           filled.clear l lt (λ i il ih. never i il (omega arith));
@@ -163,17 +164,17 @@ module _ {H : Type 0} (r : Rules H) (m : Message H) (v : ℕ) (vw : IsWidth v) w
         let value : lane_on r m v j l ≡ cell.0.on = rw on (rw cell.1 refl) in
         ap (λ x. bit_at b.mask x) (sym there) ∙ filled.bits i cell.0 lo hi cell.1 ∙ ap (λ y. cond (r.masked && y) 1 0) (sym value))
         (λ (never, on).
-        let bound : (0 < v) × (v ≤ 64) = width_bounds v vw in
+        let bound = width_bounds v vw in
         let value : lane_on r m v j l ≡ false = rw on refl in
         filled.clear l (omega arith) never ∙ sym (no-digit r.masked) ∙ ap (λ y. cond (r.masked && y) 1 0) (sym value))
         (on_lane r m v vw j room l)
 
     mask-whole : b.mask ≡ mask_at r m v j
     mask-whole =
-        let bound : (0 < v) × (v ≤ 64) = width_bounds v vw in
+        let bound = width_bounds v vw in
         let below : mask_at r m v j < 2 ^ v = mask_of-lt (λ l. r.masked && lane_on r m v j l) v in
-        let pow : 2 ^ v ≤ 2 ^ 64 = pow_mono bound.1 in
-        same_from_bits_below 64 b.mask (mask_at r m v j) filled.small (omega arith) (λ l lt. ⊎_elim
+        let pow : 2 ^ v ≤ 2 ^ WIDEST = pow_mono bound.1 in
+        same_from_bits_below WIDEST b.mask (mask_at r m v j) filled.small (omega arith) (λ l lt. ⊎_elim
         (λ s.
         filled.clear l lt (λ i lo hi e. let x : lane_of m.home i v < v = lane-lt m.home i v vw in let z : v ≤ l = s.1 in absurd (omega arith)) ∙
         sym (bit_at_above (mask_at r m v j) v l below s.1))

@@ -125,7 +125,7 @@ both_ways = refl
 half : due rules_a 4 2 (take 1 (two 0x10)) (0x10 ∷ []) ≡ layout_part rules_a put 4 2 1
 half = refl
 
-counts : map (λ w. length (layout rules_a put w)) (1 ∷ 2 ∷ 4 ∷ 8 ∷ 16 ∷ 32 ∷ 64 ∷ []) ≡ 8 ∷ 4 ∷ 2 ∷ 1 ∷ 1 ∷ 1 ∷ 1 ∷ []
+counts : map (λ w. length (layout rules_a put w)) (1 ∷ 2 ∷ 4 ∷ 8 ∷ 16 ∷ 32 ∷ 64 ∷ 128 ∷ []) ≡ 8 ∷ 4 ∷ 2 ∷ 1 ∷ 1 ∷ 1 ∷ 1 ∷ 1 ∷ []
 counts = refl
 
 -- corrupt in one beat of 4 bytes is corrupt in all of the 8

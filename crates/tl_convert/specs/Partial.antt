@@ -17,5 +17,5 @@ pub record Filled {H : Type 0} (r : Rules H) (m : Message H) (v j end : ℕ) (b 
   pub bits : (i : ℕ) (c : Cell) → j * per_beat r m.head v ≤ i → i < end → slice_get m.cells i ≡ Some c →
       bit_at b.mask (lane_of m.home i v) ≡ cond (r.masked && c.on) 1 0
   pub clear : (l : ℕ) → l < WIDEST → ((i : ℕ) → j * per_beat r m.head v ≤ i → i < end → lane_of m.home i v ≢ l) → bit_at b.mask l ≡ 0
-  pub small : b.mask < 2 ^ 64
+  pub small : b.mask < 2 ^ WIDEST
   pub corrupt : b.corrupt ≡ some_of (is_bad r m) (j * per_beat r m.head v) (end - j * per_beat r m.head v)

@@ -73,8 +73,8 @@ impl<K: Channel, const W: usize, const V: usize> Converter<K, W, V> {
         self.tracker.check(beat)
     }
 
-    /// Takes the next near beat at its place, which [`Converter::check`] gave, and puts the far beats that it completes, at most 64,
-    /// into `out`, an empty list of the caller's.
+    /// Takes the next near beat at its place, which [`Converter::check`] gave, and puts the far beats that it completes, at most
+    /// [`WIDEST`], into `out`, an empty list of the caller's.
     ///
     /// `home` is read at the first beat of a message on D alone. It may be any number; bytes then go on from lane 0 after the
     /// last lane.
@@ -111,8 +111,8 @@ impl<K: Channel, const W: usize, const V: usize> Converter<K, W, V> {
         self.tracker.advance(place);
     }
 
-    /// Takes the next near beat where [`Converter::check`] admits it, and gives the far beats that it completes, at most 64. The
-    /// home is read as [`Converter::feed_at`] reads it. A refusal changes nothing.
+    /// Takes the next near beat where [`Converter::check`] admits it, and gives the far beats that it completes, at most
+    /// [`WIDEST`]. The home is read as [`Converter::feed_at`] reads it. A refusal changes nothing.
     pub fn feed(
         &mut self,
         beat: Beat<K, W>,

@@ -180,7 +180,7 @@ fn with_widths<const C: usize, const M: usize>(
     })
 }
 
-/// The same, for a client of `C` bytes: the manager's width is one of seven.
+/// The same, for a client of `C` bytes: the manager's width is one of eight.
 fn with_client<const C: usize>(
     alloc: Global,
     text: &[u8],

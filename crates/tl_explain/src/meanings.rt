@@ -20,7 +20,7 @@ pub const FAULTS: [&str; 23] = [
     "11 MidBurst     a caller closed a channel within a burst; no trace shows it\n",
     "12 RingSize     a caller asked for a ring of no beats or of more than 4096; no trace shows it\n",
     "13 OutOfMemory  the machine has no memory left\n",
-    "14 Header       line 1 is not 'tilelink-trace V client C manager M' with version 1 or 2 and two widths of 1 to 64 bytes\n",
+    "14 Header       line 1 is not 'tilelink-trace V client C manager M' with version 1 or 2 and two widths of 1 to 64 bytes, in version 2 of 1 to 128\n",
     "15 Channel      the line is empty, or does not begin with a channel's letter, A to E\n",
     "16 Length       the line is not as long as lines of its channel are in its version and at its sender's width\n",
     "17 Shape        a space or a lower-case hexadecimal digit is missing at its place\n",

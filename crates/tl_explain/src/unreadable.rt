@@ -5,11 +5,16 @@ ghost use Rattle.tl_lanes.specs.Lanes.{IsWidth};
 use std::alloc::{AllocError, Global};
 use std::fmt::Write;
 use tl_answer::at_width;
+use tl_lanes::WIDEST_POWER;
 use tl_msg::{ChA, ChB, ChC, ChD, ChE};
-use tl_trace::{Header, TraceFault, TraceKind, header_of_text, line_of, read};
+use tl_trace::{Header, LONGEST_LINE, TraceFault, TraceKind, header_of_text, line_of, read};
 
-/// How many bytes of a line are shown.
-const SHOWN: usize = 200;
+/// How many bytes of a line are shown: as many as a line of a trace can have, so that the place of a
+/// beat's fault is one of them.
+const SHOWN: usize = LONGEST_LINE;
+
+/// How many widths a bus can have: 1, and each the double of the one before.
+const WIDTHS: u32 = WIDEST_POWER + 1;
 
 /// The digits of a line.
 const DIGITS: &[u8; 16] = b"0123456789abcdef";
@@ -122,23 +127,41 @@ fn largest_digit(
     Ok(largest)
 }
 
-/// How many first bytes a line has in common with a header of a version and two widths.
+/// How many first bytes a line has in common with a text.
+fn same_bytes(line: &[u8], text: &[u8]) -> usize {
+    line.iter()
+        .zip(text.iter())
+        .take_while(|(x, y)| *x == *y)
+        .count()
+}
+
+/// How many first bytes a line has in common with a header.
 fn header_place(alloc: Global, line: &[u8]) -> Result<usize, AllocError> {
     let mut most = 0;
-    for i in 0..98u32 {
-        let (version, client, manager) = (1 + i / 49, 1 << (i / 7 % 7), 1 << (i % 7));
-        let header = format!(in alloc;
-            "tilelink-trace {version} client {client} manager {manager}"
-        )?;
-        let bytes = header.as_bytes();
-        let same = line
-            .iter()
-            .zip(bytes.iter())
-            .take_while(|(x, y)| *x == *y)
-            .count();
-        most = same.max(most);
+    for i in 0..2 * WIDTHS * WIDTHS {
+        let version = 1 + i / (WIDTHS * WIDTHS);
+        let (client, manager) = (1 << (i / WIDTHS % WIDTHS), 1 << (i % WIDTHS));
+        let text = format!(in alloc; "tilelink-trace {version} client {client} manager {manager}")?;
+        let bytes = text.as_bytes();
+        // not every version has every width
+        if header_of_text(bytes).is_some() {
+            most = same_bytes(line, bytes).max(most);
+        }
     }
     Ok(most)
+}
+
+/// Writes the widths that a header can name.
+fn put_widths(out: &mut String) -> Result<(), AllocError> {
+    for power in 0..WIDTHS {
+        let separator = match power {
+            0 => "",
+            7 => " or, in version 2, ",
+            _ => ", ",
+        };
+        write!(out, "{separator}{}", 1u32 << power)?;
+    }
+    Ok(())
 }
 
 /// Writes the first bytes of a line, each that is no printable ASCII as a question mark.
@@ -234,8 +257,9 @@ fn put_formless(
         _ => {
             write!(
                 out,
-                "expected the header 'tilelink-trace V client C manager M', where V is the version, 1 or 2, and C and M are bytes, each 1, 2, 4, 8, 16, 32 or 64"
+                "expected the header 'tilelink-trace V client C manager M', where V is the version, 1 or 2, and C and M are bytes, each "
             )?;
+            put_widths(out)?;
             header_place(alloc, line)
         }
     }

@@ -1,5 +1,5 @@
 -- Each call of a side takes it to what it stands for after the same event: its ends have their places in it, as `Places` of tl_sides says.
-use Rattle.std.proofs.Common.{◌≡◌, ◌↔◌, ◌≤◌, ◌+◌, ℕ, true, Option, None, Some, List, [], ◌∷◌, ◌++◌, map, take, refl, sym, ap, subst, ◌∙◌, arith}
+use Rattle.std.proofs.Common.{◌≡◌, ◌↔◌, ◌≤◌, ◌+◌, ◌*◌, ℕ, true, Option, None, Some, List, [], ◌∷◌, ◌++◌, map, take, refl, sym, ap, subst, ◌∙◌, arith}
 use Rattle.std.specs.Prelude.{◌-◌, Result, Ok, Err, OnOk, OnErr, IsOk, IfErr, IfSome, slice_get, length, min}
 use Rattle.tl_msg.specs.Faults.{IsLawfulBeat}
 use Rattle.tl_msg.specs.Rules.{Rules}
@@ -19,6 +19,7 @@ use Rattle.tl_burst.specs.Begun.{left}
 use Rattle.tl_burst.specs.Handing.{rest_of}
 use Rattle.tl_ring.specs.Crossing.{World, offered, shut, inbox_room}
 use Rattle.tl_ring.specs.Ends.{Sending, Taking, Sends, Takes, Fetched, Met, Meets, closing, took_first, known_items}
+use Rattle.tl_ring.specs.declared.queue.TheConstants.{ROOM}
 use Rattle.tl_ring.specs.declared.standing.Standing.{Standing}
 use Rattle.tl_ring.specs.declared.fault.EndFault.{EndFault}
 use Rattle.tl_msg.specs.declared.fault.SideFault.{SideFault}
@@ -114,7 +115,7 @@ module _ {K A H : Type 0} (r : Rules H) {v : ℕ} {S X : Type 0} {Stands : S →
 abbrev pub PumpsEnd : {K A H : Type 0} (r : Rules H) (w : ℕ) {v : ℕ} (s s' : Sending K A H v) (n : ℕ) → Type 0
 PumpsEnd {K} {A} {H} r w {v} s s' n = record {
   count : n ≡ pump_count s s';
-  most : n ≤ 64;
+  most : n ≤ ROOM;
   pumps : Pumps s s';
   stands : (x : World H w v) → Sends r s x → Sends r s' (after_pump s s' x);
 }
@@ -232,7 +233,7 @@ module _ {A : Type 0} {C M : ℕ} where
   abbrev pub ClientPumps : (s s' : ClientState A C M) (n : ℕ) → Type 0
   ClientPumps s s' n = record {
     total : n ≡ pump_count s.a s'.a + pump_count s.c s'.c + pump_count s.e s'.e;
-    most : n ≤ 192;
+    most : n ≤ 3 * ROOM;
     a : Pumps s.a s'.a;
     c : Pumps s.c s'.c;
     e : Pumps s.e s'.e;
@@ -256,7 +257,7 @@ module _ {A : Type 0} {C M : ℕ} where
   abbrev pub ManagerPumps : (s s' : ManagerState A C M) (n : ℕ) → Type 0
   ManagerPumps s s' n = record {
     total : n ≡ pump_count s.b s'.b + pump_count s.d s'.d;
-    most : n ≤ 128;
+    most : n ≤ 2 * ROOM;
     b : Pumps s.b s'.b;
     d : Pumps s.d s'.d;
     rest : s' ≡ record s { b = s'.b; d = s'.d };
@@ -277,7 +278,7 @@ module _ {A : Type 0} {C M : ℕ} where
   abbrev pub ClientFetches : (s s' : ClientState A C M) (n : ℕ) → Type 0
   ClientFetches s s' n = record {
     total : n ≡ fetch_count s.b s'.b + fetch_count s.d s'.d;
-    most : n ≤ 128;
+    most : n ≤ 2 * ROOM;
     b : Fetches s.b s'.b;
     d : Fetches s.d s'.d;
     rest : s' ≡ record s { b = s'.b; d = s'.d };
@@ -301,7 +302,7 @@ module _ {A : Type 0} {C M : ℕ} where
   abbrev pub ManagerFetches : (s s' : ManagerState A C M) (n : ℕ) → Type 0
   ManagerFetches s s' n = record {
     total : n ≡ fetch_count s.a s'.a + fetch_count s.c s'.c + fetch_count s.e s'.e;
-    most : n ≤ 192;
+    most : n ≤ 3 * ROOM;
     a : Fetches s.a s'.a;
     c : Fetches s.c s'.c;
     e : Fetches s.e s'.e;

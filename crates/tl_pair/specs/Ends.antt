@@ -2,6 +2,7 @@
 use Rattle.std.specs.Prelude.{◌≡◌, ◌≤◌, ◌-◌, ℕ, [], length, min}
 use Rattle.tl_ring.specs.Crossing.{World, inbox_room}
 use Rattle.tl_ring.specs.Ends.{Sending, Taking, Pushed, Fetched, known_free, known_items, passed}
+use Rattle.tl_ring.specs.declared.queue.TheConstants.{ROOM}
 use Rattle.tl_ring.specs.declared.standing.Standing.{Standing}
 
 module _ {K A H : Type 0} {v : ℕ} where
@@ -35,7 +36,7 @@ module _ {K A H : Type 0} {v : ℕ} where
     pub staged : n.staged ≡ length s.stage
     pub in_ring : n.in_ring ≡ length (known_items t)
     pub inbox : n.inbox ≡ length t.inbox
-    pub most : (n.staged ≤ 64) × (n.inbox ≤ 64)
+    pub most : (n.staged ≤ ROOM) × (n.inbox ≤ ROOM)
 
 module _ {K A H : Type 0} {w v : ℕ} where
   -- the crossing of a sending end after a pump

@@ -1,11 +1,12 @@
 //! The client's side of the bridge.
-ghost use Rattle.std.specs.Prelude.{◌≡◌, ◌+◌, ◌≤◌, ◌↔◌, [], true, None, Some, length, slice_get, take, IsOk, IsTrue, IfErr, IfSome, OnOk, OnErr};
+ghost use Rattle.std.specs.Prelude.{◌≡◌, ◌+◌, ◌*◌, ◌≤◌, ◌↔◌, [], true, None, Some, length, slice_get, take, IsOk, IsTrue, IfErr, IfSome, OnOk, OnErr};
 ghost use Rattle.tl_lanes.specs.Lanes.{IsWidth};
 ghost use Rattle.tl_msg.specs.Faults.{IsLawfulBeat};
 ghost use Rattle.tl_msg.specs.Tables.{rules_a, rules_b, rules_c, rules_d, rules_e};
 ghost use Rattle.tl_burst.specs.Handing.{rest_of};
 ghost use Rattle.tl_ring.specs.Ends.{as_pipe, closing, took_first};
 ghost use Rattle.tl_ring.specs.Pipe.{IsReady};
+ghost use Rattle.tl_ring.specs.declared.queue.TheConstants.{ROOM};
 ghost use Rattle.tl_settle.specs.Histories.{client_answer};
 ghost use Rattle.tl_sides.specs.Crossings.{stops_alone};
 ghost use Rattle.tl_pair.specs.Ends.{Pumps, Fetches, pump_count, fetch_count};
@@ -22,9 +23,9 @@ use tl_sides::ClientBook;
 /// The client's side of the bridge, on a bus of `C` bytes. It offers beats of A, C and E, and takes
 /// those of B and D.
 ///
-/// Between an offer and a take lie a stage of 64 beats, a ring and an inbox of 64 beats: `pump`
-/// moves beats from this side's stages into its rings, and `fetch` from the other side's rings into
-/// this side's inboxes. No call waits for the other side.
+/// Between an offer and a take lie a stage, a ring and an inbox: `pump` moves beats from this side's
+/// stages into its rings, and `fetch` from the other side's rings into this side's inboxes. Stage and
+/// inbox hold [`tl_ring::ROOM`] beats each. No call waits for the other side.
 ///
 /// A source is busy from the first beat of A that this side offers until it takes the first beat of
 /// the response (TileLink: source and size of responses; the moments at which a source is busy:
@@ -72,7 +73,7 @@ impl<const C: usize, const M: usize, A: Allocator> ClientSide<C, M, A> {
     /// Offers a beat of A where A is ready. It is refused with the beat's own fault, else, where it
     /// opens a message, with `SourceBusy` exactly where its source is busy. A refusal changes
     /// nothing. An accepted first beat makes its source busy, and the far beats that the beat
-    /// completes, at most 64, are staged.
+    /// completes, at most [`tl_ring::ROOM`], are staged.
     pub fn offer_a(&mut self, beat: BeatOf<HeadA, C>) -> Result<(), SideFault>
         requires near { IsWidth C }
         requires far { IsWidth M }
@@ -96,7 +97,7 @@ impl<const C: usize, const M: usize, A: Allocator> ClientSide<C, M, A> {
     }
 
     /// Offers a beat of C where C is ready. It is refused exactly with the beat's own fault, and
-    /// nothing changes then. Else the far beats that it completes, at most 64, are staged.
+    /// nothing changes then. Else the far beats that it completes, at most [`tl_ring::ROOM`], are staged.
     pub fn offer_c(&mut self, beat: BeatOf<HeadC, C>) -> Result<(), SideFault>
         requires near { IsWidth C }
         requires far { IsWidth M }
@@ -219,7 +220,7 @@ impl<const C: usize, const M: usize, A: Allocator> ClientSide<C, M, A> {
     pub fn pump(&mut self) -> usize
         ensures total { result ≡ pump_count self.old.a self.new.a +
             pump_count self.old.c self.new.c + pump_count self.old.e self.new.e }
-        ensures most { result ≤ 192 }
+        ensures most { result ≤ 3 * ROOM }
         ensures a { Pumps self.old.a self.new.a }
         ensures c { Pumps self.old.c self.new.c }
         ensures e { Pumps self.old.e self.new.e }
@@ -241,7 +242,7 @@ impl<const C: usize, const M: usize, A: Allocator> ClientSide<C, M, A> {
     pub fn fetch(&mut self) -> usize
         ensures total { result ≡
             fetch_count self.old.b self.new.b + fetch_count self.old.d self.new.d }
-        ensures most { result ≤ 128 }
+        ensures most { result ≤ 2 * ROOM }
         ensures b { Fetches self.old.b self.new.b }
         ensures d { Fetches self.old.d self.new.d }
         ensures rest { self.new ≡ record self.old { b = self.new.b; d = self.new.d } }

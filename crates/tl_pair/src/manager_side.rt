@@ -1,11 +1,12 @@
 //! The manager's side of the bridge.
-ghost use Rattle.std.specs.Prelude.{◌≡◌, ◌+◌, ◌≤◌, ◌↔◌, [], true, None, Some, length, slice_get, take, IsOk, IsTrue, IfErr, IfSome, OnOk, OnErr};
+ghost use Rattle.std.specs.Prelude.{◌≡◌, ◌+◌, ◌*◌, ◌≤◌, ◌↔◌, [], true, None, Some, length, slice_get, take, IsOk, IsTrue, IfErr, IfSome, OnOk, OnErr};
 ghost use Rattle.tl_lanes.specs.Lanes.{IsWidth};
 ghost use Rattle.tl_msg.specs.Faults.{IsLawfulBeat};
 ghost use Rattle.tl_msg.specs.Tables.{rules_a, rules_b, rules_c, rules_d, rules_e};
 ghost use Rattle.tl_burst.specs.Handing.{rest_of};
 ghost use Rattle.tl_ring.specs.Ends.{as_pipe, closing, took_first};
 ghost use Rattle.tl_ring.specs.Pipe.{IsReady};
+ghost use Rattle.tl_ring.specs.declared.queue.TheConstants.{ROOM};
 ghost use Rattle.tl_settle.specs.Histories.{manager_answer};
 ghost use Rattle.tl_sides.specs.Crossings.{stops_alone};
 ghost use Rattle.tl_pair.specs.Ends.{Pumps, Fetches, pump_count, fetch_count};
@@ -22,9 +23,9 @@ use tl_sides::ManagerBook;
 /// The manager's side of the bridge, on a bus of `M` bytes. It offers beats of B and D, and takes
 /// those of A, C and E.
 ///
-/// Between an offer and a take lie a stage of 64 beats, a ring and an inbox of 64 beats: `pump`
-/// moves beats from this side's stages into its rings, and `fetch` from the other side's rings into
-/// this side's inboxes. No call waits for the other side.
+/// Between an offer and a take lie a stage, a ring and an inbox: `pump` moves beats from this side's
+/// stages into its rings, and `fetch` from the other side's rings into this side's inboxes. Stage and
+/// inbox hold [`tl_ring::ROOM`] beats each. No call waits for the other side.
 ///
 /// A response may be offered once this side has taken the first beat of its request, has the
 /// request's size, and stands on lanes by the request's address. ReleaseAck answers no request
@@ -64,7 +65,7 @@ impl<const C: usize, const M: usize, A: Allocator> ManagerSide<C, M, A> {
     }
 
     /// Offers a beat of B where B is ready. It is refused exactly with the beat's own fault, and
-    /// nothing changes then. Else the far beats that it completes, at most 64, are staged.
+    /// nothing changes then. Else the far beats that it completes, at most [`tl_ring::ROOM`], are staged.
     pub fn offer_b(&mut self, beat: BeatOf<HeadB, M>) -> Result<(), SideFault>
         requires near { IsWidth M }
         requires far { IsWidth C }
@@ -88,7 +89,7 @@ impl<const C: usize, const M: usize, A: Allocator> ManagerSide<C, M, A> {
     /// opens a message other than ReleaseAck, with `NoRequest` exactly where its source has no open
     /// request, and with `SizeMismatch` exactly where that request has another size. A refusal
     /// changes nothing. An accepted first beat ends its request, whose address is the message's
-    /// home, and the far beats that the beat completes, at most 64, are staged.
+    /// home, and the far beats that the beat completes, at most [`tl_ring::ROOM`], are staged.
     pub fn offer_d(&mut self, beat: BeatOf<HeadD, M>) -> Result<(), SideFault>
         requires near { IsWidth M }
         requires far { IsWidth C }
@@ -191,7 +192,7 @@ impl<const C: usize, const M: usize, A: Allocator> ManagerSide<C, M, A> {
     pub fn pump(&mut self) -> usize
         ensures total { result ≡
             pump_count self.old.b self.new.b + pump_count self.old.d self.new.d }
-        ensures most { result ≤ 128 }
+        ensures most { result ≤ 2 * ROOM }
         ensures b { Pumps self.old.b self.new.b }
         ensures d { Pumps self.old.d self.new.d }
         ensures rest { self.new ≡ record self.old { b = self.new.b; d = self.new.d } }
@@ -210,7 +211,7 @@ impl<const C: usize, const M: usize, A: Allocator> ManagerSide<C, M, A> {
     pub fn fetch(&mut self) -> usize
         ensures total { result ≡ fetch_count self.old.a self.new.a +
             fetch_count self.old.c self.new.c + fetch_count self.old.e self.new.e }
-        ensures most { result ≤ 192 }
+        ensures most { result ≤ 3 * ROOM }
         ensures a { Fetches self.old.a self.new.a }
         ensures c { Fetches self.old.c self.new.c }
         ensures e { Fetches self.old.e self.new.e }

@@ -1,11 +1,12 @@
 //! A sending end that keeps its place in a side of the bridge when it is closed.
-ghost use Rattle.std.specs.Prelude.{◌≡◌, ◌≤◌, ◌<◌, ◌↔◌, ◌⊎◌, [], Bool, true, None, Some, List, length, IsOk, IsTrue, IfOk, IfErr, OnOk, OnErr};
+ghost use Rattle.std.specs.Prelude.{◌≡◌, ◌≤◌, ◌<◌, ◌↔◌, ◌⊎◌, [], Bool, true, false, None, Some, List, length, IsOk, IsTrue, IfOk, IfErr, OnOk, OnErr};
 ghost use Rattle.tl_lanes.specs.Lanes.{IsWidth};
 ghost use Rattle.tl_msg.specs.declared.beat.BeatOf.{BeatOf};
 ghost use Rattle.tl_burst.specs.Handing.{rest_of, fault_after};
 ghost use Rattle.tl_burst.specs.Tracking.{IsPlaceOf};
 ghost use Rattle.tl_ring.specs.Crossing.{World, empty, offered, shut};
 ghost use Rattle.tl_ring.specs.declared.pipe.TheConstants.{MAX_RING};
+ghost use Rattle.tl_ring.specs.declared.queue.TheConstants.{ROOM};
 ghost use Rattle.tl_ring.specs.Ends.{Sends, Takes, Met, ArePair, Meets, as_pipe, closing, known_free, known_items};
 ghost use Rattle.tl_ring.specs.Pipe.{IsReady};
 ghost use Rattle.tl_sides.specs.Crossings.{stops_alone};
@@ -15,7 +16,7 @@ use std::alloc::{Allocator, Global};
 use std::marker::Model;
 use tl_burst::Place;
 use tl_msg::{Beat, BeatFault, Channel, SideFault};
-use tl_ring::{BuildFault, EndFault, SendEnd, Standing, TakeEnd, meet, ring_pair};
+use tl_ring::{EndFault, SendEnd, Standing, TakeEnd, meet};
 
 // The sending end of a channel, and whether it is closed. No beat is offered to a closed one, and
 // what is staged still crosses.
@@ -37,28 +38,15 @@ impl<K: Channel, const W: usize, const V: usize, A: Allocator> Model for Sender<
     ghost invariant = { λ s. s.end.closed ≡ false };
 }
 
-// Both ends of one channel, over a ring of `ring` beats.
-pub(crate) fn open_pair<K: Channel, const W: usize, const V: usize, A: Allocator + Copy>(
-    alloc: A,
-    ring: usize,
-) -> Result<(Sender<K, W, V, A>, TakeEnd<K, W, V, A>), BuildFault>
-    requires near { IsWidth W }
-    requires far { IsWidth V }
-    ensures pair { IfOk result (λ ends. ArePair ends.0 ends.1) }
-    ensures send { IfOk result (λ ends. Sends K.rules {w = W} ends.0 (empty ring)) }
-    ensures take { IfOk result (λ ends. Takes ends.1 []) }
-    ensures known { IfOk result (λ ends.
-        (known_free ends.0 ≡ ring) × (known_items ends.1 ≡ []) × (ends.1.inbox ≡ [])) }
-    ensures size { IsOk result → (1 ≤ ring) × (ring ≤ MAX_RING) }
-    ensures ring_size { IfErr result (λ fault.
-        (fault ≡ BuildFault.RingSize) ↔ ((ring ≡ 0) ⊎ (MAX_RING < ring))) }
-{
-    let (end, take) = ring_pair(alloc, ring)?;
-    let send = Sender { end, closed: false };
-    Ok((send, take))
-}
-
 impl<K: Channel, const W: usize, const V: usize, A: Allocator> Sender<K, W, V, A> {
+    // The sender over the sending end of a new pair.
+    pub(crate) fn over(end: SendEnd<K, W, V, A>) -> Self
+        requires open { end.closed ≡ false }
+        ensures { result ≡ end }
+    {
+        Sender { end, closed: false }
+    }
+
     // Whether a beat may be offered: nothing is staged, and the end isn't closed.
     pub(crate) fn ready(&self) -> bool
         ensures { IsTrue result ↔ IsReady (as_pipe self.now) }
@@ -129,7 +117,7 @@ impl<K: Channel, const W: usize, const V: usize, A: Allocator> Sender<K, W, V, A
     // Moves staged beats into the ring, and answers their number.
     pub(crate) fn pump(&mut self) -> usize
         ensures count { result ≡ pump_count self.old self.new }
-        ensures most { result ≤ 64 }
+        ensures most { result ≤ ROOM }
         ensures pumps { Pumps self.old self.new }
         ensures stands { (x : World K.Head W V) → Sends K.rules self.old x →
             Sends K.rules self.new (after_pump self.old self.new x) }

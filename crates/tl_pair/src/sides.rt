@@ -8,10 +8,10 @@ ghost use Rattle.tl_pair.specs.Sides.{ClientPast, ManagerPast, ClientStandsFor, 
 
 use crate::client_side::ClientSide;
 use crate::manager_side::ManagerSide;
-use crate::sender::open_pair;
+use crate::sender::Sender;
 use std::alloc::Allocator;
 use tl_msg::{ChA, ChB, ChC, ChD, ChE};
-use tl_ring::BuildFault;
+use tl_ring::{BuildFault, ring_pair};
 use tl_sides::{Standings, new_books};
 
 /// The two sides of a new bridge, for two threads, over five rings of `ring` beats each, and with
@@ -34,27 +34,42 @@ pub fn bridge<const C: usize, const M: usize, A: Allocator + Copy>(
     ensures ring_size { IfErr result (λ fault.
         (fault ≡ BuildFault.RingSize) ↔ ((ring ≡ 0) ⊎ (MAX_RING < ring))) }
 {
-    let (a, a_take) = open_pair::<ChA, C, M, A>(alloc, ring)?;
-    let (b, b_take) = open_pair::<ChB, M, C, A>(alloc, ring)?;
-    let (c, c_take) = open_pair::<ChC, C, M, A>(alloc, ring)?;
-    let (d, d_take) = open_pair::<ChD, M, C, A>(alloc, ring)?;
-    let (e, e_take) = open_pair::<ChE, C, M, A>(alloc, ring)?;
+    let (a, a_take) = match ring_pair::<ChA, C, M, A>(alloc, ring) {
+        Ok(ends) => ends,
+        Err(fault) => return Err(fault),
+    };
+    let (b, b_take) = match ring_pair::<ChB, M, C, A>(alloc, ring) {
+        Ok(ends) => ends,
+        Err(fault) => return Err(fault),
+    };
+    let (c, c_take) = match ring_pair::<ChC, C, M, A>(alloc, ring) {
+        Ok(ends) => ends,
+        Err(fault) => return Err(fault),
+    };
+    let (d, d_take) = match ring_pair::<ChD, M, C, A>(alloc, ring) {
+        Ok(ends) => ends,
+        Err(fault) => return Err(fault),
+    };
+    let (e, e_take) = match ring_pair::<ChE, C, M, A>(alloc, ring) {
+        Ok(ends) => ends,
+        Err(fault) => return Err(fault),
+    };
     let Ok((client_book, manager_book)) = new_books(alloc) else {
         return Err(BuildFault::OutOfMemory);
     };
     let client = ClientSide {
-        a,
+        a: Sender::over(a),
         b: b_take,
-        c,
+        c: Sender::over(c),
         d: d_take,
-        e,
+        e: Sender::over(e),
         book: client_book,
     };
     let manager = ManagerSide {
         a: a_take,
-        b,
+        b: Sender::over(b),
         c: c_take,
-        d,
+        d: Sender::over(d),
         e: e_take,
         book: manager_book,
     };

@@ -1,9 +1,11 @@
 -- A field takes no more bytes of memory than its struct, and a beat takes few.
 use Rattle.std.proofs.Common.{ℕ, zero, suc, ◌+◌, ◌*◌, ◌≤◌, ◌<◌, max, arith}
 use Rattle.tl_lanes.specs.Lanes.{IsWidth}
+use Rattle.tl_lanes.proofs.Masks.{mask_width}
 use Rattle.tl_lanes.proofs.Widths.{width_bounds}
 use Rattle.tl_lanes.proofs.Sizes.{align-small, up_le}
-use mir.Syntax.{Ty, Tys, tnil, tcons, ttcons, ty_struct, ty_enum, ty_unit}
+use Rattle.tl_ring.specs.declared.queue.TheConstants.{ROOM}
+use mir.Syntax.{Ty, Tys, tnil, tcons, ttcons, ty_struct, ty_enum, ty_int, ty_unit}
 use prog.Memory.{size, align, aligns, alignss, up, end_of, endss}
 use prog.Align.{up-ge, end_ge}
 
@@ -27,6 +29,10 @@ part_small (ty_struct name ts) k n small =
     let h = end_holds zero ts k in let g = up-ge (aligns ts) (end_of zero ts) in omega arith
 part_small t k n small = omega arith
 
+-- nor does a field of a field
+pub inner_small : (t : Ty) (k j n : ℕ) → size t < n → size (part (part t k) j) < n
+inner_small t k j n small = part_small (part t k) j n (part_small t k n small)
+
 -- the type of the first variant's first field
 abbrev pub first_part : Ty → Ty
 first_part (ty_enum name (ttcons (tcons t ts) tss)) = t
@@ -37,27 +43,31 @@ first_part_small (ty_enum name (ttcons (tcons t ts) tss)) n small =
     let h = end_holds 1 (tcons t ts) 0 in let g = up-ge (alignss (ttcons (tcons t ts) tss)) (endss (ttcons (tcons t ts) tss)) in omega arith
 first_part_small t n small = omega arith
 
--- a beat whose head takes few bytes fits in memory
-pub beat_small : (head w : ℕ) → head ≤ 64 → IsWidth w → up 8 (up 1 (head + w * 1) + 1) < 9223372036854775808
-beat_small head w small width =
+-- the bytes of a mask, which it is aligned to
+abbrev pub mask_bytes : ℕ
+mask_bytes = size (ty_int mask_width)
+
+-- a beat fits in memory: its mask begins where a head of any channel has ended
+pub beat_small : (w : ℕ) → IsWidth w → up mask_bytes (up 1 (mask_bytes + mask_bytes + w * 1) + 1) < 9223372036854775808
+beat_small w width =
     let most = (width_bounds w width).1 in
-    let lanes = up_le 1 (head + w * 1) in
-    let whole = up_le 8 (up 1 (head + w * 1) + 1) in
+    let lanes = up_le 1 (mask_bytes + mask_bytes + w * 1) in
+    let whole = up_le mask_bytes (up 1 (mask_bytes + mask_bytes + w * 1) + 1) in
     omega arith
 
--- the bytes of a beat of width w, of a queue of 64 such beats, and of a converter to that width, where a head has s bytes, is
+-- the bytes of a beat of width w, of a queue of such beats, and of a converter to that width, where a head has s bytes, is
 -- aligned to a, and lies at a multiple of x
 abbrev beat_bytes : (a x s w : ℕ) → ℕ
-beat_bytes a x s w = up (max a 8) (up 1 (up 1 (up 8 (up x 0 + s) + 8) + w * 1) + 1)
+beat_bytes a x s w = up (max a mask_bytes) (up 1 (up 1 (up mask_bytes (up x 0 + s) + mask_bytes) + w * 1) + 1)
 
 beat_bytes-small : (a x s w : ℕ) → a ≤ 16 → x ≤ 16 → s ≤ 32 → IsWidth w → beat_bytes a x s w ≤ 256
 beat_bytes-small a x s w ha hx hs width =
     let most = (width_bounds w width).1 in
     let head = up_le x 0 in
-    let mask = up_le 8 (up x 0 + s) in
-    let lanes = up_le 1 (up 8 (up x 0 + s) + 8) in
-    let corrupt = up_le 1 (up 1 (up 8 (up x 0 + s) + 8) + w * 1) in
-    let whole = up_le (max a 8) (up 1 (up 1 (up 8 (up x 0 + s) + 8) + w * 1) + 1) in
+    let mask = up_le mask_bytes (up x 0 + s) in
+    let lanes = up_le 1 (up mask_bytes (up x 0 + s) + mask_bytes) in
+    let corrupt = up_le 1 (up 1 (up mask_bytes (up x 0 + s) + mask_bytes) + w * 1) in
+    let whole = up_le (max a mask_bytes) (up 1 (up 1 (up mask_bytes (up x 0 + s) + mask_bytes) + w * 1) + 1) in
     omega arith
 
 pub beat_fits : (head place : Ty) (w : ℕ) → size head ≤ 32 → IsWidth w → beat_bytes (align head) (align place) (size head) w < 9223372036854775808
@@ -66,20 +76,20 @@ beat_fits head place w small width =
 
 abbrev queue_bytes : (a x s w : ℕ) → ℕ
 queue_bytes a x s w =
-    let m1 : ℕ = max (max (max a 8) 1) 8 in
-    let m2 : ℕ = max (max a 8) 1 in
-    up (max m1 8) (up 8 (up m1 0 + up m1 (up 1 (up 8 (up m2 0 + up m2 (up (max a 8) 0 + 64 * beat_bytes a x s w)) + 8) + 0)) + 8)
+    let m1 : ℕ = max (max (max a mask_bytes) 1) 8 in
+    let m2 : ℕ = max (max a mask_bytes) 1 in
+    up (max m1 8) (up 8 (up m1 0 + up m1 (up 1 (up 8 (up m2 0 + up m2 (up (max a mask_bytes) 0 + ROOM * beat_bytes a x s w)) + 8) + 0)) + 8)
 
 pub queue_fits : (head place : Ty) (w : ℕ) → size head ≤ 32 → IsWidth w →
     queue_bytes (align head) (align place) (size head) w < 9223372036854775808
 queue_fits head place w small width =
     let a : ℕ = align head in
     let beat = beat_bytes-small a (align place) (size head) w (align-small head) (align-small place) small width in
-    let m1 : ℕ = max (max (max a 8) 1) 8 in
-    let m2 : ℕ = max (max a 8) 1 in
+    let m1 : ℕ = max (max (max a mask_bytes) 1) 8 in
+    let m2 : ℕ = max (max a mask_bytes) 1 in
     let ha = align-small head in
-    let items : ℕ = up (max a 8) 0 + 64 * beat_bytes a (align place) (size head) w in
-    let one = up_le (max a 8) 0 in
+    let items : ℕ = up (max a mask_bytes) 0 + ROOM * beat_bytes a (align place) (size head) w in
+    let one = up_le (max a mask_bytes) 0 in
     let two = up_le m2 items in
     let three = up_le m2 0 in
     let four = up_le 8 (up m2 0 + up m2 items) in
@@ -96,9 +106,9 @@ pub beat_in_queue : (head place : Ty) (w n : ℕ) → queue_bytes (align head) (
 beat_in_queue head place w n small =
     let a : ℕ = align head in
     let beat : ℕ = beat_bytes a (align place) (size head) w in
-    let m1 : ℕ = max (max (max a 8) 1) 8 in
-    let m2 : ℕ = max (max a 8) 1 in
-    let items : ℕ = up (max a 8) 0 + 64 * beat in
+    let m1 : ℕ = max (max (max a mask_bytes) 1) 8 in
+    let m2 : ℕ = max (max a mask_bytes) 1 in
+    let items : ℕ = up (max a mask_bytes) 0 + ROOM * beat in
     let one = up-ge m2 items in
     let two = up-ge 8 (up m2 0 + up m2 items) in
     let three = up-ge 1 (up 8 (up m2 0 + up m2 items) + 8) in
@@ -111,8 +121,8 @@ abbrev converter_bytes : (a x s w : ℕ) → ℕ
 converter_bytes a x s w =
     let t2 : ℕ = max 1 (max (max (max a 4) 1) 1) in
     let t1 : ℕ = max t2 1 in
-    up (max t1 (max 8 (max (max a 8) 1)))
-    (up (max a 8) (up 8 (up t1 0 + up t1 (up t2 0 + up t2 (max 1 (max (up (max a 4) 1 + up (max a 4) (up 4 (up x 0 + s) + 4)) 1)))) + 8) +
+    up (max t1 (max 8 (max (max a mask_bytes) 1)))
+    (up (max a mask_bytes) (up 8 (up t1 0 + up t1 (up t2 0 + up t2 (max 1 (max (up (max a 4) 1 + up (max a 4) (up 4 (up x 0 + s) + 4)) 1)))) + 8) +
     beat_bytes a x s w)
 
 pub converter_fits : (head place : Ty) (w : ℕ) → size head ≤ 32 → IsWidth w →
@@ -136,7 +146,7 @@ converter_fits head place w small width =
     let seven = up_le t1 (up t2 0 + up t2 body) in
     let eight = up_le t1 0 in
     let nine = up_le 8 (up t1 0 + up t1 (up t2 0 + up t2 body)) in
-    let ten = up_le (max a 8) (up 8 (up t1 0 + up t1 (up t2 0 + up t2 body)) + 8) in
-    let whole = up_le (max t1 (max 8 (max (max a 8) 1)))
-    (up (max a 8) (up 8 (up t1 0 + up t1 (up t2 0 + up t2 body)) + 8) + beat_bytes a x s w) in
+    let ten = up_le (max a mask_bytes) (up 8 (up t1 0 + up t1 (up t2 0 + up t2 body)) + 8) in
+    let whole = up_le (max t1 (max 8 (max (max a mask_bytes) 1)))
+    (up (max a mask_bytes) (up 8 (up t1 0 + up t1 (up t2 0 + up t2 body)) + 8) + beat_bytes a x s w) in
     omega arith

@@ -3,6 +3,7 @@ use Rattle.std.proofs.Common.{◌≡◌, ◌≤◌, ◌<◌, ◌-◌, ◌^◌, �
 use Rattle.std.specs.Prelude.{◌⊎◌, All}
 use Rattle.std.proofs.lemmas.Bool.{cases_lt}
 use Rattle.std.proofs.lemmas.List.Elements.{All-nil, All-cons, All-head, All-tail}
+use Rattle.tl_lanes.specs.declared.limits.TheConstants.{WIDEST}
 use Rattle.tl_lanes.specs.Lanes.{IsWidth}
 use Rattle.tl_msg.specs.Beats.{IsBeat}
 use Rattle.tl_msg.specs.Rules.{Rules}
@@ -64,7 +65,7 @@ module _ {H : Type 0} (r : Rules H) {w v : ℕ} (near : IsWidth w) (far : IsWidt
       (λ held. inl (record { address = held.0; lanes = held.1.0; bytes = held.1.1.0; mask = held.1.1.1 }))
       (λ never. inr (λ beat. never (beat.address, (beat.lanes, (beat.bytes, beat.mask)))))
       (both (is_most (suc (r.lane_address b.head 0)) (2 ^ 64))
-      (both (is_same (length b.lanes) w) (both (are_bytes b.lanes) (is_most (suc b.mask) (2 ^ 64)))))
+      (both (is_same (length b.lanes) w) (both (are_bytes b.lanes) (is_most (suc b.mask) (2 ^ WIDEST)))))
 
   is_admitted : (bs : List (BeatOf H w)) (b : BeatOf H w) → IsHanded r bs → IsBeat r b → Known (IsAdmitted r bs b)
   is_admitted bs b handed beat =

@@ -23,7 +23,7 @@ use tl_msg::{Beat, BeatFault, Channel};
 /// The sending end of one channel's crossing, from a bus of `W` bytes to a bus of `V` bytes.
 ///
 /// It is offered near beats, and sends the far beats that they make due through a ring: `offer`
-/// fills the stage, which holds at most 64 beats, and `pump` moves beats from there into the ring.
+/// fills the stage, which holds at most [`ROOM`] beats, and `pump` moves beats from there into the ring.
 /// The end may go to a thread of its own. No call waits for the other end (this project's choice,
 /// after a crossing between two clocks).
 #[derive(Drop)]
@@ -95,7 +95,7 @@ impl<K: Channel, const W: usize, const V: usize, A: Allocator> SendEnd<K, W, V, 
     }
 
     /// Offers a near beat where nothing is staged, at its place, which [`SendEnd::check`] gave.
-    /// The far beats that it completes, at most 64, are then staged. The home is read at a first
+    /// The far beats that it completes, at most [`ROOM`], are then staged. The home is read at a first
     /// beat of D alone, where it is the address of the request that the message answers.
     pub fn offer_at(&mut self, beat: &Beat<K, W>, place: Place<K>, home: u64)
         requires near { IsWidth W }
@@ -246,7 +246,7 @@ impl<K: Channel, const W: usize, const V: usize, A: Allocator> Model for Receipt
 
 /// The taking end of one channel's crossing, from a bus of `W` bytes to a bus of `V` bytes.
 ///
-/// `fetch` moves far beats from the ring into the inbox, which holds at most 64 beats, and `take`
+/// `fetch` moves far beats from the ring into the inbox, which holds at most [`ROOM`] beats, and `take`
 /// takes them from there, each once and in order. The end may go to a thread of its own. No call
 /// waits for the other end (this project's choice, after a crossing between two clocks).
 #[derive(Drop)]

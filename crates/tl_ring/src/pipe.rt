@@ -33,7 +33,7 @@ pub(crate) fn is_ring_size(ring: usize) -> bool
 ///
 /// Near beats are offered at one end, and the far beats that they make due are taken at the other, each once and in order. Between
 /// the ends lie a stage, a ring and an inbox: `offer` fills the stage, `pump` moves beats from the stage into the ring, `fetch`
-/// from the ring into the inbox, and `take` takes them from there. Stage and inbox hold at most 64 beats each, the ring as many
+/// from the ring into the inbox, and `take` takes them from there. Stage and inbox hold at most [`ROOM`] beats each, the ring as many
 /// as `new` was asked for (this project's choice, after a crossing between two clocks).
 #[derive(Drop)]
 pub struct SyncPipe<K: Channel, const W: usize, const V: usize, A: Allocator = Global> {
@@ -116,7 +116,7 @@ impl<K: Channel, const W: usize, const V: usize, A: Allocator> SyncPipe<K, W, V,
     }
 
     /// Offers a near beat where the pipe is ready, at its place, which [`SyncPipe::check`] gave. The far beats that it completes,
-    /// at most 64, are then staged. The home is read at a first beat of D alone, where it is the address of the request that the
+    /// at most [`ROOM`], are then staged. The home is read at a first beat of D alone, where it is the address of the request that the
     /// message answers.
     pub fn offer_at(&mut self, beat: &Beat<K, W>, place: Place<K>, home: u64)
         requires near { IsWidth W }

@@ -1,4 +1,4 @@
-//! A line of at most 64 items, first in and first out, that takes no memory of its own.
+//! A line of at most [`ROOM`] items, first in and first out, that takes no memory of its own.
 ghost use Rattle.std.specs.Prelude.{◌≡◌, ◌+◌, ◌-◌, ◌≤◌, ◌++◌, ◌↔◌, [], IsTrue, length, drop, take, slice_get};
 ghost use Rattle.circular_buffer.specs.Buffer.{buffer};
 ghost use Rattle.tl_ring.specs.declared.queue.TheConstants.{ROOM};
@@ -7,9 +7,11 @@ use arrayvec::ArrayVec;
 use circular_buffer::HeapCircularBuffer;
 use std::alloc::Allocator;
 use std::marker::Model;
+use tl_lanes::WIDEST;
 
-/// How many beats a stage and an inbox hold (this project's choice).
-pub const ROOM: usize = 64;
+/// How many beats a stage and an inbox hold: as many as one near beat makes at most (this project's
+/// choice).
+pub const ROOM: usize = WIDEST;
 
 /// A line of items: those of the array from `first` on. Those before it have left, and their places are used again once the
 /// array is full.

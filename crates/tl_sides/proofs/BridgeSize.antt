@@ -1,7 +1,9 @@
 -- A bridge takes little memory, whatever its two widths are.
-use Rattle.std.proofs.Common.{◌<◌, ◌^◌, ℕ, lit<}
+use Rattle.std.proofs.Common.{◌≡◌, ◌<◌, ◌^◌, ℕ, true, refl}
+use Rattle.std.specs.Prelude.{nat_lt}
 use Rattle.tl_lanes.specs.Lanes.{IsWidth}
-use Rattle.tl_lanes.proofs.Widths.{each_width}
+use Rattle.tl_lanes.proofs.Widths.{at_widths, each_width}
+use Rattle.tl_convert.proofs.Comparisons.{true_less}
 use denote.Param.{layout, param, number}
 use mir.Syntax.{Ty}
 use prog.Memory.{size}
@@ -17,22 +19,14 @@ bridge_type C M = layout (the_row (param 0 (number C)) (param 1 (number M)) (par
 abbrev pub bridge_size : (C M : ℕ) → ℕ
 bridge_size C M = size (bridge_type C M)
 
--- where the client's width is known
-one_small : (C : ℕ) → bridge_size C 1 < 2 ^ 63 → bridge_size C 2 < 2 ^ 63 → bridge_size C 4 < 2 ^ 63 → bridge_size C 8 < 2 ^ 63 → bridge_size C 16 < 2 ^ 63 →
-    bridge_size C 32 < 2 ^ 63 → bridge_size C 64 < 2 ^ 63 → (M : ℕ) → IsWidth M → bridge_size C M < 2 ^ 63
-one_small C a b c d e f g M m = each_width (λ M. bridge_size C M < 2 ^ 63) a b c d e f g M m
+-- what is small at each pair of widths, as a test of each pair tells, is small at every pair
+pub small_at_widths : (f : ℕ → ℕ → ℕ) → at_widths (λ C. at_widths (λ M. nat_lt (f C M) (2 ^ 63))) ≡ true → (C M : ℕ) → IsWidth C → IsWidth M → f C M < 2 ^ 63
+small_at_widths f passes C M c m =
+    let row : at_widths (λ M. nat_lt (f C M) (2 ^ 63)) ≡ true = each_width (λ C. at_widths (λ M. nat_lt (f C M) (2 ^ 63))) passes C c in
+    true_less (f C M) (2 ^ 63) (each_width (λ M. nat_lt (f C M) (2 ^ 63)) row M m)
 
 pub bridge_small : (C M : ℕ) → IsWidth C → IsWidth M → bridge_size C M < 2 ^ 63
-bridge_small C M c m =
-    each_width (λ C. bridge_size C M < 2 ^ 63)
-    (one_small 1 (lit< tt) (lit< tt) (lit< tt) (lit< tt) (lit< tt) (lit< tt) (lit< tt) M m)
-    (one_small 2 (lit< tt) (lit< tt) (lit< tt) (lit< tt) (lit< tt) (lit< tt) (lit< tt) M m)
-    (one_small 4 (lit< tt) (lit< tt) (lit< tt) (lit< tt) (lit< tt) (lit< tt) (lit< tt) M m)
-    (one_small 8 (lit< tt) (lit< tt) (lit< tt) (lit< tt) (lit< tt) (lit< tt) (lit< tt) M m)
-    (one_small 16 (lit< tt) (lit< tt) (lit< tt) (lit< tt) (lit< tt) (lit< tt) (lit< tt) M m)
-    (one_small 32 (lit< tt) (lit< tt) (lit< tt) (lit< tt) (lit< tt) (lit< tt) (lit< tt) M m)
-    (one_small 64 (lit< tt) (lit< tt) (lit< tt) (lit< tt) (lit< tt) (lit< tt) (lit< tt) M m)
-    C c
+bridge_small = small_at_widths bridge_size refl
 
 -- and so does each of its fields, by its number
 pub bridge_part_small : (C M k : ℕ) → IsWidth C → IsWidth M → size (part (bridge_type C M) k) < 2 ^ 63

@@ -1,6 +1,7 @@
 //! The bridge of both sides in one thread.
-ghost use Rattle.std.specs.Prelude.{◌≡◌, ◌≤◌, ◌<◌, ◌↔◌, ◌⊎◌, [], None, Some, true, slice_get, IsOk, IsTrue, IfOk, IfErr, OnOk, OnErr};
+ghost use Rattle.std.specs.Prelude.{◌≡◌, ◌≤◌, ◌<◌, ◌*◌, ◌↔◌, ◌⊎◌, [], None, Some, true, slice_get, IsOk, IsTrue, IfOk, IfErr, OnOk, OnErr};
 ghost use Rattle.tl_ring.specs.declared.pipe.TheConstants.{MAX_RING};
+ghost use Rattle.tl_ring.specs.declared.queue.TheConstants.{ROOM};
 ghost use Rattle.tl_lanes.specs.Lanes.{IsWidth};
 ghost use Rattle.tl_msg.specs.Tables.{rules_a, rules_b, rules_c, rules_d, rules_e};
 ghost use Rattle.tl_burst.specs.Handing.{rest_of};
@@ -28,8 +29,9 @@ pub type Standings = PerChannel<Standing>;
 ///
 /// The client's side, on a bus of `C` bytes, offers beats of A, C and E and takes those of B and D;
 /// the manager's side, on a bus of `M` bytes, offers beats of B and D and takes those of A, C and
-/// E. Between an offer and a take lie a stage of 64 beats, a ring and an inbox of 64 beats: `pump`
-/// moves beats from the stages into the rings, and `fetch` from the rings into the inboxes.
+/// E. Between an offer and a take lie a stage, a ring and an inbox: `pump` moves beats from the
+/// stages into the rings, and `fetch` from the rings into the inboxes. Stage and inbox hold
+/// [`tl_ring::ROOM`] beats each.
 ///
 /// A source has one request in flight: it is busy from the first beat of A that the client's side
 /// offers until that side takes the first beat of the response. A response may be offered once the
@@ -89,11 +91,26 @@ impl<const C: usize, const M: usize, A: Allocator + Copy> SyncBridge<C, M, A> {
         ensures ring_size { IfErr result (λ fault. (fault ≡ BuildFault.RingSize) ↔
             ((ring ≡ 0) ⊎ (MAX_RING < ring))) }
     {
-        let a = SyncPipe::new(alloc, ring)?;
-        let b = SyncPipe::new(alloc, ring)?;
-        let c = SyncPipe::new(alloc, ring)?;
-        let d = SyncPipe::new(alloc, ring)?;
-        let e = SyncPipe::new(alloc, ring)?;
+        let a = match SyncPipe::new(alloc, ring) {
+            Ok(pipe) => pipe,
+            Err(fault) => return Err(fault),
+        };
+        let b = match SyncPipe::new(alloc, ring) {
+            Ok(pipe) => pipe,
+            Err(fault) => return Err(fault),
+        };
+        let c = match SyncPipe::new(alloc, ring) {
+            Ok(pipe) => pipe,
+            Err(fault) => return Err(fault),
+        };
+        let d = match SyncPipe::new(alloc, ring) {
+            Ok(pipe) => pipe,
+            Err(fault) => return Err(fault),
+        };
+        let e = match SyncPipe::new(alloc, ring) {
+            Ok(pipe) => pipe,
+            Err(fault) => return Err(fault),
+        };
         let Ok((client, manager)) = new_books(alloc) else {
             return Err(BuildFault::OutOfMemory);
         };
@@ -360,7 +377,7 @@ impl<const C: usize, const M: usize, A: Allocator> SyncBridge<C, M, A> {
         ensures count { result ≡ all_pumped self.old }
         ensures moved { (x : Past C M) → StandsFor self.old x →
             StandsFor self.new (after_pump self.old x) }
-        ensures most { result ≤ 320 }
+        ensures most { result ≤ 5 * ROOM }
     {
         let a = self.a.pump();
         let b = self.b.pump();
@@ -376,7 +393,7 @@ impl<const C: usize, const M: usize, A: Allocator> SyncBridge<C, M, A> {
         ensures count { result ≡ all_fetched self.old }
         ensures moved { (x : Past C M) → StandsFor self.old x →
             StandsFor self.new (after_fetch self.old x) }
-        ensures most { result ≤ 320 }
+        ensures most { result ≤ 5 * ROOM }
     {
         let a = self.a.fetch();
         let b = self.b.fetch();

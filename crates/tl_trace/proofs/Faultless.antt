@@ -7,14 +7,14 @@ use Rattle.std.proofs.lemmas.Bool.{eqb-true, or_from, and_parts}
 use Rattle.std.proofs.lemmas.List.Folds.{list_any-append}
 use Rattle.std.proofs.lemmas.Slice.Eq.{bytes_eq-Decides}
 use Rattle.tl_trace.specs.Texts.{versions, widths, is_version, is_width, newline, header_text, SaysLine, is_kept_line, TellsLines, Tells}
-use Rattle.tl_trace.specs.Faults.{is_newline, cut, or_empty, headers, header_of, body_fault, later_fault, faults_after, faults_of_lines, faults, is_readable}
+use Rattle.tl_trace.specs.Faults.{is_newline, cut, or_empty, headers, header_of, is_header_of, body_fault, later_fault, faults_after, faults_of_lines, faults, is_readable}
 use Rattle.tl_trace.specs.declared.fault.TraceKind.{TraceKind}
 use Rattle.tl_trace.specs.declared.header.Header.{Header}
 use Rattle.tl_trace.specs.declared.line.Line.{Line}
 use Rattle.tl_trace.specs.declared.line.Line.TheVariants.{A, B, C, D, E}
 use Rattle.tl_trace.proofs.ReadLines.{IsFree, cut_line, body_line, ended, read_as_a, read_as_b, read_as_c, read_as_d, read_as_e}
 use Rattle.tl_trace.proofs.Walk.{later_line}
-use Rattle.tl_trace.proofs.Headers.{names, header, is_header, known}
+use Rattle.tl_trace.proofs.Headers.{header, is_header, known}
 use Rattle.tl_trace.proofs.Cover.{says_free}
 use Rattle.tl_trace.proofs.OneTrace.{in_list, no_newline, no_newline_in_version, same_header}
 
@@ -23,22 +23,22 @@ use Rattle.tl_trace.proofs.OneTrace.{in_list, no_newline, no_newline_in_version,
 both_free : (xs ys : List ℕ) → IsFree xs → IsFree ys → IsFree (xs ++ ys)
 both_free xs ys x y = list_any-append is_newline xs ys ∙ or_from (list_any is_newline xs) (list_any is_newline ys) x y
 
-header_free : (version client manager : ℕ) → is_version version ≡ true → is_width client ≡ true → is_width manager ≡ true → IsFree (header_text version client manager)
+header_free : (version client manager : ℕ) → is_version version ≡ true → is_width version client ≡ true → is_width version manager ≡ true → IsFree (header_text version client manager)
 header_free version client manager v c m =
     let a = codes "tilelink-trace " ++ decimal version in
     let b = a ++ codes " client " ++ decimal client in
     both_free (b ++ codes " manager ") (decimal manager) (both_free b (codes " manager ")
-    (both_free (a ++ codes " client ") (decimal client) (both_free a (codes " client ") (both_free (codes "tilelink-trace ") (decimal version) refl (no_newline_in_version version v)) refl) (no_newline client c)) refl)
-    (no_newline manager m)
+    (both_free (a ++ codes " client ") (decimal client) (both_free a (codes " client ") (both_free (codes "tilelink-trace ") (decimal version) refl (no_newline_in_version version v)) refl) (no_newline version client c)) refl)
+    (no_newline version manager m)
 
 abbrev is_it : (version client manager : ℕ) → Header → Bool
 is_it version client manager h = (version == h.version) && ((client == h.client) && (manager == h.manager))
 
-listed : (version client manager : ℕ) → is_version version ≡ true → is_width client ≡ true → is_width manager ≡ true → list_any (is_it version client manager) headers ≡ true
+listed : (version client manager : ℕ) → is_version version ≡ true → is_width version client ≡ true → is_width version manager ≡ true → list_any (is_it version client manager) headers ≡ true
 listed version client manager v c m =
-    in_list (λ n. list_any (is_it version client n) headers) widths manager m
-    (in_list (λ n. list_all (λ k. list_any (is_it version n k) headers) widths) widths client c
-    (in_list (λ v. list_all (λ n. list_all (λ k. list_any (is_it v n k) headers) widths) widths) versions version v refl))
+    in_list (λ n. list_any (is_it version client n) headers) (widths version) manager m
+    (in_list (λ n. list_all (λ k. list_any (is_it version n k) headers) (widths version)) (widths version) client c
+    (in_list (λ v. list_all (λ n. list_all (λ k. list_any (is_it v n k) headers) (widths v)) (widths v)) versions version v refl))
 
 found_some : (p q : Header → Bool) (xs : List Header) → list_any q xs ≡ true → ((x : Header) → q x ≡ true → p x ≡ true) → (x : Header) × (find p xs ≡ Some x)
 found_some p q [] e h = absurd cc
@@ -54,7 +54,7 @@ found_some p q (y ∷ xs) e h = pick (p y) refl (q y) refl e (found_some p q xs)
 yes_of : (b : Bool) (xs ys : List ℕ) → Decides b (xs ≡ ys) → xs ≡ ys → b ≡ true
 yes_of b xs ys d e = d.1 e
 
-named : (version client manager : ℕ) (h : Header) → is_it version client manager h ≡ true → names (header_text version client manager) h ≡ true
+named : (version client manager : ℕ) (h : Header) → is_it version client manager h ≡ true → is_header_of (header_text version client manager) h ≡ true
 named version client manager h e =
     let first = and_parts (version == h.version) ((client == h.client) && (manager == h.manager)) e in
     let v = eqb-true version h.version first.0 in
@@ -64,11 +64,11 @@ named version client manager h e =
     let same : header_text version client manager ≡ there = ap (λ (n : ℕ). header_text n client manager) v ∙ ap (λ (n : ℕ). header_text h.version n manager) c ∙ ap (λ (n : ℕ). header_text h.version h.client n) m in
     yes_of (bytes_eq (header_text version client manager) there) (header_text version client manager) there (bytes_eq-Decides (header_text version client manager) there) same
 
-pub header_names : (version client manager : ℕ) → is_version version ≡ true → is_width client ≡ true → is_width manager ≡ true → header_of (header_text version client manager) ≡ Some (header version client manager)
+pub header_names : (version client manager : ℕ) → is_version version ≡ true → is_width version client ≡ true → is_width version manager ≡ true → header_of (header_text version client manager) ≡ Some (header version client manager)
 unfolding header_of
 header_names version client manager v c m =
     let text = header_text version client manager in
-    let some = found_some (names text) (is_it version client manager) headers (listed version client manager v c m) (named version client manager) in
+    let some = found_some (is_header_of text) (is_it version client manager) headers (listed version client manager v c m) (named version client manager) in
     let h = some.0 in
     let is = is_header text h some.1 in
     let all = known text h some.1 in

@@ -1,15 +1,23 @@
 -- Finding what a first line names.
-use Rattle.std.proofs.Common.{◌-◌, ◌||◌, nat_le, get_or, ◌≡◌, ℕ, zero, suc, ◌+◌, ◌<◌, ◌≤◌, Bool, true, false, cond, List, [], ◌∷◌, length, map, take, Option, None, Some, refl, sym, ap, ◌∙◌, arith, add-one}
+use Rattle.std.proofs.Common.{◌-◌, get_or, ◌≡◌, ℕ, zero, suc, ◌+◌, ◌*◌, ◌/◌, ◌%◌, ◌^◌, ◌<◌, ◌≤◌, Bool, true, false, cond, List, [], ◌∷◌, ◌++◌, length, map, take, Option, None, Some, refl, sym, ap, ◌∙◌, subst, arith, add-one, append-nil, length-append}
+use Rattle.std.proofs.Math.Nat.{div-lt_iff_lt-mul, mod-lt}
+use Rattle.std.proofs.Math.Pow.{pow-lt}
+use Rattle.std.proofs.lemmas.Nat.{div-add-mod'}
+use Rattle.std.proofs.lemmas.List.{take_all, length-map, length-take-le, get_or-map}
+use Rattle.std.proofs.lemmas.List.Concat.{get_or-flat_map}
+use Rattle.std.proofs.lemmas.List.Folds.{find-append}
+use Rattle.std.proofs.lemmas.List.FromFn.{get_or-map-range_with_len, length-map-range_with_len}
+use Rattle.std.proofs.lemmas.Option.{slice_get-get_or}
+use Rattle.tl_lanes.specs.declared.limits.TheConstants.{WIDEST_POWER}
 use Rattle.tl_msg.proofs.Firsts.{find_holds}
-use Rattle.std.specs.Prelude.{find, slice_get, bytes_eq, ◌==◌}
-use Rattle.std.specs.List.{list_all, list_any, slice_range}
+use Rattle.std.specs.Prelude.{find, slice_get, flat_map}
+use Rattle.std.specs.Option.{option_or}
+use Rattle.std.specs.List.{list_all, slice_range}
 use Rattle.std.specs.Bool.{Decides}
-use Rattle.std.proofs.lemmas.List.{take_all}
-use Rattle.std.proofs.lemmas.Bool.{eqb-true, leb-true, and_parts}
+use Rattle.std.proofs.lemmas.Bool.{and_parts}
 use Rattle.std.proofs.lemmas.Slice.Eq.{bytes_eq-Decides}
-use Rattle.tl_trace.proofs.Table.{agree_below, agree_at}
-use Rattle.tl_trace.specs.Texts.{header_text, versions, widths, is_width, is_version}
-use Rattle.tl_trace.specs.Faults.{headers, header_of}
+use Rattle.tl_trace.specs.Texts.{header_text, widest_power, widths, is_width, is_version}
+use Rattle.tl_trace.specs.Faults.{headers, headers_of, header_of, is_header_of}
 use Rattle.tl_trace.specs.declared.header.Header.{Header}
 
 not_first : (b : Bool) (y : Header) (o : Option Header) → cond b (Some y) o ≡ None → (b ≡ false) × (o ≡ None)
@@ -33,49 +41,102 @@ find_past_suc p (y ∷ xs) (suc i) x none at is =
 pub find_past : (p : Header → Bool) (xs : List Header) (i : ℕ) (x : Header) → find p (take i xs) ≡ None → slice_get xs i ≡ Some x → p x ≡ false → find p (take (i + 1) xs) ≡ None
 find_past p xs i x none at is = ap (λ (n : ℕ). find p (take n xs)) (add-one i) ∙ find_past_suc p xs i x none at is
 
-abbrev pub names : List ℕ → Header → Bool
-names text h = bytes_eq text (header_text h.version h.client h.manager)
-
--- none of the first headers is that of the text
-pub record IsPassed (text : List ℕ) (i : ℕ) : Type 0 where
-  pub none : find (names text) (take i headers) ≡ None
-
-abbrev pub all_versions : List ℕ
-all_versions = map (λ h. h.version) headers
-
-abbrev pub all_clients : List ℕ
-all_clients = map (λ h. h.client) headers
-
-abbrev pub all_managers : List ℕ
-all_managers = map (λ h. h.manager) headers
+-- none of the first headers of a version is that of the text
+pub record IsPassed (text : List ℕ) (version i : ℕ) : Type 0 where
+  pub none : find (is_header_of text) (take i (headers_of version)) ≡ None
 
 abbrev pub header : (version client manager : ℕ) → Header
 header version client manager = record { version = version; client = client; manager = manager }
 
-header_at : (hs : List Header) (i : ℕ) → i < length hs → slice_get hs i ≡ Some (header (get_or (map (λ h. h.version) hs) i 0) (get_or (map (λ h. h.client) hs) i 0) (get_or (map (λ h. h.manager) hs) i 0))
-header_at [] i lt = absurd (omega arith)
-header_at (h ∷ hs) zero lt = refl
-header_at (h ∷ hs) (suc i) lt = header_at hs i (omega arith)
+-- the headers of a version whose client has this width
+abbrev row : (version client : ℕ) → List Header
+row version client = map (λ manager. header version client manager) (widths version)
 
--- the header at i, by what it names
-pub listed_at : (v c m : ℕ → ℕ) (i : ℕ) → i < 98 → agree_below (λ k. get_or all_versions k 0) v 98 ≡ true → agree_below (λ k. get_or all_clients k 0) c 98 ≡ true → agree_below (λ k. get_or all_managers k 0) m 98 ≡ true
-    → slice_get headers i ≡ Some (header (v i) (c i) (m i))
-listed_at v c m i lt versions clients managers =
-    header_at headers i lt
-    ∙ ap (λ (n : ℕ). Some (header n (get_or all_clients i 0) (get_or all_managers i 0))) (agree_at (λ k. get_or all_versions k 0) v 98 versions i lt)
-    ∙ ap (λ (n : ℕ). Some (header (v i) n (get_or all_managers i 0))) (agree_at (λ k. get_or all_clients k 0) c 98 clients i lt)
-    ∙ ap (λ (n : ℕ). Some (header (v i) (c i) n)) (agree_at (λ k. get_or all_managers k 0) m 98 managers i lt)
+rows_long : (version : ℕ) (clients : List ℕ) → length (flat_map (row version) clients) ≡ length clients * (widest_power version + 1)
+rows_long version [] = omega arith
+rows_long version (client ∷ clients) =
+    let here : length (row version client) ≡ widest_power version + 1 =
+    length-map (widths version) (λ manager. header version client manager) ∙ length-map-range_with_len (λ k. 2 ^ k) 0 (widest_power version + 1) in
+    let rest = rows_long version clients in
+    let spread : suc (length clients) * (widest_power version + 1) ≡ (widest_power version + 1) + length clients * (widest_power version + 1) = grind arith in
+    length-append (row version client) (flat_map (row version) clients) ∙ omega (arith, here, rest) ∙ sym spread
 
-pub found : (text : List ℕ) (i : ℕ) (h : Header) → IsPassed text i → slice_get headers i ≡ Some h → names text h ≡ true → header_of text ≡ Some h
+pub headers_long : (version : ℕ) → length (headers_of version) ≡ (widest_power version + 1) * (widest_power version + 1)
+headers_long version = rows_long version (widths version) ∙ ap (λ (n : ℕ). n * (widest_power version + 1)) (length-map-range_with_len (λ k. 2 ^ k) 0 (widest_power version + 1))
+
+-- the width at k
+width_at : (version k : ℕ) → k < widest_power version + 1 → get_or (widths version) k 0 ≡ 2 ^ k
+width_at version k lt = get_or-map-range_with_len (λ j. 2 ^ j) 0 (widest_power version + 1) k k 0 lt (omega arith)
+
+-- the header of a version at i, by its row and its place in the row
+pub listed_at : (version n i : ℕ) → n ≡ widest_power version + 1 → i < n * n → slice_get (headers_of version) i ≡ Some (header version (2 ^ (i / n)) (2 ^ (i % n)))
+listed_at version n i is lt = subst P (sym is) (at i (subst Q is lt))
+  where
+    P : ℕ → Type 0
+    P k = slice_get (headers_of version) i ≡ Some (header version (2 ^ (i / k)) (2 ^ (i % k)))
+
+    Q : ℕ → Type 0
+    Q k = i < k * k
+
+    none : Header
+    none = header 0 0 0
+
+    at : (i : ℕ) → i < (widest_power version + 1) * (widest_power version + 1)
+        → slice_get (headers_of version) i ≡ Some (header version (2 ^ (i / (widest_power version + 1))) (2 ^ (i % (widest_power version + 1))))
+    at i lt =
+        let m = widest_power version + 1 in
+        let ws = widths version in
+        let long : length ws ≡ m = length-map-range_with_len (λ k. 2 ^ k) 0 m in
+        let some : 0 < m = omega arith in
+        let above : i / m < m = (div-lt_iff_lt-mul {k = m} {x = i} {y = m} some).1 lt in
+        let inside : i % m < m = mod-lt i some in
+        let whole : i / m * m + i % m ≡ i = div-add-mod' i m in
+        let before : length (flat_map (row version) (take (i / m) ws)) ≡ i / m * m =
+        rows_long version (take (i / m) ws) ∙ ap (λ (k : ℕ). k * m) (length-take-le (i / m) ws (omega (arith, long, above))) in
+        let place : length (flat_map (row version) (take (i / m) ws)) + i % m ≡ i = omega (arith, before, whole) in
+        let width : length (row version (get_or ws (i / m) 0)) ≡ m = length-map ws (λ manager. header version (get_or ws (i / m) 0) manager) ∙ long in
+        slice_get-get_or (headers_of version) i none (omega (arith, headers_long version, lt))
+        ∙ ap (λ (k : ℕ). Some (get_or (headers_of version) k none)) (sym place)
+        ∙ ap (λ (h : Header). Some h) (get_or-flat_map (row version) ws (i / m) (i % m) 0 none (omega (arith, long, above)) (omega (arith, width, inside)))
+        ∙ ap (λ (h : Header). Some h) (get_or-map (λ manager. header version (get_or ws (i / m) 0) manager) ws (i % m) 0 none (omega (arith, long, inside)))
+        ∙ ap (λ (k : ℕ). Some (header version k (get_or ws (i % m) 0))) (width_at version (i / m) above)
+        ∙ ap (λ (k : ℕ). Some (header version (2 ^ (i / m)) k)) (width_at version (i % m) inside)
+
+shifted : (k : ℕ) → k ≤ WIDEST_POWER → 1 * 2 ^ k % 2 ^ 64 ≡ 2 ^ k
+shifted k le =
+    let fits : 2 ^ k < 2 ^ 64 = pow-lt {i = k} {j = 64} (omega arith) in
+    omega arith
+
+-- the same by shifts of 1
+pub shifted_at : (version n i : ℕ) → n ≡ widest_power version + 1 → n ≤ WIDEST_POWER + 1 → i < n * n
+    → slice_get (headers_of version) i ≡ Some (header version (1 * 2 ^ (i / n) % 2 ^ 64) (1 * 2 ^ (i % n) % 2 ^ 64))
+shifted_at version n i is few lt =
+    let some : 0 < n = omega (arith, is) in
+    let above : i / n < n = (div-lt_iff_lt-mul {k = n} {x = i} {y = n} some).1 lt in
+    let inside : i % n < n = mod-lt i some in
+    listed_at version n i is lt
+    ∙ ap (λ (k : ℕ). Some (header version k (2 ^ (i % n)))) (sym (shifted (i / n) (omega (arith, above, few))))
+    ∙ ap (λ (k : ℕ). Some (header version (1 * 2 ^ (i / n) % 2 ^ 64) k)) (sym (shifted (i % n) (omega (arith, inside, few))))
+
+pub found : (text : List ℕ) (version i : ℕ) (h : Header) → IsPassed text version i → slice_get (headers_of version) i ≡ Some h → is_header_of text h ≡ true
+    → find (is_header_of text) (headers_of version) ≡ Some h
+found text version i h far at is = find_at (is_header_of text) (headers_of version) i h far.none at is
+
+pub passed : (text : List ℕ) (version i : ℕ) (h : Header) → IsPassed text version i → slice_get (headers_of version) i ≡ Some h → is_header_of text h ≡ false → IsPassed text version (i + 1)
+passed text version i h far at is = record { none = find_past (is_header_of text) (headers_of version) i h far.none at is }
+
+pub not_found : (text : List ℕ) (version n i : ℕ) → n ≡ widest_power version + 1 → n * n ≤ i → IsPassed text version i → find (is_header_of text) (headers_of version) ≡ None
+not_found text version n i is le far =
+    let P : ℕ → Type 0 = λ k. k * k ≤ i in
+    let most : (widest_power version + 1) * (widest_power version + 1) ≤ i = subst P is le in
+    ap (find (is_header_of text)) (sym (take_all i (headers_of version) (omega (arith, headers_long version, most)))) ∙ far.none
+
+-- the versions one after the other
+pub of_versions : (text : List ℕ) → header_of text ≡ option_or (find (is_header_of text) (headers_of 1)) (find (is_header_of text) (headers_of 2))
 unfolding header_of
-found text i h far at is = find_at (names text) headers i h far.none at is
-
-pub passed : (text : List ℕ) (i : ℕ) (h : Header) → IsPassed text i → slice_get headers i ≡ Some h → names text h ≡ false → IsPassed text (i + 1)
-passed text i h far at is = record { none = find_past (names text) headers i h far.none at is }
-
-pub not_found : (text : List ℕ) (i : ℕ) → 98 ≤ i → IsPassed text i → header_of text ≡ None
-unfolding header_of
-not_found text i le far = ap (find (names text)) (sym (take_all i headers le)) ∙ far.none
+of_versions text =
+    find-append (is_header_of text) (headers_of 1) (headers_of 2 ++ [])
+    ∙ ap (λ (hs : List Header). option_or (find (is_header_of text) (headers_of 1)) (find (is_header_of text) hs)) (append-nil (headers_of 2))
 
 -- ---- what is found
 
@@ -88,32 +149,21 @@ find_all p q [] x all e = absurd cc
 find_all p q (y ∷ xs) x all e = split_all q y x (find p xs) (p y) (and_parts (q y) (list_all q xs) all).0 e (find_all p q xs x (and_parts (q y) (list_all q xs) all).1)
 
 -- what a first line names are a version and widths
-pub known : (text : List ℕ) (h : Header) → header_of text ≡ Some h → (is_version h.version ≡ true) × (is_width h.client ≡ true) × (is_width h.manager ≡ true)
+pub known : (text : List ℕ) (h : Header) → header_of text ≡ Some h → (is_version h.version ≡ true) × (is_width h.version h.client ≡ true) × (is_width h.version h.manager ≡ true)
 unfolding header_of
-known text h e =
-    (find_all (names text) (λ h. is_version h.version) headers h refl e, find_all (names text) (λ h. is_width h.client) headers h refl e, find_all (names text) (λ h. is_width h.manager) headers h refl e)
+known text h e = (
+  find_all (is_header_of text) (λ h. is_version h.version) headers h refl e,
+  find_all (is_header_of text) (λ h. is_width h.version h.client) headers h refl e,
+  find_all (is_header_of text) (λ h. is_width h.version h.manager) headers h refl e,
+)
 
 pub is_header : (text : List ℕ) (h : Header) → header_of text ≡ Some h → text ≡ header_text h.version h.client h.manager
 unfolding header_of
-is_header text h e = same_bytes (names text h) text (header_text h.version h.client h.manager) (bytes_eq-Decides text (header_text h.version h.client h.manager)) (find_holds (names text) headers h e)
+is_header text h e = same_bytes (is_header_of text h) text (header_text h.version h.client h.manager) (bytes_eq-Decides text (header_text h.version h.client h.manager)) (find_holds (is_header_of text) headers h e)
   where
     same_bytes : (b : Bool) (xs ys : List ℕ) → Decides b (xs ≡ ys) → b ≡ true → xs ≡ ys
     same_bytes true xs ys d e = d.0 refl
     same_bytes false xs ys d e = absurd cc
-
-narrow : (xs : List ℕ) (w : ℕ) → list_any (λ width. w == width) xs ≡ true → list_all (λ width. nat_le width 64) xs ≡ true → w ≤ 64
-narrow [] w e all = absurd cc
-narrow (x ∷ xs) w e all = pick x (w == x) refl e (and_parts (nat_le x 64) (list_all (λ width. nat_le width 64) xs) all).1 (and_parts (nat_le x 64) (list_all (λ width. nat_le width 64) xs) all).0 (narrow xs w)
-  where
-    pick : (x : ℕ) (b : Bool) → (w == x) ≡ b → b || list_any (λ width. w == width) xs ≡ true → list_all (λ width. nat_le width 64) xs ≡ true → nat_le x 64 ≡ true → (list_any (λ width. w == width) xs ≡ true → list_all (λ width. nat_le width 64) xs ≡ true → w ≤ 64) → w ≤ 64
-    pick x true is e all le more = let same : w ≡ x = eqb-true w x is in let small : x ≤ 64 = leb-true x 64 le in omega arith
-    pick x false is e all le more = more e all
-
-pub width_small : (w : ℕ) → is_width w ≡ true → w ≤ 64
-width_small w e = narrow widths w e refl
-
-pub version_small : (version : ℕ) → is_version version ≡ true → version ≤ 64
-version_small version e = narrow versions version e refl
 
 pub from_start : (text : List ℕ) (end : ℕ) (o : Option Header) → o ≡ header_of (take end text) → header_of (slice_range text 0 end) ≡ o
 from_start text end o e = let all : end - 0 ≡ end = omega arith in ap (λ (n : ℕ). header_of (take n text)) all ∙ sym e

@@ -1,12 +1,14 @@
 -- Writing digits.
-use Rattle.std.proofs.Common.{subst, ◌≡◌, ℕ, zero, suc, ◌+◌, ◌-◌, ◌*◌, ◌/◌, ◌%◌, ◌<◌, ◌≤◌, List, [], ◌∷◌, ◌++◌, length, get_or, set, take, drop, refl, sym, ap, ◌∙◌, arith, append_assoc, append-nil, length-append, drop-cons}
+use Rattle.std.proofs.Common.{subst, ◌≡◌, ℕ, zero, suc, ◌+◌, ◌-◌, ◌*◌, ◌/◌, ◌%◌, ◌^◌, ◌<◌, ◌≤◌, List, [], ◌∷◌, ◌++◌, length, get_or, set, take, drop, refl, sym, ap, ◌∙◌, arith, append_assoc, append-nil, length-append, drop-cons}
 use Rattle.std.proofs.lemmas.List.{length-set, get_or-take, length-take-le, take_all, take_more_set}
 use Rattle.std.proofs.lemmas.Slice.{take-put_mid}
+use Rattle.std.proofs.Math.Nat.{pow-suc, mul_comm, div-div-eq-div-mul}
 use borrow.Rule.Slice.PartMut.{put_mid}
 use Rattle.std.specs.Char.{digit_char}
 use Rattle.tl_trace.specs.Fields.{number_of_lanes}
 use Rattle.tl_trace.specs.Lines.{hex}
 use Rattle.tl_trace.proofs.ReadDigits.{drop_set}
+use Rattle.tl_lanes.specs.declared.limits.TheConstants.{WIDEST}
 
 pub length-hex : (count value : ℕ) → length (hex count value) ≡ count
 length-hex zero value = refl
@@ -68,6 +70,54 @@ after_space line digits made at k n lt e is =
     take-put_mid (at + 1) k (set line at 32) digits n e within ∙ ap (λ (xs : List ℕ). xs ++ digits) (take_more_set line at 32 lt)
     ∙ append_assoc (take at line) (32 ∷ []) digits ∙ ap (λ (xs : List ℕ). take at line ++ 32 ∷ xs) is
 
+-- ---- the last digits of a number, and those before them
+
+-- digits say nothing of what stands above them
+hex_low : (k m q r : ℕ) → k ≤ m → hex k (16 ^ m * q + r) ≡ hex k r
+hex_low zero m q r le = refl
+hex_low (suc k) zero q r le = absurd (omega arith)
+hex_low (suc k) (suc m) q r le =
+    let power : 16 ^ suc m ≡ 16 ^ m * 16 = pow-suc 16 m in
+    let spread : 16 ^ m * 16 * q ≡ 16 * (16 ^ m * q) = grind arith in
+    let whole : 16 ^ suc m * q + r ≡ 16 * (16 ^ m * q) + r = ap (λ (p : ℕ). p * q + r) power ∙ ap (λ (p : ℕ). p + r) spread in
+    let up : (16 * (16 ^ m * q) + r) / 16 ≡ 16 ^ m * q + r / 16 = omega arith in
+    let low : (16 * (16 ^ m * q) + r) % 16 ≡ r % 16 = omega arith in
+    ap (hex (suc k)) whole
+    ∙ ap (λ (n : ℕ). hex k n ++ digit_char ((16 * (16 ^ m * q) + r) % 16) ∷ []) up
+    ∙ ap (λ (ds : List ℕ). ds ++ digit_char ((16 * (16 ^ m * q) + r) % 16) ∷ []) (hex_low k m q (r / 16) (omega arith))
+    ∙ ap (λ (n : ℕ). hex k (r / 16) ++ digit_char n ∷ []) low
+
+-- up to 16 digits are those of what a number leaves by 2 ^ 64
+pub hex_rest : (count value : ℕ) → count ≤ 16 → hex count (value % 2 ^ 64) ≡ hex count value
+hex_rest count value le =
+    let whole : 16 ^ 16 * (value / 2 ^ 64) + value % 2 ^ 64 ≡ value = omega arith in
+    sym (hex_low count 16 (value / 2 ^ 64) (value % 2 ^ 64) le) ∙ ap (hex count) whole
+
+hex_join : (m k value : ℕ) → hex (m + k) value ≡ hex m (value / 16 ^ k) ++ hex k value
+hex_join m zero value =
+    let none : m + 0 ≡ m = omega arith in
+    let all : value / 16 ^ 0 ≡ value = omega arith in
+    ap (λ (n : ℕ). hex n value) none ∙ ap (hex m) (sym all) ∙ sym (append-nil (hex m (value / 16 ^ 0)))
+hex_join m (suc k) value =
+    let more : m + suc k ≡ suc (m + k) = omega arith in
+    let power : 16 * 16 ^ k ≡ 16 ^ suc k = mul_comm 16 (16 ^ k) ∙ sym (pow-suc 16 k) in
+    let up : value / 16 / 16 ^ k ≡ value / 16 ^ suc k = div-div-eq-div-mul value 16 (16 ^ k) ∙ ap (λ (p : ℕ). value / p) power in
+    ap (λ (n : ℕ). hex n value) more
+    ∙ ap (λ (ds : List ℕ). ds ++ digit_char (value % 16) ∷ []) (hex_join m k (value / 16) ∙ ap (λ (n : ℕ). hex m n ++ hex k (value / 16)) up)
+    ∙ append_assoc (hex m (value / 16 ^ suc k)) (hex k (value / 16)) (digit_char (value % 16) ∷ [])
+
+-- more digits are those of what is above 2 ^ 64, and 16 of what it leaves
+pub hex_both : (m count value : ℕ) → m + 16 ≡ count → hex m (value / 2 ^ 64) ++ hex 16 (value % 2 ^ 64) ≡ hex count value
+hex_both m count value is =
+    ap (λ (ds : List ℕ). hex m (value / 2 ^ 64) ++ ds) (hex_rest 16 value (omega arith)) ∙ sym (hex_join m 16 value) ∙ ap (λ (n : ℕ). hex n value) is
+
+-- the last 16 digits behind those that were written before them
+pub more_digits : (line digits front : List ℕ) (half k n m count value : ℕ) → half ≤ length line → n ≡ half + length digits → m + 16 ≡ count
+    → take half line ≡ front ++ 32 ∷ hex m (value / 2 ^ 64) → digits ≡ hex 16 (value % 2 ^ 64) → take n (put_mid half k line digits) ≡ front ++ 32 ∷ hex count value
+more_digits line digits front half k n m count value within e same before last =
+    take-put_mid half k line digits n e within ∙ ap (λ (xs : List ℕ). xs ++ digits) before ∙ append_assoc front (32 ∷ hex m (value / 2 ^ 64)) digits
+    ∙ ap (λ (ds : List ℕ). front ++ 32 ∷ (hex m (value / 2 ^ 64) ++ ds)) last ∙ ap (λ (ds : List ℕ). front ++ 32 ∷ ds) (hex_both m count value same)
+
 -- ---- lanes
 
 pub record LanesSoFar (lanes : List ℕ) (w : ℕ) (digits : List ℕ) (i : ℕ) : Type 0 where
@@ -89,7 +139,7 @@ take_two (x ∷ y ∷ xs) (suc n) a b lt =
 lane_small : (lanes : List ℕ) (i : ℕ) → get_or lanes i 0 < 256 → (rest : ℕ) → ((get_or lanes i 0 + 256 * rest) / 16 / 16 ≡ rest) × ((get_or lanes i 0 + 256 * rest) / 16 % 16 ≡ get_or lanes i 0 / 16 % 16) × ((get_or lanes i 0 + 256 * rest) % 16 ≡ get_or lanes i 0 % 16)
 lane_small lanes i lt rest = (omega arith, omega arith, omega arith)
 
-pub lanes_next : (lanes : List ℕ) (w : ℕ) (digits : List ℕ) (i high low : ℕ) → i < w → w ≤ 64 → w ≤ length lanes → ((k : ℕ) → get_or lanes k 0 < 256) → LanesSoFar lanes w digits i
+pub lanes_next : (lanes : List ℕ) (w : ℕ) (digits : List ℕ) (i high low : ℕ) → i < w → w ≤ WIDEST → w ≤ length lanes → ((k : ℕ) → get_or lanes k 0 < 256) → LanesSoFar lanes w digits i
     → high ≡ digit_char (get_or lanes (w - 1 - i) 0 / 16 % 16) → low ≡ digit_char (get_or lanes (w - 1 - i) 0 % 16) → LanesSoFar lanes w (set (set digits (2 * i) high) (2 * i + 1) low) (i + 1)
 lanes_next lanes w digits i high low lt few le bytes far h l =
     let k = w - 1 - i in

@@ -21,7 +21,8 @@ use Rattle.tl_trace.specs.Texts.{IsTrace, is_kept_line}
 use Rattle.tl_trace.specs.Scripts.{HasBeats, on_lanes, beat_of_a, beat_of_b, beat_of_c, beat_of_d, beat_of_e}
 use Rattle.tl_trace.specs.declared.line.Line.{Line}
 use Rattle.tl_trace.specs.declared.line.Line.TheVariants.{A, B, C, D, E}
-use Rattle.tl_trace.proofs.Headers.{width_small}
+use Rattle.tl_lanes.specs.declared.limits.TheConstants.{WIDEST}
+use Rattle.tl_trace.proofs.Widths.{width_most}
 
 -- ---- lanes
 
@@ -35,27 +36,27 @@ some_bytes (suc w) (lane ∷ lanes) bytes =
     All-cons (λ byte. byte < 256) lane (take w lanes) (ltb-true lane 256 (and_parts (nat_lt lane 256) (list_all (λ lane. nat_lt lane 256) lanes) bytes).0)
     (some_bytes w lanes (and_parts (nat_lt lane 256) (list_all (λ lane. nat_lt lane 256) lanes) bytes).1)
 
-most : (w m : ℕ) → w ≤ 64 → m < 2 ^ w → m < 2 ^ 64
-most w m le lt = let top : 2 ^ w ≤ 2 ^ 64 = pow-le-pow_right {n = 2} (omega arith) {i = w} {j = 64} le in omega arith
+most : (w m : ℕ) → w ≤ WIDEST → m < 2 ^ w → m < 2 ^ WIDEST
+most w m le lt = let top : 2 ^ w ≤ 2 ^ WIDEST = pow-le-pow_right {n = 2} (omega arith) {i = w} {j = WIDEST} le in omega arith
 
 module _ {H : Type 0} (f : Form H) where
-  kept_lanes : (b : BeatOf H 64) (w : ℕ) → is_kept f w b ≡ true → is_lanes 64 b.lanes ≡ true
-  kept_lanes b w kept = (and_parts (is_lanes 64 b.lanes) (is_writable f w b && is_plain f b) kept).0
+  kept_lanes : (b : BeatOf H WIDEST) (w : ℕ) → is_kept f w b ≡ true → is_lanes WIDEST b.lanes ≡ true
+  kept_lanes b w kept = (and_parts (is_lanes WIDEST b.lanes) (is_writable f w b && is_plain f b) kept).0
 
-  pub kept_writable : (b : BeatOf H 64) (w : ℕ) → is_kept f w b ≡ true → is_writable f w b ≡ true
-  kept_writable b w kept = (and_parts (is_writable f w b) (is_plain f b) (and_parts (is_lanes 64 b.lanes) (is_writable f w b && is_plain f b) kept).1).0
+  pub kept_writable : (b : BeatOf H WIDEST) (w : ℕ) → is_kept f w b ≡ true → is_writable f w b ≡ true
+  kept_writable b w kept = (and_parts (is_writable f w b) (is_plain f b) (and_parts (is_lanes WIDEST b.lanes) (is_writable f w b && is_plain f b) kept).1).0
 
-  pub kept_plain : (b : BeatOf H 64) (w : ℕ) → is_kept f w b ≡ true → is_plain f b ≡ true
-  kept_plain b w kept = (and_parts (is_writable f w b) (is_plain f b) (and_parts (is_lanes 64 b.lanes) (is_writable f w b && is_plain f b) kept).1).1
+  pub kept_plain : (b : BeatOf H WIDEST) (w : ℕ) → is_kept f w b ≡ true → is_plain f b ≡ true
+  kept_plain b w kept = (and_parts (is_writable f w b) (is_plain f b) (and_parts (is_lanes WIDEST b.lanes) (is_writable f w b && is_plain f b) kept).1).1
 
-  pub kept_beat : (b : BeatOf H 64) (w : ℕ) → w ≤ 64 → is_kept f w b ≡ true → f.rules.lane_address b.head 0 < 2 ^ 64 → b.mask < 2 ^ 64 → IsBeat f.rules (on_lanes w b)
+  pub kept_beat : (b : BeatOf H WIDEST) (w : ℕ) → w ≤ WIDEST → is_kept f w b ≡ true → f.rules.lane_address b.head 0 < 2 ^ 64 → b.mask < 2 ^ WIDEST → IsBeat f.rules (on_lanes w b)
   kept_beat b w le kept place bits =
       let lanes = kept_lanes b w kept in
-      let long : length b.lanes ≡ 64 = eqb-true (length b.lanes) 64 (and_parts (nat_eq (length b.lanes) 64) (list_all (λ lane. nat_lt lane 256) b.lanes) lanes).0 in
+      let long : length b.lanes ≡ WIDEST = eqb-true (length b.lanes) WIDEST (and_parts (nat_eq (length b.lanes) WIDEST) (list_all (λ lane. nat_lt lane 256) b.lanes) lanes).0 in
       record {
         address = place;
         lanes = length-take-le w b.lanes (omega (arith, long));
-        bytes = some_bytes w b.lanes (and_parts (nat_eq (length b.lanes) 64) (list_all (λ lane. nat_lt lane 256) b.lanes) lanes).1;
+        bytes = some_bytes w b.lanes (and_parts (nat_eq (length b.lanes) WIDEST) (list_all (λ lane. nat_lt lane 256) b.lanes) lanes).1;
         mask = bits;
       }
 
@@ -69,7 +70,7 @@ or_second : (x y : Bool) → x ≡ false → x || y ≡ true → y ≡ true
 or_second true y none e = absurd cc
 or_second false y none e = e
 
-no_mask : {H : Type 0} (f : Form H) (b : BeatOf H 64) (w : ℕ) → f.rules.masked ≡ false → is_kept f w b ≡ true → b.mask < 2 ^ 64
+no_mask : {H : Type 0} (f : Form H) (b : BeatOf H WIDEST) (w : ℕ) → f.rules.masked ≡ false → is_kept f w b ≡ true → b.mask < 2 ^ WIDEST
 no_mask f b w none kept =
     let test = (and_parts (f.rules.masked || nat_eq b.mask 0) (f.rules.corrupts || (list_all (λ lane. nat_eq lane 0) b.lanes && not b.corrupt)) (kept_plain f b w kept)).0 in
     let zero_mask = eqb-true b.mask 0 (or_second f.rules.masked (nat_eq b.mask 0) none test) in
@@ -77,27 +78,27 @@ no_mask f b w none kept =
 
 -- ---- each channel
 
-held_a : (version : ℕ) (b : BeatOf HeadA 64) (w : ℕ) → w ≤ 64 → is_kept (form_a version) w b ≡ true → IsBeat rules_a (on_lanes w b)
+held_a : (version : ℕ) (b : BeatOf HeadA WIDEST) (w : ℕ) → w ≤ WIDEST → is_kept (form_a version) w b ≡ true → IsBeat rules_a (on_lanes w b)
 held_a version b w le kept =
     let test = in_range (λ field. nat_lt (value_of (form_a version) b field) (values (form_a version) w field)) (fields (form_a version)) in
     let writable = kept_writable (form_a version) b w kept in
     kept_beat (form_a version) b w le kept (ltb-true b.head.address (2 ^ 64) (test 4 address writable refl)) (most w b.mask le (ltb-true b.mask (2 ^ w) (test 5 mask writable refl)))
 
-held_b : (version : ℕ) (b : BeatOf HeadB 64) (w : ℕ) → w ≤ 64 → is_kept (form_b version) w b ≡ true → IsBeat rules_b (on_lanes w b)
+held_b : (version : ℕ) (b : BeatOf HeadB WIDEST) (w : ℕ) → w ≤ WIDEST → is_kept (form_b version) w b ≡ true → IsBeat rules_b (on_lanes w b)
 held_b version b w le kept =
     let test = in_range (λ field. nat_lt (value_of (form_b version) b field) (values (form_b version) w field)) (fields (form_b version)) in
     let writable = kept_writable (form_b version) b w kept in
     kept_beat (form_b version) b w le kept (ltb-true b.head.address (2 ^ 64) (test 4 address writable refl)) (most w b.mask le (ltb-true b.mask (2 ^ w) (test 5 mask writable refl)))
 
-held_c : (version : ℕ) (b : BeatOf HeadC 64) (w : ℕ) → w ≤ 64 → is_kept (form_c version) w b ≡ true → IsBeat rules_c (on_lanes w b)
+held_c : (version : ℕ) (b : BeatOf HeadC WIDEST) (w : ℕ) → w ≤ WIDEST → is_kept (form_c version) w b ≡ true → IsBeat rules_c (on_lanes w b)
 held_c version b w le kept =
     let test = in_range (λ field. nat_lt (value_of (form_c version) b field) (values (form_c version) w field)) (fields (form_c version)) in
     kept_beat (form_c version) b w le kept (ltb-true b.head.address (2 ^ 64) (test 4 address (kept_writable (form_c version) b w kept) refl)) (no_mask (form_c version) b w refl kept)
 
-held_d : (version : ℕ) (b : BeatOf HeadD 64) (w : ℕ) → w ≤ 64 → is_kept (form_d version) w b ≡ true → IsBeat rules_d (on_lanes w b)
+held_d : (version : ℕ) (b : BeatOf HeadD WIDEST) (w : ℕ) → w ≤ WIDEST → is_kept (form_d version) w b ≡ true → IsBeat rules_d (on_lanes w b)
 held_d version b w le kept = kept_beat (form_d version) b w le kept (omega arith) (no_mask (form_d version) b w refl kept)
 
-held_e : (version : ℕ) (b : BeatOf HeadE 64) (w : ℕ) → w ≤ 64 → is_kept (form_e version) w b ≡ true → IsBeat rules_e (on_lanes w b)
+held_e : (version : ℕ) (b : BeatOf HeadE WIDEST) (w : ℕ) → w ≤ WIDEST → is_kept (form_e version) w b ≡ true → IsBeat rules_e (on_lanes w b)
 held_e version b w le kept = kept_beat (form_e version) b w le kept (omega arith) (no_mask (form_e version) b w refl kept)
 
 -- ---- the lists
@@ -113,8 +114,8 @@ all_held {X} P h q (line ∷ lines) each kept =
 
 pub has_beats : (version client manager : ℕ) (lines : List Line) → IsTrace version client manager lines → HasBeats client manager lines
 has_beats version client manager lines t =
-    let c_le = width_small client t.client_width in
-    let m_le = width_small manager t.manager_width in
+    let c_le = width_most version client t.client_width in
+    let m_le = width_most version manager t.manager_width in
     let q = is_kept_line version client manager in
     record {
       a = all_held (λ b. IsBeat rules_a b) (beat_of_a client) q lines (each_a c_le) t.kept;
@@ -124,35 +125,35 @@ has_beats version client manager lines t =
       e = all_held (λ b. IsBeat rules_e b) (beat_of_e client) q lines (each_e c_le) t.kept;
     }
   where
-    each_a : client ≤ 64 → (line : Line) (x : BeatOf HeadA client) → is_kept_line version client manager line ≡ true → beat_of_a client line ≡ Some x → IsBeat rules_a x
+    each_a : client ≤ WIDEST → (line : Line) (x : BeatOf HeadA client) → is_kept_line version client manager line ≡ true → beat_of_a client line ≡ Some x → IsBeat rules_a x
     each_a le (A b) x kept is = let P : BeatOf HeadA client → Type 0 = λ y. IsBeat rules_a y in subst P (same_Some (on_lanes client b) x is) (held_a version b client le kept)
     each_a le (B b) x kept is = absurd cc
     each_a le (C b) x kept is = absurd cc
     each_a le (D b) x kept is = absurd cc
     each_a le (E b) x kept is = absurd cc
 
-    each_b : manager ≤ 64 → (line : Line) (x : BeatOf HeadB manager) → is_kept_line version client manager line ≡ true → beat_of_b manager line ≡ Some x → IsBeat rules_b x
+    each_b : manager ≤ WIDEST → (line : Line) (x : BeatOf HeadB manager) → is_kept_line version client manager line ≡ true → beat_of_b manager line ≡ Some x → IsBeat rules_b x
     each_b le (A b) x kept is = absurd cc
     each_b le (B b) x kept is = let P : BeatOf HeadB manager → Type 0 = λ y. IsBeat rules_b y in subst P (same_Some (on_lanes manager b) x is) (held_b version b manager le kept)
     each_b le (C b) x kept is = absurd cc
     each_b le (D b) x kept is = absurd cc
     each_b le (E b) x kept is = absurd cc
 
-    each_c : client ≤ 64 → (line : Line) (x : BeatOf HeadC client) → is_kept_line version client manager line ≡ true → beat_of_c client line ≡ Some x → IsBeat rules_c x
+    each_c : client ≤ WIDEST → (line : Line) (x : BeatOf HeadC client) → is_kept_line version client manager line ≡ true → beat_of_c client line ≡ Some x → IsBeat rules_c x
     each_c le (A b) x kept is = absurd cc
     each_c le (B b) x kept is = absurd cc
     each_c le (C b) x kept is = let P : BeatOf HeadC client → Type 0 = λ y. IsBeat rules_c y in subst P (same_Some (on_lanes client b) x is) (held_c version b client le kept)
     each_c le (D b) x kept is = absurd cc
     each_c le (E b) x kept is = absurd cc
 
-    each_d : manager ≤ 64 → (line : Line) (x : BeatOf HeadD manager) → is_kept_line version client manager line ≡ true → beat_of_d manager line ≡ Some x → IsBeat rules_d x
+    each_d : manager ≤ WIDEST → (line : Line) (x : BeatOf HeadD manager) → is_kept_line version client manager line ≡ true → beat_of_d manager line ≡ Some x → IsBeat rules_d x
     each_d le (A b) x kept is = absurd cc
     each_d le (B b) x kept is = absurd cc
     each_d le (C b) x kept is = absurd cc
     each_d le (D b) x kept is = let P : BeatOf HeadD manager → Type 0 = λ y. IsBeat rules_d y in subst P (same_Some (on_lanes manager b) x is) (held_d version b manager le kept)
     each_d le (E b) x kept is = absurd cc
 
-    each_e : client ≤ 64 → (line : Line) (x : BeatOf HeadE client) → is_kept_line version client manager line ≡ true → beat_of_e client line ≡ Some x → IsBeat rules_e x
+    each_e : client ≤ WIDEST → (line : Line) (x : BeatOf HeadE client) → is_kept_line version client manager line ≡ true → beat_of_e client line ≡ Some x → IsBeat rules_e x
     each_e le (A b) x kept is = absurd cc
     each_e le (B b) x kept is = absurd cc
     each_e le (C b) x kept is = absurd cc

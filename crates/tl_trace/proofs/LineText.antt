@@ -1,8 +1,6 @@
 -- The parts of a line as they are written.
-use Rattle.std.proofs.Common.{◌≡◌, ℕ, ◌+◌, ◌*◌, ◌/◌, ◌^◌, ◌≤◌, Bool, true, false, cond, List, [], ◌∷◌, ◌++◌, refl, sym, ap, ◌∙◌, arith, append_assoc, append-nil}
-use Rattle.std.proofs.Math.Nat.{pow-le-pow_right}
+use Rattle.std.proofs.Common.{◌≡◌, ℕ, ◌+◌, ◌*◌, ◌/◌, Bool, true, false, cond, List, [], ◌∷◌, ◌++◌, refl, sym, ap, ◌∙◌, append_assoc, append-nil}
 use Rattle.std.specs.List.{flat_map}
-use Rattle.tl_lanes.specs.Lanes.{IsWidth}
 use Rattle.tl_msg.specs.declared.beat.BeatOf.{BeatOf}
 use Rattle.tl_trace.specs.Fields.{Field, Form, mask, data_lanes, corrupt, bit, digit_count, value_of, fields, number_of_lanes}
 use Rattle.tl_trace.specs.Lines.{hex, head_text, line_text}
@@ -36,12 +34,6 @@ line_parts f w b masked corrupts has_mask has_data narrow =
     ap (λ (t : Bool). (head_text f b.head ++ cond t (g mask) []) ++ cond corrupts (g data_lanes ++ g corrupt) []) (sym has_mask)
     ∙ ap (λ (t : Bool). (head_text f b.head ++ cond f.rules.masked (g mask) []) ++ cond t (g data_lanes ++ g corrupt) []) (sym has_data)
     ∙ ap (λ (xs : List ℕ). f.rules.letter ∷ xs) (sym whole)
-
-pub width_most : (w : ℕ) → IsWidth w → w ≤ 64
-width_most w k = most k.0 k.1 k.2
-  where
-    most : (k : ℕ) → k ≤ 6 → w ≡ 2 ^ k → w ≤ 64
-    most k le e = let top : 2 ^ k ≤ 2 ^ 6 = pow-le-pow_right {n = 2} (omega arith) {i = k} {j = 6} le in omega arith
 
 -- a head, two parts and a line end, put one after the other
 pub joined : (a h b c d e head masks datas : List ℕ) → a ≡ [] → h ≡ head → b ≡ a ++ h → c ≡ b ++ masks → d ≡ c ++ datas → e ≡ d ++ 10 ∷ [] → e ≡ ((head ++ masks) ++ datas) ++ 10 ∷ []

@@ -19,11 +19,12 @@ use Rattle.tl_trace.specs.declared.line.Line.TheVariants.{A, B, C, D, E}
 use Rattle.tl_trace.specs.declared.near.Near.TheVariants.{OfA, OfB, OfC, OfD, OfE}
 use Rattle.tl_trace.proofs.ReadLines.{read_as_a, read_as_b, read_as_c, read_as_d, read_as_e}
 use Rattle.tl_trace.proofs.ReadDigits.{zero_bytes, zero_bits}
+use Rattle.tl_lanes.specs.declared.limits.TheConstants.{WIDEST}
 
 -- ---- a narrow beat, as a line of a trace keeps it
 
-abbrev pub wide : {H : Type 0} {n : ℕ} → BeatOf H n → BeatOf H 64
-wide {H} {n} b = record { head = b.head; mask = b.mask; lanes = b.lanes ++ replicate (64 - n) 0; corrupt = b.corrupt }
+abbrev pub wide : {H : Type 0} {n : ℕ} → BeatOf H n → BeatOf H WIDEST
+wide {H} {n} b = record { head = b.head; mask = b.mask; lanes = b.lanes ++ replicate (WIDEST - n) 0; corrupt = b.corrupt }
 
 wide_number : (lanes : List ℕ) (k : ℕ) → number_of_lanes (lanes ++ replicate k 0) ≡ number_of_lanes lanes
 wide_number [] zero = refl
@@ -31,7 +32,7 @@ wide_number [] (suc k) = let rest = wide_number [] k in omega arith
 wide_number (lane ∷ lanes) k = ap (λ (n : ℕ). lane + 256 * n) (wide_number lanes k)
 
 same_value : {H : Type 0} (f : Form H) {n : ℕ} (b : BeatOf H n) (field : Field) → value_of f (wide b) field ≡ value_of f b field
-same_value f {n} b data_lanes = wide_number b.lanes (64 - n)
+same_value f {n} b data_lanes = wide_number b.lanes (WIDEST - n)
 same_value f b opcode = refl
 same_value f b param = refl
 same_value f b size = refl
@@ -51,22 +52,22 @@ same_writable : {H : Type 0} (f : Form H) {n : ℕ} (w : ℕ) (b : BeatOf H n) (
 same_writable f w b [] = refl
 same_writable f w b (field ∷ fs) = rw (same_value f b field) (ap (λ (x : Bool). nat_lt (value_of f b field) (values f w field) && x) (same_writable f w b fs))
 
-wide_lanes : (n : ℕ) (lanes : List ℕ) → n ≤ 64 → is_lanes n lanes ≡ true → is_lanes 64 (lanes ++ replicate (64 - n) 0) ≡ true
+wide_lanes : (n : ℕ) (lanes : List ℕ) → n ≤ WIDEST → is_lanes n lanes ≡ true → is_lanes WIDEST (lanes ++ replicate (WIDEST - n) 0) ≡ true
 wide_lanes n lanes le e =
     let long : length lanes ≡ n = eqb-true (length lanes) n (and_parts (nat_eq (length lanes) n) (list_all (λ lane. nat_lt lane 256) lanes) e).0 in
     let bytes = (and_parts (nat_eq (length lanes) n) (list_all (λ lane. nat_lt lane 256) lanes) e).1 in
-    let all : length (lanes ++ replicate (64 - n) 0) ≡ 64 = omega (arith, length-append lanes (replicate (64 - n) 0), length-replicate {A = ℕ} (64 - n) 0, long) in
-    and_from (nat_eq (length (lanes ++ replicate (64 - n) 0)) 64) (list_all (λ lane. nat_lt lane 256) (lanes ++ replicate (64 - n) 0)) (eq-eqb (length (lanes ++ replicate (64 - n) 0)) 64 all)
-    (list_all-append (λ lane. nat_lt lane 256) lanes (replicate (64 - n) 0) ∙ and_from (list_all (λ lane. nat_lt lane 256) lanes) (list_all (λ lane. nat_lt lane 256) (replicate (64 - n) 0)) bytes (zero_bytes (64 - n)))
+    let all : length (lanes ++ replicate (WIDEST - n) 0) ≡ WIDEST = omega (arith, length-append lanes (replicate (WIDEST - n) 0), length-replicate {A = ℕ} (WIDEST - n) 0, long) in
+    and_from (nat_eq (length (lanes ++ replicate (WIDEST - n) 0)) WIDEST) (list_all (λ lane. nat_lt lane 256) (lanes ++ replicate (WIDEST - n) 0)) (eq-eqb (length (lanes ++ replicate (WIDEST - n) 0)) WIDEST all)
+    (list_all-append (λ lane. nat_lt lane 256) lanes (replicate (WIDEST - n) 0) ∙ and_from (list_all (λ lane. nat_lt lane 256) lanes) (list_all (λ lane. nat_lt lane 256) (replicate (WIDEST - n) 0)) bytes (zero_bytes (WIDEST - n)))
 
 wide_zero : (lanes : List ℕ) (k : ℕ) → list_all (λ lane. nat_eq lane 0) (lanes ++ replicate k 0) ≡ list_all (λ lane. nat_eq lane 0) lanes
 wide_zero [] k = zero_bits k
 wide_zero (lane ∷ lanes) k = ap (λ (x : Bool). nat_eq lane 0 && x) (wide_zero lanes k)
 
 wide_plain : {H : Type 0} (f : Form H) {n : ℕ} (b : BeatOf H n) → is_plain f (wide b) ≡ is_plain f b
-wide_plain f {n} b = ap (λ (x : Bool). (f.rules.masked || nat_eq b.mask 0) && (f.rules.corrupts || (x && not b.corrupt))) (wide_zero b.lanes (64 - n))
+wide_plain f {n} b = ap (λ (x : Bool). (f.rules.masked || nat_eq b.mask 0) && (f.rules.corrupts || (x && not b.corrupt))) (wide_zero b.lanes (WIDEST - n))
 
-pub widened : {H : Type 0} (f : Form H) (w : ℕ) (text : List ℕ) (b : BeatOf H w) → w ≤ 64 → IsRead f w text b → IsRead f w text (wide b)
+pub widened : {H : Type 0} (f : Form H) (w : ℕ) (text : List ℕ) (b : BeatOf H w) → w ≤ WIDEST → IsRead f w text b → IsRead f w text (wide b)
 widened f w text b le r =
     let lanes = (and_parts (is_lanes w b.lanes) (is_writable f w b && is_plain f b) r.kept).0 in
     let rest = (and_parts (is_lanes w b.lanes) (is_writable f w b && is_plain f b) r.kept).1 in
@@ -74,32 +75,32 @@ widened f w text b le r =
     let plain : is_plain f (wide b) ≡ true = wide_plain f b ∙ (and_parts (is_writable f w b) (is_plain f b) rest).1 in
     record {
       line = record { letter = r.line.letter; long = r.line.long; shaped = r.line.shaped; says = r.line.says ∙ sym (same_values f b (fields f)) };
-      kept = and_from (is_lanes 64 (b.lanes ++ replicate (64 - w) 0)) (is_writable f w (wide b) && is_plain f (wide b)) (wide_lanes w b.lanes le lanes) (and_from (is_writable f w (wide b)) (is_plain f (wide b)) writable plain);
+      kept = and_from (is_lanes WIDEST (b.lanes ++ replicate (WIDEST - w) 0)) (is_writable f w (wide b) && is_plain f (wide b)) (wide_lanes w b.lanes le lanes) (and_from (is_writable f w (wide b)) (is_plain f (wide b)) writable plain);
     }
 
-narrowed : {H : Type 0} (f : Form H) (w : ℕ) (text : List ℕ) (b : BeatOf H w) → IsRead f w text b → take w (b.lanes ++ replicate (64 - w) 0) ≡ b.lanes
+narrowed : {H : Type 0} (f : Form H) (w : ℕ) (text : List ℕ) (b : BeatOf H w) → IsRead f w text b → take w (b.lanes ++ replicate (WIDEST - w) 0) ≡ b.lanes
 narrowed f w text b r =
     let long : length b.lanes ≡ w = eqb-true (length b.lanes) w (and_parts (nat_eq (length b.lanes) w) (list_all (λ lane. nat_lt lane 256) b.lanes) (and_parts (is_lanes w b.lanes) (is_writable f w b && is_plain f b) r.kept).0).0 in
-    ap (λ (k : ℕ). take k (b.lanes ++ replicate (64 - w) 0)) (sym long) ∙ take-append_seam b.lanes (replicate (64 - w) 0)
+    ap (λ (k : ℕ). take k (b.lanes ++ replicate (WIDEST - w) 0)) (sym long) ∙ take-append_seam b.lanes (replicate (WIDEST - w) 0)
 
 same_beat : {H : Type 0} (f : Form H) (w : ℕ) (text : List ℕ) (b : BeatOf H w) → IsRead f w text b → b ≡ on_lanes w (wide b)
 same_beat {H} f w text b r =
     let narrow : List ℕ → BeatOf H w = λ ls. record { head = b.head; mask = b.mask; lanes = ls; corrupt = b.corrupt } in
     sym (ap narrow (narrowed f w text b r))
 
-pub near_a : (v c m : ℕ) (text : List ℕ) (b : BeatOf HeadA c) → c ≤ 64 → IsRead (form_a v) c text b → IsReadNear {client = c} {manager = m} v text (OfA b)
+pub near_a : (v c m : ℕ) (text : List ℕ) (b : BeatOf HeadA c) → c ≤ WIDEST → IsRead (form_a v) c text b → IsReadNear {client = c} {manager = m} v text (OfA b)
 near_a v c m text b le r = record { line = A (wide b); read = read_as_a v c m text (wide b) (widened (form_a v) c text b le r); same = record { a = ap Some (same_beat (form_a v) c text b r); b = refl; c = refl; d = refl; e = refl } }
 
-pub near_b : (v c m : ℕ) (text : List ℕ) (b : BeatOf HeadB m) → m ≤ 64 → IsRead (form_b v) m text b → IsReadNear {client = c} {manager = m} v text (OfB b)
+pub near_b : (v c m : ℕ) (text : List ℕ) (b : BeatOf HeadB m) → m ≤ WIDEST → IsRead (form_b v) m text b → IsReadNear {client = c} {manager = m} v text (OfB b)
 near_b v c m text b le r = record { line = B (wide b); read = read_as_b v c m text (wide b) (widened (form_b v) m text b le r); same = record { a = refl; b = ap Some (same_beat (form_b v) m text b r); c = refl; d = refl; e = refl } }
 
-pub near_c : (v c m : ℕ) (text : List ℕ) (b : BeatOf HeadC c) → c ≤ 64 → IsRead (form_c v) c text b → IsReadNear {client = c} {manager = m} v text (OfC b)
+pub near_c : (v c m : ℕ) (text : List ℕ) (b : BeatOf HeadC c) → c ≤ WIDEST → IsRead (form_c v) c text b → IsReadNear {client = c} {manager = m} v text (OfC b)
 near_c v c m text b le r = record { line = C (wide b); read = read_as_c v c m text (wide b) (widened (form_c v) c text b le r); same = record { a = refl; b = refl; c = ap Some (same_beat (form_c v) c text b r); d = refl; e = refl } }
 
-pub near_d : (v c m : ℕ) (text : List ℕ) (b : BeatOf HeadD m) → m ≤ 64 → IsRead (form_d v) m text b → IsReadNear {client = c} {manager = m} v text (OfD b)
+pub near_d : (v c m : ℕ) (text : List ℕ) (b : BeatOf HeadD m) → m ≤ WIDEST → IsRead (form_d v) m text b → IsReadNear {client = c} {manager = m} v text (OfD b)
 near_d v c m text b le r = record { line = D (wide b); read = read_as_d v c m text (wide b) (widened (form_d v) m text b le r); same = record { a = refl; b = refl; c = refl; d = ap Some (same_beat (form_d v) m text b r); e = refl } }
 
-pub near_e : (v c m : ℕ) (text : List ℕ) (b : BeatOf HeadE c) → c ≤ 64 → IsRead (form_e v) c text b → IsReadNear {client = c} {manager = m} v text (OfE b)
+pub near_e : (v c m : ℕ) (text : List ℕ) (b : BeatOf HeadE c) → c ≤ WIDEST → IsRead (form_e v) c text b → IsReadNear {client = c} {manager = m} v text (OfE b)
 near_e v c m text b le r = record { line = E (wide b); read = read_as_e v c m text (wide b) (widened (form_e v) c text b le r); same = record { a = refl; b = refl; c = refl; d = refl; e = ap Some (same_beat (form_e v) c text b r) } }
 
 pub plain_zero : (v w : ℕ) (h : HeadE) → is_plain (form_e v) {n = w} (record { head = h; mask = 0; lanes = replicate w 0; corrupt = false }) ≡ true

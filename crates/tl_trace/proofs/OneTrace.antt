@@ -1,8 +1,8 @@
 -- No text tells two traces.
-use Rattle.std.proofs.Common.{◌≡◌, ◌≤◌, ℕ, zero, suc, Bool, true, false, not, nat_eq, nat_lt, ◌&&◌, ◌||◌, List, [], ◌∷◌, ◌++◌, length, map, refl, sym, ap, ◌∙◌, arith, append_assoc, eq-eqb, subst}
+use Rattle.std.proofs.Common.{◌≡◌, ◌≤◌, ℕ, zero, suc, Bool, true, false, not, nat_eq, nat_le, nat_lt, ◌&&◌, ◌||◌, List, [], ◌∷◌, ◌++◌, length, map, refl, sym, ap, ◌∙◌, arith, append_assoc, eq-eqb, subst}
 use Rattle.tl_msg.proofs.Beats.{same_beat}
 use Rattle.std.specs.Prelude.{decimal, codes, ◌==◌}
-use Rattle.std.proofs.lemmas.Bool.{eqb-true, ltb-true, not-true, and_parts, or_parts}
+use Rattle.std.proofs.lemmas.Bool.{eqb-true, leb-true, ltb-true, not-true, and_parts, or_parts}
 use Rattle.std.proofs.lemmas.Fmt.{decimal_is_IsNumeral}
 use Rattle.std.specs.Fmt.{digits}
 use Rattle.std.specs.List.{list_all, list_any, slice_index}
@@ -15,10 +15,12 @@ use Rattle.tl_msg.specs.declared.head.HeadD.{HeadD}
 use Rattle.tl_msg.specs.declared.head.HeadE.{HeadE}
 use Rattle.tl_trace.specs.Fields.{Form, bit, fields, value_of, number_of_lanes, form_a, form_b, form_c, form_d, form_e}
 use Rattle.tl_trace.specs.Lines.{is_lanes, IsLine, is_writable, is_plain, is_kept}
-use Rattle.tl_trace.specs.Texts.{versions, widths, is_version, is_width, newline, header_text, SaysLine, is_kept_line, TellsLines, Tells}
+use Rattle.tl_trace.specs.Texts.{versions, is_version, is_width, newline, header_text, SaysLine, is_kept_line, TellsLines, Tells}
 use Rattle.tl_trace.specs.declared.line.Line.{Line}
 use Rattle.tl_trace.specs.declared.line.Line.TheVariants.{A, B, C, D, E}
-use Rattle.tl_trace.proofs.Headers.{width_small, version_small}
+use Rattle.tl_lanes.specs.declared.limits.TheConstants.{WIDEST}
+use Rattle.tl_lanes.proofs.Widths.{each_width}
+use Rattle.tl_trace.proofs.Widths.{width_of, width_most}
 use Rattle.tl_trace.proofs.Cover.{says_free}
 
 -- ---- cutting at a byte
@@ -59,13 +61,17 @@ in_list p (x ∷ xs) w e all = pick (w == x) refl e (and_parts (p x) (list_all p
 clear : (stop : ℕ) (xs : List ℕ) (n : ℕ) → list_any (λ x. n == x) xs ≡ true → list_all (λ x. not (list_any (λ b. b == stop) (decimal x))) xs ≡ true → Without stop (decimal n)
 clear stop xs n is all = not-true (list_any (λ b. b == stop) (decimal n)) (in_list (λ x. not (list_any (λ b. b == stop) (decimal x))) xs n is all)
 
-no_space : (w : ℕ) → is_width w ≡ true → Without 32 (decimal w)
-unfolding digits
-no_space w is = clear 32 widths w is refl
+-- nor has a width
+abbrev clear_width : (stop w : ℕ) → Bool
+clear_width stop w = not (list_any (λ b. b == stop) (decimal w))
 
-pub no_newline : (w : ℕ) → is_width w ≡ true → Without 10 (decimal w)
+no_space : (version w : ℕ) → is_width version w ≡ true → Without 32 (decimal w)
 unfolding digits
-no_newline w is = clear 10 widths w is refl
+no_space version w is = not-true (list_any (λ b. b == 32) (decimal w)) (each_width (clear_width 32) refl w (width_of version w is))
+
+pub no_newline : (version w : ℕ) → is_width version w ≡ true → Without 10 (decimal w)
+unfolding digits
+no_newline version w is = not-true (list_any (λ b. b == 10) (decimal w)) (each_width (clear_width 10) refl w (width_of version w is))
 
 no_space_in_version : (version : ℕ) → is_version version ≡ true → Without 32 (decimal version)
 unfolding digits
@@ -75,7 +81,10 @@ pub no_newline_in_version : (version : ℕ) → is_version version ≡ true → 
 unfolding digits
 no_newline_in_version version is = clear 10 versions version is refl
 
-same_number : (m n : ℕ) → m ≤ 64 → n ≤ 64 → decimal m ≡ decimal n → m ≡ n
+version_small : (version : ℕ) → is_version version ≡ true → version ≤ WIDEST
+version_small version is = leb-true version WIDEST (in_list (λ v. nat_le v WIDEST) versions version is refl)
+
+same_number : (m n : ℕ) → m ≤ WIDEST → n ≤ WIDEST → decimal m ≡ decimal n → m ≡ n
 same_number m n small small' e = sym (decimal_is_IsNumeral m (omega arith)).1 ∙ ap (digits_value 10) e ∙ (decimal_is_IsNumeral n (omega arith)).1
 
 cancel : (xs ys zs : List ℕ) → xs ++ ys ≡ xs ++ zs → ys ≡ zs
@@ -101,21 +110,21 @@ behind_client manager rest = decimal manager ++ 10 ∷ rest
 whole_header : (version client manager : ℕ) (rest : List ℕ) → header_text version client manager ++ newline ++ rest ≡ codes "tilelink-trace " ++ (decimal version ++ (codes " client " ++ behind_version client manager rest))
 whole_header version client manager rest = flat (codes "tilelink-trace ") (decimal version) (codes " client ") (decimal client) (codes " manager ") (decimal manager) rest
 
-pub same_header : (version client manager version' client' manager' : ℕ) (rest rest' : List ℕ) → is_version version ≡ true → is_width client ≡ true → is_width manager ≡ true
-    → is_version version' ≡ true → is_width client' ≡ true → is_width manager' ≡ true
+pub same_header : (version client manager version' client' manager' : ℕ) (rest rest' : List ℕ) → is_version version ≡ true → is_width version client ≡ true → is_width version manager ≡ true
+    → is_version version' ≡ true → is_width version' client' ≡ true → is_width version' manager' ≡ true
     → header_text version client manager ++ newline ++ rest ≡ header_text version' client' manager' ++ newline ++ rest' → SameHeader version client manager version' client' manager' rest rest'
 same_header version client manager version' client' manager' rest rest' v c m v' c' m' e =
     let e0 = sym (whole_header version client manager rest) ∙ e ∙ whole_header version' client' manager' rest' in
     let e1 = cancel (codes "tilelink-trace ") (decimal version ++ (codes " client " ++ behind_version client manager rest)) (decimal version' ++ (codes " client " ++ behind_version client' manager' rest')) e0 in
     let s0 = split_at 32 (decimal version) (decimal version') (codes "client " ++ behind_version client manager rest) (codes "client " ++ behind_version client' manager' rest') e1 (no_space_in_version version v) (no_space_in_version version' v') in
     let e2 = cancel (codes "client ") (behind_version client manager rest) (behind_version client' manager' rest') s0.back in
-    let s1 = split_at 32 (decimal client) (decimal client') (codes "manager " ++ behind_client manager rest) (codes "manager " ++ behind_client manager' rest') e2 (no_space client c) (no_space client' c') in
+    let s1 = split_at 32 (decimal client) (decimal client') (codes "manager " ++ behind_client manager rest) (codes "manager " ++ behind_client manager' rest') e2 (no_space version client c) (no_space version' client' c') in
     let e3 = cancel (codes "manager ") (behind_client manager rest) (behind_client manager' rest') s1.back in
-    let s2 = split_at 10 (decimal manager) (decimal manager') rest rest' e3 (no_newline manager m) (no_newline manager' m') in
+    let s2 = split_at 10 (decimal manager) (decimal manager') rest rest' e3 (no_newline version manager m) (no_newline version' manager' m') in
     record {
       versions = same_number version version' (version_small version v) (version_small version' v') s0.front;
-      clients = same_number client client' (width_small client c) (width_small client' c') s1.front;
-      managers = same_number manager manager' (width_small manager m) (width_small manager' m') s2.front;
+      clients = same_number client client' (width_most version client c) (width_most version' client' c') s1.front;
+      managers = same_number manager manager' (width_most version manager m) (width_most version' manager' m') s2.front;
       rests = s2.back;
     }
 
@@ -134,17 +143,17 @@ lanes_same (suc n) (x ∷ xs) (y ∷ ys) l l' b b' e =
     let more = lanes_same n xs ys (omega arith) (omega arith) (and_parts (nat_lt x 256) (list_all (λ lane. nat_lt lane 256) xs) b).1 (and_parts (nat_lt y 256) (list_all (λ lane. nat_lt lane 256) ys) b').1 rest in
     ap (λ (z : ℕ). z ∷ xs) low ∙ ap (λ (zs : List ℕ). y ∷ zs) more
 
-kept_lanes : {H : Type 0} (f : Form H) (w : ℕ) (x y : BeatOf H 64) → is_kept f w x ≡ true → is_kept f w y ≡ true → number_of_lanes x.lanes ≡ number_of_lanes y.lanes → x.lanes ≡ y.lanes
+kept_lanes : {H : Type 0} (f : Form H) (w : ℕ) (x y : BeatOf H WIDEST) → is_kept f w x ≡ true → is_kept f w y ≡ true → number_of_lanes x.lanes ≡ number_of_lanes y.lanes → x.lanes ≡ y.lanes
 kept_lanes f w x y kept kept' e =
-    let a = (and_parts (is_lanes 64 x.lanes) (is_writable f w x && is_plain f x) kept).0 in
-    let b = (and_parts (is_lanes 64 y.lanes) (is_writable f w y && is_plain f y) kept').0 in
-    lanes_same 64 x.lanes y.lanes
-    (eqb-true (length x.lanes) 64 (and_parts (nat_eq (length x.lanes) 64) (list_all (λ lane. nat_lt lane 256) x.lanes) a).0)
-    (eqb-true (length y.lanes) 64 (and_parts (nat_eq (length y.lanes) 64) (list_all (λ lane. nat_lt lane 256) y.lanes) b).0)
-    (and_parts (nat_eq (length x.lanes) 64) (list_all (λ lane. nat_lt lane 256) x.lanes) a).1 (and_parts (nat_eq (length y.lanes) 64) (list_all (λ lane. nat_lt lane 256) y.lanes) b).1 e
+    let a = (and_parts (is_lanes WIDEST x.lanes) (is_writable f w x && is_plain f x) kept).0 in
+    let b = (and_parts (is_lanes WIDEST y.lanes) (is_writable f w y && is_plain f y) kept').0 in
+    lanes_same WIDEST x.lanes y.lanes
+    (eqb-true (length x.lanes) WIDEST (and_parts (nat_eq (length x.lanes) WIDEST) (list_all (λ lane. nat_lt lane 256) x.lanes) a).0)
+    (eqb-true (length y.lanes) WIDEST (and_parts (nat_eq (length y.lanes) WIDEST) (list_all (λ lane. nat_lt lane 256) y.lanes) b).0)
+    (and_parts (nat_eq (length x.lanes) WIDEST) (list_all (λ lane. nat_lt lane 256) x.lanes) a).1 (and_parts (nat_eq (length y.lanes) WIDEST) (list_all (λ lane. nat_lt lane 256) y.lanes) b).1 e
 
-pub plain_of : {H : Type 0} (f : Form H) (w : ℕ) (x : BeatOf H 64) → is_kept f w x ≡ true → is_plain f x ≡ true
-plain_of f w x kept = (and_parts (is_writable f w x) (is_plain f x) (and_parts (is_lanes 64 x.lanes) (is_writable f w x && is_plain f x) kept).1).1
+pub plain_of : {H : Type 0} (f : Form H) (w : ℕ) (x : BeatOf H WIDEST) → is_kept f w x ≡ true → is_plain f x ≡ true
+plain_of f w x kept = (and_parts (is_writable f w x) (is_plain f x) (and_parts (is_lanes WIDEST x.lanes) (is_writable f w x && is_plain f x) kept).1).1
 
 bit_same : (x y : Bool) → bit x ≡ bit y → x ≡ y
 bit_same true true e = refl
@@ -152,7 +161,7 @@ bit_same true false e = absurd (omega arith)
 bit_same false true e = absurd (omega arith)
 bit_same false false e = refl
 
-same_values : {H : Type 0} (f : Form H) (w : ℕ) (x y : BeatOf H 64) (text : List ℕ) → IsLine f w x text → IsLine f w y text → map (value_of f x) (fields f) ≡ map (value_of f y) (fields f)
+same_values : {H : Type 0} (f : Form H) (w : ℕ) (x y : BeatOf H WIDEST) (text : List ℕ) → IsLine f w x text → IsLine f w y text → map (value_of f x) (fields f) ≡ map (value_of f y) (fields f)
 same_values f w x y text a b = sym a.says ∙ b.says
 
 head_a : (x y : HeadA) → x.opcode ≡ y.opcode → x.param ≡ y.param → x.size ≡ y.size → x.source ≡ y.source → x.address ≡ y.address → x ≡ y
@@ -198,12 +207,12 @@ same_7 x0 x1 x2 x3 x4 x5 x6 y0 y1 y2 y3 y4 y5 y6 e = (cc, cc, cc, cc, cc, cc, cc
 same_8 : (x0 x1 x2 x3 x4 x5 x6 x7 y0 y1 y2 y3 y4 y5 y6 y7 : ℕ) → x0 ∷ x1 ∷ x2 ∷ x3 ∷ x4 ∷ x5 ∷ x6 ∷ x7 ∷ [] ≡ y0 ∷ y1 ∷ y2 ∷ y3 ∷ y4 ∷ y5 ∷ y6 ∷ y7 ∷ [] → (x0 ≡ y0) × (x1 ≡ y1) × (x2 ≡ y2) × (x3 ≡ y3) × (x4 ≡ y4) × (x5 ≡ y5) × (x6 ≡ y6) × (x7 ≡ y7)
 same_8 x0 x1 x2 x3 x4 x5 x6 x7 y0 y1 y2 y3 y4 y5 y6 y7 e = (cc, cc, cc, cc, cc, cc, cc, cc)
 
-line_a : (version w : ℕ) (x y : BeatOf HeadA 64) (text : List ℕ) → is_kept (form_a version) w x ≡ true → is_kept (form_a version) w y ≡ true → IsLine (form_a version) w x text → IsLine (form_a version) w y text → x ≡ y
+line_a : (version w : ℕ) (x y : BeatOf HeadA WIDEST) (text : List ℕ) → is_kept (form_a version) w x ≡ true → is_kept (form_a version) w y ≡ true → IsLine (form_a version) w x text → IsLine (form_a version) w y text → x ≡ y
 line_a version w x y text kept kept' a b =
     let v = same_8 _ _ _ _ _ _ _ _ _ _ _ _ _ _ _ _ (same_values (form_a version) w x y text a b) in
     same_beat x y (head_a x.head y.head v.0 v.1 v.2 v.3 v.4) v.5 (kept_lanes (form_a version) w x y kept kept' v.6) (bit_same x.corrupt y.corrupt v.7)
 
-line_b : (version w : ℕ) (x y : BeatOf HeadB 64) (text : List ℕ) → is_kept (form_b version) w x ≡ true → is_kept (form_b version) w y ≡ true → IsLine (form_b version) w x text → IsLine (form_b version) w y text → x ≡ y
+line_b : (version w : ℕ) (x y : BeatOf HeadB WIDEST) (text : List ℕ) → is_kept (form_b version) w x ≡ true → is_kept (form_b version) w y ≡ true → IsLine (form_b version) w x text → IsLine (form_b version) w y text → x ≡ y
 line_b version w x y text kept kept' a b =
     let v = same_8 _ _ _ _ _ _ _ _ _ _ _ _ _ _ _ _ (same_values (form_b version) w x y text a b) in
     same_beat x y (head_b x.head y.head v.0 v.1 v.2 v.3 v.4) v.5 (kept_lanes (form_b version) w x y kept kept' v.6) (bit_same x.corrupt y.corrupt v.7)
@@ -212,17 +221,17 @@ mask_zero : (masked : Bool) (mask : ℕ) (other : Bool) → masked ≡ false →
 mask_zero true mask other e h = absurd cc
 mask_zero false mask other e h = eqb-true mask 0 (and_parts (nat_eq mask 0) other h).0
 
-no_mask : {H : Type 0} (f : Form H) (w : ℕ) (x y : BeatOf H 64) → is_kept f w x ≡ true → is_kept f w y ≡ true → f.rules.masked ≡ false → x.mask ≡ y.mask
+no_mask : {H : Type 0} (f : Form H) (w : ℕ) (x y : BeatOf H WIDEST) → is_kept f w x ≡ true → is_kept f w y ≡ true → f.rules.masked ≡ false → x.mask ≡ y.mask
 no_mask f w x y kept kept' e =
     mask_zero f.rules.masked x.mask (f.rules.corrupts || (list_all (λ lane. nat_eq lane 0) x.lanes && not x.corrupt)) e (plain_of f w x kept)
     ∙ sym (mask_zero f.rules.masked y.mask (f.rules.corrupts || (list_all (λ lane. nat_eq lane 0) y.lanes && not y.corrupt)) e (plain_of f w y kept'))
 
-line_c : (version w : ℕ) (x y : BeatOf HeadC 64) (text : List ℕ) → is_kept (form_c version) w x ≡ true → is_kept (form_c version) w y ≡ true → IsLine (form_c version) w x text → IsLine (form_c version) w y text → x ≡ y
+line_c : (version w : ℕ) (x y : BeatOf HeadC WIDEST) (text : List ℕ) → is_kept (form_c version) w x ≡ true → is_kept (form_c version) w y ≡ true → IsLine (form_c version) w x text → IsLine (form_c version) w y text → x ≡ y
 line_c version w x y text kept kept' a b =
     let v = same_7 _ _ _ _ _ _ _ _ _ _ _ _ _ _ (same_values (form_c version) w x y text a b) in
     same_beat x y (head_c x.head y.head v.0 v.1 v.2 v.3 v.4) (no_mask (form_c version) w x y kept kept' refl) (kept_lanes (form_c version) w x y kept kept' v.5) (bit_same x.corrupt y.corrupt v.6)
 
-line_d : (version w : ℕ) (x y : BeatOf HeadD 64) (text : List ℕ) → is_kept (form_d version) w x ≡ true → is_kept (form_d version) w y ≡ true → IsLine (form_d version) w x text → IsLine (form_d version) w y text → x ≡ y
+line_d : (version w : ℕ) (x y : BeatOf HeadD WIDEST) (text : List ℕ) → is_kept (form_d version) w x ≡ true → is_kept (form_d version) w y ≡ true → IsLine (form_d version) w x text → IsLine (form_d version) w y text → x ≡ y
 line_d version w x y text kept kept' a b =
     let v = same_8 _ _ _ _ _ _ _ _ _ _ _ _ _ _ _ _ (same_values (form_d version) w x y text a b) in
     same_beat x y (head_d x.head y.head v.0 v.1 v.2 v.3 v.4 (bit_same x.head.denied y.head.denied v.5)) (no_mask (form_d version) w x y kept kept' refl) (kept_lanes (form_d version) w x y kept kept' v.6) (bit_same x.corrupt y.corrupt v.7)
@@ -234,12 +243,12 @@ no_lanes (lane ∷ lanes) e =
     let rest = no_lanes lanes (and_parts (nat_eq lane 0) (list_all (λ lane. nat_eq lane 0) lanes) e).1 in
     omega arith
 
-plain_e : (version w : ℕ) (x : BeatOf HeadE 64) → is_kept (form_e version) w x ≡ true → (list_all (λ lane. nat_eq lane 0) x.lanes ≡ true) × (x.corrupt ≡ false)
+plain_e : (version w : ℕ) (x : BeatOf HeadE WIDEST) → is_kept (form_e version) w x ≡ true → (list_all (λ lane. nat_eq lane 0) x.lanes ≡ true) × (x.corrupt ≡ false)
 plain_e version w x kept =
     let plain = (and_parts (nat_eq x.mask 0) (list_all (λ lane. nat_eq lane 0) x.lanes && not x.corrupt) (plain_of (form_e version) w x kept)).1 in
     ((and_parts (list_all (λ lane. nat_eq lane 0) x.lanes) (not x.corrupt) plain).0, not-true x.corrupt (and_parts (list_all (λ lane. nat_eq lane 0) x.lanes) (not x.corrupt) plain).1)
 
-line_e : (version w : ℕ) (x y : BeatOf HeadE 64) (text : List ℕ) → is_kept (form_e version) w x ≡ true → is_kept (form_e version) w y ≡ true → IsLine (form_e version) w x text → IsLine (form_e version) w y text → x ≡ y
+line_e : (version w : ℕ) (x y : BeatOf HeadE WIDEST) (text : List ℕ) → is_kept (form_e version) w x ≡ true → is_kept (form_e version) w y ≡ true → IsLine (form_e version) w x text → IsLine (form_e version) w y text → x ≡ y
 line_e version w x y text kept kept' a b =
     let v : x.head.sink ∷ [] ≡ y.head.sink ∷ [] = same_values (form_e version) w x y text a b in
     let px = plain_e version w x kept in

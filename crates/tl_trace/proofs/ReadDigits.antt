@@ -1,14 +1,17 @@
 -- Numbers read without a test of each digit: a bad digit shows in the bits above the lowest four.
-use Rattle.std.proofs.Common.{◌≡◌, ℕ, zero, suc, ◌+◌, ◌-◌, ◌*◌, ◌%◌, ◌^◌, ◌<◌, ◌≤◌, Bool, true, false, cond, nat_eq, nat_lt, List, [], ◌∷◌, length, get_or, set, take, drop, replicate, Option, Some, None, refl, sym, ap, ◌∙◌, add-one, arith, eq-eqb, subst, bit_or}
+use Rattle.std.proofs.Common.{◌≡◌, ℕ, zero, suc, ◌+◌, ◌-◌, ◌*◌, ◌%◌, ◌^◌, ◌<◌, ◌≤◌, Bool, true, false, cond, nat_eq, nat_lt, ◌&&◌, List, [], ◌∷◌, ◌++◌, length, length-append, get_or, set, take, drop, replicate, Option, Some, None, refl, sym, ap, ◌∙◌, add-one, arith, eq-eqb, subst, bit_or}
 use Rattle.std.proofs.Math.Nat.{pow-suc}
+use Rattle.std.proofs.lemmas.Nat.{pow-add}
 use Rattle.std.proofs.lemmas.Bool.{eqb-true, lt-ltb, ltb-true, ltb-false, and_parts, and_from}
 use Rattle.std.proofs.lemmas.Nat.{le_or_l, le_or_r, or_lt}
-use Rattle.std.proofs.lemmas.List.{length-set, length-replicate, length-take-le, length-drop}
+use Rattle.std.proofs.lemmas.List.{take-append-drop, take_all, length-set, length-replicate, length-take-le, length-drop}
 use Rattle.std.specs.List.{list_all, slice_range, slice_index}
-use Rattle.std.specs.Str.Parse.{digits_value}
+use Rattle.std.specs.Str.Parse.{digits_value, digits_value_after}
+use Rattle.std.specs.Char.{digit_value}
+use Rattle.std.proofs.lemmas.List.Folds.{list_all-append}
 use Rattle.tl_trace.specs.Fields.{number_of_lanes}
 use Rattle.tl_trace.specs.Lines.{is_hex, is_lanes}
-use Rattle.tl_trace.specs.Inner.Reading.{digit_of, number_of, field_at, IsNumber, IsPair}
+use Rattle.tl_trace.specs.Inner.Reading.{digit_of, number_of, field_at, IsNumber, IsPair, IsSpelt}
 use Rattle.tl_trace.proofs.HexDigits.{room, wider, step, fails, is_done}
 
 -- ---- bad digits
@@ -34,13 +37,6 @@ none_either : {A : Type 0} (b : Bool) (o : Option A) → o ≡ None → cond b o
 none_either true o e = e
 none_either false o e = refl
 
-unspelt : (text : List ℕ) (at count i d : ℕ) → i < length (slice_range text (at + 1) (at + 1 + count)) → d ≡ digit_of (get_or (slice_range text (at + 1) (at + 1 + count)) i 0) → 15 < d
-    → field_at text at count ≡ None
-unfolding field_at
-unspelt text at count i d lt digit big =
-    let ds = slice_range text (at + 1) (at + 1 + count) in
-    none_either (nat_eq (slice_index text at) 32) (number_of ds) (fails ds i d lt digit big)
-
 pub range_long : (text : List ℕ) (at n : ℕ) → at + n ≤ length text → length (slice_range text at (at + n)) ≡ n
 range_long text at n le =
     let here : (at + n) - at ≡ n = omega arith in
@@ -54,25 +50,13 @@ pub record Spelt (digits : List ℕ) (i n : ℕ) : Type 0 where
   pub value : n ≡ digits_value 16 (take i digits)
   pub small : n < 16 ^ i
 
--- the space stands, and the digits so far are digits, unless one was bad: then there is no number
-pub record Field (text : List ℕ) (at count i n bad : ℕ) : Type 0 where
-  pub space : bad ≤ 15 → slice_index text at ≡ 32
-  pub spelt : bad ≤ 15 → Spelt (slice_range text (at + 1) (at + 1 + count)) i n
-  pub spoilt : 15 < bad → field_at text at count ≡ None
+-- the digits so far are digits, unless one was bad: then they spell no number
+pub record SpeltSoFar (digits : List ℕ) (i n bad : ℕ) : Type 0 where
+  pub spelt : bad ≤ 15 → Spelt digits i n
+  pub spoilt : 15 < bad → number_of digits ≡ None
 
--- the space, where nothing was read yet
-pub spaced : (text : List ℕ) (at count bad : ℕ) → bad ≡ cond (nat_eq (slice_index text at) 32) 0 16 → (bad ≤ 15 → slice_index text at ≡ 32) × (15 < bad → field_at text at count ≡ None)
-unfolding field_at
-spaced text at count bad is = pick (nat_eq (slice_index text at) 32) refl is
-  where
-    pick : (b : Bool) → nat_eq (slice_index text at) 32 ≡ b → bad ≡ cond b 0 16 → (bad ≤ 15 → slice_index text at ≡ 32) × (15 < bad → cond (nat_eq (slice_index text at) 32) (number_of (slice_range text (at + 1) (at + 1 + count))) None ≡ None)
-    pick true e is = ((λ le. eqb-true (slice_index text at) 32 e), λ lt. absurd (omega (arith, is, lt)))
-    pick false e is = ((λ le. absurd (omega (arith, is, le))), λ lt. rw e refl)
-
-pub field_start : (text : List ℕ) (at count bad : ℕ) → bad ≡ cond (nat_eq (slice_index text at) 32) 0 16 → Field text at count 0 0 bad
-field_start text at count bad is =
-    let s = spaced text at count bad is in
-    record { space = s.0; spelt = λ le. record { good = refl; value = refl; small = omega arith }; spoilt = s.1 }
+pub spelt_start : (ds : List ℕ) → SpeltSoFar ds 0 0 0
+spelt_start ds = record { spelt = λ le. record { good = refl; value = refl; small = omega arith }; spoilt = λ lt. absurd (omega (arith, lt)) }
 
 spelt_more : (ds : List ℕ) (i n d : ℕ) → i < length ds → i < 16 → Spelt ds i n → d ≡ digit_of (get_or ds i 0) → d ≤ 15 → Spelt ds (i + 1) ((n * 16 % 2 ^ 64 + d) % 2 ^ 64)
 spelt_more ds i n d lt few s digit le =
@@ -82,29 +66,123 @@ spelt_more ds i n d lt few s digit le =
     let P : ℕ → Type 0 = Spelt ds (i + 1) in
     subst P (sym same) (record { good = more.0; value = more.1; small = wider n i d s.small le })
 
-pub field_more : (text : List ℕ) (at count i n bad d : ℕ) → i < length (slice_range text (at + 1) (at + 1 + count)) → i < 16 → Field text at count i n bad
-    → d ≡ digit_of (get_or (slice_range text (at + 1) (at + 1 + count)) i 0) → Field text at count (i + 1) ((n * 16 % 2 ^ 64 + d) % 2 ^ 64) (bit_or bad d)
-field_more text at count i n bad d lt few f digit = record {
-  space = λ le. f.space (left_good bad d le);
-  spelt = λ le. spelt_more (slice_range text (at + 1) (at + 1 + count)) i n d lt few (f.spelt (left_good bad d le)) digit (right_good bad d le);
-  spoilt = λ big. bad_or bad d big f.spoilt (unspelt text at count i d lt digit);
+pub spelt_next : (ds : List ℕ) (i n bad d : ℕ) → i < length ds → i < 16 → SpeltSoFar ds i n bad → d ≡ digit_of (get_or ds i 0) → SpeltSoFar ds (i + 1) ((n * 16 % 2 ^ 64 + d) % 2 ^ 64) (bit_or bad d)
+spelt_next ds i n bad d lt few f digit = record {
+  spelt = λ le. spelt_more ds i n d lt few (f.spelt (left_good bad d le)) digit (right_good bad d le);
+  spoilt = λ big. bad_or bad d big f.spoilt (fails ds i d lt digit);
 }
 
-field_good : (text : List ℕ) (at count n : ℕ) → slice_index text at ≡ 32 → number_of (slice_range text (at + 1) (at + 1 + count)) ≡ Some n → field_at text at count ≡ Some n
-unfolding field_at
-field_good text at count n space number = rw space number
-
-pub field_done : (text : List ℕ) (at count i n bad : ℕ) → count ≤ i → i ≤ count → at + 1 + count ≤ length text → Field text at count i n bad → IsNumber text at count n bad
-field_done text at count i n bad le ge fits f =
-    let ds = slice_range text (at + 1) (at + 1 + count) in
-    let same : i ≡ count = omega arith in
-    let long : length ds ≡ count = range_long text (at + 1) count fits in
+pub spelt_done : (ds : List ℕ) (i n bad : ℕ) → length ds ≤ i → i ≤ length ds → SpeltSoFar ds i n bad → IsSpelt ds n bad
+spelt_done ds i n bad le ge f =
+    let same : i ≡ length ds = omega arith in
     let P : ℕ → Type 0 = λ k. n < 16 ^ k in
     record {
-      good = λ good. let s = f.spelt good in field_good text at count n (f.space good) (is_done ds i n (omega (arith, long)) s.good s.value);
+      good = λ good. let s = f.spelt good in is_done ds i n le s.good s.value;
       small = λ good. subst P same (f.spelt good).small;
       none = f.spoilt;
     }
+
+-- ---- after a space
+
+-- digits that stand after a space
+pub spelt_after : (text : List ℕ) (at count n space bad : ℕ) → at + 1 + count ≤ length text → space ≡ cond (nat_eq (slice_index text at) 32) 0 16
+    → IsSpelt (slice_range text (at + 1) (at + 1 + count)) n bad → IsNumber text at count n (bit_or space bad)
+unfolding field_at
+spelt_after text at count n space bad fits is s =
+    let ds = slice_range text (at + 1) (at + 1 + count) in
+    let long : length ds ≡ count = range_long text (at + 1) count fits in
+    let P : ℕ → Type 0 = λ k. n < 16 ^ k in
+    record {
+      good = λ good. rw (there (nat_eq (slice_index text at) 32) is (left_good space bad good)) (s.good (right_good space bad good));
+      small = λ good. subst P long (s.small (right_good space bad good));
+      none = λ big. bad_or space bad big
+          (λ worse. ap (λ (b : Bool). cond b (number_of ds) None) (missing (nat_eq (slice_index text at) 32) is worse))
+          (λ worse. none_either (nat_eq (slice_index text at) 32) (number_of ds) (s.none worse));
+    }
+  where
+    there : (b : Bool) → space ≡ cond b 0 16 → space ≤ 15 → b ≡ true
+    there true is le = refl
+    there false is le = absurd (omega (arith, is, le))
+
+    missing : (b : Bool) → space ≡ cond b 0 16 → 15 < space → b ≡ false
+    missing true is lt = absurd (omega (arith, is, lt))
+    missing false is lt = refl
+
+-- ---- digits behind digits
+
+value_after : (n : ℕ) (ys : List ℕ) → digits_value_after 16 n ys ≡ n * 16 ^ length ys + digits_value 16 ys
+value_after n [] = omega arith
+value_after n (y ∷ ys) =
+    let here = value_after (n * 16 + digit_value y) ys in
+    let rest = value_after (0 * 16 + digit_value y) ys in
+    let power : 16 ^ suc (length ys) ≡ 16 ^ length ys * 16 = pow-suc 16 (length ys) in
+    let spread : (n * 16 + digit_value y) * 16 ^ length ys ≡ n * (16 ^ length ys * 16) + digit_value y * 16 ^ length ys = grind arith in
+    let long : length (y ∷ ys) ≡ suc (length ys) = refl in
+    omega (arith, here, rest, spread) ∙ ap (λ (p : ℕ). n * p + digits_value 16 (y ∷ ys)) (sym power)
+
+value_append : (n : ℕ) (xs ys : List ℕ) → digits_value_after 16 n (xs ++ ys) ≡ digits_value_after 16 (digits_value_after 16 n xs) ys
+value_append n [] ys = refl
+value_append n (x ∷ xs) ys = value_append (n * 16 + digit_value x) xs ys
+
+-- what a number of digits says of them
+number_good : (ds : List ℕ) (n : ℕ) → number_of ds ≡ Some n → (list_all is_hex ds ≡ true) × (digits_value 16 ds ≡ n)
+unfolding number_of
+number_good ds n e = pick (list_all is_hex ds) refl e
+  where
+    pick : (b : Bool) → list_all is_hex ds ≡ b → cond b (Some (digits_value 16 ds)) None ≡ Some n → (list_all is_hex ds ≡ true) × (digits_value 16 ds ≡ n)
+    pick true is e = (is, cc)
+    pick false is e = absurd cc
+
+number_bad : (ds : List ℕ) → number_of ds ≡ None → list_all is_hex ds ≡ false
+unfolding number_of
+number_bad ds e = pick (list_all is_hex ds) refl e
+  where
+    pick : (b : Bool) → list_all is_hex ds ≡ b → cond b (Some (digits_value 16 ds)) None ≡ None → list_all is_hex ds ≡ false
+    pick true is e = absurd cc
+    pick false is e = is
+
+-- the number of so many digits before 16 others
+pub spelt_both : (xs ys : List ℕ) (a b bad bad' : ℕ) → length ys ≡ 16 → IsSpelt xs a bad → IsSpelt ys b bad' → IsSpelt (xs ++ ys) (a * 2 ^ 64 + b) (bit_or bad bad')
+unfolding number_of
+spelt_both xs ys a b bad bad' sixteen x y = record {
+  good = λ le.
+      let high = number_good xs a (x.good (left_good bad bad' le)) in
+      let low = number_good ys b (y.good (right_good bad bad' le)) in
+      let all : list_all is_hex (xs ++ ys) ≡ true = list_all-append is_hex xs ys ∙ and_from (list_all is_hex xs) (list_all is_hex ys) high.0 low.0 in
+      let value : digits_value 16 (xs ++ ys) ≡ a * 2 ^ 64 + b =
+      value_append 0 xs ys ∙ value_after (digits_value 16 xs) ys ∙ ap (λ (k : ℕ). digits_value 16 xs * 16 ^ k + digits_value 16 ys) sixteen
+      ∙ omega (arith, high.1, low.1) in
+      rw (all, value) refl;
+  small = λ le.
+      let high = x.small (left_good bad bad' le) in
+      let low = y.small (right_good bad bad' le) in
+      let power : 16 ^ (length xs + length ys) ≡ 16 ^ length xs * 16 ^ length ys = pow-add 16 (length xs) (length ys) in
+      let long : length (xs ++ ys) ≡ length xs + length ys = length-append xs ys in
+      let P : ℕ → Type 0 = λ k. a * 2 ^ 64 + b < k in
+      let few : b < 16 ^ 16 = subst (λ (k : ℕ). b < 16 ^ k) sixteen low in
+      let here : a * 2 ^ 64 + b < 16 ^ length xs * 16 ^ 16 = omega (arith, high, few) in
+      subst P (sym (ap (λ (k : ℕ). 16 ^ k) long ∙ power ∙ ap (λ (k : ℕ). 16 ^ length xs * 16 ^ k) sixteen)) here;
+  none = λ big.
+      let out : list_all is_hex (xs ++ ys) ≡ false = list_all-append is_hex xs ys ∙ bad_or bad bad' big
+      (λ worse. and_no_left (list_all is_hex xs) (list_all is_hex ys) (number_bad xs (x.none worse)))
+      (λ worse. and_no_right (list_all is_hex xs) (list_all is_hex ys) (number_bad ys (y.none worse))) in
+      rw out refl;
+}
+  where
+    and_no_left : (p q : Bool) → p ≡ false → p && q ≡ false
+    and_no_left p q none = rw none refl
+
+    and_no_right : (p q : Bool) → q ≡ false → p && q ≡ false
+    and_no_right true q none = none
+    and_no_right false q none = refl
+
+-- digits whose last 16 are read apart from those before them
+pub spelt_split : (ds : List ℕ) (m a b bad bad' : ℕ) → m + 16 ≡ length ds → IsSpelt (take m ds) a bad → IsSpelt (slice_range ds m (length ds)) b bad' → IsSpelt ds (a * 2 ^ 64 + b) (bit_or bad bad')
+spelt_split ds m a b bad bad' is high low =
+    let P : List ℕ → Type 0 = λ xs. IsSpelt xs (a * 2 ^ 64 + b) (bit_or bad bad') in
+    let all : slice_range ds m (length ds) ≡ drop m ds = take_all (length ds - m) (drop m ds) (omega (arith, length-drop m ds)) in
+    let sixteen : length (slice_range ds m (length ds)) ≡ 16 = ap length all ∙ omega (arith, length-drop m ds) in
+    subst P (ap (λ (xs : List ℕ). take m ds ++ xs) all ∙ take-append-drop m ds) (spelt_both (take m ds) (slice_range ds m (length ds)) a b bad bad' sixteen high low)
 
 -- ---- lanes
 
@@ -212,25 +290,23 @@ marked_bad pairs bad is lt = pick (nat_lt 255 pairs) refl is
     pick false e is = absurd (omega (arith, is, lt))
 
 -- where a pair has no value there is no number
-unspelt_pair : (text : List ℕ) (at count i pair : ℕ) → 2 * i + 1 < length (slice_range text (at + 1) (at + 1 + count))
-    → (255 < pair → digit_of (get_or (slice_range text (at + 1) (at + 1 + count)) (2 * i) 0) ≤ 15 → 15 < digit_of (get_or (slice_range text (at + 1) (at + 1 + count)) (2 * i + 1) 0))
-    → 255 < pair → field_at text at count ≡ None
-unspelt_pair text at count i pair lt either big = pick (nat_lt 15 high) refl
+unspelt_pair : (ds : List ℕ) (i pair : ℕ) → 2 * i + 1 < length ds → (255 < pair → digit_of (get_or ds (2 * i) 0) ≤ 15 → 15 < digit_of (get_or ds (2 * i + 1) 0)) → 255 < pair → number_of ds ≡ None
+unspelt_pair ds i pair lt either big = pick (nat_lt 15 high) refl
   where
     high : ℕ
-    high = digit_of (get_or (slice_range text (at + 1) (at + 1 + count)) (2 * i) 0)
+    high = digit_of (get_or ds (2 * i) 0)
 
-    pick : (b : Bool) → nat_lt 15 high ≡ b → field_at text at count ≡ None
-    pick true e = unspelt text at count (2 * i) high (omega (arith, lt)) refl (ltb-true 15 high e)
-    pick false e = unspelt text at count (2 * i + 1) (digit_of (get_or (slice_range text (at + 1) (at + 1 + count)) (2 * i + 1) 0)) lt refl (either big (omega (arith, ltb-false 15 high e)))
+    pick : (b : Bool) → nat_lt 15 high ≡ b → number_of ds ≡ None
+    pick true e = fails ds (2 * i) high (omega (arith, lt)) refl (ltb-true 15 high e)
+    pick false e = fails ds (2 * i + 1) (digit_of (get_or ds (2 * i + 1) 0)) lt refl (either big (omega (arith, ltb-false 15 high e)))
 
 -- the digits so far are digits, and the number is theirs, unless a pair had no value: then there is no number
-pub record Pairs (text : List ℕ) (at count i n pairs : ℕ) : Type 0 where
-  pub spelt : pairs ≤ 255 → Spelt (slice_range text (at + 1) (at + 1 + count)) (2 * i) n
-  pub spoilt : 255 < pairs → field_at text at count ≡ None
+pub record Pairs (digits : List ℕ) (i n pairs : ℕ) : Type 0 where
+  pub spelt : pairs ≤ 255 → Spelt digits (2 * i) n
+  pub spoilt : 255 < pairs → number_of digits ≡ None
 
-pub pairs_start : (text : List ℕ) (at count : ℕ) → Pairs text at count 0 0 0
-pairs_start text at count = record { spelt = λ le. record { good = refl; value = refl; small = omega arith }; spoilt = λ lt. absurd (omega (arith, lt)) }
+pub pairs_start : (ds : List ℕ) → Pairs ds 0 0 0
+pairs_start ds = record { spelt = λ le. record { good = refl; value = refl; small = omega arith }; spoilt = λ lt. absurd (omega (arith, lt)) }
 
 spelt_pair : (ds : List ℕ) (i n pair : ℕ) → 2 * i + 1 < length ds → 2 * i + 1 < 16 → Spelt ds (2 * i) n → IsPair (get_or ds (2 * i) 0) (get_or ds (2 * i + 1) 0) pair → Spelt ds (2 * (i + 1)) ((n * 256 % 2 ^ 64 + pair) % 2 ^ 64)
 spelt_pair ds i n pair lt few s p =
@@ -246,28 +322,22 @@ spelt_pair ds i n pair lt few s p =
     let Q : ℕ → Type 0 = λ k. Spelt ds k ((n * 16 + high) * 16 + low) in
     subst P (sym same) (subst Q (sym twice) (record { good = two.0; value = two.1; small = wider (n * 16 + high) (2 * i + 1) low small p.low }))
 
-pub pairs_more : (text : List ℕ) (at count i n pairs pair : ℕ) → 2 * i + 1 < length (slice_range text (at + 1) (at + 1 + count)) → 2 * i + 1 < 16 → Pairs text at count i n pairs
-    → (pair ≤ 255 → IsPair (get_or (slice_range text (at + 1) (at + 1 + count)) (2 * i) 0) (get_or (slice_range text (at + 1) (at + 1 + count)) (2 * i + 1) 0) pair)
-    → (255 < pair → digit_of (get_or (slice_range text (at + 1) (at + 1 + count)) (2 * i) 0) ≤ 15 → 15 < digit_of (get_or (slice_range text (at + 1) (at + 1 + count)) (2 * i + 1) 0))
-    → Pairs text at count (i + 1) ((n * 256 % 2 ^ 64 + pair) % 2 ^ 64) (bit_or pairs pair)
-pairs_more text at count i n pairs pair lt few f good bad = record {
-  spelt = λ le. spelt_pair (slice_range text (at + 1) (at + 1 + count)) i n pair lt few (f.spelt (left_pairs pairs pair le)) (good (right_pairs pairs pair le));
-  spoilt = λ big. bad_pairs pairs pair big f.spoilt (unspelt_pair text at count i pair lt bad);
+pub pairs_more : (ds : List ℕ) (i n pairs pair : ℕ) → 2 * i + 1 < length ds → 2 * i + 1 < 16 → Pairs ds i n pairs
+    → (pair ≤ 255 → IsPair (get_or ds (2 * i) 0) (get_or ds (2 * i + 1) 0) pair)
+    → (255 < pair → digit_of (get_or ds (2 * i) 0) ≤ 15 → 15 < digit_of (get_or ds (2 * i + 1) 0))
+    → Pairs ds (i + 1) ((n * 256 % 2 ^ 64 + pair) % 2 ^ 64) (bit_or pairs pair)
+pairs_more ds i n pairs pair lt few f good bad = record {
+  spelt = λ le. spelt_pair ds i n pair lt few (f.spelt (left_pairs pairs pair le)) (good (right_pairs pairs pair le));
+  spoilt = λ big. bad_pairs pairs pair big f.spoilt (unspelt_pair ds i pair lt bad);
 }
 
-pub pairs_done : (text : List ℕ) (at count i n pairs space mark : ℕ) → 2 * i ≡ count → at + 1 + count ≤ length text → Pairs text at count i n pairs
-    → space ≡ cond (nat_eq (slice_index text at) 32) 0 16 → mark ≡ cond (nat_lt 255 pairs) 16 0 → IsNumber text at count n (bit_or space mark)
-pairs_done text at count i n pairs space mark same fits f stands marks =
-    let ds = slice_range text (at + 1) (at + 1 + count) in
-    let long : length ds ≡ count = range_long text (at + 1) count fits in
-    let there = spaced text at count space stands in
+pub pairs_done : (ds : List ℕ) (i n pairs mark : ℕ) → 2 * i ≡ length ds → Pairs ds i n pairs → mark ≡ cond (nat_lt 255 pairs) 16 0 → IsSpelt ds n mark
+pairs_done ds i n pairs mark same f marks =
     let P : ℕ → Type 0 = λ k. n < 16 ^ k in
     record {
-      good = λ good.
-          let s = f.spelt (marked_good pairs mark marks (right_good space mark good)) in
-          field_good text at count n (there.0 (left_good space mark good)) (is_done ds (2 * i) n (omega (arith, long, same)) s.good s.value);
-      small = λ good. subst P same (f.spelt (marked_good pairs mark marks (right_good space mark good))).small;
-      none = λ big. bad_or space mark big there.1 (λ worse. f.spoilt (marked_bad pairs mark marks worse));
+      good = λ good. let s = f.spelt (marked_good pairs mark marks good) in is_done ds (2 * i) n (omega (arith, same)) s.good s.value;
+      small = λ good. subst P same (f.spelt (marked_good pairs mark marks good)).small;
+      none = λ big. f.spoilt (marked_bad pairs mark marks big);
     }
 
 -- lanes so far, from the highest
@@ -281,7 +351,7 @@ pub record Lanes (text lanes : List ℕ) (n at w i pairs : ℕ) : Type 0 where
   pub long : length lanes ≡ n
   pub bytes : list_all (λ lane. nat_lt lane 256) lanes ≡ true
   pub laid : pairs ≤ 255 → Laid (slice_range text (at + 1) (at + 1 + 2 * w)) lanes w i
-  pub spoilt : 255 < pairs → field_at text at (2 * w) ≡ None
+  pub spoilt : 255 < pairs → number_of (slice_range text (at + 1) (at + 1 + 2 * w)) ≡ None
 
 pub lanes_start : (text lanes : List ℕ) (n at w : ℕ) → is_lanes n lanes ≡ true → number_of_lanes lanes ≡ 0 → Lanes text lanes n at w 0 0
 lanes_start text lanes n at w all dark =
@@ -331,7 +401,7 @@ lanes_more text lanes n at w i pairs pair lt most long far good bad =
           let same : pair % 256 ≡ high * 16 + low = omega (arith, p.is, small) in
           let P : ℕ → Type 0 = λ v. Laid ds (set lanes (w - 1 - i) v) w (i + 1) in
           subst P (sym same) (laid_more ds lanes w i high low lt (omega (arith, far.long)) long (far.laid (left_pairs pairs pair le)) refl p.high refl p.low);
-      spoilt = λ big. bad_pairs pairs pair big far.spoilt (unspelt_pair text at (2 * w) i pair (omega (arith, long)) bad);
+      spoilt = λ big. bad_pairs pairs pair big far.spoilt (unspelt_pair ds i pair (omega (arith, long)) bad);
     }
 
 pub lanes_are : (text lanes : List ℕ) (n at w i pairs : ℕ) → Lanes text lanes n at w i pairs → is_lanes n lanes ≡ true
@@ -345,18 +415,18 @@ lanes_done text lanes n at w i pairs space mark le ge fits far stands marks =
     let whole : w - i ≡ 0 = omega arith in
     let same : i ≡ w = omega arith in
     let here : number_of_lanes (drop (w - i) lanes) ≡ number_of_lanes lanes = ap (λ (k : ℕ). number_of_lanes (drop k lanes)) whole in
-    let there = spaced text at (2 * w) space stands in
     let P : ℕ → Type 0 = λ k. number_of_lanes lanes < 256 ^ k in
-    record {
+    let Q : ℕ → Type 0 = λ k. number_of_lanes lanes < 16 ^ k in
+    spelt_after text at (2 * w) (number_of_lanes lanes) space mark fits stands (record {
       good = λ good.
-          let laid = far.laid (marked_good pairs mark marks (right_good space mark good)) in
-          field_good text at (2 * w) (number_of_lanes lanes) (there.0 (left_good space mark good)) (is_done ds (2 * i) (number_of_lanes lanes) (omega (arith, long)) laid.good (sym here ∙ laid.value));
+          let laid = far.laid (marked_good pairs mark marks good) in
+          is_done ds (2 * i) (number_of_lanes lanes) (omega (arith, long)) laid.good (sym here ∙ laid.value);
       small = λ good.
-          let laid = far.laid (marked_good pairs mark marks (right_good space mark good)) in
+          let laid = far.laid (marked_good pairs mark marks good) in
           let small : number_of_lanes lanes < 256 ^ i = omega (arith, here, laid.small) in
-          powers w (number_of_lanes lanes) (subst P same small);
-      none = λ big. bad_or space mark big there.1 (λ worse. far.spoilt (marked_bad pairs mark marks worse));
-    }
+          subst Q (sym long) (powers w (number_of_lanes lanes) (subst P same small));
+      none = λ big. far.spoilt (marked_bad pairs mark marks big);
+    })
   where
     powers : (w n : ℕ) → n < 256 ^ w → n < 16 ^ (2 * w)
     powers w n lt = let e = squares w in omega (arith, e, lt)

@@ -18,23 +18,24 @@ use Rattle.tl_trace.specs.declared.line.Line.TheVariants.{A, B, C, D, E}
 use Rattle.tl_trace.specs.declared.fault.TraceKind.{TraceKind}
 use Rattle.tl_trace.specs.declared.fault.TraceKind.TheVariants.{NoEnd}
 use Rattle.tl_trace.proofs.Shaped.{faultless}
+use Rattle.tl_lanes.specs.declared.limits.TheConstants.{WIDEST}
 
 pub kept_writable : {H : Type 0} (f : Form H) {n : ℕ} (w : ℕ) (b : BeatOf H n) → is_kept f w b ≡ true → is_writable f w b ≡ true
 kept_writable f {n} w b kept = (and_parts (is_writable f w b) (is_plain f b) (and_parts (is_lanes n b.lanes) (is_writable f w b && is_plain f b) kept).1).0
 
-pub read_as_a : (version client manager : ℕ) (text : List ℕ) (b : BeatOf HeadA 64) → IsRead (form_a version) client text b → IsReadLine version client manager text (A b)
+pub read_as_a : (version client manager : ℕ) (text : List ℕ) (b : BeatOf HeadA WIDEST) → IsRead (form_a version) client text b → IsReadLine version client manager text (A b)
 read_as_a version client manager text b r = record { says = r.line; kept = r.kept; faultless = rw r.line.letter (faultless (form_a version) client b text r.line (kept_writable (form_a version) client b r.kept)) }
 
-pub read_as_b : (version client manager : ℕ) (text : List ℕ) (b : BeatOf HeadB 64) → IsRead (form_b version) manager text b → IsReadLine version client manager text (B b)
+pub read_as_b : (version client manager : ℕ) (text : List ℕ) (b : BeatOf HeadB WIDEST) → IsRead (form_b version) manager text b → IsReadLine version client manager text (B b)
 read_as_b version client manager text b r = record { says = r.line; kept = r.kept; faultless = rw r.line.letter (faultless (form_b version) manager b text r.line (kept_writable (form_b version) manager b r.kept)) }
 
-pub read_as_c : (version client manager : ℕ) (text : List ℕ) (b : BeatOf HeadC 64) → IsRead (form_c version) client text b → IsReadLine version client manager text (C b)
+pub read_as_c : (version client manager : ℕ) (text : List ℕ) (b : BeatOf HeadC WIDEST) → IsRead (form_c version) client text b → IsReadLine version client manager text (C b)
 read_as_c version client manager text b r = record { says = r.line; kept = r.kept; faultless = rw r.line.letter (faultless (form_c version) client b text r.line (kept_writable (form_c version) client b r.kept)) }
 
-pub read_as_d : (version client manager : ℕ) (text : List ℕ) (b : BeatOf HeadD 64) → IsRead (form_d version) manager text b → IsReadLine version client manager text (D b)
+pub read_as_d : (version client manager : ℕ) (text : List ℕ) (b : BeatOf HeadD WIDEST) → IsRead (form_d version) manager text b → IsReadLine version client manager text (D b)
 read_as_d version client manager text b r = record { says = r.line; kept = r.kept; faultless = rw r.line.letter (faultless (form_d version) manager b text r.line (kept_writable (form_d version) manager b r.kept)) }
 
-pub read_as_e : (version client manager : ℕ) (text : List ℕ) (b : BeatOf HeadE 64) → IsRead (form_e version) client text b → IsReadLine version client manager text (E b)
+pub read_as_e : (version client manager : ℕ) (text : List ℕ) (b : BeatOf HeadE WIDEST) → IsRead (form_e version) client text b → IsReadLine version client manager text (E b)
 read_as_e version client manager text b r = record { says = r.line; kept = r.kept; faultless = rw r.line.letter (faultless (form_e version) client b text r.line (kept_writable (form_e version) client b r.kept)) }
 
 -- ---- cutting

@@ -1,27 +1,36 @@
 -- What crates above may want: widths and lanes of a trace.
-use Rattle.std.proofs.Common.{◌≡◌, ℕ, zero, suc, ◌*◌, ◌^◌, ◌<◌, ◌≤◌, Bool, true, false, nat_lt, ◌||◌, List, [], ◌∷◌, length, refl, sym, arith, lit≤, subst}
+use Rattle.std.proofs.Common.{◌≡◌, ℕ, zero, suc, ◌+◌, ◌*◌, ◌^◌, ◌<◌, ◌≤◌, true, false, cond, nat_lt, List, [], ◌∷◌, length, get_or, refl, sym, ◌∙◌, arith, lit≤, subst}
 use Rattle.std.specs.Prelude.{◌==◌}
 use Rattle.std.proofs.Math.Nat.{pow-suc}
 use Rattle.std.proofs.lemmas.Bool.{eqb-true, ltb-true, and_parts}
-use Rattle.std.specs.List.{list_all, list_any, slice_index}
+use Rattle.std.proofs.lemmas.List.Folds.{Any-from_list_any}
+use Rattle.std.proofs.lemmas.List.FromFn.{get_or-map-range_with_len, length-map-range_with_len}
+use Rattle.std.specs.List.{Any, list_all, slice_index}
+use Rattle.tl_lanes.specs.declared.limits.TheConstants.{WIDEST, WIDEST_POWER}
 use Rattle.tl_lanes.specs.Lanes.{IsWidth}
+use Rattle.tl_lanes.proofs.Widths.{each_width, width_bounds}
 use Rattle.tl_trace.specs.Fields.{number_of_lanes}
-use Rattle.tl_trace.specs.Texts.{is_width}
+use Rattle.tl_trace.specs.Texts.{widest_power, widths, is_width}
 
-one_of : (w a : ℕ) (b rest : Bool) → (w == a) ≡ b → b || rest ≡ true → IsWidth a → (rest ≡ true → IsWidth w) → IsWidth w
-one_of w a true rest is e here more = let P : ℕ → Type 0 = IsWidth in subst P (sym (eqb-true w a is)) here
-one_of w a false rest is e here more = more e
+widest_most : (version : ℕ) → widest_power version ≤ WIDEST_POWER
+widest_most version = elim (version == 1) as (λ b. cond b 6 WIDEST_POWER ≤ WIDEST_POWER) [ true ↦ omega arith | false ↦ omega arith ]
 
--- a width that a header can name is one of the seven
-pub width_of : (w : ℕ) → is_width w ≡ true → IsWidth w
-width_of w e =
-    one_of w 1 (w == 1) (list_any (λ x. w == x) (2 ∷ 4 ∷ 8 ∷ 16 ∷ 32 ∷ 64 ∷ [])) refl e (0, lit≤ tt, refl) (λ e.
-    one_of w 2 (w == 2) (list_any (λ x. w == x) (4 ∷ 8 ∷ 16 ∷ 32 ∷ 64 ∷ [])) refl e (1, lit≤ tt, refl) (λ e.
-    one_of w 4 (w == 4) (list_any (λ x. w == x) (8 ∷ 16 ∷ 32 ∷ 64 ∷ [])) refl e (2, lit≤ tt, refl) (λ e.
-    one_of w 8 (w == 8) (list_any (λ x. w == x) (16 ∷ 32 ∷ 64 ∷ [])) refl e (3, lit≤ tt, refl) (λ e.
-    one_of w 16 (w == 16) (list_any (λ x. w == x) (32 ∷ 64 ∷ [])) refl e (4, lit≤ tt, refl) (λ e.
-    one_of w 32 (w == 32) (list_any (λ x. w == x) (64 ∷ [])) refl e (5, lit≤ tt, refl) (λ e.
-    one_of w 64 (w == 64) false refl e (6, lit≤ tt, refl) (λ none. absurd cc)))))))
+power_of : (version w : ℕ) → Any (λ x. (w == x) ≡ true) (widths version) → IsWidth w
+power_of version w (k, x, lt, at, test) =
+    let below : k < widest_power version + 1 = omega (arith, lt, length-map-range_with_len (λ j. 2 ^ j) 0 (widest_power version + 1)) in
+    let power : get_or (widths version) k x ≡ 2 ^ k = get_or-map-range_with_len (λ j. 2 ^ j) 0 (widest_power version + 1) k k x below (omega arith) in
+    (k, omega (arith, below, widest_most version), eqb-true w x test ∙ sym at ∙ power)
+
+-- a width that a header can name is one of a link
+pub width_of : (version w : ℕ) → is_width version w ≡ true → IsWidth w
+width_of version w e = power_of version w (Any-from_list_any (λ x. w == x) (widths version) e)
+
+-- and a header of version 2 can name each of these
+pub width_in_version_2 : (w : ℕ) → IsWidth w → is_width 2 w ≡ true
+width_in_version_2 = each_width (is_width 2) refl
+
+pub width_most : (version w : ℕ) → is_width version w ≡ true → w ≤ WIDEST
+width_most version w e = (width_bounds w (width_of version w e)).1
 
 -- bytes fit the digits of their lanes
 pub lanes_fit : (lanes : List ℕ) → list_all (λ lane. nat_lt lane 256) lanes ≡ true → number_of_lanes lanes < 256 ^ length lanes

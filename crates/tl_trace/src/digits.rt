@@ -3,7 +3,16 @@ ghost use Rattle.std.specs.Prelude.{if◌then◌else◌, ◌==◌, ◌≡◌, �
 ghost use Rattle.tl_lanes.specs.declared.limits.TheConstants.{WIDEST};
 ghost use Rattle.tl_trace.specs.Fields.{number_of_lanes};
 ghost use Rattle.tl_trace.specs.Lines.{is_lanes};
-ghost use Rattle.tl_trace.specs.Inner.Reading.{digit_of, IsNumber, IsPair};
+ghost use Rattle.tl_trace.specs.Inner.Reading.{digit_of, IsNumber, IsPair, IsSpelt};
+ghost use Rattle.tl_trace.specs.declared.digits.TheConstants.{DIGITS};
+
+use tl_lanes::Mask;
+
+/// The digits for which a `u64` has room.
+pub const DIGITS: usize = 16;
+
+/// How many values a `u64` has.
+pub const VALUES: Mask = 1 << 64;
 
 /// The value of each byte as a lower-case hexadecimal digit, and 16 for every other byte.
 static DIGIT_VALUES: [u8; 256] = [
@@ -87,6 +96,13 @@ pub struct Number {
     pub bad: u8,
 }
 
+/// A mask as a number; where `bad` is above 15 its text has not the shape of one.
+#[derive(Clone, Copy)]
+pub struct MaskNumber {
+    pub value: Mask,
+    pub bad: u8,
+}
+
 /// 0 where the byte is a space, else a bad digit.
 #[inline(always)]
 fn space(byte: u8) -> u8
@@ -128,16 +144,15 @@ fn bad_of(pairs: u16) -> u8
     if pairs > 255 { 16 } else { 0 }
 }
 
-/// The number after a space at a place, of so many digits, one at a time.
+/// The number of these digits, one at a time.
 #[inline(always)]
-pub fn digits_field(text: &[u8], at: usize, count: usize) -> Number
-    requires few { count ≤ 16 }
-    requires room { at + 1 + count ≤ length text.now }
-    ensures { IsNumber text.now at count result.value result.bad }
+fn number_by_digits(digits: &[u8]) -> Number
+    requires { length digits.now ≤ DIGITS }
+    ensures { IsSpelt digits.now result.value result.bad }
 {
-    let mut bad = space(text[at]);
+    let mut bad = 0;
     let mut value = 0u64;
-    for byte in &text[at + 1..at + 1 + count] {
+    for byte in digits {
         let digit = digit(*byte);
         bad |= digit;
         value = value.wrapping_mul(16).wrapping_add(digit as u64);
@@ -147,37 +162,72 @@ pub fn digits_field(text: &[u8], at: usize, count: usize) -> Number
 
 /// The same two at a time, where the number of digits is even.
 #[inline(always)]
-fn pairs_field(text: &[u8], at: usize, count: usize) -> Number
-    requires even { count ≡ 2 * (count / 2) }
-    requires few { count ≤ 16 }
-    requires room { at + 1 + count ≤ length text.now }
-    ensures { IsNumber text.now at count result.value result.bad }
+fn number_by_pairs(digits: &[u8]) -> Number
+    requires even { length digits.now ≡ 2 * (length digits.now / 2) }
+    requires few { length digits.now ≤ DIGITS }
+    ensures { IsSpelt digits.now result.value result.bad }
 {
-    let digits = &text[at + 1..at + 1 + count];
     let mut pairs = 0u16;
     let mut value = 0u64;
-    for i in 0..count / 2 {
+    for i in 0..digits.len() / 2 {
         let byte = pair(digits[2 * i], digits[2 * i + 1]);
         pairs |= byte;
         value = value.wrapping_mul(256).wrapping_add(byte as u64);
     }
     Number {
         value,
-        bad: space(text[at]) | bad_of(pairs),
+        bad: bad_of(pairs),
     }
+}
+
+/// The number of these digits.
+#[inline(always)]
+fn number_of_digits(digits: &[u8]) -> Number
+    requires { length digits.now ≤ DIGITS }
+    ensures { IsSpelt digits.now result.value result.bad }
+{
+    if digits.len() % 2 == 0 {
+        return number_by_pairs(digits);
+    }
+    number_by_digits(digits)
 }
 
 /// The number after a space at a place, of so many digits.
 #[inline(always)]
 pub fn field(text: &[u8], at: usize, count: usize) -> Number
-    requires few { count ≤ 16 }
+    requires few { count ≤ DIGITS }
     requires room { at + 1 + count ≤ length text.now }
     ensures { IsNumber text.now at count result.value result.bad }
 {
-    if count % 2 == 0 {
-        return pairs_field(text, at, count);
+    let number = number_of_digits(&text[at + 1..at + 1 + count]);
+    Number {
+        value: number.value,
+        bad: space(text[at]) | number.bad,
     }
-    digits_field(text, at, count)
+}
+
+/// The mask after a space at a place, of so many digits. Where a `u64` has room for them they are read one at a time, since
+/// at most widths there are one or two; else the last that it has room for apart from those before them.
+#[inline(always)]
+pub fn mask_field(text: &[u8], at: usize, count: usize) -> MaskNumber
+    requires few { count ≤ WIDEST / 4 }
+    requires room { at + 1 + count ≤ length text.now }
+    ensures { IsNumber text.now at count result.value result.bad }
+{
+    let digits = &text[at + 1..at + 1 + count];
+    if count <= DIGITS {
+        let number = number_by_digits(digits);
+        return MaskNumber {
+            value: number.value as Mask,
+            bad: space(text[at]) | number.bad,
+        };
+    }
+    let high = number_of_digits(&digits[..count - DIGITS]);
+    let low = number_of_digits(&digits[count - DIGITS..]);
+    MaskNumber {
+        value: high.value as Mask * VALUES + low.value as Mask,
+        bad: space(text[at]) | (high.bad | low.bad),
+    }
 }
 
 /// The first `w` lanes after a space at a place, two digits for each, highest lane first. An answer above 15 says that

@@ -3,6 +3,7 @@ ghost use Rattle.std.specs.Prelude.{ℕ, ◌≡◌, ◌≤◌, ◌+◌, ◌&&◌
 ghost use Rattle.std.specs.List.{list_all};
 ghost use Rattle.tl_trace.specs.Fields.{addressed, common, id_digits, length_of};
 ghost use Rattle.tl_trace.specs.Inner.Reading.{IsHead, IsSmall, IsCommon, Takes, is_head_field};
+ghost use Rattle.tl_trace.specs.declared.places.TheConstants.{LONGEST_HEAD};
 
 use crate::digits::field;
 use crate::head_text::HeadText;
@@ -31,7 +32,7 @@ pub trait ReadHead: HeadText {
     /// The place behind the last field of the head.
     fn head_end(version: u8) -> usize
         ensures end { result ≡ 1 + length_of 0 (Self.form version).head_fields }
-        ensures few { result ≤ 32 };
+        ensures few { result ≤ LONGEST_HEAD };
 
     /// The fields of the head of a line.
     fn read_head(text: &[u8], version: u8) -> HeadFields

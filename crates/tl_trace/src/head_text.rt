@@ -4,8 +4,9 @@ ghost use Rattle.std.specs.Char.{digit_char};
 ghost use Rattle.tl_trace.specs.Fields.{Form, id_digits, digit_count, value_of, form_a, form_b, form_c, form_d, form_e};
 ghost use Rattle.tl_trace.specs.Lines.{hex, head_text};
 ghost use Rattle.tl_msg.specs.declared.beat.BeatOf.{BeatOf};
+ghost use Rattle.tl_trace.specs.declared.places.TheConstants.{LONGEST_HEAD};
 
-use crate::places::{ADDRESS_DIGITS, id_digits};
+use crate::places::{ADDRESS_DIGITS, LONGEST_LINE, id_digits};
 use crate::text::{Room, fill, fill_byte, fill_field, low_digit, put};
 use arrayvec::ArrayVec;
 use tl_msg::{ChA, ChB, ChC, ChD, ChE, Channel, HeadA, HeadB, HeadC, HeadD, HeadE, SourceId};
@@ -22,16 +23,16 @@ pub trait HeadText: Channel {
     /// Writes the line of a trace of this version from its letter up to the last field before mask
     /// and data, and gives the place behind it; on E the whole line without LF. A field is written
     /// by its lowest digits: an id by two in version 1, and by four in version 2.
-    fn fill_head(line: &mut [u8; 192], head: &Self::Head, version: u8) -> usize
+    fn fill_head(line: &mut [u8; LONGEST_LINE], head: &Self::Head, version: u8) -> usize
         ensures items { take result line.new ≡ head_text (form version) head.now }
-        ensures end { result ≤ 32 };
+        ensures end { result ≤ LONGEST_HEAD };
 
     /// The line of a trace of this version from its letter up to the last field before mask and data, without LF; on E
     /// the whole line. A field is written by its lowest digits: an id by two in version 1, and by four in version 2.
     fn head_text(head: &Self::Head, version: u8) -> ArrayVec<u8, 32>
         ensures { result.items ≡ head_text (form version) head.now }
     {
-        let mut line = [0; 192];
+        let mut line = [0; LONGEST_LINE];
         let end = Self::fill_head(&mut line, head, version);
         let mut text = ArrayVec::new();
         put(&mut text, &line[..end]);

@@ -1,10 +1,12 @@
 //! The first line of a trace.
-ghost use Rattle.std.specs.Prelude.{◌≡◌, ◌≤◌, ◌<◌};
-ghost use Rattle.tl_trace.specs.Texts.{header_text};
-ghost use Rattle.tl_trace.specs.Faults.{header_of};
+ghost use Rattle.std.specs.Prelude.{◌≡◌, ◌≤◌, ◌<◌, ◌+◌, find};
+ghost use Rattle.tl_lanes.specs.declared.limits.TheConstants.{WIDEST_POWER};
+ghost use Rattle.tl_trace.specs.Texts.{header_text, widest_power};
+ghost use Rattle.tl_trace.specs.Faults.{headers_of, header_of, is_header_of};
 
 use crate::text::{Text, put, put_decimal};
 use arrayvec::ArrayVec;
+use tl_lanes::WIDEST_POWER;
 
 /// What the first line of a trace names.
 #[derive(Clone, Copy, PartialEq, Eq, Debug)]
@@ -12,17 +14,23 @@ pub struct Header {
     /// The version of the trace, 1 or 2: its ids have two digits in version 1 and four in version 2 (this project's
     /// choice).
     pub version: u8,
-    /// The width of the client's side in bytes.
+    /// The width of the client's side in bytes, in version 1 at most 64 (this project's choice).
     pub client: usize,
-    /// The width of the manager's side in bytes.
+    /// The width of the manager's side in bytes, in version 1 at most 64, too.
     pub manager: usize,
 }
 
-/// How many versions there are: 1 and 2.
-const VERSIONS: usize = 2;
-
-/// How many widths a header can name: 1, and six times the double of the one before.
-const WIDTHS: usize = 7;
+/// How many widths a header of this version can name: 1, and each the double of the one before, in version 1 up to 64 and
+/// in version 2 up to the widest bus.
+fn width_count(version: u8) -> usize
+    ensures count { result ≡ widest_power version + 1 }
+    ensures few { result ≤ WIDEST_POWER + 1 }
+{
+    if version == 1 {
+        return 7;
+    }
+    WIDEST_POWER as usize + 1
+}
 
 /// The header of this version and these widths, without its LF.
 #[tactic(auto, using(crate::proofs::Decimals::length_decimal))]
@@ -39,14 +47,14 @@ pub fn header_text(version: u8, client: usize, manager: usize) -> Text
     text
 }
 
-/// What a first line names: that whose header the text is, byte for byte.
-pub fn header_of(text: &[u8]) -> Option<Header>
-    ensures { result ≡ header_of text.now }
+/// What a first line of this version names: that whose header the text is, byte for byte.
+fn header_in(text: &[u8], version: u8) -> Option<Header>
+    ensures { result ≡ find (is_header_of text.now) (headers_of version) }
 {
-    for i in 0..VERSIONS * WIDTHS * WIDTHS {
-        let version = 1 + (i / (WIDTHS * WIDTHS)) as u8;
-        let client = 1 << (i / WIDTHS % WIDTHS);
-        let manager = 1 << (i % WIDTHS);
+    let widths = width_count(version);
+    for i in 0..widths * widths {
+        let client = 1 << (i / widths);
+        let manager = 1 << (i % widths);
         if text == header_text(version, client, manager).as_slice() {
             return Some(Header {
                 version,
@@ -56,4 +64,14 @@ pub fn header_of(text: &[u8]) -> Option<Header>
         }
     }
     None
+}
+
+/// What a first line names: that whose header the text is, byte for byte.
+pub fn header_of(text: &[u8]) -> Option<Header>
+    ensures { result ≡ header_of text.now }
+{
+    match header_in(text, 1) {
+        Some(header) => Some(header),
+        None => header_in(text, 2),
+    }
 }

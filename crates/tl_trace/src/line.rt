@@ -2,7 +2,7 @@
 use tl_lanes::WIDEST;
 use tl_msg::{Beat, ChA, ChB, ChC, ChD, ChE};
 
-/// One beat of a trace, on 64 lanes: those at and past its sender's width are 0.
+/// One beat of a trace, on the lanes of the widest bus: those at and past its sender's width are 0.
 /// What the line of its channel does not say is 0: the mask on C, D and E, lanes and corrupt on E.
 #[derive(Clone, Copy, PartialEq, Eq, Debug)]
 pub enum Line {

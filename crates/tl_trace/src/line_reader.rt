@@ -7,7 +7,7 @@ ghost use Rattle.tl_trace.specs.Faults.{form_fault};
 ghost use Rattle.tl_trace.specs.Inner.Reading.{IsPart, IsRead, mask_values, data_values};
 ghost use Rattle.tl_trace.specs.declared.fault.TraceKind.TheVariants.{OutOfMemory};
 
-use crate::digits::{Number, digits_field, field, lanes_field};
+use crate::digits::{MaskNumber, Number, field, lanes_field, mask_field};
 use crate::fault::TraceKind;
 use crate::head_reader::ReadHead;
 use crate::head_text::HeadText;
@@ -26,7 +26,7 @@ fn mask_fits(mask: Mask, w: usize) -> bool
 
 /// The mask from this place on, 0 on a channel that has none.
 #[inline(always)]
-fn read_mask<K: HeadText, const VERSION: u8>(text: &[u8], at: usize, w: usize) -> Number
+fn read_mask<K: HeadText, const VERSION: u8>(text: &[u8], at: usize, w: usize) -> MaskNumber
     requires width { w ≤ WIDEST }
     requires room { at + length_of w (mask_fields (K.form VERSION)) ≤ length text.now }
     ensures part { IsPart w text.now at (mask_fields (K.form VERSION)) (mask_values (K.form VERSION) result.value)
@@ -34,10 +34,9 @@ fn read_mask<K: HeadText, const VERSION: u8>(text: &[u8], at: usize, w: usize) -
     ensures none { (K.form VERSION).rules.masked ≡ false → result.value ≡ 0 }
 {
     if !K::MASKED {
-        return Number { value: 0, bad: 0 };
+        return MaskNumber { value: 0, bad: 0 };
     }
-    // One digit at a time, since at most widths it has one or two.
-    digits_field(text, at, mask_digits(w))
+    mask_field(text, at, mask_digits(w))
 }
 
 /// Lanes and corrupt from this place on, 0 on a channel that has none.

@@ -1,12 +1,14 @@
 //! Where the fields of a line stand, and how long it is: behind its letter come a space and the field's digits for each
 //! field, one after the other. All places and lengths follow from the digits of the fields, and so from the version of
 //! the trace, whose ids have as many digits as it says.
-ghost use Rattle.std.specs.Prelude.{◌≡◌, ◌≤◌, ◌+◌, ◌/◌};
+ghost use Rattle.std.specs.Prelude.{◌≡◌, ◌≤◌, ◌<◌, ◌+◌, ◌/◌};
 ghost use Rattle.tl_lanes.specs.declared.limits.TheConstants.{WIDEST};
 ghost use Rattle.tl_trace.specs.Fields.{id_digits, common, addressed, length_of, mask_fields, data_fields, line_length};
+ghost use Rattle.tl_trace.specs.declared.places.TheConstants.{LONGEST_HEAD, LONGEST_MASK, LONGEST_DATA, LONGEST_LINE};
 
 use crate::head_reader::ReadHead;
 use crate::head_text::HeadText;
+use tl_lanes::WIDEST;
 
 /// The digits of an address.
 pub const ADDRESS_DIGITS: usize = 16;
@@ -22,6 +24,18 @@ pub const SIZE_AT: usize = PARAM_AT + 2;
 
 /// The source, behind the one digit of the size.
 pub const SOURCE_AT: usize = SIZE_AT + 2;
+
+/// The most bytes of a head, those of A, B and C in version 2, whose source has four digits.
+pub const LONGEST_HEAD: usize = SOURCE_AT + 5 + 1 + ADDRESS_DIGITS;
+
+/// The most bytes of a mask, with its space: a digit for four lanes.
+pub const LONGEST_MASK: usize = 1 + WIDEST / 4;
+
+/// The most bytes of data and corrupt, each with its space: two digits for a lane, and one.
+pub const LONGEST_DATA: usize = 1 + 2 * WIDEST + 2;
+
+/// The bytes of the longest line with its LF, that of A or B on the widest bus in version 2 (this project's choice).
+pub const LONGEST_LINE: usize = LONGEST_HEAD + LONGEST_MASK + LONGEST_DATA + 1;
 
 /// The digits of a source or of a sink.
 #[inline]
@@ -45,7 +59,7 @@ pub fn common_end(version: u8) -> usize
 #[inline]
 pub fn addressed_end(version: u8) -> usize
     ensures end { result ≡ 1 + length_of 0 (addressed version) }
-    ensures few { result ≤ 29 }
+    ensures few { result ≤ LONGEST_HEAD }
 {
     common_end(version) + 1 + ADDRESS_DIGITS
 }
@@ -90,7 +104,7 @@ pub fn mask_digits(w: usize) -> usize
 pub fn mask_len<K: HeadText, const VERSION: u8>(w: usize) -> usize
     requires { w ≤ WIDEST }
     ensures long { result ≡ length_of w (mask_fields (K.form VERSION)) }
-    ensures few { result ≤ 17 }
+    ensures few { result ≤ LONGEST_MASK }
 {
     if K::MASKED { 1 + mask_digits(w) } else { 0 }
 }
@@ -100,7 +114,7 @@ pub fn mask_len<K: HeadText, const VERSION: u8>(w: usize) -> usize
 fn data_len<K: HeadText, const VERSION: u8>(w: usize) -> usize
     requires { w ≤ WIDEST }
     ensures long { result ≡ length_of w (data_fields (K.form VERSION)) }
-    ensures few { result ≤ 131 }
+    ensures few { result ≤ LONGEST_DATA }
 {
     if K::HAS_DATA { 1 + 2 * w + 2 } else { 0 }
 }
@@ -110,7 +124,7 @@ fn data_len<K: HeadText, const VERSION: u8>(w: usize) -> usize
 pub fn line_len<K: ReadHead, const VERSION: u8>(w: usize) -> usize
     requires { w ≤ WIDEST }
     ensures long { result ≡ line_length (K.form VERSION) w }
-    ensures few { (1 ≤ result) × (result ≤ 180) }
+    ensures few { (1 ≤ result) × (result < LONGEST_LINE) }
 {
     K::head_end(VERSION) + mask_len::<K, VERSION>(w) + data_len::<K, VERSION>(w)
 }

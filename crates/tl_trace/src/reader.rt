@@ -7,6 +7,7 @@ ghost use Rattle.tl_trace.specs.Inner.Reading.{IsReadLine, LineAt};
 ghost use Rattle.std.specs.List.{list_all};
 ghost use Rattle.tl_lanes.specs.declared.limits.TheConstants.{WIDEST};
 ghost use Rattle.tl_trace.specs.declared.fault.TraceKind.TheVariants.{OutOfMemory};
+ghost use Rattle.tl_trace.specs.declared.places.TheConstants.{LONGEST_LINE};
 
 use crate::fault::{TraceFault, TraceKind};
 use crate::header::{Header, header_of};
@@ -58,7 +59,7 @@ fn read_line<const VERSION: u8>(
 fn expected_length<const VERSION: u8>(letter: u8, client: usize, manager: usize) -> Option<usize>
     requires client { client ≤ WIDEST }
     requires manager { manager ≤ WIDEST }
-    ensures { IfSome result (λ n. (1 ≤ n) × (n ≤ 180)) }
+    ensures { IfSome result (λ n. (1 ≤ n) × (n < LONGEST_LINE)) }
 {
     match letter {
         b'A' => Some(line_len::<ChA, VERSION>(client)),

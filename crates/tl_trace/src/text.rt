@@ -5,14 +5,18 @@ ghost use Rattle.tl_lanes.specs.declared.limits.TheConstants.{WIDEST};
 ghost use Rattle.arrayvec.specs.ArrayVec.{array_vec_len};
 ghost use Rattle.tl_trace.specs.Fields.{number_of_lanes};
 ghost use Rattle.tl_trace.specs.Lines.{hex};
+ghost use Rattle.tl_trace.specs.declared.places.TheConstants.{LONGEST_LINE};
 
+use crate::digits::{DIGITS, VALUES};
+use crate::places::LONGEST_LINE;
 use arrayvec::ArrayVec;
+use tl_lanes::Mask;
 
 /// Room for the longest line.
-pub type Text = ArrayVec<u8, 320>;
+pub type Text = ArrayVec<u8, LONGEST_LINE>;
 
 /// Where a line is written: the places from the first up to one have its bytes so far.
-pub type Room = [u8; 192];
+pub type Room = [u8; LONGEST_LINE];
 
 /// The two digits of each byte, one after the other.
 static PAIRS: [u8; 512] = [
@@ -91,7 +95,7 @@ fn write_lanes(digits: &mut [u8], lanes: &[u8], w: usize)
 /// Writes bytes at a place of a line, and gives the place behind them.
 #[inline(always)]
 pub fn fill(line: &mut Room, at: usize, bytes: &[u8]) -> usize
-    requires { at + length bytes.now ≤ 192 }
+    requires { at + length bytes.now ≤ LONGEST_LINE }
     ensures items { take result line.new ≡ take at line.old ++ bytes.now }
     ensures end { result ≡ at + length bytes.now }
 {
@@ -103,7 +107,7 @@ pub fn fill(line: &mut Room, at: usize, bytes: &[u8]) -> usize
 /// Writes a space and so many digits of a number, and gives the place behind them.
 #[inline(always)]
 pub fn fill_field(line: &mut Room, at: usize, value: u64, count: usize) -> usize
-    requires { at + 1 + count ≤ 192 }
+    requires { at + 1 + count ≤ LONGEST_LINE }
     ensures items { take result line.new ≡ take at line.old ++ 32 ∷ hex count value }
     ensures end { result ≡ at + 1 + count }
 {
@@ -113,12 +117,30 @@ pub fn fill_field(line: &mut Room, at: usize, value: u64, count: usize) -> usize
     end
 }
 
+/// The same of a mask. Digits for which a `u64` has no room are written apart from the last for which it has.
+#[inline(always)]
+pub fn fill_mask_field(line: &mut Room, at: usize, mask: Mask, count: usize) -> usize
+    requires few { count ≤ WIDEST / 4 }
+    requires room { at + 1 + count ≤ LONGEST_LINE }
+    ensures items { take result line.new ≡ take at line.old ++ 32 ∷ hex count mask }
+    ensures end { result ≡ at + 1 + count }
+{
+    let low = (mask % VALUES) as u64;
+    if count <= DIGITS {
+        return fill_field(line, at, low, count);
+    }
+    let half = fill_field(line, at, (mask / VALUES) as u64, count - DIGITS);
+    let end = half + DIGITS;
+    write_digits(&mut line[half..end], low, DIGITS);
+    end
+}
+
 /// Writes a space and two digits for each of the first `w` lanes, and gives the place behind them.
 #[inline(always)]
 pub fn fill_lanes(line: &mut Room, at: usize, lanes: &[u8], w: usize) -> usize
     requires width { w ≤ WIDEST }
     requires lanes { w ≤ length lanes.now }
-    requires room { at + 1 + 2 * w ≤ 192 }
+    requires room { at + 1 + 2 * w ≤ LONGEST_LINE }
     ensures items { take result line.new ≡
         take at line.old ++ 32 ∷ hex (2 * w) (number_of_lanes lanes.now) }
     ensures end { result ≡ at + 1 + 2 * w }
@@ -132,7 +154,7 @@ pub fn fill_lanes(line: &mut Room, at: usize, lanes: &[u8], w: usize) -> usize
 /// Writes a byte, and gives the place behind it.
 #[inline(always)]
 pub fn fill_byte(line: &mut Room, at: usize, byte: u8) -> usize
-    requires { at + 1 ≤ 192 }
+    requires { at + 1 ≤ LONGEST_LINE }
     ensures items { take result line.new ≡ take at line.old ++ byte ∷ [] }
     ensures end { result ≡ at + 1 }
 {
@@ -152,7 +174,7 @@ pub fn put<const N: usize>(text: &mut ArrayVec<u8, N>, bytes: &[u8])
 
 /// Appends a byte.
 pub fn put_byte(text: &mut Text, byte: u8)
-    requires { array_vec_len text.old + 1 ≤ 320 }
+    requires { array_vec_len text.old + 1 ≤ LONGEST_LINE }
     ensures items { text.new.items ≡ text.old.items ++ byte ∷ [] }
     ensures len { array_vec_len text.new ≡ array_vec_len text.old + 1 }
 {
@@ -161,7 +183,7 @@ pub fn put_byte(text: &mut Text, byte: u8)
 
 /// Appends a number in decimal.
 pub fn put_decimal(text: &mut Text, value: u64)
-    requires { array_vec_len text.old + length (decimal value) ≤ 320 }
+    requires { array_vec_len text.old + length (decimal value) ≤ LONGEST_LINE }
     ensures items { text.new.items ≡ text.old.items ++ decimal value }
     ensures len { array_vec_len text.new ≡ array_vec_len text.old + length (decimal value) }
 {

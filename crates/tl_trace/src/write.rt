@@ -1,5 +1,5 @@
 //! Writing lines, reports and traces.
-ghost use Rattle.std.specs.Prelude.{◌≡◌, ◌≤◌, ◌+◌, ◌*◌, ◌/◌, ◌++◌, ◌∷◌, [], if◌then◌else◌, take, length, decimal, OnOk, OnErr, IfOk};
+ghost use Rattle.std.specs.Prelude.{◌≡◌, ◌≤◌, ◌<◌, ◌+◌, ◌*◌, ◌/◌, ◌++◌, ◌∷◌, [], if◌then◌else◌, take, length, decimal, OnOk, OnErr, IfOk};
 ghost use Rattle.tl_lanes.specs.declared.limits.TheConstants.{WIDEST};
 ghost use Rattle.arrayvec.specs.ArrayVec.{array_vec_len};
 ghost use Rattle.tl_lanes.specs.Lanes.{IsWidth};
@@ -7,12 +7,15 @@ ghost use Rattle.tl_trace.specs.Fields.{bit, number_of_lanes};
 ghost use Rattle.tl_trace.specs.Lines.{hex, line_text, beats_text};
 ghost use Rattle.tl_trace.specs.Texts.{newline, text_of_line, trace_text};
 ghost use Rattle.tl_trace.specs.Reports.{verdict_text, report_line};
+ghost use Rattle.tl_trace.specs.declared.places.TheConstants.{LONGEST_HEAD, LONGEST_MASK, LONGEST_LINE};
 
 use crate::head_text::HeadText;
 use crate::header::header_text;
 use crate::line::Line;
-use crate::places::mask_digits;
-use crate::text::{Room, Text, fill_byte, fill_field, fill_lanes, put, put_byte, put_decimal};
+use crate::places::{LONGEST_LINE, mask_digits};
+use crate::text::{
+    Room, Text, fill_byte, fill_field, fill_lanes, fill_mask_field, put, put_byte, put_decimal,
+};
 use crate::trace::Trace;
 use arrayvec::ArrayVec;
 use std::alloc::Global;
@@ -23,15 +26,15 @@ use tl_msg::{Beat, ChA, ChB, ChC, ChD, ChE, OutOfMemory, Verdict};
 #[inline(always)]
 fn fill_mask<K: HeadText>(line: &mut Room, at: usize, mask: Mask, w: usize) -> usize
     requires width { w ≤ WIDEST }
-    requires room { at ≤ 32 }
+    requires room { at ≤ LONGEST_HEAD }
     ensures items { take result line.new ≡
         take at line.old ++ (if K.MASKED then 32 ∷ hex ((w + 3) / 4) mask else []) }
-    ensures end { result ≤ 49 }
+    ensures end { result ≤ LONGEST_HEAD + LONGEST_MASK }
 {
     if !K::MASKED {
         return at;
     }
-    fill_field(line, at, mask, mask_digits(w))
+    fill_mask_field(line, at, mask, mask_digits(w))
 }
 
 /// Writes the data and corrupt of a channel that has them, and gives the place behind them.
@@ -45,12 +48,12 @@ fn fill_data<K: HeadText>(
 ) -> usize
     requires width { w ≤ WIDEST }
     requires lanes { w ≤ length lanes.now }
-    requires room { at ≤ 49 }
+    requires room { at ≤ LONGEST_HEAD + LONGEST_MASK }
     ensures items { take result line.new ≡ take at line.old ++
         (if K.HAS_DATA
         then (32 ∷ hex (2 * w) (number_of_lanes lanes.now)) ++ 32 ∷ hex 1 (bit corrupt)
         else []) }
-    ensures end { result ≤ 180 }
+    ensures end { result < LONGEST_LINE }
 {
     if !K::HAS_DATA {
         return at;
@@ -70,7 +73,7 @@ fn fill_line<K: HeadText, const N: usize>(
     requires width { w ≤ WIDEST }
     requires lanes { w ≤ N }
     ensures items { take result line.new ≡ line_text (K.form version) w beat.now ++ newline }
-    ensures end { result ≤ 192 }
+    ensures end { result ≤ LONGEST_LINE }
 {
     let head = K::fill_head(line, &beat.head, version);
     let mask = fill_mask::<K>(line, head, beat.mask, w);
@@ -84,17 +87,20 @@ fn line_on<K: HeadText, const N: usize>(beat: &Beat<K, N>, w: usize, version: u8
     requires lanes { w ≤ N }
     ensures { result.items ≡ line_text (K.form version) w beat.now ++ newline }
 {
-    let mut line = [0; 192];
+    let mut line = [0; LONGEST_LINE];
     let end = fill_line::<K, N>(&mut line, beat, w, version);
     let mut text = ArrayVec::new();
     put(&mut text, &line[..end]);
     text
 }
 
-/// The line of a beat on `W` lanes in a trace of this version, with its LF: at most 178 bytes, those of A and B at width 64
-/// in version 2. Ids have two digits in version 1 and four in every other. A field is written by its lowest digits, so the
+/// The line of a beat on `W` lanes in a trace of this version, with its LF: at most [`LONGEST_LINE`] bytes, those of A and
+/// B on the widest bus in version 2. Ids have two digits in version 1 and four in every other. A field is written by its lowest digits, so the
 /// text of a beat that is writable in this version is its line.
-pub fn line_of<K: HeadText, const W: usize>(beat: &Beat<K, W>, version: u8) -> ArrayVec<u8, 320>
+pub fn line_of<K: HeadText, const W: usize>(
+    beat: &Beat<K, W>,
+    version: u8,
+) -> ArrayVec<u8, LONGEST_LINE>
     requires { IsWidth W }
     ensures { result.items ≡ line_text (K.form version) W beat.now ++ newline }
 {
@@ -113,7 +119,7 @@ fn write_lines<K: HeadText, const W: usize>(
     ensures err { OnErr result (out.new.items ≡ out.old.items) }
 {
     let start = out.len();
-    let mut line = [0; 192];
+    let mut line = [0; LONGEST_LINE];
     if let Some(first) = beats.first() {
         let end = fill_line::<K, W>(&mut line, first, W, version);
         out.reserve(beats.len().saturating_mul(end))?;

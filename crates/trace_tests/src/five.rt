@@ -3,7 +3,10 @@
 
 use std::alloc::Global;
 use std::test::Fail;
-use tl_trace::{Header, Line, Script, Trace, header_of_text, read_script, script_of, write_trace};
+use tl_trace::{
+    Header, Line, Script, Trace, TraceFault, TraceKind, header_of_text, read, read_script,
+    script_of, write_trace,
+};
 
 /// One beat on each channel.
 pub const FIVE: &[u8] = b"tilelink-trace 1 client 4 manager 8
@@ -114,6 +117,14 @@ pub fn script_made(alloc: Global, trace: &Trace) -> Result<Script<4, 8>, Fail> {
     match script_of::<4, 8>(alloc, trace) {
         Ok(script) => Ok(script),
         Err(fault) => Err(Fail::new(fault)),
+    }
+}
+
+/// The first fault of a text, with its line.
+pub fn fault_of(alloc: Global, text: &[u8]) -> Option<(u64, TraceKind)> {
+    match read(alloc, text) {
+        Ok(_) => None,
+        Err(TraceFault { line, kind }) => Some((line, kind)),
     }
 }
 

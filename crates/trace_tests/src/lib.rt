@@ -7,3 +7,5 @@ mod five;
 mod growth_tests;
 #[cfg(test)]
 mod tests;
+#[cfg(test)]
+mod wide_tests;

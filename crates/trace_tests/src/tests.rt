@@ -1,11 +1,12 @@
 #![tactic(auto, using(tl_lanes::proofs::Widths::width_4))]
 
 use crate::five::{
-    FIVE_2, is_five_2, is_script_of_five, is_script_of_five_2, is_written_as, script_made,
-    script_read,
+    FIVE_2, fault_of, is_five_2, is_script_of_five, is_script_of_five_2, is_written_as,
+    script_made, script_read,
 };
 use std::alloc::{AllocError, Global};
 use std::test::Fail;
+use tl_lanes::Mask;
 use tl_msg::{BeatOf, ChA, ChE, HeadA, HeadE, SideFault, SinkId, Verdict};
 use tl_trace::{
     Line, OutOfMemory, Trace, TraceFault, TraceKind, line_of, read, write_far, write_report,
@@ -23,7 +24,7 @@ const FIVE: [&[u8]; 6] = [
 ];
 
 /// What stands in place of one of these lines, and the first fault then, with its line.
-const FAULTY: [(usize, &[u8], u64, TraceKind); 49] = [
+const FAULTY: [(usize, &[u8], u64, TraceKind); 52] = [
     (0, b"", 1, TraceKind::Header),
     (0, b"\n", 1, TraceKind::Header),
     (
@@ -35,6 +36,24 @@ const FAULTY: [(usize, &[u8], u64, TraceKind); 49] = [
     (
         0,
         b"tilelink-trace 1 client 3 manager 8\n",
+        1,
+        TraceKind::Header,
+    ),
+    (
+        0,
+        b"tilelink-trace 1 client 128 manager 8\n",
+        1,
+        TraceKind::Header,
+    ),
+    (
+        0,
+        b"tilelink-trace 1 client 4 manager 128\n",
+        1,
+        TraceKind::Header,
+    ),
+    (
+        0,
+        b"tilelink-trace 2 client 256 manager 8\n",
         1,
         TraceKind::Header,
     ),
@@ -249,14 +268,6 @@ fn with_line(alloc: Global, at: usize, line: &[u8]) -> Result<Vec<u8>, AllocErro
     Ok(text)
 }
 
-/// The first fault of a text, with its line.
-fn fault_of(alloc: Global, text: &[u8]) -> Option<(u64, TraceKind)> {
-    match read(alloc, text) {
-        Ok(_) => None,
-        Err(TraceFault { line, kind }) => Some((line, kind)),
-    }
-}
-
 #[test]
 fn reads_and_writes_five_beats(rt: HostRuntime) -> Result<(), Fail> {
     let text = with_line(rt.alloc(), 6, b"")?;
@@ -332,7 +343,7 @@ fn answers_cut_texts(rt: HostRuntime) -> Result<(), Fail> {
 }
 
 /// Whether the first line of a trace is a beat of A with these lanes and this mask.
-fn begins_with_a(trace: &Trace, lanes: &[u8], mask: u64) -> bool {
+fn begins_with_a(trace: &Trace, lanes: &[u8], mask: Mask) -> bool {
     match trace.lines.first() {
         Some(Line::A(beat)) => &beat.lanes[..8] == lanes && beat.mask == mask,
         _ => false,

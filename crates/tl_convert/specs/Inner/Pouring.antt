@@ -30,7 +30,7 @@ pub record Poured {H : Type 0} {W V : ℕ} (masked : Bool) (from : BeatOf H W) (
   pub kept : (l : ℕ) → ((k : ℕ) → k < count → lane_of at k V ≢ l) → slice_index new.lanes l ≡ slice_index old.lanes l
   pub bits : (k : ℕ) → k < count → bit_at new.mask (lane_of at k V) ≡ cond masked (bit_at from.mask (lane_of at k W)) (bit_at old.mask (lane_of at k V))
   pub bits_kept : (l : ℕ) → l < WIDEST → ((k : ℕ) → k < count → lane_of at k V ≢ l) → bit_at new.mask l ≡ bit_at old.mask l
-  pub small : old.mask < 2 ^ 64 → new.mask < 2 ^ 64
+  pub small : old.mask < 2 ^ WIDEST → new.mask < 2 ^ WIDEST
   pub corrupt : new.corrupt ≡ old.corrupt || from.corrupt
 
 -- a far beat with no bytes

@@ -1,13 +1,10 @@
-use Rattle.std.proofs.Common.{refl, arith}
-use Rattle.tl_lanes.proofs.Widths.{width_none, width_sure}
+-- A width is a number up to the widest that has one bit.
+use Rattle.std.proofs.Common.{sym, ◌∙◌}
+use Rattle.tl_lanes.proofs.Widths.{width-one_bit, width_bounds, width_sure}
 use Rattle.tl_lanes.proofs.is_width.Goals as goal
 
-pub returns-in_default-2 : goal.returns-in_default-2
-returns-in_default-2 c =
-    (λ h. absurd (cc), λ h. absurd (width_none c.args.w (λ e. grind arith) (λ e. grind arith) (λ e. grind arith) (λ e. grind arith) (λ e. grind arith) (λ e. grind arith) (λ e. grind arith) h))
-
-pub returns-in-1 : goal.returns-in-1
-returns-in-1 c = (λ h. width_sure c.args.w (λ x1 x2 x3 x4 x5 x6 x7. grind arith), λ h. refl)
-
-pub returns-in-1-2 : goal.returns-in-1-2
-returns-in-1-2 c = (λ h. width_sure c.args.w (λ x1 x2 x3 x4 x5 x6 x7. grind arith), λ h. refl)
+pub returns-then-w-le-WIDEST : goal.returns-then-w-le-WIDEST
+returns-then-w-le-WIDEST c = (
+  λ one. width_sure c.args.w c.if-w-le-WIDEST.true (sym c.is_power_of_two.ensures ∙ one),
+  λ h. c.is_power_of_two.ensures ∙ width-one_bit c.args.w h,
+)

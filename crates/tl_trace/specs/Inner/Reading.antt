@@ -71,6 +71,12 @@ pub record IsPair (first second value : ℕ) : Type 0 where
   pub low : digit_of second ≤ 15
   pub is : value ≡ digit_of first * 16 + digit_of second
 
+-- where bad is at most 15, these digits spell the number; else one of them is none
+pub record IsSpelt (digits : List ℕ) (value bad : ℕ) : Type 0 where
+  pub good : bad ≤ 15 → number_of digits ≡ Some value
+  pub small : bad ≤ 15 → value < 16 ^ length digits
+  pub none : 15 < bad → number_of digits ≡ None
+
 -- where bad is at most 15, the number stands after a space at a place; else there is none of so many digits
 pub record IsNumber (text : List ℕ) (at count value bad : ℕ) : Type 0 where
   pub good : bad ≤ 15 → field_at text at count ≡ Some value

@@ -11,21 +11,21 @@ use Rattle.tl_answer.proofs.answer.with_widths.Goals as goal
 
 pub outcome_of-requires : goal.outcome_of-requires
 outcome_of-requires g c =
-    let told = c.in_ok-script.ensures.told in
+    let told = c.in-Ok.ensures.told in
     let few = lines-few _ _ _ _ told.lines told.told (subst (λ text. length text ≤ most_bytes) (sym c.deref.ensures.value) c.requires.few) in
     let lists = short g.row.C g.row.M told.lines few _ told.script in
     (omega arith, (omega arith, (c.requires.client, (c.requires.manager, (lists, c.requires.runnable)))))
 
 pub returns-clause-ok : goal.returns-clause-ok
 returns-clause-ok g c =
-    let told = c.in_ok-script.ensures.told in
+    let told = c.in-Ok.ensures.told in
     subst (λ check. IfOk c.answer_in.result (λ made. IsAnswer c.args.text.items check made.text.items made.all_done)) c.is_check-check.ensures
-    (answers-text c.args.text.items c.args.version g.row.C g.row.M lines c.is_check-check.result c.in_ok-outcome.outcome
+    (answers-text c.args.text.items c.args.version g.row.C g.row.M lines c.is_check-check.result c.in-Ok-outcome_of.outcome
     (subst (λ text. Tells text c.args.version g.row.C g.row.M lines) c.deref.ensures.value told.told) ended c.answer_in.result
     (c.answer_in.ensures.text (ends g.row.C g.row.M lines) ended.verdicts_are) c.answer_in.ensures.done)
   where
     lines : List Line
-    lines = c.in_ok-script.ensures.told.lines
+    lines = c.in-Ok.ensures.told.lines
 
-    ended : EndsIn (near g.row.C g.row.M lines) c.in_ok-outcome.outcome
-    ended = subst (λ bs. EndsIn bs c.in_ok-outcome.outcome) (near-is lines _ c.in_ok-script.ensures.told.script) c.in_ok-outcome.ensures.ok
+    ended : EndsIn (near g.row.C g.row.M lines) c.in-Ok-outcome_of.outcome
+    ended = subst (λ bs. EndsIn bs c.in-Ok-outcome_of.outcome) (near-is lines _ c.in-Ok.ensures.told.script) c.in-Ok-outcome_of.ensures.ok

@@ -20,7 +20,10 @@ with_client-requires-in-16-clause-client c = (4, omega arith, refl)
 pub with_client-requires-in-32-clause-client : goal.with_client-requires-in-32-clause-client
 with_client-requires-in-32-clause-client c = (5, omega arith, refl)
 
+pub with_client-requires-in-64-clause-client : goal.with_client-requires-in-64-clause-client
+with_client-requires-in-64-clause-client c = (6, omega arith, refl)
+
 pub with_client-requires-in_default-client-clause-header : goal.with_client-requires-in_default-client-clause-header
 with_client-requires-in_default-client-clause-header c =
     let is : HasHeader c.args.text.now c.in-Some.header.version c.in-Some.header.client c.in-Some.header.manager = search rules in
-    last_client c.args.text.now _ _ _ is (search rules) (search rules) (search rules) (search rules) (search rules) (search rules)
+    last_client c.args.text.now _ _ _ is (search rules) (search rules) (search rules) (search rules) (search rules) (search rules) (search rules)

@@ -3,4 +3,4 @@ use Rattle.tl_answer.proofs.Headers.{last_manager}
 use Rattle.tl_answer.proofs.sync_answer.with_client.Goals as goal
 
 pub with_widths-requires-in_default-clause-header : goal.with_widths-requires-in_default-clause-header
-with_widths-requires-in_default-clause-header g c = last_manager c.args.text.now _ _ _ c.requires.header (search rules) (search rules) (search rules) (search rules) (search rules) (search rules)
+with_widths-requires-in_default-clause-header g c = last_manager c.args.text.now _ _ _ c.requires.header (search rules) (search rules) (search rules) (search rules) (search rules) (search rules) (search rules)

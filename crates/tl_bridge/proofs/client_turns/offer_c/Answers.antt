@@ -15,7 +15,7 @@ pub ready_c-requires : goal.ready_c-requires
 ready_c-requires g c = client_small g.row.C g.row.M c.requires.near c.requires.far
 
 pub offer_c-requires : goal.offer_c-requires
-offer_c-requires g c = (client_small g.row.C g.row.M c.requires.near c.requires.far, (beat_small 24 g.row.C (omega arith) c.requires.near, (c.requires.near, (c.requires.far, c.if-not-ready_c.ensures.0 refl))))
+offer_c-requires g c = (client_small g.row.C g.row.M c.requires.near c.requires.far, (beat_small g.row.C c.requires.near, (c.requires.near, (c.requires.far, c.if-not-ready_c.ensures.0 refl))))
 
 pub returns-in_default : goal.returns-in_default
 returns-in_default g c =

@@ -15,7 +15,7 @@ pub ready_e-requires : goal.ready_e-requires
 ready_e-requires g c = client_small g.row.C g.row.M c.requires.near c.requires.far
 
 pub offer_e-requires : goal.offer_e-requires
-offer_e-requires g c = (client_small g.row.C g.row.M c.requires.near c.requires.far, (beat_small 16 g.row.C (omega arith) c.requires.near, (c.requires.near, (c.requires.far, c.if-not-ready_e.ensures.0 refl))))
+offer_e-requires g c = (client_small g.row.C g.row.M c.requires.near c.requires.far, (beat_small g.row.C c.requires.near, (c.requires.near, (c.requires.far, c.if-not-ready_e.ensures.0 refl))))
 
 pub returns-in_default : goal.returns-in_default
 returns-in_default g c =

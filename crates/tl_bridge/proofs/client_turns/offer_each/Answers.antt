@@ -9,13 +9,13 @@ use Rattle.tl_bridge.proofs.SideSizes.{client_small}
 use Rattle.tl_bridge.proofs.client_turns.offer_each.Goals as goal
 
 pub offer_a-a-requires : goal.offer_a-a-requires
-offer_a-a-requires g c = (client_small g.row.C g.row.M c.requires.client c.requires.manager, (beat_small 24 g.row.C (omega arith) c.requires.client, (c.requires.client, c.requires.manager)))
+offer_a-a-requires g c = (client_small g.row.C g.row.M c.requires.client c.requires.manager, (beat_small g.row.C c.requires.client, (c.requires.client, c.requires.manager)))
 
 pub offer_c-c-requires : goal.offer_c-c-requires
-offer_c-c-requires g c = (client_small g.row.C g.row.M c.requires.client c.requires.manager, (beat_small 24 g.row.C (omega arith) c.requires.client, (c.requires.client, c.requires.manager)))
+offer_c-c-requires g c = (client_small g.row.C g.row.M c.requires.client c.requires.manager, (beat_small g.row.C c.requires.client, (c.requires.client, c.requires.manager)))
 
 pub offer_e-e-requires : goal.offer_e-e-requires
-offer_e-e-requires g c = (client_small g.row.C g.row.M c.requires.client c.requires.manager, (beat_small 16 g.row.C (omega arith) c.requires.client, (c.requires.client, c.requires.manager)))
+offer_e-e-requires g c = (client_small g.row.C g.row.M c.requires.client c.requires.manager, (beat_small g.row.C c.requires.client, (c.requires.client, c.requires.manager)))
 
 pub returns-clause-offers : goal.returns-clause-offers
 returns-clause-offers g c = λ x h.

@@ -10,7 +10,7 @@ use Rattle.tl_bridge.proofs.client_turns.play.Goals as goal
 pub take_each-requires : goal.take_each-requires
 take_each-requires g c =
     let ready = c.requires.ready in
-    (client_small g.row.C g.row.M c.requires.client c.requires.manager, (beat_small 24 g.row.C (omega arith) c.requires.client, (beat_small 24 g.row.C (omega arith) c.requires.client, (c.requires.client, (ready.room_b, ready.room_d)))))
+    (client_small g.row.C g.row.M c.requires.client c.requires.manager, (beat_small g.row.C c.requires.client, (beat_small g.row.C c.requires.client, (c.requires.client, (ready.room_b, ready.room_d)))))
 
 pub turn-played-requires : goal.turn-played-requires
 turn-played-requires g c = (client_small g.row.C g.row.M c.requires.client c.requires.manager, (search rules, (c.requires.client, (c.requires.manager, c.requires.ready.few))))

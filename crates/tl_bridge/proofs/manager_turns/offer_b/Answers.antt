@@ -15,7 +15,7 @@ pub ready_b-requires : goal.ready_b-requires
 ready_b-requires g c = manager_small g.row.C g.row.M c.requires.far c.requires.near
 
 pub offer_b-requires : goal.offer_b-requires
-offer_b-requires g c = (manager_small g.row.C g.row.M c.requires.far c.requires.near, (beat_small 24 g.row.M (omega arith) c.requires.near, (c.requires.near, (c.requires.far, c.if-not-ready_b.ensures.0 refl))))
+offer_b-requires g c = (manager_small g.row.C g.row.M c.requires.far c.requires.near, (beat_small g.row.M c.requires.near, (c.requires.near, (c.requires.far, c.if-not-ready_b.ensures.0 refl))))
 
 pub returns-in_default : goal.returns-in_default
 returns-in_default g c =

@@ -9,10 +9,10 @@ use Rattle.tl_bridge.proofs.SideSizes.{manager_small}
 use Rattle.tl_bridge.proofs.manager_turns.offer_each.Goals as goal
 
 pub offer_b-b-requires : goal.offer_b-b-requires
-offer_b-b-requires g c = (manager_small g.row.C g.row.M c.requires.client c.requires.manager, (beat_small 24 g.row.M (omega arith) c.requires.manager, (c.requires.manager, c.requires.client)))
+offer_b-b-requires g c = (manager_small g.row.C g.row.M c.requires.client c.requires.manager, (beat_small g.row.M c.requires.manager, (c.requires.manager, c.requires.client)))
 
 pub offer_d-d-requires : goal.offer_d-d-requires
-offer_d-d-requires g c = (manager_small g.row.C g.row.M c.requires.client c.requires.manager, (beat_small 24 g.row.M (omega arith) c.requires.manager, (c.requires.manager, c.requires.client)))
+offer_d-d-requires g c = (manager_small g.row.C g.row.M c.requires.client c.requires.manager, (beat_small g.row.M c.requires.manager, (c.requires.manager, c.requires.client)))
 
 pub returns-clause-offers : goal.returns-clause-offers
 returns-clause-offers g c = λ x h.

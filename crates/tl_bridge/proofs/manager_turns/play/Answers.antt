@@ -10,7 +10,7 @@ use Rattle.tl_bridge.proofs.manager_turns.play.Goals as goal
 pub take_each-requires : goal.take_each-requires
 take_each-requires g c =
     let ready = c.requires.ready in
-    (manager_small g.row.C g.row.M c.requires.client c.requires.manager, (beat_small 24 g.row.M (omega arith) c.requires.manager, (beat_small 24 g.row.M (omega arith) c.requires.manager, (beat_small 16 g.row.M (omega arith) c.requires.manager, (c.requires.manager, (ready.room_a, (ready.room_c, ready.room_e)))))))
+    (manager_small g.row.C g.row.M c.requires.client c.requires.manager, (beat_small g.row.M c.requires.manager, (beat_small g.row.M c.requires.manager, (beat_small g.row.M c.requires.manager, (c.requires.manager, (ready.room_a, (ready.room_c, ready.room_e)))))))
 
 pub turn-played-requires : goal.turn-played-requires
 turn-played-requires g c = (manager_small g.row.C g.row.M c.requires.client c.requires.manager, (search rules, (c.requires.client, (c.requires.manager, c.requires.ready.few))))

@@ -15,7 +15,7 @@ pub ready-requires : goal.ready-requires
 ready-requires g c = bridge_part_small g.row.C g.row.M 0 c.requires.near c.requires.far
 
 pub offer_request-requires : goal.offer_request-requires
-offer_request-requires g c = (lit< tt, (bridge_part_small g.row.C g.row.M 0 c.requires.near c.requires.far, (beat_small 24 g.row.C (omega arith) c.requires.near, (c.requires.near, (c.requires.far, c.if-not-ready.ensures.0 refl)))))
+offer_request-requires g c = (lit< tt, (bridge_part_small g.row.C g.row.M 0 c.requires.near c.requires.far, (beat_small g.row.C c.requires.near, (c.requires.near, (c.requires.far, c.if-not-ready.ensures.0 refl)))))
 
 pub returns-in_default-clause-counted : goal.returns-in_default-clause-counted
 returns-in_default-clause-counted g c = rw (c.from_close.ensures) (none-closes c.args.at.now c.close.result)

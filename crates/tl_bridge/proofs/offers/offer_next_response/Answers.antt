@@ -15,7 +15,7 @@ pub ready-requires : goal.ready-requires
 ready-requires g c = bridge_part_small g.row.C g.row.M 3 c.requires.far c.requires.near
 
 pub offer_response-requires : goal.offer_response-requires
-offer_response-requires g c = (lit< tt, (bridge_part_small g.row.C g.row.M 3 c.requires.far c.requires.near, (beat_small 24 g.row.M (omega arith) c.requires.near, (c.requires.near, (c.requires.far, c.if-not-ready.ensures.0 refl)))))
+offer_response-requires g c = (lit< tt, (bridge_part_small g.row.C g.row.M 3 c.requires.far c.requires.near, (beat_small g.row.M c.requires.near, (c.requires.near, (c.requires.far, c.if-not-ready.ensures.0 refl)))))
 
 pub returns-in_default-clause-counted : goal.returns-in_default-clause-counted
 returns-in_default-clause-counted g c = rw (c.from_close.ensures) (none-closes c.args.at.now c.close.result)

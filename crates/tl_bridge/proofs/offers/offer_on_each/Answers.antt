@@ -12,23 +12,23 @@ use Rattle.tl_bridge.proofs.offers.offer_on_each.Goals as goal
 
 pub offer_next_request-a-requires : goal.offer_next_request-a-requires
 offer_next_request-a-requires g c =
-    (lit< tt, (bridge_part_small g.row.C g.row.M 0 c.requires.client c.requires.manager, (beat_small 24 g.row.C (omega arith) c.requires.client, (c.requires.client, (c.requires.manager, c.requires.few.a)))))
+    (lit< tt, (bridge_part_small g.row.C g.row.M 0 c.requires.client c.requires.manager, (beat_small g.row.C c.requires.client, (c.requires.client, (c.requires.manager, c.requires.few.a)))))
 
 pub offer_next-c-requires : goal.offer_next-c-requires
 offer_next-c-requires g c =
-    (bridge_part_small g.row.C g.row.M 2 c.requires.client c.requires.manager, (beat_small 24 g.row.C (omega arith) c.requires.client, (c.requires.client, (c.requires.manager, c.requires.few.c))))
+    (bridge_part_small g.row.C g.row.M 2 c.requires.client c.requires.manager, (beat_small g.row.C c.requires.client, (c.requires.client, (c.requires.manager, c.requires.few.c))))
 
 pub offer_next-e-requires : goal.offer_next-e-requires
 offer_next-e-requires g c =
-    (bridge_part_small g.row.C g.row.M 4 c.requires.client c.requires.manager, (beat_small 16 g.row.C (omega arith) c.requires.client, (c.requires.client, (c.requires.manager, c.requires.few.e))))
+    (bridge_part_small g.row.C g.row.M 4 c.requires.client c.requires.manager, (beat_small g.row.C c.requires.client, (c.requires.client, (c.requires.manager, c.requires.few.e))))
 
 pub offer_next-b-requires : goal.offer_next-b-requires
 offer_next-b-requires g c =
-    (bridge_part_small g.row.C g.row.M 1 c.requires.client c.requires.manager, (beat_small 24 g.row.M (omega arith) c.requires.manager, (c.requires.manager, (c.requires.client, c.requires.few.b))))
+    (bridge_part_small g.row.C g.row.M 1 c.requires.client c.requires.manager, (beat_small g.row.M c.requires.manager, (c.requires.manager, (c.requires.client, c.requires.few.b))))
 
 pub offer_next_response-d-requires : goal.offer_next_response-d-requires
 offer_next_response-d-requires g c =
-    (lit< tt, (bridge_part_small g.row.C g.row.M 3 c.requires.client c.requires.manager, (beat_small 24 g.row.M (omega arith) c.requires.manager, (c.requires.manager, (c.requires.client, c.requires.few.d)))))
+    (lit< tt, (bridge_part_small g.row.C g.row.M 3 c.requires.client c.requires.manager, (beat_small g.row.M c.requires.manager, (c.requires.manager, (c.requires.client, c.requires.few.d)))))
 
 pub returns-clause-offered : goal.returns-clause-offered
 returns-clause-offered g c = λ x k.

@@ -20,8 +20,8 @@ run_rounds-end-requires g c = (
           (
             c.requires.short,
             (
-              c.in_ok-far.ensures.room,
-              ((c.args.ring, (c.in_ok-bridge.ensures.size refl).0, c.in_ok-bridge.ensures.new), c.in_ok-far.ensures.empty),
+              c.in-Ok-new.ensures.room,
+              ((c.args.ring, (c.in-Ok.ensures.size refl).0, c.in-Ok.ensures.new), c.in-Ok-new.ensures.empty),
             ),
           ),
         ),

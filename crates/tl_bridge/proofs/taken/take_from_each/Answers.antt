@@ -9,7 +9,7 @@ pub take_all-requires : goal.take_all-requires
 take_all-requires g c =
     let x = c.requires.past.0 in
     let h = rw (← c.bridge.view_is) at c.requires.past.1 in
-    (bridge_part_small g.row.C g.row.M 1 c.requires.client c.requires.manager, (beat_small 24 g.row.C (omega arith) c.requires.client, ((x.b, h.b), rw (← c.bridge.view_is) at c.requires.room.b)))
+    (bridge_part_small g.row.C g.row.M 1 c.requires.client c.requires.manager, (beat_small g.row.C c.requires.client, ((x.b, h.b), rw (← c.bridge.view_is) at c.requires.room.b)))
 
 pub take_all_responses-requires : goal.take_all_responses-requires
 take_all_responses-requires g c =
@@ -19,7 +19,7 @@ take_all_responses-requires g c =
       (
         bridge_part_small g.row.C g.row.M 3 c.requires.client c.requires.manager,
         (
-          beat_small 24 g.row.C (omega arith) c.requires.client,
+          beat_small g.row.C c.requires.client,
           (c.requires.client, ((x.client, x.d, client_is_answered _ x h), rw (← c.bridge.view_is) at c.requires.room.d)),
         ),
       ),
@@ -33,7 +33,7 @@ take_all_requests-requires g c =
       (
         bridge_part_small g.row.C g.row.M 0 c.requires.client c.requires.manager,
         (
-          beat_small 24 g.row.M (omega arith) c.requires.manager,
+          beat_small g.row.M c.requires.manager,
           (c.requires.manager, ((x.manager, x.a, manager_is_asked _ x h), rw (← c.bridge.view_is) at c.requires.room.a)),
         ),
       ),
@@ -43,13 +43,13 @@ pub take_all-requires-2 : goal.take_all-requires-2
 take_all-requires-2 g c =
     let x = c.requires.past.0 in
     let h = rw (← c.bridge.view_is) at c.requires.past.1 in
-    (bridge_part_small g.row.C g.row.M 2 c.requires.client c.requires.manager, (beat_small 24 g.row.M (omega arith) c.requires.manager, ((x.c, h.c), rw (← c.bridge.view_is) at c.requires.room.c)))
+    (bridge_part_small g.row.C g.row.M 2 c.requires.client c.requires.manager, (beat_small g.row.M c.requires.manager, ((x.c, h.c), rw (← c.bridge.view_is) at c.requires.room.c)))
 
 pub take_all-requires-3 : goal.take_all-requires-3
 take_all-requires-3 g c =
     let x = c.requires.past.0 in
     let h = rw (← c.bridge.view_is) at c.requires.past.1 in
-    (bridge_part_small g.row.C g.row.M 4 c.requires.client c.requires.manager, (beat_small 16 g.row.M (omega arith) c.requires.manager, ((x.e, h.e), rw (← c.bridge.view_is) at c.requires.room.e)))
+    (bridge_part_small g.row.C g.row.M 4 c.requires.client c.requires.manager, (beat_small g.row.M c.requires.manager, ((x.e, h.e), rw (← c.bridge.view_is) at c.requires.room.e)))
 
 pub returns-clause-taken : goal.returns-clause-taken
 returns-clause-taken g c = λ x k.

@@ -18,7 +18,7 @@ ended index near far pos =
 
 pub returns-clause-few : goal.returns-clause-few
 returns-clause-few g c =
-    let w : (0 < g.row.W) × (g.row.W ≤ 64) = width_bounds g.row.W c.requires.near in
+    let w = width_bounds g.row.W c.requires.near in
     let k = per-power c.size-size.result g.row.V c.requires.far in
     let pos : 0 < c.beat_bytes-far.result = (let z : 0 < 2 ^ k.0 = search rules in omega (arith, k.1, c.beat_bytes-far.ensures)) in
     omega (arith, ended c.args.place.now.index c.beat_bytes-near.result c.beat_bytes-far.result pos, c.beat_bytes-near.ensures)

@@ -1,4 +1,5 @@
 use Rattle.std.proofs.Common.{◌≡◌, ◌≤◌, ◌*◌, ◌++◌, ℕ, List, length, take, drop}
+use Rattle.tl_lanes.specs.declared.limits.TheConstants.{WIDEST}
 use Rattle.tl_burst.specs.Handing.{burst_after}
 use Rattle.tl_convert.specs.Due.{due}
 use Rattle.tl_convert.specs.Accepted.{accepted_of, accepted_after}
@@ -10,5 +11,5 @@ invariant-loop-beat g l = record {
   accepted : accepted_of g.K.Channel.rules l.beats ≡
       take l.beat-index l.beats ++ accepted_after g.K.Channel.rules (take l.beat-index l.beats) (drop l.beat-index l.beats);
   count : (homes : List ℕ) → l.count ≡ length (due g.K.Channel.rules g.row.W g.row.V (take l.beat-index l.beats) homes);
-  few : l.count ≤ 64 * l.beat-index;
+  few : l.count ≤ WIDEST * l.beat-index;
 }

@@ -8,7 +8,7 @@ use Rattle.tl_convert.proofs.count.far_room.Goals as goal
 
 pub returns-then-this : goal.returns-then-this
 returns-then-this g c = λ homes.
-    let w : (0 < g.row.W) × (g.row.W ≤ 64) = width_bounds g.row.W c.requires.near in
+    let w = width_bounds g.row.W c.requires.near in
     let first = accepted-first g.K.Channel.rules [] c.args.beats.now in
     let few : length (due g.K.Channel.rules g.row.W g.row.V (accepted_of g.K.Channel.rules c.args.beats.now) homes) ≤
     length (accepted_of g.K.Channel.rules c.args.beats.now) =

@@ -1,6 +1,7 @@
 use Rattle.std.proofs.Common.{◌≡◌, ◌≤◌, ◌<◌, ◌*◌, ◌%◌, ◌^◌, ℕ, sym, ap, subst, ◌∙◌, arith, rules}
 use Rattle.std.proofs.Math.Nat.{mul-mod_left, mul-le-mul}
 use Rattle.tl_msg.specs.declared.beat.BeatOf.{BeatOf}
+use Rattle.tl_lanes.specs.declared.limits.TheConstants.{WIDEST}
 use Rattle.tl_lanes.specs.Lanes.{bytes_per_beat}
 use Rattle.tl_lanes.proofs.Widths.{width_bounds}
 use Rattle.tl_burst.specs.Messages.{per_beat}
@@ -10,16 +11,16 @@ use Rattle.tl_convert.proofs.GiveStep.{give-all}
 use Rattle.tl_convert.proofs.giving.give_data.Goals as goal
 
 -- the first byte's number is far below 2 ^ 64
-first-small : (index near w : ℕ) → index < 2 ^ 32 → near ≤ w → w ≤ 64 → index * near < 2 ^ 40
+first-small : (index near w : ℕ) → index < 2 ^ 32 → near ≤ w → w ≤ WIDEST → index * near < 2 ^ 40
 first-small index near w i n s =
-    let le : near ≤ 64 = omega arith in
+    let le : near ≤ WIDEST = omega arith in
     let few : index ≤ 2 ^ 32 = omega arith in
-    let m : index * near ≤ 2 ^ 32 * 64 = mul-le-mul few le in
+    let m : index * near ≤ 2 ^ 32 * WIDEST = mul-le-mul few le in
     omega arith
 
 pub overflow_mul-first : goal.overflow_mul-first
 overflow_mul-first g c =
-    let b : (0 < g.row.W) × (g.row.W ≤ 64) = width_bounds g.row.W c.requires.near in
+    let b = width_bounds g.row.W c.requires.near in
     let e : c.args.index * c.beat_bytes.result < 2 ^ 40 =
     first-small c.args.index c.beat_bytes.result g.row.W c.ranges.index.fits (omega (arith, c.beat_bytes.ensures)) b.1 in
     omega arith
@@ -27,7 +28,7 @@ overflow_mul-first g c =
 pub pour-requires : goal.pour-requires
 pour-requires g c =
     let near : c.beat_bytes.result ≡ per_beat g.K.Channel.rules c.args.beat.now.head g.row.W = c.beat_bytes.ensures ∙ ap (λ z. bytes_per_beat z g.row.W) c.size.ensures in
-    let b : (0 < g.row.W) × (g.row.W ≤ 64) = width_bounds g.row.W c.requires.near in
+    let b = width_bounds g.row.W c.requires.near in
     let small : c.args.index * c.beat_bytes.result < 2 ^ 40 =
     first-small c.args.index c.beat_bytes.result g.row.W c.ranges.index.fits (omega (arith, c.beat_bytes.ensures)) b.1 in
     let e : c.args.index * c.beat_bytes.result ≡ c.args.index * per_beat g.K.Channel.rules c.args.beat.now.head g.row.W = ap (λ n. c.args.index * n) near in (

@@ -26,7 +26,7 @@ least near wide x y a b le = omega arith
 
 pub overflow_mul-done : goal.overflow_mul-done
 overflow_mul-done g c =
-    let w : (0 < g.row.W) × (g.row.W ≤ 64) = width_bounds g.row.W c.requires.near in
+    let w = width_bounds g.row.W c.requires.near in
     let k : Chunk c.beat_bytes.result c.beat_bytes-wide.result c.beat_bytes-wide.result c.args.first c.loop-t.t =
     chunk-at g.K.Channel.rules c.args.beat.now.head g.row.W g.row.V c.args.first c.loop-t.t c.size-size.result c.beat_bytes.result c.beat_bytes-wide.result
     c.beat_bytes-wide.result c.requires.near c.requires.far c.size-size.ensures c.beat_bytes.ensures c.beat_bytes-wide.ensures (least c.beat_bytes.result c.beat_bytes-wide.result
@@ -37,7 +37,7 @@ overflow_mul-done g c =
 
 pub overflow_add-done : goal.overflow_add-done
 overflow_add-done g c =
-    let w : (0 < g.row.W) × (g.row.W ≤ 64) = width_bounds g.row.W c.requires.near in
+    let w = width_bounds g.row.W c.requires.near in
     let k : Chunk c.beat_bytes.result c.beat_bytes-wide.result c.beat_bytes-wide.result c.args.first c.loop-t.t =
     chunk-at g.K.Channel.rules c.args.beat.now.head g.row.W g.row.V c.args.first c.loop-t.t c.size-size.result c.beat_bytes.result c.beat_bytes-wide.result
     c.beat_bytes-wide.result c.requires.near c.requires.far c.size-size.ensures c.beat_bytes.ensures c.beat_bytes-wide.ensures (least c.beat_bytes.result c.beat_bytes-wide.result
@@ -48,7 +48,7 @@ overflow_add-done g c =
 
 pub push-requires : goal.push-requires
 push-requires g c =
-    let w : (0 < g.row.W) × (g.row.W ≤ 64) = width_bounds g.row.W c.requires.near in (
+    let w = width_bounds g.row.W c.requires.near in (
       search rules,
       omega (arith, c.loop-t.invariant.count, c.loop-t-test.true, div-le_self c.beat_bytes.result c.beat_bytes-wide.result, c.beat_bytes.ensures),
     )

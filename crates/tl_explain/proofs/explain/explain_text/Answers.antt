@@ -20,7 +20,10 @@ at_width-with_client-requires-5-clause-client c = (4, omega arith, refl)
 pub at_width-with_client-requires-6-clause-client : goal.at_width-with_client-requires-6-clause-client
 at_width-with_client-requires-6-clause-client c = (5, omega arith, refl)
 
-pub at_width-with_client-requires-7-clause-header : goal.at_width-with_client-requires-7-clause-header
-at_width-with_client-requires-7-clause-header c =
+pub at_width-with_client-requires-7-clause-client : goal.at_width-with_client-requires-7-clause-client
+at_width-with_client-requires-7-clause-client c = (6, omega arith, refl)
+
+pub at_width-with_client-requires-8-clause-header : goal.at_width-with_client-requires-8-clause-header
+at_width-with_client-requires-8-clause-header c =
     let is : HasHeader c.args.text.now c.in-Some.header.version c.in-Some.header.client c.in-Some.header.manager = search rules in
-    last_client c.args.text.now _ _ _ is (search rules) (search rules) (search rules) (search rules) (search rules) (search rules)
+    last_client c.args.text.now _ _ _ is (search rules) (search rules) (search rules) (search rules) (search rules) (search rules) (search rules)

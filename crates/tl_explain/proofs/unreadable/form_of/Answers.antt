@@ -12,3 +12,6 @@ at_width-form_on-requires-5 c = (4, omega arith, refl)
 
 pub at_width-form_on-requires-6 : goal.at_width-form_on-requires-6
 at_width-form_on-requires-6 c = (5, omega arith, refl)
+
+pub at_width-form_on-requires-7 : goal.at_width-form_on-requires-7
+at_width-form_on-requires-7 c = (6, omega arith, refl)

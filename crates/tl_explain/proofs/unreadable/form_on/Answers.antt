@@ -1,9 +1,8 @@
-use Rattle.std.proofs.Common.{arith}
 use Rattle.tl_ring.proofs.FieldSizes.{beat_small}
 use Rattle.tl_explain.proofs.unreadable.form_on.Goals as goal
 
 pub default-requires : goal.default-requires
-default-requires g c = beat_small 24 g.row.W (omega arith) c.requires
+default-requires g c = beat_small g.row.W c.requires
 
 pub line_of-line-requires : goal.line_of-line-requires
-line_of-line-requires g c = (beat_small 24 g.row.W (omega arith) c.requires, c.requires)
+line_of-line-requires g c = (beat_small g.row.W c.requires, c.requires)

@@ -1,5 +1,6 @@
 use Rattle.std.proofs.Common.{◌≤◌, true, length, rules, arith}
 use denote.Param.{layout, param, copied, number}
+use Rattle.tl_ring.specs.declared.queue.TheConstants.{ROOM}
 use Rattle.tl_ring.specs.contracts.ends.ClosingEnd.{the_row}
 use Rattle.tl_ring.proofs.EndSteps.{meets_of, met_alike}
 use Rattle.tl_ring.proofs.FieldSizes.{part_small}
@@ -18,5 +19,5 @@ returns-clause-met g c = rw (← c.send.view_is) (met_alike true _ _ _ _ c.meet.
 
 pub returns-clause-meets : goal.returns-clause-meets
 returns-clause-meets g c = λ x taken sends takes.
-    let held : length c.meet.new.take.inbox ≤ 64 = omega (arith, c.meet.ensures.inbox, c.meet.ensures.most.1) in
+    let held : length c.meet.new.take.inbox ≤ ROOM = omega (arith, c.meet.ensures.inbox, c.meet.ensures.most.1) in
     meets_of g.K.Channel.rules _ _ _ _ x taken (returns-clause-met g c) held sends takes

@@ -3,7 +3,8 @@ use Rattle.std.proofs.Common.{◌<◌, ◌≡◌, ◌+◌, ◌++◌, List, ℕ, 
 use Rattle.std.specs.List.{slice_range}
 use Rattle.tl_trace.specs.Texts.{newline}
 use Rattle.tl_trace.specs.Faults.{header_of}
-use Rattle.tl_trace.proofs.Headers.{known, is_header, width_small, from_start}
+use Rattle.tl_trace.proofs.Headers.{known, is_header, from_start}
+use Rattle.tl_trace.proofs.Widths.{width_most}
 use Rattle.tl_trace.proofs.Walk.{no_header, no_header_end, header_faults, split_line}
 use Rattle.tl_trace.proofs.reader.read.Goals as goal
 
@@ -27,12 +28,12 @@ read_lines_of-requires-clause-version c =
 pub read_lines_of-requires-clause-client : goal.read_lines_of-requires-clause-client
 read_lines_of-requires-clause-client c =
     let some : header_of (slice_range c.args.text.now 0 c.line_end-end.result) ≡ Some c.in-Some.header = from_start c.args.text.now c.line_end-end.result _ c.in-Some.ensures in
-    width_small c.in-Some.header.client (known (slice_range c.args.text.now 0 c.line_end-end.result) c.in-Some.header some).1
+    width_most c.in-Some.header.version c.in-Some.header.client (known (slice_range c.args.text.now 0 c.line_end-end.result) c.in-Some.header some).1
 
 pub read_lines_of-requires-clause-manager : goal.read_lines_of-requires-clause-manager
 read_lines_of-requires-clause-manager c =
     let some : header_of (slice_range c.args.text.now 0 c.line_end-end.result) ≡ Some c.in-Some.header = from_start c.args.text.now c.line_end-end.result _ c.in-Some.ensures in
-    width_small c.in-Some.header.manager (known (slice_range c.args.text.now 0 c.line_end-end.result) c.in-Some.header some).2
+    width_most c.in-Some.header.version c.in-Some.header.manager (known (slice_range c.args.text.now 0 c.line_end-end.result) c.in-Some.header some).2
 
 pub read_lines_of-requires-clause-header : goal.read_lines_of-requires-clause-header
 read_lines_of-requires-clause-header c =

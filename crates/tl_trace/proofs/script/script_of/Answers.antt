@@ -1,6 +1,6 @@
 use Rattle.std.proofs.Common.{◌≡◌, ◌≤◌, ℕ, List, length, take, lit<}
 use Rattle.std.proofs.lemmas.List.{take_all}
-use Rattle.tl_trace.proofs.LineText.{width_most}
+use Rattle.tl_lanes.proofs.Widths.{width_bounds}
 use Rattle.tl_trace.proofs.Sizes.{near_small}
 use Rattle.tl_trace.proofs.ReadBeats.{script_more, on_was}
 use Rattle.tl_trace.specs.Scripts.{IsScriptOf}
@@ -22,12 +22,12 @@ empty_script-script-requires g c = lit< tt
 
 pub near_of-requires : goal.near_of-requires
 near_of-requires g c =
-    let client = width_most g.row.C c.requires.client_width in
-    let manager = width_most g.row.M c.requires.manager_width in
+    let client = (width_bounds g.row.C c.requires.client_width).1 in
+    let manager = (width_bounds g.row.M c.requires.manager_width).1 in
     (near_small g.row.C g.row.M client manager, (client, manager))
 
 pub push_near-requires : goal.push_near-requires
-push_near-requires g c = (lit< tt, near_small g.row.C g.row.M (width_most g.row.C c.requires.client_width) (width_most g.row.M c.requires.manager_width))
+push_near-requires g c = (lit< tt, near_small g.row.C g.row.M (width_bounds g.row.C c.requires.client_width).1 (width_bounds g.row.M c.requires.manager_width).1)
 
 pub returns-clause-a : goal.returns-clause-a
 returns-clause-a g c = (whole c.loop-line.script c.args.trace.now.lines.items _ c.loop-line.line-index c.deref-line-items.ensures.value c.loop-line-test.false c.loop-line.invariant).a

@@ -3,7 +3,8 @@ use Rattle.std.specs.List.{slice_range}
 use Rattle.tl_trace.specs.Texts.{newline}
 use Rattle.tl_trace.specs.Faults.{header_of}
 use Rattle.tl_trace.specs.Inner.Reading.{LineAt}
-use Rattle.tl_trace.proofs.Headers.{header, known, is_header, width_small}
+use Rattle.tl_trace.proofs.Headers.{header, known, is_header}
+use Rattle.tl_trace.proofs.Widths.{width_most}
 use Rattle.tl_trace.proofs.Walk.{no_header_end, header_faults, split_line}
 use Rattle.tl_trace.proofs.ReadBeats.{first_line, if_ok_more}
 use Rattle.tl_trace.proofs.script_reader.read_script.Goals as goal
@@ -24,7 +25,7 @@ read_beats_of-requires g c =
     let all = known (slice_range c.args.text.now 0 c.line_end-end.result) (header c.args.version g.row.C g.row.M) some in
     let one : 1 ≤ c.line_end-end.result + 1 = omega arith in
     let within : c.line_end-end.result + 1 ≤ length c.args.text.now = omega arith in
-    (search rules, (all.0, (width_small g.row.C all.1, (width_small g.row.M all.2, ((one, within), header_faults c.args.text.now c.line_end-end.result (header c.args.version g.row.C g.row.M) line some lt)))))
+    (search rules, (all.0, (width_most c.args.version g.row.C all.1, (width_most c.args.version g.row.M all.2, ((one, within), header_faults c.args.text.now c.line_end-end.result (header c.args.version g.row.C g.row.M) line some lt)))))
 
 pub returns-clause-told : goal.returns-clause-told
 returns-clause-told g c =

@@ -5,14 +5,14 @@ use Rattle.tl_settle.specs.Histories.{asked}
 use Rattle.tl_sides.proofs.Answering.{client_fault}
 use Rattle.tl_sides.proofs.Between.{next_at}
 use Rattle.tl_pair.proofs.SideSteps.{asking, client_offered_a, passes_not, passes_on, same_asker}
-use Rattle.tl_ring.proofs.FieldSizes.{part_small}
-use Rattle.tl_pair.proofs.Layouts.{client_layout, head_24}
+use Rattle.tl_ring.proofs.FieldSizes.{part_small, beat_small}
+use Rattle.tl_pair.proofs.Layouts.{client_layout}
 use Rattle.tl_pair.proofs.client_side.ClientSide.offer_a.Goals as goal
 
 pub check-requires : goal.check-requires
 check-requires g c =
     let ready = rw (← c.self.view_is) at c.requires.ready in
-    (search (part_small (client_layout g.row.C g.row.M g.row.A g.A.Allocator) 0 9223372036854775808), (head_24 g.row.C c.requires.near, (c.requires.near, ready)))
+    (search (part_small (client_layout g.row.C g.row.M g.row.A g.A.Allocator) 0 9223372036854775808), (beat_small g.row.C c.requires.near, (c.requires.near, ready)))
 
 pub ask-requires : goal.ask-requires
 ask-requires g c = search (part_small (client_layout g.row.C g.row.M g.row.A g.A.Allocator) 5 9223372036854775808)
@@ -20,7 +20,7 @@ ask-requires g c = search (part_small (client_layout g.row.C g.row.M g.row.A g.A
 pub offer_at-requires : goal.offer_at-requires
 offer_at-requires g c =
     let ready = rw (← c.self.view_is) at c.requires.ready in
-    (search (part_small (client_layout g.row.C g.row.M g.row.A g.A.Allocator) 0 9223372036854775808), (head_24 g.row.C c.requires.near, (c.requires.near, (c.requires.far, (ready, c.in_ok-place.ensures.place)))))
+    (search (part_small (client_layout g.row.C g.row.M g.row.A g.A.Allocator) 0 9223372036854775808), (beat_small g.row.C c.requires.near, (c.requires.near, (c.requires.far, (ready, c.in_ok-place.ensures.place)))))
 
 pub returns-in_err-place : goal.returns-in_err-place
 returns-in_err-place g c =

@@ -7,14 +7,14 @@ use Rattle.tl_settle.specs.Histories.{answered}
 use Rattle.tl_sides.proofs.Answering.{manager_fault}
 use Rattle.tl_sides.proofs.Between.{next_at}
 use Rattle.tl_pair.proofs.SideSteps.{answering, manager_offered_d, passes_not, passes_on, same_answerer}
-use Rattle.tl_ring.proofs.FieldSizes.{part_small}
-use Rattle.tl_pair.proofs.Layouts.{manager_layout, head_24}
+use Rattle.tl_ring.proofs.FieldSizes.{part_small, beat_small}
+use Rattle.tl_pair.proofs.Layouts.{manager_layout}
 use Rattle.tl_pair.proofs.manager_side.ManagerSide.offer_d.Goals as goal
 
 pub check-requires : goal.check-requires
 check-requires g c =
     let ready = rw (← c.self.view_is) at c.requires.ready in
-    (search (part_small (manager_layout g.row.C g.row.M g.row.A g.A.Allocator) 3 9223372036854775808), (head_24 g.row.M c.requires.near, (c.requires.near, ready)))
+    (search (part_small (manager_layout g.row.C g.row.M g.row.A g.A.Allocator) 3 9223372036854775808), (beat_small g.row.M c.requires.near, (c.requires.near, ready)))
 
 pub answer-requires : goal.answer-requires
 answer-requires g c = search (part_small (manager_layout g.row.C g.row.M g.row.A g.A.Allocator) 5 9223372036854775808)
@@ -22,7 +22,7 @@ answer-requires g c = search (part_small (manager_layout g.row.C g.row.M g.row.A
 pub offer_at-requires : goal.offer_at-requires
 offer_at-requires g c =
     let ready = rw (← c.self.view_is) at c.requires.ready in
-    (search (part_small (manager_layout g.row.C g.row.M g.row.A g.A.Allocator) 3 9223372036854775808), (head_24 g.row.M c.requires.near, (c.requires.near, (c.requires.far, (ready, c.in_ok-place.ensures.place)))))
+    (search (part_small (manager_layout g.row.C g.row.M g.row.A g.A.Allocator) 3 9223372036854775808), (beat_small g.row.M c.requires.near, (c.requires.near, (c.requires.far, (ready, c.in_ok-place.ensures.place)))))
 
 pub returns-in_err-place : goal.returns-in_err-place
 returns-in_err-place g c =

@@ -1,4 +1,5 @@
 use Rattle.std.proofs.Common.{◌≤◌, length, arith, rules, ◌∙◌}
+use Rattle.tl_ring.specs.declared.queue.TheConstants.{ROOM}
 use Rattle.tl_ring.proofs.EndSteps.{meets_of, met_alike}
 use denote.Param.{layout, param, copied, number}
 use Rattle.tl_ring.proofs.FieldSizes.{part_small}
@@ -30,5 +31,5 @@ returns-clause-standing g c = record {
 
 pub returns-clause-meets : goal.returns-clause-meets
 returns-clause-meets g c = λ x taken sends takes.
-    let held : length c.meet.new.take.inbox ≤ 64 = omega (arith, c.meet.ensures.inbox, c.meet.ensures.most.1) in
+    let held : length c.meet.new.take.inbox ≤ ROOM = omega (arith, c.meet.ensures.inbox, c.meet.ensures.most.1) in
     meets_of g.K.Channel.rules _ _ _ _ x taken (returns-clause-met g c) held sends takes

@@ -1,4 +1,5 @@
 use Rattle.std.proofs.Common.{◌≤◌, length, refl, arith}
+use Rattle.tl_ring.specs.declared.queue.TheConstants.{ROOM}
 use Rattle.tl_ring.proofs.EndSteps.{shown_of}
 use denote.Param.{layout, param, number, copied}
 use Rattle.tl_ring.specs.contracts.ends.TakeEnd.{the_row}
@@ -36,5 +37,5 @@ returns-clause-shown g c = λ x taken shows takes.
     let stands = rw (← c.self.view_is) at takes in
     let of = rw (← c.receipt.view_is, ← c.self.view_is) at c.requires in
     let looked = rw (← c.receipt.view_is, ← c.self.view_is) at (returns-clause-looked g c) in
-    let held : length c.self.inside.inbox ≤ 64 = omega (arith, c.len-waiting.ensures.value, c.len-waiting.ensures.within) in
+    let held : length c.self.inside.inbox ≤ ROOM = omega (arith, c.len-waiting.ensures.value, c.len-waiting.ensures.within) in
     shown_of g.K.Channel.rules _ _ _ _ x taken of looked held shown stands

@@ -2,6 +2,7 @@ use Rattle.std.proofs.Common.{◌≡◌, ◌≤◌, ◌-◌, length, min, sym, �
 use Rattle.tl_convert.proofs.Comparisons.{true_equal}
 use Rattle.std.proofs.lemmas.List.Elements.{All-append, All-drop, All-take}
 use Rattle.tl_msg.specs.Faults.{IsLawfulBeat}
+use Rattle.tl_ring.specs.declared.queue.TheConstants.{ROOM}
 use Rattle.tl_ring.proofs.PipeSteps.{stands_popped}
 use denote.Memory.{lone}
 use denote.Param.{layout, param, number, copied}
@@ -30,7 +31,7 @@ returns-clause-most g c = omega (arith, c.min-count.ensures, c.room.ensures.valu
 pub returns-clause-moved : goal.returns-clause-moved
 returns-clause-moved g c = λ x h.
     let stands = rw (← c.self.view_is) at h in
-    let fits : c.min-count.result ≤ min (length c.self.inside.ring.items) (64 - length c.self.inside.inbox) = omega arith in
+    let fits : c.min-count.result ≤ min (length c.self.inside.ring.items) (ROOM - length c.self.inside.inbox) = omega arith in
     rw (c.read_front.ensures.ring, c.read_front.ensures.queue)
     (stands_popped g.K.Channel.rules g.met.K.Channel.partial_masked c.min-count.result _ x fits stands)
 

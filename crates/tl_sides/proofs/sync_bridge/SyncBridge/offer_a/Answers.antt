@@ -9,7 +9,7 @@ offer_request-requires g c = (
   search (part_small (bridge_layout g.row.C g.row.M g.row.A g.A.Allocator) 5 9223372036854775808),
   (
     search (part_small (bridge_layout g.row.C g.row.M g.row.A g.A.Allocator) 0 9223372036854775808),
-    (beat_small 24 g.row.C (omega arith) c.requires.client, (c.requires.client, (c.requires.manager, rw (← c.self.view_is) at c.requires.ready))),
+    (beat_small g.row.C c.requires.client, (c.requires.client, (c.requires.manager, rw (← c.self.view_is) at c.requires.ready))),
   ),
 )
 

@@ -9,7 +9,7 @@ offer_response-requires g c = (
   search (part_small (bridge_layout g.row.C g.row.M g.row.A g.A.Allocator) 6 9223372036854775808),
   (
     search (part_small (bridge_layout g.row.C g.row.M g.row.A g.A.Allocator) 3 9223372036854775808),
-    (beat_small 24 g.row.M (omega arith) c.requires.manager, (c.requires.manager, (c.requires.client, rw (← c.self.view_is) at c.requires.ready))),
+    (beat_small g.row.M c.requires.manager, (c.requires.manager, (c.requires.client, rw (← c.self.view_is) at c.requires.ready))),
   ),
 )
 

@@ -7,7 +7,7 @@ use Rattle.tl_ring.proofs.FieldSizes.{part_small, beat_small}
 use Rattle.tl_sides.proofs.sync_bridge.SyncBridge.offer_e.Goals as goal
 
 pub offer_alone-requires : goal.offer_alone-requires
-offer_alone-requires g c = (search (part_small (bridge_layout g.row.C g.row.M g.row.A g.A.Allocator) 4 9223372036854775808), (beat_small 16 g.row.C (omega arith) c.requires.client, (c.requires.client, (c.requires.manager, rw (← c.self.view_is) at c.requires.ready))))
+offer_alone-requires g c = (search (part_small (bridge_layout g.row.C g.row.M g.row.A g.A.Allocator) 4 9223372036854775808), (beat_small g.row.C c.requires.client, (c.requires.client, (c.requires.manager, rw (← c.self.view_is) at c.requires.ready))))
 
 pub returns : goal.returns
 returns g c = offers_alone at_e rules_e c.args.beat (λ y. tt) c.self.view_is _ _ c.offer_alone.ensures

@@ -7,7 +7,7 @@ use Rattle.tl_sides.proofs.sync_bridge.SyncBridge.take_a.Goals as goal
 pub take_request-requires : goal.take_request-requires
 take_request-requires g c = (
   search (part_small (bridge_layout g.row.C g.row.M g.row.A g.A.Allocator) 6 9223372036854775808),
-  (search (part_small (bridge_layout g.row.C g.row.M g.row.A g.A.Allocator) 0 9223372036854775808), (beat_small 24 g.row.M (omega arith) c.requires.far, c.requires.far)),
+  (search (part_small (bridge_layout g.row.C g.row.M g.row.A g.A.Allocator) 0 9223372036854775808), (beat_small g.row.M c.requires.far, c.requires.far)),
 )
 
 pub returns-clause-taken : goal.returns-clause-taken

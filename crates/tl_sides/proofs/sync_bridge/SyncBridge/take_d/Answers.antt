@@ -7,7 +7,7 @@ use Rattle.tl_sides.proofs.sync_bridge.SyncBridge.take_d.Goals as goal
 pub take_response-requires : goal.take_response-requires
 take_response-requires g c = (
   search (part_small (bridge_layout g.row.C g.row.M g.row.A g.A.Allocator) 5 9223372036854775808),
-  (search (part_small (bridge_layout g.row.C g.row.M g.row.A g.A.Allocator) 3 9223372036854775808), (beat_small 24 g.row.C (omega arith) c.requires.far, c.requires.far)),
+  (search (part_small (bridge_layout g.row.C g.row.M g.row.A g.A.Allocator) 3 9223372036854775808), (beat_small g.row.C c.requires.far, c.requires.far)),
 )
 
 pub returns-clause-taken : goal.returns-clause-taken

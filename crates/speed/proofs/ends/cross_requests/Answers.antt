@@ -1,0 +1,8 @@
+use Rattle.speed.proofs.EndSizes.{sender_fits, taker_fits}
+use Rattle.speed.proofs.ends.cross_requests.Goals as goal
+
+pub measure_pair-requires-room-S-Sender : goal.measure_pair-requires-room-S-Sender
+measure_pair-requires-room-S-Sender g c κs within = sender_fits g.row.W c.requires
+
+pub measure_pair-requires-room-T-Taker : goal.measure_pair-requires-room-T-Taker
+measure_pair-requires-room-T-Taker g c κs within = taker_fits g.row.W c.requires

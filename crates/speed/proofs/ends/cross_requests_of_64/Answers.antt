@@ -1,9 +1,0 @@
-use Rattle.std.proofs.Common.{lit<}
-use Rattle.tl_lanes.proofs.Widths.{width_64}
-use Rattle.speed.proofs.ends.cross_requests_of_64.Goals as goal
-
-pub ring_pair-requires : goal.ring_pair-requires
-ring_pair-requires g c = (lit< tt, (lit< tt, (width_64, width_64)))
-
-pub measure_pair-requires-after_bounds : goal.measure_pair-requires-after_bounds
-measure_pair-requires-after_bounds g c = λ κs _. width_64

@@ -1,0 +1,5 @@
+use Rattle.speed.proofs.EndSizes.{plain_taker_fits}
+use Rattle.speed.proofs.ends.pass_requests.Goals as goal
+
+pub measure_pair-requires-room-T-Taker : goal.measure_pair-requires-room-T-Taker
+measure_pair-requires-room-T-Taker g c κs within = plain_taker_fits g.row.W c.requires
