@@ -2,28 +2,10 @@ use std::alloc::Global;
 use std::io;
 use std::io::{Read, Write};
 use std::test::Fail;
-use tl_answer::{Order, TextFault, run_text};
+use tl_answer::{TextFault, read_all, write_all};
 
-const RUN: Order = Order::Run {
-    ring: 16,
-    turns: 4,
-    sync: false,
-};
-
-const SYNC: Order = Order::Run {
-    ring: 16,
-    turns: 4,
-    sync: true,
-};
-
-const GET: &str =
+const TEXT: &str =
     "tilelink-trace 1 client 8 manager 4\nA 4 0 2 07 0000000000001004 f0 1122334455667788 0\n";
-
-const GET_ANSWER: &str =
-    "tilelink-far 1 client 8 manager 4\nA 4 0 2 07 0000000000001004 f 00000000 0\n= A done 1 1\n= B done 0 0\n= C done 0 0\n= D done 0 0\n= E done 0 0\n";
-
-const GET_CHECK: &str =
-    "tilelink-far 1 client 8 manager 4\n= A done 1 1\n= B done 0 0\n= C done 0 0\n= D done 0 0\n= E done 0 0\n";
 
 /// Gives a text, some bytes a call, and fails at one call.
 #[derive(Drop)]
@@ -79,9 +61,9 @@ impl Write for Slow {
     }
 }
 
-fn get_in(most: usize, bad_call: u64, kind: io::ErrorKind) -> Pieces<'static> {
+fn text_in(most: usize, bad_call: u64, kind: io::ErrorKind) -> Pieces<'static> {
     Pieces {
-        rest: GET.as_bytes(),
+        rest: TEXT.as_bytes(),
         most,
         calls: 0,
         bad_call,
@@ -89,21 +71,20 @@ fn get_in(most: usize, bad_call: u64, kind: io::ErrorKind) -> Pieces<'static> {
     }
 }
 
-/// The trace has 86 bytes, so call 87 finds the end of it. Each call fails in turn.
+/// The text has 86 bytes, so call 87 finds the end of it. Each call fails in turn.
 #[test]
 fn readers(rt: HostRuntime) -> Result<(), Fail> {
     let alloc = rt.alloc();
-    let mut out = Vec::new(alloc);
-    let mut reader = get_in(1, 0, io::ErrorKind::Other);
-    assert!(rt; run_text(&rt, alloc, &mut reader, &mut out, &RUN) == Ok(true));
-    assert!(rt; out.as_slice() == GET_ANSWER.as_bytes());
+    let mut reader = text_in(1, 0, io::ErrorKind::Other);
+    let Ok(text) = read_all(alloc, &mut reader) else {
+        return Err(Fail::from("no text was read"));
+    };
+    assert!(rt; text.as_slice() == TEXT.as_bytes());
     for bad_call in 1..=87 {
         for kind in [io::ErrorKind::Interrupted, io::ErrorKind::Other] {
-            let mut out = Vec::new(alloc);
-            let mut reader = get_in(1, bad_call, kind);
-            let result = run_text(&rt, alloc, &mut reader, &mut out, &RUN);
-            assert!(rt; result == Err(TextFault::Read), "call {bad_call}");
-            assert!(rt; out.is_empty());
+            let mut reader = text_in(1, bad_call, kind);
+            let fault = read_all(alloc, &mut reader).err();
+            assert!(rt; fault == Some(TextFault::Read), "call {bad_call}");
         }
     }
     Ok(())
@@ -121,29 +102,20 @@ fn slow_writer(alloc: Global, most: usize, bad_call: u64, kind: io::ErrorKind) -
     }
 }
 
-const ORDERS: [(Order, &str); 3] = [
-    (RUN, GET_ANSWER),
-    (SYNC, GET_ANSWER),
-    (Order::Check, GET_CHECK),
-];
-
 #[test]
 fn writers(rt: HostRuntime) -> Result<(), Fail> {
     let alloc = rt.alloc();
-    for (order, answer) in ORDERS {
-        for (most, flushes, wanted) in [
-            (1, true, Ok(true)),
-            (0, true, Err(TextFault::Write)),
-            (1000, false, Err(TextFault::Write)),
-        ] {
-            let mut writer = slow_writer(alloc, most, 0, io::ErrorKind::Other);
-            writer.flushes = flushes;
-            let mut reader = GET.as_bytes();
-            let result = run_text(&rt, alloc, &mut reader, &mut writer, &order);
-            assert!(rt; result == wanted, "{most} bytes a call");
-            if result.is_ok() {
-                assert!(rt; writer.taken.as_slice() == answer.as_bytes());
-            }
+    for (most, flushes, wanted) in [
+        (1, true, Ok(())),
+        (0, true, Err(TextFault::Write)),
+        (1000, false, Err(TextFault::Write)),
+    ] {
+        let mut writer = slow_writer(alloc, most, 0, io::ErrorKind::Other);
+        writer.flushes = flushes;
+        let result = write_all(&mut writer, TEXT.as_bytes());
+        assert!(rt; result == wanted, "{most} bytes a call");
+        if result.is_ok() {
+            assert!(rt; writer.taken.as_slice() == TEXT.as_bytes());
         }
     }
     Ok(())
@@ -153,14 +125,11 @@ fn writers(rt: HostRuntime) -> Result<(), Fail> {
 #[test]
 fn writers_that_fail(rt: HostRuntime) -> Result<(), Fail> {
     let alloc = rt.alloc();
-    for (order, answer) in ORDERS {
-        for bad_call in 1..=answer.len() as u64 {
-            for kind in [io::ErrorKind::Interrupted, io::ErrorKind::Other] {
-                let mut writer = slow_writer(alloc, 1, bad_call, kind);
-                let mut reader = GET.as_bytes();
-                let result = run_text(&rt, alloc, &mut reader, &mut writer, &order);
-                assert!(rt; result == Err(TextFault::Write), "call {bad_call}");
-            }
+    for bad_call in 1..=TEXT.len() as u64 {
+        for kind in [io::ErrorKind::Interrupted, io::ErrorKind::Other] {
+            let mut writer = slow_writer(alloc, 1, bad_call, kind);
+            let result = write_all(&mut writer, TEXT.as_bytes());
+            assert!(rt; result == Err(TextFault::Write), "call {bad_call}");
         }
     }
     Ok(())
