@@ -1,6 +1,8 @@
 -- One chunk of a near beat: where it begins and ends, and what the far beats then are.
-use Rattle.std.proofs.Common.{◌≡◌, ◌≤◌, ◌<◌, ◌+◌, ◌-◌, ◌*◌, ◌/◌, ◌%◌, ◌^◌, ◌≢◌, ◌++◌, ℕ, Bool, true, false, cond, min, List, [], ◌∷◌, map, sym, ap, subst, ◌∙◌, arith, rules, ⊎_elim}
-use Rattle.std.specs.List.{range_with_len}
+use Rattle.std.proofs.Common.{◌≡◌, ◌≤◌, ◌<◌, ◌+◌, ◌-◌, ◌*◌, ◌/◌, ◌%◌, ◌^◌, ◌≢◌, ◌++◌, ℕ, Bool, true, false, cond, min, List, [], ◌∷◌, length, take, drop, length-append, map, sym, ap, subst, ◌∙◌, arith, rules, ⊎_elim}
+use Rattle.std.specs.List.{range_with_len, refill}
+use Rattle.std.proofs.Math.ListN.{get_or, set}
+use Rattle.std.proofs.Math.Seq.{set-append_seam, get_or-append_seam, take-append_seam}
 use Rattle.std.proofs.lemmas.Bool.Decides.{eqb_tells, leb_tells}
 use Rattle.std.proofs.lemmas.List.FromFn.{map-range_with_len_more}
 use Rattle.std.proofs.Math.Nat.{mod-lt, add-mul-mod_self_right, div-eq_of_eq-mul_left, mul-le-mul_right, mul-mod_left, mod-eq_of_lt, div_self}
@@ -8,7 +10,7 @@ use Rattle.std.proofs.Math.Arith.{digits_div}
 use Rattle.tl_msg.specs.Rules.{Rules}
 use Rattle.tl_msg.specs.declared.beat.BeatOf.{BeatOf}
 use Rattle.tl_lanes.specs.Lanes.{IsWidth, bytes_per_beat}
-use Rattle.tl_burst.specs.Messages.{Message, per_beat, beat_at}
+use Rattle.tl_burst.specs.Messages.{Message, per_beat, beat_at, some_of, is_bad}
 use Rattle.tl_convert.specs.Partial.{Filled}
 use Rattle.tl_convert.specs.Inner.Pouring.{Brings, Poured, Source, Pours, IsBlank, far_beats}
 use Rattle.tl_burst.proofs.Places.{per-pos}
@@ -66,6 +68,46 @@ chunk-room a c q pos cpos =
     let v : (a % c * q) % (c * q) ≡ a % c * q = mod-eq_of_lt small in
     omega arith
 
+-- the last item of a list was changed, and the list filled with it again
+pub last-changed : {X : Type 0} (xs : List X) (x y : X) (t : ℕ) (items slice : List X) → length xs ≡ t → items ≡ xs ++ x ∷ [] → slice ≡ items →
+    refill (length items) items (set slice t y) ≡ xs ++ y ∷ []
+last-changed xs x y t items slice count is same =
+    let changed : set slice t y ≡ xs ++ y ∷ [] = ap (λ s. set s t y) (same ∙ is) ∙ ap (λ i. set (xs ++ x ∷ []) i y) (sym count) ∙ set-append_seam xs x [] y in
+    let long : length items ≡ length (xs ++ y ∷ []) = ap length is ∙ length-append xs (x ∷ []) ∙ sym (length-append xs (y ∷ [])) in
+    ap (λ ws. refill (length items) items ws) changed ∙ ap (λ n. take n ((xs ++ y ∷ []) ++ drop (length (xs ++ y ∷ [])) items)) long ∙
+    take-append_seam (xs ++ y ∷ []) (drop (length (xs ++ y ∷ [])) items)
+
+-- and it was this one before
+pub last-was : {X : Type 0} (xs : List X) (x z : X) (t : ℕ) (items slice : List X) → length xs ≡ t → items ≡ xs ++ x ∷ [] → slice ≡ items → get_or slice t z ≡ x
+last-was xs x z t items slice count is same =
+    ap (λ s. get_or s t z) (same ∙ is) ∙ ap (λ i. get_or (xs ++ x ∷ []) i z) (sym count) ∙ get_or-append_seam xs x [] z
+
+-- a far beat that has no byte of a message, whichever of its beats it may be
+abbrev pub IsEmpty : {H : Type 0} (r : Rules H) (m : Message H) (v : ℕ) → BeatOf H v → Type 0
+IsEmpty r m v b = (j : ℕ) → Filled r m v j (j * per_beat r m.head v) b
+
+pub blank-empty : {H : Type 0} (r : Rules H) (m : Message H) (v : ℕ) → IsWidth v → (head : H) → head ≡ m.head → (b : BeatOf H v) → IsBlank head b → IsEmpty r m v b
+blank-empty r m v vw head e b blank j = Filled-none r m v vw j b (blank.head_is ∙ e) blank.lanes blank.size blank.mask blank.corrupt
+
+-- a far beat that none is begun of, where a beat begins, has no byte
+pub begun-empty : {H : Type 0} (r : Rules H) (m : Message H) (v first : ℕ) (b : BeatOf H v) → first % per_beat r m.head v ≡ 0 →
+    Filled r m v (first / per_beat r m.head v) first b → IsEmpty r m v b
+begun-empty {H} r m v first b begins filled j =
+    let s : first / per_beat r m.head v * per_beat r m.head v + first % per_beat r m.head v ≡ first = parts first (per_beat r m.head v) in
+    let none : first - first / per_beat r m.head v * per_beat r m.head v ≡ 0 = omega arith in
+    let same : j * per_beat r m.head v - j * per_beat r m.head v ≡ 0 = omega arith in
+    record {
+      head = filled.head;
+      size = filled.size;
+      bytes = λ i c lo hi e. absurd (omega arith);
+      blank = λ l never. filled.blank l (λ i lo hi. absurd (omega arith));
+      bits = λ i c lo hi e. absurd (omega arith);
+      clear = λ l lt never. filled.clear l lt (λ i lo hi. absurd (omega arith));
+      small = filled.small;
+      corrupt = filled.corrupt ∙ ap (λ n. some_of (is_bad r m) (first / per_beat r m.head v * per_beat r m.head v) n) none ∙
+          ap (λ n. some_of (is_bad r m) (j * per_beat r m.head v) n) (sym same);
+    }
+
 module _ {H : Type 0} {W : ℕ} (r : Rules H) (m : Message H) (v home first done q at : ℕ) (ww : IsWidth W) (vw : IsWidth v)
     (beat : BeatOf H W) (old new : BeatOf H v) (out : List (BeatOf H v))
     (source : Source r m home first beat) (begun : first ≤ done) (within : done + q ≤ first + per_beat r m.head W) (pos : 0 < q)
@@ -93,9 +135,9 @@ module _ {H : Type 0} {W : ℕ} (r : Rules H) (m : Message H) (v home first done
       }
 
   -- the far beat is whole
-  pub pour-ends : (done + q) % per_beat r m.head v ≡ 0 → (fresh : BeatOf H v) → IsBlank beat.head fresh → (out' : List (BeatOf H v)) →
+  pub pour-ends : (done + q) % per_beat r m.head v ≡ 0 → (fresh : BeatOf H v) → IsEmpty r m v fresh → (out' : List (BeatOf H v)) →
       out' ≡ out ++ new ∷ [] → Pours r m v first (done + q) fresh out'
-  pour-ends z fresh blank out' eo =
+  pour-ends z fresh empty out' eo =
       let p : ℕ = per_beat r m.head v in
       let pp : 0 < per_beat r m.head v = per-pos r m v vw in
       let j : ℕ = done / per_beat r m.head v in
@@ -110,7 +152,7 @@ module _ {H : Type 0} {W : ℕ} (r : Rules H) (m : Message H) (v home first done
       let whole : new ≡ beat_at r m v (done / per_beat r m.head v) =
       Filled-whole r m v vw (done / per_beat r m.head v) new source.carries source.cells (omega arith) (subst P (sym e) filled-more) in
       let none_in : Filled r m v (done / per_beat r m.head v + 1) ((done / per_beat r m.head v + 1) * per_beat r m.head v) fresh =
-      Filled-none r m v vw (done / per_beat r m.head v + 1) fresh (blank.head_is ∙ source.brings.head) blank.lanes blank.size blank.mask blank.corrupt in
+      empty (done / per_beat r m.head v + 1) in
       let Q : ℕ → Type 0 = λ d. Filled r m v (done / per_beat r m.head v + 1) d fresh in
       let R : ℕ → Type 0 = λ k. Filled r m v k (done + q) fresh in
       record {
@@ -119,20 +161,6 @@ module _ {H : Type 0} {W : ℕ} (r : Rules H) (m : Message H) (v home first done
             sym (map-range_with_len_more (beat_at r m v) (first / per_beat r m.head v) (done / per_beat r m.head v - first / per_beat r m.head v) (done / per_beat r m.head v) up) ∙
             ap (λ k. map (beat_at r m v) (range_with_len (first / per_beat r m.head v) k)) n;
       }
-
--- no far beats, where the first byte begins one
-pub pour-none : {H : Type 0} (r : Rules H) (m : Message H) (v first : ℕ) → IsWidth v → (none : BeatOf H v) → IsBlank m.head none →
-    first % per_beat r m.head v ≡ 0 → Pours r m v first first none []
-pour-none r m v first vw none blank begins =
-    let j : ℕ = first / per_beat r m.head v in
-    let s : first / per_beat r m.head v * per_beat r m.head v + first % per_beat r m.head v ≡ first = parts first (per_beat r m.head v) in
-    let e : first / per_beat r m.head v * per_beat r m.head v ≡ first = omega arith in
-    let z : first / per_beat r m.head v - first / per_beat r m.head v ≡ 0 = omega arith in
-    let P : ℕ → Type 0 = λ d. Filled r m v (first / per_beat r m.head v) d none in
-    record {
-      filled = subst P e (Filled-none r m v vw (first / per_beat r m.head v) none blank.head_is blank.lanes blank.size blank.mask blank.corrupt);
-      beats = ap (λ k. map (beat_at r m v) (range_with_len (first / per_beat r m.head v) k)) (sym z);
-    }
 
 -- a run of whole far beats ends with one
 pub whole-ends : (first t q : ℕ) → 0 < q → first % q ≡ 0 → (first + t * q + q) % q ≡ 0

@@ -43,40 +43,13 @@ pub(crate) fn blank<K: Channel, const V: usize>(head: K::Head) -> Beat<K, V>
     }
 }
 
-// A far beat with `count` bytes of a near beat, the first of which has address `at`, and with no
-// others. It is made field by field, so that it does not go through memory before it is pushed.
-fn beat_of_bytes<K: Channel, const W: usize, const V: usize>(
-    beat: &Beat<K, W>,
-    at: u64,
-    count: usize,
-) -> Beat<K, V>
-    requires near { IsWidth W }
-    requires far { IsWidth V }
-    requires near_room { count ≤ W }
-    requires far_room { count ≤ V }
-    ensures { (none : BeatOf K.Head V) → IsBlank beat.now.head none →
-        Poured K.rules.masked beat.now none result at count }
-{
-    let mut lanes = [0; V];
-    move_lanes::<W, V>(&beat.lanes, &mut lanes, at, count);
-    let mut mask = 0;
-    if K::MASKED {
-        mask = move_mask(beat.mask, W, 0, V, at, count);
-    }
-    Beat::<K, V> {
-        head: beat.head,
-        mask,
-        lanes,
-        corrupt: beat.corrupt,
-    }
-}
-
 // Puts the bytes of a near beat with data into far beats, each of which is then whole: a far beat
 // has no more bytes than a near one. `first` is the number of the beat's first byte in its message.
-// No far beat is begun, so `partial` becomes blank.
+// No far beat is begun, so `partial` is blank, and each far beat begins as a copy of it, which is
+// filled where it stands: a beat that is put together in pieces is slow to copy at once.
 fn pour_whole<K: Channel, const W: usize, const V: usize>(
     beat: &Beat<K, W>,
-    partial: &mut Beat<K, V>,
+    partial: &Beat<K, V>,
     home: u64,
     first: usize,
     out: &mut ArrayVec<Beat<K, V>, WIDEST>,
@@ -89,16 +62,17 @@ fn pour_whole<K: Channel, const W: usize, const V: usize>(
     requires room { first < 2 ^ 40 }
     requires empty { out.old.items ≡ [] }
     ensures { (m : Message K.Head) → Source K.rules m home first beat.now →
-        Pours K.rules m V first (first + per_beat K.rules m.head W) partial.new out.new.items }
+        Pours K.rules m V first first partial.now [] →
+        Pours K.rules m V first (first + per_beat K.rules m.head W) partial.now out.new.items }
 {
     let size = K::size(&beat.head);
     let wide = beat_bytes(size, V);
     for t in 0..beat_bytes(size, W) / wide {
         let done = first + t * wide;
-        let far = beat_of_bytes::<K, W, V>(beat, home.wrapping_add(done as u64), wide);
-        out.push(far);
+        out.push(*partial);
+        let far = &mut out.as_mut_slice()[t];
+        add_bytes::<K, W, V>(beat, far, home.wrapping_add(done as u64), wide);
     }
-    *partial = blank::<K, V>(beat.head);
 }
 
 // Puts the bytes of a near beat with data beside those of `partial`, the far beat that earlier
@@ -124,11 +98,15 @@ fn pour_part<K: Channel, const W: usize, const V: usize>(
 {
     let size = K::size(&beat.head);
     let near = beat_bytes(size, W);
-    add_bytes::<K, W, V>(beat, partial, home.wrapping_add(first as u64), near);
-    if (first + near) % beat_bytes(size, V) == 0 {
-        out.push(*partial);
-        *partial = blank::<K, V>(beat.head);
+    let at = home.wrapping_add(first as u64);
+    if (first + near) % beat_bytes(size, V) != 0 {
+        add_bytes::<K, W, V>(beat, partial, at, near);
+        return;
     }
+    out.push(*partial);
+    let far = &mut out.as_mut_slice()[0];
+    add_bytes::<K, W, V>(beat, far, at, near);
+    *partial = blank::<K, V>(beat.head);
 }
 
 // Puts the bytes of a near beat with data into far beats. `first` is the number of the beat's first

@@ -1,5 +1,5 @@
 //! Writing lines, reports and traces.
-ghost use Rattle.std.specs.Prelude.{◌≡◌, ◌≤◌, ◌<◌, ◌+◌, ◌*◌, ◌/◌, ◌++◌, ◌∷◌, [], if◌then◌else◌, take, length, decimal, OnOk, OnErr, IfOk};
+ghost use Rattle.std.specs.Prelude.{◌≡◌, ◌≤◌, ◌<◌, ◌+◌, ◌*◌, ◌/◌, ◌++◌, ◌∷◌, [], if◌then◌else◌, ℕ, take, length, decimal, OnOk, OnErr, IfOk};
 ghost use Rattle.tl_lanes.specs.declared.limits.TheConstants.{WIDEST};
 ghost use Rattle.arrayvec.specs.ArrayVec.{array_vec_len};
 ghost use Rattle.tl_lanes.specs.Lanes.{IsWidth};
@@ -7,6 +7,8 @@ ghost use Rattle.tl_trace.specs.Fields.{bit, number_of_lanes};
 ghost use Rattle.tl_trace.specs.Lines.{hex, line_text, beats_text};
 ghost use Rattle.tl_trace.specs.Texts.{newline, text_of_line, trace_text};
 ghost use Rattle.tl_trace.specs.Reports.{verdict_text, report_line};
+ghost use Rattle.tl_trace.specs.Inner.Batches.{AreLines};
+ghost use Rattle.tl_trace.specs.declared.write.TheConstants.{BATCH};
 ghost use Rattle.tl_trace.specs.declared.places.TheConstants.{LONGEST_HEAD, LONGEST_MASK, LONGEST_LINE};
 
 use crate::head_text::HeadText;
@@ -107,6 +109,49 @@ pub fn line_of<K: HeadText, const W: usize>(
     line_on::<K, W>(beat, W, version)
 }
 
+/// How many lines are made before they are appended: a line is made in small pieces, and reading it
+/// back at once, in large ones, would have to wait for them.
+const BATCH: usize = 8;
+
+/// Makes the lines of some beats, each with its LF, and notes where each ends.
+#[inline(always)]
+fn fill_lines<K: HeadText, const W: usize>(
+    lines: &mut [Room; BATCH],
+    ends: &mut [usize; BATCH],
+    beats: &[Beat<K, W>],
+    version: u8,
+)
+    requires width { IsWidth W }
+    requires few { length beats.now ≤ BATCH }
+    ensures { AreLines (K.form version) W beats.now lines.new ends.new (length beats.now) }
+{
+    for i in 0..beats.len() {
+        ends[i] = fill_line::<K, W>(&mut lines[i], &beats[i], W, version);
+    }
+}
+
+/// Appends the lines of some beats. Where a growth is refused, some of them may be there.
+#[inline(always)]
+fn write_batch<K: HeadText, const W: usize>(
+    out: &mut Vec<u8>,
+    lines: &mut [Room; BATCH],
+    ends: &mut [usize; BATCH],
+    beats: &[Beat<K, W>],
+    version: u8,
+) -> Result<(), OutOfMemory>
+    requires width { IsWidth W }
+    requires few { length beats.now ≤ BATCH }
+    ensures ok { OnOk result (out.new.items ≡ out.old.items ++ beats_text (K.form version) W beats.now) }
+    ensures front { (n : ℕ) → n ≤ length out.old.items → take n out.new.items ≡ take n out.old.items }
+{
+    fill_lines::<K, W>(lines, ends, beats, version);
+    for i in 0..beats.len() {
+        let line = &lines[i][..ends[i]];
+        out.extend_from_slice(line)?;
+    }
+    Ok(())
+}
+
 /// The same as `write_far`, where the version may be known when the program is compiled.
 #[inline(always)]
 fn write_lines<K: HeadText, const W: usize>(
@@ -119,17 +164,20 @@ fn write_lines<K: HeadText, const W: usize>(
     ensures err { OnErr result (out.new.items ≡ out.old.items) }
 {
     let start = out.len();
-    let mut line = [0; LONGEST_LINE];
+    let mut lines = [[0; LONGEST_LINE]; BATCH];
+    let mut ends = [0; BATCH];
     if let Some(first) = beats.first() {
-        let end = fill_line::<K, W>(&mut line, first, W, version);
+        let end = fill_line::<K, W>(&mut lines[0], first, W, version);
         out.reserve(beats.len().saturating_mul(end))?;
     }
-    for beat in beats {
-        let end = fill_line::<K, W>(&mut line, beat, W, version);
-        if out.extend_from_slice(&line[..end]).is_err() {
+    let mut at = 0;
+    while at < beats.len() {
+        let next = beats.len().min(at + BATCH);
+        if write_batch::<K, W>(out, &mut lines, &mut ends, &beats[at..next], version).is_err() {
             out.truncate(start);
             return Err(OutOfMemory);
         }
+        at = next;
     }
     Ok(())
 }

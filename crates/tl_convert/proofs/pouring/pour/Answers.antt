@@ -1,4 +1,4 @@
 use Rattle.tl_convert.proofs.pouring.pour.Goals as goal
 
 pub returns-then-beat_bytes : goal.returns-then-beat_bytes
-returns-then-beat_bytes g c = λ m s p. c.pour_whole.ensures m s
+returns-then-beat_bytes g c = λ m s p. c.pour_whole.ensures m s p
