@@ -7,8 +7,8 @@
 //! - `speed measure` reads a trace of A or E lines on standard input. It prints what it measured: on each line a name and a number,
 //!   a time in nanoseconds, a peak of memory in KiB or a count.
 //! - `speed sync RING` reads a trace that `make AD` made, runs it in one thread over rings of so many beats, and writes the answer
-//!   into memory; `speed run RING TURNS` does so in two threads, which meet after so many turns each; `speed check` is `sync 1`, and
-//!   leaves the far beats out of the answer. What they print is like that of `measure`, and each times bare joins of two threads, too.
+//!   into memory; `speed run RING TURNS` does so in two threads, which meet after so many turns each; `speed check` finds
+//!   the verdicts alone, by `verdicts_of`. What they print is like that of `measure`, and each times bare joins of two threads, too.
 //! - `speed ends CHANNEL WIDTH RING BEATS` sends so many beats of A or E through the two ends of a crossing at equal widths, and
 //!   through plain `rtrb`, in one thread and in two. What it prints is like that of `measure`.
 #![tactic(auto)]

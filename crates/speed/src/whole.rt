@@ -12,8 +12,9 @@ use std::io::Read;
 use std::rt::Clock;
 use std::thread::{Threads, join_mut};
 use std::time::Instant;
-use tl_answer::answer_of;
+use tl_answer::{answer_of, check_of};
 use tl_bridge::{NoGate, Outcome, RunFault, run_sync, run_threads};
+use tl_check::verdicts_of;
 use tl_msg::Verdict;
 use tl_trace::{Script, TraceFault, header_of_text, read_script};
 
@@ -112,6 +113,29 @@ fn print_counts(rt: &impl Print, verdicts: &[Verdict; 5], rounds: u64) -> Result
     Ok(())
 }
 
+/// Checks a script: no far beat is made. Its rounds are none.
+fn check_pair<const C: usize, const M: usize>(
+    rt: &(impl Clock + Print + AllocGlobal),
+    script: Script<C, M>,
+    version: u8,
+) -> Result<()>
+    requires client { IsWidth C }
+    requires manager { IsWidth M }
+{
+    if !is_short(&script) {
+        bail!("the trace has too many beats");
+    }
+    let start = Instant::now(rt)?;
+    let verdicts = verdicts_of::<C, M>(rt.alloc(), &script)?;
+    print_time(rt, "run", start)?;
+    drop(script);
+    let start = Instant::now(rt)?;
+    let answer = check_of(rt.alloc(), &verdicts, version, C, M)?;
+    print_time(rt, "write", start)?;
+    println!(rt; "far_bytes {}", answer.text.len())?;
+    print_counts(rt, &verdicts, 0)
+}
+
 fn run_pair<const C: usize, const M: usize>(
     rt: &(impl Clock + Print + Threads + AllocGlobal),
     text: Vec<u8>,
@@ -125,9 +149,12 @@ fn run_pair<const C: usize, const M: usize>(
     let start = Instant::now(rt)?;
     let script = script_from::<C, M>(rt.alloc(), text, version)?;
     print_time(rt, "read", start)?;
+    if way.check {
+        return check_pair::<C, M>(rt, script, version);
+    }
     let outcome = outcome_from::<C, M>(rt, script, way)?;
     let start = Instant::now(rt)?;
-    let answer = answer_of::<C, M>(rt.alloc(), &outcome, way.check, version)?;
+    let answer = answer_of::<C, M>(rt.alloc(), &outcome, version)?;
     print_time(rt, "write", start)?;
     println!(rt; "far_bytes {}", answer.text.len())?;
     print_counts(rt, &outcome.verdicts, outcome.rounds)

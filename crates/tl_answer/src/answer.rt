@@ -1,9 +1,9 @@
 //! The answer to a text, without a reader and a writer.
-ghost use Rattle.std.specs.Prelude.{◌≡◌, ◌≢◌, ◌≤◌, ◌++◌, [], cond, length, Some, IfOk, OnOk, IfErr};
+ghost use Rattle.std.specs.Prelude.{◌≡◌, ◌≢◌, ◌≤◌, ◌++◌, [], length, Some, IfOk, OnOk, IfErr};
 ghost use Rattle.std.specs.List.{list_all};
 ghost use Rattle.tl_lanes.specs.Lanes.{IsWidth};
-ghost use Rattle.tl_settle.specs.Outcomes.{Verdicts};
-ghost use Rattle.tl_bridge.specs.Scripts.{HasShortLists, SettlesTo};
+ghost use Rattle.tl_settle.specs.Outcomes.{Verdicts, verdicts};
+ghost use Rattle.tl_bridge.specs.Scripts.{HasShortLists, SettlesTo, near_beats};
 ghost use Rattle.tl_bridge.specs.declared.outcome.RunFault.TheVariants.{RingSize, Stalled};
 ghost use Rattle.tl_order.specs.Orders.{IsRunnable, is_check};
 ghost use Rattle.tl_trace.specs.Faults.{HasHeader};
@@ -16,6 +16,7 @@ use crate::fault::TextFault;
 use std::alloc::{AllocError, Global};
 use std::thread::Threads;
 use tl_bridge::{NoGate, Outcome, RunFault, run_sync, run_threads};
+use tl_check::verdicts_of;
 use tl_msg::{ChA, ChB, ChC, ChD, ChE, Verdict};
 use tl_order::Order;
 use tl_trace::{
@@ -38,21 +39,17 @@ fn header(alloc: Global, version: u8, client: usize, manager: usize) -> Result<V
     Ok(line.into_bytes())
 }
 
-/// Appends the lines of the far beats, unless the order is a check.
+/// Appends the lines of the far beats.
 fn write_arrivals<const C: usize, const M: usize>(
     out: &mut Vec<u8>,
     outcome: &Outcome<C, M>,
-    check: bool,
     version: u8,
 ) -> Result<(), OutOfMemory>
     requires client { IsWidth C }
     requires manager { IsWidth M }
     ensures { OnOk result (out.new.items
-        ≡ out.old.items ++ cond check [] (far_lines version (taken outcome.now))) }
+        ≡ out.old.items ++ far_lines version (taken outcome.now)) }
 {
-    if check {
-        return Ok(());
-    }
     write_far::<ChA, M>(out, &outcome.a, version)?;
     write_far::<ChB, C>(out, &outcome.b, version)?;
     write_far::<ChC, M>(out, &outcome.c, version)?;
@@ -135,68 +132,104 @@ fn outcome_of<T: Threads, const C: usize, const M: usize>(
     }
 }
 
+/// The answer whose lines before the five reports are these.
+fn reported(text: Vec<u8>, verdicts: &[Verdict; 5]) -> Result<Answer, TextFault>
+    ensures text { (v : Verdicts) → verdicts.now ≡ in_order v → IfOk result (λ made.
+        made.text.items ≡ text.items ++ report v) }
+    ensures done { IfOk result (λ made. made.all_done ≡ list_all is_done verdicts.now) }
+    ensures err { IfErr result (λ fault. fault ≡ NoMemory) }
+{
+    let mut text = text;
+    write_reports(&mut text, verdicts)?;
+    Ok(Answer {
+        text,
+        all_done: are_done(verdicts),
+    })
+}
+
+/// The answer of a check whose channels end with these verdicts, from A to E: the version of the
+/// trace and the widths, and the five report lines.
+pub fn check_of(
+    alloc: Global,
+    verdicts: &[Verdict; 5],
+    version: u8,
+    client: usize,
+    manager: usize,
+) -> Result<Answer, TextFault>
+    ensures text { (v : Verdicts) → verdicts.now ≡ in_order v → IfOk result (λ made.
+        made.text.items ≡ far_header version client manager ++ report v) }
+    ensures done { IfOk result (λ made. made.all_done ≡ list_all is_done verdicts.now) }
+    ensures err { IfErr result (λ fault. fault ≡ NoMemory) }
+{
+    let line = header(alloc, version, client, manager)?;
+    reported(line, verdicts)
+}
+
+/// The answer of a check to a script: no far beat is made for it.
+pub(crate) fn check_script<const C: usize, const M: usize>(
+    alloc: Global,
+    script: &Script<C, M>,
+    version: u8,
+) -> Result<Answer, TextFault>
+    requires client { IsWidth C }
+    requires manager { IsWidth M }
+    requires short { HasShortLists script.now }
+    ensures text { IfOk result (λ made. made.text.items
+        ≡ far_header version C M ++ report (verdicts (near_beats script.now))) }
+    ensures done { IfOk result (λ made. made.all_done
+        ≡ list_all is_done (in_order (verdicts (near_beats script.now)))) }
+    ensures err { IfErr result (λ fault. fault ≡ NoMemory) }
+{
+    let Ok(verdicts) = verdicts_of::<C, M>(alloc, script) else {
+        return Err(TextFault::OutOfMemory);
+    };
+    check_of(alloc, &verdicts, version, C, M)
+}
+
 /// The same as [`answer_of`], in the memory of a text that is empty now.
 fn answer_in<const C: usize, const M: usize>(
     room: Vec<u8>,
     alloc: Global,
     outcome: &Outcome<C, M>,
-    check: bool,
     version: u8,
 ) -> Result<Answer, TextFault>
     requires client { IsWidth C }
     requires manager { IsWidth M }
     requires empty { room.items ≡ [] }
     ensures text { (v : Verdicts) → outcome.now.verdicts ≡ in_order v → IfOk result (λ made.
-        made.text.items ≡ far_header version C M
-        ++ cond check [] (far_lines version (taken outcome.now)) ++ report v) }
+        made.text.items
+        ≡ far_header version C M ++ far_lines version (taken outcome.now) ++ report v) }
     ensures done { IfOk result (λ made. made.all_done ≡ list_all is_done outcome.now.verdicts) }
     ensures err { IfErr result (λ fault. fault ≡ NoMemory) }
 {
     let mut text = room;
     let line = header(alloc, version, C, M)?;
     text.extend_from_slice(&line)?;
-    write_arrivals(&mut text, outcome, check, version)?;
-    write_reports(&mut text, &outcome.verdicts)?;
-    Ok(Answer {
-        text,
-        all_done: are_done(&outcome.verdicts),
-    })
+    write_arrivals(&mut text, outcome, version)?;
+    reported(text, &outcome.verdicts)
 }
 
 /// The answer that the outcome of a run makes: the version of the trace and the widths, the far
-/// beats unless `check` leaves them out, and the five report lines.
+/// beats, and the five report lines.
 pub fn answer_of<const C: usize, const M: usize>(
     alloc: Global,
     outcome: &Outcome<C, M>,
-    check: bool,
     version: u8,
 ) -> Result<Answer, TextFault>
     requires client { IsWidth C }
     requires manager { IsWidth M }
     ensures text { (v : Verdicts) → outcome.now.verdicts ≡ in_order v → IfOk result (λ made.
-        made.text.items ≡ far_header version C M
-        ++ cond check [] (far_lines version (taken outcome.now)) ++ report v) }
+        made.text.items
+        ≡ far_header version C M ++ far_lines version (taken outcome.now) ++ report v) }
     ensures done { IfOk result (λ made. made.all_done ≡ list_all is_done outcome.now.verdicts) }
     ensures err { IfErr result (λ fault. fault ≡ NoMemory) }
 {
-    answer_in(Vec::new(alloc), alloc, outcome, check, version)
+    answer_in(Vec::new(alloc), alloc, outcome, version)
 }
 
-/// The memory of a text that was read, for its answer. A check's answer is short, so there the
-/// memory is given back before the run.
-fn room_for_answer(alloc: Global, text: Vec<u8>, check: bool) -> Vec<u8>
-    ensures { result.items ≡ [] }
-{
-    if !check {
-        let mut room = text;
-        room.clear();
-        return room;
-    }
-    Vec::new(alloc)
-}
-
-/// The answer to a text whose header names this version and these widths. The text is let go before
-/// the run, and its memory is the answer's; the script is let go after the run.
+/// The answer to a text whose header names this version and these widths. The text is let go once it
+/// is read, and its memory is the answer's, but for a check, whose answer is short; the script is let
+/// go after the run.
 fn with_widths<T: Threads, const C: usize, const M: usize>(
     rt: &T,
     alloc: Global,
@@ -217,14 +250,18 @@ fn with_widths<T: Threads, const C: usize, const M: usize>(
         Ok(script) => script,
         Err(fault) => return Err(TextFault::from(fault)),
     };
-    let check = order.is_check();
-    let room = room_for_answer(alloc, text, check);
+    let mut room = text;
+    room.clear();
+    if order.is_check() {
+        drop(room);
+        return check_script::<C, M>(alloc, &script, version);
+    }
     let outcome = match outcome_of::<T, C, M>(rt, alloc, &script, order) {
         Ok(outcome) => outcome,
         Err(fault) => return Err(fault),
     };
     drop(script);
-    answer_in(room, alloc, &outcome, check, version)
+    answer_in(room, alloc, &outcome, version)
 }
 
 /// The same, for a client of `C` bytes: the manager's width is one of eight.

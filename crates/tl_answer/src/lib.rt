@@ -10,7 +10,7 @@ mod sync_answer;
 mod text;
 mod widths;
 
-pub use answer::{Answer, answer_of, answer_text};
+pub use answer::{Answer, answer_of, answer_text, check_of};
 pub use fault::TextFault;
 pub use status::{FaultLine, exit_status};
 pub use sync_answer::{answer_sync, outcome_of};

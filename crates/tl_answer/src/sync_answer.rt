@@ -6,7 +6,7 @@ ghost use Rattle.tl_trace.specs.Faults.{HasHeader};
 ghost use Rattle.tl_answer.specs.Texts.{IsAnswer, IsOfText, most_bytes};
 ghost use Rattle.tl_answer.specs.declared.fault.TextFault.TheVariants.{OutOfMemory as NoMemory};
 
-use crate::answer::{Answer, answer_of};
+use crate::answer::{Answer, answer_of, check_script};
 use crate::at_width;
 use crate::fault::TextFault;
 use std::alloc::Global;
@@ -54,12 +54,15 @@ fn with_widths<const C: usize, const M: usize>(
         Ok(script) => script,
         Err(fault) => return Err(TextFault::from(fault)),
     };
+    if check {
+        return check_script::<C, M>(alloc, &script, version);
+    }
     let outcome = match outcome_of::<C, M>(alloc, &script) {
         Ok(outcome) => outcome,
         Err(fault) => return Err(fault),
     };
     drop(script);
-    answer_of(alloc, &outcome, check, version)
+    answer_of(alloc, &outcome, version)
 }
 
 /// The same, for a client of `C` bytes: the manager's width is one of eight.

@@ -1,5 +1,5 @@
 -- What an offer of the next beat does to one channel, whose other end is another thread's.
-use Rattle.std.proofs.Common.{◌≡◌, ◌+◌, ◌<◌, ◌≤◌, ℕ, None, Some, Option, List, [], ◌∷◌, ◌++◌, length, map, take, get_or, refl, sym, ap, subst, ◌∙◌, arith, append_assoc, append-nil}
+use Rattle.std.proofs.Common.{◌↔◌, zero, suc, ◌≡◌, ◌+◌, ◌<◌, ◌≤◌, ℕ, None, Some, Option, List, [], ◌∷◌, ◌++◌, length, map, take, get_or, refl, sym, ap, subst, ◌∙◌, arith, append_assoc, append-nil}
 use Rattle.std.specs.Prelude.{slice_get}
 use Rattle.std.proofs.lemmas.Option.{slice_get_within, get_or_from_slice_get}
 use Rattle.tl_msg.specs.Rules.{Rules}
@@ -7,11 +7,14 @@ use Rattle.tl_msg.specs.declared.head.HeadA.{HeadA}
 use Rattle.tl_msg.specs.declared.head.HeadD.{HeadD}
 use Rattle.tl_msg.specs.declared.beat.BeatOf.{BeatOf}
 use Rattle.tl_msg.specs.declared.fault.SideFault.{SideFault}
-use Rattle.tl_burst.specs.Handing.{fault_after, rest_of}
+use Rattle.tl_burst.specs.Begun.{heads, left}
+use Rattle.tl_burst.specs.Handing.{Handed, fault_after, rest_of, with_home, homes_with}
+use Rattle.tl_burst.specs.Messages.{Message}
+use Rattle.tl_convert.proofs.Begins.{heads_open, heads_inside_one}
+use Rattle.std.proofs.lemmas.List.{map-append}
 use Rattle.tl_burst.proofs.BegunMessages.{left-zero}
 use Rattle.tl_convert.proofs.CountLoop.{one-more, accepted-next}
 use Rattle.tl_ring.specs.Crossing.{World, offered, shut}
-use Rattle.tl_ring.specs.Laws.{Crosses}
 use Rattle.tl_settle.specs.Histories.{Event, Ask, Answer, asked, answered}
 use Rattle.tl_settle.proofs.Marks.{asked_ask, answered_answer}
 use Rattle.tl_bridge.specs.Inner.Running.{Does, Stops, IsSent, IsHomed, steps}
@@ -19,7 +22,7 @@ use Rattle.tl_bridge.specs.declared.channel_state.Offered.{Offered}
 use Rattle.tl_bridge.specs.declared.channel_state.Offered.TheVariants.{Accepted, NotReady, Stopped}
 use Rattle.tl_bridge.specs.declared.channel_state.Stop.TheVariants.{Done, Cut, Refused}
 use Rattle.tl_convert.proofs.Comparisons.{none_past}
-use Rattle.tl_bridge.proofs.ChannelRound.{none-more, homes-say}
+use Rattle.tl_bridge.proofs.Counting.{none-more}
 
 -- the beats that a side took are the last of its history
 pub answered-all : {w : ℕ} (es : List (Event w)) (bs : List (BeatOf HeadD w)) → answered (es ++ map Answer bs) ≡ answered es ++ bs
@@ -33,6 +36,21 @@ asked-all es [] = ap asked (append-nil es) ∙ sym (append-nil (asked es))
 asked-all es (b ∷ bs) =
     ap asked (sym (append_assoc es (Ask b ∷ []) (map Ask bs))) ∙ asked-all (es ++ Ask b ∷ []) bs ∙ ap (λ q. q ++ bs) (asked_ask es b) ∙
     append_assoc (asked es) (b ∷ []) bs
+
+-- the homes of one beat more
+module _ {H : Type 0} (r : Rules H) {w : ℕ} (xs : List (BeatOf H w)) (homes : List ℕ) (is : homes ≡ map (λ h. r.lane_address h 0) (heads r w xs)) (b : BeatOf H w) where
+  -- the beat opens a message, or it goes on with one
+  home-by : (rest : List (BeatOf H w)) (l : ℕ) → left r w xs ≡ l → (l ≡ 0) ↔ (rest ≡ []) →
+      with_home r (r.lane_address b.head 0) rest homes ≡ map (λ h. r.lane_address h 0) (heads r w (xs ++ b ∷ []))
+  home-by [] l e f =
+      ap (λ q. q ++ r.lane_address b.head 0 ∷ []) is ∙ sym (map-append (λ h. r.lane_address h 0) (heads r w xs) (b.head ∷ [])) ∙
+      ap (λ q. map (λ h. r.lane_address h 0) q) (sym (heads_open r w 0 xs b (e ∙ f.1 refl)))
+  home-by (c ∷ rest) zero e f = let bad : (c ∷ rest) ≡ [] = f.0 refl in cc
+  home-by (c ∷ rest) (suc l) e f = is ∙ ap (λ q. map (λ h. r.lane_address h 0) q) (sym (heads_inside_one r w 0 l xs b e))
+
+  -- the homes are those that the heads say
+  homes-say : (left r w xs ≡ 0) ↔ (rest_of r w xs ≡ []) → homes_with r xs homes b 0 ≡ map (λ h. r.lane_address h 0) (heads r w (xs ++ b ∷ []))
+  homes-say f = home-by (rest_of r w xs) (left r w xs) refl f
 
 module _ {H : Type 0} (r : Rules H) {w v : ℕ} (bs : List (BeatOf H w)) (n : ℕ) (answer : BeatOf H w → Option SideFault) (home : BeatOf H w → ℕ) where
   module _ (x : World H w v) (s : IsSent r bs n x.taken x) where
@@ -87,15 +105,15 @@ module _ {H : Type 0} (r : Rules H) {w v : ℕ} (bs : List (BeatOf H w)) (n : �
       subst (λ z. IsSent r bs (n + 0) z.taken z) (sym is) (still x s)
 
   -- the beats say their homes themselves, where nobody else does
-  pub homed-offer : (x : World H w v) (o : Offered) (accepted : List (BeatOf H w)) (y : World H w v) → Crosses r x → IsHomed r x →
-      ((b : BeatOf H w) → home b ≡ 0) → Does r bs n answer home x o accepted y → IsHomed r y
-  homed-offer x Accepted accepted y crosses homed none (b, next, lawful, one, is) =
+  pub homed-offer : (x : World H w v) (o : Offered) (accepted : List (BeatOf H w)) (y : World H w v) {ms : List (Message H)} {rest : List (BeatOf H w)} → Handed r w x.accepted x.homes ms rest →
+      IsHomed r x → ((b : BeatOf H w) → home b ≡ 0) → Does r bs n answer home x o accepted y → IsHomed r y
+  homed-offer x Accepted accepted y handed homed none (b, next, lawful, one, is) =
       subst (λ z. IsHomed r z) (sym is)
-      (subst (λ k. IsHomed r (offered r b k x)) (sym (none b)) (homes-say r x.accepted x.homes homed b (left-zero r w crosses.handed)))
-  homed-offer x NotReady accepted y crosses homed none (b, next, full, nothing, is) = subst (λ z. IsHomed r z) (sym is) homed
-  homed-offer x (Stopped Done) accepted y crosses homed none (last, whole, nothing, is) = subst (λ z. IsHomed r z) (sym is) homed
-  homed-offer x (Stopped Cut) accepted y crosses homed none (last, begun, nothing, is) = subst (λ z. IsHomed r z) (sym is) homed
-  homed-offer x (Stopped (Refused fault)) accepted y crosses homed none (b, next, refused, nothing, is) = subst (λ z. IsHomed r z) (sym is) homed
+      (subst (λ k. IsHomed r (offered r b k x)) (sym (none b)) (homes-say r x.accepted x.homes homed b (left-zero r w handed)))
+  homed-offer x NotReady accepted y handed homed none (b, next, full, nothing, is) = subst (λ z. IsHomed r z) (sym is) homed
+  homed-offer x (Stopped Done) accepted y handed homed none (last, whole, nothing, is) = subst (λ z. IsHomed r z) (sym is) homed
+  homed-offer x (Stopped Cut) accepted y handed homed none (last, begun, nothing, is) = subst (λ z. IsHomed r z) (sym is) homed
+  homed-offer x (Stopped (Refused fault)) accepted y handed homed none (b, next, refused, nothing, is) = subst (λ z. IsHomed r z) (sym is) homed
 
   -- why the channel stands still, if it does
   pub stops-offer : (x : World H w v) (o : Offered) (accepted : List (BeatOf H w)) (y : World H w v) → Does r bs n answer home x o accepted y →

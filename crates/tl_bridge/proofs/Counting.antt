@@ -1,6 +1,10 @@
 -- The rounds of a run are counted, and end.
 use Rattle.std.proofs.Common.{◌≡◌, ◌+◌, ◌-◌, ◌^◌, ◌<◌, ◌≤◌, ℕ, arith}
 
+-- no beat more is the same number of beats
+pub none-more : (n : ℕ) → n ≡ n + 0
+none-more n = omega arith
+
 -- a count below its bound may go on
 pub counts-on : (k l m : ℕ) → k ≤ l → l ≤ m → m < 2 ^ 60 → k + 1 < 2 ^ 64
 counts-on k l m f g h = omega arith

@@ -1,11 +1,17 @@
 -- A side takes all that stands in an inbox, one beat after another.
-use Rattle.std.proofs.Common.{◌≡◌, ℕ, ◌+◌, ◌≤◌, ◌<◌, None, Some, List, [], ◌∷◌, ◌++◌, length, take, drop, map, Vec, Global, vec_len, vec_capacity, refl, sym, ap, ◌∙◌, append-nil, append_assoc, get_or, arith}
-use Rattle.std.proofs.lemmas.List.{map-append, take_more}
+use Rattle.std.proofs.Common.{subst, ◌≡◌, ℕ, ◌+◌, ◌≤◌, ◌<◌, None, Some, List, [], ◌∷◌, ◌++◌, length, take, drop, map, Vec, Global, vec_len, vec_capacity, refl, sym, ap, ◌∙◌, append-nil, append_assoc, get_or, arith}
+use Rattle.std.proofs.lemmas.List.{take_more}
 use Rattle.std.specs.Prelude.{slice_get}
-use Rattle.tl_msg.specs.Tables.{rules_b, rules_c, rules_e}
+use Rattle.tl_msg.specs.Tables.{rules_a, rules_b, rules_c, rules_d, rules_e}
+use Rattle.tl_msg.specs.declared.head.HeadA.{HeadA}
+use Rattle.tl_msg.specs.declared.head.HeadD.{HeadD}
+use Rattle.tl_ring.specs.Crossing.{World}
+use Rattle.tl_sides.specs.Books.{Client, Manager, KnowsClient, KnowsManager}
+use Rattle.tl_bridge.specs.Inner.Taking.{HasNoted}
+use Rattle.tl_bridge.proofs.ChannelOffer.{answered-all, asked-all}
 use Rattle.tl_ring.specs.Pipe.{Pipe}
 use Rattle.tl_ring.specs.Pipe as piping
-use Rattle.tl_settle.specs.Histories.{Ask, Answer}
+use Rattle.tl_settle.specs.Histories.{Event, Ask, Answer}
 use Rattle.tl_sides.specs.Bridges.{Bridge, Past, StandsFor}
 use Rattle.tl_sides.proofs.BridgeSteps.{asked_answers, answered_asks, homes_asks}
 use Rattle.tl_sides.specs.Crossings.{ManagerIsAsked, ClientIsAnswered}
@@ -24,12 +30,6 @@ no-first (x ∷ bs) e = cc
 -- the first beats of a list, and one more
 pub next-taken : {B : Type 0} (bs : List B) (i : ℕ) (b : B) → i < length bs → b ≡ get_or bs i b → take (i + 1) bs ≡ take i bs ++ b ∷ []
 next-taken bs i b lt is = take_more bs i b lt ∙ ap (λ y. take i bs ++ y ∷ []) (sym is)
-
--- a side has noted one beat more
-pub next-noted : {E B : Type 0} (note : B → E) (es : List E) (bs : List B) (i : ℕ) (b : B) → i < length bs → b ≡ get_or bs i b →
-    (es ++ map note (take i bs)) ++ note b ∷ [] ≡ es ++ map note (take (i + 1) bs)
-next-noted note es bs i b lt is =
-    append_assoc es (map note (take i bs)) (note b ∷ []) ∙ ap (λ q. es ++ q) (sym (map-append note (take i bs) (b ∷ [])) ∙ ap (λ q. map note q) (sym (next-taken bs i b lt is)))
 
 -- What holds while the beats of an inbox are put behind those of a list, of which i are there
 module _ {B : Type 0} (before : Vec B Global) (bs : List B) where
@@ -55,6 +55,25 @@ module _ {B : Type 0} (before : Vec B Global) (bs : List B) where
       len = let had = t.len in omega arith;
       capacity = capacity ∙ t.capacity;
     }
+
+-- a side whose book has noted all that stood in an inbox, where all of it was taken from the pipe, knows it as history
+pub asked-by : {C M : ℕ} {book book' : Manager} {pipe : Pipe HeadA M} (pipe' : Pipe HeadA M) {es : List (Event M)} {x : World HeadA C M} → ManagerIsAsked book pipe es x →
+    HasNoted KnowsManager Ask book pipe.inbox book' → (piping.StandsFor rules_a pipe x → piping.StandsFor rules_a pipe' (emptied x)) →
+    ManagerIsAsked book' pipe' (es ++ map Ask x.inbox) (emptied x)
+asked-by {book' = book'} pipe' {es = es} {x = x} h noted taken = record {
+  knows = subst (λ q. KnowsManager book' (es ++ map Ask q)) h.stands.inbox (noted es h.knows);
+  stands = taken h.stands;
+  same = asked-all es x.inbox ∙ ap (λ q. q ++ x.inbox) h.same;
+}
+
+pub answered-by : {C M : ℕ} {book book' : Client} {pipe : Pipe HeadD C} (pipe' : Pipe HeadD C) {es : List (Event C)} {x : World HeadD M C} → ClientIsAnswered book pipe es x →
+    HasNoted KnowsClient Answer book pipe.inbox book' → (piping.StandsFor rules_d pipe x → piping.StandsFor rules_d pipe' (emptied x)) →
+    ClientIsAnswered book' pipe' (es ++ map Answer x.inbox) (emptied x)
+answered-by {book' = book'} pipe' {es = es} {x = x} h noted taken = record {
+  knows = subst (λ q. KnowsClient book' (es ++ map Answer q)) h.stands.inbox (noted es h.knows);
+  stands = taken h.stands;
+  same = answered-all es x.inbox ∙ ap (λ q. q ++ x.inbox) h.same;
+}
 
 -- each side has taken all that stood in its inboxes
 pub all-emptied : {C M : ℕ} (s t : Bridge C M) (x : Past C M) → StandsFor s x → ManagerIsAsked t.manager t.a (x.manager ++ map Ask x.a.inbox) (emptied x.a) →

@@ -1,5 +1,5 @@
 -- How far a run has come, by what its loop sees, and how it ends.
-use Rattle.std.proofs.Common.{◌≡◌, ◌+◌, ◌*◌, ◌^◌, ◌≤◌, ◌<◌, ℕ, List, [], length, refl, sym, subst, arith, ⊎_elim}
+use Rattle.std.proofs.Common.{◌≡◌, ◌+◌, ◌*◌, ◌^◌, ◌≤◌, ◌<◌, ℕ, false, List, [], length, refl, sym, subst, arith, ⊎_elim}
 use Rattle.tl_lanes.specs.Lanes.{IsWidth}
 use Rattle.tl_msg.specs.Rules.{Rules}
 use Rattle.tl_msg.specs.Tables.{rules_a, rules_b, rules_c, rules_d, rules_e}
@@ -121,11 +121,23 @@ module _ {C M : ℕ} (near : Beats C M) where
 
   -- ---- the first round
 
-  -- a run is under way at a new bridge
-  pub starts : (n : PerChannel ℕ) (far : Beats M C) (s : Bridge C M) → n ≡ record { a = 0; b = 0; c = 0; d = 0; e = 0 } → far ≡ no_beats → IsNew s →
-      IsUnderWay near n far s
-  starts n far s none empty (room, some, f) =
-      let begins : (r : ℕ) → 1 ≤ r → IsAt near (record { a = 0; b = 0; c = 0; d = 0; e = 0 }) no_beats (nothing_yet r) = λ r l. record {
+  -- where nothing has happened yet, whatever stands in the rings
+  abbrev pub untouched : (room : ℕ) → Past C M → Past C M
+  untouched room x = record {
+    client = [];
+    manager = [];
+    a = record x.a { room = room; accepted = []; homes = []; taken = []; closed = false };
+    b = record x.b { room = room; accepted = []; homes = []; taken = []; closed = false };
+    c = record x.c { room = room; accepted = []; homes = []; taken = []; closed = false };
+    d = record x.d { room = room; accepted = []; homes = []; taken = []; closed = false };
+    e = record x.e { room = room; accepted = []; homes = []; taken = []; closed = false };
+  }
+
+  -- a run stands at its beginning
+  pub begins : (n : PerChannel ℕ) (far : Beats M C) (room : ℕ) (x : Past C M) → n ≡ record { a = 0; b = 0; c = 0; d = 0; e = 0 } → far ≡ no_beats → 1 ≤ room →
+      IsAt near n far (untouched room x)
+  begins n far room x none empty l =
+      let here : IsAt near (record { a = 0; b = 0; c = 0; d = 0; e = 0 }) no_beats (untouched room x) = record {
         run = rounds.begins;
         a_sent = record { accepted = refl; most = omega arith; lawful = refl; taken = refl; shuts = λ k. search k; room = l };
         b_sent = record { accepted = refl; most = omega arith; lawful = refl; taken = refl; shuts = λ k. search k; room = l };
@@ -137,11 +149,12 @@ module _ {C M : ℕ} (near : Beats C M) where
         c_homed = refl;
         e_homed = refl;
       } in
-      record {
-        past = nothing_yet room;
-        stands = f;
-        is_at = subst (λ k. IsAt near k far (nothing_yet room)) (sym none) (subst (λ k. IsAt near (record { a = 0; b = 0; c = 0; d = 0; e = 0 }) k (nothing_yet room)) (sym empty) (begins room some));
-      }
+      subst (λ k. IsAt near k far (untouched room x)) (sym none) (subst (λ k. IsAt near (record { a = 0; b = 0; c = 0; d = 0; e = 0 }) k (untouched room x)) (sym empty) here)
+
+  -- it is under way at a new bridge
+  pub starts : (n : PerChannel ℕ) (far : Beats M C) (s : Bridge C M) → n ≡ record { a = 0; b = 0; c = 0; d = 0; e = 0 } → far ≡ no_beats → IsNew s →
+      IsUnderWay near n far s
+  starts n far s none empty (room, some, f) = record { past = nothing_yet room; stands = f; is_at = begins n far room (nothing_yet room) none empty some }
 
   -- the lists keep their room
   pub keeps-room : (old new : Taken C M) → KeepsRoom old new → HasRoomFor near old → HasRoomFor near new

@@ -11,7 +11,6 @@ use Rattle.tl_ring.specs.Ends.{Sending, Taking, Met, Meets, seen_by, sent, recei
 use Rattle.tl_ring.specs.Pipe as piping
 use Rattle.tl_ring.specs.declared.standing.Standing.{Standing}
 use Rattle.tl_settle.specs.Histories.{asked, answered}
-use Rattle.tl_settle.specs.Rounds as rounds
 use Rattle.tl_settle.specs.Rounds.{round, client_rests, manager_rests}
 use Rattle.tl_settle.specs.Settling.{far_a, far_d}
 use Rattle.tl_settle.specs.Outcomes.{Beats}
@@ -21,7 +20,7 @@ use Rattle.tl_pair.specs.Ends.{AreStanding}
 use Rattle.tl_pair.specs.Sides.{ClientState, ManagerState, ClientPast, ManagerPast, ClientStandsFor, ManagerStandsFor, AreSides, SidesMeet, new_client, new_manager}
 use Rattle.tl_bridge.specs.Scripts.{IsShort}
 use Rattle.tl_bridge.specs.Inner.Arriving.{HasRoomFor, HasRoomForInboxes, beats_of, taken_of}
-use Rattle.tl_bridge.specs.Inner.Running.{IsAt, AllStop, AreStopped, HasEnded, HaveRoomToCount, all_progress, all_standing, all_stopped, all_under_way, no_beats, progress, standing_count, under_way}
+use Rattle.tl_bridge.specs.Inner.Running.{AllStop, AreStopped, HasEnded, HaveRoomToCount, all_progress, all_standing, all_stopped, all_under_way, no_beats, progress, standing_count, under_way}
 use Rattle.tl_bridge.specs.Inner.Sides.{ClientIsAt, ManagerIsAt, ClientMayPlay, ManagerMayPlay, ClientHasPlayed, ManagerHasPlayed, ClientRests, ManagerRests, HasMet, HasPlayed, AreNew, bridge_of, met_progress, none_ready, past_of, pipe_of}
 use Rattle.tl_bridge.specs.declared.channel_state.Stop.{Stop}
 use Rattle.tl_bridge.specs.declared.client_turns.ClientRun.{ClientRun}
@@ -30,7 +29,7 @@ use Rattle.tl_bridge.specs.declared.turns.Turn.{Turn}
 use Rattle.tl_bridge.proofs.ChannelEnd.{inbox-due}
 use Rattle.tl_bridge.proofs.ChannelOffer.{sent-passed}
 use Rattle.tl_bridge.proofs.Counting.{same-sums}
-use Rattle.tl_bridge.proofs.Ended.{progress-is, progress-ends, run_end}
+use Rattle.tl_bridge.proofs.Ended.{begins, progress-is, progress-ends, run_end}
 use Rattle.tl_bridge.proofs.Resting.{channel-rests, some-free}
 use Rattle.tl_bridge.proofs.Round.{counts-fit, inboxes-fit}
 use Rattle.tl_bridge.proofs.RunRound.{due-a, due-d}
@@ -251,19 +250,6 @@ module _ {A : Type 0} {C M : ℕ} (s : ClientState A C M) (t : ManagerState A C 
   pub new-met : (near : Beats C M) (n : PerChannel ℕ) (far : Beats M C) → n ≡ record { a = 0; b = 0; c = 0; d = 0; e = 0 } → far ≡ no_beats → (new : AreNew s t) →
       SidesMeet s' t' (new_client new.space) (new_manager new.space) → HasMet near n far s' t'
   new-met near n far none empty new meets =
-      let l = new.some in
-      let begins : IsAt near (record { a = 0; b = 0; c = 0; d = 0; e = 0 }) no_beats (past_of s' t' (new_client new.space) (new_manager new.space)) = record {
-        run = rounds.begins;
-        a_sent = record { accepted = refl; most = omega arith; lawful = refl; taken = refl; shuts = λ k. search k; room = l };
-        b_sent = record { accepted = refl; most = omega arith; lawful = refl; taken = refl; shuts = λ k. search k; room = l };
-        c_sent = record { accepted = refl; most = omega arith; lawful = refl; taken = refl; shuts = λ k. search k; room = l };
-        d_sent = record { accepted = refl; most = omega arith; lawful = refl; taken = refl; shuts = λ k. search k; room = l };
-        e_sent = record { accepted = refl; most = omega arith; lawful = refl; taken = refl; shuts = λ k. search k; room = l };
-        a_homed = refl;
-        b_homed = refl;
-        c_homed = refl;
-        e_homed = refl;
-      } in
       record {
         client = new_client new.space;
         manager = new_manager new.space;
@@ -279,8 +265,7 @@ module _ {A : Type 0} {C M : ℕ} (s : ClientState A C M) (t : ManagerState A C 
         free_c = some-free rules_c s.c s'.c t.c t'.c (new_client new.space).c new.client.c m.c;
         free_d = some-free rules_d t.d t'.d s.d s'.d (new_manager new.space).d new.manager.d m.d;
         free_e = some-free rules_e s.e s'.e t.e t'.e (new_client new.space).e new.client.e m.e;
-        is_at = subst (λ k. IsAt near k far (past_of s' t' (new_client new.space) (new_manager new.space))) (sym none)
-            (subst (λ k. IsAt near (record { a = 0; b = 0; c = 0; d = 0; e = 0 }) k (past_of s' t' (new_client new.space) (new_manager new.space))) (sym empty) begins);
+        is_at = begins near n far new.space (past_of s' t' (new_client new.space) (new_manager new.space)) none empty new.some;
       }
 
 -- both sides have played a round, and met

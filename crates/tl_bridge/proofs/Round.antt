@@ -11,7 +11,6 @@ use Rattle.tl_msg.specs.declared.fault.BeatFault.{BeatFault}
 use Rattle.tl_msg.specs.declared.fault.SideFault.{SideFault}
 use Rattle.tl_msg.specs.declared.fault.SideFault.TheVariants.{Beat}
 use Rattle.tl_burst.specs.Handing.{fault_after}
-use Rattle.tl_burst.proofs.Burst.{some-beats}
 use Rattle.tl_ring.specs.Crossing.{World, pushed, popped}
 use Rattle.tl_ring.specs.Laws.{Crosses}
 use Rattle.tl_ring.specs.Pipe.{Pipe}
@@ -31,7 +30,8 @@ use Rattle.tl_bridge.specs.declared.channel_state.Stop.TheVariants.{Done, Cut, R
 use Rattle.tl_bridge.specs.declared.channel_state.Offered.{Offered}
 use Rattle.tl_bridge.specs.declared.channel_state.Offered.TheVariants.{Accepted, NotReady, Stopped}
 use Rattle.tl_sides.specs.declared.per_channel.PerChannel.{PerChannel}
-use Rattle.tl_bridge.proofs.ChannelRound.{sent-round, homed-round, stops-round, progress-round}
+use Rattle.tl_bridge.proofs.ChannelOffer.{homed-offer, stops-offer}
+use Rattle.tl_bridge.proofs.ChannelRound.{sent-round, progress-round}
 use Rattle.tl_bridge.proofs.RunRound.{run-round}
 use Rattle.tl_bridge.proofs.ChannelEnd.{room-for}
 use Rattle.tl_bridge.proofs.Counting.{few-enough}
@@ -140,10 +140,10 @@ module _ {C M : ℕ} (cw : IsWidth C) (mw : IsWidth M) (near : Beats C M) (n : P
     d_sent = sent-round rules_d near.d n.d (manager_answer (x.manager ++ map Ask x.a.inbox)) (λ y. manager_home (x.manager ++ map Ask x.a.inbox) y.head) far.d x.d o.d h.beats_d h.past.d i.d_sent
         (λ y f. subst (λ q. fault_after rules_d q y ≡ None) (answered_asks x.manager x.a.inbox ∙ stands.manager_answered) (manager-own (x.manager ++ map Ask x.a.inbox) y f)) h.does_d;
     e_sent = sent-round rules_e near.e n.e (stops_alone rules_e x.e.accepted) (λ _. 0) far.e x.e o.e h.beats_e h.past.e i.e_sent (λ y f. alone-own rules_e x.e.accepted y f) h.does_e;
-    a_homed = homed-round rules_a near.a n.a (client_answer (x.client ++ map Answer x.d.inbox)) (λ _. 0) x.a o.a h.beats_a h.past.a (λ y. some-beats rules_a y C cw) stands.a.crosses i.a_homed (λ y. refl) h.does_a;
-    b_homed = homed-round rules_b near.b n.b (stops_alone rules_b x.b.accepted) (λ _. 0) x.b o.b h.beats_b h.past.b (λ y. some-beats rules_b y M mw) stands.b.crosses i.b_homed (λ y. refl) h.does_b;
-    c_homed = homed-round rules_c near.c n.c (stops_alone rules_c x.c.accepted) (λ _. 0) x.c o.c h.beats_c h.past.c (λ y. some-beats rules_c y C cw) stands.c.crosses i.c_homed (λ y. refl) h.does_c;
-    e_homed = homed-round rules_e near.e n.e (stops_alone rules_e x.e.accepted) (λ _. 0) x.e o.e h.beats_e h.past.e (λ y. some-beats rules_e y C cw) stands.e.crosses i.e_homed (λ y. refl) h.does_e;
+    a_homed = homed-offer rules_a near.a n.a (client_answer (x.client ++ map Answer x.d.inbox)) (λ _. 0) (emptied x.a) o.a h.beats_a h.past.a stands.a.crosses.handed i.a_homed (λ y. refl) h.does_a;
+    b_homed = homed-offer rules_b near.b n.b (stops_alone rules_b x.b.accepted) (λ _. 0) (emptied x.b) o.b h.beats_b h.past.b stands.b.crosses.handed i.b_homed (λ y. refl) h.does_b;
+    c_homed = homed-offer rules_c near.c n.c (stops_alone rules_c x.c.accepted) (λ _. 0) (emptied x.c) o.c h.beats_c h.past.c stands.c.crosses.handed i.c_homed (λ y. refl) h.does_c;
+    e_homed = homed-offer rules_e near.e n.e (stops_alone rules_e x.e.accepted) (λ _. 0) (emptied x.e) o.e h.beats_e h.past.e stands.e.crosses.handed i.e_homed (λ y. refl) h.does_e;
   }
 
   -- why it stands still there, where it does
@@ -153,21 +153,21 @@ module _ {C M : ℕ} (cw : IsWidth C) (mw : IsWidth M) (near : Beats C M) (n : P
         (λ z y. ap (λ q. client_answer q y) (h.client ∙ ap (λ q. (x.client ++ map Answer x.d.inbox) ++ map Ask q)
         (none-accepted rules_a near.a n.a (client_answer (x.client ++ map Answer x.d.inbox)) (λ _. 0) (emptied x.a) o.a h.beats_a h.past.a z h.does_a).0 ∙
         append-nil (x.client ++ map Answer x.d.inbox)))
-        (stops-round rules_a near.a n.a (client_answer (x.client ++ map Answer x.d.inbox)) (λ _. 0) x.a o.a h.beats_a h.past.a h.does_a);
+        (stops-offer rules_a near.a n.a (client_answer (x.client ++ map Answer x.d.inbox)) (λ _. 0) (emptied x.a) o.a h.beats_a h.past.a h.does_a);
     stop_b = stops-same rules_b near.b (n.b + steps o.b) (stops_alone rules_b x.b.accepted) (stops_alone rules_b h.past.b.accepted) h.past.b.accepted o.b
         (λ z y. ap (λ q. stops_alone rules_b q y) (none-accepted rules_b near.b n.b (stops_alone rules_b x.b.accepted) (λ _. 0) (emptied x.b) o.b h.beats_b h.past.b z h.does_b).1)
-        (stops-round rules_b near.b n.b (stops_alone rules_b x.b.accepted) (λ _. 0) x.b o.b h.beats_b h.past.b h.does_b);
+        (stops-offer rules_b near.b n.b (stops_alone rules_b x.b.accepted) (λ _. 0) (emptied x.b) o.b h.beats_b h.past.b h.does_b);
     stop_c = stops-same rules_c near.c (n.c + steps o.c) (stops_alone rules_c x.c.accepted) (stops_alone rules_c h.past.c.accepted) h.past.c.accepted o.c
         (λ z y. ap (λ q. stops_alone rules_c q y) (none-accepted rules_c near.c n.c (stops_alone rules_c x.c.accepted) (λ _. 0) (emptied x.c) o.c h.beats_c h.past.c z h.does_c).1)
-        (stops-round rules_c near.c n.c (stops_alone rules_c x.c.accepted) (λ _. 0) x.c o.c h.beats_c h.past.c h.does_c);
+        (stops-offer rules_c near.c n.c (stops_alone rules_c x.c.accepted) (λ _. 0) (emptied x.c) o.c h.beats_c h.past.c h.does_c);
     stop_d = stops-same rules_d near.d (n.d + steps o.d) (manager_answer (x.manager ++ map Ask x.a.inbox)) (manager_answer h.past.manager) h.past.d.accepted o.d
         (λ z y. ap (λ q. manager_answer q y) (h.manager ∙ ap (λ q. (x.manager ++ map Ask x.a.inbox) ++ map Answer q)
         (none-accepted rules_d near.d n.d (manager_answer (x.manager ++ map Ask x.a.inbox)) (λ y. manager_home (x.manager ++ map Ask x.a.inbox) y.head) (emptied x.d) o.d h.beats_d h.past.d z h.does_d).0 ∙
         append-nil (x.manager ++ map Ask x.a.inbox)))
-        (stops-round rules_d near.d n.d (manager_answer (x.manager ++ map Ask x.a.inbox)) (λ y. manager_home (x.manager ++ map Ask x.a.inbox) y.head) x.d o.d h.beats_d h.past.d h.does_d);
+        (stops-offer rules_d near.d n.d (manager_answer (x.manager ++ map Ask x.a.inbox)) (λ y. manager_home (x.manager ++ map Ask x.a.inbox) y.head) (emptied x.d) o.d h.beats_d h.past.d h.does_d);
     stop_e = stops-same rules_e near.e (n.e + steps o.e) (stops_alone rules_e x.e.accepted) (stops_alone rules_e h.past.e.accepted) h.past.e.accepted o.e
         (λ z y. ap (λ q. stops_alone rules_e q y) (none-accepted rules_e near.e n.e (stops_alone rules_e x.e.accepted) (λ _. 0) (emptied x.e) o.e h.beats_e h.past.e z h.does_e).1)
-        (stops-round rules_e near.e n.e (stops_alone rules_e x.e.accepted) (λ _. 0) x.e o.e h.beats_e h.past.e h.does_e);
+        (stops-offer rules_e near.e n.e (stops_alone rules_e x.e.accepted) (λ _. 0) (emptied x.e) o.e h.beats_e h.past.e h.does_e);
   }
 
   -- it has come further in the round, or it stands still and nothing is under way

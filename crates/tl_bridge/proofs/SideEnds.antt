@@ -8,7 +8,7 @@ use Rattle.tl_pair.specs.Ends.{Pumps, Fetches, pump_count, fetch_count}
 use Rattle.tl_pair.specs.Sides.{ClientState, ManagerState, SameClient, SameManager}
 use Rattle.tl_pair.proofs.SameSides.{same_client_then, same_manager_then}
 use Rattle.tl_bridge.specs.Inner.Running.{counted, steps}
-use Rattle.tl_bridge.specs.Inner.Sides.{SameClientEnds, SameManagerEnds, ClientGoes, ManagerGoes, client_progress, manager_progress, all_steps}
+use Rattle.tl_bridge.specs.Inner.Sides.{SameClientEnds, SameManagerEnds, Goes, ClientGoes, ManagerGoes, client_progress, manager_progress, all_steps}
 use Rattle.tl_bridge.specs.declared.channel_state.Offered.{Offered}
 use Rattle.tl_bridge.specs.declared.channel_state.Offered.TheVariants.{NotReady}
 
@@ -36,6 +36,60 @@ module _ {A : Type 0} where
 
   fetched-count : {K H : Type 0} {v : ℕ} (t t' : Taking K A H v) → Fetches t t' → length (received t') ≡ length (received t) + fetch_count t t'
   fetched-count t t' h = ap length h.fetched.received ∙ length-append (received t) h.fetched.moved ∙ ap (λ k. length (received t) + k) h.fetched.count
+
+-- how a side goes, whichever of the two it is
+module _ {S : Type 0} {Same : S → S → Type 0} {progress : PerChannel ℕ → S → ℕ} where
+  -- a turn: offers, a pump and a fetch
+  turn-goes : (n : PerChannel ℕ) (s t u v : S) (o : PerChannel Offered) (pumped fetched : ℕ) (moved : Bool) → Same s v →
+      progress (counted n o) s ≡ progress n s + all_steps o → progress (counted n o) t ≡ progress (counted n o) s → progress (counted n o) u ≡ progress (counted n o) t + pumped →
+      progress (counted n o) v ≡ progress (counted n o) u + fetched → (moved ≡ true → (all_steps o ≢ 0) ⊎ (pumped + fetched ≢ 0)) → Goes Same progress n s (counted n o) v moved
+  turn-goes n s t u v o pumped fetched moved same accepted stayed sent received why =
+      let on : progress (counted n o) v ≡ progress n s + all_steps o + pumped + fetched =
+      received ∙ ap (λ k. k + fetched) (sent ∙ ap (λ k. k + pumped) (stayed ∙ accepted)) in
+      record {
+        same = same;
+        keeps = keeps (progress n s) (all_steps o) pumped fetched _ on;
+        goes = λ m. ⊎_elim (λ e. accepts (progress n s) (all_steps o) pumped fetched _ on e) (λ e. moves (progress n s) (all_steps o) pumped fetched _ on e) (why m);
+      }
+    where
+      keeps : (k l i j whole : ℕ) → whole ≡ k + l + i + j → k ≤ whole
+      keeps k l i j whole e = omega arith
+
+      accepts : (k l i j whole : ℕ) → whole ≡ k + l + i + j → l ≢ 0 → k + 1 ≤ whole
+      accepts k l i j whole e some = omega arith
+
+      moves : (k l i j whole : ℕ) → whole ≡ k + l + i + j → i + j ≢ 0 → k + 1 ≤ whole
+      moves k l i j whole e some = omega arith
+
+  -- turns, one after the other
+  pub goes-then : ((s t u : S) → Same s t → Same t u → Same s u) → (n m l : PerChannel ℕ) (s t u : S) (one other both : Bool) → Goes Same progress n s m t one →
+      Goes Same progress m t l u other → (both ≡ true → (one ≡ true) ⊎ (other ≡ true)) → Goes Same progress n s l u both
+  goes-then then n m l s t u one other both f g why = record {
+    same = then s t u f.same g.same;
+    keeps = steps-on _ _ _ f.keeps g.keeps;
+    goes = λ e. ⊎_elim (λ a. first _ _ _ (f.goes a) g.keeps) (λ b. second _ _ _ f.keeps (g.goes b)) (why e);
+  }
+    where
+      steps-on : (x y z : ℕ) → x ≤ y → y ≤ z → x ≤ z
+      steps-on v0 v1 v2 a b = omega arith
+
+      first : (x y z : ℕ) → x + 1 ≤ y → y ≤ z → x + 1 ≤ z
+      first v0 v1 v2 a b = omega arith
+
+      second : (x y z : ℕ) → x ≤ y → y + 1 ≤ z → x + 1 ≤ z
+      second v0 v1 v2 a b = omega arith
+
+  -- turns after what leaves a side as far as it was
+  goes-since : (n m : PerChannel ℕ) (s t u : S) (moved : Bool) → Same s u → progress n t ≡ progress n s → Goes Same progress n t m u moved → Goes Same progress n s m u moved
+  goes-since n m s t u moved same stayed f = record {
+    same = same;
+    keeps = subst (λ k. k ≤ progress m u) stayed f.keeps;
+    goes = λ a. subst (λ k. k + 1 ≤ progress m u) stayed (f.goes a);
+  }
+
+-- five parts that are as they were
+same-parts : (k p q r u v p' q' r' u' v' : ℕ) → p ≡ p' → q ≡ q' → r ≡ r' → u ≡ u' → v ≡ v' → k + p + q + r + u + v ≡ k + p' + q' + r' + u' + v'
+same-parts v0 v1 v2 v3 v4 v5 v6 v7 v8 v9 v10 a b c d e = omega arith
 
 module _ {A : Type 0} {C M : ℕ} where
   -- a side with the ends of another one
@@ -65,17 +119,11 @@ module _ {A : Type 0} {C M : ℕ} where
 
   pub client-stays : (n : PerChannel ℕ) (s t : ClientState A C M) → SameClientEnds s t → client_progress n t ≡ client_progress n s
   client-stays n s t h =
-      sums _ _ _ _ _ _ _ _ _ _ _ (send-count s.a t.a h.a) (send-count s.c t.c h.c) (send-count s.e t.e h.e) (take-count s.b t.b h.b) (take-count s.d t.d h.d)
-    where
-      sums : (k p q r u v p' q' r' u' v' : ℕ) → p ≡ p' → q ≡ q' → r ≡ r' → u ≡ u' → v ≡ v' → k + p + q + r + u + v ≡ k + p' + q' + r' + u' + v'
-      sums v0 v1 v2 v3 v4 v5 v6 v7 v8 v9 v10 a b c d e = omega arith
+      same-parts _ _ _ _ _ _ _ _ _ _ _ (send-count s.a t.a h.a) (send-count s.c t.c h.c) (send-count s.e t.e h.e) (take-count s.b t.b h.b) (take-count s.d t.d h.d)
 
   pub manager-stays : (n : PerChannel ℕ) (s t : ManagerState A C M) → SameManagerEnds s t → manager_progress n t ≡ manager_progress n s
   manager-stays n s t h =
-      sums _ _ _ _ _ _ _ _ _ _ _ (send-count s.b t.b h.b) (send-count s.d t.d h.d) (take-count s.a t.a h.a) (take-count s.c t.c h.c) (take-count s.e t.e h.e)
-    where
-      sums : (k p q r u v p' q' r' u' v' : ℕ) → p ≡ p' → q ≡ q' → r ≡ r' → u ≡ u' → v ≡ v' → k + p + q + r + u + v ≡ k + p' + q' + r' + u' + v'
-      sums v0 v1 v2 v3 v4 v5 v6 v7 v8 v9 v10 a b c d e = omega arith
+      same-parts _ _ _ _ _ _ _ _ _ _ _ (send-count s.b t.b h.b) (send-count s.d t.d h.d) (take-count s.a t.a h.a) (take-count s.c t.c h.c) (take-count s.e t.e h.e)
 
   -- ---- a turn
 
@@ -153,113 +201,30 @@ module _ {A : Type 0} {C M : ℕ} where
       SameClient u v × ((n : PerChannel ℕ) → client_progress n v ≡ client_progress n u + fetched) →
       (moved ≡ true → (all_steps o ≢ 0) ⊎ (pumped + fetched ≢ 0)) → ClientGoes n s (counted n o) v moved
   client-turn-goes n s t u v o pumped fetched moved ends others p f why =
-      let before : client_progress (counted n o) t ≡ client_progress (counted n o) s = client-stays (counted n o) s t ends in
-      let on : client_progress (counted n o) v ≡ _ = f.1 (counted n o) ∙ ap (λ k. k + fetched) (p.1 (counted n o) ∙ ap (λ k. k + pumped) before) in
-      let none_b : steps o.b ≡ 0 = ap steps others.0 in
-      let none_d : steps o.d ≡ 0 = ap steps others.1 in
-      let rest : ℕ = length (sent s.a) in
-      record {
-        same = same_client_then s t v (client-same s t ends) (same_client_then t u v p.0 f.0);
-        keeps = keeps n.a n.c n.e _ _ _ _ _ (steps o.a) (steps o.c) (steps o.e) _ pumped fetched on;
-        goes = λ m. ⊎_elim (λ e. goes n.a n.c n.e _ _ _ _ _ (steps o.a) (steps o.b) (steps o.c) (steps o.d) (steps o.e) _ pumped fetched on none_b none_d e)
-            (λ e. moves n.a n.c n.e _ _ _ _ _ (steps o.a) (steps o.c) (steps o.e) _ pumped fetched on e) (why m);
-      }
+      turn-goes n s t u v o pumped fetched moved (same_client_then s t v (client-same s t ends) (same_client_then t u v p.0 f.0))
+      (accepts n.a n.c n.e _ _ _ _ _ (steps o.a) (steps o.b) (steps o.c) (steps o.d) (steps o.e) (ap steps others.0) (ap steps others.1))
+      (client-stays (counted n o) s t ends) (p.1 (counted n o)) (f.1 (counted n o)) why
     where
-      keeps : (na nc ne sa sc se rb rd a c e whole i j : ℕ) → whole ≡ (na + a) + (nc + c) + (ne + e) + sa + sc + se + rb + rd + i + j →
-          na + nc + ne + sa + sc + se + rb + rd ≤ whole
-      keeps na nc ne sa sc se rb rd a c e whole i j h = omega arith
-
-      goes : (na nc ne sa sc se rb rd a b c d e whole i j : ℕ) → whole ≡ (na + a) + (nc + c) + (ne + e) + sa + sc + se + rb + rd + i + j → b ≡ 0 → d ≡ 0 → a + b + c + d + e ≢ 0 →
-          na + nc + ne + sa + sc + se + rb + rd + 1 ≤ whole
-      goes na nc ne sa sc se rb rd a b c d e whole i j h k l m = omega arith
-
-      moves : (na nc ne sa sc se rb rd a c e whole i j : ℕ) → whole ≡ (na + a) + (nc + c) + (ne + e) + sa + sc + se + rb + rd + i + j → i + j ≢ 0 →
-          na + nc + ne + sa + sc + se + rb + rd + 1 ≤ whole
-      moves na nc ne sa sc se rb rd a c e whole i j h k = omega arith
+      accepts : (na nc ne sa sc se rb rd a b c d e : ℕ) → b ≡ 0 → d ≡ 0 →
+          (na + a) + (nc + c) + (ne + e) + sa + sc + se + rb + rd ≡ na + nc + ne + sa + sc + se + rb + rd + (a + b + c + d + e)
+      accepts na nc ne sa sc se rb rd a b c d e k l = omega arith
 
   pub manager-turn-goes : (n : PerChannel ℕ) (s t u v : ManagerState A C M) (o : PerChannel Offered) (pumped fetched : ℕ) (moved : Bool) → SameManagerEnds s t →
       (o.a ≡ NotReady) × (o.c ≡ NotReady) × (o.e ≡ NotReady) → SameManager t u × ((n : PerChannel ℕ) → manager_progress n u ≡ manager_progress n t + pumped) →
       SameManager u v × ((n : PerChannel ℕ) → manager_progress n v ≡ manager_progress n u + fetched) →
       (moved ≡ true → (all_steps o ≢ 0) ⊎ (pumped + fetched ≢ 0)) → ManagerGoes n s (counted n o) v moved
   manager-turn-goes n s t u v o pumped fetched moved ends others p f why =
-      let before : manager_progress (counted n o) t ≡ manager_progress (counted n o) s = manager-stays (counted n o) s t ends in
-      let on : manager_progress (counted n o) v ≡ _ = f.1 (counted n o) ∙ ap (λ k. k + fetched) (p.1 (counted n o) ∙ ap (λ k. k + pumped) before) in
-      let none_a : steps o.a ≡ 0 = ap steps others.0 in
-      let none_c : steps o.c ≡ 0 = ap steps others.1 in
-      let none_e : steps o.e ≡ 0 = ap steps others.2 in
-      record {
-        same = same_manager_then s t v (manager-same s t ends) (same_manager_then t u v p.0 f.0);
-        keeps = keeps n.b n.d _ _ _ _ _ (steps o.b) (steps o.d) _ pumped fetched on;
-        goes = λ m. ⊎_elim (λ e. goes n.b n.d _ _ _ _ _ (steps o.a) (steps o.b) (steps o.c) (steps o.d) (steps o.e) _ pumped fetched on none_a none_c none_e e)
-            (λ e. moves n.b n.d _ _ _ _ _ (steps o.b) (steps o.d) _ pumped fetched on e) (why m);
-      }
+      turn-goes n s t u v o pumped fetched moved (same_manager_then s t v (manager-same s t ends) (same_manager_then t u v p.0 f.0))
+      (accepts n.b n.d _ _ _ _ _ (steps o.a) (steps o.b) (steps o.c) (steps o.d) (steps o.e) (ap steps others.0) (ap steps others.1) (ap steps others.2))
+      (manager-stays (counted n o) s t ends) (p.1 (counted n o)) (f.1 (counted n o)) why
     where
-      keeps : (nb nd sb sd ra rc re b d whole i j : ℕ) → whole ≡ (nb + b) + (nd + d) + sb + sd + ra + rc + re + i + j → nb + nd + sb + sd + ra + rc + re ≤ whole
-      keeps nb nd sb sd ra rc re b d whole i j h = omega arith
+      accepts : (nb nd sb sd ra rc re a b c d e : ℕ) → a ≡ 0 → c ≡ 0 → e ≡ 0 →
+          (nb + b) + (nd + d) + sb + sd + ra + rc + re ≡ nb + nd + sb + sd + ra + rc + re + (a + b + c + d + e)
+      accepts nb nd sb sd ra rc re a b c d e k l m = omega arith
 
-      goes : (nb nd sb sd ra rc re a b c d e whole i j : ℕ) → whole ≡ (nb + b) + (nd + d) + sb + sd + ra + rc + re + i + j → a ≡ 0 → c ≡ 0 → e ≡ 0 → a + b + c + d + e ≢ 0 →
-          nb + nd + sb + sd + ra + rc + re + 1 ≤ whole
-      goes nb nd sb sd ra rc re a b c d e whole i j h k l m p = omega arith
-
-      moves : (nb nd sb sd ra rc re b d whole i j : ℕ) → whole ≡ (nb + b) + (nd + d) + sb + sd + ra + rc + re + i + j → i + j ≢ 0 → nb + nd + sb + sd + ra + rc + re + 1 ≤ whole
-      moves nb nd sb sd ra rc re b d whole i j h k = omega arith
-
-  -- turns, one after the other
-  pub client-goes-then : (n m l : PerChannel ℕ) (s t u : ClientState A C M) (one other both : Bool) → ClientGoes n s m t one → ClientGoes m t l u other →
-      (both ≡ true → (one ≡ true) ⊎ (other ≡ true)) → ClientGoes n s l u both
-  client-goes-then n m l s t u one other both f g why =
-      let k = f.keeps in
-      let j = g.keeps in
-      record {
-        same = same_client_then s t u f.same g.same;
-        keeps = steps-on _ _ _ k j;
-        goes = λ e. ⊎_elim (λ a. first _ _ _ (f.goes a) j) (λ b. second _ _ _ k (g.goes b)) (why e);
-      }
-    where
-      steps-on : (x y z : ℕ) → x ≤ y → y ≤ z → x ≤ z
-      steps-on v0 v1 v2 a b = omega arith
-
-      first : (x y z : ℕ) → x + 1 ≤ y → y ≤ z → x + 1 ≤ z
-      first v0 v1 v2 a b = omega arith
-
-      second : (x y z : ℕ) → x ≤ y → y + 1 ≤ z → x + 1 ≤ z
-      second v0 v1 v2 a b = omega arith
-
-  pub manager-goes-then : (n m l : PerChannel ℕ) (s t u : ManagerState A C M) (one other both : Bool) → ManagerGoes n s m t one → ManagerGoes m t l u other →
-      (both ≡ true → (one ≡ true) ⊎ (other ≡ true)) → ManagerGoes n s l u both
-  manager-goes-then n m l s t u one other both f g why =
-      let k = f.keeps in
-      let j = g.keeps in
-      record {
-        same = same_manager_then s t u f.same g.same;
-        keeps = steps-on _ _ _ k j;
-        goes = λ e. ⊎_elim (λ a. first _ _ _ (f.goes a) j) (λ b. second _ _ _ k (g.goes b)) (why e);
-      }
-    where
-      steps-on : (x y z : ℕ) → x ≤ y → y ≤ z → x ≤ z
-      steps-on v0 v1 v2 a b = omega arith
-
-      first : (x y z : ℕ) → x + 1 ≤ y → y ≤ z → x + 1 ≤ z
-      first v0 v1 v2 a b = omega arith
-
-      second : (x y z : ℕ) → x ≤ y → y + 1 ≤ z → x + 1 ≤ z
-      second v0 v1 v2 a b = omega arith
-
-  -- turns after takes, which leave the ends as they were
+  -- takes leave the ends as they were, so turns after them go as far
   pub client-goes-since : (n m : PerChannel ℕ) (s t u : ClientState A C M) (moved : Bool) → SameClientEnds s t → ClientGoes n t m u moved → ClientGoes n s m u moved
-  client-goes-since n m s t u moved ends f =
-      let e = client-stays n s t ends in
-      record {
-        same = same_client_then s t u (client-same s t ends) f.same;
-        keeps = subst (λ k. k ≤ client_progress m u) e f.keeps;
-        goes = λ a. subst (λ k. k + 1 ≤ client_progress m u) e (f.goes a);
-      }
+  client-goes-since n m s t u moved ends f = goes-since n m s t u moved (same_client_then s t u (client-same s t ends) f.same) (client-stays n s t ends) f
 
   pub manager-goes-since : (n m : PerChannel ℕ) (s t u : ManagerState A C M) (moved : Bool) → SameManagerEnds s t → ManagerGoes n t m u moved → ManagerGoes n s m u moved
-  manager-goes-since n m s t u moved ends f =
-      let e = manager-stays n s t ends in
-      record {
-        same = same_manager_then s t u (manager-same s t ends) f.same;
-        keeps = subst (λ k. k ≤ manager_progress m u) e f.keeps;
-        goes = λ a. subst (λ k. k + 1 ≤ manager_progress m u) e (f.goes a);
-      }
+  manager-goes-since n m s t u moved ends f = goes-since n m s t u moved (same_manager_then s t u (manager-same s t ends) f.same) (manager-stays n s t ends) f

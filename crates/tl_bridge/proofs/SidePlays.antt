@@ -14,7 +14,8 @@ use Rattle.tl_bridge.specs.declared.manager_turns.ManagerRun.{ManagerRun}
 use Rattle.tl_bridge.specs.declared.turns.Turn.{Turn}
 use Rattle.tl_bridge.proofs.ChannelOffer.{answered-all, asked-all}
 use Rattle.tl_bridge.proofs.Resting.{none-behind, client-rests-since, manager-rests-since}
-use Rattle.tl_bridge.proofs.SideEnds.{client-goes-since, manager-goes-since, client-goes-then, manager-goes-then}
+use Rattle.tl_pair.proofs.SameSides.{same_client_then, same_manager_then}
+use Rattle.tl_bridge.proofs.SideEnds.{client-goes-since, manager-goes-since, goes-then}
 use Rattle.tl_bridge.proofs.SideRound.{client-took, manager-took}
 
 module _ {C M : ℕ} (near : Beats C M) (n : PerChannel ℕ) where
@@ -70,7 +71,7 @@ module _ {C M : ℕ} (near : Beats C M) (n : PerChannel ℕ) where
       both.at ≡ last.at → both.offers ≡ last.offers → ((both.moved ≡ true) ↔ ((u.moved ≡ true) ⊎ (last.moved ≡ true))) → u.moved ≡ true →
       ClientHasPlayed near n x (record x' { side = s }) both
   client-played-then x x' s u last both before goes turned at offers moved some = record {
-    goes = subst (λ k. ClientGoes n x.side k s both.moved) (sym at) (client-goes-then n u.at last.at x.side x'.side s u.moved last.moved both.moved before.goes goes moved.0);
+    goes = subst (λ k. ClientGoes n x.side k s both.moved) (sym at) (goes-then same_client_then n u.at last.at x.side x'.side s u.moved last.moved both.moved before.goes goes moved.0);
     capacity_b = before.capacity_b;
     capacity_d = before.capacity_d;
     is_at = λ j m es o h due. subst (λ k. ClientIsAt near j m es k x'.far_b.items x'.far_d.items s both.offers) (sym at)
@@ -85,7 +86,7 @@ module _ {C M : ℕ} (near : Beats C M) (n : PerChannel ℕ) where
       both.at ≡ last.at → both.offers ≡ last.offers → ((both.moved ≡ true) ↔ ((u.moved ≡ true) ⊎ (last.moved ≡ true))) → u.moved ≡ true →
       ManagerHasPlayed near n y (record y' { side = t }) both
   manager-played-then y y' t u last both before goes turned at offers moved some = record {
-    goes = subst (λ k. ManagerGoes n y.side k t both.moved) (sym at) (manager-goes-then n u.at last.at y.side y'.side t u.moved last.moved both.moved before.goes goes moved.0);
+    goes = subst (λ k. ManagerGoes n y.side k t both.moved) (sym at) (goes-then same_manager_then n u.at last.at y.side y'.side t u.moved last.moved both.moved before.goes goes moved.0);
     capacity_a = before.capacity_a;
     capacity_c = before.capacity_c;
     capacity_e = before.capacity_e;

@@ -84,9 +84,9 @@ module _ {A : Type 0} {C M : ℕ} (near : Beats C M) where
             (λ b f. alone-own rules_c x.c.accepted b f) k.does_c) refl refl refl _ refl;
         e_sent = sent-passed rules_e near.e (n.e + steps p.e) y.e.taken y.e (client_pumps s1 s2 y).e (sent-offer rules_e near.e n.e (stops_alone rules_e x.e.accepted) (λ _. 0) x.e p.e k.beats_e y.e h.e_sent
             (λ b f. alone-own rules_e x.e.accepted b f) k.does_e) refl refl refl _ refl;
-        a_homed = homed-offer rules_a near.a n.a (client_answer x.history) (λ _. 0) x.a p.a k.beats_a y.a h.stands.a.pipe.crosses h.a_homed (λ b. refl) k.does_a;
-        c_homed = homed-offer rules_c near.c n.c (stops_alone rules_c x.c.accepted) (λ _. 0) x.c p.c k.beats_c y.c h.stands.c.pipe.crosses h.c_homed (λ b. refl) k.does_c;
-        e_homed = homed-offer rules_e near.e n.e (stops_alone rules_e x.e.accepted) (λ _. 0) x.e p.e k.beats_e y.e h.stands.e.pipe.crosses h.e_homed (λ b. refl) k.does_e;
+        a_homed = homed-offer rules_a near.a n.a (client_answer x.history) (λ _. 0) x.a p.a k.beats_a y.a h.stands.a.pipe.crosses.handed h.a_homed (λ b. refl) k.does_a;
+        c_homed = homed-offer rules_c near.c n.c (stops_alone rules_c x.c.accepted) (λ _. 0) x.c p.c k.beats_c y.c h.stands.c.pipe.crosses.handed h.c_homed (λ b. refl) k.does_c;
+        e_homed = homed-offer rules_e near.e n.e (stops_alone rules_e x.e.accepted) (λ _. 0) x.e p.e k.beats_e y.e h.stands.e.pipe.crosses.handed h.e_homed (λ b. refl) k.does_e;
         b_taken = h.b_taken ∙ sym k.taken;
         d_taken = h.d_taken ∙ sym (ap answered k.history ∙ answered_asks x.history k.beats_a);
         stop_a = stops-same rules_a near.a (n.a + steps p.a) (client_answer x.history) (client_answer y.history) y.a.accepted p.a
@@ -116,7 +116,7 @@ module _ {A : Type 0} {C M : ℕ} (near : Beats C M) where
             (λ b f. alone-own rules_b x.b.accepted b f) k.does_b) refl refl refl _ refl;
         d_sent = sent-passed rules_d near.d (n.d + steps p.d) y.d.taken y.d (manager_pumps t1 t2 y).d (sent-offer rules_d near.d n.d (manager_answer x.history) (λ b. manager_home x.history b.head) x.d p.d k.beats_d y.d h.d_sent
             (λ b f. subst (λ q. fault_after rules_d q b ≡ None) h.stands.accepted (manager-own x.history b f)) k.does_d) refl refl refl _ refl;
-        b_homed = homed-offer rules_b near.b n.b (stops_alone rules_b x.b.accepted) (λ _. 0) x.b p.b k.beats_b y.b h.stands.b.pipe.crosses h.b_homed (λ b. refl) k.does_b;
+        b_homed = homed-offer rules_b near.b n.b (stops_alone rules_b x.b.accepted) (λ _. 0) x.b p.b k.beats_b y.b h.stands.b.pipe.crosses.handed h.b_homed (λ b. refl) k.does_b;
         a_taken = h.a_taken ∙ sym (ap asked k.history ∙ asked_answers x.history k.beats_d);
         c_taken = h.c_taken ∙ sym k.taken_c;
         e_taken = h.e_taken ∙ sym k.taken_e;

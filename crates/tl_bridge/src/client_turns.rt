@@ -8,13 +8,13 @@ ghost use Rattle.tl_settle.specs.Histories.{Event};
 ghost use Rattle.tl_pair.specs.Sides.{ClientPast, ClientStandsFor};
 ghost use Rattle.tl_bridge.specs.Scripts.{HasShortLists, near_beats};
 ghost use Rattle.tl_bridge.specs.declared.channel_state.Offered.TheVariants.{NotReady};
-ghost use Rattle.tl_bridge.specs.Inner.Offering.{OffersNext, on_a, on_c, on_e};
 ghost use Rattle.tl_bridge.specs.Inner.Running.{HaveRoomToCount};
 ghost use Rattle.tl_bridge.specs.Inner.Sides.{SameClientEnds, ClientHasTaken, ClientHasOffered, ClientGoes, ClientIsAt, ClientMovesOrRests, ClientMayPlay, ClientHasPlayed};
 
 use crate::channel_state::Offered;
 use crate::gates::Gate;
 use crate::inboxes::take_all;
+use crate::offers::offer_next;
 use crate::turns::Turn;
 use tl_msg::{Beat, ChA, ChB, ChC, ChD, ChE};
 use tl_pair::ClientSide;
@@ -44,63 +44,6 @@ impl<const C: usize, const M: usize> ClientRun<C, M> {
         } = self;
         (far_b, far_d)
     }
-}
-
-// The client's side offers the next beat of A, of which `at` were accepted.
-fn offer_a<const C: usize, const M: usize>(
-    side: &mut ClientSide<C, M>,
-    beats: &[Beat<ChA, C>],
-    at: usize,
-) -> Offered
-    requires near { IsWidth C }
-    requires far { IsWidth M }
-    ensures { OffersNext on_a beats.now at side.old result side.new }
-{
-    let Some(beat) = beats.get(at) else {
-        return Offered::from_close(side.close_a());
-    };
-    if !side.ready_a() {
-        return Offered::NotReady;
-    }
-    Offered::from_offer(side.offer_a(*beat))
-}
-
-// The client's side offers the next beat of C, of which `at` were accepted.
-fn offer_c<const C: usize, const M: usize>(
-    side: &mut ClientSide<C, M>,
-    beats: &[Beat<ChC, C>],
-    at: usize,
-) -> Offered
-    requires near { IsWidth C }
-    requires far { IsWidth M }
-    ensures { OffersNext on_c beats.now at side.old result side.new }
-{
-    let Some(beat) = beats.get(at) else {
-        return Offered::from_close(side.close_c());
-    };
-    if !side.ready_c() {
-        return Offered::NotReady;
-    }
-    Offered::from_offer(side.offer_c(*beat))
-}
-
-// The client's side offers the next beat of E, of which `at` were accepted.
-fn offer_e<const C: usize, const M: usize>(
-    side: &mut ClientSide<C, M>,
-    beats: &[Beat<ChE, C>],
-    at: usize,
-) -> Offered
-    requires near { IsWidth C }
-    requires far { IsWidth M }
-    ensures { OffersNext on_e beats.now at side.old result side.new }
-{
-    let Some(beat) = beats.get(at) else {
-        return Offered::from_close(side.close_e());
-    };
-    if !side.ready_e() {
-        return Offered::NotReady;
-    }
-    Offered::from_offer(side.offer_e(*beat))
 }
 
 // The client's side takes all that stands in its inboxes.
@@ -133,9 +76,9 @@ fn offer_each<const C: usize, const M: usize>(
     ensures ends { SameClientEnds side.old side.new }
     ensures others { (result.b ≡ NotReady) × (result.d ≡ NotReady) }
 {
-    let a = offer_a(side, &script.a, at.a);
-    let c = offer_c(side, &script.c, at.c);
-    let e = offer_e(side, &script.e, at.e);
+    let a = offer_next(side, &script.a, at.a);
+    let c = offer_next(side, &script.c, at.c);
+    let e = offer_next(side, &script.e, at.e);
     PerChannel {
         a,
         b: Offered::NotReady,

@@ -9,13 +9,13 @@ ghost use Rattle.tl_settle.specs.Histories.{Event};
 ghost use Rattle.tl_pair.specs.Sides.{ManagerPast, ManagerStandsFor};
 ghost use Rattle.tl_bridge.specs.Scripts.{HasShortLists, near_beats};
 ghost use Rattle.tl_bridge.specs.declared.channel_state.Offered.TheVariants.{NotReady};
-ghost use Rattle.tl_bridge.specs.Inner.Offering.{OffersNext, on_b, on_d};
 ghost use Rattle.tl_bridge.specs.Inner.Running.{HaveRoomToCount};
 ghost use Rattle.tl_bridge.specs.Inner.Sides.{SameManagerEnds, ManagerHasTaken, ManagerHasOffered, ManagerGoes, ManagerIsAt, ManagerMovesOrRests, ManagerMayPlay, ManagerHasPlayed};
 
 use crate::channel_state::Offered;
 use crate::gates::Gate;
 use crate::inboxes::take_all;
+use crate::offers::offer_next;
 use crate::turns::Turn;
 use tl_msg::{Beat, ChA, ChB, ChC, ChD, ChE};
 use tl_pair::ManagerSide;
@@ -47,44 +47,6 @@ impl<const C: usize, const M: usize> ManagerRun<C, M> {
         } = self;
         (far_a, far_c, far_e)
     }
-}
-
-// The manager's side offers the next beat of B, of which `at` were accepted.
-fn offer_b<const C: usize, const M: usize>(
-    side: &mut ManagerSide<C, M>,
-    beats: &[Beat<ChB, M>],
-    at: usize,
-) -> Offered
-    requires near { IsWidth M }
-    requires far { IsWidth C }
-    ensures { OffersNext on_b beats.now at side.old result side.new }
-{
-    let Some(beat) = beats.get(at) else {
-        return Offered::from_close(side.close_b());
-    };
-    if !side.ready_b() {
-        return Offered::NotReady;
-    }
-    Offered::from_offer(side.offer_b(*beat))
-}
-
-// The manager's side offers the next beat of D, of which `at` were accepted.
-fn offer_d<const C: usize, const M: usize>(
-    side: &mut ManagerSide<C, M>,
-    beats: &[Beat<ChD, M>],
-    at: usize,
-) -> Offered
-    requires near { IsWidth M }
-    requires far { IsWidth C }
-    ensures { OffersNext on_d beats.now at side.old result side.new }
-{
-    let Some(beat) = beats.get(at) else {
-        return Offered::from_close(side.close_d());
-    };
-    if !side.ready_d() {
-        return Offered::NotReady;
-    }
-    Offered::from_offer(side.offer_d(*beat))
 }
 
 // The manager's side takes all that stands in its inboxes.
@@ -120,8 +82,8 @@ fn offer_each<const C: usize, const M: usize>(
     ensures ends { SameManagerEnds side.old side.new }
     ensures others { (result.a ≡ NotReady) × (result.c ≡ NotReady) × (result.e ≡ NotReady) }
 {
-    let b = offer_b(side, &script.b, at.b);
-    let d = offer_d(side, &script.d, at.d);
+    let b = offer_next(side, &script.b, at.b);
+    let d = offer_next(side, &script.d, at.d);
     PerChannel {
         a: Offered::NotReady,
         b,

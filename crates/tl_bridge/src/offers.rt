@@ -1,113 +1,259 @@
-//! The near beats that the two sides of a run offer, at most one of each channel in a round.
-ghost use Rattle.std.specs.Prelude.{◌≡◌, ◌+◌, ◌<◌, ◌^◌};
+//! The near beats that a run offers, at most one of each channel at a time.
+ghost use Rattle.std.specs.Prelude.{◌≡◌, ℕ, List, None, Some, IsTrue, slice_get};
 ghost use Rattle.tl_lanes.specs.Lanes.{IsWidth};
-ghost use Rattle.tl_sides.specs.Bridges.{Past, StandsFor};
-ghost use Rattle.tl_bridge.specs.Scripts.{near_beats};
-ghost use Rattle.tl_bridge.specs.Inner.Offering.{OffersNext, on_pipe, on_requests, on_responses};
-ghost use Rattle.tl_bridge.specs.Inner.Running.{HasOffered, HaveRoomToCount, counted, steps};
+ghost use Rattle.tl_ring.specs.Ends.{as_pipe};
+ghost use Rattle.tl_ring.specs.Pipe as piping;
+ghost use Rattle.tl_bridge.specs.declared.channel_state.Offered.{Offered};
+ghost use Rattle.tl_bridge.specs.declared.channel_state.Offered.TheVariants.{NotReady};
+ghost use Rattle.tl_bridge.specs.Inner.Offering.{OffersNext, close_outcome, offer_outcome, on_a, on_b, on_c, on_d, on_e, on_bridge_a, on_bridge_b, on_bridge_c, on_bridge_d, on_bridge_e};
 
 use crate::channel_state::Offered;
-use tl_msg::{Beat, ChA, ChD, Channel};
-use tl_ring::SyncPipe;
-use tl_sides::{
-    ClientBook, ManagerBook, PerChannel, SyncBridge, offer_alone, offer_request, offer_response,
-};
-use tl_trace::Script;
+use tl_msg::{BeatOf, HeadA, HeadB, HeadC, HeadD, HeadE, SideFault};
+use tl_pair::{ClientSide, ManagerSide};
+use tl_ring::EndFault;
+use tl_sides::{SyncBridge, offer_alone, offer_request, offer_response};
 
-// A side offers the next beat of B, C or E, of which `at` were accepted, and counts it there where
-// it is accepted.
-fn offer_next<K: Channel, const W: usize, const V: usize>(
-    pipe: &mut SyncPipe<K, W, V>,
-    beats: &[Beat<K, W>],
-    at: &mut usize,
-) -> Offered
-    requires near { IsWidth W }
-    requires far { IsWidth V }
-    requires few { at.old < 2 ^ 41 }
-    ensures offered { OffersNext (on_pipe K.rules) beats.now at.old pipe.old result pipe.new }
-    ensures counted { at.new ≡ at.old + steps result }
-{
-    let Some(beat) = beats.get(*at) else {
-        return Offered::from_close(pipe.close());
-    };
-    if !pipe.ready() {
-        return Offered::NotReady;
-    }
-    let offered = Offered::from_offer(offer_alone(pipe, beat));
-    *at += offered.steps();
-    offered
+/// What offers beats `B` on one of its channels, one after another.
+pub(crate) trait Offers<B> {
+    // whether it may offer, and whether its channel is ready for a beat
+    ghost CanOffer: { Self → Type 0 };
+
+    ghost IsReady: { Self → Type 0 };
+
+    // `new` is what `old` becomes where the next beat of a list was offered, of which so many were
+    // accepted before, and this became of it
+    ghost Becomes: { (beats : List B) → (at : ℕ) → (old : Self) → Offered → (new : Self) → Type 0 };
+
+    /// Closes the channel, where no beat of a list is left. Refused inside a burst.
+    fn close(&mut self) -> Result<(), EndFault>
+        ensures { (beats : List B) (at : ℕ) → slice_get beats at ≡ None →
+            Becomes beats at self.old (close_outcome result) self.new };
+
+    /// Whether a beat may be offered.
+    fn is_ready(&self) -> bool
+        ensures ready { IsTrue result → IsReady self.now }
+        ensures waits { (IsTrue result → ⊥) → (beats : List B) (at : ℕ) (beat : B) →
+            slice_get beats at ≡ Some beat → Becomes beats at self.now NotReady self.now };
+
+    /// Offers a beat.
+    fn offer(&mut self, beat: &B) -> Result<(), SideFault>
+        requires can { CanOffer self.old }
+        requires ready { IsReady self.old }
+        ensures { (beats : List B) (at : ℕ) → slice_get beats at ≡ Some beat.now →
+            Becomes beats at self.old (offer_outcome result) self.new };
 }
 
-// The client's side offers the next beat of A, of which `at` were accepted, and counts it there where
-// it is accepted.
-fn offer_next_request<const C: usize, const M: usize>(
-    book: &mut ClientBook<C>,
-    pipe: &mut SyncPipe<ChA, C, M>,
-    beats: &[Beat<ChA, C>],
-    at: &mut usize,
-) -> Offered
-    requires near { IsWidth C }
-    requires far { IsWidth M }
-    requires few { at.old < 2 ^ 41 }
-    ensures offered { OffersNext on_requests beats.now at.old (book.old, pipe.old) result
-        (book.new, pipe.new) }
-    ensures counted { at.new ≡ at.old + steps result }
+// The next beat of a list is offered, of which `at` were accepted, where the channel is ready. Where
+// no beat is left, the channel is closed.
+pub(crate) fn offer_next<B, S: Offers<B>>(side: &mut S, beats: &[B], at: usize) -> Offered
+    requires { S.CanOffer side.old }
+    ensures { S.Becomes beats.now at side.old result side.new }
 {
-    let Some(beat) = beats.get(*at) else {
-        return Offered::from_close(pipe.close());
+    let Some(beat) = beats.get(at) else {
+        return Offered::from_close(side.close());
     };
-    if !pipe.ready() {
+    if !side.is_ready() {
         return Offered::NotReady;
     }
-    let offered = Offered::from_offer(offer_request(book, pipe, beat));
-    *at += offered.steps();
-    offered
+    Offered::from_offer(side.offer(beat))
 }
 
-// The manager's side offers the next beat of D, of which `at` were accepted, and counts it there
-// where it is accepted.
-fn offer_next_response<const C: usize, const M: usize>(
-    book: &mut ManagerBook<M>,
-    pipe: &mut SyncPipe<ChD, M, C>,
-    beats: &[Beat<ChD, M>],
-    at: &mut usize,
-) -> Offered
-    requires near { IsWidth M }
-    requires far { IsWidth C }
-    requires few { at.old < 2 ^ 41 }
-    ensures offered { OffersNext on_responses beats.now at.old (book.old, pipe.old) result
-        (book.new, pipe.new) }
-    ensures counted { at.new ≡ at.old + steps result }
-{
-    let Some(beat) = beats.get(*at) else {
-        return Offered::from_close(pipe.close());
-    };
-    if !pipe.ready() {
-        return Offered::NotReady;
+impl<const C: usize, const M: usize> Offers<BeatOf<HeadA, C>> for ClientSide<C, M> {
+    ghost CanOffer = { λ _. IsWidth C × IsWidth M };
+
+    ghost IsReady = { λ s. piping.IsReady (as_pipe s.a) };
+
+    ghost Becomes = { OffersNext on_a };
+
+    fn close(&mut self) -> Result<(), EndFault> {
+        self.close_a()
     }
-    let offered = Offered::from_offer(offer_response(book, pipe, beat));
-    *at += offered.steps();
-    offered
+
+    fn is_ready(&self) -> bool {
+        self.ready_a()
+    }
+
+    fn offer(&mut self, beat: &BeatOf<HeadA, C>) -> Result<(), SideFault> {
+        self.offer_a(*beat)
+    }
 }
 
-// Each side offers the next beat of each of its channels: first the client's side, then the
-// manager's, each in the order of letters. `at` counts what is accepted.
-pub(crate) fn offer_on_each<const C: usize, const M: usize>(
-    bridge: &mut SyncBridge<C, M>,
-    script: &Script<C, M>,
-    at: &mut PerChannel<usize>,
-) -> PerChannel<Offered>
-    requires client { IsWidth C }
-    requires manager { IsWidth M }
-    requires few { HaveRoomToCount at.old }
-    ensures offered { (x : Past C M) → StandsFor bridge.old x →
-        HasOffered (near_beats script.now) at.old x bridge.new result }
-    ensures counted { at.new ≡ counted at.old result }
-{
-    let a = offer_next_request(&mut bridge.client, &mut bridge.a, &script.a, &mut at.a);
-    let c = offer_next(&mut bridge.c, &script.c, &mut at.c);
-    let e = offer_next(&mut bridge.e, &script.e, &mut at.e);
-    let b = offer_next(&mut bridge.b, &script.b, &mut at.b);
-    let d = offer_next_response(&mut bridge.manager, &mut bridge.d, &script.d, &mut at.d);
-    PerChannel { a, b, c, d, e }
+impl<const C: usize, const M: usize> Offers<BeatOf<HeadC, C>> for ClientSide<C, M> {
+    ghost CanOffer = { λ _. IsWidth C × IsWidth M };
+
+    ghost IsReady = { λ s. piping.IsReady (as_pipe s.c) };
+
+    ghost Becomes = { OffersNext on_c };
+
+    fn close(&mut self) -> Result<(), EndFault> {
+        self.close_c()
+    }
+
+    fn is_ready(&self) -> bool {
+        self.ready_c()
+    }
+
+    fn offer(&mut self, beat: &BeatOf<HeadC, C>) -> Result<(), SideFault> {
+        self.offer_c(*beat)
+    }
+}
+
+impl<const C: usize, const M: usize> Offers<BeatOf<HeadE, C>> for ClientSide<C, M> {
+    ghost CanOffer = { λ _. IsWidth C × IsWidth M };
+
+    ghost IsReady = { λ s. piping.IsReady (as_pipe s.e) };
+
+    ghost Becomes = { OffersNext on_e };
+
+    fn close(&mut self) -> Result<(), EndFault> {
+        self.close_e()
+    }
+
+    fn is_ready(&self) -> bool {
+        self.ready_e()
+    }
+
+    fn offer(&mut self, beat: &BeatOf<HeadE, C>) -> Result<(), SideFault> {
+        self.offer_e(*beat)
+    }
+}
+
+impl<const C: usize, const M: usize> Offers<BeatOf<HeadB, M>> for ManagerSide<C, M> {
+    ghost CanOffer = { λ _. IsWidth C × IsWidth M };
+
+    ghost IsReady = { λ s. piping.IsReady (as_pipe s.b) };
+
+    ghost Becomes = { OffersNext on_b };
+
+    fn close(&mut self) -> Result<(), EndFault> {
+        self.close_b()
+    }
+
+    fn is_ready(&self) -> bool {
+        self.ready_b()
+    }
+
+    fn offer(&mut self, beat: &BeatOf<HeadB, M>) -> Result<(), SideFault> {
+        self.offer_b(*beat)
+    }
+}
+
+impl<const C: usize, const M: usize> Offers<BeatOf<HeadD, M>> for ManagerSide<C, M> {
+    ghost CanOffer = { λ _. IsWidth C × IsWidth M };
+
+    ghost IsReady = { λ s. piping.IsReady (as_pipe s.d) };
+
+    ghost Becomes = { OffersNext on_d };
+
+    fn close(&mut self) -> Result<(), EndFault> {
+        self.close_d()
+    }
+
+    fn is_ready(&self) -> bool {
+        self.ready_d()
+    }
+
+    fn offer(&mut self, beat: &BeatOf<HeadD, M>) -> Result<(), SideFault> {
+        self.offer_d(*beat)
+    }
+}
+
+impl<const C: usize, const M: usize> Offers<BeatOf<HeadA, C>> for SyncBridge<C, M> {
+    ghost CanOffer = { λ _. IsWidth C × IsWidth M };
+
+    ghost IsReady = { λ s. piping.IsReady s.a };
+
+    ghost Becomes = { OffersNext on_bridge_a };
+
+    fn close(&mut self) -> Result<(), EndFault> {
+        self.close_a()
+    }
+
+    fn is_ready(&self) -> bool {
+        self.ready_a()
+    }
+
+    fn offer(&mut self, beat: &BeatOf<HeadA, C>) -> Result<(), SideFault> {
+        offer_request(&mut self.client, &mut self.a, beat)
+    }
+}
+
+impl<const C: usize, const M: usize> Offers<BeatOf<HeadB, M>> for SyncBridge<C, M> {
+    ghost CanOffer = { λ _. IsWidth C × IsWidth M };
+
+    ghost IsReady = { λ s. piping.IsReady s.b };
+
+    ghost Becomes = { OffersNext on_bridge_b };
+
+    fn close(&mut self) -> Result<(), EndFault> {
+        self.close_b()
+    }
+
+    fn is_ready(&self) -> bool {
+        self.ready_b()
+    }
+
+    fn offer(&mut self, beat: &BeatOf<HeadB, M>) -> Result<(), SideFault> {
+        offer_alone(&mut self.b, beat)
+    }
+}
+
+impl<const C: usize, const M: usize> Offers<BeatOf<HeadC, C>> for SyncBridge<C, M> {
+    ghost CanOffer = { λ _. IsWidth C × IsWidth M };
+
+    ghost IsReady = { λ s. piping.IsReady s.c };
+
+    ghost Becomes = { OffersNext on_bridge_c };
+
+    fn close(&mut self) -> Result<(), EndFault> {
+        self.close_c()
+    }
+
+    fn is_ready(&self) -> bool {
+        self.ready_c()
+    }
+
+    fn offer(&mut self, beat: &BeatOf<HeadC, C>) -> Result<(), SideFault> {
+        offer_alone(&mut self.c, beat)
+    }
+}
+
+impl<const C: usize, const M: usize> Offers<BeatOf<HeadD, M>> for SyncBridge<C, M> {
+    ghost CanOffer = { λ _. IsWidth C × IsWidth M };
+
+    ghost IsReady = { λ s. piping.IsReady s.d };
+
+    ghost Becomes = { OffersNext on_bridge_d };
+
+    fn close(&mut self) -> Result<(), EndFault> {
+        self.close_d()
+    }
+
+    fn is_ready(&self) -> bool {
+        self.ready_d()
+    }
+
+    fn offer(&mut self, beat: &BeatOf<HeadD, M>) -> Result<(), SideFault> {
+        offer_response(&mut self.manager, &mut self.d, beat)
+    }
+}
+
+impl<const C: usize, const M: usize> Offers<BeatOf<HeadE, C>> for SyncBridge<C, M> {
+    ghost CanOffer = { λ _. IsWidth C × IsWidth M };
+
+    ghost IsReady = { λ s. piping.IsReady s.e };
+
+    ghost Becomes = { OffersNext on_bridge_e };
+
+    fn close(&mut self) -> Result<(), EndFault> {
+        self.close_e()
+    }
+
+    fn is_ready(&self) -> bool {
+        self.ready_e()
+    }
+
+    fn offer(&mut self, beat: &BeatOf<HeadE, C>) -> Result<(), SideFault> {
+        offer_alone(&mut self.e, beat)
+    }
 }

@@ -5,10 +5,10 @@ ghost use Rattle.tl_settle.specs.Outcomes.{Beats};
 ghost use Rattle.tl_sides.specs.Bridges.{Bridge, Past, StandsFor};
 ghost use Rattle.tl_bridge.specs.Scripts.{EndsIn, HasShortLists, near_beats};
 ghost use Rattle.tl_bridge.specs.Inner.Arriving.{HasRoomFor, KeepsRoom, beats_of};
-ghost use Rattle.tl_bridge.specs.Inner.Running.{IsAt, IsUnderWay, IsNew, HasRound, HasEnded, AreStopped, counted, no_beats, standing_count, all_standing, all_under_way, all_stopped};
+ghost use Rattle.tl_bridge.specs.Inner.Running.{IsAt, IsUnderWay, IsNew, HasRound, HasEnded, AreStopped, HasOffered, HaveRoomToCount, counted, no_beats, standing_count, all_standing, all_under_way, all_stopped};
 
-use crate::channel_state::{Offered, Stop, all_stops};
-use crate::offers::offer_on_each;
+use crate::channel_state::{Offered, Stop, add_accepted, all_stops};
+use crate::offers::offer_next;
 use crate::outcome::{Outcome, verdict};
 use crate::taken::{Taken, take_from_each};
 use tl_ring::Standing;
@@ -40,6 +40,30 @@ pub(crate) fn are_empty(standings: &Standings) -> bool
         && is_empty(&standings.c)
         && is_empty(&standings.d)
         && is_empty(&standings.e)
+}
+
+// Each side offers the next beat of each of its channels: first the client's side, then the
+// manager's, each in the order of letters. `at` counts what is accepted.
+fn offer_on_each<const C: usize, const M: usize>(
+    bridge: &mut SyncBridge<C, M>,
+    script: &Script<C, M>,
+    at: &mut PerChannel<usize>,
+) -> PerChannel<Offered>
+    requires client { IsWidth C }
+    requires manager { IsWidth M }
+    requires few { HaveRoomToCount at.old }
+    ensures offered { (x : Past C M) → StandsFor bridge.old x →
+        HasOffered (near_beats script.now) at.old x bridge.new result }
+    ensures counted { at.new ≡ counted at.old result }
+{
+    let a = offer_next(bridge, &script.a, at.a);
+    let c = offer_next(bridge, &script.c, at.c);
+    let e = offer_next(bridge, &script.e, at.e);
+    let b = offer_next(bridge, &script.b, at.b);
+    let d = offer_next(bridge, &script.d, at.d);
+    let offers = PerChannel { a, b, c, d, e };
+    add_accepted(at, &offers);
+    offers
 }
 
 // One round: both sides take all that stands in their inboxes, then each offers the next beat of

@@ -1,2 +1,2 @@
-mod AsBox
+mod AsOwner
 mod BothWidths

@@ -1,15 +1,14 @@
 //! The end of each channel.
-ghost use Rattle.std.specs.Prelude.{◌≡◌, ◌≢◌, None};
 ghost use Rattle.tl_msg.specs.Tables.{rules_a, rules_b, rules_c, rules_d, rules_e};
 ghost use Rattle.tl_burst.specs.Handing.{rest_of};
-ghost use Rattle.tl_sides.specs.Bridges.{Past, after_close_a, after_close_b, after_close_c, after_close_d, after_close_e};
-ghost use Rattle.tl_c_beats.specs.Answers.{close_answer};
+ghost use Rattle.tl_sides.specs.Bridges.{after_close_a, after_close_b, after_close_c, after_close_d, after_close_e};
+ghost use Rattle.tl_c_beats.specs.Calls.{Closes};
 ghost use Rattle.tl_c.specs.Calls.{HoldsPast};
 
 use crate::handle::Handle;
 use crate::widths::{CLIENT, MANAGER};
 use std::alloc::Global;
-use tl_c_beats::NO_BRIDGE;
+use tl_c_beats::{NO_BRIDGE, close_number, on_held};
 
 /// The client's side ends its offers of A.
 ///
@@ -17,22 +16,10 @@ use tl_c_beats::NO_BRIDGE;
 /// `NO_BRIDGE`.
 #[unsafe(no_mangle)]
 pub extern "C" fn tl_close_a(alloc: Global, handle: &mut Handle) -> u8
-    ensures no_bridge { handle.old.owned.held ≡ None → result ≡ NO_BRIDGE }
-    ensures answer { (x : Past CLIENT MANAGER) → HoldsPast handle.old.owned.held x →
-        result ≡ close_answer (rest_of rules_a CLIENT x.a.accepted) }
-    ensures closed { (x : Past CLIENT MANAGER) → HoldsPast handle.old.owned.held x →
-        result ≡ 0 → HoldsPast handle.new.owned.held (after_close_a x) }
-    ensures refused { result ≢ 0 → handle.new.owned.held ≡ handle.old.owned.held }
+    ensures { Closes HoldsPast NO_BRIDGE (λ x. rest_of rules_a CLIENT x.a.accepted)
+        after_close_a handle.old.owned.held handle.new.owned.held result }
 {
-    let Some(mut held) = handle.take(alloc) else {
-        return NO_BRIDGE;
-    };
-    let answer = match held.bridge.close_a() {
-        Ok(()) => 0,
-        Err(fault) => fault.number(),
-    };
-    *handle = Handle::of(held);
-    answer
+    close_number(on_held!(handle, alloc, NO_BRIDGE, |held| held.bridge.close_a()))
 }
 
 /// The manager's side ends its offers of B.
@@ -41,22 +28,10 @@ pub extern "C" fn tl_close_a(alloc: Global, handle: &mut Handle) -> u8
 /// `NO_BRIDGE`.
 #[unsafe(no_mangle)]
 pub extern "C" fn tl_close_b(alloc: Global, handle: &mut Handle) -> u8
-    ensures no_bridge { handle.old.owned.held ≡ None → result ≡ NO_BRIDGE }
-    ensures answer { (x : Past CLIENT MANAGER) → HoldsPast handle.old.owned.held x →
-        result ≡ close_answer (rest_of rules_b MANAGER x.b.accepted) }
-    ensures closed { (x : Past CLIENT MANAGER) → HoldsPast handle.old.owned.held x →
-        result ≡ 0 → HoldsPast handle.new.owned.held (after_close_b x) }
-    ensures refused { result ≢ 0 → handle.new.owned.held ≡ handle.old.owned.held }
+    ensures { Closes HoldsPast NO_BRIDGE (λ x. rest_of rules_b MANAGER x.b.accepted)
+        after_close_b handle.old.owned.held handle.new.owned.held result }
 {
-    let Some(mut held) = handle.take(alloc) else {
-        return NO_BRIDGE;
-    };
-    let answer = match held.bridge.close_b() {
-        Ok(()) => 0,
-        Err(fault) => fault.number(),
-    };
-    *handle = Handle::of(held);
-    answer
+    close_number(on_held!(handle, alloc, NO_BRIDGE, |held| held.bridge.close_b()))
 }
 
 /// The client's side ends its offers of C.
@@ -65,22 +40,10 @@ pub extern "C" fn tl_close_b(alloc: Global, handle: &mut Handle) -> u8
 /// `NO_BRIDGE`.
 #[unsafe(no_mangle)]
 pub extern "C" fn tl_close_c(alloc: Global, handle: &mut Handle) -> u8
-    ensures no_bridge { handle.old.owned.held ≡ None → result ≡ NO_BRIDGE }
-    ensures answer { (x : Past CLIENT MANAGER) → HoldsPast handle.old.owned.held x →
-        result ≡ close_answer (rest_of rules_c CLIENT x.c.accepted) }
-    ensures closed { (x : Past CLIENT MANAGER) → HoldsPast handle.old.owned.held x →
-        result ≡ 0 → HoldsPast handle.new.owned.held (after_close_c x) }
-    ensures refused { result ≢ 0 → handle.new.owned.held ≡ handle.old.owned.held }
+    ensures { Closes HoldsPast NO_BRIDGE (λ x. rest_of rules_c CLIENT x.c.accepted)
+        after_close_c handle.old.owned.held handle.new.owned.held result }
 {
-    let Some(mut held) = handle.take(alloc) else {
-        return NO_BRIDGE;
-    };
-    let answer = match held.bridge.close_c() {
-        Ok(()) => 0,
-        Err(fault) => fault.number(),
-    };
-    *handle = Handle::of(held);
-    answer
+    close_number(on_held!(handle, alloc, NO_BRIDGE, |held| held.bridge.close_c()))
 }
 
 /// The manager's side ends its offers of D.
@@ -89,22 +52,10 @@ pub extern "C" fn tl_close_c(alloc: Global, handle: &mut Handle) -> u8
 /// `NO_BRIDGE`.
 #[unsafe(no_mangle)]
 pub extern "C" fn tl_close_d(alloc: Global, handle: &mut Handle) -> u8
-    ensures no_bridge { handle.old.owned.held ≡ None → result ≡ NO_BRIDGE }
-    ensures answer { (x : Past CLIENT MANAGER) → HoldsPast handle.old.owned.held x →
-        result ≡ close_answer (rest_of rules_d MANAGER x.d.accepted) }
-    ensures closed { (x : Past CLIENT MANAGER) → HoldsPast handle.old.owned.held x →
-        result ≡ 0 → HoldsPast handle.new.owned.held (after_close_d x) }
-    ensures refused { result ≢ 0 → handle.new.owned.held ≡ handle.old.owned.held }
+    ensures { Closes HoldsPast NO_BRIDGE (λ x. rest_of rules_d MANAGER x.d.accepted)
+        after_close_d handle.old.owned.held handle.new.owned.held result }
 {
-    let Some(mut held) = handle.take(alloc) else {
-        return NO_BRIDGE;
-    };
-    let answer = match held.bridge.close_d() {
-        Ok(()) => 0,
-        Err(fault) => fault.number(),
-    };
-    *handle = Handle::of(held);
-    answer
+    close_number(on_held!(handle, alloc, NO_BRIDGE, |held| held.bridge.close_d()))
 }
 
 /// The client's side ends its offers of E.
@@ -113,20 +64,8 @@ pub extern "C" fn tl_close_d(alloc: Global, handle: &mut Handle) -> u8
 /// `NO_BRIDGE`.
 #[unsafe(no_mangle)]
 pub extern "C" fn tl_close_e(alloc: Global, handle: &mut Handle) -> u8
-    ensures no_bridge { handle.old.owned.held ≡ None → result ≡ NO_BRIDGE }
-    ensures answer { (x : Past CLIENT MANAGER) → HoldsPast handle.old.owned.held x →
-        result ≡ close_answer (rest_of rules_e CLIENT x.e.accepted) }
-    ensures closed { (x : Past CLIENT MANAGER) → HoldsPast handle.old.owned.held x →
-        result ≡ 0 → HoldsPast handle.new.owned.held (after_close_e x) }
-    ensures refused { result ≢ 0 → handle.new.owned.held ≡ handle.old.owned.held }
+    ensures { Closes HoldsPast NO_BRIDGE (λ x. rest_of rules_e CLIENT x.e.accepted)
+        after_close_e handle.old.owned.held handle.new.owned.held result }
 {
-    let Some(mut held) = handle.take(alloc) else {
-        return NO_BRIDGE;
-    };
-    let answer = match held.bridge.close_e() {
-        Ok(()) => 0,
-        Err(fault) => fault.number(),
-    };
-    *handle = Handle::of(held);
-    answer
+    close_number(on_held!(handle, alloc, NO_BRIDGE, |held| held.bridge.close_e()))
 }

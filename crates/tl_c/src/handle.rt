@@ -86,6 +86,13 @@ impl Handle {
         }
     }
 
+    /// Puts a bridge into the handle.
+    pub fn put(&mut self, held: Box<Held>)
+        ensures { self.new.owned.held ≡ Some held.value }
+    {
+        *self = Handle::of(held);
+    }
+
     /// Takes the bridge out of the handle, which holds none then.
     pub fn take(&mut self, alloc: Global) -> Option<Box<Held>>
         ensures some { IfSome result (λ held. self.old.owned.held ≡ Some held.value) }

@@ -26,7 +26,7 @@ use crate::handle::Handle;
 use crate::held::Held;
 use crate::widths::{CLIENT, MANAGER};
 use std::alloc::Global;
-use tl_c_beats::{ChannelCounts, OUT_OF_MEMORY, beat_counts};
+use tl_c_beats::{ChannelCounts, OUT_OF_MEMORY, channel_counts, on_held};
 use tl_sides::SyncBridge;
 
 /// Makes a bridge with five rings of `ring` beats and gives it to the handle. A bridge that the
@@ -77,12 +77,7 @@ pub extern "C" fn tl_pump(alloc: Global, handle: &mut Handle) -> usize
     ensures moved { (x : Past CLIENT MANAGER) → HoldsPast handle.old.owned.held x →
         HoldsPast handle.new.owned.held (past_pumped handle.old.owned.held x) }
 {
-    let Some(mut held) = handle.take(alloc) else {
-        return 0;
-    };
-    let count = held.bridge.pump();
-    *handle = Handle::of(held);
-    count
+    on_held!(handle, alloc, 0, |held| held.bridge.pump())
 }
 
 /// Moves beats from the rings to the inboxes on all channels, as many as each inbox has room for,
@@ -95,12 +90,7 @@ pub extern "C" fn tl_fetch(alloc: Global, handle: &mut Handle) -> usize
     ensures moved { (x : Past CLIENT MANAGER) → HoldsPast handle.old.owned.held x →
         HoldsPast handle.new.owned.held (past_fetched handle.old.owned.held x) }
 {
-    let Some(mut held) = handle.take(alloc) else {
-        return 0;
-    };
-    let count = held.bridge.fetch();
-    *handle = Handle::of(held);
-    count
+    on_held!(handle, alloc, 0, |held| held.bridge.fetch())
 }
 
 /// Writes how many far beats stand in the stage, the ring and the inbox of each channel: whether a
@@ -117,18 +107,8 @@ pub extern "C" fn tl_standings(
         (result ≡ true) × (counts.new ≡ channel_counts x) }
     ensures same { handle.new.owned.held ≡ handle.old.owned.held }
 {
-    let Some(held) = handle.take(alloc) else {
-        return false;
-    };
-    let standings = held.bridge.standings();
-    *handle = Handle::of(held);
-    *counts = ChannelCounts {
-        a: beat_counts(standings.a),
-        b: beat_counts(standings.b),
-        c: beat_counts(standings.c),
-        d: beat_counts(standings.d),
-        e: beat_counts(standings.e),
-    };
+    let standing = on_held!(handle, alloc, false, |held| held.bridge.standings());
+    *counts = channel_counts(standing.a, standing.b, standing.c, standing.d, standing.e);
     true
 }
 
@@ -141,11 +121,7 @@ pub extern "C" fn tl_drained(alloc: Global, handle: &mut Handle) -> bool
         (result ≡ true) ↔ IsDrained x }
     ensures same { handle.new.owned.held ≡ handle.old.owned.held }
 {
-    let Some(held) = handle.take(alloc) else {
-        return false;
-    };
-    let standings = held.bridge.standings();
-    *handle = Handle::of(held);
+    let standings = on_held!(handle, alloc, false, |held| held.bridge.standings());
     is_idle(standings.a)
         && is_idle(standings.b)
         && is_idle(standings.c)

@@ -8,7 +8,7 @@ ghost use Rattle.tl_c.specs.Calls.{HoldsPast};
 use crate::handle::Handle;
 use crate::widths::{CLIENT, MANAGER};
 use std::alloc::Global;
-use tl_c_beats::{BeatFields, fields_a, fields_b, fields_c, fields_d, fields_e};
+use tl_c_beats::{BeatFields, fields_a, fields_b, fields_c, fields_d, fields_e, on_held};
 
 /// The manager's side takes the first beat of A's inbox, and writes it: whether there was one. Where
 /// there was none, nothing changes.
@@ -29,12 +29,7 @@ pub extern "C" fn tl_take_a(
         result ≡ false → slice_get x.a.inbox 0 ≡ None }
     ensures unwritten { result ≡ false → (beat.new ≡ beat.old) × (lanes.new ≡ lanes.old) }
 {
-    let Some(mut held) = handle.take(alloc) else {
-        return false;
-    };
-    let taken = held.bridge.take_a();
-    *handle = Handle::of(held);
-    let Some(far) = taken else {
+    let Some(far) = on_held!(handle, alloc, false, |held| held.bridge.take_a()) else {
         return false;
     };
     *beat = fields_a(&far);
@@ -61,12 +56,7 @@ pub extern "C" fn tl_take_b(
         result ≡ false → slice_get x.b.inbox 0 ≡ None }
     ensures unwritten { result ≡ false → (beat.new ≡ beat.old) × (lanes.new ≡ lanes.old) }
 {
-    let Some(mut held) = handle.take(alloc) else {
-        return false;
-    };
-    let taken = held.bridge.take_b();
-    *handle = Handle::of(held);
-    let Some(far) = taken else {
+    let Some(far) = on_held!(handle, alloc, false, |held| held.bridge.take_b()) else {
         return false;
     };
     *beat = fields_b(&far);
@@ -93,12 +83,7 @@ pub extern "C" fn tl_take_c(
         result ≡ false → slice_get x.c.inbox 0 ≡ None }
     ensures unwritten { result ≡ false → (beat.new ≡ beat.old) × (lanes.new ≡ lanes.old) }
 {
-    let Some(mut held) = handle.take(alloc) else {
-        return false;
-    };
-    let taken = held.bridge.take_c();
-    *handle = Handle::of(held);
-    let Some(far) = taken else {
+    let Some(far) = on_held!(handle, alloc, false, |held| held.bridge.take_c()) else {
         return false;
     };
     *beat = fields_c(&far);
@@ -125,12 +110,7 @@ pub extern "C" fn tl_take_d(
         result ≡ false → slice_get x.d.inbox 0 ≡ None }
     ensures unwritten { result ≡ false → (beat.new ≡ beat.old) × (lanes.new ≡ lanes.old) }
 {
-    let Some(mut held) = handle.take(alloc) else {
-        return false;
-    };
-    let taken = held.bridge.take_d();
-    *handle = Handle::of(held);
-    let Some(far) = taken else {
+    let Some(far) = on_held!(handle, alloc, false, |held| held.bridge.take_d()) else {
         return false;
     };
     *beat = fields_d(&far);
@@ -157,12 +137,7 @@ pub extern "C" fn tl_take_e(
         result ≡ false → slice_get x.e.inbox 0 ≡ None }
     ensures unwritten { result ≡ false → (beat.new ≡ beat.old) × (lanes.new ≡ lanes.old) }
 {
-    let Some(mut held) = handle.take(alloc) else {
-        return false;
-    };
-    let taken = held.bridge.take_e();
-    *handle = Handle::of(held);
-    let Some(far) = taken else {
+    let Some(far) = on_held!(handle, alloc, false, |held| held.bridge.take_e()) else {
         return false;
     };
     *beat = fields_e(&far);

@@ -1,8 +1,9 @@
 -- What a call answers, by the past of the side or of the bridge that the handle holds (this project's choice).
-use Rattle.std.specs.Prelude.{◌≡◌, ℕ, Bool, true, false, Option, Some, None, List, [], ◌∷◌, if◌then◌else◌}
+use Rattle.std.specs.Prelude.{◌≡◌, ℕ, Bool, true, false, Option, Some, None, Result, Ok, Err, List, [], ◌∷◌, if◌then◌else◌}
 use Rattle.tl_msg.specs.declared.beat.BeatOf.{BeatOf}
 use Rattle.tl_msg.specs.declared.fault.SideFault.{SideFault}
 use Rattle.tl_msg.specs.Names.{side_fault_number}
+use Rattle.tl_ring.specs.declared.fault.EndFault.{EndFault}
 use Rattle.tl_ring.specs.declared.fault.EndFault.TheVariants.{MidBurst}
 use Rattle.tl_ring.specs.Crossing.{World}
 use Rattle.tl_ring.specs.Names.{end_fault_number}
@@ -31,6 +32,17 @@ offer_answer x verdict = if is_ready x then fault_answer verdict else NOT_READY
 abbrev pub close_answer : {A : Type 0} → (rest : List A) → ℕ
 close_answer [] = 0
 close_answer (b ∷ bs) = end_fault_number MidBurst
+
+-- 0, or the number of the fault with which an offer or a close was refused
+abbrev pub number_of : {E : Type 0} → (number : E → ℕ) → Result Unit E → ℕ
+number_of number (Ok done) = 0
+number_of number (Err fault) = number fault
+
+abbrev pub offer_number : Result Unit SideFault → ℕ
+offer_number = number_of side_fault_number
+
+abbrev pub close_number : Result Unit EndFault → ℕ
+close_number = number_of end_fault_number
 
 -- C was told the first beat of an inbox
 pub record IsTold {H : Type 0} {w : ℕ} (fields_of : BeatOf H w → BeatFields) (first : Option (BeatOf H w)) (written : BeatFields) (bytes : List ℕ) : Type 0 where

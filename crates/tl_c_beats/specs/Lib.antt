@@ -2,3 +2,6 @@ pub mod Names
 pub mod Masks
 pub mod Fields
 pub mod Answers
+pub mod Calls
+pub mod Counts
+pub mod Owners

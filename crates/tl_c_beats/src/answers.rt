@@ -1,6 +1,10 @@
 //! What calls answer, and the names of it.
 ghost use Rattle.std.specs.Prelude.{◌≡◌};
 ghost use Rattle.tl_c_beats.specs.Names.{answer_name, zero_ended};
+ghost use Rattle.tl_c_beats.specs.Answers.{offer_number, close_number};
+
+use tl_msg::SideFault;
+use tl_ring::EndFault;
 
 /// The answer of a call where the handle holds no side of a bridge (this project's choice).
 pub const NO_SIDE: u8 = 252;
@@ -51,5 +55,25 @@ pub fn answer_name(answer: u8) -> [u8; NAME_BYTES]
         NO_BRIDGE => *b"NoBridge\0\0\0\0\0\0\0\0",
         NOT_READY => *b"NotReady\0\0\0\0\0\0\0\0",
         _ => [0; NAME_BYTES],
+    }
+}
+
+/// 0 where an offer was accepted, else the number of its fault.
+pub fn offer_number(offered: Result<(), SideFault>) -> u8
+    ensures { result ≡ offer_number offered }
+{
+    match offered {
+        Ok(()) => 0,
+        Err(fault) => fault.number(),
+    }
+}
+
+/// 0 where a channel was closed, else the number of its fault.
+pub fn close_number(closed: Result<(), EndFault>) -> u8
+    ensures { result ≡ close_number closed }
+{
+    match closed {
+        Ok(()) => 0,
+        Err(fault) => fault.number(),
     }
 }

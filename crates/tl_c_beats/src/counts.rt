@@ -1,5 +1,6 @@
 //! How many far beats wait, as C is told.
 ghost use Rattle.std.specs.Prelude.{◌≡◌};
+ghost use Rattle.tl_c_beats.specs.Counts.{beat_counts};
 
 use tl_ring::Standing;
 
@@ -26,13 +27,33 @@ pub struct ChannelCounts {
     pub e: BeatCounts,
 }
 
-/// The counts of one channel.
-pub fn beat_counts(standing: Standing) -> BeatCounts
+/// The counts of all channels, by how their beats stand.
+pub fn channel_counts(
+    a: Standing,
+    b: Standing,
+    c: Standing,
+    d: Standing,
+    e: Standing,
+) -> ChannelCounts
     ensures { result ≡ record {
-      staged = standing.staged;
-      in_ring = standing.in_ring;
-      inbox = standing.inbox;
+      a = beat_counts a;
+      b = beat_counts b;
+      c = beat_counts c;
+      d = beat_counts d;
+      e = beat_counts e;
     } }
+{
+    ChannelCounts {
+        a: beat_counts(a),
+        b: beat_counts(b),
+        c: beat_counts(c),
+        d: beat_counts(d),
+        e: beat_counts(e),
+    }
+}
+
+fn beat_counts(standing: Standing) -> BeatCounts
+    ensures { result ≡ beat_counts standing }
 {
     BeatCounts {
         staged: standing.staged,

@@ -3,14 +3,18 @@
 #![tactic(auto)]
 
 mod answers;
+mod calls;
 mod counts;
 mod fields;
 pub mod laws;
 mod masks;
 mod parts;
 
-pub use answers::{NAME_BYTES, NO_BRIDGE, NO_SIDE, NOT_READY, OUT_OF_MEMORY, VERSION, answer_name};
-pub use counts::{BeatCounts, ChannelCounts, beat_counts};
+pub use answers::{
+    NAME_BYTES, NO_BRIDGE, NO_SIDE, NOT_READY, OUT_OF_MEMORY, VERSION, answer_name, close_number,
+    offer_number,
+};
+pub use counts::{BeatCounts, ChannelCounts, channel_counts};
 pub use fields::{
     BeatFields, RESERVED, beat_a, beat_b, beat_c, beat_d, beat_e, fields_a, fields_b, fields_c,
     fields_d, fields_e,

@@ -4,10 +4,6 @@ use Rattle.tl_lanes.specs.Lanes.{IsWidth}
 use Rattle.tl_lanes.proofs.Widths.{width_sure}
 use Rattle.tl_c_sides.specs.declared.widths.TheConstants.{CLIENT, MANAGER}
 
-pub client : IsWidth CLIENT
+pub widths : IsWidth CLIENT × IsWidth MANAGER
 unfolding lib.Count.ones
-client = width_sure CLIENT (omega arith) refl
-
-pub manager : IsWidth MANAGER
-unfolding lib.Count.ones
-manager = width_sure MANAGER (omega arith) refl
+widths = (width_sure CLIENT (omega arith) refl, width_sure MANAGER (omega arith) refl)

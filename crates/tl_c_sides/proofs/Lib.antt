@@ -1,3 +1,2 @@
+mod AsOwners
 mod BothWidths
-mod ClientAsBox
-mod ManagerAsBox

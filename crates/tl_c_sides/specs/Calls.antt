@@ -41,26 +41,25 @@ KeepsManager None s = s ≡ None
 KeepsManager (Some h) None = ⊥
 KeepsManager (Some h) (Some k) = SameManager h.side k.side
 
--- the beats that a side has fetched on a channel and not yet taken
+-- the beats of an inbox of a side, if one is held: those that it has fetched on a channel and not yet taken
+abbrev pub waiting : {S A : Type 0} → (inbox : S → List A) → Option S → List A
+waiting inbox None = []
+waiting inbox (Some h) = inbox h
+
 abbrev pub inbox_a : Option ManagerHeld → List (BeatOf HeadA MANAGER)
-inbox_a None = []
-inbox_a (Some h) = h.side.a.inbox
+inbox_a = waiting (λ h. h.side.a.inbox)
 
 abbrev pub inbox_b : Option ClientHeld → List (BeatOf HeadB CLIENT)
-inbox_b None = []
-inbox_b (Some h) = h.side.b.inbox
+inbox_b = waiting (λ h. h.side.b.inbox)
 
 abbrev pub inbox_c : Option ManagerHeld → List (BeatOf HeadC MANAGER)
-inbox_c None = []
-inbox_c (Some h) = h.side.c.inbox
+inbox_c = waiting (λ h. h.side.c.inbox)
 
 abbrev pub inbox_d : Option ClientHeld → List (BeatOf HeadD CLIENT)
-inbox_d None = []
-inbox_d (Some h) = h.side.d.inbox
+inbox_d = waiting (λ h. h.side.d.inbox)
 
 abbrev pub inbox_e : Option ManagerHeld → List (BeatOf HeadE MANAGER)
-inbox_e None = []
-inbox_e (Some h) = h.side.e.inbox
+inbox_e = waiting (λ h. h.side.e.inbox)
 
 -- a side moves staged beats into its rings, so many of them, and its past goes on by them
 abbrev pub ClientPumps : (before after : Option ClientHeld) (count : ℕ) → Type 0

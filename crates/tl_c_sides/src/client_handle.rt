@@ -86,6 +86,13 @@ impl ClientHandle {
         }
     }
 
+    /// Puts a side into the handle.
+    pub fn put(&mut self, held: Box<ClientHeld>)
+        ensures { self.new.owned.held ≡ Some held.value }
+    {
+        *self = ClientHandle::of(held);
+    }
+
     /// Takes the side out of the handle, which holds none then.
     pub fn take(&mut self, alloc: Global) -> Option<Box<ClientHeld>>
         ensures some { IfSome result (λ held. self.old.owned.held ≡ Some held.value) }

@@ -86,6 +86,13 @@ impl ManagerHandle {
         }
     }
 
+    /// Puts a side into the handle.
+    pub fn put(&mut self, held: Box<ManagerHeld>)
+        ensures { self.new.owned.held ≡ Some held.value }
+    {
+        *self = ManagerHandle::of(held);
+    }
+
     /// Takes the side out of the handle, which holds none then.
     pub fn take(&mut self, alloc: Global) -> Option<Box<ManagerHeld>>
         ensures some { IfSome result (λ held. self.old.owned.held ≡ Some held.value) }

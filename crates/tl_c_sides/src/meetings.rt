@@ -7,7 +7,7 @@ use crate::client_handle::ClientHandle;
 use crate::manager_handle::ManagerHandle;
 use crate::widths::{CLIENT, MANAGER};
 use std::alloc::Global;
-use tl_c_beats::{ChannelCounts, beat_counts};
+use tl_c_beats::{ChannelCounts, channel_counts};
 use tl_pair::meet_sides;
 
 /// Brings both sides of one bridge together, in one thread, and writes how many far beats stand in
@@ -42,15 +42,9 @@ pub extern "C" fn tl_meet(
         *client = ClientHandle::of(client_held);
         return false;
     };
-    let standings = meet_sides(&mut client_held.side, &mut manager_held.side);
+    let standing = meet_sides(&mut client_held.side, &mut manager_held.side);
     *client = ClientHandle::of(client_held);
     *manager = ManagerHandle::of(manager_held);
-    *counts = ChannelCounts {
-        a: beat_counts(standings.a),
-        b: beat_counts(standings.b),
-        c: beat_counts(standings.c),
-        d: beat_counts(standings.d),
-        e: beat_counts(standings.e),
-    };
+    *counts = channel_counts(standing.a, standing.b, standing.c, standing.d, standing.e);
     true
 }

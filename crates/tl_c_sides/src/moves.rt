@@ -8,6 +8,7 @@ use crate::client_handle::ClientHandle;
 use crate::manager_handle::ManagerHandle;
 use crate::widths::{CLIENT, MANAGER};
 use std::alloc::Global;
+use tl_c_beats::on_held;
 
 /// Moves staged beats of A, C and E into their rings, at least as many as the side knows to find a
 /// place, and answers how many these are in all: at most three times [`tl_ring::ROOM`], and 0
@@ -21,12 +22,7 @@ pub extern "C" fn tl_pump_client(alloc: Global, client: &mut ClientHandle) -> us
         (client_pumped client.old.owned.held client.new.owned.held x) }
     ensures kept { KeepsClient client.old.owned.held client.new.owned.held }
 {
-    let Some(mut held) = client.take(alloc) else {
-        return 0;
-    };
-    let count = held.side.pump();
-    *client = ClientHandle::of(held);
-    count
+    on_held!(client, alloc, 0, |held| held.side.pump())
 }
 
 /// Moves beats of B and D from their rings into the inboxes, at least as many as the side knows to
@@ -40,12 +36,7 @@ pub extern "C" fn tl_fetch_client(alloc: Global, client: &mut ClientHandle) -> u
         HoldsClient client.new.owned.held x }
     ensures kept { KeepsClient client.old.owned.held client.new.owned.held }
 {
-    let Some(mut held) = client.take(alloc) else {
-        return 0;
-    };
-    let count = held.side.fetch();
-    *client = ClientHandle::of(held);
-    count
+    on_held!(client, alloc, 0, |held| held.side.fetch())
 }
 
 /// Moves staged beats of B and D into their rings, at least as many as the side knows to find a
@@ -60,12 +51,7 @@ pub extern "C" fn tl_pump_manager(alloc: Global, manager: &mut ManagerHandle) ->
         (manager_pumped manager.old.owned.held manager.new.owned.held x) }
     ensures kept { KeepsManager manager.old.owned.held manager.new.owned.held }
 {
-    let Some(mut held) = manager.take(alloc) else {
-        return 0;
-    };
-    let count = held.side.pump();
-    *manager = ManagerHandle::of(held);
-    count
+    on_held!(manager, alloc, 0, |held| held.side.pump())
 }
 
 /// Moves beats of A, C and E from their rings into the inboxes, at least as many as the side knows
@@ -79,10 +65,5 @@ pub extern "C" fn tl_fetch_manager(alloc: Global, manager: &mut ManagerHandle) -
         HoldsManager manager.new.owned.held x }
     ensures kept { KeepsManager manager.old.owned.held manager.new.owned.held }
 {
-    let Some(mut held) = manager.take(alloc) else {
-        return 0;
-    };
-    let count = held.side.fetch();
-    *manager = ManagerHandle::of(held);
-    count
+    on_held!(manager, alloc, 0, |held| held.side.fetch())
 }

@@ -11,7 +11,7 @@ use crate::client_handle::ClientHandle;
 use crate::manager_handle::ManagerHandle;
 use crate::widths::{CLIENT, MANAGER};
 use std::alloc::Global;
-use tl_c_beats::{BeatFields, fields_a, fields_b, fields_c, fields_d, fields_e};
+use tl_c_beats::{BeatFields, fields_a, fields_b, fields_c, fields_d, fields_e, on_held};
 
 /// The manager's side takes the first beat of A's inbox, and writes it: whether there was one.
 /// Where there was none, nothing changes.
@@ -35,12 +35,7 @@ pub extern "C" fn tl_take_a(
     ensures unwritten { result ≡ false → (beat.new ≡ beat.old) × (lanes.new ≡ lanes.old) }
     ensures kept { KeepsManager manager.old.owned.held manager.new.owned.held }
 {
-    let Some(mut held) = manager.take(alloc) else {
-        return false;
-    };
-    let taken = held.side.take_a();
-    *manager = ManagerHandle::of(held);
-    let Some(far) = taken else {
+    let Some(far) = on_held!(manager, alloc, false, |held| held.side.take_a()) else {
         return false;
     };
     *beat = fields_a(&far);
@@ -70,12 +65,7 @@ pub extern "C" fn tl_take_b(
     ensures unwritten { result ≡ false → (beat.new ≡ beat.old) × (lanes.new ≡ lanes.old) }
     ensures kept { KeepsClient client.old.owned.held client.new.owned.held }
 {
-    let Some(mut held) = client.take(alloc) else {
-        return false;
-    };
-    let taken = held.side.take_b();
-    *client = ClientHandle::of(held);
-    let Some(far) = taken else {
+    let Some(far) = on_held!(client, alloc, false, |held| held.side.take_b()) else {
         return false;
     };
     *beat = fields_b(&far);
@@ -105,12 +95,7 @@ pub extern "C" fn tl_take_c(
     ensures unwritten { result ≡ false → (beat.new ≡ beat.old) × (lanes.new ≡ lanes.old) }
     ensures kept { KeepsManager manager.old.owned.held manager.new.owned.held }
 {
-    let Some(mut held) = manager.take(alloc) else {
-        return false;
-    };
-    let taken = held.side.take_c();
-    *manager = ManagerHandle::of(held);
-    let Some(far) = taken else {
+    let Some(far) = on_held!(manager, alloc, false, |held| held.side.take_c()) else {
         return false;
     };
     *beat = fields_c(&far);
@@ -140,12 +125,7 @@ pub extern "C" fn tl_take_d(
     ensures unwritten { result ≡ false → (beat.new ≡ beat.old) × (lanes.new ≡ lanes.old) }
     ensures kept { KeepsClient client.old.owned.held client.new.owned.held }
 {
-    let Some(mut held) = client.take(alloc) else {
-        return false;
-    };
-    let taken = held.side.take_d();
-    *client = ClientHandle::of(held);
-    let Some(far) = taken else {
+    let Some(far) = on_held!(client, alloc, false, |held| held.side.take_d()) else {
         return false;
     };
     *beat = fields_d(&far);
@@ -175,12 +155,7 @@ pub extern "C" fn tl_take_e(
     ensures unwritten { result ≡ false → (beat.new ≡ beat.old) × (lanes.new ≡ lanes.old) }
     ensures kept { KeepsManager manager.old.owned.held manager.new.owned.held }
 {
-    let Some(mut held) = manager.take(alloc) else {
-        return false;
-    };
-    let taken = held.side.take_e();
-    *manager = ManagerHandle::of(held);
-    let Some(far) = taken else {
+    let Some(far) = on_held!(manager, alloc, false, |held| held.side.take_e()) else {
         return false;
     };
     *beat = fields_e(&far);

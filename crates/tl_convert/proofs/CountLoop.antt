@@ -14,7 +14,7 @@ use Rattle.tl_burst.specs.Tracking.{IsPlace}
 use Rattle.tl_burst.specs.declared.place.Place.{Place}
 use Rattle.tl_convert.specs.Due.{due}
 use Rattle.tl_convert.specs.Accepted.{accepted_of, accepted_after}
-use Rattle.tl_convert.specs.Inner.Counting.{Gives}
+use Rattle.tl_convert.specs.Counting.{Gives}
 use Rattle.tl_convert.proofs.ConvertStep.{burst-head}
 use Rattle.tl_convert.proofs.CountStep.{count-more}
 

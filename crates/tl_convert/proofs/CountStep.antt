@@ -16,7 +16,7 @@ use Rattle.tl_burst.proofs.Numbers.{div-up}
 use Rattle.tl_burst.proofs.Places.{per-pos}
 use Rattle.tl_burst.proofs.Runs.{of_cells, near-fill, far-fill}
 use Rattle.tl_convert.specs.Due.{due_after, due, part, far_beats_of}
-use Rattle.tl_convert.specs.Inner.Counting.{Gives}
+use Rattle.tl_convert.specs.Counting.{Gives}
 use Rattle.std.proofs.lemmas.Bool.{cases_Bool}
 
 module _ {H : Type 0} (r : Rules H) (w v : ℕ) where

@@ -145,7 +145,7 @@ module _ {H : Type 0} (r : Rules H) (exact : (x y : H) → r.same x y ≡ true �
       (more-due r w v far x.head (length (x ∷ xs)) (length (x ∷ (xs ++ b ∷ []))) (omega arith))))
 
   -- what is due after one more beat, by what was laid out and the rest before it
-  due_more : (bs : List (BeatOf H w)) (b : BeatOf H w) (homes : List ℕ) →
+  pub due_more : (bs : List (BeatOf H w)) (b : BeatOf H w) (homes : List ℕ) →
       due r w v (bs ++ b ∷ []) homes ≡
       laid_after r w v [] homes bs ++
       (cond (ends r w (rest_of r w bs) b) (layout r (message_of r b.head w (slice_index (homes_left r w v [] homes bs) 0) (rest_of r w bs ++ b ∷ [])) v) [] ++

@@ -3,4 +3,5 @@ pub mod Laws
 pub mod Converting
 pub mod Accepted
 pub mod Partial
+pub mod Counting
 pub mod Inner

@@ -3,14 +3,17 @@ ghost use Rattle.tl_lanes.specs.declared.limits.TheConstants.{MAX_SIZE, WIDEST};
 ghost use Rattle.tl_lanes.specs.Lanes.{IsWidth};
 ghost use Rattle.tl_convert.specs.Due.{due};
 ghost use Rattle.tl_convert.specs.Accepted.{accepted_of};
-ghost use Rattle.tl_convert.specs.Inner.Counting.{Gives};
+ghost use Rattle.tl_convert.specs.Counting.{Gives};
 
 use tl_burst::{Place, Tracker};
 use tl_lanes::beat_bytes;
 use tl_msg::{Beat, Channel};
 
-// How many far beats a near beat at this place gives: those of its message whose last byte it brings.
-fn far_beats_at<K: Channel, const W: usize, const V: usize>(place: &Place<K>) -> usize
+/// How many far beats a near beat at this place gives: those of its message whose last byte it
+/// brings, and one where its message has no data. At most 128.
+///
+/// The place is the one that `Tracker::check` answers; `far_count` adds these up over a list.
+pub fn far_beats_at<K: Channel, const W: usize, const V: usize>(place: &Place<K>) -> usize
     requires near { IsWidth W }
     requires far { IsWidth V }
     requires small { K.rules.size place.now.head ≤ MAX_SIZE }

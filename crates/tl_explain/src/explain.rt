@@ -11,7 +11,7 @@ use crate::requests::Requests;
 use crate::walk::Walk;
 use std::alloc::{AllocError, Global};
 use std::fmt::Write;
-use tl_answer::{TextFault, answer_of, at_width, outcome_of};
+use tl_answer::{TextFault, at_width, check_of, outcome_of};
 use tl_bridge::{Outcome, PerChannel};
 use tl_msg::{ChA, ChB, ChC, ChD, ChE, Verdict};
 use tl_trace::{Script, TraceFault, TraceKind, header_of_text, read_script};
@@ -171,7 +171,7 @@ fn with_widths<const C: usize, const M: usize>(
         version,
     };
     let sentences = sentences_of(alloc, text, &script, &outcome, &style)?;
-    let answer = answer_of(alloc, &outcome, true, version)?;
+    let answer = check_of(alloc, &outcome.verdicts, version, C, M)?;
     let mut text = sentences.into_bytes();
     text.extend_from_slice(&answer.text)?;
     Ok(Explanation {

@@ -1,14 +1,20 @@
 -- What a pump and a fetch moved is seen in the stage and in the inbox.
-use Rattle.std.proofs.Common.{◌≡◌, ◌≤◌, ◌-◌, ◌+◌, ℕ, Bool, true, false, length, min, sym, ap, subst, ◌∙◌, arith, length-append}
+use Rattle.std.proofs.Common.{◌≡◌, ◌≤◌, ◌-◌, ◌+◌, ℕ, Bool, true, false, length, min, refl, sym, ap, subst, ◌∙◌, arith, length-append}
 use Rattle.std.proofs.lemmas.List.{length-drop}
-use Rattle.tl_ring.specs.Crossing.{inbox_room}
-use Rattle.tl_ring.specs.Ends.{Sending, Taking, Pushed, Fetched, known_free, known_items}
+use Rattle.tl_msg.specs.Rules.{Rules}
+use Rattle.tl_ring.specs.Crossing.{empty, inbox_room}
+use Rattle.tl_ring.specs.Ends.{Sending, Taking, Sends, Pushed, Fetched, known_free, known_items}
 use Rattle.tl_pair.specs.Ends.{Pumps, Fetches, pump_count, fetch_count}
 
 module _ {K A H : Type 0} {v : ℕ} where
   -- an open end is the end itself
   pub open_end : (s : Sending K A H v) (closed : Bool) → s.closed ≡ false → closed ≡ false → record s { closed = closed } ≡ s
   open_end s closed inside outside = let same : closed ≡ s.closed = outside ∙ sym inside in λ i. record s { closed = same i }
+
+  -- and stands for what it stands for
+  pub still_open : (r : Rules H) {w : ℕ} (s : Sending K A H v) (room : ℕ) → Sends r {w = w} s (empty room) →
+      Sends r {w = w} (record s { closed = false }) (empty room)
+  still_open r {w} s room stands = subst (λ q. Sends r {w = w} q (empty room)) (sym (open_end s false stands.pipe.closed refl)) stands
 
   -- a closed end is closed anew
   pub closed_again : (s : Sending K A H v) (closed : Bool) → closed ≡ true → record s { closed = true } ≡ record s { closed = closed }

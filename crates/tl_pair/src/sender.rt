@@ -22,8 +22,8 @@ use tl_ring::{EndFault, SendEnd, Standing, TakeEnd, meet};
 // what is staged still crosses.
 #[derive(Drop)]
 pub(crate) struct Sender<K: Channel, const W: usize, const V: usize, A: Allocator = Global> {
-    end: SendEnd<K, W, V, A>,
-    closed: bool,
+    pub(crate) end: SendEnd<K, W, V, A>,
+    pub(crate) closed: bool,
 }
 
 impl<K: Channel, const W: usize, const V: usize, A: Allocator> Model for Sender<K, W, V, A> {
@@ -39,14 +39,6 @@ impl<K: Channel, const W: usize, const V: usize, A: Allocator> Model for Sender<
 }
 
 impl<K: Channel, const W: usize, const V: usize, A: Allocator> Sender<K, W, V, A> {
-    // The sender over the sending end of a new pair.
-    pub(crate) fn over(end: SendEnd<K, W, V, A>) -> Self
-        requires open { end.closed ≡ false }
-        ensures { result ≡ end }
-    {
-        Sender { end, closed: false }
-    }
-
     // Whether a beat may be offered: nothing is staged, and the end isn't closed.
     pub(crate) fn ready(&self) -> bool
         ensures { IsTrue result ↔ IsReady (as_pipe self.now) }

@@ -14,6 +14,17 @@ use tl_msg::{ChA, ChB, ChC, ChD, ChE};
 use tl_ring::{BuildFault, ring_pair};
 use tl_sides::{Standings, new_books};
 
+// What a call has made. Where it has made nothing, its fault is the caller's. A `?` would make one
+// more type for each pair of widths.
+macro_rules! made {
+    ($made:expr) => {
+        match $made {
+            Ok(made) => made,
+            Err(fault) => return Err(fault),
+        }
+    };
+}
+
 /// The two sides of a new bridge, for two threads, over five rings of `ring` beats each, and with
 /// the tables of both sides, of 64 KiB and 1 MiB: the only memory that is taken. Refused with
 /// `RingSize` exactly where `ring` is 0 or above 4,096, and else with `OutOfMemory` where the
@@ -34,42 +45,42 @@ pub fn bridge<const C: usize, const M: usize, A: Allocator + Copy>(
     ensures ring_size { IfErr result (λ fault.
         (fault ≡ BuildFault.RingSize) ↔ ((ring ≡ 0) ⊎ (MAX_RING < ring))) }
 {
-    let (a, a_take) = match ring_pair::<ChA, C, M, A>(alloc, ring) {
-        Ok(ends) => ends,
-        Err(fault) => return Err(fault),
-    };
-    let (b, b_take) = match ring_pair::<ChB, M, C, A>(alloc, ring) {
-        Ok(ends) => ends,
-        Err(fault) => return Err(fault),
-    };
-    let (c, c_take) = match ring_pair::<ChC, C, M, A>(alloc, ring) {
-        Ok(ends) => ends,
-        Err(fault) => return Err(fault),
-    };
-    let (d, d_take) = match ring_pair::<ChD, M, C, A>(alloc, ring) {
-        Ok(ends) => ends,
-        Err(fault) => return Err(fault),
-    };
-    let (e, e_take) = match ring_pair::<ChE, C, M, A>(alloc, ring) {
-        Ok(ends) => ends,
-        Err(fault) => return Err(fault),
-    };
+    let (a, a_take) = made!(ring_pair::<ChA, C, M, A>(alloc, ring));
+    let (b, b_take) = made!(ring_pair::<ChB, M, C, A>(alloc, ring));
+    let (c, c_take) = made!(ring_pair::<ChC, C, M, A>(alloc, ring));
+    let (d, d_take) = made!(ring_pair::<ChD, M, C, A>(alloc, ring));
+    let (e, e_take) = made!(ring_pair::<ChE, C, M, A>(alloc, ring));
     let Ok((client_book, manager_book)) = new_books(alloc) else {
         return Err(BuildFault::OutOfMemory);
     };
     let client = ClientSide {
-        a: Sender::over(a),
+        a: Sender {
+            end: a,
+            closed: false,
+        },
         b: b_take,
-        c: Sender::over(c),
+        c: Sender {
+            end: c,
+            closed: false,
+        },
         d: d_take,
-        e: Sender::over(e),
+        e: Sender {
+            end: e,
+            closed: false,
+        },
         book: client_book,
     };
     let manager = ManagerSide {
         a: a_take,
-        b: Sender::over(b),
+        b: Sender {
+            end: b,
+            closed: false,
+        },
         c: c_take,
-        d: Sender::over(d),
+        d: Sender {
+            end: d,
+            closed: false,
+        },
         e: e_take,
         book: manager_book,
     };

@@ -1,7 +1,7 @@
 -- What a call on a part of a state says of the whole state: the part has a place there, and what the part stands for has one in what the
 -- state stands for.
 use Rattle.std.proofs.Common.{◌≡◌, ◌↔◌, ℕ, Bool, true, Option, None, Some, [], refl, sym, ap, subst, ◌∙◌}
-use Rattle.std.specs.Prelude.{Result, Ok, Err, OnOk, OnErr, IsOk, IfOk, IfErr}
+use Rattle.std.specs.Prelude.{Result, Ok, Err, OnOk, OnErr, IsOk, IfErr}
 use Rattle.tl_msg.specs.Rules.{Rules}
 use Rattle.tl_msg.specs.declared.beat.BeatOf.{BeatOf}
 use Rattle.tl_msg.specs.declared.fault.SideFault.{SideFault}
@@ -66,17 +66,6 @@ went Stands stops next s s' free stands = record {
   fault = λ x h. tt;
   refused = tt;
 }
-
--- what a call that was refused says of what it would have made, and of its fault
-pub not_made : {T E : Type 0} (P : T → Type 0) (r : Result T E) (f : E) → r ≡ Err f → IfOk r P
-not_made P r f err = subst (λ q. IfOk q P) (sym err) tt
-
-pub not_ok : {T E Q : Type 0} (r : Result T E) (f : E) → r ≡ Err f → IsOk r → Q
-not_ok (Ok v) f err ok = absurd (cc)
-not_ok (Err e) f err ok = absurd (cc)
-
-pub refused_by : {T E : Type 0} (Q : E → Type 0) (r : Result T E) (f e : E) → r ≡ Err f → f ≡ e → Q e → IfErr r Q
-refused_by Q r f e err same q = subst (λ x. IfErr x Q) (sym err) (subst Q (sym same) q)
 
 module _ {S X P W : Type 0} {Stands : S → X → Type 0} {At : P → W → Type 0} {Keeps : W → W → Type 0} (at : Place Stands At Keeps) where
   -- a part that stays leaves the whole as it is

@@ -21,6 +21,17 @@ use std::marker::Model;
 use tl_msg::{Beat, ChA, ChB, ChC, ChD, ChE, SideFault};
 use tl_ring::{BuildFault, EndFault, Standing, SyncPipe};
 
+// What a call has made. Where it has made nothing, its fault is the caller's. A `?` would make one
+// more type for each pair of widths.
+macro_rules! made {
+    ($made:expr) => {
+        match $made {
+            Ok(made) => made,
+            Err(fault) => return Err(fault),
+        }
+    };
+}
+
 /// How many far beats stand at each place of each channel.
 pub type Standings = PerChannel<Standing>;
 
@@ -91,26 +102,11 @@ impl<const C: usize, const M: usize, A: Allocator + Copy> SyncBridge<C, M, A> {
         ensures ring_size { IfErr result (λ fault. (fault ≡ BuildFault.RingSize) ↔
             ((ring ≡ 0) ⊎ (MAX_RING < ring))) }
     {
-        let a = match SyncPipe::new(alloc, ring) {
-            Ok(pipe) => pipe,
-            Err(fault) => return Err(fault),
-        };
-        let b = match SyncPipe::new(alloc, ring) {
-            Ok(pipe) => pipe,
-            Err(fault) => return Err(fault),
-        };
-        let c = match SyncPipe::new(alloc, ring) {
-            Ok(pipe) => pipe,
-            Err(fault) => return Err(fault),
-        };
-        let d = match SyncPipe::new(alloc, ring) {
-            Ok(pipe) => pipe,
-            Err(fault) => return Err(fault),
-        };
-        let e = match SyncPipe::new(alloc, ring) {
-            Ok(pipe) => pipe,
-            Err(fault) => return Err(fault),
-        };
+        let a = made!(SyncPipe::new(alloc, ring));
+        let b = made!(SyncPipe::new(alloc, ring));
+        let c = made!(SyncPipe::new(alloc, ring));
+        let d = made!(SyncPipe::new(alloc, ring));
+        let e = made!(SyncPipe::new(alloc, ring));
         let Ok((client, manager)) = new_books(alloc) else {
             return Err(BuildFault::OutOfMemory);
         };

@@ -37,6 +37,12 @@ all_steps o = steps o.a + steps o.b + steps o.c + steps o.d + steps o.e
 
 -- ---- what no call but a pump and a fetch changes
 
+-- the same side has come as far as before at least, and further where something moved
+pub record Goes {S : Type 0} (Same : S → S → Type 0) (progress : PerChannel ℕ → S → ℕ) (n : PerChannel ℕ) (s : S) (n' : PerChannel ℕ) (s' : S) (moved : Bool) : Type 0 where
+  pub same : Same s s'
+  pub keeps : progress n s ≤ progress n' s'
+  pub goes : moved ≡ true → progress n s + 1 ≤ progress n' s'
+
 module _ {A : Type 0} {C M : ℕ} where
   -- a side's ends of the rings are as they were
   pub record SameClientEnds (s s' : ClientState A C M) : Type 0 where
@@ -60,16 +66,11 @@ module _ {A : Type 0} {C M : ℕ} where
   abbrev pub manager_progress : PerChannel ℕ → ManagerState A C M → ℕ
   manager_progress n t = n.b + n.d + length (sent t.b) + length (sent t.d) + length (received t.a) + length (received t.c) + length (received t.e)
 
-  -- the same side has come as far as before at least, and further where something moved
-  pub record ClientGoes (n : PerChannel ℕ) (s : ClientState A C M) (n' : PerChannel ℕ) (s' : ClientState A C M) (moved : Bool) : Type 0 where
-    pub same : SameClient s s'
-    pub keeps : client_progress n s ≤ client_progress n' s'
-    pub goes : moved ≡ true → client_progress n s + 1 ≤ client_progress n' s'
+  abbrev pub ClientGoes : PerChannel ℕ → ClientState A C M → PerChannel ℕ → ClientState A C M → Bool → Type 0
+  ClientGoes = Goes SameClient client_progress
 
-  pub record ManagerGoes (n : PerChannel ℕ) (t : ManagerState A C M) (n' : PerChannel ℕ) (t' : ManagerState A C M) (moved : Bool) : Type 0 where
-    pub same : SameManager t t'
-    pub keeps : manager_progress n t ≤ manager_progress n' t'
-    pub goes : moved ≡ true → manager_progress n t + 1 ≤ manager_progress n' t'
+  abbrev pub ManagerGoes : PerChannel ℕ → ManagerState A C M → PerChannel ℕ → ManagerState A C M → Bool → Type 0
+  ManagerGoes = Goes SameManager manager_progress
 
 -- ---- offers
 

@@ -1,4 +1,4 @@
--- A side of a run in two threads takes beats from its inboxes. Only private contracts cite these words.
+-- A side of a run in two threads takes beats from its inboxes, and notes them. Only private contracts cite these words.
 use Rattle.std.proofs.Common.{◌≡◌, ◌++◌, ℕ, List, [], map, refl, sym, ap, subst, ◌∙◌, append-nil, append_assoc}
 use Rattle.std.proofs.lemmas.List.{map-append}
 use Rattle.tl_msg.specs.declared.head.HeadA.{HeadA}
@@ -10,6 +10,22 @@ use Rattle.tl_msg.specs.declared.beat.BeatOf.{BeatOf}
 use Rattle.tl_settle.specs.Histories.{Ask, Answer}
 use Rattle.tl_pair.specs.Sides.{ClientState, ManagerState, ClientPast, ManagerPast}
 use Rattle.tl_pair.specs.Sides.{client_takes_b, client_takes_d, manager_takes_a, manager_takes_c, manager_takes_e}
+
+-- events that stand behind others in two goes, or in one
+events-on : {B E : Type 0} (event : B → E) (es : List E) (i j : List B) → (es ++ map event i) ++ map event j ≡ es ++ map event (i ++ j)
+events-on event es i j = append_assoc es (map event i) (map event j) ∙ ap (λ q. es ++ q) (sym (map-append event i j))
+
+-- a book that knows a history knows it with these beats behind it
+module _ {K B E : Type 0} (Knows : K → List E → Type 0) (event : B → E) where
+  abbrev pub HasNoted : K → List B → K → Type 0
+  HasNoted k bs k' = (es : List E) → Knows k es → Knows k' (es ++ map event bs)
+
+  -- none was noted, or some and then some more
+  pub noted_none : (k : K) → HasNoted k [] k
+  noted_none k es h = subst (λ q. Knows k q) (sym (append-nil es)) h
+
+  pub noted_then : (k l m : K) (i j : List B) → HasNoted k i l → HasNoted l j m → HasNoted k (i ++ j) m
+  noted_then k l m i j f g es h = subst (λ q. Knows m q) (events-on event es i j) (g (es ++ map event i) (f es h))
 
 -- What a side stands for, what taking some beats makes of it, and the side without what such takes change
 module _ {S P B : Type 0} (Stands : S → P → Type 0) (takes : List B → P → P) (rest : S → S) where
@@ -57,13 +73,13 @@ module _ {C M : ℕ} where
   no_d x = ap (λ q. record x { history = q }) (append-nil x.history)
 
   pub then_d : (i j : List (BeatOf HeadD C)) (x : ClientPast C M) → client_takes_d j (client_takes_d i x) ≡ client_takes_d (i ++ j) x
-  then_d i j x = ap (λ q. record x { history = q }) (append_assoc x.history (map Answer i) (map Answer j) ∙ ap (λ q. x.history ++ q) (sym (map-append Answer i j)))
+  then_d i j x = ap (λ q. record x { history = q }) (events-on Answer x.history i j)
 
   pub no_a : (x : ManagerPast C M) → manager_takes_a [] x ≡ x
   no_a x = ap (λ q. record x { history = q }) (append-nil x.history)
 
   pub then_a : (i j : List (BeatOf HeadA M)) (x : ManagerPast C M) → manager_takes_a j (manager_takes_a i x) ≡ manager_takes_a (i ++ j) x
-  then_a i j x = ap (λ q. record x { history = q }) (append_assoc x.history (map Ask i) (map Ask j) ∙ ap (λ q. x.history ++ q) (sym (map-append Ask i j)))
+  then_a i j x = ap (λ q. record x { history = q }) (events-on Ask x.history i j)
 
   pub no_c : (x : ManagerPast C M) → manager_takes_c [] x ≡ x
   no_c x = ap (λ q. record x { c = q }) (append-nil x.c)

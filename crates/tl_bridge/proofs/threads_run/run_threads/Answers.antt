@@ -1,4 +1,4 @@
-use Rattle.std.proofs.Common.{lit<, refl, sym, subst, arith}
+use Rattle.std.proofs.Common.{lit<, refl, sym, subst}
 use Rattle.tl_ring.proofs.FieldSizes.{beat_small}
 use Rattle.tl_bridge.specs.Scripts.{near_beats}
 use Rattle.tl_bridge.specs.Inner.Running.{HasEnded}

@@ -1,6 +1,6 @@
 use Rattle.std.proofs.Common.{lit<}
-use Rattle.tl_c.proofs.BothWidths.{manager}
+use Rattle.tl_c.proofs.BothWidths.{widths}
 use Rattle.tl_c.proofs.takes.tl_take_a.Goals as goal
 
-pub take_a-taken-requires : goal.take_a-taken-requires
-take_a-taken-requires c = (lit< tt, (lit< tt, manager))
+pub take_a-requires : goal.take_a-requires
+take_a-requires c = (lit< tt, (lit< tt, widths.1))

@@ -1,6 +1,6 @@
 use Rattle.std.proofs.Common.{lit<}
-use Rattle.tl_c.proofs.BothWidths.{client}
+use Rattle.tl_c.proofs.BothWidths.{widths}
 use Rattle.tl_c.proofs.takes.tl_take_d.Goals as goal
 
-pub take_d-taken-requires : goal.take_d-taken-requires
-take_d-taken-requires c = (lit< tt, (lit< tt, client))
+pub take_d-requires : goal.take_d-requires
+take_d-requires c = (lit< tt, (lit< tt, widths.0))

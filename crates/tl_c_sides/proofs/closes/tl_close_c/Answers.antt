@@ -1,12 +1,7 @@
-use Rattle.std.proofs.Common.{◌∙◌, sym, refl}
-use Rattle.tl_c_beats.proofs.Closing.{close_ok, close_err}
-use Rattle.tl_c_sides.proofs.closes.tl_close_c.Goals.{in-Ok, in-Err}
+use Rattle.std.proofs.Common.{rules}
+use Rattle.tl_c_beats.proofs.Closing.{closes}
 use Rattle.tl_c_sides.proofs.closes.tl_close_c.Goals as goal
 
-pub returns-clause-answer : goal.returns-clause-answer
-returns-clause-answer c = λ x k.
-    let h = rw (← c.deref_mut.ensures.value) at (rw c.in-Some.ensures.some at k) in
-    elim c.match-close_c.branch [
-      | in-Ok w ↦ w.answer-is ∙ sym (close_ok _ ((w.in-Ok.ensures.between x h).0 refl))
-      | in-Err w ↦ w.answer-is ∙ w.number-answer.ensures ∙ close_err w.in-Err.fault _ (λ none. (w.in-Err.ensures.between x h).1 none)
-    ]
+pub returns-clause-close : goal.returns-clause-close
+returns-clause-close c = closes (λ b. record { side = b }) {b = c.deref_mut.result.now.side} {k = c.close_c.new.self} (search rules) (search rules)
+    c.close_c.result c.close_number.ensures c.close_c.ensures.between c.close_c.ensures.stands c.close_c.ensures.refused

@@ -1,4 +1,4 @@
-use Rattle.std.proofs.Common.{◌≡◌, ◌≤◌, ◌<◌, ◌+◌, ◌++◌, [], length, ap, arith, length-append}
+use Rattle.std.proofs.Common.{◌≡◌, ◌≤◌, ◌+◌, ◌++◌, [], length, ap, arith, length-append}
 use Rattle.tl_lanes.proofs.Widths.{width_bounds}
 use Rattle.tl_convert.specs.Accepted.{accepted_of}
 use Rattle.tl_convert.specs.Due.{due}

@@ -1,8 +1,8 @@
-use Rattle.std.proofs.Common.{◌∙◌, ◌++◌, true, List, ap, subst, arith}
+use Rattle.std.proofs.Common.{◌∙◌, ◌++◌, List, ap, subst, arith}
 use Rattle.tl_trace.specs.declared.line.Line.{Line}
 use Rattle.tl_bridge.specs.Scripts.{EndsIn}
 use Rattle.tl_answer.specs.Answer.{ends, near}
-use Rattle.tl_answer.proofs.Answering.{answers, near-is}
+use Rattle.tl_answer.proofs.Answering.{answers-check, near-is}
 use Rattle.tl_answer.proofs.Lengths.{lines-few, short}
 use Rattle.tl_explain.proofs.explain.with_widths.Goals as goal
 
@@ -24,7 +24,7 @@ returns-clause-ok g c = record {
     manager = g.row.M;
     lines = lines;
     told = c.in_ok-script.ensures.told.told;
-    answers = answers c.args.version g.row.C g.row.M lines true c.in_ok-outcome.outcome ended _
+    answers = answers-check c.args.version g.row.C g.row.M lines c.in_ok-outcome.outcome.verdicts ended.verdicts_are _
         (c.in_ok-answer.ensures.text (ends g.row.C g.row.M lines) ended.verdicts_are) _ c.in_ok-answer.ensures.done;
   };
 }

@@ -1,4 +1,4 @@
-use Rattle.std.proofs.Common.{◌≤◌, ◌^◌, length, sym, subst, arith}
+use Rattle.std.proofs.Common.{◌≤◌, ◌^◌, length, sym, subst}
 use Rattle.tl_ring.proofs.FieldSizes.{beat_small}
 use Rattle.tl_bridge.proofs.taken.Taken.new.Goals as goal
 

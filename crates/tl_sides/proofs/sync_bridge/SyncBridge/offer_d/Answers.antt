@@ -1,4 +1,3 @@
-use Rattle.std.proofs.Common.{arith}
 use Rattle.tl_sides.proofs.BridgeSteps.{offers_response}
 use Rattle.tl_sides.proofs.BridgeLayout.{bridge_layout}
 use Rattle.tl_ring.proofs.FieldSizes.{part_small, beat_small}

@@ -1,4 +1,3 @@
-use Rattle.std.proofs.Common.{arith}
 use Rattle.tl_msg.specs.Tables.{rules_e}
 use Rattle.tl_sides.proofs.Places.{offers_alone}
 use Rattle.tl_sides.proofs.BridgeSteps.{at_e}

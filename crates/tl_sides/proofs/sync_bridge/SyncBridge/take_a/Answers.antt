@@ -1,4 +1,4 @@
-use Rattle.std.proofs.Common.{arith, take, refl}
+use Rattle.std.proofs.Common.{take, refl}
 use Rattle.tl_sides.proofs.BridgeSteps.{manager_is_asked, asked_on}
 use Rattle.tl_sides.proofs.BridgeLayout.{bridge_layout}
 use Rattle.tl_ring.proofs.FieldSizes.{part_small, beat_small}

@@ -1,0 +1,10 @@
+use Rattle.tl_ring.specs.Ends.{as_pipe}
+use Rattle.tl_bridge.specs.Inner.Offering.{on_c}
+use Rattle.tl_bridge.proofs.SideEnds.{client-ends-same}
+use Rattle.tl_bridge.proofs.SideOffers.{waits}
+use Rattle.tl_bridge.proofs.offers.ClientSideOffersBeatOfHeadC.is_ready.Goals as goal
+
+pub returns-clause-waits : goal.returns-clause-waits
+returns-clause-waits g c = λ unready bs n b next.
+    let s = c.args.self.now in
+    waits on_c bs n s b next (as_pipe s.c) (λ x h. h.c.pipe) (λ ready. unready (c.ready_c.ensures.1 ready)) (client-ends-same s)

@@ -1,0 +1,8 @@
+use Rattle.tl_bridge.specs.Inner.Offering.{on_bridge_e}
+use Rattle.tl_bridge.proofs.SideOffers.{closes}
+use Rattle.tl_bridge.proofs.offers.SyncBridgeOffersBeatOfHeadE.close.Goals as goal
+
+pub returns : goal.returns
+returns g c = λ bs n past.
+    let told = c.close_e.ensures in
+    closes on_bridge_e bs n _ past c.close_e.result _ tt told.refused told.between told.closed

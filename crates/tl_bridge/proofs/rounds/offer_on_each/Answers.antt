@@ -1,0 +1,59 @@
+use Rattle.std.proofs.Common.{refl}
+use Rattle.tl_ring.proofs.FieldSizes.{beat_small}
+use Rattle.tl_bridge.specs.Inner.Offering.{on_bridge_a, on_bridge_b, on_bridge_c, on_bridge_d, on_bridge_e}
+use Rattle.tl_bridge.proofs.SideOffers.{of-list}
+use Rattle.tl_bridge.proofs.rounds.offer_on_each.Goals as goal
+
+pub offer_next-a-requires : goal.offer_next-a-requires
+offer_next-a-requires g c = (c.requires.client, c.requires.manager)
+
+pub offer_next-c-requires : goal.offer_next-c-requires
+offer_next-c-requires g c = (c.requires.client, c.requires.manager)
+
+pub offer_next-e-requires : goal.offer_next-e-requires
+offer_next-e-requires g c = (c.requires.client, c.requires.manager)
+
+pub offer_next-b-requires : goal.offer_next-b-requires
+offer_next-b-requires g c = (c.requires.client, c.requires.manager)
+
+pub offer_next-d-requires : goal.offer_next-d-requires
+offer_next-d-requires g c = (c.requires.client, c.requires.manager)
+
+pub offer_next-a-requires-room-S-Offers-2 : goal.offer_next-a-requires-room-S-Offers-2
+offer_next-a-requires-room-S-Offers-2 g c κs = beat_small g.row.C c.requires.client
+
+pub offer_next-c-requires-room-S-Offers-2 : goal.offer_next-c-requires-room-S-Offers-2
+offer_next-c-requires-room-S-Offers-2 g c κs = beat_small g.row.C c.requires.client
+
+pub offer_next-e-requires-room-S-Offers-2 : goal.offer_next-e-requires-room-S-Offers-2
+offer_next-e-requires-room-S-Offers-2 g c κs = beat_small g.row.C c.requires.client
+
+pub offer_next-b-requires-room-S-Offers-2 : goal.offer_next-b-requires-room-S-Offers-2
+offer_next-b-requires-room-S-Offers-2 g c κs = beat_small g.row.M c.requires.manager
+
+pub offer_next-d-requires-room-S-Offers-2 : goal.offer_next-d-requires-room-S-Offers-2
+offer_next-d-requires-room-S-Offers-2 g c κs = beat_small g.row.M c.requires.manager
+
+pub returns-clause-offered : goal.returns-clause-offered
+returns-clause-offered g c = λ x h.
+    let a = (of-list on_bridge_a c.deref.ensures.value c.offer_next-a.ensures).does x h in
+    let c' = (of-list on_bridge_c c.deref-2.ensures.value c.offer_next-c.ensures).does _ a.2 in
+    let e = (of-list on_bridge_e c.deref-3.ensures.value c.offer_next-e.ensures).does _ c'.2 in
+    let b = (of-list on_bridge_b c.deref-4.ensures.value c.offer_next-b.ensures).does _ e.2 in
+    let d = (of-list on_bridge_d c.deref-5.ensures.value c.offer_next-d.ensures).does _ b.2 in
+    record {
+      past = _;
+      stands = d.2;
+      beats_a = a.0;
+      beats_b = b.0;
+      beats_c = c'.0;
+      beats_d = d.0;
+      beats_e = e.0;
+      client = refl;
+      manager = refl;
+      does_a = a.3;
+      does_b = b.3;
+      does_c = c'.3;
+      does_d = d.3;
+      does_e = e.3;
+    }

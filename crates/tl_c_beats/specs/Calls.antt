@@ -1,0 +1,30 @@
+-- What a call of a handle answers and leaves (this project's choice). The handle held `before` and holds `now` a bridge or a side of one, or nothing;
+-- what is held stands for a past (`Holds`).
+use Rattle.std.specs.Prelude.{◌≡◌, ◌≢◌, ℕ, Bool, false, Option, None, List}
+use Rattle.tl_msg.specs.declared.fault.SideFault.{SideFault}
+use Rattle.tl_ring.specs.Crossing.{World}
+use Rattle.tl_c_beats.specs.Answers.{is_ready, offer_answer, close_answer}
+
+-- whether a channel may be offered a beat: no where nothing is held. Nothing changes
+pub record Asks {S P : Type 0} (Holds : Option S → P → Type 0) {H : Type 0} {w v : ℕ} (channel : P → World H w v) (before now : Option S) (answer : Bool) : Type 0 where
+  pub nothing : before ≡ None → answer ≡ false
+  pub ready : (x : P) → Holds before x → answer ≡ is_ready (channel x)
+  pub same : now ≡ before
+
+-- an offer on a channel of a beat of which the rules of its side say `verdict`: `none` where nothing is held. Where it is accepted the past goes on to
+-- `after`, else nothing changes
+pub record Offers {S P : Type 0} (Holds : Option S → P → Type 0) (none : ℕ) {H : Type 0} {w v : ℕ} (channel : P → World H w v)
+    (verdict : P → Option SideFault) (after : P → P) (before now : Option S) (answer : ℕ) : Type 0 where
+  pub nothing : before ≡ None → answer ≡ none
+  pub answers : (x : P) → Holds before x → answer ≡ offer_answer (channel x) (verdict x)
+  pub accepted : (x : P) → Holds before x → answer ≡ 0 → Holds now (after x)
+  pub refused : answer ≢ 0 → now ≡ before
+
+-- a close of a channel whose accepted beats leave the rest of a message: `none` where nothing is held. Where it is closed the past goes on to `after`,
+-- else nothing changes
+pub record Closes {S P : Type 0} (Holds : Option S → P → Type 0) (none : ℕ) {A : Type 0} (rest : P → List A) (after : P → P)
+    (before now : Option S) (answer : ℕ) : Type 0 where
+  pub nothing : before ≡ None → answer ≡ none
+  pub answers : (x : P) → Holds before x → answer ≡ close_answer (rest x)
+  pub closed : (x : P) → Holds before x → answer ≡ 0 → Holds now (after x)
+  pub refused : answer ≢ 0 → now ≡ before

@@ -1,0 +1,5 @@
+pub mod NewHeads
+pub mod Sizes
+pub mod Passing
+pub mod Steps
+pub mod Ends

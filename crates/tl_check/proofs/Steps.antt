@@ -1,0 +1,195 @@
+-- What a beat of A or D that is offered does to both sides, where each has taken all that is due.
+use Rattle.std.proofs.Common.{◌≡◌, ◌<◌, ◌+◌, ◌++◌, ℕ, suc, cond, Option, None, Some, List, [], ◌∷◌, length, map, take, refl, sym, ap, subst, ◌∙◌, arith, append-nil, length-append}
+use Rattle.std.specs.Prelude.{◌==◌, slice_get}
+use Rattle.std.specs.Option.{option_map_or}
+use mathlib.Core.List.{IsPrefix}
+use Rattle.tl_lanes.specs.Lanes.{IsWidth}
+use Rattle.tl_lanes.proofs.Widths.{width_bounds}
+use Rattle.tl_msg.specs.Rules.{Rules}
+use Rattle.tl_msg.specs.Tables.{rules_a, rules_d}
+use Rattle.tl_msg.specs.declared.head.HeadA.{HeadA}
+use Rattle.tl_msg.specs.declared.head.HeadD.{HeadD}
+use Rattle.tl_msg.specs.declared.beat.BeatOf.{BeatOf}
+use Rattle.tl_msg.specs.declared.fault.BeatFault.{BeatFault}
+use Rattle.tl_msg.specs.declared.fault.SideFault.{SideFault}
+use Rattle.tl_msg.specs.declared.fault.SideFault.TheVariants.{Beat}
+use Rattle.tl_burst.specs.Begun.{heads, left}
+use Rattle.tl_burst.specs.Handing.{IsHanded, burst_after, fault_after, fault_in}
+use Rattle.tl_burst.specs.Tracking.{IsPlace, IsPlaceOf}
+use Rattle.tl_burst.specs.declared.place.Place.{Place}
+use Rattle.tl_convert.specs.Due.{due}
+use Rattle.tl_convert.proofs.Extends.{Extends, more, take-next}
+use Rattle.tl_settle.specs.Requests.{homes_after}
+use Rattle.tl_settle.specs.Histories.{Ask, Answer, asked, answered, client_answer, manager_answer}
+use Rattle.tl_settle.specs.Rounds.{Run, round, ManagerMoves, ClientMoves, client_rests, client_accepts, manager_rests, manager_accepts}
+use Rattle.tl_settle.specs.Settling.{requests, responses, far_a, far_d, held_request, held_response, stops_a, stops_d}
+use Rattle.tl_settle.proofs.Grows.{far_a_grows, far_d_grows}
+use Rattle.tl_settle.proofs.Manager.{manager_stops}
+use Rattle.tl_settle.proofs.Marks.{asked_answer, answered_ask}
+use Rattle.tl_settle.proofs.Runs.{RunIs, run_is}
+use Rattle.tl_settle.proofs.SameHeads.{same_a, same_d}
+use Rattle.tl_settle.proofs.Settles.{good}
+use Rattle.tl_settle.proofs.Sides.{client_stops}
+use Rattle.tl_sides.specs.Books.{Client, Manager, KnowsClient, KnowsManager, IsNext}
+use Rattle.tl_bridge.proofs.ChannelOffer.{asked-all, answered-all}
+use Rattle.tl_bridge.proofs.RoundMoves.{client-takes-all, manager-takes-all}
+use Rattle.tl_check.specs.Inner.Passing.{AreAt, HasCome, HaveHead}
+use Rattle.tl_check.proofs.NewHeads.{new-heads}
+use Rattle.tl_check.proofs.Passing.{place-of}
+
+-- what a list has more than another one
+rest-of : {A : Type 0} {xs ys : List A} → Extends xs ys → IsPrefix xs ys
+rest-of (more xs rest) = (rest, refl)
+
+-- a beat stands next after what a side has accepted
+next-after : {H K : Type 0} (r : Rules H) {w v : ℕ} (bs accepted : List (BeatOf H w)) (burst : Option (H × ℕ)) (at far : ℕ) (b : BeatOf H w) (place : Place K H) →
+    HasCome r v bs burst at far → accepted ≡ take at bs → IsPlaceOf r w burst b place → IsNext r accepted b place
+next-after r {w} bs accepted burst at far b place come same is = record {
+  handed = subst (λ q. IsHanded r q) (sym same) come.handed;
+  is_place = subst (λ q. IsPlaceOf r w q b place) (come.burst_is ∙ ap (λ q. burst_after r q) (sym same)) is;
+}
+
+module _ {C M : ℕ} (cw : IsWidth C) (mw : IsWidth M) (a : List (BeatOf HeadA C)) (d : List (BeatOf HeadD M)) (i j : ℕ) (client : Client) (manager : Manager)
+    (s : AreAt a d i j client manager) where
+  c_some : 0 < C
+  c_some = (width_bounds C cw).0
+
+  m_some : 0 < M
+  m_some = (width_bounds M mw).0
+
+  here : RunIs c_some m_some a d i j s.client_history s.manager_history
+  here = run_is c_some m_some a d s.run
+
+  -- ---- the client's side offers a beat of A
+
+  module _ (b : BeatOf HeadA C) where
+    pub ask-next : {K : Type 0} (burst : Option (HeadA × ℕ)) (far : ℕ) (place : Place K HeadA) → HasCome rules_a M a burst i far →
+        fault_in rules_a burst b ≡ None → place.head ≡ b.head → IsPlace rules_a C burst place → IsNext rules_a (asked s.client_history) b place
+    ask-next burst far place come fine head is =
+        next-after rules_a a (asked s.client_history) burst i far b place come here.client.accepted (place-of rules_a burst b place fine head is)
+
+    -- what its book answers is what stops the beat
+    pub ask-stops : (fault : SideFault) → client_answer s.client_history b ≡ Some fault → stops_a a d i j b ≡ Some fault
+    ask-stops fault e = sym (client_stops c_some m_some a d i j s.client_history b here.reached here.client s.d_taken) ∙ e
+
+    pub ask-faulty : (fault : BeatFault) → fault_after rules_a (take i a) b ≡ Some fault → stops_a a d i j b ≡ Some (Beat fault)
+    ask-faulty fault e =
+        ap (λ o. option_map_or (λ f. Some (Beat f)) o (cond (left rules_a C (take i a) == 0) (held_request a d i j b.head) None)) e
+
+    -- the beat is accepted, and the manager's side takes what it makes due
+    module _ (next : slice_get a i ≡ Some b) (ok : client_answer s.client_history b ≡ None) (fine : fault_after rules_a (take i a) b ≡ None)
+        (burst burst' : Option (HeadA × ℕ)) (far n far' given : ℕ) (one : n ≡ i + 1) (many : far' ≡ far + given)
+        (before : HasCome rules_a M a burst i far) (after : HasCome rules_a M a burst' n far')
+        (client' : Client) (knows : KnowsClient client' (s.client_history ++ Ask b ∷ [])) (manager' : Manager)
+        (noted : (bs : List (BeatOf HeadA M)) → length bs ≡ given → HaveHead b.head bs → KnowsManager manager' (s.manager_history ++ map Ask bs)) where
+      later-a : n ≡ suc i
+      later-a = omega (arith, one)
+
+      asked-run : Run a d (suc i) j (s.client_history ++ Ask b ∷ []) s.manager_history
+      asked-run =
+          round i j (suc i) j s.client_history (s.client_history ++ Ask b ∷ []) s.manager_history s.manager_history s.run
+          (client_accepts i s.client_history b client_rests next ok) manager_rests
+
+      new-asks : IsPrefix (far_a a d i) (far_a a d (suc i))
+      new-asks =
+          let there : RunIs c_some m_some a d (suc i) j (s.client_history ++ Ask b ∷ []) s.manager_history = run_is c_some m_some a d asked-run in
+          rest-of (far_a_grows c_some m_some a d i (suc i) (omega arith) (good c_some m_some a d there.reached).a_fine)
+
+      new-asks-count : length new-asks.0 ≡ given
+      new-asks-count =
+          let homes = λ (k : ℕ). map (λ h. h.address) (requests a d k) in
+          let x : far ≡ length (far_a a d i) = before.far_is (homes i) in
+          let y : far' ≡ length (far_a a d (suc i)) = subst (λ k. far' ≡ length (far_a a d k)) later-a (after.far_is (homes n)) in
+          let z : length (far_a a d i ++ new-asks.0) ≡ length (far_a a d (suc i)) = ap length new-asks.1 in
+          let u = length-append (far_a a d i) new-asks.0 in
+          omega arith
+
+      new-asks-heads : HaveHead b.head new-asks.0
+      new-asks-heads =
+          let homes = map (λ h. h.address) (requests a d (suc i)) in
+          new-heads rules_a same_a C M c_some m_some (take i a) b homes (far_a a d i) new-asks.0 fine
+          (sym (before.far_is (map (λ h. h.address) (requests a d i))) ∙ before.far_is homes)
+          (ap (λ q. due rules_a C M q homes) (sym (take-next a i b next)) ∙ sym new-asks.1)
+
+      pub ask-accepted : AreAt a d n j client' manager'
+      ask-accepted =
+          let on : asked s.manager_history ++ new-asks.0 ≡ far_a a d (suc i) = ap (λ q. q ++ new-asks.0) s.a_taken ∙ new-asks.1 in
+          let moves : ManagerMoves a d (suc i) j s.manager_history j (s.manager_history ++ map Ask new-asks.0) =
+          manager-takes-all a d (suc i) j s.manager_history j s.manager_history new-asks.0 manager_rests ([], append-nil _ ∙ on) in
+          subst (λ k. AreAt a d k j client' manager') (sym later-a) (record {
+            client_history = s.client_history ++ Ask b ∷ [];
+            manager_history = s.manager_history ++ map Ask new-asks.0;
+            client_knows = knows;
+            manager_knows = noted new-asks.0 new-asks-count new-asks-heads;
+            run = round (suc i) j (suc i) j (s.client_history ++ Ask b ∷ []) (s.client_history ++ Ask b ∷ [])
+                s.manager_history (s.manager_history ++ map Ask new-asks.0) asked-run client_rests moves;
+            a_taken = asked-all s.manager_history new-asks.0 ∙ on;
+            d_taken = answered_ask s.client_history b ∙ s.d_taken;
+          })
+
+  -- ---- the manager's side offers a beat of D
+
+  module _ (b : BeatOf HeadD M) where
+    pub answer-next : {K : Type 0} (burst : Option (HeadD × ℕ)) (far : ℕ) (place : Place K HeadD) → HasCome rules_d C d burst j far →
+        fault_in rules_d burst b ≡ None → place.head ≡ b.head → IsPlace rules_d M burst place → IsNext rules_d (answered s.manager_history) b place
+    answer-next burst far place come fine head is =
+        next-after rules_d d (answered s.manager_history) burst j far b place come here.manager_is.accepted (place-of rules_d burst b place fine head is)
+
+    -- what its book answers is what stops the beat
+    pub answer-stops : (fault : SideFault) → manager_answer s.manager_history b ≡ Some fault → stops_d a d i j b ≡ Some fault
+    answer-stops fault e = sym (manager_stops c_some m_some a d i j s.manager_history b here.reached here.manager_is s.a_taken) ∙ e
+
+    pub answer-faulty : (fault : BeatFault) → fault_after rules_d (take j d) b ≡ Some fault → stops_d a d i j b ≡ Some (Beat fault)
+    answer-faulty fault e =
+        ap (λ o. option_map_or (λ f. Some (Beat f)) o (cond (left rules_d M (take j d) == 0) (held_response a d i j b.head) None)) e
+
+    -- the beat is accepted, and the client's side takes what it makes due
+    module _ (next : slice_get d j ≡ Some b) (ok : manager_answer s.manager_history b ≡ None) (fine : fault_after rules_d (take j d) b ≡ None)
+        (burst burst' : Option (HeadD × ℕ)) (far n far' given : ℕ) (one : n ≡ j + 1) (many : far' ≡ far + given)
+        (before : HasCome rules_d C d burst j far) (after : HasCome rules_d C d burst' n far')
+        (manager' : Manager) (knows : KnowsManager manager' (s.manager_history ++ Answer b ∷ [])) (client' : Client)
+        (noted : (bs : List (BeatOf HeadD C)) → length bs ≡ given → HaveHead b.head bs → KnowsClient client' (s.client_history ++ map Answer bs)) where
+      later-d : n ≡ suc j
+      later-d = omega (arith, one)
+
+      answered-run : Run a d i (suc j) s.client_history (s.manager_history ++ Answer b ∷ [])
+      answered-run =
+          round i j i (suc j) s.client_history s.client_history s.manager_history (s.manager_history ++ Answer b ∷ []) s.run
+          client_rests (manager_accepts j s.manager_history b manager_rests next ok)
+
+      new-answers : IsPrefix (far_d a d j) (far_d a d (suc j))
+      new-answers =
+          let there : RunIs c_some m_some a d i (suc j) s.client_history (s.manager_history ++ Answer b ∷ []) = run_is c_some m_some a d answered-run in
+          rest-of (far_d_grows c_some m_some a d j (suc j) (omega arith) (good c_some m_some a d there.reached).d_fine)
+
+      new-answers-count : length new-answers.0 ≡ given
+      new-answers-count =
+          let homes = λ (k : ℕ). homes_after (heads rules_a C a) [] (responses a d k) in
+          let x : far ≡ length (far_d a d j) = before.far_is (homes j) in
+          let y : far' ≡ length (far_d a d (suc j)) = subst (λ k. far' ≡ length (far_d a d k)) later-d (after.far_is (homes n)) in
+          let z : length (far_d a d j ++ new-answers.0) ≡ length (far_d a d (suc j)) = ap length new-answers.1 in
+          let u = length-append (far_d a d j) new-answers.0 in
+          omega arith
+
+      new-answers-heads : HaveHead b.head new-answers.0
+      new-answers-heads =
+          let homes = homes_after (heads rules_a C a) [] (responses a d (suc j)) in
+          new-heads rules_d same_d M C m_some c_some (take j d) b homes (far_d a d j) new-answers.0 fine
+          (sym (before.far_is (homes_after (heads rules_a C a) [] (responses a d j))) ∙ before.far_is homes)
+          (ap (λ q. due rules_d M C q homes) (sym (take-next d j b next)) ∙ sym new-answers.1)
+
+      pub answer-accepted : AreAt a d i n client' manager'
+      answer-accepted =
+          let on : answered s.client_history ++ new-answers.0 ≡ far_d a d (suc j) = ap (λ q. q ++ new-answers.0) s.d_taken ∙ new-answers.1 in
+          let moves : ClientMoves a d (suc j) i s.client_history i (s.client_history ++ map Answer new-answers.0) =
+          client-takes-all a d (suc j) i s.client_history i s.client_history new-answers.0 client_rests ([], append-nil _ ∙ on) in
+          subst (λ k. AreAt a d i k client' manager') (sym later-d) (record {
+            client_history = s.client_history ++ map Answer new-answers.0;
+            manager_history = s.manager_history ++ Answer b ∷ [];
+            client_knows = noted new-answers.0 new-answers-count new-answers-heads;
+            manager_knows = knows;
+            run = round i (suc j) i (suc j) s.client_history (s.client_history ++ map Answer new-answers.0)
+                (s.manager_history ++ Answer b ∷ []) (s.manager_history ++ Answer b ∷ []) answered-run moves manager_rests;
+            a_taken = asked_answer s.manager_history b ∙ s.a_taken;
+            d_taken = answered-all s.client_history new-answers.0 ∙ on;
+          })

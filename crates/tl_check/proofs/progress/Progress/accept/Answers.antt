@@ -1,0 +1,20 @@
+use Rattle.std.proofs.Common.{sym, take, arith}
+use Rattle.tl_check.proofs.Passing.{come-more}
+use denote.Memory.{lone}
+use denote.Param.{layout}
+use Rattle.tl_convert.proofs.Sizes.{tracker-fits}
+use Rattle.tl_check.proofs.progress.Progress.accept.Goals as goal
+
+pub returns-clause-come : goal.returns-clause-come
+returns-clause-come g c = λ bs b come next head fine handed.
+    let self = c.args.self.now in
+    come-more g.K.Channel.rules bs self.tracker self.at self.far come b next c.args.place c.far_beats_at-given.result c.advance.new.self
+    c.requires.near c.requires.far head fine handed c.requires.place c.far_beats_at-given.ensures.gives
+    (c.advance.ensures.stands (take self.at bs) b come.burst_is (sym head))
+
+pub advance-requires : goal.advance-requires
+advance-requires g c =
+    (tracker-fits (lone g.row.K-Head.mir) (layout g.row.K-Head) g.met.K.Channel.head_small, (c.requires.near, c.requires.place))
+
+pub returns-clause-few_far : goal.returns-clause-few_far
+returns-clause-few_far g c = omega (arith, c.requires.few_far, c.far_beats_at-given.ensures.few)

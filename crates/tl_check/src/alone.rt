@@ -1,0 +1,27 @@
+//! A channel that nothing couples to another one: B, C or E.
+ghost use Rattle.std.specs.Prelude.{◌≡◌, ◌≤◌, ◌^◌, length};
+ghost use Rattle.tl_lanes.specs.Lanes.{IsWidth};
+ghost use Rattle.tl_settle.specs.Outcomes.{verdict_alone};
+
+use crate::progress::Progress;
+use tl_msg::{Beat, Channel, SideFault, Verdict};
+
+// What a channel that nothing couples to another one ends in. Its list has at most `2^40` beats.
+pub(crate) fn settle_alone<K: Channel, const W: usize, const V: usize>(
+    beats: &[Beat<K, W>],
+) -> Verdict
+    requires near { IsWidth W }
+    requires far { IsWidth V }
+    requires short { length beats.now ≤ 2 ^ 40 }
+    ensures { result ≡ verdict_alone K.rules V beats.now }
+{
+    let mut progress = Progress::<K, W>::new();
+    for beat in beats {
+        let place = match progress.tracker.check(beat) {
+            Ok(place) => place,
+            Err(fault) => return progress.verdict(Some(SideFault::Beat(fault))),
+        };
+        progress.accept::<V>(place);
+    }
+    progress.verdict(None)
+}

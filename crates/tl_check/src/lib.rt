@@ -1,0 +1,10 @@
+//! What a script ends in on each channel, found without a crossing: the near beats are checked in
+//! order, the far beats that each makes due are counted, and the books of both sides are kept.
+#![tactic(auto)]
+
+mod alone;
+mod coupled;
+mod progress;
+mod verdicts;
+
+pub use verdicts::verdicts_of;

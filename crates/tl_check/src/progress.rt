@@ -1,0 +1,84 @@
+//! How far one channel has come.
+ghost use Rattle.std.specs.Prelude.{◌≡◌, ◌+◌, ◌≤◌, ◌<◌, ◌*◌, ◌^◌, ◌++◌, ◌∷◌, [], ℕ, None, Some, List, slice_get, take};
+ghost use Rattle.tl_lanes.specs.declared.limits.TheConstants.{MAX_SIZE, WIDEST};
+ghost use Rattle.tl_lanes.specs.Lanes.{IsWidth};
+ghost use Rattle.tl_msg.specs.declared.beat.BeatOf.{BeatOf};
+ghost use Rattle.tl_burst.specs.Begun.{left};
+ghost use Rattle.tl_burst.specs.Handing.{IsHanded, fault_in};
+ghost use Rattle.tl_burst.specs.Tracking.{IsPlace};
+ghost use Rattle.tl_settle.specs.Outcomes.{verdict_of};
+ghost use Rattle.tl_check.specs.Inner.Passing.{HasCome};
+
+use tl_burst::{Place, Tracker};
+use tl_convert::far_beats_at;
+use tl_msg::{Channel, SideFault, Verdict};
+
+/// How far a channel has come: the burst that is open, how many near beats were accepted, and how
+/// many far beats they make due.
+#[derive(Drop)]
+pub(crate) struct Progress<K: Channel, const W: usize> {
+    pub tracker: Tracker<K, W>,
+    pub at: usize,
+    pub far: usize,
+}
+
+impl<K: Channel, const W: usize> Progress<K, W> {
+    // The progress of a channel that has accepted nothing yet.
+    pub(crate) fn new() -> Self
+        ensures come { (v : ℕ) (bs : List (BeatOf K.Head W)) →
+            HasCome K.rules v bs result.tracker result.at result.far }
+        ensures begins { result.at ≡ 0 }
+        ensures none { result.far ≡ 0 }
+    {
+        Progress {
+            tracker: Tracker::new(),
+            at: 0,
+            far: 0,
+        }
+    }
+
+    // Goes on by the next beat, which is accepted and stands at this place: how many far beats it
+    // makes due.
+    pub(crate) fn accept<const V: usize>(&mut self, place: Place<K>) -> usize
+        requires near { IsWidth W }
+        requires far { IsWidth V }
+        requires place { IsPlace K.rules W self.old.tracker place }
+        requires few { self.old.at < 2 ^ 40 }
+        requires few_far { self.old.far ≤ WIDEST * self.old.at }
+        ensures at { self.new.at ≡ self.old.at + 1 }
+        ensures far { self.new.far ≡ self.old.far + result }
+        ensures few_far { self.new.far ≤ WIDEST * self.new.at }
+        ensures come { (bs : List (BeatOf K.Head W)) (b : BeatOf K.Head W) →
+            HasCome K.rules V bs self.old.tracker self.old.at self.old.far →
+            slice_get bs self.old.at ≡ Some b → place.head ≡ b.head →
+            fault_in K.rules self.old.tracker b ≡ None →
+            IsHanded K.rules (take self.old.at bs ++ b ∷ []) →
+            HasCome K.rules V bs self.new.tracker self.new.at self.new.far }
+    {
+        let given = far_beats_at::<K, W, V>(&place);
+        self.tracker.advance(place);
+        self.at += 1;
+        self.far += given;
+        given
+    }
+
+    // The channel's verdict, where its next beat is stopped by this, or there is none.
+    pub(crate) fn verdict(&self, stopped_by: Option<SideFault>) -> Verdict
+        ensures { (v : ℕ) (bs : List (BeatOf K.Head W)) →
+            HasCome K.rules v bs self.now.tracker self.now.at self.now.far →
+            result ≡ verdict_of self.now.at self.now.far (left K.rules W (take self.now.at bs))
+            stopped_by }
+    {
+        let (near, far) = (self.at as u64, self.far as u64);
+        let Some(fault) = stopped_by else {
+            return match self.tracker.in_burst() {
+                None => Verdict::Done { near, far },
+                Some(_) => Verdict::Cut { near, far },
+            };
+        };
+        match fault {
+            SideFault::Beat(_) | SideFault::SizeMismatch => Verdict::Refused { at: near, fault },
+            SideFault::SourceBusy | SideFault::NoRequest => Verdict::Waiting { at: near, fault },
+        }
+    }
+}

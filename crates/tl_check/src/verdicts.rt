@@ -1,0 +1,44 @@
+//! The verdicts of a script.
+ghost use Rattle.std.specs.Prelude.{◌≡◌, [], ◌∷◌, IfOk};
+ghost use Rattle.tl_lanes.specs.Lanes.{IsWidth};
+ghost use Rattle.tl_settle.specs.Outcomes.{verdicts};
+ghost use Rattle.tl_bridge.specs.Scripts.{HasShortLists, near_beats};
+
+use crate::alone::settle_alone;
+use crate::coupled::settle_coupled;
+use std::alloc::Global;
+use tl_msg::{ChB, ChC, ChE, OutOfMemory, Verdict};
+use tl_sides::new_books;
+use tl_trace::Script;
+
+/// What a script ends in on each channel, from A to E: the verdicts of `run_sync`, found without a
+/// crossing.
+///
+/// The near beats are checked in order, and no far beat is made: those that a verdict tells are
+/// counted. A beat of A or D that waits for the other channel is checked and asked again once that
+/// one has come further. Each list has at most `2^40` beats.
+///
+/// Refused exactly where there is no memory for what the two sides keep of their sources, before the
+/// first beat is read.
+pub fn verdicts_of<const C: usize, const M: usize>(
+    alloc: Global,
+    script: &Script<C, M>,
+) -> Result<[Verdict; 5], OutOfMemory>
+    requires client { IsWidth C }
+    requires manager { IsWidth M }
+    requires short { HasShortLists script.now }
+    ensures { IfOk result (λ found. found ≡
+        (let v = verdicts (near_beats script.now) in v.a ∷ v.b ∷ v.c ∷ v.d ∷ v.e ∷ [])) }
+{
+    let Ok((mut client, mut manager)) = new_books::<C, M, Global>(alloc) else {
+        return Err(OutOfMemory);
+    };
+    let (a, d) = settle_coupled(&mut client, &mut manager, &script.a, &script.d);
+    Ok([
+        a,
+        settle_alone::<ChB, M, C>(&script.b),
+        settle_alone::<ChC, C, M>(&script.c),
+        d,
+        settle_alone::<ChE, C, M>(&script.e),
+    ])
+}
