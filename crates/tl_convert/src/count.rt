@@ -26,6 +26,9 @@ pub fn far_beats_at<K: Channel, const W: usize, const V: usize>(place: &Place<K>
     let size = K::size(&place.head);
     let near = beat_bytes(size, W);
     let far = beat_bytes(size, V);
+    if near >= far {
+        return near / far;
+    }
     let index = place.index as usize;
     (index + 1) * near / far - index * near / far
 }

@@ -170,9 +170,11 @@ fn write_lines<K: HeadText, const W: usize>(
         let end = fill_line::<K, W>(&mut lines[0], first, W, version);
         out.reserve(beats.len().saturating_mul(end))?;
     }
+    // A line without data is short enough to be read back at once.
+    let batch = if K::HAS_DATA { BATCH } else { 1 };
     let mut at = 0;
     while at < beats.len() {
-        let next = beats.len().min(at + BATCH);
+        let next = beats.len().min(at + batch);
         if write_batch::<K, W>(out, &mut lines, &mut ends, &beats[at..next], version).is_err() {
             out.truncate(start);
             return Err(OutOfMemory);
