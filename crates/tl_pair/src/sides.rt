@@ -11,7 +11,7 @@ use crate::manager_side::ManagerSide;
 use crate::sender::Sender;
 use std::alloc::Allocator;
 use tl_msg::{ChA, ChB, ChC, ChD, ChE};
-use tl_ring::{BuildFault, ring_pair};
+use tl_ring::{BuildFault, pair_over};
 use tl_sides::{Standings, new_books};
 
 // What a call has made. Where it has made nothing, its fault is the caller's. A `?` would make one
@@ -45,11 +45,11 @@ pub fn bridge<const C: usize, const M: usize, A: Allocator + Copy>(
     ensures ring_size { IfErr result (λ fault.
         (fault ≡ BuildFault.RingSize) ↔ ((ring ≡ 0) ⊎ (MAX_RING < ring))) }
 {
-    let (a, a_take) = made!(ring_pair::<ChA, C, M, A>(alloc, ring));
-    let (b, b_take) = made!(ring_pair::<ChB, M, C, A>(alloc, ring));
-    let (c, c_take) = made!(ring_pair::<ChC, C, M, A>(alloc, ring));
-    let (d, d_take) = made!(ring_pair::<ChD, M, C, A>(alloc, ring));
-    let (e, e_take) = made!(ring_pair::<ChE, C, M, A>(alloc, ring));
+    let (a, a_take) = made!(pair_over::<ChA, C, M, A>(alloc, ring));
+    let (b, b_take) = made!(pair_over::<ChB, M, C, A>(alloc, ring));
+    let (c, c_take) = made!(pair_over::<ChC, C, M, A>(alloc, ring));
+    let (d, d_take) = made!(pair_over::<ChD, M, C, A>(alloc, ring));
+    let (e, e_take) = made!(pair_over::<ChE, C, M, A>(alloc, ring));
     let Ok((client_book, manager_book)) = new_books(alloc) else {
         return Err(BuildFault::OutOfMemory);
     };

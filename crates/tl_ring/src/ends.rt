@@ -269,24 +269,6 @@ impl<K: Channel, const W: usize, const V: usize, A: Allocator> Model for TakeEnd
 }
 
 impl<K: Channel, const W: usize, const V: usize, A: Allocator> TakeEnd<K, W, V, A> {
-    // How many beats were fetched and not yet taken.
-    pub(crate) fn waiting(&self) -> usize
-        ensures count { result ≡ length self.now.inbox }
-        ensures most { result ≤ ROOM }
-    {
-        self.inbox.len()
-    }
-
-    // Looks at the ring from both ends, and answers how many beats it holds.
-    pub(crate) fn look(&mut self, send: &mut SendEnd<K, W, V, A>) -> usize
-        requires { ArePair send.old self.old }
-        ensures met { Met send.old self.old send.new self.new }
-        ensures count { result ≡ length (known_items self.new) }
-    {
-        send.producer.slots_beside(&mut self.consumer);
-        self.consumer.slots_beside(&mut send.producer)
-    }
-
     /// Moves beats from the ring to the inbox, in order, and answers their number. They are all
     /// that the inbox has room for, or as many as are there: no fewer than the end knows of. After
     /// a meeting it knows each beat that the ring holds.

@@ -18,6 +18,20 @@ use std::alloc::Allocator;
 use tl_convert::Converter;
 use tl_msg::{Beat, Channel};
 
+// Looks at the ring from both ends, and answers where the beats stand. This is no function, since one that is generic in the
+// channel and asks for a pair takes the checker far longer at each of its calls than these two calls of the ring's own.
+macro_rules! met {
+    ($send:expr, $take:expr) => {{
+        $send.producer.slots_beside(&mut $take.consumer);
+        let in_ring = $take.consumer.slots_beside(&mut $send.producer);
+        Standing {
+            staged: $send.stage.len(),
+            in_ring,
+            inbox: $take.inbox.len(),
+        }
+    }};
+}
+
 /// The two ends of one channel's crossing, over a ring of `ring` beats, the only memory that is
 /// taken. Each end may go to a thread of its own. Refused with `RingSize` exactly where `ring` is 0
 /// or above 4,096, and else with `OutOfMemory` where the allocator has no memory for it.
@@ -29,6 +43,26 @@ pub fn ring_pair<K: Channel, const W: usize, const V: usize, A: Allocator + Copy
     requires far { IsWidth V }
     ensures pair { IfOk result (λ ends. ArePair ends.0 ends.1) }
     ensures send { IfOk result (λ ends. Sends K.rules {w = W} ends.0 (empty ring)) }
+    ensures take { IfOk result (λ ends. Takes ends.1 []) }
+    // a new pair knows all of its ring as free
+    ensures known { IfOk result (λ ends.
+        (known_free ends.0 ≡ ring) × (known_items ends.1 ≡ []) × (ends.1.inbox ≡ [])) }
+    ensures size { IsOk result → (1 ≤ ring) × (ring ≤ MAX_RING) }
+    ensures ring_size { IfErr result (λ fault.
+        (fault ≡ BuildFault.RingSize) ↔ ((ring ≡ 0) ⊎ (MAX_RING < ring))) }
+{
+    pair_over(alloc, ring)
+}
+
+/// [`ring_pair`] without a word on the widths, for a caller that makes several pairs: what it
+/// promises of the sending end has them as a premise in place of a demand.
+pub fn pair_over<K: Channel, const W: usize, const V: usize, A: Allocator + Copy>(
+    alloc: A,
+    ring: usize,
+) -> Result<(SendEnd<K, W, V, A>, TakeEnd<K, W, V, A>), BuildFault>
+    ensures pair { IfOk result (λ ends. ArePair ends.0 ends.1) }
+    ensures send { IsWidth W → IsWidth V →
+        IfOk result (λ ends. Sends K.rules {w = W} ends.0 (empty ring)) }
     ensures take { IfOk result (λ ends. Takes ends.1 []) }
     // a new pair knows all of its ring as free
     ensures known { IfOk result (λ ends.
@@ -75,12 +109,7 @@ pub fn meet<K: Channel, const W: usize, const V: usize, A: Allocator>(
         Sends K.rules send.old x → Takes take.old taken →
         Meets K.rules send.new take.new x taken }
 {
-    let in_ring = take.look(send);
-    Standing {
-        staged: send.staged(),
-        in_ring,
-        inbox: take.waiting(),
-    }
+    met!(send, take)
 }
 
 /// [`meet`] for a sending end that is closed.
@@ -99,5 +128,5 @@ pub fn meet_closing<K: Channel, const W: usize, const V: usize, A: Allocator>(
         Sends K.rules send.old x → Takes take.old taken →
         Meets K.rules send.new take.new x taken }
 {
-    meet(&mut send.end, take)
+    met!(send.end, take)
 }

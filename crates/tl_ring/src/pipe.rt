@@ -75,6 +75,18 @@ impl<K: Channel, const W: usize, const V: usize, A: Allocator> SyncPipe<K, W, V,
         ensures ring_size { IfErr result (λ fault.
             (fault ≡ BuildFault.RingSize) ↔ ((ring ≡ 0) ⊎ (MAX_RING < ring))) }
     {
+        SyncPipe::over(alloc, ring)
+    }
+
+    /// [`SyncPipe::new`] without a word on the widths, for a caller that makes several pipes: what
+    /// it promises has them as a premise in place of a demand.
+    pub fn over(alloc: A, ring: usize) -> Result<Self, BuildFault>
+        ensures new { IsWidth W → IsWidth V →
+            IfOk result (λ pipe. StandsFor K.rules {w = W} pipe (empty ring)) }
+        ensures size { IsOk result → (1 ≤ ring) × (ring ≤ MAX_RING) }
+        ensures ring_size { IfErr result (λ fault.
+            (fault ≡ BuildFault.RingSize) ↔ ((ring ≡ 0) ⊎ (MAX_RING < ring))) }
+    {
         if !is_ring_size(ring) {
             return Err(BuildFault::RingSize);
         }

@@ -102,11 +102,11 @@ impl<const C: usize, const M: usize, A: Allocator + Copy> SyncBridge<C, M, A> {
         ensures ring_size { IfErr result (λ fault. (fault ≡ BuildFault.RingSize) ↔
             ((ring ≡ 0) ⊎ (MAX_RING < ring))) }
     {
-        let a = made!(SyncPipe::new(alloc, ring));
-        let b = made!(SyncPipe::new(alloc, ring));
-        let c = made!(SyncPipe::new(alloc, ring));
-        let d = made!(SyncPipe::new(alloc, ring));
-        let e = made!(SyncPipe::new(alloc, ring));
+        let a = made!(SyncPipe::over(alloc, ring));
+        let b = made!(SyncPipe::over(alloc, ring));
+        let c = made!(SyncPipe::over(alloc, ring));
+        let d = made!(SyncPipe::over(alloc, ring));
+        let e = made!(SyncPipe::over(alloc, ring));
         let Ok((client, manager)) = new_books(alloc) else {
             return Err(BuildFault::OutOfMemory);
         };

@@ -1,33 +1,77 @@
-use Rattle.std.proofs.Common.{◌≤◌, length, rules, arith}
+use Rattle.std.proofs.Common.{◌≤◌, length, arith}
+use denote.Memory.{lone}
+use denote.Param.{layout, param, number, copied}
+use Rattle.tl_ring.specs.contracts.ends.SendEnd as send
+use Rattle.tl_ring.specs.contracts.ends.TakeEnd as take
 use Rattle.tl_ring.specs.declared.queue.TheConstants.{ROOM}
-use Rattle.tl_ring.proofs.EndSteps.{meets_of}
+use Rattle.tl_ring.proofs.EndSteps.{still_pair_after, met_of, meets_of}
+use Rattle.tl_ring.proofs.FieldSizes.{part_small, beat_in_queue}
 use Rattle.tl_ring.proofs.pair.meet.Goals as goal
+
+pub slots_beside-requires-room-P-Protocol : goal.slots_beside-requires-room-P-Protocol
+slots_beside-requires-room-P-Protocol g c κs within = omega arith
+
+pub slots_beside-requires-room-P-Protocol-2 : goal.slots_beside-requires-room-P-Protocol-2
+slots_beside-requires-room-P-Protocol-2 g c κs within =
+    beat_in_queue (lone g.row.K-Head.mir) (layout g.row.K-Head) g.row.V 9223372036854775808
+    (search (part_small (layout (take.the_row (param 0 g.row.K) (param 1 (number g.row.W)) (param 2 (number g.row.V)) (param 3 g.row.A) (copied 4 g.row.K-Head)
+    g.K.Channel g.K.Head.Clone g.K.Head.Eq g.K.Head.PartialEq g.K.Head.Default g.A.Allocator)) 0 9223372036854775808))
+
+pub slots_beside-requires : goal.slots_beside-requires
+slots_beside-requires g c = rw (← c.send.view_is, ← c.take.view_is) at c.requires
+
+pub slots_beside-in_ring-requires-room-P-Protocol : goal.slots_beside-in_ring-requires-room-P-Protocol
+slots_beside-in_ring-requires-room-P-Protocol g c κs within = omega arith
+
+pub slots_beside-in_ring-requires-room-P-Protocol-2 : goal.slots_beside-in_ring-requires-room-P-Protocol-2
+slots_beside-in_ring-requires-room-P-Protocol-2 g c κs within =
+    beat_in_queue (lone g.row.K-Head.mir) (layout g.row.K-Head) g.row.V 9223372036854775808
+    (search (part_small (layout (take.the_row (param 0 g.row.K) (param 1 (number g.row.W)) (param 2 (number g.row.V)) (param 3 g.row.A) (copied 4 g.row.K-Head)
+    g.K.Channel g.K.Head.Clone g.K.Head.Eq g.K.Head.PartialEq g.K.Head.Default g.A.Allocator)) 0 9223372036854775808))
+
+pub slots_beside-in_ring-requires : goal.slots_beside-in_ring-requires
+slots_beside-in_ring-requires g c =
+    let one = c.slots_beside in
+    let pair = rw (← c.send.view_is, ← c.take.view_is) at c.requires in
+    still_pair_after c.send.inside.producer one.new.self c.take.inside.consumer one.new.consumer pair one.ensures.looked one.ensures.consumer
+
+pub len-requires : goal.len-requires
+len-requires g c = let known = c.requires-raw in let c = known in search (part_small (layout (send.the_row (param 0 g.row.K) (param 1 (number g.row.W)) (param 2 (number g.row.V)) (param 3 g.row.A) (copied 4 g.row.K-Head)
+    g.K.Channel g.K.Head.Clone g.K.Head.Eq g.K.Head.PartialEq g.K.Head.Default g.A.Allocator)) 1 9223372036854775808)
+
+pub len-requires-2 : goal.len-requires-2
+len-requires-2 g c = let known = c.requires-raw in let c = known in search (part_small (layout (take.the_row (param 0 g.row.K) (param 1 (number g.row.W)) (param 2 (number g.row.V)) (param 3 g.row.A) (copied 4 g.row.K-Head)
+    g.K.Channel g.K.Head.Clone g.K.Head.Eq g.K.Head.PartialEq g.K.Head.Default g.A.Allocator)) 0 9223372036854775808)
+
+-- no beat moves
+pub invariant_of-send : goal.invariant_of-send
+invariant_of-send g c = c.send.invariant
+
+pub invariant_of-take : goal.invariant_of-take
+invariant_of-take g c = c.take.invariant
+
+pub returns-clause-met : goal.returns-clause-met
+returns-clause-met g c =
+    let one = c.slots_beside in
+    let two = c.slots_beside-in_ring in
+    let pair = rw (← c.send.view_is, ← c.take.view_is) at c.requires in
+    rw (← c.send.view_is, ← c.take.view_is)
+    (met_of _ _ one.new.self two.new.producer one.new.consumer two.new.self one.result pair
+    one.ensures.looked one.ensures.consumer one.ensures.value one.ensures.all_free two.ensures.looked two.ensures.producer two.ensures.fifo)
+
+pub returns-clause-staged : goal.returns-clause-staged
+returns-clause-staged g c = c.len.ensures.value
+
+pub returns-clause-in_ring : goal.returns-clause-in_ring
+returns-clause-in_ring g c = c.slots_beside-in_ring.ensures.value
+
+pub returns-clause-inbox : goal.returns-clause-inbox
+returns-clause-inbox g c = c.len-2.ensures.value
+
+pub returns-clause-most : goal.returns-clause-most
+returns-clause-most g c = (c.len.ensures.within, c.len-2.ensures.within)
 
 pub returns-clause-meets : goal.returns-clause-meets
 returns-clause-meets g c = λ x taken sends takes.
-    let held : length c.look-in_ring.new.self.inbox ≤ ROOM = omega (arith, c.waiting.ensures.count, c.waiting.ensures.most) in
-    meets_of g.K.Channel.rules _ _ _ _ x taken c.look-in_ring.ensures.met held sends takes
-
-pub look-in_ring-requires : goal.look-in_ring-requires
-look-in_ring-requires g c = (let known = c.requires-raw in let c = known in search rules, (let known = c.requires-raw in let c = known in search rules, c.requires))
-
-pub staged-requires : goal.staged-requires
-staged-requires g c = let known = c.requires-raw in let c = known in search rules
-
-pub waiting-requires : goal.waiting-requires
-waiting-requires g c = let known = c.requires-raw in let c = known in search rules
-
-pub returns-clause-met : goal.returns-clause-met
-returns-clause-met g c = c.look-in_ring.ensures.met
-
-pub returns-clause-staged : goal.returns-clause-staged
-returns-clause-staged g c = c.staged.ensures.count
-
-pub returns-clause-in_ring : goal.returns-clause-in_ring
-returns-clause-in_ring g c = c.look-in_ring.ensures.count
-
-pub returns-clause-inbox : goal.returns-clause-inbox
-returns-clause-inbox g c = c.waiting.ensures.count
-
-pub returns-clause-most : goal.returns-clause-most
-returns-clause-most g c = (c.staged.ensures.most, c.waiting.ensures.most)
+    let held : length c.take.inside.inbox ≤ ROOM = omega (arith, c.len-2.ensures.value, c.len-2.ensures.within) in
+    meets_of g.K.Channel.rules _ _ _ _ x taken (returns-clause-met g c) held sends takes

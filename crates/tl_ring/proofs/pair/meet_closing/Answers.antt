@@ -1,23 +1,81 @@
-use Rattle.std.proofs.Common.{◌≤◌, true, length, rules, arith}
-use denote.Param.{layout, param, copied, number}
+use Rattle.std.proofs.Common.{◌≤◌, true, false, length, arith}
+use denote.Memory.{lone}
+use denote.Param.{layout, param, number, copied}
+use Rattle.tl_ring.specs.contracts.ends.ClosingEnd as send
+use Rattle.tl_ring.specs.contracts.ends.TakeEnd as take
 use Rattle.tl_ring.specs.declared.queue.TheConstants.{ROOM}
-use Rattle.tl_ring.specs.contracts.ends.ClosingEnd.{the_row}
-use Rattle.tl_ring.proofs.EndSteps.{meets_of, met_alike}
-use Rattle.tl_ring.proofs.FieldSizes.{part_small}
+use Rattle.tl_ring.proofs.EndSteps.{still_pair_after, met_of, met_alike, meets_of}
+use Rattle.tl_ring.proofs.FieldSizes.{part_small, inner_small, beat_in_queue}
 use Rattle.tl_ring.proofs.pair.meet_closing.Goals as goal
 
--- a closing end holds a sending end, which takes no more memory
-pub meet-requires : goal.meet-requires
-meet-requires g c = (
-  search (part_small (layout (the_row (param 0 g.row.K) (param 1 (number g.row.W)) (param 2 (number g.row.V)) (param 3 g.row.A) (copied 4 g.row.K-Head)
-      g.K.Channel g.K.Head.Clone g.K.Head.Eq g.K.Head.PartialEq g.K.Head.Default g.A.Allocator)) 0 9223372036854775808),
-  (let known = c.requires-raw in let c = known in search rules, rw (← c.send.view_is) at c.requires),
-)
+pub slots_beside-requires-room-P-Protocol : goal.slots_beside-requires-room-P-Protocol
+slots_beside-requires-room-P-Protocol g c κs within = omega arith
+
+pub slots_beside-requires-room-P-Protocol-2 : goal.slots_beside-requires-room-P-Protocol-2
+slots_beside-requires-room-P-Protocol-2 g c κs within =
+    beat_in_queue (lone g.row.K-Head.mir) (layout g.row.K-Head) g.row.V 9223372036854775808
+    (search (part_small (layout (take.the_row (param 0 g.row.K) (param 1 (number g.row.W)) (param 2 (number g.row.V)) (param 3 g.row.A) (copied 4 g.row.K-Head)
+    g.K.Channel g.K.Head.Clone g.K.Head.Eq g.K.Head.PartialEq g.K.Head.Default g.A.Allocator)) 0 9223372036854775808))
+
+pub slots_beside-requires : goal.slots_beside-requires
+slots_beside-requires g c =
+    let both = rw (← c.send.view_is, ← c.take.view_is) at c.requires in
+    rw (← c.send-inside.view_is) at both
+
+pub slots_beside-in_ring-requires-room-P-Protocol : goal.slots_beside-in_ring-requires-room-P-Protocol
+slots_beside-in_ring-requires-room-P-Protocol g c κs within = omega arith
+
+pub slots_beside-in_ring-requires-room-P-Protocol-2 : goal.slots_beside-in_ring-requires-room-P-Protocol-2
+slots_beside-in_ring-requires-room-P-Protocol-2 g c κs within =
+    beat_in_queue (lone g.row.K-Head.mir) (layout g.row.K-Head) g.row.V 9223372036854775808
+    (search (part_small (layout (take.the_row (param 0 g.row.K) (param 1 (number g.row.W)) (param 2 (number g.row.V)) (param 3 g.row.A) (copied 4 g.row.K-Head)
+    g.K.Channel g.K.Head.Clone g.K.Head.Eq g.K.Head.PartialEq g.K.Head.Default g.A.Allocator)) 0 9223372036854775808))
+
+pub slots_beside-in_ring-requires : goal.slots_beside-in_ring-requires
+slots_beside-in_ring-requires g c =
+    let one = c.slots_beside in
+    let both = rw (← c.send.view_is, ← c.take.view_is) at c.requires in
+    let pair = rw (← c.send-inside.view_is) at both in
+    still_pair_after c.send-inside.inside.0.0.producer one.new.self c.take.inside.consumer one.new.consumer pair one.ensures.looked one.ensures.consumer
+
+pub len-requires : goal.len-requires
+len-requires g c = let known = c.requires-raw in let c = known in search (inner_small (layout (send.the_row (param 0 g.row.K) (param 1 (number g.row.W)) (param 2 (number g.row.V)) (param 3 g.row.A) (copied 4 g.row.K-Head)
+    g.K.Channel g.K.Head.Clone g.K.Head.Eq g.K.Head.PartialEq g.K.Head.Default g.A.Allocator)) 0 1 9223372036854775808)
+
+pub len-requires-2 : goal.len-requires-2
+len-requires-2 g c = let known = c.requires-raw in let c = known in search (part_small (layout (take.the_row (param 0 g.row.K) (param 1 (number g.row.W)) (param 2 (number g.row.V)) (param 3 g.row.A) (copied 4 g.row.K-Head)
+    g.K.Channel g.K.Head.Clone g.K.Head.Eq g.K.Head.PartialEq g.K.Head.Default g.A.Allocator)) 0 9223372036854775808)
+
+-- no beat moves
+pub invariant_of-send-inside : goal.invariant_of-send-inside
+invariant_of-send-inside g c = c.send-inside.invariant
+
+pub invariant_of-take : goal.invariant_of-take
+invariant_of-take g c = c.take.invariant
 
 pub returns-clause-met : goal.returns-clause-met
-returns-clause-met g c = rw (← c.send.view_is) (met_alike true _ _ _ _ c.meet.ensures.met)
+returns-clause-met g c =
+    let one = c.slots_beside in
+    let two = c.slots_beside-in_ring in
+    let both = rw (← c.send.view_is, ← c.take.view_is) at c.requires in
+    let pair = rw (← c.send-inside.view_is) at both in
+    rw (← c.send.view_is, ← c.take.view_is) (rw (← c.send-inside.view_is) (met_alike true (record { converter = c.send-inside.inside.0.0.converter; stage = c.send-inside.inside.0.0.stage; producer = c.send-inside.inside.0.0.producer; closed = false }) _ _ _
+    (met_of _ _ one.new.self two.new.producer one.new.consumer two.new.self one.result pair
+    one.ensures.looked one.ensures.consumer one.ensures.value one.ensures.all_free two.ensures.looked two.ensures.producer two.ensures.fifo)))
+
+pub returns-clause-staged : goal.returns-clause-staged
+returns-clause-staged g c = c.len.ensures.value
+
+pub returns-clause-in_ring : goal.returns-clause-in_ring
+returns-clause-in_ring g c = c.slots_beside-in_ring.ensures.value
+
+pub returns-clause-inbox : goal.returns-clause-inbox
+returns-clause-inbox g c = c.len-2.ensures.value
+
+pub returns-clause-most : goal.returns-clause-most
+returns-clause-most g c = (c.len.ensures.within, c.len-2.ensures.within)
 
 pub returns-clause-meets : goal.returns-clause-meets
 returns-clause-meets g c = λ x taken sends takes.
-    let held : length c.meet.new.take.inbox ≤ ROOM = omega (arith, c.meet.ensures.inbox, c.meet.ensures.most.1) in
+    let held : length c.take.inside.inbox ≤ ROOM = omega (arith, c.len-2.ensures.value, c.len-2.ensures.within) in
     meets_of g.K.Channel.rules _ _ _ _ x taken (returns-clause-met g c) held sends takes

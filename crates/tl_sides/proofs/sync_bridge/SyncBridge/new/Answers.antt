@@ -1,22 +1,34 @@
-use Rattle.std.proofs.Common.{refl}
+use Rattle.std.proofs.Common.{ℕ, List, [], rules, refl}
+use contract.BorrowLft.{◌⊑◌}
+use Rattle.std.proofs.lemmas.Bool.{false≢true}
+use Rattle.tl_ring.proofs.Moves.{ring_size_only}
 use Rattle.tl_sides.proofs.BridgeLayout.{bridge_layout}
 use Rattle.tl_ring.proofs.FieldSizes.{part_small}
 use Rattle.tl_sides.proofs.sync_bridge.SyncBridge.new.Goals as goal
 
-pub new-requires : goal.new-requires
-new-requires g c = (search (part_small (bridge_layout g.row.C g.row.M g.row.A g.A.Allocator) 0 9223372036854775808), (c.requires.client, c.requires.manager))
+-- a pipe that is dropped owes nothing else than its allocator
+dropped : (κ κ' lives : List ℕ) → κ' ⊑ lives → (κ ⊑ []) × (κ' ⊑ lives)
+dropped κ κ' lives within = (search rules, within)
 
-pub new-requires-2 : goal.new-requires-2
-new-requires-2 g c = (search (part_small (bridge_layout g.row.C g.row.M g.row.A g.A.Allocator) 1 9223372036854775808), (c.requires.manager, c.requires.client))
+pub over-requires : goal.over-requires
+over-requires g c =
+    let known = c.requires-raw in let c = known in search (part_small (bridge_layout g.row.C g.row.M g.row.A g.A.Allocator) 0 9223372036854775808)
 
-pub new-requires-3 : goal.new-requires-3
-new-requires-3 g c = (search (part_small (bridge_layout g.row.C g.row.M g.row.A g.A.Allocator) 2 9223372036854775808), (c.requires.client, c.requires.manager))
+pub over-requires-2 : goal.over-requires-2
+over-requires-2 g c =
+    let known = c.requires-raw in let c = known in search (part_small (bridge_layout g.row.C g.row.M g.row.A g.A.Allocator) 1 9223372036854775808)
 
-pub new-requires-4 : goal.new-requires-4
-new-requires-4 g c = (search (part_small (bridge_layout g.row.C g.row.M g.row.A g.A.Allocator) 3 9223372036854775808), (c.requires.manager, c.requires.client))
+pub over-requires-3 : goal.over-requires-3
+over-requires-3 g c =
+    let known = c.requires-raw in let c = known in search (part_small (bridge_layout g.row.C g.row.M g.row.A g.A.Allocator) 2 9223372036854775808)
 
-pub new-requires-5 : goal.new-requires-5
-new-requires-5 g c = (search (part_small (bridge_layout g.row.C g.row.M g.row.A g.A.Allocator) 4 9223372036854775808), (c.requires.client, c.requires.manager))
+pub over-requires-4 : goal.over-requires-4
+over-requires-4 g c =
+    let known = c.requires-raw in let c = known in search (part_small (bridge_layout g.row.C g.row.M g.row.A g.A.Allocator) 3 9223372036854775808)
+
+pub over-requires-5 : goal.over-requires-5
+over-requires-5 g c =
+    let known = c.requires-raw in let c = known in search (part_small (bridge_layout g.row.C g.row.M g.row.A g.A.Allocator) 4 9223372036854775808)
 
 -- both books are parts of the result; what the calls have shown is left aside
 pub new_books-requires : goal.new_books-requires
@@ -26,11 +38,11 @@ new_books-requires g c =
 
 pub returns-clause-new : goal.returns-clause-new
 returns-clause-new g c = record {
-  a = c.in-Ok.ensures.new;
-  b = c.in-Ok-new.ensures.new;
-  c = c.in-Ok-new-2.ensures.new;
-  d = c.in-Ok-new-3.ensures.new;
-  e = c.in-Ok-new-4.ensures.new;
+  a = c.in-Ok.ensures.new c.requires.client c.requires.manager;
+  b = c.in-Ok-over.ensures.new c.requires.manager c.requires.client;
+  c = c.in-Ok-over-2.ensures.new c.requires.client c.requires.manager;
+  d = c.in-Ok-over-3.ensures.new c.requires.manager c.requires.client;
+  e = c.in-Ok-over-4.ensures.new c.requires.client c.requires.manager;
   client_asked = refl;
   client_answered = refl;
   manager_asked = refl;
@@ -39,3 +51,108 @@ returns-clause-new g c = record {
   client = c.in-Ok-new_books.ensures.client;
   manager = c.in-Ok-new_books.ensures.manager;
 }
+
+pub returns-in-Err-clause-new : goal.returns-in-Err-clause-new
+returns-in-Err-clause-new g c = tt
+
+pub returns-in-Err-clause-size : goal.returns-in-Err-clause-size
+returns-in-Err-clause-size g c = λ made. absurd (false≢true made)
+
+pub returns-in-Err-clause-ring_size : goal.returns-in-Err-clause-ring_size
+returns-in-Err-clause-ring_size g c = c.in-Err.ensures.ring_size
+
+pub returns-in-Err-over-clause-new : goal.returns-in-Err-over-clause-new
+returns-in-Err-over-clause-new g c = tt
+
+pub returns-in-Err-over-clause-size : goal.returns-in-Err-over-clause-size
+returns-in-Err-over-clause-size g c = λ made. absurd (false≢true made)
+
+pub returns-in-Err-over-clause-ring_size : goal.returns-in-Err-over-clause-ring_size
+returns-in-Err-over-clause-ring_size g c = c.in-Err-over.ensures.ring_size
+
+pub returns-in-Err-over-2-clause-new : goal.returns-in-Err-over-2-clause-new
+returns-in-Err-over-2-clause-new g c = tt
+
+pub returns-in-Err-over-2-clause-size : goal.returns-in-Err-over-2-clause-size
+returns-in-Err-over-2-clause-size g c = λ made. absurd (false≢true made)
+
+pub returns-in-Err-over-2-clause-ring_size : goal.returns-in-Err-over-2-clause-ring_size
+returns-in-Err-over-2-clause-ring_size g c = c.in-Err-over-2.ensures.ring_size
+
+pub returns-in-Err-over-3-clause-new : goal.returns-in-Err-over-3-clause-new
+returns-in-Err-over-3-clause-new g c = tt
+
+pub returns-in-Err-over-3-clause-size : goal.returns-in-Err-over-3-clause-size
+returns-in-Err-over-3-clause-size g c = λ made. absurd (false≢true made)
+
+pub returns-in-Err-over-3-clause-ring_size : goal.returns-in-Err-over-3-clause-ring_size
+returns-in-Err-over-3-clause-ring_size g c = c.in-Err-over-3.ensures.ring_size
+
+pub returns-in-Err-over-4-clause-new : goal.returns-in-Err-over-4-clause-new
+returns-in-Err-over-4-clause-new g c = tt
+
+pub returns-in-Err-over-4-clause-size : goal.returns-in-Err-over-4-clause-size
+returns-in-Err-over-4-clause-size g c = λ made. absurd (false≢true made)
+
+pub returns-in-Err-over-4-clause-ring_size : goal.returns-in-Err-over-4-clause-ring_size
+returns-in-Err-over-4-clause-ring_size g c = c.in-Err-over-4.ensures.ring_size
+
+pub returns-in_default-clause-new : goal.returns-in_default-clause-new
+returns-in_default-clause-new g c = tt
+
+pub returns-in_default-clause-size : goal.returns-in_default-clause-size
+returns-in_default-clause-size g c = λ made. absurd (false≢true made)
+
+pub returns-in_default-clause-ring_size : goal.returns-in_default-clause-ring_size
+returns-in_default-clause-ring_size g c = (λ same. absurd (cc), λ none. absurd (ring_size_only c.args.ring (c.in-Ok.ensures.size refl) none))
+
+pub returns-clause-size : goal.returns-clause-size
+returns-clause-size g c = λ made. c.in-Ok.ensures.size refl
+
+pub returns-clause-ring_size : goal.returns-clause-ring_size
+returns-clause-ring_size g c = tt
+
+pub drop-a-inside-requires : goal.drop-a-inside-requires
+drop-a-inside-requires g c κs = dropped κs.0 κs.1.0 g.row.A.lives
+
+pub drop-b-inside-requires : goal.drop-b-inside-requires
+drop-b-inside-requires g c κs = dropped κs.0 κs.1.0 g.row.A.lives
+
+pub drop-a-inside-requires-in-Err-over-2 : goal.drop-a-inside-requires-in-Err-over-2
+drop-a-inside-requires-in-Err-over-2 g c κs = dropped κs.0 κs.1.0 g.row.A.lives
+
+pub drop-c-inside-requires : goal.drop-c-inside-requires
+drop-c-inside-requires g c κs = dropped κs.0 κs.1.0 g.row.A.lives
+
+pub drop-b-inside-requires-in-Err-over-3 : goal.drop-b-inside-requires-in-Err-over-3
+drop-b-inside-requires-in-Err-over-3 g c κs = dropped κs.0 κs.1.0 g.row.A.lives
+
+pub drop-a-inside-requires-in-Err-over-3 : goal.drop-a-inside-requires-in-Err-over-3
+drop-a-inside-requires-in-Err-over-3 g c κs = dropped κs.0 κs.1.0 g.row.A.lives
+
+pub drop-d-inside-requires : goal.drop-d-inside-requires
+drop-d-inside-requires g c κs = dropped κs.0 κs.1.0 g.row.A.lives
+
+pub drop-c-inside-requires-in-Err-over-4 : goal.drop-c-inside-requires-in-Err-over-4
+drop-c-inside-requires-in-Err-over-4 g c κs = dropped κs.0 κs.1.0 g.row.A.lives
+
+pub drop-b-inside-requires-in-Err-over-4 : goal.drop-b-inside-requires-in-Err-over-4
+drop-b-inside-requires-in-Err-over-4 g c κs = dropped κs.0 κs.1.0 g.row.A.lives
+
+pub drop-a-inside-requires-in-Err-over-4 : goal.drop-a-inside-requires-in-Err-over-4
+drop-a-inside-requires-in-Err-over-4 g c κs = dropped κs.0 κs.1.0 g.row.A.lives
+
+pub drop-e-inside-requires : goal.drop-e-inside-requires
+drop-e-inside-requires g c κs = dropped κs.0 κs.1.0 g.row.A.lives
+
+pub drop-d-inside-requires-in_default : goal.drop-d-inside-requires-in_default
+drop-d-inside-requires-in_default g c κs = dropped κs.0 κs.1.0 g.row.A.lives
+
+pub drop-c-inside-requires-in_default : goal.drop-c-inside-requires-in_default
+drop-c-inside-requires-in_default g c κs = dropped κs.0 κs.1.0 g.row.A.lives
+
+pub drop-b-inside-requires-in_default : goal.drop-b-inside-requires-in_default
+drop-b-inside-requires-in_default g c κs = dropped κs.0 κs.1.0 g.row.A.lives
+
+pub drop-a-inside-requires-in_default : goal.drop-a-inside-requires-in_default
+drop-a-inside-requires-in_default g c κs = dropped κs.0 κs.1.0 g.row.A.lives
