@@ -1,33 +1,43 @@
 -- What the calls of a handle do, by the past of the bridge that it holds (this project's choice).
-use Rattle.std.specs.Prelude.{◌≡◌, ℕ, Option, Some, None, [], length}
+use Rattle.std.specs.Prelude.{◌≡◌, ℕ, Bool, false, Option, Some, None, List, [], length}
+use Rattle.tl_msg.specs.declared.beat.BeatOf.{BeatOf}
 use Rattle.tl_ring.specs.Crossing.{World}
-use Rattle.tl_sides.specs.Bridges.{Past, StandsFor, after_pump, after_fetch, all_pumped, all_fetched}
+use Rattle.tl_sides.specs.Bridges.{Bridge, Past, StandsFor}
 use Rattle.tl_c_beats.specs.declared.counts.BeatCounts.{BeatCounts}
 use Rattle.tl_c_beats.specs.declared.counts.ChannelCounts.{ChannelCounts}
+use Rattle.tl_c_beats.specs.declared.fields.BeatFields.{BeatFields}
+use Rattle.tl_c_beats.specs.Calls.{Stands, Tells}
 use Rattle.tl_c.specs.declared.held.Held.{Held}
 use Rattle.tl_c.specs.declared.widths.TheConstants.{CLIENT, MANAGER}
 
 -- a bridge is held, and it stands for a past
 abbrev pub HoldsPast : Option Held → Past CLIENT MANAGER → Type 0
-HoldsPast None x = ⊥
-HoldsPast (Some h) x = StandsFor h.bridge x
+HoldsPast = Stands (λ h x. StandsFor h.bridge x)
 
--- the past after a pump, and after a fetch, and how many beats they move
-abbrev pub past_pumped : Option Held → Past CLIENT MANAGER → Past CLIENT MANAGER
-past_pumped None x = x
-past_pumped (Some h) x = after_pump h.bridge x
+-- a take of the first beat of a channel's inbox, which C is told: whether there was one. Where there was none, nothing is written
+pub record Takes {H : Type 0} {w v : ℕ} (fields_of : BeatOf H v → BeatFields) (channel : Past CLIENT MANAGER → World H w v)
+    (after : Past CLIENT MANAGER → Past CLIENT MANAGER) (before now : Option Held) (unwritten written : BeatFields) (old_bytes bytes : List ℕ)
+    (answer : Bool) : Type 0 where
+  pub nothing : before ≡ None → (answer ≡ false) × (now ≡ None)
+  pub taken : (x : Past CLIENT MANAGER) → HoldsPast before x → HoldsPast now (after x)
+  pub told : (x : Past CLIENT MANAGER) → HoldsPast before x → Tells fields_of (channel x).inbox written bytes answer
+  pub none : answer ≡ false → (written ≡ unwritten) × (bytes ≡ old_bytes)
 
-abbrev pub past_fetched : Option Held → Past CLIENT MANAGER → Past CLIENT MANAGER
-past_fetched None x = x
-past_fetched (Some h) x = after_fetch h.bridge x
+-- by the bridge that is held, how many beats a call moves, and the past after it
+abbrev pub moved_count : (Bridge CLIENT MANAGER → ℕ) → Option Held → ℕ
+moved_count count None = 0
+moved_count count (Some h) = count h.bridge
 
-abbrev pub pumped_count : Option Held → ℕ
-pumped_count None = 0
-pumped_count (Some h) = all_pumped h.bridge
+abbrev pub moved_past : (Bridge CLIENT MANAGER → Past CLIENT MANAGER → Past CLIENT MANAGER) → Option Held → Past CLIENT MANAGER → Past CLIENT MANAGER
+moved_past after None x = x
+moved_past after (Some h) x = after h.bridge x
 
-abbrev pub fetched_count : Option Held → ℕ
-fetched_count None = 0
-fetched_count (Some h) = all_fetched h.bridge
+-- a call that moves beats, and answers how many
+pub record Moves (count : Bridge CLIENT MANAGER → ℕ) (after : Bridge CLIENT MANAGER → Past CLIENT MANAGER → Past CLIENT MANAGER)
+    (before now : Option Held) (answer : ℕ) : Type 0 where
+  pub answers : answer ≡ moved_count count before
+  pub nothing : before ≡ None → now ≡ None
+  pub moved : (x : Past CLIENT MANAGER) → HoldsPast before x → HoldsPast now (moved_past after before x)
 
 -- how many far beats wait on a channel, and on all five
 abbrev pub beat_counts : {H : Type 0} {w v : ℕ} → World H w v → BeatCounts

@@ -18,8 +18,8 @@ mod widths;
 
 ghost use Rattle.std.specs.Prelude.{◌≡◌, ◌≢◌, ◌<◌, ◌⊎◌, ◌↔◌, None, false, true};
 ghost use Rattle.tl_ring.specs.declared.pipe.TheConstants.{MAX_RING};
-ghost use Rattle.tl_sides.specs.Bridges.{Past, nothing_yet};
-ghost use Rattle.tl_c.specs.Calls.{HoldsPast, IsDrained, past_pumped, past_fetched, pumped_count, fetched_count, channel_counts};
+ghost use Rattle.tl_sides.specs.Bridges.{Past, nothing_yet, all_pumped, all_fetched, after_pump, after_fetch};
+ghost use Rattle.tl_c.specs.Calls.{HoldsPast, IsDrained, Moves, channel_counts};
 
 use crate::counts::is_idle;
 use crate::handle::Handle;
@@ -41,9 +41,7 @@ pub extern "C" fn tl_open(alloc: Global, handle: &mut Handle, ring: usize) -> u8
     ensures faults { (result ≡ 0) ⊎ ((result ≡ 12) ⊎ (result ≡ 13)) }
     ensures refused { result ≢ 0 → handle.new.owned.held ≡ None }
 {
-    if let Some(held) = handle.take(alloc) {
-        drop(held);
-    }
+    drop(handle.take(alloc));
     let bridge = match SyncBridge::<CLIENT, MANAGER>::new(alloc, ring) {
         Ok(bridge) => bridge,
         Err(fault) => return fault.number(),
@@ -62,9 +60,7 @@ pub extern "C" fn tl_open(alloc: Global, handle: &mut Handle, ring: usize) -> u8
 pub extern "C" fn tl_free(alloc: Global, handle: &mut Handle)
     ensures { handle.new.owned.held ≡ None }
 {
-    if let Some(held) = handle.take(alloc) {
-        drop(held);
-    }
+    drop(handle.take(alloc));
 }
 
 /// Moves staged beats to the rings on all channels, as many as each ring has room for, and answers
@@ -72,10 +68,7 @@ pub extern "C" fn tl_free(alloc: Global, handle: &mut Handle)
 /// held.
 #[unsafe(no_mangle)]
 pub extern "C" fn tl_pump(alloc: Global, handle: &mut Handle) -> usize
-    ensures count { result ≡ pumped_count handle.old.owned.held }
-    ensures no_bridge { handle.old.owned.held ≡ None → handle.new.owned.held ≡ None }
-    ensures moved { (x : Past CLIENT MANAGER) → HoldsPast handle.old.owned.held x →
-        HoldsPast handle.new.owned.held (past_pumped handle.old.owned.held x) }
+    ensures { Moves all_pumped after_pump handle.old.owned.held handle.new.owned.held result }
 {
     on_held!(handle, alloc, 0, |held| held.bridge.pump())
 }
@@ -85,10 +78,7 @@ pub extern "C" fn tl_pump(alloc: Global, handle: &mut Handle) -> usize
 /// bridge is held.
 #[unsafe(no_mangle)]
 pub extern "C" fn tl_fetch(alloc: Global, handle: &mut Handle) -> usize
-    ensures count { result ≡ fetched_count handle.old.owned.held }
-    ensures no_bridge { handle.old.owned.held ≡ None → handle.new.owned.held ≡ None }
-    ensures moved { (x : Past CLIENT MANAGER) → HoldsPast handle.old.owned.held x →
-        HoldsPast handle.new.owned.held (past_fetched handle.old.owned.held x) }
+    ensures { Moves all_fetched after_fetch handle.old.owned.held handle.new.owned.held result }
 {
     on_held!(handle, alloc, 0, |held| held.bridge.fetch())
 }

@@ -39,13 +39,8 @@ pub extern "C" fn tl_offer_a(
         (after_offer_a (beat_a beat.now lanes.now))
         handle.old.owned.held handle.new.owned.held result }
 {
-    offer_held!(
-        handle,
-        alloc,
-        NO_BRIDGE,
-        bridge.ready_a,
-        offer_a(beat_a(beat, lanes))
-    )
+    let beat = beat_a(beat, lanes);
+    offer_held!(handle, alloc, NO_BRIDGE, bridge.ready_a, offer_a(beat))
 }
 
 /// Whether the manager's side may offer a beat of B: a bridge is held, nothing of B is staged, and
@@ -73,13 +68,8 @@ pub extern "C" fn tl_offer_b(
         (after_offer_b (beat_b beat.now lanes.now))
         handle.old.owned.held handle.new.owned.held result }
 {
-    offer_held!(
-        handle,
-        alloc,
-        NO_BRIDGE,
-        bridge.ready_b,
-        offer_b(beat_b(beat, lanes))
-    )
+    let beat = beat_b(beat, lanes);
+    offer_held!(handle, alloc, NO_BRIDGE, bridge.ready_b, offer_b(beat))
 }
 
 /// Whether the client's side may offer a beat of C: a bridge is held, nothing of C is staged, and
@@ -107,13 +97,8 @@ pub extern "C" fn tl_offer_c(
         (after_offer_c (beat_c beat.now lanes.now))
         handle.old.owned.held handle.new.owned.held result }
 {
-    offer_held!(
-        handle,
-        alloc,
-        NO_BRIDGE,
-        bridge.ready_c,
-        offer_c(beat_c(beat, lanes))
-    )
+    let beat = beat_c(beat, lanes);
+    offer_held!(handle, alloc, NO_BRIDGE, bridge.ready_c, offer_c(beat))
 }
 
 /// Whether the manager's side may offer a beat of D: a bridge is held, nothing of D is staged, and
@@ -141,13 +126,8 @@ pub extern "C" fn tl_offer_d(
         (after_offer_d (beat_d beat.now lanes.now))
         handle.old.owned.held handle.new.owned.held result }
 {
-    offer_held!(
-        handle,
-        alloc,
-        NO_BRIDGE,
-        bridge.ready_d,
-        offer_d(beat_d(beat, lanes))
-    )
+    let beat = beat_d(beat, lanes);
+    offer_held!(handle, alloc, NO_BRIDGE, bridge.ready_d, offer_d(beat))
 }
 
 /// Whether the client's side may offer a beat of E: a bridge is held, nothing of E is staged, and
@@ -175,11 +155,6 @@ pub extern "C" fn tl_offer_e(
         (after_offer_e (beat_e beat.now lanes.now))
         handle.old.owned.held handle.new.owned.held result }
 {
-    offer_held!(
-        handle,
-        alloc,
-        NO_BRIDGE,
-        bridge.ready_e,
-        offer_e(beat_e(beat, lanes))
-    )
+    let beat = beat_e(beat, lanes);
+    offer_held!(handle, alloc, NO_BRIDGE, bridge.ready_e, offer_e(beat))
 }

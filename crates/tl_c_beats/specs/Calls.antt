@@ -1,9 +1,16 @@
 -- What a call of a handle answers and leaves (this project's choice). The handle held `before` and holds `now` a bridge or a side of one, or nothing;
 -- what is held stands for a past (`Holds`).
-use Rattle.std.specs.Prelude.{◌≡◌, ◌≢◌, ℕ, Bool, false, Option, None, List}
+use Rattle.std.specs.Prelude.{◌≡◌, ◌≢◌, ℕ, Bool, true, false, Option, None, Some, List, slice_get}
+use Rattle.tl_msg.specs.declared.beat.BeatOf.{BeatOf}
 use Rattle.tl_msg.specs.declared.fault.SideFault.{SideFault}
 use Rattle.tl_ring.specs.Crossing.{World}
-use Rattle.tl_c_beats.specs.Answers.{is_ready, offer_answer, close_answer}
+use Rattle.tl_c_beats.specs.declared.fields.BeatFields.{BeatFields}
+use Rattle.tl_c_beats.specs.Answers.{IsTold, is_ready, offer_answer, close_answer}
+
+-- something is held, and it stands for a past
+abbrev pub Stands : {S P : Type 0} → (StandsFor : S → P → Type 0) → Option S → P → Type 0
+Stands StandsFor None x = ⊥
+Stands StandsFor (Some h) x = StandsFor h x
 
 -- whether a channel may be offered a beat: no where nothing is held. Nothing changes
 pub record Asks {S P : Type 0} (Holds : Option S → P → Type 0) {H : Type 0} {w v : ℕ} (channel : P → World H w v) (before now : Option S) (answer : Bool) : Type 0 where
@@ -28,3 +35,9 @@ pub record Closes {S P : Type 0} (Holds : Option S → P → Type 0) (none : ℕ
   pub answers : (x : P) → Holds before x → answer ≡ close_answer (rest x)
   pub closed : (x : P) → Holds before x → answer ≡ 0 → Holds now (after x)
   pub refused : answer ≢ 0 → now ≡ before
+
+-- C was told the first beat of an inbox, or that there is none
+pub record Tells {H : Type 0} {w : ℕ} (fields_of : BeatOf H w → BeatFields) (inbox : List (BeatOf H w)) (written : BeatFields) (bytes : List ℕ)
+    (answer : Bool) : Type 0 where
+  pub beat : answer ≡ true → IsTold fields_of (slice_get inbox 0) written bytes
+  pub none : answer ≡ false → slice_get inbox 0 ≡ None

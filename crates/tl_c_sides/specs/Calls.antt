@@ -1,5 +1,7 @@
 -- What the calls of a side's handle do, by the past of the side that it holds (this project's choice).
-use Rattle.std.specs.Prelude.{◌≡◌, ◌+◌, ℕ, Option, Some, None, List, [], length}
+use Rattle.std.specs.Prelude.{◌≡◌, ◌+◌, ℕ, Bool, true, false, Option, Some, None, List, [], length, slice_get, take, IfSome}
+use Rattle.tl_msg.specs.Faults.{IsLawfulBeat}
+use Rattle.tl_msg.specs.Rules.{Rules}
 use Rattle.tl_msg.specs.declared.head.HeadA.{HeadA}
 use Rattle.tl_msg.specs.declared.head.HeadB.{HeadB}
 use Rattle.tl_msg.specs.declared.head.HeadC.{HeadC}
@@ -11,18 +13,18 @@ use Rattle.tl_pair.specs.Ends.{Pumps, Fetches, pump_count, fetch_count}
 use Rattle.tl_pair.specs.Sides.{ClientPast, ManagerPast, ClientStandsFor, ManagerStandsFor, AreSides, SidesMeet, SameClient, SameManager, client_pumps, manager_pumps}
 use Rattle.tl_c_beats.specs.declared.counts.BeatCounts.{BeatCounts}
 use Rattle.tl_c_beats.specs.declared.counts.ChannelCounts.{ChannelCounts}
+use Rattle.tl_c_beats.specs.declared.fields.BeatFields.{BeatFields}
+use Rattle.tl_c_beats.specs.Calls.{Stands, Tells}
 use Rattle.tl_c_sides.specs.declared.held.ClientHeld.{ClientHeld}
 use Rattle.tl_c_sides.specs.declared.held.ManagerHeld.{ManagerHeld}
 use Rattle.tl_c_sides.specs.declared.widths.TheConstants.{CLIENT, MANAGER}
 
 -- a side is held, and it stands for a past
 abbrev pub HoldsClient : Option ClientHeld → ClientPast CLIENT MANAGER → Type 0
-HoldsClient None x = ⊥
-HoldsClient (Some h) x = ClientStandsFor h.side x
+HoldsClient = Stands (λ h x. ClientStandsFor h.side x)
 
 abbrev pub HoldsManager : Option ManagerHeld → ManagerPast CLIENT MANAGER → Type 0
-HoldsManager None x = ⊥
-HoldsManager (Some h) x = ManagerStandsFor h.side x
+HoldsManager = Stands (λ h x. ManagerStandsFor h.side x)
 
 -- both sides of one bridge are held
 abbrev pub HoldSides : Option ClientHeld → Option ManagerHeld → Type 0
@@ -31,15 +33,16 @@ HoldSides (Some s) None = ⊥
 HoldSides (Some s) (Some t) = AreSides s.side t.side
 
 -- the same side of the same bridge is held, or none as before
-abbrev pub KeepsClient : (before after : Option ClientHeld) → Type 0
-KeepsClient None s = s ≡ None
-KeepsClient (Some h) None = ⊥
-KeepsClient (Some h) (Some k) = SameClient h.side k.side
+abbrev pub Keeps : {S : Type 0} → (IsSame : S → S → Type 0) → (before now : Option S) → Type 0
+Keeps IsSame None s = s ≡ None
+Keeps IsSame (Some h) None = ⊥
+Keeps IsSame (Some h) (Some k) = IsSame h k
 
-abbrev pub KeepsManager : (before after : Option ManagerHeld) → Type 0
-KeepsManager None s = s ≡ None
-KeepsManager (Some h) None = ⊥
-KeepsManager (Some h) (Some k) = SameManager h.side k.side
+abbrev pub KeepsClient : (before now : Option ClientHeld) → Type 0
+KeepsClient = Keeps (λ h k. SameClient h.side k.side)
+
+abbrev pub KeepsManager : (before now : Option ManagerHeld) → Type 0
+KeepsManager = Keeps (λ h k. SameManager h.side k.side)
 
 -- the beats of an inbox of a side, if one is held: those that it has fetched on a channel and not yet taken
 abbrev pub waiting : {S A : Type 0} → (inbox : S → List A) → Option S → List A
@@ -61,45 +64,61 @@ inbox_d = waiting (λ h. h.side.d.inbox)
 abbrev pub inbox_e : Option ManagerHeld → List (BeatOf HeadE MANAGER)
 inbox_e = waiting (λ h. h.side.e.inbox)
 
--- a side moves staged beats into its rings, so many of them, and its past goes on by them
-abbrev pub ClientPumps : (before after : Option ClientHeld) (count : ℕ) → Type 0
-ClientPumps None s count = (s ≡ None) × (count ≡ 0)
-ClientPumps (Some h) None count = ⊥
-ClientPumps (Some h) (Some k) count =
+-- a take of the first beat of an inbox, which C is told: whether there was one. The past goes on by the beats that are taken. Where there was none,
+-- nothing is written
+pub record Takes {S P : Type 0} (Holds : Option S → P → Type 0) {H : Type 0} {w : ℕ} (r : Rules H) (fields_of : BeatOf H w → BeatFields)
+    (inbox : Option S → List (BeatOf H w)) (after : List (BeatOf H w) → P → P) (before now : Option S)
+    (unwritten written : BeatFields) (old_bytes bytes : List ℕ) (answer : Bool) : Type 0 where
+  pub nothing : before ≡ None → (answer ≡ false) × (now ≡ None)
+  pub taken : (x : P) → Holds before x → Holds now (after (take 1 (inbox before)) x)
+  pub told : Tells fields_of (inbox before) written bytes answer
+  pub lawful : answer ≡ true → IfSome (slice_get (inbox before) 0) (λ beat. IsLawfulBeat r beat)
+  pub none : answer ≡ false → (written ≡ unwritten) × (bytes ≡ old_bytes)
+
+-- what a call does with the side that is held, which moves so many beats: none where none is held
+abbrev pub Does : {S : Type 0} → (How : S → S → ℕ → Type 0) → (before now : Option S) (count : ℕ) → Type 0
+Does How None s count = (s ≡ None) × (count ≡ 0)
+Does How (Some h) None count = ⊥
+Does How (Some h) (Some k) count = How h k count
+
+-- a call that moves beats, so many of them, in this way, and what the past is after it
+pub record Moves {S P : Type 0} (Holds : Option S → P → Type 0) (How : S → S → ℕ → Type 0) (after : Option S → Option S → P → P)
+    (before now : Option S) (count : ℕ) : Type 0 where
+  pub moves : Does How before now count
+  pub stands : (x : P) → Holds before x → Holds now (after before now x)
+
+-- a side moves staged beats into its rings, or beats from the other side's rings into its inboxes
+abbrev pub ClientPumps : ClientHeld → ClientHeld → ℕ → Type 0
+ClientPumps h k count =
     Pumps h.side.a k.side.a × Pumps h.side.c k.side.c × Pumps h.side.e k.side.e
     × (count ≡ pump_count h.side.a k.side.a + pump_count h.side.c k.side.c + pump_count h.side.e k.side.e)
 
-abbrev pub client_pumped : (before after : Option ClientHeld) → ClientPast CLIENT MANAGER → ClientPast CLIENT MANAGER
-client_pumped None s x = x
-client_pumped (Some h) None x = x
-client_pumped (Some h) (Some k) x = client_pumps h.side k.side x
-
-abbrev pub ManagerPumps : (before after : Option ManagerHeld) (count : ℕ) → Type 0
-ManagerPumps None s count = (s ≡ None) × (count ≡ 0)
-ManagerPumps (Some h) None count = ⊥
-ManagerPumps (Some h) (Some k) count =
+abbrev pub ManagerPumps : ManagerHeld → ManagerHeld → ℕ → Type 0
+ManagerPumps h k count =
     Pumps h.side.b k.side.b × Pumps h.side.d k.side.d
     × (count ≡ pump_count h.side.b k.side.b + pump_count h.side.d k.side.d)
 
-abbrev pub manager_pumped : (before after : Option ManagerHeld) → ManagerPast CLIENT MANAGER → ManagerPast CLIENT MANAGER
-manager_pumped None s x = x
-manager_pumped (Some h) None x = x
-manager_pumped (Some h) (Some k) x = manager_pumps h.side k.side x
-
--- a side moves beats from the other side's rings into its inboxes, so many of them
-abbrev pub ClientFetches : (before after : Option ClientHeld) (count : ℕ) → Type 0
-ClientFetches None s count = (s ≡ None) × (count ≡ 0)
-ClientFetches (Some h) None count = ⊥
-ClientFetches (Some h) (Some k) count =
+abbrev pub ClientFetches : ClientHeld → ClientHeld → ℕ → Type 0
+ClientFetches h k count =
     Fetches h.side.b k.side.b × Fetches h.side.d k.side.d
     × (count ≡ fetch_count h.side.b k.side.b + fetch_count h.side.d k.side.d)
 
-abbrev pub ManagerFetches : (before after : Option ManagerHeld) (count : ℕ) → Type 0
-ManagerFetches None s count = (s ≡ None) × (count ≡ 0)
-ManagerFetches (Some h) None count = ⊥
-ManagerFetches (Some h) (Some k) count =
+abbrev pub ManagerFetches : ManagerHeld → ManagerHeld → ℕ → Type 0
+ManagerFetches h k count =
     Fetches h.side.a k.side.a × Fetches h.side.c k.side.c × Fetches h.side.e k.side.e
     × (count ≡ fetch_count h.side.a k.side.a + fetch_count h.side.c k.side.c + fetch_count h.side.e k.side.e)
+
+-- the past after a pump, by the side before and after it
+abbrev pub pumped : {S P : Type 0} → (pumps : S → S → P → P) → (before now : Option S) → P → P
+pumped pumps None s x = x
+pumped pumps (Some h) None x = x
+pumped pumps (Some h) (Some k) x = pumps h k x
+
+abbrev pub client_pumped : (before now : Option ClientHeld) → ClientPast CLIENT MANAGER → ClientPast CLIENT MANAGER
+client_pumped = pumped (λ h k x. client_pumps h.side k.side x)
+
+abbrev pub manager_pumped : (before now : Option ManagerHeld) → ManagerPast CLIENT MANAGER → ManagerPast CLIENT MANAGER
+manager_pumped = pumped (λ h k x. manager_pumps h.side k.side x)
 
 -- two sides may meet: those that are held are of one bridge
 abbrev pub MayMeet : Option ClientHeld → Option ManagerHeld → Type 0

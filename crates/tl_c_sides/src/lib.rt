@@ -51,12 +51,8 @@ pub extern "C" fn tl_open(
     ensures refused { result ≢ 0 →
         (client.new.owned.held ≡ None) × (manager.new.owned.held ≡ None) }
 {
-    if let Some(held) = client.take(alloc) {
-        drop(held);
-    }
-    if let Some(held) = manager.take(alloc) {
-        drop(held);
-    }
+    drop(client.take(alloc));
+    drop(manager.take(alloc));
     let (client_side, manager_side) = match bridge::<CLIENT, MANAGER, Global>(alloc, ring) {
         Ok(sides) => sides,
         Err(fault) => return fault.number(),
@@ -78,9 +74,7 @@ pub extern "C" fn tl_open(
 pub extern "C" fn tl_free_client(alloc: Global, client: &mut ClientHandle)
     ensures { client.new.owned.held ≡ None }
 {
-    if let Some(held) = client.take(alloc) {
-        drop(held);
-    }
+    drop(client.take(alloc));
 }
 
 /// Lets the manager's side go, if the handle holds one: the handle holds none then. The client's
@@ -89,7 +83,5 @@ pub extern "C" fn tl_free_client(alloc: Global, client: &mut ClientHandle)
 pub extern "C" fn tl_free_manager(alloc: Global, manager: &mut ManagerHandle)
     ensures { manager.new.owned.held ≡ None }
 {
-    if let Some(held) = manager.take(alloc) {
-        drop(held);
-    }
+    drop(manager.take(alloc));
 }

@@ -41,13 +41,8 @@ pub extern "C" fn tl_offer_a(
         client.old.owned.held client.new.owned.held result }
     ensures kept { KeepsClient client.old.owned.held client.new.owned.held }
 {
-    offer_held!(
-        client,
-        alloc,
-        NO_SIDE,
-        side.ready_a,
-        offer_a(beat_a(beat, lanes))
-    )
+    let beat = beat_a(beat, lanes);
+    offer_held!(client, alloc, NO_SIDE, side.ready_a, offer_a(beat))
 }
 
 /// Whether the manager's side may offer a beat of B: it is held, nothing of B is staged, and
@@ -76,13 +71,8 @@ pub extern "C" fn tl_offer_b(
         manager.old.owned.held manager.new.owned.held result }
     ensures kept { KeepsManager manager.old.owned.held manager.new.owned.held }
 {
-    offer_held!(
-        manager,
-        alloc,
-        NO_SIDE,
-        side.ready_b,
-        offer_b(beat_b(beat, lanes))
-    )
+    let beat = beat_b(beat, lanes);
+    offer_held!(manager, alloc, NO_SIDE, side.ready_b, offer_b(beat))
 }
 
 /// Whether the client's side may offer a beat of C: it is held, nothing of C is staged, and
@@ -111,13 +101,8 @@ pub extern "C" fn tl_offer_c(
         client.old.owned.held client.new.owned.held result }
     ensures kept { KeepsClient client.old.owned.held client.new.owned.held }
 {
-    offer_held!(
-        client,
-        alloc,
-        NO_SIDE,
-        side.ready_c,
-        offer_c(beat_c(beat, lanes))
-    )
+    let beat = beat_c(beat, lanes);
+    offer_held!(client, alloc, NO_SIDE, side.ready_c, offer_c(beat))
 }
 
 /// Whether the manager's side may offer a beat of D: it is held, nothing of D is staged, and
@@ -146,13 +131,8 @@ pub extern "C" fn tl_offer_d(
         manager.old.owned.held manager.new.owned.held result }
     ensures kept { KeepsManager manager.old.owned.held manager.new.owned.held }
 {
-    offer_held!(
-        manager,
-        alloc,
-        NO_SIDE,
-        side.ready_d,
-        offer_d(beat_d(beat, lanes))
-    )
+    let beat = beat_d(beat, lanes);
+    offer_held!(manager, alloc, NO_SIDE, side.ready_d, offer_d(beat))
 }
 
 /// Whether the client's side may offer a beat of E: it is held, nothing of E is staged, and
@@ -181,11 +161,6 @@ pub extern "C" fn tl_offer_e(
         client.old.owned.held client.new.owned.held result }
     ensures kept { KeepsClient client.old.owned.held client.new.owned.held }
 {
-    offer_held!(
-        client,
-        alloc,
-        NO_SIDE,
-        side.ready_e,
-        offer_e(beat_e(beat, lanes))
-    )
+    let beat = beat_e(beat, lanes);
+    offer_held!(client, alloc, NO_SIDE, side.ready_e, offer_e(beat))
 }

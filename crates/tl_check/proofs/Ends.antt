@@ -75,7 +75,7 @@ module _ {C M : ℕ} (cw : IsWidth C) (mw : IsWidth M) (a : List (BeatOf HeadA C
   abbrev d_at : (n m far : ℕ) → Verdict
   d_at n m far = verdict_of m far (left rules_d M (take m d)) (option_map_or (λ b. stops_d a d n m b) (slice_get d m) None)
 
-  pub a-ends : (burst : Option (HeadA × ℕ)) (far : ℕ) → HasCome rules_a M a burst i far →
+  a-ends : (burst : Option (HeadA × ℕ)) (far : ℕ) → HasCome rules_a M a burst i far →
       verdict_of i far (left rules_a C (take i a)) a_stops ≡ verdict_a a d
   a-ends burst far come =
       let there : State = settled_state a d in
@@ -83,10 +83,15 @@ module _ {C M : ℕ} (cw : IsWidth C) (mw : IsWidth M) (a : List (BeatOf HeadA C
       ap (λ n. a_at i j n) (come.far_is (map (λ h. h.address) (requests a d i))) ∙
       ap (λ n. a_at n j (length (far_a a d n))) settled.0 ∙ ap (λ m. a_at there.a m (length (far_a a d there.a))) settled.1
 
-  pub d-ends : (burst : Option (HeadD × ℕ)) (far : ℕ) → HasCome rules_d C d burst j far →
+  d-ends : (burst : Option (HeadD × ℕ)) (far : ℕ) → HasCome rules_d C d burst j far →
       verdict_of j far (left rules_d M (take j d)) d_stops ≡ verdict_d a d
   d-ends burst far come =
       let there : State = settled_state a d in
       ap (λ o. verdict_of j far (left rules_d M (take j d)) o) d_is ∙
       ap (λ n. d_at i j n) (come.far_is (homes_after (heads rules_a C a) [] (responses a d j))) ∙
       ap (λ n. d_at n j (length (far_d a d j))) settled.0 ∙ ap (λ m. d_at there.a m (length (far_d a d m))) settled.1
+
+  pub both-end : (a_burst : Option (HeadA × ℕ)) (a_far : ℕ) → HasCome rules_a M a a_burst i a_far →
+      (d_burst : Option (HeadD × ℕ)) (d_far : ℕ) → HasCome rules_d C d d_burst j d_far →
+      (verdict_of i a_far (left rules_a C (take i a)) a_stops ≡ verdict_a a d) × (verdict_of j d_far (left rules_d M (take j d)) d_stops ≡ verdict_d a d)
+  both-end a_burst a_far a_come d_burst d_far d_come = (a-ends a_burst a_far a_come, d-ends d_burst d_far d_come)

@@ -1,5 +1,6 @@
 pub mod NewHeads
 pub mod Sizes
 pub mod Passing
+pub mod Noting
 pub mod Steps
 pub mod Ends

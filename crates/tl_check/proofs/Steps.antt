@@ -1,5 +1,5 @@
 -- What a beat of A or D that is offered does to both sides, where each has taken all that is due.
-use Rattle.std.proofs.Common.{◌≡◌, ◌<◌, ◌+◌, ◌++◌, ℕ, suc, cond, Option, None, Some, List, [], ◌∷◌, length, map, take, refl, sym, ap, subst, ◌∙◌, arith, append-nil, length-append}
+use Rattle.std.proofs.Common.{◌≡◌, ◌<◌, ◌+◌, ◌++◌, ℕ, suc, cond, Option, None, Some, List, true, [], ◌∷◌, length, map, take, refl, sym, ap, subst, ◌∙◌, arith, append-nil, length-append}
 use Rattle.std.specs.Prelude.{◌==◌, slice_get}
 use Rattle.std.specs.Option.{option_map_or}
 use mathlib.Core.List.{IsPrefix}
@@ -49,6 +49,27 @@ next-after r {w} bs accepted burst at far b place come same is = record {
   is_place = subst (λ q. IsPlaceOf r w q b place) (come.burst_is ∙ ap (λ q. burst_after r q) (sym same)) is;
 }
 
+-- what an accepted beat makes due beside what was due before it, whatever the homes are
+module _ {H : Type 0} (r : Rules H) (w v : ℕ) (bs : List (BeatOf H w)) (at : ℕ) (b : BeatOf H w) (burst : Option (H × ℕ)) (far : ℕ)
+    (before : HasCome r v bs burst at far) (homes : ℕ → List ℕ)
+    (new : IsPrefix (due r w v (take at bs) (homes at)) (due r w v (take (suc at) bs) (homes (suc at)))) where
+  -- as many far beats as were counted
+  new-count : (burst' : Option (H × ℕ)) (n far' given : ℕ) → n ≡ suc at → far' ≡ far + given → HasCome r v bs burst' n far' → length new.0 ≡ given
+  new-count burst' n far' given later many after =
+      let x : far ≡ length (due r w v (take at bs) (homes at)) = before.far_is (homes at) in
+      let y : far' ≡ length (due r w v (take (suc at) bs) (homes (suc at))) =
+      subst (λ k. far' ≡ length (due r w v (take k bs) (homes k))) later (after.far_is (homes n)) in
+      let z : length (due r w v (take at bs) (homes at) ++ new.0) ≡ length (due r w v (take (suc at) bs) (homes (suc at))) = ap length new.1 in
+      let u = length-append (due r w v (take at bs) (homes at)) new.0 in
+      omega arith
+
+  -- each with the beat's head
+  new-have : ((x y : H) → r.same x y ≡ true → x ≡ y) → 0 < w → 0 < v → slice_get bs at ≡ Some b → fault_after r (take at bs) b ≡ None →
+      HaveHead b.head new.0
+  new-have exact w_some v_some next fine =
+      new-heads r exact w v w_some v_some (take at bs) b (homes (suc at)) (due r w v (take at bs) (homes at)) new.0 fine
+      (sym (before.far_is (homes at)) ∙ before.far_is (homes (suc at))) (ap (λ q. due r w v q (homes (suc at))) (sym (take-next bs at b next)) ∙ sym new.1)
+
 module _ {C M : ℕ} (cw : IsWidth C) (mw : IsWidth M) (a : List (BeatOf HeadA C)) (d : List (BeatOf HeadD M)) (i j : ℕ) (client : Client) (manager : Manager)
     (s : AreAt a d i j client manager) where
   c_some : 0 < C
@@ -95,21 +116,14 @@ module _ {C M : ℕ} (cw : IsWidth C) (mw : IsWidth M) (a : List (BeatOf HeadA C
           let there : RunIs c_some m_some a d (suc i) j (s.client_history ++ Ask b ∷ []) s.manager_history = run_is c_some m_some a d asked-run in
           rest-of (far_a_grows c_some m_some a d i (suc i) (omega arith) (good c_some m_some a d there.reached).a_fine)
 
-      new-asks-count : length new-asks.0 ≡ given
-      new-asks-count =
-          let homes = λ (k : ℕ). map (λ h. h.address) (requests a d k) in
-          let x : far ≡ length (far_a a d i) = before.far_is (homes i) in
-          let y : far' ≡ length (far_a a d (suc i)) = subst (λ k. far' ≡ length (far_a a d k)) later-a (after.far_is (homes n)) in
-          let z : length (far_a a d i ++ new-asks.0) ≡ length (far_a a d (suc i)) = ap length new-asks.1 in
-          let u = length-append (far_a a d i) new-asks.0 in
-          omega arith
+      abbrev asked-homes : (k : ℕ) → List ℕ
+      asked-homes k = map (λ h. h.address) (requests a d k)
 
-      new-asks-heads : HaveHead b.head new-asks.0
-      new-asks-heads =
-          let homes = map (λ h. h.address) (requests a d (suc i)) in
-          new-heads rules_a same_a C M c_some m_some (take i a) b homes (far_a a d i) new-asks.0 fine
-          (sym (before.far_is (map (λ h. h.address) (requests a d i))) ∙ before.far_is homes)
-          (ap (λ q. due rules_a C M q homes) (sym (take-next a i b next)) ∙ sym new-asks.1)
+      new-asks-count : length new-asks.0 ≡ given
+      new-asks-count = new-count rules_a C M a i b burst far before asked-homes new-asks burst' n far' given later-a many after
+
+      new-asks-have : HaveHead b.head new-asks.0
+      new-asks-have = new-have rules_a C M a i b burst far before asked-homes new-asks same_a c_some m_some next fine
 
       pub ask-accepted : AreAt a d n j client' manager'
       ask-accepted =
@@ -120,7 +134,7 @@ module _ {C M : ℕ} (cw : IsWidth C) (mw : IsWidth M) (a : List (BeatOf HeadA C
             client_history = s.client_history ++ Ask b ∷ [];
             manager_history = s.manager_history ++ map Ask new-asks.0;
             client_knows = knows;
-            manager_knows = noted new-asks.0 new-asks-count new-asks-heads;
+            manager_knows = noted new-asks.0 new-asks-count new-asks-have;
             run = round (suc i) j (suc i) j (s.client_history ++ Ask b ∷ []) (s.client_history ++ Ask b ∷ [])
                 s.manager_history (s.manager_history ++ map Ask new-asks.0) asked-run client_rests moves;
             a_taken = asked-all s.manager_history new-asks.0 ∙ on;
@@ -162,21 +176,14 @@ module _ {C M : ℕ} (cw : IsWidth C) (mw : IsWidth M) (a : List (BeatOf HeadA C
           let there : RunIs c_some m_some a d i (suc j) s.client_history (s.manager_history ++ Answer b ∷ []) = run_is c_some m_some a d answered-run in
           rest-of (far_d_grows c_some m_some a d j (suc j) (omega arith) (good c_some m_some a d there.reached).d_fine)
 
-      new-answers-count : length new-answers.0 ≡ given
-      new-answers-count =
-          let homes = λ (k : ℕ). homes_after (heads rules_a C a) [] (responses a d k) in
-          let x : far ≡ length (far_d a d j) = before.far_is (homes j) in
-          let y : far' ≡ length (far_d a d (suc j)) = subst (λ k. far' ≡ length (far_d a d k)) later-d (after.far_is (homes n)) in
-          let z : length (far_d a d j ++ new-answers.0) ≡ length (far_d a d (suc j)) = ap length new-answers.1 in
-          let u = length-append (far_d a d j) new-answers.0 in
-          omega arith
+      abbrev answered-homes : (k : ℕ) → List ℕ
+      answered-homes k = homes_after (heads rules_a C a) [] (responses a d k)
 
-      new-answers-heads : HaveHead b.head new-answers.0
-      new-answers-heads =
-          let homes = homes_after (heads rules_a C a) [] (responses a d (suc j)) in
-          new-heads rules_d same_d M C m_some c_some (take j d) b homes (far_d a d j) new-answers.0 fine
-          (sym (before.far_is (homes_after (heads rules_a C a) [] (responses a d j))) ∙ before.far_is homes)
-          (ap (λ q. due rules_d M C q homes) (sym (take-next d j b next)) ∙ sym new-answers.1)
+      new-answers-count : length new-answers.0 ≡ given
+      new-answers-count = new-count rules_d M C d j b burst far before answered-homes new-answers burst' n far' given later-d many after
+
+      new-answers-have : HaveHead b.head new-answers.0
+      new-answers-have = new-have rules_d M C d j b burst far before answered-homes new-answers same_d m_some c_some next fine
 
       pub answer-accepted : AreAt a d i n client' manager'
       answer-accepted =
@@ -186,7 +193,7 @@ module _ {C M : ℕ} (cw : IsWidth C) (mw : IsWidth M) (a : List (BeatOf HeadA C
           subst (λ k. AreAt a d i k client' manager') (sym later-d) (record {
             client_history = s.client_history ++ map Answer new-answers.0;
             manager_history = s.manager_history ++ Answer b ∷ [];
-            client_knows = noted new-answers.0 new-answers-count new-answers-heads;
+            client_knows = noted new-answers.0 new-answers-count new-answers-have;
             manager_knows = knows;
             run = round i (suc j) i (suc j) s.client_history (s.client_history ++ map Answer new-answers.0)
                 (s.manager_history ++ Answer b ∷ []) (s.manager_history ++ Answer b ∷ []) answered-run moves manager_rests;

@@ -32,48 +32,37 @@ pub trait Told: HeadText {
     fn seen(head: &Self::Head) -> Seen;
 }
 
-impl Told for ChA {
-    fn seen(head: &HeadA) -> Seen {
+// The fields of a head of A, B or C, whose heads have the same fields.
+macro_rules! seen_with {
+    ($letter:literal, $kind_on:path, $head:ident) => {
         Seen {
-            letter: 'A',
-            kind: Kind::on_a(head.opcode),
-            opcode: head.opcode,
-            param: head.param,
-            size: head.size,
-            source: head.source,
-            address: head.address,
+            letter: $letter,
+            kind: $kind_on($head.opcode),
+            opcode: $head.opcode,
+            param: $head.param,
+            size: $head.size,
+            source: $head.source,
+            address: $head.address,
             ..Seen::default()
         }
+    };
+}
+
+impl Told for ChA {
+    fn seen(head: &HeadA) -> Seen {
+        seen_with!('A', Kind::on_a, head)
     }
 }
 
 impl Told for ChB {
     fn seen(head: &HeadB) -> Seen {
-        Seen {
-            letter: 'B',
-            kind: Kind::on_b(head.opcode),
-            opcode: head.opcode,
-            param: head.param,
-            size: head.size,
-            source: head.source,
-            address: head.address,
-            ..Seen::default()
-        }
+        seen_with!('B', Kind::on_b, head)
     }
 }
 
 impl Told for ChC {
     fn seen(head: &HeadC) -> Seen {
-        Seen {
-            letter: 'C',
-            kind: Kind::on_c(head.opcode),
-            opcode: head.opcode,
-            param: head.param,
-            size: head.size,
-            source: head.source,
-            address: head.address,
-            ..Seen::default()
-        }
+        seen_with!('C', Kind::on_c, head)
     }
 }
 

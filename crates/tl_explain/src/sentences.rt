@@ -154,37 +154,6 @@ fn put_not_offered(out: &mut String, walk: &Walk) -> Result<(), AllocError> {
     out.push_str(if walk.waits { " waits" } else { " was refused" })
 }
 
-/// Writes what came of a beat, and how the walk goes on by it.
-fn put_fate(
-    out: &mut String,
-    line: u64,
-    beat: &Seen,
-    fate: Fate,
-    walk: &mut Walk,
-    requests: &mut Requests,
-    look: &Look,
-    w: usize,
-    v: usize,
-) -> Result<(), AllocError>
-    requires near { IsWidth w }
-    requires far { IsWidth v }
-{
-    match fate {
-        Fate::Accepted => put_accepted(out, line, beat, walk, requests, look, w, v),
-        Fate::Refused(fault) => {
-            walk.stop(line, false);
-            let word = (Colour::Red, "refused");
-            put_held(out, beat, fault, walk, requests, look, word, w)
-        }
-        Fate::Waiting(fault) => {
-            walk.stop(line, true);
-            let word = (Colour::Yellow, "waiting");
-            put_held(out, beat, fault, walk, requests, look, word, w)
-        }
-        Fate::NotOffered => put_not_offered(out, walk),
-    }
-}
-
 /// Writes what came of the beat of a line, from a bus of `w` bytes to one of `v`, and says whether it
 /// was accepted. The walk goes on by this beat, and then says which far beats are whole.
 pub fn put_line(
@@ -204,7 +173,20 @@ pub fn put_line(
     write!(out, "line {line}: ")?;
     beat.put(out)?;
     let fate = fate_at(walk.near as u64, verdict);
-    put_fate(out, line, beat, fate, walk, requests, look, w, v)?;
+    match fate {
+        Fate::Accepted => put_accepted(out, line, beat, walk, requests, look, w, v)?,
+        Fate::Refused(fault) => {
+            walk.stop(line, false);
+            let word = (Colour::Red, "refused");
+            put_held(out, beat, fault, walk, requests, look, word, w)?
+        }
+        Fate::Waiting(fault) => {
+            walk.stop(line, true);
+            let word = (Colour::Yellow, "waiting");
+            put_held(out, beat, fault, walk, requests, look, word, w)?
+        }
+        Fate::NotOffered => put_not_offered(out, walk)?,
+    }
     walk.near = walk.near.saturating_add(1);
     out.push('\n')?;
     Ok(matches!(fate, Fate::Accepted))

@@ -71,60 +71,105 @@ fn line_at(text: &[u8], number: u64) -> &[u8] {
     &rest[..end]
 }
 
-/// Whether the first bytes of a line, and the rest of a form behind them, make a line of a trace
-/// with this header.
-fn is_readable(
-    alloc: Global,
-    header: &[u8],
-    line: &[u8],
-    count: usize,
-    form: &[u8],
-) -> Result<bool, AllocError> {
-    let mut text = Vec::new(alloc);
-    text.extend_from_slice(header)?;
-    text.push(b'\n')?;
-    if let Some(front) = line.get(..count) {
-        text.extend_from_slice(front)?;
-    }
-    if let Some(rest) = form.get(count..) {
-        text.extend_from_slice(rest)?;
-    }
-    text.push(b'\n')?;
-    let trace = read(alloc, &text);
-    Ok(trace.is_ok())
+/// A line that is to have this form, in a trace with this header.
+#[derive(Clone, Copy)]
+struct FormedLine<'a> {
+    header: &'a [u8],
+    line: &'a [u8],
+    form: &'a [u8],
 }
 
-/// The first place of a line at which it is no line of this form, or where the shorter of both ends.
-fn bad_place(alloc: Global, header: &[u8], line: &[u8], form: &[u8]) -> Result<usize, AllocError> {
-    let most = line.len().min(form.len());
-    for at in 0..most {
-        if !is_readable(alloc, header, line, at.saturating_add(1), form)? {
-            return Ok(at);
+impl<'a> FormedLine<'a> {
+    /// Whether the first bytes of the line, and the rest of the form behind them, make a line of a
+    /// trace.
+    fn is_readable(&self, alloc: Global, count: usize) -> Result<bool, AllocError> {
+        let mut text = Vec::new(alloc);
+        text.extend_from_slice(self.header)?;
+        text.push(b'\n')?;
+        if let Some(front) = self.line.get(..count) {
+            text.extend_from_slice(front)?;
         }
+        if let Some(rest) = self.form.get(count..) {
+            text.extend_from_slice(rest)?;
+        }
+        text.push(b'\n')?;
+        let trace = read(alloc, &text);
+        Ok(trace.is_ok())
     }
-    Ok(most)
-}
 
-/// The largest digit that may stand at this place of a line, behind the bytes before it.
-fn largest_digit(
-    alloc: Global,
-    header: &[u8],
-    line: &[u8],
-    at: usize,
-    form: &[u8],
-) -> Result<u8, AllocError> {
-    let mut tried = Vec::new(alloc);
-    tried.extend_from_slice(line)?;
-    let mut largest = b'0';
-    for digit in DIGITS {
-        if let Some(byte) = tried.get_mut(at) {
-            *byte = *digit;
+    /// The first place at which the line is none of its form, or where the shorter of both ends.
+    fn bad_place(&self, alloc: Global) -> Result<usize, AllocError> {
+        let most = self.line.len().min(self.form.len());
+        for at in 0..most {
+            if !self.is_readable(alloc, at.saturating_add(1))? {
+                return Ok(at);
+            }
         }
-        if is_readable(alloc, header, &tried, at.saturating_add(1), form)? {
-            largest = *digit;
+        Ok(most)
+    }
+
+    /// The largest digit that may stand at this place, behind the bytes before it.
+    fn largest_digit(&self, alloc: Global, at: usize) -> Result<u8, AllocError> {
+        let mut tried = Vec::new(alloc);
+        tried.extend_from_slice(self.line)?;
+        let mut largest = b'0';
+        for digit in DIGITS {
+            if let Some(byte) = tried.get_mut(at) {
+                *byte = *digit;
+            }
+            let line = FormedLine {
+                line: &tried,
+                ..*self
+            };
+            if line.is_readable(alloc, at.saturating_add(1))? {
+                largest = *digit;
+            }
+        }
+        Ok(largest)
+    }
+
+    /// Writes that the line has another length than its form, and where it has the length of the
+    /// other version, in which ids have other digits, that too.
+    fn put_lengths(&self, out: &mut String, alloc: Global) -> Result<(), AllocError> {
+        let (has, wants) = (self.line.len(), self.form.len());
+        write!(
+            out,
+            "the line has {has} characters and has to have {wants}, in the form below the mark"
+        )?;
+        let (Some(named), Some(letter)) = (header_of_text(self.header), self.line.first()) else {
+            return Ok(());
+        };
+        let (version, digits) = if named.version == 1 { (2, 4) } else { (1, 2) };
+        let other = Header { version, ..named };
+        match form_of(alloc, *letter, &other)? {
+            Some(form) if form.len() == has => write!(
+                out,
+                "; it is as long as in version {version}, where an id has {digits} digits"
+            ),
+            _ => Ok(()),
         }
     }
-    Ok(largest)
+
+    /// Writes what was expected at the place of the line's fault, and gives the place.
+    fn put_expected(
+        &self,
+        out: &mut String,
+        alloc: Global,
+        kind: TraceKind,
+    ) -> Result<usize, AllocError> {
+        let at = self.bad_place(alloc)?;
+        match kind {
+            TraceKind::Length => self.put_lengths(out, alloc)?,
+            TraceKind::Range => {
+                let largest = self.largest_digit(alloc, at)?;
+                write!(out, "expected a digit from 0 to {}", largest as char)?;
+            }
+            TraceKind::NoEnd => write!(out, "the line has to end with a newline (LF)")?,
+            _ if self.form.get(at) == Some(&b' ') => write!(out, "expected a space")?,
+            _ => write!(out, "expected a digit, 0 to 9 or a to f")?,
+        }
+        Ok(at)
+    }
 }
 
 /// How many first bytes a line has in common with a text.
@@ -187,57 +232,6 @@ fn put_caret(out: &mut String, at: usize) -> Result<(), AllocError> {
     writeln!(out, "^")
 }
 
-/// Writes that a line has another length than this form, and where it has the length of the other
-/// version, in which ids have other digits, that too.
-fn put_lengths(
-    out: &mut String,
-    alloc: Global,
-    header: &[u8],
-    line: &[u8],
-    form: &[u8],
-) -> Result<(), AllocError> {
-    let (has, wants) = (line.len(), form.len());
-    write!(
-        out,
-        "the line has {has} characters and has to have {wants}, in the form below the mark"
-    )?;
-    let (Some(named), Some(letter)) = (header_of_text(header), line.first()) else {
-        return Ok(());
-    };
-    let (version, digits) = if named.version == 1 { (2, 4) } else { (1, 2) };
-    let other = Header { version, ..named };
-    match form_of(alloc, *letter, &other)? {
-        Some(form) if form.len() == has => write!(
-            out,
-            "; it is as long as in version {version}, where an id has {digits} digits"
-        ),
-        _ => Ok(()),
-    }
-}
-
-/// Writes what was expected at a place of a line of this form, and gives the place.
-fn put_expected(
-    out: &mut String,
-    alloc: Global,
-    header: &[u8],
-    line: &[u8],
-    form: &[u8],
-    kind: TraceKind,
-) -> Result<usize, AllocError> {
-    let at = bad_place(alloc, header, line, form)?;
-    match kind {
-        TraceKind::Length => put_lengths(out, alloc, header, line, form)?,
-        TraceKind::Range => {
-            let largest = largest_digit(alloc, header, line, at, form)?;
-            write!(out, "expected a digit from 0 to {}", largest as char)?;
-        }
-        TraceKind::NoEnd => write!(out, "the line has to end with a newline (LF)")?,
-        _ if form.get(at) == Some(&b' ') => write!(out, "expected a space")?,
-        _ => write!(out, "expected a digit, 0 to 9 or a to f")?,
-    }
-    Ok(at)
-}
-
 /// Writes what was expected of a line that has no form, and gives the place of its fault.
 fn put_formless(
     out: &mut String,
@@ -292,7 +286,10 @@ pub fn show_fault(alloc: Global, text: &[u8], fault: &TraceFault) -> Result<Stri
     )?;
     let form = form_at(alloc, text, fault.line, line)?;
     let at = match &form {
-        Some(form) => put_expected(&mut out, alloc, header, line, form, fault.kind)?,
+        Some(form) => {
+            let formed = FormedLine { header, line, form };
+            formed.put_expected(&mut out, alloc, fault.kind)?
+        }
         None => put_formless(&mut out, alloc, line, fault.kind)?,
     };
     writeln!(&mut out)?;

@@ -2,5 +2,5 @@ use Rattle.std.proofs.Common.{lit<}
 use Rattle.tl_c_sides.proofs.BothWidths.{widths}
 use Rattle.tl_c_sides.proofs.takes.tl_take_a.Goals as goal
 
-pub take_a-requires : goal.take_a-requires
-take_a-requires c = (lit< tt, (lit< tt, widths.1))
+pub take_held-take_a-requires : goal.take_held-take_a-requires
+take_held-take_a-requires c = (lit< tt, (lit< tt, widths.1))

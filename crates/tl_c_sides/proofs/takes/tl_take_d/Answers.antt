@@ -2,5 +2,5 @@ use Rattle.std.proofs.Common.{lit<}
 use Rattle.tl_c_sides.proofs.BothWidths.{widths}
 use Rattle.tl_c_sides.proofs.takes.tl_take_d.Goals as goal
 
-pub take_d-requires : goal.take_d-requires
-take_d-requires c = (lit< tt, (lit< tt, widths.0))
+pub take_held-take_d-requires : goal.take_held-take_d-requires
+take_held-take_d-requires c = (lit< tt, (lit< tt, widths.0))

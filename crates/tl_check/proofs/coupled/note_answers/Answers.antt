@@ -1,11 +1,7 @@
-use Rattle.std.proofs.Common.{◌++◌, ◌<◌, length, map, take, sym, subst, arith, append-nil}
-use Rattle.std.proofs.lemmas.List.{take_all}
-use Rattle.std.proofs.lemmas.Option.{get_or_from_slice_get}
-use Rattle.tl_convert.proofs.Comparisons.{there_is}
+use Rattle.std.proofs.Common.{sym, subst, arith, append-nil}
 use Rattle.tl_settle.specs.Histories.{Answer}
 use Rattle.tl_sides.specs.Books.{KnowsClient}
-use Rattle.tl_check.proofs.Passing.{next-noted}
-use Rattle.tl_check.proofs.NewHeads.{head-at}
+use Rattle.tl_check.proofs.Noting.{one-noted, all-noted}
 use Rattle.tl_check.proofs.coupled.note_answers.Goals as goal
 
 pub loop-init : goal.loop-init
@@ -14,15 +10,11 @@ loop-init g c = record { noted = λ es bs knows count heads. subst (λ q. KnowsC
 pub loop-preserved : goal.loop-preserved
 loop-preserved g c = record {
   noted = λ es bs knows count heads.
-      let k = c.loop.counter in
-      let within : k < length bs = omega (arith, count, c.loop-test.true) in
-      let next = there_is bs k within in
-      subst (λ q. KnowsClient c.note_answer.new.self q) (next-noted Answer es bs k next.0 within (sym (get_or_from_slice_get bs k next.0 next.0 next.1)))
-      (c.note_answer.ensures (es ++ map Answer (take k bs)) next.0 (c.loop.invariant.noted es bs knows count heads)
-      (head-at c.args.head.now bs k next.0 heads next.1));
+      one-noted Answer es bs c.args.count c.loop.counter count (KnowsClient c.loop.book) (KnowsClient c.note_answer.new.self) c.args.head.now heads
+      (omega (arith, c.loop-test.true)) (c.loop.invariant.noted es bs knows count heads) c.note_answer.ensures;
 }
 
 pub returns : goal.returns
 returns g c = λ es bs knows count heads.
-    subst (λ q. KnowsClient c.loop.book (es ++ map Answer q)) (take_all c.loop.counter bs (omega (arith, count, c.loop-test.false)))
+    all-noted Answer es bs c.args.count c.loop.counter count (KnowsClient c.loop.book) (omega (arith, c.loop-test.false))
     (c.loop.invariant.noted es bs knows count heads)

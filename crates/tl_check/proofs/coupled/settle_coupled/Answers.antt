@@ -1,5 +1,5 @@
 use Rattle.std.proofs.Common.{lit<, ◌≡◌, ◌∙◌, arith}
-use Rattle.tl_check.proofs.Ends.{a-ends, d-ends, starts-at}
+use Rattle.tl_check.proofs.Ends.{both-end, starts-at}
 use Rattle.tl_ring.proofs.FieldSizes.{beat_small}
 use Rattle.tl_check.proofs.coupled.settle_coupled.Goals as goal
 
@@ -16,33 +16,23 @@ passes-init g c =
           c.new-asks.ensures.begins c.new-answers.ensures.begins c.requires.new_client c.requires.new_manager;
     }
 
-pub returns-then-answers-before-clause-a : goal.returns-then-answers-before-clause-a
-returns-then-answers-before-clause-a g c =
+pub returns-then-answers-before : goal.returns-then-answers-before
+returns-then-answers-before g c =
     let asked = c.offer_requests-a_stops in
     let answered = c.offer_responses-d_stops in
     let still : c.passes.answers.at ≡ answered.new.answers.at = omega (arith, c.if-answers-before.true) in
     let between = asked.ensures.accepted c.args.d.now c.passes.answers.at c.passes.invariant.both in
     let both = answered.ensures.accepted c.args.a.now asked.new.asks.at between in
-    c.verdict.ensures g.row.M c.args.a.now asked.ensures.come ∙
-    a-ends c.requires.client c.requires.manager c.args.a.now c.args.d.now asked.new.asks.at c.passes.answers.at answered.new.answers.at still
+    let end =
+    both-end c.requires.client c.requires.manager c.args.a.now c.args.d.now asked.new.asks.at c.passes.answers.at answered.new.answers.at still
     answered.new.client answered.new.manager both asked.result answered.result
     (asked.ensures.stopped c.args.d.now c.passes.answers.at c.passes.invariant.both) asked.ensures.all
     (answered.ensures.stopped c.args.a.now asked.new.asks.at between) answered.ensures.all
-    asked.new.asks.tracker asked.new.asks.far asked.ensures.come
-
-pub returns-then-answers-before-clause-d : goal.returns-then-answers-before-clause-d
-returns-then-answers-before-clause-d g c =
-    let asked = c.offer_requests-a_stops in
-    let answered = c.offer_responses-d_stops in
-    let still : c.passes.answers.at ≡ answered.new.answers.at = omega (arith, c.if-answers-before.true) in
-    let between = asked.ensures.accepted c.args.d.now c.passes.answers.at c.passes.invariant.both in
-    let both = answered.ensures.accepted c.args.a.now asked.new.asks.at between in
-    c.verdict-then-answers-before.ensures g.row.C c.args.d.now answered.ensures.come ∙
-    d-ends c.requires.client c.requires.manager c.args.a.now c.args.d.now asked.new.asks.at c.passes.answers.at answered.new.answers.at still
-    answered.new.client answered.new.manager both asked.result answered.result
-    (asked.ensures.stopped c.args.d.now c.passes.answers.at c.passes.invariant.both) asked.ensures.all
-    (answered.ensures.stopped c.args.a.now asked.new.asks.at between) answered.ensures.all
-    answered.new.answers.tracker answered.new.answers.far answered.ensures.come
+    asked.new.asks.tracker asked.new.asks.far asked.ensures.come answered.new.answers.tracker answered.new.answers.far answered.ensures.come in
+    record {
+      a = c.verdict.ensures g.row.M c.args.a.now asked.ensures.come ∙ end.0;
+      d = c.verdict-then-answers-before.ensures g.row.C c.args.d.now answered.ensures.come ∙ end.1;
+    }
 
 pub offer_requests-a_stops-requires : goal.offer_requests-a_stops-requires
 offer_requests-a_stops-requires g c =
