@@ -32,14 +32,18 @@ lines-in-bytes version client manager (line ∷ lines) text (body, rest, same, s
     let more : suc (length rest) ≤ length text = subst (λ t. suc (length rest) ≤ length t) (sym same) (longer body rest) in
     omega arith
 
--- a trace has no more lines than its text has bytes
-pub lines-few : (text : List ℕ) (version client manager : ℕ) (lines : List Line) → Tells text version client manager lines →
-    length text ≤ most_bytes → length lines ≤ most_bytes
-lines-few text version client manager lines tells few =
+-- a trace has fewer lines behind its header's than its text has bytes
+pub lines-below : (text : List ℕ) (version client manager : ℕ) (lines : List Line) → Tells text version client manager lines → suc (length lines) ≤ length text
+lines-below text version client manager lines tells =
     let below = lines-in-bytes version client manager lines tells.rest tells.told in
     let more : suc (length tells.rest) ≤ length text =
     subst (λ t. suc (length tells.rest) ≤ length t) (sym tells.header) (longer (header_text version client manager) tells.rest) in
     omega arith
+
+-- and no more of them than a text may have bytes
+pub lines-few : (text : List ℕ) (version client manager : ℕ) (lines : List Line) → Tells text version client manager lines →
+    length text ≤ most_bytes → length lines ≤ most_bytes
+lines-few text version client manager lines tells few = let below = lines-below text version client manager lines tells in omega arith
 
 -- what is chosen of so many lines can be counted
 few-chosen : {X : Type 0} (h : Line → Option X) (lines : List Line) → length lines ≤ most_bytes → (xs : List X) → xs ≡ filter_map h lines →

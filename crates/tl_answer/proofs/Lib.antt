@@ -2,6 +2,10 @@ mod Rows
 pub mod Lengths
 pub mod Answering
 pub mod Reading
+pub mod Filling
+pub mod Between
+pub mod ToRead
+pub mod Whole
 pub mod Writing
 pub mod Headers
 pub mod Running

@@ -1,4 +1,6 @@
 pub mod Answer
 pub mod Faults
 pub mod Texts
+pub mod Inputs
+pub mod Inner
 pub mod Statuses

@@ -1,5 +1,5 @@
 //! The answer to a text, without a reader and a writer.
-ghost use Rattle.std.specs.Prelude.{◌≡◌, ◌≢◌, ◌≤◌, ◌++◌, [], length, Some, IfOk, OnOk, IfErr};
+ghost use Rattle.std.specs.Prelude.{◌≡◌, ◌≢◌, ◌++◌, IfOk, OnOk, IfErr};
 ghost use Rattle.std.specs.List.{list_all};
 ghost use Rattle.tl_lanes.specs.Lanes.{IsWidth};
 ghost use Rattle.tl_settle.specs.Outcomes.{Verdicts, verdicts};
@@ -8,20 +8,22 @@ ghost use Rattle.tl_bridge.specs.declared.outcome.RunFault.TheVariants.{RingSize
 ghost use Rattle.tl_order.specs.Orders.{IsRunnable, is_check};
 ghost use Rattle.tl_trace.specs.Faults.{HasHeader};
 ghost use Rattle.tl_answer.specs.Answer.{far_header, far_lines, taken, report, in_order, is_done};
-ghost use Rattle.tl_answer.specs.Texts.{IsAnswer, IsOfText, most_bytes};
+ghost use Rattle.tl_answer.specs.Inputs.{IsFresh, ReadsAnswer, held, unread_of};
 ghost use Rattle.tl_answer.specs.declared.fault.TextFault.TheVariants.{OutOfMemory as NoMemory};
 
 use crate::at_width;
 use crate::fault::TextFault;
+use crate::input::Input;
+use crate::later_lines::script_of_input;
 use std::alloc::{AllocError, Global};
+use std::io::Read;
 use std::thread::Threads;
 use tl_bridge::{NoGate, Outcome, RunFault, run_sync, run_threads};
 use tl_check::verdicts_of;
 use tl_msg::{ChA, ChB, ChC, ChD, ChE, Verdict};
 use tl_order::Order;
 use tl_trace::{
-    OutOfMemory, Script, TraceFault, TraceKind, header_of_text, read_script, write_far,
-    write_report,
+    OutOfMemory, Script, TraceFault, TraceKind, header_of_text, write_far, write_report,
 };
 
 /// The whole answer to a text, and whether all five channels are done.
@@ -186,29 +188,6 @@ pub(crate) fn check_script<const C: usize, const M: usize>(
     check_of(alloc, &verdicts, version, C, M)
 }
 
-/// The same as [`answer_of`], in the memory of a text that is empty now.
-fn answer_in<const C: usize, const M: usize>(
-    room: Vec<u8>,
-    alloc: Global,
-    outcome: &Outcome<C, M>,
-    version: u8,
-) -> Result<Answer, TextFault>
-    requires client { IsWidth C }
-    requires manager { IsWidth M }
-    requires empty { room.items ≡ [] }
-    ensures text { (v : Verdicts) → outcome.now.verdicts ≡ in_order v → IfOk result (λ made.
-        made.text.items
-        ≡ far_header version C M ++ far_lines version (taken outcome.now) ++ report v) }
-    ensures done { IfOk result (λ made. made.all_done ≡ list_all is_done outcome.now.verdicts) }
-    ensures err { IfErr result (λ fault. fault ≡ NoMemory) }
-{
-    let mut text = room;
-    let line = header(alloc, version, C, M)?;
-    text.extend_from_slice(&line)?;
-    write_arrivals(&mut text, outcome, version)?;
-    reported(text, &outcome.verdicts)
-}
-
 /// The answer that the outcome of a run makes: the version of the trace and the widths, the far
 /// beats, and the five report lines.
 pub fn answer_of<const C: usize, const M: usize>(
@@ -224,36 +203,34 @@ pub fn answer_of<const C: usize, const M: usize>(
     ensures done { IfOk result (λ made. made.all_done ≡ list_all is_done outcome.now.verdicts) }
     ensures err { IfErr result (λ fault. fault ≡ NoMemory) }
 {
-    answer_in(Vec::new(alloc), alloc, outcome, version)
+    let mut text = header(alloc, version, C, M)?;
+    write_arrivals(&mut text, outcome, version)?;
+    reported(text, &outcome.verdicts)
 }
 
-/// The answer to a text whose header names this version and these widths. The text is let go once it
-/// is read, and its memory is the answer's, but for a check, whose answer is short; the script is let
-/// go after the run.
-fn with_widths<T: Threads, const C: usize, const M: usize>(
+/// The answer to a text whose header names this version and these widths. The script is let go before
+/// the answer is made.
+fn with_widths<T: Threads, R: Read, const C: usize, const M: usize>(
     rt: &T,
     alloc: Global,
-    text: Vec<u8>,
+    reader: &mut R,
+    input: &mut Input,
     version: u8,
     order: &Order,
 ) -> Result<Answer, TextFault>
     requires client { IsWidth C }
     requires manager { IsWidth M }
-    requires header { HasHeader text.items version C M }
-    requires few { length text.items ≤ most_bytes }
+    requires fresh { IsFresh (R.remaining reader.old) input.old }
+    requires header { HasHeader (held input.old) version C M }
     requires runnable { IsRunnable order.now }
-    ensures ok { IfOk result (λ made.
-        IsAnswer text.items (is_check order.now) made.text.items made.all_done) }
-    ensures err { IfErr result (IsOfText text.items) }
+    ensures { ReadsAnswer (unread_of input.old (R.remaining reader.old)) (R.remaining reader.new)
+        (is_check order.now) input.new result }
 {
-    let script = match read_script::<C, M>(alloc, &text, version) {
+    let script = match script_of_input::<R, C, M>(alloc, reader, input, version) {
         Ok(script) => script,
-        Err(fault) => return Err(TextFault::from(fault)),
+        Err(fault) => return Err(fault),
     };
-    let mut room = text;
-    room.clear();
     if order.is_check() {
-        drop(room);
         return check_script::<C, M>(alloc, &script, version);
     }
     let outcome = match outcome_of::<T, C, M>(rt, alloc, &script, order) {
@@ -261,57 +238,65 @@ fn with_widths<T: Threads, const C: usize, const M: usize>(
         Err(fault) => return Err(fault),
     };
     drop(script);
-    answer_in(room, alloc, &outcome, version)
+    answer_of(alloc, &outcome, version)
 }
 
 /// The same, for a client of `C` bytes: the manager's width is one of eight.
-fn with_client<T: Threads, const C: usize>(
+fn with_client<T: Threads, R: Read, const C: usize>(
     rt: &T,
     alloc: Global,
-    text: Vec<u8>,
+    reader: &mut R,
+    input: &mut Input,
     version: u8,
     manager: usize,
     order: &Order,
 ) -> Result<Answer, TextFault>
     requires client { IsWidth C }
-    requires header { HasHeader text.items version C manager }
-    requires few { length text.items ≤ most_bytes }
+    requires fresh { IsFresh (R.remaining reader.old) input.old }
+    requires header { HasHeader (held input.old) version C manager }
     requires runnable { IsRunnable order.now }
-    ensures ok { IfOk result (λ made.
-        IsAnswer text.items (is_check order.now) made.text.items made.all_done) }
-    ensures err { IfErr result (IsOfText text.items) }
+    ensures { ReadsAnswer (unread_of input.old (R.remaining reader.old)) (R.remaining reader.new)
+        (is_check order.now) input.new result }
 {
     at_width!(
         manager,
-        with_widths::<T, C, _>(rt, alloc, text, version, order)
+        with_widths::<T, R, C, _>(rt, alloc, reader, input, version, order)
     )
 }
 
-/// The answer to a text, which is let go once it is read: the version of the trace and the widths,
-/// the far beats unless the order is a check, and the five report lines. It is the same for each
-/// order that is no check.
+/// The answer to a text of which the input holds the first piece, and nothing of it was used: the
+/// version of the trace and the widths, the far beats unless the order is a check, and the five
+/// report lines. It is the same for each order that is no check.
 ///
-/// Refused with `Trace` and the text's first fault and its line, or with `OutOfMemory`.
-pub fn answer_text<T: Threads>(
+/// Refused as `script_of_input` is.
+pub(crate) fn answer_input<T: Threads, R: Read>(
     rt: &T,
     alloc: Global,
-    text: Vec<u8>,
+    reader: &mut R,
+    input: &mut Input,
     order: &Order,
 ) -> Result<Answer, TextFault>
-    requires few { length text.items ≤ most_bytes }
+    requires fresh { IsFresh (R.remaining reader.old) input.old }
     requires runnable { IsRunnable order.now }
-    ensures ok { IfOk result (λ made.
-        IsAnswer text.items (is_check order.now) made.text.items made.all_done) }
-    ensures err { IfErr result (IsOfText text.items) }
+    ensures { ReadsAnswer (unread_of input.old (R.remaining reader.old)) (R.remaining reader.new)
+        (is_check order.now) input.new result }
 {
-    let Some(header) = header_of_text(&text) else {
-        return Err(TextFault::from(TraceFault {
+    let Some(header) = header_of_text(input.held()) else {
+        return Err(TextFault::Trace(TraceFault {
             line: 1,
             kind: TraceKind::Header,
         }));
     };
     at_width!(
         header.client,
-        with_client::<T, _>(rt, alloc, text, header.version, header.manager, order)
+        with_client::<T, R, _>(
+            rt,
+            alloc,
+            reader,
+            input,
+            header.version,
+            header.manager,
+            order
+        )
     )
 }

@@ -4,15 +4,19 @@
 
 mod answer;
 mod fault;
+mod input;
+mod later_lines;
 pub mod laws;
 mod status;
 mod sync_answer;
 mod text;
 mod widths;
 
-pub use answer::{Answer, answer_of, answer_text, check_of};
+pub use answer::{Answer, answer_of, check_of};
 pub use fault::TextFault;
+pub use input::{Input, MAX_BYTES};
+pub use later_lines::script_of_input;
 pub use status::{FaultLine, exit_status};
 pub use sync_answer::{answer_sync, outcome_of};
-pub use text::{MAX_BYTES, read_all, run_text, write_all};
+pub use text::{read_all, run_text, write_all};
 pub use tl_order::Order;

@@ -2,29 +2,20 @@
 ghost use Rattle.std.specs.Prelude.{◌≡◌, ◌≢◌, ◌≤◌, ◌<◌, length, IfSome, IfOk, OnOk, IfErr, IsErrOf};
 ghost use Rattle.std.specs.Io.KnownBytes.{Appends, IsAtEnd};
 ghost use Rattle.tl_order.specs.Orders.{IsRunnable};
+ghost use Rattle.tl_answer.specs.Inner.Answered.{AnswersRead};
 ghost use Rattle.tl_answer.specs.Texts.{AnswersText, most_bytes};
 ghost use Rattle.tl_answer.specs.declared.fault.TextFault.TheVariants.{Read as ReadFault, Write as WriteFault, TooLong, OutOfMemory};
 
-use crate::answer::answer_text;
+use crate::answer::{Answer, answer_input};
 use crate::fault::TextFault;
-use std::alloc::{AllocError, Global};
+use crate::input::{Input, MAX_BYTES, read_buffer};
+use std::alloc::Global;
 use std::io::{Read, Write};
 use std::thread::Threads;
 use tl_order::Order;
 
-/// The most bytes that a text may have (this project's choice).
-pub const MAX_BYTES: usize = 67_108_864;
-
 /// The bytes that one read may give.
 const READ_BYTES: usize = 65_536;
-
-/// Room for a read of so many bytes.
-fn read_buffer(alloc: Global, bytes: usize) -> Result<Vec<u8>, AllocError>
-    requires { 0 < bytes }
-    ensures { IfOk result (λ v. 0 < length v.items) }
-{
-    vec![in alloc; 0u8; bytes]
-}
 
 /// All that a reader gives, up to its end.
 ///
@@ -76,6 +67,29 @@ pub fn write_all<W: Write>(writer: &mut W, bytes: &[u8]) -> Result<(), TextFault
     Ok(())
 }
 
+/// The answer to the text that a reader gives, which is read to its end.
+fn read_answer<T: Threads, R: Read>(
+    rt: &T,
+    alloc: Global,
+    reader: &mut R,
+    order: &Order,
+) -> Result<Answer, TextFault>
+    requires { IsRunnable order.now }
+    ensures { AnswersRead (R.remaining reader.old) (R.remaining reader.new) order.now result }
+{
+    let mut input = match Input::open(alloc, reader) {
+        Ok(input) => input,
+        Err(fault) => return Err(fault),
+    };
+    match answer_input(rt, alloc, reader, &mut input, order) {
+        Err(TextFault::Trace(fault)) => match input.drain(reader) {
+            Ok(()) => Err(TextFault::Trace(fault)),
+            Err(fault) => Err(fault),
+        },
+        answered => answered,
+    }
+}
+
 /// Reads a trace to the end of the input, and writes the answer to it: true where all five
 /// channels are done.
 ///
@@ -101,8 +115,7 @@ pub fn run_text<T: Threads, R: Read, W: Write>(
     ensures { AnswersText (R.remaining reader.old) (R.remaining reader.new)
         (W.contents writer.old) (W.contents writer.new) order.now result }
 {
-    let text = read_all(alloc, reader)?;
-    let answer = answer_text(rt, alloc, text, order)?;
+    let answer = read_answer(rt, alloc, reader, order)?;
     write_all(writer, &answer.text)?;
     Ok(answer.all_done)
 }

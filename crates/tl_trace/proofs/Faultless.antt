@@ -1,5 +1,5 @@
 -- A text that tells a trace has no fault.
-use Rattle.std.proofs.Common.{◌≡◌, ℕ, Bool, true, false, cond, ◌&&◌, ◌||◌, List, [], ◌∷◌, ◌++◌, map, Option, None, Some, is_none, refl, sym, ap, ◌∙◌}
+use Rattle.std.proofs.Common.{◌≡◌, ℕ, zero, suc, ◌+◌, Bool, true, false, cond, ◌&&◌, ◌||◌, List, [], ◌∷◌, ◌++◌, length, map, replicate, Option, None, Some, is_none, refl, sym, ap, ◌∙◌, append_assoc, append-nil, add-one}
 use Rattle.std.specs.Prelude.{decimal, codes, find, bytes_eq, ◌==◌}
 use Rattle.std.specs.Bool.{Decides}
 use Rattle.std.specs.List.{list_all, list_any}
@@ -84,25 +84,39 @@ says_faultless version client manager (C b) text kept says = (read_as_c version 
 says_faultless version client manager (D b) text kept says = (read_as_d version client manager text b (record { line = says; kept = kept })).faultless
 says_faultless version client manager (E b) text kept says = (read_as_e version client manager text b (record { line = says; kept = kept })).faultless
 
-lines_faultless : (version client manager : ℕ) (lines : List Line) (text : List ℕ) → list_all (is_kept_line version client manager) lines ≡ true → TellsLines version client manager lines text
-    → list_all is_none (map (later_fault version client manager) (cut text)) ≡ true
-lines_faultless version client manager [] text kept told = ap (λ (t : List ℕ). list_all is_none (map (later_fault version client manager) (cut t))) told
-lines_faultless version client manager (line ∷ lines) text kept told =
+lines_faults : (version client manager : ℕ) (lines : List Line) (text more : List ℕ) → list_all (is_kept_line version client manager) lines ≡ true → TellsLines version client manager lines text
+    → map (later_fault version client manager) (cut (text ++ more)) ≡ replicate (length lines) None ++ map (later_fault version client manager) (cut more)
+lines_faults version client manager [] text more kept told = ap (λ (t : List ℕ). map (later_fault version client manager) (cut (t ++ more))) told
+lines_faults version client manager (line ∷ lines) text more kept told =
     let body = told.0 in
     let rest = told.1 in
     let free = says_free version client manager line body told.3 in
     let fault : later_fault version client manager (body ++ newline) ≡ None = later_line version client manager body free ∙ says_faultless version client manager line body (and_parts (is_kept_line version client manager line) (list_all (is_kept_line version client manager) lines) kept).0 told.3 in
-    let more = lines_faultless version client manager lines rest (and_parts (is_kept_line version client manager line) (list_all (is_kept_line version client manager) lines) kept).1 told.4 in
-    ap (λ (t : List ℕ). list_all is_none (map (later_fault version client manager) (cut t))) told.2
-    ∙ ap (λ (ls : List (List ℕ)). list_all is_none (map (later_fault version client manager) ls)) (cut_line body rest free)
-    ∙ ap (λ (o : Option TraceKind). is_none o && list_all is_none (map (later_fault version client manager) (cut rest))) fault ∙ more
+    let later = lines_faults version client manager lines rest more (and_parts (is_kept_line version client manager line) (list_all (is_kept_line version client manager) lines) kept).1 told.4 in
+    let whole : text ++ more ≡ body ++ newline ++ (rest ++ more) = ap (λ (t : List ℕ). t ++ more) told.2 ∙ append_assoc (body ++ newline) rest more in
+    ap (λ (t : List ℕ). map (later_fault version client manager) (cut t)) whole
+    ∙ ap (λ (ls : List (List ℕ)). map (later_fault version client manager) ls) (cut_line body (rest ++ more) free)
+    ∙ ap (λ (o : Option TraceKind). o ∷ map (later_fault version client manager) (cut (rest ++ more))) fault
+    ∙ ap (λ (os : List (Option TraceKind)). None ∷ os) later
+
+-- a text that tells a trace, and what comes behind it: its lines have no fault
+pub text_faults : (text more : List ℕ) (version client manager : ℕ) (lines : List Line) → Tells text version client manager lines
+    → faults (text ++ more) ≡ replicate (length lines + 1) None ++ map (later_fault version client manager) (cut more)
+text_faults text more version client manager lines t =
+    let first = header_text version client manager in
+    let later = map (later_fault version client manager) (cut more) in
+    let free = header_free version client manager t.trace.known_version t.trace.client_width t.trace.manager_width in
+    let whole : text ++ more ≡ first ++ newline ++ (t.rest ++ more) = ap (λ (xs : List ℕ). xs ++ more) t.header ∙ append_assoc (first ++ newline) t.rest more in
+    ap faults whole ∙ ap (λ (ls : List (List ℕ)). faults_of_lines (or_empty ls)) (cut_line first (t.rest ++ more) free)
+    ∙ ap (λ (o : Option Header). faults_after o (first ++ newline) (cut (t.rest ++ more))) (ap header_of (body_line first free) ∙ header_names version client manager t.trace.known_version t.trace.client_width t.trace.manager_width)
+    ∙ ap (λ (o : Option TraceKind). o ∷ map (later_fault version client manager) (cut (t.rest ++ more))) (ended first)
+    ∙ ap (λ (os : List (Option TraceKind)). None ∷ os) (lines_faults version client manager lines t.rest more t.trace.kept t.told)
+    ∙ ap (λ (n : ℕ). replicate n None ++ later) (sym (add-one (length lines)))
+
+all_none : (n : ℕ) → list_all (is_none {T = TraceKind}) (replicate n None ++ []) ≡ true
+all_none zero = refl
+all_none (suc n) = all_none n
 
 pub no_fault : (text : List ℕ) (version client manager : ℕ) (lines : List Line) → Tells text version client manager lines → is_readable text ≡ true
 no_fault text version client manager lines t =
-    let first = header_text version client manager in
-    let free = header_free version client manager t.trace.known_version t.trace.client_width t.trace.manager_width in
-    let whole : faults text ≡ None ∷ map (later_fault version client manager) (cut t.rest) =
-    ap faults t.header ∙ ap (λ (ls : List (List ℕ)). faults_of_lines (or_empty ls)) (cut_line first t.rest free)
-    ∙ ap (λ (o : Option Header). faults_after o (first ++ newline) (cut t.rest)) (ap header_of (body_line first free) ∙ header_names version client manager t.trace.known_version t.trace.client_width t.trace.manager_width)
-    ∙ ap (λ (o : Option TraceKind). o ∷ map (later_fault version client manager) (cut t.rest)) (ended first) in
-    ap (list_all is_none) whole ∙ lines_faultless version client manager lines t.rest t.trace.kept t.told
+    ap (λ (xs : List ℕ). is_readable xs) (sym (append-nil text)) ∙ ap (list_all is_none) (text_faults text [] version client manager lines t) ∙ all_none (length lines + 1)

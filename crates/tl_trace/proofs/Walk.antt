@@ -43,7 +43,7 @@ later_last version client manager line free =
     ap (λ (o : Option TraceKind). body_fault version client manager (body line) or_else o) (unended line free)
     ∙ ap (λ (b : List ℕ). body_fault version client manager b or_else Some NoEnd) (body_last line free)
 
-cut_whole : (line : List ℕ) → 0 < length line → IsFree line → cut line ≡ line ∷ []
+pub cut_whole : (line : List ℕ) → 0 < length line → IsFree line → cut line ≡ line ∷ []
 cut_whole [] lt free = absurd (omega arith)
 cut_whole (byte ∷ line) lt free = cut_last byte line free
 
@@ -108,15 +108,20 @@ one_byte xs at lt =
     let one : (at + 1) - at ≡ 1 = omega arith in
     ap (λ (n : ℕ). take n (drop at xs)) one ∙ ap (λ (ys : List ℕ). take 1 ys) (drop-cons xs at 0 lt)
 
+-- what was read of a text, and a line more
+pub line_more : (text : List ℕ) (start at end : ℕ) → start ≤ at → LineAt text at end → end < length text → slice_range text start (end + 1) ≡ slice_range text start at ++ slice_range text at end ++ newline
+line_more text start at end begun line lt =
+    let b = slice_range text at end in
+    let stop : slice_range text end (end + 1) ≡ newline = one_byte text end lt ∙ ap (λ (x : ℕ). x ∷ []) (line.stop lt) in
+    range_split text start at (end + 1) begun (omega (arith, line.from))
+    ∙ ap (λ (ys : List ℕ). slice_range text start at ++ ys) (range_split text at end (end + 1) line.from (omega arith) ∙ ap (λ (ys : List ℕ). b ++ ys) stop)
+    ∙ sym (append_assoc (slice_range text start at) b newline)
+
 pub advance : (text : List ℕ) (start version client manager : ℕ) (lines : List Line) (at before end : ℕ) (beat : Line) → SoFar text start version client manager lines at before → LineAt text at end
     → IsReadLine version client manager (slice_range text at end) beat → end < length text → SoFar text start version client manager (lines ++ beat ∷ []) (end + 1) (before + 1)
 advance text start version client manager lines at before end beat far line read lt =
     let b = slice_range text at end in
-    let stop : slice_range text end (end + 1) ≡ newline = one_byte text end lt ∙ ap (λ (x : ℕ). x ∷ []) (line.stop lt) in
-    let whole : slice_range text start (end + 1) ≡ slice_range text start at ++ b ++ newline =
-    range_split text start at (end + 1) far.begun (omega (arith, line.from))
-    ∙ ap (λ (ys : List ℕ). slice_range text start at ++ ys) (range_split text at end (end + 1) line.from (omega arith) ∙ ap (λ (ys : List ℕ). b ++ ys) stop)
-    ∙ sym (append_assoc (slice_range text start at) b newline) in
+    let whole : slice_range text start (end + 1) ≡ slice_range text start at ++ b ++ newline = line_more text start at end far.begun line lt in
     let told = told_more version client manager lines beat (slice_range text start at) b far.told read.says in
     let P : List ℕ → Type 0 = λ ys. TellsLines version client manager (lines ++ beat ∷ []) ys in
     record {

@@ -34,7 +34,7 @@ pub fn line_end(text: &[u8], at: usize) -> usize
 }
 
 /// The beat of a later line, without its LF.
-fn read_line<const VERSION: u8>(
+pub fn read_line<const VERSION: u8>(
     text: &[u8],
     client: usize,
     manager: usize,

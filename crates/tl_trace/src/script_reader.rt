@@ -1,10 +1,11 @@
 //! From a text to its script.
-ghost use Rattle.std.specs.Prelude.{true, ◌≡◌, ◌≢◌, ◌≤◌, ◌<◌, None, Some, ◌∷◌, drop, map, length, slice_index, IfOk, IfErr, MatchOption};
+ghost use Rattle.std.specs.Prelude.{ℕ, true, false, ◌≡◌, ◌≢◌, ◌≤◌, ◌<◌, ◌+◌, ◌^◌, ◌++◌, None, Some, List, [], drop, take, length, slice_index, IfSome, IfOk, IfErr, MatchOption};
+ghost use Rattle.std.specs.List.{list_any};
 ghost use Rattle.tl_lanes.specs.declared.limits.TheConstants.{WIDEST};
-ghost use Rattle.tl_trace.specs.Scripts.{TellsScript};
+ghost use Rattle.tl_trace.specs.Scripts.{TellsScript, HasRead, IsHeaderLine, IsUnfinished};
 ghost use Rattle.tl_trace.specs.Texts.{is_version};
-ghost use Rattle.tl_trace.specs.Faults.{body, cut, faults, body_fault, later_fault, header_of, HasHeader, IsFirstFault, IsReadableTo};
-ghost use Rattle.tl_trace.specs.Inner.Reading.{IsLinePushed, IsNextPushed, IsSameScript, TellsRest};
+ghost use Rattle.tl_trace.specs.Faults.{is_newline, body, later_fault, header_of, HasHeader, IsFirstFault, IsReadableTo};
+ghost use Rattle.tl_trace.specs.Inner.Reading.{IsLinePushed, IsNextPushed, IsSameScript};
 ghost use Rattle.tl_trace.specs.declared.fault.TraceKind.TheVariants.{OutOfMemory};
 
 use crate::fault::{TraceFault, TraceKind};
@@ -12,8 +13,8 @@ use crate::head_reader::ReadHead;
 use crate::header::{Header, header_of};
 use crate::line_reader::read_beat;
 use crate::near::{near_of, push_near};
-use crate::places::line_len;
-use crate::reader::{line_end, next_line};
+use crate::places::{LONGEST_LINE, line_len};
+use crate::reader::{line_end, next_line, read_line};
 use crate::script::{Script, empty_script};
 use std::alloc::Global;
 use tl_msg::{Beat, ChA, ChB, ChC, ChD, ChE};
@@ -28,7 +29,7 @@ pub fn header_of_text(text: &[u8]) -> Option<Header>
 /// Puts the beat of the line from `at` on behind those of its channel, and gives the line's end.
 /// `None`, and the list as it was, where the line has a fault, where its LF is not at its place, and
 /// where a growth is refused, which `no_room` then says, so that it is not asked for again.
-#[inline(always)]
+#[inline(never)]
 fn push_line<K: ReadHead, const W: usize, const VERSION: u8>(
     list: &mut Vec<Beat<K, W>>,
     text: &[u8],
@@ -80,72 +81,205 @@ fn push_next<const C: usize, const M: usize, const VERSION: u8>(
     }
 }
 
-/// The beats of the lines from `start` on, where the first of them is line 2.
+/// The beats of the whole lines of a piece, where `line` is the number of the line before them, and
+/// where the first unfinished line of it begins, with the number of the line before that one.
+///
+/// A line without its LF is left, unless it is too long for a line: then it is refused.
 fn read_beats<const C: usize, const M: usize, const VERSION: u8>(
-    alloc: Global,
-    text: &[u8],
-    start: usize,
-) -> Result<Script<C, M>, TraceFault>
+    script: &mut Script<C, M>,
+    piece: &[u8],
+    line: u64,
+) -> Result<(usize, u64), TraceFault>
     requires client { C ≤ WIDEST }
     requires manager { M ≤ WIDEST }
-    requires start { (1 ≤ start) × (start ≤ length text.now) }
-    requires header { faults text.now ≡ None ∷ map (later_fault VERSION C M) (cut (drop start text.now)) }
-    ensures told { IfOk result (TellsRest VERSION (drop start text.now)) }
-    ensures fault { IfErr result (λ e. e.kind ≢ OutOfMemory → IsFirstFault text.now e.line e.kind) }
-    ensures memory { IfErr result (λ e. e.kind ≡ OutOfMemory → IsReadableTo text.now e.line) }
+    requires few { line + length piece.now < 2 ^ 64 }
+    ensures used { IfOk result (λ far. far.0 ≤ length piece.now) }
+    ensures lines { IfOk result (λ far. far.1 ≤ line + far.0) }
+    ensures rest { IfOk result (λ far. IsUnfinished (drop far.0 piece.now)) }
+    ensures told { (done : List ℕ) → HasRead VERSION done script.old line → IfOk result (λ far.
+        HasRead VERSION (done ++ take far.0 piece.now) script.new far.1) }
+    ensures fault { (done more : List ℕ) → HasRead VERSION done script.old line → IfErr result (λ e.
+        e.kind ≢ OutOfMemory → IsFirstFault (done ++ piece.now ++ more) e.line e.kind) }
+    ensures memory { (done more : List ℕ) → HasRead VERSION done script.old line → IfErr result (λ e.
+        e.kind ≡ OutOfMemory → IsReadableTo (done ++ piece.now ++ more) e.line) }
 {
-    let mut script = empty_script(alloc);
-    let mut at = start;
-    let mut before = 1u64;
+    let mut at = 0;
+    let mut before = line;
     let mut no_room = false;
-    while at < text.len() {
+    while at < piece.len() {
         let line = before + 1;
-        if let Some(end) = push_next::<C, M, VERSION>(&mut script, text, at, &mut no_room) {
+        if let Some(end) = push_next::<C, M, VERSION>(script, piece, at, &mut no_room) {
             at = end + 1;
             before = line;
             continue;
         }
         // What that one does not take is read again, by the reader that names the fault of a line.
-        let (end, read) = next_line::<VERSION>(text, at, C, M);
+        let (end, read) = next_line::<VERSION>(piece, at, C, M);
+        if end == piece.len() && end - at < LONGEST_LINE {
+            return Ok((at, before));
+        }
         let near = match read {
             Ok(read) => near_of::<C, M>(&read),
             Err(kind) => return Err(TraceFault { line, kind }),
         };
-        if end == text.len() {
-            let kind = TraceKind::NoEnd;
-            return Err(TraceFault { line, kind });
-        }
-        if no_room || push_near(&mut script, near).is_err() {
+        if no_room || push_near(script, near).is_err() {
             let kind = TraceKind::OutOfMemory;
             return Err(TraceFault { line, kind });
         }
         at = end + 1;
         before = line;
     }
-    Ok(script)
+    Ok((at, before))
 }
 
-/// The same where the version is known only when the text is read.
+/// The same where the version is known only when the piece is read.
 fn read_beats_of<const C: usize, const M: usize>(
-    alloc: Global,
-    text: &[u8],
-    start: usize,
+    script: &mut Script<C, M>,
+    piece: &[u8],
+    line: u64,
     version: u8,
-) -> Result<Script<C, M>, TraceFault>
+) -> Result<(usize, u64), TraceFault>
     requires version { is_version version ≡ true }
     requires client { C ≤ WIDEST }
     requires manager { M ≤ WIDEST }
-    requires start { (1 ≤ start) × (start ≤ length text.now) }
-    requires header { faults text.now ≡
-        None ∷ map (later_fault version C M) (cut (drop start text.now)) }
-    ensures told { IfOk result (TellsRest version (drop start text.now)) }
-    ensures fault { IfErr result (λ e. e.kind ≢ OutOfMemory → IsFirstFault text.now e.line e.kind) }
-    ensures memory { IfErr result (λ e. e.kind ≡ OutOfMemory → IsReadableTo text.now e.line) }
+    requires few { line + length piece.now < 2 ^ 64 }
+    ensures used { IfOk result (λ far. far.0 ≤ length piece.now) }
+    ensures lines { IfOk result (λ far. far.1 ≤ line + far.0) }
+    ensures rest { IfOk result (λ far. IsUnfinished (drop far.0 piece.now)) }
+    ensures told { (done : List ℕ) → HasRead version done script.old line → IfOk result (λ far.
+        HasRead version (done ++ take far.0 piece.now) script.new far.1) }
+    ensures fault { (done more : List ℕ) → HasRead version done script.old line → IfErr result (λ e.
+        e.kind ≢ OutOfMemory → IsFirstFault (done ++ piece.now ++ more) e.line e.kind) }
+    ensures memory { (done more : List ℕ) → HasRead version done script.old line → IfErr result (λ e.
+        e.kind ≡ OutOfMemory → IsReadableTo (done ++ piece.now ++ more) e.line) }
 {
     if version == 1 {
-        read_beats::<C, M, 1>(alloc, text, start)
+        read_beats::<C, M, 1>(script, piece, line)
     } else {
-        read_beats::<C, M, 2>(alloc, text, start)
+        read_beats::<C, M, 2>(script, piece, line)
+    }
+}
+
+/// The fault of a line without its LF.
+fn unfinished_fault<const C: usize, const M: usize, const VERSION: u8>(rest: &[u8]) -> TraceKind
+    requires client { C ≤ WIDEST }
+    requires manager { M ≤ WIDEST }
+    requires some { 0 < length rest.now }
+    requires free { list_any is_newline rest.now ≡ false }
+    ensures fault { later_fault VERSION C M rest.now ≡ Some result }
+    ensures kind { result ≢ OutOfMemory }
+{
+    match read_line::<VERSION>(rest, C, M) {
+        Ok(_) => TraceKind::NoEnd,
+        Err(kind) => kind,
+    }
+}
+
+/// The same where the version is known only when the line is read.
+fn unfinished_fault_of<const C: usize, const M: usize>(rest: &[u8], version: u8) -> TraceKind
+    requires version { is_version version ≡ true }
+    requires client { C ≤ WIDEST }
+    requires manager { M ≤ WIDEST }
+    requires some { 0 < length rest.now }
+    requires free { list_any is_newline rest.now ≡ false }
+    ensures fault { later_fault version C M rest.now ≡ Some result }
+    ensures kind { result ≢ OutOfMemory }
+{
+    if version == 1 {
+        unfinished_fault::<C, M, 1>(rest)
+    } else {
+        unfinished_fault::<C, M, 2>(rest)
+    }
+}
+
+/// Reads a text piece by piece, from its lines straight into the lists of a script, with no trace
+/// between them: the text never has to stand in memory whole.
+///
+/// In contracts it stands for the part of the text that was read, which are whole lines, the
+/// header's among them (`HasRead`): none of them has a fault, and the script has their beats. Of a
+/// piece `read` takes the whole lines. What it leaves has to stand before the next piece, and at the
+/// end of the text `end_fault` judges it. After a fault it stands for nothing.
+#[derive(Drop)]
+pub struct ScriptReader<const C: usize, const M: usize> {
+    /// The beats of the lines that were read.
+    pub script: Script<C, M>,
+    /// The version of the trace, 1 or 2.
+    pub version: u8,
+    /// The number of the line that was read last, counted from 1: the header is line 1.
+    pub line: u64,
+}
+
+impl<const C: usize, const M: usize> ScriptReader<C, M> {
+    /// One that has read the line of the header, which names this version and these widths.
+    pub fn new(alloc: Global, version: u8) -> Self
+        ensures version { result.version ≡ version }
+        ensures line { result.line ≡ 1 }
+        ensures header { (text : List ℕ) → IsHeaderLine text version C M →
+            HasRead version text result.script result.line }
+    {
+        ScriptReader {
+            script: empty_script(alloc),
+            version,
+            line: 1,
+        }
+    }
+
+    /// Reads the whole lines of a piece of the text, and says how many bytes these are: what is left
+    /// of the piece is a line without its LF, shorter than [`LONGEST_LINE`](crate::LONGEST_LINE), or
+    /// nothing.
+    ///
+    /// Refused with the first fault of the text, whatever comes behind the piece, or with
+    /// `OutOfMemory`; then it is not said what the script holds.
+    pub fn read(&mut self, piece: &[u8]) -> Result<usize, TraceFault>
+        requires version { is_version self.old.version ≡ true }
+        requires client { C ≤ WIDEST }
+        requires manager { M ≤ WIDEST }
+        requires few { self.old.line + length piece.now < 2 ^ 64 }
+        ensures version { self.new.version ≡ self.old.version }
+        ensures used { IfOk result (λ used. used ≤ length piece.now) }
+        ensures lines { IfOk result (λ used. self.new.line ≤ self.old.line + used) }
+        ensures rest { IfOk result (λ used. IsUnfinished (drop used piece.now)) }
+
+        // for every part of the text that it stood for
+        ensures told { (done : List ℕ) → HasRead self.old.version done self.old.script self.old.line →
+            IfOk result (λ used. HasRead self.old.version (done ++ take used piece.now)
+            self.new.script self.new.line) }
+        ensures fault { (done more : List ℕ) →
+            HasRead self.old.version done self.old.script self.old.line → IfErr result (λ e.
+            e.kind ≢ OutOfMemory → IsFirstFault (done ++ piece.now ++ more) e.line e.kind) }
+        ensures memory { (done more : List ℕ) →
+            HasRead self.old.version done self.old.script self.old.line → IfErr result (λ e.
+            e.kind ≡ OutOfMemory → IsReadableTo (done ++ piece.now ++ more) e.line) }
+    {
+        match read_beats_of::<C, M>(&mut self.script, piece, self.line, self.version) {
+            Ok((used, line)) => {
+                self.line = line;
+                Ok(used)
+            }
+            Err(fault) => Err(fault),
+        }
+    }
+
+    /// The fault of the text where it ends with what `read` left: `None` where that is nothing.
+    pub fn end_fault(&self, rest: &[u8]) -> Option<TraceFault>
+        requires version { is_version self.now.version ≡ true }
+        requires client { C ≤ WIDEST }
+        requires manager { M ≤ WIDEST }
+        requires few { self.now.line + 1 < 2 ^ 64 }
+        requires rest { list_any is_newline rest.now ≡ false }
+        ensures none { result ≡ None → rest.now ≡ [] }
+        ensures kind { IfSome result (λ e. e.kind ≢ OutOfMemory) }
+
+        // for every part of the text that it stood for
+        ensures fault { (done : List ℕ) → HasRead self.now.version done self.now.script self.now.line →
+            IfSome result (λ e. IsFirstFault (done ++ rest.now) e.line e.kind) }
+    {
+        if rest.is_empty() {
+            return None;
+        }
+        let line = self.line + 1;
+        let kind = unfinished_fault_of::<C, M>(rest, self.version);
+        Some(TraceFault { line, kind })
     }
 }
 
@@ -168,5 +302,14 @@ pub fn read_script<const C: usize, const M: usize>(
             kind: TraceKind::NoEnd,
         });
     }
-    read_beats_of::<C, M>(alloc, text, end + 1, version)
+    let later = &text[end + 1..];
+    let mut reader = ScriptReader::<C, M>::new(alloc, version);
+    let used = match reader.read(later) {
+        Ok(used) => used,
+        Err(fault) => return Err(fault),
+    };
+    match reader.end_fault(&later[used..]) {
+        Some(fault) => Err(fault),
+        None => Ok(reader.script),
+    }
 }

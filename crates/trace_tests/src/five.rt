@@ -4,8 +4,8 @@
 use std::alloc::Global;
 use std::test::Fail;
 use tl_trace::{
-    Header, Line, Script, Trace, TraceFault, TraceKind, header_of_text, read, read_script,
-    script_of, write_trace,
+    Header, Line, Script, ScriptReader, Trace, TraceFault, TraceKind, header_of_text, read,
+    read_script, script_of, write_trace,
 };
 
 /// One beat on each channel.
@@ -106,6 +106,23 @@ pub fn script_read(alloc: Global, text: &[u8]) -> Result<Script<4, 8>, Fail> {
     match read_script::<4, 8>(alloc, text, version) {
         Ok(script) => Ok(script),
         Err(fault) => Err(Fail::new(fault)),
+    }
+}
+
+/// The script of the lines behind the header's, which are read in two pieces: the second begins with
+/// what the first one left.
+pub fn script_in_pieces(
+    alloc: Global,
+    lines: &[u8],
+    first: usize,
+) -> Result<Script<4, 8>, TraceFault> {
+    let mut reader = ScriptReader::<4, 8>::new(alloc, 1);
+    let used = reader.read(&lines[..first])?;
+    let rest = &lines[used..];
+    let used = reader.read(rest)?;
+    match reader.end_fault(&rest[used..]) {
+        Some(fault) => Err(fault),
+        None => Ok(reader.script),
     }
 }
 

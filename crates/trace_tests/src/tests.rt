@@ -2,7 +2,7 @@
 
 use crate::five::{
     FIVE_2, fault_of, is_five_2, is_script_of_five, is_script_of_five_2, is_written_as,
-    script_made, script_read,
+    script_in_pieces, script_made, script_read,
 };
 use std::alloc::{AllocError, Global};
 use std::test::Fail;
@@ -282,6 +282,47 @@ fn reads_and_writes_five_beats(rt: HostRuntime) -> Result<(), Fail> {
 fn reads_a_script_of_five_beats(rt: HostRuntime) -> Result<(), Fail> {
     let text = with_line(rt.alloc(), 6, b"")?;
     assert!(rt; is_script_of_five(&script_read(rt.alloc(), &text)?));
+    Ok(())
+}
+
+/// The five lines, in two pieces that part them at each byte.
+#[test]
+fn scripts_are_read_in_pieces(rt: HostRuntime) -> Result<(), Fail> {
+    let text = with_line(rt.alloc(), 6, b"")?;
+    let lines = &text[FIVE[0].len()..];
+    for first in 0..=lines.len() {
+        match script_in_pieces(rt.alloc(), lines, first) {
+            Ok(script) => assert!(rt; is_script_of_five(&script), "{first} bytes"),
+            Err(fault) => return Err(Fail::new(fault)),
+        }
+    }
+    Ok(())
+}
+
+/// The lines without the end of the last one, and the third one with another letter, in two pieces
+/// that part them at each byte.
+#[test]
+fn faults_are_found_in_pieces(rt: HostRuntime) -> Result<(), Fail> {
+    let mut text = with_line(rt.alloc(), 6, b"")?;
+    let start = FIVE[0].len();
+    let cut = text.len() - 1;
+    for first in 0..=cut - start {
+        let fault = script_in_pieces(rt.alloc(), &text[start..cut], first).err();
+        let missing = TraceFault {
+            line: 6,
+            kind: TraceKind::NoEnd,
+        };
+        assert!(rt; fault == Some(missing), "{first} bytes");
+    }
+    text[start + FIVE[1].len()] = b'F';
+    for first in 0..=text.len() - start {
+        let fault = script_in_pieces(rt.alloc(), &text[start..], first).err();
+        let other = TraceFault {
+            line: 3,
+            kind: TraceKind::Channel,
+        };
+        assert!(rt; fault == Some(other), "{first} bytes");
+    }
     Ok(())
 }
 

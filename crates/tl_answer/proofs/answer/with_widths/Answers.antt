@@ -1,42 +1,44 @@
 use Rattle.std.specs.Prelude.{IfOk}
 use Rattle.std.proofs.Common.{lit<, ◌≤◌, length, List, subst, sym, arith}
-use Rattle.tl_trace.specs.Texts.{Tells}
 use Rattle.tl_trace.specs.declared.line.Line.{Line}
 use Rattle.tl_bridge.specs.Scripts.{EndsIn, near_beats}
 use Rattle.tl_answer.specs.Answer.{ends, near}
-use Rattle.tl_answer.specs.Texts.{IsAnswer, most_bytes}
+use Rattle.tl_answer.specs.Inputs.{ReadsAnswer, unread_of}
 use Rattle.tl_answer.proofs.Answering.{answers-text, checks-text, near-is}
 use Rattle.tl_answer.proofs.Lengths.{lines-few, short}
+use Rattle.tl_answer.proofs.Whole.{reads_answer}
 use Rattle.tl_answer.proofs.answer.with_widths.Goals as goal
 
 pub check_script-requires : goal.check_script-requires
 check_script-requires g c =
-    let told = c.in-Ok.ensures.told in
-    let few = lines-few _ _ _ _ told.lines told.told (subst (λ text. length text ≤ most_bytes) (sym c.deref.ensures.value) c.requires.few) in
-    (lit< tt, (c.requires.client, (c.requires.manager, short g.row.C g.row.M told.lines few _ told.script)))
+    let read = c.in-Ok.ensures in
+    let few = lines-few _ _ _ _ read.told.lines read.told.told read.few in
+    (lit< tt, (c.requires.client, (c.requires.manager, short g.row.C g.row.M read.told.lines few _ read.told.script)))
 
-pub returns-then-is_check-clause-ok : goal.returns-then-is_check-clause-ok
-returns-then-is_check-clause-ok g c =
-    let told = c.in-Ok.ensures.told in
-    subst (λ check. IfOk c.check_script.result (λ made. IsAnswer c.args.text.items check made.text.items made.all_done)) c.if-is_check.ensures
-    (checks-text c.args.version g.row.C g.row.M told.lines c.args.text.items
-    (subst (λ text. Tells text c.args.version g.row.C g.row.M told.lines) c.deref.ensures.value told.told)
-    (near_beats c.in-Ok.script) (near-is told.lines _ told.script) c.check_script.result c.check_script.ensures.text c.check_script.ensures.done)
+pub returns-then-is_check : goal.returns-then-is_check
+returns-then-is_check g c =
+    let read = c.in-Ok.ensures in
+    subst (λ check. ReadsAnswer (unread_of c.args.input.now (g.R.Read.remaining c.args.reader.now)) (g.R.Read.remaining c.script_of_input.new.reader) check c.script_of_input.new.input c.check_script.result) c.if-is_check.ensures
+    (reads_answer _ _ _ _ read.text read.took read.end read.few c.check_script.result
+    (checks-text c.args.version g.row.C g.row.M read.told.lines read.text read.told.told
+    (near_beats c.in-Ok.script) (near-is read.told.lines _ read.told.script) c.check_script.result c.check_script.ensures.text c.check_script.ensures.done)
+    c.check_script.ensures.err)
 
 pub outcome_of-requires : goal.outcome_of-requires
 outcome_of-requires g c =
-    let told = c.in-Ok.ensures.told in
-    let few = lines-few _ _ _ _ told.lines told.told (subst (λ text. length text ≤ most_bytes) (sym c.deref.ensures.value) c.requires.few) in
-    let lists = short g.row.C g.row.M told.lines few _ told.script in
+    let read = c.in-Ok.ensures in
+    let few = lines-few _ _ _ _ read.told.lines read.told.told read.few in
+    let lists = short g.row.C g.row.M read.told.lines few _ read.told.script in
     (omega arith, (omega arith, (c.requires.client, (c.requires.manager, (lists, c.requires.runnable)))))
 
-pub returns-clause-ok : goal.returns-clause-ok
-returns-clause-ok g c =
-    let told = c.in-Ok.ensures.told in
-    subst (λ check. IfOk c.answer_in.result (λ made. IsAnswer c.args.text.items check made.text.items made.all_done)) c.if-is_check.ensures
-    (answers-text c.args.version g.row.C g.row.M lines c.args.text.items
-    (subst (λ text. Tells text c.args.version g.row.C g.row.M lines) c.deref.ensures.value told.told) c.in-Ok-outcome_of.outcome ended c.answer_in.result
-    (c.answer_in.ensures.text (ends g.row.C g.row.M lines) ended.verdicts_are) c.answer_in.ensures.done)
+pub returns : goal.returns
+returns g c =
+    let read = c.in-Ok.ensures in
+    subst (λ check. ReadsAnswer (unread_of c.args.input.now (g.R.Read.remaining c.args.reader.now)) (g.R.Read.remaining c.script_of_input.new.reader) check c.script_of_input.new.input c.answer_of.result) c.if-is_check.ensures
+    (reads_answer _ _ _ _ read.text read.took read.end read.few c.answer_of.result
+    (answers-text c.args.version g.row.C g.row.M lines read.text read.told.told c.in-Ok-outcome_of.outcome ended c.answer_of.result
+    (c.answer_of.ensures.text (ends g.row.C g.row.M lines) ended.verdicts_are) c.answer_of.ensures.done)
+    c.answer_of.ensures.err)
   where
     lines : List Line
     lines = c.in-Ok.ensures.told.lines

@@ -1,12 +1,15 @@
-use Rattle.std.proofs.Common.{◌≡◌, ◌≤◌, ◌<◌, ◌+◌, ◌++◌, ◌∙◌, ℕ, List, Some, length, drop, arith, rules, sym, ap}
-use Rattle.std.specs.List.{slice_range}
-use Rattle.tl_trace.specs.Texts.{newline}
-use Rattle.tl_trace.specs.Faults.{header_of}
+use Rattle.std.proofs.Common.{◌≡◌, ◌<◌, ◌+◌, ◌-◌, ◌++◌, ◌∙◌, [], true, false, Some, length, drop, take, arith, rules, refl, subst, sym, ap}
+use Rattle.std.proofs.lemmas.List.{take_rest}
+use Rattle.std.specs.List.{list_any, slice_range}
+use Rattle.tl_trace.specs.Scripts.{HasRead}
+use Rattle.tl_trace.specs.Texts.{is_version}
+use Rattle.tl_trace.specs.Faults.{is_newline, header_of, body, IsFirstFault, IsReadableTo}
 use Rattle.tl_trace.specs.Inner.Reading.{LineAt}
-use Rattle.tl_trace.proofs.Headers.{header, known, is_header}
+use Rattle.tl_trace.proofs.Headers.{header, known}
 use Rattle.tl_trace.proofs.Widths.{width_most}
-use Rattle.tl_trace.proofs.Walk.{no_header_end, header_faults, split_line}
-use Rattle.tl_trace.proofs.ReadBeats.{first_line, if_ok_more}
+use Rattle.tl_trace.proofs.Walk.{no_header_end}
+use Rattle.tl_trace.proofs.ReadBeats.{first_line}
+use Rattle.tl_trace.proofs.Pieces.{header_line, whole_text, parted_text, used_text, tells_script}
 use Rattle.tl_trace.proofs.script_reader.read_script.Goals as goal
 
 pub returns-then-end-text-clause-fault : goal.returns-then-end-text-clause-fault
@@ -16,33 +19,64 @@ returns-then-end-text-clause-fault g c _ =
     let some : header_of (slice_range c.args.text.now 0 c.line_end-end.result) ≡ Some (header c.args.version g.row.C g.row.M) = ap header_of (sym (first_line c.args.text.now c.line_end-end.result line)) ∙ c.requires.header in
     no_header_end c.args.text.now c.line_end-end.result (header c.args.version g.row.C g.row.M) line some (omega (arith, e.to, c.if-end-text.true))
 
-pub read_beats_of-requires : goal.read_beats_of-requires
-read_beats_of-requires g c =
-    let e = c.line_end-end.ensures in
-    let line : LineAt c.args.text.now 0 c.line_end-end.result = record { from = e.from; to = e.to; free = e.free; stop = e.end } in
-    let lt : c.line_end-end.result < length c.args.text.now = omega (arith, e.to, c.if-end-text.false) in
-    let some : header_of (slice_range c.args.text.now 0 c.line_end-end.result) ≡ Some (header c.args.version g.row.C g.row.M) = ap header_of (sym (first_line c.args.text.now c.line_end-end.result line)) ∙ c.requires.header in
-    let all = known (slice_range c.args.text.now 0 c.line_end-end.result) (header c.args.version g.row.C g.row.M) some in
-    let one : 1 ≤ c.line_end-end.result + 1 = omega arith in
-    let within : c.line_end-end.result + 1 ≤ length c.args.text.now = omega arith in
-    (search rules, (all.0, (width_most c.args.version g.row.C all.1, (width_most c.args.version g.row.M all.2, ((one, within), header_faults c.args.text.now c.line_end-end.result (header c.args.version g.row.C g.row.M) line some lt)))))
+pub read-requires : goal.read-requires
+read-requires g c =
+    let all = known (body c.args.text.now) (header c.args.version g.row.C g.row.M) c.requires.header in
+    let version : is_version c.new-reader.result.version ≡ true = subst (λ v. is_version v ≡ true) (sym c.new-reader.ensures.version) all.0 in
+    (search rules, (version, (width_most c.args.version g.row.C all.1, (width_most c.args.version g.row.M all.2, search rules))))
 
-pub returns-clause-told : goal.returns-clause-told
-returns-clause-told g c =
+pub returns-in-Err-clause-fault : goal.returns-in-Err-clause-fault
+returns-in-Err-clause-fault g c other =
     let e = c.line_end-end.ensures in
     let line : LineAt c.args.text.now 0 c.line_end-end.result = record { from = e.from; to = e.to; free = e.free; stop = e.end } in
-    let lt : c.line_end-end.result < length c.args.text.now = omega (arith, e.to, c.if-end-text.false) in
-    let b = slice_range c.args.text.now 0 c.line_end-end.result in
-    let some : header_of b ≡ Some (header c.args.version g.row.C g.row.M) = ap header_of (sym (first_line c.args.text.now c.line_end-end.result line)) ∙ c.requires.header in
-    let all = known b (header c.args.version g.row.C g.row.M) some in
-    let rest = drop (c.line_end-end.result + 1) c.args.text.now in
-    if_ok_more c.read_beats_of.result (λ s r. record {
-      lines = r.lines;
-      told = record {
-        trace = record { known_version = all.0; client_width = all.1; manager_width = all.2; kept = r.kept };
-        rest = rest;
-        header = split_line c.args.text.now 0 c.line_end-end.result line lt ∙ ap (λ (h : List ℕ). h ++ newline ++ rest) (is_header b (header c.args.version g.row.C g.row.M) some);
-        told = r.told;
-      };
-      script = r.script;
-    }) c.read_beats_of.ensures.told
+    let text = c.args.text.now in
+    let n = c.line_end-end.result + 1 in
+    let begins = header_line text c.line_end-end.result c.args.version g.row.C g.row.M line c.if-end-text.false c.requires.header in
+    let read = subst (λ v. HasRead v (take n text) c.new-reader.result.script c.new-reader.result.line) (sym c.new-reader.ensures.version) (c.new-reader.ensures.header (take n text) begins) in
+    subst (λ t. IsFirstFault t c.in-Err.fault.line c.in-Err.fault.kind) (whole_text text n (take (length text - n) (drop n text)) (take_rest text n)) (c.in-Err.ensures.fault (take n text) [] read other)
+
+pub returns-in-Err-clause-memory : goal.returns-in-Err-clause-memory
+returns-in-Err-clause-memory g c is =
+    let e = c.line_end-end.ensures in
+    let line : LineAt c.args.text.now 0 c.line_end-end.result = record { from = e.from; to = e.to; free = e.free; stop = e.end } in
+    let text = c.args.text.now in
+    let n = c.line_end-end.result + 1 in
+    let begins = header_line text c.line_end-end.result c.args.version g.row.C g.row.M line c.if-end-text.false c.requires.header in
+    let read = subst (λ v. HasRead v (take n text) c.new-reader.result.script c.new-reader.result.line) (sym c.new-reader.ensures.version) (c.new-reader.ensures.header (take n text) begins) in
+    subst (λ t. IsReadableTo t c.in-Err.fault.line) (whole_text text n (take (length text - n) (drop n text)) (take_rest text n)) (c.in-Err.ensures.memory (take n text) [] read is)
+
+pub end_fault-requires : goal.end_fault-requires
+end_fault-requires g c =
+    let all = known (body c.args.text.now) (header c.args.version g.row.C g.row.M) c.requires.header in
+    let version : is_version c.read.new.self.version ≡ true = subst (λ v. is_version v ≡ true) (sym (c.in-Ok.ensures.version ∙ c.new-reader.ensures.version)) all.0 in
+    let later = take (length c.args.text.now - (c.line_end-end.result + 1)) (drop (c.line_end-end.result + 1) c.args.text.now) in
+    let free : list_any is_newline (take (length later - c.in-Ok.used) (drop c.in-Ok.used later)) ≡ false = ap (list_any is_newline) (take_rest later c.in-Ok.used) ∙ c.in-Ok.ensures.rest.free in
+    (search rules, (version, (width_most c.args.version g.row.C all.1, (width_most c.args.version g.row.M all.2, (search rules, free)))))
+
+pub returns-in-Some-clause-fault : goal.returns-in-Some-clause-fault
+returns-in-Some-clause-fault g c other =
+    let e = c.line_end-end.ensures in
+    let line : LineAt c.args.text.now 0 c.line_end-end.result = record { from = e.from; to = e.to; free = e.free; stop = e.end } in
+    let text = c.args.text.now in
+    let n = c.line_end-end.result + 1 in
+    let later = take (length text - n) (drop n text) in
+    let begins = header_line text c.line_end-end.result c.args.version g.row.C g.row.M line c.if-end-text.false c.requires.header in
+    let read = subst (λ v. HasRead v (take n text) c.new-reader.result.script c.new-reader.result.line) (sym c.new-reader.ensures.version) (c.new-reader.ensures.header (take n text) begins) in
+    let more = subst (λ v. HasRead v (take n text ++ take c.in-Ok.used later) c.read.new.self.script c.read.new.self.line) (sym c.in-Ok.ensures.version) (c.in-Ok.ensures.told (take n text) read) in
+    subst (λ t. IsFirstFault t c.in-Some.fault.line c.in-Some.fault.kind)
+    (parted_text text n later (take_rest text n) c.in-Ok.used (take (length later - c.in-Ok.used) (drop c.in-Ok.used later)) (take_rest later c.in-Ok.used))
+    (c.in-Some.ensures.fault (take n text ++ take c.in-Ok.used later) more)
+
+pub returns-in-None-clause-told : goal.returns-in-None-clause-told
+returns-in-None-clause-told g c =
+    let e = c.line_end-end.ensures in
+    let line : LineAt c.args.text.now 0 c.line_end-end.result = record { from = e.from; to = e.to; free = e.free; stop = e.end } in
+    let text = c.args.text.now in
+    let n = c.line_end-end.result + 1 in
+    let later = take (length text - n) (drop n text) in
+    let begins = header_line text c.line_end-end.result c.args.version g.row.C g.row.M line c.if-end-text.false c.requires.header in
+    let first = c.new-reader.ensures.header (take n text) begins in
+    let read = subst (λ v. HasRead v (take n text) c.new-reader.result.script c.new-reader.result.line) (sym c.new-reader.ensures.version) first in
+    let more = subst (λ v. HasRead v (take n text ++ take c.in-Ok.used later) c.read.new.self.script c.read.new.self.line) c.new-reader.ensures.version (c.in-Ok.ensures.told (take n text) read) in
+    tells_script c.args.version (take n text ++ take c.in-Ok.used later) text c.read.new.self.script c.read.new.self.line
+    (used_text text n later (take_rest text n) c.in-Ok.used (take (length later - c.in-Ok.used) (drop c.in-Ok.used later)) (take_rest later c.in-Ok.used) (c.in-None.ensures.none refl)) more

@@ -1,11 +1,9 @@
 use Rattle.std.proofs.Common.{◌∙◌, ◌++◌, ap}
 use Rattle.tl_answer.specs.Answer.{far_header, far_lines, taken, report}
 use Rattle.tl_answer.proofs.Answering.{text-behind}
-use Rattle.tl_answer.proofs.answer.answer_in.Goals as goal
+use Rattle.tl_answer.proofs.answer.answer_of.Goals as goal
 
 pub returns-clause-text : goal.returns-clause-text
 returns-clause-text g c v is =
     text-behind _ (far_header c.args.version g.row.C g.row.M ++ far_lines c.args.version (taken c.args.outcome.now)) (report v)
-    (c.in_ok-write_arrivals.ensures ∙ ap (λ text. text ++ far_lines c.args.version (taken c.args.outcome.now))
-    (c.in_ok-extend_from_slice.ensures.items
-    ∙ ap (λ text. text ++ c.deref.result.now) c.requires.empty ∙ c.deref.ensures.value ∙ c.in_ok-line.ensures)) c.reported.result (c.reported.ensures.text v is)
+    (c.in_ok-write_arrivals.ensures ∙ ap (λ text. text ++ far_lines c.args.version (taken c.args.outcome.now)) c.in_ok-text.ensures) c.reported.result (c.reported.ensures.text v is)

@@ -1,0 +1,129 @@
+-- Reading a text to its end, piece by piece.
+use Rattle.std.specs.Prelude.{IfSome, ◌==◌}
+use Rattle.std.proofs.Common.{◌≡◌, ◌≢◌, ℕ, ◌+◌, ◌-◌, ◌<◌, ◌≤◌, ◌^◌, Bool, true, false, cond, nat_eq, nat_le, List, [], ◌++◌, length, take, drop, Option, None, Some, refl, sym, ap, ◌∙◌, subst, arith, eq-eqb, length-append, append-nil, inl, inr}
+use Rattle.std.proofs.lemmas.Bool.{eqb-true, leb-true, cases_eq}
+use Rattle.std.specs.Fmt.{digits}
+use Rattle.std.specs.List.{list_all, list_any, slice_range}
+use Rattle.std.specs.Io.KnownBytes.{Consumes, IsAtEnd}
+use Rattle.tl_trace.specs.Faults.{is_newline, body, header_of, HasHeader, IsFirstFault}
+use Rattle.tl_trace.specs.Inner.Reading.{LineAt}
+use Rattle.tl_trace.specs.Scripts.{HasRead, IsHeaderLine, IsUnfinished}
+use Rattle.tl_trace.specs.Texts.{versions, widths, is_version, is_width, header_text}
+use Rattle.tl_trace.specs.declared.header.Header.{Header}
+use Rattle.tl_trace.specs.declared.script_reader.ScriptReader.{ScriptReader}
+use Rattle.tl_trace.specs.declared.fault.TraceKind.TheVariants as kinds
+use Rattle.tl_trace.specs.declared.places.TheConstants.{LONGEST_LINE}
+use Rattle.tl_trace.proofs.Headers.{header, known, is_header}
+use Rattle.tl_trace.proofs.OneTrace.{in_list}
+use Rattle.tl_trace.proofs.Pieces.{header_line}
+use Rattle.tl_trace.proofs.ReadBeats.{first_line}
+use Rattle.tl_trace.proofs.Walk.{no_header_end, last_line}
+use Rattle.tl_answer.specs.Inner.Lines.{IsBetween}
+use Rattle.tl_answer.specs.Inputs.{HasTaken, IsFresh, IsRefused, held, unread_of}
+use Rattle.tl_answer.specs.Texts.{most_bytes}
+use Rattle.tl_answer.specs.declared.input.Input.{Input}
+use Rattle.tl_answer.proofs.Between.{held_size, advanced, of_whole}
+use Rattle.tl_answer.proofs.Lengths.{lines-below}
+
+-- what may still be read, and one more where the end was not found yet
+abbrev pub to_read : Input → ℕ
+to_read input = (most_bytes - input.total) + cond (nat_eq input.to (length input.buffer.items)) 1 0
+
+-- the lines of what was read were read, but for one that may go on
+pub record IsAhead {C M : ℕ} (unread left : Option (List ℕ)) (v : ℕ) (lines : ScriptReader C M) (input : Input) : Type 0 where
+  pub between : IsBetween unread left lines input
+  pub version : lines.version ≡ v
+  pub rest : IsUnfinished (held input)
+
+-- what was read is not kept
+pub record IsDraining (first left : Option (List ℕ)) (input input' : Input) : Type 0 where
+  pub from : input'.from ≤ input'.to
+  pub to : input'.to ≤ length input'.buffer.items
+  pub few : input'.total ≤ most_bytes
+  pub room : 0 < length input'.buffer.items
+  pub some : (unread : Option (List ℕ)) × (used : List ℕ) × HasTaken unread left used input'
+  pub taken : (unread : Option (List ℕ)) (used : List ℕ) → HasTaken unread first used input → (used' : List ℕ) × HasTaken unread left used' input'
+
+-- a piece more, or the end
+pub smaller : (a b c : Input) → nat_eq a.to (length a.buffer.items) ≡ true → a.total ≤ b.total → (b.to ≡ length b.buffer.items → a.total < b.total)
+    → b.total ≤ most_bytes → c.total ≡ b.total → c.to ≡ b.to → c.buffer.items ≡ b.buffer.items → to_read c < to_read a
+smaller a b c full more grown few total to buffer = pick (nat_eq c.to (length c.buffer.items)) refl
+  where
+    before : to_read a ≡ (most_bytes - a.total) + 1
+    before = ap (λ (t : Bool). (most_bytes - a.total) + cond t 1 0) full
+
+    pick : (t : Bool) → nat_eq c.to (length c.buffer.items) ≡ t → to_read c < to_read a
+    pick true e =
+        let past : b.to ≡ length b.buffer.items = sym to ∙ eqb-true c.to (length c.buffer.items) e ∙ ap length buffer in
+        let lt = grown past in
+        let after : to_read c ≡ (most_bytes - c.total) + 1 = ap (λ (t : Bool). (most_bytes - c.total) + cond t 1 0) e in
+        omega (arith, before, after, lt, few, total)
+    pick false e =
+        let after : to_read c ≡ (most_bytes - c.total) + 0 = ap (λ (t : Bool). (most_bytes - c.total) + cond t 1 0) e in
+        omega (arith, before, after, more, total)
+
+pub unlike : (m n : ℕ) → nat_eq m n ≡ false → m ≢ n
+unlike m n other e = absurd (let bad = sym other ∙ eq-eqb m n e in cc)
+
+-- lines can be counted
+pub line_few : {C M : ℕ} (unread left : Option (List ℕ)) (lines : ScriptReader C M) (input : Input) → IsBetween unread left lines input → lines.line + 1 < 2 ^ 64
+line_few {C} {M} unread left lines input b =
+    let below = lines-below b.used lines.version C M b.read.lines b.read.told in
+    let sum = length-append b.used (held input) in
+    let place : lines.line ≡ length b.read.lines + 1 = b.read.place in
+    let count : input.total ≡ length (b.used ++ held input) = b.taken.count in
+    let few : input.total ≤ most_bytes = b.taken.few in
+    omega arith
+
+-- the header's line is used
+pub begins : {C M : ℕ} (unread left : Option (List ℕ)) (input input' : Input) (lines : ScriptReader C M) (version end : ℕ) (bytes : List ℕ) → bytes ≡ held input
+    → HasTaken unread left [] input → HasHeader (held input) version C M → LineAt bytes 0 end → end < length bytes
+    → input'.from ≡ input.from + (end + 1) → input'.to ≡ input.to → input'.buffer.items ≡ input.buffer.items → input'.total ≡ input.total
+    → lines.version ≡ version → ((text : List ℕ) → IsHeaderLine text version C M → HasRead version text lines.script lines.line) → IsBetween unread left lines input'
+begins {C} {M} unread left input input' lines version end bytes same t named line lt from to buffer total is told =
+    let size = held_size input t.from t.to in
+    let sized : length bytes ≡ length (held input) = ap length same in
+    let inside : input.from + (end + 1) ≤ input.to = omega (arith, size, sized, lt, t.from) in
+    let line' : LineAt (held input) 0 end = subst (λ xs. LineAt xs 0 end) same line in
+    let lt' : end < length (held input) = omega (arith, sized, lt) in
+    record {
+      used = take (end + 1) (held input);
+      taken = advanced input input' (end + 1) from to buffer total inside unread left [] t;
+      read = subst (λ v. HasRead v (take (end + 1) (held input)) lines.script lines.line) (sym is) (told (take (end + 1) (held input)) (header_line (held input) end version C M line' lt' named));
+    }
+
+-- ---- a text whose first line has no end, or no header
+
+short_text : (version client manager : ℕ) → is_version version ≡ true → is_width version client ≡ true → is_width version manager ≡ true → nat_le (length (header_text version client manager)) 64 ≡ true
+unfolding digits
+short_text version client manager v c m =
+    in_list (λ n. nat_le (length (header_text version client n)) 64) (widths version) manager m
+    (in_list (λ n. list_all (λ k. nat_le (length (header_text version n k)) 64) (widths version)) (widths version) client c
+    (in_list (λ v. list_all (λ n. list_all (λ k. nat_le (length (header_text v n k)) 64) (widths v)) (widths v)) versions version v refl))
+
+-- a header is short
+pub header_short : (text : List ℕ) (h : Header) → header_of text ≡ Some h → length text ≤ 64
+header_short text h is =
+    let all = known text h is in
+    leb-true (length text) 64 (ap (λ (xs : List ℕ). nat_le (length xs) 64) (is_header text h is) ∙ short_text h.version h.client h.manager all.0 all.1 all.2)
+
+-- a header's line that is not whole is the text's end
+pub header_unended : (left : Option (List ℕ)) (input : Input) (version client manager end : ℕ) (bytes : List ℕ) → bytes ≡ held input → IsFresh left input → HasHeader (held input) version client manager
+    → LineAt bytes 0 end → length bytes ≤ end → IfSome (unread_of input left) (λ text. IsFirstFault text 1 kinds.NoEnd)
+header_unended left input version client manager end bytes same fresh named line past =
+    let line' : LineAt (held input) 0 end = subst (λ xs. LineAt xs 0 end) same line in
+    let all : end ≡ length (held input) = omega (arith, past, ap length same, line'.to) in
+    let first = first_line (held input) end line' in
+    let some : header_of (slice_range (held input) 0 end) ≡ Some (header version client manager) = ap header_of (sym first) ∙ named in
+    let whole : held input ≡ slice_range (held input) 0 end = last_line (held input) 0 end line' all in
+    let short : length (held input) ≤ 64 = subst (λ n. n ≤ 64) (sym (ap length whole)) (header_short (slice_range (held input) 0 end) (header version client manager) some) in
+    let size = held_size input fresh.taken.from fresh.taken.to in
+    let not_full : input.to ≢ length input.buffer.items = λ e. let room = fresh.taken.room in let zero_from = fresh.first in absurd (omega (arith, room, zero_from, e, size, short)) in
+    of_whole (λ text. IsFirstFault text 1 kinds.NoEnd) (unread_of input left) left (held input) fresh.taken.took (fresh.taken.end not_full)
+    (no_header_end (held input) end (header version client manager) line' some all)
+
+-- all that was read is used
+pub used_up : (unread left : Option (List ℕ)) (used : List ℕ) (input : Input) → HasTaken unread left used input
+    → HasTaken unread left (used ++ take (input.to - input.from) (held input)) (record { buffer = input.buffer; from = input.to; to = input.to; total = input.total })
+used_up unread left used input t =
+    advanced input (record { buffer = input.buffer; from = input.to; to = input.to; total = input.total }) (input.to - input.from) (omega (arith, t.from)) refl refl refl (omega (arith, t.from)) unread left used t

@@ -1,0 +1,89 @@
+-- What came of a text that is read piece by piece is what comes of the whole text.
+use Rattle.std.specs.Prelude.{IfSome, IfOk, IfErr}
+use Rattle.std.proofs.Common.{◌≡◌, ◌≢◌, ℕ, ◌+◌, ◌-◌, ◌<◌, ◌≤◌, Bool, true, false, nat_eq, ◌||◌, List, [], ◌∷◌, ◌++◌, length, Option, None, Some, Result, Ok, Err, refl, sym, ap, ◌∙◌, subst, arith, length-append}
+use Rattle.std.proofs.lemmas.Bool.{or_parts, eqb-true}
+use Rattle.std.specs.List.{list_any}
+use Rattle.std.specs.Io.KnownBytes.{Consumes, IsAtEnd, prepend_known}
+use Rattle.tl_trace.specs.Faults.{is_newline, body, header_of, IsFirstFault}
+use Rattle.tl_trace.specs.declared.header.Header.{Header}
+use Rattle.tl_trace.specs.declared.fault.TraceKind.TheVariants as kinds
+use Rattle.tl_answer.specs.Inputs.{HasTaken, IsFresh, IsRefused, IsScriptRead, ReadsAnswer, held, unread_of}
+use Rattle.tl_answer.specs.Texts.{IsAnswer, most_bytes}
+use Rattle.tl_answer.specs.declared.answer.Answer.{Answer}
+use Rattle.tl_answer.specs.declared.fault.TextFault.{TextFault}
+use Rattle.tl_answer.specs.declared.fault.TextFault.TheVariants as faults
+use Rattle.tl_answer.specs.declared.input.Input.{Input}
+use Rattle.tl_answer.proofs.Between.{held_size, of_text, of_whole}
+use Rattle.tl_answer.proofs.Headers.{no_header}
+use Rattle.tl_answer.proofs.ToRead.{header_short, unlike}
+
+-- an answer to the text that was read is one to the text that the reader had
+pub reads_answer : (unread left : Option (List ℕ)) (check : Bool) (input : Input) (text : List ℕ) → Consumes unread left text → IsAtEnd left → length text ≤ most_bytes → (given : Result Answer TextFault)
+    → IfOk given (λ made. IsAnswer text check made.text.items made.all_done) → IfErr given (λ fault. fault ≡ faults.OutOfMemory) → ReadsAnswer unread left check input given
+reads_answer unread left check input text took end few (Ok made) is none = record {
+  end = end;
+  few = of_whole (λ t. length t ≤ most_bytes) unread left text took end few;
+  answer = of_whole (λ t. IsAnswer t check made.text.items made.all_done) unread left text took end is;
+}
+reads_answer unread left check input text took end few (Err fault) is none = subst (IsRefused unread left input) (sym none) tt
+
+-- the front of a text stands for the text
+pub fresh_of : (unread left : Option (List ℕ)) (input : Input) → HasTaken unread left [] input → input.from ≡ 0 → IsFresh left input
+fresh_of unread left input t first = record {
+  taken = record { took = took left; count = t.count; few = t.few; from = t.from; to = t.to; end = t.end; room = t.room };
+  first = first;
+}
+  where
+    took : (left : Option (List ℕ)) → Consumes (prepend_known (held input) left) left (held input)
+    took None = tt
+    took (Some more) = refl
+
+pub of_unread : (P : List ℕ → Type 0) (unread left : Option (List ℕ)) (bytes : List ℕ) → Consumes unread left bytes → IfSome (prepend_known bytes left) P → IfSome unread P
+of_unread P None left bytes took is = tt
+of_unread P (Some text) None bytes took is = absurd took
+of_unread P (Some text) (Some more) bytes took is = subst P (sym took) is
+
+-- ---- a text without a header
+
+body_ended : (bytes more : List ℕ) → list_any is_newline bytes ≡ true → body (bytes ++ more) ≡ body bytes
+body_ended [] more ends = absurd cc
+body_ended (byte ∷ bytes) more ends = pick (is_newline byte) refl ends (body_ended bytes more)
+  where
+    pick : (b : Bool) → is_newline byte ≡ b → b || list_any is_newline bytes ≡ true → (list_any is_newline bytes ≡ true → body (bytes ++ more) ≡ body bytes) → body (byte ∷ bytes ++ more) ≡ body (byte ∷ bytes)
+    pick true e ends rest = rw e refl
+    pick false e ends rest = rw e (ap (λ (xs : List ℕ). byte ∷ xs) (rest ends))
+
+body_free : (bytes more : List ℕ) → list_any is_newline bytes ≡ false → body (bytes ++ more) ≡ bytes ++ body more
+body_free [] more free = refl
+body_free (byte ∷ bytes) more free =
+    let parts = or_parts (is_newline byte) (list_any is_newline bytes) free in free_more parts.0 (body_free bytes more parts.1)
+  where
+    free_more : is_newline byte ≡ false → body (bytes ++ more) ≡ bytes ++ body more → body (byte ∷ bytes ++ more) ≡ byte ∷ bytes ++ body more
+    free_more other rest = rw other (ap (λ (xs : List ℕ). byte ∷ xs) rest)
+
+long_none : (text : List ℕ) → 64 < length text → header_of text ≡ None
+long_none text long = pick (header_of text) refl
+  where
+    pick : (o : Option Header) → header_of text ≡ o → header_of text ≡ None
+    pick None e = e
+    pick (Some h) e = let short = header_short text h e in absurd (omega (arith, short, long))
+
+pub header_missing : (left : Option (List ℕ)) (input : Input) → IsFresh left input → header_of (body (held input)) ≡ None → IfSome (unread_of input left) (λ text. IsFirstFault text 1 kinds.Header)
+header_missing left input fresh none = pick (list_any is_newline (held input)) refl (nat_eq input.to (length input.buffer.items)) refl
+  where
+    P : List ℕ → Type 0
+    P text = IsFirstFault text 1 kinds.Header
+
+    size : length (held input) ≡ input.to - input.from
+    size = held_size input fresh.taken.from fresh.taken.to
+
+    pick : (ends : Bool) → list_any is_newline (held input) ≡ ends → (full : Bool) → nat_eq input.to (length input.buffer.items) ≡ full → IfSome (unread_of input left) P
+    pick true e full is = of_text P (unread_of input left) left (held input) fresh.taken.took (λ more. no_header (held input ++ more) (ap header_of (body_ended (held input) more e) ∙ none))
+    pick false e false is = of_whole P (unread_of input left) left (held input) fresh.taken.took (fresh.taken.end (unlike input.to (length input.buffer.items) is)) (no_header (held input) none)
+    pick false e true is = of_text P (unread_of input left) left (held input) fresh.taken.took (λ more.
+        let room = fresh.taken.room in
+        let first = fresh.first in
+        let whole = eqb-true input.to (length input.buffer.items) is in
+        let sum = length-append (held input) (body more) in
+        let long : 64 < length (held input ++ body more) = omega (arith, room, first, whole, sum, size) in
+        no_header (held input ++ more) (ap header_of (body_free (held input) more e) ∙ long_none (held input ++ body more) long))

@@ -1,0 +1,3 @@
+pub mod Filling
+pub mod Lines
+pub mod Answered

@@ -1,0 +1,89 @@
+//! From a text as it comes in to its script.
+ghost use Rattle.std.specs.Prelude.{◌≡◌, ◌≤◌, ℕ, List, [], Option, length, OnOk, IfErr};
+ghost use Rattle.tl_lanes.specs.Lanes.{IsWidth};
+ghost use Rattle.tl_trace.specs.Faults.{HasHeader};
+ghost use Rattle.tl_trace.specs.Scripts.{IsUnfinished};
+ghost use Rattle.tl_answer.specs.Faults.{of_trace};
+ghost use Rattle.tl_answer.specs.Inner.Lines.{IsReading, IsBetween};
+ghost use Rattle.tl_answer.specs.Inputs.{IsFresh, IsRefused, ReadsScript, held, unread_of};
+
+use crate::fault::TextFault;
+use crate::input::Input;
+use std::alloc::Global;
+use std::io::Read;
+use tl_trace::{Script, ScriptReader, TraceFault, TraceKind, line_end};
+
+/// Reads the lines that the input holds whole.
+fn read_held<const C: usize, const M: usize>(
+    lines: &mut ScriptReader<C, M>,
+    input: &mut Input,
+) -> Result<(), TraceFault>
+    requires client { IsWidth C }
+    requires manager { IsWidth M }
+    requires reading { IsReading lines.old input.old }
+    ensures version { lines.new.version ≡ lines.old.version }
+    ensures rest { OnOk result (IsUnfinished (held input.new)) }
+    ensures total { input.new.total ≡ input.old.total }
+    ensures to { input.new.to ≡ input.old.to }
+    ensures buffer { input.new.buffer.items ≡ input.old.buffer.items }
+
+    // for every text of which that was read
+    ensures ok { (unread left : Option (List ℕ)) → IsBetween unread left lines.old input.old →
+        OnOk result (IsBetween unread left lines.new input.new) }
+    ensures err { (unread left : Option (List ℕ)) → IsBetween unread left lines.old input.old →
+        IfErr result (λ fault. IsRefused unread left input.new (of_trace fault)) }
+{
+    match lines.read(input.held()) {
+        Ok(used) => {
+            input.advance(used);
+            Ok(())
+        }
+        Err(fault) => Err(fault),
+    }
+}
+
+/// The script of a text whose header names this version and these widths, where the input holds its
+/// first piece and nothing of it was used: it is read to its end, piece by piece, and no more than a
+/// piece of it stands in memory.
+///
+/// Refused with `Trace`, the text's first fault and its line, where the rest of the text is not read
+/// yet; with `Read` where a read fails or is interrupted, with `TooLong` above 67,108,864 bytes, or
+/// with `OutOfMemory`.
+pub fn script_of_input<R: Read, const C: usize, const M: usize>(
+    alloc: Global,
+    reader: &mut R,
+    input: &mut Input,
+    version: u8,
+) -> Result<Script<C, M>, TextFault>
+    requires client { IsWidth C }
+    requires manager { IsWidth M }
+    requires fresh { IsFresh (R.remaining reader.old) input.old }
+    requires header { HasHeader (held input.old) version C M }
+    ensures { ReadsScript (unread_of input.old (R.remaining reader.old)) (R.remaining reader.new)
+        version input.new result }
+{
+    let end = line_end(input.held(), 0);
+    if end >= input.held().len() {
+        return Err(TextFault::Trace(TraceFault {
+            line: 1,
+            kind: TraceKind::NoEnd,
+        }));
+    }
+    input.advance(end + 1);
+    let mut lines = ScriptReader::<C, M>::new(alloc, version);
+    if let Err(fault) = read_held(&mut lines, input) {
+        return Err(TextFault::from(fault));
+    }
+    while input.is_full() {
+        if let Err(fault) = input.refill(reader) {
+            return Err(fault);
+        }
+        if let Err(fault) = read_held(&mut lines, input) {
+            return Err(TextFault::from(fault));
+        }
+    }
+    match lines.end_fault(input.held()) {
+        Some(fault) => Err(TextFault::from(fault)),
+        None => Ok(lines.script),
+    }
+}

@@ -1,0 +1,260 @@
+-- Reading a text piece by piece: what has been read, and one line more.
+use Rattle.std.proofs.Common.{◌≡◌, ◌≢◌, ◌||◌, Bool, ℕ, zero, suc, ◌+◌, ◌-◌, ◌<◌, ◌≤◌, true, false, ◌&&◌, List, [], ◌∷◌, ◌++◌, length, map, take, drop, replicate, Option, Some, None, refl, sym, ap, ◌∙◌, arith, subst, append_assoc, append-nil, add-one, length-append, take-append-drop, length-drop, inl, inr}
+use Rattle.std.proofs.lemmas.Bool.{cases_eq, and_from, eqb-true}
+use Rattle.std.proofs.lemmas.List.Folds.{list_all-append}
+use Rattle.std.specs.Prelude.{◌==◌}
+use Rattle.std.specs.List.{list_all, list_any, slice_range}
+use Rattle.tl_lanes.specs.declared.limits.TheConstants.{WIDEST}
+use Rattle.tl_msg.specs.Firsts.{◌or_else◌}
+use Rattle.tl_trace.specs.Texts.{newline, is_version, header_text, is_kept_line, TellsLines}
+use Rattle.tl_trace.specs.Scripts.{IsScriptOf, TellsScript, IsHeaderLine, HasRead, IsUnfinished}
+use Rattle.tl_trace.specs.Faults.{is_newline, cut, body, body_fault, later_fault, header_of, faults, HasHeader, IsFirstFault, IsReadableTo}
+use Rattle.tl_trace.specs.Inner.Reading.{IsPushed, IsReadNear, IsReadLine, IsNextPushed, IsSameScript, LineAt}
+use Rattle.tl_trace.specs.declared.fault.TraceKind.{TraceKind}
+use Rattle.tl_trace.specs.declared.fault.TraceKind.TheVariants.{NoEnd}
+use Rattle.tl_trace.specs.declared.line.Line.{Line}
+use Rattle.tl_trace.specs.declared.near.Near.{Near}
+use Rattle.tl_trace.specs.declared.places.TheConstants.{LONGEST_LINE}
+use Rattle.tl_trace.specs.declared.script.Script.{Script}
+use Rattle.tl_trace.proofs.Cover.{says_free, free_between, drop_all}
+use Rattle.tl_trace.proofs.Faultless.{text_faults}
+use Rattle.tl_trace.proofs.Headers.{header, known, is_header}
+use Rattle.tl_trace.proofs.LongLines.{says_short, long_fault, StartsLine, starts_line}
+use Rattle.tl_trace.proofs.ReadBeats.{pushed, first_line}
+use Rattle.tl_trace.proofs.ReadLines.{IsFree, body_line, cut_line, first_fault, readable_to, one_more, told_more}
+use Rattle.tl_trace.proofs.Walk.{free_line, split_line, last_line, later_line, later_last, cut_whole, line_more}
+
+-- ---- the part of a text that was read
+
+-- its lines have no fault, whatever comes behind them
+pub read_faults : {C M : ℕ} (version : ℕ) (done more : List ℕ) (s : Script C M) (line : ℕ) → HasRead version done s line
+    → faults (done ++ more) ≡ replicate line None ++ map (later_fault version C M) (cut more)
+read_faults {C} {M} version done more s line r =
+    text_faults done more version C M r.lines r.told ∙ ap (λ (n : ℕ). replicate n None ++ map (later_fault version C M) (cut more)) (sym r.place)
+
+-- the header's line alone
+pub begun : {C M : ℕ} (version : ℕ) (text : List ℕ) (s : Script C M) → IsScriptOf [] s → IsHeaderLine text version C M → HasRead version text s 1
+begun {C} {M} version text s none line =
+    let all = known (body text) (header version C M) line.named in
+    record {
+      lines = [];
+      told = record {
+        trace = record { known_version = all.0; client_width = all.1; manager_width = all.2; kept = refl };
+        rest = [];
+        header = line.whole ∙ ap (λ (b : List ℕ). b ++ newline) (is_header (body text) (header version C M) line.named) ∙ sym (append-nil (header_text version C M ++ newline));
+        told = refl;
+      };
+      script = none;
+      place = omega arith;
+    }
+
+-- a line more
+pub read_more : {C M : ℕ} (version : ℕ) (done b : List ℕ) (s s' : Script C M) (line : ℕ) (near : Near C M) → HasRead version done s line → IsReadNear version b near → IsPushed near s s'
+    → HasRead version (done ++ b ++ newline) s' (line + 1)
+read_more {C} {M} version done b s s' line near r read put =
+    let kept_line = is_kept_line version C M in
+    record {
+      lines = r.lines ++ read.line ∷ [];
+      told = record {
+        trace = record {
+          known_version = r.told.trace.known_version;
+          client_width = r.told.trace.client_width;
+          manager_width = r.told.trace.manager_width;
+          kept = list_all-append kept_line r.lines (read.line ∷ []) ∙ and_from (list_all kept_line r.lines) (kept_line read.line && true) r.told.trace.kept (and_from (kept_line read.line) true read.read.kept refl);
+        };
+        rest = r.told.rest ++ b ++ newline;
+        header = ap (λ (xs : List ℕ). xs ++ b ++ newline) r.told.header ∙ ap (λ (xs : List ℕ). xs ++ newline) (append_assoc (header_text version C M ++ newline) r.told.rest b)
+            ∙ append_assoc (header_text version C M ++ newline) (r.told.rest ++ b) newline;
+        told = told_more version C M r.lines read.line r.told.rest b r.told.told read.read.says;
+      };
+      script = pushed r.lines read.line s s' near r.script read.same put;
+      place = let sum = length-append r.lines (read.line ∷ []) in omega (arith, r.place);
+    }
+
+-- ---- the walk over a piece
+
+-- what has been read of a piece, where the script and the line were these before it
+pub record Walked {C M : ℕ} (version : ℕ) (piece : List ℕ) (first : Script C M) (line : ℕ) (s : Script C M) (at before : ℕ) : Type 0 where
+  pub within : at ≤ length piece
+  pub few : before ≤ line + at
+  pub read : (done : List ℕ) → HasRead version done first line → HasRead version (done ++ take at piece) s before
+
+module _ {C M : ℕ} (version : ℕ) (piece : List ℕ) (first : Script C M) (line : ℕ) where
+  pub starts : Walked version piece first line first 0 line
+  starts = record {
+    within = omega arith;
+    few = omega arith;
+    read = λ done r. subst (λ text. HasRead version text first line) (sym (append-nil done)) r;
+  }
+
+  to_end : (at end : ℕ) → LineAt piece at end → end < length piece → take (end + 1) piece ≡ take at piece ++ slice_range piece at end ++ newline
+  to_end at end l lt =
+      let whole : (end + 1) - 0 ≡ end + 1 = omega arith in
+      let front : at - 0 ≡ at = omega arith in
+      ap (λ (n : ℕ). take n piece) (sym whole) ∙ line_more piece 0 at end (omega arith) l lt ∙ ap (λ (n : ℕ). take n piece ++ slice_range piece at end ++ newline) front
+
+  pub walks : (s s' : Script C M) (at before end : ℕ) (near : Near C M) → Walked version piece first line s at before → LineAt piece at end → IsReadNear version (slice_range piece at end) near
+      → end < length piece → IsPushed near s s' → Walked version piece first line s' (end + 1) (before + 1)
+  walks s s' at before end near w l read lt put = record {
+    within = omega arith;
+    few = omega (arith, w.few, l.from);
+    read = λ done r.
+        let whole : (done ++ take at piece) ++ slice_range piece at end ++ newline ≡ done ++ take (end + 1) piece =
+        ap (λ (xs : List ℕ). xs ++ newline) (append_assoc done (take at piece) (slice_range piece at end)) ∙ append_assoc done (take at piece ++ slice_range piece at end) newline ∙ ap (λ (xs : List ℕ). done ++ xs) (sym (to_end at end l lt)) in
+        subst (λ text. HasRead version text s' (before + 1)) whole (read_more version (done ++ take at piece) (slice_range piece at end) s s' before near (w.read done r) read put);
+  }
+
+  -- a line that the quick reader takes
+  pub walks_quick : (s s' : Script C M) (at before end : ℕ) → Walked version piece first line s at before → IsNextPushed version piece at s s' end → Walked version piece first line s' (end + 1) (before + 1)
+  walks_quick s s' at before end w q =
+      let l : LineAt piece at end = record {
+        from = omega (arith, q.from);
+        to = omega (arith, q.to);
+        free = free_between piece at end (omega (arith, q.to)) (says_free version C M q.read.line (slice_range piece at end) q.read.read.says);
+        stop = λ _. q.stop;
+      } in
+      walks s s' at before end q.near w l q.read q.to q.put
+
+  -- one that it does not take
+  pub waits : (s s' : Script C M) (at before : ℕ) → Walked version piece first line s at before → IsSameScript s s' → Walked version piece first line s' at before
+  waits s s' at before w same = record {
+    within = w.within;
+    few = w.few;
+    read = λ done r.
+        let far = w.read done r in
+        record {
+          lines = far.lines;
+          told = far.told;
+          script = record { a = same.a ∙ far.script.a; b = same.b ∙ far.script.b; c = same.c ∙ far.script.c; d = same.d ∙ far.script.d; e = same.e ∙ far.script.e };
+          place = far.place;
+        };
+  }
+
+  -- what is left where the piece ends within a line
+  pub left : (at end : ℕ) → LineAt piece at end → end ≡ length piece → end - at < LONGEST_LINE → IsUnfinished (drop at piece)
+  left at end l e few = record {
+    free = ap (list_any is_newline) (last_line piece at end l e) ∙ free_line piece at end l;
+    short = let long = length-drop at piece in omega arith;
+  }
+
+  -- and where it ends with one
+  pub left_none : (at : ℕ) → length piece ≤ at → IsUnfinished (drop at piece)
+  left_none at le = subst IsUnfinished (sym (drop_all piece at le)) (record { free = refl; short = omega arith })
+
+  -- the lines behind those that were read
+  later : (s : Script C M) (at before : ℕ) → Walked version piece first line s at before → (done more : List ℕ) → HasRead version done first line
+      → faults (done ++ piece ++ more) ≡ replicate before None ++ map (later_fault version C M) (cut (drop at piece ++ more))
+  later s at before w done more r =
+      let parts : piece ++ more ≡ take at piece ++ (drop at piece ++ more) = ap (λ (xs : List ℕ). xs ++ more) (sym (take-append-drop at piece)) ∙ append_assoc (take at piece) (drop at piece) more in
+      let whole : done ++ piece ++ more ≡ (done ++ take at piece) ++ (drop at piece ++ more) =
+      append_assoc done piece more ∙ ap (λ (xs : List ℕ). done ++ xs) parts ∙ sym (append_assoc done (take at piece) (drop at piece ++ more)) in
+      ap faults whole ∙ read_faults version (done ++ take at piece) (drop at piece ++ more) s before (w.read done r)
+
+  -- the line at a place, where it ends in the piece
+  cut_here : (at end : ℕ) (more : List ℕ) → LineAt piece at end → end < length piece → cut (drop at piece ++ more) ≡ (slice_range piece at end ++ newline) ∷ cut (drop (end + 1) piece ++ more)
+  cut_here at end more l lt =
+      let b = slice_range piece at end in
+      ap (λ (xs : List ℕ). cut (xs ++ more)) (split_line piece at end l lt) ∙ ap cut (append_assoc (b ++ newline) (drop (end + 1) piece) more)
+      ∙ cut_line b (drop (end + 1) piece ++ more) (free_line piece at end l)
+
+  -- the fault of the line that was read last
+  pub refused : (s : Script C M) (at before end : ℕ) (kind : TraceKind) → C ≤ WIDEST → M ≤ WIDEST → Walked version piece first line s at before → LineAt piece at end → at < length piece
+      → (end ≡ length piece → LONGEST_LINE ≤ end - at) → body_fault version C M (slice_range piece at end) ≡ Some kind
+      → (done more : List ℕ) → HasRead version done first line → IsFirstFault (done ++ piece ++ more) (before + 1) kind
+  refused s at before end kind client manager w l lt long fault done more r =
+      let b = slice_range piece at end in
+      let free = free_line piece at end l in
+      let all = later s at before w done more r in
+      elim (cases_eq end (length piece)) [
+        | inl e ↦
+            let rest : drop at piece ≡ b = last_line piece at end l e in
+            let enough : LONGEST_LINE ≤ length b = let size : length b ≡ length piece - at = ap length (sym rest) ∙ length-drop at piece in let much = long e in omega arith in
+            unended b free enough rest fault
+        | inr ne ↦
+            let inside : end < length piece = omega (arith, l.to, ne) in
+            first_fault (done ++ piece ++ more) before kind (map (later_fault version C M) (cut (drop (end + 1) piece ++ more)))
+            (all ∙ ap (λ (ls : List (List ℕ)). replicate before None ++ map (later_fault version C M) ls) (cut_here at end more l inside)
+            ∙ ap (λ (o : Option TraceKind). replicate before None ++ o ∷ map (later_fault version C M) (cut (drop (end + 1) piece ++ more))) (later_line version C M b free ∙ fault))
+      ]
+    where
+      unended : (b : List ℕ) → IsFree b → LONGEST_LINE ≤ length b → drop at piece ≡ b → body_fault version C M b ≡ Some kind → IsFirstFault (done ++ piece ++ more) (before + 1) kind
+      unended [] free enough rest is = absurd (omega arith)
+      unended (byte ∷ b) free enough rest is =
+          let starts = starts_line byte b more free in
+          first_fault (done ++ piece ++ more) before kind (map (later_fault version C M) starts.rest)
+          (later s at before w done more r ∙ ap (λ (xs : List ℕ). replicate before None ++ map (later_fault version C M) (cut (xs ++ more))) rest
+          ∙ ap (λ (ls : List (List ℕ)). replicate before None ++ map (later_fault version C M) ls) starts.cuts
+          ∙ ap (λ (o : Option TraceKind). replicate before None ++ o ∷ map (later_fault version C M) starts.rest) (long_fault version C M (byte ∷ b) starts.end kind client manager free enough is))
+
+  -- no line up to one that was read and not stored has a fault
+  pub unstored : (s : Script C M) (at before end : ℕ) (beat : Line) → Walked version piece first line s at before → LineAt piece at end → IsReadLine version C M (slice_range piece at end) beat → end < length piece
+      → (done more : List ℕ) → HasRead version done first line → IsReadableTo (done ++ piece ++ more) (before + 1)
+  unstored s at before end beat w l read lt done more r =
+      let b = slice_range piece at end in
+      let rest = map (later_fault version C M) (cut (drop (end + 1) piece ++ more)) in
+      let is : later_fault version C M (b ++ newline) ≡ None = later_line version C M b (free_line piece at end l) ∙ read.faultless in
+      let place = (w.read done r).place in
+      readable_to (done ++ piece ++ more) (before + 1) rest (omega arith)
+      (later s at before w done more r ∙ ap (λ (ls : List (List ℕ)). replicate before None ++ map (later_fault version C M) ls) (cut_here at end more l lt)
+      ∙ ap (λ (o : Option TraceKind). replicate before None ++ o ∷ rest) is ∙ one_more before rest)
+
+  -- a line that says a beat and is not left ends in the piece
+  pub ends_inside : (at end : ℕ) (beat : Line) → C ≤ WIDEST → M ≤ WIDEST → LineAt piece at end → at < length piece → (end ≡ length piece → LONGEST_LINE ≤ end - at)
+      → IsReadLine version C M (slice_range piece at end) beat → end < length piece
+  ends_inside at end beat client manager l lt long read = elim (cases_eq end (length piece)) [
+    | inl e ↦
+        let size : length (slice_range piece at end) ≡ length piece - at = ap length (sym (last_line piece at end l e)) ∙ length-drop at piece in
+        let short = says_short version C M beat (slice_range piece at end) client manager read.says in
+        let much = long e in
+        absurd (omega arith)
+    | inr ne ↦ omega (arith, l.to, ne)
+  ]
+
+-- the fault of what is left at the end of a text
+pub end_faulty : {C M : ℕ} (version : ℕ) (done rest : List ℕ) (s : Script C M) (line : ℕ) (kind : TraceKind) → HasRead version done s line → 0 < length rest → IsFree rest
+    → later_fault version C M rest ≡ Some kind → IsFirstFault (done ++ rest) (line + 1) kind
+end_faulty {C} {M} version done rest s line kind r lt free fault =
+    first_fault (done ++ rest) line kind [] (read_faults version done rest s line r
+    ∙ ap (λ (ls : List (List ℕ)). replicate line None ++ map (later_fault version C M) ls) (cut_whole rest lt free)
+    ∙ ap (λ (o : Option TraceKind). replicate line None ++ o ∷ []) fault)
+
+-- ---- a whole text
+
+pub header_line : (text : List ℕ) (end version client manager : ℕ) → LineAt text 0 end → end < length text → HasHeader text version client manager → IsHeaderLine (take (end + 1) text) version client manager
+header_line text end version client manager l lt named =
+    let b = slice_range text 0 end in
+    let size : (end + 1) - 0 ≡ end + 1 = omega arith in
+    let is : take (end + 1) text ≡ b ++ newline = ap (λ (n : ℕ). take n text) (sym size) ∙ line_more text 0 0 end (omega arith) l lt in
+    let first : body (take (end + 1) text) ≡ b = ap body is ∙ body_line b (free_line text 0 end l) in
+    record {
+      named = ap header_of (first ∙ sym (first_line text end l)) ∙ named;
+      whole = is ∙ ap (λ (xs : List ℕ). xs ++ newline) (sym first);
+    }
+
+module _ (text : List ℕ) (n : ℕ) (later : List ℕ) (is : later ≡ drop n text) where
+  front : take n text ++ later ≡ text
+  front = ap (λ (xs : List ℕ). take n text ++ xs) is ∙ take-append-drop n text
+
+  pub whole_text : take n text ++ later ++ [] ≡ text
+  whole_text = append-nil (take n text ++ later) ∙ front
+
+  module _ (used : ℕ) (rest : List ℕ) (left : rest ≡ drop used later) where
+    pub parted_text : take n text ++ take used later ++ rest ≡ text
+    parted_text =
+        append_assoc (take n text) (take used later) rest
+        ∙ ap (λ (xs : List ℕ). take n text ++ xs) (ap (λ (xs : List ℕ). take used later ++ xs) left ∙ take-append-drop used later) ∙ front
+
+    pub used_text : rest ≡ [] → take n text ++ take used later ≡ text
+    used_text none = sym (append-nil (take n text ++ take used later)) ∙ ap (λ (xs : List ℕ). take n text ++ take used later ++ xs) (sym none) ∙ parted_text
+
+pub tells_script : {C M : ℕ} (version : ℕ) (done text : List ℕ) (s : Script C M) (line : ℕ) → done ≡ text → HasRead version done s line → TellsScript version text s
+tells_script version done text s line same r = subst (λ t. TellsScript version t s) same (record { lines = r.lines; told = r.told; script = r.script })
+
+-- the version that is not the first
+pub version_2 : (version : ℕ) → is_version version ≡ true → version ≢ 1 → version ≡ 2
+version_2 version known other = pick (version == 1) refl (version == 2) refl known
+  where
+    pick : (one : Bool) → (version == 1) ≡ one → (two : Bool) → (version == 2) ≡ two → one || (two || false) ≡ true → version ≡ 2
+    pick true is two is' e = absurd (other (eqb-true version 1 is))
+    pick false is true is' e = eqb-true version 2 is'
+    pick false is false is' e = absurd cc

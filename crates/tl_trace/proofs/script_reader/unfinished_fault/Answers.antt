@@ -1,0 +1,14 @@
+use Rattle.std.proofs.Common.{◌≡◌, ◌∙◌, Option, Some, ap}
+use Rattle.tl_msg.specs.Firsts.{◌or_else◌}
+use Rattle.tl_trace.specs.declared.fault.TraceKind.{TraceKind}
+use Rattle.tl_trace.specs.declared.fault.TraceKind.TheVariants.{NoEnd}
+use Rattle.tl_trace.proofs.Walk.{later_last}
+use Rattle.tl_trace.proofs.script_reader.unfinished_fault.Goals as goal
+
+pub returns-in-Ok-clause-fault : goal.returns-in-Ok-clause-fault
+returns-in-Ok-clause-fault g c =
+    later_last g.row.VERSION g.row.C g.row.M c.args.rest.now c.requires.free ∙ ap (λ (o : Option TraceKind). o or_else Some NoEnd) c.in-Ok.ensures.ok.faultless
+
+pub returns-in-Err-clause-fault : goal.returns-in-Err-clause-fault
+returns-in-Err-clause-fault g c =
+    later_last g.row.VERSION g.row.C g.row.M c.args.rest.now c.requires.free ∙ ap (λ (o : Option TraceKind). o or_else Some NoEnd) c.in-Err.ensures.err
