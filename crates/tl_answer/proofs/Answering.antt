@@ -54,6 +54,17 @@ module _ (version C M : ℕ) (lines : List Line) where
     answers-text outcome h (Ok answer) text-is done-is = is-answer false _ _ (answers outcome h _ text-is _ done-is)
     answers-text outcome h (Err fault) text-is done-is = tt
 
+    -- and of what `sync_answer_of` gives
+    pub settled-text : (bs : Beats C M) → bs ≡ near C M lines → (given : Result Answer TextFault) →
+        IfOk given (λ answer. answer.text.items ≡ far_header version C M ++ far_lines version (far_beats bs) ++ report (verdicts bs)) →
+        IfOk given (λ answer. answer.all_done ≡ list_all is_done (in_order (verdicts bs))) →
+        IfOk given (λ answer. IsAnswer text false answer.text.items answer.all_done)
+    settled-text bs same (Ok answer) text-is done-is = is-answer false _ _ (record {
+      answered = text-is ∙ ap (λ q. far_header version C M ++ far_lines version (far_beats q) ++ report (verdicts q)) same;
+      all_done = done-is ∙ ap (λ q. list_all is_done (in_order (verdicts q))) same;
+    })
+    settled-text bs same (Err fault) text-is done-is = tt
+
     -- and of what `check_script` gives
     pub checks-text : (bs : Beats C M) → bs ≡ near C M lines → (given : Result Answer TextFault) →
         IfOk given (λ answer. answer.text.items ≡ far_header version C M ++ report (verdicts bs)) →

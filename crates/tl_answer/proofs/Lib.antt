@@ -1,4 +1,5 @@
 mod Rows
+mod FarTexts
 pub mod Lengths
 pub mod Answering
 pub mod Reading

@@ -1,3 +1,4 @@
 pub mod Filling
 pub mod Lines
 pub mod Answered
+pub mod FarTexts

@@ -2,5 +2,5 @@ pub mod Answer
 pub mod Faults
 pub mod Texts
 pub mod Inputs
-pub mod Inner
 pub mod Statuses
+pub mod Inner

@@ -15,10 +15,11 @@ use crate::at_width;
 use crate::fault::TextFault;
 use crate::input::Input;
 use crate::later_lines::script_of_input;
+use crate::sync_answer::sync_answer_of;
 use std::alloc::{AllocError, Global};
 use std::io::Read;
 use std::thread::Threads;
-use tl_bridge::{NoGate, Outcome, RunFault, run_sync, run_threads};
+use tl_bridge::{NoGate, Outcome, RunFault, run_threads};
 use tl_check::verdicts_of;
 use tl_msg::{ChA, ChB, ChC, ChD, ChE, Verdict};
 use tl_order::Order;
@@ -34,7 +35,12 @@ pub struct Answer {
 }
 
 /// The first line of an answer.
-fn header(alloc: Global, version: u8, client: usize, manager: usize) -> Result<Vec<u8>, AllocError>
+pub(crate) fn header(
+    alloc: Global,
+    version: u8,
+    client: usize,
+    manager: usize,
+) -> Result<Vec<u8>, AllocError>
     ensures { IfOk result (λ text. text.items ≡ far_header version client manager) }
 {
     let line = format!(in alloc; "tilelink-far {version} client {client} manager {manager}\n")?;
@@ -80,7 +86,7 @@ fn are_done(verdicts: &[Verdict; 5]) -> bool
         .all(|verdict| matches!(verdict, Verdict::Done { .. }))
 }
 
-/// The run of a script that the order asks for: in one thread, or with each side in its own.
+/// The run of a script with each side in a thread of its own, as the order has it.
 fn run_script<T: Threads, const C: usize, const M: usize>(
     rt: &T,
     alloc: Global,
@@ -95,11 +101,8 @@ fn run_script<T: Threads, const C: usize, const M: usize>(
     ensures ring_size { IfErr result (λ fault. fault ≢ RingSize) }
     ensures never_stalled { IfErr result (λ fault. fault ≢ Stalled) }
 {
-    let ring = order.ring();
-    if order.is_sync() {
-        return run_sync::<C, M>(alloc, script, ring);
-    }
     let (client_gate, manager_gate) = (&mut NoGate, &mut NoGate);
+    let ring = order.ring();
     let turns = order.turns();
     run_threads::<T, NoGate, NoGate, C, M>(
         rt,
@@ -135,7 +138,7 @@ fn outcome_of<T: Threads, const C: usize, const M: usize>(
 }
 
 /// The answer whose lines before the five reports are these.
-fn reported(text: Vec<u8>, verdicts: &[Verdict; 5]) -> Result<Answer, TextFault>
+pub(crate) fn reported(text: Vec<u8>, verdicts: &[Verdict; 5]) -> Result<Answer, TextFault>
     ensures text { (v : Verdicts) → verdicts.now ≡ in_order v → IfOk result (λ made.
         made.text.items ≡ text.items ++ report v) }
     ensures done { IfOk result (λ made. made.all_done ≡ list_all is_done verdicts.now) }
@@ -232,6 +235,9 @@ fn with_widths<T: Threads, R: Read, const C: usize, const M: usize>(
     };
     if order.is_check() {
         return check_script::<C, M>(alloc, &script, version);
+    }
+    if order.is_sync() {
+        return sync_answer_of::<C, M>(alloc, &script, version, order.ring());
     }
     let outcome = match outcome_of::<T, C, M>(rt, alloc, &script, order) {
         Ok(outcome) => outcome,

@@ -3,6 +3,7 @@
 #![tactic(auto)]
 
 mod answer;
+mod far_text;
 mod fault;
 mod input;
 mod later_lines;

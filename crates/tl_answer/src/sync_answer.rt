@@ -1,16 +1,21 @@
 //! The answer to a text that the caller keeps, with both sides of the bridge in one thread.
-ghost use Rattle.std.specs.Prelude.{◌≡◌, ◌≤◌, length, Some, IfOk, IfErr};
+ghost use Rattle.std.specs.Prelude.{◌≡◌, ◌≤◌, ◌++◌, length, Some, IfOk, IfErr};
 ghost use Rattle.tl_lanes.specs.Lanes.{IsWidth};
-ghost use Rattle.tl_bridge.specs.Scripts.{HasShortLists, SettlesTo};
+ghost use Rattle.std.specs.List.{list_all};
+ghost use Rattle.tl_ring.specs.declared.pipe.TheConstants.{MAX_RING};
+ghost use Rattle.tl_settle.specs.Outcomes.{far_beats, verdicts};
+ghost use Rattle.tl_bridge.specs.Scripts.{HasShortLists, SettlesTo, near_beats};
+ghost use Rattle.tl_answer.specs.Answer.{far_header, far_lines, report, in_order, is_done};
 ghost use Rattle.tl_trace.specs.Faults.{HasHeader};
 ghost use Rattle.tl_answer.specs.Texts.{IsAnswer, IsOfText, most_bytes};
 ghost use Rattle.tl_answer.specs.declared.fault.TextFault.TheVariants.{OutOfMemory as NoMemory};
 
-use crate::answer::{Answer, answer_of, check_script};
+use crate::answer::{Answer, check_script, reported};
 use crate::at_width;
+use crate::far_text::FarTexts;
 use crate::fault::TextFault;
 use std::alloc::Global;
-use tl_bridge::{Outcome, RunFault, run_sync};
+use tl_bridge::{Outcome, RunFault, run_sync, run_sync_into};
 use tl_trace::{Script, TraceFault, TraceKind, header_of_text, read_script};
 
 /// How many beats a ring holds: no answer depends on it.
@@ -35,8 +40,40 @@ pub fn outcome_of<const C: usize, const M: usize>(
     }
 }
 
-/// The answer to a text whose header names this version and these widths. The script is let go
-/// before the answer is made.
+/// The answer to a script by a run in one thread with rings of `ring` beats, which writes the lines
+/// of the far beats as they are taken: the version of the trace and the widths, the far beats, and
+/// the five report lines. Refused with `OutOfMemory` alone.
+pub(crate) fn sync_answer_of<const C: usize, const M: usize>(
+    alloc: Global,
+    script: &Script<C, M>,
+    version: u8,
+    ring: usize,
+) -> Result<Answer, TextFault>
+    requires client { IsWidth C }
+    requires manager { IsWidth M }
+    requires short { HasShortLists script.now }
+    requires ring { (1 ≤ ring) × (ring ≤ MAX_RING) }
+    ensures text { IfOk result (λ made. made.text.items ≡ far_header version C M
+        ++ far_lines version (far_beats (near_beats script.now))
+        ++ report (verdicts (near_beats script.now))) }
+    ensures done { IfOk result (λ made. made.all_done
+        ≡ list_all is_done (in_order (verdicts (near_beats script.now)))) }
+    ensures err { IfErr result (λ fault. fault ≡ NoMemory) }
+{
+    let Ok(mut far) = FarTexts::<C, M>::new(alloc, version) else {
+        return Err(TextFault::OutOfMemory);
+    };
+    let ending = match run_sync_into::<FarTexts<C, M>, C, M>(alloc, script, ring, &mut far) {
+        Ok(ending) => ending,
+        Err(RunFault::OutOfMemory) => return Err(TextFault::OutOfMemory),
+        Err(RunFault::Stalled) => unreachable!(),
+        Err(RunFault::RingSize) => unreachable!(),
+    };
+    let text = far.into_text()?;
+    reported(text, &ending.verdicts)
+}
+
+/// The answer to a text whose header names this version and these widths.
 fn with_widths<const C: usize, const M: usize>(
     alloc: Global,
     text: &[u8],
@@ -57,12 +94,7 @@ fn with_widths<const C: usize, const M: usize>(
     if check {
         return check_script::<C, M>(alloc, &script, version);
     }
-    let outcome = match outcome_of::<C, M>(alloc, &script) {
-        Ok(outcome) => outcome,
-        Err(fault) => return Err(fault),
-    };
-    drop(script);
-    answer_of(alloc, &outcome, version)
+    sync_answer_of::<C, M>(alloc, &script, version, RING)
 }
 
 /// The same, for a client of `C` bytes: the manager's width is one of eight.

@@ -1,10 +1,11 @@
 -- A side takes all that stands in an inbox, one beat after another.
-use Rattle.std.proofs.Common.{subst, ◌≡◌, ℕ, ◌+◌, ◌≤◌, ◌<◌, None, Some, List, [], ◌∷◌, ◌++◌, length, take, drop, map, Vec, Global, vec_len, vec_capacity, refl, sym, ap, ◌∙◌, append-nil, append_assoc, get_or, arith}
+use Rattle.std.proofs.Common.{subst, ◌≡◌, ℕ, ◌+◌, ◌<◌, None, Some, List, [], ◌∷◌, ◌++◌, length, take, drop, map, refl, sym, ap, ◌∙◌, get_or}
 use Rattle.std.proofs.lemmas.List.{take_more}
 use Rattle.std.specs.Prelude.{slice_get}
 use Rattle.tl_msg.specs.Tables.{rules_a, rules_b, rules_c, rules_d, rules_e}
 use Rattle.tl_msg.specs.declared.head.HeadA.{HeadA}
 use Rattle.tl_msg.specs.declared.head.HeadD.{HeadD}
+use Rattle.tl_msg.specs.declared.beat.BeatOf.{BeatOf}
 use Rattle.tl_ring.specs.Crossing.{World}
 use Rattle.tl_sides.specs.Books.{Client, Manager, KnowsClient, KnowsManager}
 use Rattle.tl_bridge.specs.Inner.Taking.{HasNoted}
@@ -31,46 +32,21 @@ no-first (x ∷ bs) e = cc
 pub next-taken : {B : Type 0} (bs : List B) (i : ℕ) (b : B) → i < length bs → b ≡ get_or bs i b → take (i + 1) bs ≡ take i bs ++ b ∷ []
 next-taken bs i b lt is = take_more bs i b lt ∙ ap (λ y. take i bs ++ y ∷ []) (sym is)
 
--- What holds while the beats of an inbox are put behind those of a list, of which i are there
-module _ {B : Type 0} (before : Vec B Global) (bs : List B) where
-  pub record IsTaking (i : ℕ) (far : Vec B Global) : Type 0 where
-    pub items : far.items ≡ before.items ++ take i bs
-    pub len : vec_len far ≡ vec_len before + i
-    pub capacity : vec_capacity far ≡ vec_capacity before
-
-  -- at first
-  pub taking-begins : IsTaking 0 before
-  taking-begins = record { items = sym (append-nil before.items); len = omega arith; capacity = refl }
-
-  module _ (i : ℕ) (far : Vec B Global) (t : IsTaking i far) where
-    -- there is room for one beat more
-    pub taking-room : i < length bs → vec_len before + length bs ≤ vec_capacity before → vec_len far < vec_capacity far
-    taking-room lt room = let len = t.len in let capacity = t.capacity in omega arith
-
-    -- it is put there
-    pub taking-goes-on : (b : B) (more : Vec B Global) → i < length bs → b ≡ get_or bs i b → more.items ≡ far.items ++ b ∷ [] →
-        vec_len more ≡ vec_len far + 1 → vec_capacity more ≡ vec_capacity far → IsTaking (i + 1) more
-    taking-goes-on b more lt is items len capacity = record {
-      items = items ∙ ap (λ q. q ++ b ∷ []) t.items ∙ append_assoc before.items (take i bs) (b ∷ []) ∙ ap (λ q. before.items ++ q) (sym (next-taken bs i b lt is));
-      len = let had = t.len in omega arith;
-      capacity = capacity ∙ t.capacity;
-    }
-
 -- a side whose book has noted all that stood in an inbox, where all of it was taken from the pipe, knows it as history
 pub asked-by : {C M : ℕ} {book book' : Manager} {pipe : Pipe HeadA M} (pipe' : Pipe HeadA M) {es : List (Event M)} {x : World HeadA C M} → ManagerIsAsked book pipe es x →
-    HasNoted KnowsManager Ask book pipe.inbox book' → (piping.StandsFor rules_a pipe x → piping.StandsFor rules_a pipe' (emptied x)) →
+    (bs : List (BeatOf HeadA M)) → bs ≡ pipe.inbox → HasNoted KnowsManager Ask book bs book' → (piping.StandsFor rules_a pipe x → piping.StandsFor rules_a pipe' (emptied x)) →
     ManagerIsAsked book' pipe' (es ++ map Ask x.inbox) (emptied x)
-asked-by {book' = book'} pipe' {es = es} {x = x} h noted taken = record {
-  knows = subst (λ q. KnowsManager book' (es ++ map Ask q)) h.stands.inbox (noted es h.knows);
+asked-by {book' = book'} pipe' {es = es} {x = x} h bs are noted taken = record {
+  knows = subst (λ q. KnowsManager book' (es ++ map Ask q)) (are ∙ h.stands.inbox) (noted es h.knows);
   stands = taken h.stands;
   same = asked-all es x.inbox ∙ ap (λ q. q ++ x.inbox) h.same;
 }
 
 pub answered-by : {C M : ℕ} {book book' : Client} {pipe : Pipe HeadD C} (pipe' : Pipe HeadD C) {es : List (Event C)} {x : World HeadD M C} → ClientIsAnswered book pipe es x →
-    HasNoted KnowsClient Answer book pipe.inbox book' → (piping.StandsFor rules_d pipe x → piping.StandsFor rules_d pipe' (emptied x)) →
+    (bs : List (BeatOf HeadD C)) → bs ≡ pipe.inbox → HasNoted KnowsClient Answer book bs book' → (piping.StandsFor rules_d pipe x → piping.StandsFor rules_d pipe' (emptied x)) →
     ClientIsAnswered book' pipe' (es ++ map Answer x.inbox) (emptied x)
-answered-by {book' = book'} pipe' {es = es} {x = x} h noted taken = record {
-  knows = subst (λ q. KnowsClient book' (es ++ map Answer q)) h.stands.inbox (noted es h.knows);
+answered-by {book' = book'} pipe' {es = es} {x = x} h bs are noted taken = record {
+  knows = subst (λ q. KnowsClient book' (es ++ map Answer q)) (are ∙ h.stands.inbox) (noted es h.knows);
   stands = taken h.stands;
   same = answered-all es x.inbox ∙ ap (λ q. q ++ x.inbox) h.same;
 }

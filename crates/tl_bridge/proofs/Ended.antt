@@ -13,10 +13,11 @@ use Rattle.tl_ring.specs.declared.standing.Standing.{Standing}
 use Rattle.tl_settle.specs.Rounds as rounds
 use Rattle.tl_settle.specs.Outcomes.{Beats}
 use Rattle.tl_sides.specs.Bridges.{Bridge, Past, StandsFor, IsStanding, nothing_yet}
+use Rattle.tl_bridge.specs.Arrivals.{joined, no_beats}
 use Rattle.tl_bridge.specs.Scripts.{IsShort}
 use Rattle.tl_bridge.specs.Inner.Arriving.{HasRoom, HasRoomFor, KeepsRoom}
 use Rattle.tl_bridge.specs.declared.taken.Taken.{Taken}
-use Rattle.tl_bridge.specs.Inner.Running.{IsSent, AreStopped, IsNew, IsUnderWay, progress, under_way, counted, all_progress, all_under_way, standing_count, all_standing, all_stopped, no_beats, IsAt, AllStop, HasRound, HasEnded}
+use Rattle.tl_bridge.specs.Inner.Running.{IsSent, AreStopped, IsNew, IsUnderWay, progress, under_way, counted, all_progress, all_under_way, standing_count, all_standing, all_stopped, IsRunning, CanAdd, arriving, inboxes, lengths, IsAt, AllStop, HasRound, HasEnded}
 use Rattle.tl_bridge.specs.declared.channel_state.Offered.{Offered}
 use Rattle.tl_bridge.specs.declared.channel_state.Stop.{Stop}
 use Rattle.tl_sides.specs.declared.per_channel.PerChannel.{PerChannel}
@@ -26,13 +27,16 @@ use Rattle.tl_bridge.proofs.DueBounds.{most-a, most-b, most-c, most-d, most-e}
 
 -- ---- how far a run has come
 
--- how far a channel has come, where so many beats were accepted and these were taken
-abbrev pub progress_in : {H : Type 0} {v : ℕ} → ℕ → List (BeatOf H v) → Pipe H v → ℕ
-progress_in n far p = n + (length far + length p.inbox + length p.ring) + (length far + length p.inbox)
+-- how far a channel has come, where so many beats were accepted and so many taken
+abbrev pub progress_in : {H : Type 0} {v : ℕ} → ℕ → ℕ → Pipe H v → ℕ
+progress_in n taken p = n + (taken + length p.inbox + length p.ring) + (taken + length p.inbox)
 
--- how far all five have come
+-- how far all five have come, where so many were taken, or these
+abbrev pub progress_by : {C M : ℕ} → (n taken : PerChannel ℕ) → Bridge C M → ℕ
+progress_by n taken s = progress_in n.a taken.a s.a + progress_in n.b taken.b s.b + progress_in n.c taken.c s.c + progress_in n.d taken.d s.d + progress_in n.e taken.e s.e
+
 abbrev pub progress_here : {C M : ℕ} → PerChannel ℕ → Beats M C → Bridge C M → ℕ
-progress_here n far s = progress_in n.a far.a s.a + progress_in n.b far.b s.b + progress_in n.c far.c s.c + progress_in n.d far.d s.d + progress_in n.e far.e s.e
+progress_here n far s = progress_by n (lengths far) s
 
 -- how far a channel comes at most
 abbrev pub progress_end : {H : Type 0} (r : Rules H) {w : ℕ} (v : ℕ) → List (BeatOf H w) → ℕ
@@ -40,7 +44,7 @@ progress_end r {w = w} v bs = length bs + 2 * length (due r w v (accepted_of r b
 
 -- it is how far its crossing has come
 progress-in-is : {H : Type 0} (r : Rules H) {w v : ℕ} (bs : List (BeatOf H w)) (n : ℕ) (far : List (BeatOf H v)) (p : Pipe H v) (x : World H w v) →
-    piping.StandsFor r p x → IsSent r bs n far x → progress_in n far p ≡ progress n x
+    piping.StandsFor r p x → IsSent r bs n far x → progress_in n (length far) p ≡ progress n x
 progress-in-is r bs n far p x s i = rw (i.taken, s.inbox, s.ring) refl
 
 -- five numbers that are bounded
@@ -90,6 +94,25 @@ module _ {C M : ℕ} (near : Beats C M) where
           (f + 2 * k) + (g + 2 * l) + (h + 2 * m) + (i + 2 * n) + (j + 2 * o) < 2 ^ 60
       bounded f g h i j k l m n o p q r t u x y z w v = omega arith
 
+  -- and so what stands in the inboxes can be counted
+  pub can-add : IsWidth C → IsWidth M → IsShort near → (n : PerChannel ℕ) (far : Beats M C) (s : Bridge C M) (x : Past C M) → StandsFor s x → IsAt near n far x →
+      CanAdd (lengths far) (lengths (inboxes s))
+  can-add cw mw short n far s x f i =
+      let few = each-few _ _ _ _ _ _ (progress-ends cw mw n far s x f i) (end-few cw mw short) in
+      record {
+        a = part-few n.a (length far.a) (length s.a.inbox) (length s.a.ring) few.0;
+        b = part-few n.b (length far.b) (length s.b.inbox) (length s.b.ring) few.1;
+        c = part-few n.c (length far.c) (length s.c.inbox) (length s.c.ring) few.2;
+        d = part-few n.d (length far.d) (length s.d.inbox) (length s.d.ring) few.3;
+        e = part-few n.e (length far.e) (length s.e.inbox) (length s.e.ring) few.4;
+      }
+    where
+      each-few : (p q r t u most : ℕ) → p + q + r + t + u ≤ most → most < 2 ^ 60 → (p < 2 ^ 60) × (q < 2 ^ 60) × (r < 2 ^ 60) × (t < 2 ^ 60) × (u < 2 ^ 60)
+      each-few p q r t u most l m = (omega arith, omega arith, omega arith, omega arith, omega arith)
+
+      part-few : (n taken inbox ring : ℕ) → n + (taken + inbox + ring) + (taken + inbox) < 2 ^ 60 → taken + inbox < 2 ^ 60
+      part-few n taken inbox ring l = omega arith
+
   -- ---- a round
 
   module _ (n : PerChannel ℕ) (far far' : Beats M C) (s t : Bridge C M) (x : Past C M) (o : PerChannel Offered) (f : StandsFor s x) (i : IsAt near n far x)
@@ -118,6 +141,61 @@ module _ {C M : ℕ} (near : Beats C M) where
       where
         counts : {k l m : ℕ} → k ≤ l → l ≤ m → k + 1 ≤ m + 1
         counts g l = omega arith
+
+  -- a run is under way after a round
+  pub under-way-after : (n m : PerChannel ℕ) (far' : Beats M C) (x : Past C M) (t : Bridge C M) (o : PerChannel Offered) → m ≡ counted n o →
+      HasRound near n far' x t o → IsUnderWay near m far' t
+  under-way-after n m far' x t o same h =
+      subst (λ k. IsUnderWay near k far' t) (sym same) (record { past = h.past; stands = h.stands; is_at = h.is_at })
+
+  -- ---- the same, where what was taken went elsewhere and was counted
+
+  module _ {F : Type 0} (Holds : F → Beats M C → Type 0) (n taken : PerChannel ℕ) (far : F) (s : Bridge C M) (r : IsRunning Holds near n taken far s) where
+    -- it comes no further than that
+    pub running-ends : IsWidth C → IsWidth M → progress_by n taken s ≤ run_end
+    running-ends cw mw = subst (λ t. progress_by n t s ≤ run_end) (sym r.counts) (progress-ends cw mw n r.all s r.under_way.past r.under_way.stands r.under_way.is_at)
+
+    -- a round that answered so
+    module _ (m taken' : PerChannel ℕ) (far' : F) (t : Bridge C M) (o : PerChannel Offered) (same : m ≡ counted n o)
+        (rounds : (x : Past C M) (all : Beats M C) → StandsFor s x → IsAt near n all x → HasRound near n (joined all (arriving x)) x t o)
+        (goes : (x : Past C M) (all : Beats M C) → StandsFor s x → Holds far all → Holds far' (joined all (arriving x)))
+        (counts : (x : Past C M) (all : Beats M C) → StandsFor s x → taken ≡ lengths all → taken' ≡ lengths (joined all (arriving x))) where
+      -- what was taken until then
+      abbrev pub all-taken : Beats M C
+      all-taken = joined r.all (arriving r.under_way.past)
+
+      pub round-is : HasRound near n all-taken r.under_way.past t o
+      round-is = rounds r.under_way.past r.all r.under_way.stands r.under_way.is_at
+
+      pub holds-all : Holds far' all-taken
+      holds-all = goes r.under_way.past r.all r.under_way.stands r.holds
+
+      pub counts-all : taken' ≡ lengths all-taken
+      counts-all = counts r.under_way.past r.all r.under_way.stands r.counts
+
+      -- where the run stands then
+      pub running-on : IsRunning Holds near m taken' far' t
+      running-on = record {
+        all = all-taken;
+        holds = holds-all;
+        counts = counts-all;
+        under_way = under-way-after n m all-taken r.under_way.past t o same round-is;
+      }
+
+      -- it is not the last one
+      pub running-further : (AreStopped o → all_under_way round-is.past ≡ 0 → ⊥) → progress_by n taken s + 1 ≤ progress_by m taken' t
+      running-further on =
+          subst (λ k. progress_by n k s + 1 ≤ progress_by m taken' t) (sym r.counts)
+          (subst (λ k. progress_here n r.all s + 1 ≤ progress_by m k t) (sym counts-all)
+          (subst (λ k. progress_here n r.all s + 1 ≤ progress_here k all-taken t) (sym same)
+          (further n r.all all-taken s t r.under_way.past o r.under_way.stands r.under_way.is_at round-is on)))
+
+      -- or it is
+      pub running-ended : (k : ℕ) → k ≤ progress_by n taken s → (stops : PerChannel Stop) → o ≡ all_stopped stops → all_under_way round-is.past ≡ 0 →
+          HasEnded near m all-taken t stops (k + 1)
+      running-ended k few stops stopped rest =
+          subst (λ q. HasEnded near q all-taken t stops (k + 1)) (sym same)
+          (ended n r.all all-taken s t r.under_way.past o r.under_way.stands r.under_way.is_at round-is k (subst (λ q. k ≤ progress_by n q s) r.counts few) stops stopped rest)
 
   -- ---- the first round
 
@@ -165,9 +243,3 @@ module _ {C M : ℕ} (near : Beats C M) where
     in_d = subst (λ q. HasRoom rules_d C near.d q) (sym k.d) h.in_d;
     in_e = subst (λ q. HasRoom rules_e M near.e q) (sym k.e) h.in_e;
   }
-
-  -- and it is under way after a round
-  pub under-way-after : (n m : PerChannel ℕ) (far' : Beats M C) (x : Past C M) (t : Bridge C M) (o : PerChannel Offered) → m ≡ counted n o →
-      HasRound near n far' x t o → IsUnderWay near m far' t
-  under-way-after n m far' x t o same h =
-      subst (λ k. IsUnderWay near k far' t) (sym same) (record { past = h.past; stands = h.stands; is_at = h.is_at })

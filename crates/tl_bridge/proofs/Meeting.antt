@@ -18,9 +18,10 @@ use Rattle.tl_sides.specs.Bridges.{StandsFor}
 use Rattle.tl_sides.specs.declared.per_channel.PerChannel.{PerChannel}
 use Rattle.tl_pair.specs.Ends.{AreStanding}
 use Rattle.tl_pair.specs.Sides.{ClientState, ManagerState, ClientPast, ManagerPast, ClientStandsFor, ManagerStandsFor, AreSides, SidesMeet, new_client, new_manager}
+use Rattle.tl_bridge.specs.Arrivals.{no_beats}
 use Rattle.tl_bridge.specs.Scripts.{IsShort}
 use Rattle.tl_bridge.specs.Inner.Arriving.{HasRoomFor, HasRoomForInboxes, beats_of, taken_of}
-use Rattle.tl_bridge.specs.Inner.Running.{AllStop, AreStopped, HasEnded, HaveRoomToCount, all_progress, all_standing, all_stopped, all_under_way, no_beats, progress, standing_count, under_way}
+use Rattle.tl_bridge.specs.Inner.Running.{AllStop, AreStopped, HasEnded, HaveRoomToCount, all_progress, all_standing, all_stopped, all_under_way, progress, standing_count, under_way}
 use Rattle.tl_bridge.specs.Inner.Sides.{ClientIsAt, ManagerIsAt, ClientMayPlay, ManagerMayPlay, ClientHasPlayed, ManagerHasPlayed, ClientRests, ManagerRests, HasMet, HasPlayed, AreNew, bridge_of, met_progress, none_ready, past_of, pipe_of}
 use Rattle.tl_bridge.specs.declared.channel_state.Stop.{Stop}
 use Rattle.tl_bridge.specs.declared.client_turns.ClientRun.{ClientRun}

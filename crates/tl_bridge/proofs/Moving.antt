@@ -1,7 +1,6 @@
 -- All rings move on: staged beats go in, and beats come out, as many as there is room for.
-use Rattle.std.proofs.Common.{◌-◌, ◌++◌, ℕ, length, min}
+use Rattle.std.proofs.Common.{◌-◌, ℕ, length, min}
 use Rattle.tl_ring.specs.Crossing.{World, pushed, popped, inbox_room}
-use Rattle.tl_settle.specs.Outcomes.{Beats}
 use Rattle.tl_sides.specs.Bridges.{Past}
 
 module _ {H : Type 0} {w v : ℕ} where
@@ -23,13 +22,3 @@ module _ {C M : ℕ} where
   -- all rings move on
   abbrev pub after_moves : Past C M → Past C M
   after_moves x = record x { a = moved x.a; b = moved x.b; c = moved x.c; d = moved x.d; e = moved x.e }
-
-  -- the beats that were taken, and behind them all that stands in the inboxes
-  abbrev pub with_inboxes : Beats M C → Past C M → Beats M C
-  with_inboxes far x = record {
-    a = far.a ++ x.a.inbox;
-    b = far.b ++ x.b.inbox;
-    c = far.c ++ x.c.inbox;
-    d = far.d ++ x.d.inbox;
-    e = far.e ++ x.e.inbox;
-  }

@@ -1,5 +1,5 @@
 -- A round of a run: what the five channels do in it together.
-use Rattle.std.proofs.Common.{◌≡◌, ◌+◌, ◌++◌, ◌≤◌, ◌⊎◌, ℕ, Option, None, Some, List, [], length, map, refl, sym, ap, subst, ◌∙◌, arith, append-nil, inl, inr}
+use Rattle.std.proofs.Common.{◌≡◌, ◌+◌, ◌++◌, ◌≤◌, ◌⊎◌, ℕ, Option, None, Some, List, [], length, map, refl, sym, ap, subst, ◌∙◌, arith, append-nil, length-append, inl, inr}
 use Rattle.std.specs.Option.{option_map_or}
 use Rattle.tl_lanes.specs.Lanes.{IsWidth}
 use Rattle.tl_msg.specs.Rules.{Rules}
@@ -21,11 +21,12 @@ use Rattle.tl_settle.specs.Outcomes.{Beats}
 use Rattle.tl_sides.specs.Bridges.{Bridge, Past, StandsFor, pump_count, fetch_count, after_pump, after_fetch}
 use Rattle.tl_sides.specs.Crossings.{stops_alone}
 use Rattle.tl_sides.proofs.BridgeSteps.{asked_answers, answered_asks}
+use Rattle.tl_bridge.specs.Arrivals.{joined}
 use Rattle.tl_bridge.specs.Scripts.{IsShort}
-use Rattle.tl_bridge.specs.Inner.Arriving.{HasRoom, HasRoomFor, HasRoomForInboxes, HasTaken, beats_of as taken_beats}
+use Rattle.tl_bridge.specs.Inner.Arriving.{HasRoom, HasRoomFor, HasRoomForInboxes, beats_of as taken_beats}
 use Rattle.tl_bridge.specs.declared.taken.Taken.{Taken}
-use Rattle.tl_bridge.proofs.Moving.{moved, push_count, pop_count, after_moves, with_inboxes}
-use Rattle.tl_bridge.specs.Inner.Running.{HaveRoomToCount, Does, Stops, IsSent, IsStopped, AreStopped, steps, emptied, after_takes, counted, all_progress, all_under_way, HasOffered, IsAt, AllStop, HasRound}
+use Rattle.tl_bridge.proofs.Moving.{moved, push_count, pop_count, after_moves}
+use Rattle.tl_bridge.specs.Inner.Running.{HaveRoomToCount, added, arriving, inboxes, lengths, Does, Stops, IsSent, IsStopped, AreStopped, steps, emptied, after_takes, counted, all_progress, all_under_way, HasOffered, IsAt, AllStop, HasRound}
 use Rattle.tl_bridge.specs.declared.channel_state.Stop.TheVariants.{Done, Cut, Refused}
 use Rattle.tl_bridge.specs.declared.channel_state.Offered.{Offered}
 use Rattle.tl_bridge.specs.declared.channel_state.Offered.TheVariants.{Accepted, NotReady, Stopped}
@@ -128,7 +129,7 @@ manager-own es b e = own-none (fault_after rules_d (answered es) b) _ e
 module _ {C M : ℕ} (cw : IsWidth C) (mw : IsWidth M) (near : Beats C M) (n : PerChannel ℕ) (far : Beats M C) (x : Past C M) (s t : Bridge C M) (o : PerChannel Offered) (stands : StandsFor s x) (i : IsAt near n far x)
     (h : HasOffered near n (after_takes x) t o) where
   -- where the run stands after the round
-  pub at-round : IsAt near (counted n o) (with_inboxes far x) (after_moves h.past)
+  pub at-round : IsAt near (counted n o) (joined far (arriving x)) (after_moves h.past)
   at-round = record {
     run = subst (λ q. Run near.a near.d (n.a + steps o.a) (n.d + steps o.d) q h.past.manager) (sym h.client)
         (subst (λ q. Run near.a near.d (n.a + steps o.a) (n.d + steps o.d) ((x.client ++ map Answer x.d.inbox) ++ map Ask h.beats_a) q) (sym h.manager)
@@ -182,7 +183,7 @@ module _ {C M : ℕ} (cw : IsWidth C) (mw : IsWidth M) (near : Beats C M) (n : P
       (progress-round rules_e near.e n.e (stops_alone rules_e x.e.accepted) (λ _. 0) far.e x.e o.e h.beats_e h.past.e i.e_sent h.does_e)
 
   -- the round
-  pub has-round : (far' : Beats M C) (u : Bridge C M) → far' ≡ with_inboxes far x → StandsFor u (after_moves h.past) → HasRound near n far' x u o
+  pub has-round : (far' : Beats M C) (u : Bridge C M) → far' ≡ joined far (arriving x) → StandsFor u (after_moves h.past) → HasRound near n far' x u o
   has-round far' u same there = record {
     past = after_moves h.past;
     stands = there;
@@ -228,7 +229,14 @@ module _ {C M : ℕ} (cw : IsWidth C) (mw : IsWidth M) (near : Beats C M) (n : P
     e = few-enough i.e_sent.most short.few_e;
   }
 
-  -- what was taken stands behind what was taken before
-  pub taken-is : (s : Bridge C M) (old new : Taken C M) (x : Past C M) → StandsFor s x → HasTaken s old new → taken_beats new ≡ with_inboxes (taken_beats old) x
-  taken-is s old new x stands t =
-      rw (t.a, t.b, t.c, t.d, t.e, stands.a.inbox, stands.b.inbox, stands.c.inbox, stands.d.inbox, stands.e.inbox) refl
+-- ---- what was taken
+
+module _ {C M : ℕ} where
+  -- what stands in the inboxes is what arrives
+  pub inboxes-are : (s : Bridge C M) (x : Past C M) → StandsFor s x → inboxes s ≡ arriving x
+  inboxes-are s x stands = rw (stands.a.inbox, stands.b.inbox, stands.c.inbox, stands.d.inbox, stands.e.inbox) refl
+
+  -- the beats of two lists are as many as those of both
+  pub joined-lengths : (bs cs : Beats M C) → added (lengths bs) (lengths cs) ≡ lengths (joined bs cs)
+  joined-lengths bs cs =
+      rw (length-append bs.a cs.a, length-append bs.b cs.b, length-append bs.c cs.c, length-append bs.d cs.d, length-append bs.e cs.e) refl

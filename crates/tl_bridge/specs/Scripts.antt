@@ -5,6 +5,7 @@ use Rattle.tl_convert.specs.Accepted.{accepted_of}
 use Rattle.tl_settle.specs.Settling.{settled_state}
 use Rattle.tl_settle.specs.Outcomes.{Beats, far_beats, verdicts}
 use Rattle.tl_trace.specs.declared.script.Script.{Script}
+use Rattle.tl_bridge.specs.declared.outcome.Ending.{Ending}
 use Rattle.tl_bridge.specs.declared.outcome.Outcome.{Outcome}
 
 module _ {C M : ℕ} (near : Beats C M) where
@@ -26,6 +27,11 @@ module _ {C M : ℕ} (near : Beats C M) where
   abbrev pub far_count : ℕ
   far_count =
       let far = far_beats near in length far.a + length far.b + length far.c + length far.d + length far.e
+
+  -- the five verdicts are those of the settled state, and there were not too many rounds
+  pub record HasEnding (ending : Ending) : Type 0 where
+    pub verdicts_are : ending.verdicts ≡ (let v = verdicts near in v.a ∷ v.b ∷ v.c ∷ v.d ∷ v.e ∷ [])
+    pub few_rounds : ending.rounds ≤ near_count + 2 * far_count + 1
 
   -- the five lists of far beats and the five verdicts are those of the settled state, and there were not too many rounds
   pub record EndsIn (outcome : Outcome C M) : Type 0 where

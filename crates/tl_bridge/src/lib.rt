@@ -1,7 +1,8 @@
-//! The run of a whole script over a bridge, in one thread (`run_sync`) or in two (`run_threads`),
-//! and the names of the crates below that its callers need, with `SyncBridge` and the two sides.
+//! The run of a whole script over a bridge, in one thread (`run_sync`, `run_sync_into`) or in two
+//! (`run_threads`), and the names of the crates below that its callers need, with `SyncBridge` and the two sides.
 #![tactic(auto)]
 
+mod arrivals;
 mod channel_state;
 mod client_turns;
 mod gates;
@@ -16,9 +17,10 @@ mod thread_rounds;
 mod threads_run;
 mod turns;
 
+pub use arrivals::Arrivals;
 pub use gates::{Gate, NoGate};
-pub use outcome::{Outcome, RunFault};
-pub use sync_run::run_sync;
+pub use outcome::{Ending, Outcome, RunFault};
+pub use sync_run::{run_sync, run_sync_into};
 pub use threads_run::run_threads;
 pub use tl_pair::{ClientSide, ManagerSide, bridge, meet_sides};
 pub use tl_settle::laws;

@@ -24,6 +24,14 @@ pub struct Outcome<const C: usize, const M: usize> {
     pub rounds: u64,
 }
 
+/// How a run ends whose far beats stand elsewhere: one verdict for each channel from A to E, and how
+/// many rounds it had.
+#[derive(Drop)]
+pub struct Ending {
+    pub verdicts: [Verdict; 5],
+    pub rounds: u64,
+}
+
 /// Why a script was not run. `RingSize` is tested first.
 #[derive(Clone, Copy, PartialEq, Eq, Debug, Error)]
 #[error("{} {}", self.number(), self.name())]

@@ -1,16 +1,19 @@
 //! The rounds of a run in one thread, and how each channel ends.
-ghost use Rattle.std.specs.Prelude.{◌≡◌, ◌↔◌, IsTrue, IfSome, IsNone};
+ghost use Rattle.std.specs.Prelude.{◌≡◌, ◌↔◌, ℕ, IsTrue, IfSome, IsNone, IfOk, OnOk};
 ghost use Rattle.tl_lanes.specs.Lanes.{IsWidth};
-ghost use Rattle.tl_settle.specs.Outcomes.{Beats};
+ghost use Rattle.tl_settle.specs.Outcomes.{Beats, far_beats};
 ghost use Rattle.tl_sides.specs.Bridges.{Bridge, Past, StandsFor};
-ghost use Rattle.tl_bridge.specs.Scripts.{EndsIn, HasShortLists, near_beats};
-ghost use Rattle.tl_bridge.specs.Inner.Arriving.{HasRoomFor, KeepsRoom, beats_of};
-ghost use Rattle.tl_bridge.specs.Inner.Running.{IsAt, IsUnderWay, IsNew, HasRound, HasEnded, AreStopped, HasOffered, HaveRoomToCount, counted, no_beats, standing_count, all_standing, all_under_way, all_stopped};
+ghost use Rattle.tl_bridge.specs.Arrivals.{joined, no_beats};
+ghost use Rattle.tl_bridge.specs.Scripts.{EndsIn, HasEnding, HasShortLists, near_beats};
+ghost use Rattle.tl_bridge.specs.Inner.Arriving.{beats_of};
+ghost use Rattle.tl_bridge.specs.Inner.Running.{IsAt, arriving, lengths, IsRunning, IsNew, HasRound, HasEnded, AreStopped, HasOffered, HaveRoomToCount, counted, standing_count, all_standing, all_under_way, all_stopped};
 
+use crate::arrivals::Arrivals;
 use crate::channel_state::{Offered, Stop, add_accepted, all_stops};
 use crate::offers::offer_next;
-use crate::outcome::{Outcome, verdict};
+use crate::outcome::{Ending, Outcome, verdict};
 use crate::taken::{Taken, take_from_each};
+use std::alloc::AllocError;
 use tl_ring::Standing;
 use tl_sides::{PerChannel, Standings, SyncBridge};
 use tl_trace::Script;
@@ -66,31 +69,37 @@ fn offer_on_each<const C: usize, const M: usize>(
     offers
 }
 
-// One round: both sides take all that stands in their inboxes, then each offers the next beat of
-// each of its channels, and then what is staged and what stands in the rings moves on, as far as
-// there is room.
-fn round<const C: usize, const M: usize>(
+// One round: both sides take all that stands in their inboxes, which goes to `far` and is counted by
+// `taken`, then each offers the next beat of each of its channels, and then what is staged and what
+// stands in the rings moves on, as far as there is room.
+fn round<F: Arrivals<C, M>, const C: usize, const M: usize>(
     bridge: &mut SyncBridge<C, M>,
     script: &Script<C, M>,
     at: &mut PerChannel<usize>,
-    far: &mut Taken<C, M>,
-) -> PerChannel<Offered>
+    taken: &mut PerChannel<usize>,
+    far: &mut F,
+) -> Result<PerChannel<Offered>, AllocError>
     requires client { IsWidth C }
     requires manager { IsWidth M }
     requires short { HasShortLists script.now }
-    requires room { HasRoomFor (near_beats script.now) far.old }
-    requires under_way { IsUnderWay (near_beats script.now) at.old (beats_of far.old) bridge.old }
-    ensures round { (x : Past C M) → StandsFor bridge.old x →
-        IsAt (near_beats script.now) at.old (beats_of far.old) x →
-        HasRound (near_beats script.now) at.old (beats_of far.new) x bridge.new result }
-    ensures counted { at.new ≡ counted at.old result }
-    ensures capacity { KeepsRoom far.old far.new }
+    requires running { IsRunning F.Holds (near_beats script.now) at.old taken.old far.old
+        bridge.old }
+    ensures round { (x : Past C M) (all : Beats M C) → StandsFor bridge.old x →
+        IsAt (near_beats script.now) at.old all x → IfOk result (λ offers.
+        HasRound (near_beats script.now) at.old (joined all (arriving x)) x bridge.new offers) }
+    ensures far { (x : Past C M) (all : Beats M C) → StandsFor bridge.old x →
+        F.Holds far.old all → OnOk result (F.Holds far.new (joined all (arriving x))) }
+    ensures same { OnOk result (F.made_with far.new ≡ F.made_with far.old) }
+    ensures counted { IfOk result (λ offers. at.new ≡ counted at.old offers) }
+    ensures taken { (x : Past C M) (all : Beats M C) → StandsFor bridge.old x →
+        taken.old ≡ lengths all →
+        OnOk result (taken.new ≡ lengths (joined all (arriving x))) }
 {
-    take_from_each(bridge, far);
+    take_from_each(bridge, far, taken)?;
     let offers = offer_on_each(bridge, script, at);
     bridge.pump();
     bridge.fetch();
-    offers
+    Ok(offers)
 }
 
 // Why each channel offers no more after a round, where nothing is under way. None where there is
@@ -114,21 +123,41 @@ fn stops_at_rest<const C: usize, const M: usize>(
     Some(stops)
 }
 
+// How a run ends that has ended there, where so many far beats of each channel were taken.
+fn ending_of(end: &End, taken: &PerChannel<usize>) -> Ending
+    ensures { (C M : ℕ) (near : Beats C M) (far : Beats M C) (s : Bridge C M) →
+        IsWidth C → IsWidth M → taken.now ≡ lengths far →
+        HasEnded near end.now.at far s end.now.stops end.now.rounds → HasEnding near result }
+{
+    let (at, stops) = (&end.at, &end.stops);
+    let verdicts = [
+        verdict(&stops.a, at.a, taken.a),
+        verdict(&stops.b, at.b, taken.b),
+        verdict(&stops.c, at.c, taken.c),
+        verdict(&stops.d, at.d, taken.d),
+        verdict(&stops.e, at.e, taken.e),
+    ];
+    Ending {
+        verdicts,
+        rounds: end.rounds,
+    }
+}
+
 // Rounds, up to the first one in which no channel could offer more, and after which nothing is
 // under way.
-pub(crate) fn run_rounds<const C: usize, const M: usize>(
+pub(crate) fn run_rounds<F: Arrivals<C, M>, const C: usize, const M: usize>(
     bridge: &mut SyncBridge<C, M>,
     script: &Script<C, M>,
-    far: &mut Taken<C, M>,
-) -> End
+    far: &mut F,
+) -> Result<Ending, AllocError>
     requires client { IsWidth C }
     requires manager { IsWidth M }
     requires short { HasShortLists script.now }
-    requires room { HasRoomFor (near_beats script.now) far.old }
     requires new { IsNew bridge.old }
-    requires empty { beats_of far.old ≡ no_beats }
-    ensures { HasEnded (near_beats script.now) result.at (beats_of far.new) bridge.new result.stops
-        result.rounds }
+    requires empty { F.Holds far.old no_beats }
+    ensures ending { IfOk result (HasEnding (near_beats script.now)) }
+    ensures far { OnOk result (F.Holds far.new (far_beats (near_beats script.now))) }
+    ensures same { OnOk result (F.made_with far.new ≡ F.made_with far.old) }
 {
     let mut at = PerChannel {
         a: 0,
@@ -137,17 +166,18 @@ pub(crate) fn run_rounds<const C: usize, const M: usize>(
         d: 0,
         e: 0,
     };
+    let mut taken = at;
     let mut rounds = 0;
     'rounds: loop {
-        let offers = round(bridge, script, &mut at, far);
+        let offers = round(bridge, script, &mut at, &mut taken, far)?;
         rounds += 1;
         if let Some(stops) = stops_at_rest(bridge, &offers) {
-            return End { at, stops, rounds };
+            return Ok(ending_of(&End { at, stops, rounds }, &taken));
         }
     }
 }
 
-// The outcome of a run that has ended.
+// The outcome of a run that has ended, with these lists.
 pub(crate) fn outcome_of<const C: usize, const M: usize>(
     end: End,
     far: Taken<C, M>,
@@ -158,21 +188,12 @@ pub(crate) fn outcome_of<const C: usize, const M: usize>(
         HasEnded near end.at (beats_of far.entry) s end.stops end.rounds →
         EndsIn near result }
 {
-    let verdicts = [
-        verdict(&end.stops.a, end.at.a, far.a.len()),
-        verdict(&end.stops.b, end.at.b, far.b.len()),
-        verdict(&end.stops.c, end.at.c, far.c.len()),
-        verdict(&end.stops.d, end.at.d, far.d.len()),
-        verdict(&end.stops.e, end.at.e, far.e.len()),
-    ];
-    let Taken { a, b, c, d, e } = far;
-    Outcome {
-        a,
-        b,
-        c,
-        d,
-        e,
-        verdicts,
-        rounds: end.rounds,
-    }
+    let taken = PerChannel {
+        a: far.a.len(),
+        b: far.b.len(),
+        c: far.c.len(),
+        d: far.d.len(),
+        e: far.e.len(),
+    };
+    far.into_outcome(ending_of(&end, &taken))
 }

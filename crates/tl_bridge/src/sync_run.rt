@@ -1,12 +1,15 @@
 //! The run of a whole script in one thread.
-ghost use Rattle.std.specs.Prelude.{◌≡◌, ◌≢◌, ◌≤◌, ◌<◌, ◌⊎◌, ◌↔◌, IsOk, IfOk, IfErr};
+ghost use Rattle.std.specs.Prelude.{◌≡◌, ◌≢◌, ◌≤◌, ◌<◌, ◌⊎◌, ◌↔◌, IsOk, IfOk, IfErr, OnOk};
 ghost use Rattle.tl_ring.specs.declared.pipe.TheConstants.{MAX_RING};
 ghost use Rattle.tl_lanes.specs.Lanes.{IsWidth};
 ghost use Rattle.tl_bridge.specs.declared.outcome.RunFault.TheVariants.{RingSize, Stalled};
-ghost use Rattle.tl_bridge.specs.Scripts.{HasShortLists, SettlesTo};
+ghost use Rattle.tl_settle.specs.Outcomes.{far_beats};
+ghost use Rattle.tl_bridge.specs.Arrivals.{no_beats};
+ghost use Rattle.tl_bridge.specs.Scripts.{HasEnding, HasShortLists, SettlesTo, near_beats};
 
-use crate::outcome::{Outcome, RunFault};
-use crate::rounds::{outcome_of, run_rounds};
+use crate::arrivals::Arrivals;
+use crate::outcome::{Ending, Outcome, RunFault};
+use crate::rounds::run_rounds;
 use crate::taken::Taken;
 use std::alloc::Global;
 use tl_sides::SyncBridge;
@@ -47,6 +50,41 @@ pub fn run_sync<const C: usize, const M: usize>(
     let Ok(mut far) = Taken::new(alloc, script) else {
         return Err(RunFault::OutOfMemory);
     };
-    let end = run_rounds(&mut bridge, script, &mut far);
-    Ok(outcome_of(end, far))
+    let Ok(ending) = run_rounds(&mut bridge, script, &mut far) else {
+        return Err(RunFault::OutOfMemory);
+    };
+    Ok(far.into_outcome(ending))
+}
+
+/// The same run as [`run_sync`], whose far beats go to `far` as they are taken, from each round to
+/// the next: where it ends, `far` has those that the script settles to.
+///
+/// Refused as [`run_sync`] is, but that `far` may ask for memory in each round: where it is refused
+/// some, the run ends in that round with `OutOfMemory`.
+pub fn run_sync_into<F: Arrivals<C, M>, const C: usize, const M: usize>(
+    alloc: Global,
+    script: &Script<C, M>,
+    ring: usize,
+    far: &mut F,
+) -> Result<Ending, RunFault>
+    requires client { IsWidth C }
+    requires manager { IsWidth M }
+    requires short { HasShortLists script.now }
+    requires empty { F.Holds far.old no_beats }
+    ensures ending { IfOk result (HasEnding (near_beats script.now)) }
+    ensures far { OnOk result (F.Holds far.new (far_beats (near_beats script.now))) }
+    ensures same { OnOk result (F.made_with far.new ≡ F.made_with far.old) }
+    ensures size { IsOk result → (1 ≤ ring) × (ring ≤ MAX_RING) }
+    ensures ring_size { IfErr result (λ fault. (fault ≡ RingSize) ↔
+        ((ring ≡ 0) ⊎ (MAX_RING < ring))) }
+    ensures never_stalled { IfErr result (λ fault. fault ≢ Stalled) }
+{
+    let mut bridge = match SyncBridge::new(alloc, ring) {
+        Ok(bridge) => bridge,
+        Err(fault) => return Err(RunFault::from(fault)),
+    };
+    let Ok(ending) = run_rounds(&mut bridge, script, far) else {
+        return Err(RunFault::OutOfMemory);
+    };
+    Ok(ending)
 }

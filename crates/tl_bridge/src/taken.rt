@@ -1,23 +1,23 @@
 //! The far beats that the two sides of a run take.
-ghost use Rattle.std.specs.Prelude.{◌≡◌, ◌+◌, ◌++◌, ◌≤◌, ◌^◌, List, [], ◌∷◌, None, length, vec_len, vec_capacity, IfOk};
+ghost use Rattle.std.specs.Prelude.{◌≡◌, ◌++◌, ◌≤◌, ◌^◌, List, [], ◌∷◌, None, length, vec_capacity, All, IfOk, OnOk};
 ghost use Rattle.tl_lanes.specs.Lanes.{IsWidth};
-ghost use Rattle.tl_msg.specs.Faults.{IsLawfulBeat};
 ghost use Rattle.tl_msg.specs.Tables.{rules_a, rules_d};
-ghost use Rattle.tl_ring.specs.Crossing.{World};
-ghost use Rattle.tl_ring.specs.Pipe as piping;
 ghost use Rattle.tl_settle.specs.Histories.{Ask, Answer};
+ghost use Rattle.tl_settle.specs.Outcomes.{Beats, far_beats};
 ghost use Rattle.tl_sides.specs.Bridges.{Past, StandsFor};
 ghost use Rattle.tl_sides.specs.Books.{KnowsClient, KnowsManager};
-ghost use Rattle.tl_bridge.specs.Scripts.{HasShortLists, near_beats};
-ghost use Rattle.tl_bridge.specs.Inner.Running.{after_takes, emptied, no_beats};
-ghost use Rattle.tl_bridge.specs.Inner.Arriving.{beats_of, HasPast, HasRoom, HasRoomFor, HasRoomForInboxes, HasTaken, KeepsRoom};
+ghost use Rattle.tl_bridge.specs.Arrivals.{joined, no_beats};
+ghost use Rattle.tl_bridge.specs.Scripts.{EndsIn, HasEnding, HasShortLists, near_beats};
+ghost use Rattle.tl_bridge.specs.Inner.Running.{CanAdd, added, after_takes, inboxes, lengths};
+ghost use Rattle.tl_bridge.specs.Inner.Arriving.{beats_of, HasRoom, HasRoomFor};
 ghost use Rattle.tl_bridge.specs.Inner.Taking.{HasNoted, noted_none, noted_then};
 
+use crate::arrivals::Arrivals;
+use crate::outcome::{Ending, Outcome};
 use std::alloc::{AllocError, Global};
 use tl_convert::far_room;
 use tl_msg::{Beat, BeatOf, ChA, ChB, ChC, ChD, ChE, Channel, HeadA, HeadD};
-use tl_ring::SyncPipe;
-use tl_sides::{ClientBook, ManagerBook, SyncBridge};
+use tl_sides::{ClientBook, ManagerBook, PerChannel, SyncBridge};
 use tl_trace::Script;
 
 /// The far beats that were taken, by channel, in lists that grow no more.
@@ -59,6 +59,48 @@ impl<const C: usize, const M: usize> Taken<C, M> {
         let d = room_for::<ChD, M, C>(alloc, &script.d)?;
         let e = room_for::<ChE, C, M>(alloc, &script.e)?;
         Ok(Taken { a, b, c, d, e })
+    }
+
+    // The outcome of a run that took these and ended so.
+    pub(crate) fn into_outcome(self, ending: Ending) -> Outcome<C, M>
+        requires client { IsWidth C }
+        requires manager { IsWidth M }
+        ensures { (near : Beats C M) → HasEnding near ending →
+            beats_of self.entry ≡ far_beats near → EndsIn near result }
+    {
+        let Taken { a, b, c, d, e } = self;
+        let Ending { verdicts, rounds } = ending;
+        Outcome {
+            a,
+            b,
+            c,
+            d,
+            e,
+            verdicts,
+            rounds,
+        }
+    }
+}
+
+impl<const C: usize, const M: usize> Arrivals<C, M> for Taken<C, M> {
+    ghost Holds = { λ t far. beats_of t ≡ far };
+
+    ghost made_with = { λ _. 0 };
+
+    // The lists have room for all that comes.
+    fn take(
+        &mut self,
+        a: &[Beat<ChA, M>],
+        b: &[Beat<ChB, C>],
+        c: &[Beat<ChC, M>],
+        d: &[Beat<ChD, C>],
+        e: &[Beat<ChE, M>],
+    ) -> Result<(), AllocError> {
+        self.a.extend_from_slice(a)?;
+        self.b.extend_from_slice(b)?;
+        self.c.extend_from_slice(c)?;
+        self.d.extend_from_slice(d)?;
+        self.e.extend_from_slice(e)
     }
 }
 
@@ -111,62 +153,73 @@ impl<const C: usize> Notes<BeatOf<HeadD, C>> for ClientBook<C> {
     ghost notes_then = { noted_then KnowsClient Answer };
 }
 
-/// The book of B, C and E, of which no side keeps anything.
-#[derive(Drop)]
-struct NoBook;
-
-impl<B> Notes<B> for NoBook {
-    ghost CanNote = { λ _. Unit {0} };
-
-    ghost Becomes = { λ _ _ _. Unit {0} };
-
-    fn note(&mut self, _beat: &B) {}
-
-    ghost notes_none = { λ _. tt };
-
-    ghost notes_then = { λ _ _ _ _ _ _ _. tt };
-}
-
-// A side takes all that stands in the inbox of a channel, and notes it in its book.
-fn take_all<N: Notes<Beat<K, V>>, K: Channel, const W: usize, const V: usize>(
-    book: &mut N,
-    pipe: &mut SyncPipe<K, W, V>,
-    far: &mut Vec<Beat<K, V>>,
-)
-    requires past { (x : World K.Head W V) × piping.StandsFor K.rules pipe.old x }
-    requires can { (b : BeatOf K.Head V) → IsLawfulBeat K.rules b → N.CanNote b }
-    requires room { vec_len far.old + length pipe.old.inbox ≤ vec_capacity far.old }
-    ensures noted { N.Becomes book.old pipe.old.inbox book.new }
-    ensures taken { (x : World K.Head W V) → piping.StandsFor K.rules pipe.old x →
-        piping.StandsFor K.rules pipe.new (emptied x) }
-    ensures far { far.new.items ≡ far.old.items ++ pipe.old.inbox }
-    ensures capacity { vec_capacity far.new ≡ vec_capacity far.old }
+// A side notes beats that it takes in its book.
+fn note_all<B, N: Notes<B>>(book: &mut N, beats: &[B])
+    requires can { All (λ beat. N.CanNote beat) beats.now }
+    ensures { N.Becomes book.old beats.now book.new }
 {
-    for beat in pipe.inbox() {
+    for beat in beats {
         book.note(beat);
-        far.push_reserved(*beat);
     }
-    pipe.take_all();
 }
 
-// Each side takes all that stands in its inboxes: first the client's side, then the manager's, each
-// in the order of letters.
-pub(crate) fn take_from_each<const C: usize, const M: usize>(
-    bridge: &mut SyncBridge<C, M>,
-    far: &mut Taken<C, M>,
-)
+// So many beats of each channel are counted.
+fn add_counts(counts: &mut PerChannel<usize>, more: &PerChannel<usize>)
+    requires { CanAdd counts.old more.now }
+    ensures { counts.new ≡ added counts.old more.now }
+{
+    counts.a += more.a;
+    counts.b += more.b;
+    counts.c += more.c;
+    counts.d += more.d;
+    counts.e += more.e;
+}
+
+// Each side notes what stands in its inboxes, and takes it.
+fn note_and_empty<const C: usize, const M: usize>(bridge: &mut SyncBridge<C, M>)
     requires client { IsWidth C }
     requires manager { IsWidth M }
-    requires past { HasPast bridge.old }
-    requires room { HasRoomForInboxes bridge.old far.old }
-    ensures taken { (x : Past C M) → StandsFor bridge.old x →
-        StandsFor bridge.new (after_takes x) }
-    ensures far { HasTaken bridge.old far.old far.new }
-    ensures capacity { KeepsRoom far.old far.new }
+    ensures { (x : Past C M) → StandsFor bridge.old x → StandsFor bridge.new (after_takes x) }
 {
-    take_all(&mut NoBook, &mut bridge.b, &mut far.b);
-    take_all(&mut bridge.client, &mut bridge.d, &mut far.d);
-    take_all(&mut bridge.manager, &mut bridge.a, &mut far.a);
-    take_all(&mut NoBook, &mut bridge.c, &mut far.c);
-    take_all(&mut NoBook, &mut bridge.e, &mut far.e);
+    note_all(&mut bridge.client, bridge.d.inbox());
+    note_all(&mut bridge.manager, bridge.a.inbox());
+    bridge.a.take_all();
+    bridge.b.take_all();
+    bridge.c.take_all();
+    bridge.d.take_all();
+    bridge.e.take_all();
+}
+
+// Each side takes all that stands in its inboxes, which goes to `far`. `taken` counts it.
+pub(crate) fn take_from_each<F: Arrivals<C, M>, const C: usize, const M: usize>(
+    bridge: &mut SyncBridge<C, M>,
+    far: &mut F,
+    taken: &mut PerChannel<usize>,
+) -> Result<(), AllocError>
+    requires client { IsWidth C }
+    requires manager { IsWidth M }
+    requires few { CanAdd taken.old (lengths (inboxes bridge.old)) }
+    ensures taken { (x : Past C M) → StandsFor bridge.old x →
+        OnOk result (StandsFor bridge.new (after_takes x)) }
+    ensures far { (all : Beats M C) → F.Holds far.old all →
+        OnOk result (F.Holds far.new (joined all (inboxes bridge.old))) }
+    ensures same { OnOk result (F.made_with far.new ≡ F.made_with far.old) }
+    ensures counted { OnOk result (taken.new ≡ added taken.old (lengths (inboxes bridge.old))) }
+{
+    let a = bridge.a.inbox();
+    let b = bridge.b.inbox();
+    let c = bridge.c.inbox();
+    let d = bridge.d.inbox();
+    let e = bridge.e.inbox();
+    far.take(a, b, c, d, e)?;
+    let more = PerChannel {
+        a: a.len(),
+        b: b.len(),
+        c: c.len(),
+        d: d.len(),
+        e: e.len(),
+    };
+    add_counts(taken, &more);
+    note_and_empty(bridge);
+    Ok(())
 }

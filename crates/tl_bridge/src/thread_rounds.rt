@@ -1,9 +1,10 @@
 //! The rounds of a run in two threads.
 ghost use Rattle.std.specs.Prelude.{◌≡◌, ◌≢◌, true, IfSome, IsNone};
 ghost use Rattle.tl_lanes.specs.Lanes.{IsWidth};
+ghost use Rattle.tl_bridge.specs.Arrivals.{no_beats};
 ghost use Rattle.tl_bridge.specs.Scripts.{HasShortLists, near_beats};
 ghost use Rattle.tl_bridge.specs.Inner.Arriving.{HasRoomFor, KeepsRoom, beats_of, taken_of};
-ghost use Rattle.tl_bridge.specs.Inner.Running.{AreStopped, HasEnded, no_beats, all_standing, all_stopped};
+ghost use Rattle.tl_bridge.specs.Inner.Running.{AreStopped, HasEnded, all_standing, all_stopped};
 ghost use Rattle.tl_bridge.specs.Inner.Sides.{ClientMayPlay, ClientHasPlayed, ManagerMayPlay, ManagerHasPlayed, HasMet, HasPlayed, AreNew, bridge_of};
 
 use crate::channel_state::{Offered, Stop, all_stops};

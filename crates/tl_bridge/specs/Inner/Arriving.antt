@@ -1,19 +1,15 @@
 -- The lists of far beats of a run, and their room. Only contracts of private functions cite these words.
-use Rattle.std.specs.Prelude.{◌≡◌, ◌+◌, ◌≤◌, ◌++◌, ℕ, List, length, vec_len, vec_capacity}
+use Rattle.std.specs.Prelude.{◌≡◌, ◌+◌, ◌≤◌, ℕ, List, length, vec_len, vec_capacity}
 use Rattle.tl_msg.specs.Rules.{Rules}
 use Rattle.tl_msg.specs.Tables.{rules_a, rules_b, rules_c, rules_d, rules_e}
 use Rattle.tl_msg.specs.declared.beat.BeatOf.{BeatOf}
 use Rattle.tl_convert.specs.Due.{due}
 use Rattle.tl_convert.specs.Accepted.{accepted_of}
 use Rattle.tl_settle.specs.Outcomes.{Beats}
-use Rattle.tl_sides.specs.Bridges.{Bridge, Past, StandsFor}
+use Rattle.tl_sides.specs.Bridges.{Bridge}
 use Rattle.tl_bridge.specs.declared.taken.Taken.{Taken}
 use Rattle.tl_bridge.specs.declared.client_turns.ClientRun.{ClientRun}
 use Rattle.tl_bridge.specs.declared.manager_turns.ManagerRun.{ManagerRun}
-
--- a bridge for which something stands
-abbrev pub HasPast : {C M : ℕ} → Bridge C M → Type 0
-HasPast {C = C} {M = M} s = (x : Past C M) × StandsFor s x
 
 -- a list of so many beats has room for all that a list of near beats can make due, whatever the homes are
 abbrev pub HasRoom : {H : Type 0} (r : Rules H) {w : ℕ} (v : ℕ) → (bs : List (BeatOf H w)) → (room : ℕ) → Type 0
@@ -35,14 +31,6 @@ module _ {C M : ℕ} where
     pub c : vec_len t.c + length s.c.inbox ≤ vec_capacity t.c
     pub d : vec_len t.d + length s.d.inbox ≤ vec_capacity t.d
     pub e : vec_len t.e + length s.e.inbox ≤ vec_capacity t.e
-
-  -- all that stood in the inboxes stands in the lists, behind what stood there
-  pub record HasTaken (s : Bridge C M) (old new : Taken C M) : Type 0 where
-    pub a : new.a.items ≡ old.a.items ++ s.a.inbox
-    pub b : new.b.items ≡ old.b.items ++ s.b.inbox
-    pub c : new.c.items ≡ old.c.items ++ s.c.inbox
-    pub d : new.d.items ≡ old.d.items ++ s.d.inbox
-    pub e : new.e.items ≡ old.e.items ++ s.e.inbox
 
   -- the lists have as much room as before
   pub record KeepsRoom (old new : Taken C M) : Type 0 where

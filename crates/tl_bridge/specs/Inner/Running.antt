@@ -113,6 +113,17 @@ abbrev pub all_standing : PerChannel Standing → ℕ
 all_standing s = standing_count s.a + standing_count s.b + standing_count s.c + standing_count s.d + standing_count s.e
 
 module _ {C M : ℕ} where
+  -- what stands in the inboxes of a bridge, and of what it stands for
+  abbrev pub inboxes : Bridge C M → Beats M C
+  inboxes s = record { a = s.a.inbox; b = s.b.inbox; c = s.c.inbox; d = s.d.inbox; e = s.e.inbox }
+
+  abbrev pub arriving : Past C M → Beats M C
+  arriving x = record { a = x.a.inbox; b = x.b.inbox; c = x.c.inbox; d = x.d.inbox; e = x.e.inbox }
+
+  -- how many beats there are of each channel
+  abbrev pub lengths : Beats C M → PerChannel ℕ
+  lengths bs = record { a = length bs.a; b = length bs.b; c = length bs.c; d = length bs.d; e = length bs.e }
+
   -- each side takes all that stands in its inboxes
   abbrev pub after_takes : Past C M → Past C M
   after_takes x = record {
@@ -146,6 +157,18 @@ pub record HaveRoomToCount (n : PerChannel ℕ) : Type 0 where
   pub c : n.c < 2 ^ 41
   pub d : n.d < 2 ^ 41
   pub e : n.e < 2 ^ 41
+
+-- so many beats of each channel, and so many more
+abbrev pub added : PerChannel ℕ → PerChannel ℕ → PerChannel ℕ
+added n m = record { a = n.a + m.a; b = n.b + m.b; c = n.c + m.c; d = n.d + m.d; e = n.e + m.e }
+
+-- these can be counted
+pub record CanAdd (n m : PerChannel ℕ) : Type 0 where
+  pub a : n.a + m.a < 2 ^ 60
+  pub b : n.b + m.b < 2 ^ 60
+  pub c : n.c + m.c < 2 ^ 60
+  pub d : n.d + m.d < 2 ^ 60
+  pub e : n.e + m.e < 2 ^ 60
 
 -- so many beats of each list were accepted after a round
 abbrev pub counted : PerChannel ℕ → PerChannel Offered → PerChannel ℕ
@@ -217,10 +240,14 @@ module _ {C M : ℕ} (near : Beats C M) where
     pub at_rest : all_under_way past ≡ 0
     pub few_rounds : rounds ≤ all_progress n past + 1
 
+-- the same where what was taken went to where `Holds` says that it is, and was counted
+module _ {F : Type 0} {C M : ℕ} (Holds : F → Beats M C → Type 0) (near : Beats C M) where
+  pub record IsRunning (n taken : PerChannel ℕ) (far : F) (s : Bridge C M) : Type 0 where
+    pub all : Beats M C
+    pub holds : Holds far all
+    pub counts : taken ≡ lengths all
+    pub under_way : IsUnderWay near n all s
+
 -- a new bridge, whose rings hold a beat at least
 abbrev pub IsNew : {C M : ℕ} → Bridge C M → Type 0
 IsNew s = (room : ℕ) × (1 ≤ room) × StandsFor s (nothing_yet room)
-
--- no beat of any channel
-abbrev pub no_beats : {C M : ℕ} → Beats M C
-no_beats = record { a = []; b = []; c = []; d = []; e = [] }

@@ -2,9 +2,6 @@ use Rattle.std.proofs.Common.{lit<, rules}
 use Rattle.tl_answer.proofs.Running.{size-is-right}
 use Rattle.tl_answer.proofs.answer.run_script.Goals as goal
 
-pub run_sync-requires : goal.run_sync-requires
-run_sync-requires g c = (lit< tt, (lit< tt, (c.requires.client, (c.requires.manager, c.requires.short))))
-
 pub run_threads-requires : goal.run_threads-requires
 run_threads-requires g c = (search rules, (search rules, (lit< tt, (lit< tt, (c.requires.client, (c.requires.manager, (c.requires.short, c.turns-turns.ensures.some c.requires.runnable)))))))
 
@@ -18,14 +15,3 @@ returns-clause-ring_size g c =
 
 pub returns-clause-never_stalled : goal.returns-clause-never_stalled
 returns-clause-never_stalled g c = c.run_threads.ensures.never_stalled
-
-pub returns-then-is_sync-clause-ok : goal.returns-then-is_sync-clause-ok
-returns-then-is_sync-clause-ok g c = c.run_sync.ensures.outcome
-
-pub returns-then-is_sync-clause-ring_size : goal.returns-then-is_sync-clause-ring_size
-returns-then-is_sync-clause-ring_size g c =
-    let size = c.ring-ring.ensures.size c.requires.runnable in
-    size-is-right c.run_sync.result c.ring-ring.result size.0 size.1 c.run_sync.ensures.ring_size
-
-pub returns-then-is_sync-clause-never_stalled : goal.returns-then-is_sync-clause-never_stalled
-returns-then-is_sync-clause-never_stalled g c = c.run_sync.ensures.never_stalled

@@ -4,7 +4,7 @@ use Rattle.tl_trace.specs.declared.line.Line.{Line}
 use Rattle.tl_bridge.specs.Scripts.{EndsIn, near_beats}
 use Rattle.tl_answer.specs.Answer.{ends, near}
 use Rattle.tl_answer.specs.Inputs.{ReadsAnswer, unread_of}
-use Rattle.tl_answer.proofs.Answering.{answers-text, checks-text, near-is}
+use Rattle.tl_answer.proofs.Answering.{answers-text, checks-text, settled-text, near-is}
 use Rattle.tl_answer.proofs.Lengths.{lines-few, short}
 use Rattle.tl_answer.proofs.Whole.{reads_answer}
 use Rattle.tl_answer.proofs.answer.with_widths.Goals as goal
@@ -23,6 +23,21 @@ returns-then-is_check g c =
     (checks-text c.args.version g.row.C g.row.M read.told.lines read.text read.told.told
     (near_beats c.in-Ok.script) (near-is read.told.lines _ read.told.script) c.check_script.result c.check_script.ensures.text c.check_script.ensures.done)
     c.check_script.ensures.err)
+
+pub sync_answer_of-requires : goal.sync_answer_of-requires
+sync_answer_of-requires g c =
+    let read = c.in-Ok.ensures in
+    let few = lines-few _ _ _ _ read.told.lines read.told.told read.few in
+    (lit< tt, (c.requires.client, (c.requires.manager, (short g.row.C g.row.M read.told.lines few _ read.told.script, c.ring.ensures.size c.requires.runnable))))
+
+pub returns-then-is_sync : goal.returns-then-is_sync
+returns-then-is_sync g c =
+    let read = c.in-Ok.ensures in
+    subst (λ check. ReadsAnswer (unread_of c.args.input.now (g.R.Read.remaining c.args.reader.now)) (g.R.Read.remaining c.script_of_input.new.reader) check c.script_of_input.new.input c.sync_answer_of.result) c.if-is_check.ensures
+    (reads_answer _ _ _ _ read.text read.took read.end read.few c.sync_answer_of.result
+    (settled-text c.args.version g.row.C g.row.M read.told.lines read.text read.told.told
+    (near_beats c.in-Ok.script) (near-is read.told.lines _ read.told.script) c.sync_answer_of.result c.sync_answer_of.ensures.text c.sync_answer_of.ensures.done)
+    c.sync_answer_of.ensures.err)
 
 pub outcome_of-requires : goal.outcome_of-requires
 outcome_of-requires g c =

@@ -1,30 +1,27 @@
-use Rattle.std.proofs.Common.{lit<}
+use Rattle.std.proofs.Common.{lit<, refl, sym, ap, subst, ◌∙◌}
 use Rattle.tl_sides.proofs.BridgeSize.{bridge_small}
 use Rattle.tl_bridge.specs.Scripts.{near_beats}
-use Rattle.tl_bridge.specs.Inner.Arriving.{beats_of}
 use Rattle.tl_sides.specs.Bridges.{after_pump}
-use Rattle.tl_bridge.specs.Inner.Running.{after_takes}
-use Rattle.tl_bridge.proofs.Round.{moved-stands, has-round, inboxes-fit, counts-fit, taken-is}
+use Rattle.tl_bridge.specs.Arrivals.{joined}
+use Rattle.tl_bridge.specs.Inner.Running.{CanAdd, added, after_takes, arriving, inboxes, lengths}
+use Rattle.tl_bridge.proofs.Ended.{can-add}
+use Rattle.tl_bridge.proofs.Round.{moved-stands, has-round, inboxes-are, counts-fit, joined-lengths}
 use Rattle.tl_bridge.proofs.rounds.round.Goals as goal
 
 pub take_from_each-requires : goal.take_from_each-requires
-take_from_each-requires g c = (
-  bridge_small g.row.C g.row.M c.requires.client c.requires.manager,
-  (
-    lit< tt,
-    (
-      c.requires.client,
+take_from_each-requires g c =
+    let r = c.requires.running in
+    let u = r.under_way in (
+      bridge_small g.row.C g.row.M c.requires.client c.requires.manager,
       (
-        c.requires.manager,
+        c.requires.client,
         (
-          (c.requires.under_way.past, c.requires.under_way.stands),
-          inboxes-fit c.requires.client c.requires.manager (near_beats c.args.script.now) c.args.at.now c.args.far.now c.args.bridge.now
-              c.requires.under_way.past c.requires.under_way.stands c.requires.under_way.is_at c.requires.room,
+          c.requires.manager,
+          subst (λ q. CanAdd q (lengths (inboxes c.args.bridge.now))) (sym r.counts)
+              (can-add (near_beats c.args.script.now) c.requires.client c.requires.manager c.requires.short c.args.at.now r.all c.args.bridge.now u.past u.stands u.is_at),
         ),
       ),
-    ),
-  ),
-)
+    )
 
 pub offer_on_each-offers-requires : goal.offer_on_each-offers-requires
 offer_on_each-offers-requires g c = (
@@ -35,7 +32,7 @@ offer_on_each-offers-requires g c = (
       c.requires.client,
       (
         c.requires.manager,
-        counts-fit c.requires.client c.requires.manager (near_beats c.args.script.now) c.args.at.now (beats_of c.args.far.now) c.requires.under_way.past c.requires.under_way.is_at c.requires.short,
+        counts-fit c.requires.client c.requires.manager (near_beats c.args.script.now) c.args.at.now c.requires.running.all c.requires.running.under_way.past c.requires.running.under_way.is_at c.requires.short,
       ),
     ),
   ),
@@ -48,10 +45,24 @@ pub fetch-requires : goal.fetch-requires
 fetch-requires g c = bridge_small g.row.C g.row.M c.requires.client c.requires.manager
 
 pub returns-clause-round : goal.returns-clause-round
-returns-clause-round g c = λ x stands at.
-    let h = c.offer_on_each-offers.ensures.offered (after_takes x) (c.take_from_each.ensures.taken x stands) in
+returns-clause-round g c = λ x all stands at.
+    let h = c.offer_on_each-offers.ensures.offered (after_takes x) (c.in_ok-take_from_each.ensures.taken x stands) in
     let pumped = c.pump.ensures.moved h.past h.stands in
-    has-round c.requires.client c.requires.manager (near_beats c.args.script.now) c.args.at.now (beats_of c.args.far.now) x c.args.bridge.now c.offer_on_each-offers.new.bridge c.offer_on_each-offers.result stands at h
-    (beats_of c.take_from_each.new.far) c.fetch.new.self
-    (taken-is c.requires.client c.requires.manager (near_beats c.args.script.now) c.args.at.now c.args.bridge.now c.args.far.now c.take_from_each.new.far x stands c.take_from_each.ensures.far)
+    has-round c.requires.client c.requires.manager (near_beats c.args.script.now) c.args.at.now all x c.args.bridge.now c.offer_on_each-offers.new.bridge c.offer_on_each-offers.result stands at h
+    (joined all (arriving x)) c.fetch.new.self refl
     (moved-stands c.offer_on_each-offers.new.bridge c.pump.new.self c.fetch.new.self h.past h.stands pumped (c.fetch.ensures.moved (after_pump c.offer_on_each-offers.new.bridge h.past) pumped))
+
+pub returns-clause-far : goal.returns-clause-far
+returns-clause-far g c = λ x all stands has.
+    subst (λ q. g.F.Arrivals.Holds c.take_from_each.new.far (joined all q)) (inboxes-are c.args.bridge.now x stands) (c.in_ok-take_from_each.ensures.far all has)
+
+pub returns-clause-counted : goal.returns-clause-counted
+returns-clause-counted g c = c.offer_on_each-offers.ensures.counted
+
+pub returns-clause-taken : goal.returns-clause-taken
+returns-clause-taken g c = λ x all stands same.
+    c.in_ok-take_from_each.ensures.counted ∙ ap (λ q. added q (lengths (inboxes c.args.bridge.now))) same ∙
+    ap (λ q. added (lengths all) (lengths q)) (inboxes-are c.args.bridge.now x stands) ∙ joined-lengths all (arriving x)
+
+pub returns-clause-same : goal.returns-clause-same
+returns-clause-same g c = c.in_ok-take_from_each.ensures.same

@@ -1,28 +1,30 @@
-use Rattle.std.proofs.Common.{lit<, ◌+◌, ◌^◌, ◌<◌, ◌≤◌, refl, sym, subst, arith, zero-le}
+use Rattle.std.proofs.Common.{lit<, ◌+◌, ◌^◌, ◌<◌, ◌≤◌, refl, sym, subst, ◌∙◌, arith, zero-le}
 use Rattle.tl_sides.proofs.BridgeSize.{bridge_small}
+use Rattle.tl_bridge.specs.Arrivals.{joined, no_beats}
 use Rattle.tl_bridge.specs.Scripts.{near_beats}
-use Rattle.tl_bridge.specs.Inner.Arriving.{beats_of}
-use Rattle.tl_bridge.specs.Inner.Running.{HasEnded}
+use Rattle.tl_bridge.specs.Inner.Running.{HasEnded, IsRunning, arriving}
 use Rattle.tl_bridge.proofs.Counting.{counts-on, nearer, one-round-more}
-use Rattle.tl_bridge.proofs.Ended.{progress_here, progress-ends, end-few, further, ended, starts, keeps-room, under-way-after}
+use Rattle.tl_bridge.proofs.Ended.{progress_by, end-few, starts, running-ends, running-on, running-further, running-ended, round-is, holds-all, counts-all}
+use Rattle.tl_bridge.proofs.EndsIn.{far-is}
 use Rattle.tl_bridge.proofs.rounds.run_rounds.Given.{Over}
 use Rattle.tl_bridge.proofs.rounds.run_rounds.Goals as goal
 
 pub rounds-init : goal.rounds-init
 rounds-init g c = record {
-  under_way = starts (near_beats c.args.script.now)
-      _ (beats_of c.args.far.now) c.args.bridge.now refl c.requires.empty c.requires.new;
-  room = c.requires.room;
+  running = record {
+    all = no_beats;
+    holds = c.requires.empty;
+    counts = refl;
+    under_way = starts (near_beats c.args.script.now) _ no_beats c.args.bridge.now refl refl c.requires.new;
+  };
+  same = refl;
   few = zero-le;
 }
 
-pub round-offers-requires : goal.round-offers-requires
-round-offers-requires g c = (
+pub round-requires : goal.round-requires
+round-requires g c = (
   bridge_small g.row.C g.row.M c.requires.client c.requires.manager,
-  (
-    lit< tt,
-    (lit< tt, (c.requires.client, (c.requires.manager, (c.requires.short, (c.rounds.invariant.room, c.rounds.invariant.under_way))))),
-  ),
+  (lit< tt, (c.requires.client, (c.requires.manager, (c.requires.short, c.rounds.invariant.running)))),
 )
 
 pub stops_at_rest-requires : goal.stops_at_rest-requires
@@ -30,54 +32,62 @@ stops_at_rest-requires g c = (bridge_small g.row.C g.row.M c.requires.client c.r
 
 pub overflow_add-rounds : goal.overflow_add-rounds
 overflow_add-rounds g c =
-    let u = c.rounds.invariant.under_way in
-    let most : progress_here c.rounds.at (beats_of c.rounds.far) c.rounds.bridge ≤ _ =
-    progress-ends (near_beats c.args.script.now) c.requires.client
-    c.requires.manager c.rounds.at (beats_of c.rounds.far) c.rounds.bridge u.past u.stands u.is_at in
+    let most : progress_by c.rounds.at c.rounds.taken c.rounds.bridge ≤ _ =
+    running-ends (near_beats c.args.script.now) g.F.Arrivals.Holds c.rounds.at c.rounds.taken c.rounds.far c.rounds.bridge c.rounds.invariant.running c.requires.client c.requires.manager in
     let l : c.rounds.rounds + 1 < 2 ^ 64 = counts-on _ _ _ c.rounds.invariant.few most (end-few (near_beats c.args.script.now) c.requires.client c.requires.manager c.requires.short) in
     omega (arith, l)
 
-pub returns-in-Some : goal.returns-in-Some
-returns-in-Some g c =
-    let u = c.rounds.invariant.under_way in
-    let h = c.round-offers.ensures.round u.past u.stands u.is_at in
-    subst (λ n. HasEnded (near_beats c.args.script.now) n
-    (beats_of c.round-offers.new.far) c.round-offers.new.bridge c.in-Some.stops (c.rounds.rounds + 1)) (sym c.round-offers.ensures.counted)
-    (ended (near_beats c.args.script.now) c.rounds.at
-    (beats_of c.rounds.far) (beats_of c.round-offers.new.far) c.rounds.bridge c.round-offers.new.bridge u.past c.round-offers.result u.stands u.is_at h
-    c.rounds.rounds c.rounds.invariant.few c.in-Some.stops c.in-Some.ensures.stops
-    (c.in-Some.ensures.rests h.past h.stands))
+-- the run has ended after this round
+last : (g : Over) (c : goal.After-ending_of g) → HasEnded (near_beats c.args.script.now) c.round.new.at
+    (joined c.rounds.invariant.running.all (arriving c.rounds.invariant.running.under_way.past)) c.round.new.bridge c.in-Some.stops (c.rounds.rounds + 1)
+last g c =
+    let h = round-is (near_beats c.args.script.now) g.F.Arrivals.Holds c.rounds.at c.rounds.taken c.rounds.far c.rounds.bridge c.rounds.invariant.running
+    c.round.new.at c.round.new.taken c.round.new.far c.round.new.bridge c.in_ok-offers.offers c.in_ok-offers.ensures.counted c.in_ok-offers.ensures.round c.in_ok-offers.ensures.far
+    c.in_ok-offers.ensures.taken in
+    running-ended (near_beats c.args.script.now) g.F.Arrivals.Holds c.rounds.at c.rounds.taken c.rounds.far c.rounds.bridge c.rounds.invariant.running
+    c.round.new.at c.round.new.taken c.round.new.far c.round.new.bridge c.in_ok-offers.offers c.in_ok-offers.ensures.counted c.in_ok-offers.ensures.round c.in_ok-offers.ensures.far
+    c.in_ok-offers.ensures.taken
+    c.rounds.rounds c.rounds.invariant.few c.in-Some.stops c.in-Some.ensures.stops (c.in-Some.ensures.rests h.past h.stands)
+
+pub returns-in-Some-clause-ending : goal.returns-in-Some-clause-ending
+returns-in-Some-clause-ending g c =
+    c.ending_of.ensures g.row.C g.row.M (near_beats c.args.script.now) _ c.round.new.bridge c.requires.client c.requires.manager
+    (counts-all (near_beats c.args.script.now) g.F.Arrivals.Holds c.rounds.at c.rounds.taken c.rounds.far c.rounds.bridge c.rounds.invariant.running
+    c.round.new.at c.round.new.taken c.round.new.far c.round.new.bridge c.in_ok-offers.offers c.in_ok-offers.ensures.counted c.in_ok-offers.ensures.round c.in_ok-offers.ensures.far
+    c.in_ok-offers.ensures.taken) (last g c)
+
+pub returns-in-Some-clause-far : goal.returns-in-Some-clause-far
+returns-in-Some-clause-far g c =
+    subst (λ q. g.F.Arrivals.Holds c.round.new.far q)
+    (far-is c.requires.client c.requires.manager (near_beats c.args.script.now) c.round.new.at _ c.round.new.bridge c.in-Some.stops (c.rounds.rounds + 1) (last g c))
+    (holds-all (near_beats c.args.script.now) g.F.Arrivals.Holds c.rounds.at c.rounds.taken c.rounds.far c.rounds.bridge c.rounds.invariant.running
+    c.round.new.at c.round.new.taken c.round.new.far c.round.new.bridge c.in_ok-offers.offers c.in_ok-offers.ensures.counted c.in_ok-offers.ensures.round c.in_ok-offers.ensures.far
+    c.in_ok-offers.ensures.taken)
 
 -- the way after a round that is not the last one
-onward : (g : Over) (c : goal.In_default g) → progress_here c.rounds.at (beats_of c.rounds.far) c.rounds.bridge + 1 ≤
-    progress_here c.round-offers.new.at (beats_of c.round-offers.new.far) c.round-offers.new.bridge
+onward : (g : Over) (c : goal.In_default g) → progress_by c.rounds.at c.rounds.taken c.rounds.bridge + 1 ≤ progress_by c.round.new.at c.round.new.taken c.round.new.bridge
 onward g c =
-    let u = c.rounds.invariant.under_way in
-    let h = c.round-offers.ensures.round u.past u.stands u.is_at in
-    subst (λ n. progress_here c.rounds.at (beats_of c.rounds.far) c.rounds.bridge + 1 ≤ progress_here n (beats_of c.round-offers.new.far) c.round-offers.new.bridge)
-    (sym c.round-offers.ensures.counted)
-    (further (near_beats c.args.script.now) c.rounds.at
-    (beats_of c.rounds.far) (beats_of c.round-offers.new.far) c.rounds.bridge c.round-offers.new.bridge u.past c.round-offers.result u.stands u.is_at h
-    (λ stopped rest. c.in_default.ensures.goes h.past h.stands refl stopped rest))
+    let h = round-is (near_beats c.args.script.now) g.F.Arrivals.Holds c.rounds.at c.rounds.taken c.rounds.far c.rounds.bridge c.rounds.invariant.running
+    c.round.new.at c.round.new.taken c.round.new.far c.round.new.bridge c.in_ok-offers.offers c.in_ok-offers.ensures.counted c.in_ok-offers.ensures.round c.in_ok-offers.ensures.far
+    c.in_ok-offers.ensures.taken in
+    running-further (near_beats c.args.script.now) g.F.Arrivals.Holds c.rounds.at c.rounds.taken c.rounds.far c.rounds.bridge c.rounds.invariant.running
+    c.round.new.at c.round.new.taken c.round.new.far c.round.new.bridge c.in_ok-offers.offers c.in_ok-offers.ensures.counted c.in_ok-offers.ensures.round c.in_ok-offers.ensures.far
+    c.in_ok-offers.ensures.taken
+    (λ stopped rest. c.in_default.ensures.goes h.past h.stands refl stopped rest)
+
+-- and where the run stands then
+goes-on : (g : Over) (c : goal.In_default g) → IsRunning g.F.Arrivals.Holds (near_beats c.args.script.now) c.round.new.at c.round.new.taken c.round.new.far c.round.new.bridge
+goes-on g c = running-on (near_beats c.args.script.now) g.F.Arrivals.Holds c.rounds.at c.rounds.taken c.rounds.far c.rounds.bridge c.rounds.invariant.running
+    c.round.new.at c.round.new.taken c.round.new.far c.round.new.bridge c.in_ok-offers.offers c.in_ok-offers.ensures.counted c.in_ok-offers.ensures.round c.in_ok-offers.ensures.far
+    c.in_ok-offers.ensures.taken
 
 pub rounds-smaller : goal.rounds-smaller
 rounds-smaller g c =
-    let u = c.rounds.invariant.under_way in
-    let h = c.round-offers.ensures.round u.past u.stands u.is_at in
-    let v = under-way-after (near_beats c.args.script.now)
-    c.rounds.at c.round-offers.new.at (beats_of c.round-offers.new.far) u.past c.round-offers.new.bridge c.round-offers.result c.round-offers.ensures.counted h in
     nearer _ _ _ (onward g c)
-    (progress-ends (near_beats c.args.script.now) c.requires.client
-    c.requires.manager c.round-offers.new.at (beats_of c.round-offers.new.far) c.round-offers.new.bridge v.past v.stands v.is_at)
+    (running-ends (near_beats c.args.script.now) g.F.Arrivals.Holds c.round.new.at c.round.new.taken c.round.new.far c.round.new.bridge (goes-on g c) c.requires.client c.requires.manager)
 
 pub rounds-preserved : goal.rounds-preserved
-rounds-preserved g c =
-    let u = c.rounds.invariant.under_way in
-    let h = c.round-offers.ensures.round u.past u.stands u.is_at in
-    record {
-      under_way = under-way-after (near_beats c.args.script.now)
-          c.rounds.at c.round-offers.new.at (beats_of c.round-offers.new.far) u.past c.round-offers.new.bridge c.round-offers.result c.round-offers.ensures.counted h;
-      room = keeps-room (near_beats c.args.script.now)
-          c.rounds.far c.round-offers.new.far c.round-offers.ensures.capacity c.rounds.invariant.room;
-      few = one-round-more _ _ _ c.rounds.invariant.few (onward g c);
-    }
+rounds-preserved g c = record { running = goes-on g c; same = c.in_ok-offers.ensures.same ∙ c.rounds.invariant.same; few = one-round-more _ _ _ c.rounds.invariant.few (onward g c) }
+
+pub returns-in-Some-clause-same : goal.returns-in-Some-clause-same
+returns-in-Some-clause-same g c = c.in_ok-offers.ensures.same ∙ c.rounds.invariant.same

@@ -1,17 +1,15 @@
-use Rattle.std.proofs.Common.{◌-◌, ◌≤◌}
+use Rattle.std.proofs.Common.{◌≡◌, ◌-◌, ◌≤◌}
 use Rattle.tl_bridge.specs.Scripts.{near_beats}
-use Rattle.tl_bridge.specs.Inner.Arriving.{HasRoomFor, beats_of}
-use Rattle.tl_bridge.specs.Inner.Running.{IsUnderWay}
-use Rattle.tl_bridge.proofs.Ended.{progress_here, run_end}
+use Rattle.tl_bridge.specs.Inner.Running.{IsRunning}
+use Rattle.tl_bridge.proofs.Ended.{progress_by, run_end}
 use Rattle.tl_bridge.proofs.rounds.run_rounds.Given as goal
 
 abbrev pub invariant-rounds : goal.invariant-rounds
 invariant-rounds g l = record {
-  under_way : IsUnderWay (near_beats l.script) l.at (beats_of l.far) l.bridge;
-  room : HasRoomFor (near_beats l.script) l.far;
-  few : l.rounds ≤ progress_here l.at (beats_of l.far) l.bridge;
+  running : IsRunning g.F.Arrivals.Holds (near_beats l.script) l.at l.taken l.far l.bridge;
+  same : g.F.Arrivals.made_with l.far ≡ g.F.Arrivals.made_with l.fn.far;
+  few : l.rounds ≤ progress_by l.at l.taken l.bridge;
 }
 
 abbrev pub decreases-rounds : goal.decreases-rounds
-decreases-rounds g l =
-    run_end (near_beats l.script) - progress_here l.at (beats_of l.far) l.bridge
+decreases-rounds g l = run_end (near_beats l.script) - progress_by l.at l.taken l.bridge

@@ -1,0 +1,28 @@
+-- The lines of far beats, as they are written while the beats come.
+use Rattle.std.proofs.Common.{◌≡◌, ◌++◌, ◌∷◌, ℕ, List, [], sym, ap, ◌∙◌, append_assoc}
+use Rattle.std.proofs.lemmas.Grind.{flat_map-append}
+use Rattle.tl_msg.specs.declared.beat.BeatOf.{BeatOf}
+use Rattle.tl_trace.specs.Fields.{Form}
+use Rattle.tl_trace.specs.Lines.{line_text, beats_text}
+use Rattle.tl_answer.specs.Inner.FarTexts.{whole}
+
+module _ {H : Type 0} (f : Form H) (w : ℕ) where
+  -- the lines of two lists
+  lines-joined : (xs ys : List (BeatOf H w)) → beats_text f w (xs ++ ys) ≡ beats_text f w xs ++ beats_text f w ys
+  lines-joined xs ys = flat_map-append (λ b. line_text f w b ++ 10 ∷ []) xs ys
+
+  -- beats that wait behind others
+  pub whole-added : (text : List ℕ) (waiting more : List (BeatOf H w)) → whole f w text (waiting ++ more) ≡ whole f w text waiting ++ beats_text f w more
+  whole-added text waiting more = ap (λ q. text ++ q) (lines-joined waiting more) ∙ sym (append_assoc text (beats_text f w waiting) (beats_text f w more))
+
+-- five texts behind another one
+five-behind : (t a b c d e : List ℕ) → t ++ a ++ b ++ c ++ d ++ e ≡ t ++ (a ++ b ++ c ++ d ++ e)
+five-behind t a b c d e =
+    ap (λ q. q ++ e) (ap (λ q. q ++ d) (ap (λ q. q ++ c) (append_assoc t a b) ∙ append_assoc t (a ++ b) c) ∙ append_assoc t (a ++ b ++ c) d) ∙
+    append_assoc t (a ++ b ++ c ++ d) e
+
+-- texts that were put one behind the other, each of which has these lines, the first behind a start
+pub all-behind : (start a b c d e : List ℕ) (a' b' c' d' e' t2 t3 t4 t5 : List ℕ) → a' ≡ start ++ a → b' ≡ b → c' ≡ c → d' ≡ d → e' ≡ e →
+    t2 ≡ a' ++ b' → t3 ≡ t2 ++ c' → t4 ≡ t3 ++ d' → t5 ≡ t4 ++ e' → t5 ≡ start ++ (a ++ b ++ c ++ d ++ e)
+all-behind start a b c d e a' b' c' d' e' t2 t3 t4 t5 in_a in_b in_c in_d in_e second third fourth fifth =
+    rw (fifth, fourth, third, second, in_a, in_b, in_c, in_d, in_e) (five-behind start a b c d e)

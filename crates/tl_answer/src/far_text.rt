@@ -1,0 +1,175 @@
+//! The lines of far beats, which are written while the beats come.
+ghost use Rattle.std.specs.Prelude.{◌≡◌, ◌++◌, [], IfOk, OnOk};
+ghost use Rattle.tl_lanes.specs.Lanes.{IsWidth};
+ghost use Rattle.tl_settle.specs.Outcomes.{Beats};
+ghost use Rattle.tl_trace.specs.Lines.{beats_text};
+ghost use Rattle.tl_bridge.specs.Arrivals.{no_beats};
+ghost use Rattle.tl_answer.specs.Answer.{far_header, far_lines};
+ghost use Rattle.tl_answer.specs.Inner.FarTexts.{HasLines, whole};
+
+use crate::answer::header;
+use std::alloc::{AllocError, Global};
+use tl_bridge::Arrivals;
+use tl_msg::{Beat, ChA, ChB, ChC, ChD, ChE};
+use tl_trace::{HeadText, write_far};
+
+/// How many far beats of a channel wait for their lines before these are written: as many as an
+/// inbox holds, so that there is always room for those of another one.
+const WAITING: usize = 128;
+
+/// The lines of the far beats of a channel, the last ones of which may still be beats: lines are
+/// made faster where there are many at once.
+#[derive(Drop)]
+struct FarText<K: HeadText, const W: usize> {
+    text: Vec<u8>,
+    waiting: Vec<Beat<K, W>>,
+}
+
+impl<K: HeadText, const W: usize> FarText<K, W> {
+    // No beats, behind a text.
+    fn new(alloc: Global, text: Vec<u8>) -> Result<Self, AllocError>
+        ensures text { IfOk result (λ made. made.text.items ≡ text.items) }
+        ensures waiting { IfOk result (λ made. made.waiting.items ≡ []) }
+    {
+        let waiting = Vec::with_capacity(alloc, 2 * WAITING)?;
+        Ok(FarText { text, waiting })
+    }
+
+    // Writes the lines of the beats that wait.
+    fn write_waiting(&mut self, version: u8) -> Result<(), AllocError>
+        requires { IsWidth W }
+        ensures text { OnOk result (self.new.text.items ≡
+            whole (K.form version) W self.old.text.items self.old.waiting.items) }
+        ensures waiting { OnOk result (self.new.waiting.items ≡ []) }
+    {
+        if write_far::<K, W>(&mut self.text, &self.waiting, version).is_err() {
+            return Err(AllocError);
+        }
+        self.waiting.clear();
+        Ok(())
+    }
+
+    // The same, but only where the beats of another inbox might not fit.
+    fn make_room(&mut self, version: u8) -> Result<(), AllocError>
+        requires { IsWidth W }
+        ensures { OnOk result (whole (K.form version) W self.new.text.items self.new.waiting.items
+            ≡ whole (K.form version) W self.old.text.items self.old.waiting.items) }
+    {
+        if self.waiting.len() < WAITING {
+            return Ok(());
+        }
+        self.write_waiting(version)
+    }
+
+    // Takes the beats of an inbox.
+    fn add(&mut self, beats: &[Beat<K, W>], version: u8) -> Result<(), AllocError>
+        requires { IsWidth W }
+        ensures { OnOk result (whole (K.form version) W self.new.text.items self.new.waiting.items
+            ≡ whole (K.form version) W self.old.text.items self.old.waiting.items
+            ++ beats_text (K.form version) W beats.now) }
+    {
+        self.make_room(version)?;
+        self.waiting.extend_from_slice(beats)?;
+        Ok(())
+    }
+
+    // The text with all lines.
+    fn into_text(self, version: u8) -> Result<Vec<u8>, AllocError>
+        requires { IsWidth W }
+        ensures { IfOk result (λ text. text.items ≡
+            whole (K.form version) W self.text.items self.waiting.items) }
+    {
+        let mut lines = self;
+        lines.write_waiting(version)?;
+        let FarText { text, waiting: _ } = lines;
+        Ok(text)
+    }
+}
+
+/// The lines of the far beats of a run, each channel's in a text of its own: that of A begins with
+/// the first line of an answer.
+#[derive(Drop)]
+pub(crate) struct FarTexts<const C: usize, const M: usize> {
+    a: FarText<ChA, M>,
+    b: FarText<ChB, C>,
+    c: FarText<ChC, M>,
+    d: FarText<ChD, C>,
+    e: FarText<ChE, M>,
+    version: u8,
+}
+
+// Moves a text behind another one.
+fn append(text: &mut Vec<u8>, more: Vec<u8>) -> Result<(), AllocError>
+    ensures { OnOk result (text.new.items ≡ text.old.items ++ more.items) }
+{
+    text.extend_from_slice(&more)
+}
+
+impl<const C: usize, const M: usize> FarTexts<C, M> {
+    // The first line of an answer in this version.
+    pub(crate) fn new(alloc: Global, version: u8) -> Result<Self, AllocError>
+        requires client { IsWidth C }
+        requires manager { IsWidth M }
+        ensures lines { IfOk result (λ made. HasLines made no_beats) }
+        ensures version { IfOk result (λ made. made.version ≡ version) }
+    {
+        let a = FarText::new(alloc, header(alloc, version, C, M)?)?;
+        let b = FarText::new(alloc, Vec::new(alloc))?;
+        let c = FarText::new(alloc, Vec::new(alloc))?;
+        let d = FarText::new(alloc, Vec::new(alloc))?;
+        let e = FarText::new(alloc, Vec::new(alloc))?;
+        Ok(FarTexts {
+            a,
+            b,
+            c,
+            d,
+            e,
+            version,
+        })
+    }
+
+    // The first line of an answer, and the lines of the far beats, channel by channel.
+    pub(crate) fn into_text(self) -> Result<Vec<u8>, AllocError>
+        requires client { IsWidth C }
+        requires manager { IsWidth M }
+        ensures { (far : Beats M C) → HasLines self.entry far → IfOk result (λ text. text.items ≡
+            far_header self.entry.version C M ++ far_lines self.entry.version far) }
+    {
+        let FarTexts {
+            a,
+            b,
+            c,
+            d,
+            e,
+            version,
+        } = self;
+        let mut text = a.into_text(version)?;
+        append(&mut text, b.into_text(version)?)?;
+        append(&mut text, c.into_text(version)?)?;
+        append(&mut text, d.into_text(version)?)?;
+        append(&mut text, e.into_text(version)?)?;
+        Ok(text)
+    }
+}
+
+impl<const C: usize, const M: usize> Arrivals<C, M> for FarTexts<C, M> {
+    ghost Holds = { λ t far. HasLines t far };
+
+    ghost made_with = { λ t. t.version };
+
+    fn take(
+        &mut self,
+        a: &[Beat<ChA, M>],
+        b: &[Beat<ChB, C>],
+        c: &[Beat<ChC, M>],
+        d: &[Beat<ChD, C>],
+        e: &[Beat<ChE, M>],
+    ) -> Result<(), AllocError> {
+        let version = self.version;
+        self.a.add(a, version)?;
+        self.b.add(b, version)?;
+        self.c.add(c, version)?;
+        self.d.add(d, version)?;
+        self.e.add(e, version)
+    }
+}
