@@ -1,11 +1,11 @@
 -- What was read of a text, between two pieces of it.
 use Rattle.std.specs.Prelude.{IfSome}
-use Rattle.std.proofs.Common.{◌≡◌, ◌≢◌, ℕ, ◌+◌, ◌-◌, ◌<◌, ◌≤◌, ◌^◌, true, List, [], ◌++◌, length, take, drop, Option, None, Some, refl, sym, ap, ◌∙◌, subst, arith, length-append, length-drop, append_assoc, append-nil, take-append-drop}
+use Rattle.std.proofs.Common.{◌≡◌, ◌≢◌, ℕ, ◌+◌, ◌-◌, ◌≤◌, List, ◌++◌, length, take, drop, Option, None, Some, refl, sym, ap, ◌∙◌, subst, arith, length-append, length-drop, append_assoc, append-nil, take-append-drop}
 use Rattle.std.proofs.lemmas.List.{drop-drop, drop-take, length-take-le}
 use Rattle.std.specs.Io.KnownBytes.{Consumes, IsAtEnd}
 use Rattle.std.specs.List.{slice_range}
-use Rattle.tl_trace.specs.Faults.{HasHeader, IsFirstFault}
-use Rattle.tl_trace.specs.Scripts.{HasRead, IsUnfinished}
+use Rattle.tl_trace.specs.Faults.{IsFirstFault}
+use Rattle.tl_trace.specs.Scripts.{HasRead}
 use Rattle.tl_trace.specs.declared.script_reader.ScriptReader.{ScriptReader}
 use Rattle.tl_trace.specs.declared.fault.TraceFault.{TraceFault}
 use Rattle.tl_trace.specs.declared.fault.TraceKind.{TraceKind}

@@ -1,25 +1,23 @@
 -- Reading a text to its end, piece by piece.
-use Rattle.std.specs.Prelude.{IfSome, ◌==◌}
-use Rattle.std.proofs.Common.{◌≡◌, ◌≢◌, ℕ, ◌+◌, ◌-◌, ◌<◌, ◌≤◌, ◌^◌, Bool, true, false, cond, nat_eq, nat_le, List, [], ◌++◌, length, take, drop, Option, None, Some, refl, sym, ap, ◌∙◌, subst, arith, eq-eqb, length-append, append-nil, inl, inr}
-use Rattle.std.proofs.lemmas.Bool.{eqb-true, leb-true, cases_eq}
+use Rattle.std.specs.Prelude.{IfSome}
+use Rattle.std.proofs.Common.{◌≡◌, ◌≢◌, ℕ, ◌+◌, ◌-◌, ◌<◌, ◌≤◌, ◌^◌, Bool, true, false, cond, nat_eq, nat_le, List, [], ◌++◌, length, take, Option, Some, refl, sym, ap, ◌∙◌, subst, arith, eq-eqb, length-append}
+use Rattle.std.proofs.lemmas.Bool.{eqb-true, leb-true}
 use Rattle.std.specs.Fmt.{digits}
-use Rattle.std.specs.List.{list_all, list_any, slice_range}
-use Rattle.std.specs.Io.KnownBytes.{Consumes, IsAtEnd}
-use Rattle.tl_trace.specs.Faults.{is_newline, body, header_of, HasHeader, IsFirstFault}
+use Rattle.std.specs.List.{list_all, slice_range}
+use Rattle.tl_trace.specs.Faults.{header_of, HasHeader, IsFirstFault}
 use Rattle.tl_trace.specs.Inner.Reading.{LineAt}
 use Rattle.tl_trace.specs.Scripts.{HasRead, IsHeaderLine, IsUnfinished}
 use Rattle.tl_trace.specs.Texts.{versions, widths, is_version, is_width, header_text}
 use Rattle.tl_trace.specs.declared.header.Header.{Header}
 use Rattle.tl_trace.specs.declared.script_reader.ScriptReader.{ScriptReader}
 use Rattle.tl_trace.specs.declared.fault.TraceKind.TheVariants as kinds
-use Rattle.tl_trace.specs.declared.places.TheConstants.{LONGEST_LINE}
 use Rattle.tl_trace.proofs.Headers.{header, known, is_header}
 use Rattle.tl_trace.proofs.OneTrace.{in_list}
 use Rattle.tl_trace.proofs.Pieces.{header_line}
 use Rattle.tl_trace.proofs.ReadBeats.{first_line}
 use Rattle.tl_trace.proofs.Walk.{no_header_end, last_line}
 use Rattle.tl_answer.specs.Inner.Lines.{IsBetween}
-use Rattle.tl_answer.specs.Inputs.{HasTaken, IsFresh, IsRefused, held, unread_of}
+use Rattle.tl_answer.specs.Inputs.{HasTaken, IsFresh, held, unread_of}
 use Rattle.tl_answer.specs.Texts.{most_bytes}
 use Rattle.tl_answer.specs.declared.input.Input.{Input}
 use Rattle.tl_answer.proofs.Between.{held_size, advanced, of_whole}

@@ -1,13 +1,13 @@
 -- What came of a text that is read piece by piece is what comes of the whole text.
 use Rattle.std.specs.Prelude.{IfSome, IfOk, IfErr}
-use Rattle.std.proofs.Common.{◌≡◌, ◌≢◌, ℕ, ◌+◌, ◌-◌, ◌<◌, ◌≤◌, Bool, true, false, nat_eq, ◌||◌, List, [], ◌∷◌, ◌++◌, length, Option, None, Some, Result, Ok, Err, refl, sym, ap, ◌∙◌, subst, arith, length-append}
+use Rattle.std.proofs.Common.{◌≡◌, ℕ, ◌-◌, ◌<◌, ◌≤◌, Bool, true, false, nat_eq, ◌||◌, List, [], ◌∷◌, ◌++◌, length, Option, None, Some, Result, Ok, Err, refl, sym, ap, ◌∙◌, subst, arith, length-append}
 use Rattle.std.proofs.lemmas.Bool.{or_parts, eqb-true}
 use Rattle.std.specs.List.{list_any}
 use Rattle.std.specs.Io.KnownBytes.{Consumes, IsAtEnd, prepend_known}
 use Rattle.tl_trace.specs.Faults.{is_newline, body, header_of, IsFirstFault}
 use Rattle.tl_trace.specs.declared.header.Header.{Header}
 use Rattle.tl_trace.specs.declared.fault.TraceKind.TheVariants as kinds
-use Rattle.tl_answer.specs.Inputs.{HasTaken, IsFresh, IsRefused, IsScriptRead, ReadsAnswer, held, unread_of}
+use Rattle.tl_answer.specs.Inputs.{HasTaken, IsFresh, IsRefused, ReadsAnswer, held, unread_of}
 use Rattle.tl_answer.specs.Texts.{IsAnswer, most_bytes}
 use Rattle.tl_answer.specs.declared.answer.Answer.{Answer}
 use Rattle.tl_answer.specs.declared.fault.TextFault.{TextFault}

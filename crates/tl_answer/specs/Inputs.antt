@@ -1,5 +1,5 @@
 -- What has been read of a text that comes in piece by piece (this project's choice).
-use Rattle.std.specs.Prelude.{◌≡◌, ◌≢◌, ◌≤◌, ◌<◌, ◌++◌, ◌+◌, ℕ, List, [], length, take, slice_range, Option, Result, Ok, Err, IfSome, Bool}
+use Rattle.std.specs.Prelude.{◌≡◌, ◌≢◌, ◌≤◌, ◌<◌, ◌++◌, ℕ, List, [], length, slice_range, Option, Result, Ok, Err, IfSome, Bool}
 use Rattle.std.specs.Io.KnownBytes.{Consumes, IsAtEnd, prepend_known}
 use Rattle.tl_trace.specs.Scripts.{TellsScript}
 use Rattle.tl_trace.specs.Faults.{IsFirstFault}

@@ -1,13 +1,13 @@
 -- A line that is too long has its fault by its letter alone, whatever follows in it.
-use Rattle.std.proofs.Common.{◌≡◌, ◌≢◌, ℕ, ◌+◌, ◌<◌, ◌≤◌, Bool, true, false, nat_eq, ◌||◌, List, [], ◌∷◌, ◌++◌, length, map, Option, Some, None, refl, sym, ap, ◌∙◌, arith, length-append, eq-eqb, cond}
+use Rattle.std.proofs.Common.{◌≡◌, ℕ, ◌<◌, ◌≤◌, Bool, true, false, List, [], ◌∷◌, ◌++◌, length, Option, Some, refl, sym, ap, ◌∙◌, arith, length-append, cond}
 use Rattle.std.specs.Prelude.{◌==◌, if◌then◌else◌}
 use Rattle.std.specs.List.{list_any, slice_index}
 use Rattle.std.proofs.lemmas.Bool.{eqb-true, or_parts}
 use Rattle.tl_lanes.specs.declared.limits.TheConstants.{WIDEST}
 use Rattle.tl_msg.specs.Firsts.{unless, ◌or_else◌}
 use Rattle.tl_trace.specs.Fields.{Form, id_digits, form_a, form_b, form_c, form_d, form_e, line_length}
-use Rattle.tl_trace.specs.Lines.{is_shaped, is_in_range, IsLine}
-use Rattle.tl_trace.specs.Texts.{newline, SaysLine}
+use Rattle.tl_trace.specs.Lines.{is_shaped, is_in_range}
+use Rattle.tl_trace.specs.Texts.{SaysLine}
 use Rattle.tl_trace.specs.Faults.{is_newline, onto_first, cut, body, form_fault, body_fault, later_fault, end_fault}
 use Rattle.tl_trace.specs.declared.line.Line.{Line}
 use Rattle.tl_trace.specs.declared.line.Line.TheVariants.{A, B, C, D, E}

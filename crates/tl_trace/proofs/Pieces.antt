@@ -1,17 +1,15 @@
 -- Reading a text piece by piece: what has been read, and one line more.
-use Rattle.std.proofs.Common.{◌≡◌, ◌≢◌, ◌||◌, Bool, ℕ, zero, suc, ◌+◌, ◌-◌, ◌<◌, ◌≤◌, true, false, ◌&&◌, List, [], ◌∷◌, ◌++◌, length, map, take, drop, replicate, Option, Some, None, refl, sym, ap, ◌∙◌, arith, subst, append_assoc, append-nil, add-one, length-append, take-append-drop, length-drop, inl, inr}
+use Rattle.std.proofs.Common.{◌≡◌, ◌≢◌, ◌||◌, Bool, ℕ, ◌+◌, ◌-◌, ◌<◌, ◌≤◌, true, false, ◌&&◌, List, [], ◌∷◌, ◌++◌, length, map, take, drop, replicate, Option, Some, None, refl, sym, ap, ◌∙◌, arith, subst, append_assoc, append-nil, length-append, take-append-drop, length-drop, inl, inr}
 use Rattle.std.proofs.lemmas.Bool.{cases_eq, and_from, eqb-true}
 use Rattle.std.proofs.lemmas.List.Folds.{list_all-append}
 use Rattle.std.specs.Prelude.{◌==◌}
 use Rattle.std.specs.List.{list_all, list_any, slice_range}
 use Rattle.tl_lanes.specs.declared.limits.TheConstants.{WIDEST}
-use Rattle.tl_msg.specs.Firsts.{◌or_else◌}
-use Rattle.tl_trace.specs.Texts.{newline, is_version, header_text, is_kept_line, TellsLines}
+use Rattle.tl_trace.specs.Texts.{newline, is_version, header_text, is_kept_line}
 use Rattle.tl_trace.specs.Scripts.{IsScriptOf, TellsScript, IsHeaderLine, HasRead, IsUnfinished}
 use Rattle.tl_trace.specs.Faults.{is_newline, cut, body, body_fault, later_fault, header_of, faults, HasHeader, IsFirstFault, IsReadableTo}
 use Rattle.tl_trace.specs.Inner.Reading.{IsPushed, IsReadNear, IsReadLine, IsNextPushed, IsSameScript, LineAt}
 use Rattle.tl_trace.specs.declared.fault.TraceKind.{TraceKind}
-use Rattle.tl_trace.specs.declared.fault.TraceKind.TheVariants.{NoEnd}
 use Rattle.tl_trace.specs.declared.line.Line.{Line}
 use Rattle.tl_trace.specs.declared.near.Near.{Near}
 use Rattle.tl_trace.specs.declared.places.TheConstants.{LONGEST_LINE}
@@ -19,10 +17,10 @@ use Rattle.tl_trace.specs.declared.script.Script.{Script}
 use Rattle.tl_trace.proofs.Cover.{says_free, free_between, drop_all}
 use Rattle.tl_trace.proofs.Faultless.{text_faults}
 use Rattle.tl_trace.proofs.Headers.{header, known, is_header}
-use Rattle.tl_trace.proofs.LongLines.{says_short, long_fault, StartsLine, starts_line}
+use Rattle.tl_trace.proofs.LongLines.{says_short, long_fault, starts_line}
 use Rattle.tl_trace.proofs.ReadBeats.{pushed, first_line}
 use Rattle.tl_trace.proofs.ReadLines.{IsFree, body_line, cut_line, first_fault, readable_to, one_more, told_more}
-use Rattle.tl_trace.proofs.Walk.{free_line, split_line, last_line, later_line, later_last, cut_whole, line_more}
+use Rattle.tl_trace.proofs.Walk.{free_line, split_line, last_line, later_line, cut_whole, line_more}
 
 -- ---- the part of a text that was read
 

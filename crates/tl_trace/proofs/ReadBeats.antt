@@ -5,26 +5,19 @@ use Rattle.std.proofs.lemmas.List.Elements.{filter_map-append}
 use Rattle.std.specs.List.{filter_map, cons_option, slice_range}
 use Rattle.std.specs.Option.{option_to_list}
 use Rattle.std.specs.Result.{is_err}
-use Rattle.std.specs.Prelude.{OnOk, IfOk}
+use Rattle.std.specs.Prelude.{OnOk}
 use Rattle.tl_trace.specs.Scripts.{IsScriptOf, beat_of_a, beat_of_b, beat_of_c, beat_of_d, beat_of_e}
-use Rattle.tl_trace.specs.Inner.Reading.{IsNearOf, IsPushed, IsReadNear, IsNextPushed, IsSameScript, LineAt, near_a, near_b, near_c, near_d, near_e}
+use Rattle.tl_trace.specs.Inner.Reading.{IsNearOf, IsPushed, LineAt, near_a, near_b, near_c, near_d, near_e}
 use Rattle.tl_trace.specs.declared.line.Line.{Line}
 use Rattle.tl_trace.specs.declared.near.Near.{Near}
 use Rattle.tl_trace.specs.declared.script.Script.{Script}
 use Rattle.tl_trace.specs.Texts.{newline}
 use Rattle.tl_trace.specs.Faults.{is_newline, body}
-use Rattle.tl_trace.proofs.ReadLines.{SoFar, IsFree, body_last}
-use Rattle.tl_trace.proofs.Cover.{says_free, free_between}
-use Rattle.tl_trace.proofs.Walk.{advance, free_line, split_line, last_line}
+use Rattle.tl_trace.proofs.ReadLines.{IsFree, body_last}
+use Rattle.tl_trace.proofs.Walk.{free_line, split_line, last_line}
 use Rattle.std.proofs.lemmas.Bool.{cases_eq, or_parts}
 use Rattle.std.specs.List.{list_any}
 use Rattle.std.proofs.Common.{inl, inr}
-
--- what has been read of a text
-pub record Progress {C M : ℕ} (version : ℕ) (text : List ℕ) (start : ℕ) (s : Script C M) (at before : ℕ) : Type 0 where
-  pub lines : List Line
-  pub far : SoFar text start version C M lines at before
-  pub script : IsScriptOf lines s
 
 one : {X : Type 0} (o : Option X) → cons_option o [] ≡ option_to_list o
 one None = refl
@@ -59,35 +52,6 @@ pub on_was : {A E : Type 0} {P : Type 0} (r : Result A E) (v : A) → OnOk r P �
 on_was (Ok w) v p e = p
 on_was (Err x) v p e = absurd cc
 
-pub more : {C M : ℕ} (version : ℕ) (text : List ℕ) (start : ℕ) (s s' : Script C M) (at before end : ℕ) (near : Near C M) → Progress version text start s at before → LineAt text at end
-    → IsReadNear version (slice_range text at end) near → end < length text → IsPushed near s s' → Progress version text start s' (end + 1) (before + 1)
-more {C} {M} version text start s s' at before end near p line r lt put =
-    record {
-      lines = p.lines ++ r.line ∷ [];
-      far = advance text start version C M p.lines at before end r.line p.far line r.read lt;
-      script = pushed p.lines r.line s s' near p.script r.same put;
-    }
-
--- a line that the quick reader takes
-pub more_quick : {C M : ℕ} (version : ℕ) (text : List ℕ) (start : ℕ) (s s' : Script C M) (at before end : ℕ) → Progress version text start s at before → IsNextPushed version text at s s' end
-    → Progress version text start s' (end + 1) (before + 1)
-more_quick {C} {M} version text start s s' at before end p q =
-    let line : LineAt text at end = record {
-      from = omega (arith, q.from);
-      to = omega (arith, q.to);
-      free = free_between text at end (omega (arith, q.to)) (says_free version C M q.read.line (slice_range text at end) q.read.read.says);
-      stop = λ _. q.stop;
-    } in
-    more version text start s s' at before end q.near p line q.read q.to q.put
-
--- one that it does not take
-pub unchanged : {C M : ℕ} (version : ℕ) (text : List ℕ) (start : ℕ) (s s' : Script C M) (at before : ℕ) → Progress version text start s at before → IsSameScript s s' → Progress version text start s' at before
-unchanged version text start s s' at before p same = record {
-  lines = p.lines;
-  far = p.far;
-  script = record { a = same.a ∙ p.script.a; b = same.b ∙ p.script.b; c = same.c ∙ p.script.c; d = same.d ∙ p.script.d; e = same.e ∙ p.script.e };
-}
-
 pub on_ok : {A E : Type 0} {P : Type 0} (r : Result A E) → OnOk r P → is_err r ≡ false → P
 on_ok (Ok v) p e = p
 on_ok (Err x) p e = absurd cc
@@ -106,7 +70,3 @@ first_line text end line =
       | inl e ↦ ap body (last_line text 0 end line e) ∙ body_last (slice_range text 0 end) free
       | inr ne ↦ ap body (split_line text 0 end line (omega (arith, line.to, ne))) ∙ body_more (slice_range text 0 end) (drop (end + 1) text) free
     ]
-
-pub if_ok_more : {A E : Type 0} {P Q : A → Type 0} (r : Result A E) → ((x : A) → P x → Q x) → IfOk r P → IfOk r Q
-if_ok_more (Ok x) f p = f x p
-if_ok_more (Err e) f p = p

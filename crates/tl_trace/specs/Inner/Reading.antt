@@ -5,7 +5,7 @@ use Rattle.std.specs.Option.{option_to_list}
 use Rattle.std.specs.Str.Parse.{digits_value}
 use Rattle.std.specs.Char.{digit_value}
 use Rattle.tl_trace.specs.Fields.{Field, opcode, param, size, source, address, sink, denied, mask, data_lanes, corrupt, Form, values}
-use Rattle.tl_trace.specs.Texts.{SaysLine, TellsLines, is_kept_line}
+use Rattle.tl_trace.specs.Texts.{SaysLine, is_kept_line}
 use Rattle.tl_trace.specs.Faults.{body_fault}
 use Rattle.tl_trace.specs.declared.head_reader.HeadFields.{HeadFields}
 use Rattle.tl_trace.specs.declared.head_reader.CommonFields.{CommonFields}
@@ -13,7 +13,7 @@ use Rattle.tl_trace.specs.declared.line.Line.{Line}
 use Rattle.tl_trace.specs.declared.near.Near.{Near}
 use Rattle.tl_trace.specs.declared.near.Near.TheVariants.{OfA, OfB, OfC, OfD, OfE}
 use Rattle.tl_trace.specs.declared.script.Script.{Script}
-use Rattle.tl_trace.specs.Scripts.{IsScriptOf, beat_of_a, beat_of_b, beat_of_c, beat_of_d, beat_of_e}
+use Rattle.tl_trace.specs.Scripts.{beat_of_a, beat_of_b, beat_of_c, beat_of_d, beat_of_e}
 use Rattle.tl_msg.specs.declared.head.HeadA.{HeadA}
 use Rattle.tl_msg.specs.declared.head.HeadB.{HeadB}
 use Rattle.tl_msg.specs.declared.head.HeadC.{HeadC}
@@ -206,10 +206,3 @@ pub record IsSameScript {client manager : ℕ} (before after : Script client man
   pub c : after.c.items ≡ before.c.items
   pub d : after.d.items ≡ before.d.items
   pub e : after.e.items ≡ before.e.items
-
--- the later lines of a text, and their beats by channel
-pub record TellsRest {client manager : ℕ} (version : ℕ) (text : List ℕ) (s : Script client manager) : Type 0 where
-  pub lines : List Line
-  pub told : TellsLines version client manager lines text
-  pub kept : list_all (is_kept_line version client manager) lines ≡ true
-  pub script : IsScriptOf lines s

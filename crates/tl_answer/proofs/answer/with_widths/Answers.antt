@@ -1,5 +1,4 @@
-use Rattle.std.specs.Prelude.{IfOk}
-use Rattle.std.proofs.Common.{lit<, ◌≤◌, length, List, subst, sym, arith}
+use Rattle.std.proofs.Common.{lit<, List, subst, arith}
 use Rattle.tl_trace.specs.declared.line.Line.{Line}
 use Rattle.tl_bridge.specs.Scripts.{EndsIn, near_beats}
 use Rattle.tl_answer.specs.Answer.{ends, near}

@@ -1,4 +1,3 @@
-use Rattle.std.proofs.Common.{arith}
 use Rattle.tl_ring.proofs.FieldSizes.{beat_small}
 use Rattle.tl_answer.proofs.answer.write_arrivals.Goals as goal
 

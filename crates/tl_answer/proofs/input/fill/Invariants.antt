@@ -1,5 +1,4 @@
-use Rattle.std.proofs.Common.{◌≡◌, ◌≤◌, length, take, ◌-◌}
-use Rattle.std.specs.Io.KnownBytes.{Consumes}
+use Rattle.std.proofs.Common.{length, ◌-◌}
 use Rattle.tl_answer.proofs.Filling.{SoFar}
 use Rattle.tl_answer.proofs.input.fill.Given as goal
 

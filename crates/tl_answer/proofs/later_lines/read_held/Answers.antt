@@ -1,7 +1,6 @@
-use Rattle.std.proofs.Common.{◌≡◌, ◌+◌, ◌≤◌, ◌++◌, ℕ, List, length, take, drop, arith, ap, subst, sym}
+use Rattle.std.proofs.Common.{◌+◌, ◌≤◌, ◌++◌, length, take, drop, arith, ap, subst, sym}
 use Rattle.tl_trace.specs.Scripts.{HasRead, IsUnfinished}
 use Rattle.tl_answer.proofs.Between.{held_size, held_rest, between_on}
-use Rattle.tl_answer.specs.Inputs.{held}
 use Rattle.tl_answer.proofs.later_lines.read_held.Goals as goal
 
 pub returns-in-Ok-clause-rest : goal.returns-in-Ok-clause-rest

@@ -1,4 +1,4 @@
-use Rattle.std.proofs.Common.{◌≡◌, ◌≢◌, ◌<◌, ◌≤◌, ◌-◌, ◌++◌, ◌∙◌, lit<, List, Option, ℕ, true, false, length, [], arith, ap, sym, subst}
+use Rattle.std.proofs.Common.{◌≡◌, ◌≢◌, ◌<◌, ◌≤◌, ◌-◌, ◌++◌, ◌∙◌, lit<, false, length, [], arith, ap, sym, subst}
 use Rattle.std.specs.List.{list_any}
 use Rattle.tl_lanes.proofs.Widths.{width_bounds}
 use Rattle.tl_trace.specs.Faults.{is_newline, IsFirstFault}

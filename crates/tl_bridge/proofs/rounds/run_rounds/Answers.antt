@@ -1,4 +1,4 @@
-use Rattle.std.proofs.Common.{lit<, ◌+◌, ◌^◌, ◌<◌, ◌≤◌, refl, sym, subst, ◌∙◌, arith, zero-le}
+use Rattle.std.proofs.Common.{lit<, ◌+◌, ◌^◌, ◌<◌, ◌≤◌, refl, subst, ◌∙◌, arith, zero-le}
 use Rattle.tl_sides.proofs.BridgeSize.{bridge_small}
 use Rattle.tl_bridge.specs.Arrivals.{joined, no_beats}
 use Rattle.tl_bridge.specs.Scripts.{near_beats}

@@ -1,4 +1,4 @@
-use Rattle.std.proofs.Common.{◌≡◌, ◌≤◌, ◌<◌, ◌-◌, false, arith, length, sym, ◌∙◌}
+use Rattle.std.proofs.Common.{◌≡◌, ◌≤◌, ◌-◌, false, arith, length, sym, ◌∙◌}
 use Rattle.std.specs.Result.{is_err}
 use Rattle.std.specs.List.{slice_range}
 use Rattle.tl_trace.specs.Inner.Reading.{IsPushed, IsReadNear}

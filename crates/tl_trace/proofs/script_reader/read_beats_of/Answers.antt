@@ -1,5 +1,4 @@
-use Rattle.std.proofs.Common.{◌≡◌, ◌++◌, ◌≢◌, ℕ, List, sym, subst}
-use Rattle.std.specs.Prelude.{IfErr}
+use Rattle.std.proofs.Common.{subst}
 use Rattle.tl_trace.specs.Scripts.{HasRead}
 use Rattle.tl_trace.proofs.Pieces.{version_2}
 use Rattle.tl_trace.proofs.script_reader.read_beats_of.Goals as goal

@@ -1,4 +1,4 @@
-use Rattle.std.proofs.Common.{◌≡◌, ◌∙◌, Option, Some, ap}
+use Rattle.std.proofs.Common.{◌∙◌, Option, Some, ap}
 use Rattle.tl_msg.specs.Firsts.{◌or_else◌}
 use Rattle.tl_trace.specs.declared.fault.TraceKind.{TraceKind}
 use Rattle.tl_trace.specs.declared.fault.TraceKind.TheVariants.{NoEnd}

@@ -1,8 +1,4 @@
-use Rattle.std.proofs.Common.{◌≡◌, ◌<◌, ◌≤◌, ◌+◌, ◌-◌, ◌++◌, ◌∙◌, ℕ, List, Option, true, length, take, arith, refl, sym}
-use Rattle.std.specs.Prelude.{◌==◌}
-use Rattle.tl_answer.specs.Inputs.{HasTaken, held}
-use Rattle.tl_answer.specs.declared.input.Input.{Input}
-use Rattle.tl_answer.proofs.Between.{advanced}
+use Rattle.std.proofs.Common.{◌∙◌, arith, refl, sym}
 use Rattle.tl_answer.proofs.ToRead.{smaller, used_up}
 use Rattle.tl_answer.proofs.input.Input.drain.Goals as goal
 
