@@ -237,7 +237,7 @@ fn with_widths<T: Threads, R: Read, const C: usize, const M: usize>(
         return check_script::<C, M>(alloc, &script, version);
     }
     if order.is_sync() {
-        return sync_answer_of::<C, M>(alloc, &script, version, order.ring());
+        return sync_answer_of::<C, M>(alloc, script, version, order.ring());
     }
     let outcome = match outcome_of::<T, C, M>(rt, alloc, &script, order) {
         Ok(outcome) => outcome,

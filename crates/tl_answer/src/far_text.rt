@@ -68,7 +68,15 @@ impl<K: HeadText, const W: usize> FarText<K, W> {
             ≡ whole (K.form version) W self.old.text.items self.old.waiting.items
             ++ beats_text (K.form version) W beats.now) }
     {
+        // In most rounds there is none, or one.
+        if beats.is_empty() {
+            return Ok(());
+        }
         self.make_room(version)?;
+        if let [beat] = beats {
+            self.waiting.push(*beat)?;
+            return Ok(());
+        }
         self.waiting.extend_from_slice(beats)?;
         Ok(())
     }

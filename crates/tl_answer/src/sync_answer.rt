@@ -42,33 +42,35 @@ pub fn outcome_of<const C: usize, const M: usize>(
 
 /// The answer to a script by a run in one thread with rings of `ring` beats, which writes the lines
 /// of the far beats as they are taken: the version of the trace and the widths, the far beats, and
-/// the five report lines. Refused with `OutOfMemory` alone.
+/// the five report lines. The script is let go once the run is over. Refused with `OutOfMemory`
+/// alone.
 pub(crate) fn sync_answer_of<const C: usize, const M: usize>(
     alloc: Global,
-    script: &Script<C, M>,
+    script: Script<C, M>,
     version: u8,
     ring: usize,
 ) -> Result<Answer, TextFault>
     requires client { IsWidth C }
     requires manager { IsWidth M }
-    requires short { HasShortLists script.now }
+    requires short { HasShortLists script }
     requires ring { (1 ≤ ring) × (ring ≤ MAX_RING) }
     ensures text { IfOk result (λ made. made.text.items ≡ far_header version C M
-        ++ far_lines version (far_beats (near_beats script.now))
-        ++ report (verdicts (near_beats script.now))) }
+        ++ far_lines version (far_beats (near_beats script.entry))
+        ++ report (verdicts (near_beats script.entry))) }
     ensures done { IfOk result (λ made. made.all_done
-        ≡ list_all is_done (in_order (verdicts (near_beats script.now)))) }
+        ≡ list_all is_done (in_order (verdicts (near_beats script.entry)))) }
     ensures err { IfErr result (λ fault. fault ≡ NoMemory) }
 {
     let Ok(mut far) = FarTexts::<C, M>::new(alloc, version) else {
         return Err(TextFault::OutOfMemory);
     };
-    let ending = match run_sync_into::<FarTexts<C, M>, C, M>(alloc, script, ring, &mut far) {
+    let ending = match run_sync_into::<FarTexts<C, M>, C, M>(alloc, &script, ring, &mut far) {
         Ok(ending) => ending,
         Err(RunFault::OutOfMemory) => return Err(TextFault::OutOfMemory),
         Err(RunFault::Stalled) => unreachable!(),
         Err(RunFault::RingSize) => unreachable!(),
     };
+    drop(script);
     let text = far.into_text()?;
     reported(text, &ending.verdicts)
 }
@@ -94,7 +96,7 @@ fn with_widths<const C: usize, const M: usize>(
     if check {
         return check_script::<C, M>(alloc, &script, version);
     }
-    sync_answer_of::<C, M>(alloc, &script, version, RING)
+    sync_answer_of::<C, M>(alloc, script, version, RING)
 }
 
 /// The same, for a client of `C` bytes: the manager's width is one of eight.

@@ -82,6 +82,21 @@ impl<const C: usize, const M: usize> Taken<C, M> {
     }
 }
 
+// Appends the beats of an inbox to a list. In most rounds there is none, or one.
+#[inline(always)]
+fn append<B: Copy>(list: &mut Vec<B>, beats: &[B]) -> Result<(), AllocError>
+    ensures { OnOk result (list.new.items ≡ list.old.items ++ beats.now) }
+{
+    if beats.is_empty() {
+        return Ok(());
+    }
+    if let [beat] = beats {
+        list.push(*beat)?;
+        return Ok(());
+    }
+    list.extend_from_slice(beats)
+}
+
 impl<const C: usize, const M: usize> Arrivals<C, M> for Taken<C, M> {
     ghost Holds = { λ t far. beats_of t ≡ far };
 
@@ -96,11 +111,11 @@ impl<const C: usize, const M: usize> Arrivals<C, M> for Taken<C, M> {
         d: &[Beat<ChD, C>],
         e: &[Beat<ChE, M>],
     ) -> Result<(), AllocError> {
-        self.a.extend_from_slice(a)?;
-        self.b.extend_from_slice(b)?;
-        self.c.extend_from_slice(c)?;
-        self.d.extend_from_slice(d)?;
-        self.e.extend_from_slice(e)
+        append(&mut self.a, a)?;
+        append(&mut self.b, b)?;
+        append(&mut self.c, c)?;
+        append(&mut self.d, d)?;
+        append(&mut self.e, e)
     }
 }
 

@@ -12,7 +12,7 @@ run_sync_into-requires g c = (lit< tt, (c.requires.client, (c.requires.manager, 
 
 pub returns-clause-text : goal.returns-clause-text
 returns-clause-text g c =
-    let bs = near_beats c.args.script.now in
+    let bs = near_beats c.args.script in
     text-behind _ (far_header c.args.version g.row.C g.row.M ++ far_lines c.args.version (far_beats bs)) (report (verdicts bs))
     (c.in_ok-text.ensures (far_beats bs) c.in-Ok-run_sync_into.ensures.far ∙
     ap (λ v. far_header v g.row.C g.row.M ++ far_lines v (far_beats bs)) (c.in-Ok-run_sync_into.ensures.same ∙ c.in-Ok.ensures.version))
