@@ -117,7 +117,7 @@ pub fn script_in_pieces(
     first: usize,
 ) -> Result<Script<4, 8>, TraceFault> {
     let mut reader = ScriptReader::<4, 8>::new(alloc, 1);
-    let used = reader.read(&lines[..first])?;
+    let used = reader.read(&lines[..first.min(lines.len())])?;
     let rest = &lines[used..];
     let used = reader.read(rest)?;
     match reader.end_fault(&rest[used..]) {

@@ -289,7 +289,7 @@ fn reads_a_script_of_five_beats(rt: HostRuntime) -> Result<(), Fail> {
 #[test]
 fn scripts_are_read_in_pieces(rt: HostRuntime) -> Result<(), Fail> {
     let text = with_line(rt.alloc(), 6, b"")?;
-    let lines = &text[FIVE[0].len()..];
+    let lines = text.get(FIVE[0].len()..).unwrap_or(&[]);
     for first in 0..=lines.len() {
         match script_in_pieces(rt.alloc(), lines, first) {
             Ok(script) => assert!(rt; is_script_of_five(&script), "{first} bytes"),
@@ -305,18 +305,22 @@ fn scripts_are_read_in_pieces(rt: HostRuntime) -> Result<(), Fail> {
 fn faults_are_found_in_pieces(rt: HostRuntime) -> Result<(), Fail> {
     let mut text = with_line(rt.alloc(), 6, b"")?;
     let start = FIVE[0].len();
-    let cut = text.len() - 1;
-    for first in 0..=cut - start {
-        let fault = script_in_pieces(rt.alloc(), &text[start..cut], first).err();
+    let cut = text.len().saturating_sub(1);
+    let lines = text.get(start..cut).unwrap_or(&[]);
+    for first in 0..=lines.len() {
+        let fault = script_in_pieces(rt.alloc(), lines, first).err();
         let missing = TraceFault {
             line: 6,
             kind: TraceKind::NoEnd,
         };
         assert!(rt; fault == Some(missing), "{first} bytes");
     }
-    text[start + FIVE[1].len()] = b'F';
-    for first in 0..=text.len() - start {
-        let fault = script_in_pieces(rt.alloc(), &text[start..], first).err();
+    if let Some(letter) = text.get_mut(start + FIVE[1].len()) {
+        *letter = b'F';
+    }
+    let lines = text.get(start..).unwrap_or(&[]);
+    for first in 0..=lines.len() {
+        let fault = script_in_pieces(rt.alloc(), lines, first).err();
         let other = TraceFault {
             line: 3,
             kind: TraceKind::Channel,
