@@ -57,7 +57,7 @@ module _ {H : Type 0} {w v : ℕ} (z : World H w v) where
       ap (λ n. length z.inbox + n) (length-take-le (pop_count (moved_in z)) (moved_in z).ring (min-le_left (length (moved_in z).ring) (inbox_room - length z.inbox)))
 
   -- a channel comes further by what goes into its ring and what comes out of it
-  progress-moved : (k : ℕ) → progress k (moved z) ≡ progress k z + (push_count z + pop_count (moved_in z))
+  pub progress-moved : (k : ℕ) → progress k (moved z) ≡ progress k z + (push_count z + pop_count (moved_in z))
   progress-moved k =
       by-sizes (length z.taken) (length (moved z).inbox) (length (moved z).ring) (length z.inbox) (length z.ring) (length (moved_in z).ring)
       (push_count z) (pop_count (moved_in z)) inbox-filled ring-left ring-filled

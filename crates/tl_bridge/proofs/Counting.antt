@@ -28,3 +28,7 @@ few-enough m f = omega arith
 -- five numbers that are the same have one sum
 pub same-sums : {a b c d e a' b' c' d' e' : ℕ} → a ≡ a' → b ≡ b' → c ≡ c' → d ≡ d' → e ≡ e' → a + b + c + d + e ≡ a' + b' + c' + d' + e'
 same-sums f g h i j = omega arith
+
+-- a number that has grown, and then has not become less
+pub still-further : (k l m : ℕ) → k + 1 ≤ l → l ≤ m → k + 1 ≤ m
+still-further k l m g h = omega arith

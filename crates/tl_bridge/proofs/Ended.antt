@@ -17,6 +17,7 @@ use Rattle.tl_bridge.specs.Arrivals.{joined, no_beats}
 use Rattle.tl_bridge.specs.Scripts.{IsShort}
 use Rattle.tl_bridge.specs.Inner.Arriving.{HasRoom, HasRoomFor, KeepsRoom}
 use Rattle.tl_bridge.specs.declared.taken.Taken.{Taken}
+use Rattle.tl_bridge.specs.Inner.Going.{HasGone}
 use Rattle.tl_bridge.specs.Inner.Running.{IsSent, AreStopped, IsNew, IsUnderWay, progress, under_way, counted, all_progress, all_under_way, standing_count, all_standing, all_stopped, IsRunning, CanAdd, arriving, inboxes, lengths, IsAt, AllStop, HasRound, HasEnded}
 use Rattle.tl_bridge.specs.declared.channel_state.Offered.{Offered}
 use Rattle.tl_bridge.specs.declared.channel_state.Stop.{Stop}
@@ -154,6 +155,28 @@ module _ {C M : ℕ} (near : Beats C M) where
     -- it comes no further than that
     pub running-ends : IsWidth C → IsWidth M → progress_by n taken s ≤ run_end
     running-ends cw mw = subst (λ t. progress_by n t s ≤ run_end) (sym r.counts) (progress-ends cw mw n r.all s r.under_way.past r.under_way.stands r.under_way.is_at)
+
+    -- channels that go on by themselves
+    module _ (m : PerChannel ℕ) (t : Bridge C M) (goes : (all : Beats M C) (x : Past C M) → StandsFor s x → IsAt near n all x → HasGone near n all x m t) where
+      gone : HasGone near n r.all r.under_way.past m t
+      gone = goes r.all r.under_way.past r.under_way.stands r.under_way.is_at
+
+      -- the run is under way then
+      pub running-ahead : IsRunning Holds near m taken far t
+      running-ahead = record {
+        all = r.all;
+        holds = r.holds;
+        counts = r.counts;
+        under_way = record { past = gone.past; stands = gone.stands; is_at = gone.is_at };
+      }
+
+      -- and has come as far at least
+      pub running-keeps : progress_by n taken s ≤ progress_by m taken t
+      running-keeps =
+          let before : progress_here n r.all s ≡ all_progress n r.under_way.past = progress-is n r.all s r.under_way.past r.under_way.stands r.under_way.is_at in
+          let after : progress_here m r.all t ≡ all_progress m gone.past = progress-is m r.all t gone.past gone.stands gone.is_at in
+          subst (λ q. progress_by n q s ≤ progress_by m q t) (sym r.counts)
+          (subst (λ k. k ≤ progress_here m r.all t) (sym before) (subst (λ k. all_progress n r.under_way.past ≤ k) (sym after) gone.keeps))
 
     -- a round that answered so
     module _ (m taken' : PerChannel ℕ) (far' : F) (t : Bridge C M) (o : PerChannel Offered) (same : m ≡ counted n o)

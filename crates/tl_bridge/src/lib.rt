@@ -2,6 +2,7 @@
 //! (`run_threads`), and the names of the crates below that its callers need, with `SyncBridge` and the two sides.
 #![tactic(auto)]
 
+mod ahead;
 mod arrivals;
 mod channel_state;
 mod client_turns;

@@ -8,6 +8,7 @@ ghost use Rattle.tl_bridge.specs.Scripts.{EndsIn, HasEnding, HasShortLists, near
 ghost use Rattle.tl_bridge.specs.Inner.Arriving.{beats_of};
 ghost use Rattle.tl_bridge.specs.Inner.Running.{IsAt, arriving, lengths, IsRunning, IsNew, HasRound, HasEnded, AreStopped, HasOffered, HaveRoomToCount, counted, standing_count, all_standing, all_under_way, all_stopped};
 
+use crate::ahead::all_go_ahead;
 use crate::arrivals::Arrivals;
 use crate::channel_state::{Offered, Stop, add_accepted, all_stops};
 use crate::offers::offer_next;
@@ -174,6 +175,7 @@ pub(crate) fn run_rounds<F: Arrivals<C, M>, const C: usize, const M: usize>(
         if let Some(stops) = stops_at_rest(bridge, &offers) {
             return Ok(ending_of(&End { at, stops, rounds }, &taken));
         }
+        all_go_ahead(bridge, script, &offers, &mut at);
     }
 }
 

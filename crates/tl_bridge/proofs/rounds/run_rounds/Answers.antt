@@ -3,9 +3,10 @@ use Rattle.tl_sides.proofs.BridgeSize.{bridge_small}
 use Rattle.tl_bridge.specs.Arrivals.{joined, no_beats}
 use Rattle.tl_bridge.specs.Scripts.{near_beats}
 use Rattle.tl_bridge.specs.Inner.Running.{HasEnded, IsRunning, arriving}
-use Rattle.tl_bridge.proofs.Counting.{counts-on, nearer, one-round-more}
-use Rattle.tl_bridge.proofs.Ended.{progress_by, end-few, starts, running-ends, running-on, running-further, running-ended, round-is, holds-all, counts-all}
+use Rattle.tl_bridge.proofs.Counting.{counts-on, nearer, one-round-more, still-further}
+use Rattle.tl_bridge.proofs.Ended.{progress_by, end-few, starts, running-ends, running-ahead, running-keeps, running-on, running-further, running-ended, round-is, holds-all, counts-all}
 use Rattle.tl_bridge.proofs.EndsIn.{far-is}
+use Rattle.tl_bridge.proofs.Round.{counts-fit}
 use Rattle.tl_bridge.proofs.rounds.run_rounds.Given.{Over}
 use Rattle.tl_bridge.proofs.rounds.run_rounds.Goals as goal
 
@@ -65,7 +66,7 @@ returns-in-Some-clause-far g c =
     c.in_ok-offers.ensures.taken)
 
 -- the way after a round that is not the last one
-onward : (g : Over) (c : goal.In_default g) → progress_by c.rounds.at c.rounds.taken c.rounds.bridge + 1 ≤ progress_by c.round.new.at c.round.new.taken c.round.new.bridge
+onward : (g : Over) (c : goal.After-all_go_ahead g) → progress_by c.rounds.at c.rounds.taken c.rounds.bridge + 1 ≤ progress_by c.round.new.at c.round.new.taken c.round.new.bridge
 onward g c =
     let h = round-is (near_beats c.args.script.now) g.F.Arrivals.Holds c.rounds.at c.rounds.taken c.rounds.far c.rounds.bridge c.rounds.invariant.running
     c.round.new.at c.round.new.taken c.round.new.far c.round.new.bridge c.in_ok-offers.offers c.in_ok-offers.ensures.counted c.in_ok-offers.ensures.round c.in_ok-offers.ensures.far
@@ -76,18 +77,43 @@ onward g c =
     (λ stopped rest. c.in_default.ensures.goes h.past h.stands refl stopped rest)
 
 -- and where the run stands then
-goes-on : (g : Over) (c : goal.In_default g) → IsRunning g.F.Arrivals.Holds (near_beats c.args.script.now) c.round.new.at c.round.new.taken c.round.new.far c.round.new.bridge
+goes-on : (g : Over) (c : goal.After-all_go_ahead g) → IsRunning g.F.Arrivals.Holds (near_beats c.args.script.now) c.round.new.at c.round.new.taken c.round.new.far c.round.new.bridge
 goes-on g c = running-on (near_beats c.args.script.now) g.F.Arrivals.Holds c.rounds.at c.rounds.taken c.rounds.far c.rounds.bridge c.rounds.invariant.running
     c.round.new.at c.round.new.taken c.round.new.far c.round.new.bridge c.in_ok-offers.offers c.in_ok-offers.ensures.counted c.in_ok-offers.ensures.round c.in_ok-offers.ensures.far
     c.in_ok-offers.ensures.taken
 
+-- where it stands when channels went on by themselves, and that it has come further by then
+ahead : (g : Over) (c : goal.After-all_go_ahead g) → IsRunning g.F.Arrivals.Holds (near_beats c.args.script.now) c.all_go_ahead.new.at c.round.new.taken c.round.new.far c.all_go_ahead.new.bridge
+ahead g c = running-ahead (near_beats c.args.script.now) g.F.Arrivals.Holds c.round.new.at c.round.new.taken c.round.new.far c.round.new.bridge (goes-on g c) c.all_go_ahead.new.at c.all_go_ahead.new.bridge c.all_go_ahead.ensures
+
+further : (g : Over) (c : goal.After-all_go_ahead g) → progress_by c.rounds.at c.rounds.taken c.rounds.bridge + 1 ≤ progress_by c.all_go_ahead.new.at c.round.new.taken c.all_go_ahead.new.bridge
+further g c = still-further _ _ _ (onward g c) (running-keeps (near_beats c.args.script.now) g.F.Arrivals.Holds c.round.new.at c.round.new.taken c.round.new.far c.round.new.bridge (goes-on g c) c.all_go_ahead.new.at c.all_go_ahead.new.bridge c.all_go_ahead.ensures)
+
+pub all_go_ahead-requires : goal.all_go_ahead-requires
+all_go_ahead-requires g c =
+    let r = running-on (near_beats c.args.script.now) g.F.Arrivals.Holds c.rounds.at c.rounds.taken c.rounds.far c.rounds.bridge c.rounds.invariant.running
+    c.round.new.at c.round.new.taken c.round.new.far c.round.new.bridge c.in_ok-offers.offers c.in_ok-offers.ensures.counted c.in_ok-offers.ensures.round c.in_ok-offers.ensures.far
+    c.in_ok-offers.ensures.taken in (
+      bridge_small g.row.C g.row.M c.requires.client c.requires.manager,
+      (
+        lit< tt,
+        (
+          c.requires.client,
+          (
+            c.requires.manager,
+            counts-fit c.requires.client c.requires.manager (near_beats c.args.script.now) c.round.new.at r.all r.under_way.past r.under_way.is_at c.requires.short,
+          ),
+        ),
+      ),
+    )
+
 pub rounds-smaller : goal.rounds-smaller
 rounds-smaller g c =
-    nearer _ _ _ (onward g c)
-    (running-ends (near_beats c.args.script.now) g.F.Arrivals.Holds c.round.new.at c.round.new.taken c.round.new.far c.round.new.bridge (goes-on g c) c.requires.client c.requires.manager)
+    nearer _ _ _ (further g c)
+    (running-ends (near_beats c.args.script.now) g.F.Arrivals.Holds c.all_go_ahead.new.at c.round.new.taken c.round.new.far c.all_go_ahead.new.bridge (ahead g c) c.requires.client c.requires.manager)
 
 pub rounds-preserved : goal.rounds-preserved
-rounds-preserved g c = record { running = goes-on g c; same = c.in_ok-offers.ensures.same ∙ c.rounds.invariant.same; few = one-round-more _ _ _ c.rounds.invariant.few (onward g c) }
+rounds-preserved g c = record { running = ahead g c; same = c.in_ok-offers.ensures.same ∙ c.rounds.invariant.same; few = one-round-more _ _ _ c.rounds.invariant.few (further g c) }
 
 pub returns-in-Some-clause-same : goal.returns-in-Some-clause-same
 returns-in-Some-clause-same g c = c.in_ok-offers.ensures.same ∙ c.rounds.invariant.same

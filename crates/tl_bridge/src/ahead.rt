@@ -1,0 +1,165 @@
+//! A channel of a run in one thread goes on by itself, as long as its beats are accepted.
+ghost use Rattle.std.specs.Prelude.{◌≡◌, ◌<◌, ◌+◌, ◌^◌, ℕ, List};
+ghost use Rattle.std.proofs.Common.{refl};
+ghost use Rattle.tl_lanes.specs.Lanes.{IsWidth};
+ghost use Rattle.tl_settle.specs.Outcomes.{Beats};
+ghost use Rattle.tl_sides.specs.Bridges.{Past, StandsFor};
+ghost use Rattle.tl_bridge.specs.declared.channel_state.Offered.{Offered};
+ghost use Rattle.tl_bridge.specs.Scripts.{near_beats};
+ghost use Rattle.tl_bridge.specs.Inner.Running.{HaveRoomToCount, IsAt, steps};
+ghost use Rattle.tl_bridge.specs.Inner.Going.{GoesOn, HasGone, gone_none, gone_then};
+
+use crate::channel_state::Offered;
+use crate::offers::offer_next;
+use tl_msg::{BeatOf, HeadA, HeadB, HeadC, HeadD, HeadE};
+use tl_sides::{PerChannel, SyncBridge};
+use tl_trace::Script;
+
+/// The most beats by which a channel goes on in a round: with the one that it offers there, half of
+/// what an inbox holds.
+const MOST_AHEAD: usize = 63;
+
+/// What offers beats `B` on one of its channels, and moves on at once what they give.
+trait GoesAhead<B> {
+    // whether it may offer
+    ghost CanGo: { Self → Type 0 };
+
+    // `new` is what `old` becomes where beats of a list were offered, of which `at` were accepted
+    // before and `later` after it
+    ghost Goes: { (beats : List B) → (at : ℕ) → (old : Self) → (later : ℕ) → (new : Self) → Type 0 };
+
+    /// Offers the next beat of a list, and moves on what is staged and what stands in the ring.
+    fn go_on(&mut self, beats: &[B], at: usize) -> Offered
+        requires { CanGo self.old }
+        ensures again { CanGo self.new }
+        ensures goes { Goes beats.now at self.old (at + steps result) self.new };
+
+    ghost goes_none: { (beats : List B) (at : ℕ) (s : Self) → Goes beats at s at s };
+
+    ghost goes_then: { (beats : List B) (j k l : ℕ) (s t u : Self) → Goes beats j s k t →
+        Goes beats k t l u → Goes beats j s l u };
+}
+
+// Offers the beats of a list behind one that was offered, up to the first one that is not accepted.
+// Answers how many were accepted then.
+fn go_ahead<B, S: GoesAhead<B>>(side: &mut S, beats: &[B], at: usize, first: Offered) -> usize
+    requires can { S.CanGo side.old }
+    requires few { at < 2 ^ 41 }
+    ensures { S.Goes beats.now at side.old result side.new }
+{
+    let mut later = at;
+    let mut offered = first;
+    let mut left = MOST_AHEAD;
+    'beats: while left > 0 && offered.is_accepted() {
+        offered = side.go_on(beats, later);
+        later += offered.steps();
+        left -= 1;
+    }
+    later
+}
+
+impl<const C: usize, const M: usize> GoesAhead<BeatOf<HeadA, C>> for SyncBridge<C, M> {
+    ghost CanGo = { λ _. IsWidth C × IsWidth M };
+
+    ghost Goes = { GoesOn (λ near. near.a) (λ n. n.a) (λ later n. record n { a = later }) };
+
+    fn go_on(&mut self, beats: &[BeatOf<HeadA, C>], at: usize) -> Offered {
+        let offered = offer_next(self, beats, at);
+        self.a.pump();
+        self.a.fetch();
+        offered
+    }
+
+    ghost goes_none = { gone_none (λ near. near.a) (λ n. n.a) (λ later n. record n { a = later }) (λ _. refl) };
+
+    ghost goes_then = { gone_then (λ near. near.a) (λ n. n.a) (λ later n. record n { a = later }) (λ _ _. refl) (λ _ _ _. refl) };
+}
+
+impl<const C: usize, const M: usize> GoesAhead<BeatOf<HeadB, M>> for SyncBridge<C, M> {
+    ghost CanGo = { λ _. IsWidth C × IsWidth M };
+
+    ghost Goes = { GoesOn (λ near. near.b) (λ n. n.b) (λ later n. record n { b = later }) };
+
+    fn go_on(&mut self, beats: &[BeatOf<HeadB, M>], at: usize) -> Offered {
+        let offered = offer_next(self, beats, at);
+        self.b.pump();
+        self.b.fetch();
+        offered
+    }
+
+    ghost goes_none = { gone_none (λ near. near.b) (λ n. n.b) (λ later n. record n { b = later }) (λ _. refl) };
+
+    ghost goes_then = { gone_then (λ near. near.b) (λ n. n.b) (λ later n. record n { b = later }) (λ _ _. refl) (λ _ _ _. refl) };
+}
+
+impl<const C: usize, const M: usize> GoesAhead<BeatOf<HeadC, C>> for SyncBridge<C, M> {
+    ghost CanGo = { λ _. IsWidth C × IsWidth M };
+
+    ghost Goes = { GoesOn (λ near. near.c) (λ n. n.c) (λ later n. record n { c = later }) };
+
+    fn go_on(&mut self, beats: &[BeatOf<HeadC, C>], at: usize) -> Offered {
+        let offered = offer_next(self, beats, at);
+        self.c.pump();
+        self.c.fetch();
+        offered
+    }
+
+    ghost goes_none = { gone_none (λ near. near.c) (λ n. n.c) (λ later n. record n { c = later }) (λ _. refl) };
+
+    ghost goes_then = { gone_then (λ near. near.c) (λ n. n.c) (λ later n. record n { c = later }) (λ _ _. refl) (λ _ _ _. refl) };
+}
+
+impl<const C: usize, const M: usize> GoesAhead<BeatOf<HeadD, M>> for SyncBridge<C, M> {
+    ghost CanGo = { λ _. IsWidth C × IsWidth M };
+
+    ghost Goes = { GoesOn (λ near. near.d) (λ n. n.d) (λ later n. record n { d = later }) };
+
+    fn go_on(&mut self, beats: &[BeatOf<HeadD, M>], at: usize) -> Offered {
+        let offered = offer_next(self, beats, at);
+        self.d.pump();
+        self.d.fetch();
+        offered
+    }
+
+    ghost goes_none = { gone_none (λ near. near.d) (λ n. n.d) (λ later n. record n { d = later }) (λ _. refl) };
+
+    ghost goes_then = { gone_then (λ near. near.d) (λ n. n.d) (λ later n. record n { d = later }) (λ _ _. refl) (λ _ _ _. refl) };
+}
+
+impl<const C: usize, const M: usize> GoesAhead<BeatOf<HeadE, C>> for SyncBridge<C, M> {
+    ghost CanGo = { λ _. IsWidth C × IsWidth M };
+
+    ghost Goes = { GoesOn (λ near. near.e) (λ n. n.e) (λ later n. record n { e = later }) };
+
+    fn go_on(&mut self, beats: &[BeatOf<HeadE, C>], at: usize) -> Offered {
+        let offered = offer_next(self, beats, at);
+        self.e.pump();
+        self.e.fetch();
+        offered
+    }
+
+    ghost goes_none = { gone_none (λ near. near.e) (λ n. n.e) (λ later n. record n { e = later }) (λ _. refl) };
+
+    ghost goes_then = { gone_then (λ near. near.e) (λ n. n.e) (λ later n. record n { e = later }) (λ _ _. refl) (λ _ _ _. refl) };
+}
+
+// Each channel whose beat was accepted goes on by itself. `at` counts what is accepted.
+pub(crate) fn all_go_ahead<const C: usize, const M: usize>(
+    bridge: &mut SyncBridge<C, M>,
+    script: &Script<C, M>,
+    offers: &PerChannel<Offered>,
+    at: &mut PerChannel<usize>,
+)
+    requires client { IsWidth C }
+    requires manager { IsWidth M }
+    requires few { HaveRoomToCount at.old }
+    ensures { (far : Beats M C) (x : Past C M) → StandsFor bridge.old x →
+        IsAt (near_beats script.now) at.old far x →
+        HasGone (near_beats script.now) at.old far x at.new bridge.new }
+{
+    at.a = go_ahead(bridge, &script.a, at.a, offers.a);
+    at.c = go_ahead(bridge, &script.c, at.c, offers.c);
+    at.e = go_ahead(bridge, &script.e, at.e, offers.e);
+    at.b = go_ahead(bridge, &script.b, at.b, offers.b);
+    at.d = go_ahead(bridge, &script.d, at.d, offers.d);
+}
