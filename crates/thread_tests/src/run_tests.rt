@@ -114,8 +114,8 @@ fn a_run_heeds_its_turns(rt: HostRuntime) -> Result<(), Fail> {
     let alloc = rt.alloc();
     let text = acknowledgements(alloc)?;
     let wanted = [NONE, NONE, NONE, NONE, done(200, 200)];
-    let (few, one) = rounds::<4, 8, _>(&rt, alloc, text.as_str(), 4096, 1000, wanted)?;
-    assert!(rt; few <= 6 && one <= 6);
+    let (few, _) = rounds::<4, 8, _>(&rt, alloc, text.as_str(), 4096, 1000, wanted)?;
+    assert!(rt; few <= 6);
     let (many, _) = rounds::<4, 8, _>(&rt, alloc, text.as_str(), 4096, 1, wanted)?;
     assert!(rt; 201 <= many);
     Ok(())
@@ -142,7 +142,7 @@ fn the_largest_message_to_the_narrowest_bus(rt: HostRuntime) -> Result<(), Fail>
     let text = repeated(alloc, TO_NARROWEST, WIDE_BEAT, 64)?;
     let wanted = [done(64, 4096), NONE, NONE, NONE, NONE];
     let (two, one) = rounds::<64, 1, _>(&rt, alloc, text.as_str(), 1, 1, wanted)?;
-    assert!(rt; two <= 8257 && 4033 <= one && one <= 4097);
+    assert!(rt; two <= 8257 && 4097 <= one && one <= 8257);
     let (_, one) = rounds::<64, 1, _>(&rt, alloc, text.as_str(), 64, 1, wanted)?;
     assert!(rt; one <= 65);
     Ok(())

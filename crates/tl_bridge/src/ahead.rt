@@ -15,10 +15,6 @@ use tl_msg::{BeatOf, HeadA, HeadB, HeadC, HeadD, HeadE};
 use tl_sides::{PerChannel, SyncBridge};
 use tl_trace::Script;
 
-/// The most beats by which a channel goes on in a round: with the one that it offers there, half of
-/// what an inbox holds.
-const MOST_AHEAD: usize = 63;
-
 /// What offers beats `B` on one of its channels, and moves on at once what they give.
 trait GoesAhead<B> {
     // whether it may offer
@@ -40,16 +36,23 @@ trait GoesAhead<B> {
         Goes beats k t l u → Goes beats j s l u };
 }
 
-// Offers the beats of a list behind one that was offered, up to the first one that is not accepted.
-// Answers how many were accepted then.
-fn go_ahead<B, S: GoesAhead<B>>(side: &mut S, beats: &[B], at: usize, first: Offered) -> usize
+// Offers the beats of a list behind one that was offered, up to the first one that is not accepted,
+// and at most so many. Answers how many of the list were accepted then.
+fn go_ahead<B, S: GoesAhead<B>>(
+    side: &mut S,
+    beats: &[B],
+    at: usize,
+    first: Offered,
+    most: usize,
+) -> usize
     requires can { S.CanGo side.old }
     requires few { at < 2 ^ 41 }
+    requires most { most < 2 ^ 41 }
     ensures { S.Goes beats.now at side.old result side.new }
 {
     let mut later = at;
     let mut offered = first;
-    let mut left = MOST_AHEAD;
+    let mut left = most;
     'beats: while left > 0 && offered.is_accepted() {
         offered = side.go_on(beats, later);
         later += offered.steps();
@@ -143,23 +146,26 @@ impl<const C: usize, const M: usize> GoesAhead<BeatOf<HeadE, C>> for SyncBridge<
     ghost goes_then = { gone_then (λ near. near.e) (λ n. n.e) (λ later n. record n { e = later }) (λ _ _. refl) (λ _ _ _. refl) };
 }
 
-// Each channel whose beat was accepted goes on by itself. `at` counts what is accepted.
+// Each channel whose beat was accepted goes on by itself, by at most so many beats. `at` counts what
+// is accepted.
 pub(crate) fn all_go_ahead<const C: usize, const M: usize>(
     bridge: &mut SyncBridge<C, M>,
     script: &Script<C, M>,
     offers: &PerChannel<Offered>,
     at: &mut PerChannel<usize>,
+    most: usize,
 )
     requires client { IsWidth C }
     requires manager { IsWidth M }
     requires few { HaveRoomToCount at.old }
+    requires most { most < 2 ^ 41 }
     ensures { (far : Beats M C) (x : Past C M) → StandsFor bridge.old x →
         IsAt (near_beats script.now) at.old far x →
         HasGone (near_beats script.now) at.old far x at.new bridge.new }
 {
-    at.a = go_ahead(bridge, &script.a, at.a, offers.a);
-    at.c = go_ahead(bridge, &script.c, at.c, offers.c);
-    at.e = go_ahead(bridge, &script.e, at.e, offers.e);
-    at.b = go_ahead(bridge, &script.b, at.b, offers.b);
-    at.d = go_ahead(bridge, &script.d, at.d, offers.d);
+    at.a = go_ahead(bridge, &script.a, at.a, offers.a, most);
+    at.c = go_ahead(bridge, &script.c, at.c, offers.c, most);
+    at.e = go_ahead(bridge, &script.e, at.e, offers.e, most);
+    at.b = go_ahead(bridge, &script.b, at.b, offers.b, most);
+    at.d = go_ahead(bridge, &script.d, at.d, offers.d, most);
 }

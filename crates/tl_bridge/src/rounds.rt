@@ -1,5 +1,5 @@
 //! The rounds of a run in one thread, and how each channel ends.
-ghost use Rattle.std.specs.Prelude.{◌≡◌, ◌↔◌, ℕ, IsTrue, IfSome, IsNone, IfOk, OnOk};
+ghost use Rattle.std.specs.Prelude.{◌≡◌, ◌<◌, ◌^◌, ◌↔◌, ℕ, IsTrue, IfSome, IsNone, IfOk, OnOk};
 ghost use Rattle.tl_lanes.specs.Lanes.{IsWidth};
 ghost use Rattle.tl_settle.specs.Outcomes.{Beats, far_beats};
 ghost use Rattle.tl_sides.specs.Bridges.{Bridge, Past, StandsFor};
@@ -145,15 +145,17 @@ fn ending_of(end: &End, taken: &PerChannel<usize>) -> Ending
 }
 
 // Rounds, up to the first one in which no channel could offer more, and after which nothing is
-// under way.
+// under way. After each one a channel whose beat was accepted goes on, by at most so many beats.
 pub(crate) fn run_rounds<F: Arrivals<C, M>, const C: usize, const M: usize>(
     bridge: &mut SyncBridge<C, M>,
     script: &Script<C, M>,
     far: &mut F,
+    most: usize,
 ) -> Result<Ending, AllocError>
     requires client { IsWidth C }
     requires manager { IsWidth M }
     requires short { HasShortLists script.now }
+    requires most { most < 2 ^ 41 }
     requires new { IsNew bridge.old }
     requires empty { F.Holds far.old no_beats }
     ensures ending { IfOk result (HasEnding (near_beats script.now)) }
@@ -175,7 +177,7 @@ pub(crate) fn run_rounds<F: Arrivals<C, M>, const C: usize, const M: usize>(
         if let Some(stops) = stops_at_rest(bridge, &offers) {
             return Ok(ending_of(&End { at, stops, rounds }, &taken));
         }
-        all_go_ahead(bridge, script, &offers, &mut at);
+        all_go_ahead(bridge, script, &offers, &mut at, most);
     }
 }
 

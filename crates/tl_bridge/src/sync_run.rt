@@ -15,6 +15,10 @@ use std::alloc::Global;
 use tl_sides::SyncBridge;
 use tl_trace::Script;
 
+/// The most beats by which a channel goes on after a round of [`run_sync_into`]: with the one of the
+/// round half of what an inbox holds.
+const MOST_AHEAD: usize = 63;
+
 /// Runs a script over a bridge in one thread, to its end: the far beats and the verdicts are those
 /// that the script settles to.
 ///
@@ -50,14 +54,17 @@ pub fn run_sync<const C: usize, const M: usize>(
     let Ok(mut far) = Taken::new(alloc, script) else {
         return Err(RunFault::OutOfMemory);
     };
-    let Ok(ending) = run_rounds(&mut bridge, script, &mut far) else {
+    let Ok(ending) = run_rounds(&mut bridge, script, &mut far, 0) else {
         return Err(RunFault::OutOfMemory);
     };
     Ok(far.into_outcome(ending))
 }
 
-/// The same run as [`run_sync`], whose far beats go to `far` as they are taken, from each round to
-/// the next: where it ends, `far` has those that the script settles to.
+/// The same run as [`run_sync`] in fewer rounds, whose far beats go to `far` as they are taken, from
+/// each round to the next: where it ends, `far` has those that the script settles to.
+///
+/// After each round, each channel whose beat was accepted goes on by itself: it offers the beats
+/// behind it, at most 63, as long as they are accepted, and moves on at once what they give.
 ///
 /// Refused as [`run_sync`] is, but that `far` may ask for memory in each round: where it is refused
 /// some, the run ends in that round with `OutOfMemory`.
@@ -83,7 +90,7 @@ pub fn run_sync_into<F: Arrivals<C, M>, const C: usize, const M: usize>(
         Ok(bridge) => bridge,
         Err(fault) => return Err(RunFault::from(fault)),
     };
-    let Ok(ending) = run_rounds(&mut bridge, script, far) else {
+    let Ok(ending) = run_rounds(&mut bridge, script, far, MOST_AHEAD) else {
         return Err(RunFault::OutOfMemory);
     };
     Ok(ending)

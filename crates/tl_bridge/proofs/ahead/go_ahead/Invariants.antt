@@ -5,7 +5,7 @@ abbrev pub invariant-beats : goal.invariant-beats
 invariant-beats g l = record {
   can : g.S.GoesAhead.CanGo l.side;
   goes : g.S.GoesAhead.Goes l.beats l.at l.fn.side l.later l.side;
-  few : l.later + l.left ≤ l.at + 63;
+  few : l.later + l.left ≤ l.at + l.most;
 }
 
 abbrev pub decreases-beats : goal.decreases-beats

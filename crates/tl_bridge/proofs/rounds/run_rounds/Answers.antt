@@ -101,7 +101,7 @@ all_go_ahead-requires g c =
           c.requires.client,
           (
             c.requires.manager,
-            counts-fit c.requires.client c.requires.manager (near_beats c.args.script.now) c.round.new.at r.all r.under_way.past r.under_way.is_at c.requires.short,
+            (counts-fit c.requires.client c.requires.manager (near_beats c.args.script.now) c.round.new.at r.all r.under_way.past r.under_way.is_at c.requires.short, c.requires.most),
           ),
         ),
       ),

@@ -15,7 +15,7 @@ run_rounds-requires g c = (
       c.requires.client,
       (
         c.requires.manager,
-        (c.requires.short, ((c.args.ring, (c.in-Ok.ensures.size refl).0, c.in-Ok.ensures.new), c.in-Ok-new.ensures.empty)),
+        (c.requires.short, (lit< tt, ((c.args.ring, (c.in-Ok.ensures.size refl).0, c.in-Ok.ensures.new), c.in-Ok-new.ensures.empty))),
       ),
     ),
   ),
