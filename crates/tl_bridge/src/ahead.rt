@@ -7,15 +7,28 @@ ghost use Rattle.tl_sides.specs.Bridges.{Past, StandsFor};
 ghost use Rattle.tl_bridge.specs.declared.channel_state.Offered.{Offered};
 ghost use Rattle.tl_bridge.specs.Scripts.{near_beats};
 ghost use Rattle.tl_bridge.specs.Inner.Running.{HaveRoomToCount, IsAt, steps};
-ghost use Rattle.tl_bridge.specs.Inner.Going.{GoesOn, HasGone, gone_none, gone_then};
+ghost use Rattle.tl_bridge.specs.Inner.Going.{GoesOn, HasGone, HasMovedOn, gone_none, gone_then};
 
 use crate::channel_state::Offered;
 use crate::offers::offer_next;
-use tl_msg::{BeatOf, HeadA, HeadB, HeadC, HeadD, HeadE};
+use tl_msg::{BeatOf, Channel, HeadA, HeadB, HeadC, HeadD, HeadE};
+use tl_ring::SyncPipe;
 use tl_sides::{PerChannel, SyncBridge};
 use tl_trace::Script;
 
-/// What offers beats `B` on one of its channels, and moves on at once what they give.
+// Moves what is staged into the ring. Where there is too little room, the ring's beats go on first.
+fn move_on<K: Channel, const W: usize, const V: usize>(pipe: &mut SyncPipe<K, W, V>)
+    ensures { HasMovedOn K.rules W pipe.old pipe.new }
+{
+    pipe.pump();
+    if pipe.ready() {
+        return;
+    }
+    pipe.fetch();
+    pipe.pump();
+}
+
+/// What offers beats `B` on one of its channels, and moves into its ring at once what they give.
 trait GoesAhead<B> {
     // whether it may offer
     ghost CanGo: { Self → Type 0 };
@@ -24,7 +37,7 @@ trait GoesAhead<B> {
     // before and `later` after it
     ghost Goes: { (beats : List B) → (at : ℕ) → (old : Self) → (later : ℕ) → (new : Self) → Type 0 };
 
-    /// Offers the next beat of a list, and moves on what is staged and what stands in the ring.
+    /// Offers the next beat of a list, and moves what is staged into the ring.
     fn go_on(&mut self, beats: &[B], at: usize) -> Offered
         requires { CanGo self.old }
         ensures again { CanGo self.new }
@@ -68,8 +81,7 @@ impl<const C: usize, const M: usize> GoesAhead<BeatOf<HeadA, C>> for SyncBridge<
 
     fn go_on(&mut self, beats: &[BeatOf<HeadA, C>], at: usize) -> Offered {
         let offered = offer_next(self, beats, at);
-        self.a.pump();
-        self.a.fetch();
+        move_on(&mut self.a);
         offered
     }
 
@@ -85,8 +97,7 @@ impl<const C: usize, const M: usize> GoesAhead<BeatOf<HeadB, M>> for SyncBridge<
 
     fn go_on(&mut self, beats: &[BeatOf<HeadB, M>], at: usize) -> Offered {
         let offered = offer_next(self, beats, at);
-        self.b.pump();
-        self.b.fetch();
+        move_on(&mut self.b);
         offered
     }
 
@@ -102,8 +113,7 @@ impl<const C: usize, const M: usize> GoesAhead<BeatOf<HeadC, C>> for SyncBridge<
 
     fn go_on(&mut self, beats: &[BeatOf<HeadC, C>], at: usize) -> Offered {
         let offered = offer_next(self, beats, at);
-        self.c.pump();
-        self.c.fetch();
+        move_on(&mut self.c);
         offered
     }
 
@@ -119,8 +129,7 @@ impl<const C: usize, const M: usize> GoesAhead<BeatOf<HeadD, M>> for SyncBridge<
 
     fn go_on(&mut self, beats: &[BeatOf<HeadD, M>], at: usize) -> Offered {
         let offered = offer_next(self, beats, at);
-        self.d.pump();
-        self.d.fetch();
+        move_on(&mut self.d);
         offered
     }
 
@@ -136,8 +145,7 @@ impl<const C: usize, const M: usize> GoesAhead<BeatOf<HeadE, C>> for SyncBridge<
 
     fn go_on(&mut self, beats: &[BeatOf<HeadE, C>], at: usize) -> Offered {
         let offered = offer_next(self, beats, at);
-        self.e.pump();
-        self.e.fetch();
+        move_on(&mut self.e);
         offered
     }
 
@@ -146,8 +154,8 @@ impl<const C: usize, const M: usize> GoesAhead<BeatOf<HeadE, C>> for SyncBridge<
     ghost goes_then = { gone_then (λ near. near.e) (λ n. n.e) (λ later n. record n { e = later }) (λ _ _. refl) (λ _ _ _. refl) };
 }
 
-// Each channel whose beat was accepted goes on by itself, by at most so many beats. `at` counts what
-// is accepted.
+// Each channel whose beat was accepted goes on by itself, by at most so many beats, and then what
+// stands in the rings moves on, as far as there is room. `at` counts what is accepted.
 pub(crate) fn all_go_ahead<const C: usize, const M: usize>(
     bridge: &mut SyncBridge<C, M>,
     script: &Script<C, M>,
@@ -168,4 +176,5 @@ pub(crate) fn all_go_ahead<const C: usize, const M: usize>(
     at.e = go_ahead(bridge, &script.e, at.e, offers.e, most);
     at.b = go_ahead(bridge, &script.b, at.b, offers.b, most);
     at.d = go_ahead(bridge, &script.d, at.d, offers.d, most);
+    bridge.fetch();
 }

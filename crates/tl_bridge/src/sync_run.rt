@@ -64,7 +64,8 @@ pub fn run_sync<const C: usize, const M: usize>(
 /// each round to the next: where it ends, `far` has those that the script settles to.
 ///
 /// After each round, each channel whose beat was accepted goes on by itself: it offers the beats
-/// behind it, at most 63, as long as they are accepted, and moves on at once what they give.
+/// behind it, at most 63, as long as they are accepted, and what they give goes into its ring, and
+/// where that has no room, the ring's beats into the inbox. At last all rings go on to the inboxes.
 ///
 /// Refused as [`run_sync`] is, but that `far` may ask for memory in each round: where it is refused
 /// some, the run ends in that round with `OutOfMemory`.

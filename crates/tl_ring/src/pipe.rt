@@ -9,7 +9,7 @@ ghost use Rattle.tl_ring.specs.declared.queue.TheConstants.{ROOM};
 ghost use Rattle.tl_ring.specs.declared.pipe.TheConstants.{MAX_RING};
 
 use crate::fault::{BuildFault, EndFault};
-use crate::queue::{Queue, read_front};
+use crate::queue::{Queue, read_front, write_back};
 use crate::stage::stage_beat;
 use crate::standing::Standing;
 use circular_buffer::HeapCircularBuffer;
@@ -173,7 +173,7 @@ impl<K: Channel, const W: usize, const V: usize, A: Allocator> SyncPipe<K, W, V,
         if self.stage.is_empty() {
             return 0;
         }
-        let count = self.ring.fill_from_slice(self.stage.as_slice());
+        let count = write_back(&mut self.ring, self.stage.as_slice());
         self.stage.drop_front(count);
         count
     }

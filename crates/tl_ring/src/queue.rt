@@ -1,5 +1,5 @@
 //! A line of at most [`ROOM`] items, first in and first out, that takes no memory of its own.
-ghost use Rattle.std.specs.Prelude.{◌≡◌, ◌+◌, ◌-◌, ◌≤◌, ◌++◌, ◌↔◌, [], IsTrue, length, drop, take, slice_get};
+ghost use Rattle.std.specs.Prelude.{◌≡◌, ◌+◌, ◌-◌, ◌≤◌, ◌++◌, ◌↔◌, [], IsTrue, length, drop, min, take, slice_get};
 ghost use Rattle.circular_buffer.specs.Buffer.{buffer};
 ghost use Rattle.tl_ring.specs.declared.queue.TheConstants.{ROOM};
 
@@ -134,6 +134,26 @@ fn cut_front<T: Copy + Default>(items: &mut ArrayVec<T, ROOM>, count: usize)
     let left = items.len() - count;
     items.as_mut_slice().copy_within(count.., 0);
     items.truncate(left);
+}
+
+// Appends items to a ring, as many as it has room for, and answers their number. A single one, as a
+// stage mostly has, needs no call that copies many.
+pub(crate) fn write_back<T: Copy, A: Allocator>(
+    ring: &mut HeapCircularBuffer<T, A>,
+    items: &[T],
+) -> usize
+    ensures count { result ≡
+        min (length items.now) (ring.old.capacity - length ring.old.items) }
+    ensures ring { ring.new ≡
+        buffer (ring.old.items ++ take result items.now) ring.old.capacity }
+{
+    if let [item] = items {
+        return match ring.try_push_back(*item) {
+            Ok(()) => 1,
+            Err(_) => 0,
+        };
+    }
+    ring.fill_from_slice(items)
 }
 
 // Moves the first `count` items of a ring to the end of a queue.

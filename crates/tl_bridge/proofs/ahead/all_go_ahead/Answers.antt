@@ -1,8 +1,9 @@
 use Rattle.std.proofs.Common.{refl, sym}
 use Rattle.tl_ring.proofs.FieldSizes.{beat_small}
+use Rattle.tl_sides.proofs.BridgeSize.{bridge_small}
 use Rattle.tl_bridge.specs.Scripts.{near_beats}
 use Rattle.tl_bridge.specs.Inner.Running.{all_progress}
-use Rattle.tl_bridge.proofs.Going.{five-on}
+use Rattle.tl_bridge.proofs.Going.{fetched-goes, six-on}
 use Rattle.tl_bridge.proofs.ahead.all_go_ahead.Goals as goal
 
 pub go_ahead-at-requires-room-S-GoesAhead-2 : goal.go_ahead-at-requires-room-S-GoesAhead-2
@@ -20,6 +21,9 @@ go_ahead-at-requires-4-room-S-GoesAhead-2 g c κs = beat_small g.row.M c.require
 pub go_ahead-at-requires-5-room-S-GoesAhead-2 : goal.go_ahead-at-requires-5-room-S-GoesAhead-2
 go_ahead-at-requires-5-room-S-GoesAhead-2 g c κs = beat_small g.row.M c.requires.manager
 
+pub fetch-requires : goal.fetch-requires
+fetch-requires g c = bridge_small g.row.C g.row.M c.requires.client c.requires.manager
+
 pub returns : goal.returns
 returns g c = λ far x stands i.
     let near = near_beats c.args.script.now in
@@ -28,4 +32,11 @@ returns g c = λ far x stands i.
     let e = c.go_ahead-at-3.ensures near _ far c'.past (sym c.deref-3.ensures.value) refl c'.stands c'.is_at in
     let b = c.go_ahead-at-4.ensures near _ far e.past (sym c.deref-4.ensures.value) refl e.stands e.is_at in
     let d = c.go_ahead-at-5.ensures near _ far b.past (sym c.deref-5.ensures.value) refl b.stands b.is_at in
-    record { past = d.past; stands = d.stands; is_at = d.is_at; keeps = five-on (all_progress c.args.at.now x) (all_progress _ a.past) (all_progress _ c'.past) (all_progress _ e.past) (all_progress _ b.past) (all_progress _ d.past) a.keeps c'.keeps e.keeps b.keeps d.keeps }
+    let f = fetched-goes near _ far d.past d.is_at c.go_ahead-at-5.new.side c.fetch.new.self (c.fetch.ensures.moved d.past d.stands) in
+    record {
+      past = f.past;
+      stands = f.stands;
+      is_at = f.is_at;
+      keeps = six-on (all_progress c.args.at.now x) (all_progress _ a.past) (all_progress _ c'.past) (all_progress _ e.past) (all_progress _ b.past) (all_progress _ d.past) (all_progress _ f.past)
+          a.keeps c'.keeps e.keeps b.keeps d.keeps f.keeps;
+    }

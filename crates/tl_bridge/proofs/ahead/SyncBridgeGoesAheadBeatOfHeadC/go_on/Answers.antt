@@ -2,13 +2,9 @@ use Rattle.tl_sides.proofs.BridgeSize.{bridge_part_small}
 use Rattle.tl_bridge.proofs.Going.{goes-c}
 use Rattle.tl_bridge.proofs.ahead.SyncBridgeGoesAheadBeatOfHeadC.go_on.Goals as goal
 
-pub pump-requires : goal.pump-requires
-pump-requires g c = bridge_part_small g.row.C g.row.M 2 c.requires.0 c.requires.1
-
-pub fetch-requires : goal.fetch-requires
-fetch-requires g c = bridge_part_small g.row.C g.row.M 2 c.requires.0 c.requires.1
+pub move_on-requires : goal.move_on-requires
+move_on-requires g c = bridge_part_small g.row.C g.row.M 2 c.requires.0 c.requires.1
 
 pub returns-clause-goes : goal.returns-clause-goes
 returns-clause-goes g c =
-    goes-c c.self.view_is c.args.beats.now c.args.at c.args.self.now c.offer_next-offered.result c.offer_next-offered.ensures c.pump.new.self c.fetch.new.self
-    c.pump.result c.fetch.result c.pump.ensures.count c.pump.ensures.moved c.fetch.ensures.count c.fetch.ensures.moved
+    goes-c c.self.view_is c.args.beats.now c.args.at c.args.self.now c.offer_next-offered.result c.offer_next-offered.ensures c.move_on.new.pipe c.move_on.ensures
