@@ -1,5 +1,5 @@
 -- A channel of a run in one thread goes on by itself: the run stands for what happened, and has come as far at least.
-use Rattle.std.proofs.Common.{◌≡◌, ◌+◌, ◌++◌, ◌≤◌, ℕ, Option, None, List, length, length-append, append-nil, map, take, drop, [], refl, sym, ap, subst, ◌∙◌, arith}
+use Rattle.std.proofs.Common.{◌≡◌, ◌+◌, ◌++◌, ◌≤◌, ℕ, Option, None, List, length, length-append, append-nil, map, take, drop, [], lit≤, refl, sym, ap, subst, ◌∙◌, arith}
 use Rattle.std.proofs.lemmas.List.{take-append-drop}
 use Rattle.tl_msg.specs.Rules.{Rules}
 use Rattle.tl_msg.specs.Tables.{rules_a, rules_b, rules_c, rules_d, rules_e}
@@ -13,7 +13,6 @@ use Rattle.tl_msg.specs.declared.fault.SideFault.{SideFault}
 use Rattle.tl_burst.specs.Handing.{fault_after}
 use Rattle.tl_ring.specs.Crossing.{World, pushed, popped}
 use Rattle.tl_ring.specs.Pipe.{Pipe}
-use Rattle.tl_ring.specs.Pipe as piping
 use Rattle.tl_settle.specs.Histories.{Ask, Answer, client_answer, manager_answer, manager_home}
 use Rattle.tl_settle.specs.Rounds.{round, client_rests, manager_rests}
 use Rattle.tl_settle.specs.Outcomes.{Beats}
@@ -305,6 +304,12 @@ module _ {C M : ℕ} {inside t : Bridge C M} (view : inside ≡ t) where
       subst (λ l. HasGone near n far x (record n { e = l + steps o }) (record inside { e = p })) here
       (ahead-e near n far x i s (record inside { e = p }) stands o m.first m.out m.again h.0 h.1 does
       (with_e inside (record x { e = h.1 }) h.2 p (passed_on m.first m.out m.again h.1) (m.stands h.1 h.2.e)))
+
+-- at most one beat of a channel is accepted at once
+pub one-step : (o : Offered) → steps o ≤ 1
+one-step Accepted = lit≤ tt
+one-step NotReady = lit≤ tt
+one-step (Stopped stop) = lit≤ tt
 
 -- one after another
 pub six-on : (a b c d e f g : ℕ) → a ≤ b → b ≤ c → c ≤ d → d ≤ e → e ≤ f → f ≤ g → a ≤ g
