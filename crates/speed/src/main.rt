@@ -5,10 +5,10 @@
 //!   of Gets and PutFullDatas in turns, each with its response, of 64 bytes each. The trace is one of version 1, but for a bus of 128
 //!   bytes, which version 2 alone has: there such a message has 128 bytes.
 //! - `speed measure` reads a trace of A or E lines on standard input. It prints what it measured: on each line a name and a number,
-//!   a time in nanoseconds, a peak of memory in KiB or a count.
+//!   a time in nanoseconds, a peak of memory in KiB or a count. `speed pass` measures plain passes over such a text.
 //! - `speed sync RING` reads a trace that `make AD` made, runs it in one thread over rings of so many beats, and writes the answer
-//!   into memory; `speed run RING TURNS` does so in two threads, which meet after so many turns each; `speed check` finds
-//!   the verdicts alone, by `verdicts_of`. What they print is like that of `measure`, and each times bare joins of two threads, too.
+//!   into memory; `speed run RING TURNS` does so in two threads, which meet after so many turns each. What they print is like that of
+//!   `measure`, and each times bare joins of two threads, too.
 //! - `speed ends CHANNEL WIDTH RING BEATS` sends so many beats of A or E through the two ends of a crossing at equal widths, and
 //!   through plain `rtrb`, in one thread and in two. What it prints is like that of `measure`.
 #![tactic(auto)]
@@ -37,26 +37,19 @@ fn main(rt: HostRuntime) -> Result<()> {
         rt.stdout().write_all(&text)?;
     } else if words.len() == 2 && words[1].as_str() == "measure" {
         measure::measure(&rt, &mut rt.stdin())?;
+    } else if words.len() == 2 && words[1].as_str() == "pass" {
+        measure::pass(&rt, &mut rt.stdin())?;
     } else if words.len() == 4 && words[1].as_str() == "run" {
         let (ring, turns) = (words[2].parse()?, words[3].parse()?);
         let way = Way {
             ring,
             turns: Some(turns),
-            check: false,
         };
         whole::run(&rt, &mut rt.stdin(), way)?;
     } else if words.len() == 3 && words[1].as_str() == "sync" {
         let way = Way {
             ring: words[2].parse()?,
             turns: None,
-            check: false,
-        };
-        whole::run(&rt, &mut rt.stdin(), way)?;
-    } else if words.len() == 2 && words[1].as_str() == "check" {
-        let way = Way {
-            ring: 1,
-            turns: None,
-            check: true,
         };
         whole::run(&rt, &mut rt.stdin(), way)?;
     } else if words.len() == 6 && words[1].as_str() == "ends" {
@@ -64,7 +57,7 @@ fn main(rt: HostRuntime) -> Result<()> {
         ends::measure(&rt, words[2].as_str(), width, ring, count)?;
     } else {
         println!(rt;
-            "usage: speed make A|E|AD CLIENT MANAGER BYTES, or speed ends A|E WIDTH RING BEATS, or one of measure, sync RING, run RING TURNS and check < TRACE"
+            "usage: speed make A|E|AD CLIENT MANAGER BYTES, or speed ends A|E WIDTH RING BEATS, or one of pass, measure, sync RING and run RING TURNS < TRACE"
         )?;
     }
     Ok(())

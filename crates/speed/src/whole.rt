@@ -12,9 +12,8 @@ use std::io::Read;
 use std::rt::Clock;
 use std::thread::{Threads, join_mut};
 use std::time::Instant;
-use tl_answer::{answer_of, check_of};
+use tl_answer::answer_of;
 use tl_bridge::{NoGate, Outcome, RunFault, run_sync, run_threads};
-use tl_check::verdicts_of;
 use tl_msg::Verdict;
 use tl_trace::{Script, TraceFault, header_of_text, read_script};
 
@@ -31,8 +30,6 @@ pub struct Way {
     pub ring: usize,
     /// The turns of each side between two meetings, where each side has a thread of its own.
     pub turns: Option<usize>,
-    /// Whether the answer has no far beats.
-    pub check: bool,
 }
 
 /// The script of a text, which is let go.
@@ -113,29 +110,6 @@ fn print_counts(rt: &impl Print, verdicts: &[Verdict; 5], rounds: u64) -> Result
     Ok(())
 }
 
-/// Checks a script: no far beat is made. Its rounds are none.
-fn check_pair<const C: usize, const M: usize>(
-    rt: &(impl Clock + Print + AllocGlobal),
-    script: Script<C, M>,
-    version: u8,
-) -> Result<()>
-    requires client { IsWidth C }
-    requires manager { IsWidth M }
-{
-    if !is_short(&script) {
-        bail!("the trace has too many beats");
-    }
-    let start = Instant::now(rt)?;
-    let verdicts = verdicts_of::<C, M>(rt.alloc(), &script)?;
-    print_time(rt, "run", start)?;
-    drop(script);
-    let start = Instant::now(rt)?;
-    let answer = check_of(rt.alloc(), &verdicts, version, C, M)?;
-    print_time(rt, "write", start)?;
-    println!(rt; "far_bytes {}", answer.text.len())?;
-    print_counts(rt, &verdicts, 0)
-}
-
 fn run_pair<const C: usize, const M: usize>(
     rt: &(impl Clock + Print + Threads + AllocGlobal),
     text: Vec<u8>,
@@ -149,9 +123,6 @@ fn run_pair<const C: usize, const M: usize>(
     let start = Instant::now(rt)?;
     let script = script_from::<C, M>(rt.alloc(), text, version)?;
     print_time(rt, "read", start)?;
-    if way.check {
-        return check_pair::<C, M>(rt, script, version);
-    }
     let outcome = outcome_from::<C, M>(rt, script, way)?;
     let start = Instant::now(rt)?;
     let answer = answer_of::<C, M>(rt.alloc(), &outcome, version)?;
@@ -173,8 +144,6 @@ fn run_text(
         (4, 16) => run_pair::<4, 16>(rt, text, header.version, way),
         (64, 8) => run_pair::<64, 8>(rt, text, header.version, way),
         (8, 64) => run_pair::<8, 64>(rt, text, header.version, way),
-        (128, 1) => run_pair::<128, 1>(rt, text, header.version, way),
-        (1, 128) => run_pair::<1, 128>(rt, text, header.version, way),
         _ => bail!("no runs are measured at these widths"),
     }
 }

@@ -1,5 +1,5 @@
 use Rattle.tl_lanes.proofs.Widths.{width_4, width_8, width_32, width_64}
-use Rattle.speed.proofs.measure.measure_text.Goals as goal
+use Rattle.speed.proofs.measure.measure.Goals as goal
 
 pub measure_pair-requires-clause-client : goal.measure_pair-requires-clause-client
 measure_pair-requires-clause-client g c = width_8
