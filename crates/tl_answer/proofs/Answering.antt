@@ -46,34 +46,33 @@ module _ (version C M : ℕ) (lines : List Line) where
     is-answer : (check : Bool) (answer : List ℕ) (done : Bool) → IsAnswerTo version C M lines check answer done → IsAnswer text check answer done
     is-answer check answer done is = record { version = version; client = C; manager = M; lines = lines; told = told; answers = is }
 
-    -- the same of what `answer_of` gives, for a text that tells the trace
-    pub answers-text : (outcome : Outcome C M) → EndsIn (near C M lines) outcome → (given : Result Answer TextFault) →
-        IfOk given (λ answer. answer.text.items ≡ far_header version C M ++ far_lines version (taken outcome) ++ report (ends C M lines)) →
-        IfOk given (λ answer. answer.all_done ≡ list_all is_done outcome.verdicts) →
-        IfOk given (λ answer. IsAnswer text false answer.text.items answer.all_done)
-    answers-text outcome h (Ok answer) text-is done-is = is-answer false _ _ (answers outcome h _ text-is _ done-is)
-    answers-text outcome h (Err fault) text-is done-is = tt
+    -- the same for a text that tells the trace
+    pub answers-text : (outcome : Outcome C M) → EndsIn (near C M lines) outcome →
+        (answer : List ℕ) → answer ≡ far_header version C M ++ far_lines version (taken outcome) ++ report (ends C M lines) →
+        (done : Bool) → done ≡ list_all is_done outcome.verdicts → IsAnswer text false answer done
+    answers-text outcome h answer text-is done done-is = is-answer false _ _ (answers outcome h _ text-is _ done-is)
 
-    -- and of what `sync_answer_of` gives
-    pub settled-text : (bs : Beats C M) → bs ≡ near C M lines → (given : Result Answer TextFault) →
-        IfOk given (λ answer. answer.text.items ≡ far_header version C M ++ far_lines version (far_beats bs) ++ report (verdicts bs)) →
-        IfOk given (λ answer. answer.all_done ≡ list_all is_done (in_order (verdicts bs))) →
-        IfOk given (λ answer. IsAnswer text false answer.text.items answer.all_done)
-    settled-text bs same (Ok answer) text-is done-is = is-answer false _ _ (record {
+    -- and of what its script ends in
+    pub settled-text : (bs : Beats C M) → bs ≡ near C M lines →
+        (answer : List ℕ) → answer ≡ far_header version C M ++ far_lines version (far_beats bs) ++ report (verdicts bs) →
+        (done : Bool) → done ≡ list_all is_done (in_order (verdicts bs)) → IsAnswer text false answer done
+    settled-text bs same answer text-is done done-is = is-answer false _ _ (record {
       answered = text-is ∙ ap (λ q. far_header version C M ++ far_lines version (far_beats q) ++ report (verdicts q)) same;
       all_done = done-is ∙ ap (λ q. list_all is_done (in_order (verdicts q))) same;
     })
-    settled-text bs same (Err fault) text-is done-is = tt
 
-    -- and of what `check_script` gives
-    pub checks-text : (bs : Beats C M) → bs ≡ near C M lines → (given : Result Answer TextFault) →
-        IfOk given (λ answer. answer.text.items ≡ far_header version C M ++ report (verdicts bs)) →
-        IfOk given (λ answer. answer.all_done ≡ list_all is_done (in_order (verdicts bs))) →
-        IfOk given (λ answer. IsAnswer text true answer.text.items answer.all_done)
-    checks-text bs same (Ok answer) text-is done-is =
+    -- and of a check
+    pub checks-text : (bs : Beats C M) → bs ≡ near C M lines →
+        (answer : List ℕ) → answer ≡ far_header version C M ++ report (verdicts bs) →
+        (done : Bool) → done ≡ list_all is_done (in_order (verdicts bs)) → IsAnswer text true answer done
+    checks-text bs same answer text-is done done-is =
         is-answer true _ _ (answers-check (in_order (verdicts bs)) (ap (λ q. in_order (verdicts q)) same) _
         (text-is ∙ ap (λ q. far_header version C M ++ report (verdicts q)) same) _ done-is)
-    checks-text bs same (Err fault) text-is done-is = tt
+
+-- what follows of what was made, from two of its clauses
+pub of-both : {X : Type 0} (P Q R : X → Type 0) → ((made : X) → P made → Q made → R made) → (given : Result X TextFault) → IfOk given P → IfOk given Q → IfOk given R
+of-both P Q R follows (Ok made) p q = follows made p q
+of-both P Q R follows (Err fault) p q = tt
 
 -- the text of an answer behind another line
 pub text-behind : (before after : List ℕ) (rest : List ℕ) → before ≡ after → (given : Result Answer TextFault) →

@@ -21,8 +21,8 @@ five-behind t a b c d e =
     ap (λ q. q ++ e) (ap (λ q. q ++ d) (ap (λ q. q ++ c) (append_assoc t a b) ∙ append_assoc t (a ++ b) c) ∙ append_assoc t (a ++ b ++ c) d) ∙
     append_assoc t (a ++ b ++ c ++ d) e
 
--- texts that were put one behind the other, each of which has these lines, the first behind a start
-pub all-behind : (start a b c d e : List ℕ) (a' b' c' d' e' t2 t3 t4 t5 : List ℕ) → a' ≡ start ++ a → b' ≡ b → c' ≡ c → d' ≡ d → e' ≡ e →
-    t2 ≡ a' ++ b' → t3 ≡ t2 ++ c' → t4 ≡ t3 ++ d' → t5 ≡ t4 ++ e' → t5 ≡ start ++ (a ++ b ++ c ++ d ++ e)
-all-behind start a b c d e a' b' c' d' e' t2 t3 t4 t5 in_a in_b in_c in_d in_e second third fourth fifth =
-    rw (fifth, fourth, third, second, in_a, in_b, in_c, in_d, in_e) (five-behind start a b c d e)
+-- five texts, each of which has these lines, the first behind a start and the last before an end
+pub all-spelled : (start a b c d e end : List ℕ) (a' b' c' d' e' e'' : List ℕ) → a' ≡ start ++ a → b' ≡ b → c' ≡ c → d' ≡ d → e' ≡ e → e'' ≡ e' ++ end →
+    a' ++ b' ++ c' ++ d' ++ e'' ≡ start ++ (a ++ b ++ c ++ d ++ e) ++ end
+all-spelled start a b c d e end a' b' c' d' e' e'' in_a in_b in_c in_d in_e behind =
+    rw (behind, in_a, in_b, in_c, in_d, in_e) (sym (append_assoc (start ++ a ++ b ++ c ++ d) e end) ∙ ap (λ q. q ++ end) (five-behind start a b c d e))

@@ -1,11 +1,11 @@
 -- What a text's header names, and a text that has none.
-use Rattle.std.proofs.Common.{◌≡◌, ◌≢◌, ◌∷◌, [], ◌||◌, ℕ, Bool, true, false, List, None, if◌then◌else◌, refl, ap, ◌∙◌, subst}
+use Rattle.std.proofs.Common.{◌≡◌, ◌≢◌, ◌∷◌, [], ◌||◌, ℕ, Bool, true, false, List, None, Some, if◌then◌else◌, refl, ap, ◌∙◌, subst}
 use Rattle.std.specs.Prelude.{◌==◌}
 use Rattle.std.proofs.lemmas.Bool.{eqb-true}
 use Rattle.tl_lanes.specs.declared.limits.TheConstants.{WIDEST}
 use Rattle.tl_lanes.specs.Lanes.{IsWidth}
 use Rattle.tl_lanes.proofs.Widths.{each_width}
-use Rattle.tl_trace.specs.Faults.{body, cut, onto_first, or_empty, is_newline, header_of, HasHeader, faults_after, faults_of_lines, IsFirstFault}
+use Rattle.tl_trace.specs.Faults.{body, cut, onto_first, is_newline, header_of, HasHeader, faults_after, faults_of_lines, IsFirstFault}
 use Rattle.tl_trace.specs.declared.fault.TraceKind.TheVariants as kinds
 use Rattle.tl_trace.proofs.Headers.{header, known}
 use Rattle.tl_trace.proofs.ReadLines.{first_fault}
@@ -14,10 +14,6 @@ use Rattle.tl_trace.proofs.Widths.{width_of}
 abbrev first_line : List (List ℕ) → List ℕ
 first_line [] = []
 first_line (line ∷ lines) = line
-
-abbrev later_lines : List (List ℕ) → List (List ℕ)
-later_lines [] = []
-later_lines (line ∷ lines) = lines
 
 first_onto : (byte : ℕ) (lines : List (List ℕ)) → first_line (onto_first byte lines) ≡ byte ∷ first_line lines
 first_onto byte [] = refl
@@ -33,15 +29,13 @@ body_first : (text : List ℕ) → body (first_line (cut text)) ≡ body text
 body_first [] = refl
 body_first (byte ∷ text) = body_more byte (is_newline byte) (cut text) (body text) refl (body_first text)
 
-faults_first : (lines : List (List ℕ)) →
-    faults_of_lines (or_empty lines) ≡ faults_after (header_of (body (first_line lines))) (first_line lines) (later_lines lines)
-faults_first [] = refl
-faults_first (line ∷ lines) = refl
+faults_first : (lines : List (List ℕ)) → header_of (body (first_line lines)) ≡ None → faults_of_lines lines ≡ Some kinds.Header ∷ []
+faults_first [] none = refl
+faults_first (line ∷ lines) none = ap (λ header. faults_after header line lines) none
 
 -- a text without a header has that fault on its first line
 pub no_header : (text : List ℕ) → header_of (body text) ≡ None → IsFirstFault text 1 kinds.Header
-no_header text none = first_fault text 0 kinds.Header [] (faults_first (cut text)
-    ∙ ap (λ header. faults_after header (first_line (cut text)) (later_lines (cut text))) (ap header_of (body_first text) ∙ none))
+no_header text none = first_fault text 0 kinds.Header [] (faults_first (cut text) (ap header_of (body_first text) ∙ none))
 
 pick : (w a : ℕ) (here rest : Bool) → (w == a) ≡ here → here || rest ≡ true → w ≢ a → rest ≡ true
 pick w a true rest is any not = absurd (not (eqb-true w a is))

@@ -7,23 +7,25 @@ use Rattle.std.specs.Io.KnownBytes.{Consumes, IsAtEnd, prepend_known}
 use Rattle.tl_trace.specs.Faults.{is_newline, body, header_of, IsFirstFault}
 use Rattle.tl_trace.specs.declared.header.Header.{Header}
 use Rattle.tl_trace.specs.declared.fault.TraceKind.TheVariants as kinds
-use Rattle.tl_answer.specs.Inputs.{HasTaken, IsFresh, IsRefused, ReadsAnswer, held, unread_of}
+use Rattle.tl_answer.specs.Inputs.{HasTaken, IsFresh, IsRefused, held, unread_of}
+use Rattle.tl_answer.specs.Inner.Answered.{ReadsAnswer}
+use Rattle.tl_answer.specs.Inner.Parts.{spelled}
 use Rattle.tl_answer.specs.Texts.{IsAnswer, most_bytes}
-use Rattle.tl_answer.specs.declared.answer.Answer.{Answer}
 use Rattle.tl_answer.specs.declared.fault.TextFault.{TextFault}
 use Rattle.tl_answer.specs.declared.fault.TextFault.TheVariants as faults
 use Rattle.tl_answer.specs.declared.input.Input.{Input}
+use Rattle.tl_answer.specs.declared.parts.AnswerParts.{AnswerParts}
 use Rattle.tl_answer.proofs.Between.{held_size, of_text, of_whole}
 use Rattle.tl_answer.proofs.Headers.{no_header}
 use Rattle.tl_answer.proofs.ToRead.{header_short, unlike}
 
 -- an answer to the text that was read is one to the text that the reader had
-pub reads_answer : (unread left : Option (List ℕ)) (check : Bool) (input : Input) (text : List ℕ) → Consumes unread left text → IsAtEnd left → length text ≤ most_bytes → (given : Result Answer TextFault)
-    → IfOk given (λ made. IsAnswer text check made.text.items made.all_done) → IfErr given (λ fault. fault ≡ faults.OutOfMemory) → ReadsAnswer unread left check input given
+pub reads_answer : (unread left : Option (List ℕ)) (check : Bool) (input : Input) (text : List ℕ) → Consumes unread left text → IsAtEnd left → length text ≤ most_bytes → (given : Result AnswerParts TextFault)
+    → IfOk given (λ made. IsAnswer text check (spelled made) made.all_done) → IfErr given (λ fault. fault ≡ faults.OutOfMemory) → ReadsAnswer unread left check input given
 reads_answer unread left check input text took end few (Ok made) is none = record {
   end = end;
   few = of_whole (λ t. length t ≤ most_bytes) unread left text took end few;
-  answer = of_whole (λ t. IsAnswer t check made.text.items made.all_done) unread left text took end is;
+  answer = of_whole (λ t. IsAnswer t check (spelled made) made.all_done) unread left text took end is;
 }
 reads_answer unread left check input text took end few (Err fault) is none = subst (IsRefused unread left input) (sym none) tt
 

@@ -1,9 +1,9 @@
 -- What writes of a text put out so far.
-use Rattle.std.proofs.Common.{◌≡◌, ℕ, ◌+◌, ◌-◌, ◌≤◌, List, length, take, drop, Option, subst, ap, ◌∙◌, arith}
+use Rattle.std.proofs.Common.{◌≡◌, ℕ, ◌+◌, ◌-◌, ◌≤◌, List, ◌++◌, length, take, drop, Option, subst, ap, ◌∙◌, arith}
 use Rattle.std.proofs.Math.Seq.{take-add, take-length}
 use Rattle.std.proofs.lemmas.List.{length-drop}
-use Rattle.std.proofs.KnownBytes.{Appends-trans}
-use Rattle.std.specs.Io.KnownBytes.{Appends}
+use Rattle.std.proofs.KnownBytes.{Appends-trans, Appends-kept}
+use Rattle.std.specs.Io.KnownBytes.{Appends, Keeps}
 
 -- the first n items of a text are out
 pub record SoFar (old now : Option (List ℕ)) (text : List ℕ) (n : ℕ) : Type 0 where
@@ -24,3 +24,13 @@ goes_on a b c text rest n m e h few bytes =
       some = rw (take-add n m text) (Appends-trans a b c (take n text) (take m (drop n text)) h.some (subst (λ l. Appends b c (take m l)) same bytes));
       few = omega (arith, long, few, here);
     }
+
+-- five texts, one after the other, and what keeps them
+pub five-out : (w0 w1 w2 w3 w4 w5 w6 : Option (List ℕ)) (a b c d e : List ℕ) → Appends w0 w1 a → Appends w1 w2 b → Appends w2 w3 c → Appends w3 w4 d → Appends w4 w5 e → Keeps w5 w6 →
+    Appends w0 w6 (a ++ b ++ c ++ d ++ e)
+five-out w0 w1 w2 w3 w4 w5 w6 a b c d e to_a to_b to_c to_d to_e kept =
+    let with_b = Appends-trans w0 w1 w2 a b to_a to_b in
+    let with_c = Appends-trans w0 w2 w3 (a ++ b) c with_b to_c in
+    let with_d = Appends-trans w0 w3 w4 (a ++ b ++ c) d with_c to_d in
+    let with_e = Appends-trans w0 w4 w5 (a ++ b ++ c ++ d) e with_d to_e in
+    Appends-kept w0 w5 w6 (a ++ b ++ c ++ d ++ e) with_e kept

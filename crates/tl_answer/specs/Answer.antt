@@ -1,15 +1,15 @@
 -- The answer to a text (this project's choice). It has the version and the widths of the trace that the text tells, then the beats that arrive on the other side,
 -- and then one line for each channel that reports how far it came.
 use Rattle.std.specs.Prelude.{◌++◌, ℕ, Bool, true, false, cond, List, [], ◌∷◌, codes, decimal}
-use Rattle.std.specs.List.{list_all}
+use Rattle.std.specs.List.{filter_map, list_all}
 use Rattle.tl_msg.specs.declared.verdict.Verdict.{Verdict}
-use Rattle.tl_msg.specs.declared.verdict.Verdict.TheVariants.{Done, Cut, Refused, Waiting}
+use Rattle.tl_msg.specs.declared.verdict.Verdict.TheVariants.{Done}
 use Rattle.tl_settle.specs.Outcomes.{Beats, Verdicts, far_beats, verdicts}
 use Rattle.tl_bridge.specs.declared.outcome.Outcome.{Outcome}
 use Rattle.tl_trace.specs.Fields.{form_a, form_b, form_c, form_d, form_e}
 use Rattle.tl_trace.specs.Lines.{beats_text}
 use Rattle.tl_trace.specs.Texts.{newline}
-use Rattle.tl_trace.specs.Scripts.{beats_a, beats_b, beats_c, beats_d, beats_e}
+use Rattle.tl_trace.specs.Scripts.{beat_of_a, beat_of_b, beat_of_c, beat_of_d, beat_of_e}
 use Rattle.tl_trace.specs.Reports.{report_line}
 use Rattle.tl_trace.specs.declared.line.Line.{Line}
 
@@ -40,26 +40,21 @@ report v = report_line 65 v.a ++ report_line 66 v.b ++ report_line 67 v.c ++ rep
 -- all beats of a channel were accepted, and no burst is unfinished
 abbrev pub is_done : Verdict → Bool
 is_done (Done near far) = true
-is_done (Cut near far) = false
-is_done (Refused at fault) = false
-is_done (Waiting at fault) = false
+is_done _ = false
 
 -- the two sides' widths and the beats of a trace
 module _ (client manager : ℕ) (lines : List Line) where
   -- its near beats by channel, each list in the order of its lines
   abbrev pub near : Beats client manager
   near = record {
-    a = beats_a client lines;
-    b = beats_b manager lines;
-    c = beats_c client lines;
-    d = beats_d manager lines;
-    e = beats_e client lines;
+    a = filter_map (beat_of_a client) lines;
+    b = filter_map (beat_of_b manager) lines;
+    c = filter_map (beat_of_c client) lines;
+    d = filter_map (beat_of_d manager) lines;
+    e = filter_map (beat_of_e client) lines;
   }
 
-  -- what arrives of them, by the definitions of the link
-  abbrev pub arrives : Beats manager client
-  arrives = far_beats near
-
+  -- the verdicts that they end in
   abbrev pub ends : Verdicts
   ends = verdicts near
 
@@ -70,4 +65,4 @@ module _ (client manager : ℕ) (lines : List Line) where
 -- the whole answer to a trace; a check leaves out the far beats
 abbrev pub answer_of : (version client manager : ℕ) → List Line → (check : Bool) → List ℕ
 answer_of version client manager lines check =
-    far_header version client manager ++ cond check [] (far_lines version (arrives client manager lines)) ++ report (ends client manager lines)
+    far_header version client manager ++ cond check [] (far_lines version (far_beats (near client manager lines))) ++ report (ends client manager lines)

@@ -1,13 +1,12 @@
 -- What has been read of a text that comes in piece by piece (this project's choice).
-use Rattle.std.specs.Prelude.{◌≡◌, ◌≢◌, ◌≤◌, ◌<◌, ◌++◌, ℕ, List, [], length, slice_range, Option, Result, Ok, Err, IfSome, Bool}
+use Rattle.std.specs.Prelude.{◌≡◌, ◌≢◌, ◌≤◌, ◌<◌, ◌++◌, ℕ, List, [], length, slice_range, Option, Result, Ok, Err, IfSome}
 use Rattle.std.specs.Io.KnownBytes.{Consumes, IsAtEnd, prepend_known}
 use Rattle.tl_trace.specs.Scripts.{TellsScript}
 use Rattle.tl_trace.specs.Faults.{IsFirstFault}
 use Rattle.tl_trace.specs.declared.fault.TraceKind.TheVariants as kinds
 use Rattle.tl_trace.specs.declared.places.TheConstants.{LONGEST_LINE}
 use Rattle.tl_trace.specs.declared.script.Script.{Script}
-use Rattle.tl_answer.specs.Texts.{IsAnswer, most_bytes}
-use Rattle.tl_answer.specs.declared.answer.Answer.{Answer}
+use Rattle.tl_answer.specs.Texts.{most_bytes}
 use Rattle.tl_answer.specs.declared.fault.TextFault.{TextFault}
 use Rattle.tl_answer.specs.declared.fault.TextFault.TheVariants as faults
 use Rattle.tl_answer.specs.declared.input.Input.{Input}
@@ -57,14 +56,3 @@ pub record IsScriptRead {client manager : ℕ} (unread left : Option (List ℕ))
 abbrev pub ReadsScript : {client manager : ℕ} → (unread left : Option (List ℕ)) (version : ℕ) → Input → Result (Script client manager) TextFault → Type 0
 ReadsScript unread left version input (Ok s) = IsScriptRead unread left version s
 ReadsScript unread left version input (Err fault) = IsRefused unread left input fault
-
--- the text was read to its end, and this is its answer
-pub record IsAnswerRead (unread left : Option (List ℕ)) (check : Bool) (made : Answer) : Type 0 where
-  pub end : IsAtEnd left
-  pub few : IfSome unread (λ text. length text ≤ most_bytes)
-  pub answer : IfSome unread (λ text. IsAnswer text check made.text.items made.all_done)
-
--- what comes of the reading of a text and of its run
-abbrev pub ReadsAnswer : (unread left : Option (List ℕ)) (check : Bool) → Input → Result Answer TextFault → Type 0
-ReadsAnswer unread left check input (Ok made) = IsAnswerRead unread left check made
-ReadsAnswer unread left check input (Err fault) = IsRefused unread left input fault

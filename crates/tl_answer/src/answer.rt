@@ -8,13 +8,15 @@ ghost use Rattle.tl_bridge.specs.declared.outcome.RunFault.TheVariants.{RingSize
 ghost use Rattle.tl_order.specs.Orders.{IsRunnable, is_check};
 ghost use Rattle.tl_trace.specs.Faults.{HasHeader};
 ghost use Rattle.tl_answer.specs.Answer.{far_header, far_lines, taken, report, in_order, is_done};
-ghost use Rattle.tl_answer.specs.Inputs.{IsFresh, ReadsAnswer, held, unread_of};
+ghost use Rattle.tl_answer.specs.Inner.Answered.{ReadsAnswer};
+ghost use Rattle.tl_answer.specs.Inputs.{IsFresh, held, unread_of};
 ghost use Rattle.tl_answer.specs.declared.fault.TextFault.TheVariants.{OutOfMemory as NoMemory};
 
 use crate::at_width;
 use crate::fault::TextFault;
 use crate::input::Input;
 use crate::later_lines::script_of_input;
+use crate::parts::AnswerParts;
 use crate::sync_answer::sync_answer_of;
 use std::alloc::{AllocError, Global};
 use std::io::Read;
@@ -66,7 +68,7 @@ fn write_arrivals<const C: usize, const M: usize>(
 }
 
 /// Appends the five report lines.
-fn write_reports(out: &mut Vec<u8>, verdicts: &[Verdict; 5]) -> Result<(), OutOfMemory>
+pub(crate) fn write_reports(out: &mut Vec<u8>, verdicts: &[Verdict; 5]) -> Result<(), OutOfMemory>
     ensures { (v : Verdicts) → verdicts.now ≡ in_order v → OnOk result (out.new.items
         ≡ out.old.items ++ report v) }
 {
@@ -78,7 +80,7 @@ fn write_reports(out: &mut Vec<u8>, verdicts: &[Verdict; 5]) -> Result<(), OutOf
 }
 
 /// Whether all beats of each channel were accepted, and no burst is unfinished.
-fn are_done(verdicts: &[Verdict; 5]) -> bool
+pub(crate) fn are_done(verdicts: &[Verdict; 5]) -> bool
     ensures { result ≡ list_all is_done verdicts.now }
 {
     verdicts
@@ -138,7 +140,7 @@ fn outcome_of<T: Threads, const C: usize, const M: usize>(
 }
 
 /// The answer whose lines before the five reports are these.
-pub(crate) fn reported(text: Vec<u8>, verdicts: &[Verdict; 5]) -> Result<Answer, TextFault>
+fn reported(text: Vec<u8>, verdicts: &[Verdict; 5]) -> Result<Answer, TextFault>
     ensures text { (v : Verdicts) → verdicts.now ≡ in_order v → IfOk result (λ made.
         made.text.items ≡ text.items ++ report v) }
     ensures done { IfOk result (λ made. made.all_done ≡ list_all is_done verdicts.now) }
@@ -220,7 +222,7 @@ fn with_widths<T: Threads, R: Read, const C: usize, const M: usize>(
     input: &mut Input,
     version: u8,
     order: &Order,
-) -> Result<Answer, TextFault>
+) -> Result<AnswerParts, TextFault>
     requires client { IsWidth C }
     requires manager { IsWidth M }
     requires fresh { IsFresh (R.remaining reader.old) input.old }
@@ -234,7 +236,8 @@ fn with_widths<T: Threads, R: Read, const C: usize, const M: usize>(
         Err(fault) => return Err(fault),
     };
     if order.is_check() {
-        return check_script::<C, M>(alloc, &script, version);
+        let answer = check_script::<C, M>(alloc, &script, version)?;
+        return Ok(AnswerParts::of(alloc, answer));
     }
     if order.is_sync() {
         return sync_answer_of::<C, M>(alloc, script, version, order.ring());
@@ -244,7 +247,8 @@ fn with_widths<T: Threads, R: Read, const C: usize, const M: usize>(
         Err(fault) => return Err(fault),
     };
     drop(script);
-    answer_of(alloc, &outcome, version)
+    let answer = answer_of(alloc, &outcome, version)?;
+    Ok(AnswerParts::of(alloc, answer))
 }
 
 /// The same, for a client of `C` bytes: the manager's width is one of eight.
@@ -256,7 +260,7 @@ fn with_client<T: Threads, R: Read, const C: usize>(
     version: u8,
     manager: usize,
     order: &Order,
-) -> Result<Answer, TextFault>
+) -> Result<AnswerParts, TextFault>
     requires client { IsWidth C }
     requires fresh { IsFresh (R.remaining reader.old) input.old }
     requires header { HasHeader (held input.old) version C manager }
@@ -281,7 +285,7 @@ pub(crate) fn answer_input<T: Threads, R: Read>(
     reader: &mut R,
     input: &mut Input,
     order: &Order,
-) -> Result<Answer, TextFault>
+) -> Result<AnswerParts, TextFault>
     requires fresh { IsFresh (R.remaining reader.old) input.old }
     requires runnable { IsRunnable order.now }
     ensures { ReadsAnswer (unread_of input.old (R.remaining reader.old)) (R.remaining reader.new)

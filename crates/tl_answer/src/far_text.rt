@@ -1,16 +1,21 @@
 //! The lines of far beats, which are written while the beats come.
-ghost use Rattle.std.specs.Prelude.{◌≡◌, ◌++◌, [], IfOk, OnOk};
+ghost use Rattle.std.specs.Prelude.{◌≡◌, ◌++◌, [], IfOk, OnOk, IfErr};
+ghost use Rattle.std.specs.List.{list_all};
 ghost use Rattle.tl_lanes.specs.Lanes.{IsWidth};
-ghost use Rattle.tl_settle.specs.Outcomes.{Beats};
+ghost use Rattle.tl_settle.specs.Outcomes.{Beats, Verdicts};
 ghost use Rattle.tl_trace.specs.Lines.{beats_text};
 ghost use Rattle.tl_bridge.specs.Arrivals.{no_beats};
-ghost use Rattle.tl_answer.specs.Answer.{far_header, far_lines};
+ghost use Rattle.tl_answer.specs.Answer.{far_header, far_lines, report, in_order, is_done};
 ghost use Rattle.tl_answer.specs.Inner.FarTexts.{HasLines, whole};
+ghost use Rattle.tl_answer.specs.Inner.Parts.{spelled};
+ghost use Rattle.tl_answer.specs.declared.fault.TextFault.TheVariants.{OutOfMemory as NoMemory};
 
-use crate::answer::header;
+use crate::answer::{are_done, header, write_reports};
+use crate::fault::TextFault;
+use crate::parts::AnswerParts;
 use std::alloc::{AllocError, Global};
 use tl_bridge::Arrivals;
-use tl_msg::{Beat, ChA, ChB, ChC, ChD, ChE};
+use tl_msg::{Beat, ChA, ChB, ChC, ChD, ChE, Verdict};
 use tl_trace::{HeadText, write_far};
 
 /// How many far beats of a channel wait for their lines before these are written: as many as an
@@ -106,13 +111,6 @@ pub(crate) struct FarTexts<const C: usize, const M: usize> {
     version: u8,
 }
 
-// Moves a text behind another one.
-fn append(text: &mut Vec<u8>, more: Vec<u8>) -> Result<(), AllocError>
-    ensures { OnOk result (text.new.items ≡ text.old.items ++ more.items) }
-{
-    text.extend_from_slice(&more)
-}
-
 impl<const C: usize, const M: usize> FarTexts<C, M> {
     // The first line of an answer in this version.
     pub(crate) fn new(alloc: Global, version: u8) -> Result<Self, AllocError>
@@ -136,12 +134,16 @@ impl<const C: usize, const M: usize> FarTexts<C, M> {
         })
     }
 
-    // The first line of an answer, and the lines of the far beats, channel by channel.
-    pub(crate) fn into_text(self) -> Result<Vec<u8>, AllocError>
+    // The answer of a run that ends with these verdicts, from A to E: the five report lines stand
+    // behind the lines of E. Refused with `OutOfMemory` alone.
+    pub(crate) fn into_answer(self, verdicts: &[Verdict; 5]) -> Result<AnswerParts, TextFault>
         requires client { IsWidth C }
         requires manager { IsWidth M }
-        ensures { (far : Beats M C) → HasLines self.entry far → IfOk result (λ text. text.items ≡
-            far_header self.entry.version C M ++ far_lines self.entry.version far) }
+        ensures text { (far : Beats M C) → HasLines self.entry far →
+            (v : Verdicts) → verdicts.now ≡ in_order v → IfOk result (λ made. spelled made
+            ≡ far_header self.entry.version C M ++ far_lines self.entry.version far ++ report v) }
+        ensures done { IfOk result (λ made. made.all_done ≡ list_all is_done verdicts.now) }
+        ensures err { IfErr result (λ fault. fault ≡ NoMemory) }
     {
         let FarTexts {
             a,
@@ -151,12 +153,20 @@ impl<const C: usize, const M: usize> FarTexts<C, M> {
             e,
             version,
         } = self;
-        let mut text = a.into_text(version)?;
-        append(&mut text, b.into_text(version)?)?;
-        append(&mut text, c.into_text(version)?)?;
-        append(&mut text, d.into_text(version)?)?;
-        append(&mut text, e.into_text(version)?)?;
-        Ok(text)
+        let a = a.into_text(version)?;
+        let b = b.into_text(version)?;
+        let c = c.into_text(version)?;
+        let d = d.into_text(version)?;
+        let mut e = e.into_text(version)?;
+        write_reports(&mut e, verdicts)?;
+        Ok(AnswerParts {
+            a,
+            b,
+            c,
+            d,
+            e,
+            all_done: are_done(verdicts),
+        })
     }
 }
 

@@ -8,6 +8,7 @@ mod fault;
 mod input;
 mod later_lines;
 pub mod laws;
+mod parts;
 mod status;
 mod sync_answer;
 mod text;

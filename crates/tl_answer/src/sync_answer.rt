@@ -7,13 +7,15 @@ ghost use Rattle.tl_settle.specs.Outcomes.{far_beats, verdicts};
 ghost use Rattle.tl_bridge.specs.Scripts.{HasShortLists, SettlesTo, near_beats};
 ghost use Rattle.tl_answer.specs.Answer.{far_header, far_lines, report, in_order, is_done};
 ghost use Rattle.tl_trace.specs.Faults.{HasHeader};
+ghost use Rattle.tl_answer.specs.Inner.Parts.{spelled};
 ghost use Rattle.tl_answer.specs.Texts.{IsAnswer, IsOfText, most_bytes};
 ghost use Rattle.tl_answer.specs.declared.fault.TextFault.TheVariants.{OutOfMemory as NoMemory};
 
-use crate::answer::{Answer, check_script, reported};
+use crate::answer::{Answer, check_script};
 use crate::at_width;
 use crate::far_text::FarTexts;
 use crate::fault::TextFault;
+use crate::parts::AnswerParts;
 use std::alloc::Global;
 use tl_bridge::{Outcome, RunFault, run_sync, run_sync_into};
 use tl_trace::{Script, TraceFault, TraceKind, header_of_text, read_script};
@@ -49,12 +51,12 @@ pub(crate) fn sync_answer_of<const C: usize, const M: usize>(
     script: Script<C, M>,
     version: u8,
     ring: usize,
-) -> Result<Answer, TextFault>
+) -> Result<AnswerParts, TextFault>
     requires client { IsWidth C }
     requires manager { IsWidth M }
     requires short { HasShortLists script }
     requires ring { (1 ≤ ring) × (ring ≤ MAX_RING) }
-    ensures text { IfOk result (λ made. made.text.items ≡ far_header version C M
+    ensures text { IfOk result (λ made. spelled made ≡ far_header version C M
         ++ far_lines version (far_beats (near_beats script.entry))
         ++ report (verdicts (near_beats script.entry))) }
     ensures done { IfOk result (λ made. made.all_done
@@ -71,8 +73,7 @@ pub(crate) fn sync_answer_of<const C: usize, const M: usize>(
         Err(RunFault::RingSize) => unreachable!(),
     };
     drop(script);
-    let text = far.into_text()?;
-    reported(text, &ending.verdicts)
+    far.into_answer(&ending.verdicts)
 }
 
 /// The answer to a text whose header names this version and these widths.
@@ -96,7 +97,8 @@ fn with_widths<const C: usize, const M: usize>(
     if check {
         return check_script::<C, M>(alloc, &script, version);
     }
-    sync_answer_of::<C, M>(alloc, script, version, RING)
+    let answer = sync_answer_of::<C, M>(alloc, script, version, RING)?;
+    answer.joined()
 }
 
 /// The same, for a client of `C` bytes: the manager's width is one of eight.

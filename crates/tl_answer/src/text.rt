@@ -1,14 +1,16 @@
 //! From the bytes that come in to the bytes that go out.
 ghost use Rattle.std.specs.Prelude.{◌≡◌, ◌≢◌, ◌≤◌, ◌<◌, length, IfSome, IfOk, OnOk, IfErr, IsErrOf};
-ghost use Rattle.std.specs.Io.KnownBytes.{Appends, IsAtEnd};
+ghost use Rattle.std.specs.Io.KnownBytes.{Appends, Keeps, IsAtEnd};
 ghost use Rattle.tl_order.specs.Orders.{IsRunnable};
 ghost use Rattle.tl_answer.specs.Inner.Answered.{AnswersRead};
+ghost use Rattle.tl_answer.specs.Inner.Parts.{spelled};
 ghost use Rattle.tl_answer.specs.Texts.{AnswersText, most_bytes};
 ghost use Rattle.tl_answer.specs.declared.fault.TextFault.TheVariants.{Read as ReadFault, Write as WriteFault, TooLong, OutOfMemory};
 
-use crate::answer::{Answer, answer_input};
+use crate::answer::answer_input;
 use crate::fault::TextFault;
 use crate::input::{Input, MAX_BYTES, read_buffer};
+use crate::parts::AnswerParts;
 use std::alloc::Global;
 use std::io::{Read, Write};
 use std::thread::Threads;
@@ -46,11 +48,8 @@ pub fn read_all<R: Read>(alloc: Global, reader: &mut R) -> Result<Vec<u8>, TextF
     Err(TextFault::TooLong)
 }
 
-/// Writes all bytes and flushes.
-///
-/// Refused with `Write` alone, where a write or the flush fails, is interrupted or takes no byte;
-/// after it, it isn't said how much went out.
-pub fn write_all<W: Write>(writer: &mut W, bytes: &[u8]) -> Result<(), TextFault>
+/// Writes all bytes. Refused as `write_all` is.
+fn write_bytes<W: Write>(writer: &mut W, bytes: &[u8]) -> Result<(), TextFault>
     ensures all { OnOk result (Appends (W.contents writer.old) (W.contents writer.new) bytes.now) }
     ensures kind { IfErr result (λ e. e ≡ WriteFault) }
 {
@@ -61,10 +60,62 @@ pub fn write_all<W: Write>(writer: &mut W, bytes: &[u8]) -> Result<(), TextFault
             Ok(n) => written += n,
         }
     }
+    Ok(())
+}
+
+/// Hands on what a writer keeps back. Refused as `write_all` is.
+fn flush<W: Write>(writer: &mut W) -> Result<(), TextFault>
+    ensures all { OnOk result (Keeps (W.contents writer.old) (W.contents writer.new)) }
+    ensures kind { IfErr result (λ e. e ≡ WriteFault) }
+{
     if writer.flush().is_err() {
         return Err(TextFault::Write);
     }
     Ok(())
+}
+
+/// Writes all bytes and flushes.
+///
+/// Refused with `Write` alone, where a write or the flush fails, is interrupted or takes no byte;
+/// after it, it isn't said how much went out.
+pub fn write_all<W: Write>(writer: &mut W, bytes: &[u8]) -> Result<(), TextFault>
+    ensures all { OnOk result (Appends (W.contents writer.old) (W.contents writer.new) bytes.now) }
+    ensures kind { IfErr result (λ e. e ≡ WriteFault) }
+{
+    write_bytes(writer, bytes)?;
+    flush(writer)
+}
+
+/// Writes a part of an answer, which is let go then. Refused as `write_all` is.
+fn write_part<W: Write>(writer: &mut W, part: Vec<u8>) -> Result<(), TextFault>
+    ensures all { OnOk result (Appends (W.contents writer.old) (W.contents writer.new) part.items) }
+    ensures kind { IfErr result (λ e. e ≡ WriteFault) }
+{
+    write_bytes(writer, &part)
+}
+
+/// Writes an answer and flushes: true where all five channels are done. Refused as `write_all` is.
+fn write_answer<W: Write>(writer: &mut W, answer: AnswerParts) -> Result<bool, TextFault>
+    ensures text { OnOk result (Appends (W.contents writer.old) (W.contents writer.new)
+        (spelled answer)) }
+    ensures done { IfOk result (λ all_done. all_done ≡ answer.all_done) }
+    ensures kind { IfErr result (λ e. e ≡ WriteFault) }
+{
+    let AnswerParts {
+        a,
+        b,
+        c,
+        d,
+        e,
+        all_done,
+    } = answer;
+    write_part(writer, a)?;
+    write_part(writer, b)?;
+    write_part(writer, c)?;
+    write_part(writer, d)?;
+    write_part(writer, e)?;
+    flush(writer)?;
+    Ok(all_done)
 }
 
 /// The answer to the text that a reader gives, which is read to its end.
@@ -73,7 +124,7 @@ fn read_answer<T: Threads, R: Read>(
     alloc: Global,
     reader: &mut R,
     order: &Order,
-) -> Result<Answer, TextFault>
+) -> Result<AnswerParts, TextFault>
     requires { IsRunnable order.now }
     ensures { AnswersRead (R.remaining reader.old) (R.remaining reader.new) order.now result }
 {
@@ -116,6 +167,5 @@ pub fn run_text<T: Threads, R: Read, W: Write>(
         (W.contents writer.old) (W.contents writer.new) order.now result }
 {
     let answer = read_answer(rt, alloc, reader, order)?;
-    write_all(writer, &answer.text)?;
-    Ok(answer.all_done)
+    write_answer(writer, answer)
 }

@@ -17,7 +17,7 @@ use Rattle.tl_settle.specs.Rounds.{Run, round, ClientMoves, ManagerMoves, client
 use Rattle.tl_settle.specs.Settling.{settled_state, stops_a, stops_d}
 use Rattle.tl_settle.specs.Settling.{far_a as due_far_a, far_d as due_far_d}
 use Rattle.tl_settle.specs.Steps.{State}
-use Rattle.tl_settle.specs.Outcomes.{settled_far_a, settled_far_d, verdict_a, verdict_d, verdict_of}
+use Rattle.tl_settle.specs.Outcomes.{verdict_a, verdict_d, verdict_of}
 use Rattle.tl_sides.specs.Bridges.{Bridge, Past, StandsFor}
 use Rattle.tl_bridge.specs.Inner.Running.{Does, Stops, IsSent, IsHomed, steps, emptied, under_way, stop_verdict}
 use Rattle.tl_bridge.specs.declared.channel_state.Offered.{Offered}
@@ -73,8 +73,8 @@ module _ {C M : ℕ} (cw : IsWidth C) (mw : IsWidth M) (a : List (BeatOf HeadA C
     pub record IsSettledEnd : Type 0 where
       pub a_count : i ≡ (settled_state a d).a
       pub d_count : j ≡ (settled_state a d).d
-      pub a_far : far_a ≡ settled_far_a a d
-      pub d_far : far_d ≡ settled_far_d a d
+      pub a_far : far_a ≡ due_far_a a d (settled_state a d).a
+      pub d_far : far_d ≡ due_far_d a d (settled_state a d).d
       pub a_verdict : stop_verdict stop_a i (length far_a) ≡ verdict_a a d
       pub d_verdict : stop_verdict stop_d j (length far_d) ≡ verdict_d a d
 

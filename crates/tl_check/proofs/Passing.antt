@@ -18,6 +18,7 @@ use Rattle.tl_burst.specs.Handing.{IsHanded, nothing, rest_of, burst_of, burst_a
 use Rattle.tl_burst.specs.Tracking.{IsPlace, IsPlaceOf, count_in}
 use Rattle.tl_burst.specs.declared.place.Place.{Place}
 use Rattle.tl_burst.proofs.BegunMessages.{left-zero}
+use Rattle.tl_burst.proofs.Steps.{count-of}
 use Rattle.tl_convert.specs.Accepted.{accepted_of}
 use Rattle.tl_convert.specs.Counting.{Gives}
 use Rattle.tl_convert.specs.Due.{due}
@@ -48,11 +49,7 @@ place-of r {w} burst b place fine head is = record {
 }
 
 module _ {H : Type 0} (r : Rules H) {w : ℕ} where
-  -- how many beats of the open burst were accepted, and whether there is one
-  count-of : (rest : List (BeatOf H w)) → count_in (burst_of r rest) ≡ length rest
-  count-of [] = refl
-  count-of (b ∷ rest) = refl
-
+  -- whether there is an open burst
   none-open : (rest : List (BeatOf H w)) → burst_of r rest ≡ None → rest ≡ []
   none-open [] e = refl
   none-open (b ∷ rest) e = cc
@@ -99,7 +96,7 @@ module _ {H : Type 0} (r : Rules H) {w v : ℕ} where
         far_is = λ homes.
             ap (λ n. n + given) (come.far_is homes) ∙
             sym (due-count r w v ww vw homes (take at bs) b burst place given come.burst_is head is
-            (is.index ∙ ap count_in come.burst_is ∙ count-of r (rest_of r w (take at bs))) gives) ∙
+            (is.index ∙ ap count_in come.burst_is ∙ count-of r w (rest_of r w (take at bs))) gives) ∙
             ap (λ q. length (due r w v q homes)) (sym one-longer);
       }
 

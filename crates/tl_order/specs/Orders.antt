@@ -9,14 +9,10 @@ abbrev pub IsRunnable : Order → Type 0
 IsRunnable (Run ring turns sync) = (1 ≤ ring) × (ring ≤ MAX_RING) × (1 ≤ turns)
 IsRunnable Check = Unit {0}
 
--- the sides take at most so many turns before they meet
-abbrev pub HasTurnsUpTo : (most : ℕ) → Order → Type 0
-HasTurnsUpTo most (Run ring turns sync) = turns ≤ most
-HasTurnsUpTo most Check = Unit {0}
-
--- neither the ring nor the turns are too many
+-- and neither the ring nor the turns are too many
 abbrev pub IsInRange : Order → Type 0
-IsInRange order = IsRunnable order × HasTurnsUpTo MAX_TURNS order
+IsInRange (Run ring turns sync) = IsRunnable (Run ring turns sync) × (turns ≤ MAX_TURNS)
+IsInRange Check = Unit {0}
 
 -- the order is a check, which prints no far beats
 abbrev pub is_check : Order → Bool

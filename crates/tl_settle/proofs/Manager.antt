@@ -17,13 +17,13 @@ use Rattle.tl_convert.proofs.Extends.{Extends, count_by-append, count-grows, tak
 use Rattle.tl_convert.proofs.Comparisons.{equal_true, less_true, not_less_false, none_past}
 use Rattle.tl_convert.proofs.Begins.{heads_open, heads_grow, heads_extend}
 use Rattle.tl_settle.proofs.Orders.{asks, answers, Ordered, ask, answer, ManagerIs}
-use Rattle.tl_settle.proofs.Settles.{good, there_on, there_behind, back_behind}
+use Rattle.tl_settle.proofs.Settles.{good, there_on, there_behind, back_behind, requests_there}
 use Rattle.tl_settle.proofs.Opens.{Match, matches, asks_heads, answers_heads}
 use Rattle.tl_settle.proofs.Sides.{nth_stays, tight}
 use Rattle.tl_settle.proofs.Marks.{asked_ask, asked_answer, answered_ask, answered_answer, marks_ask_first, marks_ask_inside, marks_answer_first, marks_answer_inside}
 use Rattle.tl_settle.specs.Histories.{Answer, Ask, Event, answered, asked, manager_answer, manager_home, marks, open_request, to_request}
 use Rattle.tl_settle.specs.Requests.{home_of, is_release_ack, is_request_of, partner, requests_of, responses_to}
-use Rattle.tl_settle.specs.Settling.{far_a, goes_a, goes_d, requests, requests_there, responses, stops_d}
+use Rattle.tl_settle.specs.Settling.{far_a, goes_a, goes_d, requests, responses, stops_d}
 use Rattle.tl_settle.specs.Steps.{Reaches}
 use Rattle.tl_burst.specs.Begun.{heads, left}
 use Rattle.tl_burst.specs.Handing.{fault_after}

@@ -10,9 +10,9 @@ use Rattle.tl_msg.specs.declared.fault.BeatFault.TheVariants.{Mask, Unaligned, H
 use Rattle.tl_msg.specs.Tables.{rules_a, rules_e}
 use Rattle.tl_msg.specs.declared.verdict.Verdict.{Verdict}
 use Rattle.tl_msg.specs.declared.verdict.Verdict.TheVariants.{Done, Cut, Refused, Waiting}
-use Rattle.tl_settle.specs.Settling.{far_d}
+use Rattle.tl_settle.specs.Settling.{far_a, far_d, settled_state}
 use Rattle.tl_settle.specs.Histories.{Ask, Answer, client_answer, manager_answer, manager_home}
-use Rattle.tl_settle.specs.Outcomes.{verdict_a, verdict_d, verdict_alone, settled_far_a, settled_far_d}
+use Rattle.tl_settle.specs.Outcomes.{verdict_a, verdict_d, verdict_alone}
 
 -- a beat of A on w lanes, all of which hold zero
 abbrev asks : (w opcode size source address mask : ℕ) → BeatOf HeadA w
@@ -130,12 +130,12 @@ nothing_sent = refl
 -- ---- what crosses
 
 abbrev only_far_a : List (BeatOf HeadA 4)
-only_far_a = settled_far_a {C = 4} {M = 4} (get_at 1 0 ∷ get_at 1 4 ∷ get_at 2 8 ∷ []) (tells 4 1 0 2 2 17 ∷ tells 4 1 0 2 1 34 ∷ [])
+only_far_a = let a = get_at 1 0 ∷ get_at 1 4 ∷ get_at 2 8 ∷ [] in let d = tells 4 1 0 2 2 17 ∷ tells 4 1 0 2 1 34 ∷ [] in far_a {C = 4} {M = 4} a d (settled_state a d).a
 
 first_alone : only_far_a ≡ get_at 1 0 ∷ []
 first_alone = refl
 
-none_back : settled_far_d {C = 4} {M = 4} (get_at 1 0 ∷ get_at 1 4 ∷ get_at 2 8 ∷ []) (tells 4 1 0 2 2 17 ∷ tells 4 1 0 2 1 34 ∷ []) ≡ []
+none_back : let a = get_at 1 0 ∷ get_at 1 4 ∷ get_at 2 8 ∷ [] in let d = tells 4 1 0 2 2 17 ∷ tells 4 1 0 2 1 34 ∷ [] in far_d {C = 4} {M = 4} a d (settled_state a d).d ≡ []
 none_back = refl
 
 -- a release acknowledged without a request

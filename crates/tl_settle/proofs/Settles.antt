@@ -19,7 +19,7 @@ use Rattle.tl_settle.proofs.SameHeads.{same_a, same_d}
 use Rattle.tl_settle.proofs.Orders.{IsRound}
 use Rattle.tl_settle.proofs.Persist.{settles}
 use Rattle.tl_settle.specs.Requests.{homes_after, is_release_ack, is_request_of, is_response_to, requests_of, responses_to}
-use Rattle.tl_settle.specs.Settling.{IsSettledState, goes_a, goes_d, is_free, requests, requests_there, responses, responses_there, settled_state, stops_a, stops_d, unanswered}
+use Rattle.tl_settle.specs.Settling.{IsSettledState, far_a, far_d, goes_a, goes_d, held_response, is_free, requests, responses, settled_state, stops_a, stops_d}
 use Rattle.tl_settle.specs.Steps.{Reaches, by_a, by_d, start}
 use Rattle.tl_burst.specs.Begun.{heads, left}
 use Rattle.tl_burst.specs.Handing.{fault_after}
@@ -53,6 +53,13 @@ ask_true None false false s h e = cc
 no_fault : (o : Option BeatFault) (x : Option SideFault) → is_none (option_map_or (λ f. Some (Beat f)) o x) ≡ true → o ≡ None
 no_fault None x e = refl
 no_fault (Some f) x e = cc
+
+-- the messages that begin in the far beats: requests at the manager's side, and responses at the client's side
+abbrev pub requests_there : {C M : ℕ} (a : List (BeatOf HeadA C)) (d : List (BeatOf HeadD M)) (i : ℕ) → List HeadA
+requests_there {C} {M} a d i = heads rules_a M (far_a a d i)
+
+abbrev pub responses_there : {C M : ℕ} (a : List (BeatOf HeadA C)) (d : List (BeatOf HeadD M)) (j : ℕ) → List HeadD
+responses_there {C} {M} a d j = heads rules_d C (far_d a d j)
 
 module _ {C M : ℕ} (near : 0 < C) (far : 0 < M) (a : List (BeatOf HeadA C)) (d : List (BeatOf HeadD M)) where
   -- what holds at every state that steps lead to: no beat has a fault, and of each source no more responses have begun than requests have begun
@@ -131,7 +138,7 @@ module _ {C M : ℕ} (near : 0 < C) (far : 0 < M) (a : List (BeatOf HeadA C)) (d
       (one_more j b.head (requests_of b.head.source (requests_there a d i)) (is_release_ack b.head) refl
       (λ ack. true_less _ _ (ask_true (fault_after rules_d (take j d) b) (is_release_ack b.head) _ _ ack
       (subst (λ x. is_none (option_map_or (λ f. Some (Beat f)) (fault_after rules_d (take j d) b)
-      (cond (x == 0) (cond (is_release_ack b.head) None (unanswered a d i j b.head)) None)) ≡ true) e stop)))
+      (cond (x == 0) (held_response a d i j b.head) None)) ≡ true) e stop)))
       s (requests_of s (requests_there a d i))
       (λ q. ap (λ x. requests_of x (requests_there a d i)) q) (g.fewer s))
 

@@ -17,12 +17,12 @@ use Rattle.tl_convert.proofs.Extends.{Extends, more, count_by-append, count-grow
 use Rattle.tl_convert.proofs.Comparisons.{equal_true, true_equal, not_equal, map_true, some_not_none, is_there, there_is, none_past}
 use Rattle.tl_convert.proofs.Begins.{heads_open, heads_inside_one, heads_extend}
 use Rattle.tl_settle.proofs.Orders.{asks, answers, Ordered, ask, answer, ClientIs}
-use Rattle.tl_settle.proofs.Settles.{good, there_behind, back_grows, back_behind}
+use Rattle.tl_settle.proofs.Settles.{good, there_behind, back_grows, back_behind, responses_there}
 use Rattle.tl_settle.proofs.Opens.{Match, matches, asks_heads, answers_heads}
 use Rattle.tl_settle.proofs.Marks.{asked_ask, asked_answer, answered_ask, answered_answer, marks_ask_first, marks_ask_inside, marks_answer_first, marks_answer_inside}
 use Rattle.tl_settle.specs.Histories.{Answer, Ask, Event, answered, asked, client_answer, marks, open_request}
 use Rattle.tl_settle.specs.Requests.{is_release_ack, is_request_of, is_response_to, requests_of, responses_to}
-use Rattle.tl_settle.specs.Settling.{far_d, goes_a, goes_d, is_free, requests, responses_there, stops_a}
+use Rattle.tl_settle.specs.Settling.{far_d, goes_a, goes_d, is_free, requests, stops_a}
 use Rattle.tl_settle.specs.Steps.{Reaches, by_a, by_d, start}
 use Rattle.tl_burst.specs.Begun.{heads, left}
 use Rattle.tl_burst.specs.Handing.{fault_after}

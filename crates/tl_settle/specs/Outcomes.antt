@@ -10,7 +10,7 @@ use Rattle.tl_msg.specs.declared.head.HeadD.{HeadD}
 use Rattle.tl_msg.specs.declared.head.HeadE.{HeadE}
 use Rattle.tl_msg.specs.declared.beat.BeatOf.{BeatOf}
 use Rattle.tl_msg.specs.declared.fault.SideFault.{SideFault}
-use Rattle.tl_msg.specs.declared.fault.SideFault.TheVariants.{Beat, SourceBusy, NoRequest, SizeMismatch}
+use Rattle.tl_msg.specs.declared.fault.SideFault.TheVariants.{Beat, SourceBusy, NoRequest}
 use Rattle.tl_msg.specs.declared.verdict.Verdict.{Verdict}
 use Rattle.tl_msg.specs.declared.verdict.Verdict.TheVariants.{Done, Cut, Refused, Waiting}
 use Rattle.tl_burst.specs.Handing.{fault_after}
@@ -23,41 +23,32 @@ use Rattle.tl_settle.specs.Settling.{settled_state, far_a, far_d, stops_a, stops
 -- many beats, and the next beat is stopped by something, or there is none
 abbrev pub verdict_of : (n far lacks : ℕ) → (stopped_by : Option SideFault) → Verdict
 verdict_of n far lacks None = if lacks == 0 then Done n far else Cut n far
-verdict_of n far lacks (Some (Beat fault)) = Refused n (Beat fault)
 verdict_of n far lacks (Some SourceBusy) = Waiting n SourceBusy
 verdict_of n far lacks (Some NoRequest) = Waiting n NoRequest
-verdict_of n far lacks (Some SizeMismatch) = Refused n SizeMismatch
+verdict_of n far lacks (Some fault) = Refused n fault
 
--- a channel that nothing couples to another one, B, C or E: of its list the longest first part that is handed is accepted, which is the beats
--- before the first one that has a fault where it stands
 module _ {H : Type 0} (r : Rules H) {w : ℕ} where
+  -- the same of the n beats that were accepted, and of the next one, where `stops` says what stops a beat
+  abbrev pub verdict_at : (n far : ℕ) (accepted : List (BeatOf H w)) (next : Option (BeatOf H w)) (stops : BeatOf H w → Option SideFault) → Verdict
+  verdict_at n far accepted next stops = verdict_of n far (left r w accepted) (option_map_or stops next None)
+
+  -- a channel that nothing couples to another one, B, C or E: of its list the longest first part that is handed is accepted, which is the beats
+  -- before the first one that has a fault where it stands
   abbrev pub far_alone : (v : ℕ) → List (BeatOf H w) → List (BeatOf H v)
   far_alone v bs = due r w v (accepted_of r bs) (map (λ h. r.lane_address h 0) (heads r w (accepted_of r bs)))
 
   abbrev pub verdict_alone : (v : ℕ) → List (BeatOf H w) → Verdict
   verdict_alone v bs = let n = length (accepted_of r bs) in
-      verdict_of n (length (far_alone v bs)) (left r w (accepted_of r bs))
-      (option_map_or
+      verdict_at n (length (far_alone v bs)) (accepted_of r bs) (slice_get bs n)
       (λ b. option_map_or (λ fault. Some (Beat fault)) (fault_after r (accepted_of r bs) b) None)
-      (slice_get bs n) None)
 
 -- A and D, at their settled state
 module _ {C M : ℕ} (a : List (BeatOf HeadA C)) (d : List (BeatOf HeadD M)) where
-  abbrev pub settled_far_a : List (BeatOf HeadA M)
-  settled_far_a = far_a a d (settled_state a d).a
-
-  abbrev pub settled_far_d : List (BeatOf HeadD C)
-  settled_far_d = far_d a d (settled_state a d).d
-
   abbrev pub verdict_a : Verdict
-  verdict_a = let s = settled_state a d in
-      verdict_of s.a (length (far_a a d s.a)) (left rules_a C (take s.a a))
-      (option_map_or (λ b. stops_a a d s.a s.d b) (slice_get a s.a) None)
+  verdict_a = let s = settled_state a d in verdict_at rules_a s.a (length (far_a a d s.a)) (take s.a a) (slice_get a s.a) (stops_a a d s.a s.d)
 
   abbrev pub verdict_d : Verdict
-  verdict_d = let s = settled_state a d in
-      verdict_of s.d (length (far_d a d s.d)) (left rules_d M (take s.d d))
-      (option_map_or (λ b. stops_d a d s.a s.d b) (slice_get d s.d) None)
+  verdict_d = let s = settled_state a d in verdict_at rules_d s.d (length (far_d a d s.d)) (take s.d d) (slice_get d s.d) (stops_d a d s.a s.d)
 
 -- the beats of the five channels, those of A, C and E on C lanes and those of B and D on M lanes: the near beats of a script, on the lanes of
 -- their senders. Its far beats, on the lanes of their takers, are Beats M C
@@ -79,10 +70,10 @@ pub record Verdicts : Type 0 where
 module _ {C M : ℕ} (near : Beats C M) where
   abbrev pub far_beats : Beats M C
   far_beats = record {
-    a = settled_far_a near.a near.d;
+    a = far_a near.a near.d (settled_state near.a near.d).a;
     b = far_alone rules_b C near.b;
     c = far_alone rules_c M near.c;
-    d = settled_far_d near.a near.d;
+    d = far_d near.a near.d (settled_state near.a near.d).d;
     e = far_alone rules_e M near.e;
   }
 

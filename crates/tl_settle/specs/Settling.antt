@@ -2,6 +2,8 @@
 -- again and when a response may be offered: this project's choice).
 use Rattle.std.specs.Prelude.{◌+◌, ◌==◌, ℕ, Bool, false, Option, None, Some, List, [], length, map, take, nat_lt, slice_get, if◌then◌else◌}
 use Rattle.std.specs.Option.{option_map_or, is_none}
+use Rattle.tl_msg.specs.Firsts.{unless}
+use Rattle.tl_msg.specs.Rules.{Rules}
 use Rattle.tl_msg.specs.Tables.{rules_a, rules_d}
 use Rattle.tl_msg.specs.declared.head.HeadA.{HeadA}
 use Rattle.tl_msg.specs.declared.head.HeadD.{HeadD}
@@ -14,62 +16,50 @@ use Rattle.tl_convert.specs.Due.{due}
 use Rattle.tl_settle.specs.Requests.{requests_of, responses_to, is_release_ack, partner, homes_after}
 use Rattle.tl_settle.specs.Steps.{State, settle, IsTheSettled}
 
+-- what stops a beat after those that were accepted: a fault of its own, or, where it opens a message, what holds that back
+abbrev pub stops : {H : Type 0} (r : Rules H) {w : ℕ} (accepted : List (BeatOf H w)) (held : H → Option SideFault) → BeatOf H w → Option SideFault
+stops r {w} accepted held b =
+    option_map_or (λ fault. Some (Beat fault)) (fault_after r accepted b) (if left r w accepted == 0 then held b.head else None)
+
 -- the near beats a of channel A, at the client's width C, and d of channel D, at the manager's width M
 module _ {C M : ℕ} (a : List (BeatOf HeadA C)) (d : List (BeatOf HeadD M)) where
-  -- the requests that begin in the first i beats of A, and in the far beats that these make due
+  -- the requests that begin in the first i beats of A, and the far beats that these make due
   abbrev pub requests : (i : ℕ) → List HeadA
   requests i = heads rules_a C (take i a)
 
   abbrev pub far_a : (i : ℕ) → List (BeatOf HeadA M)
   far_a i = due rules_a C M (take i a) (map (λ h. h.address) (requests i))
 
-  abbrev pub requests_there : (i : ℕ) → List HeadA
-  requests_there i = heads rules_a M (far_a i)
-
-  -- the messages that begin in the first j beats of D, and in the far beats that these make due
+  -- the messages that begin in the first j beats of D, and the far beats that these make due
   abbrev pub responses : (j : ℕ) → List HeadD
   responses j = heads rules_d M (take j d)
 
   abbrev pub far_d : (j : ℕ) → List (BeatOf HeadD C)
   far_d j = due rules_d M C (take j d) (homes_after (heads rules_a C a) [] (responses j))
 
-  abbrev pub responses_there : (j : ℕ) → List HeadD
-  responses_there j = heads rules_d C (far_d j)
-
   -- a source is free where each of its requests has an answer that began at the client's side
   abbrev pub is_free : (i j s : ℕ) → Bool
-  is_free i j s = requests_of s (requests i) == responses_to s (responses_there j)
+  is_free i j s = requests_of s (requests i) == responses_to s (heads rules_d C (far_d j))
 
   -- what holds back a request that would begin: a source that is not free
   abbrev pub held_request : (i j : ℕ) → HeadA → Option SideFault
-  held_request i j h = if is_free i j h.source then None else Some SourceBusy
+  held_request i j h = unless (is_free i j h.source) SourceBusy
 
-  -- what stops the next beat of A: a fault of its own, or, where it opens a message, what holds that
-  -- back
-  abbrev pub stops_a : (i j : ℕ) → BeatOf HeadA C → Option SideFault
-  stops_a i j b =
-      option_map_or (λ fault. Some (Beat fault)) (fault_after rules_a (take i a) b)
-      (if left rules_a C (take i a) == 0 then held_request i j b.head else None)
-
-  -- what stops a response that opens a message: no request of its source waits at the manager's side, or it has another size
-  abbrev pub unanswered : (i j : ℕ) → HeadD → Option SideFault
-  unanswered i j h =
-      if nat_lt (responses_to h.source (responses j)) (requests_of h.source (requests_there i))
-      then (if option_map_or (λ q. q.size == h.size) (partner (heads rules_a C a) (responses j) h.source) false
-      then None else Some SizeMismatch)
+  -- what holds back a response that would begin: nothing holds back ReleaseAck; any other waits for a request of its source at the manager's
+  -- side, and has to be of that request's size
+  abbrev pub held_response : (i j : ℕ) → HeadD → Option SideFault
+  held_response i j h =
+      if is_release_ack h then None else
+      if nat_lt (responses_to h.source (responses j)) (requests_of h.source (heads rules_a M (far_a i)))
+      then unless (option_map_or (λ q. q.size == h.size) (partner (heads rules_a C a) (responses j) h.source) false) SizeMismatch
       else Some NoRequest
 
-  -- what holds back a response that would begin: nothing holds back ReleaseAck, and any other waits
-  -- for its request
-  abbrev pub held_response : (i j : ℕ) → HeadD → Option SideFault
-  held_response i j h = if is_release_ack h then None else unanswered i j h
+  -- what stops the next beat
+  abbrev pub stops_a : (i j : ℕ) → BeatOf HeadA C → Option SideFault
+  stops_a i j b = stops rules_a (take i a) (held_request i j) b
 
-  -- what stops the next beat of D: a fault of its own, or, where it opens a message, what holds that
-  -- back
   abbrev pub stops_d : (i j : ℕ) → BeatOf HeadD M → Option SideFault
-  stops_d i j b =
-      option_map_or (λ fault. Some (Beat fault)) (fault_after rules_d (take j d) b)
-      (if left rules_d M (take j d) == 0 then held_response i j b.head else None)
+  stops_d i j b = stops rules_d (take j d) (held_response i j) b
 
   -- whether the next beat may go
   abbrev pub goes_a : (i j : ℕ) → Bool

@@ -7,7 +7,7 @@ use Rattle.std.proofs.lemmas.Bool.{eqb-true, or_from, and_parts}
 use Rattle.std.proofs.lemmas.List.Folds.{list_any-append}
 use Rattle.std.proofs.lemmas.Slice.Eq.{bytes_eq-Decides}
 use Rattle.tl_trace.specs.Texts.{versions, widths, is_version, is_width, newline, header_text, SaysLine, is_kept_line, TellsLines, Tells}
-use Rattle.tl_trace.specs.Faults.{is_newline, cut, or_empty, headers, header_of, is_header_of, body_fault, later_fault, faults_after, faults_of_lines, faults, is_readable}
+use Rattle.tl_trace.specs.Faults.{is_newline, cut, headers, header_of, is_header_of, body_fault, later_fault, faults_after, faults_of_lines, faults, is_readable}
 use Rattle.tl_trace.specs.declared.fault.TraceKind.{TraceKind}
 use Rattle.tl_trace.specs.declared.header.Header.{Header}
 use Rattle.tl_trace.specs.declared.line.Line.{Line}
@@ -107,7 +107,7 @@ text_faults text more version client manager lines t =
     let later = map (later_fault version client manager) (cut more) in
     let free = header_free version client manager t.trace.known_version t.trace.client_width t.trace.manager_width in
     let whole : text ++ more ≡ first ++ newline ++ (t.rest ++ more) = ap (λ (xs : List ℕ). xs ++ more) t.header ∙ append_assoc (first ++ newline) t.rest more in
-    ap faults whole ∙ ap (λ (ls : List (List ℕ)). faults_of_lines (or_empty ls)) (cut_line first (t.rest ++ more) free)
+    ap faults whole ∙ ap faults_of_lines (cut_line first (t.rest ++ more) free)
     ∙ ap (λ (o : Option Header). faults_after o (first ++ newline) (cut (t.rest ++ more))) (ap header_of (body_line first free) ∙ header_names version client manager t.trace.known_version t.trace.client_width t.trace.manager_width)
     ∙ ap (λ (o : Option TraceKind). o ∷ map (later_fault version client manager) (cut (t.rest ++ more))) (ended first)
     ∙ ap (λ (os : List (Option TraceKind)). None ∷ os) (lines_faults version client manager lines t.rest more t.trace.kept t.told)

@@ -165,5 +165,10 @@ is_header text h e = same_bytes (is_header_of text h) text (header_text h.versio
     same_bytes true xs ys d e = d.0 refl
     same_bytes false xs ys d e = absurd cc
 
+-- an empty text is no header
+pub no_empty_header : header_of [] ≡ None
+unfolding header_of
+no_empty_header = refl
+
 pub from_start : (text : List ℕ) (end : ℕ) (o : Option Header) → o ≡ header_of (take end text) → header_of (slice_range text 0 end) ≡ o
 from_start text end o e = let all : end - 0 ≡ end = omega arith in ap (λ (n : ℕ). header_of (take n text)) all ∙ sym e

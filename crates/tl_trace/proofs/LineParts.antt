@@ -9,7 +9,7 @@ use Rattle.std.specs.List.{list_all, list_any}
 use Rattle.tl_msg.specs.declared.beat.BeatOf.{BeatOf}
 use Rattle.tl_trace.specs.Fields.{Field, length_of, opcode, param, size, source, address, sink, denied, mask, data_lanes, corrupt, Form, bit, digit_count, fields, mask_fields, data_fields, values, value_of, line_length, number_of_lanes}
 use Rattle.tl_trace.specs.Lines.{is_plain}
-use Rattle.tl_trace.specs.Inner.Reading.{field_at, fields_from, is_head_field, head_value, is_head_in_range, IsNumber, IsPart, IsHead, IsHeadOf, mask_values, data_values}
+use Rattle.tl_trace.specs.Inner.Reading.{field_at, fields_from, is_head_field, read_value, is_head_in_range, IsNumber, IsPart, IsHead, IsHeadOf, mask_values, data_values}
 use Rattle.tl_trace.specs.declared.head_reader.HeadFields.{HeadFields}
 use Rattle.tl_trace.proofs.Shaped.{below}
 use Rattle.tl_trace.proofs.ReadDigits.{left_good, right_good, bad_or}
@@ -100,12 +100,12 @@ module _ {H : Type 0} (f : Form H) where
   head_limit w data_lanes e = absurd cc
   head_limit w corrupt e = absurd cc
 
-  head_below : (w : ℕ) (r : HeadFields) (fs : List Field) → list_all is_head_field fs ≡ true → below f w fs (map (head_value r) fs) ≡ list_all (λ field. nat_lt (head_value r field) (values f 0 field)) fs
+  head_below : (w : ℕ) (r : HeadFields) (fs : List Field) → list_all is_head_field fs ≡ true → below f w fs (map (read_value r) fs) ≡ list_all (λ field. nat_lt (read_value r field) (values f 0 field)) fs
   head_below w r [] e = refl
   head_below w r (field ∷ fs) e =
       let both = and_parts (is_head_field field) (list_all is_head_field fs) e in
-      ap (λ (k : ℕ). nat_lt (head_value r field) k && below f w fs (map (head_value r) fs)) (head_limit w field both.0)
-      ∙ ap (λ (b : Bool). nat_lt (head_value r field) (values f 0 field) && b) (head_below w r fs both.1)
+      ap (λ (k : ℕ). nat_lt (read_value r field) k && below f w fs (map (read_value r) fs)) (head_limit w field both.0)
+      ∙ ap (λ (b : Bool). nat_lt (read_value r field) (values f 0 field) && b) (head_below w r fs both.1)
 
   head_of_beat : {n : ℕ} (b : BeatOf H n) (field : Field) → is_head_field field ≡ true → value_of f b field ≡ f.value b.head field
   head_of_beat b opcode e = refl
@@ -139,7 +139,7 @@ module _ {H : Type 0} (f : Form H) where
   -- ---- the whole line
 
   abbrev pub line_values : (r : HeadFields) (m d c : ℕ) → List ℕ
-  line_values r m d c = (map (head_value r) f.head_fields ++ mask_values f m) ++ data_values f d c
+  line_values r m d c = (map (read_value r) f.head_fields ++ mask_values f m) ++ data_values f d c
 
   pub line_long : (w : ℕ) → list_all is_head_field f.head_fields ≡ true → line_length f w ≡ 1 + length_of 0 f.head_fields + length_of w (mask_fields f) + length_of w (data_fields f)
   line_long w heads =
@@ -157,8 +157,8 @@ module _ {H : Type 0} (f : Form H) where
       let two = length_append w f.head_fields (mask_fields f) in
       let there : mask_at ≡ 1 + length_of w f.head_fields = omega (arith, wide, first) in
       let there' : data_at ≡ 1 + length_of w (f.head_fields ++ mask_fields f) = omega (arith, wide, two, first, second) in
-      let front = both_parts w text 1 mask_at f.head_fields (mask_fields f) (map (head_value r) f.head_fields) (mask_values f m) r.bad mask_bad there (head_part w text 1 f.head_fields (map (head_value r) f.head_fields) r.bad heads head.part) masks in
-      both_parts w text 1 data_at (f.head_fields ++ mask_fields f) (data_fields f) (map (head_value r) f.head_fields ++ mask_values f m) (data_values f d c) (bit_or r.bad mask_bad) data_bad there' front datas
+      let front = both_parts w text 1 mask_at f.head_fields (mask_fields f) (map (read_value r) f.head_fields) (mask_values f m) r.bad mask_bad there (head_part w text 1 f.head_fields (map (read_value r) f.head_fields) r.bad heads head.part) masks in
+      both_parts w text 1 data_at (f.head_fields ++ mask_fields f) (data_fields f) (map (read_value r) f.head_fields ++ mask_values f m) (data_values f d c) (bit_or r.bad mask_bad) data_bad there' front datas
 
   and_and : (a b c : Bool) → (a && b) && c ≡ a && (b && c)
   and_and true b c = refl
@@ -175,8 +175,8 @@ module _ {H : Type 0} (f : Form H) where
   mask_long m true = refl
   mask_long m false = refl
 
-  lengths : (r : HeadFields) (m : ℕ) → length (map (head_value r) f.head_fields ++ mask_values f m) ≡ length (f.head_fields ++ mask_fields f)
-  lengths r m = grow (map (head_value r) f.head_fields) (mask_values f m) f.head_fields (mask_fields f) (length-map f.head_fields (head_value r)) (mask_long m f.rules.masked)
+  lengths : (r : HeadFields) (m : ℕ) → length (map (read_value r) f.head_fields ++ mask_values f m) ≡ length (f.head_fields ++ mask_fields f)
+  lengths r m = grow (map (read_value r) f.head_fields) (mask_values f m) f.head_fields (mask_fields f) (length-map f.head_fields (read_value r)) (mask_long m f.rules.masked)
     where
       grow : (us vs : List ℕ) (xs ys : List Field) → length us ≡ length xs → length vs ≡ length ys → length (us ++ vs) ≡ length (xs ++ ys)
       grow us vs xs ys e e' = omega (arith, length-append us vs, length-append xs ys, e, e')
@@ -193,8 +193,8 @@ module _ {H : Type 0} (f : Form H) where
   pub line_range : (w : ℕ) (r : HeadFields) (m d c : ℕ) → list_all is_head_field f.head_fields ≡ true → (f.rules.masked ≡ false → m ≡ 0) → (f.rules.corrupts ≡ false → c ≡ 0) → d < 256 ^ w
       → below f w (fields f) (line_values r m d c) ≡ (is_head_in_range f r && nat_lt m (2 ^ w)) && nat_lt c 2
   line_range w r m d c heads no_mask no_data small =
-      below_append w (f.head_fields ++ mask_fields f) (data_fields f) (map (head_value r) f.head_fields ++ mask_values f m) (data_values f d c) (lengths r m)
-      ∙ ap (λ (b : Bool). b && below f w (data_fields f) (data_values f d c)) (below_append w f.head_fields (mask_fields f) (map (head_value r) f.head_fields) (mask_values f m) (length-map f.head_fields (head_value r))
+      below_append w (f.head_fields ++ mask_fields f) (data_fields f) (map (read_value r) f.head_fields ++ mask_values f m) (data_values f d c) (lengths r m)
+      ∙ ap (λ (b : Bool). b && below f w (data_fields f) (data_values f d c)) (below_append w f.head_fields (mask_fields f) (map (read_value r) f.head_fields) (mask_values f m) (length-map f.head_fields (read_value r))
       ∙ ap (λ (b : Bool). b && below f w (mask_fields f) (mask_values f m)) (head_below w r f.head_fields heads)
       ∙ ap (λ (b : Bool). is_head_in_range f r && b) (mask_test w m f.rules.masked no_mask))
       ∙ ap (λ (b : Bool). (is_head_in_range f r && nat_lt m (2 ^ w)) && b) (data_test w d c f.rules.corrupts no_data small)
@@ -213,8 +213,8 @@ module _ {H : Type 0} (f : Form H) where
       map-append (value_of f b) (f.head_fields ++ mask_fields f) (data_fields f)
       ∙ ap (λ (vs : List ℕ). vs ++ map (value_of f b) (data_fields f)) (map-append (value_of f b) f.head_fields (mask_fields f)
       ∙ ap (λ (vs : List ℕ). vs ++ map (value_of f b) (mask_fields f)) (head_said b f.head_fields heads ∙ head.same)
-      ∙ ap (λ (vs : List ℕ). map (head_value r) f.head_fields ++ vs) (mask_said b f.rules.masked))
-      ∙ ap (λ (vs : List ℕ). (map (head_value r) f.head_fields ++ mask_values f b.mask) ++ vs) (data_said b f.rules.corrupts ∙ ap (λ (k : ℕ). cond f.rules.corrupts (number_of_lanes b.lanes ∷ k ∷ []) []) same)
+      ∙ ap (λ (vs : List ℕ). map (read_value r) f.head_fields ++ vs) (mask_said b f.rules.masked))
+      ∙ ap (λ (vs : List ℕ). (map (read_value r) f.head_fields ++ mask_values f b.mask) ++ vs) (data_said b f.rules.corrupts ∙ ap (λ (k : ℕ). cond f.rules.corrupts (number_of_lanes b.lanes ∷ k ∷ []) []) same)
 
   pub line_plain : {n : ℕ} (b : BeatOf H n) → (f.rules.masked ≡ false → b.mask ≡ 0) → (f.rules.corrupts ≡ false → (list_all (λ lane. nat_eq lane 0) b.lanes ≡ true) × (b.corrupt ≡ false)) → is_plain f b ≡ true
   line_plain b no_mask no_data = and_from (f.rules.masked || nat_eq b.mask 0) (f.rules.corrupts || (list_all (λ lane. nat_eq lane 0) b.lanes && not b.corrupt)) (left f.rules.masked no_mask) (right f.rules.corrupts no_data)

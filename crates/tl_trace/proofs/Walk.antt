@@ -1,13 +1,13 @@
 -- One step of the walk over the lines of a text.
-use Rattle.std.proofs.Common.{◌≡◌, ℕ, suc, ◌+◌, ◌-◌, ◌<◌, ◌≤◌, true, ◌&&◌, List, [], ◌∷◌, ◌++◌, length, map, get_or, take, drop, replicate, Option, Some, None, refl, sym, ap, ◌∙◌, arith, drop-cons, append_assoc, append-nil, add-one, length-drop, inl, inr, subst, rules}
+use Rattle.std.proofs.Common.{◌≡◌, ℕ, zero, suc, ◌+◌, ◌-◌, ◌<◌, ◌≤◌, true, ◌&&◌, List, [], ◌∷◌, ◌++◌, length, map, get_or, take, drop, replicate, Option, Some, None, refl, sym, ap, ◌∙◌, arith, drop-cons, append_assoc, append-nil, add-one, length-drop, inl, inr, subst}
 use Rattle.std.proofs.lemmas.List.Folds.{drop_split, list_all-append}
 use Rattle.std.proofs.lemmas.Bool.{cases_eq, and_from}
-use Rattle.std.proofs.lemmas.List.{drop-drop, get_or-drop, take_all}
+use Rattle.std.proofs.lemmas.List.{drop-drop, get_or-drop}
 use Rattle.std.proofs.Math.Seq.{take-add}
 use Rattle.std.specs.List.{list_all, slice_range}
 use Rattle.tl_msg.specs.Firsts.{◌or_else◌}
 use Rattle.tl_trace.specs.Texts.{newline, is_kept_line, TellsLines}
-use Rattle.tl_trace.specs.Faults.{cut, or_empty, lines_of, body, body_fault, later_fault, header_of, faults_after, faults_of_lines, faults, IsFirstFault, IsReadableTo}
+use Rattle.tl_trace.specs.Faults.{cut, body, body_fault, later_fault, header_of, faults_after, faults_of_lines, faults, IsFirstFault, IsReadableTo}
 use Rattle.tl_trace.specs.Inner.Reading.{LineAt, IsReadLine}
 use Rattle.tl_trace.specs.declared.line.Line.{Line}
 use Rattle.tl_trace.specs.declared.fault.TraceKind.{TraceKind}
@@ -16,6 +16,7 @@ use Rattle.tl_trace.specs.declared.fault.TraceKind.TheVariants.{NoEnd}
 use Rattle.tl_trace.specs.declared.header.Header.{Header}
 use Rattle.tl_trace.proofs.ReadLines.{IsFree, SoFar, cut_line, cut_last, body_line, body_last, ended, unended, free_take, first_fault, readable_to, one_more, told_more}
 use Rattle.tl_trace.proofs.Cover.{drop_all}
+use Rattle.tl_trace.proofs.Headers.{no_empty_header}
 
 pub free_line : (text : List ℕ) (at end : ℕ) → LineAt text at end → IsFree (slice_range text at end)
 free_line text at end line = free_take (end - at) (drop at text) (λ k lt e. line.free k (omega arith) (sym (get_or-drop at text k 0) ∙ e))
@@ -136,32 +137,30 @@ advance text start version client manager lines at before end beat far line read
 
 -- ---- the header
 
-pub header_lines : (text : List ℕ) (end : ℕ) → LineAt text 0 end → end < length text → lines_of text ≡ (slice_range text 0 end ++ newline) ∷ cut (drop (end + 1) text)
-header_lines text end line lt = ap or_empty (cut_here text 0 end line lt)
+pub header_lines : (text : List ℕ) (end : ℕ) → LineAt text 0 end → end < length text → cut text ≡ (slice_range text 0 end ++ newline) ∷ cut (drop (end + 1) text)
+header_lines text end line lt = cut_here text 0 end line lt
 
 no_text : (text : List ℕ) → length text ≡ 0 → text ≡ []
 no_text [] e = refl
 no_text (byte ∷ text) e = absurd (omega arith)
 
-range_to : (text : List ℕ) → slice_range text 0 (length text) ≡ text
-range_to text = search (rules, take_all)
+pub header_last : (text : List ℕ) (end : ℕ) → LineAt text 0 end → end ≡ length text → 0 < end → cut text ≡ slice_range text 0 end ∷ []
+header_last text end line e some = cut_there text 0 end line (omega (arith, some, e)) e
 
-pub header_last : (text : List ℕ) (end : ℕ) → LineAt text 0 end → end ≡ length text → lines_of text ≡ slice_range text 0 end ∷ []
-header_last text end line e = elim (cases_eq (length text) 0) [
-  | inl none ↦
-      let empty = no_text text none in
-      let zero_end : end ≡ 0 = e ∙ none in
-      let this : slice_range text 0 end ≡ [] = ap (λ (n : ℕ). slice_range text 0 n) zero_end in
-      ap lines_of empty ∙ ap (λ (l : List ℕ). l ∷ []) (sym this)
-  | inr some ↦ ap or_empty (cut_there text 0 end line (omega (arith, some)) e)
-]
+header_some : (text : List ℕ) (end : ℕ) (h : Header) → header_of (slice_range text 0 end) ≡ Some h → 0 < end
+header_some text zero h some = let same : None ≡ Some h = sym no_empty_header ∙ some in absurd cc
+header_some text (suc end) h some = omega arith
 
 pub no_header : (text : List ℕ) (end : ℕ) → LineAt text 0 end → header_of (slice_range text 0 end) ≡ None → IsFirstFault text 1 kinds.Header
 no_header text end line none =
     let b = slice_range text 0 end in
     let free = free_line text 0 end line in
     elim (cases_eq end (length text)) [
-      | inl e ↦ first_fault text 0 kinds.Header [] (ap faults_of_lines (header_last text end line e) ∙ ap (λ (o : Option Header). faults_after o b []) (ap header_of (body_last b free) ∙ none))
+      | inl e ↦ elim (cases_eq (length text) 0) [
+        | inl empty ↦ first_fault text 0 kinds.Header [] (ap faults (no_text text empty))
+        | inr some ↦ first_fault text 0 kinds.Header [] (ap faults_of_lines (header_last text end line e (omega (arith, e, some)))
+            ∙ ap (λ (o : Option Header). faults_after o b []) (ap header_of (body_last b free) ∙ none))
+      ]
       | inr ne ↦ first_fault text 0 kinds.Header [] (ap faults_of_lines (header_lines text end line (omega (arith, line.to, ne)))
           ∙ ap (λ (o : Option Header). faults_after o (b ++ newline) (cut (drop (end + 1) text))) (ap header_of (body_line b free) ∙ none))
     ]
@@ -170,7 +169,7 @@ pub no_header_end : (text : List ℕ) (end : ℕ) (h : Header) → LineAt text 0
 no_header_end text end h line some e =
     let b = slice_range text 0 end in
     let free = free_line text 0 end line in
-    first_fault text 0 NoEnd [] (ap faults_of_lines (header_last text end line e) ∙ ap (λ (o : Option Header). faults_after o b []) (ap header_of (body_last b free) ∙ some)
+    first_fault text 0 NoEnd [] (ap faults_of_lines (header_last text end line e (header_some text end h some)) ∙ ap (λ (o : Option Header). faults_after o b []) (ap header_of (body_last b free) ∙ some)
     ∙ ap (λ (o : Option TraceKind). o ∷ []) (unended b free))
 
 pub header_faults : (text : List ℕ) (end : ℕ) (h : Header) → LineAt text 0 end → header_of (slice_range text 0 end) ≡ Some h → end < length text

@@ -1,15 +1,17 @@
 -- A lawful beat is writable.
 use Rattle.std.proofs.Common.{◌≡◌, ℕ, zero, suc, ◌^◌, ◌<◌, Bool, true, false, cond, ◌&&◌, nat_eq, nat_le, nat_lt, List, [], ◌∷◌, length, Option, None, Some, refl, arith, subst, bit_and}
-use Rattle.std.proofs.lemmas.Bool.{eqb-true, lt-ltb, ltb-true, leb-true, and_parts}
+use Rattle.std.proofs.lemmas.Bool.{eqb-true, lt-ltb, ltb-true, leb-true, and_parts, and_from}
 use Rattle.std.proofs.lemmas.Nat.{and_le_r}
 use Rattle.std.specs.Option.{option_map_or}
 use Rattle.std.specs.Prelude.{All}
 use Rattle.std.specs.List.{list_all}
 use Rattle.tl_lanes.proofs.ActiveLanes.{active_mask-lt}
-use Rattle.tl_msg.specs.Faults.{full_mask, mask_fits, is_clean}
+use Rattle.tl_msg.specs.Faults.{full_mask, mask_fits, is_clean, IsLawfulBeat}
 use Rattle.tl_msg.specs.Firsts.{unless, ◌or_else◌}
 use Rattle.tl_msg.specs.Kinds.{Column, column_a, column_b, column_c, column_d, kind_at, params}
+use Rattle.tl_msg.specs.Rules.{Rules}
 use Rattle.tl_msg.specs.Tables.{head_fault, is_aligned, rules_a, rules_b, rules_c, rules_d}
+use Rattle.tl_msg.specs.declared.beat.BeatOf.{BeatOf}
 use Rattle.tl_msg.specs.declared.fault.BeatFault.TheVariants.{Param, Size, Unaligned, Mask, Corrupt}
 use Rattle.tl_msg.specs.declared.kind.Kind.{Kind}
 use Rattle.tl_trace.specs.Fields.{bit, id_digits, form_a, form_b, form_c, form_d, form_e, number_of_lanes}
@@ -78,63 +80,54 @@ data_small w lanes long bytes = let P : ℕ → Type 0 = λ k. number_of_lanes l
 
 -- ---- each channel
 
+-- a lawful beat has no fault in its head, and its mask fits
+lawful_parts : {H : Type 0} (r : Rules H) {w : ℕ} (b : BeatOf H w) → IsLawfulBeat r b → (r.fault b.head ≡ None) × (mask_fits r b ≡ true)
+lawful_parts r b lawful =
+    let rest = no_second (r.fault b.head) (unless (mask_fits r b) Mask or_else unless (is_clean r b) Corrupt) lawful in (
+      no_first (r.fault b.head) (unless (mask_fits r b) Mask or_else unless (is_clean r b) Corrupt) lawful,
+      unless_none (mask_fits r b) Mask (no_first (unless (mask_fits r b) Mask) (unless (is_clean r b) Corrupt) rest),
+    )
+
+-- the mask of a lawful beat of A or B is in range
+mask_in_range : {H : Type 0} (r : Rules H) {w : ℕ} (b : BeatOf H w) → r.masked ≡ true → IsLawfulBeat r b → nat_lt b.mask (2 ^ w) ≡ true
+mask_in_range r {w} b masked lawful =
+    let full = full_mask r b.head w in
+    let P : Bool → Type 0 = λ t. (cond t (cond (r.partial b.head) (nat_eq (bit_and b.mask full) b.mask) (nat_eq b.mask full)) true) ≡ true in
+    let fits = subst P masked (lawful_parts r b lawful).1 in
+    lt-ltb b.mask (2 ^ w) (mask_small (r.partial b.head) b.mask full w (active_mask-lt (r.lane_address b.head 0) (r.size b.head) w) fits)
+
+-- lanes and corrupt are in range
+data_in_range : {H : Type 0} {w : ℕ} (b : BeatOf H w) → length b.lanes ≡ w → All (λ byte. byte < 256) b.lanes
+    → nat_lt (number_of_lanes b.lanes) (256 ^ w) && (nat_lt (bit b.corrupt) 2 && true) ≡ true
+data_in_range {w = w} b long bytes = rw (lt-ltb (number_of_lanes b.lanes) (256 ^ w) (data_small w b.lanes long bytes), bit_small b.corrupt) refl
+
+-- the fields of a head of A, B or C are in range, and so are those behind it
+head_in_range : (version : ℕ) (column : Column) (o p z s a : ℕ) (rest : Bool) → length column ≡ 8 → list_all (few_params 8) column ≡ true
+    → head_fault (kind_at column o) p z (is_aligned a z) ≡ None → nat_lt s (16 ^ id_digits version) && true ≡ true → a < 2 ^ 64 → rest ≡ true
+    → nat_lt o 8 && (nat_lt p 8 && (nat_lt z 16 && (nat_lt s (16 ^ id_digits version) && (nat_lt a (2 ^ 64) && rest)))) ≡ true
+head_in_range version column o p z s a rest long few head id small more =
+    let l = in_column column 8 o p z (is_aligned a z) few head in
+    let digits = (and_parts (nat_lt s (16 ^ id_digits version)) true id).0 in
+    rw (lt-ltb o 8 (omega (arith, l.opcode, long)), lt-ltb p 8 l.param, lt-ltb z 16 l.size, digits, lt-ltb a (2 ^ 64) small) more
+
 pub lawful_a : (version : ℕ) → LawfulIsWritable (form_a version)
 lawful_a version w b held ids lawful =
-    let head = no_first (rules_a.fault b.head) (unless (mask_fits rules_a b) Mask or_else unless (is_clean rules_a b) Corrupt) lawful in
-    let rest = no_second (rules_a.fault b.head) (unless (mask_fits rules_a b) Mask or_else unless (is_clean rules_a b) Corrupt) lawful in
-    let fits = unless_none (mask_fits rules_a b) Mask (no_first (unless (mask_fits rules_a b) Mask) (unless (is_clean rules_a b) Corrupt) rest) in
-    let l = in_column column_a 8 b.head.opcode b.head.param b.head.size (is_aligned b.head.address b.head.size) refl head in
-    let m = mask_small (rules_a.partial b.head) b.mask (full_mask rules_a b.head w) w (active_mask-lt b.head.address b.head.size w) fits in
-    let id : nat_lt b.head.source (16 ^ id_digits version) ≡ true = (and_parts (nat_lt b.head.source (16 ^ id_digits version)) true ids).0 in
-    rw (
-      lt-ltb b.head.opcode 8 l.opcode,
-      lt-ltb b.head.param 8 l.param,
-      lt-ltb b.head.size 16 l.size,
-      id,
-      lt-ltb b.head.address (2 ^ 64) held.address,
-      lt-ltb b.mask (2 ^ w) m,
-      lt-ltb (number_of_lanes b.lanes) (256 ^ w) (data_small w b.lanes held.lanes held.bytes),
-      bit_small b.corrupt,
-    ) refl
+    head_in_range version column_a b.head.opcode b.head.param b.head.size b.head.source b.head.address _ refl refl (lawful_parts rules_a b lawful).0 ids held.address
+    (and_from (nat_lt b.mask (2 ^ w)) _ (mask_in_range rules_a b refl lawful) (data_in_range b held.lanes held.bytes))
 
 pub lawful_b : (version : ℕ) → LawfulIsWritable (form_b version)
 lawful_b version w b held ids lawful =
-    let head = no_first (rules_b.fault b.head) (unless (mask_fits rules_b b) Mask or_else unless (is_clean rules_b b) Corrupt) lawful in
-    let rest = no_second (rules_b.fault b.head) (unless (mask_fits rules_b b) Mask or_else unless (is_clean rules_b b) Corrupt) lawful in
-    let fits = unless_none (mask_fits rules_b b) Mask (no_first (unless (mask_fits rules_b b) Mask) (unless (is_clean rules_b b) Corrupt) rest) in
-    let l = in_column column_b 8 b.head.opcode b.head.param b.head.size (is_aligned b.head.address b.head.size) refl head in
-    let m = mask_small (rules_b.partial b.head) b.mask (full_mask rules_b b.head w) w (active_mask-lt b.head.address b.head.size w) fits in
-    let id : nat_lt b.head.source (16 ^ id_digits version) ≡ true = (and_parts (nat_lt b.head.source (16 ^ id_digits version)) true ids).0 in
-    rw (
-      lt-ltb b.head.opcode 8 l.opcode,
-      lt-ltb b.head.param 8 l.param,
-      lt-ltb b.head.size 16 l.size,
-      id,
-      lt-ltb b.head.address (2 ^ 64) held.address,
-      lt-ltb b.mask (2 ^ w) m,
-      lt-ltb (number_of_lanes b.lanes) (256 ^ w) (data_small w b.lanes held.lanes held.bytes),
-      bit_small b.corrupt,
-    ) refl
+    head_in_range version column_b b.head.opcode b.head.param b.head.size b.head.source b.head.address _ refl refl (lawful_parts rules_b b lawful).0 ids held.address
+    (and_from (nat_lt b.mask (2 ^ w)) _ (mask_in_range rules_b b refl lawful) (data_in_range b held.lanes held.bytes))
 
 pub lawful_c : (version : ℕ) → LawfulIsWritable (form_c version)
 lawful_c version w b held ids lawful =
-    let head = no_first (rules_c.fault b.head) (unless (mask_fits rules_c b) Mask or_else unless (is_clean rules_c b) Corrupt) lawful in
-    let l = in_column column_c 8 b.head.opcode b.head.param b.head.size (is_aligned b.head.address b.head.size) refl head in
-    let id : nat_lt b.head.source (16 ^ id_digits version) ≡ true = (and_parts (nat_lt b.head.source (16 ^ id_digits version)) true ids).0 in
-    rw (
-      lt-ltb b.head.opcode 8 l.opcode,
-      lt-ltb b.head.param 8 l.param,
-      lt-ltb b.head.size 16 l.size,
-      id,
-      lt-ltb b.head.address (2 ^ 64) held.address,
-      lt-ltb (number_of_lanes b.lanes) (256 ^ w) (data_small w b.lanes held.lanes held.bytes),
-      bit_small b.corrupt,
-    ) refl
+    head_in_range version column_c b.head.opcode b.head.param b.head.size b.head.source b.head.address _ refl refl (lawful_parts rules_c b lawful).0 ids held.address
+    (data_in_range b held.lanes held.bytes)
 
 pub lawful_d : (version : ℕ) → LawfulIsWritable (form_d version)
 lawful_d version w b held ids lawful =
-    let head = no_first (rules_d.fault b.head) (unless (mask_fits rules_d b) Mask or_else unless (is_clean rules_d b) Corrupt) lawful in
-    let l = in_column column_d 4 b.head.opcode b.head.param b.head.size true refl head in
+    let l = in_column column_d 4 b.head.opcode b.head.param b.head.size true refl (lawful_parts rules_d b lawful).0 in
     let id : nat_lt b.head.source (16 ^ id_digits version) ≡ true = (and_parts (nat_lt b.head.source (16 ^ id_digits version)) (nat_lt b.head.sink (16 ^ id_digits version) && true) ids).0 in
     let id' : nat_lt b.head.sink (16 ^ id_digits version) ≡ true = (and_parts (nat_lt b.head.sink (16 ^ id_digits version)) true (and_parts (nat_lt b.head.source (16 ^ id_digits version)) (nat_lt b.head.sink (16 ^ id_digits version) && true) ids).1).0 in
     rw (
@@ -144,9 +137,7 @@ lawful_d version w b held ids lawful =
       id,
       id',
       bit_small b.head.denied,
-      lt-ltb (number_of_lanes b.lanes) (256 ^ w) (data_small w b.lanes held.lanes held.bytes),
-      bit_small b.corrupt,
-    ) refl
+    ) (data_in_range b held.lanes held.bytes)
 
 pub lawful_e : (version : ℕ) → LawfulIsWritable (form_e version)
 lawful_e version w b held ids lawful = ids

@@ -1,7 +1,7 @@
 //! The beats of a trace by channel.
 ghost use Rattle.std.specs.Prelude.{◌≡◌, ◌≤◌, [], IfOk};
 ghost use Rattle.tl_lanes.specs.declared.limits.TheConstants.{WIDEST};
-ghost use Rattle.tl_trace.specs.Scripts.{IsScriptOf, on_lanes, beats_a, beats_b, beats_c, beats_d, beats_e};
+ghost use Rattle.tl_trace.specs.Scripts.{IsScriptOf, on_lanes};
 ghost use Rattle.tl_lanes.specs.Lanes.{IsWidth};
 
 use crate::near::{near_of, push_near};
@@ -62,11 +62,7 @@ pub fn script_of<const C: usize, const M: usize>(
     requires manager_width { IsWidth M }
     requires client { trace.now.client ≡ C }
     requires manager { trace.now.manager ≡ M }
-    ensures a { IfOk result (λ s. s.a.items ≡ beats_a C trace.now.lines.items) }
-    ensures b { IfOk result (λ s. s.b.items ≡ beats_b M trace.now.lines.items) }
-    ensures c { IfOk result (λ s. s.c.items ≡ beats_c C trace.now.lines.items) }
-    ensures d { IfOk result (λ s. s.d.items ≡ beats_d M trace.now.lines.items) }
-    ensures e { IfOk result (λ s. s.e.items ≡ beats_e C trace.now.lines.items) }
+    ensures { IfOk result (IsScriptOf trace.now.lines.items) }
 {
     let mut script = empty_script(alloc);
     for line in &trace.lines {

@@ -1,17 +1,32 @@
 -- A text that was read to its end and answered, before anything is written. Only private contracts cite these words.
-use Rattle.std.specs.Prelude.{◌≢◌, ◌<◌, ℕ, List, length, Option, Result, Ok, Err, IfSome}
+use Rattle.std.specs.Prelude.{◌≢◌, ◌≤◌, ◌<◌, ℕ, List, length, Option, Result, Ok, Err, IfSome, Bool}
+use Rattle.std.specs.Io.KnownBytes.{IsAtEnd}
 use Rattle.tl_order.specs.Orders.{is_check}
 use Rattle.tl_order.specs.declared.Order.{Order}
 use Rattle.tl_trace.specs.Faults.{IsFirstFault}
 use Rattle.tl_trace.specs.declared.fault.TraceKind.TheVariants as kinds
+use Rattle.tl_answer.specs.Inner.Parts.{spelled}
+use Rattle.tl_answer.specs.Inputs.{IsRefused}
 use Rattle.tl_answer.specs.Texts.{WasReadWhole, IsAnswer, most_bytes}
-use Rattle.tl_answer.specs.declared.answer.Answer.{Answer}
 use Rattle.tl_answer.specs.declared.fault.TextFault.{TextFault}
 use Rattle.tl_answer.specs.declared.fault.TextFault.TheVariants as faults
+use Rattle.tl_answer.specs.declared.input.Input.{Input}
+use Rattle.tl_answer.specs.declared.parts.AnswerParts.{AnswerParts}
+
+-- the text was read to its end, and this is its answer
+pub record IsAnswerRead (unread left : Option (List ℕ)) (check : Bool) (made : AnswerParts) : Type 0 where
+  pub end : IsAtEnd left
+  pub few : IfSome unread (λ text. length text ≤ most_bytes)
+  pub answer : IfSome unread (λ text. IsAnswer text check (spelled made) made.all_done)
+
+-- what comes of the reading of a text and of its run
+abbrev pub ReadsAnswer : (unread left : Option (List ℕ)) (check : Bool) → Input → Result AnswerParts TextFault → Type 0
+ReadsAnswer unread left check input (Ok made) = IsAnswerRead unread left check made
+ReadsAnswer unread left check input (Err fault) = IsRefused unread left input fault
 
 -- what the reader had and has left, the order, and what came of it
-abbrev pub AnswersRead : (unread left : Option (List ℕ)) → Order → Result Answer TextFault → Type 0
-AnswersRead unread left order (Ok made) = WasReadWhole unread left × IfSome unread (λ text. IsAnswer text (is_check order) made.text.items made.all_done)
+abbrev pub AnswersRead : (unread left : Option (List ℕ)) → Order → Result AnswerParts TextFault → Type 0
+AnswersRead unread left order (Ok made) = WasReadWhole unread left × IfSome unread (λ text. IsAnswer text (is_check order) (spelled made) made.all_done)
 AnswersRead unread left order (Err (faults.Trace fault)) = WasReadWhole unread left × (fault.kind ≢ kinds.OutOfMemory) × IfSome unread (λ text. IsFirstFault text fault.line fault.kind)
 AnswersRead unread left order (Err faults.Stalled) = ⊥
 AnswersRead unread left order (Err faults.Read) = Unit {0}

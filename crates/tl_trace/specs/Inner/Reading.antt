@@ -4,7 +4,7 @@ use Rattle.std.specs.List.{list_all, list_any}
 use Rattle.std.specs.Option.{option_to_list}
 use Rattle.std.specs.Str.Parse.{digits_value}
 use Rattle.std.specs.Char.{digit_value}
-use Rattle.tl_trace.specs.Fields.{Field, opcode, param, size, source, address, sink, denied, mask, data_lanes, corrupt, Form, values}
+use Rattle.tl_trace.specs.Fields.{Field, mask, data_lanes, corrupt, Form, head_value, values}
 use Rattle.tl_trace.specs.Texts.{SaysLine, is_kept_line}
 use Rattle.tl_trace.specs.Faults.{body_fault}
 use Rattle.tl_trace.specs.declared.head_reader.HeadFields.{HeadFields}
@@ -46,15 +46,8 @@ is_head_field corrupt = false
 is_head_field _ = true
 
 -- the fields of a head as they were read, 0 for each that it has not
-abbrev pub head_value : HeadFields → Field → ℕ
-head_value r opcode = r.opcode
-head_value r param = r.param
-head_value r size = r.size
-head_value r (source digits) = r.source
-head_value r address = r.address
-head_value r (sink digits) = r.sink
-head_value r denied = r.denied
-head_value r _ = 0
+abbrev pub read_value : HeadFields → Field → ℕ
+read_value r = head_value r.opcode r.param r.size r.source r.address r.sink r.denied
 
 -- what their digits can spell, where ids have so many
 pub record IsSmall (digits : ℕ) (r : HeadFields) : Type 0 where
@@ -90,7 +83,7 @@ pub record IsPart (w : ℕ) (text : List ℕ) (at : ℕ) (fs : List Field) (vs :
 
 -- the fields that a line begins with, behind its letter, where ids have so many digits
 pub record IsHead (digits : ℕ) (text : List ℕ) (fs : List Field) (r : HeadFields) : Type 0 where
-  pub part : IsPart 0 text 1 fs (map (head_value r) fs) r.bad
+  pub part : IsPart 0 text 1 fs (map (read_value r) fs) r.bad
   pub small : r.bad ≤ 15 → IsSmall digits r
 
 -- opcode and param are in range, and these are the fields
@@ -104,12 +97,12 @@ pub record IsCommon (r : HeadFields) (params : ℕ) (m : CommonFields) : Type 0 
 module _ {H : Type 0} (f : Form H) where
   -- each field of a head has one of its values
   abbrev pub is_head_in_range : HeadFields → Bool
-  is_head_in_range r = list_all (λ field. nat_lt (head_value r field) (values f 0 field)) f.head_fields
+  is_head_in_range r = list_all (λ field. nat_lt (read_value r field) (values f 0 field)) f.head_fields
 
   -- the head of these fields, where each has one of its values
   pub record IsHeadOf (r : HeadFields) (h : H) : Type 0 where
     pub range : is_head_in_range r ≡ true
-    pub same : map (f.value h) f.head_fields ≡ map (head_value r) f.head_fields
+    pub same : map (f.value h) f.head_fields ≡ map (read_value r) f.head_fields
 
   abbrev pub Takes : HeadFields → Option H → Type 0
   Takes r o = MatchOption o (is_head_in_range r ≡ false) (IsHeadOf r)

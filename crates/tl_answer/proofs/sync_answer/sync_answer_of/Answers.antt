@@ -1,10 +1,10 @@
 use Rattle.std.specs.Prelude.{IfOk}
-use Rattle.std.proofs.Common.{lit<, ◌≡◌, ◌++◌, ap, subst, ◌∙◌}
+use Rattle.std.proofs.Common.{lit<, ◌≡◌, ◌++◌, subst, ◌∙◌}
 use Rattle.std.specs.List.{list_all}
 use Rattle.tl_settle.specs.Outcomes.{far_beats, verdicts}
 use Rattle.tl_bridge.specs.Scripts.{near_beats}
 use Rattle.tl_answer.specs.Answer.{far_header, far_lines, report, is_done}
-use Rattle.tl_answer.proofs.Answering.{text-behind}
+use Rattle.tl_answer.specs.Inner.Parts.{spelled}
 use Rattle.tl_answer.proofs.sync_answer.sync_answer_of.Goals as goal
 
 pub run_sync_into-requires : goal.run_sync_into-requires
@@ -13,11 +13,10 @@ run_sync_into-requires g c = (lit< tt, (c.requires.client, (c.requires.manager, 
 pub returns-clause-text : goal.returns-clause-text
 returns-clause-text g c =
     let bs = near_beats c.args.script in
-    text-behind _ (far_header c.args.version g.row.C g.row.M ++ far_lines c.args.version (far_beats bs)) (report (verdicts bs))
-    (c.in_ok-text.ensures (far_beats bs) c.in-Ok-run_sync_into.ensures.far ∙
-    ap (λ v. far_header v g.row.C g.row.M ++ far_lines v (far_beats bs)) (c.in-Ok-run_sync_into.ensures.same ∙ c.in-Ok.ensures.version))
-    c.reported.result (c.reported.ensures.text (verdicts bs) c.in-Ok-run_sync_into.ensures.ending.verdicts_are)
+    subst (λ v. IfOk c.into_answer.result (λ made. spelled made ≡ far_header v g.row.C g.row.M ++ far_lines v (far_beats bs) ++ report (verdicts bs)))
+    (c.in-Ok-run_sync_into.ensures.same ∙ c.in-Ok.ensures.version)
+    (c.into_answer.ensures.text (far_beats bs) c.in-Ok-run_sync_into.ensures.far (verdicts bs) c.in-Ok-run_sync_into.ensures.ending.verdicts_are)
 
 pub returns-clause-done : goal.returns-clause-done
 returns-clause-done g c =
-    subst (λ vs. IfOk c.reported.result (λ made. made.all_done ≡ list_all is_done vs)) c.in-Ok-run_sync_into.ensures.ending.verdicts_are c.reported.ensures.done
+    subst (λ vs. IfOk c.into_answer.result (λ made. made.all_done ≡ list_all is_done vs)) c.in-Ok-run_sync_into.ensures.ending.verdicts_are c.into_answer.ensures.done

@@ -1,8 +1,8 @@
 use Rattle.std.specs.Prelude.{IfOk}
-use Rattle.std.proofs.Common.{lit<, subst, sym, arith}
+use Rattle.std.proofs.Common.{lit<, subst, sym, ◌∙◌, arith}
 use Rattle.tl_bridge.specs.Scripts.{near_beats}
 use Rattle.tl_answer.specs.Texts.{IsAnswer}
-use Rattle.tl_answer.proofs.Answering.{settled-text, checks-text, near-is}
+use Rattle.tl_answer.proofs.Answering.{settled-text, checks-text, of-both, near-is}
 use Rattle.tl_answer.proofs.Lengths.{lines-few, short}
 use Rattle.tl_answer.proofs.sync_answer.with_widths.Goals as goal
 
@@ -15,8 +15,9 @@ pub returns-then-check-clause-ok : goal.returns-then-check-clause-ok
 returns-then-check-clause-ok g c =
     let told = c.in-Ok.ensures.told in
     subst (λ check. IfOk c.check_script.result (λ made. IsAnswer c.args.text.now check made.text.items made.all_done)) (sym c.if-check.true)
-    (checks-text c.args.version g.row.C g.row.M told.lines c.args.text.now told.told
-    (near_beats c.in-Ok.script) (near-is told.lines _ told.script) c.check_script.result c.check_script.ensures.text c.check_script.ensures.done)
+    (of-both _ _ _ (λ made text-is done-is. checks-text c.args.version g.row.C g.row.M told.lines c.args.text.now told.told
+    (near_beats c.in-Ok.script) (near-is told.lines _ told.script) made.text.items text-is made.all_done done-is)
+    c.check_script.result c.check_script.ensures.text c.check_script.ensures.done)
 
 pub sync_answer_of-requires : goal.sync_answer_of-requires
 sync_answer_of-requires g c =
@@ -26,6 +27,8 @@ sync_answer_of-requires g c =
 pub returns-clause-ok : goal.returns-clause-ok
 returns-clause-ok g c =
     let told = c.in-Ok.ensures.told in
-    subst (λ check. IfOk c.sync_answer_of.result (λ made. IsAnswer c.args.text.now check made.text.items made.all_done)) (sym c.if-check.false)
-    (settled-text c.args.version g.row.C g.row.M told.lines c.args.text.now told.told
-    (near_beats c.in-Ok.script) (near-is told.lines _ told.script) c.sync_answer_of.result c.sync_answer_of.ensures.text c.sync_answer_of.ensures.done)
+    let parts = c.in_ok-answer.ensures in
+    subst (λ check. IfOk c.joined.result (λ made. IsAnswer c.args.text.now check made.text.items made.all_done)) (sym c.if-check.false)
+    (of-both _ _ _ (λ made text-is done-is. settled-text c.args.version g.row.C g.row.M told.lines c.args.text.now told.told
+    (near_beats c.in-Ok.script) (near-is told.lines _ told.script) made.text.items (text-is ∙ parts.text) made.all_done (done-is ∙ parts.done))
+    c.joined.result c.joined.ensures.text c.joined.ensures.done)

@@ -1,6 +1,6 @@
-use Rattle.std.proofs.Common.{refl}
-use Rattle.tl_answer.proofs.Writing.{goes_on}
+use Rattle.std.proofs.KnownBytes.{Appends-kept}
+use Rattle.std.proofs.lemmas.Result.{on_ok_weaker}
 use Rattle.tl_answer.proofs.text.write_all.Goals as goal
 
-pub loop-written-preserved : goal.loop-written-preserved
-loop-written-preserved g c = goes_on _ _ _ c.args.bytes.now _ c.loop-written.written c.in-Ok.n refl c.loop-written.invariant c.in-Ok.ensures.bound c.in-Ok.ensures.bytes
+pub returns-clause-all : goal.returns-clause-all
+returns-clause-all g c = on_ok_weaker c.flush.result (Appends-kept _ _ _ c.args.bytes.now c.in_ok-write_bytes.ensures.all) c.flush.ensures.all

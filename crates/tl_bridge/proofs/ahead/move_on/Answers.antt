@@ -4,6 +4,18 @@ use Rattle.tl_ring.specs.Pipe as piping
 use Rattle.tl_bridge.proofs.Going.{none-again}
 use Rattle.tl_bridge.proofs.ahead.move_on.Goals as goal
 
+pub pump-requires : goal.pump-requires
+pump-requires g c = c.requires-raw.1.1.1.1
+
+pub ready-requires : goal.ready-requires
+ready-requires g c = c.requires-raw.1.1.1.1
+
+pub fetch-requires : goal.fetch-requires
+fetch-requires g c = c.requires-raw.1.1.1.1
+
+pub pump-requires-2 : goal.pump-requires-2
+pump-requires-2 g c = c.requires-raw.1.1.1.1
+
 pub returns-then-ready : goal.returns-then-ready
 returns-then-ready g c = record {
   first = c.pump.result;

@@ -2,7 +2,31 @@ use Rattle.std.proofs.Common.{refl}
 use Rattle.tl_bridge.specs.Inner.Offering.{on_b, on_d}
 use Rattle.tl_bridge.proofs.SideEnds.{manager-ends-then}
 use Rattle.tl_bridge.proofs.SideOffers.{of-list}
+use Rattle.tl_ring.proofs.FieldSizes.{beat_small}
+use Rattle.tl_bridge.proofs.SideSizes.{manager_small}
+use Rattle.tl_bridge.proofs.Lives.{lives-long}
 use Rattle.tl_bridge.proofs.manager_turns.offer_each.Goals as goal
+
+pub deref-requires : goal.deref-requires
+deref-requires g c = λ κs. (lives-long κs.1.0, lives-long κs.1.1.0)
+
+pub offer_next-b-requires-room-S-Offers : goal.offer_next-b-requires-room-S-Offers
+offer_next-b-requires-room-S-Offers g c = λ κs. manager_small g.row.C g.row.M c.requires.client c.requires.manager
+
+pub offer_next-b-requires-room-S-Offers-2 : goal.offer_next-b-requires-room-S-Offers-2
+offer_next-b-requires-room-S-Offers-2 g c = λ κs. beat_small g.row.M c.requires.manager
+
+pub deref-requires-2 : goal.deref-requires-2
+deref-requires-2 g c = λ κs. (lives-long κs.1.0, lives-long κs.1.1.0)
+
+pub offer_next-d-requires-room-S-Offers : goal.offer_next-d-requires-room-S-Offers
+offer_next-d-requires-room-S-Offers g c = λ κs. manager_small g.row.C g.row.M c.requires.client c.requires.manager
+
+pub offer_next-d-requires-room-S-Offers-2 : goal.offer_next-d-requires-room-S-Offers-2
+offer_next-d-requires-room-S-Offers-2 g c = λ κs. beat_small g.row.M c.requires.manager
+
+pub returns-clause-others : goal.returns-clause-others
+returns-clause-others g c = (refl, refl, refl)
 
 pub offer_next-b-requires : goal.offer_next-b-requires
 offer_next-b-requires g c = (c.requires.client, c.requires.manager)

@@ -1,6 +1,25 @@
 use Rattle.std.proofs.Common.{◌+◌, ◌≤◌, length, vec_len, vec_capacity, sym, subst}
 use Rattle.tl_bridge.proofs.SideInboxes.{c-stays, e-stays, manager-has-taken}
+use Rattle.tl_ring.proofs.FieldSizes.{beat_small}
 use Rattle.tl_bridge.proofs.manager_turns.take_each.Goals as goal
+
+pub take_all-requires-room-S-Takes : goal.take_all-requires-room-S-Takes
+take_all-requires-room-S-Takes g c = λ κs. c.requires-raw.1.1.0
+
+pub take_all-requires-room-S-Takes-2 : goal.take_all-requires-room-S-Takes-2
+take_all-requires-room-S-Takes-2 g c = λ κs. beat_small g.row.M c.requires.width
+
+pub take_all-requires-2-room-S-Takes : goal.take_all-requires-2-room-S-Takes
+take_all-requires-2-room-S-Takes g c = λ κs. c.requires-raw.1.1.0
+
+pub take_all-requires-2-room-S-Takes-2 : goal.take_all-requires-2-room-S-Takes-2
+take_all-requires-2-room-S-Takes-2 g c = λ κs. beat_small g.row.M c.requires.width
+
+pub take_all-requires-3-room-S-Takes : goal.take_all-requires-3-room-S-Takes
+take_all-requires-3-room-S-Takes g c = λ κs. c.requires-raw.1.1.0
+
+pub take_all-requires-3-room-S-Takes-2 : goal.take_all-requires-3-room-S-Takes-2
+take_all-requires-3-room-S-Takes-2 g c = λ κs. beat_small g.row.M c.requires.width
 
 -- a take of one inbox leaves the others as they were
 pub take_all-requires : goal.take_all-requires

@@ -2,7 +2,45 @@ use Rattle.std.proofs.Common.{refl}
 use Rattle.tl_ring.proofs.FieldSizes.{beat_small}
 use Rattle.tl_bridge.specs.Inner.Offering.{on_bridge_a, on_bridge_b, on_bridge_c, on_bridge_d, on_bridge_e}
 use Rattle.tl_bridge.proofs.SideOffers.{of-list}
+use Rattle.tl_sides.proofs.BridgeSize.{bridge_small}
+use Rattle.tl_bridge.proofs.Lives.{lives-long}
 use Rattle.tl_bridge.proofs.rounds.offer_on_each.Goals as goal
+
+pub deref-requires : goal.deref-requires
+deref-requires g c = λ κs. (lives-long κs.1.0, lives-long κs.1.1.0)
+
+pub offer_next-a-requires-room-S-Offers : goal.offer_next-a-requires-room-S-Offers
+offer_next-a-requires-room-S-Offers g c = λ κs. bridge_small g.row.C g.row.M c.requires.client c.requires.manager
+
+pub deref-requires-2 : goal.deref-requires-2
+deref-requires-2 g c = λ κs. (lives-long κs.1.0, lives-long κs.1.1.0)
+
+pub offer_next-c-requires-room-S-Offers : goal.offer_next-c-requires-room-S-Offers
+offer_next-c-requires-room-S-Offers g c = λ κs. bridge_small g.row.C g.row.M c.requires.client c.requires.manager
+
+pub deref-requires-3 : goal.deref-requires-3
+deref-requires-3 g c = λ κs. (lives-long κs.1.0, lives-long κs.1.1.0)
+
+pub offer_next-e-requires-room-S-Offers : goal.offer_next-e-requires-room-S-Offers
+offer_next-e-requires-room-S-Offers g c = λ κs. bridge_small g.row.C g.row.M c.requires.client c.requires.manager
+
+pub deref-requires-4 : goal.deref-requires-4
+deref-requires-4 g c = λ κs. (lives-long κs.1.0, lives-long κs.1.1.0)
+
+pub offer_next-b-requires-room-S-Offers : goal.offer_next-b-requires-room-S-Offers
+offer_next-b-requires-room-S-Offers g c = λ κs. bridge_small g.row.C g.row.M c.requires.client c.requires.manager
+
+pub deref-requires-5 : goal.deref-requires-5
+deref-requires-5 g c = λ κs. (lives-long κs.1.0, lives-long κs.1.1.0)
+
+pub offer_next-d-requires-room-S-Offers : goal.offer_next-d-requires-room-S-Offers
+offer_next-d-requires-room-S-Offers g c = λ κs. bridge_small g.row.C g.row.M c.requires.client c.requires.manager
+
+pub add_accepted-requires : goal.add_accepted-requires
+add_accepted-requires g c = record { few = c.requires.few }
+
+pub returns-clause-counted : goal.returns-clause-counted
+returns-clause-counted g c = c.add_accepted.ensures
 
 pub offer_next-a-requires : goal.offer_next-a-requires
 offer_next-a-requires g c = (c.requires.client, c.requires.manager)

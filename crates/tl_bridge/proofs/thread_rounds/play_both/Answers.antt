@@ -2,6 +2,18 @@ use Rattle.tl_bridge.proofs.SideSizes.{client_run_small, manager_run_small}
 use Rattle.std.proofs.Common.{lit<}
 use Rattle.tl_bridge.proofs.thread_rounds.play_both.Goals as goal
 
+pub join_mut-requires-room-F-FnMut-2 : goal.join_mut-requires-room-F-FnMut-2
+join_mut-requires-room-F-FnMut-2 g c = λ κs h. lit< tt
+
+pub join_mut-requires-room-F-FnOnce-2 : goal.join_mut-requires-room-F-FnOnce-2
+join_mut-requires-room-F-FnOnce-2 g c = λ κs h. lit< tt
+
+pub join_mut-requires-room-G-FnMut-2 : goal.join_mut-requires-room-G-FnMut-2
+join_mut-requires-room-G-FnMut-2 g c = λ κs h. lit< tt
+
+pub join_mut-requires-room-G-FnOnce-2 : goal.join_mut-requires-room-G-FnOnce-2
+join_mut-requires-room-G-FnOnce-2 g c = λ κs h. lit< tt
+
 pub join_mut-requires-after_bounds : goal.join_mut-requires-after_bounds
 join_mut-requires-after_bounds g c = λ κs bounds. (
   (client_run_small g.row.C g.row.M c.requires.client c.requires.manager, (lit< tt, (c.requires.client, c.requires.manager, c.requires.short, c.requires.client_ready))),

@@ -29,17 +29,5 @@ near_of-requires g c =
 pub push_near-requires : goal.push_near-requires
 push_near-requires g c = (lit< tt, near_small g.row.C g.row.M (width_bounds g.row.C c.requires.client_width).1 (width_bounds g.row.M c.requires.manager_width).1)
 
-pub returns-clause-a : goal.returns-clause-a
-returns-clause-a g c = (whole c.loop-line.script c.args.trace.now.lines.items _ c.loop-line.line-index c.deref-line-items.ensures.value c.loop-line-test.false c.loop-line.invariant).a
-
-pub returns-clause-b : goal.returns-clause-b
-returns-clause-b g c = (whole c.loop-line.script c.args.trace.now.lines.items _ c.loop-line.line-index c.deref-line-items.ensures.value c.loop-line-test.false c.loop-line.invariant).b
-
-pub returns-clause-c : goal.returns-clause-c
-returns-clause-c g c = (whole c.loop-line.script c.args.trace.now.lines.items _ c.loop-line.line-index c.deref-line-items.ensures.value c.loop-line-test.false c.loop-line.invariant).c
-
-pub returns-clause-d : goal.returns-clause-d
-returns-clause-d g c = (whole c.loop-line.script c.args.trace.now.lines.items _ c.loop-line.line-index c.deref-line-items.ensures.value c.loop-line-test.false c.loop-line.invariant).d
-
-pub returns-clause-e : goal.returns-clause-e
-returns-clause-e g c = (whole c.loop-line.script c.args.trace.now.lines.items _ c.loop-line.line-index c.deref-line-items.ensures.value c.loop-line-test.false c.loop-line.invariant).e
+pub returns : goal.returns
+returns g c = whole c.loop-line.script c.args.trace.now.lines.items _ c.loop-line.line-index c.deref-line-items.ensures.value c.loop-line-test.false c.loop-line.invariant

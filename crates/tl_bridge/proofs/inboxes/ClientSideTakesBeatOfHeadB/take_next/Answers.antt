@@ -2,6 +2,15 @@ use Rattle.std.proofs.Common.{ap}
 use Rattle.tl_bridge.specs.Inner.Taking.{but_b}
 use Rattle.tl_bridge.proofs.inboxes.ClientSideTakesBeatOfHeadB.take_next.Goals as goal
 
+pub take_b-requires : goal.take_b-requires
+take_b-requires g c = (c.requires-raw.1.1.0, c.requires-raw.1.1.1.0)
+
+pub returns-clause-beat : goal.returns-clause-beat
+returns-clause-beat g c = c.take_b.ensures.beat
+
+pub returns-clause-again : goal.returns-clause-again
+returns-clause-again g c = tt
+
 pub returns-clause-left : goal.returns-clause-left
 returns-clause-left g c = ap (λ s. s.b.inbox) c.take_b.ensures.rest
 

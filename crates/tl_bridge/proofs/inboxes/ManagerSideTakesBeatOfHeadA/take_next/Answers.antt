@@ -2,6 +2,15 @@ use Rattle.std.proofs.Common.{ap}
 use Rattle.tl_bridge.specs.Inner.Taking.{but_a}
 use Rattle.tl_bridge.proofs.inboxes.ManagerSideTakesBeatOfHeadA.take_next.Goals as goal
 
+pub take_a-requires : goal.take_a-requires
+take_a-requires g c = (c.requires-raw.1.1.0, (c.requires-raw.1.1.1.0, c.requires))
+
+pub returns-clause-beat : goal.returns-clause-beat
+returns-clause-beat g c = c.take_a.ensures.beat
+
+pub returns-clause-again : goal.returns-clause-again
+returns-clause-again g c = c.requires
+
 pub returns-clause-left : goal.returns-clause-left
 returns-clause-left g c = ap (λ s. s.a.inbox) c.take_a.ensures.rest
 

@@ -2,6 +2,15 @@ use Rattle.std.proofs.Common.{ap}
 use Rattle.tl_bridge.specs.Inner.Taking.{but_e}
 use Rattle.tl_bridge.proofs.inboxes.ManagerSideTakesBeatOfHeadE.take_next.Goals as goal
 
+pub take_e-requires : goal.take_e-requires
+take_e-requires g c = (c.requires-raw.1.1.0, c.requires-raw.1.1.1.0)
+
+pub returns-clause-beat : goal.returns-clause-beat
+returns-clause-beat g c = c.take_e.ensures.beat
+
+pub returns-clause-again : goal.returns-clause-again
+returns-clause-again g c = tt
+
 pub returns-clause-left : goal.returns-clause-left
 returns-clause-left g c = ap (λ s. s.e.inbox) c.take_e.ensures.rest
 

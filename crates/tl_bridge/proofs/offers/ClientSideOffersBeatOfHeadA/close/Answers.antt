@@ -5,6 +5,9 @@ use Rattle.tl_bridge.proofs.SideEnds.{client-ends-same}
 use Rattle.tl_bridge.proofs.SideOffers.{closes-to}
 use Rattle.tl_bridge.proofs.offers.ClientSideOffersBeatOfHeadA.close.Goals as goal
 
+pub close_a-requires : goal.close_a-requires
+close_a-requires g c = c.requires-raw.1.1
+
 pub returns : goal.returns
 returns g c = λ bs n past.
     let s = c.args.self.now in

@@ -4,6 +4,12 @@ use Rattle.tl_bridge.proofs.SideEnds.{client-ends-same}
 use Rattle.tl_bridge.proofs.SideOffers.{waits}
 use Rattle.tl_bridge.proofs.offers.ClientSideOffersBeatOfHeadA.is_ready.Goals as goal
 
+pub ready_a-requires : goal.ready_a-requires
+ready_a-requires g c = c.requires-raw.1.1
+
+pub returns-clause-ready : goal.returns-clause-ready
+returns-clause-ready g c = c.ready_a.ensures.0
+
 pub returns-clause-waits : goal.returns-clause-waits
 returns-clause-waits g c = λ unready bs n b next.
     let s = c.args.self.now in

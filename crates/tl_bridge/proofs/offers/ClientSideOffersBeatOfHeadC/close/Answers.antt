@@ -5,6 +5,9 @@ use Rattle.tl_bridge.proofs.SideEnds.{client-ends-same}
 use Rattle.tl_bridge.proofs.SideOffers.{closes-to}
 use Rattle.tl_bridge.proofs.offers.ClientSideOffersBeatOfHeadC.close.Goals as goal
 
+pub close_c-requires : goal.close_c-requires
+close_c-requires g c = c.requires-raw.1.1
+
 pub returns : goal.returns
 returns g c = λ bs n past.
     let s = c.args.self.now in

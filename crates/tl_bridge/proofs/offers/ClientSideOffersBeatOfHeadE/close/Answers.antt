@@ -5,6 +5,9 @@ use Rattle.tl_bridge.proofs.SideEnds.{client-ends-same}
 use Rattle.tl_bridge.proofs.SideOffers.{closes-to}
 use Rattle.tl_bridge.proofs.offers.ClientSideOffersBeatOfHeadE.close.Goals as goal
 
+pub close_e-requires : goal.close_e-requires
+close_e-requires g c = c.requires-raw.1.1
+
 pub returns : goal.returns
 returns g c = λ bs n past.
     let s = c.args.self.now in

@@ -5,6 +5,9 @@ use Rattle.tl_bridge.proofs.SideEnds.{manager-ends-same}
 use Rattle.tl_bridge.proofs.SideOffers.{closes-to}
 use Rattle.tl_bridge.proofs.offers.ManagerSideOffersBeatOfHeadB.close.Goals as goal
 
+pub close_b-requires : goal.close_b-requires
+close_b-requires g c = c.requires-raw.1.1
+
 pub returns : goal.returns
 returns g c = λ bs n past.
     let s = c.args.self.now in

@@ -5,6 +5,9 @@ use Rattle.tl_bridge.proofs.SideEnds.{manager-ends-same}
 use Rattle.tl_bridge.proofs.SideOffers.{closes-to}
 use Rattle.tl_bridge.proofs.offers.ManagerSideOffersBeatOfHeadD.close.Goals as goal
 
+pub close_d-requires : goal.close_d-requires
+close_d-requires g c = c.requires-raw.1.1
+
 pub returns : goal.returns
 returns g c = λ bs n past.
     let s = c.args.self.now in

@@ -1,12 +1,25 @@
-use Rattle.std.proofs.Common.{◌≤◌, length, refl, arith}
+use Rattle.std.proofs.Common.{◌≤◌, length, refl, arith, lit<}
 use Rattle.tl_ring.specs.declared.queue.TheConstants.{ROOM}
 use Rattle.tl_ring.proofs.EndSteps.{shown_of}
 use denote.Param.{layout, param, number, copied}
 use Rattle.tl_ring.specs.contracts.ends.TakeEnd.{the_row}
-use Rattle.tl_ring.proofs.FieldSizes.{part_small}
+use Rattle.tl_ring.proofs.FieldSizes.{part_small, beat_in_queue}
 use Rattle.tl_ring.proofs.Moves.{none_in_both, some_in_both}
+use denote.Memory.{lone}
 use Rattle.tl_ring.proofs.ends.TakeEnd.drained.Goals as goal
 use Rattle.tl_ring.proofs.ends.TakeEnd.drained.Goals.{then-ring_is_empty, else-ring_is_empty}
+
+pub slots_after-in_ring-requires-room-P-Protocol : goal.slots_after-in_ring-requires-room-P-Protocol
+slots_after-in_ring-requires-room-P-Protocol g c = λ κs within. lit< tt
+
+pub slots_after-in_ring-requires-room-P-Protocol-2 : goal.slots_after-in_ring-requires-room-P-Protocol-2
+slots_after-in_ring-requires-room-P-Protocol-2 g c = λ κs within. beat_in_queue (lone g.row.K-Head.mir) (layout g.row.K-Head) g.row.V 9223372036854775808 (search (part_small (layout (the_row (param 0 g.row.K) (param 1 (number g.row.W)) (param 2 (number g.row.V)) (param 3 g.row.A) (copied 4 g.row.K-Head) g.K.Channel g.K.Head.Clone g.K.Head.Eq g.K.Head.PartialEq g.K.Head.Default g.A.Allocator)) 0 9223372036854775808))
+
+pub slots_after-in_ring-requires : goal.slots_after-in_ring-requires
+slots_after-in_ring-requires g c = rw (← c.receipt.view_is, ← c.self.view_is) at c.requires
+
+pub invariant_of-self : goal.invariant_of-self
+invariant_of-self g c = c.self.invariant
 
 pub len-waiting-requires : goal.len-waiting-requires
 len-waiting-requires g c = search (part_small (layout (the_row (param 0 g.row.K) (param 1 (number g.row.W)) (param 2 (number g.row.V)) (param 3 g.row.A) (copied 4 g.row.K-Head) g.K.Channel g.K.Head.Clone g.K.Head.Eq g.K.Head.PartialEq g.K.Head.Default g.A.Allocator)) 0 9223372036854775808)

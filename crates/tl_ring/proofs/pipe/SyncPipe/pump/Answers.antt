@@ -8,6 +8,12 @@ use Rattle.tl_ring.proofs.FieldSizes.{part_small, beat_in_queue}
 use Rattle.tl_ring.proofs.PipeSteps.{stands_pushed}
 use Rattle.tl_ring.proofs.pipe.SyncPipe.pump.Goals as goal
 
+pub is_empty-requires : goal.is_empty-requires
+is_empty-requires g c = search (part_small (layout (the_row (param 0 g.row.K) (param 1 (number g.row.W)) (param 2 (number g.row.V)) (param 3 g.row.A) (copied 4 g.row.K-Head) g.K.Channel g.K.Head.PartialEq g.K.Head.Default g.A.Allocator)) 1 9223372036854775808)
+
+pub returns-then-is_empty-clause-most : goal.returns-then-is_empty-clause-most
+returns-then-is_empty-clause-most g c = omega arith
+
 pub as_slice-requires : goal.as_slice-requires
 as_slice-requires g c = search (part_small (layout (the_row (param 0 g.row.K) (param 1 (number g.row.W)) (param 2 (number g.row.V)) (param 3 g.row.A) (copied 4 g.row.K-Head) g.K.Channel g.K.Head.PartialEq g.K.Head.Default g.A.Allocator)) 1 9223372036854775808)
 

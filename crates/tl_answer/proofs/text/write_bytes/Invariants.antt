@@ -1,6 +1,6 @@
 use Rattle.std.proofs.Common.{length, ◌-◌}
 use Rattle.tl_answer.proofs.Writing.{SoFar}
-use Rattle.tl_answer.proofs.text.write_all.Given as goal
+use Rattle.tl_answer.proofs.text.write_bytes.Given as goal
 
 abbrev pub invariant-loop-written : goal.invariant-loop-written
 invariant-loop-written g l = SoFar (g.W.Write.contents l.fn.writer) (g.W.Write.contents l.writer) l.bytes l.written

@@ -1,0 +1,60 @@
+//! The answer to a text in parts, none of which has to be moved behind another one.
+ghost use Rattle.std.specs.Prelude.{◌≡◌, IfOk, IfErr};
+ghost use Rattle.tl_answer.specs.Inner.Parts.{spelled};
+ghost use Rattle.tl_answer.specs.declared.fault.TextFault.TheVariants.{OutOfMemory as NoMemory};
+
+use crate::answer::Answer;
+use crate::fault::TextFault;
+use std::alloc::Global;
+
+/// The whole answer to a text, in five parts that are written one after the other, and whether all
+/// five channels are done.
+#[derive(Drop)]
+pub(crate) struct AnswerParts {
+    pub a: Vec<u8>,
+    pub b: Vec<u8>,
+    pub c: Vec<u8>,
+    pub d: Vec<u8>,
+    pub e: Vec<u8>,
+    pub all_done: bool,
+}
+
+impl AnswerParts {
+    /// An answer whose text stands in the first part.
+    pub(crate) fn of(alloc: Global, answer: Answer) -> AnswerParts
+        ensures text { spelled result ≡ answer.text.items }
+        ensures done { result.all_done ≡ answer.all_done }
+    {
+        let Answer { text, all_done } = answer;
+        AnswerParts {
+            a: text,
+            b: Vec::new(alloc),
+            c: Vec::new(alloc),
+            d: Vec::new(alloc),
+            e: Vec::new(alloc),
+            all_done,
+        }
+    }
+
+    /// The answer in one text. Refused with `OutOfMemory` alone.
+    pub(crate) fn joined(self) -> Result<Answer, TextFault>
+        ensures text { IfOk result (λ answer. answer.text.items ≡ spelled self) }
+        ensures done { IfOk result (λ answer. answer.all_done ≡ self.all_done) }
+        ensures err { IfErr result (λ fault. fault ≡ NoMemory) }
+    {
+        let AnswerParts {
+            a,
+            b,
+            c,
+            d,
+            e,
+            all_done,
+        } = self;
+        let mut text = a;
+        text.extend_from_slice(&b)?;
+        text.extend_from_slice(&c)?;
+        text.extend_from_slice(&d)?;
+        text.extend_from_slice(&e)?;
+        Ok(Answer { text, all_done })
+    }
+}

@@ -1,0 +1,6 @@
+-- What borrows nothing may be held as long as anything else.
+use Rattle.std.proofs.Common.{ℕ, List, [], rules}
+use contract.BorrowLft.{◌⊑◌}
+
+pub lives-long : (κ : List ℕ) → κ ⊑ []
+lives-long κ = search rules
