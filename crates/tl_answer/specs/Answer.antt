@@ -4,7 +4,7 @@ use Rattle.std.specs.Prelude.{◌++◌, ℕ, Bool, true, false, cond, List, [], 
 use Rattle.std.specs.List.{filter_map, list_all}
 use Rattle.tl_msg.specs.declared.verdict.Verdict.{Verdict}
 use Rattle.tl_msg.specs.declared.verdict.Verdict.TheVariants.{Done}
-use Rattle.tl_settle.specs.Outcomes.{Beats, Verdicts, far_beats, verdicts}
+use Rattle.tl_settle.specs.Outcomes.{Beats, far_beats, verdicts}
 use Rattle.tl_bridge.specs.declared.outcome.Outcome.{Outcome}
 use Rattle.tl_trace.specs.Fields.{form_a, form_b, form_c, form_d, form_e}
 use Rattle.tl_trace.specs.Lines.{beats_text}
@@ -29,13 +29,10 @@ far_lines {C = C} {M = M} version far =
     beats_text (form_a version) M far.a ++ beats_text (form_b version) C far.b ++ beats_text (form_c version) M far.c ++
     beats_text (form_d version) C far.d ++ beats_text (form_e version) M far.e
 
--- the five verdicts in the order of their channels
-abbrev pub in_order : Verdicts → List Verdict
-in_order v = v.a ∷ v.b ∷ v.c ∷ v.d ∷ v.e ∷ []
-
 -- one line for each channel, A to E
-abbrev pub report : Verdicts → List ℕ
-report v = report_line 65 v.a ++ report_line 66 v.b ++ report_line 67 v.c ++ report_line 68 v.d ++ report_line 69 v.e
+abbrev pub report : List Verdict → List ℕ
+report (a ∷ b ∷ c ∷ d ∷ e ∷ []) = report_line 65 a ++ report_line 66 b ++ report_line 67 c ++ report_line 68 d ++ report_line 69 e
+report _ = []
 
 -- all beats of a channel were accepted, and no burst is unfinished
 abbrev pub is_done : Verdict → Bool
@@ -54,15 +51,11 @@ module _ (client manager : ℕ) (lines : List Line) where
     e = filter_map (beat_of_e client) lines;
   }
 
-  -- the verdicts that they end in
-  abbrev pub ends : Verdicts
-  ends = verdicts near
-
   -- all five channels are done
   abbrev pub are_done : Bool
-  are_done = list_all is_done (in_order ends)
+  are_done = list_all is_done (verdicts near)
 
 -- the whole answer to a trace; a check leaves out the far beats
 abbrev pub answer_of : (version client manager : ℕ) → List Line → (check : Bool) → List ℕ
 answer_of version client manager lines check =
-    far_header version client manager ++ cond check [] (far_lines version (far_beats (near client manager lines))) ++ report (ends client manager lines)
+    far_header version client manager ++ cond check [] (far_lines version (far_beats (near client manager lines))) ++ report (verdicts (near client manager lines))

@@ -15,19 +15,15 @@ use Rattle.tl_answer.specs.declared.fault.TextFault.TheVariants as faults
 abbrev pub most_bytes : ℕ
 most_bytes = 67108864
 
--- this is the answer to a trace, and `done` says whether all channels are done
-pub record IsAnswerTo (version client manager : ℕ) (lines : List Line) (check : Bool) (answer : List ℕ) (done : Bool) : Type 0 where
-  pub answered : answer ≡ answer_of version client manager lines check
-  pub all_done : done ≡ are_done client manager lines
-
--- the text tells a trace, and this is the answer to it
+-- the text tells a trace, this is the answer to it, and `done` says whether all channels are done
 pub record IsAnswer (text : List ℕ) (check : Bool) (answer : List ℕ) (done : Bool) : Type 0 where
   pub version : ℕ
   pub client : ℕ
   pub manager : ℕ
   pub lines : List Line
   pub told : Tells text version client manager lines
-  pub answers : IsAnswerTo version client manager lines check answer done
+  pub answered : answer ≡ answer_of version client manager lines check
+  pub all_done : done ≡ are_done client manager lines
 
 -- the reader gave all that it had, and that was not too long
 abbrev pub WasReadWhole : (unread left : Option (List ℕ)) → Type 0

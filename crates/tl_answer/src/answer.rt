@@ -1,13 +1,14 @@
 //! The answer to a text, without a reader and a writer.
-ghost use Rattle.std.specs.Prelude.{◌≡◌, ◌≢◌, ◌++◌, IfOk, OnOk, IfErr};
+ghost use Rattle.std.specs.Prelude.{◌≡◌, ◌≢◌, ◌++◌, [], ◌∷◌, length, IfOk, OnOk, IfErr};
 ghost use Rattle.std.specs.List.{list_all};
 ghost use Rattle.tl_lanes.specs.Lanes.{IsWidth};
-ghost use Rattle.tl_settle.specs.Outcomes.{Verdicts, verdicts};
+ghost use Rattle.tl_msg.specs.declared.verdict.Verdict.{Verdict};
+ghost use Rattle.tl_settle.specs.Outcomes.{verdicts};
 ghost use Rattle.tl_bridge.specs.Scripts.{HasShortLists, SettlesTo, near_beats};
 ghost use Rattle.tl_bridge.specs.declared.outcome.RunFault.TheVariants.{RingSize, Stalled};
 ghost use Rattle.tl_order.specs.Orders.{IsRunnable, is_check};
 ghost use Rattle.tl_trace.specs.Faults.{HasHeader};
-ghost use Rattle.tl_answer.specs.Answer.{far_header, far_lines, taken, report, in_order, is_done};
+ghost use Rattle.tl_answer.specs.Answer.{far_header, far_lines, taken, report, is_done};
 ghost use Rattle.tl_answer.specs.Inner.Answered.{ReadsAnswer};
 ghost use Rattle.tl_answer.specs.Inputs.{IsFresh, held, unread_of};
 ghost use Rattle.tl_answer.specs.declared.fault.TextFault.TheVariants.{OutOfMemory as NoMemory};
@@ -69,8 +70,9 @@ fn write_arrivals<const C: usize, const M: usize>(
 
 /// Appends the five report lines.
 pub(crate) fn write_reports(out: &mut Vec<u8>, verdicts: &[Verdict; 5]) -> Result<(), OutOfMemory>
-    ensures { (v : Verdicts) → verdicts.now ≡ in_order v → OnOk result (out.new.items
-        ≡ out.old.items ++ report v) }
+    ensures text { (a b c d e : Verdict) → verdicts.now ≡ a ∷ b ∷ c ∷ d ∷ e ∷ [] →
+        OnOk result (out.new.items ≡ out.old.items ++ report (a ∷ b ∷ c ∷ d ∷ e ∷ [])) }
+    ensures five { length verdicts.now ≡ 5 }
 {
     write_report(out, b'A', &verdicts[0])?;
     write_report(out, b'B', &verdicts[1])?;
@@ -141,8 +143,7 @@ fn outcome_of<T: Threads, const C: usize, const M: usize>(
 
 /// The answer whose lines before the five reports are these.
 fn reported(text: Vec<u8>, verdicts: &[Verdict; 5]) -> Result<Answer, TextFault>
-    ensures text { (v : Verdicts) → verdicts.now ≡ in_order v → IfOk result (λ made.
-        made.text.items ≡ text.items ++ report v) }
+    ensures text { IfOk result (λ made. made.text.items ≡ text.items ++ report verdicts.now) }
     ensures done { IfOk result (λ made. made.all_done ≡ list_all is_done verdicts.now) }
     ensures err { IfErr result (λ fault. fault ≡ NoMemory) }
 {
@@ -163,8 +164,8 @@ pub fn check_of(
     client: usize,
     manager: usize,
 ) -> Result<Answer, TextFault>
-    ensures text { (v : Verdicts) → verdicts.now ≡ in_order v → IfOk result (λ made.
-        made.text.items ≡ far_header version client manager ++ report v) }
+    ensures text { IfOk result (λ made. made.text.items
+        ≡ far_header version client manager ++ report verdicts.now) }
     ensures done { IfOk result (λ made. made.all_done ≡ list_all is_done verdicts.now) }
     ensures err { IfErr result (λ fault. fault ≡ NoMemory) }
 {
@@ -184,7 +185,7 @@ pub(crate) fn check_script<const C: usize, const M: usize>(
     ensures text { IfOk result (λ made. made.text.items
         ≡ far_header version C M ++ report (verdicts (near_beats script.now))) }
     ensures done { IfOk result (λ made. made.all_done
-        ≡ list_all is_done (in_order (verdicts (near_beats script.now)))) }
+        ≡ list_all is_done (verdicts (near_beats script.now))) }
     ensures err { IfErr result (λ fault. fault ≡ NoMemory) }
 {
     let Ok(verdicts) = verdicts_of::<C, M>(alloc, script) else {
@@ -202,9 +203,8 @@ pub fn answer_of<const C: usize, const M: usize>(
 ) -> Result<Answer, TextFault>
     requires client { IsWidth C }
     requires manager { IsWidth M }
-    ensures text { (v : Verdicts) → outcome.now.verdicts ≡ in_order v → IfOk result (λ made.
-        made.text.items
-        ≡ far_header version C M ++ far_lines version (taken outcome.now) ++ report v) }
+    ensures text { IfOk result (λ made. made.text.items ≡ far_header version C M
+        ++ far_lines version (taken outcome.now) ++ report outcome.now.verdicts) }
     ensures done { IfOk result (λ made. made.all_done ≡ list_all is_done outcome.now.verdicts) }
     ensures err { IfErr result (λ fault. fault ≡ NoMemory) }
 {

@@ -2,10 +2,10 @@
 ghost use Rattle.std.specs.Prelude.{◌≡◌, ◌++◌, [], IfOk, OnOk, IfErr};
 ghost use Rattle.std.specs.List.{list_all};
 ghost use Rattle.tl_lanes.specs.Lanes.{IsWidth};
-ghost use Rattle.tl_settle.specs.Outcomes.{Beats, Verdicts};
+ghost use Rattle.tl_settle.specs.Outcomes.{Beats};
 ghost use Rattle.tl_trace.specs.Lines.{beats_text};
 ghost use Rattle.tl_bridge.specs.Arrivals.{no_beats};
-ghost use Rattle.tl_answer.specs.Answer.{far_header, far_lines, report, in_order, is_done};
+ghost use Rattle.tl_answer.specs.Answer.{far_header, far_lines, report, is_done};
 ghost use Rattle.tl_answer.specs.Inner.FarTexts.{HasLines, whole};
 ghost use Rattle.tl_answer.specs.Inner.Parts.{spelled};
 ghost use Rattle.tl_answer.specs.declared.fault.TextFault.TheVariants.{OutOfMemory as NoMemory};
@@ -139,9 +139,9 @@ impl<const C: usize, const M: usize> FarTexts<C, M> {
     pub(crate) fn into_answer(self, verdicts: &[Verdict; 5]) -> Result<AnswerParts, TextFault>
         requires client { IsWidth C }
         requires manager { IsWidth M }
-        ensures text { (far : Beats M C) → HasLines self.entry far →
-            (v : Verdicts) → verdicts.now ≡ in_order v → IfOk result (λ made. spelled made
-            ≡ far_header self.entry.version C M ++ far_lines self.entry.version far ++ report v) }
+        ensures text { (far : Beats M C) → HasLines self.entry far → IfOk result (λ made.
+            spelled made ≡ far_header self.entry.version C M
+            ++ far_lines self.entry.version far ++ report verdicts.now) }
         ensures done { IfOk result (λ made. made.all_done ≡ list_all is_done verdicts.now) }
         ensures err { IfErr result (λ fault. fault ≡ NoMemory) }
     {

@@ -5,7 +5,7 @@ ghost use Rattle.std.specs.List.{list_all};
 ghost use Rattle.tl_ring.specs.declared.pipe.TheConstants.{MAX_RING};
 ghost use Rattle.tl_settle.specs.Outcomes.{far_beats, verdicts};
 ghost use Rattle.tl_bridge.specs.Scripts.{HasShortLists, SettlesTo, near_beats};
-ghost use Rattle.tl_answer.specs.Answer.{far_header, far_lines, report, in_order, is_done};
+ghost use Rattle.tl_answer.specs.Answer.{far_header, far_lines, report, is_done};
 ghost use Rattle.tl_trace.specs.Faults.{HasHeader};
 ghost use Rattle.tl_answer.specs.Inner.Parts.{spelled};
 ghost use Rattle.tl_answer.specs.Texts.{IsAnswer, IsOfText, most_bytes};
@@ -60,7 +60,7 @@ pub(crate) fn sync_answer_of<const C: usize, const M: usize>(
         ++ far_lines version (far_beats (near_beats script.entry))
         ++ report (verdicts (near_beats script.entry))) }
     ensures done { IfOk result (λ made. made.all_done
-        ≡ list_all is_done (in_order (verdicts (near_beats script.entry)))) }
+        ≡ list_all is_done (verdicts (near_beats script.entry))) }
     ensures err { IfErr result (λ fault. fault ≡ NoMemory) }
 {
     let Ok(mut far) = FarTexts::<C, M>::new(alloc, version) else {

@@ -70,8 +70,7 @@ module _ {C M : ℕ} (cw : IsWidth C) (mw : IsWidth M) (near : Beats C M) (n : P
 
   -- and so are the verdicts
   pub verdicts-are : stop_verdict stops.a n.a (length far.a) ∷ stop_verdict stops.b n.b (length far.b) ∷ stop_verdict stops.c n.c (length far.c) ∷
-      stop_verdict stops.d n.d (length far.d) ∷ stop_verdict stops.e n.e (length far.e) ∷ [] ≡
-      (let v = verdicts near in v.a ∷ v.b ∷ v.c ∷ v.d ∷ v.e ∷ [])
+      stop_verdict stops.d n.d (length far.d) ∷ stop_verdict stops.e n.e (length far.e) ∷ [] ≡ verdicts near
   verdicts-are =
       five-same has-settled.a_verdict
       (verdict-end rules_b mw cw near.b n.b far.b h.past.b stops.b h.all_stop.stop_b h.is_at.b_sent h.stands.b.crosses h.is_at.b_homed b-rests)

@@ -1,5 +1,5 @@
 -- What the run of a script promises (this project's choice).
-use Rattle.std.specs.Prelude.{◌≡◌, ◌+◌, ◌*◌, ◌≤◌, ◌^◌, ℕ, [], ◌∷◌, length}
+use Rattle.std.specs.Prelude.{◌≡◌, ◌+◌, ◌*◌, ◌≤◌, ◌^◌, ℕ, length}
 use Rattle.tl_msg.specs.Tables.{rules_b, rules_c, rules_e}
 use Rattle.tl_convert.specs.Accepted.{accepted_of}
 use Rattle.tl_settle.specs.Settling.{settled_state}
@@ -30,7 +30,7 @@ module _ {C M : ℕ} (near : Beats C M) where
 
   -- the five verdicts are those of the settled state, and there were not too many rounds
   pub record HasEnding (ending : Ending) : Type 0 where
-    pub verdicts_are : ending.verdicts ≡ (let v = verdicts near in v.a ∷ v.b ∷ v.c ∷ v.d ∷ v.e ∷ [])
+    pub verdicts_are : ending.verdicts ≡ verdicts near
     pub few_rounds : ending.rounds ≤ near_count + 2 * far_count + 1
 
   -- the five lists of far beats and the five verdicts are those of the settled state, and there were not too many rounds
@@ -40,7 +40,7 @@ module _ {C M : ℕ} (near : Beats C M) where
     pub far_c : outcome.c.items ≡ (far_beats near).c
     pub far_d : outcome.d.items ≡ (far_beats near).d
     pub far_e : outcome.e.items ≡ (far_beats near).e
-    pub verdicts_are : outcome.verdicts ≡ (let v = verdicts near in v.a ∷ v.b ∷ v.c ∷ v.d ∷ v.e ∷ [])
+    pub verdicts_are : outcome.verdicts ≡ verdicts near
     pub few_rounds : outcome.rounds ≤ near_count + 2 * far_count + 1
 
 -- the same of a script

@@ -6,11 +6,10 @@ use Rattle.std.proofs.lemmas.Bool.Decides.{eqb_tells}
 use Rattle.std.proofs.lemmas.Nat.Bits.{bit_at_and, bit_at-lt, same_from_bits}
 use Rattle.tl_lanes.specs.Lanes.{IsWidth, active_mask}
 use Rattle.tl_lanes.proofs.ActiveLanes.{bit_at-active_mask}
-use Rattle.tl_msg.specs.Faults.{is_within}
 use Rattle.tl_burst.proofs.Fits.{MaskFits}
 
 -- a mask within another one has no other bits
-within-bits : (mask other : ℕ) → is_within mask other ≡ true → (l : ℕ) → bit_at mask l ≡ 1 → bit_at other l ≡ 1
+within-bits : (mask other : ℕ) → bit_and mask other == mask ≡ true → (l : ℕ) → bit_at mask l ≡ 1 → bit_at other l ≡ 1
 within-bits mask other e l one =
     let same : bit_and mask other ≡ mask = eqb-true (bit_and mask other) mask e in
     let both : bit_at (bit_and mask other) l ≡ min (bit_at mask l) (bit_at other l) = bit_at_and mask other l in
@@ -18,7 +17,7 @@ within-bits mask other e l one =
     let small : bit_at other l < 2 = bit_at-lt other l in
     omega arith
 
-bits-within : (mask other : ℕ) → ((l : ℕ) → bit_at mask l ≡ 1 → bit_at other l ≡ 1) → is_within mask other ≡ true
+bits-within : (mask other : ℕ) → ((l : ℕ) → bit_at mask l ≡ 1 → bit_at other l ≡ 1) → bit_and mask other == mask ≡ true
 bits-within mask other inside = eq-eqb (bit_and mask other) mask (same_from_bits (bit_and mask other) mask (λ l.
     let both : bit_at (bit_and mask other) l ≡ min (bit_at mask l) (bit_at other l) = bit_at_and mask other l in
     let small : bit_at mask l < 2 = bit_at-lt mask l in
@@ -41,7 +40,7 @@ same-bits a b each = same_from_bits a b (λ l.
 
 -- the mask test of the faults is true exactly where the mask fits, on a channel with masks
 pub mask-tests : (masked partial : Bool) (address size w mask : ℕ) → IsWidth w →
-    ((if masked then (if partial then is_within mask (active_mask address size w) else mask == active_mask address size w) else true) ≡ true) ↔
+    ((if masked then (if partial then bit_and mask (active_mask address size w) == mask else mask == active_mask address size w) else true) ≡ true) ↔
     (masked ≡ true → MaskFits address size w partial mask)
 mask-tests false partial address size w mask ww = (λ _ e. absurd (cc), λ _. refl)
 mask-tests true true address size w mask ww = (

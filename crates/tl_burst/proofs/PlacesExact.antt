@@ -5,7 +5,7 @@ use Rattle.std.specs.Int.Bits.{and_self, bit_and}
 use Rattle.tl_lanes.specs.Lanes.{IsWidth}
 use Rattle.tl_msg.specs.Rules.{Rules}
 use Rattle.tl_msg.specs.Firsts.{unless, ◌or_else◌}
-use Rattle.tl_msg.specs.Faults.{is_within, full_mask, mask_fits, is_clean}
+use Rattle.tl_msg.specs.Faults.{full_mask, mask_fits, is_clean}
 use Rattle.tl_msg.specs.declared.beat.BeatOf.{BeatOf}
 use Rattle.tl_msg.specs.declared.fault.BeatFault.TheVariants.{Mask, Corrupt, HeadChanged}
 use Rattle.tl_msg.proofs.Firsts.{both_none, unless_true}
@@ -19,7 +19,7 @@ use Rattle.tl_burst.proofs.RestOf.{RestIs, some-first}
 use Rattle.tl_burst.proofs.Steps.{place-within}
 
 -- the mask of all active lanes is one that a message may have
-full-fits : (masked partial : Bool) (n : ℕ) → (if masked then (if partial then is_within n n else n == n) else true) ≡ true
+full-fits : (masked partial : Bool) (n : ℕ) → (if masked then (if partial then bit_and n n == n else n == n) else true) ≡ true
 full-fits false partial n = refl
 full-fits true true n = eq-eqb (bit_and n n) n (and_self n)
 full-fits true false n = eq-eqb n n refl

@@ -1,5 +1,5 @@
 //! The verdicts of a script.
-ghost use Rattle.std.specs.Prelude.{◌≡◌, [], ◌∷◌, IfOk};
+ghost use Rattle.std.specs.Prelude.{◌≡◌, IfOk};
 ghost use Rattle.tl_lanes.specs.Lanes.{IsWidth};
 ghost use Rattle.tl_settle.specs.Outcomes.{verdicts};
 ghost use Rattle.tl_bridge.specs.Scripts.{HasShortLists, near_beats};
@@ -27,8 +27,7 @@ pub fn verdicts_of<const C: usize, const M: usize>(
     requires client { IsWidth C }
     requires manager { IsWidth M }
     requires short { HasShortLists script.now }
-    ensures { IfOk result (λ found. found ≡
-        (let v = verdicts (near_beats script.now) in v.a ∷ v.b ∷ v.c ∷ v.d ∷ v.e ∷ [])) }
+    ensures { IfOk result (λ found. found ≡ verdicts (near_beats script.now)) }
 {
     let Ok((mut client, mut manager)) = new_books::<C, M, Global>(alloc) else {
         return Err(OutOfMemory);

@@ -1,5 +1,5 @@
 -- Near beats with their homes have one reading, and what is due is the same for every message that the rest begins.
-use Rattle.std.proofs.Common.{◌≡◌, ◌≤◌, ◌<◌, ◌+◌, ◌≢◌, ◌⊎◌, ◌++◌, ℕ, true, Option, Some, List, [], ◌∷◌, length, slice_get, slice_index, refl, sym, ap, subst, ◌∙◌, arith, inl, inr, ⊎_elim, append-nil, append_assoc, length-append}
+use Rattle.std.proofs.Common.{◌≡◌, ◌≤◌, ◌<◌, ◌+◌, ◌≢◌, ◌⊎◌, ◌++◌, ℕ, true, Option, Some, List, [], ◌∷◌, length, take, slice_get, slice_index, refl, sym, ap, subst, ◌∙◌, arith, inl, inr, ⊎_elim, append-nil, append_assoc, length-append}
 use Rattle.std.proofs.lemmas.Option.{get_or_from_slice_get}
 use Rattle.std.proofs.lemmas.List.FromFn.{take-map-range_with_len}
 use Rattle.tl_msg.specs.Rules.{Rules}
@@ -9,7 +9,7 @@ use Rattle.tl_burst.specs.Messages.{Message, beats_of, beat_at, layout, IsLawful
 use Rattle.tl_burst.specs.Spelling.{Spells}
 use Rattle.tl_burst.specs.Handing.{Handed, nothing, begun, whole}
 use Rattle.tl_burst.specs.Reading.{message_of}
-use Rattle.tl_convert.specs.Due.{part, due, far_beats_of, layouts, layout_part, Begins, DueOf, between, within}
+use Rattle.tl_convert.specs.Due.{part, due, far_beats_of, layouts, Begins, DueOf, between, within}
 use Rattle.tl_burst.proofs.RestOf.{rest-unique}
 use Rattle.tl_convert.proofs.FarHanded.{message-is, not-empty, far-proper, part-first, some-length}
 use Rattle.tl_convert.proofs.DuePrefix.{due-begun, due-whole}
@@ -94,7 +94,7 @@ module _ {H : Type 0} (r : Rules H) (w v : ℕ) (ww : IsWidth w) (vw : IsWidth v
       let step : layout r m v ++ due r w v o hs ≡ layout r m v ++ (layouts r v ms ++ part r w v (slice_index hs (length ms)) rest) = ap (λ y. layout r m v ++ y) (due-is t) in
       due-whole r w v ww vw partial_masked m bs o hs l s ∙ rw append_assoc step
 
-  part-of : (m : Message H) (home : Option ℕ) (rest : List (BeatOf H w)) → rest ≢ [] → (b : Begins r m home rest) → part r w v m.home rest ≡ layout_part r m w v (length rest)
+  part-of : (m : Message H) (home : Option ℕ) (rest : List (BeatOf H w)) → rest ≢ [] → (b : Begins r m home rest) → part r w v m.home rest ≡ take (far_beats_of r m.head w v (length rest)) (layout r m v)
   part-of m home rest ne b =
       let lt : far_beats_of r m.head w v (length rest) < beats_of r m.head v =
       far-proper r w v ww vw partial_masked m rest b.more b.lawful b.spells ne b.left in

@@ -9,7 +9,7 @@ use Rattle.tl_msg.specs.declared.head.HeadC.{HeadC}
 use Rattle.tl_msg.specs.Tables.{rules_c}
 use Rattle.tl_burst.specs.Messages.{Cell, Message, layout}
 use Rattle.tl_convert.specs.Accepted.{accepted_of}
-use Rattle.tl_convert.specs.Due.{due, layouts, layout_part}
+use Rattle.tl_convert.specs.Due.{due, far_beats_of, layouts}
 use Rattle.tl_convert.specs.Laws.{gathered as gathered_over}
 use Rattle.std.proofs.Common.{map, take}
 
@@ -122,7 +122,7 @@ brought = refl
 both_ways : due rules_a 4 8 (two 0x10) (0x10 ∷ []) ≡ layouts rules_a 8 (put ∷ [])
 both_ways = refl
 
-half : due rules_a 4 2 (take 1 (two 0x10)) (0x10 ∷ []) ≡ layout_part rules_a put 4 2 1
+half : due rules_a 4 2 (take 1 (two 0x10)) (0x10 ∷ []) ≡ take (far_beats_of rules_a put.head 4 2 1) (layout rules_a put 2)
 half = refl
 
 counts : map (λ w. length (layout rules_a put w)) (1 ∷ 2 ∷ 4 ∷ 8 ∷ 16 ∷ 32 ∷ 64 ∷ 128 ∷ []) ≡ 8 ∷ 4 ∷ 2 ∷ 1 ∷ 1 ∷ 1 ∷ 1 ∷ 1 ∷ []

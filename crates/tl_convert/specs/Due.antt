@@ -19,10 +19,6 @@ module _ {H : Type 0} (r : Rules H) where
   abbrev pub layouts : (v : ℕ) → List (Message H) → List (BeatOf H v)
   layouts v ms = flat_map (λ m. layout r m v) ms
 
-  -- the far beats of the first n near beats of a message
-  abbrev pub layout_part : Message H → (w v n : ℕ) → List (BeatOf H v)
-  layout_part m w v n = take (far_beats_of m.head w v n) (layout r m v)
-
   -- a message that these beats begin, at the home that is its turn
   pub record Begins {w : ℕ} (m : Message H) (home : Option ℕ) (rest : List (BeatOf H w)) : Type 0 where
     pub lawful : IsLawful r m
@@ -35,7 +31,7 @@ module _ {H : Type 0} (r : Rules H) where
   pub data DueOf (w v : ℕ) (ms : List (Message H)) (homes : List ℕ) : (rest : List (BeatOf H w)) → (far : List (BeatOf H v)) → Type 0 where
     between : DueOf w v ms homes [] (layouts v ms)
     within : (m : Message H) (rest : List (BeatOf H w)) → rest ≢ [] → Begins m (slice_get homes (length ms)) rest →
-        DueOf w v ms homes rest (layouts v ms ++ layout_part m w v (length rest))
+        DueOf w v ms homes rest (layouts v ms ++ take (far_beats_of m.head w v (length rest)) (layout r m v))
 
   -- the far beats that are due after near beats that are handed
   pub record IsDue {w v : ℕ} (bs : List (BeatOf H w)) (homes : List ℕ) (far : List (BeatOf H v)) : Type 0 where
@@ -49,7 +45,7 @@ module _ {H : Type 0} (r : Rules H) where
   -- the far beats of the part of a message that these beats bring
   abbrev pub part : (w v home : ℕ) → List (BeatOf H w) → List (BeatOf H v)
   part w v home [] = []
-  part w v home (b ∷ bs) = layout_part (message_of r b.head w home (b ∷ bs)) w v (length (b ∷ bs))
+  part w v home (b ∷ bs) = take (far_beats_of b.head w v (length (b ∷ bs))) (layout r (message_of r b.head w home (b ∷ bs)) v)
 
   abbrev pub due_after : (w v : ℕ) → (seen : List (BeatOf H w)) → (homes : List ℕ) → List (BeatOf H w) → List (BeatOf H v)
   due_after w v seen homes [] = part w v (slice_index homes 0) seen

@@ -20,7 +20,7 @@ use Rattle.tl_convert.specs.Laws.{FarIsHanded}
 use Rattle.tl_settle.specs.Requests.{homes_after}
 use Rattle.tl_settle.specs.Steps.{Reaches}
 use Rattle.tl_settle.specs.Settling.{IsSettledState, goes_a, goes_d, held_request, held_response, requests, responses, settled_state}
-use Rattle.tl_settle.specs.Outcomes.{Beats, far_beats, verdicts}
+use Rattle.tl_settle.specs.Outcomes.{Beats, far_beats, verdict_a, verdict_d, verdict_alone}
 use Rattle.tl_settle.specs.Laws.{IsAtAdmitted}
 
 module _ {H : Type 0} (r : Rules H) {w : ℕ} where
@@ -95,11 +95,11 @@ module _ {C M : ℕ} (near : Beats C M) where
     pub on_a : let s = settled_state near.a near.d in
         Brings rules_a near.a (far_beats near).a s.a
         (map (λ h. h.address) (requests near.a near.d s.a))
-        (held_request near.a near.d s.a s.d) (verdicts near).a
-    pub on_b : BringsAlone rules_b near.b (far_beats near).b (verdicts near).b
-    pub on_c : BringsAlone rules_c near.c (far_beats near).c (verdicts near).c
+        (held_request near.a near.d s.a s.d) (verdict_a near.a near.d)
+    pub on_b : BringsAlone rules_b near.b (far_beats near).b (verdict_alone rules_b C near.b)
+    pub on_c : BringsAlone rules_c near.c (far_beats near).c (verdict_alone rules_c M near.c)
     pub on_d : let s = settled_state near.a near.d in
         Brings rules_d near.d (far_beats near).d s.d
         (homes_after (requests near.a near.d s.a) [] (responses near.a near.d s.d))
-        (held_response near.a near.d s.a s.d) (verdicts near).d
-    pub on_e : BringsAlone rules_e near.e (far_beats near).e (verdicts near).e
+        (held_response near.a near.d s.a s.d) (verdict_d near.a near.d)
+    pub on_e : BringsAlone rules_e near.e (far_beats near).e (verdict_alone rules_e M near.e)

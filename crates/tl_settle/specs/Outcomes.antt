@@ -1,5 +1,5 @@
 -- What a script ends in: the far beats and the verdict of each channel (this project's choice).
-use Rattle.std.specs.Prelude.{◌==◌, ℕ, Option, None, Some, List, length, map, take, slice_get, if◌then◌else◌}
+use Rattle.std.specs.Prelude.{◌==◌, ℕ, Option, None, Some, List, [], ◌∷◌, length, map, take, slice_get, if◌then◌else◌}
 use Rattle.std.specs.Option.{option_map_or}
 use Rattle.tl_msg.specs.Rules.{Rules}
 use Rattle.tl_msg.specs.Tables.{rules_a, rules_b, rules_c, rules_d, rules_e}
@@ -59,13 +59,6 @@ pub record Beats (C M : ℕ) : Type 0 where
   pub d : List (BeatOf HeadD M)
   pub e : List (BeatOf HeadE C)
 
-pub record Verdicts : Type 0 where
-  pub a : Verdict
-  pub b : Verdict
-  pub c : Verdict
-  pub d : Verdict
-  pub e : Verdict
-
 -- what the near beats of a script end in
 module _ {C M : ℕ} (near : Beats C M) where
   abbrev pub far_beats : Beats M C
@@ -77,11 +70,7 @@ module _ {C M : ℕ} (near : Beats C M) where
     e = far_alone rules_e M near.e;
   }
 
-  abbrev pub verdicts : Verdicts
-  verdicts = record {
-    a = verdict_a near.a near.d;
-    b = verdict_alone rules_b C near.b;
-    c = verdict_alone rules_c M near.c;
-    d = verdict_d near.a near.d;
-    e = verdict_alone rules_e M near.e;
-  }
+  -- the verdicts of the five channels, A to E
+  abbrev pub verdicts : List Verdict
+  verdicts =
+      verdict_a near.a near.d ∷ verdict_alone rules_b C near.b ∷ verdict_alone rules_c M near.c ∷ verdict_d near.a near.d ∷ verdict_alone rules_e M near.e ∷ []

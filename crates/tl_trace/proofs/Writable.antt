@@ -8,7 +8,7 @@ use Rattle.std.specs.List.{list_all}
 use Rattle.tl_lanes.proofs.ActiveLanes.{active_mask-lt}
 use Rattle.tl_msg.specs.Faults.{full_mask, mask_fits, is_clean, IsLawfulBeat}
 use Rattle.tl_msg.specs.Firsts.{unless, ◌or_else◌}
-use Rattle.tl_msg.specs.Kinds.{Column, column_a, column_b, column_c, column_d, kind_at, params}
+use Rattle.tl_msg.specs.Kinds.{column_a, column_b, column_c, column_d, kind_at, params}
 use Rattle.tl_msg.specs.Rules.{Rules}
 use Rattle.tl_msg.specs.Tables.{head_fault, is_aligned, rules_a, rules_b, rules_c, rules_d}
 use Rattle.tl_msg.specs.declared.beat.BeatOf.{BeatOf}
@@ -32,7 +32,7 @@ no_second (Some v) y e = absurd cc
 -- ---- the head
 
 -- opcode, param and size of a message that the column has
-pub record Limits (column : Column) (limit o p z : ℕ) : Type 0 where
+pub record Limits (column : List (Option Kind)) (limit o p z : ℕ) : Type 0 where
   pub opcode : o < length column
   pub param : p < limit
   pub size : z < 16
@@ -51,7 +51,7 @@ of_kind kind limit p z aligned few e =
 abbrev few_params : (limit : ℕ) → Option Kind → Bool
 few_params limit kind = option_map_or (λ k. nat_le (params k) limit) kind true
 
-in_column : (column : Column) (limit o p z : ℕ) (aligned : Bool) → list_all (few_params limit) column ≡ true → head_fault (kind_at column o) p z aligned ≡ None → Limits column limit o p z
+in_column : (column : List (Option Kind)) (limit o p z : ℕ) (aligned : Bool) → list_all (few_params limit) column ≡ true → head_fault (kind_at column o) p z aligned ≡ None → Limits column limit o p z
 in_column [] limit o p z aligned few e = absurd cc
 in_column (None ∷ kinds) limit zero p z aligned few e = absurd cc
 in_column (Some kind ∷ kinds) limit zero p z aligned few e =
@@ -102,7 +102,7 @@ data_in_range : {H : Type 0} {w : ℕ} (b : BeatOf H w) → length b.lanes ≡ w
 data_in_range {w = w} b long bytes = rw (lt-ltb (number_of_lanes b.lanes) (256 ^ w) (data_small w b.lanes long bytes), bit_small b.corrupt) refl
 
 -- the fields of a head of A, B or C are in range, and so are those behind it
-head_in_range : (version : ℕ) (column : Column) (o p z s a : ℕ) (rest : Bool) → length column ≡ 8 → list_all (few_params 8) column ≡ true
+head_in_range : (version : ℕ) (column : List (Option Kind)) (o p z s a : ℕ) (rest : Bool) → length column ≡ 8 → list_all (few_params 8) column ≡ true
     → head_fault (kind_at column o) p z (is_aligned a z) ≡ None → nat_lt s (16 ^ id_digits version) && true ≡ true → a < 2 ^ 64 → rest ≡ true
     → nat_lt o 8 && (nat_lt p 8 && (nat_lt z 16 && (nat_lt s (16 ^ id_digits version) && (nat_lt a (2 ^ 64) && rest)))) ≡ true
 head_in_range version column o p z s a rest long few head id small more =

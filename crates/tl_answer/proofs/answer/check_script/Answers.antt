@@ -1,6 +1,12 @@
-use Rattle.tl_settle.specs.Outcomes.{verdicts}
-use Rattle.tl_bridge.specs.Scripts.{near_beats}
+use Rattle.std.specs.Prelude.{IfOk}
+use Rattle.std.proofs.Common.{◌≡◌, ◌++◌, subst}
+use Rattle.std.specs.List.{list_all}
+use Rattle.tl_answer.specs.Answer.{far_header, report, is_done}
 use Rattle.tl_answer.proofs.answer.check_script.Goals as goal
 
 pub returns-clause-text : goal.returns-clause-text
-returns-clause-text g c = c.check_of.ensures.text (verdicts (near_beats c.args.script.now)) c.in-Ok.ensures
+returns-clause-text g c =
+    subst (λ vs. IfOk c.check_of.result (λ made. made.text.items ≡ far_header c.args.version g.row.C g.row.M ++ report vs)) c.in-Ok.ensures c.check_of.ensures.text
+
+pub returns-clause-done : goal.returns-clause-done
+returns-clause-done g c = subst (λ vs. IfOk c.check_of.result (λ made. made.all_done ≡ list_all is_done vs)) c.in-Ok.ensures c.check_of.ensures.done

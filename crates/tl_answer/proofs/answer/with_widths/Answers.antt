@@ -1,8 +1,9 @@
 use Rattle.std.specs.Prelude.{Ok}
-use Rattle.std.proofs.Common.{lit<, List, subst, ◌∙◌, arith}
+use Rattle.std.proofs.Common.{lit<, List, ap, subst, ◌∙◌, arith}
 use Rattle.tl_trace.specs.declared.line.Line.{Line}
+use Rattle.tl_settle.specs.Outcomes.{verdicts}
 use Rattle.tl_bridge.specs.Scripts.{EndsIn, near_beats}
-use Rattle.tl_answer.specs.Answer.{ends, near}
+use Rattle.tl_answer.specs.Answer.{near}
 use Rattle.tl_answer.specs.Inner.Answered.{ReadsAnswer}
 use Rattle.tl_answer.specs.Inner.Parts.{spelled}
 use Rattle.tl_answer.specs.Inputs.{unread_of}
@@ -23,7 +24,7 @@ returns-then-is_check g c =
     subst (λ check. ReadsAnswer (unread_of c.args.input.now (g.R.Read.remaining c.args.reader.now)) (g.R.Read.remaining c.script_of_input.new.reader) check c.script_of_input.new.input (Ok c.of.result)) c.if-is_check.ensures
     (reads_answer _ _ _ c.script_of_input.new.input read.text read.took read.end read.few (Ok c.of.result)
     (checks-text c.args.version g.row.C g.row.M read.told.lines read.text read.told.told
-    (near_beats c.in-Ok.script) (near-is read.told.lines _ read.told.script)
+    (verdicts (near_beats c.in-Ok.script)) (ap (λ bs. verdicts bs) (near-is read.told.lines _ read.told.script))
     _ (c.of.ensures.text ∙ c.in_ok-answer.ensures.text) _ (c.of.ensures.done ∙ c.in_ok-answer.ensures.done))
     tt)
 
@@ -56,7 +57,7 @@ returns g c =
     subst (λ check. ReadsAnswer (unread_of c.args.input.now (g.R.Read.remaining c.args.reader.now)) (g.R.Read.remaining c.script_of_input.new.reader) check c.script_of_input.new.input (Ok c.of-2.result)) c.if-is_check.ensures
     (reads_answer _ _ _ c.script_of_input.new.input read.text read.took read.end read.few (Ok c.of-2.result)
     (answers-text c.args.version g.row.C g.row.M lines read.text read.told.told c.in-Ok-outcome_of.outcome ended
-    _ (c.of-2.ensures.text ∙ c.in_ok-answer-2.ensures.text (ends g.row.C g.row.M lines) ended.verdicts_are) _ (c.of-2.ensures.done ∙ c.in_ok-answer-2.ensures.done))
+    _ (c.of-2.ensures.text ∙ c.in_ok-answer-2.ensures.text) _ (c.of-2.ensures.done ∙ c.in_ok-answer-2.ensures.done))
     tt)
   where
     lines : List Line
