@@ -91,6 +91,9 @@ enum {
 /* The lanes of the widest link. */
 #define TL_WIDEST 128
 
+/* A source or a sink. */
+typedef uint16_t tl_id;
+
 /* The fields of a beat on any channel, but its lanes: 40 bytes with no gap between two fields. A field that the channel lacks is not
  * read, and is written 0.
  *
@@ -101,8 +104,8 @@ enum {
 typedef struct {
     uint64_t address;    /* A, B, C */
     uint64_t mask;       /* A, B: lanes 0 to 63 */
-    uint16_t source;     /* A to D; byte 16 */
-    uint16_t sink;       /* D, E; byte 18 */
+    tl_id source;        /* A to D; byte 16 */
+    tl_id sink;          /* D, E; byte 18 */
     uint8_t opcode;      /* A to D; byte 20 */
     uint8_t param;       /* A to D */
     uint8_t size;        /* A to D: the message has 2^size bytes */

@@ -93,7 +93,7 @@ READY_AND_CLOSE(c)
 READY_AND_CLOSE(d)
 READY_AND_CLOSE(e)
 
-static tl_beat message(uint8_t opcode, uint8_t param, uint8_t size, uint16_t source, uint64_t address, svBit corrupt) {
+static tl_beat message(uint8_t opcode, uint8_t param, uint8_t size, tl_id source, uint64_t address, svBit corrupt) {
     tl_beat beat = {};
     beat.opcode = opcode;
     beat.param = param;
@@ -108,7 +108,7 @@ static tl_beat message(uint8_t opcode, uint8_t param, uint8_t size, uint16_t sou
 
 /* A and B, which have a mask. */
 #define MASKED(x, near_width, far_width) \
-    uint8_t tlbridge_offer_##x(void *bridge, uint8_t opcode, uint8_t param, uint8_t size, uint16_t source, uint64_t address, \
+    uint8_t tlbridge_offer_##x(void *bridge, uint8_t opcode, uint8_t param, uint8_t size, tl_id source, uint64_t address, \
                                const svBitVecVal *mask, const svBitVecVal *data, svBit corrupt) { \
         tl_beat beat = message(opcode, param, size, source, address, corrupt); \
         uint8_t lanes[near_width]; \
@@ -116,7 +116,7 @@ static tl_beat message(uint8_t opcode, uint8_t param, uint8_t size, uint16_t sou
         read_lanes(lanes, data, near_width); \
         return CALL(offer_##x)(BRIDGE, &beat, lanes); \
     } \
-    svBit tlbridge_take_##x(void *bridge, uint8_t *opcode, uint8_t *param, uint8_t *size, uint16_t *source, uint64_t *address, \
+    svBit tlbridge_take_##x(void *bridge, uint8_t *opcode, uint8_t *param, uint8_t *size, tl_id *source, uint64_t *address, \
                             svBitVecVal *mask, svBitVecVal *data, svBit *corrupt) { \
         tl_beat beat = {}; \
         uint8_t lanes[far_width] = {0}; \
@@ -131,7 +131,7 @@ static tl_beat message(uint8_t opcode, uint8_t param, uint8_t size, uint16_t sou
 MASKED(a, TLBRIDGE_CLIENT, TLBRIDGE_MANAGER)
 MASKED(b, TLBRIDGE_MANAGER, TLBRIDGE_CLIENT)
 
-uint8_t tlbridge_offer_c(void *bridge, uint8_t opcode, uint8_t param, uint8_t size, uint16_t source, uint64_t address, const svBitVecVal *data,
+uint8_t tlbridge_offer_c(void *bridge, uint8_t opcode, uint8_t param, uint8_t size, tl_id source, uint64_t address, const svBitVecVal *data,
                          svBit corrupt) {
     tl_beat beat = message(opcode, param, size, source, address, corrupt);
     uint8_t lanes[TLBRIDGE_CLIENT];
@@ -139,7 +139,7 @@ uint8_t tlbridge_offer_c(void *bridge, uint8_t opcode, uint8_t param, uint8_t si
     return CALL(offer_c)(BRIDGE, &beat, lanes);
 }
 
-svBit tlbridge_take_c(void *bridge, uint8_t *opcode, uint8_t *param, uint8_t *size, uint16_t *source, uint64_t *address, svBitVecVal *data,
+svBit tlbridge_take_c(void *bridge, uint8_t *opcode, uint8_t *param, uint8_t *size, tl_id *source, uint64_t *address, svBitVecVal *data,
                       svBit *corrupt) {
     tl_beat beat = {};
     uint8_t lanes[TLBRIDGE_MANAGER] = {0};
@@ -151,7 +151,7 @@ svBit tlbridge_take_c(void *bridge, uint8_t *opcode, uint8_t *param, uint8_t *si
     return some;
 }
 
-uint8_t tlbridge_offer_d(void *bridge, uint8_t opcode, uint8_t param, uint8_t size, uint16_t source, uint16_t sink, svBit denied,
+uint8_t tlbridge_offer_d(void *bridge, uint8_t opcode, uint8_t param, uint8_t size, tl_id source, tl_id sink, svBit denied,
                          const svBitVecVal *data, svBit corrupt) {
     tl_beat beat = message(opcode, param, size, source, 0, corrupt);
     uint8_t lanes[TLBRIDGE_MANAGER];
@@ -161,7 +161,7 @@ uint8_t tlbridge_offer_d(void *bridge, uint8_t opcode, uint8_t param, uint8_t si
     return CALL(offer_d)(BRIDGE, &beat, lanes);
 }
 
-svBit tlbridge_take_d(void *bridge, uint8_t *opcode, uint8_t *param, uint8_t *size, uint16_t *source, uint16_t *sink, svBit *denied,
+svBit tlbridge_take_d(void *bridge, uint8_t *opcode, uint8_t *param, uint8_t *size, tl_id *source, tl_id *sink, svBit *denied,
                       svBitVecVal *data, svBit *corrupt) {
     tl_beat beat = {};
     uint8_t lanes[TLBRIDGE_CLIENT] = {0};
@@ -174,14 +174,14 @@ svBit tlbridge_take_d(void *bridge, uint8_t *opcode, uint8_t *param, uint8_t *si
     return some;
 }
 
-uint8_t tlbridge_offer_e(void *bridge, uint16_t sink) {
+uint8_t tlbridge_offer_e(void *bridge, tl_id sink) {
     tl_beat beat = {};
     uint8_t lanes[TLBRIDGE_CLIENT] = {0};
     beat.sink = sink;
     return CALL(offer_e)(BRIDGE, &beat, lanes);
 }
 
-svBit tlbridge_take_e(void *bridge, uint16_t *sink) {
+svBit tlbridge_take_e(void *bridge, tl_id *sink) {
     tl_beat beat = {};
     uint8_t lanes[TLBRIDGE_MANAGER];
     svBit some = CALL(take_e)(BRIDGE, &beat, lanes);

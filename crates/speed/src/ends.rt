@@ -10,7 +10,7 @@ use std::rt::Clock;
 use std::thread::{Threads, join_mut};
 use std::time::Instant;
 use tl_lanes::{Mask, active};
-use tl_msg::{Beat, BeatOf, ChA, ChE, Channel, HeadA, HeadE};
+use tl_msg::{Beat, BeatOf, ChA, ChE, Channel, HeadA, HeadE, SinkId};
 use tl_ring::{ROOM, SendEnd, TakeEnd, ring_pair};
 
 /// The beats that are sent over and over: whole messages.
@@ -240,7 +240,9 @@ fn acks(alloc: Global) -> Result<Vec<Beat<ChE, 8>>> {
     let mut all = Vec::with_capacity(alloc, SOME)?;
     for place in 0..SOME {
         all.push(BeatOf {
-            head: HeadE { sink: place as u16 },
+            head: HeadE {
+                sink: place as SinkId,
+            },
             mask: 0,
             lanes: [0; 8],
             corrupt: false,

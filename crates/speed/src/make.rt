@@ -5,7 +5,7 @@ ghost use Rattle.tl_lanes.specs.Lanes.{IsWidth};
 use anyhow::{Result, bail};
 use std::alloc::Global;
 use tl_lanes::{active, beats};
-use tl_msg::{BeatOf, ChA, ChD, ChE, HeadA, HeadD, HeadE};
+use tl_msg::{BeatOf, ChA, ChD, ChE, HeadA, HeadD, HeadE, SinkId, SourceId};
 use tl_trace::{OutOfMemory, write_far};
 
 /// Whether one of these buses has more than 64 bytes. A trace of such a bus is one of version 2, which alone has it, and its messages
@@ -47,7 +47,7 @@ fn put_message<const C: usize>(
         opcode: 0,
         param: 0,
         size: if number % 8 == 7 { 12 } else { size_of(wide) },
-        source: (number % 256) as u16,
+        source: (number % 256) as SourceId,
         address: number % 65_536 * 4096,
     };
     let mask = active(head.address, head.size, C);
@@ -68,7 +68,7 @@ fn put_message<const C: usize>(
 /// Appends the line of a GrantAck.
 fn put_grant_ack(text: &mut Vec<u8>, number: u64, wide: bool) -> Result<(), OutOfMemory> {
     let head = HeadE {
-        sink: (number % 256) as u16,
+        sink: (number % 256) as SinkId,
     };
     let beat = BeatOf {
         head,
@@ -92,7 +92,7 @@ fn put_request<const C: usize>(
         opcode: if reads { 4 } else { 0 },
         param: 0,
         size: size_of(wide),
-        source: (number % 256) as u16,
+        source: (number % 256) as SourceId,
         address: number % 65_536 * if wide { 128 } else { 64 },
     };
     for index in 0..beats(!reads, head.size, C) {
@@ -124,7 +124,7 @@ fn put_response<const M: usize>(
         opcode: if reads { 1 } else { 0 },
         param: 0,
         size: size_of(wide),
-        source: (number % 256) as u16,
+        source: (number % 256) as SourceId,
         sink: 0,
         denied: false,
     };

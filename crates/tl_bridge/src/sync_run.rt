@@ -2,10 +2,11 @@
 ghost use Rattle.std.specs.Prelude.{◌≡◌, ◌≢◌, ◌≤◌, ◌<◌, ◌⊎◌, ◌↔◌, IsOk, IfOk, IfErr, OnOk};
 ghost use Rattle.tl_ring.specs.declared.pipe.TheConstants.{MAX_RING};
 ghost use Rattle.tl_lanes.specs.Lanes.{IsWidth};
-ghost use Rattle.tl_bridge.specs.declared.outcome.RunFault.TheVariants.{RingSize, Stalled};
+ghost use Rattle.tl_bridge.specs.declared.outcome.RunFault.TheVariants.{RingSize, OutOfMemory, Stalled};
 ghost use Rattle.tl_settle.specs.Outcomes.{far_beats};
 ghost use Rattle.tl_bridge.specs.Arrivals.{no_beats};
 ghost use Rattle.tl_bridge.specs.Scripts.{HasEnding, HasShortLists, SettlesTo, near_beats};
+ghost use Rattle.tl_bridge.specs.Inner.Running.{IsNew};
 
 use crate::arrivals::Arrivals;
 use crate::outcome::{Ending, Outcome, RunFault};
@@ -51,10 +52,27 @@ pub fn run_sync<const C: usize, const M: usize>(
         Ok(bridge) => bridge,
         Err(fault) => return Err(RunFault::from(fault)),
     };
+    run_to_lists(&mut bridge, alloc, script)
+}
+
+// The run of [`run_sync`] over a new bridge, which is the caller's, so that one way out alone drops
+// it.
+fn run_to_lists<const C: usize, const M: usize>(
+    bridge: &mut SyncBridge<C, M>,
+    alloc: Global,
+    script: &Script<C, M>,
+) -> Result<Outcome<C, M>, RunFault>
+    requires client { IsWidth C }
+    requires manager { IsWidth M }
+    requires short { HasShortLists script.now }
+    requires new { IsNew bridge.old }
+    ensures outcome { IfOk result (SettlesTo script.now) }
+    ensures memory { IfErr result (λ fault. fault ≡ OutOfMemory) }
+{
     let Ok(mut far) = Taken::new(alloc, script) else {
         return Err(RunFault::OutOfMemory);
     };
-    let Ok(ending) = run_rounds(&mut bridge, script, &mut far, 0) else {
+    let Ok(ending) = run_rounds(bridge, script, &mut far, 0) else {
         return Err(RunFault::OutOfMemory);
     };
     Ok(far.into_outcome(ending))
@@ -91,7 +109,26 @@ pub fn run_sync_into<F: Arrivals<C, M>, const C: usize, const M: usize>(
         Ok(bridge) => bridge,
         Err(fault) => return Err(RunFault::from(fault)),
     };
-    let Ok(ending) = run_rounds(&mut bridge, script, far, MOST_AHEAD) else {
+    run_ahead(&mut bridge, script, far)
+}
+
+// The run of [`run_sync_into`] over a new bridge, which is the caller's.
+fn run_ahead<F: Arrivals<C, M>, const C: usize, const M: usize>(
+    bridge: &mut SyncBridge<C, M>,
+    script: &Script<C, M>,
+    far: &mut F,
+) -> Result<Ending, RunFault>
+    requires client { IsWidth C }
+    requires manager { IsWidth M }
+    requires short { HasShortLists script.now }
+    requires new { IsNew bridge.old }
+    requires empty { F.Holds far.old no_beats }
+    ensures ending { IfOk result (HasEnding (near_beats script.now)) }
+    ensures far { OnOk result (F.Holds far.new (far_beats (near_beats script.now))) }
+    ensures same { OnOk result (F.made_with far.new ≡ F.made_with far.old) }
+    ensures memory { IfErr result (λ fault. fault ≡ OutOfMemory) }
+{
+    let Ok(ending) = run_rounds(bridge, script, far, MOST_AHEAD) else {
         return Err(RunFault::OutOfMemory);
     };
     Ok(ending)

@@ -3,22 +3,21 @@ ghost use Rattle.tl_lanes.specs.Lanes.{IsWidth};
 
 use crate::fate::{Fate, fate_at};
 use crate::look::Style;
+use crate::page::Page;
 use crate::picture::Picture;
 use crate::requests::{Request, Requests};
 use crate::seen::{Told, seen_of};
 use crate::sentences::put_line;
 use crate::walk::Walk;
 use std::alloc::{AllocError, Global};
-use std::fmt::Write;
 use tl_lanes::{MAX_SIZE, active};
 use tl_msg::{Beat, ChA, Verdict};
 use tl_trace::line_of;
 
 /// Writes bytes that are text.
-pub fn put_bytes(out: &mut String, bytes: &[u8]) -> Result<(), AllocError> {
-    match std::str::from_utf8(bytes) {
-        Ok(text) => out.push_str(text),
-        Err(_) => Ok(()),
+fn put_bytes(out: &mut Page, bytes: &[u8]) {
+    if let Ok(text) = std::str::from_utf8(bytes) {
+        out.put(text);
     }
 }
 
@@ -83,17 +82,17 @@ fn add_request<const C: usize>(
 /// Writes the picture of a beat's lanes, where it has a mask or data. `home` is the address by which
 /// the message's bytes stand on them.
 fn put_lanes<K: Told, const W: usize>(
-    out: &mut String,
+    out: &mut Page,
     name: &str,
     beat: &Beat<K, W>,
     home: u64,
     version: u8,
-) -> Result<(), AllocError>
+)
     requires { IsWidth W }
 {
     let seen = seen_of::<K, W>(beat, version);
     if seen.size > MAX_SIZE || !(K::MASKED || seen.carries_data()) {
-        return Ok(());
+        return;
     }
     let active = active(home, seen.size, W);
     let picture = Picture {
@@ -101,30 +100,24 @@ fn put_lanes<K: Told, const W: usize>(
         mask: if K::MASKED { seen.mask } else { active },
         has_data: seen.carries_data(),
     };
-    picture.put(out, name, &beat.lanes)
+    picture.put(out, name, &beat.lanes);
 }
 
 /// Writes a far beat as its line, and its lanes where they are asked for.
-fn put_far<K: Told, const V: usize>(
-    out: &mut String,
-    beat: &Beat<K, V>,
-    home: u64,
-    style: &Style,
-) -> Result<(), AllocError>
+fn put_far<K: Told, const V: usize>(out: &mut Page, beat: &Beat<K, V>, home: u64, style: &Style)
     requires { IsWidth V }
 {
-    write!(out, "    ")?;
-    put_bytes(out, line_of::<K, V>(beat, style.version).as_slice())?;
-    if !style.look.lanes {
-        return Ok(());
+    out.put("    ");
+    put_bytes(out, line_of::<K, V>(beat, style.version).as_slice());
+    if style.look.lanes {
+        put_lanes::<K, V>(out, "far ", beat, home, style.version);
     }
-    put_lanes::<K, V>(out, "far ", beat, home, style.version)
 }
 
 /// Writes what came of the next beat of a channel, which stands in this line, and the far beats that
 /// it completed.
 pub fn put_near<K: Told, const W: usize, const V: usize>(
-    out: &mut String,
+    out: &mut Page,
     line: u64,
     near: &[Beat<K, W>],
     far: &[Beat<K, V>],
@@ -132,28 +125,27 @@ pub fn put_near<K: Told, const W: usize, const V: usize>(
     walk: &mut Walk,
     requests: &mut Requests,
     style: &Style,
-) -> Result<(), AllocError>
+)
     requires near { IsWidth W }
     requires far { IsWidth V }
 {
     let Some(beat) = near.get(walk.near) else {
-        return Ok(());
+        return;
     };
     let seen = seen_of::<K, W>(beat, style.version);
     let before = walk.far;
-    let accepted = put_line(out, line, &seen, verdict, walk, requests, &style.look, W, V)?;
+    let accepted = put_line(out, line, &seen, verdict, walk, requests, &style.look, W, V);
     if style.look.lanes && (accepted || K::LETTER != b'D') {
         let home = if K::LETTER == b'D' {
             walk.home
         } else {
             seen.address
         };
-        put_lanes::<K, W>(out, "near", beat, home, style.version)?;
+        put_lanes::<K, W>(out, "near", beat, home, style.version);
     }
     for at in before..walk.far {
         if let Some(beat) = far.get(at) {
-            put_far::<K, V>(out, beat, walk.home, style)?;
+            put_far::<K, V>(out, beat, walk.home, style);
         }
     }
-    Ok(())
 }

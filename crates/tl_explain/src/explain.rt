@@ -1,5 +1,5 @@
 //! From a text to what came of each of its lines.
-ghost use Rattle.std.specs.Prelude.{◌≡◌, ◌≤◌, length, Some, IfOk, IfErr};
+ghost use Rattle.std.specs.Prelude.{◌≤◌, length, Some, IfOk, IfErr};
 ghost use Rattle.tl_lanes.specs.Lanes.{IsWidth};
 ghost use Rattle.tl_trace.specs.Faults.{HasHeader};
 ghost use Rattle.tl_answer.specs.Texts.{IsOfText, most_bytes};
@@ -7,10 +7,10 @@ ghost use Rattle.tl_explain.specs.Explained.{IsExplanation};
 
 use crate::channel::{put_near, requests_of};
 use crate::look::{Look, Style};
+use crate::page::Page;
 use crate::requests::Requests;
 use crate::walk::Walk;
 use std::alloc::{AllocError, Global};
-use std::fmt::Write;
 use tl_answer::{TextFault, at_width, check_of, outcome_of};
 use tl_bridge::{Outcome, PerChannel};
 use tl_msg::{ChA, ChB, ChC, ChD, ChE, Verdict};
@@ -25,7 +25,7 @@ pub struct Explanation {
 
 /// Writes what came of a line with this letter.
 fn put_letter<const C: usize, const M: usize>(
-    out: &mut String,
+    out: &mut Page,
     line: u64,
     letter: u8,
     script: &Script<C, M>,
@@ -33,7 +33,7 @@ fn put_letter<const C: usize, const M: usize>(
     walks: &mut PerChannel<Walk>,
     requests: &mut Requests,
     style: &Style,
-) -> Result<(), AllocError>
+)
     requires client { IsWidth C }
     requires manager { IsWidth M }
 {
@@ -89,25 +89,52 @@ fn put_letter<const C: usize, const M: usize>(
             requests,
             style,
         ),
-        _ => Ok(()),
+        _ => {}
     }
 }
 
 /// Writes where a channel's lines end within a burst.
-fn put_cut(
-    out: &mut String,
-    letter: char,
-    walk: &Walk,
-    verdict: &Verdict,
-) -> Result<(), AllocError> {
-    let Verdict::Cut { .. } = verdict else {
-        return Ok(());
-    };
-    let (line, index, beats) = (walk.first_line, walk.index, walk.beats);
-    writeln!(
-        out,
-        "{letter} ends within the burst that line {line} begins: {index} of its {beats} beats are there"
-    )
+fn put_cut(out: &mut Page, letter: &str, walk: &Walk, verdict: &Verdict) {
+    if let Verdict::Cut { .. } = verdict {
+        out.put(letter);
+        out.put_number(" ends within the burst that line ", walk.first_line);
+        out.put_number(" begins: ", walk.index as u64);
+        out.put_number(" of its ", walk.beats as u64);
+        out.put(" beats are there\n");
+    }
+}
+
+/// Writes where the lines of each channel end within a burst.
+fn put_cuts(out: &mut Page, walks: &PerChannel<Walk>, verdicts: &[Verdict; 5]) {
+    let [a, b, c, d, _] = verdicts;
+    put_cut(out, "A", &walks.a, a);
+    put_cut(out, "B", &walks.b, b);
+    put_cut(out, "C", &walks.c, c);
+    put_cut(out, "D", &walks.d, d);
+}
+
+/// Writes what came of each line from line 2 on.
+fn put_lines<const C: usize, const M: usize>(
+    out: &mut Page,
+    text: &[u8],
+    script: &Script<C, M>,
+    outcome: &Outcome<C, M>,
+    walks: &mut PerChannel<Walk>,
+    requests: &mut Requests,
+    style: &Style,
+)
+    requires client { IsWidth C }
+    requires manager { IsWidth M }
+{
+    let mut line = 1u64;
+    let mut begins = false;
+    for byte in text {
+        if begins {
+            line = line.saturating_add(1);
+            put_letter(out, line, *byte, script, outcome, walks, requests, style);
+        }
+        begins = *byte == b'\n';
+    }
 }
 
 /// What came of each line from line 2 on, in sentences.
@@ -121,33 +148,21 @@ fn sentences_of<const C: usize, const M: usize>(
     requires client { IsWidth C }
     requires manager { IsWidth M }
 {
-    let mut out = String::new(alloc);
-    let mut walks = PerChannel::<Walk>::default();
     let (beats, verdict) = (&script.a, &outcome.verdicts[0]);
     let mut requests = requests_of::<C>(alloc, text, beats, verdict, style.version)?;
-    let mut line = 1u64;
-    let mut begins = false;
-    for byte in text {
-        if begins {
-            line = line.saturating_add(1);
-            put_letter(
-                &mut out,
-                line,
-                *byte,
-                script,
-                outcome,
-                &mut walks,
-                &mut requests,
-                style,
-            )?;
-        }
-        begins = *byte == b'\n';
-    }
-    put_cut(&mut out, 'A', &walks.a, &outcome.verdicts[0])?;
-    put_cut(&mut out, 'B', &walks.b, &outcome.verdicts[1])?;
-    put_cut(&mut out, 'C', &walks.c, &outcome.verdicts[2])?;
-    put_cut(&mut out, 'D', &walks.d, &outcome.verdicts[3])?;
-    Ok(out)
+    let mut walks = PerChannel::<Walk>::default();
+    let mut out = Page::new(alloc);
+    put_lines(
+        &mut out,
+        text,
+        script,
+        outcome,
+        &mut walks,
+        &mut requests,
+        style,
+    );
+    put_cuts(&mut out, &walks, &outcome.verdicts);
+    out.into_text()
 }
 
 /// The explanation of a text whose header names this version and these widths.

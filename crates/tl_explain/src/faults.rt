@@ -2,141 +2,133 @@
 ghost use Rattle.tl_lanes.specs.Lanes.{IsWidth};
 
 use crate::lane_list::put_lanes;
-use crate::seen::{Seen, put_address, put_id, put_length};
-use std::alloc::AllocError;
-use std::fmt::Write;
+use crate::page::Page;
+use crate::seen::Seen;
 use tl_lanes::{MAX_SIZE, active};
-use tl_msg::{BeatFault, Kind};
+use tl_msg::{BeatFault, Kind, SourceId};
 
 /// Writes what is wrong with the opcode.
-fn put_opcode(out: &mut String, beat: &Seen) -> Result<(), AllocError> {
-    let opcodes = match beat.letter {
-        'C' => "0, 1, 2 and 4 to 7",
-        'D' => "0, 1, 2 and 4 to 6",
-        _ => "0 to 7",
-    };
-    let (opcode, letter) = (beat.opcode, beat.letter);
-    write!(
-        out,
-        "the opcode is {opcode}, but channel {letter} has only the opcodes {opcodes}"
-    )
+fn put_opcode(out: &mut Page, beat: &Seen) {
+    out.put_number("the opcode is ", beat.opcode as u64);
+    out.put(", but channel ");
+    out.put_char(beat.letter);
+    out.put(match beat.letter {
+        'C' => " has only the opcodes 0, 1, 2 and 4 to 7",
+        'D' => " has only the opcodes 0, 1, 2 and 4 to 6",
+        _ => " has only the opcodes 0 to 7",
+    });
 }
 
 /// Writes what is wrong with the param.
-fn put_param(out: &mut String, beat: &Seen) -> Result<(), AllocError> {
-    write!(out, "the param is {}, but ", beat.param)?;
-    beat.put_name(out)?;
+fn put_param(out: &mut Page, beat: &Seen) {
+    out.put_number("the param is ", beat.param as u64);
+    out.put(", but ");
+    beat.put_name(out);
     match beat.kind.map_or(0, Kind::params) {
-        0 | 1 => out.push_str(" has only the param 0"),
-        params => write!(out, " has only the params 0 to {}", params - 1),
+        0 | 1 => out.put(" has only the param 0"),
+        params => out.put_number(" has only the params 0 to ", (params - 1) as u64),
     }
 }
 
 /// Writes what is wrong with the mask on `w` lanes.
-fn put_mask(out: &mut String, beat: &Seen, w: usize) -> Result<(), AllocError>
+fn put_mask(out: &mut Page, beat: &Seen, w: usize)
     requires { IsWidth w }
 {
     if beat.size > MAX_SIZE {
-        return out.push_str("the mask is wrong");
+        return out.put("the mask is wrong");
     }
     let lanes = active(beat.address, beat.size, w);
-    if beat.kind.is_some_and(Kind::is_partial) {
-        out.push_str("the mask has ")?;
-        put_lanes(out, beat.mask & !lanes)?;
-        out.push_str(", but it may have active lanes alone, which are ")?;
-        return put_lanes(out, lanes);
-    }
-    out.push_str("the mask has ")?;
-    put_lanes(out, beat.mask)?;
-    out.push_str(", but it has to have exactly the active lanes, which are ")?;
-    put_lanes(out, lanes)
+    let (wrong, rule) = if beat.kind.is_some_and(Kind::is_partial) {
+        (
+            beat.mask & !lanes,
+            ", but it may have active lanes alone, which are ",
+        )
+    } else {
+        (
+            beat.mask,
+            ", but it has to have exactly the active lanes, which are ",
+        )
+    };
+    out.put("the mask has ");
+    put_lanes(out, wrong);
+    out.put(rule);
+    put_lanes(out, lanes);
 }
 
 /// Writes a number that a burst's first beat has otherwise.
-fn put_numbers(out: &mut String, name: &str, now: u8, was: u8) -> Result<(), AllocError> {
-    write!(out, "the {name} is {now} and was {was}")
+fn put_numbers(out: &mut Page, text: &str, now: u8, was: u8) {
+    out.put_number(text, now as u64);
+    out.put_number(" and was ", was as u64);
 }
 
 /// Writes a source or a sink that a burst's first beat has otherwise, in a trace of this version.
-fn put_ids(
-    out: &mut String,
-    text: &str,
-    now: u16,
-    was: u16,
-    version: u8,
-) -> Result<(), AllocError> {
-    put_id(out, text, now, version)?;
-    put_id(out, " and was ", was, version)
+fn put_ids(out: &mut Page, text: &str, now: SourceId, was: SourceId, version: u8) {
+    out.put_id(text, now, version);
+    out.put_id(" and was ", was, version);
 }
 
 /// Writes the first field in which the head of a beat is not that of its burst's first beat.
-fn put_change(out: &mut String, beat: &Seen, first: &Seen) -> Result<(), AllocError> {
+fn put_change(out: &mut Page, beat: &Seen, first: &Seen) {
     if beat.opcode != first.opcode {
-        return put_numbers(out, "opcode", beat.opcode, first.opcode);
-    }
-    if beat.param != first.param {
-        return put_numbers(out, "param", beat.param, first.param);
-    }
-    if beat.size != first.size {
-        return put_numbers(out, "size", beat.size, first.size);
-    }
-    if beat.source != first.source {
-        return put_ids(
+        put_numbers(out, "the opcode is ", beat.opcode, first.opcode);
+    } else if beat.param != first.param {
+        put_numbers(out, "the param is ", beat.param, first.param);
+    } else if beat.size != first.size {
+        put_numbers(out, "the size is ", beat.size, first.size);
+    } else if beat.source != first.source {
+        put_ids(
             out,
             "the source is ",
             beat.source,
             first.source,
             beat.version,
         );
-    }
-    if beat.address != first.address {
-        put_address(out, "the address is ", beat.address)?;
-        return put_address(out, " and was ", first.address);
-    }
-    if beat.sink != first.sink {
-        return put_ids(out, "the sink is ", beat.sink, first.sink, beat.version);
-    }
-    out.push_str(if beat.denied {
-        "denied is 1 and was 0"
+    } else if beat.address != first.address {
+        out.put_address("the address is ", beat.address);
+        out.put_address(" and was ", first.address);
+    } else if beat.sink != first.sink {
+        put_ids(out, "the sink is ", beat.sink, first.sink, beat.version);
+    } else if beat.denied {
+        out.put("denied is 1 and was 0");
     } else {
-        "denied is 0 and was 1"
-    })
+        out.put("denied is 0 and was 1");
+    }
 }
 
 /// Writes what is wrong with a beat on `w` lanes. Where a burst is open, `first` is its first beat,
 /// which stands in this line.
 pub fn put_beat_fault(
-    out: &mut String,
+    out: &mut Page,
     beat: &Seen,
     fault: BeatFault,
     first: &Seen,
     first_line: u64,
     w: usize,
-) -> Result<(), AllocError>
+)
     requires { IsWidth w }
 {
     match fault {
         BeatFault::Opcode => put_opcode(out, beat),
         BeatFault::Param => put_param(out, beat),
-        BeatFault::Size => write!(
-            out,
-            "the size is {}, but it may be at most 12: a message has at most 4096 bytes",
-            beat.size
-        ),
+        BeatFault::Size => {
+            out.put_number("the size is ", beat.size as u64);
+            out.put(", but it may be at most 12: a message has at most 4096 bytes");
+        }
         BeatFault::Unaligned => {
-            put_address(out, "the address ", beat.address)?;
-            out.push_str(" is no multiple of the message's ")?;
-            put_length(out, beat.size)
+            out.put_address("the address ", beat.address);
+            out.put(" is no multiple of the message's ");
+            out.put_length(beat.size);
         }
         BeatFault::Mask => put_mask(out, beat, w),
         BeatFault::Corrupt => {
-            out.push_str("corrupt is 1, but ")?;
-            beat.put_name(out)?;
-            out.push_str(" carries no data, so it has to be 0")
+            out.put("corrupt is 1, but ");
+            beat.put_name(out);
+            out.put(" carries no data, so it has to be 0");
         }
         BeatFault::HeadChanged => {
-            write!(out, "inside the burst that line {first_line} begins, ")?;
-            put_change(out, beat, first)
+            out.put_number("inside the burst that line ", first_line);
+            out.put(" begins, ");
+            put_change(out, beat, first);
         }
     }
 }

@@ -9,6 +9,7 @@ mod faults;
 mod lane_list;
 mod look;
 mod meanings;
+mod page;
 mod picture;
 mod requests;
 mod seen;

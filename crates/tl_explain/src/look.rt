@@ -1,6 +1,5 @@
 //! How the sentences are to look.
-use std::alloc::AllocError;
-use std::fmt::Write;
+use crate::page::Page;
 
 /// How the sentences are to look.
 #[derive(Clone, Copy, Default)]
@@ -29,11 +28,13 @@ pub struct Style {
 
 impl Look {
     /// Writes a word in a colour, where colours are asked for.
-    pub fn put(&self, out: &mut String, colour: Colour, word: &str) -> Result<(), AllocError> {
-        if self.colour {
-            write!(out, "\x1b[{}m{word}\x1b[0m", colour as u8)
-        } else {
-            write!(out, "{word}")
+    pub fn put(&self, out: &mut Page, colour: Colour, word: &str) {
+        if !self.colour {
+            return out.put(word);
         }
+        out.put_number("\x1b[", colour as u64);
+        out.put("m");
+        out.put(word);
+        out.put("\x1b[0m");
     }
 }

@@ -1,7 +1,6 @@
 //! Pictures of lanes.
 use crate::lane_list::has_lane;
-use std::alloc::AllocError;
-use std::fmt::Write;
+use crate::page::Page;
 use tl_lanes::{Mask, WIDEST};
 
 /// How many lanes stand in a row.
@@ -12,6 +11,16 @@ const ROWS: usize = WIDEST / ROW;
 
 /// The most lanes of a bus whose numbers have at most two digits.
 const TWO_DIGITS: usize = 100;
+
+/// How many digits the number of a lane has room for, and the blanks before two others: all numbers
+/// of a bus have room for as many digits as that of its last lane, and for two at least.
+fn room(lanes: usize) -> (usize, &'static str) {
+    if lanes <= TWO_DIGITS {
+        (2, " ")
+    } else {
+        (3, "  ")
+    }
+}
 
 /// What a beat has on its lanes.
 #[derive(Clone, Copy)]
@@ -28,65 +37,46 @@ impl Picture {
     /// Writes a lane behind these blanks: its byte, or `##` where the message carries no data; `--`
     /// where the mask leaves it out, `..` where it is not active, and `!!` where the mask has it all
     /// the same.
-    fn put_lane(
-        &self,
-        out: &mut String,
-        blanks: &str,
-        lane: usize,
-        byte: u8,
-    ) -> Result<(), AllocError> {
-        out.push_str(blanks)?;
-        let shown = match (has_lane(self.active, lane), has_lane(self.mask, lane)) {
-            (false, false) => "..",
-            (false, true) => "!!",
-            (true, false) => "--",
-            (true, true) if self.has_data => return write!(out, "{byte:02x}"),
-            (true, true) => "##",
-        };
-        out.push_str(shown)
+    fn put_lane(&self, out: &mut Page, blanks: &str, lane: usize, byte: u8) {
+        out.put(blanks);
+        match (has_lane(self.active, lane), has_lane(self.mask, lane)) {
+            (false, false) => out.put(".."),
+            (false, true) => out.put("!!"),
+            (true, false) => out.put("--"),
+            (true, true) if self.has_data => out.put_byte(byte),
+            (true, true) => out.put("##"),
+        }
     }
 
     /// Writes the lanes from `from` on, at most a row of them, highest first: their numbers, and
-    /// below them their bytes. All numbers of a bus have room for as many digits as that of its last
-    /// lane, and for two at least.
-    fn put_row(
-        &self,
-        out: &mut String,
-        name: &str,
-        lanes: &[u8],
-        from: usize,
-    ) -> Result<(), AllocError> {
-        let (digits, blanks) = if lanes.len() <= TWO_DIGITS {
-            (2, " ")
-        } else {
-            (3, "  ")
-        };
-        out.push_str("    lane")?;
+    /// below them their bytes.
+    fn put_row(&self, out: &mut Page, name: &str, lanes: &[u8], from: usize) {
+        let (digits, blanks) = room(lanes.len());
+        out.put("    lane");
         for i in 0..ROW {
             let lane = from.saturating_add(ROW - 1 - i);
             if lane < lanes.len() {
-                write!(out, " {lane:digits$}")?;
+                out.put_column(lane, digits);
             }
         }
-        out.push_str("\n    ")?;
-        out.push_str(name)?;
+        out.put("\n    ");
+        out.put(name);
         for i in 0..ROW {
             let lane = from.saturating_add(ROW - 1 - i);
             if lane < lanes.len() {
-                self.put_lane(out, blanks, lane, lanes[lane])?;
+                self.put_lane(out, blanks, lane, lanes[lane]);
             }
         }
-        out.push('\n')
+        out.put("\n");
     }
 
     /// Writes all lanes of a beat, highest first, in rows of 16. The name has four letters.
-    pub fn put(&self, out: &mut String, name: &str, lanes: &[u8]) -> Result<(), AllocError> {
+    pub fn put(&self, out: &mut Page, name: &str, lanes: &[u8]) {
         for row in 0..ROWS {
             let from = (ROWS - 1 - row) * ROW;
             if from < lanes.len() {
-                self.put_row(out, name, lanes, from)?;
+                self.put_row(out, name, lanes, from);
             }
         }
-        Ok(())
     }
 }

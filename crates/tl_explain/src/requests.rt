@@ -1,13 +1,14 @@
 //! The requests that A sent, and which of them were answered.
 use std::alloc::{AllocError, Global};
+use tl_msg::SourceId;
 
-/// How many sources there are.
-const SOURCES: usize = 65_536;
+/// How many sources there are, by the bits of a [`SourceId`].
+const SOURCES: usize = 1 << SourceId::BITS;
 
 /// A request: a message of A that was accepted.
 #[derive(Clone, Copy)]
 pub struct Request {
-    pub source: u16,
+    pub source: SourceId,
     /// It is of `2^size` bytes.
     pub size: u8,
     pub address: u64,
@@ -37,8 +38,8 @@ impl Requests {
     }
 
     /// Where the first request of this source stands that no response has answered.
-    fn place(&self, source: u16) -> Option<usize> {
-        let start = *self.next.get(usize::from(source))?;
+    fn place(&self, source: SourceId) -> Option<usize> {
+        let start = *self.next.get(source as usize)?;
         for at in start..self.sent.len() {
             if self.sent[at].source == source {
                 return Some(at);
@@ -48,24 +49,25 @@ impl Requests {
     }
 
     /// The first request of this source that no response has answered.
-    pub fn open(&self, source: u16) -> Option<Request> {
+    pub fn open(&self, source: SourceId) -> Option<Request> {
         let at = self.place(source)?;
         self.sent.get(at).copied()
     }
 
     /// The same, which is answered from now on.
-    pub fn answer(&mut self, source: u16) -> Option<Request> {
+    pub fn answer(&mut self, source: SourceId) -> Option<Request> {
         let at = self.place(source)?;
-        *self.next.get_mut(usize::from(source))? = at.saturating_add(1);
+        *self.next.get_mut(source as usize)? = at.saturating_add(1);
         self.sent.get(at).copied()
     }
 
     /// The last request of this source.
-    pub fn last(&self, source: u16) -> Option<Request> {
-        self.sent
-            .iter()
-            .rev()
-            .find(|request| request.source == source)
-            .copied()
+    pub fn last(&self, source: SourceId) -> Option<Request> {
+        for request in self.sent.iter().rev() {
+            if request.source == source {
+                return Some(*request);
+            }
+        }
+        None
     }
 }

@@ -1,8 +1,9 @@
 //! A beat as sentences speak of it, whichever its channel.
-use std::alloc::AllocError;
-use std::fmt::Write;
-use tl_lanes::{MAX_SIZE, Mask};
-use tl_msg::{Beat, ChA, ChB, ChC, ChD, ChE, HeadA, HeadB, HeadC, HeadD, HeadE, Kind};
+use crate::page::Page;
+use tl_lanes::Mask;
+use tl_msg::{
+    Beat, ChA, ChB, ChC, ChD, ChE, HeadA, HeadB, HeadC, HeadD, HeadE, Kind, SinkId, SourceId,
+};
 use tl_trace::HeadText;
 
 /// The fields of a beat, but its lanes. What its channel does not have is 0.
@@ -18,9 +19,9 @@ pub struct Seen {
     pub param: u8,
     /// The message is of `2^size` bytes.
     pub size: u8,
-    pub source: u16,
+    pub source: SourceId,
     pub address: u64,
-    pub sink: u16,
+    pub sink: SinkId,
     pub denied: bool,
     pub mask: Mask,
     pub corrupt: bool,
@@ -102,6 +103,11 @@ pub fn seen_of<K: Told, const W: usize>(beat: &Beat<K, W>, version: u8) -> Seen 
     }
 }
 
+/// This text where a flag is set, else none.
+fn said_if(is_set: bool, text: &'static str) -> &'static str {
+    if is_set { text } else { "" }
+}
+
 impl Seen {
     /// Whether its message carries data.
     pub fn carries_data(&self) -> bool {
@@ -114,54 +120,31 @@ impl Seen {
     }
 
     /// Writes the message's name, as the standard spells it.
-    pub fn put_name(&self, out: &mut String) -> Result<(), AllocError> {
+    pub fn put_name(&self, out: &mut Page) {
         if self.letter == 'E' {
-            return out.push_str("GrantAck");
+            return out.put("GrantAck");
         }
         match self.kind {
-            Some(kind) => write!(out, "{kind:?}"),
-            None => write!(out, "opcode {}", self.opcode),
+            Some(kind) => out.put_kind(kind),
+            None => out.put_number("opcode ", self.opcode as u64),
         }
     }
 
     /// Writes its channel, its message, and the fields by which one knows it.
-    pub fn put(&self, out: &mut String) -> Result<(), AllocError> {
-        out.push(self.letter)?;
-        out.push(' ')?;
-        self.put_name(out)?;
+    pub fn put(&self, out: &mut Page) {
+        out.put_char(self.letter);
+        out.put(" ");
+        self.put_name(out);
         if self.letter == 'E' {
-            return put_id(out, ", sink ", self.sink, self.version);
+            return out.put_id(", sink ", self.sink, self.version);
         }
-        put_id(out, ", source ", self.source, self.version)?;
-        out.push_str(", ")?;
-        put_length(out, self.size)?;
+        out.put_id(", source ", self.source, self.version);
+        out.put(", ");
+        out.put_length(self.size);
         if self.letter != 'D' {
-            put_address(out, " at ", self.address)?;
+            out.put_address(" at ", self.address);
         }
-        out.push_str(if self.denied { ", denied" } else { "" })?;
-        out.push_str(if self.corrupt { ", corrupt" } else { "" })
-    }
-}
-
-/// Writes a source or a sink, behind this text, with the digits that it has in a trace of this
-/// version.
-pub fn put_id(out: &mut String, text: &str, id: u16, version: u8) -> Result<(), AllocError> {
-    match version {
-        1 => write!(out, "{text}{id:02x}"),
-        _ => write!(out, "{text}{id:04x}"),
-    }
-}
-
-/// Writes an address, behind this text.
-pub fn put_address(out: &mut String, text: &str, address: u64) -> Result<(), AllocError> {
-    write!(out, "{text}0x{address:x}")
-}
-
-/// Writes how long a message of this size is.
-pub fn put_length(out: &mut String, size: u8) -> Result<(), AllocError> {
-    match size {
-        0 => out.push_str("1 byte"),
-        1..=MAX_SIZE => write!(out, "{} bytes", 1u32 << size),
-        _ => write!(out, "2^{size} bytes"),
+        out.put(said_if(self.denied, ", denied"));
+        out.put(said_if(self.corrupt, ", corrupt"));
     }
 }

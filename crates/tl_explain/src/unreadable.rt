@@ -1,13 +1,14 @@
 //! A text that is no trace: its first faulty line, the place of the fault, and what was expected.
-ghost use Rattle.std.specs.Prelude.{◌≤◌, length};
 ghost use Rattle.tl_lanes.specs.Lanes.{IsWidth};
 
+use crate::page::Page;
 use std::alloc::{AllocError, Global};
-use std::fmt::Write;
 use tl_answer::at_width;
 use tl_lanes::WIDEST_POWER;
 use tl_msg::{ChA, ChB, ChC, ChD, ChE};
-use tl_trace::{Header, LONGEST_LINE, TraceFault, TraceKind, header_of_text, line_of, read};
+use tl_trace::{
+    Header, LONGEST_LINE, TraceFault, TraceKind, header_of_text, line_end, line_of, read,
+};
 
 /// How many bytes of a line are shown: as many as a line of a trace can have, so that the place of a
 /// beat's fault is one of them.
@@ -15,6 +16,9 @@ const SHOWN: usize = LONGEST_LINE;
 
 /// How many widths a bus can have: 1, and each the double of the one before.
 const WIDTHS: u32 = WIDEST_POWER + 1;
+
+/// What is expected at the end of the last line.
+const NO_END: &str = "the line has to end with a newline (LF)";
 
 /// The digits of a line.
 const DIGITS: &[u8; 16] = b"0123456789abcdef";
@@ -50,25 +54,20 @@ fn form_of(alloc: Global, letter: u8, header: &Header) -> Result<Option<Vec<u8>>
     at_width!(width, form_on::<_>(alloc, letter, header.version))
 }
 
-/// How many bytes of a text stand before its first LF.
-fn line_end(text: &[u8]) -> usize
-    ensures { result ≤ length text.now }
-{
-    match text.iter().position(|byte| *byte == b'\n') {
-        Some(end) => end,
-        None => text.len(),
-    }
-}
-
 /// The line of this number, without its LF.
 fn line_at(text: &[u8], number: u64) -> &[u8] {
     let mut rest = text;
     for _ in 1..number {
-        let end = line_end(rest);
+        let end = line_end(rest, 0);
         rest = rest.get(end.saturating_add(1)..).unwrap_or(&[]);
     }
-    let end = line_end(rest);
+    let end = line_end(rest, 0);
     &rest[..end]
+}
+
+/// The version beside this one, and the digits that an id has in it.
+fn other_version(version: u8) -> (u8, u64) {
+    if version == 1 { (2, 4) } else { (1, 2) }
 }
 
 /// A line that is to have this form, in a trace with this header.
@@ -80,19 +79,22 @@ struct FormedLine<'a> {
 }
 
 impl<'a> FormedLine<'a> {
+    /// Appends a trace of the header, the first bytes of the line, and the rest of the form behind
+    /// them.
+    fn fill(&self, text: &mut Vec<u8>, count: usize) -> Result<(), AllocError> {
+        text.extend_from_slice(self.header)?;
+        text.push(b'\n')?;
+        text.extend_from_slice(self.line.get(..count).unwrap_or(&[]))?;
+        text.extend_from_slice(self.form.get(count..).unwrap_or(&[]))?;
+        text.push(b'\n')?;
+        Ok(())
+    }
+
     /// Whether the first bytes of the line, and the rest of the form behind them, make a line of a
     /// trace.
     fn is_readable(&self, alloc: Global, count: usize) -> Result<bool, AllocError> {
         let mut text = Vec::new(alloc);
-        text.extend_from_slice(self.header)?;
-        text.push(b'\n')?;
-        if let Some(front) = self.line.get(..count) {
-            text.extend_from_slice(front)?;
-        }
-        if let Some(rest) = self.form.get(count..) {
-            text.extend_from_slice(rest)?;
-        }
-        text.push(b'\n')?;
+        self.fill(&mut text, count)?;
         let trace = read(alloc, &text);
         Ok(trace.is_ok())
     }
@@ -130,54 +132,100 @@ impl<'a> FormedLine<'a> {
 
     /// Writes that the line has another length than its form, and where it has the length of the
     /// other version, in which ids have other digits, that too.
-    fn put_lengths(&self, out: &mut String, alloc: Global) -> Result<(), AllocError> {
-        let (has, wants) = (self.line.len(), self.form.len());
-        write!(
-            out,
-            "the line has {has} characters and has to have {wants}, in the form below the mark"
-        )?;
-        let (Some(named), Some(letter)) = (header_of_text(self.header), self.line.first()) else {
-            return Ok(());
-        };
-        let (version, digits) = if named.version == 1 { (2, 4) } else { (1, 2) };
-        let other = Header { version, ..named };
-        match form_of(alloc, *letter, &other)? {
-            Some(form) if form.len() == has => write!(
-                out,
-                "; it is as long as in version {version}, where an id has {digits} digits"
-            ),
-            _ => Ok(()),
+    fn put_lengths(&self, out: &mut Page, alloc: Global) -> Result<(), AllocError> {
+        out.put_number("the line has ", self.line.len() as u64);
+        out.put_number(" characters and has to have ", self.form.len() as u64);
+        out.put(", in the form below the mark");
+        match header_of_text(self.header) {
+            Some(named) => self.put_other_version(out, alloc, named),
+            None => Ok(()),
         }
     }
 
-    /// Writes what was expected at the place of the line's fault, and gives the place.
+    /// Writes that the line has the length of the version that this header does not name, if it has.
+    fn put_other_version(
+        &self,
+        out: &mut Page,
+        alloc: Global,
+        named: Header,
+    ) -> Result<(), AllocError> {
+        let (version, digits) = other_version(named.version);
+        if self.is_as_long(alloc, &Header { version, ..named })? {
+            out.put_number("; it is as long as in version ", version as u64);
+            out.put_number(", where an id has ", digits);
+            out.put(" digits");
+        }
+        Ok(())
+    }
+
+    /// Whether the line is as long as those with its letter in a trace with this header.
+    fn is_as_long(&self, alloc: Global, header: &Header) -> Result<bool, AllocError> {
+        let Some(letter) = self.line.first() else {
+            return Ok(false);
+        };
+        match form_of(alloc, *letter, header)? {
+            Some(form) => Ok(form.len() == self.line.len()),
+            None => Ok(false),
+        }
+    }
+
+    /// Writes what was expected at this place, that of the line's fault.
     fn put_expected(
         &self,
-        out: &mut String,
+        out: &mut Page,
         alloc: Global,
         kind: TraceKind,
-    ) -> Result<usize, AllocError> {
-        let at = self.bad_place(alloc)?;
+        at: usize,
+    ) -> Result<(), AllocError> {
         match kind {
-            TraceKind::Length => self.put_lengths(out, alloc)?,
+            TraceKind::Length => self.put_lengths(out, alloc),
             TraceKind::Range => {
                 let largest = self.largest_digit(alloc, at)?;
-                write!(out, "expected a digit from 0 to {}", largest as char)?;
+                out.put("expected a digit from 0 to ");
+                out.put_char(largest as char);
+                Ok(())
             }
-            TraceKind::NoEnd => write!(out, "the line has to end with a newline (LF)")?,
-            _ if self.form.get(at) == Some(&b' ') => write!(out, "expected a space")?,
-            _ => write!(out, "expected a digit, 0 to 9 or a to f")?,
+            TraceKind::NoEnd => {
+                out.put(NO_END);
+                Ok(())
+            }
+            _ => {
+                out.put(self.expected(at));
+                Ok(())
+            }
         }
-        Ok(at)
+    }
+
+    /// What is expected at this place.
+    fn expected(&self, at: usize) -> &'static str {
+        match self.form.get(at) {
+            Some(b' ') => "expected a space",
+            _ => "expected a digit, 0 to 9 or a to f",
+        }
+    }
+
+    /// Writes what was expected, the line, with a mark below the place of its fault, and below the
+    /// mark the form, where the line has another length.
+    fn put(&self, out: &mut Page, alloc: Global, kind: TraceKind) -> Result<(), AllocError> {
+        let at = self.bad_place(alloc)?;
+        self.put_expected(out, alloc, kind, at)?;
+        put_marked(out, self.line, at);
+        if let TraceKind::Length = kind {
+            put_shown(out, self.form);
+        }
+        Ok(())
     }
 }
 
 /// How many first bytes a line has in common with a text.
 fn same_bytes(line: &[u8], text: &[u8]) -> usize {
-    line.iter()
-        .zip(text.iter())
-        .take_while(|(x, y)| *x == *y)
-        .count()
+    let most = line.len().min(text.len());
+    for at in 0..most {
+        if line[at] != text[at] {
+            return at;
+        }
+    }
+    most
 }
 
 /// How many first bytes a line has in common with a header.
@@ -197,66 +245,72 @@ fn header_place(alloc: Global, line: &[u8]) -> Result<usize, AllocError> {
 }
 
 /// Writes the widths that a header can name.
-fn put_widths(out: &mut String) -> Result<(), AllocError> {
+fn put_widths(out: &mut Page) {
     for power in 0..WIDTHS {
         let separator = match power {
             0 => "",
             7 => " or, in version 2, ",
             _ => ", ",
         };
-        write!(out, "{separator}{}", 1u32 << power)?;
+        out.put_number(separator, 1 << power);
     }
-    Ok(())
+}
+
+/// How a byte is shown: one that is no printable ASCII as a question mark.
+fn shown(byte: u8) -> char {
+    match byte {
+        32..=126 => byte as char,
+        _ => '?',
+    }
 }
 
 /// Writes the first bytes of a line, each that is no printable ASCII as a question mark.
-fn put_shown(out: &mut String, line: &[u8]) -> Result<(), AllocError> {
-    write!(out, "    ")?;
+fn put_shown(out: &mut Page, line: &[u8]) {
+    out.put("    ");
     for byte in line.get(..SHOWN).unwrap_or(line) {
-        let shown = if matches!(*byte, 32..=126) {
-            *byte
-        } else {
-            b'?'
-        };
-        out.push(shown as char)?;
+        out.put_char(shown(*byte));
     }
-    writeln!(out)
+    out.put("\n");
 }
 
-/// Writes a mark below a place.
-fn put_caret(out: &mut String, at: usize) -> Result<(), AllocError> {
-    write!(out, "    ")?;
+/// Writes a line below what was expected of it, and a mark below this place of it.
+fn put_marked(out: &mut Page, line: &[u8], at: usize) {
+    out.put("\n");
+    put_shown(out, line);
+    out.put("    ");
     for _ in 0..at.min(SHOWN) {
-        write!(out, " ")?;
+        out.put(" ");
     }
-    writeln!(out, "^")
+    out.put("^\n");
 }
 
-/// Writes what was expected of a line that has no form, and gives the place of its fault.
+/// Writes what was expected of a line that has no form, and the line, with a mark below the place of
+/// its fault.
 fn put_formless(
-    out: &mut String,
+    out: &mut Page,
     alloc: Global,
     line: &[u8],
     kind: TraceKind,
-) -> Result<usize, AllocError> {
-    match kind {
+) -> Result<(), AllocError> {
+    let at = match kind {
         TraceKind::NoEnd => {
-            write!(out, "the line has to end with a newline (LF)")?;
-            Ok(line.len())
+            out.put(NO_END);
+            line.len()
         }
         TraceKind::Channel => {
-            write!(out, "expected a channel's letter, A to E")?;
-            Ok(0)
+            out.put("expected a channel's letter, A to E");
+            0
         }
         _ => {
-            write!(
-                out,
-                "expected the header 'tilelink-trace V client C manager M', where V is the version, 1 or 2, and C and M are bytes, each "
-            )?;
-            put_widths(out)?;
-            header_place(alloc, line)
+            out.put(
+                "expected the header 'tilelink-trace V client C manager M', where V is the version, 1 or 2, and C and M are bytes, each ",
+            );
+            put_widths(out);
+            header_place(alloc, line)?
         }
-    }
+    };
+    put_marked(out, line, at);
+    Ok(())
 }
 
 /// The form of a line's channel, where the line is not the first one and its channel is known.
@@ -272,31 +326,33 @@ fn form_at(
     }
 }
 
+/// Writes the number and the name of a text's fault, what was expected, and the faulty line.
+fn put_fault(
+    out: &mut Page,
+    alloc: Global,
+    text: &[u8],
+    fault: &TraceFault,
+) -> Result<(), AllocError> {
+    let line = line_at(text, fault.line);
+    out.put_number("line ", fault.line);
+    out.put_number(": ", fault.number() as u64);
+    out.put(" ");
+    out.put(fault.name());
+    out.put(": ");
+    let Some(form) = form_at(alloc, text, fault.line, line)? else {
+        return put_formless(out, alloc, line, fault.kind);
+    };
+    let formed = FormedLine {
+        header: line_at(text, 1),
+        line,
+        form: &form,
+    };
+    formed.put(out, alloc, fault.kind)
+}
+
 /// The faulty line of a text, with a mark below the place of its fault, and what was expected there.
 pub fn show_fault(alloc: Global, text: &[u8], fault: &TraceFault) -> Result<String, AllocError> {
-    let mut out = String::new(alloc);
-    let line = line_at(text, fault.line);
-    let header = line_at(text, 1);
-    write!(
-        &mut out,
-        "line {}: {} {}: ",
-        fault.line,
-        fault.number(),
-        fault.name()
-    )?;
-    let form = form_at(alloc, text, fault.line, line)?;
-    let at = match &form {
-        Some(form) => {
-            let formed = FormedLine { header, line, form };
-            formed.put_expected(&mut out, alloc, fault.kind)?
-        }
-        None => put_formless(&mut out, alloc, line, fault.kind)?,
-    };
-    writeln!(&mut out)?;
-    put_shown(&mut out, line)?;
-    put_caret(&mut out, at)?;
-    if let (Some(form), TraceKind::Length) = (&form, fault.kind) {
-        put_shown(&mut out, form)?;
-    }
-    Ok(out)
+    let mut out = Page::new(alloc);
+    put_fault(&mut out, alloc, text, fault)?;
+    out.into_text()
 }

@@ -1,13 +1,12 @@
 //! A sending end that keeps its place in a side of the bridge when it is closed.
-ghost use Rattle.std.specs.Prelude.{◌≡◌, ◌≤◌, ◌<◌, ◌↔◌, ◌⊎◌, [], Bool, true, false, None, Some, List, length, IsOk, IsTrue, IfOk, IfErr, OnOk, OnErr};
+ghost use Rattle.std.specs.Prelude.{◌≡◌, ◌≤◌, ◌<◌, ◌↔◌, [], true, false, None, Some, List, IsOk, IsTrue, IfOk, IfErr, OnOk, OnErr};
 ghost use Rattle.tl_lanes.specs.Lanes.{IsWidth};
 ghost use Rattle.tl_msg.specs.declared.beat.BeatOf.{BeatOf};
 ghost use Rattle.tl_burst.specs.Handing.{rest_of, fault_after};
 ghost use Rattle.tl_burst.specs.Tracking.{IsPlaceOf};
-ghost use Rattle.tl_ring.specs.Crossing.{World, empty, offered, shut};
-ghost use Rattle.tl_ring.specs.declared.pipe.TheConstants.{MAX_RING};
+ghost use Rattle.tl_ring.specs.Crossing.{World, offered, shut};
 ghost use Rattle.tl_ring.specs.declared.queue.TheConstants.{ROOM};
-ghost use Rattle.tl_ring.specs.Ends.{Sends, Takes, Met, ArePair, Meets, as_pipe, closing, known_free, known_items};
+ghost use Rattle.tl_ring.specs.Ends.{Sends, Takes, Met, ArePair, Meets, as_pipe, closing};
 ghost use Rattle.tl_ring.specs.Pipe.{IsReady};
 ghost use Rattle.tl_sides.specs.Crossings.{stops_alone};
 ghost use Rattle.tl_pair.specs.Ends.{Pumps, AreStanding, pump_count, after_pump};
@@ -48,8 +47,7 @@ impl<K: Channel, const W: usize, const V: usize, A: Allocator> Sender<K, W, V, A
 
     // Whether `beat` may be the next near beat, and where it stands in its message.
     pub(crate) fn check(&self, beat: &Beat<K, W>) -> Result<Place<K>, BeatFault>
-        requires width { IsWidth W }
-        requires ready { IsReady (as_pipe self.now) }
+        requires { IsWidth W × IsReady (as_pipe self.now) }
         ensures first_fault { (x : World K.Head W V) → Sends K.rules self.now x →
             IfErr result (λ fault. fault_after K.rules x.accepted beat.now ≡ Some fault) }
         ensures place { IfOk result (IsPlaceOf K.rules W self.now.converter.burst beat.now) }
@@ -59,10 +57,8 @@ impl<K: Channel, const W: usize, const V: usize, A: Allocator> Sender<K, W, V, A
 
     // Offers a near beat at its place, which `check` gave.
     pub(crate) fn offer_at(&mut self, beat: &Beat<K, W>, place: Place<K>, home: u64)
-        requires near { IsWidth W }
-        requires far { IsWidth V }
-        requires ready { IsReady (as_pipe self.old) }
-        requires place { IsPlaceOf K.rules W self.old.converter.burst beat.now place }
+        requires { IsWidth W × IsWidth V × IsReady (as_pipe self.old)
+            × IsPlaceOf K.rules W self.old.converter.burst beat.now place }
         ensures accepted { (x : World K.Head W V) → Sends K.rules self.old x →
             Sends K.rules self.new (offered K.rules beat.now home x) }
         ensures ring { self.new.producer ≡ self.old.producer }
@@ -72,9 +68,7 @@ impl<K: Channel, const W: usize, const V: usize, A: Allocator> Sender<K, W, V, A
 
     // Offers a beat on a channel that nothing couples to another one.
     pub(crate) fn offer_alone(&mut self, beat: &Beat<K, W>) -> Result<(), SideFault>
-        requires near { IsWidth W }
-        requires far { IsWidth V }
-        requires ready { IsReady (as_pipe self.old) }
+        requires { IsWidth W × IsWidth V × IsReady (as_pipe self.old) }
         ensures admitted { (x : World K.Head W V) → Sends K.rules self.old x →
             IsOk result ↔ (stops_alone K.rules x.accepted beat.now ≡ None) }
         ensures accepted { (x : World K.Head W V) → Sends K.rules self.old x →

@@ -55,8 +55,7 @@ beat_small w width =
     let whole = up_le mask_bytes (up 1 (mask_bytes + mask_bytes + w * 1) + 1) in
     omega arith
 
--- the bytes of a beat of width w, of a queue of such beats, and of a converter to that width, where a head has s bytes, is
--- aligned to a, and lies at a multiple of x
+-- the bytes of a beat of width w, and of a queue of such beats, where a head has s bytes, is aligned to a, and lies at a multiple of x
 abbrev beat_bytes : (a x s w : ℕ) → ℕ
 beat_bytes a x s w = up (max a mask_bytes) (up 1 (up 1 (up mask_bytes (up x 0 + s) + mask_bytes) + w * 1) + 1)
 
@@ -80,26 +79,6 @@ queue_bytes a x s w =
     let m2 : ℕ = max (max a mask_bytes) 1 in
     up (max m1 8) (up 8 (up m1 0 + up m1 (up 1 (up 8 (up m2 0 + up m2 (up (max a mask_bytes) 0 + ROOM * beat_bytes a x s w)) + 8) + 0)) + 8)
 
-pub queue_fits : (head place : Ty) (w : ℕ) → size head ≤ 32 → IsWidth w →
-    queue_bytes (align head) (align place) (size head) w < 9223372036854775808
-queue_fits head place w small width =
-    let a : ℕ = align head in
-    let beat = beat_bytes-small a (align place) (size head) w (align-small head) (align-small place) small width in
-    let m1 : ℕ = max (max (max a mask_bytes) 1) 8 in
-    let m2 : ℕ = max (max a mask_bytes) 1 in
-    let ha = align-small head in
-    let items : ℕ = up (max a mask_bytes) 0 + ROOM * beat_bytes a (align place) (size head) w in
-    let one = up_le (max a mask_bytes) 0 in
-    let two = up_le m2 items in
-    let three = up_le m2 0 in
-    let four = up_le 8 (up m2 0 + up m2 items) in
-    let five = up_le 1 (up 8 (up m2 0 + up m2 items) + 8) in
-    let six = up_le m1 (up 1 (up 8 (up m2 0 + up m2 items) + 8) + 0) in
-    let seven = up_le m1 0 in
-    let eight = up_le 8 (up m1 0 + up m1 (up 1 (up 8 (up m2 0 + up m2 items) + 8) + 0)) in
-    let nine = up_le (max m1 8) (up 8 (up m1 0 + up m1 (up 1 (up 8 (up m2 0 + up m2 items) + 8) + 0)) + 8) in
-    omega arith
-
 -- one of its beats takes no more
 pub beat_in_queue : (head place : Ty) (w n : ℕ) → queue_bytes (align head) (align place) (size head) w < n →
     beat_bytes (align head) (align place) (size head) w < n
@@ -115,38 +94,4 @@ beat_in_queue head place w n small =
     let four = up-ge m1 (up 1 (up 8 (up m2 0 + up m2 items) + 8) + 0) in
     let five = up-ge 8 (up m1 0 + up m1 (up 1 (up 8 (up m2 0 + up m2 items) + 8) + 0)) in
     let six = up-ge (max m1 8) (up 8 (up m1 0 + up m1 (up 1 (up 8 (up m2 0 + up m2 items) + 8) + 0)) + 8) in
-    omega arith
-
-abbrev converter_bytes : (a x s w : ℕ) → ℕ
-converter_bytes a x s w =
-    let t2 : ℕ = max 1 (max (max (max a 4) 1) 1) in
-    let t1 : ℕ = max t2 1 in
-    up (max t1 (max 8 (max (max a mask_bytes) 1)))
-    (up (max a mask_bytes) (up 8 (up t1 0 + up t1 (up t2 0 + up t2 (max 1 (max (up (max a 4) 1 + up (max a 4) (up 4 (up x 0 + s) + 4)) 1)))) + 8) +
-    beat_bytes a x s w)
-
-pub converter_fits : (head place : Ty) (w : ℕ) → size head ≤ 32 → IsWidth w →
-    converter_bytes (align head) (align place) (size head) w < 9223372036854775808
-converter_fits head place w small width =
-    let a : ℕ = align head in
-    let x : ℕ = align place in
-    let s : ℕ = size head in
-    let ha = align-small head in
-    let hx = align-small place in
-    let beat = beat_bytes-small a x s w ha hx small width in
-    let t2 : ℕ = max 1 (max (max (max a 4) 1) 1) in
-    let t1 : ℕ = max t2 1 in
-    let body : ℕ = max 1 (max (up (max a 4) 1 + up (max a 4) (up 4 (up x 0 + s) + 4)) 1) in
-    let one = up_le x 0 in
-    let two = up_le 4 (up x 0 + s) in
-    let three = up_le (max a 4) (up 4 (up x 0 + s) + 4) in
-    let four = up_le (max a 4) 1 in
-    let five = up_le t2 body in
-    let six = up_le t2 0 in
-    let seven = up_le t1 (up t2 0 + up t2 body) in
-    let eight = up_le t1 0 in
-    let nine = up_le 8 (up t1 0 + up t1 (up t2 0 + up t2 body)) in
-    let ten = up_le (max a mask_bytes) (up 8 (up t1 0 + up t1 (up t2 0 + up t2 body)) + 8) in
-    let whole = up_le (max t1 (max 8 (max (max a mask_bytes) 1)))
-    (up (max a mask_bytes) (up 8 (up t1 0 + up t1 (up t2 0 + up t2 body)) + 8) + beat_bytes a x s w) in
     omega arith

@@ -1,9 +1,29 @@
--- The first beats of what came out of a ring.
-use Rattle.std.proofs.Common.{◌≡◌, ◌≤◌, ℕ, List, [], ◌∷◌, ◌++◌, length, take, min, ap, arith}
+-- The first beats of what goes into a ring, and of what came out of it.
+use Rattle.std.proofs.Common.{◌≡◌, ◌≤◌, ◌<◌, ◌+◌, ℕ, List, [], ◌∷◌, ◌++◌, length, take, min, ap, sym, ◌∙◌, arith, ⊎_elim, length-append}
 use Rattle.std.specs.Prelude.{All}
+use Rattle.std.proofs.lemmas.Bool.{cases_lt}
 use Rattle.std.proofs.lemmas.List.{length-take, take-append-le}
 use Rattle.std.proofs.lemmas.List.Elements.{All-append, All-replicate, All-nil}
+use Rattle.std.proofs.Math.Seq.{take-append_seam}
 use Rattle.rtrb.specs.Fifo.{Allowed}
+
+-- what went in of a slice is its first items
+pub front_pushed : {X : Type 0} (before after front back whole : List X) → front ++ back ≡ whole → after ≡ before ++ front →
+    after ≡ before ++ take (length front) whole
+front_pushed before after front back whole parts pushed =
+    pushed ∙ ap (λ l. before ++ l) (sym (take-append_seam front back) ∙ ap (λ l. take (length front) l) parts)
+
+-- no more than there are, and no fewer than were known to find a place, where no place is left beside a rest
+pub most_pushed : {X : Type 0} (front back whole : List X) → front ++ back ≡ whole → length front ≤ length whole
+most_pushed front back whole parts = let all = sym (length-append front back) ∙ ap length parts in omega (arith, all)
+
+pub least_pushed : {X : Type 0} (front back whole : List X) (before after : ℕ) → front ++ back ≡ whole → before ≤ after + length front →
+    (0 < length back → after ≡ 0) → min (length whole) before ≤ length front
+least_pushed front back whole before after parts known full =
+    let all = sym (length-append front back) ∙ ap length parts in ⊎_elim
+    (λ rest. let none = full rest in omega (arith, all, none))
+    (λ no_rest. omega (arith, all))
+    (cases_lt 0 (length back))
 
 -- each of them is as the ring's protocol says, where that looks at no other
 pub all_allowed : {X : Type 0} (P : X → Type 0) (before xs : List X) → Allowed (λ earlier x. P x) before xs → All P xs

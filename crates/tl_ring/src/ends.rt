@@ -6,11 +6,11 @@ ghost use Rattle.tl_msg.specs.declared.beat.BeatOf.{BeatOf};
 ghost use Rattle.tl_burst.specs.Handing.{IsAdmitted, rest_of, fault_after};
 ghost use Rattle.tl_burst.specs.Tracking.{IsPlaceOf};
 ghost use Rattle.tl_ring.specs.Crossing.{World, offered, shut, inbox_room};
-ghost use Rattle.tl_ring.specs.Ends.{Sends, Takes, Pushed, Fetched, Met, Shows, Shown, LookedAfter, IsReceiptOf, IsReceiptFor, Finishes, known_free, known_items, ArePair, passed, closing, took_first};
+ghost use Rattle.tl_ring.specs.Ends.{Sends, Takes, Pushed, Fetched, Shows, Shown, LookedAfter, IsReceiptOf, IsReceiptFor, Finishes, known_free, known_items, passed, closing, took_first};
 ghost use Rattle.tl_ring.specs.declared.queue.TheConstants.{ROOM};
 
 use crate::fault::EndFault;
-use crate::lawful::{LawfulAt, push_front};
+use crate::lawful::LawfulAt;
 use crate::queue::{Queue, ROOM};
 use crate::stage::stage_beat;
 use rtrb::{Consumer, Finished, Producer};
@@ -146,7 +146,8 @@ impl<K: Channel, const W: usize, const V: usize, A: Allocator> SendEnd<K, W, V, 
         ensures stands { (x : World K.Head W V) → Sends K.rules self.old x →
             Sends K.rules self.new (passed result x) }
     {
-        let count = push_front(&mut self.producer, self.stage.as_slice());
+        let (pushed, _) = self.producer.push_partial_slice(self.stage.as_slice());
+        let count = pushed.len();
         self.stage.drop_front(count);
         count
     }
@@ -224,8 +225,10 @@ impl<K: Channel, const W: usize, const V: usize, A: Allocator> ClosingEnd<K, W, 
             stage: _,
             producer,
         } = end;
-        let finished = producer.finish()?;
-        Some(Receipt { finished })
+        match producer.finish() {
+            Some(finished) => Some(Receipt { finished }),
+            None => None,
+        }
     }
 }
 

@@ -31,10 +31,9 @@ pub(crate) fn stage_beat<K: Channel, const W: usize, const V: usize>(
     home: u64,
     stage: &mut Queue<Beat<K, V>>,
 )
-    requires near { IsWidth W }
-    requires far { IsWidth V }
-    requires place { IsPlaceOf K.rules W converter.old.burst beat.now place }
-    requires empty { stage.old ≡ [] }
+    // (one clause, since the checker states each by itself at each call)
+    requires { IsWidth W × IsWidth V × IsPlaceOf K.rules W converter.old.burst beat.now place ×
+        (stage.old ≡ []) }
     ensures beat { IsBeat K.rules beat.now }
     ensures home { K.rules.lane_address beat.now.head home < 2 ^ 64 }
     ensures stands { (bs : List (BeatOf K.Head W)) (homes : List ℕ) →

@@ -13,12 +13,12 @@ run_sync_into-requires g c = (lit< tt, (c.requires.client, (c.requires.manager, 
 pub returns-clause-text : goal.returns-clause-text
 returns-clause-text g c =
     let bs = near_beats c.args.script in
-    let ending = c.in-Ok-run_sync_into.ensures.ending in
-    let far = c.into_answer.ensures.text (far_beats bs) c.in-Ok-run_sync_into.ensures.far in
-    let version : _ = c.in-Ok-run_sync_into.ensures.same ∙ c.in-Ok.ensures.version in
-    subst (λ v. IfOk c.into_answer.result (λ made. spelled made ≡ far_header v g.row.C g.row.M ++ far_lines v (far_beats bs) ++ report (verdicts bs))) version
-    (subst (λ vs. IfOk c.into_answer.result (λ made. spelled made ≡ far_header c.in-Ok-run_sync_into.new.far.version g.row.C g.row.M ++
-    far_lines c.in-Ok-run_sync_into.new.far.version (far_beats bs) ++ report vs)) ending.verdicts_are far)
+    let ended = c.in-Ok-run_sync_into.ending.verdicts in
+    subst (λ vs. IfOk c.into_answer.result (λ made. spelled made ≡ far_header c.args.version g.row.C g.row.M ++ far_lines c.args.version (far_beats bs) ++ report vs))
+    c.in-Ok-run_sync_into.ensures.ending.verdicts_are
+    (subst (λ v. IfOk c.into_answer.result (λ made. spelled made ≡ far_header v g.row.C g.row.M ++ far_lines v (far_beats bs) ++ report ended))
+    (c.in-Ok-run_sync_into.ensures.same ∙ c.in-Ok.ensures.version)
+    (c.into_answer.ensures.text (far_beats bs) c.in-Ok-run_sync_into.ensures.far))
 
 pub returns-clause-done : goal.returns-clause-done
 returns-clause-done g c =

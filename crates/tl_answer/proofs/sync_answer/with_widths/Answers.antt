@@ -1,5 +1,6 @@
 use Rattle.std.specs.Prelude.{IfOk}
-use Rattle.std.proofs.Common.{lit<, subst, sym, ◌∙◌, arith}
+use Rattle.std.proofs.Common.{lit<, ap, subst, sym, ◌∙◌, arith}
+use Rattle.tl_settle.specs.Outcomes.{verdicts}
 use Rattle.tl_bridge.specs.Scripts.{near_beats}
 use Rattle.tl_answer.specs.Texts.{IsAnswer}
 use Rattle.tl_answer.proofs.Answering.{settled-text, checks-text, of-both, near-is}
@@ -16,7 +17,7 @@ returns-then-check-clause-ok g c =
     let told = c.in-Ok.ensures.told in
     subst (λ check. IfOk c.check_script.result (λ made. IsAnswer c.args.text.now check made.text.items made.all_done)) (sym c.if-check.true)
     (of-both _ _ _ (λ made text-is done-is. checks-text c.args.version g.row.C g.row.M told.lines c.args.text.now told.told
-    (near_beats c.in-Ok.script) (near-is told.lines _ told.script) made.text.items text-is made.all_done done-is)
+    (verdicts (near_beats c.in-Ok.script)) (ap (λ bs. verdicts bs) (near-is told.lines _ told.script)) made.text.items text-is made.all_done done-is)
     c.check_script.result c.check_script.ensures.text c.check_script.ensures.done)
 
 pub sync_answer_of-requires : goal.sync_answer_of-requires

@@ -1,4 +1,4 @@
-use Rattle.std.proofs.Common.{rules, inl, ◌<◌, ◌^◌, sym, ap, subst, ◌∙◌}
+use Rattle.std.proofs.Common.{lit<, inl, ◌<◌, ◌^◌, sym, ap, subst, ◌∙◌}
 use Rattle.tl_ring.proofs.FieldSizes.{beat_small}
 use Rattle.tl_bridge.specs.Scripts.{near_beats}
 use Rattle.tl_bridge.specs.Inner.Sides.{none_ready}
@@ -13,7 +13,7 @@ take_each-requires g c =
     (client_small g.row.C g.row.M c.requires.client c.requires.manager, (beat_small g.row.C c.requires.client, (beat_small g.row.C c.requires.client, (c.requires.client, (ready.room_b, ready.room_d)))))
 
 pub turn-played-requires : goal.turn-played-requires
-turn-played-requires g c = (client_small g.row.C g.row.M c.requires.client c.requires.manager, (search rules, (c.requires.client, (c.requires.manager, c.requires.ready.few))))
+turn-played-requires g c = (client_small g.row.C g.row.M c.requires.client c.requires.manager, (lit< tt, (c.requires.client, (c.requires.manager, c.requires.ready.few))))
 
 pub returns-then-not-played : goal.returns-then-not-played
 returns-then-not-played g c =
@@ -35,7 +35,7 @@ pub turn-last-requires : goal.turn-last-requires
 turn-last-requires g c =
     let ready = c.requires.ready in
     let k = c.turns.invariant.0.is_at ready.j ready.m ready.es none_ready ready.is_at ready.due in
-    (client_small g.row.C g.row.M c.requires.client c.requires.manager, (search rules, (c.requires.client, (c.requires.manager, record { a = few-enough k.a_sent.most c.requires.short.few_a; b = subst (λ q. q < 2 ^ 41) (sym c.turns.invariant.2) ready.few.b; c = few-enough k.c_sent.most c.requires.short.few_c; d = subst (λ q. q < 2 ^ 41) (sym c.turns.invariant.3) ready.few.d; e = few-enough k.e_sent.most c.requires.short.few_e }))))
+    (client_small g.row.C g.row.M c.requires.client c.requires.manager, (lit< tt, (c.requires.client, (c.requires.manager, record { a = few-enough k.a_sent.most c.requires.short.few_a; b = subst (λ q. q < 2 ^ 41) (sym c.turns.invariant.2) ready.few.b; c = few-enough k.c_sent.most c.requires.short.few_c; d = subst (λ q. q < 2 ^ 41) (sym c.turns.invariant.3) ready.few.d; e = few-enough k.e_sent.most c.requires.short.few_e }))))
 
 pub turns-preserved : goal.turns-preserved
 turns-preserved g c = let i = c.turns.invariant in (

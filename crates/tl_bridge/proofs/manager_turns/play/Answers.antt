@@ -1,4 +1,4 @@
-use Rattle.std.proofs.Common.{rules, inl, ◌<◌, ◌^◌, sym, ap, subst, ◌∙◌}
+use Rattle.std.proofs.Common.{lit<, inl, ◌<◌, ◌^◌, sym, ap, subst, ◌∙◌}
 use Rattle.tl_ring.proofs.FieldSizes.{beat_small}
 use Rattle.tl_bridge.specs.Scripts.{near_beats}
 use Rattle.tl_bridge.specs.Inner.Sides.{none_ready}
@@ -13,7 +13,7 @@ take_each-requires g c =
     (manager_small g.row.C g.row.M c.requires.client c.requires.manager, (beat_small g.row.M c.requires.manager, (beat_small g.row.M c.requires.manager, (beat_small g.row.M c.requires.manager, (c.requires.manager, (ready.room_a, (ready.room_c, ready.room_e)))))))
 
 pub turn-played-requires : goal.turn-played-requires
-turn-played-requires g c = (manager_small g.row.C g.row.M c.requires.client c.requires.manager, (search rules, (c.requires.client, (c.requires.manager, c.requires.ready.few))))
+turn-played-requires g c = (manager_small g.row.C g.row.M c.requires.client c.requires.manager, (lit< tt, (c.requires.client, (c.requires.manager, c.requires.ready.few))))
 
 pub returns-then-not-played : goal.returns-then-not-played
 returns-then-not-played g c =
@@ -36,7 +36,7 @@ pub turn-last-requires : goal.turn-last-requires
 turn-last-requires g c =
     let ready = c.requires.ready in
     let k = c.turns.invariant.0.is_at ready.i ready.m ready.es none_ready ready.is_at ready.due in
-    (manager_small g.row.C g.row.M c.requires.client c.requires.manager, (search rules, (c.requires.client, (c.requires.manager, record { a = subst (λ q. q < 2 ^ 41) (sym c.turns.invariant.2) ready.few.a; b = few-enough k.b_sent.most c.requires.short.few_b; c = subst (λ q. q < 2 ^ 41) (sym c.turns.invariant.3) ready.few.c; d = few-enough k.d_sent.most c.requires.short.few_d; e = subst (λ q. q < 2 ^ 41) (sym c.turns.invariant.4) ready.few.e }))))
+    (manager_small g.row.C g.row.M c.requires.client c.requires.manager, (lit< tt, (c.requires.client, (c.requires.manager, record { a = subst (λ q. q < 2 ^ 41) (sym c.turns.invariant.2) ready.few.a; b = few-enough k.b_sent.most c.requires.short.few_b; c = subst (λ q. q < 2 ^ 41) (sym c.turns.invariant.3) ready.few.c; d = few-enough k.d_sent.most c.requires.short.few_d; e = subst (λ q. q < 2 ^ 41) (sym c.turns.invariant.4) ready.few.e }))))
 
 pub turns-preserved : goal.turns-preserved
 turns-preserved g c = let i = c.turns.invariant in (

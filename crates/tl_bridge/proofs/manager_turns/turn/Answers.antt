@@ -1,4 +1,4 @@
-use Rattle.std.proofs.Common.{◌+◌, sym, ap, subst, ◌∙◌, rules}
+use Rattle.std.proofs.Common.{◌+◌, sym, ap, subst, ◌∙◌, lit<}
 use Rattle.tl_ring.specs.Ends.{Takes}
 use Rattle.tl_pair.specs.Sides.{manager_pumps}
 use Rattle.tl_bridge.specs.Scripts.{near_beats}
@@ -12,7 +12,7 @@ use Rattle.tl_bridge.proofs.SideSizes.{manager_small}
 use Rattle.tl_bridge.proofs.manager_turns.turn.Goals as goal
 
 pub offer_each-offers-requires : goal.offer_each-offers-requires
-offer_each-offers-requires g c = (manager_small g.row.C g.row.M c.requires.client c.requires.manager, (search rules, (c.requires.client, c.requires.manager)))
+offer_each-offers-requires g c = (manager_small g.row.C g.row.M c.requires.client c.requires.manager, (lit< tt, (c.requires.client, c.requires.manager)))
 
 pub pump-pumped-requires : goal.pump-pumped-requires
 pump-pumped-requires g c = manager_small g.row.C g.row.M c.requires.client c.requires.manager

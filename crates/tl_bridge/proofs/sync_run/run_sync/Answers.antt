@@ -1,25 +1,21 @@
 use Rattle.std.proofs.Common.{lit<, refl}
-use Rattle.tl_bridge.specs.Scripts.{near_beats}
 use Rattle.tl_sides.proofs.BridgeSize.{bridge_small}
+use Rattle.tl_bridge.proofs.OnlyMemory.{not-for-size, not-stalled}
 use Rattle.tl_bridge.proofs.sync_run.run_sync.Goals as goal
 
 pub new-requires : goal.new-requires
 new-requires g c = (bridge_small g.row.C g.row.M c.requires.client c.requires.manager, (c.requires.client, c.requires.manager))
 
-pub run_rounds-requires : goal.run_rounds-requires
-run_rounds-requires g c = (
+pub run_to_lists-requires : goal.run_to_lists-requires
+run_to_lists-requires g c = (
   bridge_small g.row.C g.row.M c.requires.client c.requires.manager,
-  (
-    lit< tt,
-    (
-      c.requires.client,
-      (
-        c.requires.manager,
-        (c.requires.short, (lit< tt, ((c.args.ring, (c.in-Ok.ensures.size refl).0, c.in-Ok.ensures.new), c.in-Ok-new.ensures.empty))),
-      ),
-    ),
-  ),
+  (lit< tt, (lit< tt, (c.requires.client, (c.requires.manager, (c.requires.short, (c.args.ring, (c.in-Ok.ensures.size refl).0, c.in-Ok.ensures.new)))))),
 )
 
-pub returns-clause-outcome : goal.returns-clause-outcome
-returns-clause-outcome g c = c.into_outcome.ensures (near_beats c.args.script.now) c.in-Ok-run_rounds.ensures.ending c.in-Ok-run_rounds.ensures.far
+pub returns : goal.returns
+returns g c = record {
+  outcome = c.run_to_lists.ensures.outcome;
+  size = λ made. c.in-Ok.ensures.size refl;
+  ring_size = not-for-size c.run_to_lists.result c.args.ring (c.in-Ok.ensures.size refl) c.run_to_lists.ensures.memory;
+  never_stalled = not-stalled c.run_to_lists.result c.run_to_lists.ensures.memory;
+}

@@ -1,4 +1,4 @@
-use Rattle.std.proofs.Common.{rules, lit<, ◌+◌, ◌^◌, ◌<◌, ◌≤◌, refl, sym, subst, ◌∙◌, arith, zero-le, ⊎_elim}
+use Rattle.std.proofs.Common.{lit<, ◌+◌, ◌^◌, ◌<◌, ◌≤◌, refl, sym, subst, ◌∙◌, arith, zero-le, ⊎_elim}
 use Rattle.tl_bridge.specs.Scripts.{near_beats}
 use Rattle.tl_bridge.specs.Inner.Arriving.{beats_of, taken_of}
 use Rattle.tl_bridge.specs.Inner.Running.{AllStop}
@@ -34,8 +34,8 @@ rounds-init g c = record {
   few = zero-le;
 }
 
-pub round-played-requires : goal.round-played-requires
-round-played-requires g c = (search rules, (search rules, (client_run_small g.row.C g.row.M c.requires.client c.requires.manager, (manager_run_small g.row.C g.row.M c.requires.client c.requires.manager, (lit< tt, (c.requires.client, (c.requires.manager, (c.requires.short, (c.rounds.invariant.room, c.rounds.invariant.met)))))))))
+pub round-played-requires-after_bounds : goal.round-played-requires-after_bounds
+round-played-requires-after_bounds g c = λ κs bounds. (client_run_small g.row.C g.row.M c.requires.client c.requires.manager, (manager_run_small g.row.C g.row.M c.requires.client c.requires.manager, (lit< tt, (c.requires.client, (c.requires.manager, (c.requires.short, (c.rounds.invariant.room, c.rounds.invariant.met)))))))
 
 pub overflow_add-rounds : goal.overflow_add-rounds
 overflow_add-rounds g c =

@@ -1,40 +1,39 @@
-use Rattle.std.proofs.Common.{rules, lit<}
+use Rattle.std.proofs.Common.{lit<}
 use Rattle.tl_bridge.specs.Scripts.{near_beats}
 use Rattle.tl_bridge.proofs.Meeting.{both-played, client-may, manager-may}
 use Rattle.tl_bridge.proofs.SideSizes.{client_small, manager_small, client_run_small, manager_run_small}
 use Rattle.tl_pair.proofs.SameSides.{still_sides}
 use Rattle.tl_bridge.proofs.thread_rounds.round.Goals as goal
 
-pub play_both-requires : goal.play_both-requires
-play_both-requires g c = (search rules, (search rules, (client_run_small g.row.C g.row.M c.requires.client c.requires.manager, (manager_run_small g.row.C g.row.M c.requires.client c.requires.manager, (lit< tt, (c.requires.client, (c.requires.manager, (c.requires.short, (client-may c.requires.client c.requires.manager (near_beats c.args.script.now) c.requires.short c.args.at.now c.args.client.now c.args.manager.now c.requires.met c.requires.room, manager-may c.requires.client c.requires.manager (near_beats c.args.script.now) c.requires.short c.args.at.now c.args.client.now c.args.manager.now c.requires.met c.requires.room)))))))))
+pub play_both-requires-after_bounds : goal.play_both-requires-after_bounds
+play_both-requires-after_bounds g c = λ κs bounds. (client_run_small g.row.C g.row.M c.requires.client c.requires.manager, (manager_run_small g.row.C g.row.M c.requires.client c.requires.manager, (lit< tt, (c.requires.client, (c.requires.manager, (c.requires.short, (client-may c.requires.client c.requires.manager (near_beats c.args.script.now) c.requires.short c.args.at.now c.args.client.now c.args.manager.now c.requires.met c.requires.room, manager-may c.requires.client c.requires.manager (near_beats c.args.script.now) c.requires.short c.args.at.now c.args.client.now c.args.manager.now c.requires.met c.requires.room)))))))
 
 pub meet_sides-standings-requires : goal.meet_sides-standings-requires
 meet_sides-standings-requires g c = (client_small g.row.C g.row.M c.requires.client c.requires.manager, (manager_small g.row.C g.row.M c.requires.client c.requires.manager, still_sides c.args.client.now.side c.play_both.new.client.side c.args.manager.now.side c.play_both.new.manager.side c.play_both.ensures.client.goes.same c.play_both.ensures.manager.goes.same c.requires.met.sides))
 
-pub returns-clause-round : goal.returns-clause-round
-returns-clause-round g c =
-    both-played c.requires.client c.requires.manager (near_beats c.args.script.now) c.args.at.now c.args.client.now c.args.manager.now c.requires.met c.play_both.new.client c.play_both.new.manager
-    c.play_both.result.0 c.play_both.result.1 c.play_both.ensures.client c.play_both.ensures.manager c.meet_sides-standings.new.client c.meet_sides-standings.new.manager
-    c.meet_sides-standings.result
-    (record {
-      a = c.meet_sides-standings.ensures.a;
-      b = c.meet_sides-standings.ensures.b;
-      c = c.meet_sides-standings.ensures.c;
-      d = c.meet_sides-standings.ensures.d;
-      e = c.meet_sides-standings.ensures.e;
-      in_a = c.meet_sides-standings.ensures.standing_a;
-      in_b = c.meet_sides-standings.ensures.standing_b;
-      in_c = c.meet_sides-standings.ensures.standing_c;
-      in_d = c.meet_sides-standings.ensures.standing_d;
-      in_e = c.meet_sides-standings.ensures.standing_e;
-    })
-    c.meet_sides-standings.ensures.meets c.either.result c.either.ensures.0
-
-pub returns-clause-capacity : goal.returns-clause-capacity
-returns-clause-capacity g c = record {
-  a = c.play_both.ensures.manager.capacity_a;
-  b = c.play_both.ensures.client.capacity_b;
-  c = c.play_both.ensures.manager.capacity_c;
-  d = c.play_both.ensures.client.capacity_d;
-  e = c.play_both.ensures.manager.capacity_e;
+pub returns : goal.returns
+returns g c = record {
+  round = both-played c.requires.client c.requires.manager (near_beats c.args.script.now) c.args.at.now c.args.client.now c.args.manager.now c.requires.met c.play_both.new.client c.play_both.new.manager
+      c.play_both.result.0 c.play_both.result.1 c.play_both.ensures.client c.play_both.ensures.manager c.meet_sides-standings.new.client c.meet_sides-standings.new.manager
+      c.meet_sides-standings.result
+      (record {
+        a = c.meet_sides-standings.ensures.a;
+        b = c.meet_sides-standings.ensures.b;
+        c = c.meet_sides-standings.ensures.c;
+        d = c.meet_sides-standings.ensures.d;
+        e = c.meet_sides-standings.ensures.e;
+        in_a = c.meet_sides-standings.ensures.standing_a;
+        in_b = c.meet_sides-standings.ensures.standing_b;
+        in_c = c.meet_sides-standings.ensures.standing_c;
+        in_d = c.meet_sides-standings.ensures.standing_d;
+        in_e = c.meet_sides-standings.ensures.standing_e;
+      })
+      c.meet_sides-standings.ensures.meets c.either.result c.either.ensures.0;
+  capacity = record {
+    a = c.play_both.ensures.manager.capacity_a;
+    b = c.play_both.ensures.client.capacity_b;
+    c = c.play_both.ensures.manager.capacity_c;
+    d = c.play_both.ensures.client.capacity_d;
+    e = c.play_both.ensures.manager.capacity_e;
+  };
 }

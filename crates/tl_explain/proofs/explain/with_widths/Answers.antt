@@ -1,8 +1,8 @@
 use Rattle.std.proofs.Common.{◌∙◌, ◌++◌, List, ap, subst, arith}
 use Rattle.tl_trace.specs.declared.line.Line.{Line}
 use Rattle.tl_bridge.specs.Scripts.{EndsIn}
-use Rattle.tl_answer.specs.Answer.{ends, near}
-use Rattle.tl_answer.proofs.Answering.{answers-check, near-is}
+use Rattle.tl_answer.specs.Answer.{near}
+use Rattle.tl_answer.proofs.Answering.{checks-text, near-is}
 use Rattle.tl_answer.proofs.Lengths.{lines-few, short}
 use Rattle.tl_explain.proofs.explain.with_widths.Goals as goal
 
@@ -18,15 +18,8 @@ returns-clause-ok g c = record {
   sentences = c.into_bytes-text.result.items;
   answer = c.in_ok-answer.answer.text.items;
   ends = c.in_ok-extend_from_slice.ensures.items ∙ ap (λ text. c.into_bytes-text.result.items ++ text) c.deref.ensures.value;
-  answered = record {
-    version = c.args.version;
-    client = g.row.C;
-    manager = g.row.M;
-    lines = lines;
-    told = c.in_ok-script.ensures.told.told;
-    answers = answers-check c.args.version g.row.C g.row.M lines c.in_ok-outcome.outcome.verdicts ended.verdicts_are _
-        (c.in_ok-answer.ensures.text (ends g.row.C g.row.M lines) ended.verdicts_are) _ c.in_ok-answer.ensures.done;
-  };
+  answered = checks-text c.args.version g.row.C g.row.M lines _ c.in_ok-script.ensures.told.told c.in_ok-outcome.outcome.verdicts ended.verdicts_are _
+      c.in_ok-answer.ensures.text _ c.in_ok-answer.ensures.done;
 }
   where
     lines : List Line

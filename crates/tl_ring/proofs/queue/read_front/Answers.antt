@@ -1,4 +1,4 @@
-use Rattle.std.proofs.Common.{◌++◌, length, append-nil, append_assoc, length-append, rules, refl, sym, ap, arith}
+use Rattle.std.proofs.Common.{◌++◌, length, append-nil, append_assoc, length-append, refl, sym, ap, arith}
 use Rattle.std.proofs.lemmas.List.{length-take}
 use Rattle.tl_ring.proofs.Moves.{take_of_two, take_of_first}
 use Rattle.tl_ring.proofs.queue.read_front.Goals.{then-from_front-count, else-from_front-count}
@@ -20,7 +20,7 @@ slice_bounds-append-end g c = simp length-take (omega (arith, c.min-from_front.e
 
 pub append-requires : goal.append-requires
 append-requires g c = (
-  let known = c.requires-raw in let c = known in search rules,
+  c.requires-raw.1.1.0,
   simp length-take (omega (arith, c.requires.room, c.min-from_front.ensures)),
 )
 
@@ -34,7 +34,7 @@ slice_bounds-append-length g c =
 
 pub append-requires-then-from_front-count : goal.append-requires-then-from_front-count
 append-requires-then-from_front-count g c = (
-  let known = c.requires-raw in let c = known in search rules,
+  c.requires-raw.1.1.0,
   simp (c.append.ensures, length-append, length-take) (omega (arith, c.requires.room, c.min-from_front.ensures)),
 )
 

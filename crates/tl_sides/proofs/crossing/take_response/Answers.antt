@@ -6,23 +6,38 @@ use Rattle.tl_sides.specs.Books.{KnowsClient}
 use Rattle.tl_sides.proofs.BridgeSteps.{lawful_head, some_taken, none_taken, answered_taken}
 use Rattle.tl_sides.proofs.crossing.take_response.Goals as goal
 
+pub take-requires : goal.take-requires
+take-requires g c = (c.requires-raw.1.1.1.1.0, c.requires-raw.1.1.1.1.1.0)
+
+pub branch-beat-requires : goal.branch-beat-requires
+branch-beat-requires g c κs = search rules
+
+pub from_residual-requires : goal.from_residual-requires
+from_residual-requires g c κs = search rules
+
 pub note_answer-requires : goal.note_answer-requires
-note_answer-requires g c = (search rules, (c.requires.far, lawful_head rules_d c.in_ok-beat.beat c.in_ok-beat.ensures.lawful))
+note_answer-requires g c = (c.requires-raw.1.1.1.0, (c.requires.far, lawful_head rules_d c.in_ok-beat.beat c.in_ok-beat.ensures.lawful))
 
-pub returns-in_err-beat-clause-taken : goal.returns-in_err-beat-clause-taken
-returns-in_err-beat-clause-taken g c = λ es x k.
-    let none = none_taken x.inbox (ap (λ q. slice_get q 0) (sym k.stands.inbox) ∙ sym c.in_err-beat.ensures.beat) in
-    record {
-      knows = subst (λ q. KnowsClient c.args.book.now q) (sym (append-nil es) ∙ ap (λ q. es ++ map Answer q) (sym none)) k.knows;
-      stands = c.take.ensures.taken x k.stands;
-      same = answered_taken es x.inbox ∙ ap (λ q. q ++ take 1 x.inbox) k.same;
-    }
+pub returns-in_err-beat : goal.returns-in_err-beat
+returns-in_err-beat g c = record {
+  beat = c.from_residual.ensures ∙ c.in_err-beat.ensures.beat;
+  taken = λ es x k.
+      let none = none_taken x.inbox (ap (λ q. slice_get q 0) (sym k.stands.inbox) ∙ sym c.in_err-beat.ensures.beat) in
+      record {
+        knows = subst (λ q. KnowsClient c.args.book.now q) (sym (append-nil es) ∙ ap (λ q. es ++ map Answer q) (sym none)) k.knows;
+        stands = c.take.ensures.taken x k.stands;
+        same = answered_taken es x.inbox ∙ ap (λ q. q ++ take 1 x.inbox) k.same;
+      };
+}
 
-pub returns-clause-taken : goal.returns-clause-taken
-returns-clause-taken g c = λ es x k.
-    let some = some_taken x.inbox c.in_ok-beat.beat (ap (λ q. slice_get q 0) (sym k.stands.inbox) ∙ sym c.in_ok-beat.ensures.beat) in
-    record {
-      knows = subst (λ q. KnowsClient c.note_answer.new.self q) (ap (λ q. es ++ map Answer q) (sym some)) (c.note_answer.ensures es c.in_ok-beat.beat k.knows refl);
-      stands = c.take.ensures.taken x k.stands;
-      same = answered_taken es x.inbox ∙ ap (λ q. q ++ take 1 x.inbox) k.same;
-    }
+pub returns : goal.returns
+returns g c = record {
+  beat = c.in_ok-beat.ensures.beat;
+  taken = λ es x k.
+      let some = some_taken x.inbox c.in_ok-beat.beat (ap (λ q. slice_get q 0) (sym k.stands.inbox) ∙ sym c.in_ok-beat.ensures.beat) in
+      record {
+        knows = subst (λ q. KnowsClient c.note_answer.new.self q) (ap (λ q. es ++ map Answer q) (sym some)) (c.note_answer.ensures es c.in_ok-beat.beat k.knows refl);
+        stands = c.take.ensures.taken x k.stands;
+        same = answered_taken es x.inbox ∙ ap (λ q. q ++ take 1 x.inbox) k.same;
+      };
+}

@@ -22,7 +22,7 @@ answer-requires g c = search (part_small (manager_layout g.row.C g.row.M g.row.A
 pub offer_at-requires : goal.offer_at-requires
 offer_at-requires g c =
     let ready = rw (← c.self.view_is) at c.requires.ready in
-    (search (part_small (manager_layout g.row.C g.row.M g.row.A g.A.Allocator) 3 9223372036854775808), (beat_small g.row.M c.requires.near, (c.requires.near, (c.requires.far, (ready, c.in_ok-place.ensures.place)))))
+    (search (part_small (manager_layout g.row.C g.row.M g.row.A g.A.Allocator) 3 9223372036854775808), (beat_small g.row.M c.requires.near, (c.requires.near, c.requires.far, ready, c.in_ok-place.ensures.place)))
 
 pub returns-in_err-place : goal.returns-in_err-place
 returns-in_err-place g c =

@@ -2,17 +2,27 @@ use Rattle.std.proofs.Common.{refl, sym, ◌∙◌}
 use Rattle.tl_ring.proofs.EndSteps.{shows_of}
 use Rattle.tl_ring.proofs.ends.ClosingEnd.finish.Goals as goal
 
-pub returns-clause-receipt : goal.returns-clause-receipt
-returns-clause-receipt g c = rw (← c.self.view_is, ← c.end.view_is) c.in_ok-finished.ensures
+pub returns-in-Some-clause-receipt : goal.returns-in-Some-clause-receipt
+returns-in-Some-clause-receipt g c = rw (← c.self.view_is, ← c.end.view_is) c.in-Some.ensures
 
 -- whoever is a pair with this end reads what the receipt shows
-pub returns-clause-taker : goal.returns-clause-taker
-returns-clause-taker g c =
-    let same = c.in_ok-finished.ensures.0 in
+pub returns-in-Some-clause-taker : goal.returns-in-Some-clause-taker
+returns-in-Some-clause-taker g c =
+    let same = c.in-Some.ensures.0 in
     rw (← c.self.view_is, ← c.end.view_is) (λ t pair. (pair.0 ∙ sym same.0, pair.1 ∙ sym same.1, pair.2 ∙ sym same.2, pair.3 ∙ sym same.3))
 
-pub returns-clause-shows : goal.returns-clause-shows
-returns-clause-shows g c = λ x h.
+pub returns-in-Some-clause-shows : goal.returns-in-Some-clause-shows
+returns-in-Some-clause-shows g c = λ x h.
     let stands = rw (← c.self.view_is, ← c.end.view_is) at h in
     let none_staged = rw (← c.self.view_is, ← c.end.view_is) at c.requires in
-    shows_of g.K.Channel.rules _ _ x c.in_ok-finished.ensures none_staged refl stands
+    shows_of g.K.Channel.rules _ _ x c.in-Some.ensures none_staged refl stands
+
+-- without a receipt nothing is promised
+pub returns-clause-receipt : goal.returns-clause-receipt
+returns-clause-receipt g c = tt
+
+pub returns-clause-taker : goal.returns-clause-taker
+returns-clause-taker g c = tt
+
+pub returns-clause-shows : goal.returns-clause-shows
+returns-clause-shows g c = λ x h. tt

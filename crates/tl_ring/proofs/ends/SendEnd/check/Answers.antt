@@ -1,14 +1,4 @@
-use denote.Memory.{lone}
-use denote.Param.{layout, param, number, copied}
-use Rattle.tl_ring.specs.contracts.ends.SendEnd.{the_row}
-use Rattle.tl_ring.proofs.FieldSizes.{part_small, beat_fits}
 use Rattle.tl_ring.proofs.ends.SendEnd.check.Goals as goal
-
-pub check-requires : goal.check-requires
-check-requires g c = (
-  search (part_small (layout (the_row (param 0 g.row.K) (param 1 (number g.row.W)) (param 2 (number g.row.V)) (param 3 g.row.A) (copied 4 g.row.K-Head) g.K.Channel g.K.Head.Clone g.K.Head.Eq g.K.Head.PartialEq g.K.Head.Default g.A.Allocator)) 0 9223372036854775808),
-  (beat_fits (lone g.row.K-Head.mir) (layout g.row.K-Head) g.row.W g.met.K.Channel.head_small c.requires, c.requires),
-)
 
 pub returns-clause-admitted : goal.returns-clause-admitted
 returns-clause-admitted g c = λ x h. let stands = rw (← c.self.view_is) at h in c.check.ensures.admitted x.accepted x.homes stands.pipe.converter

@@ -1,7 +1,8 @@
 use denote.Memory.{lone}
-use denote.Param.{layout}
+use denote.Param.{layout, param, number, copied}
+use Rattle.tl_ring.specs.contracts.pipe.SyncPipe.{the_row}
 use Rattle.tl_convert.proofs.FeedStep.{is-handed}
-use Rattle.tl_ring.proofs.FieldSizes.{beat_fits, queue_fits, converter_fits}
+use Rattle.tl_ring.proofs.FieldSizes.{part_small, beat_in_queue}
 use Rattle.tl_ring.proofs.PipeSteps.{stands_offered}
 use Rattle.tl_ring.proofs.pipe.SyncPipe.offer_at.Goals as goal
 
@@ -9,12 +10,11 @@ pub stage_beat-requires : goal.stage_beat-requires
 stage_beat-requires g c =
     let place = rw (← c.self.view_is) at c.requires.place in
     let ready = rw (← c.self.view_is) at c.requires.ready in
-    let head = lone g.row.K-Head.mir in
-    let at = layout g.row.K-Head in
-    let small = g.met.K.Channel.head_small in (
-      converter_fits head at g.row.V small c.requires.far,
-      (beat_fits head at g.row.W small c.requires.near, (queue_fits head at g.row.V small c.requires.far, (beat_fits head at g.row.V small c.requires.far, (c.requires.near, (c.requires.far, (place, ready.0)))))),
-    )
+    let row = layout (the_row (param 0 g.row.K) (param 1 (number g.row.W)) (param 2 (number g.row.V)) (param 3 g.row.A) (copied 4 g.row.K-Head) g.K.Channel g.K.Head.PartialEq g.K.Head.Default g.A.Allocator) in
+    let whole = c.requires-raw.1.1.1.1.1.0 in
+    let stage = part_small row 1 9223372036854775808 whole in
+    let beat = beat_in_queue (lone g.row.K-Head.mir) (layout g.row.K-Head) g.row.V 9223372036854775808 stage in
+    (part_small row 0 9223372036854775808 whole, (c.requires-raw.1.1.1.1.1.1.0, (stage, (beat, (c.requires.near, c.requires.far, place, ready.0)))))
 
 pub returns : goal.returns
 returns g c = λ x h.

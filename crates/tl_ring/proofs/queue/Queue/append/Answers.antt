@@ -8,23 +8,23 @@ use Rattle.tl_ring.proofs.queue.Queue.append.Goals.{then-more-len, else-more-len
 
 -- the items are a part of the queue, and take no more memory
 pub len-requires : goal.len-requires
-len-requires g c = let known = c.requires-raw in let c = known in search (part_small (layout (the_row (copied 0 g.row.T))) 0 9223372036854775808)
+len-requires g c = part_small (layout (the_row (copied 0 g.row.T))) 0 9223372036854775808 c.requires-raw.1.0
 
 pub cut_front-requires : goal.cut_front-requires
 cut_front-requires g c = (
-  let known = c.requires-raw in let c = known in search (part_small (layout (the_row (copied 0 g.row.T))) 0 9223372036854775808),
+  part_small (layout (the_row (copied 0 g.row.T))) 0 9223372036854775808 c.requires-raw.1.0,
   c.self.invariant,
 )
 
 pub push-requires : goal.push-requires
 push-requires g c = (
-  let known = c.requires-raw in let c = known in search (part_small (layout (the_row (copied 0 g.row.T))) 0 9223372036854775808),
+  part_small (layout (the_row (copied 0 g.row.T))) 0 9223372036854775808 c.requires-raw.1.0,
   search rules,
 )
 
 pub try_extend_from_slice-requires : goal.try_extend_from_slice-requires
 try_extend_from_slice-requires g c =
-    let known = c.requires-raw in let c = known in search (part_small (layout (the_row (copied 0 g.row.T))) 0 9223372036854775808)
+    part_small (layout (the_row (copied 0 g.row.T))) 0 9223372036854775808 c.requires-raw.1.0
 
 pub overflow_sub-len : goal.overflow_sub-len
 overflow_sub-len g c = c.len.ensures.fits

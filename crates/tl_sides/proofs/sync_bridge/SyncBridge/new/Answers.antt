@@ -36,81 +36,47 @@ new_books-requires g c =
     let known = c.requires-raw in
     (let c = known in search (part_small (bridge_layout g.row.C g.row.M g.row.A g.A.Allocator) 5 9223372036854775808), let c = known in search (part_small (bridge_layout g.row.C g.row.M g.row.A g.A.Allocator) 6 9223372036854775808))
 
-pub returns-clause-new : goal.returns-clause-new
-returns-clause-new g c = record {
-  a = c.in-Ok.ensures.new c.requires.client c.requires.manager;
-  b = c.in-Ok-over.ensures.new c.requires.manager c.requires.client;
-  c = c.in-Ok-over-2.ensures.new c.requires.client c.requires.manager;
-  d = c.in-Ok-over-3.ensures.new c.requires.manager c.requires.client;
-  e = c.in-Ok-over-4.ensures.new c.requires.client c.requires.manager;
-  client_asked = refl;
-  client_answered = refl;
-  manager_asked = refl;
-  manager_answered = refl;
-  homes = refl;
-  client = c.in-Ok-new_books.ensures.client;
-  manager = c.in-Ok-new_books.ensures.manager;
+pub returns : goal.returns
+returns g c = record {
+  new = record {
+    a = c.in-Ok.ensures.new c.requires.client c.requires.manager;
+    b = c.in-Ok-over.ensures.new c.requires.manager c.requires.client;
+    c = c.in-Ok-over-2.ensures.new c.requires.client c.requires.manager;
+    d = c.in-Ok-over-3.ensures.new c.requires.manager c.requires.client;
+    e = c.in-Ok-over-4.ensures.new c.requires.client c.requires.manager;
+    client_asked = refl;
+    client_answered = refl;
+    manager_asked = refl;
+    manager_answered = refl;
+    homes = refl;
+    client = c.in-Ok-new_books.ensures.client;
+    manager = c.in-Ok-new_books.ensures.manager;
+  };
+  size = λ made. c.in-Ok.ensures.size refl;
+  ring_size = tt;
 }
 
-pub returns-in-Err-clause-new : goal.returns-in-Err-clause-new
-returns-in-Err-clause-new g c = tt
+pub returns-in-Err : goal.returns-in-Err
+returns-in-Err g c = record { new = tt; size = λ made. absurd (false≢true made); ring_size = c.in-Err.ensures.ring_size }
 
-pub returns-in-Err-clause-size : goal.returns-in-Err-clause-size
-returns-in-Err-clause-size g c = λ made. absurd (false≢true made)
+pub returns-in-Err-over : goal.returns-in-Err-over
+returns-in-Err-over g c = record { new = tt; size = λ made. absurd (false≢true made); ring_size = c.in-Err-over.ensures.ring_size }
 
-pub returns-in-Err-clause-ring_size : goal.returns-in-Err-clause-ring_size
-returns-in-Err-clause-ring_size g c = c.in-Err.ensures.ring_size
+pub returns-in-Err-over-2 : goal.returns-in-Err-over-2
+returns-in-Err-over-2 g c = record { new = tt; size = λ made. absurd (false≢true made); ring_size = c.in-Err-over-2.ensures.ring_size }
 
-pub returns-in-Err-over-clause-new : goal.returns-in-Err-over-clause-new
-returns-in-Err-over-clause-new g c = tt
+pub returns-in-Err-over-3 : goal.returns-in-Err-over-3
+returns-in-Err-over-3 g c = record { new = tt; size = λ made. absurd (false≢true made); ring_size = c.in-Err-over-3.ensures.ring_size }
 
-pub returns-in-Err-over-clause-size : goal.returns-in-Err-over-clause-size
-returns-in-Err-over-clause-size g c = λ made. absurd (false≢true made)
+pub returns-in-Err-over-4 : goal.returns-in-Err-over-4
+returns-in-Err-over-4 g c = record { new = tt; size = λ made. absurd (false≢true made); ring_size = c.in-Err-over-4.ensures.ring_size }
 
-pub returns-in-Err-over-clause-ring_size : goal.returns-in-Err-over-clause-ring_size
-returns-in-Err-over-clause-ring_size g c = c.in-Err-over.ensures.ring_size
-
-pub returns-in-Err-over-2-clause-new : goal.returns-in-Err-over-2-clause-new
-returns-in-Err-over-2-clause-new g c = tt
-
-pub returns-in-Err-over-2-clause-size : goal.returns-in-Err-over-2-clause-size
-returns-in-Err-over-2-clause-size g c = λ made. absurd (false≢true made)
-
-pub returns-in-Err-over-2-clause-ring_size : goal.returns-in-Err-over-2-clause-ring_size
-returns-in-Err-over-2-clause-ring_size g c = c.in-Err-over-2.ensures.ring_size
-
-pub returns-in-Err-over-3-clause-new : goal.returns-in-Err-over-3-clause-new
-returns-in-Err-over-3-clause-new g c = tt
-
-pub returns-in-Err-over-3-clause-size : goal.returns-in-Err-over-3-clause-size
-returns-in-Err-over-3-clause-size g c = λ made. absurd (false≢true made)
-
-pub returns-in-Err-over-3-clause-ring_size : goal.returns-in-Err-over-3-clause-ring_size
-returns-in-Err-over-3-clause-ring_size g c = c.in-Err-over-3.ensures.ring_size
-
-pub returns-in-Err-over-4-clause-new : goal.returns-in-Err-over-4-clause-new
-returns-in-Err-over-4-clause-new g c = tt
-
-pub returns-in-Err-over-4-clause-size : goal.returns-in-Err-over-4-clause-size
-returns-in-Err-over-4-clause-size g c = λ made. absurd (false≢true made)
-
-pub returns-in-Err-over-4-clause-ring_size : goal.returns-in-Err-over-4-clause-ring_size
-returns-in-Err-over-4-clause-ring_size g c = c.in-Err-over-4.ensures.ring_size
-
-pub returns-in_default-clause-new : goal.returns-in_default-clause-new
-returns-in_default-clause-new g c = tt
-
-pub returns-in_default-clause-size : goal.returns-in_default-clause-size
-returns-in_default-clause-size g c = λ made. absurd (false≢true made)
-
-pub returns-in_default-clause-ring_size : goal.returns-in_default-clause-ring_size
-returns-in_default-clause-ring_size g c = (λ same. absurd (cc), λ none. absurd (ring_size_only c.args.ring (c.in-Ok.ensures.size refl) none))
-
-pub returns-clause-size : goal.returns-clause-size
-returns-clause-size g c = λ made. c.in-Ok.ensures.size refl
-
-pub returns-clause-ring_size : goal.returns-clause-ring_size
-returns-clause-ring_size g c = tt
+pub returns-in_default : goal.returns-in_default
+returns-in_default g c = record {
+  new = tt;
+  size = λ made. absurd (false≢true made);
+  ring_size = (λ same. absurd (cc), λ none. absurd (ring_size_only c.args.ring (c.in-Ok.ensures.size refl) none));
+}
 
 pub drop-a-inside-requires : goal.drop-a-inside-requires
 drop-a-inside-requires g c κs = dropped κs.0 κs.1.0 g.row.A.lives

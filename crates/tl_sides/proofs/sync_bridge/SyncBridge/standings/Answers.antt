@@ -17,17 +17,11 @@ standing-requires-4 g c = search (part_small (bridge_layout g.row.C g.row.M g.ro
 pub standing-requires-5 : goal.standing-requires-5
 standing-requires-5 g c = search (part_small (bridge_layout g.row.C g.row.M g.row.A g.A.Allocator) 4 9223372036854775808)
 
-pub returns-clause-a : goal.returns-clause-a
-returns-clause-a g c = rw (← c.self.view_is) (record { staged = c.standing.ensures.staged; in_ring = c.standing.ensures.in_ring; inbox = c.standing.ensures.inbox })
-
-pub returns-clause-b : goal.returns-clause-b
-returns-clause-b g c = rw (← c.self.view_is) (record { staged = c.standing-2.ensures.staged; in_ring = c.standing-2.ensures.in_ring; inbox = c.standing-2.ensures.inbox })
-
-pub returns-clause-c : goal.returns-clause-c
-returns-clause-c g c = rw (← c.self.view_is) (record { staged = c.standing-3.ensures.staged; in_ring = c.standing-3.ensures.in_ring; inbox = c.standing-3.ensures.inbox })
-
-pub returns-clause-d : goal.returns-clause-d
-returns-clause-d g c = rw (← c.self.view_is) (record { staged = c.standing-4.ensures.staged; in_ring = c.standing-4.ensures.in_ring; inbox = c.standing-4.ensures.inbox })
-
-pub returns-clause-e : goal.returns-clause-e
-returns-clause-e g c = rw (← c.self.view_is) (record { staged = c.standing-5.ensures.staged; in_ring = c.standing-5.ensures.in_ring; inbox = c.standing-5.ensures.inbox })
+pub returns : goal.returns
+returns g c = rw (← c.self.view_is) (record {
+  a = record { staged = c.standing.ensures.staged; in_ring = c.standing.ensures.in_ring; inbox = c.standing.ensures.inbox };
+  b = record { staged = c.standing-2.ensures.staged; in_ring = c.standing-2.ensures.in_ring; inbox = c.standing-2.ensures.inbox };
+  c = record { staged = c.standing-3.ensures.staged; in_ring = c.standing-3.ensures.in_ring; inbox = c.standing-3.ensures.inbox };
+  d = record { staged = c.standing-4.ensures.staged; in_ring = c.standing-4.ensures.in_ring; inbox = c.standing-4.ensures.inbox };
+  e = record { staged = c.standing-5.ensures.staged; in_ring = c.standing-5.ensures.in_ring; inbox = c.standing-5.ensures.inbox };
+})

@@ -1,0 +1,9 @@
+use Rattle.std.proofs.Common.{lit<}
+use Rattle.tl_sides.proofs.BridgeSize.{bridge_small}
+use Rattle.tl_bridge.proofs.sync_run.run_ahead.Goals as goal
+
+pub run_rounds-requires : goal.run_rounds-requires
+run_rounds-requires g c = (
+  bridge_small g.row.C g.row.M c.requires.client c.requires.manager,
+  (lit< tt, (c.requires.client, (c.requires.manager, (c.requires.short, (lit< tt, (c.requires.new, c.requires.empty)))))),
+)

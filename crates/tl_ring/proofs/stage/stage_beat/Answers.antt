@@ -1,0 +1,48 @@
+use Rattle.std.proofs.Common.{arith}
+use denote.Param.{layout, param, number, copied}
+use Rattle.tl_msg.specs.contracts.beat.BeatOf as beat
+use Rattle.tl_ring.specs.contracts.queue.Queue.{the_row}
+use Rattle.tl_ring.proofs.FieldSizes.{part_small}
+use Rattle.tl_ring.proofs.stage.stage_beat.Goals as goal
+
+pub is_beat-requires : goal.is_beat-requires
+is_beat-requires g c = c.requires-raw.1.1.1.1.1.0
+
+pub remove_all-requires-room-T-Clone : goal.remove_all-requires-room-T-Clone
+remove_all-requires-room-T-Clone g c κs within = c.requires-raw.1.1.1.1.1.1.1.0
+
+pub remove_all-requires-room-T-Default : goal.remove_all-requires-room-T-Default
+remove_all-requires-room-T-Default g c κs within = c.requires-raw.1.1.1.1.1.1.1.0
+
+pub remove_all-requires : goal.remove_all-requires
+remove_all-requires g c = part_small (layout (the_row (beat.the_row (copied 3 g.row.K-Head) (param 2 (number g.row.V))))) 0 9223372036854775808 c.requires-raw.1.1.1.1.1.1.0
+
+pub feed_at-requires : goal.feed_at-requires
+feed_at-requires g c = (
+  c.requires-raw.1.1.1.1.0,
+  (
+    c.requires-raw.1.1.1.1.1.0,
+    (
+      part_small (layout (the_row (beat.the_row (copied 3 g.row.K-Head) (param 2 (number g.row.V))))) 0 9223372036854775808 c.requires-raw.1.1.1.1.1.1.0,
+      (c.requires-raw.1.1.1.1.1.1.1.0, (c.requires.0, (c.requires.1, (c.requires.2, c.remove_all.ensures)))),
+    ),
+  ),
+)
+
+pub invariant_of-stage : goal.invariant_of-stage
+invariant_of-stage g c = omega arith
+
+pub returns-clause-beat : goal.returns-clause-beat
+returns-clause-beat g c = c.is_beat.ensures.beat
+
+pub returns-clause-home : goal.returns-clause-home
+returns-clause-home g c = c.is_beat.ensures.home
+
+pub returns-clause-stands : goal.returns-clause-stands
+returns-clause-stands g c = c.feed_at.ensures.stands
+
+pub returns-clause-due : goal.returns-clause-due
+returns-clause-due g c = c.feed_at.ensures.due
+
+pub returns-clause-lawful : goal.returns-clause-lawful
+returns-clause-lawful g c = c.feed_at.ensures.lawful
