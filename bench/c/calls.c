@@ -164,7 +164,7 @@ static void messages(void) {
     CHECK(CALL(open)(&bridge, 5) == TL_OK);
     for (int i = 0; i < 400; i++) {
         uint8_t size = (uint8_t)(draw(16) ? draw(8) : draw(13));
-        uint16_t source = draw_id();
+        tl_id source = draw_id();
         uint64_t address = draw((uint64_t)1 << 40) << size;
         /* a request, whose source stays busy until its response is taken */
         draw_message(&m, A, source, size, address);
@@ -271,7 +271,7 @@ static void random_calls(int count) {
         beat.opcode = (uint8_t)draw(9);
         beat.param = (uint8_t)(draw(4) ? 0 : draw(8));
         beat.size = (uint8_t)(draw(2) ? 3 : draw(14));
-        beat.source = (uint16_t)(draw(2) + 256 * draw(2));
+        beat.source = (tl_id)(draw(2) + 256 * draw(2));
         beat.sink = draw_id();
         beat.denied = (uint8_t)(draw(4) == 0);
         beat.corrupt = (uint8_t)(draw(8) == 0);

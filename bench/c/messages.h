@@ -62,8 +62,8 @@ static void lay_out(const message *m, int x, int width, int at, tl_beat *beat, u
     }
 }
 
-static uint16_t draw_id(void) {
-    return (uint16_t)draw(65536);
+static tl_id draw_id(void) {
+    return (tl_id)draw((uint64_t)1 << 8 * sizeof(tl_id));
 }
 
 /* Sets the mask bits of the first lanes of a beat. */
@@ -78,7 +78,7 @@ static bool has_one_lane(const tl_beat *beat, int lane) {
 }
 
 /* A lawful message on channel x; one of a response has the source, size and home that are given. */
-static void draw_message(message *m, int x, uint16_t source, uint8_t size, uint64_t home) {
+static void draw_message(message *m, int x, tl_id source, uint8_t size, uint64_t home) {
     static const uint8_t opcodes[5][8] = {{0, 1, 2, 3, 4, 5, 6, 7}, {0, 1, 2, 3, 4, 5, 6, 7}, {0, 1, 2, 4, 5, 6, 7, 7}, {0, 1, 2, 4, 5, 0, 1, 5}, {0}};
     static const int params[4][8] = {{1, 1, 5, 4, 1, 2, 3, 3}, {1, 1, 5, 4, 1, 2, 3, 3}, {1, 1, 1, 1, 6, 6, 6, 6}, {1, 1, 1, 1, 3, 3, 1, 1}};
     memset(m, 0, sizeof *m);

@@ -390,7 +390,7 @@ static void draw_lists(int messages) {
     for (int i = 0; i < messages; i++) {
         uint8_t size = (uint8_t)(draw(64) ? draw(6) : draw(10));
         /* four of them differ in their two highest bits alone */
-        uint16_t source = (uint16_t)(i % 4 + 0x4000 * (i % SOURCES / 4));
+        tl_id source = (tl_id)(i % 4 + 0x4000 * (i % SOURCES / 4));
         uint64_t address = draw((uint64_t)1 << 40) << size;
         for (int x = A; x < CHANNELS; x++) {
             draw_message(&m, x, x == A || x == D ? source : draw_id(), size, address);

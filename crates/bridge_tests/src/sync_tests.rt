@@ -3,6 +3,7 @@
 use crate::beats::{data, get};
 use linked_list_allocator::LocalHeap;
 use std::alloc::Global;
+use std::process::Abort;
 use std::test::Fail;
 use tl_bridge::{Standings, SyncBridge};
 use tl_lanes::Mask;
@@ -152,20 +153,30 @@ const CALLS: [(Call, Said); 15] = [
     (Call::TakeAnswer, Said::Nothing),
 ];
 
+fn play_all<R: Abort>(rt: &R, bridge: &mut SyncBridge<4, 16>) {
+    for (number, (call, wanted)) in CALLS.iter().enumerate() {
+        assert!(*rt; play(bridge, *call) == *wanted, "call {number}");
+    }
+}
+
 #[test]
 fn a_request_and_its_response(rt: HostRuntime) -> Result<(), Fail> {
     let mut bridge = build(rt.alloc(), 4)?;
-    for (number, (call, wanted)) in CALLS.iter().enumerate() {
-        assert!(rt; play(&mut bridge, *call) == *wanted, "call {number}");
-    }
+    play_all(&rt, &mut bridge);
+    drop(bridge);
     Ok(())
+}
+
+fn answer_with_a_fault<R: Abort>(rt: &R, bridge: &mut SyncBridge<4, 16>) {
+    let fault = Some(Err(SideFault::Beat(BeatFault::Opcode)));
+    assert!(*rt; answer(bridge, data(3, 2, 0x11, LANES)) == fault);
 }
 
 #[test]
 fn a_faulty_beat_of_a_free_source(rt: HostRuntime) -> Result<(), Fail> {
     let mut bridge = build(rt.alloc(), 4)?;
-    let fault = Some(Err(SideFault::Beat(BeatFault::Opcode)));
-    assert!(rt; answer(&mut bridge, data(3, 2, 0x11, LANES)) == fault);
+    answer_with_a_fault(&rt, &mut bridge);
+    drop(bridge);
     Ok(())
 }
 
@@ -214,15 +225,20 @@ fn all_taken(bridge: &mut SyncBridge<4, 16>) -> bool {
     block.head == BLOCK.head && ack.head == ACK && sink.head == SINK.head
 }
 
+fn cross_on_the_others<R: Abort>(rt: &R, bridge: &mut SyncBridge<4, 16>) {
+    assert!(*rt; all_offered(bridge));
+    assert!(*rt; bridge.pump() == 3);
+    assert!(*rt; bridge.fetch() == 3);
+    assert!(*rt; bridge.standings().c.inbox == 1);
+    assert!(*rt; all_taken(bridge));
+    assert!(*rt; bridge.standings() == Standings::default());
+}
+
 #[test]
 fn probes_releases_and_acknowledgements(rt: HostRuntime) -> Result<(), Fail> {
     let mut bridge = build(rt.alloc(), 1)?;
-    assert!(rt; all_offered(&mut bridge));
-    assert!(rt; bridge.pump() == 3);
-    assert!(rt; bridge.fetch() == 3);
-    assert!(rt; bridge.standings().c.inbox == 1);
-    assert!(rt; all_taken(&mut bridge));
-    assert!(rt; bridge.standings() == Standings::default());
+    cross_on_the_others(&rt, &mut bridge);
+    drop(bridge);
     Ok(())
 }
 
@@ -260,7 +276,9 @@ fn closed(bridge: &mut SyncBridge<4, 16>) -> [bool; 5] {
 #[test]
 fn closed_channels_are_not_ready(rt: HostRuntime) -> Result<(), Fail> {
     let mut bridge = build(rt.alloc(), 1)?;
-    assert!(rt; closed(&mut bridge) == [true; 5]);
+    let are_closed = closed(&mut bridge);
+    drop(bridge);
+    assert!(rt; are_closed == [true; 5]);
     Ok(())
 }
 
@@ -321,13 +339,19 @@ fn answer_across(bridge: &mut SyncBridge<4, 4>, response: Beat<ChD, 4>) -> Optio
     bridge.take_d()
 }
 
+/// Asks twice by one source, and answers each time.
+fn use_twice<R: Abort>(rt: &R, bridge: &mut SyncBridge<4, 4>) {
+    for &(address, byte) in &[(0, 0x11), (4, 0x22)] {
+        let (request, response) = (get(1, address), data(1, 2, 1, [byte; 4]));
+        assert!(*rt; ask_across(bridge, request) == Some(request));
+        assert!(*rt; answer_across(bridge, response) == Some(response));
+    }
+}
+
 #[test]
 fn a_source_used_twice(rt: HostRuntime) -> Result<(), Fail> {
     let mut bridge = SyncBridge::<4, 4>::new(rt.alloc(), 1)?;
-    for (address, byte) in [(0, 0x11), (4, 0x22)] {
-        let (request, response) = (get(1, address), data(1, 2, 1, [byte; 4]));
-        assert!(rt; ask_across(&mut bridge, request) == Some(request));
-        assert!(rt; answer_across(&mut bridge, response) == Some(response));
-    }
+    use_twice(&rt, &mut bridge);
+    drop(bridge);
     Ok(())
 }

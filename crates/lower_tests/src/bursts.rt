@@ -66,10 +66,14 @@ fn fault_on_d(tracker: &Tracker<ChD, 4>, head: HeadD, corrupt: bool) -> Option<B
 
 /// Goes on by a beat of A, and answers its index and whether it is the last one of its burst.
 fn passed(tracker: &mut Tracker<ChA, 4>, head: HeadA, corrupt: bool) -> Option<(u32, bool)> {
-    let place = tracker.check(&beat(head, 15, corrupt)).ok()?;
-    let found = (place.index, place.last);
-    tracker.advance(place);
-    Some(found)
+    match tracker.check(&beat(head, 15, corrupt)) {
+        Ok(place) => {
+            let found = (place.index, place.last);
+            tracker.advance(place);
+            Some(found)
+        }
+        Err(_) => None,
+    }
 }
 
 /// A tracker of D after the first beat of a message.
@@ -114,6 +118,9 @@ fn first_faults_on_a(rt: HostRuntime) {
     }
 }
 
+/// The opcode and param of a beat on D, and its fault as the first one.
+const FIRST_ON_D: [(u8, u8, BeatFault); 3] = [(3, 0, Opcode), (7, 0, Opcode), (5, 3, Param)];
+
 #[test]
 fn first_faults_elsewhere(rt: HostRuntime) {
     let intent = HeadB {
@@ -127,7 +134,7 @@ fn first_faults_elsewhere(rt: HostRuntime) {
         ..HeadC::default()
     };
     assert!(rt; fault_on_c(reserved) == Some(Opcode));
-    for (opcode, param, fault) in [(3, 0, Opcode), (7, 0, Opcode), (5, 3, Param)] {
+    for &(opcode, param, fault) in &FIRST_ON_D {
         let head = d(opcode, param, 2);
         assert!(rt;
             fault_on_d(&Tracker::new(), head, false) == Some(fault),

@@ -65,19 +65,22 @@ fn response<const W: usize>(size: u8, lanes: [u8; W], corrupt: bool) -> Beat<ChD
     }
 }
 
+/// The first byte of each beat of a response of 64 bytes, and the first byte of the far beat that it gives, with its corrupt bit.
+const WIDENED: [(u8, Option<(u8, bool)>); 8] = [
+    (0, None),
+    (8, None),
+    (16, None),
+    (24, Some((0, true))),
+    (32, None),
+    (40, None),
+    (48, None),
+    (56, Some((32, false))),
+];
+
 #[test]
 fn widened_response(rt: HostRuntime) {
     let mut converter = Converter::<ChD, 8, 32>::new();
-    for (first, far) in [
-        (0, None),
-        (8, None),
-        (16, None),
-        (24, Some((0, true))),
-        (32, None),
-        (40, None),
-        (48, None),
-        (56, Some((32, false))),
-    ] {
+    for &(first, far) in &WIDENED {
         let near = response(6, counting(first), first == 16);
         let home = if first == 0 { 0x100 } else { 0x999 };
         let is_given = match far {
@@ -95,7 +98,7 @@ fn widened_response(rt: HostRuntime) {
 #[test]
 fn narrowed_response(rt: HostRuntime) {
     let mut converter = Converter::<ChD, 32, 8>::new();
-    for (first, corrupt) in [(0, true), (32, false)] {
+    for &(first, corrupt) in &[(0, true), (32, false)] {
         let far = [
             response(6, counting(first), corrupt),
             response(6, counting(first + 8), corrupt),

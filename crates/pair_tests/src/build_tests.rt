@@ -15,10 +15,10 @@ fn refusal(heap: &LocalHeap, ring: usize) -> Option<BuildFault> {
 fn a_ring_has_1_to_4096_beats(rt: HostRuntime) -> Result<(), Fail> {
     let heap = LocalHeap::new(rt.alloc(), 0)?;
     for ring in [0, 4097] {
-        assert_eq!(rt; refusal(&heap, ring), Some(BuildFault::RingSize));
+        assert!(rt; refusal(&heap, ring) == Some(BuildFault::RingSize));
     }
     for ring in [1, 4096] {
-        assert_eq!(rt; refusal(&heap, ring), Some(BuildFault::OutOfMemory));
+        assert!(rt; refusal(&heap, ring) == Some(BuildFault::OutOfMemory));
     }
     Ok(())
 }
@@ -29,16 +29,16 @@ fn a_ring_has_1_to_4096_beats(rt: HostRuntime) -> Result<(), Fail> {
 fn each_refused_growth_is_out_of_memory(rt: HostRuntime) -> Result<(), Fail> {
     for size in 0..4096usize {
         let heap = LocalHeap::new(rt.alloc(), 16 * size)?;
-        assert_eq!(rt; refusal(&heap, 16), Some(BuildFault::OutOfMemory));
-        assert_eq!(rt; heap.used(), 0);
+        assert!(rt; refusal(&heap, 16) == Some(BuildFault::OutOfMemory));
+        assert!(rt; heap.used() == 0);
     }
     let mut fault = None;
     for size in 2..40usize {
         let heap = LocalHeap::new(rt.alloc(), 0x8000 * size)?;
         fault = refusal(&heap, 16);
         assert!(rt; fault != Some(BuildFault::RingSize));
-        assert_eq!(rt; heap.used(), 0);
+        assert!(rt; heap.used() == 0);
     }
-    assert_eq!(rt; fault, None);
+    assert!(rt; fault == None);
     Ok(())
 }

@@ -3,6 +3,8 @@
 
 ghost use Rattle.tl_pair.specs.Sides.{AreSides, SameClient, SameManager};
 
+use crate::let_go;
+use std::process::Abort;
 use std::test::Fail;
 use tl_lanes::Mask;
 use tl_msg::{Beat, BeatFault, BeatOf, ChA, ChD, HeadA, HeadD, SideFault};
@@ -173,15 +175,20 @@ const CALLS: [(Call, Said); 16] = [
     (Call::TakeAnswer, Said::Nothing),
 ];
 
+/// Plays these calls, one after another.
+fn play_all<R: Abort>(rt: &R, client: &mut ClientSide<4, 16>, manager: &mut ManagerSide<4, 16>)
+    requires { AreSides client.old manager.old }
+{
+    for &(call, wanted) in &CALLS {
+        assert!(*rt; play_and_meet(client, manager, call) == wanted, "{call:?}");
+    }
+}
+
 #[test]
 fn a_request_and_its_response(rt: HostRuntime) -> Result<(), Fail> {
     let (mut client, mut manager) = bridge::<4, 16, _>(rt.alloc(), 4)?;
-    for (call, wanted) in CALLS {
-        assert!(rt;
-            play_and_meet(&mut client, &mut manager, call) == wanted,
-            "{call:?}"
-        );
-    }
+    play_all(&rt, &mut client, &mut manager);
+    let_go(client, manager);
     Ok(())
 }
 
@@ -213,13 +220,19 @@ fn answer_across(
     client.take_d()
 }
 
+/// Asks twice by one source, and answers each time.
+fn use_twice<R: Abort>(rt: &R, client: &mut ClientSide<4, 4>, manager: &mut ManagerSide<4, 4>) {
+    for &(address, byte) in &[(0, 0x11), (4, 0x22)] {
+        let (request, response) = (get(address), data(1, 2, [byte; 4]));
+        assert!(*rt; ask_across(client, manager, request) == Some(request));
+        assert!(*rt; answer_across(client, manager, response) == Some(response));
+    }
+}
+
 #[test]
 fn a_source_used_twice(rt: HostRuntime) -> Result<(), Fail> {
     let (mut client, mut manager) = bridge::<4, 4, _>(rt.alloc(), 1)?;
-    for (address, byte) in [(0, 0x11), (4, 0x22)] {
-        let (request, response) = (get(address), data(1, 2, [byte; 4]));
-        assert!(rt; ask_across(&mut client, &mut manager, request) == Some(request));
-        assert!(rt; answer_across(&mut client, &mut manager, response) == Some(response));
-    }
+    use_twice(&rt, &mut client, &mut manager);
+    let_go(client, manager);
     Ok(())
 }

@@ -7,6 +7,7 @@ ghost use Rattle.tl_ring.specs.Ends.{ArePair, SameSend, SameTake, IsReceiptFor};
 use crate::values::{ack, at};
 use arrayvec::ArrayVec;
 use std::alloc::Global;
+use std::process::Abort;
 use std::test::Fail;
 use std::thread::{join, join_mut};
 use tl_msg::{ChE, SinkId};
@@ -94,6 +95,27 @@ fn in_order(sinks: &ArrayVec<SinkId, 200>) -> bool {
             .all(|(place, sink)| place == *sink as usize)
 }
 
+/// Sends what two threads did not, after the sinks that they offered, until all were taken.
+fn bring_the_rest<R: Abort>(
+    rt: &R,
+    send: &mut SendEnd<ChE, 4, 8>,
+    take: &mut TakeEnd<ChE, 4, 8>,
+    sinks: &mut ArrayVec<SinkId, 200>,
+    offered: SinkId,
+)
+    requires { ArePair send.old take.old }
+{
+    let mut next = offered;
+    for _ in 0..1_000 {
+        next = send_and_take(send, take, sinks, next);
+        if sinks.is_full() {
+            break;
+        }
+    }
+    assert!(*rt; in_order(sinks));
+    assert!(*rt; meet(send, take) == at(0, 0, 0));
+}
+
 #[test]
 fn two_threads_lose_nothing(rt: HostRuntime) -> Result<(), Fail> {
     let (mut send, mut take) = ring_pair::<ChE, 4, 8, Global>(rt.alloc(), 4)?;
@@ -104,15 +126,7 @@ fn two_threads_lose_nothing(rt: HostRuntime) -> Result<(), Fail> {
         &mut || take_all(&mut take, &mut sinks, 1_000_000),
     );
     meet(&mut send, &mut take);
-    let mut next = offered;
-    for _ in 0..1_000 {
-        next = send_and_take(&mut send, &mut take, &mut sinks, next);
-        if sinks.is_full() {
-            break;
-        }
-    }
-    assert!(rt; in_order(&sinks));
-    assert!(rt; meet(&mut send, &mut take) == at(0, 0, 0));
+    bring_the_rest(&rt, &mut send, &mut take, &mut sinks, offered);
     Ok(())
 }
 

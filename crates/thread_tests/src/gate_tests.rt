@@ -1,5 +1,3 @@
-#![tactic(auto, using(tl_lanes::proofs::Widths::width_4))]
-
 use crate::runs::{Ending, run_text};
 use crate::texts::SOURCE_USED_TWICE;
 use std::hint::spin_loop;
@@ -60,7 +58,7 @@ fn both_sides_work_at_the_same_time(rt: HostRuntime) -> Result<(), Fail> {
         panic!(rt; "the runs differ");
     };
     assert!(rt; !client.missed && !manager.missed);
-    assert_eq!(rt; there.load(Ordering::SeqCst), rounds);
-    assert_eq!(rt; back.load(Ordering::SeqCst), rounds);
+    assert!(rt; there.load(Ordering::SeqCst) == rounds);
+    assert!(rt; back.load(Ordering::SeqCst) == rounds);
     Ok(())
 }

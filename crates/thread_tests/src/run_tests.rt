@@ -1,8 +1,3 @@
-#![tactic(auto, using(tl_lanes::proofs::Widths::width_1, tl_lanes::proofs::Widths::width_4, tl_lanes::proofs::Widths::width_8, tl_lanes::proofs::Widths::width_64, tl_lanes::proofs::Widths::width_128))]
-
-ghost use Rattle.std.specs.Prelude.{◌≤◌};
-ghost use Rattle.tl_lanes.specs.Lanes.{IsWidth};
-
 use crate::runs::{Ending, run_text};
 use crate::texts::{
     EACH_WAITS, FIVE, FROM_WIDEST, NARROWEST_BEAT, NARROWEST_BEAT_OF_WIDE_ID, NO_BEAT, RELEASE,
@@ -22,11 +17,7 @@ fn run_freely<const C: usize, const M: usize, R: Threads>(
     text: &str,
     ring: usize,
     turns: usize,
-) -> Result<Ending, Fail>
-    requires client { IsWidth C }
-    requires manager { IsWidth M }
-    requires turns { 1 ≤ turns }
-{
+) -> Result<Ending, Fail> {
     run_text::<C, M, _, _, _>(rt, alloc, text, ring, turns, &mut NoGate, &mut NoGate)
 }
 
@@ -38,11 +29,7 @@ fn rounds<const C: usize, const M: usize, R: Threads>(
     ring: usize,
     turns: usize,
     wanted: [Verdict; 5],
-) -> Result<(u64, u64), Fail>
-    requires client { IsWidth C }
-    requires manager { IsWidth M }
-    requires turns { 1 ≤ turns }
-{
+) -> Result<(u64, u64), Fail> {
     match run_freely::<C, M, R>(rt, alloc, text, ring, turns)? {
         Ending::Same {
             verdicts,
@@ -60,10 +47,7 @@ fn run_each_way<const C: usize, const M: usize, R: Threads>(
     alloc: Global,
     text: &str,
     wanted: [Verdict; 5],
-) -> Result<(), Fail>
-    requires client { IsWidth C }
-    requires manager { IsWidth M }
-{
+) -> Result<(), Fail> {
     for ring in [1, 16, 4096] {
         for turns in [1, 4, 1000] {
             rounds::<C, M, R>(rt, alloc, text, ring, turns, wanted)?;
@@ -123,14 +107,14 @@ fn a_run_heeds_its_turns(rt: HostRuntime) -> Result<(), Fail> {
 
 #[test]
 fn no_beat_takes_one_round(rt: HostRuntime) -> Result<(), Fail> {
-    assert!(rt; rounds::<8, 8, _>(&rt, rt.alloc(), NO_BEAT, 16, 4, [NONE; 5])? == (1, 1));
+    assert!(rt; rounds::<4, 4, _>(&rt, rt.alloc(), NO_BEAT, 16, 4, [NONE; 5])? == (1, 1));
     Ok(())
 }
 
 #[test]
 fn a_ring_has_1_to_4096_beats(rt: HostRuntime) -> Result<(), Fail> {
     for ring in [0, 4097] {
-        let ending = run_freely::<8, 8, _>(&rt, rt.alloc(), NO_BEAT, ring, 4)?;
+        let ending = run_freely::<4, 4, _>(&rt, rt.alloc(), NO_BEAT, ring, 4)?;
         assert!(rt; ending == Ending::Refused(RunFault::RingSize));
     }
     Ok(())

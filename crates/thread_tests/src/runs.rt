@@ -8,6 +8,7 @@ use std::alloc::Global;
 use std::test::Fail;
 use std::thread::Threads;
 use tl_bridge::{Gate, Outcome, RunFault, run_sync, run_threads};
+use tl_lanes::is_width;
 use tl_msg::Verdict;
 use tl_trace::{Script, header_of_text, read_script};
 
@@ -49,35 +50,6 @@ fn are_same<const C: usize, const M: usize>(one: &Outcome<C, M>, other: &Outcome
         && one.verdicts == other.verdicts
 }
 
-/// What both runs came to.
-fn compare<const C: usize, const M: usize>(
-    threads: &Result<Outcome<C, M>, RunFault>,
-    sync: &Result<Outcome<C, M>, RunFault>,
-) -> Ending
-    requires client { IsWidth C }
-    requires manager { IsWidth M }
-{
-    match (threads, sync) {
-        (Ok(threads), Ok(sync)) => {
-            if !are_same(threads, sync) {
-                return Ending::Different;
-            }
-            Ending::Same {
-                verdicts: threads.verdicts,
-                rounds: threads.rounds,
-                sync_rounds: sync.rounds,
-            }
-        }
-        (Err(threads), Err(sync)) => {
-            if threads != sync {
-                return Ending::Different;
-            }
-            Ending::Refused(*threads)
-        }
-        _ => Ending::Different,
-    }
-}
-
 /// Both runs of a script.
 fn run_both<const C: usize, const M: usize, R: Threads, G: Gate + Send, H: Gate + Send>(
     rt: &R,
@@ -103,7 +75,15 @@ fn run_both<const C: usize, const M: usize, R: Threads, G: Gate + Send, H: Gate 
         manager_gate,
     );
     let sync = run_sync::<C, M>(alloc, script, ring);
-    compare(&threads, &sync)
+    match (&threads, &sync) {
+        (Ok(threads), Ok(sync)) if are_same(threads, sync) => Ending::Same {
+            verdicts: threads.verdicts,
+            rounds: threads.rounds,
+            sync_rounds: sync.rounds,
+        },
+        (Err(threads), Err(sync)) if threads == sync => Ending::Refused(*threads),
+        _ => Ending::Different,
+    }
 }
 
 /// Both runs of the script that a text of these widths tells, with no list of more than 4,096 beats.
@@ -115,11 +95,10 @@ pub fn run_text<const C: usize, const M: usize, R: Threads, G: Gate + Send, H: G
     turns: usize,
     client_gate: &mut G,
     manager_gate: &mut H,
-) -> Result<Ending, Fail>
-    requires client { IsWidth C }
-    requires manager { IsWidth M }
-    requires turns { 1 ≤ turns }
-{
+) -> Result<Ending, Fail> {
+    if !is_width(C) || !is_width(M) || turns == 0 {
+        return Err(Fail::from("no widths, or no turns"));
+    }
     let Some(header) = header_of_text(text.as_bytes()) else {
         return Err(Fail::from("no header"));
     };

@@ -48,7 +48,7 @@ A 7 2 6 01 0000000000000040 f 00000000 0
 ";
 
 /// No beat.
-pub const NO_BEAT: &str = "tilelink-trace 1 client 8 manager 8
+pub const NO_BEAT: &str = "tilelink-trace 1 client 4 manager 4
 ";
 
 /// PutFullData of 4,096 bytes from a bus of 64 bytes to the narrowest.
@@ -82,12 +82,7 @@ pub const NARROWEST_BEAT_OF_WIDE_ID: &str = "A 0 0 c 0109 0000000000000000 1 a5 
 ";
 
 /// A header and so many equal lines.
-pub fn repeated(
-    alloc: Global,
-    header: &str,
-    line: &str,
-    count: usize,
-) -> Result<String, AllocError> {
+pub fn repeated(alloc: Global, header: &str, line: &str, count: u64) -> Result<String, AllocError> {
     let mut text = String::new(alloc);
     text.push_str(header)?;
     for _ in 0..count {

@@ -15,6 +15,11 @@ module _ {H : Type 0} (f : Form H) (w : ℕ) where
   pub whole-added : (text : List ℕ) (waiting more : List (BeatOf H w)) → whole f w text (waiting ++ more) ≡ whole f w text waiting ++ beats_text f w more
   whole-added text waiting more = ap (λ q. text ++ q) (lines-joined waiting more) ∙ sym (append_assoc text (beats_text f w waiting) (beats_text f w more))
 
+  -- the same of a list that is both, where the lines of those before are these
+  pub whole-grown : (text before : List ℕ) (waiting more both : List (BeatOf H w)) → both ≡ waiting ++ more → whole f w text waiting ≡ before →
+      whole f w text both ≡ before ++ beats_text f w more
+  whole-grown text before waiting more both is same = rw (is, sym same) (whole-added text waiting more)
+
 -- five texts behind another one
 five-behind : (t a b c d e : List ℕ) → t ++ a ++ b ++ c ++ d ++ e ≡ t ++ (a ++ b ++ c ++ d ++ e)
 five-behind t a b c d e =

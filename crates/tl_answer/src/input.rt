@@ -29,7 +29,8 @@ pub fn read_buffer(alloc: Global, bytes: usize) -> Result<Vec<u8>, AllocError>
 /// `most` bytes were read.
 fn fill<R: Read>(reader: &mut R, room: &mut [u8], most: usize) -> Result<usize, TextFault>
     ensures same { length room.new ≡ length room.old }
-    ensures ok { IfOk result (IsFilled (R.remaining reader.old) (R.remaining reader.new) most room.new) }
+    ensures ok { IfOk result
+        (IsFilled (R.remaining reader.old) (R.remaining reader.new) most room.new) }
     ensures long { IsErrOf result TooLong →
         IsTooMany (R.remaining reader.old) (R.remaining reader.new) most }
     ensures kinds { IfErr result (λ e. (e ≢ ReadFault) → e ≡ TooLong) }

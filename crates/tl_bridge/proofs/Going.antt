@@ -21,7 +21,7 @@ use Rattle.tl_sides.specs.Bridges.{Bridge, Past, StandsFor, after_fetch, fetch_c
 use Rattle.tl_sides.specs.Crossings.{stops_alone}
 use Rattle.tl_sides.proofs.BridgeSteps.{with_a, with_b, with_c, with_d, with_e}
 use Rattle.tl_bridge.specs.Inner.Running.{Does, IsSent, IsAt, steps, progress}
-use Rattle.tl_bridge.specs.Inner.Going.{GoesOn, HasGone, HasMovedOn, passed_on}
+use Rattle.tl_bridge.specs.Inner.Going.{GoesOn, HasGone, HasMovedOn, passed_on, going_a, going_b, going_c, going_d, going_e}
 use Rattle.tl_bridge.specs.Inner.Offering.{OffersNext, on_bridge_a, on_bridge_b, on_bridge_c, on_bridge_d, on_bridge_e}
 use Rattle.tl_bridge.specs.declared.channel_state.Offered.{Offered}
 use Rattle.tl_bridge.specs.declared.channel_state.Offered.TheVariants.{Accepted, NotReady, Stopped}
@@ -247,7 +247,7 @@ module _ {C M : ℕ} (near : Beats C M) (n : PerChannel ℕ) (far : Beats M C) (
 module _ {C M : ℕ} {inside t : Bridge C M} (view : inside ≡ t) where
   pub goes-a : (beats : List (BeatOf HeadA C)) (at : ℕ) (s : Bridge C M) (o : Offered) → OffersNext on_bridge_a beats at s o t →
       (p : Pipe HeadA M) → HasMovedOn rules_a C inside.a p →
-      GoesOn (λ near. near.a) (λ n. n.a) (λ later n. record n { a = later }) beats at s (at + steps o) (record inside { a = p })
+      GoesOn going_a beats at s (at + steps o) (record inside { a = p })
   goes-a beats at s o offers p m near n far x is here stands i =
       let h = (subst (λ b. OffersNext on_bridge_a beats at s o b) (sym view) offers).does x stands in
       let does : Does rules_a near.a n.a (client_answer x.client) (λ _. 0) x.a o h.0 h.1 =
@@ -259,7 +259,7 @@ module _ {C M : ℕ} {inside t : Bridge C M} (view : inside ≡ t) where
 
   pub goes-b : (beats : List (BeatOf HeadB M)) (at : ℕ) (s : Bridge C M) (o : Offered) → OffersNext on_bridge_b beats at s o t →
       (p : Pipe HeadB C) → HasMovedOn rules_b M inside.b p →
-      GoesOn (λ near. near.b) (λ n. n.b) (λ later n. record n { b = later }) beats at s (at + steps o) (record inside { b = p })
+      GoesOn going_b beats at s (at + steps o) (record inside { b = p })
   goes-b beats at s o offers p m near n far x is here stands i =
       let h = (subst (λ b. OffersNext on_bridge_b beats at s o b) (sym view) offers).does x stands in
       let does : Does rules_b near.b n.b (stops_alone rules_b x.b.accepted) (λ _. 0) x.b o h.0 h.1 =
@@ -271,7 +271,7 @@ module _ {C M : ℕ} {inside t : Bridge C M} (view : inside ≡ t) where
 
   pub goes-c : (beats : List (BeatOf HeadC C)) (at : ℕ) (s : Bridge C M) (o : Offered) → OffersNext on_bridge_c beats at s o t →
       (p : Pipe HeadC M) → HasMovedOn rules_c C inside.c p →
-      GoesOn (λ near. near.c) (λ n. n.c) (λ later n. record n { c = later }) beats at s (at + steps o) (record inside { c = p })
+      GoesOn going_c beats at s (at + steps o) (record inside { c = p })
   goes-c beats at s o offers p m near n far x is here stands i =
       let h = (subst (λ b. OffersNext on_bridge_c beats at s o b) (sym view) offers).does x stands in
       let does : Does rules_c near.c n.c (stops_alone rules_c x.c.accepted) (λ _. 0) x.c o h.0 h.1 =
@@ -283,7 +283,7 @@ module _ {C M : ℕ} {inside t : Bridge C M} (view : inside ≡ t) where
 
   pub goes-d : (beats : List (BeatOf HeadD M)) (at : ℕ) (s : Bridge C M) (o : Offered) → OffersNext on_bridge_d beats at s o t →
       (p : Pipe HeadD C) → HasMovedOn rules_d M inside.d p →
-      GoesOn (λ near. near.d) (λ n. n.d) (λ later n. record n { d = later }) beats at s (at + steps o) (record inside { d = p })
+      GoesOn going_d beats at s (at + steps o) (record inside { d = p })
   goes-d beats at s o offers p m near n far x is here stands i =
       let h = (subst (λ b. OffersNext on_bridge_d beats at s o b) (sym view) offers).does x stands in
       let does : Does rules_d near.d n.d (manager_answer x.manager) (λ b. manager_home x.manager b.head) x.d o h.0 h.1 =
@@ -295,7 +295,7 @@ module _ {C M : ℕ} {inside t : Bridge C M} (view : inside ≡ t) where
 
   pub goes-e : (beats : List (BeatOf HeadE C)) (at : ℕ) (s : Bridge C M) (o : Offered) → OffersNext on_bridge_e beats at s o t →
       (p : Pipe HeadE M) → HasMovedOn rules_e C inside.e p →
-      GoesOn (λ near. near.e) (λ n. n.e) (λ later n. record n { e = later }) beats at s (at + steps o) (record inside { e = p })
+      GoesOn going_e beats at s (at + steps o) (record inside { e = p })
   goes-e beats at s o offers p m near n far x is here stands i =
       let h = (subst (λ b. OffersNext on_bridge_e beats at s o b) (sym view) offers).does x stands in
       let does : Does rules_e near.e n.e (stops_alone rules_e x.e.accepted) (λ _. 0) x.e o h.0 h.1 =

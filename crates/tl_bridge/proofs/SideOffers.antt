@@ -1,13 +1,13 @@
 -- What becomes of the next beat of a channel that a side of a run offers.
-use Rattle.std.proofs.Common.{◌≡◌, ◌↔◌, ℕ, None, Some, List, [], ◌∷◌, Result, Ok, Err, refl, sym, subst}
-use Rattle.std.specs.Prelude.{slice_get, IsOk, OnOk, OnErr, IfErr}
+use Rattle.std.proofs.Common.{◌≡◌, ◌↔◌, ℕ, Bool, true, Option, None, Some, List, [], ◌∷◌, Result, Ok, Err, refl, sym, subst}
+use Rattle.std.specs.Prelude.{slice_get, IsTrue, IsOk, OnOk, OnErr, IfErr}
 use Rattle.tl_msg.specs.declared.beat.BeatOf.{BeatOf}
 use Rattle.tl_msg.specs.declared.fault.SideFault.{SideFault}
 use Rattle.tl_burst.specs.Handing.{rest_of}
 use Rattle.tl_ring.specs.Crossing.{offered, shut}
 use Rattle.tl_ring.specs.Pipe.{Pipe, IsReady, StandsFor}
 use Rattle.tl_ring.specs.declared.fault.EndFault.{EndFault}
-use Rattle.tl_sides.proofs.Places.{Offers}
+use Rattle.tl_sides.proofs.Places.{Closes, Offers}
 use Rattle.tl_bridge.specs.Inner.Offering.{Offering, OffersNext, offer_outcome, close_outcome}
 use Rattle.tl_bridge.specs.declared.channel_state.Offered.{Offered}
 use Rattle.tl_bridge.specs.declared.channel_state.Offered.TheVariants.{NotReady}
@@ -18,21 +18,46 @@ holds-after : {T E S : Type 0} (P : S → Type 0) (r : Result T E) (s s' t : S) 
 holds-after P (Ok _) s s' t made refused before after = subst P (sym made) after
 holds-after P (Err _) s s' t made refused before after = subst P (sym refused) before
 
-module _ {S P H : Type 0} {w v : ℕ} (k : Offering S P H w v) (bs : List (BeatOf H w)) (n : ℕ) (s : S) where
+-- what an offer says that tells too what it makes of the side, and what it leaves as it is there
+abbrev pub OffersTo : {S X : Type 0} (Stands : S → X → Type 0) (stops : X → Option SideFault) (next : X → X) (Ring : Type 0) (s t s' : S) (r : Result Unit SideFault) → Type 0
+OffersTo {S} {X} Stands stops next Ring s t s' r = record {
+  admitted : (x : X) → Stands s x → IsOk r ↔ (stops x ≡ None);
+  accepted : (x : X) → Stands s x → OnOk r (Stands s' (next x));
+  fault : (x : X) → Stands s x → IfErr r (λ fault. stops x ≡ Some fault);
+  ring : Ring;
+  rest : s' ≡ t;
+  refused : OnErr r (s' ≡ s);
+}
+
+-- what a close says that tells too what it makes of the side
+abbrev pub ClosesTo : {S X E : Type 0} (Stands : S → X → Type 0) (finished : X → Type 0) (next : X → X) (before : Bool) (s t s' : S) (r : Result Unit E) → Type 0
+ClosesTo {S} {X} {E} Stands finished next before s t s' r = record {
+  between : (x : X) → Stands s x → IsOk r ↔ finished x;
+  stands : (x : X) → Stands s x → OnOk r (Stands s' (next x));
+  closed : OnOk r (s' ≡ t);
+  again : before ≡ true → IsOk r × (s' ≡ s);
+  refused : OnErr r (s' ≡ s);
+}
+
+module _ {S P H : Type 0} {w v : ℕ} (k : Offering S P H w v) (s : S) where
   -- a side that is as before stands for what it stood for
   still : (s' : S) → s' ≡ s → (x : P) → k.Stands s x → k.Stands s' (k.put (k.crossing x) (k.note [] x))
   still s' same x h =
       subst (λ q. k.Stands s' (k.put (k.crossing x) q)) (sym (k.noted x)) (subst (λ q. k.Stands s' q) (sym (k.kept x)) (subst (λ q. k.Stands q x) (sym same) h))
 
-  -- its next beat is there
-  module _ (b : BeatOf H w) (next : slice_get bs n ≡ Some b) where
-    -- the channel is not ready
-    pub waits : (pipe : Pipe H v) → ((x : P) → k.Stands s x → StandsFor k.rules pipe (k.crossing x)) → (IsReady pipe → ⊥) → k.Same s s → OffersNext k bs n s NotReady s
-    waits pipe stands unready stays = record {
+  -- the side was asked whether the channel is ready, whose pipe is this one
+  pub asked : k.Same s s → (pipe : Pipe H v) → ((x : P) → k.Stands s x → StandsFor k.rules pipe (k.crossing x)) → (ready : Bool) → IsTrue ready ↔ IsReady pipe →
+      (IsTrue ready → IsReady pipe) × ((IsTrue ready → ⊥) → (bs : List (BeatOf H w)) (n : ℕ) (b : BeatOf H w) → slice_get bs n ≡ Some b → OffersNext k bs n s NotReady s)
+  asked stays pipe stands ready exactly = (
+    exactly.0,
+    λ unready bs n b next. record {
       same = stays;
-      does = λ x h. ([], k.crossing x, still s refl x h, (b, next, not_ready k.rules pipe (k.crossing x) (stands x h) unready, refl, refl));
-    }
+      does = λ x h. ([], k.crossing x, still s refl x h, (b, next, not_ready k.rules pipe (k.crossing x) (stands x h) (λ is. unready (exactly.1 is)), refl, refl));
+    },
+  )
 
+  -- the next beat of a list is offered
+  module _ (bs : List (BeatOf H w)) (n : ℕ) (b : BeatOf H w) (next : slice_get bs n ≡ Some b) where
     -- the beat was offered, and answered
     pub answers : (r : Result (Unit {0}) SideFault) (s' : S) → k.Same s s' → ((x : P) → k.Stands s x → IsOk r ↔ (k.answer x b ≡ None)) →
         ((x : P) → k.Stands s x → OnOk r (k.Stands s' (k.put (offered k.rules b (k.home x b) (k.crossing x)) (k.note (b ∷ []) x)))) →
@@ -46,29 +71,44 @@ module _ {S P H : Type 0} {w v : ℕ} (k : Offering S P H w v) (bs : List (BeatO
       does = λ x h. ([], k.crossing x, still s' refused x h, (b, next, fault x h, refl, refl));
     }
 
-    -- the same by all that such an offer says
-    pub answers-as : (r : Result (Unit {0}) SideFault) (s' : S) → k.Same s s' →
-        Offers k.Stands (λ x. k.answer x b) (λ x. k.put (offered k.rules b (k.home x b) (k.crossing x)) (k.note (b ∷ []) x)) s s' r → OffersNext k bs n s (offer_outcome r) s'
-    answers-as r s' stays told = answers r s' stays told.admitted told.accepted told.fault told.refused
+  -- the same by all that such an offer says
+  pub answers-as : (r : Result (Unit {0}) SideFault) (s' : S) (b : BeatOf H w) → k.Same s s' →
+      Offers k.Stands (λ x. k.answer x b) (λ x. k.put (offered k.rules b (k.home x b) (k.crossing x)) (k.note (b ∷ []) x)) s s' r →
+      (bs : List (BeatOf H w)) (n : ℕ) → slice_get bs n ≡ Some b → OffersNext k bs n s (offer_outcome r) s'
+  answers-as r s' b stays told bs n next = answers bs n b next r s' stays told.admitted told.accepted told.fault told.refused
+
+  -- and by what such an offer says that tells too which part of the side it leaves as it is
+  pub answers-to : (Ring : Type 0) (r : Result (Unit {0}) SideFault) (s' t : S) (b : BeatOf H w) →
+      OffersTo k.Stands (λ x. k.answer x b) (λ x. k.put (offered k.rules b (k.home x b) (k.crossing x)) (k.note (b ∷ []) x)) Ring s t s' r → (Ring → k.Same s t) →
+      (bs : List (BeatOf H w)) (n : ℕ) → slice_get bs n ≡ Some b → OffersNext k bs n s (offer_outcome r) s'
+  answers-to Ring r s' t b told same bs n next =
+      answers bs n b next r s' (subst (λ q. k.Same s q) (sym told.rest) (same told.ring)) told.admitted told.accepted told.fault told.refused
 
   -- no beat is left, and the channel was closed
-  pub closes : slice_get bs n ≡ None → (r : Result (Unit {0}) EndFault) (s' : S) → k.Same s s' → OnErr r (s' ≡ s) →
+  pub closes : (bs : List (BeatOf H w)) (n : ℕ) → slice_get bs n ≡ None → (r : Result (Unit {0}) EndFault) (s' : S) → k.Same s s' → OnErr r (s' ≡ s) →
       ((x : P) → k.Stands s x → IsOk r ↔ (rest_of k.rules w (k.crossing x).accepted ≡ [])) →
       ((x : P) → k.Stands s x → OnOk r (k.Stands s' (k.put (shut (k.crossing x)) x))) → OffersNext k bs n s (close_outcome r) s'
-  closes past (Ok u) s' stays refused between stands = record {
+  closes bs n past (Ok u) s' stays refused between stands = record {
     same = stays;
     does = λ x h. ([], shut (k.crossing x), subst (λ q. k.Stands s' (k.put (shut (k.crossing x)) q)) (sym (k.noted x)) (stands x h), (past, (between x h).0 refl, refl, refl));
   }
-  closes past (Err e) s' stays refused between stands = record {
+  closes bs n past (Err e) s' stays refused between stands = record {
     same = stays;
     does = λ x h. ([], k.crossing x, still s' refused x h, (past, (λ whole. let ok = (between x h).1 whole in cc), refl, refl));
   }
 
-  -- likewise, of a call that says what a close makes of the side
-  pub closes-to : slice_get bs n ≡ None → (r : Result (Unit {0}) EndFault) (s' t : S) → OnOk r (s' ≡ t) → OnErr r (s' ≡ s) → k.Same s s → k.Same s t →
-      ((x : P) → k.Stands s x → IsOk r ↔ (rest_of k.rules w (k.crossing x).accepted ≡ [])) →
-      ((x : P) → k.Stands s x → OnOk r (k.Stands s' (k.put (shut (k.crossing x)) x))) → OffersNext k bs n s (close_outcome r) s'
-  closes-to past r s' t made refused before after = closes past r s' (holds-after (k.Same s) r s s' t made refused before after) refused
+  -- the same by all that such a close says
+  pub closes-as : (before : Bool) (r : Result (Unit {0}) EndFault) (s' : S) → k.Same s s' →
+      Closes k.Stands (λ x. rest_of k.rules w (k.crossing x).accepted ≡ []) (λ x. k.put (shut (k.crossing x)) x) before s s' r →
+      (bs : List (BeatOf H w)) (n : ℕ) → slice_get bs n ≡ None → OffersNext k bs n s (close_outcome r) s'
+  closes-as before r s' stays told bs n past = closes bs n past r s' stays told.refused told.between told.closed
+
+  -- and by what a close says that tells too what it makes of the side
+  pub closes-to : (before : Bool) (r : Result (Unit {0}) EndFault) (s' t : S) →
+      ClosesTo k.Stands (λ x. rest_of k.rules w (k.crossing x).accepted ≡ []) (λ x. k.put (shut (k.crossing x)) x) before s t s' r → k.Same s s → k.Same s t →
+      (bs : List (BeatOf H w)) (n : ℕ) → slice_get bs n ≡ None → OffersNext k bs n s (close_outcome r) s'
+  closes-to before r s' t told stayed closed bs n past =
+      closes bs n past r s' (holds-after (k.Same s) r s s' t told.closed told.refused stayed closed) told.refused told.between told.stands
 
 -- of a list that is another one's
 pub of-list : {S P H : Type 0} {w v : ℕ} (k : Offering S P H w v) {bs bs' : List (BeatOf H w)} {n : ℕ} {s s' : S} {o : Offered} → bs ≡ bs' → OffersNext k bs n s o s' → OffersNext k bs' n s o s'

@@ -1,16 +1,15 @@
 //! A channel of a run in one thread goes on by itself, as long as its beats are accepted.
 ghost use Rattle.std.specs.Prelude.{◌≡◌, ◌<◌, ◌+◌, ◌^◌, ℕ, List};
-ghost use Rattle.std.proofs.Common.{refl};
 ghost use Rattle.tl_lanes.specs.Lanes.{IsWidth};
 ghost use Rattle.tl_settle.specs.Outcomes.{Beats};
 ghost use Rattle.tl_sides.specs.Bridges.{Past, StandsFor};
 ghost use Rattle.tl_bridge.specs.declared.channel_state.Offered.{Offered};
 ghost use Rattle.tl_bridge.specs.Scripts.{near_beats};
 ghost use Rattle.tl_bridge.specs.Inner.Running.{HaveRoomToCount, IsAt, steps};
-ghost use Rattle.tl_bridge.specs.Inner.Going.{GoesOn, HasGone, HasMovedOn, gone_none, gone_then};
+ghost use Rattle.tl_bridge.specs.Inner.Going.{GoesOn, HasGone, HasMovedOn, gone_none, gone_then, going_a, going_b, going_c, going_d, going_e};
 
 use crate::channel_state::Offered;
-use crate::offers::offer_next;
+use crate::offers::{Offers, offer_next};
 use tl_msg::{BeatOf, Channel, HeadA, HeadB, HeadC, HeadD, HeadE};
 use tl_ring::SyncPipe;
 use tl_sides::{PerChannel, SyncBridge};
@@ -29,19 +28,17 @@ fn move_on<K: Channel, const W: usize, const V: usize>(pipe: &mut SyncPipe<K, W,
 }
 
 /// What offers beats `B` on one of its channels, and moves into its ring at once what they give.
-trait GoesAhead<B> {
-    // whether it may offer
-    ghost CanGo: { Self → Type 0 };
-
+trait GoesAhead<B>: Offers<B> {
     // `new` is what `old` becomes where beats of a list were offered, of which `at` were accepted
     // before and `later` after it
-    ghost Goes: { (beats : List B) → (at : ℕ) → (old : Self) → (later : ℕ) → (new : Self) → Type 0 };
+    ghost Goes: { (beats : List B) → (at : ℕ) → (old : Self) → (later : ℕ) → (new : Self) →
+        Type 0 };
 
-    /// Offers the next beat of a list, and moves what is staged into the ring.
-    fn go_on(&mut self, beats: &[B], at: usize) -> Offered
-        requires { CanGo self.old }
-        ensures again { CanGo self.new }
-        ensures goes { Goes beats.now at self.old (at + steps result) self.new };
+    /// Moves into the ring what is staged, behind the offer of a list's next beat.
+    fn go_on(&mut self)
+        ensures { (beats : List B) (at : ℕ) (before : Self) (offered : Offered) →
+            Self.Becomes beats at before offered self.old →
+            Goes beats at before (at + steps offered) self.new };
 
     ghost goes_none: { (beats : List B) (at : ℕ) (s : Self) → Goes beats at s at s };
 
@@ -58,7 +55,7 @@ fn go_ahead<B, S: GoesAhead<B>>(
     first: Offered,
     most: usize,
 ) -> usize
-    requires can { S.CanGo side.old }
+    requires can { S.CanOffer }
     requires few { at < 2 ^ 41 }
     requires most { most < 2 ^ 41 }
     ensures { S.Goes beats.now at side.old result side.new }
@@ -67,7 +64,8 @@ fn go_ahead<B, S: GoesAhead<B>>(
     let mut offered = first;
     let mut left = most;
     'beats: while left > 0 && offered.is_accepted() {
-        offered = side.go_on(beats, later);
+        offered = offer_next(side, beats, later);
+        side.go_on();
         later += offered.steps();
         left -= 1;
     }
@@ -75,83 +73,63 @@ fn go_ahead<B, S: GoesAhead<B>>(
 }
 
 impl<const C: usize, const M: usize> GoesAhead<BeatOf<HeadA, C>> for SyncBridge<C, M> {
-    ghost CanGo = { λ _. IsWidth C × IsWidth M };
+    ghost Goes = { GoesOn going_a };
 
-    ghost Goes = { GoesOn (λ near. near.a) (λ n. n.a) (λ later n. record n { a = later }) };
-
-    fn go_on(&mut self, beats: &[BeatOf<HeadA, C>], at: usize) -> Offered {
-        let offered = offer_next(self, beats, at);
+    fn go_on(&mut self) {
         move_on(&mut self.a);
-        offered
     }
 
-    ghost goes_none = { gone_none (λ near. near.a) (λ n. n.a) (λ later n. record n { a = later }) (λ _. refl) };
+    ghost goes_none = { gone_none going_a };
 
-    ghost goes_then = { gone_then (λ near. near.a) (λ n. n.a) (λ later n. record n { a = later }) (λ _ _. refl) (λ _ _ _. refl) };
+    ghost goes_then = { gone_then going_a };
 }
 
 impl<const C: usize, const M: usize> GoesAhead<BeatOf<HeadB, M>> for SyncBridge<C, M> {
-    ghost CanGo = { λ _. IsWidth C × IsWidth M };
+    ghost Goes = { GoesOn going_b };
 
-    ghost Goes = { GoesOn (λ near. near.b) (λ n. n.b) (λ later n. record n { b = later }) };
-
-    fn go_on(&mut self, beats: &[BeatOf<HeadB, M>], at: usize) -> Offered {
-        let offered = offer_next(self, beats, at);
+    fn go_on(&mut self) {
         move_on(&mut self.b);
-        offered
     }
 
-    ghost goes_none = { gone_none (λ near. near.b) (λ n. n.b) (λ later n. record n { b = later }) (λ _. refl) };
+    ghost goes_none = { gone_none going_b };
 
-    ghost goes_then = { gone_then (λ near. near.b) (λ n. n.b) (λ later n. record n { b = later }) (λ _ _. refl) (λ _ _ _. refl) };
+    ghost goes_then = { gone_then going_b };
 }
 
 impl<const C: usize, const M: usize> GoesAhead<BeatOf<HeadC, C>> for SyncBridge<C, M> {
-    ghost CanGo = { λ _. IsWidth C × IsWidth M };
+    ghost Goes = { GoesOn going_c };
 
-    ghost Goes = { GoesOn (λ near. near.c) (λ n. n.c) (λ later n. record n { c = later }) };
-
-    fn go_on(&mut self, beats: &[BeatOf<HeadC, C>], at: usize) -> Offered {
-        let offered = offer_next(self, beats, at);
+    fn go_on(&mut self) {
         move_on(&mut self.c);
-        offered
     }
 
-    ghost goes_none = { gone_none (λ near. near.c) (λ n. n.c) (λ later n. record n { c = later }) (λ _. refl) };
+    ghost goes_none = { gone_none going_c };
 
-    ghost goes_then = { gone_then (λ near. near.c) (λ n. n.c) (λ later n. record n { c = later }) (λ _ _. refl) (λ _ _ _. refl) };
+    ghost goes_then = { gone_then going_c };
 }
 
 impl<const C: usize, const M: usize> GoesAhead<BeatOf<HeadD, M>> for SyncBridge<C, M> {
-    ghost CanGo = { λ _. IsWidth C × IsWidth M };
+    ghost Goes = { GoesOn going_d };
 
-    ghost Goes = { GoesOn (λ near. near.d) (λ n. n.d) (λ later n. record n { d = later }) };
-
-    fn go_on(&mut self, beats: &[BeatOf<HeadD, M>], at: usize) -> Offered {
-        let offered = offer_next(self, beats, at);
+    fn go_on(&mut self) {
         move_on(&mut self.d);
-        offered
     }
 
-    ghost goes_none = { gone_none (λ near. near.d) (λ n. n.d) (λ later n. record n { d = later }) (λ _. refl) };
+    ghost goes_none = { gone_none going_d };
 
-    ghost goes_then = { gone_then (λ near. near.d) (λ n. n.d) (λ later n. record n { d = later }) (λ _ _. refl) (λ _ _ _. refl) };
+    ghost goes_then = { gone_then going_d };
 }
 
 impl<const C: usize, const M: usize> GoesAhead<BeatOf<HeadE, C>> for SyncBridge<C, M> {
-    ghost CanGo = { λ _. IsWidth C × IsWidth M };
+    ghost Goes = { GoesOn going_e };
 
-    ghost Goes = { GoesOn (λ near. near.e) (λ n. n.e) (λ later n. record n { e = later }) };
-
-    fn go_on(&mut self, beats: &[BeatOf<HeadE, C>], at: usize) -> Offered {
-        let offered = offer_next(self, beats, at);
+    fn go_on(&mut self) {
         move_on(&mut self.e);
-        offered
     }
 
-    ghost goes_none = { gone_none (λ near. near.e) (λ n. n.e) (λ later n. record n { e = later }) (λ _. refl) };
+    ghost goes_none = { gone_none going_e };
 
-    ghost goes_then = { gone_then (λ near. near.e) (λ n. n.e) (λ later n. record n { e = later }) (λ _ _. refl) (λ _ _ _. refl) };
+    ghost goes_then = { gone_then going_e };
 }
 
 // Each channel whose beat was accepted goes on by itself, by at most so many beats, and then what

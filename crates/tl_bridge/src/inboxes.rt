@@ -1,8 +1,8 @@
 //! The inboxes of the two sides of a run in two threads.
-ghost use Rattle.std.specs.Prelude.{◌≡◌, ◌+◌, ◌++◌, ◌≤◌, List, [], length, take, drop, slice_get, vec_len, vec_capacity};
+ghost use Rattle.std.specs.Prelude.{◌≡◌, ◌+◌, ◌++◌, ◌≤◌, List, [], length, vec_len, vec_capacity};
 ghost use Rattle.tl_lanes.specs.Lanes.{IsWidth};
 ghost use Rattle.tl_pair.specs.Sides.{ClientStandsFor, ManagerStandsFor, client_takes_b, client_takes_d, manager_takes_a, manager_takes_c, manager_takes_e};
-ghost use Rattle.tl_bridge.specs.Inner.Taking.{Took, took_none, took_then, but_a, but_b, but_c, but_d, but_e, no_a, no_b, no_c, no_d, no_e, then_a, then_b, then_c, then_d, then_e};
+ghost use Rattle.tl_bridge.specs.Inner.Taking.{Took, TookFirst, took_none, took_then, but_a, but_b, but_c, but_d, but_e, no_a, no_b, no_c, no_d, no_e, then_a, then_b, then_c, then_d, then_e};
 
 use tl_msg::{BeatOf, HeadA, HeadB, HeadC, HeadD, HeadE};
 use tl_pair::{ClientSide, ManagerSide};
@@ -12,18 +12,15 @@ pub(crate) trait Takes<B> {
     // the beats that stand there, and whether they may be taken
     ghost inbox: { Self → List B };
 
-    ghost CanTake: { Self → Type 0 };
+    ghost CanTake: { Type 0 };
 
     // `new` is what `old` becomes where these beats are taken
     ghost Becomes: { (old : Self) → (beats : List B) → (new : Self) → Type 0 };
 
     /// Takes the first beat. None where there is none.
     fn take_next(&mut self) -> Option<B>
-        requires { CanTake self.old }
-        ensures beat { result ≡ slice_get (inbox self.old) 0 }
-        ensures left { inbox self.new ≡ drop 1 (inbox self.old) }
-        ensures again { CanTake self.new }
-        ensures becomes { Becomes self.old (take 1 (inbox self.old)) self.new };
+        requires { CanTake }
+        ensures { TookFirst inbox Becomes self.old result self.new };
 
     ghost takes_none: { (s : Self) → Becomes s [] s };
 
@@ -34,7 +31,7 @@ pub(crate) trait Takes<B> {
 impl<const C: usize, const M: usize> Takes<BeatOf<HeadB, C>> for ClientSide<C, M> {
     ghost inbox = { λ s. s.b.inbox };
 
-    ghost CanTake = { λ _. Unit {0} };
+    ghost CanTake = { Unit {0} };
 
     ghost Becomes = { Took ClientStandsFor client_takes_b but_b };
 
@@ -50,7 +47,7 @@ impl<const C: usize, const M: usize> Takes<BeatOf<HeadB, C>> for ClientSide<C, M
 impl<const C: usize, const M: usize> Takes<BeatOf<HeadD, C>> for ClientSide<C, M> {
     ghost inbox = { λ s. s.d.inbox };
 
-    ghost CanTake = { λ _. IsWidth C };
+    ghost CanTake = { IsWidth C };
 
     ghost Becomes = { Took ClientStandsFor client_takes_d but_d };
 
@@ -66,7 +63,7 @@ impl<const C: usize, const M: usize> Takes<BeatOf<HeadD, C>> for ClientSide<C, M
 impl<const C: usize, const M: usize> Takes<BeatOf<HeadA, M>> for ManagerSide<C, M> {
     ghost inbox = { λ s. s.a.inbox };
 
-    ghost CanTake = { λ _. IsWidth M };
+    ghost CanTake = { IsWidth M };
 
     ghost Becomes = { Took ManagerStandsFor manager_takes_a but_a };
 
@@ -82,7 +79,7 @@ impl<const C: usize, const M: usize> Takes<BeatOf<HeadA, M>> for ManagerSide<C, 
 impl<const C: usize, const M: usize> Takes<BeatOf<HeadC, M>> for ManagerSide<C, M> {
     ghost inbox = { λ s. s.c.inbox };
 
-    ghost CanTake = { λ _. Unit {0} };
+    ghost CanTake = { Unit {0} };
 
     ghost Becomes = { Took ManagerStandsFor manager_takes_c but_c };
 
@@ -98,7 +95,7 @@ impl<const C: usize, const M: usize> Takes<BeatOf<HeadC, M>> for ManagerSide<C, 
 impl<const C: usize, const M: usize> Takes<BeatOf<HeadE, M>> for ManagerSide<C, M> {
     ghost inbox = { λ s. s.e.inbox };
 
-    ghost CanTake = { λ _. Unit {0} };
+    ghost CanTake = { Unit {0} };
 
     ghost Becomes = { Took ManagerStandsFor manager_takes_e but_e };
 
@@ -113,7 +110,7 @@ impl<const C: usize, const M: usize> Takes<BeatOf<HeadE, M>> for ManagerSide<C, 
 
 // A side takes all that stands in an inbox, into a list with room for it.
 pub(crate) fn take_all<B, S: Takes<B>>(side: &mut S, far: &mut Vec<B>)
-    requires can { S.CanTake side.old }
+    requires can { S.CanTake }
     requires room { vec_len far.old + length (S.inbox side.old) ≤ vec_capacity far.old }
     ensures becomes { S.Becomes side.old (S.inbox side.old) side.new }
     ensures far { far.new.items ≡ far.old.items ++ S.inbox side.old }

@@ -16,7 +16,7 @@ use tl_sides::{SyncBridge, offer_alone, offer_request, offer_response};
 /// What offers beats `B` on one of its channels, one after another.
 pub(crate) trait Offers<B> {
     // whether it may offer, and whether its channel is ready for a beat
-    ghost CanOffer: { Self → Type 0 };
+    ghost CanOffer: { Type 0 };
 
     ghost IsReady: { Self → Type 0 };
 
@@ -31,13 +31,13 @@ pub(crate) trait Offers<B> {
 
     /// Whether a beat may be offered.
     fn is_ready(&self) -> bool
-        ensures ready { IsTrue result → IsReady self.now }
-        ensures waits { (IsTrue result → ⊥) → (beats : List B) (at : ℕ) (beat : B) →
-            slice_get beats at ≡ Some beat → Becomes beats at self.now NotReady self.now };
+        ensures { (IsTrue result → IsReady self.now) × ((IsTrue result → ⊥) → (beats : List B) →
+            (at : ℕ) (beat : B) → slice_get beats at ≡ Some beat →
+            Becomes beats at self.now NotReady self.now) };
 
     /// Offers a beat.
     fn offer(&mut self, beat: &B) -> Result<(), SideFault>
-        requires can { CanOffer self.old }
+        requires can { CanOffer }
         requires ready { IsReady self.old }
         ensures { (beats : List B) (at : ℕ) → slice_get beats at ≡ Some beat.now →
             Becomes beats at self.old (offer_outcome result) self.new };
@@ -46,7 +46,7 @@ pub(crate) trait Offers<B> {
 // The next beat of a list is offered, of which `at` were accepted, where the channel is ready. Where
 // no beat is left, the channel is closed.
 pub(crate) fn offer_next<B, S: Offers<B>>(side: &mut S, beats: &[B], at: usize) -> Offered
-    requires { S.CanOffer side.old }
+    requires { S.CanOffer }
     ensures { S.Becomes beats.now at side.old result side.new }
 {
     let Some(beat) = beats.get(at) else {
@@ -59,7 +59,7 @@ pub(crate) fn offer_next<B, S: Offers<B>>(side: &mut S, beats: &[B], at: usize) 
 }
 
 impl<const C: usize, const M: usize> Offers<BeatOf<HeadA, C>> for ClientSide<C, M> {
-    ghost CanOffer = { λ _. IsWidth C × IsWidth M };
+    ghost CanOffer = { IsWidth C × IsWidth M };
 
     ghost IsReady = { λ s. piping.IsReady (as_pipe s.a) };
 
@@ -79,7 +79,7 @@ impl<const C: usize, const M: usize> Offers<BeatOf<HeadA, C>> for ClientSide<C, 
 }
 
 impl<const C: usize, const M: usize> Offers<BeatOf<HeadC, C>> for ClientSide<C, M> {
-    ghost CanOffer = { λ _. IsWidth C × IsWidth M };
+    ghost CanOffer = { IsWidth C × IsWidth M };
 
     ghost IsReady = { λ s. piping.IsReady (as_pipe s.c) };
 
@@ -99,7 +99,7 @@ impl<const C: usize, const M: usize> Offers<BeatOf<HeadC, C>> for ClientSide<C, 
 }
 
 impl<const C: usize, const M: usize> Offers<BeatOf<HeadE, C>> for ClientSide<C, M> {
-    ghost CanOffer = { λ _. IsWidth C × IsWidth M };
+    ghost CanOffer = { IsWidth C × IsWidth M };
 
     ghost IsReady = { λ s. piping.IsReady (as_pipe s.e) };
 
@@ -119,7 +119,7 @@ impl<const C: usize, const M: usize> Offers<BeatOf<HeadE, C>> for ClientSide<C, 
 }
 
 impl<const C: usize, const M: usize> Offers<BeatOf<HeadB, M>> for ManagerSide<C, M> {
-    ghost CanOffer = { λ _. IsWidth C × IsWidth M };
+    ghost CanOffer = { IsWidth C × IsWidth M };
 
     ghost IsReady = { λ s. piping.IsReady (as_pipe s.b) };
 
@@ -139,7 +139,7 @@ impl<const C: usize, const M: usize> Offers<BeatOf<HeadB, M>> for ManagerSide<C,
 }
 
 impl<const C: usize, const M: usize> Offers<BeatOf<HeadD, M>> for ManagerSide<C, M> {
-    ghost CanOffer = { λ _. IsWidth C × IsWidth M };
+    ghost CanOffer = { IsWidth C × IsWidth M };
 
     ghost IsReady = { λ s. piping.IsReady (as_pipe s.d) };
 
@@ -159,7 +159,7 @@ impl<const C: usize, const M: usize> Offers<BeatOf<HeadD, M>> for ManagerSide<C,
 }
 
 impl<const C: usize, const M: usize> Offers<BeatOf<HeadA, C>> for SyncBridge<C, M> {
-    ghost CanOffer = { λ _. IsWidth C × IsWidth M };
+    ghost CanOffer = { IsWidth C × IsWidth M };
 
     ghost IsReady = { λ s. piping.IsReady s.a };
 
@@ -179,7 +179,7 @@ impl<const C: usize, const M: usize> Offers<BeatOf<HeadA, C>> for SyncBridge<C, 
 }
 
 impl<const C: usize, const M: usize> Offers<BeatOf<HeadB, M>> for SyncBridge<C, M> {
-    ghost CanOffer = { λ _. IsWidth C × IsWidth M };
+    ghost CanOffer = { IsWidth C × IsWidth M };
 
     ghost IsReady = { λ s. piping.IsReady s.b };
 
@@ -199,7 +199,7 @@ impl<const C: usize, const M: usize> Offers<BeatOf<HeadB, M>> for SyncBridge<C, 
 }
 
 impl<const C: usize, const M: usize> Offers<BeatOf<HeadC, C>> for SyncBridge<C, M> {
-    ghost CanOffer = { λ _. IsWidth C × IsWidth M };
+    ghost CanOffer = { IsWidth C × IsWidth M };
 
     ghost IsReady = { λ s. piping.IsReady s.c };
 
@@ -219,7 +219,7 @@ impl<const C: usize, const M: usize> Offers<BeatOf<HeadC, C>> for SyncBridge<C, 
 }
 
 impl<const C: usize, const M: usize> Offers<BeatOf<HeadD, M>> for SyncBridge<C, M> {
-    ghost CanOffer = { λ _. IsWidth C × IsWidth M };
+    ghost CanOffer = { IsWidth C × IsWidth M };
 
     ghost IsReady = { λ s. piping.IsReady s.d };
 
@@ -239,7 +239,7 @@ impl<const C: usize, const M: usize> Offers<BeatOf<HeadD, M>> for SyncBridge<C, 
 }
 
 impl<const C: usize, const M: usize> Offers<BeatOf<HeadE, C>> for SyncBridge<C, M> {
-    ghost CanOffer = { λ _. IsWidth C × IsWidth M };
+    ghost CanOffer = { IsWidth C × IsWidth M };
 
     ghost IsReady = { λ s. piping.IsReady s.e };
 

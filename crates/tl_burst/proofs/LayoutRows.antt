@@ -5,7 +5,7 @@ use Rattle.tl_msg.specs.declared.head.HeadA.{HeadA}
 use Rattle.tl_msg.specs.declared.head.HeadD.{HeadD}
 use Rattle.tl_msg.specs.declared.beat.BeatOf.{BeatOf}
 use Rattle.tl_msg.specs.Tables.{rules_a, rules_d}
-use Rattle.tl_burst.specs.Messages.{Cell, Message, of_head, layout}
+use Rattle.tl_burst.specs.Messages.{Cell, Message, layout}
 
 abbrev a : (opcode size address : ℕ) → HeadA
 a opcode size address = record { opcode = opcode; param = 0; size = size; source = 1; address = address }
@@ -60,7 +60,7 @@ part_on_8 = refl
 -- ---- a Get of 4,096 bytes is one beat at every width
 
 abbrev get : Message HeadA
-get = of_head (a 4 12 0x2000) 0x2000
+get = record { head = a 4 12 0x2000; home = 0x2000; cells = [] }
 
 get_on_1 : layout rules_a get 1 ≡ beat get.head 1 1 (0 ∷ []) false ∷ []
 get_on_1 = refl

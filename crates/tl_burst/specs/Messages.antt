@@ -18,10 +18,6 @@ pub record Message (H : Type 0) : Type 0 where
   pub home : ℕ
   pub cells : List Cell
 
--- a message without data
-abbrev pub of_head : {H : Type 0} → H → (home : ℕ) → Message H
-of_head h home = record { head = h; home = home; cells = [] }
-
 -- whether a test is true of one of the n numbers from a on
 abbrev pub some_of : (test : ℕ → Bool) → (a n : ℕ) → Bool
 some_of test a zero = false

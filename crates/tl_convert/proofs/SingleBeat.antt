@@ -7,7 +7,8 @@ use Rattle.tl_msg.specs.Rules.{Rules}
 use Rattle.tl_msg.specs.declared.beat.BeatOf.{BeatOf}
 use Rattle.tl_lanes.proofs.ActiveLanes.{is_active-from_lane, is_active-false}
 use Rattle.tl_lanes.specs.Lanes.{IsWidth}
-use Rattle.tl_burst.specs.Messages.{per_beat, beats_of, lane_value, lane_on, mask_at, beat_at, layout, of_head, is_bad}
+use Rattle.tl_burst.specs.Messages.{per_beat, beats_of, lane_value, lane_on, mask_at, beat_at, layout, is_bad}
+use Rattle.tl_convert.specs.Inner.Giving.{of_head}
 use Rattle.tl_lanes.specs.Lanes.{mask_of, is_active, active_mask}
 use Rattle.tl_burst.proofs.Runs.{mask_of-same, some_of-none}
 use Rattle.tl_burst.proofs.OnLane.{on_lane}

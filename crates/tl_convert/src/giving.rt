@@ -4,8 +4,8 @@ ghost use Rattle.std.specs.Prelude.{◌≡◌, ◌≤◌, List, [], true, false}
 ghost use Rattle.tl_lanes.specs.declared.limits.TheConstants.{MAX_SIZE};
 ghost use Rattle.tl_lanes.specs.Lanes.{IsWidth};
 ghost use Rattle.tl_msg.specs.declared.beat.BeatOf.{BeatOf};
-ghost use Rattle.tl_burst.specs.Messages.{layout, of_head};
-ghost use Rattle.tl_convert.specs.Inner.Giving.{Run, Given, GivenData};
+ghost use Rattle.tl_burst.specs.Messages.{layout};
+ghost use Rattle.tl_convert.specs.Inner.Giving.{Run, Given, GivenData, of_head};
 
 use crate::pouring::{blank, pour};
 use arrayvec::ArrayVec;

@@ -3,6 +3,7 @@ use std::alloc::{AllocError, Global};
 use std::fmt::Write;
 use tl_lanes::MAX_SIZE;
 use tl_msg::{Kind, SourceId};
+use tl_trace::id_digits;
 
 /// Text that is written piece by piece. Whether memory was there for all pieces is asked once, at the
 /// end.
@@ -79,7 +80,7 @@ impl Page {
     /// Writes a source or a sink, behind this text, with the digits that it has in a trace of this
     /// version.
     pub fn put_id(&mut self, text: &str, id: SourceId, version: u8) {
-        let digits = if version == 1 { 2 } else { 4 };
+        let digits = id_digits(version);
         let written = write!(self.text, "{text}{id:0digits$x}");
         self.note(written);
     }

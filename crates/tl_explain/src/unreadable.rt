@@ -7,7 +7,7 @@ use tl_answer::at_width;
 use tl_lanes::WIDEST_POWER;
 use tl_msg::{ChA, ChB, ChC, ChD, ChE};
 use tl_trace::{
-    Header, LONGEST_LINE, TraceFault, TraceKind, header_of_text, line_end, line_of, read,
+    Header, LONGEST_LINE, TraceFault, TraceKind, header_of_text, id_digits, line_end, line_of, read,
 };
 
 /// How many bytes of a line are shown: as many as a line of a trace can have, so that the place of a
@@ -65,9 +65,9 @@ fn line_at(text: &[u8], number: u64) -> &[u8] {
     &rest[..end]
 }
 
-/// The version beside this one, and the digits that an id has in it.
-fn other_version(version: u8) -> (u8, u64) {
-    if version == 1 { (2, 4) } else { (1, 2) }
+/// The version beside this one.
+fn other_version(version: u8) -> u8 {
+    if version == 1 { 2 } else { 1 }
 }
 
 /// A line that is to have this form, in a trace with this header.
@@ -149,10 +149,10 @@ impl<'a> FormedLine<'a> {
         alloc: Global,
         named: Header,
     ) -> Result<(), AllocError> {
-        let (version, digits) = other_version(named.version);
+        let version = other_version(named.version);
         if self.is_as_long(alloc, &Header { version, ..named })? {
             out.put_number("; it is as long as in version ", version as u64);
-            out.put_number(", where an id has ", digits);
+            out.put_number(", where an id has ", id_digits(version) as u64);
             out.put(" digits");
         }
         Ok(())

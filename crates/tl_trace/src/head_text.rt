@@ -4,7 +4,7 @@ ghost use Rattle.std.specs.Char.{digit_char};
 ghost use Rattle.tl_trace.specs.Fields.{Form, id_digits, digit_count, value_of, form_a, form_b, form_c, form_d, form_e};
 ghost use Rattle.tl_trace.specs.Lines.{hex, head_text};
 ghost use Rattle.tl_msg.specs.declared.beat.BeatOf.{BeatOf};
-ghost use Rattle.tl_trace.specs.declared.places.TheConstants.{LONGEST_HEAD};
+ghost use Rattle.tl_trace.specs.declared.places.TheConstants.{LONGEST_COMMON, LONGEST_HEAD};
 
 use crate::places::{ADDRESS_DIGITS, LONGEST_LINE, id_digits};
 use crate::text::{Room, fill, fill_byte, fill_field, low_digit, put};
@@ -66,7 +66,7 @@ fn fill_common(
     ensures items { take result line.new ≡ letter ∷ 32 ∷ digit_char (opcode % 16) ∷
         32 ∷ digit_char (param % 16) ∷ 32 ∷ digit_char (size % 16) ∷
         32 ∷ hex (id_digits version) source }
-    ensures end { result ≤ 12 }
+    ensures end { result ≤ LONGEST_COMMON }
 {
     let (opcode, param, size) = (low_digit(opcode), low_digit(param), low_digit(size));
     let id = fill(line, 0, &[letter, b' ', opcode, b' ', param, b' ', size]);

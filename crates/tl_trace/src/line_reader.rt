@@ -29,8 +29,8 @@ fn mask_fits(mask: Mask, w: usize) -> bool
 fn read_mask<K: HeadText, const VERSION: u8>(text: &[u8], at: usize, w: usize) -> MaskNumber
     requires width { w ≤ WIDEST }
     requires room { at + length_of w (mask_fields (K.form VERSION)) ≤ length text.now }
-    ensures part { IsPart w text.now at (mask_fields (K.form VERSION)) (mask_values (K.form VERSION) result.value)
-        result.bad }
+    ensures part { IsPart w text.now at (mask_fields (K.form VERSION))
+        (mask_values (K.form VERSION) result.value) result.bad }
     ensures none { (K.form VERSION).rules.masked ≡ false → result.value ≡ 0 }
 {
     if !K::MASKED {
@@ -56,7 +56,8 @@ fn read_data<K: HeadText, const N: usize, const VERSION: u8>(
         (data_values (K.form VERSION) (number_of_lanes lanes.new) result.value) result.bad }
     ensures bytes { is_lanes N lanes.new ≡ true }
     ensures small { result.bad ≤ 15 → number_of_lanes lanes.new < 256 ^ w }
-    ensures none { (K.form VERSION).rules.corrupts ≡ false → (lanes.new ≡ lanes.old) × (result.value ≡ 0) }
+    ensures none { (K.form VERSION).rules.corrupts ≡ false →
+        (lanes.new ≡ lanes.old) × (result.value ≡ 0) }
 {
     if !K::HAS_DATA {
         return Number { value: 0, bad: 0 };

@@ -4,7 +4,7 @@
 ghost use Rattle.std.specs.Prelude.{◌≡◌, ◌≤◌, ◌<◌, ◌+◌, ◌/◌};
 ghost use Rattle.tl_lanes.specs.declared.limits.TheConstants.{WIDEST};
 ghost use Rattle.tl_trace.specs.Fields.{id_digits, common, addressed, length_of, mask_fields, data_fields, line_length};
-ghost use Rattle.tl_trace.specs.declared.places.TheConstants.{LONGEST_HEAD, LONGEST_MASK, LONGEST_DATA, LONGEST_LINE};
+ghost use Rattle.tl_trace.specs.declared.places.TheConstants.{MOST_ID_DIGITS, LONGEST_COMMON, LONGEST_HEAD, LONGEST_MASK, LONGEST_DATA, LONGEST_LINE};
 
 use crate::head_reader::ReadHead;
 use crate::head_text::HeadText;
@@ -25,8 +25,14 @@ pub const SIZE_AT: usize = PARAM_AT + 2;
 /// The source, behind the one digit of the size.
 pub const SOURCE_AT: usize = SIZE_AT + 2;
 
-/// The most bytes of a head, those of A, B and C in version 2, whose source has four digits.
-pub const LONGEST_HEAD: usize = SOURCE_AT + 5 + 1 + ADDRESS_DIGITS;
+/// The most digits of a source or of a sink, those of version 2.
+pub const MOST_ID_DIGITS: usize = 4;
+
+/// The most bytes of what the heads of A to D begin with, the letter to the source.
+pub const LONGEST_COMMON: usize = SOURCE_AT + 1 + MOST_ID_DIGITS;
+
+/// The most bytes of a head, those of A, B and C in version 2.
+pub const LONGEST_HEAD: usize = LONGEST_COMMON + 1 + ADDRESS_DIGITS;
 
 /// The most bytes of a mask, with its space: a digit for four lanes.
 pub const LONGEST_MASK: usize = 1 + WIDEST / 4;
@@ -37,11 +43,12 @@ pub const LONGEST_DATA: usize = 1 + 2 * WIDEST + 2;
 /// The bytes of the longest line with its LF, that of A or B on the widest bus in version 2 (this project's choice).
 pub const LONGEST_LINE: usize = LONGEST_HEAD + LONGEST_MASK + LONGEST_DATA + 1;
 
-/// The digits of a source or of a sink.
+/// The digits of a source or of a sink in a trace of this version: two in version 1, four in every other (this project's
+/// choice).
 #[inline]
 pub fn id_digits(version: u8) -> usize
     ensures digits { result ≡ id_digits version }
-    ensures few { result ≤ 4 }
+    ensures few { result ≤ MOST_ID_DIGITS }
 {
     if version == 1 { 2 } else { 4 }
 }
@@ -50,7 +57,7 @@ pub fn id_digits(version: u8) -> usize
 #[inline]
 pub fn common_end(version: u8) -> usize
     ensures end { result ≡ 1 + length_of 0 (common version) }
-    ensures few { result ≤ 12 }
+    ensures few { result ≤ LONGEST_COMMON }
 {
     SOURCE_AT + 1 + id_digits(version)
 }
@@ -68,7 +75,7 @@ pub fn addressed_end(version: u8) -> usize
 #[inline]
 pub fn denied_at(version: u8) -> usize
     ensures end { result ≡ 1 + length_of 0 (common version) + 1 + id_digits version }
-    ensures few { result ≤ 17 }
+    ensures few { result ≤ LONGEST_COMMON + 1 + MOST_ID_DIGITS }
 {
     common_end(version) + 1 + id_digits(version)
 }
@@ -77,7 +84,7 @@ pub fn denied_at(version: u8) -> usize
 #[inline]
 pub fn response_end(version: u8) -> usize
     ensures end { result ≡ 1 + length_of 0 (common version) + 1 + id_digits version + 2 }
-    ensures few { result ≤ 19 }
+    ensures few { result ≤ LONGEST_COMMON + 1 + MOST_ID_DIGITS + 2 }
 {
     denied_at(version) + 2
 }
@@ -86,7 +93,7 @@ pub fn response_end(version: u8) -> usize
 #[inline]
 pub fn ack_end(version: u8) -> usize
     ensures end { result ≡ FIRST_AT + 1 + id_digits version }
-    ensures few { result ≤ 6 }
+    ensures few { result ≤ FIRST_AT + 1 + MOST_ID_DIGITS }
 {
     FIRST_AT + 1 + id_digits(version)
 }

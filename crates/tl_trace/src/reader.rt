@@ -15,6 +15,7 @@ use crate::line::Line;
 use crate::line_reader::read_beat;
 use crate::places::line_len;
 use crate::trace::Trace;
+use crate::versions::at_version;
 use std::alloc::Global;
 use tl_lanes::WIDEST;
 use tl_msg::{ChA, ChB, ChC, ChD, ChE};
@@ -120,7 +121,8 @@ pub fn next_line<const VERSION: u8>(
     requires manager { manager ≤ WIDEST }
     requires at { at < length text.now }
     ensures line { LineAt text.now at result.0 }
-    ensures ok { IfOk result.1 (IsReadLine VERSION client manager (slice_range text.now at result.0)) }
+    ensures ok { IfOk result.1
+        (IsReadLine VERSION client manager (slice_range text.now at result.0)) }
     ensures err { IfErr result.1 (λ kind.
         body_fault VERSION client manager (slice_range text.now at result.0) ≡ Some kind) }
     ensures kinds { IfErr result.1 (λ kind. kind ≢ OutOfMemory) }
@@ -201,11 +203,10 @@ fn read_lines_of(
     ensures fault { IfErr result (λ e. e.kind ≢ OutOfMemory → IsFirstFault text.now e.line e.kind) }
     ensures memory { IfErr result (λ e. e.kind ≡ OutOfMemory → IsReadableTo text.now e.line) }
 {
-    if header.version == 1 {
-        read_lines::<1>(alloc, text, start, header.client, header.manager)
-    } else {
-        read_lines::<2>(alloc, text, start, header.client, header.manager)
-    }
+    at_version!(
+        header.version,
+        read_lines::<_>(alloc, text, start, header.client, header.manager)
+    )
 }
 
 /// Reads a text of version 1 or 2. The trace is the one that the text tells. A fault is the first one of the text, with

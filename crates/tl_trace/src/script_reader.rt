@@ -16,6 +16,7 @@ use crate::near::{near_of, push_near};
 use crate::places::{LONGEST_LINE, line_len};
 use crate::reader::{line_end, next_line, read_line};
 use crate::script::{Script, empty_script};
+use crate::versions::at_version;
 use std::alloc::Global;
 use tl_msg::{Beat, ChA, ChB, ChC, ChD, ChE};
 
@@ -100,8 +101,8 @@ fn read_beats<const C: usize, const M: usize, const VERSION: u8>(
         HasRead VERSION (done ++ take far.0 piece.now) script.new far.1) }
     ensures fault { (done more : List ℕ) → HasRead VERSION done script.old line → IfErr result (λ e.
         e.kind ≢ OutOfMemory → IsFirstFault (done ++ piece.now ++ more) e.line e.kind) }
-    ensures memory { (done more : List ℕ) → HasRead VERSION done script.old line → IfErr result (λ e.
-        e.kind ≡ OutOfMemory → IsReadableTo (done ++ piece.now ++ more) e.line) }
+    ensures memory { (done more : List ℕ) → HasRead VERSION done script.old line →
+        IfErr result (λ e. e.kind ≡ OutOfMemory → IsReadableTo (done ++ piece.now ++ more) e.line) }
 {
     let mut at = 0;
     let mut before = line;
@@ -150,14 +151,10 @@ fn read_beats_of<const C: usize, const M: usize>(
         HasRead version (done ++ take far.0 piece.now) script.new far.1) }
     ensures fault { (done more : List ℕ) → HasRead version done script.old line → IfErr result (λ e.
         e.kind ≢ OutOfMemory → IsFirstFault (done ++ piece.now ++ more) e.line e.kind) }
-    ensures memory { (done more : List ℕ) → HasRead version done script.old line → IfErr result (λ e.
-        e.kind ≡ OutOfMemory → IsReadableTo (done ++ piece.now ++ more) e.line) }
+    ensures memory { (done more : List ℕ) → HasRead version done script.old line →
+        IfErr result (λ e. e.kind ≡ OutOfMemory → IsReadableTo (done ++ piece.now ++ more) e.line) }
 {
-    if version == 1 {
-        read_beats::<C, M, 1>(script, piece, line)
-    } else {
-        read_beats::<C, M, 2>(script, piece, line)
-    }
+    at_version!(version, read_beats::<C, M, _>(script, piece, line))
 }
 
 /// The fault of a line without its LF.
@@ -185,11 +182,7 @@ fn unfinished_fault_of<const C: usize, const M: usize>(rest: &[u8], version: u8)
     ensures fault { later_fault version C M rest.now ≡ Some result }
     ensures kind { result ≢ OutOfMemory }
 {
-    if version == 1 {
-        unfinished_fault::<C, M, 1>(rest)
-    } else {
-        unfinished_fault::<C, M, 2>(rest)
-    }
+    at_version!(version, unfinished_fault::<C, M, _>(rest))
 }
 
 /// Reads a text piece by piece, from its lines straight into the lists of a script, with no trace
@@ -241,9 +234,9 @@ impl<const C: usize, const M: usize> ScriptReader<C, M> {
         ensures rest { IfOk result (λ used. IsUnfinished (drop used piece.now)) }
 
         // for every part of the text that it stood for
-        ensures told { (done : List ℕ) → HasRead self.old.version done self.old.script self.old.line →
-            IfOk result (λ used. HasRead self.old.version (done ++ take used piece.now)
-            self.new.script self.new.line) }
+        ensures told { (done : List ℕ) →
+            HasRead self.old.version done self.old.script self.old.line → IfOk result (λ used.
+            HasRead self.old.version (done ++ take used piece.now) self.new.script self.new.line) }
         ensures fault { (done more : List ℕ) →
             HasRead self.old.version done self.old.script self.old.line → IfErr result (λ e.
             e.kind ≢ OutOfMemory → IsFirstFault (done ++ piece.now ++ more) e.line e.kind) }
@@ -271,8 +264,9 @@ impl<const C: usize, const M: usize> ScriptReader<C, M> {
         ensures kind { IfSome result (λ e. e.kind ≢ OutOfMemory) }
 
         // for every part of the text that it stood for
-        ensures fault { (done : List ℕ) → HasRead self.now.version done self.now.script self.now.line →
-            IfSome result (λ e. IsFirstFault (done ++ rest.now) e.line e.kind) }
+        ensures fault { (done : List ℕ) →
+            HasRead self.now.version done self.now.script self.now.line → IfSome result (λ e.
+            IsFirstFault (done ++ rest.now) e.line e.kind) }
     {
         if rest.is_empty() {
             return None;

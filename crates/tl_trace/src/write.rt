@@ -141,8 +141,10 @@ fn write_batch<K: HeadText, const W: usize>(
 ) -> Result<(), OutOfMemory>
     requires width { IsWidth W }
     requires few { length beats.now ≤ BATCH }
-    ensures ok { OnOk result (out.new.items ≡ out.old.items ++ beats_text (K.form version) W beats.now) }
-    ensures front { (n : ℕ) → n ≤ length out.old.items → take n out.new.items ≡ take n out.old.items }
+    ensures ok { OnOk result
+        (out.new.items ≡ out.old.items ++ beats_text (K.form version) W beats.now) }
+    ensures front { (n : ℕ) → n ≤ length out.old.items →
+        take n out.new.items ≡ take n out.old.items }
 {
     fill_lines::<K, W>(lines, ends, beats, version);
     for i in 0..beats.len() {
@@ -160,7 +162,8 @@ fn write_lines<K: HeadText, const W: usize>(
     version: u8,
 ) -> Result<(), OutOfMemory>
     requires { IsWidth W }
-    ensures ok { OnOk result (out.new.items ≡ out.old.items ++ beats_text (K.form version) W beats.now) }
+    ensures ok { OnOk result
+        (out.new.items ≡ out.old.items ++ beats_text (K.form version) W beats.now) }
     ensures err { OnErr result (out.new.items ≡ out.old.items) }
 {
     let start = out.len();
@@ -192,7 +195,8 @@ pub fn write_far<K: HeadText, const W: usize>(
     version: u8,
 ) -> Result<(), OutOfMemory>
     requires { IsWidth W }
-    ensures ok { OnOk result (out.new.items ≡ out.old.items ++ beats_text (K.form version) W beats.now) }
+    ensures ok { OnOk result
+        (out.new.items ≡ out.old.items ++ beats_text (K.form version) W beats.now) }
     ensures err { OnErr result (out.new.items ≡ out.old.items) }
 {
     // Both branches do the same: in each the digits of an id are known, and so is the place of

@@ -5,6 +5,7 @@ use crate::five::{
     script_in_pieces, script_made, script_read,
 };
 use std::alloc::{AllocError, Global};
+use std::process::Abort;
 use std::test::Fail;
 use tl_lanes::Mask;
 use tl_msg::{BeatOf, ChA, ChE, HeadA, HeadE, SideFault, SinkId, Verdict};
@@ -268,13 +269,23 @@ fn with_line(alloc: Global, at: usize, line: &[u8]) -> Result<Vec<u8>, AllocErro
     Ok(text)
 }
 
+/// Whether this text is written for a trace, which makes the script of five beats.
+fn is_written_and_made(alloc: Global, trace: &Trace, text: &[u8]) -> Result<bool, Fail> {
+    Ok(is_written_as(alloc, trace, text)? && is_script_of_five(&script_made(alloc, trace)?))
+}
+
+/// Whether the text of five beats has 206 bytes, and is read and written.
+fn is_read_and_written(alloc: Global, text: &[u8]) -> Result<bool, Fail> {
+    if text.len() != 206 {
+        return Ok(false);
+    }
+    is_written_and_made(alloc, &read(alloc, text)?, text)
+}
+
 #[test]
 fn reads_and_writes_five_beats(rt: HostRuntime) -> Result<(), Fail> {
     let text = with_line(rt.alloc(), 6, b"")?;
-    assert_eq!(rt; text.len(), 206);
-    let trace = read(rt.alloc(), &text)?;
-    assert!(rt; is_written_as(rt.alloc(), &trace, &text)?);
-    assert!(rt; is_script_of_five(&script_made(rt.alloc(), &trace)?));
+    assert!(rt; is_read_and_written(rt.alloc(), &text)?);
     Ok(())
 }
 
@@ -285,48 +296,55 @@ fn reads_a_script_of_five_beats(rt: HostRuntime) -> Result<(), Fail> {
     Ok(())
 }
 
-/// The five lines, in two pieces that part them at each byte.
-#[test]
-fn scripts_are_read_in_pieces(rt: HostRuntime) -> Result<(), Fail> {
-    let text = with_line(rt.alloc(), 6, b"")?;
-    let lines = text.get(FIVE[0].len()..).unwrap_or(&[]);
+/// Reads lines in two pieces that part them at each byte.
+fn read_in_pieces<R: Abort>(rt: &R, alloc: Global, lines: &[u8]) -> Result<(), Fail> {
     for first in 0..=lines.len() {
-        match script_in_pieces(rt.alloc(), lines, first) {
-            Ok(script) => assert!(rt; is_script_of_five(&script), "{first} bytes"),
+        match script_in_pieces(alloc, lines, first) {
+            Ok(script) => assert!(*rt; is_script_of_five(&script), "{first} bytes"),
             Err(fault) => return Err(Fail::new(fault)),
         }
     }
     Ok(())
 }
 
-/// The lines without the end of the last one, and the third one with another letter, in two pieces
-/// that part them at each byte.
+/// The five lines.
+#[test]
+fn scripts_are_read_in_pieces(rt: HostRuntime) -> Result<(), Fail> {
+    let text = with_line(rt.alloc(), 6, b"")?;
+    read_in_pieces(&rt, rt.alloc(), text.get(FIVE[0].len()..).unwrap_or(&[]))
+}
+
+/// Reads lines with a fault in two pieces that part them at each byte.
+fn find_in_pieces<R: Abort>(rt: &R, alloc: Global, lines: &[u8], wanted: TraceFault) {
+    for first in 0..=lines.len() {
+        let fault = script_in_pieces(alloc, lines, first).err();
+        assert!(*rt; fault == Some(wanted), "{first} bytes");
+    }
+}
+
+const NO_END: TraceFault = TraceFault {
+    line: 6,
+    kind: TraceKind::NoEnd,
+};
+
+const OTHER_LETTER: TraceFault = TraceFault {
+    line: 3,
+    kind: TraceKind::Channel,
+};
+
+/// The lines without the end of the last one, and the third one with another letter.
 #[test]
 fn faults_are_found_in_pieces(rt: HostRuntime) -> Result<(), Fail> {
     let mut text = with_line(rt.alloc(), 6, b"")?;
     let start = FIVE[0].len();
     let cut = text.len().saturating_sub(1);
     let lines = text.get(start..cut).unwrap_or(&[]);
-    for first in 0..=lines.len() {
-        let fault = script_in_pieces(rt.alloc(), lines, first).err();
-        let missing = TraceFault {
-            line: 6,
-            kind: TraceKind::NoEnd,
-        };
-        assert!(rt; fault == Some(missing), "{first} bytes");
-    }
+    find_in_pieces(&rt, rt.alloc(), lines, NO_END);
     if let Some(letter) = text.get_mut(start + FIVE[1].len()) {
         *letter = b'F';
     }
     let lines = text.get(start..).unwrap_or(&[]);
-    for first in 0..=lines.len() {
-        let fault = script_in_pieces(rt.alloc(), lines, first).err();
-        let other = TraceFault {
-            line: 3,
-            kind: TraceKind::Channel,
-        };
-        assert!(rt; fault == Some(other), "{first} bytes");
-    }
+    find_in_pieces(&rt, rt.alloc(), lines, OTHER_LETTER);
     Ok(())
 }
 
@@ -341,12 +359,21 @@ fn faults_print_number_and_name(rt: HostRuntime) -> Result<(), Fail> {
     Ok(())
 }
 
+/// The first fault of the text of five beats with another text in place of one line.
+fn fault_with_line(
+    alloc: Global,
+    at: usize,
+    line: &[u8],
+) -> Result<Option<(u64, TraceKind)>, AllocError> {
+    let text = with_line(alloc, at, line)?;
+    Ok(fault_of(alloc, &text))
+}
+
 #[test]
 fn answers_the_first_fault(rt: HostRuntime) -> Result<(), Fail> {
     for (at, bytes, line, kind) in &FAULTY {
-        let text = with_line(rt.alloc(), *at, bytes)?;
         assert!(rt;
-            fault_of(rt.alloc(), &text) == Some((*line, *kind)),
+            fault_with_line(rt.alloc(), *at, bytes)? == Some((*line, *kind)),
             "line {line}"
         );
     }
@@ -377,13 +404,17 @@ fn fault_of_cut(n: usize) -> Option<(u64, TraceKind)> {
     None
 }
 
+fn cut_at_each_byte<R: Abort>(rt: &R, alloc: Global, text: &[u8]) {
+    for n in 0..206 {
+        let cut = text.get(..n).unwrap_or(&[]);
+        assert!(*rt; fault_of(alloc, cut) == fault_of_cut(n), "{n} bytes");
+    }
+}
+
 #[test]
 fn answers_cut_texts(rt: HostRuntime) -> Result<(), Fail> {
     let text = with_line(rt.alloc(), 6, b"")?;
-    for n in 0..206 {
-        let cut = Vec::from_slice(rt.alloc(), text.get(..n).unwrap_or(&[]))?;
-        assert!(rt; fault_of(rt.alloc(), &cut) == fault_of_cut(n), "{n} bytes");
-    }
+    cut_at_each_byte(&rt, rt.alloc(), &text);
     Ok(())
 }
 
@@ -406,14 +437,23 @@ fn reads_and_writes_lanes(rt: HostRuntime) -> Result<(), Fail> {
     Ok(())
 }
 
+/// Whether this text is that of five beats of version 2, and is read as their trace.
+fn is_text_of_five_2(alloc: Global, text: &[u8]) -> Result<bool, Fail> {
+    Ok(text == FIVE_2 && is_five_2(&read(alloc, text)?))
+}
+
+/// Whether this is the trace of five beats of version 2, which makes their script and is written as their text.
+fn is_kept(alloc: Global, trace: &Trace) -> Result<bool, Fail> {
+    if !is_five_2(trace) || !is_script_of_five_2(&script_made(alloc, trace)?) {
+        return Ok(false);
+    }
+    is_text_of_five_2(alloc, &write_trace(alloc, trace)?)
+}
+
 #[test]
 fn reads_and_writes_version_2(rt: HostRuntime) -> Result<(), Fail> {
     let trace = read(rt.alloc(), FIVE_2)?;
-    assert!(rt; is_five_2(&trace));
-    assert!(rt; is_script_of_five_2(&script_made(rt.alloc(), &trace)?));
-    let text = write_trace(rt.alloc(), &trace)?;
-    assert!(rt; text.as_slice() == FIVE_2);
-    assert!(rt; is_five_2(&read(rt.alloc(), &text)?));
+    assert!(rt; is_kept(rt.alloc(), &trace)?);
     Ok(())
 }
 
@@ -468,17 +508,24 @@ const WAITING: Verdict = Verdict::Waiting {
     fault: SideFault::SourceBusy,
 };
 
+/// Writes two beats of A, one of E in version 2, and two verdicts.
+fn write_beats_and_reports(out: &mut Vec<u8>) -> Result<(), OutOfMemory> {
+    write_far::<ChA, 4>(out, &[PUT, PUT], 1)?;
+    write_far::<ChE, 4>(out, &[ACK], 2)?;
+    write_report(out, b'A', &WAITING)?;
+    write_report(out, b'C', &Verdict::Done { near: 1, far: 64 })
+}
+
+/// What is written of them.
+const WRITTEN: &[u8] =
+    b"xA 0 0 3 01 0000000000000010 f 03020100 1\nA 0 0 3 01 0000000000000010 f 03020100 1\nE 002a\n= A waiting 3 SourceBusy\n= C done 1 64\n";
+
 #[test]
 fn writes_lines_and_reports(rt: HostRuntime) -> Result<(), Fail> {
     assert!(rt; line_of::<ChE, 4>(&ACK, 1).as_slice() == b"E 2a\n".as_slice());
     assert!(rt; line_of::<ChE, 4>(&ACK, 2).as_slice() == b"E 002a\n".as_slice());
     let mut out = Vec::from_slice(rt.alloc(), b"x")?;
-    write_far::<ChA, 4>(&mut out, &[PUT, PUT], 1)?;
-    write_far::<ChE, 4>(&mut out, &[ACK], 2)?;
-    write_report(&mut out, b'A', &WAITING)?;
-    write_report(&mut out, b'C', &Verdict::Done { near: 1, far: 64 })?;
-    let written =
-        b"xA 0 0 3 01 0000000000000010 f 03020100 1\nA 0 0 3 01 0000000000000010 f 03020100 1\nE 002a\n= A waiting 3 SourceBusy\n= C done 1 64\n";
-    assert!(rt; out.as_slice() == written.as_slice());
+    write_beats_and_reports(&mut out)?;
+    assert!(rt; out.as_slice() == WRITTEN);
     Ok(())
 }

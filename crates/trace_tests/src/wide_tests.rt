@@ -2,7 +2,7 @@
 #![tactic(auto, using(tl_lanes::proofs::Widths::width_64, tl_lanes::proofs::Widths::width_128))]
 
 use crate::five::{fault_of, is_written_as};
-use std::alloc::Global;
+use std::alloc::{AllocError, Global};
 use std::test::Fail;
 use tl_msg::{BeatOf, ChA, HeadA};
 use tl_trace::{
@@ -77,28 +77,36 @@ fn reads_and_writes_128_lanes(rt: HostRuntime) -> Result<(), Fail> {
     Ok(())
 }
 
+/// Whether these beats of A are written as the lines of that text.
+fn is_written_wide(alloc: Global, beats: &[BeatOf<HeadA, 128>]) -> Result<bool, Fail> {
+    let mut out = Vec::from_slice(alloc, b"tilelink-trace 2 client 128 manager 64\n")?;
+    write_far::<ChA, 128>(&mut out, beats, 2)?;
+    Ok(out.as_slice() == WIDE)
+}
+
 #[test]
 fn reads_a_script_of_128_lanes(rt: HostRuntime) -> Result<(), Fail> {
     let script = script_of_wide(rt.alloc(), WIDE)?;
-    assert!(rt; is_script_of_wide(&script));
-    let mut out = Vec::from_slice(rt.alloc(), b"tilelink-trace 2 client 128 manager 64\n")?;
-    write_far::<ChA, 128>(&mut out, &script.a, 2)?;
-    assert!(rt; out.as_slice() == WIDE);
+    assert!(rt; is_script_of_wide(&script) && is_written_wide(rt.alloc(), &script.a)?);
     Ok(())
+}
+
+/// Whether that text is refused with a bad digit in its first mask, as a trace and as a script.
+fn is_refused_with_digit(alloc: Global, i: usize) -> Result<bool, AllocError> {
+    let mut text = Vec::from_slice(alloc, WIDE)?;
+    if let Some(byte) = text.get_mut(MASK_AT.saturating_add(i)) {
+        *byte = b'F';
+    }
+    Ok(
+        fault_of(alloc, &text) == Some((2, TraceKind::Shape))
+            && script_of_wide(alloc, &text).is_err(),
+    )
 }
 
 #[test]
 fn no_bad_digit_of_a_mask_is_taken(rt: HostRuntime) -> Result<(), Fail> {
     for i in 0..32 {
-        let mut text = Vec::from_slice(rt.alloc(), WIDE)?;
-        if let Some(byte) = text.get_mut(MASK_AT + i) {
-            *byte = b'F';
-        }
-        assert!(rt;
-            fault_of(rt.alloc(), &text) == Some((2, TraceKind::Shape)),
-            "digit {i}"
-        );
-        assert!(rt; script_of_wide(rt.alloc(), &text).is_err(), "digit {i}");
+        assert!(rt; is_refused_with_digit(rt.alloc(), i)?, "digit {i}");
     }
     Ok(())
 }
@@ -120,8 +128,8 @@ const LONGEST: BeatOf<HeadA, 128> = BeatOf {
 #[test]
 fn the_longest_line_has_room(rt: HostRuntime) -> Result<(), Fail> {
     let line = line_of::<ChA, 128>(&LONGEST, 2);
-    assert_eq!(rt; line.len(), 322);
-    assert_eq!(rt; LONGEST_LINE, 322);
+    assert!(rt; line.len() == 322);
+    assert!(rt; LONGEST_LINE == 322);
     let head = b"A 1 0 7 0001 0000000000000080 8000000000000001c000000000000003 a5a5a5";
     assert!(rt; line.as_slice().starts_with(head));
     assert!(rt; line.as_slice().ends_with(b"a5a5 0\n"));

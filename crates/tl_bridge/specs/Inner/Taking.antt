@@ -1,6 +1,7 @@
 -- A side of a run in two threads takes beats from its inboxes, and notes them. Only private contracts cite these words.
-use Rattle.std.proofs.Common.{◌≡◌, ◌++◌, ℕ, List, [], map, refl, sym, ap, subst, ◌∙◌, append-nil, append_assoc}
+use Rattle.std.proofs.Common.{◌≡◌, ◌++◌, ℕ, Option, List, [], map, take, drop, refl, sym, ap, subst, ◌∙◌, append-nil, append_assoc}
 use Rattle.std.proofs.lemmas.List.{map-append}
+use Rattle.std.specs.Prelude.{slice_get}
 use Rattle.tl_msg.specs.declared.head.HeadA.{HeadA}
 use Rattle.tl_msg.specs.declared.head.HeadB.{HeadB}
 use Rattle.tl_msg.specs.declared.head.HeadC.{HeadC}
@@ -26,6 +27,12 @@ module _ {K B E : Type 0} (Knows : K → List E → Type 0) (event : B → E) wh
 
   pub noted_then : (k l m : K) (i j : List B) → HasNoted k i l → HasNoted l j m → HasNoted k (i ++ j) m
   noted_then k l m i j f g es h = subst (λ q. Knows m q) (events-on event es i j) (g (es ++ map event i) (f es h))
+
+-- the first beat of an inbox was taken, if one stood there
+pub record TookFirst {S B : Type 0} (inbox : S → List B) (Becomes : S → List B → S → Type 0) (s : S) (beat : Option B) (s' : S) : Type 0 where
+  pub is : beat ≡ slice_get (inbox s) 0
+  pub left : inbox s' ≡ drop 1 (inbox s)
+  pub becomes : Becomes s (take 1 (inbox s)) s'
 
 -- What a side stands for, what taking some beats makes of it, and the side without what such takes change
 module _ {S P B : Type 0} (Stands : S → P → Type 0) (takes : List B → P → P) (rest : S → S) where

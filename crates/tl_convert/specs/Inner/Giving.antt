@@ -2,11 +2,15 @@
 use Rattle.std.specs.Prelude.{◌≡◌, ◌≢◌, ◌<◌, ◌*◌, ◌++◌, ℕ, true, Some, List, [], ◌∷◌, length, slice_index}
 use Rattle.tl_msg.specs.Rules.{Rules}
 use Rattle.tl_msg.specs.declared.beat.BeatOf.{BeatOf}
-use Rattle.tl_burst.specs.Messages.{per_beat, beats_of}
+use Rattle.tl_burst.specs.Messages.{Message, per_beat, beats_of}
 use Rattle.tl_burst.specs.Reading.{message_of}
 use Rattle.tl_burst.proofs.Fits.{FitsMask, head_of}
 use Rattle.tl_convert.specs.Due.{part, due_after, far_beats_of}
 use Rattle.tl_convert.specs.Partial.{Filled}
+
+-- a message without data
+abbrev pub of_head : {H : Type 0} → H → (home : ℕ) → Message H
+of_head h home = record { head = h; home = home; cells = [] }
 
 -- the beats of the message that came before this one, and the far beat that they have begun
 pub record Run {H : Type 0} {W V : ℕ} (r : Rules H) (index home : ℕ) (b : BeatOf H W) (partial : BeatOf H V) (bs : List (BeatOf H W)) : Type 0 where

@@ -1,9 +1,9 @@
-use Rattle.std.proofs.Common.{lit<, rules}
+use Rattle.std.proofs.Common.{lit<}
 use Rattle.tl_answer.proofs.Running.{size-is-right}
 use Rattle.tl_answer.proofs.answer.run_script.Goals as goal
 
-pub run_threads-requires : goal.run_threads-requires
-run_threads-requires g c = (search rules, (search rules, (lit< tt, (lit< tt, (c.requires.client, (c.requires.manager, (c.requires.short, c.turns-turns.ensures.some c.requires.runnable)))))))
+pub run_threads-requires-after_bounds : goal.run_threads-requires-after_bounds
+run_threads-requires-after_bounds g c = λ κs bounds. (lit< tt, (lit< tt, (c.requires.client, (c.requires.manager, (c.requires.short, c.turns-turns.ensures.some c.requires.runnable)))))
 
 pub returns-clause-ok : goal.returns-clause-ok
 returns-clause-ok g c = c.run_threads.ensures.outcome

@@ -10,89 +10,89 @@ use Rattle.tl_bridge.proofs.ahead.all_go_ahead.Goals as goal
 pub deref-requires : goal.deref-requires
 deref-requires g c = λ κs. (lives-long κs.1.0, lives-long κs.1.1.0)
 
+pub go_ahead-at-requires : goal.go_ahead-at-requires
+go_ahead-at-requires g c = record { can = (c.requires.client, c.requires.manager); few = c.requires.few.a; most = c.requires.most }
+
+pub go_ahead-at-requires-room-S-Offers : goal.go_ahead-at-requires-room-S-Offers
+go_ahead-at-requires-room-S-Offers g c κs = bridge_small g.row.C g.row.M c.requires.client c.requires.manager
+
+pub go_ahead-at-requires-room-S-Offers-2 : goal.go_ahead-at-requires-room-S-Offers-2
+go_ahead-at-requires-room-S-Offers-2 g c κs = beat_small g.row.C c.requires.client
+
 pub go_ahead-at-requires-room-S-GoesAhead : goal.go_ahead-at-requires-room-S-GoesAhead
-go_ahead-at-requires-room-S-GoesAhead g c = λ κs. bridge_small g.row.C g.row.M c.requires.client c.requires.manager
-
-pub go_ahead-at-requires-clause-can : goal.go_ahead-at-requires-clause-can
-go_ahead-at-requires-clause-can g c = (c.requires.client, c.requires.manager)
-
-pub go_ahead-at-requires-clause-few : goal.go_ahead-at-requires-clause-few
-go_ahead-at-requires-clause-few g c = c.requires.few.a
-
-pub go_ahead-at-requires-clause-most : goal.go_ahead-at-requires-clause-most
-go_ahead-at-requires-clause-most g c = c.requires.most
-
-pub deref-requires-2 : goal.deref-requires-2
-deref-requires-2 g c = λ κs. (lives-long κs.1.0, lives-long κs.1.1.0)
-
-pub go_ahead-at-requires-2-room-S-GoesAhead : goal.go_ahead-at-requires-2-room-S-GoesAhead
-go_ahead-at-requires-2-room-S-GoesAhead g c = λ κs. bridge_small g.row.C g.row.M c.requires.client c.requires.manager
-
-pub go_ahead-at-requires-2-clause-can : goal.go_ahead-at-requires-2-clause-can
-go_ahead-at-requires-2-clause-can g c = (c.requires.client, c.requires.manager)
-
-pub go_ahead-at-requires-2-clause-few : goal.go_ahead-at-requires-2-clause-few
-go_ahead-at-requires-2-clause-few g c = c.requires.few.c
-
-pub go_ahead-at-requires-2-clause-most : goal.go_ahead-at-requires-2-clause-most
-go_ahead-at-requires-2-clause-most g c = c.requires.most
-
-pub deref-requires-3 : goal.deref-requires-3
-deref-requires-3 g c = λ κs. (lives-long κs.1.0, lives-long κs.1.1.0)
-
-pub go_ahead-at-requires-3-room-S-GoesAhead : goal.go_ahead-at-requires-3-room-S-GoesAhead
-go_ahead-at-requires-3-room-S-GoesAhead g c = λ κs. bridge_small g.row.C g.row.M c.requires.client c.requires.manager
-
-pub go_ahead-at-requires-3-clause-can : goal.go_ahead-at-requires-3-clause-can
-go_ahead-at-requires-3-clause-can g c = (c.requires.client, c.requires.manager)
-
-pub go_ahead-at-requires-3-clause-few : goal.go_ahead-at-requires-3-clause-few
-go_ahead-at-requires-3-clause-few g c = c.requires.few.e
-
-pub go_ahead-at-requires-3-clause-most : goal.go_ahead-at-requires-3-clause-most
-go_ahead-at-requires-3-clause-most g c = c.requires.most
-
-pub deref-requires-4 : goal.deref-requires-4
-deref-requires-4 g c = λ κs. (lives-long κs.1.0, lives-long κs.1.1.0)
-
-pub go_ahead-at-requires-4-room-S-GoesAhead : goal.go_ahead-at-requires-4-room-S-GoesAhead
-go_ahead-at-requires-4-room-S-GoesAhead g c = λ κs. bridge_small g.row.C g.row.M c.requires.client c.requires.manager
-
-pub go_ahead-at-requires-4-clause-can : goal.go_ahead-at-requires-4-clause-can
-go_ahead-at-requires-4-clause-can g c = (c.requires.client, c.requires.manager)
-
-pub go_ahead-at-requires-4-clause-few : goal.go_ahead-at-requires-4-clause-few
-go_ahead-at-requires-4-clause-few g c = c.requires.few.b
-
-pub go_ahead-at-requires-4-clause-most : goal.go_ahead-at-requires-4-clause-most
-go_ahead-at-requires-4-clause-most g c = c.requires.most
-
-pub deref-requires-5 : goal.deref-requires-5
-deref-requires-5 g c = λ κs. (lives-long κs.1.0, lives-long κs.1.1.0)
-
-pub go_ahead-at-requires-5-room-S-GoesAhead : goal.go_ahead-at-requires-5-room-S-GoesAhead
-go_ahead-at-requires-5-room-S-GoesAhead g c = λ κs. bridge_small g.row.C g.row.M c.requires.client c.requires.manager
-
-pub go_ahead-at-requires-5-clause-can : goal.go_ahead-at-requires-5-clause-can
-go_ahead-at-requires-5-clause-can g c = (c.requires.client, c.requires.manager)
-
-pub go_ahead-at-requires-5-clause-few : goal.go_ahead-at-requires-5-clause-few
-go_ahead-at-requires-5-clause-few g c = c.requires.few.d
-
-pub go_ahead-at-requires-5-clause-most : goal.go_ahead-at-requires-5-clause-most
-go_ahead-at-requires-5-clause-most g c = c.requires.most
+go_ahead-at-requires-room-S-GoesAhead g c κs = bridge_small g.row.C g.row.M c.requires.client c.requires.manager
 
 pub go_ahead-at-requires-room-S-GoesAhead-2 : goal.go_ahead-at-requires-room-S-GoesAhead-2
 go_ahead-at-requires-room-S-GoesAhead-2 g c κs = beat_small g.row.C c.requires.client
 
+pub deref-requires-2 : goal.deref-requires-2
+deref-requires-2 g c = λ κs. (lives-long κs.1.0, lives-long κs.1.1.0)
+
+pub go_ahead-at-requires-2 : goal.go_ahead-at-requires-2
+go_ahead-at-requires-2 g c = record { can = (c.requires.client, c.requires.manager); few = c.requires.few.c; most = c.requires.most }
+
+pub go_ahead-at-requires-2-room-S-Offers : goal.go_ahead-at-requires-2-room-S-Offers
+go_ahead-at-requires-2-room-S-Offers g c κs = bridge_small g.row.C g.row.M c.requires.client c.requires.manager
+
+pub go_ahead-at-requires-2-room-S-Offers-2 : goal.go_ahead-at-requires-2-room-S-Offers-2
+go_ahead-at-requires-2-room-S-Offers-2 g c κs = beat_small g.row.C c.requires.client
+
+pub go_ahead-at-requires-2-room-S-GoesAhead : goal.go_ahead-at-requires-2-room-S-GoesAhead
+go_ahead-at-requires-2-room-S-GoesAhead g c κs = bridge_small g.row.C g.row.M c.requires.client c.requires.manager
+
 pub go_ahead-at-requires-2-room-S-GoesAhead-2 : goal.go_ahead-at-requires-2-room-S-GoesAhead-2
 go_ahead-at-requires-2-room-S-GoesAhead-2 g c κs = beat_small g.row.C c.requires.client
+
+pub deref-requires-3 : goal.deref-requires-3
+deref-requires-3 g c = λ κs. (lives-long κs.1.0, lives-long κs.1.1.0)
+
+pub go_ahead-at-requires-3 : goal.go_ahead-at-requires-3
+go_ahead-at-requires-3 g c = record { can = (c.requires.client, c.requires.manager); few = c.requires.few.e; most = c.requires.most }
+
+pub go_ahead-at-requires-3-room-S-Offers : goal.go_ahead-at-requires-3-room-S-Offers
+go_ahead-at-requires-3-room-S-Offers g c κs = bridge_small g.row.C g.row.M c.requires.client c.requires.manager
+
+pub go_ahead-at-requires-3-room-S-Offers-2 : goal.go_ahead-at-requires-3-room-S-Offers-2
+go_ahead-at-requires-3-room-S-Offers-2 g c κs = beat_small g.row.C c.requires.client
+
+pub go_ahead-at-requires-3-room-S-GoesAhead : goal.go_ahead-at-requires-3-room-S-GoesAhead
+go_ahead-at-requires-3-room-S-GoesAhead g c κs = bridge_small g.row.C g.row.M c.requires.client c.requires.manager
 
 pub go_ahead-at-requires-3-room-S-GoesAhead-2 : goal.go_ahead-at-requires-3-room-S-GoesAhead-2
 go_ahead-at-requires-3-room-S-GoesAhead-2 g c κs = beat_small g.row.C c.requires.client
 
+pub deref-requires-4 : goal.deref-requires-4
+deref-requires-4 g c = λ κs. (lives-long κs.1.0, lives-long κs.1.1.0)
+
+pub go_ahead-at-requires-4 : goal.go_ahead-at-requires-4
+go_ahead-at-requires-4 g c = record { can = (c.requires.client, c.requires.manager); few = c.requires.few.b; most = c.requires.most }
+
+pub go_ahead-at-requires-4-room-S-Offers : goal.go_ahead-at-requires-4-room-S-Offers
+go_ahead-at-requires-4-room-S-Offers g c κs = bridge_small g.row.C g.row.M c.requires.client c.requires.manager
+
+pub go_ahead-at-requires-4-room-S-Offers-2 : goal.go_ahead-at-requires-4-room-S-Offers-2
+go_ahead-at-requires-4-room-S-Offers-2 g c κs = beat_small g.row.M c.requires.manager
+
+pub go_ahead-at-requires-4-room-S-GoesAhead : goal.go_ahead-at-requires-4-room-S-GoesAhead
+go_ahead-at-requires-4-room-S-GoesAhead g c κs = bridge_small g.row.C g.row.M c.requires.client c.requires.manager
+
 pub go_ahead-at-requires-4-room-S-GoesAhead-2 : goal.go_ahead-at-requires-4-room-S-GoesAhead-2
 go_ahead-at-requires-4-room-S-GoesAhead-2 g c κs = beat_small g.row.M c.requires.manager
+
+pub deref-requires-5 : goal.deref-requires-5
+deref-requires-5 g c = λ κs. (lives-long κs.1.0, lives-long κs.1.1.0)
+
+pub go_ahead-at-requires-5 : goal.go_ahead-at-requires-5
+go_ahead-at-requires-5 g c = record { can = (c.requires.client, c.requires.manager); few = c.requires.few.d; most = c.requires.most }
+
+pub go_ahead-at-requires-5-room-S-Offers : goal.go_ahead-at-requires-5-room-S-Offers
+go_ahead-at-requires-5-room-S-Offers g c κs = bridge_small g.row.C g.row.M c.requires.client c.requires.manager
+
+pub go_ahead-at-requires-5-room-S-Offers-2 : goal.go_ahead-at-requires-5-room-S-Offers-2
+go_ahead-at-requires-5-room-S-Offers-2 g c κs = beat_small g.row.M c.requires.manager
+
+pub go_ahead-at-requires-5-room-S-GoesAhead : goal.go_ahead-at-requires-5-room-S-GoesAhead
+go_ahead-at-requires-5-room-S-GoesAhead g c κs = bridge_small g.row.C g.row.M c.requires.client c.requires.manager
 
 pub go_ahead-at-requires-5-room-S-GoesAhead-2 : goal.go_ahead-at-requires-5-room-S-GoesAhead-2
 go_ahead-at-requires-5-room-S-GoesAhead-2 g c κs = beat_small g.row.M c.requires.manager

@@ -3,7 +3,6 @@ use Rattle.tl_bridge.proofs.ahead.go_ahead.Given as goal
 
 abbrev pub invariant-beats : goal.invariant-beats
 invariant-beats g l = record {
-  can : g.S.GoesAhead.CanGo l.side;
   goes : g.S.GoesAhead.Goes l.beats l.at l.fn.side l.later l.side;
   few : l.later + l.left ≤ l.at + l.most;
 }

@@ -3,7 +3,7 @@ use Rattle.tl_bridge.proofs.OfferSteps.{read_some, read_none}
 use Rattle.tl_bridge.proofs.offers.offer_next.Goals as goal
 
 pub offer-requires : goal.offer-requires
-offer-requires g c = record { can = c.requires; ready = c.if-not-is_ready.ensures.ready refl }
+offer-requires g c = record { can = c.requires; ready = c.if-not-is_ready.ensures.0 refl }
 
 pub returns-in_default : goal.returns-in_default
 returns-in_default g c =
@@ -13,7 +13,7 @@ pub returns-then-not-is_ready : goal.returns-then-not-is_ready
 returns-then-not-is_ready g c =
     let beat = c.in-Some.beat.now in
     let next = read_some c.args.beats.now c.args.at beat c.in-Some.ensures.lookup.0 c.in-Some.ensures.lookup.1 in
-    c.if-not-is_ready.ensures.waits (λ ready. cc) c.args.beats.now c.args.at beat next
+    c.if-not-is_ready.ensures.1 (λ ready. cc) c.args.beats.now c.args.at beat next
 
 pub returns : goal.returns
 returns g c =

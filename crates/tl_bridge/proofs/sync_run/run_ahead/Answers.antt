@@ -1,4 +1,4 @@
-use Rattle.std.proofs.Common.{lit<}
+use Rattle.std.proofs.Common.{lit<, refl}
 use Rattle.tl_sides.proofs.BridgeSize.{bridge_small}
 use Rattle.tl_bridge.proofs.sync_run.run_ahead.Goals as goal
 
@@ -7,3 +7,9 @@ run_rounds-requires g c = (
   bridge_small g.row.C g.row.M c.requires.client c.requires.manager,
   (lit< tt, (c.requires.client, (c.requires.manager, (c.requires.short, (lit< tt, (c.requires.new, c.requires.empty)))))),
 )
+
+pub returns-in_default : goal.returns-in_default
+returns-in_default g c = record { ending = tt; far = tt; same = tt; memory = refl }
+
+pub returns : goal.returns
+returns g c = record { ending = c.in-Ok.ensures.ending; far = c.in-Ok.ensures.far; same = c.in-Ok.ensures.same; memory = tt }

@@ -1,7 +1,8 @@
 use Rattle.std.proofs.Common.{◌≡◌, true, false, [], ◌∷◌, ◌++◌, sym, ap, subst, ◌∙◌}
 use Rattle.tl_lanes.specs.Lanes.{active_mask}
 use Rattle.tl_msg.specs.declared.beat.BeatOf.{BeatOf}
-use Rattle.tl_burst.specs.Messages.{layout, of_head}
+use Rattle.tl_burst.specs.Messages.{layout}
+use Rattle.tl_convert.specs.Inner.Giving.{of_head}
 use Rattle.tl_convert.proofs.SingleBeat.{single-is}
 use Rattle.tl_convert.proofs.giving.give_head.Goals.{then-MASKED, else-MASKED}
 use Rattle.tl_convert.proofs.giving.give_head.Goals as goal

@@ -1,13 +1,14 @@
-use Rattle.std.proofs.Common.{◌≡◌, Some, sym, subst}
+use Rattle.std.proofs.Common.{rules, ◌≡◌, Some, sym, subst}
 use Rattle.tl_trace.specs.Faults.{later_fault}
 use Rattle.tl_trace.proofs.Pieces.{version_2}
 use Rattle.tl_trace.proofs.script_reader.unfinished_fault_of.Goals as goal
 
-pub returns-then-version-eq1-clause-fault : goal.returns-then-version-eq1-clause-fault
-returns-then-version-eq1-clause-fault g c =
-    subst (λ v. later_fault v g.row.C g.row.M c.args.rest.now ≡ Some c.unfinished_fault.result) (sym c.if-version-eq1.true) c.unfinished_fault.ensures.fault
+pub returns-in-1-clause-fault : goal.returns-in-1-clause-fault
+returns-in-1-clause-fault g c =
+    let one : c.args.version ≡ 1 = search rules in
+    subst (λ v. later_fault v g.row.C g.row.M c.args.rest.now ≡ Some c.unfinished_fault.result) (sym one) c.unfinished_fault.ensures.fault
 
-pub returns-else-version-eq1-clause-fault : goal.returns-else-version-eq1-clause-fault
-returns-else-version-eq1-clause-fault g c =
-    subst (λ v. later_fault v g.row.C g.row.M c.args.rest.now ≡ Some c.unfinished_fault-else-version-eq1.result)
-    (sym (version_2 c.args.version c.requires.version c.if-version-eq1.false)) c.unfinished_fault-else-version-eq1.ensures.fault
+pub returns-in_default-clause-fault : goal.returns-in_default-clause-fault
+returns-in_default-clause-fault g c =
+    let two : c.args.version ≡ 2 = version_2 c.args.version c.requires.version (search rules) in
+    subst (λ v. later_fault v g.row.C g.row.M c.args.rest.now ≡ Some c.unfinished_fault-in_default.result) (sym two) c.unfinished_fault-in_default.ensures.fault

@@ -1,18 +1,11 @@
-use Rattle.std.proofs.Common.{ap}
+use Rattle.std.proofs.Common.{refl}
+use Rattle.tl_pair.specs.Sides.{ClientStandsFor, client_takes_b}
 use Rattle.tl_bridge.specs.Inner.Taking.{but_b}
+use Rattle.tl_bridge.proofs.SideTakes.{takes-first}
 use Rattle.tl_bridge.proofs.inboxes.ClientSideTakesBeatOfHeadB.take_next.Goals as goal
 
 pub take_b-requires : goal.take_b-requires
 take_b-requires g c = (c.requires-raw.1.1.0, c.requires-raw.1.1.1.0)
 
-pub returns-clause-beat : goal.returns-clause-beat
-returns-clause-beat g c = c.take_b.ensures.beat
-
-pub returns-clause-again : goal.returns-clause-again
-returns-clause-again g c = tt
-
-pub returns-clause-left : goal.returns-clause-left
-returns-clause-left g c = ap (λ s. s.b.inbox) c.take_b.ensures.rest
-
-pub returns-clause-becomes : goal.returns-clause-becomes
-returns-clause-becomes g c = record { stands = c.take_b.ensures.taken; keeps = ap but_b c.take_b.ensures.rest }
+pub returns : goal.returns
+returns g c = let told = c.take_b.ensures in takes-first ClientStandsFor client_takes_b but_b (λ s. s.b.inbox) _ _ _ _ told.beat told.rest told.taken refl refl

@@ -1,18 +1,11 @@
-use Rattle.std.proofs.Common.{ap}
+use Rattle.std.proofs.Common.{refl}
+use Rattle.tl_pair.specs.Sides.{ManagerStandsFor, manager_takes_a}
 use Rattle.tl_bridge.specs.Inner.Taking.{but_a}
+use Rattle.tl_bridge.proofs.SideTakes.{takes-first}
 use Rattle.tl_bridge.proofs.inboxes.ManagerSideTakesBeatOfHeadA.take_next.Goals as goal
 
 pub take_a-requires : goal.take_a-requires
 take_a-requires g c = (c.requires-raw.1.1.0, (c.requires-raw.1.1.1.0, c.requires))
 
-pub returns-clause-beat : goal.returns-clause-beat
-returns-clause-beat g c = c.take_a.ensures.beat
-
-pub returns-clause-again : goal.returns-clause-again
-returns-clause-again g c = c.requires
-
-pub returns-clause-left : goal.returns-clause-left
-returns-clause-left g c = ap (λ s. s.a.inbox) c.take_a.ensures.rest
-
-pub returns-clause-becomes : goal.returns-clause-becomes
-returns-clause-becomes g c = record { stands = c.take_a.ensures.taken; keeps = ap but_a c.take_a.ensures.rest }
+pub returns : goal.returns
+returns g c = let told = c.take_a.ensures in takes-first ManagerStandsFor manager_takes_a but_a (λ s. s.a.inbox) _ _ _ _ told.beat told.rest told.taken refl refl

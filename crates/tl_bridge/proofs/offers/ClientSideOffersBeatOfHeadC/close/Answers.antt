@@ -1,5 +1,4 @@
 use Rattle.std.proofs.Common.{refl}
-use Rattle.tl_ring.specs.Ends.{closing}
 use Rattle.tl_bridge.specs.Inner.Offering.{on_c}
 use Rattle.tl_bridge.proofs.SideEnds.{client-ends-same}
 use Rattle.tl_bridge.proofs.SideOffers.{closes-to}
@@ -9,7 +8,4 @@ pub close_c-requires : goal.close_c-requires
 close_c-requires g c = c.requires-raw.1.1
 
 pub returns : goal.returns
-returns g c = λ bs n past.
-    let s = c.args.self.now in
-    let told = c.close_c.ensures in
-    closes-to on_c bs n s past c.close_c.result c.close_c.new.self (record s { c = closing s.c }) told.closed told.refused (client-ends-same s) (record { a = refl; b = refl; c = refl; d = refl; e = refl }) told.between told.stands
+returns g c = closes-to on_c c.args.self.now _ c.close_c.result _ _ c.close_c.ensures (client-ends-same _) (record { a = refl; b = refl; c = refl; d = refl; e = refl })

@@ -1,16 +1,10 @@
-use Rattle.tl_ring.specs.Ends.{as_pipe}
 use Rattle.tl_bridge.specs.Inner.Offering.{on_c}
 use Rattle.tl_bridge.proofs.SideEnds.{client-ends-same}
-use Rattle.tl_bridge.proofs.SideOffers.{waits}
+use Rattle.tl_bridge.proofs.SideOffers.{asked}
 use Rattle.tl_bridge.proofs.offers.ClientSideOffersBeatOfHeadC.is_ready.Goals as goal
 
 pub ready_c-requires : goal.ready_c-requires
 ready_c-requires g c = c.requires-raw.1.1
 
-pub returns-clause-ready : goal.returns-clause-ready
-returns-clause-ready g c = c.ready_c.ensures.0
-
-pub returns-clause-waits : goal.returns-clause-waits
-returns-clause-waits g c = λ unready bs n b next.
-    let s = c.args.self.now in
-    waits on_c bs n s b next (as_pipe s.c) (λ x h. h.c.pipe) (λ ready. unready (c.ready_c.ensures.1 ready)) (client-ends-same s)
+pub returns : goal.returns
+returns g c = asked on_c c.args.self.now (client-ends-same _) _ (λ x h. h.c.pipe) c.ready_c.result c.ready_c.ensures

@@ -11,4 +11,4 @@ offer_request-requires g c =
     (lit< tt, (bridge_part_small g.row.C g.row.M 0 c.requires.can.0 c.requires.can.1, (beat_small g.row.C c.requires.can.0, (c.requires.can.0, (c.requires.can.1, rw (← c.self.view_is) at c.requires.ready)))))
 
 pub returns : goal.returns
-returns g c = λ bs n next. answers-as on_bridge_a bs n _ c.args.beat.now next _ _ tt (offers_request c.args.beat.now c.self.view_is c.offer_request.new.book c.offer_request.new.pipe _ c.offer_request.ensures)
+returns g c = answers-as on_bridge_a c.args.self.now _ _ c.args.beat.now tt (offers_request c.args.beat.now c.self.view_is c.offer_request.new.book c.offer_request.new.pipe _ c.offer_request.ensures)

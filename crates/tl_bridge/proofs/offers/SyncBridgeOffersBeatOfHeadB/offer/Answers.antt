@@ -12,4 +12,4 @@ offer_alone-requires g c =
     (bridge_part_small g.row.C g.row.M 1 c.requires.can.0 c.requires.can.1, (beat_small g.row.M c.requires.can.1, (c.requires.can.1, (c.requires.can.0, rw (← c.self.view_is) at c.requires.ready))))
 
 pub returns : goal.returns
-returns g c = λ bs n next. answers-as on_bridge_b bs n _ c.args.beat.now next _ _ tt (offers_alone at_b rules_b c.args.beat.now (λ y. tt) c.self.view_is _ _ c.offer_alone.ensures)
+returns g c = answers-as on_bridge_b c.args.self.now _ _ c.args.beat.now tt (offers_alone at_b rules_b c.args.beat.now (λ y. tt) c.self.view_is _ _ c.offer_alone.ensures)

@@ -11,4 +11,4 @@ offer_response-requires g c =
     (lit< tt, (bridge_part_small g.row.C g.row.M 3 c.requires.can.0 c.requires.can.1, (beat_small g.row.M c.requires.can.1, (c.requires.can.1, (c.requires.can.0, rw (← c.self.view_is) at c.requires.ready)))))
 
 pub returns : goal.returns
-returns g c = λ bs n next. answers-as on_bridge_d bs n _ c.args.beat.now next _ _ tt (offers_response c.args.beat.now c.self.view_is c.offer_response.new.book c.offer_response.new.pipe _ c.offer_response.ensures)
+returns g c = answers-as on_bridge_d c.args.self.now _ _ c.args.beat.now tt (offers_response c.args.beat.now c.self.view_is c.offer_response.new.book c.offer_response.new.pipe _ c.offer_response.ensures)

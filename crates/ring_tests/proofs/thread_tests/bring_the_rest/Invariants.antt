@@ -1,5 +1,5 @@
 use Rattle.tl_ring.specs.Ends.{ArePair}
-use Rattle.ring_tests.proofs.thread_tests.two_threads_lose_nothing.Given as goal
+use Rattle.ring_tests.proofs.thread_tests.bring_the_rest.Given as goal
 
 abbrev pub invariant-loop : goal.invariant-loop
 invariant-loop g l = ArePair l.send l.take
