@@ -3,10 +3,7 @@ ghost use Rattle.std.specs.Prelude.{◌≡◌, ◌≤◌, ◌<◌, ◌↔◌, �
 ghost use Rattle.tl_lanes.specs.Lanes.{IsWidth};
 ghost use Rattle.tl_ring.specs.declared.pipe.TheConstants.{MAX_RING};
 ghost use Rattle.tl_ring.specs.Ends.{Met};
-ghost use Rattle.tl_msg.specs.Tables.{rules_a, rules_b, rules_c, rules_d, rules_e};
-ghost use Rattle.tl_sides.specs.Books.{KnowsClient, KnowsManager};
 ghost use Rattle.tl_pair.specs.Ends.{AreStanding};
-ghost use Rattle.tl_pair.specs.Inner.New.{AreNew};
 ghost use Rattle.tl_pair.specs.Sides.{ClientPast, ManagerPast, ClientStandsFor, ManagerStandsFor, AreSides, IsNewClient, IsNewManager, SidesMeet, new_client, new_manager};
 
 use crate::client_side::ClientSide;
@@ -14,8 +11,8 @@ use crate::manager_side::ManagerSide;
 use crate::sender::Sender;
 use std::alloc::Allocator;
 use tl_msg::{ChA, ChB, ChC, ChD, ChE};
-use tl_ring::{BuildFault, SendEnd, TakeEnd, pair_over};
-use tl_sides::{ClientBook, ManagerBook, Standings, new_books};
+use tl_ring::{BuildFault, pair_over};
+use tl_sides::{Standings, new_books};
 
 // What a call has made. Where it has made nothing, its fault is the caller's. A `?` would make one
 // more type for each pair of widths.
@@ -26,69 +23,6 @@ macro_rules! made {
             Err(fault) => return Err(fault),
         }
     };
-}
-
-// New pairs of ends of A, C and E, the channels that the client's side offers. The ends are made in two functions, since each way out
-// drops all that stand by then, which is dear to check.
-fn from_client<const C: usize, const M: usize, A: Allocator + Copy>(
-    alloc: A,
-    ring: usize,
-) -> Result<
-    (
-        SendEnd<ChA, C, M, A>,
-        TakeEnd<ChA, C, M, A>,
-        SendEnd<ChC, C, M, A>,
-        TakeEnd<ChC, C, M, A>,
-        SendEnd<ChE, C, M, A>,
-        TakeEnd<ChE, C, M, A>,
-    ),
-    BuildFault,
->
-    requires client { IsWidth C }
-    requires manager { IsWidth M }
-    ensures a { IfOk result (λ ends. AreNew rules_a C ring ends.0 ends.1) }
-    ensures c { IfOk result (λ ends. AreNew rules_c C ring ends.2 ends.3) }
-    ensures e { IfOk result (λ ends. AreNew rules_e C ring ends.4 ends.5) }
-    ensures size { IsOk result → (1 ≤ ring) × (ring ≤ MAX_RING) }
-    ensures ring_size { IfErr result (λ fault.
-        (fault ≡ BuildFault.RingSize) ↔ ((ring ≡ 0) ⊎ (MAX_RING < ring))) }
-{
-    let (a, a_take) = made!(pair_over::<ChA, C, M, A>(alloc, ring));
-    let (c, c_take) = made!(pair_over::<ChC, C, M, A>(alloc, ring));
-    let (e, e_take) = made!(pair_over::<ChE, C, M, A>(alloc, ring));
-    Ok((a, a_take, c, c_take, e, e_take))
-}
-
-// New pairs of ends of B and D, which the manager's side offers, and the books of both sides.
-fn from_manager<const C: usize, const M: usize, A: Allocator + Copy>(
-    alloc: A,
-    ring: usize,
-) -> Result<
-    (
-        SendEnd<ChB, M, C, A>,
-        TakeEnd<ChB, M, C, A>,
-        SendEnd<ChD, M, C, A>,
-        TakeEnd<ChD, M, C, A>,
-        ClientBook<C, A>,
-        ManagerBook<M, A>,
-    ),
-    BuildFault,
->
-    requires client { IsWidth C }
-    requires manager { IsWidth M }
-    ensures b { IfOk result (λ ends. AreNew rules_b M ring ends.0 ends.1) }
-    ensures d { IfOk result (λ ends. AreNew rules_d M ring ends.2 ends.3) }
-    ensures client { IfOk result (λ ends. KnowsClient {w = C} ends.4 []) }
-    ensures manager { IfOk result (λ ends. KnowsManager {w = M} ends.5 []) }
-    ensures ring_size { IfErr result (λ fault.
-        (fault ≡ BuildFault.RingSize) ↔ ((ring ≡ 0) ⊎ (MAX_RING < ring))) }
-{
-    let (b, b_take) = made!(pair_over::<ChB, M, C, A>(alloc, ring));
-    let (d, d_take) = made!(pair_over::<ChD, M, C, A>(alloc, ring));
-    let Ok((client, manager)) = new_books(alloc) else {
-        return Err(BuildFault::OutOfMemory);
-    };
-    Ok((b, b_take, d, d_take, client, manager))
 }
 
 /// The two sides of a new bridge, for two threads, over five rings of `ring` beats each, and with
@@ -111,10 +45,14 @@ pub fn bridge<const C: usize, const M: usize, A: Allocator + Copy>(
     ensures ring_size { IfErr result (λ fault.
         (fault ≡ BuildFault.RingSize) ↔ ((ring ≡ 0) ⊎ (MAX_RING < ring))) }
 {
-    let (a, a_take, c, c_take, e, e_take) = made!(from_client::<C, M, A>(alloc, ring));
-    let (b, b_take, d, d_take, client_book, manager_book) = made!(from_manager::<C, M, A>(
-        alloc, ring
-    ));
+    let (a, a_take) = made!(pair_over::<ChA, C, M, A>(alloc, ring));
+    let (b, b_take) = made!(pair_over::<ChB, M, C, A>(alloc, ring));
+    let (c, c_take) = made!(pair_over::<ChC, C, M, A>(alloc, ring));
+    let (d, d_take) = made!(pair_over::<ChD, M, C, A>(alloc, ring));
+    let (e, e_take) = made!(pair_over::<ChE, C, M, A>(alloc, ring));
+    let Ok((client_book, manager_book)) = new_books(alloc) else {
+        return Err(BuildFault::OutOfMemory);
+    };
     let client = ClientSide {
         a: Sender {
             end: a,
