@@ -1,5 +1,5 @@
 //! The far beats that the two sides of a run take.
-ghost use Rattle.std.specs.Prelude.{◌≡◌, ◌++◌, ◌≤◌, ◌^◌, List, [], ◌∷◌, None, length, vec_capacity, All, IfOk, OnOk};
+ghost use Rattle.std.specs.Prelude.{◌≡◌, ◌++◌, List, [], ◌∷◌, None, All, IfOk, OnOk};
 ghost use Rattle.tl_lanes.specs.Lanes.{IsWidth};
 ghost use Rattle.tl_msg.specs.Tables.{rules_a, rules_d};
 ghost use Rattle.tl_settle.specs.Histories.{Ask, Answer};
@@ -9,14 +9,14 @@ ghost use Rattle.tl_sides.specs.Books.{KnowsClient, KnowsManager};
 ghost use Rattle.tl_bridge.specs.Arrivals.{joined, no_beats};
 ghost use Rattle.tl_bridge.specs.Scripts.{EndsIn, HasEnding, HasShortLists, near_beats};
 ghost use Rattle.tl_bridge.specs.Inner.Running.{CanAdd, added, after_takes, inboxes, lengths};
-ghost use Rattle.tl_bridge.specs.Inner.Arriving.{beats_of, HasRoom, HasRoomFor};
+ghost use Rattle.tl_bridge.specs.Inner.Arriving.{beats_of, HaveRoom, HasRoomFor};
 ghost use Rattle.tl_bridge.specs.Inner.Taking.{HasNoted, noted_none, noted_then};
 
 use crate::arrivals::Arrivals;
 use crate::outcome::{Ending, Outcome};
 use std::alloc::{AllocError, Global};
 use tl_convert::far_room;
-use tl_msg::{Beat, BeatOf, ChA, ChB, ChC, ChD, ChE, Channel, HeadA, HeadD};
+use tl_msg::{Beat, BeatOf, ChA, ChB, ChC, ChD, ChE, HeadA, HeadD};
 use tl_sides::{ClientBook, ManagerBook, PerChannel, SyncBridge};
 use tl_trace::Script;
 
@@ -30,18 +30,20 @@ pub(crate) struct Taken<const C: usize, const M: usize> {
     pub e: Vec<Beat<ChE, M>>,
 }
 
-// Room for all far beats that a list of near beats can make due.
-fn room_for<K: Channel, const W: usize, const V: usize>(
-    alloc: Global,
-    beats: &[Beat<K, W>],
-) -> Result<Vec<Beat<K, V>>, AllocError>
-    requires near { IsWidth W }
-    requires far { IsWidth V }
-    requires few { length beats.now ≤ 2 ^ 40 }
-    ensures empty { IfOk result (λ far. far.items ≡ []) }
-    ensures room { IfOk result (λ far. HasRoom K.rules V beats.now (vec_capacity far)) }
+// Room for all far beats of each channel that a script can make due.
+fn far_rooms<const C: usize, const M: usize>(script: &Script<C, M>) -> PerChannel<usize>
+    requires client { IsWidth C }
+    requires manager { IsWidth M }
+    requires short { HasShortLists script.now }
+    ensures { HaveRoom (near_beats script.now) result }
 {
-    Vec::with_capacity(alloc, far_room::<K, W, V>(beats))
+    PerChannel {
+        a: far_room::<ChA, C, M>(&script.a),
+        b: far_room::<ChB, M, C>(&script.b),
+        c: far_room::<ChC, C, M>(&script.c),
+        d: far_room::<ChD, M, C>(&script.d),
+        e: far_room::<ChE, C, M>(&script.e),
+    }
 }
 
 impl<const C: usize, const M: usize> Taken<C, M> {
@@ -53,12 +55,30 @@ impl<const C: usize, const M: usize> Taken<C, M> {
         ensures empty { IfOk result (λ far. beats_of far ≡ no_beats) }
         ensures room { IfOk result (HasRoomFor (near_beats script.now)) }
     {
-        let a = room_for::<ChA, C, M>(alloc, &script.a)?;
-        let b = room_for::<ChB, M, C>(alloc, &script.b)?;
-        let c = room_for::<ChC, C, M>(alloc, &script.c)?;
-        let d = room_for::<ChD, M, C>(alloc, &script.d)?;
-        let e = room_for::<ChE, C, M>(alloc, &script.e)?;
-        Ok(Taken { a, b, c, d, e })
+        let mut far = Taken {
+            a: Vec::new(alloc),
+            b: Vec::new(alloc),
+            c: Vec::new(alloc),
+            d: Vec::new(alloc),
+            e: Vec::new(alloc),
+        };
+        far.reserve(&far_rooms(script))?;
+        Ok(far)
+    }
+
+    // Makes room for so many beats more of each channel.
+    fn reserve(&mut self, room: &PerChannel<usize>) -> Result<(), AllocError>
+        requires client { IsWidth C }
+        requires manager { IsWidth M }
+        ensures beats { OnOk result (beats_of self.new ≡ beats_of self.old) }
+        ensures room { (near : Beats C M) → HaveRoom near room.now →
+            OnOk result (HasRoomFor near self.new) }
+    {
+        self.a.reserve_exact(room.a)?;
+        self.b.reserve_exact(room.b)?;
+        self.c.reserve_exact(room.c)?;
+        self.d.reserve_exact(room.d)?;
+        self.e.reserve_exact(room.e)
     }
 
     // The outcome of a run that took these and ended so.

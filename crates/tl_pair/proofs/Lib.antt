@@ -1,4 +1,5 @@
 pub mod Senders
+mod NewEnds
 mod Layouts
 pub mod SideSteps
 pub mod SameSides

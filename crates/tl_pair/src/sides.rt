@@ -11,7 +11,7 @@ use crate::manager_side::ManagerSide;
 use crate::sender::Sender;
 use std::alloc::Allocator;
 use tl_msg::{ChA, ChB, ChC, ChD, ChE};
-use tl_ring::{BuildFault, pair_over};
+use tl_ring::{BuildFault, SendEnd, TakeEnd, new_ring};
 use tl_sides::{Standings, new_books};
 
 // What a call has made. Where it has made nothing, its fault is the caller's. A `?` would make one
@@ -45,43 +45,43 @@ pub fn bridge<const C: usize, const M: usize, A: Allocator + Copy>(
     ensures ring_size { IfErr result (λ fault.
         (fault ≡ BuildFault.RingSize) ↔ ((ring ≡ 0) ⊎ (MAX_RING < ring))) }
 {
-    let (a, a_take) = made!(pair_over::<ChA, C, M, A>(alloc, ring));
-    let (b, b_take) = made!(pair_over::<ChB, M, C, A>(alloc, ring));
-    let (c, c_take) = made!(pair_over::<ChC, C, M, A>(alloc, ring));
-    let (d, d_take) = made!(pair_over::<ChD, M, C, A>(alloc, ring));
-    let (e, e_take) = made!(pair_over::<ChE, C, M, A>(alloc, ring));
+    let (a, a_take) = made!(new_ring::<ChA, M, A>(alloc, ring));
+    let (b, b_take) = made!(new_ring::<ChB, C, A>(alloc, ring));
+    let (c, c_take) = made!(new_ring::<ChC, M, A>(alloc, ring));
+    let (d, d_take) = made!(new_ring::<ChD, C, A>(alloc, ring));
+    let (e, e_take) = made!(new_ring::<ChE, M, A>(alloc, ring));
     let Ok((client_book, manager_book)) = new_books(alloc) else {
         return Err(BuildFault::OutOfMemory);
     };
     let client = ClientSide {
         a: Sender {
-            end: a,
+            end: SendEnd::over(a),
             closed: false,
         },
-        b: b_take,
+        b: TakeEnd::over(b_take),
         c: Sender {
-            end: c,
+            end: SendEnd::over(c),
             closed: false,
         },
-        d: d_take,
+        d: TakeEnd::over(d_take),
         e: Sender {
-            end: e,
+            end: SendEnd::over(e),
             closed: false,
         },
         book: client_book,
     };
     let manager = ManagerSide {
-        a: a_take,
+        a: TakeEnd::over(a_take),
         b: Sender {
-            end: b,
+            end: SendEnd::over(b),
             closed: false,
         },
-        c: c_take,
+        c: TakeEnd::over(c_take),
         d: Sender {
-            end: d,
+            end: SendEnd::over(d),
             closed: false,
         },
-        e: e_take,
+        e: TakeEnd::over(e_take),
         book: manager_book,
     };
     Ok((client, manager))

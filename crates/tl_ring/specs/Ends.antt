@@ -13,6 +13,13 @@ use Rattle.tl_ring.specs.Laws.{Crosses}
 use Rattle.tl_ring.specs.Pipe.{Pipe, StandsFor}
 use Rattle.tl_ring.specs.declared.lawful.LawfulAt.{LawfulAt}
 
+-- a ring as each of its ends has it
+abbrev pub SendHalf : (K A H : Type 0) → ℕ → Type 0
+SendHalf K A H v = Producer (BeatOf H v) A (LawfulAt K v H)
+
+abbrev pub TakeHalf : (K A H : Type 0) → ℕ → Type 0
+TakeHalf K A H v = Consumer (BeatOf H v) A (LawfulAt K v H)
+
 -- a sending end as it is now
 pub record Sending (K A H : Type 0) (v : ℕ) : Type 0 where
   -- where its converter is in a burst
@@ -35,6 +42,16 @@ pub record Taking (K A H : Type 0) (v : ℕ) : Type 0 where
   pub consumer : Consumer (BeatOf H v) A (LawfulAt K v H)
 
 module _ {K A H : Type 0} {v : ℕ} where
+  -- both halves are of one new ring of so many beats, which the sending half knows to be free
+  pub record IsNewRing (size : ℕ) (s : SendHalf K A H v) (t : TakeHalf K A H v) : Type 0 where
+    pub pair : rtrb.IsPair s t
+    pub some_room : 1 ≤ size
+    pub room : rtrb.producer_capacity s ≡ size
+    pub none_sent : rtrb.sent s ≡ []
+    pub all_free : rtrb.known_free s ≡ size
+    pub none_received : rtrb.received t ≡ []
+    pub none_known : rtrb.known_items t ≡ []
+
   -- what went into the ring so far
   abbrev pub sent : Sending K A H v → List (BeatOf H v)
   sent s = rtrb.sent s.producer

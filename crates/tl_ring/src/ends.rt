@@ -1,19 +1,20 @@
 //! The two ends of a crossing between two threads.
-ghost use Rattle.std.specs.Prelude.{◌≡◌, ◌≤◌, ◌-◌, ◌↔◌, ◌++◌, [], List, false, length, min, take, slice_get, Some, IsOk, IsTrue, IfOk, IfErr, IfSome, OnOk, OnErr};
+ghost use Rattle.std.specs.Prelude.{◌≡◌, ◌≤◌, ◌-◌, ◌↔◌, ◌++◌, [], List, ℕ, false, length, min, take, slice_get, Some, IsOk, IsTrue, IfOk, IfErr, IfSome, OnOk, OnErr};
 ghost use Rattle.tl_lanes.specs.Lanes.{IsWidth};
 ghost use Rattle.tl_msg.specs.Faults.{IsLawfulBeat};
 ghost use Rattle.tl_msg.specs.declared.beat.BeatOf.{BeatOf};
 ghost use Rattle.tl_burst.specs.Handing.{IsAdmitted, rest_of, fault_after};
 ghost use Rattle.tl_burst.specs.Tracking.{IsPlaceOf};
-ghost use Rattle.tl_ring.specs.Crossing.{World, offered, shut, inbox_room};
-ghost use Rattle.tl_ring.specs.Ends.{Sends, Takes, Pushed, Fetched, Shows, Shown, LookedAfter, IsReceiptOf, IsReceiptFor, Finishes, known_free, known_items, passed, closing, took_first};
+ghost use Rattle.tl_ring.specs.Crossing.{World, empty, offered, shut, inbox_room};
+ghost use Rattle.tl_ring.specs.Ends.{Sends, Takes, Pushed, Fetched, Shows, Shown, LookedAfter, IsReceiptOf, IsReceiptFor, Finishes, TakeHalf, IsNewRing, known_free, known_items, passed, closing, took_first};
 ghost use Rattle.tl_ring.specs.declared.queue.TheConstants.{ROOM};
 
 use crate::fault::EndFault;
 use crate::lawful::LawfulAt;
 use crate::queue::{Queue, ROOM};
+use crate::ring::{SendHalf, TakeHalf};
 use crate::stage::stage_beat;
-use rtrb::{Consumer, Finished, Producer};
+use rtrb::Finished;
 use std::alloc::{Allocator, Global};
 use std::marker::Model;
 use tl_burst::Place;
@@ -30,7 +31,7 @@ use tl_msg::{Beat, BeatFault, Channel};
 pub struct SendEnd<K: Channel, const W: usize, const V: usize, A: Allocator = Global> {
     pub(crate) converter: Converter<K, W, V>,
     pub(crate) stage: Queue<Beat<K, V>>,
-    pub(crate) producer: Producer<Beat<K, V>, A, LawfulAt<K, V>>,
+    pub(crate) producer: SendHalf<K, V, A>,
 }
 
 impl<K: Channel, const W: usize, const V: usize, A: Allocator> Model for SendEnd<K, W, V, A> {
@@ -51,6 +52,22 @@ impl<K: Channel, const W: usize, const V: usize, A: Allocator> Model for SendEnd
 }
 
 impl<K: Channel, const W: usize, const V: usize, A: Allocator> SendEnd<K, W, V, A> {
+    /// The sending end of a new crossing, over its half of a new ring ([`crate::new_ring`]). It has
+    /// no word on the widths, for a caller that makes several ends: what it promises has them as a
+    /// premise in place of a demand.
+    pub fn over(half: SendHalf<K, V, A>) -> Self
+        ensures ring { result.producer ≡ half }
+        // for every new ring that the half is of
+        ensures send { (size : ℕ) (other : TakeHalf K A K.Head V) → IsNewRing size half other →
+            IsWidth W → IsWidth V → Sends K.rules {w = W} result (empty size) }
+    {
+        SendEnd {
+            converter: Converter::new(),
+            stage: Queue::new(),
+            producer: half,
+        }
+    }
+
     /// Whether a beat may be offered: nothing is staged.
     pub fn ready(&self) -> bool
         ensures { IsTrue result ↔ (self.now.stage ≡ []) }
@@ -255,7 +272,7 @@ impl<K: Channel, const W: usize, const V: usize, A: Allocator> Model for Receipt
 #[derive(Drop)]
 pub struct TakeEnd<K: Channel, const W: usize, const V: usize, A: Allocator = Global> {
     pub(crate) inbox: Queue<Beat<K, V>>,
-    pub(crate) consumer: Consumer<Beat<K, V>, A, LawfulAt<K, V>>,
+    pub(crate) consumer: TakeHalf<K, V, A>,
     // where beats lie on their way from the ring to the inbox, within a fetch alone
     pub(crate) passing: [Beat<K, V>; ROOM],
 }
@@ -272,6 +289,18 @@ impl<K: Channel, const W: usize, const V: usize, A: Allocator> Model for TakeEnd
 }
 
 impl<K: Channel, const W: usize, const V: usize, A: Allocator> TakeEnd<K, W, V, A> {
+    /// The taking end of a new crossing, over its half of a new ring ([`crate::new_ring`]).
+    pub fn over(half: TakeHalf<K, V, A>) -> Self
+        ensures ring { result.consumer ≡ half }
+        ensures inbox { result.inbox ≡ [] }
+    {
+        TakeEnd {
+            inbox: Queue::new(),
+            consumer: half,
+            passing: [Beat::<K, V>::default(); ROOM],
+        }
+    }
+
     /// Moves beats from the ring to the inbox, in order, and answers their number. They are all
     /// that the inbox has room for, or as many as are there: no fewer than the end knows of. After
     /// a meeting it knows each beat that the ring holds.

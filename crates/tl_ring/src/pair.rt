@@ -9,14 +9,11 @@ ghost use Rattle.tl_ring.specs.declared.pipe.TheConstants.{MAX_RING};
 
 use crate::ends::{ClosingEnd, SendEnd, TakeEnd};
 use crate::fault::BuildFault;
-use crate::lawful::LawfulAt;
-use crate::pipe::is_ring_size;
-use crate::queue::{Queue, ROOM};
+use crate::queue::ROOM;
+use crate::ring::new_ring;
 use crate::standing::Standing;
-use rtrb::RingBuffer;
 use std::alloc::Allocator;
-use tl_convert::Converter;
-use tl_msg::{Beat, Channel};
+use tl_msg::Channel;
 
 // Looks at the ring from both ends, and answers where the beats stand. This is no function, since one that is generic in the
 // channel and asks for a pair takes the checker far longer at each of its calls than these two calls of the ring's own.
@@ -51,44 +48,8 @@ pub fn ring_pair<K: Channel, const W: usize, const V: usize, A: Allocator + Copy
     ensures ring_size { IfErr result (λ fault.
         (fault ≡ BuildFault.RingSize) ↔ ((ring ≡ 0) ⊎ (MAX_RING < ring))) }
 {
-    pair_over(alloc, ring)
-}
-
-/// [`ring_pair`] without a word on the widths, for a caller that makes several pairs: what it
-/// promises of the sending end has them as a premise in place of a demand.
-pub fn pair_over<K: Channel, const W: usize, const V: usize, A: Allocator + Copy>(
-    alloc: A,
-    ring: usize,
-) -> Result<(SendEnd<K, W, V, A>, TakeEnd<K, W, V, A>), BuildFault>
-    ensures pair { IfOk result (λ ends. ArePair ends.0 ends.1) }
-    ensures send { IsWidth W → IsWidth V →
-        IfOk result (λ ends. Sends K.rules {w = W} ends.0 (empty ring)) }
-    ensures take { IfOk result (λ ends. Takes ends.1 []) }
-    // a new pair knows all of its ring as free
-    ensures known { IfOk result (λ ends.
-        (known_free ends.0 ≡ ring) × (known_items ends.1 ≡ []) × (ends.1.inbox ≡ [])) }
-    ensures size { IsOk result → (1 ≤ ring) × (ring ≤ MAX_RING) }
-    ensures ring_size { IfErr result (λ fault.
-        (fault ≡ BuildFault.RingSize) ↔ ((ring ≡ 0) ⊎ (MAX_RING < ring))) }
-{
-    if !is_ring_size(ring) {
-        return Err(BuildFault::RingSize);
-    }
-    let Ok((producer, consumer)) = RingBuffer::with_protocol::<A, LawfulAt<K, V>>(alloc, ring)
-    else {
-        return Err(BuildFault::OutOfMemory);
-    };
-    let send = SendEnd {
-        converter: Converter::new(),
-        stage: Queue::new(),
-        producer,
-    };
-    let take = TakeEnd {
-        inbox: Queue::new(),
-        consumer,
-        passing: [Beat::<K, V>::default(); ROOM],
-    };
-    Ok((send, take))
+    let (send, take) = new_ring(alloc, ring)?;
+    Ok((SendEnd::over(send), TakeEnd::over(take)))
 }
 
 /// Brings both ends of a pair together, in one thread, and answers where the beats stand. No beat

@@ -29,6 +29,45 @@ pub(crate) fn is_ring_size(ring: usize) -> bool
     1 <= ring && ring <= MAX_RING
 }
 
+/// The ring of a pipe that is still to be made ([`SyncPipe::over`]): it holds no beat yet.
+#[derive(Drop)]
+pub struct PipeRing<K: Channel, const V: usize, A: Allocator = Global> {
+    buffer: HeapCircularBuffer<Beat<K, V>, A>,
+}
+
+impl<K: Channel, const V: usize, A: Allocator> Model for PipeRing<K, V, A> {
+    ghost use Rattle.std.specs.Prelude.{◌≡◌, ◌≤◌, ℕ, []};
+    ghost use Rattle.tl_ring.specs.declared.pipe.TheConstants.{MAX_RING};
+
+    // how many beats the ring may hold
+    ghost Value = { ℕ };
+
+    ghost view = { λ r. r.buffer.capacity };
+
+    ghost invariant = { λ r. (r.buffer.items ≡ []) × (1 ≤ r.buffer.capacity) ×
+        (r.buffer.capacity ≤ MAX_RING) };
+}
+
+impl<K: Channel, const V: usize, A: Allocator> PipeRing<K, V, A> {
+    /// A ring of `size` beats, the only memory that is taken. Refused with `RingSize` exactly where
+    /// `size` is 0 or above 4,096, and else with `OutOfMemory` where the allocator has no memory for
+    /// it.
+    pub fn new(alloc: A, size: usize) -> Result<Self, BuildFault>
+        ensures new { IfOk result (λ ring. ring ≡ size) }
+        ensures size { IsOk result → (1 ≤ size) × (size ≤ MAX_RING) }
+        ensures ring_size { IfErr result (λ fault.
+            (fault ≡ BuildFault.RingSize) ↔ ((size ≡ 0) ⊎ (MAX_RING < size))) }
+    {
+        if !is_ring_size(size) {
+            return Err(BuildFault::RingSize);
+        }
+        let Ok(buffer) = HeapCircularBuffer::with_capacity(alloc, size) else {
+            return Err(BuildFault::OutOfMemory);
+        };
+        Ok(PipeRing { buffer })
+    }
+}
+
 /// The crossing of one channel within one thread, from a bus of `W` bytes to a bus of `V` bytes.
 ///
 /// Near beats are offered at one end, and the far beats that they make due are taken at the other, each once and in order. Between
@@ -75,31 +114,22 @@ impl<K: Channel, const W: usize, const V: usize, A: Allocator> SyncPipe<K, W, V,
         ensures ring_size { IfErr result (λ fault.
             (fault ≡ BuildFault.RingSize) ↔ ((ring ≡ 0) ⊎ (MAX_RING < ring))) }
     {
-        SyncPipe::over(alloc, ring)
+        let ring = PipeRing::new(alloc, ring)?;
+        Ok(SyncPipe::over(ring))
     }
 
-    /// [`SyncPipe::new`] without a word on the widths, for a caller that makes several pipes: what
-    /// it promises has them as a premise in place of a demand.
-    pub fn over(alloc: A, ring: usize) -> Result<Self, BuildFault>
-        ensures new { IsWidth W → IsWidth V →
-            IfOk result (λ pipe. StandsFor K.rules {w = W} pipe (empty ring)) }
-        ensures size { IsOk result → (1 ≤ ring) × (ring ≤ MAX_RING) }
-        ensures ring_size { IfErr result (λ fault.
-            (fault ≡ BuildFault.RingSize) ↔ ((ring ≡ 0) ⊎ (MAX_RING < ring))) }
+    /// A new pipe over its ring, which [`PipeRing::new`] makes. It has no word on the widths, for a
+    /// caller that makes several pipes: what it promises has them as a premise in place of a demand.
+    pub fn over(ring: PipeRing<K, V, A>) -> Self
+        ensures { IsWidth W → IsWidth V → StandsFor K.rules {w = W} result (empty ring) }
     {
-        if !is_ring_size(ring) {
-            return Err(BuildFault::RingSize);
-        }
-        let Ok(ring) = HeapCircularBuffer::with_capacity(alloc, ring) else {
-            return Err(BuildFault::OutOfMemory);
-        };
-        Ok(SyncPipe {
+        SyncPipe {
             converter: Converter::new(),
             stage: Queue::new(),
-            ring,
+            ring: ring.buffer,
             inbox: Queue::new(),
             closed: false,
-        })
+        }
     }
 
     /// Whether a beat may be offered: nothing is staged and the pipe isn't closed.

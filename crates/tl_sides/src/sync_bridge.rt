@@ -19,7 +19,7 @@ use crate::per_channel::PerChannel;
 use std::alloc::{Allocator, Global};
 use std::marker::Model;
 use tl_msg::{Beat, ChA, ChB, ChC, ChD, ChE, SideFault};
-use tl_ring::{BuildFault, EndFault, Standing, SyncPipe};
+use tl_ring::{BuildFault, EndFault, PipeRing, Standing, SyncPipe};
 
 // What a call has made. Where it has made nothing, its fault is the caller's. A `?` would make one
 // more type for each pair of widths.
@@ -102,20 +102,20 @@ impl<const C: usize, const M: usize, A: Allocator + Copy> SyncBridge<C, M, A> {
         ensures ring_size { IfErr result (λ fault. (fault ≡ BuildFault.RingSize) ↔
             ((ring ≡ 0) ⊎ (MAX_RING < ring))) }
     {
-        let a = made!(SyncPipe::over(alloc, ring));
-        let b = made!(SyncPipe::over(alloc, ring));
-        let c = made!(SyncPipe::over(alloc, ring));
-        let d = made!(SyncPipe::over(alloc, ring));
-        let e = made!(SyncPipe::over(alloc, ring));
+        let a = made!(PipeRing::new(alloc, ring));
+        let b = made!(PipeRing::new(alloc, ring));
+        let c = made!(PipeRing::new(alloc, ring));
+        let d = made!(PipeRing::new(alloc, ring));
+        let e = made!(PipeRing::new(alloc, ring));
         let Ok((client, manager)) = new_books(alloc) else {
             return Err(BuildFault::OutOfMemory);
         };
         Ok(SyncBridge {
-            a,
-            b,
-            c,
-            d,
-            e,
+            a: SyncPipe::over(a),
+            b: SyncPipe::over(b),
+            c: SyncPipe::over(c),
+            d: SyncPipe::over(d),
+            e: SyncPipe::over(e),
             client,
             manager,
         })

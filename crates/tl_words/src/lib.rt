@@ -19,7 +19,6 @@ fn number_option<'a>(alloc: Global, name: &'a str, default: &'a str, help: &'a s
         .long(name)
         .value_name("N")
         .help(help)
-        .action(ArgAction::Set)
         .default_value(default)
 }
 
@@ -49,15 +48,20 @@ fn run_command<'a>(alloc: Global) -> Result<Command<'a>, AllocError> {
 fn command<'a>(alloc: Global) -> Result<Command<'a>, AllocError> {
     let about =
         "Sends a TileLink trace across a clock and width bridge. Standard input holds the trace, standard output gets the answer.";
-    let check = Command::new(alloc, "check").about(
-        "Prints the report lines alone. Standard input holds the trace.",
-    );
+    let run = run_command(alloc)?;
     Command::new(alloc, "tlbridge")
         .about(about)
         .version(VERSION)
         .subcommand_required(true)
-        .subcommand(run_command(alloc)?)?
-        .subcommand(check)
+        .subcommand(run)?
+        .subcommand(Command::new(alloc, "check").about(
+            "Prints the report lines alone. Standard input holds the trace.",
+        ))
+}
+
+/// What `command` takes from the words.
+fn matches_of<'a>(alloc: Global, words: &'a [&'a str]) -> Result<ArgMatches<'a>, Error> {
+    command(alloc)?.try_get_matches_from(words)
 }
 
 /// A refusal in these words, below which the usage stands.
@@ -122,7 +126,7 @@ fn order_in(alloc: Global, matches: &ArgMatches<'_>) -> Result<Order, Error>
 pub fn order_of<'a>(alloc: Global, words: &'a [&'a str]) -> Result<Order, Error>
     ensures { IfOk result IsInRange }
 {
-    let matches = command(alloc)?.try_get_matches_from(words)?;
+    let matches = matches_of(alloc, words)?;
     order_in(alloc, &matches)
 }
 

@@ -6,6 +6,7 @@ use Rattle.tl_msg.specs.declared.beat.BeatOf.{BeatOf}
 use Rattle.tl_convert.specs.Due.{due}
 use Rattle.tl_convert.specs.Accepted.{accepted_of}
 use Rattle.tl_settle.specs.Outcomes.{Beats}
+use Rattle.tl_sides.specs.declared.per_channel.PerChannel.{PerChannel}
 use Rattle.tl_sides.specs.Bridges.{Bridge}
 use Rattle.tl_bridge.specs.declared.taken.Taken.{Taken}
 use Rattle.tl_bridge.specs.declared.client_turns.ClientRun.{ClientRun}
@@ -40,10 +41,14 @@ module _ {C M : ℕ} where
     pub d : vec_capacity new.d ≡ vec_capacity old.d
     pub e : vec_capacity new.e ≡ vec_capacity old.e
 
-  -- the lists have room for all that the near beats of a script can make due
-  pub record HasRoomFor (near : Beats C M) (t : Taken C M) : Type 0 where
-    pub in_a : HasRoom rules_a M near.a (vec_capacity t.a)
-    pub in_b : HasRoom rules_b C near.b (vec_capacity t.b)
-    pub in_c : HasRoom rules_c M near.c (vec_capacity t.c)
-    pub in_d : HasRoom rules_d C near.d (vec_capacity t.d)
-    pub in_e : HasRoom rules_e M near.e (vec_capacity t.e)
+  -- so much room on each channel is enough for all that the near beats of a script can make due
+  pub record HaveRoom (near : Beats C M) (room : PerChannel ℕ) : Type 0 where
+    pub in_a : HasRoom rules_a M near.a room.a
+    pub in_b : HasRoom rules_b C near.b room.b
+    pub in_c : HasRoom rules_c M near.c room.c
+    pub in_d : HasRoom rules_d C near.d room.d
+    pub in_e : HasRoom rules_e M near.e room.e
+
+  -- the lists have that much
+  abbrev pub HasRoomFor : Beats C M → Taken C M → Type 0
+  HasRoomFor near t = HaveRoom near (record { a = vec_capacity t.a; b = vec_capacity t.b; c = vec_capacity t.c; d = vec_capacity t.d; e = vec_capacity t.e })

@@ -12,8 +12,5 @@ value_name-requires c = tt
 pub help-requires : goal.help-requires
 help-requires c = tt
 
-pub action-requires : goal.action-requires
-action-requires c = tt
-
 pub default_value-requires : goal.default_value-requires
 default_value-requires c = tt
