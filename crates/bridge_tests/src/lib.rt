@@ -1,4 +1,6 @@
-//! Tests of the bridge and of its tables, in a crate of their own: a crate with tests is proved twice.
+//! Tests of the crossing, from one channel's pipe and ends to both sides of the bridge and the runs of a
+//! script, in a crate of their own: a crate with tests is proved twice, and each spends half a minute on
+//! loading alone.
 #![tactic(auto)]
 
 #[cfg(test)]
@@ -6,14 +8,30 @@ mod beats;
 #[cfg(test)]
 mod fault_tests;
 #[cfg(test)]
+mod pair;
+#[cfg(test)]
+mod ring;
+#[cfg(test)]
+mod run;
+#[cfg(test)]
 mod sync_tests;
 #[cfg(test)]
 mod tests;
 
 use std::alloc::Allocator;
 use tl_bridge::SyncBridge;
+use tl_pair::{ClientSide, ManagerSide};
 
 /// Lets a bridge go, with all that it holds.
 pub fn let_go<const C: usize, const M: usize, A: Allocator>(bridge: SyncBridge<C, M, A>) {
     drop(bridge);
+}
+
+/// Lets both sides of a bridge go, with all that they hold.
+pub fn let_sides_go<const C: usize, const M: usize, A: Allocator>(
+    client: ClientSide<C, M, A>,
+    manager: ManagerSide<C, M, A>,
+) {
+    drop(client);
+    drop(manager);
 }

@@ -1,5 +1,5 @@
 -- One beat more: the burst that is open after a beat at its place.
-use Rattle.std.proofs.Common.{◌≡◌, ◌≤◌, ◌<◌, ◌+◌, ◌==◌, ℕ, Bool, true, false, cond, if◌then◌else◌, Option, None, Some, List, [], ◌∷◌, ◌++◌, length, refl, sym, ap, ◌∙◌, arith}
+use Rattle.std.proofs.Common.{◌≡◌, ◌≢◌, ◌≤◌, ◌<◌, ◌+◌, ◌==◌, eq-eqb, ℕ, Bool, true, false, cond, if◌then◌else◌, Option, None, Some, List, [], ◌∷◌, ◌++◌, length, refl, sym, ap, ◌∙◌, arith}
 use Rattle.std.proofs.lemmas.List.{length_push}
 use Rattle.tl_lanes.specs.Lanes.{IsWidth}
 use Rattle.tl_msg.specs.Rules.{Rules}
@@ -9,6 +9,9 @@ use Rattle.tl_burst.specs.Handing.{ends, rest_of, burst_of, burst_after}
 use Rattle.tl_burst.specs.Tracking.{count_in, burst_with, IsOpen, IsPlace}
 use Rattle.tl_burst.specs.declared.place.Place.{Place}
 use Rattle.tl_burst.proofs.Burst.{rest-snoc, beats-bounds}
+
+not-both : {b : Bool} → b ≡ false → b ≡ true → ⊥
+not-both e f = cc
 
 module _ {H : Type 0} (r : Rules H) (w : ℕ) where
   pub count-of : (rest : List (BeatOf H w)) → count_in (burst_of r rest) ≡ length rest
@@ -44,6 +47,17 @@ module _ {H : Type 0} (r : Rules H) (w : ℕ) where
     index-small ww small =
         let b : (0 < beats_of r place.head w) × (beats_of r place.head w ≤ 4096) = beats-bounds r place.head w ww small in
         omega (arith, is.within)
+
+  -- and the burst after it is open
+  with-last : (head : H) (index : ℕ) (last : Bool) → r.fault head ≡ None → index < beats_of r head w → last ≡ (index + 1 == beats_of r head w) →
+      IsOpen r w (if last then None else Some (head, index + 1))
+  with-last head index true lawful within e = tt
+  with-last head index false lawful within e =
+      let more : index + 1 ≢ beats_of r head w = λ same. absurd (not-both (sym e) (eq-eqb (index + 1) (beats_of r head w) same)) in
+      (lawful, omega arith, omega arith)
+
+  pub place-opens : {K : Type 0} (burst : Option (H × ℕ)) (place : Place K H) → IsPlace r w burst place → IsOpen r w (burst_with place)
+  place-opens burst place is = with-last place.head place.index place.last is.lawful is.within is.last
 
   pub place-within : (burst : Option (H × ℕ)) (head : H) (index : ℕ) → IsWidth w → r.size head ≤ 12 → IsOpen r w burst →
       ((h : H) (count : ℕ) → burst ≡ Some (h, count) → head ≡ h) → index ≡ count_in burst → index < beats_of r head w

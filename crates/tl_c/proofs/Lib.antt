@@ -1,2 +1,3 @@
 mod AsOwner
 mod BothWidths
+mod Idle

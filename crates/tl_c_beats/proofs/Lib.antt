@@ -1,3 +1,4 @@
 pub mod Closing
 pub mod Numbers
+pub mod Offering
 pub mod Owners

@@ -9,7 +9,9 @@ use Rattle.std.proofs.Math.Nat.{mod-lt, add-mul-mod_self_right, div-eq_of_eq-mul
 use Rattle.std.proofs.Math.Arith.{digits_div}
 use Rattle.tl_msg.specs.Rules.{Rules}
 use Rattle.tl_msg.specs.declared.beat.BeatOf.{BeatOf}
+use Rattle.tl_lanes.specs.declared.limits.TheConstants.{MAX_SIZE}
 use Rattle.tl_lanes.specs.Lanes.{IsWidth, bytes_per_beat}
+use Rattle.tl_lanes.proofs.Widths.{width_bounds}
 use Rattle.tl_burst.specs.Messages.{Message, per_beat, beat_at, some_of, is_bad}
 use Rattle.tl_convert.specs.Partial.{Filled}
 use Rattle.tl_convert.specs.Inner.Pouring.{Brings, Poured, Source, Pours, IsBlank, far_beats}
@@ -81,6 +83,21 @@ last-changed xs x y t items slice count is same =
 pub last-was : {X : Type 0} (xs : List X) (x z : X) (t : ℕ) (items slice : List X) → length xs ≡ t → items ≡ xs ++ x ∷ [] → slice ≡ items → get_or slice t z ≡ x
 last-was xs x z t items slice count is same =
     ap (λ s. get_or s t z) (same ∙ is) ∙ ap (λ i. get_or (xs ++ x ∷ []) i z) (sym count) ∙ get_or-append_seam xs x [] z
+
+-- it stands in the list
+pub last-inside : {X : Type 0} (xs : List X) (x : X) (t : ℕ) (items slice : List X) → length xs ≡ t → items ≡ xs ++ x ∷ [] → slice ≡ items → t < length slice
+last-inside xs x t items slice count is same =
+    let long : length slice ≡ length xs + 1 = ap length (same ∙ is) ∙ length-append xs (x ∷ []) in omega arith
+
+pub same-small : (n s : ℕ) → n ≡ s → s ≤ MAX_SIZE → n ≤ MAX_SIZE
+same-small n s is le = omega arith
+
+-- a chunk has a byte, and no more than a beat has
+pub some-bytes : (size w n : ℕ) → IsWidth w → n ≡ bytes_per_beat size w → 0 < n
+some-bytes size w n width is = let z : 0 < 2 ^ size = search rules in let b = width_bounds w width in omega arith
+
+pub bytes-within : (size w n : ℕ) → n ≡ bytes_per_beat size w → n ≤ w
+bytes-within size w n is = omega arith
 
 -- a far beat that has no byte of a message, whichever of its beats it may be
 abbrev pub IsEmpty : {H : Type 0} (r : Rules H) (m : Message H) (v : ℕ) → BeatOf H v → Type 0

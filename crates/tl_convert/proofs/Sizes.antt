@@ -1,7 +1,11 @@
--- A tracker fits in memory, where the heads of its channel are small.
-use Rattle.std.proofs.Common.{◌≤◌, ◌<◌, ◌+◌, ℕ, max, arith}
+-- A tracker fits in memory, where the heads of its channel are small, and so do the places of a list of beats.
+use Rattle.std.proofs.Common.{◌≤◌, ◌<◌, ◌+◌, ◌*◌, ◌^◌, ℕ, max, arith}
+use Rattle.std.proofs.Math.Nat.{mul-le-mul}
 use prog.Memory.{up, size, align}
-use mir.Syntax.{Ty}
+use prog.Align.{up-ge}
+use mir.Syntax.{Ty, w64}
+use mir.Val.{Fits}
+use Rattle.tl_lanes.specs.declared.limits.TheConstants.{WIDEST}
 use Rattle.tl_lanes.proofs.Sizes.{align-small, up_le}
 
 -- the bytes of a tracker whose heads have s bytes and are aligned to a, and lie at a multiple of x
@@ -31,3 +35,29 @@ tracker-few τ σ small = bytes-few (align τ) (align σ) (size τ) (align-small
 
 pub tracker-fits : (τ σ : Ty) → size τ ≤ 32 → tracker_bytes (align τ) (align σ) (size τ) < 9223372036854775808
 tracker-fits τ σ small = let few = tracker-few τ σ small in omega arith
+
+-- the bytes of a beat of width v, and of a list of such beats, where a head has s bytes, is aligned to a, and lies at a multiple of x
+abbrev pub beat_bytes : (a x s v : ℕ) → ℕ
+beat_bytes a x s v = up (max a 16) (up 1 (up 1 (up 16 (up x 0 + s) + 16) + v * 1) + 1)
+
+abbrev list_bytes : (a x s v : ℕ) → ℕ
+list_bytes a x s v =
+    let m : ℕ = max (max a 16) 1 in
+    up (max m 8) (up 1 (up 8 (up m 0 + up m (up (max a 16) 0 + WIDEST * beat_bytes a x s v)) + 8) + 0)
+
+place-fits : (a m n beat t : ℕ) → up n (up 1 (up 8 (up m 0 + up m (up a 0 + WIDEST * beat)) + 8) + 0) < 9223372036854775808 → t ≤ WIDEST → Fits w64 (t * beat)
+place-fits a m n beat t small le =
+    let same : beat ≤ beat = omega arith in
+    let most : t * beat ≤ WIDEST * beat = mul-le-mul le same in
+    let one = up-ge m (up a 0 + WIDEST * beat) in
+    let two = up-ge 8 (up m 0 + up m (up a 0 + WIDEST * beat)) in
+    let three = up-ge 1 (up 8 (up m 0 + up m (up a 0 + WIDEST * beat)) + 8) in
+    let four = up-ge n (up 1 (up 8 (up m 0 + up m (up a 0 + WIDEST * beat)) + 8) + 0) in
+    record { fits = omega arith }
+
+-- where the list fits in memory, a beat's place in it has few bytes before it
+pub place_fits : (head place : Ty) (v t : ℕ) → list_bytes (align head) (align place) (size head) v < 9223372036854775808 → t ≤ WIDEST →
+    Fits w64 (t * beat_bytes (align head) (align place) (size head) v)
+place_fits head place v t small le =
+    place-fits (max (align head) 16) (max (max (align head) 16) 1) (max (max (max (align head) 16) 1) 8)
+    (beat_bytes (align head) (align place) (size head) v) t small le

@@ -1,6 +1,6 @@
 -- Each call of a side takes it to what it stands for after the same event: its ends have their places in it, as `Places` of tl_sides says.
-use Rattle.std.proofs.Common.{◌≡◌, ◌↔◌, ◌≤◌, ◌+◌, ◌*◌, ℕ, true, Option, None, Some, List, [], ◌∷◌, ◌++◌, map, take, refl, sym, ap, subst, ◌∙◌, arith}
-use Rattle.std.specs.Prelude.{◌-◌, Result, Ok, Err, OnOk, OnErr, IsOk, IfErr, IfSome, slice_get, length, min}
+use Rattle.std.proofs.Common.{◌≡◌, ◌↔◌, ◌≤◌, ◌+◌, ◌*◌, ℕ, Bool, true, false, Option, None, Some, List, [], ◌∷◌, ◌++◌, map, take, refl, sym, ap, subst, ◌∙◌, arith}
+use Rattle.std.specs.Prelude.{◌-◌, Result, OnOk, OnErr, IsOk, IfErr, IfSome, slice_get, length, min}
 use Rattle.tl_msg.specs.Faults.{IsLawfulBeat}
 use Rattle.tl_msg.specs.Rules.{Rules}
 use Rattle.tl_msg.specs.Tables.{rules_a, rules_b, rules_c, rules_d, rules_e}
@@ -24,13 +24,15 @@ use Rattle.tl_ring.specs.declared.standing.Standing.{Standing}
 use Rattle.tl_ring.specs.declared.fault.EndFault.{EndFault}
 use Rattle.tl_msg.specs.declared.fault.SideFault.{SideFault}
 use Rattle.tl_sides.specs.Crossings.{stops_alone}
-use Rattle.tl_sides.proofs.Places.{Place, Offers, offers_alone, shuts, stopped, went, on_ok_to}
-use Rattle.tl_settle.specs.Histories.{Ask, Answer, asked, answered, manager_home, manager_homes, client_answer, manager_answer}
-use Rattle.tl_settle.proofs.Marks.{asked_ask, asked_answer, answered_ask, answered_answer}
+use Rattle.tl_sides.proofs.Places.{Place, Offers, OffersOfTwo, offers, both, offers_alone, shuts, on_ok_to}
+use Rattle.tl_settle.specs.Histories.{Event, Ask, Answer, asked, answered, manager_home, manager_homes, client_answer, manager_answer}
+use Rattle.tl_settle.proofs.Marks.{asked_answer, answered_ask, answered_answer}
 use Rattle.tl_sides.specs.Books.{Client, Manager, KnowsClient, KnowsManager}
 use Rattle.tl_sides.proofs.BridgeSteps.{home_given, homes_given, asked_answers, asked_taken, answered_asks, answered_taken, homes_asks}
 use Rattle.tl_pair.specs.Ends.{Pumps, Fetches, AreStanding, pump_count, fetch_count, after_pump}
-use Rattle.tl_pair.proofs.Senders.{fetch_counted, fetches_of}
+use Rattle.tl_ring.proofs.EndSteps.{meets_of, met_alike}
+use Rattle.tl_pair.specs.Inner.Offering.{IsAsking, IsAnswering}
+use Rattle.tl_pair.proofs.Senders.{open_end, fetch_counted, fetches_of}
 use Rattle.tl_pair.specs.Sides.{ClientState, ManagerState, ClientPast, ManagerPast, ClientStandsFor, ManagerStandsFor, AreSides, SidesMeet}
 use Rattle.tl_pair.specs.Sides.{client_pumps, manager_pumps, client_offers_a, client_takes_d, manager_offers_d, manager_takes_a}
 
@@ -52,18 +54,29 @@ module _ {K A H : Type 0} (r : Rules H) {w v : ℕ} {S X : Type 0} {Stands : S �
     refused : OnErr result (s' ≡ s);
   }
 
-  pub side_offers : (b : BeatOf H w) → ((y : World H w v) → Keeps y (offered r b 0 y)) → {inside s : S} → inside ≡ s → (p : Sending K A H v)
-      (result : Result Unit SideFault) → record {
-        admitted : (y : World H w v) → Sends r (at.part inside) y → IsOk result ↔ (stops_alone r y.accepted b ≡ None);
-        accepted : (y : World H w v) → Sends r (at.part inside) y → OnOk result (Sends r p (offered r b 0 y));
-        fault : (y : World H w v) → Sends r (at.part inside) y → IfErr result (λ fault. stops_alone r y.accepted b ≡ Some fault);
-        ring : p.producer ≡ (at.part inside).producer;
-        refused : OnErr result (p ≡ at.part inside);
-      } → SideOffers b s (at.put inside p) p result
-  side_offers b keeps {inside} view p result e =
-      subst (λ q. SideOffers b q (at.put inside p) p result) view (
-      let k = offers_alone at r b keeps {inside = inside} refl p result (record { admitted = e.admitted; accepted = e.accepted; fault = e.fault; refused = e.refused }) in
-      record { admitted = k.admitted; accepted = k.accepted; fault = k.fault; ring = e.ring; rest = refl; refused = k.refused })
+  -- and what its end says, before and after
+  abbrev pub EndOffers : (b : BeatOf H w) (p p' : Sending K A H v) (result : Result Unit SideFault) → Type 0
+  EndOffers b p p' result = record {
+    admitted : (y : World H w v) → Sends r p y → IsOk result ↔ (stops_alone r y.accepted b ≡ None);
+    accepted : (y : World H w v) → Sends r p y → OnOk result (Sends r p' (offered r b 0 y));
+    fault : (y : World H w v) → Sends r p y → IfErr result (λ fault. stops_alone r y.accepted b ≡ Some fault);
+    ring : p'.producer ≡ p.producer;
+    refused : OnErr result (p' ≡ p);
+  }
+
+  pub side_offers : (b : BeatOf H w) → ((y : World H w v) → Keeps y (offered r b 0 y)) → {inside s : S} → inside ≡ s → (end p : Sending K A H v) →
+      at.part inside ≡ record end { closed = (at.part inside).closed } → (at.part inside).closed ≡ false → end.closed ≡ false → p.closed ≡ false →
+      (result : Result Unit SideFault) → EndOffers b end p result →
+      SideOffers b s (at.put inside (record p { closed = (at.part inside).closed })) (record p { closed = (at.part inside).closed }) result
+  side_offers b keeps {inside} view end p is_end outside before after result e =
+      subst (λ q. SideOffers b q (at.put inside (record p { closed = (at.part inside).closed })) (record p { closed = (at.part inside).closed }) result) view (
+      let same : end ≡ at.part inside = sym (is_end ∙ open_end end (at.part inside).closed before outside) in
+      let shown : EndOffers b (at.part inside) (record p { closed = (at.part inside).closed }) result =
+      subst (λ q. EndOffers b (at.part inside) q result) (sym (open_end p (at.part inside).closed after outside))
+      (subst (λ q. EndOffers b q p result) same e) in
+      let k = offers_alone at r b keeps {inside = inside} refl (record p { closed = (at.part inside).closed }) result
+      (record { admitted = shown.admitted; accepted = shown.accepted; fault = shown.fault; refused = shown.refused }) in
+      record { admitted = k.admitted; accepted = k.accepted; fault = k.fault; ring = shown.ring; rest = refl; refused = k.refused })
 
   -- and a close
   abbrev pub SideCloses : (s s' : S) (result : Result Unit EndFault) → Type 0
@@ -328,13 +341,6 @@ module _ {A : Type 0} {C M : ℕ} where
       })
 
 module _ {A : Type 0} {C M : ℕ} (s : ClientState A C M) (x : ClientPast C M) (h : ClientStandsFor s x) where
-  -- a beat of A is accepted
-  pub client_offered_a : (p : Sending ChA A HeadA M) (b : BeatOf HeadA C) (book : Client) → Sends rules_a p (offered rules_a b 0 x.a) →
-      KnowsClient book (x.history ++ Ask b ∷ []) → ClientStandsFor (record s { a = p; book = book }) (client_offers_a b x)
-  client_offered_a p b book k noted =
-      client_of k h.b h.c (subst (λ q. Takes s.d q) (sym (answered_ask x.history b)) h.d) h.e
-      (asked_ask x.history b ∙ ap (λ q. q ++ b ∷ []) h.accepted) noted
-
   -- the first beats of D, one or none, are taken
   pub client_taken_d : (t : Taking ChD A HeadD C) (inbox : List (BeatOf HeadD C)) (book : Client) → Takes t (answered x.history ++ take 1 inbox) →
       KnowsClient book (x.history ++ map Answer (take 1 inbox)) → ClientStandsFor (record s { d = t; book = book }) (client_takes_d (take 1 inbox) x)
@@ -343,16 +349,6 @@ module _ {A : Type 0} {C M : ℕ} (s : ClientState A C M) (x : ClientPast C M) (
       (asked_answers x.history (take 1 inbox) ∙ h.accepted) noted
 
 module _ {A : Type 0} {C M : ℕ} (s : ManagerState A C M) (x : ManagerPast C M) (h : ManagerStandsFor s x) where
-  -- a beat of D is accepted
-  pub manager_offered_d : (p : Sending ChD A HeadD C) (b : BeatOf HeadD M) (home : ℕ) (book : Manager) →
-      (left rules_d M x.d.accepted ≡ 0) ↔ (rest_of rules_d M x.d.accepted ≡ []) → Sends rules_d p (offered rules_d b home x.d) →
-      (left rules_d M x.d.accepted ≡ 0 → home ≡ manager_home x.history b.head) → KnowsManager book (x.history ++ Answer b ∷ []) →
-      ManagerStandsFor (record s { d = p; book = book }) (manager_offers_d b x)
-  manager_offered_d p b home book between k right noted =
-      manager_of (subst (λ q. Takes s.a q) (sym (asked_answer x.history b)) h.a) h.b h.c
-      (subst (λ (y : World HeadD M C). Sends rules_d p y) (home_given x.d b home (manager_home x.history b.head) between right) k) h.e
-      (answered_answer x.history b ∙ ap (λ q. q ++ b ∷ []) h.accepted) (homes_given x.history b x.d.accepted x.d.homes between h.accepted h.homes) noted
-
   -- the first beats of A, one or none, are taken
   pub manager_taken_a : (t : Taking ChA A HeadA M) (inbox : List (BeatOf HeadA M)) (book : Manager) → Takes t (asked x.history ++ take 1 inbox) →
       KnowsManager book (x.history ++ map Ask (take 1 inbox)) → ManagerStandsFor (record s { a = t; book = book }) (manager_takes_a (take 1 inbox) x)
@@ -389,17 +385,6 @@ module _ {S X : Type 0} {Stands : S → X → Type 0} (offer : Passing Stands) w
     refused = k.refused;
   })
 
-  -- it is refused, and changes nothing, or accepted
-  pub passes_not : {inside s : S} → inside ≡ s → (s' : S) → s' ≡ inside → offer.ring inside s' → offer.rest inside s' → (r : Result Unit SideFault)
-      (f : SideFault) → r ≡ Err f → ((x : X) → Stands inside x → offer.stops x ≡ Some f) → Passes s s' r
-  passes_not {inside} view s' same ring rest r f err says =
-      passes_of view s' r (stopped Stands offer.stops offer.next inside s' r f err same says) ring rest
-
-  pub passes_on : {inside s : S} → inside ≡ s → (s' : S) → offer.ring inside s' → offer.rest inside s' →
-      ((x : X) → Stands inside x → offer.stops x ≡ None) → ((x : X) → Stands inside x → Stands s' (offer.next x)) → Passes s s' (Ok tt)
-  passes_on {inside} view s' ring rest free stands =
-      passes_of view s' (Ok tt) (went Stands offer.stops offer.next inside s' free stands) ring rest
-
 -- a request, at the client's side, and a response, at the manager's
 abbrev pub asking : {A : Type 0} {C M : ℕ} → BeatOf HeadA C → Passing (ClientStandsFor {A = A} {C = C} {M = M})
 asking b = record {
@@ -417,12 +402,96 @@ answering b = record {
   rest = λ s s'. s' ≡ record s { d = s'.d; book = s'.book };
 }
 
--- a side whose book stays is the side itself
-pub same_asker : {A : Type 0} {C M : ℕ} {s : ClientState A C M} {book : Client} → book ≡ s.book → record s { book = book } ≡ s
-same_asker {s = s} e = ap (λ q. record s { book = q }) e
+-- a beat of D is accepted at its end, where the book gives its message the home that the history says
+pub answering_on : {A : Type 0} {C M : ℕ} (es : List (Event M)) (x : World HeadD M C) (book : Manager) (p : Sending ChD A HeadD C) (b : BeatOf HeadD M)
+    (home : ℕ) → answered es ≡ x.accepted → manager_homes es ≡ x.homes → (left rules_d M x.accepted ≡ 0) ↔ (rest_of rules_d M x.accepted ≡ []) →
+    Sends rules_d p (offered rules_d b home x) → (left rules_d M x.accepted ≡ 0 → home ≡ manager_home es b.head) →
+    KnowsManager book (es ++ Answer b ∷ []) → IsAnswering book p (es ++ Answer b ∷ []) (offered rules_d b (manager_home es b.head) x)
+answering_on {A} {C} {M} es x book p b home same homes between k right noted = record {
+  knows = noted;
+  sends = subst (λ (y : World HeadD M C). Sends rules_d p y) (home_given x b home (manager_home es b.head) between right) k;
+  same = answered_answer es b ∙ ap (λ q. q ++ b ∷ []) same;
+  homes = homes_given es b x.accepted x.homes between same homes;
+}
 
-pub same_answerer : {A : Type 0} {C M : ℕ} {s : ManagerState A C M} {book : Manager} → book ≡ s.book → record s { book = book } ≡ s
-same_answerer {s = s} e = ap (λ q. record s { book = q }) e
+module _ {A : Type 0} {C M : ℕ} where
+  -- the places of a book and the end that asks it
+  abbrev at_asking : Place {S = ClientState A C M} {X = ClientPast C M} {P = Client × Sending ChA A HeadA M} {W = List (Event C) × World HeadA C M}
+      ClientStandsFor (λ p y. IsAsking p.0 p.1 y.0 y.1) (λ x y. answered y.0 ≡ answered x.0)
+  at_asking = record {
+    part = λ s. (s.book, s.a);
+    put = λ s p. record s { book = p.0; a = p.1 };
+    back = λ s. refl;
+    seen = λ x. (x.history, x.a);
+    after = λ x y. record x { history = y.0; a = y.1 };
+    stands = λ s x h. record { knows = h.book; sends = h.a; same = h.accepted };
+    moves = λ s x h p y k same. client_of k.sends h.b h.c (subst (λ q. Takes s.d q) (sym same) h.d) h.e k.same k.knows;
+  }
+
+  abbrev at_answering : Place {S = ManagerState A C M} {X = ManagerPast C M} {P = Manager × Sending ChD A HeadD C} {W = List (Event M) × World HeadD M C}
+      ManagerStandsFor (λ p y. IsAnswering p.0 p.1 y.0 y.1) (λ x y. asked y.0 ≡ asked x.0)
+  at_answering = record {
+    part = λ s. (s.book, s.d);
+    put = λ s p. record s { book = p.0; d = p.1 };
+    back = λ s. refl;
+    seen = λ x. (x.history, x.d);
+    after = λ x y. record x { history = y.0; d = y.1 };
+    stands = λ s x h. record { knows = h.book; sends = h.d; same = h.accepted; homes = h.homes };
+    moves = λ s x h p y k same. manager_of (subst (λ q. Takes s.a q) (sym same) h.a) h.b h.c k.sends h.e k.same k.homes k.knows;
+  }
+
+  -- a side as its own parts make it, where one of its ends is seen inside
+  pub client_seen : {I : Type 0} {i j : I} → i ≡ j → (view : I → ClientState A C M) {s : ClientState A C M} → view j ≡ s → view i ≡ s
+  client_seen within view e = ap view within ∙ e
+
+  pub manager_seen : {I : Type 0} {i j : I} → i ≡ j → (view : I → ManagerState A C M) {s : ManagerState A C M} → view j ≡ s → view i ≡ s
+  manager_seen within view e = ap view within ∙ e
+
+  -- what an offer at an open end of A says, whose book is asked, and at one of D
+  abbrev pub EndAsks : (b : BeatOf HeadA C) (book book' : Client) (end end' : Sending ChA A HeadA M) (result : Result Unit SideFault) → Type 0
+  EndAsks b book book' end end' result = record {
+    offers : OffersOfTwo IsAsking (λ es y. client_answer es b) (λ es. es ++ Ask b ∷ []) (λ es y. offered rules_a b 0 y) book book' end end' result;
+    ring : end'.producer ≡ end.producer;
+  }
+
+  abbrev pub EndAnswers : (b : BeatOf HeadD M) (book book' : Manager) (end end' : Sending ChD A HeadD C) (result : Result Unit SideFault) → Type 0
+  EndAnswers b book book' end end' result = record {
+    offers : OffersOfTwo IsAnswering (λ es y. manager_answer es b) (λ es. es ++ Answer b ∷ [])
+        (λ es y. offered rules_d b (manager_home es b.head) y) book book' end end' result;
+    ring : end'.producer ≡ end.producer;
+  }
+
+  pub side_asks : (b : BeatOf HeadA C) {inside s : ClientState A C M} → inside ≡ s → (book : Client) (end p : Sending ChA A HeadA M) →
+      inside.a ≡ record end { closed = inside.a.closed } → inside.a.closed ≡ false → end.closed ≡ false → p.closed ≡ false →
+      (result : Result Unit SideFault) → EndAsks b inside.book book end p result →
+      Passes (asking b) s (record inside { book = book; a = record p { closed = inside.a.closed } }) result
+  side_asks b {inside} view book end p is_end outside before after result e =
+      let q : Sending ChA A HeadA M = record p { closed = inside.a.closed } in
+      let same : end ≡ inside.a = sym (is_end ∙ open_end end inside.a.closed before outside) in
+      let shown : EndAsks b inside.book book inside.a q result =
+      subst (λ z. EndAsks b inside.book book inside.a z result) (sym (open_end p inside.a.closed after outside))
+      (subst (λ z. EndAsks b inside.book book z p result) same e) in
+      passes_of (asking b) view (record inside { book = book; a = q }) result
+      (offers at_asking (λ y. client_answer y.0 b) (λ y. (y.0 ++ Ask b ∷ [], offered rules_a b 0 y.1)) (λ y. answered_ask y.0 b) refl (book, q) result
+      (both IsAsking (λ es y. client_answer es b) (λ es. es ++ Ask b ∷ []) (λ es y. offered rules_a b 0 y) inside.book book inside.a q result shown.offers))
+      shown.ring refl
+
+  pub side_answers : (b : BeatOf HeadD M) {inside s : ManagerState A C M} → inside ≡ s → (book : Manager) (end p : Sending ChD A HeadD C) →
+      inside.d ≡ record end { closed = inside.d.closed } → inside.d.closed ≡ false → end.closed ≡ false → p.closed ≡ false →
+      (result : Result Unit SideFault) → EndAnswers b inside.book book end p result →
+      Passes (answering b) s (record inside { book = book; d = record p { closed = inside.d.closed } }) result
+  side_answers b {inside} view book end p is_end outside before after result e =
+      let q : Sending ChD A HeadD C = record p { closed = inside.d.closed } in
+      let same : end ≡ inside.d = sym (is_end ∙ open_end end inside.d.closed before outside) in
+      let shown : EndAnswers b inside.book book inside.d q result =
+      subst (λ z. EndAnswers b inside.book book inside.d z result) (sym (open_end p inside.d.closed after outside))
+      (subst (λ z. EndAnswers b inside.book book z p result) same e) in
+      passes_of (answering b) view (record inside { book = book; d = q }) result
+      (offers at_answering (λ y. manager_answer y.0 b) (λ y. (y.0 ++ Answer b ∷ [], offered rules_d b (manager_home y.0 b.head) y.1))
+      (λ y. asked_answer y.0 b) refl (book, q) result
+      (both IsAnswering (λ es y. manager_answer es b) (λ es. es ++ Answer b ∷ []) (λ es y. offered rules_d b (manager_home es b.head) y)
+      inside.book book inside.d q result shown.offers))
+      shown.ring refl
 
 -- what a meeting of both ends of a channel says
 abbrev pub MeetsEnds : {K A H : Type 0} (r : Rules H) (w : ℕ) {v : ℕ} (s s' : Sending K A H v) (t t' : Taking K A H v) (n : Standing) → Type 0
@@ -431,6 +500,27 @@ MeetsEnds {K} {A} {H} r w {v} s s' t t' n = record {
   standing : AreStanding s' t' n;
   meets : (x : World H w v) (taken : List (BeatOf H v)) → Sends r s x → Takes t taken → Meets r s' t' x taken;
 }
+
+-- both ends meet, one of which is the end of a sender that is closed or not
+abbrev pub EndsMeet : {K A H : Type 0} {v : ℕ} (s s' : Sending K A H v) (t t' : Taking K A H v) (n : Standing) → Type 0
+EndsMeet s s' t t' n = record {
+  met : Met s t s' t';
+  staged : n.staged ≡ length s'.stage;
+  in_ring : n.in_ring ≡ length (known_items t');
+  inbox : n.inbox ≡ length t'.inbox;
+  most : (n.staged ≤ ROOM) × (n.inbox ≤ ROOM);
+}
+
+pub ends_met : {K A H : Type 0} (r : Rules H) (w : ℕ) {v : ℕ} (closed : Bool) (s s' : Sending K A H v) (t t' : Taking K A H v) (n : Standing) →
+    EndsMeet s s' t t' n → MeetsEnds r w (record s { closed = closed }) (record s' { closed = closed }) t t' n
+ends_met r w closed s s' t t' n e =
+    let met = met_alike closed s s' t t' e.met in
+    let held : length t'.inbox ≤ ROOM = omega (arith, e.inbox, e.most.1) in
+    record {
+      met = met;
+      standing = record { staged = e.staged; in_ring = e.in_ring; inbox = e.inbox; most = e.most };
+      meets = λ x taken sends takes. meets_of r _ _ _ _ x taken met held sends takes;
+    }
 
 -- both sides meet on all of their channels
 module _ {A : Type 0} {C M : ℕ} where

@@ -13,7 +13,7 @@ ghost use Rattle.tl_pair.specs.Ends.{Pumps, Fetches, pump_count, fetch_count};
 ghost use Rattle.tl_pair.specs.Sides.{ClientPast, ClientStandsFor, client_pumps};
 ghost use Rattle.tl_pair.specs.Sides.{client_offers_a, client_offers_c, client_offers_e, client_takes_b, client_takes_d, client_closes_a, client_closes_c, client_closes_e};
 
-use crate::sender::Sender;
+use crate::sender::{Sender, offer_finish, offer_release, offer_request};
 use std::alloc::{Allocator, Global};
 use std::marker::Model;
 use tl_msg::{BeatOf, ChA, ChB, ChC, ChD, ChE, HeadA, HeadB, HeadC, HeadD, HeadE, SideFault};
@@ -90,10 +90,7 @@ impl<const C: usize, const M: usize, A: Allocator> ClientSide<C, M, A> {
         ensures rest { self.new ≡ record self.old { a = self.new.a; book = self.new.book } }
         ensures refused { OnErr result (self.new ≡ self.old) }
     {
-        let place = self.a.check(&beat)?;
-        self.book.ask(&place)?;
-        self.a.offer_at(&beat, place, 0);
-        Ok(())
+        offer_request(&mut self.book, &mut self.a.end, &beat)
     }
 
     /// Offers a beat of C where C is ready. It is refused exactly with the beat's own fault, and
@@ -114,7 +111,7 @@ impl<const C: usize, const M: usize, A: Allocator> ClientSide<C, M, A> {
         ensures rest { self.new ≡ record self.old { c = self.new.c } }
         ensures refused { OnErr result (self.new ≡ self.old) }
     {
-        self.c.offer_alone(&beat)
+        offer_release(&mut self.c.end, &beat)
     }
 
     /// Offers a beat of E where E is ready. No beat of E has a fault. The far beat is staged.
@@ -134,7 +131,7 @@ impl<const C: usize, const M: usize, A: Allocator> ClientSide<C, M, A> {
         ensures rest { self.new ≡ record self.old { e = self.new.e } }
         ensures refused { OnErr result (self.new ≡ self.old) }
     {
-        self.e.offer_alone(&beat)
+        offer_finish(&mut self.e.end, &beat)
     }
 
     /// Takes the first beat of B's inbox, which is lawful at `C` bytes. None exactly where it is

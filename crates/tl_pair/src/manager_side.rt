@@ -13,7 +13,7 @@ ghost use Rattle.tl_pair.specs.Ends.{Pumps, Fetches, pump_count, fetch_count};
 ghost use Rattle.tl_pair.specs.Sides.{ManagerPast, ManagerStandsFor, manager_pumps};
 ghost use Rattle.tl_pair.specs.Sides.{manager_offers_b, manager_offers_d, manager_takes_a, manager_takes_c, manager_takes_e, manager_closes_b, manager_closes_d};
 
-use crate::sender::Sender;
+use crate::sender::{Sender, offer_probe, offer_response};
 use std::alloc::{Allocator, Global};
 use std::marker::Model;
 use tl_msg::{BeatOf, ChA, ChB, ChC, ChD, ChE, HeadA, HeadB, HeadC, HeadD, HeadE, SideFault};
@@ -82,7 +82,7 @@ impl<const C: usize, const M: usize, A: Allocator> ManagerSide<C, M, A> {
         ensures rest { self.new ≡ record self.old { b = self.new.b } }
         ensures refused { OnErr result (self.new ≡ self.old) }
     {
-        self.b.offer_alone(&beat)
+        offer_probe(&mut self.b.end, &beat)
     }
 
     /// Offers a beat of D where D is ready. It is refused with the beat's own fault, else, where it
@@ -106,10 +106,7 @@ impl<const C: usize, const M: usize, A: Allocator> ManagerSide<C, M, A> {
         ensures rest { self.new ≡ record self.old { d = self.new.d; book = self.new.book } }
         ensures refused { OnErr result (self.new ≡ self.old) }
     {
-        let place = self.d.check(&beat)?;
-        let home = self.book.answer(&place)?;
-        self.d.offer_at(&beat, place, home);
-        Ok(())
+        offer_response(&mut self.book, &mut self.d.end, &beat)
     }
 
     /// Takes the first beat of A's inbox, which is lawful at `M` bytes. None exactly where it is

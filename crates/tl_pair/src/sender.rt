@@ -1,21 +1,27 @@
 //! A sending end that keeps its place in a side of the bridge when it is closed.
-ghost use Rattle.std.specs.Prelude.{◌≡◌, ◌≤◌, ◌<◌, ◌↔◌, [], true, false, None, Some, List, IsOk, IsTrue, IfOk, IfErr, OnOk, OnErr};
+ghost use Rattle.std.specs.Prelude.{◌≡◌, ◌≤◌, ◌<◌, ◌↔◌, ◌++◌, ◌∷◌, [], true, false, None, Some, List, length, IsOk, IsTrue, IfErr, OnOk, OnErr};
 ghost use Rattle.tl_lanes.specs.Lanes.{IsWidth};
-ghost use Rattle.tl_msg.specs.declared.beat.BeatOf.{BeatOf};
-ghost use Rattle.tl_burst.specs.Handing.{rest_of, fault_after};
-ghost use Rattle.tl_burst.specs.Tracking.{IsPlaceOf};
+ghost use Rattle.tl_msg.specs.Tables.{rules_a, rules_b, rules_c, rules_d, rules_e};
+ghost use Rattle.tl_msg.specs.declared.head.HeadA.{HeadA};
+ghost use Rattle.tl_msg.specs.declared.head.HeadB.{HeadB};
+ghost use Rattle.tl_msg.specs.declared.head.HeadC.{HeadC};
+ghost use Rattle.tl_msg.specs.declared.head.HeadD.{HeadD};
+ghost use Rattle.tl_msg.specs.declared.head.HeadE.{HeadE};
+ghost use Rattle.tl_burst.specs.Handing.{rest_of};
 ghost use Rattle.tl_ring.specs.Crossing.{World, offered, shut};
 ghost use Rattle.tl_ring.specs.declared.queue.TheConstants.{ROOM};
-ghost use Rattle.tl_ring.specs.Ends.{Sends, Takes, Met, ArePair, Meets, as_pipe, closing};
+ghost use Rattle.tl_ring.specs.Ends.{Sends, Met, ArePair, as_pipe, closing, known_items};
 ghost use Rattle.tl_ring.specs.Pipe.{IsReady};
+ghost use Rattle.tl_settle.specs.Histories.{Event, Ask, Answer, client_answer, manager_answer, manager_home};
 ghost use Rattle.tl_sides.specs.Crossings.{stops_alone};
-ghost use Rattle.tl_pair.specs.Ends.{Pumps, AreStanding, pump_count, after_pump};
+ghost use Rattle.tl_pair.specs.Ends.{Pumps, pump_count, after_pump};
+ghost use Rattle.tl_pair.specs.Inner.Offering.{IsAsking, IsAnswering};
 
 use std::alloc::{Allocator, Global};
 use std::marker::Model;
-use tl_burst::Place;
-use tl_msg::{Beat, BeatFault, Channel, SideFault};
+use tl_msg::{Beat, ChA, ChB, ChC, ChD, ChE, Channel, SideFault};
 use tl_ring::{EndFault, SendEnd, Standing, TakeEnd, meet};
+use tl_sides::{ClientBook, ManagerBook};
 
 // The sending end of a channel, and whether it is closed. No beat is offered to a closed one, and
 // what is staged still crosses.
@@ -45,44 +51,6 @@ impl<K: Channel, const W: usize, const V: usize, A: Allocator> Sender<K, W, V, A
         !self.closed && self.end.ready()
     }
 
-    // Whether `beat` may be the next near beat, and where it stands in its message.
-    pub(crate) fn check(&self, beat: &Beat<K, W>) -> Result<Place<K>, BeatFault>
-        requires { IsWidth W × IsReady (as_pipe self.now) }
-        ensures first_fault { (x : World K.Head W V) → Sends K.rules self.now x →
-            IfErr result (λ fault. fault_after K.rules x.accepted beat.now ≡ Some fault) }
-        ensures place { IfOk result (IsPlaceOf K.rules W self.now.converter.burst beat.now) }
-    {
-        self.end.check(beat)
-    }
-
-    // Offers a near beat at its place, which `check` gave.
-    pub(crate) fn offer_at(&mut self, beat: &Beat<K, W>, place: Place<K>, home: u64)
-        requires { IsWidth W × IsWidth V × IsReady (as_pipe self.old)
-            × IsPlaceOf K.rules W self.old.converter.burst beat.now place }
-        ensures accepted { (x : World K.Head W V) → Sends K.rules self.old x →
-            Sends K.rules self.new (offered K.rules beat.now home x) }
-        ensures ring { self.new.producer ≡ self.old.producer }
-    {
-        self.end.offer_at(beat, place, home);
-    }
-
-    // Offers a beat on a channel that nothing couples to another one.
-    pub(crate) fn offer_alone(&mut self, beat: &Beat<K, W>) -> Result<(), SideFault>
-        requires { IsWidth W × IsWidth V × IsReady (as_pipe self.old) }
-        ensures admitted { (x : World K.Head W V) → Sends K.rules self.old x →
-            IsOk result ↔ (stops_alone K.rules x.accepted beat.now ≡ None) }
-        ensures accepted { (x : World K.Head W V) → Sends K.rules self.old x →
-            OnOk result (Sends K.rules self.new (offered K.rules beat.now 0 x)) }
-        ensures fault { (x : World K.Head W V) → Sends K.rules self.old x →
-            IfErr result (λ fault. stops_alone K.rules x.accepted beat.now ≡ Some fault) }
-        ensures ring { self.new.producer ≡ self.old.producer }
-        ensures refused { OnErr result (self.new ≡ self.old) }
-    {
-        let place = self.check(beat)?;
-        self.offer_at(beat, place, 0);
-        Ok(())
-    }
-
     // Ends the offers. Refused exactly where a burst is unfinished. A second close changes nothing.
     pub(crate) fn close(&mut self) -> Result<(), EndFault>
         ensures between { (x : World K.Head W V) → Sends K.rules self.old x →
@@ -110,16 +78,206 @@ impl<K: Channel, const W: usize, const V: usize, A: Allocator> Sender<K, W, V, A
     {
         self.end.pump()
     }
+}
 
-    // Brings both ends of a pair together, and answers where the beats stand.
-    pub(crate) fn meet(&mut self, take: &mut TakeEnd<K, W, V, A>) -> Standing
-        requires { ArePair self.old take.old }
-        ensures met { Met self.old take.old self.new take.new }
-        ensures standing { AreStanding self.new take.new result }
-        ensures meets { (x : World K.Head W V) (taken : List (BeatOf K.Head V)) →
-            Sends K.rules self.old x → Takes take.old taken →
-            Meets K.rules self.new take.new x taken }
-    {
-        meet(&mut self.end, take)
-    }
+// Offers a beat at an end that is open, on a channel that nothing couples to another one.
+fn offer_to<K: Channel, const W: usize, const V: usize, A: Allocator>(
+    end: &mut SendEnd<K, W, V, A>,
+    beat: &Beat<K, W>,
+) -> Result<(), SideFault>
+    requires { IsWidth W × IsWidth V × (end.old.stage ≡ []) }
+    ensures admitted { (x : World K.Head W V) → Sends K.rules end.old x →
+        IsOk result ↔ (stops_alone K.rules x.accepted beat.now ≡ None) }
+    ensures accepted { (x : World K.Head W V) → Sends K.rules end.old x →
+        OnOk result (Sends K.rules end.new (offered K.rules beat.now 0 x)) }
+    ensures fault { (x : World K.Head W V) → Sends K.rules end.old x →
+        IfErr result (λ fault. stops_alone K.rules x.accepted beat.now ≡ Some fault) }
+    ensures ring { end.new.producer ≡ end.old.producer }
+    ensures open { end.old.closed ≡ false → end.new.closed ≡ false }
+    ensures refused { OnErr result (end.new ≡ end.old) }
+{
+    let place = end.check(beat)?;
+    end.offer_at(beat, place, 0);
+    Ok(())
+}
+
+// The same of B, C and E, each by itself: a call that names its channel costs less to check than
+// one of a function that is generic in it.
+pub(crate) fn offer_probe<const C: usize, const M: usize, A: Allocator>(
+    end: &mut SendEnd<ChB, M, C, A>,
+    beat: &Beat<ChB, M>,
+) -> Result<(), SideFault>
+    requires { IsWidth M × IsWidth C × (end.old.stage ≡ []) }
+    ensures admitted { (x : World HeadB M C) → Sends rules_b end.old x →
+        IsOk result ↔ (stops_alone rules_b x.accepted beat.now ≡ None) }
+    ensures accepted { (x : World HeadB M C) → Sends rules_b end.old x →
+        OnOk result (Sends rules_b end.new (offered rules_b beat.now 0 x)) }
+    ensures fault { (x : World HeadB M C) → Sends rules_b end.old x →
+        IfErr result (λ fault. stops_alone rules_b x.accepted beat.now ≡ Some fault) }
+    ensures ring { end.new.producer ≡ end.old.producer }
+    ensures open { end.old.closed ≡ false → end.new.closed ≡ false }
+    ensures refused { OnErr result (end.new ≡ end.old) }
+{
+    offer_to(end, beat)
+}
+
+pub(crate) fn offer_release<const C: usize, const M: usize, A: Allocator>(
+    end: &mut SendEnd<ChC, C, M, A>,
+    beat: &Beat<ChC, C>,
+) -> Result<(), SideFault>
+    requires { IsWidth C × IsWidth M × (end.old.stage ≡ []) }
+    ensures admitted { (x : World HeadC C M) → Sends rules_c end.old x →
+        IsOk result ↔ (stops_alone rules_c x.accepted beat.now ≡ None) }
+    ensures accepted { (x : World HeadC C M) → Sends rules_c end.old x →
+        OnOk result (Sends rules_c end.new (offered rules_c beat.now 0 x)) }
+    ensures fault { (x : World HeadC C M) → Sends rules_c end.old x →
+        IfErr result (λ fault. stops_alone rules_c x.accepted beat.now ≡ Some fault) }
+    ensures ring { end.new.producer ≡ end.old.producer }
+    ensures open { end.old.closed ≡ false → end.new.closed ≡ false }
+    ensures refused { OnErr result (end.new ≡ end.old) }
+{
+    offer_to(end, beat)
+}
+
+pub(crate) fn offer_finish<const C: usize, const M: usize, A: Allocator>(
+    end: &mut SendEnd<ChE, C, M, A>,
+    beat: &Beat<ChE, C>,
+) -> Result<(), SideFault>
+    requires { IsWidth C × IsWidth M × (end.old.stage ≡ []) }
+    ensures admitted { (x : World HeadE C M) → Sends rules_e end.old x →
+        IsOk result ↔ (stops_alone rules_e x.accepted beat.now ≡ None) }
+    ensures accepted { (x : World HeadE C M) → Sends rules_e end.old x →
+        OnOk result (Sends rules_e end.new (offered rules_e beat.now 0 x)) }
+    ensures fault { (x : World HeadE C M) → Sends rules_e end.old x →
+        IfErr result (λ fault. stops_alone rules_e x.accepted beat.now ≡ Some fault) }
+    ensures ring { end.new.producer ≡ end.old.producer }
+    ensures open { end.old.closed ≡ false → end.new.closed ≡ false }
+    ensures refused { OnErr result (end.new ≡ end.old) }
+{
+    offer_to(end, beat)
+}
+
+// Offers a beat of A at an end that is open, where the book of its side lets it go.
+pub(crate) fn offer_request<const C: usize, const M: usize, A: Allocator>(
+    book: &mut ClientBook<C, A>,
+    end: &mut SendEnd<ChA, C, M, A>,
+    beat: &Beat<ChA, C>,
+) -> Result<(), SideFault>
+    requires { IsWidth C × IsWidth M × (end.old.stage ≡ []) }
+    // for every history that the book knows, and every crossing that the end stands for
+    ensures admitted { (es : List (Event C)) (x : World HeadA C M) →
+        IsAsking book.old end.old es x → IsOk result ↔ (client_answer es beat.now ≡ None) }
+    ensures accepted { (es : List (Event C)) (x : World HeadA C M) →
+        IsAsking book.old end.old es x → OnOk result
+        (IsAsking book.new end.new (es ++ Ask beat.now ∷ []) (offered rules_a beat.now 0 x)) }
+    ensures fault { (es : List (Event C)) (x : World HeadA C M) →
+        IsAsking book.old end.old es x →
+        IfErr result (λ fault. client_answer es beat.now ≡ Some fault) }
+    ensures ring { end.new.producer ≡ end.old.producer }
+    ensures open { end.old.closed ≡ false → end.new.closed ≡ false }
+    ensures refused { OnErr result ((book.new ≡ book.old) × (end.new ≡ end.old)) }
+{
+    let place = end.check(beat)?;
+    book.ask(&place)?;
+    end.offer_at(beat, place, 0);
+    Ok(())
+}
+
+// Offers a beat of D at an end that is open, where the book of its side lets it go.
+pub(crate) fn offer_response<const C: usize, const M: usize, A: Allocator>(
+    book: &mut ManagerBook<M, A>,
+    end: &mut SendEnd<ChD, M, C, A>,
+    beat: &Beat<ChD, M>,
+) -> Result<(), SideFault>
+    requires { IsWidth M × IsWidth C × (end.old.stage ≡ []) }
+    // for every history that the book knows, and every crossing that the end stands for
+    ensures admitted { (es : List (Event M)) (x : World HeadD M C) →
+        IsAnswering book.old end.old es x → IsOk result ↔ (manager_answer es beat.now ≡ None) }
+    ensures accepted { (es : List (Event M)) (x : World HeadD M C) →
+        IsAnswering book.old end.old es x → OnOk result
+        (IsAnswering book.new end.new (es ++ Answer beat.now ∷ [])
+        (offered rules_d beat.now (manager_home es beat.now.head) x)) }
+    ensures fault { (es : List (Event M)) (x : World HeadD M C) →
+        IsAnswering book.old end.old es x →
+        IfErr result (λ fault. manager_answer es beat.now ≡ Some fault) }
+    ensures ring { end.new.producer ≡ end.old.producer }
+    ensures open { end.old.closed ≡ false → end.new.closed ≡ false }
+    ensures refused { OnErr result ((book.new ≡ book.old) × (end.new ≡ end.old)) }
+{
+    let place = end.check(beat)?;
+    let home = book.answer(&place)?;
+    end.offer_at(beat, place, home);
+    Ok(())
+}
+
+// Brings both ends of a pair together on one channel, and answers where the beats stand: a call that
+// names its channel costs less to check than one of a function that is generic in it.
+pub(crate) fn meet_requests<const C: usize, const M: usize, A: Allocator>(
+    send: &mut SendEnd<ChA, C, M, A>,
+    take: &mut TakeEnd<ChA, C, M, A>,
+) -> Standing
+    requires { ArePair send.old take.old }
+    ensures met { Met send.old take.old send.new take.new }
+    ensures staged { result.staged ≡ length send.new.stage }
+    ensures in_ring { result.in_ring ≡ length (known_items take.new) }
+    ensures inbox { result.inbox ≡ length take.new.inbox }
+    ensures most { (result.staged ≤ ROOM) × (result.inbox ≤ ROOM) }
+{
+    meet(send, take)
+}
+
+pub(crate) fn meet_probes<const C: usize, const M: usize, A: Allocator>(
+    send: &mut SendEnd<ChB, M, C, A>,
+    take: &mut TakeEnd<ChB, M, C, A>,
+) -> Standing
+    requires { ArePair send.old take.old }
+    ensures met { Met send.old take.old send.new take.new }
+    ensures staged { result.staged ≡ length send.new.stage }
+    ensures in_ring { result.in_ring ≡ length (known_items take.new) }
+    ensures inbox { result.inbox ≡ length take.new.inbox }
+    ensures most { (result.staged ≤ ROOM) × (result.inbox ≤ ROOM) }
+{
+    meet(send, take)
+}
+
+pub(crate) fn meet_releases<const C: usize, const M: usize, A: Allocator>(
+    send: &mut SendEnd<ChC, C, M, A>,
+    take: &mut TakeEnd<ChC, C, M, A>,
+) -> Standing
+    requires { ArePair send.old take.old }
+    ensures met { Met send.old take.old send.new take.new }
+    ensures staged { result.staged ≡ length send.new.stage }
+    ensures in_ring { result.in_ring ≡ length (known_items take.new) }
+    ensures inbox { result.inbox ≡ length take.new.inbox }
+    ensures most { (result.staged ≤ ROOM) × (result.inbox ≤ ROOM) }
+{
+    meet(send, take)
+}
+
+pub(crate) fn meet_responses<const C: usize, const M: usize, A: Allocator>(
+    send: &mut SendEnd<ChD, M, C, A>,
+    take: &mut TakeEnd<ChD, M, C, A>,
+) -> Standing
+    requires { ArePair send.old take.old }
+    ensures met { Met send.old take.old send.new take.new }
+    ensures staged { result.staged ≡ length send.new.stage }
+    ensures in_ring { result.in_ring ≡ length (known_items take.new) }
+    ensures inbox { result.inbox ≡ length take.new.inbox }
+    ensures most { (result.staged ≤ ROOM) × (result.inbox ≤ ROOM) }
+{
+    meet(send, take)
+}
+
+pub(crate) fn meet_finishes<const C: usize, const M: usize, A: Allocator>(
+    send: &mut SendEnd<ChE, C, M, A>,
+    take: &mut TakeEnd<ChE, C, M, A>,
+) -> Standing
+    requires { ArePair send.old take.old }
+    ensures met { Met send.old take.old send.new take.new }
+    ensures staged { result.staged ≡ length send.new.stage }
+    ensures in_ring { result.in_ring ≡ length (known_items take.new) }
+    ensures inbox { result.inbox ≡ length take.new.inbox }
+    ensures most { (result.staged ≤ ROOM) × (result.inbox ≤ ROOM) }
+{
+    meet(send, take)
 }

@@ -2,16 +2,18 @@
 ghost use Rattle.std.specs.Prelude.{◌≡◌, ◌≤◌, ◌<◌, ◌↔◌, ◌⊎◌, [], length, IsOk, IfOk, IfErr};
 ghost use Rattle.tl_lanes.specs.Lanes.{IsWidth};
 ghost use Rattle.tl_ring.specs.declared.pipe.TheConstants.{MAX_RING};
-ghost use Rattle.tl_ring.specs.Ends.{Met};
+ghost use Rattle.tl_ring.specs.Ends.{Met, IsNewRing};
 ghost use Rattle.tl_pair.specs.Ends.{AreStanding};
 ghost use Rattle.tl_pair.specs.Sides.{ClientPast, ManagerPast, ClientStandsFor, ManagerStandsFor, AreSides, IsNewClient, IsNewManager, SidesMeet, new_client, new_manager};
 
 use crate::client_side::ClientSide;
 use crate::manager_side::ManagerSide;
-use crate::sender::Sender;
+use crate::sender::{
+    Sender, meet_finishes, meet_probes, meet_releases, meet_requests, meet_responses,
+};
 use std::alloc::Allocator;
 use tl_msg::{ChA, ChB, ChC, ChD, ChE};
-use tl_ring::{BuildFault, SendEnd, TakeEnd, new_ring};
+use tl_ring::{BuildFault, SendEnd, SendHalf, TakeEnd, TakeHalf, new_ring};
 use tl_sides::{Standings, new_books};
 
 // What a call has made. Where it has made nothing, its fault is the caller's. A `?` would make one
@@ -23,6 +25,60 @@ macro_rules! made {
             Err(fault) => return Err(fault),
         }
     };
+}
+
+// The halves of the rings of A, C and E, or why there are none. A type that both widths decide is
+// dear to check.
+fn rings_to_manager<const M: usize, A: Allocator + Copy>(
+    alloc: A,
+    ring: usize,
+) -> Result<
+    (
+        SendHalf<ChA, M, A>,
+        TakeHalf<ChA, M, A>,
+        SendHalf<ChC, M, A>,
+        TakeHalf<ChC, M, A>,
+        SendHalf<ChE, M, A>,
+        TakeHalf<ChE, M, A>,
+    ),
+    BuildFault,
+>
+    requires { IsWidth M }
+    ensures new { IfOk result (λ halves. IsNewRing ring halves.0 halves.1 ×
+        IsNewRing ring halves.2 halves.3 × IsNewRing ring halves.4 halves.5) }
+    ensures size { IsOk result → (1 ≤ ring) × (ring ≤ MAX_RING) }
+    ensures ring_size { IfErr result (λ fault.
+        (fault ≡ BuildFault.RingSize) ↔ ((ring ≡ 0) ⊎ (MAX_RING < ring))) }
+{
+    let (a, a_take) = made!(new_ring::<ChA, M, A>(alloc, ring));
+    let (c, c_take) = made!(new_ring::<ChC, M, A>(alloc, ring));
+    let (e, e_take) = made!(new_ring::<ChE, M, A>(alloc, ring));
+    Ok((a, a_take, c, c_take, e, e_take))
+}
+
+// The halves of the rings of B and D, or why there are none.
+fn rings_to_client<const C: usize, A: Allocator + Copy>(
+    alloc: A,
+    ring: usize,
+) -> Result<
+    (
+        SendHalf<ChB, C, A>,
+        TakeHalf<ChB, C, A>,
+        SendHalf<ChD, C, A>,
+        TakeHalf<ChD, C, A>,
+    ),
+    BuildFault,
+>
+    requires { IsWidth C }
+    ensures new { IfOk result (λ halves. IsNewRing ring halves.0 halves.1 ×
+        IsNewRing ring halves.2 halves.3) }
+    ensures size { IsOk result → (1 ≤ ring) × (ring ≤ MAX_RING) }
+    ensures ring_size { IfErr result (λ fault.
+        (fault ≡ BuildFault.RingSize) ↔ ((ring ≡ 0) ⊎ (MAX_RING < ring))) }
+{
+    let (b, b_take) = made!(new_ring::<ChB, C, A>(alloc, ring));
+    let (d, d_take) = made!(new_ring::<ChD, C, A>(alloc, ring));
+    Ok((b, b_take, d, d_take))
 }
 
 /// The two sides of a new bridge, for two threads, over five rings of `ring` beats each, and with
@@ -45,11 +101,8 @@ pub fn bridge<const C: usize, const M: usize, A: Allocator + Copy>(
     ensures ring_size { IfErr result (λ fault.
         (fault ≡ BuildFault.RingSize) ↔ ((ring ≡ 0) ⊎ (MAX_RING < ring))) }
 {
-    let (a, a_take) = made!(new_ring::<ChA, M, A>(alloc, ring));
-    let (b, b_take) = made!(new_ring::<ChB, C, A>(alloc, ring));
-    let (c, c_take) = made!(new_ring::<ChC, M, A>(alloc, ring));
-    let (d, d_take) = made!(new_ring::<ChD, C, A>(alloc, ring));
-    let (e, e_take) = made!(new_ring::<ChE, M, A>(alloc, ring));
+    let (a, a_take, c, c_take, e, e_take) = made!(rings_to_manager(alloc, ring));
+    let (b, b_take, d, d_take) = made!(rings_to_client(alloc, ring));
     let Ok((client_book, manager_book)) = new_books(alloc) else {
         return Err(BuildFault::OutOfMemory);
     };
@@ -113,10 +166,10 @@ pub fn meet_sides<const C: usize, const M: usize, A: Allocator>(
         SidesMeet client.new manager.new x y }
 {
     Standings {
-        a: client.a.meet(&mut manager.a),
-        b: manager.b.meet(&mut client.b),
-        c: client.c.meet(&mut manager.c),
-        d: manager.d.meet(&mut client.d),
-        e: client.e.meet(&mut manager.e),
+        a: meet_requests(&mut client.a.end, &mut manager.a),
+        b: meet_probes(&mut manager.b.end, &mut client.b),
+        c: meet_releases(&mut client.c.end, &mut manager.c),
+        d: meet_responses(&mut manager.d.end, &mut client.d),
+        e: meet_finishes(&mut client.e.end, &mut manager.e),
     }
 }

@@ -1,9 +1,30 @@
--- What an answer shows.
-use Rattle.std.specs.Prelude.{◌≡◌, ◌∷◌, Option, None, Some, IfSome, List, [], All, slice_get}
-use Rattle.std.proofs.Common.{subst, arith}
+-- What an answer shows, and what holds of no item.
+use Rattle.std.specs.Prelude.{◌≡◌, ◌≤◌, ◌<◌, ◌∷◌, Option, None, Some, IfSome, List, [], All, length, drop, slice_get}
+use Rattle.std.proofs.Common.{get_or, subst, refl, ap, arith}
 
 -- what holds of each item of a list holds of the first one, if there is one
 pub first_of_all : {A : Type 0} (P : A → Type 0) (xs : List A) (first : Option A) → first ≡ slice_get xs 0 → All P xs → IfSome first P
 first_of_all P xs None e all = tt
 first_of_all P [] (Some x) e all = absurd (cc)
 first_of_all P (y ∷ ys) (Some x) e all = let same : y ≡ x = cc in subst P same (all 0 y (omega arith))
+
+-- of each item of an empty list anything holds
+pub all_of_none : {A : Type 0} (P : A → Type 0) (xs : List A) → xs ≡ [] → All P xs
+all_of_none P [] none = λ k d within. absurd (omega arith)
+all_of_none P (x ∷ xs) none = absurd (cc)
+
+-- where a list has a first item it is not empty
+pub some_first : {A : Type 0} (xs : List A) (x : A) → Some x ≡ slice_get xs 0 → 1 ≤ length xs
+some_first [] x e = absurd (cc)
+some_first (y ∷ ys) x e = omega arith
+
+-- and where it has none nothing is left out without it
+pub none_first : {A : Type 0} (xs : List A) → None ≡ slice_get xs 0 → xs ≡ drop 1 xs
+none_first [] e = refl
+none_first (y ∷ ys) e = absurd (cc)
+
+-- a list of one item is that item
+pub only_item : {A : Type 0} (xs : List A) (x : A) → 1 ≤ length xs → length xs < 2 → x ≡ get_or xs 0 x → x ∷ [] ≡ xs
+only_item [] x some one e = absurd (omega arith)
+only_item (y ∷ []) x some one e = ap (λ z. z ∷ []) e
+only_item (y ∷ (z ∷ zs)) x some one e = absurd (omega arith)

@@ -5,6 +5,7 @@ use Rattle.std.proofs.lemmas.Bool.{cases_lt}
 use Rattle.std.proofs.lemmas.Bool.Decides.{eqb_tells}
 use Rattle.std.proofs.Math.Seq.{take-append-add, take-length}
 use Rattle.tl_ring.specs.declared.pipe.TheConstants.{MAX_RING}
+use Rattle.tl_ring.specs.declared.fault.BuildFault.TheVariants.{RingSize, OutOfMemory}
 
 pub cut_moves : {X : Type 0} (k : ℕ) (xs ys : List X) → (xs ++ take k ys) ++ drop k ys ≡ xs ++ ys
 cut_moves k xs ys = append_assoc xs (take k ys) (drop k ys) ∙ ap (λ t. xs ++ t) (take-append-drop k ys)
@@ -35,6 +36,13 @@ pub take_of_first : {X : Type 0} (n : ℕ) (front back : List X) → n ≤ min n
 take_of_first n front back all =
     let none : n - min n (length front) ≡ 0 = omega arith in
     sym (append-nil (take (min n (length front)) front)) ∙ ap (λ k. take (min n (length front)) front ++ take k back) (sym none) ∙ take_of_two n front back
+
+-- a list has no element exactly where it is empty
+pub none_in_one : {X : Type 0} (xs : List X) (n : ℕ) → n ≡ length xs → ((n == 0) ≡ true) ↔ (xs ≡ [])
+none_in_one xs n count = ⊎_elim
+    (λ (t, z). (λ _. nil_from_length xs (omega arith), λ _. t))
+    (λ (t, some). (λ u. absurd (cc), λ x. let a : length xs ≡ 0 = ap length x in absurd (some (omega arith))))
+    (eqb_tells n 0)
 
 -- three lists have no element together exactly where each is empty
 pub none_in_three : {X : Type 0} (xs ys zs : List X) (n : ℕ) → n ≡ length xs + length ys + length zs →
@@ -76,3 +84,7 @@ no_ring_size ring answer exact refused = ⊎_elim
 
 pub ring_size_only : (ring : ℕ) → (1 ≤ ring) × (ring ≤ MAX_RING) → (ring ≡ 0) ⊎ (MAX_RING < ring) → ⊥
 ring_size_only ring size refused = ⊎_elim (λ none. omega arith) (λ above. omega arith) refused
+
+-- so want of memory is no size that is refused
+pub want_of_memory : (ring : ℕ) → (1 ≤ ring) × (ring ≤ MAX_RING) → (OutOfMemory ≡ RingSize) ↔ ((ring ≡ 0) ⊎ (MAX_RING < ring))
+want_of_memory ring size = (λ same. absurd (cc), λ refused. absurd (ring_size_only ring size refused))

@@ -143,3 +143,7 @@ module _ {H : Type 0} (r : Rules H) {w v : ℕ} (partial_masked : (h : H) → r.
   pub closed_between : (p : Pipe H v) (x : World H w v) → StandsFor r p x → p.closed ≡ true → rest_of r w x.accepted ≡ []
   closed_between p x h closed =
       sym (RestIs r w h.crosses.handed) ∙ h.crosses.closed_whole (sym h.closed ∙ closed)
+
+-- closing a closed pipe changes nothing
+pub closed_again : {H : Type 0} {v : ℕ} (p : Pipe H v) → p.closed ≡ true → record p { closed = true } ≡ p
+closed_again p closed = ap (λ c. record p { closed = c }) (sym closed)

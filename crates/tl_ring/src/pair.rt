@@ -48,8 +48,10 @@ pub fn ring_pair<K: Channel, const W: usize, const V: usize, A: Allocator + Copy
     ensures ring_size { IfErr result (λ fault.
         (fault ≡ BuildFault.RingSize) ↔ ((ring ≡ 0) ⊎ (MAX_RING < ring))) }
 {
-    let (send, take) = new_ring(alloc, ring)?;
-    Ok((SendEnd::over(send), TakeEnd::over(take)))
+    match new_ring(alloc, ring) {
+        Ok((send, take)) => Ok((SendEnd::over(send), TakeEnd::over(take))),
+        Err(fault) => Err(fault),
+    }
 }
 
 /// Brings both ends of a pair together, in one thread, and answers where the beats stand. No beat

@@ -114,8 +114,10 @@ impl<K: Channel, const W: usize, const V: usize, A: Allocator> SyncPipe<K, W, V,
         ensures ring_size { IfErr result (λ fault.
             (fault ≡ BuildFault.RingSize) ↔ ((ring ≡ 0) ⊎ (MAX_RING < ring))) }
     {
-        let ring = PipeRing::new(alloc, ring)?;
-        Ok(SyncPipe::over(ring))
+        match PipeRing::new(alloc, ring) {
+            Ok(ring) => Ok(SyncPipe::over(ring)),
+            Err(fault) => Err(fault),
+        }
     }
 
     /// A new pipe over its ring, which [`PipeRing::new`] makes. It has no word on the widths, for a

@@ -50,7 +50,6 @@ impl<T> Queue<T> {
         self.items.len() - self.first
     }
 
-    #[tactic(auto, using(std::proofs::lemmas::List::nil_from_length))]
     pub(crate) fn is_empty(&self) -> bool
         ensures { IsTrue result ↔ (self.now ≡ []) }
     {

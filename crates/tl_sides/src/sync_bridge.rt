@@ -1,5 +1,5 @@
 //! The bridge of both sides in one thread.
-ghost use Rattle.std.specs.Prelude.{◌≡◌, ◌≤◌, ◌<◌, ◌*◌, ◌↔◌, ◌⊎◌, [], None, Some, true, slice_get, IsOk, IsTrue, IfOk, IfErr, OnOk, OnErr};
+ghost use Rattle.std.specs.Prelude.{ℕ, ◌≡◌, ◌≤◌, ◌<◌, ◌*◌, ◌↔◌, ◌⊎◌, [], None, Some, true, slice_get, IsOk, IsTrue, IfOk, IfErr, OnOk, OnErr};
 ghost use Rattle.tl_ring.specs.declared.pipe.TheConstants.{MAX_RING};
 ghost use Rattle.tl_ring.specs.declared.queue.TheConstants.{ROOM};
 ghost use Rattle.tl_lanes.specs.Lanes.{IsWidth};
@@ -8,6 +8,7 @@ ghost use Rattle.tl_burst.specs.Handing.{rest_of};
 ghost use Rattle.tl_ring.specs.Pipe.{IsReady};
 ghost use Rattle.tl_settle.specs.Histories.{client_answer, manager_answer};
 ghost use Rattle.tl_sides.specs.Bridges.{Past, StandsFor, IsStanding, nothing_yet, all_pumped, all_fetched, after_pump, after_fetch};
+ghost use Rattle.tl_sides.specs.Books.{KnowsClient, KnowsManager};
 ghost use Rattle.tl_sides.specs.Crossings.{stops_alone};
 ghost use Rattle.tl_sides.specs.Bridges.{after_offer_a, after_offer_b, after_offer_c, after_offer_d, after_offer_e};
 ghost use Rattle.tl_sides.specs.Bridges.{after_take_a, after_take_b, after_take_c, after_take_d, after_take_e};
@@ -89,6 +90,71 @@ impl<const C: usize, const M: usize, A: Allocator> Model for SyncBridge<C, M, A>
     } };
 }
 
+// The rings of A, C and E, or why there is none. A type that both widths decide is dear to check.
+fn rings_to_manager<const M: usize, A: Allocator + Copy>(
+    alloc: A,
+    ring: usize,
+) -> Result<
+    (
+        PipeRing<ChA, M, A>,
+        PipeRing<ChC, M, A>,
+        PipeRing<ChE, M, A>,
+    ),
+    BuildFault,
+>
+    ensures new { IfOk result (λ rings. (rings.0 ≡ ring) × (rings.1 ≡ ring) × (rings.2 ≡ ring)) }
+    ensures size { IsOk result → (1 ≤ ring) × (ring ≤ MAX_RING) }
+    ensures ring_size { IfErr result (λ fault. (fault ≡ BuildFault.RingSize) ↔
+        ((ring ≡ 0) ⊎ (MAX_RING < ring))) }
+{
+    let a = made!(PipeRing::new(alloc, ring));
+    let c = made!(PipeRing::new(alloc, ring));
+    let e = made!(PipeRing::new(alloc, ring));
+    Ok((a, c, e))
+}
+
+// The rings of B and D, or why there is none.
+fn rings_to_client<const C: usize, A: Allocator + Copy>(
+    alloc: A,
+    ring: usize,
+) -> Result<(PipeRing<ChB, C, A>, PipeRing<ChD, C, A>), BuildFault>
+    ensures new { IfOk result (λ rings. (rings.0 ≡ ring) × (rings.1 ≡ ring)) }
+    ensures size { IsOk result → (1 ≤ ring) × (ring ≤ MAX_RING) }
+    ensures ring_size { IfErr result (λ fault. (fault ≡ BuildFault.RingSize) ↔
+        ((ring ≡ 0) ⊎ (MAX_RING < ring))) }
+{
+    let b = made!(PipeRing::new(alloc, ring));
+    let d = made!(PipeRing::new(alloc, ring));
+    Ok((b, d))
+}
+
+// The bridge over its rings and books.
+fn bridge_over<const C: usize, const M: usize, A: Allocator>(
+    a: PipeRing<ChA, M, A>,
+    b: PipeRing<ChB, C, A>,
+    c: PipeRing<ChC, M, A>,
+    d: PipeRing<ChD, C, A>,
+    e: PipeRing<ChE, M, A>,
+    client: ClientBook<C, A>,
+    manager: ManagerBook<M, A>,
+) -> SyncBridge<C, M, A>
+    // for rings of one size, and for the books of a new bridge
+    ensures { (ring : ℕ) → IsWidth C → IsWidth M →
+        (a ≡ ring) × (b ≡ ring) × (c ≡ ring) × (d ≡ ring) × (e ≡ ring) →
+        KnowsClient {w = C} client [] → KnowsManager {w = M} manager [] →
+        StandsFor result (nothing_yet ring) }
+{
+    SyncBridge {
+        a: SyncPipe::over(a),
+        b: SyncPipe::over(b),
+        c: SyncPipe::over(c),
+        d: SyncPipe::over(d),
+        e: SyncPipe::over(e),
+        client,
+        manager,
+    }
+}
+
 impl<const C: usize, const M: usize, A: Allocator + Copy> SyncBridge<C, M, A> {
     /// A new bridge with five rings of `ring` beats each, and with the tables of both sides, of 64
     /// KiB and 1 MiB: the only memory that it takes. Refused with `RingSize` exactly where `ring`
@@ -102,23 +168,12 @@ impl<const C: usize, const M: usize, A: Allocator + Copy> SyncBridge<C, M, A> {
         ensures ring_size { IfErr result (λ fault. (fault ≡ BuildFault.RingSize) ↔
             ((ring ≡ 0) ⊎ (MAX_RING < ring))) }
     {
-        let a = made!(PipeRing::new(alloc, ring));
-        let b = made!(PipeRing::new(alloc, ring));
-        let c = made!(PipeRing::new(alloc, ring));
-        let d = made!(PipeRing::new(alloc, ring));
-        let e = made!(PipeRing::new(alloc, ring));
+        let (a, c, e) = made!(rings_to_manager(alloc, ring));
+        let (b, d) = made!(rings_to_client(alloc, ring));
         let Ok((client, manager)) = new_books(alloc) else {
             return Err(BuildFault::OutOfMemory);
         };
-        Ok(SyncBridge {
-            a: SyncPipe::over(a),
-            b: SyncPipe::over(b),
-            c: SyncPipe::over(c),
-            d: SyncPipe::over(d),
-            e: SyncPipe::over(e),
-            client,
-            manager,
-        })
+        Ok(bridge_over(a, b, c, d, e, client, manager))
     }
 }
 

@@ -15,6 +15,7 @@ use Rattle.std.specs.Option.{option_or}
 use Rattle.std.specs.List.{list_all, slice_range}
 use Rattle.std.specs.Bool.{Decides}
 use Rattle.std.proofs.lemmas.Bool.{and_parts}
+use Rattle.std.proofs.lemmas.Bool.Decides.{nat_tests}
 use Rattle.std.proofs.lemmas.Slice.Eq.{bytes_eq-Decides}
 use Rattle.tl_trace.specs.Texts.{header_text, widest_power, widths, is_width, is_version}
 use Rattle.tl_trace.specs.Faults.{headers, headers_of, header_of, is_header_of}
@@ -172,3 +173,7 @@ no_empty_header = refl
 
 pub from_start : (text : List ℕ) (end : ℕ) (o : Option Header) → o ≡ header_of (take end text) → header_of (slice_range text 0 end) ≡ o
 from_start text end o e = let all : end - 0 ≡ end = omega arith in ap (λ (n : ℕ). header_of (take n text)) all ∙ sym e
+
+-- the widths that a version other than 1 can name
+pub wide_count : (version : ℕ) → (version ≡ 1 → ⊥) → WIDEST_POWER + 1 ≡ widest_power version + 1
+wide_count version other = grind (arith, nat_tests)

@@ -125,6 +125,13 @@ module _ {H : Type 0} (f : Form H) where
       let both = and_parts (is_head_field field) (list_all is_head_field fs) e in
       ap (λ (k : ℕ). k ∷ map (value_of f b) fs) (head_of_beat b field both.0) ∙ ap (λ (ks : List ℕ). f.value b.head field ∷ ks) (head_said b fs both.1)
 
+  -- no data, and none of their values, where the channel has none
+  pub no_data : (w : ℕ) (text : List ℕ) (at d c : ℕ) → f.rules.corrupts ≡ false → IsPart w text at (data_fields f) (data_values f d c) 0
+  no_data w text at d c none = rw none (no_part w text at)
+
+  pub data_room : (w at n : ℕ) → f.rules.corrupts ≡ true → at + length_of w (data_fields f) ≤ n → at + 1 + 2 * w + 1 + 1 ≤ n
+  data_room w at n has room = let there = rw has at room in omega arith
+
   pub data_part : (w : ℕ) (text : List ℕ) (at d c bad bad' : ℕ) → f.rules.corrupts ≡ true → IsNumber text at (2 * w) d bad → IsNumber text (at + 1 + 2 * w) 1 c bad'
       → IsPart w text at (data_fields f) (data_values f d c) (bit_or bad bad')
   data_part w text at d c bad bad' has lanes bits = part f.rules.corrupts has
@@ -255,3 +262,6 @@ high c lt = le-ltb c 2 (omega arith)
 
 pub low : (c : ℕ) → c ≤ 1 → nat_lt c 2 ≡ true
 low c le = lt-ltb c 2 (omega arith)
+
+pub fewer : (a n : ℕ) → a + 1 + 1 ≤ n → a ≤ n
+fewer a n less = omega arith

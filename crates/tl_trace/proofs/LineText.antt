@@ -1,5 +1,6 @@
 -- The parts of a line as they are written.
 use Rattle.std.proofs.Common.{◌≡◌, ℕ, ◌+◌, ◌*◌, ◌/◌, Bool, true, false, cond, List, [], ◌∷◌, ◌++◌, refl, sym, ap, ◌∙◌, append_assoc, append-nil}
+use Rattle.std.specs.Prelude.{if◌then◌else◌}
 use Rattle.std.specs.List.{flat_map}
 use Rattle.tl_msg.specs.declared.beat.BeatOf.{BeatOf}
 use Rattle.tl_trace.specs.Fields.{Field, Form, mask, data_lanes, corrupt, bit, digit_count, value_of, fields, number_of_lanes}
@@ -39,3 +40,15 @@ line_parts f w b masked corrupts has_mask has_data narrow =
 pub joined : (a h b c d e head masks datas : List ℕ) → a ≡ [] → h ≡ head → b ≡ a ++ h → c ≡ b ++ masks → d ≡ c ++ datas → e ≡ d ++ 10 ∷ [] → e ≡ ((head ++ masks) ++ datas) ++ 10 ∷ []
 joined a h b c d e head masks datas none is first second third last =
     last ∙ ap (λ (xs : List ℕ). xs ++ 10 ∷ []) (third ∙ ap (λ (xs : List ℕ). xs ++ datas) (second ∙ ap (λ (xs : List ℕ). xs ++ masks) (first ∙ ap (λ (xs : List ℕ). xs ++ h) none ∙ is)))
+
+-- a mask where the channel has one, and nothing where it has none
+pub with_mask : (old new text : List ℕ) (m : Bool) → m ≡ true → new ≡ old ++ text → new ≡ old ++ (if m then text else [])
+with_mask old new text m has is = is ∙ ap (λ (t : Bool). old ++ (if t then text else [])) (sym has)
+
+pub without_mask : (old text : List ℕ) (m : Bool) → m ≡ false → old ≡ old ++ (if m then text else [])
+without_mask old text m none = sym (append-nil old) ∙ ap (λ (t : Bool). old ++ (if t then text else [])) (sym none)
+
+-- four pieces of a report, one after the other
+pub regrouped : (a b c d : List ℕ) → (((a ++ b) ++ c) ++ 32 ∷ []) ++ d ≡ a ++ ((b ++ c) ++ 32 ∷ d)
+regrouped a b c d =
+    append_assoc ((a ++ b) ++ c) (32 ∷ []) d ∙ ap (λ (xs : List ℕ). xs ++ 32 ∷ d) (append_assoc a b c) ∙ append_assoc a (b ++ c) (32 ∷ d)

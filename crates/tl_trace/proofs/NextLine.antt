@@ -1,5 +1,5 @@
 -- The beat of a line, put behind those of its channel.
-use Rattle.std.proofs.Common.{◌≡◌, ◌≤◌, ℕ, false, cond, List, [], ◌++◌, Option, None, Some, Result, Ok, Err, sym, ◌∙◌, append-nil}
+use Rattle.std.proofs.Common.{◌≡◌, ◌≤◌, ◌<◌, ◌+◌, ◌-◌, arith, ℕ, true, false, cond, List, [], ◌++◌, Option, None, Some, Result, Ok, Err, sym, ◌∙◌, append-nil}
 use Rattle.std.specs.Prelude.{MatchOption}
 use Rattle.std.specs.Result.{is_ok, is_err}
 use Rattle.std.specs.List.{slice_range}
@@ -14,6 +14,15 @@ use Rattle.tl_lanes.specs.declared.limits.TheConstants.{WIDEST}
 pub was_put : {A E X : Type 0} (r : Result A E) (now put before : X) → is_err r ≡ false → now ≡ cond (is_ok r) put before → now ≡ put
 was_put (Ok v) now put before went is = is
 was_put (Err x) now put before went is = absurd cc
+
+-- and what one that is refused leaves
+pub was_kept : {A E X : Type 0} (r : Result A E) (now put before : X) → is_err r ≡ true → now ≡ cond (is_ok r) put before → now ≡ before
+was_kept (Ok v) now put before went is = absurd cc
+was_kept (Err x) now put before went is = is
+
+-- a place as far behind another as there is room
+pub inside : (at long n : ℕ) → long < n - at → at + long < n
+inside at long n less = omega arith
 
 -- a list that stays has no beat more
 stays : {X : Type 0} (before after : List X) → after ≡ before → after ≡ before ++ []

@@ -1,11 +1,13 @@
 //! The beat of a line on its sender's lanes.
-ghost use Rattle.std.specs.Prelude.{◌≤◌, OnOk};
+ghost use Rattle.std.specs.Prelude.{◌≡◌, ◌≤◌, ◌++◌, ◌∷◌, [], OnOk};
 ghost use Rattle.tl_lanes.specs.declared.limits.TheConstants.{WIDEST};
 ghost use Rattle.tl_trace.specs.Inner.Reading.{IsNearOf, IsPushed};
 
 use crate::line::Line;
 use crate::script::{Script, on_lanes};
-use tl_msg::{Beat, ChA, ChB, ChC, ChD, ChE, HeadA, HeadB, HeadC, HeadD, HeadE, OutOfMemory};
+use tl_msg::{
+    Beat, BeatOf, ChA, ChB, ChC, ChD, ChE, HeadA, HeadB, HeadC, HeadD, HeadE, OutOfMemory,
+};
 
 /// One beat of a trace, on its sender's lanes.
 #[derive(Clone, Copy)]
@@ -33,6 +35,18 @@ pub fn near_of<const C: usize, const M: usize>(line: &Line) -> Near<C, M>
     }
 }
 
+/// Appends a beat to a list.
+#[inline(always)]
+fn push_beat<H: Copy, const W: usize>(
+    list: &mut Vec<BeatOf<H, W>>,
+    beat: BeatOf<H, W>,
+) -> Result<(), OutOfMemory>
+    ensures { OnOk result (list.new.items ≡ list.old.items ++ beat ∷ []) }
+{
+    list.push(beat)?;
+    Ok(())
+}
+
 /// Appends a beat to the list of its channel.
 #[inline(never)]
 pub fn push_near<const C: usize, const M: usize>(
@@ -42,11 +56,10 @@ pub fn push_near<const C: usize, const M: usize>(
     ensures { OnOk result (IsPushed near.entry script.old script.new) }
 {
     match near {
-        Near::OfA(beat) => script.a.push(beat)?,
-        Near::OfB(beat) => script.b.push(beat)?,
-        Near::OfC(beat) => script.c.push(beat)?,
-        Near::OfD(beat) => script.d.push(beat)?,
-        Near::OfE(beat) => script.e.push(beat)?,
+        Near::OfA(beat) => push_beat::<HeadA, C>(&mut script.a, beat),
+        Near::OfB(beat) => push_beat::<HeadB, M>(&mut script.b, beat),
+        Near::OfC(beat) => push_beat::<HeadC, C>(&mut script.c, beat),
+        Near::OfD(beat) => push_beat::<HeadD, M>(&mut script.d, beat),
+        Near::OfE(beat) => push_beat::<HeadE, C>(&mut script.e, beat),
     }
-    Ok(())
 }

@@ -28,10 +28,24 @@ pub fn line_end(text: &[u8], at: usize) -> usize
     ensures free { (k : ℕ) → at + k < result → slice_index text.now (at + k) ≢ 10 }
     ensures end { result < length text.now → slice_index text.now result ≡ 10 }
 {
-    match text[at..].iter().position(|byte| *byte == b'\n') {
-        Some(n) => at + n,
-        None => text.len(),
+    let mut end = at;
+    while end < text.len() {
+        if text[end] == b'\n' {
+            return end;
+        }
+        end += 1;
     }
+    end
+}
+
+/// The line of a beat that was read.
+macro_rules! read_as {
+    ($line:ident, $read:expr) => {
+        match $read {
+            Ok(beat) => Ok(Line::$line(beat)),
+            Err(kind) => Err(kind),
+        }
+    };
 }
 
 /// The beat of a later line, without its LF.
@@ -47,11 +61,11 @@ pub fn read_line<const VERSION: u8>(
     ensures kinds { IfErr result (λ kind. kind ≢ OutOfMemory) }
 {
     match text.first() {
-        Some(b'A') => Ok(Line::A(read_beat::<ChA, WIDEST, VERSION>(text, client)?)),
-        Some(b'B') => Ok(Line::B(read_beat::<ChB, WIDEST, VERSION>(text, manager)?)),
-        Some(b'C') => Ok(Line::C(read_beat::<ChC, WIDEST, VERSION>(text, client)?)),
-        Some(b'D') => Ok(Line::D(read_beat::<ChD, WIDEST, VERSION>(text, manager)?)),
-        Some(b'E') => Ok(Line::E(read_beat::<ChE, WIDEST, VERSION>(text, client)?)),
+        Some(b'A') => read_as!(A, read_beat::<ChA, WIDEST, VERSION>(text, client)),
+        Some(b'B') => read_as!(B, read_beat::<ChB, WIDEST, VERSION>(text, manager)),
+        Some(b'C') => read_as!(C, read_beat::<ChC, WIDEST, VERSION>(text, client)),
+        Some(b'D') => read_as!(D, read_beat::<ChD, WIDEST, VERSION>(text, manager)),
+        Some(b'E') => read_as!(E, read_beat::<ChE, WIDEST, VERSION>(text, client)),
         _ => Err(TraceKind::Channel),
     }
 }

@@ -1,6 +1,23 @@
 use Rattle.std.proofs.Common.{rules, lit<}
+use Rattle.tl_msg.specs.Tables.{rules_e}
+use Rattle.tl_sides.specs.Crossings.{stops_alone}
+use Rattle.tl_sides.specs.Bridges.{after_offer_e}
+use Rattle.tl_c_beats.proofs.Offering.{offers_none, offers_later, offers}
 use Rattle.tl_c.proofs.BothWidths.{widths}
 use Rattle.tl_c.proofs.offers.tl_offer_e.Goals as goal
 
 pub offer_held-offer_e-requires : goal.offer_held-offer_e-requires
 offer_held-offer_e-requires c = (lit< tt, (lit< tt, (widths.0, (widths.1, search rules))))
+
+pub returns-in_default : goal.returns-in_default
+returns-in_default c = offers_none (search rules) (search rules)
+
+pub returns : goal.returns
+returns c = offers_later c.offer_held-deref.result.now.bridge.e c.offer_held-deref.result.now (λ x s. (s.e.stage, s.e.closed))
+    (search rules) (search rules) (search rules)
+
+pub returns-2 : goal.returns-2
+returns-2 c = offers (λ b. record { bridge = b }) c.offer_held-deref_mut.result.now.bridge c.offer_held-offer_e.new.self
+    c.offer_held-deref_mut.result.now.bridge.e (λ x s. (s.e.stage, s.e.closed)) (search rules) (search rules)
+    (λ b x. stops_alone rules_e x.e.accepted b) after_offer_e c.offer_held-offer_e.result c.beat_e-beat.ensures (search rules) c.offer_held.ensures
+    c.offer_held-offer_e.ensures.admitted c.offer_held-offer_e.ensures.accepted c.offer_held-offer_e.ensures.fault c.offer_held-offer_e.ensures.refused

@@ -1,6 +1,23 @@
 use Rattle.std.proofs.Common.{rules, lit<}
+use Rattle.tl_settle.specs.Histories.{client_answer}
+use Rattle.tl_ring.specs.Ends.{as_pipe}
+use Rattle.tl_pair.specs.Sides.{client_offers_a}
+use Rattle.tl_c_beats.proofs.Offering.{offers_none, offers_later, offers}
 use Rattle.tl_c_sides.proofs.BothWidths.{widths}
 use Rattle.tl_c_sides.proofs.offers.tl_offer_a.Goals as goal
 
 pub offer_held-offer_a-requires : goal.offer_held-offer_a-requires
 offer_held-offer_a-requires c = (lit< tt, (lit< tt, (widths.0, (widths.1, search rules))))
+
+pub returns-in_default-clause-offer : goal.returns-in_default-clause-offer
+returns-in_default-clause-offer c = offers_none (search rules) (search rules)
+
+pub returns-clause-offer : goal.returns-clause-offer
+returns-clause-offer c = offers_later (as_pipe c.offer_held-deref.result.now.side.a) c.offer_held-deref.result.now
+    (λ x s. (s.a.pipe.stage, s.a.pipe.closed)) (search rules) (search rules) (search rules)
+
+pub returns-2-clause-offer : goal.returns-2-clause-offer
+returns-2-clause-offer c = offers (λ b. record { side = b }) c.offer_held-deref_mut.result.now.side c.offer_held-offer_a.new.self
+    (as_pipe c.offer_held-deref_mut.result.now.side.a) (λ x s. (s.a.pipe.stage, s.a.pipe.closed)) (search rules) (search rules)
+    (λ b x. client_answer x.history b) client_offers_a c.offer_held-offer_a.result c.beat_a-beat.ensures (search rules) c.offer_held.ensures
+    c.offer_held-offer_a.ensures.admitted c.offer_held-offer_a.ensures.accepted c.offer_held-offer_a.ensures.fault c.offer_held-offer_a.ensures.refused

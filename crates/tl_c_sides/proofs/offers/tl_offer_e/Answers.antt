@@ -1,6 +1,24 @@
 use Rattle.std.proofs.Common.{rules, lit<}
+use Rattle.tl_msg.specs.Tables.{rules_e}
+use Rattle.tl_sides.specs.Crossings.{stops_alone}
+use Rattle.tl_ring.specs.Ends.{as_pipe}
+use Rattle.tl_pair.specs.Sides.{client_offers_e}
+use Rattle.tl_c_beats.proofs.Offering.{offers_none, offers_later, offers}
 use Rattle.tl_c_sides.proofs.BothWidths.{widths}
 use Rattle.tl_c_sides.proofs.offers.tl_offer_e.Goals as goal
 
 pub offer_held-offer_e-requires : goal.offer_held-offer_e-requires
 offer_held-offer_e-requires c = (lit< tt, (lit< tt, (widths.0, (widths.1, search rules))))
+
+pub returns-in_default-clause-offer : goal.returns-in_default-clause-offer
+returns-in_default-clause-offer c = offers_none (search rules) (search rules)
+
+pub returns-clause-offer : goal.returns-clause-offer
+returns-clause-offer c = offers_later (as_pipe c.offer_held-deref.result.now.side.e) c.offer_held-deref.result.now
+    (λ x s. (s.e.pipe.stage, s.e.pipe.closed)) (search rules) (search rules) (search rules)
+
+pub returns-2-clause-offer : goal.returns-2-clause-offer
+returns-2-clause-offer c = offers (λ b. record { side = b }) c.offer_held-deref_mut.result.now.side c.offer_held-offer_e.new.self
+    (as_pipe c.offer_held-deref_mut.result.now.side.e) (λ x s. (s.e.pipe.stage, s.e.pipe.closed)) (search rules) (search rules)
+    (λ b x. stops_alone rules_e x.e.accepted b) client_offers_e c.offer_held-offer_e.result c.beat_e-beat.ensures (search rules) c.offer_held.ensures
+    c.offer_held-offer_e.ensures.admitted c.offer_held-offer_e.ensures.accepted c.offer_held-offer_e.ensures.fault c.offer_held-offer_e.ensures.refused

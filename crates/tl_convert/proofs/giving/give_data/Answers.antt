@@ -1,4 +1,4 @@
-use Rattle.std.proofs.Common.{◌≡◌, ◌≤◌, ◌<◌, ◌*◌, ◌%◌, ◌^◌, ℕ, sym, ap, subst, ◌∙◌, arith, rules}
+use Rattle.std.proofs.Common.{◌≡◌, ◌≤◌, ◌<◌, ◌*◌, ◌%◌, ◌^◌, ℕ, sym, ap, subst, ◌∙◌, arith}
 use Rattle.std.proofs.Math.Nat.{mul-mod_left, mul-le-mul}
 use Rattle.tl_msg.specs.declared.beat.BeatOf.{BeatOf}
 use Rattle.tl_lanes.specs.declared.limits.TheConstants.{WIDEST}
@@ -7,6 +7,7 @@ use Rattle.tl_lanes.proofs.Widths.{width_bounds}
 use Rattle.tl_burst.specs.Messages.{per_beat}
 use Rattle.tl_convert.specs.Inner.Pouring.{IsBlank}
 use Rattle.tl_convert.proofs.giving.give_data.Goals.{then-index-eq0, else-index-eq0}
+use Rattle.tl_convert.proofs.PourStep.{bytes-within}
 use Rattle.tl_convert.proofs.GiveStep.{give-all}
 use Rattle.tl_convert.proofs.giving.give_data.Goals as goal
 
@@ -18,25 +19,28 @@ first-small index near w i n s =
     let m : index * near ≤ 2 ^ 32 * WIDEST = mul-le-mul few le in
     omega arith
 
+far-below : (n : ℕ) → n < 2 ^ 40 → n < 2 ^ 64
+far-below n lt = omega arith
+
 pub overflow_mul-first : goal.overflow_mul-first
 overflow_mul-first g c =
     let b = width_bounds g.row.W c.requires.near in
     let e : c.args.index * c.beat_bytes.result < 2 ^ 40 =
-    first-small c.args.index c.beat_bytes.result g.row.W c.ranges.index.fits (omega (arith, c.beat_bytes.ensures)) b.1 in
-    omega arith
+    first-small c.args.index c.beat_bytes.result g.row.W c.ranges.index.fits (bytes-within c.size.result g.row.W c.beat_bytes.result c.beat_bytes.ensures) b.1 in
+    record { fits = far-below (c.args.index * c.beat_bytes.result) e }
 
 pub pour-requires : goal.pour-requires
 pour-requires g c =
     let near : c.beat_bytes.result ≡ per_beat g.K.Channel.rules c.args.beat.now.head g.row.W = c.beat_bytes.ensures ∙ ap (λ z. bytes_per_beat z g.row.W) c.size.ensures in
     let b = width_bounds g.row.W c.requires.near in
     let small : c.args.index * c.beat_bytes.result < 2 ^ 40 =
-    first-small c.args.index c.beat_bytes.result g.row.W c.ranges.index.fits (omega (arith, c.beat_bytes.ensures)) b.1 in
+    first-small c.args.index c.beat_bytes.result g.row.W c.ranges.index.fits (bytes-within c.size.result g.row.W c.beat_bytes.result c.beat_bytes.ensures) b.1 in
     let e : c.args.index * c.beat_bytes.result ≡ c.args.index * per_beat g.K.Channel.rules c.args.beat.now.head g.row.W = ap (λ n. c.args.index * n) near in (
-      search rules,
+      c.requires-raw.1.1.1.1.0,
       (
-        search rules,
+        c.requires-raw.1.1.1.1.1.0,
         (
-          search rules,
+          c.requires-raw.1.1.1.1.1.1.0,
           (
             c.requires.near,
             (

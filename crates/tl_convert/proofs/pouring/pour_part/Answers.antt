@@ -1,11 +1,18 @@
-use Rattle.std.proofs.Common.{◌≡◌, ◌≤◌, ◌+◌, ◌%◌, ◌^◌, ℕ, List, refl, sym, ap, subst, ◌∙◌, arith, ◌++◌, ◌∷◌, [], length}
+use Rattle.std.proofs.Common.{◌≡◌, ◌≤◌, ◌<◌, ◌+◌, ◌%◌, ◌^◌, ℕ, List, refl, sym, ap, subst, ◌∙◌, arith, ◌++◌, ◌∷◌, [], length, ◌*◌}
 use Rattle.std.specs.List.{refill}
 use Rattle.std.proofs.Math.ListN.{get_or, set}
+use denote.Memory.{lone}
+use denote.Param.{layout}
+use prog.Memory.{size, align}
+use mir.Syntax.{w64}
+use mir.Val.{Fits}
 use Rattle.tl_msg.specs.declared.beat.BeatOf.{BeatOf}
+use Rattle.tl_lanes.specs.declared.limits.TheConstants.{WIDEST}
 use Rattle.tl_lanes.specs.Lanes.{bytes_per_beat}
 use Rattle.tl_burst.specs.Messages.{per_beat}
 use Rattle.tl_convert.specs.Inner.Pouring.{Poured, Pours}
-use Rattle.tl_convert.proofs.PourStep.{one-chunk, pour-stays, pour-ends, blank-empty, last-changed, last-was}
+use Rattle.tl_convert.proofs.PourStep.{one-chunk, pour-stays, pour-ends, blank-empty, last-changed, last-was, last-inside, same-small}
+use Rattle.tl_convert.proofs.Sizes.{beat_bytes}
 use Rattle.tl_convert.proofs.pouring.pour_part.Goals as goal
 
 pub returns-then-first-near-ne0 : goal.returns-then-first-near-ne0
@@ -61,3 +68,41 @@ returns g c = λ m s p.
 
     was : get_or c.as_mut_slice.result.now 0 c.index-as_mut_slice-0.result ≡ c.args.partial.now
     was = last-was c.args.out.now.items c.args.partial.now c.index-as_mut_slice-0.result 0 c.push.new.self.items c.as_mut_slice.result.now none c.push.ensures.items c.as_mut_slice.ensures.value
+
+pub size-size-requires : goal.size-size-requires
+size-size-requires g c κs = λ p. p
+
+pub beat_bytes-near-requires-clause-small : goal.beat_bytes-near-requires-clause-small
+beat_bytes-near-requires-clause-small g c = same-small c.size-size.result (g.K.Channel.rules.size c.args.beat.now.head) c.size-size.ensures c.requires.small
+
+pub beat_bytes-near-requires-clause-width : goal.beat_bytes-near-requires-clause-width
+beat_bytes-near-requires-clause-width g c = c.requires.near
+
+pub beat_bytes-requires-clause-small : goal.beat_bytes-requires-clause-small
+beat_bytes-requires-clause-small g c = same-small c.size-size.result (g.K.Channel.rules.size c.args.beat.now.head) c.size-size.ensures c.requires.small
+
+pub beat_bytes-requires-clause-width : goal.beat_bytes-requires-clause-width
+beat_bytes-requires-clause-width g c = c.requires.far
+
+pub as_mut_slice-requires : goal.as_mut_slice-requires
+as_mut_slice-requires g c = c.requires-raw.1.1.1.1.1.1.0
+
+none-fits : (n : ℕ) → n ≡ 0 → n < WIDEST
+none-fits n e = omega arith
+
+pub push-requires : goal.push-requires
+push-requires g c = (c.requires-raw.1.1.1.1.1.1.0, none-fits (length c.args.out.now.items) (ap length c.requires.empty))
+
+none-before : (n : ℕ) → Fits w64 (0 * n)
+none-before n = record { fits = omega arith }
+
+pub offset_bounds-0 : goal.offset_bounds-0
+offset_bounds-0 g c = none-before (beat_bytes (align (lone g.row.K-Head.mir)) (align (layout g.row.K-Head)) (size (lone g.row.K-Head.mir)) g.row.V)
+
+pub bounds-as_mut_slice-0 : goal.bounds-as_mut_slice-0
+bounds-as_mut_slice-0 g c =
+    last-inside c.args.out.now.items c.args.partial.now 0 c.push.new.self.items c.as_mut_slice.result.now
+    (ap length c.requires.empty) c.push.ensures.items c.as_mut_slice.ensures.value
+
+pub blank-requires : goal.blank-requires
+blank-requires g c = c.requires-raw.1.1.1.1.1.0

@@ -1,13 +1,17 @@
-use Rattle.std.proofs.Common.{rules, ◌≡◌, ◌≤◌, ◌<◌, ◌+◌, ◌*◌, ◌%◌, ◌^◌, ◌++◌, ◌∷◌, [], ℕ, List, length, min, refl, sym, ap, subst, ◌∙◌, arith, length-append}
+use Rattle.std.proofs.Common.{◌≡◌, ◌≤◌, ◌<◌, ◌+◌, ◌-◌, ◌*◌, ◌/◌, ◌%◌, ◌^◌, ◌++◌, ◌∷◌, [], ℕ, List, length, min, refl, sym, ap, subst, ◌∙◌, arith, length-append}
 use Rattle.std.specs.List.{refill}
 use Rattle.std.proofs.Math.ListN.{get_or, set}
 use Rattle.std.proofs.Math.Nat.{div-le_self}
 use Rattle.tl_msg.specs.declared.beat.BeatOf.{BeatOf}
+use denote.Memory.{lone}
+use denote.Param.{layout}
+use Rattle.tl_lanes.specs.declared.limits.TheConstants.{WIDEST}
 use Rattle.tl_lanes.specs.Lanes.{bytes_per_beat}
 use Rattle.tl_lanes.proofs.Widths.{width_bounds}
 use Rattle.tl_burst.specs.Messages.{per_beat}
 use Rattle.tl_convert.specs.Inner.Pouring.{Poured, Pours}
-use Rattle.tl_convert.proofs.PourStep.{Chunk, chunk-at, chunk-all, pour-ends, whole-ends, begins-far, begun-empty, last-changed, last-was}
+use Rattle.tl_convert.proofs.PourStep.{Chunk, chunk-at, chunk-all, pour-ends, whole-ends, begins-far, begun-empty, last-changed, last-was, last-inside, same-small, some-bytes}
+use Rattle.tl_convert.proofs.Sizes.{place_fits}
 use Rattle.tl_convert.proofs.pouring.pour_whole.Goals as goal
 
 pub loop-t-init : goal.loop-t-init
@@ -48,7 +52,7 @@ overflow_add-done g c =
 pub push-requires : goal.push-requires
 push-requires g c =
     let w = width_bounds g.row.W c.requires.near in (
-      search rules,
+      c.requires-raw.1.1.1.1.1.1.0,
       omega (arith, c.loop-t.invariant.count, c.loop-t-test.true, div-le_self c.beat_bytes.result c.beat_bytes-wide.result, c.beat_bytes.ensures),
     )
 
@@ -112,3 +116,45 @@ returns g c = λ m s p.
     (per_beat g.K.Channel.rules c.args.beat.now.head g.row.W) (per_beat g.K.Channel.rules c.args.beat.now.head g.row.V) near wide c.requires.fits) (omega arith) in
     let P : ℕ → Type 0 = λ d. Pours g.K.Channel.rules m g.row.V c.args.first d c.args.partial.now c.loop-t.out.items in
     subst P (all ∙ ap (λ h. c.args.first + per_beat g.K.Channel.rules h g.row.W) s.brings.head) (c.loop-t.invariant.pours m s p)
+
+below : (t n m : ℕ) → t < n → n ≤ m → t ≤ m
+below t n m lt le = omega arith
+
+pub size-size-requires : goal.size-size-requires
+size-size-requires g c κs = λ p. p
+
+pub beat_bytes-wide-requires-clause-small : goal.beat_bytes-wide-requires-clause-small
+beat_bytes-wide-requires-clause-small g c = same-small c.size-size.result (g.K.Channel.rules.size c.args.beat.now.head) c.size-size.ensures c.requires.small
+
+pub beat_bytes-wide-requires-clause-width : goal.beat_bytes-wide-requires-clause-width
+beat_bytes-wide-requires-clause-width g c = c.requires.far
+
+pub beat_bytes-requires-clause-small : goal.beat_bytes-requires-clause-small
+beat_bytes-requires-clause-small g c = same-small c.size-size.result (g.K.Channel.rules.size c.args.beat.now.head) c.size-size.ensures c.requires.small
+
+pub beat_bytes-requires-clause-width : goal.beat_bytes-requires-clause-width
+beat_bytes-requires-clause-width g c = c.requires.near
+
+pub nonzero_div-t-end : goal.nonzero_div-t-end
+nonzero_div-t-end g c = some-bytes c.size-size.result g.row.V c.beat_bytes-wide.result c.requires.far c.beat_bytes-wide.ensures
+
+pub as_mut_slice-requires : goal.as_mut_slice-requires
+as_mut_slice-requires g c = c.requires-raw.1.1.1.1.1.1.0
+
+pub offset_bounds-as_mut_slice-t : goal.offset_bounds-as_mut_slice-t
+offset_bounds-as_mut_slice-t g c =
+    let inside : c.loop-t.t < length c.as_mut_slice.result.now =
+    last-inside c.loop-t.out.items c.args.partial.now c.loop-t.t c.push.new.self.items c.as_mut_slice.result.now
+    c.loop-t.invariant.count c.push.ensures.items c.as_mut_slice.ensures.value in
+    place_fits (lone g.row.K-Head.mir) (layout g.row.K-Head) g.row.V c.loop-t.t c.requires-raw.1.1.1.1.1.1.0 (below c.loop-t.t (length c.as_mut_slice.result.now) WIDEST inside c.as_mut_slice.ensures.fits)
+
+pub bounds-as_mut_slice-t : goal.bounds-as_mut_slice-t
+bounds-as_mut_slice-t g c =
+    last-inside c.loop-t.out.items c.args.partial.now c.loop-t.t c.push.new.self.items c.as_mut_slice.result.now
+    c.loop-t.invariant.count c.push.ensures.items c.as_mut_slice.ensures.value
+
+further : (n t : ℕ) → t < n → n - (t + 1) < n - t
+further n t lt = omega arith
+
+pub loop-t-smaller : goal.loop-t-smaller
+loop-t-smaller g c = further (c.beat_bytes.result / c.beat_bytes-wide.result) c.loop-t.t c.loop-t-test.true

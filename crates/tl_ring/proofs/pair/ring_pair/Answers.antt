@@ -1,4 +1,4 @@
-use Rattle.std.proofs.Common.{arith}
+use Rattle.std.proofs.Common.{refl, arith}
 use denote.Memory.{lone}
 use denote.Param.{layout, param, number, copied}
 use Rattle.tl_ring.specs.contracts.ends.SendEnd.{the_row}
@@ -13,12 +13,52 @@ over-requires g c =
     let beat = beat_in_queue (lone g.row.K-Head.mir) (layout g.row.K-Head) g.row.V 9223372036854775808 (part_small row 1 9223372036854775808 end) in
     (beat, (omega arith, end))
 
-pub over-requires-2 : goal.over-requires-2
-over-requires-2 g c =
+pub over-requires-in-Ok : goal.over-requires-in-Ok
+over-requires-in-Ok g c =
     let row = layout (the_row (param 0 g.row.K) (param 1 (number g.row.W)) (param 2 (number g.row.V)) (param 3 g.row.A) (copied 4 g.row.K-Head)
     g.K.Channel g.K.Head.Clone g.K.Head.Eq g.K.Head.PartialEq g.K.Head.Default g.A.Allocator) in
     let beat = beat_in_queue (lone g.row.K-Head.mir) (layout g.row.K-Head) g.row.V 9223372036854775808 (part_small row 1 9223372036854775808 c.requires-raw.1.1.1.1.1.0) in
     (beat, (omega arith, c.requires-raw.1.1.1.1.1.1.0))
 
-pub returns-clause-send : goal.returns-clause-send
-returns-clause-send g c = c.over.ensures.send c.args.ring _ c.in_ok-send.ensures.new c.requires.near c.requires.far
+pub new_ring-requires : goal.new_ring-requires
+new_ring-requires g c =
+    let row = layout (the_row (param 0 g.row.K) (param 1 (number g.row.W)) (param 2 (number g.row.V)) (param 3 g.row.A) (copied 4 g.row.K-Head)
+    g.K.Channel g.K.Head.Clone g.K.Head.Eq g.K.Head.PartialEq g.K.Head.Default g.A.Allocator) in
+    (beat_in_queue (lone g.row.K-Head.mir) (layout g.row.K-Head) g.row.V 9223372036854775808 (part_small row 1 9223372036854775808 c.requires-raw.1.1.1.1.1.0), omega arith)
+
+pub returns-in-Ok-clause-pair : goal.returns-in-Ok-clause-pair
+returns-in-Ok-clause-pair g c = rw (c.over.ensures.ring, c.over-in-Ok.ensures.ring) c.in-Ok.ensures.new.pair
+
+pub returns-in-Ok-clause-send : goal.returns-in-Ok-clause-send
+returns-in-Ok-clause-send g c = c.over.ensures.send c.args.ring _ c.in-Ok.ensures.new c.requires.near c.requires.far
+
+pub returns-in-Ok-clause-take : goal.returns-in-Ok-clause-take
+returns-in-Ok-clause-take g c = rw (c.over-in-Ok.ensures.ring, c.over-in-Ok.ensures.inbox) c.in-Ok.ensures.new.none_received
+
+pub returns-in-Ok-clause-known : goal.returns-in-Ok-clause-known
+returns-in-Ok-clause-known g c = rw (c.over.ensures.ring, c.over-in-Ok.ensures.ring)
+    (c.in-Ok.ensures.new.all_free, c.in-Ok.ensures.new.none_known, c.over-in-Ok.ensures.inbox)
+
+pub returns-in-Ok-clause-size : goal.returns-in-Ok-clause-size
+returns-in-Ok-clause-size g c = λ made. c.in-Ok.ensures.size refl
+
+pub returns-in-Ok-clause-ring_size : goal.returns-in-Ok-clause-ring_size
+returns-in-Ok-clause-ring_size g c = tt
+
+pub returns-in-Err-clause-pair : goal.returns-in-Err-clause-pair
+returns-in-Err-clause-pair g c = tt
+
+pub returns-in-Err-clause-send : goal.returns-in-Err-clause-send
+returns-in-Err-clause-send g c = tt
+
+pub returns-in-Err-clause-take : goal.returns-in-Err-clause-take
+returns-in-Err-clause-take g c = tt
+
+pub returns-in-Err-clause-known : goal.returns-in-Err-clause-known
+returns-in-Err-clause-known g c = tt
+
+pub returns-in-Err-clause-size : goal.returns-in-Err-clause-size
+returns-in-Err-clause-size g c = λ made. absurd (cc)
+
+pub returns-in-Err-clause-ring_size : goal.returns-in-Err-clause-ring_size
+returns-in-Err-clause-ring_size g c = c.in-Err.ensures.ring_size

@@ -17,18 +17,6 @@ remove_all-requires-room-T-Default g c κs within = c.requires-raw.1.1.1.1.1.1.1
 pub remove_all-requires : goal.remove_all-requires
 remove_all-requires g c = part_small (layout (the_row (beat.the_row (copied 3 g.row.K-Head) (param 2 (number g.row.V))))) 0 9223372036854775808 c.requires-raw.1.1.1.1.1.1.0
 
-pub feed_at-requires : goal.feed_at-requires
-feed_at-requires g c = (
-  c.requires-raw.1.1.1.1.0,
-  (
-    c.requires-raw.1.1.1.1.1.0,
-    (
-      part_small (layout (the_row (beat.the_row (copied 3 g.row.K-Head) (param 2 (number g.row.V))))) 0 9223372036854775808 c.requires-raw.1.1.1.1.1.1.0,
-      (c.requires-raw.1.1.1.1.1.1.1.0, (c.requires.0, (c.requires.1, (c.requires.2, c.remove_all.ensures)))),
-    ),
-  ),
-)
-
 pub invariant_of-stage : goal.invariant_of-stage
 invariant_of-stage g c = omega arith
 

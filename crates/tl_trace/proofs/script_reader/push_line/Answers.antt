@@ -1,7 +1,22 @@
-use Rattle.std.proofs.Common.{◌≡◌, false, arith, sym, ◌∙◌}
+use Rattle.std.proofs.Common.{◌≡◌, false, arith, refl, sym, ◌∙◌}
 use Rattle.std.specs.Result.{is_err}
-use Rattle.tl_trace.proofs.NextLine.{was_put}
+use Rattle.tl_trace.proofs.NextLine.{was_put, was_kept, inside}
 use Rattle.tl_trace.proofs.script_reader.push_line.Goals as goal
+
+pub overflow_sub-text : goal.overflow_sub-text
+overflow_sub-text g c = omega (arith, c.requires.at)
+
+pub bounds-text-at : goal.bounds-text-at
+bounds-text-at g c = inside c.args.at c.line_len-long.result _ c.if-long-text.false
+
+pub returns-then-long-text : goal.returns-then-long-text
+returns-then-long-text g c = refl
+
+pub returns-in_default : goal.returns-in_default
+returns-in_default g c = refl
+
+pub returns-then-is_err : goal.returns-then-is_err
+returns-then-is_err g c = was_kept c.push.result _ _ _ (sym c.is_err.ensures.value ∙ c.if-is_err.true) c.push.ensures.items
 
 pub returns : goal.returns
 returns g c =

@@ -1,33 +1,43 @@
-use Rattle.std.proofs.Common.{◌≡◌, ◌≤◌, ◌-◌, ◌++◌, ℕ, List, length, take, drop, ap, ◌∙◌, arith, rules, length-append}
-use Rattle.tl_trace.specs.Lines.{beats_text}
-use Rattle.tl_trace.proofs.Batches.{of_ok, batches_next}
-use Rattle.tl_lanes.proofs.Widths.{width_bounds}
+use Rattle.std.proofs.Common.{◌≡◌, ◌∙◌, ap, arith}
+use Rattle.std.proofs.lemmas.Result.{IfOk-from_err}
+use Rattle.tl_trace.proofs.Batches.{of_ok, on_err_at, appended_none, appended_more, appended_all}
 use Rattle.tl_trace.proofs.write.write_lines.Goals as goal
+use Rattle.tl_trace.proofs.write.write_lines.Goals.{in-Some+in_ok-reserve, in_default}
 
-pub fill_line-end-requires : goal.fill_line-end-requires
-fill_line-end-requires g c =
-    let same : g.row.W ≤ g.row.W = omega arith in
-    (search rules, ((width_bounds g.row.W c.requires).1, same))
+pub returns-in_err-reserve-clause-ok : goal.returns-in_err-reserve-clause-ok
+returns-in_err-reserve-clause-ok g c = IfOk-from_err c.from_residual.result _ c.from_residual.ensures.0
+
+pub returns-in_err-reserve-clause-err : goal.returns-in_err-reserve-clause-err
+returns-in_err-reserve-clause-err g c = on_err_at c.from_residual.result c.reserve.ensures.items
+
+pub loop-at-init : goal.loop-at-init
+loop-at-init g c = appended_none (g.K.HeadText.form c.args.version) g.row.W c.args.beats.now c.args.out.now.items c.match-first.out.items c.len-start.result (omega (arith, c.len-start.ensures)) same
+  where
+    same : c.match-first.out.items ≡ c.args.out.now.items
+    same = elim c.match-first.branch [
+      | in-Some+in_ok-reserve w ↦ ap (λ v. v.items) w.out-is ∙ w.reserve.ensures.items
+      | in_default w ↦ ap (λ v. v.items) w.out-is
+    ]
+
+pub slice_bounds-write_batch-start : goal.slice_bounds-write_batch-start
+slice_bounds-write_batch-start g c = omega (arith, c.min-next.ensures, c.loop-at-test.true)
+
+pub slice_bounds-write_batch-end : goal.slice_bounds-write_batch-end
+slice_bounds-write_batch-end g c = omega (arith, c.min-next.ensures)
+
+pub returns-then-is_err-clause-err : goal.returns-then-is_err-clause-err
+returns-then-is_err-clause-err g c =
+    let front = c.write_batch.ensures.front c.len-start.result c.loop-at.invariant.long ∙ c.loop-at.invariant.front in
+    cc
+
+pub loop-at-smaller : goal.loop-at-smaller
+loop-at-smaller g c = omega (arith, c.min-next.ensures, c.loop-at-test.true)
 
 pub loop-at-preserved : goal.loop-at-preserved
-loop-at-preserved g c = record {
-  few = last;
-  long = omega (arith, whole, length-append c.loop-at.out.items batch, c.loop-at.invariant.long);
-  front = c.write_batch.ensures.front c.len-start.result c.loop-at.invariant.long ∙ c.loop-at.invariant.front;
-  made = written ∙ batches_next (g.K.HeadText.form c.args.version) g.row.W c.args.beats.now c.loop-at.at c.min-next.result further last c.args.out.now.items c.loop-at.out.items c.loop-at.invariant.made;
-}
-  where
-    last : c.min-next.result ≤ length c.args.beats.now
-    last = omega (arith, c.min-next.ensures)
+loop-at-preserved g c =
+    appended_more (g.K.HeadText.form c.args.version) g.row.W c.args.beats.now c.args.out.now.items c.loop-at.out.items c.write_batch.new.out.items c.len-start.result c.loop-at.at c.min-next.result
+    (omega (arith, c.min-next.ensures, c.loop-at-test.true)) (omega (arith, c.min-next.ensures)) (of_ok c.write_batch.result c.if-is_err.ensures.value c.write_batch.ensures.ok) c.loop-at.invariant
 
-    further : c.loop-at.at ≤ c.min-next.result
-    further = omega (arith, c.min-next.ensures, c.loop-at-test.true)
-
-    batch : List ℕ
-    batch = beats_text (g.K.HeadText.form c.args.version) g.row.W (take (c.min-next.result - c.loop-at.at) (drop c.loop-at.at c.args.beats.now))
-
-    written : c.write_batch.new.out.items ≡ c.loop-at.out.items ++ batch
-    written = of_ok c.write_batch.result c.if-is_err.ensures.value c.write_batch.ensures.ok
-
-    whole : length c.write_batch.new.out.items ≡ length (c.loop-at.out.items ++ batch)
-    whole = ap length written
+pub returns-clause-ok : goal.returns-clause-ok
+returns-clause-ok g c =
+    appended_all (g.K.HeadText.form c.args.version) g.row.W c.args.beats.now c.args.out.now.items c.loop-at.out.items c.len-start.result c.loop-at.at c.loop-at-test.false c.loop-at.invariant

@@ -1,9 +1,21 @@
-use Rattle.std.proofs.Common.{sym, take, arith}
+use Rattle.std.proofs.Common.{refl, sym, take, arith}
 use Rattle.tl_check.proofs.Passing.{come-more}
 use denote.Memory.{lone}
 use denote.Param.{layout}
 use Rattle.tl_convert.proofs.Sizes.{tracker-fits}
 use Rattle.tl_check.proofs.progress.Progress.accept.Goals as goal
+
+pub overflow_add-self : goal.overflow_add-self
+overflow_add-self g c = omega (arith, c.requires.few)
+
+pub overflow_add-self-2 : goal.overflow_add-self-2
+overflow_add-self-2 g c = omega (arith, c.requires.few, c.requires.few_far, c.far_beats_at-given.ensures.few)
+
+pub returns-clause-at : goal.returns-clause-at
+returns-clause-at g c = refl
+
+pub returns-clause-far : goal.returns-clause-far
+returns-clause-far g c = refl
 
 pub returns-clause-come : goal.returns-clause-come
 returns-clause-come g c = λ bs b come next head fine handed.

@@ -1,11 +1,23 @@
 use Rattle.tl_msg.specs.Tables.{rules_e}
-use Rattle.tl_pair.proofs.SideSteps.{client_e, side_offers}
-use Rattle.tl_ring.proofs.FieldSizes.{part_small, beat_small}
+use Rattle.std.proofs.Common.{refl}
+use Rattle.tl_pair.proofs.SideSteps.{client_e, client_seen, side_offers}
+use Rattle.tl_ring.proofs.FieldSizes.{inner_small, beat_small}
 use Rattle.tl_pair.proofs.Layouts.{client_layout}
 use Rattle.tl_pair.proofs.client_side.ClientSide.offer_e.Goals as goal
 
-pub offer_alone-requires : goal.offer_alone-requires
-offer_alone-requires g c = (search (part_small (client_layout g.row.C g.row.M g.row.A g.A.Allocator) 4 9223372036854775808), (beat_small g.row.C c.requires.near, (c.requires.near, c.requires.far, rw (← c.self.view_is) at c.requires.ready)))
+pub offer_finish-requires : goal.offer_finish-requires
+offer_finish-requires g c =
+    let view = client_seen c.self-inside.view_is (λ q. record { a = q.a; b = q.b; c = q.c; d = q.d; e = q.e; book = q.book }) c.self.view_is in
+    let ready = rw (← view) at c.requires.ready in
+    (search (inner_small (client_layout g.row.C g.row.M g.row.A g.A.Allocator) 4 0 9223372036854775808), (beat_small g.row.C c.requires.near, (c.requires.near, c.requires.far, ready.0)))
+
+pub invariant_of-self-inside : goal.invariant_of-self-inside
+invariant_of-self-inside g c = c.offer_finish.ensures.open c.self-inside.invariant
 
 pub returns : goal.returns
-returns g c = side_offers rules_e client_e c.args.beat (λ y. tt) c.self.view_is _ _ c.offer_alone.ensures
+returns g c =
+    let view = client_seen c.self-inside.view_is (λ q. record { a = q.a; b = q.b; c = q.c; d = q.d; e = q.e; book = q.book }) c.self.view_is in
+    let ready = rw (← view) at c.requires.ready in
+    let said = c.offer_finish.ensures in
+    side_offers rules_e client_e c.args.beat (λ y. tt) view c.self-inside.inside.0.1.1.1.1.0.end _ refl ready.1 c.self-inside.invariant
+    (said.open c.self-inside.invariant) _ (record { admitted = said.admitted; accepted = said.accepted; fault = said.fault; ring = said.ring; refused = said.refused })

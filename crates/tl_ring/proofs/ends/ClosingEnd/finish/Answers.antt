@@ -1,6 +1,17 @@
-use Rattle.std.proofs.Common.{refl, sym, ◌∙◌}
+use Rattle.std.proofs.Common.{rules, refl, sym, ◌∙◌, arith}
 use Rattle.tl_ring.proofs.EndSteps.{shows_of}
+use denote.Memory.{lone}
+use denote.Param.{layout, param, number, copied}
+use Rattle.tl_ring.specs.contracts.ends.ClosingEnd.{the_row}
+use Rattle.tl_ring.proofs.FieldSizes.{inner_small, beat_in_queue}
 use Rattle.tl_ring.proofs.ends.ClosingEnd.finish.Goals as goal
+
+pub finish-requires : goal.finish-requires
+finish-requires g c =
+    let row = layout (the_row (param 0 g.row.K) (param 1 (number g.row.W)) (param 2 (number g.row.V)) (param 3 g.row.A) (copied 4 g.row.K-Head)
+    g.K.Channel g.K.Head.Clone g.K.Head.Eq g.K.Head.PartialEq g.K.Head.Default g.A.Allocator) in
+    let beat = beat_in_queue (lone g.row.K-Head.mir) (layout g.row.K-Head) g.row.V 9223372036854775808 (inner_small row 0 1 9223372036854775808 c.requires-raw.1.1.1.1.1.0) in
+    λ κs within. ((omega arith, (beat, tt)), (search rules, (search rules, search rules)))
 
 pub returns-in-Some-clause-receipt : goal.returns-in-Some-clause-receipt
 returns-in-Some-clause-receipt g c = rw (← c.self.view_is, ← c.end.view_is) c.in-Some.ensures

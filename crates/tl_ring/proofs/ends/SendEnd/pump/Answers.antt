@@ -10,14 +10,14 @@ use Rattle.tl_ring.proofs.FieldSizes.{part_small, beat_in_queue}
 use Rattle.tl_ring.proofs.ends.SendEnd.pump.Goals as goal
 
 pub as_slice-requires : goal.as_slice-requires
-as_slice-requires g c = search (part_small (layout (the_row (param 0 g.row.K) (param 1 (number g.row.W)) (param 2 (number g.row.V)) (param 3 g.row.A) (copied 4 g.row.K-Head)
-    g.K.Channel g.K.Head.Clone g.K.Head.Eq g.K.Head.PartialEq g.K.Head.Default g.A.Allocator)) 1 9223372036854775808)
+as_slice-requires g c = part_small (layout (the_row (param 0 g.row.K) (param 1 (number g.row.W)) (param 2 (number g.row.V)) (param 3 g.row.A) (copied 4 g.row.K-Head)
+    g.K.Channel g.K.Head.Clone g.K.Head.Eq g.K.Head.PartialEq g.K.Head.Default g.A.Allocator)) 1 9223372036854775808 c.requires-raw.1.1.1.1.1
 
 pub push_partial_slice-requires-room-T-Clone : goal.push_partial_slice-requires-room-T-Clone
 push_partial_slice-requires-room-T-Clone g c κs within =
     beat_in_queue (lone g.row.K-Head.mir) (layout g.row.K-Head) g.row.V 9223372036854775808
-    (search (part_small (layout (the_row (param 0 g.row.K) (param 1 (number g.row.W)) (param 2 (number g.row.V)) (param 3 g.row.A) (copied 4 g.row.K-Head)
-    g.K.Channel g.K.Head.Clone g.K.Head.Eq g.K.Head.PartialEq g.K.Head.Default g.A.Allocator)) 1 9223372036854775808))
+    (part_small (layout (the_row (param 0 g.row.K) (param 1 (number g.row.W)) (param 2 (number g.row.V)) (param 3 g.row.A) (copied 4 g.row.K-Head)
+    g.K.Channel g.K.Head.Clone g.K.Head.Eq g.K.Head.PartialEq g.K.Head.Default g.A.Allocator)) 1 9223372036854775808 c.requires-raw.1.1.1.1.1)
 
 pub push_partial_slice-requires-room-P-Protocol : goal.push_partial_slice-requires-room-P-Protocol
 push_partial_slice-requires-room-P-Protocol g c κs within = omega arith
@@ -25,8 +25,8 @@ push_partial_slice-requires-room-P-Protocol g c κs within = omega arith
 pub push_partial_slice-requires-room-P-Protocol-2 : goal.push_partial_slice-requires-room-P-Protocol-2
 push_partial_slice-requires-room-P-Protocol-2 g c κs within =
     beat_in_queue (lone g.row.K-Head.mir) (layout g.row.K-Head) g.row.V 9223372036854775808
-    (search (part_small (layout (the_row (param 0 g.row.K) (param 1 (number g.row.W)) (param 2 (number g.row.V)) (param 3 g.row.A) (copied 4 g.row.K-Head)
-    g.K.Channel g.K.Head.Clone g.K.Head.Eq g.K.Head.PartialEq g.K.Head.Default g.A.Allocator)) 1 9223372036854775808))
+    (part_small (layout (the_row (param 0 g.row.K) (param 1 (number g.row.W)) (param 2 (number g.row.V)) (param 3 g.row.A) (copied 4 g.row.K-Head)
+    g.K.Channel g.K.Head.Clone g.K.Head.Eq g.K.Head.PartialEq g.K.Head.Default g.A.Allocator)) 1 9223372036854775808 c.requires-raw.1.1.1.1.1)
 
 -- what is staged is lawful
 pub push_partial_slice-requires : goal.push_partial_slice-requires
@@ -35,8 +35,8 @@ push_partial_slice-requires g c = rw c.as_slice.ensures.value c.self.invariant
 pub drop_front-requires : goal.drop_front-requires
 drop_front-requires g c =
     let p = c.push_partial_slice in (
-      search (part_small (layout (the_row (param 0 g.row.K) (param 1 (number g.row.W)) (param 2 (number g.row.V)) (param 3 g.row.A) (copied 4 g.row.K-Head)
-          g.K.Channel g.K.Head.Clone g.K.Head.Eq g.K.Head.PartialEq g.K.Head.Default g.A.Allocator)) 1 9223372036854775808),
+      part_small (layout (the_row (param 0 g.row.K) (param 1 (number g.row.W)) (param 2 (number g.row.V)) (param 3 g.row.A) (copied 4 g.row.K-Head)
+          g.K.Channel g.K.Head.Clone g.K.Head.Eq g.K.Head.PartialEq g.K.Head.Default g.A.Allocator)) 1 9223372036854775808 c.requires-raw.1.1.1.1.1,
       most_pushed p.result.0.now p.result.1.now c.self.inside.stage (rw c.as_slice.ensures.value at p.ensures.parts),
     )
 

@@ -11,10 +11,10 @@ use Rattle.tl_ring.proofs.FieldSizes.{part_small, beat_in_queue}
 use Rattle.tl_ring.proofs.ends.TakeEnd.take.Goals as goal
 
 pub pop_front-requires : goal.pop_front-requires
-pop_front-requires g c = search (part_small (layout (the_row (param 0 g.row.K) (param 1 (number g.row.W)) (param 2 (number g.row.V)) (param 3 g.row.A) (copied 4 g.row.K-Head) g.K.Channel g.K.Head.Clone g.K.Head.Eq g.K.Head.PartialEq g.K.Head.Default g.A.Allocator)) 0 9223372036854775808)
+pop_front-requires g c = part_small (layout (the_row (param 0 g.row.K) (param 1 (number g.row.W)) (param 2 (number g.row.V)) (param 3 g.row.A) (copied 4 g.row.K-Head) g.K.Channel g.K.Head.Clone g.K.Head.Eq g.K.Head.PartialEq g.K.Head.Default g.A.Allocator)) 0 9223372036854775808 c.requires-raw.1.1.1.1.1.0
 
 pub pop_front-requires-room-T-Clone : goal.pop_front-requires-room-T-Clone
-pop_front-requires-room-T-Clone g c = λ κs within. beat_in_queue (lone g.row.K-Head.mir) (layout g.row.K-Head) g.row.V 9223372036854775808 (search (part_small (layout (the_row (param 0 g.row.K) (param 1 (number g.row.W)) (param 2 (number g.row.V)) (param 3 g.row.A) (copied 4 g.row.K-Head) g.K.Channel g.K.Head.Clone g.K.Head.Eq g.K.Head.PartialEq g.K.Head.Default g.A.Allocator)) 0 9223372036854775808))
+pop_front-requires-room-T-Clone g c = λ κs within. beat_in_queue (lone g.row.K-Head.mir) (layout g.row.K-Head) g.row.V 9223372036854775808 (part_small (layout (the_row (param 0 g.row.K) (param 1 (number g.row.W)) (param 2 (number g.row.V)) (param 3 g.row.A) (copied 4 g.row.K-Head) g.K.Channel g.K.Head.Clone g.K.Head.Eq g.K.Head.PartialEq g.K.Head.Default g.A.Allocator)) 0 9223372036854775808 c.requires-raw.1.1.1.1.1.0)
 
 pub invariant_of-self : goal.invariant_of-self
 invariant_of-self g c = rw c.pop_front.ensures.rest (All-drop (λ b. IsLawfulBeat g.K.Channel.rules b) 1 _ c.self.invariant)

@@ -1,7 +1,14 @@
 use Rattle.std.proofs.Common.{refl}
-use Rattle.tl_ring.proofs.PipeSteps.{stands_shut, closed_between}
-use Rattle.tl_ring.proofs.pipe.SyncPipe.close.Goals as goal
+use Rattle.tl_ring.proofs.PipeSteps.{stands_shut, closed_between, closed_again}
+use denote.Param.{layout, param, number, copied}
+use Rattle.tl_ring.specs.contracts.pipe.SyncPipe.{the_row}
+use Rattle.tl_ring.proofs.FieldSizes.{part_small}
 use Rattle.tl_ring.proofs.pipe.SyncPipe.close.Goals.{else-not-self-via-then-not-self+else-not-at_boundary, else-not-self-via-else-not-self}
+use Rattle.tl_ring.proofs.pipe.SyncPipe.close.Goals as goal
+
+pub at_boundary-requires : goal.at_boundary-requires
+at_boundary-requires g c = part_small (layout (the_row (param 0 g.row.K) (param 1 (number g.row.W)) (param 2 (number g.row.V)) (param 3 g.row.A) (copied 4 g.row.K-Head)
+    g.K.Channel g.K.Head.PartialEq g.K.Head.Default g.A.Allocator)) 0 9223372036854775808 c.requires-raw.1.1.1.1.1
 
 pub returns-then-not-at_boundary-clause-between : goal.returns-then-not-at_boundary-clause-between
 returns-then-not-at_boundary-clause-between g c = λ x h.
@@ -23,3 +30,21 @@ pub returns-clause-closed : goal.returns-clause-closed
 returns-clause-closed g c = λ x h.
     let stands = rw (← c.self.view_is) at h in
     stands_shut g.K.Channel.rules g.met.K.Channel.partial_masked _ x ((returns-clause-between g c x h).0 refl) stands
+
+pub returns-then-not-at_boundary-clause-closed : goal.returns-then-not-at_boundary-clause-closed
+returns-then-not-at_boundary-clause-closed g c = λ x h. tt
+
+pub returns-then-not-at_boundary-clause-again : goal.returns-then-not-at_boundary-clause-again
+returns-then-not-at_boundary-clause-again g c = λ shut. absurd (let open_ = rw (← c.self.view_is) at shut in cc (c.if-not-self.true))
+
+pub returns-then-not-at_boundary-clause-refused : goal.returns-then-not-at_boundary-clause-refused
+returns-then-not-at_boundary-clause-refused g c = refl
+
+pub invariant_of-self : goal.invariant_of-self
+invariant_of-self g c = c.self.invariant
+
+pub returns-clause-again : goal.returns-clause-again
+returns-clause-again g c = λ shut. let same = rw (← c.self.view_is) at shut in rw (← c.self.view_is) (refl, closed_again _ same)
+
+pub returns-clause-refused : goal.returns-clause-refused
+returns-clause-refused g c = tt

@@ -11,11 +11,11 @@ use Rattle.tl_ring.proofs.FieldSizes.{part_small, beat_in_queue}
 use Rattle.tl_ring.proofs.pipe.SyncPipe.fetch.Goals as goal
 
 pub room-requires : goal.room-requires
-room-requires g c = search (part_small (layout (the_row (param 0 g.row.K) (param 1 (number g.row.W)) (param 2 (number g.row.V)) (param 3 g.row.A) (copied 4 g.row.K-Head) g.K.Channel g.K.Head.PartialEq g.K.Head.Default g.A.Allocator)) 3 9223372036854775808)
+room-requires g c = part_small (layout (the_row (param 0 g.row.K) (param 1 (number g.row.W)) (param 2 (number g.row.V)) (param 3 g.row.A) (copied 4 g.row.K-Head) g.K.Channel g.K.Head.PartialEq g.K.Head.Default g.A.Allocator)) 3 9223372036854775808 c.requires-raw.1.1.1.1.1
 
 pub read_front-requires : goal.read_front-requires
 read_front-requires g c = (
-  search (part_small (layout (the_row (param 0 g.row.K) (param 1 (number g.row.W)) (param 2 (number g.row.V)) (param 3 g.row.A) (copied 4 g.row.K-Head) g.K.Channel g.K.Head.PartialEq g.K.Head.Default g.A.Allocator)) 3 9223372036854775808),
+  part_small (layout (the_row (param 0 g.row.K) (param 1 (number g.row.W)) (param 2 (number g.row.V)) (param 3 g.row.A) (copied 4 g.row.K-Head) g.K.Channel g.K.Head.PartialEq g.K.Head.Default g.A.Allocator)) 3 9223372036854775808 c.requires-raw.1.1.1.1.1,
   (
     omega (arith, c.min-count.ensures, c.len.ensures.len),
     omega (arith, c.min-count.ensures, c.room.ensures.value, c.room.ensures.within),
@@ -45,12 +45,12 @@ invariant_of-self g c =
 pub read_front-requires-room-T-Clone : goal.read_front-requires-room-T-Clone
 read_front-requires-room-T-Clone g c κs within =
     beat_in_queue (lone g.row.K-Head.mir) (layout g.row.K-Head) g.row.V 9223372036854775808
-    (search (part_small (layout (the_row (param 0 g.row.K) (param 1 (number g.row.W)) (param 2 (number g.row.V)) (param 3 g.row.A) (copied 4 g.row.K-Head) g.K.Channel g.K.Head.PartialEq g.K.Head.Default g.A.Allocator)) 3 9223372036854775808))
+    (part_small (layout (the_row (param 0 g.row.K) (param 1 (number g.row.W)) (param 2 (number g.row.V)) (param 3 g.row.A) (copied 4 g.row.K-Head) g.K.Channel g.K.Head.PartialEq g.K.Head.Default g.A.Allocator)) 3 9223372036854775808 c.requires-raw.1.1.1.1.1)
 
 pub read_front-requires-room-T-Default : goal.read_front-requires-room-T-Default
 read_front-requires-room-T-Default g c κs within =
     beat_in_queue (lone g.row.K-Head.mir) (layout g.row.K-Head) g.row.V 9223372036854775808
-    (search (part_small (layout (the_row (param 0 g.row.K) (param 1 (number g.row.W)) (param 2 (number g.row.V)) (param 3 g.row.A) (copied 4 g.row.K-Head) g.K.Channel g.K.Head.PartialEq g.K.Head.Default g.A.Allocator)) 3 9223372036854775808))
+    (part_small (layout (the_row (param 0 g.row.K) (param 1 (number g.row.W)) (param 2 (number g.row.V)) (param 3 g.row.A) (copied 4 g.row.K-Head) g.K.Channel g.K.Head.PartialEq g.K.Head.Default g.A.Allocator)) 3 9223372036854775808 c.requires-raw.1.1.1.1.1)
 
 pub returns-then-is_empty-clause-count : goal.returns-then-is_empty-clause-count
 returns-then-is_empty-clause-count g c =

@@ -9,24 +9,24 @@ use Rattle.tl_ring.proofs.PipeSteps.{stands_pushed}
 use Rattle.tl_ring.proofs.pipe.SyncPipe.pump.Goals as goal
 
 pub is_empty-requires : goal.is_empty-requires
-is_empty-requires g c = search (part_small (layout (the_row (param 0 g.row.K) (param 1 (number g.row.W)) (param 2 (number g.row.V)) (param 3 g.row.A) (copied 4 g.row.K-Head) g.K.Channel g.K.Head.PartialEq g.K.Head.Default g.A.Allocator)) 1 9223372036854775808)
+is_empty-requires g c = part_small (layout (the_row (param 0 g.row.K) (param 1 (number g.row.W)) (param 2 (number g.row.V)) (param 3 g.row.A) (copied 4 g.row.K-Head) g.K.Channel g.K.Head.PartialEq g.K.Head.Default g.A.Allocator)) 1 9223372036854775808 c.requires-raw.1.1.1.1.1
 
 pub returns-then-is_empty-clause-most : goal.returns-then-is_empty-clause-most
 returns-then-is_empty-clause-most g c = omega arith
 
 pub as_slice-requires : goal.as_slice-requires
-as_slice-requires g c = search (part_small (layout (the_row (param 0 g.row.K) (param 1 (number g.row.W)) (param 2 (number g.row.V)) (param 3 g.row.A) (copied 4 g.row.K-Head) g.K.Channel g.K.Head.PartialEq g.K.Head.Default g.A.Allocator)) 1 9223372036854775808)
+as_slice-requires g c = part_small (layout (the_row (param 0 g.row.K) (param 1 (number g.row.W)) (param 2 (number g.row.V)) (param 3 g.row.A) (copied 4 g.row.K-Head) g.K.Channel g.K.Head.PartialEq g.K.Head.Default g.A.Allocator)) 1 9223372036854775808 c.requires-raw.1.1.1.1.1
 
 pub write_back-count-requires : goal.write_back-count-requires
 write_back-count-requires g c =
     let beat = beat_in_queue (lone g.row.K-Head.mir) (layout g.row.K-Head) g.row.V 9223372036854775808
-    (search (part_small (layout (the_row (param 0 g.row.K) (param 1 (number g.row.W)) (param 2 (number g.row.V)) (param 3 g.row.A) (copied 4 g.row.K-Head) g.K.Channel g.K.Head.PartialEq g.K.Head.Default g.A.Allocator)) 1 9223372036854775808)) in
+    (part_small (layout (the_row (param 0 g.row.K) (param 1 (number g.row.W)) (param 2 (number g.row.V)) (param 3 g.row.A) (copied 4 g.row.K-Head) g.K.Channel g.K.Head.PartialEq g.K.Head.Default g.A.Allocator)) 1 9223372036854775808 c.requires-raw.1.1.1.1.1) in
     λ κs within. ((beat, tt), (search rules, search rules))
 
 pub drop_front-requires : goal.drop_front-requires
 drop_front-requires g c =
     let count = rw c.as_slice.ensures.value at c.write_back-count.ensures.count in
-    (search (part_small (layout (the_row (param 0 g.row.K) (param 1 (number g.row.W)) (param 2 (number g.row.V)) (param 3 g.row.A) (copied 4 g.row.K-Head) g.K.Channel g.K.Head.PartialEq g.K.Head.Default g.A.Allocator)) 1 9223372036854775808), omega (arith, count))
+    (part_small (layout (the_row (param 0 g.row.K) (param 1 (number g.row.W)) (param 2 (number g.row.V)) (param 3 g.row.A) (copied 4 g.row.K-Head) g.K.Channel g.K.Head.PartialEq g.K.Head.Default g.A.Allocator)) 1 9223372036854775808 c.requires-raw.1.1.1.1.1, omega (arith, count))
 
 pub returns-clause-count : goal.returns-clause-count
 returns-clause-count g c = rw (← c.self.view_is, ← c.as_slice.ensures.value) c.write_back-count.ensures.count

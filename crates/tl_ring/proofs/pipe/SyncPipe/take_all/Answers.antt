@@ -9,10 +9,10 @@ use Rattle.tl_ring.proofs.PipeSteps.{stands_emptied}
 use Rattle.tl_ring.proofs.pipe.SyncPipe.take_all.Goals as goal
 
 pub len-count-requires : goal.len-count-requires
-len-count-requires g c = search (part_small (layout (the_row (param 0 g.row.K) (param 1 (number g.row.W)) (param 2 (number g.row.V)) (param 3 g.row.A) (copied 4 g.row.K-Head) g.K.Channel g.K.Head.PartialEq g.K.Head.Default g.A.Allocator)) 3 9223372036854775808)
+len-count-requires g c = part_small (layout (the_row (param 0 g.row.K) (param 1 (number g.row.W)) (param 2 (number g.row.V)) (param 3 g.row.A) (copied 4 g.row.K-Head) g.K.Channel g.K.Head.PartialEq g.K.Head.Default g.A.Allocator)) 3 9223372036854775808 c.requires-raw.1.1.1.1.1
 
 pub drop_front-requires : goal.drop_front-requires
-drop_front-requires g c = (search (part_small (layout (the_row (param 0 g.row.K) (param 1 (number g.row.W)) (param 2 (number g.row.V)) (param 3 g.row.A) (copied 4 g.row.K-Head) g.K.Channel g.K.Head.PartialEq g.K.Head.Default g.A.Allocator)) 3 9223372036854775808), omega (arith, c.len-count.ensures.value))
+drop_front-requires g c = (part_small (layout (the_row (param 0 g.row.K) (param 1 (number g.row.W)) (param 2 (number g.row.V)) (param 3 g.row.A) (copied 4 g.row.K-Head) g.K.Channel g.K.Head.PartialEq g.K.Head.Default g.A.Allocator)) 3 9223372036854775808 c.requires-raw.1.1.1.1.1, omega (arith, c.len-count.ensures.value))
 
 pub returns : goal.returns
 returns g c = λ x h.

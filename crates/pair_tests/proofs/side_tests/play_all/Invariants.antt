@@ -1,5 +1,0 @@
-use Rattle.tl_pair.specs.Sides.{AreSides}
-use Rattle.pair_tests.proofs.side_tests.play_all.Given as goal
-
-abbrev pub invariant-loop-call : goal.invariant-loop-call
-invariant-loop-call g l = AreSides l.client l.manager

@@ -1,5 +1,0 @@
-use Rattle.tl_ring.specs.Ends.{ArePair}
-use Rattle.ring_tests.proofs.end_tests.pass_a_ring_of_one.Given as goal
-
-abbrev pub invariant-loop-pumps : goal.invariant-loop-pumps
-invariant-loop-pumps g l = ArePair l.send l.take

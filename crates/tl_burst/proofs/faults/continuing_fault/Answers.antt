@@ -1,0 +1,26 @@
+use Rattle.std.proofs.Common.{rules, ◌≡◌, Bool, true, false, Option, None, Some, sym, ◌∙◌, ap}
+use Rattle.tl_msg.specs.Faults as faults
+use Rattle.tl_msg.specs.Firsts.{unless, ◌or_else◌}
+use Rattle.tl_msg.specs.declared.fault.BeatFault.{BeatFault}
+use Rattle.tl_msg.specs.declared.fault.BeatFault.TheVariants.{Mask, HeadChanged}
+use Rattle.tl_msg.proofs.Firsts.{first_some, second_answers, both_none, unless_true, unless_false}
+use Rattle.tl_burst.proofs.faults.continuing_fault.Goals as goal
+
+masked : (same fits : Bool) → same ≡ true → fits ≡ false → (unless same HeadChanged or_else unless fits Mask) ≡ Some Mask
+masked same fits held not = second_answers (unless same HeadChanged) (unless fits Mask) (unless_true same HeadChanged held) ∙ unless_false fits Mask not
+
+faultless : (same fits : Bool) → same ≡ true → fits ≡ true → (unless same HeadChanged or_else unless fits Mask) ≡ None
+faultless same fits held too = both_none (unless same HeadChanged) (unless fits Mask) (unless_true same HeadChanged held) (unless_true fits Mask too)
+
+-- that the heads are the same is for search to find: an edit that tests more leaves no such step
+pub returns-then-not-mask_fits : goal.returns-then-not-mask_fits
+returns-then-not-mask_fits g c =
+    let same : g.K.Channel.rules.same c.args.beat.now.head c.args.head.now ≡ true = search rules in
+    sym (masked (g.K.Channel.rules.same c.args.beat.now.head c.args.head.now) (faults.mask_fits g.K.Channel.rules c.args.beat.now)
+    same (sym c.mask_fits.ensures ∙ c.if-not-mask_fits.true))
+
+pub returns : goal.returns
+returns g c =
+    let same : g.K.Channel.rules.same c.args.beat.now.head c.args.head.now ≡ true = search rules in
+    sym (faultless (g.K.Channel.rules.same c.args.beat.now.head c.args.head.now) (faults.mask_fits g.K.Channel.rules c.args.beat.now)
+    same (sym c.mask_fits.ensures ∙ c.if-not-mask_fits.false))

@@ -1,0 +1,98 @@
+-- What an offer answers and leaves, by the offer to what the handle holds.
+use Rattle.std.specs.Prelude.{◌≢◌, ◌↔◌, ℕ, Bool, true, false, Option, None, Some, Result, Ok, Err, IsOk, IfErr, OnOk, OnErr, if◌then◌else◌}
+use Rattle.std.proofs.Common.{◌≡◌, List, [], ◌∷◌, refl, sym, ap, ◌∙◌, subst, arith}
+use Rattle.std.proofs.lemmas.Option.{none-some}
+use Rattle.tl_msg.specs.declared.fault.SideFault.{SideFault}
+use Rattle.tl_ring.specs.Crossing.{World}
+use Rattle.tl_ring.specs.Pipe.{Pipe, IsReady}
+use Rattle.tl_c_beats.specs.declared.answers.TheConstants.{NOT_READY}
+use Rattle.tl_c_beats.specs.Answers.{is_free, is_ready, fault_answer, offer_answer, offer_number}
+use Rattle.tl_c_beats.specs.Calls.{Stands, Offers}
+use Rattle.tl_c_beats.proofs.Numbers.{side_fault_numbered}
+
+is_free_if : {A : Type 0} (closed : Bool) (stage : List A) → (stage ≡ []) × (closed ≡ false) → is_free closed stage ≡ true
+is_free_if false [] e = refl
+is_free_if false (b ∷ bs) e = let e0 = e.0 in cc
+is_free_if true bs e = let e1 = e.1 in cc
+
+is_free_only : {A : Type 0} (closed : Bool) (stage : List A) → ((stage ≡ []) × (closed ≡ false) → ⊥) → is_free closed stage ≡ false
+is_free_only false [] ne = absurd (ne (refl, refl))
+is_free_only false (b ∷ bs) ne = refl
+is_free_only true bs ne = refl
+
+-- a pipe whose stage is that of the crossing, and which is closed as it is
+abbrev AreAlike : {H : Type 0} {w v : ℕ} → Pipe H v → World H w v → Type 0
+AreAlike p x = (p.stage ≡ x.stage) × (p.closed ≡ x.closed)
+
+ready_if : {H : Type 0} {w v : ℕ} (p : Pipe H v) (x : World H w v) → AreAlike p x → IsReady p → is_ready x ≡ true
+ready_if p x alike is = is_free_if x.closed x.stage (sym alike.0 ∙ is.0, sym alike.1 ∙ is.1)
+
+ready_only : {H : Type 0} {w v : ℕ} (p : Pipe H v) (x : World H w v) → AreAlike p x → (IsReady p → ⊥) → is_ready x ≡ false
+ready_only p x alike not = is_free_only x.closed x.stage (λ is. not (alike.0 ∙ is.0, alike.1 ∙ is.1))
+
+verdict_told : (offered : Result Unit SideFault) (verdict : Option SideFault) → IsOk offered ↔ (verdict ≡ None) → IfErr offered (λ fault. verdict ≡ Some fault)
+    → offer_number offered ≡ fault_answer verdict
+verdict_told (Ok done) verdict admitted fault = ap fault_answer (sym (admitted.0 refl))
+verdict_told (Err f) verdict admitted fault = ap fault_answer (sym fault)
+
+on_0 : {Q : Type 0} (offered : Result Unit SideFault) → OnOk offered Q → offer_number offered ≡ 0 → Q
+on_0 (Ok done) q e = q
+on_0 (Err fault) q e = absurd (side_fault_numbered fault e)
+
+on_else : {Q : Type 0} (offered : Result Unit SideFault) → OnErr offered Q → offer_number offered ≢ 0 → Q
+on_else (Ok done) q not = absurd (not refl)
+on_else (Err fault) q not = q
+
+held_not_none : {S Q : Type 0} {before : Option S} {h : S} → before ≡ Some h → before ≡ None → Q
+held_not_none {h = h} was e = absurd (none-some h (sym e ∙ was))
+
+not_held : {S P : Type 0} (StandsFor : S → P → Type 0) (Q : P → Type 0) {before : Option S} → before ≡ None → (x : P) → Stands StandsFor before x → Q x
+not_held StandsFor Q was x held = absurd (subst (λ s. Stands StandsFor s x) was held)
+
+stands_held : {S P : Type 0} (StandsFor : S → P → Type 0) {before : Option S} {h : S} → before ≡ Some h → (x : P) → Stands StandsFor before x → StandsFor h x
+stands_held StandsFor was x held = subst (λ s. Stands StandsFor s x) was held
+
+later_not_0 : NOT_READY ≡ 0 → ⊥
+later_not_0 e = omega (arith, e)
+
+-- nothing is held
+module _ {S P : Type 0} {StandsFor : S → P → Type 0} {H : Type 0} {w v : ℕ} {channel : P → World H w v} {before now : Option S} where
+  pub offers_none : {none : ℕ} {verdict : P → Option SideFault} {after : P → P} → before ≡ None → now ≡ None →
+      Offers (Stands StandsFor) none channel verdict after before now none
+  offers_none {none = none} {verdict = verdict} {after = after} was is = record {
+    nothing = λ e. refl;
+    answers = not_held StandsFor (λ x. none ≡ offer_answer (channel x) (verdict x)) was;
+    accepted = λ x held e. not_held StandsFor (λ x. Stands StandsFor now (after x)) was x held;
+    refused = λ e. is ∙ sym was;
+  }
+
+-- what is held has a part on which the channel is this pipe
+module _ {S P : Type 0} {StandsFor : S → P → Type 0} {H : Type 0} {w v : ℕ} {channel : P → World H w v} {before now : Option S} (p : Pipe H v) (h : S)
+    (alike : (x : P) → StandsFor h x → (p.stage ≡ (channel x).stage) × (p.closed ≡ (channel x).closed)) (was : before ≡ Some h) where
+  pub offers_later : {none : ℕ} {verdict : P → Option SideFault} {after : P → P} → now ≡ Some h → (IsReady p → ⊥) →
+      Offers (Stands StandsFor) none channel verdict after before now NOT_READY
+  offers_later {verdict = verdict} is not = record {
+    nothing = held_not_none was;
+    answers = λ x held. ap (λ b. if b then fault_answer (verdict x) else NOT_READY) (sym (ready_only p (channel x) (alike x (stands_held StandsFor was x held)) not));
+    accepted = λ x held e. absurd (later_not_0 e);
+    refused = λ e. is ∙ sym was;
+  }
+
+-- what is held has a part b of itself before the offer and k after it; the beat that is offered is the one that C passes
+pub offers : {S P R B H : Type 0} {StandsFor : S → P → Type 0} {w v : ℕ} {channel : P → World H w v} {before now : Option S} (of : R → S) (b k : R) (p : Pipe H v) →
+    ((x : P) → StandsFor (of b) x → (p.stage ≡ (channel x).stage) × (p.closed ≡ (channel x).closed)) → before ≡ Some (of b) → now ≡ Some (of k) →
+    (verdict : B → P → Option SideFault) (after : B → P → P) {none answer : ℕ} {given beat : B} (offered : Result Unit SideFault) →
+    given ≡ beat → IsReady p → answer ≡ offer_number offered →
+    ((x : P) → StandsFor (of b) x → IsOk offered ↔ (verdict given x ≡ None)) → ((x : P) → StandsFor (of b) x → OnOk offered (StandsFor (of k) (after given x))) →
+    ((x : P) → StandsFor (of b) x → IfErr offered (λ fault. verdict given x ≡ Some fault)) → OnErr offered (k ≡ b) →
+    Offers (Stands StandsFor) none channel (verdict beat) (after beat) before now answer
+offers {StandsFor = StandsFor} {channel = channel} {before = before} {now = now} of b k p alike was is verdict after {none = none} {answer = answer} {given = given}
+    offered same_beat ready told admitted stands fault same =
+    subst (λ q. Offers (Stands StandsFor) none channel (verdict q) (after q) before now answer) same_beat (record {
+      nothing = held_not_none was;
+      answers = λ x held. let s = stands_held StandsFor was x held in
+          told ∙ verdict_told offered (verdict given x) (admitted x s) (fault x s)
+          ∙ ap (λ t. if t then fault_answer (verdict given x) else NOT_READY) (sym (ready_if p (channel x) (alike x s) ready));
+      accepted = λ x held e. subst (λ s. Stands StandsFor s (after given x)) (sym is) (on_0 offered (stands x (stands_held StandsFor was x held)) (sym told ∙ e));
+      refused = λ e. is ∙ ap (λ q. Some (of q)) (on_else offered same (λ z. e (told ∙ z))) ∙ sym was;
+    })

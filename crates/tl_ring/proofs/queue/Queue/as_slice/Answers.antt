@@ -1,0 +1,22 @@
+use Rattle.std.proofs.Common.{drop, ap, ◌∙◌, arith}
+use Rattle.std.proofs.lemmas.List.{take_rest, length-drop}
+use denote.Param.{layout, copied}
+use Rattle.tl_ring.proofs.FieldSizes.{part_small}
+use Rattle.tl_ring.specs.contracts.queue.Queue.{the_row}
+use Rattle.tl_ring.proofs.queue.Queue.as_slice.Goals as goal
+
+pub as_slice-requires : goal.as_slice-requires
+as_slice-requires g c = part_small (layout (the_row (copied 0 g.row.T))) 0 9223372036854775808 c.requires-raw.1
+
+pub offset_bounds-as_slice-self-inside : goal.offset_bounds-as_slice-self-inside
+offset_bounds-as_slice-self-inside g c = rw c.as_slice.ensures.value c.self.invariant
+
+pub slice_bounds-result-count : goal.slice_bounds-result-count
+slice_bounds-result-count g c = rw c.as_slice.ensures.value c.self.invariant
+
+pub returns-clause-value : goal.returns-clause-value
+returns-clause-value g c =
+    take_rest c.as_slice.result.now c.self.inside.first ∙ ap (drop c.self.inside.first) c.as_slice.ensures.value ∙ c.self.view_is
+
+pub returns-clause-within : goal.returns-clause-within
+returns-clause-within g c = rw (take_rest c.as_slice.result.now c.self.inside.first, length-drop) (omega (arith, c.as_slice.ensures.fits))

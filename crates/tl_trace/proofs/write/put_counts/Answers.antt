@@ -1,0 +1,6 @@
+use Rattle.std.specs.Prelude.{decimal}
+use Rattle.tl_trace.proofs.LineText.{regrouped}
+use Rattle.tl_trace.proofs.write.put_counts.Goals as goal
+
+pub returns-clause-items : goal.returns-clause-items
+returns-clause-items c = cc (regrouped c.args.text.now.items c.args.word.now (decimal c.args.near) (decimal c.args.far))
