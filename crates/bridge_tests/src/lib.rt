@@ -6,6 +6,10 @@
 #[cfg(test)]
 mod beats;
 #[cfg(test)]
+mod build_tests;
+#[cfg(test)]
+mod calls;
+#[cfg(test)]
 mod fault_tests;
 #[cfg(test)]
 mod pair;

@@ -1,3 +1,2 @@
 //! Tests of the two sides of the bridge, each for a thread of its own.
-mod build_tests;
 mod side_tests;

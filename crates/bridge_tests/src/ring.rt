@@ -1,5 +1,4 @@
 //! Tests of the one-thread pipe and of the two ends of a ring.
-mod build_tests;
 mod end_tests;
 mod pipe_tests;
 mod thread_tests;

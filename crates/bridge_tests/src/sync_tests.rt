@@ -1,7 +1,7 @@
 #![tactic(auto, using(tl_lanes::proofs::Widths::width_4, tl_lanes::proofs::Widths::width_16))]
 
 use crate::beats::{data, get};
-use linked_list_allocator::LocalHeap;
+use crate::calls::{LANES, Said, as_said};
 use std::alloc::Global;
 use std::process::Abort;
 use std::test::Fail;
@@ -59,47 +59,19 @@ fn build(alloc: Global, ring: usize) -> Result<SyncBridge<4, 16>, BuildFault> {
     SyncBridge::new(alloc, ring)
 }
 
-/// The bytes 88 to dd of a response, of which the last four stand on the lanes of address 100c.
-const LANES: [u8; 16] = [
-    0x88, 0x99, 0x00, 0x11, 0x22, 0x33, 0x44, 0x55, 0x66, 0x77, 0x88, 0x99, 0xaa, 0xbb, 0xcc, 0xdd,
-];
-
 /// A call of the bridge.
 #[derive(Clone, Copy)]
 enum Call {
     /// The client's side offers a Get from address 100c.
     Ask,
-    /// The manager's side offers a response of this size.
-    Answer(u8),
+    /// The manager's side offers a response of this opcode and size.
+    Answer(u8, u8),
     Pump,
     Fetch,
     /// The manager's side takes a beat of A.
     TakeAsk,
     /// The client's side takes a beat of D.
     TakeAnswer,
-}
-
-/// What comes of it.
-#[derive(Clone, Copy, PartialEq, Eq)]
-enum Said {
-    NotReady,
-    Accepted,
-    Refused(SideFault),
-    Moved(usize),
-    Nothing,
-    /// The mask of a beat of A.
-    Asked(Mask),
-    /// The lanes of a beat of D.
-    Answered([u8; 4]),
-}
-
-/// What an offer comes to.
-fn as_said(answer: Answer) -> Said {
-    match answer {
-        None => Said::NotReady,
-        Some(Ok(())) => Said::Accepted,
-        Some(Err(fault)) => Said::Refused(fault),
-    }
 }
 
 /// The mask of the beat that the manager's side takes from A.
@@ -126,7 +98,7 @@ fn take_answer(bridge: &mut SyncBridge<4, 16>) -> Said {
 fn play(bridge: &mut SyncBridge<4, 16>, call: Call) -> Said {
     match call {
         Call::Ask => as_said(ask(bridge, 0x11, 0x100c)),
-        Call::Answer(size) => as_said(answer(bridge, data(1, size, 0x11, LANES))),
+        Call::Answer(opcode, size) => as_said(answer(bridge, data(opcode, size, 0x11, LANES))),
         Call::Pump => Said::Moved(bridge.pump()),
         Call::Fetch => Said::Moved(bridge.fetch()),
         Call::TakeAsk => take_ask(bridge),
@@ -135,16 +107,20 @@ fn play(bridge: &mut SyncBridge<4, 16>, call: Call) -> Said {
 }
 
 /// The calls of a request and its response, and what comes of each.
-const CALLS: [(Call, Said); 15] = [
-    (Call::Answer(2), Said::Refused(SideFault::NoRequest)),
+const CALLS: [(Call, Said); 16] = [
+    (
+        Call::Answer(3, 2),
+        Said::Refused(SideFault::Beat(BeatFault::Opcode)),
+    ),
+    (Call::Answer(1, 2), Said::Refused(SideFault::NoRequest)),
     (Call::Ask, Said::Accepted),
     (Call::Pump, Said::Moved(1)),
     (Call::Fetch, Said::Moved(1)),
     (Call::TakeAsk, Said::Asked(0xf000)),
-    (Call::Answer(3), Said::Refused(SideFault::SizeMismatch)),
-    (Call::Answer(2), Said::Accepted),
+    (Call::Answer(1, 3), Said::Refused(SideFault::SizeMismatch)),
+    (Call::Answer(1, 2), Said::Accepted),
     (Call::Pump, Said::Moved(1)),
-    (Call::Answer(2), Said::Refused(SideFault::NoRequest)),
+    (Call::Answer(1, 2), Said::Refused(SideFault::NoRequest)),
     (Call::Ask, Said::Refused(SideFault::SourceBusy)),
     (Call::Fetch, Said::Moved(1)),
     (Call::Ask, Said::Refused(SideFault::SourceBusy)),
@@ -163,19 +139,6 @@ fn play_all<R: Abort>(rt: &R, bridge: &mut SyncBridge<4, 16>) {
 fn a_request_and_its_response(rt: HostRuntime) -> Result<(), Fail> {
     let mut bridge = build(rt.alloc(), 4)?;
     play_all(&rt, &mut bridge);
-    drop(bridge);
-    Ok(())
-}
-
-fn answer_with_a_fault<R: Abort>(rt: &R, bridge: &mut SyncBridge<4, 16>) {
-    let fault = Some(Err(SideFault::Beat(BeatFault::Opcode)));
-    assert!(*rt; answer(bridge, data(3, 2, 0x11, LANES)) == fault);
-}
-
-#[test]
-fn a_faulty_beat_of_a_free_source(rt: HostRuntime) -> Result<(), Fail> {
-    let mut bridge = build(rt.alloc(), 4)?;
-    answer_with_a_fault(&rt, &mut bridge);
     drop(bridge);
     Ok(())
 }
@@ -234,14 +197,6 @@ fn cross_on_the_others<R: Abort>(rt: &R, bridge: &mut SyncBridge<4, 16>) {
     assert!(*rt; bridge.standings() == Standings::default());
 }
 
-#[test]
-fn probes_releases_and_acknowledgements(rt: HostRuntime) -> Result<(), Fail> {
-    let mut bridge = build(rt.alloc(), 1)?;
-    cross_on_the_others(&rt, &mut bridge);
-    drop(bridge);
-    Ok(())
-}
-
 fn closes_a(bridge: &mut SyncBridge<4, 16>) -> bool {
     bridge.close_a().is_ok() && !bridge.ready_a()
 }
@@ -262,60 +217,21 @@ fn closes_e(bridge: &mut SyncBridge<4, 16>) -> bool {
     bridge.close_e().is_ok() && !bridge.ready_e()
 }
 
-/// Closes each channel, and answers whether it was closed and is not ready then.
-fn closed(bridge: &mut SyncBridge<4, 16>) -> [bool; 5] {
-    [
-        closes_a(bridge),
-        closes_b(bridge),
-        closes_c(bridge),
-        closes_d(bridge),
-        closes_e(bridge),
-    ]
+/// Closes each channel, which is not ready then.
+fn close_each<R: Abort>(rt: &R, bridge: &mut SyncBridge<4, 16>) {
+    assert!(*rt; closes_a(bridge));
+    assert!(*rt; closes_b(bridge));
+    assert!(*rt; closes_c(bridge));
+    assert!(*rt; closes_d(bridge));
+    assert!(*rt; closes_e(bridge));
 }
 
 #[test]
-fn closed_channels_are_not_ready(rt: HostRuntime) -> Result<(), Fail> {
+fn probes_releases_and_acknowledgements(rt: HostRuntime) -> Result<(), Fail> {
     let mut bridge = build(rt.alloc(), 1)?;
-    let are_closed = closed(&mut bridge);
+    cross_on_the_others(&rt, &mut bridge);
+    close_each(&rt, &mut bridge);
     drop(bridge);
-    assert!(rt; are_closed == [true; 5]);
-    Ok(())
-}
-
-/// Why no bridge is made over this heap, if none is.
-fn refusal(heap: &LocalHeap, ring: usize) -> Option<BuildFault> {
-    SyncBridge::<4, 16, &LocalHeap>::new(heap, ring).err()
-}
-
-#[test]
-fn a_ring_has_1_to_4096_beats(rt: HostRuntime) -> Result<(), Fail> {
-    let heap = LocalHeap::new(rt.alloc(), 0)?;
-    for ring in [0, 4097] {
-        assert!(rt; refusal(&heap, ring) == Some(BuildFault::RingSize));
-    }
-    for ring in [1, 4096] {
-        assert!(rt; refusal(&heap, ring) == Some(BuildFault::OutOfMemory));
-    }
-    Ok(())
-}
-
-/// A heap hands out 16 bytes at least, so each ring is the growth that is refused at some size, and
-/// then each table at some greater one.
-#[test]
-fn each_refused_growth_is_out_of_memory(rt: HostRuntime) -> Result<(), Fail> {
-    for size in 0..1024usize {
-        let heap = LocalHeap::new(rt.alloc(), 16 * size)?;
-        assert!(rt; refusal(&heap, 16) == Some(BuildFault::OutOfMemory));
-        assert!(rt; heap.used() == 0);
-    }
-    let mut fault = None;
-    for size in 1..40usize {
-        let heap = LocalHeap::new(rt.alloc(), 0x8000 * size)?;
-        fault = refusal(&heap, 16);
-        assert!(rt; fault != Some(BuildFault::RingSize));
-        assert!(rt; heap.used() == 0);
-    }
-    assert!(rt; fault == None);
     Ok(())
 }
 

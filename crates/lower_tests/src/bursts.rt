@@ -1,8 +1,9 @@
 #![tactic(auto, using(tl_lanes::proofs::Widths::width_4))]
 
+use std::process::Abort;
 use tl_burst::{BurstCounter, Tracker};
 use tl_msg::BeatFault::{self, Corrupt, HeadChanged, Mask, Opcode, Param, Size, Unaligned};
-use tl_msg::{BeatOf, ChA, ChB, ChC, ChD, ChE, Channel, HeadA, HeadB, HeadC, HeadD, HeadE};
+use tl_msg::{BeatOf, ChA, ChB, ChC, ChD, ChE, Channel, HeadA, HeadB, HeadC, HeadD, HeadE, SinkId};
 
 /// A beat of 4 lanes, all of them 0.
 fn beat<H>(head: H, mask: tl_lanes::Mask, corrupt: bool) -> BeatOf<H, 4> {
@@ -64,15 +65,21 @@ fn fault_on_d(tracker: &Tracker<ChD, 4>, head: HeadD, corrupt: bool) -> Option<B
     tracker.check(&beat(head, 0, corrupt)).err()
 }
 
-/// Goes on by a beat of A, and answers its index and whether it is the last one of its burst.
-fn passed(tracker: &mut Tracker<ChA, 4>, head: HeadA, corrupt: bool) -> Option<(u32, bool)> {
+/// Goes on by a beat of A, and answers whether it has this index, and is the last one of its burst or not.
+fn passes(
+    tracker: &mut Tracker<ChA, 4>,
+    head: HeadA,
+    corrupt: bool,
+    index: u32,
+    last: bool,
+) -> bool {
     match tracker.check(&beat(head, 15, corrupt)) {
         Ok(place) => {
-            let found = (place.index, place.last);
+            let is_there = place.index == index && place.last == last;
             tracker.advance(place);
-            Some(found)
+            is_there
         }
-        Err(_) => None,
+        Err(_) => false,
     }
 }
 
@@ -86,7 +93,9 @@ fn begun(head: HeadD) -> Tracker<ChD, 4> {
 }
 
 /// The opcode, param, size, address, mask and corrupt of a beat on A, and its fault as the first one.
-const FIRST: [(u8, u8, u8, u64, tl_lanes::Mask, bool, Option<BeatFault>); 17] = [
+type First = (u8, u8, u8, u64, tl_lanes::Mask, bool, Option<BeatFault>);
+
+const FIRST: [First; 17] = [
     (8, 0, 2, 0, 15, false, Some(Opcode)),
     (4, 1, 2, 0, 15, false, Some(Param)),
     (4, 1, 13, 0, 15, false, Some(Param)),
@@ -107,48 +116,65 @@ const FIRST: [(u8, u8, u8, u64, tl_lanes::Mask, bool, Option<BeatFault>); 17] = 
     (1, 0, 1, 2, 1, false, Some(Mask)),
 ];
 
+fn has_first_fault(row: &First) -> bool {
+    let &(opcode, param, size, address, mask, corrupt, fault) = row;
+    let head = a(opcode, param, size, address);
+    fault_on_a(&Tracker::new(), head, mask, corrupt) == fault
+}
+
 #[test]
 fn first_faults_on_a(rt: HostRuntime) {
-    for &(opcode, param, size, address, mask, corrupt, fault) in &FIRST {
-        let head = a(opcode, param, size, address);
-        assert!(rt;
-            fault_on_a(&Tracker::new(), head, mask, corrupt) == fault,
-            "opcode {opcode}, param {param}, size {size}, address {address}, mask {mask}"
-        );
+    for (number, row) in FIRST.iter().enumerate() {
+        assert!(rt; has_first_fault(row), "row {number}");
     }
 }
+
+/// A head of B with no such param, and one of C with no such opcode.
+const INTENT: HeadB = HeadB {
+    opcode: 5,
+    param: 2,
+    size: 0,
+    source: 0,
+    address: 0,
+};
+
+const RESERVED: HeadC = HeadC {
+    opcode: 3,
+    param: 0,
+    size: 0,
+    source: 0,
+    address: 0,
+};
 
 /// The opcode and param of a beat on D, and its fault as the first one.
 const FIRST_ON_D: [(u8, u8, BeatFault); 3] = [(3, 0, Opcode), (7, 0, Opcode), (5, 3, Param)];
 
+fn has_first_fault_on_d(row: &(u8, u8, BeatFault)) -> bool {
+    let &(opcode, param, fault) = row;
+    fault_on_d(&Tracker::new(), d(opcode, param, 2), false) == Some(fault)
+}
+
 #[test]
 fn first_faults_elsewhere(rt: HostRuntime) {
-    let intent = HeadB {
-        opcode: 5,
-        param: 2,
-        ..HeadB::default()
-    };
-    assert!(rt; fault_on_b(intent, 1) == Some(Param));
-    let reserved = HeadC {
-        opcode: 3,
-        ..HeadC::default()
-    };
-    assert!(rt; fault_on_c(reserved) == Some(Opcode));
-    for &(opcode, param, fault) in &FIRST_ON_D {
-        let head = d(opcode, param, 2);
-        assert!(rt;
-            fault_on_d(&Tracker::new(), head, false) == Some(fault),
-            "opcode {opcode}"
-        );
+    assert!(rt; fault_on_b(INTENT, 1) == Some(Param));
+    assert!(rt; fault_on_c(RESERVED) == Some(Opcode));
+    for row in &FIRST_ON_D {
+        assert!(rt; has_first_fault_on_d(row));
+    }
+}
+
+/// Whether a beat of E is taken, as the whole of its burst.
+fn is_acknowledged(sink: SinkId) -> bool {
+    match Tracker::<ChE, 4>::new().check(&beat(HeadE { sink }, 9, true)) {
+        Ok(place) => place.index == 0 && place.last,
+        Err(_) => false,
     }
 }
 
 #[test]
 fn acknowledgements(rt: HostRuntime) {
-    let acks = Tracker::<ChE, 4>::new();
-    for sink in [0, 42, 255] {
-        let place = acks.check(&beat(HeadE { sink }, 9, true));
-        assert!(rt; matches!(place, Ok(place) if place.index == 0 && place.last));
+    for &sink in &[0, 42, 255] {
+        assert!(rt; is_acknowledged(sink));
     }
 }
 
@@ -165,54 +191,98 @@ const BURSTS: [(u8, u8, u32, bool); 8] = [
     (0, 3, 1, true),
 ];
 
+/// Whether a burst is open with this head and so many beats, or none where its last beat has passed.
+fn is_open(tracker: &Tracker<ChA, 4>, head: HeadA, count: u32, last: bool) -> bool {
+    match tracker.in_burst() {
+        Some((open, passed)) => !last && open == head && passed == count,
+        None => last,
+    }
+}
+
+/// Goes on by a beat of A, in a tracker and in a counter, and answers whether it has this place.
+fn has_place(
+    tracker: &mut Tracker<ChA, 4>,
+    counter: &mut BurstCounter<ChA, 4>,
+    row: &(u8, u8, u32, bool),
+) -> bool {
+    let &(opcode, size, index, last) = row;
+    let head = a(opcode, 0, size, 32);
+    if ChA::fault(&head).is_some() {
+        return false;
+    }
+    let is_first = counter.first();
+    counter.pass(&head);
+    is_first == (index == 0)
+        && passes(tracker, head, opcode == 0, index, last)
+        && is_open(tracker, head, index.saturating_add(1), last)
+}
+
 #[test]
 fn beats_of_bursts(rt: HostRuntime) {
     let mut tracker = Tracker::<ChA, 4>::new();
     let mut counter = BurstCounter::<ChA, 4>::new();
-    for &(opcode, size, index, last) in &BURSTS {
-        let head = a(opcode, 0, size, 32);
-        assert!(rt; ChA::fault(&head).is_none());
-        assert!(rt; counter.first() == (index == 0));
-        counter.pass(&head);
-        assert!(rt; passed(&mut tracker, head, opcode == 0) == Some((index, last)));
-        let open = if last { None } else { Some((head, index + 1)) };
-        assert!(rt; tracker.in_burst() == open);
+    for (number, row) in BURSTS.iter().enumerate() {
+        assert!(rt; has_place(&mut tracker, &mut counter, row), "row {number}");
     }
     assert!(rt; counter.first());
 }
 
+const PUT: HeadA = HeadA {
+    opcode: 0,
+    param: 0,
+    size: 3,
+    source: 1,
+    address: 16,
+};
+
+/// Heads and masks of a second beat of [`PUT`], and its fault.
+const SECOND: [(HeadA, tl_lanes::Mask, Option<BeatFault>); 3] = [
+    (PUT, 7, Some(Mask)),
+    (HeadA { source: 2, ..PUT }, 7, Some(HeadChanged)),
+    (PUT, 15, None),
+];
+
+fn find_second_faults<R: Abort>(rt: &R, puts: &mut Tracker<ChA, 4>) {
+    assert!(*rt; passes(puts, PUT, false, 0, false));
+    for &(head, mask, fault) in &SECOND {
+        assert!(*rt; fault_on_a(puts, head, mask, false) == fault, "mask {mask}");
+    }
+}
+
 #[test]
 fn second_beats_of_a_put(rt: HostRuntime) {
-    let put = a(0, 0, 3, 16);
-    let mut puts = Tracker::<ChA, 4>::new();
-    assert!(rt; passed(&mut puts, put, false) == Some((0, false)));
-    let other = HeadA { source: 2, ..put };
-    for (head, mask, fault) in [
-        (put, 7, Some(Mask)),
-        (other, 7, Some(HeadChanged)),
-        (put, 15, None),
-    ] {
-        assert!(rt;
-            fault_on_a(&puts, head, mask, false) == fault,
-            "mask {mask}"
-        );
+    find_second_faults(&rt, &mut Tracker::new());
+}
+
+const GRANT: HeadD = HeadD {
+    opcode: 5,
+    param: 0,
+    size: 3,
+    source: 0,
+    sink: 7,
+    denied: false,
+};
+
+/// Heads of a second beat of [`GRANT`], and its fault.
+const SECOND_ON_D: [(HeadD, Option<BeatFault>); 3] = [
+    (HeadD { sink: 8, ..GRANT }, Some(HeadChanged)),
+    (
+        HeadD {
+            denied: true,
+            ..GRANT
+        },
+        Some(HeadChanged),
+    ),
+    (GRANT, None),
+];
+
+fn find_second_faults_on_d<R: Abort>(rt: &R, grants: &Tracker<ChD, 4>) {
+    for &(head, fault) in &SECOND_ON_D {
+        assert!(*rt; fault_on_d(grants, head, true) == fault);
     }
 }
 
 #[test]
 fn second_beats_of_a_grant(rt: HostRuntime) {
-    let grant = d(5, 0, 3);
-    let grants = begun(grant);
-    let other = HeadD { sink: 8, ..grant };
-    let denied = HeadD {
-        denied: true,
-        ..grant
-    };
-    for (head, fault) in [
-        (other, Some(HeadChanged)),
-        (denied, Some(HeadChanged)),
-        (grant, None),
-    ] {
-        assert!(rt; fault_on_d(&grants, head, true) == fault);
-    }
+    find_second_faults_on_d(&rt, &begun(GRANT));
 }

@@ -1,4 +1,5 @@
 use arrayvec::ArrayVec;
+use std::process::Abort;
 use tl_convert::{Converter, far_count, far_room};
 use tl_lanes::{Mask, is_width};
 use tl_msg::{Beat, BeatFault, BeatOf, ChA, ChD, HeadA, HeadD};
@@ -77,118 +78,151 @@ const WIDENED: [(u8, Option<(u8, bool)>); 8] = [
     (56, Some((32, false))),
 ];
 
+fn is_widened(converter: &mut Converter<ChD, 8, 32>, row: &(u8, Option<(u8, bool)>)) -> bool {
+    let &(first, far) = row;
+    let near = response(6, counting(first), first == 16);
+    let home = if first == 0 { 0x100 } else { 0x999 };
+    match far {
+        Some((byte, corrupt)) => {
+            gives(
+                converter,
+                near,
+                home,
+                &[response(6, counting(byte), corrupt)],
+            )
+        }
+        None => gives(converter, near, home, &[]),
+    }
+}
+
+fn widen<R: Abort>(rt: &R, converter: &mut Converter<ChD, 8, 32>) {
+    for row in &WIDENED {
+        assert!(*rt; is_widened(converter, row), "byte {}", row.0);
+    }
+    assert!(*rt; converter.at_boundary());
+}
+
 #[test]
 fn widened_response(rt: HostRuntime) {
-    let mut converter = Converter::<ChD, 8, 32>::new();
-    for &(first, far) in &WIDENED {
-        let near = response(6, counting(first), first == 16);
-        let home = if first == 0 { 0x100 } else { 0x999 };
-        let is_given = match far {
-            Some((byte, corrupt)) => {
-                let far = response(6, counting(byte), corrupt);
-                gives(&mut converter, near, home, &[far])
-            }
-            None => gives(&mut converter, near, home, &[]),
-        };
-        assert!(rt; is_given, "byte {first}");
+    widen(&rt, &mut Converter::new());
+}
+
+/// Whether half of a response of 64 bytes, from this byte on, gives four far beats.
+fn is_narrowed(converter: &mut Converter<ChD, 32, 8>, first: u8, corrupt: bool) -> bool {
+    let mut far = [response(6, [0; 8], corrupt); 4];
+    let mut byte = first;
+    for beat in &mut far {
+        beat.lanes = counting(byte);
+        byte = byte.wrapping_add(8);
     }
-    assert!(rt; converter.at_boundary());
+    gives(
+        converter,
+        response(6, counting(first), corrupt),
+        0x100,
+        &far,
+    )
+}
+
+fn narrow<R: Abort>(rt: &R, converter: &mut Converter<ChD, 32, 8>) {
+    assert!(*rt; is_narrowed(converter, 0, true));
+    assert!(*rt; is_narrowed(converter, 32, false));
+    assert!(*rt; converter.at_boundary());
 }
 
 #[test]
 fn narrowed_response(rt: HostRuntime) {
-    let mut converter = Converter::<ChD, 32, 8>::new();
-    for &(first, corrupt) in &[(0, true), (32, false)] {
-        let far = [
-            response(6, counting(first), corrupt),
-            response(6, counting(first + 8), corrupt),
-            response(6, counting(first + 16), corrupt),
-            response(6, counting(first + 24), corrupt),
-        ];
-        let near = response(6, counting(first), corrupt);
-        assert!(rt; gives(&mut converter, near, 0x100, &far), "byte {first}");
-    }
-    assert!(rt; converter.at_boundary());
+    narrow(&rt, &mut Converter::new());
 }
+
+/// A response of 8 bytes, round the end of the bus.
+fn widen_in_two<R: Abort>(rt: &R, wide: &mut Converter<ChD, 4, 8>) {
+    assert!(*rt; gives(wide, response(3, [3, 0, 1, 2], false), 0x1005, &[]));
+    assert!(*rt; !wide.at_boundary());
+    let far = response(3, [3, 4, 5, 6, 7, 0, 1, 2], false);
+    assert!(*rt; gives(wide, response(3, [7, 4, 5, 6], false), 0, &[far]));
+}
+
+/// The bytes 88 to dd of a response, of which the last four stand on the lanes of address 100c.
+const LANES: [u8; 16] = [
+    0x88, 0x99, 0x00, 0x11, 0x22, 0x33, 0x44, 0x55, 0x66, 0x77, 0x88, 0x99, 0xaa, 0xbb, 0xcc, 0xdd,
+];
 
 #[test]
 fn short_responses_at_their_addresses(rt: HostRuntime) {
-    let lanes = [
-        0x88, 0x99, 0x00, 0x11, 0x22, 0x33, 0x44, 0x55, 0x66, 0x77, 0x88, 0x99, 0xaa, 0xbb, 0xcc,
-        0xdd,
-    ];
-    let mut at_lane_12 = Converter::<ChD, 16, 4>::new();
-    let far = response(2, [0xaa, 0xbb, 0xcc, 0xdd], false);
-    assert!(rt; gives(&mut at_lane_12, response(2, lanes, false), 0x100c, &[far]));
+    let far = [response(2, [0xaa, 0xbb, 0xcc, 0xdd], false)];
+    let near = response(2, LANES, false);
+    assert!(rt; gives(&mut Converter::<ChD, 16, 4>::new(), near, 0x100c, &far));
+    widen_in_two(&rt, &mut Converter::new());
 
     // round the end of the bus, and round the end of the addresses
-    let mut wide = Converter::<ChD, 4, 8>::new();
-    assert!(rt; gives(&mut wide, response(3, [3, 0, 1, 2], false), 0x1005, &[]));
-    assert!(rt; !wide.at_boundary());
-    let far = response(3, [3, 4, 5, 6, 7, 0, 1, 2], false);
-    assert!(rt; gives(&mut wide, response(3, [7, 4, 5, 6], false), 0, &[far]));
-
-    let mut narrow = Converter::<ChD, 8, 2>::new();
-    let near = [0x22, 0x33, 0x55, 0x55, 0x55, 0x55, 0x00, 0x11];
+    let near = response(2, [0x22, 0x33, 0x55, 0x55, 0x55, 0x55, 0x00, 0x11], false);
     let far = [
         response(2, [0x00, 0x11], false),
         response(2, [0x22, 0x33], false),
     ];
-    assert!(rt; gives(&mut narrow, response(2, near, false), u64::MAX - 1, &far));
+    assert!(rt; gives(&mut Converter::<ChD, 8, 2>::new(), near, u64::MAX - 1, &far));
 }
 
-/// Takes a near beat of A, and answers its index, whether it is the last one of its burst, and the far
-/// beat that it gives, if it gives one. None where it is refused, or gives more.
+/// Takes a near beat of A by its test and by its feed, and answers whether it has this index, is the
+/// last one of its burst where that is 3, and gives these far beats.
 #[tactic(auto, using(tl_lanes::proofs::Widths::width_4, tl_lanes::proofs::Widths::width_8))]
-fn fed(
+fn takes(
     converter: &mut Converter<ChA, 4, 8>,
     near: &Beat<ChA, 4>,
-) -> Option<(u32, bool, Option<Beat<ChA, 8>>)> {
-    let place = converter.check(near).ok()?;
-    let (index, last) = (place.index, place.last);
-    let mut out = ArrayVec::new();
-    converter.feed_at(near, place, 0, &mut out);
-    let far = out.pop();
-    if out.is_empty() {
-        Some((index, last, far))
-    } else {
-        None
+    index: u32,
+    far: &[Beat<ChA, 8>],
+) -> bool {
+    match converter.check(near) {
+        Ok(place) => {
+            let is_there = place.index == index && place.last == (index == 3);
+            let mut out = ArrayVec::new();
+            converter.feed_at(near, place, 0, &mut out);
+            is_there && out.as_slice() == far
+        }
+        Err(_) => false,
     }
 }
 
-/// The faults that the test of a beat and its feed answer.
+/// Whether a near beat of A is refused for its head, by its test and by its feed.
 #[tactic(auto, using(tl_lanes::proofs::Widths::width_4, tl_lanes::proofs::Widths::width_8))]
-fn faults(
-    converter: &mut Converter<ChA, 4, 8>,
-    near: Beat<ChA, 4>,
-) -> (Option<BeatFault>, Option<BeatFault>) {
-    let tested = converter.check(&near).err();
-    (tested, converter.feed(near, 0).err())
+fn refuses(converter: &mut Converter<ChA, 4, 8>, near: Beat<ChA, 4>) -> bool {
+    matches!(converter.check(&near), Err(BeatFault::HeadChanged))
+        && matches!(converter.feed(near, 0), Err(BeatFault::HeadChanged))
+}
+
+/// The first byte of each beat of a request of 16 bytes, its index, and the first byte of the far beat
+/// that it gives.
+const QUARTERS: [(u8, u32, Option<u8>); 4] = [
+    (0, 0, None),
+    (4, 1, Some(0)),
+    (8, 2, None),
+    (12, 3, Some(8)),
+];
+
+/// Whether such a beat is taken, and in its place inside the burst one with another head is refused.
+fn is_quarter(converter: &mut Converter<ChA, 4, 8>, row: &(u8, u32, Option<u8>)) -> bool {
+    let &(first, index, far) = row;
+    if index > 0 && !refuses(converter, put(0x40, 0xf, [first; 4])) {
+        return false;
+    }
+    let near = put(0x20, 0xf, counting(first));
+    let is_taken = match far {
+        Some(byte) => takes(converter, &near, index, &[put(0x20, 0xff, counting(byte))]),
+        None => takes(converter, &near, index, &[]),
+    };
+    is_taken && converter.at_boundary() == (index == 3)
+}
+
+fn bring_quarters<R: Abort>(rt: &R, converter: &mut Converter<ChA, 4, 8>) {
+    assert!(*rt; converter.at_boundary());
+    for row in &QUARTERS {
+        assert!(*rt; is_quarter(converter, row), "byte {}", row.0);
+    }
 }
 
 #[test]
 fn boundaries_of_a_burst(rt: HostRuntime) {
-    let mut converter = Converter::<ChA, 4, 8>::new();
-    assert!(rt; converter.at_boundary());
-    for (first, index, far) in [
-        (0, 0, None),
-        (4, 1, Some(0)),
-        (8, 2, None),
-        (12, 3, Some(8)),
-    ] {
-        if index > 0 {
-            let changed = Some(BeatFault::HeadChanged);
-            let other = put(0x40, 0xf, [first; 4]);
-            assert!(rt; faults(&mut converter, other) == (changed, changed));
-        }
-        let far = match far {
-            Some(byte) => Some(put(0x20, 0xff, counting(byte))),
-            None => None,
-        };
-        let given = fed(&mut converter, &put(0x20, 0xf, counting(first)));
-        assert!(rt; given == Some((index, index == 3, far)), "byte {first}");
-        assert!(rt; converter.at_boundary() == (index == 3));
-    }
+    bring_quarters(&rt, &mut Converter::new());
 }
 
 /// Whether a converter of A takes this near beat, and gives these far beats for it.
@@ -291,35 +325,27 @@ fn a_beat_of_128_bytes_gives_128_far_beats(rt: HostRuntime) {
     assert!(rt; converter.at_boundary());
 }
 
-/// How many far beats a list of near beats of 4 bytes gives.
-fn count<const V: usize>(beats: &[Beat<ChA, 4>]) -> usize {
-    if is_width(4) && is_width(V) && beats.len() <= 5 {
-        far_count::<ChA, 4, V>(beats)
-    } else {
-        usize::MAX
-    }
+/// Whether a list of near beats of 4 bytes gives so many far beats, and there is room for so many.
+fn has_counts<const V: usize>(beats: &[Beat<ChA, 4>], far: usize, room: usize) -> bool {
+    is_width(4)
+        && is_width(V)
+        && beats.len() <= 5
+        && far_count::<ChA, 4, V>(beats) == far
+        && far_room::<ChA, 4, V>(beats) == room
 }
 
-/// For how many far beats there is room.
-fn room<const V: usize>(beats: &[Beat<ChA, 4>]) -> usize {
-    if is_width(4) && is_width(V) && beats.len() <= 5 {
-        far_room::<ChA, 4, V>(beats)
-    } else {
-        usize::MAX
-    }
-}
-
+/// At equal widths there is room for each beat, and none is read; else for as many as there are.
 #[test]
 fn counts_of_far_beats(rt: HostRuntime) {
     let next = put(0x20, 0xf, [0; 4]);
     let three = [next; 3];
-    assert!(rt; count::<8>(&three) == 1);
-    assert!(rt; count::<4>(&three) == 3);
-    assert!(rt; count::<1>(&three) == 12);
-    assert!(rt; count::<8>(&[]) == 0);
+    assert!(rt; has_counts::<8>(&three, 1, 1));
+    assert!(rt; has_counts::<4>(&three, 3, 3));
+    assert!(rt; has_counts::<1>(&three, 12, 12));
+    assert!(rt; has_counts::<8>(&[], 0, 0));
+    // up to the head that changed
     let changed = [next, next, put(0x40, 0xf, [0; 4]), next, next];
-    assert!(rt; count::<4>(&changed) == 2, "up to the head that changed");
-    assert!(rt; room::<8>(&changed) == count::<8>(&changed));
-    assert!(rt; room::<4>(&changed) == 5, "at equal widths no beat is read");
-    assert!(rt; room::<1>(&changed) == count::<1>(&changed));
+    assert!(rt; has_counts::<8>(&changed, 1, 1));
+    assert!(rt; has_counts::<4>(&changed, 2, 5));
+    assert!(rt; has_counts::<1>(&changed, 8, 8));
 }

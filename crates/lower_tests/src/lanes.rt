@@ -25,20 +25,10 @@ fn widths(rt: HostRuntime) {
     assert!(rt; WIDEST == 128);
 }
 
-/// The bytes that each beat of a message of this size has, and its beats with data and without.
-fn counts(size: u8, w: usize) -> Option<(usize, usize, usize)> {
-    if !is_width(w) || size > 12 {
-        return None;
-    }
-    Some((
-        beat_bytes(size, w),
-        beats(true, size, w),
-        beats(false, size, w),
-    ))
-}
-
 /// Sizes and widths, the bytes that a beat has then, and the beats with data.
-const COUNTS: [(u8, usize, usize, usize); 9] = [
+type Counts = (u8, usize, usize, usize);
+
+const COUNTS: [Counts; 9] = [
     (0, 64, 1, 1),
     (0, 128, 1, 1),
     (1, 4, 2, 1),
@@ -50,13 +40,19 @@ const COUNTS: [(u8, usize, usize, usize); 9] = [
     (12, 128, 128, 32),
 ];
 
+fn has_beats(row: &Counts) -> bool {
+    let &(size, w, bytes, count) = row;
+    is_width(w)
+        && size <= 12
+        && beat_bytes(size, w) == bytes
+        && beats(true, size, w) == count
+        && beats(false, size, w) == 1
+}
+
 #[test]
 fn bytes_and_beats(rt: HostRuntime) {
-    for &(size, w, bytes, count) in &COUNTS {
-        assert!(rt;
-            counts(size, w) == Some((bytes, count, 1)),
-            "size {size}, width {w}"
-        );
+    for (number, row) in COUNTS.iter().enumerate() {
+        assert!(rt; has_beats(row), "row {number}");
     }
 }
 
@@ -64,7 +60,9 @@ fn bytes_and_beats(rt: HostRuntime) {
 const HALF: Mask = u64::MAX as Mask;
 
 /// The address of a message, a byte of it, its size, the width, and the lane of that byte and the active lanes then.
-const LANES: [(u64, usize, u8, usize, usize, Mask); 12] = [
+type Lanes = (u64, usize, u8, usize, usize, Mask);
+
+const LANES: [Lanes; 12] = [
     (0x1004, 0, 2, 8, 4, 0xf0),
     (0x18, 0, 3, 16, 8, 0xff00),
     (0x100c, 0, 2, 16, 12, 0xf000),
@@ -79,23 +77,22 @@ const LANES: [(u64, usize, u8, usize, usize, Mask); 12] = [
     (u64::MAX, 1, 1, 128, 0, 1 << 127 | 1),
 ];
 
+fn has_lanes(row: &Lanes) -> bool {
+    let &(address, i, size, w, first, mask) = row;
+    is_width(w) && size <= 12 && lane(address, i, w) == first && active(address, size, w) == mask
+}
+
 #[test]
 fn lanes_of_bytes(rt: HostRuntime) {
-    for &(address, i, size, w, first, mask) in &LANES {
-        assert!(rt; is_width(w) && size <= 12);
-        assert!(rt;
-            lane(address, i, w) == first,
-            "address {address}, width {w}"
-        );
-        assert!(rt;
-            active(address, size, w) == mask,
-            "address {address}, width {w}"
-        );
+    for (number, row) in LANES.iter().enumerate() {
+        assert!(rt; has_lanes(row), "row {number}");
     }
 }
 
 /// A mask and its width, a mask that it is moved into and its width, the byte from which on and the count, and what comes of it.
-const MOVED: [(Mask, usize, Mask, usize, u64, usize, Mask); 12] = [
+type Moved = (Mask, usize, Mask, usize, u64, usize, Mask);
+
+const MOVED: [Moved; 12] = [
     (0xf0, 8, 0, 4, 4, 4, 0xf),
     (0x5, 4, 0xf0, 8, 0, 4, 0xf5),
     // round the end of the bus of 4
@@ -113,14 +110,19 @@ const MOVED: [(Mask, usize, Mask, usize, u64, usize, Mask); 12] = [
     (1 << 127 | 1, 128, 0, 2, u64::MAX, 2, 0x3),
 ];
 
+fn is_moved(row: &Moved) -> bool {
+    let &(from, w, to, v, at, count, moved) = row;
+    is_width(w)
+        && is_width(v)
+        && count <= w
+        && count <= v
+        && move_mask(from, w, to, v, at, count) == moved
+}
+
 #[test]
 fn moved_bits(rt: HostRuntime) {
-    for &(from, w, to, v, at, count, moved) in &MOVED {
-        assert!(rt; is_width(w) && is_width(v) && count <= w && count <= v);
-        assert!(rt;
-            move_mask(from, w, to, v, at, count) == moved,
-            "mask {from} into {to}"
-        );
+    for (number, row) in MOVED.iter().enumerate() {
+        assert!(rt; is_moved(row), "row {number}");
     }
 }
 

@@ -1,5 +1,5 @@
-//! Tests of lanes, messages, bursts and the converter, in a crate of their own: a crate with tests
-//! is proved twice.
+//! Tests of lanes, messages, bursts, the converter and traces, in a crate of their own: a crate with
+//! tests is proved twice.
 #![tactic(auto)]
 
 #[cfg(test)]
@@ -10,3 +10,5 @@ mod conversion;
 mod lanes;
 #[cfg(test)]
 mod messages;
+#[cfg(test)]
+mod trace;

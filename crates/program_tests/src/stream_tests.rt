@@ -1,7 +1,6 @@
 use std::alloc::Global;
 use std::io;
 use std::io::{Read, Write};
-use std::test::Fail;
 use tl_answer::{TextFault, read_all, write_all};
 
 const TEXT: &str =
@@ -71,23 +70,36 @@ fn text_in(most: usize, bad_call: u64, kind: io::ErrorKind) -> Pieces<'static> {
     }
 }
 
+const KINDS: [io::ErrorKind; 2] = [io::ErrorKind::Interrupted, io::ErrorKind::Other];
+
+/// Whether the text is read.
+fn is_read(alloc: Global) -> bool {
+    match read_all(alloc, &mut text_in(1, 0, io::ErrorKind::Other)) {
+        Ok(text) => text.as_slice() == TEXT.as_bytes(),
+        Err(_) => false,
+    }
+}
+
+/// Whether a reader that fails at this call is a fault of reading.
+fn is_read_fault(alloc: Global, bad_call: u64, kind: io::ErrorKind) -> bool {
+    matches!(
+        read_all(alloc, &mut text_in(1, bad_call, kind)),
+        Err(TextFault::Read)
+    )
+}
+
 /// The text has 86 bytes, so call 87 finds the end of it. Each call fails in turn.
 #[test]
-fn readers(rt: HostRuntime) -> Result<(), Fail> {
-    let alloc = rt.alloc();
-    let mut reader = text_in(1, 0, io::ErrorKind::Other);
-    let Ok(text) = read_all(alloc, &mut reader) else {
-        return Err(Fail::from("no text was read"));
-    };
-    assert!(rt; text.as_slice() == TEXT.as_bytes());
+fn readers(rt: HostRuntime) {
+    assert!(rt; is_read(rt.alloc()));
     for bad_call in 1..=87 {
-        for kind in [io::ErrorKind::Interrupted, io::ErrorKind::Other] {
-            let mut reader = text_in(1, bad_call, kind);
-            let fault = read_all(alloc, &mut reader).err();
-            assert!(rt; fault == Some(TextFault::Read), "call {bad_call}");
+        for &kind in &KINDS {
+            assert!(rt;
+                is_read_fault(rt.alloc(), bad_call, kind),
+                "call {bad_call}"
+            );
         }
     }
-    Ok(())
 }
 
 /// Takes some bytes a call, and fails at one call.
@@ -102,35 +114,42 @@ fn slow_writer(alloc: Global, most: usize, bad_call: u64, kind: io::ErrorKind) -
     }
 }
 
-#[test]
-fn writers(rt: HostRuntime) -> Result<(), Fail> {
-    let alloc = rt.alloc();
-    for (most, flushes, wanted) in [
-        (1, true, Ok(())),
-        (0, true, Err(TextFault::Write)),
-        (1000, false, Err(TextFault::Write)),
-    ] {
-        let mut writer = slow_writer(alloc, most, 0, io::ErrorKind::Other);
-        writer.flushes = flushes;
-        let result = write_all(&mut writer, TEXT.as_bytes());
-        assert!(rt; result == wanted, "{most} bytes a call");
-        if result.is_ok() {
-            assert!(rt; writer.taken.as_slice() == TEXT.as_bytes());
-        }
+/// How many bytes a call takes, whether a flush is well, and whether the text is written.
+const WRITERS: [(usize, bool, bool); 3] = [(1, true, true), (0, true, false), (1000, false, false)];
+
+/// Whether the text is written, or else that is a fault of writing.
+fn is_written(alloc: Global, row: &(usize, bool, bool)) -> bool {
+    let &(most, flushes, is_well) = row;
+    let mut writer = slow_writer(alloc, most, 0, io::ErrorKind::Other);
+    writer.flushes = flushes;
+    match write_all(&mut writer, TEXT.as_bytes()) {
+        Ok(()) => is_well && writer.taken.as_slice() == TEXT.as_bytes(),
+        Err(fault) => !is_well && fault == TextFault::Write,
     }
-    Ok(())
+}
+
+#[test]
+fn writers(rt: HostRuntime) {
+    for row in &WRITERS {
+        assert!(rt; is_written(rt.alloc(), row), "{} bytes a call", row.0);
+    }
+}
+
+/// Whether a writer that fails at this call is a fault of writing.
+fn is_write_fault(alloc: Global, bad_call: u64, kind: io::ErrorKind) -> bool {
+    let result = write_all(&mut slow_writer(alloc, 1, bad_call, kind), TEXT.as_bytes());
+    matches!(result, Err(TextFault::Write))
 }
 
 /// Each write of one byte fails in turn.
 #[test]
-fn writers_that_fail(rt: HostRuntime) -> Result<(), Fail> {
-    let alloc = rt.alloc();
+fn writers_that_fail(rt: HostRuntime) {
     for bad_call in 1..=TEXT.len() as u64 {
-        for kind in [io::ErrorKind::Interrupted, io::ErrorKind::Other] {
-            let mut writer = slow_writer(alloc, 1, bad_call, kind);
-            let result = write_all(&mut writer, TEXT.as_bytes());
-            assert!(rt; result == Err(TextFault::Write), "call {bad_call}");
+        for &kind in &KINDS {
+            assert!(rt;
+                is_write_fault(rt.alloc(), bad_call, kind),
+                "call {bad_call}"
+            );
         }
     }
-    Ok(())
 }

@@ -2,14 +2,12 @@
 //! slices.
 ghost use Rattle.tl_lanes.specs.Lanes.{IsWidth};
 
-use crate::measure::print_time;
-use anyhow::{Result, bail};
+use crate::figures::{Figures, now};
 use rtrb::{Consumer, Producer, RingBuffer};
-use std::alloc::Global;
+use std::alloc::{AllocError, Global};
 use std::rt::Clock;
 use std::thread::{Threads, join_mut};
-use std::time::Instant;
-use tl_lanes::{Mask, active};
+use tl_lanes::{Mask, active, is_width};
 use tl_msg::{Beat, BeatOf, ChA, ChE, Channel, HeadA, HeadE, SinkId};
 use tl_ring::{ROOM, SendEnd, TakeEnd, ring_pair};
 
@@ -19,11 +17,10 @@ const SOME: usize = 64;
 /// A side gives up after so many turns.
 const TURNS: usize = 1 << 40;
 
-/// The sending end of a ring of beats of `W` bytes.
-trait Sender<B, const W: usize> {
+/// The sending end of a ring.
+trait Sender<B> {
     /// Takes in the beat of this number where it can, and sends what it can. Answers whether that beat was taken in.
-    fn send(&mut self, beats: &[B], number: usize) -> bool
-        requires { IsWidth W };
+    fn send(&mut self, beats: &[B], number: usize) -> bool;
 
     /// Sends what it can of what was taken in. Answers whether nothing of it is left.
     fn is_sent(&mut self) -> bool;
@@ -35,26 +32,23 @@ trait Taker {
     fn take(&mut self, masks: &mut Mask) -> usize;
 }
 
-/// Offers the beat of this number where the end is ready. Answers whether it was accepted.
-fn offer<K: Channel, const W: usize>(
-    end: &mut SendEnd<K, W, W>,
-    beats: &[Beat<K, W>],
-    number: usize,
-) -> bool
-    requires { IsWidth W }
-{
+/// Offers a beat where the end is ready. Answers whether it was accepted.
+fn offer<K: Channel, const W: usize>(end: &mut SendEnd<K, W, W>, beat: &Beat<K, W>) -> bool {
+    if !is_width(W) {
+        return false;
+    }
     if !end.ready() {
         return false;
     }
-    match beats.get(number % SOME) {
-        Some(beat) => end.offer(*beat, 0).is_ok(),
-        None => false,
-    }
+    end.offer(*beat, 0).is_ok()
 }
 
-impl<K: Channel, const W: usize> Sender<Beat<K, W>, W> for SendEnd<K, W, W> {
+impl<K: Channel, const W: usize> Sender<Beat<K, W>> for SendEnd<K, W, W> {
     fn send(&mut self, beats: &[Beat<K, W>], number: usize) -> bool {
-        let accepted = offer(self, beats, number);
+        let accepted = match beats.get(number % SOME) {
+            Some(beat) => offer(self, beat),
+            None => false,
+        };
         self.pump();
         accepted
     }
@@ -77,7 +71,7 @@ impl<K: Channel, const W: usize> Taker for TakeEnd<K, W, W> {
     }
 }
 
-impl<H: Copy, const W: usize> Sender<BeatOf<H, W>, W> for Producer<BeatOf<H, W>, Global> {
+impl<H: Copy, const W: usize> Sender<BeatOf<H, W>> for Producer<BeatOf<H, W>, Global> {
     fn send(&mut self, beats: &[BeatOf<H, W>], number: usize) -> bool {
         let at = number % SOME;
         match beats.get(at..=at) {
@@ -109,9 +103,7 @@ impl<H: Copy, const W: usize> Taker for PlainTaker<H, W> {
 }
 
 /// Sends so many beats.
-fn send_all<S: Sender<B, W>, B, const W: usize>(sender: &mut S, beats: &[B], count: usize)
-    requires { IsWidth W }
-{
+fn send_all<S: Sender<B>, B>(sender: &mut S, beats: &[B], count: usize) {
     let mut sent = 0;
     for _ in 0..TURNS {
         if sent < count {
@@ -138,14 +130,12 @@ fn take_all<T: Taker>(taker: &mut T, count: usize) -> Mask {
 
 /// Sends so many beats and takes them, in one thread: where no more are taken in, all that is there is taken. Answers the sum of
 /// their masks.
-fn send_and_take<S: Sender<B, W>, T: Taker, B, const W: usize>(
+fn send_and_take<S: Sender<B>, T: Taker, B>(
     sender: &mut S,
     taker: &mut T,
     beats: &[B],
     count: usize,
-) -> Mask
-    requires { IsWidth W }
-{
+) -> Mask {
     let (mut sent, mut left, mut masks) = (0, count, 0);
     for _ in 0..TURNS {
         if sent < count && sender.send(beats, sent) {
@@ -161,59 +151,53 @@ fn send_and_take<S: Sender<B, W>, T: Taker, B, const W: usize>(
     masks
 }
 
-/// What the times of a pair of ends are printed under: those of one thread, and of two.
+/// Sends so many beats from a sender to a taker in two threads, which run free. Answers the sum of their masks.
+fn join_both<S: Sender<B> + Send, T: Taker + Send, B: Sync>(
+    rt: &impl Threads,
+    sender: &mut S,
+    taker: &mut T,
+    beats: &[B],
+    count: usize,
+) -> Mask {
+    let (_, masks) = join_mut(
+        rt,
+        &mut || send_all(sender, beats, count),
+        &mut || take_all(taker, count),
+    );
+    masks
+}
+
+/// What the times of a pair of ends are named: those of one thread, and of two.
 type Names = [&'static str; 2];
 
 const CROSSING: Names = ["crossing_one_thread", "crossing_two_threads"];
 
 const PLAIN: Names = ["plain_one_thread", "plain_two_threads"];
 
-/// Sends so many beats from a sender to a taker in two threads, which run free. Answers the sum of their masks.
-fn join_both<S: Sender<B, W> + Send, T: Taker + Send, B: Sync, const W: usize>(
-    rt: &impl Threads,
-    sender: &mut S,
-    taker: &mut T,
-    beats: &[B],
-    count: usize,
-) -> Mask
-    requires { IsWidth W }
-{
-    let (_, masks) = join_mut(
-        rt,
-        &mut ||
-            requires { IsWidth W }
-        { send_all(sender, beats, count) },
-        &mut || take_all(taker, count),
-    );
-    masks
-}
-
 /// Sends so many beats from a sender to a taker, in one thread and then in two. Both passes are timed.
-fn measure_pair<S: Sender<B, W> + Send, T: Taker + Send, B: Sync, const W: usize>(
-    rt: &(impl Clock + Print + Threads),
+fn measure_pair<S: Sender<B> + Send, T: Taker + Send, B: Sync>(
+    rt: &(impl Clock + Threads),
     names: Names,
     sender: &mut S,
     taker: &mut T,
     beats: &[B],
     count: usize,
-) -> Result<()>
-    requires { IsWidth W }
-{
+    figures: &mut Figures,
+) {
     let [one_thread, two_threads] = names;
-    let start = Instant::now(rt)?;
+    let start = now(rt);
     let one = send_and_take(sender, taker, beats, count);
-    print_time(rt, one_thread, start)?;
-    let start = Instant::now(rt)?;
+    figures.put_time(rt, one_thread, start);
+    let start = now(rt);
     let two = join_both(rt, sender, taker, beats, count);
-    print_time(rt, two_threads, start)?;
+    figures.put_time(rt, two_threads, start);
     if one != two {
-        bail!("the two passes took other beats");
+        figures.refuse("the two passes took other beats");
     }
-    Ok(())
 }
 
 /// PutFullDatas of 64 bytes on a bus of `W` bytes, or of as many as a wider bus has.
-fn requests<const W: usize>(alloc: Global) -> Result<Vec<Beat<ChA, W>>>
+fn requests<const W: usize>(alloc: Global) -> Result<Vec<Beat<ChA, W>>, AllocError>
     requires { IsWidth W }
 {
     let head = HeadA {
@@ -223,11 +207,12 @@ fn requests<const W: usize>(alloc: Global) -> Result<Vec<Beat<ChA, W>>>
         source: 7,
         address: 128,
     };
+    let mask = active(head.address, head.size, W);
     let mut all = Vec::with_capacity(alloc, SOME)?;
     for place in 0..SOME {
         all.push(BeatOf {
             head,
-            mask: active(head.address, head.size, W),
+            mask,
             lanes: [place as u8; W],
             corrupt: false,
         })?;
@@ -236,7 +221,7 @@ fn requests<const W: usize>(alloc: Global) -> Result<Vec<Beat<ChA, W>>>
 }
 
 /// GrantAcks.
-fn acks(alloc: Global) -> Result<Vec<Beat<ChE, 8>>> {
+fn acks(alloc: Global) -> Result<Vec<Beat<ChE, 8>>, AllocError> {
     let mut all = Vec::with_capacity(alloc, SOME)?;
     for place in 0..SOME {
         all.push(BeatOf {
@@ -251,98 +236,130 @@ fn acks(alloc: Global) -> Result<Vec<Beat<ChE, 8>>> {
     Ok(all)
 }
 
+/// Sends so many requests between both ends of a crossing.
 fn cross_requests<const W: usize>(
-    rt: &(impl Clock + Print + Threads + AllocGlobal),
+    rt: &(impl Clock + Threads + AllocGlobal),
     beats: &[Beat<ChA, W>],
     ring: usize,
     count: usize,
-) -> Result<()>
+    figures: &mut Figures,
+)
     requires { IsWidth W }
 {
-    let (mut send, mut take) = ring_pair::<ChA, W, W, Global>(rt.alloc(), ring)?;
-    measure_pair::<_, _, _, W>(rt, CROSSING, &mut send, &mut take, beats, count)
+    match ring_pair::<ChA, W, W, Global>(rt.alloc(), ring) {
+        Ok((mut send, mut take)) => {
+            measure_pair(rt, CROSSING, &mut send, &mut take, beats, count, figures)
+        }
+        Err(_) => figures.refuse("there is no crossing over such a ring"),
+    }
 }
 
+/// Sends so many requests through a plain ring.
 fn pass_requests<const W: usize>(
-    rt: &(impl Clock + Print + Threads + AllocGlobal),
+    rt: &(impl Clock + Threads + AllocGlobal),
     beats: &[Beat<ChA, W>],
     ring: usize,
     count: usize,
-) -> Result<()>
+    figures: &mut Figures,
+)
     requires { IsWidth W }
 {
-    let (mut producer, consumer) = RingBuffer::new(rt.alloc(), ring)?;
+    let Ok((mut producer, consumer)) = RingBuffer::new(rt.alloc(), ring) else {
+        return figures.refuse("there is no such ring");
+    };
     let mut taker = PlainTaker {
         end: consumer,
         room: [BeatOf::default(); ROOM],
     };
-    measure_pair::<_, _, _, W>(rt, PLAIN, &mut producer, &mut taker, beats, count)
+    measure_pair(rt, PLAIN, &mut producer, &mut taker, beats, count, figures);
 }
 
+/// Sends so many GrantAcks between both ends of a crossing.
 #[tactic(auto, using(tl_lanes::proofs::Widths::width_8))]
 fn cross_acks(
-    rt: &(impl Clock + Print + Threads + AllocGlobal),
+    rt: &(impl Clock + Threads + AllocGlobal),
     beats: &[Beat<ChE, 8>],
     ring: usize,
     count: usize,
-) -> Result<()> {
-    let (mut send, mut take) = ring_pair::<ChE, 8, 8, Global>(rt.alloc(), ring)?;
-    measure_pair::<_, _, _, 8>(rt, CROSSING, &mut send, &mut take, beats, count)
+    figures: &mut Figures,
+) {
+    match ring_pair::<ChE, 8, 8, Global>(rt.alloc(), ring) {
+        Ok((mut send, mut take)) => {
+            measure_pair(rt, CROSSING, &mut send, &mut take, beats, count, figures)
+        }
+        Err(_) => figures.refuse("there is no crossing over such a ring"),
+    }
 }
 
-#[tactic(auto, using(tl_lanes::proofs::Widths::width_8))]
+/// Sends so many GrantAcks through a plain ring.
 fn pass_acks(
-    rt: &(impl Clock + Print + Threads + AllocGlobal),
+    rt: &(impl Clock + Threads + AllocGlobal),
     beats: &[Beat<ChE, 8>],
     ring: usize,
     count: usize,
-) -> Result<()> {
-    let (mut producer, consumer) = RingBuffer::new(rt.alloc(), ring)?;
+    figures: &mut Figures,
+) {
+    let Ok((mut producer, consumer)) = RingBuffer::new(rt.alloc(), ring) else {
+        return figures.refuse("there is no such ring");
+    };
     let mut taker = PlainTaker {
         end: consumer,
         room: [BeatOf::default(); ROOM],
     };
-    measure_pair::<_, _, _, 8>(rt, PLAIN, &mut producer, &mut taker, beats, count)
+    measure_pair(rt, PLAIN, &mut producer, &mut taker, beats, count, figures);
 }
 
+/// Sends so many requests through a crossing, and through a plain ring of as many places.
 fn measure_requests<const W: usize>(
-    rt: &(impl Clock + Print + Threads + AllocGlobal),
+    rt: &(impl Clock + Threads + AllocGlobal),
     ring: usize,
     count: usize,
-) -> Result<()>
+    figures: &mut Figures,
+)
     requires { IsWidth W }
 {
-    let beats = requests::<W>(rt.alloc())?;
-    cross_requests::<W>(rt, &beats, ring, count)?;
-    pass_requests::<W>(rt, &beats, ring, count)
+    match requests::<W>(rt.alloc()) {
+        Ok(beats) => {
+            cross_requests::<W>(rt, &beats, ring, count, figures);
+            pass_requests::<W>(rt, &beats, ring, count, figures);
+        }
+        Err(_) => figures.refuse("there is no memory for the beats"),
+    }
 }
 
+/// Sends so many GrantAcks through a crossing, and through a plain ring of as many places.
 fn measure_acks(
-    rt: &(impl Clock + Print + Threads + AllocGlobal),
+    rt: &(impl Clock + Threads + AllocGlobal),
     ring: usize,
     count: usize,
-) -> Result<()> {
-    let beats = acks(rt.alloc())?;
-    cross_acks(rt, &beats, ring, count)?;
-    pass_acks(rt, &beats, ring, count)
+    figures: &mut Figures,
+) {
+    match acks(rt.alloc()) {
+        Ok(beats) => {
+            cross_acks(rt, &beats, ring, count, figures);
+            pass_acks(rt, &beats, ring, count, figures);
+        }
+        Err(_) => figures.refuse("there is no memory for the beats"),
+    }
 }
 
 /// Sends so many beats of a channel through a ring of `ring` beats, four times: between both ends in one thread and in two, and
 /// through plain `rtrb` likewise. Each pass is timed.
 #[tactic(auto, using(tl_lanes::proofs::Widths::width_8, tl_lanes::proofs::Widths::width_64, tl_lanes::proofs::Widths::width_128))]
 pub fn measure(
-    rt: &(impl Clock + Print + Threads + AllocGlobal),
+    rt: &(impl Clock + Threads + AllocGlobal),
     channel: &str,
     width: usize,
     ring: usize,
     count: usize,
-) -> Result<()> {
-    println!(rt; "beats {count}")?;
+    figures: &mut Figures,
+) {
+    figures.put("beats", count as u128);
     match (channel, width) {
-        ("A", 8) => measure_requests::<8>(rt, ring, count),
-        ("A", 64) => measure_requests::<64>(rt, ring, count),
-        ("A", 128) => measure_requests::<128>(rt, ring, count),
-        ("E", 8) => measure_acks(rt, ring, count),
-        _ => bail!("channel {channel} at {width} bytes is not measured"),
+        ("A", 8) => measure_requests::<8>(rt, ring, count, figures),
+        ("A", 64) => measure_requests::<64>(rt, ring, count, figures),
+        ("A", 128) => measure_requests::<128>(rt, ring, count, figures),
+        ("E", 8) => measure_acks(rt, ring, count, figures),
+        _ => figures.refuse("this channel is not measured at this width"),
     }
 }

@@ -1,21 +1,19 @@
 //! Measures reading, conversion and writing.
-ghost use Rattle.tl_trace.specs.Faults.{HasHeader};
+ghost use Rattle.std.specs.Prelude.{IfSome, IsSome};
 ghost use Rattle.tl_lanes.specs.Lanes.{IsWidth};
-ghost use Rattle.tl_answer.specs.Inputs.{IsFresh, held};
+ghost use Rattle.tl_trace.specs.Faults.{HasHeader};
+ghost use Rattle.tl_answer.specs.Inputs.{IsFresh};
 
-use anyhow::{Result, bail};
+use crate::figures::{Figures, Start, nanos_since, now};
 use arrayvec::ArrayVec;
-use std::alloc::Global;
 use std::fs::Files;
 use std::io::Read;
 use std::rt::Clock;
-use std::time::Instant;
-use std::{fs, io};
 use tl_answer::{Input, script_of_input};
 use tl_convert::Converter;
-use tl_lanes::WIDEST;
+use tl_lanes::{WIDEST, is_width};
 use tl_msg::{Beat, ChA, ChE};
-use tl_trace::{HeadText, header_of_text, write_far};
+use tl_trace::{HeadText, Script, header_of_text, write_far};
 
 /// The bytes of the longest trace that the bridge takes.
 const MOST_BYTES: usize = 67_108_864;
@@ -23,160 +21,199 @@ const MOST_BYTES: usize = 67_108_864;
 /// How many near beats are converted before the lines of their far beats are written.
 const NEAR_BEATS: usize = 64;
 
-/// Prints the time that has passed since `start`.
-pub(crate) fn print_time(rt: &(impl Clock + Print), name: &str, start: Instant) -> io::Result<()> {
-    let nanos = start.elapsed(rt)?.as_nanos();
-    println!(rt; "{name} {nanos}")
-}
-
-/// The most memory that a process has had so far, in KiB, of the text of its status.
-fn peak_of(status: &str) -> &str {
-    match status.split_once("VmHWM:") {
-        Some((_, after)) => after.split_whitespace().next().unwrap_or("0"),
-        None => "0",
-    }
-}
-
-/// Prints the most memory that the process has had so far, in KiB.
-pub(crate) fn print_peak(rt: &(impl Files + Print + AllocGlobal), name: &str) -> io::Result<()> {
-    let status = fs::read_to_string(rt, "/proc/self/status")?;
-    println!(rt; "{name} {}", peak_of(&status))
-}
-
 fn line_ends(text: &[u8]) -> usize {
     text.iter().filter(|byte| **byte == b'\n').count()
 }
 
 /// Takes all of standard input into memory, and counts its LFs: plain passes, to compare with.
-pub fn pass(rt: &(impl Clock + Print + AllocGlobal), reader: &mut impl Read) -> Result<()> {
-    let mut text = Vec::with_capacity(rt.alloc(), MOST_BYTES)?;
-    let start = Instant::now(rt)?;
-    reader.read_to_end(&mut text)?;
-    print_time(rt, "whole", start)?;
-
-    let start = Instant::now(rt)?;
+pub fn pass(rt: &(impl Clock + AllocGlobal), reader: &mut impl Read, figures: &mut Figures) {
+    let Ok(mut text) = Vec::with_capacity(rt.alloc(), MOST_BYTES) else {
+        return figures.refuse("there is no memory for the text");
+    };
+    let start = now(rt);
+    if reader.read_to_end(&mut text).is_err() {
+        return figures.refuse("the text cannot be read");
+    }
+    figures.put_time(rt, "whole", start);
+    let start = now(rt);
     let lines = line_ends(&text);
-    print_time(rt, "count", start)?;
-    let bytes = text.len();
-    println!(rt; "bytes {bytes}\nlines {lines}")?;
-    Ok(())
+    figures.put_time(rt, "count", start);
+    figures.put("bytes", text.len() as u128);
+    figures.put("lines", lines as u128);
 }
 
-/// Room for the far beats of one near beat.
-fn no_beats<K: HeadText, const V: usize>() -> ArrayVec<Beat<K, V>, WIDEST>
-    requires { IsWidth V }
-{
-    ArrayVec::new()
-}
-
-/// Feeds near beats to a converter, and appends the far beats that they give.
+/// Feeds near beats to a converter, and appends the far beats that they give. Answers whether all were fed.
 fn convert<K: HeadText, const W: usize, const V: usize>(
     converter: &mut Converter<K, W, V>,
     given: &mut ArrayVec<Beat<K, V>, WIDEST>,
     near: &[Beat<K, W>],
     far: &mut Vec<Beat<K, V>>,
-) -> Result<()>
+) -> bool
     requires near { IsWidth W }
     requires far { IsWidth V }
 {
     for beat in near {
         given.clear();
-        let place = converter.check(beat)?;
+        let Ok(place) = converter.check(beat) else {
+            return false;
+        };
         converter.feed_at(beat, place, 0, given);
-        far.extend_from_slice(given.as_slice())?;
+        if far.extend_from_slice(given.as_slice()).is_err() {
+            return false;
+        }
     }
-    Ok(())
+    true
 }
 
-/// The nanoseconds since `start`.
-fn nanos_since(rt: &impl Clock, start: Instant) -> io::Result<u128> {
-    Ok(start.elapsed(rt)?.as_nanos())
+/// The times of converting and writing so far, in nanoseconds, and how many far beats that gave.
+#[derive(Clone, Copy, Default)]
+struct Work {
+    converting: u128,
+    writing: u128,
+    far_beats: usize,
+}
+
+/// Converts some beats, and appends the lines of their far beats to a text. Answers whether that could be done.
+fn convert_some<K: HeadText, const W: usize, const V: usize>(
+    rt: &impl Clock,
+    converter: &mut Converter<K, W, V>,
+    given: &mut ArrayVec<Beat<K, V>, WIDEST>,
+    near: &[Beat<K, W>],
+    far: &mut Vec<Beat<K, V>>,
+    text: &mut Vec<u8>,
+    version: u8,
+    work: &mut Work,
+) -> bool
+    requires near { IsWidth W }
+    requires far { IsWidth V }
+{
+    far.clear();
+    let start = now(rt);
+    let is_fed = convert(converter, given, near, far);
+    work.converting = work.converting.saturating_add(nanos_since(rt, start));
+    let start = now(rt);
+    let is_written = write_far::<K, V>(text, far, version).is_ok();
+    work.writing = work.writing.saturating_add(nanos_since(rt, start));
+    work.far_beats = work.far_beats.saturating_add(far.len());
+    is_fed && is_written
 }
 
 /// Converts the beats of a channel, whole messages, and writes the lines of their far beats: some at a time, so that far beats stand
-/// in memory that was used before.
-fn measure_channel<K: HeadText, const W: usize, const V: usize>(
-    rt: &(impl Clock + Print),
-    alloc: Global,
+/// in memory that was used before. The lines are written behind one another.
+fn convert_and_write<K: HeadText, const W: usize, const V: usize>(
+    rt: &(impl Clock + AllocGlobal),
     converter: &mut Converter<K, W, V>,
     given: &mut ArrayVec<Beat<K, V>, WIDEST>,
     near: &[Beat<K, W>],
     version: u8,
-) -> Result<()>
+    figures: &mut Figures,
+)
     requires near { IsWidth W }
     requires far { IsWidth V }
 {
-    let mut far = Vec::new(alloc);
-    let mut text = Vec::new(alloc);
-    let (mut converting, mut writing) = (0u128, 0u128);
-    let mut far_beats = 0usize;
+    let (mut far, mut text) = (Vec::new(rt.alloc()), Vec::new(rt.alloc()));
+    let mut work = Work::default();
     for some in near.chunks(NEAR_BEATS) {
-        far.clear();
-        let start = Instant::now(rt)?;
-        convert(converter, given, some, &mut far)?;
-        converting = converting.saturating_add(nanos_since(rt, start)?);
-        let start = Instant::now(rt)?;
-        write_far::<K, V>(&mut text, &far, version)?;
-        writing = writing.saturating_add(nanos_since(rt, start)?);
-        far_beats = far_beats.saturating_add(far.len());
+        if !convert_some(
+            rt, converter, given, some, &mut far, &mut text, version, &mut work,
+        ) {
+            figures.refuse("the beats cannot be converted and written");
+        }
     }
-    println!(rt; "convert {converting}\nwrite {writing}")?;
-    println!(rt;
-        "near_beats {}\nfar_beats {far_beats}\nfar_bytes {}",
-        near.len(),
-        text.len()
-    )?;
-    Ok(())
+    put_work(figures, &work, near.len(), text.len());
 }
 
-fn measure_pair<R: Read, const C: usize, const M: usize>(
-    rt: &(impl Clock + Print + Files + AllocGlobal),
-    reader: &mut R,
-    input: &mut Input,
+/// Adds what the work took, from so many near beats to lines of so many bytes.
+fn put_work(figures: &mut Figures, work: &Work, near_beats: usize, far_bytes: usize) {
+    figures.put("convert", work.converting);
+    figures.put("write", work.writing);
+    figures.put("near_beats", near_beats as u128);
+    figures.put("far_beats", work.far_beats as u128);
+    figures.put("far_bytes", far_bytes as u128);
+}
+
+/// The version of a trace between these widths, by its first line.
+pub(crate) fn version_between(text: &[u8], client: usize, manager: usize) -> Option<u8>
+    ensures header { IfSome result (λ version. HasHeader text.now version client manager) }
+    ensures client { IsSome result → IsWidth client }
+    ensures manager { IsSome result → IsWidth manager }
+{
+    let header = header_of_text(text)?;
+    if header.client != client || header.manager != manager {
+        return None;
+    }
+    if !is_width(client) || !is_width(manager) {
+        return None;
+    }
+    Some(header.version)
+}
+
+/// Converts the beats of A, or of E where there is none of A, and writes the far ones.
+fn measure_script<const C: usize, const M: usize>(
+    rt: &(impl Clock + AllocGlobal),
+    script: &Script<C, M>,
     version: u8,
-    start: Instant,
-) -> Result<()>
+    figures: &mut Figures,
+)
     requires client { IsWidth C }
     requires manager { IsWidth M }
-    requires fresh { IsFresh (R.remaining reader.old) input.old }
-    requires header { HasHeader (held input.old) version C M }
 {
-    let alloc = rt.alloc();
-    let script = script_of_input::<R, C, M>(alloc, reader, input, version)?;
-    print_time(rt, "read", start)?;
-    print_peak(rt, "peak")?;
     if script.a.is_empty() {
         let mut converter = Converter::<ChE, C, M>::new();
-        let mut given = no_beats::<ChE, M>();
-        measure_channel(rt, alloc, &mut converter, &mut given, &script.e, version)
+        let mut given = ArrayVec::<Beat<ChE, M>, WIDEST>::new();
+        convert_and_write(rt, &mut converter, &mut given, &script.e, version, figures);
     } else {
         let mut converter = Converter::<ChA, C, M>::new();
-        let mut given = no_beats::<ChA, M>();
-        measure_channel(rt, alloc, &mut converter, &mut given, &script.a, version)
+        let mut given = ArrayVec::<Beat<ChA, M>, WIDEST>::new();
+        convert_and_write(rt, &mut converter, &mut given, &script.a, version, figures);
     }
+}
+
+/// Reads a trace between these widths piece by piece, as the program does, converts its beats of A, or of E where it has none of A,
+/// and writes the far ones.
+fn measure_pair<R: Read, const C: usize, const M: usize>(
+    rt: &(impl Clock + Files + AllocGlobal),
+    reader: &mut R,
+    input: &mut Input,
+    start: Start,
+    figures: &mut Figures,
+)
+    requires { IsFresh (R.remaining reader.old) input.old }
+{
+    let Some(version) = version_between(input.held(), C, M) else {
+        return figures.refuse("the text is no trace between these widths");
+    };
+    let Ok(script) = script_of_input::<R, C, M>(rt.alloc(), reader, input, version) else {
+        return figures.refuse("the text is no trace");
+    };
+    figures.put_time(rt, "read", start);
+    figures.put_peak(rt, "peak");
+    measure_script(rt, &script, version, figures);
 }
 
 /// Reads a trace from standard input piece by piece, as the program does, converts its beats and writes the far ones. Each part is
 /// timed.
 pub fn measure<R: Read>(
-    rt: &(impl Clock + Print + Files + AllocGlobal),
+    rt: &(impl Clock + Files + AllocGlobal),
     reader: &mut R,
-) -> Result<()> {
-    print_peak(rt, "peak_before")?;
-    let start = Instant::now(rt)?;
-    let mut input = Input::open(rt.alloc(), reader)?;
-    let Some(header) = header_of_text(input.held()) else {
-        bail!("the text is no trace");
+    figures: &mut Figures,
+) {
+    let start = now(rt);
+    let Ok(mut input) = Input::open(rt.alloc(), reader) else {
+        return figures.refuse("the text cannot be read");
     };
-    let (version, input) = (header.version, &mut input);
+    let Some(header) = header_of_text(input.held()) else {
+        return figures.refuse("the text is no trace");
+    };
+    let input = &mut input;
     match (header.client, header.manager) {
-        (8, 8) => measure_pair::<R, 8, 8>(rt, reader, input, version, start),
-        (4, 64) => measure_pair::<R, 4, 64>(rt, reader, input, version, start),
-        (64, 4) => measure_pair::<R, 64, 4>(rt, reader, input, version, start),
-        (64, 1) => measure_pair::<R, 64, 1>(rt, reader, input, version, start),
-        (8, 32) => measure_pair::<R, 8, 32>(rt, reader, input, version, start),
-        (128, 1) => measure_pair::<R, 128, 1>(rt, reader, input, version, start),
-        (1, 128) => measure_pair::<R, 1, 128>(rt, reader, input, version, start),
-        _ => bail!("nothing is measured at these widths"),
+        (8, 8) => measure_pair::<R, 8, 8>(rt, reader, input, start, figures),
+        (4, 64) => measure_pair::<R, 4, 64>(rt, reader, input, start, figures),
+        (64, 4) => measure_pair::<R, 64, 4>(rt, reader, input, start, figures),
+        (64, 1) => measure_pair::<R, 64, 1>(rt, reader, input, start, figures),
+        (8, 32) => measure_pair::<R, 8, 32>(rt, reader, input, start, figures),
+        (128, 1) => measure_pair::<R, 128, 1>(rt, reader, input, start, figures),
+        (1, 128) => measure_pair::<R, 1, 128>(rt, reader, input, start, figures),
+        _ => figures.refuse("nothing is measured at these widths"),
     }
 }

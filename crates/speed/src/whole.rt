@@ -1,21 +1,16 @@
 //! Measures whole runs.
 ghost use Rattle.std.specs.Prelude.{◌≤◌, IsTrue};
 ghost use Rattle.tl_lanes.specs.Lanes.{IsWidth};
-ghost use Rattle.tl_trace.specs.Faults.{HasHeader};
 ghost use Rattle.tl_bridge.specs.Scripts.{HasShortLists};
 
-use crate::measure::{print_peak, print_time};
-use anyhow::{Result, bail};
-use std::alloc::Global;
-use std::fs::Files;
+use crate::figures::{Figures, now};
+use crate::measure::version_between;
 use std::io::Read;
 use std::rt::Clock;
 use std::thread::{Threads, join_mut};
-use std::time::Instant;
-use tl_answer::answer_of;
 use tl_bridge::{NoGate, Outcome, RunFault, run_sync, run_threads};
 use tl_msg::Verdict;
-use tl_trace::{Script, TraceFault, header_of_text, read_script};
+use tl_trace::{Script, header_of_text, read_script};
 
 /// The most beats of a channel that a run takes.
 const MOST_BEATS: usize = 1 << 40;
@@ -30,17 +25,6 @@ pub struct Way {
     pub ring: usize,
     /// The turns of each side between two meetings, where each side has a thread of its own.
     pub turns: Option<usize>,
-}
-
-/// The script of a text, which is let go.
-fn script_from<const C: usize, const M: usize>(
-    alloc: Global,
-    text: Vec<u8>,
-    version: u8,
-) -> Result<Script<C, M>, TraceFault>
-    requires { HasHeader text.items version C M }
-{
-    read_script::<C, M>(alloc, &text, version)
 }
 
 /// Whether a run takes the lists of a script.
@@ -64,114 +48,120 @@ fn outcome_of<const C: usize, const M: usize>(
     requires manager { IsWidth M }
     requires short { HasShortLists script.now }
 {
+    let alloc = rt.alloc();
     match way.turns {
-        Some(turns) if turns > 0 => run_threads(
-            rt,
-            rt.alloc(),
-            script,
-            way.ring,
-            turns,
-            &mut NoGate,
-            &mut NoGate,
-        ),
-        _ => run_sync(rt.alloc(), script, way.ring),
+        Some(turns) if turns > 0 => {
+            let (client_gate, manager_gate) = (&mut NoGate, &mut NoGate);
+            run_threads(
+                rt,
+                alloc,
+                script,
+                way.ring,
+                turns,
+                client_gate,
+                manager_gate,
+            )
+        }
+        _ => run_sync(alloc, script, way.ring),
     }
 }
 
-/// Runs a script, which is let go.
-fn outcome_from<const C: usize, const M: usize>(
-    rt: &(impl Clock + Print + Threads + AllocGlobal),
-    script: Script<C, M>,
-    way: Way,
-) -> Result<Outcome<C, M>>
-    requires client { IsWidth C }
-    requires manager { IsWidth M }
-{
-    if !is_short(&script) {
-        bail!("the trace has too many beats");
-    }
-    let start = Instant::now(rt)?;
-    let outcome = outcome_of::<C, M>(rt, &script, way)?;
-    print_time(rt, "run", start)?;
-    Ok(outcome)
-}
-
-/// Prints how many beats were accepted and taken, on all channels together. Refused where a channel is not done.
-fn print_counts(rt: &impl Print, verdicts: &[Verdict; 5], rounds: u64) -> Result<()> {
+/// Adds how many beats were accepted and taken, on all channels together. Refused where a channel is not done.
+fn put_counts(figures: &mut Figures, verdicts: &[Verdict; 5], rounds: u64) {
     let (mut near_beats, mut far_beats) = (0u64, 0u64);
     for verdict in verdicts {
-        let Verdict::Done { near, far } = verdict else {
-            bail!("a channel is not done: {verdict:?}");
-        };
-        near_beats = near_beats.saturating_add(*near);
-        far_beats = far_beats.saturating_add(*far);
+        if let Verdict::Done { near, far } = verdict {
+            near_beats = near_beats.saturating_add(*near);
+            far_beats = far_beats.saturating_add(*far);
+        } else {
+            figures.refuse("a channel is not done");
+        }
     }
-    println!(rt; "near_beats {near_beats}\nfar_beats {far_beats}\nrounds {rounds}")?;
-    Ok(())
+    figures.put("near_beats", near_beats as u128);
+    figures.put("far_beats", far_beats as u128);
+    figures.put("rounds", rounds as u128);
 }
 
-fn run_pair<const C: usize, const M: usize>(
-    rt: &(impl Clock + Print + Threads + AllocGlobal),
-    text: Vec<u8>,
-    version: u8,
+/// Runs a script. The run is timed.
+fn run_script<const C: usize, const M: usize>(
+    rt: &(impl Clock + Threads + AllocGlobal),
+    script: &Script<C, M>,
     way: Way,
-) -> Result<()>
+    figures: &mut Figures,
+)
     requires client { IsWidth C }
     requires manager { IsWidth M }
-    requires header { HasHeader text.items version C M }
 {
-    let start = Instant::now(rt)?;
-    let script = script_from::<C, M>(rt.alloc(), text, version)?;
-    print_time(rt, "read", start)?;
-    let outcome = outcome_from::<C, M>(rt, script, way)?;
-    let start = Instant::now(rt)?;
-    let answer = answer_of::<C, M>(rt.alloc(), &outcome, version)?;
-    print_time(rt, "write", start)?;
-    println!(rt; "far_bytes {}", answer.text.len())?;
-    print_counts(rt, &outcome.verdicts, outcome.rounds)
+    if !is_short(script) {
+        return figures.refuse("the trace has too many beats");
+    }
+    let start = now(rt);
+    match outcome_of::<C, M>(rt, script, way) {
+        Ok(outcome) => {
+            figures.put_time(rt, "run", start);
+            put_counts(figures, &outcome.verdicts, outcome.rounds);
+        }
+        Err(_) => figures.refuse("the run found no ring of this size, or no memory"),
+    }
 }
 
-fn run_text(
-    rt: &(impl Clock + Print + Threads + AllocGlobal),
-    text: Vec<u8>,
+/// Runs a trace between these widths.
+fn run_pair<const C: usize, const M: usize>(
+    rt: &(impl Clock + Threads + AllocGlobal),
+    text: &[u8],
     way: Way,
-) -> Result<()> {
-    let Some(header) = header_of_text(&text) else {
-        bail!("the text is no trace");
+    figures: &mut Figures,
+) {
+    let Some(version) = version_between(text, C, M) else {
+        return figures.refuse("the text is no trace between these widths");
+    };
+    match read_script::<C, M>(rt.alloc(), text, version) {
+        Ok(script) => run_script(rt, &script, way, figures),
+        Err(_) => figures.refuse("the text is no trace"),
+    }
+}
+
+/// Runs a trace.
+fn run_text(
+    rt: &(impl Clock + Threads + AllocGlobal),
+    text: &[u8],
+    way: Way,
+    figures: &mut Figures,
+) {
+    let Some(header) = header_of_text(text) else {
+        return figures.refuse("the text is no trace");
     };
     match (header.client, header.manager) {
-        (8, 8) => run_pair::<8, 8>(rt, text, header.version, way),
-        (4, 16) => run_pair::<4, 16>(rt, text, header.version, way),
-        (64, 8) => run_pair::<64, 8>(rt, text, header.version, way),
-        (8, 64) => run_pair::<8, 64>(rt, text, header.version, way),
-        _ => bail!("no runs are measured at these widths"),
+        (8, 8) => run_pair::<8, 8>(rt, text, way, figures),
+        (4, 16) => run_pair::<4, 16>(rt, text, way, figures),
+        (64, 8) => run_pair::<64, 8>(rt, text, way, figures),
+        (8, 64) => run_pair::<8, 64>(rt, text, way, figures),
+        _ => figures.refuse("no runs are measured at these widths"),
     }
 }
 
 /// Starts two threads that do nothing, and joins them, as each round of a run in two threads does: so many times. It is timed.
-fn measure_joins(rt: &(impl Clock + Print + Threads)) -> Result<()> {
-    let start = Instant::now(rt)?;
+fn measure_joins(rt: &(impl Clock + Threads), figures: &mut Figures) {
+    let start = now(rt);
     for _ in 0..JOINS {
         join_mut(rt, &mut || {}, &mut || {});
     }
-    print_time(rt, "joined", start)?;
-    println!(rt; "joins {JOINS}")?;
-    Ok(())
+    figures.put_time(rt, "joined", start);
+    figures.put("joins", JOINS as u128);
 }
 
-/// Reads a trace, runs it, and writes the answer into memory. Each part is timed, and all of it, with standard input; then bare joins.
+/// Reads a trace from standard input and runs it. The run is timed, and then bare joins.
 pub fn run(
-    rt: &(impl Clock + Print + Files + Threads + AllocGlobal),
+    rt: &(impl Clock + Threads + AllocGlobal),
     reader: &mut impl Read,
     way: Way,
-) -> Result<()> {
-    print_peak(rt, "peak_before")?;
-    let start = Instant::now(rt)?;
+    figures: &mut Figures,
+) {
     let mut text = Vec::new(rt.alloc());
-    reader.read_to_end(&mut text)?;
-    println!(rt; "bytes {}", text.len())?;
-    run_text(rt, text, way)?;
-    print_time(rt, "all", start)?;
-    print_peak(rt, "peak")?;
-    measure_joins(rt)
+    if reader.read_to_end(&mut text).is_err() {
+        return figures.refuse("the text cannot be read");
+    }
+    figures.put("bytes", text.len() as u128);
+    run_text(rt, &text, way, figures);
+    measure_joins(rt, figures);
 }

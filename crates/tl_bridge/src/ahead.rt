@@ -3,13 +3,12 @@ ghost use Rattle.std.specs.Prelude.{◌≡◌, ◌<◌, ◌+◌, ◌^◌, ℕ, L
 ghost use Rattle.tl_lanes.specs.Lanes.{IsWidth};
 ghost use Rattle.tl_settle.specs.Outcomes.{Beats};
 ghost use Rattle.tl_sides.specs.Bridges.{Past, StandsFor};
-ghost use Rattle.tl_bridge.specs.declared.channel_state.Offered.{Offered};
 ghost use Rattle.tl_bridge.specs.Scripts.{near_beats};
 ghost use Rattle.tl_bridge.specs.Inner.Running.{HaveRoomToCount, IsAt, steps};
 ghost use Rattle.tl_bridge.specs.Inner.Going.{GoesOn, HasGone, HasMovedOn, gone_none, gone_then, going_a, going_b, going_c, going_d, going_e};
 
 use crate::channel_state::Offered;
-use crate::offers::{Offers, offer_next};
+use crate::offers::Offers;
 use tl_msg::{BeatOf, Channel, HeadA, HeadB, HeadC, HeadD, HeadE};
 use tl_ring::SyncPipe;
 use tl_sides::{PerChannel, SyncBridge};
@@ -28,17 +27,20 @@ fn move_on<K: Channel, const W: usize, const V: usize>(pipe: &mut SyncPipe<K, W,
 }
 
 /// What offers beats `B` on one of its channels, and moves into its ring at once what they give.
-trait GoesAhead<B>: Offers<B> {
+trait GoesAhead<B> {
+    // whether it may offer
+    ghost MayGo: { Type 0 };
+
     // `new` is what `old` becomes where beats of a list were offered, of which `at` were accepted
     // before and `later` after it
     ghost Goes: { (beats : List B) → (at : ℕ) → (old : Self) → (later : ℕ) → (new : Self) →
         Type 0 };
 
-    /// Moves into the ring what is staged, behind the offer of a list's next beat.
-    fn go_on(&mut self)
-        ensures { (beats : List B) (at : ℕ) (before : Self) (offered : Offered) →
-            Self.Becomes beats at before offered self.old →
-            Goes beats at before (at + steps offered) self.new };
+    /// Offers the next beat of a list, of which `at` were accepted, and moves into the ring what is
+    /// staged.
+    fn go_on(&mut self, beats: &[B], at: usize) -> Offered
+        requires { MayGo }
+        ensures { Goes beats.now at self.old (at + steps result) self.new };
 
     ghost goes_none: { (beats : List B) (at : ℕ) (s : Self) → Goes beats at s at s };
 
@@ -55,7 +57,7 @@ fn go_ahead<B, S: GoesAhead<B>>(
     first: Offered,
     most: usize,
 ) -> usize
-    requires can { S.CanOffer }
+    requires can { S.MayGo }
     requires few { at < 2 ^ 41 }
     requires most { most < 2 ^ 41 }
     ensures { S.Goes beats.now at side.old result side.new }
@@ -64,8 +66,7 @@ fn go_ahead<B, S: GoesAhead<B>>(
     let mut offered = first;
     let mut left = most;
     'beats: while left > 0 && offered.is_accepted() {
-        offered = offer_next(side, beats, later);
-        side.go_on();
+        offered = side.go_on(beats, later);
         later += offered.steps();
         left -= 1;
     }
@@ -73,10 +74,14 @@ fn go_ahead<B, S: GoesAhead<B>>(
 }
 
 impl<const C: usize, const M: usize> GoesAhead<BeatOf<HeadA, C>> for SyncBridge<C, M> {
+    ghost MayGo = { IsWidth C × IsWidth M };
+
     ghost Goes = { GoesOn going_a };
 
-    fn go_on(&mut self) {
+    fn go_on(&mut self, beats: &[BeatOf<HeadA, C>], at: usize) -> Offered {
+        let offered = self.offer_next(beats, at);
         move_on(&mut self.a);
+        offered
     }
 
     ghost goes_none = { gone_none going_a };
@@ -85,10 +90,14 @@ impl<const C: usize, const M: usize> GoesAhead<BeatOf<HeadA, C>> for SyncBridge<
 }
 
 impl<const C: usize, const M: usize> GoesAhead<BeatOf<HeadB, M>> for SyncBridge<C, M> {
+    ghost MayGo = { IsWidth C × IsWidth M };
+
     ghost Goes = { GoesOn going_b };
 
-    fn go_on(&mut self) {
+    fn go_on(&mut self, beats: &[BeatOf<HeadB, M>], at: usize) -> Offered {
+        let offered = self.offer_next(beats, at);
         move_on(&mut self.b);
+        offered
     }
 
     ghost goes_none = { gone_none going_b };
@@ -97,10 +106,14 @@ impl<const C: usize, const M: usize> GoesAhead<BeatOf<HeadB, M>> for SyncBridge<
 }
 
 impl<const C: usize, const M: usize> GoesAhead<BeatOf<HeadC, C>> for SyncBridge<C, M> {
+    ghost MayGo = { IsWidth C × IsWidth M };
+
     ghost Goes = { GoesOn going_c };
 
-    fn go_on(&mut self) {
+    fn go_on(&mut self, beats: &[BeatOf<HeadC, C>], at: usize) -> Offered {
+        let offered = self.offer_next(beats, at);
         move_on(&mut self.c);
+        offered
     }
 
     ghost goes_none = { gone_none going_c };
@@ -109,10 +122,14 @@ impl<const C: usize, const M: usize> GoesAhead<BeatOf<HeadC, C>> for SyncBridge<
 }
 
 impl<const C: usize, const M: usize> GoesAhead<BeatOf<HeadD, M>> for SyncBridge<C, M> {
+    ghost MayGo = { IsWidth C × IsWidth M };
+
     ghost Goes = { GoesOn going_d };
 
-    fn go_on(&mut self) {
+    fn go_on(&mut self, beats: &[BeatOf<HeadD, M>], at: usize) -> Offered {
+        let offered = self.offer_next(beats, at);
         move_on(&mut self.d);
+        offered
     }
 
     ghost goes_none = { gone_none going_d };
@@ -121,10 +138,14 @@ impl<const C: usize, const M: usize> GoesAhead<BeatOf<HeadD, M>> for SyncBridge<
 }
 
 impl<const C: usize, const M: usize> GoesAhead<BeatOf<HeadE, C>> for SyncBridge<C, M> {
+    ghost MayGo = { IsWidth C × IsWidth M };
+
     ghost Goes = { GoesOn going_e };
 
-    fn go_on(&mut self) {
+    fn go_on(&mut self, beats: &[BeatOf<HeadE, C>], at: usize) -> Offered {
+        let offered = self.offer_next(beats, at);
         move_on(&mut self.e);
+        offered
     }
 
     ghost goes_none = { gone_none going_e };

@@ -9,7 +9,7 @@ use tl_ring::EndFault;
 use tl_sides::PerChannel;
 
 /// Why a channel offers no more: the words of its verdict.
-#[derive(Clone, Copy, PartialEq, Eq)]
+#[derive(Clone, Copy)]
 pub(crate) enum Stop {
     /// No beat is left, and no burst is unfinished: the channel is closed.
     Done,
@@ -20,7 +20,7 @@ pub(crate) enum Stop {
 }
 
 /// What becomes of the next beat of a channel in a round.
-#[derive(Clone, Copy, PartialEq, Eq)]
+#[derive(Clone, Copy)]
 pub(crate) enum Offered {
     /// It is accepted.
     Accepted,

@@ -14,7 +14,7 @@ ghost use Rattle.tl_bridge.specs.Inner.Sides.{SameClientEnds, ClientHasTaken, Cl
 use crate::channel_state::Offered;
 use crate::gates::Gate;
 use crate::inboxes::take_all;
-use crate::offers::offer_next;
+use crate::offers::Offers;
 use crate::turns::Turn;
 use tl_msg::{Beat, ChA, ChB, ChC, ChD, ChE};
 use tl_pair::ClientSide;
@@ -76,9 +76,9 @@ fn offer_each<const C: usize, const M: usize>(
     ensures ends { SameClientEnds side.old side.new }
     ensures others { (result.b ≡ NotReady) × (result.d ≡ NotReady) }
 {
-    let a = offer_next(side, &script.a, at.a);
-    let c = offer_next(side, &script.c, at.c);
-    let e = offer_next(side, &script.e, at.e);
+    let a = side.offer_next(&script.a, at.a);
+    let c = side.offer_next(&script.c, at.c);
+    let e = side.offer_next(&script.e, at.e);
     PerChannel {
         a,
         b: Offered::NotReady,
@@ -141,7 +141,7 @@ pub(crate) fn play<G: Gate, const C: usize, const M: usize>(
     }
     'turns: for _ in 1..turns {
         let last = turn(&mut run.side, script, &played.at);
-        played = played.then(last);
+        played = played.then(&last);
         if !last.moved {
             return played;
         }

@@ -8,7 +8,7 @@ pub trait Gate {
 }
 
 /// A gate that does nothing.
-#[derive(Clone, Copy, PartialEq, Eq, Debug, Default)]
+#[derive(Clone, Copy, Debug)]
 pub struct NoGate;
 
 impl Gate for NoGate {

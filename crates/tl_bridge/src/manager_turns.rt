@@ -15,7 +15,7 @@ ghost use Rattle.tl_bridge.specs.Inner.Sides.{SameManagerEnds, ManagerHasTaken, 
 use crate::channel_state::Offered;
 use crate::gates::Gate;
 use crate::inboxes::take_all;
-use crate::offers::offer_next;
+use crate::offers::Offers;
 use crate::turns::Turn;
 use tl_msg::{Beat, ChA, ChB, ChC, ChD, ChE};
 use tl_pair::ManagerSide;
@@ -82,8 +82,8 @@ fn offer_each<const C: usize, const M: usize>(
     ensures ends { SameManagerEnds side.old side.new }
     ensures others { (result.a ≡ NotReady) × (result.c ≡ NotReady) × (result.e ≡ NotReady) }
 {
-    let b = offer_next(side, &script.b, at.b);
-    let d = offer_next(side, &script.d, at.d);
+    let b = side.offer_next(&script.b, at.b);
+    let d = side.offer_next(&script.d, at.d);
     PerChannel {
         a: Offered::NotReady,
         b,
@@ -153,7 +153,7 @@ pub(crate) fn play<G: Gate, const C: usize, const M: usize>(
     }
     'turns: for _ in 1..turns {
         let last = turn(&mut run.side, script, &played.at);
-        played = played.then(last);
+        played = played.then(&last);
         if !last.moved {
             return played;
         }

@@ -11,7 +11,7 @@ ghost use Rattle.tl_bridge.specs.Inner.Running.{IsAt, arriving, lengths, IsRunni
 use crate::ahead::all_go_ahead;
 use crate::arrivals::Arrivals;
 use crate::channel_state::{Offered, Stop, add_accepted, all_stops};
-use crate::offers::offer_next;
+use crate::offers::Offers;
 use crate::outcome::{Ending, Outcome, verdict};
 use crate::taken::{Taken, take_from_each};
 use std::alloc::AllocError;
@@ -60,11 +60,11 @@ fn offer_on_each<const C: usize, const M: usize>(
         HasOffered (near_beats script.now) at.old x bridge.new result }
     ensures counted { at.new ≡ counted at.old result }
 {
-    let a = offer_next(bridge, &script.a, at.a);
-    let c = offer_next(bridge, &script.c, at.c);
-    let e = offer_next(bridge, &script.e, at.e);
-    let b = offer_next(bridge, &script.b, at.b);
-    let d = offer_next(bridge, &script.d, at.d);
+    let a = bridge.offer_next(&script.a, at.a);
+    let c = bridge.offer_next(&script.c, at.c);
+    let e = bridge.offer_next(&script.e, at.e);
+    let b = bridge.offer_next(&script.b, at.b);
+    let d = bridge.offer_next(&script.d, at.d);
     let offers = PerChannel { a, b, c, d, e };
     add_accepted(at, &offers);
     offers

@@ -11,7 +11,7 @@ use tl_sides::PerChannel;
 /// What a side has done in some turns: how many beats of each channel were accepted after them, what
 /// became of its next beats in the last one, whether it accepted a beat in any, and whether it
 /// accepted, pumped or fetched one.
-#[derive(Clone, Copy, Drop)]
+#[derive(Drop)]
 pub(crate) struct Turn {
     pub at: PerChannel<usize>,
     pub offers: PerChannel<Offered>,
@@ -52,12 +52,13 @@ impl Turn {
     }
 
     // These turns, and another one after them.
-    pub(crate) fn then(self, last: Turn) -> Turn
-        ensures at { result.at ≡ last.at }
-        ensures offers { result.offers ≡ last.offers }
+    pub(crate) fn then(self, last: &Turn) -> Turn
+        ensures at { result.at ≡ last.now.at }
+        ensures offers { result.offers ≡ last.now.offers }
         ensures accepted { (result.accepted ≡ true) ↔
-            ((self.accepted ≡ true) ⊎ (last.accepted ≡ true)) }
-        ensures moved { (result.moved ≡ true) ↔ ((self.moved ≡ true) ⊎ (last.moved ≡ true)) }
+            ((self.accepted ≡ true) ⊎ (last.now.accepted ≡ true)) }
+        ensures moved { (result.moved ≡ true) ↔ ((self.moved ≡ true) ⊎
+            (last.now.moved ≡ true)) }
     {
         Turn {
             at: last.at,

@@ -1,3 +1,4 @@
 mod AsOwner
 mod BothWidths
 mod Idle
+mod Taking

@@ -9,7 +9,6 @@
 
 mod answers;
 mod closes;
-mod counts;
 mod handle;
 mod held;
 mod offers;
@@ -21,12 +20,11 @@ ghost use Rattle.tl_ring.specs.declared.pipe.TheConstants.{MAX_RING};
 ghost use Rattle.tl_sides.specs.Bridges.{Past, nothing_yet, all_pumped, all_fetched, after_pump, after_fetch};
 ghost use Rattle.tl_c.specs.Calls.{HoldsPast, IsDrained, Moves, channel_counts};
 
-use crate::counts::is_idle;
 use crate::handle::Handle;
 use crate::held::Held;
 use crate::widths::{CLIENT, MANAGER};
 use std::alloc::Global;
-use tl_c_beats::{ChannelCounts, OUT_OF_MEMORY, channel_counts, on_held};
+use tl_c_beats::{ChannelCounts, OUT_OF_MEMORY, are_idle, channel_counts, on_held};
 use tl_sides::SyncBridge;
 
 /// Makes a bridge with five rings of `ring` beats and gives it to the handle. A bridge that the
@@ -111,10 +109,6 @@ pub extern "C" fn tl_drained(alloc: Global, handle: &mut Handle) -> bool
         (result ≡ true) ↔ IsDrained x }
     ensures same { handle.new.owned.held ≡ handle.old.owned.held }
 {
-    let standings = on_held!(handle, alloc, false, |held| held.bridge.standings());
-    is_idle(standings.a)
-        && is_idle(standings.b)
-        && is_idle(standings.c)
-        && is_idle(standings.d)
-        && is_idle(standings.e)
+    let standing = on_held!(handle, alloc, false, |held| held.bridge.standings());
+    are_idle(standing.a, standing.b, standing.c, standing.d, standing.e)
 }

@@ -6,7 +6,7 @@ ghost use Rattle.tl_c.specs.Calls.{Takes};
 use crate::handle::Handle;
 use crate::widths::{CLIENT, MANAGER};
 use std::alloc::Global;
-use tl_c_beats::{BeatFields, fields_a, fields_b, fields_c, fields_d, fields_e, take_held};
+use tl_c_beats::{BeatFields, on_held, tell_a, tell_b, tell_c, tell_d, tell_e};
 
 /// The manager's side takes the first beat of A's inbox, and writes it: whether there was one. Where
 /// there was none, nothing changes.
@@ -20,7 +20,8 @@ pub extern "C" fn tl_take_a(
     ensures { Takes fields_a (λ x. x.a) after_take_a handle.old.owned.held handle.new.owned.held
         beat.old beat.new lanes.old lanes.new result }
 {
-    take_held!(handle, alloc, bridge.take_a, fields_a, beat, lanes)
+    let far = on_held!(handle, alloc, false, |held| held.bridge.take_a());
+    tell_a(far, beat, lanes)
 }
 
 /// The client's side takes the first beat of B's inbox, and writes it: whether there was one. Where
@@ -35,7 +36,8 @@ pub extern "C" fn tl_take_b(
     ensures { Takes fields_b (λ x. x.b) after_take_b handle.old.owned.held handle.new.owned.held
         beat.old beat.new lanes.old lanes.new result }
 {
-    take_held!(handle, alloc, bridge.take_b, fields_b, beat, lanes)
+    let far = on_held!(handle, alloc, false, |held| held.bridge.take_b());
+    tell_b(far, beat, lanes)
 }
 
 /// The manager's side takes the first beat of C's inbox, and writes it: whether there was one. Where
@@ -50,7 +52,8 @@ pub extern "C" fn tl_take_c(
     ensures { Takes fields_c (λ x. x.c) after_take_c handle.old.owned.held handle.new.owned.held
         beat.old beat.new lanes.old lanes.new result }
 {
-    take_held!(handle, alloc, bridge.take_c, fields_c, beat, lanes)
+    let far = on_held!(handle, alloc, false, |held| held.bridge.take_c());
+    tell_c(far, beat, lanes)
 }
 
 /// The client's side takes the first beat of D's inbox, and writes it: whether there was one. Where
@@ -65,7 +68,8 @@ pub extern "C" fn tl_take_d(
     ensures { Takes fields_d (λ x. x.d) after_take_d handle.old.owned.held handle.new.owned.held
         beat.old beat.new lanes.old lanes.new result }
 {
-    take_held!(handle, alloc, bridge.take_d, fields_d, beat, lanes)
+    let far = on_held!(handle, alloc, false, |held| held.bridge.take_d());
+    tell_d(far, beat, lanes)
 }
 
 /// The manager's side takes the first beat of E's inbox, and writes it: whether there was one. Where
@@ -80,5 +84,6 @@ pub extern "C" fn tl_take_e(
     ensures { Takes fields_e (λ x. x.e) after_take_e handle.old.owned.held handle.new.owned.held
         beat.old beat.new lanes.old lanes.new result }
 {
-    take_held!(handle, alloc, bridge.take_e, fields_e, beat, lanes)
+    let far = on_held!(handle, alloc, false, |held| held.bridge.take_e());
+    tell_e(far, beat, lanes)
 }

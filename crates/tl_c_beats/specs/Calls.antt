@@ -36,6 +36,12 @@ pub record Closes {S P : Type 0} (Holds : Option S → P → Type 0) (none : ℕ
   pub closed : (x : P) → Holds before x → answer ≡ 0 → Holds now (after x)
   pub refused : answer ≢ 0 → now ≡ before
 
+-- C was told this beat, if it is one, and else nothing was written
+pub record Told {H : Type 0} {w : ℕ} (fields_of : BeatOf H w → BeatFields) (first : Option (BeatOf H w)) (unwritten written : BeatFields)
+    (old_bytes bytes : List ℕ) (answer : Bool) : Type 0 where
+  pub beat : answer ≡ true → IsTold fields_of first written bytes
+  pub none : answer ≡ false → (first ≡ None) × (written ≡ unwritten) × (bytes ≡ old_bytes)
+
 -- C was told the first beat of an inbox, or that there is none
 pub record Tells {H : Type 0} {w : ℕ} (fields_of : BeatOf H w → BeatFields) (inbox : List (BeatOf H w)) (written : BeatFields) (bytes : List ℕ)
     (answer : Bool) : Type 0 where

@@ -31,17 +31,3 @@ macro_rules! offer_held {
         $crate::offer_number(offered)
     }};
 }
-
-/// Takes the first beat of an inbox from a part of what a handle holds, as [`on_held!`] makes a call,
-/// and writes it: whether there was one.
-#[macro_export]
-macro_rules! take_held {
-    ($handle:ident, $alloc:ident, $part:ident.$take:ident, $fields_of:ident, $beat:ident, $lanes:ident) => {{
-        let Some(far) = $crate::on_held!($handle, $alloc, false, |held| held.$part.$take()) else {
-            return false;
-        };
-        *$beat = $fields_of(&far);
-        *$lanes = far.lanes;
-        true
-    }};
-}

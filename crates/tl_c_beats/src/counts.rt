@@ -1,6 +1,6 @@
 //! How many far beats wait, as C is told.
 ghost use Rattle.std.specs.Prelude.{◌≡◌};
-ghost use Rattle.tl_c_beats.specs.Counts.{beat_counts};
+ghost use Rattle.tl_c_beats.specs.Counts.{beat_counts, is_idle, are_idle};
 
 use tl_ring::Standing;
 
@@ -60,4 +60,17 @@ fn beat_counts(standing: Standing) -> BeatCounts
         in_ring: standing.in_ring,
         inbox: standing.inbox,
     }
+}
+
+/// Whether no far beat of any channel waits, by how their beats stand.
+pub fn are_idle(a: Standing, b: Standing, c: Standing, d: Standing, e: Standing) -> bool
+    ensures { result ≡ are_idle a b c d e }
+{
+    is_idle(a) & is_idle(b) & is_idle(c) & is_idle(d) & is_idle(e)
+}
+
+fn is_idle(standing: Standing) -> bool
+    ensures { result ≡ is_idle standing }
+{
+    (standing.staged == 0) & (standing.in_ring == 0) & (standing.inbox == 0)
 }

@@ -9,15 +9,17 @@ mod fields;
 pub mod laws;
 mod masks;
 mod parts;
+mod tells;
 
 pub use answers::{
     NAME_BYTES, NO_BRIDGE, NO_SIDE, NOT_READY, OUT_OF_MEMORY, VERSION, answer_name, close_number,
     offer_number,
 };
-pub use counts::{BeatCounts, ChannelCounts, channel_counts};
+pub use counts::{BeatCounts, ChannelCounts, are_idle, channel_counts};
 pub use fields::{
     BeatFields, RESERVED, beat_a, beat_b, beat_c, beat_d, beat_e, fields_a, fields_b, fields_c,
     fields_d, fields_e,
 };
 pub use masks::{high_word, low_word, whole_mask};
 pub use parts::Parts;
+pub use tells::{tell_a, tell_b, tell_c, tell_d, tell_e};

@@ -1,2 +1,3 @@
 mod AsOwners
 mod BothWidths
+mod Taking

@@ -8,7 +8,7 @@ use crate::client_handle::ClientHandle;
 use crate::manager_handle::ManagerHandle;
 use crate::widths::{CLIENT, MANAGER};
 use std::alloc::Global;
-use tl_c_beats::{BeatFields, fields_a, fields_b, fields_c, fields_d, fields_e, take_held};
+use tl_c_beats::{BeatFields, on_held, tell_a, tell_b, tell_c, tell_d, tell_e};
 
 /// The manager's side takes the first beat of A's inbox, and writes it: whether there was one.
 /// Where there was none, nothing changes.
@@ -23,7 +23,8 @@ pub extern "C" fn tl_take_a(
         manager.old.owned.held manager.new.owned.held beat.old beat.new lanes.old lanes.new result }
     ensures kept { KeepsManager manager.old.owned.held manager.new.owned.held }
 {
-    take_held!(manager, alloc, side.take_a, fields_a, beat, lanes)
+    let far = on_held!(manager, alloc, false, |held| held.side.take_a());
+    tell_a(far, beat, lanes)
 }
 
 /// The client's side takes the first beat of B's inbox, and writes it: whether there was one.
@@ -39,7 +40,8 @@ pub extern "C" fn tl_take_b(
         client.old.owned.held client.new.owned.held beat.old beat.new lanes.old lanes.new result }
     ensures kept { KeepsClient client.old.owned.held client.new.owned.held }
 {
-    take_held!(client, alloc, side.take_b, fields_b, beat, lanes)
+    let far = on_held!(client, alloc, false, |held| held.side.take_b());
+    tell_b(far, beat, lanes)
 }
 
 /// The manager's side takes the first beat of C's inbox, and writes it: whether there was one.
@@ -55,7 +57,8 @@ pub extern "C" fn tl_take_c(
         manager.old.owned.held manager.new.owned.held beat.old beat.new lanes.old lanes.new result }
     ensures kept { KeepsManager manager.old.owned.held manager.new.owned.held }
 {
-    take_held!(manager, alloc, side.take_c, fields_c, beat, lanes)
+    let far = on_held!(manager, alloc, false, |held| held.side.take_c());
+    tell_c(far, beat, lanes)
 }
 
 /// The client's side takes the first beat of D's inbox, and writes it: whether there was one.
@@ -71,7 +74,8 @@ pub extern "C" fn tl_take_d(
         client.old.owned.held client.new.owned.held beat.old beat.new lanes.old lanes.new result }
     ensures kept { KeepsClient client.old.owned.held client.new.owned.held }
 {
-    take_held!(client, alloc, side.take_d, fields_d, beat, lanes)
+    let far = on_held!(client, alloc, false, |held| held.side.take_d());
+    tell_d(far, beat, lanes)
 }
 
 /// The manager's side takes the first beat of E's inbox, and writes it: whether there was one.
@@ -87,5 +91,6 @@ pub extern "C" fn tl_take_e(
         manager.old.owned.held manager.new.owned.held beat.old beat.new lanes.old lanes.new result }
     ensures kept { KeepsManager manager.old.owned.held manager.new.owned.held }
 {
-    take_held!(manager, alloc, side.take_e, fields_e, beat, lanes)
+    let far = on_held!(manager, alloc, false, |held| held.side.take_e());
+    tell_e(far, beat, lanes)
 }

@@ -49,10 +49,9 @@ fn offer_request<const C: usize, const M: usize>(
     beat: &Beat<ChA, C>,
     asks: &mut Progress<ChA, C>,
 ) -> Result<(), SideFault>
-    requires client { IsWidth C }
-    requires manager { IsWidth M }
-    requires few { asks.old.at < 2 ^ 40 }
-    requires few_far { asks.old.far ≤ WIDEST * asks.old.at }
+    // (one clause, since the checker states each by itself at each call)
+    requires { IsWidth C × IsWidth M × (asks.old.at < 2 ^ 40) ×
+        (asks.old.far ≤ WIDEST * asks.old.at) }
     ensures come { (a : List (BeatOf HeadA C)) →
         HasCome rules_a M a asks.old.tracker asks.old.at asks.old.far →
         slice_get a asks.old.at ≡ Some beat.now →
@@ -90,10 +89,9 @@ fn offer_response<const C: usize, const M: usize>(
     beat: &Beat<ChD, M>,
     answers: &mut Progress<ChD, M>,
 ) -> Result<(), SideFault>
-    requires client { IsWidth C }
-    requires manager { IsWidth M }
-    requires few { answers.old.at < 2 ^ 40 }
-    requires few_far { answers.old.far ≤ WIDEST * answers.old.at }
+    // (one clause, since the checker states each by itself at each call)
+    requires { IsWidth C × IsWidth M × (answers.old.at < 2 ^ 40) ×
+        (answers.old.far ≤ WIDEST * answers.old.at) }
     ensures come { (d : List (BeatOf HeadD M)) →
         HasCome rules_d C d answers.old.tracker answers.old.at answers.old.far →
         slice_get d answers.old.at ≡ Some beat.now →
@@ -133,11 +131,10 @@ fn offer_requests<const C: usize, const M: usize>(
     beats: &[Beat<ChA, C>],
     asks: &mut Progress<ChA, C>,
 ) -> Option<SideFault>
-    requires client { IsWidth C }
-    requires manager { IsWidth M }
-    requires short { length beats.now ≤ 2 ^ 40 }
-    requires few_far { asks.old.far ≤ WIDEST * asks.old.at }
-    requires come { HasCome rules_a M beats.now asks.old.tracker asks.old.at asks.old.far }
+    // (one clause, since the checker states each by itself at each call)
+    requires { IsWidth C × IsWidth M × (length beats.now ≤ 2 ^ 40) ×
+        (asks.old.far ≤ WIDEST * asks.old.at) ×
+        HasCome rules_a M beats.now asks.old.tracker asks.old.at asks.old.far }
     ensures come { HasCome rules_a M beats.now asks.new.tracker asks.new.at asks.new.far }
     ensures few_far { asks.new.far ≤ WIDEST * asks.new.at }
     ensures accepted { (d : List (BeatOf HeadD M)) (j : ℕ) →
@@ -165,12 +162,10 @@ fn offer_responses<const C: usize, const M: usize>(
     beats: &[Beat<ChD, M>],
     answers: &mut Progress<ChD, M>,
 ) -> Option<SideFault>
-    requires client { IsWidth C }
-    requires manager { IsWidth M }
-    requires short { length beats.now ≤ 2 ^ 40 }
-    requires few_far { answers.old.far ≤ WIDEST * answers.old.at }
-    requires come { HasCome rules_d C beats.now answers.old.tracker answers.old.at
-        answers.old.far }
+    // (one clause, since the checker states each by itself at each call)
+    requires { IsWidth C × IsWidth M × (length beats.now ≤ 2 ^ 40) ×
+        (answers.old.far ≤ WIDEST * answers.old.at) ×
+        HasCome rules_d C beats.now answers.old.tracker answers.old.at answers.old.far }
     ensures come { HasCome rules_d C beats.now answers.new.tracker answers.new.at
         answers.new.far }
     ensures few_far { answers.new.far ≤ WIDEST * answers.new.at }

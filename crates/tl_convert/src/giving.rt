@@ -5,7 +5,7 @@ ghost use Rattle.tl_lanes.specs.declared.limits.TheConstants.{MAX_SIZE};
 ghost use Rattle.tl_lanes.specs.Lanes.{IsWidth};
 ghost use Rattle.tl_msg.specs.declared.beat.BeatOf.{BeatOf};
 ghost use Rattle.tl_burst.specs.Messages.{layout};
-ghost use Rattle.tl_convert.specs.Inner.Giving.{Run, Given, GivenData, of_head};
+ghost use Rattle.tl_convert.specs.Inner.Giving.{Run, Given, GivenData, CanGive, of_head};
 
 use crate::pouring::{blank, pour};
 use arrayvec::ArrayVec;
@@ -20,12 +20,9 @@ fn give_data<K: Channel, const W: usize, const V: usize>(
     index: u32,
     out: &mut ArrayVec<Beat<K, V>, WIDEST>,
 )
-    requires near { IsWidth W }
-    requires far { IsWidth V }
-    requires small { K.rules.size beat.now.head ≤ MAX_SIZE }
-    requires data { K.rules.carries beat.now.head ≡ true }
-    requires empty { out.old.items ≡ [] }
-    ensures { (bs : List (BeatOf K.Head W)) → Run K.rules index home beat.now partial.old bs →
+    requires { CanGive K.rules beat.now out.old.items }
+    ensures { K.rules.carries beat.now.head ≡ true → (bs : List (BeatOf K.Head W)) →
+        Run K.rules index home beat.now partial.old bs →
         GivenData K.rules home beat.now partial.new bs out.new.items }
 {
     if index == 0 {
@@ -41,11 +38,8 @@ fn give_head<K: Channel, const V: usize>(
     home: u64,
     out: &mut ArrayVec<Beat<K, V>, WIDEST>,
 )
-    requires far { IsWidth V }
-    requires small { K.rules.size head ≤ MAX_SIZE }
-    requires no_data { K.rules.carries head ≡ false }
-    requires empty { out.old.items ≡ [] }
-    ensures { out.new.items ≡ layout K.rules (of_head head home) V }
+    requires { IsWidth V × (K.rules.size head ≤ MAX_SIZE) × (out.old.items ≡ []) }
+    ensures { K.rules.carries head ≡ false → out.new.items ≡ layout K.rules (of_head head home) V }
 {
     let mut beat = blank::<K, V>(head);
     if K::MASKED {
@@ -62,10 +56,7 @@ pub(crate) fn give<K: Channel, const W: usize, const V: usize>(
     index: u32,
     out: &mut ArrayVec<Beat<K, V>, WIDEST>,
 )
-    requires near { IsWidth W }
-    requires far { IsWidth V }
-    requires small { K.rules.size beat.now.head ≤ MAX_SIZE }
-    requires empty { out.old.items ≡ [] }
+    requires { CanGive K.rules beat.now out.old.items }
     ensures { (bs : List (BeatOf K.Head W)) → Run K.rules index home beat.now partial.old bs →
         Given K.rules home beat.now partial.new bs out.new.items }
 {

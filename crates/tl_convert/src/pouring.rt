@@ -1,11 +1,10 @@
 //! How the bytes of a near beat with data get into far beats.
 
-ghost use Rattle.std.specs.Prelude.{◌≡◌, ◌≤◌, ◌<◌, ◌+◌, ◌%◌, ◌^◌, []};
-ghost use Rattle.tl_lanes.specs.declared.limits.TheConstants.{MAX_SIZE};
+ghost use Rattle.std.specs.Prelude.{◌≤◌, ◌<◌, ◌+◌, []};
 ghost use Rattle.tl_lanes.specs.Lanes.{IsWidth};
 ghost use Rattle.tl_msg.specs.declared.beat.BeatOf.{BeatOf};
 ghost use Rattle.tl_burst.specs.Messages.{Message, per_beat};
-ghost use Rattle.tl_convert.specs.Inner.Pouring.{Poured, Source, Pours, IsBlank};
+ghost use Rattle.tl_convert.specs.Inner.Pouring.{Poured, Source, Pours, IsBlank, CanPour};
 
 use arrayvec::ArrayVec;
 use tl_lanes::{WIDEST, beat_bytes, move_lanes, move_mask};
@@ -18,10 +17,7 @@ pub(crate) fn add_bytes<K: Channel, const W: usize, const V: usize>(
     at: u64,
     count: usize,
 )
-    requires near { IsWidth W }
-    requires far { IsWidth V }
-    requires near_room { count ≤ W }
-    requires far_room { count ≤ V }
+    requires { IsWidth W × IsWidth V × (count ≤ W) × (count ≤ V) }
     ensures { Poured K.rules.masked beat.now far.old far.new at count }
 {
     move_lanes::<W, V>(&beat.lanes, &mut far.lanes, at, count);
@@ -54,13 +50,8 @@ fn pour_whole<K: Channel, const W: usize, const V: usize>(
     first: usize,
     out: &mut ArrayVec<Beat<K, V>, WIDEST>,
 )
-    requires near { IsWidth W }
-    requires far { IsWidth V }
-    requires small { K.rules.size beat.now.head ≤ MAX_SIZE }
-    requires fits { per_beat K.rules beat.now.head V ≤ per_beat K.rules beat.now.head W }
-    requires whole { first % per_beat K.rules beat.now.head W ≡ 0 }
-    requires room { first < 2 ^ 40 }
-    requires empty { out.old.items ≡ [] }
+    requires { CanPour K.rules beat.now first out.old.items ×
+        (per_beat K.rules beat.now.head V ≤ per_beat K.rules beat.now.head W) }
     ensures { (m : Message K.Head) → Source K.rules m home first beat.now →
         Pours K.rules m V first first partial.now [] →
         Pours K.rules m V first (first + per_beat K.rules m.head W) partial.now out.new.items }
@@ -85,13 +76,8 @@ fn pour_part<K: Channel, const W: usize, const V: usize>(
     first: usize,
     out: &mut ArrayVec<Beat<K, V>, WIDEST>,
 )
-    requires near { IsWidth W }
-    requires far { IsWidth V }
-    requires small { K.rules.size beat.now.head ≤ MAX_SIZE }
-    requires fits { per_beat K.rules beat.now.head W < per_beat K.rules beat.now.head V }
-    requires whole { first % per_beat K.rules beat.now.head W ≡ 0 }
-    requires room { first < 2 ^ 40 }
-    requires empty { out.old.items ≡ [] }
+    requires { CanPour K.rules beat.now first out.old.items ×
+        (per_beat K.rules beat.now.head W < per_beat K.rules beat.now.head V) }
     ensures { (m : Message K.Head) → Source K.rules m home first beat.now →
         Pours K.rules m V first first partial.old [] →
         Pours K.rules m V first (first + per_beat K.rules m.head W) partial.new out.new.items }
@@ -119,12 +105,7 @@ pub(crate) fn pour<K: Channel, const W: usize, const V: usize>(
     first: usize,
     out: &mut ArrayVec<Beat<K, V>, WIDEST>,
 )
-    requires near { IsWidth W }
-    requires far { IsWidth V }
-    requires small { K.rules.size beat.now.head ≤ MAX_SIZE }
-    requires whole { first % per_beat K.rules beat.now.head W ≡ 0 }
-    requires room { first < 2 ^ 40 }
-    requires empty { out.old.items ≡ [] }
+    requires { CanPour K.rules beat.now first out.old.items }
     ensures { (m : Message K.Head) → Source K.rules m home first beat.now →
         Pours K.rules m V first first partial.old [] →
         Pours K.rules m V first (first + per_beat K.rules m.head W) partial.new out.new.items }

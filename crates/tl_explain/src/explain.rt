@@ -1,8 +1,11 @@
 //! From a text to what came of each of its lines.
-ghost use Rattle.std.specs.Prelude.{◌≤◌, length, Some, IfOk, IfErr};
+ghost use Rattle.std.specs.Prelude.{◌≡◌, ◌≤◌, ◌++◌, length, Some, IfOk, IfErr};
+ghost use Rattle.std.specs.List.{list_all};
 ghost use Rattle.tl_lanes.specs.Lanes.{IsWidth};
 ghost use Rattle.tl_trace.specs.Faults.{HasHeader};
+ghost use Rattle.tl_answer.specs.Answer.{far_header, report, is_done};
 ghost use Rattle.tl_answer.specs.Texts.{IsOfText, most_bytes};
+ghost use Rattle.tl_answer.specs.declared.fault.TextFault.TheVariants.{OutOfMemory as NoMemory};
 ghost use Rattle.tl_explain.specs.Explained.{IsExplanation};
 
 use crate::channel::{put_near, requests_of};
@@ -144,7 +147,7 @@ fn sentences_of<const C: usize, const M: usize>(
     script: &Script<C, M>,
     outcome: &Outcome<C, M>,
     style: &Style,
-) -> Result<String, AllocError>
+) -> Result<Vec<u8>, AllocError>
     requires client { IsWidth C }
     requires manager { IsWidth M }
 {
@@ -162,7 +165,31 @@ fn sentences_of<const C: usize, const M: usize>(
         style,
     );
     put_cuts(&mut out, &walks, &outcome.verdicts);
-    out.into_text()
+    Ok(out.into_text()?.into_bytes())
+}
+
+/// The explanation that has these sentences, of a text whose channels end with these verdicts, from A
+/// to E: behind the sentences stands the answer of a check.
+fn with_answer(
+    alloc: Global,
+    sentences: Vec<u8>,
+    verdicts: &[Verdict; 5],
+    version: u8,
+    client: usize,
+    manager: usize,
+) -> Result<Explanation, TextFault>
+    ensures text { IfOk result (λ made. made.text.items
+        ≡ sentences.items ++ (far_header version client manager ++ report verdicts.now)) }
+    ensures done { IfOk result (λ made. made.all_done ≡ list_all is_done verdicts.now) }
+    ensures err { IfErr result (λ fault. fault ≡ NoMemory) }
+{
+    let answer = check_of(alloc, verdicts, version, client, manager)?;
+    let mut text = sentences;
+    text.extend_from_slice(&answer.text)?;
+    Ok(Explanation {
+        text,
+        all_done: answer.all_done,
+    })
 }
 
 /// The explanation of a text whose header names this version and these widths.
@@ -186,13 +213,7 @@ fn with_widths<const C: usize, const M: usize>(
         version,
     };
     let sentences = sentences_of(alloc, text, &script, &outcome, &style)?;
-    let answer = check_of(alloc, &outcome.verdicts, version, C, M)?;
-    let mut text = sentences.into_bytes();
-    text.extend_from_slice(&answer.text)?;
-    Ok(Explanation {
-        text,
-        all_done: answer.all_done,
-    })
+    with_answer(alloc, sentences, &outcome.verdicts, version, C, M)
 }
 
 /// The same, for a client of `C` bytes: the manager's width is one of eight.

@@ -159,9 +159,13 @@ impl<const C: usize, const M: usize, A: Allocator> ClientSide<C, M, A> {
         ensures taken { (x : ClientPast C M) → ClientStandsFor self.old x →
             ClientStandsFor self.new (client_takes_d (take 1 self.old.d.inbox) x) }
     {
-        let beat = self.d.take()?;
-        self.book.note_answer(&beat.head);
-        Some(beat)
+        match self.d.take() {
+            Some(beat) => {
+                self.book.note_answer(&beat.head);
+                Some(beat)
+            }
+            None => None,
+        }
     }
 
     /// Ends the offers of A. Refused exactly where a burst is unfinished, and nothing changes then.

@@ -121,9 +121,13 @@ impl<const C: usize, const M: usize, A: Allocator> ManagerSide<C, M, A> {
         ensures taken { (x : ManagerPast C M) → ManagerStandsFor self.old x →
             ManagerStandsFor self.new (manager_takes_a (take 1 self.old.a.inbox) x) }
     {
-        let beat = self.a.take()?;
-        self.book.note_ask(&beat.head);
-        Some(beat)
+        match self.a.take() {
+            Some(beat) => {
+                self.book.note_ask(&beat.head);
+                Some(beat)
+            }
+            None => None,
+        }
     }
 
     /// Takes the first beat of C's inbox, which is lawful at `M` bytes. None exactly where it is

@@ -3,6 +3,7 @@ ghost use Rattle.std.specs.Prelude.{◌≡◌, ◌≤◌, ◌<◌, ◌↔◌, �
 ghost use Rattle.tl_lanes.specs.Lanes.{IsWidth};
 ghost use Rattle.tl_ring.specs.declared.pipe.TheConstants.{MAX_RING};
 ghost use Rattle.tl_ring.specs.Ends.{Met, IsNewRing};
+ghost use Rattle.tl_sides.specs.Books.{KnowsClient, KnowsManager};
 ghost use Rattle.tl_pair.specs.Ends.{AreStanding};
 ghost use Rattle.tl_pair.specs.Sides.{ClientPast, ManagerPast, ClientStandsFor, ManagerStandsFor, AreSides, IsNewClient, IsNewManager, SidesMeet, new_client, new_manager};
 
@@ -14,7 +15,7 @@ use crate::sender::{
 use std::alloc::Allocator;
 use tl_msg::{ChA, ChB, ChC, ChD, ChE};
 use tl_ring::{BuildFault, SendEnd, SendHalf, TakeEnd, TakeHalf, new_ring};
-use tl_sides::{Standings, new_books};
+use tl_sides::{ClientBook, ManagerBook, Standings};
 
 // What a call has made. Where it has made nothing, its fault is the caller's. A `?` would make one
 // more type for each pair of widths.
@@ -27,9 +28,40 @@ macro_rules! made {
     };
 }
 
-// The halves of the rings of A, C and E, or why there are none. A type that both widths decide is
-// dear to check.
-fn rings_to_manager<const M: usize, A: Allocator + Copy>(
+// What stands on the client's bus: both halves of the rings of B and D, whose beats have its width,
+// and the book of its side. A type that both widths decide is dear to check.
+fn client_parts<const C: usize, A: Allocator + Copy>(
+    alloc: A,
+    ring: usize,
+) -> Result<
+    (
+        SendHalf<ChB, C, A>,
+        TakeHalf<ChB, C, A>,
+        SendHalf<ChD, C, A>,
+        TakeHalf<ChD, C, A>,
+        ClientBook<C, A>,
+    ),
+    BuildFault,
+>
+    requires { IsWidth C }
+    ensures rings { IfOk result (λ parts. IsNewRing ring parts.0 parts.1 ×
+        IsNewRing ring parts.2 parts.3) }
+    ensures book { IfOk result (λ parts. KnowsClient {w = C} parts.4 []) }
+    ensures size { IsOk result → (1 ≤ ring) × (ring ≤ MAX_RING) }
+    ensures ring_size { IfErr result (λ fault.
+        (fault ≡ BuildFault.RingSize) ↔ ((ring ≡ 0) ⊎ (MAX_RING < ring))) }
+{
+    let (b, b_take) = made!(new_ring::<ChB, C, A>(alloc, ring));
+    let (d, d_take) = made!(new_ring::<ChD, C, A>(alloc, ring));
+    let Ok(book) = ClientBook::new(alloc) else {
+        return Err(BuildFault::OutOfMemory);
+    };
+    Ok((b, b_take, d, d_take, book))
+}
+
+// What stands on the manager's bus: both halves of the rings of A, C and E, and the book of its
+// side.
+fn manager_parts<const M: usize, A: Allocator + Copy>(
     alloc: A,
     ring: usize,
 ) -> Result<
@@ -40,12 +72,14 @@ fn rings_to_manager<const M: usize, A: Allocator + Copy>(
         TakeHalf<ChC, M, A>,
         SendHalf<ChE, M, A>,
         TakeHalf<ChE, M, A>,
+        ManagerBook<M, A>,
     ),
     BuildFault,
 >
     requires { IsWidth M }
-    ensures new { IfOk result (λ halves. IsNewRing ring halves.0 halves.1 ×
-        IsNewRing ring halves.2 halves.3 × IsNewRing ring halves.4 halves.5) }
+    ensures rings { IfOk result (λ parts. IsNewRing ring parts.0 parts.1 ×
+        IsNewRing ring parts.2 parts.3 × IsNewRing ring parts.4 parts.5) }
+    ensures book { IfOk result (λ parts. KnowsManager {w = M} parts.6 []) }
     ensures size { IsOk result → (1 ≤ ring) × (ring ≤ MAX_RING) }
     ensures ring_size { IfErr result (λ fault.
         (fault ≡ BuildFault.RingSize) ↔ ((ring ≡ 0) ⊎ (MAX_RING < ring))) }
@@ -53,32 +87,10 @@ fn rings_to_manager<const M: usize, A: Allocator + Copy>(
     let (a, a_take) = made!(new_ring::<ChA, M, A>(alloc, ring));
     let (c, c_take) = made!(new_ring::<ChC, M, A>(alloc, ring));
     let (e, e_take) = made!(new_ring::<ChE, M, A>(alloc, ring));
-    Ok((a, a_take, c, c_take, e, e_take))
-}
-
-// The halves of the rings of B and D, or why there are none.
-fn rings_to_client<const C: usize, A: Allocator + Copy>(
-    alloc: A,
-    ring: usize,
-) -> Result<
-    (
-        SendHalf<ChB, C, A>,
-        TakeHalf<ChB, C, A>,
-        SendHalf<ChD, C, A>,
-        TakeHalf<ChD, C, A>,
-    ),
-    BuildFault,
->
-    requires { IsWidth C }
-    ensures new { IfOk result (λ halves. IsNewRing ring halves.0 halves.1 ×
-        IsNewRing ring halves.2 halves.3) }
-    ensures size { IsOk result → (1 ≤ ring) × (ring ≤ MAX_RING) }
-    ensures ring_size { IfErr result (λ fault.
-        (fault ≡ BuildFault.RingSize) ↔ ((ring ≡ 0) ⊎ (MAX_RING < ring))) }
-{
-    let (b, b_take) = made!(new_ring::<ChB, C, A>(alloc, ring));
-    let (d, d_take) = made!(new_ring::<ChD, C, A>(alloc, ring));
-    Ok((b, b_take, d, d_take))
+    let Ok(book) = ManagerBook::new(alloc) else {
+        return Err(BuildFault::OutOfMemory);
+    };
+    Ok((a, a_take, c, c_take, e, e_take, book))
 }
 
 /// The two sides of a new bridge, for two threads, over five rings of `ring` beats each, and with
@@ -101,11 +113,8 @@ pub fn bridge<const C: usize, const M: usize, A: Allocator + Copy>(
     ensures ring_size { IfErr result (λ fault.
         (fault ≡ BuildFault.RingSize) ↔ ((ring ≡ 0) ⊎ (MAX_RING < ring))) }
 {
-    let (a, a_take, c, c_take, e, e_take) = made!(rings_to_manager(alloc, ring));
-    let (b, b_take, d, d_take) = made!(rings_to_client(alloc, ring));
-    let Ok((client_book, manager_book)) = new_books(alloc) else {
-        return Err(BuildFault::OutOfMemory);
-    };
+    let (b, b_take, d, d_take, client_book) = made!(client_parts(alloc, ring));
+    let (a, a_take, c, c_take, e, e_take, manager_book) = made!(manager_parts(alloc, ring));
     let client = ClientSide {
         a: Sender {
             end: SendEnd::over(a),

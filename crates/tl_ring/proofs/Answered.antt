@@ -1,6 +1,6 @@
 -- What an answer shows, and what holds of no item.
 use Rattle.std.specs.Prelude.{◌≡◌, ◌≤◌, ◌<◌, ◌∷◌, Option, None, Some, IfSome, List, [], All, length, drop, slice_get}
-use Rattle.std.proofs.Common.{get_or, subst, refl, ap, arith}
+use Rattle.std.proofs.Common.{◌⊎◌, ◌||◌, Bool, true, false, inl, inr, get_or, subst, refl, ap, arith}
 
 -- what holds of each item of a list holds of the first one, if there is one
 pub first_of_all : {A : Type 0} (P : A → Type 0) (xs : List A) (first : Option A) → first ≡ slice_get xs 0 → All P xs → IfSome first P
@@ -28,3 +28,8 @@ pub only_item : {A : Type 0} (xs : List A) (x : A) → 1 ≤ length xs → lengt
 only_item [] x some one e = absurd (omega arith)
 only_item (y ∷ []) x some one e = ap (λ z. z ∷ []) e
 only_item (y ∷ (z ∷ zs)) x some one e = absurd (omega arith)
+
+-- where one of two answers is to be yes, the first is, or the second
+pub one_of_two : (a b : Bool) → (a || b) ≡ true → (a ≡ true) ⊎ (b ≡ true)
+one_of_two true b one = inl refl
+one_of_two false b one = inr one

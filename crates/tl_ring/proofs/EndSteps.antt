@@ -158,6 +158,51 @@ least_moved known moved left k room (more, e) count none = ⊎_elim
     (λ full. omega (arith, full))
     (cases_lt k room)
 
+-- a beginning of a beginning is one
+prefix_twice : {X : Type 0} (xs ys zs : List X) → IsPrefix xs ys → IsPrefix ys zs → IsPrefix xs zs
+prefix_twice xs ys zs (more, one) (rest, two) = (more ++ rest, sym (append_assoc xs more rest) ∙ ap (λ l. l ++ rest) one ∙ two)
+
+module _ {X A P : Type 0} where
+  -- ends that look at their ring stay a pair
+  pub still_pair_after : (p p' : Producer X A P) (c c' : Consumer X A P) → rtrb.IsPair p c → rtrb.ProducerLooked p p' → rtrb.ConsumerLooked c c' → rtrb.IsPair p' c'
+  still_pair_after p p' c c' pair sees seen = (
+    seen.0.0.0 ∙ pair.0 ∙ sym sees.0.0.0,
+    seen.0.0.1 ∙ pair.1 ∙ sym sees.0.0.1,
+    seen.0.0.2 ∙ pair.2 ∙ sym sees.0.0.2,
+    seen.0.0.3 ∙ pair.3 ∙ sym sees.0.0.3,
+  )
+
+  -- two looks of an end are one
+  pub producer_twice : (a b c : Producer X A P) → rtrb.ProducerLooked a b → rtrb.ProducerLooked b c → rtrb.ProducerLooked a c
+  producer_twice a b c one two = (
+    ((two.0.0.0 ∙ one.0.0.0, two.0.0.1 ∙ one.0.0.1, two.0.0.2 ∙ one.0.0.2, two.0.0.3 ∙ one.0.0.3), two.0.1 ∙ one.0.1),
+    two.1 ∙ one.1,
+    (let before : rtrb.known_free a ≤ rtrb.known_free b = one.2 in
+        let after : rtrb.known_free b ≤ rtrb.known_free c = two.2 in
+        omega (arith, before, after)),
+  )
+
+  pub consumer_twice : (a b c : Consumer X A P) → rtrb.ConsumerLooked a b → rtrb.ConsumerLooked b c → rtrb.ConsumerLooked a c
+  consumer_twice a b c one two = (
+    ((two.0.0.0 ∙ one.0.0.0, two.0.0.1 ∙ one.0.0.1, two.0.0.2 ∙ one.0.0.2, two.0.0.3 ∙ one.0.0.3), two.0.1 ∙ one.0.1),
+    two.1 ∙ one.1,
+    prefix_twice (rtrb.known_items a) (rtrb.known_items b) (rtrb.known_items c) one.2 two.2,
+  )
+
+  -- after the sending end, and then the taking end, has looked, the ring holds no more items than it has places, and all others are known to be free
+  pub all_places : (p p1 p2 : Producer X A P) (c1 c2 : Consumer X A P) (free count : ℕ) → rtrb.ProducerLooked p p1 → free ≡ rtrb.known_free p1 →
+      free + length (rtrb.sent p1) ≡ rtrb.producer_capacity p1 + length (rtrb.received c1) → rtrb.ConsumerLooked c1 c2 → rtrb.ProducerLooked p1 p2 →
+      count ≡ length (rtrb.known_items c2) → rtrb.received c2 ++ rtrb.known_items c2 ≡ rtrb.sent p2 →
+      (count ≤ rtrb.producer_capacity p) × (rtrb.producer_capacity p ≤ rtrb.known_free p2 + count)
+  all_places p p1 p2 c1 c2 free count sees1 value all_free seen2 sees2 counts fifo =
+      let size : length (rtrb.received c2) + length (rtrb.known_items c2) ≡ length (rtrb.sent p2) =
+      sym (length-append (rtrb.received c2) (rtrb.known_items c2)) ∙ ap length fifo in
+      let sent_size : length (rtrb.sent p2) ≡ length (rtrb.sent p1) = ap length sees2.1 in
+      let received_size : length (rtrb.received c2) ≡ length (rtrb.received c1) = ap length seen2.1 in
+      let capacity : p1.capacity ≡ p.capacity = sees1.0.1 in
+      let more : rtrb.known_free p1 ≤ rtrb.known_free p2 = sees2.2 in
+      (omega (arith, size, sent_size, received_size, capacity, all_free, counts), omega (arith, size, sent_size, received_size, capacity, all_free, value, more, counts))
+
 module _ {K A H : Type 0} {v : ℕ} where
   -- the same end of the same ring is of the same receipt
   still_of : (e : Ended K A H v) (t t' : Taking K A H v) → SameTake t t' → IsReceiptOf e t → IsReceiptOf e t'
@@ -168,50 +213,27 @@ module _ {K A H : Type 0} {v : ℕ} where
   of_both e e' t u of of' here =
       (here.0 ∙ sym of'.0 ∙ of.0, here.1 ∙ sym of'.1 ∙ of.1, here.2 ∙ sym of'.2 ∙ of.2, here.3 ∙ sym of'.3 ∙ of.3)
 
-  -- ends that look at their ring stay a pair
-  pub still_pair_after : (p p' : Producer (BeatOf H v) A (LawfulAt K v H)) (c c' : Consumer (BeatOf H v) A (LawfulAt K v H)) → rtrb.IsPair p c →
-      rtrb.ProducerLooked p p' → rtrb.ConsumerLooked c c' → rtrb.IsPair p' c'
-  still_pair_after p p' c c' pair sees seen = (
-    seen.0.0.0 ∙ pair.0 ∙ sym sees.0.0.0,
-    seen.0.0.1 ∙ pair.1 ∙ sym sees.0.0.1,
-    seen.0.0.2 ∙ pair.2 ∙ sym sees.0.0.2,
-    seen.0.0.3 ∙ pair.3 ∙ sym sees.0.0.3,
-  )
-
-  -- both ends have looked at the ring: first the one that sends, and then the one that takes
-  pub met_of : (s : Sending K A H v) (t : Taking K A H v) (p1 p2 : Producer (BeatOf H v) A (LawfulAt K v H)) (c1 c2 : Consumer (BeatOf H v) A (LawfulAt K v H)) (free : ℕ) →
-      ArePair s t → rtrb.ProducerLooked s.producer p1 → rtrb.ConsumerLooked t.consumer c1 → free ≡ rtrb.known_free p1 →
-      free + length (rtrb.sent p1) ≡ rtrb.producer_capacity p1 + length (rtrb.received c1) → rtrb.ConsumerLooked c1 c2 → rtrb.ProducerLooked p1 p2 →
-      rtrb.received c2 ++ rtrb.known_items c2 ≡ rtrb.sent p2 → Met s t (record s { producer = p2 }) (record t { consumer = c2 })
-  met_of s t p1 p2 c1 c2 free pair sees1 seen1 value all_free seen2 sees2 fifo =
-      let size : length (rtrb.received c2) + length (rtrb.known_items c2) ≡ length (rtrb.sent p2) =
-      sym (length-append (rtrb.received c2) (rtrb.known_items c2)) ∙ ap length fifo in
-      let sent_size : length (rtrb.sent p2) ≡ length (rtrb.sent p1) = ap length sees2.1 in
-      let received_size : length (rtrb.received c2) ≡ length (rtrb.received c1) = ap length seen2.1 in
-      let capacity : p1.capacity ≡ s.producer.capacity = sees1.0.1 in
-      let more : rtrb.known_free p1 ≤ rtrb.known_free p2 = sees2.2 in
-      let more_before : rtrb.known_free s.producer ≤ rtrb.known_free p1 = sees1.2 in
-      record {
-        pair = still_pair_after p1 p2 c1 c2 (still_pair_after s.producer p1 t.consumer c1 pair sees1 seen1) sees2 seen2;
-        send = (
-          (sees2.0.0.0 ∙ sees1.0.0.0, sees2.0.0.1 ∙ sees1.0.0.1, sees2.0.0.2 ∙ sees1.0.0.2, sees2.0.0.3 ∙ sees1.0.0.3),
-          sees2.0.1 ∙ sees1.0.1,
-        );
-        take = (
-          (seen2.0.0.0 ∙ seen1.0.0.0, seen2.0.0.1 ∙ seen1.0.0.1, seen2.0.0.2 ∙ seen1.0.0.2, seen2.0.0.3 ∙ seen1.0.0.3),
-          seen2.0.1 ∙ seen1.0.1,
-        );
-        same_converter = refl;
-        same_stage = refl;
-        same_closed = refl;
-        same_sent = sees2.1 ∙ sees1.1;
-        same_inbox = refl;
-        same_received = seen2.1 ∙ seen1.1;
-        ring = fifo;
-        in_room = omega (arith, size, sent_size, received_size, capacity, all_free);
-        free = omega (arith, more, more_before);
-        all_free = omega (arith, size, sent_size, received_size, capacity, all_free, value, more);
-      }
+  -- both ends have looked at the ring
+  pub met_of : (s : Sending K A H v) (t : Taking K A H v) (p : Producer (BeatOf H v) A (LawfulAt K v H)) (c : Consumer (BeatOf H v) A (LawfulAt K v H)) (count : ℕ) →
+      ArePair s t → rtrb.ProducerLooked s.producer p → rtrb.ConsumerLooked t.consumer c → count ≡ length (rtrb.known_items c) →
+      rtrb.received c ++ rtrb.known_items c ≡ rtrb.sent p →
+      (count ≤ rtrb.producer_capacity s.producer) × (rtrb.producer_capacity s.producer ≤ rtrb.known_free p + count) →
+      Met s t (record s { producer = p }) (record t { consumer = c })
+  met_of s t p c count pair sees seen counts fifo places = record {
+    pair = still_pair_after s.producer p t.consumer c pair sees seen;
+    send = sees.0;
+    take = seen.0;
+    same_converter = refl;
+    same_stage = refl;
+    same_closed = refl;
+    same_sent = sees.1;
+    same_inbox = refl;
+    same_received = seen.1;
+    ring = fifo;
+    in_room = omega (arith, places.0, counts);
+    free = sees.2;
+    all_free = omega (arith, places.1, counts);
+  }
 
   -- beats came out of the ring into the inbox
   pub fetched_of : (t : Taking K A H v) (c : Consumer (BeatOf H v) A (LawfulAt K v H)) (inbox moved : List (BeatOf H v)) (k : ℕ) → rtrb.SameConsumer t.consumer c →

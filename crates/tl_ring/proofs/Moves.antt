@@ -1,7 +1,7 @@
 -- A cut that goes from the front of one list to the end of the list before it leaves both together as they were.
-use Rattle.std.proofs.Common.{◌≡◌, ◌≤◌, ◌<◌, ◌+◌, ◌-◌, ◌↔◌, ◌⊎◌, ◌==◌, ℕ, Bool, true, false, List, [], ◌++◌, take, drop, length, min, inl, inr, ap, sym, ◌∙◌, arith, ⊎_elim, append_assoc, append-nil}
+use Rattle.std.proofs.Common.{◌≡◌, ◌≤◌, ◌<◌, ◌+◌, ◌-◌, ◌↔◌, ◌⊎◌, ◌==◌, ◌&&◌, ℕ, Bool, true, false, List, [], ◌++◌, take, drop, length, min, inl, inr, refl, ap, sym, ◌∙◌, arith, ⊎_elim, append_assoc, append-nil}
 use Rattle.std.proofs.lemmas.List.{nil_from_length, take-append-drop, take-append-le}
-use Rattle.std.proofs.lemmas.Bool.{cases_lt}
+use Rattle.std.proofs.lemmas.Bool.{cases_lt, and_parts}
 use Rattle.std.proofs.lemmas.Bool.Decides.{eqb_tells}
 use Rattle.std.proofs.Math.Seq.{take-append-add, take-length}
 use Rattle.tl_ring.specs.declared.pipe.TheConstants.{MAX_RING}
@@ -59,18 +59,12 @@ none_in_three xs ys zs n e = ⊎_elim
     ))
     (eqb_tells n 0)
 
--- the same of two lists, where the first of them is seen to be empty, or not
-pub none_in_both : {X : Type 0} (xs ys : List X) (m n : ℕ) → m ≡ length xs → n ≡ length ys → n ≡ 0 → ((m == 0) ≡ true) ↔ ((xs ≡ []) × (ys ≡ []))
-none_in_both xs ys m n count counts none = ⊎_elim
-    (λ (t, z). (λ _. (nil_from_length xs (omega arith), nil_from_length ys (omega arith)), λ _. t))
-    (λ (t, some). (λ u. absurd (cc), λ (x, y). let a : length xs ≡ 0 = ap length x in absurd (some (omega arith))))
-    (eqb_tells m 0)
-
-pub some_in_both : {X : Type 0} (xs ys : List X) (n : ℕ) → n ≡ length ys → (n ≡ 0 → ⊥) → ((n == 0) ≡ true) ↔ ((xs ≡ []) × (ys ≡ []))
-some_in_both xs ys n counts some = ⊎_elim
-    (λ (t, z). absurd (some z))
-    (λ (t, _). (λ u. absurd (cc), λ (x, y). let a : length ys ≡ 0 = ap length y in absurd (some (omega arith))))
-    (eqb_tells n 0)
+-- the same of two lists, each of which is counted by itself
+pub none_in_two : {X : Type 0} (xs ys : List X) (m n : ℕ) → m ≡ length xs → n ≡ length ys → (((n == 0) && (m == 0)) ≡ true) ↔ ((xs ≡ []) × (ys ≡ []))
+none_in_two xs ys m n count counts =
+    let one = none_in_one xs m count in
+    let other = none_in_one ys n counts in
+    (λ both. let each = and_parts (n == 0) (m == 0) both in (one.0 each.1, other.0 each.0), λ (x, y). rw (one.1 x, other.1 y) refl)
 
 -- a size that is refused is none, or more than a ring may hold
 pub no_ring_size : (ring : ℕ) (answer : Bool) → (answer ≡ true) ↔ ((1 ≤ ring) × (ring ≤ MAX_RING)) → answer ≡ false → (ring ≡ 0) ⊎ (MAX_RING < ring)

@@ -345,6 +345,6 @@ impl<K: Channel, const W: usize, const V: usize, A: Allocator> TakeEnd<K, W, V, 
         let in_ring = self.consumer.slots_after(&mut receipt.finished);
         let waiting = self.inbox.len();
         let ring_is_empty = in_ring == 0;
-        ring_is_empty && waiting == 0
+        ring_is_empty & (waiting == 0)
     }
 }

@@ -1,11 +1,11 @@
 ghost use Rattle.std.specs.Prelude.{◌≡◌};
 ghost use Rattle.tl_ring.specs.Names.{build_fault_number, build_fault_name, end_fault_number, end_fault_name};
 
+use std::fmt;
 use thiserror::Error;
 
 /// Why no ring was made. `RingSize` is tested first.
 #[derive(Clone, Copy, PartialEq, Eq, Debug, Error)]
-#[error("{} {}", self.number(), self.name())]
 pub enum BuildFault {
     /// 12: the ring is to hold no beat, or more than 4,096 (this project's choice).
     RingSize,
@@ -35,9 +35,15 @@ impl BuildFault {
     }
 }
 
+// The number and the name, as in `12 RingSize`.
+impl fmt::Display for BuildFault {
+    fn fmt<W: fmt::Write>(&self, f: &mut fmt::Formatter<W>) -> fmt::Result {
+        write!(f, "{} {}", self.number(), self.name())
+    }
+}
+
 /// Why a sending end is not closed.
 #[derive(Clone, Copy, PartialEq, Eq, Debug, Error)]
-#[error("{} {}", self.number(), self.name())]
 pub enum EndFault {
     /// 11: a burst is unfinished, and a close would cut it (this project's choice; that no burst is
     /// left unfinished is TileLink's: burst rules).
@@ -61,5 +67,12 @@ impl EndFault {
         match self {
             EndFault::MidBurst => "MidBurst",
         }
+    }
+}
+
+// The number and the name, as in `11 MidBurst`.
+impl fmt::Display for EndFault {
+    fn fmt<W: fmt::Write>(&self, f: &mut fmt::Formatter<W>) -> fmt::Result {
+        write!(f, "{} {}", self.number(), self.name())
     }
 }

@@ -1,5 +1,6 @@
 //! Both ends of a crossing: how they are made, and where they meet.
-ghost use Rattle.std.specs.Prelude.{◌≡◌, ◌≤◌, ◌<◌, ◌↔◌, ◌⊎◌, [], List, length, IsOk, IfOk, IfErr};
+ghost use Rattle.std.specs.Prelude.{◌≡◌, ◌≤◌, ◌<◌, ◌+◌, ◌↔◌, ◌⊎◌, ◌++◌, [], List, length, IsOk, IfOk, IfErr};
+ghost use Rattle.rtrb.specs.Ring as rtrb;
 ghost use Rattle.tl_lanes.specs.Lanes.{IsWidth};
 ghost use Rattle.tl_msg.specs.declared.beat.BeatOf.{BeatOf};
 ghost use Rattle.tl_ring.specs.Crossing.{World, empty};
@@ -9,18 +10,38 @@ ghost use Rattle.tl_ring.specs.declared.pipe.TheConstants.{MAX_RING};
 
 use crate::ends::{ClosingEnd, SendEnd, TakeEnd};
 use crate::fault::BuildFault;
-use crate::queue::ROOM;
+use crate::queue::{Queue, ROOM};
 use crate::ring::new_ring;
 use crate::standing::Standing;
+use rtrb::{Consumer, Producer, Protocol};
 use std::alloc::Allocator;
+use tl_convert::Converter;
 use tl_msg::Channel;
 
-// Looks at the ring from both ends, and answers where the beats stand. This is no function, since one that is generic in the
-// channel and asks for a pair takes the checker far longer at each of its calls than these two calls of the ring's own.
+// Looks at a ring from both its ends, and answers how many items it holds. It is generic in the item, since such a call takes the
+// checker far less time than one that is generic in the channel and asks for a pair.
+fn look<T, A: Allocator, P: Protocol<T>>(
+    producer: &mut Producer<T, A, P>,
+    consumer: &mut Consumer<T, A, P>,
+) -> usize
+    requires { rtrb.IsPair producer.old consumer.old }
+    ensures producer { rtrb.ProducerLooked producer.old producer.new }
+    ensures consumer { rtrb.ConsumerLooked consumer.old consumer.new }
+    ensures count { result ≡ length (rtrb.known_items consumer.new) }
+    ensures fifo { rtrb.received consumer.new ++ rtrb.known_items consumer.new ≡
+        rtrb.sent producer.new }
+    // each place that holds no item is known to be free, and no more items than places are there
+    ensures places { (result ≤ rtrb.producer_capacity producer.old) ×
+        (rtrb.producer_capacity producer.old ≤ rtrb.known_free producer.new + result) }
+{
+    producer.slots_beside(consumer);
+    consumer.slots_beside(producer)
+}
+
+// Looks at the ring from both ends, and answers where the beats stand. This is no function, for the same reason.
 macro_rules! met {
     ($send:expr, $take:expr) => {{
-        $send.producer.slots_beside(&mut $take.consumer);
-        let in_ring = $take.consumer.slots_beside(&mut $send.producer);
+        let in_ring = look(&mut $send.producer, &mut $take.consumer);
         Standing {
             staged: $send.stage.len(),
             in_ring,
@@ -49,7 +70,15 @@ pub fn ring_pair<K: Channel, const W: usize, const V: usize, A: Allocator + Copy
         (fault ≡ BuildFault.RingSize) ↔ ((ring ≡ 0) ⊎ (MAX_RING < ring))) }
 {
     match new_ring(alloc, ring) {
-        Ok((send, take)) => Ok((SendEnd::over(send), TakeEnd::over(take))),
+        Ok((send, take)) => Ok((
+            // (as `over` makes it, whose call takes the checker longer)
+            SendEnd {
+                converter: Converter::new(),
+                stage: Queue::new(),
+                producer: send,
+            },
+            TakeEnd::over(take),
+        )),
         Err(fault) => Err(fault),
     }
 }

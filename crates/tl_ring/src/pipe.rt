@@ -266,7 +266,8 @@ impl<K: Channel, const W: usize, const V: usize, A: Allocator> SyncPipe<K, W, V,
         ensures again { self.old.closed ≡ true → IsOk result × (self.new ≡ self.old) }
         ensures refused { OnErr result (self.new ≡ self.old) }
     {
-        if !self.closed && !self.converter.at_boundary() {
+        let may_close = self.closed | self.converter.at_boundary();
+        if !may_close {
             return Err(EndFault::MidBurst);
         }
         self.closed = true;
@@ -278,7 +279,7 @@ impl<K: Channel, const W: usize, const V: usize, A: Allocator> SyncPipe<K, W, V,
         ensures { IsTrue result ↔ IsDrained self.now }
     {
         let under_way = self.stage.len() + self.ring.len() + self.inbox.len();
-        self.closed && under_way == 0
+        self.closed & (under_way == 0)
     }
 
     /// How many far beats stand in the stage, in the ring and in the inbox.

@@ -4,6 +4,6 @@ pub mod Answering
 pub mod Places
 pub mod BridgeSteps
 mod Kept
-mod Sums
+pub mod Sums
 pub mod BridgeSize
 mod BridgeLayout

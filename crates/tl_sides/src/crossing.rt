@@ -118,9 +118,13 @@ pub fn take_request<const C: usize, const M: usize, A: Allocator>(
         ManagerIsAsked book.old pipe.old es x →
         ManagerIsAsked book.new pipe.new (es ++ map Ask (take 1 x.inbox)) (took x) }
 {
-    let beat = pipe.take()?;
-    book.note_ask(&beat.head);
-    Some(beat)
+    match pipe.take() {
+        Some(beat) => {
+            book.note_ask(&beat.head);
+            Some(beat)
+        }
+        None => None,
+    }
 }
 
 /// The client's side takes the first beat of D's inbox. None exactly where it is empty. A first
@@ -136,7 +140,11 @@ pub fn take_response<const C: usize, const M: usize, A: Allocator>(
         ClientIsAnswered book.old pipe.old es x →
         ClientIsAnswered book.new pipe.new (es ++ map Answer (take 1 x.inbox)) (took x) }
 {
-    let beat = pipe.take()?;
-    book.note_answer(&beat.head);
-    Some(beat)
+    match pipe.take() {
+        Some(beat) => {
+            book.note_answer(&beat.head);
+            Some(beat)
+        }
+        None => None,
+    }
 }

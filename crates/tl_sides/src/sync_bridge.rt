@@ -14,7 +14,7 @@ ghost use Rattle.tl_sides.specs.Bridges.{after_offer_a, after_offer_b, after_off
 ghost use Rattle.tl_sides.specs.Bridges.{after_take_a, after_take_b, after_take_c, after_take_d, after_take_e};
 ghost use Rattle.tl_sides.specs.Bridges.{after_close_a, after_close_b, after_close_c, after_close_d, after_close_e};
 
-use crate::books::{ClientBook, ManagerBook, new_books};
+use crate::books::{ClientBook, ManagerBook};
 use crate::crossing::{offer_alone, offer_request, offer_response, take_request, take_response};
 use crate::per_channel::PerChannel;
 use std::alloc::{Allocator, Global};
@@ -90,8 +90,28 @@ impl<const C: usize, const M: usize, A: Allocator> Model for SyncBridge<C, M, A>
     } };
 }
 
-// The rings of A, C and E, or why there is none. A type that both widths decide is dear to check.
-fn rings_to_manager<const M: usize, A: Allocator + Copy>(
+// What stands on the client's bus: the rings of B and D, whose beats have its width, and the book
+// of its side. A type that both widths decide is dear to check.
+fn client_parts<const C: usize, A: Allocator + Copy>(
+    alloc: A,
+    ring: usize,
+) -> Result<(PipeRing<ChB, C, A>, PipeRing<ChD, C, A>, ClientBook<C, A>), BuildFault>
+    ensures rings { IfOk result (λ parts. (parts.0 ≡ ring) × (parts.1 ≡ ring)) }
+    ensures book { IfOk result (λ parts. KnowsClient {w = C} parts.2 []) }
+    ensures size { IsOk result → (1 ≤ ring) × (ring ≤ MAX_RING) }
+    ensures ring_size { IfErr result (λ fault. (fault ≡ BuildFault.RingSize) ↔
+        ((ring ≡ 0) ⊎ (MAX_RING < ring))) }
+{
+    let b = made!(PipeRing::new(alloc, ring));
+    let d = made!(PipeRing::new(alloc, ring));
+    let Ok(book) = ClientBook::new(alloc) else {
+        return Err(BuildFault::OutOfMemory);
+    };
+    Ok((b, d, book))
+}
+
+// What stands on the manager's bus: the rings of A, C and E, and the book of its side.
+fn manager_parts<const M: usize, A: Allocator + Copy>(
     alloc: A,
     ring: usize,
 ) -> Result<
@@ -99,10 +119,12 @@ fn rings_to_manager<const M: usize, A: Allocator + Copy>(
         PipeRing<ChA, M, A>,
         PipeRing<ChC, M, A>,
         PipeRing<ChE, M, A>,
+        ManagerBook<M, A>,
     ),
     BuildFault,
 >
-    ensures new { IfOk result (λ rings. (rings.0 ≡ ring) × (rings.1 ≡ ring) × (rings.2 ≡ ring)) }
+    ensures rings { IfOk result (λ parts. (parts.0 ≡ ring) × (parts.1 ≡ ring) × (parts.2 ≡ ring)) }
+    ensures book { IfOk result (λ parts. KnowsManager {w = M} parts.3 []) }
     ensures size { IsOk result → (1 ≤ ring) × (ring ≤ MAX_RING) }
     ensures ring_size { IfErr result (λ fault. (fault ≡ BuildFault.RingSize) ↔
         ((ring ≡ 0) ⊎ (MAX_RING < ring))) }
@@ -110,22 +132,10 @@ fn rings_to_manager<const M: usize, A: Allocator + Copy>(
     let a = made!(PipeRing::new(alloc, ring));
     let c = made!(PipeRing::new(alloc, ring));
     let e = made!(PipeRing::new(alloc, ring));
-    Ok((a, c, e))
-}
-
-// The rings of B and D, or why there is none.
-fn rings_to_client<const C: usize, A: Allocator + Copy>(
-    alloc: A,
-    ring: usize,
-) -> Result<(PipeRing<ChB, C, A>, PipeRing<ChD, C, A>), BuildFault>
-    ensures new { IfOk result (λ rings. (rings.0 ≡ ring) × (rings.1 ≡ ring)) }
-    ensures size { IsOk result → (1 ≤ ring) × (ring ≤ MAX_RING) }
-    ensures ring_size { IfErr result (λ fault. (fault ≡ BuildFault.RingSize) ↔
-        ((ring ≡ 0) ⊎ (MAX_RING < ring))) }
-{
-    let b = made!(PipeRing::new(alloc, ring));
-    let d = made!(PipeRing::new(alloc, ring));
-    Ok((b, d))
+    let Ok(book) = ManagerBook::new(alloc) else {
+        return Err(BuildFault::OutOfMemory);
+    };
+    Ok((a, c, e, book))
 }
 
 // The bridge over its rings and books.
@@ -168,11 +178,8 @@ impl<const C: usize, const M: usize, A: Allocator + Copy> SyncBridge<C, M, A> {
         ensures ring_size { IfErr result (λ fault. (fault ≡ BuildFault.RingSize) ↔
             ((ring ≡ 0) ⊎ (MAX_RING < ring))) }
     {
-        let (a, c, e) = made!(rings_to_manager(alloc, ring));
-        let (b, d) = made!(rings_to_client(alloc, ring));
-        let Ok((client, manager)) = new_books(alloc) else {
-            return Err(BuildFault::OutOfMemory);
-        };
+        let (b, d, client) = made!(client_parts(alloc, ring));
+        let (a, c, e, manager) = made!(manager_parts(alloc, ring));
         Ok(bridge_over(a, b, c, d, e, client, manager))
     }
 }

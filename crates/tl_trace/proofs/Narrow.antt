@@ -13,10 +13,9 @@ use Rattle.tl_msg.specs.declared.head.HeadD.{HeadD}
 use Rattle.tl_msg.specs.declared.head.HeadE.{HeadE}
 use Rattle.tl_trace.specs.Fields.{Field, opcode, param, size, source, address, sink, denied, mask, data_lanes, corrupt, Form, fields, values, value_of, number_of_lanes, form_a, form_b, form_c, form_d, form_e}
 use Rattle.tl_trace.specs.Lines.{is_lanes, is_writable, is_plain}
-use Rattle.tl_trace.specs.Scripts.{on_lanes}
-use Rattle.tl_trace.specs.Inner.Reading.{IsRead, IsReadNear}
+use Rattle.tl_trace.specs.Scripts.{on_lanes, beat_of_a, beat_of_b, beat_of_c, beat_of_d, beat_of_e}
+use Rattle.tl_trace.specs.Inner.Reading.{IsRead, IsReadLine}
 use Rattle.tl_trace.specs.declared.line.Line.TheVariants.{A, B, C, D, E}
-use Rattle.tl_trace.specs.declared.near.Near.TheVariants.{OfA, OfB, OfC, OfD, OfE}
 use Rattle.tl_trace.proofs.ReadLines.{read_as_a, read_as_b, read_as_c, read_as_d, read_as_e}
 use Rattle.tl_trace.proofs.ReadDigits.{zero_bytes, zero_bits}
 use Rattle.tl_lanes.specs.declared.limits.TheConstants.{WIDEST}
@@ -88,20 +87,21 @@ same_beat {H} f w text b r =
     let narrow : List ℕ → BeatOf H w = λ ls. record { head = b.head; mask = b.mask; lanes = ls; corrupt = b.corrupt } in
     sym (ap narrow (narrowed f w text b r))
 
-pub near_a : (v c m : ℕ) (text : List ℕ) (b : BeatOf HeadA c) → c ≤ WIDEST → IsRead (form_a v) c text b → IsReadNear {client = c} {manager = m} v text (OfA b)
-near_a v c m text b le r = record { line = A (wide b); read = read_as_a v c m text (wide b) (widened (form_a v) c text b le r); same = record { a = ap Some (same_beat (form_a v) c text b r); b = refl; c = refl; d = refl; e = refl } }
+-- the line of a narrow beat says it, with zeros on the lanes past its own
+pub near_a : (v c m : ℕ) (text : List ℕ) (b : BeatOf HeadA c) → c ≤ WIDEST → IsRead (form_a v) c text b → IsReadLine v c m text (A (wide b)) × (Some b ≡ beat_of_a c (A (wide b)))
+near_a v c m text b le r = (read_as_a v c m text (wide b) (widened (form_a v) c text b le r), ap Some (same_beat (form_a v) c text b r))
 
-pub near_b : (v c m : ℕ) (text : List ℕ) (b : BeatOf HeadB m) → m ≤ WIDEST → IsRead (form_b v) m text b → IsReadNear {client = c} {manager = m} v text (OfB b)
-near_b v c m text b le r = record { line = B (wide b); read = read_as_b v c m text (wide b) (widened (form_b v) m text b le r); same = record { a = refl; b = ap Some (same_beat (form_b v) m text b r); c = refl; d = refl; e = refl } }
+pub near_b : (v c m : ℕ) (text : List ℕ) (b : BeatOf HeadB m) → m ≤ WIDEST → IsRead (form_b v) m text b → IsReadLine v c m text (B (wide b)) × (Some b ≡ beat_of_b m (B (wide b)))
+near_b v c m text b le r = (read_as_b v c m text (wide b) (widened (form_b v) m text b le r), ap Some (same_beat (form_b v) m text b r))
 
-pub near_c : (v c m : ℕ) (text : List ℕ) (b : BeatOf HeadC c) → c ≤ WIDEST → IsRead (form_c v) c text b → IsReadNear {client = c} {manager = m} v text (OfC b)
-near_c v c m text b le r = record { line = C (wide b); read = read_as_c v c m text (wide b) (widened (form_c v) c text b le r); same = record { a = refl; b = refl; c = ap Some (same_beat (form_c v) c text b r); d = refl; e = refl } }
+pub near_c : (v c m : ℕ) (text : List ℕ) (b : BeatOf HeadC c) → c ≤ WIDEST → IsRead (form_c v) c text b → IsReadLine v c m text (C (wide b)) × (Some b ≡ beat_of_c c (C (wide b)))
+near_c v c m text b le r = (read_as_c v c m text (wide b) (widened (form_c v) c text b le r), ap Some (same_beat (form_c v) c text b r))
 
-pub near_d : (v c m : ℕ) (text : List ℕ) (b : BeatOf HeadD m) → m ≤ WIDEST → IsRead (form_d v) m text b → IsReadNear {client = c} {manager = m} v text (OfD b)
-near_d v c m text b le r = record { line = D (wide b); read = read_as_d v c m text (wide b) (widened (form_d v) m text b le r); same = record { a = refl; b = refl; c = refl; d = ap Some (same_beat (form_d v) m text b r); e = refl } }
+pub near_d : (v c m : ℕ) (text : List ℕ) (b : BeatOf HeadD m) → m ≤ WIDEST → IsRead (form_d v) m text b → IsReadLine v c m text (D (wide b)) × (Some b ≡ beat_of_d m (D (wide b)))
+near_d v c m text b le r = (read_as_d v c m text (wide b) (widened (form_d v) m text b le r), ap Some (same_beat (form_d v) m text b r))
 
-pub near_e : (v c m : ℕ) (text : List ℕ) (b : BeatOf HeadE c) → c ≤ WIDEST → IsRead (form_e v) c text b → IsReadNear {client = c} {manager = m} v text (OfE b)
-near_e v c m text b le r = record { line = E (wide b); read = read_as_e v c m text (wide b) (widened (form_e v) c text b le r); same = record { a = refl; b = refl; c = refl; d = refl; e = ap Some (same_beat (form_e v) c text b r) } }
+pub near_e : (v c m : ℕ) (text : List ℕ) (b : BeatOf HeadE c) → c ≤ WIDEST → IsRead (form_e v) c text b → IsReadLine v c m text (E (wide b)) × (Some b ≡ beat_of_e c (E (wide b)))
+near_e v c m text b le r = (read_as_e v c m text (wide b) (widened (form_e v) c text b le r), ap Some (same_beat (form_e v) c text b r))
 
 pub plain_zero : (v w : ℕ) (h : HeadE) → is_plain (form_e v) {n = w} (record { head = h; mask = 0; lanes = replicate w 0; corrupt = false }) ≡ true
 plain_zero v w h = rw (zero_bits w) refl

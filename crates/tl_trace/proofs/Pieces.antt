@@ -8,10 +8,9 @@ use Rattle.tl_lanes.specs.declared.limits.TheConstants.{WIDEST}
 use Rattle.tl_trace.specs.Texts.{newline, is_version, header_text, is_kept_line}
 use Rattle.tl_trace.specs.Scripts.{IsScriptOf, TellsScript, IsHeaderLine, HasRead, IsUnfinished}
 use Rattle.tl_trace.specs.Faults.{is_newline, cut, body, body_fault, later_fault, header_of, faults, HasHeader, IsFirstFault, IsReadableTo}
-use Rattle.tl_trace.specs.Inner.Reading.{IsPushed, IsReadNear, IsReadLine, IsNextPushed, IsSameScript, LineAt}
+use Rattle.tl_trace.specs.Inner.Reading.{IsPushed, IsReadLine, IsNextPushed, IsSameScript, IsFaultyAt, IsReadableAt, LineAt}
 use Rattle.tl_trace.specs.declared.fault.TraceKind.{TraceKind}
 use Rattle.tl_trace.specs.declared.line.Line.{Line}
-use Rattle.tl_trace.specs.declared.near.Near.{Near}
 use Rattle.tl_trace.specs.declared.places.TheConstants.{LONGEST_LINE}
 use Rattle.tl_trace.specs.declared.script.Script.{Script}
 use Rattle.tl_trace.proofs.Cover.{says_free, free_between, drop_all}
@@ -47,27 +46,48 @@ begun {C} {M} version text s none line =
     }
 
 -- a line more
-pub read_more : {C M : ℕ} (version : ℕ) (done b : List ℕ) (s s' : Script C M) (line : ℕ) (near : Near C M) → HasRead version done s line → IsReadNear version b near → IsPushed near s s'
+pub read_more : {C M : ℕ} (version : ℕ) (done b : List ℕ) (s s' : Script C M) (line : ℕ) (beat : Line) → HasRead version done s line → IsReadLine version C M b beat → IsPushed beat s s'
     → HasRead version (done ++ b ++ newline) s' (line + 1)
-read_more {C} {M} version done b s s' line near r read put =
+read_more {C} {M} version done b s s' line beat r read put =
     let kept_line = is_kept_line version C M in
     record {
-      lines = r.lines ++ read.line ∷ [];
+      lines = r.lines ++ beat ∷ [];
       told = record {
         trace = record {
           known_version = r.told.trace.known_version;
           client_width = r.told.trace.client_width;
           manager_width = r.told.trace.manager_width;
-          kept = list_all-append kept_line r.lines (read.line ∷ []) ∙ and_from (list_all kept_line r.lines) (kept_line read.line && true) r.told.trace.kept (and_from (kept_line read.line) true read.read.kept refl);
+          kept = list_all-append kept_line r.lines (beat ∷ []) ∙ and_from (list_all kept_line r.lines) (kept_line beat && true) r.told.trace.kept (and_from (kept_line beat) true read.kept refl);
         };
         rest = r.told.rest ++ b ++ newline;
         header = ap (λ (xs : List ℕ). xs ++ b ++ newline) r.told.header ∙ ap (λ (xs : List ℕ). xs ++ newline) (append_assoc (header_text version C M ++ newline) r.told.rest b)
             ∙ append_assoc (header_text version C M ++ newline) (r.told.rest ++ b) newline;
-        told = told_more version C M r.lines read.line r.told.rest b r.told.told read.read.says;
+        told = told_more version C M r.lines beat r.told.rest b r.told.told read.says;
       };
-      script = pushed r.lines read.line s s' near r.script read.same put;
-      place = let sum = length-append r.lines (read.line ∷ []) in omega (arith, r.place);
+      script = pushed r.lines beat s s' r.script put;
+      place = let sum = length-append r.lines (beat ∷ []) in omega (arith, r.place);
     }
+
+-- ---- a line of a piece
+
+-- what is left where the piece ends within a line
+pub left : (piece : List ℕ) (at end : ℕ) → LineAt piece at end → end ≡ length piece → end - at < LONGEST_LINE → IsUnfinished (drop at piece)
+left piece at end l e few = record {
+  free = ap (list_any is_newline) (last_line piece at end l e) ∙ free_line piece at end l;
+  short = let long = length-drop at piece in omega arith;
+}
+
+-- a line that says a beat and is not left ends in the piece
+pub ends_inside : (version client manager : ℕ) (piece : List ℕ) (at end : ℕ) (beat : Line) → client ≤ WIDEST → manager ≤ WIDEST → LineAt piece at end → (end ≡ length piece → LONGEST_LINE ≤ end - at)
+    → IsReadLine version client manager (slice_range piece at end) beat → end < length piece
+ends_inside version client manager piece at end beat client_few manager_few l long read = elim (cases_eq end (length piece)) [
+  | inl e ↦
+      let size : length (slice_range piece at end) ≡ length piece - at = ap length (sym (last_line piece at end l e)) ∙ length-drop at piece in
+      let short = says_short version client manager beat (slice_range piece at end) client_few manager_few read.says in
+      let much = long e in
+      absurd (omega arith)
+  | inr ne ↦ omega (arith, l.to, ne)
+]
 
 -- ---- the walk over a piece
 
@@ -91,27 +111,27 @@ module _ {C M : ℕ} (version : ℕ) (piece : List ℕ) (first : Script C M) (li
       let front : at - 0 ≡ at = omega arith in
       ap (λ (n : ℕ). take n piece) (sym whole) ∙ line_more piece 0 at end (omega arith) l lt ∙ ap (λ (n : ℕ). take n piece ++ slice_range piece at end ++ newline) front
 
-  pub walks : (s s' : Script C M) (at before end : ℕ) (near : Near C M) → Walked version piece first line s at before → LineAt piece at end → IsReadNear version (slice_range piece at end) near
-      → end < length piece → IsPushed near s s' → Walked version piece first line s' (end + 1) (before + 1)
-  walks s s' at before end near w l read lt put = record {
+  pub walks : (s s' : Script C M) (at before end : ℕ) (beat : Line) → Walked version piece first line s at before → LineAt piece at end → IsReadLine version C M (slice_range piece at end) beat
+      → end < length piece → IsPushed beat s s' → Walked version piece first line s' (end + 1) (before + 1)
+  walks s s' at before end beat w l read lt put = record {
     within = omega arith;
     few = omega (arith, w.few, l.from);
     read = λ done r.
         let whole : (done ++ take at piece) ++ slice_range piece at end ++ newline ≡ done ++ take (end + 1) piece =
         ap (λ (xs : List ℕ). xs ++ newline) (append_assoc done (take at piece) (slice_range piece at end)) ∙ append_assoc done (take at piece ++ slice_range piece at end) newline ∙ ap (λ (xs : List ℕ). done ++ xs) (sym (to_end at end l lt)) in
-        subst (λ text. HasRead version text s' (before + 1)) whole (read_more version (done ++ take at piece) (slice_range piece at end) s s' before near (w.read done r) read put);
+        subst (λ text. HasRead version text s' (before + 1)) whole (read_more version (done ++ take at piece) (slice_range piece at end) s s' before beat (w.read done r) read put);
   }
 
   -- a line that the quick reader takes
   pub walks_quick : (s s' : Script C M) (at before end : ℕ) → Walked version piece first line s at before → IsNextPushed version piece at s s' end → Walked version piece first line s' (end + 1) (before + 1)
   walks_quick s s' at before end w q =
       let l : LineAt piece at end = record {
-        from = omega (arith, q.from);
+        from = q.from;
         to = omega (arith, q.to);
-        free = free_between piece at end (omega (arith, q.to)) (says_free version C M q.read.line (slice_range piece at end) q.read.read.says);
+        free = free_between piece at end (omega (arith, q.to)) (says_free version C M q.line (slice_range piece at end) q.read.says);
         stop = λ _. q.stop;
       } in
-      walks s s' at before end q.near w l q.read q.to q.put
+      walks s s' at before end q.line w l q.read q.to q.put
 
   -- one that it does not take
   pub waits : (s s' : Script C M) (at before : ℕ) → Walked version piece first line s at before → IsSameScript s s' → Walked version piece first line s' at before
@@ -126,13 +146,6 @@ module _ {C M : ℕ} (version : ℕ) (piece : List ℕ) (first : Script C M) (li
           script = record { a = same.a ∙ far.script.a; b = same.b ∙ far.script.b; c = same.c ∙ far.script.c; d = same.d ∙ far.script.d; e = same.e ∙ far.script.e };
           place = far.place;
         };
-  }
-
-  -- what is left where the piece ends within a line
-  pub left : (at end : ℕ) → LineAt piece at end → end ≡ length piece → end - at < LONGEST_LINE → IsUnfinished (drop at piece)
-  left at end l e few = record {
-    free = ap (list_any is_newline) (last_line piece at end l e) ∙ free_line piece at end l;
-    short = let long = length-drop at piece in omega arith;
   }
 
   -- and where it ends with one
@@ -196,17 +209,14 @@ module _ {C M : ℕ} (version : ℕ) (piece : List ℕ) (first : Script C M) (li
       (later s at before w done more r ∙ ap (λ (ls : List (List ℕ)). replicate before None ++ map (later_fault version C M) ls) (cut_here at end more l lt)
       ∙ ap (λ (o : Option TraceKind). replicate before None ++ o ∷ rest) is ∙ one_more before rest)
 
-  -- a line that says a beat and is not left ends in the piece
-  pub ends_inside : (at end : ℕ) (beat : Line) → C ≤ WIDEST → M ≤ WIDEST → LineAt piece at end → at < length piece → (end ≡ length piece → LONGEST_LINE ≤ end - at)
-      → IsReadLine version C M (slice_range piece at end) beat → end < length piece
-  ends_inside at end beat client manager l lt long read = elim (cases_eq end (length piece)) [
-    | inl e ↦
-        let size : length (slice_range piece at end) ≡ length piece - at = ap length (sym (last_line piece at end l e)) ∙ length-drop at piece in
-        let short = says_short version C M beat (slice_range piece at end) client manager read.says in
-        let much = long e in
-        absurd (omega arith)
-    | inr ne ↦ omega (arith, l.to, ne)
-  ]
+  -- the same of what a slow reading says of a line
+  pub refused_at : (s : Script C M) (at before : ℕ) (kind : TraceKind) → C ≤ WIDEST → M ≤ WIDEST → Walked version piece first line s at before → at < length piece → IsFaultyAt version C M piece at kind
+      → (done more : List ℕ) → HasRead version done first line → IsFirstFault (done ++ piece ++ more) (before + 1) kind
+  refused_at s at before kind client manager w lt f = refused s at before f.end kind client manager w f.line lt f.long f.fault
+
+  pub unstored_at : (s : Script C M) (at before : ℕ) → Walked version piece first line s at before → IsReadableAt version C M piece at
+      → (done more : List ℕ) → HasRead version done first line → IsReadableTo (done ++ piece ++ more) (before + 1)
+  unstored_at s at before w u = unstored s at before u.end u.beat w u.line u.read u.inside
 
 -- the fault of what is left at the end of a text
 pub end_faulty : {C M : ℕ} (version : ℕ) (done rest : List ℕ) (s : Script C M) (line : ℕ) (kind : TraceKind) → HasRead version done s line → 0 < length rest → IsFree rest

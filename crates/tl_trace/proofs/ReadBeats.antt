@@ -7,9 +7,8 @@ use Rattle.std.specs.Option.{option_to_list}
 use Rattle.std.specs.Result.{is_err}
 use Rattle.std.specs.Prelude.{OnOk}
 use Rattle.tl_trace.specs.Scripts.{IsScriptOf, beat_of_a, beat_of_b, beat_of_c, beat_of_d, beat_of_e}
-use Rattle.tl_trace.specs.Inner.Reading.{IsNearOf, IsPushed, LineAt, near_a, near_b, near_c, near_d, near_e}
+use Rattle.tl_trace.specs.Inner.Reading.{IsPushed, LineAt}
 use Rattle.tl_trace.specs.declared.line.Line.{Line}
-use Rattle.tl_trace.specs.declared.near.Near.{Near}
 use Rattle.tl_trace.specs.declared.script.Script.{Script}
 use Rattle.tl_trace.specs.Texts.{newline}
 use Rattle.tl_trace.specs.Faults.{is_newline, body}
@@ -24,29 +23,27 @@ one None = refl
 one (Some y) = refl
 
 -- one more line, of this or another channel
-grown : {X : Type 0} (h : Line → Option X) (lines : List Line) (line : Line) (o : Option X) (before now : List X) → before ≡ filter_map h lines → now ≡ before ++ option_to_list o → o ≡ h line
-    → now ≡ filter_map h (lines ++ line ∷ [])
-grown {X} h lines line o before now was is same =
-    is ∙ ap (λ (xs : List X). xs ++ option_to_list o) was ∙ ap (λ (p : Option X). filter_map h lines ++ option_to_list p) same
+grown : {X : Type 0} (h : Line → Option X) (lines : List Line) (line : Line) (before now : List X) → before ≡ filter_map h lines → now ≡ before ++ option_to_list (h line) → now ≡ filter_map h (lines ++ line ∷ [])
+grown {X} h lines line before now was is =
+    is ∙ ap (λ (xs : List X). xs ++ option_to_list (h line)) was
     ∙ ap (λ (xs : List X). filter_map h lines ++ xs) (sym (one (h line))) ∙ sym (filter_map-append h lines (line ∷ []))
 
 -- a beat more, of one channel
-pub pushed : {C M : ℕ} (lines : List Line) (line : Line) (s s' : Script C M) (near : Near C M) → IsScriptOf lines s → IsNearOf line near → IsPushed near s s' → IsScriptOf (lines ++ line ∷ []) s'
-pushed {C} {M} lines line s s' near far same put = record {
-  a = grown (beat_of_a C) lines line (near_a near) s.a.items s'.a.items far.a put.a same.a;
-  b = grown (beat_of_b M) lines line (near_b near) s.b.items s'.b.items far.b put.b same.b;
-  c = grown (beat_of_c C) lines line (near_c near) s.c.items s'.c.items far.c put.c same.c;
-  d = grown (beat_of_d M) lines line (near_d near) s.d.items s'.d.items far.d put.d same.d;
-  e = grown (beat_of_e C) lines line (near_e near) s.e.items s'.e.items far.e put.e same.e;
+pub pushed : {C M : ℕ} (lines : List Line) (line : Line) (s s' : Script C M) → IsScriptOf lines s → IsPushed line s s' → IsScriptOf (lines ++ line ∷ []) s'
+pushed {C} {M} lines line s s' far put = record {
+  a = grown (beat_of_a C) lines line s.a.items s'.a.items far.a put.a;
+  b = grown (beat_of_b M) lines line s.b.items s'.b.items far.b put.b;
+  c = grown (beat_of_c C) lines line s.c.items s'.c.items far.c put.c;
+  d = grown (beat_of_d M) lines line s.d.items s'.d.items far.d put.d;
+  e = grown (beat_of_e C) lines line s.e.items s'.e.items far.e put.e;
 }
 
 -- the beat of the line at i
-pub script_more : {C M : ℕ} (xs lines : List Line) (i : ℕ) (d : Line) (s s' : Script C M) (near : Near C M) → i < length xs → xs ≡ lines → IsScriptOf (take i lines) s → IsNearOf (get_or xs i d) near → IsPushed near s s'
-    → IsScriptOf (take (i + 1) lines) s'
-script_more {C} {M} xs lines i d s s' near lt same far is put =
+pub script_more : {C M : ℕ} (xs lines : List Line) (i : ℕ) (d : Line) (s s' : Script C M) → i < length xs → xs ≡ lines → IsScriptOf (take i lines) s → IsPushed (get_or xs i d) s s' → IsScriptOf (take (i + 1) lines) s'
+script_more {C} {M} xs lines i d s s' lt same far put =
     let here : take (i + 1) lines ≡ take i lines ++ get_or xs i d ∷ [] = ap (take (i + 1)) (sym same) ∙ take_more xs i d lt ∙ ap (λ (ys : List Line). take i ys ++ get_or xs i d ∷ []) same in
     let P : List Line → Type 0 = λ ys. IsScriptOf ys s' in
-    subst P (sym here) (pushed (take i lines) (get_or xs i d) s s' near far is put)
+    subst P (sym here) (pushed (take i lines) (get_or xs i d) s s' far put)
 
 pub on_was : {A E : Type 0} {P : Type 0} (r : Result A E) (v : A) → OnOk r P → r ≡ Ok v → P
 on_was (Ok w) v p e = p

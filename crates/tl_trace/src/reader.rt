@@ -1,19 +1,16 @@
 //! From a text to its trace.
-ghost use Rattle.std.specs.Prelude.{ℕ, ◌≡◌, ◌≢◌, ◌≤◌, ◌<◌, ◌+◌, true, false, None, Some, ◌∷◌, drop, map, length, slice_index, slice_range, IfSome, IfOk, IfErr};
-ghost use Rattle.std.specs.List.{list_any};
+ghost use Rattle.std.specs.Prelude.{ℕ, ◌≡◌, ◌≢◌, ◌≤◌, ◌<◌, ◌+◌, true, None, Some, ◌∷◌, drop, map, length, slice_index, IfOk, IfErr};
 ghost use Rattle.tl_trace.specs.Texts.{Tells, TellsLines, is_kept_line, is_version};
-ghost use Rattle.tl_trace.specs.Faults.{is_newline, cut, faults, body_fault, later_fault, IsFirstFault, IsReadableTo};
-ghost use Rattle.tl_trace.specs.Inner.Reading.{IsReadLine, LineAt};
+ghost use Rattle.tl_trace.specs.Faults.{cut, faults, body_fault, later_fault, IsFirstFault, IsReadableTo};
+ghost use Rattle.tl_trace.specs.Inner.Reading.{IsReadLine};
 ghost use Rattle.std.specs.List.{list_all};
 ghost use Rattle.tl_lanes.specs.declared.limits.TheConstants.{WIDEST};
 ghost use Rattle.tl_trace.specs.declared.fault.TraceKind.TheVariants.{OutOfMemory};
-ghost use Rattle.tl_trace.specs.declared.places.TheConstants.{LONGEST_LINE};
 
 use crate::fault::{TraceFault, TraceKind};
 use crate::header::{Header, header_of};
 use crate::line::Line;
 use crate::line_reader::read_beat;
-use crate::places::line_len;
 use crate::trace::Trace;
 use crate::versions::at_version;
 use std::alloc::Global;
@@ -49,7 +46,7 @@ macro_rules! read_as {
 }
 
 /// The beat of a later line, without its LF.
-pub fn read_line<const VERSION: u8>(
+fn read_line_in<const VERSION: u8>(
     text: &[u8],
     client: usize,
     manager: usize,
@@ -70,135 +67,21 @@ pub fn read_line<const VERSION: u8>(
     }
 }
 
-/// The length of a line with this letter, without its LF.
-fn expected_length<const VERSION: u8>(letter: u8, client: usize, manager: usize) -> Option<usize>
-    requires client { client ≤ WIDEST }
-    requires manager { manager ≤ WIDEST }
-    ensures { IfSome result (λ n. (1 ≤ n) × (n < LONGEST_LINE)) }
-{
-    match letter {
-        b'A' => Some(line_len::<ChA, VERSION>(client)),
-        b'B' => Some(line_len::<ChB, VERSION>(manager)),
-        b'C' => Some(line_len::<ChC, VERSION>(client)),
-        b'D' => Some(line_len::<ChD, VERSION>(manager)),
-        b'E' => Some(line_len::<ChE, VERSION>(client)),
-        _ => None,
-    }
-}
-
-/// The end of a line whose LF stands where its letter and the widths say.
-pub fn expected_end<const VERSION: u8>(
-    text: &[u8],
-    at: usize,
-    client: usize,
-    manager: usize,
-) -> Option<usize>
-    requires client { client ≤ WIDEST }
-    requires manager { manager ≤ WIDEST }
-    requires at { at < length text.now }
-    ensures { IfSome result (λ end. (at < end) × (end < length text.now) ×
-        (slice_index text.now end ≡ 10)) }
-{
-    let long = expected_length::<VERSION>(text[at], client, manager)?;
-    if long >= text.len() - at || text[at + long] != b'\n' {
-        return None;
-    }
-    Some(at + long)
-}
-
-/// How many lines can be stored of this text at most, from line 2 on. A line whose LF stands elsewhere is faulty.
-fn max_lines<const VERSION: u8>(text: &[u8], start: usize, client: usize, manager: usize) -> usize
-    requires client { client ≤ WIDEST }
-    requires manager { manager ≤ WIDEST }
-{
-    let mut lines = 0;
-    let mut at = start;
-    while at < text.len() {
-        let Some(end) = expected_end::<VERSION>(text, at, client, manager) else {
-            return lines;
-        };
-        at = end + 1;
-        lines += 1;
-    }
-    lines
-}
-
-/// The end of the line from `at` on, and its beat.
+/// The same where the version is known only when the line is read.
 #[inline(never)]
-pub fn next_line<const VERSION: u8>(
-    text: &[u8],
-    at: usize,
-    client: usize,
-    manager: usize,
-) -> (usize, Result<Line, TraceKind>)
+pub fn read_line(text: &[u8], version: u8, client: usize, manager: usize) -> Result<Line, TraceKind>
+    requires version { is_version version ≡ true }
     requires client { client ≤ WIDEST }
     requires manager { manager ≤ WIDEST }
-    requires at { at < length text.now }
-    ensures line { LineAt text.now at result.0 }
-    ensures ok { IfOk result.1
-        (IsReadLine VERSION client manager (slice_range text.now at result.0)) }
-    ensures err { IfErr result.1 (λ kind.
-        body_fault VERSION client manager (slice_range text.now at result.0) ≡ Some kind) }
-    ensures kinds { IfErr result.1 (λ kind. kind ≢ OutOfMemory) }
+    ensures ok { IfOk result (IsReadLine version client manager text.now) }
+    ensures err { IfErr result (λ kind. body_fault version client manager text.now ≡ Some kind) }
+    ensures kinds { IfErr result (λ kind. kind ≢ OutOfMemory) }
 {
-    if let Some(end) = expected_end::<VERSION>(text, at, client, manager) {
-        if let Ok(line) = read_line::<VERSION>(&text[at..end], client, manager) {
-            return (end, Ok(line));
-        }
-    }
-    let end = line_end(text, at);
-    (end, read_line::<VERSION>(&text[at..end], client, manager))
+    at_version!(version, read_line_in::<_>(text, client, manager))
 }
 
 /// The beats of the lines from `start` on, where the first of them is line 2.
-fn read_lines<const VERSION: u8>(
-    alloc: Global,
-    text: &[u8],
-    start: usize,
-    client: usize,
-    manager: usize,
-) -> Result<Vec<Line>, TraceFault>
-    requires client { client ≤ WIDEST }
-    requires manager { manager ≤ WIDEST }
-    requires start { (1 ≤ start) × (start ≤ length text.now) }
-    requires header { faults text.now ≡
-        None ∷ map (later_fault VERSION client manager) (cut (drop start text.now)) }
-    ensures told { IfOk result (λ lines.
-        TellsLines VERSION client manager lines.items (drop start text.now)) }
-    ensures kept { IfOk result (λ lines.
-        list_all (is_kept_line VERSION client manager) lines.items ≡ true) }
-    ensures fault { IfErr result (λ e. e.kind ≢ OutOfMemory → IsFirstFault text.now e.line e.kind) }
-    ensures memory { IfErr result (λ e. e.kind ≡ OutOfMemory → IsReadableTo text.now e.line) }
-{
-    let mut lines = Vec::new(alloc);
-    let has_room = lines
-        .reserve(max_lines::<VERSION>(text, start, client, manager))
-        .is_ok();
-    let mut at = start;
-    let mut before = 1u64;
-    while at < text.len() {
-        let line = before + 1;
-        let (end, read) = next_line::<VERSION>(text, at, client, manager);
-        let beat = match read {
-            Ok(beat) => beat,
-            Err(kind) => return Err(TraceFault { line, kind }),
-        };
-        if end == text.len() {
-            let kind = TraceKind::NoEnd;
-            return Err(TraceFault { line, kind });
-        }
-        if !has_room || lines.push(beat).is_err() {
-            let kind = TraceKind::OutOfMemory;
-            return Err(TraceFault { line, kind });
-        }
-        at = end + 1;
-        before = line;
-    }
-    Ok(lines)
-}
-
-/// The same where the version is known only when the text is read.
-fn read_lines_of(
+fn read_lines(
     alloc: Global,
     text: &[u8],
     start: usize,
@@ -217,15 +100,38 @@ fn read_lines_of(
     ensures fault { IfErr result (λ e. e.kind ≢ OutOfMemory → IsFirstFault text.now e.line e.kind) }
     ensures memory { IfErr result (λ e. e.kind ≡ OutOfMemory → IsReadableTo text.now e.line) }
 {
-    at_version!(
-        header.version,
-        read_lines::<_>(alloc, text, start, header.client, header.manager)
-    )
+    let mut lines = Vec::new(alloc);
+    let mut at = start;
+    let mut before = 1u64;
+    while at < text.len() {
+        let line = before + 1;
+        let end = line_end(text, at);
+        let read = read_line(
+            &text[at..end],
+            header.version,
+            header.client,
+            header.manager,
+        );
+        let beat = match read {
+            Ok(beat) => beat,
+            Err(kind) => return Err(TraceFault { line, kind }),
+        };
+        if end == text.len() {
+            let kind = TraceKind::NoEnd;
+            return Err(TraceFault { line, kind });
+        }
+        if lines.push(beat).is_err() {
+            let kind = TraceKind::OutOfMemory;
+            return Err(TraceFault { line, kind });
+        }
+        at = end + 1;
+        before = line;
+    }
+    Ok(lines)
 }
 
 /// Reads a text of version 1 or 2. The trace is the one that the text tells. A fault is the first one of the text, with
 /// its line; `OutOfMemory` has the first line whose beat could not be stored, and no line up to it has a fault.
-/// The lines are counted first, so that memory for them is taken once.
 pub fn read(alloc: Global, text: &[u8]) -> Result<Trace, TraceFault>
     ensures told { IfOk result (λ t.
         Tells text.now t.version t.client t.manager t.lines.items) }
@@ -245,7 +151,7 @@ pub fn read(alloc: Global, text: &[u8]) -> Result<Trace, TraceFault>
             kind: TraceKind::NoEnd,
         });
     }
-    let lines = read_lines_of(alloc, text, end + 1, header)?;
+    let lines = read_lines(alloc, text, end + 1, header)?;
     Ok(Trace {
         version: header.version,
         client: header.client,

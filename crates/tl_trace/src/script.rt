@@ -1,14 +1,17 @@
 //! The beats of a trace by channel.
-ghost use Rattle.std.specs.Prelude.{◌≡◌, ◌≤◌, [], IfOk};
+ghost use Rattle.std.specs.Prelude.{◌≡◌, ◌≤◌, ◌++◌, ◌∷◌, [], IfOk, OnOk};
 ghost use Rattle.tl_lanes.specs.declared.limits.TheConstants.{WIDEST};
 ghost use Rattle.tl_trace.specs.Scripts.{IsScriptOf, on_lanes};
+ghost use Rattle.tl_trace.specs.Inner.Reading.{IsPushed};
 ghost use Rattle.tl_lanes.specs.Lanes.{IsWidth};
 
-use crate::near::{near_of, push_near};
+use crate::line::Line;
 use crate::trace::Trace;
 use std::alloc::Global;
 use tl_lanes::WIDEST;
-use tl_msg::{Beat, BeatOf, ChA, ChB, ChC, ChD, ChE, OutOfMemory};
+use tl_msg::{
+    Beat, BeatOf, ChA, ChB, ChC, ChD, ChE, HeadA, HeadB, HeadC, HeadD, HeadE, OutOfMemory,
+};
 
 /// The near beats of the five channels, each on its sender's lanes. The order between channels has no meaning.
 #[derive(Drop)]
@@ -25,18 +28,40 @@ pub struct Script<const C: usize, const M: usize> {
     pub e: Vec<Beat<ChE, C>>,
 }
 
-/// The first `W` lanes of a beat.
-pub fn on_lanes<H: Copy, const W: usize>(beat: &BeatOf<H, WIDEST>) -> BeatOf<H, W>
+/// Appends the first `W` lanes of a beat to a list.
+fn push_beat<H: Copy, const W: usize>(
+    list: &mut Vec<BeatOf<H, W>>,
+    beat: &BeatOf<H, WIDEST>,
+) -> Result<(), OutOfMemory>
     requires { W ≤ WIDEST }
-    ensures { result ≡ on_lanes W beat.now }
+    ensures { OnOk result (list.new.items ≡ list.old.items ++ on_lanes W beat.now ∷ []) }
 {
     let mut lanes = [0u8; W];
     lanes.copy_from_slice(&beat.lanes[..W]);
-    BeatOf {
+    list.push(BeatOf {
         head: beat.head,
         mask: beat.mask,
         lanes,
         corrupt: beat.corrupt,
+    })?;
+    Ok(())
+}
+
+/// Appends the beat of a line to the list of its channel, on its sender's lanes.
+pub fn push_beat_of<const C: usize, const M: usize>(
+    script: &mut Script<C, M>,
+    line: &Line,
+) -> Result<(), OutOfMemory>
+    requires client { C ≤ WIDEST }
+    requires manager { M ≤ WIDEST }
+    ensures { OnOk result (IsPushed line.now script.old script.new) }
+{
+    match line {
+        Line::A(beat) => push_beat::<HeadA, C>(&mut script.a, beat),
+        Line::B(beat) => push_beat::<HeadB, M>(&mut script.b, beat),
+        Line::C(beat) => push_beat::<HeadC, C>(&mut script.c, beat),
+        Line::D(beat) => push_beat::<HeadD, M>(&mut script.d, beat),
+        Line::E(beat) => push_beat::<HeadE, C>(&mut script.e, beat),
     }
 }
 
@@ -66,7 +91,7 @@ pub fn script_of<const C: usize, const M: usize>(
 {
     let mut script = empty_script(alloc);
     for line in &trace.lines {
-        push_near(&mut script, near_of::<C, M>(line))?;
+        push_beat_of(&mut script, line)?;
     }
     Ok(script)
 }

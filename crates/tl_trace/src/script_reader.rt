@@ -5,17 +5,16 @@ ghost use Rattle.tl_lanes.specs.declared.limits.TheConstants.{WIDEST};
 ghost use Rattle.tl_trace.specs.Scripts.{TellsScript, HasRead, IsHeaderLine, IsUnfinished};
 ghost use Rattle.tl_trace.specs.Texts.{is_version};
 ghost use Rattle.tl_trace.specs.Faults.{is_newline, body, later_fault, header_of, HasHeader, IsFirstFault, IsReadableTo};
-ghost use Rattle.tl_trace.specs.Inner.Reading.{IsLinePushed, IsNextPushed, IsSameScript};
+ghost use Rattle.tl_trace.specs.Inner.Reading.{IsFaultyAt, IsLeft, IsLinePushed, IsNextPushed, IsReadableAt, IsSameScript};
 ghost use Rattle.tl_trace.specs.declared.fault.TraceKind.TheVariants.{OutOfMemory};
 
 use crate::fault::{TraceFault, TraceKind};
 use crate::head_reader::ReadHead;
 use crate::header::{Header, header_of};
 use crate::line_reader::read_beat;
-use crate::near::{near_of, push_near};
 use crate::places::{LONGEST_LINE, line_len};
-use crate::reader::{line_end, next_line, read_line};
-use crate::script::{Script, empty_script};
+use crate::reader::{line_end, read_line};
+use crate::script::{Script, empty_script, push_beat_of};
 use crate::versions::at_version;
 use std::alloc::Global;
 use tl_msg::{Beat, ChA, ChB, ChC, ChD, ChE};
@@ -82,107 +81,56 @@ fn push_next<const C: usize, const M: usize, const VERSION: u8>(
     }
 }
 
-/// The beats of the whole lines of a piece, where `line` is the number of the line before them, and
-/// where the first unfinished line of it begins, with the number of the line before that one.
+/// The same by the reader that names the fault of a line, for what that one does not take: the line's end, or `None` where
+/// the piece ends within it.
 ///
 /// A line without its LF is left, unless it is too long for a line: then it is refused.
-fn read_beats<const C: usize, const M: usize, const VERSION: u8>(
+#[inline(never)]
+fn push_slowly<const C: usize, const M: usize>(
     script: &mut Script<C, M>,
     piece: &[u8],
-    line: u64,
-) -> Result<(usize, u64), TraceFault>
-    requires client { C ≤ WIDEST }
-    requires manager { M ≤ WIDEST }
-    requires few { line + length piece.now < 2 ^ 64 }
-    ensures used { IfOk result (λ far. far.0 ≤ length piece.now) }
-    ensures lines { IfOk result (λ far. far.1 ≤ line + far.0) }
-    ensures rest { IfOk result (λ far. IsUnfinished (drop far.0 piece.now)) }
-    ensures told { (done : List ℕ) → HasRead VERSION done script.old line → IfOk result (λ far.
-        HasRead VERSION (done ++ take far.0 piece.now) script.new far.1) }
-    ensures fault { (done more : List ℕ) → HasRead VERSION done script.old line → IfErr result (λ e.
-        e.kind ≢ OutOfMemory → IsFirstFault (done ++ piece.now ++ more) e.line e.kind) }
-    ensures memory { (done more : List ℕ) → HasRead VERSION done script.old line →
-        IfErr result (λ e. e.kind ≡ OutOfMemory → IsReadableTo (done ++ piece.now ++ more) e.line) }
-{
-    let mut at = 0;
-    let mut before = line;
-    let mut no_room = false;
-    while at < piece.len() {
-        let line = before + 1;
-        if let Some(end) = push_next::<C, M, VERSION>(script, piece, at, &mut no_room) {
-            at = end + 1;
-            before = line;
-            continue;
-        }
-        // What that one does not take is read again, by the reader that names the fault of a line.
-        let (end, read) = next_line::<VERSION>(piece, at, C, M);
-        if end == piece.len() && end - at < LONGEST_LINE {
-            return Ok((at, before));
-        }
-        let near = match read {
-            Ok(read) => near_of::<C, M>(&read),
-            Err(kind) => return Err(TraceFault { line, kind }),
-        };
-        if no_room || push_near(script, near).is_err() {
-            let kind = TraceKind::OutOfMemory;
-            return Err(TraceFault { line, kind });
-        }
-        at = end + 1;
-        before = line;
-    }
-    Ok((at, before))
-}
-
-/// The same where the version is known only when the piece is read.
-fn read_beats_of<const C: usize, const M: usize>(
-    script: &mut Script<C, M>,
-    piece: &[u8],
-    line: u64,
+    at: usize,
     version: u8,
-) -> Result<(usize, u64), TraceFault>
+    no_room: bool,
+) -> Result<Option<usize>, TraceKind>
     requires version { is_version version ≡ true }
     requires client { C ≤ WIDEST }
     requires manager { M ≤ WIDEST }
-    requires few { line + length piece.now < 2 ^ 64 }
-    ensures used { IfOk result (λ far. far.0 ≤ length piece.now) }
-    ensures lines { IfOk result (λ far. far.1 ≤ line + far.0) }
-    ensures rest { IfOk result (λ far. IsUnfinished (drop far.0 piece.now)) }
-    ensures told { (done : List ℕ) → HasRead version done script.old line → IfOk result (λ far.
-        HasRead version (done ++ take far.0 piece.now) script.new far.1) }
-    ensures fault { (done more : List ℕ) → HasRead version done script.old line → IfErr result (λ e.
-        e.kind ≢ OutOfMemory → IsFirstFault (done ++ piece.now ++ more) e.line e.kind) }
-    ensures memory { (done more : List ℕ) → HasRead version done script.old line →
-        IfErr result (λ e. e.kind ≡ OutOfMemory → IsReadableTo (done ++ piece.now ++ more) e.line) }
+    requires at { at < length piece.now }
+    ensures read { IfOk result (λ end. MatchOption end (IsLeft piece.now at script.old script.new)
+        (IsNextPushed version piece.now at script.old script.new)) }
+    ensures fault { IfErr result (λ kind.
+        kind ≢ OutOfMemory → IsFaultyAt version C M piece.now at kind) }
+    ensures memory { IfErr result (λ kind.
+        kind ≡ OutOfMemory → IsReadableAt version C M piece.now at) }
 {
-    at_version!(version, read_beats::<C, M, _>(script, piece, line))
+    let end = line_end(piece, at);
+    if end == piece.len() && end - at < LONGEST_LINE {
+        return Ok(None);
+    }
+    let line = match read_line(&piece[at..end], version, C, M) {
+        Ok(line) => line,
+        Err(kind) => return Err(kind),
+    };
+    if no_room || push_beat_of(script, &line).is_err() {
+        return Err(TraceKind::OutOfMemory);
+    }
+    Ok(Some(end))
 }
 
 /// The fault of a line without its LF.
-fn unfinished_fault<const C: usize, const M: usize, const VERSION: u8>(rest: &[u8]) -> TraceKind
-    requires client { C ≤ WIDEST }
-    requires manager { M ≤ WIDEST }
-    requires some { 0 < length rest.now }
-    requires free { list_any is_newline rest.now ≡ false }
-    ensures fault { later_fault VERSION C M rest.now ≡ Some result }
-    ensures kind { result ≢ OutOfMemory }
-{
-    match read_line::<VERSION>(rest, C, M) {
-        Ok(_) => TraceKind::NoEnd,
-        Err(kind) => kind,
-    }
-}
-
-/// The same where the version is known only when the line is read.
-fn unfinished_fault_of<const C: usize, const M: usize>(rest: &[u8], version: u8) -> TraceKind
+fn unfinished_fault<const C: usize, const M: usize>(rest: &[u8], version: u8) -> TraceKind
     requires version { is_version version ≡ true }
     requires client { C ≤ WIDEST }
     requires manager { M ≤ WIDEST }
-    requires some { 0 < length rest.now }
     requires free { list_any is_newline rest.now ≡ false }
     ensures fault { later_fault version C M rest.now ≡ Some result }
     ensures kind { result ≢ OutOfMemory }
 {
-    at_version!(version, unfinished_fault::<C, M, _>(rest))
+    match read_line(rest, version, C, M) {
+        Ok(_) => TraceKind::NoEnd,
+        Err(kind) => kind,
+    }
 }
 
 /// Reads a text piece by piece, from its lines straight into the lists of a script, with no trace
@@ -200,6 +148,52 @@ pub struct ScriptReader<const C: usize, const M: usize> {
     pub version: u8,
     /// The number of the line that was read last, counted from 1: the header is line 1.
     pub line: u64,
+}
+
+/// Reads the whole lines of a piece of the text in a known version, as `ScriptReader::read` does.
+fn read_beats<const C: usize, const M: usize, const VERSION: u8>(
+    reader: &mut ScriptReader<C, M>,
+    piece: &[u8],
+) -> Result<usize, TraceFault>
+    requires version { is_version VERSION ≡ true }
+    requires client { C ≤ WIDEST }
+    requires manager { M ≤ WIDEST }
+    requires few { reader.old.line + length piece.now < 2 ^ 64 }
+    ensures version { reader.new.version ≡ reader.old.version }
+    ensures used { IfOk result (λ used. used ≤ length piece.now) }
+    ensures lines { IfOk result (λ used. reader.new.line ≤ reader.old.line + used) }
+    ensures rest { IfOk result (λ used. IsUnfinished (drop used piece.now)) }
+    ensures told { (done : List ℕ) →
+        HasRead VERSION done reader.old.script reader.old.line → IfOk result (λ used.
+        HasRead VERSION (done ++ take used piece.now) reader.new.script reader.new.line) }
+    ensures fault { (done more : List ℕ) →
+        HasRead VERSION done reader.old.script reader.old.line → IfErr result (λ e.
+        e.kind ≢ OutOfMemory → IsFirstFault (done ++ piece.now ++ more) e.line e.kind) }
+    ensures memory { (done more : List ℕ) →
+        HasRead VERSION done reader.old.script reader.old.line → IfErr result (λ e.
+        e.kind ≡ OutOfMemory → IsReadableTo (done ++ piece.now ++ more) e.line) }
+{
+    let mut at = 0;
+    let mut no_room = false;
+    while at < piece.len() {
+        if let Some(end) = push_next::<C, M, VERSION>(&mut reader.script, piece, at, &mut no_room) {
+            at = end + 1;
+            reader.line += 1;
+            continue;
+        }
+        match push_slowly(&mut reader.script, piece, at, VERSION, no_room) {
+            Ok(Some(end)) => {
+                at = end + 1;
+                reader.line += 1;
+            }
+            Ok(None) => return Ok(at),
+            Err(kind) => {
+                let line = reader.line + 1;
+                return Err(TraceFault { line, kind });
+            }
+        }
+    }
+    Ok(at)
 }
 
 impl<const C: usize, const M: usize> ScriptReader<C, M> {
@@ -244,13 +238,7 @@ impl<const C: usize, const M: usize> ScriptReader<C, M> {
             HasRead self.old.version done self.old.script self.old.line → IfErr result (λ e.
             e.kind ≡ OutOfMemory → IsReadableTo (done ++ piece.now ++ more) e.line) }
     {
-        match read_beats_of::<C, M>(&mut self.script, piece, self.line, self.version) {
-            Ok((used, line)) => {
-                self.line = line;
-                Ok(used)
-            }
-            Err(fault) => Err(fault),
-        }
+        at_version!(self.version, read_beats::<C, M, _>(self, piece))
     }
 
     /// The fault of the text where it ends with what `read` left: `None` where that is nothing.
@@ -272,7 +260,7 @@ impl<const C: usize, const M: usize> ScriptReader<C, M> {
             return None;
         }
         let line = self.line + 1;
-        let kind = unfinished_fault_of::<C, M>(rest, self.version);
+        let kind = unfinished_fault::<C, M>(rest, self.version);
         Some(TraceFault { line, kind })
     }
 }

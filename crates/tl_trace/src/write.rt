@@ -83,19 +83,6 @@ fn fill_line<K: HeadText, const N: usize>(
     fill_byte(line, data, b'\n')
 }
 
-/// The line of a beat on the first `w` of its lanes, with its LF.
-fn line_on<K: HeadText, const N: usize>(beat: &Beat<K, N>, w: usize, version: u8) -> Text
-    requires width { w ≤ WIDEST }
-    requires lanes { w ≤ N }
-    ensures { result.items ≡ line_text (K.form version) w beat.now ++ newline }
-{
-    let mut line = [0; LONGEST_LINE];
-    let end = fill_line::<K, N>(&mut line, beat, w, version);
-    let mut text = ArrayVec::new();
-    put(&mut text, &line[..end]);
-    text
-}
-
 /// The line of a beat on `W` lanes in a trace of this version, with its LF: at most [`LONGEST_LINE`] bytes, those of A and
 /// B on the widest bus in version 2. Ids have two digits in version 1 and four in every other. A field is written by its lowest digits, so the
 /// text of a beat that is writable in this version is its line.
@@ -106,7 +93,11 @@ pub fn line_of<K: HeadText, const W: usize>(
     requires { IsWidth W }
     ensures { result.items ≡ line_text (K.form version) W beat.now ++ newline }
 {
-    line_on::<K, W>(beat, W, version)
+    let mut line = [0; LONGEST_LINE];
+    let end = fill_line::<K, W>(&mut line, beat, W, version);
+    let mut text = ArrayVec::new();
+    put(&mut text, &line[..end]);
+    text
 }
 
 /// How many lines are made before they are appended: a line is made in small pieces, and reading it
@@ -265,19 +256,38 @@ pub fn write_report(out: &mut Vec<u8>, letter: u8, verdict: &Verdict) -> Result<
     Ok(())
 }
 
-/// The line of a beat of a trace of this header, with its LF.
-fn line_of_trace(version: u8, client: usize, manager: usize, line: &Line) -> Text
+/// Writes the line of a beat of a trace of this version and these widths, with its LF, and gives its length.
+fn fill_line_of(room: &mut Room, line: &Line, version: u8, client: usize, manager: usize) -> usize
     requires client { client ≤ WIDEST }
     requires manager { manager ≤ WIDEST }
-    ensures { result.items ≡ text_of_line version client manager line.now ++ newline }
+    ensures items { take result room.new ≡
+        text_of_line version client manager line.now ++ newline }
+    ensures end { result ≤ LONGEST_LINE }
 {
     match line {
-        Line::A(beat) => line_on::<ChA, WIDEST>(beat, client, version),
-        Line::B(beat) => line_on::<ChB, WIDEST>(beat, manager, version),
-        Line::C(beat) => line_on::<ChC, WIDEST>(beat, client, version),
-        Line::D(beat) => line_on::<ChD, WIDEST>(beat, manager, version),
-        Line::E(beat) => line_on::<ChE, WIDEST>(beat, client, version),
+        Line::A(beat) => fill_line::<ChA, WIDEST>(room, beat, client, version),
+        Line::B(beat) => fill_line::<ChB, WIDEST>(room, beat, manager, version),
+        Line::C(beat) => fill_line::<ChC, WIDEST>(room, beat, client, version),
+        Line::D(beat) => fill_line::<ChD, WIDEST>(room, beat, manager, version),
+        Line::E(beat) => fill_line::<ChE, WIDEST>(room, beat, client, version),
     }
+}
+
+/// Appends the text of a trace to an empty list. Where a growth is refused, some of it may be there.
+fn append_trace(out: &mut Vec<u8>, trace: &Trace) -> Result<(), OutOfMemory>
+    requires { out.old.items ≡ [] }
+    ensures { OnOk result (out.new.items ≡ trace_text trace.now.version trace.now.client
+        trace.now.manager trace.now.lines.items) }
+{
+    let (version, client, manager) = (trace.version, trace.client, trace.manager);
+    out.extend_from_slice(header_text(version, client, manager).as_slice())?;
+    out.push(b'\n')?;
+    let mut room = [0; LONGEST_LINE];
+    for line in &trace.lines {
+        let end = fill_line_of(&mut room, line, version, client, manager);
+        out.extend_from_slice(&room[..end])?;
+    }
+    Ok(())
 }
 
 /// The text of a trace, in its version: what is read of it is this trace again.
@@ -286,12 +296,7 @@ pub fn write_trace(alloc: Global, trace: &Trace) -> Result<Vec<u8>, OutOfMemory>
     ensures { IfOk result (λ text. text.items ≡
         trace_text trace.now.version trace.now.client trace.now.manager trace.now.lines.items) }
 {
-    let (version, client, manager) = (trace.version, trace.client, trace.manager);
     let mut out = Vec::new(alloc);
-    out.extend_from_slice(header_text(version, client, manager).as_slice())?;
-    out.push(b'\n')?;
-    for line in &trace.lines {
-        out.extend_from_slice(line_of_trace(version, client, manager, line).as_slice())?;
-    }
+    append_trace(&mut out, trace)?;
     Ok(out)
 }

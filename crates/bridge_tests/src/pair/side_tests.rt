@@ -3,53 +3,16 @@
 
 ghost use Rattle.tl_pair.specs.Sides.{AreSides, SameClient, SameManager};
 
+use crate::beats::{data, get};
+use crate::calls::{LANES, Said};
 use crate::let_sides_go;
 use std::process::Abort;
 use std::test::Fail;
-use tl_lanes::Mask;
-use tl_msg::{Beat, BeatFault, BeatOf, ChA, ChD, HeadA, HeadD, SideFault};
+use tl_msg::{Beat, BeatFault, ChA, ChD, SideFault};
 use tl_pair::{ClientSide, ManagerSide, bridge, meet_sides};
 
-/// Get of 4 bytes on 4 lanes, of source 11.
-fn get(address: u64) -> Beat<ChA, 4> {
-    BeatOf {
-        head: HeadA {
-            opcode: 4,
-            param: 0,
-            size: 2,
-            source: 0x11,
-            address,
-        },
-        mask: 0xf,
-        lanes: [0; 4],
-        corrupt: false,
-    }
-}
-
-/// A response to source 11, of 2 to the power of `size` bytes.
-fn data<const W: usize>(opcode: u8, size: u8, lanes: [u8; W]) -> BeatOf<HeadD, W> {
-    BeatOf {
-        head: HeadD {
-            opcode,
-            param: 0,
-            size,
-            source: 0x11,
-            sink: 0,
-            denied: false,
-        },
-        mask: 0,
-        lanes,
-        corrupt: false,
-    }
-}
-
-/// The bytes 88 to dd of a response, of which the last four stand on the lanes of address 100c.
-const LANES: [u8; 16] = [
-    0x88, 0x99, 0x00, 0x11, 0x22, 0x33, 0x44, 0x55, 0x66, 0x77, 0x88, 0x99, 0xaa, 0xbb, 0xcc, 0xdd,
-];
-
 /// What a side is told to do.
-#[derive(Clone, Copy, Debug)]
+#[derive(Clone, Copy)]
 enum Call {
     /// The client's side offers a Get from address 100c.
     Ask,
@@ -65,27 +28,13 @@ enum Call {
     TakeAnswer,
 }
 
-/// What comes of it.
-#[derive(Clone, Copy, PartialEq, Eq, Debug)]
-enum Said {
-    NotReady,
-    Accepted,
-    Refused(SideFault),
-    Moved(usize),
-    Nothing,
-    /// The mask of a beat of A.
-    Asked(Mask),
-    /// The lanes of a beat of D.
-    Answered([u8; 4]),
-}
-
 fn ask(client: &mut ClientSide<4, 16>) -> Said
     ensures { SameClient client.old client.new }
 {
     if !client.ready_a() {
         return Said::NotReady;
     }
-    match client.offer_a(get(0x100c)) {
+    match client.offer_a(get(0x11, 0x100c)) {
         Ok(()) => Said::Accepted,
         Err(fault) => Said::Refused(fault),
     }
@@ -97,7 +46,7 @@ fn answer(manager: &mut ManagerSide<4, 16>, opcode: u8, size: u8) -> Said
     if !manager.ready_d() {
         return Said::NotReady;
     }
-    match manager.offer_d(data(opcode, size, LANES)) {
+    match manager.offer_d(data(opcode, size, 0x11, LANES)) {
         Ok(()) => Said::Accepted,
         Err(fault) => Said::Refused(fault),
     }
@@ -179,8 +128,11 @@ const CALLS: [(Call, Said); 16] = [
 fn play_all<R: Abort>(rt: &R, client: &mut ClientSide<4, 16>, manager: &mut ManagerSide<4, 16>)
     requires { AreSides client.old manager.old }
 {
-    for &(call, wanted) in &CALLS {
-        assert!(*rt; play_and_meet(client, manager, call) == wanted, "{call:?}");
+    for (number, (call, wanted)) in CALLS.iter().enumerate() {
+        assert!(*rt;
+            play_and_meet(client, manager, *call) == *wanted,
+            "call {number}"
+        );
     }
 }
 
@@ -223,7 +175,7 @@ fn answer_across(
 /// Asks twice by one source, and answers each time.
 fn use_twice<R: Abort>(rt: &R, client: &mut ClientSide<4, 4>, manager: &mut ManagerSide<4, 4>) {
     for &(address, byte) in &[(0, 0x11), (4, 0x22)] {
-        let (request, response) = (get(address), data(1, 2, [byte; 4]));
+        let (request, response) = (get(0x11, address), data(1, 2, 0x11, [byte; 4]));
         assert!(*rt; ask_across(client, manager, request) == Some(request));
         assert!(*rt; answer_across(client, manager, response) == Some(response));
     }

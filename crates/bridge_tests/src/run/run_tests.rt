@@ -40,29 +40,34 @@ fn rounds<const C: usize, const M: usize, R: Threads>(
     }
 }
 
-/// Runs a text over each size of ring and with each number of turns; both runs are to end alike and
-/// in these verdicts.
-fn run_each_way<const C: usize, const M: usize, R: Threads>(
+/// The same of a text of these widths.
+fn rounds_of<R: Threads>(
     rt: &R,
     alloc: Global,
+    widths: (usize, usize),
     text: &str,
+    ring: usize,
+    turns: usize,
     wanted: [Verdict; 5],
-) -> Result<(), Fail> {
-    for ring in [1, 16, 4096] {
-        for turns in [1, 4, 1000] {
-            rounds::<C, M, R>(rt, alloc, text, ring, turns, wanted)?;
-        }
+) -> Result<(u64, u64), Fail> {
+    match widths {
+        (1, 64) => rounds::<1, 64, R>(rt, alloc, text, ring, turns, wanted),
+        (1, 128) => rounds::<1, 128, R>(rt, alloc, text, ring, turns, wanted),
+        (4, 4) => rounds::<4, 4, R>(rt, alloc, text, ring, turns, wanted),
+        (4, 8) => rounds::<4, 8, R>(rt, alloc, text, ring, turns, wanted),
+        (64, 1) => rounds::<64, 1, R>(rt, alloc, text, ring, turns, wanted),
+        (128, 1) => rounds::<128, 1, R>(rt, alloc, text, ring, turns, wanted),
+        _ => Err(Fail::from("other widths")),
     }
-    Ok(())
-}
-
-/// All of so many near beats were accepted, and made so many far beats.
-fn done(near: u64, far: u64) -> Verdict {
-    Verdict::Done { near, far }
 }
 
 /// A channel with no beat.
 const NONE: Verdict = Verdict::Done { near: 0, far: 0 };
+
+/// A channel with one beat on each side, and with two.
+const ONE: Verdict = Verdict::Done { near: 1, far: 1 };
+
+const TWO: Verdict = Verdict::Done { near: 2, far: 2 };
 
 /// The second request waits for its source, and the first response for its request.
 const WAITING: [Verdict; 5] = [
@@ -79,93 +84,250 @@ const WAITING: [Verdict; 5] = [
     NONE,
 ];
 
-#[test]
-fn no_ring_and_no_turns_change_the_end(rt: HostRuntime) -> Result<(), Fail> {
-    let alloc = rt.alloc();
-    let (one, two) = (done(1, 1), done(2, 2));
-    run_each_way::<64, 1, _>(&rt, alloc, RELEASE, [NONE, NONE, done(1, 64), one, NONE])?;
-    let released = [NONE, NONE, done(1, 128), NONE, NONE];
-    run_each_way::<128, 1, _>(&rt, alloc, RELEASE_OF_WIDEST, released)?;
-    run_each_way::<4, 4, _>(&rt, alloc, SOURCE_USED_TWICE, [two, NONE, NONE, two, NONE])?;
-    run_each_way::<4, 4, _>(&rt, alloc, WIDE_SOURCES, [two, NONE, NONE, two, NONE])?;
-    run_each_way::<4, 4, _>(&rt, alloc, EACH_WAITS, WAITING)?;
-    run_each_way::<4, 8, _>(&rt, alloc, FIVE, [one; 5])?;
-    Ok(())
-}
+/// Widths, a text, and the verdicts of its run.
+type Short = ((usize, usize), &'static str, [Verdict; 5]);
 
-#[test]
-fn a_run_heeds_its_turns(rt: HostRuntime) -> Result<(), Fail> {
-    let alloc = rt.alloc();
-    let text = acknowledgements(alloc)?;
-    let wanted = [NONE, NONE, NONE, NONE, done(200, 200)];
-    let (few, _) = rounds::<4, 8, _>(&rt, alloc, text.as_str(), 4096, 1000, wanted)?;
-    assert!(rt; few <= 6);
-    let (many, _) = rounds::<4, 8, _>(&rt, alloc, text.as_str(), 4096, 1, wanted)?;
-    assert!(rt; 201 <= many);
-    Ok(())
-}
+const SHORT: [Short; 6] = [
+    (
+        (64, 1),
+        RELEASE,
+        [NONE, NONE, Verdict::Done { near: 1, far: 64 }, ONE, NONE],
+    ),
+    (
+        (128, 1),
+        RELEASE_OF_WIDEST,
+        [NONE, NONE, Verdict::Done { near: 1, far: 128 }, NONE, NONE],
+    ),
+    ((4, 4), SOURCE_USED_TWICE, [TWO, NONE, NONE, TWO, NONE]),
+    ((4, 4), WIDE_SOURCES, [TWO, NONE, NONE, TWO, NONE]),
+    ((4, 4), EACH_WAITS, WAITING),
+    ((4, 8), FIVE, [ONE; 5]),
+];
 
-#[test]
-fn no_beat_takes_one_round(rt: HostRuntime) -> Result<(), Fail> {
-    assert!(rt; rounds::<4, 4, _>(&rt, rt.alloc(), NO_BEAT, 16, 4, [NONE; 5])? == (1, 1));
-    Ok(())
-}
+const RINGS: [usize; 3] = [1, 16, 4096];
 
-#[test]
-fn a_ring_has_1_to_4096_beats(rt: HostRuntime) -> Result<(), Fail> {
-    for ring in [0, 4097] {
-        let ending = run_freely::<4, 4, _>(&rt, rt.alloc(), NO_BEAT, ring, 4)?;
-        assert!(rt; ending == Ending::Refused(RunFault::RingSize));
+const TURNS: [usize; 3] = [1, 4, 1000];
+
+/// Runs a text over each size of ring and with each number of turns; both runs are to end alike and
+/// in these verdicts.
+fn run_each_way<R: Threads>(rt: &R, alloc: Global, row: &Short) -> Result<(), Fail> {
+    let &(widths, text, wanted) = row;
+    for &ring in &RINGS {
+        for &turns in &TURNS {
+            rounds_of(rt, alloc, widths, text, ring, turns, wanted)?;
+        }
     }
     Ok(())
 }
 
 #[test]
-fn the_largest_message_to_the_narrowest_bus(rt: HostRuntime) -> Result<(), Fail> {
-    let alloc = rt.alloc();
-    let text = repeated(alloc, TO_NARROWEST, WIDE_BEAT, 64)?;
-    let wanted = [done(64, 4096), NONE, NONE, NONE, NONE];
-    let (two, one) = rounds::<64, 1, _>(&rt, alloc, text.as_str(), 1, 1, wanted)?;
-    assert!(rt; two <= 8257 && 4097 <= one && one <= 8257);
-    let (_, one) = rounds::<64, 1, _>(&rt, alloc, text.as_str(), 64, 1, wanted)?;
-    assert!(rt; one <= 65);
+fn no_ring_and_no_turns_change_the_end(rt: HostRuntime) -> Result<(), Fail> {
+    for row in &SHORT {
+        run_each_way(&rt, rt.alloc(), row)?;
+    }
+    Ok(())
+}
+
+/// A text of a header and so many equal lines, the size of its rings and the turns of a round, the
+/// verdicts, and the least and most rounds in two threads and in one.
+struct Run {
+    widths: (usize, usize),
+    header: &'static str,
+    line: &'static str,
+    count: u64,
+    ring: usize,
+    turns: usize,
+    wanted: [Verdict; 5],
+    threads: (u64, u64),
+    sync: (u64, u64),
+}
+
+const RUNS: [Run; 7] = [
+    Run {
+        widths: (4, 4),
+        header: NO_BEAT,
+        line: "",
+        count: 0,
+        ring: 16,
+        turns: 4,
+        wanted: [NONE; 5],
+        threads: (1, 1),
+        sync: (1, 1),
+    },
+    // the largest message to the narrowest bus
+    Run {
+        widths: (64, 1),
+        header: TO_NARROWEST,
+        line: WIDE_BEAT,
+        count: 64,
+        ring: 1,
+        turns: 1,
+        wanted: [
+            Verdict::Done {
+                near: 64,
+                far: 4096,
+            },
+            NONE,
+            NONE,
+            NONE,
+            NONE,
+        ],
+        threads: (1, 8257),
+        sync: (4097, 8257),
+    },
+    Run {
+        widths: (64, 1),
+        header: TO_NARROWEST,
+        line: WIDE_BEAT,
+        count: 64,
+        ring: 64,
+        turns: 1,
+        wanted: [
+            Verdict::Done {
+                near: 64,
+                far: 4096,
+            },
+            NONE,
+            NONE,
+            NONE,
+            NONE,
+        ],
+        threads: (1, 8257),
+        sync: (1, 65),
+    },
+    // a beat of the widest bus to the narrowest
+    Run {
+        widths: (128, 1),
+        header: RELEASE_OF_WIDEST,
+        line: "",
+        count: 0,
+        ring: 1,
+        turns: 1,
+        wanted: [NONE, NONE, Verdict::Done { near: 1, far: 128 }, NONE, NONE],
+        threads: (1, 258),
+        sync: (1, 258),
+    },
+    // the largest message from the widest bus
+    Run {
+        widths: (128, 1),
+        header: FROM_WIDEST,
+        line: WIDEST_BEAT,
+        count: 32,
+        ring: 128,
+        turns: 1,
+        wanted: [
+            Verdict::Done {
+                near: 32,
+                far: 4096,
+            },
+            NONE,
+            NONE,
+            NONE,
+            NONE,
+        ],
+        threads: (1, 8225),
+        sync: (1, 33),
+    },
+    // the largest message to the widest bus
+    Run {
+        widths: (1, 128),
+        header: TO_WIDEST,
+        line: NARROWEST_BEAT_OF_WIDE_ID,
+        count: 4096,
+        ring: 16,
+        turns: 1000,
+        wanted: [
+            Verdict::Done {
+                near: 4096,
+                far: 32,
+            },
+            NONE,
+            NONE,
+            NONE,
+            NONE,
+        ],
+        threads: (1, 4161),
+        sync: (1, 4161),
+    },
+    // and to a wide one
+    Run {
+        widths: (1, 64),
+        header: TO_WIDE,
+        line: NARROWEST_BEAT,
+        count: 4096,
+        ring: 1,
+        turns: 1,
+        wanted: [
+            Verdict::Done {
+                near: 4096,
+                far: 64,
+            },
+            NONE,
+            NONE,
+            NONE,
+            NONE,
+        ],
+        threads: (1, 4225),
+        sync: (1, 4225),
+    },
+];
+
+/// Whether a run takes as many rounds as it may.
+fn is_short<R: Threads>(rt: &R, alloc: Global, run: &Run) -> Result<bool, Fail> {
+    let text = repeated(alloc, run.header, run.line, run.count)?;
+    let (threads, sync) = rounds_of(
+        rt,
+        alloc,
+        run.widths,
+        text.as_str(),
+        run.ring,
+        run.turns,
+        run.wanted,
+    )?;
+    Ok(
+        run.threads.0 <= threads
+            && threads <= run.threads.1
+            && run.sync.0 <= sync
+            && sync <= run.sync.1,
+    )
+}
+
+#[test]
+fn runs_take_their_rounds(rt: HostRuntime) -> Result<(), Fail> {
+    for (number, run) in RUNS.iter().enumerate() {
+        assert!(rt; is_short(&rt, rt.alloc(), run)?, "row {number}");
+    }
+    Ok(())
+}
+
+fn heed_turns<R: Threads>(rt: &R, alloc: Global, text: &str) -> Result<bool, Fail> {
+    let wanted = [
+        NONE,
+        NONE,
+        NONE,
+        NONE,
+        Verdict::Done {
+            near: 200,
+            far: 200,
+        },
+    ];
+    let (few, _) = rounds::<4, 8, R>(rt, alloc, text, 4096, 1000, wanted)?;
+    let (many, _) = rounds::<4, 8, R>(rt, alloc, text, 4096, 1, wanted)?;
+    Ok(few <= 6 && 201 <= many)
+}
+
+#[test]
+fn a_run_heeds_its_turns(rt: HostRuntime) -> Result<(), Fail> {
+    let text = acknowledgements(rt.alloc())?;
+    assert!(rt; heed_turns(&rt, rt.alloc(), text.as_str())?);
     Ok(())
 }
 
 #[test]
-fn a_beat_of_the_widest_bus_to_the_narrowest(rt: HostRuntime) -> Result<(), Fail> {
-    let wanted = [NONE, NONE, done(1, 128), NONE, NONE];
-    let (two, one) = rounds::<128, 1, _>(&rt, rt.alloc(), RELEASE_OF_WIDEST, 1, 1, wanted)?;
-    assert!(rt; two <= 258 && one <= 258);
-    Ok(())
-}
-
-#[test]
-fn the_largest_message_from_the_widest_bus(rt: HostRuntime) -> Result<(), Fail> {
-    let alloc = rt.alloc();
-    let text = repeated(alloc, FROM_WIDEST, WIDEST_BEAT, 32)?;
-    let wanted = [done(32, 4096), NONE, NONE, NONE, NONE];
-    let (_, one) = rounds::<128, 1, _>(&rt, alloc, text.as_str(), 128, 1, wanted)?;
-    assert!(rt; one <= 33);
-    Ok(())
-}
-
-#[test]
-fn the_largest_message_to_the_widest_bus(rt: HostRuntime) -> Result<(), Fail> {
-    let alloc = rt.alloc();
-    let text = repeated(alloc, TO_WIDEST, NARROWEST_BEAT_OF_WIDE_ID, 4096)?;
-    let wanted = [done(4096, 32), NONE, NONE, NONE, NONE];
-    let (two, one) = rounds::<1, 128, _>(&rt, alloc, text.as_str(), 16, 1000, wanted)?;
-    assert!(rt; two <= 4161 && one <= 4161);
-    Ok(())
-}
-
-#[test]
-fn the_largest_message_to_a_wide_bus(rt: HostRuntime) -> Result<(), Fail> {
-    let alloc = rt.alloc();
-    let text = repeated(alloc, TO_WIDE, NARROWEST_BEAT, 4096)?;
-    let wanted = [done(4096, 64), NONE, NONE, NONE, NONE];
-    let (two, one) = rounds::<1, 64, _>(&rt, alloc, text.as_str(), 1, 1, wanted)?;
-    assert!(rt; two <= 4225 && one <= 4225);
+fn a_ring_has_1_to_4096_beats(rt: HostRuntime) -> Result<(), Fail> {
+    for &ring in &[0, 4097] {
+        let ending = run_freely::<4, 4, _>(&rt, rt.alloc(), NO_BEAT, ring, 4)?;
+        assert!(rt; ending == Ending::Refused(RunFault::RingSize));
+    }
     Ok(())
 }

@@ -1,5 +1,7 @@
 -- What one near beat gives: what the functions inside this crate promise each other.
-use Rattle.std.specs.Prelude.{◌≡◌, ◌≢◌, ◌<◌, ◌*◌, ◌++◌, ℕ, true, Some, List, [], ◌∷◌, length, slice_index}
+use Rattle.std.specs.Prelude.{◌≡◌, ◌≢◌, ◌<◌, ◌≤◌, ◌*◌, ◌++◌, ℕ, true, Some, List, [], ◌∷◌, length, slice_index}
+use Rattle.tl_lanes.specs.declared.limits.TheConstants.{MAX_SIZE}
+use Rattle.tl_lanes.specs.Lanes.{IsWidth}
 use Rattle.tl_msg.specs.Rules.{Rules}
 use Rattle.tl_msg.specs.declared.beat.BeatOf.{BeatOf}
 use Rattle.tl_burst.specs.Messages.{Message, per_beat, beats_of}
@@ -33,3 +35,10 @@ pub record Given {H : Type 0} {W V : ℕ} (r : Rules H) (home : ℕ) (b : BeatOf
   pub due_is : (homes : List ℕ) → slice_index homes 0 ≡ home → due_after r W V bs homes (b ∷ []) ≡ part r W V home bs ++ out
   pub filled : r.carries b.head ≡ true → Filled r (message_of r b.head W home (bs ++ b ∷ [])) V
       (far_beats_of r b.head W V (length (bs ++ b ∷ []))) (length (bs ++ b ∷ []) * per_beat r b.head W) partial
+
+-- what is asked of a call that gives the far beats of a near beat: one clause in place of four, since each is stated again at each call
+pub record CanGive {H : Type 0} {W V : ℕ} (r : Rules H) (b : BeatOf H W) (out : List (BeatOf H V)) : Type 0 where
+  pub near : IsWidth W
+  pub far : IsWidth V
+  pub small : r.size b.head ≤ MAX_SIZE
+  pub empty : out ≡ []

@@ -1,12 +1,12 @@
 -- How bytes get from a near beat into far beats: what the functions inside this crate promise each other. A byte is named by its number
 -- in its message, and a far beat by its number in the layout.
-use Rattle.std.specs.Prelude.{◌≡◌, ◌≢◌, ◌<◌, ◌≤◌, ◌+◌, ◌/◌, ◌-◌, ◌^◌, ◌||◌, ℕ, Bool, true, false, cond, Some, List, map, replicate, slice_get, slice_index, length}
+use Rattle.std.specs.Prelude.{◌≡◌, ◌≢◌, ◌<◌, ◌≤◌, ◌+◌, ◌/◌, ◌%◌, ◌-◌, ◌^◌, ◌||◌, ℕ, Bool, true, false, cond, Some, List, [], map, replicate, slice_get, slice_index, length}
 use Rattle.std.specs.List.{range_with_len}
 use Rattle.std.specs.Int.{bit_at}
 use Rattle.tl_msg.specs.Rules.{Rules}
 use Rattle.tl_msg.specs.declared.beat.BeatOf.{BeatOf}
-use Rattle.tl_lanes.specs.declared.limits.TheConstants.{WIDEST}
-use Rattle.tl_lanes.specs.Lanes.{lane_of}
+use Rattle.tl_lanes.specs.declared.limits.TheConstants.{MAX_SIZE, WIDEST}
+use Rattle.tl_lanes.specs.Lanes.{IsWidth, lane_of}
 use Rattle.tl_burst.specs.Messages.{Message, per_beat, beat_at}
 use Rattle.tl_burst.specs.Reading.{cell_of}
 use Rattle.tl_convert.specs.Partial.{Filled}
@@ -53,3 +53,13 @@ pub record Source {H : Type 0} {W : ℕ} (r : Rules H) (m : Message H) (home fir
 pub record Pours {H : Type 0} (r : Rules H) (m : Message H) (v first end : ℕ) (next : BeatOf H v) (out : List (BeatOf H v)) : Type 0 where
   pub filled : Filled r m v (end / per_beat r m.head v) end next
   pub beats : out ≡ far_beats r m v first end
+
+-- what is asked of a call that puts the bytes of a near beat, from byte `first` of its message on, into far beats: one clause in place of
+-- six, since each is stated again at each call
+pub record CanPour {H : Type 0} {W V : ℕ} (r : Rules H) (b : BeatOf H W) (first : ℕ) (out : List (BeatOf H V)) : Type 0 where
+  pub near : IsWidth W
+  pub far : IsWidth V
+  pub small : r.size b.head ≤ MAX_SIZE
+  pub whole : first % per_beat r b.head W ≡ 0
+  pub room : first < 2 ^ 40
+  pub empty : out ≡ []

@@ -1,5 +1,5 @@
 -- What the parts of the reader give. Only contracts of private functions cite these words.
-use Rattle.std.specs.Prelude.{◌≡◌, ◌≢◌, ◌≤◌, ◌<◌, ◌+◌, ◌*◌, ◌^◌, ◌==◌, ◌&&◌, ℕ, Bool, true, false, List, [], ◌∷◌, ◌++◌, map, length, Option, Some, None, MatchOption, is_none, nat_lt, if◌then◌else◌, slice_index, slice_range}
+use Rattle.std.specs.Prelude.{◌≡◌, ◌≢◌, ◌≤◌, ◌<◌, ◌+◌, ◌-◌, ◌*◌, ◌^◌, ◌==◌, ◌&&◌, ℕ, Bool, true, false, List, [], ◌∷◌, ◌++◌, drop, map, length, Option, Some, None, MatchOption, is_none, nat_lt, if◌then◌else◌, slice_index, slice_range}
 use Rattle.std.specs.List.{list_all, list_any}
 use Rattle.std.specs.Option.{option_to_list}
 use Rattle.std.specs.Str.Parse.{digits_value}
@@ -10,15 +10,10 @@ use Rattle.tl_trace.specs.Faults.{body_fault}
 use Rattle.tl_trace.specs.declared.head_reader.HeadFields.{HeadFields}
 use Rattle.tl_trace.specs.declared.head_reader.CommonFields.{CommonFields}
 use Rattle.tl_trace.specs.declared.line.Line.{Line}
-use Rattle.tl_trace.specs.declared.near.Near.{Near}
-use Rattle.tl_trace.specs.declared.near.Near.TheVariants.{OfA, OfB, OfC, OfD, OfE}
 use Rattle.tl_trace.specs.declared.script.Script.{Script}
-use Rattle.tl_trace.specs.Scripts.{beat_of_a, beat_of_b, beat_of_c, beat_of_d, beat_of_e}
-use Rattle.tl_msg.specs.declared.head.HeadA.{HeadA}
-use Rattle.tl_msg.specs.declared.head.HeadB.{HeadB}
-use Rattle.tl_msg.specs.declared.head.HeadC.{HeadC}
-use Rattle.tl_msg.specs.declared.head.HeadD.{HeadD}
-use Rattle.tl_msg.specs.declared.head.HeadE.{HeadE}
+use Rattle.tl_trace.specs.declared.fault.TraceKind.{TraceKind}
+use Rattle.tl_trace.specs.declared.places.TheConstants.{LONGEST_LINE}
+use Rattle.tl_trace.specs.Scripts.{IsUnfinished, beat_of_a, beat_of_b, beat_of_c, beat_of_d, beat_of_e}
 use Rattle.tl_msg.specs.declared.beat.BeatOf.{BeatOf}
 use Rattle.tl_trace.specs.Lines.{is_hex, places_from, IsLine, is_kept}
 
@@ -131,48 +126,13 @@ pub record LineAt (text : List ℕ) (at end : ℕ) : Type 0 where
   pub free : (k : ℕ) → at + k < end → slice_index text (at + k) ≢ 10
   pub stop : end < length text → slice_index text end ≡ 10
 
--- the beat of a near line, where it is one of the channel
-abbrev pub near_a : {client manager : ℕ} → Near client manager → Option (BeatOf HeadA client)
-near_a (OfA b) = Some b
-near_a _ = None
-
-abbrev pub near_b : {client manager : ℕ} → Near client manager → Option (BeatOf HeadB manager)
-near_b (OfB b) = Some b
-near_b _ = None
-
-abbrev pub near_c : {client manager : ℕ} → Near client manager → Option (BeatOf HeadC client)
-near_c (OfC b) = Some b
-near_c _ = None
-
-abbrev pub near_d : {client manager : ℕ} → Near client manager → Option (BeatOf HeadD manager)
-near_d (OfD b) = Some b
-near_d _ = None
-
-abbrev pub near_e : {client manager : ℕ} → Near client manager → Option (BeatOf HeadE client)
-near_e (OfE b) = Some b
-near_e _ = None
-
--- a near beat is that of a line of a trace
-pub record IsNearOf {client manager : ℕ} (line : Line) (near : Near client manager) : Type 0 where
-  pub a : near_a near ≡ beat_of_a client line
-  pub b : near_b near ≡ beat_of_b manager line
-  pub c : near_c near ≡ beat_of_c client line
-  pub d : near_d near ≡ beat_of_d manager line
-  pub e : near_e near ≡ beat_of_e client line
-
--- a beat was put behind those of its channel
-pub record IsPushed {client manager : ℕ} (near : Near client manager) (before after : Script client manager) : Type 0 where
-  pub a : after.a.items ≡ before.a.items ++ option_to_list (near_a near)
-  pub b : after.b.items ≡ before.b.items ++ option_to_list (near_b near)
-  pub c : after.c.items ≡ before.c.items ++ option_to_list (near_c near)
-  pub d : after.d.items ≡ before.d.items ++ option_to_list (near_d near)
-  pub e : after.e.items ≡ before.e.items ++ option_to_list (near_e near)
-
--- a near beat is what the line says
-pub record IsReadNear {client manager : ℕ} (version : ℕ) (text : List ℕ) (near : Near client manager) : Type 0 where
-  pub line : Line
-  pub read : IsReadLine version client manager text line
-  pub same : IsNearOf line near
+-- the beat of a line was put behind those of its channel
+pub record IsPushed {client manager : ℕ} (line : Line) (before after : Script client manager) : Type 0 where
+  pub a : after.a.items ≡ before.a.items ++ option_to_list (beat_of_a client line)
+  pub b : after.b.items ≡ before.b.items ++ option_to_list (beat_of_b manager line)
+  pub c : after.c.items ≡ before.c.items ++ option_to_list (beat_of_c client line)
+  pub d : after.d.items ≡ before.d.items ++ option_to_list (beat_of_d manager line)
+  pub e : after.e.items ≡ before.e.items ++ option_to_list (beat_of_e client line)
 
 -- the beat of the line from a place on, where its LF stands at the end, was put behind those of its channel
 pub record IsLinePushed {H : Type 0} (f : Form H) (w : ℕ) (text : List ℕ) (at : ℕ) (before after : List (BeatOf H w)) (end : ℕ) : Type 0 where
@@ -185,12 +145,12 @@ pub record IsLinePushed {H : Type 0} (f : Form H) (w : ℕ) (text : List ℕ) (a
 
 -- the same of a line of any channel
 pub record IsNextPushed {client manager : ℕ} (version : ℕ) (text : List ℕ) (at : ℕ) (before after : Script client manager) (end : ℕ) : Type 0 where
-  pub near : Near client manager
-  pub from : at < end
+  pub line : Line
+  pub from : at ≤ end
   pub to : end < length text
   pub stop : slice_index text end ≡ 10
-  pub read : IsReadNear version (slice_range text at end) near
-  pub put : IsPushed near before after
+  pub read : IsReadLine version client manager (slice_range text at end) line
+  pub put : IsPushed line before after
 
 -- two scripts of the same beats
 pub record IsSameScript {client manager : ℕ} (before after : Script client manager) : Type 0 where
@@ -199,3 +159,23 @@ pub record IsSameScript {client manager : ℕ} (before after : Script client man
   pub c : after.c.items ≡ before.c.items
   pub d : after.d.items ≡ before.d.items
   pub e : after.e.items ≡ before.e.items
+
+-- the text ends within the line from a place on, which is no longer than a line can be, and the script stays
+pub record IsLeft {client manager : ℕ} (text : List ℕ) (at : ℕ) (before after : Script client manager) : Type 0 where
+  pub rest : IsUnfinished (drop at text)
+  pub same : IsSameScript before after
+
+-- the line from a place on has this fault, whether it ends there or is too long for a line
+pub record IsFaultyAt (version client manager : ℕ) (text : List ℕ) (at : ℕ) (kind : TraceKind) : Type 0 where
+  pub end : ℕ
+  pub line : LineAt text at end
+  pub long : end ≡ length text → LONGEST_LINE ≤ end - at
+  pub fault : body_fault version client manager (slice_range text at end) ≡ Some kind
+
+-- the line from a place on says a beat
+pub record IsReadableAt (version client manager : ℕ) (text : List ℕ) (at : ℕ) : Type 0 where
+  pub end : ℕ
+  pub line : LineAt text at end
+  pub beat : Line
+  pub inside : end < length text
+  pub read : IsReadLine version client manager (slice_range text at end) beat

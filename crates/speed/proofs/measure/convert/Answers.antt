@@ -6,18 +6,3 @@ use Rattle.speed.proofs.measure.convert.Goals as goal
 
 pub check-requires : goal.check-requires
 check-requires g c = (search rules, (beat_fits (lone g.row.K-Head.mir) (layout g.row.K-Head) g.row.W g.met.K.Channel.head_small c.requires.near, c.requires.near))
-
-pub feed_at-requires : goal.feed_at-requires
-feed_at-requires g c = (
-  search rules,
-  (
-    beat_fits (lone g.row.K-Head.mir) (layout g.row.K-Head) g.row.W g.met.K.Channel.head_small c.requires.near,
-    (
-      search rules,
-      (
-        beat_fits (lone g.row.K-Head.mir) (layout g.row.K-Head) g.row.V g.met.K.Channel.head_small c.requires.far,
-        (c.requires.near, (c.requires.far, (search rules, search rules))),
-      ),
-    ),
-  ),
-)

@@ -13,12 +13,6 @@ deref-requires g c = λ κs. (lives-long κs.1.0, lives-long κs.1.1.0)
 pub go_ahead-at-requires : goal.go_ahead-at-requires
 go_ahead-at-requires g c = record { can = (c.requires.client, c.requires.manager); few = c.requires.few.a; most = c.requires.most }
 
-pub go_ahead-at-requires-room-S-Offers : goal.go_ahead-at-requires-room-S-Offers
-go_ahead-at-requires-room-S-Offers g c κs = bridge_small g.row.C g.row.M c.requires.client c.requires.manager
-
-pub go_ahead-at-requires-room-S-Offers-2 : goal.go_ahead-at-requires-room-S-Offers-2
-go_ahead-at-requires-room-S-Offers-2 g c κs = beat_small g.row.C c.requires.client
-
 pub go_ahead-at-requires-room-S-GoesAhead : goal.go_ahead-at-requires-room-S-GoesAhead
 go_ahead-at-requires-room-S-GoesAhead g c κs = bridge_small g.row.C g.row.M c.requires.client c.requires.manager
 
@@ -30,12 +24,6 @@ deref-requires-2 g c = λ κs. (lives-long κs.1.0, lives-long κs.1.1.0)
 
 pub go_ahead-at-requires-2 : goal.go_ahead-at-requires-2
 go_ahead-at-requires-2 g c = record { can = (c.requires.client, c.requires.manager); few = c.requires.few.c; most = c.requires.most }
-
-pub go_ahead-at-requires-2-room-S-Offers : goal.go_ahead-at-requires-2-room-S-Offers
-go_ahead-at-requires-2-room-S-Offers g c κs = bridge_small g.row.C g.row.M c.requires.client c.requires.manager
-
-pub go_ahead-at-requires-2-room-S-Offers-2 : goal.go_ahead-at-requires-2-room-S-Offers-2
-go_ahead-at-requires-2-room-S-Offers-2 g c κs = beat_small g.row.C c.requires.client
 
 pub go_ahead-at-requires-2-room-S-GoesAhead : goal.go_ahead-at-requires-2-room-S-GoesAhead
 go_ahead-at-requires-2-room-S-GoesAhead g c κs = bridge_small g.row.C g.row.M c.requires.client c.requires.manager
@@ -49,12 +37,6 @@ deref-requires-3 g c = λ κs. (lives-long κs.1.0, lives-long κs.1.1.0)
 pub go_ahead-at-requires-3 : goal.go_ahead-at-requires-3
 go_ahead-at-requires-3 g c = record { can = (c.requires.client, c.requires.manager); few = c.requires.few.e; most = c.requires.most }
 
-pub go_ahead-at-requires-3-room-S-Offers : goal.go_ahead-at-requires-3-room-S-Offers
-go_ahead-at-requires-3-room-S-Offers g c κs = bridge_small g.row.C g.row.M c.requires.client c.requires.manager
-
-pub go_ahead-at-requires-3-room-S-Offers-2 : goal.go_ahead-at-requires-3-room-S-Offers-2
-go_ahead-at-requires-3-room-S-Offers-2 g c κs = beat_small g.row.C c.requires.client
-
 pub go_ahead-at-requires-3-room-S-GoesAhead : goal.go_ahead-at-requires-3-room-S-GoesAhead
 go_ahead-at-requires-3-room-S-GoesAhead g c κs = bridge_small g.row.C g.row.M c.requires.client c.requires.manager
 
@@ -67,12 +49,6 @@ deref-requires-4 g c = λ κs. (lives-long κs.1.0, lives-long κs.1.1.0)
 pub go_ahead-at-requires-4 : goal.go_ahead-at-requires-4
 go_ahead-at-requires-4 g c = record { can = (c.requires.client, c.requires.manager); few = c.requires.few.b; most = c.requires.most }
 
-pub go_ahead-at-requires-4-room-S-Offers : goal.go_ahead-at-requires-4-room-S-Offers
-go_ahead-at-requires-4-room-S-Offers g c κs = bridge_small g.row.C g.row.M c.requires.client c.requires.manager
-
-pub go_ahead-at-requires-4-room-S-Offers-2 : goal.go_ahead-at-requires-4-room-S-Offers-2
-go_ahead-at-requires-4-room-S-Offers-2 g c κs = beat_small g.row.M c.requires.manager
-
 pub go_ahead-at-requires-4-room-S-GoesAhead : goal.go_ahead-at-requires-4-room-S-GoesAhead
 go_ahead-at-requires-4-room-S-GoesAhead g c κs = bridge_small g.row.C g.row.M c.requires.client c.requires.manager
 
@@ -84,12 +60,6 @@ deref-requires-5 g c = λ κs. (lives-long κs.1.0, lives-long κs.1.1.0)
 
 pub go_ahead-at-requires-5 : goal.go_ahead-at-requires-5
 go_ahead-at-requires-5 g c = record { can = (c.requires.client, c.requires.manager); few = c.requires.few.d; most = c.requires.most }
-
-pub go_ahead-at-requires-5-room-S-Offers : goal.go_ahead-at-requires-5-room-S-Offers
-go_ahead-at-requires-5-room-S-Offers g c κs = bridge_small g.row.C g.row.M c.requires.client c.requires.manager
-
-pub go_ahead-at-requires-5-room-S-Offers-2 : goal.go_ahead-at-requires-5-room-S-Offers-2
-go_ahead-at-requires-5-room-S-Offers-2 g c κs = beat_small g.row.M c.requires.manager
 
 pub go_ahead-at-requires-5-room-S-GoesAhead : goal.go_ahead-at-requires-5-room-S-GoesAhead
 go_ahead-at-requires-5-room-S-GoesAhead g c κs = bridge_small g.row.C g.row.M c.requires.client c.requires.manager

@@ -8,15 +8,15 @@ beats-init g c = record { goes = g.met.S.GoesAhead.goes_none c.args.beats.now c.
 pub is_accepted-requires : goal.is_accepted-requires
 is_accepted-requires g c = tt
 
-pub offer_next-offered-requires : goal.offer_next-offered-requires
-offer_next-offered-requires g c = c.requires.can
+pub go_on-offered-requires : goal.go_on-offered-requires
+go_on-offered-requires g c = c.requires.can
 
 pub steps-later-requires : goal.steps-later-requires
 steps-later-requires g c = tt
 
 pub overflow_add-later : goal.overflow_add-later
 overflow_add-later g c =
-    let one : c.steps-later.result ≤ 1 = subst (λ n. n ≤ 1) (sym c.steps-later.ensures) (one-step c.offer_next-offered.result) in
+    let one : c.steps-later.result ≤ 1 = subst (λ n. n ≤ 1) (sym c.steps-later.ensures) (one-step c.go_on-offered.result) in
     omega (arith, one, c.beats.invariant.few, c.requires.few, c.requires.most)
 
 pub overflow_sub-left : goal.overflow_sub-left
@@ -27,10 +27,10 @@ beats-smaller g c = omega (arith, c.beats-test.true)
 
 pub beats-preserved : goal.beats-preserved
 beats-preserved g c =
-    let one : c.steps-later.result ≤ 1 = subst (λ n. n ≤ 1) (sym c.steps-later.ensures) (one-step c.offer_next-offered.result) in
+    let one : c.steps-later.result ≤ 1 = subst (λ n. n ≤ 1) (sym c.steps-later.ensures) (one-step c.go_on-offered.result) in
     record {
-      goes = g.met.S.GoesAhead.goes_then c.args.beats.now c.args.at c.beats.later (c.beats.later + c.steps-later.result) c.args.side.now c.beats.side c.go_on.new.self c.beats.invariant.goes
-          (subst (λ n. g.S.GoesAhead.Goes c.args.beats.now c.beats.later c.beats.side (c.beats.later + n) c.go_on.new.self) (sym c.steps-later.ensures) (c.go_on.ensures c.args.beats.now c.beats.later c.beats.side c.offer_next-offered.result c.offer_next-offered.ensures));
+      goes = g.met.S.GoesAhead.goes_then c.args.beats.now c.args.at c.beats.later (c.beats.later + c.steps-later.result) c.args.side.now c.beats.side c.go_on-offered.new.self c.beats.invariant.goes
+          (subst (λ n. g.S.GoesAhead.Goes c.args.beats.now c.beats.later c.beats.side (c.beats.later + n) c.go_on-offered.new.self) (sym c.steps-later.ensures) c.go_on-offered.ensures);
       few = omega (arith, one, c.beats.invariant.few, c.beats-test.true);
     }
 

@@ -10,41 +10,23 @@ use Rattle.tl_bridge.proofs.client_turns.offer_each.Goals as goal
 pub deref-requires : goal.deref-requires
 deref-requires g c = λ κs. (lives-long κs.1.0, lives-long κs.1.1.0)
 
-pub offer_next-a-requires-room-S-Offers : goal.offer_next-a-requires-room-S-Offers
-offer_next-a-requires-room-S-Offers g c = λ κs. client_small g.row.C g.row.M c.requires.client c.requires.manager
-
-pub offer_next-a-requires-room-S-Offers-2 : goal.offer_next-a-requires-room-S-Offers-2
-offer_next-a-requires-room-S-Offers-2 g c = λ κs. beat_small g.row.C c.requires.client
-
 pub deref-requires-2 : goal.deref-requires-2
 deref-requires-2 g c = λ κs. (lives-long κs.1.0, lives-long κs.1.1.0)
 
-pub offer_next-c-requires-room-S-Offers : goal.offer_next-c-requires-room-S-Offers
-offer_next-c-requires-room-S-Offers g c = λ κs. client_small g.row.C g.row.M c.requires.client c.requires.manager
-
-pub offer_next-c-requires-room-S-Offers-2 : goal.offer_next-c-requires-room-S-Offers-2
-offer_next-c-requires-room-S-Offers-2 g c = λ κs. beat_small g.row.C c.requires.client
-
 pub deref-requires-3 : goal.deref-requires-3
 deref-requires-3 g c = λ κs. (lives-long κs.1.0, lives-long κs.1.1.0)
-
-pub offer_next-e-requires-room-S-Offers : goal.offer_next-e-requires-room-S-Offers
-offer_next-e-requires-room-S-Offers g c = λ κs. client_small g.row.C g.row.M c.requires.client c.requires.manager
-
-pub offer_next-e-requires-room-S-Offers-2 : goal.offer_next-e-requires-room-S-Offers-2
-offer_next-e-requires-room-S-Offers-2 g c = λ κs. beat_small g.row.C c.requires.client
 
 pub returns-clause-others : goal.returns-clause-others
 returns-clause-others g c = (refl, refl)
 
 pub offer_next-a-requires : goal.offer_next-a-requires
-offer_next-a-requires g c = (c.requires.client, c.requires.manager)
+offer_next-a-requires g c = (client_small g.row.C g.row.M c.requires.client c.requires.manager, (beat_small g.row.C c.requires.client, (c.requires.client, c.requires.manager)))
 
 pub offer_next-c-requires : goal.offer_next-c-requires
-offer_next-c-requires g c = (c.requires.client, c.requires.manager)
+offer_next-c-requires g c = (client_small g.row.C g.row.M c.requires.client c.requires.manager, (beat_small g.row.C c.requires.client, (c.requires.client, c.requires.manager)))
 
 pub offer_next-e-requires : goal.offer_next-e-requires
-offer_next-e-requires g c = (c.requires.client, c.requires.manager)
+offer_next-e-requires g c = (client_small g.row.C g.row.M c.requires.client c.requires.manager, (beat_small g.row.C c.requires.client, (c.requires.client, c.requires.manager)))
 
 pub returns-clause-offers : goal.returns-clause-offers
 returns-clause-offers g c = λ x h.

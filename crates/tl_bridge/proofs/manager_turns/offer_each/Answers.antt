@@ -10,29 +10,17 @@ use Rattle.tl_bridge.proofs.manager_turns.offer_each.Goals as goal
 pub deref-requires : goal.deref-requires
 deref-requires g c = λ κs. (lives-long κs.1.0, lives-long κs.1.1.0)
 
-pub offer_next-b-requires-room-S-Offers : goal.offer_next-b-requires-room-S-Offers
-offer_next-b-requires-room-S-Offers g c = λ κs. manager_small g.row.C g.row.M c.requires.client c.requires.manager
-
-pub offer_next-b-requires-room-S-Offers-2 : goal.offer_next-b-requires-room-S-Offers-2
-offer_next-b-requires-room-S-Offers-2 g c = λ κs. beat_small g.row.M c.requires.manager
-
 pub deref-requires-2 : goal.deref-requires-2
 deref-requires-2 g c = λ κs. (lives-long κs.1.0, lives-long κs.1.1.0)
-
-pub offer_next-d-requires-room-S-Offers : goal.offer_next-d-requires-room-S-Offers
-offer_next-d-requires-room-S-Offers g c = λ κs. manager_small g.row.C g.row.M c.requires.client c.requires.manager
-
-pub offer_next-d-requires-room-S-Offers-2 : goal.offer_next-d-requires-room-S-Offers-2
-offer_next-d-requires-room-S-Offers-2 g c = λ κs. beat_small g.row.M c.requires.manager
 
 pub returns-clause-others : goal.returns-clause-others
 returns-clause-others g c = (refl, refl, refl)
 
 pub offer_next-b-requires : goal.offer_next-b-requires
-offer_next-b-requires g c = (c.requires.client, c.requires.manager)
+offer_next-b-requires g c = (manager_small g.row.C g.row.M c.requires.client c.requires.manager, (beat_small g.row.M c.requires.manager, (c.requires.client, c.requires.manager)))
 
 pub offer_next-d-requires : goal.offer_next-d-requires
-offer_next-d-requires g c = (c.requires.client, c.requires.manager)
+offer_next-d-requires g c = (manager_small g.row.C g.row.M c.requires.client c.requires.manager, (beat_small g.row.M c.requires.manager, (c.requires.client, c.requires.manager)))
 
 pub returns-clause-offers : goal.returns-clause-offers
 returns-clause-offers g c = λ x h.

@@ -9,32 +9,17 @@ use Rattle.tl_bridge.proofs.rounds.offer_on_each.Goals as goal
 pub deref-requires : goal.deref-requires
 deref-requires g c = λ κs. (lives-long κs.1.0, lives-long κs.1.1.0)
 
-pub offer_next-a-requires-room-S-Offers : goal.offer_next-a-requires-room-S-Offers
-offer_next-a-requires-room-S-Offers g c = λ κs. bridge_small g.row.C g.row.M c.requires.client c.requires.manager
-
 pub deref-requires-2 : goal.deref-requires-2
 deref-requires-2 g c = λ κs. (lives-long κs.1.0, lives-long κs.1.1.0)
-
-pub offer_next-c-requires-room-S-Offers : goal.offer_next-c-requires-room-S-Offers
-offer_next-c-requires-room-S-Offers g c = λ κs. bridge_small g.row.C g.row.M c.requires.client c.requires.manager
 
 pub deref-requires-3 : goal.deref-requires-3
 deref-requires-3 g c = λ κs. (lives-long κs.1.0, lives-long κs.1.1.0)
 
-pub offer_next-e-requires-room-S-Offers : goal.offer_next-e-requires-room-S-Offers
-offer_next-e-requires-room-S-Offers g c = λ κs. bridge_small g.row.C g.row.M c.requires.client c.requires.manager
-
 pub deref-requires-4 : goal.deref-requires-4
 deref-requires-4 g c = λ κs. (lives-long κs.1.0, lives-long κs.1.1.0)
 
-pub offer_next-b-requires-room-S-Offers : goal.offer_next-b-requires-room-S-Offers
-offer_next-b-requires-room-S-Offers g c = λ κs. bridge_small g.row.C g.row.M c.requires.client c.requires.manager
-
 pub deref-requires-5 : goal.deref-requires-5
 deref-requires-5 g c = λ κs. (lives-long κs.1.0, lives-long κs.1.1.0)
-
-pub offer_next-d-requires-room-S-Offers : goal.offer_next-d-requires-room-S-Offers
-offer_next-d-requires-room-S-Offers g c = λ κs. bridge_small g.row.C g.row.M c.requires.client c.requires.manager
 
 pub add_accepted-requires : goal.add_accepted-requires
 add_accepted-requires g c = record { few = c.requires.few }
@@ -43,34 +28,19 @@ pub returns-clause-counted : goal.returns-clause-counted
 returns-clause-counted g c = c.add_accepted.ensures
 
 pub offer_next-a-requires : goal.offer_next-a-requires
-offer_next-a-requires g c = (c.requires.client, c.requires.manager)
+offer_next-a-requires g c = (bridge_small g.row.C g.row.M c.requires.client c.requires.manager, (beat_small g.row.C c.requires.client, (c.requires.client, c.requires.manager)))
 
 pub offer_next-c-requires : goal.offer_next-c-requires
-offer_next-c-requires g c = (c.requires.client, c.requires.manager)
+offer_next-c-requires g c = (bridge_small g.row.C g.row.M c.requires.client c.requires.manager, (beat_small g.row.C c.requires.client, (c.requires.client, c.requires.manager)))
 
 pub offer_next-e-requires : goal.offer_next-e-requires
-offer_next-e-requires g c = (c.requires.client, c.requires.manager)
+offer_next-e-requires g c = (bridge_small g.row.C g.row.M c.requires.client c.requires.manager, (beat_small g.row.C c.requires.client, (c.requires.client, c.requires.manager)))
 
 pub offer_next-b-requires : goal.offer_next-b-requires
-offer_next-b-requires g c = (c.requires.client, c.requires.manager)
+offer_next-b-requires g c = (bridge_small g.row.C g.row.M c.requires.client c.requires.manager, (beat_small g.row.M c.requires.manager, (c.requires.client, c.requires.manager)))
 
 pub offer_next-d-requires : goal.offer_next-d-requires
-offer_next-d-requires g c = (c.requires.client, c.requires.manager)
-
-pub offer_next-a-requires-room-S-Offers-2 : goal.offer_next-a-requires-room-S-Offers-2
-offer_next-a-requires-room-S-Offers-2 g c κs = beat_small g.row.C c.requires.client
-
-pub offer_next-c-requires-room-S-Offers-2 : goal.offer_next-c-requires-room-S-Offers-2
-offer_next-c-requires-room-S-Offers-2 g c κs = beat_small g.row.C c.requires.client
-
-pub offer_next-e-requires-room-S-Offers-2 : goal.offer_next-e-requires-room-S-Offers-2
-offer_next-e-requires-room-S-Offers-2 g c κs = beat_small g.row.C c.requires.client
-
-pub offer_next-b-requires-room-S-Offers-2 : goal.offer_next-b-requires-room-S-Offers-2
-offer_next-b-requires-room-S-Offers-2 g c κs = beat_small g.row.M c.requires.manager
-
-pub offer_next-d-requires-room-S-Offers-2 : goal.offer_next-d-requires-room-S-Offers-2
-offer_next-d-requires-room-S-Offers-2 g c κs = beat_small g.row.M c.requires.manager
+offer_next-d-requires g c = (bridge_small g.row.C g.row.M c.requires.client c.requires.manager, (beat_small g.row.M c.requires.manager, (c.requires.client, c.requires.manager)))
 
 pub returns-clause-offered : goal.returns-clause-offered
 returns-clause-offered g c = λ x h.

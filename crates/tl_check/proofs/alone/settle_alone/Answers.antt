@@ -24,7 +24,7 @@ accept-requires g c =
     let short : length c.args.beats.now ≤ 2 ^ 40 = c.requires.short in
     let within : c.loop-beat.beat-index < length c.args.beats.now = c.loop-beat-test.true in (
       progress-fits (lone g.row.K-Head.mir) (layout g.row.K-Head) g.met.K.Channel.head_small,
-      (c.requires.near, (c.requires.far, (c.in-Ok.ensures.place, (omega arith, c.loop-beat.invariant.few_far)))),
+      (c.requires.near, c.requires.far, c.in-Ok.ensures.place, omega arith, c.loop-beat.invariant.few_far),
     )
 
 pub loop-beat-init : goal.loop-beat-init

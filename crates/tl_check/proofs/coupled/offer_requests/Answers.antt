@@ -32,17 +32,17 @@ returns-clause-stopped g c = λ d j start.
     (read_none c.args.beats.now c.beats.asks.at c.in_default.ensures.lookup.0))
 
 pub beats-init : goal.beats-init
-beats-init g c = record { come = c.requires.come; few_far = c.requires.few_far; accepted = λ d j start. start }
+beats-init g c = record { come = c.requires.4; few_far = c.requires.3; accepted = λ d j start. start }
 
 pub offer_request-requires : goal.offer_request-requires
 offer_request-requires g c =
     let next = read_some c.args.beats.now c.beats.asks.at c.in-Some.beat.now c.in-Some.ensures.lookup.0 c.in-Some.ensures.lookup.1 in
     let within : c.beats.asks.at < length c.args.beats.now = slice_get_within c.args.beats.now c.beats.asks.at c.in-Some.beat.now next in
-    let short : length c.args.beats.now ≤ 2 ^ 40 = c.requires.short in (
+    let short : length c.args.beats.now ≤ 2 ^ 40 = c.requires.2 in (
       lit< tt,
       (
         lit< tt,
-        (beat_small g.row.C c.requires.client, (lit< tt, (c.requires.client, (c.requires.manager, (omega arith, c.beats.invariant.few_far))))),
+        (beat_small g.row.C c.requires.0, (lit< tt, (c.requires.0, c.requires.1, omega arith, c.beats.invariant.few_far))),
       ),
     )
 

@@ -42,7 +42,7 @@ offer_requests-a_stops-requires g c =
         lit< tt,
         (
           beat_small g.row.C c.requires.client,
-          (lit< tt, (c.requires.client, (c.requires.manager, (c.requires.short_a, (here.few_asks, here.asks_come))))),
+          (lit< tt, (c.requires.client, c.requires.manager, c.requires.short_a, here.few_asks, here.asks_come)),
         ),
       ),
     )
@@ -55,7 +55,7 @@ offer_responses-d_stops-requires g c =
         lit< tt,
         (
           beat_small g.row.M c.requires.manager,
-          (lit< tt, (c.requires.client, (c.requires.manager, (c.requires.short_d, (here.few_answers, here.answers_come))))),
+          (lit< tt, (c.requires.client, c.requires.manager, c.requires.short_d, here.few_answers, here.answers_come)),
         ),
       ),
     )

@@ -1,4 +1,7 @@
+use Rattle.std.proofs.Common.{◌≡◌, true, sym, ◌∙◌}
 use Rattle.tl_convert.proofs.giving.give.Goals as goal
 
 pub returns-then-carries_data : goal.returns-then-carries_data
-returns-then-carries_data g c = λ bs run. let k = c.give_data.ensures bs run in record { due_is = k.due_is; filled = λ e. k.filled }
+returns-then-carries_data g c = λ bs run.
+    let carried : g.K.Channel.rules.carries c.args.beat.now.head ≡ true = sym c.carries_data.ensures ∙ c.if-carries_data.true in
+    let k = c.give_data.ensures carried bs run in record { due_is = k.due_is; filled = λ e. k.filled }

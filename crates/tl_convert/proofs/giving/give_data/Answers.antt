@@ -41,33 +41,28 @@ pour-requires g c =
         c.requires-raw.1.1.1.1.1.0,
         (
           c.requires-raw.1.1.1.1.1.1.0,
-          (
-            c.requires.near,
-            (
-              c.requires.far,
-              (
-                c.requires.small,
-                (
-                  ap (λ n. n % per_beat g.K.Channel.rules c.args.beat.now.head g.row.W) e ∙ mul-mod_left c.args.index (per_beat g.K.Channel.rules c.args.beat.now.head g.row.W),
-                  (small, c.requires.empty),
-                ),
-              ),
-            ),
-          ),
+          record {
+            near = c.requires.near;
+            far = c.requires.far;
+            small = c.requires.small;
+            whole = ap (λ n. n % per_beat g.K.Channel.rules c.args.beat.now.head g.row.W) e ∙ mul-mod_left c.args.index (per_beat g.K.Channel.rules c.args.beat.now.head g.row.W);
+            room = small;
+            empty = c.requires.empty;
+          },
         ),
       ),
     )
 
 pub returns : goal.returns
-returns g c = λ bs run.
+returns g c = λ carried bs run.
     let near : c.beat_bytes.result ≡ per_beat g.K.Channel.rules c.args.beat.now.head g.row.W = c.beat_bytes.ensures ∙ ap (λ z. bytes_per_beat z g.row.W) c.size.ensures in
     let e : c.args.index * c.beat_bytes.result ≡ c.args.index * per_beat g.K.Channel.rules c.args.beat.now.head g.row.W = ap (λ n. c.args.index * n) near in
     elim c.if-index-eq0.branch [
-      | then-index-eq0 w ↦ give-all g.K.Channel.rules g.row.W g.row.V c.args.home c.requires.near c.requires.far c.args.beat.now c.requires.data bs c.args.index
+      | then-index-eq0 w ↦ give-all g.K.Channel.rules g.row.W g.row.V c.args.home c.requires.near c.requires.far c.args.beat.now carried bs c.args.index
           (c.args.index * c.beat_bytes.result) c.args.partial.now c.if-index-eq0.partial c.pour.new.partial c.pour.new.out.items run e
           (λ z. subst (λ (f : BeatOf g.row.K-Head.Denot g.row.V). IsBlank c.args.beat.now.head f) (sym w.partial-is) w.blank.ensures)
           (λ ne. absurd (ne w.if-index-eq0.true)) c.pour.ensures
-      | else-index-eq0 w ↦ give-all g.K.Channel.rules g.row.W g.row.V c.args.home c.requires.near c.requires.far c.args.beat.now c.requires.data bs c.args.index
+      | else-index-eq0 w ↦ give-all g.K.Channel.rules g.row.W g.row.V c.args.home c.requires.near c.requires.far c.args.beat.now carried bs c.args.index
           (c.args.index * c.beat_bytes.result) c.args.partial.now c.if-index-eq0.partial c.pour.new.partial c.pour.new.out.items run e
           (λ z. absurd (w.if-index-eq0.false z)) (λ ne. w.partial-is) c.pour.ensures
     ]

@@ -16,12 +16,12 @@ use Rattle.tl_convert.proofs.pouring.pour_whole.Goals as goal
 
 pub loop-t-init : goal.loop-t-init
 loop-t-init g c = record {
-  count = ap length c.requires.empty;
+  count = ap length c.requires.0.empty;
   pours = λ m s p.
       let z : c.args.first ≡ c.args.first + 0 * c.beat_bytes-wide.result = omega arith in
       let P : List (BeatOf g.row.K-Head.Denot g.row.V) → Type 0 = λ xs. Pours g.K.Channel.rules m g.row.V c.args.first c.args.first c.args.partial.now xs in
       let Q : ℕ → Type 0 = λ d. Pours g.K.Channel.rules m g.row.V c.args.first d c.args.partial.now c.args.out.now.items in
-      subst Q z (subst P (sym c.requires.empty) p);
+      subst Q z (subst P (sym c.requires.0.empty) p);
 }
 
 least : (near wide x y : ℕ) → near ≡ x → wide ≡ y → y ≤ x → wide ≡ min near wide
@@ -29,29 +29,29 @@ least near wide x y a b le = omega arith
 
 pub overflow_mul-done : goal.overflow_mul-done
 overflow_mul-done g c =
-    let w = width_bounds g.row.W c.requires.near in
+    let w = width_bounds g.row.W c.requires.0.near in
     let k : Chunk c.beat_bytes.result c.beat_bytes-wide.result c.beat_bytes-wide.result c.args.first c.loop-t.t =
     chunk-at g.K.Channel.rules c.args.beat.now.head g.row.W g.row.V c.args.first c.loop-t.t c.size-size.result c.beat_bytes.result c.beat_bytes-wide.result
-    c.beat_bytes-wide.result c.requires.near c.requires.far c.size-size.ensures c.beat_bytes.ensures c.beat_bytes-wide.ensures (least c.beat_bytes.result c.beat_bytes-wide.result
+    c.beat_bytes-wide.result c.requires.0.near c.requires.0.far c.size-size.ensures c.beat_bytes.ensures c.beat_bytes-wide.ensures (least c.beat_bytes.result c.beat_bytes-wide.result
     (per_beat g.K.Channel.rules c.args.beat.now.head g.row.W) (per_beat g.K.Channel.rules c.args.beat.now.head g.row.V)
     (c.beat_bytes.ensures ∙ ap (λ z. bytes_per_beat z g.row.W) c.size-size.ensures)
-    (c.beat_bytes-wide.ensures ∙ ap (λ z. bytes_per_beat z g.row.V) c.size-size.ensures) c.requires.fits) c.requires.whole c.loop-t-test.true in
+    (c.beat_bytes-wide.ensures ∙ ap (λ z. bytes_per_beat z g.row.V) c.size-size.ensures) c.requires.1) c.requires.0.whole c.loop-t-test.true in
     omega (arith, c.beat_bytes.ensures, k.within)
 
 pub overflow_add-done : goal.overflow_add-done
 overflow_add-done g c =
-    let w = width_bounds g.row.W c.requires.near in
+    let w = width_bounds g.row.W c.requires.0.near in
     let k : Chunk c.beat_bytes.result c.beat_bytes-wide.result c.beat_bytes-wide.result c.args.first c.loop-t.t =
     chunk-at g.K.Channel.rules c.args.beat.now.head g.row.W g.row.V c.args.first c.loop-t.t c.size-size.result c.beat_bytes.result c.beat_bytes-wide.result
-    c.beat_bytes-wide.result c.requires.near c.requires.far c.size-size.ensures c.beat_bytes.ensures c.beat_bytes-wide.ensures (least c.beat_bytes.result c.beat_bytes-wide.result
+    c.beat_bytes-wide.result c.requires.0.near c.requires.0.far c.size-size.ensures c.beat_bytes.ensures c.beat_bytes-wide.ensures (least c.beat_bytes.result c.beat_bytes-wide.result
     (per_beat g.K.Channel.rules c.args.beat.now.head g.row.W) (per_beat g.K.Channel.rules c.args.beat.now.head g.row.V)
     (c.beat_bytes.ensures ∙ ap (λ z. bytes_per_beat z g.row.W) c.size-size.ensures)
-    (c.beat_bytes-wide.ensures ∙ ap (λ z. bytes_per_beat z g.row.V) c.size-size.ensures) c.requires.fits) c.requires.whole c.loop-t-test.true in
-    omega (arith, c.beat_bytes.ensures, k.within, c.requires.room)
+    (c.beat_bytes-wide.ensures ∙ ap (λ z. bytes_per_beat z g.row.V) c.size-size.ensures) c.requires.1) c.requires.0.whole c.loop-t-test.true in
+    omega (arith, c.beat_bytes.ensures, k.within, c.requires.0.room)
 
 pub push-requires : goal.push-requires
 push-requires g c =
-    let w = width_bounds g.row.W c.requires.near in (
+    let w = width_bounds g.row.W c.requires.0.near in (
       c.requires-raw.1.1.1.1.1.1.0,
       omega (arith, c.loop-t.invariant.count, c.loop-t-test.true, div-le_self c.beat_bytes.result c.beat_bytes-wide.result, c.beat_bytes.ensures),
     )
@@ -71,7 +71,7 @@ loop-t-preserved g c = record {
       ((c.args.home + (c.args.first + c.loop-t.t * c.beat_bytes-wide.result)) % 2 ^ 64) c.beat_bytes-wide.result in
       subst P (next c.loop-t.t c.beat_bytes-wide.result c.args.first)
       (pour-ends g.K.Channel.rules m g.row.V c.args.home c.args.first (c.args.first + c.loop-t.t * c.beat_bytes-wide.result) c.beat_bytes-wide.result
-      ((c.args.home + (c.args.first + c.loop-t.t * c.beat_bytes-wide.result)) % 2 ^ 64) c.requires.near c.requires.far
+      ((c.args.home + (c.args.first + c.loop-t.t * c.beat_bytes-wide.result)) % 2 ^ 64) c.requires.0.near c.requires.0.far
       c.args.beat.now c.args.partial.now c.add_bytes.new.far c.loop-t.out.items s (omega arith)
       (omega (arith, k.within, near, hw)) k.pos (subst A (wide ∙ hv) k.fits) refl (subst O was c.add_bytes.ensures) (c.loop-t.invariant.pours m s p)
       (ap (λ x. (c.args.first + c.loop-t.t * c.beat_bytes-wide.result + c.beat_bytes-wide.result) % x) (sym (wide ∙ hv)) ∙
@@ -98,11 +98,11 @@ loop-t-preserved g c = record {
 
     k : Chunk c.beat_bytes.result c.beat_bytes-wide.result c.beat_bytes-wide.result c.args.first c.loop-t.t
     k = chunk-at g.K.Channel.rules c.args.beat.now.head g.row.W g.row.V c.args.first c.loop-t.t c.size-size.result c.beat_bytes.result c.beat_bytes-wide.result
-        c.beat_bytes-wide.result c.requires.near c.requires.far c.size-size.ensures c.beat_bytes.ensures c.beat_bytes-wide.ensures (least c.beat_bytes.result c.beat_bytes-wide.result
-        (per_beat g.K.Channel.rules c.args.beat.now.head g.row.W) (per_beat g.K.Channel.rules c.args.beat.now.head g.row.V) near wide c.requires.fits) c.requires.whole c.loop-t-test.true
+        c.beat_bytes-wide.result c.requires.0.near c.requires.0.far c.size-size.ensures c.beat_bytes.ensures c.beat_bytes-wide.ensures (least c.beat_bytes.result c.beat_bytes-wide.result
+        (per_beat g.K.Channel.rules c.args.beat.now.head g.row.W) (per_beat g.K.Channel.rules c.args.beat.now.head g.row.V) near wide c.requires.1) c.requires.0.whole c.loop-t-test.true
 
     b : (0 < per_beat g.K.Channel.rules c.args.beat.now.head g.row.V) × (c.args.first % per_beat g.K.Channel.rules c.args.beat.now.head g.row.V ≡ 0)
-    b = begins-far g.K.Channel.rules c.args.beat.now.head g.row.W g.row.V c.args.first c.requires.near c.requires.far c.requires.fits c.requires.whole
+    b = begins-far g.K.Channel.rules c.args.beat.now.head g.row.W g.row.V c.args.first c.requires.0.near c.requires.0.far c.requires.1 c.requires.0.whole
 
 pub returns : goal.returns
 returns g c = λ m s p.
@@ -112,8 +112,8 @@ returns g c = λ m s p.
     c.beat_bytes-wide.ensures ∙ ap (λ z. bytes_per_beat z g.row.V) c.size-size.ensures in
     let all : c.args.first + c.loop-t.t * c.beat_bytes-wide.result ≡ c.args.first + per_beat g.K.Channel.rules c.args.beat.now.head g.row.W =
     chunk-all g.K.Channel.rules c.args.beat.now.head g.row.W g.row.V c.args.first c.loop-t.t c.size-size.result c.beat_bytes.result c.beat_bytes-wide.result
-    c.beat_bytes-wide.result c.requires.near c.requires.far c.size-size.ensures c.beat_bytes.ensures c.beat_bytes-wide.ensures (least c.beat_bytes.result c.beat_bytes-wide.result
-    (per_beat g.K.Channel.rules c.args.beat.now.head g.row.W) (per_beat g.K.Channel.rules c.args.beat.now.head g.row.V) near wide c.requires.fits) (omega arith) in
+    c.beat_bytes-wide.result c.requires.0.near c.requires.0.far c.size-size.ensures c.beat_bytes.ensures c.beat_bytes-wide.ensures (least c.beat_bytes.result c.beat_bytes-wide.result
+    (per_beat g.K.Channel.rules c.args.beat.now.head g.row.W) (per_beat g.K.Channel.rules c.args.beat.now.head g.row.V) near wide c.requires.1) (omega arith) in
     let P : ℕ → Type 0 = λ d. Pours g.K.Channel.rules m g.row.V c.args.first d c.args.partial.now c.loop-t.out.items in
     subst P (all ∙ ap (λ h. c.args.first + per_beat g.K.Channel.rules h g.row.W) s.brings.head) (c.loop-t.invariant.pours m s p)
 
@@ -124,19 +124,19 @@ pub size-size-requires : goal.size-size-requires
 size-size-requires g c κs = λ p. p
 
 pub beat_bytes-wide-requires-clause-small : goal.beat_bytes-wide-requires-clause-small
-beat_bytes-wide-requires-clause-small g c = same-small c.size-size.result (g.K.Channel.rules.size c.args.beat.now.head) c.size-size.ensures c.requires.small
+beat_bytes-wide-requires-clause-small g c = same-small c.size-size.result (g.K.Channel.rules.size c.args.beat.now.head) c.size-size.ensures c.requires.0.small
 
 pub beat_bytes-wide-requires-clause-width : goal.beat_bytes-wide-requires-clause-width
-beat_bytes-wide-requires-clause-width g c = c.requires.far
+beat_bytes-wide-requires-clause-width g c = c.requires.0.far
 
 pub beat_bytes-requires-clause-small : goal.beat_bytes-requires-clause-small
-beat_bytes-requires-clause-small g c = same-small c.size-size.result (g.K.Channel.rules.size c.args.beat.now.head) c.size-size.ensures c.requires.small
+beat_bytes-requires-clause-small g c = same-small c.size-size.result (g.K.Channel.rules.size c.args.beat.now.head) c.size-size.ensures c.requires.0.small
 
 pub beat_bytes-requires-clause-width : goal.beat_bytes-requires-clause-width
-beat_bytes-requires-clause-width g c = c.requires.near
+beat_bytes-requires-clause-width g c = c.requires.0.near
 
 pub nonzero_div-t-end : goal.nonzero_div-t-end
-nonzero_div-t-end g c = some-bytes c.size-size.result g.row.V c.beat_bytes-wide.result c.requires.far c.beat_bytes-wide.ensures
+nonzero_div-t-end g c = some-bytes c.size-size.result g.row.V c.beat_bytes-wide.result c.requires.0.far c.beat_bytes-wide.ensures
 
 pub as_mut_slice-requires : goal.as_mut_slice-requires
 as_mut_slice-requires g c = c.requires-raw.1.1.1.1.1.1.0

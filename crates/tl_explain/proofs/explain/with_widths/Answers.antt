@@ -1,9 +1,10 @@
-use Rattle.std.proofs.Common.{◌∙◌, ◌++◌, List, ap, subst, arith}
+use Rattle.std.proofs.Common.{◌++◌, List, refl, subst, arith}
 use Rattle.tl_trace.specs.declared.line.Line.{Line}
 use Rattle.tl_bridge.specs.Scripts.{EndsIn}
-use Rattle.tl_answer.specs.Answer.{near}
-use Rattle.tl_answer.proofs.Answering.{checks-text, near-is}
+use Rattle.tl_answer.specs.Answer.{near, far_header, report}
+use Rattle.tl_answer.proofs.Answering.{checks-text, of-both, near-is}
 use Rattle.tl_answer.proofs.Lengths.{lines-few, short}
+use Rattle.tl_explain.specs.Explained.{IsExplanation}
 use Rattle.tl_explain.proofs.explain.with_widths.Goals as goal
 
 pub outcome_of-requires : goal.outcome_of-requires
@@ -14,13 +15,13 @@ outcome_of-requires g c =
     (omega arith, (omega arith, (c.requires.client, (c.requires.manager, lists))))
 
 pub returns-clause-ok : goal.returns-clause-ok
-returns-clause-ok g c = record {
-  sentences = c.into_bytes-text.result.items;
-  answer = c.in_ok-answer.answer.text.items;
-  ends = c.in_ok-extend_from_slice.ensures.items ∙ ap (λ text. c.into_bytes-text.result.items ++ text) c.deref.ensures.value;
+returns-clause-ok g c = of-both _ _ _ (λ made text-is done-is. record {
+  sentences = c.in_ok-sentences.sentences.items;
+  answer = far_header c.args.version g.row.C g.row.M ++ report c.in_ok-outcome.outcome.verdicts;
+  ends = text-is;
   answered = checks-text c.args.version g.row.C g.row.M lines _ c.in_ok-script.ensures.told.told c.in_ok-outcome.outcome.verdicts ended.verdicts_are _
-      c.in_ok-answer.ensures.text _ c.in_ok-answer.ensures.done;
-}
+      refl _ done-is;
+}) c.with_answer.result c.with_answer.ensures.text c.with_answer.ensures.done
   where
     lines : List Line
     lines = c.in_ok-script.ensures.told.lines

@@ -4,7 +4,6 @@ use contract.BorrowLft.{◌⊑◌}
 use prog.Memory.{up}
 use Rattle.tl_lanes.specs.Lanes.{IsWidth}
 use Rattle.tl_ring.proofs.FieldSizes.{part_small, inner_small, beat_small, mask_bytes}
-use Rattle.tl_ring.proofs.Moves.{ring_size_only}
 use Rattle.tl_pair.proofs.Layouts.{client_layout, manager_layout}
 use Rattle.tl_pair.proofs.NewEnds.{pair_over, none_taken, all_free, idle}
 use Rattle.tl_pair.proofs.Senders.{still_open}
@@ -28,33 +27,16 @@ refused : {Sized P : Type 0} → P → record {
 }
 refused p = record { pair = tt; client = tt; manager = tt; client_knows = tt; manager_knows = tt; size = λ ok. absurd (false≢true ok); ring_size = p }
 
-pub rings_to_manager-requires : goal.rings_to_manager-requires
-rings_to_manager-requires g c =
-    let small = beat_small g.row.M c.requires.manager in
-    (small, (lit< tt, (small, (lit< tt, (small, (lit< tt, c.requires.manager))))))
+-- the books are parts of both sides; what a call has shown of them is left aside
+pub client_parts-requires : goal.client_parts-requires
+client_parts-requires g c =
+    let known = c.requires-raw in let small = beat_small g.row.C c.requires.client in
+    (small, (lit< tt, (small, (lit< tt, (let c = known in search (part_small (client_layout g.row.C g.row.M g.row.A g.A.Allocator) 5 9223372036854775808), c.requires.client)))))
 
-pub rings_to_client-requires : goal.rings_to_client-requires
-rings_to_client-requires g c =
-    let small = beat_small g.row.C c.requires.client in
-    (small, (lit< tt, (small, (lit< tt, c.requires.client))))
-
-pub drop-e_take-requires : goal.drop-e_take-requires
-drop-e_take-requires g c κs = dropped g.row.M c.requires.manager κs.0 κs.1.0 κs.1.1.0 g.row.A.lives
-
-pub drop-e-requires : goal.drop-e-requires
-drop-e-requires g c κs = dropped g.row.M c.requires.manager κs.0 κs.1.0 κs.1.1.0 g.row.A.lives
-
-pub drop-c_take-requires : goal.drop-c_take-requires
-drop-c_take-requires g c κs = dropped g.row.M c.requires.manager κs.0 κs.1.0 κs.1.1.0 g.row.A.lives
-
-pub drop-c-requires : goal.drop-c-requires
-drop-c-requires g c κs = dropped g.row.M c.requires.manager κs.0 κs.1.0 κs.1.1.0 g.row.A.lives
-
-pub drop-a_take-requires : goal.drop-a_take-requires
-drop-a_take-requires g c κs = dropped g.row.M c.requires.manager κs.0 κs.1.0 κs.1.1.0 g.row.A.lives
-
-pub drop-a-requires : goal.drop-a-requires
-drop-a-requires g c κs = dropped g.row.M c.requires.manager κs.0 κs.1.0 κs.1.1.0 g.row.A.lives
+pub manager_parts-requires : goal.manager_parts-requires
+manager_parts-requires g c =
+    let known = c.requires-raw in let small = beat_small g.row.M c.requires.manager in
+    (small, (lit< tt, (small, (lit< tt, (small, (lit< tt, (let c = known in search (part_small (manager_layout g.row.C g.row.M g.row.A g.A.Allocator) 5 9223372036854775808), c.requires.manager)))))))
 
 pub drop-d_take-requires : goal.drop-d_take-requires
 drop-d_take-requires g c κs = dropped g.row.C c.requires.client κs.0 κs.1.0 κs.1.1.0 g.row.A.lives
@@ -68,28 +50,12 @@ drop-b_take-requires g c κs = dropped g.row.C c.requires.client κs.0 κs.1.0 �
 pub drop-b-requires : goal.drop-b-requires
 drop-b-requires g c κs = dropped g.row.C c.requires.client κs.0 κs.1.0 κs.1.1.0 g.row.A.lives
 
-pub drop-e_take-requires-in_default : goal.drop-e_take-requires-in_default
-drop-e_take-requires-in_default g c κs = dropped g.row.M c.requires.manager κs.0 κs.1.0 κs.1.1.0 g.row.A.lives
+pub returns-in-Err : goal.returns-in-Err
+returns-in-Err g c = refused c.in-Err.ensures.ring_size
 
-pub drop-e-requires-in_default : goal.drop-e-requires-in_default
-drop-e-requires-in_default g c κs = dropped g.row.M c.requires.manager κs.0 κs.1.0 κs.1.1.0 g.row.A.lives
+pub returns-in-Err-manager_parts : goal.returns-in-Err-manager_parts
+returns-in-Err-manager_parts g c = refused c.in-Err-manager_parts.ensures.ring_size
 
-pub drop-c_take-requires-in_default : goal.drop-c_take-requires-in_default
-drop-c_take-requires-in_default g c κs = dropped g.row.M c.requires.manager κs.0 κs.1.0 κs.1.1.0 g.row.A.lives
-
-pub drop-c-requires-in_default : goal.drop-c-requires-in_default
-drop-c-requires-in_default g c κs = dropped g.row.M c.requires.manager κs.0 κs.1.0 κs.1.1.0 g.row.A.lives
-
-pub drop-a_take-requires-in_default : goal.drop-a_take-requires-in_default
-drop-a_take-requires-in_default g c κs = dropped g.row.M c.requires.manager κs.0 κs.1.0 κs.1.1.0 g.row.A.lives
-
-pub drop-a-requires-in_default : goal.drop-a-requires-in_default
-drop-a-requires-in_default g c κs = dropped g.row.M c.requires.manager κs.0 κs.1.0 κs.1.1.0 g.row.A.lives
-
-pub returns-in-Err-rings_to_client : goal.returns-in-Err-rings_to_client
-returns-in-Err-rings_to_client g c = refused c.in-Err-rings_to_client.ensures.ring_size
-
--- the ends and the books are parts of both sides; what a call has shown of them is left aside
 pub over-requires : goal.over-requires
 over-requires g c = let known = c.requires-raw in (beat_small g.row.M c.requires.manager, (lit< tt, let c = known in search (inner_small (client_layout g.row.C g.row.M g.row.A g.A.Allocator) 0 0 9223372036854775808)))
 
@@ -120,67 +86,54 @@ over-requires-9 g c = let known = c.requires-raw in (beat_small g.row.C c.requir
 pub over-requires-10 : goal.over-requires-10
 over-requires-10 g c = let known = c.requires-raw in (beat_small g.row.M c.requires.manager, (lit< tt, let c = known in search (part_small (manager_layout g.row.C g.row.M g.row.A g.A.Allocator) 4 9223372036854775808)))
 
-pub new_books-requires : goal.new_books-requires
-new_books-requires g c =
-    let known = c.requires-raw in (
-      let c = known in search (part_small (client_layout g.row.C g.row.M g.row.A g.A.Allocator) 5 9223372036854775808),
-      let c = known in search (part_small (manager_layout g.row.C g.row.M g.row.A g.A.Allocator) 5 9223372036854775808),
-    )
-
-pub returns-in-Err : goal.returns-in-Err
-returns-in-Err g c = refused c.in-Err.ensures.ring_size
-
-pub returns-in_default : goal.returns-in_default
-returns-in_default g c = refused (λ same. absurd (cc), λ none. absurd (ring_size_only c.args.ring (c.in-Ok.ensures.size refl) none))
-
 pub returns-clause-pair : goal.returns-clause-pair
 returns-clause-pair g c = record {
-  a = pair_over c.args.ring _ _ c.in-Ok.ensures.new.0 c.over.result c.over-6.result c.over.ensures.ring c.over-6.ensures.ring;
-  b = pair_over c.args.ring _ _ c.in-Ok-rings_to_client.ensures.new.0 c.over-7.result c.over-2.result c.over-7.ensures.ring c.over-2.ensures.ring;
-  c = pair_over c.args.ring _ _ c.in-Ok.ensures.new.1 c.over-3.result c.over-8.result c.over-3.ensures.ring c.over-8.ensures.ring;
-  d = pair_over c.args.ring _ _ c.in-Ok-rings_to_client.ensures.new.1 c.over-9.result c.over-4.result c.over-9.ensures.ring c.over-4.ensures.ring;
-  e = pair_over c.args.ring _ _ c.in-Ok.ensures.new.2 c.over-5.result c.over-10.result c.over-5.ensures.ring c.over-10.ensures.ring;
+  a = pair_over c.args.ring _ _ c.in-Ok-manager_parts.ensures.rings.0 c.over.result c.over-6.result c.over.ensures.ring c.over-6.ensures.ring;
+  b = pair_over c.args.ring _ _ c.in-Ok.ensures.rings.0 c.over-7.result c.over-2.result c.over-7.ensures.ring c.over-2.ensures.ring;
+  c = pair_over c.args.ring _ _ c.in-Ok-manager_parts.ensures.rings.1 c.over-3.result c.over-8.result c.over-3.ensures.ring c.over-8.ensures.ring;
+  d = pair_over c.args.ring _ _ c.in-Ok.ensures.rings.1 c.over-9.result c.over-4.result c.over-9.ensures.ring c.over-4.ensures.ring;
+  e = pair_over c.args.ring _ _ c.in-Ok-manager_parts.ensures.rings.2 c.over-5.result c.over-10.result c.over-5.ensures.ring c.over-10.ensures.ring;
 }
 
 pub returns-clause-client : goal.returns-clause-client
 returns-clause-client g c = record {
-  a = still_open _ _ c.args.ring (c.over.ensures.send c.args.ring _ c.in-Ok.ensures.new.0 c.requires.client c.requires.manager);
-  b = none_taken c.args.ring _ _ c.in-Ok-rings_to_client.ensures.new.0 c.over-2.result c.over-2.ensures.ring c.over-2.ensures.inbox;
-  c = still_open _ _ c.args.ring (c.over-3.ensures.send c.args.ring _ c.in-Ok.ensures.new.1 c.requires.client c.requires.manager);
-  d = none_taken c.args.ring _ _ c.in-Ok-rings_to_client.ensures.new.1 c.over-4.result c.over-4.ensures.ring c.over-4.ensures.inbox;
-  e = still_open _ _ c.args.ring (c.over-5.ensures.send c.args.ring _ c.in-Ok.ensures.new.2 c.requires.client c.requires.manager);
+  a = still_open _ _ c.args.ring (c.over.ensures.send c.args.ring _ c.in-Ok-manager_parts.ensures.rings.0 c.requires.client c.requires.manager);
+  b = none_taken c.args.ring _ _ c.in-Ok.ensures.rings.0 c.over-2.result c.over-2.ensures.ring c.over-2.ensures.inbox;
+  c = still_open _ _ c.args.ring (c.over-3.ensures.send c.args.ring _ c.in-Ok-manager_parts.ensures.rings.1 c.requires.client c.requires.manager);
+  d = none_taken c.args.ring _ _ c.in-Ok.ensures.rings.1 c.over-4.result c.over-4.ensures.ring c.over-4.ensures.inbox;
+  e = still_open _ _ c.args.ring (c.over-5.ensures.send c.args.ring _ c.in-Ok-manager_parts.ensures.rings.2 c.requires.client c.requires.manager);
   accepted = refl;
-  book = c.in-Ok-new_books.ensures.client;
+  book = c.in-Ok.ensures.book;
 }
 
 pub returns-clause-manager : goal.returns-clause-manager
 returns-clause-manager g c = record {
-  a = none_taken c.args.ring _ _ c.in-Ok.ensures.new.0 c.over-6.result c.over-6.ensures.ring c.over-6.ensures.inbox;
-  b = still_open _ _ c.args.ring (c.over-7.ensures.send c.args.ring _ c.in-Ok-rings_to_client.ensures.new.0 c.requires.manager c.requires.client);
-  c = none_taken c.args.ring _ _ c.in-Ok.ensures.new.1 c.over-8.result c.over-8.ensures.ring c.over-8.ensures.inbox;
-  d = still_open _ _ c.args.ring (c.over-9.ensures.send c.args.ring _ c.in-Ok-rings_to_client.ensures.new.1 c.requires.manager c.requires.client);
-  e = none_taken c.args.ring _ _ c.in-Ok.ensures.new.2 c.over-10.result c.over-10.ensures.ring c.over-10.ensures.inbox;
+  a = none_taken c.args.ring _ _ c.in-Ok-manager_parts.ensures.rings.0 c.over-6.result c.over-6.ensures.ring c.over-6.ensures.inbox;
+  b = still_open _ _ c.args.ring (c.over-7.ensures.send c.args.ring _ c.in-Ok.ensures.rings.0 c.requires.manager c.requires.client);
+  c = none_taken c.args.ring _ _ c.in-Ok-manager_parts.ensures.rings.1 c.over-8.result c.over-8.ensures.ring c.over-8.ensures.inbox;
+  d = still_open _ _ c.args.ring (c.over-9.ensures.send c.args.ring _ c.in-Ok.ensures.rings.1 c.requires.manager c.requires.client);
+  e = none_taken c.args.ring _ _ c.in-Ok-manager_parts.ensures.rings.2 c.over-10.result c.over-10.ensures.ring c.over-10.ensures.inbox;
   accepted = refl;
   homes = refl;
-  book = c.in-Ok-new_books.ensures.manager;
+  book = c.in-Ok-manager_parts.ensures.book;
 }
 
 pub returns-clause-client_knows : goal.returns-clause-client_knows
 returns-clause-client_knows g c = record {
-  a = all_free c.args.ring _ _ c.in-Ok.ensures.new.0 c.over.result c.over.ensures.ring;
-  b = idle c.args.ring _ _ c.in-Ok-rings_to_client.ensures.new.0 c.over-2.result c.over-2.ensures.ring c.over-2.ensures.inbox;
-  c = all_free c.args.ring _ _ c.in-Ok.ensures.new.1 c.over-3.result c.over-3.ensures.ring;
-  d = idle c.args.ring _ _ c.in-Ok-rings_to_client.ensures.new.1 c.over-4.result c.over-4.ensures.ring c.over-4.ensures.inbox;
-  e = all_free c.args.ring _ _ c.in-Ok.ensures.new.2 c.over-5.result c.over-5.ensures.ring;
+  a = all_free c.args.ring _ _ c.in-Ok-manager_parts.ensures.rings.0 c.over.result c.over.ensures.ring;
+  b = idle c.args.ring _ _ c.in-Ok.ensures.rings.0 c.over-2.result c.over-2.ensures.ring c.over-2.ensures.inbox;
+  c = all_free c.args.ring _ _ c.in-Ok-manager_parts.ensures.rings.1 c.over-3.result c.over-3.ensures.ring;
+  d = idle c.args.ring _ _ c.in-Ok.ensures.rings.1 c.over-4.result c.over-4.ensures.ring c.over-4.ensures.inbox;
+  e = all_free c.args.ring _ _ c.in-Ok-manager_parts.ensures.rings.2 c.over-5.result c.over-5.ensures.ring;
 }
 
 pub returns-clause-manager_knows : goal.returns-clause-manager_knows
 returns-clause-manager_knows g c = record {
-  a = idle c.args.ring _ _ c.in-Ok.ensures.new.0 c.over-6.result c.over-6.ensures.ring c.over-6.ensures.inbox;
-  b = all_free c.args.ring _ _ c.in-Ok-rings_to_client.ensures.new.0 c.over-7.result c.over-7.ensures.ring;
-  c = idle c.args.ring _ _ c.in-Ok.ensures.new.1 c.over-8.result c.over-8.ensures.ring c.over-8.ensures.inbox;
-  d = all_free c.args.ring _ _ c.in-Ok-rings_to_client.ensures.new.1 c.over-9.result c.over-9.ensures.ring;
-  e = idle c.args.ring _ _ c.in-Ok.ensures.new.2 c.over-10.result c.over-10.ensures.ring c.over-10.ensures.inbox;
+  a = idle c.args.ring _ _ c.in-Ok-manager_parts.ensures.rings.0 c.over-6.result c.over-6.ensures.ring c.over-6.ensures.inbox;
+  b = all_free c.args.ring _ _ c.in-Ok.ensures.rings.0 c.over-7.result c.over-7.ensures.ring;
+  c = idle c.args.ring _ _ c.in-Ok-manager_parts.ensures.rings.1 c.over-8.result c.over-8.ensures.ring c.over-8.ensures.inbox;
+  d = all_free c.args.ring _ _ c.in-Ok.ensures.rings.1 c.over-9.result c.over-9.ensures.ring;
+  e = idle c.args.ring _ _ c.in-Ok-manager_parts.ensures.rings.2 c.over-10.result c.over-10.ensures.ring c.over-10.ensures.inbox;
 }
 
 pub returns-clause-size : goal.returns-clause-size
@@ -191,16 +144,16 @@ returns-clause-ring_size g c = tt
 
 -- a new end is open
 pub invariant_of-client : goal.invariant_of-client
-invariant_of-client g c = (c.over.ensures.send c.args.ring _ c.in-Ok.ensures.new.0 c.requires.client c.requires.manager).pipe.closed
+invariant_of-client g c = (c.over.ensures.send c.args.ring _ c.in-Ok-manager_parts.ensures.rings.0 c.requires.client c.requires.manager).pipe.closed
 
 pub invariant_of-client-2 : goal.invariant_of-client-2
-invariant_of-client-2 g c = (c.over-3.ensures.send c.args.ring _ c.in-Ok.ensures.new.1 c.requires.client c.requires.manager).pipe.closed
+invariant_of-client-2 g c = (c.over-3.ensures.send c.args.ring _ c.in-Ok-manager_parts.ensures.rings.1 c.requires.client c.requires.manager).pipe.closed
 
 pub invariant_of-client-3 : goal.invariant_of-client-3
-invariant_of-client-3 g c = (c.over-5.ensures.send c.args.ring _ c.in-Ok.ensures.new.2 c.requires.client c.requires.manager).pipe.closed
+invariant_of-client-3 g c = (c.over-5.ensures.send c.args.ring _ c.in-Ok-manager_parts.ensures.rings.2 c.requires.client c.requires.manager).pipe.closed
 
 pub invariant_of-manager : goal.invariant_of-manager
-invariant_of-manager g c = (c.over-7.ensures.send c.args.ring _ c.in-Ok-rings_to_client.ensures.new.0 c.requires.manager c.requires.client).pipe.closed
+invariant_of-manager g c = (c.over-7.ensures.send c.args.ring _ c.in-Ok.ensures.rings.0 c.requires.manager c.requires.client).pipe.closed
 
 pub invariant_of-manager-2 : goal.invariant_of-manager-2
-invariant_of-manager-2 g c = (c.over-9.ensures.send c.args.ring _ c.in-Ok-rings_to_client.ensures.new.1 c.requires.manager c.requires.client).pipe.closed
+invariant_of-manager-2 g c = (c.over-9.ensures.send c.args.ring _ c.in-Ok.ensures.rings.1 c.requires.manager c.requires.client).pipe.closed

@@ -2,19 +2,35 @@ use Rattle.std.proofs.Common.{refl, arith}
 use denote.Memory.{lone}
 use denote.Param.{layout, param, number, copied}
 use Rattle.tl_ring.specs.contracts.ends.SendEnd.{the_row}
+use Rattle.tl_msg.specs.Faults.{IsLawfulBeat}
+use Rattle.tl_ring.proofs.Answered.{all_of_none}
+use Rattle.tl_ring.proofs.EndSteps.{sends_new}
 use Rattle.tl_ring.proofs.FieldSizes.{part_small, beat_in_queue}
 use Rattle.tl_ring.proofs.pair.ring_pair.Goals as goal
 
-pub over-requires : goal.over-requires
-over-requires g c =
-    let end = c.requires-raw.1.1.1.1.1.0 in
+pub new-requires : goal.new-requires
+new-requires g c =
     let row = layout (the_row (param 0 g.row.K) (param 1 (number g.row.W)) (param 2 (number g.row.V)) (param 3 g.row.A) (copied 4 g.row.K-Head)
     g.K.Channel g.K.Head.Clone g.K.Head.Eq g.K.Head.PartialEq g.K.Head.Default g.A.Allocator) in
-    let beat = beat_in_queue (lone g.row.K-Head.mir) (layout g.row.K-Head) g.row.V 9223372036854775808 (part_small row 1 9223372036854775808 end) in
-    (beat, (omega arith, end))
+    part_small row 0 9223372036854775808 c.requires-raw.1.1.1.1.1.0
 
-pub over-requires-in-Ok : goal.over-requires-in-Ok
-over-requires-in-Ok g c =
+pub new-requires-in-Ok-room-T-Default : goal.new-requires-in-Ok-room-T-Default
+new-requires-in-Ok-room-T-Default g c κs within =
+    let row = layout (the_row (param 0 g.row.K) (param 1 (number g.row.W)) (param 2 (number g.row.V)) (param 3 g.row.A) (copied 4 g.row.K-Head)
+    g.K.Channel g.K.Head.Clone g.K.Head.Eq g.K.Head.PartialEq g.K.Head.Default g.A.Allocator) in
+    beat_in_queue (lone g.row.K-Head.mir) (layout g.row.K-Head) g.row.V 9223372036854775808 (part_small row 1 9223372036854775808 c.requires-raw.1.1.1.1.1.0)
+
+pub new-requires-in-Ok : goal.new-requires-in-Ok
+new-requires-in-Ok g c =
+    let row = layout (the_row (param 0 g.row.K) (param 1 (number g.row.W)) (param 2 (number g.row.V)) (param 3 g.row.A) (copied 4 g.row.K-Head)
+    g.K.Channel g.K.Head.Clone g.K.Head.Eq g.K.Head.PartialEq g.K.Head.Default g.A.Allocator) in
+    part_small row 1 9223372036854775808 c.requires-raw.1.1.1.1.1.0
+
+pub invariant_of-result : goal.invariant_of-result
+invariant_of-result g c = all_of_none (λ b. IsLawfulBeat g.K.Channel.rules b) _ c.new-in-Ok.ensures
+
+pub over-requires : goal.over-requires
+over-requires g c =
     let row = layout (the_row (param 0 g.row.K) (param 1 (number g.row.W)) (param 2 (number g.row.V)) (param 3 g.row.A) (copied 4 g.row.K-Head)
     g.K.Channel g.K.Head.Clone g.K.Head.Eq g.K.Head.PartialEq g.K.Head.Default g.A.Allocator) in
     let beat = beat_in_queue (lone g.row.K-Head.mir) (layout g.row.K-Head) g.row.V 9223372036854775808 (part_small row 1 9223372036854775808 c.requires-raw.1.1.1.1.1.0) in
@@ -27,17 +43,18 @@ new_ring-requires g c =
     (beat_in_queue (lone g.row.K-Head.mir) (layout g.row.K-Head) g.row.V 9223372036854775808 (part_small row 1 9223372036854775808 c.requires-raw.1.1.1.1.1.0), omega arith)
 
 pub returns-in-Ok-clause-pair : goal.returns-in-Ok-clause-pair
-returns-in-Ok-clause-pair g c = rw (c.over.ensures.ring, c.over-in-Ok.ensures.ring) c.in-Ok.ensures.new.pair
+returns-in-Ok-clause-pair g c = rw c.over.ensures.ring c.in-Ok.ensures.new.pair
 
 pub returns-in-Ok-clause-send : goal.returns-in-Ok-clause-send
-returns-in-Ok-clause-send g c = c.over.ensures.send c.args.ring _ c.in-Ok.ensures.new c.requires.near c.requires.far
+returns-in-Ok-clause-send g c =
+    let new = c.in-Ok.ensures.new in
+    sends_new g.K.Channel.rules g.met.K.Channel.partial_masked _ c.args.ring c.requires.near c.requires.far new.some_room c.new.ensures c.new-in-Ok.ensures new.none_sent new.room refl
 
 pub returns-in-Ok-clause-take : goal.returns-in-Ok-clause-take
-returns-in-Ok-clause-take g c = rw (c.over-in-Ok.ensures.ring, c.over-in-Ok.ensures.inbox) c.in-Ok.ensures.new.none_received
+returns-in-Ok-clause-take g c = rw (c.over.ensures.ring, c.over.ensures.inbox) c.in-Ok.ensures.new.none_received
 
 pub returns-in-Ok-clause-known : goal.returns-in-Ok-clause-known
-returns-in-Ok-clause-known g c = rw (c.over.ensures.ring, c.over-in-Ok.ensures.ring)
-    (c.in-Ok.ensures.new.all_free, c.in-Ok.ensures.new.none_known, c.over-in-Ok.ensures.inbox)
+returns-in-Ok-clause-known g c = rw c.over.ensures.ring (c.in-Ok.ensures.new.all_free, c.in-Ok.ensures.new.none_known, c.over.ensures.inbox)
 
 pub returns-in-Ok-clause-size : goal.returns-in-Ok-clause-size
 returns-in-Ok-clause-size g c = λ made. c.in-Ok.ensures.size refl

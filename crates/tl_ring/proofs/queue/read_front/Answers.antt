@@ -40,3 +40,15 @@ append-requires-then-from_front-count g c = (
 
 pub overflow_sub-len : goal.overflow_sub-len
 overflow_sub-len g c = omega (arith, c.requires.there, c.len.ensures.len)
+
+pub as_slices-requires : goal.as_slices-requires
+as_slices-requires g c κs = λ within. within
+
+pub min-from_front-requires : goal.min-from_front-requires
+min-from_front-requires g c = tt
+
+pub len-requires : goal.len-requires
+len-requires g c κs = λ within. within
+
+pub truncate_front-requires : goal.truncate_front-requires
+truncate_front-requires g c κs = λ within. within

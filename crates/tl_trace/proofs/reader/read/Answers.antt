@@ -20,23 +20,23 @@ returns-then-end-text-clause-fault c _ =
     let line : LineAt c.args.text.now 0 c.line_end-end.result = record { from = e.from; to = e.to; free = e.free; stop = e.end } in
     no_header_end c.args.text.now c.line_end-end.result c.in-Some.header line (from_start c.args.text.now c.line_end-end.result _ c.in-Some.ensures) (omega (arith, c.line_end-end.ensures.to, c.if-end-text.true))
 
-pub read_lines_of-requires-clause-version : goal.read_lines_of-requires-clause-version
-read_lines_of-requires-clause-version c =
+pub read_lines-requires-clause-version : goal.read_lines-requires-clause-version
+read_lines-requires-clause-version c =
     let some : header_of (slice_range c.args.text.now 0 c.line_end-end.result) ≡ Some c.in-Some.header = from_start c.args.text.now c.line_end-end.result _ c.in-Some.ensures in
     (known (slice_range c.args.text.now 0 c.line_end-end.result) c.in-Some.header some).0
 
-pub read_lines_of-requires-clause-client : goal.read_lines_of-requires-clause-client
-read_lines_of-requires-clause-client c =
+pub read_lines-requires-clause-client : goal.read_lines-requires-clause-client
+read_lines-requires-clause-client c =
     let some : header_of (slice_range c.args.text.now 0 c.line_end-end.result) ≡ Some c.in-Some.header = from_start c.args.text.now c.line_end-end.result _ c.in-Some.ensures in
     width_most c.in-Some.header.version c.in-Some.header.client (known (slice_range c.args.text.now 0 c.line_end-end.result) c.in-Some.header some).1
 
-pub read_lines_of-requires-clause-manager : goal.read_lines_of-requires-clause-manager
-read_lines_of-requires-clause-manager c =
+pub read_lines-requires-clause-manager : goal.read_lines-requires-clause-manager
+read_lines-requires-clause-manager c =
     let some : header_of (slice_range c.args.text.now 0 c.line_end-end.result) ≡ Some c.in-Some.header = from_start c.args.text.now c.line_end-end.result _ c.in-Some.ensures in
     width_most c.in-Some.header.version c.in-Some.header.manager (known (slice_range c.args.text.now 0 c.line_end-end.result) c.in-Some.header some).2
 
-pub read_lines_of-requires-clause-header : goal.read_lines_of-requires-clause-header
-read_lines_of-requires-clause-header c =
+pub read_lines-requires-clause-header : goal.read_lines-requires-clause-header
+read_lines-requires-clause-header c =
     let e = c.line_end-end.ensures in
     let line : LineAt c.args.text.now 0 c.line_end-end.result = record { from = e.from; to = e.to; free = e.free; stop = e.end } in
     let lt : c.line_end-end.result < length c.args.text.now = omega (arith, e.to, c.if-end-text.false) in

@@ -1,32 +1,26 @@
-use Rattle.tl_trace.proofs.ReadLines.{read_as_a, read_as_b, read_as_c, read_as_d, read_as_e}
+use Rattle.std.proofs.Common.{◌≡◌, Some, rules, sym, subst}
+use Rattle.std.specs.Prelude.{IfOk, IfErr}
+use Rattle.tl_trace.specs.Faults.{body_fault}
+use Rattle.tl_trace.specs.Inner.Reading.{IsReadLine}
+use Rattle.tl_trace.proofs.Pieces.{version_2}
 use Rattle.tl_trace.proofs.reader.read_line.Goals as goal
 
-pub returns-in-Ok-clause-ok : goal.returns-in-Ok-clause-ok
-returns-in-Ok-clause-ok g c = read_as_a g.row.VERSION c.args.client c.args.manager c.args.text.now c.in-Ok.beat c.in-Ok.ensures.ok
+pub returns-in-1-clause-ok : goal.returns-in-1-clause-ok
+returns-in-1-clause-ok c = subst (λ v. IfOk c.read_line_in.result (IsReadLine v c.args.client c.args.manager c.args.text.now)) (sym c.in-1.is) c.read_line_in.ensures.ok
 
-pub returns-in-Ok-read_beat-clause-ok : goal.returns-in-Ok-read_beat-clause-ok
-returns-in-Ok-read_beat-clause-ok g c = read_as_b g.row.VERSION c.args.client c.args.manager c.args.text.now c.in-Ok-read_beat.beat c.in-Ok-read_beat.ensures.ok
+pub returns-in-1-clause-err : goal.returns-in-1-clause-err
+returns-in-1-clause-err c = subst (λ v. IfErr c.read_line_in.result (λ kind. body_fault v c.args.client c.args.manager c.args.text.now ≡ Some kind)) (sym c.in-1.is) c.read_line_in.ensures.err
 
-pub returns-in-Ok-read_beat-2-clause-ok : goal.returns-in-Ok-read_beat-2-clause-ok
-returns-in-Ok-read_beat-2-clause-ok g c = read_as_c g.row.VERSION c.args.client c.args.manager c.args.text.now c.in-Ok-read_beat-2.beat c.in-Ok-read_beat-2.ensures.ok
+pub returns-in-1-clause-kinds : goal.returns-in-1-clause-kinds
+returns-in-1-clause-kinds c = c.read_line_in.ensures.kinds
 
-pub returns-in-Ok-read_beat-3-clause-ok : goal.returns-in-Ok-read_beat-3-clause-ok
-returns-in-Ok-read_beat-3-clause-ok g c = read_as_d g.row.VERSION c.args.client c.args.manager c.args.text.now c.in-Ok-read_beat-3.beat c.in-Ok-read_beat-3.ensures.ok
+pub returns-in_default-clause-ok : goal.returns-in_default-clause-ok
+returns-in_default-clause-ok c =
+    subst (λ v. IfOk c.read_line_in-in_default.result (IsReadLine v c.args.client c.args.manager c.args.text.now)) (sym (version_2 c.args.version c.requires.version (search rules))) c.read_line_in-in_default.ensures.ok
 
-pub returns-in-Ok-read_beat-4-clause-ok : goal.returns-in-Ok-read_beat-4-clause-ok
-returns-in-Ok-read_beat-4-clause-ok g c = read_as_e g.row.VERSION c.args.client c.args.manager c.args.text.now c.in-Ok-read_beat-4.beat c.in-Ok-read_beat-4.ensures.ok
+pub returns-in_default-clause-err : goal.returns-in_default-clause-err
+returns-in_default-clause-err c =
+    subst (λ v. IfErr c.read_line_in-in_default.result (λ kind. body_fault v c.args.client c.args.manager c.args.text.now ≡ Some kind)) (sym (version_2 c.args.version c.requires.version (search rules))) c.read_line_in-in_default.ensures.err
 
-pub returns-in-Err-clause-kinds : goal.returns-in-Err-clause-kinds
-returns-in-Err-clause-kinds g c = c.in-Err.ensures.kinds
-
-pub returns-in-Err-read_beat-clause-kinds : goal.returns-in-Err-read_beat-clause-kinds
-returns-in-Err-read_beat-clause-kinds g c = c.in-Err-read_beat.ensures.kinds
-
-pub returns-in-Err-read_beat-2-clause-kinds : goal.returns-in-Err-read_beat-2-clause-kinds
-returns-in-Err-read_beat-2-clause-kinds g c = c.in-Err-read_beat-2.ensures.kinds
-
-pub returns-in-Err-read_beat-3-clause-kinds : goal.returns-in-Err-read_beat-3-clause-kinds
-returns-in-Err-read_beat-3-clause-kinds g c = c.in-Err-read_beat-3.ensures.kinds
-
-pub returns-in-Err-read_beat-4-clause-kinds : goal.returns-in-Err-read_beat-4-clause-kinds
-returns-in-Err-read_beat-4-clause-kinds g c = c.in-Err-read_beat-4.ensures.kinds
+pub returns-in_default-clause-kinds : goal.returns-in_default-clause-kinds
+returns-in_default-clause-kinds c = c.read_line_in-in_default.ensures.kinds

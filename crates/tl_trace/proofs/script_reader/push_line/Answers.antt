@@ -1,6 +1,6 @@
 use Rattle.std.proofs.Common.{◌≡◌, false, arith, refl, sym, ◌∙◌}
 use Rattle.std.specs.Result.{is_err}
-use Rattle.tl_trace.proofs.NextLine.{was_put, was_kept, inside}
+use Rattle.tl_trace.proofs.NextLine.{was_put, was_kept, inside, first_in, at_most}
 use Rattle.tl_trace.proofs.script_reader.push_line.Goals as goal
 
 pub overflow_sub-text : goal.overflow_sub-text
@@ -29,3 +29,11 @@ returns g c =
       read = c.in-Ok.ensures.ok;
       put = was_put c.push.result _ _ _ went c.push.ensures.items;
     }
+
+pub line_len-long-requires : goal.line_len-long-requires
+line_len-long-requires g c = c.requires.width
+
+pub read_beat-requires : goal.read_beat-requires
+read_beat-requires g c =
+    let first = first_in c.args.text.now c.args.at c.line_len-long.result c.line_len-long.ensures.few.0 c.requires.at in
+    (c.requires-raw.1.1.1.1.0, (at_most g.row.W, (c.requires.width, first ∙ c.requires.letter)))

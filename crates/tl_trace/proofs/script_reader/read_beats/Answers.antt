@@ -1,68 +1,77 @@
-use Rattle.std.proofs.Common.{◌≡◌, ◌≤◌, ◌-◌, false, arith, length, sym, ◌∙◌}
-use Rattle.std.specs.Result.{is_err}
-use Rattle.std.specs.List.{slice_range}
-use Rattle.tl_trace.specs.Inner.Reading.{IsPushed, IsReadNear}
-use Rattle.tl_trace.specs.declared.places.TheConstants.{LONGEST_LINE}
-use Rattle.tl_trace.proofs.ReadBeats.{on_ok}
-use Rattle.tl_trace.proofs.Pieces.{starts, walks, walks_quick, waits, left, refused, unstored, ends_inside}
+use Rattle.std.proofs.Common.{refl}
+use Rattle.tl_trace.proofs.Pieces.{starts, walks_quick, waits, left_none, refused_at, unstored_at}
 use Rattle.tl_trace.proofs.script_reader.read_beats.Goals as goal
-use Rattle.tl_trace.proofs.script_reader.read_beats.Goals.{else-end-piece-via-then-end-piece+else-end-at-lt-LONGEST_LINE, else-end-piece-via-else-end-piece}
 
 pub loop-at-init : goal.loop-at-init
-loop-at-init g c = starts g.row.VERSION c.args.piece.now c.args.script.now c.args.line
+loop-at-init g c = (refl, starts g.row.VERSION c.args.piece.now c.args.reader.now.script c.args.reader.now.line)
 
 pub loop-at-preserved-in-Some : goal.loop-at-preserved-in-Some
 loop-at-preserved-in-Some g c =
-    walks_quick g.row.VERSION c.args.piece.now c.args.script.now c.args.line c.loop-at.script c.push_next.new.script c.loop-at.at c.loop-at.before c.in-Some.end c.loop-at.invariant c.in-Some.ensures
-
-pub returns-then-end-at-lt-LONGEST_LINE-clause-rest : goal.returns-then-end-at-lt-LONGEST_LINE-clause-rest
-returns-then-end-at-lt-LONGEST_LINE-clause-rest g c =
-    left g.row.VERSION c.args.piece.now c.args.script.now c.args.line c.loop-at.at c.next_line-end.result.0 c.next_line-end.ensures.line c.if-end-piece.true c.if-end-at-lt-LONGEST_LINE.true
-
-pub returns-then-end-at-lt-LONGEST_LINE-clause-told : goal.returns-then-end-at-lt-LONGEST_LINE-clause-told
-returns-then-end-at-lt-LONGEST_LINE-clause-told g c =
-    (waits g.row.VERSION c.args.piece.now c.args.script.now c.args.line c.loop-at.script c.push_next.new.script c.loop-at.at c.loop-at.before c.loop-at.invariant c.in_default.ensures).read
-
-pub returns-in-Err-clause-fault : goal.returns-in-Err-clause-fault
-returns-in-Err-clause-fault g c done more r _ =
-    let line = c.next_line-end.ensures.line in
-    let err = rw c.in-Err.is at c.next_line-end.ensures.err in
-    let long : c.next_line-end.result.0 ≡ length c.args.piece.now → LONGEST_LINE ≤ c.next_line-end.result.0 - c.loop-at.at = λ e.
-    elim c.else-end-piece.branch [
-      | else-end-piece-via-then-end-piece+else-end-at-lt-LONGEST_LINE w ↦ omega (arith, w.if-end-at-lt-LONGEST_LINE.false)
-      | else-end-piece-via-else-end-piece w ↦ absurd (w.if-end-piece.false e)
-    ] in
-    refused g.row.VERSION c.args.piece.now c.args.script.now c.args.line c.loop-at.script c.loop-at.at c.loop-at.before c.next_line-end.result.0 c.in-Err.kind
-    c.requires.client c.requires.manager c.loop-at.invariant line c.loop-at-test.true long err done more r
-
-pub returns-then-no_room-clause-memory : goal.returns-then-no_room-clause-memory
-returns-then-no_room-clause-memory g c done more r _ =
-    let line = c.next_line-end.ensures.line in
-    let ok = rw c.in-Ok.is at c.next_line-end.ensures.ok in
-    let long : c.next_line-end.result.0 ≡ length c.args.piece.now → LONGEST_LINE ≤ c.next_line-end.result.0 - c.loop-at.at = λ e.
-    elim c.else-end-piece.branch [
-      | else-end-piece-via-then-end-piece+else-end-at-lt-LONGEST_LINE w ↦ omega (arith, w.if-end-at-lt-LONGEST_LINE.false)
-      | else-end-piece-via-else-end-piece w ↦ absurd (w.if-end-piece.false e)
-    ] in
-    let inside = ends_inside g.row.VERSION c.args.piece.now c.args.script.now c.args.line c.loop-at.at c.next_line-end.result.0 c.in-Ok.read c.requires.client c.requires.manager line c.loop-at-test.true long ok in
-    unstored g.row.VERSION c.args.piece.now c.args.script.now c.args.line c.loop-at.script c.loop-at.at c.loop-at.before c.next_line-end.result.0 c.in-Ok.read c.loop-at.invariant line ok inside done more r
+    (c.loop-at.invariant.0, walks_quick g.row.VERSION c.args.piece.now c.args.reader.now.script c.args.reader.now.line c.loop-at.reader.script c.push_next.new.script c.loop-at.at c.loop-at.reader.line c.in-Some.end c.loop-at.invariant.1 c.in-Some.ensures)
 
 pub loop-at-preserved : goal.loop-at-preserved
 loop-at-preserved g c =
-    let line = c.next_line-end.ensures.line in
-    let end = c.next_line-end.result.0 in
-    let ok = rw c.in-Ok.is at c.next_line-end.ensures.ok in
-    let long : end ≡ length c.args.piece.now → LONGEST_LINE ≤ end - c.loop-at.at = λ e.
-    elim c.else-end-piece.branch [
-      | else-end-piece-via-then-end-piece+else-end-at-lt-LONGEST_LINE w ↦ omega (arith, w.if-end-at-lt-LONGEST_LINE.false)
-      | else-end-piece-via-else-end-piece w ↦ absurd (w.if-end-piece.false e)
-    ] in
-    let inside = ends_inside g.row.VERSION c.args.piece.now c.args.script.now c.args.line c.loop-at.at end c.in-Ok.read c.requires.client c.requires.manager line c.loop-at-test.true long ok in
-    let s = c.push_next.new.script in
-    let s' = c.push_near.new.script in
-    let near = c.near_of-near.result in
-    let read : IsReadNear g.row.VERSION (slice_range c.args.piece.now c.loop-at.at end) near = record { line = c.in-Ok.read; read = ok; same = c.near_of-near.ensures } in
-    let went : is_err c.push_near.result ≡ false = sym c.is_err.ensures.value ∙ c.if-is_err.false in
-    let put : IsPushed near s s' = on_ok c.push_near.result c.push_near.ensures went in
-    let far = waits g.row.VERSION c.args.piece.now c.args.script.now c.args.line c.loop-at.script s c.loop-at.at c.loop-at.before c.loop-at.invariant c.in_default.ensures in
-    walks g.row.VERSION c.args.piece.now c.args.script.now c.args.line s s' c.loop-at.at c.loop-at.before end near far line read inside put
+    let far = waits g.row.VERSION c.args.piece.now c.args.reader.now.script c.args.reader.now.line c.loop-at.reader.script c.push_next.new.script c.loop-at.at c.loop-at.reader.line c.loop-at.invariant.1 c.in_default.ensures in
+    let put = rw c.in-Ok-Some.field-0-is at c.in-Ok-Some.ensures.read in
+    (c.loop-at.invariant.0, walks_quick g.row.VERSION c.args.piece.now c.args.reader.now.script c.args.reader.now.line c.push_next.new.script c.push_slowly.new.script c.loop-at.at c.loop-at.reader.line c.in-Ok-Some.end far put)
+
+pub returns-in-Ok-None-clause-version : goal.returns-in-Ok-None-clause-version
+returns-in-Ok-None-clause-version g c = c.loop-at.invariant.0
+
+pub returns-in-Ok-None-clause-used : goal.returns-in-Ok-None-clause-used
+returns-in-Ok-None-clause-used g c = c.loop-at.invariant.1.within
+
+pub returns-in-Ok-None-clause-lines : goal.returns-in-Ok-None-clause-lines
+returns-in-Ok-None-clause-lines g c = c.loop-at.invariant.1.few
+
+pub returns-in-Ok-None-clause-rest : goal.returns-in-Ok-None-clause-rest
+returns-in-Ok-None-clause-rest g c = let left = rw c.in-Ok-None.field-0-is at c.in-Ok-None.ensures.read in left.rest
+
+pub returns-in-Ok-None-clause-told : goal.returns-in-Ok-None-clause-told
+returns-in-Ok-None-clause-told g c =
+    let far = waits g.row.VERSION c.args.piece.now c.args.reader.now.script c.args.reader.now.line c.loop-at.reader.script c.push_next.new.script c.loop-at.at c.loop-at.reader.line c.loop-at.invariant.1 c.in_default.ensures in
+    let left = rw c.in-Ok-None.field-0-is at c.in-Ok-None.ensures.read in
+    (waits g.row.VERSION c.args.piece.now c.args.reader.now.script c.args.reader.now.line c.push_next.new.script c.push_slowly.new.script c.loop-at.at c.loop-at.reader.line far left.same).read
+
+pub returns-in-Ok-None-clause-fault : goal.returns-in-Ok-None-clause-fault
+returns-in-Ok-None-clause-fault g c done more r = tt
+
+pub returns-in-Ok-None-clause-memory : goal.returns-in-Ok-None-clause-memory
+returns-in-Ok-None-clause-memory g c done more r = tt
+
+pub returns-in-Err-clause-version : goal.returns-in-Err-clause-version
+returns-in-Err-clause-version g c = c.loop-at.invariant.0
+
+pub returns-in-Err-clause-told : goal.returns-in-Err-clause-told
+returns-in-Err-clause-told g c done r = tt
+
+pub returns-in-Err-clause-fault : goal.returns-in-Err-clause-fault
+returns-in-Err-clause-fault g c done more r other =
+    let far = waits g.row.VERSION c.args.piece.now c.args.reader.now.script c.args.reader.now.line c.loop-at.reader.script c.push_next.new.script c.loop-at.at c.loop-at.reader.line c.loop-at.invariant.1 c.in_default.ensures in
+    refused_at g.row.VERSION c.args.piece.now c.args.reader.now.script c.args.reader.now.line c.push_next.new.script c.loop-at.at c.loop-at.reader.line c.in-Err.kind c.requires.client c.requires.manager far c.loop-at-test.true (c.in-Err.ensures.fault other) done more r
+
+pub returns-in-Err-clause-memory : goal.returns-in-Err-clause-memory
+returns-in-Err-clause-memory g c done more r is =
+    let far = waits g.row.VERSION c.args.piece.now c.args.reader.now.script c.args.reader.now.line c.loop-at.reader.script c.push_next.new.script c.loop-at.at c.loop-at.reader.line c.loop-at.invariant.1 c.in_default.ensures in
+    unstored_at g.row.VERSION c.args.piece.now c.args.reader.now.script c.args.reader.now.line c.push_next.new.script c.loop-at.at c.loop-at.reader.line far (c.in-Err.ensures.memory is) done more r
+
+pub returns-clause-version : goal.returns-clause-version
+returns-clause-version g c = c.loop-at.invariant.0
+
+pub returns-clause-used : goal.returns-clause-used
+returns-clause-used g c = c.loop-at.invariant.1.within
+
+pub returns-clause-lines : goal.returns-clause-lines
+returns-clause-lines g c = c.loop-at.invariant.1.few
+
+pub returns-clause-rest : goal.returns-clause-rest
+returns-clause-rest g c = left_none g.row.VERSION c.args.piece.now c.args.reader.now.script c.args.reader.now.line c.loop-at.at c.loop-at-test.false
+
+pub returns-clause-told : goal.returns-clause-told
+returns-clause-told g c = c.loop-at.invariant.1.read
+
+pub returns-clause-fault : goal.returns-clause-fault
+returns-clause-fault g c done more r = tt
+
+pub returns-clause-memory : goal.returns-clause-memory
+returns-clause-memory g c done more r = tt

@@ -1,10 +1,13 @@
-use Rattle.tl_ring.proofs.FieldSizes.{part_small}
-use Rattle.tl_sides.proofs.BridgeSize.{bridge_type}
+use Rattle.tl_ring.proofs.FieldSizes.{beat_small}
+use Rattle.tl_sides.proofs.BridgeSize.{bridge_small, bridge_part_small}
 use Rattle.tl_bridge.proofs.Going.{goes-d}
 use Rattle.tl_bridge.proofs.ahead.SyncBridgeGoesAheadBeatOfHeadD.go_on.Goals as goal
 
+pub offer_next-offered-requires : goal.offer_next-offered-requires
+offer_next-offered-requires g c = (bridge_small g.row.C g.row.M c.requires.0 c.requires.1, (beat_small g.row.M c.requires.1, c.requires))
+
 pub move_on-requires : goal.move_on-requires
-move_on-requires g c = part_small (bridge_type g.row.C g.row.M) 3 9223372036854775808 c.requires-raw.1.1
+move_on-requires g c = bridge_part_small g.row.C g.row.M 3 c.requires.0 c.requires.1
 
 pub returns : goal.returns
-returns g c = λ beats at before offered becomes. goes-d c.self.view_is beats at before offered becomes _ c.move_on.ensures
+returns g c = goes-d c.self.view_is c.args.beats.now c.args.at c.args.self.now c.offer_next-offered.result c.offer_next-offered.ensures _ c.move_on.ensures

@@ -6,10 +6,10 @@ use Rattle.tl_convert.proofs.Sizes.{tracker-fits}
 use Rattle.tl_check.proofs.progress.Progress.accept.Goals as goal
 
 pub overflow_add-self : goal.overflow_add-self
-overflow_add-self g c = omega (arith, c.requires.few)
+overflow_add-self g c = omega (arith, c.requires.3)
 
 pub overflow_add-self-2 : goal.overflow_add-self-2
-overflow_add-self-2 g c = omega (arith, c.requires.few, c.requires.few_far, c.far_beats_at-given.ensures.few)
+overflow_add-self-2 g c = omega (arith, c.requires.3, c.requires.4, c.far_beats_at-given.ensures.few)
 
 pub returns-clause-at : goal.returns-clause-at
 returns-clause-at g c = refl
@@ -21,12 +21,12 @@ pub returns-clause-come : goal.returns-clause-come
 returns-clause-come g c = λ bs b come next head fine handed.
     let self = c.args.self.now in
     come-more g.K.Channel.rules bs self.tracker self.at self.far come b next c.args.place c.far_beats_at-given.result c.advance.new.self
-    c.requires.near c.requires.far head fine handed c.requires.place c.far_beats_at-given.ensures.gives
+    c.requires.0 c.requires.1 head fine handed c.requires.2 c.far_beats_at-given.ensures.gives
     (c.advance.ensures.stands (take self.at bs) b come.burst_is (sym head))
 
 pub advance-requires : goal.advance-requires
 advance-requires g c =
-    (tracker-fits (lone g.row.K-Head.mir) (layout g.row.K-Head) g.met.K.Channel.head_small, (c.requires.near, c.requires.place))
+    (tracker-fits (lone g.row.K-Head.mir) (layout g.row.K-Head) g.met.K.Channel.head_small, (c.requires.0, c.requires.2))
 
 pub returns-clause-few_far : goal.returns-clause-few_far
-returns-clause-few_far g c = omega (arith, c.requires.few_far, c.far_beats_at-given.ensures.few)
+returns-clause-few_far g c = omega (arith, c.requires.4, c.far_beats_at-given.ensures.few)

@@ -29,13 +29,12 @@ give-requires g c =
         search rules,
         (
           search rules,
-          (
-            c.requires.near,
-            (
-              c.requires.far,
-              (g.met.K.Channel.small c.args.beat.now.head lawful, c.requires.empty),
-            ),
-          ),
+          record {
+            near = c.requires.near;
+            far = c.requires.far;
+            small = g.met.K.Channel.small c.args.beat.now.head lawful;
+            empty = c.requires.empty;
+          },
         ),
       ),
     )

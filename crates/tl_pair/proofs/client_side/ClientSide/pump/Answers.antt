@@ -1,3 +1,5 @@
+use Rattle.std.proofs.Common.{arith}
+use Rattle.tl_sides.proofs.Sums.{sum_2, sum_3}
 use Rattle.tl_pair.proofs.SideSteps.{client_pumped}
 use Rattle.tl_ring.proofs.FieldSizes.{part_small}
 use Rattle.tl_pair.proofs.Layouts.{client_layout}
@@ -11,6 +13,12 @@ pump-c-requires g c = search (part_small (client_layout g.row.C g.row.M g.row.A 
 
 pub pump-e-requires : goal.pump-e-requires
 pump-e-requires g c = search (part_small (client_layout g.row.C g.row.M g.row.A g.A.Allocator) 4 9223372036854775808)
+
+pub overflow_add-result : goal.overflow_add-result
+overflow_add-result g c = let few = sum_2 c.pump-a.result c.pump-c.result c.pump-a.ensures.most c.pump-c.ensures.most in omega (arith, few)
+
+pub overflow_add-result-2 : goal.overflow_add-result-2
+overflow_add-result-2 g c = let few = sum_3 c.pump-a.result c.pump-c.result c.pump-e.result c.pump-a.ensures.most c.pump-c.ensures.most c.pump-e.ensures.most in omega (arith, few)
 
 pub returns : goal.returns
 returns g c = client_pumped c.self.view_is _ _ _ _ _ _ c.pump-a.ensures c.pump-c.ensures c.pump-e.ensures

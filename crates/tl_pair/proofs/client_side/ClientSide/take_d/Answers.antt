@@ -12,24 +12,24 @@ pub take-requires : goal.take-requires
 take-requires g c = search (part_small (client_layout g.row.C g.row.M g.row.A g.A.Allocator) 3 9223372036854775808)
 
 pub note_answer-requires : goal.note_answer-requires
-note_answer-requires g c = (search (part_small (client_layout g.row.C g.row.M g.row.A g.A.Allocator) 5 9223372036854775808), (c.requires.far, lawful_head rules_d c.in_ok-beat.beat c.in_ok-beat.ensures.lawful))
+note_answer-requires g c = (search (part_small (client_layout g.row.C g.row.M g.row.A g.A.Allocator) 5 9223372036854775808), (c.requires.far, lawful_head rules_d c.in-Some.beat c.in-Some.ensures.lawful))
 
-pub returns-in_err-beat-clause-rest : goal.returns-in_err-beat-clause-rest
-returns-in_err-beat-clause-rest g c = rw (← c.self.view_is) (ap (λ q. record { a = c.self.inside.a; b = c.self.inside.b; c = c.self.inside.c; d = q; e = c.self.inside.e; book = c.self.inside.book }) c.take.ensures.rest)
+pub returns-in-None-clause-rest : goal.returns-in-None-clause-rest
+returns-in-None-clause-rest g c = rw (← c.self.view_is) (ap (λ q. record { a = c.self.inside.a; b = c.self.inside.b; c = c.self.inside.c; d = q; e = c.self.inside.e; book = c.self.inside.book }) c.take.ensures.rest)
 
-pub returns-in_err-beat-clause-taken : goal.returns-in_err-beat-clause-taken
-returns-in_err-beat-clause-taken g c = rw (← c.self.view_is) (λ x h.
-    let none = none_taken c.self.inside.d.inbox (sym c.in_err-beat.ensures.beat) in
+pub returns-in-None-clause-taken : goal.returns-in-None-clause-taken
+returns-in-None-clause-taken g c = rw (← c.self.view_is) (λ x h.
+    let none = none_taken c.self.inside.d.inbox (sym c.in-None.ensures.beat) in
     let same = sym (append-nil x.history) ∙ ap (λ q. x.history ++ map Answer q) (sym none) in
     client_taken_d _ x h _ c.self.inside.d.inbox _ (c.take.ensures.takes (answered x.history) h.d)
     (subst (λ q. KnowsClient c.self.inside.book q) same h.book))
 
-pub returns-clause-rest : goal.returns-clause-rest
-returns-clause-rest g c = rw (← c.self.view_is) (ap (λ q. record { a = c.self.inside.a; b = c.self.inside.b; c = c.self.inside.c; d = q; e = c.self.inside.e; book = c.note_answer.new.self }) c.take.ensures.rest)
+pub returns-in-Some-clause-rest : goal.returns-in-Some-clause-rest
+returns-in-Some-clause-rest g c = rw (← c.self.view_is) (ap (λ q. record { a = c.self.inside.a; b = c.self.inside.b; c = c.self.inside.c; d = q; e = c.self.inside.e; book = c.note_answer.new.self }) c.take.ensures.rest)
 
-pub returns-clause-taken : goal.returns-clause-taken
-returns-clause-taken g c = rw (← c.self.view_is) (λ x h.
-    let some = some_taken c.self.inside.d.inbox c.in_ok-beat.beat (sym c.in_ok-beat.ensures.beat) in
+pub returns-in-Some-clause-taken : goal.returns-in-Some-clause-taken
+returns-in-Some-clause-taken g c = rw (← c.self.view_is) (λ x h.
+    let some = some_taken c.self.inside.d.inbox c.in-Some.beat (sym c.in-Some.ensures.beat) in
     let more = ap (λ q. x.history ++ map Answer q) (sym some) in
     client_taken_d _ x h _ c.self.inside.d.inbox _ (c.take.ensures.takes (answered x.history) h.d)
-    (subst (λ q. KnowsClient c.note_answer.new.self q) more (c.note_answer.ensures x.history c.in_ok-beat.beat h.book refl)))
+    (subst (λ q. KnowsClient c.note_answer.new.self q) more (c.note_answer.ensures x.history c.in-Some.beat h.book refl)))

@@ -12,24 +12,24 @@ pub take-requires : goal.take-requires
 take-requires g c = search (part_small (manager_layout g.row.C g.row.M g.row.A g.A.Allocator) 0 9223372036854775808)
 
 pub note_ask-requires : goal.note_ask-requires
-note_ask-requires g c = (search (part_small (manager_layout g.row.C g.row.M g.row.A g.A.Allocator) 5 9223372036854775808), (c.requires.far, lawful_head rules_a c.in_ok-beat.beat c.in_ok-beat.ensures.lawful))
+note_ask-requires g c = (search (part_small (manager_layout g.row.C g.row.M g.row.A g.A.Allocator) 5 9223372036854775808), (c.requires.far, lawful_head rules_a c.in-Some.beat c.in-Some.ensures.lawful))
 
-pub returns-in_err-beat-clause-rest : goal.returns-in_err-beat-clause-rest
-returns-in_err-beat-clause-rest g c = rw (← c.self.view_is) (ap (λ q. record { a = q; b = c.self.inside.b; c = c.self.inside.c; d = c.self.inside.d; e = c.self.inside.e; book = c.self.inside.book }) c.take.ensures.rest)
+pub returns-in-None-clause-rest : goal.returns-in-None-clause-rest
+returns-in-None-clause-rest g c = rw (← c.self.view_is) (ap (λ q. record { a = q; b = c.self.inside.b; c = c.self.inside.c; d = c.self.inside.d; e = c.self.inside.e; book = c.self.inside.book }) c.take.ensures.rest)
 
-pub returns-in_err-beat-clause-taken : goal.returns-in_err-beat-clause-taken
-returns-in_err-beat-clause-taken g c = rw (← c.self.view_is) (λ x h.
-    let none = none_taken c.self.inside.a.inbox (sym c.in_err-beat.ensures.beat) in
+pub returns-in-None-clause-taken : goal.returns-in-None-clause-taken
+returns-in-None-clause-taken g c = rw (← c.self.view_is) (λ x h.
+    let none = none_taken c.self.inside.a.inbox (sym c.in-None.ensures.beat) in
     let same = sym (append-nil x.history) ∙ ap (λ q. x.history ++ map Ask q) (sym none) in
     manager_taken_a _ x h _ c.self.inside.a.inbox _ (c.take.ensures.takes (asked x.history) h.a)
     (subst (λ q. KnowsManager c.self.inside.book q) same h.book))
 
-pub returns-clause-rest : goal.returns-clause-rest
-returns-clause-rest g c = rw (← c.self.view_is) (ap (λ q. record { a = q; b = c.self.inside.b; c = c.self.inside.c; d = c.self.inside.d; e = c.self.inside.e; book = c.note_ask.new.self }) c.take.ensures.rest)
+pub returns-in-Some-clause-rest : goal.returns-in-Some-clause-rest
+returns-in-Some-clause-rest g c = rw (← c.self.view_is) (ap (λ q. record { a = q; b = c.self.inside.b; c = c.self.inside.c; d = c.self.inside.d; e = c.self.inside.e; book = c.note_ask.new.self }) c.take.ensures.rest)
 
-pub returns-clause-taken : goal.returns-clause-taken
-returns-clause-taken g c = rw (← c.self.view_is) (λ x h.
-    let some = some_taken c.self.inside.a.inbox c.in_ok-beat.beat (sym c.in_ok-beat.ensures.beat) in
+pub returns-in-Some-clause-taken : goal.returns-in-Some-clause-taken
+returns-in-Some-clause-taken g c = rw (← c.self.view_is) (λ x h.
+    let some = some_taken c.self.inside.a.inbox c.in-Some.beat (sym c.in-Some.ensures.beat) in
     let more = ap (λ q. x.history ++ map Ask q) (sym some) in
     manager_taken_a _ x h _ c.self.inside.a.inbox _ (c.take.ensures.takes (asked x.history) h.a)
-    (subst (λ q. KnowsManager c.note_ask.new.self q) more (c.note_ask.ensures x.history c.in_ok-beat.beat h.book refl)))
+    (subst (λ q. KnowsManager c.note_ask.new.self q) more (c.note_ask.ensures x.history c.in-Some.beat h.book refl)))

@@ -4,10 +4,9 @@ use Rattle.tl_ring.proofs.EndSteps.{shown_of}
 use denote.Param.{layout, param, number, copied}
 use Rattle.tl_ring.specs.contracts.ends.TakeEnd.{the_row}
 use Rattle.tl_ring.proofs.FieldSizes.{part_small, beat_in_queue}
-use Rattle.tl_ring.proofs.Moves.{none_in_both, some_in_both}
+use Rattle.tl_ring.proofs.Moves.{none_in_two}
 use denote.Memory.{lone}
 use Rattle.tl_ring.proofs.ends.TakeEnd.drained.Goals as goal
-use Rattle.tl_ring.proofs.ends.TakeEnd.drained.Goals.{then-ring_is_empty, else-ring_is_empty}
 
 pub slots_after-in_ring-requires-room-P-Protocol : goal.slots_after-in_ring-requires-room-P-Protocol
 slots_after-in_ring-requires-room-P-Protocol g c = λ κs within. lit< tt
@@ -38,11 +37,7 @@ returns-clause-looked g c =
 
 pub returns-clause-drained : goal.returns-clause-drained
 returns-clause-drained g c =
-    let ring = c.slots_after-in_ring.ensures.value in
-    elim c.if-ring_is_empty.branch [
-      | then-ring_is_empty w ↦ rw w.result-is (none_in_both _ _ _ _ c.len-waiting.ensures.value ring w.if-ring_is_empty.true)
-      | else-ring_is_empty w ↦ rw w.result-is (some_in_both c.self.inside.inbox _ _ ring w.if-ring_is_empty.false)
-    ]
+    none_in_two c.self.inside.inbox _ c.len-waiting.result c.slots_after-in_ring.result c.len-waiting.ensures.value c.slots_after-in_ring.ensures.value
 
 pub returns-clause-shown : goal.returns-clause-shown
 returns-clause-shown g c = λ x taken shows takes.

@@ -1,4 +1,5 @@
-use Rattle.std.proofs.Common.{◌≡◌, ◌+◌, length, arith}
+use Rattle.std.proofs.Common.{◌≡◌, ◌+◌, ◌==◌, ℕ, length, refl, arith}
+use Rattle.std.proofs.lemmas.Bool.{and_parts}
 use Rattle.tl_ring.proofs.Moves.{none_in_three}
 use denote.Param.{layout, param, number, copied}
 use Rattle.tl_ring.specs.contracts.pipe.SyncPipe.{the_row}
@@ -12,9 +13,11 @@ pub len-requires-3 : goal.len-requires-3
 len-requires-3 g c = part_small (layout (the_row (param 0 g.row.K) (param 1 (number g.row.W)) (param 2 (number g.row.V)) (param 3 g.row.A) (copied 4 g.row.K-Head) g.K.Channel g.K.Head.PartialEq g.K.Head.Default g.A.Allocator)) 3 9223372036854775808 c.requires-raw.1.1.1.1.1
 
 -- no beat is under way exactly where stage, ring and inbox are empty
-pub returns-then-self : goal.returns-then-self
-returns-then-self g c =
+pub returns : goal.returns
+returns g c =
     let s = c.self.inside in
-    let sum : c.len.result + c.len-2.result + c.len-3.result ≡ length s.stage + length s.ring.items + length s.inbox = omega arith in
-    let none_left = none_in_three s.stage s.ring.items s.inbox (c.len.result + c.len-2.result + c.len-3.result) sum in
-    rw (← c.self.view_is) (λ answered. let e = none_left.0 answered in (c.if-self.true, e.0, e.1, e.2), λ (shut, stage, ring, inbox). none_left.1 (stage, ring, inbox))
+    let under_way : ℕ = c.len.result + c.len-2.result + c.len-3.result in
+    let sum : under_way ≡ length s.stage + length s.ring.items + length s.inbox = omega arith in
+    let none_left = none_in_three s.stage s.ring.items s.inbox under_way sum in
+    rw (← c.self.view_is)
+    (λ answered. (let each = and_parts s.closed (under_way == 0) answered in let e = none_left.0 each.1 in (each.0, e.0, e.1, e.2)), λ (shut, stage, ring, inbox). rw (shut, none_left.1 (stage, ring, inbox)) refl)

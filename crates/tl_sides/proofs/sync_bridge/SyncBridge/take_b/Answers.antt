@@ -6,5 +6,8 @@ use Rattle.tl_sides.proofs.sync_bridge.SyncBridge.take_b.Goals as goal
 pub take-requires : goal.take-requires
 take-requires g c = search (part_small (bridge_layout g.row.C g.row.M g.row.A g.A.Allocator) 1 9223372036854775808)
 
+pub returns-clause-beat : goal.returns-clause-beat
+returns-clause-beat g c = rw (← c.self.view_is) c.take.ensures.beat
+
 pub returns-clause-taken : goal.returns-clause-taken
 returns-clause-taken g c = λ x k. let h = rw (← c.self.view_is) at k in with_b _ x h _ _ (c.take.ensures.taken x.b h.b)

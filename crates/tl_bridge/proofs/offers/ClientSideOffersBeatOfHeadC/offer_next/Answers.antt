@@ -1,0 +1,33 @@
+use Rattle.tl_bridge.specs.Inner.Offering.{on_c}
+use Rattle.std.proofs.Common.{refl}
+use Rattle.tl_bridge.proofs.SideOffers.{closes-to, asked, answers-to}
+use Rattle.tl_bridge.proofs.SideEnds.{client-ends-same}
+use Rattle.tl_bridge.proofs.SideSizes.{client_small}
+use Rattle.tl_ring.proofs.FieldSizes.{beat_small}
+use Rattle.tl_bridge.proofs.OfferSteps.{read_some, read_none}
+use Rattle.tl_bridge.proofs.offers.ClientSideOffersBeatOfHeadC.offer_next.Goals as goal
+
+pub close_c-requires : goal.close_c-requires
+close_c-requires g c = client_small g.row.C g.row.M c.requires.0 c.requires.1
+
+pub ready_c-requires : goal.ready_c-requires
+ready_c-requires g c = client_small g.row.C g.row.M c.requires.0 c.requires.1
+
+pub offer_c-requires : goal.offer_c-requires
+offer_c-requires g c = (client_small g.row.C g.row.M c.requires.0 c.requires.1, (beat_small g.row.C c.requires.0, (c.requires.0, (c.requires.1, c.if-not-ready_c.ensures.0 refl))))
+
+pub returns-in_default : goal.returns-in_default
+returns-in_default g c =
+    rw (c.from_close.ensures)
+    (closes-to on_c c.args.self.now _ c.close_c.result _ _ c.close_c.ensures (client-ends-same _) (record { a = refl; b = refl; c = refl; d = refl; e = refl }) c.args.beats.now c.args.at (read_none c.args.beats.now c.args.at c.in_default.ensures.lookup.0))
+
+pub returns-then-not-ready_c : goal.returns-then-not-ready_c
+returns-then-not-ready_c g c =
+    (asked on_c c.args.self.now (client-ends-same _) _ (λ x h. h.c.pipe) _ c.if-not-ready_c.ensures).1 (λ ready. cc) c.args.beats.now c.args.at c.in-Some.beat.now
+    (read_some c.args.beats.now c.args.at c.in-Some.beat.now c.in-Some.ensures.lookup.0 c.in-Some.ensures.lookup.1)
+
+pub returns : goal.returns
+returns g c =
+    rw (c.from_offer.ensures)
+    (answers-to on_c c.args.self.now _ c.offer_c.result _ _ c.in-Some.beat.now c.offer_c.ensures (λ ring. record { a = refl; b = refl; c = ring; d = refl; e = refl }) c.args.beats.now c.args.at
+    (read_some c.args.beats.now c.args.at c.in-Some.beat.now c.in-Some.ensures.lookup.0 c.in-Some.ensures.lookup.1))

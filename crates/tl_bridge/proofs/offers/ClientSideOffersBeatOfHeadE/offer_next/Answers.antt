@@ -1,0 +1,33 @@
+use Rattle.std.proofs.Common.{refl}
+use Rattle.tl_bridge.proofs.SideOffers.{closes-to, asked, answers-to}
+use Rattle.tl_bridge.specs.Inner.Offering.{on_e}
+use Rattle.tl_bridge.proofs.SideEnds.{client-ends-same}
+use Rattle.tl_bridge.proofs.SideSizes.{client_small}
+use Rattle.tl_ring.proofs.FieldSizes.{beat_small}
+use Rattle.tl_bridge.proofs.OfferSteps.{read_some, read_none}
+use Rattle.tl_bridge.proofs.offers.ClientSideOffersBeatOfHeadE.offer_next.Goals as goal
+
+pub close_e-requires : goal.close_e-requires
+close_e-requires g c = client_small g.row.C g.row.M c.requires.0 c.requires.1
+
+pub ready_e-requires : goal.ready_e-requires
+ready_e-requires g c = client_small g.row.C g.row.M c.requires.0 c.requires.1
+
+pub offer_e-requires : goal.offer_e-requires
+offer_e-requires g c = (client_small g.row.C g.row.M c.requires.0 c.requires.1, (beat_small g.row.C c.requires.0, (c.requires.0, (c.requires.1, c.if-not-ready_e.ensures.0 refl))))
+
+pub returns-in_default : goal.returns-in_default
+returns-in_default g c =
+    rw (c.from_close.ensures)
+    (closes-to on_e c.args.self.now _ c.close_e.result _ _ c.close_e.ensures (client-ends-same _) (record { a = refl; b = refl; c = refl; d = refl; e = refl }) c.args.beats.now c.args.at (read_none c.args.beats.now c.args.at c.in_default.ensures.lookup.0))
+
+pub returns-then-not-ready_e : goal.returns-then-not-ready_e
+returns-then-not-ready_e g c =
+    (asked on_e c.args.self.now (client-ends-same _) _ (λ x h. h.e.pipe) _ c.if-not-ready_e.ensures).1 (λ ready. cc) c.args.beats.now c.args.at c.in-Some.beat.now
+    (read_some c.args.beats.now c.args.at c.in-Some.beat.now c.in-Some.ensures.lookup.0 c.in-Some.ensures.lookup.1)
+
+pub returns : goal.returns
+returns g c =
+    rw (c.from_offer.ensures)
+    (answers-to on_e c.args.self.now _ c.offer_e.result _ _ c.in-Some.beat.now c.offer_e.ensures (λ ring. record { a = refl; b = refl; c = refl; d = refl; e = ring }) c.args.beats.now c.args.at
+    (read_some c.args.beats.now c.args.at c.in-Some.beat.now c.in-Some.ensures.lookup.0 c.in-Some.ensures.lookup.1))

@@ -1,9 +1,0 @@
-use Rattle.tl_bridge.specs.Inner.Offering.{on_bridge_a}
-use Rattle.tl_bridge.proofs.SideOffers.{asked}
-use Rattle.tl_bridge.proofs.offers.SyncBridgeOffersBeatOfHeadA.is_ready.Goals as goal
-
-pub ready_a-requires : goal.ready_a-requires
-ready_a-requires g c = c.requires-raw.1.1
-
-pub returns : goal.returns
-returns g c = asked on_bridge_a c.args.self.now tt _ (λ x h. h.a) c.ready_a.result c.ready_a.ensures

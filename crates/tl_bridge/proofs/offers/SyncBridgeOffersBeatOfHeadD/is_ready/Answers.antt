@@ -1,9 +1,0 @@
-use Rattle.tl_bridge.specs.Inner.Offering.{on_bridge_d}
-use Rattle.tl_bridge.proofs.SideOffers.{asked}
-use Rattle.tl_bridge.proofs.offers.SyncBridgeOffersBeatOfHeadD.is_ready.Goals as goal
-
-pub ready_d-requires : goal.ready_d-requires
-ready_d-requires g c = c.requires-raw.1.1
-
-pub returns : goal.returns
-returns g c = asked on_bridge_d c.args.self.now tt _ (λ x h. h.d) c.ready_d.result c.ready_d.ensures

@@ -1,9 +1,0 @@
-use Rattle.tl_bridge.specs.Inner.Offering.{on_bridge_e}
-use Rattle.tl_bridge.proofs.SideOffers.{asked}
-use Rattle.tl_bridge.proofs.offers.SyncBridgeOffersBeatOfHeadE.is_ready.Goals as goal
-
-pub ready_e-requires : goal.ready_e-requires
-ready_e-requires g c = c.requires-raw.1.1
-
-pub returns : goal.returns
-returns g c = asked on_bridge_e c.args.self.now tt _ (λ x h. h.e) c.ready_e.result c.ready_e.ensures

@@ -1,0 +1,73 @@
+//! The first beat of an inbox as C is told of it.
+ghost use Rattle.tl_c_beats.specs.Calls.{Told};
+ghost use Rattle.tl_c_beats.specs.Fields.{fields_a, fields_b, fields_c, fields_d, fields_e};
+
+use crate::fields::{BeatFields, fields_a, fields_b, fields_c, fields_d, fields_e};
+use tl_msg::{BeatOf, HeadA, HeadB, HeadC, HeadD, HeadE};
+
+// Writes a beat, if there is one, by what its fields tell: whether there is one.
+macro_rules! tell {
+    ($far:ident, $fields_of:ident, $beat:ident, $lanes:ident) => {{
+        let Some(far) = $far else {
+            return false;
+        };
+        *$beat = $fields_of(&far);
+        *$lanes = far.lanes;
+        true
+    }};
+}
+
+/// Writes a beat of A, if there is one: whether there is one. Where there is none, nothing changes.
+pub fn tell_a<const W: usize>(
+    far: Option<BeatOf<HeadA, W>>,
+    beat: &mut BeatFields,
+    lanes: &mut [u8; W],
+) -> bool
+    ensures { Told fields_a far.entry beat.old beat.new lanes.old lanes.new result }
+{
+    tell!(far, fields_a, beat, lanes)
+}
+
+/// Writes a beat of B, if there is one: whether there is one. Where there is none, nothing changes.
+pub fn tell_b<const W: usize>(
+    far: Option<BeatOf<HeadB, W>>,
+    beat: &mut BeatFields,
+    lanes: &mut [u8; W],
+) -> bool
+    ensures { Told fields_b far.entry beat.old beat.new lanes.old lanes.new result }
+{
+    tell!(far, fields_b, beat, lanes)
+}
+
+/// Writes a beat of C, if there is one: whether there is one. Where there is none, nothing changes.
+pub fn tell_c<const W: usize>(
+    far: Option<BeatOf<HeadC, W>>,
+    beat: &mut BeatFields,
+    lanes: &mut [u8; W],
+) -> bool
+    ensures { Told fields_c far.entry beat.old beat.new lanes.old lanes.new result }
+{
+    tell!(far, fields_c, beat, lanes)
+}
+
+/// Writes a beat of D, if there is one: whether there is one. Where there is none, nothing changes.
+pub fn tell_d<const W: usize>(
+    far: Option<BeatOf<HeadD, W>>,
+    beat: &mut BeatFields,
+    lanes: &mut [u8; W],
+) -> bool
+    ensures { Told fields_d far.entry beat.old beat.new lanes.old lanes.new result }
+{
+    tell!(far, fields_d, beat, lanes)
+}
+
+/// Writes a beat of E, if there is one: whether there is one. Where there is none, nothing changes.
+pub fn tell_e<const W: usize>(
+    far: Option<BeatOf<HeadE, W>>,
+    beat: &mut BeatFields,
+    lanes: &mut [u8; W],
+) -> bool
+    ensures { Told fields_e far.entry beat.old beat.new lanes.old lanes.new result }
+{
+    tell!(far, fields_e, beat, lanes)
+}

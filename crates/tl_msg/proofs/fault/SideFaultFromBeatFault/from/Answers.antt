@@ -1,0 +1,6 @@
+-- Search finds it. It has a name here, so that a wrong body is refused at once.
+use Rattle.std.proofs.Common.{rules}
+use Rattle.tl_msg.proofs.fault.SideFaultFromBeatFault.from.Goals as goal
+
+pub returns : goal.returns
+returns c = search rules

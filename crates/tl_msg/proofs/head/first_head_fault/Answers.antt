@@ -1,0 +1,6 @@
+-- Search finds it. It has a name here, so that a wrong body is refused at once.
+use Rattle.std.proofs.Common.{rules}
+use Rattle.tl_msg.proofs.head.first_head_fault.Goals as goal
+
+pub returns-then-size-gt-MAX_SIZE : goal.returns-then-size-gt-MAX_SIZE
+returns-then-size-gt-MAX_SIZE c = search rules

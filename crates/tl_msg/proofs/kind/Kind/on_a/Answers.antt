@@ -1,0 +1,6 @@
+-- Search finds it. It has a name here, so that a wrong body is refused at once.
+use Rattle.std.proofs.Common.{rules}
+use Rattle.tl_msg.proofs.kind.Kind.on_a.Goals as goal
+
+pub returns-in-6 : goal.returns-in-6
+returns-in-6 c = search rules
