@@ -1,5 +1,5 @@
 -- What a text's header names, and a text that has none.
-use Rattle.std.proofs.Common.{◌≡◌, ◌≢◌, ◌∷◌, [], ◌||◌, ℕ, Bool, true, false, List, None, Some, if◌then◌else◌, refl, ap, ◌∙◌, subst}
+use Rattle.std.proofs.Common.{◌≡◌, ◌≢◌, ◌∷◌, [], ◌||◌, ℕ, Bool, true, false, List, None, Some, if◌then◌else◌, refl, sym, ap, ◌∙◌, subst}
 use Rattle.std.specs.Prelude.{◌==◌}
 use Rattle.std.proofs.lemmas.Bool.{eqb-true}
 use Rattle.tl_lanes.specs.declared.limits.TheConstants.{WIDEST}
@@ -7,6 +7,7 @@ use Rattle.tl_lanes.specs.Lanes.{IsWidth}
 use Rattle.tl_lanes.proofs.Widths.{each_width}
 use Rattle.tl_trace.specs.Faults.{body, cut, onto_first, is_newline, header_of, HasHeader, faults_after, faults_of_lines, IsFirstFault}
 use Rattle.tl_trace.specs.declared.fault.TraceKind.TheVariants as kinds
+use Rattle.tl_trace.specs.declared.header.Header.{Header}
 use Rattle.tl_trace.proofs.Headers.{header, known}
 use Rattle.tl_trace.proofs.ReadLines.{first_fault}
 use Rattle.tl_trace.proofs.Widths.{width_of}
@@ -60,3 +61,11 @@ pub last_client : (text : List ℕ) (version client manager : ℕ) → HasHeader
 last_client text version client manager is n1 n2 n4 n8 n16 n32 n64 =
     subst (λ w. HasHeader text version w manager)
     (last_width client (width_of version client (known (body text) (header version client manager) is).1) n1 n2 n4 n8 n16 n32 n64) is
+
+-- a manager's width that is this one
+pub with_manager : (text : List ℕ) (version client manager width : ℕ) → manager ≡ width → HasHeader text version client manager → HasHeader text version client width
+with_manager text version client manager width is named = subst (λ w. HasHeader text version client w) is named
+
+-- a client's width that is this one, where the header was read of the same bytes
+pub with_client : (text bytes : List ℕ) (h : Header) (width : ℕ) → h.client ≡ width → bytes ≡ text → Some h ≡ header_of (body bytes) → HasHeader text h.version width h.manager
+with_client text bytes h width is same read = subst (λ w. HasHeader text h.version w h.manager) is (ap (λ xs. header_of (body xs)) (sym same) ∙ sym read)

@@ -2,6 +2,7 @@
 use Rattle.std.specs.Prelude.{IfSome}
 use Rattle.std.proofs.Common.{◌≡◌, ◌≢◌, ℕ, ◌+◌, ◌-◌, ◌<◌, ◌≤◌, ◌^◌, Bool, true, false, cond, nat_eq, nat_le, List, [], ◌++◌, length, take, Option, Some, refl, sym, ap, ◌∙◌, subst, arith, eq-eqb, length-append}
 use Rattle.std.proofs.lemmas.Bool.{eqb-true, leb-true}
+use Rattle.std.specs.Io.KnownBytes.{IsAtEnd}
 use Rattle.std.specs.Fmt.{digits}
 use Rattle.std.specs.List.{list_all, slice_range}
 use Rattle.tl_trace.specs.Faults.{header_of, HasHeader, IsFirstFault}
@@ -125,3 +126,10 @@ pub used_up : (unread left : Option (List ℕ)) (used : List ℕ) (input : Input
     → HasTaken unread left (used ++ take (input.to - input.from) (held input)) (record { buffer = input.buffer; from = input.to; to = input.to; total = input.total })
 used_up unread left used input t =
     advanced input (record { buffer = input.buffer; from = input.to; to = input.to; total = input.total }) (input.to - input.from) (omega (arith, t.from)) refl refl refl (omega (arith, t.from)) unread left used t
+
+-- the end was found
+pub all_read : (unread left : Option (List ℕ)) (used : List ℕ) (input : Input) → HasTaken unread left used input → nat_eq input.to (length input.buffer.items) ≡ false
+    → IsAtEnd left × IfSome unread (λ text. length text ≤ most_bytes)
+all_read unread left used input t other =
+    let end = t.end (unlike input.to (length input.buffer.items) other) in
+    (end, of_whole (λ text. length text ≤ most_bytes) unread left (used ++ held input) t.took end (omega (arith, t.count, t.few)))

@@ -1,9 +1,18 @@
 -- What writes of a text put out so far.
-use Rattle.std.proofs.Common.{◌≡◌, ℕ, ◌+◌, ◌-◌, ◌≤◌, List, ◌++◌, length, take, drop, Option, subst, ap, ◌∙◌, arith}
+use Rattle.std.specs.Prelude.{Result, Ok, Err, IfSome, IfOk, OnOk, IfErr}
+use Rattle.std.proofs.Common.{◌≡◌, ℕ, ◌+◌, ◌-◌, ◌≤◌, Bool, List, ◌++◌, length, take, drop, Option, None, Some, refl, sym, subst, ap, ◌∙◌, arith}
 use Rattle.std.proofs.Math.Seq.{take-add, take-length}
 use Rattle.std.proofs.lemmas.List.{length-drop}
 use Rattle.std.proofs.KnownBytes.{Appends-trans, Appends-kept}
 use Rattle.std.specs.Io.KnownBytes.{Appends, Keeps}
+use Rattle.tl_order.specs.Orders.{is_check}
+use Rattle.tl_order.specs.declared.Order.{Order}
+use Rattle.tl_answer.specs.Inner.Answered.{AnswersRead}
+use Rattle.tl_answer.specs.Inner.Parts.{spelled}
+use Rattle.tl_answer.specs.Texts.{AnswersText, IsAnswer}
+use Rattle.tl_answer.specs.declared.fault.TextFault.{TextFault}
+use Rattle.tl_answer.specs.declared.fault.TextFault.TheVariants as faults
+use Rattle.tl_answer.specs.declared.parts.AnswerParts.{AnswerParts}
 
 -- the first n items of a text are out
 pub record SoFar (old now : Option (List ℕ)) (text : List ℕ) (n : ℕ) : Type 0 where
@@ -34,3 +43,27 @@ five-out w0 w1 w2 w3 w4 w5 w6 a b c d e to_a to_b to_c to_d to_e kept =
     let with_d = Appends-trans w0 w3 w4 (a ++ b ++ c) d with_c to_d in
     let with_e = Appends-trans w0 w4 w5 (a ++ b ++ c ++ d) e with_d to_e in
     Appends-kept w0 w5 w6 (a ++ b ++ c ++ d ++ e) with_e kept
+
+keeps-itself : (held : Option (List ℕ)) → Keeps held held
+keeps-itself None = tt
+keeps-itself (Some text) = refl
+
+-- a text without an answer, where nothing was written
+pub unwritten : (unread left held : Option (List ℕ)) (order : Order) (fault : TextFault) → AnswersRead unread left order (Err fault) → AnswersText unread left held held order (Err fault)
+unwritten unread left held order (faults.Trace fault) read = (read.0, keeps-itself held, read.1, read.2)
+unwritten unread left held order faults.Stalled read = read
+unwritten unread left held order faults.Read read = keeps-itself held
+unwritten unread left held order faults.Write read = absurd read
+unwritten unread left held order faults.TooLong read = (keeps-itself held, read)
+unwritten unread left held order faults.OutOfMemory read = keeps-itself held
+
+-- what was written is the answer
+pub written : (unread left held holds : Option (List ℕ)) (order : Order) (made : AnswerParts) (result : Result Bool TextFault) → AnswersRead unread left order (Ok made)
+    → OnOk result (Appends held holds (spelled made)) → IfOk result (λ done. done ≡ made.all_done) → IfErr result (λ fault. fault ≡ faults.Write) → AnswersText unread left held holds order result
+written unread left held holds order made (Err fault) read out done kind = subst (λ f. AnswersText unread left held holds order (Err f)) (sym kind) read.0
+written unread left held holds order made (Ok all_done) read out done kind = (read.0, answer unread read.1)
+  where
+    answer : (u : Option (List ℕ)) → IfSome u (λ text. IsAnswer text (is_check order) (spelled made) made.all_done)
+        → IfSome u (λ text. (bytes : List ℕ) × IsAnswer text (is_check order) bytes all_done × Appends held holds bytes)
+    answer None is = tt
+    answer (Some text) is = (spelled made, subst (λ d. IsAnswer text (is_check order) (spelled made) d) (sym done) is, out)

@@ -10,9 +10,8 @@ use tl_msg::{Beat, Channel, SideFault, Verdict};
 pub(crate) fn settle_alone<K: Channel, const W: usize, const V: usize>(
     beats: &[Beat<K, W>],
 ) -> Verdict
-    requires near { IsWidth W }
-    requires far { IsWidth V }
-    requires short { length beats.now ≤ 2 ^ 40 }
+    // (one clause, since the checker states each by itself at each call)
+    requires { IsWidth W × IsWidth V × (length beats.now ≤ 2 ^ 40) }
     ensures { result ≡ verdict_alone K.rules V beats.now }
 {
     let mut progress = Progress::<K, W>::new();

@@ -43,7 +43,6 @@ fn client_parts<const C: usize, A: Allocator + Copy>(
     ),
     BuildFault,
 >
-    requires { IsWidth C }
     ensures rings { IfOk result (λ parts. IsNewRing ring parts.0 parts.1 ×
         IsNewRing ring parts.2 parts.3) }
     ensures book { IfOk result (λ parts. KnowsClient {w = C} parts.4 []) }
@@ -76,7 +75,6 @@ fn manager_parts<const M: usize, A: Allocator + Copy>(
     ),
     BuildFault,
 >
-    requires { IsWidth M }
     ensures rings { IfOk result (λ parts. IsNewRing ring parts.0 parts.1 ×
         IsNewRing ring parts.2 parts.3 × IsNewRing ring parts.4 parts.5) }
     ensures book { IfOk result (λ parts. KnowsManager {w = M} parts.6 []) }

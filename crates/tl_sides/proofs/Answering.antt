@@ -1,5 +1,5 @@
 -- What a side answers to a beat, by the beat's fault, by whether it opens a message, and by what the side's history says of its source.
-use Rattle.std.proofs.Common.{◌≡◌, ℕ, Bool, true, false, cond, Option, None, Some, List, refl, sym, ap, ◌∙◌}
+use Rattle.std.proofs.Common.{rules, ◌≡◌, ℕ, Bool, true, false, cond, Option, None, Some, List, refl, sym, ap, ◌∙◌}
 use Rattle.std.specs.Prelude.{◌==◌}
 use Rattle.std.specs.Option.{option_map_or, is_some}
 use Rattle.tl_msg.specs.Tables.{rules_a, rules_d}
@@ -11,7 +11,10 @@ use Rattle.tl_msg.specs.declared.fault.SideFault.{SideFault}
 use Rattle.tl_msg.specs.declared.fault.SideFault.TheVariants.{Beat, SourceBusy}
 use Rattle.tl_burst.specs.Begun.{left}
 use Rattle.tl_burst.specs.Handing.{fault_after}
-use Rattle.tl_settle.specs.Histories.{Event, asked, answered, marks, open_request, client_answer, manager_answer}
+use Rattle.tl_settle.specs.Requests.{is_release_ack}
+use Rattle.tl_settle.specs.Histories.{Event, Mark, asked, answered, marks, open_request, to_request, home_after, client_answer, manager_answer}
+use Rattle.tl_sides.specs.declared.tables.Request.{Request}
+use Rattle.tl_sides.specs.Tables.{remembered_of}
 use Rattle.tl_sides.specs.Inner.Noting.{stops_response}
 
 -- the beat's fault comes first, and then, where it opens a message, what the side says
@@ -71,3 +74,19 @@ module _ {w : ℕ} (es : List (Event w)) (b : BeatOf HeadD w) (accepted : List (
       gate_none (fault_after rules_d (answered es) b) (left rules_d w (answered es) == 0) (stops_response (marks es) b.head)
       (ap (λ q. fault_after rules_d q b) same ∙ none)
       (λ begins. free (opens ∙ ap (λ q. left rules_d w q == 0) (sym same) ∙ begins))
+
+-- a response whose source has an open request, of which this is remembered
+to_none : (o : Option HeadA) (h : HeadD) (q : Request) → remembered_of o ≡ Some q → q.size ≡ h.size → to_request o h ≡ None
+to_none None h q is same = absurd (cc is)
+to_none (Some a) h q is same = search rules
+
+to_home : (o : Option HeadA) (q : Request) → remembered_of o ≡ Some q → q.address ≡ option_map_or (λ a. a.address) o 0
+to_home None q is = absurd (cc is)
+to_home (Some a) q is = search rules
+
+module _ (ms : List Mark) (h : HeadD) (other : is_release_ack h ≡ false) (q : Request) (is : remembered_of (open_request h.source ms) ≡ Some q) where
+  pub answers_request : q.size ≡ h.size → stops_response ms h ≡ None
+  answers_request same = ap (λ b. cond b None (to_request (open_request h.source ms) h)) other ∙ to_none (open_request h.source ms) h q is same
+
+  pub home_of_request : q.address ≡ home_after ms h
+  home_of_request = to_home (open_request h.source ms) q is ∙ ap (λ b. cond b 0 (option_map_or (λ a. a.address) (open_request h.source ms) 0)) (sym other)

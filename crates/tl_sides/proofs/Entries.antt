@@ -21,7 +21,7 @@ pub mapped_replicate : {A B : Type 0} (f : A → B) (n s : ℕ) (x : A) → slic
 mapped_replicate f n s x = get_or-map f (replicate n x) s x ∙ ap f (replicate_any n s x)
 
 -- a table of which one entry was written
-set_any : {A : Type 0} (xs : List A) (i s : ℕ) (x d : A) → i < length xs →
+pub set_any : {A : Type 0} (xs : List A) (i s : ℕ) (x d : A) → i < length xs →
     slice_index_or (slice_set xs i x) s d ≡ cond (i == s) x (slice_index_or xs s d)
 set_any xs i s x d within = search rules
 

@@ -1,4 +1,4 @@
-use Rattle.std.proofs.Common.{◌+◌, sym, ap, subst, ◌∙◌, lit<}
+use Rattle.std.proofs.Common.{◌+◌, sym, ap, subst, ◌∙◌, lit<, arith}
 use Rattle.tl_ring.specs.Ends.{Takes}
 use Rattle.tl_pair.specs.Sides.{manager_pumps}
 use Rattle.tl_bridge.specs.Scripts.{near_beats}
@@ -19,6 +19,9 @@ pump-pumped-requires g c = manager_small g.row.C g.row.M c.requires.client c.req
 
 pub fetch-fetched-requires : goal.fetch-fetched-requires
 fetch-fetched-requires g c = manager_small g.row.C g.row.M c.requires.client c.requires.manager
+
+pub overflow_add-pumped : goal.overflow_add-pumped
+overflow_add-pumped g c = omega (arith, c.pump-pumped.ensures.most, c.fetch-fetched.ensures.most)
 
 pub new-requires : goal.new-requires
 new-requires g c = record { few = c.requires.few }

@@ -10,7 +10,7 @@ pub new-progress-requires : goal.new-progress-requires
 new-progress-requires g c = progress-fits (lone g.row.K-Head.mir) (layout g.row.K-Head) g.met.K.Channel.head_small
 
 pub check-requires : goal.check-requires
-check-requires g c = (tracker-fits (lone g.row.K-Head.mir) (layout g.row.K-Head) g.met.K.Channel.head_small, (search rules, c.requires.near))
+check-requires g c = (tracker-fits (lone g.row.K-Head.mir) (layout g.row.K-Head) g.met.K.Channel.head_small, (search rules, c.requires.0))
 
 pub verdict-requires : goal.verdict-requires
 verdict-requires g c = progress-fits (lone g.row.K-Head.mir) (layout g.row.K-Head) g.met.K.Channel.head_small
@@ -21,10 +21,10 @@ verdict-requires-2 g c = progress-fits (lone g.row.K-Head.mir) (layout g.row.K-H
 pub accept-requires : goal.accept-requires
 accept-requires g c =
     let at : c.loop-beat.progress.at ≡ c.loop-beat.beat-index = c.loop-beat.invariant.at in
-    let short : length c.args.beats.now ≤ 2 ^ 40 = c.requires.short in
+    let short : length c.args.beats.now ≤ 2 ^ 40 = c.requires.2 in
     let within : c.loop-beat.beat-index < length c.args.beats.now = c.loop-beat-test.true in (
       progress-fits (lone g.row.K-Head.mir) (layout g.row.K-Head) g.met.K.Channel.head_small,
-      (c.requires.near, c.requires.far, c.in-Ok.ensures.place, omega arith, c.loop-beat.invariant.few_far),
+      (c.requires.0, c.requires.1, c.in-Ok.ensures.place, omega arith, c.loop-beat.invariant.few_far),
     )
 
 pub loop-beat-init : goal.loop-beat-init

@@ -4,7 +4,6 @@ use Rattle.tl_bridge.specs.Scripts.{EndsIn}
 use Rattle.tl_answer.specs.Answer.{near, far_header, report}
 use Rattle.tl_answer.proofs.Answering.{checks-text, of-both, near-is}
 use Rattle.tl_answer.proofs.Lengths.{lines-few, short}
-use Rattle.tl_explain.specs.Explained.{IsExplanation}
 use Rattle.tl_explain.proofs.explain.with_widths.Goals as goal
 
 pub outcome_of-requires : goal.outcome_of-requires

@@ -30,13 +30,13 @@ refused p = record { pair = tt; client = tt; manager = tt; client_knows = tt; ma
 -- the books are parts of both sides; what a call has shown of them is left aside
 pub client_parts-requires : goal.client_parts-requires
 client_parts-requires g c =
-    let known = c.requires-raw in let small = beat_small g.row.C c.requires.client in
-    (small, (lit< tt, (small, (lit< tt, (let c = known in search (part_small (client_layout g.row.C g.row.M g.row.A g.A.Allocator) 5 9223372036854775808), c.requires.client)))))
+    let small = beat_small g.row.C c.requires.client in
+    (small, (lit< tt, (small, (lit< tt, part_small (client_layout g.row.C g.row.M g.row.A g.A.Allocator) 5 9223372036854775808 c.requires-raw.1.1.1.0))))
 
 pub manager_parts-requires : goal.manager_parts-requires
 manager_parts-requires g c =
-    let known = c.requires-raw in let small = beat_small g.row.M c.requires.manager in
-    (small, (lit< tt, (small, (lit< tt, (small, (lit< tt, (let c = known in search (part_small (manager_layout g.row.C g.row.M g.row.A g.A.Allocator) 5 9223372036854775808), c.requires.manager)))))))
+    let small = beat_small g.row.M c.requires.manager in
+    (small, (lit< tt, (small, (lit< tt, (small, (lit< tt, part_small (manager_layout g.row.C g.row.M g.row.A g.A.Allocator) 5 9223372036854775808 c.requires-raw.1.1.1.1.0))))))
 
 pub drop-d_take-requires : goal.drop-d_take-requires
 drop-d_take-requires g c κs = dropped g.row.C c.requires.client κs.0 κs.1.0 κs.1.1.0 g.row.A.lives
@@ -57,34 +57,34 @@ pub returns-in-Err-manager_parts : goal.returns-in-Err-manager_parts
 returns-in-Err-manager_parts g c = refused c.in-Err-manager_parts.ensures.ring_size
 
 pub over-requires : goal.over-requires
-over-requires g c = let known = c.requires-raw in (beat_small g.row.M c.requires.manager, (lit< tt, let c = known in search (inner_small (client_layout g.row.C g.row.M g.row.A g.A.Allocator) 0 0 9223372036854775808)))
+over-requires g c = (beat_small g.row.M c.requires.manager, (lit< tt, inner_small (client_layout g.row.C g.row.M g.row.A g.A.Allocator) 0 0 9223372036854775808 c.requires-raw.1.1.1.0))
 
 pub over-requires-2 : goal.over-requires-2
-over-requires-2 g c = let known = c.requires-raw in (beat_small g.row.C c.requires.client, (lit< tt, let c = known in search (part_small (client_layout g.row.C g.row.M g.row.A g.A.Allocator) 1 9223372036854775808)))
+over-requires-2 g c = (beat_small g.row.C c.requires.client, (lit< tt, part_small (client_layout g.row.C g.row.M g.row.A g.A.Allocator) 1 9223372036854775808 c.requires-raw.1.1.1.0))
 
 pub over-requires-3 : goal.over-requires-3
-over-requires-3 g c = let known = c.requires-raw in (beat_small g.row.M c.requires.manager, (lit< tt, let c = known in search (inner_small (client_layout g.row.C g.row.M g.row.A g.A.Allocator) 2 0 9223372036854775808)))
+over-requires-3 g c = (beat_small g.row.M c.requires.manager, (lit< tt, inner_small (client_layout g.row.C g.row.M g.row.A g.A.Allocator) 2 0 9223372036854775808 c.requires-raw.1.1.1.0))
 
 pub over-requires-4 : goal.over-requires-4
-over-requires-4 g c = let known = c.requires-raw in (beat_small g.row.C c.requires.client, (lit< tt, let c = known in search (part_small (client_layout g.row.C g.row.M g.row.A g.A.Allocator) 3 9223372036854775808)))
+over-requires-4 g c = (beat_small g.row.C c.requires.client, (lit< tt, part_small (client_layout g.row.C g.row.M g.row.A g.A.Allocator) 3 9223372036854775808 c.requires-raw.1.1.1.0))
 
 pub over-requires-5 : goal.over-requires-5
-over-requires-5 g c = let known = c.requires-raw in (beat_small g.row.M c.requires.manager, (lit< tt, let c = known in search (inner_small (client_layout g.row.C g.row.M g.row.A g.A.Allocator) 4 0 9223372036854775808)))
+over-requires-5 g c = (beat_small g.row.M c.requires.manager, (lit< tt, inner_small (client_layout g.row.C g.row.M g.row.A g.A.Allocator) 4 0 9223372036854775808 c.requires-raw.1.1.1.0))
 
 pub over-requires-6 : goal.over-requires-6
-over-requires-6 g c = let known = c.requires-raw in (beat_small g.row.M c.requires.manager, (lit< tt, let c = known in search (part_small (manager_layout g.row.C g.row.M g.row.A g.A.Allocator) 0 9223372036854775808)))
+over-requires-6 g c = (beat_small g.row.M c.requires.manager, (lit< tt, part_small (manager_layout g.row.C g.row.M g.row.A g.A.Allocator) 0 9223372036854775808 c.requires-raw.1.1.1.1.0))
 
 pub over-requires-7 : goal.over-requires-7
-over-requires-7 g c = let known = c.requires-raw in (beat_small g.row.C c.requires.client, (lit< tt, let c = known in search (inner_small (manager_layout g.row.C g.row.M g.row.A g.A.Allocator) 1 0 9223372036854775808)))
+over-requires-7 g c = (beat_small g.row.C c.requires.client, (lit< tt, inner_small (manager_layout g.row.C g.row.M g.row.A g.A.Allocator) 1 0 9223372036854775808 c.requires-raw.1.1.1.1.0))
 
 pub over-requires-8 : goal.over-requires-8
-over-requires-8 g c = let known = c.requires-raw in (beat_small g.row.M c.requires.manager, (lit< tt, let c = known in search (part_small (manager_layout g.row.C g.row.M g.row.A g.A.Allocator) 2 9223372036854775808)))
+over-requires-8 g c = (beat_small g.row.M c.requires.manager, (lit< tt, part_small (manager_layout g.row.C g.row.M g.row.A g.A.Allocator) 2 9223372036854775808 c.requires-raw.1.1.1.1.0))
 
 pub over-requires-9 : goal.over-requires-9
-over-requires-9 g c = let known = c.requires-raw in (beat_small g.row.C c.requires.client, (lit< tt, let c = known in search (inner_small (manager_layout g.row.C g.row.M g.row.A g.A.Allocator) 3 0 9223372036854775808)))
+over-requires-9 g c = (beat_small g.row.C c.requires.client, (lit< tt, inner_small (manager_layout g.row.C g.row.M g.row.A g.A.Allocator) 3 0 9223372036854775808 c.requires-raw.1.1.1.1.0))
 
 pub over-requires-10 : goal.over-requires-10
-over-requires-10 g c = let known = c.requires-raw in (beat_small g.row.M c.requires.manager, (lit< tt, let c = known in search (part_small (manager_layout g.row.C g.row.M g.row.A g.A.Allocator) 4 9223372036854775808)))
+over-requires-10 g c = (beat_small g.row.M c.requires.manager, (lit< tt, part_small (manager_layout g.row.C g.row.M g.row.A g.A.Allocator) 4 9223372036854775808 c.requires-raw.1.1.1.1.0))
 
 pub returns-clause-pair : goal.returns-clause-pair
 returns-clause-pair g c = record {

@@ -1,41 +1,37 @@
-use Rattle.std.proofs.Common.{ℕ, List, [], ◌<◌, ◌+◌, ◌*◌, refl, rules, lit<}
+use Rattle.std.proofs.Common.{ℕ, List, [], ◌<◌, refl, rules, lit<}
 use Rattle.std.proofs.lemmas.Bool.{false≢true}
 use contract.BorrowLft.{◌⊑◌}
-use prog.Memory.{up}
-use Rattle.tl_lanes.specs.Lanes.{IsWidth}
-use Rattle.tl_ring.proofs.FieldSizes.{beat_small, mask_bytes}
 use Rattle.tl_ring.proofs.Moves.{ring_size_only}
 use Rattle.tl_pair.proofs.sides.client_parts.Goals as goal
 
 -- a half of a ring that is dropped owes that its beats fit in memory
-dropped : (w : ℕ) → IsWidth w → (κ κ' κ'' lives : List ℕ) → κ' ⊑ lives →
-    ((0 < 9223372036854775808) × ((up mask_bytes (up 1 (mask_bytes + mask_bytes + w * 1) + 1) < 9223372036854775808) × Unit {0})) ×
-    ((κ ⊑ []) × ((κ' ⊑ lives) × (κ'' ⊑ [])))
-dropped w width κ κ' κ'' lives held = ((lit< tt, (beat_small w width, tt)), (search rules, (held, search rules)))
+dropped : {n : ℕ} → n < 9223372036854775808 → (κ κ' κ'' lives : List ℕ) → κ' ⊑ lives →
+    ((0 < 9223372036854775808) × ((n < 9223372036854775808) × Unit {0})) × ((κ ⊑ []) × ((κ' ⊑ lives) × (κ'' ⊑ [])))
+dropped small κ κ' κ'' lives held = ((lit< tt, (small, tt)), (search rules, (held, search rules)))
 
 pub new_ring-requires : goal.new_ring-requires
-new_ring-requires g c = (beat_small g.row.C c.requires, lit< tt)
+new_ring-requires g c = (c.requires-raw.1.1.0, lit< tt)
 
 pub new_ring-requires-2 : goal.new_ring-requires-2
-new_ring-requires-2 g c = (beat_small g.row.C c.requires, lit< tt)
+new_ring-requires-2 g c = (c.requires-raw.1.1.0, lit< tt)
 
 pub drop-b_take-requires : goal.drop-b_take-requires
-drop-b_take-requires g c κs = dropped g.row.C c.requires κs.0 κs.1.0 κs.1.1.0 g.row.A.lives
+drop-b_take-requires g c κs = dropped c.requires-raw.1.1.0 κs.0 κs.1.0 κs.1.1.0 g.row.A.lives
 
 pub drop-b-requires : goal.drop-b-requires
-drop-b-requires g c κs = dropped g.row.C c.requires κs.0 κs.1.0 κs.1.1.0 g.row.A.lives
+drop-b-requires g c κs = dropped c.requires-raw.1.1.0 κs.0 κs.1.0 κs.1.1.0 g.row.A.lives
 
 pub drop-d_take-requires : goal.drop-d_take-requires
-drop-d_take-requires g c κs = dropped g.row.C c.requires κs.0 κs.1.0 κs.1.1.0 g.row.A.lives
+drop-d_take-requires g c κs = dropped c.requires-raw.1.1.0 κs.0 κs.1.0 κs.1.1.0 g.row.A.lives
 
 pub drop-d-requires : goal.drop-d-requires
-drop-d-requires g c κs = dropped g.row.C c.requires κs.0 κs.1.0 κs.1.1.0 g.row.A.lives
+drop-d-requires g c κs = dropped c.requires-raw.1.1.0 κs.0 κs.1.0 κs.1.1.0 g.row.A.lives
 
 pub drop-b_take-requires-in_default : goal.drop-b_take-requires-in_default
-drop-b_take-requires-in_default g c κs = dropped g.row.C c.requires κs.0 κs.1.0 κs.1.1.0 g.row.A.lives
+drop-b_take-requires-in_default g c κs = dropped c.requires-raw.1.1.0 κs.0 κs.1.0 κs.1.1.0 g.row.A.lives
 
 pub drop-b-requires-in_default : goal.drop-b-requires-in_default
-drop-b-requires-in_default g c κs = dropped g.row.C c.requires κs.0 κs.1.0 κs.1.1.0 g.row.A.lives
+drop-b-requires-in_default g c κs = dropped c.requires-raw.1.1.0 κs.0 κs.1.0 κs.1.1.0 g.row.A.lives
 
 pub returns-in-Err : goal.returns-in-Err
 returns-in-Err g c = record { rings = tt; book = tt; size = λ made. absurd (false≢true made); ring_size = c.in-Err.ensures.ring_size }

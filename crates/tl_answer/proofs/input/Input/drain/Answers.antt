@@ -1,5 +1,5 @@
 use Rattle.std.proofs.Common.{◌∙◌, arith, refl, sym}
-use Rattle.tl_answer.proofs.ToRead.{smaller, used_up}
+use Rattle.tl_answer.proofs.ToRead.{all_read, smaller, used_up}
 use Rattle.tl_answer.proofs.input.Input.drain.Goals as goal
 
 pub loop-self-init : goal.loop-self-init
@@ -32,3 +32,8 @@ pub returns-in-Err-clause-long : goal.returns-in-Err-clause-long
 returns-in-Err-clause-long g c unread used h e =
     let t = c.loop-self.invariant.taken unread used h in
     c.in-Err.ensures.long unread _ (used_up unread (g.R.Read.remaining c.loop-self.reader) t.0 c.loop-self.self t.1) e
+
+pub returns-clause-ok : goal.returns-clause-ok
+returns-clause-ok g c unread used h =
+    let t = c.loop-self.invariant.taken unread used h in
+    all_read unread (g.R.Read.remaining c.loop-self.reader) t.0 c.loop-self.self t.1 (sym c.is_full.ensures ∙ c.loop-self-test.false)

@@ -1,6 +1,6 @@
-use Rattle.std.proofs.Common.{◌≡◌, false, [], rules, refl, subst}
+use Rattle.std.proofs.Common.{◌≡◌, false, [], rules, refl, ap, subst}
 use Rattle.tl_burst.specs.Handing.{rest_of}
-use Rattle.tl_ring.specs.Ends.{Sends}
+use Rattle.tl_ring.specs.Ends.{Sends, closing}
 use Rattle.tl_ring.proofs.EndSteps.{sends_shut}
 use Rattle.tl_ring.proofs.PipeSteps.{closed_between}
 use Rattle.tl_pair.proofs.Senders.{open_end, closed_again}
@@ -38,6 +38,9 @@ pub returns-clause-stands : goal.returns-clause-stands
 returns-clause-stands g c = λ x k.
     let h = rw (← c.self.view_is) at k in
     sends_shut g.K.Channel.rules g.met.K.Channel.partial_masked _ x ((returns-clause-between g c x k).0 refl) h
+
+pub returns-clause-closed : goal.returns-clause-closed
+returns-clause-closed g c = ap closing c.self.view_is
 
 pub returns-clause-again : goal.returns-clause-again
 returns-clause-again g c = λ closed. let e = rw (← c.self.view_is) at closed in (refl, rw (← c.self.view_is) (closed_again c.self.inside.end c.self.inside.closed e))
