@@ -174,6 +174,10 @@ no_empty_header = refl
 pub from_start : (text : List ℕ) (end : ℕ) (o : Option Header) → o ≡ header_of (take end text) → header_of (slice_range text 0 end) ≡ o
 from_start text end o e = let all : end - 0 ≡ end = omega arith in ap (λ (n : ℕ). header_of (take n text)) all ∙ sym e
 
--- the widths that a version other than 1 can name
+-- the widths that version 1 can name
+pub narrow_count : (version : ℕ) → version ≡ 1 → 7 ≡ widest_power version + 1
+narrow_count version one = rw one refl
+
+-- and those that another can
 pub wide_count : (version : ℕ) → (version ≡ 1 → ⊥) → WIDEST_POWER + 1 ≡ widest_power version + 1
 wide_count version other = grind (arith, nat_tests)

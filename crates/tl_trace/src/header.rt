@@ -9,7 +9,7 @@ use arrayvec::ArrayVec;
 use tl_lanes::WIDEST_POWER;
 
 /// What the first line of a trace names.
-#[derive(Clone, Copy, PartialEq, Eq, Debug)]
+#[derive(Clone, Copy, PartialEq, Eq)]
 pub struct Header {
     /// The version of the trace, 1 or 2: its ids have two digits in version 1 and four in version 2 (this project's
     /// choice).

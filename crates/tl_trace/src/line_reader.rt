@@ -1,10 +1,10 @@
 //! Reading a line of a known channel.
-ghost use Rattle.std.specs.Prelude.{◌≡◌, ◌≢◌, ◌≤◌, ◌+◌, ◌/◌, ◌^◌, true, false, length, slice_index, nat_lt, Some, ◌<◌, IfOk, IfErr};
+ghost use Rattle.std.specs.Prelude.{◌≡◌, ◌≢◌, ◌≤◌, ◌+◌, ◌/◌, ◌^◌, true, false, length, nat_lt, Some, ◌<◌, IfOk, IfErr};
 ghost use Rattle.tl_lanes.specs.declared.limits.TheConstants.{WIDEST};
 ghost use Rattle.tl_trace.specs.Fields.{length_of, mask_fields, data_fields, line_length, number_of_lanes};
 ghost use Rattle.tl_trace.specs.Lines.{is_lanes};
 ghost use Rattle.tl_trace.specs.Faults.{form_fault};
-ghost use Rattle.tl_trace.specs.Inner.Reading.{IsPart, IsRead, mask_values, data_values};
+ghost use Rattle.tl_trace.specs.Inner.Reading.{CanReadBeat, IsPart, IsRead, mask_values, data_values};
 ghost use Rattle.tl_trace.specs.declared.fault.TraceKind.TheVariants.{OutOfMemory};
 
 use crate::digits::{MaskNumber, Number, field, lanes_field, mask_field};
@@ -76,9 +76,7 @@ pub fn read_beat<K: ReadHead, const N: usize, const VERSION: u8>(
     text: &[u8],
     w: usize,
 ) -> Result<Beat<K, N>, TraceKind>
-    requires width { w ≤ N }
-    requires most { N ≤ WIDEST }
-    requires letter { slice_index text.now 0 ≡ (K.form VERSION).rules.letter }
+    requires { CanReadBeat (K.form VERSION) N w text.now }
     ensures ok { IfOk result (IsRead (K.form VERSION) w text.now) }
     ensures err { IfErr result (λ kind. form_fault (K.form VERSION) w text.now ≡ Some kind) }
     ensures kinds { IfErr result (λ kind. kind ≢ OutOfMemory) }

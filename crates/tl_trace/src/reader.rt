@@ -1,10 +1,9 @@
 //! From a text to its trace.
 ghost use Rattle.std.specs.Prelude.{ℕ, ◌≡◌, ◌≢◌, ◌≤◌, ◌<◌, ◌+◌, true, None, Some, ◌∷◌, drop, map, length, slice_index, IfOk, IfErr};
-ghost use Rattle.tl_trace.specs.Texts.{Tells, TellsLines, is_kept_line, is_version};
+ghost use Rattle.tl_trace.specs.Texts.{Tells, TellsLines, is_kept_line};
 ghost use Rattle.tl_trace.specs.Faults.{cut, faults, body_fault, later_fault, IsFirstFault, IsReadableTo};
-ghost use Rattle.tl_trace.specs.Inner.Reading.{IsReadLine};
+ghost use Rattle.tl_trace.specs.Inner.Reading.{CanRead, IsReadLine};
 ghost use Rattle.std.specs.List.{list_all};
-ghost use Rattle.tl_lanes.specs.declared.limits.TheConstants.{WIDEST};
 ghost use Rattle.tl_trace.specs.declared.fault.TraceKind.TheVariants.{OutOfMemory};
 
 use crate::fault::{TraceFault, TraceKind};
@@ -12,7 +11,6 @@ use crate::header::{Header, header_of};
 use crate::line::Line;
 use crate::line_reader::read_beat;
 use crate::trace::Trace;
-use crate::versions::at_version;
 use std::alloc::Global;
 use tl_lanes::WIDEST;
 use tl_msg::{ChA, ChB, ChC, ChD, ChE};
@@ -51,8 +49,7 @@ fn read_line_in<const VERSION: u8>(
     client: usize,
     manager: usize,
 ) -> Result<Line, TraceKind>
-    requires client { client ≤ WIDEST }
-    requires manager { manager ≤ WIDEST }
+    requires { CanRead VERSION client manager }
     ensures ok { IfOk result (IsReadLine VERSION client manager text.now) }
     ensures err { IfErr result (λ kind. body_fault VERSION client manager text.now ≡ Some kind) }
     ensures kinds { IfErr result (λ kind. kind ≢ OutOfMemory) }
@@ -70,14 +67,15 @@ fn read_line_in<const VERSION: u8>(
 /// The same where the version is known only when the line is read.
 #[inline(never)]
 pub fn read_line(text: &[u8], version: u8, client: usize, manager: usize) -> Result<Line, TraceKind>
-    requires version { is_version version ≡ true }
-    requires client { client ≤ WIDEST }
-    requires manager { manager ≤ WIDEST }
+    requires { CanRead version client manager }
     ensures ok { IfOk result (IsReadLine version client manager text.now) }
     ensures err { IfErr result (λ kind. body_fault version client manager text.now ≡ Some kind) }
     ensures kinds { IfErr result (λ kind. kind ≢ OutOfMemory) }
 {
-    at_version!(version, read_line_in::<_>(text, client, manager))
+    match version {
+        1 => read_line_in::<1>(text, client, manager),
+        _ => read_line_in::<2>(text, client, manager),
+    }
 }
 
 /// The beats of the lines from `start` on, where the first of them is line 2.
@@ -87,9 +85,7 @@ fn read_lines(
     start: usize,
     header: Header,
 ) -> Result<Vec<Line>, TraceFault>
-    requires version { is_version header.version ≡ true }
-    requires client { header.client ≤ WIDEST }
-    requires manager { header.manager ≤ WIDEST }
+    requires can { CanRead header.version header.client header.manager }
     requires start { (1 ≤ start) × (start ≤ length text.now) }
     requires header { faults text.now ≡ None ∷
         map (later_fault header.version header.client header.manager) (cut (drop start text.now)) }

@@ -38,13 +38,16 @@ fn push_beat<H: Copy, const W: usize>(
 {
     let mut lanes = [0u8; W];
     lanes.copy_from_slice(&beat.lanes[..W]);
-    list.push(BeatOf {
+    let narrow = BeatOf {
         head: beat.head,
         mask: beat.mask,
         lanes,
         corrupt: beat.corrupt,
-    })?;
-    Ok(())
+    };
+    match list.push(narrow) {
+        Ok(()) => Ok(()),
+        Err(_) => Err(OutOfMemory),
+    }
 }
 
 /// Appends the beat of a line to the list of its channel, on its sender's lanes.
@@ -91,7 +94,9 @@ pub fn script_of<const C: usize, const M: usize>(
 {
     let mut script = empty_script(alloc);
     for line in &trace.lines {
-        push_beat_of(&mut script, line)?;
+        if push_beat_of(&mut script, line).is_err() {
+            return Err(OutOfMemory);
+        }
     }
     Ok(script)
 }

@@ -1,11 +1,11 @@
 //! From a text to its script.
-ghost use Rattle.std.specs.Prelude.{ℕ, true, false, ◌≡◌, ◌≢◌, ◌≤◌, ◌<◌, ◌+◌, ◌^◌, ◌++◌, None, Some, List, [], drop, take, length, slice_index, IfSome, IfOk, IfErr, MatchOption};
+ghost use Rattle.std.specs.Prelude.{ℕ, true, false, ◌≡◌, ◌≢◌, ◌≤◌, ◌<◌, ◌+◌, ◌^◌, ◌++◌, None, Some, List, [], drop, take, length, IfSome, IfOk, IfErr, MatchOption};
 ghost use Rattle.std.specs.List.{list_any};
 ghost use Rattle.tl_lanes.specs.declared.limits.TheConstants.{WIDEST};
 ghost use Rattle.tl_trace.specs.Scripts.{TellsScript, HasRead, IsHeaderLine, IsUnfinished};
 ghost use Rattle.tl_trace.specs.Texts.{is_version};
 ghost use Rattle.tl_trace.specs.Faults.{is_newline, body, later_fault, header_of, HasHeader, IsFirstFault, IsReadableTo};
-ghost use Rattle.tl_trace.specs.Inner.Reading.{IsFaultyAt, IsLeft, IsLinePushed, IsNextPushed, IsReadableAt, IsSameScript};
+ghost use Rattle.tl_trace.specs.Inner.Reading.{CanPush, CanRead, IsFaultyAt, IsLeft, IsLinePushed, IsNextPushed, IsReadableAt, IsSameScript};
 ghost use Rattle.tl_trace.specs.declared.fault.TraceKind.TheVariants.{OutOfMemory};
 
 use crate::fault::{TraceFault, TraceKind};
@@ -15,7 +15,6 @@ use crate::line_reader::read_beat;
 use crate::places::{LONGEST_LINE, line_len};
 use crate::reader::{line_end, read_line};
 use crate::script::{Script, empty_script, push_beat_of};
-use crate::versions::at_version;
 use std::alloc::Global;
 use tl_msg::{Beat, ChA, ChB, ChC, ChD, ChE};
 
@@ -36,9 +35,7 @@ fn push_line<K: ReadHead, const W: usize, const VERSION: u8>(
     at: usize,
     no_room: &mut bool,
 ) -> Option<usize>
-    requires width { W ≤ WIDEST }
-    requires at { at < length text.now }
-    requires letter { slice_index text.now at ≡ (K.form VERSION).rules.letter }
+    requires { CanPush (K.form VERSION) W text.now at }
     ensures { MatchOption result (list.new.items ≡ list.old.items)
         (IsLinePushed (K.form VERSION) W text.now at list.old.items list.new.items) }
 {
@@ -65,9 +62,7 @@ fn push_next<const C: usize, const M: usize, const VERSION: u8>(
     at: usize,
     no_room: &mut bool,
 ) -> Option<usize>
-    requires client { C ≤ WIDEST }
-    requires manager { M ≤ WIDEST }
-    requires at { at < length text.now }
+    requires { CanRead VERSION C M × (at < length text.now) }
     ensures { MatchOption result (IsSameScript script.old script.new)
         (IsNextPushed VERSION text.now at script.old script.new) }
 {
@@ -93,10 +88,7 @@ fn push_slowly<const C: usize, const M: usize>(
     version: u8,
     no_room: bool,
 ) -> Result<Option<usize>, TraceKind>
-    requires version { is_version version ≡ true }
-    requires client { C ≤ WIDEST }
-    requires manager { M ≤ WIDEST }
-    requires at { at < length piece.now }
+    requires { CanRead version C M × (at < length piece.now) }
     ensures read { IfOk result (λ end. MatchOption end (IsLeft piece.now at script.old script.new)
         (IsNextPushed version piece.now at script.old script.new)) }
     ensures fault { IfErr result (λ kind.
@@ -120,10 +112,7 @@ fn push_slowly<const C: usize, const M: usize>(
 
 /// The fault of a line without its LF.
 fn unfinished_fault<const C: usize, const M: usize>(rest: &[u8], version: u8) -> TraceKind
-    requires version { is_version version ≡ true }
-    requires client { C ≤ WIDEST }
-    requires manager { M ≤ WIDEST }
-    requires free { list_any is_newline rest.now ≡ false }
+    requires { CanRead version C M × (list_any is_newline rest.now ≡ false) }
     ensures fault { later_fault version C M rest.now ≡ Some result }
     ensures kind { result ≢ OutOfMemory }
 {
@@ -155,10 +144,7 @@ fn read_beats<const C: usize, const M: usize, const VERSION: u8>(
     reader: &mut ScriptReader<C, M>,
     piece: &[u8],
 ) -> Result<usize, TraceFault>
-    requires version { is_version VERSION ≡ true }
-    requires client { C ≤ WIDEST }
-    requires manager { M ≤ WIDEST }
-    requires few { reader.old.line + length piece.now < 2 ^ 64 }
+    requires { CanRead VERSION C M × (reader.old.line + length piece.now < 2 ^ 64) }
     ensures version { reader.new.version ≡ reader.old.version }
     ensures used { IfOk result (λ used. used ≤ length piece.now) }
     ensures lines { IfOk result (λ used. reader.new.line ≤ reader.old.line + used) }
@@ -238,7 +224,10 @@ impl<const C: usize, const M: usize> ScriptReader<C, M> {
             HasRead self.old.version done self.old.script self.old.line → IfErr result (λ e.
             e.kind ≡ OutOfMemory → IsReadableTo (done ++ piece.now ++ more) e.line) }
     {
-        at_version!(self.version, read_beats::<C, M, _>(self, piece))
+        match self.version {
+            1 => read_beats::<C, M, 1>(self, piece),
+            _ => read_beats::<C, M, 2>(self, piece),
+        }
     }
 
     /// The fault of the text where it ends with what `read` left: `None` where that is nothing.

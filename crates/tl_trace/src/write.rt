@@ -140,7 +140,9 @@ fn write_batch<K: HeadText, const W: usize>(
     fill_lines::<K, W>(lines, ends, beats, version);
     for i in 0..beats.len() {
         let line = &lines[i][..ends[i]];
-        out.extend_from_slice(line)?;
+        if out.extend_from_slice(line).is_err() {
+            return Err(OutOfMemory);
+        }
     }
     Ok(())
 }

@@ -5,7 +5,8 @@ use Rattle.std.specs.Option.{option_to_list}
 use Rattle.std.specs.Str.Parse.{digits_value}
 use Rattle.std.specs.Char.{digit_value}
 use Rattle.tl_trace.specs.Fields.{Field, mask, data_lanes, corrupt, Form, head_value, values}
-use Rattle.tl_trace.specs.Texts.{SaysLine, is_kept_line}
+use Rattle.tl_lanes.specs.declared.limits.TheConstants.{WIDEST}
+use Rattle.tl_trace.specs.Texts.{SaysLine, is_kept_line, is_version}
 use Rattle.tl_trace.specs.Faults.{body_fault}
 use Rattle.tl_trace.specs.declared.head_reader.HeadFields.{HeadFields}
 use Rattle.tl_trace.specs.declared.head_reader.CommonFields.{CommonFields}
@@ -112,6 +113,24 @@ module _ {H : Type 0} (f : Form H) where
 pub record IsRead {H : Type 0} (f : Form H) (w : ℕ) (text : List ℕ) {n : ℕ} (b : BeatOf H n) : Type 0 where
   pub line : IsLine f w b text
   pub kept : is_kept f w b ≡ true
+
+-- what the reader of a line of a known channel has to know: its letter, and that of the n lanes of a beat it says w
+pub record CanReadBeat {H : Type 0} (f : Form H) (n w : ℕ) (text : List ℕ) : Type 0 where
+  pub width : w ≤ n
+  pub most : n ≤ WIDEST
+  pub letter : slice_index text 0 ≡ f.rules.letter
+
+-- the same of a line from a place on, with all lanes of a beat
+pub record CanPush {H : Type 0} (f : Form H) (w : ℕ) (text : List ℕ) (at : ℕ) : Type 0 where
+  pub width : w ≤ WIDEST
+  pub inside : at < length text
+  pub letter : slice_index text at ≡ f.rules.letter
+
+-- what a reader of later lines has to know: the version is one, and a line has room for both widths
+pub record CanRead (v c m : ℕ) : Type 0 where
+  pub version : is_version v ≡ true
+  pub client : c ≤ WIDEST
+  pub manager : m ≤ WIDEST
 
 -- the same of a later line of any channel
 pub record IsReadLine (version client manager : ℕ) (text : List ℕ) (line : Line) : Type 0 where

@@ -96,3 +96,33 @@ returns-clause-ok g c =
     (line_plain f b c.read_mask-mask.ensures.none (λ none.
     let same = c.read_data-corrupt.ensures.none none in
     (ap (list_all (λ lane. nat_eq lane 0)) same.0 ∙ zero_bits g.row.N, ap (λ (k : ℕ). nat_eq k 1) same.1)))
+
+pub returns-then-text-line_len-clause-ok : goal.returns-then-text-line_len-clause-ok
+returns-then-text-line_len-clause-ok g c = tt
+
+pub returns-then-text-line_len-clause-kinds : goal.returns-then-text-line_len-clause-kinds
+returns-then-text-line_len-clause-kinds g c = λ is. absurd (cc)
+
+pub returns-then-fields-mask-gt15-clause-ok : goal.returns-then-fields-mask-gt15-clause-ok
+returns-then-fields-mask-gt15-clause-ok g c = tt
+
+pub returns-then-fields-mask-gt15-clause-kinds : goal.returns-then-fields-mask-gt15-clause-kinds
+returns-then-fields-mask-gt15-clause-kinds g c = λ is. absurd (cc)
+
+pub returns-in_default-clause-ok : goal.returns-in_default-clause-ok
+returns-in_default-clause-ok g c = tt
+
+pub returns-in_default-clause-kinds : goal.returns-in_default-clause-kinds
+returns-in_default-clause-kinds g c = λ is. absurd (cc)
+
+pub returns-then-not-mask_fits-clause-ok : goal.returns-then-not-mask_fits-clause-ok
+returns-then-not-mask_fits-clause-ok g c = tt
+
+pub returns-then-not-mask_fits-clause-kinds : goal.returns-then-not-mask_fits-clause-kinds
+returns-then-not-mask_fits-clause-kinds g c = λ is. absurd (cc)
+
+pub returns-clause-err : goal.returns-clause-err
+returns-clause-err g c = tt
+
+pub returns-clause-kinds : goal.returns-clause-kinds
+returns-clause-kinds g c = tt

@@ -20,20 +20,12 @@ returns-then-end-text-clause-fault c _ =
     let line : LineAt c.args.text.now 0 c.line_end-end.result = record { from = e.from; to = e.to; free = e.free; stop = e.end } in
     no_header_end c.args.text.now c.line_end-end.result c.in-Some.header line (from_start c.args.text.now c.line_end-end.result _ c.in-Some.ensures) (omega (arith, c.line_end-end.ensures.to, c.if-end-text.true))
 
-pub read_lines-requires-clause-version : goal.read_lines-requires-clause-version
-read_lines-requires-clause-version c =
+pub read_lines-requires-clause-can : goal.read_lines-requires-clause-can
+read_lines-requires-clause-can c =
     let some : header_of (slice_range c.args.text.now 0 c.line_end-end.result) ≡ Some c.in-Some.header = from_start c.args.text.now c.line_end-end.result _ c.in-Some.ensures in
-    (known (slice_range c.args.text.now 0 c.line_end-end.result) c.in-Some.header some).0
-
-pub read_lines-requires-clause-client : goal.read_lines-requires-clause-client
-read_lines-requires-clause-client c =
-    let some : header_of (slice_range c.args.text.now 0 c.line_end-end.result) ≡ Some c.in-Some.header = from_start c.args.text.now c.line_end-end.result _ c.in-Some.ensures in
-    width_most c.in-Some.header.version c.in-Some.header.client (known (slice_range c.args.text.now 0 c.line_end-end.result) c.in-Some.header some).1
-
-pub read_lines-requires-clause-manager : goal.read_lines-requires-clause-manager
-read_lines-requires-clause-manager c =
-    let some : header_of (slice_range c.args.text.now 0 c.line_end-end.result) ≡ Some c.in-Some.header = from_start c.args.text.now c.line_end-end.result _ c.in-Some.ensures in
-    width_most c.in-Some.header.version c.in-Some.header.manager (known (slice_range c.args.text.now 0 c.line_end-end.result) c.in-Some.header some).2
+    let h = c.in-Some.header in
+    let all = known (slice_range c.args.text.now 0 c.line_end-end.result) h some in
+    record { version = all.0; client = width_most h.version h.client all.1; manager = width_most h.version h.manager all.2 }
 
 pub read_lines-requires-clause-header : goal.read_lines-requires-clause-header
 read_lines-requires-clause-header c =
@@ -63,3 +55,21 @@ returns-clause-told c =
       header = split_line c.args.text.now 0 c.line_end-end.result line lt ∙ ap (λ (h : List ℕ). h ++ newline ++ rest) (is_header b c.in-Some.header some);
       told = c.in_ok-lines.ensures.told;
     }
+
+pub returns-in_default-clause-told : goal.returns-in_default-clause-told
+returns-in_default-clause-told c = tt
+
+pub returns-in_default-clause-memory : goal.returns-in_default-clause-memory
+returns-in_default-clause-memory c = λ is. absurd (cc)
+
+pub returns-then-end-text-clause-told : goal.returns-then-end-text-clause-told
+returns-then-end-text-clause-told c = tt
+
+pub returns-then-end-text-clause-memory : goal.returns-then-end-text-clause-memory
+returns-then-end-text-clause-memory c = λ is. absurd (cc)
+
+pub returns-clause-fault : goal.returns-clause-fault
+returns-clause-fault c = tt
+
+pub returns-clause-memory : goal.returns-clause-memory
+returns-clause-memory c = tt

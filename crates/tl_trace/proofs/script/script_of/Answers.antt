@@ -1,7 +1,7 @@
-use Rattle.std.proofs.Common.{◌≡◌, ◌≤◌, ℕ, List, length, take, lit<}
+use Rattle.std.proofs.Common.{◌≡◌, ◌≤◌, ◌∙◌, ℕ, List, length, take, lit<, sym}
 use Rattle.std.proofs.lemmas.List.{take_all}
 use Rattle.tl_lanes.proofs.Widths.{width_bounds}
-use Rattle.tl_trace.proofs.ReadBeats.{script_more, on_was}
+use Rattle.tl_trace.proofs.ReadBeats.{script_more, on_ok}
 use Rattle.tl_trace.specs.Scripts.{IsScriptOf}
 use Rattle.tl_trace.specs.declared.line.Line.{Line}
 use Rattle.tl_trace.specs.declared.script.Script.{Script}
@@ -14,7 +14,7 @@ whole s lines items i same past is = let long : length lines ≤ i = rw same at 
 pub loop-line-preserved : goal.loop-line-preserved
 loop-line-preserved g c =
     script_more c.deref-line-items.result.now c.args.trace.now.lines.items c.loop-line.line-index _ c.loop-line.script c.push_beat_of.new.script c.loop-line-test.true c.deref-line-items.ensures.value c.loop-line.invariant
-    (on_was c.push_beat_of.result _ c.push_beat_of.ensures c.in_ok-push_beat_of.was)
+    (on_ok c.push_beat_of.result c.push_beat_of.ensures (sym c.is_err.ensures.value ∙ c.if-is_err.false))
 
 pub empty_script-script-requires : goal.empty_script-script-requires
 empty_script-script-requires g c = lit< tt

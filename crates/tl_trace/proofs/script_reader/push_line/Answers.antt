@@ -4,7 +4,7 @@ use Rattle.tl_trace.proofs.NextLine.{was_put, was_kept, inside, first_in, at_mos
 use Rattle.tl_trace.proofs.script_reader.push_line.Goals as goal
 
 pub overflow_sub-text : goal.overflow_sub-text
-overflow_sub-text g c = omega (arith, c.requires.at)
+overflow_sub-text g c = omega (arith, c.requires.inside)
 
 pub bounds-text-at : goal.bounds-text-at
 bounds-text-at g c = inside c.args.at c.line_len-long.result _ c.if-long-text.false
@@ -35,5 +35,5 @@ line_len-long-requires g c = c.requires.width
 
 pub read_beat-requires : goal.read_beat-requires
 read_beat-requires g c =
-    let first = first_in c.args.text.now c.args.at c.line_len-long.result c.line_len-long.ensures.few.0 c.requires.at in
-    (c.requires-raw.1.1.1.1.0, (at_most g.row.W, (c.requires.width, first ∙ c.requires.letter)))
+    let first = first_in c.args.text.now c.args.at c.line_len-long.result c.line_len-long.ensures.few.0 c.requires.inside in
+    (c.requires-raw.1.1.1.1.0, record { width = at_most g.row.W; most = c.requires.width; letter = first ∙ c.requires.letter })

@@ -1,4 +1,4 @@
-use Rattle.std.proofs.Common.{◌≡◌, ◌≤◌, ◌<◌, ◌-◌, false, length, refl, sym, arith, ◌∙◌}
+use Rattle.std.proofs.Common.{◌≡◌, ◌≤◌, ◌<◌, ◌-◌, false, length, lit<, refl, sym, arith, ◌∙◌}
 use Rattle.std.specs.Result.{is_err}
 use Rattle.tl_trace.specs.Inner.Reading.{LineAt}
 use Rattle.tl_trace.specs.declared.places.TheConstants.{LONGEST_LINE}
@@ -40,7 +40,7 @@ returns-then-no_room-clause-memory g c _ =
       end = c.line_end-end.result;
       line = line;
       beat = c.in-Ok.line;
-      inside = ends_inside c.args.version g.row.C g.row.M c.args.piece.now c.args.at c.line_end-end.result c.in-Ok.line c.requires.client c.requires.manager line long c.in-Ok.ensures.ok;
+      inside = ends_inside c.args.version g.row.C g.row.M c.args.piece.now c.args.at c.line_end-end.result c.in-Ok.line c.requires.0.client c.requires.0.manager line long c.in-Ok.ensures.ok;
       read = c.in-Ok.ensures.ok;
     }
 
@@ -53,7 +53,7 @@ returns-clause-read g c =
       | else-end-piece-via-then-end-piece+else-end-at-lt-LONGEST_LINE w ↦ omega (arith, w.if-end-at-lt-LONGEST_LINE.false)
       | else-end-piece-via-else-end-piece w ↦ absurd (w.if-end-piece.false is)
     ] in
-    let inside : c.line_end-end.result < length c.args.piece.now = ends_inside c.args.version g.row.C g.row.M c.args.piece.now c.args.at c.line_end-end.result c.in-Ok.line c.requires.client c.requires.manager line long c.in-Ok.ensures.ok in
+    let inside : c.line_end-end.result < length c.args.piece.now = ends_inside c.args.version g.row.C g.row.M c.args.piece.now c.args.at c.line_end-end.result c.in-Ok.line c.requires.0.client c.requires.0.manager line long c.in-Ok.ensures.ok in
     let went : is_err c.push_beat_of.result ≡ false = sym c.is_err.ensures.value ∙ c.if-is_err.false in
     record {
       line = c.in-Ok.line;
@@ -63,3 +63,33 @@ returns-clause-read g c =
       read = c.in-Ok.ensures.ok;
       put = on_ok c.push_beat_of.result c.push_beat_of.ensures went;
     }
+
+pub line_end-end-requires : goal.line_end-end-requires
+line_end-end-requires g c = omega (arith, c.requires.1)
+
+pub read_line-requires : goal.read_line-requires
+read_line-requires g c = c.requires.0
+
+pub returns-then-end-at-lt-LONGEST_LINE-clause-fault : goal.returns-then-end-at-lt-LONGEST_LINE-clause-fault
+returns-then-end-at-lt-LONGEST_LINE-clause-fault g c = tt
+
+pub returns-then-end-at-lt-LONGEST_LINE-clause-memory : goal.returns-then-end-at-lt-LONGEST_LINE-clause-memory
+returns-then-end-at-lt-LONGEST_LINE-clause-memory g c = tt
+
+pub returns-in-Err-clause-read : goal.returns-in-Err-clause-read
+returns-in-Err-clause-read g c = tt
+
+pub push_beat_of-requires : goal.push_beat_of-requires
+push_beat_of-requires g c = (lit< tt, (c.requires.0.client, c.requires.0.manager))
+
+pub returns-then-no_room-clause-read : goal.returns-then-no_room-clause-read
+returns-then-no_room-clause-read g c = tt
+
+pub returns-then-no_room-clause-fault : goal.returns-then-no_room-clause-fault
+returns-then-no_room-clause-fault g c = λ other. absurd (other refl)
+
+pub returns-clause-fault : goal.returns-clause-fault
+returns-clause-fault g c = tt
+
+pub returns-clause-memory : goal.returns-clause-memory
+returns-clause-memory g c = tt

@@ -1,4 +1,4 @@
-use Rattle.std.proofs.Common.{refl}
+use Rattle.std.proofs.Common.{arith, lit<, refl}
 use Rattle.tl_trace.proofs.Pieces.{starts, walks_quick, waits, left_none, refused_at, unstored_at}
 use Rattle.tl_trace.proofs.script_reader.read_beats.Goals as goal
 
@@ -48,7 +48,7 @@ returns-in-Err-clause-told g c done r = tt
 pub returns-in-Err-clause-fault : goal.returns-in-Err-clause-fault
 returns-in-Err-clause-fault g c done more r other =
     let far = waits g.row.VERSION c.args.piece.now c.args.reader.now.script c.args.reader.now.line c.loop-at.reader.script c.push_next.new.script c.loop-at.at c.loop-at.reader.line c.loop-at.invariant.1 c.in_default.ensures in
-    refused_at g.row.VERSION c.args.piece.now c.args.reader.now.script c.args.reader.now.line c.push_next.new.script c.loop-at.at c.loop-at.reader.line c.in-Err.kind c.requires.client c.requires.manager far c.loop-at-test.true (c.in-Err.ensures.fault other) done more r
+    refused_at g.row.VERSION c.args.piece.now c.args.reader.now.script c.args.reader.now.line c.push_next.new.script c.loop-at.at c.loop-at.reader.line c.in-Err.kind c.requires.0.client c.requires.0.manager far c.loop-at-test.true (c.in-Err.ensures.fault other) done more r
 
 pub returns-in-Err-clause-memory : goal.returns-in-Err-clause-memory
 returns-in-Err-clause-memory g c done more r is =
@@ -75,3 +75,24 @@ returns-clause-fault g c done more r = tt
 
 pub returns-clause-memory : goal.returns-clause-memory
 returns-clause-memory g c done more r = tt
+
+pub returns-in-Err-clause-used : goal.returns-in-Err-clause-used
+returns-in-Err-clause-used g c = tt
+
+pub returns-in-Err-clause-lines : goal.returns-in-Err-clause-lines
+returns-in-Err-clause-lines g c = tt
+
+pub returns-in-Err-clause-rest : goal.returns-in-Err-clause-rest
+returns-in-Err-clause-rest g c = tt
+
+pub loop-at-smaller-in-Some : goal.loop-at-smaller-in-Some
+loop-at-smaller-in-Some g c = omega (arith, c.in-Some.ensures.from, c.in-Some.ensures.to)
+
+pub loop-at-smaller : goal.loop-at-smaller
+loop-at-smaller g c = let put = rw c.in-Ok-Some.field-0-is at c.in-Ok-Some.ensures.read in omega (arith, put.from, put.to)
+
+pub push_next-requires : goal.push_next-requires
+push_next-requires g c = (lit< tt, (c.requires.0, c.loop-at-test.true))
+
+pub push_slowly-requires : goal.push_slowly-requires
+push_slowly-requires g c = (lit< tt, (c.requires.0, c.loop-at-test.true))

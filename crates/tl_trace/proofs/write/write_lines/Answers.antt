@@ -41,3 +41,9 @@ loop-at-preserved g c =
 pub returns-clause-ok : goal.returns-clause-ok
 returns-clause-ok g c =
     appended_all (g.K.HeadText.form c.args.version) g.row.W c.args.beats.now c.args.out.now.items c.loop-at.out.items c.len-start.result c.loop-at.at c.loop-at-test.false c.loop-at.invariant
+
+pub returns-then-is_err-clause-ok : goal.returns-then-is_err-clause-ok
+returns-then-is_err-clause-ok g c = tt
+
+pub returns-clause-err : goal.returns-clause-err
+returns-clause-err g c = tt
