@@ -31,6 +31,7 @@ use Rattle.tl_sides.specs.Books.{Client, Manager, KnowsClient, KnowsManager}
 use Rattle.tl_sides.proofs.BridgeSteps.{home_given, homes_given, asked_answers, asked_taken, answered_asks, answered_taken, homes_asks}
 use Rattle.tl_pair.specs.Ends.{Pumps, Fetches, AreStanding, pump_count, fetch_count, after_pump}
 use Rattle.tl_ring.proofs.EndSteps.{meets_of, met_alike}
+use Rattle.tl_pair.specs.Inner.Meeting.{EndsMeet}
 use Rattle.tl_pair.specs.Inner.Offering.{IsAsking, IsAnswering}
 use Rattle.tl_pair.proofs.Senders.{open_end, fetch_counted, fetches_of}
 use Rattle.tl_pair.specs.Sides.{ClientState, ManagerState, ClientPast, ManagerPast, ClientStandsFor, ManagerStandsFor, AreSides, SidesMeet}
@@ -502,15 +503,6 @@ MeetsEnds {K} {A} {H} r w {v} s s' t t' n = record {
 }
 
 -- both ends meet, one of which is the end of a sender that is closed or not
-abbrev pub EndsMeet : {K A H : Type 0} {v : ℕ} (s s' : Sending K A H v) (t t' : Taking K A H v) (n : Standing) → Type 0
-EndsMeet s s' t t' n = record {
-  met : Met s t s' t';
-  staged : n.staged ≡ length s'.stage;
-  in_ring : n.in_ring ≡ length (known_items t');
-  inbox : n.inbox ≡ length t'.inbox;
-  most : (n.staged ≤ ROOM) × (n.inbox ≤ ROOM);
-}
-
 pub ends_met : {K A H : Type 0} (r : Rules H) (w : ℕ) {v : ℕ} (closed : Bool) (s s' : Sending K A H v) (t t' : Taking K A H v) (n : Standing) →
     EndsMeet s s' t t' n → MeetsEnds r w (record s { closed = closed }) (record s' { closed = closed }) t t' n
 ends_met r w closed s s' t t' n e =

@@ -1,21 +1,19 @@
 //! A sending end that keeps its place in a side of the bridge when it is closed.
-ghost use Rattle.std.specs.Prelude.{◌≡◌, ◌≤◌, ◌<◌, ◌↔◌, ◌++◌, ◌∷◌, [], true, false, None, Some, List, length, IsOk, IsTrue, IfErr, OnOk, OnErr};
+ghost use Rattle.std.specs.Prelude.{◌≡◌, ◌≤◌, ◌<◌, ◌↔◌, ◌++◌, ◌∷◌, [], true, false, None, Some, List, IsOk, IsTrue, IfErr, OnOk, OnErr};
 ghost use Rattle.tl_lanes.specs.Lanes.{IsWidth};
 ghost use Rattle.tl_msg.specs.Tables.{rules_a, rules_b, rules_c, rules_d, rules_e};
 ghost use Rattle.tl_msg.specs.declared.head.HeadA.{HeadA};
-ghost use Rattle.tl_msg.specs.declared.head.HeadB.{HeadB};
-ghost use Rattle.tl_msg.specs.declared.head.HeadC.{HeadC};
 ghost use Rattle.tl_msg.specs.declared.head.HeadD.{HeadD};
-ghost use Rattle.tl_msg.specs.declared.head.HeadE.{HeadE};
 ghost use Rattle.tl_burst.specs.Handing.{rest_of};
 ghost use Rattle.tl_ring.specs.Crossing.{World, offered, shut};
 ghost use Rattle.tl_ring.specs.declared.queue.TheConstants.{ROOM};
-ghost use Rattle.tl_ring.specs.Ends.{Sends, Met, ArePair, as_pipe, closing, known_items};
+ghost use Rattle.tl_ring.specs.Ends.{Sends, ArePair, as_pipe, closing};
 ghost use Rattle.tl_ring.specs.Pipe.{IsReady};
 ghost use Rattle.tl_settle.specs.Histories.{Event, Ask, Answer, client_answer, manager_answer, manager_home};
 ghost use Rattle.tl_sides.specs.Crossings.{stops_alone};
 ghost use Rattle.tl_pair.specs.Ends.{Pumps, pump_count, after_pump};
-ghost use Rattle.tl_pair.specs.Inner.Offering.{IsAsking, IsAnswering};
+ghost use Rattle.tl_pair.specs.Inner.Meeting.{EndsMeet};
+ghost use Rattle.tl_pair.specs.Inner.Offering.{IsAsking, IsAnswering, OffersAlone};
 
 use std::alloc::{Allocator, Global};
 use std::marker::Model;
@@ -108,15 +106,7 @@ pub(crate) fn offer_probe<const C: usize, const M: usize, A: Allocator>(
     beat: &Beat<ChB, M>,
 ) -> Result<(), SideFault>
     requires { IsWidth M × IsWidth C × (end.old.stage ≡ []) }
-    ensures admitted { (x : World HeadB M C) → Sends rules_b end.old x →
-        IsOk result ↔ (stops_alone rules_b x.accepted beat.now ≡ None) }
-    ensures accepted { (x : World HeadB M C) → Sends rules_b end.old x →
-        OnOk result (Sends rules_b end.new (offered rules_b beat.now 0 x)) }
-    ensures fault { (x : World HeadB M C) → Sends rules_b end.old x →
-        IfErr result (λ fault. stops_alone rules_b x.accepted beat.now ≡ Some fault) }
-    ensures ring { end.new.producer ≡ end.old.producer }
-    ensures open { end.old.closed ≡ false → end.new.closed ≡ false }
-    ensures refused { OnErr result (end.new ≡ end.old) }
+    ensures { OffersAlone rules_b beat.now end.old end.new result }
 {
     offer_to(end, beat)
 }
@@ -126,15 +116,7 @@ pub(crate) fn offer_release<const C: usize, const M: usize, A: Allocator>(
     beat: &Beat<ChC, C>,
 ) -> Result<(), SideFault>
     requires { IsWidth C × IsWidth M × (end.old.stage ≡ []) }
-    ensures admitted { (x : World HeadC C M) → Sends rules_c end.old x →
-        IsOk result ↔ (stops_alone rules_c x.accepted beat.now ≡ None) }
-    ensures accepted { (x : World HeadC C M) → Sends rules_c end.old x →
-        OnOk result (Sends rules_c end.new (offered rules_c beat.now 0 x)) }
-    ensures fault { (x : World HeadC C M) → Sends rules_c end.old x →
-        IfErr result (λ fault. stops_alone rules_c x.accepted beat.now ≡ Some fault) }
-    ensures ring { end.new.producer ≡ end.old.producer }
-    ensures open { end.old.closed ≡ false → end.new.closed ≡ false }
-    ensures refused { OnErr result (end.new ≡ end.old) }
+    ensures { OffersAlone rules_c beat.now end.old end.new result }
 {
     offer_to(end, beat)
 }
@@ -144,15 +126,7 @@ pub(crate) fn offer_finish<const C: usize, const M: usize, A: Allocator>(
     beat: &Beat<ChE, C>,
 ) -> Result<(), SideFault>
     requires { IsWidth C × IsWidth M × (end.old.stage ≡ []) }
-    ensures admitted { (x : World HeadE C M) → Sends rules_e end.old x →
-        IsOk result ↔ (stops_alone rules_e x.accepted beat.now ≡ None) }
-    ensures accepted { (x : World HeadE C M) → Sends rules_e end.old x →
-        OnOk result (Sends rules_e end.new (offered rules_e beat.now 0 x)) }
-    ensures fault { (x : World HeadE C M) → Sends rules_e end.old x →
-        IfErr result (λ fault. stops_alone rules_e x.accepted beat.now ≡ Some fault) }
-    ensures ring { end.new.producer ≡ end.old.producer }
-    ensures open { end.old.closed ≡ false → end.new.closed ≡ false }
-    ensures refused { OnErr result (end.new ≡ end.old) }
+    ensures { OffersAlone rules_e beat.now end.old end.new result }
 {
     offer_to(end, beat)
 }
@@ -217,11 +191,7 @@ pub(crate) fn meet_requests<const C: usize, const M: usize, A: Allocator>(
     take: &mut TakeEnd<ChA, C, M, A>,
 ) -> Standing
     requires { ArePair send.old take.old }
-    ensures met { Met send.old take.old send.new take.new }
-    ensures staged { result.staged ≡ length send.new.stage }
-    ensures in_ring { result.in_ring ≡ length (known_items take.new) }
-    ensures inbox { result.inbox ≡ length take.new.inbox }
-    ensures most { (result.staged ≤ ROOM) × (result.inbox ≤ ROOM) }
+    ensures { EndsMeet send.old send.new take.old take.new result }
 {
     meet(send, take)
 }
@@ -231,11 +201,7 @@ pub(crate) fn meet_probes<const C: usize, const M: usize, A: Allocator>(
     take: &mut TakeEnd<ChB, M, C, A>,
 ) -> Standing
     requires { ArePair send.old take.old }
-    ensures met { Met send.old take.old send.new take.new }
-    ensures staged { result.staged ≡ length send.new.stage }
-    ensures in_ring { result.in_ring ≡ length (known_items take.new) }
-    ensures inbox { result.inbox ≡ length take.new.inbox }
-    ensures most { (result.staged ≤ ROOM) × (result.inbox ≤ ROOM) }
+    ensures { EndsMeet send.old send.new take.old take.new result }
 {
     meet(send, take)
 }
@@ -245,11 +211,7 @@ pub(crate) fn meet_releases<const C: usize, const M: usize, A: Allocator>(
     take: &mut TakeEnd<ChC, C, M, A>,
 ) -> Standing
     requires { ArePair send.old take.old }
-    ensures met { Met send.old take.old send.new take.new }
-    ensures staged { result.staged ≡ length send.new.stage }
-    ensures in_ring { result.in_ring ≡ length (known_items take.new) }
-    ensures inbox { result.inbox ≡ length take.new.inbox }
-    ensures most { (result.staged ≤ ROOM) × (result.inbox ≤ ROOM) }
+    ensures { EndsMeet send.old send.new take.old take.new result }
 {
     meet(send, take)
 }
@@ -259,11 +221,7 @@ pub(crate) fn meet_responses<const C: usize, const M: usize, A: Allocator>(
     take: &mut TakeEnd<ChD, M, C, A>,
 ) -> Standing
     requires { ArePair send.old take.old }
-    ensures met { Met send.old take.old send.new take.new }
-    ensures staged { result.staged ≡ length send.new.stage }
-    ensures in_ring { result.in_ring ≡ length (known_items take.new) }
-    ensures inbox { result.inbox ≡ length take.new.inbox }
-    ensures most { (result.staged ≤ ROOM) × (result.inbox ≤ ROOM) }
+    ensures { EndsMeet send.old send.new take.old take.new result }
 {
     meet(send, take)
 }
@@ -273,11 +231,7 @@ pub(crate) fn meet_finishes<const C: usize, const M: usize, A: Allocator>(
     take: &mut TakeEnd<ChE, C, M, A>,
 ) -> Standing
     requires { ArePair send.old take.old }
-    ensures met { Met send.old take.old send.new take.new }
-    ensures staged { result.staged ≡ length send.new.stage }
-    ensures in_ring { result.in_ring ≡ length (known_items take.new) }
-    ensures inbox { result.inbox ≡ length take.new.inbox }
-    ensures most { (result.staged ≤ ROOM) × (result.inbox ≤ ROOM) }
+    ensures { EndsMeet send.old send.new take.old take.new result }
 {
     meet(send, take)
 }

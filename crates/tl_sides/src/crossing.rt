@@ -2,17 +2,18 @@
 //! its book decides and notes.
 ghost use Rattle.std.specs.Prelude.{◌≡◌, ◌↔◌, ◌++◌, ◌∷◌, [], List, map, take, slice_get, None, Some, IsOk, IfErr, OnOk, OnErr};
 ghost use Rattle.tl_lanes.specs.Lanes.{IsWidth};
-ghost use Rattle.tl_msg.specs.Tables.{rules_a, rules_d};
+ghost use Rattle.tl_msg.specs.Tables.{rules_a, rules_b, rules_c, rules_d, rules_e};
 ghost use Rattle.tl_msg.specs.declared.head.HeadA.{HeadA};
 ghost use Rattle.tl_msg.specs.declared.head.HeadD.{HeadD};
 ghost use Rattle.tl_ring.specs.Crossing.{World, offered, took};
 ghost use Rattle.tl_ring.specs.Pipe.{IsReady, StandsFor};
 ghost use Rattle.tl_settle.specs.Histories.{Event, Ask, Answer, client_answer, manager_answer, manager_home};
 ghost use Rattle.tl_sides.specs.Crossings.{stops_alone, ClientAsks, ClientIsAnswered, ManagerAnswers, ManagerIsAsked};
+ghost use Rattle.tl_sides.specs.Inner.Offering.{OffersAlone};
 
 use crate::books::{ClientBook, ManagerBook};
 use std::alloc::Allocator;
-use tl_msg::{Beat, ChA, ChD, Channel, SideFault};
+use tl_msg::{Beat, ChA, ChB, ChC, ChD, ChE, Channel, SideFault};
 use tl_ring::SyncPipe;
 
 /// A side offers a beat on B, C or E, which nothing couples to another channel, where the pipe is
@@ -38,6 +39,38 @@ pub fn offer_alone<K: Channel, const W: usize, const V: usize, A: Allocator>(
     let place = pipe.check(beat)?;
     pipe.offer_at(beat, place, 0);
     Ok(())
+}
+
+// The same of B, C and E, each by itself: a call that names its channel costs less to check than
+// one of a function that is generic in it.
+pub(crate) fn offer_probe<const C: usize, const M: usize, A: Allocator>(
+    pipe: &mut SyncPipe<ChB, M, C, A>,
+    beat: &Beat<ChB, M>,
+) -> Result<(), SideFault>
+    requires { IsWidth M × IsWidth C × IsReady pipe.old }
+    ensures { OffersAlone rules_b beat.now pipe.old pipe.new result }
+{
+    offer_alone(pipe, beat)
+}
+
+pub(crate) fn offer_release<const C: usize, const M: usize, A: Allocator>(
+    pipe: &mut SyncPipe<ChC, C, M, A>,
+    beat: &Beat<ChC, C>,
+) -> Result<(), SideFault>
+    requires { IsWidth C × IsWidth M × IsReady pipe.old }
+    ensures { OffersAlone rules_c beat.now pipe.old pipe.new result }
+{
+    offer_alone(pipe, beat)
+}
+
+pub(crate) fn offer_finish<const C: usize, const M: usize, A: Allocator>(
+    pipe: &mut SyncPipe<ChE, C, M, A>,
+    beat: &Beat<ChE, C>,
+) -> Result<(), SideFault>
+    requires { IsWidth C × IsWidth M × IsReady pipe.old }
+    ensures { OffersAlone rules_e beat.now pipe.old pipe.new result }
+{
+    offer_alone(pipe, beat)
 }
 
 /// The client's side offers a beat of A where the pipe is ready. It is refused with the beat's own

@@ -15,7 +15,10 @@ ghost use Rattle.tl_sides.specs.Bridges.{after_take_a, after_take_b, after_take_
 ghost use Rattle.tl_sides.specs.Bridges.{after_close_a, after_close_b, after_close_c, after_close_d, after_close_e};
 
 use crate::books::{ClientBook, ManagerBook};
-use crate::crossing::{offer_alone, offer_request, offer_response, take_request, take_response};
+use crate::crossing::{
+    offer_finish, offer_probe, offer_release, offer_request, offer_response, take_request,
+    take_response,
+};
 use crate::per_channel::PerChannel;
 use std::alloc::{Allocator, Global};
 use std::marker::Model;
@@ -253,7 +256,7 @@ impl<const C: usize, const M: usize, A: Allocator> SyncBridge<C, M, A> {
             IfErr result (λ fault. stops_alone rules_b x.b.accepted beat.entry ≡ Some fault) }
         ensures refused { OnErr result (self.new ≡ self.old) }
     {
-        offer_alone(&mut self.b, &beat)
+        offer_probe(&mut self.b, &beat)
     }
 
     /// The client's side offers a beat of C where C is ready. It is refused exactly with the beat's
@@ -270,7 +273,7 @@ impl<const C: usize, const M: usize, A: Allocator> SyncBridge<C, M, A> {
             IfErr result (λ fault. stops_alone rules_c x.c.accepted beat.entry ≡ Some fault) }
         ensures refused { OnErr result (self.new ≡ self.old) }
     {
-        offer_alone(&mut self.c, &beat)
+        offer_release(&mut self.c, &beat)
     }
 
     /// The manager's side offers a beat of D where D is ready. It is refused with the beat's own
@@ -307,7 +310,7 @@ impl<const C: usize, const M: usize, A: Allocator> SyncBridge<C, M, A> {
             IfErr result (λ fault. stops_alone rules_e x.e.accepted beat.entry ≡ Some fault) }
         ensures refused { OnErr result (self.new ≡ self.old) }
     {
-        offer_alone(&mut self.e, &beat)
+        offer_finish(&mut self.e, &beat)
     }
 
     /// The manager's side takes the first beat of A's inbox. None exactly where it is empty. A

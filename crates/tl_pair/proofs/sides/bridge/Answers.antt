@@ -86,61 +86,51 @@ over-requires-9 g c = (beat_small g.row.C c.requires.client, (lit< tt, inner_sma
 pub over-requires-10 : goal.over-requires-10
 over-requires-10 g c = (beat_small g.row.M c.requires.manager, (lit< tt, part_small (manager_layout g.row.C g.row.M g.row.A g.A.Allocator) 4 9223372036854775808 c.requires-raw.1.1.1.1.0))
 
-pub returns-clause-pair : goal.returns-clause-pair
-returns-clause-pair g c = record {
-  a = pair_over c.args.ring _ _ c.in-Ok-manager_parts.ensures.rings.0 c.over.result c.over-6.result c.over.ensures.ring c.over-6.ensures.ring;
-  b = pair_over c.args.ring _ _ c.in-Ok.ensures.rings.0 c.over-7.result c.over-2.result c.over-7.ensures.ring c.over-2.ensures.ring;
-  c = pair_over c.args.ring _ _ c.in-Ok-manager_parts.ensures.rings.1 c.over-3.result c.over-8.result c.over-3.ensures.ring c.over-8.ensures.ring;
-  d = pair_over c.args.ring _ _ c.in-Ok.ensures.rings.1 c.over-9.result c.over-4.result c.over-9.ensures.ring c.over-4.ensures.ring;
-  e = pair_over c.args.ring _ _ c.in-Ok-manager_parts.ensures.rings.2 c.over-5.result c.over-10.result c.over-5.ensures.ring c.over-10.ensures.ring;
+pub returns : goal.returns
+returns g c = record {
+  pair = record {
+    a = pair_over c.args.ring _ _ c.in-Ok-manager_parts.ensures.rings.0 c.over.result c.over-6.result c.over.ensures.ring c.over-6.ensures.ring;
+    b = pair_over c.args.ring _ _ c.in-Ok.ensures.rings.0 c.over-7.result c.over-2.result c.over-7.ensures.ring c.over-2.ensures.ring;
+    c = pair_over c.args.ring _ _ c.in-Ok-manager_parts.ensures.rings.1 c.over-3.result c.over-8.result c.over-3.ensures.ring c.over-8.ensures.ring;
+    d = pair_over c.args.ring _ _ c.in-Ok.ensures.rings.1 c.over-9.result c.over-4.result c.over-9.ensures.ring c.over-4.ensures.ring;
+    e = pair_over c.args.ring _ _ c.in-Ok-manager_parts.ensures.rings.2 c.over-5.result c.over-10.result c.over-5.ensures.ring c.over-10.ensures.ring;
+  };
+  client = record {
+    a = still_open _ _ c.args.ring (c.over.ensures.send c.args.ring _ c.in-Ok-manager_parts.ensures.rings.0 c.requires.client c.requires.manager);
+    b = none_taken c.args.ring _ _ c.in-Ok.ensures.rings.0 c.over-2.result c.over-2.ensures.ring c.over-2.ensures.inbox;
+    c = still_open _ _ c.args.ring (c.over-3.ensures.send c.args.ring _ c.in-Ok-manager_parts.ensures.rings.1 c.requires.client c.requires.manager);
+    d = none_taken c.args.ring _ _ c.in-Ok.ensures.rings.1 c.over-4.result c.over-4.ensures.ring c.over-4.ensures.inbox;
+    e = still_open _ _ c.args.ring (c.over-5.ensures.send c.args.ring _ c.in-Ok-manager_parts.ensures.rings.2 c.requires.client c.requires.manager);
+    accepted = refl;
+    book = c.in-Ok.ensures.book;
+  };
+  manager = record {
+    a = none_taken c.args.ring _ _ c.in-Ok-manager_parts.ensures.rings.0 c.over-6.result c.over-6.ensures.ring c.over-6.ensures.inbox;
+    b = still_open _ _ c.args.ring (c.over-7.ensures.send c.args.ring _ c.in-Ok.ensures.rings.0 c.requires.manager c.requires.client);
+    c = none_taken c.args.ring _ _ c.in-Ok-manager_parts.ensures.rings.1 c.over-8.result c.over-8.ensures.ring c.over-8.ensures.inbox;
+    d = still_open _ _ c.args.ring (c.over-9.ensures.send c.args.ring _ c.in-Ok.ensures.rings.1 c.requires.manager c.requires.client);
+    e = none_taken c.args.ring _ _ c.in-Ok-manager_parts.ensures.rings.2 c.over-10.result c.over-10.ensures.ring c.over-10.ensures.inbox;
+    accepted = refl;
+    homes = refl;
+    book = c.in-Ok-manager_parts.ensures.book;
+  };
+  client_knows = record {
+    a = all_free c.args.ring _ _ c.in-Ok-manager_parts.ensures.rings.0 c.over.result c.over.ensures.ring;
+    b = idle c.args.ring _ _ c.in-Ok.ensures.rings.0 c.over-2.result c.over-2.ensures.ring c.over-2.ensures.inbox;
+    c = all_free c.args.ring _ _ c.in-Ok-manager_parts.ensures.rings.1 c.over-3.result c.over-3.ensures.ring;
+    d = idle c.args.ring _ _ c.in-Ok.ensures.rings.1 c.over-4.result c.over-4.ensures.ring c.over-4.ensures.inbox;
+    e = all_free c.args.ring _ _ c.in-Ok-manager_parts.ensures.rings.2 c.over-5.result c.over-5.ensures.ring;
+  };
+  manager_knows = record {
+    a = idle c.args.ring _ _ c.in-Ok-manager_parts.ensures.rings.0 c.over-6.result c.over-6.ensures.ring c.over-6.ensures.inbox;
+    b = all_free c.args.ring _ _ c.in-Ok.ensures.rings.0 c.over-7.result c.over-7.ensures.ring;
+    c = idle c.args.ring _ _ c.in-Ok-manager_parts.ensures.rings.1 c.over-8.result c.over-8.ensures.ring c.over-8.ensures.inbox;
+    d = all_free c.args.ring _ _ c.in-Ok.ensures.rings.1 c.over-9.result c.over-9.ensures.ring;
+    e = idle c.args.ring _ _ c.in-Ok-manager_parts.ensures.rings.2 c.over-10.result c.over-10.ensures.ring c.over-10.ensures.inbox;
+  };
+  size = λ ok. c.in-Ok.ensures.size refl;
+  ring_size = tt;
 }
-
-pub returns-clause-client : goal.returns-clause-client
-returns-clause-client g c = record {
-  a = still_open _ _ c.args.ring (c.over.ensures.send c.args.ring _ c.in-Ok-manager_parts.ensures.rings.0 c.requires.client c.requires.manager);
-  b = none_taken c.args.ring _ _ c.in-Ok.ensures.rings.0 c.over-2.result c.over-2.ensures.ring c.over-2.ensures.inbox;
-  c = still_open _ _ c.args.ring (c.over-3.ensures.send c.args.ring _ c.in-Ok-manager_parts.ensures.rings.1 c.requires.client c.requires.manager);
-  d = none_taken c.args.ring _ _ c.in-Ok.ensures.rings.1 c.over-4.result c.over-4.ensures.ring c.over-4.ensures.inbox;
-  e = still_open _ _ c.args.ring (c.over-5.ensures.send c.args.ring _ c.in-Ok-manager_parts.ensures.rings.2 c.requires.client c.requires.manager);
-  accepted = refl;
-  book = c.in-Ok.ensures.book;
-}
-
-pub returns-clause-manager : goal.returns-clause-manager
-returns-clause-manager g c = record {
-  a = none_taken c.args.ring _ _ c.in-Ok-manager_parts.ensures.rings.0 c.over-6.result c.over-6.ensures.ring c.over-6.ensures.inbox;
-  b = still_open _ _ c.args.ring (c.over-7.ensures.send c.args.ring _ c.in-Ok.ensures.rings.0 c.requires.manager c.requires.client);
-  c = none_taken c.args.ring _ _ c.in-Ok-manager_parts.ensures.rings.1 c.over-8.result c.over-8.ensures.ring c.over-8.ensures.inbox;
-  d = still_open _ _ c.args.ring (c.over-9.ensures.send c.args.ring _ c.in-Ok.ensures.rings.1 c.requires.manager c.requires.client);
-  e = none_taken c.args.ring _ _ c.in-Ok-manager_parts.ensures.rings.2 c.over-10.result c.over-10.ensures.ring c.over-10.ensures.inbox;
-  accepted = refl;
-  homes = refl;
-  book = c.in-Ok-manager_parts.ensures.book;
-}
-
-pub returns-clause-client_knows : goal.returns-clause-client_knows
-returns-clause-client_knows g c = record {
-  a = all_free c.args.ring _ _ c.in-Ok-manager_parts.ensures.rings.0 c.over.result c.over.ensures.ring;
-  b = idle c.args.ring _ _ c.in-Ok.ensures.rings.0 c.over-2.result c.over-2.ensures.ring c.over-2.ensures.inbox;
-  c = all_free c.args.ring _ _ c.in-Ok-manager_parts.ensures.rings.1 c.over-3.result c.over-3.ensures.ring;
-  d = idle c.args.ring _ _ c.in-Ok.ensures.rings.1 c.over-4.result c.over-4.ensures.ring c.over-4.ensures.inbox;
-  e = all_free c.args.ring _ _ c.in-Ok-manager_parts.ensures.rings.2 c.over-5.result c.over-5.ensures.ring;
-}
-
-pub returns-clause-manager_knows : goal.returns-clause-manager_knows
-returns-clause-manager_knows g c = record {
-  a = idle c.args.ring _ _ c.in-Ok-manager_parts.ensures.rings.0 c.over-6.result c.over-6.ensures.ring c.over-6.ensures.inbox;
-  b = all_free c.args.ring _ _ c.in-Ok.ensures.rings.0 c.over-7.result c.over-7.ensures.ring;
-  c = idle c.args.ring _ _ c.in-Ok-manager_parts.ensures.rings.1 c.over-8.result c.over-8.ensures.ring c.over-8.ensures.inbox;
-  d = all_free c.args.ring _ _ c.in-Ok.ensures.rings.1 c.over-9.result c.over-9.ensures.ring;
-  e = idle c.args.ring _ _ c.in-Ok-manager_parts.ensures.rings.2 c.over-10.result c.over-10.ensures.ring c.over-10.ensures.inbox;
-}
-
-pub returns-clause-size : goal.returns-clause-size
-returns-clause-size g c = λ ok. c.in-Ok.ensures.size refl
-
-pub returns-clause-ring_size : goal.returns-clause-ring_size
-returns-clause-ring_size g c = tt
 
 -- a new end is open
 pub invariant_of-client : goal.invariant_of-client

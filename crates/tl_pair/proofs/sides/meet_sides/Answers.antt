@@ -8,50 +8,45 @@ pub meet_requests-requires : goal.meet_requests-requires
 meet_requests-requires g c =
     let client = client_seen c.client-inside.view_is (λ q. record { a = q.a; b = q.b; c = q.c; d = q.d; e = q.e; book = q.book }) c.client.view_is in
     let manager = manager_seen c.manager-inside.view_is (λ q. record { a = q.a; b = q.b; c = q.c; d = q.d; e = q.e; book = q.book }) c.manager.view_is in
-    let sides = sides_inside client manager c.requires in
-    let known = c.requires-raw in (
-      let c = known in search (inner_small (client_layout g.row.C g.row.M g.row.A g.A.Allocator) 0 0 9223372036854775808),
-      (let c = known in search (part_small (manager_layout g.row.C g.row.M g.row.A g.A.Allocator) 0 9223372036854775808), sides.a),
+    let sides = sides_inside client manager c.requires in (
+      inner_small (client_layout g.row.C g.row.M g.row.A g.A.Allocator) 0 0 9223372036854775808 c.requires-raw.1.1.1.0,
+      (part_small (manager_layout g.row.C g.row.M g.row.A g.A.Allocator) 0 9223372036854775808 c.requires-raw.1.1.1.1.0, sides.a),
     )
 
 pub meet_probes-requires : goal.meet_probes-requires
 meet_probes-requires g c =
     let client = client_seen c.client-inside.view_is (λ q. record { a = q.a; b = q.b; c = q.c; d = q.d; e = q.e; book = q.book }) c.client.view_is in
     let manager = manager_seen c.manager-inside.view_is (λ q. record { a = q.a; b = q.b; c = q.c; d = q.d; e = q.e; book = q.book }) c.manager.view_is in
-    let sides = sides_inside client manager c.requires in
-    let known = c.requires-raw in (
-      let c = known in search (inner_small (manager_layout g.row.C g.row.M g.row.A g.A.Allocator) 1 0 9223372036854775808),
-      (let c = known in search (part_small (client_layout g.row.C g.row.M g.row.A g.A.Allocator) 1 9223372036854775808), sides.b),
+    let sides = sides_inside client manager c.requires in (
+      inner_small (manager_layout g.row.C g.row.M g.row.A g.A.Allocator) 1 0 9223372036854775808 c.requires-raw.1.1.1.1.0,
+      (part_small (client_layout g.row.C g.row.M g.row.A g.A.Allocator) 1 9223372036854775808 c.requires-raw.1.1.1.0, sides.b),
     )
 
 pub meet_releases-requires : goal.meet_releases-requires
 meet_releases-requires g c =
     let client = client_seen c.client-inside.view_is (λ q. record { a = q.a; b = q.b; c = q.c; d = q.d; e = q.e; book = q.book }) c.client.view_is in
     let manager = manager_seen c.manager-inside.view_is (λ q. record { a = q.a; b = q.b; c = q.c; d = q.d; e = q.e; book = q.book }) c.manager.view_is in
-    let sides = sides_inside client manager c.requires in
-    let known = c.requires-raw in (
-      let c = known in search (inner_small (client_layout g.row.C g.row.M g.row.A g.A.Allocator) 2 0 9223372036854775808),
-      (let c = known in search (part_small (manager_layout g.row.C g.row.M g.row.A g.A.Allocator) 2 9223372036854775808), sides.c),
+    let sides = sides_inside client manager c.requires in (
+      inner_small (client_layout g.row.C g.row.M g.row.A g.A.Allocator) 2 0 9223372036854775808 c.requires-raw.1.1.1.0,
+      (part_small (manager_layout g.row.C g.row.M g.row.A g.A.Allocator) 2 9223372036854775808 c.requires-raw.1.1.1.1.0, sides.c),
     )
 
 pub meet_responses-requires : goal.meet_responses-requires
 meet_responses-requires g c =
     let client = client_seen c.client-inside.view_is (λ q. record { a = q.a; b = q.b; c = q.c; d = q.d; e = q.e; book = q.book }) c.client.view_is in
     let manager = manager_seen c.manager-inside.view_is (λ q. record { a = q.a; b = q.b; c = q.c; d = q.d; e = q.e; book = q.book }) c.manager.view_is in
-    let sides = sides_inside client manager c.requires in
-    let known = c.requires-raw in (
-      let c = known in search (inner_small (manager_layout g.row.C g.row.M g.row.A g.A.Allocator) 3 0 9223372036854775808),
-      (let c = known in search (part_small (client_layout g.row.C g.row.M g.row.A g.A.Allocator) 3 9223372036854775808), sides.d),
+    let sides = sides_inside client manager c.requires in (
+      inner_small (manager_layout g.row.C g.row.M g.row.A g.A.Allocator) 3 0 9223372036854775808 c.requires-raw.1.1.1.1.0,
+      (part_small (client_layout g.row.C g.row.M g.row.A g.A.Allocator) 3 9223372036854775808 c.requires-raw.1.1.1.0, sides.d),
     )
 
 pub meet_finishes-requires : goal.meet_finishes-requires
 meet_finishes-requires g c =
     let client = client_seen c.client-inside.view_is (λ q. record { a = q.a; b = q.b; c = q.c; d = q.d; e = q.e; book = q.book }) c.client.view_is in
     let manager = manager_seen c.manager-inside.view_is (λ q. record { a = q.a; b = q.b; c = q.c; d = q.d; e = q.e; book = q.book }) c.manager.view_is in
-    let sides = sides_inside client manager c.requires in
-    let known = c.requires-raw in (
-      let c = known in search (inner_small (client_layout g.row.C g.row.M g.row.A g.A.Allocator) 4 0 9223372036854775808),
-      (let c = known in search (part_small (manager_layout g.row.C g.row.M g.row.A g.A.Allocator) 4 9223372036854775808), sides.e),
+    let sides = sides_inside client manager c.requires in (
+      inner_small (client_layout g.row.C g.row.M g.row.A g.A.Allocator) 4 0 9223372036854775808 c.requires-raw.1.1.1.0,
+      (part_small (manager_layout g.row.C g.row.M g.row.A g.A.Allocator) 4 9223372036854775808 c.requires-raw.1.1.1.1.0, sides.e),
     )
 
 pub returns : goal.returns

@@ -2,7 +2,7 @@ use Rattle.std.proofs.Common.{ℕ, ◌≡◌, refl, subst}
 use Rattle.tl_msg.specs.Rules.{Rules}
 use Rattle.tl_ring.specs.Crossing.{empty}
 use Rattle.tl_ring.specs.Pipe.{Pipe, StandsFor}
-use Rattle.tl_ring.proofs.FieldSizes.{part, part_small, inner_small, alone_small}
+use Rattle.tl_ring.proofs.FieldSizes.{part_small}
 use Rattle.tl_sides.proofs.BridgeLayout.{bridge_layout}
 use Rattle.tl_sides.proofs.sync_bridge.bridge_over.Goals as goal
 
@@ -10,41 +10,21 @@ use Rattle.tl_sides.proofs.sync_bridge.bridge_over.Goals as goal
 sized : {H : Type 0} (r : Rules H) {w v : ℕ} (p : Pipe H v) (made size : ℕ) → made ≡ size → StandsFor r {w = w} p (empty made) → StandsFor r {w = w} p (empty size)
 sized r {w} p made size same stands = subst (λ n. StandsFor r {w = w} p (empty n)) same stands
 
--- the ring of a pipe takes no more memory than the pipe, a part of the result
+-- each pipe is a part of the result
 pub over-requires : goal.over-requires
-over-requires g c =
-    let row = bridge_layout g.row.C g.row.M g.row.A g.A.Allocator in let known = c.requires-raw in (
-      let c = known in alone_small (part (part row 0) 2) 9223372036854775808 (search (inner_small row 0 2 9223372036854775808)),
-      let c = known in search (part_small row 0 9223372036854775808),
-    )
+over-requires g c = (c.requires-raw.1.1.1.0, part_small (bridge_layout g.row.C g.row.M g.row.A g.A.Allocator) 0 9223372036854775808 c.requires-raw.1.1.1.1.1.1.1.1.1.1)
 
 pub over-requires-2 : goal.over-requires-2
-over-requires-2 g c =
-    let row = bridge_layout g.row.C g.row.M g.row.A g.A.Allocator in let known = c.requires-raw in (
-      let c = known in alone_small (part (part row 1) 2) 9223372036854775808 (search (inner_small row 1 2 9223372036854775808)),
-      let c = known in search (part_small row 1 9223372036854775808),
-    )
+over-requires-2 g c = (c.requires-raw.1.1.1.1.0, part_small (bridge_layout g.row.C g.row.M g.row.A g.A.Allocator) 1 9223372036854775808 c.requires-raw.1.1.1.1.1.1.1.1.1.1)
 
 pub over-requires-3 : goal.over-requires-3
-over-requires-3 g c =
-    let row = bridge_layout g.row.C g.row.M g.row.A g.A.Allocator in let known = c.requires-raw in (
-      let c = known in alone_small (part (part row 2) 2) 9223372036854775808 (search (inner_small row 2 2 9223372036854775808)),
-      let c = known in search (part_small row 2 9223372036854775808),
-    )
+over-requires-3 g c = (c.requires-raw.1.1.1.1.1.0, part_small (bridge_layout g.row.C g.row.M g.row.A g.A.Allocator) 2 9223372036854775808 c.requires-raw.1.1.1.1.1.1.1.1.1.1)
 
 pub over-requires-4 : goal.over-requires-4
-over-requires-4 g c =
-    let row = bridge_layout g.row.C g.row.M g.row.A g.A.Allocator in let known = c.requires-raw in (
-      let c = known in alone_small (part (part row 3) 2) 9223372036854775808 (search (inner_small row 3 2 9223372036854775808)),
-      let c = known in search (part_small row 3 9223372036854775808),
-    )
+over-requires-4 g c = (c.requires-raw.1.1.1.1.1.1.0, part_small (bridge_layout g.row.C g.row.M g.row.A g.A.Allocator) 3 9223372036854775808 c.requires-raw.1.1.1.1.1.1.1.1.1.1)
 
 pub over-requires-5 : goal.over-requires-5
-over-requires-5 g c =
-    let row = bridge_layout g.row.C g.row.M g.row.A g.A.Allocator in let known = c.requires-raw in (
-      let c = known in alone_small (part (part row 4) 2) 9223372036854775808 (search (inner_small row 4 2 9223372036854775808)),
-      let c = known in search (part_small row 4 9223372036854775808),
-    )
+over-requires-5 g c = (c.requires-raw.1.1.1.1.1.1.1.0, part_small (bridge_layout g.row.C g.row.M g.row.A g.A.Allocator) 4 9223372036854775808 c.requires-raw.1.1.1.1.1.1.1.1.1.1)
 
 pub returns : goal.returns
 returns g c = λ ring client manager made knows_client knows_manager. record {

@@ -8,6 +8,18 @@ use Rattle.tl_sides.proofs.sync_bridge.manager_parts.Goals as goal
 dropped : (κ κ' lives : List ℕ) → κ' ⊑ lives → (κ ⊑ []) × (κ' ⊑ lives)
 dropped κ κ' lives within = (search rules, within)
 
+pub new-requires : goal.new-requires
+new-requires g c = c.requires-raw.1.1.0
+
+pub new-requires-2 : goal.new-requires-2
+new-requires-2 g c = c.requires-raw.1.1.1.0
+
+pub new-requires-3 : goal.new-requires-3
+new-requires-3 g c = c.requires-raw.1.1.1.1.0
+
+pub new-requires-4 : goal.new-requires-4
+new-requires-4 g c = c.requires-raw.1.1.1.1.1
+
 pub returns-in-Err : goal.returns-in-Err
 returns-in-Err g c = record { rings = tt; book = tt; size = λ made. absurd (false≢true made); ring_size = c.in-Err.ensures.ring_size }
 

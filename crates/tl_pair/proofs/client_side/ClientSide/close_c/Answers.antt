@@ -5,7 +5,7 @@ use Rattle.tl_pair.proofs.Layouts.{client_layout}
 use Rattle.tl_pair.proofs.client_side.ClientSide.close_c.Goals as goal
 
 pub close-requires : goal.close-requires
-close-requires g c = search (part_small (client_layout g.row.C g.row.M g.row.A g.A.Allocator) 2 9223372036854775808)
+close-requires g c = part_small (client_layout g.row.C g.row.M g.row.A g.A.Allocator) 2 9223372036854775808 c.requires-raw.1.1.1
 
 pub returns : goal.returns
 returns g c = side_closes rules_c client_c (λ y. tt) c.self.view_is _ _ c.close.ensures

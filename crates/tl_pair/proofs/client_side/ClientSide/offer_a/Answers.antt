@@ -8,9 +8,9 @@ pub offer_request-requires : goal.offer_request-requires
 offer_request-requires g c =
     let view = client_seen c.self-inside.view_is (λ q. record { a = q.a; b = q.b; c = q.c; d = q.d; e = q.e; book = q.book }) c.self.view_is in
     let ready = rw (← view) at c.requires.ready in (
-      search (part_small (client_layout g.row.C g.row.M g.row.A g.A.Allocator) 5 9223372036854775808),
+      part_small (client_layout g.row.C g.row.M g.row.A g.A.Allocator) 5 9223372036854775808 c.requires-raw.1.1.1.0,
       (
-        search (inner_small (client_layout g.row.C g.row.M g.row.A g.A.Allocator) 0 0 9223372036854775808),
+        inner_small (client_layout g.row.C g.row.M g.row.A g.A.Allocator) 0 0 9223372036854775808 c.requires-raw.1.1.1.0,
         (beat_small g.row.C c.requires.near, (c.requires.near, c.requires.far, ready.0)),
       ),
     )

@@ -9,7 +9,7 @@ pub offer_finish-requires : goal.offer_finish-requires
 offer_finish-requires g c =
     let view = client_seen c.self-inside.view_is (λ q. record { a = q.a; b = q.b; c = q.c; d = q.d; e = q.e; book = q.book }) c.self.view_is in
     let ready = rw (← view) at c.requires.ready in
-    (search (inner_small (client_layout g.row.C g.row.M g.row.A g.A.Allocator) 4 0 9223372036854775808), (beat_small g.row.C c.requires.near, (c.requires.near, c.requires.far, ready.0)))
+    (inner_small (client_layout g.row.C g.row.M g.row.A g.A.Allocator) 4 0 9223372036854775808 c.requires-raw.1.1.1.0, (beat_small g.row.C c.requires.near, (c.requires.near, c.requires.far, ready.0)))
 
 pub invariant_of-self-inside : goal.invariant_of-self-inside
 invariant_of-self-inside g c = c.offer_finish.ensures.open c.self-inside.invariant

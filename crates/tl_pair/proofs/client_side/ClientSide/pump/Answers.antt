@@ -6,13 +6,13 @@ use Rattle.tl_pair.proofs.Layouts.{client_layout}
 use Rattle.tl_pair.proofs.client_side.ClientSide.pump.Goals as goal
 
 pub pump-a-requires : goal.pump-a-requires
-pump-a-requires g c = search (part_small (client_layout g.row.C g.row.M g.row.A g.A.Allocator) 0 9223372036854775808)
+pump-a-requires g c = part_small (client_layout g.row.C g.row.M g.row.A g.A.Allocator) 0 9223372036854775808 c.requires-raw.1.1.1
 
 pub pump-c-requires : goal.pump-c-requires
-pump-c-requires g c = search (part_small (client_layout g.row.C g.row.M g.row.A g.A.Allocator) 2 9223372036854775808)
+pump-c-requires g c = part_small (client_layout g.row.C g.row.M g.row.A g.A.Allocator) 2 9223372036854775808 c.requires-raw.1.1.1
 
 pub pump-e-requires : goal.pump-e-requires
-pump-e-requires g c = search (part_small (client_layout g.row.C g.row.M g.row.A g.A.Allocator) 4 9223372036854775808)
+pump-e-requires g c = part_small (client_layout g.row.C g.row.M g.row.A g.A.Allocator) 4 9223372036854775808 c.requires-raw.1.1.1
 
 pub overflow_add-result : goal.overflow_add-result
 overflow_add-result g c = let few = sum_2 c.pump-a.result c.pump-c.result c.pump-a.ensures.most c.pump-c.ensures.most in omega (arith, few)

@@ -9,10 +9,10 @@ use Rattle.tl_pair.proofs.Layouts.{client_layout}
 use Rattle.tl_pair.proofs.client_side.ClientSide.take_d.Goals as goal
 
 pub take-requires : goal.take-requires
-take-requires g c = search (part_small (client_layout g.row.C g.row.M g.row.A g.A.Allocator) 3 9223372036854775808)
+take-requires g c = (part_small (client_layout g.row.C g.row.M g.row.A g.A.Allocator) 3 9223372036854775808 c.requires-raw.1.1.1.0, c.requires-raw.1.1.1.1.0)
 
 pub note_answer-requires : goal.note_answer-requires
-note_answer-requires g c = (search (part_small (client_layout g.row.C g.row.M g.row.A g.A.Allocator) 5 9223372036854775808), (c.requires.far, lawful_head rules_d c.in-Some.beat c.in-Some.ensures.lawful))
+note_answer-requires g c = (part_small (client_layout g.row.C g.row.M g.row.A g.A.Allocator) 5 9223372036854775808 c.requires-raw.1.1.1.0, (c.requires.far, lawful_head rules_d c.in-Some.beat c.in-Some.ensures.lawful))
 
 pub returns-in-None-clause-rest : goal.returns-in-None-clause-rest
 returns-in-None-clause-rest g c = rw (← c.self.view_is) (ap (λ q. record { a = c.self.inside.a; b = c.self.inside.b; c = c.self.inside.c; d = q; e = c.self.inside.e; book = c.self.inside.book }) c.take.ensures.rest)

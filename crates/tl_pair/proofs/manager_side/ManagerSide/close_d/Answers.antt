@@ -6,7 +6,7 @@ use Rattle.tl_pair.proofs.Layouts.{manager_layout}
 use Rattle.tl_pair.proofs.manager_side.ManagerSide.close_d.Goals as goal
 
 pub close-requires : goal.close-requires
-close-requires g c = search (part_small (manager_layout g.row.C g.row.M g.row.A g.A.Allocator) 3 9223372036854775808)
+close-requires g c = part_small (manager_layout g.row.C g.row.M g.row.A g.A.Allocator) 3 9223372036854775808 c.requires-raw.1.1.1
 
 pub returns : goal.returns
 returns g c = side_closes rules_d manager_d (λ y. (refl, refl)) c.self.view_is _ _ c.close.ensures

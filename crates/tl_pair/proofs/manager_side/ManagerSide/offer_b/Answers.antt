@@ -9,7 +9,7 @@ pub offer_probe-requires : goal.offer_probe-requires
 offer_probe-requires g c =
     let view = manager_seen c.self-inside.view_is (λ q. record { a = q.a; b = q.b; c = q.c; d = q.d; e = q.e; book = q.book }) c.self.view_is in
     let ready = rw (← view) at c.requires.ready in
-    (search (inner_small (manager_layout g.row.C g.row.M g.row.A g.A.Allocator) 1 0 9223372036854775808), (beat_small g.row.M c.requires.near, (c.requires.near, c.requires.far, ready.0)))
+    (inner_small (manager_layout g.row.C g.row.M g.row.A g.A.Allocator) 1 0 9223372036854775808 c.requires-raw.1.1.1.0, (beat_small g.row.M c.requires.near, (c.requires.near, c.requires.far, ready.0)))
 
 pub invariant_of-self-inside : goal.invariant_of-self-inside
 invariant_of-self-inside g c = c.offer_probe.ensures.open c.self-inside.invariant

@@ -8,9 +8,9 @@ pub offer_response-requires : goal.offer_response-requires
 offer_response-requires g c =
     let view = manager_seen c.self-inside.view_is (λ q. record { a = q.a; b = q.b; c = q.c; d = q.d; e = q.e; book = q.book }) c.self.view_is in
     let ready = rw (← view) at c.requires.ready in (
-      search (part_small (manager_layout g.row.C g.row.M g.row.A g.A.Allocator) 5 9223372036854775808),
+      part_small (manager_layout g.row.C g.row.M g.row.A g.A.Allocator) 5 9223372036854775808 c.requires-raw.1.1.1.0,
       (
-        search (inner_small (manager_layout g.row.C g.row.M g.row.A g.A.Allocator) 3 0 9223372036854775808),
+        inner_small (manager_layout g.row.C g.row.M g.row.A g.A.Allocator) 3 0 9223372036854775808 c.requires-raw.1.1.1.0,
         (beat_small g.row.M c.requires.near, (c.requires.near, c.requires.far, ready.0)),
       ),
     )

@@ -6,10 +6,10 @@ use Rattle.tl_pair.proofs.Layouts.{manager_layout}
 use Rattle.tl_pair.proofs.manager_side.ManagerSide.pump.Goals as goal
 
 pub pump-b-requires : goal.pump-b-requires
-pump-b-requires g c = search (part_small (manager_layout g.row.C g.row.M g.row.A g.A.Allocator) 1 9223372036854775808)
+pump-b-requires g c = part_small (manager_layout g.row.C g.row.M g.row.A g.A.Allocator) 1 9223372036854775808 c.requires-raw.1.1.1
 
 pub pump-d-requires : goal.pump-d-requires
-pump-d-requires g c = search (part_small (manager_layout g.row.C g.row.M g.row.A g.A.Allocator) 3 9223372036854775808)
+pump-d-requires g c = part_small (manager_layout g.row.C g.row.M g.row.A g.A.Allocator) 3 9223372036854775808 c.requires-raw.1.1.1
 
 pub overflow_add-result : goal.overflow_add-result
 overflow_add-result g c = let few = sum_2 c.pump-b.result c.pump-d.result c.pump-b.ensures.most c.pump-d.ensures.most in omega (arith, few)

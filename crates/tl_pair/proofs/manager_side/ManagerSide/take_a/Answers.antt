@@ -9,10 +9,10 @@ use Rattle.tl_pair.proofs.Layouts.{manager_layout}
 use Rattle.tl_pair.proofs.manager_side.ManagerSide.take_a.Goals as goal
 
 pub take-requires : goal.take-requires
-take-requires g c = search (part_small (manager_layout g.row.C g.row.M g.row.A g.A.Allocator) 0 9223372036854775808)
+take-requires g c = (part_small (manager_layout g.row.C g.row.M g.row.A g.A.Allocator) 0 9223372036854775808 c.requires-raw.1.1.1.0, c.requires-raw.1.1.1.1.0)
 
 pub note_ask-requires : goal.note_ask-requires
-note_ask-requires g c = (search (part_small (manager_layout g.row.C g.row.M g.row.A g.A.Allocator) 5 9223372036854775808), (c.requires.far, lawful_head rules_a c.in-Some.beat c.in-Some.ensures.lawful))
+note_ask-requires g c = (part_small (manager_layout g.row.C g.row.M g.row.A g.A.Allocator) 5 9223372036854775808 c.requires-raw.1.1.1.0, (c.requires.far, lawful_head rules_a c.in-Some.beat c.in-Some.ensures.lawful))
 
 pub returns-in-None-clause-rest : goal.returns-in-None-clause-rest
 returns-in-None-clause-rest g c = rw (← c.self.view_is) (ap (λ q. record { a = q; b = c.self.inside.b; c = c.self.inside.c; d = c.self.inside.d; e = c.self.inside.e; book = c.self.inside.book }) c.take.ensures.rest)

@@ -5,7 +5,7 @@ use Rattle.tl_pair.proofs.Layouts.{manager_layout}
 use Rattle.tl_pair.proofs.manager_side.ManagerSide.take_c.Goals as goal
 
 pub take-requires : goal.take-requires
-take-requires g c = search (part_small (manager_layout g.row.C g.row.M g.row.A g.A.Allocator) 2 9223372036854775808)
+take-requires g c = (part_small (manager_layout g.row.C g.row.M g.row.A g.A.Allocator) 2 9223372036854775808 c.requires-raw.1.1.1.0, c.requires-raw.1.1.1.1)
 
 pub returns : goal.returns
 returns g c = side_takes rules_c manager_c c.self.view_is _ _ c.take.ensures

@@ -11,8 +11,8 @@ use Rattle.tl_pair.proofs.sender.Sender.close.Goals as goal
 use Rattle.tl_pair.proofs.sender.Sender.close.Goals.{else-not-self-via-then-not-self+else-not-may_close, else-not-self-via-else-not-self}
 
 pub may_close-requires : goal.may_close-requires
-may_close-requires g c = search (part_small (layout (the_row (param 0 g.row.K) (param 1 (number g.row.W)) (param 2 (number g.row.V)) (param 3 g.row.A) (copied 4 g.row.K-Head) g.K.Channel g.K.Head.Clone
-    g.K.Head.Eq g.K.Head.PartialEq g.K.Head.Default g.A.Allocator)) 0 9223372036854775808)
+may_close-requires g c = part_small (layout (the_row (param 0 g.row.K) (param 1 (number g.row.W)) (param 2 (number g.row.V)) (param 3 g.row.A) (copied 4 g.row.K-Head) g.K.Channel g.K.Head.Clone
+    g.K.Head.Eq g.K.Head.PartialEq g.K.Head.Default g.A.Allocator)) 0 9223372036854775808 c.requires-raw.1.1.1.1.1
 
 pub returns-then-not-may_close-clause-between : goal.returns-then-not-may_close-clause-between
 returns-then-not-may_close-clause-between g c = λ x k.

@@ -6,16 +6,16 @@ use Rattle.tl_ring.proofs.FieldSizes.{part_small}
 use Rattle.tl_sides.proofs.sync_bridge.SyncBridge.fetch.Goals as goal
 
 pub fetch-a-requires : goal.fetch-a-requires
-fetch-a-requires g c = search (part_small (bridge_layout g.row.C g.row.M g.row.A g.A.Allocator) 0 9223372036854775808)
+fetch-a-requires g c = part_small (bridge_layout g.row.C g.row.M g.row.A g.A.Allocator) 0 9223372036854775808 c.requires-raw.1.1.1
 
 pub fetch-b-requires : goal.fetch-b-requires
-fetch-b-requires g c = search (part_small (bridge_layout g.row.C g.row.M g.row.A g.A.Allocator) 1 9223372036854775808)
+fetch-b-requires g c = part_small (bridge_layout g.row.C g.row.M g.row.A g.A.Allocator) 1 9223372036854775808 c.requires-raw.1.1.1
 
 pub fetch-c-requires : goal.fetch-c-requires
-fetch-c-requires g c = search (part_small (bridge_layout g.row.C g.row.M g.row.A g.A.Allocator) 2 9223372036854775808)
+fetch-c-requires g c = part_small (bridge_layout g.row.C g.row.M g.row.A g.A.Allocator) 2 9223372036854775808 c.requires-raw.1.1.1
 
 pub fetch-d-requires : goal.fetch-d-requires
-fetch-d-requires g c = search (part_small (bridge_layout g.row.C g.row.M g.row.A g.A.Allocator) 3 9223372036854775808)
+fetch-d-requires g c = part_small (bridge_layout g.row.C g.row.M g.row.A g.A.Allocator) 3 9223372036854775808 c.requires-raw.1.1.1
 
 -- (C's part fits too: were C fetched in the place of E, its count would be refused, and not its size)
 pub fetch-e-requires : goal.fetch-e-requires

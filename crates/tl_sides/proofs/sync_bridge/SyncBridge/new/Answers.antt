@@ -9,41 +9,27 @@ use Rattle.tl_sides.proofs.sync_bridge.SyncBridge.new.Goals as goal
 dropped : (κ κ' lives : List ℕ) → κ' ⊑ lives → (κ ⊑ []) × (κ' ⊑ lives)
 dropped κ κ' lives within = (search rules, within)
 
--- the ring of a pipe takes no more memory than the pipe, a part of the result, and so is a book; what the calls have shown is left aside
+-- the ring of a pipe takes no more memory than the pipe, a part of the result, and so is a book
 pub client_parts-requires : goal.client_parts-requires
 client_parts-requires g c =
-    let row = bridge_layout g.row.C g.row.M g.row.A g.A.Allocator in let known = c.requires-raw in
-    let small = let c = known in alone_small (part (part row 0) 2) 9223372036854775808 (search (inner_small row 0 2 9223372036854775808)) in
-    (small, (small, let c = known in search (part_small row 5 9223372036854775808)))
+    let row = bridge_layout g.row.C g.row.M g.row.A g.A.Allocator in
+    let whole = c.requires-raw.1.1.1.0 in
+    let small = alone_small (part (part row 0) 2) 9223372036854775808 (inner_small row 0 2 9223372036854775808 whole) in
+    (small, (small, part_small row 5 9223372036854775808 whole))
 
 pub manager_parts-requires : goal.manager_parts-requires
 manager_parts-requires g c =
-    let row = bridge_layout g.row.C g.row.M g.row.A g.A.Allocator in let known = c.requires-raw in
-    let small = let c = known in alone_small (part (part row 0) 2) 9223372036854775808 (search (inner_small row 0 2 9223372036854775808)) in
-    (small, (small, (small, let c = known in search (part_small row 6 9223372036854775808))))
+    let row = bridge_layout g.row.C g.row.M g.row.A g.A.Allocator in
+    let whole = c.requires-raw.1.1.1.0 in
+    let small = alone_small (part (part row 0) 2) 9223372036854775808 (inner_small row 0 2 9223372036854775808 whole) in
+    (small, (small, (small, part_small row 6 9223372036854775808 whole)))
 
 pub bridge_over-requires : goal.bridge_over-requires
 bridge_over-requires g c =
-    let row = bridge_layout g.row.C g.row.M g.row.A g.A.Allocator in let known = c.requires-raw in
-    let small = let c = known in alone_small (part (part row 0) 2) 9223372036854775808 (search (inner_small row 0 2 9223372036854775808)) in (
-      small,
-      (
-        small,
-        (
-          small,
-          (
-            small,
-            (
-              small,
-              (
-                let c = known in search (part_small row 5 9223372036854775808),
-                (let c = known in search (part_small row 6 9223372036854775808), let c = known in search rules),
-              ),
-            ),
-          ),
-        ),
-      ),
-    )
+    let row = bridge_layout g.row.C g.row.M g.row.A g.A.Allocator in
+    let whole = c.requires-raw.1.1.1.0 in
+    let small = alone_small (part (part row 0) 2) 9223372036854775808 (inner_small row 0 2 9223372036854775808 whole) in
+    (small, (small, (small, (small, (small, (part_small row 5 9223372036854775808 whole, (part_small row 6 9223372036854775808 whole, whole)))))))
 
 pub returns : goal.returns
 returns g c = record {

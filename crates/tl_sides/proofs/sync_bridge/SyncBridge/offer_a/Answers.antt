@@ -5,9 +5,9 @@ use Rattle.tl_sides.proofs.sync_bridge.SyncBridge.offer_a.Goals as goal
 
 pub offer_request-requires : goal.offer_request-requires
 offer_request-requires g c = (
-  search (part_small (bridge_layout g.row.C g.row.M g.row.A g.A.Allocator) 5 9223372036854775808),
+  part_small (bridge_layout g.row.C g.row.M g.row.A g.A.Allocator) 5 9223372036854775808 c.requires-raw.1.1.1.0,
   (
-    search (part_small (bridge_layout g.row.C g.row.M g.row.A g.A.Allocator) 0 9223372036854775808),
+    part_small (bridge_layout g.row.C g.row.M g.row.A g.A.Allocator) 0 9223372036854775808 c.requires-raw.1.1.1.0,
     (beat_small g.row.C c.requires.client, (c.requires.client, (c.requires.manager, rw (← c.self.view_is) at c.requires.ready))),
   ),
 )

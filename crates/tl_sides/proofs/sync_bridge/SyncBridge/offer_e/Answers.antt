@@ -5,8 +5,8 @@ use Rattle.tl_sides.proofs.BridgeLayout.{bridge_layout}
 use Rattle.tl_ring.proofs.FieldSizes.{part_small, beat_small}
 use Rattle.tl_sides.proofs.sync_bridge.SyncBridge.offer_e.Goals as goal
 
-pub offer_alone-requires : goal.offer_alone-requires
-offer_alone-requires g c = (search (part_small (bridge_layout g.row.C g.row.M g.row.A g.A.Allocator) 4 9223372036854775808), (beat_small g.row.C c.requires.client, (c.requires.client, (c.requires.manager, rw (← c.self.view_is) at c.requires.ready))))
+pub offer_finish-requires : goal.offer_finish-requires
+offer_finish-requires g c = (part_small (bridge_layout g.row.C g.row.M g.row.A g.A.Allocator) 4 9223372036854775808 c.requires-raw.1.1.1.0, (beat_small g.row.C c.requires.client, (c.requires.client, c.requires.manager, rw (← c.self.view_is) at c.requires.ready)))
 
 pub returns : goal.returns
-returns g c = offers_alone at_e rules_e c.args.beat (λ y. tt) c.self.view_is _ _ c.offer_alone.ensures
+returns g c = offers_alone at_e rules_e c.args.beat (λ y. tt) c.self.view_is _ _ c.offer_finish.ensures

@@ -6,19 +6,19 @@ use Rattle.tl_ring.proofs.FieldSizes.{part_small}
 use Rattle.tl_sides.proofs.sync_bridge.SyncBridge.pump.Goals as goal
 
 pub pump-a-requires : goal.pump-a-requires
-pump-a-requires g c = search (part_small (bridge_layout g.row.C g.row.M g.row.A g.A.Allocator) 0 9223372036854775808)
+pump-a-requires g c = part_small (bridge_layout g.row.C g.row.M g.row.A g.A.Allocator) 0 9223372036854775808 c.requires-raw.1.1.1
 
 pub pump-b-requires : goal.pump-b-requires
-pump-b-requires g c = search (part_small (bridge_layout g.row.C g.row.M g.row.A g.A.Allocator) 1 9223372036854775808)
+pump-b-requires g c = part_small (bridge_layout g.row.C g.row.M g.row.A g.A.Allocator) 1 9223372036854775808 c.requires-raw.1.1.1
 
 pub pump-c-requires : goal.pump-c-requires
-pump-c-requires g c = search (part_small (bridge_layout g.row.C g.row.M g.row.A g.A.Allocator) 2 9223372036854775808)
+pump-c-requires g c = part_small (bridge_layout g.row.C g.row.M g.row.A g.A.Allocator) 2 9223372036854775808 c.requires-raw.1.1.1
 
 pub pump-d-requires : goal.pump-d-requires
-pump-d-requires g c = search (part_small (bridge_layout g.row.C g.row.M g.row.A g.A.Allocator) 3 9223372036854775808)
+pump-d-requires g c = part_small (bridge_layout g.row.C g.row.M g.row.A g.A.Allocator) 3 9223372036854775808 c.requires-raw.1.1.1
 
 pub pump-e-requires : goal.pump-e-requires
-pump-e-requires g c = search (part_small (bridge_layout g.row.C g.row.M g.row.A g.A.Allocator) 4 9223372036854775808)
+pump-e-requires g c = part_small (bridge_layout g.row.C g.row.M g.row.A g.A.Allocator) 4 9223372036854775808 c.requires-raw.1.1.1
 
 pub overflow_add-result : goal.overflow_add-result
 overflow_add-result g c = let few = sum_2 c.pump-a.result c.pump-b.result c.pump-a.ensures.most c.pump-b.ensures.most in omega (arith, few)

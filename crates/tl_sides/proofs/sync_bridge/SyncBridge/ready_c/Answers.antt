@@ -3,7 +3,7 @@ use Rattle.tl_ring.proofs.FieldSizes.{part_small}
 use Rattle.tl_sides.proofs.sync_bridge.SyncBridge.ready_c.Goals as goal
 
 pub ready-requires : goal.ready-requires
-ready-requires g c = search (part_small (bridge_layout g.row.C g.row.M g.row.A g.A.Allocator) 2 9223372036854775808)
+ready-requires g c = part_small (bridge_layout g.row.C g.row.M g.row.A g.A.Allocator) 2 9223372036854775808 c.requires-raw.1.1.1
 
 pub returns : goal.returns
 returns g c = rw (← c.self.view_is) c.ready.ensures

@@ -3,19 +3,19 @@ use Rattle.tl_ring.proofs.FieldSizes.{part_small}
 use Rattle.tl_sides.proofs.sync_bridge.SyncBridge.standings.Goals as goal
 
 pub standing-requires : goal.standing-requires
-standing-requires g c = search (part_small (bridge_layout g.row.C g.row.M g.row.A g.A.Allocator) 0 9223372036854775808)
+standing-requires g c = part_small (bridge_layout g.row.C g.row.M g.row.A g.A.Allocator) 0 9223372036854775808 c.requires-raw.1.1.1
 
 pub standing-requires-2 : goal.standing-requires-2
-standing-requires-2 g c = search (part_small (bridge_layout g.row.C g.row.M g.row.A g.A.Allocator) 1 9223372036854775808)
+standing-requires-2 g c = part_small (bridge_layout g.row.C g.row.M g.row.A g.A.Allocator) 1 9223372036854775808 c.requires-raw.1.1.1
 
 pub standing-requires-3 : goal.standing-requires-3
-standing-requires-3 g c = search (part_small (bridge_layout g.row.C g.row.M g.row.A g.A.Allocator) 2 9223372036854775808)
+standing-requires-3 g c = part_small (bridge_layout g.row.C g.row.M g.row.A g.A.Allocator) 2 9223372036854775808 c.requires-raw.1.1.1
 
 pub standing-requires-4 : goal.standing-requires-4
-standing-requires-4 g c = search (part_small (bridge_layout g.row.C g.row.M g.row.A g.A.Allocator) 3 9223372036854775808)
+standing-requires-4 g c = part_small (bridge_layout g.row.C g.row.M g.row.A g.A.Allocator) 3 9223372036854775808 c.requires-raw.1.1.1
 
 pub standing-requires-5 : goal.standing-requires-5
-standing-requires-5 g c = search (part_small (bridge_layout g.row.C g.row.M g.row.A g.A.Allocator) 4 9223372036854775808)
+standing-requires-5 g c = part_small (bridge_layout g.row.C g.row.M g.row.A g.A.Allocator) 4 9223372036854775808 c.requires-raw.1.1.1
 
 pub returns : goal.returns
 returns g c = rw (← c.self.view_is) (record {

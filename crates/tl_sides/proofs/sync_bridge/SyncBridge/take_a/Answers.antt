@@ -6,8 +6,8 @@ use Rattle.tl_sides.proofs.sync_bridge.SyncBridge.take_a.Goals as goal
 
 pub take_request-requires : goal.take_request-requires
 take_request-requires g c = (
-  search (part_small (bridge_layout g.row.C g.row.M g.row.A g.A.Allocator) 6 9223372036854775808),
-  (search (part_small (bridge_layout g.row.C g.row.M g.row.A g.A.Allocator) 0 9223372036854775808), (beat_small g.row.M c.requires.far, c.requires.far)),
+  part_small (bridge_layout g.row.C g.row.M g.row.A g.A.Allocator) 6 9223372036854775808 c.requires-raw.1.1.1.0,
+  (part_small (bridge_layout g.row.C g.row.M g.row.A g.A.Allocator) 0 9223372036854775808 c.requires-raw.1.1.1.0, (beat_small g.row.M c.requires.far, c.requires.far)),
 )
 
 pub returns-clause-taken : goal.returns-clause-taken

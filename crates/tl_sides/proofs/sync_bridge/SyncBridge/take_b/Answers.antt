@@ -4,7 +4,7 @@ use Rattle.tl_ring.proofs.FieldSizes.{part_small}
 use Rattle.tl_sides.proofs.sync_bridge.SyncBridge.take_b.Goals as goal
 
 pub take-requires : goal.take-requires
-take-requires g c = search (part_small (bridge_layout g.row.C g.row.M g.row.A g.A.Allocator) 1 9223372036854775808)
+take-requires g c = (part_small (bridge_layout g.row.C g.row.M g.row.A g.A.Allocator) 1 9223372036854775808 c.requires-raw.1.1.1.0, c.requires-raw.1.1.1.1)
 
 pub returns-clause-beat : goal.returns-clause-beat
 returns-clause-beat g c = rw (← c.self.view_is) c.take.ensures.beat

@@ -6,8 +6,8 @@ use Rattle.tl_sides.proofs.sync_bridge.SyncBridge.take_d.Goals as goal
 
 pub take_response-requires : goal.take_response-requires
 take_response-requires g c = (
-  search (part_small (bridge_layout g.row.C g.row.M g.row.A g.A.Allocator) 5 9223372036854775808),
-  (search (part_small (bridge_layout g.row.C g.row.M g.row.A g.A.Allocator) 3 9223372036854775808), (beat_small g.row.C c.requires.far, c.requires.far)),
+  part_small (bridge_layout g.row.C g.row.M g.row.A g.A.Allocator) 5 9223372036854775808 c.requires-raw.1.1.1.0,
+  (part_small (bridge_layout g.row.C g.row.M g.row.A g.A.Allocator) 3 9223372036854775808 c.requires-raw.1.1.1.0, (beat_small g.row.C c.requires.far, c.requires.far)),
 )
 
 pub returns-clause-taken : goal.returns-clause-taken
