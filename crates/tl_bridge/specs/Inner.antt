@@ -1,3 +1,4 @@
+pub mod Widths
 pub mod Running
 pub mod Arriving
 pub mod Taking

@@ -1,9 +1,9 @@
 //! A channel of a run in one thread goes on by itself, as long as its beats are accepted.
 ghost use Rattle.std.specs.Prelude.{◌≡◌, ◌<◌, ◌+◌, ◌^◌, ℕ, List};
-ghost use Rattle.tl_lanes.specs.Lanes.{IsWidth};
 ghost use Rattle.tl_settle.specs.Outcomes.{Beats};
 ghost use Rattle.tl_sides.specs.Bridges.{Past, StandsFor};
 ghost use Rattle.tl_bridge.specs.Scripts.{near_beats};
+ghost use Rattle.tl_bridge.specs.Inner.Widths.{AreWidths};
 ghost use Rattle.tl_bridge.specs.Inner.Running.{HaveRoomToCount, IsAt, steps};
 ghost use Rattle.tl_bridge.specs.Inner.Going.{GoesOn, HasGone, HasMovedOn, gone_none, gone_then, going_a, going_b, going_c, going_d, going_e};
 
@@ -57,9 +57,7 @@ fn go_ahead<B, S: GoesAhead<B>>(
     first: Offered,
     most: usize,
 ) -> usize
-    requires can { S.MayGo }
-    requires few { at < 2 ^ 41 }
-    requires most { most < 2 ^ 41 }
+    requires { S.MayGo × (at < 2 ^ 41) × (most < 2 ^ 41) }
     ensures { S.Goes beats.now at side.old result side.new }
 {
     let mut later = at;
@@ -74,7 +72,7 @@ fn go_ahead<B, S: GoesAhead<B>>(
 }
 
 impl<const C: usize, const M: usize> GoesAhead<BeatOf<HeadA, C>> for SyncBridge<C, M> {
-    ghost MayGo = { IsWidth C × IsWidth M };
+    ghost MayGo = { AreWidths C M };
 
     ghost Goes = { GoesOn going_a };
 
@@ -90,7 +88,7 @@ impl<const C: usize, const M: usize> GoesAhead<BeatOf<HeadA, C>> for SyncBridge<
 }
 
 impl<const C: usize, const M: usize> GoesAhead<BeatOf<HeadB, M>> for SyncBridge<C, M> {
-    ghost MayGo = { IsWidth C × IsWidth M };
+    ghost MayGo = { AreWidths C M };
 
     ghost Goes = { GoesOn going_b };
 
@@ -106,7 +104,7 @@ impl<const C: usize, const M: usize> GoesAhead<BeatOf<HeadB, M>> for SyncBridge<
 }
 
 impl<const C: usize, const M: usize> GoesAhead<BeatOf<HeadC, C>> for SyncBridge<C, M> {
-    ghost MayGo = { IsWidth C × IsWidth M };
+    ghost MayGo = { AreWidths C M };
 
     ghost Goes = { GoesOn going_c };
 
@@ -122,7 +120,7 @@ impl<const C: usize, const M: usize> GoesAhead<BeatOf<HeadC, C>> for SyncBridge<
 }
 
 impl<const C: usize, const M: usize> GoesAhead<BeatOf<HeadD, M>> for SyncBridge<C, M> {
-    ghost MayGo = { IsWidth C × IsWidth M };
+    ghost MayGo = { AreWidths C M };
 
     ghost Goes = { GoesOn going_d };
 
@@ -138,7 +136,7 @@ impl<const C: usize, const M: usize> GoesAhead<BeatOf<HeadD, M>> for SyncBridge<
 }
 
 impl<const C: usize, const M: usize> GoesAhead<BeatOf<HeadE, C>> for SyncBridge<C, M> {
-    ghost MayGo = { IsWidth C × IsWidth M };
+    ghost MayGo = { AreWidths C M };
 
     ghost Goes = { GoesOn going_e };
 
@@ -162,10 +160,7 @@ pub(crate) fn all_go_ahead<const C: usize, const M: usize>(
     at: &mut PerChannel<usize>,
     most: usize,
 )
-    requires client { IsWidth C }
-    requires manager { IsWidth M }
-    requires few { HaveRoomToCount at.old }
-    requires most { most < 2 ^ 41 }
+    requires { AreWidths C M × HaveRoomToCount at.old × (most < 2 ^ 41) }
     ensures { (far : Beats M C) (x : Past C M) → StandsFor bridge.old x →
         IsAt (near_beats script.now) at.old far x →
         HasGone (near_beats script.now) at.old far x at.new bridge.new }

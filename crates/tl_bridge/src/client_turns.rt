@@ -8,6 +8,7 @@ ghost use Rattle.tl_settle.specs.Histories.{Event};
 ghost use Rattle.tl_pair.specs.Sides.{ClientPast, ClientStandsFor};
 ghost use Rattle.tl_bridge.specs.Scripts.{HasShortLists, near_beats};
 ghost use Rattle.tl_bridge.specs.declared.channel_state.Offered.TheVariants.{NotReady};
+ghost use Rattle.tl_bridge.specs.Inner.Widths.{AreWidths};
 ghost use Rattle.tl_bridge.specs.Inner.Running.{HaveRoomToCount};
 ghost use Rattle.tl_bridge.specs.Inner.Sides.{SameClientEnds, ClientHasTaken, ClientHasOffered, ClientGoes, ClientIsAt, ClientMovesOrRests, ClientMayPlay, ClientHasPlayed};
 
@@ -33,8 +34,7 @@ pub(crate) struct ClientRun<const C: usize, const M: usize> {
 impl<const C: usize, const M: usize> ClientRun<C, M> {
     // The lists, when the side is done with.
     pub(crate) fn into_lists(self) -> (Vec<Beat<ChB, C>>, Vec<Beat<ChD, C>>)
-        requires client { IsWidth C }
-        requires manager { IsWidth M }
+        requires { AreWidths C M }
         ensures { result ≡ (self.entry.far_b, self.entry.far_d) }
     {
         let ClientRun {
@@ -52,9 +52,8 @@ fn take_each<const C: usize, const M: usize>(
     far_b: &mut Vec<Beat<ChB, C>>,
     far_d: &mut Vec<Beat<ChD, C>>,
 )
-    requires width { IsWidth C }
-    requires room_b { vec_len far_b.old + length side.old.b.inbox ≤ vec_capacity far_b.old }
-    requires room_d { vec_len far_d.old + length side.old.d.inbox ≤ vec_capacity far_d.old }
+    requires { IsWidth C × (vec_len far_b.old + length side.old.b.inbox ≤ vec_capacity far_b.old) ×
+        (vec_len far_d.old + length side.old.d.inbox ≤ vec_capacity far_d.old) }
     ensures { ClientHasTaken
         (record { side = side.old; far_b = far_b.old; far_d = far_d.old })
         (record { side = side.new; far_b = far_b.new; far_d = far_d.new }) }
@@ -69,8 +68,7 @@ fn offer_each<const C: usize, const M: usize>(
     script: &Script<C, M>,
     at: &PerChannel<usize>,
 ) -> PerChannel<Offered>
-    requires client { IsWidth C }
-    requires manager { IsWidth M }
+    requires { AreWidths C M }
     ensures offers { (x : ClientPast C M) → ClientStandsFor side.old x →
         ClientHasOffered (near_beats script.now) at.now x side.new result }
     ensures ends { SameClientEnds side.old side.new }
@@ -94,9 +92,7 @@ fn turn<const C: usize, const M: usize>(
     script: &Script<C, M>,
     at: &PerChannel<usize>,
 ) -> Turn
-    requires client { IsWidth C }
-    requires manager { IsWidth M }
-    requires few { HaveRoomToCount at.now }
+    requires { AreWidths C M × HaveRoomToCount at.now }
     ensures goes { ClientGoes at.now side.old result.at side.new result.moved }
     ensures others { (result.at.b ≡ at.now.b) × (result.at.d ≡ at.now.d) }
     ensures is_at { (j m : ℕ) (es : List (Event C)) (far_of_b : List (BeatOf HeadB C))
@@ -127,10 +123,8 @@ pub(crate) fn play<G: Gate, const C: usize, const M: usize>(
     turns: usize,
     gate: &mut G,
 ) -> Turn
-    requires client { IsWidth C }
-    requires manager { IsWidth M }
-    requires short { HasShortLists script.now }
-    requires ready { ClientMayPlay (near_beats script.now) at.now run.old }
+    requires { AreWidths C M × HasShortLists script.now ×
+        ClientMayPlay (near_beats script.now) at.now run.old }
     ensures { ClientHasPlayed (near_beats script.now) at.now run.old run.new result }
 {
     gate.pass();

@@ -110,8 +110,7 @@ impl<const C: usize, const M: usize> Takes<BeatOf<HeadE, M>> for ManagerSide<C, 
 
 // A side takes all that stands in an inbox, into a list with room for it.
 pub(crate) fn take_all<B, S: Takes<B>>(side: &mut S, far: &mut Vec<B>)
-    requires can { S.CanTake }
-    requires room { vec_len far.old + length (S.inbox side.old) ≤ vec_capacity far.old }
+    requires { S.CanTake × (vec_len far.old + length (S.inbox side.old) ≤ vec_capacity far.old) }
     ensures becomes { S.Becomes side.old (S.inbox side.old) side.new }
     ensures far { far.new.items ≡ far.old.items ++ S.inbox side.old }
     ensures capacity { vec_capacity far.new ≡ vec_capacity far.old }

@@ -2,6 +2,8 @@
 //! (`run_threads`), and the names of the crates below that its callers need, with `SyncBridge` and the two sides.
 #![tactic(auto)]
 
+// A private function has one `requires`, since the checker states each clause by itself at each call.
+
 mod ahead;
 mod arrivals;
 mod channel_state;

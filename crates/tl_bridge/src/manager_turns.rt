@@ -9,6 +9,7 @@ ghost use Rattle.tl_settle.specs.Histories.{Event};
 ghost use Rattle.tl_pair.specs.Sides.{ManagerPast, ManagerStandsFor};
 ghost use Rattle.tl_bridge.specs.Scripts.{HasShortLists, near_beats};
 ghost use Rattle.tl_bridge.specs.declared.channel_state.Offered.TheVariants.{NotReady};
+ghost use Rattle.tl_bridge.specs.Inner.Widths.{AreWidths};
 ghost use Rattle.tl_bridge.specs.Inner.Running.{HaveRoomToCount};
 ghost use Rattle.tl_bridge.specs.Inner.Sides.{SameManagerEnds, ManagerHasTaken, ManagerHasOffered, ManagerGoes, ManagerIsAt, ManagerMovesOrRests, ManagerMayPlay, ManagerHasPlayed};
 
@@ -35,8 +36,7 @@ pub(crate) struct ManagerRun<const C: usize, const M: usize> {
 impl<const C: usize, const M: usize> ManagerRun<C, M> {
     // The lists, when the side is done with.
     pub(crate) fn into_lists(self) -> (Vec<Beat<ChA, M>>, Vec<Beat<ChC, M>>, Vec<Beat<ChE, M>>)
-        requires client { IsWidth C }
-        requires manager { IsWidth M }
+        requires { AreWidths C M }
         ensures { result ≡ (self.entry.far_a, self.entry.far_c, self.entry.far_e) }
     {
         let ManagerRun {
@@ -56,10 +56,9 @@ fn take_each<const C: usize, const M: usize>(
     far_c: &mut Vec<Beat<ChC, M>>,
     far_e: &mut Vec<Beat<ChE, M>>,
 )
-    requires width { IsWidth M }
-    requires room_a { vec_len far_a.old + length side.old.a.inbox ≤ vec_capacity far_a.old }
-    requires room_c { vec_len far_c.old + length side.old.c.inbox ≤ vec_capacity far_c.old }
-    requires room_e { vec_len far_e.old + length side.old.e.inbox ≤ vec_capacity far_e.old }
+    requires { IsWidth M × (vec_len far_a.old + length side.old.a.inbox ≤ vec_capacity far_a.old) ×
+        (vec_len far_c.old + length side.old.c.inbox ≤ vec_capacity far_c.old) ×
+        (vec_len far_e.old + length side.old.e.inbox ≤ vec_capacity far_e.old) }
     ensures { ManagerHasTaken
         (record { side = side.old; far_a = far_a.old; far_c = far_c.old; far_e = far_e.old })
         (record { side = side.new; far_a = far_a.new; far_c = far_c.new; far_e = far_e.new }) }
@@ -75,8 +74,7 @@ fn offer_each<const C: usize, const M: usize>(
     script: &Script<C, M>,
     at: &PerChannel<usize>,
 ) -> PerChannel<Offered>
-    requires client { IsWidth C }
-    requires manager { IsWidth M }
+    requires { AreWidths C M }
     ensures offers { (x : ManagerPast C M) → ManagerStandsFor side.old x →
         ManagerHasOffered (near_beats script.now) at.now x side.new result }
     ensures ends { SameManagerEnds side.old side.new }
@@ -99,9 +97,7 @@ fn turn<const C: usize, const M: usize>(
     script: &Script<C, M>,
     at: &PerChannel<usize>,
 ) -> Turn
-    requires client { IsWidth C }
-    requires manager { IsWidth M }
-    requires few { HaveRoomToCount at.now }
+    requires { AreWidths C M × HaveRoomToCount at.now }
     ensures goes { ManagerGoes at.now side.old result.at side.new result.moved }
     ensures others { (result.at.a ≡ at.now.a) × (result.at.c ≡ at.now.c) ×
         (result.at.e ≡ at.now.e) }
@@ -134,10 +130,8 @@ pub(crate) fn play<G: Gate, const C: usize, const M: usize>(
     turns: usize,
     gate: &mut G,
 ) -> Turn
-    requires client { IsWidth C }
-    requires manager { IsWidth M }
-    requires short { HasShortLists script.now }
-    requires ready { ManagerMayPlay (near_beats script.now) at.now run.old }
+    requires { AreWidths C M × HasShortLists script.now ×
+        ManagerMayPlay (near_beats script.now) at.now run.old }
     ensures { ManagerHasPlayed (near_beats script.now) at.now run.old run.new result }
 {
     gate.pass();

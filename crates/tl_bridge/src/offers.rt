@@ -1,7 +1,7 @@
 //! The near beats that a run offers, at most one of each channel at a time.
 ghost use Rattle.std.specs.Prelude.{ℕ, List};
-ghost use Rattle.tl_lanes.specs.Lanes.{IsWidth};
 ghost use Rattle.tl_bridge.specs.declared.channel_state.Offered.{Offered};
+ghost use Rattle.tl_bridge.specs.Inner.Widths.{AreWidths};
 ghost use Rattle.tl_bridge.specs.Inner.Offering.{OffersNext, on_a, on_b, on_c, on_d, on_e, on_bridge_a, on_bridge_b, on_bridge_c, on_bridge_d, on_bridge_e};
 
 use crate::channel_state::Offered;
@@ -41,7 +41,7 @@ pub(crate) trait Offers<B> {
 }
 
 impl<const C: usize, const M: usize> Offers<BeatOf<HeadA, C>> for ClientSide<C, M> {
-    ghost CanOffer = { IsWidth C × IsWidth M };
+    ghost CanOffer = { AreWidths C M };
 
     ghost Becomes = { OffersNext on_a };
 
@@ -57,7 +57,7 @@ impl<const C: usize, const M: usize> Offers<BeatOf<HeadA, C>> for ClientSide<C, 
 }
 
 impl<const C: usize, const M: usize> Offers<BeatOf<HeadC, C>> for ClientSide<C, M> {
-    ghost CanOffer = { IsWidth C × IsWidth M };
+    ghost CanOffer = { AreWidths C M };
 
     ghost Becomes = { OffersNext on_c };
 
@@ -73,7 +73,7 @@ impl<const C: usize, const M: usize> Offers<BeatOf<HeadC, C>> for ClientSide<C, 
 }
 
 impl<const C: usize, const M: usize> Offers<BeatOf<HeadE, C>> for ClientSide<C, M> {
-    ghost CanOffer = { IsWidth C × IsWidth M };
+    ghost CanOffer = { AreWidths C M };
 
     ghost Becomes = { OffersNext on_e };
 
@@ -89,7 +89,7 @@ impl<const C: usize, const M: usize> Offers<BeatOf<HeadE, C>> for ClientSide<C, 
 }
 
 impl<const C: usize, const M: usize> Offers<BeatOf<HeadB, M>> for ManagerSide<C, M> {
-    ghost CanOffer = { IsWidth C × IsWidth M };
+    ghost CanOffer = { AreWidths C M };
 
     ghost Becomes = { OffersNext on_b };
 
@@ -105,7 +105,7 @@ impl<const C: usize, const M: usize> Offers<BeatOf<HeadB, M>> for ManagerSide<C,
 }
 
 impl<const C: usize, const M: usize> Offers<BeatOf<HeadD, M>> for ManagerSide<C, M> {
-    ghost CanOffer = { IsWidth C × IsWidth M };
+    ghost CanOffer = { AreWidths C M };
 
     ghost Becomes = { OffersNext on_d };
 
@@ -121,7 +121,7 @@ impl<const C: usize, const M: usize> Offers<BeatOf<HeadD, M>> for ManagerSide<C,
 }
 
 impl<const C: usize, const M: usize> Offers<BeatOf<HeadA, C>> for SyncBridge<C, M> {
-    ghost CanOffer = { IsWidth C × IsWidth M };
+    ghost CanOffer = { AreWidths C M };
 
     ghost Becomes = { OffersNext on_bridge_a };
 
@@ -137,7 +137,7 @@ impl<const C: usize, const M: usize> Offers<BeatOf<HeadA, C>> for SyncBridge<C, 
 }
 
 impl<const C: usize, const M: usize> Offers<BeatOf<HeadB, M>> for SyncBridge<C, M> {
-    ghost CanOffer = { IsWidth C × IsWidth M };
+    ghost CanOffer = { AreWidths C M };
 
     ghost Becomes = { OffersNext on_bridge_b };
 
@@ -153,7 +153,7 @@ impl<const C: usize, const M: usize> Offers<BeatOf<HeadB, M>> for SyncBridge<C, 
 }
 
 impl<const C: usize, const M: usize> Offers<BeatOf<HeadC, C>> for SyncBridge<C, M> {
-    ghost CanOffer = { IsWidth C × IsWidth M };
+    ghost CanOffer = { AreWidths C M };
 
     ghost Becomes = { OffersNext on_bridge_c };
 
@@ -169,7 +169,7 @@ impl<const C: usize, const M: usize> Offers<BeatOf<HeadC, C>> for SyncBridge<C, 
 }
 
 impl<const C: usize, const M: usize> Offers<BeatOf<HeadD, M>> for SyncBridge<C, M> {
-    ghost CanOffer = { IsWidth C × IsWidth M };
+    ghost CanOffer = { AreWidths C M };
 
     ghost Becomes = { OffersNext on_bridge_d };
 
@@ -185,7 +185,7 @@ impl<const C: usize, const M: usize> Offers<BeatOf<HeadD, M>> for SyncBridge<C, 
 }
 
 impl<const C: usize, const M: usize> Offers<BeatOf<HeadE, C>> for SyncBridge<C, M> {
-    ghost CanOffer = { IsWidth C × IsWidth M };
+    ghost CanOffer = { AreWidths C M };
 
     ghost Becomes = { OffersNext on_bridge_e };
 

@@ -6,6 +6,7 @@ ghost use Rattle.tl_bridge.specs.declared.outcome.RunFault.TheVariants.{OutOfMem
 
 use crate::channel_state::Stop;
 use std::alloc::AllocError;
+use std::fmt;
 use thiserror::Error;
 use tl_msg::{Beat, ChA, ChB, ChC, ChD, ChE, SideFault, Verdict};
 use tl_ring::BuildFault;
@@ -34,7 +35,6 @@ pub struct Ending {
 
 /// Why a script was not run. `RingSize` is tested first.
 #[derive(Clone, Copy, PartialEq, Eq, Debug, Error)]
-#[error("{} {}", self.number(), self.name())]
 pub enum RunFault {
     /// 12: the rings are to hold no beat, or more than 4,096 (this project's choice).
     RingSize,
@@ -66,6 +66,13 @@ impl RunFault {
             RunFault::OutOfMemory => "OutOfMemory",
             RunFault::Stalled => "Stalled",
         }
+    }
+}
+
+// The number and the name, as in `12 RingSize`.
+impl fmt::Display for RunFault {
+    fn fmt<W: fmt::Write>(&self, f: &mut fmt::Formatter<W>) -> fmt::Result {
+        write!(f, "{} {}", self.number(), self.name())
     }
 }
 

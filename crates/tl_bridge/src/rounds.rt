@@ -5,6 +5,7 @@ ghost use Rattle.tl_settle.specs.Outcomes.{Beats, far_beats};
 ghost use Rattle.tl_sides.specs.Bridges.{Bridge, Past, StandsFor};
 ghost use Rattle.tl_bridge.specs.Arrivals.{joined, no_beats};
 ghost use Rattle.tl_bridge.specs.Scripts.{EndsIn, HasEnding, HasShortLists, near_beats};
+ghost use Rattle.tl_bridge.specs.Inner.Widths.{AreWidths};
 ghost use Rattle.tl_bridge.specs.Inner.Arriving.{beats_of};
 ghost use Rattle.tl_bridge.specs.Inner.Running.{IsAt, arriving, lengths, IsRunning, IsNew, HasRound, HasEnded, AreStopped, HasOffered, HaveRoomToCount, counted, standing_count, all_standing, all_under_way, all_stopped};
 
@@ -32,7 +33,7 @@ pub(crate) struct End {
 fn is_empty(standing: &Standing) -> bool
     ensures { IsTrue result ↔ (standing_count standing.now ≡ 0) }
 {
-    standing.staged == 0 && standing.in_ring == 0 && standing.inbox == 0
+    (standing.staged == 0) & (standing.in_ring == 0) & (standing.inbox == 0)
 }
 
 // Whether nothing is under way.
@@ -40,10 +41,10 @@ pub(crate) fn are_empty(standings: &Standings) -> bool
     ensures { IsTrue result ↔ (all_standing standings.now ≡ 0) }
 {
     is_empty(&standings.a)
-        && is_empty(&standings.b)
-        && is_empty(&standings.c)
-        && is_empty(&standings.d)
-        && is_empty(&standings.e)
+        & is_empty(&standings.b)
+        & is_empty(&standings.c)
+        & is_empty(&standings.d)
+        & is_empty(&standings.e)
 }
 
 // Each side offers the next beat of each of its channels: first the client's side, then the
@@ -53,9 +54,7 @@ fn offer_on_each<const C: usize, const M: usize>(
     script: &Script<C, M>,
     at: &mut PerChannel<usize>,
 ) -> PerChannel<Offered>
-    requires client { IsWidth C }
-    requires manager { IsWidth M }
-    requires few { HaveRoomToCount at.old }
+    requires { AreWidths C M × HaveRoomToCount at.old }
     ensures offered { (x : Past C M) → StandsFor bridge.old x →
         HasOffered (near_beats script.now) at.old x bridge.new result }
     ensures counted { at.new ≡ counted at.old result }
@@ -80,11 +79,8 @@ fn round<F: Arrivals<C, M>, const C: usize, const M: usize>(
     taken: &mut PerChannel<usize>,
     far: &mut F,
 ) -> Result<PerChannel<Offered>, AllocError>
-    requires client { IsWidth C }
-    requires manager { IsWidth M }
-    requires short { HasShortLists script.now }
-    requires running { IsRunning F.Holds (near_beats script.now) at.old taken.old far.old
-        bridge.old }
+    requires { AreWidths C M × HasShortLists script.now ×
+        IsRunning F.Holds (near_beats script.now) at.old taken.old far.old bridge.old }
     ensures round { (x : Past C M) (all : Beats M C) → StandsFor bridge.old x →
         IsAt (near_beats script.now) at.old all x → IfOk result (λ offers.
         HasRound (near_beats script.now) at.old (joined all (arriving x)) x bridge.new offers) }
@@ -109,8 +105,7 @@ fn stops_at_rest<const C: usize, const M: usize>(
     bridge: &SyncBridge<C, M>,
     offers: &PerChannel<Offered>,
 ) -> Option<PerChannel<Stop>>
-    requires client { IsWidth C }
-    requires manager { IsWidth M }
+    requires { AreWidths C M }
     ensures stops { IfSome result (λ stops. offers.now ≡ all_stopped stops) }
     ensures rests { (x : Past C M) → StandsFor bridge.now x →
         IfSome result (λ _. all_under_way x ≡ 0) }
@@ -152,12 +147,8 @@ pub(crate) fn run_rounds<F: Arrivals<C, M>, const C: usize, const M: usize>(
     far: &mut F,
     most: usize,
 ) -> Result<Ending, AllocError>
-    requires client { IsWidth C }
-    requires manager { IsWidth M }
-    requires short { HasShortLists script.now }
-    requires most { most < 2 ^ 41 }
-    requires new { IsNew bridge.old }
-    requires empty { F.Holds far.old no_beats }
+    requires { AreWidths C M × HasShortLists script.now × (most < 2 ^ 41) × IsNew bridge.old ×
+        F.Holds far.old no_beats }
     ensures ending { IfOk result (HasEnding (near_beats script.now)) }
     ensures far { OnOk result (F.Holds far.new (far_beats (near_beats script.now))) }
     ensures same { OnOk result (F.made_with far.new ≡ F.made_with far.old) }
@@ -186,8 +177,7 @@ pub(crate) fn outcome_of<const C: usize, const M: usize>(
     end: End,
     far: Taken<C, M>,
 ) -> Outcome<C, M>
-    requires client { IsWidth C }
-    requires manager { IsWidth M }
+    requires { AreWidths C M }
     ensures { (near : Beats C M) (s : Bridge C M) →
         HasEnded near end.at (beats_of far.entry) s end.stops end.rounds →
         EndsIn near result }

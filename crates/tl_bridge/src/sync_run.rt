@@ -6,6 +6,7 @@ ghost use Rattle.tl_bridge.specs.declared.outcome.RunFault.TheVariants.{RingSize
 ghost use Rattle.tl_settle.specs.Outcomes.{far_beats};
 ghost use Rattle.tl_bridge.specs.Arrivals.{no_beats};
 ghost use Rattle.tl_bridge.specs.Scripts.{HasEnding, HasShortLists, SettlesTo, near_beats};
+ghost use Rattle.tl_bridge.specs.Inner.Widths.{AreWidths};
 ghost use Rattle.tl_bridge.specs.Inner.Running.{IsNew};
 
 use crate::arrivals::Arrivals;
@@ -62,10 +63,7 @@ fn run_to_lists<const C: usize, const M: usize>(
     alloc: Global,
     script: &Script<C, M>,
 ) -> Result<Outcome<C, M>, RunFault>
-    requires client { IsWidth C }
-    requires manager { IsWidth M }
-    requires short { HasShortLists script.now }
-    requires new { IsNew bridge.old }
+    requires { AreWidths C M × IsNew bridge.old × HasShortLists script.now }
     ensures outcome { IfOk result (SettlesTo script.now) }
     ensures memory { IfErr result (λ fault. fault ≡ OutOfMemory) }
 {
@@ -118,11 +116,8 @@ fn run_ahead<F: Arrivals<C, M>, const C: usize, const M: usize>(
     script: &Script<C, M>,
     far: &mut F,
 ) -> Result<Ending, RunFault>
-    requires client { IsWidth C }
-    requires manager { IsWidth M }
-    requires short { HasShortLists script.now }
-    requires new { IsNew bridge.old }
-    requires empty { F.Holds far.old no_beats }
+    requires { AreWidths C M × HasShortLists script.now × IsNew bridge.old ×
+        F.Holds far.old no_beats }
     ensures ending { IfOk result (HasEnding (near_beats script.now)) }
     ensures far { OnOk result (F.Holds far.new (far_beats (near_beats script.now))) }
     ensures same { OnOk result (F.made_with far.new ≡ F.made_with far.old) }

@@ -1,15 +1,16 @@
 //! The far beats that the two sides of a run take.
 ghost use Rattle.std.specs.Prelude.{◌≡◌, ◌++◌, List, [], ◌∷◌, None, All, IfOk, OnOk};
 ghost use Rattle.tl_lanes.specs.Lanes.{IsWidth};
-ghost use Rattle.tl_msg.specs.Tables.{rules_a, rules_d};
+ghost use Rattle.tl_msg.specs.Tables.{rules_a, rules_b, rules_c, rules_d, rules_e};
 ghost use Rattle.tl_settle.specs.Histories.{Ask, Answer};
 ghost use Rattle.tl_settle.specs.Outcomes.{Beats, far_beats};
 ghost use Rattle.tl_sides.specs.Bridges.{Past, StandsFor};
 ghost use Rattle.tl_sides.specs.Books.{KnowsClient, KnowsManager};
 ghost use Rattle.tl_bridge.specs.Arrivals.{joined, no_beats};
 ghost use Rattle.tl_bridge.specs.Scripts.{EndsIn, HasEnding, HasShortLists, near_beats};
+ghost use Rattle.tl_bridge.specs.Inner.Widths.{AreWidths};
 ghost use Rattle.tl_bridge.specs.Inner.Running.{CanAdd, added, after_takes, inboxes, lengths};
-ghost use Rattle.tl_bridge.specs.Inner.Arriving.{beats_of, HaveRoom, HasRoomFor};
+ghost use Rattle.tl_bridge.specs.Inner.Arriving.{beats_of, HasRoom, HaveRoom, HasRoomFor};
 ghost use Rattle.tl_bridge.specs.Inner.Taking.{HasNoted, noted_none, noted_then};
 
 use crate::arrivals::Arrivals;
@@ -30,28 +31,44 @@ pub(crate) struct Taken<const C: usize, const M: usize> {
     pub e: Vec<Beat<ChE, M>>,
 }
 
-// Room for all far beats of each channel that a script can make due.
+// Room for all far beats of A, C and E that a script can make due.
+fn client_rooms<const C: usize, const M: usize>(script: &Script<C, M>) -> (usize, usize, usize)
+    requires { AreWidths C M × HasShortLists script.now }
+    ensures { HasRoom rules_a M (near_beats script.now).a result.0 ×
+        HasRoom rules_c M (near_beats script.now).c result.1 ×
+        HasRoom rules_e M (near_beats script.now).e result.2 }
+{
+    let a = far_room::<ChA, C, M>(&script.a);
+    let c = far_room::<ChC, C, M>(&script.c);
+    let e = far_room::<ChE, C, M>(&script.e);
+    (a, c, e)
+}
+
+// The same of B and D.
+fn manager_rooms<const C: usize, const M: usize>(script: &Script<C, M>) -> (usize, usize)
+    requires { AreWidths C M × HasShortLists script.now }
+    ensures { HasRoom rules_b C (near_beats script.now).b result.0 ×
+        HasRoom rules_d C (near_beats script.now).d result.1 }
+{
+    let b = far_room::<ChB, M, C>(&script.b);
+    let d = far_room::<ChD, M, C>(&script.d);
+    (b, d)
+}
+
+// Room for all far beats of each channel.
 fn far_rooms<const C: usize, const M: usize>(script: &Script<C, M>) -> PerChannel<usize>
-    requires client { IsWidth C }
-    requires manager { IsWidth M }
-    requires short { HasShortLists script.now }
+    requires { AreWidths C M × HasShortLists script.now }
     ensures { HaveRoom (near_beats script.now) result }
 {
-    PerChannel {
-        a: far_room::<ChA, C, M>(&script.a),
-        b: far_room::<ChB, M, C>(&script.b),
-        c: far_room::<ChC, C, M>(&script.c),
-        d: far_room::<ChD, M, C>(&script.d),
-        e: far_room::<ChE, C, M>(&script.e),
-    }
+    let (a, c, e) = client_rooms(script);
+    let (b, d) = manager_rooms(script);
+    PerChannel { a, b, c, d, e }
 }
 
 impl<const C: usize, const M: usize> Taken<C, M> {
     // Empty lists, with room for all far beats of a script.
     pub(crate) fn new(alloc: Global, script: &Script<C, M>) -> Result<Self, AllocError>
-        requires client { IsWidth C }
-        requires manager { IsWidth M }
-        requires short { HasShortLists script.now }
+        requires { AreWidths C M × HasShortLists script.now }
         ensures empty { IfOk result (λ far. beats_of far ≡ no_beats) }
         ensures room { IfOk result (HasRoomFor (near_beats script.now)) }
     {
@@ -68,23 +85,22 @@ impl<const C: usize, const M: usize> Taken<C, M> {
 
     // Makes room for so many beats more of each channel.
     fn reserve(&mut self, room: &PerChannel<usize>) -> Result<(), AllocError>
-        requires client { IsWidth C }
-        requires manager { IsWidth M }
+        requires { AreWidths C M }
         ensures beats { OnOk result (beats_of self.new ≡ beats_of self.old) }
         ensures room { (near : Beats C M) → HaveRoom near room.now →
             OnOk result (HasRoomFor near self.new) }
     {
-        self.a.reserve_exact(room.a)?;
-        self.b.reserve_exact(room.b)?;
-        self.c.reserve_exact(room.c)?;
-        self.d.reserve_exact(room.d)?;
-        self.e.reserve_exact(room.e)
+        let a = self.a.reserve_exact(room.a);
+        let b = self.b.reserve_exact(room.b);
+        let c = self.c.reserve_exact(room.c);
+        let d = self.d.reserve_exact(room.d);
+        let e = self.e.reserve_exact(room.e);
+        a.and(b).and(c).and(d).and(e)
     }
 
     // The outcome of a run that took these and ended so.
     pub(crate) fn into_outcome(self, ending: Ending) -> Outcome<C, M>
-        requires client { IsWidth C }
-        requires manager { IsWidth M }
+        requires { AreWidths C M }
         ensures { (near : Beats C M) → HasEnding near ending →
             beats_of self.entry ≡ far_beats near → EndsIn near result }
     {
@@ -131,11 +147,12 @@ impl<const C: usize, const M: usize> Arrivals<C, M> for Taken<C, M> {
         d: &[Beat<ChD, C>],
         e: &[Beat<ChE, M>],
     ) -> Result<(), AllocError> {
-        append(&mut self.a, a)?;
-        append(&mut self.b, b)?;
-        append(&mut self.c, c)?;
-        append(&mut self.d, d)?;
-        append(&mut self.e, e)
+        let a = append(&mut self.a, a);
+        let b = append(&mut self.b, b);
+        let c = append(&mut self.c, c);
+        let d = append(&mut self.d, d);
+        let e = append(&mut self.e, e);
+        a.and(b).and(c).and(d).and(e)
     }
 }
 
@@ -212,8 +229,7 @@ fn add_counts(counts: &mut PerChannel<usize>, more: &PerChannel<usize>)
 
 // Each side notes what stands in its inboxes, and takes it.
 fn note_and_empty<const C: usize, const M: usize>(bridge: &mut SyncBridge<C, M>)
-    requires client { IsWidth C }
-    requires manager { IsWidth M }
+    requires { AreWidths C M }
     ensures { (x : Past C M) → StandsFor bridge.old x → StandsFor bridge.new (after_takes x) }
 {
     note_all(&mut bridge.client, bridge.d.inbox());
@@ -231,9 +247,7 @@ pub(crate) fn take_from_each<F: Arrivals<C, M>, const C: usize, const M: usize>(
     far: &mut F,
     taken: &mut PerChannel<usize>,
 ) -> Result<(), AllocError>
-    requires client { IsWidth C }
-    requires manager { IsWidth M }
-    requires few { CanAdd taken.old (lengths (inboxes bridge.old)) }
+    requires { AreWidths C M × CanAdd taken.old (lengths (inboxes bridge.old)) }
     ensures taken { (x : Past C M) → StandsFor bridge.old x →
         OnOk result (StandsFor bridge.new (after_takes x)) }
     ensures far { (all : Beats M C) → F.Holds far.old all →

@@ -1,8 +1,8 @@
 //! The rounds of a run in two threads.
 ghost use Rattle.std.specs.Prelude.{◌≡◌, ◌≢◌, true, IfSome, IsNone};
-ghost use Rattle.tl_lanes.specs.Lanes.{IsWidth};
 ghost use Rattle.tl_bridge.specs.Arrivals.{no_beats};
 ghost use Rattle.tl_bridge.specs.Scripts.{HasShortLists, near_beats};
+ghost use Rattle.tl_bridge.specs.Inner.Widths.{AreWidths};
 ghost use Rattle.tl_bridge.specs.Inner.Arriving.{HasRoomFor, KeepsRoom, beats_of, taken_of};
 ghost use Rattle.tl_bridge.specs.Inner.Running.{AreStopped, HasEnded, all_standing, all_stopped};
 ghost use Rattle.tl_bridge.specs.Inner.Sides.{ClientMayPlay, ClientHasPlayed, ManagerMayPlay, ManagerHasPlayed, HasMet, HasPlayed, AreNew, bridge_of};
@@ -39,11 +39,9 @@ fn play_both<R: Threads, G: Gate + Send, H: Gate + Send, const C: usize, const M
     client_gate: &mut G,
     manager_gate: &mut H,
 ) -> (Turn, Turn)
-    requires client { IsWidth C }
-    requires manager { IsWidth M }
-    requires short { HasShortLists script.now }
-    requires client_ready { ClientMayPlay (near_beats script.now) at.now client.old }
-    requires manager_ready { ManagerMayPlay (near_beats script.now) at.now manager.old }
+    requires { AreWidths C M × HasShortLists script.now ×
+        ClientMayPlay (near_beats script.now) at.now client.old ×
+        ManagerMayPlay (near_beats script.now) at.now manager.old }
     ensures client { ClientHasPlayed (near_beats script.now) at.now client.old client.new result.0 }
     ensures manager { ManagerHasPlayed (near_beats script.now) at.now manager.old manager.new
         result.1 }
@@ -51,13 +49,13 @@ fn play_both<R: Threads, G: Gate + Send, H: Gate + Send, const C: usize, const M
     join_mut(
         rt,
         &mut || -> Turn
-            requires { IsWidth C × IsWidth M × HasShortLists script.now ×
+            requires { AreWidths C M × HasShortLists script.now ×
                 ClientMayPlay (near_beats script.now) at.now client.now }
             ensures { ClientHasPlayed (near_beats script.entry.now) at.entry.now client.entry.now
                 client.exit.now result }
         { client_turns::play(client, script, at, turns, client_gate) },
         &mut || -> Turn
-            requires { IsWidth C × IsWidth M × HasShortLists script.now ×
+            requires { AreWidths C M × HasShortLists script.now ×
                 ManagerMayPlay (near_beats script.now) at.now manager.now }
             ensures { ManagerHasPlayed (near_beats script.entry.now) at.entry.now manager.entry.now
                 manager.exit.now result }
@@ -76,12 +74,10 @@ fn round<R: Threads, G: Gate + Send, H: Gate + Send, const C: usize, const M: us
     client_gate: &mut G,
     manager_gate: &mut H,
 ) -> Played
-    requires client { IsWidth C }
-    requires manager { IsWidth M }
-    requires short { HasShortLists script.now }
-    requires room { HasRoomFor (near_beats script.now) (taken_of client.old manager.old) }
-    requires met { HasMet (near_beats script.now) at.now
-        (beats_of (taken_of client.old manager.old)) client.old.side manager.old.side }
+    requires { AreWidths C M × HasShortLists script.now ×
+        HasRoomFor (near_beats script.now) (taken_of client.old manager.old) ×
+        HasMet (near_beats script.now) at.now (beats_of (taken_of client.old manager.old))
+        client.old.side manager.old.side }
     ensures round { HasPlayed (near_beats script.now) at.now client.old.side manager.old.side result
         (beats_of (taken_of client.new manager.new)) client.new.side manager.new.side }
     ensures capacity { KeepsRoom (taken_of client.old manager.old)
@@ -149,12 +145,10 @@ pub(crate) fn play_rounds<
     client_gate: &mut G,
     manager_gate: &mut H,
 ) -> End
-    requires client { IsWidth C }
-    requires manager { IsWidth M }
-    requires short { HasShortLists script.now }
-    requires room { HasRoomFor (near_beats script.now) (taken_of client.old manager.old) }
-    requires new { AreNew client.old.side manager.old.side }
-    requires empty { beats_of (taken_of client.old manager.old) ≡ no_beats }
+    requires { AreWidths C M × HasShortLists script.now ×
+        HasRoomFor (near_beats script.now) (taken_of client.old manager.old) ×
+        AreNew client.old.side manager.old.side ×
+        (beats_of (taken_of client.old manager.old) ≡ no_beats) }
     ensures { HasEnded (near_beats script.now) result.at
         (beats_of (taken_of client.new manager.new)) (bridge_of client.new.side manager.new.side)
         result.stops result.rounds }

@@ -4,6 +4,7 @@ ghost use Rattle.tl_ring.specs.declared.pipe.TheConstants.{MAX_RING};
 ghost use Rattle.tl_lanes.specs.Lanes.{IsWidth};
 ghost use Rattle.tl_bridge.specs.declared.outcome.RunFault.TheVariants.{RingSize, OutOfMemory, Stalled};
 ghost use Rattle.tl_bridge.specs.Scripts.{HasShortLists, SettlesTo, near_beats};
+ghost use Rattle.tl_bridge.specs.Inner.Widths.{AreWidths};
 ghost use Rattle.tl_bridge.specs.Inner.Arriving.{beats_of, taken_of};
 ghost use Rattle.tl_bridge.specs.Inner.Running.{HasEnded};
 ghost use Rattle.tl_bridge.specs.Inner.Sides.{AreNew, bridge_of};
@@ -96,10 +97,7 @@ fn run_sides<R: Threads, G: Gate + Send, H: Gate + Send, const C: usize, const M
     client_gate: &mut G,
     manager_gate: &mut H,
 ) -> Result<End, RunFault>
-    requires client { IsWidth C }
-    requires manager { IsWidth M }
-    requires short { HasShortLists script.now }
-    requires new { AreNew client.old.side manager.old.side }
+    requires { AreWidths C M × HasShortLists script.now × AreNew client.old.side manager.old.side }
     ensures ended { IfOk result (λ end. HasEnded (near_beats script.now) end.at
         (beats_of (taken_of client.new manager.new)) (bridge_of client.new.side manager.new.side)
         end.stops end.rounds) }

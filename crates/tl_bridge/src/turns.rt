@@ -23,7 +23,7 @@ pub(crate) struct Turn {
 pub(crate) fn either(one: bool, other: bool) -> bool
     ensures { (result ≡ true) ↔ ((one ≡ true) ⊎ (other ≡ true)) }
 {
-    one || other
+    one | other
 }
 
 impl Turn {
@@ -37,17 +37,17 @@ impl Turn {
         ensures moved { (result.moved ≡ true) ↔ ((all_steps offers ≢ 0) ⊎ (others ≢ 0)) }
     {
         let accepted = offers.a.is_accepted()
-            || offers.b.is_accepted()
-            || offers.c.is_accepted()
-            || offers.d.is_accepted()
-            || offers.e.is_accepted();
+            | offers.b.is_accepted()
+            | offers.c.is_accepted()
+            | offers.d.is_accepted()
+            | offers.e.is_accepted();
         let mut at = *at;
         add_accepted(&mut at, &offers);
         Turn {
             at,
             offers,
             accepted,
-            moved: accepted || others != 0,
+            moved: accepted | (others != 0),
         }
     }
 

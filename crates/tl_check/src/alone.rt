@@ -10,7 +10,6 @@ use tl_msg::{Beat, Channel, SideFault, Verdict};
 pub(crate) fn settle_alone<K: Channel, const W: usize, const V: usize>(
     beats: &[Beat<K, W>],
 ) -> Verdict
-    // (one clause, since the checker states each by itself at each call)
     requires { IsWidth W × IsWidth V × (length beats.now ≤ 2 ^ 40) }
     ensures { result ≡ verdict_alone K.rules V beats.now }
 {

@@ -19,8 +19,7 @@ use tl_sides::{ClientBook, ManagerBook};
 
 // The manager's side takes so many beats of A with this head.
 fn note_asks<const M: usize>(book: &mut ManagerBook<M>, head: &HeadA, count: usize)
-    requires width { IsWidth M }
-    requires lawful { rules_a.fault head.now ≡ None }
+    requires { IsWidth M × (rules_a.fault head.now ≡ None) }
     ensures { (es : List (Event M)) (bs : List (BeatOf HeadA M)) → KnowsManager book.old es →
         length bs ≡ count → HaveHead head.now bs → KnowsManager book.new (es ++ map Ask bs) }
 {
@@ -31,8 +30,7 @@ fn note_asks<const M: usize>(book: &mut ManagerBook<M>, head: &HeadA, count: usi
 
 // The client's side takes so many beats of D with this head.
 fn note_answers<const C: usize>(book: &mut ClientBook<C>, head: &HeadD, count: usize)
-    requires width { IsWidth C }
-    requires lawful { rules_d.fault head.now ≡ None }
+    requires { IsWidth C × (rules_d.fault head.now ≡ None) }
     ensures { (es : List (Event C)) (bs : List (BeatOf HeadD C)) → KnowsClient book.old es →
         length bs ≡ count → HaveHead head.now bs → KnowsClient book.new (es ++ map Answer bs) }
 {
@@ -49,7 +47,6 @@ fn offer_request<const C: usize, const M: usize>(
     beat: &Beat<ChA, C>,
     asks: &mut Progress<ChA, C>,
 ) -> Result<(), SideFault>
-    // (one clause, since the checker states each by itself at each call)
     requires { IsWidth C × IsWidth M × (asks.old.at < 2 ^ 40) ×
         (asks.old.far ≤ WIDEST * asks.old.at) }
     ensures come { (a : List (BeatOf HeadA C)) →
@@ -89,7 +86,6 @@ fn offer_response<const C: usize, const M: usize>(
     beat: &Beat<ChD, M>,
     answers: &mut Progress<ChD, M>,
 ) -> Result<(), SideFault>
-    // (one clause, since the checker states each by itself at each call)
     requires { IsWidth C × IsWidth M × (answers.old.at < 2 ^ 40) ×
         (answers.old.far ≤ WIDEST * answers.old.at) }
     ensures come { (d : List (BeatOf HeadD M)) →
@@ -131,7 +127,6 @@ fn offer_requests<const C: usize, const M: usize>(
     beats: &[Beat<ChA, C>],
     asks: &mut Progress<ChA, C>,
 ) -> Option<SideFault>
-    // (one clause, since the checker states each by itself at each call)
     requires { IsWidth C × IsWidth M × (length beats.now ≤ 2 ^ 40) ×
         (asks.old.far ≤ WIDEST * asks.old.at) ×
         HasCome rules_a M beats.now asks.old.tracker asks.old.at asks.old.far }
@@ -162,7 +157,6 @@ fn offer_responses<const C: usize, const M: usize>(
     beats: &[Beat<ChD, M>],
     answers: &mut Progress<ChD, M>,
 ) -> Option<SideFault>
-    // (one clause, since the checker states each by itself at each call)
     requires { IsWidth C × IsWidth M × (length beats.now ≤ 2 ^ 40) ×
         (answers.old.far ≤ WIDEST * answers.old.at) ×
         HasCome rules_d C beats.now answers.old.tracker answers.old.at answers.old.far }
@@ -195,12 +189,9 @@ pub(crate) fn settle_coupled<const C: usize, const M: usize>(
     a: &[Beat<ChA, C>],
     d: &[Beat<ChD, M>],
 ) -> (Verdict, Verdict)
-    requires client { IsWidth C }
-    requires manager { IsWidth M }
-    requires short_a { length a.now ≤ 2 ^ 40 }
-    requires short_d { length d.now ≤ 2 ^ 40 }
-    requires new_client { KnowsClient {w = C} client.old [] }
-    requires new_manager { KnowsManager {w = M} manager.old [] }
+    requires { IsWidth C × IsWidth M × KnowsClient {w = C} client.old [] ×
+        KnowsManager {w = M} manager.old [] × (length a.now ≤ 2 ^ 40) ×
+        (length d.now ≤ 2 ^ 40) }
     ensures a { result.0 ≡ verdict_a a.now d.now }
     ensures d { result.1 ≡ verdict_d a.now d.now }
 {

@@ -2,6 +2,8 @@
 //! order, the far beats that each makes due are counted, and the books of both sides are kept.
 #![tactic(auto)]
 
+// A private function has one `requires`, since the checker states each clause by itself at each call.
+
 mod alone;
 mod coupled;
 mod progress;

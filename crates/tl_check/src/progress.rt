@@ -40,7 +40,6 @@ impl<K: Channel, const W: usize> Progress<K, W> {
     // Goes on by the next beat, which is accepted and stands at this place: how many far beats it
     // makes due.
     pub(crate) fn accept<const V: usize>(&mut self, place: Place<K>) -> usize
-        // (one clause, since the checker states each by itself at each call)
         requires { IsWidth W × IsWidth V × IsPlace K.rules W self.old.tracker place ×
             (self.old.at < 2 ^ 40) × (self.old.far ≤ WIDEST * self.old.at) }
         ensures at { self.new.at ≡ self.old.at + 1 }

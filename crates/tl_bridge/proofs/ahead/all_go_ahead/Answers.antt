@@ -11,64 +11,64 @@ pub deref-requires : goal.deref-requires
 deref-requires g c = λ κs. (lives-long κs.1.0, lives-long κs.1.1.0)
 
 pub go_ahead-at-requires : goal.go_ahead-at-requires
-go_ahead-at-requires g c = record { can = (c.requires.client, c.requires.manager); few = c.requires.few.a; most = c.requires.most }
+go_ahead-at-requires g c = (c.requires.0, c.requires.1.a, c.requires.2)
 
 pub go_ahead-at-requires-room-S-GoesAhead : goal.go_ahead-at-requires-room-S-GoesAhead
-go_ahead-at-requires-room-S-GoesAhead g c κs = bridge_small g.row.C g.row.M c.requires.client c.requires.manager
+go_ahead-at-requires-room-S-GoesAhead g c κs = bridge_small g.row.C g.row.M c.requires.0.client c.requires.0.manager
 
 pub go_ahead-at-requires-room-S-GoesAhead-2 : goal.go_ahead-at-requires-room-S-GoesAhead-2
-go_ahead-at-requires-room-S-GoesAhead-2 g c κs = beat_small g.row.C c.requires.client
+go_ahead-at-requires-room-S-GoesAhead-2 g c κs = beat_small g.row.C c.requires.0.client
 
 pub deref-requires-2 : goal.deref-requires-2
 deref-requires-2 g c = λ κs. (lives-long κs.1.0, lives-long κs.1.1.0)
 
 pub go_ahead-at-requires-2 : goal.go_ahead-at-requires-2
-go_ahead-at-requires-2 g c = record { can = (c.requires.client, c.requires.manager); few = c.requires.few.c; most = c.requires.most }
+go_ahead-at-requires-2 g c = (c.requires.0, c.requires.1.c, c.requires.2)
 
 pub go_ahead-at-requires-2-room-S-GoesAhead : goal.go_ahead-at-requires-2-room-S-GoesAhead
-go_ahead-at-requires-2-room-S-GoesAhead g c κs = bridge_small g.row.C g.row.M c.requires.client c.requires.manager
+go_ahead-at-requires-2-room-S-GoesAhead g c κs = bridge_small g.row.C g.row.M c.requires.0.client c.requires.0.manager
 
 pub go_ahead-at-requires-2-room-S-GoesAhead-2 : goal.go_ahead-at-requires-2-room-S-GoesAhead-2
-go_ahead-at-requires-2-room-S-GoesAhead-2 g c κs = beat_small g.row.C c.requires.client
+go_ahead-at-requires-2-room-S-GoesAhead-2 g c κs = beat_small g.row.C c.requires.0.client
 
 pub deref-requires-3 : goal.deref-requires-3
 deref-requires-3 g c = λ κs. (lives-long κs.1.0, lives-long κs.1.1.0)
 
 pub go_ahead-at-requires-3 : goal.go_ahead-at-requires-3
-go_ahead-at-requires-3 g c = record { can = (c.requires.client, c.requires.manager); few = c.requires.few.e; most = c.requires.most }
+go_ahead-at-requires-3 g c = (c.requires.0, c.requires.1.e, c.requires.2)
 
 pub go_ahead-at-requires-3-room-S-GoesAhead : goal.go_ahead-at-requires-3-room-S-GoesAhead
-go_ahead-at-requires-3-room-S-GoesAhead g c κs = bridge_small g.row.C g.row.M c.requires.client c.requires.manager
+go_ahead-at-requires-3-room-S-GoesAhead g c κs = bridge_small g.row.C g.row.M c.requires.0.client c.requires.0.manager
 
 pub go_ahead-at-requires-3-room-S-GoesAhead-2 : goal.go_ahead-at-requires-3-room-S-GoesAhead-2
-go_ahead-at-requires-3-room-S-GoesAhead-2 g c κs = beat_small g.row.C c.requires.client
+go_ahead-at-requires-3-room-S-GoesAhead-2 g c κs = beat_small g.row.C c.requires.0.client
 
 pub deref-requires-4 : goal.deref-requires-4
 deref-requires-4 g c = λ κs. (lives-long κs.1.0, lives-long κs.1.1.0)
 
 pub go_ahead-at-requires-4 : goal.go_ahead-at-requires-4
-go_ahead-at-requires-4 g c = record { can = (c.requires.client, c.requires.manager); few = c.requires.few.b; most = c.requires.most }
+go_ahead-at-requires-4 g c = (c.requires.0, c.requires.1.b, c.requires.2)
 
 pub go_ahead-at-requires-4-room-S-GoesAhead : goal.go_ahead-at-requires-4-room-S-GoesAhead
-go_ahead-at-requires-4-room-S-GoesAhead g c κs = bridge_small g.row.C g.row.M c.requires.client c.requires.manager
+go_ahead-at-requires-4-room-S-GoesAhead g c κs = bridge_small g.row.C g.row.M c.requires.0.client c.requires.0.manager
 
 pub go_ahead-at-requires-4-room-S-GoesAhead-2 : goal.go_ahead-at-requires-4-room-S-GoesAhead-2
-go_ahead-at-requires-4-room-S-GoesAhead-2 g c κs = beat_small g.row.M c.requires.manager
+go_ahead-at-requires-4-room-S-GoesAhead-2 g c κs = beat_small g.row.M c.requires.0.manager
 
 pub deref-requires-5 : goal.deref-requires-5
 deref-requires-5 g c = λ κs. (lives-long κs.1.0, lives-long κs.1.1.0)
 
 pub go_ahead-at-requires-5 : goal.go_ahead-at-requires-5
-go_ahead-at-requires-5 g c = record { can = (c.requires.client, c.requires.manager); few = c.requires.few.d; most = c.requires.most }
+go_ahead-at-requires-5 g c = (c.requires.0, c.requires.1.d, c.requires.2)
 
 pub go_ahead-at-requires-5-room-S-GoesAhead : goal.go_ahead-at-requires-5-room-S-GoesAhead
-go_ahead-at-requires-5-room-S-GoesAhead g c κs = bridge_small g.row.C g.row.M c.requires.client c.requires.manager
+go_ahead-at-requires-5-room-S-GoesAhead g c κs = bridge_small g.row.C g.row.M c.requires.0.client c.requires.0.manager
 
 pub go_ahead-at-requires-5-room-S-GoesAhead-2 : goal.go_ahead-at-requires-5-room-S-GoesAhead-2
-go_ahead-at-requires-5-room-S-GoesAhead-2 g c κs = beat_small g.row.M c.requires.manager
+go_ahead-at-requires-5-room-S-GoesAhead-2 g c κs = beat_small g.row.M c.requires.0.manager
 
 pub fetch-requires : goal.fetch-requires
-fetch-requires g c = bridge_small g.row.C g.row.M c.requires.client c.requires.manager
+fetch-requires g c = bridge_small g.row.C g.row.M c.requires.0.client c.requires.0.manager
 
 pub returns : goal.returns
 returns g c = λ far x stands i.

@@ -9,7 +9,7 @@ pub is_accepted-requires : goal.is_accepted-requires
 is_accepted-requires g c = tt
 
 pub go_on-offered-requires : goal.go_on-offered-requires
-go_on-offered-requires g c = c.requires.can
+go_on-offered-requires g c = c.requires.0
 
 pub steps-later-requires : goal.steps-later-requires
 steps-later-requires g c = tt
@@ -17,7 +17,7 @@ steps-later-requires g c = tt
 pub overflow_add-later : goal.overflow_add-later
 overflow_add-later g c =
     let one : c.steps-later.result ≤ 1 = subst (λ n. n ≤ 1) (sym c.steps-later.ensures) (one-step c.go_on-offered.result) in
-    omega (arith, one, c.beats.invariant.few, c.requires.few, c.requires.most)
+    omega (arith, one, c.beats.invariant.few, c.requires.1, c.requires.2)
 
 pub overflow_sub-left : goal.overflow_sub-left
 overflow_sub-left g c = c.beats-test.true

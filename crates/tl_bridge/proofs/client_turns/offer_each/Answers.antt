@@ -20,13 +20,13 @@ pub returns-clause-others : goal.returns-clause-others
 returns-clause-others g c = (refl, refl)
 
 pub offer_next-a-requires : goal.offer_next-a-requires
-offer_next-a-requires g c = (client_small g.row.C g.row.M c.requires.client c.requires.manager, (beat_small g.row.C c.requires.client, (c.requires.client, c.requires.manager)))
+offer_next-a-requires g c = (client_small g.row.C g.row.M c.requires.client c.requires.manager, (beat_small g.row.C c.requires.client, c.requires))
 
 pub offer_next-c-requires : goal.offer_next-c-requires
-offer_next-c-requires g c = (client_small g.row.C g.row.M c.requires.client c.requires.manager, (beat_small g.row.C c.requires.client, (c.requires.client, c.requires.manager)))
+offer_next-c-requires g c = (client_small g.row.C g.row.M c.requires.client c.requires.manager, (beat_small g.row.C c.requires.client, c.requires))
 
 pub offer_next-e-requires : goal.offer_next-e-requires
-offer_next-e-requires g c = (client_small g.row.C g.row.M c.requires.client c.requires.manager, (beat_small g.row.C c.requires.client, (c.requires.client, c.requires.manager)))
+offer_next-e-requires g c = (client_small g.row.C g.row.M c.requires.client c.requires.manager, (beat_small g.row.C c.requires.client, c.requires))
 
 pub returns-clause-offers : goal.returns-clause-offers
 returns-clause-offers g c = λ x h.

@@ -9,11 +9,11 @@ use Rattle.tl_bridge.proofs.client_turns.play.Goals as goal
 
 pub take_each-requires : goal.take_each-requires
 take_each-requires g c =
-    let ready = c.requires.ready in
-    (client_small g.row.C g.row.M c.requires.client c.requires.manager, (beat_small g.row.C c.requires.client, (beat_small g.row.C c.requires.client, (c.requires.client, (ready.room_b, ready.room_d)))))
+    let ready = c.requires.2 in
+    (client_small g.row.C g.row.M c.requires.0.client c.requires.0.manager, (beat_small g.row.C c.requires.0.client, (beat_small g.row.C c.requires.0.client, (c.requires.0.client, ready.room_b, ready.room_d))))
 
 pub turn-played-requires : goal.turn-played-requires
-turn-played-requires g c = (client_small g.row.C g.row.M c.requires.client c.requires.manager, (lit< tt, (c.requires.client, (c.requires.manager, c.requires.ready.few))))
+turn-played-requires g c = (client_small g.row.C g.row.M c.requires.0.client c.requires.0.manager, (lit< tt, (c.requires.0, c.requires.2.few)))
 
 pub returns-then-not-played : goal.returns-then-not-played
 returns-then-not-played g c =
@@ -33,9 +33,9 @@ turns-init g c = (
 
 pub turn-last-requires : goal.turn-last-requires
 turn-last-requires g c =
-    let ready = c.requires.ready in
+    let ready = c.requires.2 in
     let k = c.turns.invariant.0.is_at ready.j ready.m ready.es none_ready ready.is_at ready.due in
-    (client_small g.row.C g.row.M c.requires.client c.requires.manager, (lit< tt, (c.requires.client, (c.requires.manager, record { a = few-enough k.a_sent.most c.requires.short.few_a; b = subst (λ q. q < 2 ^ 41) (sym c.turns.invariant.2) ready.few.b; c = few-enough k.c_sent.most c.requires.short.few_c; d = subst (λ q. q < 2 ^ 41) (sym c.turns.invariant.3) ready.few.d; e = few-enough k.e_sent.most c.requires.short.few_e }))))
+    (client_small g.row.C g.row.M c.requires.0.client c.requires.0.manager, (lit< tt, (c.requires.0, record { a = few-enough k.a_sent.most c.requires.1.few_a; b = subst (λ q. q < 2 ^ 41) (sym c.turns.invariant.2) ready.few.b; c = few-enough k.c_sent.most c.requires.1.few_c; d = subst (λ q. q < 2 ^ 41) (sym c.turns.invariant.3) ready.few.d; e = few-enough k.e_sent.most c.requires.1.few_e })))
 
 pub turns-preserved : goal.turns-preserved
 turns-preserved g c = let i = c.turns.invariant in (

@@ -7,23 +7,20 @@ pub take_all-requires-room-S-Takes : goal.take_all-requires-room-S-Takes
 take_all-requires-room-S-Takes g c = λ κs. c.requires-raw.1.1.0
 
 pub take_all-requires-room-S-Takes-2 : goal.take_all-requires-room-S-Takes-2
-take_all-requires-room-S-Takes-2 g c = λ κs. beat_small g.row.C c.requires.width
+take_all-requires-room-S-Takes-2 g c = λ κs. beat_small g.row.C c.requires.0
 
 pub take_all-requires-2-room-S-Takes : goal.take_all-requires-2-room-S-Takes
 take_all-requires-2-room-S-Takes g c = λ κs. c.requires-raw.1.1.0
 
 pub take_all-requires-2-room-S-Takes-2 : goal.take_all-requires-2-room-S-Takes-2
-take_all-requires-2-room-S-Takes-2 g c = λ κs. beat_small g.row.C c.requires.width
+take_all-requires-2-room-S-Takes-2 g c = λ κs. beat_small g.row.C c.requires.0
 
 -- a take of one inbox leaves the others as they were
 pub take_all-requires : goal.take_all-requires
-take_all-requires g c = record { can = tt; room = c.requires.room_b }
+take_all-requires g c = (tt, c.requires.1)
 
 pub take_all-requires-2 : goal.take_all-requires-2
-take_all-requires-2 g c = record {
-  can = c.requires.width;
-  room = subst (λ q. vec_len c.args.far_d.now + length q ≤ vec_capacity c.args.far_d.now) (sym (d-stays c.args.side.now c.take_all.new.side c.take_all.ensures.becomes)) c.requires.room_d;
-}
+take_all-requires-2 g c = (c.requires.0, subst (λ q. vec_len c.args.far_d.now + length q ≤ vec_capacity c.args.far_d.now) (sym (d-stays c.args.side.now c.take_all.new.side c.take_all.ensures.becomes)) c.requires.2)
 
 pub returns : goal.returns
 returns g c =

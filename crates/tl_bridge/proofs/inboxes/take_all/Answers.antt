@@ -2,10 +2,10 @@ use Rattle.tl_bridge.proofs.SideTakes.{taking-begins, taking-room, taking-shorte
 use Rattle.tl_bridge.proofs.inboxes.take_all.Goals as goal
 
 pub beats-init : goal.beats-init
-beats-init g c = taking-begins g.S.Takes.inbox g.S.Takes.Becomes g.met.S.Takes.takes_none g.met.S.Takes.takes_then c.args.side.now c.args.far.now c.requires.room
+beats-init g c = taking-begins g.S.Takes.inbox g.S.Takes.Becomes g.met.S.Takes.takes_none g.met.S.Takes.takes_then c.args.side.now c.args.far.now c.requires.1
 
 pub take_next-requires : goal.take_next-requires
-take_next-requires g c = c.requires.can
+take_next-requires g c = c.requires.0
 
 pub push_reserved-requires : goal.push_reserved-requires
 push_reserved-requires g c =

@@ -17,10 +17,10 @@ pub returns-clause-others : goal.returns-clause-others
 returns-clause-others g c = (refl, refl, refl)
 
 pub offer_next-b-requires : goal.offer_next-b-requires
-offer_next-b-requires g c = (manager_small g.row.C g.row.M c.requires.client c.requires.manager, (beat_small g.row.M c.requires.manager, (c.requires.client, c.requires.manager)))
+offer_next-b-requires g c = (manager_small g.row.C g.row.M c.requires.client c.requires.manager, (beat_small g.row.M c.requires.manager, c.requires))
 
 pub offer_next-d-requires : goal.offer_next-d-requires
-offer_next-d-requires g c = (manager_small g.row.C g.row.M c.requires.client c.requires.manager, (beat_small g.row.M c.requires.manager, (c.requires.client, c.requires.manager)))
+offer_next-d-requires g c = (manager_small g.row.C g.row.M c.requires.client c.requires.manager, (beat_small g.row.M c.requires.manager, c.requires))
 
 pub returns-clause-offers : goal.returns-clause-offers
 returns-clause-offers g c = λ x h.

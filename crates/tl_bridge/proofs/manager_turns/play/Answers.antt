@@ -9,11 +9,11 @@ use Rattle.tl_bridge.proofs.manager_turns.play.Goals as goal
 
 pub take_each-requires : goal.take_each-requires
 take_each-requires g c =
-    let ready = c.requires.ready in
-    (manager_small g.row.C g.row.M c.requires.client c.requires.manager, (beat_small g.row.M c.requires.manager, (beat_small g.row.M c.requires.manager, (beat_small g.row.M c.requires.manager, (c.requires.manager, (ready.room_a, (ready.room_c, ready.room_e)))))))
+    let ready = c.requires.2 in
+    (manager_small g.row.C g.row.M c.requires.0.client c.requires.0.manager, (beat_small g.row.M c.requires.0.manager, (beat_small g.row.M c.requires.0.manager, (beat_small g.row.M c.requires.0.manager, (c.requires.0.manager, ready.room_a, ready.room_c, ready.room_e)))))
 
 pub turn-played-requires : goal.turn-played-requires
-turn-played-requires g c = (manager_small g.row.C g.row.M c.requires.client c.requires.manager, (lit< tt, (c.requires.client, (c.requires.manager, c.requires.ready.few))))
+turn-played-requires g c = (manager_small g.row.C g.row.M c.requires.0.client c.requires.0.manager, (lit< tt, (c.requires.0, c.requires.2.few)))
 
 pub returns-then-not-played : goal.returns-then-not-played
 returns-then-not-played g c =
@@ -34,9 +34,9 @@ turns-init g c = (
 
 pub turn-last-requires : goal.turn-last-requires
 turn-last-requires g c =
-    let ready = c.requires.ready in
+    let ready = c.requires.2 in
     let k = c.turns.invariant.0.is_at ready.i ready.m ready.es none_ready ready.is_at ready.due in
-    (manager_small g.row.C g.row.M c.requires.client c.requires.manager, (lit< tt, (c.requires.client, (c.requires.manager, record { a = subst (λ q. q < 2 ^ 41) (sym c.turns.invariant.2) ready.few.a; b = few-enough k.b_sent.most c.requires.short.few_b; c = subst (λ q. q < 2 ^ 41) (sym c.turns.invariant.3) ready.few.c; d = few-enough k.d_sent.most c.requires.short.few_d; e = subst (λ q. q < 2 ^ 41) (sym c.turns.invariant.4) ready.few.e }))))
+    (manager_small g.row.C g.row.M c.requires.0.client c.requires.0.manager, (lit< tt, (c.requires.0, record { a = subst (λ q. q < 2 ^ 41) (sym c.turns.invariant.2) ready.few.a; b = few-enough k.b_sent.most c.requires.1.few_b; c = subst (λ q. q < 2 ^ 41) (sym c.turns.invariant.3) ready.few.c; d = few-enough k.d_sent.most c.requires.1.few_d; e = subst (λ q. q < 2 ^ 41) (sym c.turns.invariant.4) ready.few.e })))
 
 pub turns-preserved : goal.turns-preserved
 turns-preserved g c = let i = c.turns.invariant in (

@@ -7,37 +7,31 @@ pub take_all-requires-room-S-Takes : goal.take_all-requires-room-S-Takes
 take_all-requires-room-S-Takes g c = λ κs. c.requires-raw.1.1.0
 
 pub take_all-requires-room-S-Takes-2 : goal.take_all-requires-room-S-Takes-2
-take_all-requires-room-S-Takes-2 g c = λ κs. beat_small g.row.M c.requires.width
+take_all-requires-room-S-Takes-2 g c = λ κs. beat_small g.row.M c.requires.0
 
 pub take_all-requires-2-room-S-Takes : goal.take_all-requires-2-room-S-Takes
 take_all-requires-2-room-S-Takes g c = λ κs. c.requires-raw.1.1.0
 
 pub take_all-requires-2-room-S-Takes-2 : goal.take_all-requires-2-room-S-Takes-2
-take_all-requires-2-room-S-Takes-2 g c = λ κs. beat_small g.row.M c.requires.width
+take_all-requires-2-room-S-Takes-2 g c = λ κs. beat_small g.row.M c.requires.0
 
 pub take_all-requires-3-room-S-Takes : goal.take_all-requires-3-room-S-Takes
 take_all-requires-3-room-S-Takes g c = λ κs. c.requires-raw.1.1.0
 
 pub take_all-requires-3-room-S-Takes-2 : goal.take_all-requires-3-room-S-Takes-2
-take_all-requires-3-room-S-Takes-2 g c = λ κs. beat_small g.row.M c.requires.width
+take_all-requires-3-room-S-Takes-2 g c = λ κs. beat_small g.row.M c.requires.0
 
 -- a take of one inbox leaves the others as they were
 pub take_all-requires : goal.take_all-requires
-take_all-requires g c = record { can = c.requires.width; room = c.requires.room_a }
+take_all-requires g c = (c.requires.0, c.requires.1)
 
 pub take_all-requires-2 : goal.take_all-requires-2
-take_all-requires-2 g c = record {
-  can = tt;
-  room = subst (λ q. vec_len c.args.far_c.now + length q ≤ vec_capacity c.args.far_c.now) (sym (c-stays c.args.side.now c.take_all.new.side c.take_all.ensures.becomes)) c.requires.room_c;
-}
+take_all-requires-2 g c = (tt, subst (λ q. vec_len c.args.far_c.now + length q ≤ vec_capacity c.args.far_c.now) (sym (c-stays c.args.side.now c.take_all.new.side c.take_all.ensures.becomes)) c.requires.2)
 
 pub take_all-requires-3 : goal.take_all-requires-3
 take_all-requires-3 g c =
     let stays = e-stays c.args.side.now c.take_all.new.side c.take_all.ensures.becomes c.take_all-2.new.side c.take_all-2.ensures.becomes in
-    record {
-      can = tt;
-      room = subst (λ q. vec_len c.args.far_e.now + length q ≤ vec_capacity c.args.far_e.now) (sym stays) c.requires.room_e;
-    }
+    (tt, subst (λ q. vec_len c.args.far_e.now + length q ≤ vec_capacity c.args.far_e.now) (sym stays) c.requires.3)
 
 pub returns : goal.returns
 returns g c =

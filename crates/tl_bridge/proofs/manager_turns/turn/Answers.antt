@@ -12,19 +12,19 @@ use Rattle.tl_bridge.proofs.SideSizes.{manager_small}
 use Rattle.tl_bridge.proofs.manager_turns.turn.Goals as goal
 
 pub offer_each-offers-requires : goal.offer_each-offers-requires
-offer_each-offers-requires g c = (manager_small g.row.C g.row.M c.requires.client c.requires.manager, (lit< tt, (c.requires.client, c.requires.manager)))
+offer_each-offers-requires g c = (manager_small g.row.C g.row.M c.requires.0.client c.requires.0.manager, (lit< tt, c.requires.0))
 
 pub pump-pumped-requires : goal.pump-pumped-requires
-pump-pumped-requires g c = manager_small g.row.C g.row.M c.requires.client c.requires.manager
+pump-pumped-requires g c = manager_small g.row.C g.row.M c.requires.0.client c.requires.0.manager
 
 pub fetch-fetched-requires : goal.fetch-fetched-requires
-fetch-fetched-requires g c = manager_small g.row.C g.row.M c.requires.client c.requires.manager
+fetch-fetched-requires g c = manager_small g.row.C g.row.M c.requires.0.client c.requires.0.manager
 
 pub overflow_add-pumped : goal.overflow_add-pumped
 overflow_add-pumped g c = omega (arith, c.pump-pumped.ensures.most, c.fetch-fetched.ensures.most)
 
 pub new-requires : goal.new-requires
-new-requires g c = record { few = c.requires.few }
+new-requires g c = record { few = c.requires.1 }
 
 pub returns-clause-goes : goal.returns-clause-goes
 returns-clause-goes g c =

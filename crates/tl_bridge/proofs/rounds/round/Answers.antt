@@ -10,45 +10,39 @@ use Rattle.tl_bridge.proofs.rounds.round.Goals as goal
 
 pub take_from_each-requires : goal.take_from_each-requires
 take_from_each-requires g c =
-    let r = c.requires.running in
+    let r = c.requires.2 in
     let u = r.under_way in (
-      bridge_small g.row.C g.row.M c.requires.client c.requires.manager,
+      bridge_small g.row.C g.row.M c.requires.0.client c.requires.0.manager,
       (
-        c.requires.client,
-        (
-          c.requires.manager,
-          subst (λ q. CanAdd q (lengths (inboxes c.args.bridge.now))) (sym r.counts)
-              (can-add (near_beats c.args.script.now) c.requires.client c.requires.manager c.requires.short c.args.at.now r.all c.args.bridge.now u.past u.stands u.is_at),
-        ),
+        c.requires.0,
+        subst (λ q. CanAdd q (lengths (inboxes c.args.bridge.now))) (sym r.counts)
+            (can-add (near_beats c.args.script.now) c.requires.0.client c.requires.0.manager c.requires.1 c.args.at.now r.all c.args.bridge.now u.past u.stands u.is_at),
       ),
     )
 
 pub offer_on_each-offers-requires : goal.offer_on_each-offers-requires
 offer_on_each-offers-requires g c = (
-  bridge_small g.row.C g.row.M c.requires.client c.requires.manager,
+  bridge_small g.row.C g.row.M c.requires.0.client c.requires.0.manager,
   (
     lit< tt,
     (
-      c.requires.client,
-      (
-        c.requires.manager,
-        counts-fit c.requires.client c.requires.manager (near_beats c.args.script.now) c.args.at.now c.requires.running.all c.requires.running.under_way.past c.requires.running.under_way.is_at c.requires.short,
-      ),
+      c.requires.0,
+      counts-fit c.requires.0.client c.requires.0.manager (near_beats c.args.script.now) c.args.at.now c.requires.2.all c.requires.2.under_way.past c.requires.2.under_way.is_at c.requires.1,
     ),
   ),
 )
 
 pub pump-requires : goal.pump-requires
-pump-requires g c = bridge_small g.row.C g.row.M c.requires.client c.requires.manager
+pump-requires g c = bridge_small g.row.C g.row.M c.requires.0.client c.requires.0.manager
 
 pub fetch-requires : goal.fetch-requires
-fetch-requires g c = bridge_small g.row.C g.row.M c.requires.client c.requires.manager
+fetch-requires g c = bridge_small g.row.C g.row.M c.requires.0.client c.requires.0.manager
 
 pub returns-clause-round : goal.returns-clause-round
 returns-clause-round g c = λ x all stands at.
     let h = c.offer_on_each-offers.ensures.offered (after_takes x) (c.in_ok-take_from_each.ensures.taken x stands) in
     let pumped = c.pump.ensures.moved h.past h.stands in
-    has-round c.requires.client c.requires.manager (near_beats c.args.script.now) c.args.at.now all x c.args.bridge.now c.offer_on_each-offers.new.bridge c.offer_on_each-offers.result stands at h
+    has-round c.requires.0.client c.requires.0.manager (near_beats c.args.script.now) c.args.at.now all x c.args.bridge.now c.offer_on_each-offers.new.bridge c.offer_on_each-offers.result stands at h
     (joined all (arriving x)) c.fetch.new.self refl
     (moved-stands c.offer_on_each-offers.new.bridge c.pump.new.self c.fetch.new.self h.past h.stands pumped (c.fetch.ensures.moved (after_pump c.offer_on_each-offers.new.bridge h.past) pumped))
 

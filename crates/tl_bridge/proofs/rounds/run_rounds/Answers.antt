@@ -14,9 +14,9 @@ pub rounds-init : goal.rounds-init
 rounds-init g c = record {
   running = record {
     all = no_beats;
-    holds = c.requires.empty;
+    holds = c.requires.4;
     counts = refl;
-    under_way = starts (near_beats c.args.script.now) _ no_beats c.args.bridge.now refl refl c.requires.new;
+    under_way = starts (near_beats c.args.script.now) _ no_beats c.args.bridge.now refl refl c.requires.3;
   };
   same = refl;
   few = zero-le;
@@ -24,18 +24,18 @@ rounds-init g c = record {
 
 pub round-requires : goal.round-requires
 round-requires g c = (
-  bridge_small g.row.C g.row.M c.requires.client c.requires.manager,
-  (lit< tt, (c.requires.client, (c.requires.manager, (c.requires.short, c.rounds.invariant.running)))),
+  bridge_small g.row.C g.row.M c.requires.0.client c.requires.0.manager,
+  (lit< tt, (c.requires.0, c.requires.1, c.rounds.invariant.running)),
 )
 
 pub stops_at_rest-requires : goal.stops_at_rest-requires
-stops_at_rest-requires g c = (bridge_small g.row.C g.row.M c.requires.client c.requires.manager, (c.requires.client, c.requires.manager))
+stops_at_rest-requires g c = (bridge_small g.row.C g.row.M c.requires.0.client c.requires.0.manager, c.requires.0)
 
 pub overflow_add-rounds : goal.overflow_add-rounds
 overflow_add-rounds g c =
     let most : progress_by c.rounds.at c.rounds.taken c.rounds.bridge ≤ _ =
-    running-ends (near_beats c.args.script.now) g.F.Arrivals.Holds c.rounds.at c.rounds.taken c.rounds.far c.rounds.bridge c.rounds.invariant.running c.requires.client c.requires.manager in
-    let l : c.rounds.rounds + 1 < 2 ^ 64 = counts-on _ _ _ c.rounds.invariant.few most (end-few (near_beats c.args.script.now) c.requires.client c.requires.manager c.requires.short) in
+    running-ends (near_beats c.args.script.now) g.F.Arrivals.Holds c.rounds.at c.rounds.taken c.rounds.far c.rounds.bridge c.rounds.invariant.running c.requires.0.client c.requires.0.manager in
+    let l : c.rounds.rounds + 1 < 2 ^ 64 = counts-on _ _ _ c.rounds.invariant.few most (end-few (near_beats c.args.script.now) c.requires.0.client c.requires.0.manager c.requires.1) in
     omega (arith, l)
 
 -- the run has ended after this round
@@ -52,7 +52,7 @@ last g c =
 
 pub returns-in-Some-clause-ending : goal.returns-in-Some-clause-ending
 returns-in-Some-clause-ending g c =
-    c.ending_of.ensures g.row.C g.row.M (near_beats c.args.script.now) _ c.round.new.bridge c.requires.client c.requires.manager
+    c.ending_of.ensures g.row.C g.row.M (near_beats c.args.script.now) _ c.round.new.bridge c.requires.0.client c.requires.0.manager
     (counts-all (near_beats c.args.script.now) g.F.Arrivals.Holds c.rounds.at c.rounds.taken c.rounds.far c.rounds.bridge c.rounds.invariant.running
     c.round.new.at c.round.new.taken c.round.new.far c.round.new.bridge c.in_ok-offers.offers c.in_ok-offers.ensures.counted c.in_ok-offers.ensures.round c.in_ok-offers.ensures.far
     c.in_ok-offers.ensures.taken) (last g c)
@@ -60,7 +60,7 @@ returns-in-Some-clause-ending g c =
 pub returns-in-Some-clause-far : goal.returns-in-Some-clause-far
 returns-in-Some-clause-far g c =
     subst (λ q. g.F.Arrivals.Holds c.round.new.far q)
-    (far-is c.requires.client c.requires.manager (near_beats c.args.script.now) c.round.new.at _ c.round.new.bridge c.in-Some.stops (c.rounds.rounds + 1) (last g c))
+    (far-is c.requires.0.client c.requires.0.manager (near_beats c.args.script.now) c.round.new.at _ c.round.new.bridge c.in-Some.stops (c.rounds.rounds + 1) (last g c))
     (holds-all (near_beats c.args.script.now) g.F.Arrivals.Holds c.rounds.at c.rounds.taken c.rounds.far c.rounds.bridge c.rounds.invariant.running
     c.round.new.at c.round.new.taken c.round.new.far c.round.new.bridge c.in_ok-offers.offers c.in_ok-offers.ensures.counted c.in_ok-offers.ensures.round c.in_ok-offers.ensures.far
     c.in_ok-offers.ensures.taken)
@@ -94,15 +94,13 @@ all_go_ahead-requires g c =
     let r = running-on (near_beats c.args.script.now) g.F.Arrivals.Holds c.rounds.at c.rounds.taken c.rounds.far c.rounds.bridge c.rounds.invariant.running
     c.round.new.at c.round.new.taken c.round.new.far c.round.new.bridge c.in_ok-offers.offers c.in_ok-offers.ensures.counted c.in_ok-offers.ensures.round c.in_ok-offers.ensures.far
     c.in_ok-offers.ensures.taken in (
-      bridge_small g.row.C g.row.M c.requires.client c.requires.manager,
+      bridge_small g.row.C g.row.M c.requires.0.client c.requires.0.manager,
       (
         lit< tt,
         (
-          c.requires.client,
-          (
-            c.requires.manager,
-            (counts-fit c.requires.client c.requires.manager (near_beats c.args.script.now) c.round.new.at r.all r.under_way.past r.under_way.is_at c.requires.short, c.requires.most),
-          ),
+          c.requires.0,
+          counts-fit c.requires.0.client c.requires.0.manager (near_beats c.args.script.now) c.round.new.at r.all r.under_way.past r.under_way.is_at c.requires.1,
+          c.requires.2,
         ),
       ),
     )
@@ -110,7 +108,7 @@ all_go_ahead-requires g c =
 pub rounds-smaller : goal.rounds-smaller
 rounds-smaller g c =
     nearer _ _ _ (further g c)
-    (running-ends (near_beats c.args.script.now) g.F.Arrivals.Holds c.all_go_ahead.new.at c.round.new.taken c.round.new.far c.all_go_ahead.new.bridge (ahead g c) c.requires.client c.requires.manager)
+    (running-ends (near_beats c.args.script.now) g.F.Arrivals.Holds c.all_go_ahead.new.at c.round.new.taken c.round.new.far c.all_go_ahead.new.bridge (ahead g c) c.requires.0.client c.requires.0.manager)
 
 pub rounds-preserved : goal.rounds-preserved
 rounds-preserved g c = record { running = ahead g c; same = c.in_ok-offers.ensures.same ∙ c.rounds.invariant.same; few = one-round-more _ _ _ c.rounds.invariant.few (further g c) }

@@ -4,8 +4,8 @@ use Rattle.tl_bridge.proofs.sync_run.run_ahead.Goals as goal
 
 pub run_rounds-requires : goal.run_rounds-requires
 run_rounds-requires g c = (
-  bridge_small g.row.C g.row.M c.requires.client c.requires.manager,
-  (lit< tt, (c.requires.client, (c.requires.manager, (c.requires.short, (lit< tt, (c.requires.new, c.requires.empty)))))),
+  bridge_small g.row.C g.row.M c.requires.0.client c.requires.0.manager,
+  (lit< tt, (c.requires.0, c.requires.1, lit< tt, c.requires.2, c.requires.3)),
 )
 
 pub returns-in_default : goal.returns-in_default

@@ -9,7 +9,7 @@ new-requires g c = (bridge_small g.row.C g.row.M c.requires.client c.requires.ma
 pub run_to_lists-requires : goal.run_to_lists-requires
 run_to_lists-requires g c = (
   bridge_small g.row.C g.row.M c.requires.client c.requires.manager,
-  (lit< tt, (lit< tt, (c.requires.client, (c.requires.manager, (c.requires.short, (c.args.ring, (c.in-Ok.ensures.size refl).0, c.in-Ok.ensures.new)))))),
+  (lit< tt, (lit< tt, (record { client = c.requires.client; manager = c.requires.manager }, (c.args.ring, (c.in-Ok.ensures.size refl).0, c.in-Ok.ensures.new), c.requires.short))),
 )
 
 pub returns : goal.returns

@@ -9,7 +9,7 @@ new-requires g c = (bridge_small g.row.C g.row.M c.requires.client c.requires.ma
 pub run_ahead-requires : goal.run_ahead-requires
 run_ahead-requires g c = (
   bridge_small g.row.C g.row.M c.requires.client c.requires.manager,
-  (lit< tt, (c.requires.client, (c.requires.manager, (c.requires.short, ((c.args.ring, (c.in-Ok.ensures.size refl).0, c.in-Ok.ensures.new), c.requires.empty))))),
+  (lit< tt, (record { client = c.requires.client; manager = c.requires.manager }, c.requires.short, (c.args.ring, (c.in-Ok.ensures.size refl).0, c.in-Ok.ensures.new), c.requires.empty)),
 )
 
 pub returns : goal.returns

@@ -4,33 +4,33 @@ use Rattle.tl_bridge.specs.Arrivals.{joined}
 use Rattle.tl_bridge.proofs.taken.take_from_each.Goals as goal
 
 pub inbox-a-requires : goal.inbox-a-requires
-inbox-a-requires g c = (bridge_part_small g.row.C g.row.M 0 c.requires.client c.requires.manager, beat_small g.row.M c.requires.manager)
+inbox-a-requires g c = (bridge_part_small g.row.C g.row.M 0 c.requires.0.client c.requires.0.manager, beat_small g.row.M c.requires.0.manager)
 
 pub inbox-b-requires : goal.inbox-b-requires
-inbox-b-requires g c = (bridge_part_small g.row.C g.row.M 1 c.requires.client c.requires.manager, beat_small g.row.C c.requires.client)
+inbox-b-requires g c = (bridge_part_small g.row.C g.row.M 1 c.requires.0.client c.requires.0.manager, beat_small g.row.C c.requires.0.client)
 
 pub inbox-c-requires : goal.inbox-c-requires
-inbox-c-requires g c = (bridge_part_small g.row.C g.row.M 2 c.requires.client c.requires.manager, beat_small g.row.M c.requires.manager)
+inbox-c-requires g c = (bridge_part_small g.row.C g.row.M 2 c.requires.0.client c.requires.0.manager, beat_small g.row.M c.requires.0.manager)
 
 pub inbox-d-requires : goal.inbox-d-requires
-inbox-d-requires g c = (bridge_part_small g.row.C g.row.M 3 c.requires.client c.requires.manager, beat_small g.row.C c.requires.client)
+inbox-d-requires g c = (bridge_part_small g.row.C g.row.M 3 c.requires.0.client c.requires.0.manager, beat_small g.row.C c.requires.0.client)
 
 pub inbox-e-requires : goal.inbox-e-requires
-inbox-e-requires g c = (bridge_part_small g.row.C g.row.M 4 c.requires.client c.requires.manager, beat_small g.row.M c.requires.manager)
+inbox-e-requires g c = (bridge_part_small g.row.C g.row.M 4 c.requires.0.client c.requires.0.manager, beat_small g.row.M c.requires.0.manager)
 
 pub take-requires : goal.take-requires
 take-requires g c =
-    let on_c = beat_small g.row.C c.requires.client in
-    let on_m = beat_small g.row.M c.requires.manager in
-    (on_m, (on_c, (on_m, (on_c, (on_m, (c.requires.client, c.requires.manager))))))
+    let on_c = beat_small g.row.C c.requires.0.client in
+    let on_m = beat_small g.row.M c.requires.0.manager in
+    (on_m, (on_c, (on_m, (on_c, (on_m, (c.requires.0.client, c.requires.0.manager))))))
 
 pub add_counts-requires : goal.add_counts-requires
 add_counts-requires g c =
     rw (c.inbox-a.ensures.beats, c.inbox-b.ensures.beats, c.inbox-c.ensures.beats, c.inbox-d.ensures.beats, c.inbox-e.ensures.beats)
-    (rw (← c.bridge.view_is) at c.requires.few)
+    (rw (← c.bridge.view_is) at c.requires.1)
 
 pub note_and_empty-requires : goal.note_and_empty-requires
-note_and_empty-requires g c = (bridge_small g.row.C g.row.M c.requires.client c.requires.manager, (c.requires.client, c.requires.manager))
+note_and_empty-requires g c = (bridge_small g.row.C g.row.M c.requires.0.client c.requires.0.manager, c.requires.0)
 
 pub returns-clause-taken : goal.returns-clause-taken
 returns-clause-taken g c = c.note_and_empty.ensures

@@ -11,7 +11,7 @@ use Rattle.tl_bridge.proofs.thread_rounds.play_rounds.Given.{Over}
 use Rattle.tl_bridge.proofs.thread_rounds.play_rounds.Goals as goal
 
 pub meet_sides-requires : goal.meet_sides-requires
-meet_sides-requires g c = (client_small g.row.C g.row.M c.requires.client c.requires.manager, (manager_small g.row.C g.row.M c.requires.client c.requires.manager, c.requires.new.sides))
+meet_sides-requires g c = (client_small g.row.C g.row.M c.requires.0.client c.requires.0.manager, (manager_small g.row.C g.row.M c.requires.0.client c.requires.0.manager, c.requires.3.sides))
 
 pub rounds-init : goal.rounds-init
 rounds-init g c = record {
@@ -28,20 +28,20 @@ rounds-init g c = record {
         in_d = c.meet_sides.ensures.standing_d;
         in_e = c.meet_sides.ensures.standing_e;
       })
-      (near_beats c.args.script.now) _ (beats_of (taken_of c.args.client.now c.args.manager.now)) refl c.requires.empty c.requires.new
-      (c.meet_sides.ensures.meets _ _ c.requires.new.client c.requires.new.manager);
-  room = c.requires.room;
+      (near_beats c.args.script.now) _ (beats_of (taken_of c.args.client.now c.args.manager.now)) refl c.requires.4 c.requires.3
+      (c.meet_sides.ensures.meets _ _ c.requires.3.client c.requires.3.manager);
+  room = c.requires.2;
   few = zero-le;
 }
 
 pub round-played-requires-after_bounds : goal.round-played-requires-after_bounds
-round-played-requires-after_bounds g c = λ κs bounds. (client_run_small g.row.C g.row.M c.requires.client c.requires.manager, (manager_run_small g.row.C g.row.M c.requires.client c.requires.manager, (lit< tt, (c.requires.client, (c.requires.manager, (c.requires.short, (c.rounds.invariant.room, c.rounds.invariant.met)))))))
+round-played-requires-after_bounds g c = λ κs bounds. (client_run_small g.row.C g.row.M c.requires.0.client c.requires.0.manager, (manager_run_small g.row.C g.row.M c.requires.0.client c.requires.0.manager, (lit< tt, (c.requires.0, c.requires.1, c.rounds.invariant.room, c.rounds.invariant.met))))
 
 pub overflow_add-rounds : goal.overflow_add-rounds
 overflow_add-rounds g c =
     let i = c.rounds.invariant in
-    let l : c.rounds.rounds + 1 < 2 ^ 64 = counts-on _ _ _ i.few (met-most (near_beats c.args.script.now) c.rounds.at (beats_of (taken_of c.rounds.client c.rounds.manager)) c.rounds.client.side c.rounds.manager.side i.met c.requires.client c.requires.manager)
-    (end-few (near_beats c.args.script.now) c.requires.client c.requires.manager c.requires.short) in
+    let l : c.rounds.rounds + 1 < 2 ^ 64 = counts-on _ _ _ i.few (met-most (near_beats c.args.script.now) c.rounds.at (beats_of (taken_of c.rounds.client c.rounds.manager)) c.rounds.client.side c.rounds.manager.side i.met c.requires.0.client c.requires.0.manager)
+    (end-few (near_beats c.args.script.now) c.requires.0.client c.requires.0.manager c.requires.1) in
     omega (arith, l)
 
 pub returns-in-Some : goal.returns-in-Some
@@ -61,7 +61,7 @@ pub rounds-smaller : goal.rounds-smaller
 rounds-smaller g c =
     let h = c.round-played.ensures.round in
     nearer _ _ _ (onward g c)
-    (met-most (near_beats c.args.script.now) c.round-played.result.at (beats_of (taken_of c.round-played.new.client c.round-played.new.manager)) c.round-played.new.client.side c.round-played.new.manager.side h.met c.requires.client c.requires.manager)
+    (met-most (near_beats c.args.script.now) c.round-played.result.at (beats_of (taken_of c.round-played.new.client c.round-played.new.manager)) c.round-played.new.client.side c.round-played.new.manager.side h.met c.requires.0.client c.requires.0.manager)
 
 pub rounds-preserved : goal.rounds-preserved
 rounds-preserved g c =

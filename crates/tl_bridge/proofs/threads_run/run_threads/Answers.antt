@@ -11,13 +11,13 @@ bridge-requires g c = (client_small g.row.C g.row.M c.requires.client c.requires
 
 pub run_sides-ended-requires-after_bounds : goal.run_sides-ended-requires-after_bounds
 run_sides-ended-requires-after_bounds g c = λ κs bounds.
-    (client_run_small g.row.C g.row.M c.requires.client c.requires.manager, (manager_run_small g.row.C g.row.M c.requires.client c.requires.manager, (lit< tt, (c.requires.client, (c.requires.manager, (c.requires.short, record { sides = c.in-Ok.ensures.pair; space = c.args.ring; some = (c.in-Ok.ensures.size refl).0; client = c.in-Ok.ensures.client; manager = c.in-Ok.ensures.manager }))))))
+    (client_run_small g.row.C g.row.M c.requires.client c.requires.manager, (manager_run_small g.row.C g.row.M c.requires.client c.requires.manager, (lit< tt, (record { client = c.requires.client; manager = c.requires.manager }, c.requires.short, record { sides = c.in-Ok.ensures.pair; space = c.args.ring; some = (c.in-Ok.ensures.size refl).0; client = c.in-Ok.ensures.client; manager = c.in-Ok.ensures.manager }))))
 
 pub into_lists-b-requires : goal.into_lists-b-requires
-into_lists-b-requires g c = (client_run_small g.row.C g.row.M c.requires.client c.requires.manager, (beat_small g.row.C c.requires.client, (beat_small g.row.C c.requires.client, (c.requires.client, c.requires.manager))))
+into_lists-b-requires g c = (client_run_small g.row.C g.row.M c.requires.client c.requires.manager, (beat_small g.row.C c.requires.client, (beat_small g.row.C c.requires.client, record { client = c.requires.client; manager = c.requires.manager })))
 
 pub into_lists-a-requires : goal.into_lists-a-requires
-into_lists-a-requires g c = (manager_run_small g.row.C g.row.M c.requires.client c.requires.manager, (beat_small g.row.M c.requires.manager, (beat_small g.row.M c.requires.manager, (beat_small g.row.M c.requires.manager, (c.requires.client, c.requires.manager)))))
+into_lists-a-requires g c = (manager_run_small g.row.C g.row.M c.requires.client c.requires.manager, (beat_small g.row.M c.requires.manager, (beat_small g.row.M c.requires.manager, (beat_small g.row.M c.requires.manager, record { client = c.requires.client; manager = c.requires.manager }))))
 
 pub returns-clause-outcome : goal.returns-clause-outcome
 returns-clause-outcome g c =

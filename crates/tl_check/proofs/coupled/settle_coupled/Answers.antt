@@ -13,7 +13,7 @@ passes-init g c =
       few_asks = omega arith;
       few_answers = omega arith;
       both = starts-at c.args.a.now c.args.d.now c.new-asks.result.at c.new-answers.result.at c.args.client.now c.args.manager.now
-          c.new-asks.ensures.begins c.new-answers.ensures.begins c.requires.new_client c.requires.new_manager;
+          c.new-asks.ensures.begins c.new-answers.ensures.begins c.requires.2 c.requires.3;
     }
 
 pub returns-then-answers-before : goal.returns-then-answers-before
@@ -24,7 +24,7 @@ returns-then-answers-before g c =
     let between = asked.ensures.accepted c.args.d.now c.passes.answers.at c.passes.invariant.both in
     let both = answered.ensures.accepted c.args.a.now asked.new.asks.at between in
     let end =
-    both-end c.requires.client c.requires.manager c.args.a.now c.args.d.now asked.new.asks.at c.passes.answers.at answered.new.answers.at still
+    both-end c.requires.0 c.requires.1 c.args.a.now c.args.d.now asked.new.asks.at c.passes.answers.at answered.new.answers.at still
     answered.new.client answered.new.manager both asked.result answered.result
     (asked.ensures.stopped c.args.d.now c.passes.answers.at c.passes.invariant.both) asked.ensures.all
     (answered.ensures.stopped c.args.a.now asked.new.asks.at between) answered.ensures.all
@@ -41,8 +41,8 @@ offer_requests-a_stops-requires g c =
       (
         lit< tt,
         (
-          beat_small g.row.C c.requires.client,
-          (lit< tt, (c.requires.client, c.requires.manager, c.requires.short_a, here.few_asks, here.asks_come)),
+          beat_small g.row.C c.requires.0,
+          (lit< tt, (c.requires.0, c.requires.1, c.requires.4, here.few_asks, here.asks_come)),
         ),
       ),
     )
@@ -54,8 +54,8 @@ offer_responses-d_stops-requires g c =
       (
         lit< tt,
         (
-          beat_small g.row.M c.requires.manager,
-          (lit< tt, (c.requires.client, c.requires.manager, c.requires.short_d, here.few_answers, here.answers_come)),
+          beat_small g.row.M c.requires.1,
+          (lit< tt, (c.requires.0, c.requires.1, c.requires.5, here.few_answers, here.answers_come)),
         ),
       ),
     )
@@ -72,3 +72,6 @@ passes-preserved g c =
       few_answers = answered.ensures.few_far;
       both = answered.ensures.accepted c.args.a.now asked.new.asks.at between;
     }
+
+pub passes-smaller : goal.passes-smaller
+passes-smaller g c = let answered = c.offer_responses-d_stops in omega (arith, answered.ensures.on, answered.ensures.come.most, c.if-answers-before.false)

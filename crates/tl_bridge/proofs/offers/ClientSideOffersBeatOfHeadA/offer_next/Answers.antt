@@ -8,13 +8,13 @@ use Rattle.tl_bridge.proofs.OfferSteps.{read_some, read_none}
 use Rattle.tl_bridge.proofs.offers.ClientSideOffersBeatOfHeadA.offer_next.Goals as goal
 
 pub close_a-requires : goal.close_a-requires
-close_a-requires g c = client_small g.row.C g.row.M c.requires.0 c.requires.1
+close_a-requires g c = client_small g.row.C g.row.M c.requires.client c.requires.manager
 
 pub ready_a-requires : goal.ready_a-requires
-ready_a-requires g c = client_small g.row.C g.row.M c.requires.0 c.requires.1
+ready_a-requires g c = client_small g.row.C g.row.M c.requires.client c.requires.manager
 
 pub offer_a-requires : goal.offer_a-requires
-offer_a-requires g c = (client_small g.row.C g.row.M c.requires.0 c.requires.1, (beat_small g.row.C c.requires.0, (c.requires.0, (c.requires.1, c.if-not-ready_a.ensures.0 refl))))
+offer_a-requires g c = (client_small g.row.C g.row.M c.requires.client c.requires.manager, (beat_small g.row.C c.requires.client, (c.requires.client, (c.requires.manager, c.if-not-ready_a.ensures.0 refl))))
 
 pub returns-in_default : goal.returns-in_default
 returns-in_default g c =

@@ -8,13 +8,13 @@ use Rattle.tl_bridge.proofs.OfferSteps.{read_some, read_none}
 use Rattle.tl_bridge.proofs.offers.ClientSideOffersBeatOfHeadC.offer_next.Goals as goal
 
 pub close_c-requires : goal.close_c-requires
-close_c-requires g c = client_small g.row.C g.row.M c.requires.0 c.requires.1
+close_c-requires g c = client_small g.row.C g.row.M c.requires.client c.requires.manager
 
 pub ready_c-requires : goal.ready_c-requires
-ready_c-requires g c = client_small g.row.C g.row.M c.requires.0 c.requires.1
+ready_c-requires g c = client_small g.row.C g.row.M c.requires.client c.requires.manager
 
 pub offer_c-requires : goal.offer_c-requires
-offer_c-requires g c = (client_small g.row.C g.row.M c.requires.0 c.requires.1, (beat_small g.row.C c.requires.0, (c.requires.0, (c.requires.1, c.if-not-ready_c.ensures.0 refl))))
+offer_c-requires g c = (client_small g.row.C g.row.M c.requires.client c.requires.manager, (beat_small g.row.C c.requires.client, (c.requires.client, (c.requires.manager, c.if-not-ready_c.ensures.0 refl))))
 
 pub returns-in_default : goal.returns-in_default
 returns-in_default g c =

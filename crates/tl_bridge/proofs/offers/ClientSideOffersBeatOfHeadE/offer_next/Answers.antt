@@ -8,13 +8,13 @@ use Rattle.tl_bridge.proofs.OfferSteps.{read_some, read_none}
 use Rattle.tl_bridge.proofs.offers.ClientSideOffersBeatOfHeadE.offer_next.Goals as goal
 
 pub close_e-requires : goal.close_e-requires
-close_e-requires g c = client_small g.row.C g.row.M c.requires.0 c.requires.1
+close_e-requires g c = client_small g.row.C g.row.M c.requires.client c.requires.manager
 
 pub ready_e-requires : goal.ready_e-requires
-ready_e-requires g c = client_small g.row.C g.row.M c.requires.0 c.requires.1
+ready_e-requires g c = client_small g.row.C g.row.M c.requires.client c.requires.manager
 
 pub offer_e-requires : goal.offer_e-requires
-offer_e-requires g c = (client_small g.row.C g.row.M c.requires.0 c.requires.1, (beat_small g.row.C c.requires.0, (c.requires.0, (c.requires.1, c.if-not-ready_e.ensures.0 refl))))
+offer_e-requires g c = (client_small g.row.C g.row.M c.requires.client c.requires.manager, (beat_small g.row.C c.requires.client, (c.requires.client, (c.requires.manager, c.if-not-ready_e.ensures.0 refl))))
 
 pub returns-in_default : goal.returns-in_default
 returns-in_default g c =

@@ -8,13 +8,13 @@ use Rattle.tl_bridge.proofs.OfferSteps.{read_some, read_none}
 use Rattle.tl_bridge.proofs.offers.ManagerSideOffersBeatOfHeadB.offer_next.Goals as goal
 
 pub close_b-requires : goal.close_b-requires
-close_b-requires g c = manager_small g.row.C g.row.M c.requires.0 c.requires.1
+close_b-requires g c = manager_small g.row.C g.row.M c.requires.client c.requires.manager
 
 pub ready_b-requires : goal.ready_b-requires
-ready_b-requires g c = manager_small g.row.C g.row.M c.requires.0 c.requires.1
+ready_b-requires g c = manager_small g.row.C g.row.M c.requires.client c.requires.manager
 
 pub offer_b-requires : goal.offer_b-requires
-offer_b-requires g c = (manager_small g.row.C g.row.M c.requires.0 c.requires.1, (beat_small g.row.M c.requires.1, (c.requires.1, (c.requires.0, c.if-not-ready_b.ensures.0 refl))))
+offer_b-requires g c = (manager_small g.row.C g.row.M c.requires.client c.requires.manager, (beat_small g.row.M c.requires.manager, (c.requires.manager, (c.requires.client, c.if-not-ready_b.ensures.0 refl))))
 
 pub returns-in_default : goal.returns-in_default
 returns-in_default g c =

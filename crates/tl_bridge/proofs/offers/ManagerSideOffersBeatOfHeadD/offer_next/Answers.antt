@@ -8,13 +8,13 @@ use Rattle.tl_bridge.proofs.OfferSteps.{read_some, read_none}
 use Rattle.tl_bridge.proofs.offers.ManagerSideOffersBeatOfHeadD.offer_next.Goals as goal
 
 pub close_d-requires : goal.close_d-requires
-close_d-requires g c = manager_small g.row.C g.row.M c.requires.0 c.requires.1
+close_d-requires g c = manager_small g.row.C g.row.M c.requires.client c.requires.manager
 
 pub ready_d-requires : goal.ready_d-requires
-ready_d-requires g c = manager_small g.row.C g.row.M c.requires.0 c.requires.1
+ready_d-requires g c = manager_small g.row.C g.row.M c.requires.client c.requires.manager
 
 pub offer_d-requires : goal.offer_d-requires
-offer_d-requires g c = (manager_small g.row.C g.row.M c.requires.0 c.requires.1, (beat_small g.row.M c.requires.1, (c.requires.1, (c.requires.0, c.if-not-ready_d.ensures.0 refl))))
+offer_d-requires g c = (manager_small g.row.C g.row.M c.requires.client c.requires.manager, (beat_small g.row.M c.requires.manager, (c.requires.manager, (c.requires.client, c.if-not-ready_d.ensures.0 refl))))
 
 pub returns-in_default : goal.returns-in_default
 returns-in_default g c =

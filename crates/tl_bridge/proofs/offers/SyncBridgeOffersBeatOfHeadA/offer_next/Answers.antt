@@ -8,14 +8,14 @@ use Rattle.tl_bridge.proofs.OfferSteps.{read_some, read_none}
 use Rattle.tl_bridge.proofs.offers.SyncBridgeOffersBeatOfHeadA.offer_next.Goals as goal
 
 pub close_a-requires : goal.close_a-requires
-close_a-requires g c = bridge_small g.row.C g.row.M c.requires.0 c.requires.1
+close_a-requires g c = bridge_small g.row.C g.row.M c.requires.client c.requires.manager
 
 pub ready_a-requires : goal.ready_a-requires
-ready_a-requires g c = bridge_small g.row.C g.row.M c.requires.0 c.requires.1
+ready_a-requires g c = bridge_small g.row.C g.row.M c.requires.client c.requires.manager
 
 pub offer_request-requires : goal.offer_request-requires
 offer_request-requires g c =
-    (lit< tt, (bridge_part_small g.row.C g.row.M 0 c.requires.0 c.requires.1, (beat_small g.row.C c.requires.0, (c.requires.0, (c.requires.1, rw (← c.self.view_is) at (c.if-not-ready_a.ensures.0 refl))))))
+    (lit< tt, (bridge_part_small g.row.C g.row.M 0 c.requires.client c.requires.manager, (beat_small g.row.C c.requires.client, (c.requires.client, (c.requires.manager, rw (← c.self.view_is) at (c.if-not-ready_a.ensures.0 refl))))))
 
 pub returns-in_default : goal.returns-in_default
 returns-in_default g c =

@@ -10,14 +10,14 @@ use Rattle.tl_bridge.proofs.OfferSteps.{read_some, read_none}
 use Rattle.tl_bridge.proofs.offers.SyncBridgeOffersBeatOfHeadB.offer_next.Goals as goal
 
 pub close_b-requires : goal.close_b-requires
-close_b-requires g c = bridge_small g.row.C g.row.M c.requires.0 c.requires.1
+close_b-requires g c = bridge_small g.row.C g.row.M c.requires.client c.requires.manager
 
 pub ready_b-requires : goal.ready_b-requires
-ready_b-requires g c = bridge_small g.row.C g.row.M c.requires.0 c.requires.1
+ready_b-requires g c = bridge_small g.row.C g.row.M c.requires.client c.requires.manager
 
 pub offer_alone-requires : goal.offer_alone-requires
 offer_alone-requires g c =
-    (bridge_part_small g.row.C g.row.M 1 c.requires.0 c.requires.1, (beat_small g.row.M c.requires.1, (c.requires.1, (c.requires.0, rw (← c.self.view_is) at (c.if-not-ready_b.ensures.0 refl)))))
+    (bridge_part_small g.row.C g.row.M 1 c.requires.client c.requires.manager, (beat_small g.row.M c.requires.manager, (c.requires.manager, (c.requires.client, rw (← c.self.view_is) at (c.if-not-ready_b.ensures.0 refl)))))
 
 pub returns-in_default : goal.returns-in_default
 returns-in_default g c =

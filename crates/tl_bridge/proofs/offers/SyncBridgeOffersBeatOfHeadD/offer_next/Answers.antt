@@ -8,14 +8,14 @@ use Rattle.tl_bridge.proofs.OfferSteps.{read_some, read_none}
 use Rattle.tl_bridge.proofs.offers.SyncBridgeOffersBeatOfHeadD.offer_next.Goals as goal
 
 pub close_d-requires : goal.close_d-requires
-close_d-requires g c = bridge_small g.row.C g.row.M c.requires.0 c.requires.1
+close_d-requires g c = bridge_small g.row.C g.row.M c.requires.client c.requires.manager
 
 pub ready_d-requires : goal.ready_d-requires
-ready_d-requires g c = bridge_small g.row.C g.row.M c.requires.0 c.requires.1
+ready_d-requires g c = bridge_small g.row.C g.row.M c.requires.client c.requires.manager
 
 pub offer_response-requires : goal.offer_response-requires
 offer_response-requires g c =
-    (lit< tt, (bridge_part_small g.row.C g.row.M 3 c.requires.0 c.requires.1, (beat_small g.row.M c.requires.1, (c.requires.1, (c.requires.0, rw (← c.self.view_is) at (c.if-not-ready_d.ensures.0 refl))))))
+    (lit< tt, (bridge_part_small g.row.C g.row.M 3 c.requires.client c.requires.manager, (beat_small g.row.M c.requires.manager, (c.requires.manager, (c.requires.client, rw (← c.self.view_is) at (c.if-not-ready_d.ensures.0 refl))))))
 
 pub returns-in_default : goal.returns-in_default
 returns-in_default g c =

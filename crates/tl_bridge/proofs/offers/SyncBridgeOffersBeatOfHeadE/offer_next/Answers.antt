@@ -10,14 +10,14 @@ use Rattle.tl_bridge.proofs.OfferSteps.{read_some, read_none}
 use Rattle.tl_bridge.proofs.offers.SyncBridgeOffersBeatOfHeadE.offer_next.Goals as goal
 
 pub close_e-requires : goal.close_e-requires
-close_e-requires g c = bridge_small g.row.C g.row.M c.requires.0 c.requires.1
+close_e-requires g c = bridge_small g.row.C g.row.M c.requires.client c.requires.manager
 
 pub ready_e-requires : goal.ready_e-requires
-ready_e-requires g c = bridge_small g.row.C g.row.M c.requires.0 c.requires.1
+ready_e-requires g c = bridge_small g.row.C g.row.M c.requires.client c.requires.manager
 
 pub offer_alone-requires : goal.offer_alone-requires
 offer_alone-requires g c =
-    (bridge_part_small g.row.C g.row.M 4 c.requires.0 c.requires.1, (beat_small g.row.C c.requires.0, (c.requires.0, (c.requires.1, rw (← c.self.view_is) at (c.if-not-ready_e.ensures.0 refl)))))
+    (bridge_part_small g.row.C g.row.M 4 c.requires.client c.requires.manager, (beat_small g.row.C c.requires.client, (c.requires.client, (c.requires.manager, rw (← c.self.view_is) at (c.if-not-ready_e.ensures.0 refl)))))
 
 pub returns-in_default : goal.returns-in_default
 returns-in_default g c =
