@@ -8,7 +8,7 @@ use std::alloc::Global;
 use std::marker::Model;
 use std::mem::replace;
 use std::ptr::null_mut;
-use tl_c_beats::Parts;
+use tl_c_beats::{Live, Parts};
 
 /// The right to a boxed bridge, or to nothing.
 #[repr(C)]
@@ -61,36 +61,19 @@ impl Owned {
 #[derive(Drop)]
 pub struct Handle {
     pub owned: Owned,
-    live: bool,
-    ghost tied: { (live ≡ true) ↔ (owned.held ≢ None) },
+    live: Live,
+    ghost tied: { (live.is ≡ true) ↔ (owned.held ≢ None) },
 }
 
 impl Handle {
-    /// A handle that holds no bridge.
-    pub fn nothing(alloc: Global) -> Handle
-        ensures { result.owned.held ≡ None }
-    {
-        Handle {
-            owned: Owned::nothing(alloc),
-            live: false,
-        }
-    }
-
-    /// A handle that holds this bridge.
-    pub fn of(held: Box<Held>) -> Handle
-        ensures { result.owned.held ≡ Some held.value }
-    {
-        Handle {
-            owned: Owned::of_parts(Parts::of(held)),
-            live: true,
-        }
-    }
-
     /// Puts a bridge into the handle.
     pub fn put(&mut self, held: Box<Held>)
         ensures { self.new.owned.held ≡ Some held.value }
     {
-        *self = Handle::of(held);
+        *self = Handle {
+            owned: Owned::of_parts(Parts::of(held)),
+            live: Live::set(),
+        };
     }
 
     /// Takes the bridge out of the handle, which holds none then.
@@ -99,10 +82,14 @@ impl Handle {
         ensures none { result ≡ None → self.old.owned.held ≡ None }
         ensures after { self.new.owned.held ≡ None }
     {
-        if !self.live {
+        if !self.live.is {
             return None;
         }
-        let Handle { owned, live: _ } = replace(self, Handle::nothing(alloc));
+        let empty = Handle {
+            owned: Owned::nothing(alloc),
+            live: Live::unset(),
+        };
+        let Handle { owned, live: _ } = replace(self, empty);
         Some(owned.into_parts().into_box())
     }
 }

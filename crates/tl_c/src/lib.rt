@@ -24,7 +24,7 @@ use crate::handle::Handle;
 use crate::held::Held;
 use crate::widths::{CLIENT, MANAGER};
 use std::alloc::Global;
-use tl_c_beats::{ChannelCounts, OUT_OF_MEMORY, are_idle, channel_counts, on_held};
+use tl_c_beats::{ChannelCounts, are_idle, boxed, channel_counts, on_held};
 use tl_sides::SyncBridge;
 
 /// Makes a bridge with five rings of `ring` beats and gives it to the handle. A bridge that the
@@ -44,12 +44,12 @@ pub extern "C" fn tl_open(alloc: Global, handle: &mut Handle, ring: usize) -> u8
         Ok(bridge) => bridge,
         Err(fault) => return fault.number(),
     };
-    match Box::new(alloc, Held { bridge }) {
+    match boxed(alloc, Held { bridge }) {
         Ok(held) => {
-            *handle = Handle::of(held);
+            handle.put(held);
             0
         }
-        Err(_) => OUT_OF_MEMORY,
+        Err(fault) => fault,
     }
 }
 
@@ -95,8 +95,8 @@ pub extern "C" fn tl_standings(
         (result ≡ true) × (counts.new ≡ channel_counts x) }
     ensures same { handle.new.owned.held ≡ handle.old.owned.held }
 {
-    let standing = on_held!(handle, alloc, false, |held| held.bridge.standings());
-    *counts = channel_counts(standing.a, standing.b, standing.c, standing.d, standing.e);
+    let standings = on_held!(handle, alloc, false, |held| held.bridge.standings());
+    *counts = channel_counts(standings);
     true
 }
 
@@ -109,6 +109,5 @@ pub extern "C" fn tl_drained(alloc: Global, handle: &mut Handle) -> bool
         (result ≡ true) ↔ IsDrained x }
     ensures same { handle.new.owned.held ≡ handle.old.owned.held }
 {
-    let standing = on_held!(handle, alloc, false, |held| held.bridge.standings());
-    are_idle(standing.a, standing.b, standing.c, standing.d, standing.e)
+    are_idle(on_held!(handle, alloc, false, |held| held.bridge.standings()))
 }

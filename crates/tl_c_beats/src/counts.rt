@@ -1,8 +1,9 @@
 //! How many far beats wait, as C is told.
 ghost use Rattle.std.specs.Prelude.{◌≡◌};
-ghost use Rattle.tl_c_beats.specs.Counts.{beat_counts, is_idle, are_idle};
+ghost use Rattle.tl_c_beats.specs.Counts.{beat_counts, channel_counts, is_idle, are_idle};
 
 use tl_ring::Standing;
+use tl_sides::Standings;
 
 /// How many far beats of one channel wait at each place between its two ends.
 #[repr(C)]
@@ -28,27 +29,15 @@ pub struct ChannelCounts {
 }
 
 /// The counts of all channels, by how their beats stand.
-pub fn channel_counts(
-    a: Standing,
-    b: Standing,
-    c: Standing,
-    d: Standing,
-    e: Standing,
-) -> ChannelCounts
-    ensures { result ≡ record {
-      a = beat_counts a;
-      b = beat_counts b;
-      c = beat_counts c;
-      d = beat_counts d;
-      e = beat_counts e;
-    } }
+pub fn channel_counts(standings: Standings) -> ChannelCounts
+    ensures { result ≡ channel_counts standings }
 {
     ChannelCounts {
-        a: beat_counts(a),
-        b: beat_counts(b),
-        c: beat_counts(c),
-        d: beat_counts(d),
-        e: beat_counts(e),
+        a: beat_counts(standings.a),
+        b: beat_counts(standings.b),
+        c: beat_counts(standings.c),
+        d: beat_counts(standings.d),
+        e: beat_counts(standings.e),
     }
 }
 
@@ -63,10 +52,14 @@ fn beat_counts(standing: Standing) -> BeatCounts
 }
 
 /// Whether no far beat of any channel waits, by how their beats stand.
-pub fn are_idle(a: Standing, b: Standing, c: Standing, d: Standing, e: Standing) -> bool
-    ensures { result ≡ are_idle a b c d e }
+pub fn are_idle(standings: Standings) -> bool
+    ensures { result ≡ are_idle standings }
 {
-    is_idle(a) & is_idle(b) & is_idle(c) & is_idle(d) & is_idle(e)
+    is_idle(standings.a)
+        & is_idle(standings.b)
+        & is_idle(standings.c)
+        & is_idle(standings.d)
+        & is_idle(standings.e)
 }
 
 fn is_idle(standing: Standing) -> bool

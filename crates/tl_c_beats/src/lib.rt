@@ -1,5 +1,5 @@
 //! What the libraries for C have in common: a beat as C passes it, how many wait, what calls
-//! answer, and a box taken apart.
+//! answer, and what a handle is made of.
 #![tactic(auto)]
 
 mod answers;
@@ -21,5 +21,5 @@ pub use fields::{
     fields_d, fields_e,
 };
 pub use masks::{high_word, low_word, whole_mask};
-pub use parts::Parts;
+pub use parts::{Live, Parts, boxed};
 pub use tells::{tell_a, tell_b, tell_c, tell_d, tell_e};

@@ -1,8 +1,11 @@
-//! A box taken apart: its pointer and its allocator.
-ghost use Rattle.std.specs.Prelude.{◌≡◌};
+//! What a handle is made of: a box made, and taken apart into its pointer and its allocator; and
+//! whether there is one.
+ghost use Rattle.std.specs.Prelude.{◌≡◌, true, false, IfOk, IfErr};
 ghost use Rattle.std.specs.Box.Ownership.{box_owns};
+ghost use Rattle.tl_c_beats.specs.declared.answers.TheConstants.{OUT_OF_MEMORY};
 
-use std::alloc::Allocator;
+use crate::answers::OUT_OF_MEMORY;
+use std::alloc::{Allocator, Global};
 use std::marker::Model;
 
 /// The parts of a box, which own what the box owned.
@@ -33,5 +36,39 @@ impl<T, A: Allocator> Parts<T, A> {
     {
         let Parts { ptr, alloc } = self;
         unsafe { Box::from_raw(alloc, ptr) }
+    }
+}
+
+/// Boxes a value. Where there is no memory, the number of that fault.
+pub fn boxed<T: Drop>(alloc: Global, value: T) -> Result<Box<T>, u8>
+    ensures boxed { IfOk result (λ b. b.value ≡ value) }
+    ensures refused { IfErr result (λ number. number ≡ OUT_OF_MEMORY) }
+{
+    match Box::new(alloc, value) {
+        Ok(made) => Ok(made),
+        Err(_) => Err(OUT_OF_MEMORY),
+    }
+}
+
+/// Whether a handle holds something, as C keeps it.
+#[repr(C)]
+#[derive(Drop)]
+pub struct Live {
+    pub is: bool,
+}
+
+impl Live {
+    /// That of a handle that holds nothing.
+    pub fn unset() -> Live
+        ensures { result.is ≡ false }
+    {
+        Live { is: false }
+    }
+
+    /// That of a handle that holds something.
+    pub fn set() -> Live
+        ensures { result.is ≡ true }
+    {
+        Live { is: true }
     }
 }

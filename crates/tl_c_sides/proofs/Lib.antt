@@ -1,3 +1,4 @@
 mod AsOwners
 mod BothWidths
+mod Counting
 mod Taking

@@ -8,7 +8,7 @@ use std::alloc::Global;
 use std::marker::Model;
 use std::mem::replace;
 use std::ptr::null_mut;
-use tl_c_beats::Parts;
+use tl_c_beats::{Live, Parts};
 
 /// The right to a boxed side, or to nothing.
 #[repr(C)]
@@ -61,36 +61,19 @@ impl OwnedClient {
 #[derive(Drop)]
 pub struct ClientHandle {
     pub owned: OwnedClient,
-    live: bool,
-    ghost tied: { (live ≡ true) ↔ (owned.held ≢ None) },
+    live: Live,
+    ghost tied: { (live.is ≡ true) ↔ (owned.held ≢ None) },
 }
 
 impl ClientHandle {
-    /// A handle that holds no side.
-    pub fn nothing(alloc: Global) -> ClientHandle
-        ensures { result.owned.held ≡ None }
-    {
-        ClientHandle {
-            owned: OwnedClient::nothing(alloc),
-            live: false,
-        }
-    }
-
-    /// A handle that holds this side.
-    pub fn of(held: Box<ClientHeld>) -> ClientHandle
-        ensures { result.owned.held ≡ Some held.value }
-    {
-        ClientHandle {
-            owned: OwnedClient::of_parts(Parts::of(held)),
-            live: true,
-        }
-    }
-
     /// Puts a side into the handle.
     pub fn put(&mut self, held: Box<ClientHeld>)
         ensures { self.new.owned.held ≡ Some held.value }
     {
-        *self = ClientHandle::of(held);
+        *self = ClientHandle {
+            owned: OwnedClient::of_parts(Parts::of(held)),
+            live: Live::set(),
+        };
     }
 
     /// Takes the side out of the handle, which holds none then.
@@ -99,10 +82,14 @@ impl ClientHandle {
         ensures none { result ≡ None → self.old.owned.held ≡ None }
         ensures after { self.new.owned.held ≡ None }
     {
-        if !self.live {
+        if !self.live.is {
             return None;
         }
-        let ClientHandle { owned, live: _ } = replace(self, ClientHandle::nothing(alloc));
+        let empty = ClientHandle {
+            owned: OwnedClient::nothing(alloc),
+            live: Live::unset(),
+        };
+        let ClientHandle { owned, live: _ } = replace(self, empty);
         Some(owned.into_parts().into_box())
     }
 }

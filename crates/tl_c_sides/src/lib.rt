@@ -28,7 +28,7 @@ use crate::held::{ClientHeld, ManagerHeld};
 use crate::manager_handle::ManagerHandle;
 use crate::widths::{CLIENT, MANAGER};
 use std::alloc::Global;
-use tl_c_beats::OUT_OF_MEMORY;
+use tl_c_beats::boxed;
 use tl_pair::bridge;
 
 /// Makes a bridge with five rings of `ring` beats and gives its sides to the two handles. Sides
@@ -57,15 +57,19 @@ pub extern "C" fn tl_open(
         Ok(sides) => sides,
         Err(fault) => return fault.number(),
     };
-    let Ok(client_held) = Box::new(alloc, ClientHeld { side: client_side }) else {
-        return OUT_OF_MEMORY;
-    };
-    let Ok(manager_held) = Box::new(alloc, ManagerHeld { side: manager_side }) else {
-        return OUT_OF_MEMORY;
-    };
-    *client = ClientHandle::of(client_held);
-    *manager = ManagerHandle::of(manager_held);
-    0
+    let client_made = boxed(alloc, ClientHeld { side: client_side });
+    let manager_made = boxed(alloc, ManagerHeld { side: manager_side });
+    match client_made {
+        Ok(client_held) => match manager_made {
+            Ok(manager_held) => {
+                client.put(client_held);
+                manager.put(manager_held);
+                0
+            }
+            Err(fault) => fault,
+        },
+        Err(fault) => fault,
+    }
 }
 
 /// Lets the client's side go, if the handle holds one: the handle holds none then. The manager's

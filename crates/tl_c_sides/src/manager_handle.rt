@@ -8,7 +8,7 @@ use std::alloc::Global;
 use std::marker::Model;
 use std::mem::replace;
 use std::ptr::null_mut;
-use tl_c_beats::Parts;
+use tl_c_beats::{Live, Parts};
 
 /// The right to a boxed side, or to nothing.
 #[repr(C)]
@@ -61,36 +61,19 @@ impl OwnedManager {
 #[derive(Drop)]
 pub struct ManagerHandle {
     pub owned: OwnedManager,
-    live: bool,
-    ghost tied: { (live ≡ true) ↔ (owned.held ≢ None) },
+    live: Live,
+    ghost tied: { (live.is ≡ true) ↔ (owned.held ≢ None) },
 }
 
 impl ManagerHandle {
-    /// A handle that holds no side.
-    pub fn nothing(alloc: Global) -> ManagerHandle
-        ensures { result.owned.held ≡ None }
-    {
-        ManagerHandle {
-            owned: OwnedManager::nothing(alloc),
-            live: false,
-        }
-    }
-
-    /// A handle that holds this side.
-    pub fn of(held: Box<ManagerHeld>) -> ManagerHandle
-        ensures { result.owned.held ≡ Some held.value }
-    {
-        ManagerHandle {
-            owned: OwnedManager::of_parts(Parts::of(held)),
-            live: true,
-        }
-    }
-
     /// Puts a side into the handle.
     pub fn put(&mut self, held: Box<ManagerHeld>)
         ensures { self.new.owned.held ≡ Some held.value }
     {
-        *self = ManagerHandle::of(held);
+        *self = ManagerHandle {
+            owned: OwnedManager::of_parts(Parts::of(held)),
+            live: Live::set(),
+        };
     }
 
     /// Takes the side out of the handle, which holds none then.
@@ -99,10 +82,14 @@ impl ManagerHandle {
         ensures none { result ≡ None → self.old.owned.held ≡ None }
         ensures after { self.new.owned.held ≡ None }
     {
-        if !self.live {
+        if !self.live.is {
             return None;
         }
-        let ManagerHandle { owned, live: _ } = replace(self, ManagerHandle::nothing(alloc));
+        let empty = ManagerHandle {
+            owned: OwnedManager::nothing(alloc),
+            live: Live::unset(),
+        };
+        let ManagerHandle { owned, live: _ } = replace(self, empty);
         Some(owned.into_parts().into_box())
     }
 }

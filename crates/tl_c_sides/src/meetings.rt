@@ -39,12 +39,12 @@ pub extern "C" fn tl_meet(
         return false;
     };
     let Some(mut manager_held) = manager.take(alloc) else {
-        *client = ClientHandle::of(client_held);
+        client.put(client_held);
         return false;
     };
-    let standing = meet_sides(&mut client_held.side, &mut manager_held.side);
-    *client = ClientHandle::of(client_held);
-    *manager = ManagerHandle::of(manager_held);
-    *counts = channel_counts(standing.a, standing.b, standing.c, standing.d, standing.e);
+    let standings = meet_sides(&mut client_held.side, &mut manager_held.side);
+    client.put(client_held);
+    manager.put(manager_held);
+    *counts = channel_counts(standings);
     true
 }
