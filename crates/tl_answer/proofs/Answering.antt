@@ -11,6 +11,7 @@ use Rattle.tl_trace.specs.Scripts.{IsScriptOf}
 use Rattle.tl_trace.specs.declared.script.Script.{Script}
 use Rattle.tl_trace.specs.declared.line.Line.{Line}
 use Rattle.tl_answer.specs.Answer.{far_header, far_lines, near, taken, report, is_done}
+use Rattle.tl_answer.specs.Inner.Parts.{text_of}
 use Rattle.tl_answer.specs.Texts.{IsAnswer}
 use Rattle.tl_answer.specs.declared.answer.Answer.{Answer}
 use Rattle.tl_answer.specs.declared.fault.TextFault.{TextFault}
@@ -23,45 +24,39 @@ taken-is bs outcome h = rw h.far_a (rw h.far_b (rw h.far_c (rw h.far_d (rw h.far
 pub near-is : {C M : ℕ} (lines : List Line) (s : Script C M) → IsScriptOf lines s → near_beats s ≡ near C M lines
 near-is lines s is = rw is.a (rw is.b (rw is.c (rw is.d (rw is.e refl))))
 
+-- an answer without far beats is that of a check
+pub without-far : {C M : ℕ} (version : ℕ) (bs : Beats C M) → far_header version C M ++ report (verdicts bs) ≡ text_of version bs true
+without-far {C} {M} version bs = ap (λ line. line ++ report (verdicts bs)) (sym (append-nil (far_header version C M)))
+
+-- an answer by what a run took is that of its script
+pub of-run : {C M : ℕ} (version : ℕ) (bs : Beats C M) (outcome : Outcome C M) → EndsIn bs outcome →
+    far_header version C M ++ far_lines version (taken outcome) ++ report outcome.verdicts ≡ text_of version bs false
+of-run {C} {M} version bs outcome h =
+    ap (λ far. far_header version C M ++ far_lines version far ++ report outcome.verdicts) (taken-is bs outcome h) ∙
+    ap (λ vs. far_header version C M ++ far_lines version (far_beats bs) ++ report vs) h.verdicts_are
+
 -- what is written of what the near beats of a trace end in is the answer to a text that tells it
 module _ (version C M : ℕ) (lines : List Line) (text : List ℕ) (told : Tells text version C M lines) where
-  pub settled-text : (bs : Beats C M) → bs ≡ near C M lines →
-      (answer : List ℕ) → answer ≡ far_header version C M ++ far_lines version (far_beats bs) ++ report (verdicts bs) →
-      (done : Bool) → done ≡ list_all is_done (verdicts bs) → IsAnswer text false answer done
-  settled-text bs same answer text-is done done-is = record {
+  pub script-text : (bs : Beats C M) → bs ≡ near C M lines → (check : Bool) → (answer : List ℕ) → answer ≡ text_of version bs check →
+      (done : Bool) → done ≡ list_all is_done (verdicts bs) → IsAnswer text check answer done
+  script-text bs same check answer text-is done done-is = record {
     version = version;
     client = C;
     manager = M;
     lines = lines;
     told = told;
-    answered = text-is ∙ ap (λ q. far_header version C M ++ far_lines version (far_beats q) ++ report (verdicts q)) same;
+    answered = text-is ∙ ap (λ q. text_of version q check) same;
     all_done = done-is ∙ ap (λ q. list_all is_done (verdicts q)) same;
   }
 
-  -- the same of the outcome of a run
-  pub answers-text : (outcome : Outcome C M) → EndsIn (near C M lines) outcome →
-      (answer : List ℕ) → answer ≡ far_header version C M ++ far_lines version (taken outcome) ++ report outcome.verdicts →
-      (done : Bool) → done ≡ list_all is_done outcome.verdicts → IsAnswer text false answer done
-  answers-text outcome h answer text-is done done-is =
-      settled-text (near C M lines) refl answer
-      (text-is ∙ ap (λ far. far_header version C M ++ far_lines version far ++ report outcome.verdicts) (taken-is (near C M lines) outcome h) ∙
-      ap (λ vs. far_header version C M ++ far_lines version (far_beats (near C M lines)) ++ report vs) h.verdicts_are)
-      done (done-is ∙ ap (λ vs. list_all is_done vs) h.verdicts_are)
-
-  -- and of a check, whose answer has the verdicts alone
+  -- the same of a check, whose answer has the verdicts alone
   pub checks-text : (ended : List Verdict) → ended ≡ verdicts (near C M lines) →
       (answer : List ℕ) → answer ≡ far_header version C M ++ report ended →
       (done : Bool) → done ≡ list_all is_done ended → IsAnswer text true answer done
-  checks-text ended are answer text-is done done-is = record {
-    version = version;
-    client = C;
-    manager = M;
-    lines = lines;
-    told = told;
-    answered = text-is ∙ ap (λ vs. far_header version C M ++ report vs) are ∙
-        ap (λ line. line ++ report (verdicts (near C M lines))) (sym (append-nil (far_header version C M)));
-    all_done = done-is ∙ ap (λ vs. list_all is_done vs) are;
-  }
+  checks-text ended are answer text-is done done-is =
+      script-text (near C M lines) refl true answer
+      (text-is ∙ ap (λ vs. far_header version C M ++ report vs) are ∙ without-far version (near C M lines))
+      done (done-is ∙ ap (λ vs. list_all is_done vs) are)
 
 -- a text and the report of five verdicts behind it
 pub with-report : (vs : List Verdict) → length vs ≡ 5 → (before after : List ℕ) →

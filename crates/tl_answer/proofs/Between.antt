@@ -4,6 +4,7 @@ use Rattle.std.proofs.Common.{◌≡◌, ◌≢◌, ℕ, ◌+◌, ◌-◌, ◌�
 use Rattle.std.proofs.lemmas.List.{drop-drop, drop-take, length-take-le}
 use Rattle.std.specs.Io.KnownBytes.{Consumes, IsAtEnd}
 use Rattle.std.specs.List.{slice_range}
+use Rattle.tl_lanes.specs.Lanes.{IsWidth}
 use Rattle.tl_trace.specs.Faults.{IsFirstFault}
 use Rattle.tl_trace.specs.Scripts.{HasRead}
 use Rattle.tl_trace.specs.declared.script_reader.ScriptReader.{ScriptReader}
@@ -18,14 +19,16 @@ use Rattle.tl_answer.specs.declared.input.Input.{Input}
 use Rattle.tl_answer.proofs.Lengths.{lines-below}
 
 -- the lines that the input holds can be read
-pub reading : {C M : ℕ} (unread left : Option (List ℕ)) (lines : ScriptReader C M) (input : Input) → IsBetween unread left lines input → IsReading lines input
-reading {C} {M} unread left lines input b =
+pub reading : {C M : ℕ} → IsWidth C → IsWidth M → (unread left : Option (List ℕ)) (lines : ScriptReader C M) (input : Input) → IsBetween unread left lines input → IsReading lines input
+reading {C} {M} client manager unread left lines input b =
     let below = lines-below b.used lines.version C M b.read.lines b.read.told in
     let sum = length-append b.used (held input) in
     let place : lines.line ≡ length b.read.lines + 1 = b.read.place in
     let count : input.total ≡ length (b.used ++ held input) = b.taken.count in
     let few : input.total ≤ most_bytes = b.taken.few in
     record {
+      client = client;
+      manager = manager;
       version = b.read.told.trace.known_version;
       from = b.taken.from;
       to = b.taken.to;

@@ -1,5 +1,5 @@
 -- What a text's header names, and a text that has none.
-use Rattle.std.proofs.Common.{◌≡◌, ◌≢◌, ◌∷◌, [], ◌||◌, ℕ, Bool, true, false, List, None, Some, if◌then◌else◌, refl, sym, ap, ◌∙◌, subst}
+use Rattle.std.proofs.Common.{◌≡◌, ◌≢◌, ◌≤◌, ◌∷◌, [], ◌||◌, ℕ, Bool, true, false, List, length, Option, None, Some, if◌then◌else◌, refl, sym, ap, ◌∙◌, subst}
 use Rattle.std.specs.Prelude.{◌==◌}
 use Rattle.std.proofs.lemmas.Bool.{eqb-true}
 use Rattle.tl_lanes.specs.declared.limits.TheConstants.{WIDEST}
@@ -8,6 +8,16 @@ use Rattle.tl_lanes.proofs.Widths.{each_width}
 use Rattle.tl_trace.specs.Faults.{body, cut, onto_first, is_newline, header_of, HasHeader, faults_after, faults_of_lines, IsFirstFault}
 use Rattle.tl_trace.specs.declared.fault.TraceKind.TheVariants as kinds
 use Rattle.tl_trace.specs.declared.header.Header.{Header}
+use Rattle.tl_trace.specs.declared.line.Line.{Line}
+use Rattle.tl_trace.specs.declared.script.Script.{Script}
+use Rattle.tl_trace.specs.Scripts.{IsScriptOf}
+use Rattle.tl_answer.specs.Texts.{most_bytes}
+use Rattle.tl_answer.proofs.Lengths.{short}
+use Rattle.tl_order.specs.Orders.{IsRunnable}
+use Rattle.tl_order.specs.declared.Order.{Order}
+use Rattle.tl_answer.specs.Inner.Asked.{IsAsked, CanCross}
+use Rattle.tl_answer.specs.Inputs.{IsFresh, held}
+use Rattle.tl_answer.specs.declared.input.Input.{Input}
 use Rattle.tl_trace.proofs.Headers.{header, known}
 use Rattle.tl_trace.proofs.ReadLines.{first_fault}
 use Rattle.tl_trace.proofs.Widths.{width_of}
@@ -62,6 +72,11 @@ last_client text version client manager is n1 n2 n4 n8 n16 n32 n64 =
     subst (λ w. HasHeader text version w manager)
     (last_width client (width_of version client (known (body text) (header version client manager) is).1) n1 n2 n4 n8 n16 n32 n64) is
 
+-- the widths that a header names are widths
+pub widths_named : (text : List ℕ) (version client manager : ℕ) → HasHeader text version client manager → IsWidth client × IsWidth manager
+widths_named text version client manager is =
+    let all = known (body text) (header version client manager) is in (width_of version client all.1, width_of version manager all.2)
+
 -- a manager's width that is this one
 pub with_manager : (text : List ℕ) (version client manager width : ℕ) → manager ≡ width → HasHeader text version client manager → HasHeader text version client width
 with_manager text version client manager width is named = subst (λ w. HasHeader text version client w) is named
@@ -69,3 +84,26 @@ with_manager text version client manager width is named = subst (λ w. HasHeader
 -- a client's width that is this one, where the header was read of the same bytes
 pub with_client : (text bytes : List ℕ) (h : Header) (width : ℕ) → h.client ≡ width → bytes ≡ text → Some h ≡ header_of (body bytes) → HasHeader text h.version width h.manager
 with_client text bytes h width is same read = subst (λ w. HasHeader text h.version w h.manager) is (ap (λ xs. header_of (body xs)) (sym same) ∙ sym read)
+
+-- the same of a text that is read piece by piece
+pub asked_manager : (left : Option (List ℕ)) (input : Input) (version client manager : ℕ) (order : Order) (width : ℕ) → manager ≡ width →
+    IsAsked left input version client manager order → IsAsked left input version client width order
+asked_manager left input version client manager order width is asked = record {
+  fresh = asked.fresh;
+  header = with_manager (held input) version client manager width is asked.header;
+  runnable = asked.runnable;
+}
+
+pub asked_client : (left : Option (List ℕ)) (input : Input) (order : Order) (bytes : List ℕ) (h : Header) (width : ℕ) → h.client ≡ width → bytes ≡ held input →
+    Some h ≡ header_of (body bytes) → IsFresh left input × IsRunnable order → IsAsked left input h.version width h.manager order
+asked_client left input order bytes h width is same read asked = record {
+  fresh = asked.0;
+  header = with_client (held input) bytes h width is same read;
+  runnable = asked.1;
+}
+
+-- a script that was read of a text with this header can cross the bridge
+pub can-cross : (text : List ℕ) (version C M : ℕ) → HasHeader text version C M → (lines : List Line) → length lines ≤ most_bytes → (s : Script C M) → IsScriptOf lines s → CanCross s
+can-cross text version C M named lines few s is =
+    let widths = widths_named text version C M named in
+    record { client = widths.0; manager = widths.1; short = short C M lines few s is }

@@ -1,9 +1,9 @@
 -- What a run is refused for.
-use Rattle.std.specs.Prelude.{Result, IfErr}
-use Rattle.std.proofs.Common.{◌≡◌, ◌≢◌, ◌≤◌, ◌<◌, ◌⊎◌, ◌↔◌, ℕ, inl, inr, arith}
+use Rattle.std.specs.Prelude.{Result, Ok, Err, IfErr}
+use Rattle.std.proofs.Common.{◌≡◌, ◌≢◌, ◌≤◌, ◌<◌, ◌⊎◌, ◌↔◌, ℕ, inl, inr, refl, arith}
 use Rattle.std.proofs.lemmas.Result.{IfErr-weaker}
 use Rattle.tl_bridge.specs.declared.outcome.RunFault.{RunFault}
-use Rattle.tl_bridge.specs.declared.outcome.RunFault.TheVariants.{RingSize}
+use Rattle.tl_bridge.specs.declared.outcome.RunFault.TheVariants.{RingSize, OutOfMemory, Stalled}
 use Rattle.tl_ring.specs.declared.pipe.TheConstants.{MAX_RING}
 
 -- not for its rings, where they are of a size that rings may have
@@ -14,3 +14,10 @@ size-is-right result ring some few refused =
       | inl none ↦ omega (arith, none, some)
       | inr more ↦ omega (arith, more, few)
     ]) refused
+
+-- and not for a stall: so for want of memory alone
+pub for-memory : {X : Type 0} (result : Result X RunFault) → IfErr result (λ fault. fault ≢ RingSize) → IfErr result (λ fault. fault ≢ Stalled) → IfErr result (λ fault. fault ≡ OutOfMemory)
+for-memory (Ok made) sized moves = tt
+for-memory (Err RingSize) sized moves = absurd (sized refl)
+for-memory (Err OutOfMemory) sized moves = refl
+for-memory (Err Stalled) sized moves = absurd (moves refl)

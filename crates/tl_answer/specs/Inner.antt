@@ -1,5 +1,7 @@
+pub mod Reading
 pub mod Filling
 pub mod Lines
 pub mod Parts
+pub mod Asked
 pub mod Answered
 pub mod FarTexts

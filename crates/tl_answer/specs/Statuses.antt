@@ -25,6 +25,10 @@ abbrev pub place_text : (line : Option ℕ) → List ℕ
 place_text (Some line) = codes "line " ++ decimal line ++ codes ": "
 place_text None = []
 
+-- a fault's line, where it has one, its number and its name
+abbrev pub fault_words : TextFault → List ℕ
+fault_words fault = place_text (text_fault_line fault) ++ decimal (text_fault_number fault) ++ codes " " ++ text_fault_name fault
+
 -- the line on standard error, with its end: the program's name, the line of a trace's fault, the fault's number and name
 abbrev pub fault_text : (program : List ℕ) → TextFault → List ℕ
 fault_text program fault =

@@ -1,16 +1,17 @@
 //! The answer to a text, without a reader and a writer.
-ghost use Rattle.std.specs.Prelude.{◌≡◌, ◌≢◌, ◌++◌, [], ◌∷◌, length, IfOk, OnOk, IfErr};
+ghost use Rattle.std.specs.Prelude.{◌≡◌, ◌++◌, [], ◌∷◌, false, length, IfOk, OnOk, IfErr};
 ghost use Rattle.std.specs.List.{list_all};
 ghost use Rattle.tl_lanes.specs.Lanes.{IsWidth};
 ghost use Rattle.tl_msg.specs.declared.verdict.Verdict.{Verdict};
 ghost use Rattle.tl_settle.specs.Outcomes.{verdicts};
-ghost use Rattle.tl_bridge.specs.Scripts.{HasShortLists, SettlesTo, near_beats};
-ghost use Rattle.tl_bridge.specs.declared.outcome.RunFault.TheVariants.{RingSize, Stalled};
+ghost use Rattle.tl_bridge.specs.Scripts.{SettlesTo, near_beats};
+ghost use Rattle.tl_bridge.specs.declared.outcome.RunFault.TheVariants.{OutOfMemory as NoRunMemory};
 ghost use Rattle.tl_order.specs.Orders.{IsRunnable, is_check};
-ghost use Rattle.tl_trace.specs.Faults.{HasHeader};
 ghost use Rattle.tl_answer.specs.Answer.{far_header, far_lines, taken, report, is_done};
 ghost use Rattle.tl_answer.specs.Inner.Answered.{ReadsAnswer};
-ghost use Rattle.tl_answer.specs.Inputs.{IsFresh, held, unread_of};
+ghost use Rattle.tl_answer.specs.Inner.Asked.{IsAsked, CanCross};
+ghost use Rattle.tl_answer.specs.Inner.Parts.{spelled, text_of};
+ghost use Rattle.tl_answer.specs.Inputs.{IsFresh, unread_of};
 ghost use Rattle.tl_answer.specs.declared.fault.TextFault.TheVariants.{OutOfMemory as NoMemory};
 
 use crate::at_width;
@@ -56,8 +57,7 @@ fn write_arrivals<const C: usize, const M: usize>(
     outcome: &Outcome<C, M>,
     version: u8,
 ) -> Result<(), OutOfMemory>
-    requires client { IsWidth C }
-    requires manager { IsWidth M }
+    requires { IsWidth C × IsWidth M }
     ensures { OnOk result (out.new.items
         ≡ out.old.items ++ far_lines version (taken outcome.now)) }
 {
@@ -90,20 +90,17 @@ pub(crate) fn are_done(verdicts: &[Verdict; 5]) -> bool
         .all(|verdict| matches!(verdict, Verdict::Done { .. }))
 }
 
-/// The run of a script with each side in a thread of its own, as the order has it.
+/// The run of a script with each side in a thread of its own, as the order has it. Refused with
+/// `OutOfMemory` alone.
 fn run_script<T: Threads, const C: usize, const M: usize>(
     rt: &T,
     alloc: Global,
     script: &Script<C, M>,
     order: &Order,
 ) -> Result<Outcome<C, M>, RunFault>
-    requires client { IsWidth C }
-    requires manager { IsWidth M }
-    requires short { HasShortLists script.now }
-    requires runnable { IsRunnable order.now }
+    requires { CanCross script.now × IsRunnable order.now }
     ensures ok { IfOk result (SettlesTo script.now) }
-    ensures ring_size { IfErr result (λ fault. fault ≢ RingSize) }
-    ensures never_stalled { IfErr result (λ fault. fault ≢ Stalled) }
+    ensures err { IfErr result (λ fault. fault ≡ NoRunMemory) }
 {
     let (client_gate, manager_gate) = (&mut NoGate, &mut NoGate);
     let ring = order.ring();
@@ -117,28 +114,6 @@ fn run_script<T: Threads, const C: usize, const M: usize>(
         client_gate,
         manager_gate,
     )
-}
-
-/// What a script ends in, by that run.
-fn outcome_of<T: Threads, const C: usize, const M: usize>(
-    rt: &T,
-    alloc: Global,
-    script: &Script<C, M>,
-    order: &Order,
-) -> Result<Outcome<C, M>, TextFault>
-    requires client { IsWidth C }
-    requires manager { IsWidth M }
-    requires short { HasShortLists script.now }
-    requires runnable { IsRunnable order.now }
-    ensures ok { IfOk result (SettlesTo script.now) }
-    ensures err { IfErr result (λ fault. fault ≡ NoMemory) }
-{
-    match run_script::<T, C, M>(rt, alloc, script, order) {
-        Ok(outcome) => Ok(outcome),
-        Err(RunFault::OutOfMemory) => Err(TextFault::OutOfMemory),
-        Err(RunFault::Stalled) => unreachable!(),
-        Err(RunFault::RingSize) => unreachable!(),
-    }
 }
 
 /// The answer whose lines before the five reports are these.
@@ -179,9 +154,7 @@ pub(crate) fn check_script<const C: usize, const M: usize>(
     script: &Script<C, M>,
     version: u8,
 ) -> Result<Answer, TextFault>
-    requires client { IsWidth C }
-    requires manager { IsWidth M }
-    requires short { HasShortLists script.now }
+    requires { CanCross script.now }
     ensures text { IfOk result (λ made. made.text.items
         ≡ far_header version C M ++ report (verdicts (near_beats script.now))) }
     ensures done { IfOk result (λ made. made.all_done
@@ -213,8 +186,57 @@ pub fn answer_of<const C: usize, const M: usize>(
     reported(text, &outcome.verdicts)
 }
 
-/// The answer to a text whose header names this version and these widths. The script is let go before
-/// the answer is made.
+/// The answer to a script by that run. The script is let go before the answer is made. Refused with
+/// `OutOfMemory` alone.
+fn threads_answer_of<T: Threads, const C: usize, const M: usize>(
+    rt: &T,
+    alloc: Global,
+    script: Script<C, M>,
+    version: u8,
+    order: &Order,
+) -> Result<AnswerParts, TextFault>
+    requires { CanCross script × IsRunnable order.now }
+    ensures text { IfOk result (λ made. spelled made
+        ≡ text_of version (near_beats script.entry) false) }
+    ensures done { IfOk result (λ made. made.all_done
+        ≡ list_all is_done (verdicts (near_beats script.entry))) }
+    ensures err { IfErr result (λ fault. fault ≡ NoMemory) }
+{
+    let outcome = match run_script::<T, C, M>(rt, alloc, &script, order) {
+        Ok(outcome) => outcome,
+        Err(_) => return Err(TextFault::OutOfMemory),
+    };
+    drop(script);
+    let answer = answer_of(alloc, &outcome, version)?;
+    Ok(AnswerParts::of(alloc, answer))
+}
+
+/// The answer to a script, as the order has it. Refused with `OutOfMemory` alone.
+fn answer_script<T: Threads, const C: usize, const M: usize>(
+    rt: &T,
+    alloc: Global,
+    script: Script<C, M>,
+    version: u8,
+    order: &Order,
+) -> Result<AnswerParts, TextFault>
+    requires { CanCross script × IsRunnable order.now }
+    ensures text { IfOk result (λ made. spelled made
+        ≡ text_of version (near_beats script.entry) (is_check order.now)) }
+    ensures done { IfOk result (λ made. made.all_done
+        ≡ list_all is_done (verdicts (near_beats script.entry))) }
+    ensures err { IfErr result (λ fault. fault ≡ NoMemory) }
+{
+    if order.is_check() {
+        let answer = check_script::<C, M>(alloc, &script, version)?;
+        return Ok(AnswerParts::of(alloc, answer));
+    }
+    if order.is_sync() {
+        return sync_answer_of::<C, M>(alloc, script, version, order.ring());
+    }
+    threads_answer_of::<T, C, M>(rt, alloc, script, version, order)
+}
+
+/// The answer to a text whose header names this version and these widths.
 fn with_widths<T: Threads, R: Read, const C: usize, const M: usize>(
     rt: &T,
     alloc: Global,
@@ -223,32 +245,14 @@ fn with_widths<T: Threads, R: Read, const C: usize, const M: usize>(
     version: u8,
     order: &Order,
 ) -> Result<AnswerParts, TextFault>
-    requires client { IsWidth C }
-    requires manager { IsWidth M }
-    requires fresh { IsFresh (R.remaining reader.old) input.old }
-    requires header { HasHeader (held input.old) version C M }
-    requires runnable { IsRunnable order.now }
+    requires { IsAsked (R.remaining reader.old) input.old version C M order.now }
     ensures { ReadsAnswer (unread_of input.old (R.remaining reader.old)) (R.remaining reader.new)
         (is_check order.now) input.new result }
 {
-    let script = match script_of_input::<R, C, M>(alloc, reader, input, version) {
-        Ok(script) => script,
-        Err(fault) => return Err(fault),
-    };
-    if order.is_check() {
-        let answer = check_script::<C, M>(alloc, &script, version)?;
-        return Ok(AnswerParts::of(alloc, answer));
+    match script_of_input::<R, C, M>(alloc, reader, input, version) {
+        Ok(script) => answer_script::<T, C, M>(rt, alloc, script, version, order),
+        Err(fault) => Err(fault),
     }
-    if order.is_sync() {
-        return sync_answer_of::<C, M>(alloc, script, version, order.ring());
-    }
-    let outcome = match outcome_of::<T, C, M>(rt, alloc, &script, order) {
-        Ok(outcome) => outcome,
-        Err(fault) => return Err(fault),
-    };
-    drop(script);
-    let answer = answer_of(alloc, &outcome, version)?;
-    Ok(AnswerParts::of(alloc, answer))
 }
 
 /// The same, for a client of `C` bytes: the manager's width is one of eight.
@@ -261,10 +265,7 @@ fn with_client<T: Threads, R: Read, const C: usize>(
     manager: usize,
     order: &Order,
 ) -> Result<AnswerParts, TextFault>
-    requires client { IsWidth C }
-    requires fresh { IsFresh (R.remaining reader.old) input.old }
-    requires header { HasHeader (held input.old) version C manager }
-    requires runnable { IsRunnable order.now }
+    requires { IsAsked (R.remaining reader.old) input.old version C manager order.now }
     ensures { ReadsAnswer (unread_of input.old (R.remaining reader.old)) (R.remaining reader.new)
         (is_check order.now) input.new result }
 {
@@ -286,8 +287,7 @@ pub(crate) fn answer_input<T: Threads, R: Read>(
     input: &mut Input,
     order: &Order,
 ) -> Result<AnswerParts, TextFault>
-    requires fresh { IsFresh (R.remaining reader.old) input.old }
-    requires runnable { IsRunnable order.now }
+    requires { IsFresh (R.remaining reader.old) input.old × IsRunnable order.now }
     ensures { ReadsAnswer (unread_of input.old (R.remaining reader.old)) (R.remaining reader.new)
         (is_check order.now) input.new result }
 {

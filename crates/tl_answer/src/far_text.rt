@@ -6,7 +6,7 @@ ghost use Rattle.tl_settle.specs.Outcomes.{Beats};
 ghost use Rattle.tl_trace.specs.Lines.{beats_text};
 ghost use Rattle.tl_bridge.specs.Arrivals.{no_beats};
 ghost use Rattle.tl_answer.specs.Answer.{far_header, far_lines, report, is_done};
-ghost use Rattle.tl_answer.specs.Inner.FarTexts.{HasLines, whole};
+ghost use Rattle.tl_answer.specs.Inner.FarTexts.{HasLines, texts, whole};
 ghost use Rattle.tl_answer.specs.Inner.Parts.{spelled};
 ghost use Rattle.tl_answer.specs.declared.fault.TextFault.TheVariants.{OutOfMemory as NoMemory};
 
@@ -85,18 +85,6 @@ impl<K: HeadText, const W: usize> FarText<K, W> {
         self.waiting.extend_from_slice(beats)?;
         Ok(())
     }
-
-    // The text with all lines.
-    fn into_text(self, version: u8) -> Result<Vec<u8>, AllocError>
-        requires { IsWidth W }
-        ensures { IfOk result (λ text. text.items ≡
-            whole (K.form version) W self.text.items self.waiting.items) }
-    {
-        let mut lines = self;
-        lines.write_waiting(version)?;
-        let FarText { text, waiting: _ } = lines;
-        Ok(text)
-    }
 }
 
 /// The lines of the far beats of a run, each channel's in a text of its own: that of A begins with
@@ -114,8 +102,7 @@ pub(crate) struct FarTexts<const C: usize, const M: usize> {
 impl<const C: usize, const M: usize> FarTexts<C, M> {
     // The first line of an answer in this version.
     pub(crate) fn new(alloc: Global, version: u8) -> Result<Self, AllocError>
-        requires client { IsWidth C }
-        requires manager { IsWidth M }
+        requires { IsWidth C × IsWidth M }
         ensures lines { IfOk result (λ made. HasLines made no_beats) }
         ensures version { IfOk result (λ made. made.version ≡ version) }
     {
@@ -134,37 +121,45 @@ impl<const C: usize, const M: usize> FarTexts<C, M> {
         })
     }
 
+    // Writes the lines of all beats that wait, and behind those of E the five report lines of these
+    // verdicts, from A to E.
+    fn finish(&mut self, verdicts: &[Verdict; 5]) -> Result<(), AllocError>
+        requires { IsWidth C × IsWidth M }
+        ensures { (far : Beats M C) → HasLines self.old far → OnOk result (
+            texts self.new ≡ far_header self.old.version C M
+            ++ far_lines self.old.version far ++ report verdicts.now) }
+    {
+        let version = self.version;
+        self.a.write_waiting(version)?;
+        self.b.write_waiting(version)?;
+        self.c.write_waiting(version)?;
+        self.d.write_waiting(version)?;
+        self.e.write_waiting(version)?;
+        match write_reports(&mut self.e.text, verdicts) {
+            Ok(()) => Ok(()),
+            Err(_) => Err(AllocError),
+        }
+    }
+
     // The answer of a run that ends with these verdicts, from A to E: the five report lines stand
     // behind the lines of E. Refused with `OutOfMemory` alone.
     pub(crate) fn into_answer(self, verdicts: &[Verdict; 5]) -> Result<AnswerParts, TextFault>
-        requires client { IsWidth C }
-        requires manager { IsWidth M }
+        requires { IsWidth C × IsWidth M }
         ensures text { (far : Beats M C) → HasLines self.entry far → IfOk result (λ made.
             spelled made ≡ far_header self.entry.version C M
             ++ far_lines self.entry.version far ++ report verdicts.now) }
         ensures done { IfOk result (λ made. made.all_done ≡ list_all is_done verdicts.now) }
         ensures err { IfErr result (λ fault. fault ≡ NoMemory) }
     {
-        let FarTexts {
-            a,
-            b,
-            c,
-            d,
-            e,
-            version,
-        } = self;
-        let a = a.into_text(version)?;
-        let b = b.into_text(version)?;
-        let c = c.into_text(version)?;
-        let d = d.into_text(version)?;
-        let mut e = e.into_text(version)?;
-        write_reports(&mut e, verdicts)?;
+        let mut lines = self;
+        lines.finish(verdicts)?;
+        let FarTexts { a, b, c, d, e, .. } = lines;
         Ok(AnswerParts {
-            a,
-            b,
-            c,
-            d,
-            e,
+            a: a.text,
+            b: b.text,
+            c: c.text,
+            d: d.text,
+            e: e.text,
             all_done: are_done(verdicts),
         })
     }

@@ -1,9 +1,11 @@
 //! The faults of a text, with their numbers and names.
-ghost use Rattle.std.specs.Prelude.{◌≡◌};
+ghost use Rattle.std.specs.Prelude.{◌≡◌, Some};
 ghost use Rattle.tl_answer.specs.Faults.{text_fault_line, text_fault_number, text_fault_name, of_trace};
+ghost use Rattle.tl_answer.specs.Statuses.{place_text, fault_words};
 ghost use Rattle.tl_answer.specs.declared.fault.TextFault.TheVariants.{OutOfMemory};
 
 use std::alloc::{AllocError, AllocFailed};
+use std::fmt;
 use thiserror::Error;
 use tl_trace::{OutOfMemory as NoMemory, TraceFault, TraceKind};
 
@@ -11,22 +13,16 @@ use tl_trace::{OutOfMemory as NoMemory, TraceFault, TraceKind};
 #[derive(Clone, Copy, Debug, PartialEq, Eq, Error)]
 pub enum TextFault {
     /// 14 to 19, by the kind of the trace's fault: the text is no trace.
-    #[error(transparent)]
     Trace(TraceFault),
     /// 20 (this project's choice): the two sides stopped moving before all beats had arrived.
-    #[error("20 Stalled")]
     Stalled,
     /// 21 (this project's choice): a read failed or was interrupted.
-    #[error("21 Read")]
     Read,
     /// 22 (this project's choice): a write failed, was interrupted or took no byte.
-    #[error("22 Write")]
     Write,
     /// 23 (this project's choice): the text has more than 67,108,864 bytes.
-    #[error("23 TooLong")]
     TooLong,
     /// 13 (this project's choice): there was no memory left.
-    #[error("13 OutOfMemory")]
     OutOfMemory,
 }
 
@@ -67,6 +63,34 @@ impl TextFault {
             TextFault::Trace(fault) => Some(fault.line),
             _ => None,
         }
+    }
+}
+
+/// What stands before a fault's number: the line of the text that it names.
+#[derive(Drop)]
+struct Place {
+    line: Option<u64>,
+}
+
+impl fmt::Display for Place {
+    ghost output = { λ place. Some (place_text place.line) };
+
+    fn fmt<W: fmt::Write>(&self, f: &mut fmt::Formatter<W>) -> fmt::Result {
+        match self.line {
+            Some(line) => write!(f, "line {line}: "),
+            None => Ok(()),
+        }
+    }
+}
+
+// As in `line 3: 18 Range`, or `23 TooLong`.
+impl fmt::Display for TextFault {
+    ghost output = { λ fault. Some (fault_words fault) };
+
+    fn fmt<W: fmt::Write>(&self, f: &mut fmt::Formatter<W>) -> fmt::Result {
+        let place = Place { line: self.line() };
+        let (number, name) = (self.number(), self.name());
+        write!(f, "{place}{number} {name}")
     }
 }
 

@@ -60,8 +60,7 @@ fn refill<R: Read>(
     to: usize,
     most: usize,
 ) -> Result<usize, TextFault>
-    requires from { from ≤ to }
-    requires to { to ≤ length buffer.old }
+    requires { (from ≤ to) × (to ≤ length buffer.old) }
     ensures same { length buffer.new ≡ length buffer.old }
     ensures ok { IfOk result (IsRefilled (R.remaining reader.old) (R.remaining reader.new)
         (slice_range buffer.old from to) most buffer.new) }

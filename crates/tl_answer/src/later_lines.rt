@@ -1,10 +1,10 @@
 //! From a text as it comes in to its script.
-ghost use Rattle.std.specs.Prelude.{◌≡◌, ◌≤◌, ℕ, List, [], Option, length, OnOk, IfErr};
+ghost use Rattle.std.specs.Prelude.{◌≡◌, ℕ, List, Option, OnOk, IfErr};
 ghost use Rattle.tl_lanes.specs.Lanes.{IsWidth};
 ghost use Rattle.tl_trace.specs.Faults.{HasHeader};
 ghost use Rattle.tl_trace.specs.Scripts.{IsUnfinished};
 ghost use Rattle.tl_answer.specs.Faults.{of_trace};
-ghost use Rattle.tl_answer.specs.Inner.Lines.{IsReading, IsBetween};
+ghost use Rattle.tl_answer.specs.Inner.Lines.{IsBeginning, IsBetween, IsReading, ReadsPieces};
 ghost use Rattle.tl_answer.specs.Inputs.{IsFresh, IsRefused, ReadsScript, held, unread_of};
 
 use crate::fault::TextFault;
@@ -18,9 +18,7 @@ fn read_held<const C: usize, const M: usize>(
     lines: &mut ScriptReader<C, M>,
     input: &mut Input,
 ) -> Result<(), TraceFault>
-    requires client { IsWidth C }
-    requires manager { IsWidth M }
-    requires reading { IsReading lines.old input.old }
+    requires { IsReading lines.old input.old }
     ensures version { lines.new.version ≡ lines.old.version }
     ensures rest { OnOk result (IsUnfinished (held input.new)) }
     ensures total { input.new.total ≡ input.old.total }
@@ -39,6 +37,42 @@ fn read_held<const C: usize, const M: usize>(
             Ok(())
         }
         Err(fault) => Err(fault),
+    }
+}
+
+/// Reads a text to its end, piece by piece, where the input holds its first piece and nothing of it
+/// was used, and no line was read yet. Refused as `script_of_input` is.
+fn read_pieces<R: Read, const C: usize, const M: usize>(
+    reader: &mut R,
+    input: &mut Input,
+    lines: &mut ScriptReader<C, M>,
+) -> Result<(), TextFault>
+    requires { IsBeginning (R.remaining reader.old) input.old lines.old }
+    ensures { ReadsPieces (unread_of input.old (R.remaining reader.old)) (R.remaining reader.new)
+        lines.old.version lines.new.script input.new result }
+{
+    let end = line_end(input.held(), 0);
+    if end >= input.held().len() {
+        return Err(TextFault::Trace(TraceFault {
+            line: 1,
+            kind: TraceKind::NoEnd,
+        }));
+    }
+    input.advance(end + 1);
+    if let Err(fault) = read_held(lines, input) {
+        return Err(TextFault::from(fault));
+    }
+    while input.is_full() {
+        if let Err(fault) = input.refill(reader) {
+            return Err(fault);
+        }
+        if let Err(fault) = read_held(lines, input) {
+            return Err(TextFault::from(fault));
+        }
+    }
+    match lines.end_fault(input.held()) {
+        Some(fault) => Err(TextFault::from(fault)),
+        None => Ok(()),
     }
 }
 
@@ -62,28 +96,9 @@ pub fn script_of_input<R: Read, const C: usize, const M: usize>(
     ensures { ReadsScript (unread_of input.old (R.remaining reader.old)) (R.remaining reader.new)
         version input.new result }
 {
-    let end = line_end(input.held(), 0);
-    if end >= input.held().len() {
-        return Err(TextFault::Trace(TraceFault {
-            line: 1,
-            kind: TraceKind::NoEnd,
-        }));
-    }
-    input.advance(end + 1);
     let mut lines = ScriptReader::<C, M>::new(alloc, version);
-    if let Err(fault) = read_held(&mut lines, input) {
-        return Err(TextFault::from(fault));
-    }
-    while input.is_full() {
-        if let Err(fault) = input.refill(reader) {
-            return Err(fault);
-        }
-        if let Err(fault) = read_held(&mut lines, input) {
-            return Err(TextFault::from(fault));
-        }
-    }
-    match lines.end_fault(input.held()) {
-        Some(fault) => Err(TextFault::from(fault)),
-        None => Ok(lines.script),
+    match read_pieces(reader, input, &mut lines) {
+        Ok(()) => Ok(lines.script),
+        Err(fault) => Err(fault),
     }
 }

@@ -21,7 +21,7 @@ pub fn exit_status(ending: &Result<bool, TextFault>) -> u8
 
 /// The line on standard error where there is no answer (this project's choice): the program's name
 /// and `: `, then `line L: ` for a fault of a trace, then the fault's number and name, and the LF.
-#[derive(Clone, Copy, Debug)]
+#[derive(Clone, Copy)]
 pub struct FaultLine {
     /// The name of the program that ends.
     pub program: &'static str,
@@ -32,10 +32,6 @@ impl fmt::Display for FaultLine {
     ghost output = { λ line. Some (fault_text line.program.now line.fault) };
 
     fn fmt<W: fmt::Write>(&self, f: &mut fmt::Formatter<W>) -> fmt::Result {
-        let (program, number, name) = (self.program, self.fault.number(), self.fault.name());
-        match self.fault.line() {
-            Some(line) => writeln!(f, "{program}: line {line}: {number} {name}"),
-            None => writeln!(f, "{program}: {number} {name}"),
-        }
+        writeln!(f, "{}: {}", self.program, self.fault)
     }
 }

@@ -1,13 +1,14 @@
 //! The answer to a text that the caller keeps, with both sides of the bridge in one thread.
-ghost use Rattle.std.specs.Prelude.{◌≡◌, ◌≤◌, ◌++◌, length, Some, IfOk, IfErr};
+ghost use Rattle.std.specs.Prelude.{◌≡◌, ◌≤◌, false, length, Some, IfOk, IfErr};
 ghost use Rattle.tl_lanes.specs.Lanes.{IsWidth};
 ghost use Rattle.std.specs.List.{list_all};
 ghost use Rattle.tl_ring.specs.declared.pipe.TheConstants.{MAX_RING};
-ghost use Rattle.tl_settle.specs.Outcomes.{far_beats, verdicts};
+ghost use Rattle.tl_settle.specs.Outcomes.{verdicts};
 ghost use Rattle.tl_bridge.specs.Scripts.{HasShortLists, SettlesTo, near_beats};
-ghost use Rattle.tl_answer.specs.Answer.{far_header, far_lines, report, is_done};
+ghost use Rattle.tl_answer.specs.Answer.{is_done};
 ghost use Rattle.tl_trace.specs.Faults.{HasHeader};
-ghost use Rattle.tl_answer.specs.Inner.Parts.{spelled};
+ghost use Rattle.tl_answer.specs.Inner.Asked.{CanCross};
+ghost use Rattle.tl_answer.specs.Inner.Parts.{spelled, text_of};
 ghost use Rattle.tl_answer.specs.Texts.{IsAnswer, IsOfText, most_bytes};
 ghost use Rattle.tl_answer.specs.declared.fault.TextFault.TheVariants.{OutOfMemory as NoMemory};
 
@@ -52,13 +53,9 @@ pub(crate) fn sync_answer_of<const C: usize, const M: usize>(
     version: u8,
     ring: usize,
 ) -> Result<AnswerParts, TextFault>
-    requires client { IsWidth C }
-    requires manager { IsWidth M }
-    requires short { HasShortLists script }
-    requires ring { (1 ≤ ring) × (ring ≤ MAX_RING) }
-    ensures text { IfOk result (λ made. spelled made ≡ far_header version C M
-        ++ far_lines version (far_beats (near_beats script.entry))
-        ++ report (verdicts (near_beats script.entry))) }
+    requires { CanCross script × (1 ≤ ring) × (ring ≤ MAX_RING) }
+    ensures text { IfOk result (λ made. spelled made
+        ≡ text_of version (near_beats script.entry) false) }
     ensures done { IfOk result (λ made. made.all_done
         ≡ list_all is_done (verdicts (near_beats script.entry))) }
     ensures err { IfErr result (λ fault. fault ≡ NoMemory) }
@@ -83,10 +80,7 @@ fn with_widths<const C: usize, const M: usize>(
     version: u8,
     check: bool,
 ) -> Result<Answer, TextFault>
-    requires client { IsWidth C }
-    requires manager { IsWidth M }
-    requires header { HasHeader text.now version C M }
-    requires few { length text.now ≤ most_bytes }
+    requires { HasHeader text.now version C M × (length text.now ≤ most_bytes) }
     ensures ok { IfOk result (λ made. IsAnswer text.now check made.text.items made.all_done) }
     ensures err { IfErr result (IsOfText text.now) }
 {
@@ -109,9 +103,7 @@ fn with_client<const C: usize>(
     manager: usize,
     check: bool,
 ) -> Result<Answer, TextFault>
-    requires client { IsWidth C }
-    requires header { HasHeader text.now version C manager }
-    requires few { length text.now ≤ most_bytes }
+    requires { HasHeader text.now version C manager × (length text.now ≤ most_bytes) }
     ensures ok { IfOk result (λ made. IsAnswer text.now check made.text.items made.all_done) }
     ensures err { IfErr result (IsOfText text.now) }
 {

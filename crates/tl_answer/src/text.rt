@@ -1,9 +1,10 @@
 //! From the bytes that come in to the bytes that go out.
-ghost use Rattle.std.specs.Prelude.{◌≡◌, ◌≢◌, ◌≤◌, ◌<◌, length, IfSome, IfOk, OnOk, IfErr, IsErrOf};
-ghost use Rattle.std.specs.Io.KnownBytes.{Appends, Keeps, IsAtEnd};
+ghost use Rattle.std.specs.Prelude.{◌≡◌, ◌≢◌, ◌≤◌, ◌<◌, ℕ, List, Option, length, IfSome, IfOk, OnOk, IfErr, IsErrOf};
+ghost use Rattle.std.specs.Io.KnownBytes.{Appends, Consumes, Keeps, IsAtEnd};
 ghost use Rattle.tl_order.specs.Orders.{IsRunnable};
 ghost use Rattle.tl_answer.specs.Inner.Answered.{AnswersRead};
 ghost use Rattle.tl_answer.specs.Inner.Parts.{spelled};
+ghost use Rattle.tl_answer.specs.Inner.Reading.{IsReadOn, IsPastMost};
 ghost use Rattle.tl_answer.specs.Texts.{AnswersText, most_bytes};
 ghost use Rattle.tl_answer.specs.declared.fault.TextFault.TheVariants.{Read as ReadFault, Write as WriteFault, TooLong, OutOfMemory};
 
@@ -19,6 +20,53 @@ use tl_order::Order;
 /// The bytes that one read may give.
 const READ_BYTES: usize = 65_536;
 
+/// Reads a piece, which goes behind what was read before: whether there was more.
+///
+/// Refused as `read_all` is.
+fn read_on<R: Read>(reader: &mut R, all: &mut Vec<u8>, buffer: &mut [u8]) -> Result<bool, TextFault>
+    requires { (length all.old.items ≤ most_bytes) × (0 < length buffer.old) }
+    ensures ok { IfOk result (IsReadOn (R.remaining reader.old) (R.remaining reader.new)
+        all.old.items all.new.items) }
+    ensures long { IsErrOf result TooLong →
+        IsPastMost (R.remaining reader.old) all.old.items }
+    ensures kinds { IfErr result (λ e. (e ≢ ReadFault) → (e ≢ TooLong) → e ≡ OutOfMemory) }
+{
+    match reader.read(buffer) {
+        Ok(0) => Ok(false),
+        Ok(n) => {
+            if n > MAX_BYTES - all.len() {
+                return Err(TextFault::TooLong);
+            }
+            all.extend_from_slice(&buffer[..n])?;
+            Ok(true)
+        }
+        Err(_) => Err(TextFault::Read),
+    }
+}
+
+/// Reads to the end, through a buffer, and behind what was read before.
+///
+/// Refused as `read_all` is.
+fn read_rest<R: Read>(reader: &mut R, all: &mut Vec<u8>, buffer: &mut [u8]) -> Result<(), TextFault>
+    requires { (length all.old.items ≤ most_bytes) × (0 < length buffer.old) }
+    ensures all { (unread : Option (List ℕ)) → Consumes unread (R.remaining reader.old) all.old.items →
+        OnOk result (Consumes unread (R.remaining reader.new) all.new.items) }
+    ensures few { OnOk result (length all.new.items ≤ most_bytes) }
+    ensures end { OnOk result (IsAtEnd (R.remaining reader.new)) }
+    ensures long { IsErrOf result TooLong →
+        IsPastMost (R.remaining reader.old) all.old.items }
+    ensures kinds { IfErr result (λ e. (e ≢ ReadFault) → (e ≢ TooLong) → e ≡ OutOfMemory) }
+{
+    let mut more = true;
+    while more {
+        more = match read_on(reader, all, buffer) {
+            Ok(more) => more,
+            Err(fault) => return Err(fault),
+        };
+    }
+    Ok(())
+}
+
 /// All that a reader gives, up to its end.
 ///
 /// Refused with `Read` where a read fails or is interrupted, with `TooLong` above 67,108,864 bytes,
@@ -31,21 +79,12 @@ pub fn read_all<R: Read>(alloc: Global, reader: &mut R) -> Result<Vec<u8>, TextF
         most_bytes < length text) }
     ensures kinds { IfErr result (λ e. (e ≢ ReadFault) → (e ≢ TooLong) → e ≡ OutOfMemory) }
 {
-    let mut all = Vec::new(alloc);
     let mut buffer = read_buffer(alloc, READ_BYTES)?;
-    for _ in 0..=MAX_BYTES {
-        match reader.read(buffer.as_mut_slice()) {
-            Ok(0) => return Ok(all),
-            Ok(n) => {
-                if n > MAX_BYTES - all.len() {
-                    return Err(TextFault::TooLong);
-                }
-                all.extend_from_slice(&buffer[..n])?;
-            }
-            Err(_) => return Err(TextFault::Read),
-        }
+    let mut all = Vec::new(alloc);
+    match read_rest(reader, &mut all, buffer.as_mut_slice()) {
+        Ok(()) => Ok(all),
+        Err(fault) => Err(fault),
     }
-    Err(TextFault::TooLong)
 }
 
 /// Writes all bytes. Refused as `write_all` is.
@@ -86,36 +125,20 @@ pub fn write_all<W: Write>(writer: &mut W, bytes: &[u8]) -> Result<(), TextFault
     flush(writer)
 }
 
-/// Writes a part of an answer, which is let go then. Refused as `write_all` is.
-fn write_part<W: Write>(writer: &mut W, part: Vec<u8>) -> Result<(), TextFault>
-    ensures all { OnOk result (Appends (W.contents writer.old) (W.contents writer.new) part.items) }
-    ensures kind { IfErr result (λ e. e ≡ WriteFault) }
-{
-    write_bytes(writer, &part)
-}
-
 /// Writes an answer and flushes: true where all five channels are done. Refused as `write_all` is.
-fn write_answer<W: Write>(writer: &mut W, answer: AnswerParts) -> Result<bool, TextFault>
+fn write_answer<W: Write>(writer: &mut W, answer: &AnswerParts) -> Result<bool, TextFault>
     ensures text { OnOk result (Appends (W.contents writer.old) (W.contents writer.new)
-        (spelled answer)) }
-    ensures done { IfOk result (λ all_done. all_done ≡ answer.all_done) }
+        (spelled answer.now)) }
+    ensures done { IfOk result (λ all_done. all_done ≡ answer.now.all_done) }
     ensures kind { IfErr result (λ e. e ≡ WriteFault) }
 {
-    let AnswerParts {
-        a,
-        b,
-        c,
-        d,
-        e,
-        all_done,
-    } = answer;
-    write_part(writer, a)?;
-    write_part(writer, b)?;
-    write_part(writer, c)?;
-    write_part(writer, d)?;
-    write_part(writer, e)?;
+    write_bytes(writer, &answer.a)?;
+    write_bytes(writer, &answer.b)?;
+    write_bytes(writer, &answer.c)?;
+    write_bytes(writer, &answer.d)?;
+    write_bytes(writer, &answer.e)?;
     flush(writer)?;
-    Ok(all_done)
+    Ok(answer.all_done)
 }
 
 /// The answer to the text that a reader gives, which is read to its end.
@@ -167,5 +190,5 @@ pub fn run_text<T: Threads, R: Read, W: Write>(
         (W.contents writer.old) (W.contents writer.new) order.now result }
 {
     let answer = read_answer(rt, alloc, reader, order)?;
-    write_answer(writer, answer)
+    write_answer(writer, &answer)
 }

@@ -12,6 +12,10 @@ abbrev pub whole : {H : Type 0} (f : Form H) (w : ℕ) → List ℕ → List (Be
 whole f w text waiting = text ++ beats_text f w waiting
 
 module _ {C M : ℕ} where
+  -- the five texts, one after the other, without the beats that wait
+  abbrev pub texts : FarTexts C M → List ℕ
+  texts t = t.a.text.items ++ t.b.text.items ++ t.c.text.items ++ t.d.text.items ++ t.e.text.items
+
   -- the lines of these far beats were written, or will be: those of A behind the first line of an answer
   pub record HasLines (t : FarTexts C M) (far : Beats M C) : Type 0 where
     pub a : whole (form_a t.version) M t.a.text.items t.a.waiting.items ≡ far_header t.version C M ++ beats_text (form_a t.version) M far.a

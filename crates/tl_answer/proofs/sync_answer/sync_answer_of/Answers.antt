@@ -8,7 +8,7 @@ use Rattle.tl_answer.specs.Inner.Parts.{spelled}
 use Rattle.tl_answer.proofs.sync_answer.sync_answer_of.Goals as goal
 
 pub run_sync_into-requires : goal.run_sync_into-requires
-run_sync_into-requires g c = (lit< tt, (c.requires.client, (c.requires.manager, (c.requires.short, c.in-Ok.ensures.lines))))
+run_sync_into-requires g c = (lit< tt, (c.requires.0.client, (c.requires.0.manager, (c.requires.0.short, c.in-Ok.ensures.lines))))
 
 pub returns-clause-text : goal.returns-clause-text
 returns-clause-text g c =

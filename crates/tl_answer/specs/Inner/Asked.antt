@@ -1,0 +1,22 @@
+-- What is asked of a text or of its script. Only private contracts cite these words.
+use Rattle.std.specs.Prelude.{ℕ, List, Option}
+use Rattle.tl_lanes.specs.Lanes.{IsWidth}
+use Rattle.tl_order.specs.Orders.{IsRunnable}
+use Rattle.tl_order.specs.declared.Order.{Order}
+use Rattle.tl_trace.specs.Faults.{HasHeader}
+use Rattle.tl_trace.specs.declared.script.Script.{Script}
+use Rattle.tl_bridge.specs.Scripts.{HasShortLists}
+use Rattle.tl_answer.specs.Inputs.{IsFresh, held}
+use Rattle.tl_answer.specs.declared.input.Input.{Input}
+
+-- a text of which the input holds the first piece, whose header names this version and these widths, and an order that can be run
+pub record IsAsked (left : Option (List ℕ)) (input : Input) (version client manager : ℕ) (order : Order) : Type 0 where
+  pub fresh : IsFresh left input
+  pub header : HasHeader (held input) version client manager
+  pub runnable : IsRunnable order
+
+-- a script that the bridge can run
+pub record CanCross {C M : ℕ} (s : Script C M) : Type 0 where
+  pub client : IsWidth C
+  pub manager : IsWidth M
+  pub short : HasShortLists s
