@@ -1,10 +1,12 @@
-//! Tests of the crossing, from one channel's pipe and ends to both sides of the bridge and the runs of a
-//! script, in a crate of their own: a crate with tests is proved twice, and each spends half a minute on
-//! loading alone.
+//! Tests of lanes, messages, bursts, the converter and traces, and of the crossing, from one channel's pipe and
+//! ends to both sides of the bridge and the runs of a script, in a crate of their own: a crate with tests is
+//! proved twice, and each spends half a minute on loading alone.
 #![tactic(auto)]
 
 #[cfg(test)]
 mod beats;
+#[cfg(test)]
+mod below;
 #[cfg(test)]
 mod build_tests;
 #[cfg(test)]

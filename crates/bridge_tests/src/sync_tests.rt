@@ -188,49 +188,30 @@ fn all_taken(bridge: &mut SyncBridge<4, 16>) -> bool {
     block.head == BLOCK.head && ack.head == ACK && sink.head == SINK.head
 }
 
-fn cross_on_the_others<R: Abort>(rt: &R, bridge: &mut SyncBridge<4, 16>) {
+/// Closes each channel, and answers whether it was closed, and not ready then.
+fn closes_each(bridge: &mut SyncBridge<4, 16>) -> bool {
+    let a = bridge.close_a().is_ok() & !bridge.ready_a();
+    let b = bridge.close_b().is_ok() & !bridge.ready_b();
+    let c = bridge.close_c().is_ok() & !bridge.ready_c();
+    let d = bridge.close_d().is_ok() & !bridge.ready_d();
+    let e = bridge.close_e().is_ok() & !bridge.ready_e();
+    a & b & c & d & e
+}
+
+fn cross_and_close<R: Abort>(rt: &R, bridge: &mut SyncBridge<4, 16>) {
     assert!(*rt; all_offered(bridge));
     assert!(*rt; bridge.pump() == 3);
     assert!(*rt; bridge.fetch() == 3);
     assert!(*rt; bridge.standings().c.inbox == 1);
     assert!(*rt; all_taken(bridge));
     assert!(*rt; bridge.standings() == Standings::default());
-}
-
-fn closes_a(bridge: &mut SyncBridge<4, 16>) -> bool {
-    bridge.close_a().is_ok() && !bridge.ready_a()
-}
-
-fn closes_b(bridge: &mut SyncBridge<4, 16>) -> bool {
-    bridge.close_b().is_ok() && !bridge.ready_b()
-}
-
-fn closes_c(bridge: &mut SyncBridge<4, 16>) -> bool {
-    bridge.close_c().is_ok() && !bridge.ready_c()
-}
-
-fn closes_d(bridge: &mut SyncBridge<4, 16>) -> bool {
-    bridge.close_d().is_ok() && !bridge.ready_d()
-}
-
-fn closes_e(bridge: &mut SyncBridge<4, 16>) -> bool {
-    bridge.close_e().is_ok() && !bridge.ready_e()
-}
-
-/// Closes each channel, which is not ready then.
-fn close_each<R: Abort>(rt: &R, bridge: &mut SyncBridge<4, 16>) {
-    assert!(*rt; closes_a(bridge));
-    assert!(*rt; closes_b(bridge));
-    assert!(*rt; closes_c(bridge));
-    assert!(*rt; closes_d(bridge));
-    assert!(*rt; closes_e(bridge));
+    assert!(*rt; closes_each(bridge));
 }
 
 #[test]
 fn probes_releases_and_acknowledgements(rt: HostRuntime) -> Result<(), Fail> {
     let mut bridge = build(rt.alloc(), 1)?;
-    cross_on_the_others(&rt, &mut bridge);
-    close_each(&rt, &mut bridge);
+    cross_and_close(&rt, &mut bridge);
     drop(bridge);
     Ok(())
 }

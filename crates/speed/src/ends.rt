@@ -32,21 +32,37 @@ trait Taker {
     fn take(&mut self, masks: &mut Mask) -> usize;
 }
 
-/// Offers a beat where the end is ready. Answers whether it was accepted.
-fn offer<K: Channel, const W: usize>(end: &mut SendEnd<K, W, W>, beat: &Beat<K, W>) -> bool {
-    if !is_width(W) {
-        return false;
-    }
-    if !end.ready() {
-        return false;
-    }
-    end.offer(*beat, 0).is_ok()
+/// Offers a request where the end is ready. Answers whether it was accepted.
+fn offer_request<const W: usize>(end: &mut SendEnd<ChA, W, W>, beat: &Beat<ChA, W>) -> bool {
+    is_width(W) && end.ready() && end.offer(*beat, 0).is_ok()
 }
 
-impl<K: Channel, const W: usize> Sender<Beat<K, W>> for SendEnd<K, W, W> {
-    fn send(&mut self, beats: &[Beat<K, W>], number: usize) -> bool {
+/// Offers a GrantAck where the end is ready. Answers whether it was accepted.
+#[tactic(auto, using(tl_lanes::proofs::Widths::width_8))]
+fn offer_ack(end: &mut SendEnd<ChE, 8, 8>, beat: &Beat<ChE, 8>) -> bool {
+    end.ready() && end.offer(*beat, 0).is_ok()
+}
+
+impl<const W: usize> Sender<Beat<ChA, W>> for SendEnd<ChA, W, W> {
+    fn send(&mut self, beats: &[Beat<ChA, W>], number: usize) -> bool {
         let accepted = match beats.get(number % SOME) {
-            Some(beat) => offer(self, beat),
+            Some(beat) => offer_request(self, beat),
+            None => false,
+        };
+        self.pump();
+        accepted
+    }
+
+    fn is_sent(&mut self) -> bool {
+        self.pump();
+        self.staged() == 0
+    }
+}
+
+impl Sender<Beat<ChE, 8>> for SendEnd<ChE, 8, 8> {
+    fn send(&mut self, beats: &[Beat<ChE, 8>], number: usize) -> bool {
+        let accepted = match beats.get(number % SOME) {
+            Some(beat) => offer_ack(self, beat),
             None => false,
         };
         self.pump();

@@ -27,7 +27,36 @@ use whole::Way;
 
 /// The number that a word is.
 fn number(word: &str) -> usize {
-    word.parse().unwrap_or(0)
+    match word.parse() {
+        Ok(number) => number,
+        Err(_) => 0,
+    }
+}
+
+/// How the words ask for the run of a trace, where they do.
+fn way_of(words: &[&str]) -> Option<Way> {
+    match words {
+        ["sync", ring] => {
+            Some(Way {
+                ring: number(ring),
+                turns: None,
+            })
+        }
+        ["run", ring, turns] => {
+            Some(Way {
+                ring: number(ring),
+                turns: Some(number(turns)),
+            })
+        }
+        _ => None,
+    }
+}
+
+/// Says which words there are.
+fn print_usage(rt: &impl Print) {
+    let _ = println!(rt;
+        "usage: speed ends A|E WIDTH RING BEATS, or one of pass, measure, sync RING and run RING TURNS < TRACE"
+    );
 }
 
 /// Measures what the words of the command line ask for.
@@ -37,23 +66,12 @@ fn measure_by(
     words: &[&str],
     figures: &mut Figures,
 ) {
+    if let Some(way) = way_of(words) {
+        return whole::run(rt, reader, way, figures);
+    }
     match words {
         ["measure"] => measure::measure(rt, reader, figures),
         ["pass"] => measure::pass(rt, reader, figures),
-        ["sync", ring] => {
-            let way = Way {
-                ring: number(ring),
-                turns: None,
-            };
-            whole::run(rt, reader, way, figures);
-        }
-        ["run", ring, turns] => {
-            let way = Way {
-                ring: number(ring),
-                turns: Some(number(turns)),
-            };
-            whole::run(rt, reader, way, figures);
-        }
         ["ends", channel, width, ring, count] => {
             ends::measure(
                 rt,
@@ -64,11 +82,7 @@ fn measure_by(
                 figures,
             )
         }
-        _ => {
-            let _ = println!(rt;
-                "usage: speed ends A|E WIDTH RING BEATS, or one of pass, measure, sync RING and run RING TURNS < TRACE"
-            );
-        }
+        _ => print_usage(rt),
     }
 }
 

@@ -1,5 +1,5 @@
 //! Measures reading, conversion and writing.
-ghost use Rattle.std.specs.Prelude.{IfSome, IsSome};
+ghost use Rattle.std.specs.Prelude.{IfSome};
 ghost use Rattle.tl_lanes.specs.Lanes.{IsWidth};
 ghost use Rattle.tl_trace.specs.Faults.{HasHeader};
 ghost use Rattle.tl_answer.specs.Inputs.{IsFresh};
@@ -9,14 +9,11 @@ use arrayvec::ArrayVec;
 use std::fs::Files;
 use std::io::Read;
 use std::rt::Clock;
-use tl_answer::{Input, script_of_input};
+use tl_answer::{Input, MAX_BYTES, script_of_input};
 use tl_convert::Converter;
-use tl_lanes::{WIDEST, is_width};
+use tl_lanes::WIDEST;
 use tl_msg::{Beat, ChA, ChE};
 use tl_trace::{HeadText, Script, header_of_text, write_far};
-
-/// The bytes of the longest trace that the bridge takes.
-const MOST_BYTES: usize = 67_108_864;
 
 /// How many near beats are converted before the lines of their far beats are written.
 const NEAR_BEATS: usize = 64;
@@ -27,7 +24,7 @@ fn line_ends(text: &[u8]) -> usize {
 
 /// Takes all of standard input into memory, and counts its LFs: plain passes, to compare with.
 pub fn pass(rt: &(impl Clock + AllocGlobal), reader: &mut impl Read, figures: &mut Figures) {
-    let Ok(mut text) = Vec::with_capacity(rt.alloc(), MOST_BYTES) else {
+    let Ok(mut text) = Vec::with_capacity(rt.alloc(), MAX_BYTES) else {
         return figures.refuse("there is no memory for the text");
     };
     let start = now(rt);
@@ -134,18 +131,14 @@ fn put_work(figures: &mut Figures, work: &Work, near_beats: usize, far_bytes: us
 
 /// The version of a trace between these widths, by its first line.
 pub(crate) fn version_between(text: &[u8], client: usize, manager: usize) -> Option<u8>
-    ensures header { IfSome result (λ version. HasHeader text.now version client manager) }
-    ensures client { IsSome result → IsWidth client }
-    ensures manager { IsSome result → IsWidth manager }
+    ensures { IfSome result (λ version. HasHeader text.now version client manager) }
 {
-    let header = header_of_text(text)?;
-    if header.client != client || header.manager != manager {
-        return None;
+    match header_of_text(text) {
+        Some(header) if (header.client == client) & (header.manager == manager) => {
+            Some(header.version)
+        }
+        _ => None,
     }
-    if !is_width(client) || !is_width(manager) {
-        return None;
-    }
-    Some(header.version)
 }
 
 /// Converts the beats of A, or of E where there is none of A, and writes the far ones.
@@ -169,6 +162,22 @@ fn measure_script<const C: usize, const M: usize>(
     }
 }
 
+/// Adds what it took to read a script, converts its beats and writes the far ones.
+fn measure_read<const C: usize, const M: usize>(
+    rt: &(impl Clock + Files + AllocGlobal),
+    script: &Script<C, M>,
+    version: u8,
+    start: Start,
+    figures: &mut Figures,
+)
+    requires client { IsWidth C }
+    requires manager { IsWidth M }
+{
+    figures.put_time(rt, "read", start);
+    figures.put_peak(rt, "peak");
+    measure_script(rt, script, version, figures);
+}
+
 /// Reads a trace between these widths piece by piece, as the program does, converts its beats of A, or of E where it has none of A,
 /// and writes the far ones.
 fn measure_pair<R: Read, const C: usize, const M: usize>(
@@ -178,17 +187,43 @@ fn measure_pair<R: Read, const C: usize, const M: usize>(
     start: Start,
     figures: &mut Figures,
 )
-    requires { IsFresh (R.remaining reader.old) input.old }
+    requires client { IsWidth C }
+    requires manager { IsWidth M }
+    requires fresh { IsFresh (R.remaining reader.old) input.old }
 {
     let Some(version) = version_between(input.held(), C, M) else {
         return figures.refuse("the text is no trace between these widths");
     };
-    let Ok(script) = script_of_input::<R, C, M>(rt.alloc(), reader, input, version) else {
+    match script_of_input::<R, C, M>(rt.alloc(), reader, input, version) {
+        Ok(script) => measure_read(rt, &script, version, start, figures),
+        Err(_) => figures.refuse("the text is no trace"),
+    }
+}
+
+/// Reads the rest of a trace, of which the input holds the first piece, converts its beats and writes the far ones.
+#[tactic(auto, using(tl_lanes::proofs::Widths::width_1, tl_lanes::proofs::Widths::width_4, tl_lanes::proofs::Widths::width_8, tl_lanes::proofs::Widths::width_32, tl_lanes::proofs::Widths::width_64, tl_lanes::proofs::Widths::width_128))]
+fn measure_input<R: Read>(
+    rt: &(impl Clock + Files + AllocGlobal),
+    reader: &mut R,
+    input: &mut Input,
+    start: Start,
+    figures: &mut Figures,
+)
+    requires { IsFresh (R.remaining reader.old) input.old }
+{
+    let Some(header) = header_of_text(input.held()) else {
         return figures.refuse("the text is no trace");
     };
-    figures.put_time(rt, "read", start);
-    figures.put_peak(rt, "peak");
-    measure_script(rt, &script, version, figures);
+    match (header.client, header.manager) {
+        (8, 8) => measure_pair::<R, 8, 8>(rt, reader, input, start, figures),
+        (4, 64) => measure_pair::<R, 4, 64>(rt, reader, input, start, figures),
+        (64, 4) => measure_pair::<R, 64, 4>(rt, reader, input, start, figures),
+        (64, 1) => measure_pair::<R, 64, 1>(rt, reader, input, start, figures),
+        (8, 32) => measure_pair::<R, 8, 32>(rt, reader, input, start, figures),
+        (128, 1) => measure_pair::<R, 128, 1>(rt, reader, input, start, figures),
+        (1, 128) => measure_pair::<R, 1, 128>(rt, reader, input, start, figures),
+        _ => figures.refuse("nothing is measured at these widths"),
+    }
 }
 
 /// Reads a trace from standard input piece by piece, as the program does, converts its beats and writes the far ones. Each part is
@@ -199,21 +234,8 @@ pub fn measure<R: Read>(
     figures: &mut Figures,
 ) {
     let start = now(rt);
-    let Ok(mut input) = Input::open(rt.alloc(), reader) else {
-        return figures.refuse("the text cannot be read");
-    };
-    let Some(header) = header_of_text(input.held()) else {
-        return figures.refuse("the text is no trace");
-    };
-    let input = &mut input;
-    match (header.client, header.manager) {
-        (8, 8) => measure_pair::<R, 8, 8>(rt, reader, input, start, figures),
-        (4, 64) => measure_pair::<R, 4, 64>(rt, reader, input, start, figures),
-        (64, 4) => measure_pair::<R, 64, 4>(rt, reader, input, start, figures),
-        (64, 1) => measure_pair::<R, 64, 1>(rt, reader, input, start, figures),
-        (8, 32) => measure_pair::<R, 8, 32>(rt, reader, input, start, figures),
-        (128, 1) => measure_pair::<R, 128, 1>(rt, reader, input, start, figures),
-        (1, 128) => measure_pair::<R, 1, 128>(rt, reader, input, start, figures),
-        _ => figures.refuse("nothing is measured at these widths"),
+    match Input::open(rt.alloc(), reader) {
+        Ok(mut input) => measure_input(rt, reader, &mut input, start, figures),
+        Err(_) => figures.refuse("the text cannot be read"),
     }
 }

@@ -1,19 +1,18 @@
 //! Measures whole runs.
-ghost use Rattle.std.specs.Prelude.{◌≤◌, IsTrue};
+ghost use Rattle.std.specs.Prelude.{◌≤◌, length};
 ghost use Rattle.tl_lanes.specs.Lanes.{IsWidth};
 ghost use Rattle.tl_bridge.specs.Scripts.{HasShortLists};
+ghost use Rattle.tl_answer.specs.Texts.{most_bytes};
 
-use crate::figures::{Figures, now};
+use crate::figures::{Figures, Start, now};
 use crate::measure::version_between;
 use std::io::Read;
 use std::rt::Clock;
 use std::thread::{Threads, join_mut};
+use tl_answer::MAX_BYTES;
 use tl_bridge::{NoGate, Outcome, RunFault, run_sync, run_threads};
 use tl_msg::Verdict;
 use tl_trace::{Script, header_of_text, read_script};
-
-/// The most beats of a channel that a run takes.
-const MOST_BEATS: usize = 1 << 40;
 
 /// How many bare joins are timed.
 const JOINS: u64 = 1000;
@@ -25,17 +24,6 @@ pub struct Way {
     pub ring: usize,
     /// The turns of each side between two meetings, where each side has a thread of its own.
     pub turns: Option<usize>,
-}
-
-/// Whether a run takes the lists of a script.
-fn is_short<const C: usize, const M: usize>(script: &Script<C, M>) -> bool
-    ensures { IsTrue result → HasShortLists script.now }
-{
-    script.a.len() <= MOST_BEATS
-        && script.b.len() <= MOST_BEATS
-        && script.c.len() <= MOST_BEATS
-        && script.d.len() <= MOST_BEATS
-        && script.e.len() <= MOST_BEATS
 }
 
 /// Runs a script in one thread, or in two.
@@ -82,6 +70,17 @@ fn put_counts(figures: &mut Figures, verdicts: &[Verdict; 5], rounds: u64) {
     figures.put("rounds", rounds as u128);
 }
 
+/// Adds how long a run took that ended so, and what it did.
+fn put_run<const C: usize, const M: usize>(
+    rt: &impl Clock,
+    outcome: &Outcome<C, M>,
+    start: Start,
+    figures: &mut Figures,
+) {
+    figures.put_time(rt, "run", start);
+    put_counts(figures, &outcome.verdicts, outcome.rounds);
+}
+
 /// Runs a script. The run is timed.
 fn run_script<const C: usize, const M: usize>(
     rt: &(impl Clock + Threads + AllocGlobal),
@@ -91,16 +90,11 @@ fn run_script<const C: usize, const M: usize>(
 )
     requires client { IsWidth C }
     requires manager { IsWidth M }
+    requires short { HasShortLists script.now }
 {
-    if !is_short(script) {
-        return figures.refuse("the trace has too many beats");
-    }
     let start = now(rt);
     match outcome_of::<C, M>(rt, script, way) {
-        Ok(outcome) => {
-            figures.put_time(rt, "run", start);
-            put_counts(figures, &outcome.verdicts, outcome.rounds);
-        }
+        Ok(outcome) => put_run(rt, &outcome, start, figures),
         Err(_) => figures.refuse("the run found no ring of this size, or no memory"),
     }
 }
@@ -111,7 +105,11 @@ fn run_pair<const C: usize, const M: usize>(
     text: &[u8],
     way: Way,
     figures: &mut Figures,
-) {
+)
+    requires client { IsWidth C }
+    requires manager { IsWidth M }
+    requires few { length text.now ≤ most_bytes }
+{
     let Some(version) = version_between(text, C, M) else {
         return figures.refuse("the text is no trace between these widths");
     };
@@ -122,12 +120,10 @@ fn run_pair<const C: usize, const M: usize>(
 }
 
 /// Runs a trace.
-fn run_text(
-    rt: &(impl Clock + Threads + AllocGlobal),
-    text: &[u8],
-    way: Way,
-    figures: &mut Figures,
-) {
+#[tactic(auto, using(tl_lanes::proofs::Widths::width_4, tl_lanes::proofs::Widths::width_8, tl_lanes::proofs::Widths::width_16, tl_lanes::proofs::Widths::width_64))]
+fn run_text(rt: &(impl Clock + Threads + AllocGlobal), text: &[u8], way: Way, figures: &mut Figures)
+    requires few { length text.now ≤ most_bytes }
+{
     let Some(header) = header_of_text(text) else {
         return figures.refuse("the text is no trace");
     };
@@ -150,6 +146,21 @@ fn measure_joins(rt: &(impl Clock + Threads), figures: &mut Figures) {
     figures.put("joins", JOINS as u128);
 }
 
+/// Runs a trace that was read, unless it is longer than the program takes, and times bare joins.
+fn run_read(
+    rt: &(impl Clock + Threads + AllocGlobal),
+    text: &[u8],
+    way: Way,
+    figures: &mut Figures,
+) {
+    if text.len() > MAX_BYTES {
+        return figures.refuse("the text is too long");
+    }
+    figures.put("bytes", text.len() as u128);
+    run_text(rt, text, way, figures);
+    measure_joins(rt, figures);
+}
+
 /// Reads a trace from standard input and runs it. The run is timed, and then bare joins.
 pub fn run(
     rt: &(impl Clock + Threads + AllocGlobal),
@@ -158,10 +169,8 @@ pub fn run(
     figures: &mut Figures,
 ) {
     let mut text = Vec::new(rt.alloc());
-    if reader.read_to_end(&mut text).is_err() {
-        return figures.refuse("the text cannot be read");
+    match reader.read_to_end(&mut text) {
+        Ok(_) => run_read(rt, &text, way, figures),
+        Err(_) => figures.refuse("the text cannot be read"),
     }
-    figures.put("bytes", text.len() as u128);
-    run_text(rt, &text, way, figures);
-    measure_joins(rt, figures);
 }

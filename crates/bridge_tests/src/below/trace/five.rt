@@ -1,6 +1,8 @@
 //! A trace of five beats, what it is read as, and calls that make a script or a text of a trace.
 #![tactic(auto, using(tl_lanes::proofs::Widths::width_4, tl_lanes::proofs::Widths::width_8))]
 
+ghost use Rattle.std.specs.Prelude.{◌≡◌};
+
 use std::alloc::Global;
 use std::test::Fail;
 use tl_msg::{HeadA, HeadB, HeadC, HeadD, HeadE};
@@ -143,21 +145,36 @@ pub fn script_read(alloc: Global, text: &[u8]) -> Result<Script<4, 8>, Fail> {
     }
 }
 
-/// The script of the lines behind the header's, which are read in two pieces: the second begins with
-/// what the first one left.
-pub fn script_in_pieces(
-    alloc: Global,
+/// Reads the lines behind the header's in two pieces, of which the second begins with what the first one left, and answers
+/// their first fault.
+fn fault_in_pieces(
+    reader: &mut ScriptReader<4, 8>,
     lines: &[u8],
     first: usize,
-) -> Result<Script<4, 8>, TraceFault> {
-    let mut reader = ScriptReader::<4, 8>::new(alloc, 1);
-    let used = reader.read(&lines[..first.min(lines.len())])?;
+) -> Option<TraceFault>
+    requires version { reader.old.version ≡ 1 }
+    requires line { reader.old.line ≡ 1 }
+{
+    let used = match reader.read(&lines[..first.min(lines.len())]) {
+        Ok(used) => used,
+        Err(fault) => return Some(fault),
+    };
     let rest = &lines[used..];
-    let used = reader.read(rest)?;
-    match reader.end_fault(&rest[used..]) {
-        Some(fault) => Err(fault),
-        None => Ok(reader.script),
+    match reader.read(rest) {
+        Ok(used) => reader.end_fault(&rest[used..]),
+        Err(fault) => Some(fault),
     }
+}
+
+/// The first fault of lines that are read so.
+pub fn fault_of_pieces(alloc: Global, lines: &[u8], first: usize) -> Option<TraceFault> {
+    fault_in_pieces(&mut ScriptReader::new(alloc, 1), lines, first)
+}
+
+/// Whether lines that are read so have no fault, and are the script of [`FIVE`].
+pub fn is_read_in_pieces(alloc: Global, lines: &[u8], first: usize) -> bool {
+    let mut reader = ScriptReader::<4, 8>::new(alloc, 1);
+    fault_in_pieces(&mut reader, lines, first).is_none() && is_script_of(&reader.script, &HEADS)
 }
 
 /// The script that a trace of these widths is made into.

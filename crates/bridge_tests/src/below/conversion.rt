@@ -147,20 +147,27 @@ const LANES: [u8; 16] = [
     0x88, 0x99, 0x00, 0x11, 0x22, 0x33, 0x44, 0x55, 0x66, 0x77, 0x88, 0x99, 0xaa, 0xbb, 0xcc, 0xdd,
 ];
 
-#[test]
-fn short_responses_at_their_addresses(rt: HostRuntime) {
+/// The last four bytes of a bus of 16.
+fn is_narrowed_to_four(converter: &mut Converter<ChD, 16, 4>) -> bool {
     let far = [response(2, [0xaa, 0xbb, 0xcc, 0xdd], false)];
-    let near = response(2, LANES, false);
-    assert!(rt; gives(&mut Converter::<ChD, 16, 4>::new(), near, 0x100c, &far));
-    widen_in_two(&rt, &mut Converter::new());
+    gives(converter, response(2, LANES, false), 0x100c, &far)
+}
 
-    // round the end of the bus, and round the end of the addresses
+/// A response of 4 bytes, round the end of the bus, and round the end of the addresses.
+fn is_narrowed_in_two(converter: &mut Converter<ChD, 8, 2>) -> bool {
     let near = response(2, [0x22, 0x33, 0x55, 0x55, 0x55, 0x55, 0x00, 0x11], false);
     let far = [
         response(2, [0x00, 0x11], false),
         response(2, [0x22, 0x33], false),
     ];
-    assert!(rt; gives(&mut Converter::<ChD, 8, 2>::new(), near, u64::MAX - 1, &far));
+    gives(converter, near, u64::MAX - 1, &far)
+}
+
+#[test]
+fn short_responses_at_their_addresses(rt: HostRuntime) {
+    assert!(rt; is_narrowed_to_four(&mut Converter::new()));
+    widen_in_two(&rt, &mut Converter::new());
+    assert!(rt; is_narrowed_in_two(&mut Converter::new()));
 }
 
 /// Takes a near beat of A by its test and by its feed, and answers whether it has this index, is the
@@ -240,31 +247,34 @@ fn gives_requests<const W: usize, const V: usize>(
     }
 }
 
-#[test]
-#[tactic(auto, using(tl_lanes::proofs::Widths::width_1, tl_lanes::proofs::Widths::width_128))]
-fn request_of_4096_bytes(rt: HostRuntime) {
-    let head = HeadA {
-        opcode: 4,
-        param: 0,
-        size: 12,
-        source: 0,
-        address: 0x2000,
-    };
+/// Get of 4,096 bytes.
+const GET: HeadA = HeadA {
+    opcode: 4,
+    param: 0,
+    size: 12,
+    source: 0,
+    address: 0x2000,
+};
+
+fn is_one_request(converter: &mut Converter<ChA, 128, 1>) -> bool {
     let near = BeatOf {
-        head,
+        head: GET,
         mask: Mask::MAX,
         lanes: [0x55; 128],
         corrupt: false,
     };
     let far = BeatOf {
-        head,
+        head: GET,
         mask: 1,
         lanes: [0],
         corrupt: false,
     };
-    let mut converter = Converter::<ChA, 128, 1>::new();
-    assert!(rt; gives_requests(&mut converter, near, &[far]));
-    assert!(rt; converter.at_boundary());
+    gives_requests(converter, near, &[far]) && converter.at_boundary()
+}
+
+#[test]
+fn request_of_4096_bytes(rt: HostRuntime) {
+    assert!(rt; is_one_request(&mut Converter::new()));
 }
 
 /// A beat of PutPartialData of 128 bytes.
@@ -291,38 +301,51 @@ const HIGH: Mask = 0x8000000000000001;
 
 const BOTH: Mask = HIGH << 64 | LOW;
 
-#[test]
-#[tactic(auto, using(tl_lanes::proofs::Widths::width_64, tl_lanes::proofs::Widths::width_128))]
-fn masks_of_both_halves(rt: HostRuntime) {
-    let mut narrow = Converter::<ChA, 128, 64>::new();
+fn is_halved(narrow: &mut Converter<ChA, 128, 64>) -> bool {
     let far = [partial(LOW, 0, true), partial(HIGH, 64, true)];
-    assert!(rt; gives_requests(&mut narrow, partial(BOTH, 0, true), &far));
-    assert!(rt; narrow.at_boundary());
+    gives_requests(narrow, partial(BOTH, 0, true), &far) && narrow.at_boundary()
+}
 
-    let mut wide = Converter::<ChA, 64, 128>::new();
-    assert!(rt; gives_requests(&mut wide, partial(LOW, 0, false), &[]));
-    assert!(rt; !wide.at_boundary());
+fn is_begun(wide: &mut Converter<ChA, 64, 128>) -> bool {
+    gives_requests(wide, partial(LOW, 0, false), &[]) && !wide.at_boundary()
+}
+
+fn is_joined(wide: &mut Converter<ChA, 64, 128>) -> bool {
     let far = [partial(BOTH, 0, true)];
-    assert!(rt; gives_requests(&mut wide, partial(HIGH, 64, true), &far));
-    assert!(rt; wide.at_boundary());
+    gives_requests(wide, partial(HIGH, 64, true), &far) && wide.at_boundary()
+}
 
-    let mut same = Converter::<ChA, 128, 128>::new();
+fn is_kept(same: &mut Converter<ChA, 128, 128>) -> bool {
     let beat = partial(BOTH, 0, false);
-    assert!(rt; gives_requests(&mut same, beat, &[beat]));
+    gives_requests(same, beat, &[beat])
+}
+
+fn join_halves<R: Abort>(rt: &R, wide: &mut Converter<ChA, 64, 128>) {
+    assert!(*rt; is_begun(wide));
+    assert!(*rt; is_joined(wide));
 }
 
 #[test]
-#[tactic(auto, using(tl_lanes::proofs::Widths::width_1, tl_lanes::proofs::Widths::width_128))]
-fn a_beat_of_128_bytes_gives_128_far_beats(rt: HostRuntime) {
-    let mut converter = Converter::<ChD, 128, 1>::new();
+fn masks_of_both_halves(rt: HostRuntime) {
+    assert!(rt; is_halved(&mut Converter::new()));
+    join_halves(&rt, &mut Converter::new());
+    assert!(rt; is_kept(&mut Converter::new()));
+}
+
+/// Whether a beat of 128 bytes gives a far beat for each of them.
+fn is_narrowed_to_bytes(converter: &mut Converter<ChD, 128, 1>) -> bool {
     let mut far = [response(7, [0], true); 128];
     let mut byte = 0u8;
     for beat in &mut far {
         beat.lanes = [byte];
         byte = byte.wrapping_add(1);
     }
-    assert!(rt; gives(&mut converter, response(7, counting(0), true), 0x80, &far));
-    assert!(rt; converter.at_boundary());
+    gives(converter, response(7, counting(0), true), 0x80, &far) && converter.at_boundary()
+}
+
+#[test]
+fn a_beat_of_128_bytes_gives_128_far_beats(rt: HostRuntime) {
+    assert!(rt; is_narrowed_to_bytes(&mut Converter::new()));
 }
 
 /// Whether a list of near beats of 4 bytes gives so many far beats, and there is room for so many.

@@ -1,8 +1,8 @@
 #![tactic(auto, using(tl_lanes::proofs::Widths::width_4))]
 
-use crate::trace::five::{
-    self, FIVE_2, HEADS, HEADS_2, fault_of, has_heads, is_script_of, is_written_as,
-    script_in_pieces, script_made, script_read,
+use crate::below::trace::five::{
+    self, FIVE_2, HEADS_2, fault_of, fault_of_pieces, has_heads, is_read_in_pieces, is_script_of,
+    is_written_as, script_made, script_read,
 };
 use std::alloc::{AllocError, Global};
 use std::process::Abort;
@@ -269,31 +269,26 @@ fn with_line(alloc: Global, at: usize, line: &[u8]) -> Result<Vec<u8>, AllocErro
 }
 
 /// Reads lines in two pieces that part them at each byte.
-fn read_in_pieces<R: Abort>(rt: &R, alloc: Global, lines: &[u8]) -> Result<(), Fail> {
+fn read_in_pieces<R: Abort>(rt: &R, alloc: Global, lines: &[u8]) {
     for first in 0..=lines.len() {
-        match script_in_pieces(alloc, lines, first) {
-            Ok(script) => assert!(*rt; is_script_of(&script, &HEADS), "{first} bytes"),
-            Err(fault) => return Err(Fail::new(fault)),
-        }
+        assert!(*rt; is_read_in_pieces(alloc, lines, first), "{first} bytes");
     }
-    Ok(())
 }
 
 /// The five lines.
 #[test]
-fn scripts_are_read_in_pieces(rt: HostRuntime) -> Result<(), Fail> {
-    read_in_pieces(
-        &rt,
-        rt.alloc(),
-        five::FIVE.get(FIVE[0].len()..).unwrap_or(&[]),
-    )
+fn scripts_are_read_in_pieces(rt: HostRuntime) {
+    let lines = five::FIVE.get(FIVE[0].len()..).unwrap_or(&[]);
+    read_in_pieces(&rt, rt.alloc(), lines);
 }
 
 /// Reads lines with a fault in two pieces that part them at each byte.
 fn find_in_pieces<R: Abort>(rt: &R, alloc: Global, lines: &[u8], wanted: TraceFault) {
     for first in 0..=lines.len() {
-        let fault = script_in_pieces(alloc, lines, first).err();
-        assert!(*rt; fault == Some(wanted), "{first} bytes");
+        assert!(*rt;
+            fault_of_pieces(alloc, lines, first) == Some(wanted),
+            "{first} bytes"
+        );
     }
 }
 

@@ -1,7 +1,7 @@
 //! Traces of a bus of 128 bytes, whose masks have more digits than a `u64` has room for.
 #![tactic(auto, using(tl_lanes::proofs::Widths::width_64, tl_lanes::proofs::Widths::width_128))]
 
-use crate::trace::five::{fault_of, is_written_as};
+use crate::below::trace::five::{fault_of, is_written_as};
 use std::alloc::{AllocError, Global};
 use std::test::Fail;
 use tl_msg::{BeatOf, ChA, HeadA};

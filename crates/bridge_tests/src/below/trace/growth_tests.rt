@@ -3,7 +3,7 @@
 //! pass.
 #![tactic(auto, using(tl_lanes::proofs::Widths::width_4))]
 
-use crate::trace::five::{
+use crate::below::trace::five::{
     FIVE, HEADS, has_heads, is_script_of, is_written_as, script_made, script_read,
 };
 use std::alloc::Global;

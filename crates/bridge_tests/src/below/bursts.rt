@@ -83,13 +83,15 @@ fn passes(
     }
 }
 
-/// A tracker of D after the first beat of a message.
-fn begun(head: HeadD) -> Tracker<ChD, 4> {
-    let mut tracker = Tracker::new();
-    if let Ok(place) = tracker.check(&beat(head, 0, false)) {
-        tracker.advance(place);
+/// Goes on by a first beat of D, and answers whether it was taken.
+fn begins(tracker: &mut Tracker<ChD, 4>, head: HeadD) -> bool {
+    match tracker.check(&beat(head, 0, false)) {
+        Ok(place) => {
+            tracker.advance(place);
+            true
+        }
+        Err(_) => false,
     }
-    tracker
 }
 
 /// The opcode, param, size, address, mask and corrupt of a beat on A, and its fault as the first one.
@@ -276,7 +278,8 @@ const SECOND_ON_D: [(HeadD, Option<BeatFault>); 3] = [
     (GRANT, None),
 ];
 
-fn find_second_faults_on_d<R: Abort>(rt: &R, grants: &Tracker<ChD, 4>) {
+fn find_second_faults_on_d<R: Abort>(rt: &R, grants: &mut Tracker<ChD, 4>) {
+    assert!(*rt; begins(grants, GRANT));
     for &(head, fault) in &SECOND_ON_D {
         assert!(*rt; fault_on_d(grants, head, true) == fault);
     }
@@ -284,5 +287,5 @@ fn find_second_faults_on_d<R: Abort>(rt: &R, grants: &Tracker<ChD, 4>) {
 
 #[test]
 fn second_beats_of_a_grant(rt: HostRuntime) {
-    find_second_faults_on_d(&rt, &begun(GRANT));
+    find_second_faults_on_d(&rt, &mut Tracker::new());
 }
