@@ -3,21 +3,27 @@ ghost use Rattle.std.specs.Prelude.{◌≡◌, ◌≤◌, ◌++◌, length, Some
 ghost use Rattle.std.specs.List.{list_all};
 ghost use Rattle.tl_lanes.specs.Lanes.{IsWidth};
 ghost use Rattle.tl_trace.specs.Faults.{HasHeader};
+ghost use Rattle.tl_trace.specs.Scripts.{TellsScript};
 ghost use Rattle.tl_answer.specs.Answer.{far_header, report, is_done};
 ghost use Rattle.tl_answer.specs.Texts.{IsOfText, most_bytes};
 ghost use Rattle.tl_answer.specs.declared.fault.TextFault.TheVariants.{OutOfMemory as NoMemory};
 ghost use Rattle.tl_explain.specs.Explained.{IsExplanation};
 
-use crate::channel::{put_near, requests_of};
+use crate::channel::tell;
+use crate::chapter::{Chapter, Facts, end_all, put_in_order};
 use crate::look::{Look, Style};
 use crate::page::Page;
-use crate::requests::Requests;
-use crate::walk::Walk;
+use arrayvec::ArrayVec;
 use std::alloc::{AllocError, Global};
-use tl_answer::{TextFault, at_width, check_of, outcome_of};
-use tl_bridge::{Outcome, PerChannel};
-use tl_msg::{ChA, ChB, ChC, ChD, ChE, Verdict};
+use tl_answer::{TextFault, at_width, check_of};
+use tl_check::verdicts_of;
+use tl_convert::Converter;
+use tl_lanes::WIDEST;
+use tl_msg::{Beat, ChA, ChB, ChC, ChD, ChE, Verdict};
 use tl_trace::{Script, TraceFault, TraceKind, header_of_text, read_script};
+
+/// As many bytes as the answer of a check has, or more.
+const ANSWER_ROOM: usize = 512;
 
 /// What came of each line of a text, and whether all five channels are done.
 #[derive(Drop)]
@@ -26,118 +32,61 @@ pub struct Explanation {
     pub all_done: bool,
 }
 
-/// Writes what came of a line with this letter.
-fn put_letter<const C: usize, const M: usize>(
-    out: &mut Page,
-    line: u64,
-    letter: u8,
+/// A chapter for each channel, from A to E, in which nothing is said yet.
+fn new_chapters(
+    alloc: Global,
+    verdicts: &[Verdict; 5],
+    client: usize,
+    manager: usize,
+) -> [Chapter; 5] {
+    let [a, b, c, d, e] = verdicts;
+    [
+        Chapter::new(alloc, b'A', a, client, manager),
+        Chapter::new(alloc, b'B', b, manager, client),
+        Chapter::new(alloc, b'C', c, client, manager),
+        Chapter::new(alloc, b'D', d, manager, client),
+        Chapter::new(alloc, b'E', e, client, manager),
+    ]
+}
+
+/// Writes what came of the beats of each channel: each has a converter, and room for the far beats that
+/// one near beat completes. A comes before D, which answers its requests.
+fn tell_all<const C: usize, const M: usize>(
+    chapters: &mut [Chapter; 5],
+    facts: &mut Facts,
     script: &Script<C, M>,
-    outcome: &Outcome<C, M>,
-    walks: &mut PerChannel<Walk>,
-    requests: &mut Requests,
-    style: &Style,
 )
     requires client { IsWidth C }
     requires manager { IsWidth M }
 {
-    let [a, b, c, d, e] = &outcome.verdicts;
-    match letter {
-        b'A' => put_near::<ChA, C, M>(
-            out,
-            line,
-            &script.a,
-            &outcome.a,
-            a,
-            &mut walks.a,
-            requests,
-            style,
-        ),
-        b'B' => put_near::<ChB, M, C>(
-            out,
-            line,
-            &script.b,
-            &outcome.b,
-            b,
-            &mut walks.b,
-            requests,
-            style,
-        ),
-        b'C' => put_near::<ChC, C, M>(
-            out,
-            line,
-            &script.c,
-            &outcome.c,
-            c,
-            &mut walks.c,
-            requests,
-            style,
-        ),
-        b'D' => put_near::<ChD, M, C>(
-            out,
-            line,
-            &script.d,
-            &outcome.d,
-            d,
-            &mut walks.d,
-            requests,
-            style,
-        ),
-        b'E' => put_near::<ChE, C, M>(
-            out,
-            line,
-            &script.e,
-            &outcome.e,
-            e,
-            &mut walks.e,
-            requests,
-            style,
-        ),
-        _ => {}
-    }
+    let mut way_a = Converter::<ChA, C, M>::new();
+    let mut far_a = ArrayVec::<Beat<ChA, M>, WIDEST>::new();
+    let mut way_b = Converter::<ChB, M, C>::new();
+    let mut far_b = ArrayVec::<Beat<ChB, C>, WIDEST>::new();
+    let mut way_c = Converter::<ChC, C, M>::new();
+    let mut far_c = ArrayVec::<Beat<ChC, M>, WIDEST>::new();
+    let mut way_d = Converter::<ChD, M, C>::new();
+    let mut far_d = ArrayVec::<Beat<ChD, C>, WIDEST>::new();
+    let mut way_e = Converter::<ChE, C, M>::new();
+    let mut far_e = ArrayVec::<Beat<ChE, M>, WIDEST>::new();
+    tell::<ChA, C, M>(&mut chapters[0], facts, &script.a, &mut way_a, &mut far_a);
+    tell::<ChB, M, C>(&mut chapters[1], facts, &script.b, &mut way_b, &mut far_b);
+    tell::<ChC, C, M>(&mut chapters[2], facts, &script.c, &mut way_c, &mut far_c);
+    tell::<ChD, M, C>(&mut chapters[3], facts, &script.d, &mut way_d, &mut far_d);
+    tell::<ChE, C, M>(&mut chapters[4], facts, &script.e, &mut way_e, &mut far_e);
 }
 
-/// Writes where a channel's lines end within a burst.
-fn put_cut(out: &mut Page, letter: &str, walk: &Walk, verdict: &Verdict) {
-    if let Verdict::Cut { .. } = verdict {
-        out.put(letter);
-        out.put_number(" ends within the burst that line ", walk.first_line);
-        out.put_number(" begins: ", walk.index as u64);
-        out.put_number(" of its ", walk.beats as u64);
-        out.put(" beats are there\n");
-    }
-}
-
-/// Writes where the lines of each channel end within a burst.
-fn put_cuts(out: &mut Page, walks: &PerChannel<Walk>, verdicts: &[Verdict; 5]) {
-    let [a, b, c, d, _] = verdicts;
-    put_cut(out, "A", &walks.a, a);
-    put_cut(out, "B", &walks.b, b);
-    put_cut(out, "C", &walks.c, c);
-    put_cut(out, "D", &walks.d, d);
-}
-
-/// Writes what came of each line from line 2 on.
-fn put_lines<const C: usize, const M: usize>(
-    out: &mut Page,
-    text: &[u8],
-    script: &Script<C, M>,
-    outcome: &Outcome<C, M>,
-    walks: &mut PerChannel<Walk>,
-    requests: &mut Requests,
-    style: &Style,
-)
-    requires client { IsWidth C }
-    requires manager { IsWidth M }
-{
-    let mut line = 1u64;
-    let mut begins = false;
-    for byte in text {
-        if begins {
-            line = line.saturating_add(1);
-            put_letter(out, line, *byte, script, outcome, walks, requests, style);
-        }
-        begins = *byte == b'\n';
-    }
+/// What is said in these chapters, in the order of the lines with these letters, with room for the
+/// answer of a check behind it.
+fn in_order(
+    alloc: Global,
+    letters: &[u8],
+    chapters: &mut [Chapter; 5],
+) -> Result<Vec<u8>, AllocError> {
+    let bytes = end_all(chapters);
+    let mut out = Page::with_room(alloc, bytes.saturating_add(ANSWER_ROOM))?;
+    put_in_order(&mut out, letters, chapters);
+    Ok(out.into_text()?.into_bytes())
 }
 
 /// What came of each line from line 2 on, in sentences.
@@ -145,27 +94,16 @@ fn sentences_of<const C: usize, const M: usize>(
     alloc: Global,
     text: &[u8],
     script: &Script<C, M>,
-    outcome: &Outcome<C, M>,
+    verdicts: &[Verdict; 5],
     style: &Style,
 ) -> Result<Vec<u8>, AllocError>
     requires client { IsWidth C }
     requires manager { IsWidth M }
 {
-    let (beats, verdict) = (&script.a, &outcome.verdicts[0]);
-    let mut requests = requests_of::<C>(alloc, text, beats, verdict, style.version)?;
-    let mut walks = PerChannel::<Walk>::default();
-    let mut out = Page::new(alloc);
-    put_lines(
-        &mut out,
-        text,
-        script,
-        outcome,
-        &mut walks,
-        &mut requests,
-        style,
-    );
-    put_cuts(&mut out, &walks, &outcome.verdicts);
-    Ok(out.into_text()?.into_bytes())
+    let mut facts = Facts::new(alloc, text, style)?;
+    let mut chapters = new_chapters(alloc, verdicts, C, M);
+    tell_all::<C, M>(&mut chapters, &mut facts, script);
+    in_order(alloc, &facts.letters, &mut chapters)
 }
 
 /// The explanation that has these sentences, of a text whose channels end with these verdicts, from A
@@ -192,6 +130,32 @@ fn with_answer(
     })
 }
 
+/// The explanation of a text of this version that tells this script.
+fn with_script<const C: usize, const M: usize>(
+    alloc: Global,
+    text: &[u8],
+    script: &Script<C, M>,
+    version: u8,
+    look: &Look,
+) -> Result<Explanation, TextFault>
+    requires client { IsWidth C }
+    requires manager { IsWidth M }
+    requires told { TellsScript version text.now script.now }
+    requires few { length text.now ≤ most_bytes }
+    ensures ok { IfOk result (λ made. IsExplanation text.now made.text.items made.all_done) }
+    ensures err { IfErr result (λ fault. fault ≡ NoMemory) }
+{
+    let Ok(verdicts) = verdicts_of::<C, M>(alloc, script) else {
+        return Err(TextFault::OutOfMemory);
+    };
+    let style = Style {
+        look: *look,
+        version,
+    };
+    let sentences = sentences_of(alloc, text, script, &verdicts, &style)?;
+    with_answer(alloc, sentences, &verdicts, version, C, M)
+}
+
 /// The explanation of a text whose header names this version and these widths.
 fn with_widths<const C: usize, const M: usize>(
     alloc: Global,
@@ -207,13 +171,7 @@ fn with_widths<const C: usize, const M: usize>(
     ensures err { IfErr result (IsOfText text.now) }
 {
     let script = read_script::<C, M>(alloc, text, version)?;
-    let outcome = outcome_of::<C, M>(alloc, &script)?;
-    let style = Style {
-        look: *look,
-        version,
-    };
-    let sentences = sentences_of(alloc, text, &script, &outcome, &style)?;
-    with_answer(alloc, sentences, &outcome.verdicts, version, C, M)
+    with_script(alloc, text, &script, version, look)
 }
 
 /// The same, for a client of `C` bytes: the manager's width is one of eight.

@@ -1,10 +1,8 @@
 //! The faults of a beat in sentences: which field, what it is, and what it has to be.
-ghost use Rattle.tl_lanes.specs.Lanes.{IsWidth};
-
-use crate::lane_list::put_lanes;
+use crate::lane_list::{lanes_of, put_lanes};
 use crate::page::Page;
 use crate::seen::Seen;
-use tl_lanes::{MAX_SIZE, active};
+use crate::walk::Walk;
 use tl_msg::{BeatFault, Kind, SourceId};
 
 /// Writes what is wrong with the opcode.
@@ -31,13 +29,10 @@ fn put_param(out: &mut Page, beat: &Seen) {
 }
 
 /// Writes what is wrong with the mask on `w` lanes.
-fn put_mask(out: &mut Page, beat: &Seen, w: usize)
-    requires { IsWidth w }
-{
-    if beat.size > MAX_SIZE {
+fn put_mask(out: &mut Page, beat: &Seen, w: usize) {
+    let Some(lanes) = lanes_of(beat.address, beat.size, w) else {
         return out.put("the mask is wrong");
-    }
-    let lanes = active(beat.address, beat.size, w);
+    };
     let (wrong, rule) = if beat.kind.is_some_and(Kind::is_partial) {
         (
             beat.mask & !lanes,
@@ -95,18 +90,8 @@ fn put_change(out: &mut Page, beat: &Seen, first: &Seen) {
     }
 }
 
-/// Writes what is wrong with a beat on `w` lanes. Where a burst is open, `first` is its first beat,
-/// which stands in this line.
-pub fn put_beat_fault(
-    out: &mut Page,
-    beat: &Seen,
-    fault: BeatFault,
-    first: &Seen,
-    first_line: u64,
-    w: usize,
-)
-    requires { IsWidth w }
-{
+/// Writes what is wrong with the next near beat of a channel.
+pub fn put_beat_fault(out: &mut Page, beat: &Seen, fault: BeatFault, walk: &Walk) {
     match fault {
         BeatFault::Opcode => put_opcode(out, beat),
         BeatFault::Param => put_param(out, beat),
@@ -119,16 +104,16 @@ pub fn put_beat_fault(
             out.put(" is no multiple of the message's ");
             out.put_length(beat.size);
         }
-        BeatFault::Mask => put_mask(out, beat, w),
+        BeatFault::Mask => put_mask(out, beat, walk.w),
         BeatFault::Corrupt => {
             out.put("corrupt is 1, but ");
             beat.put_name(out);
             out.put(" carries no data, so it has to be 0");
         }
         BeatFault::HeadChanged => {
-            out.put_number("inside the burst that line ", first_line);
+            out.put_number("inside the burst that line ", walk.first_line);
             out.put(" begins, ");
-            put_change(out, beat, first);
+            put_change(out, beat, &walk.first);
         }
     }
 }

@@ -1,6 +1,15 @@
 //! Lanes in words.
 use crate::page::Page;
-use tl_lanes::{Mask, WIDEST};
+use tl_lanes::{MAX_SIZE, Mask, WIDEST, active, is_width};
+
+/// The lanes of a bus of `w` bytes that the bytes of a message of `2^size` bytes at this address stand
+/// on. None where there is no such message or no such bus.
+pub fn lanes_of(address: u64, size: u8, w: usize) -> Option<Mask> {
+    if size > MAX_SIZE || !is_width(w) {
+        return None;
+    }
+    Some(active(address, size, w))
+}
 
 /// Whether a mask has this lane. False past the last one.
 pub fn has_lane(mask: Mask, lane: usize) -> bool {

@@ -3,6 +3,7 @@
 #![tactic(auto)]
 
 mod channel;
+mod chapter;
 mod explain;
 mod fate;
 mod faults;

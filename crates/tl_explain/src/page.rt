@@ -22,6 +22,15 @@ impl Page {
         }
     }
 
+    /// No text, with room for so many bytes.
+    pub fn with_room(alloc: Global, bytes: usize) -> Result<Page, AllocError> {
+        let text = String::with_capacity(alloc, bytes)?;
+        Ok(Page {
+            text,
+            lacks_a_piece: false,
+        })
+    }
+
     /// The whole text, where memory was there for all of it.
     pub fn into_text(self) -> Result<String, AllocError> {
         let Page {
@@ -32,6 +41,11 @@ impl Page {
             return Err(AllocError);
         }
         Ok(text)
+    }
+
+    /// Notes that there was no memory for a piece.
+    pub fn lack_a_piece(&mut self) {
+        self.lacks_a_piece = true;
     }
 
     /// Notes whether a piece was written.
@@ -45,6 +59,26 @@ impl Page {
     pub fn put(&mut self, text: &str) {
         let written = self.text.push_str(text);
         self.note(written);
+    }
+
+    /// Writes bytes that are text.
+    pub fn put_bytes(&mut self, bytes: &[u8]) {
+        if let Ok(text) = std::str::from_utf8(bytes) {
+            self.put(text);
+        }
+    }
+
+    /// How many bytes were written.
+    pub fn len(&self) -> usize {
+        self.text.len()
+    }
+
+    /// Writes what another page has from here to there.
+    pub fn put_part(&mut self, page: &Page, from: usize, to: usize) {
+        if page.lacks_a_piece {
+            self.lacks_a_piece = true;
+        }
+        self.put(page.text.get(from..to).unwrap_or(""));
     }
 
     /// Writes a character.

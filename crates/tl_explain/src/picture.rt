@@ -1,6 +1,7 @@
 //! Pictures of lanes.
-use crate::lane_list::has_lane;
+use crate::lane_list::{has_lane, lanes_of};
 use crate::page::Page;
+use crate::seen::Seen;
 use tl_lanes::{Mask, WIDEST};
 
 /// How many lanes stand in a row.
@@ -24,13 +25,13 @@ fn room(lanes: usize) -> (usize, &'static str) {
 
 /// What a beat has on its lanes.
 #[derive(Clone, Copy)]
-pub struct Picture {
+struct Picture {
     /// The lanes that bytes of the message stand on.
-    pub active: Mask,
+    active: Mask,
     /// The lanes whose bytes are written; all active ones on a channel without masks.
-    pub mask: Mask,
+    mask: Mask,
     /// Whether the message carries data.
-    pub has_data: bool,
+    has_data: bool,
 }
 
 impl Picture {
@@ -71,7 +72,7 @@ impl Picture {
     }
 
     /// Writes all lanes of a beat, highest first, in rows of 16. The name has four letters.
-    pub fn put(&self, out: &mut Page, name: &str, lanes: &[u8]) {
+    fn put(&self, out: &mut Page, name: &str, lanes: &[u8]) {
         for row in 0..ROWS {
             let from = (ROWS - 1 - row) * ROW;
             if from < lanes.len() {
@@ -79,4 +80,23 @@ impl Picture {
             }
         }
     }
+}
+
+/// Writes the picture of a beat with these bytes on its lanes, where it has a mask or data. `home` is
+/// the address by which the message's bytes stand on them.
+pub fn put_picture(out: &mut Page, name: &str, beat: &Seen, lanes: &[u8], home: u64) {
+    let Some(active) = lanes_of(home, beat.size, lanes.len()) else {
+        return;
+    };
+    let (is_masked, has_data) = (beat.is_masked(), beat.carries_data());
+    if !is_masked && !has_data {
+        return;
+    }
+    let mask = if is_masked { beat.mask } else { active };
+    let picture = Picture {
+        active,
+        mask,
+        has_data,
+    };
+    picture.put(out, name, lanes);
 }

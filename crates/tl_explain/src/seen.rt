@@ -114,6 +114,11 @@ impl Seen {
         self.kind.is_some_and(Kind::carries_data)
     }
 
+    /// Whether its channel has masks.
+    pub fn is_masked(&self) -> bool {
+        matches!(self.letter, 'A' | 'B')
+    }
+
     /// Whether it is a response that answers a request of A: any on D but ReleaseAck.
     pub fn answers_request(&self) -> bool {
         self.letter == 'D' && !matches!(self.kind, Some(Kind::ReleaseAck))

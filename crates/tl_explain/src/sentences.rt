@@ -1,14 +1,13 @@
 //! What came of one line, in a sentence.
-ghost use Rattle.tl_lanes.specs.Lanes.{IsWidth};
-
+use crate::chapter::{Chapter, Facts};
 use crate::fate::{Fate, fate_at};
 use crate::faults::put_beat_fault;
-use crate::look::{Colour, Look};
+use crate::look::Colour;
 use crate::page::Page;
 use crate::requests::{Request, Requests};
 use crate::seen::Seen;
 use crate::walk::{Brought, Walk};
-use tl_msg::{SideFault, Verdict};
+use tl_msg::SideFault;
 
 /// Writes why a beat of A waits: its source is busy with this request.
 fn put_busy(out: &mut Page, beat: &Seen, request: Option<Request>) {
@@ -50,25 +49,14 @@ fn put_mismatch(out: &mut Page, beat: &Seen, open: Option<Request>) {
     }
 }
 
-/// Writes the fault of a beat in a sentence.
-fn put_fault(
-    out: &mut Page,
-    beat: &Seen,
-    fault: SideFault,
-    walk: &Walk,
-    requests: &Requests,
-    w: usize,
-)
-    requires { IsWidth w }
-{
+/// Writes the fault of the next near beat in a sentence.
+fn put_fault(out: &mut Page, beat: &Seen, fault: SideFault, walk: &Walk, requests: &Requests) {
     out.put_number("", fault.number() as u64);
     out.put(" ");
     out.put(fault.name());
     out.put(": ");
     match fault {
-        SideFault::Beat(fault) => {
-            put_beat_fault(out, beat, fault, &walk.first, walk.first_line, w)
-        }
+        SideFault::Beat(fault) => put_beat_fault(out, beat, fault, walk),
         SideFault::SourceBusy => put_busy(out, beat, requests.last(beat.source)),
         SideFault::NoRequest => put_no_request(out, beat, requests.open(beat.source)),
         SideFault::SizeMismatch => put_mismatch(out, beat, requests.open(beat.source)),
@@ -101,136 +89,97 @@ fn put_brought(out: &mut Page, brought: &Brought) {
     }
 }
 
-/// Writes which request an accepted beat answers, if it begins a response to one. It counts as
-/// answered from now on.
-fn put_answered(
-    out: &mut Page,
-    beat: &Seen,
-    number: u32,
-    walk: &mut Walk,
-    requests: &mut Requests,
-) {
-    if number != 1 || !beat.answers_request() {
-        return;
-    }
-    if let Some(request) = requests.answer(beat.source) {
-        walk.home = request.address;
-        out.put_number(", answers line ", request.line);
-    }
-}
-
-/// Writes what an accepted beat brought, from a bus of `w` bytes to one of `v`.
-fn put_accepted(
-    out: &mut Page,
-    line: u64,
-    beat: &Seen,
-    walk: &mut Walk,
-    requests: &mut Requests,
-    look: &Look,
-    w: usize,
-    v: usize,
-)
-    requires near { IsWidth w }
-    requires far { IsWidth v }
-{
-    let brought = walk.accept(beat, line, w, v);
-    put_place(out, &brought);
-    out.put(": ");
-    look.put(out, Colour::Green, "accepted");
-    put_brought(out, &brought);
-    put_answered(out, beat, brought.beat, walk, requests);
-}
-
-/// Writes why a beat was not accepted, after a word that says how it fares.
-fn put_held(
-    out: &mut Page,
-    beat: &Seen,
-    fault: SideFault,
-    walk: &Walk,
-    requests: &Requests,
-    look: &Look,
-    word: (Colour, &str),
-    w: usize,
-)
-    requires { IsWidth w }
-{
-    let (colour, text) = word;
-    out.put(": ");
-    look.put(out, colour, text);
-    out.put(", ");
-    put_fault(out, beat, fault, walk, requests, w);
-}
-
-/// Writes that a beat never came to its turn, and why.
-fn put_not_offered(out: &mut Page, walk: &Walk) {
-    out.put_number(": not offered, since line ", walk.stop_line);
-    match walk.waits {
-        true => out.put(" waits"),
-        false => out.put(" was refused"),
-    }
-}
-
-/// Writes what came of a beat, from a bus of `w` bytes to one of `v`, and says whether it was accepted.
-fn put_fate(
-    out: &mut Page,
-    line: u64,
-    beat: &Seen,
-    fate: Fate,
-    walk: &mut Walk,
-    requests: &mut Requests,
-    look: &Look,
-    w: usize,
-    v: usize,
-) -> bool
-    requires near { IsWidth w }
-    requires far { IsWidth v }
-{
-    match fate {
-        Fate::Accepted => {
-            put_accepted(out, line, beat, walk, requests, look, w, v);
-            true
-        }
-        Fate::Refused(fault) => {
-            walk.stop(line, false);
-            let word = (Colour::Red, "refused");
-            put_held(out, beat, fault, walk, requests, look, word, w);
-            false
-        }
-        Fate::Waiting(fault) => {
-            walk.stop(line, true);
-            let word = (Colour::Yellow, "waiting");
-            put_held(out, beat, fault, walk, requests, look, word, w);
-            false
-        }
-        Fate::NotOffered => {
-            put_not_offered(out, walk);
-            false
+impl Chapter {
+    /// Counts the request that an accepted beat of A begins.
+    fn add_request(&mut self, requests: &mut Requests, beat: &Seen) {
+        let request = Request {
+            source: beat.source,
+            size: beat.size,
+            address: beat.address,
+            line: self.walk.first_line,
+        };
+        if requests.push(request).is_err() {
+            self.page.lack_a_piece();
         }
     }
-}
 
-/// Writes what came of the beat of a line, from a bus of `w` bytes to one of `v`, and says whether it
-/// was accepted. The walk goes on by this beat, and then says which far beats are whole.
-pub fn put_line(
-    out: &mut Page,
-    line: u64,
-    beat: &Seen,
-    verdict: &Verdict,
-    walk: &mut Walk,
-    requests: &mut Requests,
-    look: &Look,
-    w: usize,
-    v: usize,
-) -> bool
-    requires near { IsWidth w }
-    requires far { IsWidth v }
-{
-    out.put_number("line ", line);
-    out.put(": ");
-    beat.put(out);
-    let fate = fate_at(walk.near as u64, verdict);
-    let accepted = put_fate(out, line, beat, fate, walk, requests, look, w, v);
-    walk.near = walk.near.saturating_add(1);
-    out.put("\n");
-    accepted
+    /// Writes which request an accepted beat answers, if it begins a response to one. It counts as
+    /// answered from now on.
+    fn put_answered(&mut self, requests: &mut Requests, beat: &Seen) {
+        if let Some(request) = requests.answer(beat.source) {
+            self.walk.home = request.address;
+            self.page.put_number(", answers line ", request.line);
+        }
+    }
+
+    /// Writes what the next near beat brought, which was accepted.
+    fn put_accepted(&mut self, facts: &mut Facts, beat: &Seen) {
+        let brought = self.walk.accept(beat);
+        put_place(&mut self.page, &brought);
+        self.page.put(": ");
+        facts
+            .style
+            .look
+            .put(&mut self.page, Colour::Green, "accepted");
+        put_brought(&mut self.page, &brought);
+        if brought.beat == 1 {
+            if beat.letter == 'A' {
+                self.add_request(&mut facts.requests, beat);
+            }
+            if beat.answers_request() {
+                self.put_answered(&mut facts.requests, beat);
+            }
+        }
+    }
+
+    /// Writes why the next near beat was not accepted, after a word that says how it fares.
+    fn put_held(&mut self, facts: &Facts, beat: &Seen, fault: SideFault, word: (Colour, &str)) {
+        let (colour, text) = word;
+        self.page.put(": ");
+        facts.style.look.put(&mut self.page, colour, text);
+        self.page.put(", ");
+        put_fault(&mut self.page, beat, fault, &self.walk, &facts.requests);
+    }
+
+    /// Writes that the next near beat never came to its turn, and why.
+    fn put_not_offered(&mut self) {
+        let (line, waits) = (self.walk.stop_line, self.walk.waits);
+        self.page.put_number(": not offered, since line ", line);
+        self.page.put(if waits { " waits" } else { " was refused" });
+    }
+
+    /// Writes what came of the next near beat, and says whether it was accepted.
+    fn put_fate(&mut self, facts: &mut Facts, beat: &Seen) -> bool {
+        match fate_at(self.walk.near, &self.verdict) {
+            Fate::Accepted => {
+                self.put_accepted(facts, beat);
+                true
+            }
+            Fate::Refused(fault) => {
+                self.walk.stop(false);
+                self.put_held(facts, beat, fault, (Colour::Red, "refused"));
+                false
+            }
+            Fate::Waiting(fault) => {
+                self.walk.stop(true);
+                self.put_held(facts, beat, fault, (Colour::Yellow, "waiting"));
+                false
+            }
+            Fate::NotOffered => {
+                self.put_not_offered();
+                false
+            }
+        }
+    }
+
+    /// Writes what came of the next near beat, in a line, and says whether it was accepted.
+    pub fn put_line(&mut self, facts: &mut Facts, beat: &Seen) -> bool {
+        let line = self.walk.line();
+        self.page.put_number("line ", line);
+        self.page.put(": ");
+        beat.put(&mut self.page);
+        let accepted = self.put_fate(facts, beat);
+        self.page.put("\n");
+        accepted
+    }
 }

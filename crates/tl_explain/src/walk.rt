@@ -1,15 +1,19 @@
 //! How far the lines of one channel have come.
 ghost use Rattle.std.specs.Prelude.{◌≤◌};
-ghost use Rattle.tl_lanes.specs.Lanes.{IsWidth};
 
 use crate::seen::Seen;
-use tl_lanes::{MAX_SIZE, beat_bytes, beats};
+use tl_lanes::MAX_SIZE;
 
 /// How far the lines of one channel have come.
 #[derive(Clone, Copy, Default)]
 pub struct Walk {
-    /// The near beats before the next line of this channel.
-    pub near: usize,
+    /// The bytes of the bus that the near beats stand on, and of that of the far beats.
+    pub w: usize,
+    pub v: usize,
+    /// The lines up to that of the next near beat, but the header's.
+    pub lines: usize,
+    /// The near beats before it.
+    pub near: u64,
     /// The far beats that are whole.
     pub far: usize,
     /// How many beats of the open burst were accepted; 0 where none is open.
@@ -45,23 +49,35 @@ pub struct Brought {
 }
 
 impl Walk {
-    /// Stops at the beat of this line, which waits or was refused.
-    pub fn stop(&mut self, line: u64, waits: bool) {
-        self.stop_line = line;
+    /// Goes on to the next line with this letter. The letters are those of the lines from line 2 on.
+    pub fn seek(&mut self, letters: &[u8], letter: u8) {
+        for at in self.lines..letters.len() {
+            if letters[at] == letter {
+                self.lines = at + 1;
+                return;
+            }
+        }
+    }
+
+    /// The line of the next near beat.
+    pub fn line(&self) -> u64 {
+        (self.lines as u64).saturating_add(1)
+    }
+
+    /// Stops at the next near beat, which waits or was refused.
+    pub fn stop(&mut self, waits: bool) {
+        self.stop_line = self.line();
         self.waits = waits;
     }
 
-    /// Goes on by an accepted beat, from a bus of `w` bytes to one of `v`.
-    pub fn accept(&mut self, beat: &Seen, line: u64, w: usize, v: usize) -> Brought
-        requires near { IsWidth w }
-        requires far { IsWidth v }
-    {
+    /// Goes on by the next near beat, which was accepted.
+    pub fn accept(&mut self, beat: &Seen) -> Brought {
         if self.index == 0 {
             self.first = *beat;
-            self.first_line = line;
+            self.first_line = self.line();
             self.home = beat.address;
         }
-        let (near, whole, count) = bytes(beat, w, v);
+        let (near, whole, count) = bytes(beat, self.w, self.v);
         let number = self.index.saturating_add(1);
         let from = self.far;
         let come = self.staged.saturating_add(near);
@@ -80,17 +96,16 @@ impl Walk {
     }
 }
 
-/// How many bytes an accepted beat brings, how many a far beat of its message has, and how many
-/// beats its message has. Without data each beat counts as one byte.
+/// How many bytes an accepted beat brings from a bus of `w` bytes, how many a far beat of its message
+/// has on one of `v`, and how many beats its message has. Without data each beat counts as one byte.
 fn bytes(beat: &Seen, w: usize, v: usize) -> (usize, usize, usize)
-    requires near { IsWidth w }
-    requires far { IsWidth v }
     ensures { 1 ≤ result.1 }
 {
     if beat.size > MAX_SIZE || !beat.carries_data() {
         return (1, 1, 1);
     }
-    let near = beat_bytes(beat.size, w);
-    let far = beat_bytes(beat.size, v);
-    (near, far.max(1), beats(true, beat.size, w))
+    let length = 1usize << beat.size;
+    let near = length.min(w).max(1);
+    let far = length.min(v).max(1);
+    (near, far, length / near)
 }
