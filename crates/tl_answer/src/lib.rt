@@ -19,6 +19,6 @@ pub use fault::TextFault;
 pub use input::{Input, MAX_BYTES};
 pub use later_lines::script_of_input;
 pub use status::{FaultLine, exit_status};
-pub use sync_answer::{answer_sync, outcome_of};
+pub use sync_answer::answer_sync;
 pub use text::{read_all, run_text, write_all};
 pub use tl_order::Order;

@@ -1,10 +1,9 @@
 //! The answer to a text that the caller keeps, with both sides of the bridge in one thread.
 ghost use Rattle.std.specs.Prelude.{◌≡◌, ◌≤◌, false, length, Some, IfOk, IfErr};
-ghost use Rattle.tl_lanes.specs.Lanes.{IsWidth};
 ghost use Rattle.std.specs.List.{list_all};
 ghost use Rattle.tl_ring.specs.declared.pipe.TheConstants.{MAX_RING};
 ghost use Rattle.tl_settle.specs.Outcomes.{verdicts};
-ghost use Rattle.tl_bridge.specs.Scripts.{HasShortLists, SettlesTo, near_beats};
+ghost use Rattle.tl_bridge.specs.Scripts.{near_beats};
 ghost use Rattle.tl_answer.specs.Answer.{is_done};
 ghost use Rattle.tl_trace.specs.Faults.{HasHeader};
 ghost use Rattle.tl_answer.specs.Inner.Asked.{CanCross};
@@ -18,30 +17,11 @@ use crate::far_text::FarTexts;
 use crate::fault::TextFault;
 use crate::parts::AnswerParts;
 use std::alloc::Global;
-use tl_bridge::{Outcome, RunFault, run_sync, run_sync_into};
+use tl_bridge::{RunFault, run_sync_into};
 use tl_trace::{Script, TraceFault, TraceKind, header_of_text, read_script};
 
 /// How many beats a ring holds: no answer depends on it.
 const RING: usize = 256;
-
-/// What a script ends in, by a run in one thread. Refused with `OutOfMemory` alone.
-pub fn outcome_of<const C: usize, const M: usize>(
-    alloc: Global,
-    script: &Script<C, M>,
-) -> Result<Outcome<C, M>, TextFault>
-    requires client { IsWidth C }
-    requires manager { IsWidth M }
-    requires short { HasShortLists script.now }
-    ensures ok { IfOk result (SettlesTo script.now) }
-    ensures err { IfErr result (λ fault. fault ≡ NoMemory) }
-{
-    match run_sync::<C, M>(alloc, script, RING) {
-        Ok(outcome) => Ok(outcome),
-        Err(RunFault::OutOfMemory) => Err(TextFault::OutOfMemory),
-        Err(RunFault::Stalled) => unreachable!(),
-        Err(RunFault::RingSize) => unreachable!(),
-    }
-}
 
 /// The answer to a script by a run in one thread with rings of `ring` beats, which writes the lines
 /// of the far beats as they are taken: the version of the trace and the widths, the far beats, and
