@@ -50,6 +50,25 @@ fn are_same<const C: usize, const M: usize>(one: &Outcome<C, M>, other: &Outcome
         && one.verdicts == other.verdicts
 }
 
+/// What two runs of one script came to.
+fn ending_of<const C: usize, const M: usize>(
+    threads: &Result<Outcome<C, M>, RunFault>,
+    sync: &Result<Outcome<C, M>, RunFault>,
+) -> Ending
+    requires client { IsWidth C }
+    requires manager { IsWidth M }
+{
+    match (threads, sync) {
+        (Ok(threads), Ok(sync)) if are_same(threads, sync) => Ending::Same {
+            verdicts: threads.verdicts,
+            rounds: threads.rounds,
+            sync_rounds: sync.rounds,
+        },
+        (Err(threads), Err(sync)) if threads == sync => Ending::Refused(*threads),
+        _ => Ending::Different,
+    }
+}
+
 /// Both runs of a script.
 fn run_both<const C: usize, const M: usize, R: Threads, G: Gate + Send, H: Gate + Send>(
     rt: &R,
@@ -75,15 +94,7 @@ fn run_both<const C: usize, const M: usize, R: Threads, G: Gate + Send, H: Gate 
         manager_gate,
     );
     let sync = run_sync::<C, M>(alloc, script, ring);
-    match (&threads, &sync) {
-        (Ok(threads), Ok(sync)) if are_same(threads, sync) => Ending::Same {
-            verdicts: threads.verdicts,
-            rounds: threads.rounds,
-            sync_rounds: sync.rounds,
-        },
-        (Err(threads), Err(sync)) if threads == sync => Ending::Refused(*threads),
-        _ => Ending::Different,
-    }
+    ending_of(&threads, &sync)
 }
 
 /// Both runs of the script that a text of these widths tells, with no list of more than 4,096 beats.
