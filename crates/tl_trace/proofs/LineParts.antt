@@ -1,7 +1,7 @@
 -- A line in three parts: the head, the mask, data and corrupt; once for the form of every channel.
 use Rattle.std.proofs.Common.{◌≡◌, ℕ, ◌+◌, ◌*◌, ◌^◌, ◌<◌, ◌≤◌, Bool, true, false, cond, not, nat_eq, nat_lt, ◌&&◌, ◌||◌, List, [], ◌∷◌, ◌++◌, length, map, Option, Some, is_none, refl, sym, ap, ◌∙◌, arith, bit_or, length-append}
 use Rattle.std.proofs.Math.Bool.{and-true}
-use Rattle.std.proofs.lemmas.Bool.{lt-ltb, le-ltb, and_parts, and_from, or_left, or_right}
+use Rattle.std.proofs.lemmas.Bool.{lt-ltb, ltb-true, and_parts, and_from, or_left, or_right}
 use Rattle.std.proofs.lemmas.List.{map-append, length-map}
 use Rattle.std.proofs.lemmas.List.Folds.{list_any-append}
 use Rattle.std.proofs.lemmas.Nat.{pow_pos}
@@ -243,25 +243,16 @@ module _ {H : Type 0} (f : Form H) where
   pub no_head : (r : HeadFields) (m c : Bool) → is_head_in_range f r ≡ false → (is_head_in_range f r && m) && c ≡ false
   no_head r m c none = rw none refl
 
-pub out_mask : (h m c : Bool) → m ≡ false → (h && m) && c ≡ false
-out_mask true m c none = rw none refl
-out_mask false m c none = refl
+pub out_fields : (h m c : Bool) → m && c ≡ false → (h && m) && c ≡ false
+out_fields true m c none = none
+out_fields false m c none = refl
 
-pub out_corrupt : (h m c : Bool) → c ≡ false → (h && m) && c ≡ false
-out_corrupt true true c none = none
-out_corrupt true false c none = refl
-out_corrupt false m c none = refl
+pub in_all : (h m c : Bool) → h ≡ true → m && c ≡ true → (h && m) && c ≡ true
+in_all true m c e all = all
+in_all false m c e all = absurd cc
 
-pub in_all : (h m c : Bool) → h ≡ true → m ≡ true → c ≡ true → (h && m) && c ≡ true
-in_all true true c e e' e'' = e''
-in_all true false c e e' e'' = absurd cc
-in_all false m c e e' e'' = absurd cc
-
-pub high : (c : ℕ) → 1 < c → nat_lt c 2 ≡ false
-high c lt = le-ltb c 2 (omega arith)
-
-pub low : (c : ℕ) → c ≤ 1 → nat_lt c 2 ≡ true
-low c le = lt-ltb c 2 (omega arith)
+pub low : (m : Bool) (c : ℕ) → m && nat_lt c 2 ≡ true → c ≤ 1
+low m c all = let less : c < 2 = ltb-true c 2 (and_parts m (nat_lt c 2) all).1 in omega (arith, less)
 
 pub fewer : (a n : ℕ) → a + 1 + 1 ≤ n → a ≤ n
 fewer a n less = omega arith

@@ -1,22 +1,58 @@
 -- One step of the walk over the lines of a text.
-use Rattle.std.proofs.Common.{◌≡◌, ℕ, zero, suc, ◌+◌, ◌-◌, ◌<◌, ◌≤◌, true, ◌&&◌, List, [], ◌∷◌, ◌++◌, length, map, get_or, take, drop, replicate, Option, Some, None, refl, sym, ap, ◌∙◌, arith, drop-cons, append_assoc, append-nil, add-one, length-drop, inl, inr, subst}
+use Rattle.std.proofs.Common.{◌≡◌, ◌≢◌, ℕ, Bool, cond, zero, suc, ◌+◌, ◌-◌, ◌<◌, ◌≤◌, true, ◌&&◌, List, [], ◌∷◌, ◌++◌, length, map, get_or, take, drop, replicate, Option, Some, None, refl, sym, ap, ◌∙◌, arith, drop-cons, append_assoc, append-nil, add-one, length-drop, inl, inr, subst, false}
 use Rattle.std.proofs.lemmas.List.Folds.{drop_split, list_all-append}
 use Rattle.std.proofs.lemmas.Bool.{cases_eq, and_from}
 use Rattle.std.proofs.lemmas.List.{drop-drop, get_or-drop}
 use Rattle.std.proofs.Math.Seq.{take-add}
-use Rattle.std.specs.List.{list_all, slice_range}
-use Rattle.tl_msg.specs.Firsts.{◌or_else◌}
+use Rattle.std.specs.List.{list_all, slice_index, slice_range}
+use Rattle.std.specs.Prelude.{◌==◌}
+use Rattle.tl_msg.specs.Firsts.{unless, ◌or_else◌}
+use Rattle.tl_trace.specs.Fields.{Form, form_a, form_b, form_c, form_d, form_e, line_length}
+use Rattle.tl_trace.specs.Lines.{is_shaped, is_in_range}
 use Rattle.tl_trace.specs.Texts.{newline, is_kept_line, TellsLines}
-use Rattle.tl_trace.specs.Faults.{cut, body, body_fault, later_fault, header_of, faults_after, faults_of_lines, faults, IsFirstFault, IsReadableTo}
+use Rattle.tl_trace.specs.Faults.{cut, body, form_fault, body_fault, later_fault, header_of, faults_after, faults_of_lines, faults, IsFirstFault, IsReadableTo}
 use Rattle.tl_trace.specs.Inner.Reading.{LineAt, IsReadLine}
 use Rattle.tl_trace.specs.declared.line.Line.{Line}
 use Rattle.tl_trace.specs.declared.fault.TraceKind.{TraceKind}
 use Rattle.tl_trace.specs.declared.fault.TraceKind.TheVariants as kinds
-use Rattle.tl_trace.specs.declared.fault.TraceKind.TheVariants.{NoEnd}
+use Rattle.tl_trace.specs.declared.fault.TraceKind.TheVariants.{OutOfMemory, Channel, Length, Shape, Range, NoEnd}
 use Rattle.tl_trace.specs.declared.header.Header.{Header}
 use Rattle.tl_trace.proofs.ReadLines.{IsFree, SoFar, cut_line, cut_last, body_line, body_last, ended, unended, free_take, first_fault, readable_to, one_more, told_more}
 use Rattle.tl_trace.proofs.Cover.{drop_all}
 use Rattle.tl_trace.proofs.Headers.{no_empty_header}
+
+-- not for want of memory
+abbrev pub NoMemory : Option TraceKind → Type 0
+NoMemory o = (kind : TraceKind) → o ≡ Some kind → kind ≢ OutOfMemory
+
+firsts_no_memory : (long shaped range : Bool) → NoMemory (unless long Length or_else unless shaped Shape or_else unless range Range)
+firsts_no_memory false shaped range kind is memory = absurd cc
+firsts_no_memory true false range kind is memory = absurd cc
+firsts_no_memory true true false kind is memory = absurd cc
+firsts_no_memory true true true kind is memory = absurd cc
+
+form_no_memory : {H : Type 0} (f : Form H) (w : ℕ) (text : List ℕ) → NoMemory (form_fault f w text)
+form_no_memory f w text = firsts_no_memory (length text == line_length f w) (is_shaped f w text) (is_in_range f w text)
+
+channel_no_memory : NoMemory (Some Channel)
+channel_no_memory kind is memory = absurd cc
+
+five_no_memory : (a b c d e : Bool) (fa fb fc fd fe : Option TraceKind) → NoMemory fa → NoMemory fb → NoMemory fc → NoMemory fd → NoMemory fe
+    → NoMemory (cond a fa (cond b fb (cond c fc (cond d fd (cond e fe (Some Channel))))))
+five_no_memory true b c d e fa fb fc fd fe na nb nc nd ne = na
+five_no_memory false true c d e fa fb fc fd fe na nb nc nd ne = nb
+five_no_memory false false true d e fa fb fc fd fe na nb nc nd ne = nc
+five_no_memory false false false true e fa fb fc fd fe na nb nc nd ne = nd
+five_no_memory false false false false true fa fb fc fd fe na nb nc nd ne = ne
+five_no_memory false false false false false fa fb fc fd fe na nb nc nd ne = channel_no_memory
+
+-- what is wrong with a line is no want of memory
+pub no_memory : (version client manager : ℕ) (text : List ℕ) → NoMemory (body_fault version client manager text)
+no_memory version client manager text =
+    let letter = slice_index text 0 in
+    five_no_memory (letter == 65) (letter == 66) (letter == 67) (letter == 68) (letter == 69)
+    (form_fault (form_a version) client text) (form_fault (form_b version) manager text) (form_fault (form_c version) client text) (form_fault (form_d version) manager text) (form_fault (form_e version) client text)
+    (form_no_memory (form_a version) client text) (form_no_memory (form_b version) manager text) (form_no_memory (form_c version) client text) (form_no_memory (form_d version) manager text) (form_no_memory (form_e version) client text)
 
 pub free_line : (text : List ℕ) (at end : ℕ) → LineAt text at end → IsFree (slice_range text at end)
 free_line text at end line = free_take (end - at) (drop at text) (λ k lt e. line.free k (omega arith) (sym (get_or-drop at text k 0) ∙ e))

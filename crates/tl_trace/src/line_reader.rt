@@ -1,11 +1,10 @@
 //! Reading a line of a known channel.
-ghost use Rattle.std.specs.Prelude.{◌≡◌, ◌≢◌, ◌≤◌, ◌+◌, ◌/◌, ◌^◌, true, false, length, nat_lt, Some, ◌<◌, IfOk, IfErr};
+ghost use Rattle.std.specs.Prelude.{◌≡◌, ◌≤◌, ◌+◌, ◌/◌, ◌^◌, ◌&&◌, true, false, length, nat_lt, Some, ◌<◌, MatchResult};
 ghost use Rattle.tl_lanes.specs.declared.limits.TheConstants.{WIDEST};
 ghost use Rattle.tl_trace.specs.Fields.{length_of, mask_fields, data_fields, line_length, number_of_lanes};
 ghost use Rattle.tl_trace.specs.Lines.{is_lanes};
 ghost use Rattle.tl_trace.specs.Faults.{form_fault};
 ghost use Rattle.tl_trace.specs.Inner.Reading.{CanReadBeat, IsPart, IsRead, mask_values, data_values};
-ghost use Rattle.tl_trace.specs.declared.fault.TraceKind.TheVariants.{OutOfMemory};
 
 use crate::digits::{MaskNumber, Number, field, lanes_field, mask_field};
 use crate::fault::TraceKind;
@@ -15,13 +14,13 @@ use crate::places::{line_len, mask_digits, mask_len};
 use tl_lanes::{Mask, WIDEST};
 use tl_msg::{Beat, BeatOf};
 
-/// Whether the mask has no bit at or past `w`.
+/// Whether the mask has no bit at or past `w`, and corrupt is one of its two values.
 #[inline(always)]
-fn mask_fits(mask: Mask, w: usize) -> bool
+fn are_in_range(mask: Mask, corrupt: u64, w: usize) -> bool
     requires { w ≤ WIDEST }
-    ensures { result ≡ nat_lt mask (2 ^ w) }
+    ensures { result ≡ (nat_lt mask (2 ^ w) && nat_lt corrupt 2) }
 {
-    w >= WIDEST || mask < (1 as Mask) << w
+    (w >= WIDEST || mask < (1 as Mask) << w) && corrupt < 2
 }
 
 /// The mask from this place on, 0 on a channel that has none.
@@ -77,9 +76,8 @@ pub fn read_beat<K: ReadHead, const N: usize, const VERSION: u8>(
     w: usize,
 ) -> Result<Beat<K, N>, TraceKind>
     requires { CanReadBeat (K.form VERSION) N w text.now }
-    ensures ok { IfOk result (IsRead (K.form VERSION) w text.now) }
-    ensures err { IfErr result (λ kind. form_fault (K.form VERSION) w text.now ≡ Some kind) }
-    ensures kinds { IfErr result (λ kind. kind ≢ OutOfMemory) }
+    ensures { MatchResult result (IsRead (K.form VERSION) w text.now)
+        (λ kind. form_fault (K.form VERSION) w text.now ≡ Some kind) }
 {
     if text.len() != line_len::<K, VERSION>(w) {
         return Err(TraceKind::Length);
@@ -100,7 +98,7 @@ pub fn read_beat<K: ReadHead, const N: usize, const VERSION: u8>(
     let Some(head) = K::head_of(&fields) else {
         return Err(TraceKind::Range);
     };
-    if !mask_fits(mask.value, w) || corrupt.value > 1 {
+    if !are_in_range(mask.value, corrupt.value, w) {
         return Err(TraceKind::Range);
     }
     Ok(BeatOf {

@@ -1,5 +1,5 @@
 //! From a text to its trace.
-ghost use Rattle.std.specs.Prelude.{ℕ, ◌≡◌, ◌≢◌, ◌≤◌, ◌<◌, ◌+◌, true, None, Some, ◌∷◌, drop, map, length, slice_index, IfOk, IfErr};
+ghost use Rattle.std.specs.Prelude.{ℕ, ◌≡◌, ◌≢◌, ◌≤◌, ◌<◌, ◌+◌, true, None, Some, ◌∷◌, drop, map, length, slice_index, IfOk, IfErr, MatchResult};
 ghost use Rattle.tl_trace.specs.Texts.{Tells, TellsLines, is_kept_line};
 ghost use Rattle.tl_trace.specs.Faults.{cut, faults, body_fault, later_fault, IsFirstFault, IsReadableTo};
 ghost use Rattle.tl_trace.specs.Inner.Reading.{CanRead, IsReadLine};
@@ -33,6 +33,13 @@ pub fn line_end(text: &[u8], at: usize) -> usize
     end
 }
 
+/// The letter that a line begins with, 0 of an empty one.
+fn letter_of(text: &[u8]) -> u8
+    ensures { result ≡ slice_index text.now 0 }
+{
+    if text.is_empty() { 0 } else { text[0] }
+}
+
 /// The line of a beat that was read.
 macro_rules! read_as {
     ($line:ident, $read:expr) => {
@@ -50,16 +57,15 @@ fn read_line_in<const VERSION: u8>(
     manager: usize,
 ) -> Result<Line, TraceKind>
     requires { CanRead VERSION client manager }
-    ensures ok { IfOk result (IsReadLine VERSION client manager text.now) }
-    ensures err { IfErr result (λ kind. body_fault VERSION client manager text.now ≡ Some kind) }
-    ensures kinds { IfErr result (λ kind. kind ≢ OutOfMemory) }
+    ensures { MatchResult result (IsReadLine VERSION client manager text.now)
+        (λ kind. body_fault VERSION client manager text.now ≡ Some kind) }
 {
-    match text.first() {
-        Some(b'A') => read_as!(A, read_beat::<ChA, WIDEST, VERSION>(text, client)),
-        Some(b'B') => read_as!(B, read_beat::<ChB, WIDEST, VERSION>(text, manager)),
-        Some(b'C') => read_as!(C, read_beat::<ChC, WIDEST, VERSION>(text, client)),
-        Some(b'D') => read_as!(D, read_beat::<ChD, WIDEST, VERSION>(text, manager)),
-        Some(b'E') => read_as!(E, read_beat::<ChE, WIDEST, VERSION>(text, client)),
+    match letter_of(text) {
+        b'A' => read_as!(A, read_beat::<ChA, WIDEST, VERSION>(text, client)),
+        b'B' => read_as!(B, read_beat::<ChB, WIDEST, VERSION>(text, manager)),
+        b'C' => read_as!(C, read_beat::<ChC, WIDEST, VERSION>(text, client)),
+        b'D' => read_as!(D, read_beat::<ChD, WIDEST, VERSION>(text, manager)),
+        b'E' => read_as!(E, read_beat::<ChE, WIDEST, VERSION>(text, client)),
         _ => Err(TraceKind::Channel),
     }
 }
@@ -68,9 +74,8 @@ fn read_line_in<const VERSION: u8>(
 #[inline(never)]
 pub fn read_line(text: &[u8], version: u8, client: usize, manager: usize) -> Result<Line, TraceKind>
     requires { CanRead version client manager }
-    ensures ok { IfOk result (IsReadLine version client manager text.now) }
-    ensures err { IfErr result (λ kind. body_fault version client manager text.now ≡ Some kind) }
-    ensures kinds { IfErr result (λ kind. kind ≢ OutOfMemory) }
+    ensures { MatchResult result (IsReadLine version client manager text.now)
+        (λ kind. body_fault version client manager text.now ≡ Some kind) }
 {
     match version {
         1 => read_line_in::<1>(text, client, manager),

@@ -1,14 +1,13 @@
-use Rattle.std.proofs.Common.{◌≡◌, ◌+◌, ◌^◌, ℕ, true, false, nat_lt, nat_eq, length, arith, sym, ap, ◌∙◌}
+use Rattle.std.proofs.Common.{◌≡◌, ◌+◌, ◌^◌, ◌&&◌, ℕ, true, false, nat_lt, nat_eq, length, arith, sym, ap, ◌∙◌}
 use Rattle.std.specs.List.{list_all}
 use Rattle.tl_msg.specs.declared.beat.BeatOf.{BeatOf}
 use Rattle.tl_trace.specs.Fields.{id_digits, line_length, number_of_lanes}
 use Rattle.tl_trace.specs.Inner.Reading.{is_head_in_range}
-use Rattle.tl_trace.proofs.Shaped.{made, wrong_shape, wrong_range, bit_of}
+use Rattle.tl_trace.proofs.Shaped.{made, wrong_length, wrong_shape, wrong_range, bit_of}
 use Rattle.tl_trace.proofs.ReadDigits.{left_good, right_good, zero_are, zero_number, zero_bits}
 use Rattle.tl_trace.proofs.Ids.{four_digits}
-use Rattle.tl_trace.proofs.LineParts.{line_long, line_part, line_values, line_said, line_plain, below_is, no_head, out_mask, out_corrupt, in_all, high, low}
+use Rattle.tl_trace.proofs.LineParts.{line_long, line_part, line_values, line_said, line_plain, below_is, no_head, out_fields, in_all, low}
 use Rattle.tl_trace.proofs.line_reader.read_beat.Goals as goal
-use Rattle.tl_trace.proofs.line_reader.read_beat.Goals.{then-not-mask_fits-via-then-not-mask_fits, then-not-mask_fits-via-else-not-mask_fits+then-corrupt-gt1}
 
 pub read_head-fields-requires : goal.read_head-fields-requires
 read_head-fields-requires g c =
@@ -31,8 +30,8 @@ read_data-corrupt-requires-clause-lanes g c = zero_are g.row.N
 pub read_data-corrupt-requires-clause-zero : goal.read_data-corrupt-requires-clause-zero
 read_data-corrupt-requires-clause-zero g c = zero_number g.row.N
 
-pub returns-then-fields-mask-gt15-clause-err : goal.returns-then-fields-mask-gt15-clause-err
-returns-then-fields-mask-gt15-clause-err g c =
+pub returns-then-fields-mask-gt15 : goal.returns-then-fields-mask-gt15
+returns-then-fields-mask-gt15 g c =
     let f = g.K.HeadText.form g.row.VERSION in
     let long : length c.args.text.now ≡ line_length f c.args.w = omega (arith, c.line_len.ensures.long, c.if-text-line_len.false) in
     let part = line_part f c.args.w (id_digits g.row.VERSION) c.args.text.now c.read_head-fields.result c.read_mask-mask.result.value (number_of_lanes c.read_data-corrupt.new.lanes) c.read_data-corrupt.result.value
@@ -43,8 +42,8 @@ returns-then-fields-mask-gt15-clause-err g c =
 pub head_of-requires : goal.head_of-requires
 head_of-requires g c = four_digits g.row.VERSION c.read_head-fields.result (c.read_head-fields.ensures.small (left_good _ _ (left_good _ _ c.if-fields-mask-gt15.false)))
 
-pub returns-in_default-clause-err : goal.returns-in_default-clause-err
-returns-in_default-clause-err g c =
+pub returns-in_default : goal.returns-in_default
+returns-in_default g c =
     let f = g.K.HeadText.form g.row.VERSION in
     let long : length c.args.text.now ≡ line_length f c.args.w = omega (arith, c.line_len.ensures.long, c.if-text-line_len.false) in
     let r = c.read_head-fields.result in
@@ -58,8 +57,8 @@ returns-in_default-clause-err g c =
     (below_is f c.args.w r m d x false (g.met.K.ReadHead.head_alone g.row.VERSION) c.read_mask-mask.ensures.none (λ none. (c.read_data-corrupt.ensures.none none).1) (c.read_data-corrupt.ensures.small (right_good _ _ c.if-fields-mask-gt15.false))
     (no_head f r _ _ (c.in_default.ensures g.row.VERSION (c.read_head-fields.ensures.small (left_good _ _ (left_good _ _ c.if-fields-mask-gt15.false))))))
 
-pub returns-then-not-mask_fits-clause-err : goal.returns-then-not-mask_fits-clause-err
-returns-then-not-mask_fits-clause-err g c =
+pub returns-then-not-are_in_range : goal.returns-then-not-are_in_range
+returns-then-not-are_in_range g c =
     let f = g.K.HeadText.form g.row.VERSION in
     let long : length c.args.text.now ≡ line_length f c.args.w = omega (arith, c.line_len.ensures.long, c.if-text-line_len.false) in
     let r = c.read_head-fields.result in
@@ -71,13 +70,10 @@ returns-then-not-mask_fits-clause-err g c =
     c.read_head-fields.ensures c.read_mask-mask.ensures.part c.read_data-corrupt.ensures.part in
     wrong_range f c.args.w c.args.text.now (line_values f r m d x) long (part.good c.if-fields-mask-gt15.false)
     (below_is f c.args.w r m d x false (g.met.K.ReadHead.head_alone g.row.VERSION) c.read_mask-mask.ensures.none (λ none. (c.read_data-corrupt.ensures.none none).1) (c.read_data-corrupt.ensures.small (right_good _ _ c.if-fields-mask-gt15.false))
-    (elim c.then-not-mask_fits.branch [
-      | then-not-mask_fits-via-then-not-mask_fits w ↦ out_mask (is_head_in_range f r) _ _ (sym c.mask_fits.ensures ∙ w.if-not-mask_fits.true)
-      | then-not-mask_fits-via-else-not-mask_fits+then-corrupt-gt1 w ↦ out_corrupt (is_head_in_range f r) (nat_lt m (2 ^ c.args.w)) _ (high x w.if-corrupt-gt1.true)
-    ]))
+    (out_fields (is_head_in_range f r) _ _ (sym c.are_in_range.ensures ∙ c.if-not-are_in_range.true)))
 
-pub returns-clause-ok : goal.returns-clause-ok
-returns-clause-ok g c =
+pub returns : goal.returns
+returns g c =
     let f = g.K.HeadText.form g.row.VERSION in
     let long : length c.args.text.now ≡ line_length f c.args.w = omega (arith, c.line_len.ensures.long, c.if-text-line_len.false) in
     let r = c.read_head-fields.result in
@@ -87,42 +83,16 @@ returns-clause-ok g c =
     let part = line_part f c.args.w (id_digits g.row.VERSION) c.args.text.now r m d x
     c.read_mask-mask.result.bad c.read_data-corrupt.result.bad c.head_end-mask_at.result _ (g.met.K.ReadHead.head_alone g.row.VERSION) c.head_end-mask_at.ensures.end (ap (λ (k : ℕ). c.head_end-mask_at.result + k) c.mask_len.ensures.long)
     c.read_head-fields.ensures c.read_mask-mask.ensures.part c.read_data-corrupt.ensures.part in
+    let fit : nat_lt m (2 ^ c.args.w) && nat_lt x 2 ≡ true = sym c.are_in_range.ensures ∙ c.if-not-are_in_range.false in
     let head = c.in-Some.ensures g.row.VERSION (c.read_head-fields.ensures.small (left_good _ _ (left_good _ _ c.if-fields-mask-gt15.false))) in
     let range = below_is f c.args.w r m d x true (g.met.K.ReadHead.head_alone g.row.VERSION) c.read_mask-mask.ensures.none (λ none. (c.read_data-corrupt.ensures.none none).1) (c.read_data-corrupt.ensures.small (right_good _ _ c.if-fields-mask-gt15.false))
-    (in_all (is_head_in_range f r) _ _ head.range (sym c.mask_fits.ensures ∙ c.if-not-mask_fits.false) (low x c.if-corrupt-gt1.false)) in
+    (in_all (is_head_in_range f r) _ _ head.range fit) in
     let b : BeatOf g.row.K-Head.Denot g.row.N = record { head = c.in-Some.head; mask = m; lanes = c.read_data-corrupt.new.lanes; corrupt = nat_eq x 1 } in
     made f c.args.w b c.args.text.now (line_values f r m d x) c.requires.letter long (part.good c.if-fields-mask-gt15.false)
-    (line_said f b r x (g.met.K.ReadHead.head_alone g.row.VERSION) head (bit_of x c.if-corrupt-gt1.false)) range c.read_data-corrupt.ensures.bytes
+    (line_said f b r x (g.met.K.ReadHead.head_alone g.row.VERSION) head (bit_of x (low (nat_lt m (2 ^ c.args.w)) x fit))) range c.read_data-corrupt.ensures.bytes
     (line_plain f b c.read_mask-mask.ensures.none (λ none.
     let same = c.read_data-corrupt.ensures.none none in
     (ap (list_all (λ lane. nat_eq lane 0)) same.0 ∙ zero_bits g.row.N, ap (λ (k : ℕ). nat_eq k 1) same.1)))
 
-pub returns-then-text-line_len-clause-ok : goal.returns-then-text-line_len-clause-ok
-returns-then-text-line_len-clause-ok g c = tt
-
-pub returns-then-text-line_len-clause-kinds : goal.returns-then-text-line_len-clause-kinds
-returns-then-text-line_len-clause-kinds g c = λ is. absurd (cc)
-
-pub returns-then-fields-mask-gt15-clause-ok : goal.returns-then-fields-mask-gt15-clause-ok
-returns-then-fields-mask-gt15-clause-ok g c = tt
-
-pub returns-then-fields-mask-gt15-clause-kinds : goal.returns-then-fields-mask-gt15-clause-kinds
-returns-then-fields-mask-gt15-clause-kinds g c = λ is. absurd (cc)
-
-pub returns-in_default-clause-ok : goal.returns-in_default-clause-ok
-returns-in_default-clause-ok g c = tt
-
-pub returns-in_default-clause-kinds : goal.returns-in_default-clause-kinds
-returns-in_default-clause-kinds g c = λ is. absurd (cc)
-
-pub returns-then-not-mask_fits-clause-ok : goal.returns-then-not-mask_fits-clause-ok
-returns-then-not-mask_fits-clause-ok g c = tt
-
-pub returns-then-not-mask_fits-clause-kinds : goal.returns-then-not-mask_fits-clause-kinds
-returns-then-not-mask_fits-clause-kinds g c = λ is. absurd (cc)
-
-pub returns-clause-err : goal.returns-clause-err
-returns-clause-err g c = tt
-
-pub returns-clause-kinds : goal.returns-clause-kinds
-returns-clause-kinds g c = tt
+pub returns-then-text-line_len : goal.returns-then-text-line_len
+returns-then-text-line_len g c = wrong_length (g.K.HeadText.form g.row.VERSION) c.args.w c.args.text.now (λ is. c.if-text-line_len.true (is ∙ sym c.line_len.ensures.long))

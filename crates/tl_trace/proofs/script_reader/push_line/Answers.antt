@@ -26,7 +26,7 @@ returns g c =
       from = omega (arith, c.line_len-long.ensures.few);
       to = omega (arith, c.if-long-text.false);
       stop = c.if-text-at-ne10.false;
-      read = c.in-Ok.ensures.ok;
+      read = c.in-Ok.ensures;
       put = was_put c.push.result _ _ _ went c.push.ensures.items;
     }
 

@@ -1,8 +1,10 @@
 use Rattle.std.proofs.Common.{◌≡◌, ◌≤◌, ◌<◌, ◌-◌, false, length, lit<, refl, sym, arith, ◌∙◌}
+use Rattle.std.specs.List.{slice_range}
 use Rattle.std.specs.Result.{is_err}
 use Rattle.tl_trace.specs.Inner.Reading.{LineAt}
 use Rattle.tl_trace.specs.declared.places.TheConstants.{LONGEST_LINE}
 use Rattle.tl_trace.proofs.ReadBeats.{on_ok}
+use Rattle.tl_trace.proofs.Walk.{no_memory}
 use Rattle.tl_trace.proofs.Pieces.{left, ends_inside}
 use Rattle.tl_trace.proofs.script_reader.push_slowly.Goals as goal
 use Rattle.tl_trace.proofs.script_reader.push_slowly.Goals.{else-end-piece-via-then-end-piece+else-end-at-lt-LONGEST_LINE, else-end-piece-via-else-end-piece}
@@ -24,7 +26,7 @@ returns-in-Err-clause-fault g c _ =
             | else-end-piece-via-then-end-piece+else-end-at-lt-LONGEST_LINE w ↦ omega (arith, w.if-end-at-lt-LONGEST_LINE.false)
             | else-end-piece-via-else-end-piece w ↦ absurd (w.if-end-piece.false is)
           ];
-      fault = c.in-Err.ensures.err;
+      fault = c.in-Err.ensures;
     }
 
 pub returns-then-no_room-clause-memory : goal.returns-then-no_room-clause-memory
@@ -40,8 +42,8 @@ returns-then-no_room-clause-memory g c _ =
       end = c.line_end-end.result;
       line = line;
       beat = c.in-Ok.line;
-      inside = ends_inside c.args.version g.row.C g.row.M c.args.piece.now c.args.at c.line_end-end.result c.in-Ok.line c.requires.0.client c.requires.0.manager line long c.in-Ok.ensures.ok;
-      read = c.in-Ok.ensures.ok;
+      inside = ends_inside c.args.version g.row.C g.row.M c.args.piece.now c.args.at c.line_end-end.result c.in-Ok.line c.requires.0.client c.requires.0.manager line long c.in-Ok.ensures;
+      read = c.in-Ok.ensures;
     }
 
 pub returns-clause-read : goal.returns-clause-read
@@ -53,14 +55,14 @@ returns-clause-read g c =
       | else-end-piece-via-then-end-piece+else-end-at-lt-LONGEST_LINE w ↦ omega (arith, w.if-end-at-lt-LONGEST_LINE.false)
       | else-end-piece-via-else-end-piece w ↦ absurd (w.if-end-piece.false is)
     ] in
-    let inside : c.line_end-end.result < length c.args.piece.now = ends_inside c.args.version g.row.C g.row.M c.args.piece.now c.args.at c.line_end-end.result c.in-Ok.line c.requires.0.client c.requires.0.manager line long c.in-Ok.ensures.ok in
+    let inside : c.line_end-end.result < length c.args.piece.now = ends_inside c.args.version g.row.C g.row.M c.args.piece.now c.args.at c.line_end-end.result c.in-Ok.line c.requires.0.client c.requires.0.manager line long c.in-Ok.ensures in
     let went : is_err c.push_beat_of.result ≡ false = sym c.is_err.ensures.value ∙ c.if-is_err.false in
     record {
       line = c.in-Ok.line;
       from = e.from;
       to = inside;
       stop = e.end inside;
-      read = c.in-Ok.ensures.ok;
+      read = c.in-Ok.ensures;
       put = on_ok c.push_beat_of.result c.push_beat_of.ensures went;
     }
 
@@ -93,3 +95,6 @@ returns-clause-fault g c = tt
 
 pub returns-clause-memory : goal.returns-clause-memory
 returns-clause-memory g c = tt
+
+pub returns-in-Err-clause-memory : goal.returns-in-Err-clause-memory
+returns-in-Err-clause-memory g c = λ is. absurd (no_memory c.args.version g.row.C g.row.M (slice_range c.args.piece.now c.args.at c.line_end-end.result) c.in-Err.kind c.in-Err.ensures is)

@@ -1,4 +1,4 @@
-use Rattle.std.proofs.Common.{◌≡◌, rules, None, Some, refl, sym, ap, ◌∙◌}
+use Rattle.std.proofs.Common.{◌≡◌, None, Some, refl, sym, ap, ◌∙◌}
 use Rattle.tl_burst.specs.Handing.{fault_in, fault_after}
 use Rattle.tl_burst.proofs.FaultsExact.{ChannelLaws, laws-of, faults-exact, admitted-none, none-lawful, none-held}
 use Rattle.tl_burst.proofs.tracker.Tracker.check.Goals as goal
@@ -37,7 +37,7 @@ returns-in-None-clause-admitted g c = λ bs handed e.
     g.met.K.Channel.small g.met.K.Channel.partial_carries g.met.K.Channel.masked_address g.met.K.Channel.home_kept in
     let none : fault_in g.K.Channel.rules c.args.self.now c.args.beat.now ≡ None = sym c.first_fault.ensures.fault ∙ c.in-None.is in
     let here : fault_after g.K.Channel.rules bs c.args.beat.now ≡ None = ap (λ burst. fault_in g.K.Channel.rules burst c.args.beat.now) (sym e) ∙ none in
-    (λ t. (faults-exact g.K.Channel.rules g.row.W c.requires laws bs c.args.beat.now handed c.ranges_of_beat.ensures).0 here, λ admitted. search rules)
+    (λ t. (faults-exact g.K.Channel.rules g.row.W c.requires laws bs c.args.beat.now handed c.ranges_of_beat.ensures).0 here, λ admitted. refl)
 
 pub returns-in-None-clause-accepts : goal.returns-in-None-clause-accepts
 returns-in-None-clause-accepts g c = (λ _. sym c.first_fault.ensures.fault ∙ c.in-None.is, λ _. refl)
