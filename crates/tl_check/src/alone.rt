@@ -7,11 +7,13 @@ use crate::progress::Progress;
 use tl_msg::{Beat, Channel, SideFault, Verdict};
 
 // What a channel that nothing couples to another one ends in. Its list has at most `2^40` beats.
-pub(crate) fn settle_alone<K: Channel, const W: usize, const V: usize>(
+#[inline(never)]
+pub(crate) fn settle_alone<K: Channel, const W: usize>(
     beats: &[Beat<K, W>],
+    far_width: usize,
 ) -> Verdict
-    requires { IsWidth W × IsWidth V × (length beats.now ≤ 2 ^ 40) }
-    ensures { result ≡ verdict_alone K.rules V beats.now }
+    requires { IsWidth W × IsWidth far_width × (length beats.now ≤ 2 ^ 40) }
+    ensures { result ≡ verdict_alone K.rules far_width beats.now }
 {
     let mut progress = Progress::<K, W>::new();
     for beat in beats {
@@ -19,7 +21,7 @@ pub(crate) fn settle_alone<K: Channel, const W: usize, const V: usize>(
             Ok(place) => place,
             Err(fault) => return progress.verdict(Some(SideFault::Beat(fault))),
         };
-        progress.accept::<V>(place);
+        progress.accept(place, far_width);
     }
     progress.verdict(None)
 }

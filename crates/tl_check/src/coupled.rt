@@ -1,5 +1,5 @@
 //! A and D, which the books of both sides couple.
-ghost use Rattle.std.specs.Prelude.{◌≡◌, ◌+◌, ◌≤◌, ◌<◌, ◌*◌, ◌^◌, ◌++◌, [], ℕ, None, Some, List, length, map, slice_get, IfErr, OnOk, OnErr};
+ghost use Rattle.std.specs.Prelude.{◌≡◌, ◌+◌, ◌≤◌, ◌<◌, ◌*◌, ◌^◌, ◌++◌, [], ℕ, None, Some, List, length, slice_get, IfOk, IfErr, OnOk, OnErr};
 ghost use Rattle.std.specs.Option.{option_map_or};
 ghost use Rattle.tl_lanes.specs.declared.limits.TheConstants.{WIDEST};
 ghost use Rattle.tl_lanes.specs.Lanes.{IsWidth};
@@ -7,11 +7,10 @@ ghost use Rattle.tl_msg.specs.Tables.{rules_a, rules_d};
 ghost use Rattle.tl_msg.specs.declared.head.HeadA.{HeadA};
 ghost use Rattle.tl_msg.specs.declared.head.HeadD.{HeadD};
 ghost use Rattle.tl_msg.specs.declared.beat.BeatOf.{BeatOf};
-ghost use Rattle.tl_settle.specs.Histories.{Event, Ask, Answer};
 ghost use Rattle.tl_settle.specs.Settling.{stops_a, stops_d};
 ghost use Rattle.tl_settle.specs.Outcomes.{verdict_a, verdict_d};
-ghost use Rattle.tl_sides.specs.Books.{KnowsClient, KnowsManager};
-ghost use Rattle.tl_check.specs.Inner.Passing.{AreAt, HasCome, HaveHead};
+ghost use Rattle.tl_sides.specs.Books.{Client, Manager, KnowsClient, KnowsManager};
+ghost use Rattle.tl_check.specs.Inner.Passing.{AreAt, HasCome, NotesAsks, NotesAnswers};
 
 use crate::progress::Progress;
 use tl_msg::{Beat, ChA, ChD, HeadA, HeadD, SideFault, Verdict};
@@ -20,8 +19,7 @@ use tl_sides::{ClientBook, ManagerBook};
 // The manager's side takes so many beats of A with this head.
 fn note_asks<const M: usize>(book: &mut ManagerBook<M>, head: &HeadA, count: usize)
     requires { IsWidth M × (rules_a.fault head.now ≡ None) }
-    ensures { (es : List (Event M)) (bs : List (BeatOf HeadA M)) → KnowsManager book.old es →
-        length bs ≡ count → HaveHead head.now bs → KnowsManager book.new (es ++ map Ask bs) }
+    ensures { NotesAsks M head.now count book.old book.new }
 {
     for _ in 0..count {
         book.note_ask(head);
@@ -31,40 +29,43 @@ fn note_asks<const M: usize>(book: &mut ManagerBook<M>, head: &HeadA, count: usi
 // The client's side takes so many beats of D with this head.
 fn note_answers<const C: usize>(book: &mut ClientBook<C>, head: &HeadD, count: usize)
     requires { IsWidth C × (rules_d.fault head.now ≡ None) }
-    ensures { (es : List (Event C)) (bs : List (BeatOf HeadD C)) → KnowsClient book.old es →
-        length bs ≡ count → HaveHead head.now bs → KnowsClient book.new (es ++ map Answer bs) }
+    ensures { NotesAnswers C head.now count book.old book.new }
 {
     for _ in 0..count {
         book.note_answer(head);
     }
 }
 
-// The client's side offers the next beat of A. Where it is accepted, the manager's side takes the
-// far beats that it makes due; else nothing changes.
-fn offer_request<const C: usize, const M: usize>(
+// The client's side offers the next beat of A. Where it is accepted, so many far beats are due,
+// which the manager's side has to note; else nothing changes.
+#[inline(never)]
+fn offer_request<const C: usize>(
     client: &mut ClientBook<C>,
-    manager: &mut ManagerBook<M>,
     beat: &Beat<ChA, C>,
     asks: &mut Progress<ChA, C>,
-) -> Result<(), SideFault>
-    requires { IsWidth C × IsWidth M × (asks.old.at < 2 ^ 40) ×
+    far_width: usize,
+) -> Result<usize, SideFault>
+    requires { IsWidth C × IsWidth far_width × (asks.old.at < 2 ^ 40) ×
         (asks.old.far ≤ WIDEST * asks.old.at) }
     ensures come { (a : List (BeatOf HeadA C)) →
-        HasCome rules_a M a asks.old.tracker asks.old.at asks.old.far →
+        HasCome rules_a far_width a asks.old.tracker asks.old.at asks.old.far →
         slice_get a asks.old.at ≡ Some beat.now →
-        OnOk result (HasCome rules_a M a asks.new.tracker asks.new.at asks.new.far) }
-    ensures accepted { (a : List (BeatOf HeadA C)) (d : List (BeatOf HeadD M)) (j : ℕ) →
-        HasCome rules_a M a asks.old.tracker asks.old.at asks.old.far →
-        AreAt a d asks.old.at j client.old manager.old → slice_get a asks.old.at ≡ Some beat.now →
-        OnOk result (AreAt a d asks.new.at j client.new manager.new) }
-    ensures stopped { (a : List (BeatOf HeadA C)) (d : List (BeatOf HeadD M)) (j : ℕ) →
-        HasCome rules_a M a asks.old.tracker asks.old.at asks.old.far →
-        AreAt a d asks.old.at j client.old manager.old → slice_get a asks.old.at ≡ Some beat.now →
+        OnOk result (HasCome rules_a far_width a asks.new.tracker asks.new.at asks.new.far) }
+    ensures accepted { (a : List (BeatOf HeadA C)) (d : List (BeatOf HeadD far_width)) (j : ℕ)
+        (manager noted : Manager) →
+        HasCome rules_a far_width a asks.old.tracker asks.old.at asks.old.far →
+        AreAt a d asks.old.at j client.old manager → slice_get a asks.old.at ≡ Some beat.now →
+        IfOk result (λ given. NotesAsks far_width beat.now.head given manager noted →
+        AreAt a d asks.new.at j client.new noted) }
+    ensures stopped { (a : List (BeatOf HeadA C)) (d : List (BeatOf HeadD far_width)) (j : ℕ)
+        (manager : Manager) →
+        HasCome rules_a far_width a asks.old.tracker asks.old.at asks.old.far →
+        AreAt a d asks.old.at j client.old manager → slice_get a asks.old.at ≡ Some beat.now →
         IfErr result (λ fault. stops_a a d asks.old.at j beat.now ≡ Some fault) }
+    ensures lawful { OnOk result (rules_a.fault beat.now.head ≡ None) }
     ensures at { OnOk result (asks.new.at ≡ asks.old.at + 1) }
     ensures few_far { OnOk result (asks.new.far ≤ WIDEST * asks.new.at) }
-    ensures refused { OnErr result ((client.new ≡ client.old) × (manager.new ≡ manager.old) ×
-        (asks.new ≡ asks.old)) }
+    ensures refused { OnErr result ((client.new ≡ client.old) × (asks.new ≡ asks.old)) }
 {
     let place = match asks.tracker.check(beat) {
         Ok(place) => place,
@@ -73,39 +74,42 @@ fn offer_request<const C: usize, const M: usize>(
     if let Err(fault) = client.ask(&place) {
         return Err(fault);
     }
-    let given = asks.accept::<M>(place);
-    note_asks(manager, &beat.head, given);
-    Ok(())
+    Ok(asks.accept(place, far_width))
 }
 
-// The manager's side offers the next beat of D. Where it is accepted, the client's side takes the
-// far beats that it makes due; else nothing changes.
-fn offer_response<const C: usize, const M: usize>(
-    client: &mut ClientBook<C>,
+// The manager's side offers the next beat of D. Where it is accepted, so many far beats are due,
+// which the client's side has to note; else nothing changes.
+#[inline(never)]
+fn offer_response<const M: usize>(
     manager: &mut ManagerBook<M>,
     beat: &Beat<ChD, M>,
     answers: &mut Progress<ChD, M>,
-) -> Result<(), SideFault>
-    requires { IsWidth C × IsWidth M × (answers.old.at < 2 ^ 40) ×
+    far_width: usize,
+) -> Result<usize, SideFault>
+    requires { IsWidth M × IsWidth far_width × (answers.old.at < 2 ^ 40) ×
         (answers.old.far ≤ WIDEST * answers.old.at) }
     ensures come { (d : List (BeatOf HeadD M)) →
-        HasCome rules_d C d answers.old.tracker answers.old.at answers.old.far →
+        HasCome rules_d far_width d answers.old.tracker answers.old.at answers.old.far →
         slice_get d answers.old.at ≡ Some beat.now →
-        OnOk result (HasCome rules_d C d answers.new.tracker answers.new.at answers.new.far) }
-    ensures accepted { (a : List (BeatOf HeadA C)) (d : List (BeatOf HeadD M)) (i : ℕ) →
-        HasCome rules_d C d answers.old.tracker answers.old.at answers.old.far →
-        AreAt a d i answers.old.at client.old manager.old →
+        OnOk result (HasCome rules_d far_width d answers.new.tracker answers.new.at
+        answers.new.far) }
+    ensures accepted { (a : List (BeatOf HeadA far_width)) (d : List (BeatOf HeadD M)) (i : ℕ)
+        (client noted : Client) →
+        HasCome rules_d far_width d answers.old.tracker answers.old.at answers.old.far →
+        AreAt a d i answers.old.at client manager.old →
         slice_get d answers.old.at ≡ Some beat.now →
-        OnOk result (AreAt a d i answers.new.at client.new manager.new) }
-    ensures stopped { (a : List (BeatOf HeadA C)) (d : List (BeatOf HeadD M)) (i : ℕ) →
-        HasCome rules_d C d answers.old.tracker answers.old.at answers.old.far →
-        AreAt a d i answers.old.at client.old manager.old →
+        IfOk result (λ given. NotesAnswers far_width beat.now.head given client noted →
+        AreAt a d i answers.new.at noted manager.new) }
+    ensures stopped { (a : List (BeatOf HeadA far_width)) (d : List (BeatOf HeadD M)) (i : ℕ)
+        (client : Client) →
+        HasCome rules_d far_width d answers.old.tracker answers.old.at answers.old.far →
+        AreAt a d i answers.old.at client manager.old →
         slice_get d answers.old.at ≡ Some beat.now →
         IfErr result (λ fault. stops_d a d i answers.old.at beat.now ≡ Some fault) }
+    ensures lawful { OnOk result (rules_d.fault beat.now.head ≡ None) }
     ensures at { OnOk result (answers.new.at ≡ answers.old.at + 1) }
     ensures few_far { OnOk result (answers.new.far ≤ WIDEST * answers.new.at) }
-    ensures refused { OnErr result ((client.new ≡ client.old) × (manager.new ≡ manager.old) ×
-        (answers.new ≡ answers.old)) }
+    ensures refused { OnErr result ((manager.new ≡ manager.old) × (answers.new ≡ answers.old)) }
 {
     let place = match answers.tracker.check(beat) {
         Ok(place) => place,
@@ -114,9 +118,7 @@ fn offer_response<const C: usize, const M: usize>(
     if let Err(fault) = manager.answer(&place) {
         return Err(fault);
     }
-    let given = answers.accept::<C>(place);
-    note_answers(client, &beat.head, given);
-    Ok(())
+    Ok(answers.accept(place, far_width))
 }
 
 // The client's side offers its beats of A, up to the first one that is stopped: what stops it, or
@@ -142,8 +144,9 @@ fn offer_requests<const C: usize, const M: usize>(
     ensures all { result ≡ None → length beats.now ≤ asks.new.at }
 {
     'beats: while let Some(beat) = beats.get(asks.at) {
-        if let Err(fault) = offer_request(client, manager, beat, asks) {
-            return Some(fault);
+        match offer_request(client, beat, asks, M) {
+            Ok(given) => note_asks(manager, &beat.head, given),
+            Err(fault) => return Some(fault),
         }
     }
     None
@@ -174,8 +177,9 @@ fn offer_responses<const C: usize, const M: usize>(
     ensures all { result ≡ None → length beats.now ≤ answers.new.at }
 {
     'beats: while let Some(beat) = beats.get(answers.at) {
-        if let Err(fault) = offer_response(client, manager, beat, answers) {
-            return Some(fault);
+        match offer_response(manager, beat, answers, C) {
+            Ok(given) => note_answers(client, &beat.head, given),
+            Err(fault) => return Some(fault),
         }
     }
     None

@@ -10,7 +10,7 @@ ghost use Rattle.tl_settle.specs.Outcomes.{verdict_of};
 ghost use Rattle.tl_check.specs.Inner.Passing.{HasCome};
 
 use tl_burst::{Place, Tracker};
-use tl_convert::far_beats_at;
+use tl_convert::far_beats_between;
 use tl_msg::{Channel, SideFault, Verdict};
 
 /// How far a channel has come: the burst that is open, how many near beats were accepted, and how
@@ -37,22 +37,22 @@ impl<K: Channel, const W: usize> Progress<K, W> {
         }
     }
 
-    // Goes on by the next beat, which is accepted and stands at this place: how many far beats it
-    // makes due.
-    pub(crate) fn accept<const V: usize>(&mut self, place: Place<K>) -> usize
-        requires { IsWidth W × IsWidth V × IsPlace K.rules W self.old.tracker place ×
+    // Goes on by the next beat, which is accepted and stands at this place: how many beats of the
+    // far width it makes due.
+    pub(crate) fn accept(&mut self, place: Place<K>, far_width: usize) -> usize
+        requires { IsWidth W × IsWidth far_width × IsPlace K.rules W self.old.tracker place ×
             (self.old.at < 2 ^ 40) × (self.old.far ≤ WIDEST * self.old.at) }
         ensures at { self.new.at ≡ self.old.at + 1 }
         ensures far { self.new.far ≡ self.old.far + result }
         ensures few_far { self.new.far ≤ WIDEST * self.new.at }
         ensures come { (bs : List (BeatOf K.Head W)) (b : BeatOf K.Head W) →
-            HasCome K.rules V bs self.old.tracker self.old.at self.old.far →
+            HasCome K.rules far_width bs self.old.tracker self.old.at self.old.far →
             slice_get bs self.old.at ≡ Some b → place.head ≡ b.head →
             fault_in K.rules self.old.tracker b ≡ None →
             IsHanded K.rules (take self.old.at bs ++ b ∷ []) →
-            HasCome K.rules V bs self.new.tracker self.new.at self.new.far }
+            HasCome K.rules far_width bs self.new.tracker self.new.at self.new.far }
     {
-        let given = far_beats_at::<K, W, V>(&place);
+        let given = far_beats_between(&place, W, far_width);
         self.tracker.advance(place);
         self.at += 1;
         self.far += given;

@@ -35,9 +35,9 @@ pub fn verdicts_of<const C: usize, const M: usize>(
     let (a, d) = settle_coupled(&mut client, &mut manager, &script.a, &script.d);
     Ok([
         a,
-        settle_alone::<ChB, M, C>(&script.b),
-        settle_alone::<ChC, C, M>(&script.c),
+        settle_alone::<ChB, M>(&script.b, C),
+        settle_alone::<ChC, C>(&script.c, M),
         d,
-        settle_alone::<ChE, C, M>(&script.e),
+        settle_alone::<ChE, C>(&script.e, M),
     ])
 }

@@ -1,5 +1,5 @@
 -- A tracker fits in memory, where the heads of its channel are small, and so do the places of a list of beats.
-use Rattle.std.proofs.Common.{◌≤◌, ◌<◌, ◌+◌, ◌*◌, ◌^◌, ℕ, max, arith}
+use Rattle.std.proofs.Common.{◌≤◌, ◌<◌, ◌+◌, ◌*◌, ℕ, max, arith}
 use Rattle.std.proofs.Math.Nat.{mul-le-mul}
 use prog.Memory.{up, size, align}
 use prog.Align.{up-ge}

@@ -20,17 +20,31 @@ pub fn far_beats_at<K: Channel, const W: usize, const V: usize>(place: &Place<K>
     ensures gives { Gives K.rules W V place.now.head place.now.index result }
     ensures few { result ≤ WIDEST }
 {
+    far_beats_between(place, W, V)
+}
+
+/// How many far beats a near beat at this place gives, as [`far_beats_at`], between two widths that
+/// are numbers.
+///
+/// A program that has every pair of widths has this once for each channel.
+pub fn far_beats_between<K: Channel>(place: &Place<K>, near: usize, far: usize) -> usize
+    requires near { IsWidth near }
+    requires far { IsWidth far }
+    requires small { K.rules.size place.now.head ≤ MAX_SIZE }
+    ensures gives { Gives K.rules near far place.now.head place.now.index result }
+    ensures few { result ≤ WIDEST }
+{
     if !K::carries_data(&place.head) {
         return 1;
     }
     let size = K::size(&place.head);
-    let near = beat_bytes(size, W);
-    let far = beat_bytes(size, V);
-    if near >= far {
-        return near / far;
+    let near_bytes = beat_bytes(size, near);
+    let far_bytes = beat_bytes(size, far);
+    if near_bytes >= far_bytes {
+        return near_bytes / far_bytes;
     }
     let index = place.index as usize;
-    (index + 1) * near / far - index * near / far
+    (index + 1) * near_bytes / far_bytes - index * near_bytes / far_bytes
 }
 
 /// How many far beats a list of near beats gives, up to the first beat that is refused.
@@ -44,13 +58,23 @@ pub fn far_count<K: Channel, const W: usize, const V: usize>(beats: &[Beat<K, W>
     ensures { (homes : List ℕ) →
         result ≡ length (due K.rules W V (accepted_of K.rules beats.now) homes) }
 {
+    count_until_refused::<K, W>(beats, V)
+}
+
+// The same, where the far width is a number.
+#[inline(never)]
+fn count_until_refused<K: Channel, const W: usize>(beats: &[Beat<K, W>], far: usize) -> usize
+    requires { IsWidth W × IsWidth far × (length beats.now ≤ 2 ^ 40) }
+    ensures { (homes : List ℕ) →
+        result ≡ length (due K.rules W far (accepted_of K.rules beats.now) homes) }
+{
     let mut tracker = Tracker::<K, W>::new();
     let mut count = 0;
     for beat in beats {
         let Ok(place) = tracker.check(beat) else {
             return count;
         };
-        count += far_beats_at::<K, W, V>(&place);
+        count += far_beats_between(&place, W, far);
         tracker.advance(place);
     }
     count
@@ -71,6 +95,6 @@ pub fn far_room<K: Channel, const W: usize, const V: usize>(beats: &[Beat<K, W>]
     if W == V {
         beats.len()
     } else {
-        far_count::<K, W, V>(beats)
+        count_until_refused::<K, W>(beats, V)
     }
 }

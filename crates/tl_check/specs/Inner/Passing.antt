@@ -1,5 +1,5 @@
 -- How far the check of a script has come. Only contracts of private functions cite these words.
-use Rattle.std.specs.Prelude.{◌≡◌, ◌≤◌, ◌++◌, ℕ, Option, List, [], ◌∷◌, length, take, drop}
+use Rattle.std.specs.Prelude.{◌≡◌, ◌≤◌, ◌++◌, ℕ, Option, List, [], ◌∷◌, length, map, take, drop}
 use Rattle.tl_msg.specs.Rules.{Rules}
 use Rattle.tl_msg.specs.declared.head.HeadA.{HeadA}
 use Rattle.tl_msg.specs.declared.head.HeadD.{HeadD}
@@ -7,7 +7,7 @@ use Rattle.tl_msg.specs.declared.beat.BeatOf.{BeatOf}
 use Rattle.tl_burst.specs.Handing.{IsHanded, burst_after}
 use Rattle.tl_convert.specs.Due.{due}
 use Rattle.tl_convert.specs.Accepted.{accepted_of, accepted_after}
-use Rattle.tl_settle.specs.Histories.{Event, asked, answered}
+use Rattle.tl_settle.specs.Histories.{Event, Ask, Answer, asked, answered}
 use Rattle.tl_settle.specs.Rounds.{Run}
 use Rattle.tl_settle.specs.Settling.{far_a, far_d}
 use Rattle.tl_sides.specs.Books.{Client, Manager, KnowsClient, KnowsManager}
@@ -26,6 +26,16 @@ pub record HasCome {H : Type 0} (r : Rules H) {w : ℕ} (v : ℕ) (bs : List (Be
 abbrev pub HaveHead : {H : Type 0} {w : ℕ} → H → List (BeatOf H w) → Type 0
 HaveHead h [] = Unit {0}
 HaveHead h (b ∷ bs) = (b.head ≡ h) × HaveHead h bs
+
+-- the manager's side has taken so many beats of A with this head, and knows so
+abbrev pub NotesAsks : (M : ℕ) (head : HeadA) (count : ℕ) (before after : Manager) → Type 0
+NotesAsks M head count before after = (es : List (Event M)) (bs : List (BeatOf HeadA M)) → KnowsManager before es → length bs ≡ count → HaveHead head bs →
+    KnowsManager after (es ++ map Ask bs)
+
+-- the client's side has taken so many beats of D with this head, and knows so
+abbrev pub NotesAnswers : (C : ℕ) (head : HeadD) (count : ℕ) (before after : Client) → Type 0
+NotesAnswers C head count before after = (es : List (Event C)) (bs : List (BeatOf HeadD C)) → KnowsClient before es → length bs ≡ count → HaveHead head bs →
+    KnowsClient after (es ++ map Answer bs)
 
 -- Of the near beats a of channel A and d of channel D the first i and j were accepted, in some order of the two sides' calls; each side has taken
 -- all that is due, and its book knows what it did

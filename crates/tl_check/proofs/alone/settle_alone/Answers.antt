@@ -30,7 +30,7 @@ accept-requires g c =
 pub loop-beat-init : goal.loop-beat-init
 loop-beat-init g c =
     let none : c.new-progress.result.far ≡ 0 = c.new-progress.ensures.none in
-    record { at = c.new-progress.ensures.begins; come = c.new-progress.ensures.come g.row.V c.args.beats.now; few_far = omega arith }
+    record { at = c.new-progress.ensures.begins; come = c.new-progress.ensures.come c.args.far_width c.args.beats.now; few_far = omega arith }
 
 pub loop-beat-preserved : goal.loop-beat-preserved
 loop-beat-preserved g c =
@@ -50,7 +50,7 @@ returns-in-Err g c =
     let progress = c.loop-beat.progress in
     let come = c.loop-beat.invariant.come in
     let next = next-beat c.args.beats.now progress.at c.loop-beat.beat-index c.beat-item.result c.loop-beat.invariant.at c.loop-beat-test.true c.beat-item.is in
-    c.verdict.ensures g.row.V c.args.beats.now come ∙
+    c.verdict.ensures c.args.far_width c.args.beats.now come ∙
     alone-stops g.K.Channel.rules c.args.beats.now progress.tracker progress.at progress.far come c.beat-item.result next
     c.in-Err.fault c.in-Err.ensures.fault
 
@@ -60,5 +60,5 @@ returns g c =
     let at : progress.at ≡ c.loop-beat.beat-index = c.loop-beat.invariant.at in
     let past : length c.args.beats.now ≤ c.loop-beat.beat-index = c.loop-beat-test.false in
     let come = c.loop-beat.invariant.come in
-    c.verdict-2.ensures g.row.V c.args.beats.now come ∙
+    c.verdict-2.ensures c.args.far_width c.args.beats.now come ∙
     alone-all g.K.Channel.rules c.args.beats.now progress.tracker progress.at progress.far come (omega arith)

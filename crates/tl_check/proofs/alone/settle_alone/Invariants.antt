@@ -6,6 +6,6 @@ use Rattle.tl_check.proofs.alone.settle_alone.Given as goal
 abbrev pub invariant-loop-beat : goal.invariant-loop-beat
 invariant-loop-beat g l = record {
   at : l.progress.at ≡ l.beat-index;
-  come : HasCome g.K.Channel.rules g.row.V l.beats l.progress.tracker l.progress.at l.progress.far;
+  come : HasCome g.K.Channel.rules l.far_width l.beats l.progress.tracker l.progress.at l.progress.far;
   few_far : l.progress.far ≤ WIDEST * l.progress.at;
 }

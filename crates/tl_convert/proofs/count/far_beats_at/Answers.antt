@@ -1,61 +1,16 @@
-use Rattle.std.proofs.Common.{◌≡◌, ◌≤◌, ◌<◌, ◌+◌, ◌-◌, ◌*◌, ◌/◌, ◌^◌, ℕ, rules, zero, suc, arith, sym, ap, subst, ◌∙◌}
-use Rattle.std.proofs.Math.Nat.{add-mul-div_right, mul-div_cancel}
-use Rattle.tl_lanes.specs.Lanes.{bytes_per_beat}
-use Rattle.tl_lanes.proofs.Widths.{width_bounds}
-use Rattle.tl_burst.specs.Messages.{per_beat}
-use Rattle.tl_burst.proofs.Numbers.{div-up, per-power, powers-divide}
 use Rattle.tl_convert.proofs.count.far_beats_at.Goals as goal
 
-more : (index near far : ℕ) → 0 < far → (index + 1) * near ≤ index * near + near * far
-more index near zero pos = absurd (omega arith)
-more index near (suc far) pos = grind arith
+pub far_beats_between-requires-clause-near : goal.far_beats_between-requires-clause-near
+far_beats_between-requires-clause-near g c = c.requires.near
 
--- a near beat ends at most as many far beats as it has bytes
-ended : (index near far : ℕ) → 0 < far → (index + 1) * near / far - index * near / far ≤ near
-ended index near far pos =
-    let grown : (index + 1) * near ≤ index * near + near * far = more index near far pos in
-    let up : (index + 1) * near / far ≤ (index * near + near * far) / far = div-up ((index + 1) * near) (index * near + near * far) far pos grown in
-    let sum : (index * near + near * far) / far ≡ index * near / far + near = add-mul-div_right (index * near) near pos in
-    omega arith
+pub far_beats_between-requires-clause-far : goal.far_beats_between-requires-clause-far
+far_beats_between-requires-clause-far g c = c.requires.far
+
+pub far_beats_between-requires-clause-small : goal.far_beats_between-requires-clause-small
+far_beats_between-requires-clause-small g c = c.requires.small
+
+pub returns-clause-gives : goal.returns-clause-gives
+returns-clause-gives g c = c.far_beats_between.ensures.gives
 
 pub returns-clause-few : goal.returns-clause-few
-returns-clause-few g c =
-    let w = width_bounds g.row.W c.requires.near in
-    let k = per-power c.size-size.result g.row.V c.requires.far in
-    let pos : 0 < c.beat_bytes-far.result = (let z : 0 < 2 ^ k.0 = search rules in omega (arith, k.1, c.beat_bytes-far.ensures)) in
-    omega (arith, ended c.args.place.now.index c.beat_bytes-near.result c.beat_bytes-far.result pos, c.beat_bytes-near.ensures)
-
--- where a near beat has as many bytes as some far beats, each gives so many
-times : (i p q c : ℕ) → p ≡ c * q → 0 < q → i * p / q ≡ i * c
-times i p q c e pos =
-    let product : i * p ≡ (i * c) * q = rw e (grind arith) in
-    ap (λ x. x / q) product ∙ mul-div_cancel (i * c) pos
-
-one-more : (i c : ℕ) → c + i * c ≡ (i + 1) * c
-one-more i c = grind arith
-
-whole : (i p q a b : ℕ) → p ≡ 2 ^ a → q ≡ 2 ^ b → q ≤ p → p / q + i * p / q ≡ (i + 1) * p / q
-whole i p q a b ep eq le =
-    let e = powers-divide a b p q ep eq le in
-    let pos : 0 < q = (let z : 0 < 2 ^ b = search rules in omega (arith, eq)) in
-    ap (λ x. p / q + x) (times i p q (p / q) e pos) ∙ one-more i (p / q) ∙ sym (times (i + 1) p q (p / q) e pos)
-
-pub returns-then-near-far-clause-gives : goal.returns-then-near-far-clause-gives
-returns-then-near-far-clause-gives g c =
-    let r = g.K.Channel.rules in
-    let h = c.args.place.now.head in
-    let i = c.args.place.now.index in
-    let near = c.beat_bytes-near.result in
-    let far = c.beat_bytes-far.result in
-    let a = per-power c.size-size.result g.row.W c.requires.near in
-    let b = per-power c.size-size.result g.row.V c.requires.far in
-    let p : near ≡ per_beat r h g.row.W = c.beat_bytes-near.ensures ∙ ap (λ z. bytes_per_beat z g.row.W) c.size-size.ensures in
-    let q : far ≡ per_beat r h g.row.V = c.beat_bytes-far.ensures ∙ ap (λ z. bytes_per_beat z g.row.V) c.size-size.ensures in
-    let least : far ≤ near = omega (arith, c.if-near-far.true) in
-    let sum = whole i near far a.0 b.0 (c.beat_bytes-near.ensures ∙ a.1) (c.beat_bytes-far.ensures ∙ b.1) least in
-    let N : ℕ → Type 0 = λ n. near / far + i * n / far ≡ (i + 1) * n / far in
-    let F : ℕ → Type 0 = λ m. near / far + i * per_beat r h g.row.W / m ≡ (i + 1) * per_beat r h g.row.W / m in
-    record {
-      data_beat = λ _. subst F q (subst N p sum);
-      no_data = λ none. search (rules, none, c.if-not-carries_data.false, c.if-not-carries_data.ensures, c.carries_data.ensures);
-    }
+returns-clause-few g c = c.far_beats_between.ensures.few

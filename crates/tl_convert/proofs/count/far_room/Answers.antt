@@ -17,3 +17,6 @@ returns-then-this g c = λ homes.
     let parts : length (accepted_of g.K.Channel.rules c.args.beats.now ++ first.0) ≡ length (accepted_of g.K.Channel.rules c.args.beats.now) + length first.0 =
     length-append (accepted_of g.K.Channel.rules c.args.beats.now) first.0 in
     omega arith
+
+pub returns-else-this : goal.returns-else-this
+returns-else-this g c = λ homes. omega (arith, c.count_until_refused.ensures homes)

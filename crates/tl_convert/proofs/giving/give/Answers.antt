@@ -5,3 +5,6 @@ pub returns-then-carries_data : goal.returns-then-carries_data
 returns-then-carries_data g c = λ bs run.
     let carried : g.K.Channel.rules.carries c.args.beat.now.head ≡ true = sym c.carries_data.ensures ∙ c.if-carries_data.true in
     let k = c.give_data.ensures carried bs run in record { due_is = k.due_is; filled = λ e. k.filled }
+
+pub carries_data-requires : goal.carries_data-requires
+carries_data-requires g c κs = λ p. p

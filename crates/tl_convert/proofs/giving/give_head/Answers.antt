@@ -1,9 +1,11 @@
-use Rattle.std.proofs.Common.{◌≡◌, true, false, [], ◌∷◌, ◌++◌, sym, ap, subst, ◌∙◌}
+use Rattle.std.proofs.Common.{◌≡◌, ◌<◌, ℕ, length, true, false, [], ◌∷◌, ◌++◌, sym, ap, subst, ◌∙◌, arith}
+use Rattle.tl_lanes.specs.declared.limits.TheConstants.{WIDEST}
 use Rattle.tl_lanes.specs.Lanes.{active_mask}
 use Rattle.tl_msg.specs.declared.beat.BeatOf.{BeatOf}
 use Rattle.tl_burst.specs.Messages.{layout}
 use Rattle.tl_convert.specs.Inner.Giving.{of_head}
 use Rattle.tl_convert.proofs.SingleBeat.{single-is}
+use Rattle.tl_convert.proofs.PourStep.{same-small}
 use Rattle.tl_convert.proofs.giving.give_head.Goals.{then-MASKED, else-MASKED}
 use Rattle.tl_convert.proofs.giving.give_head.Goals as goal
 
@@ -24,3 +26,15 @@ returns g c = λ no_data.
           (single-is g.K.Channel.rules c.args.head g.row.V c.args.home c.requires.0 no_data _ blank.head_is blank.lanes blank.size blank.corrupt
           (λ t. absurd (not-both (g.met.K.Channel.masked_is ∙ sym c.MASKED.ensures ∙ w.if-MASKED.false) t)) (λ f. blank.mask))
     ]
+
+pub blank-beat-requires : goal.blank-beat-requires
+blank-beat-requires g c = c.requires-raw.1.1.1.1.0
+
+pub active-requires-clause-small : goal.active-requires-clause-small
+active-requires-clause-small g c = same-small c.size.result (g.K.Channel.rules.size c.args.head) c.size.ensures c.requires.1
+
+none-fits : (n : ℕ) → n ≡ 0 → n < WIDEST
+none-fits n e = omega arith
+
+pub push-requires : goal.push-requires
+push-requires g c = (c.requires-raw.1.1.1.0, none-fits (length c.args.out.now.items) (ap length c.requires.2))

@@ -9,9 +9,10 @@ use mir.Val.{Fits}
 use Rattle.tl_msg.specs.declared.beat.BeatOf.{BeatOf}
 use Rattle.tl_lanes.specs.declared.limits.TheConstants.{WIDEST}
 use Rattle.tl_lanes.specs.Lanes.{bytes_per_beat}
+use Rattle.tl_lanes.proofs.Widths.{width_bounds}
 use Rattle.tl_burst.specs.Messages.{per_beat}
 use Rattle.tl_convert.specs.Inner.Pouring.{Poured, Pours}
-use Rattle.tl_convert.proofs.PourStep.{one-chunk, pour-stays, pour-ends, blank-empty, last-changed, last-was, last-inside, same-small}
+use Rattle.tl_convert.proofs.PourStep.{one-chunk, pour-stays, pour-ends, blank-empty, last-changed, last-was, last-inside, same-small, some-bytes, bytes-within}
 use Rattle.tl_convert.proofs.Sizes.{beat_bytes}
 use Rattle.tl_convert.proofs.pouring.pour_part.Goals as goal
 
@@ -106,3 +107,11 @@ bounds-as_mut_slice-0 g c =
 
 pub blank-requires : goal.blank-requires
 blank-requires g c = c.requires-raw.1.1.1.1.1.0
+
+pub overflow_add-first : goal.overflow_add-first
+overflow_add-first g c =
+    let w = width_bounds g.row.W c.requires.0.near in
+    omega (arith, bytes-within c.size-size.result g.row.W c.beat_bytes-near.result c.beat_bytes-near.ensures, c.requires.0.room)
+
+pub nonzero_rem-first : goal.nonzero_rem-first
+nonzero_rem-first g c = some-bytes c.size-size.result g.row.V c.beat_bytes.result c.requires.0.far c.beat_bytes.ensures

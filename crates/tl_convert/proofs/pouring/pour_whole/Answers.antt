@@ -10,7 +10,7 @@ use Rattle.tl_lanes.specs.Lanes.{bytes_per_beat}
 use Rattle.tl_lanes.proofs.Widths.{width_bounds}
 use Rattle.tl_burst.specs.Messages.{per_beat}
 use Rattle.tl_convert.specs.Inner.Pouring.{Poured, Pours}
-use Rattle.tl_convert.proofs.PourStep.{Chunk, chunk-at, chunk-all, pour-ends, whole-ends, begins-far, begun-empty, last-changed, last-was, last-inside, same-small, some-bytes}
+use Rattle.tl_convert.proofs.PourStep.{Chunk, chunk-at, chunk-all, pour-ends, whole-ends, begins-far, begun-empty, last-changed, last-was, last-inside, same-small, some-bytes, bytes-within}
 use Rattle.tl_convert.proofs.Sizes.{place_fits}
 use Rattle.tl_convert.proofs.pouring.pour_whole.Goals as goal
 
@@ -158,3 +158,11 @@ further n t lt = omega arith
 
 pub loop-t-smaller : goal.loop-t-smaller
 loop-t-smaller g c = further (c.beat_bytes.result / c.beat_bytes-wide.result) c.loop-t.t c.loop-t-test.true
+
+pub add_bytes-requires : goal.add_bytes-requires
+add_bytes-requires g c =
+    let near : c.beat_bytes.result ≡ per_beat g.K.Channel.rules c.args.beat.now.head g.row.W = c.beat_bytes.ensures ∙ ap (λ z. bytes_per_beat z g.row.W) c.size-size.ensures in
+    let wide : c.beat_bytes-wide.result ≡ per_beat g.K.Channel.rules c.args.beat.now.head g.row.V = c.beat_bytes-wide.ensures ∙ ap (λ z. bytes_per_beat z g.row.V) c.size-size.ensures in
+    let within : c.beat_bytes.result ≤ g.row.W = bytes-within c.size-size.result g.row.W c.beat_bytes.result c.beat_bytes.ensures in
+    let fits : c.beat_bytes-wide.result ≤ g.row.V = bytes-within c.size-size.result g.row.V c.beat_bytes-wide.result c.beat_bytes-wide.ensures in
+    (c.requires-raw.1.1.1.1.0, (c.requires-raw.1.1.1.1.1.0, (c.requires.0.near, c.requires.0.far, omega (arith, near, wide, c.requires.1, within), fits)))

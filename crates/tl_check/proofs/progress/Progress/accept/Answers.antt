@@ -9,7 +9,7 @@ pub overflow_add-self : goal.overflow_add-self
 overflow_add-self g c = omega (arith, c.requires.3)
 
 pub overflow_add-self-2 : goal.overflow_add-self-2
-overflow_add-self-2 g c = omega (arith, c.requires.3, c.requires.4, c.far_beats_at-given.ensures.few)
+overflow_add-self-2 g c = omega (arith, c.requires.3, c.requires.4, c.far_beats_between-given.ensures.few)
 
 pub returns-clause-at : goal.returns-clause-at
 returns-clause-at g c = refl
@@ -20,8 +20,8 @@ returns-clause-far g c = refl
 pub returns-clause-come : goal.returns-clause-come
 returns-clause-come g c = λ bs b come next head fine handed.
     let self = c.args.self.now in
-    come-more g.K.Channel.rules bs self.tracker self.at self.far come b next c.args.place c.far_beats_at-given.result c.advance.new.self
-    c.requires.0 c.requires.1 head fine handed c.requires.2 c.far_beats_at-given.ensures.gives
+    come-more g.K.Channel.rules bs self.tracker self.at self.far come b next c.args.place c.far_beats_between-given.result c.advance.new.self
+    c.requires.0 c.requires.1 head fine handed c.requires.2 c.far_beats_between-given.ensures.gives
     (c.advance.ensures.stands (take self.at bs) b come.burst_is (sym head))
 
 pub advance-requires : goal.advance-requires
@@ -29,4 +29,13 @@ advance-requires g c =
     (tracker-fits (lone g.row.K-Head.mir) (layout g.row.K-Head) g.met.K.Channel.head_small, (c.requires.0, c.requires.2))
 
 pub returns-clause-few_far : goal.returns-clause-few_far
-returns-clause-few_far g c = omega (arith, c.requires.4, c.far_beats_at-given.ensures.few)
+returns-clause-few_far g c = omega (arith, c.requires.4, c.far_beats_between-given.ensures.few)
+
+pub far_beats_between-given-requires-clause-near : goal.far_beats_between-given-requires-clause-near
+far_beats_between-given-requires-clause-near g c = c.requires.0
+
+pub far_beats_between-given-requires-clause-far : goal.far_beats_between-given-requires-clause-far
+far_beats_between-given-requires-clause-far g c = c.requires.1
+
+pub far_beats_between-given-requires-clause-small : goal.far_beats_between-given-requires-clause-small
+far_beats_between-given-requires-clause-small g c = g.met.K.Channel.small c.args.place.head c.requires.2.lawful

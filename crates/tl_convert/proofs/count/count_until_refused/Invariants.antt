@@ -3,13 +3,13 @@ use Rattle.tl_lanes.specs.declared.limits.TheConstants.{WIDEST}
 use Rattle.tl_burst.specs.Handing.{burst_after}
 use Rattle.tl_convert.specs.Due.{due}
 use Rattle.tl_convert.specs.Accepted.{accepted_of, accepted_after}
-use Rattle.tl_convert.proofs.count.far_count.Given as goal
+use Rattle.tl_convert.proofs.count.count_until_refused.Given as goal
 
 abbrev pub invariant-loop-beat : goal.invariant-loop-beat
 invariant-loop-beat g l = record {
   open_now : l.tracker ≡ burst_after g.K.Channel.rules (take l.beat-index l.beats);
   accepted : accepted_of g.K.Channel.rules l.beats ≡
       take l.beat-index l.beats ++ accepted_after g.K.Channel.rules (take l.beat-index l.beats) (drop l.beat-index l.beats);
-  count : (homes : List ℕ) → l.count ≡ length (due g.K.Channel.rules g.row.W g.row.V (take l.beat-index l.beats) homes);
+  count : (homes : List ℕ) → l.count ≡ length (due g.K.Channel.rules g.row.W l.far (take l.beat-index l.beats) homes);
   few : l.count ≤ WIDEST * l.beat-index;
 }

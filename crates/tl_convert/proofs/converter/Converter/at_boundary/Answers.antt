@@ -1,0 +1,26 @@
+use Rattle.std.proofs.Common.{rules, ◌≡◌, ◌↔◌, ◌∙◌, ℕ, Bool, true, false, Option, List, [], ◌∷◌, not, refl}
+use Rattle.std.specs.Prelude.{IsTrue}
+use Rattle.std.specs.Option.{is_some}
+use denote.Memory.{lone}
+use denote.Param.{layout}
+use Rattle.tl_msg.specs.Rules.{Rules}
+use Rattle.tl_msg.specs.declared.beat.BeatOf.{BeatOf}
+use Rattle.tl_burst.specs.Handing.{burst_of, rest_of}
+use Rattle.tl_convert.proofs.Sizes.{tracker-fits}
+use Rattle.tl_convert.proofs.converter.Converter.at_boundary.Goals as goal
+
+pub in_burst-requires : goal.in_burst-requires
+in_burst-requires g c = tracker-fits (lone g.row.K-Head.mir) (layout g.row.K-Head) g.met.K.Channel.head_small
+
+-- no burst is open exactly where no beat is left over
+between : {H : Type 0} (r : Rules H) {w : ℕ} (rest : List (BeatOf H w)) (burst : Option (H × ℕ)) (none : Bool) →
+    burst ≡ burst_of r rest → is_some burst ≡ not none → IsTrue none ↔ (rest ≡ [])
+between r [] burst true e f = (λ _. refl, λ _. search rules)
+between r [] burst false e f = absurd (cc (e, f))
+between r (b ∷ rest) burst true e f = absurd (cc (e, f))
+between r (b ∷ rest) burst false e f = (λ t. absurd (cc t), λ k. cc k)
+
+pub returns : goal.returns
+returns g c = λ bs homes k.
+    let stands = rw (← c.self.view_is) at k in
+    between g.K.Channel.rules (rest_of g.K.Channel.rules g.row.W bs) c.in_burst.result c.is_none.result (c.in_burst.ensures.burst ∙ stands.burst_is) c.is_none.ensures
