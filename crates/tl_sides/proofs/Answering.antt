@@ -1,6 +1,8 @@
 -- What a side answers to a beat, by the beat's fault, by whether it opens a message, and by what the side's history says of its source.
 use Rattle.std.proofs.Common.{rules, ◌≡◌, ℕ, Bool, true, false, cond, Option, None, Some, List, refl, sym, ap, ◌∙◌}
-use Rattle.std.specs.Prelude.{◌==◌}
+use Rattle.std.specs.Prelude.{◌==◌, ◌↔◌}
+use Rattle.std.proofs.lemmas.Bool.{false≢true}
+use Rattle.std.proofs.lemmas.Option.{none-some}
 use Rattle.std.specs.Option.{option_map_or, is_some}
 use Rattle.tl_msg.specs.Tables.{rules_a, rules_d}
 use Rattle.tl_msg.specs.declared.head.HeadA.{HeadA}
@@ -11,11 +13,18 @@ use Rattle.tl_msg.specs.declared.fault.SideFault.{SideFault}
 use Rattle.tl_msg.specs.declared.fault.SideFault.TheVariants.{Beat, SourceBusy}
 use Rattle.tl_burst.specs.Begun.{left}
 use Rattle.tl_burst.specs.Handing.{fault_after}
+use Rattle.tl_burst.specs.declared.place.Place.{Place}
 use Rattle.tl_settle.specs.Requests.{is_release_ack}
 use Rattle.tl_settle.specs.Histories.{Event, Mark, asked, answered, marks, open_request, to_request, home_after, client_answer, manager_answer}
 use Rattle.tl_sides.specs.declared.tables.Request.{Request}
 use Rattle.tl_sides.specs.Tables.{remembered_of}
+use Rattle.tl_sides.specs.Books.{IsNext}
 use Rattle.tl_sides.specs.Inner.Noting.{stops_response}
+use Rattle.tl_sides.proofs.Between.{opens}
+
+-- a beat that something stops is no Ok
+pub stopped : {A : Type 0} {o : Option A} {x : A} → o ≡ Some x → (false ≡ true) ↔ (o ≡ None)
+stopped {x = x} stops = (λ ok. absurd (false≢true ok), λ none. absurd (none-some x (sym none ∙ stops)))
 
 -- the beat's fault comes first, and then, where it opens a message, what the side says
 abbrev gate : Option BeatFault → (opens : Bool) → Option SideFault → Option SideFault
@@ -35,6 +44,10 @@ gate_none fault false side none free = ap (λ x. gate x false side) none
 abbrev busy_fault : Bool → Option SideFault
 busy_fault busy = cond busy (Some SourceBusy) None
 
+gate_busy : (fault : Option BeatFault) (opens first busy : Bool) → fault ≡ None → opens ≡ first → gate fault opens (busy_fault busy) ≡ busy_fault (cond first busy false)
+gate_busy fault opens true busy none same = ap (λ x. gate x opens (busy_fault busy)) none ∙ ap (λ x. gate None x (busy_fault busy)) same
+gate_busy fault opens false busy none same = ap (λ x. gate x opens (busy_fault busy)) none ∙ ap (λ x. gate None x (busy_fault busy)) same
+
 -- the client's side, where `accepted` are the beats of A that it has accepted
 module _ {w : ℕ} (es : List (Event w)) (b : BeatOf HeadA w) (accepted : List (BeatOf HeadA w)) (same : asked es ≡ accepted) where
   pub client_fault : (f : BeatFault) → fault_after rules_a accepted b ≡ Some f → client_answer es b ≡ Some (Beat f)
@@ -42,18 +55,13 @@ module _ {w : ℕ} (es : List (Event w)) (b : BeatOf HeadA w) (accepted : List (
       gate_fault (fault_after rules_a (asked es) b) (left rules_a w (asked es) == 0) (busy_fault (is_some (open_request b.head.source (marks es)))) f
       (ap (λ q. fault_after rules_a q b) same ∙ e)
 
-  pub client_busy : (first : Bool) → first ≡ (left rules_a w accepted == 0) → fault_after rules_a accepted b ≡ None → first ≡ true →
-      is_some (open_request b.head.source (marks es)) ≡ true → client_answer es b ≡ Some SourceBusy
-  client_busy first opens none begins busy =
-      gate_side (fault_after rules_a (asked es) b) (left rules_a w (asked es) == 0) (busy_fault (is_some (open_request b.head.source (marks es)))) SourceBusy
-      (ap (λ q. fault_after rules_a q b) same ∙ none) (ap (λ q. left rules_a w q == 0) same ∙ sym opens ∙ begins) (ap busy_fault busy)
-
-  pub client_none : (first : Bool) → first ≡ (left rules_a w accepted == 0) → fault_after rules_a accepted b ≡ None →
-      (first ≡ true → is_some (open_request b.head.source (marks es)) ≡ false) → client_answer es b ≡ None
-  client_none first opens none free =
-      gate_none (fault_after rules_a (asked es) b) (left rules_a w (asked es) == 0) (busy_fault (is_some (open_request b.head.source (marks es))))
-      (ap (λ q. fault_after rules_a q b) same ∙ none)
-      (λ begins. ap busy_fault (free (opens ∙ ap (λ q. left rules_a w q == 0) (sym same) ∙ begins)))
+-- and what its book says, by whether the source of a first beat is busy
+pub client_says : {K : Type 0} {w : ℕ} (es : List (Event w)) (b : BeatOf HeadA w) (place : Place K HeadA) (busy : Bool) → IsNext rules_a (asked es) b place →
+    busy ≡ cond (place.index == 0) (is_some (open_request place.head.source (marks es))) false → client_answer es b ≡ busy_fault busy
+client_says {w = w} es b place busy next says =
+    gate_busy (fault_after rules_a (asked es) b) (left rules_a w (asked es) == 0) (place.index == 0) (is_some (open_request b.head.source (marks es)))
+    next.is_place.accepted (sym (opens rules_a (asked es) b place next)) ∙
+    ap busy_fault (ap (λ h. cond (place.index == 0) (is_some (open_request h.source (marks es))) false) (sym next.is_place.head) ∙ sym says)
 
 -- the manager's side, where `accepted` are the beats of D that it has accepted
 module _ {w : ℕ} (es : List (Event w)) (b : BeatOf HeadD w) (accepted : List (BeatOf HeadD w)) (same : answered es ≡ accepted) where

@@ -1,13 +1,12 @@
 //! What each side of the bridge knows: its book, kept up to the history of its own beats of A and
 //! D.
-ghost use Rattle.std.specs.Prelude.{◌≡◌, ◌↔◌, ◌++◌, ◌∷◌, [], List, true, false, Some, None, IsOk, IfOk, IfErr, OnOk, OnErr};
+ghost use Rattle.std.specs.Prelude.{◌≡◌, ◌↔◌, ◌++◌, ◌∷◌, [], List, true, false, cond, Some, None, IsOk, IfOk, IfErr, OnOk, OnErr};
 ghost use Rattle.std.specs.Option.{is_some};
 ghost use Rattle.tl_lanes.specs.Lanes.{IsWidth};
 ghost use Rattle.tl_msg.specs.Tables.{rules_a, rules_d};
 ghost use Rattle.tl_msg.specs.declared.head.HeadA.{HeadA};
 ghost use Rattle.tl_msg.specs.declared.head.HeadD.{HeadD};
 ghost use Rattle.tl_msg.specs.declared.beat.BeatOf.{BeatOf};
-ghost use Rattle.tl_msg.specs.declared.fault.SideFault.TheVariants.{SourceBusy};
 ghost use Rattle.tl_burst.specs.Begun.{left};
 ghost use Rattle.tl_settle.specs.Requests.{is_release_ack};
 ghost use Rattle.tl_settle.specs.Histories.{Event, Ask, Answer, Mark, Asks, Answers, asked, answered, client_answer, manager_answer, manager_home, open_request, home_after};
@@ -51,7 +50,7 @@ impl<const C: usize, A: Allocator> ClientBook<C, A> {
     pub fn new(alloc: A) -> Result<Self, OutOfMemory>
         ensures { IfOk result (λ book. KnowsClient {w = C} book []) }
     {
-        let sources = SourceTable::new(alloc)?;
+        let sources = given!(SourceTable::new(alloc));
         Ok(ClientBook {
             sources,
             responses: BurstCounter::new(),
@@ -76,7 +75,9 @@ impl<const C: usize, A: Allocator> ClientBook<C, A> {
         ensures refused { OnErr result (self.new ≡ self.old) }
     {
         let first = place.index == 0;
-        ask_for_source(&self.sources, &place.head, first)?;
+        if is_taken(&self.sources, &place.head, first) {
+            return Err(SideFault::SourceBusy);
+        }
         note_asked(&mut self.sources, &place.head, first);
         Ok(())
     }
@@ -122,7 +123,7 @@ impl<const M: usize, A: Allocator> ManagerBook<M, A> {
     pub fn new(alloc: A) -> Result<Self, OutOfMemory>
         ensures { IfOk result (λ book. KnowsManager {w = M} book []) }
     {
-        let requests = RequestTable::new(alloc)?;
+        let requests = given!(RequestTable::new(alloc));
         Ok(ManagerBook {
             requests,
             asks: BurstCounter::new(),
@@ -152,9 +153,13 @@ impl<const M: usize, A: Allocator> ManagerBook<M, A> {
         ensures refused { OnErr result (self.new ≡ self.old) }
     {
         let first = place.index == 0;
-        let home = ask_for_home(&self.requests, &place.head, first)?;
-        note_response(&mut self.requests, &place.head, first);
-        Ok(home)
+        match ask_for_home(&self.requests, &place.head, first) {
+            Ok(home) => {
+                note_response(&mut self.requests, &place.head, first);
+                Ok(home)
+            }
+            Err(fault) => Err(fault),
+        }
     }
 
     /// Notes that the side takes a beat of A with this head, which no fault of its own stops.
@@ -179,8 +184,8 @@ pub fn new_books<const C: usize, const M: usize, A: Allocator + Copy>(
     ensures client { IfOk result (λ books. KnowsClient {w = C} books.0 []) }
     ensures manager { IfOk result (λ books. KnowsManager {w = M} books.1 []) }
 {
-    let client = ClientBook::new(alloc)?;
-    let manager = ManagerBook::new(alloc)?;
+    let client = given!(ClientBook::new(alloc));
+    let manager = given!(ManagerBook::new(alloc));
     Ok((client, manager))
 }
 
@@ -191,22 +196,12 @@ fn is_release_ack(head: &HeadD) -> bool
     head.opcode == RELEASE_ACK
 }
 
-// Asks whether the source of a request is free, where it opens a message.
-fn ask_for_source<A: Allocator>(
-    sources: &SourceTable<A>,
-    head: &HeadA,
-    first: bool,
-) -> Result<(), SideFault>
-    ensures refused { (ms : List Mark) → AreBusy sources.now ms →
-        IfErr result (λ fault. (fault ≡ SourceBusy) × (first ≡ true) ×
-        (is_some (open_request head.now.source ms) ≡ true)) }
-    ensures free { (ms : List Mark) → AreBusy sources.now ms →
-        OnOk result (first ≡ true → is_some (open_request head.now.source ms) ≡ false) }
+// Whether the source of a request is busy, where it opens a message.
+fn is_taken<A: Allocator>(sources: &SourceTable<A>, head: &HeadA, first: bool) -> bool
+    ensures { (ms : List Mark) → AreBusy sources.now ms →
+        result ≡ cond first (is_some (open_request head.now.source ms)) false }
 {
-    if first && sources.busy(head.source) {
-        return Err(SideFault::SourceBusy);
-    }
-    Ok(())
+    first && sources.busy(head.source)
 }
 
 // Asks for the home of a response, where it opens a message: the address of the request that it

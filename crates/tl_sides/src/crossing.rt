@@ -36,7 +36,10 @@ pub fn offer_alone<K: Channel, const W: usize, const V: usize, A: Allocator>(
     // for every pipe
     ensures refused { OnErr result (pipe.new ≡ pipe.old) }
 {
-    let place = pipe.check(beat)?;
+    let place = match pipe.check(beat) {
+        Ok(place) => place,
+        Err(fault) => return Err(SideFault::Beat(fault)),
+    };
     pipe.offer_at(beat, place, 0);
     Ok(())
 }
@@ -98,8 +101,11 @@ pub fn offer_request<const C: usize, const M: usize, A: Allocator>(
     // for every book and pipe
     ensures refused { OnErr result ((book.new ≡ book.old) × (pipe.new ≡ pipe.old)) }
 {
-    let place = pipe.check(beat)?;
-    book.ask(&place)?;
+    let place = match pipe.check(beat) {
+        Ok(place) => place,
+        Err(fault) => return Err(SideFault::Beat(fault)),
+    };
+    given!(book.ask(&place));
     pipe.offer_at(beat, place, 0);
     Ok(())
 }
@@ -132,8 +138,11 @@ pub fn offer_response<const C: usize, const M: usize, A: Allocator>(
     // for every book and pipe
     ensures refused { OnErr result ((book.new ≡ book.old) × (pipe.new ≡ pipe.old)) }
 {
-    let place = pipe.check(beat)?;
-    let home = book.answer(&place)?;
+    let place = match pipe.check(beat) {
+        Ok(place) => place,
+        Err(fault) => return Err(SideFault::Beat(fault)),
+    };
+    let home = given!(book.answer(&place));
     pipe.offer_at(beat, place, home);
     Ok(())
 }

@@ -2,6 +2,17 @@
 //! both sides in one thread.
 #![tactic(auto)]
 
+// What a call gives where it succeeds. Where it doesn't, its fault is the caller's. A `?` would
+// convert the fault, one call more to check, and make one more type for each pair of widths.
+macro_rules! given {
+    ($result:expr) => {
+        match $result {
+            Ok(given) => given,
+            Err(fault) => return Err(fault),
+        }
+    };
+}
+
 mod books;
 mod crossing;
 mod per_channel;

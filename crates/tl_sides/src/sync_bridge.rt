@@ -25,17 +25,6 @@ use std::marker::Model;
 use tl_msg::{Beat, ChA, ChB, ChC, ChD, ChE, SideFault};
 use tl_ring::{BuildFault, EndFault, PipeRing, Standing, SyncPipe};
 
-// What a call has made. Where it has made nothing, its fault is the caller's. A `?` would make one
-// more type for each pair of widths.
-macro_rules! made {
-    ($made:expr) => {
-        match $made {
-            Ok(made) => made,
-            Err(fault) => return Err(fault),
-        }
-    };
-}
-
 /// How many far beats stand at each place of each channel.
 pub type Standings = PerChannel<Standing>;
 
@@ -105,8 +94,8 @@ fn client_parts<const C: usize, A: Allocator + Copy>(
     ensures ring_size { IfErr result (λ fault. (fault ≡ BuildFault.RingSize) ↔
         ((ring ≡ 0) ⊎ (MAX_RING < ring))) }
 {
-    let b = made!(PipeRing::new(alloc, ring));
-    let d = made!(PipeRing::new(alloc, ring));
+    let b = given!(PipeRing::new(alloc, ring));
+    let d = given!(PipeRing::new(alloc, ring));
     let Ok(book) = ClientBook::new(alloc) else {
         return Err(BuildFault::OutOfMemory);
     };
@@ -132,9 +121,9 @@ fn manager_parts<const M: usize, A: Allocator + Copy>(
     ensures ring_size { IfErr result (λ fault. (fault ≡ BuildFault.RingSize) ↔
         ((ring ≡ 0) ⊎ (MAX_RING < ring))) }
 {
-    let a = made!(PipeRing::new(alloc, ring));
-    let c = made!(PipeRing::new(alloc, ring));
-    let e = made!(PipeRing::new(alloc, ring));
+    let a = given!(PipeRing::new(alloc, ring));
+    let c = given!(PipeRing::new(alloc, ring));
+    let e = given!(PipeRing::new(alloc, ring));
     let Ok(book) = ManagerBook::new(alloc) else {
         return Err(BuildFault::OutOfMemory);
     };
@@ -181,8 +170,8 @@ impl<const C: usize, const M: usize, A: Allocator + Copy> SyncBridge<C, M, A> {
         ensures ring_size { IfErr result (λ fault. (fault ≡ BuildFault.RingSize) ↔
             ((ring ≡ 0) ⊎ (MAX_RING < ring))) }
     {
-        let (b, d, client) = made!(client_parts(alloc, ring));
-        let (a, c, e, manager) = made!(manager_parts(alloc, ring));
+        let (b, d, client) = given!(client_parts(alloc, ring));
+        let (a, c, e, manager) = given!(manager_parts(alloc, ring));
         Ok(bridge_over(a, b, c, d, e, client, manager))
     }
 }

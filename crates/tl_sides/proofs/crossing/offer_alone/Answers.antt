@@ -1,22 +1,17 @@
 use Rattle.std.proofs.Common.{None, Some, refl, sym, ap, ◌∙◌}
-use Rattle.tl_convert.proofs.Refusals.{refused_for}
 use Rattle.std.specs.Option.{option_map_or}
-use Rattle.std.proofs.lemmas.Result.{err_from_is_err_and}
 use Rattle.tl_msg.specs.declared.fault.SideFault.TheVariants.{Beat}
 use Rattle.tl_burst.specs.Handing.{fault_in}
+use Rattle.tl_sides.proofs.Answering.{stopped}
 use Rattle.tl_sides.proofs.crossing.offer_alone.Goals as goal
 
-pub returns-in_err-place-clause-fault : goal.returns-in_err-place-clause-fault
-returns-in_err-place-clause-fault g c = λ x h.
-    let p = err_from_is_err_and c.from_residual.result c.from_residual.ensures.1 in
-    rw (p.1, p.2) (ap (λ o. option_map_or (λ fault. Some (Beat fault)) o None) (c.in_err-place.ensures.first_fault x h))
+pub returns-in-Err-clause-fault : goal.returns-in-Err-clause-fault
+returns-in-Err-clause-fault g c = λ x h. ap (λ o. option_map_or (λ fault. Some (Beat fault)) o None) (c.in-Err.ensures.first_fault x h)
 
-pub returns-in_err-place-clause-admitted : goal.returns-in_err-place-clause-admitted
-returns-in_err-place-clause-admitted g c = λ x h.
-    let stops = ap (λ o. option_map_or (λ fault. Some (Beat fault)) o None) (c.in_err-place.ensures.first_fault x h) in
-    refused_for c.from_residual.result c.from_residual.ensures.0 stops
+pub returns-in-Err-clause-admitted : goal.returns-in-Err-clause-admitted
+returns-in-Err-clause-admitted g c = λ x h. stopped (ap (λ o. option_map_or (λ fault. Some (Beat fault)) o None) (c.in-Err.ensures.first_fault x h))
 
 pub returns-clause-admitted : goal.returns-clause-admitted
 returns-clause-admitted g c = λ x h.
-    let none = ap (λ burst. fault_in g.K.Channel.rules burst c.args.beat.now) (sym h.converter.burst_is) ∙ c.in_ok-place.ensures.place.accepted in
+    let none = ap (λ burst. fault_in g.K.Channel.rules burst c.args.beat.now) (sym h.converter.burst_is) ∙ c.in-Ok.ensures.place.accepted in
     (λ ok. ap (λ o. option_map_or (λ fault. Some (Beat fault)) o None) none, λ stops. refl)

@@ -17,10 +17,8 @@ fetch-c-requires g c = part_small (bridge_layout g.row.C g.row.M g.row.A g.A.All
 pub fetch-d-requires : goal.fetch-d-requires
 fetch-d-requires g c = part_small (bridge_layout g.row.C g.row.M g.row.A g.A.Allocator) 3 9223372036854775808 c.requires-raw.1.1.1
 
--- (C's part fits too: were C fetched in the place of E, its count would be refused, and not its size)
 pub fetch-e-requires : goal.fetch-e-requires
-fetch-e-requires g c =
-    let fits = part_small (bridge_layout g.row.C g.row.M g.row.A g.A.Allocator) in search (fits 4 9223372036854775808, fits 2 9223372036854775808)
+fetch-e-requires g c = part_small (bridge_layout g.row.C g.row.M g.row.A g.A.Allocator) 4 9223372036854775808 c.requires-raw.1.1.1
 
 pub overflow_add-result : goal.overflow_add-result
 overflow_add-result g c = let few = sum_2 c.fetch-a.result c.fetch-b.result c.fetch-a.ensures.most c.fetch-b.ensures.most in omega (arith, few)
