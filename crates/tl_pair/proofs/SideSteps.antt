@@ -441,13 +441,6 @@ module _ {A : Type 0} {C M : ℕ} where
     moves = λ s x h p y k same. manager_of (subst (λ q. Takes s.a q) (sym same) h.a) h.b h.c k.sends h.e k.same k.homes k.knows;
   }
 
-  -- a side as its own parts make it, where one of its ends is seen inside
-  pub client_seen : {I : Type 0} {i j : I} → i ≡ j → (view : I → ClientState A C M) {s : ClientState A C M} → view j ≡ s → view i ≡ s
-  client_seen within view e = ap view within ∙ e
-
-  pub manager_seen : {I : Type 0} {i j : I} → i ≡ j → (view : I → ManagerState A C M) {s : ManagerState A C M} → view j ≡ s → view i ≡ s
-  manager_seen within view e = ap view within ∙ e
-
   -- what an offer at an open end of A says, whose book is asked, and at one of D
   abbrev pub EndAsks : (b : BeatOf HeadA C) (book book' : Client) (end end' : Sending ChA A HeadA M) (result : Result Unit SideFault) → Type 0
   EndAsks b book book' end end' result = record {

@@ -1,2 +1,4 @@
+pub mod Ends
+pub mod Making
 pub mod Meeting
 pub mod Offering

@@ -41,11 +41,23 @@ pub struct ClientSide<const C: usize, const M: usize, A: Allocator = Global> {
 }
 
 impl<const C: usize, const M: usize, A: Allocator> Model for ClientSide<C, M, A> {
+    ghost use Rattle.std.specs.Prelude.{◌≡◌, false};
+    ghost use Rattle.tl_pair.specs.Inner.Ends.{end_of};
     ghost use Rattle.tl_pair.specs.Sides.{ClientState};
 
     ghost Value = { ClientState A C M };
 
-    ghost view = { λ s. record { a = s.a; b = s.b; c = s.c; d = s.d; e = s.e; book = s.book } };
+    ghost view = { λ s. record {
+      a = end_of s.a;
+      b = s.b;
+      c = end_of s.c;
+      d = s.d;
+      e = end_of s.e;
+      book = s.book;
+    } };
+
+    // each flag stands beside its end, which is open in itself
+    ghost invariant = { λ s. (s.a.end.closed ≡ false) × (s.c.end.closed ≡ false) × (s.e.end.closed ≡ false) };
 }
 
 impl<const C: usize, const M: usize, A: Allocator> ClientSide<C, M, A> {

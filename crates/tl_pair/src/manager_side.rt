@@ -42,11 +42,23 @@ pub struct ManagerSide<const C: usize, const M: usize, A: Allocator = Global> {
 }
 
 impl<const C: usize, const M: usize, A: Allocator> Model for ManagerSide<C, M, A> {
+    ghost use Rattle.std.specs.Prelude.{◌≡◌, false};
+    ghost use Rattle.tl_pair.specs.Inner.Ends.{end_of};
     ghost use Rattle.tl_pair.specs.Sides.{ManagerState};
 
     ghost Value = { ManagerState A C M };
 
-    ghost view = { λ s. record { a = s.a; b = s.b; c = s.c; d = s.d; e = s.e; book = s.book } };
+    ghost view = { λ s. record {
+      a = s.a;
+      b = end_of s.b;
+      c = s.c;
+      d = end_of s.d;
+      e = s.e;
+      book = s.book;
+    } };
+
+    // each flag stands beside its end, which is open in itself
+    ghost invariant = { λ s. (s.b.end.closed ≡ false) × (s.d.end.closed ≡ false) };
 }
 
 impl<const C: usize, const M: usize, A: Allocator> ManagerSide<C, M, A> {

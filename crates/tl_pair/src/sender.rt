@@ -12,52 +12,45 @@ ghost use Rattle.tl_ring.specs.Pipe.{IsReady};
 ghost use Rattle.tl_settle.specs.Histories.{Event, Ask, Answer, client_answer, manager_answer, manager_home};
 ghost use Rattle.tl_sides.specs.Crossings.{stops_alone};
 ghost use Rattle.tl_pair.specs.Ends.{Pumps, pump_count, after_pump};
+ghost use Rattle.tl_pair.specs.Inner.Ends.{end_of};
 ghost use Rattle.tl_pair.specs.Inner.Meeting.{EndsMeet};
 ghost use Rattle.tl_pair.specs.Inner.Offering.{IsAsking, IsAnswering, OffersAlone};
 
 use std::alloc::{Allocator, Global};
-use std::marker::Model;
 use tl_msg::{Beat, ChA, ChB, ChC, ChD, ChE, Channel, SideFault};
 use tl_ring::{EndFault, SendEnd, Standing, TakeEnd, meet};
 use tl_sides::{ClientBook, ManagerBook};
 
 // The sending end of a channel, and whether it is closed. No beat is offered to a closed one, and
-// what is staged still crosses.
+// what is staged still crosses. The flag stands beside the end, which is open in itself: that is an
+// invariant of the side, so that to lend an end opens no more than the side.
 #[derive(Drop)]
 pub(crate) struct Sender<K: Channel, const W: usize, const V: usize, A: Allocator = Global> {
     pub(crate) end: SendEnd<K, W, V, A>,
     pub(crate) closed: bool,
 }
 
-impl<K: Channel, const W: usize, const V: usize, A: Allocator> Model for Sender<K, W, V, A> {
-    ghost use Rattle.std.specs.Prelude.{◌≡◌, false};
-    ghost use Rattle.tl_ring.specs.Ends.{Sending};
-
-    ghost Value = { Sending K A K.Head V };
-
-    ghost view = { λ s. record s.end { closed = s.closed } };
-
-    // the flag stands beside the end, which is open in itself
-    ghost invariant = { λ s. s.end.closed ≡ false };
-}
-
 impl<K: Channel, const W: usize, const V: usize, A: Allocator> Sender<K, W, V, A> {
     // Whether a beat may be offered: nothing is staged, and the end isn't closed.
     pub(crate) fn ready(&self) -> bool
-        ensures { IsTrue result ↔ IsReady (as_pipe self.now) }
+        ensures { IsTrue result ↔ IsReady (as_pipe (end_of self.now)) }
     {
         !self.closed && self.end.ready()
     }
 
     // Ends the offers. Refused exactly where a burst is unfinished. A second close changes nothing.
     pub(crate) fn close(&mut self) -> Result<(), EndFault>
-        ensures between { (x : World K.Head W V) → Sends K.rules self.old x →
+        ensures between { self.old.end.closed ≡ false →
+            (x : World K.Head W V) → Sends K.rules (end_of self.old) x →
             IsOk result ↔ (rest_of K.rules W x.accepted ≡ []) }
-        ensures stands { (x : World K.Head W V) → Sends K.rules self.old x →
-            OnOk result (Sends K.rules self.new (shut x)) }
-        ensures closed { OnOk result (self.new ≡ closing self.old) }
-        ensures again { self.old.closed ≡ true → IsOk result × (self.new ≡ self.old) }
-        ensures refused { OnErr result (self.new ≡ self.old) }
+        ensures stands { self.old.end.closed ≡ false →
+            (x : World K.Head W V) → Sends K.rules (end_of self.old) x →
+            OnOk result (Sends K.rules (end_of self.new) (shut x)) }
+        ensures closed { OnOk result (end_of self.new ≡ closing (end_of self.old)) }
+        ensures again { self.old.closed ≡ true →
+            IsOk result × (end_of self.new ≡ end_of self.old) }
+        ensures refused { OnErr result (end_of self.new ≡ end_of self.old) }
+        ensures open { self.new.end ≡ self.old.end }
     {
         if !self.closed && !self.end.may_close() {
             return Err(EndFault::MidBurst);
@@ -68,11 +61,12 @@ impl<K: Channel, const W: usize, const V: usize, A: Allocator> Sender<K, W, V, A
 
     // Moves staged beats into the ring, and answers their number.
     pub(crate) fn pump(&mut self) -> usize
-        ensures count { result ≡ pump_count self.old self.new }
+        ensures count { result ≡ pump_count (end_of self.old) (end_of self.new) }
         ensures most { result ≤ ROOM }
-        ensures pumps { Pumps self.old self.new }
-        ensures stands { (x : World K.Head W V) → Sends K.rules self.old x →
-            Sends K.rules self.new (after_pump self.old self.new x) }
+        ensures pumps { Pumps (end_of self.old) (end_of self.new) }
+        ensures stands { (x : World K.Head W V) → Sends K.rules (end_of self.old) x →
+            Sends K.rules (end_of self.new) (after_pump (end_of self.old) (end_of self.new) x) }
+        ensures open { self.new.end.closed ≡ self.old.end.closed }
     {
         self.end.pump()
     }

@@ -1,10 +1,11 @@
 //! Both sides of the bridge: how they are made, and where they meet.
-ghost use Rattle.std.specs.Prelude.{◌≡◌, ◌≤◌, ◌<◌, ◌↔◌, ◌⊎◌, [], length, IsOk, IfOk, IfErr};
+ghost use Rattle.std.specs.Prelude.{◌≡◌, ◌≤◌, ◌<◌, ◌↔◌, ◌⊎◌, [], ℕ, length, IsOk, IfOk, IfErr};
 ghost use Rattle.tl_lanes.specs.Lanes.{IsWidth};
 ghost use Rattle.tl_ring.specs.declared.pipe.TheConstants.{MAX_RING};
 ghost use Rattle.tl_ring.specs.Ends.{Met, IsNewRing};
 ghost use Rattle.tl_sides.specs.Books.{KnowsClient, KnowsManager};
 ghost use Rattle.tl_pair.specs.Ends.{AreStanding};
+ghost use Rattle.tl_pair.specs.Inner.Making.{IsClientOver, IsManagerOver, IsClientNew, IsManagerNew};
 ghost use Rattle.tl_pair.specs.Sides.{ClientPast, ManagerPast, ClientStandsFor, ManagerStandsFor, AreSides, IsNewClient, IsNewManager, SidesMeet, new_client, new_manager};
 
 use crate::client_side::ClientSide;
@@ -91,6 +92,69 @@ fn manager_parts<const M: usize, A: Allocator + Copy>(
     Ok((a, a_take, c, c_take, e, e_take, book))
 }
 
+// The client's side over its halves of the five rings, and its book. It has no word on the widths:
+// what it promises has them as a premise.
+fn client_over<const C: usize, const M: usize, A: Allocator>(
+    a: SendHalf<ChA, M, A>,
+    b: TakeHalf<ChB, C, A>,
+    c: SendHalf<ChC, M, A>,
+    d: TakeHalf<ChD, C, A>,
+    e: SendHalf<ChE, M, A>,
+    book: ClientBook<C, A>,
+) -> ClientSide<C, M, A>
+    ensures over { IsClientOver a b c d e result }
+    // for new rings of one size, each with its other half
+    ensures stands { (size : ℕ) → IsClientNew size a b c d e → KnowsClient {w = C} book [] →
+        IsWidth C → IsWidth M → ClientStandsFor result (new_client size) }
+{
+    ClientSide {
+        a: Sender {
+            end: SendEnd::over(a),
+            closed: false,
+        },
+        b: TakeEnd::over(b),
+        c: Sender {
+            end: SendEnd::over(c),
+            closed: false,
+        },
+        d: TakeEnd::over(d),
+        e: Sender {
+            end: SendEnd::over(e),
+            closed: false,
+        },
+        book,
+    }
+}
+
+// The manager's side over its halves of the five rings, and its book.
+fn manager_over<const C: usize, const M: usize, A: Allocator>(
+    a: TakeHalf<ChA, M, A>,
+    b: SendHalf<ChB, C, A>,
+    c: TakeHalf<ChC, M, A>,
+    d: SendHalf<ChD, C, A>,
+    e: TakeHalf<ChE, M, A>,
+    book: ManagerBook<M, A>,
+) -> ManagerSide<C, M, A>
+    ensures over { IsManagerOver a b c d e result }
+    ensures stands { (size : ℕ) → IsManagerNew size a b c d e → KnowsManager {w = M} book [] →
+        IsWidth C → IsWidth M → ManagerStandsFor result (new_manager size) }
+{
+    ManagerSide {
+        a: TakeEnd::over(a),
+        b: Sender {
+            end: SendEnd::over(b),
+            closed: false,
+        },
+        c: TakeEnd::over(c),
+        d: Sender {
+            end: SendEnd::over(d),
+            closed: false,
+        },
+        e: TakeEnd::over(e),
+        book,
+    }
+}
+
 /// The two sides of a new bridge, for two threads, over five rings of `ring` beats each, and with
 /// the tables of both sides, of 64 KiB and 1 MiB: the only memory that is taken. Refused with
 /// `RingSize` exactly where `ring` is 0 or above 4,096, and else with `OutOfMemory` where the
@@ -113,37 +177,8 @@ pub fn bridge<const C: usize, const M: usize, A: Allocator + Copy>(
 {
     let (b, b_take, d, d_take, client_book) = made!(client_parts(alloc, ring));
     let (a, a_take, c, c_take, e, e_take, manager_book) = made!(manager_parts(alloc, ring));
-    let client = ClientSide {
-        a: Sender {
-            end: SendEnd::over(a),
-            closed: false,
-        },
-        b: TakeEnd::over(b_take),
-        c: Sender {
-            end: SendEnd::over(c),
-            closed: false,
-        },
-        d: TakeEnd::over(d_take),
-        e: Sender {
-            end: SendEnd::over(e),
-            closed: false,
-        },
-        book: client_book,
-    };
-    let manager = ManagerSide {
-        a: TakeEnd::over(a_take),
-        b: Sender {
-            end: SendEnd::over(b),
-            closed: false,
-        },
-        c: TakeEnd::over(c_take),
-        d: Sender {
-            end: SendEnd::over(d),
-            closed: false,
-        },
-        e: TakeEnd::over(e_take),
-        book: manager_book,
-    };
+    let client = client_over(a, b_take, c, d_take, e, client_book);
+    let manager = manager_over(a_take, b, c_take, d, e_take, manager_book);
     Ok((client, manager))
 }
 

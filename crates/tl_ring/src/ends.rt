@@ -57,6 +57,7 @@ impl<K: Channel, const W: usize, const V: usize, A: Allocator> SendEnd<K, W, V, 
     /// premise in place of a demand.
     pub fn over(half: SendHalf<K, V, A>) -> Self
         ensures ring { result.producer ≡ half }
+        ensures open { result.closed ≡ false }
         // for every new ring that the half is of
         ensures send { (size : ℕ) (other : TakeHalf K A K.Head V) → IsNewRing size half other →
             IsWidth W → IsWidth V → Sends K.rules {w = W} result (empty size) }

@@ -6,7 +6,6 @@ use Rattle.tl_lanes.specs.Lanes.{IsWidth}
 use Rattle.tl_ring.proofs.FieldSizes.{part_small, inner_small, beat_small, mask_bytes}
 use Rattle.tl_pair.proofs.Layouts.{client_layout, manager_layout}
 use Rattle.tl_pair.proofs.NewEnds.{pair_over, none_taken, all_free, idle}
-use Rattle.tl_pair.proofs.Senders.{still_open}
 use Rattle.tl_pair.proofs.sides.bridge.Goals as goal
 
 -- a half of a ring that is dropped owes that its beats fit in memory
@@ -56,94 +55,65 @@ returns-in-Err g c = refused c.in-Err.ensures.ring_size
 pub returns-in-Err-manager_parts : goal.returns-in-Err-manager_parts
 returns-in-Err-manager_parts g c = refused c.in-Err-manager_parts.ensures.ring_size
 
-pub over-requires : goal.over-requires
-over-requires g c = (beat_small g.row.M c.requires.manager, (lit< tt, inner_small (client_layout g.row.C g.row.M g.row.A g.A.Allocator) 0 0 9223372036854775808 c.requires-raw.1.1.1.0))
+pub client_over-client-requires : goal.client_over-client-requires
+client_over-client-requires g c =
+    let small = beat_small g.row.C c.requires.client in
+    let other = beat_small g.row.M c.requires.manager in
+    let size = c.requires-raw.1.1.1.0 in
+    (other, (lit< tt, (small, (lit< tt, (other, (lit< tt, (small, (lit< tt, (other, (lit< tt, (part_small (client_layout g.row.C g.row.M g.row.A g.A.Allocator) 5 9223372036854775808 size, size)))))))))))
 
-pub over-requires-2 : goal.over-requires-2
-over-requires-2 g c = (beat_small g.row.C c.requires.client, (lit< tt, part_small (client_layout g.row.C g.row.M g.row.A g.A.Allocator) 1 9223372036854775808 c.requires-raw.1.1.1.0))
-
-pub over-requires-3 : goal.over-requires-3
-over-requires-3 g c = (beat_small g.row.M c.requires.manager, (lit< tt, inner_small (client_layout g.row.C g.row.M g.row.A g.A.Allocator) 2 0 9223372036854775808 c.requires-raw.1.1.1.0))
-
-pub over-requires-4 : goal.over-requires-4
-over-requires-4 g c = (beat_small g.row.C c.requires.client, (lit< tt, part_small (client_layout g.row.C g.row.M g.row.A g.A.Allocator) 3 9223372036854775808 c.requires-raw.1.1.1.0))
-
-pub over-requires-5 : goal.over-requires-5
-over-requires-5 g c = (beat_small g.row.M c.requires.manager, (lit< tt, inner_small (client_layout g.row.C g.row.M g.row.A g.A.Allocator) 4 0 9223372036854775808 c.requires-raw.1.1.1.0))
-
-pub over-requires-6 : goal.over-requires-6
-over-requires-6 g c = (beat_small g.row.M c.requires.manager, (lit< tt, part_small (manager_layout g.row.C g.row.M g.row.A g.A.Allocator) 0 9223372036854775808 c.requires-raw.1.1.1.1.0))
-
-pub over-requires-7 : goal.over-requires-7
-over-requires-7 g c = (beat_small g.row.C c.requires.client, (lit< tt, inner_small (manager_layout g.row.C g.row.M g.row.A g.A.Allocator) 1 0 9223372036854775808 c.requires-raw.1.1.1.1.0))
-
-pub over-requires-8 : goal.over-requires-8
-over-requires-8 g c = (beat_small g.row.M c.requires.manager, (lit< tt, part_small (manager_layout g.row.C g.row.M g.row.A g.A.Allocator) 2 9223372036854775808 c.requires-raw.1.1.1.1.0))
-
-pub over-requires-9 : goal.over-requires-9
-over-requires-9 g c = (beat_small g.row.C c.requires.client, (lit< tt, inner_small (manager_layout g.row.C g.row.M g.row.A g.A.Allocator) 3 0 9223372036854775808 c.requires-raw.1.1.1.1.0))
-
-pub over-requires-10 : goal.over-requires-10
-over-requires-10 g c = (beat_small g.row.M c.requires.manager, (lit< tt, part_small (manager_layout g.row.C g.row.M g.row.A g.A.Allocator) 4 9223372036854775808 c.requires-raw.1.1.1.1.0))
+pub manager_over-manager-requires : goal.manager_over-manager-requires
+manager_over-manager-requires g c =
+    let small = beat_small g.row.C c.requires.client in
+    let other = beat_small g.row.M c.requires.manager in
+    let size = c.requires-raw.1.1.1.1.0 in
+    (other, (lit< tt, (small, (lit< tt, (other, (lit< tt, (small, (lit< tt, (other, (lit< tt, (part_small (manager_layout g.row.C g.row.M g.row.A g.A.Allocator) 5 9223372036854775808 size, size)))))))))))
 
 pub returns : goal.returns
-returns g c = record {
-  pair = record {
-    a = pair_over c.args.ring _ _ c.in-Ok-manager_parts.ensures.rings.0 c.over.result c.over-6.result c.over.ensures.ring c.over-6.ensures.ring;
-    b = pair_over c.args.ring _ _ c.in-Ok.ensures.rings.0 c.over-7.result c.over-2.result c.over-7.ensures.ring c.over-2.ensures.ring;
-    c = pair_over c.args.ring _ _ c.in-Ok-manager_parts.ensures.rings.1 c.over-3.result c.over-8.result c.over-3.ensures.ring c.over-8.ensures.ring;
-    d = pair_over c.args.ring _ _ c.in-Ok.ensures.rings.1 c.over-9.result c.over-4.result c.over-9.ensures.ring c.over-4.ensures.ring;
-    e = pair_over c.args.ring _ _ c.in-Ok-manager_parts.ensures.rings.2 c.over-5.result c.over-10.result c.over-5.ensures.ring c.over-10.ensures.ring;
-  };
-  client = record {
-    a = still_open _ _ c.args.ring (c.over.ensures.send c.args.ring _ c.in-Ok-manager_parts.ensures.rings.0 c.requires.client c.requires.manager);
-    b = none_taken c.args.ring _ _ c.in-Ok.ensures.rings.0 c.over-2.result c.over-2.ensures.ring c.over-2.ensures.inbox;
-    c = still_open _ _ c.args.ring (c.over-3.ensures.send c.args.ring _ c.in-Ok-manager_parts.ensures.rings.1 c.requires.client c.requires.manager);
-    d = none_taken c.args.ring _ _ c.in-Ok.ensures.rings.1 c.over-4.result c.over-4.ensures.ring c.over-4.ensures.inbox;
-    e = still_open _ _ c.args.ring (c.over-5.ensures.send c.args.ring _ c.in-Ok-manager_parts.ensures.rings.2 c.requires.client c.requires.manager);
-    accepted = refl;
-    book = c.in-Ok.ensures.book;
-  };
-  manager = record {
-    a = none_taken c.args.ring _ _ c.in-Ok-manager_parts.ensures.rings.0 c.over-6.result c.over-6.ensures.ring c.over-6.ensures.inbox;
-    b = still_open _ _ c.args.ring (c.over-7.ensures.send c.args.ring _ c.in-Ok.ensures.rings.0 c.requires.manager c.requires.client);
-    c = none_taken c.args.ring _ _ c.in-Ok-manager_parts.ensures.rings.1 c.over-8.result c.over-8.ensures.ring c.over-8.ensures.inbox;
-    d = still_open _ _ c.args.ring (c.over-9.ensures.send c.args.ring _ c.in-Ok.ensures.rings.1 c.requires.manager c.requires.client);
-    e = none_taken c.args.ring _ _ c.in-Ok-manager_parts.ensures.rings.2 c.over-10.result c.over-10.ensures.ring c.over-10.ensures.inbox;
-    accepted = refl;
-    homes = refl;
-    book = c.in-Ok-manager_parts.ensures.book;
-  };
-  client_knows = record {
-    a = all_free c.args.ring _ _ c.in-Ok-manager_parts.ensures.rings.0 c.over.result c.over.ensures.ring;
-    b = idle c.args.ring _ _ c.in-Ok.ensures.rings.0 c.over-2.result c.over-2.ensures.ring c.over-2.ensures.inbox;
-    c = all_free c.args.ring _ _ c.in-Ok-manager_parts.ensures.rings.1 c.over-3.result c.over-3.ensures.ring;
-    d = idle c.args.ring _ _ c.in-Ok.ensures.rings.1 c.over-4.result c.over-4.ensures.ring c.over-4.ensures.inbox;
-    e = all_free c.args.ring _ _ c.in-Ok-manager_parts.ensures.rings.2 c.over-5.result c.over-5.ensures.ring;
-  };
-  manager_knows = record {
-    a = idle c.args.ring _ _ c.in-Ok-manager_parts.ensures.rings.0 c.over-6.result c.over-6.ensures.ring c.over-6.ensures.inbox;
-    b = all_free c.args.ring _ _ c.in-Ok.ensures.rings.0 c.over-7.result c.over-7.ensures.ring;
-    c = idle c.args.ring _ _ c.in-Ok-manager_parts.ensures.rings.1 c.over-8.result c.over-8.ensures.ring c.over-8.ensures.inbox;
-    d = all_free c.args.ring _ _ c.in-Ok.ensures.rings.1 c.over-9.result c.over-9.ensures.ring;
-    e = idle c.args.ring _ _ c.in-Ok-manager_parts.ensures.rings.2 c.over-10.result c.over-10.ensures.ring c.over-10.ensures.inbox;
-  };
-  size = λ ok. c.in-Ok.ensures.size refl;
-  ring_size = tt;
-}
-
--- a new end is open
-pub invariant_of-client : goal.invariant_of-client
-invariant_of-client g c = (c.over.ensures.send c.args.ring _ c.in-Ok-manager_parts.ensures.rings.0 c.requires.client c.requires.manager).pipe.closed
-
-pub invariant_of-client-2 : goal.invariant_of-client-2
-invariant_of-client-2 g c = (c.over-3.ensures.send c.args.ring _ c.in-Ok-manager_parts.ensures.rings.1 c.requires.client c.requires.manager).pipe.closed
-
-pub invariant_of-client-3 : goal.invariant_of-client-3
-invariant_of-client-3 g c = (c.over-5.ensures.send c.args.ring _ c.in-Ok-manager_parts.ensures.rings.2 c.requires.client c.requires.manager).pipe.closed
-
-pub invariant_of-manager : goal.invariant_of-manager
-invariant_of-manager g c = (c.over-7.ensures.send c.args.ring _ c.in-Ok.ensures.rings.0 c.requires.manager c.requires.client).pipe.closed
-
-pub invariant_of-manager-2 : goal.invariant_of-manager-2
-invariant_of-manager-2 g c = (c.over-9.ensures.send c.args.ring _ c.in-Ok.ensures.rings.1 c.requires.manager c.requires.client).pipe.closed
+returns g c =
+    let size = c.args.ring in
+    let of_client = c.in-Ok.ensures.rings in
+    let of_manager = c.in-Ok-manager_parts.ensures.rings in
+    let client = c.client_over-client.result in
+    let manager = c.manager_over-manager.result in
+    let over = c.client_over-client.ensures.over in
+    let over_manager = c.manager_over-manager.ensures.over in
+    record {
+      pair = record {
+        a = pair_over size _ _ of_manager.0 client.a manager.a over.a_over over_manager.a_over.0;
+        b = pair_over size _ _ of_client.0 manager.b client.b over_manager.b_over over.b_over.0;
+        c = pair_over size _ _ of_manager.1 client.c manager.c over.c_over over_manager.c_over.0;
+        d = pair_over size _ _ of_client.1 manager.d client.d over_manager.d_over over.d_over.0;
+        e = pair_over size _ _ of_manager.2 client.e manager.e over.e_over over_manager.e_over.0;
+      };
+      client = c.client_over-client.ensures.stands size (record {
+        a_new = (_, of_manager.0);
+        b_new = (_, of_client.0);
+        c_new = (_, of_manager.1);
+        d_new = (_, of_client.1);
+        e_new = (_, of_manager.2);
+      }) c.in-Ok.ensures.book c.requires.client c.requires.manager;
+      manager = c.manager_over-manager.ensures.stands size (record {
+        a_new = (_, of_manager.0);
+        b_new = (_, of_client.0);
+        c_new = (_, of_manager.1);
+        d_new = (_, of_client.1);
+        e_new = (_, of_manager.2);
+      }) c.in-Ok-manager_parts.ensures.book c.requires.client c.requires.manager;
+      client_knows = record {
+        a = all_free size _ _ of_manager.0 client.a over.a_over;
+        b = idle size _ _ of_client.0 client.b over.b_over.0 over.b_over.1;
+        c = all_free size _ _ of_manager.1 client.c over.c_over;
+        d = idle size _ _ of_client.1 client.d over.d_over.0 over.d_over.1;
+        e = all_free size _ _ of_manager.2 client.e over.e_over;
+      };
+      manager_knows = record {
+        a = idle size _ _ of_manager.0 manager.a over_manager.a_over.0 over_manager.a_over.1;
+        b = all_free size _ _ of_client.0 manager.b over_manager.b_over;
+        c = idle size _ _ of_manager.1 manager.c over_manager.c_over.0 over_manager.c_over.1;
+        d = all_free size _ _ of_client.1 manager.d over_manager.d_over;
+        e = idle size _ _ of_manager.2 manager.e over_manager.e_over.0 over_manager.e_over.1;
+      };
+      size = λ ok. c.in-Ok.ensures.size refl;
+      ring_size = tt;
+    }

@@ -15,3 +15,6 @@ overflow_add-result g c = omega (arith, c.fetch-b.ensures.most, c.fetch-d.ensure
 
 pub returns : goal.returns
 returns g c = client_fetched c.self.view_is _ _ _ _ c.fetch-b.ensures c.fetch-d.ensures
+
+pub invariant_of-self : goal.invariant_of-self
+invariant_of-self g c = c.self.invariant

@@ -1,13 +1,12 @@
 use Rattle.std.proofs.Common.{refl}
-use Rattle.tl_pair.proofs.SideSteps.{client_seen, side_asks}
+use Rattle.tl_pair.proofs.SideSteps.{side_asks}
 use Rattle.tl_ring.proofs.FieldSizes.{part_small, inner_small, beat_small}
 use Rattle.tl_pair.proofs.Layouts.{client_layout}
 use Rattle.tl_pair.proofs.client_side.ClientSide.offer_a.Goals as goal
 
 pub offer_request-requires : goal.offer_request-requires
 offer_request-requires g c =
-    let view = client_seen c.self-inside.view_is (λ q. record { a = q.a; b = q.b; c = q.c; d = q.d; e = q.e; book = q.book }) c.self.view_is in
-    let ready = rw (← view) at c.requires.ready in (
+    let ready = rw (← c.self.view_is) at c.requires.ready in (
       part_small (client_layout g.row.C g.row.M g.row.A g.A.Allocator) 5 9223372036854775808 c.requires-raw.1.1.1.0,
       (
         inner_small (client_layout g.row.C g.row.M g.row.A g.A.Allocator) 0 0 9223372036854775808 c.requires-raw.1.1.1.0,
@@ -15,14 +14,13 @@ offer_request-requires g c =
       ),
     )
 
-pub invariant_of-self-inside : goal.invariant_of-self-inside
-invariant_of-self-inside g c = c.offer_request.ensures.open c.self-inside.invariant
+pub invariant_of-self : goal.invariant_of-self
+invariant_of-self g c = (c.offer_request.ensures.open c.self.invariant.0, c.self.invariant.1, c.self.invariant.2)
 
 pub returns : goal.returns
 returns g c =
-    let view = client_seen c.self-inside.view_is (λ q. record { a = q.a; b = q.b; c = q.c; d = q.d; e = q.e; book = q.book }) c.self.view_is in
-    let ready = rw (← view) at c.requires.ready in
+    let ready = rw (← c.self.view_is) at c.requires.ready in
     let said = c.offer_request.ensures in
-    side_asks c.args.beat view c.offer_request.new.book c.self-inside.inside.0.0.end c.offer_request.new.end refl ready.1 c.self-inside.invariant
-    (said.open c.self-inside.invariant) _
+    side_asks c.args.beat c.self.view_is c.offer_request.new.book c.self.inside.a.end c.offer_request.new.end refl ready.1 c.self.invariant.0
+    (said.open c.self.invariant.0) _
     (record { offers = record { admitted = said.admitted; accepted = said.accepted; fault = said.fault; refused = said.refused }; ring = said.ring })

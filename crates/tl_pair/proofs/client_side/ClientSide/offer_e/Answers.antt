@@ -1,23 +1,21 @@
 use Rattle.tl_msg.specs.Tables.{rules_e}
 use Rattle.std.proofs.Common.{refl}
-use Rattle.tl_pair.proofs.SideSteps.{client_e, client_seen, side_offers}
+use Rattle.tl_pair.proofs.SideSteps.{client_e, side_offers}
 use Rattle.tl_ring.proofs.FieldSizes.{inner_small, beat_small}
 use Rattle.tl_pair.proofs.Layouts.{client_layout}
 use Rattle.tl_pair.proofs.client_side.ClientSide.offer_e.Goals as goal
 
 pub offer_finish-requires : goal.offer_finish-requires
 offer_finish-requires g c =
-    let view = client_seen c.self-inside.view_is (λ q. record { a = q.a; b = q.b; c = q.c; d = q.d; e = q.e; book = q.book }) c.self.view_is in
-    let ready = rw (← view) at c.requires.ready in
+    let ready = rw (← c.self.view_is) at c.requires.ready in
     (inner_small (client_layout g.row.C g.row.M g.row.A g.A.Allocator) 4 0 9223372036854775808 c.requires-raw.1.1.1.0, (beat_small g.row.C c.requires.near, (c.requires.near, c.requires.far, ready.0)))
 
-pub invariant_of-self-inside : goal.invariant_of-self-inside
-invariant_of-self-inside g c = c.offer_finish.ensures.open c.self-inside.invariant
+pub invariant_of-self : goal.invariant_of-self
+invariant_of-self g c = (c.self.invariant.0, c.self.invariant.1, c.offer_finish.ensures.open c.self.invariant.2)
 
 pub returns : goal.returns
 returns g c =
-    let view = client_seen c.self-inside.view_is (λ q. record { a = q.a; b = q.b; c = q.c; d = q.d; e = q.e; book = q.book }) c.self.view_is in
-    let ready = rw (← view) at c.requires.ready in
+    let ready = rw (← c.self.view_is) at c.requires.ready in
     let said = c.offer_finish.ensures in
-    side_offers rules_e client_e c.args.beat (λ y. tt) view c.self-inside.inside.0.1.1.1.1.0.end _ refl ready.1 c.self-inside.invariant
-    (said.open c.self-inside.invariant) _ (record { admitted = said.admitted; accepted = said.accepted; fault = said.fault; ring = said.ring; refused = said.refused })
+    side_offers rules_e client_e c.args.beat (λ y. tt) c.self.view_is c.self.inside.e.end _ refl ready.1 c.self.invariant.2
+    (said.open c.self.invariant.2) _ (record { admitted = said.admitted; accepted = said.accepted; fault = said.fault; ring = said.ring; refused = said.refused })

@@ -9,3 +9,6 @@ take-requires g c = (part_small (client_layout g.row.C g.row.M g.row.A g.A.Alloc
 
 pub returns : goal.returns
 returns g c = side_takes rules_b client_b c.self.view_is _ _ c.take.ensures
+
+pub invariant_of-self : goal.invariant_of-self
+invariant_of-self g c = c.self.invariant

@@ -1,4 +1,4 @@
-use Rattle.std.proofs.Common.{refl}
+use Rattle.std.proofs.Common.{refl, ap, ◌∙◌}
 use Rattle.tl_msg.specs.Tables.{rules_d}
 use Rattle.tl_pair.proofs.SideSteps.{manager_d, side_closes}
 use Rattle.tl_ring.proofs.FieldSizes.{part_small}
@@ -9,4 +9,10 @@ pub close-requires : goal.close-requires
 close-requires g c = part_small (manager_layout g.row.C g.row.M g.row.A g.A.Allocator) 3 9223372036854775808 c.requires-raw.1.1.1
 
 pub returns : goal.returns
-returns g c = side_closes rules_d manager_d (λ y. (refl, refl)) c.self.view_is _ _ c.close.ensures
+returns g c =
+    let said = c.close.ensures in
+    side_closes rules_d manager_d (λ y. (refl, refl)) c.self.view_is _ _
+    (record { between = said.between c.self.invariant.1; stands = said.stands c.self.invariant.1; closed = said.closed; again = said.again; refused = said.refused })
+
+pub invariant_of-self : goal.invariant_of-self
+invariant_of-self g c = (c.self.invariant.0, ap (λ q. q.closed) c.close.ensures.open ∙ c.self.invariant.1)

@@ -21,3 +21,6 @@ overflow_add-result-2 g c = omega (arith, c.fetch-a.ensures.most, c.fetch-c.ensu
 
 pub returns : goal.returns
 returns g c = manager_fetched c.self.view_is _ _ _ _ _ _ c.fetch-a.ensures c.fetch-c.ensures c.fetch-e.ensures
+
+pub invariant_of-self : goal.invariant_of-self
+invariant_of-self g c = c.self.invariant

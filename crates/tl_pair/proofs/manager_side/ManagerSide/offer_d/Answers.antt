@@ -1,13 +1,12 @@
 use Rattle.std.proofs.Common.{refl}
-use Rattle.tl_pair.proofs.SideSteps.{manager_seen, side_answers}
+use Rattle.tl_pair.proofs.SideSteps.{side_answers}
 use Rattle.tl_ring.proofs.FieldSizes.{part_small, inner_small, beat_small}
 use Rattle.tl_pair.proofs.Layouts.{manager_layout}
 use Rattle.tl_pair.proofs.manager_side.ManagerSide.offer_d.Goals as goal
 
 pub offer_response-requires : goal.offer_response-requires
 offer_response-requires g c =
-    let view = manager_seen c.self-inside.view_is (λ q. record { a = q.a; b = q.b; c = q.c; d = q.d; e = q.e; book = q.book }) c.self.view_is in
-    let ready = rw (← view) at c.requires.ready in (
+    let ready = rw (← c.self.view_is) at c.requires.ready in (
       part_small (manager_layout g.row.C g.row.M g.row.A g.A.Allocator) 5 9223372036854775808 c.requires-raw.1.1.1.0,
       (
         inner_small (manager_layout g.row.C g.row.M g.row.A g.A.Allocator) 3 0 9223372036854775808 c.requires-raw.1.1.1.0,
@@ -15,14 +14,13 @@ offer_response-requires g c =
       ),
     )
 
-pub invariant_of-self-inside : goal.invariant_of-self-inside
-invariant_of-self-inside g c = c.offer_response.ensures.open c.self-inside.invariant
+pub invariant_of-self : goal.invariant_of-self
+invariant_of-self g c = (c.self.invariant.0, c.offer_response.ensures.open c.self.invariant.1)
 
 pub returns : goal.returns
 returns g c =
-    let view = manager_seen c.self-inside.view_is (λ q. record { a = q.a; b = q.b; c = q.c; d = q.d; e = q.e; book = q.book }) c.self.view_is in
-    let ready = rw (← view) at c.requires.ready in
+    let ready = rw (← c.self.view_is) at c.requires.ready in
     let said = c.offer_response.ensures in
-    side_answers c.args.beat view c.offer_response.new.book c.self-inside.inside.0.1.1.1.0.end c.offer_response.new.end refl ready.1 c.self-inside.invariant
-    (said.open c.self-inside.invariant) _
+    side_answers c.args.beat c.self.view_is c.offer_response.new.book c.self.inside.d.end c.offer_response.new.end refl ready.1 c.self.invariant.1
+    (said.open c.self.invariant.1) _
     (record { offers = record { admitted = said.admitted; accepted = said.accepted; fault = said.fault; refused = said.refused }; ring = said.ring })

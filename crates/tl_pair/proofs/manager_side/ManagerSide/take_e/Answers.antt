@@ -9,3 +9,6 @@ take-requires g c = (part_small (manager_layout g.row.C g.row.M g.row.A g.A.Allo
 
 pub returns : goal.returns
 returns g c = side_takes rules_e manager_e c.self.view_is _ _ c.take.ensures
+
+pub invariant_of-self : goal.invariant_of-self
+invariant_of-self g c = c.self.invariant

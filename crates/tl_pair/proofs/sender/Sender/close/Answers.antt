@@ -1,6 +1,6 @@
-use Rattle.std.proofs.Common.{◌≡◌, false, [], rules, refl, ap, subst}
+use Rattle.std.proofs.Common.{◌≡◌, false, [], rules, refl, subst}
 use Rattle.tl_burst.specs.Handing.{rest_of}
-use Rattle.tl_ring.specs.Ends.{Sends, closing}
+use Rattle.tl_ring.specs.Ends.{Sends}
 use Rattle.tl_ring.proofs.EndSteps.{sends_shut}
 use Rattle.tl_ring.proofs.PipeSteps.{closed_between}
 use Rattle.tl_pair.proofs.Senders.{open_end, closed_again}
@@ -15,32 +15,25 @@ may_close-requires g c = part_small (layout (the_row (param 0 g.row.K) (param 1 
     g.K.Head.Eq g.K.Head.PartialEq g.K.Head.Default g.A.Allocator)) 0 9223372036854775808 c.requires-raw.1.1.1.1.1
 
 pub returns-then-not-may_close-clause-between : goal.returns-then-not-may_close-clause-between
-returns-then-not-may_close-clause-between g c = λ x k.
-    let h = rw (← c.self.view_is) at k in
-    let flag : c.self.inside.closed ≡ false = search rules in
-    let stands = subst (λ s. Sends g.K.Channel.rules s x) (open_end c.self.inside.end c.self.inside.closed c.self.invariant flag) h in
-    let may = c.may_close.ensures x stands in
+returns-then-not-may_close-clause-between g c = λ inside x h.
+    let flag : c.args.self.now.closed ≡ false = search rules in
+    let may = c.may_close.ensures x (subst (λ s. Sends g.K.Channel.rules s x) (open_end c.args.self.now.end c.args.self.now.closed inside flag) h) in
     (λ answered. absurd (cc), λ over. let t = may.1 over in cc (c.if-not-may_close.true))
 
 pub returns-clause-between : goal.returns-clause-between
-returns-clause-between g c = λ x k.
-    let h = rw (← c.self.view_is) at k in
+returns-clause-between g c = λ inside x h.
     let over : rest_of g.K.Channel.rules g.row.W x.accepted ≡ [] = elim c.else-not-self.branch [
       | else-not-self-via-then-not-self+else-not-may_close w ↦
-          let flag : c.self.inside.closed ≡ false = search rules in
-          let stands = subst (λ s. Sends g.K.Channel.rules s x) (open_end c.self.inside.end c.self.inside.closed c.self.invariant flag) h in
+          let flag : c.args.self.now.closed ≡ false = search rules in
+          let stands = subst (λ s. Sends g.K.Channel.rules s x) (open_end c.args.self.now.end c.args.self.now.closed inside flag) h in
           (w.may_close.ensures x stands).0 (search rules)
       | else-not-self-via-else-not-self w ↦ closed_between g.K.Channel.rules g.met.K.Channel.partial_masked _ x h.pipe (search rules)
     ] in
     (λ _. over, λ _. refl)
 
 pub returns-clause-stands : goal.returns-clause-stands
-returns-clause-stands g c = λ x k.
-    let h = rw (← c.self.view_is) at k in
-    sends_shut g.K.Channel.rules g.met.K.Channel.partial_masked _ x ((returns-clause-between g c x k).0 refl) h
-
-pub returns-clause-closed : goal.returns-clause-closed
-returns-clause-closed g c = ap closing c.self.view_is
+returns-clause-stands g c = λ inside x h.
+    sends_shut g.K.Channel.rules g.met.K.Channel.partial_masked _ x ((returns-clause-between g c inside x h).0 refl) h
 
 pub returns-clause-again : goal.returns-clause-again
-returns-clause-again g c = λ closed. let e = rw (← c.self.view_is) at closed in (refl, rw (← c.self.view_is) (closed_again c.self.inside.end c.self.inside.closed e))
+returns-clause-again g c = λ closed. (refl, closed_again c.args.self.now.end c.args.self.now.closed closed)

@@ -13,17 +13,17 @@ pump-requires g c = part_small (layout (the_row (param 0 g.row.K) (param 1 (numb
 
 pub returns-clause-count : goal.returns-clause-count
 returns-clause-count g c =
-    let p = pushed_alike c.self.inside.closed c.pump.result _ _ c.pump.ensures.pushed in
-    rw (← c.self.view_is) (pump_counted c.pump.result _ _ c.pump.ensures.most.0 p)
+    let p = pushed_alike c.args.self.now.closed c.pump.result _ _ c.pump.ensures.pushed in
+    pump_counted c.pump.result _ _ c.pump.ensures.most.0 p
 
 pub returns-clause-pumps : goal.returns-clause-pumps
 returns-clause-pumps g c =
-    let p = pushed_alike c.self.inside.closed c.pump.result _ _ c.pump.ensures.pushed in
-    rw (← c.self.view_is) (pumps_of c.pump.result _ _ c.pump.ensures.least c.pump.ensures.most.0 p)
+    let p = pushed_alike c.args.self.now.closed c.pump.result _ _ c.pump.ensures.pushed in
+    pumps_of c.pump.result _ _ c.pump.ensures.least c.pump.ensures.most.0 p
 
 pub returns-clause-stands : goal.returns-clause-stands
-returns-clause-stands g c = rw (← c.self.view_is) (λ x h.
-    let p = pushed_alike c.self.inside.closed c.pump.result _ _ c.pump.ensures.pushed in
+returns-clause-stands g c = λ x h.
+    let p = pushed_alike c.args.self.now.closed c.pump.result _ _ c.pump.ensures.pushed in
     let count = pump_counted c.pump.result _ _ c.pump.ensures.most.0 p in
-    subst (λ n. Sends g.K.Channel.rules (record c.pump.new.self { closed = c.self.inside.closed }) (passed n x)) count
-    (sends_passed g.K.Channel.rules g.met.K.Channel.partial_masked c.pump.result _ _ x p.same_converter p.stage p.more_sent p.ring.1 p.same_closed h))
+    subst (λ n. Sends g.K.Channel.rules (record c.pump.new.self { closed = c.args.self.now.closed }) (passed n x)) count
+    (sends_passed g.K.Channel.rules g.met.K.Channel.partial_masked c.pump.result _ _ x p.same_converter p.stage p.more_sent p.ring.1 p.same_closed h)

@@ -9,4 +9,4 @@ ready-requires g c = part_small (layout (the_row (param 0 g.row.K) (param 1 (num
     g.K.Head.Eq g.K.Head.PartialEq g.K.Head.Default g.A.Allocator)) 0 9223372036854775808 c.requires-raw.1.1.1.1.1
 
 pub returns-then-not-self : goal.returns-then-not-self
-returns-then-not-self g c = rw (← c.self.view_is) (λ t. (c.ready.ensures.0 t, search rules), λ r. c.ready.ensures.1 r.0)
+returns-then-not-self g c = (λ t. (c.ready.ensures.0 t, search rules), λ r. c.ready.ensures.1 r.0)
