@@ -3,6 +3,11 @@ use Rattle.std.proofs.Common.{◌≡◌, Result, Ok, Err, sym, subst}
 use Rattle.std.specs.Prelude.{OnOk}
 use Rattle.std.specs.Result.{result_and}
 
+-- what holds whatever a result is
+pub always : {T E P : Type 0} (r : Result T E) → P → OnOk r P
+always (Ok x) p = p
+always (Err e) p = tt
+
 module _ {E : Type 0} where
   both : {P Q X : Type 0} (a b : Result (Unit {0}) E) → (P → Q → X) → OnOk a P → OnOk b Q → OnOk (result_and a b) X
   both (Ok x) (Ok y) f p q = f p q
@@ -12,8 +17,14 @@ module _ {E : Type 0} where
   both-ok : {P Q X : Type 0} (a b all : Result (Unit {0}) E) → all ≡ result_and a b → (P → Q → X) → OnOk a P → OnOk b Q → OnOk all X
   both-ok {X = X} a b all joined f p q = subst (λ r. OnOk r X) (sym joined) (both a b f p q)
 
-  -- five, one after another
+  -- four, one after another
+  pub four_ok : {P Q R S X : Type 0} (a b c d ab abc all : Result (Unit {0}) E) → ab ≡ result_and a b → abc ≡ result_and ab c → all ≡ result_and abc d →
+      (P → Q → R → S → X) → OnOk a P → OnOk b Q → OnOk c R → OnOk d S → OnOk all X
+  four_ok a b c d ab abc all i j k f p q r s =
+      both-ok abc d all k (λ g. g) (both-ok ab c abc j (λ g. g) (both-ok a b ab i f p q) r) s
+
+  -- five
   pub five_ok : {P Q R S T X : Type 0} (a b c d e ab abc abcd all : Result (Unit {0}) E) → ab ≡ result_and a b → abc ≡ result_and ab c → abcd ≡ result_and abc d → all ≡ result_and abcd e →
       (P → Q → R → S → T → X) → OnOk a P → OnOk b Q → OnOk c R → OnOk d S → OnOk e T → OnOk all X
   five_ok a b c d e ab abc abcd all i j k l f p q r s t =
-      both-ok abcd e all l (λ g. g) (both-ok abc d abcd k (λ g. g) (both-ok ab c abc j (λ g. g) (both-ok a b ab i f p q) r) s) t
+      both-ok abcd e all l (λ g. g) (four_ok a b c d ab abc abcd i j k f p q r s) t

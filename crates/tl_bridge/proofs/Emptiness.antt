@@ -1,5 +1,5 @@
 -- Two things together are none where each is none, and some where one of them is some.
-use Rattle.std.proofs.Common.{◌≡◌, ◌≢◌, ◌+◌, ◌↔◌, ◌&&◌, ◌||◌, ◌==◌, ℕ, Bool, arith, ⊎_elim}
+use Rattle.std.proofs.Common.{◌≡◌, ◌≢◌, ◌+◌, ◌⊎◌, inl, inr, ◌↔◌, ◌&&◌, ◌||◌, ◌==◌, ℕ, Bool, arith, ⊎_elim}
 use Rattle.std.proofs.lemmas.Bool.{and_parts, and_from, or_cases, or_left, or_right, cases_eq}
 use Rattle.std.proofs.lemmas.Bool.Decides.{nat_tests}
 use Rattle.std.specs.Prelude.{IsTrue}
@@ -18,4 +18,10 @@ module _ {x y : Bool} {n m : ℕ} where
   some-of-either one other = (
     λ t z. ⊎_elim (λ e. one.0 e (omega (arith, z))) (λ e. other.0 e (omega (arith, z))) (or_cases x y t),
     λ some. ⊎_elim (λ z. or_right x y (other.1 (λ w. some (omega (arith, z, w))))) (λ p. or_left x y (one.1 p)) (cases_eq n 0),
+  )
+
+  pub either-some : IsTrue x ↔ (n ≢ 0) → IsTrue y ↔ (m ≢ 0) → IsTrue (x || y) ↔ ((n ≢ 0) ⊎ (m ≢ 0))
+  either-some one other = (
+    λ t. ⊎_elim (λ e. inl (one.0 e)) (λ e. inr (other.0 e)) (or_cases x y t),
+    λ some. ⊎_elim (λ p. or_left x y (one.1 p)) (λ p. or_right x y (other.1 p)) some,
   )

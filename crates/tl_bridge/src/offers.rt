@@ -1,12 +1,17 @@
 //! The near beats that a run offers, at most one of each channel at a time.
 ghost use Rattle.std.specs.Prelude.{ℕ, List};
+ghost use Rattle.tl_lanes.specs.Lanes.{IsWidth};
+ghost use Rattle.tl_msg.specs.Tables.{rules_b, rules_c, rules_e};
+ghost use Rattle.tl_ring.specs.Pipe.{IsReady};
+ghost use Rattle.tl_sides.specs.Inner.Offering.{OffersAlone};
 ghost use Rattle.tl_bridge.specs.declared.channel_state.Offered.{Offered};
 ghost use Rattle.tl_bridge.specs.Inner.Widths.{AreWidths};
 ghost use Rattle.tl_bridge.specs.Inner.Offering.{OffersNext, on_a, on_b, on_c, on_d, on_e, on_bridge_a, on_bridge_b, on_bridge_c, on_bridge_d, on_bridge_e};
 
 use crate::channel_state::Offered;
-use tl_msg::{BeatOf, HeadA, HeadB, HeadC, HeadD, HeadE};
+use tl_msg::{Beat, BeatOf, ChB, ChC, ChE, HeadA, HeadB, HeadC, HeadD, HeadE, SideFault};
 use tl_pair::{ClientSide, ManagerSide};
+use tl_ring::SyncPipe;
 use tl_sides::{SyncBridge, offer_alone, offer_request, offer_response};
 
 // What becomes of the next beat of a list, of which so many were accepted: where no beat is left, the
@@ -120,6 +125,38 @@ impl<const C: usize, const M: usize> Offers<BeatOf<HeadD, M>> for ManagerSide<C,
     }
 }
 
+// A side offers a beat of B, C or E, each by itself: a call that names its channel costs less to check
+// than one of a function that is generic in it.
+fn offer_probe<const C: usize, const M: usize>(
+    pipe: &mut SyncPipe<ChB, M, C>,
+    beat: &Beat<ChB, M>,
+) -> Result<(), SideFault>
+    requires { IsWidth M × IsWidth C × IsReady pipe.old }
+    ensures { OffersAlone rules_b beat.now pipe.old pipe.new result }
+{
+    offer_alone(pipe, beat)
+}
+
+fn offer_release<const C: usize, const M: usize>(
+    pipe: &mut SyncPipe<ChC, C, M>,
+    beat: &Beat<ChC, C>,
+) -> Result<(), SideFault>
+    requires { IsWidth C × IsWidth M × IsReady pipe.old }
+    ensures { OffersAlone rules_c beat.now pipe.old pipe.new result }
+{
+    offer_alone(pipe, beat)
+}
+
+fn offer_finish<const C: usize, const M: usize>(
+    pipe: &mut SyncPipe<ChE, C, M>,
+    beat: &Beat<ChE, C>,
+) -> Result<(), SideFault>
+    requires { IsWidth C × IsWidth M × IsReady pipe.old }
+    ensures { OffersAlone rules_e beat.now pipe.old pipe.new result }
+{
+    offer_alone(pipe, beat)
+}
+
 impl<const C: usize, const M: usize> Offers<BeatOf<HeadA, C>> for SyncBridge<C, M> {
     ghost CanOffer = { AreWidths C M };
 
@@ -147,7 +184,7 @@ impl<const C: usize, const M: usize> Offers<BeatOf<HeadB, M>> for SyncBridge<C, 
             at,
             self.close_b(),
             self.ready_b(),
-            |beat| offer_alone(&mut self.b, beat)
+            |beat| offer_probe(&mut self.b, beat)
         )
     }
 }
@@ -163,7 +200,7 @@ impl<const C: usize, const M: usize> Offers<BeatOf<HeadC, C>> for SyncBridge<C, 
             at,
             self.close_c(),
             self.ready_c(),
-            |beat| offer_alone(&mut self.c, beat)
+            |beat| offer_release(&mut self.c, beat)
         )
     }
 }
@@ -195,7 +232,7 @@ impl<const C: usize, const M: usize> Offers<BeatOf<HeadE, C>> for SyncBridge<C, 
             at,
             self.close_e(),
             self.ready_e(),
-            |beat| offer_alone(&mut self.e, beat)
+            |beat| offer_finish(&mut self.e, beat)
         )
     }
 }

@@ -1,8 +1,9 @@
 //! The rounds of a run in one thread, and how each channel ends.
-ghost use Rattle.std.specs.Prelude.{◌≡◌, ◌<◌, ◌^◌, ◌↔◌, ℕ, IsTrue, IfSome, IsNone, IfOk, OnOk};
+ghost use Rattle.std.specs.Prelude.{◌≡◌, ◌<◌, ◌^◌, ◌↔◌, ℕ, IsTrue, IfSome, IsNone, IfOk, IfErr, OnOk};
 ghost use Rattle.tl_lanes.specs.Lanes.{IsWidth};
 ghost use Rattle.tl_settle.specs.Outcomes.{Beats, far_beats};
 ghost use Rattle.tl_sides.specs.Bridges.{Bridge, Past, StandsFor};
+ghost use Rattle.tl_bridge.specs.declared.outcome.RunFault.TheVariants.{OutOfMemory};
 ghost use Rattle.tl_bridge.specs.Arrivals.{joined, no_beats};
 ghost use Rattle.tl_bridge.specs.Scripts.{EndsIn, HasEnding, HasShortLists, near_beats};
 ghost use Rattle.tl_bridge.specs.Inner.Widths.{AreWidths};
@@ -13,7 +14,7 @@ use crate::ahead::all_go_ahead;
 use crate::arrivals::Arrivals;
 use crate::channel_state::{Offered, Stop, add_accepted, all_stops};
 use crate::offers::Offers;
-use crate::outcome::{Ending, Outcome, verdict};
+use crate::outcome::{Ending, Outcome, RunFault, verdict};
 use crate::taken::{Taken, take_from_each};
 use std::alloc::AllocError;
 use tl_ring::Standing;
@@ -120,12 +121,16 @@ fn stops_at_rest<const C: usize, const M: usize>(
 }
 
 // How a run ends that has ended there, where so many far beats of each channel were taken.
-fn ending_of(end: &End, taken: &PerChannel<usize>) -> Ending
+fn ending_of(
+    at: &PerChannel<usize>,
+    stops: &PerChannel<Stop>,
+    rounds: u64,
+    taken: &PerChannel<usize>,
+) -> Ending
     ensures { (C M : ℕ) (near : Beats C M) (far : Beats M C) (s : Bridge C M) →
         IsWidth C → IsWidth M → taken.now ≡ lengths far →
-        HasEnded near end.now.at far s end.now.stops end.now.rounds → HasEnding near result }
+        HasEnded near at.now far s stops.now rounds → HasEnding near result }
 {
-    let (at, stops) = (&end.at, &end.stops);
     let verdicts = [
         verdict(&stops.a, at.a, taken.a),
         verdict(&stops.b, at.b, taken.b),
@@ -133,10 +138,7 @@ fn ending_of(end: &End, taken: &PerChannel<usize>) -> Ending
         verdict(&stops.d, at.d, taken.d),
         verdict(&stops.e, at.e, taken.e),
     ];
-    Ending {
-        verdicts,
-        rounds: end.rounds,
-    }
+    Ending { verdicts, rounds }
 }
 
 // Rounds, up to the first one in which no channel could offer more, and after which nothing is
@@ -146,12 +148,13 @@ pub(crate) fn run_rounds<F: Arrivals<C, M>, const C: usize, const M: usize>(
     script: &Script<C, M>,
     far: &mut F,
     most: usize,
-) -> Result<Ending, AllocError>
+) -> Result<Ending, RunFault>
     requires { AreWidths C M × HasShortLists script.now × (most < 2 ^ 41) × IsNew bridge.old ×
         F.Holds far.old no_beats }
     ensures ending { IfOk result (HasEnding (near_beats script.now)) }
     ensures far { OnOk result (F.Holds far.new (far_beats (near_beats script.now))) }
     ensures same { OnOk result (F.made_with far.new ≡ F.made_with far.old) }
+    ensures memory { IfErr result (λ fault. fault ≡ OutOfMemory) }
 {
     let mut at = PerChannel {
         a: 0,
@@ -166,7 +169,7 @@ pub(crate) fn run_rounds<F: Arrivals<C, M>, const C: usize, const M: usize>(
         let offers = round(bridge, script, &mut at, &mut taken, far)?;
         rounds += 1;
         if let Some(stops) = stops_at_rest(bridge, &offers) {
-            return Ok(ending_of(&End { at, stops, rounds }, &taken));
+            return Ok(ending_of(&at, &stops, rounds, &taken));
         }
         all_go_ahead(bridge, script, &offers, &mut at, most);
     }
@@ -189,5 +192,5 @@ pub(crate) fn outcome_of<const C: usize, const M: usize>(
         d: far.d.len(),
         e: far.e.len(),
     };
-    far.into_outcome(ending_of(&end, &taken))
+    far.into_outcome(ending_of(&end.at, &end.stops, end.rounds, &taken))
 }

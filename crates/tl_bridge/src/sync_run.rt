@@ -1,5 +1,5 @@
 //! The run of a whole script in one thread.
-ghost use Rattle.std.specs.Prelude.{◌≡◌, ◌≢◌, ◌≤◌, ◌<◌, ◌⊎◌, ◌↔◌, IsOk, IfOk, IfErr, OnOk};
+ghost use Rattle.std.specs.Prelude.{◌≡◌, ◌≢◌, ◌≤◌, ◌<◌, ◌^◌, ◌⊎◌, ◌↔◌, IsOk, IfOk, IfErr, OnOk};
 ghost use Rattle.tl_ring.specs.declared.pipe.TheConstants.{MAX_RING};
 ghost use Rattle.tl_lanes.specs.Lanes.{IsWidth};
 ghost use Rattle.tl_bridge.specs.declared.outcome.RunFault.TheVariants.{RingSize, OutOfMemory, Stalled};
@@ -7,13 +7,13 @@ ghost use Rattle.tl_settle.specs.Outcomes.{far_beats};
 ghost use Rattle.tl_bridge.specs.Arrivals.{no_beats};
 ghost use Rattle.tl_bridge.specs.Scripts.{HasEnding, HasShortLists, SettlesTo, near_beats};
 ghost use Rattle.tl_bridge.specs.Inner.Widths.{AreWidths};
-ghost use Rattle.tl_bridge.specs.Inner.Running.{IsNew};
 
 use crate::arrivals::Arrivals;
 use crate::outcome::{Ending, Outcome, RunFault};
 use crate::rounds::run_rounds;
 use crate::taken::Taken;
 use std::alloc::Global;
+use tl_ring::MAX_RING;
 use tl_sides::SyncBridge;
 use tl_trace::Script;
 
@@ -49,31 +49,17 @@ pub fn run_sync<const C: usize, const M: usize>(
         ((ring ≡ 0) ⊎ (MAX_RING < ring))) }
     ensures never_stalled { IfErr result (λ fault. fault ≢ Stalled) }
 {
-    let mut bridge = match SyncBridge::<C, M>::new(alloc, ring) {
-        Ok(bridge) => bridge,
-        Err(fault) => return Err(RunFault::from(fault)),
-    };
-    run_to_lists(&mut bridge, alloc, script)
-}
-
-// The run of [`run_sync`] over a new bridge, which is the caller's, so that one way out alone drops
-// it.
-fn run_to_lists<const C: usize, const M: usize>(
-    bridge: &mut SyncBridge<C, M>,
-    alloc: Global,
-    script: &Script<C, M>,
-) -> Result<Outcome<C, M>, RunFault>
-    requires { AreWidths C M × IsNew bridge.old × HasShortLists script.now }
-    ensures outcome { IfOk result (SettlesTo script.now) }
-    ensures memory { IfErr result (λ fault. fault ≡ OutOfMemory) }
-{
+    // the lists are asked for first, and then the rings
+    if ring == 0 || ring > MAX_RING {
+        return Err(RunFault::RingSize);
+    }
     let Ok(mut far) = Taken::new(alloc, script) else {
         return Err(RunFault::OutOfMemory);
     };
-    let Ok(ending) = run_rounds(bridge, script, &mut far, 0) else {
-        return Err(RunFault::OutOfMemory);
-    };
-    Ok(far.into_outcome(ending))
+    match run_over(alloc, script, ring, &mut far, 0) {
+        Ok(ending) => Ok(far.into_outcome(ending)),
+        Err(fault) => Err(fault),
+    }
 }
 
 /// The same run as [`run_sync`] in fewer rounds, whose far beats go to `far` as they are taken, from
@@ -103,28 +89,31 @@ pub fn run_sync_into<F: Arrivals<C, M>, const C: usize, const M: usize>(
         ((ring ≡ 0) ⊎ (MAX_RING < ring))) }
     ensures never_stalled { IfErr result (λ fault. fault ≢ Stalled) }
 {
-    let mut bridge = match SyncBridge::new(alloc, ring) {
-        Ok(bridge) => bridge,
-        Err(fault) => return Err(RunFault::from(fault)),
-    };
-    run_ahead(&mut bridge, script, far)
+    run_over(alloc, script, ring, far, MOST_AHEAD)
 }
 
-// The run of [`run_sync_into`] over a new bridge, which is the caller's.
-fn run_ahead<F: Arrivals<C, M>, const C: usize, const M: usize>(
-    bridge: &mut SyncBridge<C, M>,
+// A run over a new bridge, in which a channel goes on by at most so many beats after each round. (The
+// rounds get the bridge lent, so that one way out alone drops it.)
+fn run_over<F: Arrivals<C, M>, const C: usize, const M: usize>(
+    alloc: Global,
     script: &Script<C, M>,
+    ring: usize,
     far: &mut F,
+    most: usize,
 ) -> Result<Ending, RunFault>
-    requires { AreWidths C M × HasShortLists script.now × IsNew bridge.old ×
+    requires { AreWidths C M × HasShortLists script.now × (most < 2 ^ 41) ×
         F.Holds far.old no_beats }
     ensures ending { IfOk result (HasEnding (near_beats script.now)) }
     ensures far { OnOk result (F.Holds far.new (far_beats (near_beats script.now))) }
     ensures same { OnOk result (F.made_with far.new ≡ F.made_with far.old) }
-    ensures memory { IfErr result (λ fault. fault ≡ OutOfMemory) }
+    ensures size { IsOk result → (1 ≤ ring) × (ring ≤ MAX_RING) }
+    ensures ring_size { IfErr result (λ fault. (fault ≡ RingSize) ↔
+        ((ring ≡ 0) ⊎ (MAX_RING < ring))) }
+    ensures never_stalled { IfErr result (λ fault. fault ≢ Stalled) }
 {
-    let Ok(ending) = run_rounds(bridge, script, far, MOST_AHEAD) else {
-        return Err(RunFault::OutOfMemory);
+    let mut bridge = match SyncBridge::new(alloc, ring) {
+        Ok(bridge) => bridge,
+        Err(fault) => return Err(RunFault::from(fault)),
     };
-    Ok(ending)
+    run_rounds(&mut bridge, script, far, most)
 }

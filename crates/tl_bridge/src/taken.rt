@@ -241,7 +241,8 @@ fn note_and_empty<const C: usize, const M: usize>(bridge: &mut SyncBridge<C, M>)
     bridge.e.take_all();
 }
 
-// Each side takes all that stands in its inboxes, which goes to `far`. `taken` counts it.
+// Each side takes all that stands in its inboxes, which goes to `far`. `taken` counts it. (A refusal
+// of `far` ends the run: what the sides have taken then is lost.)
 pub(crate) fn take_from_each<F: Arrivals<C, M>, const C: usize, const M: usize>(
     bridge: &mut SyncBridge<C, M>,
     far: &mut F,
@@ -260,7 +261,7 @@ pub(crate) fn take_from_each<F: Arrivals<C, M>, const C: usize, const M: usize>(
     let c = bridge.c.inbox();
     let d = bridge.d.inbox();
     let e = bridge.e.inbox();
-    far.take(a, b, c, d, e)?;
+    let kept = far.take(a, b, c, d, e);
     let more = PerChannel {
         a: a.len(),
         b: b.len(),
@@ -270,5 +271,5 @@ pub(crate) fn take_from_each<F: Arrivals<C, M>, const C: usize, const M: usize>(
     };
     add_counts(taken, &more);
     note_and_empty(bridge);
-    Ok(())
+    kept
 }

@@ -1,27 +1,15 @@
-use Rattle.std.proofs.Common.{lit<, refl}
-use Rattle.tl_sides.proofs.BridgeSize.{bridge_small}
-use Rattle.tl_bridge.proofs.OnlyMemory.{not-for-size, not-stalled, same-size, stalled-never}
+use Rattle.std.proofs.Common.{lit<}
+use Rattle.tl_bridge.specs.Scripts.{near_beats}
 use Rattle.tl_bridge.proofs.sync_run.run_sync.Goals as goal
 
-pub new-requires : goal.new-requires
-new-requires g c = (bridge_small g.row.C g.row.M c.requires.client c.requires.manager, (c.requires.client, c.requires.manager))
+pub run_over-requires : goal.run_over-requires
+run_over-requires g c = (lit< tt, (record { client = c.requires.client; manager = c.requires.manager }, c.requires.short, lit< tt, c.in-Ok.ensures.empty))
 
-pub run_to_lists-requires : goal.run_to_lists-requires
-run_to_lists-requires g c = (
-  bridge_small g.row.C g.row.M c.requires.client c.requires.manager,
-  (lit< tt, (lit< tt, (record { client = c.requires.client; manager = c.requires.manager }, (c.args.ring, (c.in-Ok.ensures.size refl).0, c.in-Ok.ensures.new), c.requires.short))),
-)
-
-pub returns : goal.returns
-returns g c = record {
-  outcome = c.run_to_lists.ensures.outcome;
-  size = λ made. c.in-Ok.ensures.size refl;
-  ring_size = not-for-size c.run_to_lists.result c.args.ring (c.in-Ok.ensures.size refl) c.run_to_lists.ensures.memory;
-  never_stalled = not-stalled c.run_to_lists.result c.run_to_lists.ensures.memory;
-}
+pub returns-in-Ok-run_over-clause-outcome : goal.returns-in-Ok-run_over-clause-outcome
+returns-in-Ok-run_over-clause-outcome g c = c.into_outcome.ensures (near_beats c.args.script.now) c.in-Ok-run_over.ensures.ending c.in-Ok-run_over.ensures.far
 
 pub returns-in-Err-clause-ring_size : goal.returns-in-Err-clause-ring_size
-returns-in-Err-clause-ring_size g c = same-size c.in-Err.fault c.from.result c.from.ensures c.in-Err.ensures.ring_size
+returns-in-Err-clause-ring_size g c = c.in-Err.ensures.ring_size
 
 pub returns-in-Err-clause-never_stalled : goal.returns-in-Err-clause-never_stalled
-returns-in-Err-clause-never_stalled g c = stalled-never c.in-Err.fault c.from.result c.from.ensures
+returns-in-Err-clause-never_stalled g c = c.in-Err.ensures.never_stalled

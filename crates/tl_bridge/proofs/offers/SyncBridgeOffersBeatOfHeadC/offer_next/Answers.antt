@@ -15,9 +15,9 @@ close_c-requires g c = bridge_small g.row.C g.row.M c.requires.client c.requires
 pub ready_c-requires : goal.ready_c-requires
 ready_c-requires g c = bridge_small g.row.C g.row.M c.requires.client c.requires.manager
 
-pub offer_alone-requires : goal.offer_alone-requires
-offer_alone-requires g c =
-    (bridge_part_small g.row.C g.row.M 2 c.requires.client c.requires.manager, (beat_small g.row.C c.requires.client, (c.requires.client, (c.requires.manager, rw (← c.self.view_is) at (c.if-not-ready_c.ensures.0 refl)))))
+pub offer_release-requires : goal.offer_release-requires
+offer_release-requires g c =
+    (bridge_part_small g.row.C g.row.M 2 c.requires.client c.requires.manager, (beat_small g.row.C c.requires.client, (c.requires.client, c.requires.manager, rw (← c.self.view_is) at (c.if-not-ready_c.ensures.0 refl))))
 
 pub returns-in_default : goal.returns-in_default
 returns-in_default g c =
@@ -32,5 +32,5 @@ returns-then-not-ready_c g c =
 pub returns : goal.returns
 returns g c =
     rw (c.from_offer.ensures)
-    (answers-as on_bridge_c c.args.self.now _ _ c.in-Some.beat.now tt (offers_alone at_c rules_c c.in-Some.beat.now (λ y. tt) c.self.view_is _ _ c.offer_alone.ensures) c.args.beats.now c.args.at
+    (answers-as on_bridge_c c.args.self.now _ _ c.in-Some.beat.now tt (offers_alone at_c rules_c c.in-Some.beat.now (λ y. tt) c.self.view_is _ _ c.offer_release.ensures) c.args.beats.now c.args.at
     (read_some c.args.beats.now c.args.at c.in-Some.beat.now c.in-Some.ensures.lookup.0 c.in-Some.ensures.lookup.1))
