@@ -1,5 +1,5 @@
 -- The lines of far beats, as they are written while the beats come.
-use Rattle.std.proofs.Common.{◌≡◌, ◌++◌, ◌∷◌, ℕ, List, [], sym, ap, ◌∙◌, append_assoc}
+use Rattle.std.proofs.Common.{◌≡◌, ◌++◌, ◌∷◌, ℕ, List, [], refl, sym, ap, ◌∙◌, append_assoc}
 use Rattle.std.proofs.lemmas.Grind.{flat_map-append}
 use Rattle.tl_msg.specs.declared.beat.BeatOf.{BeatOf}
 use Rattle.tl_trace.specs.Fields.{Form}
@@ -20,11 +20,31 @@ module _ {H : Type 0} (f : Form H) (w : ℕ) where
       whole f w text both ≡ before ++ beats_text f w more
   whole-grown text before waiting more both is same = rw (is, sym same) (whole-added text waiting more)
 
+  -- the lines of more beats, behind those of a list
+  pub lines-more : (before after : List ℕ) (xs more : List (BeatOf H w)) → before ≡ beats_text f w xs → after ≡ before ++ beats_text f w more → after ≡ beats_text f w (xs ++ more)
+  lines-more before after xs more is on = on ∙ ap (λ q. q ++ beats_text f w more) is ∙ sym (lines-joined xs more)
+
+  -- the same behind a start
+  pub lines-on : (start before after : List ℕ) (xs more : List (BeatOf H w)) → before ≡ start ++ beats_text f w xs → after ≡ before ++ beats_text f w more → after ≡ start ++ beats_text f w (xs ++ more)
+  lines-on start before after xs more is on = on ∙ ap (λ q. q ++ beats_text f w more) is ∙ sym (whole-added start xs more)
+
+  -- the lines of beats behind a text, where these are the beats
+  pub lines-of : (before after : List ℕ) (xs beats : List (BeatOf H w)) → xs ≡ beats → after ≡ before ++ beats_text f w xs → after ≡ before ++ beats_text f w beats
+  lines-of before after xs beats is on = on ∙ ap (λ q. before ++ beats_text f w q) is
+
 -- five texts behind another one
 five-behind : (t a b c d e : List ℕ) → t ++ a ++ b ++ c ++ d ++ e ≡ t ++ (a ++ b ++ c ++ d ++ e)
 five-behind t a b c d e =
     ap (λ q. q ++ e) (ap (λ q. q ++ d) (ap (λ q. q ++ c) (append_assoc t a b) ∙ append_assoc t (a ++ b) c) ∙ append_assoc t (a ++ b ++ c) d) ∙
     append_assoc t (a ++ b ++ c ++ d) e
+
+-- five texts that were put behind another one
+pub five-put : (t0 t1 t2 t3 t4 t5 a b c d e : List ℕ) → t1 ≡ t0 ++ a → t2 ≡ t1 ++ b → t3 ≡ t2 ++ c → t4 ≡ t3 ++ d → t5 ≡ t4 ++ e → t5 ≡ t0 ++ (a ++ b ++ c ++ d ++ e)
+five-put t0 t1 t2 t3 t4 t5 a b c d e put_a put_b put_c put_d put_e = rw (put_e, put_d, put_c, put_b, put_a) (five-behind t0 a b c d e)
+
+-- four texts that are these, put behind another one
+pub four-put : (a b c d e b' c' d' e' t1 t2 t3 t4 : List ℕ) → b' ≡ b → c' ≡ c → d' ≡ d → e' ≡ e → t1 ≡ a ++ b' → t2 ≡ t1 ++ c' → t3 ≡ t2 ++ d' → t4 ≡ t3 ++ e' → t4 ≡ a ++ b ++ c ++ d ++ e
+four-put a b c d e b' c' d' e' t1 t2 t3 t4 is_b is_c is_d is_e put_b put_c put_d put_e = rw (put_e, put_d, put_c, put_b, is_e, is_d, is_c, is_b) refl
 
 -- five texts, each of which has these lines, the first behind a start and the last before an end
 pub all-spelled : (start a b c d e end : List ℕ) (a' b' c' d' e' e'' : List ℕ) → a' ≡ start ++ a → b' ≡ b → c' ≡ c → d' ≡ d → e' ≡ e → e'' ≡ e' ++ end →

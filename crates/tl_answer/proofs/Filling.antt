@@ -1,5 +1,6 @@
 -- What reads of a piece gave so far.
-use Rattle.std.proofs.Common.{◌≡◌, ℕ, ◌+◌, ◌-◌, ◌<◌, ◌≤◌, List, ◌++◌, length, take, drop, Option, sym, ap, ◌∙◌, subst, arith, length-append, length-drop}
+use Rattle.std.specs.Prelude.{Result, Ok, Err, IfSome, IsErrOf}
+use Rattle.std.proofs.Common.{◌≡◌, ℕ, ◌+◌, ◌-◌, ◌<◌, ◌≤◌, List, ◌++◌, length, take, drop, Option, sym, ap, ◌∙◌, subst, arith, append_assoc, length-append, length-drop}
 use Rattle.std.proofs.lemmas.List.{length-take-le, take-append-le, take_rest}
 use Rattle.std.proofs.Math.Seq.{take-append-add, take-append_seam}
 use Rattle.std.proofs.KnownBytes.{Consumes-trans}
@@ -7,6 +8,10 @@ use Rattle.std.specs.Io.KnownBytes.{Consumes}
 use Rattle.std.specs.List.{copy_within, slice_range}
 use borrow.Rule.Slice.PartMut.{put_mid, post_of}
 use Rattle.tl_answer.specs.Inner.Filling.{IsFilled, IsRefilled, IsTooMany}
+use Rattle.tl_answer.specs.Inputs.{HasTaken, held}
+use Rattle.tl_answer.specs.Texts.{most_bytes}
+use Rattle.tl_answer.specs.declared.input.Input.{Input}
+use Rattle.tl_answer.proofs.Between.{held_size, of_text}
 
 -- the first bytes of the room are what was taken, at most so many
 pub record SoFar (old now : Option (List ℕ)) (most : ℕ) (first room : List ℕ) (filled : ℕ) : Type 0 where
@@ -86,3 +91,49 @@ refilled old new buffer moved room from to most n le within same is size f =
       took = f.took;
       end = λ other. f.end (λ e. other (omega (arith, long, e)));
     }
+
+-- ---- a text of which an input holds a part
+
+module _ (unread old new : Option (List ℕ)) (used : List ℕ) (input : Input) (t : HasTaken unread old used input) where
+  -- the part at the front of its buffer, and what was read behind it
+  pub refilled-taken : (before buffer : List ℕ) (n : ℕ) → before ≡ input.buffer.items → length buffer ≡ length before
+      → IsRefilled old new (slice_range before input.from input.to) (most_bytes - input.total) buffer n
+      → (input' : Input) → input'.buffer.items ≡ buffer → input'.from ≡ 0 → input'.to ≡ n → input'.total ≡ input.total + (n - (input.to - input.from)) → HasTaken unread new used input'
+  refilled-taken before buffer n whole_is same given input' is from to total =
+      let r : IsRefilled old new (held input) (most_bytes - input.total) buffer n = subst (λ xs. IsRefilled old new (slice_range xs input.from input.to) (most_bytes - input.total) buffer n) whole_is given in
+      let size = held_size input t.from t.to in
+      let front : held input' ≡ held input ++ r.bytes =
+      ap (λ (xs : List ℕ). slice_range xs input'.from input'.to) is ∙ ap (λ (k : ℕ). slice_range buffer k input'.to) from ∙ ap (λ (k : ℕ). take k buffer) (omega (arith, to)) ∙ r.front in
+      let whole : used ++ held input ++ r.bytes ≡ used ++ held input' = append_assoc used (held input) r.bytes ∙ ap (λ (xs : List ℕ). used ++ xs) (sym front) in
+      let long : length input'.buffer.items ≡ length buffer = ap length is in
+      let few : length r.bytes ≤ most_bytes - input.total = r.few in
+      let read = length-append (used ++ held input) r.bytes in
+      let all : length (used ++ held input ++ r.bytes) ≡ length (used ++ held input') = ap length whole in
+      record {
+        took = subst (Consumes unread new) whole (Consumes-trans unread old new (used ++ held input) r.bytes t.took r.took);
+        count = omega (arith, total, t.count, size, r.count, read, all);
+        few = omega (arith, total, t.few, size, r.count, few);
+        from = omega (arith, from);
+        to = omega (arith, to, r.within, long);
+        end = λ other. r.end (λ e. other (to ∙ e ∙ sym long));
+        room = omega (arith, t.room, long, same, ap length whole_is);
+      }
+
+  -- more than there may be
+  pub refilled-long : IsTooMany old new (most_bytes - input.total) → IfSome unread (λ text. most_bytes < length text)
+  refilled-long many =
+      let bytes = many.0 in
+      of_text (λ text. most_bytes < length text) unread new (used ++ held input ++ bytes) (Consumes-trans unread old new (used ++ held input) bytes t.took many.1) (λ more.
+      let past : most_bytes - input.total < length bytes = many.2 in
+      let count : input.total ≡ length (used ++ held input) = t.count in
+      let read = length-append (used ++ held input) bytes in
+      let whole = length-append (used ++ held input ++ bytes) more in
+      omega arith)
+
+abbrev fault_of : {A E : Type 0} → E → Result A E → E
+fault_of e (Ok x) = e
+fault_of e (Err fault) = fault
+
+-- a fault that is handed on
+pub same-fault : {A B E : Type 0} (fault e : E) → IsErrOf {T = A} (Err fault) e → IsErrOf {T = B} (Err fault) e
+same-fault fault e is = ap (λ f. Err f) (ap (fault_of e) is)

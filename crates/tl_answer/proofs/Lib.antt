@@ -1,4 +1,5 @@
 mod Rows
+mod Grown
 mod FarTexts
 pub mod Lengths
 pub mod Answering

@@ -61,11 +61,12 @@ fn write_arrivals<const C: usize, const M: usize>(
     ensures { OnOk result (out.new.items
         ≡ out.old.items ++ far_lines version (taken outcome.now)) }
 {
-    write_far::<ChA, M>(out, &outcome.a, version)?;
-    write_far::<ChB, C>(out, &outcome.b, version)?;
-    write_far::<ChC, M>(out, &outcome.c, version)?;
-    write_far::<ChD, C>(out, &outcome.d, version)?;
-    write_far::<ChE, M>(out, &outcome.e, version)
+    let a = write_far::<ChA, M>(out, &outcome.a, version);
+    let b = write_far::<ChB, C>(out, &outcome.b, version);
+    let c = write_far::<ChC, M>(out, &outcome.c, version);
+    let d = write_far::<ChD, C>(out, &outcome.d, version);
+    let e = write_far::<ChE, M>(out, &outcome.e, version);
+    a.and(b).and(c).and(d).and(e)
 }
 
 /// Appends the five report lines.
@@ -202,13 +203,15 @@ fn threads_answer_of<T: Threads, const C: usize, const M: usize>(
         ≡ list_all is_done (verdicts (near_beats script.entry))) }
     ensures err { IfErr result (λ fault. fault ≡ NoMemory) }
 {
-    let outcome = match run_script::<T, C, M>(rt, alloc, &script, order) {
+    let run = run_script::<T, C, M>(rt, alloc, &script, order);
+    drop(script);
+    let outcome = match run {
         Ok(outcome) => outcome,
         Err(_) => return Err(TextFault::OutOfMemory),
     };
-    drop(script);
-    let answer = answer_of(alloc, &outcome, version)?;
-    Ok(AnswerParts::of(alloc, answer))
+    let answer = answer_of(alloc, &outcome, version);
+    drop(outcome);
+    Ok(AnswerParts::of(alloc, answer?))
 }
 
 /// The answer to a script, as the order has it. Refused with `OutOfMemory` alone.
@@ -227,8 +230,9 @@ fn answer_script<T: Threads, const C: usize, const M: usize>(
     ensures err { IfErr result (λ fault. fault ≡ NoMemory) }
 {
     if order.is_check() {
-        let answer = check_script::<C, M>(alloc, &script, version)?;
-        return Ok(AnswerParts::of(alloc, answer));
+        let answer = check_script::<C, M>(alloc, &script, version);
+        drop(script);
+        return Ok(AnswerParts::of(alloc, answer?));
     }
     if order.is_sync() {
         return sync_answer_of::<C, M>(alloc, script, version, order.ring());

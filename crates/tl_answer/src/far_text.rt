@@ -19,7 +19,7 @@ use tl_msg::{Beat, ChA, ChB, ChC, ChD, ChE, Verdict};
 use tl_trace::{HeadText, write_far};
 
 /// How many far beats of a channel wait for their lines before these are written: as many as an
-/// inbox holds, so that there is always room for those of another one.
+/// inbox holds, so that no more than twice as many ever wait.
 const WAITING: usize = 128;
 
 /// The lines of the far beats of a channel, the last ones of which may still be beats: lines are
@@ -32,12 +32,14 @@ struct FarText<K: HeadText, const W: usize> {
 
 impl<K: HeadText, const W: usize> FarText<K, W> {
     // No beats, behind a text.
-    fn new(alloc: Global, text: Vec<u8>) -> Result<Self, AllocError>
-        ensures text { IfOk result (λ made. made.text.items ≡ text.items) }
-        ensures waiting { IfOk result (λ made. made.waiting.items ≡ []) }
+    fn new(alloc: Global, text: Vec<u8>) -> Self
+        ensures text { result.text.items ≡ text.items }
+        ensures waiting { result.waiting.items ≡ [] }
     {
-        let waiting = Vec::with_capacity(alloc, 2 * WAITING)?;
-        Ok(FarText { text, waiting })
+        FarText {
+            text,
+            waiting: Vec::new(alloc),
+        }
     }
 
     // Writes the lines of the beats that wait.
@@ -82,8 +84,7 @@ impl<K: HeadText, const W: usize> FarText<K, W> {
             self.waiting.push(*beat)?;
             return Ok(());
         }
-        self.waiting.extend_from_slice(beats)?;
-        Ok(())
+        self.waiting.extend_from_slice(beats)
     }
 }
 
@@ -106,17 +107,13 @@ impl<const C: usize, const M: usize> FarTexts<C, M> {
         ensures lines { IfOk result (λ made. HasLines made no_beats) }
         ensures version { IfOk result (λ made. made.version ≡ version) }
     {
-        let a = FarText::new(alloc, header(alloc, version, C, M)?)?;
-        let b = FarText::new(alloc, Vec::new(alloc))?;
-        let c = FarText::new(alloc, Vec::new(alloc))?;
-        let d = FarText::new(alloc, Vec::new(alloc))?;
-        let e = FarText::new(alloc, Vec::new(alloc))?;
+        let line = header(alloc, version, C, M)?;
         Ok(FarTexts {
-            a,
-            b,
-            c,
-            d,
-            e,
+            a: FarText::new(alloc, line),
+            b: FarText::new(alloc, Vec::new(alloc)),
+            c: FarText::new(alloc, Vec::new(alloc)),
+            d: FarText::new(alloc, Vec::new(alloc)),
+            e: FarText::new(alloc, Vec::new(alloc)),
             version,
         })
     }
@@ -129,14 +126,13 @@ impl<const C: usize, const M: usize> FarTexts<C, M> {
             texts self.new ≡ far_header self.old.version C M
             ++ far_lines self.old.version far ++ report verdicts.now) }
     {
-        let version = self.version;
-        self.a.write_waiting(version)?;
-        self.b.write_waiting(version)?;
-        self.c.write_waiting(version)?;
-        self.d.write_waiting(version)?;
-        self.e.write_waiting(version)?;
+        let a = self.a.write_waiting(self.version);
+        let b = self.b.write_waiting(self.version);
+        let c = self.c.write_waiting(self.version);
+        let d = self.d.write_waiting(self.version);
+        let e = self.e.write_waiting(self.version);
         match write_reports(&mut self.e.text, verdicts) {
-            Ok(()) => Ok(()),
+            Ok(()) => a.and(b).and(c).and(d).and(e),
             Err(_) => Err(AllocError),
         }
     }
@@ -178,11 +174,11 @@ impl<const C: usize, const M: usize> Arrivals<C, M> for FarTexts<C, M> {
         d: &[Beat<ChD, C>],
         e: &[Beat<ChE, M>],
     ) -> Result<(), AllocError> {
-        let version = self.version;
-        self.a.add(a, version)?;
-        self.b.add(b, version)?;
-        self.c.add(c, version)?;
-        self.d.add(d, version)?;
-        self.e.add(e, version)
+        let a = self.a.add(a, self.version);
+        let b = self.b.add(b, self.version);
+        let c = self.c.add(c, self.version);
+        let d = self.d.add(d, self.version);
+        let e = self.e.add(e, self.version);
+        a.and(b).and(c).and(d).and(e)
     }
 }

@@ -51,10 +51,11 @@ impl AnswerParts {
             all_done,
         } = self;
         let mut text = a;
-        text.extend_from_slice(&b)?;
-        text.extend_from_slice(&c)?;
-        text.extend_from_slice(&d)?;
-        text.extend_from_slice(&e)?;
+        let b = text.extend_from_slice(&b);
+        let c = text.extend_from_slice(&c);
+        let d = text.extend_from_slice(&d);
+        let e = text.extend_from_slice(&e);
+        b.and(c).and(d).and(e)?;
         Ok(Answer { text, all_done })
     }
 }

@@ -41,16 +41,20 @@ pub(crate) fn sync_answer_of<const C: usize, const M: usize>(
     ensures err { IfErr result (λ fault. fault ≡ NoMemory) }
 {
     let Ok(mut far) = FarTexts::<C, M>::new(alloc, version) else {
+        drop(script);
         return Err(TextFault::OutOfMemory);
     };
-    let ending = match run_sync_into::<FarTexts<C, M>, C, M>(alloc, &script, ring, &mut far) {
-        Ok(ending) => ending,
-        Err(RunFault::OutOfMemory) => return Err(TextFault::OutOfMemory),
+    let run = run_sync_into::<FarTexts<C, M>, C, M>(alloc, &script, ring, &mut far);
+    drop(script);
+    match run {
+        Ok(ending) => far.into_answer(&ending.verdicts),
+        Err(RunFault::OutOfMemory) => {
+            drop(far);
+            Err(TextFault::OutOfMemory)
+        }
         Err(RunFault::Stalled) => unreachable!(),
         Err(RunFault::RingSize) => unreachable!(),
-    };
-    drop(script);
-    far.into_answer(&ending.verdicts)
+    }
 }
 
 /// The answer to a text whose header names this version and these widths.
@@ -69,7 +73,9 @@ fn with_widths<const C: usize, const M: usize>(
         Err(fault) => return Err(TextFault::from(fault)),
     };
     if check {
-        return check_script::<C, M>(alloc, &script, version);
+        let answer = check_script::<C, M>(alloc, &script, version);
+        drop(script);
+        return answer;
     }
     let answer = sync_answer_of::<C, M>(alloc, script, version, RING)?;
     answer.joined()

@@ -67,7 +67,9 @@ fn matches_of<'a>(alloc: Global, words: &'a [&'a str]) -> Result<ArgMatches<'a>,
 /// A refusal in these words, below which the usage stands.
 fn refusal(alloc: Global, message: &str) -> Result<Error, AllocError> {
     let mut command = command(alloc)?;
-    command.error(ErrorKind::ValueValidation, message)
+    let refused = command.error(ErrorKind::ValueValidation, message);
+    drop(command);
+    refused
 }
 
 /// The refusal of an option's word that is no number from 1 to `max`.

@@ -1,0 +1,16 @@
+use Rattle.std.proofs.Common.{◌+◌, ◌-◌, ◌∙◌, length, refl, sym, ap}
+use Rattle.std.proofs.lemmas.List.{with_items_is}
+use Rattle.std.specs.Vec.{with_items}
+use Rattle.tl_answer.proofs.Filling.{refilled-taken, refilled-long, same-fault}
+use Rattle.tl_answer.proofs.input.Input.refill.Goals as goal
+
+pub returns-in-Ok-clause-ok : goal.returns-in-Ok-clause-ok
+returns-in-Ok-clause-ok g c = λ unread used h.
+    let input = c.args.self.now in
+    let size = c.in-Ok.ensures.same ∙ ap length c.as_mut_slice.ensures.value ∙ sym input.buffer.ok.0 in
+    refilled-taken unread _ _ used input h _ c.refill.new.buffer c.in-Ok.to c.as_mut_slice.ensures.value c.in-Ok.ensures.same c.in-Ok.ensures.ok
+    (record { buffer = with_items input.buffer c.refill.new.buffer; from = 0; to = c.in-Ok.to; total = input.total + (c.in-Ok.to - (input.to - input.from)) })
+    (with_items_is input.buffer c.refill.new.buffer size) refl refl refl
+
+pub returns-in-Err-clause-long : goal.returns-in-Err-clause-long
+returns-in-Err-clause-long g c = λ unread used h e. refilled-long unread _ _ used c.args.self.now h (c.in-Err.ensures.long (same-fault c.in-Err.fault _ e))
