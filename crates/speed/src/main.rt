@@ -8,7 +8,7 @@
 //! - `speed ends CHANNEL WIDTH RING BEATS` sends so many beats of A or E through the two ends of a crossing at equal widths, and
 //!   through plain `rtrb`, in one thread and in two. What it prints is like that of `measure`.
 //!
-//! A word that should be a number and is none counts as 0. Where nothing can be measured, it says why and ends with 1.
+//! A word that should be a number and is none, or is missing, counts as 0. Where nothing can be measured, it says why and ends with 1.
 #![tactic(auto)]
 
 mod ends;
@@ -23,32 +23,20 @@ use std::process::ExitCode;
 use std::rt::Clock;
 use std::thread::Threads;
 use std::{env, io};
-use whole::Way;
 
-/// The number that a word is.
-fn number(word: &str) -> usize {
-    match word.parse() {
-        Ok(number) => number,
-        Err(_) => 0,
+/// The word at this place; an empty one behind the last.
+fn word_at(words: &[String], at: usize) -> &str {
+    match words.get(at) {
+        Some(word) => word.as_str(),
+        None => "",
     }
 }
 
-/// How the words ask for the run of a trace, where they do.
-fn way_of(words: &[&str]) -> Option<Way> {
-    match words {
-        ["sync", ring] => {
-            Some(Way {
-                ring: number(ring),
-                turns: None,
-            })
-        }
-        ["run", ring, turns] => {
-            Some(Way {
-                ring: number(ring),
-                turns: Some(number(turns)),
-            })
-        }
-        _ => None,
+/// The number that the word at this place is.
+fn number_at(words: &[String], at: usize) -> usize {
+    match word_at(words, at).parse() {
+        Ok(number) => number,
+        Err(_) => 0,
     }
 }
 
@@ -63,22 +51,22 @@ fn print_usage(rt: &impl Print) {
 fn measure_by(
     rt: &(impl Clock + Print + Files + Threads + AllocGlobal),
     reader: &mut impl Read,
-    words: &[&str],
+    words: &[String],
     figures: &mut Figures,
 ) {
-    if let Some(way) = way_of(words) {
-        return whole::run(rt, reader, way, figures);
-    }
-    match words {
-        ["measure"] => measure::measure(rt, reader, figures),
-        ["pass"] => measure::pass(rt, reader, figures),
-        ["ends", channel, width, ring, count] => {
+    let (first, second) = (number_at(words, 1), number_at(words, 2));
+    match word_at(words, 0) {
+        "pass" => measure::pass(rt, reader, figures),
+        "measure" => measure::measure(rt, reader, figures),
+        "sync" => whole::run(rt, reader, first, 0, figures),
+        "run" => whole::run(rt, reader, first, second, figures),
+        "ends" => {
             ends::measure(
                 rt,
-                channel,
-                number(width),
-                number(ring),
-                number(count),
+                word_at(words, 1),
+                second,
+                number_at(words, 3),
+                number_at(words, 4),
                 figures,
             )
         }
@@ -88,7 +76,6 @@ fn measure_by(
 
 fn main(rt: HostRuntime) -> io::Result<ExitCode> {
     let words: Vec<String> = env::args(&rt)?.skip(1).collect(rt.alloc())?;
-    let words: Vec<&str> = words.iter().map(|word| word.as_str()).collect(rt.alloc())?;
     let mut figures = Figures::new(rt.alloc());
     measure_by(&rt, &mut rt.stdin(), &words, &mut figures);
     Ok(ExitCode::from(!figures.print(&rt) as u8))

@@ -1,5 +1,5 @@
 //! Measures reading, conversion and writing.
-ghost use Rattle.std.specs.Prelude.{IfSome};
+ghost use Rattle.std.specs.Prelude.{◌≡◌, true, IfSome};
 ghost use Rattle.tl_lanes.specs.Lanes.{IsWidth};
 ghost use Rattle.tl_trace.specs.Faults.{HasHeader};
 ghost use Rattle.tl_answer.specs.Inputs.{IsFresh};
@@ -11,7 +11,7 @@ use std::io::Read;
 use std::rt::Clock;
 use tl_answer::{Input, MAX_BYTES, script_of_input};
 use tl_convert::Converter;
-use tl_lanes::WIDEST;
+use tl_lanes::{WIDEST, is_width};
 use tl_msg::{Beat, ChA, ChE};
 use tl_trace::{HeadText, Script, header_of_text, write_far};
 
@@ -39,6 +39,13 @@ pub fn pass(rt: &(impl Clock + AllocGlobal), reader: &mut impl Read, figures: &m
     figures.put("lines", lines as u128);
 }
 
+/// Whether both are widths.
+pub(crate) fn are_widths(w: usize, v: usize) -> bool
+    ensures { result ≡ true → IsWidth w × IsWidth v }
+{
+    is_width(w) && is_width(v)
+}
+
 /// Feeds near beats to a converter, and appends the far beats that they give. Answers whether all were fed.
 fn convert<K: HeadText, const W: usize, const V: usize>(
     converter: &mut Converter<K, W, V>,
@@ -46,8 +53,7 @@ fn convert<K: HeadText, const W: usize, const V: usize>(
     near: &[Beat<K, W>],
     far: &mut Vec<Beat<K, V>>,
 ) -> bool
-    requires near { IsWidth W }
-    requires far { IsWidth V }
+    requires { IsWidth W × IsWidth V }
 {
     for beat in near {
         given.clear();
@@ -81,8 +87,7 @@ fn convert_some<K: HeadText, const W: usize, const V: usize>(
     version: u8,
     work: &mut Work,
 ) -> bool
-    requires near { IsWidth W }
-    requires far { IsWidth V }
+    requires { IsWidth W × IsWidth V }
 {
     far.clear();
     let start = now(rt);
@@ -105,8 +110,7 @@ fn convert_and_write<K: HeadText, const W: usize, const V: usize>(
     version: u8,
     figures: &mut Figures,
 )
-    requires near { IsWidth W }
-    requires far { IsWidth V }
+    requires { IsWidth W × IsWidth V }
 {
     let (mut far, mut text) = (Vec::new(rt.alloc()), Vec::new(rt.alloc()));
     let mut work = Work::default();
@@ -148,8 +152,7 @@ fn measure_script<const C: usize, const M: usize>(
     version: u8,
     figures: &mut Figures,
 )
-    requires client { IsWidth C }
-    requires manager { IsWidth M }
+    requires { IsWidth C × IsWidth M }
 {
     if script.a.is_empty() {
         let mut converter = Converter::<ChE, C, M>::new();
@@ -170,8 +173,7 @@ fn measure_read<const C: usize, const M: usize>(
     start: Start,
     figures: &mut Figures,
 )
-    requires client { IsWidth C }
-    requires manager { IsWidth M }
+    requires { IsWidth C × IsWidth M }
 {
     figures.put_time(rt, "read", start);
     figures.put_peak(rt, "peak");
@@ -187,12 +189,11 @@ fn measure_pair<R: Read, const C: usize, const M: usize>(
     start: Start,
     figures: &mut Figures,
 )
-    requires client { IsWidth C }
-    requires manager { IsWidth M }
-    requires fresh { IsFresh (R.remaining reader.old) input.old }
+    requires { IsFresh (R.remaining reader.old) input.old }
 {
-    let Some(version) = version_between(input.held(), C, M) else {
-        return figures.refuse("the text is no trace between these widths");
+    let version = match version_between(input.held(), C, M) {
+        Some(version) if are_widths(C, M) => version,
+        _ => return figures.refuse("the text is no trace between these widths"),
     };
     match script_of_input::<R, C, M>(rt.alloc(), reader, input, version) {
         Ok(script) => measure_read(rt, &script, version, start, figures),
@@ -201,7 +202,6 @@ fn measure_pair<R: Read, const C: usize, const M: usize>(
 }
 
 /// Reads the rest of a trace, of which the input holds the first piece, converts its beats and writes the far ones.
-#[tactic(auto, using(tl_lanes::proofs::Widths::width_1, tl_lanes::proofs::Widths::width_4, tl_lanes::proofs::Widths::width_8, tl_lanes::proofs::Widths::width_32, tl_lanes::proofs::Widths::width_64, tl_lanes::proofs::Widths::width_128))]
 fn measure_input<R: Read>(
     rt: &(impl Clock + Files + AllocGlobal),
     reader: &mut R,

@@ -1,11 +1,9 @@
 //! Measures whole runs.
-ghost use Rattle.std.specs.Prelude.{◌≤◌, length};
 ghost use Rattle.tl_lanes.specs.Lanes.{IsWidth};
 ghost use Rattle.tl_bridge.specs.Scripts.{HasShortLists};
-ghost use Rattle.tl_answer.specs.Texts.{most_bytes};
 
 use crate::figures::{Figures, Start, now};
-use crate::measure::version_between;
+use crate::measure::{are_widths, version_between};
 use std::io::Read;
 use std::rt::Clock;
 use std::thread::{Threads, join_mut};
@@ -17,41 +15,29 @@ use tl_trace::{Script, header_of_text, read_script};
 /// How many bare joins are timed.
 const JOINS: u64 = 1000;
 
-/// How a trace is run.
-#[derive(Clone, Copy)]
-pub struct Way {
-    /// The beats that each ring holds.
-    pub ring: usize,
-    /// The turns of each side between two meetings, where each side has a thread of its own.
-    pub turns: Option<usize>,
-}
-
-/// Runs a script in one thread, or in two.
-fn outcome_of<const C: usize, const M: usize>(
-    rt: &(impl Threads + AllocGlobal),
+/// Runs a script in one thread where `turns` is 0, or else in two, with so many turns of each side between two meetings.
+fn outcome_of<T: Threads + AllocGlobal, const C: usize, const M: usize>(
+    rt: &T,
     script: &Script<C, M>,
-    way: Way,
+    ring: usize,
+    turns: usize,
 ) -> Result<Outcome<C, M>, RunFault>
-    requires client { IsWidth C }
-    requires manager { IsWidth M }
-    requires short { HasShortLists script.now }
+    requires { IsWidth C × IsWidth M × HasShortLists script.now }
 {
     let alloc = rt.alloc();
-    match way.turns {
-        Some(turns) if turns > 0 => {
-            let (client_gate, manager_gate) = (&mut NoGate, &mut NoGate);
-            run_threads(
-                rt,
-                alloc,
-                script,
-                way.ring,
-                turns,
-                client_gate,
-                manager_gate,
-            )
-        }
-        _ => run_sync(alloc, script, way.ring),
+    if turns == 0 {
+        return run_sync(alloc, script, ring);
     }
+    let (client_gate, manager_gate) = (&mut NoGate, &mut NoGate);
+    run_threads::<T, NoGate, NoGate, C, M>(
+        rt,
+        alloc,
+        script,
+        ring,
+        turns,
+        client_gate,
+        manager_gate,
+    )
 }
 
 /// Adds how many beats were accepted and taken, on all channels together. Refused where a channel is not done.
@@ -85,15 +71,14 @@ fn put_run<const C: usize, const M: usize>(
 fn run_script<const C: usize, const M: usize>(
     rt: &(impl Clock + Threads + AllocGlobal),
     script: &Script<C, M>,
-    way: Way,
+    ring: usize,
+    turns: usize,
     figures: &mut Figures,
 )
-    requires client { IsWidth C }
-    requires manager { IsWidth M }
-    requires short { HasShortLists script.now }
+    requires { IsWidth C × IsWidth M × HasShortLists script.now }
 {
     let start = now(rt);
-    match outcome_of::<C, M>(rt, script, way) {
+    match outcome_of(rt, script, ring, turns) {
         Ok(outcome) => put_run(rt, &outcome, start, figures),
         Err(_) => figures.refuse("the run found no ring of this size, or no memory"),
     }
@@ -103,35 +88,39 @@ fn run_script<const C: usize, const M: usize>(
 fn run_pair<const C: usize, const M: usize>(
     rt: &(impl Clock + Threads + AllocGlobal),
     text: &[u8],
-    way: Way,
+    ring: usize,
+    turns: usize,
     figures: &mut Figures,
-)
-    requires client { IsWidth C }
-    requires manager { IsWidth M }
-    requires few { length text.now ≤ most_bytes }
-{
-    let Some(version) = version_between(text, C, M) else {
-        return figures.refuse("the text is no trace between these widths");
+) {
+    if text.len() > MAX_BYTES {
+        return figures.refuse("the text is too long");
+    }
+    let version = match version_between(text, C, M) {
+        Some(version) if are_widths(C, M) => version,
+        _ => return figures.refuse("the text is no trace between these widths"),
     };
     match read_script::<C, M>(rt.alloc(), text, version) {
-        Ok(script) => run_script(rt, &script, way, figures),
+        Ok(script) => run_script(rt, &script, ring, turns, figures),
         Err(_) => figures.refuse("the text is no trace"),
     }
 }
 
 /// Runs a trace.
-#[tactic(auto, using(tl_lanes::proofs::Widths::width_4, tl_lanes::proofs::Widths::width_8, tl_lanes::proofs::Widths::width_16, tl_lanes::proofs::Widths::width_64))]
-fn run_text(rt: &(impl Clock + Threads + AllocGlobal), text: &[u8], way: Way, figures: &mut Figures)
-    requires few { length text.now ≤ most_bytes }
-{
+fn run_text(
+    rt: &(impl Clock + Threads + AllocGlobal),
+    text: &[u8],
+    ring: usize,
+    turns: usize,
+    figures: &mut Figures,
+) {
     let Some(header) = header_of_text(text) else {
         return figures.refuse("the text is no trace");
     };
     match (header.client, header.manager) {
-        (8, 8) => run_pair::<8, 8>(rt, text, way, figures),
-        (4, 16) => run_pair::<4, 16>(rt, text, way, figures),
-        (64, 8) => run_pair::<64, 8>(rt, text, way, figures),
-        (8, 64) => run_pair::<8, 64>(rt, text, way, figures),
+        (8, 8) => run_pair::<8, 8>(rt, text, ring, turns, figures),
+        (4, 16) => run_pair::<4, 16>(rt, text, ring, turns, figures),
+        (64, 8) => run_pair::<64, 8>(rt, text, ring, turns, figures),
+        (8, 64) => run_pair::<8, 64>(rt, text, ring, turns, figures),
         _ => figures.refuse("no runs are measured at these widths"),
     }
 }
@@ -146,31 +135,20 @@ fn measure_joins(rt: &(impl Clock + Threads), figures: &mut Figures) {
     figures.put("joins", JOINS as u128);
 }
 
-/// Runs a trace that was read, unless it is longer than the program takes, and times bare joins.
-fn run_read(
-    rt: &(impl Clock + Threads + AllocGlobal),
-    text: &[u8],
-    way: Way,
-    figures: &mut Figures,
-) {
-    if text.len() > MAX_BYTES {
-        return figures.refuse("the text is too long");
-    }
-    figures.put("bytes", text.len() as u128);
-    run_text(rt, text, way, figures);
-    measure_joins(rt, figures);
-}
-
-/// Reads a trace from standard input and runs it. The run is timed, and then bare joins.
+/// Reads a trace from standard input and runs it over rings of `ring` beats: in one thread where `turns` is 0, or else in two, with so
+/// many turns of each side between two meetings. The run is timed, and then bare joins.
 pub fn run(
     rt: &(impl Clock + Threads + AllocGlobal),
     reader: &mut impl Read,
-    way: Way,
+    ring: usize,
+    turns: usize,
     figures: &mut Figures,
 ) {
     let mut text = Vec::new(rt.alloc());
-    match reader.read_to_end(&mut text) {
-        Ok(_) => run_read(rt, &text, way, figures),
-        Err(_) => figures.refuse("the text cannot be read"),
+    if reader.read_to_end(&mut text).is_err() {
+        return figures.refuse("the text cannot be read");
     }
+    figures.put("bytes", text.len() as u128);
+    run_text(rt, &text, ring, turns, figures);
+    measure_joins(rt, figures);
 }

@@ -46,12 +46,16 @@ fn pass<K: Channel, const W: usize, const V: usize>(
 }
 
 /// Writes far beats, each as its line.
-fn put_far<K: Told, const V: usize>(chapter: &mut Chapter, facts: &Facts, far: &[Beat<K, V>]) {
+fn put_far<K: Told, const V: usize>(
+    chapter: &mut Chapter,
+    facts: &Facts,
+    far: &ArrayVec<Beat<K, V>, WIDEST>,
+) {
     // (tested, too)
     if !is_width(V) {
         return;
     }
-    for beat in far {
+    for beat in far.as_slice() {
         let line = line_of::<K, V>(beat, facts.style.version);
         let seen = seen_of::<K, V>(beat, facts.style.version);
         chapter.put_far(facts, line.as_slice(), &seen, &beat.lanes);
@@ -71,7 +75,7 @@ pub fn tell<K: Told, const W: usize, const V: usize>(
         let seen = seen_of::<K, W>(beat, facts.style.version);
         if chapter.put_near(facts, &seen, &beat.lanes) {
             pass::<K, W, V>(converter, beat, chapter.walk.home, far);
-            put_far::<K, V>(chapter, facts, far.as_slice());
+            put_far::<K, V>(chapter, facts, far);
         }
         chapter.end_line();
     }
