@@ -1,27 +1,26 @@
 use linked_list_allocator::LocalHeap;
-use std::process::Abort;
 use std::test::Fail;
 use tl_bridge::laws::{every_run, one_settled_state, steps_are_admitted};
 use tl_bridge::{Request, RequestTable, SourceTable};
 use tl_msg::OutOfMemory;
 
-fn note_sources<R: Abort>(rt: &R, table: &mut SourceTable) {
-    assert!(*rt; !table.busy(0x0107));
+/// Whether a table tells three sources apart, of which two begin and one ends.
+fn notes_sources(table: &mut SourceTable) -> bool {
+    let is_free = !table.busy(0x0107);
     table.begin(0x0107);
     table.begin(0xffff);
-    assert!(*rt; table.busy(0x0107));
-    assert!(*rt; table.busy(0xffff));
-    assert!(*rt; !table.busy(0x0007));
+    let is_begun = table.busy(0x0107) & table.busy(0xffff) & !table.busy(0x0007);
     table.end(0x0007);
     table.end(0x0107);
-    assert!(*rt; !table.busy(0x0107));
-    assert!(*rt; table.busy(0xffff));
+    is_free & is_begun & !table.busy(0x0107) & table.busy(0xffff)
 }
 
 #[test]
 fn sources_in_use(rt: HostRuntime) -> Result<(), Fail> {
     let mut table = SourceTable::new(rt.alloc())?;
-    note_sources(&rt, &mut table);
+    let is_so = notes_sources(&mut table);
+    drop(table);
+    assert!(rt; is_so);
     Ok(())
 }
 
@@ -35,48 +34,66 @@ const SECOND: Request = Request {
     address: u64::MAX - 63,
 };
 
-fn note_requests<R: Abort>(rt: &R, table: &mut RequestTable) {
-    assert!(*rt; table.get(0x0111) == None);
+/// The requests of three sources.
+fn three_requests(table: &RequestTable) -> [Option<Request>; 3] {
+    [table.get(0x0111), table.get(0xffff), table.get(0x0011)]
+}
+
+/// Whether a table tells three sources apart, of which two ask, one of them twice, and that one ends.
+fn notes_requests(table: &mut RequestTable) -> bool {
+    let is_free = table.get(0x0111) == None;
     table.begin(0x0111, FIRST);
     table.begin(0xffff, SECOND);
-    assert!(*rt; table.get(0x0111) == Some(FIRST));
-    assert!(*rt; table.get(0xffff) == Some(SECOND));
-    assert!(*rt; table.get(0x0011) == None);
+    let is_begun = three_requests(table) == [Some(FIRST), Some(SECOND), None];
     table.begin(0x0111, SECOND);
-    assert!(*rt; table.get(0x0111) == Some(SECOND));
+    let is_again = table.get(0x0111) == Some(SECOND);
     table.end(0x0011);
     table.end(0x0111);
-    assert!(*rt; table.get(0x0111) == None);
-    assert!(*rt; table.get(0xffff) == Some(SECOND));
+    let is_ended = three_requests(table) == [None, Some(SECOND), None];
+    is_free & is_begun & is_again & is_ended
 }
 
 #[test]
 fn requests_that_wait(rt: HostRuntime) -> Result<(), Fail> {
     let mut table = RequestTable::new(rt.alloc())?;
-    note_requests(&rt, &mut table);
+    let is_so = notes_requests(&mut table);
+    drop(table);
+    assert!(rt; is_so);
     Ok(())
 }
 
-/// There is no memory for a third table, of either kind, and none is lost by asking.
-fn have_no_third<R: Abort>(rt: &R, heap: &LocalHeap) {
-    assert!(*rt; heap.used() == 17 << 16);
-    assert!(*rt; SourceTable::new(heap).err() == Some(OutOfMemory));
-    assert!(*rt; RequestTable::new(heap).err() == Some(OutOfMemory));
-    assert!(*rt; heap.used() == 17 << 16);
+/// Whether there is no memory for a table of this kind.
+fn has_no_sources(heap: &LocalHeap) -> bool {
+    SourceTable::new(heap).err() == Some(OutOfMemory)
+}
+
+fn has_no_requests(heap: &LocalHeap) -> bool {
+    RequestTable::new(heap).err() == Some(OutOfMemory)
+}
+
+/// Whether there is no memory for a third table, of either kind, and none is lost by asking.
+fn have_no_third(heap: &LocalHeap) -> bool {
+    let is_full = heap.used() == 17 << 16;
+    let is_refused = has_no_sources(heap) & has_no_requests(heap);
+    is_full & is_refused & (heap.used() == 17 << 16)
+}
+
+/// Whether two tables take as many bytes as that, and none once they are gone.
+fn take_their_memory(heap: &LocalHeap) -> Result<bool, OutOfMemory> {
+    let sources = SourceTable::new(heap)?;
+    let one = heap.used();
+    let requests = RequestTable::new(heap)?;
+    let is_full = have_no_third(heap);
+    drop(sources);
+    drop(requests);
+    Ok(is_full & (one == 1 << 16) & (heap.used() == 0))
 }
 
 /// A table of sources takes a byte for each of the 65,536 sources, and one of requests 16 bytes.
 #[test]
 fn tables_take_their_memory_at_once(rt: HostRuntime) -> Result<(), Fail> {
     let heap = LocalHeap::new(rt.alloc(), 17 << 16)?;
-    let sources = SourceTable::new(&heap)?;
-    let one = heap.used();
-    let requests = RequestTable::new(&heap)?;
-    have_no_third(&rt, &heap);
-    drop(sources);
-    drop(requests);
-    assert!(rt; one == 1 << 16);
-    assert!(rt; heap.used() == 0);
+    assert!(rt; take_their_memory(&heap)?);
     Ok(())
 }
 
@@ -84,10 +101,9 @@ fn tables_take_their_memory_at_once(rt: HostRuntime) -> Result<(), Fail> {
 #[test]
 fn tables_without_memory(rt: HostRuntime) -> Result<(), Fail> {
     let heap = LocalHeap::new(rt.alloc(), (1 << 16) - 16)?;
-    assert!(rt; SourceTable::new(&heap).err() == Some(OutOfMemory));
+    assert!(rt; has_no_sources(&heap));
     let heap = LocalHeap::new(rt.alloc(), (16 << 16) - 16)?;
-    assert!(rt; RequestTable::new(&heap).err() == Some(OutOfMemory));
-    assert!(rt; heap.used() == 0);
+    assert!(rt; has_no_requests(&heap) & (heap.used() == 0));
     Ok(())
 }
 

@@ -123,23 +123,20 @@ fn is_narrowed(converter: &mut Converter<ChD, 32, 8>, first: u8, corrupt: bool) 
     )
 }
 
-fn narrow<R: Abort>(rt: &R, converter: &mut Converter<ChD, 32, 8>) {
-    assert!(*rt; is_narrowed(converter, 0, true));
-    assert!(*rt; is_narrowed(converter, 32, false));
-    assert!(*rt; converter.at_boundary());
+fn are_halves_narrowed(converter: &mut Converter<ChD, 32, 8>) -> bool {
+    is_narrowed(converter, 0, true) & is_narrowed(converter, 32, false) & converter.at_boundary()
 }
 
 #[test]
 fn narrowed_response(rt: HostRuntime) {
-    narrow(&rt, &mut Converter::new());
+    assert!(rt; are_halves_narrowed(&mut Converter::new()));
 }
 
 /// A response of 8 bytes, round the end of the bus.
-fn widen_in_two<R: Abort>(rt: &R, wide: &mut Converter<ChD, 4, 8>) {
-    assert!(*rt; gives(wide, response(3, [3, 0, 1, 2], false), 0x1005, &[]));
-    assert!(*rt; !wide.at_boundary());
+fn is_widened_in_two(wide: &mut Converter<ChD, 4, 8>) -> bool {
+    let is_begun = gives(wide, response(3, [3, 0, 1, 2], false), 0x1005, &[]) & !wide.at_boundary();
     let far = response(3, [3, 4, 5, 6, 7, 0, 1, 2], false);
-    assert!(*rt; gives(wide, response(3, [7, 4, 5, 6], false), 0, &[far]));
+    is_begun & gives(wide, response(3, [7, 4, 5, 6], false), 0, &[far])
 }
 
 /// The bytes 88 to dd of a response, of which the last four stand on the lanes of address 100c.
@@ -163,11 +160,15 @@ fn is_narrowed_in_two(converter: &mut Converter<ChD, 8, 2>) -> bool {
     gives(converter, near, u64::MAX - 1, &far)
 }
 
+fn are_short_at_their_addresses() -> bool {
+    is_narrowed_to_four(&mut Converter::new())
+        & is_widened_in_two(&mut Converter::new())
+        & is_narrowed_in_two(&mut Converter::new())
+}
+
 #[test]
 fn short_responses_at_their_addresses(rt: HostRuntime) {
-    assert!(rt; is_narrowed_to_four(&mut Converter::new()));
-    widen_in_two(&rt, &mut Converter::new());
-    assert!(rt; is_narrowed_in_two(&mut Converter::new()));
+    assert!(rt; are_short_at_their_addresses());
 }
 
 /// Takes a near beat of A by its test and by its feed, and answers whether it has this index, is the
@@ -306,13 +307,10 @@ fn is_halved(narrow: &mut Converter<ChA, 128, 64>) -> bool {
     gives_requests(narrow, partial(BOTH, 0, true), &far) && narrow.at_boundary()
 }
 
-fn is_begun(wide: &mut Converter<ChA, 64, 128>) -> bool {
-    gives_requests(wide, partial(LOW, 0, false), &[]) && !wide.at_boundary()
-}
-
-fn is_joined(wide: &mut Converter<ChA, 64, 128>) -> bool {
+fn are_joined(wide: &mut Converter<ChA, 64, 128>) -> bool {
+    let is_begun = gives_requests(wide, partial(LOW, 0, false), &[]) & !wide.at_boundary();
     let far = [partial(BOTH, 0, true)];
-    gives_requests(wide, partial(HIGH, 64, true), &far) && wide.at_boundary()
+    is_begun & gives_requests(wide, partial(HIGH, 64, true), &far) & wide.at_boundary()
 }
 
 fn is_kept(same: &mut Converter<ChA, 128, 128>) -> bool {
@@ -320,16 +318,15 @@ fn is_kept(same: &mut Converter<ChA, 128, 128>) -> bool {
     gives_requests(same, beat, &[beat])
 }
 
-fn join_halves<R: Abort>(rt: &R, wide: &mut Converter<ChA, 64, 128>) {
-    assert!(*rt; is_begun(wide));
-    assert!(*rt; is_joined(wide));
+fn are_both_halves_there() -> bool {
+    is_halved(&mut Converter::new())
+        & are_joined(&mut Converter::new())
+        & is_kept(&mut Converter::new())
 }
 
 #[test]
 fn masks_of_both_halves(rt: HostRuntime) {
-    assert!(rt; is_halved(&mut Converter::new()));
-    join_halves(&rt, &mut Converter::new());
-    assert!(rt; is_kept(&mut Converter::new()));
+    assert!(rt; are_both_halves_there());
 }
 
 /// Whether a beat of 128 bytes gives a far beat for each of them.
@@ -357,18 +354,25 @@ fn has_counts<const V: usize>(beats: &[Beat<ChA, 4>], far: usize, room: usize) -
         && far_room::<ChA, 4, V>(beats) == room
 }
 
+fn are_counted() -> bool {
+    let three = [put(0x20, 0xf, [0; 4]); 3];
+    has_counts::<8>(&three, 1, 1)
+        & has_counts::<4>(&three, 3, 3)
+        & has_counts::<1>(&three, 12, 12)
+        & has_counts::<8>(&[], 0, 0)
+}
+
+/// Up to the head that changed.
+fn are_counted_before_a_fault() -> bool {
+    let next = put(0x20, 0xf, [0; 4]);
+    let changed = [next, next, put(0x40, 0xf, [0; 4]), next, next];
+    has_counts::<8>(&changed, 1, 1)
+        & has_counts::<4>(&changed, 2, 5)
+        & has_counts::<1>(&changed, 8, 8)
+}
+
 /// At equal widths there is room for each beat, and none is read; else for as many as there are.
 #[test]
 fn counts_of_far_beats(rt: HostRuntime) {
-    let next = put(0x20, 0xf, [0; 4]);
-    let three = [next; 3];
-    assert!(rt; has_counts::<8>(&three, 1, 1));
-    assert!(rt; has_counts::<4>(&three, 3, 3));
-    assert!(rt; has_counts::<1>(&three, 12, 12));
-    assert!(rt; has_counts::<8>(&[], 0, 0));
-    // up to the head that changed
-    let changed = [next, next, put(0x40, 0xf, [0; 4]), next, next];
-    assert!(rt; has_counts::<8>(&changed, 1, 1));
-    assert!(rt; has_counts::<4>(&changed, 2, 5));
-    assert!(rt; has_counts::<1>(&changed, 8, 8));
+    assert!(rt; are_counted() & are_counted_before_a_fault());
 }

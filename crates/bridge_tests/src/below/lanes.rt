@@ -149,16 +149,26 @@ fn halves(low: u8, high: u8) -> [u8; 128] {
     lanes
 }
 
+/// Whether few bytes are moved as they should be, and a whole bus.
+fn are_moved() -> bool {
+    moves::<4, 8>(&[0, 1, 2, 3], 4, 0, &[9; 8])
+        & moves::<4, 8>(&[0, 1, 2, 3], 4, 4, &[9, 9, 9, 9, 0, 1, 2, 3])
+        & moves::<8, 4>(&[0, 1, 2, 3, 4, 5, 6, 7], 3, 3, &[4, 5, 9, 3])
+        & moves::<64, 64>(&[7; 64], 0, 64, &[7; 64])
+        & moves::<128, 128>(&[7; 128], 0, 128, &[7; 128])
+}
+
+/// The same of halves of a bus of 128 bytes.
+fn are_halves_moved() -> bool {
+    let both = halves(1, 2);
+    moves::<128, 64>(&both, 0, 64, &[1; 64])
+        & moves::<128, 64>(&both, 64, 64, &[2; 64])
+        & moves::<64, 128>(&[2; 64], 64, 64, &halves(9, 2))
+        & moves::<128, 4>(&both, 62, 4, &[2, 2, 1, 1])
+}
+
 #[test]
 fn moved_lanes(rt: HostRuntime) {
-    let both = halves(1, 2);
-    assert!(rt; moves::<4, 8>(&[0, 1, 2, 3], 4, 0, &[9; 8]));
-    assert!(rt; moves::<4, 8>(&[0, 1, 2, 3], 4, 4, &[9, 9, 9, 9, 0, 1, 2, 3]));
-    assert!(rt; moves::<8, 4>(&[0, 1, 2, 3, 4, 5, 6, 7], 3, 3, &[4, 5, 9, 3]));
-    assert!(rt; moves::<64, 64>(&[7; 64], 0, 64, &[7; 64]));
-    assert!(rt; moves::<128, 128>(&[7; 128], 0, 128, &[7; 128]));
-    assert!(rt; moves::<128, 64>(&both, 0, 64, &[1; 64]));
-    assert!(rt; moves::<128, 64>(&both, 64, 64, &[2; 64]));
-    assert!(rt; moves::<64, 128>(&[2; 64], 64, 64, &halves(9, 2)));
-    assert!(rt; moves::<128, 4>(&both, 62, 4, &[2, 2, 1, 1]));
+    assert!(rt; are_moved());
+    assert!(rt; are_halves_moved());
 }

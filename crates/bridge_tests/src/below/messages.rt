@@ -157,11 +157,8 @@ const BEATS: [Beat<ChE, 2>; 6] = [
 
 #[test]
 fn values_are_told_apart(rt: HostRuntime) {
-    assert!(rt; are_told_apart(&BEAT_FAULTS));
-    assert!(rt; are_told_apart(&SIDE_FAULTS));
-    assert!(rt; are_told_apart(&KINDS));
-    assert!(rt; are_told_apart(&VERDICTS));
-    assert!(rt; are_told_apart(&BEATS));
+    assert!(rt; are_told_apart(&BEAT_FAULTS) & are_told_apart(&SIDE_FAULTS));
+    assert!(rt; are_told_apart(&KINDS) & are_told_apart(&VERDICTS) & are_told_apart(&BEATS));
 }
 
 /// Whether a channel has this letter, and masks or not, and whether its default beat is zero in all
@@ -210,11 +207,15 @@ const ZERO_D: HeadD = HeadD {
 
 const ZERO_E: HeadE = HeadE { sink: 0 };
 
+fn are_channels() -> bool {
+    is_channel::<ChA>(b'A', true, &Default::default(), &ZERO_A)
+        & is_channel::<ChB>(b'B', true, &Default::default(), &ZERO_B)
+        & is_channel::<ChC>(b'C', false, &Default::default(), &ZERO_C)
+        & is_channel::<ChD>(b'D', false, &Default::default(), &ZERO_D)
+        & is_channel::<ChE>(b'E', false, &Default::default(), &ZERO_E)
+}
+
 #[test]
 fn channels_and_their_default_beats(rt: HostRuntime) {
-    assert!(rt; is_channel::<ChA>(b'A', true, &Default::default(), &ZERO_A));
-    assert!(rt; is_channel::<ChB>(b'B', true, &Default::default(), &ZERO_B));
-    assert!(rt; is_channel::<ChC>(b'C', false, &Default::default(), &ZERO_C));
-    assert!(rt; is_channel::<ChD>(b'D', false, &Default::default(), &ZERO_D));
-    assert!(rt; is_channel::<ChE>(b'E', false, &Default::default(), &ZERO_E));
+    assert!(rt; are_channels());
 }

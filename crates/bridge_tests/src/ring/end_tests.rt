@@ -1,7 +1,7 @@
 //! The two ends of a ring, step by step in one thread.
 #![tactic(auto, using(tl_lanes::proofs::Widths::width_4, tl_lanes::proofs::Widths::width_8))]
 
-ghost use Rattle.std.specs.Prelude.{◌≡◌};
+ghost use Rattle.std.specs.Prelude.{◌≡◌, IfSome};
 ghost use Rattle.tl_ring.specs.Ends.{ArePair, SameSend, IsReceiptOf};
 
 use crate::ring::values::{ack, at, put};
@@ -50,14 +50,11 @@ fn taken(take: &mut TakeEnd<ChA, 8, 4>) -> [bool; 3]
     ]
 }
 
-/// The lanes of three quarters of a message, and how many far beats go into the ring after each.
-const QUARTERS: [([u8; 4], usize); 3] = [([0, 1, 2, 3], 0), ([4, 5, 6, 7], 1), ([8, 9, 10, 11], 0)];
-
-fn bring_three_quarters<R: Abort>(rt: &R, send: &mut SendEnd<ChA, 4, 8>) {
-    for &(lanes, moved) in &QUARTERS {
-        assert!(*rt; quarter_offered(send, lanes));
-        assert!(*rt; send.pump() == moved);
-    }
+/// Whether one far beat goes into the ring after the second of three quarters of a message, and none after the others.
+fn bring_three_quarters(send: &mut SendEnd<ChA, 4, 8>) -> bool {
+    let first = quarter_offered(send, [0, 1, 2, 3]) & (send.pump() == 0);
+    let second = quarter_offered(send, [4, 5, 6, 7]) & (send.pump() == 1);
+    first & second & quarter_offered(send, [8, 9, 10, 11]) & (send.pump() == 0)
 }
 
 /// Whether the end is open within the message, and closed after its last quarter.
@@ -77,9 +74,10 @@ fn closes_at_the_end(send: SendEnd<ChA, 4, 8>) -> bool {
 #[test]
 fn a_half_brought_message_keeps_its_end_open(rt: HostRuntime) -> Result<(), Fail> {
     let (mut send, take) = ring_pair::<ChA, 4, 8, Global>(rt.alloc(), 1)?;
-    bring_three_quarters(&rt, &mut send);
-    assert!(rt; closes_at_the_end(send));
+    let is_brought = bring_three_quarters(&mut send);
+    let is_closed = closes_at_the_end(send);
     drop(take);
+    assert!(rt; is_brought & is_closed);
     Ok(())
 }
 
@@ -99,22 +97,31 @@ fn pass_a_ring_of_one<R: Abort>(
     requires { ArePair send.old take.old }
     ensures { ArePair send.new take.new }
 {
-    assert!(*rt; offered(send));
-    assert!(*rt; meet(send, take) == at(2, 0, 0));
+    let is_offered = offered(send);
+    assert!(*rt; is_offered & (meet(send, take) == at(2, 0, 0)));
     for &(pumps, staged, in_ring, inbox) in &MOVES {
         assert!(*rt; moved(send, take, pumps) == (1, at(staged, in_ring, inbox)));
     }
     assert!(*rt; taken(take) == [true, true, false]);
 }
 
+/// Whether the end is closed, and all that it has brought was taken.
+fn closes_with_nothing_left(send: SendEnd<ChA, 8, 4>, take: &mut TakeEnd<ChA, 8, 4>) -> bool
+    requires { ArePair send take.old }
+{
+    match send.close() {
+        Ok(mut closing) => meet_closing(&mut closing, take) == at(0, 0, 0),
+        Err(_) => false,
+    }
+}
+
 #[test]
 fn two_far_beats_pass_a_ring_of_one_between_ends(rt: HostRuntime) -> Result<(), Fail> {
     let (mut send, mut take) = ring_pair::<ChA, 8, 4, Global>(rt.alloc(), 1)?;
     pass_a_ring_of_one(&rt, &mut send, &mut take);
-    let Ok(mut send) = send.close() else {
-        panic!(rt; "not closed between messages");
-    };
-    assert!(rt; meet_closing(&mut send, &mut take) == at(0, 0, 0));
+    let is_so = closes_with_nothing_left(send, &mut take);
+    drop(take);
+    assert!(rt; is_so);
     Ok(())
 }
 
@@ -142,29 +149,56 @@ fn is_emptied(take: &mut TakeEnd<ChE, 4, 8>, receipt: &mut Receipt<ChE, 4, 8>, s
     }
 }
 
+/// Closes the end, meets the other one, and answers the receipt, if one beat is in the ring and nothing is staged.
+fn receipt_for_one(
+    send: SendEnd<ChE, 4, 8>,
+    take: &mut TakeEnd<ChE, 4, 8>,
+) -> Option<Receipt<ChE, 4, 8>>
+    requires { ArePair send take.old }
+    ensures { IfSome result (λ receipt. IsReceiptOf receipt take.new) }
+{
+    let Ok(mut closing) = send.close() else {
+        return None;
+    };
+    let is_sent = meet_closing(&mut closing, take) == at(0, 1, 0);
+    if is_sent && closing.staged() == 0 {
+        closing.finish()
+    } else {
+        None
+    }
+}
+
+/// Whether the receipt of an end that has sent one GrantAck shows what is left.
+fn shows_what_is_left(send: SendEnd<ChE, 4, 8>, take: &mut TakeEnd<ChE, 4, 8>) -> bool
+    requires { ArePair send take.old }
+{
+    let mut send = send;
+    if !acknowledged(&mut send, 0x2a) {
+        return false;
+    }
+    match receipt_for_one(send, take) {
+        Some(mut receipt) => is_emptied(take, &mut receipt, 0x2a),
+        None => false,
+    }
+}
+
 #[test]
 fn a_receipt_shows_what_is_left(rt: HostRuntime) -> Result<(), Fail> {
-    let (mut send, mut take) = ring_pair::<ChE, 4, 8, Global>(rt.alloc(), 2)?;
-    assert!(rt; acknowledged(&mut send, 0x2a));
-    let Ok(mut send) = send.close() else {
-        panic!(rt; "not closed between messages");
-    };
-    assert!(rt; meet_closing(&mut send, &mut take) == at(0, 1, 0));
-    assert!(rt; send.staged() == 0);
-    let Some(mut receipt) = send.finish() else {
-        panic!(rt; "no receipt");
-    };
-    assert!(rt; is_emptied(&mut take, &mut receipt, 0x2a));
+    let (send, mut take) = ring_pair::<ChE, 4, 8, Global>(rt.alloc(), 2)?;
+    let is_so = shows_what_is_left(send, &mut take);
+    drop(take);
+    assert!(rt; is_so);
     Ok(())
 }
 
-/// Where the taking end is gone, two beats go into the ring of two, and one more stays.
-fn send_in_vain<R: Abort>(rt: &R, send: &mut SendEnd<ChE, 4, 8>) {
-    for moved in [1, 1, 0] {
-        assert!(*rt; send.ready() && send.offer(ack(7), 0).is_ok());
-        assert!(*rt; send.pump() == moved);
-    }
-    assert!(*rt; !send.ready());
+/// Offers a GrantAck, and answers whether it was accepted and so many beats went into the ring.
+fn sends(send: &mut SendEnd<ChE, 4, 8>, moved: usize) -> bool {
+    send.ready() && send.offer(ack(7), 0).is_ok() && send.pump() == moved
+}
+
+/// Whether two beats go into the ring of two, and one more stays, where the taking end is gone.
+fn send_in_vain(send: &mut SendEnd<ChE, 4, 8>) -> bool {
+    sends(send, 1) & sends(send, 1) & sends(send, 0) & !send.ready()
 }
 
 /// Whether the end is closed with one beat in its stage.
@@ -181,23 +215,22 @@ fn leaves_one(send: SendEnd<ChA, 8, 4>) -> bool {
     offered(&mut send) && send.pump() == 1
 }
 
-/// Where the sending end is gone, the beat that is in the ring still comes.
-fn take_what_is_left<R: Abort>(rt: &R, take: &mut TakeEnd<ChA, 8, 4>) {
-    for left in [1, 0] {
-        assert!(*rt; take.fetch() == left);
-        assert!(*rt; take.take().is_some() == (left != 0));
-    }
+/// Whether the beat that is in the ring still comes, where the sending end is gone.
+fn take_what_is_left(take: &mut TakeEnd<ChA, 8, 4>) -> bool {
+    let is_there = (take.fetch() == 1) & take.take().is_some();
+    is_there & (take.fetch() == 0) & take.take().is_none()
 }
 
 #[test]
 fn a_dropped_end_leaves_the_other_one_whole(rt: HostRuntime) -> Result<(), Fail> {
     let (mut send, take) = ring_pair::<ChE, 4, 8, Global>(rt.alloc(), 2)?;
     drop(take);
-    send_in_vain(&rt, &mut send);
-    assert!(rt; closes_with_one(send));
+    let is_sent = send_in_vain(&mut send);
+    assert!(rt; closes_with_one(send) & is_sent);
 
     let (send, mut take) = ring_pair::<ChA, 8, 4, Global>(rt.alloc(), 1)?;
-    assert!(rt; leaves_one(send));
-    take_what_is_left(&rt, &mut take);
+    let is_left = leaves_one(send) & take_what_is_left(&mut take);
+    drop(take);
+    assert!(rt; is_left);
     Ok(())
 }

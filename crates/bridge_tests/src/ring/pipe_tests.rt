@@ -2,10 +2,9 @@
 #![tactic(auto, using(tl_lanes::proofs::Widths::width_1, tl_lanes::proofs::Widths::width_4, tl_lanes::proofs::Widths::width_8, tl_lanes::proofs::Widths::width_64, tl_lanes::proofs::Widths::width_128))]
 
 use crate::ring::values::{at, put};
-use std::process::Abort;
 use std::test::Fail;
 use tl_msg::{Beat, BeatOf, ChA, ChC, HeadC};
-use tl_ring::{EndFault, SyncPipe};
+use tl_ring::{EndFault, Standing, SyncPipe};
 
 /// A beat of ReleaseData of 2 to the power of `size` bytes.
 fn release<const W: usize>(size: u8) -> BeatOf<HeadC, W> {
@@ -55,42 +54,45 @@ fn are_taken(pipe: &mut SyncPipe<ChA, 8, 4>, far: &[Beat<ChA, 4>; 2]) -> bool {
     [first, second] == *far
 }
 
-fn pass_a_ring_of_one<R: Abort>(rt: &R, pipe: &mut SyncPipe<ChA, 8, 4>) {
-    assert!(*rt; offered(pipe) && !pipe.ready());
-    assert!(*rt; pipe.standing() == at(2, 0, 0));
-    assert!(*rt; moved(pipe) == [1, 0, 1, 1, 1]);
-    assert!(*rt; pipe.ready());
+/// Whether two far beats pass a ring of one, and the pipe closes then.
+fn pass_a_ring_of_one(pipe: &mut SyncPipe<ChA, 8, 4>) -> bool {
+    let is_staged = offered(pipe) & !pipe.ready() & (pipe.standing() == at(2, 0, 0));
+    let is_moved = (moved(pipe) == [1, 0, 1, 1, 1]) & pipe.ready();
     let far = [put(3, 16, 0xf, [0, 1, 2, 3]), put(3, 16, 0xf, [4, 5, 6, 7])];
-    assert!(*rt; are_taken(pipe, &far));
-    assert!(*rt; pipe.close().is_ok());
-    assert!(*rt; pipe.drained() && !pipe.ready());
+    let is_taken = are_taken(pipe, &far);
+    is_staged & is_moved & is_taken & pipe.close().is_ok() & pipe.drained() & !pipe.ready()
 }
 
 #[test]
 fn two_far_beats_pass_a_ring_of_one(rt: HostRuntime) -> Result<(), Fail> {
     let mut pipe = SyncPipe::<ChA, 8, 4>::new(rt.alloc(), 1)?;
-    pass_a_ring_of_one(&rt, &mut pipe);
+    let is_so = pass_a_ring_of_one(&mut pipe);
     drop(pipe);
+    assert!(rt; is_so);
     Ok(())
 }
 
-fn cross_after_a_close<R: Abort>(rt: &R, pipe: &mut SyncPipe<ChA, 8, 4>) {
-    assert!(*rt; offered(pipe));
-    assert!(*rt; closed(pipe));
-    assert!(*rt; pipe.standing() == at(2, 0, 0));
-    assert!(*rt; !pipe.drained());
-    assert!(*rt; moved(pipe) == [1, 0, 1, 1, 1]);
-    for left in [2, 1, 0] {
-        assert!(*rt; pipe.drained() == (left == 0));
-        assert!(*rt; pipe.take().is_some() == (left != 0));
-    }
+/// Whether the pipe is drained after two takes and not before, and gives no beat then.
+fn is_drained_by_two(pipe: &mut SyncPipe<ChA, 8, 4>) -> bool {
+    let first = !pipe.drained() & pipe.take().is_some();
+    let second = !pipe.drained() & pipe.take().is_some();
+    first & second & pipe.drained() & pipe.take().is_none()
+}
+
+/// Whether two far beats cross after a close.
+fn cross_after_a_close(pipe: &mut SyncPipe<ChA, 8, 4>) -> bool {
+    let is_closed = offered(pipe) & closed(pipe);
+    let is_staged = (pipe.standing() == at(2, 0, 0)) & !pipe.drained();
+    let is_moved = moved(pipe) == [1, 0, 1, 1, 1];
+    is_closed & is_staged & is_moved & is_drained_by_two(pipe)
 }
 
 #[test]
 fn staged_beats_cross_after_a_close(rt: HostRuntime) -> Result<(), Fail> {
     let mut pipe = SyncPipe::<ChA, 8, 4>::new(rt.alloc(), 1)?;
-    cross_after_a_close(&rt, &mut pipe);
+    let is_so = cross_after_a_close(&mut pipe);
     drop(pipe);
+    assert!(rt; is_so);
     Ok(())
 }
 
@@ -99,25 +101,20 @@ fn half_offered(pipe: &mut SyncPipe<ChA, 4, 8>, lanes: [u8; 4]) -> bool {
     pipe.ready() && pipe.offer(put(3, 16, 0xf, lanes), 0).is_ok()
 }
 
-/// The lanes of both halves, what a close answers after each, and how many beats are staged then.
-const HALVES: [([u8; 4], Result<(), EndFault>, usize); 2] = [
-    ([0, 1, 2, 3], Err(EndFault::MidBurst), 0),
-    ([4, 5, 6, 7], Ok(()), 1),
-];
-
-fn close_after_each_half<R: Abort>(rt: &R, pipe: &mut SyncPipe<ChA, 4, 8>) {
-    for &(lanes, closed, staged) in &HALVES {
-        assert!(*rt; half_offered(pipe, lanes));
-        assert!(*rt; pipe.close() == closed);
-        assert!(*rt; pipe.standing() == at(staged, 0, 0));
-    }
+/// Whether a close is refused after the first half, and the far beat is staged after the second one.
+fn close_after_each_half(pipe: &mut SyncPipe<ChA, 4, 8>) -> bool {
+    let is_open = half_offered(pipe, [0, 1, 2, 3]) & (pipe.close() == Err(EndFault::MidBurst));
+    let is_empty = pipe.standing() == at(0, 0, 0);
+    let is_closed = half_offered(pipe, [4, 5, 6, 7]) & pipe.close().is_ok();
+    is_open & is_empty & is_closed & (pipe.standing() == at(1, 0, 0))
 }
 
 #[test]
 fn a_close_waits_for_the_end_of_a_burst(rt: HostRuntime) -> Result<(), Fail> {
     let mut pipe = SyncPipe::<ChA, 4, 8>::new(rt.alloc(), 1)?;
-    close_after_each_half(&rt, &mut pipe);
+    let is_so = close_after_each_half(&mut pipe);
     drop(pipe);
+    assert!(rt; is_so);
     Ok(())
 }
 
@@ -130,37 +127,40 @@ fn released(pipe: &mut SyncPipe<ChC, 64, 1>, size: u8) -> [usize; 2] {
     }
 }
 
-fn hold_128_beats<R: Abort>(rt: &R, pipe: &mut SyncPipe<ChC, 64, 1>) {
-    assert!(*rt; [released(pipe, 7), released(pipe, 7)] == [[64, 64]; 2]);
-    assert!(*rt; pipe.standing() == at(0, 0, 128));
-    assert!(*rt; pipe.take().is_some());
-    assert!(*rt; pipe.fetch() == 0);
-    assert!(*rt; pipe.standing() == at(0, 0, 127));
+/// Takes a beat and fetches, and answers how many beats that moved, and where the beats stand then.
+fn fetched_for_one(pipe: &mut SyncPipe<ChC, 64, 1>) -> (bool, usize, Standing) {
+    (pipe.take().is_some(), pipe.fetch(), pipe.standing())
+}
+
+/// Whether two beats give 128 far beats, which all stand in the inbox.
+fn hold_128_beats(pipe: &mut SyncPipe<ChC, 64, 1>) -> bool {
+    let is_released = [released(pipe, 7), released(pipe, 7)] == [[64, 64]; 2];
+    let is_held = pipe.standing() == at(0, 0, 128);
+    is_released & is_held & (fetched_for_one(pipe) == (true, 0, at(0, 0, 127)))
 }
 
 #[test]
 fn an_inbox_holds_128_beats(rt: HostRuntime) -> Result<(), Fail> {
     let mut pipe = SyncPipe::<ChC, 64, 1>::new(rt.alloc(), 4096)?;
-    hold_128_beats(&rt, &mut pipe);
+    let is_so = hold_128_beats(&mut pipe);
     drop(pipe);
+    assert!(rt; is_so);
     Ok(())
 }
 
-fn fill_the_inbox<R: Abort>(rt: &R, pipe: &mut SyncPipe<ChC, 64, 1>) {
-    for fetched in [64, 64, 0] {
-        assert!(*rt; released(pipe, 8) == [64, fetched]);
-    }
-    assert!(*rt; pipe.standing() == at(0, 64, 128));
-    assert!(*rt; pipe.take().is_some());
-    assert!(*rt; pipe.fetch() == 1);
-    assert!(*rt; pipe.standing() == at(0, 63, 128));
+/// Whether the far beats of a third beat stay in the ring.
+fn fill_the_inbox(pipe: &mut SyncPipe<ChC, 64, 1>) -> bool {
+    let moved = [released(pipe, 8), released(pipe, 8), released(pipe, 8)];
+    let is_full = (moved == [[64, 64], [64, 64], [64, 0]]) & (pipe.standing() == at(0, 64, 128));
+    is_full & (fetched_for_one(pipe) == (true, 1, at(0, 63, 128)))
 }
 
 #[test]
 fn a_full_inbox_takes_no_more(rt: HostRuntime) -> Result<(), Fail> {
     let mut pipe = SyncPipe::<ChC, 64, 1>::new(rt.alloc(), 4096)?;
-    fill_the_inbox(&rt, &mut pipe);
+    let is_so = fill_the_inbox(&mut pipe);
     drop(pipe);
+    assert!(rt; is_so);
     Ok(())
 }
 
@@ -174,20 +174,20 @@ fn moved_in_turn(pipe: &mut SyncPipe<ChC, 128, 1>) -> [usize; 4] {
     [pipe.pump(), pipe.fetch(), pipe.pump(), pipe.fetch()]
 }
 
-fn fill_stage_and_inbox<R: Abort>(rt: &R, pipe: &mut SyncPipe<ChC, 128, 1>) {
-    assert!(*rt; all_offered(pipe) && !pipe.ready());
-    assert!(*rt; pipe.standing() == at(128, 0, 0));
-    assert!(*rt; moved_in_turn(pipe) == [100, 100, 28, 28]);
-    assert!(*rt; pipe.standing() == at(0, 0, 128));
-    assert!(*rt; all_offered(pipe));
-    assert!(*rt; pipe.pump() == 100 && pipe.fetch() == 0);
-    assert!(*rt; pipe.standing() == at(28, 100, 128));
+/// Whether the far beats of a beat fill the stage, and then the inbox, and those of the next one stay behind them.
+fn fill_stage_and_inbox(pipe: &mut SyncPipe<ChC, 128, 1>) -> bool {
+    let is_staged = all_offered(pipe) & !pipe.ready() & (pipe.standing() == at(128, 0, 0));
+    let is_moved = moved_in_turn(pipe) == [100, 100, 28, 28];
+    let is_there = (pipe.standing() == at(0, 0, 128)) & all_offered(pipe);
+    let is_full = (pipe.pump() == 100) & (pipe.fetch() == 0);
+    is_staged & is_moved & is_there & is_full & (pipe.standing() == at(28, 100, 128))
 }
 
 #[test]
 fn a_beat_of_the_widest_bus_fills_stage_and_inbox(rt: HostRuntime) -> Result<(), Fail> {
     let mut pipe = SyncPipe::<ChC, 128, 1>::new(rt.alloc(), 100)?;
-    fill_stage_and_inbox(&rt, &mut pipe);
+    let is_so = fill_stage_and_inbox(&mut pipe);
     drop(pipe);
+    assert!(rt; is_so);
     Ok(())
 }

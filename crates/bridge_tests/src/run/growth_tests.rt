@@ -73,7 +73,7 @@ fn is_end_of_five(outcome: &Outcome<4, 8>) -> bool {
 /// What a test answers whose run ended so, after it had been asked for a ring of 0 beats.
 fn judged(
     no_ring: Option<RunFault>,
-    ended: Result<Outcome<4, 8>, RunFault>,
+    ended: &Result<Outcome<4, 8>, RunFault>,
     script: &Script<4, 8>,
 ) -> Result<(), Fail> {
     if no_ring != Some(RunFault::RingSize) {
@@ -83,9 +83,9 @@ fn judged(
         return Err(Fail::from("another script"));
     }
     match ended {
-        Ok(outcome) if is_end_of_five(&outcome) => Ok(()),
+        Ok(outcome) if is_end_of_five(outcome) => Ok(()),
         Ok(_) => Err(Fail::from("another outcome")),
-        Err(fault) => Err(Fail::new(fault)),
+        Err(fault) => Err(Fail::new(*fault)),
     }
 }
 
@@ -94,7 +94,8 @@ fn run_sync_wants_memory(rt: HostRuntime) -> Result<(), Fail> {
     let alloc = rt.alloc();
     let script = script_of_five(alloc)?;
     let no_ring = run_sync::<4, 8>(alloc, &script, 0).err();
-    judged(no_ring, run_sync::<4, 8>(alloc, &script, 1), &script)
+    let ended = run_sync::<4, 8>(alloc, &script, 1);
+    judged(no_ring, &ended, &script)
 }
 
 /// The run in two threads, with gates that do nothing.
@@ -117,9 +118,6 @@ fn run_threads_wants_memory(rt: HostRuntime) -> Result<(), Fail> {
     let alloc = rt.alloc();
     let script = script_of_five(alloc)?;
     let no_ring = run_freely::<4, 8, _>(&rt, alloc, &script, 0).err();
-    judged(
-        no_ring,
-        run_freely::<4, 8, _>(&rt, alloc, &script, 1),
-        &script,
-    )
+    let ended = run_freely::<4, 8, _>(&rt, alloc, &script, 1);
+    judged(no_ring, &ended, &script)
 }

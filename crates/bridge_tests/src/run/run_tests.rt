@@ -1,14 +1,13 @@
 use crate::run::runs::{Ending, run_text};
 use crate::run::texts::{
-    EACH_WAITS, FIVE, FROM_WIDEST, NARROWEST_BEAT, NARROWEST_BEAT_OF_WIDE_ID, NO_BEAT, RELEASE,
-    RELEASE_OF_WIDEST, SOURCE_USED_TWICE, TO_NARROWEST, TO_WIDE, TO_WIDEST, WIDE_BEAT,
-    WIDE_SOURCES, WIDEST_BEAT, acknowledgements, repeated,
+    FROM_WIDEST, NARROWEST_BEAT, NARROWEST_BEAT_OF_WIDE_ID, NO_BEAT, RELEASE_OF_WIDEST,
+    TO_NARROWEST, TO_WIDE, TO_WIDEST, WIDE_BEAT, WIDEST_BEAT, acknowledgements, repeated,
 };
 use std::alloc::Global;
 use std::test::Fail;
 use std::thread::Threads;
 use tl_bridge::{NoGate, RunFault};
-use tl_msg::{SideFault, Verdict};
+use tl_msg::Verdict;
 
 /// Both runs of a text, in two threads with gates that do nothing.
 fn run_freely<const C: usize, const M: usize, R: Threads>(
@@ -63,70 +62,6 @@ fn rounds_of<R: Threads>(
 
 /// A channel with no beat.
 const NONE: Verdict = Verdict::Done { near: 0, far: 0 };
-
-/// A channel with one beat on each side, and with two.
-const ONE: Verdict = Verdict::Done { near: 1, far: 1 };
-
-const TWO: Verdict = Verdict::Done { near: 2, far: 2 };
-
-/// The second request waits for its source, and the first response for its request.
-const WAITING: [Verdict; 5] = [
-    Verdict::Waiting {
-        at: 1,
-        fault: SideFault::SourceBusy,
-    },
-    NONE,
-    NONE,
-    Verdict::Waiting {
-        at: 0,
-        fault: SideFault::NoRequest,
-    },
-    NONE,
-];
-
-/// Widths, a text, and the verdicts of its run.
-type Short = ((usize, usize), &'static str, [Verdict; 5]);
-
-const SHORT: [Short; 6] = [
-    (
-        (64, 1),
-        RELEASE,
-        [NONE, NONE, Verdict::Done { near: 1, far: 64 }, ONE, NONE],
-    ),
-    (
-        (128, 1),
-        RELEASE_OF_WIDEST,
-        [NONE, NONE, Verdict::Done { near: 1, far: 128 }, NONE, NONE],
-    ),
-    ((4, 4), SOURCE_USED_TWICE, [TWO, NONE, NONE, TWO, NONE]),
-    ((4, 4), WIDE_SOURCES, [TWO, NONE, NONE, TWO, NONE]),
-    ((4, 4), EACH_WAITS, WAITING),
-    ((4, 8), FIVE, [ONE; 5]),
-];
-
-const RINGS: [usize; 3] = [1, 16, 4096];
-
-const TURNS: [usize; 3] = [1, 4, 1000];
-
-/// Runs a text over each size of ring and with each number of turns; both runs are to end alike and
-/// in these verdicts.
-fn run_each_way<R: Threads>(rt: &R, alloc: Global, row: &Short) -> Result<(), Fail> {
-    let &(widths, text, wanted) = row;
-    for &ring in &RINGS {
-        for &turns in &TURNS {
-            rounds_of(rt, alloc, widths, text, ring, turns, wanted)?;
-        }
-    }
-    Ok(())
-}
-
-#[test]
-fn no_ring_and_no_turns_change_the_end(rt: HostRuntime) -> Result<(), Fail> {
-    for row in &SHORT {
-        run_each_way(&rt, rt.alloc(), row)?;
-    }
-    Ok(())
-}
 
 /// A text of a header and so many equal lines, the size of its rings and the turns of a round, the
 /// verdicts, and the least and most rounds in two threads and in one.

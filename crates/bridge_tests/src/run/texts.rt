@@ -10,29 +10,6 @@ D 1 0 2 01 00 0 11111111 0
 D 1 0 2 01 00 0 22222222 0
 ";
 
-/// Responses in another order than their requests, of which the second waits for a busy source.
-pub const EACH_WAITS: &str = "tilelink-trace 1 client 4 manager 4
-A 4 0 2 01 0000000000000000 f 00000000 0
-A 4 0 2 01 0000000000000004 f 00000000 0
-A 4 0 2 02 0000000000000008 f 00000000 0
-D 1 0 2 02 00 0 11111111 0
-D 1 0 2 01 00 0 22222222 0
-";
-
-/// Two sources that differ above the eighth bit alone, both open at once, in version 2.
-pub const WIDE_SOURCES: &str = "tilelink-trace 2 client 4 manager 4
-A 4 0 2 0107 0000000000000000 f 00000000 0
-A 4 0 2 0007 0000000000000004 f 00000000 0
-D 1 0 2 0007 0000 0 11111111 0
-D 1 0 2 0107 0000 0 22222222 0
-";
-
-/// ReleaseData of 64 bytes to the narrowest bus, and its acknowledgement.
-pub const RELEASE: &str = "tilelink-trace 1 client 64 manager 1
-C 7 1 6 03 0000000000000080 3f3e3d3c3b3a393837363534333231302f2e2d2c2b2a292827262524232221201f1e1d1c1b1a191817161514131211100f0e0d0c0b0a09080706050403020100 0
-D 6 0 6 03 00 0 00 0
-";
-
 /// ReleaseData of 128 bytes from the widest bus to the narrowest, each of them corrupt.
 pub const RELEASE_OF_WIDEST: &str = "tilelink-trace 2 client 128 manager 1
 C 7 1 7 0003 0000000000000080 7f7e7d7c7b7a797877767574737271706f6e6d6c6b6a696867666564636261605f5e5d5c5b5a595857565554535251504f4e4d4c4b4a494847464544434241403f3e3d3c3b3a393837363534333231302f2e2d2c2b2a292827262524232221201f1e1d1c1b1a191817161514131211100f0e0d0c0b0a09080706050403020100 1

@@ -9,7 +9,7 @@ use crate::below::trace::five::{
 use std::alloc::Global;
 use std::test::Fail;
 use tl_msg::{BeatOf, ChE, HeadE, Verdict};
-use tl_trace::{Trace, read, write_far, write_report};
+use tl_trace::{OutOfMemory, Trace, read, write_far, write_report};
 
 #[test]
 fn read_script_wants_memory(rt: HostRuntime) -> Result<(), Fail> {
@@ -39,13 +39,17 @@ fn is_written(alloc: Global, trace: &Trace) -> Result<bool, Fail> {
     Ok(written? && is_same)
 }
 
+/// Whether the trace was read, is made into its script and is written as its text.
+fn is_read_made_and_written(alloc: Global) -> Result<bool, Fail> {
+    let trace = trace_read(alloc)?;
+    let is_read = has_heads(&trace, 1, &HEADS);
+    Ok(is_read & is_made(alloc, &trace)? & is_written(alloc, &trace)?)
+}
+
 /// Those of `read`, then those of `script_of`, and then those of `write_trace`.
 #[test]
 fn a_trace_wants_memory(rt: HostRuntime) -> Result<(), Fail> {
-    let trace = trace_read(rt.alloc())?;
-    assert!(rt; has_heads(&trace, 1, &HEADS));
-    assert!(rt; is_made(rt.alloc(), &trace)?);
-    assert!(rt; is_written(rt.alloc(), &trace)?);
+    assert!(rt; is_read_made_and_written(rt.alloc())?);
     Ok(())
 }
 
@@ -57,13 +61,20 @@ const ACK: BeatOf<HeadE, 4> = BeatOf {
     corrupt: false,
 };
 
-/// Writes three lines, and answers whether they stand behind what stood there.
-fn three_are_written(out: &mut Vec<u8>) -> Result<bool, Fail> {
-    match write_far::<ChE, 4>(out, &[ACK; 3], 1) {
-        Ok(()) => Ok(out.as_slice() == b"before E 07\nE 07\nE 07\n".as_slice()),
-        Err(fault) if out.as_slice() == b"before ".as_slice() => Err(Fail::new(fault)),
+/// What a test answers of a call that writes behind what stood there: whether this text stands there then, or its want of
+/// memory, where all is as it was.
+fn judged(ended: Result<(), OutOfMemory>, out: &[u8], text: &[u8]) -> Result<bool, Fail> {
+    match ended {
+        Ok(()) => Ok(out == text),
+        Err(fault) if out == b"before ".as_slice() => Err(Fail::new(fault)),
         Err(_) => Ok(false),
     }
+}
+
+/// Writes three lines.
+fn three_are_written(out: &mut Vec<u8>) -> Result<bool, Fail> {
+    let ended = write_far::<ChE, 4>(out, &[ACK; 3], 1);
+    judged(ended, out, b"before E 07\nE 07\nE 07\n")
 }
 
 #[test]
@@ -73,13 +84,10 @@ fn write_far_wants_memory(rt: HostRuntime) -> Result<(), Fail> {
     Ok(())
 }
 
-/// Writes a verdict, and answers whether it stands behind what stood there.
+/// Writes a verdict.
 fn is_reported(out: &mut Vec<u8>) -> Result<bool, Fail> {
-    match write_report(out, b'A', &Verdict::Cut { near: 3, far: 1 }) {
-        Ok(()) => Ok(out.as_slice() == b"before = A cut 3 1\n".as_slice()),
-        Err(fault) if out.as_slice() == b"before ".as_slice() => Err(Fail::new(fault)),
-        Err(_) => Ok(false),
-    }
+    let ended = write_report(out, b'A', &Verdict::Cut { near: 3, far: 1 });
+    judged(ended, out, b"before = A cut 3 1\n")
 }
 
 #[test]
