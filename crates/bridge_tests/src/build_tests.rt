@@ -10,7 +10,6 @@ use tl_pair::bridge;
 use tl_ring::{BuildFault, SyncPipe, ring_pair};
 
 /// What is made over rings.
-#[derive(Clone, Copy)]
 enum Made {
     Pipe,
     Ends,
@@ -35,34 +34,13 @@ fn refusal_of_sides(heap: &LocalHeap, ring: usize) -> Option<BuildFault> {
 }
 
 /// Why this is not made over this heap, if it is not.
-fn refusal(made: Made, heap: &LocalHeap, ring: usize) -> Option<BuildFault> {
+fn refusal(made: &Made, heap: &LocalHeap, ring: usize) -> Option<BuildFault> {
     match made {
         Made::Pipe => refusal_of_pipe(heap, ring),
         Made::Ends => refusal_of_ends(heap, ring),
         Made::Bridge => refusal_of_bridge(heap, ring),
         Made::Sides => refusal_of_sides(heap, ring),
     }
-}
-
-fn refuses_sizes(made: Made, heap: &LocalHeap) -> bool {
-    refusal(made, heap, 0) == Some(BuildFault::RingSize)
-        && refusal(made, heap, 4097) == Some(BuildFault::RingSize)
-        && refusal(made, heap, 1) == Some(BuildFault::OutOfMemory)
-        && refusal(made, heap, 4096) == Some(BuildFault::OutOfMemory)
-}
-
-fn refuses_each(heap: &LocalHeap) -> bool {
-    refuses_sizes(Made::Pipe, heap)
-        & refuses_sizes(Made::Ends, heap)
-        & refuses_sizes(Made::Bridge, heap)
-        & refuses_sizes(Made::Sides, heap)
-}
-
-#[test]
-fn a_ring_has_1_to_4096_beats(rt: HostRuntime) -> Result<(), Fail> {
-    let heap = LocalHeap::new(rt.alloc(), 0)?;
-    assert!(rt; refuses_each(&heap));
-    Ok(())
 }
 
 /// What is made over heaps from none on, how many bytes more each has, how many heaps there are, and
@@ -79,20 +57,27 @@ const HEAPS: [Heaps; 6] = [
     (Made::Sides, 0x8000, 40, true),
 ];
 
-/// Why this is not made over a heap of so many bytes, if it is not. All of the heap is free then.
-fn refusal_over(alloc: Global, made: Made, bytes: usize) -> Result<Option<BuildFault>, Fail> {
+/// Whether a ring of this size is refused for it.
+fn refuses_size(made: &Made, heap: &LocalHeap, ring: usize) -> bool {
+    refusal(made, heap, ring) == Some(BuildFault::RingSize)
+}
+
+/// Why this is not made over a heap of so many bytes, if it is not. A ring has 1 to 4,096 beats, and all of the heap is
+/// free in the end.
+fn refusal_over(alloc: Global, made: &Made, bytes: usize) -> Result<Option<BuildFault>, Fail> {
     let heap = LocalHeap::new(alloc, bytes)?;
+    let refuses_sizes = refuses_size(made, &heap, 0) & refuses_size(made, &heap, 4097);
     let fault = refusal(made, &heap, 16);
-    if heap.used() == 0 {
+    if refuses_sizes & (heap.used() == 0) {
         Ok(fault)
     } else {
-        Err(Fail::from("memory is still in use"))
+        Err(Fail::from("a ring of no such size, or memory that is still in use"))
     }
 }
 
 /// Whether each fault is OutOfMemory, but where it is made over the last heaps.
 fn are_refused(alloc: Global, heaps: &Heaps) -> Result<bool, Fail> {
-    let &(made, more, count, is_made) = heaps;
+    let (made, more, count, is_made) = (&heaps.0, heaps.1, heaps.2, heaps.3);
     let (mut bytes, mut is_refused) = (0usize, true);
     for _ in 0..count {
         is_refused = match refusal_over(alloc, made, bytes)? {

@@ -1,21 +1,31 @@
 use std::alloc::Global;
+use std::fmt::Display;
 use tl_bridge::RunFault;
+use tl_msg::{BeatFault, OutOfMemory, SideFault};
+use tl_ring::{BuildFault, EndFault};
+use tl_trace::{TraceFault, TraceKind};
 
-/// Whether a fault is printed as this text.
-fn is_printed(alloc: Global, fault: RunFault, text: &str) -> bool {
-    match format!(in alloc; "{fault}") {
+/// Whether a value is printed as this text.
+fn is_printed<T: Display>(alloc: Global, value: &T, text: &str) -> bool {
+    match format!(in alloc; "{value}") {
         Ok(printed) => printed.as_str() == text,
         Err(_) => false,
     }
 }
 
+/// Number and name of a fault of each type.
 #[test]
-fn fault_texts(rt: HostRuntime) {
-    for (fault, text) in [
-        (RunFault::RingSize, "12 RingSize"),
-        (RunFault::OutOfMemory, "13 OutOfMemory"),
-        (RunFault::Stalled, "20 Stalled"),
-    ] {
-        assert!(rt; is_printed(rt.alloc(), fault, text), "{text}");
-    }
+fn faults_are_printed(rt: HostRuntime) {
+    let in_trace = TraceFault {
+        line: 2,
+        kind: TraceKind::Range,
+    };
+    let are_below = is_printed(rt.alloc(), &BeatFault::HeadChanged, "7 HeadChanged")
+        & is_printed(rt.alloc(), &SideFault::Beat(BeatFault::Mask), "5 Mask")
+        & is_printed(rt.alloc(), &in_trace, "line 2: 18 Range")
+        & is_printed(rt.alloc(), &OutOfMemory, "13 OutOfMemory");
+    let are_above = is_printed(rt.alloc(), &BuildFault::RingSize, "12 RingSize")
+        & is_printed(rt.alloc(), &EndFault::MidBurst, "11 MidBurst")
+        & is_printed(rt.alloc(), &RunFault::Stalled, "20 Stalled");
+    assert!(rt; are_below & are_above);
 }

@@ -4,15 +4,13 @@
 #![tactic(auto)]
 
 #[cfg(test)]
-mod beats;
-#[cfg(test)]
 mod below;
 #[cfg(test)]
 mod build_tests;
 #[cfg(test)]
-mod calls;
-#[cfg(test)]
 mod fault_tests;
+#[cfg(test)]
+mod five;
 #[cfg(test)]
 mod pair;
 #[cfg(test)]
@@ -23,6 +21,8 @@ mod run;
 mod sync_tests;
 #[cfg(test)]
 mod tests;
+#[cfg(test)]
+mod values;
 
 use std::alloc::Allocator;
 use tl_bridge::SyncBridge;

@@ -2,4 +2,3 @@
 mod end_tests;
 mod pipe_tests;
 mod thread_tests;
-mod values;

@@ -3,4 +3,3 @@ mod gate_tests;
 mod growth_tests;
 mod run_tests;
 mod runs;
-mod texts;

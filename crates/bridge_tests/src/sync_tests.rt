@@ -1,19 +1,19 @@
 #![tactic(auto, using(tl_lanes::proofs::Widths::width_4, tl_lanes::proofs::Widths::width_16))]
 
-use crate::beats::{data, get};
-use crate::calls::{LANES, Said, as_said};
+use crate::values::{LANES, data, get};
 use std::alloc::Global;
-use std::process::Abort;
 use std::test::Fail;
 use tl_bridge::{Standings, SyncBridge};
 use tl_lanes::Mask;
 use tl_msg::{
-    Beat, BeatFault, BeatOf, ChA, ChB, ChD, ChE, HeadB, HeadC, HeadE, SideFault, SourceId,
+    Beat, BeatFault, BeatOf, ChA, ChB, ChC, ChD, ChE, HeadB, HeadC, HeadE, SideFault, SourceId,
 };
 use tl_ring::BuildFault;
 
 /// What a bridge says to an offer. None where the channel is not ready.
 type Answer = Option<Result<(), SideFault>>;
+
+const ACCEPTED: Answer = Some(Ok(()));
 
 fn ask(bridge: &mut SyncBridge<4, 16>, source: SourceId, address: u64) -> Answer {
     if !bridge.ready_a() {
@@ -22,56 +22,21 @@ fn ask(bridge: &mut SyncBridge<4, 16>, source: SourceId, address: u64) -> Answer
     Some(bridge.offer_a(get(source, address)))
 }
 
-fn answer(bridge: &mut SyncBridge<4, 16>, beat: Beat<ChD, 16>) -> Answer {
+/// Offers a beat of a response to source 11.
+fn answer(bridge: &mut SyncBridge<4, 16>, opcode: u8, size: u8) -> Answer {
     if !bridge.ready_d() {
         return None;
     }
-    Some(bridge.offer_d(beat))
-}
-
-fn probe(bridge: &mut SyncBridge<4, 16>, beat: Beat<ChB, 16>) -> Answer {
-    if !bridge.ready_b() {
-        return None;
-    }
-    Some(bridge.offer_b(beat))
-}
-
-fn release(bridge: &mut SyncBridge<4, 16>, head: HeadC) -> Answer {
-    if !bridge.ready_c() {
-        return None;
-    }
-    Some(bridge.offer_c(BeatOf {
-        head,
-        mask: 0,
-        lanes: [0; 4],
-        corrupt: false,
-    }))
-}
-
-fn acknowledge(bridge: &mut SyncBridge<4, 16>, beat: Beat<ChE, 4>) -> Answer {
-    if !bridge.ready_e() {
-        return None;
-    }
-    Some(bridge.offer_e(beat))
+    Some(bridge.offer_d(data(opcode, size, 0x11, LANES)))
 }
 
 fn build(alloc: Global, ring: usize) -> Result<SyncBridge<4, 16>, BuildFault> {
     SyncBridge::new(alloc, ring)
 }
 
-/// A call of the bridge.
-#[derive(Clone, Copy)]
-enum Call {
-    /// The client's side offers a Get from address 100c.
-    Ask,
-    /// The manager's side offers a response of this opcode and size.
-    Answer(u8, u8),
-    Pump,
-    Fetch,
-    /// The manager's side takes a beat of A.
-    TakeAsk,
-    /// The client's side takes a beat of D.
-    TakeAnswer,
+/// How many beats a pump and a fetch move.
+fn moved(bridge: &mut SyncBridge<4, 16>) -> (usize, usize) {
+    (bridge.pump(), bridge.fetch())
 }
 
 /// The mask of the beat that the manager's side takes from A.
@@ -80,66 +45,41 @@ fn asked_mask(bridge: &mut SyncBridge<4, 16>) -> Option<Mask> {
     Some(beat.mask)
 }
 
-fn take_ask(bridge: &mut SyncBridge<4, 16>) -> Said {
-    match asked_mask(bridge) {
-        Some(mask) => Said::Asked(mask),
-        None => Said::Nothing,
-    }
+/// The lanes of the beat that the client's side takes from D.
+fn answered_lanes(bridge: &mut SyncBridge<4, 16>) -> Option<[u8; 4]> {
+    let beat = bridge.take_d()?;
+    Some(beat.lanes)
 }
 
-fn take_answer(bridge: &mut SyncBridge<4, 16>) -> Said {
-    match bridge.take_d() {
-        Some(beat) => Said::Answered(beat.lanes),
-        None => Said::Nothing,
-    }
+/// Whether a request crosses, and no response before it does.
+fn request_crosses(bridge: &mut SyncBridge<4, 16>) -> bool {
+    let is_refused = (answer(bridge, 3, 2) == Some(Err(SideFault::Beat(BeatFault::Opcode))))
+        & (answer(bridge, 1, 2) == Some(Err(SideFault::NoRequest)));
+    let is_asked = ask(bridge, 0x11, 0x100c) == ACCEPTED;
+    is_refused & is_asked & (moved(bridge) == (1, 1)) & (asked_mask(bridge) == Some(0xf000))
 }
 
-/// One call of the bridge.
-fn play(bridge: &mut SyncBridge<4, 16>, call: Call) -> Said {
-    match call {
-        Call::Ask => as_said(ask(bridge, 0x11, 0x100c)),
-        Call::Answer(opcode, size) => as_said(answer(bridge, data(opcode, size, 0x11, LANES))),
-        Call::Pump => Said::Moved(bridge.pump()),
-        Call::Fetch => Said::Moved(bridge.fetch()),
-        Call::TakeAsk => take_ask(bridge),
-        Call::TakeAnswer => take_answer(bridge),
-    }
-}
-
-/// The calls of a request and its response, and what comes of each.
-const CALLS: [(Call, Said); 16] = [
-    (
-        Call::Answer(3, 2),
-        Said::Refused(SideFault::Beat(BeatFault::Opcode)),
-    ),
-    (Call::Answer(1, 2), Said::Refused(SideFault::NoRequest)),
-    (Call::Ask, Said::Accepted),
-    (Call::Pump, Said::Moved(1)),
-    (Call::Fetch, Said::Moved(1)),
-    (Call::TakeAsk, Said::Asked(0xf000)),
-    (Call::Answer(1, 3), Said::Refused(SideFault::SizeMismatch)),
-    (Call::Answer(1, 2), Said::Accepted),
-    (Call::Pump, Said::Moved(1)),
-    (Call::Answer(1, 2), Said::Refused(SideFault::NoRequest)),
-    (Call::Ask, Said::Refused(SideFault::SourceBusy)),
-    (Call::Fetch, Said::Moved(1)),
-    (Call::Ask, Said::Refused(SideFault::SourceBusy)),
-    (Call::TakeAnswer, Said::Answered([0xaa, 0xbb, 0xcc, 0xdd])),
-    (Call::Ask, Said::Accepted),
-    (Call::TakeAnswer, Said::Nothing),
-];
-
-fn play_all<R: Abort>(rt: &R, bridge: &mut SyncBridge<4, 16>) {
-    for (number, (call, wanted)) in CALLS.iter().enumerate() {
-        assert!(*rt; play(bridge, *call) == *wanted, "call {number}");
-    }
+/// Whether its response crosses then, once, and its source is in use until it is taken.
+fn response_crosses(bridge: &mut SyncBridge<4, 16>) -> bool {
+    let is_answered = (answer(bridge, 1, 3) == Some(Err(SideFault::SizeMismatch)))
+        & (answer(bridge, 1, 2) == ACCEPTED)
+        & (bridge.pump() == 1)
+        & (answer(bridge, 1, 2) == Some(Err(SideFault::NoRequest)));
+    let busy = Some(Err(SideFault::SourceBusy));
+    let is_busy = (ask(bridge, 0x11, 0x100c) == busy)
+        & (bridge.fetch() == 1)
+        & (ask(bridge, 0x11, 0x100c) == busy);
+    let is_taken = answered_lanes(bridge) == Some([0xaa, 0xbb, 0xcc, 0xdd]);
+    let is_free = ask(bridge, 0x11, 0x100c) == ACCEPTED;
+    is_answered & is_busy & is_taken & is_free & answered_lanes(bridge).is_none()
 }
 
 #[test]
 fn a_request_and_its_response(rt: HostRuntime) -> Result<(), Fail> {
     let mut bridge = build(rt.alloc(), 4)?;
-    play_all(&rt, &mut bridge);
+    let is_so = request_crosses(&mut bridge) & response_crosses(&mut bridge);
     drop(bridge);
+    assert!(rt; is_so);
     Ok(())
 }
 
@@ -156,12 +96,17 @@ const BLOCK: Beat<ChB, 16> = BeatOf {
     corrupt: false,
 };
 
-const ACK: HeadC = HeadC {
-    opcode: 4,
-    param: 1,
-    size: 2,
-    source: 0,
-    address: 0x80,
+const ACK: Beat<ChC, 4> = BeatOf {
+    head: HeadC {
+        opcode: 4,
+        param: 1,
+        size: 2,
+        source: 0,
+        address: 0x80,
+    },
+    mask: 0,
+    lanes: [0; 4],
+    corrupt: false,
 };
 
 const SINK: Beat<ChE, 4> = BeatOf {
@@ -173,10 +118,12 @@ const SINK: Beat<ChE, 4> = BeatOf {
 
 /// Offers a beat of B, one of C and one of E, and answers whether they were accepted.
 fn all_offered(bridge: &mut SyncBridge<4, 16>) -> bool {
-    let accepted = Some(Ok(()));
-    probe(bridge, BLOCK) == accepted
-        && release(bridge, ACK) == accepted
-        && acknowledge(bridge, SINK) == accepted
+    bridge.ready_b()
+        && bridge.offer_b(BLOCK).is_ok()
+        && bridge.ready_c()
+        && bridge.offer_c(ACK).is_ok()
+        && bridge.ready_e()
+        && bridge.offer_e(SINK).is_ok()
 }
 
 /// Takes a beat of B, one of C and one of E, and answers whether they are those that were offered.
@@ -185,7 +132,7 @@ fn all_taken(bridge: &mut SyncBridge<4, 16>) -> bool {
     else {
         return false;
     };
-    block.head == BLOCK.head && ack.head == ACK && sink.head == SINK.head
+    (block.head == BLOCK.head) & (ack.head == ACK.head) & (sink.head == SINK.head)
 }
 
 /// Closes each channel, and answers whether it was closed, and not ready then.
@@ -200,7 +147,7 @@ fn closes_each(bridge: &mut SyncBridge<4, 16>) -> bool {
 
 /// Whether these three cross, no channel has a beat then, and each closes.
 fn cross_and_close(bridge: &mut SyncBridge<4, 16>) -> bool {
-    let is_moved = all_offered(bridge) & (bridge.pump() == 3) & (bridge.fetch() == 3);
+    let is_moved = all_offered(bridge) & (moved(bridge) == (3, 3));
     let is_there = bridge.standings().c.inbox == 1;
     let is_empty = all_taken(bridge) & (bridge.standings() == Standings::default());
     is_moved & is_there & is_empty & closes_each(bridge)
@@ -235,19 +182,18 @@ fn answer_across(bridge: &mut SyncBridge<4, 4>, response: Beat<ChD, 4>) -> Optio
     bridge.take_d()
 }
 
-/// Asks twice by one source, and answers each time.
-fn use_twice<R: Abort>(rt: &R, bridge: &mut SyncBridge<4, 4>) {
-    for &(address, byte) in &[(0, 0x11), (4, 0x22)] {
-        let (request, response) = (get(1, address), data(1, 2, 1, [byte; 4]));
-        assert!(*rt; ask_across(bridge, request) == Some(request));
-        assert!(*rt; answer_across(bridge, response) == Some(response));
-    }
+/// Asks by source 1, and answers, and answers whether both arrive.
+fn is_used(bridge: &mut SyncBridge<4, 4>, address: u64, byte: u8) -> bool {
+    let (request, response) = (get(1, address), data(1, 2, 1, [byte; 4]));
+    (ask_across(bridge, request) == Some(request))
+        & (answer_across(bridge, response) == Some(response))
 }
 
 #[test]
 fn a_source_used_twice(rt: HostRuntime) -> Result<(), Fail> {
     let mut bridge = SyncBridge::<4, 4>::new(rt.alloc(), 1)?;
-    use_twice(&rt, &mut bridge);
+    let is_so = is_used(&mut bridge, 0, 0x11) & is_used(&mut bridge, 4, 0x22);
     drop(bridge);
+    assert!(rt; is_so);
     Ok(())
 }

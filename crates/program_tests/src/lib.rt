@@ -1,10 +1,8 @@
 //! Tests of the program's parts that a run of the program can't show: what the words give as a
-//! value, the faults as text, and readers and writers that fail. What the built program answers is
-//! tested by `tests/program`.
+//! value, and readers and writers that fail. What the built program answers is tested by
+//! `tests/program`.
 #![tactic(auto)]
 
-#[cfg(test)]
-mod fault_tests;
 #[cfg(test)]
 mod stream_tests;
 #[cfg(test)]

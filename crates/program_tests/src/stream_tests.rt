@@ -60,10 +60,11 @@ impl Write for Slow {
     }
 }
 
-fn text_in(most: usize, bad_call: u64, kind: io::ErrorKind) -> Pieces<'static> {
+/// Gives the text a byte a call.
+fn text_in(bad_call: u64, kind: io::ErrorKind) -> Pieces<'static> {
     Pieces {
         rest: TEXT.as_bytes(),
-        most,
+        most: 1,
         calls: 0,
         bad_call,
         kind,
@@ -74,7 +75,7 @@ const KINDS: [io::ErrorKind; 2] = [io::ErrorKind::Interrupted, io::ErrorKind::Ot
 
 /// Whether the text is read.
 fn is_read(alloc: Global) -> bool {
-    match read_all(alloc, &mut text_in(1, 0, io::ErrorKind::Other)) {
+    match read_all(alloc, &mut text_in(0, io::ErrorKind::Other)) {
         Ok(text) => text.as_slice() == TEXT.as_bytes(),
         Err(_) => false,
     }
@@ -83,7 +84,7 @@ fn is_read(alloc: Global) -> bool {
 /// Whether a reader that fails at this call is a fault of reading.
 fn is_read_fault(alloc: Global, bad_call: u64, kind: io::ErrorKind) -> bool {
     matches!(
-        read_all(alloc, &mut text_in(1, bad_call, kind)),
+        read_all(alloc, &mut text_in(bad_call, kind)),
         Err(TextFault::Read)
     )
 }
@@ -102,26 +103,26 @@ fn readers(rt: HostRuntime) {
     }
 }
 
-/// Takes some bytes a call, and fails at one call.
-fn slow_writer(alloc: Global, most: usize, bad_call: u64, kind: io::ErrorKind) -> Slow {
-    Slow {
+/// How many bytes a call takes, which call fails, whether a flush is well, and whether the text is written.
+type Taken = (usize, u64, bool, bool);
+
+const WRITERS: [Taken; 3] = [
+    (1, 0, true, true),
+    (0, 0, true, false),
+    (1000, 0, false, false),
+];
+
+/// Whether the text is written, or else that is a fault of writing.
+fn is_written(alloc: Global, row: &Taken, kind: io::ErrorKind) -> bool {
+    let &(most, bad_call, flushes, is_well) = row;
+    let mut writer = Slow {
         taken: Vec::new(alloc),
         most,
         calls: 0,
         bad_call,
         kind,
-        flushes: true,
-    }
-}
-
-/// How many bytes a call takes, whether a flush is well, and whether the text is written.
-const WRITERS: [(usize, bool, bool); 3] = [(1, true, true), (0, true, false), (1000, false, false)];
-
-/// Whether the text is written, or else that is a fault of writing.
-fn is_written(alloc: Global, row: &(usize, bool, bool)) -> bool {
-    let &(most, flushes, is_well) = row;
-    let mut writer = slow_writer(alloc, most, 0, io::ErrorKind::Other);
-    writer.flushes = flushes;
+        flushes,
+    };
     match write_all(&mut writer, TEXT.as_bytes()) {
         Ok(()) => is_well && writer.taken.as_slice() == TEXT.as_bytes(),
         Err(fault) => !is_well && fault == TextFault::Write,
@@ -131,14 +132,12 @@ fn is_written(alloc: Global, row: &(usize, bool, bool)) -> bool {
 #[test]
 fn writers(rt: HostRuntime) {
     for row in &WRITERS {
-        assert!(rt; is_written(rt.alloc(), row), "{} bytes a call", row.0);
+        assert!(rt;
+            is_written(rt.alloc(), row, io::ErrorKind::Other),
+            "{} bytes a call",
+            row.0
+        );
     }
-}
-
-/// Whether a writer that fails at this call is a fault of writing.
-fn is_write_fault(alloc: Global, bad_call: u64, kind: io::ErrorKind) -> bool {
-    let result = write_all(&mut slow_writer(alloc, 1, bad_call, kind), TEXT.as_bytes());
-    matches!(result, Err(TextFault::Write))
 }
 
 /// Each write of one byte fails in turn.
@@ -147,7 +146,7 @@ fn writers_that_fail(rt: HostRuntime) {
     for bad_call in 1..=TEXT.len() as u64 {
         for &kind in &KINDS {
             assert!(rt;
-                is_write_fault(rt.alloc(), bad_call, kind),
+                is_written(rt.alloc(), &(1, bad_call, true, false), kind),
                 "call {bad_call}"
             );
         }

@@ -4,7 +4,7 @@
 ghost use Rattle.std.specs.Prelude.{◌≡◌, IfSome};
 ghost use Rattle.tl_ring.specs.Ends.{ArePair, SameSend, IsReceiptOf};
 
-use crate::ring::values::{ack, at, put};
+use crate::values::{ack, at, put};
 use std::alloc::Global;
 use std::process::Abort;
 use std::test::Fail;
@@ -222,15 +222,19 @@ fn take_what_is_left(take: &mut TakeEnd<ChA, 8, 4>) -> bool {
 }
 
 #[test]
-fn a_dropped_end_leaves_the_other_one_whole(rt: HostRuntime) -> Result<(), Fail> {
+fn a_sending_end_fills_the_ring_alone(rt: HostRuntime) -> Result<(), Fail> {
     let (mut send, take) = ring_pair::<ChE, 4, 8, Global>(rt.alloc(), 2)?;
     drop(take);
-    let is_sent = send_in_vain(&mut send);
-    assert!(rt; closes_with_one(send) & is_sent);
+    let is_so = send_in_vain(&mut send) & closes_with_one(send);
+    assert!(rt; is_so);
+    Ok(())
+}
 
+#[test]
+fn a_taking_end_empties_the_ring_alone(rt: HostRuntime) -> Result<(), Fail> {
     let (send, mut take) = ring_pair::<ChA, 8, 4, Global>(rt.alloc(), 1)?;
-    let is_left = leaves_one(send) & take_what_is_left(&mut take);
+    let is_so = leaves_one(send) & take_what_is_left(&mut take);
     drop(take);
-    assert!(rt; is_left);
+    assert!(rt; is_so);
     Ok(())
 }

@@ -2,35 +2,42 @@
 #![tactic(auto, using(tl_lanes::proofs::Widths::width_4, tl_lanes::proofs::Widths::width_8))]
 
 ghost use Rattle.std.specs.Prelude.{IfSome};
-ghost use Rattle.tl_ring.specs.Ends.{ArePair, SameSend, SameTake, IsReceiptFor};
+ghost use Rattle.tl_ring.specs.Ends.{ArePair, SameSend, SameTake, IsReceiptFor, IsReceiptOf};
 
-use crate::ring::values::{ack, at};
+use crate::values::{ack, at};
 use arrayvec::ArrayVec;
 use std::alloc::Global;
-use std::process::Abort;
 use std::test::Fail;
 use std::thread::{join, join_mut};
 use tl_msg::{ChE, SinkId};
-use tl_ring::{Receipt, SendEnd, TakeEnd, meet, ring_pair};
+use tl_ring::{ClosingEnd, Receipt, SendEnd, TakeEnd, meet, ring_pair};
 
 /// How many beats go through the ring of two threads.
 const COUNT: SinkId = 200;
 
-/// Offers and sends the sinks from 0 on, until all are sent or the turns are over, and answers how many were offered.
-fn send_all(send: &mut SendEnd<ChE, 4, 8>, turns: usize) -> SinkId
+/// Offers and sends the sinks from this one on, until all are sent or the turns are over, and answers the one after those that were
+/// offered.
+fn send_from(send: &mut SendEnd<ChE, 4, 8>, first: SinkId, turns: usize) -> SinkId
     ensures { SameSend send.old send.new }
 {
-    let mut next = 0;
+    let mut next = first;
     for _ in 0..turns {
         if send.ready() {
             if next == COUNT || send.offer(ack(next), 0).is_err() {
                 return next;
             }
-            next += 1;
+            next = next.wrapping_add(1);
         }
         send.pump();
     }
     next
+}
+
+/// Offers and sends the sinks from 0 on, and answers how many were offered.
+fn send_all(send: &mut SendEnd<ChE, 4, 8>, turns: usize) -> SinkId
+    ensures { SameSend send.old send.new }
+{
+    send_from(send, 0, turns)
 }
 
 /// Fetches and takes beats, until all were taken or the turns are over, and notes their sinks.
@@ -47,6 +54,18 @@ fn take_all(take: &mut TakeEnd<ChE, 4, 8>, sinks: &mut ArrayVec<SinkId, 200>, tu
     }
 }
 
+/// Sends what is staged, until nothing is or the turns are over.
+fn pump_all(closing: &mut ClosingEnd<ChE, 4, 8>, turns: usize)
+    ensures { SameSend closing.old closing.new }
+{
+    for _ in 0..turns {
+        if closing.staged() == 0 {
+            return;
+        }
+        closing.pump();
+    }
+}
+
 /// Offers and sends as [`send_all`], and then closes the end, sends what is staged and answers the receipt, if all of that was done
 /// before the turns were over.
 fn send_and_finish(send: SendEnd<ChE, 4, 8>, turns: usize) -> Option<Receipt<ChE, 4, 8>>
@@ -57,63 +76,47 @@ fn send_and_finish(send: SendEnd<ChE, 4, 8>, turns: usize) -> Option<Receipt<ChE
     let Ok(mut closing) = send.close() else {
         return None;
     };
-    for _ in 0..turns {
-        if closing.staged() == 0 {
-            return closing.finish();
-        }
-        closing.pump();
+    pump_all(&mut closing, turns);
+    if closing.staged() == 0 {
+        closing.finish()
+    } else {
+        None
     }
-    None
-}
-
-/// Offers the next sink, if the end is ready, sends what it can, and takes what arrives, with a meeting after each. Answers the
-/// sink after those that were accepted.
-fn send_and_take(
-    send: &mut SendEnd<ChE, 4, 8>,
-    take: &mut TakeEnd<ChE, 4, 8>,
-    sinks: &mut ArrayVec<SinkId, 200>,
-    next: SinkId,
-) -> SinkId
-    requires { ArePair send.old take.old }
-    ensures { ArePair send.new take.new }
-{
-    let is_accepted = send.ready() && next < COUNT && send.offer(ack(next), 0).is_ok();
-    send.pump();
-    meet(send, take);
-    take_all(take, sinks, 1);
-    meet(send, take);
-    if is_accepted { next + 1 } else { next }
 }
 
 /// Whether these are the sinks from 0 on, each once and in order.
 fn in_order(sinks: &ArrayVec<SinkId, 200>) -> bool {
-    sinks.len() == COUNT as usize
-        && sinks
-            .as_slice()
-            .iter()
-            .enumerate()
-            .all(|(place, sink)| place == *sink as usize)
+    let mut next = 0;
+    for &sink in sinks.as_slice() {
+        if sink != next {
+            return false;
+        }
+        next = next.wrapping_add(1);
+    }
+    next == COUNT
 }
 
-/// Sends what two threads did not, after the sinks that they offered, until all were taken.
-fn bring_the_rest<R: Abort>(
-    rt: &R,
+/// Sends what two threads did not, from this sink on, with a meeting after each step, until all were taken. Answers whether they came
+/// in order, and nothing is left.
+fn bring_the_rest(
     send: &mut SendEnd<ChE, 4, 8>,
     take: &mut TakeEnd<ChE, 4, 8>,
     sinks: &mut ArrayVec<SinkId, 200>,
     offered: SinkId,
-)
+) -> bool
     requires { ArePair send.old take.old }
 {
     let mut next = offered;
     for _ in 0..1_000 {
-        next = send_and_take(send, take, sinks, next);
+        next = send_from(send, next, 1);
+        meet(send, take);
+        take_all(take, sinks, 1);
+        let standing = meet(send, take);
         if sinks.is_full() {
-            break;
+            return in_order(sinks) & (standing == at(0, 0, 0));
         }
     }
-    assert!(*rt; in_order(sinks));
-    assert!(*rt; meet(send, take) == at(0, 0, 0));
+    false
 }
 
 #[test]
@@ -126,8 +129,28 @@ fn two_threads_lose_nothing(rt: HostRuntime) -> Result<(), Fail> {
         &mut || take_all(&mut take, &mut sinks, 1_000_000),
     );
     meet(&mut send, &mut take);
-    bring_the_rest(&rt, &mut send, &mut take, &mut sinks, offered);
+    let is_so = bring_the_rest(&mut send, &mut take, &mut sinks, offered);
+    drop(send);
+    drop(take);
+    assert!(rt; is_so);
     Ok(())
+}
+
+/// Takes what is left, and answers whether all came in order once the receipt says that nothing is.
+fn take_the_rest(
+    take: &mut TakeEnd<ChE, 4, 8>,
+    receipt: &mut Receipt<ChE, 4, 8>,
+    sinks: &mut ArrayVec<SinkId, 200>,
+) -> bool
+    requires { IsReceiptOf receipt.old take.old }
+{
+    for _ in 0..1_000 {
+        if take.drained(receipt) {
+            return in_order(sinks);
+        }
+        take_all(take, sinks, 1);
+    }
+    false
 }
 
 #[test]
@@ -150,13 +173,8 @@ fn a_receipt_goes_from_thread_to_thread(rt: HostRuntime) -> Result<(), Fail> {
         panic!(rt; "no receipt");
     };
     let (mut take, mut sinks) = (take, sinks);
-    for _ in 0..1_000 {
-        if take.drained(&mut receipt) {
-            break;
-        }
-        take_all(&mut take, &mut sinks, 1);
-    }
-    assert!(rt; take.drained(&mut receipt));
-    assert!(rt; in_order(&sinks));
+    let is_so = take_the_rest(&mut take, &mut receipt, &mut sinks);
+    drop(take);
+    assert!(rt; is_so);
     Ok(())
 }

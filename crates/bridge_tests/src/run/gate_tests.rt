@@ -1,9 +1,12 @@
-use crate::run::runs::{Ending, run_text};
-use crate::run::texts::SOURCE_USED_TWICE;
+use crate::five::empty;
+use crate::run::runs::run_short;
+use crate::values::{data, get};
+use std::alloc::{AllocError, Global};
 use std::hint::spin_loop;
 use std::sync::atomic::{AtomicU64, Ordering};
 use std::test::Fail;
 use tl_bridge::Gate;
+use tl_trace::Script;
 
 /// A gate that counts how often it is passed, and waits until the other one was passed as often. It
 /// waits no more once it has waited in vain.
@@ -30,6 +33,20 @@ impl<'a> Gate for Spin<'a> {
     }
 }
 
+/// A source used twice, by two requests and two responses.
+fn use_twice(script: &mut Script<4, 4>) -> Result<(), AllocError> {
+    script.a.extend_from_slice(&[get(1, 0), get(1, 4)])?;
+    script
+        .d
+        .extend_from_slice(&[data(1, 2, 1, [0x11; 4]), data(1, 2, 1, [0x22; 4])])
+}
+
+fn used_twice(alloc: Global) -> Result<Script<4, 4>, AllocError> {
+    let mut script = empty(alloc);
+    use_twice(&mut script)?;
+    Ok(script)
+}
+
 /// Two sides that one thread did in turn would each wait in vain.
 #[test]
 fn both_sides_work_at_the_same_time(rt: HostRuntime) -> Result<(), Fail> {
@@ -45,20 +62,19 @@ fn both_sides_work_at_the_same_time(rt: HostRuntime) -> Result<(), Fail> {
         others: &there,
         missed: false,
     };
-    let ending = run_text::<4, 4, _, _, _>(
+    let script = used_twice(rt.alloc())?;
+    let ended = run_short::<4, 4, _, _, _>(
         &rt,
         rt.alloc(),
-        SOURCE_USED_TWICE,
+        &script,
         1,
         1,
         &mut client,
         &mut manager,
-    )?;
-    let Ending::Same { rounds, .. } = ending else {
-        panic!(rt; "the runs differ");
-    };
-    assert!(rt; !client.missed && !manager.missed);
-    assert!(rt; there.load(Ordering::SeqCst) == rounds);
-    assert!(rt; back.load(Ordering::SeqCst) == rounds);
+    );
+    drop(script);
+    let passed = (there.load(Ordering::SeqCst), back.load(Ordering::SeqCst));
+    assert!(rt; !client.missed & !manager.missed);
+    assert!(rt; matches!(ended, Some((rounds, _)) if passed == (rounds, rounds)));
     Ok(())
 }

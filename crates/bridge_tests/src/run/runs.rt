@@ -1,41 +1,15 @@
-//! The run of a text in two threads, beside its run in one.
+//! The run of a script in two threads, beside its run in one.
 
-ghost use Rattle.std.specs.Prelude.{◌≤◌, IsTrue};
+ghost use Rattle.std.specs.Prelude.{◌≤◌};
 ghost use Rattle.tl_lanes.specs.Lanes.{IsWidth};
 ghost use Rattle.tl_bridge.specs.Scripts.{HasShortLists};
 
+use crate::five::is_short;
 use std::alloc::Global;
-use std::test::Fail;
 use std::thread::Threads;
 use tl_bridge::{Gate, Outcome, RunFault, run_sync, run_threads};
 use tl_lanes::is_width;
-use tl_msg::Verdict;
-use tl_trace::{Script, header_of_text, read_script};
-
-/// How the run of a script in two threads ended, and its run in one over rings of the same size.
-#[derive(Clone, Copy, PartialEq, Eq, Debug)]
-pub enum Ending {
-    /// Both have the same far beats and these verdicts, after so many rounds.
-    Same {
-        verdicts: [Verdict; 5],
-        rounds: u64,
-        sync_rounds: u64,
-    },
-    /// Both were refused with this fault.
-    Refused(RunFault),
-    Different,
-}
-
-/// Whether each list has at most 4,096 beats.
-pub fn is_short<const C: usize, const M: usize>(script: &Script<C, M>) -> bool
-    ensures { IsTrue result → HasShortLists script.now }
-{
-    script.a.len() <= 4096
-        && script.b.len() <= 4096
-        && script.c.len() <= 4096
-        && script.d.len() <= 4096
-        && script.e.len() <= 4096
-}
+use tl_trace::Script;
 
 /// Whether both runs have the same lists and verdicts.
 fn are_same<const C: usize, const M: usize>(one: &Outcome<C, M>, other: &Outcome<C, M>) -> bool
@@ -50,26 +24,21 @@ fn are_same<const C: usize, const M: usize>(one: &Outcome<C, M>, other: &Outcome
         && one.verdicts == other.verdicts
 }
 
-/// What two runs of one script came to.
-fn ending_of<const C: usize, const M: usize>(
+/// The rounds of two runs of one script, if both have the same lists and verdicts.
+fn rounds_of<const C: usize, const M: usize>(
     threads: &Result<Outcome<C, M>, RunFault>,
     sync: &Result<Outcome<C, M>, RunFault>,
-) -> Ending
+) -> Option<(u64, u64)>
     requires client { IsWidth C }
     requires manager { IsWidth M }
 {
     match (threads, sync) {
-        (Ok(threads), Ok(sync)) if are_same(threads, sync) => Ending::Same {
-            verdicts: threads.verdicts,
-            rounds: threads.rounds,
-            sync_rounds: sync.rounds,
-        },
-        (Err(threads), Err(sync)) if threads == sync => Ending::Refused(*threads),
-        _ => Ending::Different,
+        (Ok(threads), Ok(sync)) if are_same(threads, sync) => Some((threads.rounds, sync.rounds)),
+        _ => None,
     }
 }
 
-/// Both runs of a script.
+/// Both runs of a script over rings of the same size: the rounds in two threads and in one, if both end alike.
 fn run_both<const C: usize, const M: usize, R: Threads, G: Gate + Send, H: Gate + Send>(
     rt: &R,
     alloc: Global,
@@ -78,7 +47,7 @@ fn run_both<const C: usize, const M: usize, R: Threads, G: Gate + Send, H: Gate 
     turns: usize,
     client_gate: &mut G,
     manager_gate: &mut H,
-) -> Ending
+) -> Option<(u64, u64)>
     requires client { IsWidth C }
     requires manager { IsWidth M }
     requires short { HasShortLists script.now }
@@ -94,31 +63,24 @@ fn run_both<const C: usize, const M: usize, R: Threads, G: Gate + Send, H: Gate 
         manager_gate,
     );
     let sync = run_sync::<C, M>(alloc, script, ring);
-    ending_of(&threads, &sync)
+    rounds_of(&threads, &sync)
 }
 
-/// Both runs of the script that a text of these widths tells, with no list of more than 4,096 beats.
-pub fn run_text<const C: usize, const M: usize, R: Threads, G: Gate + Send, H: Gate + Send>(
+/// The same of a script with no list of more than 4,096 beats.
+pub fn run_short<const C: usize, const M: usize, R: Threads, G: Gate + Send, H: Gate + Send>(
     rt: &R,
     alloc: Global,
-    text: &str,
+    script: &Script<C, M>,
     ring: usize,
     turns: usize,
     client_gate: &mut G,
     manager_gate: &mut H,
-) -> Result<Ending, Fail> {
+) -> Option<(u64, u64)> {
     if !is_width(C) || !is_width(M) || turns == 0 {
-        return Err(Fail::from("no widths, or no turns"));
+        return None;
     }
-    let Some(header) = header_of_text(text.as_bytes()) else {
-        return Err(Fail::from("no header"));
-    };
-    if header.client != C || header.manager != M {
-        return Err(Fail::from("a header of other widths"));
+    if !is_short(script) {
+        return None;
     }
-    let script = read_script::<C, M>(alloc, text.as_bytes(), header.version)?;
-    if !is_short(&script) {
-        return Err(Fail::from("a long script"));
-    }
-    Ok(run_both(rt, alloc, &script, ring, turns, client_gate, manager_gate))
+    run_both(rt, alloc, script, ring, turns, client_gate, manager_gate)
 }

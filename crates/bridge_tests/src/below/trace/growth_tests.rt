@@ -1,49 +1,59 @@
 //! What each call answers where a growth is refused: its own want of memory, which is then the answer of the test too,
 //! and what was lent to it is as it was. `bench/refusals` refuses each growth in turn. Where none is refused, the tests
 //! pass.
-#![tactic(auto, using(tl_lanes::proofs::Widths::width_4))]
+#![tactic(auto, using(tl_lanes::proofs::Widths::width_4, tl_lanes::proofs::Widths::width_8))]
 
-use crate::below::trace::five::{
-    FIVE, HEADS, has_heads, is_script_of, is_written_as, script_made, script_read,
-};
+use crate::five::{FIVE, has_one_each, script_of_five};
+use crate::values::ack;
 use std::alloc::Global;
 use std::test::Fail;
-use tl_msg::{BeatOf, ChE, HeadE, Verdict};
-use tl_trace::{OutOfMemory, Trace, read, write_far, write_report};
+use tl_msg::{ChE, SideFault, Verdict};
+use tl_trace::{OutOfMemory, Trace, read, script_of, write_far, write_report, write_trace};
 
-#[test]
-fn read_script_wants_memory(rt: HostRuntime) -> Result<(), Fail> {
-    assert!(rt; is_script_of(&script_read(rt.alloc(), FIVE)?, &HEADS));
-    Ok(())
-}
-
-/// The trace of [`FIVE`].
-fn trace_read(alloc: Global) -> Result<Trace, Fail> {
-    match read(alloc, FIVE) {
-        Ok(trace) => Ok(trace),
+/// Whether the text was read, or else its want of memory.
+fn is_read(alloc: Global) -> Result<bool, Fail> {
+    match script_of_five(alloc) {
+        Ok(script) => Ok(has_one_each(&script)),
         Err(fault) => Err(Fail::new(fault)),
     }
 }
 
-/// Whether a trace is made into its script, and is as it was.
+#[test]
+fn read_script_wants_memory(rt: HostRuntime) -> Result<(), Fail> {
+    assert!(rt; is_read(rt.alloc())?);
+    Ok(())
+}
+
+/// Whether a trace is made into its script.
 fn is_made(alloc: Global, trace: &Trace) -> Result<bool, Fail> {
-    let made = script_made(alloc, trace);
-    let is_same = has_heads(trace, 1, &HEADS);
-    Ok(is_script_of(&made?, &HEADS) && is_same)
+    if trace.client != 4 || trace.manager != 8 {
+        return Ok(false);
+    }
+    match script_of::<4, 8>(alloc, trace) {
+        Ok(script) => Ok(has_one_each(&script)),
+        Err(fault) => Err(Fail::new(fault)),
+    }
 }
 
-/// Whether a trace is written as its text, and is as it was.
-fn is_written(alloc: Global, trace: &Trace) -> Result<bool, Fail> {
-    let written = is_written_as(alloc, trace, FIVE);
-    let is_same = has_heads(trace, 1, &HEADS);
-    Ok(written? && is_same)
+/// Whether a trace is written as this text.
+pub fn is_written_as(alloc: Global, trace: &Trace, text: &[u8]) -> Result<bool, Fail> {
+    match write_trace(alloc, trace) {
+        Ok(written) => Ok(written.as_slice() == text),
+        Err(fault) => Err(Fail::new(fault)),
+    }
 }
 
-/// Whether the trace was read, is made into its script and is written as its text.
+/// Whether a trace is made into its script, and written as its text.
+fn is_made_and_written(alloc: Global, trace: &Trace) -> Result<bool, Fail> {
+    Ok(is_made(alloc, trace)? & is_written_as(alloc, trace, FIVE.as_bytes())?)
+}
+
+/// Whether it was read, and that.
 fn is_read_made_and_written(alloc: Global) -> Result<bool, Fail> {
-    let trace = trace_read(alloc)?;
-    let is_read = has_heads(&trace, 1, &HEADS);
-    Ok(is_read & is_made(alloc, &trace)? & is_written(alloc, &trace)?)
+    match read(alloc, FIVE.as_bytes()) {
+        Ok(trace) => is_made_and_written(alloc, &trace),
+        Err(fault) => Err(Fail::new(fault)),
+    }
 }
 
 /// Those of `read`, then those of `script_of`, and then those of `write_trace`.
@@ -52,14 +62,6 @@ fn a_trace_wants_memory(rt: HostRuntime) -> Result<(), Fail> {
     assert!(rt; is_read_made_and_written(rt.alloc())?);
     Ok(())
 }
-
-/// GrantAck of sink 7.
-const ACK: BeatOf<HeadE, 4> = BeatOf {
-    head: HeadE { sink: 7 },
-    mask: 0,
-    lanes: [0; 4],
-    corrupt: false,
-};
 
 /// What a test answers of a call that writes behind what stood there: whether this text stands there then, or its want of
 /// memory, where all is as it was.
@@ -73,8 +75,8 @@ fn judged(ended: Result<(), OutOfMemory>, out: &[u8], text: &[u8]) -> Result<boo
 
 /// Writes three lines.
 fn three_are_written(out: &mut Vec<u8>) -> Result<bool, Fail> {
-    let ended = write_far::<ChE, 4>(out, &[ACK; 3], 1);
-    judged(ended, out, b"before E 07\nE 07\nE 07\n")
+    let ended = write_far::<ChE, 4>(out, &[ack(7), ack(8), ack(9)], 1);
+    judged(ended, out, b"before E 07\nE 08\nE 09\n")
 }
 
 #[test]
@@ -84,10 +86,16 @@ fn write_far_wants_memory(rt: HostRuntime) -> Result<(), Fail> {
     Ok(())
 }
 
+/// A verdict on a source in use.
+const WAITING: Verdict = Verdict::Waiting {
+    at: 3,
+    fault: SideFault::SourceBusy,
+};
+
 /// Writes a verdict.
 fn is_reported(out: &mut Vec<u8>) -> Result<bool, Fail> {
-    let ended = write_report(out, b'A', &Verdict::Cut { near: 3, far: 1 });
-    judged(ended, out, b"before = A cut 3 1\n")
+    let ended = write_report(out, b'A', &WAITING);
+    judged(ended, out, b"before = A waiting 3 SourceBusy\n")
 }
 
 #[test]
