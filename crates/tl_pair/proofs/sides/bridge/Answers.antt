@@ -3,9 +3,9 @@ use Rattle.std.proofs.lemmas.Bool.{false≢true}
 use contract.BorrowLft.{◌⊑◌}
 use prog.Memory.{up}
 use Rattle.tl_lanes.specs.Lanes.{IsWidth}
-use Rattle.tl_ring.proofs.FieldSizes.{part_small, inner_small, beat_small, mask_bytes}
+use Rattle.tl_ring.proofs.FieldSizes.{part_small, beat_small, mask_bytes}
 use Rattle.tl_pair.proofs.Layouts.{client_layout, manager_layout}
-use Rattle.tl_pair.proofs.NewEnds.{pair_over, none_taken, all_free, idle}
+use Rattle.tl_pair.proofs.NewEnds.{pair_over, all_free, idle}
 use Rattle.tl_pair.proofs.sides.bridge.Goals as goal
 
 -- a half of a ring that is dropped owes that its beats fit in memory
