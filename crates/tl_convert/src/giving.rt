@@ -7,7 +7,7 @@ ghost use Rattle.tl_msg.specs.declared.beat.BeatOf.{BeatOf};
 ghost use Rattle.tl_burst.specs.Messages.{layout};
 ghost use Rattle.tl_convert.specs.Inner.Giving.{Run, Given, GivenData, CanGive, of_head};
 
-use crate::pouring::{blank, pour};
+use crate::pouring::{blank, pour_part, pour_whole};
 use arrayvec::ArrayVec;
 use tl_lanes::{WIDEST, active, beat_bytes};
 use tl_msg::{Beat, Channel};
@@ -28,8 +28,14 @@ fn give_data<K: Channel, const W: usize, const V: usize>(
     if index == 0 {
         *partial = blank::<K, V>(beat.head);
     }
-    let first = index as usize * beat_bytes(K::size(&beat.head), W);
-    pour::<K, W, V>(beat, partial, home, first, out);
+    let size = K::size(&beat.head);
+    let near = beat_bytes(size, W);
+    let first = index as usize * near;
+    if beat_bytes(size, V) <= near {
+        pour_whole::<K, W, V>(beat, partial, home, first, out);
+    } else {
+        pour_part::<K, W, V>(beat, partial, home, first, out);
+    }
 }
 
 // Gives the far beat of a message without data.

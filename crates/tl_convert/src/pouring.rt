@@ -43,7 +43,7 @@ pub(crate) fn blank<K: Channel, const V: usize>(head: K::Head) -> Beat<K, V>
 // has no more bytes than a near one. `first` is the number of the beat's first byte in its message.
 // No far beat is begun, so `partial` is blank, and each far beat begins as a copy of it, which is
 // filled where it stands: a beat that is put together in pieces is slow to copy at once.
-fn pour_whole<K: Channel, const W: usize, const V: usize>(
+pub(crate) fn pour_whole<K: Channel, const W: usize, const V: usize>(
     beat: &Beat<K, W>,
     partial: &Beat<K, V>,
     home: u64,
@@ -69,7 +69,7 @@ fn pour_whole<K: Channel, const W: usize, const V: usize>(
 // Puts the bytes of a near beat with data beside those of `partial`, the far beat that earlier
 // beats have begun: a far beat has more bytes than a near one. `first` is the number of the beat's
 // first byte in its message. A far beat that becomes whole goes to `out`.
-fn pour_part<K: Channel, const W: usize, const V: usize>(
+pub(crate) fn pour_part<K: Channel, const W: usize, const V: usize>(
     beat: &Beat<K, W>,
     partial: &mut Beat<K, V>,
     home: u64,
@@ -93,27 +93,4 @@ fn pour_part<K: Channel, const W: usize, const V: usize>(
     let far = &mut out.as_mut_slice()[0];
     add_bytes::<K, W, V>(beat, far, at, near);
     *partial = blank::<K, V>(beat.head);
-}
-
-// Puts the bytes of a near beat with data into far beats. `first` is the number of the beat's first
-// byte in its message, and `partial` the far beat that earlier beats have begun. Far beats that
-// become whole go to `out`.
-pub(crate) fn pour<K: Channel, const W: usize, const V: usize>(
-    beat: &Beat<K, W>,
-    partial: &mut Beat<K, V>,
-    home: u64,
-    first: usize,
-    out: &mut ArrayVec<Beat<K, V>, WIDEST>,
-)
-    requires { CanPour K.rules beat.now first out.old.items }
-    ensures { (m : Message K.Head) → Source K.rules m home first beat.now →
-        Pours K.rules m V first first partial.old [] →
-        Pours K.rules m V first (first + per_beat K.rules m.head W) partial.new out.new.items }
-{
-    let size = K::size(&beat.head);
-    if beat_bytes(size, V) <= beat_bytes(size, W) {
-        pour_whole::<K, W, V>(beat, partial, home, first, out);
-    } else {
-        pour_part::<K, W, V>(beat, partial, home, first, out);
-    }
 }

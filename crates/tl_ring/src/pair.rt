@@ -18,36 +18,33 @@ use std::alloc::Allocator;
 use tl_convert::Converter;
 use tl_msg::Channel;
 
-// Looks at a ring from both its ends, and answers how many items it holds. It is generic in the item, since such a call takes the
+// Looks at a ring from both its ends, and answers where the items stand. It is generic in the item, since such a call takes the
 // checker far less time than one that is generic in the channel and asks for a pair.
 fn look<T, A: Allocator, P: Protocol<T>>(
     producer: &mut Producer<T, A, P>,
     consumer: &mut Consumer<T, A, P>,
-) -> usize
+    stage: &Queue<T>,
+    inbox: &Queue<T>,
+) -> Standing
     requires { rtrb.IsPair producer.old consumer.old }
     ensures producer { rtrb.ProducerLooked producer.old producer.new }
     ensures consumer { rtrb.ConsumerLooked consumer.old consumer.new }
-    ensures count { result ≡ length (rtrb.known_items consumer.new) }
+    ensures staged { result.staged ≡ length stage.now }
+    ensures in_ring { result.in_ring ≡ length (rtrb.known_items consumer.new) }
+    ensures inbox { result.inbox ≡ length inbox.now }
+    ensures most { (result.staged ≤ ROOM) × (result.inbox ≤ ROOM) }
     ensures fifo { rtrb.received consumer.new ++ rtrb.known_items consumer.new ≡
         rtrb.sent producer.new }
     // each place that holds no item is known to be free, and no more items than places are there
-    ensures places { (result ≤ rtrb.producer_capacity producer.old) ×
-        (rtrb.producer_capacity producer.old ≤ rtrb.known_free producer.new + result) }
+    ensures places { (result.in_ring ≤ rtrb.producer_capacity producer.old) ×
+        (rtrb.producer_capacity producer.old ≤ rtrb.known_free producer.new + result.in_ring) }
 {
     producer.slots_beside(consumer);
-    consumer.slots_beside(producer)
-}
-
-// Looks at the ring from both ends, and answers where the beats stand. This is no function, for the same reason.
-macro_rules! met {
-    ($send:expr, $take:expr) => {{
-        let in_ring = look(&mut $send.producer, &mut $take.consumer);
-        Standing {
-            staged: $send.stage.len(),
-            in_ring,
-            inbox: $take.inbox.len(),
-        }
-    }};
+    Standing {
+        staged: stage.len(),
+        in_ring: consumer.slots_beside(producer),
+        inbox: inbox.len(),
+    }
 }
 
 /// The two ends of one channel's crossing, over a ring of `ring` beats, the only memory that is
@@ -101,7 +98,12 @@ pub fn meet<K: Channel, const W: usize, const V: usize, A: Allocator>(
         Sends K.rules send.old x → Takes take.old taken →
         Meets K.rules send.new take.new x taken }
 {
-    met!(send, take)
+    look(
+        &mut send.producer,
+        &mut take.consumer,
+        &send.stage,
+        &take.inbox,
+    )
 }
 
 /// [`meet`] for a sending end that is closed.
@@ -120,5 +122,10 @@ pub fn meet_closing<K: Channel, const W: usize, const V: usize, A: Allocator>(
         Sends K.rules send.old x → Takes take.old taken →
         Meets K.rules send.new take.new x taken }
 {
-    met!(send.end, take)
+    look(
+        &mut send.end.producer,
+        &mut take.consumer,
+        &send.end.stage,
+        &take.inbox,
+    )
 }

@@ -12,8 +12,17 @@ returns-clause-producer g c = producer_twice c.args.producer.now c.slots_beside.
 pub returns-clause-consumer : goal.returns-clause-consumer
 returns-clause-consumer g c = consumer_twice c.args.consumer.now c.slots_beside.new.consumer c.slots_beside-2.new.self c.slots_beside.ensures.consumer c.slots_beside-2.ensures.looked
 
-pub returns-clause-count : goal.returns-clause-count
-returns-clause-count g c = c.slots_beside-2.ensures.value
+pub returns-clause-staged : goal.returns-clause-staged
+returns-clause-staged g c = c.len.ensures.value
+
+pub returns-clause-in_ring : goal.returns-clause-in_ring
+returns-clause-in_ring g c = c.slots_beside-2.ensures.value
+
+pub returns-clause-inbox : goal.returns-clause-inbox
+returns-clause-inbox g c = c.len-2.ensures.value
+
+pub returns-clause-most : goal.returns-clause-most
+returns-clause-most g c = (c.len.ensures.within, c.len-2.ensures.within)
 
 pub returns-clause-fifo : goal.returns-clause-fifo
 returns-clause-fifo g c = c.slots_beside-2.ensures.fifo

@@ -1,34 +1,27 @@
 use Rattle.std.proofs.Common.{◌≤◌, true, false, length, arith}
 use denote.Memory.{lone}
 use denote.Param.{layout, param, number, copied}
-use Rattle.tl_ring.specs.contracts.ends.ClosingEnd as send
 use Rattle.tl_ring.specs.contracts.ends.TakeEnd as take
 use Rattle.tl_ring.specs.declared.queue.TheConstants.{ROOM}
 use Rattle.tl_ring.proofs.EndSteps.{met_of, met_alike, meets_of}
-use Rattle.tl_ring.proofs.FieldSizes.{part_small, inner_small, beat_in_queue}
+use Rattle.tl_ring.proofs.FieldSizes.{part_small, beat_in_queue}
 use Rattle.tl_ring.proofs.pair.meet_closing.Goals as goal
 
-pub look-in_ring-requires : goal.look-in_ring-requires
-look-in_ring-requires g c =
-    let both = rw (← c.send.view_is, ← c.take.view_is) at c.requires in
-    rw (← c.send-inside.view_is) at both
+pub look-requires-room-P-Protocol : goal.look-requires-room-P-Protocol
+look-requires-room-P-Protocol g c κs within = omega arith
 
-pub look-in_ring-requires-room-P-Protocol : goal.look-in_ring-requires-room-P-Protocol
-look-in_ring-requires-room-P-Protocol g c κs within = omega arith
-
-pub look-in_ring-requires-room-P-Protocol-2 : goal.look-in_ring-requires-room-P-Protocol-2
-look-in_ring-requires-room-P-Protocol-2 g c κs within =
+pub look-requires-room-P-Protocol-2 : goal.look-requires-room-P-Protocol-2
+look-requires-room-P-Protocol-2 g c κs within =
     beat_in_queue (lone g.row.K-Head.mir) (layout g.row.K-Head) g.row.V 9223372036854775808
-    (search (part_small (layout (take.the_row (param 0 g.row.K) (param 1 (number g.row.W)) (param 2 (number g.row.V)) (param 3 g.row.A) (copied 4 g.row.K-Head)
-    g.K.Channel g.K.Head.Clone g.K.Head.Eq g.K.Head.PartialEq g.K.Head.Default g.A.Allocator)) 0 9223372036854775808))
+    (part_small (layout (take.the_row (param 0 g.row.K) (param 1 (number g.row.W)) (param 2 (number g.row.V)) (param 3 g.row.A) (copied 4 g.row.K-Head)
+    g.K.Channel g.K.Head.Clone g.K.Head.Eq g.K.Head.PartialEq g.K.Head.Default g.A.Allocator)) 0 9223372036854775808 c.requires-raw.1.1.1.1.1.1.0)
 
-pub len-requires : goal.len-requires
-len-requires g c = let known = c.requires-raw in let c = known in search (inner_small (layout (send.the_row (param 0 g.row.K) (param 1 (number g.row.W)) (param 2 (number g.row.V)) (param 3 g.row.A) (copied 4 g.row.K-Head)
-    g.K.Channel g.K.Head.Clone g.K.Head.Eq g.K.Head.PartialEq g.K.Head.Default g.A.Allocator)) 0 1 9223372036854775808)
-
-pub len-requires-2 : goal.len-requires-2
-len-requires-2 g c = let known = c.requires-raw in let c = known in search (part_small (layout (take.the_row (param 0 g.row.K) (param 1 (number g.row.W)) (param 2 (number g.row.V)) (param 3 g.row.A) (copied 4 g.row.K-Head)
-    g.K.Channel g.K.Head.Clone g.K.Head.Eq g.K.Head.PartialEq g.K.Head.Default g.A.Allocator)) 0 9223372036854775808)
+pub look-requires : goal.look-requires
+look-requires g c =
+    let inbox = part_small (layout (take.the_row (param 0 g.row.K) (param 1 (number g.row.W)) (param 2 (number g.row.V)) (param 3 g.row.A) (copied 4 g.row.K-Head)
+    g.K.Channel g.K.Head.Clone g.K.Head.Eq g.K.Head.PartialEq g.K.Head.Default g.A.Allocator)) 0 9223372036854775808 c.requires-raw.1.1.1.1.1.1.0 in
+    let both = rw (← c.send.view_is, ← c.take.view_is) at c.requires in
+    (inbox, rw (← c.send-inside.view_is) at both)
 
 -- no beat moves
 pub invariant_of-send-inside : goal.invariant_of-send-inside
@@ -39,25 +32,25 @@ invariant_of-take g c = c.take.invariant
 
 pub returns-clause-met : goal.returns-clause-met
 returns-clause-met g c =
-    let seen = c.look-in_ring in
+    let seen = c.look in
     let both = rw (← c.send.view_is, ← c.take.view_is) at c.requires in
     let pair = rw (← c.send-inside.view_is) at both in
     rw (← c.send.view_is, ← c.take.view_is) (rw (← c.send-inside.view_is) (met_alike true (record { converter = c.send-inside.inside.0.0.converter; stage = c.send-inside.inside.0.0.stage; producer = c.send-inside.inside.0.0.producer; closed = false }) _ _ _
-    (met_of _ _ seen.new.producer seen.new.consumer seen.result pair seen.ensures.producer seen.ensures.consumer seen.ensures.count seen.ensures.fifo seen.ensures.places)))
+    (met_of _ _ seen.new.producer seen.new.consumer seen.result.in_ring pair seen.ensures.producer seen.ensures.consumer seen.ensures.in_ring seen.ensures.fifo seen.ensures.places)))
 
 pub returns-clause-staged : goal.returns-clause-staged
-returns-clause-staged g c = c.len.ensures.value
+returns-clause-staged g c = c.look.ensures.staged
 
 pub returns-clause-in_ring : goal.returns-clause-in_ring
-returns-clause-in_ring g c = c.look-in_ring.ensures.count
+returns-clause-in_ring g c = c.look.ensures.in_ring
 
 pub returns-clause-inbox : goal.returns-clause-inbox
-returns-clause-inbox g c = c.len-2.ensures.value
+returns-clause-inbox g c = c.look.ensures.inbox
 
 pub returns-clause-most : goal.returns-clause-most
-returns-clause-most g c = (c.len.ensures.within, c.len-2.ensures.within)
+returns-clause-most g c = c.look.ensures.most
 
 pub returns-clause-meets : goal.returns-clause-meets
 returns-clause-meets g c = λ x taken sends takes.
-    let held : length c.take.inside.inbox ≤ ROOM = omega (arith, c.len-2.ensures.value, c.len-2.ensures.within) in
+    let held : length c.take.inside.inbox ≤ ROOM = omega (arith, c.look.ensures.inbox, c.look.ensures.most) in
     meets_of g.K.Channel.rules _ _ _ _ x taken (returns-clause-met g c) held sends takes

@@ -21,26 +21,33 @@ whole_as_front-pop_partial_slice g c = (
       g.K.Channel g.K.Head.Clone g.K.Head.Eq g.K.Head.PartialEq g.K.Head.Default g.A.Allocator)) 2 9223372036854775808 c.requires-raw.1.1.1.1.1),
 )
 
+-- what was popped lies in the part that was lent, which is as long as the room
+inside-of : (g : _) (c : goal.After-append g) → c.pop_partial_slice-count.result ≤ length c.pop_partial_slice-count.new.slice
+inside-of g c = search rules
+
+size-of : (g : _) (c : goal.After-append g) → length c.pop_partial_slice-count.new.slice ≡ c.room-room.result
+size-of g c = search rules
+
 -- what was popped is lawful by the ring's protocol
 pub invariant_of-self : goal.invariant_of-self
 invariant_of-self g c =
     let p = c.pop_partial_slice-count in
-    let inside : p.result ≤ length p.new.slice = search rules in
+    let inside = inside-of g c in
     rw c.append.ensures (All-append (λ b. IsLawfulBeat g.K.Channel.rules b) _ _ c.self.invariant
     (all_front (λ b. IsLawfulBeat g.K.Channel.rules b) _ _ _ inside (all_allowed (λ b. IsLawfulBeat g.K.Channel.rules b) _ _ p.ensures.allowed)))
 
 pub returns-clause-least : goal.returns-clause-least
 returns-clause-least g c =
     let p = c.pop_partial_slice-count in
-    let inside : p.result ≤ length p.new.slice = search rules in
-    let size : length p.new.slice ≡ c.room-room.result = search rules in
+    let inside = inside-of g c in
+    let size = size-of g c in
     rw (← c.self.view_is, ← c.room-room.ensures.value)
     (least_moved _ _ _ p.result c.room-room.result p.ensures.known (front_size p.result p.new.slice inside) (λ short. p.ensures.most (search rules)))
 
 pub returns-clause-fetched : goal.returns-clause-fetched
 returns-clause-fetched g c =
     let p = c.pop_partial_slice-count in
-    let inside : p.result ≤ length p.new.slice = search rules in
+    let inside = inside-of g c in
     rw (← c.self.view_is)
     (fetched_of _ _ c.append.new.self _ p.result p.ensures.ring (front_size p.result p.new.slice inside)
     (c.append.ensures ∙ front_of _ p.result p.new.slice _ inside) p.ensures.received.1 p.ensures.known)
@@ -51,8 +58,8 @@ returns-clause-takes g c = λ taken takes. takes_fetched _ _ _ (returns-clause-f
 pub returns-clause-most : goal.returns-clause-most
 returns-clause-most g c =
     let p = c.pop_partial_slice-count in
-    let inside : p.result ≤ length p.new.slice = search rules in
-    let size : length p.new.slice ≡ c.room-room.result = search rules in
+    let inside = inside-of g c in
+    let size = size-of g c in
     rw (← c.self.view_is) (omega (arith, inside, size, c.room-room.ensures.value))
 
 pub pop_partial_slice-count-requires : goal.pop_partial_slice-count-requires
