@@ -93,17 +93,11 @@ same-parts v0 v1 v2 v3 v4 v5 v6 v7 v8 v9 v10 a b c d e = omega arith
 
 module _ {A : Type 0} {C M : ℕ} where
   -- a side with the ends of another one
-  pub client-ends : (s t u : ClientState A C M) → SameClientEnds s t → u ≡ t → SameClientEnds s u
-  client-ends s t u h e = subst (λ q. SameClientEnds s q) (sym e) h
-
   pub client-ends-same : (s : ClientState A C M) → SameClientEnds s s
   client-ends-same s = record { a = refl; b = refl; c = refl; d = refl; e = refl }
 
   pub client-ends-then : (s t u : ClientState A C M) → SameClientEnds s t → SameClientEnds t u → SameClientEnds s u
   client-ends-then s t u f g = record { a = g.a ∙ f.a; b = g.b ∙ f.b; c = g.c ∙ f.c; d = g.d ∙ f.d; e = g.e ∙ f.e }
-
-  pub manager-ends : (s t u : ManagerState A C M) → SameManagerEnds s t → u ≡ t → SameManagerEnds s u
-  manager-ends s t u h e = subst (λ q. SameManagerEnds s q) (sym e) h
 
   pub manager-ends-same : (s : ManagerState A C M) → SameManagerEnds s s
   manager-ends-same s = record { a = refl; b = refl; c = refl; d = refl; e = refl }

@@ -37,12 +37,7 @@ impl<const C: usize, const M: usize> ClientRun<C, M> {
         requires { AreWidths C M }
         ensures { result ≡ (self.entry.far_b, self.entry.far_d) }
     {
-        let ClientRun {
-            side: _,
-            far_b,
-            far_d,
-        } = self;
-        (far_b, far_d)
+        (self.far_b, self.far_d)
     }
 }
 

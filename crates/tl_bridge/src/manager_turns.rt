@@ -39,13 +39,7 @@ impl<const C: usize, const M: usize> ManagerRun<C, M> {
         requires { AreWidths C M }
         ensures { result ≡ (self.entry.far_a, self.entry.far_c, self.entry.far_e) }
     {
-        let ManagerRun {
-            side: _,
-            far_a,
-            far_c,
-            far_e,
-        } = self;
-        (far_a, far_c, far_e)
+        (self.far_a, self.far_c, self.far_e)
     }
 }
 

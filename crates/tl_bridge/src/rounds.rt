@@ -175,16 +175,22 @@ pub(crate) fn run_rounds<F: Arrivals<C, M>, const C: usize, const M: usize>(
     }
 }
 
-// The outcome of a run that has ended, with these lists.
+// The outcome of a run with these lists, where it has ended.
 pub(crate) fn outcome_of<const C: usize, const M: usize>(
-    end: End,
+    ended: Result<End, RunFault>,
     far: Taken<C, M>,
-) -> Outcome<C, M>
+) -> Result<Outcome<C, M>, RunFault>
     requires { AreWidths C M }
-    ensures { (near : Beats C M) (s : Bridge C M) →
-        HasEnded near end.at (beats_of far.entry) s end.stops end.rounds →
-        EndsIn near result }
+    ensures outcome { (near : Beats C M) (s : Bridge C M) →
+        IfOk ended (λ end. HasEnded near end.at (beats_of far.entry) s end.stops end.rounds) →
+        IfOk result (EndsIn near) }
+    ensures memory { IfErr ended (λ fault. fault ≡ OutOfMemory) →
+        IfErr result (λ fault. fault ≡ OutOfMemory) }
 {
+    let end = match ended {
+        Ok(end) => end,
+        Err(fault) => return Err(fault),
+    };
     let taken = PerChannel {
         a: far.a.len(),
         b: far.b.len(),
@@ -192,5 +198,5 @@ pub(crate) fn outcome_of<const C: usize, const M: usize>(
         d: far.d.len(),
         e: far.e.len(),
     };
-    far.into_outcome(ending_of(&end.at, &end.stops, end.rounds, &taken))
+    Ok(far.into_outcome(ending_of(&end.at, &end.stops, end.rounds, &taken)))
 }

@@ -82,10 +82,7 @@ pub fn run_threads<R: Threads, G: Gate + Send, H: Gate + Send, const C: usize, c
     );
     let (b, d) = client.into_lists();
     let (a, c, e) = manager.into_lists();
-    match ended {
-        Ok(end) => Ok(outcome_of(end, Taken { a, b, c, d, e })),
-        Err(fault) => Err(fault),
-    }
+    outcome_of(ended, Taken { a, b, c, d, e })
 }
 
 // The rounds of a run over two new sides, which get lists with room for all far beats.
