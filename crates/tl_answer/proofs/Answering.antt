@@ -3,6 +3,9 @@ use Rattle.std.specs.Prelude.{Result, Ok, Err, IfOk}
 use Rattle.std.proofs.Common.{◌≡◌, ℕ, Bool, true, false, List, [], ◌∷◌, ◌++◌, length, refl, sym, ap, subst, ◌∙◌, append-nil, arith}
 use Rattle.std.specs.List.{list_all}
 use Rattle.tl_msg.specs.declared.verdict.Verdict.{Verdict}
+use Rattle.tl_order.specs.Orders.{is_check, is_sync}
+use Rattle.tl_order.specs.declared.Order.{Order}
+use Rattle.tl_order.specs.declared.Order.TheVariants.{Run, Check}
 use Rattle.tl_settle.specs.Outcomes.{Beats, far_beats, verdicts}
 use Rattle.tl_bridge.specs.Scripts.{EndsIn, near_beats}
 use Rattle.tl_bridge.specs.declared.outcome.Outcome.{Outcome}
@@ -34,6 +37,11 @@ pub of-run : {C M : ℕ} (version : ℕ) (bs : Beats C M) (outcome : Outcome C M
 of-run {C} {M} version bs outcome h =
     ap (λ far. far_header version C M ++ far_lines version far ++ report outcome.verdicts) (taken-is bs outcome h) ∙
     ap (λ vs. far_header version C M ++ far_lines version (far_beats bs) ++ report vs) h.verdicts_are
+
+-- an order that takes two threads is no check
+pub threads-run : (order : Order) → false ≡ is_sync order → false ≡ is_check order
+threads-run (Run ring turns sync) threads = refl
+threads-run Check threads = absurd cc
 
 -- what is written of what the near beats of a trace end in is the answer to a text that tells it
 module _ (version C M : ℕ) (lines : List Line) (text : List ℕ) (told : Tells text version C M lines) where

@@ -29,7 +29,6 @@ place_text None = []
 abbrev pub fault_words : TextFault → List ℕ
 fault_words fault = place_text (text_fault_line fault) ++ decimal (text_fault_number fault) ++ codes " " ++ text_fault_name fault
 
--- the line on standard error, with its end: the program's name, the line of a trace's fault, the fault's number and name
+-- the line on standard error, with its end: the program's name, and the words of the fault
 abbrev pub fault_text : (program : List ℕ) → TextFault → List ℕ
-fault_text program fault =
-    program ++ (codes ": " ++ place_text (text_fault_line fault) ++ decimal (text_fault_number fault) ++ codes " " ++ text_fault_name fault ++ newline)
+fault_text program fault = program ++ (codes ": " ++ fault_words fault ++ newline)

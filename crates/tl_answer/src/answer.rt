@@ -24,7 +24,6 @@ use std::alloc::{AllocError, Global};
 use std::io::Read;
 use std::thread::Threads;
 use tl_bridge::{NoGate, Outcome, RunFault, run_threads};
-use tl_check::verdicts_of;
 use tl_msg::{ChA, ChB, ChC, ChD, ChE, Verdict};
 use tl_order::Order;
 use tl_trace::{
@@ -149,25 +148,6 @@ pub fn check_of(
     reported(line, verdicts)
 }
 
-/// The answer of a check to a script: no far beat is made for it.
-pub(crate) fn check_script<const C: usize, const M: usize>(
-    alloc: Global,
-    script: &Script<C, M>,
-    version: u8,
-) -> Result<Answer, TextFault>
-    requires { CanCross script.now }
-    ensures text { IfOk result (λ made. made.text.items
-        ≡ far_header version C M ++ report (verdicts (near_beats script.now))) }
-    ensures done { IfOk result (λ made. made.all_done
-        ≡ list_all is_done (verdicts (near_beats script.now))) }
-    ensures err { IfErr result (λ fault. fault ≡ NoMemory) }
-{
-    let Ok(verdicts) = verdicts_of::<C, M>(alloc, script) else {
-        return Err(TextFault::OutOfMemory);
-    };
-    check_of(alloc, &verdicts, version, C, M)
-}
-
 /// The answer that the outcome of a run makes: the version of the trace and the widths, the far
 /// beats, and the five report lines.
 pub fn answer_of<const C: usize, const M: usize>(
@@ -229,13 +209,8 @@ fn answer_script<T: Threads, const C: usize, const M: usize>(
         ≡ list_all is_done (verdicts (near_beats script.entry))) }
     ensures err { IfErr result (λ fault. fault ≡ NoMemory) }
 {
-    if order.is_check() {
-        let answer = check_script::<C, M>(alloc, &script, version);
-        drop(script);
-        return Ok(AnswerParts::of(alloc, answer?));
-    }
     if order.is_sync() {
-        return sync_answer_of::<C, M>(alloc, script, version, order.ring());
+        return sync_answer_of::<C, M>(alloc, script, version, order.is_check(), order.ring());
     }
     threads_answer_of::<T, C, M>(rt, alloc, script, version, order)
 }

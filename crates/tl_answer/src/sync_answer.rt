@@ -1,33 +1,53 @@
 //! The answer to a text that the caller keeps, with both sides of the bridge in one thread.
-ghost use Rattle.std.specs.Prelude.{◌≡◌, ◌≤◌, false, length, Some, IfOk, IfErr};
+ghost use Rattle.std.specs.Prelude.{◌≡◌, ◌≤◌, ◌++◌, false, length, Some, IfOk, IfErr};
 ghost use Rattle.std.specs.List.{list_all};
 ghost use Rattle.tl_ring.specs.declared.pipe.TheConstants.{MAX_RING};
 ghost use Rattle.tl_settle.specs.Outcomes.{verdicts};
 ghost use Rattle.tl_bridge.specs.Scripts.{near_beats};
-ghost use Rattle.tl_answer.specs.Answer.{is_done};
+ghost use Rattle.tl_answer.specs.Answer.{far_header, report, is_done};
 ghost use Rattle.tl_trace.specs.Faults.{HasHeader};
 ghost use Rattle.tl_answer.specs.Inner.Asked.{CanCross};
 ghost use Rattle.tl_answer.specs.Inner.Parts.{spelled, text_of};
 ghost use Rattle.tl_answer.specs.Texts.{IsAnswer, IsOfText, most_bytes};
 ghost use Rattle.tl_answer.specs.declared.fault.TextFault.TheVariants.{OutOfMemory as NoMemory};
 
-use crate::answer::{Answer, check_script};
+use crate::answer::{Answer, check_of};
 use crate::at_width;
 use crate::far_text::FarTexts;
 use crate::fault::TextFault;
 use crate::parts::AnswerParts;
 use std::alloc::Global;
 use tl_bridge::{RunFault, run_sync_into};
+use tl_check::verdicts_of;
 use tl_trace::{Script, TraceFault, TraceKind, header_of_text, read_script};
 
 /// How many beats a ring holds: no answer depends on it.
 const RING: usize = 256;
 
+/// The answer of a check to a script: no far beat is made for it.
+fn check_script<const C: usize, const M: usize>(
+    alloc: Global,
+    script: &Script<C, M>,
+    version: u8,
+) -> Result<Answer, TextFault>
+    requires { CanCross script.now }
+    ensures text { IfOk result (λ made. made.text.items
+        ≡ far_header version C M ++ report (verdicts (near_beats script.now))) }
+    ensures done { IfOk result (λ made. made.all_done
+        ≡ list_all is_done (verdicts (near_beats script.now))) }
+    ensures err { IfErr result (λ fault. fault ≡ NoMemory) }
+{
+    let Ok(verdicts) = verdicts_of::<C, M>(alloc, script) else {
+        return Err(TextFault::OutOfMemory);
+    };
+    check_of(alloc, &verdicts, version, C, M)
+}
+
 /// The answer to a script by a run in one thread with rings of `ring` beats, which writes the lines
 /// of the far beats as they are taken: the version of the trace and the widths, the far beats, and
 /// the five report lines. The script is let go once the run is over. Refused with `OutOfMemory`
 /// alone.
-pub(crate) fn sync_answer_of<const C: usize, const M: usize>(
+fn sync_run_of<const C: usize, const M: usize>(
     alloc: Global,
     script: Script<C, M>,
     version: u8,
@@ -57,6 +77,30 @@ pub(crate) fn sync_answer_of<const C: usize, const M: usize>(
     }
 }
 
+/// The answer to a script with both sides in one thread: by a check, or by a run with rings of `ring`
+/// beats. Refused with `OutOfMemory` alone.
+pub(crate) fn sync_answer_of<const C: usize, const M: usize>(
+    alloc: Global,
+    script: Script<C, M>,
+    version: u8,
+    check: bool,
+    ring: usize,
+) -> Result<AnswerParts, TextFault>
+    requires { CanCross script × (1 ≤ ring) × (ring ≤ MAX_RING) }
+    ensures text { IfOk result (λ made. spelled made
+        ≡ text_of version (near_beats script.entry) check) }
+    ensures done { IfOk result (λ made. made.all_done
+        ≡ list_all is_done (verdicts (near_beats script.entry))) }
+    ensures err { IfErr result (λ fault. fault ≡ NoMemory) }
+{
+    if check {
+        let answer = check_script::<C, M>(alloc, &script, version);
+        drop(script);
+        return Ok(AnswerParts::of(alloc, answer?));
+    }
+    sync_run_of::<C, M>(alloc, script, version, ring)
+}
+
 /// The answer to a text whose header names this version and these widths.
 fn with_widths<const C: usize, const M: usize>(
     alloc: Global,
@@ -72,13 +116,7 @@ fn with_widths<const C: usize, const M: usize>(
         Ok(script) => script,
         Err(fault) => return Err(TextFault::from(fault)),
     };
-    if check {
-        let answer = check_script::<C, M>(alloc, &script, version);
-        drop(script);
-        return answer;
-    }
-    let answer = sync_answer_of::<C, M>(alloc, script, version, RING)?;
-    answer.joined()
+    sync_answer_of::<C, M>(alloc, script, version, check, RING)?.joined()
 }
 
 /// The same, for a client of `C` bytes: the manager's width is one of eight.

@@ -38,25 +38,30 @@ fn run_command<'a>(alloc: Global) -> Result<Command<'a>, AllocError> {
         "Turns of each side between two meetings of the two threads, 1 to 1000; the answer is the same for each";
     let about =
         "Prints the beats that arrive across the bridge, and a report line for each channel. Standard input holds the trace. Each side runs in a thread of its own. The defaults are slow on a long trace: --turns 1000 --ring 4096 is for those.";
-    Command::new(alloc, "run")
-        .about(about)
-        .arg(number_option(alloc, "ring", "16", ring))?
-        .arg(number_option(alloc, "turns", "4", turns))?
-        .arg(sync_option(alloc))
+    let options = vec![in alloc;
+        number_option(alloc, "ring", "16", ring),
+        number_option(alloc, "turns", "4", turns),
+        sync_option(alloc),
+    ]?;
+    Command::new(alloc, "run").about(about).args(options)
+}
+
+fn check_command<'a>(alloc: Global) -> Command<'a> {
+    Command::new(alloc, "check").about(
+        "Prints the report lines alone. Standard input holds the trace.",
+    )
 }
 
 fn command<'a>(alloc: Global) -> Result<Command<'a>, AllocError> {
     let about =
         "Sends a TileLink trace across a clock and width bridge. Standard input holds the trace, standard output gets the answer.";
     let run = run_command(alloc)?;
+    let commands = vec![in alloc; run, check_command(alloc)]?;
     Command::new(alloc, "tlbridge")
         .about(about)
         .version(VERSION)
         .subcommand_required(true)
-        .subcommand(run)?
-        .subcommand(Command::new(alloc, "check").about(
-            "Prints the report lines alone. Standard input holds the trace.",
-        ))
+        .subcommands(commands)
 }
 
 /// What `command` takes from the words.

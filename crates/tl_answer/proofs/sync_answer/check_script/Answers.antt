@@ -2,7 +2,7 @@ use Rattle.std.specs.Prelude.{IfOk}
 use Rattle.std.proofs.Common.{◌≡◌, ◌++◌, subst}
 use Rattle.std.specs.List.{list_all}
 use Rattle.tl_answer.specs.Answer.{far_header, report, is_done}
-use Rattle.tl_answer.proofs.answer.check_script.Goals as goal
+use Rattle.tl_answer.proofs.sync_answer.check_script.Goals as goal
 
 pub returns-clause-text : goal.returns-clause-text
 returns-clause-text g c =
