@@ -2,12 +2,12 @@
 ghost use Rattle.std.specs.Prelude.{◌≡◌, true};
 ghost use Rattle.tl_lanes.specs.Lanes.{IsWidth};
 
-use crate::chapter::{Chapter, Facts};
 use crate::seen::{Told, seen_of};
+use crate::story::Story;
 use arrayvec::ArrayVec;
 use tl_convert::Converter;
 use tl_lanes::{WIDEST, is_width};
-use tl_msg::{Beat, Channel};
+use tl_msg::{Beat, Channel, Verdict};
 use tl_trace::line_of;
 
 /// Whether both are widths.
@@ -46,37 +46,36 @@ fn pass<K: Channel, const W: usize, const V: usize>(
 }
 
 /// Writes far beats, each as its line.
-fn put_far<K: Told, const V: usize>(
-    chapter: &mut Chapter,
-    facts: &Facts,
-    far: &ArrayVec<Beat<K, V>, WIDEST>,
-) {
+fn put_far<K: Told, const V: usize>(story: &mut Story, far: &ArrayVec<Beat<K, V>, WIDEST>) {
     // (tested, too)
     if !is_width(V) {
         return;
     }
     for beat in far.as_slice() {
-        let line = line_of::<K, V>(beat, facts.style.version);
-        let seen = seen_of::<K, V>(beat, facts.style.version);
-        chapter.put_far(facts, line.as_slice(), &seen, &beat.lanes);
+        let line = line_of::<K, V>(beat, story.version);
+        let seen = seen_of::<K, V>(beat, story.version);
+        story.put_far(line.as_slice(), &seen, &beat.lanes);
     }
 }
 
-/// Writes what came of the beats of a channel, each of which stands in a line, and below each the far
-/// beats that it completed: a new converter makes them, and `far` has room for them.
+/// Writes what came of the beats of the channel with this letter, which ends in this verdict, and below
+/// each the far beats that it completed: a new converter makes them, and `far` has room for them.
 pub fn tell<K: Told, const W: usize, const V: usize>(
-    chapter: &mut Chapter,
-    facts: &mut Facts,
+    story: &mut Story,
+    letter: u8,
+    verdict: &Verdict,
     beats: &[Beat<K, W>],
     converter: &mut Converter<K, W, V>,
     far: &mut ArrayVec<Beat<K, V>, WIDEST>,
 ) {
+    story.begin(letter, verdict, W, V);
     for beat in beats {
-        let seen = seen_of::<K, W>(beat, facts.style.version);
-        if chapter.put_near(facts, &seen, &beat.lanes) {
-            pass::<K, W, V>(converter, beat, chapter.walk.home, far);
-            put_far::<K, V>(chapter, facts, far);
+        let seen = seen_of::<K, W>(beat, story.version);
+        if story.put_near(&seen, &beat.lanes) {
+            pass::<K, W, V>(converter, beat, story.walk.home, far);
+            put_far::<K, V>(story, far);
         }
-        chapter.end_line();
+        story.end_line();
     }
+    story.end();
 }

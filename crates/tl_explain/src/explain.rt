@@ -10,9 +10,8 @@ ghost use Rattle.tl_answer.specs.declared.fault.TextFault.TheVariants.{OutOfMemo
 ghost use Rattle.tl_explain.specs.Explained.{IsExplanation};
 
 use crate::channel::tell;
-use crate::chapter::{Chapter, Facts, end_all, put_in_order};
-use crate::look::{Look, Style};
-use crate::page::Page;
+use crate::look::Look;
+use crate::story::Story;
 use arrayvec::ArrayVec;
 use std::alloc::{AllocError, Global};
 use tl_answer::{TextFault, at_width, check_of};
@@ -22,9 +21,6 @@ use tl_lanes::WIDEST;
 use tl_msg::{Beat, ChA, ChB, ChC, ChD, ChE, Verdict};
 use tl_trace::{Script, TraceFault, TraceKind, header_of_text, read_script};
 
-/// As many bytes as the answer of a check has, or more.
-const ANSWER_ROOM: usize = 512;
-
 /// What came of each line of a text, and whether all five channels are done.
 #[derive(Drop)]
 pub struct Explanation {
@@ -32,33 +28,17 @@ pub struct Explanation {
     pub all_done: bool,
 }
 
-/// A chapter for each channel, from A to E, in which nothing is said yet.
-fn new_chapters(
-    alloc: Global,
-    verdicts: &[Verdict; 5],
-    client: usize,
-    manager: usize,
-) -> [Chapter; 5] {
-    let [a, b, c, d, e] = verdicts;
-    [
-        Chapter::new(alloc, b'A', a, client, manager),
-        Chapter::new(alloc, b'B', b, manager, client),
-        Chapter::new(alloc, b'C', c, client, manager),
-        Chapter::new(alloc, b'D', d, manager, client),
-        Chapter::new(alloc, b'E', e, client, manager),
-    ]
-}
-
 /// Writes what came of the beats of each channel: each has a converter, and room for the far beats that
-/// one near beat completes. A comes before D, which answers its requests.
+/// one near beat completes. A comes before D, which answers its requests. A beat of E has nothing on its
+/// lanes, so a bus of one byte stands for any that it goes to.
 fn tell_all<const C: usize, const M: usize>(
-    chapters: &mut [Chapter; 5],
-    facts: &mut Facts,
+    story: &mut Story,
     script: &Script<C, M>,
+    verdicts: &[Verdict; 5],
 )
-    requires client { IsWidth C }
-    requires manager { IsWidth M }
+    requires { IsWidth C × IsWidth M }
 {
+    let [a, b, c, d, e] = verdicts;
     let mut way_a = Converter::<ChA, C, M>::new();
     let mut far_a = ArrayVec::<Beat<ChA, M>, WIDEST>::new();
     let mut way_b = Converter::<ChB, M, C>::new();
@@ -67,26 +47,13 @@ fn tell_all<const C: usize, const M: usize>(
     let mut far_c = ArrayVec::<Beat<ChC, M>, WIDEST>::new();
     let mut way_d = Converter::<ChD, M, C>::new();
     let mut far_d = ArrayVec::<Beat<ChD, C>, WIDEST>::new();
-    let mut way_e = Converter::<ChE, C, M>::new();
-    let mut far_e = ArrayVec::<Beat<ChE, M>, WIDEST>::new();
-    tell::<ChA, C, M>(&mut chapters[0], facts, &script.a, &mut way_a, &mut far_a);
-    tell::<ChB, M, C>(&mut chapters[1], facts, &script.b, &mut way_b, &mut far_b);
-    tell::<ChC, C, M>(&mut chapters[2], facts, &script.c, &mut way_c, &mut far_c);
-    tell::<ChD, M, C>(&mut chapters[3], facts, &script.d, &mut way_d, &mut far_d);
-    tell::<ChE, C, M>(&mut chapters[4], facts, &script.e, &mut way_e, &mut far_e);
-}
-
-/// What is said in these chapters, in the order of the lines with these letters, with room for the
-/// answer of a check behind it.
-fn in_order(
-    alloc: Global,
-    letters: &[u8],
-    chapters: &mut [Chapter; 5],
-) -> Result<Vec<u8>, AllocError> {
-    let bytes = end_all(chapters);
-    let mut out = Page::with_room(alloc, bytes.saturating_add(ANSWER_ROOM))?;
-    put_in_order(&mut out, letters, chapters);
-    Ok(out.into_text()?.into_bytes())
+    let mut way_e = Converter::<ChE, C, 1>::new();
+    let mut far_e = ArrayVec::<Beat<ChE, 1>, WIDEST>::new();
+    tell::<ChA, C, M>(story, b'A', a, &script.a, &mut way_a, &mut far_a);
+    tell::<ChB, M, C>(story, b'B', b, &script.b, &mut way_b, &mut far_b);
+    tell::<ChC, C, M>(story, b'C', c, &script.c, &mut way_c, &mut far_c);
+    tell::<ChD, M, C>(story, b'D', d, &script.d, &mut way_d, &mut far_d);
+    tell::<ChE, C, 1>(story, b'E', e, &script.e, &mut way_e, &mut far_e);
 }
 
 /// What came of each line from line 2 on, in sentences.
@@ -95,15 +62,14 @@ fn sentences_of<const C: usize, const M: usize>(
     text: &[u8],
     script: &Script<C, M>,
     verdicts: &[Verdict; 5],
-    style: &Style,
+    version: u8,
+    look: &Look,
 ) -> Result<Vec<u8>, AllocError>
-    requires client { IsWidth C }
-    requires manager { IsWidth M }
+    requires { IsWidth C × IsWidth M }
 {
-    let mut facts = Facts::new(alloc, text, style)?;
-    let mut chapters = new_chapters(alloc, verdicts, C, M);
-    tell_all::<C, M>(&mut chapters, &mut facts, script);
-    in_order(alloc, &facts.letters, &mut chapters)
+    let mut story = Story::new(alloc, text, version, look)?;
+    tell_all::<C, M>(&mut story, script, verdicts);
+    story.in_order(alloc)
 }
 
 /// The explanation that has these sentences, of a text whose channels end with these verdicts, from A
@@ -138,21 +104,15 @@ fn with_script<const C: usize, const M: usize>(
     version: u8,
     look: &Look,
 ) -> Result<Explanation, TextFault>
-    requires client { IsWidth C }
-    requires manager { IsWidth M }
-    requires told { TellsScript version text.now script.now }
-    requires few { length text.now ≤ most_bytes }
+    requires { IsWidth C × IsWidth M × (length text.now ≤ most_bytes) ×
+        TellsScript version text.now script.now }
     ensures ok { IfOk result (λ made. IsExplanation text.now made.text.items made.all_done) }
     ensures err { IfErr result (λ fault. fault ≡ NoMemory) }
 {
     let Ok(verdicts) = verdicts_of::<C, M>(alloc, script) else {
         return Err(TextFault::OutOfMemory);
     };
-    let style = Style {
-        look: *look,
-        version,
-    };
-    let sentences = sentences_of(alloc, text, script, &verdicts, &style)?;
+    let sentences = sentences_of(alloc, text, script, &verdicts, version, look)?;
     with_answer(alloc, sentences, &verdicts, version, C, M)
 }
 
@@ -163,15 +123,14 @@ fn with_widths<const C: usize, const M: usize>(
     version: u8,
     look: &Look,
 ) -> Result<Explanation, TextFault>
-    requires client { IsWidth C }
-    requires manager { IsWidth M }
-    requires header { HasHeader text.now version C M }
-    requires few { length text.now ≤ most_bytes }
+    requires { HasHeader text.now version C M × (length text.now ≤ most_bytes) }
     ensures ok { IfOk result (λ made. IsExplanation text.now made.text.items made.all_done) }
     ensures err { IfErr result (IsOfText text.now) }
 {
     let script = read_script::<C, M>(alloc, text, version)?;
-    with_script(alloc, text, &script, version, look)
+    let explanation = with_script(alloc, text, &script, version, look);
+    drop(script);
+    explanation
 }
 
 /// The same, for a client of `C` bytes: the manager's width is one of eight.
@@ -182,9 +141,7 @@ fn with_client<const C: usize>(
     manager: usize,
     look: &Look,
 ) -> Result<Explanation, TextFault>
-    requires client { IsWidth C }
-    requires header { HasHeader text.now version C manager }
-    requires few { length text.now ≤ most_bytes }
+    requires { HasHeader text.now version C manager × (length text.now ≤ most_bytes) }
     ensures ok { IfOk result (λ made. IsExplanation text.now made.text.items made.all_done) }
     ensures err { IfErr result (IsOfText text.now) }
 {

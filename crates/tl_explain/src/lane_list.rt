@@ -1,5 +1,6 @@
 //! Lanes in words.
 use crate::page::Page;
+use crate::page::Piece::{Number, Text};
 use tl_lanes::{MAX_SIZE, Mask, WIDEST, active, is_width};
 
 /// The lanes of a bus of `w` bytes that the bytes of a message of `2^size` bytes at this address stand
@@ -16,28 +17,23 @@ pub fn has_lane(mask: Mask, lane: usize) -> bool {
     lane < WIDEST && (mask >> lane) & 1 == 1
 }
 
-/// What the lanes of a mask are named.
-fn name_of(mask: Mask) -> &'static str {
-    match mask.count_ones() {
+/// Writes the lanes of a mask: `no lane`, `lane 3`, or `lanes 0, 2 to 5`.
+pub fn put_lanes(out: &mut Page, mask: Mask) {
+    out.put(Text(match mask.count_ones() {
         0 => "no lane",
         1 => "lane",
         _ => "lanes",
-    }
-}
-
-/// Writes the lanes of a mask: `no lane`, `lane 3`, or `lanes 0, 2 to 5`.
-pub fn put_lanes(out: &mut Page, mask: Mask) {
-    out.put(name_of(mask));
+    }));
     let mut separator = " ";
     for lane in 0..WIDEST {
         if has_lane(mask, lane) {
-            let goes_on = has_lane(mask, lane + 1);
             let begins = lane == 0 || !has_lane(mask, lane - 1);
             if begins {
-                out.put_number(separator, lane as u64);
+                out.put(Text(separator));
+                out.put(Number(lane as u64));
                 separator = ", ";
-            } else if !goes_on {
-                out.put_number(" to ", lane as u64);
+            } else if !has_lane(mask, lane + 1) {
+                out.say(" to #", &[Number(lane as u64)]);
             }
         }
     }

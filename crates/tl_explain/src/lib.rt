@@ -3,7 +3,6 @@
 #![tactic(auto)]
 
 mod channel;
-mod chapter;
 mod explain;
 mod fate;
 mod faults;
@@ -15,6 +14,7 @@ mod picture;
 mod requests;
 mod seen;
 mod sentences;
+mod story;
 mod stream;
 mod unreadable;
 mod walk;

@@ -31,10 +31,9 @@ impl Requests {
         Ok(Requests { sent, next })
     }
 
-    /// Adds one more request.
-    pub fn push(&mut self, request: Request) -> Result<(), AllocError> {
-        self.sent.push(request)?;
-        Ok(())
+    /// Adds one more request, and says whether there was memory for it.
+    pub fn push(&mut self, request: Request) -> bool {
+        self.sent.push(request).is_ok()
     }
 
     /// Where the first request of this source stands that no response has answered.

@@ -1,5 +1,6 @@
 //! A beat as sentences speak of it, whichever its channel.
 use crate::page::Page;
+use crate::page::Piece::{self, Address, Id, Length, Letter, Name, Opcode, Text};
 use tl_lanes::Mask;
 use tl_msg::{
     Beat, ChA, ChB, ChC, ChD, ChE, HeadA, HeadB, HeadC, HeadD, HeadE, Kind, SinkId, SourceId,
@@ -103,11 +104,6 @@ pub fn seen_of<K: Told, const W: usize>(beat: &Beat<K, W>, version: u8) -> Seen 
     }
 }
 
-/// This text where a flag is set, else none.
-fn said_if(is_set: bool, text: &'static str) -> &'static str {
-    if is_set { text } else { "" }
-}
-
 impl Seen {
     /// Whether its message carries data.
     pub fn carries_data(&self) -> bool {
@@ -124,32 +120,36 @@ impl Seen {
         self.letter == 'D' && !matches!(self.kind, Some(Kind::ReleaseAck))
     }
 
-    /// Writes the message's name, as the standard spells it.
-    pub fn put_name(&self, out: &mut Page) {
-        if self.letter == 'E' {
-            return out.put("GrantAck");
-        }
+    /// The message's name, as the standard spells it.
+    pub fn name(&self) -> Piece<'static> {
         match self.kind {
-            Some(kind) => out.put_kind(kind),
-            None => out.put_number("opcode ", self.opcode as u64),
+            Some(kind) => Name(kind),
+            None if self.letter == 'E' => Text("GrantAck"),
+            None => Opcode(self.opcode),
         }
+    }
+
+    /// Its source.
+    pub fn source(&self) -> Piece<'static> {
+        Id(self.source, self.version)
+    }
+
+    /// Its sink.
+    pub fn sink(&self) -> Piece<'static> {
+        Id(self.sink, self.version)
     }
 
     /// Writes its channel, its message, and the fields by which one knows it.
     pub fn put(&self, out: &mut Page) {
-        out.put_char(self.letter);
-        out.put(" ");
-        self.put_name(out);
+        out.say("# #", &[Letter(self.letter), self.name()]);
         if self.letter == 'E' {
-            return out.put_id(", sink ", self.sink, self.version);
+            return out.say(", sink #", &[self.sink()]);
         }
-        out.put_id(", source ", self.source, self.version);
-        out.put(", ");
-        out.put_length(self.size);
+        out.say(", source #, #", &[self.source(), Length(self.size)]);
         if self.letter != 'D' {
-            out.put_address(" at ", self.address);
+            out.say(" at #", &[Address(self.address)]);
         }
-        out.put(said_if(self.denied, ", denied"));
-        out.put(said_if(self.corrupt, ", corrupt"));
+        out.put(Text(if self.denied { ", denied" } else { "" }));
+        out.put(Text(if self.corrupt { ", corrupt" } else { "" }));
     }
 }

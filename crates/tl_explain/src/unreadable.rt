@@ -2,6 +2,8 @@
 ghost use Rattle.tl_lanes.specs.Lanes.{IsWidth};
 
 use crate::page::Page;
+use crate::page::Piece::{Letter, Number, Text};
+use arrayvec::ArrayVec;
 use std::alloc::{AllocError, Global};
 use tl_answer::at_width;
 use tl_lanes::WIDEST_POWER;
@@ -17,41 +19,38 @@ const SHOWN: usize = LONGEST_LINE;
 /// How many widths a bus can have: 1, and each the double of the one before.
 const WIDTHS: u32 = WIDEST_POWER + 1;
 
-/// What is expected at the end of the last line.
-const NO_END: &str = "the line has to end with a newline (LF)";
-
 /// The digits of a line.
 const DIGITS: &[u8; 16] = b"0123456789abcdef";
 
-/// The line with this letter of a beat in which all is 0, on `W` lanes, in a trace of this version:
-/// the form of the channel's lines. None where no channel has the letter.
-fn form_on<const W: usize>(
-    alloc: Global,
-    letter: u8,
-    version: u8,
-) -> Result<Option<Vec<u8>>, AllocError>
+/// What is expected of line 1.
+const HEADER: &str =
+    "expected the header 'tilelink-trace V client C manager M', where V is the version, 1 or 2, and C and M are bytes, each 1, 2, 4, 8, 16, 32, 64 or, in version 2, 128";
+
+/// What is expected at the end of the last line.
+const NO_END: &str = "the line has to end with a newline (LF)";
+
+/// The line with this letter of a beat in which all is 0, on `W` lanes, in a trace of this version, with
+/// its LF; nothing where no channel has the letter.
+fn form_on<const W: usize>(letter: u8, version: u8) -> ArrayVec<u8, LONGEST_LINE>
     requires { IsWidth W }
 {
-    let line = match letter {
+    match letter {
         b'A' => line_of::<ChA, W>(&Default::default(), version),
         b'B' => line_of::<ChB, W>(&Default::default(), version),
         b'C' => line_of::<ChC, W>(&Default::default(), version),
         b'D' => line_of::<ChD, W>(&Default::default(), version),
         b'E' => line_of::<ChE, W>(&Default::default(), version),
-        _ => return Ok(None),
-    };
-    let mut form = Vec::new(alloc);
-    form.extend_from_slice(line.as_slice().trim_ascii_end())?;
-    Ok(Some(form))
+        _ => ArrayVec::new(),
+    }
 }
 
-/// The form of the lines with this letter, where there is one, in a trace with this header.
-fn form_of(alloc: Global, letter: u8, header: &Header) -> Result<Option<Vec<u8>>, AllocError> {
+/// The form of the lines with this letter in a trace with this header.
+fn form_of(letter: u8, header: &Header) -> ArrayVec<u8, LONGEST_LINE> {
     let width = match letter {
         b'B' | b'D' => header.manager,
         _ => header.client,
     };
-    at_width!(width, form_on::<_>(alloc, letter, header.version))
+    at_width!(width, form_on::<_>(letter, header.version))
 }
 
 /// The line of this number, without its LF.
@@ -65,156 +64,77 @@ fn line_at(text: &[u8], number: u64) -> &[u8] {
     &rest[..end]
 }
 
-/// The version beside this one.
-fn other_version(version: u8) -> u8 {
-    if version == 1 { 2 } else { 1 }
+/// A trace of one line, in which bytes are tried.
+#[derive(Drop)]
+struct Trial {
+    text: Vec<u8>,
+    /// Where the line begins.
+    start: usize,
 }
 
-/// A line that is to have this form, in a trace with this header.
-#[derive(Clone, Copy)]
-struct FormedLine<'a> {
-    header: &'a [u8],
-    line: &'a [u8],
-    form: &'a [u8],
-}
-
-impl<'a> FormedLine<'a> {
-    /// Appends a trace of the header, the first bytes of the line, and the rest of the form behind
-    /// them.
-    fn fill(&self, text: &mut Vec<u8>, count: usize) -> Result<(), AllocError> {
-        text.extend_from_slice(self.header)?;
+impl Trial {
+    /// The trace of this header whose line is of this form, with its LF.
+    fn new(alloc: Global, header: &[u8], form: &[u8]) -> Result<Trial, AllocError> {
+        let start = header.len().saturating_add(1);
+        let mut text = Vec::with_capacity(alloc, start.saturating_add(form.len()))?;
+        text.extend_from_slice(header)?;
         text.push(b'\n')?;
-        text.extend_from_slice(self.line.get(..count).unwrap_or(&[]))?;
-        text.extend_from_slice(self.form.get(count..).unwrap_or(&[]))?;
-        text.push(b'\n')?;
-        Ok(())
+        text.extend_from_slice(form)?;
+        Ok(Trial { text, start })
     }
 
-    /// Whether the first bytes of the line, and the rest of the form behind them, make a line of a
-    /// trace.
-    fn is_readable(&self, alloc: Global, count: usize) -> Result<bool, AllocError> {
-        let mut text = Vec::new(alloc);
-        self.fill(&mut text, count)?;
-        let trace = read(alloc, &text);
-        Ok(trace.is_ok())
+    /// Puts a byte at this place of the line, and says whether that makes a trace.
+    fn takes(&mut self, alloc: Global, at: usize, byte: u8) -> bool {
+        if let Some(place) = self.text.get_mut(self.start.saturating_add(at)) {
+            *place = byte;
+        }
+        read(alloc, &self.text).is_ok()
     }
 
-    /// The first place at which the line is none of its form, or where the shorter of both ends.
-    fn bad_place(&self, alloc: Global) -> Result<usize, AllocError> {
-        let most = self.line.len().min(self.form.len());
-        for at in 0..most {
-            if !self.is_readable(alloc, at.saturating_add(1))? {
-                return Ok(at);
+    /// The first place at which this line is none of the form, of so many bytes at most. Its bytes up
+    /// to that one are put there.
+    fn bad_place(&mut self, alloc: Global, line: &[u8], most: usize) -> usize {
+        for at in 0..line.len().min(most) {
+            if !self.takes(alloc, at, line[at]) {
+                return at;
             }
         }
-        Ok(most)
+        line.len().min(most)
     }
 
-    /// The largest digit that may stand at this place, behind the bytes before it.
-    fn largest_digit(&self, alloc: Global, at: usize) -> Result<u8, AllocError> {
-        let mut tried = Vec::new(alloc);
-        tried.extend_from_slice(self.line)?;
+    /// The largest digit that may stand at this place.
+    fn largest_digit(&mut self, alloc: Global, at: usize) -> u8 {
         let mut largest = b'0';
         for digit in DIGITS {
-            if let Some(byte) = tried.get_mut(at) {
-                *byte = *digit;
-            }
-            let line = FormedLine {
-                line: &tried,
-                ..*self
-            };
-            if line.is_readable(alloc, at.saturating_add(1))? {
+            if self.takes(alloc, at, *digit) {
                 largest = *digit;
             }
         }
-        Ok(largest)
+        largest
     }
+}
 
-    /// Writes that the line has another length than its form, and where it has the length of the
-    /// other version, in which ids have other digits, that too.
-    fn put_lengths(&self, out: &mut Page, alloc: Global) -> Result<(), AllocError> {
-        out.put_number("the line has ", self.line.len() as u64);
-        out.put_number(" characters and has to have ", self.form.len() as u64);
-        out.put(", in the form below the mark");
-        match header_of_text(self.header) {
-            Some(named) => self.put_other_version(out, alloc, named),
-            None => Ok(()),
-        }
+/// Writes that the line has another length than its form, and where it has the length of the other
+/// version, in which ids have other digits, that too.
+fn put_lengths(out: &mut Page, line: &[u8], form: &[u8], header: &Header) {
+    out.say(
+        "the line has # characters and has to have #, in the form below the mark",
+        &[Number(line.len() as u64), Number(form.len() as u64)],
+    );
+    let version = if header.version == 1 { 2 } else { 1 };
+    let letter = line.first().copied().unwrap_or(0);
+    let other = form_of(letter, &Header { version, ..*header });
+    if line_in(&other).len() == line.len() {
+        out.say(
+            "; it is as long as in version #, where an id has # digits",
+            &[Number(version as u64), Number(id_digits(version) as u64)],
+        );
     }
+}
 
-    /// Writes that the line has the length of the version that this header does not name, if it has.
-    fn put_other_version(
-        &self,
-        out: &mut Page,
-        alloc: Global,
-        named: Header,
-    ) -> Result<(), AllocError> {
-        let version = other_version(named.version);
-        if self.is_as_long(alloc, &Header { version, ..named })? {
-            out.put_number("; it is as long as in version ", version as u64);
-            out.put_number(", where an id has ", id_digits(version) as u64);
-            out.put(" digits");
-        }
-        Ok(())
-    }
-
-    /// Whether the line is as long as those with its letter in a trace with this header.
-    fn is_as_long(&self, alloc: Global, header: &Header) -> Result<bool, AllocError> {
-        let Some(letter) = self.line.first() else {
-            return Ok(false);
-        };
-        match form_of(alloc, *letter, header)? {
-            Some(form) => Ok(form.len() == self.line.len()),
-            None => Ok(false),
-        }
-    }
-
-    /// Writes what was expected at this place, that of the line's fault.
-    fn put_expected(
-        &self,
-        out: &mut Page,
-        alloc: Global,
-        kind: TraceKind,
-        at: usize,
-    ) -> Result<(), AllocError> {
-        match kind {
-            TraceKind::Length => self.put_lengths(out, alloc),
-            TraceKind::Range => {
-                let largest = self.largest_digit(alloc, at)?;
-                out.put("expected a digit from 0 to ");
-                out.put_char(largest as char);
-                Ok(())
-            }
-            TraceKind::NoEnd => {
-                out.put(NO_END);
-                Ok(())
-            }
-            _ => {
-                out.put(self.expected(at));
-                Ok(())
-            }
-        }
-    }
-
-    /// What is expected at this place.
-    fn expected(&self, at: usize) -> &'static str {
-        match self.form.get(at) {
-            Some(b' ') => "expected a space",
-            _ => "expected a digit, 0 to 9 or a to f",
-        }
-    }
-
-    /// Writes what was expected, the line, with a mark below the place of its fault, and below the
-    /// mark the form, where the line has another length.
-    fn put(&self, out: &mut Page, alloc: Global, kind: TraceKind) -> Result<(), AllocError> {
-        let at = self.bad_place(alloc)?;
-        self.put_expected(out, alloc, kind, at)?;
-        put_marked(out, self.line, at);
-        if let TraceKind::Length = kind {
-            put_shown(out, self.form);
-        }
-        Ok(())
-    }
+/// A form without its LF.
+fn line_in(form: &ArrayVec<u8, LONGEST_LINE>) -> &[u8] {
+    form.as_slice().trim_ascii_end()
 }
 
 /// How many first bytes a line has in common with a text.
@@ -244,115 +164,110 @@ fn header_place(alloc: Global, line: &[u8]) -> Result<usize, AllocError> {
     Ok(most)
 }
 
-/// Writes the widths that a header can name.
-fn put_widths(out: &mut Page) {
-    for power in 0..WIDTHS {
-        let separator = match power {
-            0 => "",
-            7 => " or, in version 2, ",
-            _ => ", ",
-        };
-        out.put_number(separator, 1 << power);
-    }
-}
-
-/// How a byte is shown: one that is no printable ASCII as a question mark.
-fn shown(byte: u8) -> char {
-    match byte {
-        32..=126 => byte as char,
-        _ => '?',
-    }
-}
-
 /// Writes the first bytes of a line, each that is no printable ASCII as a question mark.
 fn put_shown(out: &mut Page, line: &[u8]) {
-    out.put("    ");
+    out.put(Text("    "));
     for byte in line.get(..SHOWN).unwrap_or(line) {
-        out.put_char(shown(*byte));
+        out.put(Letter(match *byte {
+            32..=126 => *byte as char,
+            _ => '?',
+        }));
     }
-    out.put("\n");
+    out.put(Text("\n"));
 }
 
 /// Writes a line below what was expected of it, and a mark below this place of it.
 fn put_marked(out: &mut Page, line: &[u8], at: usize) {
-    out.put("\n");
+    out.put(Text("\n"));
     put_shown(out, line);
-    out.put("    ");
+    out.put(Text("    "));
     for _ in 0..at.min(SHOWN) {
-        out.put(" ");
+        out.put(Text(" "));
     }
-    out.put("^\n");
+    out.put(Text("^\n"));
 }
 
-/// Writes what was expected of a line that has no form, and the line, with a mark below the place of
-/// its fault.
+/// Writes what was expected of a line that has no form, and gives the place of its fault.
 fn put_formless(
     out: &mut Page,
     alloc: Global,
     line: &[u8],
     kind: TraceKind,
-) -> Result<(), AllocError> {
-    let at = match kind {
+) -> Result<usize, AllocError> {
+    match kind {
         TraceKind::NoEnd => {
-            out.put(NO_END);
-            line.len()
+            out.put(Text(NO_END));
+            Ok(line.len())
         }
         TraceKind::Channel => {
-            out.put("expected a channel's letter, A to E");
-            0
+            out.put(Text("expected a channel's letter, A to E"));
+            Ok(0)
         }
         _ => {
-            out.put(
-                "expected the header 'tilelink-trace V client C manager M', where V is the version, 1 or 2, and C and M are bytes, each ",
-            );
-            put_widths(out);
-            header_place(alloc, line)?
+            out.put(Text(HEADER));
+            header_place(alloc, line)
         }
-    };
-    put_marked(out, line, at);
-    Ok(())
-}
-
-/// The form of a line's channel, where the line is not the first one and its channel is known.
-fn form_at(
-    alloc: Global,
-    text: &[u8],
-    number: u64,
-    line: &[u8],
-) -> Result<Option<Vec<u8>>, AllocError> {
-    match (header_of_text(text), line.first()) {
-        (Some(header), Some(letter)) if number != 1 => form_of(alloc, *letter, &header),
-        _ => Ok(None),
     }
 }
 
-/// Writes the number and the name of a text's fault, what was expected, and the faulty line.
-fn put_fault(
+/// Writes what was expected of a line of this form, with its LF, and gives the place of its fault.
+fn put_formed(
     out: &mut Page,
     alloc: Global,
     text: &[u8],
-    fault: &TraceFault,
-) -> Result<(), AllocError> {
-    let line = line_at(text, fault.line);
-    out.put_number("line ", fault.line);
-    out.put_number(": ", fault.number() as u64);
-    out.put(" ");
-    out.put(fault.name());
-    out.put(": ");
-    let Some(form) = form_at(alloc, text, fault.line, line)? else {
-        return put_formless(out, alloc, line, fault.kind);
-    };
-    let formed = FormedLine {
-        header: line_at(text, 1),
-        line,
-        form: &form,
-    };
-    formed.put(out, alloc, fault.kind)
+    line: &[u8],
+    form: &ArrayVec<u8, LONGEST_LINE>,
+    kind: TraceKind,
+) -> Result<usize, AllocError> {
+    let (whole, form) = (form.as_slice(), line_in(form));
+    let mut trial = Trial::new(alloc, line_at(text, 1), whole)?;
+    let at = trial.bad_place(alloc, line, form.len());
+    match kind {
+        TraceKind::Length => {
+            if let Some(header) = header_of_text(text) {
+                put_lengths(out, line, form, &header);
+            }
+        }
+        TraceKind::Range => {
+            let largest = trial.largest_digit(alloc, at);
+            out.say("expected a digit from 0 to #", &[Letter(largest as char)]);
+        }
+        TraceKind::NoEnd => out.put(Text(NO_END)),
+        _ => out.put(Text(match form.get(at) {
+            Some(b' ') => "expected a space",
+            _ => "expected a digit, 0 to 9 or a to f",
+        })),
+    }
+    Ok(at)
 }
 
-/// The faulty line of a text, with a mark below the place of its fault, and what was expected there.
+/// The form of a line's channel, where the line is not the first one and its channel is known.
+fn form_at(text: &[u8], number: u64, line: &[u8]) -> ArrayVec<u8, LONGEST_LINE> {
+    match (header_of_text(text), line.first()) {
+        (Some(header), Some(letter)) if number != 1 => form_of(*letter, &header),
+        _ => ArrayVec::new(),
+    }
+}
+
+/// The faulty line of a text, with a mark below the place of its fault, and what was expected there;
+/// below the mark the form of the line, where it has another length.
 pub fn show_fault(alloc: Global, text: &[u8], fault: &TraceFault) -> Result<String, AllocError> {
-    let mut out = Page::new(alloc);
-    put_fault(&mut out, alloc, text, fault)?;
+    let line = line_at(text, fault.line);
+    let form = form_at(text, fault.line, line);
+    let mut out = Page::new(alloc, false);
+    let number = fault.number() as u64;
+    out.say(
+        "line #: # #: ",
+        &[Number(fault.line), Number(number), Text(fault.name())],
+    );
+    let at = if form.is_empty() {
+        put_formless(&mut out, alloc, line, fault.kind)?
+    } else {
+        put_formed(&mut out, alloc, text, line, &form, fault.kind)?
+    };
+    put_marked(&mut out, line, at);
+    if let (TraceKind::Length, false) = (fault.kind, form.is_empty()) {
+        put_shown(&mut out, line_in(&form));
+    }
     out.into_text()
 }

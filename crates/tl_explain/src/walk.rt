@@ -2,6 +2,7 @@
 ghost use Rattle.std.specs.Prelude.{◌≤◌};
 
 use crate::seen::Seen;
+use crate::story::SaidLine;
 use tl_lanes::MAX_SIZE;
 
 /// How far the lines of one channel have come.
@@ -29,9 +30,9 @@ pub struct Walk {
     /// The address by which the bytes of that message stand on lanes: its own, and on D that of the
     /// request that it answers.
     pub home: u64,
-    /// The line of the beat that was not accepted, and whether it waits.
+    /// The line of the beat that was not accepted, and how it fares.
     pub stop_line: u64,
-    pub waits: bool,
+    pub stop: &'static str,
 }
 
 /// What an accepted beat brought.
@@ -49,10 +50,10 @@ pub struct Brought {
 }
 
 impl Walk {
-    /// Goes on to the next line with this letter. The letters are those of the lines from line 2 on.
-    pub fn seek(&mut self, letters: &[u8], letter: u8) {
-        for at in self.lines..letters.len() {
-            if letters[at] == letter {
+    /// Goes on to the next line with this letter. The lines are those from line 2 on.
+    pub fn seek(&mut self, lines: &[SaidLine], letter: u8) {
+        for at in self.lines..lines.len() {
+            if lines[at].letter == letter {
                 self.lines = at + 1;
                 return;
             }
@@ -64,10 +65,10 @@ impl Walk {
         (self.lines as u64).saturating_add(1)
     }
 
-    /// Stops at the next near beat, which waits or was refused.
-    pub fn stop(&mut self, waits: bool) {
+    /// Stops at the next near beat, which fares so.
+    pub fn stop(&mut self, how: &'static str) {
         self.stop_line = self.line();
-        self.waits = waits;
+        self.stop = how;
     }
 
     /// Goes on by the next near beat, which was accepted.

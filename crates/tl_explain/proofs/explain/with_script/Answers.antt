@@ -7,15 +7,15 @@ use Rattle.tl_explain.proofs.explain.with_script.Goals as goal
 
 pub verdicts_of-requires : goal.verdicts_of-requires
 verdicts_of-requires g c =
-    let told = c.requires.told in
-    let few = lines-few _ _ _ _ told.lines told.told c.requires.few in
-    (lit< tt, (c.requires.client, (c.requires.manager, short g.row.C g.row.M told.lines few _ told.script)))
+    let told = c.requires.3 in
+    let few = lines-few _ _ _ _ told.lines told.told c.requires.2 in
+    (lit< tt, (c.requires.0, (c.requires.1, short g.row.C g.row.M told.lines few _ told.script)))
 
 pub returns-clause-ok : goal.returns-clause-ok
 returns-clause-ok g c = of-both _ _ _ (λ made text-is done-is. record {
   sentences = c.in_ok-sentences.sentences.items;
   answer = far_header c.args.version g.row.C g.row.M ++ report c.in-Ok.verdicts;
   ends = text-is;
-  answered = checks-text c.args.version g.row.C g.row.M c.requires.told.lines _ c.requires.told.told c.in-Ok.verdicts
-      (c.in-Ok.ensures ∙ ap (λ bs. verdicts bs) (near-is c.requires.told.lines _ c.requires.told.script)) _ refl _ done-is;
+  answered = checks-text c.args.version g.row.C g.row.M c.requires.3.lines _ c.requires.3.told c.in-Ok.verdicts
+      (c.in-Ok.ensures ∙ ap (λ bs. verdicts bs) (near-is c.requires.3.lines _ c.requires.3.script)) _ refl _ done-is;
 }) c.with_answer.result c.with_answer.ensures.text c.with_answer.ensures.done

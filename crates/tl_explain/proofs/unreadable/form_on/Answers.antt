@@ -3,6 +3,3 @@ use Rattle.tl_explain.proofs.unreadable.form_on.Goals as goal
 
 pub default-requires : goal.default-requires
 default-requires g c = beat_small g.row.W c.requires
-
-pub line_of-line-requires : goal.line_of-line-requires
-line_of-line-requires g c = (beat_small g.row.W c.requires, c.requires)
