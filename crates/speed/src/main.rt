@@ -1,10 +1,8 @@
-//! Measures reading, conversion and writing of traces, and whole runs. `bench/run` runs it, over traces that `bench/make-bursts` makes.
+//! Measures reading, conversion and writing of traces, and one crossing between its two ends. `bench/run` runs it, over traces that
+//! `bench/make-bursts` makes. Whole runs are measured as processes of `tlbridge`, by `bench/programs`.
 //!
 //! - `speed measure` reads a trace of A or E lines on standard input. It prints what it measured: on each line a name and a number,
 //!   a time in nanoseconds, a peak of memory in KiB or a count. `speed pass` measures plain passes over such a text.
-//! - `speed sync RING` reads a trace of both A and D lines, and runs it in one thread over rings of so many beats;
-//!   `speed run RING TURNS` does so in two threads, which meet after so many turns each. What they print is like that of
-//!   `measure`, and each times bare joins of two threads, too.
 //! - `speed ends CHANNEL WIDTH RING BEATS` sends so many beats of A or E through the two ends of a crossing at equal widths, and
 //!   through plain `rtrb`, in one thread and in two. What it prints is like that of `measure`.
 //!
@@ -14,7 +12,6 @@
 mod ends;
 mod figures;
 mod measure;
-mod whole;
 
 use figures::Figures;
 use std::fs::Files;
@@ -43,7 +40,7 @@ fn number_at(words: &[String], at: usize) -> usize {
 /// Says which words there are.
 fn print_usage(rt: &impl Print) {
     let _ = println!(rt;
-        "usage: speed ends A|E WIDTH RING BEATS, or one of pass, measure, sync RING and run RING TURNS < TRACE"
+        "usage: speed ends A|E WIDTH RING BEATS, or one of pass and measure < TRACE"
     );
 }
 
@@ -54,17 +51,14 @@ fn measure_by(
     words: &[String],
     figures: &mut Figures,
 ) {
-    let (first, second) = (number_at(words, 1), number_at(words, 2));
     match word_at(words, 0) {
         "pass" => measure::pass(rt, reader, figures),
         "measure" => measure::measure(rt, reader, figures),
-        "sync" => whole::run(rt, reader, first, 0, figures),
-        "run" => whole::run(rt, reader, first, second, figures),
         "ends" => {
             ends::measure(
                 rt,
                 word_at(words, 1),
-                second,
+                number_at(words, 2),
                 number_at(words, 3),
                 number_at(words, 4),
                 figures,

@@ -40,7 +40,7 @@ pub fn pass(rt: &(impl Clock + AllocGlobal), reader: &mut impl Read, figures: &m
 }
 
 /// Whether both are widths.
-pub(crate) fn are_widths(w: usize, v: usize) -> bool
+fn are_widths(w: usize, v: usize) -> bool
     ensures { result ≡ true → IsWidth w × IsWidth v }
 {
     is_width(w) && is_width(v)
@@ -134,7 +134,7 @@ fn put_work(figures: &mut Figures, work: &Work, near_beats: usize, far_bytes: us
 }
 
 /// The version of a trace between these widths, by its first line.
-pub(crate) fn version_between(text: &[u8], client: usize, manager: usize) -> Option<u8>
+fn version_between(text: &[u8], client: usize, manager: usize) -> Option<u8>
     ensures { IfSome result (λ version. HasHeader text.now version client manager) }
 {
     match header_of_text(text) {
