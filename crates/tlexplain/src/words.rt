@@ -28,11 +28,11 @@ fn command<'a>(alloc: Global) -> Result<Command<'a>, AllocError> {
     let lanes =
         "Shows the lanes of each beat, highest first: '..' is not active, '--' masked out, '##' active without data, '!!' in the mask but not active";
     let faults = "Prints what each fault means, and reads no trace";
+    let flags = vec![in alloc; flag(alloc, "lanes", lanes), flag(alloc, "faults", faults)]?;
     Command::new(alloc, "tlexplain")
         .about(about)
         .version(VERSION)
-        .arg(flag(alloc, "lanes", lanes))?
-        .arg(flag(alloc, "faults", faults))
+        .args(flags)
 }
 
 /// What the words of a command line ask for. The first word is the program's name. Every other
@@ -50,8 +50,10 @@ pub fn wish_of<'a>(alloc: Global, words: &'a [&'a str]) -> Result<Wish, Error> {
 /// The refusal of a command line with a word that is not UTF-8.
 pub fn not_utf8(alloc: Global) -> Result<Error, AllocError> {
     let mut command = command(alloc)?;
-    command.error(
+    let refused = command.error(
         ErrorKind::ValueValidation,
         "a word of the command line is not UTF-8",
-    )
+    );
+    drop(command);
+    refused
 }
