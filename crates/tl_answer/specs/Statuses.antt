@@ -1,5 +1,6 @@
 -- How a program ends (this project's choice).
 use Rattle.std.specs.Prelude.{◌++◌, ℕ, List, [], Option, None, Some, Bool, true, false, Result, Ok, Err, codes, decimal}
+use Rattle.tl_msg.specs.Names.{numbered}
 use Rattle.tl_trace.specs.Texts.{newline}
 use Rattle.tl_answer.specs.Faults.{text_fault_line, text_fault_number, text_fault_name}
 use Rattle.tl_answer.specs.declared.fault.TextFault.{TextFault}
@@ -27,7 +28,7 @@ place_text None = []
 
 -- a fault's line, where it has one, its number and its name
 abbrev pub fault_words : TextFault → List ℕ
-fault_words fault = place_text (text_fault_line fault) ++ decimal (text_fault_number fault) ++ codes " " ++ text_fault_name fault
+fault_words fault = place_text (text_fault_line fault) ++ numbered (text_fault_number fault) (text_fault_name fault)
 
 -- the line on standard error, with its end: the program's name, and the words of the fault
 abbrev pub fault_text : (program : List ℕ) → TextFault → List ℕ

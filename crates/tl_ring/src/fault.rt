@@ -1,4 +1,5 @@
-ghost use Rattle.std.specs.Prelude.{◌≡◌};
+ghost use Rattle.std.specs.Prelude.{◌≡◌, Some};
+ghost use Rattle.tl_msg.specs.Names.{numbered};
 ghost use Rattle.tl_ring.specs.Names.{build_fault_number, build_fault_name, end_fault_number, end_fault_name};
 
 use std::fmt;
@@ -37,6 +38,8 @@ impl BuildFault {
 
 // The number and the name, as in `12 RingSize`.
 impl fmt::Display for BuildFault {
+    ghost output = { λ fault. Some (numbered (build_fault_number fault) (build_fault_name fault)) };
+
     fn fmt<W: fmt::Write>(&self, f: &mut fmt::Formatter<W>) -> fmt::Result {
         write!(f, "{} {}", self.number(), self.name())
     }
@@ -72,6 +75,8 @@ impl EndFault {
 
 // The number and the name, as in `11 MidBurst`.
 impl fmt::Display for EndFault {
+    ghost output = { λ fault. Some (numbered (end_fault_number fault) (end_fault_name fault)) };
+
     fn fmt<W: fmt::Write>(&self, f: &mut fmt::Formatter<W>) -> fmt::Result {
         write!(f, "{} {}", self.number(), self.name())
     }
