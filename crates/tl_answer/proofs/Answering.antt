@@ -7,8 +7,8 @@ use Rattle.tl_order.specs.Orders.{is_check, is_sync}
 use Rattle.tl_order.specs.declared.Order.{Order}
 use Rattle.tl_order.specs.declared.Order.TheVariants.{Run, Check}
 use Rattle.tl_settle.specs.Outcomes.{Beats, far_beats, verdicts}
-use Rattle.tl_bridge.specs.Scripts.{EndsIn, near_beats}
-use Rattle.tl_bridge.specs.declared.outcome.Outcome.{Outcome}
+use Rattle.tl_run.specs.Scripts.{EndsIn, near_beats}
+use Rattle.tl_run.specs.declared.outcome.Outcome.{Outcome}
 use Rattle.tl_trace.specs.Texts.{Tells}
 use Rattle.tl_trace.specs.Scripts.{IsScriptOf}
 use Rattle.tl_trace.specs.declared.script.Script.{Script}

@@ -2,7 +2,7 @@
 use Rattle.std.proofs.Common.{◌≡◌, ◌≤◌, ◌^◌, ℕ, suc, List, [], ◌∷◌, ◌++◌, length, Option, None, Some, sym, ap, subst, arith}
 use Rattle.std.proofs.lemmas.List.{length-append}
 use Rattle.std.specs.List.{filter_map, cons_option}
-use Rattle.tl_bridge.specs.Scripts.{HasShortLists}
+use Rattle.tl_run.specs.Scripts.{HasShortLists}
 use Rattle.tl_trace.specs.Texts.{Tells, TellsLines, newline, header_text}
 use Rattle.tl_trace.specs.Scripts.{IsScriptOf, beat_of_a, beat_of_b, beat_of_c, beat_of_d, beat_of_e}
 use Rattle.tl_trace.specs.declared.script.Script.{Script}

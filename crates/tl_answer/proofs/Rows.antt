@@ -1,5 +1,5 @@
 -- Whole answers, computed.
-use Rattle.std.proofs.Common.{◌≡◌, ◌∷◌, ◌++◌, ℕ, true, false, List, [], replicate, refl}
+use Rattle.std.proofs.Common.{◌≡◌, ◌∷◌, ◌++◌, ℕ, true, false, List, [], map, replicate, refl}
 use Rattle.std.specs.Prelude.{codes, flat_map}
 use Rattle.std.specs.Fmt.{digits}
 use Rattle.tl_lanes.specs.declared.limits.TheConstants.{WIDEST}
@@ -9,6 +9,9 @@ use Rattle.tl_trace.specs.declared.line.Line.TheVariants as line
 use Rattle.tl_order.specs.declared.TheConstants as order
 use Rattle.tl_ring.specs.declared.pipe.TheConstants as ring
 use Rattle.tl_answer.specs.Answer.{answer_of, are_done}
+use Rattle.tl_answer.specs.Statuses.{fault_words}
+use Rattle.tl_answer.specs.declared.fault.TextFault.TheVariants as fault
+use Rattle.tl_trace.specs.declared.fault.TraceKind.TheVariants.{Header}
 
 -- the largest ring that an order may ask for is the largest that there is
 largest_ring : order.MAX_RING ≡ ring.MAX_RING
@@ -159,3 +162,14 @@ five_cross_in_version_2 : answer_of 2 4 8 five false ≡ lines_of
     codes "= A done 1 1" ∷ codes "= B done 1 1" ∷ codes "= C done 1 1" ∷ codes "= D done 1 1" ∷ codes "= E done 1 1" ∷ [])
 unfolding digits
 five_cross_in_version_2 = refl
+
+-- ---- the words of each fault
+
+header_words : fault_words (fault.Trace (record { line = 7; kind = Header })) ≡ codes "line 7: 14 Header"
+unfolding digits
+header_words = refl
+
+other_words : map fault_words (fault.Stalled ∷ fault.Read ∷ fault.Write ∷ fault.TooLong ∷ fault.OutOfMemory ∷ []) ≡
+    codes "20 Stalled" ∷ codes "21 Read" ∷ codes "22 Write" ∷ codes "23 TooLong" ∷ codes "13 OutOfMemory" ∷ []
+unfolding digits
+other_words = refl

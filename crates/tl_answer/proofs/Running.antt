@@ -2,8 +2,8 @@
 use Rattle.std.specs.Prelude.{Result, Ok, Err, IfErr}
 use Rattle.std.proofs.Common.{◌≡◌, ◌≢◌, ◌≤◌, ◌<◌, ◌⊎◌, ◌↔◌, ℕ, inl, inr, refl, arith}
 use Rattle.std.proofs.lemmas.Result.{IfErr-weaker}
-use Rattle.tl_bridge.specs.declared.outcome.RunFault.{RunFault}
-use Rattle.tl_bridge.specs.declared.outcome.RunFault.TheVariants.{RingSize, OutOfMemory, Stalled}
+use Rattle.tl_run.specs.declared.outcome.RunFault.{RunFault}
+use Rattle.tl_run.specs.declared.outcome.RunFault.TheVariants.{RingSize, OutOfMemory, Stalled}
 use Rattle.tl_ring.specs.declared.pipe.TheConstants.{MAX_RING}
 
 -- not for its rings, where they are of a size that rings may have

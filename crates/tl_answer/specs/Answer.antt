@@ -5,7 +5,7 @@ use Rattle.std.specs.List.{filter_map, list_all}
 use Rattle.tl_msg.specs.declared.verdict.Verdict.{Verdict}
 use Rattle.tl_msg.specs.declared.verdict.Verdict.TheVariants.{Done}
 use Rattle.tl_settle.specs.Outcomes.{Beats, far_beats, verdicts}
-use Rattle.tl_bridge.specs.declared.outcome.Outcome.{Outcome}
+use Rattle.tl_run.specs.declared.outcome.Outcome.{Outcome}
 use Rattle.tl_trace.specs.Fields.{form_a, form_b, form_c, form_d, form_e}
 use Rattle.tl_trace.specs.Lines.{beats_text}
 use Rattle.tl_trace.specs.Texts.{newline}

@@ -4,7 +4,7 @@ ghost use Rattle.std.specs.List.{list_all};
 ghost use Rattle.tl_lanes.specs.Lanes.{IsWidth};
 ghost use Rattle.tl_settle.specs.Outcomes.{Beats};
 ghost use Rattle.tl_trace.specs.Lines.{beats_text};
-ghost use Rattle.tl_bridge.specs.Arrivals.{no_beats};
+ghost use Rattle.tl_run.specs.Arrivals.{no_beats};
 ghost use Rattle.tl_answer.specs.Answer.{far_header, far_lines, report, is_done};
 ghost use Rattle.tl_answer.specs.Inner.FarTexts.{HasLines, texts, whole};
 ghost use Rattle.tl_answer.specs.Inner.Parts.{spelled};

@@ -3,7 +3,7 @@ ghost use Rattle.std.specs.Prelude.{◌≡◌, ◌≤◌, ◌++◌, false, lengt
 ghost use Rattle.std.specs.List.{list_all};
 ghost use Rattle.tl_ring.specs.declared.pipe.TheConstants.{MAX_RING};
 ghost use Rattle.tl_settle.specs.Outcomes.{verdicts};
-ghost use Rattle.tl_bridge.specs.Scripts.{near_beats};
+ghost use Rattle.tl_run.specs.Scripts.{near_beats};
 ghost use Rattle.tl_answer.specs.Answer.{far_header, report, is_done};
 ghost use Rattle.tl_trace.specs.Faults.{HasHeader};
 ghost use Rattle.tl_answer.specs.Inner.Asked.{CanCross};

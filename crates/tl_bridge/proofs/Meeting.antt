@@ -18,22 +18,24 @@ use Rattle.tl_sides.specs.Bridges.{StandsFor}
 use Rattle.tl_sides.specs.declared.per_channel.PerChannel.{PerChannel}
 use Rattle.tl_pair.specs.Ends.{AreStanding}
 use Rattle.tl_pair.specs.Sides.{ClientState, ManagerState, ClientPast, ManagerPast, ClientStandsFor, ManagerStandsFor, AreSides, SidesMeet, new_client, new_manager}
-use Rattle.tl_bridge.specs.Arrivals.{no_beats}
-use Rattle.tl_bridge.specs.Scripts.{IsShort}
-use Rattle.tl_bridge.specs.Inner.Arriving.{HasRoomFor, HasRoomForInboxes, beats_of, taken_of}
-use Rattle.tl_bridge.specs.Inner.Running.{AllStop, AreStopped, HasEnded, HaveRoomToCount, all_progress, all_standing, all_stopped, all_under_way, progress, standing_count, under_way}
+use Rattle.tl_run.specs.Arrivals.{no_beats}
+use Rattle.tl_run.specs.Scripts.{IsShort}
+use Rattle.tl_run.specs.Inner.Arriving.{HasRoomFor, beats_of}
+use Rattle.tl_bridge.specs.Inner.Arriving.{HasRoomForInboxes, taken_of}
+use Rattle.tl_run.specs.Inner.Running.{AllStop, AreStopped, HasEnded, HaveRoomToCount, all_progress, all_standing, all_stopped, all_under_way, progress, standing_count, under_way}
 use Rattle.tl_bridge.specs.Inner.Sides.{ClientIsAt, ManagerIsAt, ClientMayPlay, ManagerMayPlay, ClientHasPlayed, ManagerHasPlayed, ClientRests, ManagerRests, HasMet, HasPlayed, AreNew, bridge_of, met_progress, none_ready, past_of, pipe_of}
-use Rattle.tl_bridge.specs.declared.channel_state.Stop.{Stop}
+use Rattle.tl_run.specs.declared.channel_state.Stop.{Stop}
 use Rattle.tl_bridge.specs.declared.client_turns.ClientRun.{ClientRun}
 use Rattle.tl_bridge.specs.declared.manager_turns.ManagerRun.{ManagerRun}
 use Rattle.tl_bridge.specs.declared.turns.Turn.{Turn}
-use Rattle.tl_bridge.proofs.ChannelEnd.{inbox-due}
-use Rattle.tl_bridge.proofs.ChannelOffer.{sent-passed}
-use Rattle.tl_bridge.proofs.Counting.{same-sums}
-use Rattle.tl_bridge.proofs.Ended.{begins, progress-is, progress-ends, run_end}
+use Rattle.tl_run.proofs.ChannelEnd.{inbox-due}
+use Rattle.tl_run.proofs.ChannelOffer.{sent-passed}
+use Rattle.tl_run.proofs.Counting.{same-sums}
+use Rattle.tl_run.proofs.Ended.{begins, progress-is, progress-ends, run_end}
 use Rattle.tl_bridge.proofs.Resting.{channel-rests, some-free}
-use Rattle.tl_bridge.proofs.Round.{counts-fit, inboxes-fit}
-use Rattle.tl_bridge.proofs.RunRound.{due-a, due-d}
+use Rattle.tl_run.proofs.Round.{counts-fit}
+use Rattle.tl_bridge.proofs.Rooms.{inboxes-fit}
+use Rattle.tl_run.proofs.RunRound.{due-a, due-d}
 
 -- ---- one channel
 

@@ -20,11 +20,11 @@ use Rattle.tl_sides.specs.Crossings.{stops_alone}
 use Rattle.tl_sides.specs.declared.per_channel.PerChannel.{PerChannel}
 use Rattle.tl_pair.specs.Ends.{Pumps, Fetches, AreStanding, pump_count, fetch_count}
 use Rattle.tl_pair.specs.Sides.{ClientState, ManagerState}
-use Rattle.tl_bridge.specs.Inner.Running.{Does, IsSent, IsStopped, standing_count, steps}
+use Rattle.tl_run.specs.Inner.Running.{Does, IsSent, IsStopped, standing_count, steps}
 use Rattle.tl_bridge.specs.Inner.Sides.{SameClientEnds, SameManagerEnds, ClientHasOffered, ManagerHasOffered, ClientIsAt, ManagerIsAt, ClientRests, ManagerRests, SendRests, TakeRests, all_steps}
-use Rattle.tl_bridge.specs.declared.channel_state.Offered.{Offered}
-use Rattle.tl_bridge.specs.declared.channel_state.Offered.TheVariants.{Accepted, NotReady, Stopped}
-use Rattle.tl_bridge.proofs.ChannelRound.{stage-full}
+use Rattle.tl_run.specs.declared.channel_state.Offered.{Offered}
+use Rattle.tl_run.specs.declared.channel_state.Offered.TheVariants.{Accepted, NotReady, Stopped}
+use Rattle.tl_run.proofs.ChannelRound.{stage-full}
 
 -- the lesser of two numbers is zero
 one-is-none : (n m : ℕ) → min n m ≤ 0 → (n ≡ 0) ⊎ (m ≡ 0)

@@ -7,10 +7,10 @@ use Rattle.tl_sides.specs.declared.per_channel.PerChannel.{PerChannel}
 use Rattle.tl_pair.specs.Ends.{Pumps, Fetches, pump_count, fetch_count}
 use Rattle.tl_pair.specs.Sides.{ClientState, ManagerState, SameClient, SameManager}
 use Rattle.tl_pair.proofs.SameSides.{same_client_then, same_manager_then}
-use Rattle.tl_bridge.specs.Inner.Running.{counted, steps}
+use Rattle.tl_run.specs.Inner.Running.{counted, steps}
 use Rattle.tl_bridge.specs.Inner.Sides.{SameClientEnds, SameManagerEnds, Goes, ClientGoes, ManagerGoes, client_progress, manager_progress, all_steps}
-use Rattle.tl_bridge.specs.declared.channel_state.Offered.{Offered}
-use Rattle.tl_bridge.specs.declared.channel_state.Offered.TheVariants.{NotReady}
+use Rattle.tl_run.specs.declared.channel_state.Offered.{Offered}
+use Rattle.tl_run.specs.declared.channel_state.Offered.TheVariants.{NotReady}
 
 module _ {A : Type 0} where
   -- the same ends are those of the same rings

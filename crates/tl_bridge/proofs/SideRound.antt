@@ -18,12 +18,12 @@ use Rattle.tl_sides.proofs.BridgeSteps.{asked_answers, answered_asks}
 use Rattle.tl_sides.specs.declared.per_channel.PerChannel.{PerChannel}
 use Rattle.tl_pair.specs.Sides.{ClientState, ManagerState, ClientStandsFor, ManagerStandsFor, client_pumps, manager_pumps}
 use Rattle.tl_pair.specs.Sides.{client_takes_b, client_takes_d, manager_takes_a, manager_takes_c, manager_takes_e}
-use Rattle.tl_bridge.specs.Inner.Running.{counted, steps}
+use Rattle.tl_run.specs.Inner.Running.{counted, steps}
 use Rattle.tl_bridge.specs.Inner.Sides.{ClientIsAt, ManagerIsAt, ClientHasOffered, ManagerHasOffered, none_ready}
-use Rattle.tl_bridge.specs.declared.channel_state.Offered.{Offered}
-use Rattle.tl_bridge.proofs.ChannelOffer.{answered-all, asked-all, sent-offer, homed-offer, stops-offer, sent-passed}
-use Rattle.tl_bridge.proofs.Round.{alone-own, client-own, manager-own, none-accepted, stops-same}
-use Rattle.tl_bridge.proofs.RoundMoves.{client-takes-all, manager-takes-all, client-offers, manager-offers}
+use Rattle.tl_run.specs.declared.channel_state.Offered.{Offered}
+use Rattle.tl_run.proofs.ChannelOffer.{answered-all, asked-all, sent-offer, homed-offer, stops-offer, sent-passed}
+use Rattle.tl_run.proofs.Round.{alone-own, client-own, manager-own, none-accepted, stops-same}
+use Rattle.tl_run.proofs.RoundMoves.{client-takes-all, manager-takes-all, client-offers, manager-offers}
 
 module _ {A : Type 0} {C M : ℕ} (near : Beats C M) where
   -- all that stood in the inboxes is taken

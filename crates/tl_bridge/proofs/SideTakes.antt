@@ -2,7 +2,16 @@
 use Rattle.std.proofs.Common.{◌≡◌, ◌+◌, ◌≤◌, ◌<◌, Option, None, Some, List, [], ◌∷◌, ◌++◌, length, take, drop, Vec, Global, vec_len, vec_capacity, refl, sym, ap, subst, ◌∙◌, append-nil, append_assoc, arith}
 use Rattle.std.specs.Prelude.{slice_get}
 use Rattle.tl_bridge.specs.Inner.Taking.{Took, TookFirst}
-use Rattle.tl_bridge.proofs.Draining.{first-and-rest, no-first}
+
+-- a list that has a first item is that item and the others
+first-and-rest : {A : Type 0} (bs : List A) (b : A) → Some b ≡ slice_get bs 0 → bs ≡ b ∷ drop 1 bs
+first-and-rest [] b e = cc
+first-and-rest (x ∷ bs) b e = let f : x ≡ b = cc in ap (λ y. y ∷ bs) f
+
+-- a list that has none is empty
+no-first : {A : Type 0} (bs : List A) → None ≡ slice_get bs 0 → bs ≡ []
+no-first [] e = refl
+no-first (x ∷ bs) e = cc
 
 -- the first beat was taken, by a call that says what is left in the inbox, and what the side stands for then
 pub takes-first : {S P B : Type 0} (Stands : S → P → Type 0) (takes : List B → P → P) (rest : S → S) (inbox : S → List B) (s s' t : S) (beat : Option B) →

@@ -1,4 +1,1 @@
-pub mod Arrivals
-pub mod Scripts
-pub mod Names
 pub mod Inner

@@ -6,19 +6,19 @@ ghost use Rattle.tl_msg.specs.declared.head.HeadD.{HeadD};
 ghost use Rattle.tl_msg.specs.declared.beat.BeatOf.{BeatOf};
 ghost use Rattle.tl_settle.specs.Histories.{Event};
 ghost use Rattle.tl_pair.specs.Sides.{ClientPast, ClientStandsFor};
-ghost use Rattle.tl_bridge.specs.Scripts.{HasShortLists, near_beats};
-ghost use Rattle.tl_bridge.specs.declared.channel_state.Offered.TheVariants.{NotReady};
-ghost use Rattle.tl_bridge.specs.Inner.Widths.{AreWidths};
-ghost use Rattle.tl_bridge.specs.Inner.Running.{HaveRoomToCount};
+ghost use Rattle.tl_run.specs.Scripts.{HasShortLists, near_beats};
+ghost use Rattle.tl_run.specs.declared.channel_state.Offered.TheVariants.{NotReady};
+ghost use Rattle.tl_run.specs.Inner.Widths.{AreWidths};
+ghost use Rattle.tl_run.specs.Inner.Running.{HaveRoomToCount};
 ghost use Rattle.tl_bridge.specs.Inner.Sides.{SameClientEnds, ClientHasTaken, ClientHasOffered, ClientGoes, ClientIsAt, ClientMovesOrRests, ClientMayPlay, ClientHasPlayed};
 
-use crate::channel_state::Offered;
 use crate::gates::Gate;
 use crate::inboxes::take_all;
-use crate::offers::Offers;
+use crate::side_offers::{offer_next_a, offer_next_c, offer_next_e};
 use crate::turns::Turn;
 use tl_msg::{Beat, ChA, ChB, ChC, ChD, ChE};
 use tl_pair::ClientSide;
+use tl_run::Offered;
 use tl_sides::PerChannel;
 use tl_trace::Script;
 
@@ -69,9 +69,9 @@ fn offer_each<const C: usize, const M: usize>(
     ensures ends { SameClientEnds side.old side.new }
     ensures others { (result.b ≡ NotReady) × (result.d ≡ NotReady) }
 {
-    let a = side.offer_next(&script.a, at.a);
-    let c = side.offer_next(&script.c, at.c);
-    let e = side.offer_next(&script.e, at.e);
+    let a = offer_next_a(side, &script.a, at.a);
+    let c = offer_next_c(side, &script.c, at.c);
+    let e = offer_next_e(side, &script.e, at.e);
     PerChannel {
         a,
         b: Offered::NotReady,

@@ -7,19 +7,19 @@ ghost use Rattle.tl_msg.specs.declared.head.HeadE.{HeadE};
 ghost use Rattle.tl_msg.specs.declared.beat.BeatOf.{BeatOf};
 ghost use Rattle.tl_settle.specs.Histories.{Event};
 ghost use Rattle.tl_pair.specs.Sides.{ManagerPast, ManagerStandsFor};
-ghost use Rattle.tl_bridge.specs.Scripts.{HasShortLists, near_beats};
-ghost use Rattle.tl_bridge.specs.declared.channel_state.Offered.TheVariants.{NotReady};
-ghost use Rattle.tl_bridge.specs.Inner.Widths.{AreWidths};
-ghost use Rattle.tl_bridge.specs.Inner.Running.{HaveRoomToCount};
+ghost use Rattle.tl_run.specs.Scripts.{HasShortLists, near_beats};
+ghost use Rattle.tl_run.specs.declared.channel_state.Offered.TheVariants.{NotReady};
+ghost use Rattle.tl_run.specs.Inner.Widths.{AreWidths};
+ghost use Rattle.tl_run.specs.Inner.Running.{HaveRoomToCount};
 ghost use Rattle.tl_bridge.specs.Inner.Sides.{SameManagerEnds, ManagerHasTaken, ManagerHasOffered, ManagerGoes, ManagerIsAt, ManagerMovesOrRests, ManagerMayPlay, ManagerHasPlayed};
 
-use crate::channel_state::Offered;
 use crate::gates::Gate;
 use crate::inboxes::take_all;
-use crate::offers::Offers;
+use crate::side_offers::{offer_next_b, offer_next_d};
 use crate::turns::Turn;
 use tl_msg::{Beat, ChA, ChB, ChC, ChD, ChE};
 use tl_pair::ManagerSide;
+use tl_run::Offered;
 use tl_sides::PerChannel;
 use tl_trace::Script;
 
@@ -74,8 +74,8 @@ fn offer_each<const C: usize, const M: usize>(
     ensures ends { SameManagerEnds side.old side.new }
     ensures others { (result.a ≡ NotReady) × (result.c ≡ NotReady) × (result.e ≡ NotReady) }
 {
-    let b = side.offer_next(&script.b, at.b);
-    let d = side.offer_next(&script.d, at.d);
+    let b = offer_next_b(side, &script.b, at.b);
+    let d = offer_next_d(side, &script.d, at.d);
     PerChannel {
         a: Offered::NotReady,
         b,

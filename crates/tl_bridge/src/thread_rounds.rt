@@ -1,20 +1,20 @@
 //! The rounds of a run in two threads.
 ghost use Rattle.std.specs.Prelude.{◌≡◌, ◌≢◌, true, IfSome, IsNone};
-ghost use Rattle.tl_bridge.specs.Arrivals.{no_beats};
-ghost use Rattle.tl_bridge.specs.Scripts.{HasShortLists, near_beats};
-ghost use Rattle.tl_bridge.specs.Inner.Widths.{AreWidths};
-ghost use Rattle.tl_bridge.specs.Inner.Arriving.{HasRoomFor, KeepsRoom, beats_of, taken_of};
-ghost use Rattle.tl_bridge.specs.Inner.Running.{AreStopped, HasEnded, all_standing, all_stopped};
+ghost use Rattle.tl_run.specs.Arrivals.{no_beats};
+ghost use Rattle.tl_run.specs.Scripts.{HasShortLists, near_beats};
+ghost use Rattle.tl_run.specs.Inner.Widths.{AreWidths};
+ghost use Rattle.tl_run.specs.Inner.Arriving.{HasRoomFor, beats_of};
+ghost use Rattle.tl_bridge.specs.Inner.Arriving.{KeepsRoom, taken_of};
+ghost use Rattle.tl_run.specs.Inner.Running.{AreStopped, HasEnded, all_standing, all_stopped};
 ghost use Rattle.tl_bridge.specs.Inner.Sides.{ClientMayPlay, ClientHasPlayed, ManagerMayPlay, ManagerHasPlayed, HasMet, HasPlayed, AreNew, bridge_of};
 
-use crate::channel_state::{Offered, Stop, all_stops};
 use crate::client_turns::{self, ClientRun};
 use crate::gates::Gate;
 use crate::manager_turns::{self, ManagerRun};
-use crate::rounds::{End, are_empty};
 use crate::turns::{Turn, either};
 use std::thread::{Threads, join_mut};
 use tl_pair::meet_sides;
+use tl_run::{End, Offered, Stop, all_stops, are_empty};
 use tl_sides::{PerChannel, Standings};
 use tl_trace::Script;
 

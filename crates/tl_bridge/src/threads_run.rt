@@ -2,22 +2,21 @@
 ghost use Rattle.std.specs.Prelude.{◌≡◌, ◌≢◌, ◌≤◌, ◌<◌, ◌⊎◌, ◌↔◌, IsOk, IfOk, IfErr};
 ghost use Rattle.tl_ring.specs.declared.pipe.TheConstants.{MAX_RING};
 ghost use Rattle.tl_lanes.specs.Lanes.{IsWidth};
-ghost use Rattle.tl_bridge.specs.declared.outcome.RunFault.TheVariants.{RingSize, OutOfMemory, Stalled};
-ghost use Rattle.tl_bridge.specs.Scripts.{HasShortLists, SettlesTo, near_beats};
-ghost use Rattle.tl_bridge.specs.Inner.Widths.{AreWidths};
-ghost use Rattle.tl_bridge.specs.Inner.Arriving.{beats_of, taken_of};
-ghost use Rattle.tl_bridge.specs.Inner.Running.{HasEnded};
+ghost use Rattle.tl_run.specs.declared.outcome.RunFault.TheVariants.{RingSize, OutOfMemory, Stalled};
+ghost use Rattle.tl_run.specs.Scripts.{HasShortLists, SettlesTo, near_beats};
+ghost use Rattle.tl_run.specs.Inner.Widths.{AreWidths};
+ghost use Rattle.tl_run.specs.Inner.Arriving.{beats_of};
+ghost use Rattle.tl_bridge.specs.Inner.Arriving.{taken_of};
+ghost use Rattle.tl_run.specs.Inner.Running.{HasEnded};
 ghost use Rattle.tl_bridge.specs.Inner.Sides.{AreNew, bridge_of};
 
 use crate::client_turns::ClientRun;
 use crate::gates::Gate;
 use crate::manager_turns::ManagerRun;
-use crate::outcome::{Outcome, RunFault};
-use crate::rounds::{End, outcome_of};
-use crate::taken::Taken;
 use crate::thread_rounds::play_rounds;
 use std::alloc::Global;
 use std::thread::Threads;
+use tl_run::{End, Outcome, RunFault, Taken, outcome_of};
 use tl_trace::Script;
 
 /// Runs a script over a bridge whose two sides are each in a thread of their own, to its end: the

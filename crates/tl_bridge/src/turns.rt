@@ -1,11 +1,11 @@
 //! What a side of a run in two threads has done in some turns.
 ghost use Rattle.std.specs.Prelude.{◌≡◌, ◌≢◌, ◌⊎◌, ◌↔◌, true};
 ghost use Rattle.tl_sides.specs.declared.per_channel.PerChannel.{PerChannel};
-ghost use Rattle.tl_bridge.specs.declared.channel_state.Offered.{Offered};
-ghost use Rattle.tl_bridge.specs.Inner.Running.{HaveRoomToCount, counted};
+ghost use Rattle.tl_run.specs.declared.channel_state.Offered.{Offered};
+ghost use Rattle.tl_run.specs.Inner.Running.{HaveRoomToCount, counted};
 ghost use Rattle.tl_bridge.specs.Inner.Sides.{all_steps};
 
-use crate::channel_state::{Offered, add_accepted};
+use tl_run::{Offered, add_accepted};
 use tl_sides::PerChannel;
 
 /// What a side has done in some turns: how many beats of each channel were accepted after them, what

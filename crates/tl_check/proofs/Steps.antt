@@ -31,8 +31,8 @@ use Rattle.tl_settle.proofs.SameHeads.{same_a, same_d}
 use Rattle.tl_settle.proofs.Settles.{good}
 use Rattle.tl_settle.proofs.Sides.{client_stops}
 use Rattle.tl_sides.specs.Books.{Client, Manager, KnowsClient, KnowsManager, IsNext}
-use Rattle.tl_bridge.proofs.ChannelOffer.{asked-all, answered-all}
-use Rattle.tl_bridge.proofs.RoundMoves.{client-takes-all, manager-takes-all}
+use Rattle.tl_run.proofs.ChannelOffer.{asked-all, answered-all}
+use Rattle.tl_run.proofs.RoundMoves.{client-takes-all, manager-takes-all}
 use Rattle.tl_check.specs.Inner.Passing.{AreAt, HasCome, HaveHead}
 use Rattle.tl_check.proofs.NewHeads.{new-heads}
 use Rattle.tl_check.proofs.Passing.{place-of}

@@ -20,14 +20,14 @@ fn has_all_five(outcome: &Outcome<4, 8>) -> bool {
         & (outcome.verdicts == [Verdict::Done { near: 1, far: 1 }; 5])
 }
 
-/// What a test answers whose run ended so, after it had been asked for a ring of 0 beats.
+/// What a test answers whose run ended so, after it had been asked for rings of 0 and of 4,097 beats.
 fn judged(
-    no_ring: Option<RunFault>,
+    no_ring: [Option<RunFault>; 2],
     ended: &Result<Outcome<4, 8>, RunFault>,
     script: &Script<4, 8>,
 ) -> Result<(), Fail> {
-    if no_ring != Some(RunFault::RingSize) {
-        return Err(Fail::from("a ring of 0 beats is no RingSize"));
+    if no_ring != [Some(RunFault::RingSize); 2] {
+        return Err(Fail::from("a ring of 0 or of 4,097 beats is no RingSize"));
     }
     if !has_one_each(script) {
         return Err(Fail::from("another script"));
@@ -42,7 +42,10 @@ fn judged(
 #[test]
 fn run_sync_wants_memory(rt: HostRuntime) -> Result<(), Fail> {
     let script = script_of_five(rt.alloc())?;
-    let no_ring = run_sync::<4, 8>(rt.alloc(), &script, 0).err();
+    let no_ring = [
+        run_sync::<4, 8>(rt.alloc(), &script, 0).err(),
+        run_sync::<4, 8>(rt.alloc(), &script, 4097).err(),
+    ];
     let ended = run_sync::<4, 8>(rt.alloc(), &script, 1);
     judged(no_ring, &ended, &script)
 }
@@ -50,7 +53,10 @@ fn run_sync_wants_memory(rt: HostRuntime) -> Result<(), Fail> {
 #[test]
 fn run_threads_wants_memory(rt: HostRuntime) -> Result<(), Fail> {
     let script = script_of_five(rt.alloc())?;
-    let no_ring = run_freely::<4, 8, _>(&rt, rt.alloc(), &script, 0, 1).err();
+    let no_ring = [
+        run_freely::<4, 8, _>(&rt, rt.alloc(), &script, 0, 1).err(),
+        run_freely::<4, 8, _>(&rt, rt.alloc(), &script, 4097, 1).err(),
+    ];
     let ended = run_freely::<4, 8, _>(&rt, rt.alloc(), &script, 1, 1);
     judged(no_ring, &ended, &script)
 }

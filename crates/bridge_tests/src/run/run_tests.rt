@@ -2,7 +2,7 @@
 
 ghost use Rattle.std.specs.Prelude.{◌≤◌};
 ghost use Rattle.tl_lanes.specs.Lanes.{IsWidth};
-ghost use Rattle.tl_bridge.specs.Scripts.{HasShortLists};
+ghost use Rattle.tl_run.specs.Scripts.{HasShortLists};
 
 use crate::five::{empty, is_short};
 use crate::values::{ack, put};
@@ -10,7 +10,7 @@ use std::alloc::{AllocError, Global};
 use std::test::Fail;
 use std::thread::Threads;
 use tl_bridge::{NoGate, Outcome, RunFault, run_sync, run_threads};
-use tl_lanes::is_width;
+use tl_lanes::{Mask, is_width};
 use tl_msg::{Beat, ChA, ChE};
 use tl_trace::Script;
 
@@ -40,11 +40,16 @@ pub fn run_freely<const C: usize, const M: usize, R: Threads>(
 }
 
 /// The rounds of the run in two threads, over the largest rings.
-fn rounds<R: Threads>(rt: &R, alloc: Global, script: &Script<4, 8>, turns: usize) -> Option<u64> {
-    if turns == 0 || !is_short(script) {
+fn rounds<const C: usize, const M: usize, R: Threads>(
+    rt: &R,
+    alloc: Global,
+    script: &Script<C, M>,
+    turns: usize,
+) -> Option<u64> {
+    if !is_width(C) || !is_width(M) || turns == 0 || !is_short(script) {
         return None;
     }
-    match run_freely::<4, 8, R>(rt, alloc, script, 4096, turns) {
+    match run_freely::<C, M, R>(rt, alloc, script, 4096, turns) {
         Ok(outcome) => Some(outcome.rounds),
         Err(_) => None,
     }
@@ -67,7 +72,7 @@ fn sync_rounds<const C: usize, const M: usize>(
 
 #[test]
 fn no_beat_takes_one_round(rt: HostRuntime) {
-    let script = empty(rt.alloc());
+    let script = empty::<8, 8>(rt.alloc());
     let taken = (
         rounds(&rt, rt.alloc(), &script, 4),
         sync_rounds(rt.alloc(), &script, 16),
@@ -87,7 +92,7 @@ fn acknowledge(list: &mut Vec<Beat<ChE, 4>>) -> Result<(), AllocError> {
 /// 200 beats go through rings of 4,096 in few rounds of many turns, and in many of one turn.
 #[test]
 fn a_run_heeds_its_turns(rt: HostRuntime) -> Result<(), Fail> {
-    let mut script = empty(rt.alloc());
+    let mut script = empty::<4, 8>(rt.alloc());
     acknowledge(&mut script.e)?;
     let few = rounds(&rt, rt.alloc(), &script, 1000);
     let many = rounds(&rt, rt.alloc(), &script, 1);
@@ -96,10 +101,14 @@ fn a_run_heeds_its_turns(rt: HostRuntime) -> Result<(), Fail> {
     Ok(())
 }
 
-/// PutFullData of 4,096 bytes from a bus of 64.
-fn put_all(list: &mut Vec<Beat<ChA, 64>>) -> Result<(), AllocError> {
-    for _ in 0..64 {
-        list.push(put(12, 0, (1 << 64) - 1, [0xa5; 64]))?;
+/// PutFullData of 4,096 bytes, in so many beats.
+fn put_all<const W: usize>(
+    list: &mut Vec<Beat<ChA, W>>,
+    count: usize,
+    mask: Mask,
+) -> Result<(), AllocError> {
+    for _ in 0..count {
+        list.push(put(12, 0, mask, [0xa5; W]))?;
     }
     Ok(())
 }
@@ -108,10 +117,21 @@ fn put_all(list: &mut Vec<Beat<ChA, 64>>) -> Result<(), AllocError> {
 #[test]
 fn a_run_heeds_its_rings(rt: HostRuntime) -> Result<(), Fail> {
     let mut script = empty::<64, 1>(rt.alloc());
-    put_all(&mut script.a)?;
+    put_all(&mut script.a, 64, (1 << 64) - 1)?;
     let many = sync_rounds(rt.alloc(), &script, 1);
     let few = sync_rounds(rt.alloc(), &script, 64);
     drop(script);
     assert!(rt; matches!(many, Some(4097..)) & matches!(few, Some(1..=65)));
+    Ok(())
+}
+
+/// And 128 from the widest bus through one of 128.
+#[test]
+fn a_run_from_the_widest_bus_heeds_its_rings(rt: HostRuntime) -> Result<(), Fail> {
+    let mut script = empty::<128, 1>(rt.alloc());
+    put_all(&mut script.a, 32, Mask::MAX)?;
+    let few = sync_rounds(rt.alloc(), &script, 128);
+    drop(script);
+    assert!(rt; matches!(few, Some(1..=33)));
     Ok(())
 }

@@ -2,7 +2,7 @@
 
 ghost use Rattle.std.specs.Prelude.{◌≤◌};
 ghost use Rattle.tl_lanes.specs.Lanes.{IsWidth};
-ghost use Rattle.tl_bridge.specs.Scripts.{HasShortLists};
+ghost use Rattle.tl_run.specs.Scripts.{HasShortLists};
 
 use crate::five::is_short;
 use std::alloc::Global;

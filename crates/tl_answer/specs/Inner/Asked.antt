@@ -5,7 +5,7 @@ use Rattle.tl_order.specs.Orders.{IsRunnable}
 use Rattle.tl_order.specs.declared.Order.{Order}
 use Rattle.tl_trace.specs.Faults.{HasHeader}
 use Rattle.tl_trace.specs.declared.script.Script.{Script}
-use Rattle.tl_bridge.specs.Scripts.{HasShortLists}
+use Rattle.tl_run.specs.Scripts.{HasShortLists}
 use Rattle.tl_answer.specs.Inputs.{IsFresh, held}
 use Rattle.tl_answer.specs.declared.input.Input.{Input}
 

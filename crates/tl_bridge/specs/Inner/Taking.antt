@@ -1,6 +1,5 @@
--- A side of a run in two threads takes beats from its inboxes, and notes them. Only private contracts cite these words.
-use Rattle.std.proofs.Common.{◌≡◌, ◌++◌, ℕ, Option, List, [], map, take, drop, refl, sym, ap, subst, ◌∙◌, append-nil, append_assoc}
-use Rattle.std.proofs.lemmas.List.{map-append}
+-- A side of a run in two threads takes beats from its inboxes. Only private contracts cite these words.
+use Rattle.std.proofs.Common.{◌≡◌, ◌++◌, ℕ, Option, List, [], take, drop, refl, sym, ap, subst, ◌∙◌, append-nil, append_assoc}
 use Rattle.std.specs.Prelude.{slice_get}
 use Rattle.tl_msg.specs.declared.head.HeadA.{HeadA}
 use Rattle.tl_msg.specs.declared.head.HeadB.{HeadB}
@@ -11,22 +10,7 @@ use Rattle.tl_msg.specs.declared.beat.BeatOf.{BeatOf}
 use Rattle.tl_settle.specs.Histories.{Ask, Answer}
 use Rattle.tl_pair.specs.Sides.{ClientState, ManagerState, ClientPast, ManagerPast}
 use Rattle.tl_pair.specs.Sides.{client_takes_b, client_takes_d, manager_takes_a, manager_takes_c, manager_takes_e}
-
--- events that stand behind others in two goes, or in one
-events-on : {B E : Type 0} (event : B → E) (es : List E) (i j : List B) → (es ++ map event i) ++ map event j ≡ es ++ map event (i ++ j)
-events-on event es i j = append_assoc es (map event i) (map event j) ∙ ap (λ q. es ++ q) (sym (map-append event i j))
-
--- a book that knows a history knows it with these beats behind it
-module _ {K B E : Type 0} (Knows : K → List E → Type 0) (event : B → E) where
-  abbrev pub HasNoted : K → List B → K → Type 0
-  HasNoted k bs k' = (es : List E) → Knows k es → Knows k' (es ++ map event bs)
-
-  -- none was noted, or some and then some more
-  pub noted_none : (k : K) → HasNoted k [] k
-  noted_none k es h = subst (λ q. Knows k q) (sym (append-nil es)) h
-
-  pub noted_then : (k l m : K) (i j : List B) → HasNoted k i l → HasNoted l j m → HasNoted k (i ++ j) m
-  noted_then k l m i j f g es h = subst (λ q. Knows m q) (events-on event es i j) (g (es ++ map event i) (f es h))
+use Rattle.tl_run.specs.Inner.Noting.{events-on}
 
 -- the first beat of an inbox was taken, if one stood there
 pub record TookFirst {S B : Type 0} (inbox : S → List B) (Becomes : S → List B → S → Type 0) (s : S) (beat : Option B) (s' : S) : Type 0 where

@@ -1,6 +1,6 @@
 use Rattle.std.proofs.Common.{lit<}
 use Rattle.tl_order.specs.Orders.{is_check}
-use Rattle.tl_bridge.specs.Scripts.{near_beats}
+use Rattle.tl_run.specs.Scripts.{near_beats}
 use Rattle.tl_answer.specs.Inner.Parts.{spelled}
 use Rattle.tl_answer.specs.Inputs.{held}
 use Rattle.tl_answer.proofs.Answering.{script-text, of-both, near-is}

@@ -1,6 +1,6 @@
 use Rattle.std.specs.Prelude.{IfOk}
 use Rattle.std.proofs.Common.{lit<, ◌≡◌, ◌∙◌, subst, sym}
-use Rattle.tl_bridge.specs.Scripts.{near_beats}
+use Rattle.tl_run.specs.Scripts.{near_beats}
 use Rattle.tl_answer.specs.Inner.Parts.{spelled, text_of}
 use Rattle.tl_answer.proofs.Answering.{without-far}
 use Rattle.tl_answer.proofs.sync_answer.sync_answer_of.Goals as goal

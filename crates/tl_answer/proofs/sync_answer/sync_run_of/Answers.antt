@@ -2,7 +2,7 @@ use Rattle.std.specs.Prelude.{IfOk}
 use Rattle.std.proofs.Common.{lit<, ◌≡◌, ◌++◌, subst, ◌∙◌}
 use Rattle.std.specs.List.{list_all}
 use Rattle.tl_settle.specs.Outcomes.{far_beats}
-use Rattle.tl_bridge.specs.Scripts.{near_beats}
+use Rattle.tl_run.specs.Scripts.{near_beats}
 use Rattle.tl_answer.specs.Answer.{far_header, far_lines, report, is_done}
 use Rattle.tl_answer.specs.Inner.Parts.{spelled}
 use Rattle.tl_answer.proofs.sync_answer.sync_run_of.Goals as goal

@@ -1,5 +1,5 @@
 use Rattle.std.proofs.Common.{lit<, ◌∙◌, arith}
-use Rattle.tl_bridge.specs.Scripts.{near_beats}
+use Rattle.tl_run.specs.Scripts.{near_beats}
 use Rattle.tl_answer.proofs.Answering.{script-text, of-both, near-is}
 use Rattle.tl_answer.proofs.Headers.{can-cross}
 use Rattle.tl_answer.proofs.Lengths.{lines-few}

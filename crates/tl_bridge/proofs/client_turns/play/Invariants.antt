@@ -1,5 +1,5 @@
 use Rattle.std.proofs.Common.{◌≡◌, true}
-use Rattle.tl_bridge.specs.Scripts.{near_beats}
+use Rattle.tl_run.specs.Scripts.{near_beats}
 use Rattle.tl_bridge.specs.Inner.Sides.{ClientHasPlayed}
 use Rattle.tl_bridge.proofs.client_turns.play.Given as goal
 

@@ -1,10 +1,10 @@
 use Rattle.std.proofs.Common.{◌+◌, sym, ap, subst, ◌∙◌, lit<, arith}
 use Rattle.tl_ring.specs.Ends.{Takes}
 use Rattle.tl_pair.specs.Sides.{client_pumps}
-use Rattle.tl_bridge.specs.Scripts.{near_beats}
-use Rattle.tl_bridge.specs.Inner.Running.{steps}
+use Rattle.tl_run.specs.Scripts.{near_beats}
+use Rattle.tl_run.specs.Inner.Running.{steps}
 use Rattle.tl_bridge.specs.Inner.Sides.{ClientIsAt, ClientGoes, ClientRests, all_steps}
-use Rattle.tl_bridge.proofs.Counting.{none-more}
+use Rattle.tl_run.proofs.Counting.{none-more}
 use Rattle.tl_bridge.proofs.Resting.{client-rests, moves-or}
 use Rattle.tl_bridge.proofs.SideEnds.{client-pumped, client-fetched, client-turn-goes}
 use Rattle.tl_bridge.proofs.SideRound.{client-turned}

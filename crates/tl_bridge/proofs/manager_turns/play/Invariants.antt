@@ -1,5 +1,5 @@
 use Rattle.std.proofs.Common.{◌≡◌, true}
-use Rattle.tl_bridge.specs.Scripts.{near_beats}
+use Rattle.tl_run.specs.Scripts.{near_beats}
 use Rattle.tl_bridge.specs.Inner.Sides.{ManagerHasPlayed}
 use Rattle.tl_bridge.proofs.manager_turns.play.Given as goal
 

@@ -1,8 +1,9 @@
 use Rattle.std.proofs.Common.{◌-◌, ◌≤◌}
-use Rattle.tl_bridge.specs.Scripts.{near_beats}
-use Rattle.tl_bridge.specs.Inner.Arriving.{HasRoomFor, beats_of, taken_of}
+use Rattle.tl_run.specs.Scripts.{near_beats}
+use Rattle.tl_run.specs.Inner.Arriving.{HasRoomFor, beats_of}
+use Rattle.tl_bridge.specs.Inner.Arriving.{taken_of}
 use Rattle.tl_bridge.specs.Inner.Sides.{HasMet, met_progress}
-use Rattle.tl_bridge.proofs.Ended.{run_end}
+use Rattle.tl_run.proofs.Ended.{run_end}
 use Rattle.tl_bridge.proofs.thread_rounds.play_rounds.Given as goal
 
 abbrev pub invariant-rounds : goal.invariant-rounds

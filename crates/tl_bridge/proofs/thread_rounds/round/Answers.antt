@@ -1,5 +1,5 @@
 use Rattle.std.proofs.Common.{lit<}
-use Rattle.tl_bridge.specs.Scripts.{near_beats}
+use Rattle.tl_run.specs.Scripts.{near_beats}
 use Rattle.tl_bridge.proofs.Meeting.{both-played, client-may, manager-may}
 use Rattle.tl_bridge.proofs.SideSizes.{client_small, manager_small, client_run_small, manager_run_small}
 use Rattle.tl_pair.proofs.SameSides.{still_sides}

@@ -1,7 +1,7 @@
 use Rattle.std.proofs.Common.{lit<, ◌<◌, ◌≤◌, ◌^◌, None, length, sym, ap, subst, arith}
 use Rattle.std.specs.Option.{option_map_or}
 use Rattle.tl_settle.specs.Settling.{stops_d}
-use Rattle.tl_bridge.proofs.OfferSteps.{read_some, read_none}
+use Rattle.tl_run.proofs.OfferSteps.{read_some, read_none}
 use Rattle.tl_check.proofs.Ends.{stopped-at}
 use Rattle.std.proofs.lemmas.Option.{slice_get_within}
 use Rattle.tl_ring.proofs.FieldSizes.{beat_small}

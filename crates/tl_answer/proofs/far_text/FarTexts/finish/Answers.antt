@@ -2,7 +2,7 @@ use Rattle.std.proofs.Common.{◌∙◌}
 use Rattle.tl_trace.specs.Fields.{form_a, form_b, form_c, form_d, form_e}
 use Rattle.tl_trace.specs.Lines.{beats_text}
 use Rattle.tl_answer.specs.Answer.{far_header, report}
-use Rattle.tl_bridge.proofs.AllOk.{five_ok}
+use Rattle.tl_run.proofs.AllOk.{five_ok}
 use Rattle.tl_answer.proofs.Answering.{with-report}
 use Rattle.tl_answer.proofs.FarTexts.{all-spelled}
 use Rattle.tl_answer.proofs.far_text.FarTexts.finish.Goals as goal

@@ -1,7 +1,7 @@
 use Rattle.tl_trace.specs.Fields.{form_a, form_b, form_c, form_d, form_e}
 use Rattle.tl_answer.specs.Answer.{far_header}
 use Rattle.tl_answer.specs.Inner.FarTexts.{whole}
-use Rattle.tl_bridge.proofs.AllOk.{five_ok}
+use Rattle.tl_run.proofs.AllOk.{five_ok}
 use Rattle.tl_answer.proofs.FarTexts.{lines-on, lines-more}
 use Rattle.tl_answer.proofs.far_text.FarTextsArrivals.take.Goals as goal
 

@@ -1,7 +1,0 @@
--- Search finds it. It has a name here, so that a wrong body is refused at once.
-use Rattle.std.proofs.Common.{sym, ap, ⊎_elim}
-use Rattle.tl_bridge.specs.Inner.Running.{steps}
-use Rattle.tl_bridge.proofs.channel_state.Offered.steps.Goals as goal
-
-pub returns-in-NotReady : goal.returns-in-NotReady
-returns-in-NotReady c = ⊎_elim (λ e. sym (ap steps e)) (λ e. sym (ap steps e.1)) c.in-NotReady.is

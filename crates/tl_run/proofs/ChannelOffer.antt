@@ -1,0 +1,140 @@
+-- What an offer of the next beat does to one channel, whose other end is another thread's.
+use Rattle.std.proofs.Common.{◌↔◌, zero, suc, ◌≡◌, ◌+◌, ◌<◌, ◌≤◌, ℕ, None, Some, Option, List, [], ◌∷◌, ◌++◌, length, map, take, get_or, refl, sym, ap, subst, ◌∙◌, arith, append_assoc, append-nil}
+use Rattle.std.specs.Prelude.{slice_get}
+use Rattle.std.proofs.lemmas.Option.{slice_get_within, get_or_from_slice_get}
+use Rattle.tl_msg.specs.Rules.{Rules}
+use Rattle.tl_msg.specs.declared.head.HeadA.{HeadA}
+use Rattle.tl_msg.specs.declared.head.HeadD.{HeadD}
+use Rattle.tl_msg.specs.declared.beat.BeatOf.{BeatOf}
+use Rattle.tl_msg.specs.declared.fault.SideFault.{SideFault}
+use Rattle.tl_burst.specs.Begun.{heads, left}
+use Rattle.tl_burst.specs.Handing.{Handed, fault_after, rest_of, with_home, homes_with}
+use Rattle.tl_burst.specs.Messages.{Message}
+use Rattle.tl_convert.proofs.Begins.{heads_open, heads_inside_one}
+use Rattle.std.proofs.lemmas.List.{map-append}
+use Rattle.tl_burst.proofs.BegunMessages.{left-zero}
+use Rattle.tl_convert.proofs.CountLoop.{one-more, accepted-next}
+use Rattle.tl_ring.specs.Crossing.{World, offered, shut}
+use Rattle.tl_settle.specs.Histories.{Event, Ask, Answer, asked, answered}
+use Rattle.tl_settle.proofs.Marks.{asked_ask, answered_answer}
+use Rattle.tl_run.specs.Inner.Running.{Does, Stops, IsSent, IsHomed, steps}
+use Rattle.tl_run.specs.declared.channel_state.Offered.{Offered}
+use Rattle.tl_run.specs.declared.channel_state.Offered.TheVariants.{Accepted, NotReady, Stopped}
+use Rattle.tl_run.specs.declared.channel_state.Stop.TheVariants.{Done, Cut, Refused}
+use Rattle.tl_convert.proofs.Comparisons.{none_past}
+use Rattle.tl_run.proofs.Counting.{none-more}
+
+-- the beats that a side took are the last of its history
+pub answered-all : {w : ℕ} (es : List (Event w)) (bs : List (BeatOf HeadD w)) → answered (es ++ map Answer bs) ≡ answered es ++ bs
+answered-all es [] = ap answered (append-nil es) ∙ sym (append-nil (answered es))
+answered-all es (b ∷ bs) =
+    ap answered (sym (append_assoc es (Answer b ∷ []) (map Answer bs))) ∙ answered-all (es ++ Answer b ∷ []) bs ∙ ap (λ q. q ++ bs) (answered_answer es b) ∙
+    append_assoc (answered es) (b ∷ []) bs
+
+pub asked-all : {w : ℕ} (es : List (Event w)) (bs : List (BeatOf HeadA w)) → asked (es ++ map Ask bs) ≡ asked es ++ bs
+asked-all es [] = ap asked (append-nil es) ∙ sym (append-nil (asked es))
+asked-all es (b ∷ bs) =
+    ap asked (sym (append_assoc es (Ask b ∷ []) (map Ask bs))) ∙ asked-all (es ++ Ask b ∷ []) bs ∙ ap (λ q. q ++ bs) (asked_ask es b) ∙
+    append_assoc (asked es) (b ∷ []) bs
+
+-- the homes of one beat more
+module _ {H : Type 0} (r : Rules H) {w : ℕ} (xs : List (BeatOf H w)) (homes : List ℕ) (is : homes ≡ map (λ h. r.lane_address h 0) (heads r w xs)) (b : BeatOf H w) where
+  -- the beat opens a message, or it goes on with one
+  home-by : (rest : List (BeatOf H w)) (l : ℕ) → left r w xs ≡ l → (l ≡ 0) ↔ (rest ≡ []) →
+      with_home r (r.lane_address b.head 0) rest homes ≡ map (λ h. r.lane_address h 0) (heads r w (xs ++ b ∷ []))
+  home-by [] l e f =
+      ap (λ q. q ++ r.lane_address b.head 0 ∷ []) is ∙ sym (map-append (λ h. r.lane_address h 0) (heads r w xs) (b.head ∷ [])) ∙
+      ap (λ q. map (λ h. r.lane_address h 0) q) (sym (heads_open r w 0 xs b (e ∙ f.1 refl)))
+  home-by (c ∷ rest) zero e f = let bad : (c ∷ rest) ≡ [] = f.0 refl in cc
+  home-by (c ∷ rest) (suc l) e f = is ∙ ap (λ q. map (λ h. r.lane_address h 0) q) (sym (heads_inside_one r w 0 l xs b e))
+
+  -- the homes are those that the heads say
+  homes-say : (left r w xs ≡ 0) ↔ (rest_of r w xs ≡ []) → homes_with r xs homes b 0 ≡ map (λ h. r.lane_address h 0) (heads r w (xs ++ b ∷ []))
+  homes-say f = home-by (rest_of r w xs) (left r w xs) refl f
+
+module _ {H : Type 0} (r : Rules H) {w v : ℕ} (bs : List (BeatOf H w)) (n : ℕ) (answer : BeatOf H w → Option SideFault) (home : BeatOf H w → ℕ) where
+  module _ (x : World H w v) (s : IsSent r bs n x.taken x) where
+    -- no beat was accepted
+    still : IsSent r bs (n + 0) x.taken x
+    still = subst (λ k. IsSent r bs k x.taken x) (none-more n) s
+
+    -- the channel was closed, behind its last beat
+    closed : slice_get bs n ≡ None → IsSent r bs (n + 0) (shut x).taken (shut x)
+    closed e =
+        let past : length bs ≤ n = none_past bs n e in
+        let most : n ≤ length bs = s.most in
+        let all : n ≡ length bs = omega arith in
+        subst (λ k. IsSent r bs k (shut x).taken (shut x)) (none-more n) (record {
+          accepted = s.accepted;
+          most = s.most;
+          lawful = s.lawful;
+          taken = refl;
+          shuts = λ _. all;
+          room = s.room;
+        })
+
+    -- one beat more was accepted
+    more : (b : BeatOf H w) → slice_get bs n ≡ Some b → fault_after r x.accepted b ≡ None → (h : ℕ) →
+        IsSent r bs (n + 1) (offered r b h x).taken (offered r b h x)
+    more b e lawful h =
+        let lt : n < length bs = slice_get_within bs n b e in
+        let is : b ≡ get_or bs n b = sym (get_or_from_slice_get bs n b b e) in
+        let seen : fault_after r (take n bs) b ≡ None = subst (λ q. fault_after r q b ≡ None) s.accepted lawful in
+        record {
+          accepted = ap (λ q. q ++ b ∷ []) s.accepted ∙ sym (one-more r bs n s.lawful b lt is);
+          most = omega arith;
+          lawful = accepted-next r bs n s.lawful b lt is seen;
+          taken = refl;
+          shuts = λ c. let all : n ≡ length bs = s.shuts c in absurd (omega arith);
+          room = s.room;
+        }
+
+  -- one beat more was accepted, or none
+  pub sent-offer : (x : World H w v) (o : Offered) (accepted : List (BeatOf H w)) (y : World H w v) → IsSent r bs n x.taken x →
+      ((b : BeatOf H w) → answer b ≡ None → fault_after r x.accepted b ≡ None) → Does r bs n answer home x o accepted y →
+      IsSent r bs (n + steps o) y.taken y
+  sent-offer x Accepted accepted y s own (b, next, none, one, is) =
+      subst (λ z. IsSent r bs (n + 1) z.taken z) (sym is) (more x s b next (own b none) (home b))
+  sent-offer x NotReady accepted y s own (b, next, full, none, is) =
+      subst (λ z. IsSent r bs (n + 0) z.taken z) (sym is) (still x s)
+  sent-offer x (Stopped Done) accepted y s own (last, whole, none, is) =
+      subst (λ z. IsSent r bs (n + 0) z.taken z) (sym is) (closed x s last)
+  sent-offer x (Stopped Cut) accepted y s own (last, begun, none, is) =
+      subst (λ z. IsSent r bs (n + 0) z.taken z) (sym is) (still x s)
+  sent-offer x (Stopped (Refused fault)) accepted y s own (b, next, refused, none, is) =
+      subst (λ z. IsSent r bs (n + 0) z.taken z) (sym is) (still x s)
+
+  -- the beats say their homes themselves, where nobody else does
+  pub homed-offer : (x : World H w v) (o : Offered) (accepted : List (BeatOf H w)) (y : World H w v) {ms : List (Message H)} {rest : List (BeatOf H w)} → Handed r w x.accepted x.homes ms rest →
+      IsHomed r x → ((b : BeatOf H w) → home b ≡ 0) → Does r bs n answer home x o accepted y → IsHomed r y
+  homed-offer x Accepted accepted y handed homed none (b, next, lawful, one, is) =
+      subst (λ z. IsHomed r z) (sym is)
+      (subst (λ k. IsHomed r (offered r b k x)) (sym (none b)) (homes-say r x.accepted x.homes homed b (left-zero r w handed)))
+  homed-offer x NotReady accepted y handed homed none (b, next, full, nothing, is) = subst (λ z. IsHomed r z) (sym is) homed
+  homed-offer x (Stopped Done) accepted y handed homed none (last, whole, nothing, is) = subst (λ z. IsHomed r z) (sym is) homed
+  homed-offer x (Stopped Cut) accepted y handed homed none (last, begun, nothing, is) = subst (λ z. IsHomed r z) (sym is) homed
+  homed-offer x (Stopped (Refused fault)) accepted y handed homed none (b, next, refused, nothing, is) = subst (λ z. IsHomed r z) (sym is) homed
+
+  -- why the channel stands still, if it does
+  pub stops-offer : (x : World H w v) (o : Offered) (accepted : List (BeatOf H w)) (y : World H w v) → Does r bs n answer home x o accepted y →
+      Stops r bs (n + steps o) answer y.accepted o
+  stops-offer x Accepted accepted y does = tt
+  stops-offer x NotReady accepted y does = tt
+  stops-offer x (Stopped Done) accepted y (last, whole, none, is) =
+      (subst (λ k. slice_get bs k ≡ None) (none-more n) last, subst (λ z. rest_of r w z.accepted ≡ []) (sym is) whole)
+  stops-offer x (Stopped Cut) accepted y (last, begun, none, is) =
+      (subst (λ k. slice_get bs k ≡ None) (none-more n) last, subst (λ z. rest_of r w z.accepted ≡ [] → ⊥) (sym is) begun)
+  stops-offer x (Stopped (Refused fault)) accepted y (b, next, refused, none, is) =
+      (b, subst (λ k. slice_get bs k ≡ Some b) (none-more n) next, refused)
+
+-- what is sent on stays what was accepted
+pub sent-passed : {H : Type 0} (r : Rules H) {w v : ℕ} (bs : List (BeatOf H w)) (n : ℕ) (far : List (BeatOf H v)) (x y : World H w v) → IsSent r bs n far x →
+    y.accepted ≡ x.accepted → y.closed ≡ x.closed → y.room ≡ x.room → (other : List (BeatOf H v)) → other ≡ y.taken → IsSent r bs n other y
+sent-passed r bs n far x y s accepted closed room other taken = record {
+  accepted = accepted ∙ s.accepted;
+  most = s.most;
+  lawful = s.lawful;
+  taken = taken;
+  shuts = λ c. s.shuts (sym closed ∙ c);
+  room = subst (λ k. 1 ≤ k) (sym room) s.room;
+}

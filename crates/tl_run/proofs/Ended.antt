@@ -1,0 +1,256 @@
+-- How far a run has come, by what its loop sees, and how it ends.
+use Rattle.std.proofs.Common.{◌≡◌, ◌+◌, ◌*◌, ◌^◌, ◌≤◌, ◌<◌, ℕ, false, List, [], length, refl, sym, subst, arith, ⊎_elim}
+use Rattle.tl_lanes.specs.Lanes.{IsWidth}
+use Rattle.tl_msg.specs.Rules.{Rules}
+use Rattle.tl_msg.specs.Tables.{rules_a, rules_b, rules_c, rules_d, rules_e}
+use Rattle.tl_msg.specs.declared.beat.BeatOf.{BeatOf}
+use Rattle.tl_convert.specs.Due.{due}
+use Rattle.tl_convert.specs.Accepted.{accepted_of}
+use Rattle.tl_ring.specs.Crossing.{World, empty}
+use Rattle.tl_ring.specs.Pipe.{Pipe}
+use Rattle.tl_ring.specs.Pipe as piping
+use Rattle.tl_ring.specs.declared.standing.Standing.{Standing}
+use Rattle.tl_settle.specs.Rounds as rounds
+use Rattle.tl_settle.specs.Outcomes.{Beats}
+use Rattle.tl_sides.specs.Bridges.{Bridge, Past, StandsFor, IsStanding, nothing_yet}
+use Rattle.tl_run.specs.Arrivals.{joined, no_beats}
+use Rattle.tl_run.specs.Scripts.{IsShort}
+use Rattle.tl_run.specs.Inner.Going.{HasGone}
+use Rattle.tl_run.specs.Inner.Running.{IsSent, AreStopped, IsNew, IsUnderWay, progress, under_way, counted, all_progress, all_under_way, standing_count, all_standing, all_stopped, IsRunning, CanAdd, arriving, inboxes, lengths, IsAt, AllStop, HasRound, HasEnded}
+use Rattle.tl_run.specs.declared.channel_state.Offered.{Offered}
+use Rattle.tl_run.specs.declared.channel_state.Stop.{Stop}
+use Rattle.tl_sides.specs.declared.per_channel.PerChannel.{PerChannel}
+use Rattle.tl_run.proofs.ChannelEnd.{progress-most}
+use Rattle.tl_run.proofs.Counting.{same-sums}
+use Rattle.tl_run.proofs.DueBounds.{most-a, most-b, most-c, most-d, most-e}
+
+-- ---- how far a run has come
+
+-- how far a channel has come, where so many beats were accepted and so many taken
+abbrev pub progress_in : {H : Type 0} {v : ℕ} → ℕ → ℕ → Pipe H v → ℕ
+progress_in n taken p = n + (taken + length p.inbox + length p.ring) + (taken + length p.inbox)
+
+-- how far all five have come, where so many were taken, or these
+abbrev pub progress_by : {C M : ℕ} → (n taken : PerChannel ℕ) → Bridge C M → ℕ
+progress_by n taken s = progress_in n.a taken.a s.a + progress_in n.b taken.b s.b + progress_in n.c taken.c s.c + progress_in n.d taken.d s.d + progress_in n.e taken.e s.e
+
+abbrev pub progress_here : {C M : ℕ} → PerChannel ℕ → Beats M C → Bridge C M → ℕ
+progress_here n far s = progress_by n (lengths far) s
+
+-- how far a channel comes at most
+abbrev pub progress_end : {H : Type 0} (r : Rules H) {w : ℕ} (v : ℕ) → List (BeatOf H w) → ℕ
+progress_end r {w = w} v bs = length bs + 2 * length (due r w v (accepted_of r bs) [])
+
+-- it is how far its crossing has come
+progress-in-is : {H : Type 0} (r : Rules H) {w v : ℕ} (bs : List (BeatOf H w)) (n : ℕ) (far : List (BeatOf H v)) (p : Pipe H v) (x : World H w v) →
+    piping.StandsFor r p x → IsSent r bs n far x → progress_in n (length far) p ≡ progress n x
+progress-in-is r bs n far p x s i = rw (i.taken, s.inbox, s.ring) refl
+
+-- five numbers that are bounded
+sums-most : {a b c d e a' b' c' d' e' : ℕ} → a ≤ a' → b ≤ b' → c ≤ c' → d ≤ d' → e ≤ e' → a + b + c + d + e ≤ a' + b' + c' + d' + e'
+sums-most f g h i j = omega arith
+
+-- so many beats stand in a pipe as are under way
+standing-is : {H : Type 0} (r : Rules H) {w v : ℕ} (p : Pipe H v) (x : World H w v) (s : Standing) → piping.StandsFor r p x → IsStanding p s →
+    standing_count s ≡ under_way x
+standing-is r p x s f i = rw (i.staged, i.in_ring, i.inbox, f.stage, f.ring, f.inbox) refl
+
+-- and so in all five
+pub all-standing-is : {C M : ℕ} (s : Bridge C M) (x : Past C M) (t : PerChannel Standing) → StandsFor s x → IsStanding s.a t.a → IsStanding s.b t.b →
+    IsStanding s.c t.c → IsStanding s.d t.d → IsStanding s.e t.e → all_standing t ≡ all_under_way x
+all-standing-is s x t f a b c d e =
+    same-sums (standing-is rules_a s.a x.a t.a f.a a) (standing-is rules_b s.b x.b t.b f.b b) (standing-is rules_c s.c x.c t.c f.c c)
+    (standing-is rules_d s.d x.d t.d f.d d) (standing-is rules_e s.e x.e t.e f.e e)
+
+module _ {C M : ℕ} (near : Beats C M) where
+  -- how far a run comes at most
+  abbrev pub run_end : ℕ
+  run_end = progress_end rules_a M near.a + progress_end rules_b C near.b + progress_end rules_c M near.c + progress_end rules_d C near.d + progress_end rules_e M near.e
+
+  -- it has come as far as what has happened says
+  pub progress-is : (n : PerChannel ℕ) (far : Beats M C) (s : Bridge C M) (x : Past C M) → StandsFor s x → IsAt near n far x → progress_here n far s ≡ all_progress n x
+  progress-is n far s x f i =
+      same-sums (progress-in-is rules_a near.a n.a far.a s.a x.a f.a i.a_sent) (progress-in-is rules_b near.b n.b far.b s.b x.b f.b i.b_sent)
+      (progress-in-is rules_c near.c n.c far.c s.c x.c f.c i.c_sent) (progress-in-is rules_d near.d n.d far.d s.d x.d f.d i.d_sent)
+      (progress-in-is rules_e near.e n.e far.e s.e x.e f.e i.e_sent)
+
+  -- it comes no further than that
+  pub progress-ends : IsWidth C → IsWidth M → (n : PerChannel ℕ) (far : Beats M C) (s : Bridge C M) (x : Past C M) → StandsFor s x → IsAt near n far x →
+      progress_here n far s ≤ run_end
+  progress-ends cw mw n far s x f i =
+      subst (λ k. k ≤ run_end) (sym (progress-is n far s x f i))
+      (sums-most (progress-most rules_a cw mw near.a n.a far.a x.a i.a_sent f.a.crosses) (progress-most rules_b mw cw near.b n.b far.b x.b i.b_sent f.b.crosses)
+      (progress-most rules_c cw mw near.c n.c far.c x.c i.c_sent f.c.crosses) (progress-most rules_d mw cw near.d n.d far.d x.d i.d_sent f.d.crosses)
+      (progress-most rules_e cw mw near.e n.e far.e x.e i.e_sent f.e.crosses))
+
+  -- which is few
+  pub end-few : IsWidth C → IsWidth M → IsShort near → run_end < 2 ^ 60
+  end-few cw mw s =
+      bounded _ _ _ _ _ _ _ _ _ _ s.few_a s.few_b s.few_c s.few_d s.few_e (most-a M mw [] near.a) (most-b C cw [] near.b) (most-c M mw [] near.c) (most-d C cw [] near.d) (most-e M mw [] near.e)
+    where
+      bounded : (f g h i j k l m n o : ℕ) → f ≤ 2 ^ 40 → g ≤ 2 ^ 40 → h ≤ 2 ^ 40 → i ≤ 2 ^ 40 → j ≤ 2 ^ 40 →
+          k ≤ 4096 * (f + 1) → l ≤ 4096 * (g + 1) → m ≤ 4096 * (h + 1) → n ≤ 4096 * (i + 1) → o ≤ 4096 * (j + 1) →
+          (f + 2 * k) + (g + 2 * l) + (h + 2 * m) + (i + 2 * n) + (j + 2 * o) < 2 ^ 60
+      bounded f g h i j k l m n o p q r t u x y z w v = omega arith
+
+  -- and so what stands in the inboxes can be counted
+  pub can-add : IsWidth C → IsWidth M → IsShort near → (n : PerChannel ℕ) (far : Beats M C) (s : Bridge C M) (x : Past C M) → StandsFor s x → IsAt near n far x →
+      CanAdd (lengths far) (lengths (inboxes s))
+  can-add cw mw short n far s x f i =
+      let few = each-few _ _ _ _ _ _ (progress-ends cw mw n far s x f i) (end-few cw mw short) in
+      record {
+        a = part-few n.a (length far.a) (length s.a.inbox) (length s.a.ring) few.0;
+        b = part-few n.b (length far.b) (length s.b.inbox) (length s.b.ring) few.1;
+        c = part-few n.c (length far.c) (length s.c.inbox) (length s.c.ring) few.2;
+        d = part-few n.d (length far.d) (length s.d.inbox) (length s.d.ring) few.3;
+        e = part-few n.e (length far.e) (length s.e.inbox) (length s.e.ring) few.4;
+      }
+    where
+      each-few : (p q r t u most : ℕ) → p + q + r + t + u ≤ most → most < 2 ^ 60 → (p < 2 ^ 60) × (q < 2 ^ 60) × (r < 2 ^ 60) × (t < 2 ^ 60) × (u < 2 ^ 60)
+      each-few p q r t u most l m = (omega arith, omega arith, omega arith, omega arith, omega arith)
+
+      part-few : (n taken inbox ring : ℕ) → n + (taken + inbox + ring) + (taken + inbox) < 2 ^ 60 → taken + inbox < 2 ^ 60
+      part-few n taken inbox ring l = omega arith
+
+  -- ---- a round
+
+  module _ (n : PerChannel ℕ) (far far' : Beats M C) (s t : Bridge C M) (x : Past C M) (o : PerChannel Offered) (f : StandsFor s x) (i : IsAt near n far x)
+      (h : HasRound near n far' x t o) where
+    -- a round that is not the last one
+    pub further : (AreStopped o → all_under_way h.past ≡ 0 → ⊥) → progress_here n far s + 1 ≤ progress_here (counted n o) far' t
+    further goes =
+        let before : progress_here n far s ≡ all_progress n x = progress-is n far s x f i in
+        let after : progress_here (counted n o) far' t ≡ all_progress (counted n o) h.past = progress-is (counted n o) far' t h.past h.stands h.is_at in
+        let most : all_progress n x + 1 ≤ all_progress (counted n o) h.past = ⊎_elim (λ l. l) (λ z. absurd (goes z.0 z.1)) h.goes in
+        subst (λ k. k + 1 ≤ progress_here (counted n o) far' t) (sym before) (subst (λ k. all_progress n x + 1 ≤ k) (sym after) most)
+
+    -- the last one
+    pub ended : (rounds : ℕ) → rounds ≤ progress_here n far s → (stops : PerChannel Stop) → o ≡ all_stopped stops → all_under_way h.past ≡ 0 →
+        HasEnded near (counted n o) far' t stops (rounds + 1)
+    ended rounds few stops same rest =
+        let before : progress_here n far s ≡ all_progress n x = progress-is n far s x f i in
+        record {
+          past = h.past;
+          stands = h.stands;
+          is_at = h.is_at;
+          all_stop = subst (λ q. AllStop near (counted n o) h.past q) same h.stops;
+          at_rest = rest;
+          few_rounds = counts (subst (λ k. rounds ≤ k) before few) h.keeps;
+        }
+      where
+        counts : {k l m : ℕ} → k ≤ l → l ≤ m → k + 1 ≤ m + 1
+        counts g l = omega arith
+
+  -- a run is under way after a round
+  pub under-way-after : (n m : PerChannel ℕ) (far' : Beats M C) (x : Past C M) (t : Bridge C M) (o : PerChannel Offered) → m ≡ counted n o →
+      HasRound near n far' x t o → IsUnderWay near m far' t
+  under-way-after n m far' x t o same h =
+      subst (λ k. IsUnderWay near k far' t) (sym same) (record { past = h.past; stands = h.stands; is_at = h.is_at })
+
+  -- ---- the same, where what was taken went elsewhere and was counted
+
+  module _ {F : Type 0} (Holds : F → Beats M C → Type 0) (n taken : PerChannel ℕ) (far : F) (s : Bridge C M) (r : IsRunning Holds near n taken far s) where
+    -- it comes no further than that
+    pub running-ends : IsWidth C → IsWidth M → progress_by n taken s ≤ run_end
+    running-ends cw mw = subst (λ t. progress_by n t s ≤ run_end) (sym r.counts) (progress-ends cw mw n r.all s r.under_way.past r.under_way.stands r.under_way.is_at)
+
+    -- channels that go on by themselves
+    module _ (m : PerChannel ℕ) (t : Bridge C M) (goes : (all : Beats M C) (x : Past C M) → StandsFor s x → IsAt near n all x → HasGone near n all x m t) where
+      gone : HasGone near n r.all r.under_way.past m t
+      gone = goes r.all r.under_way.past r.under_way.stands r.under_way.is_at
+
+      -- the run is under way then
+      pub running-ahead : IsRunning Holds near m taken far t
+      running-ahead = record {
+        all = r.all;
+        holds = r.holds;
+        counts = r.counts;
+        under_way = record { past = gone.past; stands = gone.stands; is_at = gone.is_at };
+      }
+
+      -- and has come as far at least
+      pub running-keeps : progress_by n taken s ≤ progress_by m taken t
+      running-keeps =
+          let before : progress_here n r.all s ≡ all_progress n r.under_way.past = progress-is n r.all s r.under_way.past r.under_way.stands r.under_way.is_at in
+          let after : progress_here m r.all t ≡ all_progress m gone.past = progress-is m r.all t gone.past gone.stands gone.is_at in
+          subst (λ q. progress_by n q s ≤ progress_by m q t) (sym r.counts)
+          (subst (λ k. k ≤ progress_here m r.all t) (sym before) (subst (λ k. all_progress n r.under_way.past ≤ k) (sym after) gone.keeps))
+
+    -- a round that answered so
+    module _ (m taken' : PerChannel ℕ) (far' : F) (t : Bridge C M) (o : PerChannel Offered) (same : m ≡ counted n o)
+        (rounds : (x : Past C M) (all : Beats M C) → StandsFor s x → IsAt near n all x → HasRound near n (joined all (arriving x)) x t o)
+        (goes : (x : Past C M) (all : Beats M C) → StandsFor s x → Holds far all → Holds far' (joined all (arriving x)))
+        (counts : (x : Past C M) (all : Beats M C) → StandsFor s x → taken ≡ lengths all → taken' ≡ lengths (joined all (arriving x))) where
+      -- what was taken until then
+      abbrev pub all-taken : Beats M C
+      all-taken = joined r.all (arriving r.under_way.past)
+
+      pub round-is : HasRound near n all-taken r.under_way.past t o
+      round-is = rounds r.under_way.past r.all r.under_way.stands r.under_way.is_at
+
+      pub holds-all : Holds far' all-taken
+      holds-all = goes r.under_way.past r.all r.under_way.stands r.holds
+
+      pub counts-all : taken' ≡ lengths all-taken
+      counts-all = counts r.under_way.past r.all r.under_way.stands r.counts
+
+      -- where the run stands then
+      pub running-on : IsRunning Holds near m taken' far' t
+      running-on = record {
+        all = all-taken;
+        holds = holds-all;
+        counts = counts-all;
+        under_way = under-way-after n m all-taken r.under_way.past t o same round-is;
+      }
+
+      -- it is not the last one
+      pub running-further : (AreStopped o → all_under_way round-is.past ≡ 0 → ⊥) → progress_by n taken s + 1 ≤ progress_by m taken' t
+      running-further on =
+          subst (λ k. progress_by n k s + 1 ≤ progress_by m taken' t) (sym r.counts)
+          (subst (λ k. progress_here n r.all s + 1 ≤ progress_by m k t) (sym counts-all)
+          (subst (λ k. progress_here n r.all s + 1 ≤ progress_here k all-taken t) (sym same)
+          (further n r.all all-taken s t r.under_way.past o r.under_way.stands r.under_way.is_at round-is on)))
+
+      -- or it is
+      pub running-ended : (k : ℕ) → k ≤ progress_by n taken s → (stops : PerChannel Stop) → o ≡ all_stopped stops → all_under_way round-is.past ≡ 0 →
+          HasEnded near m all-taken t stops (k + 1)
+      running-ended k few stops stopped rest =
+          subst (λ q. HasEnded near q all-taken t stops (k + 1)) (sym same)
+          (ended n r.all all-taken s t r.under_way.past o r.under_way.stands r.under_way.is_at round-is k (subst (λ q. k ≤ progress_by n q s) r.counts few) stops stopped rest)
+
+  -- ---- the first round
+
+  -- where nothing has happened yet, whatever stands in the rings
+  abbrev pub untouched : (room : ℕ) → Past C M → Past C M
+  untouched room x = record {
+    client = [];
+    manager = [];
+    a = record x.a { room = room; accepted = []; homes = []; taken = []; closed = false };
+    b = record x.b { room = room; accepted = []; homes = []; taken = []; closed = false };
+    c = record x.c { room = room; accepted = []; homes = []; taken = []; closed = false };
+    d = record x.d { room = room; accepted = []; homes = []; taken = []; closed = false };
+    e = record x.e { room = room; accepted = []; homes = []; taken = []; closed = false };
+  }
+
+  -- a run stands at its beginning
+  pub begins : (n : PerChannel ℕ) (far : Beats M C) (room : ℕ) (x : Past C M) → n ≡ record { a = 0; b = 0; c = 0; d = 0; e = 0 } → far ≡ no_beats → 1 ≤ room →
+      IsAt near n far (untouched room x)
+  begins n far room x none empty l =
+      let here : IsAt near (record { a = 0; b = 0; c = 0; d = 0; e = 0 }) no_beats (untouched room x) = record {
+        run = rounds.begins;
+        a_sent = record { accepted = refl; most = omega arith; lawful = refl; taken = refl; shuts = λ k. search k; room = l };
+        b_sent = record { accepted = refl; most = omega arith; lawful = refl; taken = refl; shuts = λ k. search k; room = l };
+        c_sent = record { accepted = refl; most = omega arith; lawful = refl; taken = refl; shuts = λ k. search k; room = l };
+        d_sent = record { accepted = refl; most = omega arith; lawful = refl; taken = refl; shuts = λ k. search k; room = l };
+        e_sent = record { accepted = refl; most = omega arith; lawful = refl; taken = refl; shuts = λ k. search k; room = l };
+        a_homed = refl;
+        b_homed = refl;
+        c_homed = refl;
+        e_homed = refl;
+      } in
+      subst (λ k. IsAt near k far (untouched room x)) (sym none) (subst (λ k. IsAt near (record { a = 0; b = 0; c = 0; d = 0; e = 0 }) k (untouched room x)) (sym empty) here)
+
+  -- it is under way at a new bridge
+  pub starts : (n : PerChannel ℕ) (far : Beats M C) (s : Bridge C M) → n ≡ record { a = 0; b = 0; c = 0; d = 0; e = 0 } → far ≡ no_beats → IsNew s →
+      IsUnderWay near n far s
+  starts n far s none empty (room, some, f) = record { past = nothing_yet room; stands = f; is_at = begins n far room (nothing_yet room) none empty some }

@@ -1,0 +1,24 @@
+use Rattle.std.proofs.Common.{◌≡◌, ◌∙◌, refl, subst}
+use Rattle.std.specs.Prelude.{IfOk, IfErr}
+use Rattle.tl_run.specs.declared.outcome.RunFault.TheVariants.{OutOfMemory}
+use Rattle.tl_run.specs.Inner.Arriving.{beats_of}
+use Rattle.tl_run.specs.Inner.Running.{HasEnded, lengths}
+use Rattle.tl_run.proofs.EndsIn.{far-is}
+use Rattle.tl_run.proofs.rounds.outcome_of.Goals as goal
+
+pub returns : goal.returns
+returns g c = record {
+  outcome = λ near s h.
+      let far = beats_of c.args.far in
+      let end = c.in-Ok.end in
+      let ended = subst (λ r. IfOk r (λ end. HasEnded near end.at far s end.stops end.rounds)) c.in-Ok.is h in
+      let counts : record { a = c.len.result; b = c.len-2.result; c = c.len-3.result; d = c.len-4.result; e = c.len-5.result } ≡ lengths far =
+      rw (c.len.ensures ∙ c.args.far.a.ok.0, c.len-2.ensures ∙ c.args.far.b.ok.0, c.len-3.ensures ∙ c.args.far.c.ok.0, c.len-4.ensures ∙ c.args.far.d.ok.0, c.len-5.ensures ∙ c.args.far.e.ok.0) refl in
+      c.into_outcome.ensures near
+      (c.ending_of.ensures g.row.C g.row.M near far s c.requires.client c.requires.manager counts ended)
+      (far-is c.requires.client c.requires.manager near end.at far s end.stops end.rounds ended);
+  memory = λ h. tt;
+}
+
+pub returns-in-Err : goal.returns-in-Err
+returns-in-Err g c = record { outcome = λ near s h. tt; memory = λ h. subst (λ r. IfErr r (λ fault. fault ≡ OutOfMemory)) c.in-Err.is h }

@@ -1,0 +1,15 @@
+use Rattle.std.proofs.Common.{◌≡◌, ◌-◌, ◌≤◌}
+use Rattle.tl_run.specs.Scripts.{near_beats}
+use Rattle.tl_run.specs.Inner.Running.{IsRunning}
+use Rattle.tl_run.proofs.Ended.{progress_by, run_end}
+use Rattle.tl_run.proofs.rounds.run_rounds.Given as goal
+
+abbrev pub invariant-rounds : goal.invariant-rounds
+invariant-rounds g l = record {
+  running : IsRunning g.F.Arrivals.Holds (near_beats l.script) l.at l.taken l.far l.bridge;
+  same : g.F.Arrivals.made_with l.far ≡ g.F.Arrivals.made_with l.fn.far;
+  few : l.rounds ≤ progress_by l.at l.taken l.bridge;
+}
+
+abbrev pub decreases-rounds : goal.decreases-rounds
+decreases-rounds g l = run_end (near_beats l.script) - progress_by l.at l.taken l.bridge

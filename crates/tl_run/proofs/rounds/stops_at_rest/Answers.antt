@@ -1,0 +1,34 @@
+use Rattle.std.proofs.Common.{◌≡◌, IfSome, refl, sym, subst, ◌∙◌}
+use Rattle.tl_sides.proofs.BridgeSize.{bridge_small}
+use Rattle.tl_run.specs.Inner.Running.{all_stopped, all_under_way}
+use Rattle.tl_run.proofs.Ended.{all-standing-is}
+use Rattle.tl_run.proofs.rounds.stops_at_rest.Goals as goal
+
+pub returns-in_err-stops : goal.returns-in_err-stops
+returns-in_err-stops g c = record {
+  stops = subst (λ r. IfSome r (λ stops. c.args.offers.now ≡ all_stopped stops)) (sym c.from_residual.ensures) tt;
+  rests = λ x f. subst (λ r. IfSome r (λ _. all_under_way x ≡ 0)) (sym c.from_residual.ensures) tt;
+  goes = λ x f none stopped rest. c.in_err-stops.ensures.goes refl stopped;
+}
+
+pub returns-then-not-are_empty : goal.returns-then-not-are_empty
+returns-then-not-are_empty g c = record {
+  stops = tt;
+  rests = λ x f. tt;
+  goes = λ x f none stopped rest.
+      let e = all-standing-is c.args.bridge.now x c.standings.result f c.standings.ensures.a c.standings.ensures.b c.standings.ensures.c c.standings.ensures.d
+      c.standings.ensures.e in
+      let h = c.if-not-are_empty.ensures.1 (e ∙ rest) in cc (h);
+}
+
+pub returns : goal.returns
+returns g c = record {
+  stops = c.in_ok-stops.ensures.stops;
+  rests = λ x f.
+      sym (all-standing-is c.args.bridge.now x c.standings.result f c.standings.ensures.a c.standings.ensures.b c.standings.ensures.c c.standings.ensures.d
+      c.standings.ensures.e) ∙ c.if-not-are_empty.ensures.0 refl;
+  goes = λ x f none. cc (none);
+}
+
+pub standings-requires : goal.standings-requires
+standings-requires g c = bridge_small g.row.C g.row.M c.requires.client c.requires.manager

@@ -1,0 +1,13 @@
+use Rattle.std.proofs.Common.{ap}
+use Rattle.tl_run.proofs.taken.Taken.into_outcome.Goals as goal
+
+pub returns : goal.returns
+returns g c = λ near ending same. record {
+  far_a = ap (λ q. q.a) same;
+  far_b = ap (λ q. q.b) same;
+  far_c = ap (λ q. q.c) same;
+  far_d = ap (λ q. q.d) same;
+  far_e = ap (λ q. q.e) same;
+  verdicts_are = ending.verdicts_are;
+  few_rounds = ending.few_rounds;
+}

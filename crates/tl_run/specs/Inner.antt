@@ -1,0 +1,6 @@
+pub mod Widths
+pub mod Running
+pub mod Arriving
+pub mod Noting
+pub mod Offering
+pub mod Going

@@ -1,0 +1,103 @@
+-- A side of a run offers the next beat of one of its channels. Only contracts within the two runs cite these words.
+use Rattle.std.proofs.Common.{◌≡◌, ◌++◌, ℕ, Option, List, [], Result, Ok, Err, map, refl, ap, ◌∙◌, append-nil}
+use Rattle.tl_msg.specs.Rules.{Rules}
+use Rattle.tl_msg.specs.Tables.{rules_a, rules_b, rules_c, rules_d, rules_e}
+use Rattle.tl_msg.specs.declared.head.HeadA.{HeadA}
+use Rattle.tl_msg.specs.declared.head.HeadB.{HeadB}
+use Rattle.tl_msg.specs.declared.head.HeadC.{HeadC}
+use Rattle.tl_msg.specs.declared.head.HeadD.{HeadD}
+use Rattle.tl_msg.specs.declared.head.HeadE.{HeadE}
+use Rattle.tl_msg.specs.declared.beat.BeatOf.{BeatOf}
+use Rattle.tl_msg.specs.declared.fault.SideFault.{SideFault}
+use Rattle.tl_ring.specs.Crossing.{World}
+use Rattle.tl_ring.specs.declared.fault.EndFault.{EndFault}
+use Rattle.tl_settle.specs.Histories.{Event, Ask, Answer, client_answer, manager_answer, manager_home}
+use Rattle.tl_sides.specs.Bridges.{Bridge, Past, StandsFor}
+use Rattle.tl_sides.specs.Crossings.{stops_alone}
+use Rattle.tl_run.specs.Inner.Running.{Does}
+use Rattle.tl_run.specs.declared.channel_state.Offered.{Offered}
+use Rattle.tl_run.specs.declared.channel_state.Offered.TheVariants.{Accepted, Stopped}
+use Rattle.tl_run.specs.declared.channel_state.Stop.TheVariants.{Done, Cut, Refused}
+
+-- what becomes of a beat that is offered, and of a channel that has none left, by the answer to the offer and to the close
+abbrev pub offer_outcome : Result (Unit {0}) SideFault → Offered
+offer_outcome (Ok _) = Accepted
+offer_outcome (Err fault) = Stopped (Refused fault)
+
+abbrev pub close_outcome : Result (Unit {0}) EndFault → Offered
+close_outcome (Ok _) = Stopped Done
+close_outcome (Err _) = Stopped Cut
+
+-- what offers on a channel do to a side S that stands for pasts P
+pub record Offering (S P H : Type 0) (w v : ℕ) : Type 1 where
+  pub rules : Rules H
+  pub Stands : S → P → Type 0
+  -- what no offer changes is the same
+  pub Same : S → S → Type 0
+  -- the channel's crossing
+  pub crossing : P → World H w v
+  -- what the side answers to a beat, and the home of a message that the beat opens
+  pub answer : P → BeatOf H w → Option SideFault
+  pub home : P → BeatOf H w → ℕ
+  -- the past with these beats accepted, in all but the crossing, and the past with this crossing
+  pub note : List (BeatOf H w) → P → P
+  pub put : World H w v → P → P
+  -- it is as it was with no beat, and with its own crossing
+  pub noted : (x : P) → note [] x ≡ x
+  pub kept : (x : P) → put (crossing x) x ≡ x
+
+-- the next beat of a list was offered, of which n beats were accepted, if it might be
+pub record OffersNext {S P H : Type 0} {w v : ℕ} (k : Offering S P H w v) (bs : List (BeatOf H w)) (n : ℕ) (s : S) (o : Offered) (s' : S) : Type 0 where
+  pub same : k.Same s s'
+  pub does : (x : P) → k.Stands s x → (accepted : List (BeatOf H w)) × (y : World H w v) × k.Stands s' (k.put y (k.note accepted x)) ×
+      Does k.rules bs n (k.answer x) (k.home x) (k.crossing x) o accepted y
+
+module _ {S P H : Type 0} {w v : ℕ} (r : Rules H) (Stands : S → P → Type 0) (Same : S → S → Type 0) (crossing : P → World H w v) (put : World H w v → P → P)
+    (kept : (x : P) → put (crossing x) x ≡ x) where
+  -- a channel that nothing couples to another one
+  abbrev pub alone : Offering S P H w v
+  alone = record {
+    rules = r;
+    Stands = Stands;
+    Same = Same;
+    crossing = crossing;
+    answer = λ x. stops_alone r (crossing x).accepted;
+    home = λ _ _. 0;
+    note = λ _ x. x;
+    put = put;
+    noted = λ _. refl;
+    kept = kept;
+  }
+
+  -- a channel of a side whose answers and homes are those that its history says, in which each beat is an event
+  abbrev pub coupled : {n : ℕ} (event : BeatOf H w → Event n) (history : P → List (Event n)) (tell : List (Event n) → P → P) → ((x : P) → tell (history x) x ≡ x) →
+      (answer : List (Event n) → BeatOf H w → Option SideFault) (home : List (Event n) → BeatOf H w → ℕ) → Offering S P H w v
+  coupled event history tell told answer home = record alone {
+    answer = λ x. answer (history x);
+    home = λ x. home (history x);
+    note = λ bs x. tell (history x ++ map event bs) x;
+    noted = λ x. ap (λ q. tell q x) (append-nil (history x)) ∙ told x;
+  }
+
+module _ {C M : ℕ} where
+  -- the channels of a bridge in one thread
+  abbrev on_bridge : {H : Type 0} {w v : ℕ} (r : Rules H) (crossing : Past C M → World H w v) (put : World H w v → Past C M → Past C M) → ((x : Past C M) → put (crossing x) x ≡ x) →
+      Offering (Bridge C M) (Past C M) H w v
+  on_bridge r = alone r StandsFor (λ _ _. Unit {0})
+
+  abbrev pub on_bridge_a : Offering (Bridge C M) (Past C M) HeadA C M
+  on_bridge_a = coupled rules_a StandsFor (λ _ _. Unit {0}) (λ x. x.a) (λ y x. record x { a = y }) (λ _. refl) Ask (λ x. x.client) (λ es x. record x { client = es }) (λ _. refl)
+      client_answer (λ _ _. 0)
+
+  abbrev pub on_bridge_b : Offering (Bridge C M) (Past C M) HeadB M C
+  on_bridge_b = on_bridge rules_b (λ x. x.b) (λ y x. record x { b = y }) (λ _. refl)
+
+  abbrev pub on_bridge_c : Offering (Bridge C M) (Past C M) HeadC C M
+  on_bridge_c = on_bridge rules_c (λ x. x.c) (λ y x. record x { c = y }) (λ _. refl)
+
+  abbrev pub on_bridge_d : Offering (Bridge C M) (Past C M) HeadD M C
+  on_bridge_d = coupled rules_d StandsFor (λ _ _. Unit {0}) (λ x. x.d) (λ y x. record x { d = y }) (λ _. refl) Answer (λ x. x.manager) (λ es x. record x { manager = es }) (λ _. refl)
+      manager_answer (λ es b. manager_home es b.head)
+
+  abbrev pub on_bridge_e : Offering (Bridge C M) (Past C M) HeadE C M
+  on_bridge_e = on_bridge rules_e (λ x. x.e) (λ y x. record x { e = y }) (λ _. refl)

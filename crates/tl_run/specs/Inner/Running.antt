@@ -1,0 +1,253 @@
+-- What each channel of a run does within a round. Only contracts within the two runs cite these words.
+use Rattle.std.specs.Prelude.{◌≡◌, ◌≢◌, ◌+◌, ◌≤◌, ◌<◌, ◌^◌, ◌⊎◌, ◌++◌, ℕ, true, Option, None, Some, List, [], ◌∷◌, length, map, take, drop, slice_get}
+use Rattle.tl_msg.specs.Rules.{Rules}
+use Rattle.tl_msg.specs.Tables.{rules_a, rules_b, rules_c, rules_d, rules_e}
+use Rattle.tl_msg.specs.declared.head.HeadA.{HeadA}
+use Rattle.tl_msg.specs.declared.head.HeadB.{HeadB}
+use Rattle.tl_msg.specs.declared.head.HeadC.{HeadC}
+use Rattle.tl_msg.specs.declared.head.HeadD.{HeadD}
+use Rattle.tl_msg.specs.declared.head.HeadE.{HeadE}
+use Rattle.tl_msg.specs.declared.beat.BeatOf.{BeatOf}
+use Rattle.tl_msg.specs.declared.fault.SideFault.{SideFault}
+use Rattle.tl_msg.specs.declared.fault.SideFault.TheVariants.{Beat, SourceBusy, NoRequest, SizeMismatch}
+use Rattle.tl_msg.specs.declared.verdict.Verdict.{Verdict}
+use Rattle.tl_msg.specs.declared.verdict.Verdict.TheVariants as ending
+use Rattle.tl_burst.specs.Begun.{heads}
+use Rattle.tl_burst.specs.Handing.{rest_of}
+use Rattle.tl_convert.specs.Accepted.{accepted_of, accepted_after}
+use Rattle.tl_ring.specs.Crossing.{World, offered, shut}
+use Rattle.tl_ring.specs.declared.standing.Standing.{Standing}
+use Rattle.tl_settle.specs.Histories.{Ask, Answer, client_answer, manager_answer, manager_home}
+use Rattle.tl_settle.specs.Rounds.{Run}
+use Rattle.tl_settle.specs.Outcomes.{Beats}
+use Rattle.tl_sides.specs.declared.per_channel.PerChannel.{PerChannel}
+use Rattle.tl_sides.specs.Crossings.{stops_alone}
+use Rattle.tl_sides.specs.Bridges.{Bridge, Past, StandsFor, nothing_yet}
+use Rattle.tl_run.specs.declared.channel_state.Stop.{Stop}
+use Rattle.tl_run.specs.declared.channel_state.Stop.TheVariants.{Done, Cut, Refused}
+use Rattle.tl_run.specs.declared.channel_state.Offered.{Offered}
+use Rattle.tl_run.specs.declared.channel_state.Offered.TheVariants.{Accepted, NotReady, Stopped}
+
+-- ---- one channel
+
+-- how many beats a channel accepts in a round
+abbrev pub steps : Offered → ℕ
+steps Accepted = 1
+steps NotReady = 0
+steps (Stopped stop) = 0
+
+module _ {H : Type 0} {w v : ℕ} where
+  -- all of an inbox is taken
+  abbrev pub emptied : World H w v → World H w v
+  emptied x = record x { inbox = []; taken = x.taken ++ x.inbox }
+
+  -- how many beats are under way
+  abbrev pub under_way : World H w v → ℕ
+  under_way x = length x.stage + length x.ring + length x.inbox
+
+  -- how far a channel has come: the beats that were accepted, those that went into its ring, and those that came out of it
+  abbrev pub progress : (n : ℕ) → World H w v → ℕ
+  progress n x = n + (length x.taken + length x.inbox + length x.ring) + (length x.taken + length x.inbox)
+
+module _ {H : Type 0} (r : Rules H) {w v : ℕ} (bs : List (BeatOf H w)) (n : ℕ) where
+  -- What becomes of the next beat of a list of which n beats were accepted, where the channel's side answers this to a beat and the home of a
+  -- message that it opens is this: which beats are accepted, and the crossing after it
+  abbrev pub Does : (answer : BeatOf H w → Option SideFault) → (home : BeatOf H w → ℕ) → (x : World H w v) → Offered → (accepted : List (BeatOf H w)) →
+      (y : World H w v) → Type 0
+  Does answer home x Accepted accepted y =
+      (b : BeatOf H w) × (slice_get bs n ≡ Some b) × (answer b ≡ None) × (accepted ≡ b ∷ []) × (y ≡ offered r b (home b) x)
+  Does answer home x NotReady accepted y =
+      (b : BeatOf H w) × (slice_get bs n ≡ Some b) × ((x.stage ≢ []) ⊎ (x.closed ≡ true)) × (accepted ≡ []) × (y ≡ x)
+  Does answer home x (Stopped (Refused fault)) accepted y =
+      (b : BeatOf H w) × (slice_get bs n ≡ Some b) × (answer b ≡ Some fault) × (accepted ≡ []) × (y ≡ x)
+  Does answer home x (Stopped Done) accepted y =
+      (slice_get bs n ≡ None) × (rest_of r w x.accepted ≡ []) × (accepted ≡ []) × (y ≡ shut x)
+  Does answer home x (Stopped Cut) accepted y =
+      (slice_get bs n ≡ None) × (rest_of r w x.accepted ≢ []) × (accepted ≡ []) × (y ≡ x)
+
+  -- the first n beats of a list were accepted, all of them before the first one that has a fault of its own, and `far` was taken
+  pub record IsSent (far : List (BeatOf H v)) (x : World H w v) : Type 0 where
+    pub accepted : x.accepted ≡ take n bs
+    pub most : n ≤ length bs
+    pub lawful : accepted_of r bs ≡ take n bs ++ accepted_after r (take n bs) (drop n bs)
+    pub taken : far ≡ x.taken
+    -- a channel that is closed has no beat left
+    pub shuts : x.closed ≡ true → n ≡ length bs
+    pub room : 1 ≤ x.room
+
+module _ {H : Type 0} (r : Rules H) {w : ℕ} (bs : List (BeatOf H w)) (n : ℕ) where
+  -- why no beat was accepted in the round that led here, where none was
+  abbrev pub Stops : (answer : BeatOf H w → Option SideFault) → (accepted : List (BeatOf H w)) → Offered → Type 0
+  Stops answer accepted Accepted = Unit {0}
+  Stops answer accepted NotReady = Unit {0}
+  Stops answer accepted (Stopped (Refused fault)) = (b : BeatOf H w) × (slice_get bs n ≡ Some b) × (answer b ≡ Some fault)
+  Stops answer accepted (Stopped Done) = (slice_get bs n ≡ None) × (rest_of r w accepted ≡ [])
+  Stops answer accepted (Stopped Cut) = (slice_get bs n ≡ None) × (rest_of r w accepted ≢ [])
+
+-- the homes of a channel on which the beats themselves say them
+abbrev pub IsHomed : {H : Type 0} (r : Rules H) {w v : ℕ} → World H w v → Type 0
+IsHomed r {w = w} x = x.homes ≡ map (λ h. r.lane_address h 0) (heads r w x.accepted)
+
+-- a channel that nothing stopped, or on which beats are under way after a round, has come further in it
+abbrev pub IsStopped : Offered → Type 0
+IsStopped Accepted = ⊥
+IsStopped NotReady = ⊥
+IsStopped (Stopped stop) = Unit {0}
+
+-- the verdict of a channel that offers no more
+abbrev pub stop_verdict : Stop → (near far : ℕ) → Verdict
+stop_verdict Done near far = ending.Done near far
+stop_verdict Cut near far = ending.Cut near far
+stop_verdict (Refused (Beat fault)) near far = ending.Refused near (Beat fault)
+stop_verdict (Refused SourceBusy) near far = ending.Waiting near SourceBusy
+stop_verdict (Refused NoRequest) near far = ending.Waiting near NoRequest
+stop_verdict (Refused SizeMismatch) near far = ending.Refused near SizeMismatch
+
+-- ---- the five channels
+
+-- how many beats stand at the places of all channels
+abbrev pub standing_count : Standing → ℕ
+standing_count s = s.staged + s.in_ring + s.inbox
+
+abbrev pub all_standing : PerChannel Standing → ℕ
+all_standing s = standing_count s.a + standing_count s.b + standing_count s.c + standing_count s.d + standing_count s.e
+
+module _ {C M : ℕ} where
+  -- what stands in the inboxes of a bridge, and of what it stands for
+  abbrev pub inboxes : Bridge C M → Beats M C
+  inboxes s = record { a = s.a.inbox; b = s.b.inbox; c = s.c.inbox; d = s.d.inbox; e = s.e.inbox }
+
+  abbrev pub arriving : Past C M → Beats M C
+  arriving x = record { a = x.a.inbox; b = x.b.inbox; c = x.c.inbox; d = x.d.inbox; e = x.e.inbox }
+
+  -- how many beats there are of each channel
+  abbrev pub lengths : Beats C M → PerChannel ℕ
+  lengths bs = record { a = length bs.a; b = length bs.b; c = length bs.c; d = length bs.d; e = length bs.e }
+
+  -- each side takes all that stands in its inboxes
+  abbrev pub after_takes : Past C M → Past C M
+  after_takes x = record {
+    client = x.client ++ map Answer x.d.inbox;
+    manager = x.manager ++ map Ask x.a.inbox;
+    a = emptied x.a;
+    b = emptied x.b;
+    c = emptied x.c;
+    d = emptied x.d;
+    e = emptied x.e;
+  }
+
+  -- how far a run has come
+  abbrev pub all_progress : PerChannel ℕ → Past C M → ℕ
+  all_progress n x = progress n.a x.a + progress n.b x.b + progress n.c x.c + progress n.d x.d + progress n.e x.e
+
+  abbrev pub all_under_way : Past C M → ℕ
+  all_under_way x = under_way x.a + under_way x.b + under_way x.c + under_way x.d + under_way x.e
+
+abbrev pub AreStopped : PerChannel Offered → Type 0
+AreStopped o = IsStopped o.a × IsStopped o.b × IsStopped o.c × IsStopped o.d × IsStopped o.e
+
+-- every channel offers no more
+abbrev pub all_stopped : PerChannel Stop → PerChannel Offered
+all_stopped s = record { a = Stopped s.a; b = Stopped s.b; c = Stopped s.c; d = Stopped s.d; e = Stopped s.e }
+
+-- there is room to count one beat more
+pub record HaveRoomToCount (n : PerChannel ℕ) : Type 0 where
+  pub a : n.a < 2 ^ 41
+  pub b : n.b < 2 ^ 41
+  pub c : n.c < 2 ^ 41
+  pub d : n.d < 2 ^ 41
+  pub e : n.e < 2 ^ 41
+
+-- so many beats of each channel, and so many more
+abbrev pub added : PerChannel ℕ → PerChannel ℕ → PerChannel ℕ
+added n m = record { a = n.a + m.a; b = n.b + m.b; c = n.c + m.c; d = n.d + m.d; e = n.e + m.e }
+
+-- these can be counted
+pub record CanAdd (n m : PerChannel ℕ) : Type 0 where
+  pub a : n.a + m.a < 2 ^ 60
+  pub b : n.b + m.b < 2 ^ 60
+  pub c : n.c + m.c < 2 ^ 60
+  pub d : n.d + m.d < 2 ^ 60
+  pub e : n.e + m.e < 2 ^ 60
+
+-- so many beats of each list were accepted after a round
+abbrev pub counted : PerChannel ℕ → PerChannel Offered → PerChannel ℕ
+counted n o = record { a = n.a + steps o.a; b = n.b + steps o.b; c = n.c + steps o.c; d = n.d + steps o.d; e = n.e + steps o.e }
+
+-- the near beats of the five channels
+module _ {C M : ℕ} (near : Beats C M) where
+  -- each channel offers its next beat, if it may
+  pub record HasOffered (n : PerChannel ℕ) (x : Past C M) (s : Bridge C M) (o : PerChannel Offered) : Type 0 where
+    pub past : Past C M
+    pub stands : StandsFor s past
+    pub beats_a : List (BeatOf HeadA C)
+    pub beats_b : List (BeatOf HeadB M)
+    pub beats_c : List (BeatOf HeadC C)
+    pub beats_d : List (BeatOf HeadD M)
+    pub beats_e : List (BeatOf HeadE C)
+    pub client : past.client ≡ x.client ++ map Ask beats_a
+    pub manager : past.manager ≡ x.manager ++ map Answer beats_d
+    pub does_a : Does rules_a near.a n.a (client_answer x.client) (λ _. 0) x.a o.a beats_a past.a
+    pub does_b : Does rules_b near.b n.b (stops_alone rules_b x.b.accepted) (λ _. 0) x.b o.b beats_b past.b
+    pub does_c : Does rules_c near.c n.c (stops_alone rules_c x.c.accepted) (λ _. 0) x.c o.c beats_c past.c
+    pub does_d : Does rules_d near.d n.d (manager_answer x.manager) (λ y. manager_home x.manager y.head) x.d o.d beats_d past.d
+    pub does_e : Does rules_e near.e n.e (stops_alone rules_e x.e.accepted) (λ _. 0) x.e o.e beats_e past.e
+
+  -- where a run stands between two rounds, when so many beats of each list were accepted and these beats were taken
+  pub record IsAt (n : PerChannel ℕ) (far : Beats M C) (past : Past C M) : Type 0 where
+    -- what has happened on A and D is a run in rounds
+    pub run : Run near.a near.d n.a n.d past.client past.manager
+    pub a_sent : IsSent rules_a near.a n.a far.a past.a
+    pub b_sent : IsSent rules_b near.b n.b far.b past.b
+    pub c_sent : IsSent rules_c near.c n.c far.c past.c
+    pub d_sent : IsSent rules_d near.d n.d far.d past.d
+    pub e_sent : IsSent rules_e near.e n.e far.e past.e
+    pub a_homed : IsHomed rules_a past.a
+    pub b_homed : IsHomed rules_b past.b
+    pub c_homed : IsHomed rules_c past.c
+    pub e_homed : IsHomed rules_e past.e
+
+  -- why each channel stands still, where it does
+  pub record AllStop (n : PerChannel ℕ) (past : Past C M) (o : PerChannel Offered) : Type 0 where
+    pub stop_a : Stops rules_a near.a n.a (client_answer past.client) past.a.accepted o.a
+    pub stop_b : Stops rules_b near.b n.b (stops_alone rules_b past.b.accepted) past.b.accepted o.b
+    pub stop_c : Stops rules_c near.c n.c (stops_alone rules_c past.c.accepted) past.c.accepted o.c
+    pub stop_d : Stops rules_d near.d n.d (manager_answer past.manager) past.d.accepted o.d
+    pub stop_e : Stops rules_e near.e n.e (stops_alone rules_e past.e.accepted) past.e.accepted o.e
+
+  -- a round: where the run stands after it, why it stands still there, and that it has come further if it doesn't
+  pub record HasRound (n : PerChannel ℕ) (far : Beats M C) (x : Past C M) (s : Bridge C M) (o : PerChannel Offered) : Type 0 where
+    pub past : Past C M
+    pub stands : StandsFor s past
+    pub is_at : IsAt (counted n o) far past
+    pub stops : AllStop (counted n o) past o
+    pub keeps : all_progress n x ≤ all_progress (counted n o) past
+    pub goes : (all_progress n x + 1 ≤ all_progress (counted n o) past) ⊎ (AreStopped o × (all_under_way past ≡ 0))
+
+  -- a run is under way: its bridge stands for a past that it has come to
+  pub record IsUnderWay (n : PerChannel ℕ) (far : Beats M C) (s : Bridge C M) : Type 0 where
+    pub past : Past C M
+    pub stands : StandsFor s past
+    pub is_at : IsAt n far past
+
+  -- a run has ended: every channel stands still, nothing is under way, and there was at most one round more than beats that were accepted, that
+  -- went into a ring or that came out of one
+  pub record HasEnded (n : PerChannel ℕ) (far : Beats M C) (s : Bridge C M) (stops : PerChannel Stop) (rounds : ℕ) : Type 0 where
+    pub past : Past C M
+    pub stands : StandsFor s past
+    pub is_at : IsAt n far past
+    pub all_stop : AllStop n past (all_stopped stops)
+    pub at_rest : all_under_way past ≡ 0
+    pub few_rounds : rounds ≤ all_progress n past + 1
+
+-- the same where what was taken went to where `Holds` says that it is, and was counted
+module _ {F : Type 0} {C M : ℕ} (Holds : F → Beats M C → Type 0) (near : Beats C M) where
+  pub record IsRunning (n taken : PerChannel ℕ) (far : F) (s : Bridge C M) : Type 0 where
+    pub all : Beats M C
+    pub holds : Holds far all
+    pub counts : taken ≡ lengths all
+    pub under_way : IsUnderWay near n all s
+
+-- a new bridge, whose rings hold a beat at least
+abbrev pub IsNew : {C M : ℕ} → Bridge C M → Type 0
+IsNew s = (room : ℕ) × (1 ≤ room) × StandsFor s (nothing_yet room)

@@ -1,0 +1,4 @@
+pub mod Arrivals
+pub mod Scripts
+pub mod Names
+pub mod Inner

@@ -1,0 +1,56 @@
+-- What the run of a script promises (this project's choice).
+use Rattle.std.specs.Prelude.{◌≡◌, ◌+◌, ◌*◌, ◌≤◌, ◌^◌, ℕ, length}
+use Rattle.tl_msg.specs.Tables.{rules_b, rules_c, rules_e}
+use Rattle.tl_convert.specs.Accepted.{accepted_of}
+use Rattle.tl_settle.specs.Settling.{settled_state}
+use Rattle.tl_settle.specs.Outcomes.{Beats, far_beats, verdicts}
+use Rattle.tl_trace.specs.declared.script.Script.{Script}
+use Rattle.tl_run.specs.declared.outcome.Ending.{Ending}
+use Rattle.tl_run.specs.declared.outcome.Outcome.{Outcome}
+
+module _ {C M : ℕ} (near : Beats C M) where
+  -- the lists are not too long to be counted
+  pub record IsShort : Type 0 where
+    pub few_a : length near.a ≤ 2 ^ 40
+    pub few_b : length near.b ≤ 2 ^ 40
+    pub few_c : length near.c ≤ 2 ^ 40
+    pub few_d : length near.d ≤ 2 ^ 40
+    pub few_e : length near.e ≤ 2 ^ 40
+
+  -- how many near beats are accepted in the end, on all channels
+  abbrev pub near_count : ℕ
+  near_count =
+      let state = settled_state near.a near.d in
+      state.a + length (accepted_of rules_b near.b) + length (accepted_of rules_c near.c) + state.d + length (accepted_of rules_e near.e)
+
+  -- how many far beats these make due
+  abbrev pub far_count : ℕ
+  far_count =
+      let far = far_beats near in length far.a + length far.b + length far.c + length far.d + length far.e
+
+  -- the five verdicts are those of the settled state, and there were not too many rounds
+  pub record HasEnding (ending : Ending) : Type 0 where
+    pub verdicts_are : ending.verdicts ≡ verdicts near
+    pub few_rounds : ending.rounds ≤ near_count + 2 * far_count + 1
+
+  -- the five lists of far beats and the five verdicts are those of the settled state, and there were not too many rounds
+  pub record EndsIn (outcome : Outcome C M) : Type 0 where
+    pub far_a : outcome.a.items ≡ (far_beats near).a
+    pub far_b : outcome.b.items ≡ (far_beats near).b
+    pub far_c : outcome.c.items ≡ (far_beats near).c
+    pub far_d : outcome.d.items ≡ (far_beats near).d
+    pub far_e : outcome.e.items ≡ (far_beats near).e
+    pub verdicts_are : outcome.verdicts ≡ verdicts near
+    pub few_rounds : outcome.rounds ≤ near_count + 2 * far_count + 1
+
+-- the same of a script
+module _ {C M : ℕ} where
+  -- its near beats
+  abbrev pub near_beats : Script C M → Beats C M
+  near_beats s = record { a = s.a.items; b = s.b.items; c = s.c.items; d = s.d.items; e = s.e.items }
+
+  abbrev pub HasShortLists : Script C M → Type 0
+  HasShortLists s = IsShort (near_beats s)
+
+  abbrev pub SettlesTo : Script C M → Outcome C M → Type 0
+  SettlesTo s outcome = EndsIn (near_beats s) outcome

@@ -1,0 +1,115 @@
+//! What a run ends in, or why there is none.
+ghost use Rattle.std.specs.Prelude.{◌≡◌, Some};
+ghost use Rattle.tl_msg.specs.Names.{numbered};
+ghost use Rattle.tl_run.specs.Inner.Running.{stop_verdict};
+ghost use Rattle.tl_run.specs.Names.{run_fault_number, run_fault_name, of_build_fault};
+ghost use Rattle.tl_run.specs.declared.outcome.RunFault.TheVariants.{OutOfMemory};
+
+use crate::channel_state::Stop;
+use std::alloc::AllocError;
+use std::fmt;
+use thiserror::Error;
+use tl_msg::{Beat, ChA, ChB, ChC, ChD, ChE, SideFault, Verdict};
+use tl_ring::BuildFault;
+
+/// What a script ends in: the far beats that each side took, one verdict for each channel from A to
+/// E, and how many rounds the run had. The manager's side takes A, C and E, on `M` lanes; the
+/// client's side takes B and D, on `C` lanes.
+#[derive(Drop)]
+pub struct Outcome<const C: usize, const M: usize> {
+    pub a: Vec<Beat<ChA, M>>,
+    pub b: Vec<Beat<ChB, C>>,
+    pub c: Vec<Beat<ChC, M>>,
+    pub d: Vec<Beat<ChD, C>>,
+    pub e: Vec<Beat<ChE, M>>,
+    pub verdicts: [Verdict; 5],
+    pub rounds: u64,
+}
+
+/// How a run ends whose far beats stand elsewhere: one verdict for each channel from A to E, and how
+/// many rounds it had.
+#[derive(Drop)]
+pub struct Ending {
+    pub verdicts: [Verdict; 5],
+    pub rounds: u64,
+}
+
+/// Why a script was not run. `RingSize` is tested first.
+#[derive(Clone, Copy, PartialEq, Eq, Debug, Error)]
+pub enum RunFault {
+    /// 12: the rings are to hold no beat, or more than 4,096 (this project's choice).
+    RingSize,
+    /// 13: there was no memory for the bridge or for the far beats.
+    OutOfMemory,
+    /// 20: the two sides stopped moving before all beats had arrived. No run ends so: the name stays
+    /// for its number.
+    Stalled,
+}
+
+impl RunFault {
+    /// The fault's number: 12, 13 or 20 (this project's choice).
+    pub fn number(&self) -> u8
+        ensures { result ≡ run_fault_number self.now }
+    {
+        match self {
+            RunFault::RingSize => 12,
+            RunFault::OutOfMemory => 13,
+            RunFault::Stalled => 20,
+        }
+    }
+
+    /// The fault's name, spelled as the variant (this project's choice).
+    pub fn name(&self) -> &'static str
+        ensures { result.now ≡ run_fault_name self.now }
+    {
+        match self {
+            RunFault::RingSize => "RingSize",
+            RunFault::OutOfMemory => "OutOfMemory",
+            RunFault::Stalled => "Stalled",
+        }
+    }
+}
+
+// The number and the name, as in `12 RingSize`.
+impl fmt::Display for RunFault {
+    ghost output = { λ fault. Some (numbered (run_fault_number fault) (run_fault_name fault)) };
+
+    fn fmt<W: fmt::Write>(&self, f: &mut fmt::Formatter<W>) -> fmt::Result {
+        write!(f, "{} {}", self.number(), self.name())
+    }
+}
+
+impl From<BuildFault> for RunFault {
+    ghost from_gives = { λ fault e. e ≡ of_build_fault fault };
+
+    fn from(fault: BuildFault) -> RunFault {
+        match fault {
+            BuildFault::RingSize => RunFault::RingSize,
+            BuildFault::OutOfMemory => RunFault::OutOfMemory,
+        }
+    }
+}
+
+impl From<AllocError> for RunFault {
+    ghost from_gives = { λ _ e. e ≡ OutOfMemory };
+
+    fn from(_e: AllocError) -> RunFault {
+        RunFault::OutOfMemory
+    }
+}
+
+// The verdict of a channel that offers no more, where so many near beats were accepted and so many
+// far beats taken.
+pub(crate) fn verdict(stop: &Stop, near: usize, far: usize) -> Verdict
+    ensures { result ≡ stop_verdict stop.now near far }
+{
+    let (near, far) = (near as u64, far as u64);
+    match *stop {
+        Stop::Done => Verdict::Done { near, far },
+        Stop::Cut => Verdict::Cut { near, far },
+        Stop::Refused(fault) => match fault {
+            SideFault::Beat(_) | SideFault::SizeMismatch => Verdict::Refused { at: near, fault },
+            SideFault::SourceBusy | SideFault::NoRequest => Verdict::Waiting { at: near, fault },
+        },
+    }
+}

@@ -1,0 +1,204 @@
+//! The rounds of a run in one thread, and how each channel ends.
+ghost use Rattle.std.specs.Prelude.{◌≡◌, ◌<◌, ◌^◌, ◌↔◌, ℕ, IsTrue, IfSome, IsNone, IfOk, IfErr, OnOk};
+ghost use Rattle.tl_lanes.specs.Lanes.{IsWidth};
+ghost use Rattle.tl_settle.specs.Outcomes.{Beats, far_beats};
+ghost use Rattle.tl_sides.specs.Bridges.{Bridge, Past, StandsFor};
+ghost use Rattle.tl_run.specs.declared.outcome.RunFault.TheVariants.{OutOfMemory};
+ghost use Rattle.tl_run.specs.Arrivals.{joined, no_beats};
+ghost use Rattle.tl_run.specs.Scripts.{EndsIn, HasEnding, HasShortLists, near_beats};
+ghost use Rattle.tl_run.specs.Inner.Widths.{AreWidths};
+ghost use Rattle.tl_run.specs.Inner.Arriving.{beats_of};
+ghost use Rattle.tl_run.specs.Inner.Running.{IsAt, arriving, lengths, IsRunning, IsNew, HasRound, HasEnded, AreStopped, HasOffered, HaveRoomToCount, counted, standing_count, all_standing, all_under_way, all_stopped};
+
+use crate::ahead::all_go_ahead;
+use crate::arrivals::Arrivals;
+use crate::channel_state::{Offered, Stop, add_accepted, all_stops};
+use crate::offers::Offers;
+use crate::outcome::{Ending, Outcome, RunFault, verdict};
+use crate::taken::{Taken, take_from_each};
+use std::alloc::AllocError;
+use tl_ring::Standing;
+use tl_sides::{PerChannel, Standings, SyncBridge};
+use tl_trace::Script;
+
+/// Where a run has ended: how many beats of each channel were accepted, why it offers no more, and
+/// how many rounds there were (this project's choice).
+#[derive(Drop)]
+pub struct End {
+    pub at: PerChannel<usize>,
+    pub stops: PerChannel<Stop>,
+    pub rounds: u64,
+}
+
+// Whether nothing is under way on a channel.
+fn is_empty(standing: &Standing) -> bool
+    ensures { IsTrue result ↔ (standing_count standing.now ≡ 0) }
+{
+    (standing.staged == 0) & (standing.in_ring == 0) & (standing.inbox == 0)
+}
+
+/// Whether nothing is under way: on no channel a beat stands in the stage, the ring or the inbox
+/// (this project's choice).
+pub fn are_empty(standings: &Standings) -> bool
+    ensures { IsTrue result ↔ (all_standing standings.now ≡ 0) }
+{
+    is_empty(&standings.a)
+        & is_empty(&standings.b)
+        & is_empty(&standings.c)
+        & is_empty(&standings.d)
+        & is_empty(&standings.e)
+}
+
+// Each side offers the next beat of each of its channels: first the client's side, then the
+// manager's, each in the order of letters. `at` counts what is accepted.
+fn offer_on_each<const C: usize, const M: usize>(
+    bridge: &mut SyncBridge<C, M>,
+    script: &Script<C, M>,
+    at: &mut PerChannel<usize>,
+) -> PerChannel<Offered>
+    requires { AreWidths C M × HaveRoomToCount at.old }
+    ensures offered { (x : Past C M) → StandsFor bridge.old x →
+        HasOffered (near_beats script.now) at.old x bridge.new result }
+    ensures counted { at.new ≡ counted at.old result }
+{
+    let a = bridge.offer_next(&script.a, at.a);
+    let c = bridge.offer_next(&script.c, at.c);
+    let e = bridge.offer_next(&script.e, at.e);
+    let b = bridge.offer_next(&script.b, at.b);
+    let d = bridge.offer_next(&script.d, at.d);
+    let offers = PerChannel { a, b, c, d, e };
+    add_accepted(at, &offers);
+    offers
+}
+
+// One round: both sides take all that stands in their inboxes, which goes to `far` and is counted by
+// `taken`, then each offers the next beat of each of its channels, and then what is staged and what
+// stands in the rings moves on, as far as there is room.
+fn round<F: Arrivals<C, M>, const C: usize, const M: usize>(
+    bridge: &mut SyncBridge<C, M>,
+    script: &Script<C, M>,
+    at: &mut PerChannel<usize>,
+    taken: &mut PerChannel<usize>,
+    far: &mut F,
+) -> Result<PerChannel<Offered>, AllocError>
+    requires { AreWidths C M × HasShortLists script.now ×
+        IsRunning F.Holds (near_beats script.now) at.old taken.old far.old bridge.old }
+    ensures round { (x : Past C M) (all : Beats M C) → StandsFor bridge.old x →
+        IsAt (near_beats script.now) at.old all x → IfOk result (λ offers.
+        HasRound (near_beats script.now) at.old (joined all (arriving x)) x bridge.new offers) }
+    ensures far { (x : Past C M) (all : Beats M C) → StandsFor bridge.old x →
+        F.Holds far.old all → OnOk result (F.Holds far.new (joined all (arriving x))) }
+    ensures same { OnOk result (F.made_with far.new ≡ F.made_with far.old) }
+    ensures counted { IfOk result (λ offers. at.new ≡ counted at.old offers) }
+    ensures taken { (x : Past C M) (all : Beats M C) → StandsFor bridge.old x →
+        taken.old ≡ lengths all →
+        OnOk result (taken.new ≡ lengths (joined all (arriving x))) }
+{
+    take_from_each(bridge, far, taken)?;
+    let offers = offer_on_each(bridge, script, at);
+    bridge.pump();
+    bridge.fetch();
+    Ok(offers)
+}
+
+// Why each channel offers no more after a round, where nothing is under way. None where there is
+// another round.
+fn stops_at_rest<const C: usize, const M: usize>(
+    bridge: &SyncBridge<C, M>,
+    offers: &PerChannel<Offered>,
+) -> Option<PerChannel<Stop>>
+    requires { AreWidths C M }
+    ensures stops { IfSome result (λ stops. offers.now ≡ all_stopped stops) }
+    ensures rests { (x : Past C M) → StandsFor bridge.now x →
+        IfSome result (λ _. all_under_way x ≡ 0) }
+    ensures goes { (x : Past C M) → StandsFor bridge.now x → IsNone result →
+        AreStopped offers.now → all_under_way x ≡ 0 → ⊥ }
+{
+    let stops = all_stops(offers)?;
+    if !are_empty(&bridge.standings()) {
+        return None;
+    }
+    Some(stops)
+}
+
+// How a run ends that has ended there, where so many far beats of each channel were taken.
+fn ending_of(
+    at: &PerChannel<usize>,
+    stops: &PerChannel<Stop>,
+    rounds: u64,
+    taken: &PerChannel<usize>,
+) -> Ending
+    ensures { (C M : ℕ) (near : Beats C M) (far : Beats M C) (s : Bridge C M) →
+        IsWidth C → IsWidth M → taken.now ≡ lengths far →
+        HasEnded near at.now far s stops.now rounds → HasEnding near result }
+{
+    let verdicts = [
+        verdict(&stops.a, at.a, taken.a),
+        verdict(&stops.b, at.b, taken.b),
+        verdict(&stops.c, at.c, taken.c),
+        verdict(&stops.d, at.d, taken.d),
+        verdict(&stops.e, at.e, taken.e),
+    ];
+    Ending { verdicts, rounds }
+}
+
+// Rounds, up to the first one in which no channel could offer more, and after which nothing is
+// under way. After each one a channel whose beat was accepted goes on, by at most so many beats.
+pub(crate) fn run_rounds<F: Arrivals<C, M>, const C: usize, const M: usize>(
+    bridge: &mut SyncBridge<C, M>,
+    script: &Script<C, M>,
+    far: &mut F,
+    most: usize,
+) -> Result<Ending, RunFault>
+    requires { AreWidths C M × HasShortLists script.now × (most < 2 ^ 41) × IsNew bridge.old ×
+        F.Holds far.old no_beats }
+    ensures ending { IfOk result (HasEnding (near_beats script.now)) }
+    ensures far { OnOk result (F.Holds far.new (far_beats (near_beats script.now))) }
+    ensures same { OnOk result (F.made_with far.new ≡ F.made_with far.old) }
+    ensures memory { IfErr result (λ fault. fault ≡ OutOfMemory) }
+{
+    let mut at = PerChannel {
+        a: 0,
+        b: 0,
+        c: 0,
+        d: 0,
+        e: 0,
+    };
+    let mut taken = at;
+    let mut rounds = 0;
+    'rounds: loop {
+        let offers = round(bridge, script, &mut at, &mut taken, far)?;
+        rounds += 1;
+        if let Some(stops) = stops_at_rest(bridge, &offers) {
+            return Ok(ending_of(&at, &stops, rounds, &taken));
+        }
+        all_go_ahead(bridge, script, &offers, &mut at, most);
+    }
+}
+
+/// The outcome of a run by the far beats that it took: where it has ended, these, the verdict of each
+/// channel and the number of rounds; else the run's fault (this project's choice).
+pub fn outcome_of<const C: usize, const M: usize>(
+    ended: Result<End, RunFault>,
+    far: Taken<C, M>,
+) -> Result<Outcome<C, M>, RunFault>
+    requires { AreWidths C M }
+    ensures outcome { (near : Beats C M) (s : Bridge C M) →
+        IfOk ended (λ end. HasEnded near end.at (beats_of far.entry) s end.stops end.rounds) →
+        IfOk result (EndsIn near) }
+    ensures memory { IfErr ended (λ fault. fault ≡ OutOfMemory) →
+        IfErr result (λ fault. fault ≡ OutOfMemory) }
+{
+    let end = match ended {
+        Ok(end) => end,
+        Err(fault) => return Err(fault),
+    };
+    let taken = PerChannel {
+        a: far.a.len(),
+        b: far.b.len(),
+        c: far.c.len(),
+        d: far.d.len(),
+        e: far.e.len(),
+    };
+    Ok(far.into_outcome(ending_of(&end.at, &end.stops, end.rounds, &taken)))
+}

@@ -1,0 +1,119 @@
+//! The run of a whole script in one thread.
+ghost use Rattle.std.specs.Prelude.{◌≡◌, ◌≢◌, ◌≤◌, ◌<◌, ◌^◌, ◌⊎◌, ◌↔◌, IsOk, IfOk, IfErr, OnOk};
+ghost use Rattle.tl_ring.specs.declared.pipe.TheConstants.{MAX_RING};
+ghost use Rattle.tl_lanes.specs.Lanes.{IsWidth};
+ghost use Rattle.tl_run.specs.declared.outcome.RunFault.TheVariants.{RingSize, OutOfMemory, Stalled};
+ghost use Rattle.tl_settle.specs.Outcomes.{far_beats};
+ghost use Rattle.tl_run.specs.Arrivals.{no_beats};
+ghost use Rattle.tl_run.specs.Scripts.{HasEnding, HasShortLists, SettlesTo, near_beats};
+ghost use Rattle.tl_run.specs.Inner.Widths.{AreWidths};
+
+use crate::arrivals::Arrivals;
+use crate::outcome::{Ending, Outcome, RunFault};
+use crate::rounds::run_rounds;
+use crate::taken::Taken;
+use std::alloc::Global;
+use tl_ring::MAX_RING;
+use tl_sides::SyncBridge;
+use tl_trace::Script;
+
+/// The most beats by which a channel goes on after a round of [`run_sync_into`]: with the one of the
+/// round half of what an inbox holds.
+const MOST_AHEAD: usize = 63;
+
+/// Runs a script over a bridge in one thread, to its end: the far beats and the verdicts are those
+/// that the script settles to.
+///
+/// The run is made of rounds. In each, both sides take all that stands in their inboxes; then each
+/// offers the next beat of each of its channels, where that one is ready, the client's side first;
+/// then staged beats go into the rings, and beats of the rings into the inboxes, as many as there
+/// is room for. A refused beat stays next. A channel whose list is used up between two messages is
+/// closed. The run ends after the first round in which no beat was accepted and after which nothing
+/// is under way.
+///
+/// The rings hold `ring` beats each. Refused with `RingSize` exactly where that is 0 or above
+/// 4,096, which is tested first, and else with `OutOfMemory` where there is no memory for the
+/// bridge or for the far beats: all of it is asked for before the first round. `Stalled` never
+/// comes. Each list has at most `2^40` beats.
+pub fn run_sync<const C: usize, const M: usize>(
+    alloc: Global,
+    script: &Script<C, M>,
+    ring: usize,
+) -> Result<Outcome<C, M>, RunFault>
+    requires client { IsWidth C }
+    requires manager { IsWidth M }
+    requires short { HasShortLists script.now }
+    ensures outcome { IfOk result (SettlesTo script.now) }
+    ensures size { IsOk result → (1 ≤ ring) × (ring ≤ MAX_RING) }
+    ensures ring_size { IfErr result (λ fault. (fault ≡ RingSize) ↔
+        ((ring ≡ 0) ⊎ (MAX_RING < ring))) }
+    ensures never_stalled { IfErr result (λ fault. fault ≢ Stalled) }
+{
+    // the lists are asked for first, and then the rings
+    if ring == 0 || ring > MAX_RING {
+        return Err(RunFault::RingSize);
+    }
+    let Ok(mut far) = Taken::new(alloc, script) else {
+        return Err(RunFault::OutOfMemory);
+    };
+    match run_over(alloc, script, ring, &mut far, 0) {
+        Ok(ending) => Ok(far.into_outcome(ending)),
+        Err(fault) => Err(fault),
+    }
+}
+
+/// The same run as [`run_sync`] in fewer rounds, whose far beats go to `far` as they are taken, from
+/// each round to the next: where it ends, `far` has those that the script settles to.
+///
+/// After each round, each channel whose beat was accepted goes on by itself: it offers the beats
+/// behind it, at most 63, as long as they are accepted, and what they give goes into its ring, and
+/// where that has no room, the ring's beats into the inbox. At last all rings go on to the inboxes.
+///
+/// Refused as [`run_sync`] is, but that `far` may ask for memory in each round: where it is refused
+/// some, the run ends in that round with `OutOfMemory`.
+pub fn run_sync_into<F: Arrivals<C, M>, const C: usize, const M: usize>(
+    alloc: Global,
+    script: &Script<C, M>,
+    ring: usize,
+    far: &mut F,
+) -> Result<Ending, RunFault>
+    requires client { IsWidth C }
+    requires manager { IsWidth M }
+    requires short { HasShortLists script.now }
+    requires empty { F.Holds far.old no_beats }
+    ensures ending { IfOk result (HasEnding (near_beats script.now)) }
+    ensures far { OnOk result (F.Holds far.new (far_beats (near_beats script.now))) }
+    ensures same { OnOk result (F.made_with far.new ≡ F.made_with far.old) }
+    ensures size { IsOk result → (1 ≤ ring) × (ring ≤ MAX_RING) }
+    ensures ring_size { IfErr result (λ fault. (fault ≡ RingSize) ↔
+        ((ring ≡ 0) ⊎ (MAX_RING < ring))) }
+    ensures never_stalled { IfErr result (λ fault. fault ≢ Stalled) }
+{
+    run_over(alloc, script, ring, far, MOST_AHEAD)
+}
+
+// A run over a new bridge, in which a channel goes on by at most so many beats after each round. (The
+// rounds get the bridge lent, so that one way out alone drops it.)
+fn run_over<F: Arrivals<C, M>, const C: usize, const M: usize>(
+    alloc: Global,
+    script: &Script<C, M>,
+    ring: usize,
+    far: &mut F,
+    most: usize,
+) -> Result<Ending, RunFault>
+    requires { AreWidths C M × HasShortLists script.now × (most < 2 ^ 41) ×
+        F.Holds far.old no_beats }
+    ensures ending { IfOk result (HasEnding (near_beats script.now)) }
+    ensures far { OnOk result (F.Holds far.new (far_beats (near_beats script.now))) }
+    ensures same { OnOk result (F.made_with far.new ≡ F.made_with far.old) }
+    ensures size { IsOk result → (1 ≤ ring) × (ring ≤ MAX_RING) }
+    ensures ring_size { IfErr result (λ fault. (fault ≡ RingSize) ↔
+        ((ring ≡ 0) ⊎ (MAX_RING < ring))) }
+    ensures never_stalled { IfErr result (λ fault. fault ≢ Stalled) }
+{
+    let mut bridge = match SyncBridge::new(alloc, ring) {
+        Ok(bridge) => bridge,
+        Err(fault) => return Err(RunFault::from(fault)),
+    };
+    run_rounds(&mut bridge, script, far, most)
+}

@@ -1,0 +1,277 @@
+//! The far beats that the two sides of a run take.
+ghost use Rattle.std.specs.Prelude.{◌≡◌, ◌++◌, List, [], ◌∷◌, None, All, IfOk, OnOk};
+ghost use Rattle.tl_lanes.specs.Lanes.{IsWidth};
+ghost use Rattle.tl_msg.specs.Tables.{rules_a, rules_b, rules_c, rules_d, rules_e};
+ghost use Rattle.tl_settle.specs.Histories.{Ask, Answer};
+ghost use Rattle.tl_settle.specs.Outcomes.{Beats, far_beats};
+ghost use Rattle.tl_sides.specs.Bridges.{Past, StandsFor};
+ghost use Rattle.tl_sides.specs.Books.{KnowsClient, KnowsManager};
+ghost use Rattle.tl_run.specs.Arrivals.{joined, no_beats};
+ghost use Rattle.tl_run.specs.Scripts.{EndsIn, HasEnding, HasShortLists, near_beats};
+ghost use Rattle.tl_run.specs.Inner.Widths.{AreWidths};
+ghost use Rattle.tl_run.specs.Inner.Running.{CanAdd, added, after_takes, inboxes, lengths};
+ghost use Rattle.tl_run.specs.Inner.Arriving.{beats_of, HasRoom, HaveRoom, HasRoomFor};
+ghost use Rattle.tl_run.specs.Inner.Noting.{HasNoted, noted_none, noted_then};
+
+use crate::arrivals::Arrivals;
+use crate::outcome::{Ending, Outcome};
+use std::alloc::{AllocError, Global};
+use tl_convert::far_room;
+use tl_msg::{Beat, BeatOf, ChA, ChB, ChC, ChD, ChE, HeadA, HeadD};
+use tl_sides::{ClientBook, ManagerBook, PerChannel, SyncBridge};
+use tl_trace::Script;
+
+/// The far beats that a run has taken, by channel, in lists that grow no more: those of A, C and E on
+/// `M` lanes, those of B and D on `C` (this project's choice).
+#[derive(Drop)]
+pub struct Taken<const C: usize, const M: usize> {
+    pub a: Vec<Beat<ChA, M>>,
+    pub b: Vec<Beat<ChB, C>>,
+    pub c: Vec<Beat<ChC, M>>,
+    pub d: Vec<Beat<ChD, C>>,
+    pub e: Vec<Beat<ChE, M>>,
+}
+
+// Room for all far beats of A, C and E that a script can make due.
+fn client_rooms<const C: usize, const M: usize>(script: &Script<C, M>) -> (usize, usize, usize)
+    requires { AreWidths C M × HasShortLists script.now }
+    ensures { HasRoom rules_a M (near_beats script.now).a result.0 ×
+        HasRoom rules_c M (near_beats script.now).c result.1 ×
+        HasRoom rules_e M (near_beats script.now).e result.2 }
+{
+    let a = far_room::<ChA, C, M>(&script.a);
+    let c = far_room::<ChC, C, M>(&script.c);
+    let e = far_room::<ChE, C, M>(&script.e);
+    (a, c, e)
+}
+
+// The same of B and D.
+fn manager_rooms<const C: usize, const M: usize>(script: &Script<C, M>) -> (usize, usize)
+    requires { AreWidths C M × HasShortLists script.now }
+    ensures { HasRoom rules_b C (near_beats script.now).b result.0 ×
+        HasRoom rules_d C (near_beats script.now).d result.1 }
+{
+    let b = far_room::<ChB, M, C>(&script.b);
+    let d = far_room::<ChD, M, C>(&script.d);
+    (b, d)
+}
+
+// Room for all far beats of each channel.
+fn far_rooms<const C: usize, const M: usize>(script: &Script<C, M>) -> PerChannel<usize>
+    requires { AreWidths C M × HasShortLists script.now }
+    ensures { HaveRoom (near_beats script.now) result }
+{
+    let (a, c, e) = client_rooms(script);
+    let (b, d) = manager_rooms(script);
+    PerChannel { a, b, c, d, e }
+}
+
+impl<const C: usize, const M: usize> Taken<C, M> {
+    /// Empty lists, with room for all far beats that a script can make due. Refused where there is no
+    /// memory for them. Each list of the script has at most `2^40` beats.
+    pub fn new(alloc: Global, script: &Script<C, M>) -> Result<Self, AllocError>
+        requires { AreWidths C M × HasShortLists script.now }
+        ensures empty { IfOk result (λ far. beats_of far ≡ no_beats) }
+        ensures room { IfOk result (HasRoomFor (near_beats script.now)) }
+    {
+        let mut far = Taken {
+            a: Vec::new(alloc),
+            b: Vec::new(alloc),
+            c: Vec::new(alloc),
+            d: Vec::new(alloc),
+            e: Vec::new(alloc),
+        };
+        far.reserve(&far_rooms(script))?;
+        Ok(far)
+    }
+
+    // Makes room for so many beats more of each channel.
+    fn reserve(&mut self, room: &PerChannel<usize>) -> Result<(), AllocError>
+        requires { AreWidths C M }
+        ensures beats { OnOk result (beats_of self.new ≡ beats_of self.old) }
+        ensures room { (near : Beats C M) → HaveRoom near room.now →
+            OnOk result (HasRoomFor near self.new) }
+    {
+        let a = self.a.reserve_exact(room.a);
+        let b = self.b.reserve_exact(room.b);
+        let c = self.c.reserve_exact(room.c);
+        let d = self.d.reserve_exact(room.d);
+        let e = self.e.reserve_exact(room.e);
+        a.and(b).and(c).and(d).and(e)
+    }
+
+    // The outcome of a run that took these and ended so.
+    pub(crate) fn into_outcome(self, ending: Ending) -> Outcome<C, M>
+        requires { AreWidths C M }
+        ensures { (near : Beats C M) → HasEnding near ending →
+            beats_of self.entry ≡ far_beats near → EndsIn near result }
+    {
+        let Taken { a, b, c, d, e } = self;
+        let Ending { verdicts, rounds } = ending;
+        Outcome {
+            a,
+            b,
+            c,
+            d,
+            e,
+            verdicts,
+            rounds,
+        }
+    }
+}
+
+// Appends the beats of an inbox to a list. In most rounds there is none, or one.
+#[inline(always)]
+fn append<B: Copy>(list: &mut Vec<B>, beats: &[B]) -> Result<(), AllocError>
+    ensures { OnOk result (list.new.items ≡ list.old.items ++ beats.now) }
+{
+    if beats.is_empty() {
+        return Ok(());
+    }
+    if let [beat] = beats {
+        list.push(*beat)?;
+        return Ok(());
+    }
+    list.extend_from_slice(beats)
+}
+
+impl<const C: usize, const M: usize> Arrivals<C, M> for Taken<C, M> {
+    ghost Holds = { λ t far. beats_of t ≡ far };
+
+    ghost made_with = { λ _. 0 };
+
+    // The lists have room for all that comes.
+    fn take(
+        &mut self,
+        a: &[Beat<ChA, M>],
+        b: &[Beat<ChB, C>],
+        c: &[Beat<ChC, M>],
+        d: &[Beat<ChD, C>],
+        e: &[Beat<ChE, M>],
+    ) -> Result<(), AllocError> {
+        let a = append(&mut self.a, a);
+        let b = append(&mut self.b, b);
+        let c = append(&mut self.c, c);
+        let d = append(&mut self.d, d);
+        let e = append(&mut self.e, e);
+        a.and(b).and(c).and(d).and(e)
+    }
+}
+
+/// What notes the beats `B` that a side takes, one after another.
+trait Notes<B> {
+    // whether it may note a beat
+    ghost CanNote: { B → Type 0 };
+
+    // `new` is what `old` becomes where these beats are noted
+    ghost Becomes: { (old : Self) → (beats : List B) → (new : Self) → Type 0 };
+
+    /// Notes a beat.
+    fn note(&mut self, beat: &B)
+        requires { CanNote beat.now }
+        ensures { Becomes self.old (beat.now ∷ []) self.new };
+
+    ghost notes_none: { (s : Self) → Becomes s [] s };
+
+    ghost notes_then: { (s t u : Self) (i j : List B) → Becomes s i t → Becomes t j u →
+        Becomes s (i ++ j) u };
+}
+
+// What a side takes of A, it has to answer.
+impl<const M: usize> Notes<BeatOf<HeadA, M>> for ManagerBook<M> {
+    ghost CanNote = { λ b. IsWidth M × (rules_a.fault b.head ≡ None) };
+
+    ghost Becomes = { HasNoted KnowsManager Ask };
+
+    fn note(&mut self, beat: &BeatOf<HeadA, M>) {
+        self.note_ask(&beat.head);
+    }
+
+    ghost notes_none = { noted_none KnowsManager Ask };
+
+    ghost notes_then = { noted_then KnowsManager Ask };
+}
+
+// What a side takes of D, it has asked for.
+impl<const C: usize> Notes<BeatOf<HeadD, C>> for ClientBook<C> {
+    ghost CanNote = { λ b. IsWidth C × (rules_d.fault b.head ≡ None) };
+
+    ghost Becomes = { HasNoted KnowsClient Answer };
+
+    fn note(&mut self, beat: &BeatOf<HeadD, C>) {
+        self.note_answer(&beat.head);
+    }
+
+    ghost notes_none = { noted_none KnowsClient Answer };
+
+    ghost notes_then = { noted_then KnowsClient Answer };
+}
+
+// A side notes beats that it takes in its book.
+fn note_all<B, N: Notes<B>>(book: &mut N, beats: &[B])
+    requires can { All (λ beat. N.CanNote beat) beats.now }
+    ensures { N.Becomes book.old beats.now book.new }
+{
+    for beat in beats {
+        book.note(beat);
+    }
+}
+
+// So many beats of each channel are counted.
+fn add_counts(counts: &mut PerChannel<usize>, more: &PerChannel<usize>)
+    requires { CanAdd counts.old more.now }
+    ensures { counts.new ≡ added counts.old more.now }
+{
+    counts.a += more.a;
+    counts.b += more.b;
+    counts.c += more.c;
+    counts.d += more.d;
+    counts.e += more.e;
+}
+
+// Each side notes what stands in its inboxes, and takes it.
+fn note_and_empty<const C: usize, const M: usize>(bridge: &mut SyncBridge<C, M>)
+    requires { AreWidths C M }
+    ensures { (x : Past C M) → StandsFor bridge.old x → StandsFor bridge.new (after_takes x) }
+{
+    note_all(&mut bridge.client, bridge.d.inbox());
+    note_all(&mut bridge.manager, bridge.a.inbox());
+    bridge.a.take_all();
+    bridge.b.take_all();
+    bridge.c.take_all();
+    bridge.d.take_all();
+    bridge.e.take_all();
+}
+
+// Each side takes all that stands in its inboxes, which goes to `far`. `taken` counts it. (A refusal
+// of `far` ends the run: what the sides have taken then is lost.)
+pub(crate) fn take_from_each<F: Arrivals<C, M>, const C: usize, const M: usize>(
+    bridge: &mut SyncBridge<C, M>,
+    far: &mut F,
+    taken: &mut PerChannel<usize>,
+) -> Result<(), AllocError>
+    requires { AreWidths C M × CanAdd taken.old (lengths (inboxes bridge.old)) }
+    ensures taken { (x : Past C M) → StandsFor bridge.old x →
+        OnOk result (StandsFor bridge.new (after_takes x)) }
+    ensures far { (all : Beats M C) → F.Holds far.old all →
+        OnOk result (F.Holds far.new (joined all (inboxes bridge.old))) }
+    ensures same { OnOk result (F.made_with far.new ≡ F.made_with far.old) }
+    ensures counted { OnOk result (taken.new ≡ added taken.old (lengths (inboxes bridge.old))) }
+{
+    let a = bridge.a.inbox();
+    let b = bridge.b.inbox();
+    let c = bridge.c.inbox();
+    let d = bridge.d.inbox();
+    let e = bridge.e.inbox();
+    let kept = far.take(a, b, c, d, e);
+    let more = PerChannel {
+        a: a.len(),
+        b: b.len(),
+        c: c.len(),
+        d: d.len(),
+        e: e.len(),
+    };
+    add_counts(taken, &more);
+    note_and_empty(bridge);
+    kept
+}
