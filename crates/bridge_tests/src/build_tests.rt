@@ -43,18 +43,27 @@ fn refusal(made: &Made, heap: &LocalHeap, ring: usize) -> Option<BuildFault> {
     }
 }
 
-/// What is made over heaps from none on, how many bytes more each has, how many heaps there are, and
-/// whether it is made over the last of them. A bridge and its sides have tables, which are the last
-/// growths and far greater than the rings.
-type Heaps = (Made, usize, usize, bool);
+/// What is made with rings of so many beats over heaps from none on, how many bytes more each has, how many
+/// heaps there are, and whether it is made over the last of them. A bridge and its sides have tables, which are
+/// the last growths and far greater than the rings.
+type Heaps = (Made, usize, usize, usize, bool);
 
-const HEAPS: [Heaps; 6] = [
-    (Made::Pipe, 16, 128, true),
-    (Made::Ends, 16, 128, true),
-    (Made::Bridge, 16, 1024, false),
-    (Made::Bridge, 0x8000, 40, true),
-    (Made::Sides, 16, 4096, false),
-    (Made::Sides, 0x8000, 40, true),
+const HEAPS: [Heaps; 14] = [
+    (Made::Pipe, 16, 16, 128, true),
+    (Made::Ends, 16, 16, 128, true),
+    (Made::Bridge, 16, 16, 1024, false),
+    (Made::Bridge, 16, 0x8000, 40, true),
+    (Made::Sides, 16, 16, 4096, false),
+    (Made::Sides, 16, 0x8000, 40, true),
+    // the smallest ring and the largest one are no wrong size
+    (Made::Pipe, 1, 0, 1, false),
+    (Made::Pipe, 4096, 0, 1, false),
+    (Made::Ends, 1, 0, 1, false),
+    (Made::Ends, 4096, 0, 1, false),
+    (Made::Bridge, 1, 0, 1, false),
+    (Made::Bridge, 4096, 0, 1, false),
+    (Made::Sides, 1, 0, 1, false),
+    (Made::Sides, 4096, 0, 1, false),
 ];
 
 /// Whether a ring of this size is refused for it.
@@ -64,10 +73,15 @@ fn refuses_size(made: &Made, heap: &LocalHeap, ring: usize) -> bool {
 
 /// Why this is not made over a heap of so many bytes, if it is not. A ring has 1 to 4,096 beats, and all of the heap is
 /// free in the end.
-fn refusal_over(alloc: Global, made: &Made, bytes: usize) -> Result<Option<BuildFault>, Fail> {
+fn refusal_over(
+    alloc: Global,
+    made: &Made,
+    ring: usize,
+    bytes: usize,
+) -> Result<Option<BuildFault>, Fail> {
     let heap = LocalHeap::new(alloc, bytes)?;
     let refuses_sizes = refuses_size(made, &heap, 0) & refuses_size(made, &heap, 4097);
-    let fault = refusal(made, &heap, 16);
+    let fault = refusal(made, &heap, ring);
     if refuses_sizes & (heap.used() == 0) {
         Ok(fault)
     } else {
@@ -77,10 +91,11 @@ fn refusal_over(alloc: Global, made: &Made, bytes: usize) -> Result<Option<Build
 
 /// Whether each fault is OutOfMemory, but where it is made over the last heaps.
 fn are_refused(alloc: Global, heaps: &Heaps) -> Result<bool, Fail> {
-    let (made, more, count, is_made) = (&heaps.0, heaps.1, heaps.2, heaps.3);
+    let (made, ring, more) = (&heaps.0, heaps.1, heaps.2);
+    let (count, is_made) = (heaps.3, heaps.4);
     let (mut bytes, mut is_refused) = (0usize, true);
     for _ in 0..count {
-        is_refused = match refusal_over(alloc, made, bytes)? {
+        is_refused = match refusal_over(alloc, made, ring, bytes)? {
             Some(BuildFault::OutOfMemory) => true,
             None if is_made => false,
             _ => return Ok(false),

@@ -1,5 +1,6 @@
 use linked_list_allocator::LocalHeap;
 use std::test::Fail;
+use tl_bridge::laws::{every_run, one_settled_state, steps_are_admitted};
 use tl_bridge::{Request, RequestTable, SourceTable};
 use tl_msg::OutOfMemory;
 
@@ -94,4 +95,21 @@ fn tables_take_their_memory_at_once(rt: HostRuntime) -> Result<(), Fail> {
     let heap = LocalHeap::new(rt.alloc(), 17 << 16)?;
     assert!(rt; take_their_memory(&heap)?);
     Ok(())
+}
+
+/// A heap hands out 16 bytes at least: it has none for a table that lacks but a few.
+#[test]
+fn tables_without_memory(rt: HostRuntime) -> Result<(), Fail> {
+    let heap = LocalHeap::new(rt.alloc(), (1 << 16) - 16)?;
+    let is_refused = has_no_sources(&heap);
+    let heap = LocalHeap::new(rt.alloc(), (16 << 16) - 16)?;
+    assert!(rt; is_refused & has_no_requests(&heap) & (heap.used() == 0));
+    Ok(())
+}
+
+#[test]
+fn laws_can_be_called(_rt: HostRuntime) {
+    one_settled_state();
+    every_run();
+    steps_are_admitted::<4, 16>();
 }

@@ -1,5 +1,5 @@
 -- Worked examples of the first fault of a beat after accepted beats, on 4 lanes.
-use Rattle.std.proofs.Common.{◌≡◌, ℕ, Bool, true, false, Option, Some, None, [], ◌∷◌, refl, replicate}
+use Rattle.std.proofs.Common.{◌≡◌, ℕ, Bool, true, false, Option, Some, None, List, [], ◌∷◌, refl, replicate, map, take, length}
 use Rattle.tl_msg.specs.declared.head.HeadA.{HeadA}
 use Rattle.tl_msg.specs.declared.head.HeadB.{HeadB}
 use Rattle.tl_msg.specs.declared.head.HeadC.{HeadC}
@@ -9,7 +9,8 @@ use Rattle.tl_msg.specs.declared.beat.BeatOf.{BeatOf}
 use Rattle.tl_msg.specs.declared.fault.BeatFault.{BeatFault}
 use Rattle.tl_msg.specs.declared.fault.BeatFault.TheVariants.{Opcode, Param, Size, Unaligned, Mask, Corrupt, HeadChanged}
 use Rattle.tl_msg.specs.Tables.{rules_a, rules_b, rules_c, rules_d, rules_e}
-use Rattle.tl_burst.specs.Handing.{burst_after, fault_after}
+use Rattle.tl_burst.specs.Messages.{beats_of}
+use Rattle.tl_burst.specs.Handing.{burst_after, fault_after, rest_of}
 
 abbrev on : {H : Type 0} → H → (mask : ℕ) → (corrupt : Bool) → BeatOf H 4
 on head mask corrupt = record { head = head; mask = mask; lanes = replicate 4 0; corrupt = corrupt }
@@ -85,6 +86,13 @@ corrupt_on_d = refl
 any_beat_on_e : fault_after rules_e [] (on (e 42) 9 true) ≡ None
 any_beat_on_e = refl
 
+-- which is a burst of its own
+one_beat_on_e : burst_after rules_e (on (e 42) 9 true ∷ []) ≡ None
+one_beat_on_e = refl
+
+beats_on_e : beats_of rules_e (e 42) 4 ≡ 1
+beats_on_e = refl
+
 -- ---- inside a burst of PutFullData, of 8 bytes at address 16
 
 abbrev put : (mask : ℕ) → (corrupt : Bool) → BeatOf HeadA 4
@@ -150,3 +158,26 @@ other_sink = refl
 
 denied_late : granted (on (d 5 0 3 7 true) 0 false) ≡ Some HeadChanged
 denied_late = refl
+
+-- ---- PutFullData of 16 bytes, Get of 16, PutFullData of 4, PutFullData of 8, one after the other
+
+abbrev put_of : (size : ℕ) → BeatOf HeadA 4
+put_of size = on (a 0 0 size 1 32) 15 true
+
+abbrev messages : List (BeatOf HeadA 4)
+messages = put_of 4 ∷ put_of 4 ∷ put_of 4 ∷ put_of 4 ∷ on (a 4 0 4 1 32) 15 false ∷ put_of 2 ∷ put_of 3 ∷ put_of 3 ∷ []
+
+abbrev counts : List ℕ
+counts = 0 ∷ 1 ∷ 2 ∷ 3 ∷ 4 ∷ 5 ∷ 6 ∷ 7 ∷ 8 ∷ []
+
+-- the burst that is open before each beat and at the end
+bursts : map (λ n. burst_after rules_a (take n messages)) counts ≡
+    None ∷ Some (a 0 0 4 1 32, 1) ∷ Some (a 0 0 4 1 32, 2) ∷ Some (a 0 0 4 1 32, 3) ∷ None ∷ None ∷ None ∷ Some (a 0 0 3 1 32, 1) ∷ None ∷ []
+bursts = refl
+
+-- the index of each beat, and how many its message has
+indices : map (λ n. length (rest_of rules_a 4 (take n messages))) counts ≡ 0 ∷ 1 ∷ 2 ∷ 3 ∷ 0 ∷ 0 ∷ 0 ∷ 1 ∷ 0 ∷ []
+indices = refl
+
+beats_of_each : map (λ beat. beats_of rules_a beat.head 4) messages ≡ 4 ∷ 4 ∷ 4 ∷ 4 ∷ 1 ∷ 1 ∷ 2 ∷ 2 ∷ []
+beats_of_each = refl

@@ -67,11 +67,21 @@ far_two = on 32 grant 0 (from 0 32) true ∷ on 32 grant 0 (from 32 32) false �
 gathered : due rules_d 8 32 near_eight (0x100 ∷ []) ≡ far_two
 gathered = refl
 
+-- each of the two once its last byte has come
+gathered_in_turn : map (λ n. due rules_d 8 32 (take n near_eight) (0x100 ∷ [])) (1 ∷ 2 ∷ 3 ∷ 4 ∷ 5 ∷ 6 ∷ 7 ∷ []) ≡
+    [] ∷ [] ∷ [] ∷ take 1 far_two ∷ take 1 far_two ∷ take 1 far_two ∷ take 1 far_two ∷ []
+gathered_in_turn = refl
+
 -- the same narrowed: corrupt is copied
 copied : due rules_d 32 8 far_two (0x100 ∷ []) ≡
     on 8 grant 0 (from 0 8) true ∷ on 8 grant 0 (from 8 8) true ∷ on 8 grant 0 (from 16 8) true ∷ on 8 grant 0 (from 24 8) true ∷
     on 8 grant 0 (from 32 8) false ∷ on 8 grant 0 (from 40 8) false ∷ on 8 grant 0 (from 48 8) false ∷ on 8 grant 0 (from 56 8) false ∷ []
 copied = refl
+
+-- half of it is there after the first beat
+copied_half : due rules_d 32 8 (take 1 far_two) (0x100 ∷ []) ≡
+    on 8 grant 0 (from 0 8) true ∷ on 8 grant 0 (from 8 8) true ∷ on 8 grant 0 (from 16 8) true ∷ on 8 grant 0 (from 24 8) true ∷ []
+copied_half = refl
 
 -- a request of 4 bytes on 16 lanes, and its response, whose bytes stand by the request's address
 request : due rules_a 4 16 (on 4 (a 4 0 2 17 0x100c) 15 (zeros 4) false ∷ []) (0x100c ∷ []) ≡ on 16 (a 4 0 2 17 0x100c) 0xf000 (zeros 16) false ∷ []
@@ -94,6 +104,19 @@ cut_same = refl
 
 cut_bytes : length (due rules_a 4 1 three (0x20 ∷ [])) ≡ 12
 cut_bytes = refl
+
+-- all four, in turn
+abbrev four_quarters : List (BeatOf HeadA 4)
+four_quarters = three ++ on 4 (a 0 0 4 1 0x20) 15 (from 12 4) false ∷ []
+
+in_turn : map (λ n. length (due rules_a 4 8 (take n four_quarters) (0x20 ∷ []))) (1 ∷ 2 ∷ 3 ∷ 4 ∷ []) ≡ 0 ∷ 1 ∷ 1 ∷ 2 ∷ []
+in_turn = refl
+
+both : due rules_a 4 8 four_quarters (0x20 ∷ []) ≡ on 8 (a 0 0 4 1 0x20) 0xff (from 0 8) false ∷ on 8 (a 0 0 4 1 0x20) 0xff (from 8 8) false ∷ []
+both = refl
+
+none : due rules_a 4 8 [] [] ≡ []
+none = refl
 
 -- the last address
 last : due rules_a 4 8 (on 4 (a 4 0 2 0 (2 ^ 64 - 4)) 15 (zeros 4) false ∷ []) ((2 ^ 64 - 4) ∷ []) ≡ on 8 (a 4 0 2 0 (2 ^ 64 - 4)) 0xf0 (zeros 8) false ∷ []
@@ -151,6 +174,9 @@ three_messages = refl
 abbrev near_round : List (BeatOf HeadD 4)
 near_round = on 4 (d 1 0 3 17 0) 0 (3 ∷ 0 ∷ 1 ∷ 2 ∷ []) false ∷ on 4 (d 1 0 3 17 0) 0 (7 ∷ 4 ∷ 5 ∷ 6 ∷ []) false ∷ []
 
+widened_half_round : due rules_d 4 8 (take 1 near_round) (0x1005 ∷ []) ≡ []
+widened_half_round = refl
+
 widened_round : due rules_d 4 8 near_round (0x1005 ∷ []) ≡ on 8 (d 1 0 3 17 0) 0 (3 ∷ 4 ∷ 5 ∷ 6 ∷ 7 ∷ 0 ∷ 1 ∷ 2 ∷ []) false ∷ []
 widened_round = refl
 
@@ -185,6 +211,10 @@ gathered_by_eight = refl
 -- a list is accepted up to the first beat with a fault: here one with another head inside a burst
 changed_head : accepted_of rules_a (take 2 three ++ two 0x40) ≡ take 2 three
 changed_head = refl
+
+-- and how many far beats that makes, at 8, at 4 and at 1
+changed_counts : map (λ v. length (due rules_a 4 v (accepted_of rules_a (take 2 three ++ two 0x40)) (0x20 ∷ []))) (8 ∷ 4 ∷ 1 ∷ []) ≡ 1 ∷ 2 ∷ 8 ∷ []
+changed_counts = refl
 
 -- and here a Get whose address is no multiple of its size
 unaligned : accepted_of rules_a (two 0x10 ++ on 4 (a 4 0 2 1 2) 15 (zeros 4) false ∷ two 0x20) ≡ two 0x10

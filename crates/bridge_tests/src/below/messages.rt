@@ -3,25 +3,122 @@ use tl_msg::{
     Kind, SideFault, Verdict,
 };
 
-/// Verdicts with the same numbers.
-const DONE: Verdict = Verdict::Done { near: 1, far: 1 };
+/// Whether each item is equal to itself, and to no other of the list.
+fn are_told_apart<T: PartialEq>(items: &[T]) -> bool {
+    for (i, x) in items.iter().enumerate() {
+        for (j, y) in items.iter().enumerate() {
+            if (x == y) != (i == j) {
+                return false;
+            }
+        }
+    }
+    true
+}
 
-const CUT: Verdict = Verdict::Cut { near: 1, far: 1 };
+const BEAT_FAULTS: [BeatFault; 7] = [
+    BeatFault::Opcode,
+    BeatFault::Param,
+    BeatFault::Size,
+    BeatFault::Unaligned,
+    BeatFault::Mask,
+    BeatFault::Corrupt,
+    BeatFault::HeadChanged,
+];
 
-/// A beat with other lanes than a default one.
-const LAST_LANE: Beat<ChE, 2> = BeatOf {
+const SIDE_FAULTS: [SideFault; 10] = [
+    SideFault::Beat(BeatFault::Opcode),
+    SideFault::Beat(BeatFault::Param),
+    SideFault::Beat(BeatFault::Size),
+    SideFault::Beat(BeatFault::Unaligned),
+    SideFault::Beat(BeatFault::Mask),
+    SideFault::Beat(BeatFault::Corrupt),
+    SideFault::Beat(BeatFault::HeadChanged),
+    SideFault::SourceBusy,
+    SideFault::NoRequest,
+    SideFault::SizeMismatch,
+];
+
+const KINDS: [Kind; 20] = [
+    Kind::PutFullData,
+    Kind::PutPartialData,
+    Kind::ArithmeticData,
+    Kind::LogicalData,
+    Kind::Get,
+    Kind::Intent,
+    Kind::AcquireBlock,
+    Kind::AcquirePerm,
+    Kind::ProbeBlock,
+    Kind::ProbePerm,
+    Kind::AccessAck,
+    Kind::AccessAckData,
+    Kind::HintAck,
+    Kind::ProbeAck,
+    Kind::ProbeAckData,
+    Kind::Release,
+    Kind::ReleaseData,
+    Kind::Grant,
+    Kind::GrantData,
+    Kind::ReleaseAck,
+];
+
+const BUSY: SideFault = SideFault::SourceBusy;
+
+const NO_REQUEST: SideFault = SideFault::NoRequest;
+
+const VERDICTS: [Verdict; 12] = [
+    Verdict::Done { near: 1, far: 1 },
+    Verdict::Done { near: 2, far: 1 },
+    Verdict::Done { near: 1, far: 2 },
+    Verdict::Cut { near: 1, far: 1 },
+    Verdict::Cut { near: 2, far: 1 },
+    Verdict::Cut { near: 1, far: 2 },
+    Verdict::Refused { at: 1, fault: BUSY },
+    Verdict::Refused { at: 2, fault: BUSY },
+    Verdict::Refused {
+        at: 1,
+        fault: NO_REQUEST,
+    },
+    Verdict::Waiting { at: 1, fault: BUSY },
+    Verdict::Waiting { at: 2, fault: BUSY },
+    Verdict::Waiting {
+        at: 1,
+        fault: NO_REQUEST,
+    },
+];
+
+const ZERO: Beat<ChE, 2> = BeatOf {
     head: HeadE { sink: 0 },
     mask: 0,
-    lanes: [0, 1],
+    lanes: [0, 0],
     corrupt: false,
 };
 
+const BEATS: [Beat<ChE, 2>; 6] = [
+    ZERO,
+    BeatOf {
+        head: HeadE { sink: 1 },
+        ..ZERO
+    },
+    BeatOf { mask: 1, ..ZERO },
+    BeatOf {
+        lanes: [1, 0],
+        ..ZERO
+    },
+    BeatOf {
+        lanes: [0, 1],
+        ..ZERO
+    },
+    BeatOf {
+        corrupt: true,
+        ..ZERO
+    },
+];
+
 #[test]
 fn values_are_told_apart(rt: HostRuntime) {
-    let in_beat = SideFault::Beat(BeatFault::Mask);
-    let are_faults = (BeatFault::Mask != BeatFault::Corrupt) & (in_beat != SideFault::SourceBusy);
-    let are_kinds = (Kind::Get != Kind::Intent) & (DONE != CUT);
-    assert!(rt; are_faults & are_kinds & (LAST_LANE != Default::default()));
+    let are_faults = are_told_apart(&BEAT_FAULTS) & are_told_apart(&SIDE_FAULTS);
+    let are_others = are_told_apart(&KINDS) & are_told_apart(&VERDICTS) & are_told_apart(&BEATS);
+    assert!(rt; are_faults & are_others);
 }
 
 /// A head of A or B that is zero in all fields, as the fields of C are named too.
@@ -58,18 +155,23 @@ const ZERO_D: HeadD = HeadD {
     denied: false,
 };
 
-const ZERO_E: Beat<ChE, 2> = BeatOf {
-    head: HeadE { sink: 0 },
-    mask: 0,
-    lanes: [0, 0],
-    corrupt: false,
-};
+const ZERO_E: HeadE = HeadE { sink: 0 };
+
+/// A beat that is zero in all fields where its head is.
+fn beat<H>(head: H) -> BeatOf<H, 4> {
+    BeatOf {
+        head,
+        mask: 0,
+        lanes: [0; 4],
+        corrupt: false,
+    }
+}
 
 #[test]
 fn default_beats_are_zero(rt: HostRuntime) {
-    let have_addresses = (ZERO_A == Default::default()) & (ZERO_B == Default::default());
-    let have_no_mask = (ZERO_C == Default::default()) & (ZERO_D == Default::default());
-    assert!(rt; have_addresses & have_no_mask & (ZERO_E == Default::default()));
+    let have_masks = (beat(ZERO_A) == Default::default()) & (beat(ZERO_B) == Default::default());
+    let have_none = (beat(ZERO_C) == Default::default()) & (beat(ZERO_D) == Default::default());
+    assert!(rt; have_masks & have_none & (beat(ZERO_E) == Default::default()));
 }
 
 #[test]
