@@ -1,7 +1,7 @@
 //! The run of a whole script over a bridge whose two sides are each in a thread of their own
 //! (`run_threads`). Beside it, this crate gives callers of a bridge all names that they need of the
-//! crates below: the run in one thread (`run_sync`, `run_sync_into`) and what a run ends in, which
-//! stand in `tl_run`, `SyncBridge`, the two sides, and the laws of what a script settles to.
+//! crates below: `SyncBridge`, the two sides, the laws of what a script settles to, and of `tl_run` the
+//! run in one thread (`run_sync`, `run_sync_into`), where far beats go, and what a run ends in.
 #![tactic(auto)]
 
 // A private function has one `requires`, since the checker states each clause by itself at each call.

@@ -1,6 +1,6 @@
 -- A width is a number up to the widest that has one bit.
 use Rattle.std.proofs.Common.{sym, ◌∙◌}
-use Rattle.tl_lanes.proofs.Widths.{width-one_bit, width_bounds, width_sure}
+use Rattle.tl_lanes.proofs.Widths.{width-one_bit, width_sure}
 use Rattle.tl_lanes.proofs.is_width.Goals as goal
 
 pub returns-then-w-le-WIDEST : goal.returns-then-w-le-WIDEST

@@ -1,9 +1,8 @@
-use Rattle.std.proofs.Common.{rules, ◌≡◌, Bool, true, false, Option, None, Some, sym, ◌∙◌, ap}
+use Rattle.std.proofs.Common.{rules, ◌≡◌, Bool, true, false, None, Some, sym, ◌∙◌}
 use Rattle.tl_msg.specs.Faults as faults
 use Rattle.tl_msg.specs.Firsts.{unless, ◌or_else◌}
-use Rattle.tl_msg.specs.declared.fault.BeatFault.{BeatFault}
 use Rattle.tl_msg.specs.declared.fault.BeatFault.TheVariants.{Mask, HeadChanged}
-use Rattle.tl_msg.proofs.Firsts.{first_some, second_answers, both_none, unless_true, unless_false}
+use Rattle.tl_msg.proofs.Firsts.{second_answers, both_none, unless_true, unless_false}
 use Rattle.tl_burst.proofs.faults.continuing_fault.Goals as goal
 
 masked : (same fits : Bool) → same ≡ true → fits ≡ false → (unless same HeadChanged or_else unless fits Mask) ≡ Some Mask

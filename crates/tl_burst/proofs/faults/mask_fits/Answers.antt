@@ -1,4 +1,4 @@
-use Rattle.std.proofs.Common.{◌≡◌, Bool, true, false, ◌==◌, if◌then◌else◌, ℕ, sym, refl, ap, ◌∙◌}
+use Rattle.std.proofs.Common.{◌≡◌, Bool, true, false, ◌==◌, if◌then◌else◌, sym, refl, ap, ◌∙◌}
 use Rattle.std.specs.Prelude.{bit_and}
 use Rattle.tl_lanes.specs.Lanes.{active_mask}
 use Rattle.tl_msg.specs.Faults as faults
