@@ -6,7 +6,7 @@ use Rattle.tl_msg.specs.Faults.{IsLawfulBeat}
 use Rattle.tl_msg.specs.Rules.{Rules}
 use Rattle.tl_msg.specs.declared.beat.BeatOf.{BeatOf}
 use Rattle.tl_c_beats.specs.declared.fields.BeatFields.{BeatFields}
-use Rattle.tl_c_beats.specs.Calls.{Stands, Told, Tells}
+use Rattle.tl_c_beats.specs.Calls.{Stands, Told}
 use Rattle.tl_c_beats.proofs.Telling.{tells}
 use Rattle.tl_c_sides.specs.Calls.{Takes, waiting}
 

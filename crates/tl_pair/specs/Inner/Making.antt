@@ -10,7 +10,7 @@ use Rattle.tl_msg.specs.declared.head.HeadB.{HeadB}
 use Rattle.tl_msg.specs.declared.head.HeadC.{HeadC}
 use Rattle.tl_msg.specs.declared.head.HeadD.{HeadD}
 use Rattle.tl_msg.specs.declared.head.HeadE.{HeadE}
-use Rattle.tl_ring.specs.Ends.{SendHalf, TakeHalf, Sending, Taking, IsNewRing}
+use Rattle.tl_ring.specs.Ends.{SendHalf, TakeHalf, Taking, IsNewRing}
 use Rattle.tl_pair.specs.Sides.{ClientState, ManagerState}
 
 -- a half that sends is of a new ring of this size, and so is one from which is taken
