@@ -6,21 +6,21 @@ use Rattle.std.specs.Io.KnownBytes.{Consumes, IsAtEnd}
 use Rattle.std.specs.List.{slice_range}
 use Rattle.tl_lanes.specs.Lanes.{IsWidth}
 use Rattle.tl_trace.specs.Faults.{IsFirstFault}
-use Rattle.tl_trace.specs.Scripts.{HasRead}
+use Rattle.tl_trace.specs.Scripts.{Gone, HasReadPast}
 use Rattle.tl_trace.specs.declared.script_reader.ScriptReader.{ScriptReader}
 use Rattle.tl_trace.specs.declared.fault.TraceFault.{TraceFault}
 use Rattle.tl_trace.specs.declared.fault.TraceKind.{TraceKind}
 use Rattle.tl_trace.specs.declared.fault.TraceKind.TheVariants as kinds
 use Rattle.tl_answer.specs.Faults.{of_kind, of_trace}
-use Rattle.tl_answer.specs.Inner.Lines.{IsBetween, IsReading}
+use Rattle.tl_answer.specs.Inner.Lines.{IsBetweenPast, IsReading}
 use Rattle.tl_answer.specs.Inputs.{HasTaken, IsRefused, held}
 use Rattle.tl_answer.specs.Texts.{most_bytes}
 use Rattle.tl_answer.specs.declared.input.Input.{Input}
 use Rattle.tl_answer.proofs.Lengths.{lines-below}
 
 -- the lines that the input holds can be read
-pub reading : {C M : ℕ} → IsWidth C → IsWidth M → (unread left : Option (List ℕ)) (lines : ScriptReader C M) (input : Input) → IsBetween unread left lines input → IsReading lines input
-reading {C} {M} client manager unread left lines input b =
+pub reading : {C M : ℕ} → IsWidth C → IsWidth M → {gone : Gone C M} (unread left : Option (List ℕ)) (lines : ScriptReader C M) (input : Input) → IsBetweenPast gone unread left lines input → IsReading lines input
+reading {C} {M} client manager {gone} unread left lines input b =
     let below = lines-below b.used lines.version C M b.read.lines b.read.told in
     let sum = length-append b.used (held input) in
     let place : lines.line ≡ length b.read.lines + 1 = b.read.place in
@@ -69,13 +69,13 @@ module _ (input input' : Input) (n : ℕ) (from : input'.from ≡ input.from + n
         room = omega (arith, long, t.room);
       }
 
-  pub between_on : {C M : ℕ} (lines lines' : ScriptReader C M) (unread left : Option (List ℕ)) → lines'.version ≡ lines.version
-      → ((done : List ℕ) → HasRead lines.version done lines.script lines.line → HasRead lines.version (done ++ take n (held input)) lines'.script lines'.line)
-      → IsBetween unread left lines input → IsBetween unread left lines' input'
-  between_on lines lines' unread left version told b = record {
+  pub between_on : {C M : ℕ} (gone : Gone C M) (lines lines' : ScriptReader C M) (unread left : Option (List ℕ)) → lines'.version ≡ lines.version
+      → ((done : List ℕ) → HasReadPast lines.version done gone lines.script lines.line → HasReadPast lines.version (done ++ take n (held input)) gone lines'.script lines'.line)
+      → IsBetweenPast gone unread left lines input → IsBetweenPast gone unread left lines' input'
+  between_on gone lines lines' unread left version told b = record {
     used = b.used ++ take n (held input);
     taken = advanced unread left b.used b.taken;
-    read = subst (λ v. HasRead v (b.used ++ take n (held input)) lines'.script lines'.line) (sym version) (told b.used b.read);
+    read = subst (λ v. HasReadPast v (b.used ++ take n (held input)) gone lines'.script lines'.line) (sym version) (told b.used b.read);
   }
 
 -- ---- faults

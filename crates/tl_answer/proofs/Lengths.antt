@@ -46,7 +46,7 @@ pub lines-few : (text : List ℕ) (version client manager : ℕ) (lines : List L
 lines-few text version client manager lines tells few = let below = lines-below text version client manager lines tells in omega arith
 
 -- what is chosen of so many lines can be counted
-few-chosen : {X : Type 0} (h : Line → Option X) (lines : List Line) → length lines ≤ most_bytes → (xs : List X) → xs ≡ filter_map h lines →
+pub few-chosen : {X : Type 0} (h : Line → Option X) (lines : List Line) → length lines ≤ most_bytes → (xs : List X) → xs ≡ filter_map h lines →
     length xs ≤ 2 ^ 40
 few-chosen h lines few xs is =
     let below = chosen h lines in let same : length xs ≡ length (filter_map h lines) = ap length is in omega arith

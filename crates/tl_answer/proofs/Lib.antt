@@ -11,3 +11,4 @@ pub mod Whole
 pub mod Writing
 pub mod Headers
 pub mod Running
+pub mod Judged

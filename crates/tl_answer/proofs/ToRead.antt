@@ -7,7 +7,7 @@ use Rattle.std.specs.Fmt.{digits}
 use Rattle.std.specs.List.{list_all, slice_range}
 use Rattle.tl_trace.specs.Faults.{header_of, HasHeader, IsFirstFault}
 use Rattle.tl_trace.specs.Inner.Reading.{LineAt}
-use Rattle.tl_trace.specs.Scripts.{HasRead, IsHeaderLine, IsUnfinished}
+use Rattle.tl_trace.specs.Scripts.{Gone, HasRead, IsHeaderLine, IsUnfinished}
 use Rattle.tl_trace.specs.Texts.{versions, widths, is_version, is_width, header_text}
 use Rattle.tl_trace.specs.declared.header.Header.{Header}
 use Rattle.tl_trace.specs.declared.script_reader.ScriptReader.{ScriptReader}
@@ -17,7 +17,7 @@ use Rattle.tl_trace.proofs.OneTrace.{in_list}
 use Rattle.tl_trace.proofs.Pieces.{header_line}
 use Rattle.tl_trace.proofs.ReadBeats.{first_line}
 use Rattle.tl_trace.proofs.Walk.{no_header_end, last_line}
-use Rattle.tl_answer.specs.Inner.Lines.{IsBetween}
+use Rattle.tl_answer.specs.Inner.Lines.{IsBetween, IsBetweenPast}
 use Rattle.tl_answer.specs.Inputs.{HasTaken, IsFresh, held, unread_of}
 use Rattle.tl_answer.specs.Texts.{most_bytes}
 use Rattle.tl_answer.specs.declared.input.Input.{Input}
@@ -65,8 +65,8 @@ pub unlike : (m n : ℕ) → nat_eq m n ≡ false → m ≢ n
 unlike m n other e = absurd (let bad = sym other ∙ eq-eqb m n e in cc)
 
 -- lines can be counted
-pub line_few : {C M : ℕ} (unread left : Option (List ℕ)) (lines : ScriptReader C M) (input : Input) → IsBetween unread left lines input → lines.line + 1 < 2 ^ 64
-line_few {C} {M} unread left lines input b =
+pub line_few : {C M : ℕ} {gone : Gone C M} (unread left : Option (List ℕ)) (lines : ScriptReader C M) (input : Input) → IsBetweenPast gone unread left lines input → lines.line + 1 < 2 ^ 64
+line_few {C} {M} {gone} unread left lines input b =
     let below = lines-below b.used lines.version C M b.read.lines b.read.told in
     let sum = length-append b.used (held input) in
     let place : lines.line ≡ length b.read.lines + 1 = b.read.place in

@@ -5,3 +5,4 @@ pub mod Parts
 pub mod Asked
 pub mod Answered
 pub mod FarTexts
+pub mod Judging

@@ -15,6 +15,7 @@ ghost use Rattle.tl_answer.specs.Inputs.{IsFresh, unread_of};
 ghost use Rattle.tl_answer.specs.declared.fault.TextFault.TheVariants.{OutOfMemory as NoMemory};
 
 use crate::at_width;
+use crate::check_input::check_input;
 use crate::fault::TextFault;
 use crate::input::Input;
 use crate::later_lines::script_of_input;
@@ -228,6 +229,9 @@ fn with_widths<T: Threads, R: Read, const C: usize, const M: usize>(
     ensures { ReadsAnswer (unread_of input.old (R.remaining reader.old)) (R.remaining reader.new)
         (is_check order.now) input.new result }
 {
+    if order.is_check() {
+        return check_input::<R, C, M>(alloc, reader, input, version);
+    }
     match script_of_input::<R, C, M>(alloc, reader, input, version) {
         Ok(script) => answer_script::<T, C, M>(rt, alloc, script, version, order),
         Err(fault) => Err(fault),

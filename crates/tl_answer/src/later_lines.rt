@@ -2,9 +2,9 @@
 ghost use Rattle.std.specs.Prelude.{◌≡◌, ℕ, List, Option, OnOk, IfErr};
 ghost use Rattle.tl_lanes.specs.Lanes.{IsWidth};
 ghost use Rattle.tl_trace.specs.Faults.{HasHeader};
-ghost use Rattle.tl_trace.specs.Scripts.{IsUnfinished};
+ghost use Rattle.tl_trace.specs.Scripts.{Gone, HasGrown, IsUnfinished};
 ghost use Rattle.tl_answer.specs.Faults.{of_trace};
-ghost use Rattle.tl_answer.specs.Inner.Lines.{IsBeginning, IsBetween, IsReading, ReadsPieces};
+ghost use Rattle.tl_answer.specs.Inner.Lines.{IsBeginning, IsBetweenPast, IsReading, ReadsPieces};
 ghost use Rattle.tl_answer.specs.Inputs.{IsFresh, IsRefused, ReadsScript, held, unread_of};
 
 use crate::fault::TextFault;
@@ -14,7 +14,7 @@ use std::io::Read;
 use tl_trace::{Script, ScriptReader, TraceFault, TraceKind, line_end};
 
 /// Reads the lines that the input holds whole.
-fn read_held<const C: usize, const M: usize>(
+pub(crate) fn read_held<const C: usize, const M: usize>(
     lines: &mut ScriptReader<C, M>,
     input: &mut Input,
 ) -> Result<(), TraceFault>
@@ -25,10 +25,14 @@ fn read_held<const C: usize, const M: usize>(
     ensures to { input.new.to ≡ input.old.to }
     ensures buffer { input.new.buffer.items ≡ input.old.buffer.items }
 
-    // for every text of which that was read
-    ensures ok { (unread left : Option (List ℕ)) → IsBetween unread left lines.old input.old →
-        OnOk result (IsBetween unread left lines.new input.new) }
-    ensures err { (unread left : Option (List ℕ)) → IsBetween unread left lines.old input.old →
+    ensures grown { OnOk result (HasGrown lines.old.script lines.new.script) }
+
+    // for every text of which that was read, and the beats that have gone
+    ensures ok { (unread left : Option (List ℕ)) (gone : Gone C M) →
+        IsBetweenPast gone unread left lines.old input.old →
+        OnOk result (IsBetweenPast gone unread left lines.new input.new) }
+    ensures err { (unread left : Option (List ℕ)) (gone : Gone C M) →
+        IsBetweenPast gone unread left lines.old input.old →
         IfErr result (λ fault. IsRefused unread left input.new (of_trace fault)) }
 {
     match lines.read(input.held()) {

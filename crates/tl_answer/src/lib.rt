@@ -3,6 +3,7 @@
 #![tactic(auto)]
 
 mod answer;
+mod check_input;
 mod far_text;
 mod fault;
 mod input;

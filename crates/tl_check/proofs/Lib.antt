@@ -4,3 +4,4 @@ pub mod Passing
 pub mod Noting
 pub mod Steps
 pub mod Ends
+pub mod Parts

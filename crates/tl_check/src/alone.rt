@@ -1,27 +1,40 @@
 //! A channel that nothing couples to another one: B, C or E.
-ghost use Rattle.std.specs.Prelude.{◌≡◌, ◌≤◌, ◌^◌, length};
+ghost use Rattle.std.specs.Prelude.{◌≡◌, List, length, take};
 ghost use Rattle.tl_lanes.specs.Lanes.{IsWidth};
-ghost use Rattle.tl_settle.specs.Outcomes.{verdict_alone};
+ghost use Rattle.tl_msg.specs.declared.beat.BeatOf.{BeatOf};
+ghost use Rattle.tl_burst.specs.Begun.{left};
+ghost use Rattle.tl_settle.specs.Outcomes.{verdict_alone, verdict_of};
+ghost use Rattle.tl_check.specs.Inner.Passing.{HasCome, IsWithin};
+ghost use Rattle.tl_check.specs.Judging.{IsEnd, IsPart};
 
 use crate::progress::Progress;
-use tl_msg::{Beat, Channel, SideFault, Verdict};
+use tl_msg::{Beat, Channel, SideFault};
 
-// What a channel that nothing couples to another one ends in. Its list has at most `2^40` beats.
+// Goes on with a channel that nothing couples to another one, of whose list `gone` beats have gone and
+// these are held, up to the first one that is stopped: what stops it, or None where no beat is left.
 #[inline(never)]
-pub(crate) fn settle_alone<K: Channel, const W: usize>(
+pub(crate) fn judge_alone<K: Channel, const W: usize>(
     beats: &[Beat<K, W>],
+    gone: usize,
+    progress: &mut Progress<K, W>,
     far_width: usize,
-) -> Verdict
-    requires { IsWidth W × IsWidth far_width × (length beats.now ≤ 2 ^ 40) }
-    ensures { result ≡ verdict_alone K.rules far_width beats.now }
+) -> Option<SideFault>
+    requires { IsWidth W × IsWidth far_width ×
+        IsWithin gone progress.old.at progress.old.far (length beats.now) }
+    ensures within { IsWithin gone progress.new.at progress.new.far (length beats.now) }
+    ensures come { (bs : List (BeatOf K.Head W)) → IsPart gone beats.now bs →
+        HasCome K.rules far_width bs progress.old.tracker progress.old.at progress.old.far →
+        HasCome K.rules far_width bs progress.new.tracker progress.new.at progress.new.far }
+    ensures stopped { (bs : List (BeatOf K.Head W)) → IsEnd gone beats.now bs →
+        HasCome K.rules far_width bs progress.old.tracker progress.old.at progress.old.far →
+        verdict_of progress.new.at progress.new.far (left K.rules W (take progress.new.at bs))
+        result ≡ verdict_alone K.rules far_width bs }
 {
-    let mut progress = Progress::<K, W>::new();
-    for beat in beats {
-        let place = match progress.tracker.check(beat) {
-            Ok(place) => place,
-            Err(fault) => return progress.verdict(Some(SideFault::Beat(fault))),
+    'beats: while let Some(beat) = beats.get(progress.at - gone) {
+        match progress.tracker.check(beat) {
+            Ok(place) => progress.accept(place, far_width),
+            Err(fault) => return Some(SideFault::Beat(fault)),
         };
-        progress.accept(place, far_width);
     }
-    progress.verdict(None)
+    None
 }

@@ -1,5 +1,5 @@
 //! A and D, which the books of both sides couple.
-ghost use Rattle.std.specs.Prelude.{◌≡◌, ◌+◌, ◌≤◌, ◌<◌, ◌*◌, ◌^◌, ◌++◌, [], ℕ, None, Some, List, length, slice_get, IfOk, IfErr, OnOk, OnErr};
+ghost use Rattle.std.specs.Prelude.{◌≡◌, ◌+◌, ◌≤◌, ◌<◌, ◌*◌, ◌^◌, ℕ, None, Some, List, length, slice_get, take, IfOk, IfErr, OnOk, OnErr};
 ghost use Rattle.std.specs.Option.{option_map_or};
 ghost use Rattle.tl_lanes.specs.declared.limits.TheConstants.{WIDEST};
 ghost use Rattle.tl_lanes.specs.Lanes.{IsWidth};
@@ -8,13 +8,16 @@ ghost use Rattle.tl_msg.specs.declared.head.HeadA.{HeadA};
 ghost use Rattle.tl_msg.specs.declared.head.HeadD.{HeadD};
 ghost use Rattle.tl_msg.specs.declared.beat.BeatOf.{BeatOf};
 ghost use Rattle.tl_settle.specs.Settling.{stops_a, stops_d};
-ghost use Rattle.tl_settle.specs.Outcomes.{verdict_a, verdict_d};
-ghost use Rattle.tl_sides.specs.Books.{Client, Manager, KnowsClient, KnowsManager};
-ghost use Rattle.tl_check.specs.Inner.Passing.{AreAt, HasCome, NotesAsks, NotesAnswers};
+ghost use Rattle.tl_burst.specs.Begun.{left};
+ghost use Rattle.tl_settle.specs.Outcomes.{verdict_a, verdict_d, verdict_of};
+ghost use Rattle.tl_sides.specs.Books.{Client, Manager};
+ghost use Rattle.tl_check.specs.Inner.Passing.{AreAt, HasCome, IsWithin, NotesAsks, NotesAnswers};
+ghost use Rattle.tl_check.specs.Judging.{IsEnd, IsPart};
 
 use crate::progress::Progress;
-use tl_msg::{Beat, ChA, ChD, HeadA, HeadD, SideFault, Verdict};
+use tl_msg::{Beat, ChA, ChD, HeadA, HeadD, SideFault};
 use tl_sides::{ClientBook, ManagerBook};
+use tl_trace::Counts;
 
 // The manager's side takes so many beats of A with this head.
 fn note_asks<const M: usize>(book: &mut ManagerBook<M>, head: &HeadA, count: usize)
@@ -121,29 +124,34 @@ fn offer_response<const M: usize>(
     Ok(answers.accept(place, far_width))
 }
 
-// The client's side offers its beats of A, up to the first one that is stopped: what stops it, or
-// None where no beat is left.
+// The client's side offers its beats of A, of which `gone` have gone and these are held, up to the
+// first one that is stopped: what stops it, or None where no beat is left.
 fn offer_requests<const C: usize, const M: usize>(
     client: &mut ClientBook<C>,
     manager: &mut ManagerBook<M>,
     beats: &[Beat<ChA, C>],
+    gone: usize,
     asks: &mut Progress<ChA, C>,
 ) -> Option<SideFault>
-    requires { IsWidth C × IsWidth M × (length beats.now ≤ 2 ^ 40) ×
-        (asks.old.far ≤ WIDEST * asks.old.at) ×
-        HasCome rules_a M beats.now asks.old.tracker asks.old.at asks.old.far }
-    ensures come { HasCome rules_a M beats.now asks.new.tracker asks.new.at asks.new.far }
-    ensures few_far { asks.new.far ≤ WIDEST * asks.new.at }
-    ensures accepted { (d : List (BeatOf HeadD M)) (j : ℕ) →
-        AreAt beats.now d asks.old.at j client.old manager.old →
-        AreAt beats.now d asks.new.at j client.new manager.new }
-    ensures stopped { (d : List (BeatOf HeadD M)) (j : ℕ) →
-        AreAt beats.now d asks.old.at j client.old manager.old →
-        result ≡ option_map_or (λ b. stops_a beats.now d asks.new.at j b)
-        (slice_get beats.now asks.new.at) None }
-    ensures all { result ≡ None → length beats.now ≤ asks.new.at }
+    requires { IsWidth C × IsWidth M ×
+        IsWithin gone asks.old.at asks.old.far (length beats.now) }
+    ensures within { IsWithin gone asks.new.at asks.new.far (length beats.now) }
+    ensures come { (a : List (BeatOf HeadA C)) → IsPart gone beats.now a →
+        HasCome rules_a M a asks.old.tracker asks.old.at asks.old.far →
+        HasCome rules_a M a asks.new.tracker asks.new.at asks.new.far }
+    ensures accepted { (a : List (BeatOf HeadA C)) (d : List (BeatOf HeadD M)) (j : ℕ) →
+        IsPart gone beats.now a →
+        HasCome rules_a M a asks.old.tracker asks.old.at asks.old.far →
+        AreAt a d asks.old.at j client.old manager.old →
+        AreAt a d asks.new.at j client.new manager.new }
+    ensures stopped { (a : List (BeatOf HeadA C)) (d : List (BeatOf HeadD M)) (j : ℕ) →
+        IsEnd gone beats.now a →
+        HasCome rules_a M a asks.old.tracker asks.old.at asks.old.far →
+        AreAt a d asks.old.at j client.old manager.old →
+        result ≡ option_map_or (λ b. stops_a a d asks.new.at j b) (slice_get a asks.new.at) None }
+    ensures all { result ≡ None → gone + length beats.now ≤ asks.new.at }
 {
-    'beats: while let Some(beat) = beats.get(asks.at) {
+    'beats: while let Some(beat) = beats.get(asks.at - gone) {
         match offer_request(client, beat, asks, M) {
             Ok(given) => note_asks(manager, &beat.head, given),
             Err(fault) => return Some(fault),
@@ -152,31 +160,36 @@ fn offer_requests<const C: usize, const M: usize>(
     None
 }
 
-// The manager's side offers its beats of D, up to the first one that is stopped: what stops it, or
-// None where no beat is left.
+// The manager's side offers its beats of D, of which `gone` have gone and these are held, up to the
+// first one that is stopped: what stops it, or None where no beat is left.
 fn offer_responses<const C: usize, const M: usize>(
     client: &mut ClientBook<C>,
     manager: &mut ManagerBook<M>,
     beats: &[Beat<ChD, M>],
+    gone: usize,
     answers: &mut Progress<ChD, M>,
 ) -> Option<SideFault>
-    requires { IsWidth C × IsWidth M × (length beats.now ≤ 2 ^ 40) ×
-        (answers.old.far ≤ WIDEST * answers.old.at) ×
-        HasCome rules_d C beats.now answers.old.tracker answers.old.at answers.old.far }
-    ensures come { HasCome rules_d C beats.now answers.new.tracker answers.new.at
-        answers.new.far }
-    ensures few_far { answers.new.far ≤ WIDEST * answers.new.at }
+    requires { IsWidth C × IsWidth M ×
+        IsWithin gone answers.old.at answers.old.far (length beats.now) }
+    ensures within { IsWithin gone answers.new.at answers.new.far (length beats.now) }
     ensures on { answers.old.at ≤ answers.new.at }
-    ensures accepted { (a : List (BeatOf HeadA C)) (i : ℕ) →
-        AreAt a beats.now i answers.old.at client.old manager.old →
-        AreAt a beats.now i answers.new.at client.new manager.new }
-    ensures stopped { (a : List (BeatOf HeadA C)) (i : ℕ) →
-        AreAt a beats.now i answers.old.at client.old manager.old →
-        result ≡ option_map_or (λ b. stops_d a beats.now i answers.new.at b)
-        (slice_get beats.now answers.new.at) None }
-    ensures all { result ≡ None → length beats.now ≤ answers.new.at }
+    ensures come { (d : List (BeatOf HeadD M)) → IsPart gone beats.now d →
+        HasCome rules_d C d answers.old.tracker answers.old.at answers.old.far →
+        HasCome rules_d C d answers.new.tracker answers.new.at answers.new.far }
+    ensures accepted { (a : List (BeatOf HeadA C)) (d : List (BeatOf HeadD M)) (i : ℕ) →
+        IsPart gone beats.now d →
+        HasCome rules_d C d answers.old.tracker answers.old.at answers.old.far →
+        AreAt a d i answers.old.at client.old manager.old →
+        AreAt a d i answers.new.at client.new manager.new }
+    ensures stopped { (a : List (BeatOf HeadA C)) (d : List (BeatOf HeadD M)) (i : ℕ) →
+        IsEnd gone beats.now d →
+        HasCome rules_d C d answers.old.tracker answers.old.at answers.old.far →
+        AreAt a d i answers.old.at client.old manager.old →
+        result ≡ option_map_or (λ b. stops_d a d i answers.new.at b)
+        (slice_get d answers.new.at) None }
+    ensures all { result ≡ None → gone + length beats.now ≤ answers.new.at }
 {
-    'beats: while let Some(beat) = beats.get(answers.at) {
+    'beats: while let Some(beat) = beats.get(answers.at - gone) {
         match offer_response(manager, beat, answers, C) {
             Ok(given) => note_answers(client, &beat.head, given),
             Err(fault) => return Some(fault),
@@ -185,28 +198,50 @@ fn offer_responses<const C: usize, const M: usize>(
     None
 }
 
-// What A and D end in, by the books of two sides that have accepted and taken nothing yet. Their
-// lists have at most `2^40` beats each.
-pub(crate) fn settle_coupled<const C: usize, const M: usize>(
+// Goes on with A and D, of whose lists so many beats have gone and these are held, until neither goes
+// on: what stops each, or None where no beat is left.
+#[inline(never)]
+pub(crate) fn judge_coupled<const C: usize, const M: usize>(
     client: &mut ClientBook<C>,
     manager: &mut ManagerBook<M>,
     a: &[Beat<ChA, C>],
     d: &[Beat<ChD, M>],
-) -> (Verdict, Verdict)
-    requires { IsWidth C × IsWidth M × KnowsClient {w = C} client.old [] ×
-        KnowsManager {w = M} manager.old [] × (length a.now ≤ 2 ^ 40) ×
-        (length d.now ≤ 2 ^ 40) }
-    ensures a { result.0 ≡ verdict_a a.now d.now }
-    ensures d { result.1 ≡ verdict_d a.now d.now }
+    gone: &Counts,
+    asks: &mut Progress<ChA, C>,
+    answers: &mut Progress<ChD, M>,
+) -> (Option<SideFault>, Option<SideFault>)
+    requires { IsWidth C × IsWidth M ×
+        IsWithin gone.now.a asks.old.at asks.old.far (length a.now) ×
+        IsWithin gone.now.d answers.old.at answers.old.far (length d.now) }
+    ensures within_a { IsWithin gone.now.a asks.new.at asks.new.far (length a.now) }
+    ensures within_d { IsWithin gone.now.d answers.new.at answers.new.far (length d.now) }
+    ensures come_a { (near : List (BeatOf HeadA C)) → IsPart gone.now.a a.now near →
+        HasCome rules_a M near asks.old.tracker asks.old.at asks.old.far →
+        HasCome rules_a M near asks.new.tracker asks.new.at asks.new.far }
+    ensures come_d { (near : List (BeatOf HeadD M)) → IsPart gone.now.d d.now near →
+        HasCome rules_d C near answers.old.tracker answers.old.at answers.old.far →
+        HasCome rules_d C near answers.new.tracker answers.new.at answers.new.far }
+    ensures both { (near : List (BeatOf HeadA C)) (back : List (BeatOf HeadD M)) →
+        IsPart gone.now.a a.now near → IsPart gone.now.d d.now back →
+        HasCome rules_a M near asks.old.tracker asks.old.at asks.old.far →
+        HasCome rules_d C back answers.old.tracker answers.old.at answers.old.far →
+        AreAt near back asks.old.at answers.old.at client.old manager.old →
+        AreAt near back asks.new.at answers.new.at client.new manager.new }
+    ensures stopped { (near : List (BeatOf HeadA C)) (back : List (BeatOf HeadD M)) →
+        IsEnd gone.now.a a.now near → IsEnd gone.now.d d.now back →
+        HasCome rules_a M near asks.old.tracker asks.old.at asks.old.far →
+        HasCome rules_d C back answers.old.tracker answers.old.at answers.old.far →
+        AreAt near back asks.old.at answers.old.at client.old manager.old →
+        (verdict_of asks.new.at asks.new.far (left rules_a C (take asks.new.at near)) result.0
+        ≡ verdict_a near back) × (verdict_of answers.new.at answers.new.far
+        (left rules_d M (take answers.new.at back)) result.1 ≡ verdict_d near back) }
 {
-    let mut asks = Progress::<ChA, C>::new();
-    let mut answers = Progress::<ChD, M>::new();
     'passes: loop {
-        let a_stops = offer_requests(client, manager, a, &mut asks);
+        let a_stops = offer_requests(client, manager, a, gone.a, asks);
         let before = answers.at;
-        let d_stops = offer_responses(client, manager, d, &mut answers);
+        let d_stops = offer_responses(client, manager, d, gone.d, answers);
         if answers.at == before {
-            return (asks.verdict(a_stops), answers.verdict(d_stops));
+            return (a_stops, d_stops);
         }
     }
 }

@@ -6,7 +6,10 @@
 
 mod alone;
 mod coupled;
+mod judge;
 mod progress;
 mod verdicts;
 
+pub use judge::Judge;
+pub use progress::Progress;
 pub use verdicts::verdicts_of;

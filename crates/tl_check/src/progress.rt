@@ -16,9 +16,12 @@ use tl_msg::{Channel, SideFault, Verdict};
 /// How far a channel has come: the burst that is open, how many near beats were accepted, and how
 /// many far beats they make due.
 #[derive(Drop)]
-pub(crate) struct Progress<K: Channel, const W: usize> {
+pub struct Progress<K: Channel, const W: usize> {
+    /// The burst that is open.
     pub tracker: Tracker<K, W>,
+    /// How many near beats were accepted.
     pub at: usize,
+    /// How many far beats they make due.
     pub far: usize,
 }
 

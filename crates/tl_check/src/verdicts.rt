@@ -4,10 +4,9 @@ ghost use Rattle.tl_lanes.specs.Lanes.{IsWidth};
 ghost use Rattle.tl_settle.specs.Outcomes.{verdicts};
 ghost use Rattle.tl_run.specs.Scripts.{HasShortLists, near_beats};
 
-use crate::alone::settle_alone;
-use crate::coupled::settle_coupled;
+use crate::judge::Judge;
 use std::alloc::Global;
-use tl_msg::{ChB, ChC, ChE, OutOfMemory, Verdict};
+use tl_msg::{OutOfMemory, Verdict};
 use tl_sides::new_books;
 use tl_trace::Script;
 
@@ -29,15 +28,9 @@ pub fn verdicts_of<const C: usize, const M: usize>(
     requires short { HasShortLists script.now }
     ensures { IfOk result (λ found. found ≡ verdicts (near_beats script.now)) }
 {
-    let Ok((mut client, mut manager)) = new_books::<C, M, Global>(alloc) else {
+    let Ok((client, manager)) = new_books::<C, M, Global>(alloc) else {
         return Err(OutOfMemory);
     };
-    let (a, d) = settle_coupled(&mut client, &mut manager, &script.a, &script.d);
-    Ok([
-        a,
-        settle_alone::<ChB, M>(&script.b, C),
-        settle_alone::<ChC, C>(&script.c, M),
-        d,
-        settle_alone::<ChE, C>(&script.e, M),
-    ])
+    let mut judge = Judge::new(client, manager);
+    Ok(judge.end(script))
 }

@@ -6,27 +6,28 @@ use Rattle.std.specs.Prelude.{◌==◌}
 use Rattle.std.specs.List.{list_all, list_any, slice_range}
 use Rattle.tl_lanes.specs.declared.limits.TheConstants.{WIDEST}
 use Rattle.tl_trace.specs.Texts.{newline, is_version, header_text, is_kept_line}
-use Rattle.tl_trace.specs.Scripts.{IsScriptOf, TellsScript, IsHeaderLine, HasRead, IsUnfinished}
+use Rattle.tl_trace.specs.Scripts.{Gone, GoesOn, HasGrown, IsScriptOf, TellsScript, IsHeaderLine, HasLetGo, HasRead, HasReadPast, IsUnfinished, more_gone}
 use Rattle.tl_trace.specs.Faults.{is_newline, cut, body, body_fault, later_fault, header_of, faults, HasHeader, IsFirstFault, IsReadableTo}
 use Rattle.tl_trace.specs.Inner.Reading.{IsPushed, IsReadLine, IsNextPushed, IsSameScript, IsFaultyAt, IsReadableAt, LineAt}
 use Rattle.tl_trace.specs.declared.fault.TraceKind.{TraceKind}
 use Rattle.tl_trace.specs.declared.line.Line.{Line}
 use Rattle.tl_trace.specs.declared.places.TheConstants.{LONGEST_LINE}
 use Rattle.tl_trace.specs.declared.script.Script.{Script}
+use Rattle.tl_trace.specs.declared.script.Counts.{Counts}
 use Rattle.tl_trace.proofs.Cover.{says_free, free_between, drop_all}
 use Rattle.tl_trace.proofs.Faultless.{text_faults}
 use Rattle.tl_trace.proofs.Headers.{header, known, is_header}
 use Rattle.tl_trace.proofs.LongLines.{says_short, long_fault, starts_line}
-use Rattle.tl_trace.proofs.ReadBeats.{pushed, first_line}
+use Rattle.tl_trace.proofs.ReadBeats.{pushed_past, first_line}
 use Rattle.tl_trace.proofs.ReadLines.{IsFree, body_line, cut_line, first_fault, readable_to, one_more, told_more}
 use Rattle.tl_trace.proofs.Walk.{free_line, split_line, last_line, later_line, cut_whole, line_more}
 
 -- ---- the part of a text that was read
 
 -- its lines have no fault, whatever comes behind them
-pub read_faults : {C M : ℕ} (version : ℕ) (done more : List ℕ) (s : Script C M) (line : ℕ) → HasRead version done s line
+pub read_faults : {C M : ℕ} (version : ℕ) (done more : List ℕ) (gone : Gone C M) (s : Script C M) (line : ℕ) → HasReadPast version done gone s line
     → faults (done ++ more) ≡ replicate line None ++ map (later_fault version C M) (cut more)
-read_faults {C} {M} version done more s line r =
+read_faults {C} {M} version done more gone s line r =
     text_faults done more version C M r.lines r.told ∙ ap (λ (n : ℕ). replicate n None ++ map (later_fault version C M) (cut more)) (sym r.place)
 
 -- the header's line alone
@@ -41,14 +42,14 @@ begun {C} {M} version text s none line =
         header = line.whole ∙ ap (λ (b : List ℕ). b ++ newline) (is_header (body text) (header version C M) line.named) ∙ sym (append-nil (header_text version C M ++ newline));
         told = refl;
       };
-      script = none;
+      script = record { a = none.a; b = none.b; c = none.c; d = none.d; e = none.e };
       place = omega arith;
     }
 
 -- a line more
-pub read_more : {C M : ℕ} (version : ℕ) (done b : List ℕ) (s s' : Script C M) (line : ℕ) (beat : Line) → HasRead version done s line → IsReadLine version C M b beat → IsPushed beat s s'
-    → HasRead version (done ++ b ++ newline) s' (line + 1)
-read_more {C} {M} version done b s s' line beat r read put =
+pub read_more : {C M : ℕ} (version : ℕ) (done b : List ℕ) (gone : Gone C M) (s s' : Script C M) (line : ℕ) (beat : Line) → HasReadPast version done gone s line → IsReadLine version C M b beat → IsPushed beat s s'
+    → HasReadPast version (done ++ b ++ newline) gone s' (line + 1)
+read_more {C} {M} version done b gone s s' line beat r read put =
     let kept_line = is_kept_line version C M in
     record {
       lines = r.lines ++ beat ∷ [];
@@ -64,7 +65,7 @@ read_more {C} {M} version done b s s' line beat r read put =
             ∙ append_assoc (header_text version C M ++ newline) (r.told.rest ++ b) newline;
         told = told_more version C M r.lines beat r.told.rest b r.told.told read.says;
       };
-      script = pushed r.lines beat s s' r.script put;
+      script = pushed_past r.lines beat gone s s' r.script put;
       place = let sum = length-append r.lines (beat ∷ []) in omega (arith, r.place);
     }
 
@@ -91,18 +92,35 @@ ends_inside version client manager piece at end beat client_few manager_few l lo
 
 -- ---- the walk over a piece
 
+longer : {X : Type 0} (xs ys zs us : List X) → GoesOn xs ys → zs ≡ ys ++ us → GoesOn xs zs
+longer {X} xs ys zs us g put = (g.0 ++ us, put ∙ ap (λ (q : List X). q ++ us) g.1 ∙ append_assoc xs g.0 us)
+
+kept : {X : Type 0} (xs ys zs : List X) → GoesOn xs ys → zs ≡ ys → GoesOn xs zs
+kept xs ys zs g same = (g.0, same ∙ g.1)
+
+all-same : {C M : ℕ} (s s' : Script C M) → IsSameScript s s' → HasGrown s s'
+all-same s s' same = record {
+  a = kept s.a.items s.a.items s'.a.items ([], sym (append-nil s.a.items)) same.a;
+  b = kept s.b.items s.b.items s'.b.items ([], sym (append-nil s.b.items)) same.b;
+  c = kept s.c.items s.c.items s'.c.items ([], sym (append-nil s.c.items)) same.c;
+  d = kept s.d.items s.d.items s'.d.items ([], sym (append-nil s.d.items)) same.d;
+  e = kept s.e.items s.e.items s'.e.items ([], sym (append-nil s.e.items)) same.e;
+}
+
 -- what has been read of a piece, where the script and the line were these before it
 pub record Walked {C M : ℕ} (version : ℕ) (piece : List ℕ) (first : Script C M) (line : ℕ) (s : Script C M) (at before : ℕ) : Type 0 where
   pub within : at ≤ length piece
   pub few : before ≤ line + at
-  pub read : (done : List ℕ) → HasRead version done first line → HasRead version (done ++ take at piece) s before
+  pub grown : HasGrown first s
+  pub read : (done : List ℕ) (gone : Gone C M) → HasReadPast version done gone first line → HasReadPast version (done ++ take at piece) gone s before
 
 module _ {C M : ℕ} (version : ℕ) (piece : List ℕ) (first : Script C M) (line : ℕ) where
   pub starts : Walked version piece first line first 0 line
   starts = record {
     within = omega arith;
     few = omega arith;
-    read = λ done r. subst (λ text. HasRead version text first line) (sym (append-nil done)) r;
+    grown = all-same first first (record { a = refl; b = refl; c = refl; d = refl; e = refl });
+    read = λ done gone r. subst (λ text. HasReadPast version text gone first line) (sym (append-nil done)) r;
   }
 
   to_end : (at end : ℕ) → LineAt piece at end → end < length piece → take (end + 1) piece ≡ take at piece ++ slice_range piece at end ++ newline
@@ -116,10 +134,11 @@ module _ {C M : ℕ} (version : ℕ) (piece : List ℕ) (first : Script C M) (li
   walks s s' at before end beat w l read lt put = record {
     within = omega arith;
     few = omega (arith, w.few, l.from);
-    read = λ done r.
+    grown = record { a = longer first.a.items s.a.items s'.a.items _ w.grown.a put.a; b = longer first.b.items s.b.items s'.b.items _ w.grown.b put.b; c = longer first.c.items s.c.items s'.c.items _ w.grown.c put.c; d = longer first.d.items s.d.items s'.d.items _ w.grown.d put.d; e = longer first.e.items s.e.items s'.e.items _ w.grown.e put.e };
+    read = λ done gone r.
         let whole : (done ++ take at piece) ++ slice_range piece at end ++ newline ≡ done ++ take (end + 1) piece =
         ap (λ (xs : List ℕ). xs ++ newline) (append_assoc done (take at piece) (slice_range piece at end)) ∙ append_assoc done (take at piece ++ slice_range piece at end) newline ∙ ap (λ (xs : List ℕ). done ++ xs) (sym (to_end at end l lt)) in
-        subst (λ text. HasRead version text s' (before + 1)) whole (read_more version (done ++ take at piece) (slice_range piece at end) s s' before beat (w.read done r) read put);
+        subst (λ text. HasReadPast version text gone s' (before + 1)) whole (read_more version (done ++ take at piece) (slice_range piece at end) gone s s' before beat (w.read done gone r) read put);
   }
 
   -- a line that the quick reader takes
@@ -138,12 +157,13 @@ module _ {C M : ℕ} (version : ℕ) (piece : List ℕ) (first : Script C M) (li
   waits s s' at before w same = record {
     within = w.within;
     few = w.few;
-    read = λ done r.
-        let far = w.read done r in
+    grown = record { a = kept first.a.items s.a.items s'.a.items w.grown.a same.a; b = kept first.b.items s.b.items s'.b.items w.grown.b same.b; c = kept first.c.items s.c.items s'.c.items w.grown.c same.c; d = kept first.d.items s.d.items s'.d.items w.grown.d same.d; e = kept first.e.items s.e.items s'.e.items w.grown.e same.e };
+    read = λ done gone r.
+        let far = w.read done gone r in
         record {
           lines = far.lines;
           told = far.told;
-          script = record { a = same.a ∙ far.script.a; b = same.b ∙ far.script.b; c = same.c ∙ far.script.c; d = same.d ∙ far.script.d; e = same.e ∙ far.script.e };
+          script = record { a = ap (λ q. gone.a ++ q) same.a ∙ far.script.a; b = ap (λ q. gone.b ++ q) same.b ∙ far.script.b; c = ap (λ q. gone.c ++ q) same.c ∙ far.script.c; d = ap (λ q. gone.d ++ q) same.d ∙ far.script.d; e = ap (λ q. gone.e ++ q) same.e ∙ far.script.e };
           place = far.place;
         };
   }
@@ -153,13 +173,13 @@ module _ {C M : ℕ} (version : ℕ) (piece : List ℕ) (first : Script C M) (li
   left_none at le = subst IsUnfinished (sym (drop_all piece at le)) (record { free = refl; short = omega arith })
 
   -- the lines behind those that were read
-  later : (s : Script C M) (at before : ℕ) → Walked version piece first line s at before → (done more : List ℕ) → HasRead version done first line
+  later : (s : Script C M) (at before : ℕ) → Walked version piece first line s at before → (done more : List ℕ) (gone : Gone C M) → HasReadPast version done gone first line
       → faults (done ++ piece ++ more) ≡ replicate before None ++ map (later_fault version C M) (cut (drop at piece ++ more))
-  later s at before w done more r =
+  later s at before w done more gone r =
       let parts : piece ++ more ≡ take at piece ++ (drop at piece ++ more) = ap (λ (xs : List ℕ). xs ++ more) (sym (take-append-drop at piece)) ∙ append_assoc (take at piece) (drop at piece) more in
       let whole : done ++ piece ++ more ≡ (done ++ take at piece) ++ (drop at piece ++ more) =
       append_assoc done piece more ∙ ap (λ (xs : List ℕ). done ++ xs) parts ∙ sym (append_assoc done (take at piece) (drop at piece ++ more)) in
-      ap faults whole ∙ read_faults version (done ++ take at piece) (drop at piece ++ more) s before (w.read done r)
+      ap faults whole ∙ read_faults version (done ++ take at piece) (drop at piece ++ more) gone s before (w.read done gone r)
 
   -- the line at a place, where it ends in the piece
   cut_here : (at end : ℕ) (more : List ℕ) → LineAt piece at end → end < length piece → cut (drop at piece ++ more) ≡ (slice_range piece at end ++ newline) ∷ cut (drop (end + 1) piece ++ more)
@@ -171,11 +191,11 @@ module _ {C M : ℕ} (version : ℕ) (piece : List ℕ) (first : Script C M) (li
   -- the fault of the line that was read last
   pub refused : (s : Script C M) (at before end : ℕ) (kind : TraceKind) → C ≤ WIDEST → M ≤ WIDEST → Walked version piece first line s at before → LineAt piece at end → at < length piece
       → (end ≡ length piece → LONGEST_LINE ≤ end - at) → body_fault version C M (slice_range piece at end) ≡ Some kind
-      → (done more : List ℕ) → HasRead version done first line → IsFirstFault (done ++ piece ++ more) (before + 1) kind
-  refused s at before end kind client manager w l lt long fault done more r =
+      → (done more : List ℕ) (gone : Gone C M) → HasReadPast version done gone first line → IsFirstFault (done ++ piece ++ more) (before + 1) kind
+  refused s at before end kind client manager w l lt long fault done more gone r =
       let b = slice_range piece at end in
       let free = free_line piece at end l in
-      let all = later s at before w done more r in
+      let all = later s at before w done more gone r in
       elim (cases_eq end (length piece)) [
         | inl e ↦
             let rest : drop at piece ≡ b = last_line piece at end l e in
@@ -193,36 +213,36 @@ module _ {C M : ℕ} (version : ℕ) (piece : List ℕ) (first : Script C M) (li
       unended (byte ∷ b) free enough rest is =
           let starts = starts_line byte b more free in
           first_fault (done ++ piece ++ more) before kind (map (later_fault version C M) starts.rest)
-          (later s at before w done more r ∙ ap (λ (xs : List ℕ). replicate before None ++ map (later_fault version C M) (cut (xs ++ more))) rest
+          (later s at before w done more gone r ∙ ap (λ (xs : List ℕ). replicate before None ++ map (later_fault version C M) (cut (xs ++ more))) rest
           ∙ ap (λ (ls : List (List ℕ)). replicate before None ++ map (later_fault version C M) ls) starts.cuts
           ∙ ap (λ (o : Option TraceKind). replicate before None ++ o ∷ map (later_fault version C M) starts.rest) (long_fault version C M (byte ∷ b) starts.end kind client manager free enough is))
 
   -- no line up to one that was read and not stored has a fault
   pub unstored : (s : Script C M) (at before end : ℕ) (beat : Line) → Walked version piece first line s at before → LineAt piece at end → IsReadLine version C M (slice_range piece at end) beat → end < length piece
-      → (done more : List ℕ) → HasRead version done first line → IsReadableTo (done ++ piece ++ more) (before + 1)
-  unstored s at before end beat w l read lt done more r =
+      → (done more : List ℕ) (gone : Gone C M) → HasReadPast version done gone first line → IsReadableTo (done ++ piece ++ more) (before + 1)
+  unstored s at before end beat w l read lt done more gone r =
       let b = slice_range piece at end in
       let rest = map (later_fault version C M) (cut (drop (end + 1) piece ++ more)) in
       let is : later_fault version C M (b ++ newline) ≡ None = later_line version C M b (free_line piece at end l) ∙ read.faultless in
-      let place = (w.read done r).place in
+      let place = (w.read done gone r).place in
       readable_to (done ++ piece ++ more) (before + 1) rest (omega arith)
-      (later s at before w done more r ∙ ap (λ (ls : List (List ℕ)). replicate before None ++ map (later_fault version C M) ls) (cut_here at end more l lt)
+      (later s at before w done more gone r ∙ ap (λ (ls : List (List ℕ)). replicate before None ++ map (later_fault version C M) ls) (cut_here at end more l lt)
       ∙ ap (λ (o : Option TraceKind). replicate before None ++ o ∷ rest) is ∙ one_more before rest)
 
   -- the same of what a slow reading says of a line
   pub refused_at : (s : Script C M) (at before : ℕ) (kind : TraceKind) → C ≤ WIDEST → M ≤ WIDEST → Walked version piece first line s at before → at < length piece → IsFaultyAt version C M piece at kind
-      → (done more : List ℕ) → HasRead version done first line → IsFirstFault (done ++ piece ++ more) (before + 1) kind
+      → (done more : List ℕ) (gone : Gone C M) → HasReadPast version done gone first line → IsFirstFault (done ++ piece ++ more) (before + 1) kind
   refused_at s at before kind client manager w lt f = refused s at before f.end kind client manager w f.line lt f.long f.fault
 
   pub unstored_at : (s : Script C M) (at before : ℕ) → Walked version piece first line s at before → IsReadableAt version C M piece at
-      → (done more : List ℕ) → HasRead version done first line → IsReadableTo (done ++ piece ++ more) (before + 1)
+      → (done more : List ℕ) (gone : Gone C M) → HasReadPast version done gone first line → IsReadableTo (done ++ piece ++ more) (before + 1)
   unstored_at s at before w u = unstored s at before u.end u.beat w u.line u.read u.inside
 
 -- the fault of what is left at the end of a text
-pub end_faulty : {C M : ℕ} (version : ℕ) (done rest : List ℕ) (s : Script C M) (line : ℕ) (kind : TraceKind) → HasRead version done s line → 0 < length rest → IsFree rest
+pub end_faulty : {C M : ℕ} (version : ℕ) (done rest : List ℕ) (gone : Gone C M) (s : Script C M) (line : ℕ) (kind : TraceKind) → HasReadPast version done gone s line → 0 < length rest → IsFree rest
     → later_fault version C M rest ≡ Some kind → IsFirstFault (done ++ rest) (line + 1) kind
-end_faulty {C} {M} version done rest s line kind r lt free fault =
-    first_fault (done ++ rest) line kind [] (read_faults version done rest s line r
+end_faulty {C} {M} version done rest gone s line kind r lt free fault =
+    first_fault (done ++ rest) line kind [] (read_faults version done rest gone s line r
     ∙ ap (λ (ls : List (List ℕ)). replicate line None ++ map (later_fault version C M) ls) (cut_whole rest lt free)
     ∙ ap (λ (o : Option TraceKind). replicate line None ++ o ∷ []) fault)
 
@@ -256,7 +276,11 @@ module _ (text : List ℕ) (n : ℕ) (later : List ℕ) (is : later ≡ drop n t
     used_text none = sym (append-nil (take n text ++ take used later)) ∙ ap (λ (xs : List ℕ). take n text ++ take used later ++ xs) (sym none) ∙ parted_text
 
 pub tells_script : {C M : ℕ} (version : ℕ) (done text : List ℕ) (s : Script C M) (line : ℕ) → done ≡ text → HasRead version done s line → TellsScript version text s
-tells_script version done text s line same r = subst (λ t. TellsScript version t s) same (record { lines = r.lines; told = r.told; script = r.script })
+tells_script version done text s line same r = subst (λ t. TellsScript version t s) same (record {
+  lines = r.lines;
+  told = r.told;
+  script = record { a = r.script.a; b = r.script.b; c = r.script.c; d = r.script.d; e = r.script.e };
+})
 
 -- the version that is not the first
 pub version_2 : (version : ℕ) → is_version version ≡ true → version ≢ 1 → version ≡ 2
@@ -266,3 +290,24 @@ version_2 version known other = pick (version == 1) refl (version == 2) refl kno
     pick true is two is' e = absurd (other (eqb-true version 1 is))
     pick false is true is' e = eqb-true version 2 is'
     pick false is false is' e = absurd cc
+
+-- ---- beats that are let go
+
+parts-of : {X : Type 0} (gone held left : List X) (n : ℕ) → left ≡ drop n held → (gone ++ take n held) ++ left ≡ gone ++ held
+parts-of {X} gone held left n is =
+    append_assoc gone (take n held) left ∙ ap (λ (xs : List X). gone ++ xs) (ap (λ (xs : List X). take n held ++ xs) is ∙ take-append-drop n held)
+
+pub lets_go : {C M : ℕ} (version : ℕ) (counts : Counts) (s s' : Script C M) (line : ℕ) → HasLetGo counts s s' → (done : List ℕ) (gone : Gone C M)
+    → HasReadPast version done gone s line → HasReadPast version done (more_gone gone counts s) s' line
+lets_go version counts s s' line went done gone r = record {
+  lines = r.lines;
+  told = r.told;
+  script = record {
+    a = parts-of gone.a s.a.items s'.a.items counts.a went.a ∙ r.script.a;
+    b = parts-of gone.b s.b.items s'.b.items counts.b went.b ∙ r.script.b;
+    c = parts-of gone.c s.c.items s'.c.items counts.c went.c ∙ r.script.c;
+    d = parts-of gone.d s.d.items s'.d.items counts.d went.d ∙ r.script.d;
+    e = parts-of gone.e s.e.items s'.e.items counts.e went.e ∙ r.script.e;
+  };
+  place = r.place;
+}

@@ -1,12 +1,12 @@
 -- Reading beats by channel: what has been read, and one step more.
-use Rattle.std.proofs.Common.{◌≡◌, ℕ, ◌+◌, ◌<◌, false, Result, Ok, Err, arith, List, [], ◌∷◌, ◌++◌, length, drop, take, get_or, subst, Option, None, Some, refl, sym, ap, ◌∙◌}
+use Rattle.std.proofs.Common.{◌≡◌, ℕ, ◌+◌, ◌<◌, false, Result, Ok, Err, arith, List, [], ◌∷◌, ◌++◌, length, drop, take, get_or, subst, Option, None, Some, refl, sym, ap, ◌∙◌, append_assoc}
 use Rattle.std.proofs.lemmas.List.{take_more}
 use Rattle.std.proofs.lemmas.List.Elements.{filter_map-append}
 use Rattle.std.specs.List.{filter_map, cons_option, slice_range}
 use Rattle.std.specs.Option.{option_to_list}
 use Rattle.std.specs.Result.{is_err}
 use Rattle.std.specs.Prelude.{OnOk}
-use Rattle.tl_trace.specs.Scripts.{IsScriptOf, beat_of_a, beat_of_b, beat_of_c, beat_of_d, beat_of_e}
+use Rattle.tl_trace.specs.Scripts.{Gone, IsScriptOf, IsRestOf, beat_of_a, beat_of_b, beat_of_c, beat_of_d, beat_of_e}
 use Rattle.tl_trace.specs.Inner.Reading.{IsPushed, LineAt}
 use Rattle.tl_trace.specs.declared.line.Line.{Line}
 use Rattle.tl_trace.specs.declared.script.Script.{Script}
@@ -36,6 +36,20 @@ pushed {C} {M} lines line s s' far put = record {
   c = grown (beat_of_c C) lines line s.c.items s'.c.items far.c put.c;
   d = grown (beat_of_d M) lines line s.d.items s'.d.items far.d put.d;
   e = grown (beat_of_e C) lines line s.e.items s'.e.items far.e put.e;
+}
+
+-- the same where beats have gone
+grown_past : {X : Type 0} (h : Line → Option X) (lines : List Line) (line : Line) (gone before now : List X) → gone ++ before ≡ filter_map h lines → now ≡ before ++ option_to_list (h line) → gone ++ now ≡ filter_map h (lines ++ line ∷ [])
+grown_past {X} h lines line gone before now was is =
+    grown h lines line (gone ++ before) (gone ++ now) was (ap (λ (xs : List X). gone ++ xs) is ∙ sym (append_assoc gone before (option_to_list (h line))))
+
+pub pushed_past : {C M : ℕ} (lines : List Line) (line : Line) (gone : Gone C M) (s s' : Script C M) → IsRestOf lines gone s → IsPushed line s s' → IsRestOf (lines ++ line ∷ []) gone s'
+pushed_past {C} {M} lines line gone s s' far put = record {
+  a = grown_past (beat_of_a C) lines line gone.a s.a.items s'.a.items far.a put.a;
+  b = grown_past (beat_of_b M) lines line gone.b s.b.items s'.b.items far.b put.b;
+  c = grown_past (beat_of_c C) lines line gone.c s.c.items s'.c.items far.c put.c;
+  d = grown_past (beat_of_d M) lines line gone.d s.d.items s'.d.items far.d put.d;
+  e = grown_past (beat_of_e C) lines line gone.e s.e.items s'.e.items far.e put.e;
 }
 
 -- the beat of the line at i

@@ -1,7 +1,7 @@
 //! The beats of a trace by channel.
-ghost use Rattle.std.specs.Prelude.{◌≡◌, ◌≤◌, ◌++◌, ◌∷◌, [], IfOk, OnOk};
+ghost use Rattle.std.specs.Prelude.{◌≡◌, ◌≤◌, ◌++◌, ◌∷◌, [], drop, length, IfOk, OnOk};
 ghost use Rattle.tl_lanes.specs.declared.limits.TheConstants.{WIDEST};
-ghost use Rattle.tl_trace.specs.Scripts.{IsScriptOf, on_lanes};
+ghost use Rattle.tl_trace.specs.Scripts.{HasCounts, HasLetGo, IsScriptOf, on_lanes};
 ghost use Rattle.tl_trace.specs.Inner.Reading.{IsPushed};
 ghost use Rattle.tl_lanes.specs.Lanes.{IsWidth};
 
@@ -26,6 +26,43 @@ pub struct Script<const C: usize, const M: usize> {
     pub d: Vec<Beat<ChD, M>>,
     /// What the client side sends on E, in order.
     pub e: Vec<Beat<ChE, C>>,
+}
+
+/// How many beats of each channel.
+#[derive(Clone, Copy)]
+pub struct Counts {
+    pub a: usize,
+    pub b: usize,
+    pub c: usize,
+    pub d: usize,
+    pub e: usize,
+}
+
+/// Lets so many of the first items of a list go.
+fn let_first_go<T: Copy>(list: &mut Vec<T>, count: usize)
+    requires { count ≤ length list.old.items }
+    ensures { list.new.items ≡ drop count list.old.items }
+{
+    let len = list.len();
+    list.as_mut_slice().copy_within(count..len, 0);
+    list.truncate(len - count);
+}
+
+impl<const C: usize, const M: usize> Script<C, M> {
+    /// Lets so many of the first beats of each list go. It moves those that stay, so that it costs no
+    /// more than it takes where at least half of a list goes, or none.
+    pub fn let_go(&mut self, counts: &Counts)
+        requires client { C ≤ WIDEST }
+        requires manager { M ≤ WIDEST }
+        requires counts { HasCounts counts.now self.old }
+        ensures { HasLetGo counts.now self.old self.new }
+    {
+        let_first_go(&mut self.a, counts.a);
+        let_first_go(&mut self.b, counts.b);
+        let_first_go(&mut self.c, counts.c);
+        let_first_go(&mut self.d, counts.d);
+        let_first_go(&mut self.e, counts.e);
+    }
 }
 
 /// Appends the first `W` lanes of a beat to a list.

@@ -1,8 +1,8 @@
 //! From a text to its script.
-ghost use Rattle.std.specs.Prelude.{ℕ, true, false, ◌≡◌, ◌≢◌, ◌≤◌, ◌<◌, ◌+◌, ◌^◌, ◌++◌, None, Some, List, [], drop, take, length, IfSome, IfOk, IfErr, MatchOption};
+ghost use Rattle.std.specs.Prelude.{ℕ, true, false, ◌≡◌, ◌≢◌, ◌≤◌, ◌<◌, ◌+◌, ◌^◌, ◌++◌, None, Some, List, [], drop, take, length, IfSome, IfOk, IfErr, IsOk, MatchOption};
 ghost use Rattle.std.specs.List.{list_any};
 ghost use Rattle.tl_lanes.specs.declared.limits.TheConstants.{WIDEST};
-ghost use Rattle.tl_trace.specs.Scripts.{TellsScript, HasRead, IsHeaderLine, IsUnfinished};
+ghost use Rattle.tl_trace.specs.Scripts.{Gone, TellsScript, HasCounts, HasGrown, HasLetGo, HasRead, HasReadPast, IsHeaderLine, IsUnfinished, more_gone};
 ghost use Rattle.tl_trace.specs.Texts.{is_version};
 ghost use Rattle.tl_trace.specs.Faults.{is_newline, body, later_fault, header_of, HasHeader, IsFirstFault, IsReadableTo};
 ghost use Rattle.tl_trace.specs.Inner.Reading.{CanPush, CanRead, IsFaultyAt, IsLeft, IsLinePushed, IsNextPushed, IsReadableAt, IsSameScript};
@@ -14,7 +14,7 @@ use crate::header::{Header, header_of};
 use crate::line_reader::read_beat;
 use crate::places::{LONGEST_LINE, line_len};
 use crate::reader::{line_end, read_line};
-use crate::script::{Script, empty_script, push_beat_of};
+use crate::script::{Counts, Script, empty_script, push_beat_of};
 use std::alloc::Global;
 use tl_msg::{Beat, ChA, ChB, ChC, ChD, ChE};
 
@@ -126,8 +126,8 @@ fn unfinished_fault<const C: usize, const M: usize>(rest: &[u8], version: u8) ->
 /// between them: the text never has to stand in memory whole.
 ///
 /// In contracts it stands for the part of the text that was read, which are whole lines, the
-/// header's among them (`HasRead`): none of them has a fault, and the script has their beats. Of a
-/// piece `read` takes the whole lines. What it leaves has to stand before the next piece, and at the
+/// header's among them (`HasRead`): none of them has a fault, and the script has their beats, but for
+/// those that were let go (`HasReadPast`). Of a piece `read` takes the whole lines. What it leaves has to stand before the next piece, and at the
 /// end of the text `end_fault` judges it. After a fault it stands for nothing.
 #[derive(Drop)]
 pub struct ScriptReader<const C: usize, const M: usize> {
@@ -149,14 +149,16 @@ fn read_beats<const C: usize, const M: usize, const VERSION: u8>(
     ensures used { IfOk result (λ used. used ≤ length piece.now) }
     ensures lines { IfOk result (λ used. reader.new.line ≤ reader.old.line + used) }
     ensures rest { IfOk result (λ used. IsUnfinished (drop used piece.now)) }
-    ensures told { (done : List ℕ) →
-        HasRead VERSION done reader.old.script reader.old.line → IfOk result (λ used.
-        HasRead VERSION (done ++ take used piece.now) reader.new.script reader.new.line) }
-    ensures fault { (done more : List ℕ) →
-        HasRead VERSION done reader.old.script reader.old.line → IfErr result (λ e.
+    ensures grown { IsOk result → HasGrown reader.old.script reader.new.script }
+    ensures told { (done : List ℕ) (gone : Gone C M) →
+        HasReadPast VERSION done gone reader.old.script reader.old.line → IfOk result (λ used.
+        HasReadPast VERSION (done ++ take used piece.now) gone reader.new.script
+        reader.new.line) }
+    ensures fault { (done more : List ℕ) (gone : Gone C M) →
+        HasReadPast VERSION done gone reader.old.script reader.old.line → IfErr result (λ e.
         e.kind ≢ OutOfMemory → IsFirstFault (done ++ piece.now ++ more) e.line e.kind) }
-    ensures memory { (done more : List ℕ) →
-        HasRead VERSION done reader.old.script reader.old.line → IfErr result (λ e.
+    ensures memory { (done more : List ℕ) (gone : Gone C M) →
+        HasReadPast VERSION done gone reader.old.script reader.old.line → IfErr result (λ e.
         e.kind ≡ OutOfMemory → IsReadableTo (done ++ piece.now ++ more) e.line) }
 {
     let mut at = 0;
@@ -212,22 +214,42 @@ impl<const C: usize, const M: usize> ScriptReader<C, M> {
         ensures used { IfOk result (λ used. used ≤ length piece.now) }
         ensures lines { IfOk result (λ used. self.new.line ≤ self.old.line + used) }
         ensures rest { IfOk result (λ used. IsUnfinished (drop used piece.now)) }
+        ensures grown { IsOk result → HasGrown self.old.script self.new.script }
 
-        // for every part of the text that it stood for
-        ensures told { (done : List ℕ) →
-            HasRead self.old.version done self.old.script self.old.line → IfOk result (λ used.
-            HasRead self.old.version (done ++ take used piece.now) self.new.script self.new.line) }
-        ensures fault { (done more : List ℕ) →
-            HasRead self.old.version done self.old.script self.old.line → IfErr result (λ e.
-            e.kind ≢ OutOfMemory → IsFirstFault (done ++ piece.now ++ more) e.line e.kind) }
-        ensures memory { (done more : List ℕ) →
-            HasRead self.old.version done self.old.script self.old.line → IfErr result (λ e.
-            e.kind ≡ OutOfMemory → IsReadableTo (done ++ piece.now ++ more) e.line) }
+        // for every part of the text that it stood for, and the beats that have gone
+        ensures told { (done : List ℕ) (gone : Gone C M) →
+            HasReadPast self.old.version done gone self.old.script self.old.line →
+            IfOk result (λ used. HasReadPast self.old.version (done ++ take used piece.now) gone
+            self.new.script self.new.line) }
+        ensures fault { (done more : List ℕ) (gone : Gone C M) →
+            HasReadPast self.old.version done gone self.old.script self.old.line →
+            IfErr result (λ e. e.kind ≢ OutOfMemory →
+            IsFirstFault (done ++ piece.now ++ more) e.line e.kind) }
+        ensures memory { (done more : List ℕ) (gone : Gone C M) →
+            HasReadPast self.old.version done gone self.old.script self.old.line →
+            IfErr result (λ e. e.kind ≡ OutOfMemory →
+            IsReadableTo (done ++ piece.now ++ more) e.line) }
     {
         match self.version {
             1 => read_beats::<C, M, 1>(self, piece),
             _ => read_beats::<C, M, 2>(self, piece),
         }
+    }
+
+    /// Lets so many of the first beats of each list go, and stands for the same text (`HasReadPast`).
+    pub fn let_go(&mut self, counts: &Counts)
+        requires client { C ≤ WIDEST }
+        requires manager { M ≤ WIDEST }
+        requires counts { HasCounts counts.now self.old.script }
+        ensures version { self.new.version ≡ self.old.version }
+        ensures line { self.new.line ≡ self.old.line }
+        ensures left { HasLetGo counts.now self.old.script self.new.script }
+        ensures told { (done : List ℕ) (gone : Gone C M) →
+            HasReadPast self.old.version done gone self.old.script self.old.line →
+            HasReadPast self.old.version done (more_gone gone counts.now self.old.script)
+            self.new.script self.new.line }
+    {
+        self.script.let_go(counts);
     }
 
     /// The fault of the text where it ends with what `read` left: `None` where that is nothing.
@@ -240,10 +262,10 @@ impl<const C: usize, const M: usize> ScriptReader<C, M> {
         ensures none { result ≡ None → rest.now ≡ [] }
         ensures kind { IfSome result (λ e. e.kind ≢ OutOfMemory) }
 
-        // for every part of the text that it stood for
-        ensures fault { (done : List ℕ) →
-            HasRead self.now.version done self.now.script self.now.line → IfSome result (λ e.
-            IsFirstFault (done ++ rest.now) e.line e.kind) }
+        // for every part of the text that it stood for, and the beats that have gone
+        ensures fault { (done : List ℕ) (gone : Gone C M) →
+            HasReadPast self.now.version done gone self.now.script self.now.line →
+            IfSome result (λ e. IsFirstFault (done ++ rest.now) e.line e.kind) }
     {
         if rest.is_empty() {
             return None;

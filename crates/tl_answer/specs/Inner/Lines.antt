@@ -2,7 +2,7 @@
 use Rattle.std.specs.Prelude.{◌≡◌, ◌≤◌, ◌<◌, ◌+◌, ◌^◌, ℕ, true, List, length, Option, Result, Ok, Err}
 use Rattle.tl_lanes.specs.Lanes.{IsWidth}
 use Rattle.tl_trace.specs.Faults.{HasHeader}
-use Rattle.tl_trace.specs.Scripts.{HasRead, IsHeaderLine}
+use Rattle.tl_trace.specs.Scripts.{Gone, HasRead, HasReadPast, IsHeaderLine, none_gone}
 use Rattle.tl_trace.specs.Texts.{is_version}
 use Rattle.tl_trace.specs.declared.script.Script.{Script}
 use Rattle.tl_trace.specs.declared.script_reader.ScriptReader.{ScriptReader}
@@ -23,11 +23,15 @@ abbrev pub ReadsPieces : {X : Type 0} {C M : ℕ} → (unread left : Option (Lis
 ReadsPieces unread left version script input (Ok done) = IsScriptRead unread left version script
 ReadsPieces unread left version script input (Err fault) = IsRefused unread left input fault
 
--- the lines that were read are what was used of the text
-pub record IsBetween {C M : ℕ} (unread left : Option (List ℕ)) (lines : ScriptReader C M) (input : Input) : Type 0 where
+-- the lines that were read are what was used of the text, and these beats have gone
+pub record IsBetweenPast {C M : ℕ} (gone : Gone C M) (unread left : Option (List ℕ)) (lines : ScriptReader C M) (input : Input) : Type 0 where
   pub used : List ℕ
   pub taken : HasTaken unread left used input
-  pub read : HasRead lines.version used lines.script lines.line
+  pub read : HasReadPast lines.version used gone lines.script lines.line
+
+-- the same where none has gone
+abbrev pub IsBetween : {C M : ℕ} (unread left : Option (List ℕ)) (lines : ScriptReader C M) (input : Input) → Type 0
+IsBetween unread left lines input = IsBetweenPast none_gone unread left lines input
 
 -- the lines that the input holds can be read
 pub record IsReading {C M : ℕ} (lines : ScriptReader C M) (input : Input) : Type 0 where

@@ -1,5 +1,6 @@
 -- How far the check of a script has come. Only contracts of private functions cite these words.
-use Rattle.std.specs.Prelude.{◌≡◌, ◌≤◌, ◌++◌, ℕ, Option, List, [], ◌∷◌, length, map, take, drop}
+use Rattle.std.specs.Prelude.{◌≡◌, ◌≤◌, ◌+◌, ◌*◌, ◌^◌, ◌++◌, ℕ, Option, List, [], ◌∷◌, length, map, take, drop}
+use Rattle.tl_lanes.specs.declared.limits.TheConstants.{WIDEST}
 use Rattle.tl_msg.specs.Rules.{Rules}
 use Rattle.tl_msg.specs.declared.head.HeadA.{HeadA}
 use Rattle.tl_msg.specs.declared.head.HeadD.{HeadD}
@@ -47,3 +48,10 @@ pub record AreAt {C M : ℕ} (a : List (BeatOf HeadA C)) (d : List (BeatOf HeadD
   pub run : Run a d i j client_history manager_history
   pub a_taken : asked manager_history ≡ far_a a d i
   pub d_taken : answered client_history ≡ far_d a d j
+
+-- of a channel's list `gone` beats are gone and the next n are held, and `at`, to which it has come, is among those or behind them
+pub record IsWithin (gone at far n : ℕ) : Type 0 where
+  pub from : gone ≤ at
+  pub to : at ≤ gone + n
+  pub few : gone + n ≤ 2 ^ 40
+  pub few_far : far ≤ WIDEST * at

@@ -1,8 +1,9 @@
-use Rattle.std.proofs.Common.{lit<}
+use Rattle.std.proofs.Common.{lit<, subst, sym, ◌∙◌}
 use Rattle.tl_order.specs.Orders.{is_check}
 use Rattle.tl_run.specs.Scripts.{near_beats}
 use Rattle.tl_answer.specs.Inner.Parts.{spelled}
-use Rattle.tl_answer.specs.Inputs.{held}
+use Rattle.tl_answer.specs.Inputs.{held, unread_of}
+use Rattle.tl_answer.specs.Inner.Answered.{ReadsAnswer}
 use Rattle.tl_answer.proofs.Answering.{script-text, of-both, near-is}
 use Rattle.tl_answer.proofs.Headers.{widths_named, can-cross}
 use Rattle.tl_answer.proofs.Lengths.{lines-few}
@@ -28,3 +29,11 @@ returns-in-Ok g c =
     (near_beats c.in-Ok.script) (near-is read.told.lines _ read.told.script) (is_check c.args.order.now) (spelled made) text-is made.all_done done-is)
     c.answer_script.result c.answer_script.ensures.text c.answer_script.ensures.done)
     c.answer_script.ensures.err
+
+pub check_input-requires : goal.check_input-requires
+check_input-requires g c = (c.requires.fresh, c.requires.header)
+
+pub returns-then-is_check : goal.returns-then-is_check
+returns-then-is_check g c =
+    subst (λ check. ReadsAnswer (unread_of c.args.input.now (g.R.Read.remaining c.args.reader.now)) (g.R.Read.remaining c.check_input.new.reader) check c.check_input.new.input c.check_input.result)
+    (sym c.if-is_check.true ∙ c.is_check.ensures) c.check_input.ensures

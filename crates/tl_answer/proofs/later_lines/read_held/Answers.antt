@@ -1,6 +1,8 @@
 use Rattle.std.proofs.Common.{◌+◌, ◌≤◌, ◌++◌, length, take, drop, arith, ap, subst, sym}
-use Rattle.tl_trace.specs.Scripts.{HasRead, IsUnfinished}
-use Rattle.tl_answer.proofs.Between.{held_size, held_rest, between_on}
+use Rattle.tl_trace.specs.Scripts.{HasReadPast, IsUnfinished}
+use Rattle.tl_trace.specs.Faults.{IsFirstFault}
+use Rattle.tl_answer.specs.Inputs.{held}
+use Rattle.tl_answer.proofs.Between.{any_refused, held_size, held_rest, between_on, of_text}
 use Rattle.tl_answer.proofs.later_lines.read_held.Goals as goal
 
 pub returns-in-Ok-clause-rest : goal.returns-in-Ok-clause-rest
@@ -14,11 +16,19 @@ returns-in-Ok-clause-rest g c =
     (subst (λ bytes. IsUnfinished (drop c.in-Ok.used bytes)) c.held.ensures c.in-Ok.ensures.rest)
 
 pub returns-in-Ok-clause-ok : goal.returns-in-Ok-clause-ok
-returns-in-Ok-clause-ok g c unread left b =
+returns-in-Ok-clause-ok g c unread left gone b =
     let input = c.args.input.now in
     let e = c.advance.ensures in
     let size = held_size input c.requires.from c.requires.to in
     let same = ap length c.held.ensures in
     let inside : input.from + c.in-Ok.used ≤ input.to = omega (arith, c.in-Ok.ensures.used, size, same, c.requires.from) in
-    between_on input c.advance.new.self c.in-Ok.used e.from e.to e.buffer e.total inside c.args.lines.now c.read.new.self unread left c.in-Ok.ensures.version
-    (λ done r. subst (λ bytes. HasRead c.args.lines.now.version (done ++ take c.in-Ok.used bytes) c.read.new.self.script c.read.new.self.line) c.held.ensures (c.in-Ok.ensures.told done r)) b
+    between_on input c.advance.new.self c.in-Ok.used e.from e.to e.buffer e.total inside gone c.args.lines.now c.read.new.self unread left c.in-Ok.ensures.version
+    (λ done r. subst (λ bytes. HasReadPast c.args.lines.now.version (done ++ take c.in-Ok.used bytes) gone c.read.new.self.script c.read.new.self.line) c.held.ensures (c.in-Ok.ensures.told done gone r)) b
+
+pub returns-in-Err-clause-err : goal.returns-in-Err-clause-err
+returns-in-Err-clause-err g c = λ unread left gone b.
+    let input = c.args.input.now in
+    let fault = c.in-Err.fault in
+    any_refused unread left b.used input fault b.taken (λ other.
+    of_text (λ text. IsFirstFault text fault.line fault.kind) unread left (b.used ++ held input) b.taken.took (λ more.
+    subst (λ bytes. IsFirstFault (b.used ++ bytes ++ more) fault.line fault.kind) c.held.ensures (c.in-Err.ensures.fault b.used more gone b.read other)))

@@ -3,6 +3,7 @@ use Rattle.std.specs.List.{list_any}
 use Rattle.tl_lanes.proofs.Widths.{width_bounds}
 use Rattle.tl_trace.specs.Faults.{is_newline, IsFirstFault}
 use Rattle.tl_trace.specs.Inner.Reading.{LineAt}
+use Rattle.tl_trace.specs.Scripts.{none_gone}
 use Rattle.tl_answer.specs.Inner.Lines.{IsBetween}
 use Rattle.tl_answer.specs.Inputs.{IsRefused, unread_of, held}
 use Rattle.tl_answer.proofs.Between.{reading, any_refused, of_whole, held_size}
@@ -36,7 +37,7 @@ returns-in-Err g c =
     let left = g.R.Read.remaining c.args.reader.now in
     let first = begins unread left c.args.input.now c.advance.new.self c.args.lines.now c.args.lines.now.version c.line_end-end.result c.held.result.now c.held.ensures
     c.requires.fresh.taken c.requires.header line lt a.from a.to a.buffer a.total refl c.requires.none in
-    subst (IsRefused unread left c.read_held.new.input) (sym c.from.ensures) (c.in-Err.ensures.err unread left first)
+    subst (IsRefused unread left c.read_held.new.input) (sym c.from.ensures) (c.in-Err.ensures.err unread left none_gone first)
 
 pub loop-input-init : goal.loop-input-init
 loop-input-init g c =
@@ -49,7 +50,7 @@ loop-input-init g c =
     let first = begins unread left c.args.input.now c.advance.new.self c.args.lines.now c.args.lines.now.version c.line_end-end.result c.held.result.now c.held.ensures
     c.requires.fresh.taken c.requires.header line lt a.from a.to a.buffer a.total refl c.requires.none in
     record {
-      between = c.in_default.ensures.ok unread left first;
+      between = c.in_default.ensures.ok unread left none_gone first;
       version = c.in_default.ensures.version;
       rest = c.in_default.ensures.rest;
     }
@@ -68,7 +69,7 @@ returns-in-Err-read_held g c =
     let unread = unread_of c.args.input.now (g.R.Read.remaining c.args.reader.now) in
     let left = g.R.Read.remaining c.refill.new.reader in
     let on : IsBetween unread left c.loop-input.lines c.refill.new.self = record { used = b.used; taken = c.in_default-refill.ensures.ok unread b.used b.taken; read = b.read } in
-    subst (IsRefused unread left c.read_held-in-loop-input.new.input) (sym c.from-in-Err-read_held.ensures) (c.in-Err-read_held.ensures.err unread left on)
+    subst (IsRefused unread left c.read_held-in-loop-input.new.input) (sym c.from-in-Err-read_held.ensures) (c.in-Err-read_held.ensures.err unread left none_gone on)
 
 pub loop-input-smaller : goal.loop-input-smaller
 loop-input-smaller g c =
@@ -87,7 +88,7 @@ loop-input-preserved g c =
     let left = g.R.Read.remaining c.refill.new.reader in
     let on : IsBetween unread left c.loop-input.lines c.refill.new.self = record { used = b.used; taken = c.in_default-refill.ensures.ok unread b.used b.taken; read = b.read } in
     record {
-      between = c.in_default-read_held.ensures.ok unread left on;
+      between = c.in_default-read_held.ensures.ok unread left none_gone on;
       version = c.in_default-read_held.ensures.version ∙ c.loop-input.invariant.version;
       rest = c.in_default-read_held.ensures.rest;
     }
@@ -104,7 +105,7 @@ returns-in-Some g c =
     let unread = unread_of c.args.input.now (g.R.Read.remaining c.args.reader.now) in
     let left = g.R.Read.remaining c.loop-input.reader in
     let fault = c.in-Some.fault in
-    let first : IsFirstFault (b.used ++ held c.loop-input.input) fault.line fault.kind = subst (λ bytes. IsFirstFault (b.used ++ bytes) fault.line fault.kind) c.held-3.ensures (c.in-Some.ensures.fault b.used b.read) in
+    let first : IsFirstFault (b.used ++ held c.loop-input.input) fault.line fault.kind = subst (λ bytes. IsFirstFault (b.used ++ bytes) fault.line fault.kind) c.held-3.ensures (c.in-Some.ensures.fault b.used none_gone b.read) in
     let not_full : c.loop-input.input.to ≢ length c.loop-input.input.buffer.items = λ e. unlike _ _ (sym c.is_full.ensures ∙ c.loop-input-test.false) e in
     subst (IsRefused unread left c.loop-input.input) (sym c.from-in-Some.ensures)
     (any_refused unread left b.used c.loop-input.input fault b.taken (λ other. of_whole (λ text. IsFirstFault text fault.line fault.kind) unread left (b.used ++ held c.loop-input.input) b.taken.took (b.taken.end not_full) first))

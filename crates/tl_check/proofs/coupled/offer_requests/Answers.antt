@@ -1,55 +1,72 @@
-use Rattle.std.proofs.Common.{lit<, ◌<◌, ◌≤◌, ◌^◌, None, length, sym, ap, subst, arith}
+use Rattle.std.proofs.Common.{lit<, ◌-◌, None, length, sym, ap}
 use Rattle.std.specs.Option.{option_map_or}
+use Rattle.std.proofs.lemmas.Option.{slice_get_past, slice_get_within}
 use Rattle.tl_settle.specs.Settling.{stops_a}
-use Rattle.tl_run.proofs.OfferSteps.{read_some, read_none}
+use Rattle.tl_run.proofs.OfferSteps.{read_some}
 use Rattle.tl_check.proofs.Ends.{stopped-at}
-use Rattle.std.proofs.lemmas.Option.{slice_get_within}
+use Rattle.tl_check.proofs.Parts.{end-past, low, none-left, part-get, part-of, steps}
 use Rattle.tl_ring.proofs.FieldSizes.{beat_small}
-use Rattle.tl_msg.specs.Tables.{rules_a}
-use Rattle.tl_check.specs.Inner.Passing.{HasCome}
 use Rattle.tl_check.proofs.coupled.offer_requests.Goals as goal
 
 pub beats-preserved : goal.beats-preserved
 beats-preserved g c =
-    let next = read_some c.args.beats.now c.beats.asks.at c.in-Some.beat.now c.in-Some.ensures.lookup.0 c.in-Some.ensures.lookup.1 in
+    let at = c.beats.asks.at - c.args.gone in
+    let here = c.beats.invariant.within in
+    let next = read_some c.args.beats.now at c.in-Some.beat.now c.in-Some.ensures.lookup.0 c.in-Some.ensures.lookup.1 in
     let offered = c.in-Ok.ensures in
     record {
-      come = offered.come c.args.beats.now c.beats.invariant.come next;
-      few_far = offered.few_far;
-      accepted = λ d j start. offered.accepted c.args.beats.now d j c.beats.manager c.note_asks.new.book c.beats.invariant.come (c.beats.invariant.accepted d j start) next
-          c.note_asks.ensures;
+      within = steps c.args.gone c.beats.asks.at c.beats.asks.far (length c.args.beats.now) c.offer_request.new.asks.at c.offer_request.new.asks.far here
+          (slice_get_within c.args.beats.now at c.in-Some.beat.now next) offered.at offered.few_far;
+      come = λ a part was.
+          offered.come a (c.beats.invariant.come a part was) (part-get c.args.gone c.beats.asks.at c.args.beats.now a part here.from c.in-Some.beat.now next);
+      accepted = λ a d j part was start.
+          offered.accepted a d j c.beats.manager c.note_asks.new.book (c.beats.invariant.come a part was) (c.beats.invariant.accepted a d j part was start)
+          (part-get c.args.gone c.beats.asks.at c.args.beats.now a part here.from c.in-Some.beat.now next) c.note_asks.ensures;
     }
 
 pub returns-in-Err-clause-stopped : goal.returns-in-Err-clause-stopped
-returns-in-Err-clause-stopped g c = λ d j start.
-    let next = read_some c.args.beats.now c.beats.asks.at c.in-Some.beat.now c.in-Some.ensures.lookup.0 c.in-Some.ensures.lookup.1 in
-    stopped-at (λ n b. stops_a c.args.beats.now d n j b) c.args.beats.now c.beats.asks.at c.offer_request.new.asks.at c.in-Some.beat.now c.in-Err.fault
+returns-in-Err-clause-stopped g c = λ a d j end was start.
+    let at = c.beats.asks.at - c.args.gone in
+    let here = c.beats.invariant.within in
+    let part = part-of c.args.gone c.beats.asks.at c.args.beats.now a end in
+    let held = read_some c.args.beats.now at c.in-Some.beat.now c.in-Some.ensures.lookup.0 c.in-Some.ensures.lookup.1 in
+    let next = part-get c.args.gone c.beats.asks.at c.args.beats.now a part here.from c.in-Some.beat.now held in
+    stopped-at (λ n b. stops_a a d n j b) a c.beats.asks.at c.offer_request.new.asks.at c.in-Some.beat.now c.in-Err.fault
     (ap (λ q. q.at) c.in-Err.ensures.refused.1) next
-    (c.in-Err.ensures.stopped c.args.beats.now d j c.beats.manager c.beats.invariant.come (c.beats.invariant.accepted d j start) next)
+    (c.in-Err.ensures.stopped a d j c.beats.manager (c.beats.invariant.come a part was) (c.beats.invariant.accepted a d j part was start) next)
+
+pub returns-clause-all : goal.returns-clause-all
+returns-clause-all g c = λ _. none-left c.args.gone c.beats.asks.at c.args.beats.now c.in_default.ensures.lookup.0 c.beats.invariant.within
 
 pub returns-clause-stopped : goal.returns-clause-stopped
-returns-clause-stopped g c = λ d j start.
-    sym (ap (λ o. option_map_or (λ b. stops_a c.args.beats.now d c.beats.asks.at j b) o None)
-    (read_none c.args.beats.now c.beats.asks.at c.in_default.ensures.lookup.0))
+returns-clause-stopped g c = λ a d j end was start.
+    let past = none-left c.args.gone c.beats.asks.at c.args.beats.now c.in_default.ensures.lookup.0 c.beats.invariant.within in
+    sym (ap (λ o. option_map_or (λ b. stops_a a d c.beats.asks.at j b) o None)
+    (slice_get_past a c.beats.asks.at (end-past c.args.gone c.beats.asks.at c.args.beats.now a end past)))
 
 pub beats-init : goal.beats-init
-beats-init g c = record { come = c.requires.4; few_far = c.requires.3; accepted = λ d j start. start }
+beats-init g c = record { within = c.requires.2; come = λ a part was. was; accepted = λ a d j part was start. start }
 
 pub offer_request-requires : goal.offer_request-requires
 offer_request-requires g c =
-    let next = read_some c.args.beats.now c.beats.asks.at c.in-Some.beat.now c.in-Some.ensures.lookup.0 c.in-Some.ensures.lookup.1 in
-    let within : c.beats.asks.at < length c.args.beats.now = slice_get_within c.args.beats.now c.beats.asks.at c.in-Some.beat.now next in
-    let short : length c.args.beats.now ≤ 2 ^ 40 = c.requires.2 in (
+    let at = c.beats.asks.at - c.args.gone in
+    let here = c.beats.invariant.within in
+    let next = read_some c.args.beats.now at c.in-Some.beat.now c.in-Some.ensures.lookup.0 c.in-Some.ensures.lookup.1 in
+    let within = slice_get_within c.args.beats.now at c.in-Some.beat.now next in (
       lit< tt,
       (
         beat_small g.row.C c.requires.0,
-        (lit< tt, (c.requires.0, c.requires.1, omega arith, c.beats.invariant.few_far)),
+        (
+          lit< tt,
+          (
+            c.requires.0,
+            c.requires.1,
+            low c.args.gone c.beats.asks.at c.beats.asks.far (length c.args.beats.now) here within,
+            here.few_far,
+          ),
+        ),
       ),
     )
 
 pub note_asks-requires : goal.note_asks-requires
 note_asks-requires g c = (lit< tt, (c.requires.1, c.in-Ok.ensures.lawful))
-
-pub returns-in-Err-clause-come : goal.returns-in-Err-clause-come
-returns-in-Err-clause-come g c =
-    subst (λ q. HasCome rules_a {w = g.row.C} g.row.M c.args.beats.now q.tracker q.at q.far) (sym c.in-Err.ensures.refused.1) c.beats.invariant.come

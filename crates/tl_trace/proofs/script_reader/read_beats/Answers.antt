@@ -34,26 +34,26 @@ returns-in-Ok-None-clause-told g c =
     (waits g.row.VERSION c.args.piece.now c.args.reader.now.script c.args.reader.now.line c.push_next.new.script c.push_slowly.new.script c.loop-at.at c.loop-at.reader.line far left.same).read
 
 pub returns-in-Ok-None-clause-fault : goal.returns-in-Ok-None-clause-fault
-returns-in-Ok-None-clause-fault g c done more r = tt
+returns-in-Ok-None-clause-fault g c done more gone r = tt
 
 pub returns-in-Ok-None-clause-memory : goal.returns-in-Ok-None-clause-memory
-returns-in-Ok-None-clause-memory g c done more r = tt
+returns-in-Ok-None-clause-memory g c done more gone r = tt
 
 pub returns-in-Err-clause-version : goal.returns-in-Err-clause-version
 returns-in-Err-clause-version g c = c.loop-at.invariant.0
 
 pub returns-in-Err-clause-told : goal.returns-in-Err-clause-told
-returns-in-Err-clause-told g c done r = tt
+returns-in-Err-clause-told g c done gone r = tt
 
 pub returns-in-Err-clause-fault : goal.returns-in-Err-clause-fault
-returns-in-Err-clause-fault g c done more r other =
+returns-in-Err-clause-fault g c done more gone r other =
     let far = waits g.row.VERSION c.args.piece.now c.args.reader.now.script c.args.reader.now.line c.loop-at.reader.script c.push_next.new.script c.loop-at.at c.loop-at.reader.line c.loop-at.invariant.1 c.in_default.ensures in
-    refused_at g.row.VERSION c.args.piece.now c.args.reader.now.script c.args.reader.now.line c.push_next.new.script c.loop-at.at c.loop-at.reader.line c.in-Err.kind c.requires.0.client c.requires.0.manager far c.loop-at-test.true (c.in-Err.ensures.fault other) done more r
+    refused_at g.row.VERSION c.args.piece.now c.args.reader.now.script c.args.reader.now.line c.push_next.new.script c.loop-at.at c.loop-at.reader.line c.in-Err.kind c.requires.0.client c.requires.0.manager far c.loop-at-test.true (c.in-Err.ensures.fault other) done more gone r
 
 pub returns-in-Err-clause-memory : goal.returns-in-Err-clause-memory
-returns-in-Err-clause-memory g c done more r is =
+returns-in-Err-clause-memory g c done more gone r is =
     let far = waits g.row.VERSION c.args.piece.now c.args.reader.now.script c.args.reader.now.line c.loop-at.reader.script c.push_next.new.script c.loop-at.at c.loop-at.reader.line c.loop-at.invariant.1 c.in_default.ensures in
-    unstored_at g.row.VERSION c.args.piece.now c.args.reader.now.script c.args.reader.now.line c.push_next.new.script c.loop-at.at c.loop-at.reader.line far (c.in-Err.ensures.memory is) done more r
+    unstored_at g.row.VERSION c.args.piece.now c.args.reader.now.script c.args.reader.now.line c.push_next.new.script c.loop-at.at c.loop-at.reader.line far (c.in-Err.ensures.memory is) done more gone r
 
 pub returns-clause-version : goal.returns-clause-version
 returns-clause-version g c = c.loop-at.invariant.0
@@ -71,10 +71,10 @@ pub returns-clause-told : goal.returns-clause-told
 returns-clause-told g c = c.loop-at.invariant.1.read
 
 pub returns-clause-fault : goal.returns-clause-fault
-returns-clause-fault g c done more r = tt
+returns-clause-fault g c done more gone r = tt
 
 pub returns-clause-memory : goal.returns-clause-memory
-returns-clause-memory g c done more r = tt
+returns-clause-memory g c done more gone r = tt
 
 pub returns-in-Err-clause-used : goal.returns-in-Err-clause-used
 returns-in-Err-clause-used g c = tt
@@ -96,3 +96,12 @@ push_next-requires g c = (lit< tt, (c.requires.0, c.loop-at-test.true))
 
 pub push_slowly-requires : goal.push_slowly-requires
 push_slowly-requires g c = (lit< tt, (c.requires.0, c.loop-at-test.true))
+
+pub returns-in-Ok-None-clause-grown : goal.returns-in-Ok-None-clause-grown
+returns-in-Ok-None-clause-grown g c = λ _.
+    let far = waits g.row.VERSION c.args.piece.now c.args.reader.now.script c.args.reader.now.line c.loop-at.reader.script c.push_next.new.script c.loop-at.at c.loop-at.reader.line c.loop-at.invariant.1 c.in_default.ensures in
+    let left = rw c.in-Ok-None.field-0-is at c.in-Ok-None.ensures.read in
+    (waits g.row.VERSION c.args.piece.now c.args.reader.now.script c.args.reader.now.line c.push_next.new.script c.push_slowly.new.script c.loop-at.at c.loop-at.reader.line far left.same).grown
+
+pub returns-clause-grown : goal.returns-clause-grown
+returns-clause-grown g c = λ _. c.loop-at.invariant.1.grown

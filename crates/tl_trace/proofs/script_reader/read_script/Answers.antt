@@ -1,7 +1,7 @@
 use Rattle.std.proofs.Common.{◌≡◌, ◌+◌, ◌-◌, ◌++◌, ◌∙◌, [], true, false, Some, length, drop, take, arith, rules, refl, subst, sym, ap}
 use Rattle.std.proofs.lemmas.List.{take_rest}
 use Rattle.std.specs.List.{list_any, slice_range}
-use Rattle.tl_trace.specs.Scripts.{HasRead}
+use Rattle.tl_trace.specs.Scripts.{HasRead, none_gone}
 use Rattle.tl_trace.specs.Texts.{is_version}
 use Rattle.tl_trace.specs.Faults.{is_newline, header_of, body, IsFirstFault, IsReadableTo}
 use Rattle.tl_trace.specs.Inner.Reading.{LineAt}
@@ -33,7 +33,7 @@ returns-in-Err-clause-fault g c other =
     let n = c.line_end-end.result + 1 in
     let begins = header_line text c.line_end-end.result c.args.version g.row.C g.row.M line c.if-end-text.false c.requires.header in
     let read = subst (λ v. HasRead v (take n text) c.new-reader.result.script c.new-reader.result.line) (sym c.new-reader.ensures.version) (c.new-reader.ensures.header (take n text) begins) in
-    subst (λ t. IsFirstFault t c.in-Err.fault.line c.in-Err.fault.kind) (whole_text text n (take (length text - n) (drop n text)) (take_rest text n)) (c.in-Err.ensures.fault (take n text) [] read other)
+    subst (λ t. IsFirstFault t c.in-Err.fault.line c.in-Err.fault.kind) (whole_text text n (take (length text - n) (drop n text)) (take_rest text n)) (c.in-Err.ensures.fault (take n text) [] none_gone read other)
 
 pub returns-in-Err-clause-memory : goal.returns-in-Err-clause-memory
 returns-in-Err-clause-memory g c is =
@@ -43,7 +43,7 @@ returns-in-Err-clause-memory g c is =
     let n = c.line_end-end.result + 1 in
     let begins = header_line text c.line_end-end.result c.args.version g.row.C g.row.M line c.if-end-text.false c.requires.header in
     let read = subst (λ v. HasRead v (take n text) c.new-reader.result.script c.new-reader.result.line) (sym c.new-reader.ensures.version) (c.new-reader.ensures.header (take n text) begins) in
-    subst (λ t. IsReadableTo t c.in-Err.fault.line) (whole_text text n (take (length text - n) (drop n text)) (take_rest text n)) (c.in-Err.ensures.memory (take n text) [] read is)
+    subst (λ t. IsReadableTo t c.in-Err.fault.line) (whole_text text n (take (length text - n) (drop n text)) (take_rest text n)) (c.in-Err.ensures.memory (take n text) [] none_gone read is)
 
 pub end_fault-requires : goal.end_fault-requires
 end_fault-requires g c =
@@ -62,10 +62,10 @@ returns-in-Some-clause-fault g c other =
     let later = take (length text - n) (drop n text) in
     let begins = header_line text c.line_end-end.result c.args.version g.row.C g.row.M line c.if-end-text.false c.requires.header in
     let read = subst (λ v. HasRead v (take n text) c.new-reader.result.script c.new-reader.result.line) (sym c.new-reader.ensures.version) (c.new-reader.ensures.header (take n text) begins) in
-    let more = subst (λ v. HasRead v (take n text ++ take c.in-Ok.used later) c.read.new.self.script c.read.new.self.line) (sym c.in-Ok.ensures.version) (c.in-Ok.ensures.told (take n text) read) in
+    let more = subst (λ v. HasRead v (take n text ++ take c.in-Ok.used later) c.read.new.self.script c.read.new.self.line) (sym c.in-Ok.ensures.version) (c.in-Ok.ensures.told (take n text) none_gone read) in
     subst (λ t. IsFirstFault t c.in-Some.fault.line c.in-Some.fault.kind)
     (parted_text text n later (take_rest text n) c.in-Ok.used (take (length later - c.in-Ok.used) (drop c.in-Ok.used later)) (take_rest later c.in-Ok.used))
-    (c.in-Some.ensures.fault (take n text ++ take c.in-Ok.used later) more)
+    (c.in-Some.ensures.fault (take n text ++ take c.in-Ok.used later) none_gone more)
 
 pub returns-in-None-clause-told : goal.returns-in-None-clause-told
 returns-in-None-clause-told g c =
@@ -77,6 +77,6 @@ returns-in-None-clause-told g c =
     let begins = header_line text c.line_end-end.result c.args.version g.row.C g.row.M line c.if-end-text.false c.requires.header in
     let first = c.new-reader.ensures.header (take n text) begins in
     let read = subst (λ v. HasRead v (take n text) c.new-reader.result.script c.new-reader.result.line) (sym c.new-reader.ensures.version) first in
-    let more = subst (λ v. HasRead v (take n text ++ take c.in-Ok.used later) c.read.new.self.script c.read.new.self.line) c.new-reader.ensures.version (c.in-Ok.ensures.told (take n text) read) in
+    let more = subst (λ v. HasRead v (take n text ++ take c.in-Ok.used later) c.read.new.self.script c.read.new.self.line) c.new-reader.ensures.version (c.in-Ok.ensures.told (take n text) none_gone read) in
     tells_script c.args.version (take n text ++ take c.in-Ok.used later) text c.read.new.self.script c.read.new.self.line
     (used_text text n later (take_rest text n) c.in-Ok.used (take (length later - c.in-Ok.used) (drop c.in-Ok.used later)) (take_rest later c.in-Ok.used) (c.in-None.ensures.none refl)) more

@@ -1,6 +1,6 @@
 use Rattle.std.proofs.Common.{rules, ◌++◌, ℕ, List, take, sym, subst}
 use Rattle.std.specs.Prelude.{IfOk}
-use Rattle.tl_trace.specs.Scripts.{HasRead}
+use Rattle.tl_trace.specs.Scripts.{Gone, HasReadPast}
 use Rattle.tl_trace.proofs.Pieces.{version_2}
 use Rattle.tl_trace.proofs.script_reader.ScriptReader.read.Goals as goal
 
@@ -19,14 +19,14 @@ returns-in-1-clause-rest g c = c.read_beats.ensures.rest
 pub returns-in-1-clause-told : goal.returns-in-1-clause-told
 returns-in-1-clause-told g c =
     subst
-    (λ v. (done : List ℕ) → HasRead v done c.args.self.now.script c.args.self.now.line → IfOk c.read_beats.result (λ used. HasRead v (done ++ take used c.args.piece.now) c.read_beats.new.reader.script c.read_beats.new.reader.line))
+    (λ v. (done : List ℕ) (gone : Gone g.row.C g.row.M) → HasReadPast v done gone c.args.self.now.script c.args.self.now.line → IfOk c.read_beats.result (λ used. HasReadPast v (done ++ take used c.args.piece.now) gone c.read_beats.new.reader.script c.read_beats.new.reader.line))
     (sym c.in-1.is) c.read_beats.ensures.told
 
 pub returns-in-1-clause-fault : goal.returns-in-1-clause-fault
-returns-in-1-clause-fault g c done more r = c.read_beats.ensures.fault done more (subst (λ v. HasRead v done c.args.self.now.script c.args.self.now.line) c.in-1.is r)
+returns-in-1-clause-fault g c done more gone r = c.read_beats.ensures.fault done more gone (subst (λ v. HasReadPast v done gone c.args.self.now.script c.args.self.now.line) c.in-1.is r)
 
 pub returns-in-1-clause-memory : goal.returns-in-1-clause-memory
-returns-in-1-clause-memory g c done more r = c.read_beats.ensures.memory done more (subst (λ v. HasRead v done c.args.self.now.script c.args.self.now.line) c.in-1.is r)
+returns-in-1-clause-memory g c done more gone r = c.read_beats.ensures.memory done more gone (subst (λ v. HasReadPast v done gone c.args.self.now.script c.args.self.now.line) c.in-1.is r)
 
 pub returns-in_default-clause-version : goal.returns-in_default-clause-version
 returns-in_default-clause-version g c = c.read_beats-in_default.ensures.version
@@ -43,11 +43,11 @@ returns-in_default-clause-rest g c = c.read_beats-in_default.ensures.rest
 pub returns-in_default-clause-told : goal.returns-in_default-clause-told
 returns-in_default-clause-told g c =
     subst
-    (λ v. (done : List ℕ) → HasRead v done c.args.self.now.script c.args.self.now.line → IfOk c.read_beats-in_default.result (λ used. HasRead v (done ++ take used c.args.piece.now) c.read_beats-in_default.new.reader.script c.read_beats-in_default.new.reader.line))
+    (λ v. (done : List ℕ) (gone : Gone g.row.C g.row.M) → HasReadPast v done gone c.args.self.now.script c.args.self.now.line → IfOk c.read_beats-in_default.result (λ used. HasReadPast v (done ++ take used c.args.piece.now) gone c.read_beats-in_default.new.reader.script c.read_beats-in_default.new.reader.line))
     (sym (version_2 c.args.self.now.version c.requires.version (search rules))) c.read_beats-in_default.ensures.told
 
 pub returns-in_default-clause-fault : goal.returns-in_default-clause-fault
-returns-in_default-clause-fault g c done more r = c.read_beats-in_default.ensures.fault done more (subst (λ v. HasRead v done c.args.self.now.script c.args.self.now.line) (version_2 c.args.self.now.version c.requires.version (search rules)) r)
+returns-in_default-clause-fault g c done more gone r = c.read_beats-in_default.ensures.fault done more gone (subst (λ v. HasReadPast v done gone c.args.self.now.script c.args.self.now.line) (version_2 c.args.self.now.version c.requires.version (search rules)) r)
 
 pub returns-in_default-clause-memory : goal.returns-in_default-clause-memory
-returns-in_default-clause-memory g c done more r = c.read_beats-in_default.ensures.memory done more (subst (λ v. HasRead v done c.args.self.now.script c.args.self.now.line) (version_2 c.args.self.now.version c.requires.version (search rules)) r)
+returns-in_default-clause-memory g c done more gone r = c.read_beats-in_default.ensures.memory done more gone (subst (λ v. HasReadPast v done gone c.args.self.now.script c.args.self.now.line) (version_2 c.args.self.now.version c.requires.version (search rules)) r)

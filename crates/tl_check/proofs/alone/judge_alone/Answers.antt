@@ -1,0 +1,69 @@
+use Rattle.std.proofs.Common.{rules, ◌-◌, length, take, refl}
+use denote.Memory.{lone}
+use denote.Param.{layout}
+use Rattle.std.proofs.lemmas.Option.{slice_get_within}
+use Rattle.tl_convert.proofs.Sizes.{tracker-fits}
+use Rattle.tl_run.proofs.OfferSteps.{read_some}
+use Rattle.tl_check.proofs.Parts.{end-past, low, none-left, part-get, part-of, steps}
+use Rattle.tl_check.proofs.Passing.{alone-all, alone-stops}
+use Rattle.tl_check.proofs.Sizes.{progress-fits}
+use Rattle.tl_check.proofs.alone.judge_alone.Goals as goal
+
+pub check-requires : goal.check-requires
+check-requires g c = (tracker-fits (lone g.row.K-Head.mir) (layout g.row.K-Head) g.met.K.Channel.head_small, (search rules, c.requires.0))
+
+pub accept-requires : goal.accept-requires
+accept-requires g c =
+    let progress = c.beats.progress in
+    let here = c.beats.invariant.within in
+    let next = read_some c.args.beats.now (progress.at - c.args.gone) c.in-Some.beat.now c.in-Some.ensures.lookup.0 c.in-Some.ensures.lookup.1 in
+    let within = slice_get_within c.args.beats.now (progress.at - c.args.gone) c.in-Some.beat.now next in (
+      progress-fits (lone g.row.K-Head.mir) (layout g.row.K-Head) g.met.K.Channel.head_small,
+      (c.requires.0, c.requires.1, c.in-Ok.ensures.place, low c.args.gone progress.at progress.far (length c.args.beats.now) here within, here.few_far),
+    )
+
+pub beats-init : goal.beats-init
+beats-init g c = record { within = c.requires.2; come = λ bs part was. was }
+
+pub beats-preserved : goal.beats-preserved
+beats-preserved g c =
+    let progress = c.beats.progress in
+    let here = c.beats.invariant.within in
+    let next = read_some c.args.beats.now (progress.at - c.args.gone) c.in-Some.beat.now c.in-Some.ensures.lookup.0 c.in-Some.ensures.lookup.1 in
+    let within = slice_get_within c.args.beats.now (progress.at - c.args.gone) c.in-Some.beat.now next in
+    record {
+      within = steps c.args.gone progress.at progress.far (length c.args.beats.now) c.accept.new.self.at c.accept.new.self.far here within c.accept.ensures.at c.accept.ensures.few_far;
+      come = λ bs part was.
+          let come = c.beats.invariant.come bs part was in
+          c.accept.ensures.come bs c.in-Some.beat.now come (part-get c.args.gone progress.at c.args.beats.now bs part here.from c.in-Some.beat.now next) c.in-Ok.ensures.head
+          (c.in-Ok.ensures.accepts.0 refl) ((c.in-Ok.ensures.admitted (take progress.at bs) come.handed come.burst_is).0 refl);
+    }
+
+pub returns-in-Err-clause-within : goal.returns-in-Err-clause-within
+returns-in-Err-clause-within g c = c.beats.invariant.within
+
+pub returns-in-Err-clause-come : goal.returns-in-Err-clause-come
+returns-in-Err-clause-come g c = c.beats.invariant.come
+
+pub returns-in-Err-clause-stopped : goal.returns-in-Err-clause-stopped
+returns-in-Err-clause-stopped g c = λ bs end was.
+    let progress = c.beats.progress in
+    let part = part-of c.args.gone progress.at c.args.beats.now bs end in
+    let next = read_some c.args.beats.now (progress.at - c.args.gone) c.in-Some.beat.now c.in-Some.ensures.lookup.0 c.in-Some.ensures.lookup.1 in
+    alone-stops g.K.Channel.rules bs progress.tracker progress.at progress.far (c.beats.invariant.come bs part was) c.in-Some.beat.now
+    (part-get c.args.gone progress.at c.args.beats.now bs part c.beats.invariant.within.from c.in-Some.beat.now next)
+    c.in-Err.fault c.in-Err.ensures.fault
+
+pub returns-clause-within : goal.returns-clause-within
+returns-clause-within g c = c.beats.invariant.within
+
+pub returns-clause-come : goal.returns-clause-come
+returns-clause-come g c = c.beats.invariant.come
+
+pub returns-clause-stopped : goal.returns-clause-stopped
+returns-clause-stopped g c = λ bs end was.
+    let progress = c.beats.progress in
+    let part = part-of c.args.gone progress.at c.args.beats.now bs end in
+    let past = none-left c.args.gone progress.at c.args.beats.now c.in_default.ensures.lookup.0 c.beats.invariant.within in
+    alone-all g.K.Channel.rules bs progress.tracker progress.at progress.far (c.beats.invariant.come bs part was)
+    (end-past c.args.gone progress.at c.args.beats.now bs end past)
