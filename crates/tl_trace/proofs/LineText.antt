@@ -36,17 +36,12 @@ line_parts f w b masked corrupts has_mask has_data narrow =
     ∙ ap (λ (t : Bool). (head_text f b.head ++ cond f.rules.masked (g mask) []) ++ cond t (g data_lanes ++ g corrupt) []) (sym has_data)
     ∙ ap (λ (xs : List ℕ). f.rules.letter ∷ xs) (sym whole)
 
--- a head, two parts and a line end, put one after the other
-pub joined : (a h b c d e head masks datas : List ℕ) → a ≡ [] → h ≡ head → b ≡ a ++ h → c ≡ b ++ masks → d ≡ c ++ datas → e ≡ d ++ 10 ∷ [] → e ≡ ((head ++ masks) ++ datas) ++ 10 ∷ []
-joined a h b c d e head masks datas none is first second third last =
-    last ∙ ap (λ (xs : List ℕ). xs ++ 10 ∷ []) (third ∙ ap (λ (xs : List ℕ). xs ++ datas) (second ∙ ap (λ (xs : List ℕ). xs ++ masks) (first ∙ ap (λ (xs : List ℕ). xs ++ h) none ∙ is)))
+-- a part that the channel has, and nothing of one that it has not
+pub a_part : (old new text : List ℕ) (m : Bool) → m ≡ true → new ≡ old ++ text → new ≡ old ++ (if m then text else [])
+a_part old new text m has is = is ∙ ap (λ (t : Bool). old ++ (if t then text else [])) (sym has)
 
--- a mask where the channel has one, and nothing where it has none
-pub with_mask : (old new text : List ℕ) (m : Bool) → m ≡ true → new ≡ old ++ text → new ≡ old ++ (if m then text else [])
-with_mask old new text m has is = is ∙ ap (λ (t : Bool). old ++ (if t then text else [])) (sym has)
-
-pub without_mask : (old text : List ℕ) (m : Bool) → m ≡ false → old ≡ old ++ (if m then text else [])
-without_mask old text m none = sym (append-nil old) ∙ ap (λ (t : Bool). old ++ (if t then text else [])) (sym none)
+pub no_part : (old text : List ℕ) (m : Bool) → m ≡ false → old ≡ old ++ (if m then text else [])
+no_part old text m none = sym (append-nil old) ∙ ap (λ (t : Bool). old ++ (if t then text else [])) (sym none)
 
 -- four pieces of a report, one after the other
 pub regrouped : (a b c d : List ℕ) → (((a ++ b) ++ c) ++ 32 ∷ []) ++ d ≡ a ++ ((b ++ c) ++ 32 ∷ d)

@@ -1,9 +1,10 @@
 //! Reading a line of a known channel.
-ghost use Rattle.std.specs.Prelude.{◌≡◌, ◌≤◌, ◌+◌, ◌/◌, ◌^◌, ◌&&◌, true, false, length, nat_lt, Some, ◌<◌, MatchResult};
+ghost use Rattle.std.specs.Prelude.{◌≡◌, ◌≤◌, ◌+◌, ◌/◌, ◌^◌, ◌&&◌, true, false, length, nat_lt, Some, ◌<◌, IfSome, MatchResult};
 ghost use Rattle.tl_lanes.specs.declared.limits.TheConstants.{WIDEST};
 ghost use Rattle.tl_trace.specs.Fields.{length_of, mask_fields, data_fields, line_length, number_of_lanes};
 ghost use Rattle.tl_trace.specs.Lines.{is_lanes};
 ghost use Rattle.tl_trace.specs.Faults.{form_fault};
+ghost use Rattle.tl_trace.specs.Inner.KnownHeads.{HasHead};
 ghost use Rattle.tl_trace.specs.Inner.Reading.{CanReadBeat, IsPart, IsRead, mask_values, data_values};
 
 use crate::digits::{MaskNumber, Number, field, lanes_field, mask_field};
@@ -102,6 +103,37 @@ pub fn read_beat<K: ReadHead, const N: usize, const VERSION: u8>(
         return Err(TraceKind::Range);
     }
     Ok(BeatOf {
+        head,
+        mask: mask.value,
+        lanes,
+        corrupt: corrupt.value == 1,
+    })
+}
+
+/// The beat of a line on all its lanes, whose head is known: `None` where the rest of the line has a fault.
+#[inline(always)]
+pub fn beat_with_head<K: ReadHead, const N: usize, const VERSION: u8>(
+    text: &[u8],
+    head: K::Head,
+) -> Option<Beat<K, N>>
+    requires can { CanReadBeat (K.form VERSION) N N text.now }
+    requires long { length text.now ≡ line_length (K.form VERSION) N }
+    requires head { HasHead (K.form VERSION) VERSION text.now head }
+    ensures { IfSome result (IsRead (K.form VERSION) N text.now) }
+{
+    let mask_at = K::head_end(VERSION);
+    let mask = read_mask::<K, VERSION>(text, mask_at, N);
+    let mut lanes = [0u8; N];
+    let corrupt = read_data::<K, N, VERSION>(
+        text,
+        mask_at + mask_len::<K, VERSION>(N),
+        N,
+        &mut lanes,
+    );
+    if (mask.bad | corrupt.bad) > 15 || !are_in_range(mask.value, corrupt.value, N) {
+        return None;
+    }
+    Some(BeatOf {
         head,
         mask: mask.value,
         lanes,

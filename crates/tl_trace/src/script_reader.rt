@@ -5,13 +5,15 @@ ghost use Rattle.tl_lanes.specs.declared.limits.TheConstants.{WIDEST};
 ghost use Rattle.tl_trace.specs.Scripts.{Gone, TellsScript, HasCounts, HasGrown, HasLetGo, HasRead, HasReadPast, IsHeaderLine, IsUnfinished, more_gone};
 ghost use Rattle.tl_trace.specs.Texts.{is_version};
 ghost use Rattle.tl_trace.specs.Faults.{is_newline, body, later_fault, header_of, HasHeader, IsFirstFault, IsReadableTo};
+ghost use Rattle.tl_trace.specs.Inner.KnownHeads.{AreKnown, IsKnown};
 ghost use Rattle.tl_trace.specs.Inner.Reading.{CanPush, CanRead, IsFaultyAt, IsLeft, IsLinePushed, IsNextPushed, IsReadableAt, IsSameScript};
 ghost use Rattle.tl_trace.specs.declared.fault.TraceKind.TheVariants.{OutOfMemory};
 
 use crate::fault::{TraceFault, TraceKind};
 use crate::head_reader::ReadHead;
 use crate::header::{Header, header_of};
-use crate::line_reader::read_beat;
+use crate::known_head::{KnownHead, LastHeads, head_at, no_heads};
+use crate::line_reader::beat_with_head;
 use crate::places::{LONGEST_LINE, line_len};
 use crate::reader::{line_end, read_line};
 use crate::script::{Counts, Script, empty_script, push_beat_of};
@@ -27,25 +29,28 @@ pub fn header_of_text(text: &[u8]) -> Option<Header>
 
 /// Puts the beat of the line from `at` on behind those of its channel, and gives the line's end.
 /// `None`, and the list as it was, where the line has a fault, where its LF is not at its place, and
-/// where a growth is refused, which `no_room` then says, so that it is not asked for again.
+/// where a growth is refused, which `no_room` then says, so that it is not asked for again. A head is not read where that
+/// of the last line of its channel has the same text.
 #[inline(never)]
 fn push_line<K: ReadHead, const W: usize, const VERSION: u8>(
     list: &mut Vec<Beat<K, W>>,
+    last: &mut Option<KnownHead<K::Head>>,
     text: &[u8],
     at: usize,
     no_room: &mut bool,
 ) -> Option<usize>
-    requires { CanPush (K.form VERSION) W text.now at }
-    ensures { MatchOption result (list.new.items ≡ list.old.items)
+    requires can { CanPush (K.form VERSION) W text.now at }
+    requires known { IfSome last.old (IsKnown (K.form VERSION) VERSION text.now) }
+    ensures pushed { MatchOption result (list.new.items ≡ list.old.items)
         (IsLinePushed (K.form VERSION) W text.now at list.old.items list.new.items) }
+    ensures known { IfSome last.new (IsKnown (K.form VERSION) VERSION text.now) }
 {
     let long = line_len::<K, VERSION>(W);
     if long >= text.len() - at || text[at + long] != b'\n' {
         return None;
     }
-    let Ok(beat) = read_beat::<K, W, VERSION>(&text[at..at + long], W) else {
-        return None;
-    };
+    let head = head_at::<K, VERSION>(text, at, last)?;
+    let beat = beat_with_head::<K, W, VERSION>(&text[at..at + long], head)?;
     if list.push(beat).is_err() {
         *no_room = true;
         return None;
@@ -58,20 +63,23 @@ fn push_line<K: ReadHead, const W: usize, const VERSION: u8>(
 #[inline(always)]
 fn push_next<const C: usize, const M: usize, const VERSION: u8>(
     script: &mut Script<C, M>,
+    heads: &mut LastHeads,
     text: &[u8],
     at: usize,
     no_room: &mut bool,
 ) -> Option<usize>
-    requires { CanRead VERSION C M × (at < length text.now) }
-    ensures { MatchOption result (IsSameScript script.old script.new)
+    requires can { CanRead VERSION C M × (at < length text.now) }
+    requires known { AreKnown VERSION text.now heads.old }
+    ensures pushed { MatchOption result (IsSameScript script.old script.new)
         (IsNextPushed VERSION text.now at script.old script.new) }
+    ensures known { AreKnown VERSION text.now heads.new }
 {
     match text[at] {
-        b'A' => push_line::<ChA, C, VERSION>(&mut script.a, text, at, no_room),
-        b'B' => push_line::<ChB, M, VERSION>(&mut script.b, text, at, no_room),
-        b'C' => push_line::<ChC, C, VERSION>(&mut script.c, text, at, no_room),
-        b'D' => push_line::<ChD, M, VERSION>(&mut script.d, text, at, no_room),
-        b'E' => push_line::<ChE, C, VERSION>(&mut script.e, text, at, no_room),
+        b'A' => { push_line::<ChA, C, VERSION>(&mut script.a, &mut heads.a, text, at, no_room) }
+        b'B' => { push_line::<ChB, M, VERSION>(&mut script.b, &mut heads.b, text, at, no_room) }
+        b'C' => { push_line::<ChC, C, VERSION>(&mut script.c, &mut heads.c, text, at, no_room) }
+        b'D' => { push_line::<ChD, M, VERSION>(&mut script.d, &mut heads.d, text, at, no_room) }
+        b'E' => { push_line::<ChE, C, VERSION>(&mut script.e, &mut heads.e, text, at, no_room) }
         _ => None,
     }
 }
@@ -163,8 +171,16 @@ fn read_beats<const C: usize, const M: usize, const VERSION: u8>(
 {
     let mut at = 0;
     let mut no_room = false;
+    let mut heads = no_heads();
     while at < piece.len() {
-        if let Some(end) = push_next::<C, M, VERSION>(&mut reader.script, piece, at, &mut no_room) {
+        let next = push_next::<C, M, VERSION>(
+            &mut reader.script,
+            &mut heads,
+            piece,
+            at,
+            &mut no_room,
+        );
+        if let Some(end) = next {
             at = end + 1;
             reader.line += 1;
             continue;

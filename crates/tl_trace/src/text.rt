@@ -94,8 +94,8 @@ fn write_lanes(digits: &mut [u8], lanes: &[u8], w: usize)
 
 /// Writes bytes at a place of a line, and gives the place behind them.
 #[inline(always)]
-pub fn fill(line: &mut Room, at: usize, bytes: &[u8]) -> usize
-    requires { at + length bytes.now ≤ LONGEST_LINE }
+pub fn fill(line: &mut [u8], at: usize, bytes: &[u8]) -> usize
+    requires { at + length bytes.now ≤ length line.old }
     ensures items { take result line.new ≡ take at line.old ++ bytes.now }
     ensures end { result ≡ at + length bytes.now }
 {
@@ -106,8 +106,8 @@ pub fn fill(line: &mut Room, at: usize, bytes: &[u8]) -> usize
 
 /// Writes a space and so many digits of a number, and gives the place behind them.
 #[inline(always)]
-pub fn fill_field(line: &mut Room, at: usize, value: u64, count: usize) -> usize
-    requires { at + 1 + count ≤ LONGEST_LINE }
+pub fn fill_field(line: &mut [u8], at: usize, value: u64, count: usize) -> usize
+    requires { at + 1 + count ≤ length line.old }
     ensures items { take result line.new ≡ take at line.old ++ 32 ∷ hex count value }
     ensures end { result ≡ at + 1 + count }
 {
@@ -119,9 +119,9 @@ pub fn fill_field(line: &mut Room, at: usize, value: u64, count: usize) -> usize
 
 /// The same of a mask. Digits for which a `u64` has no room are written apart from the last for which it has.
 #[inline(always)]
-pub fn fill_mask_field(line: &mut Room, at: usize, mask: Mask, count: usize) -> usize
+pub fn fill_mask_field(line: &mut [u8], at: usize, mask: Mask, count: usize) -> usize
     requires few { count ≤ WIDEST / 4 }
-    requires room { at + 1 + count ≤ LONGEST_LINE }
+    requires room { at + 1 + count ≤ length line.old }
     ensures items { take result line.new ≡ take at line.old ++ 32 ∷ hex count mask }
     ensures end { result ≡ at + 1 + count }
 {
@@ -137,10 +137,10 @@ pub fn fill_mask_field(line: &mut Room, at: usize, mask: Mask, count: usize) -> 
 
 /// Writes a space and two digits for each of the first `w` lanes, and gives the place behind them.
 #[inline(always)]
-pub fn fill_lanes(line: &mut Room, at: usize, lanes: &[u8], w: usize) -> usize
+pub fn fill_lanes(line: &mut [u8], at: usize, lanes: &[u8], w: usize) -> usize
     requires width { w ≤ WIDEST }
     requires lanes { w ≤ length lanes.now }
-    requires room { at + 1 + 2 * w ≤ LONGEST_LINE }
+    requires room { at + 1 + 2 * w ≤ length line.old }
     ensures items { take result line.new ≡
         take at line.old ++ 32 ∷ hex (2 * w) (number_of_lanes lanes.now) }
     ensures end { result ≡ at + 1 + 2 * w }
@@ -153,8 +153,8 @@ pub fn fill_lanes(line: &mut Room, at: usize, lanes: &[u8], w: usize) -> usize
 
 /// Writes a byte, and gives the place behind it.
 #[inline(always)]
-pub fn fill_byte(line: &mut Room, at: usize, byte: u8) -> usize
-    requires { at + 1 ≤ LONGEST_LINE }
+pub fn fill_byte(line: &mut [u8], at: usize, byte: u8) -> usize
+    requires { at + 1 ≤ length line.old }
     ensures items { take result line.new ≡ take at line.old ++ byte ∷ [] }
     ensures end { result ≡ at + 1 }
 {

@@ -3,13 +3,11 @@ ghost use Rattle.std.specs.Prelude.{◌≡◌, ◌≤◌, ◌<◌, ◌+◌, ◌*
 ghost use Rattle.tl_lanes.specs.declared.limits.TheConstants.{WIDEST};
 ghost use Rattle.arrayvec.specs.ArrayVec.{array_vec_len};
 ghost use Rattle.tl_lanes.specs.Lanes.{IsWidth};
-ghost use Rattle.tl_trace.specs.Fields.{bit, number_of_lanes};
-ghost use Rattle.tl_trace.specs.Lines.{hex, line_text, beats_text};
+ghost use Rattle.tl_trace.specs.Lines.{head_text, line_text, beats_text};
 ghost use Rattle.tl_trace.specs.Texts.{newline, text_of_line, trace_text};
 ghost use Rattle.tl_trace.specs.Reports.{verdict_text, report_line};
-ghost use Rattle.tl_trace.specs.Inner.Batches.{AreLines};
-ghost use Rattle.tl_trace.specs.declared.write.TheConstants.{BATCH};
-ghost use Rattle.tl_trace.specs.declared.places.TheConstants.{LONGEST_HEAD, LONGEST_MASK, LONGEST_LINE};
+ghost use Rattle.tl_trace.specs.Inner.LineRests.{mask_text, mask_length, data_text, data_length, rest_text, rest_length};
+ghost use Rattle.tl_trace.specs.declared.places.TheConstants.{LONGEST_HEAD, LONGEST_LINE};
 
 use crate::head_text::HeadText;
 use crate::header::header_text;
@@ -26,12 +24,11 @@ use tl_msg::{Beat, ChA, ChB, ChC, ChD, ChE, OutOfMemory, Verdict};
 
 /// Writes the mask of a channel that has one, and gives the place behind it.
 #[inline(always)]
-fn fill_mask<K: HeadText>(line: &mut Room, at: usize, mask: Mask, w: usize) -> usize
+fn fill_mask<K: HeadText>(line: &mut [u8], at: usize, mask: Mask, w: usize) -> usize
     requires width { w ≤ WIDEST }
-    requires room { at ≤ LONGEST_HEAD }
-    ensures items { take result line.new ≡
-        take at line.old ++ (if K.MASKED then 32 ∷ hex ((w + 3) / 4) mask else []) }
-    ensures end { result ≤ LONGEST_HEAD + LONGEST_MASK }
+    requires room { at + mask_length K.MASKED w ≤ length line.old }
+    ensures items { take result line.new ≡ take at line.old ++ mask_text K.MASKED w mask }
+    ensures end { result ≡ at + mask_length K.MASKED w }
 {
     if !K::MASKED {
         return at;
@@ -42,7 +39,7 @@ fn fill_mask<K: HeadText>(line: &mut Room, at: usize, mask: Mask, w: usize) -> u
 /// Writes the data and corrupt of a channel that has them, and gives the place behind them.
 #[inline(always)]
 fn fill_data<K: HeadText>(
-    line: &mut Room,
+    line: &mut [u8],
     at: usize,
     lanes: &[u8],
     corrupt: bool,
@@ -50,18 +47,37 @@ fn fill_data<K: HeadText>(
 ) -> usize
     requires width { w ≤ WIDEST }
     requires lanes { w ≤ length lanes.now }
-    requires room { at ≤ LONGEST_HEAD + LONGEST_MASK }
-    ensures items { take result line.new ≡ take at line.old ++
-        (if K.HAS_DATA
-        then (32 ∷ hex (2 * w) (number_of_lanes lanes.now)) ++ 32 ∷ hex 1 (bit corrupt)
-        else []) }
-    ensures end { result < LONGEST_LINE }
+    requires room { at + data_length K.HAS_DATA w ≤ length line.old }
+    ensures items { take result line.new ≡
+        take at line.old ++ data_text K.HAS_DATA w lanes.now corrupt }
+    ensures end { result ≡ at + data_length K.HAS_DATA w }
 {
     if !K::HAS_DATA {
         return at;
     }
     let end = fill_lanes(line, at, lanes, w);
     fill_field(line, end, corrupt as u64, 1)
+}
+
+/// Writes what stands behind the head in the line of a beat on the first `w` of its lanes, with its LF, and gives the
+/// line's length.
+#[inline(always)]
+fn fill_rest<K: HeadText, const N: usize>(
+    line: &mut [u8],
+    at: usize,
+    beat: &Beat<K, N>,
+    w: usize,
+) -> usize
+    requires width { w ≤ WIDEST }
+    requires lanes { w ≤ N }
+    requires room { at + rest_length K.MASKED K.HAS_DATA w ≤ length line.old }
+    ensures items { take result line.new ≡
+        take at line.old ++ rest_text K.MASKED K.HAS_DATA w beat.now }
+    ensures end { result ≡ at + rest_length K.MASKED K.HAS_DATA w }
+{
+    let mask = fill_mask::<K>(line, at, beat.mask, w);
+    let data = fill_data::<K>(line, mask, &beat.lanes, beat.corrupt, w);
+    fill_byte(line, data, b'\n')
 }
 
 /// Writes the line of a beat on the first `w` of its lanes, with its LF, and gives its length.
@@ -78,9 +94,7 @@ fn fill_line<K: HeadText, const N: usize>(
     ensures end { result ≤ LONGEST_LINE }
 {
     let head = K::fill_head(line, &beat.head, version);
-    let mask = fill_mask::<K>(line, head, beat.mask, w);
-    let data = fill_data::<K>(line, mask, &beat.lanes, beat.corrupt, w);
-    fill_byte(line, data, b'\n')
+    fill_rest::<K, N>(line, head, beat, w)
 }
 
 /// The line of a beat on `W` lanes in a trace of this version, with its LF: at most [`LONGEST_LINE`] bytes, those of A and
@@ -100,50 +114,45 @@ pub fn line_of<K: HeadText, const W: usize>(
     text
 }
 
-/// How many lines are made before they are appended: a line is made in small pieces, and reading it
-/// back at once, in large ones, would have to wait for them.
-const BATCH: usize = 8;
-
-/// Makes the lines of some beats, each with its LF, and notes where each ends.
+/// The bytes of what stands behind the head in a line, with its LF.
 #[inline(always)]
-fn fill_lines<K: HeadText, const W: usize>(
-    lines: &mut [Room; BATCH],
-    ends: &mut [usize; BATCH],
-    beats: &[Beat<K, W>],
-    version: u8,
-)
-    requires width { IsWidth W }
-    requires few { length beats.now ≤ BATCH }
-    ensures { AreLines (K.form version) W beats.now lines.new ends.new (length beats.now) }
+fn rest_len<K: HeadText>(w: usize) -> usize
+    requires { w ≤ WIDEST }
+    ensures rest { result ≡ rest_length K.MASKED K.HAS_DATA w }
+    ensures few { LONGEST_HEAD + result ≤ LONGEST_LINE }
 {
-    for i in 0..beats.len() {
-        ends[i] = fill_line::<K, W>(&mut lines[i], &beats[i], W, version);
-    }
+    let mask = if K::MASKED { 1 + mask_digits(w) } else { 0 };
+    let data = if K::HAS_DATA { 1 + 2 * w + 2 } else { 0 };
+    mask + data + 1
 }
 
-/// Appends the lines of some beats. Where a growth is refused, some of them may be there.
+/// Writes another head over that of a line.
+#[inline(never)]
+fn fill_other_head<K: HeadText>(line: &mut Room, head: &K::Head, version: u8) -> usize
+    ensures items { take result line.new ≡ head_text (K.form version) head.now }
+    ensures end { result ≤ LONGEST_HEAD }
+{
+    K::fill_head(line, head, version)
+}
+
+/// Appends the line of a beat, by way of another line with the same head, which ends at this place. What is written here
+/// in small pieces is not read back: the other line is read alone, and stays as it is.
 #[inline(always)]
-fn write_batch<K: HeadText, const W: usize>(
+fn append_line<K: HeadText, const W: usize>(
     out: &mut Vec<u8>,
-    lines: &mut [Room; BATCH],
-    ends: &mut [usize; BATCH],
-    beats: &[Beat<K, W>],
-    version: u8,
+    other: &[u8],
+    at: usize,
+    beat: &Beat<K, W>,
 ) -> Result<(), OutOfMemory>
     requires width { IsWidth W }
-    requires few { length beats.now ≤ BATCH }
-    ensures ok { OnOk result
-        (out.new.items ≡ out.old.items ++ beats_text (K.form version) W beats.now) }
-    ensures front { (n : ℕ) → n ≤ length out.old.items →
-        take n out.new.items ≡ take n out.old.items }
+    requires room { length other.now ≡ at + rest_length K.MASKED K.HAS_DATA W }
+    ensures ok { OnOk result (out.new.items ≡
+        out.old.items ++ (take at other.now ++ rest_text K.MASKED K.HAS_DATA W beat.now)) }
+    ensures front { take (length out.old.items) out.new.items ≡ out.old.items }
 {
-    fill_lines::<K, W>(lines, ends, beats, version);
-    for i in 0..beats.len() {
-        let line = &lines[i][..ends[i]];
-        if out.extend_from_slice(line).is_err() {
-            return Err(OutOfMemory);
-        }
-    }
+    let start = out.len();
+    out.extend_from_slice(other)?;
+    fill_rest::<K, W>(&mut out.as_mut_slice()[start..], at, beat, W);
     Ok(())
 }
 
@@ -159,23 +168,24 @@ fn write_lines<K: HeadText, const W: usize>(
         (out.new.items ≡ out.old.items ++ beats_text (K.form version) W beats.now) }
     ensures err { OnErr result (out.new.items ≡ out.old.items) }
 {
+    let Some(first) = beats.first() else {
+        return Ok(());
+    };
     let start = out.len();
-    let mut lines = [[0; LONGEST_LINE]; BATCH];
-    let mut ends = [0; BATCH];
-    if let Some(first) = beats.first() {
-        let end = fill_line::<K, W>(&mut lines[0], first, W, version);
-        out.reserve(beats.len().saturating_mul(end))?;
-    }
-    // A line without data is short enough to be read back at once.
-    let batch = if K::HAS_DATA { BATCH } else { 1 };
-    let mut at = 0;
-    while at < beats.len() {
-        let next = beats.len().min(at + batch);
-        if write_batch::<K, W>(out, &mut lines, &mut ends, &beats[at..next], version).is_err() {
+    let mut line = [0; LONGEST_LINE];
+    let mut head = first.head;
+    let at = K::fill_head(&mut line, &head, version);
+    let len = at + rest_len::<K>(W);
+    out.reserve(beats.len().saturating_mul(len))?;
+    for beat in beats {
+        if beat.head != head {
+            head = beat.head;
+            fill_other_head::<K>(&mut line, &head, version);
+        }
+        if append_line::<K, W>(out, &line[..len], at, beat).is_err() {
             out.truncate(start);
             return Err(OutOfMemory);
         }
-        at = next;
     }
     Ok(())
 }

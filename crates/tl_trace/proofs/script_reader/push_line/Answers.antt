@@ -1,39 +1,81 @@
-use Rattle.std.proofs.Common.{◌≡◌, false, arith, refl, sym, ◌∙◌}
+use Rattle.std.proofs.Common.{◌≡◌, ◌+◌, false, length, arith, refl, sym, ◌∙◌}
+use Rattle.std.specs.List.{slice_range}
 use Rattle.std.specs.Result.{is_err}
+use Rattle.tl_trace.specs.Fields.{line_length}
+use Rattle.tl_trace.proofs.KnownHeads.{line_head}
+use Rattle.tl_trace.proofs.LineParts.{line_long}
 use Rattle.tl_trace.proofs.NextLine.{was_put, was_kept, inside, first_in, at_most}
+use Rattle.tl_trace.proofs.ReadDigits.{range_long}
 use Rattle.tl_trace.proofs.script_reader.push_line.Goals as goal
 
 pub overflow_sub-text : goal.overflow_sub-text
-overflow_sub-text g c = omega (arith, c.requires.inside)
+overflow_sub-text g c = omega (arith, c.requires.can.inside)
 
 pub bounds-text-at : goal.bounds-text-at
 bounds-text-at g c = inside c.args.at c.line_len-long.result _ c.if-long-text.false
 
-pub returns-then-long-text : goal.returns-then-long-text
-returns-then-long-text g c = refl
+pub returns-then-long-text-clause-pushed : goal.returns-then-long-text-clause-pushed
+returns-then-long-text-clause-pushed g c = refl
 
-pub returns-in_default : goal.returns-in_default
-returns-in_default g c = refl
+pub returns-then-is_err-clause-pushed : goal.returns-then-is_err-clause-pushed
+returns-then-is_err-clause-pushed g c = was_kept c.push.result _ _ _ (sym c.is_err.ensures.value ∙ c.if-is_err.true) c.push.ensures.items
 
-pub returns-then-is_err : goal.returns-then-is_err
-returns-then-is_err g c = was_kept c.push.result _ _ _ (sym c.is_err.ensures.value ∙ c.if-is_err.true) c.push.ensures.items
-
-pub returns : goal.returns
-returns g c =
+pub returns-clause-pushed : goal.returns-clause-pushed
+returns-clause-pushed g c =
     let went : is_err c.push.result ≡ false = sym c.is_err.ensures.value ∙ c.if-is_err.false in
     record {
-      beat = c.in-Ok.beat;
+      beat = c.in_ok-beat.beat;
       from = omega (arith, c.line_len-long.ensures.few);
       to = omega (arith, c.if-long-text.false);
       stop = c.if-text-at-ne10.false;
-      read = c.in-Ok.ensures;
+      read = c.in_ok-beat.ensures;
       put = was_put c.push.result _ _ _ went c.push.ensures.items;
     }
 
 pub line_len-long-requires : goal.line_len-long-requires
-line_len-long-requires g c = c.requires.width
+line_len-long-requires g c = c.requires.can.width
 
-pub read_beat-requires : goal.read_beat-requires
-read_beat-requires g c =
-    let first = first_in c.args.text.now c.args.at c.line_len-long.result c.line_len-long.ensures.few.0 c.requires.inside in
-    (c.requires-raw.1.1.1.1.0, record { width = at_most g.row.W; most = c.requires.width; letter = first ∙ c.requires.letter })
+pub head_at-requires-clause-room : goal.head_at-requires-clause-room
+head_at-requires-clause-room g c =
+    let f = g.K.HeadText.form g.row.VERSION in
+    let parts = line_long f g.row.W (g.met.K.ReadHead.head_alone g.row.VERSION) in
+    let room = inside c.args.at c.line_len-long.result _ c.if-long-text.false in
+    omega (arith, parts, c.line_len-long.ensures.long, room)
+
+pub beat_with_head-requires : goal.beat_with_head-requires
+beat_with_head-requires g c =
+    let f = g.K.HeadText.form g.row.VERSION in
+    let long = c.line_len-long.result in
+    let room = inside c.args.at long _ c.if-long-text.false in
+    let parts = line_long f g.row.W (g.met.K.ReadHead.head_alone g.row.VERSION) in
+    let first = first_in c.args.text.now c.args.at long c.line_len-long.ensures.few.0 c.requires.can.inside in
+    let all : length (slice_range c.args.text.now c.args.at (c.args.at + long)) ≡ line_length f g.row.W = range_long c.args.text.now c.args.at long (omega (arith, room)) ∙ c.line_len-long.ensures.long in
+    let head = line_head f g.row.VERSION c.args.text.now c.args.at long c.in_ok-head.head (omega (arith, parts, c.line_len-long.ensures.long)) c.in_ok-head.ensures.head in
+    (c.requires-raw.1.1.1.1.0, (record { width = at_most g.row.W; most = c.requires.can.width; letter = first ∙ c.requires.can.letter }, (all, head)))
+
+pub returns-then-long-text-clause-known : goal.returns-then-long-text-clause-known
+returns-then-long-text-clause-known g c = c.requires.known
+
+pub head_at-requires-clause-known : goal.head_at-requires-clause-known
+head_at-requires-clause-known g c = c.requires.known
+
+pub returns-in_err-head-clause-pushed : goal.returns-in_err-head-clause-pushed
+returns-in_err-head-clause-pushed g c = rw c.from_residual.ensures refl
+
+pub returns-in_err-head-clause-known : goal.returns-in_err-head-clause-known
+returns-in_err-head-clause-known g c = c.head_at.ensures.known
+
+pub returns-in_err-beat-clause-pushed : goal.returns-in_err-beat-clause-pushed
+returns-in_err-beat-clause-pushed g c = rw c.from_residual-in_err-beat.ensures refl
+
+pub returns-in_err-beat-clause-known : goal.returns-in_err-beat-clause-known
+returns-in_err-beat-clause-known g c = c.head_at.ensures.known
+
+pub returns-then-is_err-clause-known : goal.returns-then-is_err-clause-known
+returns-then-is_err-clause-known g c = c.head_at.ensures.known
+
+pub returns-clause-known : goal.returns-clause-known
+returns-clause-known g c = c.head_at.ensures.known
+
+pub slice_bounds-beat_with_head-end : goal.slice_bounds-beat_with_head-end
+slice_bounds-beat_with_head-end g c = let room = inside c.args.at c.line_len-long.result _ c.if-long-text.false in omega (arith, room)

@@ -1,12 +1,12 @@
 use Rattle.std.proofs.Common.{◌≡◌, ◌+◌, ◌/◌, ◌++◌, ◌∷◌, take, sym, ◌∙◌}
 use Rattle.tl_trace.specs.Lines.{hex}
-use Rattle.tl_trace.proofs.LineText.{with_mask, without_mask}
+use Rattle.tl_trace.proofs.LineText.{a_part, no_part}
 use Rattle.tl_trace.proofs.write.fill_mask.Goals as goal
 
 pub returns-then-not-MASKED-clause-items : goal.returns-then-not-MASKED-clause-items
-returns-then-not-MASKED-clause-items g c = without_mask _ _ _ (sym c.MASKED.ensures ∙ c.if-not-MASKED.true)
+returns-then-not-MASKED-clause-items g c = no_part _ _ _ (sym c.MASKED.ensures ∙ c.if-not-MASKED.true)
 
 pub returns-clause-items : goal.returns-clause-items
 returns-clause-items g c =
     let is : take c.fill_mask_field.result c.fill_mask_field.new.line ≡ take c.args.at c.args.line.now ++ 32 ∷ hex ((c.args.w + 3) / 4) c.args.mask = cc in
-    with_mask _ _ _ _ (sym c.MASKED.ensures ∙ c.if-not-MASKED.false) is
+    a_part _ _ _ _ (sym c.MASKED.ensures ∙ c.if-not-MASKED.false) is

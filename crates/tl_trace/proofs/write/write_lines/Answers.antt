@@ -1,8 +1,40 @@
-use Rattle.std.proofs.Common.{◌≡◌, ◌∙◌, ap, arith}
+use Rattle.std.proofs.Common.{rules, ◌≡◌, ◌+◌, ◌++◌, ◌∙◌, ℕ, take, refl, sym, ap, arith}
+use Rattle.std.proofs.lemmas.List.{take-take}
+use Rattle.tl_trace.specs.Lines.{head_text, line_text}
+use Rattle.tl_trace.specs.Texts.{newline}
 use Rattle.std.proofs.lemmas.Result.{IfOk-from_err}
-use Rattle.tl_trace.proofs.Batches.{of_ok, on_err_at, appended_none, appended_more, appended_all}
+use Rattle.tl_trace.proofs.LineRests.{head_end, not_other, line_is, appended_none, appended_more, appended_all, appended_front, of_ok, on_err_at}
 use Rattle.tl_trace.proofs.write.write_lines.Goals as goal
-use Rattle.tl_trace.proofs.write.write_lines.Goals.{in-Some+in_ok-reserve, in_default}
+use Rattle.tl_trace.proofs.write.write_lines.Goals.{then-ne, else-ne}
+
+pub loop-beat-preserved : goal.loop-beat-preserved
+loop-beat-preserved g c =
+    let f = g.K.HeadText.form c.args.version in
+    let at = c.fill_head-at.result in
+    let b = c.beat-item.result in (
+      head.0,
+      appended_more f g.row.W c.args.out.now.items c.loop-beat.out.items c.append_line.new.out.items _ c.args.beats.now c.len-start.result c.loop-beat.beat-index b c.loop-beat-test.true
+          (line_is f g.row.W b _ _ _ _ (g.met.K.HeadText.masked_form c.args.version) (g.met.K.HeadText.data_form c.args.version) (g.met.K.HeadText.narrow_head c.args.version _ g.row.W b)
+          (take-take at (at + c.rest_len.result) c.if-ne.line (omega arith) ∙ head.0 ∙ ap (head_text f) head.1) refl
+          ∙ ap (λ x. line_text f g.row.W x ++ newline) c.beat-item.is)
+          (of_ok c.append_line.result (sym c.is_err.ensures.value ∙ c.if-is_err.false) c.append_line.ensures.ok) c.loop-beat.invariant.1,
+    )
+  where
+    head : (take c.fill_head-at.result c.if-ne.line ≡ head_text (g.K.HeadText.form c.args.version) c.if-ne.head) × (c.if-ne.head ≡ c.beat-item.result.head)
+    head = elim c.if-ne.branch [
+      | then-ne w ↦
+          let f = g.K.HeadText.form c.args.version in
+          let first = head_end f _ c.fill_head-at.new.line c.fill_head-at.result (omega (arith, c.fill_head-at.array_long, c.fill_head-at.ensures.end)) c.fill_head-at.ensures.items in
+          let other = head_end f _ w.fill_other_head.new.line w.fill_other_head.result (omega (arith, w.fill_other_head.array_long, w.fill_other_head.ensures.end)) w.fill_other_head.ensures.items in
+          (ap (take c.fill_head-at.result) w.line-is ∙ ap (λ (k : ℕ). take k w.fill_other_head.new.line) (first ∙ sym other) ∙ w.fill_other_head.ensures.items ∙ ap (head_text f) (sym w.head-is), w.head-is)
+      | else-ne w ↦
+          let f = g.K.HeadText.form c.args.version in
+          let same = (g.met.K.Channel.same_heads c.beat-item.result.head c.loop-beat.head).0 (not_other _ w.if-ne.ensures) in
+          (ap (take c.fill_head-at.result) w.line-is ∙ c.loop-beat.invariant.0 ∙ ap (head_text f) (sym w.head-is), w.head-is ∙ sym same)
+    ]
+
+pub returns-in_default-clause-err : goal.returns-in_default-clause-err
+returns-in_default-clause-err g c = tt
 
 pub returns-in_err-reserve-clause-ok : goal.returns-in_err-reserve-clause-ok
 returns-in_err-reserve-clause-ok g c = IfOk-from_err c.from_residual.result _ c.from_residual.ensures.0
@@ -10,40 +42,24 @@ returns-in_err-reserve-clause-ok g c = IfOk-from_err c.from_residual.result _ c.
 pub returns-in_err-reserve-clause-err : goal.returns-in_err-reserve-clause-err
 returns-in_err-reserve-clause-err g c = on_err_at c.from_residual.result c.reserve.ensures.items
 
-pub loop-at-init : goal.loop-at-init
-loop-at-init g c = appended_none (g.K.HeadText.form c.args.version) g.row.W c.args.beats.now c.args.out.now.items c.match-first.out.items c.len-start.result (omega (arith, c.len-start.ensures)) same
-  where
-    same : c.match-first.out.items ≡ c.args.out.now.items
-    same = elim c.match-first.branch [
-      | in-Some+in_ok-reserve w ↦ ap (λ v. v.items) w.out-is ∙ w.reserve.ensures.items
-      | in_default w ↦ ap (λ v. v.items) w.out-is
-    ]
+pub loop-beat-init : goal.loop-beat-init
+loop-beat-init g c = (
+  c.fill_head-at.ensures.items,
+  appended_none (g.K.HeadText.form c.args.version) g.row.W c.args.out.now.items c.reserve.new.self.items c.len-start.result (omega (arith, c.len-start.ensures)) c.reserve.ensures.items,
+)
 
-pub slice_bounds-write_batch-start : goal.slice_bounds-write_batch-start
-slice_bounds-write_batch-start g c = omega (arith, c.min-next.ensures, c.loop-at-test.true)
-
-pub slice_bounds-write_batch-end : goal.slice_bounds-write_batch-end
-slice_bounds-write_batch-end g c = omega (arith, c.min-next.ensures)
-
-pub returns-then-is_err-clause-err : goal.returns-then-is_err-clause-err
-returns-then-is_err-clause-err g c =
-    let front = c.write_batch.ensures.front c.len-start.result c.loop-at.invariant.long ∙ c.loop-at.invariant.front in
-    cc
-
-pub loop-at-smaller : goal.loop-at-smaller
-loop-at-smaller g c = omega (arith, c.min-next.ensures, c.loop-at-test.true)
-
-pub loop-at-preserved : goal.loop-at-preserved
-loop-at-preserved g c =
-    appended_more (g.K.HeadText.form c.args.version) g.row.W c.args.beats.now c.args.out.now.items c.loop-at.out.items c.write_batch.new.out.items c.len-start.result c.loop-at.at c.min-next.result
-    (omega (arith, c.min-next.ensures, c.loop-at-test.true)) (omega (arith, c.min-next.ensures)) (of_ok c.write_batch.result c.if-is_err.ensures.value c.write_batch.ensures.ok) c.loop-at.invariant
-
-pub returns-clause-ok : goal.returns-clause-ok
-returns-clause-ok g c =
-    appended_all (g.K.HeadText.form c.args.version) g.row.W c.args.beats.now c.args.out.now.items c.loop-at.out.items c.len-start.result c.loop-at.at c.loop-at-test.false c.loop-at.invariant
+pub append_line-requires : goal.append_line-requires
+append_line-requires g c = (c.requires-raw.1.1.1.0, (c.requires, search rules))
 
 pub returns-then-is_err-clause-ok : goal.returns-then-is_err-clause-ok
 returns-then-is_err-clause-ok g c = tt
+
+pub returns-then-is_err-clause-err : goal.returns-then-is_err-clause-err
+returns-then-is_err-clause-err g c =
+    c.truncate.ensures.items ∙ appended_front (g.K.HeadText.form c.args.version) g.row.W c.args.out.now.items c.loop-beat.out.items c.append_line.new.out.items _ c.len-start.result c.append_line.ensures.front c.loop-beat.invariant.1
+
+pub returns-clause-ok : goal.returns-clause-ok
+returns-clause-ok g c = appended_all (g.K.HeadText.form c.args.version) g.row.W c.args.out.now.items c.loop-beat.out.items c.args.beats.now c.len-start.result c.loop-beat.beat-index c.loop-beat-test.false c.loop-beat.invariant.1
 
 pub returns-clause-err : goal.returns-clause-err
 returns-clause-err g c = tt

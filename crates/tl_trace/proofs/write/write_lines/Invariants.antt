@@ -1,9 +1,7 @@
-use Rattle.std.proofs.Common.{◌-◌, length}
-use Rattle.tl_trace.proofs.Batches.{Appended}
+use Rattle.std.proofs.Common.{◌≡◌, take}
+use Rattle.tl_trace.specs.Lines.{head_text}
+use Rattle.tl_trace.proofs.LineRests.{Appended}
 use Rattle.tl_trace.proofs.write.write_lines.Given as goal
 
-abbrev pub invariant-loop-at : goal.invariant-loop-at
-invariant-loop-at g l = Appended (g.K.HeadText.form l.version) g.row.W l.beats l.fn.out.items l.start l.out.items l.at
-
-abbrev pub decreases-loop-at : goal.decreases-loop-at
-decreases-loop-at g l = length l.beats - l.at
+abbrev pub invariant-loop-beat : goal.invariant-loop-beat
+invariant-loop-beat g l = (take l.at l.line ≡ head_text (g.K.HeadText.form l.version) l.head) × Appended (g.K.HeadText.form l.version) g.row.W l.fn.out.items (take l.beat-index l.beats) l.start l.out.items

@@ -1,0 +1,101 @@
+-- The lines of beats, each behind a head that another line may have, too.
+use Rattle.std.proofs.Common.{◌≡◌, ◌≤◌, ◌<◌, ◌+◌, ◌++◌, ℕ, Bool, true, false, not, Result, Ok, Err, List, [], ◌∷◌, length, take, get_or, refl, sym, ap, ◌∙◌, arith, append_assoc, append-nil, length-append}
+use Rattle.std.specs.Prelude.{is_err, OnOk, OnErr}
+use Rattle.std.specs.List.{flat_map}
+use Rattle.std.proofs.lemmas.Bool.{false≢true}
+use Rattle.std.proofs.lemmas.Grind.{flat_map-append}
+use Rattle.std.proofs.lemmas.List.{take-take, take_more, take_all, take-append-le, length-take-le}
+use Rattle.tl_msg.specs.declared.beat.BeatOf.{BeatOf}
+use Rattle.tl_trace.specs.Fields.{Field, Form, digit_count, length_of, value_of}
+use Rattle.tl_trace.specs.Lines.{hex, head_text, line_text, beats_text}
+use Rattle.tl_trace.specs.Texts.{newline}
+use Rattle.tl_trace.specs.Inner.KnownHeads.{head_length}
+use Rattle.tl_trace.specs.Inner.LineRests.{mask_text, data_text, rest_text, rest_length}
+use Rattle.tl_trace.specs.declared.places.TheConstants.{LONGEST_HEAD, LONGEST_LINE}
+use Rattle.tl_lanes.specs.declared.limits.TheConstants.{WIDEST}
+use Rattle.tl_trace.proofs.HexText.{length-hex}
+use Rattle.tl_trace.proofs.LineText.{line_parts}
+
+-- the longest line has room for it
+pub rest_few : (masked has_data : Bool) (w : ℕ) → w ≤ WIDEST → LONGEST_HEAD + rest_length masked has_data w ≤ LONGEST_LINE
+rest_few true true w most = omega arith
+rest_few true false w most = omega arith
+rest_few false true w most = omega arith
+rest_few false false w most = omega arith
+
+-- a head is as long whatever it is
+pub head_long : {H : Type 0} (f : Form H) (h : H) → length (head_text f h) ≡ head_length f
+head_long {H} f h = let more = long f.head_fields in omega (arith, more)
+  where
+    long : (fs : List Field) → length (flat_map (λ field. 32 ∷ hex (digit_count 0 field) (f.value h field)) fs) ≡ length_of 0 fs
+    long [] = omega arith
+    long (field ∷ fs) =
+        let digits = hex (digit_count 0 field) (f.value h field) in
+        let here = length-hex (digit_count 0 field) (f.value h field) in
+        let both = length-append (32 ∷ digits) (flat_map (λ field. 32 ∷ hex (digit_count 0 field) (f.value h field)) fs) in
+        omega (arith, here, both, long fs)
+
+pub head_end : {H : Type 0} (f : Form H) (h : H) (line : List ℕ) (end : ℕ) → end ≤ length line → take end line ≡ head_text f h → end ≡ head_length f
+head_end f h line end within is = sym (length-take-le end line within) ∙ ap length is ∙ head_long f h
+
+-- heads of which it is not true that they differ
+pub not_other : (same : Bool) → false ≡ not same → same ≡ true
+not_other true e = refl
+not_other false e = absurd (false≢true e)
+
+module _ {H : Type 0} (f : Form H) {n : ℕ} (w : ℕ) where
+  -- a line is its head, and what stands behind it
+  pub line_is : (b : BeatOf H n) (front line : List ℕ) (masked has_data : Bool) → f.rules.masked ≡ masked → f.rules.corrupts ≡ has_data
+      → flat_map (λ field. 32 ∷ hex (digit_count w field) (value_of f b field)) f.head_fields ≡ flat_map (λ field. 32 ∷ hex (digit_count 0 field) (f.value b.head field)) f.head_fields
+      → front ≡ head_text f b.head → line ≡ front ++ rest_text masked has_data w b → line ≡ line_text f w b ++ newline
+  line_is b front line masked has_data has_mask has_datas narrow head is =
+      let masks = mask_text masked w b.mask in
+      let datas = data_text has_data w b.lanes b.corrupt in
+      is ∙ ap (λ xs. xs ++ rest_text masked has_data w b) head
+      ∙ sym (append_assoc (head_text f b.head) (masks ++ datas) newline) ∙ ap (λ xs. xs ++ newline) (sym (append_assoc (head_text f b.head) masks datas) ∙ line_parts f w b masked has_data has_mask has_datas narrow)
+
+  -- lines are appended, behind what stood there
+  pub record Appended (old : List ℕ) (beats : List (BeatOf H n)) (start : ℕ) (out : List ℕ) : Type 0 where
+    pub long : start ≤ length out
+    pub front : take start out ≡ old
+    pub made : out ≡ old ++ beats_text f w beats
+
+  pub appended_none : (old out : List ℕ) (start : ℕ) → start ≡ length old → out ≡ old → Appended old [] start out
+  appended_none old out start here same = record {
+    long = omega (arith, here, ap length same);
+    front = ap (take start) same ∙ take_all start old (omega (arith, here));
+    made = same ∙ sym (append-nil old);
+  }
+
+  -- one line more
+  pub appended_more : (old out new line : List ℕ) (beats : List (BeatOf H n)) (start i : ℕ) (b : BeatOf H n) → i < length beats → line ≡ line_text f w (get_or beats i b) ++ newline →
+      new ≡ out ++ line → Appended old (take i beats) start out → Appended old (take (i + 1) beats) start new
+  appended_more old out new line beats start i b less is written before =
+      let this = get_or beats i b in
+      record {
+        long = omega (arith, before.long, length-append out line, ap length written);
+        front = ap (take start) written ∙ take-append-le start out line before.long ∙ before.front;
+        made =
+            written ∙ ap (λ x. x ++ line) before.made ∙ append_assoc old (beats_text f w (take i beats)) line ∙ ap (λ x. old ++ (beats_text f w (take i beats) ++ x)) (is ∙ sym (append-nil (line_text f w this ++ newline))) ∙
+            ap (λ x. old ++ x) (sym (flat_map-append (λ x. line_text f w x ++ newline) (take i beats) (this ∷ []))) ∙ ap (λ bs. old ++ beats_text f w bs) (sym (take_more beats i b less));
+      }
+
+  pub appended_all : (old out : List ℕ) (beats : List (BeatOf H n)) (start i : ℕ) → length beats ≤ i → Appended old (take i beats) start out → out ≡ old ++ beats_text f w beats
+  appended_all old out beats start i past before = before.made ∙ ap (λ bs. old ++ beats_text f w bs) (take_all i beats past)
+
+  -- what stood there before all lines
+  pub appended_front : (old out new : List ℕ) (beats : List (BeatOf H n)) (start : ℕ) → take (length out) new ≡ out → Appended old beats start out → take start new ≡ old
+  appended_front old out new beats start same before = sym (take-take start (length out) new before.long) ∙ ap (take start) same ∙ before.front
+
+pub on_err_at : {T E P : Type 0} (r : Result T E) → P → OnErr r P
+on_err_at (Ok x) p = tt
+on_err_at (Err e) p = p
+
+-- what a call promises where it answers no fault
+pub of_ok : {E P : Type 0} (r : Result (Unit {0}) E) → is_err r ≡ false → OnOk r P → P
+of_ok (Ok x) fine p = p
+of_ok (Err e) fine p = absurd (false≢true (sym fine))
+
+-- what was written over another line with the same head
+pub over_other : (other now rest : List ℕ) (at end : ℕ) → length now ≡ length other → end ≡ length other → take end now ≡ take at other ++ rest → now ≡ take at other ++ rest
+over_other other now rest at end long whole is = sym (take_all end now (omega (arith, long, whole))) ∙ is

@@ -1,0 +1,45 @@
+//! Whether two texts are the same, eight bytes at a time.
+ghost use Rattle.std.specs.Prelude.{◌≡◌, ◌≤◌, ◌+◌, true, length};
+ghost use Rattle.std.specs.Int.{w64, to_le_bytes};
+ghost use Rattle.std.specs.List.{slice_range};
+ghost use Rattle.tl_trace.specs.declared.same_text.TheConstants.{WORD};
+
+/// The bytes of a word.
+const WORD: usize = 8;
+
+/// The word from a place on.
+#[inline(always)]
+fn word(text: &[u8], at: usize) -> u64
+    requires { at + WORD ≤ length text.now }
+    ensures { to_le_bytes w64 result ≡ slice_range text.now at (at + WORD) }
+{
+    u64::from_le_bytes([
+        text[at],
+        text[at + 1],
+        text[at + 2],
+        text[at + 3],
+        text[at + 4],
+        text[at + 5],
+        text[at + 6],
+        text[at + 7],
+    ])
+}
+
+/// Whether two texts of one length are the same.
+#[inline(always)]
+pub fn are_same(one: &[u8], other: &[u8]) -> bool
+    requires { length one.now ≡ length other.now }
+    ensures { result ≡ true → one.now ≡ other.now }
+{
+    let len = one.len();
+    if len < WORD {
+        return one == other;
+    }
+    for i in 0..len / WORD {
+        if word(one, WORD * i) != word(other, WORD * i) {
+            return false;
+        }
+    }
+    // the last word may begin within the one before it
+    word(one, len - WORD) == word(other, len - WORD)
+}
