@@ -17,8 +17,8 @@ use tl_trace::Script;
 /// counted. A beat of A or D that waits for the other channel is checked and asked again once that
 /// one has come further. Each list has at most `2^40` beats.
 ///
-/// Refused exactly where there is no memory for what the two sides keep of their sources, before the
-/// first beat is read.
+/// Refused where there is no memory for what the two sides keep of their sources, before the first
+/// beat is read.
 pub fn verdicts_of<const C: usize, const M: usize>(
     alloc: Global,
     script: &Script<C, M>,

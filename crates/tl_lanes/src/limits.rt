@@ -9,5 +9,8 @@ pub const WIDEST: usize = 1 << WIDEST_POWER;
 /// The largest size of a message, which has `2^12`, 4,096, bytes (this project's choice).
 pub const MAX_SIZE: u8 = 12;
 
+// no other number is proved
+const _: () = prove!(MAX_SIZE == 12);
+
 /// One bit for each lane of a bus, lane 0 lowest (TileLink: masks). It has [`WIDEST`] bits.
 pub type Mask = u128;

@@ -1,12 +1,13 @@
 //! Want of memory.
-ghost use Rattle.std.specs.Prelude.{◌≡◌, codes};
+ghost use Rattle.std.specs.Prelude.{◌≡◌, Some, codes};
+ghost use Rattle.tl_msg.specs.Names.{numbered};
 
 use std::alloc::{AllocError, AllocFailed};
+use std::fmt;
 use thiserror::Error;
 
 /// 13: a growth was refused (number and name are this project's choice).
 #[derive(Clone, Copy, PartialEq, Eq, Debug, Error)]
-#[error("{} {}", self.number(), self.name())]
 pub struct OutOfMemory;
 
 impl OutOfMemory {
@@ -22,6 +23,15 @@ impl OutOfMemory {
         ensures { result.now ≡ codes "OutOfMemory" }
     {
         "OutOfMemory"
+    }
+}
+
+// The number and the name, as `13 OutOfMemory`.
+impl fmt::Display for OutOfMemory {
+    ghost output = { λ fault. Some (numbered 13 (codes "OutOfMemory")) };
+
+    fn fmt<W: fmt::Write>(&self, f: &mut fmt::Formatter<W>) -> fmt::Result {
+        write!(f, "{} {}", self.number(), self.name())
     }
 }
 

@@ -1,7 +1,9 @@
 //! Laws of texts and traces: each function does nothing, and its contract is the law.
-ghost use Rattle.std.specs.Prelude.{ℕ};
+ghost use Rattle.std.specs.Prelude.{◌≡◌, ◌↔◌, ℕ, true};
 ghost use Rattle.tl_trace.specs.Fields.{form_a, form_b, form_c, form_d, form_e};
 ghost use Rattle.tl_trace.specs.Laws.{OneTrace, OneText, FaultlessTexts, IsOnlyLine, LanesByPairs, LawfulIsWritable, TracesHaveBeats, ZeroLanesPastTheWidth};
+
+use crate::fault::{TraceFault, TraceKind};
 
 /// Each trace of writable beats has exactly one text.
 pub fn one_text()
@@ -25,6 +27,13 @@ pub fn one_trace()
 /// The two digits of lane `l` of `w` lanes are the pair `w - 1 - l` of the data.
 pub fn lanes_by_pairs()
     ensures { LanesByPairs }
+{}
+
+/// `==` is true exactly where kinds of faults are the same, and on faults where the lines are, too.
+pub fn faults_compare()
+    ensures kinds { (x y : TraceKind) → (⟦<TraceKind as PartialEq>⟧.eq x y ≡ true) ↔ (x ≡ y) }
+    ensures faults { (x y : TraceFault) →
+        (⟦<TraceFault as PartialEq>⟧.eq x y ≡ true) ↔ (x ≡ y) }
 {}
 
 /// A text that tells a trace has no fault: so what is read of a written trace is that trace, where memory suffices.

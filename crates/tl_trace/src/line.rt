@@ -4,7 +4,7 @@ use tl_msg::{Beat, ChA, ChB, ChC, ChD, ChE};
 
 /// One beat of a trace, on the lanes of the widest bus: those at and past its sender's width are 0.
 /// What the line of its channel does not say is 0: the mask on C, D and E, lanes and corrupt on E.
-#[derive(Clone, Copy)]
+#[derive(Clone, Copy, PartialEq, Eq, Debug)]
 pub enum Line {
     A(Beat<ChA, WIDEST>),
     B(Beat<ChB, WIDEST>),

@@ -132,7 +132,7 @@ fn read_lines(
 }
 
 /// Reads a text of version 1 or 2. The trace is the one that the text tells. A fault is the first one of the text, with
-/// its line; `OutOfMemory` has the first line whose beat could not be stored, and no line up to it has a fault.
+/// its line; `OutOfMemory` has a line behind the header's, up to which no line has a fault.
 pub fn read(alloc: Global, text: &[u8]) -> Result<Trace, TraceFault>
     ensures told { IfOk result (λ t.
         Tells text.now t.version t.client t.manager t.lines.items) }

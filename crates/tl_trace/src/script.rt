@@ -1,8 +1,8 @@
 //! The beats of a trace by channel.
-ghost use Rattle.std.specs.Prelude.{◌≡◌, ◌≤◌, ◌++◌, ◌∷◌, [], drop, length, IfOk, OnOk};
+ghost use Rattle.std.specs.Prelude.{◌≡◌, ◌≤◌, ◌++◌, ◌∷◌, [], drop, length, IfOk, IfErr, OnOk};
 ghost use Rattle.tl_lanes.specs.declared.limits.TheConstants.{WIDEST};
 ghost use Rattle.tl_trace.specs.Scripts.{HasCounts, HasLetGo, IsScriptOf, on_lanes};
-ghost use Rattle.tl_trace.specs.Inner.Reading.{IsPushed};
+ghost use Rattle.tl_trace.specs.Inner.Reading.{IsPushed, IsSameScript};
 ghost use Rattle.tl_lanes.specs.Lanes.{IsWidth};
 
 use crate::line::Line;
@@ -71,7 +71,8 @@ fn push_beat<H: Copy, const W: usize>(
     beat: &BeatOf<H, WIDEST>,
 ) -> Result<(), OutOfMemory>
     requires { W ≤ WIDEST }
-    ensures { OnOk result (list.new.items ≡ list.old.items ++ on_lanes W beat.now ∷ []) }
+    ensures pushed { OnOk result (list.new.items ≡ list.old.items ++ on_lanes W beat.now ∷ []) }
+    ensures kept { IfErr result (λ _. list.new.items ≡ list.old.items) }
 {
     let mut lanes = [0u8; W];
     lanes.copy_from_slice(&beat.lanes[..W]);
@@ -87,14 +88,16 @@ fn push_beat<H: Copy, const W: usize>(
     }
 }
 
-/// Appends the beat of a line to the list of its channel, on its sender's lanes.
+/// Appends the beat of a line to the list of its channel, on its sender's lanes. Where that is refused,
+/// the lists stay as they were.
 pub fn push_beat_of<const C: usize, const M: usize>(
     script: &mut Script<C, M>,
     line: &Line,
 ) -> Result<(), OutOfMemory>
     requires client { C ≤ WIDEST }
     requires manager { M ≤ WIDEST }
-    ensures { OnOk result (IsPushed line.now script.old script.new) }
+    ensures pushed { OnOk result (IsPushed line.now script.old script.new) }
+    ensures kept { IfErr result (λ _. IsSameScript script.old script.new) }
 {
     match line {
         Line::A(beat) => push_beat::<HeadA, C>(&mut script.a, beat),

@@ -2,7 +2,7 @@
 ghost use Rattle.std.specs.Prelude.{ℕ, true, false, ◌≡◌, ◌≢◌, ◌≤◌, ◌<◌, ◌+◌, ◌^◌, ◌++◌, None, Some, List, [], drop, take, length, IfSome, IfOk, IfErr, IsOk, MatchOption};
 ghost use Rattle.std.specs.List.{list_any};
 ghost use Rattle.tl_lanes.specs.declared.limits.TheConstants.{WIDEST};
-ghost use Rattle.tl_trace.specs.Scripts.{Gone, TellsScript, HasCounts, HasGrown, HasLetGo, HasRead, HasReadPast, IsHeaderLine, IsUnfinished, more_gone};
+ghost use Rattle.tl_trace.specs.Scripts.{Gone, TellsScript, HasCounts, HasGrown, HasLetGo, HasRead, HasReadPast, HasStopped, IsHeaderLine, IsUnfinished, more_gone};
 ghost use Rattle.tl_trace.specs.Texts.{is_version};
 ghost use Rattle.tl_trace.specs.Faults.{is_newline, body, later_fault, header_of, HasHeader, IsFirstFault, IsReadableTo};
 ghost use Rattle.tl_trace.specs.Inner.KnownHeads.{AreKnown, IsKnown};
@@ -103,6 +103,7 @@ fn push_slowly<const C: usize, const M: usize>(
         kind ≢ OutOfMemory → IsFaultyAt version C M piece.now at kind) }
     ensures memory { IfErr result (λ kind.
         kind ≡ OutOfMemory → IsReadableAt version C M piece.now at) }
+    ensures kept { IfErr result (λ _. IsSameScript script.old script.new) }
 {
     let end = line_end(piece, at);
     if end == piece.len() && end - at < LONGEST_LINE {
@@ -136,7 +137,7 @@ fn unfinished_fault<const C: usize, const M: usize>(rest: &[u8], version: u8) ->
 /// In contracts it stands for the part of the text that was read, which are whole lines, the
 /// header's among them (`HasRead`): none of them has a fault, and the script has their beats, but for
 /// those that were let go (`HasReadPast`). Of a piece `read` takes the whole lines. What it leaves has to stand before the next piece, and at the
-/// end of the text `end_fault` judges it. After a fault it stands for nothing.
+/// end of the text `end_fault` judges it.
 #[derive(Drop)]
 pub struct ScriptReader<const C: usize, const M: usize> {
     /// The beats of the lines that were read.
@@ -168,6 +169,9 @@ fn read_beats<const C: usize, const M: usize, const VERSION: u8>(
     ensures memory { (done more : List ℕ) (gone : Gone C M) →
         HasReadPast VERSION done gone reader.old.script reader.old.line → IfErr result (λ e.
         e.kind ≡ OutOfMemory → IsReadableTo (done ++ piece.now ++ more) e.line) }
+    ensures stopped { (done : List ℕ) (gone : Gone C M) →
+        HasReadPast VERSION done gone reader.old.script reader.old.line → IfErr result (λ e.
+        HasStopped VERSION done piece.now gone reader.new.script reader.new.line e.line) }
 {
     let mut at = 0;
     let mut no_room = false;
@@ -220,7 +224,8 @@ impl<const C: usize, const M: usize> ScriptReader<C, M> {
     /// nothing.
     ///
     /// Refused with the first fault of the text, whatever comes behind the piece, or with
-    /// `OutOfMemory`; then it is not said what the script holds.
+    /// `OutOfMemory`, which names the line after those that were read. It then stands for the lines
+    /// before the one that is named, those of the piece among them.
     pub fn read(&mut self, piece: &[u8]) -> Result<usize, TraceFault>
         requires version { is_version self.old.version ≡ true }
         requires client { C ≤ WIDEST }
@@ -245,6 +250,10 @@ impl<const C: usize, const M: usize> ScriptReader<C, M> {
             HasReadPast self.old.version done gone self.old.script self.old.line →
             IfErr result (λ e. e.kind ≡ OutOfMemory →
             IsReadableTo (done ++ piece.now ++ more) e.line) }
+        ensures stopped { (done : List ℕ) (gone : Gone C M) →
+            HasReadPast self.old.version done gone self.old.script self.old.line →
+            IfErr result (λ e. HasStopped self.old.version done piece.now gone
+            self.new.script self.new.line e.line) }
     {
         match self.version {
             1 => read_beats::<C, M, 1>(self, piece),

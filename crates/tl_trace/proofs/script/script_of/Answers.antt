@@ -14,7 +14,7 @@ whole s lines items i same past is = let long : length lines ≤ i = rw same at 
 pub loop-line-preserved : goal.loop-line-preserved
 loop-line-preserved g c =
     script_more c.deref-line-items.result.now c.args.trace.now.lines.items c.loop-line.line-index _ c.loop-line.script c.push_beat_of.new.script c.loop-line-test.true c.deref-line-items.ensures.value c.loop-line.invariant
-    (on_ok c.push_beat_of.result c.push_beat_of.ensures (sym c.is_err.ensures.value ∙ c.if-is_err.false))
+    (on_ok c.push_beat_of.result c.push_beat_of.ensures.pushed (sym c.is_err.ensures.value ∙ c.if-is_err.false))
 
 pub empty_script-script-requires : goal.empty_script-script-requires
 empty_script-script-requires g c = lit< tt

@@ -63,7 +63,7 @@ returns-clause-read g c =
       to = inside;
       stop = e.end inside;
       read = c.in-Ok.ensures;
-      put = on_ok c.push_beat_of.result c.push_beat_of.ensures went;
+      put = on_ok c.push_beat_of.result c.push_beat_of.ensures.pushed went;
     }
 
 pub line_end-end-requires : goal.line_end-end-requires
@@ -89,6 +89,15 @@ returns-then-no_room-clause-read g c = tt
 
 pub returns-then-no_room-clause-fault : goal.returns-then-no_room-clause-fault
 returns-then-no_room-clause-fault g c = λ other. absurd (other refl)
+
+pub returns-then-end-at-lt-LONGEST_LINE-clause-kept : goal.returns-then-end-at-lt-LONGEST_LINE-clause-kept
+returns-then-end-at-lt-LONGEST_LINE-clause-kept g c = tt
+
+pub returns-in-Err-clause-kept : goal.returns-in-Err-clause-kept
+returns-in-Err-clause-kept g c = record { a = refl; b = refl; c = refl; d = refl; e = refl }
+
+pub returns-clause-kept : goal.returns-clause-kept
+returns-clause-kept g c = tt
 
 pub returns-clause-fault : goal.returns-clause-fault
 returns-clause-fault g c = tt

@@ -105,3 +105,15 @@ returns-in-Ok-None-clause-grown g c = λ _.
 
 pub returns-clause-grown : goal.returns-clause-grown
 returns-clause-grown g c = λ _. c.loop-at.invariant.1.grown
+
+pub returns-in-Ok-None-clause-stopped : goal.returns-in-Ok-None-clause-stopped
+returns-in-Ok-None-clause-stopped g c done gone r = tt
+
+pub returns-in-Err-clause-stopped : goal.returns-in-Err-clause-stopped
+returns-in-Err-clause-stopped g c done gone r =
+    let far = waits g.row.VERSION c.args.piece.now c.args.reader.now.script c.args.reader.now.line c.loop-at.reader.script c.push_next-next.new.script c.loop-at.at c.loop-at.reader.line c.loop-at.invariant.1 c.in_default.ensures.pushed in
+    let still = waits g.row.VERSION c.args.piece.now c.args.reader.now.script c.args.reader.now.line c.push_next-next.new.script c.push_slowly.new.script c.loop-at.at c.loop-at.reader.line far c.in-Err.ensures.kept in
+    record { used = c.loop-at.at; read = still.read done gone r; next = refl }
+
+pub returns-clause-stopped : goal.returns-clause-stopped
+returns-clause-stopped g c done gone r = tt

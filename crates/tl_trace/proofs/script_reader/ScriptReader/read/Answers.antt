@@ -1,6 +1,6 @@
 use Rattle.std.proofs.Common.{rules, ◌++◌, ℕ, List, take, sym, subst}
-use Rattle.std.specs.Prelude.{IfOk}
-use Rattle.tl_trace.specs.Scripts.{Gone, HasReadPast}
+use Rattle.std.specs.Prelude.{IfOk, IfErr}
+use Rattle.tl_trace.specs.Scripts.{Gone, HasReadPast, HasStopped}
 use Rattle.tl_trace.proofs.Pieces.{version_2}
 use Rattle.tl_trace.proofs.script_reader.ScriptReader.read.Goals as goal
 
@@ -51,3 +51,15 @@ returns-in_default-clause-fault g c done more gone r = c.read_beats-in_default.e
 
 pub returns-in_default-clause-memory : goal.returns-in_default-clause-memory
 returns-in_default-clause-memory g c done more gone r = c.read_beats-in_default.ensures.memory done more gone (subst (λ v. HasReadPast v done gone c.args.self.now.script c.args.self.now.line) (version_2 c.args.self.now.version c.requires.version (search rules)) r)
+
+pub returns-in-1-clause-stopped : goal.returns-in-1-clause-stopped
+returns-in-1-clause-stopped g c =
+    subst
+    (λ v. (done : List ℕ) (gone : Gone g.row.C g.row.M) → HasReadPast v done gone c.args.self.now.script c.args.self.now.line → IfErr c.read_beats.result (λ e. HasStopped v done c.args.piece.now gone c.read_beats.new.reader.script c.read_beats.new.reader.line e.line))
+    (sym (c.in-1.is)) c.read_beats.ensures.stopped
+
+pub returns-in_default-clause-stopped : goal.returns-in_default-clause-stopped
+returns-in_default-clause-stopped g c =
+    subst
+    (λ v. (done : List ℕ) (gone : Gone g.row.C g.row.M) → HasReadPast v done gone c.args.self.now.script c.args.self.now.line → IfErr c.read_beats-in_default.result (λ e. HasStopped v done c.args.piece.now gone c.read_beats-in_default.new.reader.script c.read_beats-in_default.new.reader.line e.line))
+    (sym (version_2 c.args.self.now.version c.requires.version (search rules))) c.read_beats-in_default.ensures.stopped
