@@ -17,6 +17,7 @@ pub mod MaskTest
 pub mod FaultsExact
 pub mod BegunMessages
 pub mod Steps
+mod Holding
 pub mod GrantAcks
 pub mod PlacesExact
 pub mod Fronts

@@ -4,3 +4,4 @@ pub mod Reading
 pub mod Handing
 pub mod Begun
 pub mod Tracking
+pub mod Inner

@@ -1,9 +1,9 @@
 ghost use Rattle.std.specs.Prelude.{◌≡◌, ◌≤◌, None};
-ghost use Rattle.tl_lanes.specs.declared.limits.TheConstants.{MAX_SIZE};
 ghost use Rattle.tl_lanes.specs.Lanes.{IsWidth};
 ghost use Rattle.tl_msg.specs.Faults as faults;
+ghost use Rattle.tl_burst.specs.Inner.Holding.{IsHeld};
 
-use tl_lanes::active;
+use crate::held::{Held, held_by};
 use tl_msg::{Beat, BeatFault, Channel};
 
 /// The first fault of a beat that stands outside a burst: of its head, then `Mask`, then `Corrupt`.
@@ -14,7 +14,7 @@ pub fn opening_fault<K: Channel, const W: usize>(beat: &Beat<K, W>) -> Option<Be
     if let Some(fault) = K::fault(&beat.head) {
         return Some(fault);
     }
-    if !mask_fits::<K, W>(beat) {
+    if !mask_fits::<K, W>(beat, &held_by::<K, W>(&beat.head)) {
         return Some(BeatFault::Mask);
     }
     if !is_clean::<K, W>(beat) {
@@ -26,16 +26,16 @@ pub fn opening_fault<K: Channel, const W: usize>(beat: &Beat<K, W>) -> Option<Be
 /// The first fault of a beat inside a burst with this head: `HeadChanged`, then `Mask`.
 pub fn continuing_fault<K: Channel, const W: usize>(
     head: &K::Head,
+    held: &Held,
     beat: &Beat<K, W>,
 ) -> Option<BeatFault>
-    requires width { IsWidth W }
-    requires lawful { K.rules.fault head.now ≡ None }
+    requires { IsHeld K.rules W head.now held.now }
     ensures { result ≡ faults.continuing_fault K.rules head.now beat.now }
 {
     if beat.head != *head {
         return Some(BeatFault::HeadChanged);
     }
-    if !mask_fits::<K, W>(beat) {
+    if !mask_fits::<K, W>(beat, held) {
         return Some(BeatFault::Mask);
     }
     None
@@ -43,19 +43,17 @@ pub fn continuing_fault<K: Channel, const W: usize>(
 
 /// Whether the mask is one that the message may have: any of the active lanes on PutPartialData, else
 /// exactly the active lanes. On C, D and E it is not read.
-fn mask_fits<K: Channel, const W: usize>(beat: &Beat<K, W>) -> bool
-    requires width { IsWidth W }
-    requires small { K.rules.size beat.now.head ≤ MAX_SIZE }
+fn mask_fits<K: Channel, const W: usize>(beat: &Beat<K, W>, held: &Held) -> bool
+    requires { IsHeld K.rules W beat.now.head held.now }
     ensures { result ≡ faults.mask_fits K.rules beat.now }
 {
     if !K::MASKED {
         return true;
     }
-    let lanes = active(K::lane_address(&beat.head, 0), K::size(&beat.head), W);
-    if K::partial(&beat.head) {
-        beat.mask & lanes == beat.mask
+    if held.partial {
+        beat.mask & held.lanes == beat.mask
     } else {
-        beat.mask == lanes
+        beat.mask == held.lanes
     }
 }
 

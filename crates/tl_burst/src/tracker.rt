@@ -6,31 +6,35 @@ ghost use Rattle.tl_burst.specs.Handing.{IsHanded, IsAdmitted, rest_of, burst_af
 ghost use Rattle.tl_burst.specs.Tracking.{IsOpen, IsPlace, burst_with, count_in};
 
 use crate::faults::{continuing_fault, opening_fault};
+use crate::held::{Held, held_by};
 use crate::place::Place;
 use std::marker::Model;
-use tl_lanes::beats;
 use tl_msg::{Beat, BeatFault, Channel, ranges_of_beat};
 
 /// A checker of the bursts of one channel, `W` bytes wide.
 ///
-/// It keeps no beats: only the head of the burst that is open, and how many of its beats were
-/// accepted. In contracts it is that pair, or `None` where no burst is open. It stands for a list of
-/// accepted beats where that pair is `burst_after` of the list. A new tracker stands for no beats, and
-/// after `advance` it stands for the list with one beat more.
+/// It keeps no beats: only the head of the burst that is open, how many of its beats were accepted,
+/// and what the head says of all of them. In contracts it is the first two as a pair, or `None` where
+/// no burst is open. It stands for a list of accepted beats where that pair is `burst_after` of the
+/// list. A new tracker stands for no beats, and after `advance` it stands for the list with one beat
+/// more.
 #[derive(Drop)]
 pub struct Tracker<K: Channel, const W: usize> {
     burst: Option<(K::Head, u32)>,
+    // of the open burst; else nothing reads it
+    held: Held,
 }
 
 impl<K: Channel, const W: usize> Model for Tracker<K, W> {
     ghost use Rattle.std.specs.Prelude.{ℕ, Option};
     ghost use Rattle.tl_burst.specs.Tracking.{IsOpen};
+    ghost use Rattle.tl_burst.specs.Inner.Holding.{IsHeldIn};
 
     ghost Value = { Option (K.Head × ℕ) };
 
     ghost view = { λ t. t.burst };
 
-    ghost invariant = { λ t. IsOpen K.rules W t.burst };
+    ghost invariant = { λ t. IsOpen K.rules W t.burst × IsHeldIn K.rules W t.burst t.held };
 }
 
 impl<K: Channel, const W: usize> Tracker<K, W> {
@@ -38,7 +42,10 @@ impl<K: Channel, const W: usize> Tracker<K, W> {
     pub fn new() -> Self
         ensures { result ≡ None }
     {
-        Tracker { burst: None }
+        Tracker {
+            burst: None,
+            held: Held::default(),
+        }
     }
 
     /// Whether the link admits `beat` as the next one.
@@ -93,11 +100,17 @@ impl<K: Channel, const W: usize> Tracker<K, W> {
             self.old ≡ burst_after K.rules bs → b.head ≡ place.head →
             self.new ≡ burst_after K.rules (bs ++ b ∷ []) }
     {
-        self.burst = if place.last {
-            None
-        } else {
-            Some((place.head, place.index + 1))
-        };
+        if place.last {
+            self.burst = None;
+            return;
+        }
+        match &mut self.burst {
+            Some((_, count)) => *count = place.index + 1,
+            None => {
+                self.held = held_by::<K, W>(&place.head);
+                self.burst = Some((place.head, 1));
+            }
+        }
     }
 
     /// The head of the open burst and how many of its beats were accepted, from 1 to one less than it
@@ -116,7 +129,7 @@ impl<K: Channel, const W: usize> Tracker<K, W> {
         ensures begun { IsOpen K.rules W self.now }
     {
         match &self.burst {
-            Some((head, _)) => continuing_fault::<K, W>(head, beat),
+            Some((head, _)) => continuing_fault::<K, W>(head, &self.held, beat),
             None => opening_fault::<K, W>(beat),
         }
     }
@@ -130,11 +143,24 @@ impl<K: Channel, const W: usize> Tracker<K, W> {
         ensures place { IsPlace K.rules W self.now result }
     {
         let index = self.count();
-        let beats = beats(K::carries_data(&head), K::size(&head), W);
+        let beats = self.beats(&head);
         Place {
             head,
             index,
             last: index as usize + 1 == beats,
+        }
+    }
+
+    /// How many beats the message of this head has, which is the open burst's where one is open.
+    fn beats(&self, head: &K::Head) -> usize
+        requires width { IsWidth W }
+        requires lawful { K.rules.fault head.now ≡ None }
+        requires held { (h : K.Head) (count : ℕ) → self.now ≡ Some (h, count) → head.now ≡ h }
+        ensures { result ≡ beats_of K.rules head.now W }
+    {
+        match self.burst {
+            Some(_) => self.held.beats,
+            None => held_by::<K, W>(head).beats,
         }
     }
 

@@ -1,11 +1,10 @@
 -- How many far beats near beats make due: as many whatever the homes are, and no fewer where more near beats come.
 use Rattle.std.proofs.Common.{◌≡◌, ◌≤◌, ◌<◌, ◌+◌, ◌*◌, ◌/◌, ◌^◌, ◌⊎◌, ℕ, Bool, true, false, cond, List, [], ◌∷◌, ◌++◌, length, drop, refl, sym, ap, subst, ◌∙◌, arith, zero-le, ⊎_elim, length-append}
-use Rattle.std.proofs.Math.Nat.{min-eq_left, min-le_left, min-le_right, mul-le-mul_left, div-mul-le_self, div_self, div-eq_of_lt, mul-div_cancel, le_trans}
+use Rattle.std.proofs.Math.Nat.{min-eq_left, min-le_left, min-le_right, mul-le-mul_left, div-mul-le_self, div_self, div-eq_of_lt, le_trans}
 use Rattle.std.proofs.Math.Pow.{pow_pos}
 use Rattle.std.proofs.lemmas.List.{length_push, length-take}
 use Rattle.std.proofs.lemmas.List.FromFn.{length-map-range_with_len}
 use Rattle.std.proofs.lemmas.Nat.{le-div}
-use Rattle.tl_burst.proofs.Numbers.{div-up}
 use Rattle.std.specs.Prelude.{min, slice_index}
 use Rattle.tl_lanes.specs.Lanes.{bytes_per_beat, beats_per_message}
 use Rattle.tl_msg.specs.Rules.{Rules}
@@ -138,51 +137,4 @@ module _ {H : Type 0} (r : Rules H) (w v : ℕ) where
         let before : length (due r w v bs hs) ≡ due_count [] bs = due_counted [] hs bs in
         let after : length (due r w v (bs ++ more) ks) ≡ due_count [] (bs ++ more) = due_counted [] ks (bs ++ more) in
         let l : due_count [] bs ≤ due_count [] (bs ++ more) = count_grows [] bs more in
-        omega arith
-
-  module _ (near : 0 < w) (within : w ≤ v) where
-    -- a wider beat has at least as many bytes of a message, and the message at most as many beats
-    bytes_grow : (size : ℕ) → bytes_per_beat size w ≤ bytes_per_beat size v
-    bytes_grow size = omega arith
-
-    some_bytes : (x size : ℕ) → 0 < x → 0 < bytes_per_beat size x
-    some_bytes x size pos = let p : 0 < 2 ^ size = pow_pos size in omega arith
-
-    beats_shrink : (c : Bool) (size : ℕ) → beats_per_message c size v ≤ beats_per_message c size w
-    beats_shrink false size = omega arith
-    beats_shrink true size =
-        le-div (2 ^ size / bytes_per_beat size v) (2 ^ size) (bytes_per_beat size w) (some_bytes w size near)
-        (le_trans (mul-le-mul_left (2 ^ size / bytes_per_beat size v) (bytes_grow size)) (div-mul-le_self (2 ^ size) (bytes_per_beat size v)))
-
-    -- no more far beats are due of a rest than it has near beats
-    part_few : (rest : List (BeatOf H w)) → part_count rest ≤ length rest
-    part_few [] = zero-le
-    part_few (b ∷ bs) =
-        let n : ℕ = length (b ∷ bs) in
-        let p : 0 < bytes_per_beat (r.size b.head) v = some_bytes v (r.size b.head) (omega arith) in
-        let up : far_beats_of r b.head w v (length (b ∷ bs)) ≤ length (b ∷ bs) * bytes_per_beat (r.size b.head) v / bytes_per_beat (r.size b.head) v =
-        div-up (length (b ∷ bs) * bytes_per_beat (r.size b.head) w) (length (b ∷ bs) * bytes_per_beat (r.size b.head) v) (bytes_per_beat (r.size b.head) v) p
-        (mul-le-mul_left (length (b ∷ bs)) (bytes_grow (r.size b.head))) in
-        let all : length (b ∷ bs) * bytes_per_beat (r.size b.head) v / bytes_per_beat (r.size b.head) v ≡ length (b ∷ bs) = mul-div_cancel (length (b ∷ bs)) p in
-        le_trans (min-le_left (far_beats_of r b.head w v (length (b ∷ bs))) (beats_of r b.head v)) (omega arith)
-
-    count_few : (seen bs : List (BeatOf H w)) → due_count seen bs ≤ length seen + length bs
-    count_few seen [] = let l : part_count seen ≤ length seen = part_few seen in omega arith
-    count_few seen (b ∷ bs) =
-        both (λ n. n ≤ length seen + length (b ∷ bs)) (ends r w seen b)
-        (λ e.
-        let n : length seen + 1 ≡ beats_of r b.head w = true_equal (length seen + 1) (beats_of r b.head w) e in
-        let k : beats_of r b.head v ≤ beats_of r b.head w = beats_shrink (r.carries b.head) (r.size b.head) in
-        let l : due_count [] bs ≤ 0 + length bs = count_few [] bs in
-        omega arith)
-        (λ e.
-        let n : length (seen ++ b ∷ []) ≡ length seen + 1 = length_push seen b in
-        let l : due_count (seen ++ b ∷ []) bs ≤ length (seen ++ b ∷ []) + length bs = count_few (seen ++ b ∷ []) bs in
-        omega arith)
-
-    -- where the far bus is at least as wide, no more far beats are due than there are near beats
-    pub due_few : (bs : List (BeatOf H w)) (homes : List ℕ) → length (due r w v bs homes) ≤ length bs
-    due_few bs homes =
-        let n : length (due r w v bs homes) ≡ due_count [] bs = due_counted [] homes bs in
-        let l : due_count [] bs ≤ 0 + length bs = count_few [] bs in
         omega arith

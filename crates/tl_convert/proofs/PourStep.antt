@@ -4,6 +4,8 @@ use Rattle.std.specs.List.{range_with_len, refill}
 use Rattle.std.proofs.Math.ListN.{get_or, set}
 use Rattle.std.proofs.Math.Seq.{set-append_seam, get_or-append_seam, take-append_seam}
 use Rattle.std.proofs.lemmas.Bool.Decides.{eqb_tells, leb_tells}
+use Rattle.std.specs.Prelude.{bit_and}
+use Rattle.std.proofs.lemmas.Nat.{and_mask}
 use Rattle.std.proofs.lemmas.List.FromFn.{map-range_with_len_more}
 use Rattle.std.proofs.Math.Nat.{mod-lt, add-mul-mod_self_right, div-eq_of_eq-mul_left, mul-le-mul_right, mul-mod_left, mod-eq_of_lt, div_self}
 use Rattle.std.proofs.Math.Arith.{digits_div}
@@ -95,6 +97,10 @@ same-small n s is le = omega arith
 -- a chunk has a byte, and no more than a beat has
 pub some-bytes : (size w n : ℕ) → IsWidth w → n ≡ bytes_per_beat size w → 0 < n
 some-bytes size w n width is = let z : 0 < 2 ^ size = search rules in let b = width_bounds w width in omega arith
+
+-- the rest of a division by the bytes per beat, by a mask
+pub rest-by-mask : (size v n wide : ℕ) → IsWidth v → wide ≡ bytes_per_beat size v → bit_and n (wide - 1) ≡ n % wide
+rest-by-mask size v n wide width is = let power = per-power size v width in subst (λ x. bit_and n (x - 1) ≡ n % x) (sym (is ∙ power.1)) (and_mask n power.0)
 
 pub bytes-within : (size w n : ℕ) → n ≡ bytes_per_beat size w → n ≤ w
 bytes-within size w n is = omega arith

@@ -6,7 +6,7 @@ ghost use Rattle.tl_convert.specs.Accepted.{accepted_of};
 ghost use Rattle.tl_convert.specs.Counting.{Gives};
 
 use tl_burst::{Place, Tracker};
-use tl_lanes::beat_bytes;
+use tl_lanes::{beat_bytes, beats_filled};
 use tl_msg::{Beat, Channel};
 
 /// How many far beats a near beat at this place gives: those of its message whose last byte it
@@ -41,10 +41,12 @@ pub fn far_beats_between<K: Channel>(place: &Place<K>, near: usize, far: usize) 
     let near_bytes = beat_bytes(size, near);
     let far_bytes = beat_bytes(size, far);
     if near_bytes >= far_bytes {
-        return near_bytes / far_bytes;
+        return beats_filled(near_bytes, size, far);
     }
     let index = place.index as usize;
-    (index + 1) * near_bytes / far_bytes - index * near_bytes / far_bytes
+    let before = beats_filled(index * near_bytes, size, far);
+    let after = beats_filled((index + 1) * near_bytes, size, far);
+    after - before
 }
 
 /// How many far beats a list of near beats gives, up to the first beat that is refused.
@@ -78,23 +80,4 @@ fn count_until_refused<K: Channel, const W: usize>(beats: &[Beat<K, W>], far: us
         tracker.advance(place);
     }
     count
-}
-
-/// Room for the far beats that a list of near beats gives, up to the first beat that is refused: as
-/// many as these are, or more.
-///
-/// Where both buses are equally wide it is one for each near beat, and no beat is read; else it is
-/// `far_count`. The list has at most `2^40` beats. The homes of the messages don't matter here.
-pub fn far_room<K: Channel, const W: usize, const V: usize>(beats: &[Beat<K, W>]) -> usize
-    requires near { IsWidth W }
-    requires far { IsWidth V }
-    requires few { length beats.now ≤ 2 ^ 40 }
-    ensures { (homes : List ℕ) →
-        length (due K.rules W V (accepted_of K.rules beats.now) homes) ≤ result }
-{
-    if W == V {
-        beats.len()
-    } else {
-        count_until_refused::<K, W>(beats, V)
-    }
 }

@@ -1,13 +1,14 @@
 //! How the bytes of a near beat with data get into far beats.
 
-ghost use Rattle.std.specs.Prelude.{◌≤◌, ◌<◌, ◌+◌, []};
-ghost use Rattle.tl_lanes.specs.Lanes.{IsWidth};
+ghost use Rattle.std.specs.Prelude.{◌≡◌, ◌≤◌, ◌<◌, ◌+◌, ◌/◌, []};
+ghost use Rattle.tl_lanes.specs.declared.limits.TheConstants.{MAX_SIZE};
+ghost use Rattle.tl_lanes.specs.Lanes.{IsWidth, bytes_per_beat};
 ghost use Rattle.tl_msg.specs.declared.beat.BeatOf.{BeatOf};
 ghost use Rattle.tl_burst.specs.Messages.{Message, per_beat};
 ghost use Rattle.tl_convert.specs.Inner.Pouring.{Poured, Source, Pours, IsBlank, CanPour};
 
 use arrayvec::ArrayVec;
-use tl_lanes::{WIDEST, beat_bytes, move_lanes, move_mask};
+use tl_lanes::{WIDEST, beat_bytes, beats_filled, move_lanes, move_mask};
 use tl_msg::{Beat, Channel};
 
 // Puts `count` bytes of a near beat, the first of which has address `at`, into a far beat, with their mask bits and the corrupt bit.
@@ -39,6 +40,20 @@ pub(crate) fn blank<K: Channel, const V: usize>(head: K::Head) -> Beat<K, V>
     }
 }
 
+// How many far beats a near beat fills, where a far beat has no more bytes: one, known when the program
+// is compiled, where the far bus is as wide.
+fn whole_beats<const W: usize, const V: usize>(size: u8) -> usize
+    requires { IsWidth W × IsWidth V × (size ≤ MAX_SIZE) ×
+        (bytes_per_beat size V ≤ bytes_per_beat size W) }
+    ensures { result ≡ bytes_per_beat size W / bytes_per_beat size V }
+{
+    if W <= V {
+        1
+    } else {
+        beats_filled(beat_bytes(size, W), size, V)
+    }
+}
+
 // Puts the bytes of a near beat with data into far beats, each of which is then whole: a far beat
 // has no more bytes than a near one. `first` is the number of the beat's first byte in its message.
 // No far beat is begun, so `partial` is blank, and each far beat begins as a copy of it, which is
@@ -58,7 +73,8 @@ pub(crate) fn pour_whole<K: Channel, const W: usize, const V: usize>(
 {
     let size = K::size(&beat.head);
     let wide = beat_bytes(size, V);
-    for t in 0..beat_bytes(size, W) / wide {
+    let count = whole_beats::<W, V>(size);
+    for t in 0..count {
         let done = first + t * wide;
         out.push(*partial);
         let far = &mut out.as_mut_slice()[t];
@@ -85,7 +101,8 @@ pub(crate) fn pour_part<K: Channel, const W: usize, const V: usize>(
     let size = K::size(&beat.head);
     let near = beat_bytes(size, W);
     let at = home.wrapping_add(first as u64);
-    if (first + near) % beat_bytes(size, V) != 0 {
+    // the bytes per beat are a power of two: this is the rest of a division by them
+    if (first + near) & (beat_bytes(size, V) - 1) != 0 {
         add_bytes::<K, W, V>(beat, partial, at, near);
         return;
     }

@@ -6,3 +6,4 @@ pub mod LaneRuns
 pub mod LaneMoves
 pub mod MaskMoves
 pub mod Sizes
+mod Quotients

@@ -1,8 +1,9 @@
-use Rattle.std.proofs.Common.{rules, ◌≡◌, Bool, true, false, None, Some, sym, ◌∙◌}
+use Rattle.std.proofs.Common.{rules, ◌≡◌, Bool, true, false, None, Some, sym, subst, ◌∙◌}
 use Rattle.tl_msg.specs.Faults as faults
 use Rattle.tl_msg.specs.Firsts.{unless, ◌or_else◌}
 use Rattle.tl_msg.specs.declared.fault.BeatFault.TheVariants.{Mask, HeadChanged}
 use Rattle.tl_msg.proofs.Firsts.{second_answers, both_none, unless_true, unless_false}
+use Rattle.tl_burst.specs.Inner.Holding.{IsHeld}
 use Rattle.tl_burst.proofs.faults.continuing_fault.Goals as goal
 
 masked : (same fits : Bool) → same ≡ true → fits ≡ false → (unless same HeadChanged or_else unless fits Mask) ≡ Some Mask
@@ -23,3 +24,9 @@ returns g c =
     let same : g.K.Channel.rules.same c.args.beat.now.head c.args.head.now ≡ true = search rules in
     sym (faultless (g.K.Channel.rules.same c.args.beat.now.head c.args.head.now) (faults.mask_fits g.K.Channel.rules c.args.beat.now)
     same (sym c.mask_fits.ensures ∙ c.if-not-mask_fits.false))
+
+pub mask_fits-requires : goal.mask_fits-requires
+mask_fits-requires g c =
+    let same : c.args.beat.now.head ≡ c.args.head.now = search rules in
+    let held : IsHeld g.K.Channel.rules g.row.W c.args.beat.now.head c.args.held.now = subst (λ head. IsHeld g.K.Channel.rules g.row.W head c.args.held.now) (sym same) c.requires in
+    search (rules, held)

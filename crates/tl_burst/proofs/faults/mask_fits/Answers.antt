@@ -1,6 +1,5 @@
 use Rattle.std.proofs.Common.{◌≡◌, Bool, true, false, ◌==◌, if◌then◌else◌, sym, refl, ap, ◌∙◌}
 use Rattle.std.specs.Prelude.{bit_and}
-use Rattle.tl_lanes.specs.Lanes.{active_mask}
 use Rattle.tl_msg.specs.Faults as faults
 use Rattle.tl_burst.proofs.faults.mask_fits.Goals as goal
 
@@ -24,22 +23,16 @@ returns-then-not-MASKED g c =
     (c.args.beat.now.mask == faults.full_mask g.K.Channel.rules c.args.beat.now.head g.row.W)
     (g.met.K.Channel.masked_is ∙ sym c.MASKED.ensures ∙ c.if-not-MASKED.true)
 
-pub returns-then-partial : goal.returns-then-partial
-returns-then-partial g c =
-    let lanes : c.active-lanes.result ≡ faults.full_mask g.K.Channel.rules c.args.beat.now.head g.row.W =
-    c.active-lanes.ensures ∙ ap (λ a. active_mask a c.size.result g.row.W) c.lane_address.ensures ∙
-    ap (λ s. active_mask (g.K.Channel.rules.lane_address c.args.beat.now.head 0) s g.row.W) c.size.ensures in
-    ap (λ m. bit_and c.args.beat.now.mask m == c.args.beat.now.mask) lanes ∙
+pub returns-then-held : goal.returns-then-held
+returns-then-held g c =
+    ap (λ m. bit_and c.args.beat.now.mask m == c.args.beat.now.mask) c.requires.lanes ∙
     some-lanes g.K.Channel.rules.masked (g.K.Channel.rules.partial c.args.beat.now.head) (bit_and c.args.beat.now.mask (faults.full_mask g.K.Channel.rules c.args.beat.now.head g.row.W) == c.args.beat.now.mask)
     (c.args.beat.now.mask == faults.full_mask g.K.Channel.rules c.args.beat.now.head g.row.W)
-    (g.met.K.Channel.masked_is ∙ sym c.MASKED.ensures ∙ c.if-not-MASKED.false) (sym c.partial.ensures ∙ c.if-partial.true)
+    (g.met.K.Channel.masked_is ∙ sym c.MASKED.ensures ∙ c.if-not-MASKED.false) (sym c.requires.partial ∙ c.if-held.true)
 
-pub returns-else-partial : goal.returns-else-partial
-returns-else-partial g c =
-    let lanes : c.active-lanes.result ≡ faults.full_mask g.K.Channel.rules c.args.beat.now.head g.row.W =
-    c.active-lanes.ensures ∙ ap (λ a. active_mask a c.size.result g.row.W) c.lane_address.ensures ∙
-    ap (λ s. active_mask (g.K.Channel.rules.lane_address c.args.beat.now.head 0) s g.row.W) c.size.ensures in
-    ap (λ m. c.args.beat.now.mask == m) lanes ∙
+pub returns-else-held : goal.returns-else-held
+returns-else-held g c =
+    ap (λ m. c.args.beat.now.mask == m) c.requires.lanes ∙
     all-lanes g.K.Channel.rules.masked (g.K.Channel.rules.partial c.args.beat.now.head) (bit_and c.args.beat.now.mask (faults.full_mask g.K.Channel.rules c.args.beat.now.head g.row.W) == c.args.beat.now.mask)
     (c.args.beat.now.mask == faults.full_mask g.K.Channel.rules c.args.beat.now.head g.row.W)
-    (g.met.K.Channel.masked_is ∙ sym c.MASKED.ensures ∙ c.if-not-MASKED.false) (sym c.partial.ensures ∙ c.if-partial.false)
+    (g.met.K.Channel.masked_is ∙ sym c.MASKED.ensures ∙ c.if-not-MASKED.false) (sym c.requires.partial ∙ c.if-held.false)

@@ -25,34 +25,33 @@ ended index near far pos =
     let sum : (index * near + near * far) / far ≡ index * near / far + near = add-mul-div_right (index * near) near pos in
     omega arith
 
--- no division is by zero
-pub nonzero_div-result : goal.nonzero_div-result
-nonzero_div-result g c = some-bytes c.size-size.result c.args.far c.beat_bytes-far_bytes.result c.requires.far c.beat_bytes-far_bytes.ensures
-
-pub nonzero_div-result-2 : goal.nonzero_div-result-2
-nonzero_div-result-2 g c = some-bytes c.size-size.result c.args.far c.beat_bytes-far_bytes.result c.requires.far c.beat_bytes-far_bytes.ensures
-
-pub nonzero_div-result-3 : goal.nonzero_div-result-3
-nonzero_div-result-3 g c = some-bytes c.size-size.result c.args.far c.beat_bytes-far_bytes.result c.requires.far c.beat_bytes-far_bytes.ensures
+-- the beats that bytes fill, by the number that was found for the bytes of one
+filled : (count near far found : ℕ) → found ≡ count / near → far ≡ near → found ≡ count / far
+filled count near far found is same = is ∙ ap (λ n. count / n) (sym same)
 
 pub overflow_sub-result : goal.overflow_sub-result
 overflow_sub-result g c =
     let i = c.args.place.now.index in
     let near = c.beat_bytes-near_bytes.result in
     let pos = some-bytes c.size-size.result c.args.far c.beat_bytes-far_bytes.result c.requires.far c.beat_bytes-far_bytes.ensures in
-    div-up (i * near) ((i + 1) * near) c.beat_bytes-far_bytes.result pos (fewer i near)
+    let before = filled (i * near) _ _ _ c.beats_filled-before.ensures c.beat_bytes-far_bytes.ensures in
+    let after = filled ((i + 1) * near) _ _ _ c.beats_filled-after.ensures c.beat_bytes-far_bytes.ensures in
+    omega (arith, before, after, div-up (i * near) ((i + 1) * near) c.beat_bytes-far_bytes.result pos (fewer i near))
 
 pub returns-clause-few : goal.returns-clause-few
 returns-clause-few g c =
     let w = width_bounds c.args.near c.requires.near in
     let pos = some-bytes c.size-size.result c.args.far c.beat_bytes-far_bytes.result c.requires.far c.beat_bytes-far_bytes.ensures in
-    omega (arith, ended c.args.place.now.index c.beat_bytes-near_bytes.result c.beat_bytes-far_bytes.result pos, c.beat_bytes-near_bytes.ensures)
+    let before = filled (c.args.place.now.index * c.beat_bytes-near_bytes.result) _ _ _ c.beats_filled-before.ensures c.beat_bytes-far_bytes.ensures in
+    let after = filled ((c.args.place.now.index + 1) * c.beat_bytes-near_bytes.result) _ _ _ c.beats_filled-after.ensures c.beat_bytes-far_bytes.ensures in
+    omega (arith, before, after, ended c.args.place.now.index c.beat_bytes-near_bytes.result c.beat_bytes-far_bytes.result pos, c.beat_bytes-near_bytes.ensures)
 
 pub returns-then-near_bytes-far_bytes-clause-few : goal.returns-then-near_bytes-far_bytes-clause-few
 returns-then-near_bytes-far_bytes-clause-few g c =
     let w = width_bounds c.args.near c.requires.near in
     let most : c.beat_bytes-near_bytes.result / c.beat_bytes-far_bytes.result ≤ c.beat_bytes-near_bytes.result = div-le_self c.beat_bytes-near_bytes.result c.beat_bytes-far_bytes.result in
-    omega (arith, c.beat_bytes-near_bytes.ensures)
+    let is = filled c.beat_bytes-near_bytes.result _ _ _ c.beats_filled.ensures c.beat_bytes-far_bytes.ensures in
+    omega (arith, is, c.beat_bytes-near_bytes.ensures)
 
 pub returns-then-not-carries_data-clause-gives : goal.returns-then-not-carries_data-clause-gives
 returns-then-not-carries_data-clause-gives g c = record {
@@ -73,8 +72,12 @@ returns-clause-gives g c =
     let sum = given-back (i * near / far) ((i + 1) * near / far) (div-up (i * near) ((i + 1) * near) far pos (fewer i near)) in
     let N : ℕ → Type 0 = λ n. ((i + 1) * near / far - i * near / far) + i * n / far ≡ (i + 1) * n / far in
     let F : ℕ → Type 0 = λ m. ((i + 1) * near / far - i * near / far) + i * per_beat r h c.args.near / m ≡ (i + 1) * per_beat r h c.args.near / m in
+    let before = filled (i * near) _ _ _ c.beats_filled-before.ensures c.beat_bytes-far_bytes.ensures in
+    let after = filled ((i + 1) * near) _ _ _ c.beats_filled-after.ensures c.beat_bytes-far_bytes.ensures in
+    let is : c.beats_filled-after.result - c.beats_filled-before.result ≡ (i + 1) * near / far - i * near / far = ap (λ x. x - c.beats_filled-before.result) after ∙ ap (λ x. (i + 1) * near / far - x) before in
+    let R : ℕ → Type 0 = λ given. given + i * per_beat r h c.args.near / per_beat r h c.args.far ≡ (i + 1) * per_beat r h c.args.near / per_beat r h c.args.far in
     record {
-      data_beat = λ _. subst F q (subst N p sum);
+      data_beat = λ _. subst R (sym is) (subst F q (subst N p sum));
       no_data = λ none. search (rules, none, c.if-not-carries_data.false, c.if-not-carries_data.ensures, c.carries_data.ensures);
     }
 
@@ -108,7 +111,9 @@ returns-then-near_bytes-far_bytes-clause-gives g c =
     let sum = whole i near far a.0 b.0 (c.beat_bytes-near_bytes.ensures ∙ a.1) (c.beat_bytes-far_bytes.ensures ∙ b.1) least in
     let N : ℕ → Type 0 = λ n. near / far + i * n / far ≡ (i + 1) * n / far in
     let F : ℕ → Type 0 = λ m. near / far + i * per_beat r h c.args.near / m ≡ (i + 1) * per_beat r h c.args.near / m in
+    let is = filled near _ _ _ c.beats_filled.ensures c.beat_bytes-far_bytes.ensures in
+    let R : ℕ → Type 0 = λ given. given + i * per_beat r h c.args.near / per_beat r h c.args.far ≡ (i + 1) * per_beat r h c.args.near / per_beat r h c.args.far in
     record {
-      data_beat = λ _. subst F q (subst N p sum);
+      data_beat = λ _. subst R (sym is) (subst F q (subst N p sum));
       no_data = λ none. search (rules, none, c.if-not-carries_data.false, c.if-not-carries_data.ensures, c.carries_data.ensures);
     }

@@ -12,7 +12,7 @@ use Rattle.tl_lanes.specs.Lanes.{bytes_per_beat}
 use Rattle.tl_lanes.proofs.Widths.{width_bounds}
 use Rattle.tl_burst.specs.Messages.{per_beat}
 use Rattle.tl_convert.specs.Inner.Pouring.{Poured, Pours}
-use Rattle.tl_convert.proofs.PourStep.{one-chunk, pour-stays, pour-ends, blank-empty, last-changed, last-was, last-inside, same-small, some-bytes, bytes-within}
+use Rattle.tl_convert.proofs.PourStep.{one-chunk, pour-stays, pour-ends, blank-empty, last-changed, last-was, last-inside, same-small, bytes-within, rest-by-mask}
 use Rattle.tl_convert.proofs.Sizes.{beat_bytes}
 use Rattle.tl_convert.proofs.pouring.pour_part.Goals as goal
 
@@ -34,7 +34,7 @@ returns-then-first-near-ne0 g c = λ m s p.
     ((c.args.home + c.args.first) % 2 ^ 64) c.requires.0.near c.requires.0.far
     c.args.beat.now c.args.partial.now c.add_bytes.new.far c.args.out.now.items s (omega arith)
     (omega (arith, near, hw)) k.0 (subst A (wide ∙ hv) k.1) refl c.add_bytes.ensures (subst O (sym c.requires.0.empty) p)
-    (λ e. c.if-first-near-ne0.true (ap (λ x. (c.args.first + c.beat_bytes-near.result) % x) (wide ∙ hv) ∙ e)))
+    (λ e. c.if-first-near-ne0.true (rest-by-mask c.size-size.result g.row.V (c.args.first + c.beat_bytes-near.result) c.beat_bytes.result c.requires.0.far c.beat_bytes.ensures ∙ ap (λ x. (c.args.first + c.beat_bytes-near.result) % x) (wide ∙ hv) ∙ e)))
 
 pub returns : goal.returns
 returns g c = λ m s p.
@@ -55,7 +55,7 @@ returns g c = λ m s p.
     ((c.args.home + c.args.first) % 2 ^ 64) c.requires.0.near c.requires.0.far
     c.args.beat.now c.args.partial.now c.add_bytes-2.new.far c.args.out.now.items s (omega arith)
     (omega (arith, near, hw)) k.0 (subst A (wide ∙ hv) k.1) refl (subst B was c.add_bytes-2.ensures) (subst O (sym c.requires.0.empty) p)
-    (ap (λ x. (c.args.first + c.beat_bytes-near.result) % x) (sym (wide ∙ hv)) ∙ c.if-first-near-ne0.false)
+    (ap (λ x. (c.args.first + c.beat_bytes-near.result) % x) (sym (wide ∙ hv)) ∙ sym (rest-by-mask c.size-size.result g.row.V (c.args.first + c.beat_bytes-near.result) c.beat_bytes.result c.requires.0.far c.beat_bytes.ensures) ∙ c.if-first-near-ne0.false)
     c.blank.result (blank-empty g.K.Channel.rules m g.row.V c.requires.0.far c.args.beat.now.head s.brings.head c.blank.result c.blank.ensures) out items)
   where
     out : List (BeatOf g.row.K-Head.Denot g.row.V)
@@ -112,6 +112,3 @@ pub overflow_add-first : goal.overflow_add-first
 overflow_add-first g c =
     let w = width_bounds g.row.W c.requires.0.near in
     omega (arith, bytes-within c.size-size.result g.row.W c.beat_bytes-near.result c.beat_bytes-near.ensures, c.requires.0.room)
-
-pub nonzero_rem-first : goal.nonzero_rem-first
-nonzero_rem-first g c = some-bytes c.size-size.result g.row.V c.beat_bytes.result c.requires.0.far c.beat_bytes.ensures

@@ -10,7 +10,7 @@ use Rattle.tl_lanes.specs.Lanes.{bytes_per_beat}
 use Rattle.tl_lanes.proofs.Widths.{width_bounds}
 use Rattle.tl_burst.specs.Messages.{per_beat}
 use Rattle.tl_convert.specs.Inner.Pouring.{Poured, Pours}
-use Rattle.tl_convert.proofs.PourStep.{Chunk, chunk-at, chunk-all, pour-ends, whole-ends, begins-far, begun-empty, last-changed, last-was, last-inside, same-small, some-bytes, bytes-within}
+use Rattle.tl_convert.proofs.PourStep.{Chunk, chunk-at, chunk-all, pour-ends, whole-ends, begins-far, begun-empty, last-changed, last-was, last-inside, same-small, bytes-within}
 use Rattle.tl_convert.proofs.Sizes.{place_fits}
 use Rattle.tl_convert.proofs.pouring.pour_whole.Goals as goal
 
@@ -30,30 +30,31 @@ least near wide x y a b le = omega arith
 pub overflow_mul-done : goal.overflow_mul-done
 overflow_mul-done g c =
     let w = width_bounds g.row.W c.requires.0.near in
-    let k : Chunk c.beat_bytes.result c.beat_bytes-wide.result c.beat_bytes-wide.result c.args.first c.loop-t.t =
-    chunk-at g.K.Channel.rules c.args.beat.now.head g.row.W g.row.V c.args.first c.loop-t.t c.size-size.result c.beat_bytes.result c.beat_bytes-wide.result
-    c.beat_bytes-wide.result c.requires.0.near c.requires.0.far c.size-size.ensures c.beat_bytes.ensures c.beat_bytes-wide.ensures (least c.beat_bytes.result c.beat_bytes-wide.result
+    let k : Chunk (bytes_per_beat c.size-size.result g.row.W) c.beat_bytes-wide.result c.beat_bytes-wide.result c.args.first c.loop-t.t =
+    chunk-at g.K.Channel.rules c.args.beat.now.head g.row.W g.row.V c.args.first c.loop-t.t c.size-size.result (bytes_per_beat c.size-size.result g.row.W) c.beat_bytes-wide.result
+    c.beat_bytes-wide.result c.requires.0.near c.requires.0.far c.size-size.ensures refl c.beat_bytes-wide.ensures (least (bytes_per_beat c.size-size.result g.row.W) c.beat_bytes-wide.result
     (per_beat g.K.Channel.rules c.args.beat.now.head g.row.W) (per_beat g.K.Channel.rules c.args.beat.now.head g.row.V)
-    (c.beat_bytes.ensures ∙ ap (λ z. bytes_per_beat z g.row.W) c.size-size.ensures)
-    (c.beat_bytes-wide.ensures ∙ ap (λ z. bytes_per_beat z g.row.V) c.size-size.ensures) c.requires.1) c.requires.0.whole c.loop-t-test.true in
-    omega (arith, c.beat_bytes.ensures, k.within)
+    (ap (λ z. bytes_per_beat z g.row.W) c.size-size.ensures)
+    (c.beat_bytes-wide.ensures ∙ ap (λ z. bytes_per_beat z g.row.V) c.size-size.ensures) c.requires.1) c.requires.0.whole (subst (λ n. c.loop-t.t < n) (c.whole_beats-count.ensures ∙ ap (λ x. (bytes_per_beat c.size-size.result g.row.W) / x) (sym c.beat_bytes-wide.ensures)) c.loop-t-test.true) in
+    omega (arith, k.within)
 
 pub overflow_add-done : goal.overflow_add-done
 overflow_add-done g c =
     let w = width_bounds g.row.W c.requires.0.near in
-    let k : Chunk c.beat_bytes.result c.beat_bytes-wide.result c.beat_bytes-wide.result c.args.first c.loop-t.t =
-    chunk-at g.K.Channel.rules c.args.beat.now.head g.row.W g.row.V c.args.first c.loop-t.t c.size-size.result c.beat_bytes.result c.beat_bytes-wide.result
-    c.beat_bytes-wide.result c.requires.0.near c.requires.0.far c.size-size.ensures c.beat_bytes.ensures c.beat_bytes-wide.ensures (least c.beat_bytes.result c.beat_bytes-wide.result
+    let k : Chunk (bytes_per_beat c.size-size.result g.row.W) c.beat_bytes-wide.result c.beat_bytes-wide.result c.args.first c.loop-t.t =
+    chunk-at g.K.Channel.rules c.args.beat.now.head g.row.W g.row.V c.args.first c.loop-t.t c.size-size.result (bytes_per_beat c.size-size.result g.row.W) c.beat_bytes-wide.result
+    c.beat_bytes-wide.result c.requires.0.near c.requires.0.far c.size-size.ensures refl c.beat_bytes-wide.ensures (least (bytes_per_beat c.size-size.result g.row.W) c.beat_bytes-wide.result
     (per_beat g.K.Channel.rules c.args.beat.now.head g.row.W) (per_beat g.K.Channel.rules c.args.beat.now.head g.row.V)
-    (c.beat_bytes.ensures ∙ ap (λ z. bytes_per_beat z g.row.W) c.size-size.ensures)
-    (c.beat_bytes-wide.ensures ∙ ap (λ z. bytes_per_beat z g.row.V) c.size-size.ensures) c.requires.1) c.requires.0.whole c.loop-t-test.true in
-    omega (arith, c.beat_bytes.ensures, k.within, c.requires.0.room)
+    (ap (λ z. bytes_per_beat z g.row.W) c.size-size.ensures)
+    (c.beat_bytes-wide.ensures ∙ ap (λ z. bytes_per_beat z g.row.V) c.size-size.ensures) c.requires.1) c.requires.0.whole (subst (λ n. c.loop-t.t < n) (c.whole_beats-count.ensures ∙ ap (λ x. (bytes_per_beat c.size-size.result g.row.W) / x) (sym c.beat_bytes-wide.ensures)) c.loop-t-test.true) in
+    omega (arith, k.within, c.requires.0.room)
 
 pub push-requires : goal.push-requires
 push-requires g c =
-    let w = width_bounds g.row.W c.requires.0.near in (
+    let w = width_bounds g.row.W c.requires.0.near in
+    let here : c.loop-t.t < (bytes_per_beat c.size-size.result g.row.W) / c.beat_bytes-wide.result = subst (λ n. c.loop-t.t < n) (c.whole_beats-count.ensures ∙ ap (λ x. (bytes_per_beat c.size-size.result g.row.W) / x) (sym c.beat_bytes-wide.ensures)) c.loop-t-test.true in (
       c.requires-raw.1.1.1.1.1.1.0,
-      omega (arith, c.loop-t.invariant.count, c.loop-t-test.true, div-le_self c.beat_bytes.result c.beat_bytes-wide.result, c.beat_bytes.ensures),
+      omega (arith, c.loop-t.invariant.count, here, div-le_self (bytes_per_beat c.size-size.result g.row.W) c.beat_bytes-wide.result),
     )
 
 next : (t q first : ℕ) → first + t * q + q ≡ first + (t + 1) * q
@@ -90,30 +91,31 @@ loop-t-preserved g c = record {
     was = last-was c.loop-t.out.items c.args.partial.now c.index-as_mut_slice-t.result c.loop-t.t c.push.new.self.items c.as_mut_slice.result.now
         c.loop-t.invariant.count c.push.ensures.items c.as_mut_slice.ensures.value
 
-    near : c.beat_bytes.result ≡ per_beat g.K.Channel.rules c.args.beat.now.head g.row.W
-    near = c.beat_bytes.ensures ∙ ap (λ z. bytes_per_beat z g.row.W) c.size-size.ensures
+    near : (bytes_per_beat c.size-size.result g.row.W) ≡ per_beat g.K.Channel.rules c.args.beat.now.head g.row.W
+    near = ap (λ z. bytes_per_beat z g.row.W) c.size-size.ensures
 
     wide : c.beat_bytes-wide.result ≡ per_beat g.K.Channel.rules c.args.beat.now.head g.row.V
     wide = c.beat_bytes-wide.ensures ∙ ap (λ z. bytes_per_beat z g.row.V) c.size-size.ensures
 
-    k : Chunk c.beat_bytes.result c.beat_bytes-wide.result c.beat_bytes-wide.result c.args.first c.loop-t.t
-    k = chunk-at g.K.Channel.rules c.args.beat.now.head g.row.W g.row.V c.args.first c.loop-t.t c.size-size.result c.beat_bytes.result c.beat_bytes-wide.result
-        c.beat_bytes-wide.result c.requires.0.near c.requires.0.far c.size-size.ensures c.beat_bytes.ensures c.beat_bytes-wide.ensures (least c.beat_bytes.result c.beat_bytes-wide.result
-        (per_beat g.K.Channel.rules c.args.beat.now.head g.row.W) (per_beat g.K.Channel.rules c.args.beat.now.head g.row.V) near wide c.requires.1) c.requires.0.whole c.loop-t-test.true
+    k : Chunk (bytes_per_beat c.size-size.result g.row.W) c.beat_bytes-wide.result c.beat_bytes-wide.result c.args.first c.loop-t.t
+    k = chunk-at g.K.Channel.rules c.args.beat.now.head g.row.W g.row.V c.args.first c.loop-t.t c.size-size.result (bytes_per_beat c.size-size.result g.row.W) c.beat_bytes-wide.result
+        c.beat_bytes-wide.result c.requires.0.near c.requires.0.far c.size-size.ensures refl c.beat_bytes-wide.ensures (least (bytes_per_beat c.size-size.result g.row.W) c.beat_bytes-wide.result
+        (per_beat g.K.Channel.rules c.args.beat.now.head g.row.W) (per_beat g.K.Channel.rules c.args.beat.now.head g.row.V) near wide c.requires.1) c.requires.0.whole (subst (λ n. c.loop-t.t < n) (c.whole_beats-count.ensures ∙ ap (λ x. (bytes_per_beat c.size-size.result g.row.W) / x) (sym c.beat_bytes-wide.ensures)) c.loop-t-test.true)
 
     b : (0 < per_beat g.K.Channel.rules c.args.beat.now.head g.row.V) × (c.args.first % per_beat g.K.Channel.rules c.args.beat.now.head g.row.V ≡ 0)
     b = begins-far g.K.Channel.rules c.args.beat.now.head g.row.W g.row.V c.args.first c.requires.0.near c.requires.0.far c.requires.1 c.requires.0.whole
 
 pub returns : goal.returns
 returns g c = λ m s p.
-    let near : c.beat_bytes.result ≡ per_beat g.K.Channel.rules c.args.beat.now.head g.row.W =
-    c.beat_bytes.ensures ∙ ap (λ z. bytes_per_beat z g.row.W) c.size-size.ensures in
+    let near : (bytes_per_beat c.size-size.result g.row.W) ≡ per_beat g.K.Channel.rules c.args.beat.now.head g.row.W =
+    ap (λ z. bytes_per_beat z g.row.W) c.size-size.ensures in
     let wide : c.beat_bytes-wide.result ≡ per_beat g.K.Channel.rules c.args.beat.now.head g.row.V =
     c.beat_bytes-wide.ensures ∙ ap (λ z. bytes_per_beat z g.row.V) c.size-size.ensures in
+    let past : c.loop-t.t ≡ (bytes_per_beat c.size-size.result g.row.W) / c.beat_bytes-wide.result = subst (λ n. c.loop-t.t ≡ n) (c.whole_beats-count.ensures ∙ ap (λ x. (bytes_per_beat c.size-size.result g.row.W) / x) (sym c.beat_bytes-wide.ensures)) (omega arith) in
     let all : c.args.first + c.loop-t.t * c.beat_bytes-wide.result ≡ c.args.first + per_beat g.K.Channel.rules c.args.beat.now.head g.row.W =
-    chunk-all g.K.Channel.rules c.args.beat.now.head g.row.W g.row.V c.args.first c.loop-t.t c.size-size.result c.beat_bytes.result c.beat_bytes-wide.result
-    c.beat_bytes-wide.result c.requires.0.near c.requires.0.far c.size-size.ensures c.beat_bytes.ensures c.beat_bytes-wide.ensures (least c.beat_bytes.result c.beat_bytes-wide.result
-    (per_beat g.K.Channel.rules c.args.beat.now.head g.row.W) (per_beat g.K.Channel.rules c.args.beat.now.head g.row.V) near wide c.requires.1) (omega arith) in
+    chunk-all g.K.Channel.rules c.args.beat.now.head g.row.W g.row.V c.args.first c.loop-t.t c.size-size.result (bytes_per_beat c.size-size.result g.row.W) c.beat_bytes-wide.result
+    c.beat_bytes-wide.result c.requires.0.near c.requires.0.far c.size-size.ensures refl c.beat_bytes-wide.ensures (least (bytes_per_beat c.size-size.result g.row.W) c.beat_bytes-wide.result
+    (per_beat g.K.Channel.rules c.args.beat.now.head g.row.W) (per_beat g.K.Channel.rules c.args.beat.now.head g.row.V) near wide c.requires.1) past in
     let P : ℕ → Type 0 = λ d. Pours g.K.Channel.rules m g.row.V c.args.first d c.args.partial.now c.loop-t.out.items in
     subst P (all ∙ ap (λ h. c.args.first + per_beat g.K.Channel.rules h g.row.W) s.brings.head) (c.loop-t.invariant.pours m s p)
 
@@ -129,14 +131,13 @@ beat_bytes-wide-requires-clause-small g c = same-small c.size-size.result (g.K.C
 pub beat_bytes-wide-requires-clause-width : goal.beat_bytes-wide-requires-clause-width
 beat_bytes-wide-requires-clause-width g c = c.requires.0.far
 
-pub beat_bytes-requires-clause-small : goal.beat_bytes-requires-clause-small
-beat_bytes-requires-clause-small g c = same-small c.size-size.result (g.K.Channel.rules.size c.args.beat.now.head) c.size-size.ensures c.requires.0.small
-
-pub beat_bytes-requires-clause-width : goal.beat_bytes-requires-clause-width
-beat_bytes-requires-clause-width g c = c.requires.0.near
-
-pub nonzero_div-t-end : goal.nonzero_div-t-end
-nonzero_div-t-end g c = some-bytes c.size-size.result g.row.V c.beat_bytes-wide.result c.requires.0.far c.beat_bytes-wide.ensures
+pub whole_beats-count-requires : goal.whole_beats-count-requires
+whole_beats-count-requires g c = (
+  c.requires.0.near,
+  c.requires.0.far,
+  same-small c.size-size.result (g.K.Channel.rules.size c.args.beat.now.head) c.size-size.ensures c.requires.0.small,
+  subst (λ z. bytes_per_beat z g.row.V ≤ bytes_per_beat z g.row.W) (sym c.size-size.ensures) c.requires.1,
+)
 
 pub as_mut_slice-requires : goal.as_mut_slice-requires
 as_mut_slice-requires g c = c.requires-raw.1.1.1.1.1.1.0
@@ -157,12 +158,12 @@ further : (n t : ℕ) → t < n → n - (t + 1) < n - t
 further n t lt = omega arith
 
 pub loop-t-smaller : goal.loop-t-smaller
-loop-t-smaller g c = further (c.beat_bytes.result / c.beat_bytes-wide.result) c.loop-t.t c.loop-t-test.true
+loop-t-smaller g c = further c.whole_beats-count.result c.loop-t.t c.loop-t-test.true
 
 pub add_bytes-requires : goal.add_bytes-requires
 add_bytes-requires g c =
-    let near : c.beat_bytes.result ≡ per_beat g.K.Channel.rules c.args.beat.now.head g.row.W = c.beat_bytes.ensures ∙ ap (λ z. bytes_per_beat z g.row.W) c.size-size.ensures in
+    let near : (bytes_per_beat c.size-size.result g.row.W) ≡ per_beat g.K.Channel.rules c.args.beat.now.head g.row.W = ap (λ z. bytes_per_beat z g.row.W) c.size-size.ensures in
     let wide : c.beat_bytes-wide.result ≡ per_beat g.K.Channel.rules c.args.beat.now.head g.row.V = c.beat_bytes-wide.ensures ∙ ap (λ z. bytes_per_beat z g.row.V) c.size-size.ensures in
-    let within : c.beat_bytes.result ≤ g.row.W = bytes-within c.size-size.result g.row.W c.beat_bytes.result c.beat_bytes.ensures in
+    let within : (bytes_per_beat c.size-size.result g.row.W) ≤ g.row.W = bytes-within c.size-size.result g.row.W (bytes_per_beat c.size-size.result g.row.W) refl in
     let fits : c.beat_bytes-wide.result ≤ g.row.V = bytes-within c.size-size.result g.row.V c.beat_bytes-wide.result c.beat_bytes-wide.ensures in
     (c.requires-raw.1.1.1.1.0, (c.requires-raw.1.1.1.1.1.0, (c.requires.0.near, c.requires.0.far, omega (arith, near, wide, c.requires.1, within), fits)))

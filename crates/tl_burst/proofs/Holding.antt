@@ -1,0 +1,28 @@
+-- What a tracker holds through a burst is what the messages of its head have.
+use Rattle.std.proofs.Common.{◌≡◌, ◌+◌, ℕ, false, if◌then◌else◌, Option, None, Some, sym, ap, subst, ◌∙◌, arith}
+use Rattle.tl_msg.specs.Rules.{Rules}
+use Rattle.tl_burst.specs.Messages.{beats_of}
+use Rattle.tl_burst.specs.Tracking.{IsPlace, burst_with, count_in}
+use Rattle.tl_burst.specs.Inner.Holding.{IsHeld, IsHeldIn}
+use Rattle.tl_burst.specs.declared.held.Held.{Held}
+use Rattle.tl_burst.specs.declared.place.Place.{Place}
+
+module _ {H : Type 0} (r : Rules H) (w : ℕ) where
+  -- the beats of a head that is the open burst's
+  pub held-beats : (burst : Option (H × ℕ)) (head : H) (held : Held) → IsHeldIn r w burst held → (open_burst : H × ℕ) → burst ≡ Some open_burst →
+      ((h : H) (count : ℕ) → burst ≡ Some (h, count) → head ≡ h) → held.beats ≡ beats_of r head w
+  held-beats burst head held is (h, count) some same =
+      let it : IsHeld r w h held = subst (λ b. IsHeldIn r w b held) some is in
+      it.beats ∙ ap (λ x. beats_of r x w) (sym (same h count some))
+
+  module _ {K : Type 0} (burst : Option (H × ℕ)) (place : Place K H) (is : IsPlace r w burst place) (more : place.last ≡ false) where
+    after : burst_with place ≡ Some (place.head, place.index + 1)
+    after = ap (λ last. if last then None else Some (place.head, place.index + 1)) more
+
+    -- inside a burst that is not over, its head stays
+    pub goes-on : (h : H) (count : ℕ) → burst ≡ Some (h, count) → Some (h, place.index + 1) ≡ burst_with place
+    goes-on h count at = ap (λ x. Some (x, place.index + 1)) (sym (is.held h count at)) ∙ sym after
+
+    -- outside one, a beat that is not the last opens it
+    pub begins : burst ≡ None → Some (place.head, 1) ≡ burst_with place
+    begins at = let first : place.index ≡ 0 = is.index ∙ ap count_in at in let one : 1 ≡ place.index + 1 = omega (arith, first) in ap (λ n. Some (place.head, n)) one ∙ sym after

@@ -1,0 +1,18 @@
+-- What a tracker holds through a burst beside its head. Only contracts of private functions and the tracker's invariant cite these words.
+use Rattle.std.specs.Prelude.{◌≡◌, ℕ, Option, None, Some}
+use Rattle.tl_msg.specs.Rules.{Rules}
+use Rattle.tl_msg.specs.Faults.{full_mask}
+use Rattle.tl_burst.specs.Messages.{beats_of}
+use Rattle.tl_burst.specs.declared.held.Held.{Held}
+
+module _ {H : Type 0} (r : Rules H) (w : ℕ) where
+  -- what a message with this head has
+  pub record IsHeld (head : H) (held : Held) : Type 0 where
+    pub beats : held.beats ≡ beats_of r head w
+    pub lanes : held.lanes ≡ full_mask r head w
+    pub partial : held.partial ≡ r.partial head
+
+  -- where this burst is open, it is what its message has
+  abbrev pub IsHeldIn : (burst : Option (H × ℕ)) → (held : Held) → Type 0
+  IsHeldIn None held = Unit {0}
+  IsHeldIn (Some burst) held = IsHeld burst.0 held
