@@ -6,8 +6,8 @@ use std::alloc::Global;
 use std::test::Fail;
 use tl_bridge::SyncBridge;
 use tl_msg::ChA;
-use tl_pair::bridge;
 use tl_ring::{BuildFault, SyncPipe, ring_pair};
+use tl_sides::bridge;
 
 /// What is made over rings.
 enum Made {

@@ -26,7 +26,9 @@ mod values;
 
 use std::alloc::Allocator;
 use tl_bridge::SyncBridge;
-use tl_pair::{ClientSide, ManagerSide};
+use tl_msg::Channel;
+use tl_ring::{SendEnd, SyncPipe};
+use tl_sides::{ClientSide, ManagerSide};
 
 /// Lets a bridge go, with all that it holds.
 pub fn let_go<const C: usize, const M: usize, A: Allocator>(bridge: SyncBridge<C, M, A>) {
@@ -40,4 +42,13 @@ pub fn let_sides_go<const C: usize, const M: usize, A: Allocator>(
 ) {
     drop(client);
     drop(manager);
+}
+
+/// Lets the pipe of a channel go, and an end of another one that sends, with all that they hold.
+pub fn let_ends_go<K: Channel, const W: usize, const V: usize, A: Allocator>(
+    pipe: SyncPipe<K, W, V, A>,
+    send: SendEnd<K, W, V, A>,
+) {
+    drop(pipe);
+    drop(send);
 }

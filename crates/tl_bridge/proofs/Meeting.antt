@@ -16,8 +16,8 @@ use Rattle.tl_settle.specs.Settling.{far_a, far_d}
 use Rattle.tl_settle.specs.Outcomes.{Beats}
 use Rattle.tl_sides.specs.Bridges.{StandsFor}
 use Rattle.tl_sides.specs.declared.per_channel.PerChannel.{PerChannel}
-use Rattle.tl_pair.specs.Ends.{AreStanding}
-use Rattle.tl_pair.specs.Sides.{ClientState, ManagerState, ClientPast, ManagerPast, ClientStandsFor, ManagerStandsFor, AreSides, SidesMeet, new_client, new_manager}
+use Rattle.tl_sides.specs.Ends.{AreStanding}
+use Rattle.tl_sides.specs.Sides.{ClientState, ManagerState, ClientPast, ManagerPast, ClientStandsFor, ManagerStandsFor, AreSides, SidesMeet, new_client, new_manager}
 use Rattle.tl_run.specs.Arrivals.{no_beats}
 use Rattle.tl_run.specs.Scripts.{IsShort}
 use Rattle.tl_run.specs.Inner.Arriving.{HasRoomFor, beats_of}
@@ -43,9 +43,8 @@ module _ {K A H : Type 0} (r : Rules H) {w v : ℕ} (s : Sending K A H v) (t : T
   -- both ends are as a pipe
   met-pipe : piping.StandsFor r (pipe_of s t) (seen_by r t x taken)
   met-pipe = record {
-    near = m.sends.pipe.near;
-    far = m.sends.pipe.far;
-    converter = m.sends.pipe.converter;
+    outbox = m.outbox;
+    some_room = m.sends.some_room;
     room = m.sends.pipe.room;
     stage = m.sends.pipe.stage;
     ring = refl;

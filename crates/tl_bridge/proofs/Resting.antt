@@ -18,8 +18,8 @@ use Rattle.tl_settle.specs.Histories.{Event, client_answer, manager_answer, mana
 use Rattle.tl_settle.specs.Outcomes.{Beats}
 use Rattle.tl_sides.specs.Crossings.{stops_alone}
 use Rattle.tl_sides.specs.declared.per_channel.PerChannel.{PerChannel}
-use Rattle.tl_pair.specs.Ends.{Pumps, Fetches, AreStanding, pump_count, fetch_count}
-use Rattle.tl_pair.specs.Sides.{ClientState, ManagerState}
+use Rattle.tl_sides.specs.Ends.{Pumps, Fetches, AreStanding, pump_count, fetch_count}
+use Rattle.tl_sides.specs.Sides.{ClientState, ManagerState}
 use Rattle.tl_run.specs.Inner.Running.{Does, IsSent, IsStopped, standing_count, steps}
 use Rattle.tl_bridge.specs.Inner.Sides.{SameClientEnds, SameManagerEnds, ClientHasOffered, ManagerHasOffered, ClientIsAt, ManagerIsAt, ClientRests, ManagerRests, SendRests, TakeRests, all_steps}
 use Rattle.tl_run.specs.declared.channel_state.Offered.{Offered}

@@ -4,9 +4,9 @@ use Rattle.std.proofs.lemmas.List.{length-take}
 use Rattle.tl_ring.specs.Ends.{Sending, Taking, SameSend, SameTake, sent, received}
 use Rattle.tl_ring.proofs.Same.{same_send, same_take}
 use Rattle.tl_sides.specs.declared.per_channel.PerChannel.{PerChannel}
-use Rattle.tl_pair.specs.Ends.{Pumps, Fetches, pump_count, fetch_count}
-use Rattle.tl_pair.specs.Sides.{ClientState, ManagerState, SameClient, SameManager}
-use Rattle.tl_pair.proofs.SameSides.{same_client_then, same_manager_then}
+use Rattle.tl_sides.specs.Ends.{Pumps, Fetches, pump_count, fetch_count}
+use Rattle.tl_sides.specs.Sides.{ClientState, ManagerState, SameClient, SameManager}
+use Rattle.tl_sides.proofs.SameSides.{same_client_then, same_manager_then}
 use Rattle.tl_run.specs.Inner.Running.{counted, steps}
 use Rattle.tl_bridge.specs.Inner.Sides.{SameClientEnds, SameManagerEnds, Goes, ClientGoes, ManagerGoes, client_progress, manager_progress, all_steps}
 use Rattle.tl_run.specs.declared.channel_state.Offered.{Offered}

@@ -1,7 +1,7 @@
 -- A side has taken all that stood in its inboxes, one after another.
 use Rattle.std.proofs.Common.{◌≡◌, ◌++◌, ℕ, vec_capacity, ap, subst, ◌∙◌}
-use Rattle.tl_pair.specs.Sides.{ClientState, ManagerState, ClientStandsFor, ManagerStandsFor}
-use Rattle.tl_pair.specs.Sides.{client_takes_b, client_takes_d, manager_takes_a, manager_takes_c, manager_takes_e}
+use Rattle.tl_sides.specs.Sides.{ClientState, ManagerState, ClientStandsFor, ManagerStandsFor}
+use Rattle.tl_sides.specs.Sides.{client_takes_b, client_takes_d, manager_takes_a, manager_takes_c, manager_takes_e}
 use Rattle.tl_bridge.specs.Inner.Sides.{ClientHasTaken, ManagerHasTaken}
 use Rattle.tl_bridge.specs.Inner.Taking.{Took, but_a, but_b, but_c, but_d, but_e}
 use Rattle.tl_bridge.specs.declared.client_turns.ClientRun.{ClientRun}

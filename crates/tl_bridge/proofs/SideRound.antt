@@ -16,8 +16,8 @@ use Rattle.tl_settle.specs.Outcomes.{Beats}
 use Rattle.tl_sides.specs.Crossings.{stops_alone}
 use Rattle.tl_sides.proofs.BridgeSteps.{asked_answers, answered_asks}
 use Rattle.tl_sides.specs.declared.per_channel.PerChannel.{PerChannel}
-use Rattle.tl_pair.specs.Sides.{ClientState, ManagerState, ClientStandsFor, ManagerStandsFor, client_pumps, manager_pumps}
-use Rattle.tl_pair.specs.Sides.{client_takes_b, client_takes_d, manager_takes_a, manager_takes_c, manager_takes_e}
+use Rattle.tl_sides.specs.Sides.{ClientState, ManagerState, ClientStandsFor, ManagerStandsFor, client_pumps, manager_pumps}
+use Rattle.tl_sides.specs.Sides.{client_takes_b, client_takes_d, manager_takes_a, manager_takes_c, manager_takes_e}
 use Rattle.tl_run.specs.Inner.Running.{counted, steps}
 use Rattle.tl_bridge.specs.Inner.Sides.{ClientIsAt, ManagerIsAt, ClientHasOffered, ManagerHasOffered, none_ready}
 use Rattle.tl_run.specs.declared.channel_state.Offered.{Offered}

@@ -6,8 +6,8 @@ use denote.Param.{layout, param, number}
 use prog.Memory.{size}
 use Rattle.std.specs.contracts.alloc.Global as global
 use Rattle.std.specs.contracts.impls.GlobalAllocator.TheImpl as allocator
-use Rattle.tl_pair.specs.contracts.client_side.ClientSide as client
-use Rattle.tl_pair.specs.contracts.manager_side.ManagerSide as manager
+use Rattle.tl_sides.specs.contracts.client_side.ClientSide as client
+use Rattle.tl_sides.specs.contracts.manager_side.ManagerSide as manager
 use Rattle.tl_bridge.specs.contracts.client_turns.ClientRun as client_run
 use Rattle.tl_bridge.specs.contracts.manager_turns.ManagerRun as manager_run
 

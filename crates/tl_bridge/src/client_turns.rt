@@ -5,7 +5,7 @@ ghost use Rattle.tl_msg.specs.declared.head.HeadB.{HeadB};
 ghost use Rattle.tl_msg.specs.declared.head.HeadD.{HeadD};
 ghost use Rattle.tl_msg.specs.declared.beat.BeatOf.{BeatOf};
 ghost use Rattle.tl_settle.specs.Histories.{Event};
-ghost use Rattle.tl_pair.specs.Sides.{ClientPast, ClientStandsFor};
+ghost use Rattle.tl_sides.specs.Sides.{ClientPast, ClientStandsFor};
 ghost use Rattle.tl_run.specs.Scripts.{HasShortLists, near_beats};
 ghost use Rattle.tl_run.specs.declared.channel_state.Offered.TheVariants.{NotReady};
 ghost use Rattle.tl_run.specs.Inner.Widths.{AreWidths};
@@ -17,9 +17,8 @@ use crate::inboxes::take_all;
 use crate::side_offers::{offer_next_a, offer_next_c, offer_next_e};
 use crate::turns::Turn;
 use tl_msg::{Beat, ChA, ChB, ChC, ChD, ChE};
-use tl_pair::ClientSide;
 use tl_run::Offered;
-use tl_sides::PerChannel;
+use tl_sides::{ClientSide, PerChannel};
 use tl_trace::Script;
 
 /// What the client's thread holds for a whole run: its side, and the far beats that it has taken, in

@@ -1,11 +1,11 @@
 //! The inboxes of the two sides of a run in two threads.
 ghost use Rattle.std.specs.Prelude.{◌≡◌, ◌+◌, ◌++◌, ◌≤◌, List, [], length, vec_len, vec_capacity};
 ghost use Rattle.tl_lanes.specs.Lanes.{IsWidth};
-ghost use Rattle.tl_pair.specs.Sides.{ClientStandsFor, ManagerStandsFor, client_takes_b, client_takes_d, manager_takes_a, manager_takes_c, manager_takes_e};
+ghost use Rattle.tl_sides.specs.Sides.{ClientStandsFor, ManagerStandsFor, client_takes_b, client_takes_d, manager_takes_a, manager_takes_c, manager_takes_e};
 ghost use Rattle.tl_bridge.specs.Inner.Taking.{Took, TookFirst, took_none, took_then, but_a, but_b, but_c, but_d, but_e, no_a, no_b, no_c, no_d, no_e, then_a, then_b, then_c, then_d, then_e};
 
 use tl_msg::{BeatOf, HeadA, HeadB, HeadC, HeadD, HeadE};
-use tl_pair::{ClientSide, ManagerSide};
+use tl_sides::{ClientSide, ManagerSide};
 
 /// What takes beats `B` from one of its inboxes, one after another.
 pub(crate) trait Takes<B> {

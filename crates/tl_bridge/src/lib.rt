@@ -17,7 +17,9 @@ mod turns;
 
 pub use gates::{Gate, NoGate};
 pub use threads_run::run_threads;
-pub use tl_pair::{ClientSide, ManagerSide, bridge, meet_sides};
-pub use tl_run::{Arrivals, Ending, Outcome, RunFault, run_sync, run_sync_into};
+pub use tl_run::{Ending, FarSink, Outcome, RunFault, run_sync, run_sync_into};
 pub use tl_settle::laws;
-pub use tl_sides::{PerChannel, Request, RequestTable, SourceTable, Standings, SyncBridge};
+pub use tl_sides::{
+    ClientSide, ManagerSide, PerChannel, Request, RequestTable, SourceTable, Standings, SyncBridge,
+    bridge, meet_sides,
+};

@@ -6,7 +6,7 @@ ghost use Rattle.tl_msg.specs.declared.head.HeadC.{HeadC};
 ghost use Rattle.tl_msg.specs.declared.head.HeadE.{HeadE};
 ghost use Rattle.tl_msg.specs.declared.beat.BeatOf.{BeatOf};
 ghost use Rattle.tl_settle.specs.Histories.{Event};
-ghost use Rattle.tl_pair.specs.Sides.{ManagerPast, ManagerStandsFor};
+ghost use Rattle.tl_sides.specs.Sides.{ManagerPast, ManagerStandsFor};
 ghost use Rattle.tl_run.specs.Scripts.{HasShortLists, near_beats};
 ghost use Rattle.tl_run.specs.declared.channel_state.Offered.TheVariants.{NotReady};
 ghost use Rattle.tl_run.specs.Inner.Widths.{AreWidths};
@@ -18,9 +18,8 @@ use crate::inboxes::take_all;
 use crate::side_offers::{offer_next_b, offer_next_d};
 use crate::turns::Turn;
 use tl_msg::{Beat, ChA, ChB, ChC, ChD, ChE};
-use tl_pair::ManagerSide;
 use tl_run::Offered;
-use tl_sides::PerChannel;
+use tl_sides::{ManagerSide, PerChannel};
 use tl_trace::Script;
 
 /// What the manager's thread holds for a whole run: its side, and the far beats that it has taken,

@@ -5,8 +5,8 @@ ghost use Rattle.tl_run.specs.Inner.Offering.{OffersNext};
 ghost use Rattle.tl_bridge.specs.Inner.Offering.{on_a, on_b, on_c, on_d, on_e};
 
 use tl_msg::{BeatOf, HeadA, HeadB, HeadC, HeadD, HeadE};
-use tl_pair::{ClientSide, ManagerSide};
 use tl_run::{Offered, next_offer};
+use tl_sides::{ClientSide, ManagerSide};
 
 // A side offers the next beat of a list of one of its channels, of which `at` were accepted, where the
 // channel is ready. Where no beat is left, it closes the channel.

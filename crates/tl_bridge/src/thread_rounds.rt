@@ -13,9 +13,8 @@ use crate::gates::Gate;
 use crate::manager_turns::{self, ManagerRun};
 use crate::turns::{Turn, either};
 use std::thread::{Threads, join_mut};
-use tl_pair::meet_sides;
 use tl_run::{End, Offered, Stop, all_stops, are_empty};
-use tl_sides::{PerChannel, Standings};
+use tl_sides::{PerChannel, Standings, meet_sides};
 use tl_trace::Script;
 
 /// What both sides have done in a round: how many beats of each channel were accepted after it, what

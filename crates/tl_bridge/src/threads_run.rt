@@ -25,9 +25,9 @@ use tl_trace::Script;
 /// of [`run_sync`](crate::run_sync).
 ///
 /// The run is made of rounds. In each, each side passes its gate, takes all that stood in its
-/// inboxes when the two sides met last, and then `turns` times offers the next beat of each of its
-/// channels that is ready, moves staged beats into its rings, and beats of the other side's rings
-/// into its inboxes. Both sides do so at the same time; then they meet. A refused beat stays next.
+/// inboxes when the two sides met last, and then up to `turns` times, until one in which nothing
+/// moves, offers the next beat of each of its channels that is ready, moves staged beats into its
+/// rings, and beats of the other side's rings into its inboxes. Both sides do so at the same time; then they meet. A refused beat stays next.
 /// A channel whose list is used up between two messages is closed. The run ends after the first
 /// round in which no beat was accepted and after which nothing is under way.
 ///
@@ -54,7 +54,7 @@ pub fn run_threads<R: Threads, G: Gate + Send, H: Gate + Send, const C: usize, c
         ((ring ≡ 0) ⊎ (MAX_RING < ring))) }
     ensures never_stalled { IfErr result (λ fault. fault ≢ Stalled) }
 {
-    let (client, manager) = match tl_pair::bridge::<C, M, Global>(alloc, ring) {
+    let (client, manager) = match tl_sides::bridge::<C, M, Global>(alloc, ring) {
         Ok(sides) => sides,
         Err(fault) => return Err(RunFault::from(fault)),
     };

@@ -1,6 +1,8 @@
 -- What an answer shows, and what holds of no item.
-use Rattle.std.specs.Prelude.{◌≡◌, ◌≤◌, ◌<◌, ◌∷◌, Option, None, Some, IfSome, List, [], All, length, drop, slice_get}
-use Rattle.std.proofs.Common.{◌⊎◌, ◌||◌, Bool, true, false, inl, inr, get_or, subst, refl, ap, arith}
+use Rattle.std.specs.Prelude.{◌≡◌, ◌≤◌, ◌<◌, ◌∷◌, ◌++◌, Option, None, Some, IfSome, Result, Ok, Err, IsOk, OnOk, OnErr, List, [], All, length, drop, slice_get}
+use Rattle.std.proofs.Common.{◌⊎◌, ◌||◌, Bool, true, false, inl, inr, get_or, subst, refl, sym, ap, arith}
+use Rattle.std.proofs.lemmas.List.Elements.{All-take, All-drop}
+use Rattle.std.proofs.Math.Seq.{take-append_seam, drop-append_seam}
 
 -- what holds of each item of a list holds of the first one, if there is one
 pub first_of_all : {A : Type 0} (P : A → Type 0) (xs : List A) (first : Option A) → first ≡ slice_get xs 0 → All P xs → IfSome first P
@@ -33,3 +35,19 @@ only_item (y ∷ (z ∷ zs)) x some one e = absurd (omega arith)
 pub one_of_two : (a b : Bool) → (a || b) ≡ true → (a ≡ true) ⊎ (b ≡ true)
 one_of_two true b one = inl refl
 one_of_two false b one = inr one
+
+-- what holds of each item of two lists joined holds of each of either
+pub all_in_front : {A : Type 0} (P : A → Type 0) (xs ys all : List A) → xs ++ ys ≡ all → All P all → All P xs
+all_in_front P xs ys all e h = rw (take-append_seam xs ys) at (All-take P (length xs) (xs ++ ys) (subst (All P) (sym e) h))
+
+pub all_behind : {A : Type 0} (P : A → Type 0) (xs ys all : List A) → xs ++ ys ≡ all → All P all → All P ys
+all_behind P xs ys all e h = rw (drop-append_seam xs ys) at (All-drop P (length xs) (xs ++ ys) (subst (All P) (sym e) h))
+
+-- what goes on in an answer that is Ok, and in one that is not
+pub on_ok : {A E : Type 0} {P Q : Type 0} (answer : Result A E) → (IsOk answer → P → Q) → OnOk answer P → OnOk answer Q
+on_ok (Ok a) goes p = goes refl p
+on_ok (Err e) goes p = tt
+
+pub on_err : {A E : Type 0} {P Q : Type 0} (answer : Result A E) → (P → Q) → OnErr answer P → OnErr answer Q
+on_err (Ok a) goes p = tt
+on_err (Err e) goes p = goes p

@@ -1,54 +1,24 @@
 -- Each call of a sending end takes it to where its crossing is after the same event, and a meeting makes one crossing of both ends.
-use Rattle.std.proofs.Common.{◌≡◌, ◌≤◌, ◌<◌, ◌+◌, ◌^◌, ℕ, Bool, zero, suc, true, false, List, [], ◌∷◌, ◌++◌, length, take, drop, min, refl, sym, ap, subst, ◌∙◌, arith, ⊎_elim, append_assoc, append-nil, length-append}
+use Rattle.std.proofs.Common.{◌≡◌, ◌≤◌, ◌<◌, ◌+◌, ℕ, true, false, List, [], ◌∷◌, ◌++◌, length, take, drop, min, refl, sym, ap, subst, ◌∙◌, arith, ⊎_elim, append_assoc, length-append}
 use Rattle.std.proofs.lemmas.Bool.{cases_lt}
 use mathlib.Core.List.{IsPrefix}
 use Rattle.rtrb.specs.Ring as rtrb
 use Rattle.rtrb.specs.declared.producer.Producer.{Producer}
 use Rattle.rtrb.specs.declared.consumer.Consumer.{Consumer}
-use Rattle.tl_lanes.specs.Lanes.{IsWidth}
-use Rattle.tl_msg.specs.Beats.{IsBeat}
 use Rattle.tl_msg.specs.Rules.{Rules}
 use Rattle.tl_msg.specs.declared.beat.BeatOf.{BeatOf}
-use Rattle.tl_burst.specs.Handing.{IsAdmitted, rest_of, homes_with}
-use Rattle.tl_convert.specs.Converting.{Progress}
-use Rattle.tl_convert.specs.Converting as converting
-use Rattle.tl_convert.specs.Due.{due}
-use Rattle.tl_ring.specs.Crossing.{World, empty, offered, shut, inbox_room, IsReached}
-use Rattle.tl_ring.specs.Ends.{ArePair, Sending, as_pipe, Taking, Ended, Sends, Takes, Pushed, Fetched, Met, Meets, Shows, Shown, LookedAfter, IsReceiptOf, Finishes, SameTake, sent, room, known_items, received, passed, closing, took_first}
+use Rattle.tl_burst.specs.Handing.{rest_of, homes_with}
+use Rattle.tl_ring.specs.Boxes.{Outgoing, HasSent}
+use Rattle.tl_ring.specs.Crossing.{World, empty, offered, shut, inbox_room}
+use Rattle.tl_ring.specs.Ends.{ArePair, Sending, as_pipe, Taking, Ended, Sends, Takes, Fetched, Met, Meets, Shows, Shown, LookedAfter, IsReceiptOf, Finishes, SameTake, sent, room, known_items, received, passed, closing, sending_of}
 use Rattle.tl_ring.specs.Laws.{Crosses}
-use Rattle.tl_ring.specs.Pipe.{Pipe, StandsFor}
+use Rattle.tl_ring.specs.Pipe.{Pipe, StandsFor, outbox_of}
 use Rattle.tl_ring.specs.declared.lawful.LawfulAt.{LawfulAt}
-use Rattle.tl_ring.proofs.Moves.{cut_moves}
-use Rattle.tl_ring.proofs.Parting.{into_taken, reached_parted}
-use Rattle.tl_ring.proofs.PipeSteps.{stands_new, stands_offered, stands_shut}
-use Rattle.tl_ring.proofs.Crossings.{crosses}
-
--- where inbox and ring are empty, all that was sent was taken
-none_on_the_way : {X : Type 0} (taken inbox ring : List X) → inbox ≡ [] → ring ≡ [] → taken ++ inbox ++ ring ≡ taken
-none_on_the_way taken inbox ring no_inbox no_ring =
-    ap (λ t. taken ++ inbox ++ t) no_ring ∙ append-nil (taken ++ inbox) ∙ ap (λ t. taken ++ t) no_inbox ∙ append-nil taken
+use Rattle.tl_ring.proofs.Parting.{reached_parted}
+use Rattle.tl_ring.proofs.Boxes.{none_on_the_way, has_more_sent}
+use Rattle.tl_ring.proofs.PipeSteps.{stands_of, stands_new, stands_offered, stands_shut}
 
 module _ {H : Type 0} (r : Rules H) {w v : ℕ} where
-  -- staged beats pass through the ring one by one
-  reached_passed : (k : ℕ) (stage : List (BeatOf H v)) (x : World H w v) → x.stage ≡ stage → x.ring ≡ [] → x.inbox ≡ [] → 1 ≤ x.room →
-      IsReached r x → IsReached r (record x { stage = drop k stage; taken = x.taken ++ take k stage })
-  reached_passed zero stage x staged no_ring no_inbox room h =
-      let e : x ≡ record x { stage = stage; taken = x.taken ++ [] } =
-      λ i. record x { stage = staged i; taken = sym (append-nil x.taken) i } in
-      subst (λ (y : World H w v). IsReached r y) e h
-  reached_passed (suc k) [] x staged no_ring no_inbox room h =
-      let e : x ≡ record x { stage = []; taken = x.taken ++ [] } =
-      λ i. record x { stage = staged i; taken = sym (append-nil x.taken) i } in
-      subst (λ (y : World H w v). IsReached r y) e h
-  reached_passed (suc k) (b ∷ more) x staged no_ring no_inbox room h =
-      let next : IsReached r (record x { stage = drop k more; ring = []; inbox = []; taken = (x.taken ++ b ∷ []) ++ take k more }) =
-      reached_passed k more (record x { stage = more; ring = []; inbox = []; taken = x.taken ++ b ∷ [] }) refl refl refl room
-      (into_taken r x b more staged no_ring no_inbox room h) in
-      let e : record x { stage = drop k more; ring = []; inbox = []; taken = (x.taken ++ b ∷ []) ++ take k more } ≡
-      record x { stage = drop k more; taken = x.taken ++ (b ∷ take k more) } =
-      λ i. record x { stage = drop k more; ring = sym no_ring i; inbox = sym no_inbox i; taken = append_assoc x.taken (b ∷ []) (take k more) i } in
-      subst (λ (y : World H w v). IsReached r y) e next
-
   -- what holds at every moment goes on to another parting of the same beats
   pub Crosses-parted : (x : World H w v) → (taken inbox ring : List (BeatOf H v)) → x.taken ++ x.inbox ++ x.ring ≡ taken ++ inbox ++ ring →
       x.ring ≡ [] → x.inbox ≡ [] → length inbox ≤ inbox_room → length ring ≤ x.room → Crosses r x → Crosses r (record x { ring = ring; inbox = inbox; taken = taken })
@@ -66,21 +36,19 @@ module _ {H : Type 0} (r : Rules H) {w v : ℕ} where
   }
 
 module _ {K A H : Type 0} (r : Rules H) {w v : ℕ} (partial_masked : (h : H) → r.partial h ≡ true → r.masked ≡ true) where
-  pub sends_new : (s : Sending K A H v) (size : ℕ) → IsWidth w → IsWidth v → 1 ≤ size → converting.StandsFor {w = w} r s.converter [] [] → s.stage ≡ [] →
+  pub sends_new : (s : Sending K A H v) (size : ℕ) → 1 ≤ size → HasSent r {w = w} (outbox_of (as_pipe s)) [] [] [] → s.stage ≡ [] →
       sent s ≡ [] → room s ≡ size → s.closed ≡ false → Sends r s (empty {w = w} size)
-  sends_new s size near far some converts none_staged none_sent room open_yet = record {
-    pipe = stands_new r partial_masked (as_pipe s) size near far converts room none_staged refl refl open_yet;
+  sends_new s size some h none_staged none_sent room open_yet = record {
+    pipe = stands_new r partial_masked (as_pipe s) size some h room none_staged refl refl open_yet;
     sent = none_sent;
     some_room = some;
   }
 
-  pub sends_offered : (s : Sending K A H v) (x : World H w v) (b : BeatOf H w) (home : ℕ) (c : Progress H v) (out : List (BeatOf H v)) →
-      IsBeat r b → r.lane_address b.head home < 2 ^ 64 → IsAdmitted r x.accepted b → s.stage ≡ [] → s.closed ≡ false →
-      converting.StandsFor r c (x.accepted ++ b ∷ []) (homes_with r x.accepted x.homes b home) →
-      due r w v (x.accepted ++ b ∷ []) (homes_with r x.accepted x.homes b home) ≡ due r w v x.accepted x.homes ++ out → Sends r s x →
-      Sends r (record s { converter = c; stage = out }) (offered r b home x)
-  sends_offered s x b home c out is_beat small admitted none_staged open_yet converts more h = record {
-    pipe = stands_offered r partial_masked (as_pipe s) x b home c out is_beat small admitted none_staged open_yet converts more h.pipe;
+  pub sends_offered : (s : Sending K A H v) (x : World H w v) (b : BeatOf H w) (home : ℕ) (o : Outgoing H v) → s.stage ≡ [] → s.closed ≡ false → o.closed ≡ false →
+      HasSent r o (x.accepted ++ b ∷ []) (homes_with r x.accepted x.homes b home) (x.taken ++ x.inbox ++ x.ring) → Sends r s x →
+      Sends r (sending_of o s.producer) (offered r b home x)
+  sends_offered s x b home o none_staged still still' h' h = record {
+    pipe = stands_offered r partial_masked (as_pipe s) x b home o none_staged still still' h' h.pipe;
     sent = h.sent;
     some_room = h.some_room;
   }
@@ -97,26 +65,23 @@ module _ {K A H : Type 0} (r : Rules H) {w v : ℕ} (partial_masked : (h : H) �
       sent s' ≡ sent s ++ take k s.stage → room s' ≡ room s → s'.closed ≡ s.closed → Sends r s x → Sends r s' (passed k x)
   sends_passed k s s' x converter staged sends room closed h =
       let p = h.pipe in
-      let c = p.crosses in
+      let all : List (BeatOf H v) = x.taken ++ x.inbox ++ x.ring in
       let more : List (BeatOf H v) = take k x.stage in
-      let none : x.taken ++ x.inbox ++ x.ring ≡ x.taken = none_on_the_way x.taken x.inbox x.ring (sym p.inbox) (sym p.ring) in
+      let none : all ≡ x.taken = none_on_the_way x.taken x.inbox x.ring (sym p.inbox) (sym p.ring) in
       let none' : (x.taken ++ more) ++ x.inbox ++ x.ring ≡ x.taken ++ more =
       none_on_the_way (x.taken ++ more) x.inbox x.ring (sym p.inbox) (sym p.ring) in
+      let sent_is : all ++ take k s.stage ≡ (x.taken ++ more) ++ x.inbox ++ x.ring =
+      ap (λ t. t ++ take k s.stage) none ∙ ap (λ t. x.taken ++ take k t) p.stage ∙ sym none' in
+      let o : Outgoing H v = outbox_of (as_pipe s) in
+      let same : record o { stage = drop k o.stage } ≡ outbox_of (as_pipe s') =
+      λ i. record { converter = sym converter i; stage = sym staged i; closed = sym closed i } in
+      let now : HasSent r (outbox_of (as_pipe s')) x.accepted x.homes ((x.taken ++ more) ++ x.inbox ++ x.ring) =
+      subst (λ (q : Outgoing H v). HasSent r q x.accepted x.homes ((x.taken ++ more) ++ x.inbox ++ x.ring)) same
+      (subst (λ t. HasSent r (record o { stage = drop k o.stage }) x.accepted x.homes t) sent_is
+      (has_more_sent r k o x.accepted x.homes all p.outbox)) in
       record {
-        pipe = record {
-          near = p.near;
-          far = p.far;
-          converter = subst (λ (c : Progress H v). converting.StandsFor r c x.accepted x.homes) (sym converter) p.converter;
-          room = room ∙ p.room;
-          stage = staged ∙ ap (λ t. drop k t) p.stage;
-          ring = p.ring;
-          inbox = p.inbox;
-          closed = closed ∙ p.closed;
-          reached = reached_passed r k x.stage x refl (sym p.ring) (sym p.inbox) h.some_room p.reached;
-          crosses = crosses r p.near p.far partial_masked (passed k x) c.messages c.rest c.handed
-              (ap (λ t. t ++ drop k x.stage) none' ∙ cut_moves k x.taken x.stage ∙ ap (λ t. t ++ x.stage) (sym none) ∙ c.beats)
-              c.closed_whole c.ring_room c.inbox_size;
-        };
+        pipe = stands_of r partial_masked (as_pipe s') (passed k x) h.some_room (room ∙ p.room) (staged ∙ ap (λ t. drop k t) p.stage) p.ring p.inbox
+            (closed ∙ p.closed) p.crosses.ring_room p.crosses.inbox_size now;
         sent = sends ∙ ap (λ t. t ++ take k s.stage) h.sent ∙ ap (λ t. x.taken ++ take k t) p.stage;
         some_room = h.some_room;
       }
@@ -142,6 +107,8 @@ module _ {K A H : Type 0} (r : Rules H) {w v : ℕ} where
           some_room = h.some_room;
         };
         takes = now;
+        outbox = subst (λ all. HasSent r (outbox_of (as_pipe s')) x.accepted x.homes all) all
+            (subst (λ (p : Pipe H v). HasSent r (outbox_of p) x.accepted x.homes (x.taken ++ x.inbox ++ x.ring)) (sym still) p.outbox);
         reached = reached_parted r x h.some_room taken t'.inbox (known_items t') all held fits p.reached;
         crosses = Crosses-parted r x taken t'.inbox (known_items t') all (sym p.ring) (sym p.inbox) held fits p.crosses;
       }
@@ -251,38 +218,6 @@ module _ {K A H : Type 0} {v : ℕ} where
   pub takes_fetched : (t t' : Taking K A H v) (k : ℕ) → Fetched t k t' → (taken : List (BeatOf H v)) → Takes t taken → Takes t' taken
   takes_fetched t t' k f taken takes =
       f.received ∙ ap (λ l. l ++ f.moved) takes ∙ append_assoc taken t.inbox f.moved ∙ ap (λ l. taken ++ l) (sym f.inbox)
-
-  pub takes_first : (t : Taking K A H v) (taken : List (BeatOf H v)) → Takes t taken → Takes (took_first t) (taken ++ take 1 t.inbox)
-  takes_first t taken takes = takes ∙ sym (cut_moves 1 taken t.inbox)
-
-  -- a pump and a meeting do the same, whether the end is closed or not
-  pub pushed_alike : (closed : Bool) (k : ℕ) (a b : Sending K A H v) → Pushed a k b → Pushed (record a { closed = closed }) k (record b { closed = closed })
-  pushed_alike closed k a b p = record {
-    ring = p.ring;
-    same_converter = p.same_converter;
-    same_closed = refl;
-    stage = p.stage;
-    more_sent = p.more_sent;
-    known = p.known;
-  }
-
-  pub met_alike : (closed : Bool) (s s' : Sending K A H v) (t t' : Taking K A H v) → Met s t s' t' →
-      Met (record s { closed = closed }) t (record s' { closed = closed }) t'
-  met_alike closed s s' t t' m = record {
-    pair = m.pair;
-    send = m.send;
-    take = m.take;
-    same_converter = m.same_converter;
-    same_stage = m.same_stage;
-    same_closed = refl;
-    same_sent = m.same_sent;
-    same_inbox = m.same_inbox;
-    same_received = m.same_received;
-    ring = m.ring;
-    in_room = m.in_room;
-    free = m.free;
-    all_free = m.all_free;
-  }
 
 module _ {K A H : Type 0} (r : Rules H) {w v : ℕ} where
   -- the receipt of an end shows what the end stands for, and its ring is no larger than the end's

@@ -1,14 +1,13 @@
 -- A field takes no more bytes of memory than its struct, and a beat takes few.
-use Rattle.std.proofs.Common.{ℕ, zero, suc, ◌+◌, ◌*◌, ◌%◌, ◌≡◌, ◌≤◌, ◌<◌, max, sym, subst, arith}
+use Rattle.std.proofs.Common.{ℕ, zero, suc, ◌+◌, ◌*◌, ◌≤◌, ◌<◌, max, arith}
 use Rattle.tl_lanes.specs.Lanes.{IsWidth}
 use Rattle.tl_lanes.proofs.Masks.{mask_width}
 use Rattle.tl_lanes.proofs.Widths.{width_bounds}
 use Rattle.tl_lanes.proofs.Sizes.{align-small, up_le}
 use Rattle.tl_ring.specs.declared.queue.TheConstants.{ROOM}
-use mir.Syntax.{Ty, Tys, Width, w8, w16, w32, w64, w128, tnil, tcons, ttcons, ty_struct, ty_enum, ty_int, ty_unit}
-use mir.Val.{bytes}
+use mir.Syntax.{Ty, Tys, tnil, tcons, ttcons, ty_struct, ty_enum, ty_int, ty_unit}
 use prog.Memory.{size, align, aligns, alignss, up, end_of, endss}
-use prog.Align.{up-ge, end_ge, dv→, align_w, align-bytes, align_size}
+use prog.Align.{up-ge, end_ge}
 
 abbrev pub field_of : Tys → ℕ → Ty
 field_of tnil k = ty_unit
@@ -33,20 +32,6 @@ part_small t k n small = omega arith
 -- nor does a field of a field
 pub inner_small : (t : Ty) (k j n : ℕ) → size t < n → size (part (part t k) j) < n
 inner_small t k j n small = part_small (part t k) j n (part_small t k n small)
-
--- a struct of one field alone, of s bytes, takes as many: they are a multiple of its alignment
-alone_same : (w : Width) (s : ℕ) → s % bytes w ≡ 0 → up (max (bytes w) 1) (up (bytes w) 0 + s) ≡ s
-alone_same w8 s whole = omega arith
-alone_same w16 s whole = omega arith
-alone_same w32 s whole = omega arith
-alone_same w64 s whole = omega arith
-alone_same w128 s whole = omega arith
-
--- so it takes no more bytes than its field
-pub alone_small : (t : Ty) (n : ℕ) → size t < n → up (max (align t) 1) (up (align t) 0 + size t) < n
-alone_small t n small =
-    let whole = subst (λ a. size t % a ≡ 0) (align-bytes t) (dv→ (align t) (size t) (align_size t)) in
-    subst (λ a. up (max a 1) (up a 0 + size t) < n) (sym (align-bytes t)) (subst (λ bytes. bytes < n) (sym (alone_same (align_w t) (size t) whole)) small)
 
 -- the type of the first variant's first field
 abbrev pub first_part : Ty → Ty

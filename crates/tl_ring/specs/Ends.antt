@@ -8,9 +8,10 @@ use Rattle.rtrb.specs.declared.consumer.Consumer.{Consumer}
 use Rattle.tl_msg.specs.Rules.{Rules}
 use Rattle.tl_msg.specs.declared.beat.BeatOf.{BeatOf}
 use Rattle.tl_convert.specs.Converting.{Progress}
+use Rattle.tl_ring.specs.Boxes.{Outgoing, HasSent, HasTaken}
 use Rattle.tl_ring.specs.Crossing.{World, IsReached}
 use Rattle.tl_ring.specs.Laws.{Crosses}
-use Rattle.tl_ring.specs.Pipe.{Pipe, StandsFor}
+use Rattle.tl_ring.specs.Pipe.{Pipe, StandsFor, outbox_of}
 use Rattle.tl_ring.specs.declared.lawful.LawfulAt.{LawfulAt}
 
 -- a ring as each of its ends has it
@@ -104,6 +105,14 @@ module _ {K A H : Type 0} {v : ℕ} where
   abbrev pub as_pipe : Sending K A H v → Pipe H v
   as_pipe s = record { converter = s.converter; room = room s; stage = s.stage; ring = []; inbox = []; closed = s.closed }
 
+  -- the sending end of an outbox and its half of a ring
+  abbrev pub sending_of : Outgoing H v → SendHalf K A H v → Sending K A H v
+  sending_of o half = record { converter = o.converter; stage = o.stage; producer = half; closed = o.closed }
+
+  -- the taking end of an inbox and its half of a ring
+  abbrev pub taking_of : (inbox : List (BeatOf H v)) → TakeHalf K A H v → Taking K A H v
+  taking_of inbox half = record { inbox = inbox; consumer = half }
+
   -- the end is offered no more beats
   abbrev pub closing : Sending K A H v → Sending K A H v
   closing s = record s { closed = true }
@@ -149,7 +158,7 @@ module _ {K A H : Type 0} {v : ℕ} where
 
   -- the beats that were taken, and those in the inbox, are those that came out of the ring
   abbrev pub Takes : Taking K A H v → (taken : List (BeatOf H v)) → Type 0
-  Takes t taken = received t ≡ taken ++ t.inbox
+  Takes t taken = HasTaken t.inbox (received t) taken
 
   -- b is a after k beats came out of the ring, which hold those that were known to be there
   pub record Fetched (a : Taking K A H v) (k : ℕ) (b : Taking K A H v) : Type 0 where
@@ -182,6 +191,8 @@ module _ {K A H : Type 0} (r : Rules H) {w v : ℕ} where
     -- each end still stands for it
     pub sends : Sends s x
     pub takes : Takes t taken
+    -- what was sent was taken, or stands in the inbox and the ring
+    pub outbox : HasSent r (outbox_of (as_pipe s)) x.accepted x.homes (taken ++ t.inbox ++ known_items t)
     -- both ends, and the ring between them, are one crossing, to which a list of events leads
     pub reached : IsReached r (seen_by t x taken)
     -- and so what was taken, and what stands in the inbox, the ring and the stage, is the far

@@ -12,7 +12,7 @@ module _ {H : Type 0} (r : Rules H) {w v : ℕ} where
   -- what holds at every moment of a crossing
   pub record Crosses (x : World H w v) : Type 0 where
     -- what was taken, and then what stands in the inbox, the ring and the stage, is the far layout of what was accepted:
-    -- each beat once, in order, no burst interrupted
+    -- each beat once, in order (and no burst is interrupted in it, by the law due_is_handed of tl_convert)
     pub beats : x.taken ++ x.inbox ++ x.ring ++ x.stage ≡ due r w v x.accepted x.homes
     -- what was accepted is handed
     pub messages : List (Message H)

@@ -1,3 +1,4 @@
+pub mod Boxes
 pub mod Crossing
 pub mod Ends
 pub mod Laws

@@ -1,11 +1,9 @@
 -- What a contract sees of the one-thread pipe.
-use Rattle.std.specs.Prelude.{◌≡◌, ℕ, Bool, true, false, List, [], All}
-use Rattle.tl_lanes.specs.Lanes.{IsWidth}
+use Rattle.std.specs.Prelude.{◌≡◌, ◌≤◌, ◌++◌, ℕ, Bool, true, false, List, []}
 use Rattle.tl_msg.specs.Rules.{Rules}
-use Rattle.tl_msg.specs.Faults.{IsLawfulBeat}
 use Rattle.tl_msg.specs.declared.beat.BeatOf.{BeatOf}
 use Rattle.tl_convert.specs.Converting.{Progress}
-use Rattle.tl_convert.specs.Converting as converting
+use Rattle.tl_ring.specs.Boxes.{Outgoing, HasSent}
 use Rattle.tl_ring.specs.Crossing.{World, IsReached}
 use Rattle.tl_ring.specs.Laws.{Crosses}
 
@@ -30,16 +28,16 @@ module _ {H : Type 0} {v : ℕ} where
   abbrev pub IsDrained : Pipe H v → Type 0
   IsDrained p = (p.closed ≡ true) × (p.stage ≡ []) × (p.ring ≡ []) × (p.inbox ≡ [])
 
--- beats that are lawful each by itself
-abbrev pub AreLawful : {H : Type 0} → Rules H → {v : ℕ} → List (BeatOf H v) → Type 0
-AreLawful r bs = All (λ b. IsLawfulBeat r b) bs
+-- the part of a pipe that is its sender's
+abbrev pub outbox_of : {H : Type 0} {v : ℕ} → Pipe H v → Outgoing H v
+outbox_of p = record { converter = p.converter; stage = p.stage; closed = p.closed }
 
 -- the pipe stands for a crossing, as its calls so far have made it
 pub record StandsFor {H : Type 0} (r : Rules H) {w v : ℕ} (p : Pipe H v) (x : World H w v) : Type 0 where
-  pub near : IsWidth w
-  pub far : IsWidth v
-  -- its converter was fed what was accepted
-  pub converter : converting.StandsFor r p.converter x.accepted x.homes
+  -- what was accepted went through its outbox, and what was sent from there was taken, or stands in
+  -- the inbox and the ring
+  pub outbox : HasSent r (outbox_of p) x.accepted x.homes (x.taken ++ x.inbox ++ x.ring)
+  pub some_room : 1 ≤ x.room
   -- its beats are those of the crossing
   pub room : p.room ≡ x.room
   pub stage : p.stage ≡ x.stage

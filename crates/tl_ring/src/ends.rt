@@ -1,24 +1,25 @@
 //! The two ends of a crossing between two threads.
 ghost use Rattle.std.specs.Prelude.{◌≡◌, ◌≤◌, ◌-◌, ◌↔◌, ◌++◌, [], List, ℕ, false, length, min, take, slice_get, Some, IsOk, IsTrue, IfOk, IfErr, IfSome, OnOk, OnErr};
+ghost use Rattle.rtrb.specs.Ring as rtrb;
 ghost use Rattle.tl_lanes.specs.Lanes.{IsWidth};
 ghost use Rattle.tl_msg.specs.Faults.{IsLawfulBeat};
 ghost use Rattle.tl_msg.specs.declared.beat.BeatOf.{BeatOf};
 ghost use Rattle.tl_burst.specs.Handing.{IsAdmitted, rest_of, fault_after};
 ghost use Rattle.tl_burst.specs.Tracking.{IsPlaceOf};
 ghost use Rattle.tl_ring.specs.Crossing.{World, empty, offered, shut, inbox_room};
-ghost use Rattle.tl_ring.specs.Ends.{Sends, Takes, Pushed, Fetched, Shows, Shown, LookedAfter, IsReceiptOf, IsReceiptFor, Finishes, TakeHalf, IsNewRing, known_free, known_items, passed, closing, took_first};
+ghost use Rattle.tl_ring.specs.Ends.{Sends, Takes, Pushed, Fetched, Shows, Shown, LookedAfter, IsReceiptOf, IsReceiptFor, Finishes, TakeHalf, IsNewRing, sending_of, known_free, known_items, passed, closing, took_first};
 ghost use Rattle.tl_ring.specs.declared.queue.TheConstants.{ROOM};
 
 use crate::fault::EndFault;
+use crate::halves::{Intake, SendHalf, TakeHalf, receive, send_staged};
+use crate::inbox::Inbox;
 use crate::lawful::LawfulAt;
-use crate::queue::{Queue, ROOM};
-use crate::ring::{SendHalf, TakeHalf};
-use crate::stage::stage_beat;
+use crate::outbox::Outbox;
+use crate::queue::ROOM;
 use rtrb::Finished;
 use std::alloc::{Allocator, Global};
 use std::marker::Model;
 use tl_burst::Place;
-use tl_convert::Converter;
 use tl_msg::{Beat, BeatFault, Channel};
 
 /// The sending end of one channel's crossing, from a bus of `W` bytes to a bus of `V` bytes.
@@ -29,26 +30,19 @@ use tl_msg::{Beat, BeatFault, Channel};
 /// after a crossing between two clocks).
 #[derive(Drop)]
 pub struct SendEnd<K: Channel, const W: usize, const V: usize, A: Allocator = Global> {
-    pub(crate) converter: Converter<K, W, V>,
-    pub(crate) stage: Queue<Beat<K, V>>,
+    pub(crate) outbox: Outbox<K, W, V>,
     pub(crate) producer: SendHalf<K, V, A>,
 }
 
 impl<K: Channel, const W: usize, const V: usize, A: Allocator> Model for SendEnd<K, W, V, A> {
-    ghost use Rattle.std.specs.Prelude.{false};
-    ghost use Rattle.tl_ring.specs.Ends.{Sending};
-    ghost use Rattle.tl_ring.specs.Pipe.{AreLawful};
+    ghost use Rattle.std.specs.Prelude.{◌≡◌, false};
+    ghost use Rattle.tl_ring.specs.Ends.{Sending, sending_of};
 
     ghost Value = { Sending K A K.Head V };
 
-    ghost view = { λ s. record {
-      converter = s.converter;
-      stage = s.stage;
-      producer = s.producer;
-      closed = false;
-    } };
+    ghost view = { λ s. sending_of s.outbox s.producer };
 
-    ghost invariant = { λ s. AreLawful K.rules s.stage };
+    ghost invariant = { λ s. s.outbox.closed ≡ false };
 }
 
 impl<K: Channel, const W: usize, const V: usize, A: Allocator> SendEnd<K, W, V, A> {
@@ -63,8 +57,7 @@ impl<K: Channel, const W: usize, const V: usize, A: Allocator> SendEnd<K, W, V, 
             IsWidth W → IsWidth V → Sends K.rules {w = W} result (empty size) }
     {
         SendEnd {
-            converter: Converter::new(),
-            stage: Queue::new(),
+            outbox: Outbox::new(),
             producer: half,
         }
     }
@@ -73,7 +66,7 @@ impl<K: Channel, const W: usize, const V: usize, A: Allocator> SendEnd<K, W, V, 
     pub fn ready(&self) -> bool
         ensures { IsTrue result ↔ (self.now.stage ≡ []) }
     {
-        self.stage.is_empty()
+        self.outbox.ready()
     }
 
     /// How many far beats are staged.
@@ -81,7 +74,7 @@ impl<K: Channel, const W: usize, const V: usize, A: Allocator> SendEnd<K, W, V, 
         ensures count { result ≡ length self.now.stage }
         ensures most { result ≤ ROOM }
     {
-        self.stage.len()
+        self.outbox.staged()
     }
 
     /// Whether the end may be closed: no burst is unfinished, so [`SendEnd::close`] answers Ok.
@@ -90,7 +83,7 @@ impl<K: Channel, const W: usize, const V: usize, A: Allocator> SendEnd<K, W, V, 
         ensures { (x : World K.Head W V) → Sends K.rules self.now x →
             IsTrue result ↔ (rest_of K.rules W x.accepted ≡ []) }
     {
-        self.converter.at_boundary()
+        self.outbox.may_close()
     }
 
     /// Whether `beat` may be the next near beat, and where it stands in its message. It is refused
@@ -109,7 +102,7 @@ impl<K: Channel, const W: usize, const V: usize, A: Allocator> SendEnd<K, W, V, 
         // for every end
         ensures place { IfOk result (IsPlaceOf K.rules W self.now.converter.burst beat.now) }
     {
-        self.converter.check(beat)
+        self.outbox.check(beat)
     }
 
     /// Offers a near beat where nothing is staged, at its place, which [`SendEnd::check`] gave.
@@ -127,7 +120,7 @@ impl<K: Channel, const W: usize, const V: usize, A: Allocator> SendEnd<K, W, V, 
         ensures ring { self.new.producer ≡ self.old.producer }
         ensures open { self.new.closed ≡ false }
     {
-        stage_beat(&mut self.converter, beat, place, home, &mut self.stage);
+        self.outbox.offer_at(beat, place, home);
     }
 
     /// Offers a near beat where nothing is staged. It is accepted exactly where
@@ -164,10 +157,7 @@ impl<K: Channel, const W: usize, const V: usize, A: Allocator> SendEnd<K, W, V, 
         ensures stands { (x : World K.Head W V) → Sends K.rules self.old x →
             Sends K.rules self.new (passed result x) }
     {
-        let (pushed, _) = self.producer.push_partial_slice(self.stage.as_slice());
-        let count = pushed.len();
-        self.stage.drop_front(count);
-        count
+        send_staged(&mut self.outbox, &mut self.producer)
     }
 
     /// Ends the offers. Refused exactly where a burst is unfinished, and the end then comes back as
@@ -182,10 +172,14 @@ impl<K: Channel, const W: usize, const V: usize, A: Allocator> SendEnd<K, W, V, 
         ensures closed { IfOk result (λ end. end ≡ closing self) }
         ensures refused { IfErr result (λ refusal. refusal.0 ≡ self) }
     {
-        if !self.converter.at_boundary() {
-            return Err((self, EndFault::MidBurst));
+        let SendEnd {
+            mut outbox,
+            producer,
+        } = self;
+        match outbox.close() {
+            Ok(()) => Ok(ClosingEnd { outbox, producer }),
+            Err(fault) => Err((SendEnd { outbox, producer }, fault)),
         }
-        Ok(ClosingEnd { end: self })
     }
 }
 
@@ -193,15 +187,19 @@ impl<K: Channel, const W: usize, const V: usize, A: Allocator> SendEnd<K, W, V, 
 /// then `finish` gives the end up.
 #[derive(Drop)]
 pub struct ClosingEnd<K: Channel, const W: usize, const V: usize, A: Allocator = Global> {
-    pub(crate) end: SendEnd<K, W, V, A>,
+    pub(crate) outbox: Outbox<K, W, V>,
+    pub(crate) producer: SendHalf<K, V, A>,
 }
 
 impl<K: Channel, const W: usize, const V: usize, A: Allocator> Model for ClosingEnd<K, W, V, A> {
-    ghost use Rattle.tl_ring.specs.Ends.{Sending, closing};
+    ghost use Rattle.std.specs.Prelude.{◌≡◌, true};
+    ghost use Rattle.tl_ring.specs.Ends.{Sending, sending_of};
 
     ghost Value = { Sending K A K.Head V };
 
-    ghost view = { λ c. closing c.end };
+    ghost view = { λ c. sending_of c.outbox c.producer };
+
+    ghost invariant = { λ c. c.outbox.closed ≡ true };
 }
 
 impl<K: Channel, const W: usize, const V: usize, A: Allocator> ClosingEnd<K, W, V, A> {
@@ -210,7 +208,7 @@ impl<K: Channel, const W: usize, const V: usize, A: Allocator> ClosingEnd<K, W, 
         ensures count { result ≡ length self.now.stage }
         ensures most { result ≤ ROOM }
     {
-        self.end.staged()
+        self.outbox.staged()
     }
 
     /// Moves staged beats into the ring, as [`SendEnd::pump`] does, and answers their number.
@@ -222,7 +220,7 @@ impl<K: Channel, const W: usize, const V: usize, A: Allocator> ClosingEnd<K, W, 
         ensures stands { (x : World K.Head W V) → Sends K.rules self.old x →
             Sends K.rules self.new (passed result x) }
     {
-        self.end.pump()
+        send_staged(&mut self.outbox, &mut self.producer)
     }
 
     /// Gives up the end where nothing is staged, and answers the receipt that shows the taking end
@@ -237,12 +235,10 @@ impl<K: Channel, const W: usize, const V: usize, A: Allocator> ClosingEnd<K, W, 
         ensures shows { (x : World K.Head W V) → Sends K.rules self x →
             IfSome result (λ receipt. Shows K.rules receipt x) }
     {
-        let ClosingEnd { end } = self;
-        let SendEnd {
-            converter: _,
-            stage: _,
+        let ClosingEnd {
+            outbox: _,
             producer,
-        } = end;
+        } = self;
         match producer.finish() {
             Some(finished) => Some(Receipt { finished }),
             None => None,
@@ -272,21 +268,16 @@ impl<K: Channel, const W: usize, const V: usize, A: Allocator> Model for Receipt
 /// waits for the other end (this project's choice, after a crossing between two clocks).
 #[derive(Drop)]
 pub struct TakeEnd<K: Channel, const W: usize, const V: usize, A: Allocator = Global> {
-    pub(crate) inbox: Queue<Beat<K, V>>,
-    pub(crate) consumer: TakeHalf<K, V, A>,
-    // where beats lie on their way from the ring to the inbox, within a fetch alone
-    pub(crate) passing: [Beat<K, V>; ROOM],
+    pub(crate) inbox: Inbox<K, V>,
+    pub(crate) intake: Intake<K, V, A>,
 }
 
 impl<K: Channel, const W: usize, const V: usize, A: Allocator> Model for TakeEnd<K, W, V, A> {
-    ghost use Rattle.tl_ring.specs.Ends.{Taking};
-    ghost use Rattle.tl_ring.specs.Pipe.{AreLawful};
+    ghost use Rattle.tl_ring.specs.Ends.{Taking, taking_of};
 
     ghost Value = { Taking K A K.Head V };
 
-    ghost view = { λ t. record { inbox = t.inbox; consumer = t.consumer } };
-
-    ghost invariant = { λ t. AreLawful K.rules t.inbox };
+    ghost view = { λ t. taking_of t.inbox t.intake.half };
 }
 
 impl<K: Channel, const W: usize, const V: usize, A: Allocator> TakeEnd<K, W, V, A> {
@@ -296,9 +287,8 @@ impl<K: Channel, const W: usize, const V: usize, A: Allocator> TakeEnd<K, W, V, 
         ensures inbox { result.inbox ≡ [] }
     {
         TakeEnd {
-            inbox: Queue::new(),
-            consumer: half,
-            passing: [Beat::<K, V>::default(); ROOM],
+            inbox: Inbox::new(),
+            intake: Intake::over(half),
         }
     }
 
@@ -313,10 +303,7 @@ impl<K: Channel, const W: usize, const V: usize, A: Allocator> TakeEnd<K, W, V, 
         ensures takes { (taken : List (BeatOf K.Head V)) →
             Takes self.old taken → Takes self.new taken }
     {
-        let room = self.inbox.room();
-        let count = self.consumer.pop_partial_slice(&mut self.passing[..room]);
-        self.inbox.append(&self.passing[..count]);
-        count
+        receive(&mut self.intake, &mut self.inbox)
     }
 
     /// Takes the first beat of the inbox. None exactly where the inbox is empty. Each beat is
@@ -328,12 +315,13 @@ impl<K: Channel, const W: usize, const V: usize, A: Allocator> TakeEnd<K, W, V, 
         ensures takes { (taken : List (BeatOf K.Head V)) → Takes self.old taken →
             Takes self.new (taken ++ take 1 self.old.inbox) }
     {
-        self.inbox.pop_front()
+        self.inbox.take()
     }
 
-    /// Whether ring and inbox are empty, where the receipt is of the other end of the ring: all
-    /// that was accepted has then been taken. This is a meeting, after which the end knows each
-    /// beat that the ring holds. No beat moves.
+    /// Whether ring and inbox are empty, where the receipt is of the other end of the ring. What was
+    /// taken, and then what stands in the inbox and the ring, is the far layout of all that was
+    /// accepted: each beat once, in order; where both are empty, what was taken is that layout. This
+    /// is a meeting, after which the end knows each beat that the ring holds. No beat moves.
     pub fn drained(&mut self, receipt: &mut Receipt<K, W, V, A>) -> bool
         requires { IsReceiptOf receipt.old self.old }
         ensures looked { LookedAfter receipt.old self.old receipt.new self.new }
@@ -343,7 +331,7 @@ impl<K: Channel, const W: usize, const V: usize, A: Allocator> TakeEnd<K, W, V, 
             Shows K.rules receipt.old x → Takes self.old taken →
             Shown K.rules receipt.new self.new x taken }
     {
-        let in_ring = self.consumer.slots_after(&mut receipt.finished);
+        let in_ring = self.intake.half.slots_after(&mut receipt.finished);
         let waiting = self.inbox.len();
         let ring_is_empty = in_ring == 0;
         ring_is_empty & (waiting == 0)

@@ -10,42 +10,11 @@ ghost use Rattle.tl_ring.specs.declared.pipe.TheConstants.{MAX_RING};
 
 use crate::ends::{ClosingEnd, SendEnd, TakeEnd};
 use crate::fault::BuildFault;
-use crate::queue::{Queue, ROOM};
-use crate::ring::new_ring;
+use crate::halves::{look, new_ring};
+use crate::outbox::Outbox;
 use crate::standing::Standing;
-use rtrb::{Consumer, Producer, Protocol};
 use std::alloc::Allocator;
-use tl_convert::Converter;
 use tl_msg::Channel;
-
-// Looks at a ring from both its ends, and answers where the items stand. It is generic in the item, since such a call takes the
-// checker far less time than one that is generic in the channel and asks for a pair.
-fn look<T, A: Allocator, P: Protocol<T>>(
-    producer: &mut Producer<T, A, P>,
-    consumer: &mut Consumer<T, A, P>,
-    stage: &Queue<T>,
-    inbox: &Queue<T>,
-) -> Standing
-    requires { rtrb.IsPair producer.old consumer.old }
-    ensures producer { rtrb.ProducerLooked producer.old producer.new }
-    ensures consumer { rtrb.ConsumerLooked consumer.old consumer.new }
-    ensures staged { result.staged ≡ length stage.now }
-    ensures in_ring { result.in_ring ≡ length (rtrb.known_items consumer.new) }
-    ensures inbox { result.inbox ≡ length inbox.now }
-    ensures most { (result.staged ≤ ROOM) × (result.inbox ≤ ROOM) }
-    ensures fifo { rtrb.received consumer.new ++ rtrb.known_items consumer.new ≡
-        rtrb.sent producer.new }
-    // each place that holds no item is known to be free, and no more items than places are there
-    ensures places { (result.in_ring ≤ rtrb.producer_capacity producer.old) ×
-        (rtrb.producer_capacity producer.old ≤ rtrb.known_free producer.new + result.in_ring) }
-{
-    producer.slots_beside(consumer);
-    Standing {
-        staged: stage.len(),
-        in_ring: consumer.slots_beside(producer),
-        inbox: inbox.len(),
-    }
-}
 
 /// The two ends of one channel's crossing, over a ring of `ring` beats, the only memory that is
 /// taken. Each end may go to a thread of its own. Refused with `RingSize` exactly where `ring` is 0
@@ -70,8 +39,7 @@ pub fn ring_pair<K: Channel, const W: usize, const V: usize, A: Allocator + Copy
         Ok((send, take)) => Ok((
             // (as `over` makes it, whose call takes the checker longer)
             SendEnd {
-                converter: Converter::new(),
-                stage: Queue::new(),
+                outbox: Outbox::new(),
                 producer: send,
             },
             TakeEnd::over(take),
@@ -80,9 +48,11 @@ pub fn ring_pair<K: Channel, const W: usize, const V: usize, A: Allocator + Copy
     }
 }
 
-/// Brings both ends of a pair together, in one thread, and answers where the beats stand. No beat
-/// moves. The taking end then knows each beat that the ring holds, and the sending end each place
-/// that is free. Both ends, and the ring between them, are then one crossing, as a pipe is.
+/// Brings both ends of a pair together, in one thread, and answers where the beats stand. What was
+/// taken, and then what stands in the inbox, the ring and the stage, is the far layout of what was
+/// accepted: each beat once, in order. No beat moves. The taking end then knows each beat that the
+/// ring holds, and the sending end each place that is free. Both ends, and the ring between them,
+/// are then one crossing, as a pipe is.
 pub fn meet<K: Channel, const W: usize, const V: usize, A: Allocator>(
     send: &mut SendEnd<K, W, V, A>,
     take: &mut TakeEnd<K, W, V, A>,
@@ -98,15 +68,15 @@ pub fn meet<K: Channel, const W: usize, const V: usize, A: Allocator>(
         Sends K.rules send.old x → Takes take.old taken →
         Meets K.rules send.new take.new x taken }
 {
-    look(
-        &mut send.producer,
-        &mut take.consumer,
-        &send.stage,
-        &take.inbox,
-    )
+    Standing {
+        staged: send.outbox.staged(),
+        in_ring: look(&mut send.producer, &mut take.intake.half),
+        inbox: take.inbox.len(),
+    }
 }
 
-/// [`meet`] for a sending end that is closed.
+/// [`meet`] for a sending end that is closed: what was taken, and then what stands in the inbox, the
+/// ring and the stage, is the far layout of what was accepted, each beat once, in order.
 pub fn meet_closing<K: Channel, const W: usize, const V: usize, A: Allocator>(
     send: &mut ClosingEnd<K, W, V, A>,
     take: &mut TakeEnd<K, W, V, A>,
@@ -122,10 +92,9 @@ pub fn meet_closing<K: Channel, const W: usize, const V: usize, A: Allocator>(
         Sends K.rules send.old x → Takes take.old taken →
         Meets K.rules send.new take.new x taken }
 {
-    look(
-        &mut send.end.producer,
-        &mut take.consumer,
-        &send.end.stage,
-        &take.inbox,
-    )
+    Standing {
+        staged: send.outbox.staged(),
+        in_ring: look(&mut send.producer, &mut take.intake.half),
+        inbox: take.inbox.len(),
+    }
 }

@@ -1,3 +1,4 @@
+//! The crossing of one channel within one thread.
 ghost use Rattle.std.specs.Prelude.{◌≡◌, ◌≤◌, ◌<◌, ◌-◌, ◌++◌, ◌↔◌, ◌⊎◌, [], length, min, slice_get, true, Some, All, IsOk, IsTrue, IfOk, IfErr, IfSome, OnOk, OnErr};
 ghost use Rattle.tl_lanes.specs.Lanes.{IsWidth};
 ghost use Rattle.tl_msg.specs.Faults.{IsLawfulBeat};
@@ -9,98 +10,47 @@ ghost use Rattle.tl_ring.specs.declared.queue.TheConstants.{ROOM};
 ghost use Rattle.tl_ring.specs.declared.pipe.TheConstants.{MAX_RING};
 
 use crate::fault::{BuildFault, EndFault};
-use crate::queue::{Queue, read_front, write_back};
-use crate::stage::stage_beat;
+use crate::inbox::Inbox;
+use crate::outbox::Outbox;
+use crate::ring::{Ring, fetch, pump};
 use crate::standing::Standing;
-use circular_buffer::HeapCircularBuffer;
 use std::alloc::{Allocator, Global};
 use std::marker::Model;
 use tl_burst::Place;
-use tl_convert::Converter;
 use tl_msg::{Beat, BeatFault, Channel};
 
 /// The most beats that a ring may hold (this project's choice).
 pub const MAX_RING: usize = 4096;
 
-// Whether a ring may hold so many beats.
-pub(crate) fn is_ring_size(ring: usize) -> bool
-    ensures { IsTrue result ↔ ((1 ≤ ring) × (ring ≤ MAX_RING)) }
-{
-    1 <= ring && ring <= MAX_RING
-}
-
-/// The ring of a pipe that is still to be made ([`SyncPipe::over`]): it holds no beat yet.
-#[derive(Drop)]
-pub struct PipeRing<K: Channel, const V: usize, A: Allocator = Global> {
-    buffer: HeapCircularBuffer<Beat<K, V>, A>,
-}
-
-impl<K: Channel, const V: usize, A: Allocator> Model for PipeRing<K, V, A> {
-    ghost use Rattle.std.specs.Prelude.{◌≡◌, ◌≤◌, ℕ, []};
-    ghost use Rattle.tl_ring.specs.declared.pipe.TheConstants.{MAX_RING};
-
-    // how many beats the ring may hold
-    ghost Value = { ℕ };
-
-    ghost view = { λ r. r.buffer.capacity };
-
-    ghost invariant = { λ r. (r.buffer.items ≡ []) × (1 ≤ r.buffer.capacity) ×
-        (r.buffer.capacity ≤ MAX_RING) };
-}
-
-impl<K: Channel, const V: usize, A: Allocator> PipeRing<K, V, A> {
-    /// A ring of `size` beats, the only memory that is taken. Refused with `RingSize` exactly where
-    /// `size` is 0 or above 4,096, and else with `OutOfMemory` where the allocator has no memory for
-    /// it.
-    pub fn new(alloc: A, size: usize) -> Result<Self, BuildFault>
-        ensures new { IfOk result (λ ring. ring ≡ size) }
-        ensures size { IsOk result → (1 ≤ size) × (size ≤ MAX_RING) }
-        ensures ring_size { IfErr result (λ fault.
-            (fault ≡ BuildFault.RingSize) ↔ ((size ≡ 0) ⊎ (MAX_RING < size))) }
-    {
-        if !is_ring_size(size) {
-            return Err(BuildFault::RingSize);
-        }
-        let Ok(buffer) = HeapCircularBuffer::with_capacity(alloc, size) else {
-            return Err(BuildFault::OutOfMemory);
-        };
-        Ok(PipeRing { buffer })
-    }
-}
+const _: () = prove!(MAX_RING == 4096);
 
 /// The crossing of one channel within one thread, from a bus of `W` bytes to a bus of `V` bytes.
 ///
-/// Near beats are offered at one end, and the far beats that they make due are taken at the other, each once and in order. Between
+/// Near beats are offered at one end, and the far beats that they make due are taken at the other. After each call what was taken,
+/// and then what stands in the inbox, the ring and the stage, is the far layout of what was accepted: each beat once, in order. Between
 /// the ends lie a stage, a ring and an inbox: `offer` fills the stage, `pump` moves beats from the stage into the ring, `fetch`
 /// from the ring into the inbox, and `take` takes them from there. Stage and inbox hold at most [`ROOM`] beats each, the ring as many
 /// as `new` was asked for (this project's choice, after a crossing between two clocks).
 #[derive(Drop)]
 pub struct SyncPipe<K: Channel, const W: usize, const V: usize, A: Allocator = Global> {
-    converter: Converter<K, W, V>,
-    stage: Queue<Beat<K, V>>,
-    ring: HeapCircularBuffer<Beat<K, V>, A>,
-    inbox: Queue<Beat<K, V>>,
-    closed: bool,
+    outbox: Outbox<K, W, V>,
+    ring: Ring<K, V, A>,
+    inbox: Inbox<K, V>,
 }
 
 impl<K: Channel, const W: usize, const V: usize, A: Allocator> Model for SyncPipe<K, W, V, A> {
-    ghost use Rattle.std.specs.Prelude.{◌≤◌};
-    ghost use Rattle.tl_ring.specs.Pipe.{Pipe, AreLawful};
-    ghost use Rattle.tl_ring.specs.declared.pipe.TheConstants.{MAX_RING};
+    ghost use Rattle.tl_ring.specs.Pipe.{Pipe};
 
     ghost Value = { Pipe K.Head V };
 
     ghost view = { λ p. record {
-      converter = p.converter;
+      converter = p.outbox.converter;
       room = p.ring.capacity;
-      stage = p.stage;
+      stage = p.outbox.stage;
       ring = p.ring.items;
       inbox = p.inbox;
-      closed = p.closed;
+      closed = p.outbox.closed;
     } };
-
-    ghost invariant = { λ p. (1 ≤ p.ring.capacity) × (p.ring.capacity ≤ MAX_RING) ×
-        AreLawful K.rules p.stage × AreLawful K.rules p.ring.items × AreLawful K.rules p.inbox };
 }
 
 impl<K: Channel, const W: usize, const V: usize, A: Allocator> SyncPipe<K, W, V, A> {
@@ -114,23 +64,13 @@ impl<K: Channel, const W: usize, const V: usize, A: Allocator> SyncPipe<K, W, V,
         ensures ring_size { IfErr result (λ fault.
             (fault ≡ BuildFault.RingSize) ↔ ((ring ≡ 0) ⊎ (MAX_RING < ring))) }
     {
-        match PipeRing::new(alloc, ring) {
-            Ok(ring) => Ok(SyncPipe::over(ring)),
+        match Ring::new(alloc, ring) {
+            Ok(ring) => Ok(SyncPipe {
+                outbox: Outbox::new(),
+                ring,
+                inbox: Inbox::new(),
+            }),
             Err(fault) => Err(fault),
-        }
-    }
-
-    /// A new pipe over its ring, which [`PipeRing::new`] makes. It has no word on the widths, for a
-    /// caller that makes several pipes: what it promises has them as a premise in place of a demand.
-    pub fn over(ring: PipeRing<K, V, A>) -> Self
-        ensures { IsWidth W → IsWidth V → StandsFor K.rules {w = W} result (empty ring) }
-    {
-        SyncPipe {
-            converter: Converter::new(),
-            stage: Queue::new(),
-            ring: ring.buffer,
-            inbox: Queue::new(),
-            closed: false,
         }
     }
 
@@ -138,7 +78,7 @@ impl<K: Channel, const W: usize, const V: usize, A: Allocator> SyncPipe<K, W, V,
     pub fn ready(&self) -> bool
         ensures { IsTrue result ↔ IsReady self.now }
     {
-        !self.closed && self.stage.is_empty()
+        self.outbox.ready()
     }
 
     /// Whether `beat` may be the next near beat, and where it stands in its message. It is refused with its first fault, exactly
@@ -156,7 +96,7 @@ impl<K: Channel, const W: usize, const V: usize, A: Allocator> SyncPipe<K, W, V,
         // for every pipe
         ensures place { IfOk result (IsPlaceOf K.rules W self.now.converter.burst beat.now) }
     {
-        self.converter.check(beat)
+        self.outbox.check(beat)
     }
 
     /// Offers a near beat where the pipe is ready, at its place, which [`SyncPipe::check`] gave. The far beats that it completes,
@@ -170,7 +110,7 @@ impl<K: Channel, const W: usize, const V: usize, A: Allocator> SyncPipe<K, W, V,
         ensures { (x : World K.Head W V) → StandsFor K.rules self.old x →
             StandsFor K.rules self.new (offered K.rules beat.now home x) }
     {
-        stage_beat(&mut self.converter, beat, place, home, &mut self.stage);
+        self.outbox.offer_at(beat, place, home);
     }
 
     /// Offers a near beat where the pipe is ready. It is accepted exactly where [`SyncPipe::check`] admits it, as
@@ -202,12 +142,7 @@ impl<K: Channel, const W: usize, const V: usize, A: Allocator> SyncPipe<K, W, V,
             StandsFor K.rules self.new (pushed result x) }
         ensures most { result ≤ ROOM }
     {
-        if self.stage.is_empty() {
-            return 0;
-        }
-        let count = write_back(&mut self.ring, self.stage.as_slice());
-        self.stage.drop_front(count);
-        count
+        pump(&mut self.outbox, &mut self.ring)
     }
 
     /// Moves beats from the ring to the inbox, as many as it has room for, and answers their number.
@@ -217,12 +152,7 @@ impl<K: Channel, const W: usize, const V: usize, A: Allocator> SyncPipe<K, W, V,
             StandsFor K.rules self.new (popped result x) }
         ensures most { result ≤ ROOM }
     {
-        if self.ring.is_empty() {
-            return 0;
-        }
-        let count = self.ring.len().min(self.inbox.room());
-        read_front(&mut self.ring, &mut self.inbox, count);
-        count
+        fetch(&mut self.ring, &mut self.inbox)
     }
 
     /// Takes the first beat of the inbox. None exactly where the inbox is empty. Each beat is lawful by itself: a new tracker of the
@@ -233,7 +163,7 @@ impl<K: Channel, const W: usize, const V: usize, A: Allocator> SyncPipe<K, W, V,
         ensures taken { (x : World K.Head W V) → StandsFor K.rules self.old x →
             StandsFor K.rules self.new (took x) }
     {
-        self.inbox.pop_front()
+        self.inbox.take()
     }
 
     /// The beats of the inbox, in order, for [`SyncPipe::take_all`].
@@ -250,8 +180,7 @@ impl<K: Channel, const W: usize, const V: usize, A: Allocator> SyncPipe<K, W, V,
             StandsFor K.rules self.new
             (record x { inbox = []; taken = x.taken ++ x.inbox }) }
     {
-        let count = self.inbox.len();
-        self.inbox.drop_front(count);
+        self.inbox.take_all();
     }
 
     /// Ends the offers. Refused exactly where a burst is unfinished, and nothing changes then. What is staged stays so, and still
@@ -266,20 +195,15 @@ impl<K: Channel, const W: usize, const V: usize, A: Allocator> SyncPipe<K, W, V,
         ensures again { self.old.closed ≡ true → IsOk result × (self.new ≡ self.old) }
         ensures refused { OnErr result (self.new ≡ self.old) }
     {
-        let may_close = self.closed | self.converter.at_boundary();
-        if !may_close {
-            return Err(EndFault::MidBurst);
-        }
-        self.closed = true;
-        Ok(())
+        self.outbox.close()
     }
 
-    /// Whether the pipe is closed and nothing is under way: all that was accepted has then been taken.
+    /// Whether the pipe is closed and nothing is under way: what was taken is then the far layout of all that was accepted.
     pub fn drained(&self) -> bool
         ensures { IsTrue result ↔ IsDrained self.now }
     {
-        let under_way = self.stage.len() + self.ring.len() + self.inbox.len();
-        self.closed & (under_way == 0)
+        let under_way = self.outbox.staged() + self.ring.len() + self.inbox.len();
+        self.outbox.is_closed() & (under_way == 0)
     }
 
     /// How many far beats stand in the stage, in the ring and in the inbox.
@@ -291,7 +215,7 @@ impl<K: Channel, const W: usize, const V: usize, A: Allocator> SyncPipe<K, W, V,
             (result.inbox ≤ ROOM) }
     {
         Standing {
-            staged: self.stage.len(),
+            staged: self.outbox.staged(),
             in_ring: self.ring.len(),
             inbox: self.inbox.len(),
         }

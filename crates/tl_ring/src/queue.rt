@@ -1,17 +1,16 @@
 //! A line of at most [`ROOM`] items, first in and first out, that takes no memory of its own.
-ghost use Rattle.std.specs.Prelude.{◌≡◌, ◌+◌, ◌-◌, ◌≤◌, ◌++◌, ◌↔◌, [], IsTrue, length, drop, min, take, slice_get};
-ghost use Rattle.circular_buffer.specs.Buffer.{buffer};
+ghost use Rattle.std.specs.Prelude.{◌≡◌, ◌+◌, ◌-◌, ◌≤◌, ◌++◌, ◌↔◌, [], IsTrue, length, drop, slice_get};
 ghost use Rattle.tl_ring.specs.declared.queue.TheConstants.{ROOM};
 
 use arrayvec::ArrayVec;
-use circular_buffer::HeapCircularBuffer;
-use std::alloc::Allocator;
 use std::marker::Model;
 use tl_lanes::WIDEST;
 
 /// How many beats a stage and an inbox hold: as many as one near beat makes at most (this project's
 /// choice).
 pub const ROOM: usize = WIDEST;
+
+const _: () = prove!(ROOM == 128);
 
 /// A line of items: those of the array from `first` on. Those before it have left, and their places are used again once the
 /// array is full.
@@ -133,47 +132,4 @@ fn cut_front<T: Copy + Default>(items: &mut ArrayVec<T, ROOM>, count: usize)
     let left = items.len() - count;
     items.as_mut_slice().copy_within(count.., 0);
     items.truncate(left);
-}
-
-// Appends items to a ring, as many as it has room for, and answers their number. A single one, as a
-// stage mostly has, needs no call that copies many.
-pub(crate) fn write_back<T: Copy, A: Allocator>(
-    ring: &mut HeapCircularBuffer<T, A>,
-    items: &[T],
-) -> usize
-    ensures count { result ≡
-        min (length items.now) (ring.old.capacity - length ring.old.items) }
-    ensures ring { ring.new ≡
-        buffer (ring.old.items ++ take result items.now) ring.old.capacity }
-{
-    if let [item] = items {
-        return match ring.try_push_back(*item) {
-            Ok(()) => 1,
-            Err(_) => 0,
-        };
-    }
-    ring.fill_from_slice(items)
-}
-
-// Moves the first `count` items of a ring to the end of a queue.
-pub(crate) fn read_front<T: Copy + Default, A: Allocator>(
-    ring: &mut HeapCircularBuffer<T, A>,
-    queue: &mut Queue<T>,
-    count: usize,
-)
-    requires there { count ≤ length ring.old.items }
-    requires room { length queue.old + count ≤ ROOM }
-    ensures ring { ring.new ≡ buffer (drop count ring.old.items) ring.old.capacity }
-    ensures queue { queue.new ≡ queue.old ++ take count ring.old.items }
-{
-    if count == 0 {
-        return;
-    }
-    let (front, back) = ring.as_slices();
-    let from_front = count.min(front.len());
-    queue.append(&front[..from_front]);
-    if from_front < count {
-        queue.append(&back[..count - from_front]);
-    }
-    ring.truncate_front(ring.len() - count);
 }

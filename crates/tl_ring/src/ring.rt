@@ -1,39 +1,149 @@
-//! The ring between two ends, before they are made.
-ghost use Rattle.std.specs.Prelude.{◌≡◌, ◌≤◌, ◌<◌, ◌↔◌, ◌⊎◌, IsOk, IfOk, IfErr};
-ghost use Rattle.tl_ring.specs.Ends.{IsNewRing};
+//! The ring between an outbox and an inbox within one thread.
+ghost use Rattle.std.specs.Prelude.{◌≡◌, ◌≤◌, ◌<◌, ◌+◌, ◌-◌, ◌++◌, ◌↔◌, ◌⊎◌, [], length, min, drop, take, IsOk, IsTrue, IfOk, IfErr};
+ghost use Rattle.circular_buffer.specs.Buffer.{buffer};
+ghost use Rattle.tl_ring.specs.Boxes.{AreLawful};
+ghost use Rattle.tl_ring.specs.Crossing.{inbox_room};
 ghost use Rattle.tl_ring.specs.declared.pipe.TheConstants.{MAX_RING};
+ghost use Rattle.tl_ring.specs.declared.queue.TheConstants.{ROOM};
 
 use crate::fault::BuildFault;
-use crate::lawful::LawfulAt;
-use crate::pipe::is_ring_size;
-use rtrb::{Consumer, Producer, RingBuffer};
-use std::alloc::Allocator;
+use crate::inbox::Inbox;
+use crate::outbox::Outbox;
+use crate::pipe::MAX_RING;
+use circular_buffer::HeapCircularBuffer;
+use std::alloc::{Allocator, Global};
+use std::marker::Model;
 use tl_msg::{Beat, Channel};
 
-/// A ring as its sending end has it.
-pub type SendHalf<K, const V: usize, A> = Producer<Beat<K, V>, A, LawfulAt<K, V>>;
+/// The ring of one channel within one thread: the far beats that left the outbox and did not yet come to the inbox.
+#[derive(Drop)]
+pub struct Ring<K: Channel, const V: usize, A: Allocator = Global> {
+    buffer: HeapCircularBuffer<Beat<K, V>, A>,
+}
 
-/// A ring as its taking end has it.
-pub type TakeHalf<K, const V: usize, A> = Consumer<Beat<K, V>, A, LawfulAt<K, V>>;
+impl<K: Channel, const V: usize, A: Allocator> Model for Ring<K, V, A> {
+    ghost use Rattle.std.specs.Prelude.{◌≤◌};
+    ghost use Rattle.circular_buffer.specs.Buffer.{Buffer};
+    ghost use Rattle.tl_msg.specs.declared.beat.BeatOf.{BeatOf};
+    ghost use Rattle.tl_ring.specs.Boxes.{AreLawful};
+    ghost use Rattle.tl_ring.specs.declared.pipe.TheConstants.{MAX_RING};
 
-/// Both halves of a new ring of `size` beats, the only memory that is taken, over which
-/// [`crate::SendEnd::over`] and [`crate::TakeEnd::over`] make the two ends of a crossing. Refused
-/// with `RingSize` exactly where `size` is 0 or above 4,096, and else with `OutOfMemory` where the
-/// allocator has no memory for it.
-pub fn new_ring<K: Channel, const V: usize, A: Allocator + Copy>(
-    alloc: A,
-    size: usize,
-) -> Result<(SendHalf<K, V, A>, TakeHalf<K, V, A>), BuildFault>
-    ensures new { IfOk result (λ halves. IsNewRing size halves.0 halves.1) }
-    ensures size { IsOk result → (1 ≤ size) × (size ≤ MAX_RING) }
-    ensures ring_size { IfErr result (λ fault.
-        (fault ≡ BuildFault.RingSize) ↔ ((size ≡ 0) ⊎ (MAX_RING < size))) }
+    ghost Value = { Buffer (BeatOf K.Head V) };
+
+    ghost view = { λ r. r.buffer };
+
+    ghost invariant = { λ r. (1 ≤ r.buffer.capacity) × (r.buffer.capacity ≤ MAX_RING) ×
+        AreLawful K.rules r.buffer.items };
+}
+
+// Whether a ring may hold so many beats.
+pub(crate) fn is_ring_size(ring: usize) -> bool
+    ensures { IsTrue result ↔ ((1 ≤ ring) × (ring ≤ MAX_RING)) }
 {
-    if !is_ring_size(size) {
-        return Err(BuildFault::RingSize);
+    1 <= ring && ring <= MAX_RING
+}
+
+impl<K: Channel, const V: usize, A: Allocator> Ring<K, V, A> {
+    /// A ring of `size` beats, the only memory that is taken. Refused with `RingSize` exactly where
+    /// `size` is 0 or above 4,096, and else with `OutOfMemory` where the allocator has no memory for
+    /// it.
+    pub fn new(alloc: A, size: usize) -> Result<Self, BuildFault>
+        ensures new { IfOk result (λ ring. ring ≡ buffer [] size) }
+        ensures size { IsOk result → (1 ≤ size) × (size ≤ MAX_RING) }
+        ensures ring_size { IfErr result (λ fault.
+            (fault ≡ BuildFault.RingSize) ↔ ((size ≡ 0) ⊎ (MAX_RING < size))) }
+    {
+        if !is_ring_size(size) {
+            return Err(BuildFault::RingSize);
+        }
+        let Ok(buffer) = HeapCircularBuffer::with_capacity(alloc, size) else {
+            return Err(BuildFault::OutOfMemory);
+        };
+        Ok(Ring { buffer })
     }
-    let Ok(halves) = RingBuffer::with_protocol::<A, LawfulAt<K, V>>(alloc, size) else {
-        return Err(BuildFault::OutOfMemory);
-    };
-    Ok(halves)
+
+    /// How many beats stand in it.
+    pub fn len(&self) -> usize
+        ensures count { result ≡ length self.now.items }
+        ensures most { result ≤ MAX_RING }
+    {
+        self.buffer.len()
+    }
+}
+
+// Appends items to a ring, as many as it has room for, and answers their number. A single one, as a
+// stage mostly has, needs no call that copies many.
+fn write_back<T: Copy, A: Allocator>(ring: &mut HeapCircularBuffer<T, A>, items: &[T]) -> usize
+    ensures count { result ≡
+        min (length items.now) (ring.old.capacity - length ring.old.items) }
+    ensures ring { ring.new ≡
+        buffer (ring.old.items ++ take result items.now) ring.old.capacity }
+{
+    if let [item] = items {
+        return match ring.try_push_back(*item) {
+            Ok(()) => 1,
+            Err(_) => 0,
+        };
+    }
+    ring.fill_from_slice(items)
+}
+
+// Moves the first `count` beats of a ring to the end of an inbox.
+fn read_front<K: Channel, const V: usize, A: Allocator>(
+    ring: &mut HeapCircularBuffer<Beat<K, V>, A>,
+    inbox: &mut Inbox<K, V>,
+    count: usize,
+)
+    requires there { count ≤ length ring.old.items }
+    requires room { length inbox.old + count ≤ inbox_room }
+    requires lawful { AreLawful K.rules ring.old.items }
+    ensures ring { ring.new ≡ buffer (drop count ring.old.items) ring.old.capacity }
+    ensures inbox { inbox.new ≡ inbox.old ++ take count ring.old.items }
+{
+    if count == 0 {
+        return;
+    }
+    let (front, back) = ring.as_slices();
+    let from_front = count.min(front.len());
+    inbox.append(&front[..from_front]);
+    if from_front < count {
+        inbox.append(&back[..count - from_front]);
+    }
+    ring.truncate_front(ring.len() - count);
+}
+
+/// Moves the first staged beats of an outbox into the ring, as many as it has room for, and answers their number.
+pub fn pump<K: Channel, const W: usize, const V: usize, A: Allocator>(
+    outbox: &mut Outbox<K, W, V>,
+    ring: &mut Ring<K, V, A>,
+) -> usize
+    ensures count { result ≡
+        min (length outbox.old.stage) (ring.old.capacity - length ring.old.items) }
+    ensures outbox { outbox.new ≡
+        record outbox.old { stage = drop result outbox.old.stage } }
+    ensures ring { ring.new ≡
+        buffer (ring.old.items ++ take result outbox.old.stage) ring.old.capacity }
+    ensures most { result ≤ ROOM }
+{
+    if outbox.staged() == 0 {
+        return 0;
+    }
+    let count = write_back(&mut ring.buffer, outbox.as_slice());
+    outbox.sent(count);
+    count
+}
+
+/// Moves the first beats of a ring into the inbox, as many as it has room for, and answers their number.
+pub fn fetch<K: Channel, const V: usize, A: Allocator>(
+    ring: &mut Ring<K, V, A>,
+    inbox: &mut Inbox<K, V>,
+) -> usize
+    ensures count { result ≡ min (length ring.old.items) (inbox_room - length inbox.old) }
+    ensures ring { ring.new ≡ buffer (drop result ring.old.items) ring.old.capacity }
+    ensures inbox { inbox.new ≡ inbox.old ++ take result ring.old.items }
+    ensures most { result ≤ ROOM }
+{
+    let count = ring.len().min(inbox.room());
+    read_front(&mut ring.buffer, inbox, count);
+    count
 }

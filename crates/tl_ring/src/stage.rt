@@ -7,7 +7,7 @@ ghost use Rattle.tl_burst.specs.Handing.{homes_with};
 ghost use Rattle.tl_burst.specs.Tracking.{IsPlaceOf};
 ghost use Rattle.tl_convert.specs.Due.{due};
 ghost use Rattle.tl_convert.specs.Converting as converting;
-ghost use Rattle.tl_ring.specs.Pipe.{AreLawful};
+ghost use Rattle.tl_ring.specs.Boxes.{AreLawful};
 
 use crate::queue::{Queue, remove_all};
 use tl_burst::Place;

@@ -1,16 +1,14 @@
--- Whether the next beat opens a message, and what a check says of it.
-use Rattle.std.proofs.Common.{◌≡◌, ◌↔◌, ℕ, Option, List, [], ◌∷◌, refl, sym, subst, ◌∙◌, arith}
+-- Whether the next beat opens a message.
+use Rattle.std.proofs.Common.{◌≡◌, ◌↔◌, ℕ, List, [], ◌∷◌, refl, sym, ◌∙◌, arith}
 use Rattle.std.specs.Prelude.{◌==◌}
 use Rattle.tl_msg.specs.Rules.{Rules}
 use Rattle.tl_msg.specs.declared.beat.BeatOf.{BeatOf}
 use Rattle.tl_burst.specs.Begun.{left}
 use Rattle.tl_burst.specs.Handing.{rest_of, burst_of}
-use Rattle.tl_burst.specs.Tracking.{IsPlaceOf, count_in}
+use Rattle.tl_burst.specs.Tracking.{count_in}
 use Rattle.tl_burst.specs.declared.place.Place.{Place}
 use Rattle.tl_burst.proofs.BegunMessages.{left-zero}
 use Rattle.tl_convert.proofs.Comparisons.{equal_true, not_equal}
-use Rattle.tl_ring.specs.Crossing.{World}
-use Rattle.tl_ring.specs.Pipe.{Pipe, StandsFor}
 use Rattle.tl_sides.specs.Books.{IsNext}
 
 module _ {H K : Type 0} (r : Rules H) {w : ℕ} (bs : List (BeatOf H w)) (b : BeatOf H w) (place : Place K H) where
@@ -23,13 +21,3 @@ module _ {H K : Type 0} (r : Rules H) {w : ℕ} (bs : List (BeatOf H w)) (b : Be
       by_rest [] f e = equal_true place.index 0 e ∙ sym (equal_true (left r w bs) 0 (f.1 refl))
       by_rest (x ∷ rest) f e =
           not_equal place.index 0 (λ z. absurd (omega arith)) ∙ sym (not_equal (left r w bs) 0 (λ z. let g : (x ∷ rest) ≡ [] = f.0 z in cc))
-
-  -- what a pipe's check says is said of the beats that were accepted
-  pub next_at : {v : ℕ} (p : Pipe H v) (x : World H w v) → StandsFor r p x → bs ≡ x.accepted → IsPlaceOf r w p.converter.burst b place → IsNext r bs b place
-  next_at p x stands same is =
-      let Q : List (BeatOf H w) → Type 0 = λ q. IsNext r q b place in
-      let P : Option (H × ℕ) → Type 0 = λ burst. IsPlaceOf r w burst b place in
-      subst Q (sym same) (record {
-        handed = record { homes = x.homes; messages = stands.crosses.messages; rest = stands.crosses.rest; handed = stands.crosses.handed };
-        is_place = subst P stands.converter.burst_is is;
-      })

@@ -7,7 +7,6 @@ use Rattle.tl_convert.proofs.Comparisons.{true_less}
 use denote.Param.{layout, param, number}
 use mir.Syntax.{Ty}
 use prog.Memory.{size}
-use Rattle.tl_ring.proofs.FieldSizes.{part, part_small}
 use Rattle.std.specs.contracts.alloc.Global as global
 use Rattle.std.specs.contracts.impls.GlobalAllocator.TheImpl as allocator
 use Rattle.tl_sides.specs.contracts.sync_bridge.SyncBridge.{the_row}
@@ -27,7 +26,3 @@ small_at_widths f passes C M c m =
 
 pub bridge_small : (C M : ℕ) → IsWidth C → IsWidth M → bridge_size C M < 2 ^ 63
 bridge_small = small_at_widths bridge_size refl
-
--- and so does each of its fields, by its number
-pub bridge_part_small : (C M k : ℕ) → IsWidth C → IsWidth M → size (part (bridge_type C M) k) < 2 ^ 63
-bridge_part_small C M k c m = part_small (bridge_type C M) k (2 ^ 63) (bridge_small C M c m)

@@ -1,11 +1,10 @@
 -- Each call of a bridge takes it to what it stands for after the same events.
-use Rattle.std.proofs.Common.{◌≡◌, ◌≤◌, ◌+◌, ◌*◌, ◌↔◌, ℕ, zero, suc, Bool, true, false, cond, Option, None, Some, List, [], ◌∷◌, ◌++◌, map, length, take, drop, refl, sym, ap, subst, ◌∙◌, append-nil, append_assoc}
-use Rattle.std.specs.Prelude.{◌==◌, Result, slice_get}
+use Rattle.std.proofs.Common.{◌≡◌, ◌≤◌, ◌+◌, ◌*◌, ◌↔◌, ℕ, zero, suc, Bool, true, false, cond, None, Some, List, [], ◌∷◌, ◌++◌, map, length, take, drop, refl, sym, ap, subst, ◌∙◌, append-nil, append_assoc}
+use Rattle.std.specs.Prelude.{◌==◌, slice_get}
 use Rattle.tl_msg.specs.Rules.{Rules}
 use Rattle.tl_msg.specs.Firsts.{unless, ◌or_else◌}
 use Rattle.tl_msg.specs.Faults.{mask_fits, is_clean, IsLawfulBeat}
 use Rattle.tl_msg.specs.Tables.{rules_a, rules_b, rules_c, rules_d, rules_e}
-use Rattle.tl_msg.specs.declared.fault.SideFault.{SideFault}
 use Rattle.tl_msg.specs.declared.fault.BeatFault.TheVariants.{Mask, Corrupt}
 use Rattle.tl_msg.proofs.Firsts.{first_none}
 use Rattle.tl_msg.specs.declared.head.HeadA.{HeadA}
@@ -16,22 +15,19 @@ use Rattle.tl_msg.specs.declared.head.HeadE.{HeadE}
 use Rattle.tl_msg.specs.declared.beat.BeatOf.{BeatOf}
 use Rattle.tl_burst.specs.Begun.{left}
 use Rattle.tl_burst.specs.Handing.{rest_of, with_home}
-pub use Rattle.tl_convert.proofs.Refusals.{err_not_ok}
 use Rattle.tl_convert.specs.Due.{due}
 use Rattle.tl_ring.specs.Crossing.{World, offered, pushed, popped}
 use Rattle.tl_ring.specs.declared.queue.TheConstants.{ROOM}
 use Rattle.tl_ring.specs.Pipe.{Pipe}
 use Rattle.tl_ring.specs.Pipe as piping
-use Rattle.tl_settle.specs.Histories.{Event, Ask, Answer, Mark, Asks, Answers, asked, answered, marks, home_after, homes_from, manager_home, manager_homes, client_answer, manager_answer}
+use Rattle.tl_settle.specs.Histories.{Event, Ask, Answer, Mark, Asks, Answers, asked, answered, marks, home_after, homes_from, manager_home, manager_homes}
 use Rattle.tl_sides.specs.Books.{Client, Manager, KnowsClient, KnowsManager}
 use Rattle.tl_sides.specs.Inner.Noting.{begun_with}
-use Rattle.tl_sides.specs.Crossings.{ClientAsks, ManagerIsAsked, ManagerAnswers, ClientIsAnswered}
-use Rattle.tl_sides.specs.Bridges.{Bridge, Past, StandsFor, pump_count, fetch_count, all_pumped, all_fetched, after_offer_a, after_offer_d, after_pump, after_fetch}
+use Rattle.tl_sides.specs.Bridges.{Bridge, Past, StandsFor, pump_count, fetch_count, all_pumped, all_fetched, after_pump, after_fetch}
 use Rattle.tl_sides.proofs.Sums.{sum_most}
-use Rattle.tl_sides.proofs.Places.{Place, Offers, OffersOfTwo, offers, both}
 use Rattle.tl_convert.proofs.Comparisons.{equal_true, not_equal}
 use Rattle.tl_settle.proofs.Homes.{from_ask, from_answer}
-use Rattle.tl_settle.proofs.Marks.{asked_ask, asked_answer, answered_ask, answered_answer, marks_ask_first, marks_ask_inside, marks_answer_first, marks_answer_inside}
+use Rattle.tl_settle.proofs.Marks.{marks_ask_first, marks_ask_inside, marks_answer_first, marks_answer_inside}
 
 -- the messages of a history with one event more
 pub marks_ask : {w : ℕ} (es : List (Event w)) (b : BeatOf HeadA w) →
@@ -112,15 +108,6 @@ pub homes_asks : {w : ℕ} (es : List (Event w)) (bs : List (BeatOf HeadA w)) �
 homes_asks es [] = ap manager_homes (append-nil es)
 homes_asks es (b ∷ bs) = ap manager_homes (sym (append_assoc es (Ask b ∷ []) (map Ask bs))) ∙ homes_asks (es ++ Ask b ∷ []) bs ∙ homes_ask es b
 
--- the first beat of an inbox is taken, if there is one
-pub asked_taken : {w : ℕ} (es : List (Event w)) (bs : List (BeatOf HeadA w)) → asked (es ++ map Ask (take 1 bs)) ≡ asked es ++ take 1 bs
-asked_taken es [] = ap asked (append-nil es) ∙ sym (append-nil (asked es))
-asked_taken es (b ∷ bs) = asked_ask es b
-
-pub answered_taken : {w : ℕ} (es : List (Event w)) (bs : List (BeatOf HeadD w)) → answered (es ++ map Answer (take 1 bs)) ≡ answered es ++ take 1 bs
-answered_taken es [] = ap answered (append-nil es) ∙ sym (append-nil (answered es))
-answered_taken es (b ∷ bs) = answered_answer es b
-
 -- a beat of D crosses by its home where it opens a message alone
 pub home_given : {w v : ℕ} (x : World HeadD w v) (b : BeatOf HeadD w) (home given : ℕ) →
     (left rules_d w x.accepted ≡ 0) ↔ (rest_of rules_d w x.accepted ≡ []) → (left rules_d w x.accepted ≡ 0 → home ≡ given) →
@@ -142,32 +129,7 @@ homes_given {w} es b accepted homes between same so_far =
     ap (λ q. q ++ cond (left rules_d w accepted == 0) (given ∷ []) []) so_far ∙
     homes_opened b homes given (rest_of rules_d w accepted) (left rules_d w accepted) between
 
--- a beat of D is accepted at its end, where the book gives its message the home that the history says
-pub answered_more : {C M : ℕ} (es : List (Event M)) (x : World HeadD M C) (book : Manager) (p : Pipe HeadD C) (b : BeatOf HeadD M) (home : ℕ) →
-    answered es ≡ x.accepted → manager_homes es ≡ x.homes → (left rules_d M x.accepted ≡ 0) ↔ (rest_of rules_d M x.accepted ≡ []) →
-    piping.StandsFor rules_d p (offered rules_d b home x) → (left rules_d M x.accepted ≡ 0 → home ≡ manager_home es b.head) →
-    KnowsManager book (es ++ Answer b ∷ []) → ManagerAnswers book p (es ++ Answer b ∷ []) (offered rules_d b (manager_home es b.head) x)
-answered_more {C} {M} es x book p b home same homes between k right noted = record {
-  knows = noted;
-  stands = subst (λ (y : World HeadD M C). piping.StandsFor rules_d p y) (home_given x b home (manager_home es b.head) between right) k;
-  same = answered_answer es b ∙ ap (λ q. q ++ b ∷ []) same;
-  homes = homes_given es b x.accepted x.homes between same homes;
-}
-
 module _ {C M : ℕ} (s : Bridge C M) (x : Past C M) (h : StandsFor s x) where
-  -- the ends of A and D in the hands of their sides
-  pub client_asks : ClientAsks s.client s.a x.client x.a
-  client_asks = record { knows = h.client; stands = h.a; same = h.client_asked }
-
-  pub manager_is_asked : ManagerIsAsked s.manager s.a x.manager x.a
-  manager_is_asked = record { knows = h.manager; stands = h.a; same = h.manager_asked }
-
-  pub manager_answers : ManagerAnswers s.manager s.d x.manager x.d
-  manager_answers = record { knows = h.manager; stands = h.d; same = h.manager_answered; homes = h.homes }
-
-  pub client_is_answered : ClientIsAnswered s.client s.d x.client x.d
-  client_is_answered = record { knows = h.client; stands = h.d; same = h.client_answered }
-
   -- the crossings go on, and what was accepted and taken of A and D, and the homes, stay
   pub go_on : (a : Pipe HeadA M) (b : Pipe HeadB C) (c : Pipe HeadC M) (d : Pipe HeadD C) (e : Pipe HeadE M)
       (xa : World HeadA C M) (xb : World HeadB M C) (xc : World HeadC C M) (xd : World HeadD M C) (xe : World HeadE C M) →
@@ -248,31 +210,6 @@ module _ {C M : ℕ} (s : Bridge C M) (x : Past C M) (h : StandsFor s x) where
     manager = knows;
   }
 
-  -- the client's side offers on A, where its history gets so many requests more
-  pub asks_on : (p : Pipe HeadA M) (book : Client) (bs : List (BeatOf HeadA C)) (y : World HeadA C M) → y.taken ≡ x.a.taken →
-      ClientAsks book p (x.client ++ map Ask bs) y → StandsFor (record s { a = p; client = book }) (record x { client = x.client ++ map Ask bs; a = y })
-  asks_on p book bs y taken k =
-      client_goes_on p s.d book (x.client ++ map Ask bs) y x.d k.stands h.d k.same (answered_asks x.client bs ∙ h.client_answered) k.knows taken (refl, refl)
-
-  -- the manager's side offers on D
-  pub answers_on : (p : Pipe HeadD C) (book : Manager) (bs : List (BeatOf HeadD M)) (y : World HeadD M C) → y.taken ≡ x.d.taken →
-      ManagerAnswers book p (x.manager ++ map Answer bs) y → StandsFor (record s { d = p; manager = book }) (record x { manager = x.manager ++ map Answer bs; d = y })
-  answers_on p book bs y taken k =
-      manager_goes_on s.a p book (x.manager ++ map Answer bs) x.a y h.a k.stands (asked_answers x.manager bs ∙ h.manager_asked) k.same k.homes k.knows refl taken
-
-  -- the manager's side takes on A
-  pub asked_on : (p : Pipe HeadA M) (book : Manager) (bs : List (BeatOf HeadA M)) (y : World HeadA C M) → y.accepted ≡ x.a.accepted →
-      ManagerIsAsked book p (x.manager ++ map Ask bs) y → StandsFor (record s { a = p; manager = book }) (record x { manager = x.manager ++ map Ask bs; a = y })
-  asked_on p book bs y accepted k =
-      manager_goes_on p s.d book (x.manager ++ map Ask bs) y x.d k.stands h.d k.same (answered_asks x.manager bs ∙ h.manager_answered)
-      (homes_asks x.manager bs ∙ h.homes) k.knows accepted refl
-
-  -- the client's side takes on D
-  pub answered_on : (p : Pipe HeadD C) (book : Client) (bs : List (BeatOf HeadD C)) (y : World HeadD M C) → y.accepted ≡ x.d.accepted → y.homes ≡ x.d.homes →
-      ClientIsAnswered book p (x.client ++ map Answer bs) y → StandsFor (record s { d = p; client = book }) (record x { client = x.client ++ map Answer bs; d = y })
-  answered_on p book bs y accepted homes k =
-      client_goes_on s.a p book (x.client ++ map Answer bs) x.a y h.a k.stands (asked_answers x.client bs ∙ h.client_asked) k.same k.knows refl (accepted, homes)
-
 -- the head of a lawful beat has no fault
 pub lawful_head : {H : Type 0} (r : Rules H) {w : ℕ} (b : BeatOf H w) → IsLawfulBeat r b → r.fault b.head ≡ None
 lawful_head r b e = first_none (r.fault b.head) (unless (mask_fits r b) Mask or_else unless (is_clean r b) Corrupt) e
@@ -286,113 +223,6 @@ pub none_taken : {A : Type 0} (bs : List A) → slice_get bs 0 ≡ None → take
 none_taken [] e = refl
 none_taken (x ∷ bs) e = cc
 
-pub none_not_some : {A : Type 0} {o : Option A} {x : A} → o ≡ Some x → o ≡ None → ⊥
-none_not_some e f = cc
-
--- the places of the crossings in a bridge: one goes on whose beats, taken and accepted, are in no history, or stay
-abbrev pub Crossing : (C M : ℕ) {H : Type 0} (r : Rules H) (w v : ℕ) → (World H w v → World H w v → Type 0) → Type 0
-Crossing C M r w v Keeps = Place (StandsFor {C = C} {M = M}) (piping.StandsFor r {w = w} {v = v}) Keeps
-
-module _ {C M : ℕ} where
-  abbrev pub at_a : Crossing C M rules_a C M (λ x y. (y.accepted ≡ x.accepted) × (y.taken ≡ x.taken))
-  at_a = record {
-    part = λ s. s.a;
-    put = λ s p. record s { a = p };
-    back = λ s. refl;
-    seen = λ x. x.a;
-    after = λ x y. record x { a = y };
-    stands = λ s x h. h.a;
-    moves = λ s x h. with_a s x h;
-  }
-
-  abbrev pub at_b : Crossing C M rules_b M C (λ x y. Unit)
-  at_b = record {
-    part = λ s. s.b;
-    put = λ s p. record s { b = p };
-    back = λ s. refl;
-    seen = λ x. x.b;
-    after = λ x y. record x { b = y };
-    stands = λ s x h. h.b;
-    moves = λ s x h p y k free. with_b s x h p y k;
-  }
-
-  abbrev pub at_c : Crossing C M rules_c C M (λ x y. Unit)
-  at_c = record {
-    part = λ s. s.c;
-    put = λ s p. record s { c = p };
-    back = λ s. refl;
-    seen = λ x. x.c;
-    after = λ x y. record x { c = y };
-    stands = λ s x h. h.c;
-    moves = λ s x h p y k free. with_c s x h p y k;
-  }
-
-  abbrev pub at_d : Crossing C M rules_d M C (λ x y. (y.accepted ≡ x.accepted) × (y.taken ≡ x.taken) × (y.homes ≡ x.homes))
-  at_d = record {
-    part = λ s. s.d;
-    put = λ s p. record s { d = p };
-    back = λ s. refl;
-    seen = λ x. x.d;
-    after = λ x y. record x { d = y };
-    stands = λ s x h. h.d;
-    moves = λ s x h. with_d s x h;
-  }
-
-  abbrev pub at_e : Crossing C M rules_e C M (λ x y. Unit)
-  at_e = record {
-    part = λ s. s.e;
-    put = λ s p. record s { e = p };
-    back = λ s. refl;
-    seen = λ x. x.e;
-    after = λ x y. record x { e = y };
-    stands = λ s x h. h.e;
-    moves = λ s x h p y k free. with_e s x h p y k;
-  }
-
-  -- and of the ends of A and D at which a side offers, with its book
-  abbrev at_requests : Place {S = Bridge C M} {X = Past C M} {P = Client × Pipe HeadA M} {W = List (Event C) × World HeadA C M} StandsFor
-      (λ p y. ClientAsks p.0 p.1 y.0 y.1) (λ x y. (answered y.0 ≡ answered x.0) × (y.1.taken ≡ x.1.taken))
-  at_requests = record {
-    part = λ s. (s.client, s.a);
-    put = λ s p. record s { client = p.0; a = p.1 };
-    back = λ s. refl;
-    seen = λ x. (x.client, x.a);
-    after = λ x y. record x { client = y.0; a = y.1 };
-    stands = λ s x h. client_asks s x h;
-    moves = λ s x h p y k same. client_goes_on s x h p.1 s.d p.0 y.0 y.1 x.d k.stands h.d k.same (same.0 ∙ h.client_answered) k.knows same.1 (refl, refl);
-  }
-
-  abbrev at_responses : Place {S = Bridge C M} {X = Past C M} {P = Manager × Pipe HeadD C} {W = List (Event M) × World HeadD M C} StandsFor
-      (λ p y. ManagerAnswers p.0 p.1 y.0 y.1) (λ x y. (asked y.0 ≡ asked x.0) × (y.1.taken ≡ x.1.taken))
-  at_responses = record {
-    part = λ s. (s.manager, s.d);
-    put = λ s p. record s { manager = p.0; d = p.1 };
-    back = λ s. refl;
-    seen = λ x. (x.manager, x.d);
-    after = λ x y. record x { manager = y.0; d = y.1 };
-    stands = λ s x h. manager_answers s x h;
-    moves = λ s x h p y k same. manager_goes_on s x h s.a p.1 p.0 y.0 x.a y.1 h.a k.stands (same.0 ∙ h.manager_asked) k.same k.homes k.knows refl same.1;
-  }
-
-  -- a request is offered
-  pub offers_request : (b : BeatOf HeadA C) {inside s : Bridge C M} → inside ≡ s → (book : Client) (p : Pipe HeadA M) (r : Result Unit SideFault) →
-      OffersOfTwo ClientAsks (λ es y. client_answer es b) (λ es. es ++ Ask b ∷ []) (λ es y. offered rules_a b 0 y) inside.client book inside.a p r →
-      Offers StandsFor (λ x. client_answer x.client b) (λ x. after_offer_a b x) s (record inside { client = book; a = p }) r
-  offers_request b {inside} view book p r e =
-      offers at_requests (λ y. client_answer y.0 b) (λ y. (y.0 ++ Ask b ∷ [], offered rules_a b 0 y.1)) (λ y. (answered_ask y.0 b, refl)) view (book, p) r
-      (both ClientAsks (λ es y. client_answer es b) (λ es. es ++ Ask b ∷ []) (λ es y. offered rules_a b 0 y) inside.client book inside.a p r e)
-
-  -- and a response
-  pub offers_response : (b : BeatOf HeadD M) {inside s : Bridge C M} → inside ≡ s → (book : Manager) (p : Pipe HeadD C) (r : Result Unit SideFault) →
-      OffersOfTwo ManagerAnswers (λ es y. manager_answer es b) (λ es. es ++ Answer b ∷ []) (λ es y. offered rules_d b (manager_home es b.head) y)
-      inside.manager book inside.d p r →
-      Offers StandsFor (λ x. manager_answer x.manager b) (λ x. after_offer_d b x) s (record inside { manager = book; d = p }) r
-  offers_response b {inside} view book p r e =
-      offers at_responses (λ y. manager_answer y.0 b) (λ y. (y.0 ++ Answer b ∷ [], offered rules_d b (manager_home y.0 b.head) y.1))
-      (λ y. (asked_answer y.0 b, refl)) view (book, p) r
-      (both ManagerAnswers (λ es y. manager_answer es b) (λ es. es ++ Answer b ∷ []) (λ es y. offered rules_d b (manager_home es b.head) y)
-      inside.manager book inside.d p r e)
-
 -- what a pump of a crossing says, or a fetch, which moves n of its beats by `step`
 abbrev pub Moves : {H : Type 0} (r : Rules H) (w : ℕ) {v : ℕ} (p p' : Pipe H v) (result n : ℕ) (step : ℕ → World H w v → World H w v) → Type 0
 Moves {H} r w {v} p p' result n step = record {
@@ -401,7 +231,7 @@ Moves {H} r w {v} p p' result n step = record {
   most : result ≤ ROOM;
 }
 
-moved_by : {H : Type 0} (r : Rules H) (w : ℕ) {v : ℕ} (p p' : Pipe H v) (result n : ℕ) (step : ℕ → World H w v → World H w v) →
+pub moved_by : {H : Type 0} (r : Rules H) (w : ℕ) {v : ℕ} (p p' : Pipe H v) (result n : ℕ) (step : ℕ → World H w v → World H w v) →
     Moves r w p p' result n step → (x : World H w v) → piping.StandsFor r p x → piping.StandsFor r p' (step n x)
 moved_by r w p p' result n step e x h = subst (λ k. piping.StandsFor r p' (step k x)) e.count (e.moved x h)
 

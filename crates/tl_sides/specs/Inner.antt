@@ -1,3 +1,4 @@
 pub mod Entries
 pub mod Noting
-pub mod Offering
+pub mod NotingAll
+pub mod Making

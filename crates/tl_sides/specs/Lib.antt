@@ -2,4 +2,9 @@ pub mod Tables
 pub mod Books
 pub mod Crossings
 pub mod Bridges
+pub mod ChannelCalls
+pub mod Ports
+pub mod Joining
+pub mod Ends
+pub mod Sides
 pub mod Inner

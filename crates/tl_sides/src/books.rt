@@ -45,8 +45,8 @@ impl<const C: usize, A: Allocator> Model for ClientBook<C, A> {
 }
 
 impl<const C: usize, A: Allocator> ClientBook<C, A> {
-    /// The book of a side that has accepted and taken nothing yet. Refused exactly where the
-    /// allocator has no memory for its table.
+    /// The book of a side that has accepted and taken nothing yet. Want of memory for its table is
+    /// the only refusal.
     pub fn new(alloc: A) -> Result<Self, OutOfMemory>
         ensures { IfOk result (λ book. KnowsClient {w = C} book []) }
     {
@@ -118,8 +118,8 @@ impl<const M: usize, A: Allocator> Model for ManagerBook<M, A> {
 }
 
 impl<const M: usize, A: Allocator> ManagerBook<M, A> {
-    /// The book of a side that has accepted and taken nothing yet. Refused exactly where the
-    /// allocator has no memory for its table.
+    /// The book of a side that has accepted and taken nothing yet. Want of memory for its table is
+    /// the only refusal.
     pub fn new(alloc: A) -> Result<Self, OutOfMemory>
         ensures { IfOk result (λ book. KnowsManager {w = M} book []) }
     {
@@ -177,7 +177,7 @@ impl<const M: usize, A: Allocator> ManagerBook<M, A> {
 }
 
 /// The books of both sides of a new bridge, on buses of `C` and `M` bytes: those of its client's and
-/// of its manager's side. Refused exactly where the allocator has no memory for one of their tables.
+/// of its manager's side. Want of memory for one of their tables is the only refusal.
 pub fn new_books<const C: usize, const M: usize, A: Allocator + Copy>(
     alloc: A,
 ) -> Result<(ClientBook<C, A>, ManagerBook<M, A>), OutOfMemory>

@@ -1,5 +1,4 @@
-//! What each side of the bridge knows, what it does at its end of each channel, and the bridge of
-//! both sides in one thread.
+//! Each side of the bridge, whatever carries its beats; both sides in one thread, and each for a thread of its own.
 #![tactic(auto)]
 
 // What a call gives where it succeeds. Where it doesn't, its fault is the caller's. A `?` would
@@ -14,13 +13,24 @@ macro_rules! given {
 }
 
 mod books;
-mod crossing;
+mod channel_calls;
+mod client_port;
+mod client_side;
+mod manager_port;
+mod manager_side;
+mod noting;
+mod offering;
 mod per_channel;
+mod sides;
 mod sync_bridge;
 mod tables;
 
 pub use books::{ClientBook, ManagerBook, new_books};
-pub use crossing::{offer_alone, offer_request, offer_response, take_request, take_response};
+pub use client_port::ClientPort;
+pub use client_side::ClientSide;
+pub use manager_port::ManagerPort;
+pub use manager_side::ManagerSide;
 pub use per_channel::PerChannel;
+pub use sides::{bridge, meet_sides};
 pub use sync_bridge::{Standings, SyncBridge};
 pub use tables::{Request, RequestTable, SourceTable};

@@ -7,23 +7,23 @@ ghost use Rattle.tl_msg.specs.Tables.{rules_a, rules_b, rules_c, rules_d, rules_
 ghost use Rattle.tl_burst.specs.Handing.{rest_of};
 ghost use Rattle.tl_ring.specs.Pipe.{IsReady};
 ghost use Rattle.tl_settle.specs.Histories.{client_answer, manager_answer};
+ghost use Rattle.circular_buffer.specs.Buffer.{buffer};
 ghost use Rattle.tl_sides.specs.Bridges.{Past, StandsFor, IsStanding, nothing_yet, all_pumped, all_fetched, after_pump, after_fetch};
 ghost use Rattle.tl_sides.specs.Books.{KnowsClient, KnowsManager};
+ghost use Rattle.tl_sides.specs.Joining.{pipe_of};
 ghost use Rattle.tl_sides.specs.Crossings.{stops_alone};
 ghost use Rattle.tl_sides.specs.Bridges.{after_offer_a, after_offer_b, after_offer_c, after_offer_d, after_offer_e};
 ghost use Rattle.tl_sides.specs.Bridges.{after_take_a, after_take_b, after_take_c, after_take_d, after_take_e};
 ghost use Rattle.tl_sides.specs.Bridges.{after_close_a, after_close_b, after_close_c, after_close_d, after_close_e};
 
 use crate::books::{ClientBook, ManagerBook};
-use crate::crossing::{
-    offer_finish, offer_probe, offer_release, offer_request, offer_response, take_request,
-    take_response,
-};
+use crate::client_port::ClientPort;
+use crate::manager_port::ManagerPort;
 use crate::per_channel::PerChannel;
 use std::alloc::{Allocator, Global};
 use std::marker::Model;
-use tl_msg::{Beat, ChA, ChB, ChC, ChD, ChE, SideFault};
-use tl_ring::{BuildFault, EndFault, PipeRing, Standing, SyncPipe};
+use tl_msg::{Beat, ChA, ChB, ChC, ChD, ChE, Channel, SideFault};
+use tl_ring::{BuildFault, EndFault, Inbox, Outbox, Ring, Standing, fetch, pump};
 
 /// How many far beats stand at each place of each channel.
 pub type Standings = PerChannel<Standing>;
@@ -42,44 +42,24 @@ pub type Standings = PerChannel<Standing>;
 /// first beat of its request was taken, has the request's size, and stands on lanes by the
 /// request's address. ReleaseAck answers no request (TileLink: source and size of responses; the
 /// moments at which a source is busy and a request is open: this project's choice).
-///
-/// The parts are public, so that a run may lend one crossing at a time, with the book of its side,
-/// to what it does on that channel ([`crate::offer_alone`], [`crate::offer_request`],
-/// [`crate::offer_response`], [`crate::take_request`], [`crate::take_response`]). A call on a part
-/// alone is not the bridge's: a beat of A or D that passes its side's book leaves a bridge that
-/// stands for no past, and no clause says anything of it.
 #[derive(Drop)]
 pub struct SyncBridge<const C: usize, const M: usize, A: Allocator = Global> {
-    /// The crossing of A, from the client's side to the manager's.
-    pub a: SyncPipe<ChA, C, M, A>,
-    /// The crossing of B, from the manager's side to the client's.
-    pub b: SyncPipe<ChB, M, C, A>,
-    /// The crossing of C, from the client's side to the manager's.
-    pub c: SyncPipe<ChC, C, M, A>,
-    /// The crossing of D, from the manager's side to the client's.
-    pub d: SyncPipe<ChD, M, C, A>,
-    /// The crossing of E, from the client's side to the manager's.
-    pub e: SyncPipe<ChE, C, M, A>,
-    /// What the client's side knows of its own beats of A and D.
-    pub client: ClientBook<C, A>,
-    /// What the manager's side knows of its own beats of A and D.
-    pub manager: ManagerBook<M, A>,
+    pub(crate) client: ClientPort<C, M, A>,
+    pub(crate) manager: ManagerPort<C, M, A>,
+    pub(crate) a: Ring<ChA, M, A>,
+    pub(crate) b: Ring<ChB, C, A>,
+    pub(crate) c: Ring<ChC, M, A>,
+    pub(crate) d: Ring<ChD, C, A>,
+    pub(crate) e: Ring<ChE, M, A>,
 }
 
 impl<const C: usize, const M: usize, A: Allocator> Model for SyncBridge<C, M, A> {
     ghost use Rattle.tl_sides.specs.Bridges.{Bridge};
+    ghost use Rattle.tl_sides.specs.Joining.{bridge_of};
 
     ghost Value = { Bridge C M };
 
-    ghost view = { λ s. record {
-      a = s.a;
-      b = s.b;
-      c = s.c;
-      d = s.d;
-      e = s.e;
-      client = s.client;
-      manager = s.manager;
-    } };
+    ghost view = { λ s. bridge_of s.client s.manager s.a s.b s.c s.d s.e };
 }
 
 // What stands on the client's bus: the rings of B and D, whose beats have its width, and the book
@@ -87,15 +67,15 @@ impl<const C: usize, const M: usize, A: Allocator> Model for SyncBridge<C, M, A>
 fn client_parts<const C: usize, A: Allocator + Copy>(
     alloc: A,
     ring: usize,
-) -> Result<(PipeRing<ChB, C, A>, PipeRing<ChD, C, A>, ClientBook<C, A>), BuildFault>
-    ensures rings { IfOk result (λ parts. (parts.0 ≡ ring) × (parts.1 ≡ ring)) }
+) -> Result<(Ring<ChB, C, A>, Ring<ChD, C, A>, ClientBook<C, A>), BuildFault>
+    ensures rings { IfOk result (λ parts. (parts.0 ≡ buffer [] ring) × (parts.1 ≡ buffer [] ring)) }
     ensures book { IfOk result (λ parts. KnowsClient {w = C} parts.2 []) }
     ensures size { IsOk result → (1 ≤ ring) × (ring ≤ MAX_RING) }
     ensures ring_size { IfErr result (λ fault. (fault ≡ BuildFault.RingSize) ↔
         ((ring ≡ 0) ⊎ (MAX_RING < ring))) }
 {
-    let b = given!(PipeRing::new(alloc, ring));
-    let d = given!(PipeRing::new(alloc, ring));
+    let b = given!(Ring::new(alloc, ring));
+    let d = given!(Ring::new(alloc, ring));
     let Ok(book) = ClientBook::new(alloc) else {
         return Err(BuildFault::OutOfMemory);
     };
@@ -108,52 +88,68 @@ fn manager_parts<const M: usize, A: Allocator + Copy>(
     ring: usize,
 ) -> Result<
     (
-        PipeRing<ChA, M, A>,
-        PipeRing<ChC, M, A>,
-        PipeRing<ChE, M, A>,
+        Ring<ChA, M, A>,
+        Ring<ChC, M, A>,
+        Ring<ChE, M, A>,
         ManagerBook<M, A>,
     ),
     BuildFault,
 >
-    ensures rings { IfOk result (λ parts. (parts.0 ≡ ring) × (parts.1 ≡ ring) × (parts.2 ≡ ring)) }
+    ensures rings { IfOk result (λ parts. (parts.0 ≡ buffer [] ring) × (parts.1 ≡ buffer [] ring) × (parts.2 ≡ buffer [] ring)) }
     ensures book { IfOk result (λ parts. KnowsManager {w = M} parts.3 []) }
     ensures size { IsOk result → (1 ≤ ring) × (ring ≤ MAX_RING) }
     ensures ring_size { IfErr result (λ fault. (fault ≡ BuildFault.RingSize) ↔
         ((ring ≡ 0) ⊎ (MAX_RING < ring))) }
 {
-    let a = given!(PipeRing::new(alloc, ring));
-    let c = given!(PipeRing::new(alloc, ring));
-    let e = given!(PipeRing::new(alloc, ring));
+    let a = given!(Ring::new(alloc, ring));
+    let c = given!(Ring::new(alloc, ring));
+    let e = given!(Ring::new(alloc, ring));
     let Ok(book) = ManagerBook::new(alloc) else {
         return Err(BuildFault::OutOfMemory);
     };
     Ok((a, c, e, book))
 }
 
+// How many far beats stand in an outbox, a ring and an inbox.
+fn standing<K: Channel, const W: usize, const V: usize, A: Allocator>(
+    outbox: &Outbox<K, W, V>,
+    ring: &Ring<K, V, A>,
+    inbox: &Inbox<K, V>,
+) -> Standing
+    ensures { IsStanding (pipe_of outbox.now ring.now inbox.now) result }
+{
+    Standing {
+        staged: outbox.staged(),
+        in_ring: ring.len(),
+        inbox: inbox.len(),
+    }
+}
+
 // The bridge over its rings and books.
 fn bridge_over<const C: usize, const M: usize, A: Allocator>(
-    a: PipeRing<ChA, M, A>,
-    b: PipeRing<ChB, C, A>,
-    c: PipeRing<ChC, M, A>,
-    d: PipeRing<ChD, C, A>,
-    e: PipeRing<ChE, M, A>,
+    a: Ring<ChA, M, A>,
+    b: Ring<ChB, C, A>,
+    c: Ring<ChC, M, A>,
+    d: Ring<ChD, C, A>,
+    e: Ring<ChE, M, A>,
     client: ClientBook<C, A>,
     manager: ManagerBook<M, A>,
 ) -> SyncBridge<C, M, A>
     // for rings of one size, and for the books of a new bridge
-    ensures { (ring : ℕ) → IsWidth C → IsWidth M →
-        (a ≡ ring) × (b ≡ ring) × (c ≡ ring) × (d ≡ ring) × (e ≡ ring) →
+    ensures { (ring : ℕ) → 1 ≤ ring → IsWidth C → IsWidth M →
+        (a ≡ buffer [] ring) × (b ≡ buffer [] ring) × (c ≡ buffer [] ring) ×
+        (d ≡ buffer [] ring) × (e ≡ buffer [] ring) →
         KnowsClient {w = C} client [] → KnowsManager {w = M} manager [] →
         StandsFor result (nothing_yet ring) }
 {
     SyncBridge {
-        a: SyncPipe::over(a),
-        b: SyncPipe::over(b),
-        c: SyncPipe::over(c),
-        d: SyncPipe::over(d),
-        e: SyncPipe::over(e),
-        client,
-        manager,
+        client: ClientPort::over(client),
+        manager: ManagerPort::over(manager),
+        a,
+        b,
+        c,
+        d,
+        e,
     }
 }
 
@@ -181,35 +177,35 @@ impl<const C: usize, const M: usize, A: Allocator> SyncBridge<C, M, A> {
     pub fn ready_a(&self) -> bool
         ensures { IsTrue result ↔ IsReady self.now.a }
     {
-        self.a.ready()
+        self.client.ready_a()
     }
 
     /// Whether a beat of B may be offered: nothing of B is staged, and the channel isn't closed.
     pub fn ready_b(&self) -> bool
         ensures { IsTrue result ↔ IsReady self.now.b }
     {
-        self.b.ready()
+        self.manager.ready_b()
     }
 
     /// Whether a beat of C may be offered: nothing of C is staged, and the channel isn't closed.
     pub fn ready_c(&self) -> bool
         ensures { IsTrue result ↔ IsReady self.now.c }
     {
-        self.c.ready()
+        self.client.ready_c()
     }
 
     /// Whether a beat of D may be offered: nothing of D is staged, and the channel isn't closed.
     pub fn ready_d(&self) -> bool
         ensures { IsTrue result ↔ IsReady self.now.d }
     {
-        self.d.ready()
+        self.manager.ready_d()
     }
 
     /// Whether a beat of E may be offered: nothing of E is staged, and the channel isn't closed.
     pub fn ready_e(&self) -> bool
         ensures { IsTrue result ↔ IsReady self.now.e }
     {
-        self.e.ready()
+        self.client.ready_e()
     }
 
     /// The client's side offers a beat of A where A is ready. It is refused with the beat's own
@@ -228,7 +224,7 @@ impl<const C: usize, const M: usize, A: Allocator> SyncBridge<C, M, A> {
             IfErr result (λ fault. client_answer x.client beat.entry ≡ Some fault) }
         ensures refused { OnErr result (self.new ≡ self.old) }
     {
-        offer_request(&mut self.client, &mut self.a, &beat)
+        self.client.offer_a(&beat)
     }
 
     /// The manager's side offers a beat of B where B is ready. It is refused exactly with the
@@ -245,7 +241,7 @@ impl<const C: usize, const M: usize, A: Allocator> SyncBridge<C, M, A> {
             IfErr result (λ fault. stops_alone rules_b x.b.accepted beat.entry ≡ Some fault) }
         ensures refused { OnErr result (self.new ≡ self.old) }
     {
-        offer_probe(&mut self.b, &beat)
+        self.manager.offer_b(&beat)
     }
 
     /// The client's side offers a beat of C where C is ready. It is refused exactly with the beat's
@@ -262,7 +258,7 @@ impl<const C: usize, const M: usize, A: Allocator> SyncBridge<C, M, A> {
             IfErr result (λ fault. stops_alone rules_c x.c.accepted beat.entry ≡ Some fault) }
         ensures refused { OnErr result (self.new ≡ self.old) }
     {
-        offer_release(&mut self.c, &beat)
+        self.client.offer_c(&beat)
     }
 
     /// The manager's side offers a beat of D where D is ready. It is refused with the beat's own
@@ -282,7 +278,7 @@ impl<const C: usize, const M: usize, A: Allocator> SyncBridge<C, M, A> {
             IfErr result (λ fault. manager_answer x.manager beat.entry ≡ Some fault) }
         ensures refused { OnErr result (self.new ≡ self.old) }
     {
-        offer_response(&mut self.manager, &mut self.d, &beat)
+        self.manager.offer_d(&beat)
     }
 
     /// The client's side offers a beat of E where E is ready. No beat of E has a fault. The far
@@ -299,7 +295,7 @@ impl<const C: usize, const M: usize, A: Allocator> SyncBridge<C, M, A> {
             IfErr result (λ fault. stops_alone rules_e x.e.accepted beat.entry ≡ Some fault) }
         ensures refused { OnErr result (self.new ≡ self.old) }
     {
-        offer_finish(&mut self.e, &beat)
+        self.client.offer_e(&beat)
     }
 
     /// The manager's side takes the first beat of A's inbox. None exactly where it is empty. A
@@ -310,7 +306,7 @@ impl<const C: usize, const M: usize, A: Allocator> SyncBridge<C, M, A> {
         ensures taken { (x : Past C M) → StandsFor self.old x →
             StandsFor self.new (after_take_a x) }
     {
-        take_request(&mut self.manager, &mut self.a)
+        self.manager.take_a()
     }
 
     /// The client's side takes the first beat of B's inbox. None exactly where it is empty.
@@ -319,7 +315,7 @@ impl<const C: usize, const M: usize, A: Allocator> SyncBridge<C, M, A> {
         ensures taken { (x : Past C M) → StandsFor self.old x →
             StandsFor self.new (after_take_b x) }
     {
-        self.b.take()
+        self.client.take_b()
     }
 
     /// The manager's side takes the first beat of C's inbox. None exactly where it is empty.
@@ -328,7 +324,7 @@ impl<const C: usize, const M: usize, A: Allocator> SyncBridge<C, M, A> {
         ensures taken { (x : Past C M) → StandsFor self.old x →
             StandsFor self.new (after_take_c x) }
     {
-        self.c.take()
+        self.manager.take_c()
     }
 
     /// The client's side takes the first beat of D's inbox. None exactly where it is empty. A first
@@ -339,7 +335,7 @@ impl<const C: usize, const M: usize, A: Allocator> SyncBridge<C, M, A> {
         ensures taken { (x : Past C M) → StandsFor self.old x →
             StandsFor self.new (after_take_d x) }
     {
-        take_response(&mut self.client, &mut self.d)
+        self.client.take_d()
     }
 
     /// The manager's side takes the first beat of E's inbox. None exactly where it is empty.
@@ -348,7 +344,7 @@ impl<const C: usize, const M: usize, A: Allocator> SyncBridge<C, M, A> {
         ensures taken { (x : Past C M) → StandsFor self.old x →
             StandsFor self.new (after_take_e x) }
     {
-        self.e.take()
+        self.manager.take_e()
     }
 
     /// The client's side ends its offers of A. Refused exactly where a burst is unfinished, and
@@ -362,7 +358,7 @@ impl<const C: usize, const M: usize, A: Allocator> SyncBridge<C, M, A> {
         ensures again { self.old.a.closed ≡ true → IsOk result × (self.new ≡ self.old) }
         ensures refused { OnErr result (self.new ≡ self.old) }
     {
-        self.a.close()
+        self.client.close_a()
     }
 
     /// The manager's side ends its offers of B. Refused exactly where a burst is unfinished, and
@@ -376,7 +372,7 @@ impl<const C: usize, const M: usize, A: Allocator> SyncBridge<C, M, A> {
         ensures again { self.old.b.closed ≡ true → IsOk result × (self.new ≡ self.old) }
         ensures refused { OnErr result (self.new ≡ self.old) }
     {
-        self.b.close()
+        self.manager.close_b()
     }
 
     /// The client's side ends its offers of C. Refused exactly where a burst is unfinished, and
@@ -390,7 +386,7 @@ impl<const C: usize, const M: usize, A: Allocator> SyncBridge<C, M, A> {
         ensures again { self.old.c.closed ≡ true → IsOk result × (self.new ≡ self.old) }
         ensures refused { OnErr result (self.new ≡ self.old) }
     {
-        self.c.close()
+        self.client.close_c()
     }
 
     /// The manager's side ends its offers of D. Refused exactly where a burst is unfinished, and
@@ -404,7 +400,7 @@ impl<const C: usize, const M: usize, A: Allocator> SyncBridge<C, M, A> {
         ensures again { self.old.d.closed ≡ true → IsOk result × (self.new ≡ self.old) }
         ensures refused { OnErr result (self.new ≡ self.old) }
     {
-        self.d.close()
+        self.manager.close_d()
     }
 
     /// The client's side ends its offers of E. Refused exactly where a burst is unfinished, and
@@ -418,7 +414,7 @@ impl<const C: usize, const M: usize, A: Allocator> SyncBridge<C, M, A> {
         ensures again { self.old.e.closed ≡ true → IsOk result × (self.new ≡ self.old) }
         ensures refused { OnErr result (self.new ≡ self.old) }
     {
-        self.e.close()
+        self.client.close_e()
     }
 
     /// Moves staged beats to the rings on all channels, as many as each ring has room for, and
@@ -429,11 +425,11 @@ impl<const C: usize, const M: usize, A: Allocator> SyncBridge<C, M, A> {
             StandsFor self.new (after_pump self.old x) }
         ensures most { result ≤ 5 * ROOM }
     {
-        let a = self.a.pump();
-        let b = self.b.pump();
-        let c = self.c.pump();
-        let d = self.d.pump();
-        let e = self.e.pump();
+        let a = pump(&mut self.client.a, &mut self.a);
+        let b = pump(&mut self.manager.b, &mut self.b);
+        let c = pump(&mut self.client.c, &mut self.c);
+        let d = pump(&mut self.manager.d, &mut self.d);
+        let e = pump(&mut self.client.e, &mut self.e);
         a + b + c + d + e
     }
 
@@ -445,11 +441,11 @@ impl<const C: usize, const M: usize, A: Allocator> SyncBridge<C, M, A> {
             StandsFor self.new (after_fetch self.old x) }
         ensures most { result ≤ 5 * ROOM }
     {
-        let a = self.a.fetch();
-        let b = self.b.fetch();
-        let c = self.c.fetch();
-        let d = self.d.fetch();
-        let e = self.e.fetch();
+        let a = fetch(&mut self.a, &mut self.manager.a);
+        let b = fetch(&mut self.b, &mut self.client.b);
+        let c = fetch(&mut self.c, &mut self.manager.c);
+        let d = fetch(&mut self.d, &mut self.client.d);
+        let e = fetch(&mut self.e, &mut self.manager.e);
         a + b + c + d + e
     }
 
@@ -462,11 +458,11 @@ impl<const C: usize, const M: usize, A: Allocator> SyncBridge<C, M, A> {
         ensures e { IsStanding self.now.e result.e }
     {
         PerChannel {
-            a: self.a.standing(),
-            b: self.b.standing(),
-            c: self.c.standing(),
-            d: self.d.standing(),
-            e: self.e.standing(),
+            a: standing(&self.client.a, &self.a, &self.manager.a),
+            b: standing(&self.manager.b, &self.b, &self.client.b),
+            c: standing(&self.client.c, &self.c, &self.manager.c),
+            d: standing(&self.manager.d, &self.d, &self.client.d),
+            e: standing(&self.client.e, &self.e, &self.manager.e),
         }
     }
 }

@@ -41,7 +41,7 @@ impl<A: Allocator> SourceTable<A> {
     ghost use Rattle.tl_sides.specs.Tables.{is_busy};
 
     /// A table in which no source is busy. It takes a byte for each source, 64 KiB, once and for
-    /// all (this project's choice). Refused exactly where the allocator has no memory for it.
+    /// all (this project's choice). Want of memory is the only refusal.
     pub fn new(alloc: A) -> Result<Self, OutOfMemory>
         ensures { IfOk result (λ table. (s : ℕ) → is_busy table s ≡ false) }
     {
@@ -129,8 +129,7 @@ impl<A: Allocator> RequestTable<A> {
     ghost use Rattle.tl_sides.specs.Tables.{entry};
 
     /// A table in which no source has a request. It takes 16 bytes for each source, 1 MiB, once
-    /// and for all (this project's choice). Refused exactly where the allocator has no memory for
-    /// it.
+    /// and for all (this project's choice). Want of memory is the only refusal.
     pub fn new(alloc: A) -> Result<Self, OutOfMemory>
         ensures { IfOk result (λ table. (s : ℕ) → entry table s ≡ None) }
     {

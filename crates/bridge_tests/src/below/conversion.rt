@@ -1,7 +1,7 @@
 #![tactic(auto, using(tl_lanes::proofs::Widths::width_4, tl_lanes::proofs::Widths::width_8))]
 
 use crate::values::put;
-use tl_convert::{Converter, far_count, far_room};
+use tl_convert::{Converter, far_count};
 use tl_lanes::is_width;
 use tl_msg::{Beat, ChA};
 
@@ -26,26 +26,22 @@ fn a_widened_burst(rt: HostRuntime) {
     assert!(rt; are_joined(&mut Converter::new()));
 }
 
-/// Whether a list of near beats of 4 bytes gives so many far beats, and there is room for so many.
-fn has_counts<const V: usize>(beats: &[Beat<ChA, 4>], far: usize, room: usize) -> bool {
-    is_width(V)
-        && beats.len() <= 5
-        && far_count::<ChA, 4, V>(beats) == far
-        && far_room::<ChA, 4, V>(beats) == room
+/// Whether a list of near beats of 4 bytes gives so many far beats.
+fn has_count<const V: usize>(beats: &[Beat<ChA, 4>], far: usize) -> bool {
+    is_width(V) && beats.len() <= 5 && far_count::<ChA, 4, V>(beats) == far
 }
 
-/// Of three of the four beats of a message, of none, and of a message whose head changes. At equal widths there is room for each
-/// beat, and none is read; else for as many as there are.
+/// Of three of the four beats of a message, of none, and of a message whose head changes.
 #[test]
 fn counts_of_far_beats(rt: HostRuntime) {
     let next: Beat<ChA, 4> = put(4, 32, 0xf, [0; 4]);
     let three = [next; 3];
-    let are_three = has_counts::<8>(&three, 1, 1)
-        & has_counts::<4>(&three, 3, 3)
-        & has_counts::<1>(&three, 12, 12);
+    let are_three = has_count::<8>(&three, 1)
+        & has_count::<4>(&three, 3)
+        & has_count::<1>(&three, 12);
     let changed = [next, next, put(4, 64, 0xf, [0; 4]), next, next];
-    let are_two = has_counts::<8>(&changed, 1, 1)
-        & has_counts::<4>(&changed, 2, 5)
-        & has_counts::<1>(&changed, 8, 8);
-    assert!(rt; are_three & are_two & has_counts::<8>(&[], 0, 0));
+    let are_two = has_count::<8>(&changed, 1)
+        & has_count::<4>(&changed, 2)
+        & has_count::<1>(&changed, 8);
+    assert!(rt; are_three & are_two & has_count::<8>(&[], 0));
 }

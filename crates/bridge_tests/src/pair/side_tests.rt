@@ -1,14 +1,14 @@
 //! The two sides of a bridge, call by call in one thread.
 #![tactic(auto, using(tl_lanes::proofs::Widths::width_4, tl_lanes::proofs::Widths::width_16))]
 
-ghost use Rattle.tl_pair.specs.Sides.{AreSides, SameClient, SameManager};
+ghost use Rattle.tl_sides.specs.Sides.{AreSides, SameClient, SameManager};
 
 use crate::let_sides_go;
 use crate::values::{LANES, data, get};
 use std::test::Fail;
 use tl_lanes::Mask;
 use tl_msg::{Beat, BeatFault, ChA, ChD, SideFault};
-use tl_pair::{ClientSide, ManagerSide, bridge, meet_sides};
+use tl_sides::{ClientSide, ManagerSide, bridge, meet_sides};
 
 /// What a side is told to do.
 enum Call {

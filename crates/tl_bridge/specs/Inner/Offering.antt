@@ -7,7 +7,7 @@ use Rattle.tl_msg.specs.declared.head.HeadC.{HeadC}
 use Rattle.tl_msg.specs.declared.head.HeadD.{HeadD}
 use Rattle.tl_msg.specs.declared.head.HeadE.{HeadE}
 use Rattle.tl_settle.specs.Histories.{Ask, Answer, client_answer, manager_answer, manager_home}
-use Rattle.tl_pair.specs.Sides.{ClientState, ManagerState, ClientPast, ManagerPast, ClientStandsFor, ManagerStandsFor}
+use Rattle.tl_sides.specs.Sides.{ClientState, ManagerState, ClientPast, ManagerPast, ClientStandsFor, ManagerStandsFor}
 use Rattle.tl_run.specs.Inner.Offering.{Offering, alone, coupled}
 use Rattle.tl_bridge.specs.Inner.Sides.{SameClientEnds, SameManagerEnds}
 

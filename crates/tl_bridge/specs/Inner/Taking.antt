@@ -8,9 +8,9 @@ use Rattle.tl_msg.specs.declared.head.HeadD.{HeadD}
 use Rattle.tl_msg.specs.declared.head.HeadE.{HeadE}
 use Rattle.tl_msg.specs.declared.beat.BeatOf.{BeatOf}
 use Rattle.tl_settle.specs.Histories.{Ask, Answer}
-use Rattle.tl_pair.specs.Sides.{ClientState, ManagerState, ClientPast, ManagerPast}
-use Rattle.tl_pair.specs.Sides.{client_takes_b, client_takes_d, manager_takes_a, manager_takes_c, manager_takes_e}
-use Rattle.tl_run.specs.Inner.Noting.{events-on}
+use Rattle.tl_sides.specs.Sides.{ClientState, ManagerState, ClientPast, ManagerPast}
+use Rattle.tl_sides.specs.Sides.{client_takes_b, client_takes_d, manager_takes_a, manager_takes_c, manager_takes_e}
+use Rattle.tl_sides.specs.Inner.NotingAll.{events-on}
 
 -- the first beat of an inbox was taken, if one stood there
 pub record TookFirst {S B : Type 0} (inbox : S → List B) (Becomes : S → List B → S → Type 0) (s : S) (beat : Option B) (s' : S) : Type 0 where

@@ -1,6 +1,6 @@
 use Rattle.std.proofs.Common.{◌+◌, sym, ap, subst, ◌∙◌, lit<, arith}
 use Rattle.tl_ring.specs.Ends.{Takes}
-use Rattle.tl_pair.specs.Sides.{client_pumps}
+use Rattle.tl_sides.specs.Sides.{client_pumps}
 use Rattle.tl_run.specs.Scripts.{near_beats}
 use Rattle.tl_run.specs.Inner.Running.{steps}
 use Rattle.tl_bridge.specs.Inner.Sides.{ClientIsAt, ClientGoes, ClientRests, all_steps}

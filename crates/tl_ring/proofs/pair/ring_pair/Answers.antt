@@ -2,45 +2,18 @@ use Rattle.std.proofs.Common.{refl, arith}
 use denote.Memory.{lone}
 use denote.Param.{layout, param, number, copied}
 use Rattle.tl_ring.specs.contracts.ends.SendEnd.{the_row}
-use Rattle.tl_msg.specs.Faults.{IsLawfulBeat}
-use Rattle.tl_ring.proofs.Answered.{all_of_none}
 use Rattle.tl_ring.proofs.EndSteps.{sends_new}
-use Rattle.tl_ring.proofs.FieldSizes.{part_small, beat_in_queue}
+use Rattle.tl_ring.proofs.FieldSizes.{part_small, inner_small, beat_in_queue}
 use Rattle.tl_ring.proofs.pair.ring_pair.Goals as goal
 
-pub new-requires : goal.new-requires
-new-requires g c =
-    let row = layout (the_row (param 0 g.row.K) (param 1 (number g.row.W)) (param 2 (number g.row.V)) (param 3 g.row.A) (copied 4 g.row.K-Head)
-    g.K.Channel g.K.Head.Clone g.K.Head.Eq g.K.Head.PartialEq g.K.Head.Default g.A.Allocator) in
-    part_small row 0 9223372036854775808 c.requires-raw.1.1.1.1.1.0
-
-pub new-requires-in-Ok-room-T-Default : goal.new-requires-in-Ok-room-T-Default
-new-requires-in-Ok-room-T-Default g c κs within =
-    let row = layout (the_row (param 0 g.row.K) (param 1 (number g.row.W)) (param 2 (number g.row.V)) (param 3 g.row.A) (copied 4 g.row.K-Head)
-    g.K.Channel g.K.Head.Clone g.K.Head.Eq g.K.Head.PartialEq g.K.Head.Default g.A.Allocator) in
-    beat_in_queue (lone g.row.K-Head.mir) (layout g.row.K-Head) g.row.V 9223372036854775808 (part_small row 1 9223372036854775808 c.requires-raw.1.1.1.1.1.0)
-
-pub new-requires-in-Ok : goal.new-requires-in-Ok
-new-requires-in-Ok g c =
-    let row = layout (the_row (param 0 g.row.K) (param 1 (number g.row.W)) (param 2 (number g.row.V)) (param 3 g.row.A) (copied 4 g.row.K-Head)
-    g.K.Channel g.K.Head.Clone g.K.Head.Eq g.K.Head.PartialEq g.K.Head.Default g.A.Allocator) in
-    part_small row 1 9223372036854775808 c.requires-raw.1.1.1.1.1.0
-
 pub invariant_of-result : goal.invariant_of-result
-invariant_of-result g c = all_of_none (λ b. IsLawfulBeat g.K.Channel.rules b) _ c.new-in-Ok.ensures
+invariant_of-result g c = c.new.ensures.ready.1
 
 pub over-requires : goal.over-requires
 over-requires g c =
-    let row = layout (the_row (param 0 g.row.K) (param 1 (number g.row.W)) (param 2 (number g.row.V)) (param 3 g.row.A) (copied 4 g.row.K-Head)
-    g.K.Channel g.K.Head.Clone g.K.Head.Eq g.K.Head.PartialEq g.K.Head.Default g.A.Allocator) in
-    let beat = beat_in_queue (lone g.row.K-Head.mir) (layout g.row.K-Head) g.row.V 9223372036854775808 (part_small row 1 9223372036854775808 c.requires-raw.1.1.1.1.1.0) in
+    let row = layout (the_row (param 0 g.row.K) (param 1 (number g.row.W)) (param 2 (number g.row.V)) (param 3 g.row.A) (copied 4 g.row.K-Head) g.K.Channel g.K.Head.Clone g.K.Head.Eq g.K.Head.PartialEq g.K.Head.Default g.A.Allocator) in
+    let beat = beat_in_queue (lone g.row.K-Head.mir) (layout g.row.K-Head) g.row.V 9223372036854775808 (inner_small row 0 1 9223372036854775808 c.requires-raw.1.1.1.1.1.0) in
     (beat, (omega arith, c.requires-raw.1.1.1.1.1.1.0))
-
-pub new_ring-requires : goal.new_ring-requires
-new_ring-requires g c =
-    let row = layout (the_row (param 0 g.row.K) (param 1 (number g.row.W)) (param 2 (number g.row.V)) (param 3 g.row.A) (copied 4 g.row.K-Head)
-    g.K.Channel g.K.Head.Clone g.K.Head.Eq g.K.Head.PartialEq g.K.Head.Default g.A.Allocator) in
-    (beat_in_queue (lone g.row.K-Head.mir) (layout g.row.K-Head) g.row.V 9223372036854775808 (part_small row 1 9223372036854775808 c.requires-raw.1.1.1.1.1.0), omega arith)
 
 pub returns-in-Ok-clause-pair : goal.returns-in-Ok-clause-pair
 returns-in-Ok-clause-pair g c = rw c.over.ensures.ring c.in-Ok.ensures.new.pair
@@ -48,7 +21,7 @@ returns-in-Ok-clause-pair g c = rw c.over.ensures.ring c.in-Ok.ensures.new.pair
 pub returns-in-Ok-clause-send : goal.returns-in-Ok-clause-send
 returns-in-Ok-clause-send g c =
     let new = c.in-Ok.ensures.new in
-    sends_new g.K.Channel.rules g.met.K.Channel.partial_masked _ c.args.ring c.requires.near c.requires.far new.some_room c.new.ensures c.new-in-Ok.ensures new.none_sent new.room refl
+    sends_new g.K.Channel.rules g.met.K.Channel.partial_masked _ c.args.ring new.some_room (c.new.ensures.stands c.requires.near c.requires.far) c.new.ensures.ready.0 new.none_sent new.room c.new.ensures.ready.1
 
 pub returns-in-Ok-clause-take : goal.returns-in-Ok-clause-take
 returns-in-Ok-clause-take g c = rw (c.over.ensures.ring, c.over.ensures.inbox) c.in-Ok.ensures.new.none_received
@@ -79,3 +52,9 @@ returns-in-Err-clause-size g c = λ made. absurd (cc)
 
 pub returns-in-Err-clause-ring_size : goal.returns-in-Err-clause-ring_size
 returns-in-Err-clause-ring_size g c = c.in-Err.ensures.ring_size
+
+pub new-requires : goal.new-requires
+new-requires g c = part_small (layout (the_row (param 0 g.row.K) (param 1 (number g.row.W)) (param 2 (number g.row.V)) (param 3 g.row.A) (copied 4 g.row.K-Head) g.K.Channel g.K.Head.Clone g.K.Head.Eq g.K.Head.PartialEq g.K.Head.Default g.A.Allocator)) 0 9223372036854775808 c.requires-raw.1.1.1.1.1.0
+
+pub new_ring-requires : goal.new_ring-requires
+new_ring-requires g c = (beat_in_queue (lone g.row.K-Head.mir) (layout g.row.K-Head) g.row.V 9223372036854775808 (inner_small (layout (the_row (param 0 g.row.K) (param 1 (number g.row.W)) (param 2 (number g.row.V)) (param 3 g.row.A) (copied 4 g.row.K-Head) g.K.Channel g.K.Head.Clone g.K.Head.Eq g.K.Head.PartialEq g.K.Head.Default g.A.Allocator)) 0 1 9223372036854775808 c.requires-raw.1.1.1.1.1.0), omega arith)

@@ -1,4 +1,4 @@
-use Rattle.tl_pair.specs.Sides.{AreSides}
+use Rattle.tl_sides.specs.Sides.{AreSides}
 use Rattle.bridge_tests.proofs.pair.side_tests.play_all.Given as goal
 
 abbrev pub invariant-loop-call : goal.invariant-loop-call

@@ -1,5 +1,5 @@
 use Rattle.std.proofs.Common.{lit<}
-use Rattle.tl_pair.proofs.SameSides.{still_sides}
+use Rattle.tl_sides.proofs.SameSides.{still_sides}
 use Rattle.bridge_tests.proofs.pair.side_tests.play_and_meet.Goals as goal
 
 pub meet_sides-requires : goal.meet_sides-requires

@@ -1,5 +1,5 @@
 use Rattle.std.proofs.Common.{refl}
-use Rattle.tl_pair.specs.Sides.{ClientStandsFor, client_takes_d}
+use Rattle.tl_sides.specs.Sides.{ClientStandsFor, client_takes_d}
 use Rattle.tl_bridge.specs.Inner.Taking.{but_d}
 use Rattle.tl_bridge.proofs.SideTakes.{takes-first}
 use Rattle.tl_bridge.proofs.inboxes.ClientSideTakesBeatOfHeadD.take_next.Goals as goal

@@ -1,5 +1,5 @@
 use Rattle.std.proofs.Common.{refl}
-use Rattle.tl_pair.specs.Sides.{ManagerStandsFor, manager_takes_c}
+use Rattle.tl_sides.specs.Sides.{ManagerStandsFor, manager_takes_c}
 use Rattle.tl_bridge.specs.Inner.Taking.{but_c}
 use Rattle.tl_bridge.proofs.SideTakes.{takes-first}
 use Rattle.tl_bridge.proofs.inboxes.ManagerSideTakesBeatOfHeadC.take_next.Goals as goal

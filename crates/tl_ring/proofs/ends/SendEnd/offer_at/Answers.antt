@@ -1,36 +1,29 @@
-use Rattle.std.proofs.Common.{refl, ap}
-use denote.Memory.{lone}
+use Rattle.std.proofs.Common.{rules, ap}
 use denote.Param.{layout, param, number, copied}
 use Rattle.tl_ring.specs.contracts.ends.SendEnd.{the_row}
-use Rattle.tl_convert.proofs.FeedStep.{is-handed}
-use Rattle.tl_ring.proofs.FieldSizes.{part_small, beat_in_queue}
+use Rattle.tl_ring.proofs.FieldSizes.{part_small}
 use Rattle.tl_ring.proofs.EndSteps.{sends_offered}
 use Rattle.tl_ring.proofs.ends.SendEnd.offer_at.Goals as goal
 
-pub stage_beat-requires : goal.stage_beat-requires
-stage_beat-requires g c =
+pub offer_at-requires : goal.offer_at-requires
+offer_at-requires g c =
     let place = rw (← c.self.view_is) at c.requires.place in
     let ready = rw (← c.self.view_is) at c.requires.ready in
     let row = layout (the_row (param 0 g.row.K) (param 1 (number g.row.W)) (param 2 (number g.row.V)) (param 3 g.row.A) (copied 4 g.row.K-Head) g.K.Channel g.K.Head.Clone g.K.Head.Eq g.K.Head.PartialEq g.K.Head.Default g.A.Allocator) in
-    let whole = c.requires-raw.1.1.1.1.1.0 in
-    let stage = part_small row 1 9223372036854775808 whole in
-    let beat = beat_in_queue (lone g.row.K-Head.mir) (layout g.row.K-Head) g.row.V 9223372036854775808 stage in
-    (part_small row 0 9223372036854775808 whole, (c.requires-raw.1.1.1.1.1.1.0, (stage, (beat, (c.requires.near, c.requires.far, place, ready)))))
+    (part_small row 0 9223372036854775808 c.requires-raw.1.1.1.1.1.0, (search rules, (c.requires.near, c.requires.far, (ready, c.self.invariant), place)))
 
 pub returns-clause-accepted : goal.returns-clause-accepted
 returns-clause-accepted g c = λ x h.
     let stands = rw (← c.self.view_is) at h in
     let ready = rw (← c.self.view_is) at c.requires.ready in
-    let converts = c.stage_beat.ensures.stands x.accepted x.homes stands.pipe.converter in
-    sends_offered g.K.Channel.rules g.met.K.Channel.partial_masked _ x c.args.beat.now c.args.home c.stage_beat.new.converter
-    c.stage_beat.new.stage c.stage_beat.ensures.beat c.stage_beat.ensures.home (is-handed converts.handed) ready refl converts
-    (c.stage_beat.ensures.due x.accepted x.homes stands.pipe.converter) stands
+    sends_offered g.K.Channel.rules g.met.K.Channel.partial_masked _ x c.args.beat.now c.args.home c.offer_at.new.self ready c.self.invariant
+    c.offer_at.ensures.still (c.offer_at.ensures.accepted x.accepted x.homes _ stands.pipe.outbox) stands
 
 pub returns-clause-ring : goal.returns-clause-ring
 returns-clause-ring g c = ap (λ (s : _). s.producer) c.self.view_is
 
 pub returns-clause-open : goal.returns-clause-open
-returns-clause-open g c = refl
+returns-clause-open g c = c.offer_at.ensures.still
 
 pub invariant_of-self : goal.invariant_of-self
-invariant_of-self g c = c.stage_beat.ensures.lawful
+invariant_of-self g c = c.offer_at.ensures.still

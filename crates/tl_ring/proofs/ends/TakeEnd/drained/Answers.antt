@@ -3,7 +3,7 @@ use Rattle.tl_ring.specs.declared.queue.TheConstants.{ROOM}
 use Rattle.tl_ring.proofs.EndSteps.{shown_of}
 use denote.Param.{layout, param, number, copied}
 use Rattle.tl_ring.specs.contracts.ends.TakeEnd.{the_row}
-use Rattle.tl_ring.proofs.FieldSizes.{part_small, beat_in_queue}
+use Rattle.tl_ring.proofs.FieldSizes.{part_small, inner_small, beat_in_queue}
 use Rattle.tl_ring.proofs.Moves.{none_in_two}
 use denote.Memory.{lone}
 use Rattle.tl_ring.proofs.ends.TakeEnd.drained.Goals as goal
@@ -12,13 +12,10 @@ pub slots_after-in_ring-requires-room-P-Protocol : goal.slots_after-in_ring-requ
 slots_after-in_ring-requires-room-P-Protocol g c = λ κs within. lit< tt
 
 pub slots_after-in_ring-requires-room-P-Protocol-2 : goal.slots_after-in_ring-requires-room-P-Protocol-2
-slots_after-in_ring-requires-room-P-Protocol-2 g c = λ κs within. beat_in_queue (lone g.row.K-Head.mir) (layout g.row.K-Head) g.row.V 9223372036854775808 (search (part_small (layout (the_row (param 0 g.row.K) (param 1 (number g.row.W)) (param 2 (number g.row.V)) (param 3 g.row.A) (copied 4 g.row.K-Head) g.K.Channel g.K.Head.Clone g.K.Head.Eq g.K.Head.PartialEq g.K.Head.Default g.A.Allocator)) 0 9223372036854775808))
+slots_after-in_ring-requires-room-P-Protocol-2 g c = λ κs within. beat_in_queue (lone g.row.K-Head.mir) (layout g.row.K-Head) g.row.V 9223372036854775808 (search (inner_small (layout (the_row (param 0 g.row.K) (param 1 (number g.row.W)) (param 2 (number g.row.V)) (param 3 g.row.A) (copied 4 g.row.K-Head) g.K.Channel g.K.Head.Clone g.K.Head.Eq g.K.Head.PartialEq g.K.Head.Default g.A.Allocator)) 0 0 9223372036854775808))
 
 pub slots_after-in_ring-requires : goal.slots_after-in_ring-requires
 slots_after-in_ring-requires g c = rw (← c.receipt.view_is, ← c.self.view_is) at c.requires
-
-pub invariant_of-self : goal.invariant_of-self
-invariant_of-self g c = c.self.invariant
 
 pub len-waiting-requires : goal.len-waiting-requires
 len-waiting-requires g c = search (part_small (layout (the_row (param 0 g.row.K) (param 1 (number g.row.W)) (param 2 (number g.row.V)) (param 3 g.row.A) (copied 4 g.row.K-Head) g.K.Channel g.K.Head.Clone g.K.Head.Eq g.K.Head.PartialEq g.K.Head.Default g.A.Allocator)) 0 9223372036854775808)
@@ -37,7 +34,7 @@ returns-clause-looked g c =
 
 pub returns-clause-drained : goal.returns-clause-drained
 returns-clause-drained g c =
-    none_in_two c.self.inside.inbox _ c.len-waiting.result c.slots_after-in_ring.result c.len-waiting.ensures.value c.slots_after-in_ring.ensures.value
+    none_in_two c.self.inside.inbox _ c.len-waiting.result c.slots_after-in_ring.result c.len-waiting.ensures.count c.slots_after-in_ring.ensures.value
 
 pub returns-clause-shown : goal.returns-clause-shown
 returns-clause-shown g c = λ x taken shows takes.
@@ -45,5 +42,5 @@ returns-clause-shown g c = λ x taken shows takes.
     let stands = rw (← c.self.view_is) at takes in
     let of = rw (← c.receipt.view_is, ← c.self.view_is) at c.requires in
     let looked = rw (← c.receipt.view_is, ← c.self.view_is) at (returns-clause-looked g c) in
-    let held : length c.self.inside.inbox ≤ ROOM = omega (arith, c.len-waiting.ensures.value, c.len-waiting.ensures.within) in
+    let held : length c.self.inside.inbox ≤ ROOM = omega (arith, c.len-waiting.ensures.count, c.len-waiting.ensures.most) in
     shown_of g.K.Channel.rules _ _ _ _ x taken of looked held shown stands

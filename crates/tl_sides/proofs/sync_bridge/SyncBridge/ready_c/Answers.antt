@@ -1,9 +1,9 @@
-use Rattle.tl_sides.proofs.BridgeLayout.{bridge_layout}
+use Rattle.tl_sides.proofs.Layouts.{bridge_layout}
 use Rattle.tl_ring.proofs.FieldSizes.{part_small}
 use Rattle.tl_sides.proofs.sync_bridge.SyncBridge.ready_c.Goals as goal
 
-pub ready-requires : goal.ready-requires
-ready-requires g c = part_small (bridge_layout g.row.C g.row.M g.row.A g.A.Allocator) 2 9223372036854775808 c.requires-raw.1.1.1
+pub ready_c-requires : goal.ready_c-requires
+ready_c-requires g c = part_small (bridge_layout g.row.C g.row.M g.row.A g.A.Allocator) 0 9223372036854775808 c.requires-raw.1.1.1
 
 pub returns : goal.returns
-returns g c = rw (← c.self.view_is) c.ready.ensures
+returns g c = rw (← c.self.view_is) c.ready_c.ensures

@@ -1,0 +1,167 @@
+//! What was taken, and what is under way, is the far layout of what was accepted, said of real beats: of a
+//! crossing between two threads at a meeting, and of a closed one by its receipt.
+#![tactic(auto, using(tl_lanes::proofs::Widths::width_4, tl_lanes::proofs::Widths::width_8))]
+
+ghost use Rattle.std.specs.Prelude.{◌≡◌, ◌+◌, ◌++◌, ◌∷◌, [], List, length, IfSome};
+ghost use Rattle.tl_msg.specs.Tables.{rules_a};
+ghost use Rattle.tl_msg.specs.declared.head.HeadA.{HeadA};
+ghost use Rattle.tl_msg.specs.declared.beat.BeatOf.{BeatOf};
+ghost use Rattle.tl_burst.specs.Messages.{Message};
+ghost use Rattle.tl_burst.specs.Handing.{Handed, homes_with};
+ghost use Rattle.tl_convert.specs.Due.{due, layouts};
+ghost use Rattle.tl_ring.specs.Crossing.{World, empty, offered};
+ghost use Rattle.tl_ring.specs.Ends.{ArePair, SameSend, SameTake, Sends, Takes, passed};
+
+use crate::values::{at, put};
+use std::alloc::Global;
+use std::test::Fail;
+use std::thread::{Threads, join_mut};
+use tl_msg::{Beat, ChA};
+use tl_ring::{SendEnd, Standing, TakeEnd, meet, ring_pair};
+
+/// Offers a beat where nothing is staged, and sends what it makes due. Answers how many far beats
+/// went into the ring, or None where the beat was refused.
+fn send_one(send: &mut SendEnd<ChA, 8, 4>, beat: Beat<ChA, 8>) -> Option<usize>
+    ensures same { SameSend send.old send.new }
+    // for every crossing that the end stands for
+    ensures sent { (x : World HeadA 8 4) → Sends rules_a send.old x →
+        IfSome result (λ count. Sends rules_a send.new (passed count (offered rules_a beat 0 x))) }
+{
+    if !send.ready() {
+        return None;
+    }
+    match send.offer(beat, 0) {
+        Ok(()) => Some(send.pump()),
+        Err(_) => None,
+    }
+}
+
+/// Fetches what has come, and takes the first far beat, if there is one.
+fn take_one(take: &mut TakeEnd<ChA, 8, 4>) -> Option<Beat<ChA, 4>>
+    ensures same { SameTake take.old take.new }
+    // for all that was taken before
+    ensures taken { (taken : List (BeatOf HeadA 4)) → Takes take.old taken →
+        IfSome result (λ beat. Takes take.new (taken ++ beat ∷ [])) }
+{
+    take.fetch();
+    take.take()
+}
+
+/// Offers a beat and sends it in one thread, and takes in another one.
+fn send_and_take<R: Threads>(
+    rt: &R,
+    send: &mut SendEnd<ChA, 8, 4>,
+    take: &mut TakeEnd<ChA, 8, 4>,
+    beat: Beat<ChA, 8>,
+) -> (Option<usize>, Option<Beat<ChA, 4>>)
+    ensures same { SameSend send.old send.new × SameTake take.old take.new }
+    ensures sent { (x : World HeadA 8 4) → Sends rules_a send.old x → IfSome result.0
+        (λ count. Sends rules_a send.new (passed count (offered rules_a beat 0 x))) }
+    ensures taken { (taken : List (BeatOf HeadA 4)) → Takes take.old taken →
+        IfSome result.1 (λ beat. Takes take.new (taken ++ beat ∷ [])) }
+{
+    join_mut(
+        rt,
+        &mut || -> Option<usize>
+            ensures same { SameSend send.entry.now send.exit.now }
+            ensures sent { (x : World HeadA 8 4) → Sends rules_a send.entry.now x → IfSome result
+                (λ count. Sends rules_a send.exit.now (passed count (offered rules_a beat 0 x))) }
+        { send_one(send, beat) },
+        &mut || -> Option<Beat<ChA, 4>>
+            ensures same { SameTake take.entry.now take.exit.now }
+            ensures taken { (taken : List (BeatOf HeadA 4)) → Takes take.entry.now taken →
+                IfSome result (λ beat. Takes take.exit.now (taken ++ beat ∷ [])) }
+        { take_one(take) },
+    )
+}
+
+/// One thread offers a beat, and another takes the first far beat of it; then both ends meet. That
+/// far beat, and the beats that are under way, are the far layout of the one that was offered.
+fn cross_in_two_threads<R: Threads>(
+    rt: &R,
+    send: &mut SendEnd<ChA, 8, 4>,
+    take: &mut TakeEnd<ChA, 8, 4>,
+    beat: Beat<ChA, 8>,
+) -> Option<(Beat<ChA, 4>, Standing)>
+    requires new { ArePair send.old take.old × Sends rules_a send.old (empty {w = 8} 4) ×
+        Takes take.old [] }
+    ensures headline { IfSome result (λ answer. (under_way : List (BeatOf HeadA 4)) ×
+        (answer.0 ∷ under_way ≡
+        due rules_a 8 4 (beat ∷ []) (homes_with rules_a {w = 8} [] [] beat 0)) ×
+        (length under_way ≡ answer.1.staged + answer.1.in_ring + answer.1.inbox)) }
+{
+    let (sent, first) = send_and_take(rt, send, take, beat);
+    let standing = meet(send, take);
+    match sent {
+        Some(_) => match first {
+            Some(first) => Some((first, standing)),
+            None => None,
+        },
+        None => None,
+    }
+}
+
+/// A beat is offered and sent, and its end is closed and given up; then two far beats are taken, and
+/// the receipt asked. Where it says that nothing is left, they are the far layout of whole messages.
+fn cross_whole(
+    send: SendEnd<ChA, 8, 4>,
+    take: &mut TakeEnd<ChA, 8, 4>,
+    beat: Beat<ChA, 8>,
+) -> Option<(Beat<ChA, 4>, Beat<ChA, 4>)>
+    requires new { ArePair send take.old × Sends rules_a send (empty {w = 8} 4) × Takes take.old [] }
+    ensures headline { IfSome result (λ far. (messages : List (Message HeadA)) ×
+        Handed rules_a 8 (beat ∷ []) (homes_with rules_a {w = 8} [] [] beat 0) messages [] ×
+        (far.0 ∷ far.1 ∷ [] ≡ layouts rules_a 4 messages)) }
+{
+    let mut send = send;
+    send_one(&mut send, beat)?;
+    let Ok(mut closing) = send.close() else {
+        return None;
+    };
+    if closing.staged() != 0 {
+        return None;
+    }
+    let mut receipt = closing.finish()?;
+    let first = take_one(take)?;
+    let second = take_one(take)?;
+    if take.drained(&mut receipt) {
+        Some((first, second))
+    } else {
+        None
+    }
+}
+
+#[test]
+fn a_meeting_shows_what_is_under_way(rt: HostRuntime) -> Result<(), Fail> {
+    let (mut send, mut take) = ring_pair::<ChA, 8, 4, Global>(rt.alloc(), 4)?;
+    let beat = put(3, 16, 0xff, [0, 1, 2, 3, 4, 5, 6, 7]);
+    let shown = cross_in_two_threads(&rt, &mut send, &mut take, beat);
+    drop(send);
+    drop(take);
+    // (whether the taker was there in time is not known)
+    let is_so = match shown {
+        Some((first, standing)) => {
+            let one_left = (standing == at(1, 0, 0))
+                | (standing == at(0, 1, 0))
+                | (standing == at(0, 0, 1));
+            (first.lanes == [0, 1, 2, 3]) & one_left
+        }
+        None => true,
+    };
+    assert!(rt; is_so);
+    Ok(())
+}
+
+#[test]
+fn a_receipt_shows_a_whole_layout(rt: HostRuntime) -> Result<(), Fail> {
+    let (send, mut take) = ring_pair::<ChA, 8, 4, Global>(rt.alloc(), 4)?;
+    let beat = put(3, 16, 0xff, [0, 1, 2, 3, 4, 5, 6, 7]);
+    let shown = cross_whole(send, &mut take, beat);
+    drop(take);
+    let is_so = match shown {
+        Some((first, second)) => (first.lanes == [0, 1, 2, 3]) & (second.lanes == [4, 5, 6, 7]),
+        None => false,
+    };
+    assert!(rt; is_so);
+    Ok(())
+}

@@ -1,4 +1,0 @@
-pub mod Ends
-pub mod Making
-pub mod Meeting
-pub mod Offering

@@ -1,0 +1,95 @@
+//! The taker's part of a crossing, behind any ring.
+ghost use Rattle.std.specs.Prelude.{◌≡◌, ◌≤◌, ◌-◌, ◌+◌, ◌++◌, [], List, drop, take, length, slice_get, IfSome};
+ghost use Rattle.tl_msg.specs.Faults.{IsLawfulBeat};
+ghost use Rattle.tl_msg.specs.declared.beat.BeatOf.{BeatOf};
+ghost use Rattle.tl_ring.specs.Boxes.{AreLawful, HasTaken};
+ghost use Rattle.tl_ring.specs.Crossing.{inbox_room};
+
+use crate::queue::Queue;
+use std::marker::Model;
+use tl_msg::{Beat, Channel};
+
+/// What a taker on a bus of `V` bytes has of one channel's crossing, whatever brought the far beats: those that came and were not
+/// yet taken, in order, at most [`crate::ROOM`]. Each of them is lawful by itself.
+#[derive(Drop)]
+pub struct Inbox<K: Channel, const V: usize> {
+    queue: Queue<Beat<K, V>>,
+}
+
+impl<K: Channel, const V: usize> Model for Inbox<K, V> {
+    ghost use Rattle.std.specs.Prelude.{List};
+    ghost use Rattle.tl_msg.specs.declared.beat.BeatOf.{BeatOf};
+    ghost use Rattle.tl_ring.specs.Boxes.{AreLawful};
+
+    ghost Value = { List (BeatOf K.Head V) };
+
+    ghost view = { λ i. i.queue };
+
+    ghost invariant = { λ i. AreLawful K.rules i.queue };
+}
+
+impl<K: Channel, const V: usize> Inbox<K, V> {
+    /// A new inbox.
+    pub fn new() -> Self
+        ensures { result ≡ [] }
+    {
+        Inbox {
+            queue: Queue::new(),
+        }
+    }
+
+    /// How many beats stand in it.
+    pub fn len(&self) -> usize
+        ensures count { result ≡ length self.now }
+        ensures most { result ≤ inbox_room }
+    {
+        self.queue.len()
+    }
+
+    /// How many more beats there is room for.
+    pub fn room(&self) -> usize
+        ensures count { result ≡ inbox_room - length self.now }
+        ensures most { length self.now ≤ inbox_room }
+    {
+        self.queue.room()
+    }
+
+    /// The beats, in order, for [`Inbox::take_all`].
+    pub fn as_slice(&self) -> &[Beat<K, V>]
+        ensures beats { result.now ≡ self.now }
+        ensures lawful { AreLawful K.rules result.now }
+    {
+        self.queue.as_slice()
+    }
+
+    /// Puts in the beats that come next.
+    pub fn append(&mut self, more: &[Beat<K, V>])
+        requires room { length self.old + length more.now ≤ inbox_room }
+        requires lawful { AreLawful K.rules more.now }
+        ensures { self.new ≡ self.old ++ more.now }
+    {
+        self.queue.append(more);
+    }
+
+    /// Takes the first beat. None exactly where the inbox is empty. Each beat is lawful by itself: a new tracker of its width does
+    /// not refuse it.
+    pub fn take(&mut self) -> Option<Beat<K, V>>
+        ensures beat { result ≡ slice_get self.old 0 }
+        ensures lawful { IfSome result (λ beat. IsLawfulBeat K.rules beat) }
+        ensures rest { self.new ≡ drop 1 self.old }
+        // for all that came and was taken
+        ensures taken { (received taken : List (BeatOf K.Head V)) →
+            HasTaken self.old received taken →
+            HasTaken self.new received (taken ++ take 1 self.old) }
+    {
+        self.queue.pop_front()
+    }
+
+    /// Takes all beats, which [`Inbox::as_slice`] shows: as many calls of [`Inbox::take`].
+    pub fn take_all(&mut self)
+        ensures { self.new ≡ [] }
+    {
+        let count = self.queue.len();
+        self.queue.drop_front(count);
+    }
+}

@@ -1,0 +1,165 @@
+//! The sender's part of a crossing, before any ring.
+ghost use Rattle.std.specs.Prelude.{◌≡◌, ◌≤◌, ◌<◌, ◌^◌, ◌++◌, ◌∷◌, ◌↔◌, [], List, ℕ, true, false, drop, take, length, Some, IsOk, IsTrue, IfOk, IfErr, OnOk, OnErr};
+ghost use Rattle.tl_lanes.specs.Lanes.{IsWidth};
+ghost use Rattle.tl_msg.specs.declared.beat.BeatOf.{BeatOf};
+ghost use Rattle.tl_burst.specs.Handing.{IsAdmitted, rest_of, fault_after, homes_with};
+ghost use Rattle.tl_burst.specs.Tracking.{IsPlaceOf};
+ghost use Rattle.tl_ring.specs.Boxes.{AreLawful, HasSent, IsOpen};
+ghost use Rattle.tl_ring.specs.declared.queue.TheConstants.{ROOM};
+
+use crate::fault::EndFault;
+use crate::queue::Queue;
+use crate::stage::stage_beat;
+use std::marker::Model;
+use tl_burst::Place;
+use tl_convert::Converter;
+use tl_msg::{Beat, BeatFault, Channel};
+
+/// What a sender on a bus of `W` bytes has of one channel's crossing to a bus of `V` bytes, whatever carries the far beats on.
+///
+/// Near beats are offered to it, and the far beats that they make due are staged, at most [`crate::ROOM`] of them, until whoever
+/// holds the outbox has sent them.
+#[derive(Drop)]
+pub struct Outbox<K: Channel, const W: usize, const V: usize> {
+    converter: Converter<K, W, V>,
+    stage: Queue<Beat<K, V>>,
+    closed: bool,
+}
+
+impl<K: Channel, const W: usize, const V: usize> Model for Outbox<K, W, V> {
+    ghost use Rattle.tl_ring.specs.Boxes.{Outgoing, AreLawful};
+
+    ghost Value = { Outgoing K.Head V };
+
+    ghost view = { λ o. record { converter = o.converter; stage = o.stage; closed = o.closed } };
+
+    ghost invariant = { λ o. AreLawful K.rules o.stage };
+}
+
+impl<K: Channel, const W: usize, const V: usize> Outbox<K, W, V> {
+    /// A new outbox. It has no word on the widths: what it promises has them as a premise in place of a demand.
+    pub fn new() -> Self
+        ensures stands { IsWidth W → IsWidth V → HasSent K.rules {w = W} result [] [] [] }
+        ensures ready { IsOpen result }
+    {
+        Outbox {
+            converter: Converter::new(),
+            stage: Queue::new(),
+            closed: false,
+        }
+    }
+
+    /// Whether a beat may be offered: nothing is staged and the outbox isn't closed.
+    pub fn ready(&self) -> bool
+        ensures { IsTrue result ↔ IsOpen self.now }
+    {
+        !self.closed && self.stage.is_empty()
+    }
+
+    /// Whether no more beats may be offered, ever.
+    pub fn is_closed(&self) -> bool
+        ensures { result ≡ self.now.closed }
+    {
+        self.closed
+    }
+
+    /// How many far beats are staged.
+    pub fn staged(&self) -> usize
+        ensures count { result ≡ length self.now.stage }
+        ensures most { result ≤ ROOM }
+    {
+        self.stage.len()
+    }
+
+    /// Whether the outbox may be closed: no burst is unfinished, so [`Outbox::close`] answers Ok.
+    pub fn may_close(&self) -> bool
+        // for all that the outbox accepted and sent
+        ensures { (bs : List (BeatOf K.Head W)) (homes : List ℕ) (sent : List (BeatOf K.Head V)) →
+            HasSent K.rules self.now bs homes sent →
+            IsTrue result ↔ (rest_of K.rules W bs ≡ []) }
+    {
+        self.converter.at_boundary()
+    }
+
+    /// Whether `beat` may be the next near beat, and where it stands in its message. It is refused with its first fault, exactly
+    /// where a burst is interrupted or a rule of the link broken by it after the beats that were accepted before. Nothing changes.
+    #[inline(always)]
+    pub fn check(&self, beat: &Beat<K, W>) -> Result<Place<K>, BeatFault>
+        requires { IsWidth W }
+        // for all that the outbox accepted and sent
+        ensures admitted { (bs : List (BeatOf K.Head W)) (homes : List ℕ) (sent : List (BeatOf K.Head V)) →
+            HasSent K.rules self.now bs homes sent →
+            IsOk result ↔ IsAdmitted K.rules bs beat.now }
+        ensures first_fault { (bs : List (BeatOf K.Head W)) (homes : List ℕ) (sent : List (BeatOf K.Head V)) →
+            HasSent K.rules self.now bs homes sent →
+            IfErr result (λ fault. fault_after K.rules bs beat.now ≡ Some fault) }
+        ensures index { (bs : List (BeatOf K.Head W)) (homes : List ℕ) (sent : List (BeatOf K.Head V)) →
+            HasSent K.rules self.now bs homes sent →
+            IfOk result (λ place. place.index ≡ length (rest_of K.rules W bs)) }
+        // for every outbox
+        ensures place { IfOk result (IsPlaceOf K.rules W self.now.converter.burst beat.now) }
+    {
+        self.converter.check(beat)
+    }
+
+    /// Offers a near beat where the outbox is ready, at its place, which [`Outbox::check`] gave. The far beats that it completes,
+    /// at most [`crate::ROOM`], are then staged. The home is read at a first beat of D alone, where it is the address of the
+    /// request that the message answers.
+    pub fn offer_at(&mut self, beat: &Beat<K, W>, place: Place<K>, home: u64)
+        // (one clause, since the checker states each by itself at each call)
+        requires { IsWidth W × IsWidth V × IsOpen self.old ×
+            IsPlaceOf K.rules W self.old.converter.burst beat.now place }
+        // for all that the outbox accepted and sent
+        ensures accepted { (bs : List (BeatOf K.Head W)) (homes : List ℕ) (sent : List (BeatOf K.Head V)) →
+            HasSent K.rules self.old bs homes sent →
+            HasSent K.rules self.new (bs ++ beat.now ∷ []) (homes_with K.rules bs homes beat.now home) sent }
+        // for every outbox
+        ensures still { self.new.closed ≡ false }
+    {
+        stage_beat(&mut self.converter, beat, place, home, &mut self.stage);
+    }
+
+    /// The staged beats, in order, for [`Outbox::sent`].
+    pub fn as_slice(&self) -> &[Beat<K, V>]
+        ensures beats { result.now ≡ self.now.stage }
+        ensures lawful { AreLawful K.rules result.now }
+        ensures most { length result.now ≤ ROOM }
+    {
+        self.stage.as_slice()
+    }
+
+    /// Notes that the first `count` of the staged beats were sent.
+    pub fn sent(&mut self, count: usize)
+        requires { count ≤ length self.old.stage }
+        ensures rest { self.new ≡ record self.old { stage = drop count self.old.stage } }
+        // for all that the outbox accepted and sent
+        ensures sent { (bs : List (BeatOf K.Head W)) (homes : List ℕ) (sent : List (BeatOf K.Head V)) →
+            HasSent K.rules self.old bs homes sent →
+            HasSent K.rules self.new bs homes (sent ++ take count self.old.stage) }
+    {
+        self.stage.drop_front(count);
+    }
+
+    /// Ends the offers. Refused exactly where a burst is unfinished, and nothing changes then. What is staged stays so. A second
+    /// close answers Ok and changes nothing.
+    pub fn close(&mut self) -> Result<(), EndFault>
+        // for all that the outbox accepted and sent
+        ensures between { (bs : List (BeatOf K.Head W)) (homes : List ℕ) (sent : List (BeatOf K.Head V)) →
+            HasSent K.rules self.old bs homes sent →
+            IsOk result ↔ (rest_of K.rules W bs ≡ []) }
+        ensures stands { (bs : List (BeatOf K.Head W)) (homes : List ℕ) (sent : List (BeatOf K.Head V)) →
+            HasSent K.rules self.old bs homes sent →
+            OnOk result (HasSent K.rules self.new bs homes sent) }
+        // for every outbox
+        ensures closed { OnOk result (self.new ≡ record self.old { closed = true }) }
+        ensures again { self.old.closed ≡ true → IsOk result × (self.new ≡ self.old) }
+        ensures refused { OnErr result (self.new ≡ self.old) }
+    {
+        let may_close = self.closed | self.converter.at_boundary();
+        if !may_close {
+            return Err(EndFault::MidBurst);
+        }
+        self.closed = true;
+        Ok(())
+    }
+}

@@ -1,0 +1,9 @@
+use Rattle.tl_ring.proofs.FieldSizes.{part_small}
+use Rattle.tl_sides.proofs.Layouts.{client_side_layout}
+use Rattle.tl_sides.proofs.client_side.ClientSide.ready_e.Goals as goal
+
+pub ready_e-requires : goal.ready_e-requires
+ready_e-requires g c = part_small (client_side_layout g.row.C g.row.M g.row.A g.A.Allocator) 0 9223372036854775808 c.requires-raw.1.1.1
+
+pub returns : goal.returns
+returns g c = rw (← c.self.view_is) c.ready_e.ensures

@@ -1,0 +1,18 @@
+use Rattle.std.proofs.Common.{refl}
+use Rattle.tl_ring.proofs.Answered.{on_ok, on_err}
+use Rattle.tl_sides.proofs.PortSteps.{manager_d}
+use Rattle.tl_sides.proofs.Layouts.{manager_layout}
+use Rattle.tl_ring.proofs.FieldSizes.{part_small}
+use Rattle.tl_sides.proofs.manager_port.ManagerPort.close_d.Goals as goal
+
+pub close-requires : goal.close-requires
+close-requires g c = part_small (manager_layout g.row.C g.row.M g.row.A g.A.Allocator) 3 9223372036854775808 c.requires-raw.1.1.1
+
+pub returns : goal.returns
+returns g c = rw (← c.self.view_is) (record {
+  between = λ x s. c.close.ensures.between _ _ _ s.d;
+  stands = λ x s. on_ok c.close.result (λ ok said. manager_d _ x s _ x.d_sent said) (c.close.ensures.stands _ _ _ s.d);
+  closed = on_ok c.close.result (λ ok same. rw same refl) c.close.ensures.closed;
+  again = λ shut. let again = c.close.ensures.again shut in (again.0, rw again.1 refl);
+  refused = on_err c.close.result (λ same. rw same refl) c.close.ensures.refused;
+})

@@ -1,0 +1,29 @@
+use Rattle.std.proofs.Common.{sym}
+use Rattle.tl_sides.proofs.Layouts.{manager_layout}
+use Rattle.tl_ring.proofs.FieldSizes.{part_small}
+use Rattle.tl_sides.proofs.manager_port.ManagerPort.over.Goals as goal
+
+pub new-requires : goal.new-requires
+new-requires g c = part_small (manager_layout g.row.C g.row.M g.row.A g.A.Allocator) 0 9223372036854775808 c.requires-raw.1.1.1.1
+
+pub new-requires-2 : goal.new-requires-2
+new-requires-2 g c = part_small (manager_layout g.row.C g.row.M g.row.A g.A.Allocator) 1 9223372036854775808 c.requires-raw.1.1.1.1
+
+pub new-requires-3 : goal.new-requires-3
+new-requires-3 g c = part_small (manager_layout g.row.C g.row.M g.row.A g.A.Allocator) 2 9223372036854775808 c.requires-raw.1.1.1.1
+
+pub new-requires-4 : goal.new-requires-4
+new-requires-4 g c = part_small (manager_layout g.row.C g.row.M g.row.A g.A.Allocator) 3 9223372036854775808 c.requires-raw.1.1.1.1
+
+pub new-requires-5 : goal.new-requires-5
+new-requires-5 g c = part_small (manager_layout g.row.C g.row.M g.row.A g.A.Allocator) 4 9223372036854775808 c.requires-raw.1.1.1.1
+
+pub returns-clause-stands : goal.returns-clause-stands
+returns-clause-stands g c = λ client manager knows. record {
+  a = sym c.new.ensures;
+  b = c.new-2.ensures.stands manager client;
+  c = sym c.new-3.ensures;
+  d = c.new-4.ensures.stands manager client;
+  e = sym c.new-5.ensures;
+  book = knows;
+}

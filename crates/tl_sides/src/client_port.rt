@@ -1,0 +1,252 @@
+//! The client's side, whatever carries its beats.
+ghost use Rattle.std.specs.Prelude.{◌≡◌, ◌↔◌, ◌++◌, ◌∷◌, [], true, false, None, Some, map, take, drop, slice_get, IsOk, IsTrue, IfErr, IfSome, OnOk, OnErr};
+ghost use Rattle.tl_lanes.specs.Lanes.{IsWidth};
+ghost use Rattle.tl_msg.specs.Faults.{IsLawfulBeat};
+ghost use Rattle.tl_msg.specs.Tables.{rules_a, rules_b, rules_c, rules_d, rules_e};
+ghost use Rattle.tl_burst.specs.Handing.{rest_of, homes_with};
+ghost use Rattle.tl_ring.specs.Boxes.{IsOpen};
+ghost use Rattle.tl_settle.specs.Histories.{Ask, Answer, asked, client_answer};
+ghost use Rattle.tl_sides.specs.Books.{KnowsClient};
+ghost use Rattle.tl_sides.specs.Crossings.{stops_alone};
+ghost use Rattle.tl_sides.specs.Ports.{ClientDone, ClientStands, client_new, accepts, takes};
+
+use crate::books::ClientBook;
+use crate::noting::note_all;
+use crate::offering::{offer_alone, offer_request};
+use std::alloc::{Allocator, Global};
+use std::marker::Model;
+use tl_msg::{Beat, ChA, ChB, ChC, ChD, ChE, SideFault};
+use tl_ring::{EndFault, Inbox, Outbox};
+
+/// The client's side on a bus of `C` bytes, whatever carries its beats to and from a bus of `M` bytes: it offers beats of
+/// A, C and E, and takes those of B and D.
+///
+/// An outbox for each channel that it sends, an inbox for each that it takes, and its book. Who holds the port beside its rings
+/// moves beats from the outboxes into them and out of them into the inboxes. What the calls promise speaks of this side's own
+/// history alone.
+#[derive(Drop)]
+pub struct ClientPort<const C: usize, const M: usize, A: Allocator = Global> {
+    pub(crate) a: Outbox<ChA, C, M>,
+    pub(crate) b: Inbox<ChB, C>,
+    pub(crate) c: Outbox<ChC, C, M>,
+    pub(crate) d: Inbox<ChD, C>,
+    pub(crate) e: Outbox<ChE, C, M>,
+    pub(crate) book: ClientBook<C, A>,
+}
+
+impl<const C: usize, const M: usize, A: Allocator> Model for ClientPort<C, M, A> {
+    ghost use Rattle.tl_sides.specs.Ports.{ClientNow};
+
+    ghost Value = { ClientNow C M };
+
+    ghost view = { λ s. record { a = s.a; b = s.b; c = s.c; d = s.d; e = s.e; book = s.book } };
+}
+
+impl<const C: usize, const M: usize, A: Allocator> ClientPort<C, M, A> {
+    /// The port of a new side over its book. It has no word on the widths: what it promises has them as a premise in place of a
+    /// demand.
+    pub fn over(book: ClientBook<C, A>) -> Self
+        ensures stands { IsWidth C → IsWidth M → KnowsClient {w = C} book [] → ClientStands {C = C} {M = M} result client_new }
+        ensures ready_a { IsOpen result.a }
+        ensures ready_c { IsOpen result.c }
+        ensures ready_e { IsOpen result.e }
+        ensures empty_b { result.b ≡ [] }
+        ensures empty_d { result.d ≡ [] }
+        ensures book { result.book ≡ book }
+    {
+        ClientPort {
+            a: Outbox::new(),
+            b: Inbox::new(),
+            c: Outbox::new(),
+            d: Inbox::new(),
+            e: Outbox::new(),
+            book,
+        }
+    }
+
+    /// Whether a beat of A may be offered: nothing of A is staged, and the channel isn't closed.
+    pub fn ready_a(&self) -> bool
+        ensures { IsTrue result ↔ IsOpen self.now.a }
+    {
+        self.a.ready()
+    }
+
+    /// Whether a beat of C may be offered: nothing of C is staged, and the channel isn't closed.
+    pub fn ready_c(&self) -> bool
+        ensures { IsTrue result ↔ IsOpen self.now.c }
+    {
+        self.c.ready()
+    }
+
+    /// Whether a beat of E may be offered: nothing of E is staged, and the channel isn't closed.
+    pub fn ready_e(&self) -> bool
+        ensures { IsTrue result ↔ IsOpen self.now.e }
+    {
+        self.e.ready()
+    }
+
+    /// Offers a beat of A where A is ready. It is refused with the beat's own fault, else, where it opens a message, with
+    /// `SourceBusy` exactly where its source is busy, and nothing changes then. An accepted first beat makes its source busy, and
+    /// the far beats that the beat completes are staged.
+    pub fn offer_a(&mut self, beat: &Beat<ChA, C>) -> Result<(), SideFault>
+        requires near { IsWidth C }
+        requires far { IsWidth M }
+        requires ready { IsOpen self.old.a }
+        // for all that the side has done
+        ensures admitted { (x : ClientDone C M) → ClientStands self.old x →
+            IsOk result ↔ (client_answer x.history beat.now ≡ None) }
+        ensures accepted { (x : ClientDone C M) → ClientStands self.old x →
+            OnOk result (ClientStands self.new
+            (record x { history = x.history ++ Ask beat.now ∷ []; a_homes = homes_with rules_a (asked x.history) x.a_homes beat.now 0 })) }
+        ensures fault { (x : ClientDone C M) → ClientStands self.old x →
+            IfErr result (λ fault. client_answer x.history beat.now ≡ Some fault) }
+        // for every side
+        ensures rest { self.new ≡ record self.old { a = self.new.a; book = self.new.book } }
+        ensures still { self.new.a.closed ≡ false }
+        ensures refused { OnErr result (self.new ≡ self.old) }
+    {
+        offer_request(&mut self.book, &mut self.a, beat)
+    }
+
+    /// Offers a beat of C where C is ready. It is refused exactly with the beat's own fault, and nothing changes then. Else the
+    /// far beats that it completes are staged.
+    pub fn offer_c(&mut self, beat: &Beat<ChC, C>) -> Result<(), SideFault>
+        requires near { IsWidth C }
+        requires far { IsWidth M }
+        requires ready { IsOpen self.old.c }
+        // for all that the side has done
+        ensures admitted { (x : ClientDone C M) → ClientStands self.old x →
+            IsOk result ↔ (stops_alone rules_c x.c.accepted beat.now ≡ None) }
+        ensures accepted { (x : ClientDone C M) → ClientStands self.old x →
+            OnOk result (ClientStands self.new
+            (record x { c = accepts rules_c beat.now 0 x.c })) }
+        ensures fault { (x : ClientDone C M) → ClientStands self.old x →
+            IfErr result (λ fault. stops_alone rules_c x.c.accepted beat.now ≡ Some fault) }
+        // for every side
+        ensures rest { self.new ≡ record self.old { c = self.new.c } }
+        ensures still { self.new.c.closed ≡ false }
+        ensures refused { OnErr result (self.new ≡ self.old) }
+    {
+        offer_alone(&mut self.c, beat)
+    }
+
+    /// Offers a beat of E where E is ready. It is refused exactly with the beat's own fault, and nothing changes then. Else the
+    /// far beats that it completes are staged.
+    pub fn offer_e(&mut self, beat: &Beat<ChE, C>) -> Result<(), SideFault>
+        requires near { IsWidth C }
+        requires far { IsWidth M }
+        requires ready { IsOpen self.old.e }
+        // for all that the side has done
+        ensures admitted { (x : ClientDone C M) → ClientStands self.old x →
+            IsOk result ↔ (stops_alone rules_e x.e.accepted beat.now ≡ None) }
+        ensures accepted { (x : ClientDone C M) → ClientStands self.old x →
+            OnOk result (ClientStands self.new
+            (record x { e = accepts rules_e beat.now 0 x.e })) }
+        ensures fault { (x : ClientDone C M) → ClientStands self.old x →
+            IfErr result (λ fault. stops_alone rules_e x.e.accepted beat.now ≡ Some fault) }
+        // for every side
+        ensures rest { self.new ≡ record self.old { e = self.new.e } }
+        ensures still { self.new.e.closed ≡ false }
+        ensures refused { OnErr result (self.new ≡ self.old) }
+    {
+        offer_alone(&mut self.e, beat)
+    }
+
+    /// Takes the first beat of B's inbox. None exactly where it is empty.
+    pub fn take_b(&mut self) -> Option<Beat<ChB, C>>
+        ensures beat { result ≡ slice_get self.old.b 0 }
+        ensures lawful { IfSome result (λ beat. IsLawfulBeat rules_b beat) }
+        // for all that the side has done
+        ensures taken { (x : ClientDone C M) → ClientStands self.old x →
+            ClientStands self.new (record x { b = takes (take 1 self.old.b) x.b }) }
+        // for every side
+        ensures rest { self.new ≡ record self.old { b = drop 1 self.old.b } }
+    {
+        self.b.take()
+    }
+
+    /// Takes the first beat of D's inbox. None exactly where it is empty. A first beat other than of ReleaseAck frees its source.
+    pub fn take_d(&mut self) -> Option<Beat<ChD, C>>
+        requires { IsWidth C }
+        ensures beat { result ≡ slice_get self.old.d 0 }
+        ensures lawful { IfSome result (λ beat. IsLawfulBeat rules_d beat) }
+        // for all that the side has done
+        ensures taken { (x : ClientDone C M) → ClientStands self.old x →
+            ClientStands self.new (record x { history = x.history ++ map Answer (take 1 self.old.d) }) }
+        // for every side
+        ensures rest { self.new ≡ record self.old { d = drop 1 self.old.d; book = self.new.book } }
+    {
+        match self.d.take() {
+            Some(beat) => {
+                self.book.note_answer(&beat.head);
+                Some(beat)
+            }
+            None => None,
+        }
+    }
+
+    /// Takes all beats of both inboxes: as many calls of [`ClientPort::take_b`] and [`ClientPort::take_d`].
+    pub fn take_all(&mut self)
+        requires { IsWidth C }
+        // for all that the side has done
+        ensures taken { (x : ClientDone C M) → ClientStands self.old x →
+            ClientStands self.new (record x { history = x.history ++ map Answer self.old.d; b = takes self.old.b x.b }) }
+        // for every side
+        ensures rest { self.new ≡ record self.old { b = []; d = []; book = self.new.book } }
+    {
+        note_all(&mut self.book, self.d.as_slice());
+        self.b.take_all();
+        self.d.take_all();
+    }
+
+    /// Ends the offers of A. Refused exactly where a burst is unfinished, and nothing changes then. What is staged stays so, and
+    /// still crosses. A second close answers Ok and changes nothing.
+    pub fn close_a(&mut self) -> Result<(), EndFault>
+        // for all that the side has done
+        ensures between { (x : ClientDone C M) → ClientStands self.old x →
+            IsOk result ↔ (rest_of rules_a C (asked x.history) ≡ []) }
+        ensures stands { (x : ClientDone C M) → ClientStands self.old x →
+            OnOk result (ClientStands self.new x) }
+        // for every side
+        ensures closed { OnOk result
+            (self.new ≡ record self.old { a = record self.old.a { closed = true } }) }
+        ensures again { self.old.a.closed ≡ true → IsOk result × (self.new ≡ self.old) }
+        ensures refused { OnErr result (self.new ≡ self.old) }
+    {
+        self.a.close()
+    }
+
+    /// Ends the offers of C. Refused exactly where a burst is unfinished, and nothing changes then. What is staged stays so, and
+    /// still crosses. A second close answers Ok and changes nothing.
+    pub fn close_c(&mut self) -> Result<(), EndFault>
+        // for all that the side has done
+        ensures between { (x : ClientDone C M) → ClientStands self.old x →
+            IsOk result ↔ (rest_of rules_c C x.c.accepted ≡ []) }
+        ensures stands { (x : ClientDone C M) → ClientStands self.old x →
+            OnOk result (ClientStands self.new x) }
+        // for every side
+        ensures closed { OnOk result
+            (self.new ≡ record self.old { c = record self.old.c { closed = true } }) }
+        ensures again { self.old.c.closed ≡ true → IsOk result × (self.new ≡ self.old) }
+        ensures refused { OnErr result (self.new ≡ self.old) }
+    {
+        self.c.close()
+    }
+
+    /// Ends the offers of E. Refused exactly where a burst is unfinished, and nothing changes then. What is staged stays so, and
+    /// still crosses. A second close answers Ok and changes nothing.
+    pub fn close_e(&mut self) -> Result<(), EndFault>
+        // for all that the side has done
+        ensures between { (x : ClientDone C M) → ClientStands self.old x →
+            IsOk result ↔ (rest_of rules_e C x.e.accepted ≡ []) }
+        ensures stands { (x : ClientDone C M) → ClientStands self.old x →
+            OnOk result (ClientStands self.new x) }
+        // for every side
+        ensures closed { OnOk result
+            (self.new ≡ record self.old { e = record self.old.e { closed = true } }) }
+        ensures again { self.old.e.closed ≡ true → IsOk result × (self.new ≡ self.old) }
+        ensures refused { OnErr result (self.new ≡ self.old) }
+    {
+        self.e.close()
+    }
+}

@@ -1,0 +1,251 @@
+//! The client's side of the bridge.
+ghost use Rattle.std.specs.Prelude.{◌≡◌, ◌+◌, ◌*◌, ◌≤◌, ◌↔◌, [], true, None, Some, length, slice_get, take, IsOk, IsTrue, IfErr, IfSome, OnOk, OnErr};
+ghost use Rattle.tl_lanes.specs.Lanes.{IsWidth};
+ghost use Rattle.tl_msg.specs.Faults.{IsLawfulBeat};
+ghost use Rattle.tl_msg.specs.Tables.{rules_a, rules_b, rules_c, rules_d, rules_e};
+ghost use Rattle.tl_burst.specs.Handing.{rest_of};
+ghost use Rattle.tl_ring.specs.Ends.{as_pipe, closing, took_first};
+ghost use Rattle.tl_ring.specs.Pipe.{IsReady};
+ghost use Rattle.tl_ring.specs.declared.queue.TheConstants.{ROOM};
+ghost use Rattle.tl_settle.specs.Histories.{client_answer};
+ghost use Rattle.tl_sides.specs.Crossings.{stops_alone};
+ghost use Rattle.tl_sides.specs.Ends.{Pumps, Fetches, pump_count, fetch_count};
+ghost use Rattle.tl_sides.specs.Sides.{ClientPast, ClientStandsFor, client_pumps};
+ghost use Rattle.tl_sides.specs.Sides.{client_offers_a, client_offers_c, client_offers_e, client_takes_b, client_takes_d, client_closes_a, client_closes_c, client_closes_e};
+
+use crate::client_port::ClientPort;
+use std::alloc::{Allocator, Global};
+use std::marker::Model;
+use tl_msg::{BeatOf, ChA, ChB, ChC, ChD, ChE, HeadA, HeadB, HeadC, HeadD, HeadE, SideFault};
+use tl_ring::{EndFault, Intake, SendHalf, receive, send_staged};
+
+/// The client's side of the bridge, on a bus of `C` bytes. It offers beats of A, C and E, and takes
+/// those of B and D.
+///
+/// Between an offer and a take lie a stage, a ring and an inbox: `pump` moves beats from this side's
+/// stages into its rings, and `fetch` from the other side's rings into this side's inboxes. Stage and
+/// inbox hold [`tl_ring::ROOM`] beats each. No call waits for the other side.
+///
+/// A source is busy from the first beat of A that this side offers until it takes the first beat of
+/// the response (TileLink: source and size of responses; the moments at which a source is busy:
+/// this project's choice).
+#[derive(Drop)]
+pub struct ClientSide<const C: usize, const M: usize, A: Allocator = Global> {
+    pub(crate) port: ClientPort<C, M, A>,
+    pub(crate) a: SendHalf<ChA, M, A>,
+    pub(crate) b: Intake<ChB, C, A>,
+    pub(crate) c: SendHalf<ChC, M, A>,
+    pub(crate) d: Intake<ChD, C, A>,
+    pub(crate) e: SendHalf<ChE, M, A>,
+}
+
+impl<const C: usize, const M: usize, A: Allocator> Model for ClientSide<C, M, A> {
+    ghost use Rattle.tl_sides.specs.Sides.{ClientState, client_state_of};
+
+    ghost Value = { ClientState A C M };
+
+    ghost view = { λ s. client_state_of s.port s.a s.b.half s.c s.d.half s.e };
+}
+
+impl<const C: usize, const M: usize, A: Allocator> ClientSide<C, M, A> {
+    /// Whether a beat of A may be offered: nothing of A is staged, and the channel isn't closed.
+    pub fn ready_a(&self) -> bool
+        ensures { IsTrue result ↔ IsReady (as_pipe self.now.a) }
+    {
+        self.port.ready_a()
+    }
+
+    /// Whether a beat of C may be offered: nothing of C is staged, and the channel isn't closed.
+    pub fn ready_c(&self) -> bool
+        ensures { IsTrue result ↔ IsReady (as_pipe self.now.c) }
+    {
+        self.port.ready_c()
+    }
+
+    /// Whether a beat of E may be offered: nothing of E is staged, and the channel isn't closed.
+    pub fn ready_e(&self) -> bool
+        ensures { IsTrue result ↔ IsReady (as_pipe self.now.e) }
+    {
+        self.port.ready_e()
+    }
+
+    /// Offers a beat of A where A is ready. It is refused with the beat's own fault, else, where it
+    /// opens a message, with `SourceBusy` exactly where its source is busy. A refusal changes
+    /// nothing. An accepted first beat makes its source busy, and the far beats that the beat
+    /// completes, at most [`tl_ring::ROOM`], are staged.
+    pub fn offer_a(&mut self, beat: BeatOf<HeadA, C>) -> Result<(), SideFault>
+        requires near { IsWidth C }
+        requires far { IsWidth M }
+        requires ready { IsReady (as_pipe self.old.a) }
+        // for every past that the side stands for
+        ensures admitted { (x : ClientPast C M) → ClientStandsFor self.old x →
+            IsOk result ↔ (client_answer x.history beat.entry ≡ None) }
+        ensures accepted { (x : ClientPast C M) → ClientStandsFor self.old x →
+            OnOk result (ClientStandsFor self.new (client_offers_a beat.entry x)) }
+        ensures fault { (x : ClientPast C M) → ClientStandsFor self.old x →
+            IfErr result (λ fault. client_answer x.history beat.entry ≡ Some fault) }
+        // for every side
+        ensures ring { self.new.a.producer ≡ self.old.a.producer }
+        ensures rest { self.new ≡ record self.old { a = self.new.a; book = self.new.book } }
+        ensures refused { OnErr result (self.new ≡ self.old) }
+    {
+        self.port.offer_a(&beat)
+    }
+
+    /// Offers a beat of C where C is ready. It is refused exactly with the beat's own fault, and
+    /// nothing changes then. Else the far beats that it completes, at most [`tl_ring::ROOM`], are staged.
+    pub fn offer_c(&mut self, beat: BeatOf<HeadC, C>) -> Result<(), SideFault>
+        requires near { IsWidth C }
+        requires far { IsWidth M }
+        requires ready { IsReady (as_pipe self.old.c) }
+        // for every past that the side stands for
+        ensures admitted { (x : ClientPast C M) → ClientStandsFor self.old x →
+            IsOk result ↔ (stops_alone rules_c x.c.accepted beat.entry ≡ None) }
+        ensures accepted { (x : ClientPast C M) → ClientStandsFor self.old x →
+            OnOk result (ClientStandsFor self.new (client_offers_c beat.entry x)) }
+        ensures fault { (x : ClientPast C M) → ClientStandsFor self.old x →
+            IfErr result (λ fault. stops_alone rules_c x.c.accepted beat.entry ≡ Some fault) }
+        // for every side
+        ensures ring { self.new.c.producer ≡ self.old.c.producer }
+        ensures rest { self.new ≡ record self.old { c = self.new.c } }
+        ensures refused { OnErr result (self.new ≡ self.old) }
+    {
+        self.port.offer_c(&beat)
+    }
+
+    /// Offers a beat of E where E is ready. No beat of E has a fault. The far beat is staged.
+    pub fn offer_e(&mut self, beat: BeatOf<HeadE, C>) -> Result<(), SideFault>
+        requires near { IsWidth C }
+        requires far { IsWidth M }
+        requires ready { IsReady (as_pipe self.old.e) }
+        // for every past that the side stands for
+        ensures admitted { (x : ClientPast C M) → ClientStandsFor self.old x →
+            IsOk result ↔ (stops_alone rules_e x.e.accepted beat.entry ≡ None) }
+        ensures accepted { (x : ClientPast C M) → ClientStandsFor self.old x →
+            OnOk result (ClientStandsFor self.new (client_offers_e beat.entry x)) }
+        ensures fault { (x : ClientPast C M) → ClientStandsFor self.old x →
+            IfErr result (λ fault. stops_alone rules_e x.e.accepted beat.entry ≡ Some fault) }
+        // for every side
+        ensures ring { self.new.e.producer ≡ self.old.e.producer }
+        ensures rest { self.new ≡ record self.old { e = self.new.e } }
+        ensures refused { OnErr result (self.new ≡ self.old) }
+    {
+        self.port.offer_e(&beat)
+    }
+
+    /// Takes the first beat of B's inbox, which is lawful at `C` bytes. None exactly where it is
+    /// empty.
+    pub fn take_b(&mut self) -> Option<BeatOf<HeadB, C>>
+        ensures beat { result ≡ slice_get self.old.b.inbox 0 }
+        ensures lawful { IfSome result (λ beat. IsLawfulBeat rules_b beat) }
+        ensures rest { self.new ≡ record self.old { b = took_first self.old.b } }
+        // for every past that the side stands for
+        ensures taken { (x : ClientPast C M) → ClientStandsFor self.old x →
+            ClientStandsFor self.new (client_takes_b (take 1 self.old.b.inbox) x) }
+    {
+        self.port.take_b()
+    }
+
+    /// Takes the first beat of D's inbox, which is lawful at `C` bytes. None exactly where it is
+    /// empty. A first beat other than of ReleaseAck frees its source.
+    pub fn take_d(&mut self) -> Option<BeatOf<HeadD, C>>
+        requires far { IsWidth C }
+        ensures beat { result ≡ slice_get self.old.d.inbox 0 }
+        ensures lawful { IfSome result (λ beat. IsLawfulBeat rules_d beat) }
+        ensures rest { self.new ≡
+            record self.old { d = took_first self.old.d; book = self.new.book } }
+        // for every past that the side stands for
+        ensures taken { (x : ClientPast C M) → ClientStandsFor self.old x →
+            ClientStandsFor self.new (client_takes_d (take 1 self.old.d.inbox) x) }
+    {
+        self.port.take_d()
+    }
+
+    /// Ends the offers of A. Refused exactly where a burst is unfinished, and nothing changes then.
+    /// What is staged stays so, and still crosses. A second close answers Ok and changes nothing.
+    pub fn close_a(&mut self) -> Result<(), EndFault>
+        // for every past that the side stands for
+        ensures between { (x : ClientPast C M) → ClientStandsFor self.old x →
+            IsOk result ↔ (rest_of rules_a C x.a.accepted ≡ []) }
+        ensures stands { (x : ClientPast C M) → ClientStandsFor self.old x →
+            OnOk result (ClientStandsFor self.new (client_closes_a x)) }
+        // for every side
+        ensures closed { OnOk result (self.new ≡ record self.old { a = closing self.old.a }) }
+        ensures again { self.old.a.closed ≡ true → IsOk result × (self.new ≡ self.old) }
+        ensures refused { OnErr result (self.new ≡ self.old) }
+    {
+        self.port.close_a()
+    }
+
+    /// Ends the offers of C. Refused exactly where a burst is unfinished, and nothing changes then.
+    /// What is staged stays so, and still crosses. A second close answers Ok and changes nothing.
+    pub fn close_c(&mut self) -> Result<(), EndFault>
+        // for every past that the side stands for
+        ensures between { (x : ClientPast C M) → ClientStandsFor self.old x →
+            IsOk result ↔ (rest_of rules_c C x.c.accepted ≡ []) }
+        ensures stands { (x : ClientPast C M) → ClientStandsFor self.old x →
+            OnOk result (ClientStandsFor self.new (client_closes_c x)) }
+        // for every side
+        ensures closed { OnOk result (self.new ≡ record self.old { c = closing self.old.c }) }
+        ensures again { self.old.c.closed ≡ true → IsOk result × (self.new ≡ self.old) }
+        ensures refused { OnErr result (self.new ≡ self.old) }
+    {
+        self.port.close_c()
+    }
+
+    /// Ends the offers of E. Refused exactly where a burst is unfinished, and nothing changes then.
+    /// What is staged stays so, and still crosses. A second close answers Ok and changes nothing.
+    pub fn close_e(&mut self) -> Result<(), EndFault>
+        // for every past that the side stands for
+        ensures between { (x : ClientPast C M) → ClientStandsFor self.old x →
+            IsOk result ↔ (rest_of rules_e C x.e.accepted ≡ []) }
+        ensures stands { (x : ClientPast C M) → ClientStandsFor self.old x →
+            OnOk result (ClientStandsFor self.new (client_closes_e x)) }
+        // for every side
+        ensures closed { OnOk result (self.new ≡ record self.old { e = closing self.old.e }) }
+        ensures again { self.old.e.closed ≡ true → IsOk result × (self.new ≡ self.old) }
+        ensures refused { OnErr result (self.new ≡ self.old) }
+    {
+        self.port.close_e()
+    }
+
+    /// Moves staged beats into the rings on each channel that this side offers, at least as many as
+    /// it knows to find a place, and answers how many these are in all.
+    pub fn pump(&mut self) -> usize
+        ensures total { result ≡ pump_count self.old.a self.new.a +
+            pump_count self.old.c self.new.c + pump_count self.old.e self.new.e }
+        ensures most { result ≤ 3 * ROOM }
+        ensures a { Pumps self.old.a self.new.a }
+        ensures c { Pumps self.old.c self.new.c }
+        ensures e { Pumps self.old.e self.new.e }
+        ensures rest { self.new ≡
+            record self.old { a = self.new.a; c = self.new.c; e = self.new.e } }
+        // for every past that the side stands for
+        ensures stands { (x : ClientPast C M) → ClientStandsFor self.old x →
+            ClientStandsFor self.new (client_pumps self.old self.new x) }
+    {
+        let a = send_staged(&mut self.port.a, &mut self.a);
+        let c = send_staged(&mut self.port.c, &mut self.c);
+        let e = send_staged(&mut self.port.e, &mut self.e);
+        a + c + e
+    }
+
+    /// Moves beats from the rings into the inboxes on each channel that this side takes, at least
+    /// as many as it knows to be there and each inbox has room for, and answers how many these are
+    /// in all.
+    pub fn fetch(&mut self) -> usize
+        ensures total { result ≡
+            fetch_count self.old.b self.new.b + fetch_count self.old.d self.new.d }
+        ensures most { result ≤ 2 * ROOM }
+        ensures b { Fetches self.old.b self.new.b }
+        ensures d { Fetches self.old.d self.new.d }
+        ensures rest { self.new ≡ record self.old { b = self.new.b; d = self.new.d } }
+        // for every past that the side stands for
+        ensures stands { (x : ClientPast C M) → ClientStandsFor self.old x →
+            ClientStandsFor self.new x }
+    {
+        let b = receive(&mut self.b, &mut self.port.b);
+        let d = receive(&mut self.d, &mut self.port.d);
+        b + d
+    }
+}

@@ -1,0 +1,223 @@
+//! The manager's side of the bridge.
+ghost use Rattle.std.specs.Prelude.{◌≡◌, ◌+◌, ◌*◌, ◌≤◌, ◌↔◌, [], true, None, Some, length, slice_get, take, IsOk, IsTrue, IfErr, IfSome, OnOk, OnErr};
+ghost use Rattle.tl_lanes.specs.Lanes.{IsWidth};
+ghost use Rattle.tl_msg.specs.Faults.{IsLawfulBeat};
+ghost use Rattle.tl_msg.specs.Tables.{rules_a, rules_b, rules_c, rules_d, rules_e};
+ghost use Rattle.tl_burst.specs.Handing.{rest_of};
+ghost use Rattle.tl_ring.specs.Ends.{as_pipe, closing, took_first};
+ghost use Rattle.tl_ring.specs.Pipe.{IsReady};
+ghost use Rattle.tl_ring.specs.declared.queue.TheConstants.{ROOM};
+ghost use Rattle.tl_settle.specs.Histories.{manager_answer};
+ghost use Rattle.tl_sides.specs.Crossings.{stops_alone};
+ghost use Rattle.tl_sides.specs.Ends.{Pumps, Fetches, pump_count, fetch_count};
+ghost use Rattle.tl_sides.specs.Sides.{ManagerPast, ManagerStandsFor, manager_pumps};
+ghost use Rattle.tl_sides.specs.Sides.{manager_offers_b, manager_offers_d, manager_takes_a, manager_takes_c, manager_takes_e, manager_closes_b, manager_closes_d};
+
+use crate::manager_port::ManagerPort;
+use std::alloc::{Allocator, Global};
+use std::marker::Model;
+use tl_msg::{BeatOf, ChA, ChB, ChC, ChD, ChE, HeadA, HeadB, HeadC, HeadD, HeadE, SideFault};
+use tl_ring::{EndFault, Intake, SendHalf, receive, send_staged};
+
+/// The manager's side of the bridge, on a bus of `M` bytes. It offers beats of B and D, and takes
+/// those of A, C and E.
+///
+/// Between an offer and a take lie a stage, a ring and an inbox: `pump` moves beats from this side's
+/// stages into its rings, and `fetch` from the other side's rings into this side's inboxes. Stage and
+/// inbox hold [`tl_ring::ROOM`] beats each. No call waits for the other side.
+///
+/// A response may be offered once this side has taken the first beat of its request, has the
+/// request's size, and stands on lanes by the request's address. ReleaseAck answers no request
+/// (TileLink: source and size of responses; the moments at which a request is open: this project's
+/// choice).
+#[derive(Drop)]
+pub struct ManagerSide<const C: usize, const M: usize, A: Allocator = Global> {
+    pub(crate) port: ManagerPort<C, M, A>,
+    pub(crate) a: Intake<ChA, M, A>,
+    pub(crate) b: SendHalf<ChB, C, A>,
+    pub(crate) c: Intake<ChC, M, A>,
+    pub(crate) d: SendHalf<ChD, C, A>,
+    pub(crate) e: Intake<ChE, M, A>,
+}
+
+impl<const C: usize, const M: usize, A: Allocator> Model for ManagerSide<C, M, A> {
+    ghost use Rattle.tl_sides.specs.Sides.{ManagerState, manager_state_of};
+
+    ghost Value = { ManagerState A C M };
+
+    ghost view = { λ s. manager_state_of s.port s.a.half s.b s.c.half s.d s.e.half };
+}
+
+impl<const C: usize, const M: usize, A: Allocator> ManagerSide<C, M, A> {
+    /// Whether a beat of B may be offered: nothing of B is staged, and the channel isn't closed.
+    pub fn ready_b(&self) -> bool
+        ensures { IsTrue result ↔ IsReady (as_pipe self.now.b) }
+    {
+        self.port.ready_b()
+    }
+
+    /// Whether a beat of D may be offered: nothing of D is staged, and the channel isn't closed.
+    pub fn ready_d(&self) -> bool
+        ensures { IsTrue result ↔ IsReady (as_pipe self.now.d) }
+    {
+        self.port.ready_d()
+    }
+
+    /// Offers a beat of B where B is ready. It is refused exactly with the beat's own fault, and
+    /// nothing changes then. Else the far beats that it completes, at most [`tl_ring::ROOM`], are staged.
+    pub fn offer_b(&mut self, beat: BeatOf<HeadB, M>) -> Result<(), SideFault>
+        requires near { IsWidth M }
+        requires far { IsWidth C }
+        requires ready { IsReady (as_pipe self.old.b) }
+        // for every past that the side stands for
+        ensures admitted { (x : ManagerPast C M) → ManagerStandsFor self.old x →
+            IsOk result ↔ (stops_alone rules_b x.b.accepted beat.entry ≡ None) }
+        ensures accepted { (x : ManagerPast C M) → ManagerStandsFor self.old x →
+            OnOk result (ManagerStandsFor self.new (manager_offers_b beat.entry x)) }
+        ensures fault { (x : ManagerPast C M) → ManagerStandsFor self.old x →
+            IfErr result (λ fault. stops_alone rules_b x.b.accepted beat.entry ≡ Some fault) }
+        // for every side
+        ensures ring { self.new.b.producer ≡ self.old.b.producer }
+        ensures rest { self.new ≡ record self.old { b = self.new.b } }
+        ensures refused { OnErr result (self.new ≡ self.old) }
+    {
+        self.port.offer_b(&beat)
+    }
+
+    /// Offers a beat of D where D is ready. It is refused with the beat's own fault, else, where it
+    /// opens a message other than ReleaseAck, with `NoRequest` exactly where its source has no open
+    /// request, and with `SizeMismatch` exactly where that request has another size. A refusal
+    /// changes nothing. An accepted first beat ends its request, whose address is the message's
+    /// home, and the far beats that the beat completes, at most [`tl_ring::ROOM`], are staged.
+    pub fn offer_d(&mut self, beat: BeatOf<HeadD, M>) -> Result<(), SideFault>
+        requires near { IsWidth M }
+        requires far { IsWidth C }
+        requires ready { IsReady (as_pipe self.old.d) }
+        // for every past that the side stands for
+        ensures admitted { (x : ManagerPast C M) → ManagerStandsFor self.old x →
+            IsOk result ↔ (manager_answer x.history beat.entry ≡ None) }
+        ensures accepted { (x : ManagerPast C M) → ManagerStandsFor self.old x →
+            OnOk result (ManagerStandsFor self.new (manager_offers_d beat.entry x)) }
+        ensures fault { (x : ManagerPast C M) → ManagerStandsFor self.old x →
+            IfErr result (λ fault. manager_answer x.history beat.entry ≡ Some fault) }
+        // for every side
+        ensures ring { self.new.d.producer ≡ self.old.d.producer }
+        ensures rest { self.new ≡ record self.old { d = self.new.d; book = self.new.book } }
+        ensures refused { OnErr result (self.new ≡ self.old) }
+    {
+        self.port.offer_d(&beat)
+    }
+
+    /// Takes the first beat of A's inbox, which is lawful at `M` bytes. None exactly where it is
+    /// empty. A first beat begins its request: from now on it may be answered.
+    pub fn take_a(&mut self) -> Option<BeatOf<HeadA, M>>
+        requires far { IsWidth M }
+        ensures beat { result ≡ slice_get self.old.a.inbox 0 }
+        ensures lawful { IfSome result (λ beat. IsLawfulBeat rules_a beat) }
+        ensures rest { self.new ≡
+            record self.old { a = took_first self.old.a; book = self.new.book } }
+        // for every past that the side stands for
+        ensures taken { (x : ManagerPast C M) → ManagerStandsFor self.old x →
+            ManagerStandsFor self.new (manager_takes_a (take 1 self.old.a.inbox) x) }
+    {
+        self.port.take_a()
+    }
+
+    /// Takes the first beat of C's inbox, which is lawful at `M` bytes. None exactly where it is
+    /// empty.
+    pub fn take_c(&mut self) -> Option<BeatOf<HeadC, M>>
+        ensures beat { result ≡ slice_get self.old.c.inbox 0 }
+        ensures lawful { IfSome result (λ beat. IsLawfulBeat rules_c beat) }
+        ensures rest { self.new ≡ record self.old { c = took_first self.old.c } }
+        // for every past that the side stands for
+        ensures taken { (x : ManagerPast C M) → ManagerStandsFor self.old x →
+            ManagerStandsFor self.new (manager_takes_c (take 1 self.old.c.inbox) x) }
+    {
+        self.port.take_c()
+    }
+
+    /// Takes the first beat of E's inbox, which is lawful at `M` bytes. None exactly where it is
+    /// empty.
+    pub fn take_e(&mut self) -> Option<BeatOf<HeadE, M>>
+        ensures beat { result ≡ slice_get self.old.e.inbox 0 }
+        ensures lawful { IfSome result (λ beat. IsLawfulBeat rules_e beat) }
+        ensures rest { self.new ≡ record self.old { e = took_first self.old.e } }
+        // for every past that the side stands for
+        ensures taken { (x : ManagerPast C M) → ManagerStandsFor self.old x →
+            ManagerStandsFor self.new (manager_takes_e (take 1 self.old.e.inbox) x) }
+    {
+        self.port.take_e()
+    }
+
+    /// Ends the offers of B. Refused exactly where a burst is unfinished, and nothing changes then.
+    /// What is staged stays so, and still crosses. A second close answers Ok and changes nothing.
+    pub fn close_b(&mut self) -> Result<(), EndFault>
+        // for every past that the side stands for
+        ensures between { (x : ManagerPast C M) → ManagerStandsFor self.old x →
+            IsOk result ↔ (rest_of rules_b M x.b.accepted ≡ []) }
+        ensures stands { (x : ManagerPast C M) → ManagerStandsFor self.old x →
+            OnOk result (ManagerStandsFor self.new (manager_closes_b x)) }
+        // for every side
+        ensures closed { OnOk result (self.new ≡ record self.old { b = closing self.old.b }) }
+        ensures again { self.old.b.closed ≡ true → IsOk result × (self.new ≡ self.old) }
+        ensures refused { OnErr result (self.new ≡ self.old) }
+    {
+        self.port.close_b()
+    }
+
+    /// Ends the offers of D. Refused exactly where a burst is unfinished, and nothing changes then.
+    /// What is staged stays so, and still crosses. A second close answers Ok and changes nothing.
+    pub fn close_d(&mut self) -> Result<(), EndFault>
+        // for every past that the side stands for
+        ensures between { (x : ManagerPast C M) → ManagerStandsFor self.old x →
+            IsOk result ↔ (rest_of rules_d M x.d.accepted ≡ []) }
+        ensures stands { (x : ManagerPast C M) → ManagerStandsFor self.old x →
+            OnOk result (ManagerStandsFor self.new (manager_closes_d x)) }
+        // for every side
+        ensures closed { OnOk result (self.new ≡ record self.old { d = closing self.old.d }) }
+        ensures again { self.old.d.closed ≡ true → IsOk result × (self.new ≡ self.old) }
+        ensures refused { OnErr result (self.new ≡ self.old) }
+    {
+        self.port.close_d()
+    }
+
+    /// Moves staged beats into the rings on each channel that this side offers, at least as many as
+    /// it knows to find a place, and answers how many these are in all.
+    pub fn pump(&mut self) -> usize
+        ensures total { result ≡
+            pump_count self.old.b self.new.b + pump_count self.old.d self.new.d }
+        ensures most { result ≤ 2 * ROOM }
+        ensures b { Pumps self.old.b self.new.b }
+        ensures d { Pumps self.old.d self.new.d }
+        ensures rest { self.new ≡ record self.old { b = self.new.b; d = self.new.d } }
+        // for every past that the side stands for
+        ensures stands { (x : ManagerPast C M) → ManagerStandsFor self.old x →
+            ManagerStandsFor self.new (manager_pumps self.old self.new x) }
+    {
+        let b = send_staged(&mut self.port.b, &mut self.b);
+        let d = send_staged(&mut self.port.d, &mut self.d);
+        b + d
+    }
+
+    /// Moves beats from the rings into the inboxes on each channel that this side takes, at least
+    /// as many as it knows to be there and each inbox has room for, and answers how many these are
+    /// in all.
+    pub fn fetch(&mut self) -> usize
+        ensures total { result ≡ fetch_count self.old.a self.new.a +
+            fetch_count self.old.c self.new.c + fetch_count self.old.e self.new.e }
+        ensures most { result ≤ 3 * ROOM }
+        ensures a { Fetches self.old.a self.new.a }
+        ensures c { Fetches self.old.c self.new.c }
+        ensures e { Fetches self.old.e self.new.e }
+        ensures rest { self.new ≡
+            record self.old { a = self.new.a; c = self.new.c; e = self.new.e } }
+        // for every past that the side stands for
+        ensures stands { (x : ManagerPast C M) → ManagerStandsFor self.old x →
+            ManagerStandsFor self.new x }
+    {
+        let a = receive(&mut self.a, &mut self.port.a);
+        let c = receive(&mut self.c, &mut self.port.c);
+        let e = receive(&mut self.e, &mut self.port.e);
+        a + c + e
+    }
+}
