@@ -30,27 +30,37 @@ queue_few b few =
     let whole = up_le 8 (0 + up 16 (up 1 (up 8 (0 + up 16 (0 + ROOM * b)) + 8) + 0)) in
     omega arith
 
-pub sender_fits : (w : ℕ) → IsWidth w →
-    up 16 (up 8 (up 16 (0 + up 16 (48 + beat_bytes w)) + up 16 (queue_bytes (beat_bytes w))) + 40) < 9223372036854775808
+-- the bytes of an outbox of such beats
+abbrev outbox_bytes : ℕ → ℕ
+outbox_bytes b = up 16 (up 1 (up 16 (0 + up 16 (80 + b)) + up 16 (queue_bytes b)) + 1)
+
+outbox_few : (b : ℕ) → b ≤ 1024 → outbox_bytes b ≤ 2097152
+outbox_few b few =
+    let stage = queue_few b few in
+    let placed = up_le 16 (queue_bytes b) in
+    let converter = up_le 16 (80 + b) in
+    let aligned = up_le 16 (0 + up 16 (80 + b)) in
+    let both = up_le 1 (up 16 (0 + up 16 (80 + b)) + up 16 (queue_bytes b)) in
+    let whole = up_le 16 (up 1 (up 16 (0 + up 16 (80 + b)) + up 16 (queue_bytes b)) + 1) in
+    omega arith
+
+pub sender_fits : (w : ℕ) → IsWidth w → up 16 (up 8 (0 + outbox_bytes (beat_bytes w)) + 40) < 9223372036854775808
 sender_fits w width =
-    let beat = beat_few w width in
-    let stage = queue_few (beat_bytes w) beat in
-    let placed = up_le 16 (queue_bytes (beat_bytes w)) in
-    let converter = up_le 16 (48 + beat_bytes w) in
-    let aligned = up_le 16 (0 + up 16 (48 + beat_bytes w)) in
-    let both = up_le 8 (up 16 (0 + up 16 (48 + beat_bytes w)) + up 16 (queue_bytes (beat_bytes w))) in
-    let whole = up_le 16 (up 8 (up 16 (0 + up 16 (48 + beat_bytes w)) + up 16 (queue_bytes (beat_bytes w))) + 40) in
+    let outbox = outbox_few (beat_bytes w) (beat_few w width) in
+    let aligned = up_le 8 (0 + outbox_bytes (beat_bytes w)) in
+    let whole = up_le 16 (up 8 (0 + outbox_bytes (beat_bytes w)) + 40) in
     omega arith
 
 pub taker_fits : (w : ℕ) → IsWidth w →
-    up 16 (up 16 (up 8 (0 + up 16 (queue_bytes (beat_bytes w))) + 40) + ROOM * beat_bytes w) < 9223372036854775808
+    up 16 (up 16 (0 + up 16 (0 + up 16 (queue_bytes (beat_bytes w)))) + up 16 (48 + ROOM * beat_bytes w)) < 9223372036854775808
 taker_fits w width =
     let beat = beat_few w width in
     let inbox = queue_few (beat_bytes w) beat in
     let placed = up_le 16 (queue_bytes (beat_bytes w)) in
-    let aligned = up_le 8 (0 + up 16 (queue_bytes (beat_bytes w))) in
-    let end = up_le 16 (up 8 (0 + up 16 (queue_bytes (beat_bytes w))) + 40) in
-    let whole = up_le 16 (up 16 (up 8 (0 + up 16 (queue_bytes (beat_bytes w))) + 40) + ROOM * beat_bytes w) in
+    let boxed = up_le 16 (0 + up 16 (queue_bytes (beat_bytes w))) in
+    let aligned = up_le 16 (0 + up 16 (0 + up 16 (queue_bytes (beat_bytes w)))) in
+    let intake = up_le 16 (48 + ROOM * beat_bytes w) in
+    let whole = up_le 16 (up 16 (0 + up 16 (0 + up 16 (queue_bytes (beat_bytes w)))) + up 16 (48 + ROOM * beat_bytes w)) in
     omega arith
 
 -- and so does the taking end of a plain ring, with room for the beats that one call takes

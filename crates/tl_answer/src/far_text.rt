@@ -14,7 +14,7 @@ use crate::answer::{are_done, header, write_reports};
 use crate::fault::TextFault;
 use crate::parts::AnswerParts;
 use std::alloc::{AllocError, Global};
-use tl_bridge::Arrivals;
+use tl_bridge::FarSink;
 use tl_msg::{Beat, ChA, ChB, ChC, ChD, ChE, Verdict};
 use tl_trace::{HeadText, write_far};
 
@@ -161,8 +161,11 @@ impl<const C: usize, const M: usize> FarTexts<C, M> {
     }
 }
 
-impl<const C: usize, const M: usize> Arrivals<C, M> for FarTexts<C, M> {
+impl<const C: usize, const M: usize> FarSink<C, M> for FarTexts<C, M> {
     ghost Holds = { λ t far. HasLines t far };
+
+    // lines that are still to be written may need more memory at any time
+    ghost HasRoom = { λ _ _. ⊥ };
 
     ghost made_with = { λ t. t.version };
 

@@ -1,6 +1,6 @@
 -- Results that are joined by `and`: where what is joined is Ok, each of them is.
-use Rattle.std.proofs.Common.{◌≡◌, Result, Ok, Err, sym, subst}
-use Rattle.std.specs.Prelude.{OnOk}
+use Rattle.std.proofs.Common.{◌≡◌, true, Result, Ok, Err, refl, sym, subst}
+use Rattle.std.specs.Prelude.{IsOk, OnOk}
 use Rattle.std.specs.Result.{result_and}
 
 -- what holds whatever a result is
@@ -28,3 +28,14 @@ module _ {E : Type 0} where
       (P → Q → R → S → T → X) → OnOk a P → OnOk b Q → OnOk c R → OnOk d S → OnOk e T → OnOk all X
   five_ok a b c d e ab abc abcd all i j k l f p q r s t =
       both-ok abcd e all l (λ g. g) (four_ok a b c d ab abc abcd i j k f p q r s) t
+
+  ok-and : (a b all : Result (Unit {0}) E) → all ≡ result_and a b → IsOk a → IsOk b → IsOk all
+  ok-and (Ok x) (Ok y) all joined p q = subst (λ r. IsOk r) (sym joined) (refl {a = true})
+  ok-and (Ok x) (Err e) all joined p q = absurd (cc (q))
+  ok-and (Err e) b all joined p q = absurd (cc (p))
+
+  -- where each of five is Ok, what is joined is
+  pub five-are-ok : (a b c d e ab abc abcd all : Result (Unit {0}) E) → ab ≡ result_and a b → abc ≡ result_and ab c → abcd ≡ result_and abc d → all ≡ result_and abcd e →
+      IsOk a → IsOk b → IsOk c → IsOk d → IsOk e → IsOk all
+  five-are-ok a b c d e ab abc abcd all i j k l p q r s t =
+      ok-and abcd e all l (ok-and abc d abcd k (ok-and ab c abc j (ok-and a b ab i p q) r) s) t

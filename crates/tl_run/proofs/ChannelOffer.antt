@@ -23,19 +23,7 @@ use Rattle.tl_run.specs.declared.channel_state.Offered.TheVariants.{Accepted, No
 use Rattle.tl_run.specs.declared.channel_state.Stop.TheVariants.{Done, Cut, Refused}
 use Rattle.tl_convert.proofs.Comparisons.{none_past}
 use Rattle.tl_run.proofs.Counting.{none-more}
-
--- the beats that a side took are the last of its history
-pub answered-all : {w : ℕ} (es : List (Event w)) (bs : List (BeatOf HeadD w)) → answered (es ++ map Answer bs) ≡ answered es ++ bs
-answered-all es [] = ap answered (append-nil es) ∙ sym (append-nil (answered es))
-answered-all es (b ∷ bs) =
-    ap answered (sym (append_assoc es (Answer b ∷ []) (map Answer bs))) ∙ answered-all (es ++ Answer b ∷ []) bs ∙ ap (λ q. q ++ bs) (answered_answer es b) ∙
-    append_assoc (answered es) (b ∷ []) bs
-
-pub asked-all : {w : ℕ} (es : List (Event w)) (bs : List (BeatOf HeadA w)) → asked (es ++ map Ask bs) ≡ asked es ++ bs
-asked-all es [] = ap asked (append-nil es) ∙ sym (append-nil (asked es))
-asked-all es (b ∷ bs) =
-    ap asked (sym (append_assoc es (Ask b ∷ []) (map Ask bs))) ∙ asked-all (es ++ Ask b ∷ []) bs ∙ ap (λ q. q ++ bs) (asked_ask es b) ∙
-    append_assoc (asked es) (b ∷ []) bs
+pub use Rattle.tl_sides.proofs.Draining.{answered-all, asked-all}
 
 -- the homes of one beat more
 module _ {H : Type 0} (r : Rules H) {w : ℕ} (xs : List (BeatOf H w)) (homes : List ℕ) (is : homes ≡ map (λ h. r.lane_address h 0) (heads r w xs)) (b : BeatOf H w) where

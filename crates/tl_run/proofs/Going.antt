@@ -12,16 +12,14 @@ use Rattle.tl_msg.specs.declared.beat.BeatOf.{BeatOf}
 use Rattle.tl_msg.specs.declared.fault.SideFault.{SideFault}
 use Rattle.tl_burst.specs.Handing.{fault_after}
 use Rattle.tl_ring.specs.Crossing.{World, pushed, popped}
-use Rattle.tl_ring.specs.Pipe.{Pipe}
 use Rattle.tl_settle.specs.Histories.{Ask, Answer, client_answer, manager_answer, manager_home}
 use Rattle.tl_settle.specs.Rounds.{round, client_rests, manager_rests}
 use Rattle.tl_settle.specs.Outcomes.{Beats}
 use Rattle.tl_sides.specs.declared.per_channel.PerChannel.{PerChannel}
 use Rattle.tl_sides.specs.Bridges.{Bridge, Past, StandsFor, after_fetch, fetch_count}
 use Rattle.tl_sides.specs.Crossings.{stops_alone}
-use Rattle.tl_sides.proofs.BridgeSteps.{with_a, with_b, with_c, with_d, with_e}
 use Rattle.tl_run.specs.Inner.Running.{Does, IsSent, IsAt, steps, progress}
-use Rattle.tl_run.specs.Inner.Going.{GoesOn, HasGone, HasMovedOn, passed_on, going_a, going_b, going_c, going_d, going_e}
+use Rattle.tl_run.specs.Inner.Going.{GoesOn, HasGone, passed_on, going_a, going_b, going_c, going_d, going_e}
 use Rattle.tl_run.specs.Inner.Offering.{OffersNext, on_bridge_a, on_bridge_b, on_bridge_c, on_bridge_d, on_bridge_e}
 use Rattle.tl_run.specs.declared.channel_state.Offered.{Offered}
 use Rattle.tl_run.specs.declared.channel_state.Offered.TheVariants.{Accepted, NotReady, Stopped}
@@ -61,8 +59,8 @@ progress-passed n i j k x = through (progress-pushed n i x) (progress-popped n j
     through f g h = omega arith
 
 -- where none came out and none more went in, beats went in alone
-pub none-again : {H : Type 0} {w v : ℕ} (k : ℕ) (x : World H w v) → passed_on k 0 0 x ≡ pushed k x
-none-again k x = ap (λ l. record (pushed k x) { ring = l; inbox = x.inbox ++ [] }) (append-nil (pushed k x).ring) ∙ ap (λ l. record (pushed k x) { inbox = l }) (append-nil x.inbox)
+pub none-again : {H : Type 0} {w v : ℕ} (k : ℕ) (x : World H w v) → pushed k x ≡ passed_on k 0 0 x
+none-again k x = sym (ap (λ l. record (pushed k x) { ring = l; inbox = x.inbox ++ [] }) (append-nil (pushed k x).ring) ∙ ap (λ l. record (pushed k x) { inbox = l }) (append-nil x.inbox))
 
 all-more : (a b c d e a' b' c' d' e' : ℕ) → a ≤ a' → b ≤ b' → c ≤ c' → d ≤ d' → e ≤ e' → a + b + c + d + e ≤ a' + b' + c' + d' + e'
 all-more a b c d e a' b' c' d' e' f g h i j = omega arith
@@ -244,66 +242,56 @@ module _ {C M : ℕ} (near : Beats C M) (n : PerChannel ℕ) (far : Beats M C) (
 
 -- ---- a beat is offered, and its channel moves on
 
-module _ {C M : ℕ} {inside t : Bridge C M} (view : inside ≡ t) where
+module _ {C M : ℕ} {t : Bridge C M} (u : Bridge C M) (i' j k : ℕ) where
   pub goes-a : (beats : List (BeatOf HeadA C)) (at : ℕ) (s : Bridge C M) (o : Offered) → OffersNext on_bridge_a beats at s o t →
-      (p : Pipe HeadA M) → HasMovedOn rules_a C inside.a p →
-      GoesOn going_a beats at s (at + steps o) (record inside { a = p })
-  goes-a beats at s o offers p m near n far x is here stands i =
-      let h = (subst (λ b. OffersNext on_bridge_a beats at s o b) (sym view) offers).does x stands in
+      ((y : Past C M) → StandsFor t y → StandsFor u (record y { a = passed_on i' j k y.a })) → GoesOn going_a beats at s (at + steps o) u
+  goes-a beats at s o offers passed near n far x is here stands i =
+      let h = offers.does x stands in
       let does : Does rules_a near.a n.a (client_answer x.client) (λ _. 0) x.a o h.0 h.1 =
       subst (λ bs. Does rules_a bs n.a (client_answer x.client) (λ _. 0) x.a o h.0 h.1) (sym is)
       (subst (λ l. Does rules_a beats l (client_answer x.client) (λ _. 0) x.a o h.0 h.1) (sym here) h.3) in
-      subst (λ l. HasGone near n far x (record n { a = l + steps o }) (record inside { a = p })) here
-      (ahead-a near n far x i s (record inside { a = p }) stands o m.first m.out m.again h.0 h.1 does
-      (with_a inside (record x { client = x.client ++ map Ask h.0; a = h.1 }) h.2 p (passed_on m.first m.out m.again h.1) (m.stands h.1 h.2.a) (refl, refl)))
+      subst (λ l. HasGone near n far x (record n { a = l + steps o }) u) here
+      (ahead-a near n far x i s u stands o i' j k h.0 h.1 does (passed (record x { client = x.client ++ map Ask h.0; a = h.1 }) h.2))
 
   pub goes-b : (beats : List (BeatOf HeadB M)) (at : ℕ) (s : Bridge C M) (o : Offered) → OffersNext on_bridge_b beats at s o t →
-      (p : Pipe HeadB C) → HasMovedOn rules_b M inside.b p →
-      GoesOn going_b beats at s (at + steps o) (record inside { b = p })
-  goes-b beats at s o offers p m near n far x is here stands i =
-      let h = (subst (λ b. OffersNext on_bridge_b beats at s o b) (sym view) offers).does x stands in
+      ((y : Past C M) → StandsFor t y → StandsFor u (record y { b = passed_on i' j k y.b })) → GoesOn going_b beats at s (at + steps o) u
+  goes-b beats at s o offers passed near n far x is here stands i =
+      let h = offers.does x stands in
       let does : Does rules_b near.b n.b (stops_alone rules_b x.b.accepted) (λ _. 0) x.b o h.0 h.1 =
       subst (λ bs. Does rules_b bs n.b (stops_alone rules_b x.b.accepted) (λ _. 0) x.b o h.0 h.1) (sym is)
       (subst (λ l. Does rules_b beats l (stops_alone rules_b x.b.accepted) (λ _. 0) x.b o h.0 h.1) (sym here) h.3) in
-      subst (λ l. HasGone near n far x (record n { b = l + steps o }) (record inside { b = p })) here
-      (ahead-b near n far x i s (record inside { b = p }) stands o m.first m.out m.again h.0 h.1 does
-      (with_b inside (record x { b = h.1 }) h.2 p (passed_on m.first m.out m.again h.1) (m.stands h.1 h.2.b)))
+      subst (λ l. HasGone near n far x (record n { b = l + steps o }) u) here
+      (ahead-b near n far x i s u stands o i' j k h.0 h.1 does (passed (record x { b = h.1 }) h.2))
 
   pub goes-c : (beats : List (BeatOf HeadC C)) (at : ℕ) (s : Bridge C M) (o : Offered) → OffersNext on_bridge_c beats at s o t →
-      (p : Pipe HeadC M) → HasMovedOn rules_c C inside.c p →
-      GoesOn going_c beats at s (at + steps o) (record inside { c = p })
-  goes-c beats at s o offers p m near n far x is here stands i =
-      let h = (subst (λ b. OffersNext on_bridge_c beats at s o b) (sym view) offers).does x stands in
+      ((y : Past C M) → StandsFor t y → StandsFor u (record y { c = passed_on i' j k y.c })) → GoesOn going_c beats at s (at + steps o) u
+  goes-c beats at s o offers passed near n far x is here stands i =
+      let h = offers.does x stands in
       let does : Does rules_c near.c n.c (stops_alone rules_c x.c.accepted) (λ _. 0) x.c o h.0 h.1 =
       subst (λ bs. Does rules_c bs n.c (stops_alone rules_c x.c.accepted) (λ _. 0) x.c o h.0 h.1) (sym is)
       (subst (λ l. Does rules_c beats l (stops_alone rules_c x.c.accepted) (λ _. 0) x.c o h.0 h.1) (sym here) h.3) in
-      subst (λ l. HasGone near n far x (record n { c = l + steps o }) (record inside { c = p })) here
-      (ahead-c near n far x i s (record inside { c = p }) stands o m.first m.out m.again h.0 h.1 does
-      (with_c inside (record x { c = h.1 }) h.2 p (passed_on m.first m.out m.again h.1) (m.stands h.1 h.2.c)))
+      subst (λ l. HasGone near n far x (record n { c = l + steps o }) u) here
+      (ahead-c near n far x i s u stands o i' j k h.0 h.1 does (passed (record x { c = h.1 }) h.2))
 
   pub goes-d : (beats : List (BeatOf HeadD M)) (at : ℕ) (s : Bridge C M) (o : Offered) → OffersNext on_bridge_d beats at s o t →
-      (p : Pipe HeadD C) → HasMovedOn rules_d M inside.d p →
-      GoesOn going_d beats at s (at + steps o) (record inside { d = p })
-  goes-d beats at s o offers p m near n far x is here stands i =
-      let h = (subst (λ b. OffersNext on_bridge_d beats at s o b) (sym view) offers).does x stands in
+      ((y : Past C M) → StandsFor t y → StandsFor u (record y { d = passed_on i' j k y.d })) → GoesOn going_d beats at s (at + steps o) u
+  goes-d beats at s o offers passed near n far x is here stands i =
+      let h = offers.does x stands in
       let does : Does rules_d near.d n.d (manager_answer x.manager) (λ b. manager_home x.manager b.head) x.d o h.0 h.1 =
       subst (λ bs. Does rules_d bs n.d (manager_answer x.manager) (λ b. manager_home x.manager b.head) x.d o h.0 h.1) (sym is)
       (subst (λ l. Does rules_d beats l (manager_answer x.manager) (λ b. manager_home x.manager b.head) x.d o h.0 h.1) (sym here) h.3) in
-      subst (λ l. HasGone near n far x (record n { d = l + steps o }) (record inside { d = p })) here
-      (ahead-d near n far x i s (record inside { d = p }) stands o m.first m.out m.again h.0 h.1 does
-      (with_d inside (record x { manager = x.manager ++ map Answer h.0; d = h.1 }) h.2 p (passed_on m.first m.out m.again h.1) (m.stands h.1 h.2.d) (refl, refl, refl)))
+      subst (λ l. HasGone near n far x (record n { d = l + steps o }) u) here
+      (ahead-d near n far x i s u stands o i' j k h.0 h.1 does (passed (record x { manager = x.manager ++ map Answer h.0; d = h.1 }) h.2))
 
   pub goes-e : (beats : List (BeatOf HeadE C)) (at : ℕ) (s : Bridge C M) (o : Offered) → OffersNext on_bridge_e beats at s o t →
-      (p : Pipe HeadE M) → HasMovedOn rules_e C inside.e p →
-      GoesOn going_e beats at s (at + steps o) (record inside { e = p })
-  goes-e beats at s o offers p m near n far x is here stands i =
-      let h = (subst (λ b. OffersNext on_bridge_e beats at s o b) (sym view) offers).does x stands in
+      ((y : Past C M) → StandsFor t y → StandsFor u (record y { e = passed_on i' j k y.e })) → GoesOn going_e beats at s (at + steps o) u
+  goes-e beats at s o offers passed near n far x is here stands i =
+      let h = offers.does x stands in
       let does : Does rules_e near.e n.e (stops_alone rules_e x.e.accepted) (λ _. 0) x.e o h.0 h.1 =
       subst (λ bs. Does rules_e bs n.e (stops_alone rules_e x.e.accepted) (λ _. 0) x.e o h.0 h.1) (sym is)
       (subst (λ l. Does rules_e beats l (stops_alone rules_e x.e.accepted) (λ _. 0) x.e o h.0 h.1) (sym here) h.3) in
-      subst (λ l. HasGone near n far x (record n { e = l + steps o }) (record inside { e = p })) here
-      (ahead-e near n far x i s (record inside { e = p }) stands o m.first m.out m.again h.0 h.1 does
-      (with_e inside (record x { e = h.1 }) h.2 p (passed_on m.first m.out m.again h.1) (m.stands h.1 h.2.e)))
+      subst (λ l. HasGone near n far x (record n { e = l + steps o }) u) here
+      (ahead-e near n far x i s u stands o i' j k h.0 h.1 does (passed (record x { e = h.1 }) h.2))
 
 -- at most one beat of a channel is accepted at once
 pub one-step : (o : Offered) → steps o ≤ 1

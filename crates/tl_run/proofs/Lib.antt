@@ -3,11 +3,11 @@ pub mod ChannelRound
 pub mod ChannelEnd
 pub mod RoundMoves
 pub mod RunRound
-mod Draining
 pub mod OfferSteps
 pub mod OnlyMemory
 pub mod Round
 mod Going
+mod Rooms
 pub mod Ended
 mod EndsIn
 mod DueBounds

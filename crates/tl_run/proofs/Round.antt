@@ -23,7 +23,7 @@ use Rattle.tl_sides.proofs.BridgeSteps.{asked_answers, answered_asks}
 use Rattle.tl_run.specs.Arrivals.{joined}
 use Rattle.tl_run.specs.Scripts.{IsShort}
 use Rattle.tl_run.proofs.Moving.{moved, push_count, pop_count, after_moves}
-use Rattle.tl_run.specs.Inner.Running.{HaveRoomToCount, added, arriving, inboxes, lengths, Does, Stops, IsStopped, AreStopped, steps, emptied, after_takes, counted, all_progress, all_under_way, HasOffered, IsAt, AllStop, HasRound}
+use Rattle.tl_run.specs.Inner.Running.{HaveRoomToCount, added, arriving, inboxes, lengths, Does, Stops, IsStopped, AreStopped, steps, emptied, after_take_all, counted, all_progress, all_under_way, HasOffered, IsAt, AllStop, HasRound}
 use Rattle.tl_run.specs.declared.channel_state.Stop.TheVariants.{Done, Cut, Refused}
 use Rattle.tl_run.specs.declared.channel_state.Offered.{Offered}
 use Rattle.tl_run.specs.declared.channel_state.Offered.TheVariants.{Accepted, NotReady, Stopped}
@@ -123,7 +123,7 @@ pub manager-own : {w : ℕ} (es : List (Event w)) (b : BeatOf HeadD w) → manag
 manager-own es b e = own-none (fault_after rules_d (answered es) b) _ e
 
 module _ {C M : ℕ} (cw : IsWidth C) (mw : IsWidth M) (near : Beats C M) (n : PerChannel ℕ) (far : Beats M C) (x : Past C M) (s t : Bridge C M) (o : PerChannel Offered) (stands : StandsFor s x) (i : IsAt near n far x)
-    (h : HasOffered near n (after_takes x) t o) where
+    (h : HasOffered near n (after_take_all x) t o) where
   -- where the run stands after the round
   pub at-round : IsAt near (counted n o) (joined far (arriving x)) (after_moves h.past)
   at-round = record {

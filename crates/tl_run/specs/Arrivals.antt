@@ -1,6 +1,7 @@
 -- The far beats of a run, as they come to where they go (this project's choice).
-use Rattle.std.specs.Prelude.{◌++◌, ℕ, []}
+use Rattle.std.specs.Prelude.{◌++◌, ◌≤◌, ℕ, [], length}
 use Rattle.tl_settle.specs.Outcomes.{Beats}
+use Rattle.tl_sides.specs.declared.per_channel.PerChannel.{PerChannel}
 
 module _ {C M : ℕ} where
   -- no beat of any channel
@@ -16,3 +17,11 @@ module _ {C M : ℕ} where
     d = before.d ++ more.d;
     e = before.e ++ more.e;
   }
+
+  -- no more beats of each channel than so many
+  pub record Fit (bs : Beats C M) (room : PerChannel ℕ) : Type 0 where
+    pub a : length bs.a ≤ room.a
+    pub b : length bs.b ≤ room.b
+    pub c : length bs.c ≤ room.c
+    pub d : length bs.d ≤ room.d
+    pub e : length bs.e ≤ room.e

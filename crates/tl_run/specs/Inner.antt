@@ -1,6 +1,5 @@
 pub mod Widths
 pub mod Running
 pub mod Arriving
-pub mod Noting
 pub mod Offering
 pub mod Going

@@ -5,26 +5,13 @@ ghost use Rattle.tl_sides.specs.Bridges.{Past, StandsFor};
 ghost use Rattle.tl_run.specs.Scripts.{near_beats};
 ghost use Rattle.tl_run.specs.Inner.Widths.{AreWidths};
 ghost use Rattle.tl_run.specs.Inner.Running.{HaveRoomToCount, IsAt, steps};
-ghost use Rattle.tl_run.specs.Inner.Going.{GoesOn, HasGone, HasMovedOn, gone_none, gone_then, going_a, going_b, going_c, going_d, going_e};
+ghost use Rattle.tl_run.specs.Inner.Going.{GoesOn, HasGone, gone_none, gone_then, going_a, going_b, going_c, going_d, going_e};
 
 use crate::channel_state::Offered;
 use crate::offers::Offers;
-use tl_msg::{BeatOf, Channel, HeadA, HeadB, HeadC, HeadD, HeadE};
-use tl_ring::SyncPipe;
+use tl_msg::{BeatOf, HeadA, HeadB, HeadC, HeadD, HeadE};
 use tl_sides::{PerChannel, SyncBridge};
 use tl_trace::Script;
-
-// Moves what is staged into the ring. Where there is too little room, the ring's beats go on first.
-fn move_on<K: Channel, const W: usize, const V: usize>(pipe: &mut SyncPipe<K, W, V>)
-    ensures { HasMovedOn K.rules W pipe.old pipe.new }
-{
-    pipe.pump();
-    if pipe.ready() {
-        return;
-    }
-    pipe.fetch();
-    pipe.pump();
-}
 
 /// What offers beats `B` on one of its channels, and moves into its ring at once what they give.
 trait GoesAhead<B> {
@@ -37,7 +24,7 @@ trait GoesAhead<B> {
         Type 0 };
 
     /// Offers the next beat of a list, of which `at` were accepted, and moves into the ring what is
-    /// staged.
+    /// staged. Where there is too little room, the ring's beats go on first.
     fn go_on(&mut self, beats: &[B], at: usize) -> Offered
         requires { MayGo }
         ensures { Goes beats.now at self.old (at + steps result) self.new };
@@ -78,7 +65,12 @@ impl<const C: usize, const M: usize> GoesAhead<BeatOf<HeadA, C>> for SyncBridge<
 
     fn go_on(&mut self, beats: &[BeatOf<HeadA, C>], at: usize) -> Offered {
         let offered = self.offer_next(beats, at);
-        move_on(&mut self.a);
+        self.pump_a();
+        if self.ready_a() {
+            return offered;
+        }
+        self.fetch_a();
+        self.pump_a();
         offered
     }
 
@@ -94,7 +86,12 @@ impl<const C: usize, const M: usize> GoesAhead<BeatOf<HeadB, M>> for SyncBridge<
 
     fn go_on(&mut self, beats: &[BeatOf<HeadB, M>], at: usize) -> Offered {
         let offered = self.offer_next(beats, at);
-        move_on(&mut self.b);
+        self.pump_b();
+        if self.ready_b() {
+            return offered;
+        }
+        self.fetch_b();
+        self.pump_b();
         offered
     }
 
@@ -110,7 +107,12 @@ impl<const C: usize, const M: usize> GoesAhead<BeatOf<HeadC, C>> for SyncBridge<
 
     fn go_on(&mut self, beats: &[BeatOf<HeadC, C>], at: usize) -> Offered {
         let offered = self.offer_next(beats, at);
-        move_on(&mut self.c);
+        self.pump_c();
+        if self.ready_c() {
+            return offered;
+        }
+        self.fetch_c();
+        self.pump_c();
         offered
     }
 
@@ -126,7 +128,12 @@ impl<const C: usize, const M: usize> GoesAhead<BeatOf<HeadD, M>> for SyncBridge<
 
     fn go_on(&mut self, beats: &[BeatOf<HeadD, M>], at: usize) -> Offered {
         let offered = self.offer_next(beats, at);
-        move_on(&mut self.d);
+        self.pump_d();
+        if self.ready_d() {
+            return offered;
+        }
+        self.fetch_d();
+        self.pump_d();
         offered
     }
 
@@ -142,7 +149,12 @@ impl<const C: usize, const M: usize> GoesAhead<BeatOf<HeadE, C>> for SyncBridge<
 
     fn go_on(&mut self, beats: &[BeatOf<HeadE, C>], at: usize) -> Offered {
         let offered = self.offer_next(beats, at);
-        move_on(&mut self.e);
+        self.pump_e();
+        if self.ready_e() {
+            return offered;
+        }
+        self.fetch_e();
+        self.pump_e();
         offered
     }
 
@@ -165,6 +177,10 @@ pub(crate) fn all_go_ahead<const C: usize, const M: usize>(
         IsAt (near_beats script.now) at.old far x →
         HasGone (near_beats script.now) at.old far x at.new bridge.new }
 {
+    // where no channel goes on there is nothing to fetch that the round did not fetch
+    if most == 0 {
+        return;
+    }
     at.a = go_ahead(bridge, &script.a, at.a, offers.a, most);
     at.c = go_ahead(bridge, &script.c, at.c, offers.c, most);
     at.e = go_ahead(bridge, &script.e, at.e, offers.e, most);

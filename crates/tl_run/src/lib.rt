@@ -8,16 +8,16 @@
 // has what is public for the run in two threads alone.
 
 mod ahead;
-mod arrivals;
 mod channel_state;
+mod far_sink;
 mod offers;
 mod outcome;
 mod rounds;
 mod sync_run;
 mod taken;
 
-pub use arrivals::Arrivals;
 pub use channel_state::{Offered, Stop, add_accepted, all_stops};
+pub use far_sink::FarSink;
 pub use outcome::{Ending, Outcome, RunFault};
 pub use rounds::{End, are_empty, outcome_of};
 pub use sync_run::{run_sync, run_sync_into};

@@ -1,17 +1,12 @@
 //! The near beats that a run offers, at most one of each channel at a time.
 ghost use Rattle.std.specs.Prelude.{ℕ, List};
-ghost use Rattle.tl_lanes.specs.Lanes.{IsWidth};
-ghost use Rattle.tl_msg.specs.Tables.{rules_b, rules_c, rules_e};
-ghost use Rattle.tl_ring.specs.Pipe.{IsReady};
-ghost use Rattle.tl_sides.specs.Inner.Offering.{OffersAlone};
 ghost use Rattle.tl_run.specs.declared.channel_state.Offered.{Offered};
 ghost use Rattle.tl_run.specs.Inner.Widths.{AreWidths};
 ghost use Rattle.tl_run.specs.Inner.Offering.{OffersNext, on_bridge_a, on_bridge_b, on_bridge_c, on_bridge_d, on_bridge_e};
 
 use crate::channel_state::Offered;
-use tl_msg::{Beat, BeatOf, ChB, ChC, ChE, HeadA, HeadB, HeadC, HeadD, HeadE, SideFault};
-use tl_ring::SyncPipe;
-use tl_sides::{SyncBridge, offer_alone, offer_request, offer_response};
+use tl_msg::{BeatOf, HeadA, HeadB, HeadC, HeadD, HeadE};
+use tl_sides::SyncBridge;
 
 /// What becomes of the next beat of a list, of which `$at` were accepted: where no beat is left, the
 /// function that it is called in answers at once what comes of the channel's close, and where the
@@ -46,38 +41,6 @@ pub(crate) trait Offers<B> {
         ensures { Becomes beats.now at self.old result self.new };
 }
 
-// A side offers a beat of B, C or E, each by itself: a call that names its channel costs less to check
-// than one of a function that is generic in it.
-fn offer_probe<const C: usize, const M: usize>(
-    pipe: &mut SyncPipe<ChB, M, C>,
-    beat: &Beat<ChB, M>,
-) -> Result<(), SideFault>
-    requires { IsWidth M × IsWidth C × IsReady pipe.old }
-    ensures { OffersAlone rules_b beat.now pipe.old pipe.new result }
-{
-    offer_alone(pipe, beat)
-}
-
-fn offer_release<const C: usize, const M: usize>(
-    pipe: &mut SyncPipe<ChC, C, M>,
-    beat: &Beat<ChC, C>,
-) -> Result<(), SideFault>
-    requires { IsWidth C × IsWidth M × IsReady pipe.old }
-    ensures { OffersAlone rules_c beat.now pipe.old pipe.new result }
-{
-    offer_alone(pipe, beat)
-}
-
-fn offer_finish<const C: usize, const M: usize>(
-    pipe: &mut SyncPipe<ChE, C, M>,
-    beat: &Beat<ChE, C>,
-) -> Result<(), SideFault>
-    requires { IsWidth C × IsWidth M × IsReady pipe.old }
-    ensures { OffersAlone rules_e beat.now pipe.old pipe.new result }
-{
-    offer_alone(pipe, beat)
-}
-
 impl<const C: usize, const M: usize> Offers<BeatOf<HeadA, C>> for SyncBridge<C, M> {
     ghost CanOffer = { AreWidths C M };
 
@@ -89,7 +52,7 @@ impl<const C: usize, const M: usize> Offers<BeatOf<HeadA, C>> for SyncBridge<C, 
             at,
             self.close_a(),
             self.ready_a(),
-            |beat| offer_request(&mut self.client, &mut self.a, beat)
+            |beat| self.offer_a(*beat)
         )
     }
 }
@@ -105,7 +68,7 @@ impl<const C: usize, const M: usize> Offers<BeatOf<HeadB, M>> for SyncBridge<C, 
             at,
             self.close_b(),
             self.ready_b(),
-            |beat| offer_probe(&mut self.b, beat)
+            |beat| self.offer_b(*beat)
         )
     }
 }
@@ -121,7 +84,7 @@ impl<const C: usize, const M: usize> Offers<BeatOf<HeadC, C>> for SyncBridge<C, 
             at,
             self.close_c(),
             self.ready_c(),
-            |beat| offer_release(&mut self.c, beat)
+            |beat| self.offer_c(*beat)
         )
     }
 }
@@ -137,7 +100,7 @@ impl<const C: usize, const M: usize> Offers<BeatOf<HeadD, M>> for SyncBridge<C, 
             at,
             self.close_d(),
             self.ready_d(),
-            |beat| offer_response(&mut self.manager, &mut self.d, beat)
+            |beat| self.offer_d(*beat)
         )
     }
 }
@@ -153,7 +116,7 @@ impl<const C: usize, const M: usize> Offers<BeatOf<HeadE, C>> for SyncBridge<C, 
             at,
             self.close_e(),
             self.ready_e(),
-            |beat| offer_finish(&mut self.e, beat)
+            |beat| self.offer_e(*beat)
         )
     }
 }

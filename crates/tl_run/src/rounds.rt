@@ -1,5 +1,5 @@
 //! The rounds of a run in one thread, and how each channel ends.
-ghost use Rattle.std.specs.Prelude.{◌≡◌, ◌<◌, ◌^◌, ◌↔◌, ℕ, IsTrue, IfSome, IsNone, IfOk, IfErr, OnOk};
+ghost use Rattle.std.specs.Prelude.{◌≡◌, ◌<◌, ◌^◌, ◌↔◌, ℕ, IsTrue, IfSome, IsNone, IsOk, IfOk, IfErr, OnOk};
 ghost use Rattle.tl_lanes.specs.Lanes.{IsWidth};
 ghost use Rattle.tl_settle.specs.Outcomes.{Beats, far_beats};
 ghost use Rattle.tl_sides.specs.Bridges.{Bridge, Past, StandsFor};
@@ -7,12 +7,13 @@ ghost use Rattle.tl_run.specs.declared.outcome.RunFault.TheVariants.{OutOfMemory
 ghost use Rattle.tl_run.specs.Arrivals.{joined, no_beats};
 ghost use Rattle.tl_run.specs.Scripts.{EndsIn, HasEnding, HasShortLists, near_beats};
 ghost use Rattle.tl_run.specs.Inner.Widths.{AreWidths};
-ghost use Rattle.tl_run.specs.Inner.Arriving.{beats_of};
+ghost use Rattle.tl_run.specs.Inner.Arriving.{HaveRoom, beats_of};
+ghost use Rattle.tl_sides.specs.declared.per_channel.PerChannel.{PerChannel as PerChannelOf};
 ghost use Rattle.tl_run.specs.Inner.Running.{IsAt, arriving, lengths, IsRunning, IsNew, HasRound, HasEnded, AreStopped, HasOffered, HaveRoomToCount, counted, standing_count, all_standing, all_under_way, all_stopped};
 
 use crate::ahead::all_go_ahead;
-use crate::arrivals::Arrivals;
 use crate::channel_state::{Offered, Stop, add_accepted, all_stops};
+use crate::far_sink::FarSink;
 use crate::offers::Offers;
 use crate::outcome::{Ending, Outcome, RunFault, verdict};
 use crate::taken::{Taken, take_from_each};
@@ -74,7 +75,7 @@ fn offer_on_each<const C: usize, const M: usize>(
 // One round: both sides take all that stands in their inboxes, which goes to `far` and is counted by
 // `taken`, then each offers the next beat of each of its channels, and then what is staged and what
 // stands in the rings moves on, as far as there is room.
-fn round<F: Arrivals<C, M>, const C: usize, const M: usize>(
+fn round<F: FarSink<C, M>, const C: usize, const M: usize>(
     bridge: &mut SyncBridge<C, M>,
     script: &Script<C, M>,
     at: &mut PerChannel<usize>,
@@ -88,6 +89,10 @@ fn round<F: Arrivals<C, M>, const C: usize, const M: usize>(
         HasRound (near_beats script.now) at.old (joined all (arriving x)) x bridge.new offers) }
     ensures far { (x : Past C M) (all : Beats M C) → StandsFor bridge.old x →
         F.Holds far.old all → OnOk result (F.Holds far.new (joined all (arriving x))) }
+    ensures room { (x : Past C M) (all : Beats M C) (room : PerChannelOf ℕ) →
+        StandsFor bridge.old x → IsAt (near_beats script.now) at.old all x →
+        F.Holds far.old all → HaveRoom (near_beats script.now) room →
+        F.HasRoom far.old room → IsOk result × F.HasRoom far.new room }
     ensures same { OnOk result (F.made_with far.new ≡ F.made_with far.old) }
     ensures counted { IfOk result (λ offers. at.new ≡ counted at.old offers) }
     ensures taken { (x : Past C M) (all : Beats M C) → StandsFor bridge.old x →
@@ -144,7 +149,7 @@ fn ending_of(
 
 // Rounds, up to the first one in which no channel could offer more, and after which nothing is
 // under way. After each one a channel whose beat was accepted goes on, by at most so many beats.
-pub(crate) fn run_rounds<F: Arrivals<C, M>, const C: usize, const M: usize>(
+pub(crate) fn run_rounds<F: FarSink<C, M>, const C: usize, const M: usize>(
     bridge: &mut SyncBridge<C, M>,
     script: &Script<C, M>,
     far: &mut F,
@@ -155,6 +160,8 @@ pub(crate) fn run_rounds<F: Arrivals<C, M>, const C: usize, const M: usize>(
     ensures ending { IfOk result (HasEnding (near_beats script.now)) }
     ensures far { OnOk result (F.Holds far.new (far_beats (near_beats script.now))) }
     ensures same { OnOk result (F.made_with far.new ≡ F.made_with far.old) }
+    ensures room { (room : PerChannelOf ℕ) → HaveRoom (near_beats script.now) room →
+        F.HasRoom far.old room → IsOk result }
     ensures memory { IfErr result (λ fault. fault ≡ OutOfMemory) }
 {
     let mut at = PerChannel {

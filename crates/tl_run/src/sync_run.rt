@@ -6,9 +6,10 @@ ghost use Rattle.tl_run.specs.declared.outcome.RunFault.TheVariants.{RingSize, O
 ghost use Rattle.tl_settle.specs.Outcomes.{far_beats};
 ghost use Rattle.tl_run.specs.Arrivals.{no_beats};
 ghost use Rattle.tl_run.specs.Scripts.{HasEnding, HasShortLists, SettlesTo, near_beats};
+ghost use Rattle.tl_run.specs.Inner.Arriving.{HasRoomFor, beats_of};
 ghost use Rattle.tl_run.specs.Inner.Widths.{AreWidths};
 
-use crate::arrivals::Arrivals;
+use crate::far_sink::FarSink;
 use crate::outcome::{Ending, Outcome, RunFault};
 use crate::rounds::run_rounds;
 use crate::taken::Taken;
@@ -56,7 +57,7 @@ pub fn run_sync<const C: usize, const M: usize>(
     let Ok(mut far) = Taken::new(alloc, script) else {
         return Err(RunFault::OutOfMemory);
     };
-    match run_over(alloc, script, ring, &mut far, 0) {
+    match run_into_lists(alloc, script, ring, &mut far) {
         Ok(ending) => Ok(far.into_outcome(ending)),
         Err(fault) => Err(fault),
     }
@@ -71,7 +72,7 @@ pub fn run_sync<const C: usize, const M: usize>(
 ///
 /// Refused as [`run_sync`] is, but that `far` may ask for memory in each round: where it is refused
 /// some, the run ends in that round with `OutOfMemory`.
-pub fn run_sync_into<F: Arrivals<C, M>, const C: usize, const M: usize>(
+pub fn run_sync_into<F: FarSink<C, M>, const C: usize, const M: usize>(
     alloc: Global,
     script: &Script<C, M>,
     ring: usize,
@@ -94,7 +95,7 @@ pub fn run_sync_into<F: Arrivals<C, M>, const C: usize, const M: usize>(
 
 // A run over a new bridge, in which a channel goes on by at most so many beats after each round. (The
 // rounds get the bridge lent, so that one way out alone drops it.)
-fn run_over<F: Arrivals<C, M>, const C: usize, const M: usize>(
+fn run_over<F: FarSink<C, M>, const C: usize, const M: usize>(
     alloc: Global,
     script: &Script<C, M>,
     ring: usize,
@@ -116,4 +117,32 @@ fn run_over<F: Arrivals<C, M>, const C: usize, const M: usize>(
         Err(fault) => return Err(RunFault::from(fault)),
     };
     run_rounds(&mut bridge, script, far, most)
+}
+
+// A run over a new bridge, whose far beats go into lists that have room for all of them: its rounds ask
+// for no memory. (The rounds get the bridge lent, so that one way out alone drops it.)
+fn run_into_lists<const C: usize, const M: usize>(
+    alloc: Global,
+    script: &Script<C, M>,
+    ring: usize,
+    far: &mut Taken<C, M>,
+) -> Result<Ending, RunFault>
+    requires { AreWidths C M × HasShortLists script.now × (beats_of far.old ≡ no_beats) ×
+        HasRoomFor (near_beats script.now) far.old }
+    ensures ending { IfOk result (HasEnding (near_beats script.now)) }
+    ensures far { OnOk result (beats_of far.new ≡ far_beats (near_beats script.now)) }
+    ensures size { IsOk result → (1 ≤ ring) × (ring ≤ MAX_RING) }
+    ensures ring_size { IfErr result (λ fault. (fault ≡ RingSize) ↔
+        ((ring ≡ 0) ⊎ (MAX_RING < ring))) }
+    ensures never_stalled { IfErr result (λ fault. fault ≢ Stalled) }
+{
+    let mut bridge = match SyncBridge::new(alloc, ring) {
+        Ok(bridge) => bridge,
+        Err(fault) => return Err(RunFault::from(fault)),
+    };
+    match run_rounds(&mut bridge, script, far, 0) {
+        Ok(ending) => Ok(ending),
+        // the lists have room for all that comes
+        Err(_) => unreachable!(),
+    }
 }

@@ -1,24 +1,22 @@
 //! The far beats that the two sides of a run take.
-ghost use Rattle.std.specs.Prelude.{◌≡◌, ◌++◌, List, [], ◌∷◌, None, All, IfOk, OnOk};
-ghost use Rattle.tl_lanes.specs.Lanes.{IsWidth};
+ghost use Rattle.std.specs.Prelude.{◌≡◌, ◌≤◌, ◌+◌, ◌++◌, ℕ, length, vec_len, vec_capacity, IsOk, IfOk, OnOk};
 ghost use Rattle.tl_msg.specs.Tables.{rules_a, rules_b, rules_c, rules_d, rules_e};
-ghost use Rattle.tl_settle.specs.Histories.{Ask, Answer};
 ghost use Rattle.tl_settle.specs.Outcomes.{Beats, far_beats};
 ghost use Rattle.tl_sides.specs.Bridges.{Past, StandsFor};
-ghost use Rattle.tl_sides.specs.Books.{KnowsClient, KnowsManager};
-ghost use Rattle.tl_run.specs.Arrivals.{joined, no_beats};
+ghost use Rattle.tl_sides.specs.ChannelCalls.{after_take_all};
+ghost use Rattle.tl_sides.specs.declared.per_channel.PerChannel.{PerChannel as PerChannelOf};
+ghost use Rattle.tl_run.specs.Arrivals.{Fit, joined, no_beats};
 ghost use Rattle.tl_run.specs.Scripts.{EndsIn, HasEnding, HasShortLists, near_beats};
 ghost use Rattle.tl_run.specs.Inner.Widths.{AreWidths};
-ghost use Rattle.tl_run.specs.Inner.Running.{CanAdd, added, after_takes, inboxes, lengths};
-ghost use Rattle.tl_run.specs.Inner.Arriving.{beats_of, HasRoom, HaveRoom, HasRoomFor};
-ghost use Rattle.tl_run.specs.Inner.Noting.{HasNoted, noted_none, noted_then};
+ghost use Rattle.tl_run.specs.Inner.Running.{CanAdd, added, inboxes, lengths};
+ghost use Rattle.tl_run.specs.Inner.Arriving.{beats_of, HasRoom, HaveCapacity, HaveRoom, HasRoomFor};
 
-use crate::arrivals::Arrivals;
+use crate::far_sink::FarSink;
 use crate::outcome::{Ending, Outcome};
 use std::alloc::{AllocError, Global};
-use tl_convert::far_room;
-use tl_msg::{Beat, BeatOf, ChA, ChB, ChC, ChD, ChE, HeadA, HeadD};
-use tl_sides::{ClientBook, ManagerBook, PerChannel, SyncBridge};
+use tl_convert::far_count;
+use tl_msg::{Beat, ChA, ChB, ChC, ChD, ChE};
+use tl_sides::{PerChannel, SyncBridge};
 use tl_trace::Script;
 
 /// The far beats that a run has taken, by channel, in lists that grow no more: those of A, C and E on
@@ -39,9 +37,9 @@ fn client_rooms<const C: usize, const M: usize>(script: &Script<C, M>) -> (usize
         HasRoom rules_c M (near_beats script.now).c result.1 ×
         HasRoom rules_e M (near_beats script.now).e result.2 }
 {
-    let a = far_room::<ChA, C, M>(&script.a);
-    let c = far_room::<ChC, C, M>(&script.c);
-    let e = far_room::<ChE, C, M>(&script.e);
+    let a = far_count::<ChA, C, M>(&script.a);
+    let c = far_count::<ChC, C, M>(&script.c);
+    let e = far_count::<ChE, C, M>(&script.e);
     (a, c, e)
 }
 
@@ -51,8 +49,8 @@ fn manager_rooms<const C: usize, const M: usize>(script: &Script<C, M>) -> (usiz
     ensures { HasRoom rules_b C (near_beats script.now).b result.0 ×
         HasRoom rules_d C (near_beats script.now).d result.1 }
 {
-    let b = far_room::<ChB, M, C>(&script.b);
-    let d = far_room::<ChD, M, C>(&script.d);
+    let b = far_count::<ChB, M, C>(&script.b);
+    let d = far_count::<ChD, M, C>(&script.d);
     (b, d)
 }
 
@@ -123,7 +121,9 @@ impl<const C: usize, const M: usize> Taken<C, M> {
 // Appends the beats of an inbox to a list. In most rounds there is none, or one.
 #[inline(always)]
 fn append<B: Copy>(list: &mut Vec<B>, beats: &[B]) -> Result<(), AllocError>
-    ensures { OnOk result (list.new.items ≡ list.old.items ++ beats.now) }
+    ensures items { OnOk result (list.new.items ≡ list.old.items ++ beats.now) }
+    ensures room { vec_len list.old + length beats.now ≤ vec_capacity list.old → IsOk result }
+    ensures capacity { vec_capacity list.old ≤ vec_capacity list.new }
 {
     if beats.is_empty() {
         return Ok(());
@@ -135,8 +135,10 @@ fn append<B: Copy>(list: &mut Vec<B>, beats: &[B]) -> Result<(), AllocError>
     list.extend_from_slice(beats)
 }
 
-impl<const C: usize, const M: usize> Arrivals<C, M> for Taken<C, M> {
+impl<const C: usize, const M: usize> FarSink<C, M> for Taken<C, M> {
     ghost Holds = { λ t far. beats_of t ≡ far };
+
+    ghost HasRoom = { HaveCapacity };
 
     ghost made_with = { λ _. 0 };
 
@@ -158,65 +160,6 @@ impl<const C: usize, const M: usize> Arrivals<C, M> for Taken<C, M> {
     }
 }
 
-/// What notes the beats `B` that a side takes, one after another.
-trait Notes<B> {
-    // whether it may note a beat
-    ghost CanNote: { B → Type 0 };
-
-    // `new` is what `old` becomes where these beats are noted
-    ghost Becomes: { (old : Self) → (beats : List B) → (new : Self) → Type 0 };
-
-    /// Notes a beat.
-    fn note(&mut self, beat: &B)
-        requires { CanNote beat.now }
-        ensures { Becomes self.old (beat.now ∷ []) self.new };
-
-    ghost notes_none: { (s : Self) → Becomes s [] s };
-
-    ghost notes_then: { (s t u : Self) (i j : List B) → Becomes s i t → Becomes t j u →
-        Becomes s (i ++ j) u };
-}
-
-// What a side takes of A, it has to answer.
-impl<const M: usize> Notes<BeatOf<HeadA, M>> for ManagerBook<M> {
-    ghost CanNote = { λ b. IsWidth M × (rules_a.fault b.head ≡ None) };
-
-    ghost Becomes = { HasNoted KnowsManager Ask };
-
-    fn note(&mut self, beat: &BeatOf<HeadA, M>) {
-        self.note_ask(&beat.head);
-    }
-
-    ghost notes_none = { noted_none KnowsManager Ask };
-
-    ghost notes_then = { noted_then KnowsManager Ask };
-}
-
-// What a side takes of D, it has asked for.
-impl<const C: usize> Notes<BeatOf<HeadD, C>> for ClientBook<C> {
-    ghost CanNote = { λ b. IsWidth C × (rules_d.fault b.head ≡ None) };
-
-    ghost Becomes = { HasNoted KnowsClient Answer };
-
-    fn note(&mut self, beat: &BeatOf<HeadD, C>) {
-        self.note_answer(&beat.head);
-    }
-
-    ghost notes_none = { noted_none KnowsClient Answer };
-
-    ghost notes_then = { noted_then KnowsClient Answer };
-}
-
-// A side notes beats that it takes in its book.
-fn note_all<B, N: Notes<B>>(book: &mut N, beats: &[B])
-    requires can { All (λ beat. N.CanNote beat) beats.now }
-    ensures { N.Becomes book.old beats.now book.new }
-{
-    for beat in beats {
-        book.note(beat);
-    }
-}
-
 // So many beats of each channel are counted.
 fn add_counts(counts: &mut PerChannel<usize>, more: &PerChannel<usize>)
     requires { CanAdd counts.old more.now }
@@ -229,40 +172,29 @@ fn add_counts(counts: &mut PerChannel<usize>, more: &PerChannel<usize>)
     counts.e += more.e;
 }
 
-// Each side notes what stands in its inboxes, and takes it.
-fn note_and_empty<const C: usize, const M: usize>(bridge: &mut SyncBridge<C, M>)
-    requires { AreWidths C M }
-    ensures { (x : Past C M) → StandsFor bridge.old x → StandsFor bridge.new (after_takes x) }
-{
-    note_all(&mut bridge.client, bridge.d.inbox());
-    note_all(&mut bridge.manager, bridge.a.inbox());
-    bridge.a.take_all();
-    bridge.b.take_all();
-    bridge.c.take_all();
-    bridge.d.take_all();
-    bridge.e.take_all();
-}
-
 // Each side takes all that stands in its inboxes, which goes to `far`. `taken` counts it. (A refusal
 // of `far` ends the run: what the sides have taken then is lost.)
-pub(crate) fn take_from_each<F: Arrivals<C, M>, const C: usize, const M: usize>(
+pub(crate) fn take_from_each<F: FarSink<C, M>, const C: usize, const M: usize>(
     bridge: &mut SyncBridge<C, M>,
     far: &mut F,
     taken: &mut PerChannel<usize>,
 ) -> Result<(), AllocError>
     requires { AreWidths C M × CanAdd taken.old (lengths (inboxes bridge.old)) }
     ensures taken { (x : Past C M) → StandsFor bridge.old x →
-        OnOk result (StandsFor bridge.new (after_takes x)) }
+        OnOk result (StandsFor bridge.new (after_take_all x)) }
     ensures far { (all : Beats M C) → F.Holds far.old all →
         OnOk result (F.Holds far.new (joined all (inboxes bridge.old))) }
+    ensures room { (all : Beats M C) (room : PerChannelOf ℕ) → F.Holds far.old all →
+        F.HasRoom far.old room → Fit (joined all (inboxes bridge.old)) room →
+        IsOk result × F.HasRoom far.new room }
     ensures same { OnOk result (F.made_with far.new ≡ F.made_with far.old) }
     ensures counted { OnOk result (taken.new ≡ added taken.old (lengths (inboxes bridge.old))) }
 {
-    let a = bridge.a.inbox();
-    let b = bridge.b.inbox();
-    let c = bridge.c.inbox();
-    let d = bridge.d.inbox();
-    let e = bridge.e.inbox();
+    let a = bridge.inbox_a();
+    let b = bridge.inbox_b();
+    let c = bridge.inbox_c();
+    let d = bridge.inbox_d();
+    let e = bridge.inbox_e();
     let kept = far.take(a, b, c, d, e);
     let more = PerChannel {
         a: a.len(),
@@ -272,6 +204,6 @@ pub(crate) fn take_from_each<F: Arrivals<C, M>, const C: usize, const M: usize>(
         e: e.len(),
     };
     add_counts(taken, &more);
-    note_and_empty(bridge);
+    bridge.take_all();
     kept
 }

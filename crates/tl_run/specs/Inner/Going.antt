@@ -1,6 +1,5 @@
 -- A channel of a run in one thread goes on by itself. Only contracts of private functions cite these words.
 use Rattle.std.proofs.Common.{◌≡◌, ◌≤◌, ℕ, List, refl, sym, ap, subst, ◌∙◌, arith}
-use Rattle.tl_msg.specs.Rules.{Rules}
 use Rattle.tl_msg.specs.declared.head.HeadA.{HeadA}
 use Rattle.tl_msg.specs.declared.head.HeadB.{HeadB}
 use Rattle.tl_msg.specs.declared.head.HeadC.{HeadC}
@@ -8,8 +7,6 @@ use Rattle.tl_msg.specs.declared.head.HeadD.{HeadD}
 use Rattle.tl_msg.specs.declared.head.HeadE.{HeadE}
 use Rattle.tl_msg.specs.declared.beat.BeatOf.{BeatOf}
 use Rattle.tl_ring.specs.Crossing.{World, pushed, popped}
-use Rattle.tl_ring.specs.Pipe.{Pipe}
-use Rattle.tl_ring.specs.Pipe as piping
 use Rattle.tl_settle.specs.Outcomes.{Beats}
 use Rattle.tl_sides.specs.declared.per_channel.PerChannel.{PerChannel}
 use Rattle.tl_sides.specs.Bridges.{Bridge, Past, StandsFor}
@@ -19,13 +16,6 @@ use Rattle.tl_run.specs.Inner.Running.{IsAt, all_progress}
 module _ {H : Type 0} {w v : ℕ} where
   abbrev pub passed_on : (first out again : ℕ) → World H w v → World H w v
   passed_on first out again x = pushed again (popped out (pushed first x))
-
--- a pipe became another one by what moved on in it
-pub record HasMovedOn {H : Type 0} (r : Rules H) (w : ℕ) {v : ℕ} (p q : Pipe H v) : Type 0 where
-  pub first : ℕ
-  pub out : ℕ
-  pub again : ℕ
-  pub stands : (x : World H w v) → piping.StandsFor r p x → piping.StandsFor r q (passed_on first out again x)
 
 module _ {C M : ℕ} where
   -- a run that stood for one past, with so many beats of each list accepted, stands for another one later, and has come as far at least

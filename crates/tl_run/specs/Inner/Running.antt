@@ -23,6 +23,7 @@ use Rattle.tl_settle.specs.Outcomes.{Beats}
 use Rattle.tl_sides.specs.declared.per_channel.PerChannel.{PerChannel}
 use Rattle.tl_sides.specs.Crossings.{stops_alone}
 use Rattle.tl_sides.specs.Bridges.{Bridge, Past, StandsFor, nothing_yet}
+pub use Rattle.tl_sides.specs.ChannelCalls.{emptied, after_take_all}
 use Rattle.tl_run.specs.declared.channel_state.Stop.{Stop}
 use Rattle.tl_run.specs.declared.channel_state.Stop.TheVariants.{Done, Cut, Refused}
 use Rattle.tl_run.specs.declared.channel_state.Offered.{Offered}
@@ -37,10 +38,6 @@ steps NotReady = 0
 steps (Stopped stop) = 0
 
 module _ {H : Type 0} {w v : ℕ} where
-  -- all of an inbox is taken
-  abbrev pub emptied : World H w v → World H w v
-  emptied x = record x { inbox = []; taken = x.taken ++ x.inbox }
-
   -- how many beats are under way
   abbrev pub under_way : World H w v → ℕ
   under_way x = length x.stage + length x.ring + length x.inbox
@@ -123,18 +120,6 @@ module _ {C M : ℕ} where
   -- how many beats there are of each channel
   abbrev pub lengths : Beats C M → PerChannel ℕ
   lengths bs = record { a = length bs.a; b = length bs.b; c = length bs.c; d = length bs.d; e = length bs.e }
-
-  -- each side takes all that stands in its inboxes
-  abbrev pub after_takes : Past C M → Past C M
-  after_takes x = record {
-    client = x.client ++ map Answer x.d.inbox;
-    manager = x.manager ++ map Ask x.a.inbox;
-    a = emptied x.a;
-    b = emptied x.b;
-    c = emptied x.c;
-    d = emptied x.d;
-    e = emptied x.e;
-  }
 
   -- how far a run has come
   abbrev pub all_progress : PerChannel ℕ → Past C M → ℕ

@@ -1,4 +1,4 @@
-use Rattle.std.proofs.Common.{refl, sym}
+use Rattle.std.proofs.Common.{refl, sym, arith}
 use Rattle.tl_ring.proofs.FieldSizes.{beat_small}
 use Rattle.tl_sides.proofs.BridgeSize.{bridge_small}
 use Rattle.tl_run.specs.Scripts.{near_beats}
@@ -86,3 +86,6 @@ returns g c = λ far x stands i.
       keeps = six-on (all_progress c.args.at.now x) (all_progress _ a.past) (all_progress _ c'.past) (all_progress _ e.past) (all_progress _ b.past) (all_progress _ d.past) (all_progress _ f.past)
           a.keeps c'.keeps e.keeps b.keeps d.keeps f.keeps;
     }
+
+pub returns-then-most-eq0 : goal.returns-then-most-eq0
+returns-then-most-eq0 g c = λ far x stands i. record { past = x; stands = stands; is_at = i; keeps = omega arith }

@@ -1,11 +1,12 @@
-use Rattle.std.proofs.Common.{lit<, refl, sym, ap, subst, ◌∙◌}
+use Rattle.std.proofs.Common.{true, lit<, refl, sym, ap, subst, ◌∙◌}
 use Rattle.tl_sides.proofs.BridgeSize.{bridge_small}
 use Rattle.tl_run.specs.Scripts.{near_beats}
 use Rattle.tl_sides.specs.Bridges.{after_pump}
 use Rattle.tl_run.specs.Arrivals.{joined}
-use Rattle.tl_run.specs.Inner.Running.{CanAdd, added, after_takes, arriving, inboxes, lengths}
+use Rattle.tl_run.specs.Inner.Running.{CanAdd, added, after_take_all, arriving, inboxes, lengths}
 use Rattle.tl_run.proofs.Ended.{can-add}
 use Rattle.tl_run.proofs.Round.{moved-stands, has-round, inboxes-are, counts-fit, joined-lengths}
+use Rattle.tl_run.proofs.Rooms.{inboxes-fit}
 use Rattle.tl_run.proofs.rounds.round.Goals as goal
 
 pub take_from_each-requires : goal.take_from_each-requires
@@ -40,7 +41,7 @@ fetch-requires g c = bridge_small g.row.C g.row.M c.requires.0.client c.requires
 
 pub returns-clause-round : goal.returns-clause-round
 returns-clause-round g c = λ x all stands at.
-    let h = c.offer_on_each-offers.ensures.offered (after_takes x) (c.in_ok-take_from_each.ensures.taken x stands) in
+    let h = c.offer_on_each-offers.ensures.offered (after_take_all x) (c.in_ok-take_from_each.ensures.taken x stands) in
     let pumped = c.pump.ensures.moved h.past h.stands in
     has-round c.requires.0.client c.requires.0.manager (near_beats c.args.script.now) c.args.at.now all x c.args.bridge.now c.offer_on_each-offers.new.bridge c.offer_on_each-offers.result stands at h
     (joined all (arriving x)) c.fetch.new.self refl
@@ -48,7 +49,7 @@ returns-clause-round g c = λ x all stands at.
 
 pub returns-clause-far : goal.returns-clause-far
 returns-clause-far g c = λ x all stands has.
-    subst (λ q. g.F.Arrivals.Holds c.take_from_each.new.far (joined all q)) (inboxes-are c.args.bridge.now x stands) (c.in_ok-take_from_each.ensures.far all has)
+    subst (λ q. g.F.FarSink.Holds c.take_from_each.new.far (joined all q)) (inboxes-are c.args.bridge.now x stands) (c.in_ok-take_from_each.ensures.far all has)
 
 pub returns-clause-counted : goal.returns-clause-counted
 returns-clause-counted g c = c.offer_on_each-offers.ensures.counted
@@ -60,3 +61,16 @@ returns-clause-taken g c = λ x all stands same.
 
 pub returns-clause-same : goal.returns-clause-same
 returns-clause-same g c = c.in_ok-take_from_each.ensures.same
+
+pub returns-clause-room : goal.returns-clause-room
+returns-clause-room g c = λ x all room stands at has enough free. (
+  refl {a = true},
+  (c.in_ok-take_from_each.ensures.room all room has free
+      (inboxes-fit c.requires.0.client c.requires.0.manager (near_beats c.args.script.now) c.args.at.now all c.args.bridge.now x stands at room enough)).1,
+)
+
+pub returns-in_err-take_from_each-clause-room : goal.returns-in_err-take_from_each-clause-room
+returns-in_err-take_from_each-clause-room g c = λ x all room stands at has enough free.
+    let ok = (c.in_err-take_from_each.ensures.room all room has free
+    (inboxes-fit c.requires.0.client c.requires.0.manager (near_beats c.args.script.now) c.args.at.now all c.args.bridge.now x stands at room enough)).0 in
+    absurd (cc (ok))

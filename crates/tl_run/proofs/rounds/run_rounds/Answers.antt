@@ -19,6 +19,7 @@ rounds-init g c = record {
     under_way = starts (near_beats c.args.script.now) _ no_beats c.args.bridge.now refl refl c.requires.3;
   };
   same = refl;
+  room = λ room enough free. free;
   few = zero-le;
 }
 
@@ -34,7 +35,7 @@ stops_at_rest-requires g c = (bridge_small g.row.C g.row.M c.requires.0.client c
 pub overflow_add-rounds : goal.overflow_add-rounds
 overflow_add-rounds g c =
     let most : progress_by c.rounds.at c.rounds.taken c.rounds.bridge ≤ _ =
-    running-ends (near_beats c.args.script.now) g.F.Arrivals.Holds c.rounds.at c.rounds.taken c.rounds.far c.rounds.bridge c.rounds.invariant.running c.requires.0.client c.requires.0.manager in
+    running-ends (near_beats c.args.script.now) g.F.FarSink.Holds c.rounds.at c.rounds.taken c.rounds.far c.rounds.bridge c.rounds.invariant.running c.requires.0.client c.requires.0.manager in
     let l : c.rounds.rounds + 1 < 2 ^ 64 = counts-on _ _ _ c.rounds.invariant.few most (end-few (near_beats c.args.script.now) c.requires.0.client c.requires.0.manager c.requires.1) in
     omega (arith, l)
 
@@ -42,10 +43,10 @@ overflow_add-rounds g c =
 last : (g : Over) (c : goal.After-ending_of g) → HasEnded (near_beats c.args.script.now) c.round.new.at
     (joined c.rounds.invariant.running.all (arriving c.rounds.invariant.running.under_way.past)) c.round.new.bridge c.in-Some.stops (c.rounds.rounds + 1)
 last g c =
-    let h = round-is (near_beats c.args.script.now) g.F.Arrivals.Holds c.rounds.at c.rounds.taken c.rounds.far c.rounds.bridge c.rounds.invariant.running
+    let h = round-is (near_beats c.args.script.now) g.F.FarSink.Holds c.rounds.at c.rounds.taken c.rounds.far c.rounds.bridge c.rounds.invariant.running
     c.round.new.at c.round.new.taken c.round.new.far c.round.new.bridge c.in_ok-offers.offers c.in_ok-offers.ensures.counted c.in_ok-offers.ensures.round c.in_ok-offers.ensures.far
     c.in_ok-offers.ensures.taken in
-    running-ended (near_beats c.args.script.now) g.F.Arrivals.Holds c.rounds.at c.rounds.taken c.rounds.far c.rounds.bridge c.rounds.invariant.running
+    running-ended (near_beats c.args.script.now) g.F.FarSink.Holds c.rounds.at c.rounds.taken c.rounds.far c.rounds.bridge c.rounds.invariant.running
     c.round.new.at c.round.new.taken c.round.new.far c.round.new.bridge c.in_ok-offers.offers c.in_ok-offers.ensures.counted c.in_ok-offers.ensures.round c.in_ok-offers.ensures.far
     c.in_ok-offers.ensures.taken
     c.rounds.rounds c.rounds.invariant.few c.in-Some.stops c.in-Some.ensures.stops (c.in-Some.ensures.rests h.past h.stands)
@@ -53,45 +54,45 @@ last g c =
 pub returns-in-Some-clause-ending : goal.returns-in-Some-clause-ending
 returns-in-Some-clause-ending g c =
     c.ending_of.ensures g.row.C g.row.M (near_beats c.args.script.now) _ c.round.new.bridge c.requires.0.client c.requires.0.manager
-    (counts-all (near_beats c.args.script.now) g.F.Arrivals.Holds c.rounds.at c.rounds.taken c.rounds.far c.rounds.bridge c.rounds.invariant.running
+    (counts-all (near_beats c.args.script.now) g.F.FarSink.Holds c.rounds.at c.rounds.taken c.rounds.far c.rounds.bridge c.rounds.invariant.running
     c.round.new.at c.round.new.taken c.round.new.far c.round.new.bridge c.in_ok-offers.offers c.in_ok-offers.ensures.counted c.in_ok-offers.ensures.round c.in_ok-offers.ensures.far
     c.in_ok-offers.ensures.taken) (last g c)
 
 pub returns-in-Some-clause-far : goal.returns-in-Some-clause-far
 returns-in-Some-clause-far g c =
-    subst (λ q. g.F.Arrivals.Holds c.round.new.far q)
+    subst (λ q. g.F.FarSink.Holds c.round.new.far q)
     (far-is c.requires.0.client c.requires.0.manager (near_beats c.args.script.now) c.round.new.at _ c.round.new.bridge c.in-Some.stops (c.rounds.rounds + 1) (last g c))
-    (holds-all (near_beats c.args.script.now) g.F.Arrivals.Holds c.rounds.at c.rounds.taken c.rounds.far c.rounds.bridge c.rounds.invariant.running
+    (holds-all (near_beats c.args.script.now) g.F.FarSink.Holds c.rounds.at c.rounds.taken c.rounds.far c.rounds.bridge c.rounds.invariant.running
     c.round.new.at c.round.new.taken c.round.new.far c.round.new.bridge c.in_ok-offers.offers c.in_ok-offers.ensures.counted c.in_ok-offers.ensures.round c.in_ok-offers.ensures.far
     c.in_ok-offers.ensures.taken)
 
 -- the way after a round that is not the last one
 onward : (g : Over) (c : goal.After-all_go_ahead g) → progress_by c.rounds.at c.rounds.taken c.rounds.bridge + 1 ≤ progress_by c.round.new.at c.round.new.taken c.round.new.bridge
 onward g c =
-    let h = round-is (near_beats c.args.script.now) g.F.Arrivals.Holds c.rounds.at c.rounds.taken c.rounds.far c.rounds.bridge c.rounds.invariant.running
+    let h = round-is (near_beats c.args.script.now) g.F.FarSink.Holds c.rounds.at c.rounds.taken c.rounds.far c.rounds.bridge c.rounds.invariant.running
     c.round.new.at c.round.new.taken c.round.new.far c.round.new.bridge c.in_ok-offers.offers c.in_ok-offers.ensures.counted c.in_ok-offers.ensures.round c.in_ok-offers.ensures.far
     c.in_ok-offers.ensures.taken in
-    running-further (near_beats c.args.script.now) g.F.Arrivals.Holds c.rounds.at c.rounds.taken c.rounds.far c.rounds.bridge c.rounds.invariant.running
+    running-further (near_beats c.args.script.now) g.F.FarSink.Holds c.rounds.at c.rounds.taken c.rounds.far c.rounds.bridge c.rounds.invariant.running
     c.round.new.at c.round.new.taken c.round.new.far c.round.new.bridge c.in_ok-offers.offers c.in_ok-offers.ensures.counted c.in_ok-offers.ensures.round c.in_ok-offers.ensures.far
     c.in_ok-offers.ensures.taken
     (λ stopped rest. c.in_default.ensures.goes h.past h.stands refl stopped rest)
 
 -- and where the run stands then
-goes-on : (g : Over) (c : goal.After-all_go_ahead g) → IsRunning g.F.Arrivals.Holds (near_beats c.args.script.now) c.round.new.at c.round.new.taken c.round.new.far c.round.new.bridge
-goes-on g c = running-on (near_beats c.args.script.now) g.F.Arrivals.Holds c.rounds.at c.rounds.taken c.rounds.far c.rounds.bridge c.rounds.invariant.running
+goes-on : (g : Over) (c : goal.After-all_go_ahead g) → IsRunning g.F.FarSink.Holds (near_beats c.args.script.now) c.round.new.at c.round.new.taken c.round.new.far c.round.new.bridge
+goes-on g c = running-on (near_beats c.args.script.now) g.F.FarSink.Holds c.rounds.at c.rounds.taken c.rounds.far c.rounds.bridge c.rounds.invariant.running
     c.round.new.at c.round.new.taken c.round.new.far c.round.new.bridge c.in_ok-offers.offers c.in_ok-offers.ensures.counted c.in_ok-offers.ensures.round c.in_ok-offers.ensures.far
     c.in_ok-offers.ensures.taken
 
 -- where it stands when channels went on by themselves, and that it has come further by then
-ahead : (g : Over) (c : goal.After-all_go_ahead g) → IsRunning g.F.Arrivals.Holds (near_beats c.args.script.now) c.all_go_ahead.new.at c.round.new.taken c.round.new.far c.all_go_ahead.new.bridge
-ahead g c = running-ahead (near_beats c.args.script.now) g.F.Arrivals.Holds c.round.new.at c.round.new.taken c.round.new.far c.round.new.bridge (goes-on g c) c.all_go_ahead.new.at c.all_go_ahead.new.bridge c.all_go_ahead.ensures
+ahead : (g : Over) (c : goal.After-all_go_ahead g) → IsRunning g.F.FarSink.Holds (near_beats c.args.script.now) c.all_go_ahead.new.at c.round.new.taken c.round.new.far c.all_go_ahead.new.bridge
+ahead g c = running-ahead (near_beats c.args.script.now) g.F.FarSink.Holds c.round.new.at c.round.new.taken c.round.new.far c.round.new.bridge (goes-on g c) c.all_go_ahead.new.at c.all_go_ahead.new.bridge c.all_go_ahead.ensures
 
 further : (g : Over) (c : goal.After-all_go_ahead g) → progress_by c.rounds.at c.rounds.taken c.rounds.bridge + 1 ≤ progress_by c.all_go_ahead.new.at c.round.new.taken c.all_go_ahead.new.bridge
-further g c = still-further _ _ _ (onward g c) (running-keeps (near_beats c.args.script.now) g.F.Arrivals.Holds c.round.new.at c.round.new.taken c.round.new.far c.round.new.bridge (goes-on g c) c.all_go_ahead.new.at c.all_go_ahead.new.bridge c.all_go_ahead.ensures)
+further g c = still-further _ _ _ (onward g c) (running-keeps (near_beats c.args.script.now) g.F.FarSink.Holds c.round.new.at c.round.new.taken c.round.new.far c.round.new.bridge (goes-on g c) c.all_go_ahead.new.at c.all_go_ahead.new.bridge c.all_go_ahead.ensures)
 
 pub all_go_ahead-requires : goal.all_go_ahead-requires
 all_go_ahead-requires g c =
-    let r = running-on (near_beats c.args.script.now) g.F.Arrivals.Holds c.rounds.at c.rounds.taken c.rounds.far c.rounds.bridge c.rounds.invariant.running
+    let r = running-on (near_beats c.args.script.now) g.F.FarSink.Holds c.rounds.at c.rounds.taken c.rounds.far c.rounds.bridge c.rounds.invariant.running
     c.round.new.at c.round.new.taken c.round.new.far c.round.new.bridge c.in_ok-offers.offers c.in_ok-offers.ensures.counted c.in_ok-offers.ensures.round c.in_ok-offers.ensures.far
     c.in_ok-offers.ensures.taken in (
       bridge_small g.row.C g.row.M c.requires.0.client c.requires.0.manager,
@@ -108,10 +109,23 @@ all_go_ahead-requires g c =
 pub rounds-smaller : goal.rounds-smaller
 rounds-smaller g c =
     nearer _ _ _ (further g c)
-    (running-ends (near_beats c.args.script.now) g.F.Arrivals.Holds c.all_go_ahead.new.at c.round.new.taken c.round.new.far c.all_go_ahead.new.bridge (ahead g c) c.requires.0.client c.requires.0.manager)
+    (running-ends (near_beats c.args.script.now) g.F.FarSink.Holds c.all_go_ahead.new.at c.round.new.taken c.round.new.far c.all_go_ahead.new.bridge (ahead g c) c.requires.0.client c.requires.0.manager)
 
 pub rounds-preserved : goal.rounds-preserved
-rounds-preserved g c = record { running = ahead g c; same = c.in_ok-offers.ensures.same ∙ c.rounds.invariant.same; few = one-round-more _ _ _ c.rounds.invariant.few (further g c) }
+rounds-preserved g c = record {
+  running = ahead g c;
+  same = c.in_ok-offers.ensures.same ∙ c.rounds.invariant.same;
+  room = λ room enough free.
+      let r = c.rounds.invariant.running in
+      (c.in_ok-offers.ensures.room r.under_way.past r.all room r.under_way.stands r.under_way.is_at r.holds enough (c.rounds.invariant.room room enough free)).1;
+  few = one-round-more _ _ _ c.rounds.invariant.few (further g c);
+}
 
 pub returns-in-Some-clause-same : goal.returns-in-Some-clause-same
 returns-in-Some-clause-same g c = c.in_ok-offers.ensures.same ∙ c.rounds.invariant.same
+
+pub returns-in_err-offers-clause-room : goal.returns-in_err-offers-clause-room
+returns-in_err-offers-clause-room g c = λ room enough free.
+    let r = c.rounds.invariant.running in
+    let ok = (c.in_err-offers.ensures.room r.under_way.past r.all room r.under_way.stands r.under_way.is_at r.holds enough (c.rounds.invariant.room room enough free)).0 in
+    absurd (cc (ok))

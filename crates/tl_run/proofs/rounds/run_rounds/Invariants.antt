@@ -1,13 +1,16 @@
-use Rattle.std.proofs.Common.{◌≡◌, ◌-◌, ◌≤◌}
+use Rattle.std.proofs.Common.{◌≡◌, ◌-◌, ◌≤◌, ℕ}
 use Rattle.tl_run.specs.Scripts.{near_beats}
+use Rattle.tl_run.specs.Inner.Arriving.{HaveRoom}
 use Rattle.tl_run.specs.Inner.Running.{IsRunning}
+use Rattle.tl_sides.specs.declared.per_channel.PerChannel.{PerChannel}
 use Rattle.tl_run.proofs.Ended.{progress_by, run_end}
 use Rattle.tl_run.proofs.rounds.run_rounds.Given as goal
 
 abbrev pub invariant-rounds : goal.invariant-rounds
 invariant-rounds g l = record {
-  running : IsRunning g.F.Arrivals.Holds (near_beats l.script) l.at l.taken l.far l.bridge;
-  same : g.F.Arrivals.made_with l.far ≡ g.F.Arrivals.made_with l.fn.far;
+  running : IsRunning g.F.FarSink.Holds (near_beats l.script) l.at l.taken l.far l.bridge;
+  same : g.F.FarSink.made_with l.far ≡ g.F.FarSink.made_with l.fn.far;
+  room : (room : PerChannel ℕ) → HaveRoom (near_beats l.script) room → g.F.FarSink.HasRoom l.fn.far room → g.F.FarSink.HasRoom l.far room;
   few : l.rounds ≤ progress_by l.at l.taken l.bridge;
 }
 

@@ -2,11 +2,11 @@ use Rattle.std.proofs.Common.{lit<}
 use Rattle.tl_run.specs.Scripts.{near_beats}
 use Rattle.tl_run.proofs.sync_run.run_sync.Goals as goal
 
-pub run_over-requires : goal.run_over-requires
-run_over-requires g c = (lit< tt, (record { client = c.requires.client; manager = c.requires.manager }, c.requires.short, lit< tt, c.in-Ok.ensures.empty))
+pub run_into_lists-requires : goal.run_into_lists-requires
+run_into_lists-requires g c = (lit< tt, (lit< tt, (record { client = c.requires.client; manager = c.requires.manager }, c.requires.short, c.in-Ok.ensures.empty, c.in-Ok.ensures.room)))
 
-pub returns-in-Ok-run_over-clause-outcome : goal.returns-in-Ok-run_over-clause-outcome
-returns-in-Ok-run_over-clause-outcome g c = c.into_outcome.ensures (near_beats c.args.script.now) c.in-Ok-run_over.ensures.ending c.in-Ok-run_over.ensures.far
+pub returns-in-Ok-run_into_lists-clause-outcome : goal.returns-in-Ok-run_into_lists-clause-outcome
+returns-in-Ok-run_into_lists-clause-outcome g c = c.into_outcome.ensures (near_beats c.args.script.now) c.in-Ok-run_into_lists.ensures.ending c.in-Ok-run_into_lists.ensures.far
 
 pub returns-in-Err-clause-ring_size : goal.returns-in-Err-clause-ring_size
 returns-in-Err-clause-ring_size g c = c.in-Err.ensures.ring_size

@@ -7,6 +7,6 @@ alone [] x some few is = absurd (omega arith)
 alone (y ∷ []) x some few is = ap (λ z. z ∷ []) is
 alone (y ∷ z ∷ zs) x some few is = absurd (omega arith)
 
-pub returns-in-len1 : goal.returns-in-len1
-returns-in-len1 g c = c.in_ok-push.ensures.items
+pub returns-in-len1-clause-items : goal.returns-in-len1-clause-items
+returns-in-len1-clause-items g c = c.in_ok-push.ensures.items
     ∙ ap (λ more. c.args.list.now.items ++ more) (alone c.args.beats.now c.beat-item.result c.in-len1.len_at_least c.in-len1.len_below c.beat-item.is)

@@ -1,17 +1,17 @@
-use Rattle.std.proofs.Common.{◌≤◌, ◌^◌, length, sym, subst}
+use Rattle.std.proofs.Common.{◌≤◌, ◌^◌, length, sym, subst, arith}
 use Rattle.tl_msg.specs.Tables.{rules_b, rules_d}
 use Rattle.tl_ring.proofs.FieldSizes.{beat_small}
 use Rattle.tl_run.specs.Inner.Arriving.{HasRoom}
 use Rattle.tl_run.proofs.taken.manager_rooms.Goals as goal
 
-pub far_room-b-requires : goal.far_room-b-requires
-far_room-b-requires g c = (beat_small g.row.M c.requires.0.manager, (c.requires.0.manager, (c.requires.0.client, subst (λ q. length q ≤ 2 ^ 40) (sym c.deref.ensures.value) c.requires.1.few_b)))
+pub far_count-b-requires : goal.far_count-b-requires
+far_count-b-requires g c = (beat_small g.row.M c.requires.0.manager, (c.requires.0.manager, (c.requires.0.client, subst (λ q. length q ≤ 2 ^ 40) (sym c.deref.ensures.value) c.requires.1.few_b)))
 
-pub far_room-d-requires : goal.far_room-d-requires
-far_room-d-requires g c = (beat_small g.row.M c.requires.0.manager, (c.requires.0.manager, (c.requires.0.client, subst (λ q. length q ≤ 2 ^ 40) (sym c.deref-2.ensures.value) c.requires.1.few_d)))
+pub far_count-d-requires : goal.far_count-d-requires
+far_count-d-requires g c = (beat_small g.row.M c.requires.0.manager, (c.requires.0.manager, (c.requires.0.client, subst (λ q. length q ≤ 2 ^ 40) (sym c.deref-2.ensures.value) c.requires.1.few_d)))
 
 pub returns : goal.returns
 returns g c = (
-  subst (λ q. HasRoom rules_b g.row.C q c.far_room-b.result) c.deref.ensures.value c.far_room-b.ensures,
-  subst (λ q. HasRoom rules_d g.row.C q c.far_room-d.result) c.deref-2.ensures.value c.far_room-d.ensures,
+  subst (λ q. HasRoom rules_b g.row.C q c.far_count-b.result) c.deref.ensures.value (λ homes. omega (arith, c.far_count-b.ensures homes)),
+  subst (λ q. HasRoom rules_d g.row.C q c.far_count-d.result) c.deref-2.ensures.value (λ homes. omega (arith, c.far_count-d.ensures homes)),
 )

@@ -1,24 +1,24 @@
 use Rattle.std.specs.Prelude.{OnOk}
 use Rattle.tl_ring.proofs.FieldSizes.{beat_small}
-use Rattle.tl_sides.proofs.BridgeSize.{bridge_small, bridge_part_small}
+use Rattle.tl_sides.proofs.BridgeSize.{bridge_small}
 use Rattle.tl_run.specs.Arrivals.{joined}
 use Rattle.tl_run.proofs.AllOk.{always}
 use Rattle.tl_run.proofs.taken.take_from_each.Goals as goal
 
-pub inbox-a-requires : goal.inbox-a-requires
-inbox-a-requires g c = (bridge_part_small g.row.C g.row.M 0 c.requires.0.client c.requires.0.manager, beat_small g.row.M c.requires.0.manager)
+pub inbox_a-a-requires : goal.inbox_a-a-requires
+inbox_a-a-requires g c = (bridge_small g.row.C g.row.M c.requires.0.client c.requires.0.manager, beat_small g.row.M c.requires.0.manager)
 
-pub inbox-b-requires : goal.inbox-b-requires
-inbox-b-requires g c = (bridge_part_small g.row.C g.row.M 1 c.requires.0.client c.requires.0.manager, beat_small g.row.C c.requires.0.client)
+pub inbox_b-b-requires : goal.inbox_b-b-requires
+inbox_b-b-requires g c = (bridge_small g.row.C g.row.M c.requires.0.client c.requires.0.manager, beat_small g.row.C c.requires.0.client)
 
-pub inbox-c-requires : goal.inbox-c-requires
-inbox-c-requires g c = (bridge_part_small g.row.C g.row.M 2 c.requires.0.client c.requires.0.manager, beat_small g.row.M c.requires.0.manager)
+pub inbox_c-c-requires : goal.inbox_c-c-requires
+inbox_c-c-requires g c = (bridge_small g.row.C g.row.M c.requires.0.client c.requires.0.manager, beat_small g.row.M c.requires.0.manager)
 
-pub inbox-d-requires : goal.inbox-d-requires
-inbox-d-requires g c = (bridge_part_small g.row.C g.row.M 3 c.requires.0.client c.requires.0.manager, beat_small g.row.C c.requires.0.client)
+pub inbox_d-d-requires : goal.inbox_d-d-requires
+inbox_d-d-requires g c = (bridge_small g.row.C g.row.M c.requires.0.client c.requires.0.manager, beat_small g.row.C c.requires.0.client)
 
-pub inbox-e-requires : goal.inbox-e-requires
-inbox-e-requires g c = (bridge_part_small g.row.C g.row.M 4 c.requires.0.client c.requires.0.manager, beat_small g.row.M c.requires.0.manager)
+pub inbox_e-e-requires : goal.inbox_e-e-requires
+inbox_e-e-requires g c = (bridge_small g.row.C g.row.M c.requires.0.client c.requires.0.manager, beat_small g.row.M c.requires.0.manager)
 
 pub take-kept-requires : goal.take-kept-requires
 take-kept-requires g c =
@@ -28,28 +28,29 @@ take-kept-requires g c =
 
 pub add_counts-requires : goal.add_counts-requires
 add_counts-requires g c =
-    rw (c.inbox-a.ensures.beats, c.inbox-b.ensures.beats, c.inbox-c.ensures.beats, c.inbox-d.ensures.beats, c.inbox-e.ensures.beats)
-    (rw (← c.bridge.view_is) at c.requires.1)
+    rw (c.inbox_a-a.ensures, c.inbox_b-b.ensures, c.inbox_c-c.ensures, c.inbox_d-d.ensures, c.inbox_e-e.ensures) c.requires.1
 
-pub note_and_empty-requires : goal.note_and_empty-requires
-note_and_empty-requires g c = (bridge_small g.row.C g.row.M c.requires.0.client c.requires.0.manager, c.requires.0)
+pub take_all-requires : goal.take_all-requires
+take_all-requires g c = (bridge_small g.row.C g.row.M c.requires.0.client c.requires.0.manager, (c.requires.0.client, c.requires.0.manager))
 
 pub returns-clause-taken : goal.returns-clause-taken
-returns-clause-taken g c = λ x h. always c.take-kept.result (c.note_and_empty.ensures x h)
+returns-clause-taken g c = λ x h. always c.take-kept.result (c.take_all.ensures x h)
 
 pub returns-clause-far : goal.returns-clause-far
 returns-clause-far g c = λ all h.
-    let has : OnOk c.take-kept.result (g.F.Arrivals.Holds c.take-kept.new.self
-    (joined all (record { a = c.inbox-a.result.now; b = c.inbox-b.result.now; c = c.inbox-c.result.now; d = c.inbox-d.result.now; e = c.inbox-e.result.now }))) =
+    let has : OnOk c.take-kept.result (g.F.FarSink.Holds c.take-kept.new.self
+    (joined all (record { a = c.inbox_a-a.result.now; b = c.inbox_b-b.result.now; c = c.inbox_c-c.result.now; d = c.inbox_d-d.result.now; e = c.inbox_e-e.result.now }))) =
     c.take-kept.ensures.far all h in
-    rw (← c.bridge.view_is)
-    (rw (c.inbox-a.ensures.beats, c.inbox-b.ensures.beats, c.inbox-c.ensures.beats, c.inbox-d.ensures.beats, c.inbox-e.ensures.beats) at has)
+    rw (c.inbox_a-a.ensures, c.inbox_b-b.ensures, c.inbox_c-c.ensures, c.inbox_d-d.ensures, c.inbox_e-e.ensures) at has
 
 pub returns-clause-counted : goal.returns-clause-counted
 returns-clause-counted g c =
-    always c.take-kept.result (rw (← c.bridge.view_is)
-    (rw (c.inbox-a.ensures.beats, c.inbox-b.ensures.beats, c.inbox-c.ensures.beats, c.inbox-d.ensures.beats, c.inbox-e.ensures.beats) at
-    c.add_counts.ensures))
+    always c.take-kept.result (rw (c.inbox_a-a.ensures, c.inbox_b-b.ensures, c.inbox_c-c.ensures, c.inbox_d-d.ensures, c.inbox_e-e.ensures) at c.add_counts.ensures)
 
 pub returns-clause-same : goal.returns-clause-same
 returns-clause-same g c = c.take-kept.ensures.same
+
+pub returns-clause-room : goal.returns-clause-room
+returns-clause-room g c = λ all room h has fit.
+    c.take-kept.ensures.room all room h has
+    (rw (c.inbox_a-a.ensures, c.inbox_b-b.ensures, c.inbox_c-c.ensures, c.inbox_d-d.ensures, c.inbox_e-e.ensures) fit)

@@ -1,11 +1,8 @@
 use Rattle.std.proofs.Common.{refl}
 use Rattle.tl_run.specs.Inner.Offering.{on_bridge_b}
 use Rattle.tl_run.proofs.NextOffers.{answers-as, asked, closes-as}
-use Rattle.tl_sides.proofs.BridgeSize.{bridge_small, bridge_part_small}
-use Rattle.tl_msg.specs.Tables.{rules_b}
+use Rattle.tl_sides.proofs.BridgeSize.{bridge_small}
 use Rattle.tl_ring.proofs.FieldSizes.{beat_small}
-use Rattle.tl_sides.proofs.Places.{offers_alone}
-use Rattle.tl_sides.proofs.BridgeSteps.{at_b}
 use Rattle.tl_run.proofs.OfferSteps.{read_some, read_none}
 use Rattle.tl_run.proofs.offers.SyncBridgeOffersBeatOfHeadB.offer_next.Goals as goal
 
@@ -15,9 +12,8 @@ close_b-requires g c = bridge_small g.row.C g.row.M c.requires.client c.requires
 pub ready_b-requires : goal.ready_b-requires
 ready_b-requires g c = bridge_small g.row.C g.row.M c.requires.client c.requires.manager
 
-pub offer_probe-requires : goal.offer_probe-requires
-offer_probe-requires g c =
-    (bridge_part_small g.row.C g.row.M 1 c.requires.client c.requires.manager, (beat_small g.row.M c.requires.manager, (c.requires.manager, c.requires.client, rw (← c.self.view_is) at (c.if-not-ready_b.ensures.0 refl))))
+pub offer_b-requires : goal.offer_b-requires
+offer_b-requires g c = (bridge_small g.row.C g.row.M c.requires.client c.requires.manager, (beat_small g.row.M c.requires.manager, (c.requires.client, (c.requires.manager, c.if-not-ready_b.ensures.0 refl))))
 
 pub returns-in_default : goal.returns-in_default
 returns-in_default g c =
@@ -32,5 +28,5 @@ returns-then-not-ready_b g c =
 pub returns : goal.returns
 returns g c =
     rw (c.from_offer.ensures)
-    (answers-as on_bridge_b c.args.self.now _ _ c.in-Some.beat.now tt (offers_alone at_b rules_b c.in-Some.beat.now (λ y. tt) c.self.view_is _ _ c.offer_probe.ensures) c.args.beats.now c.args.at
+    (answers-as on_bridge_b c.args.self.now c.offer_b.result _ c.in-Some.beat.now tt c.offer_b.ensures c.args.beats.now c.args.at
     (read_some c.args.beats.now c.args.at c.in-Some.beat.now c.in-Some.ensures.lookup.0 c.in-Some.ensures.lookup.1))

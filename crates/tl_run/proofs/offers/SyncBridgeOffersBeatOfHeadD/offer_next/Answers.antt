@@ -1,9 +1,8 @@
+use Rattle.std.proofs.Common.{refl}
 use Rattle.tl_run.proofs.NextOffers.{answers-as, asked, closes-as}
-use Rattle.std.proofs.Common.{lit<, refl}
-use Rattle.tl_sides.proofs.BridgeSize.{bridge_small, bridge_part_small}
+use Rattle.tl_sides.proofs.BridgeSize.{bridge_small}
 use Rattle.tl_ring.proofs.FieldSizes.{beat_small}
 use Rattle.tl_run.specs.Inner.Offering.{on_bridge_d}
-use Rattle.tl_sides.proofs.BridgeSteps.{offers_response}
 use Rattle.tl_run.proofs.OfferSteps.{read_some, read_none}
 use Rattle.tl_run.proofs.offers.SyncBridgeOffersBeatOfHeadD.offer_next.Goals as goal
 
@@ -13,9 +12,8 @@ close_d-requires g c = bridge_small g.row.C g.row.M c.requires.client c.requires
 pub ready_d-requires : goal.ready_d-requires
 ready_d-requires g c = bridge_small g.row.C g.row.M c.requires.client c.requires.manager
 
-pub offer_response-requires : goal.offer_response-requires
-offer_response-requires g c =
-    (lit< tt, (bridge_part_small g.row.C g.row.M 3 c.requires.client c.requires.manager, (beat_small g.row.M c.requires.manager, (c.requires.manager, (c.requires.client, rw (← c.self.view_is) at (c.if-not-ready_d.ensures.0 refl))))))
+pub offer_d-requires : goal.offer_d-requires
+offer_d-requires g c = (bridge_small g.row.C g.row.M c.requires.client c.requires.manager, (beat_small g.row.M c.requires.manager, (c.requires.client, (c.requires.manager, c.if-not-ready_d.ensures.0 refl))))
 
 pub returns-in_default : goal.returns-in_default
 returns-in_default g c =
@@ -30,5 +28,5 @@ returns-then-not-ready_d g c =
 pub returns : goal.returns
 returns g c =
     rw (c.from_offer.ensures)
-    (answers-as on_bridge_d c.args.self.now _ _ c.in-Some.beat.now tt (offers_response c.in-Some.beat.now c.self.view_is c.offer_response.new.book c.offer_response.new.pipe _ c.offer_response.ensures) c.args.beats.now c.args.at
+    (answers-as on_bridge_d c.args.self.now c.offer_d.result _ c.in-Some.beat.now tt c.offer_d.ensures c.args.beats.now c.args.at
     (read_some c.args.beats.now c.args.at c.in-Some.beat.now c.in-Some.ensures.lookup.0 c.in-Some.ensures.lookup.1))

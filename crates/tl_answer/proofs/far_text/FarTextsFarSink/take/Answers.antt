@@ -3,7 +3,7 @@ use Rattle.tl_answer.specs.Answer.{far_header}
 use Rattle.tl_answer.specs.Inner.FarTexts.{whole}
 use Rattle.tl_run.proofs.AllOk.{five_ok}
 use Rattle.tl_answer.proofs.FarTexts.{lines-on, lines-more}
-use Rattle.tl_answer.proofs.far_text.FarTextsArrivals.take.Goals as goal
+use Rattle.tl_answer.proofs.far_text.FarTextsFarSink.take.Goals as goal
 
 pub returns-clause-far : goal.returns-clause-far
 returns-clause-far g c = λ far h.

@@ -1,0 +1,26 @@
+-- What has room for all that a script can make due has room for what stands in the inboxes of its run.
+use Rattle.std.proofs.Common.{◌+◌, ◌++◌, ◌≤◌, ℕ, List, length, length-append, sym, subst}
+use Rattle.tl_lanes.specs.Lanes.{IsWidth}
+use Rattle.tl_msg.specs.Tables.{rules_a, rules_b, rules_c, rules_d, rules_e}
+use Rattle.tl_settle.specs.Outcomes.{Beats}
+use Rattle.tl_sides.specs.Bridges.{Bridge, Past, StandsFor}
+use Rattle.tl_sides.specs.declared.per_channel.PerChannel.{PerChannel}
+use Rattle.tl_run.specs.Arrivals.{Fit, joined}
+use Rattle.tl_run.specs.Inner.Arriving.{HaveRoom}
+use Rattle.tl_run.specs.Inner.Running.{IsAt, inboxes}
+use Rattle.tl_run.proofs.ChannelEnd.{room-for}
+use Rattle.tl_run.proofs.Round.{inboxes-are}
+
+fits : {B : Type 0} (xs ys : List B) {k : ℕ} → length xs + length ys ≤ k → length (xs ++ ys) ≤ k
+fits xs ys {k = k} l = subst (λ q. q ≤ k) (sym (length-append xs ys)) l
+
+pub inboxes-fit : {C M : ℕ} → IsWidth C → IsWidth M → (near : Beats C M) (n : PerChannel ℕ) (far : Beats M C) (s : Bridge C M) (x : Past C M) → StandsFor s x → IsAt near n far x →
+    (room : PerChannel ℕ) → HaveRoom near room → Fit (joined far (inboxes s)) room
+inboxes-fit cw mw near n far s x stands i room has =
+    subst (λ q. Fit (joined far q) room) (sym (inboxes-are s x stands)) (record {
+      a = fits far.a x.a.inbox (room-for rules_a cw mw near.a n.a far.a x.a i.a_sent stands.a.crosses room.a has.in_a);
+      b = fits far.b x.b.inbox (room-for rules_b mw cw near.b n.b far.b x.b i.b_sent stands.b.crosses room.b has.in_b);
+      c = fits far.c x.c.inbox (room-for rules_c cw mw near.c n.c far.c x.c i.c_sent stands.c.crosses room.c has.in_c);
+      d = fits far.d x.d.inbox (room-for rules_d mw cw near.d n.d far.d x.d i.d_sent stands.d.crosses room.d has.in_d);
+      e = fits far.e x.e.inbox (room-for rules_e cw mw near.e n.e far.e x.e i.e_sent stands.e.crosses room.e has.in_e);
+    })

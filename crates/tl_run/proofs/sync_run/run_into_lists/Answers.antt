@@ -1,0 +1,29 @@
+use Rattle.std.proofs.Common.{lit<, refl, arith}
+use Rattle.std.specs.Prelude.{vec_capacity}
+use Rattle.tl_sides.proofs.BridgeSize.{bridge_small}
+use Rattle.tl_run.proofs.OnlyMemory.{same-size, stalled-never}
+use Rattle.tl_run.proofs.sync_run.run_into_lists.Goals as goal
+
+pub new-requires : goal.new-requires
+new-requires g c = (bridge_small g.row.C g.row.M c.requires.0.client c.requires.0.manager, (c.requires.0.client, c.requires.0.manager))
+
+pub run_rounds-requires : goal.run_rounds-requires
+run_rounds-requires g c = (
+  bridge_small g.row.C g.row.M c.requires.0.client c.requires.0.manager,
+  (lit< tt, (c.requires.0, c.requires.1, lit< tt, (c.args.ring, (c.in-Ok.ensures.size refl).0, c.in-Ok.ensures.new), c.requires.2)),
+)
+
+pub returns-in-Err-clause-ring_size : goal.returns-in-Err-clause-ring_size
+returns-in-Err-clause-ring_size g c = same-size c.in-Err.fault c.from.result c.from.ensures c.in-Err.ensures.ring_size
+
+pub returns-in-Err-clause-never_stalled : goal.returns-in-Err-clause-never_stalled
+returns-in-Err-clause-never_stalled g c = stalled-never c.in-Err.fault c.from.result c.from.ensures
+
+-- the lists have room for all that comes
+pub unreachable-requires : goal.unreachable-requires
+unreachable-requires g c =
+    let far = c.args.far.now in
+    let ok = c.in-Err-run_rounds.ensures.room
+    (record { a = vec_capacity far.a; b = vec_capacity far.b; c = vec_capacity far.c; d = vec_capacity far.d; e = vec_capacity far.e }) c.requires.3
+    (record { a = omega arith; b = omega arith; c = omega arith; d = omega arith; e = omega arith }) in
+    cc (ok)

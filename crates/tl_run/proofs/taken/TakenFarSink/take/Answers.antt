@@ -1,0 +1,57 @@
+use Rattle.std.proofs.Common.{◌≡◌, ◌+◌, ◌≤◌, ◌++◌, ℕ, List, length, length-append, subst, ap, ◌∙◌, arith}
+use Rattle.tl_settle.specs.Outcomes.{Beats}
+use Rattle.tl_run.specs.Arrivals.{joined}
+use Rattle.tl_run.specs.Inner.Arriving.{beats_of}
+use Rattle.tl_run.proofs.AllOk.{five_ok, five-are-ok}
+use Rattle.tl_run.proofs.taken.TakenFarSink.take.Goals as goal
+
+-- each list has these beats behind those that it had
+all-appended : {C M : ℕ} (far old new more : Beats M C) → old ≡ far → new.a ≡ old.a ++ more.a → new.b ≡ old.b ++ more.b → new.c ≡ old.c ++ more.c →
+    new.d ≡ old.d ++ more.d → new.e ≡ old.e ++ more.e → new ≡ joined far more
+all-appended far old new more same a b c d e =
+    let j = joined old more in
+    subst (λ q. new ≡ joined q more) same
+    (ap (λ q. record { a = q; b = new.b; c = new.c; d = new.d; e = new.e }) a ∙ ap (λ q. record { a = j.a; b = q; c = new.c; d = new.d; e = new.e }) b ∙
+    ap (λ q. record { a = j.a; b = j.b; c = q; d = new.d; e = new.e }) c ∙ ap (λ q. record { a = j.a; b = j.b; c = j.c; d = q; e = new.e }) d ∙
+    ap (λ q. record { a = j.a; b = j.b; c = j.c; d = j.d; e = q }) e)
+
+pub returns-clause-far : goal.returns-clause-far
+returns-clause-far g c = λ far h.
+    five_ok c.append-a.result c.append-b.result c.append-c.result c.append-d.result c.append-e.result
+    c.and.result c.and-2.result c.and-3.result c.and-4.result c.and.ensures c.and-2.ensures c.and-3.ensures c.and-4.ensures
+    (all-appended far (beats_of c.args.self.now)
+    (record {
+      a = c.append-a.new.list.items;
+      b = c.append-b.new.list.items;
+      c = c.append-c.new.list.items;
+      d = c.append-d.new.list.items;
+      e = c.append-e.new.list.items;
+    })
+    (record { a = c.args.a.now; b = c.args.b.now; c = c.args.c.now; d = c.args.d.now; e = c.args.e.now }) h)
+    c.append-a.ensures.items c.append-b.ensures.items c.append-c.ensures.items c.append-d.ensures.items c.append-e.ensures.items
+
+-- a list whose beats, with those that come, are not too many has places for those that come
+places : {B : Type 0} (xs ys zs : List B) (len : ℕ) {room capacity : ℕ} → len ≡ length xs → xs ≡ zs → length (zs ++ ys) ≤ room → room ≤ capacity → len + length ys ≤ capacity
+places xs ys zs len e f l m =
+    let sum = length-append zs ys in
+    let same : length xs ≡ length zs = ap length f in
+    omega (arith, e, same, sum, l, m)
+
+pub returns-clause-room : goal.returns-clause-room
+returns-clause-room g c = λ far room h has fit.
+    let t = c.args.self.now in (
+      five-are-ok c.append-a.result c.append-b.result c.append-c.result c.append-d.result c.append-e.result
+          c.and.result c.and-2.result c.and-3.result c.and-4.result c.and.ensures c.and-2.ensures c.and-3.ensures c.and-4.ensures
+          (c.append-a.ensures.room (places t.a.items c.args.a.now far.a t.a.len t.a.ok.0 (ap (λ q. q.a) h) fit.a has.a))
+          (c.append-b.ensures.room (places t.b.items c.args.b.now far.b t.b.len t.b.ok.0 (ap (λ q. q.b) h) fit.b has.b))
+          (c.append-c.ensures.room (places t.c.items c.args.c.now far.c t.c.len t.c.ok.0 (ap (λ q. q.c) h) fit.c has.c))
+          (c.append-d.ensures.room (places t.d.items c.args.d.now far.d t.d.len t.d.ok.0 (ap (λ q. q.d) h) fit.d has.d))
+          (c.append-e.ensures.room (places t.e.items c.args.e.now far.e t.e.len t.e.ok.0 (ap (λ q. q.e) h) fit.e has.e)),
+      record {
+        a = omega (arith, has.a, c.append-a.ensures.capacity);
+        b = omega (arith, has.b, c.append-b.ensures.capacity);
+        c = omega (arith, has.c, c.append-c.ensures.capacity);
+        d = omega (arith, has.d, c.append-d.ensures.capacity);
+        e = omega (arith, has.e, c.append-e.ensures.capacity);
+      },
+    )
