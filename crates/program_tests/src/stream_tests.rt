@@ -1,7 +1,7 @@
 use std::alloc::Global;
 use std::io;
 use std::io::{Read, Write};
-use tl_answer::{TextFault, read_all, write_all};
+use tl_answer::{Input, TextFault, read_all, write_all};
 
 const TEXT: &str =
     "tilelink-trace 1 client 8 manager 4\nA 4 0 2 07 0000000000001004 f0 1122334455667788 0\n";
@@ -100,6 +100,40 @@ fn readers(rt: HostRuntime) {
                 "call {bad_call}"
             );
         }
+    }
+}
+
+/// What comes of a text that is read piece by piece, as a run reads it, some bytes a call.
+fn read_in_pieces(
+    alloc: Global,
+    text: &[u8],
+    bad_call: u64,
+    kind: io::ErrorKind,
+) -> Result<usize, TextFault> {
+    let mut reader = Pieces {
+        rest: text,
+        most: 100_000,
+        calls: 0,
+        bad_call,
+        kind,
+    };
+    let mut input = Input::open(alloc, &mut reader)?;
+    input.drain(&mut reader)?;
+    Ok(input.total)
+}
+
+/// A piece has 262,144 bytes. So calls 1 to 3 read the first piece of 300,000 bytes, call 4 the rest,
+/// and call 5 finds the end. Each call fails in turn, and none is made again.
+#[test]
+fn read_in_pieces_that_fail(rt: HostRuntime) {
+    let text = vec![in rt.alloc(); b'x'; 300_000].expect(&rt, "there is memory");
+    for &kind in &KINDS {
+        for bad_call in 1..=5 {
+            let read = read_in_pieces(rt.alloc(), text.as_slice(), bad_call, kind);
+            assert!(rt; read == Err(TextFault::Read), "call {bad_call}");
+        }
+        let read = read_in_pieces(rt.alloc(), text.as_slice(), 6, kind);
+        assert!(rt; read == Ok(300_000), "no call");
     }
 }
 

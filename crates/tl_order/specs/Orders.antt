@@ -1,17 +1,16 @@
 -- What an order may hold (this project's choice).
 use Rattle.std.specs.Prelude.{ℕ, ◌≤◌, Bool, true, false}
-use Rattle.tl_order.specs.declared.TheConstants.{MAX_RING, MAX_TURNS}
 use Rattle.tl_order.specs.declared.Order.{Order}
 use Rattle.tl_order.specs.declared.Order.TheVariants.{Run, Check}
 
 -- the bridge can do it: a ring holds a beat at least and not too many, and the sides take a turn before they meet
 abbrev pub IsRunnable : Order → Type 0
-IsRunnable (Run ring turns sync) = (1 ≤ ring) × (ring ≤ MAX_RING) × (1 ≤ turns)
+IsRunnable (Run ring turns sync) = (1 ≤ ring) × (ring ≤ 4096) × (1 ≤ turns)
 IsRunnable Check = Unit {0}
 
 -- and neither the ring nor the turns are too many
 abbrev pub IsInRange : Order → Type 0
-IsInRange (Run ring turns sync) = IsRunnable (Run ring turns sync) × (turns ≤ MAX_TURNS)
+IsInRange (Run ring turns sync) = IsRunnable (Run ring turns sync) × (turns ≤ 1000)
 IsInRange Check = Unit {0}
 
 -- the order is a check, which prints no far beats

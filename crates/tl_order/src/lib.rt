@@ -2,7 +2,6 @@
 #![tactic(auto)]
 
 ghost use Rattle.std.specs.Prelude.{◌≡◌, ◌≤◌};
-ghost use Rattle.tl_order.specs.declared.TheConstants.{MAX_RING};
 ghost use Rattle.tl_order.specs.Orders.{IsRunnable, is_check, is_sync, ring_of, turns_of};
 
 /// The most beats that a ring holds (this project's choice).
@@ -10,6 +9,11 @@ pub const MAX_RING: usize = 4096;
 
 /// The most turns that a side takes between two meetings (this project's choice).
 pub const MAX_TURNS: usize = 1000;
+
+// The numbers of `IsInRange`. A smaller one would only make more words refused, which no clause forbids.
+const _: () = prove!(MAX_RING == 4096);
+
+const _: () = prove!(MAX_TURNS == 1000);
 
 /// What the program is asked to do with a trace.
 #[derive(Clone, Copy, Debug, PartialEq, Eq)]
@@ -31,7 +35,7 @@ impl Order {
     /// How many beats a ring holds; a check's rings hold one.
     pub fn ring(&self) -> usize
         ensures is { result ≡ ring_of self.now }
-        ensures size { IsRunnable self.now → (1 ≤ result) × (result ≤ MAX_RING) }
+        ensures size { IsRunnable self.now → (1 ≤ result) × (result ≤ 4096) }
     {
         match self {
             Order::Run { ring, .. } => *ring,

@@ -1,9 +1,12 @@
 //! The command line: what its words ask for, and what is said of words that ask for nothing.
 #![tactic(auto)]
 
-ghost use Rattle.std.specs.Prelude.{◌≤◌, IfOk};
+ghost use Rattle.std.specs.Prelude.{◌≡◌, ◌≤◌, Some, IfOk, codes, map, option_map};
+ghost use Rattle.clap.specs.Words.{app_of, found_of, rows_of, subcommand_rows_of};
 ghost use Rattle.tl_order.specs.Orders.{IsInRange};
-ghost use Rattle.tl_words.specs.Inner.Numbers.{HasNumber, IsRunOf};
+ghost use Rattle.tl_words.specs.CommandLines.{IsOrderOf, IsRunOf, called_by, check_shape, file_of, file_rule};
+ghost use Rattle.tl_words.specs.CommandLines.{number_in, number_rule, program, run_shape, sync_rule};
+ghost use Rattle.tl_words.specs.Inner.Rules.{HasRule, HasShape};
 
 use clap::error::{Error, ErrorKind};
 use clap::{Arg, ArgAction, ArgMatches, Command};
@@ -13,8 +16,19 @@ use tl_order::{MAX_RING, MAX_TURNS, Order};
 /// The program's version.
 const VERSION: &str = "0.1.0";
 
+/// What a command line asks for.
+#[derive(Clone, Copy, Debug, PartialEq, Eq)]
+pub struct CommandLine<'a> {
+    /// What is to be done with the trace.
+    pub order: Order,
+    /// The file that holds the trace. Where none is named, standard input does.
+    pub file: Option<&'a str>,
+}
+
 /// An option with a number. `number_of` says which numbers it takes.
-fn number_option<'a>(alloc: Global, name: &'a str, default: &'a str, help: &'a str) -> Arg<'a> {
+fn number_option<'a>(alloc: Global, name: &'a str, default: &'a str, help: &'a str) -> Arg<'a>
+    ensures { HasRule (number_rule name.entry.now default.entry.now) result }
+{
     Arg::new(alloc, name)
         .long(name)
         .value_name("N")
@@ -22,7 +36,9 @@ fn number_option<'a>(alloc: Global, name: &'a str, default: &'a str, help: &'a s
         .default_value(default)
 }
 
-fn sync_option<'a>(alloc: Global) -> Arg<'a> {
+fn sync_option<'a>(alloc: Global) -> Arg<'a>
+    ensures { HasRule sync_rule result }
+{
     Arg::new(alloc, "sync")
         .long("sync")
         .help(
@@ -31,32 +47,48 @@ fn sync_option<'a>(alloc: Global) -> Arg<'a> {
         .action(ArgAction::SetTrue)
 }
 
-fn run_command<'a>(alloc: Global) -> Result<Command<'a>, AllocError> {
+fn file_argument<'a>(alloc: Global) -> Arg<'a>
+    ensures { HasRule file_rule result }
+{
+    Arg::new(alloc, "file").value_name("FILE").help(
+        "The file that holds the trace; where none is named, standard input does",
+    )
+}
+
+fn run_command<'a>(alloc: Global) -> Result<Command<'a>, AllocError>
+    ensures { IfOk result (HasShape run_shape) }
+{
     let ring =
         "Beats that the ring of each channel holds, 1 to 4096; the answer is the same for each";
     let turns =
         "Turns of each side between two meetings of the two threads, 1 to 1000; the answer is the same for each";
     let about =
-        "Prints the beats that arrive across the bridge, and a report line for each channel. Standard input holds the trace. Each side runs in a thread of its own. The defaults are slow on a long trace: --turns 1000 --ring 4096 is for those.";
-    let options = vec![in alloc;
+        "Prints the beats that arrive across the bridge, and a report line for each channel. Each side runs in a thread of its own. The defaults are slow on a long trace: --turns 1000 --ring 4096 is for those.";
+    let arguments = vec![in alloc;
         number_option(alloc, "ring", "16", ring),
         number_option(alloc, "turns", "4", turns),
         sync_option(alloc),
+        file_argument(alloc),
     ]?;
-    Command::new(alloc, "run").about(about).args(options)
+    Command::new(alloc, "run").about(about).args(arguments)
 }
 
-fn check_command<'a>(alloc: Global) -> Command<'a> {
-    Command::new(alloc, "check").about(
-        "Prints the report lines alone. Standard input holds the trace.",
-    )
+fn check_command<'a>(alloc: Global) -> Result<Command<'a>, AllocError>
+    ensures { IfOk result (HasShape check_shape) }
+{
+    Command::new(alloc, "check")
+        .about("Prints the report lines alone.")
+        .arg(file_argument(alloc))
 }
 
-fn command<'a>(alloc: Global) -> Result<Command<'a>, AllocError> {
+fn command<'a>(alloc: Global) -> Result<Command<'a>, AllocError>
+    ensures { IfOk result (λ c. app_of c ≡ program) }
+{
     let about =
-        "Sends a TileLink trace across a clock and width bridge. Standard input holds the trace, standard output gets the answer.";
+        "Sends a TileLink trace across a clock and width bridge. A file or standard input holds the trace, standard output gets the answer.";
     let run = run_command(alloc)?;
-    let commands = vec![in alloc; run, check_command(alloc)]?;
+    let check = check_command(alloc)?;
+    let commands = vec![in alloc; run, check]?;
     Command::new(alloc, "tlbridge")
         .about(about)
         .version(VERSION)
@@ -65,7 +97,9 @@ fn command<'a>(alloc: Global) -> Result<Command<'a>, AllocError> {
 }
 
 /// What `command` takes from the words.
-fn matches_of<'a>(alloc: Global, words: &'a [&'a str]) -> Result<ArgMatches<'a>, Error> {
+fn matches_of<'a>(alloc: Global, words: &'a [&'a str]) -> Result<ArgMatches<'a>, Error>
+    ensures { IfOk result (λ m. subcommand_rows_of m ≡ called_by (map (λ w. w.now) words.entry.now)) }
+{
     command(alloc)?.try_get_matches_from(words)
 }
 
@@ -93,7 +127,7 @@ fn number_of(
     max: usize,
 ) -> Result<usize, Error>
     ensures range { IfOk result (λ n. (1 ≤ n) × (n ≤ max)) }
-    ensures said { IfOk result (HasNumber matches.now name.now) }
+    ensures said { IfOk result (λ n. number_in name.now (rows_of (found_of matches.now)) ≡ Some n) }
 {
     let word = matches.get_str(name).unwrap_or("");
     match word.parse::<usize>() {
@@ -105,7 +139,7 @@ fn number_of(
 /// The order of the words of `run`.
 fn run_order(alloc: Global, matches: &ArgMatches<'_>) -> Result<Order, Error>
     ensures range { IfOk result IsInRange }
-    ensures said { IfOk result (IsRunOf matches.now) }
+    ensures said { IfOk result (IsRunOf (rows_of (found_of matches.now))) }
 {
     Ok(Order::Run {
         ring: number_of(alloc, matches, "ring", MAX_RING)?,
@@ -116,7 +150,8 @@ fn run_order(alloc: Global, matches: &ArgMatches<'_>) -> Result<Order, Error>
 
 /// The order of a command line whose words `command` takes: `run`, or else `check`.
 fn order_in(alloc: Global, matches: &ArgMatches<'_>) -> Result<Order, Error>
-    ensures { IfOk result IsInRange }
+    ensures range { IfOk result IsInRange }
+    ensures said { IfOk result (IsOrderOf (subcommand_rows_of matches.now)) }
 {
     match matches.subcommand_matches("run") {
         Some(inner) => run_order(alloc, inner),
@@ -124,17 +159,44 @@ fn order_in(alloc: Global, matches: &ArgMatches<'_>) -> Result<Order, Error>
     }
 }
 
-/// The order that the words of a command line give. The first word is the program's name.
+/// The file of a command line whose words `command` takes.
+fn file_in<'a>(matches: &ArgMatches<'a>) -> Option<&'a str>
+    ensures { option_map (λ s. s.now) result ≡ file_of (subcommand_rows_of matches.now) }
+{
+    match matches.subcommand() {
+        Some((_, inner)) => inner.get_str("file"),
+        None => None,
+    }
+}
+
+/// What the words of a command line ask for. The first word is the program's name.
 ///
 /// Every other command line is refused by clap's error, and so is a want of memory. Help and the
 /// version, where they are asked for, come as errors, too: their `exit_code` is 0, and `print` writes
 /// them to standard output. The `exit_code` of every other error is 2, and `print` writes it to
 /// standard error.
-pub fn order_of<'a>(alloc: Global, words: &'a [&'a str]) -> Result<Order, Error>
-    ensures { IfOk result IsInRange }
+pub fn command_line_of<'a>(alloc: Global, words: &'a [&'a str]) -> Result<CommandLine<'a>, Error>
+    ensures range { IfOk result (λ line. IsInRange line.order) }
+    ensures order { IfOk result (λ line. IsOrderOf (called_by (map (λ w. w.now) words.entry.now)) line.order) }
+    ensures file { IfOk result (λ line. option_map (λ s. s.now) line.file ≡ file_of (called_by (map (λ w. w.now) words.entry.now))) }
 {
     let matches = matches_of(alloc, words)?;
-    order_in(alloc, &matches)
+    Ok(CommandLine {
+        order: order_in(alloc, &matches)?,
+        file: file_in(&matches),
+    })
+}
+
+/// The order that the words of a command line give, whichever file they name. Refused as
+/// `command_line_of` refuses.
+pub fn order_of<'a>(alloc: Global, words: &'a [&'a str]) -> Result<Order, Error>
+    ensures range { IfOk result IsInRange }
+    ensures said { IfOk result (IsOrderOf (called_by (map (λ w. w.now) words.entry.now))) }
+{
+    match command_line_of(alloc, words) {
+        Ok(line) => Ok(line.order),
+        Err(error) => Err(error),
+    }
 }
 
 /// The refusal of a command line with a word that is not UTF-8.

@@ -1,0 +1,2 @@
+mod Options
+mod Rows

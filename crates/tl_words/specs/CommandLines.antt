@@ -1,0 +1,72 @@
+-- What the words of a command line ask for: `tlbridge run [--ring N] [--turns N] [--sync] [FILE]`, or `tlbridge check [FILE]`.
+-- How words follow a command is clap's (`subcommand_of`); the command, its names and its defaults are this project's choice.
+use Rattle.std.specs.Prelude.{◌≡◌, ◌≢◌, ℕ, Bool, true, false, List, [], ◌∷◌, Option, Some, None, option_map, option_and_then, codes}
+use Rattle.std.specs.Str.Parse.{digits_value, without_leading_plus}
+use Rattle.clap.specs.Words.{App, Row, Rule, Shape, Text, first_of, new_rule, one_of, subcommand_of}
+use Rattle.clap.specs.Simple.{new_shape}
+use Rattle.clap.specs.declared.builder.action.ArgAction.TheVariants.{SetTrue}
+use Rattle.tl_order.specs.declared.Order.{Order}
+use Rattle.tl_order.specs.declared.Order.TheVariants.{Run, Check}
+
+-- an option with one word, and the word where it is left out
+abbrev pub number_rule : (name default : Text) → Rule
+number_rule name default = record (new_rule name) {
+  long = Some name;
+  value_names = 1;
+  defaults = default ∷ [];
+}
+
+-- `--sync`
+abbrev pub sync_rule : Rule
+sync_rule = record (new_rule (codes "sync")) { long = Some (codes "sync"); action = Some SetTrue }
+
+-- the file that holds the trace
+abbrev pub file_rule : Rule
+file_rule = record (new_rule (codes "file")) { value_names = 1 }
+
+abbrev pub run_shape : Shape
+run_shape = record (new_shape (codes "run")) {
+  rules = number_rule (codes "ring") (codes "16") ∷ number_rule (codes "turns") (codes "4") ∷ sync_rule ∷ file_rule ∷ [];
+}
+
+abbrev pub check_shape : Shape
+check_shape = record (new_shape (codes "check")) { rules = file_rule ∷ [] }
+
+-- the whole command, of which a subcommand has to be called
+abbrev pub program : App
+program = record {
+  top = record (new_shape (codes "tlbridge")) {
+    is_leaf = false;
+    has_version = true;
+    subcommand_required = true;
+  };
+  subs = run_shape ∷ check_shape ∷ [];
+}
+
+-- the subcommand that the words call, with what they say of its options
+unfoldable pub called_by : List Text → Option (Text × List Row)
+called_by words = subcommand_of program words
+
+-- the number that an option's word says
+abbrev pub number_in : (name : Text) → List Row → Option ℕ
+number_in name rows = option_map (λ word. digits_value 10 (without_leading_plus word)) (first_of name rows)
+
+-- whether `--sync` stands there
+pub record IsSync (rows : List Row) (sync : Bool) : Type 0 where
+  pub none : one_of (codes "sync") rows ≡ None → sync ≡ false
+  pub set : one_of (codes "sync") rows ≡ Some (codes "true") → sync ≡ true
+  pub unset : one_of (codes "sync") rows ≡ Some (codes "false") → sync ≡ false
+
+-- a run with the numbers and the flag that the options say
+abbrev pub IsRunOf : List Row → Order → Type 0
+IsRunOf rows (Run ring turns sync) = (number_in (codes "ring") rows ≡ Some ring) × (number_in (codes "turns") rows ≡ Some turns) × IsSync rows sync
+IsRunOf rows Check = ⊥
+
+-- the order where this was called: a run where it was `run`, and else a check
+abbrev pub IsOrderOf : Option (Text × List Row) → Order → Type 0
+IsOrderOf called (Run ring turns sync) = (rows : List Row) × (called ≡ Some (codes "run", rows)) × IsRunOf rows (Run ring turns sync)
+IsOrderOf called Check = option_map (λ c. c.0) called ≢ Some (codes "run")
+
+-- the file that was named where this was called
+abbrev pub file_of : Option (Text × List Row) → Option Text
+file_of called = option_and_then (λ c. first_of (codes "file") c.1) called
