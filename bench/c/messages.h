@@ -66,17 +66,6 @@ static tl_id draw_id(void) {
     return (tl_id)draw((uint64_t)1 << 8 * sizeof(tl_id));
 }
 
-/* Sets the mask bits of the first lanes of a beat. */
-static void fill_mask(tl_beat *beat, int lanes) {
-    for (int lane = 0; lane < lanes; lane++) tl_mask_add(beat, (unsigned)lane);
-}
-
-/* Whether the mask has the bit of this lane alone. */
-static bool has_one_lane(const tl_beat *beat, int lane) {
-    uint64_t bit = (uint64_t)1 << lane % 64;
-    return tl_mask_has(beat, (unsigned)lane) && beat->mask == (lane < 64 ? bit : 0) && beat->mask_high == (lane < 64 ? 0 : bit);
-}
-
 /* A lawful message on channel x; one of a response has the source, size and home that are given. */
 static void draw_message(message *m, int x, tl_id source, uint8_t size, uint64_t home) {
     static const uint8_t opcodes[5][8] = {{0, 1, 2, 3, 4, 5, 6, 7}, {0, 1, 2, 3, 4, 5, 6, 7}, {0, 1, 2, 4, 5, 6, 7, 7}, {0, 1, 2, 4, 5, 0, 1, 5}, {0}};
@@ -111,85 +100,4 @@ static void draw_message(message *m, int x, tl_id source, uint8_t size, uint64_t
 /* Byte for byte: between two fields there is no gap. */
 static bool same(const tl_beat *x, const tl_beat *y) {
     return memcmp(x, y, sizeof *x) == 0;
-}
-
-/* The calls of one bridge, behind whichever handles it has. */
-typedef struct {
-    uint8_t (*offer)(int x, const tl_beat *beat, const uint8_t *lanes);
-    bool (*take)(int x, tl_beat *beat, uint8_t *lanes);
-    void (*settle)(void);
-} bridge_calls;
-
-/* Two requests in flight whose sources differ above the eighth bit alone, Intent of one byte and of two: over a bridge on which nothing was
- * sent yet. */
-static void ids_of_16_bits(const bridge_calls *bridge) {
-    uint8_t lanes[MAX_LANES] = {0};
-    tl_beat one = {.opcode = 5, .size = 0, .source = 0x0007, .mask = 1};
-    tl_beat other = {.opcode = 5, .size = 1, .source = 0x8007, .mask = CLIENT == 1 ? 1 : 3}, beat;
-    tl_beat to_one = {.opcode = 2, .size = 0, .source = 0x0007, .sink = 0xfe00}, to_other = {.opcode = 2, .size = 1, .source = 0x8007, .sink = 0x00fe};
-    CHECK(bridge->offer(A, &one, lanes) == TL_OK);
-    bridge->settle();
-    CHECK(bridge->offer(A, &one, lanes) == TL_SOURCE_BUSY);
-    CHECK(bridge->offer(A, &other, lanes) == TL_OK);
-    bridge->settle();
-    CHECK(bridge->offer(A, &other, lanes) == TL_SOURCE_BUSY);
-    /* the request of the other waits in the inbox */
-    CHECK(bridge->take(A, &beat, lanes) && beat.source == one.source && beat.size == one.size);
-    CHECK(bridge->offer(D, &to_other, lanes) == TL_NO_REQUEST);
-    CHECK(bridge->take(A, &beat, lanes) && beat.source == other.source && beat.size == other.size);
-    beat = to_one, beat.size = other.size;
-    CHECK(bridge->offer(D, &beat, lanes) == TL_SIZE_MISMATCH);
-    beat = to_other, beat.size = one.size;
-    CHECK(bridge->offer(D, &beat, lanes) == TL_SIZE_MISMATCH);
-    CHECK(bridge->offer(D, &to_other, lanes) == TL_OK);
-    bridge->settle();
-    CHECK(bridge->take(D, &beat, lanes) && same(&beat, &to_other));
-    CHECK(bridge->offer(A, &one, lanes) == TL_SOURCE_BUSY);
-    CHECK(bridge->offer(A, &other, lanes) == TL_OK);
-    CHECK(bridge->offer(D, &to_one, lanes) == TL_OK);
-    bridge->settle();
-    CHECK(bridge->take(D, &beat, lanes) && same(&beat, &to_one));
-    CHECK(bridge->take(A, &beat, lanes) && beat.source == other.source);
-    /* the other channels have ids, too */
-    tl_beat probe = {.opcode = 6, .source = 0xff03, .mask = 1}, release = {.opcode = 6, .source = 0x03ff}, ack = {.sink = 0x0180};
-    CHECK(bridge->offer(B, &probe, lanes) == TL_OK && bridge->offer(C, &release, lanes) == TL_OK && bridge->offer(E, &ack, lanes) == TL_OK);
-    bridge->settle();
-    CHECK(bridge->take(B, &beat, lanes) && same(&beat, &probe));
-    CHECK(bridge->take(C, &beat, lanes) && same(&beat, &release));
-    CHECK(bridge->take(E, &beat, lanes) && same(&beat, &ack));
-}
-
-/* The last lane of each link, and the lanes past it: over a bridge on which nothing was sent yet. */
-static void last_lanes(const bridge_calls *bridge) {
-    uint8_t lanes[MAX_LANES] = {0}, far_lanes[MAX_LANES];
-    tl_beat far;
-    for (int x = A; x <= B; x++) {
-        int near_last = near_width[x] - 1, far_last = far_width[x] - 1;
-        /* PutPartialData of the byte at an address that has the last lane of every width */
-        tl_beat put = {.opcode = 1, .source = 0x0011, .address = TL_WIDEST - 1}, beat;
-        tl_mask_add(&put, (unsigned)near_last);
-        for (int lane = near_width[x]; lane < MAX_LANES; lane++) {
-            beat = put;
-            tl_mask_add(&beat, (unsigned)lane);
-            CHECK(bridge->offer(x, &beat, lanes) == TL_MASK);
-        }
-        lanes[near_last] = 0xa5;
-        CHECK(bridge->offer(x, &put, lanes) == TL_OK);
-        lanes[near_last] = 0;
-        bridge->settle();
-        CHECK(bridge->take(x, &far, far_lanes) && has_one_lane(&far, far_last) && far_lanes[far_last] == 0xa5);
-        /* the same of a whole beat, with its last byte alone in the mask: the last far beat has it */
-        uint8_t size = 0;
-        while (1 << size < near_width[x]) size++;
-        put = (tl_beat){.opcode = 1, .size = size, .source = 0x0012};
-        tl_mask_add(&put, (unsigned)near_last);
-        CHECK(bridge->offer(x, &put, lanes) == TL_OK);
-        bridge->settle();
-        for (int first = 0; first < near_width[x]; first += far_width[x]) {
-            bool is_last = first + far_width[x] >= near_width[x];
-            CHECK(bridge->take(x, &far, far_lanes));
-            CHECK(is_last ? has_one_lane(&far, near_last % far_width[x]) : far.mask == 0 && far.mask_high == 0);
-        }
-        CHECK(!bridge->take(x, &far, far_lanes));
-    }
 }

@@ -41,7 +41,7 @@ void *__wrap_realloc(void *block, size_t bytes) {
 }
 
 static bool has_no_block(const tl_answer *answer) {
-    return answer->text == NULL && answer->length == 0 && !answer->all_done;
+    return answer->text == NULL && answer->length == 0 && answer->held == NULL && !answer->live && answer->all_done == 0;
 }
 
 static bool is_text(const tl_answer *answer, const char *want, size_t length) {
@@ -50,8 +50,7 @@ static bool is_text(const tl_answer *answer, const char *want, size_t length) {
 
 /* A text that has this fault on this line. */
 static void refused(const char *text, size_t length, uint8_t fault, uint64_t line) {
-    tl_answer answer;
-    memset(&answer, 0x5a, sizeof answer);
+    tl_answer answer = {0};
     CHECK(tl_answer_trace((const uint8_t *)text, length, false, &answer) == fault);
     CHECK(has_no_block(&answer) && answer.line == line);
     tl_answer_free(&answer);
@@ -141,6 +140,9 @@ static void example(const char *name) {
     tl_answer_free(&answer);
     CHECK(has_no_block(&answer));
     tl_answer_free(&answer);
+    CHECK(has_no_block(&answer) && answer.line == 0);
+    /* the second call lets the first one's text go */
+    CHECK(tl_answer_trace((const uint8_t *)text, length, 0, &answer) == TL_OK);
     CHECK(tl_answer_trace((const uint8_t *)text, length, 200, &answer) == TL_OK);
     CHECK(is_text(&answer, kept, kept_length) && answer.all_done == (done == 5));
     tl_answer_free(&answer);
@@ -162,7 +164,20 @@ static void example(const char *name) {
     free(kept);
 }
 
+/* The words of a fault, as those of the library for a pair of widths. */
+static void texts(void) {
+    tl_text text;
+    memset(&text, 0xee, sizeof text);
+    tl_answer_text(TL_SHAPE, &text);
+    CHECK(strcmp(text.name, "Shape") == 0 && strcmp(text.sentence, "a space or a lower-case hexadecimal digit is missing at its place") == 0);
+    tl_answer_text(TL_TOO_LONG, &text);
+    CHECK(strcmp(text.name, "TooLong") == 0 && strcmp(text.sentence, "the trace has more than 67108864 bytes (64 MiB)") == 0);
+    tl_answer_text(24, &text);
+    CHECK(text.name[0] == 0 && text.sentence[0] == 0);
+}
+
 int main(int count, char **names) {
+    texts();
     refusals();
     for (int i = 1; i < count; i++) example(names[i]);
     printf("%d traces: %ld checks passed, %ld failed\n", count - 1, passed, failed);

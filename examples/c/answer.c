@@ -5,10 +5,12 @@
 int main(void) {
     static uint8_t text[1 << 20];
     size_t length = fread(text, 1, sizeof text, stdin);
-    tl_answer answer;
-    uint8_t fault = tl_answer_trace(text, length, false, &answer);
+    tl_answer answer = {0};
+    uint8_t fault = tl_answer_trace(text, length, 0, &answer);
     if (fault != TL_OK) {
-        fprintf(stderr, "line %llu: fault %d\n", (unsigned long long)answer.line, fault);
+        tl_text text;
+        tl_answer_text(fault, &text);
+        fprintf(stderr, "line %llu: %d %s: %s\n", (unsigned long long)answer.line, fault, text.name, text.sentence);
         return 3;
     }
     fwrite(answer.text, 1, answer.length, stdout);

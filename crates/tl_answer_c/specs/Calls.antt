@@ -22,26 +22,30 @@ IsOfCall text faults.Read = ⊥
 IsOfCall text faults.Write = ⊥
 IsOfCall text faults.OutOfMemory = Unit {0}
 
--- the block of an answer's text, as it was given away
-abbrev pub block_of : Answer → AnswerBlock
-block_of made = record {
-  text = vec_ptr made.text;
-  length = vec_len made.text;
-  line = 0;
-  all_done = if made.all_done then 1 else 0;
-}
+-- the block of an answer: it holds the answer's text, whose bytes it names
+pub record IsBlockOf (made : Answer) (block : AnswerBlock) : Type 0 where
+  pub held : block.owned.held ≡ Some (record { text = made.text })
+  pub text : block.text ≡ vec_ptr made.text
+  pub length : block.length ≡ vec_len made.text
+  pub line : block.line ≡ 0
+  pub all_done : block.all_done ≡ (if made.all_done then 1 else 0)
 
 abbrev pub line_or_0 : Option ℕ → ℕ
 line_or_0 None = 0
 line_or_0 (Some line) = line
 
-abbrev pub no_block : (line : Option ℕ) → AnswerBlock
-no_block line = record { text = null_ptr; length = 0; line = line_or_0 line; all_done = 0 }
+-- a block that holds nothing, with the line of a fault
+pub record IsNoBlock (place : Option ℕ) (block : AnswerBlock) : Type 0 where
+  pub held : block.owned.held ≡ None
+  pub text : block.text ≡ null_ptr
+  pub length : block.length ≡ 0
+  pub line : block.line ≡ line_or_0 place
+  pub all_done : block.all_done ≡ 0
 
 -- C was given the block of the answer to the text
 pub record IsGiven (text : List ℕ) (check : Bool) (block : AnswerBlock) : Type 0 where
   pub made : Answer
-  pub given : block ≡ block_of made
+  pub given : IsBlockOf made block
   pub answers : IsAnswer text check made.text.items made.all_done
 
 -- C was told the number and the line of the text's fault, and given no block
@@ -49,4 +53,4 @@ pub record IsRefusal (text : List ℕ) (number : ℕ) (block : AnswerBlock) : Ty
   pub fault : TextFault
   pub of_call : IsOfCall text fault
   pub numbered : number ≡ text_fault_number fault
-  pub none : block ≡ no_block (text_fault_line fault)
+  pub none : IsNoBlock (text_fault_line fault) block

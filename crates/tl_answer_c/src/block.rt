@@ -1,11 +1,60 @@
 //! An answer as C is told of it.
-ghost use Rattle.std.specs.Prelude.{◌≡◌, Option};
-ghost use Rattle.tl_answer_c.specs.Calls.{block_of, no_block};
+ghost use Rattle.std.specs.Prelude.{◌≡◌, ◌≢◌, ◌↔◌, true, Option, Some, None};
+ghost use Rattle.tl_answer_c.specs.Handles.{holds_text, text_coded};
+ghost use Rattle.tl_answer_c.specs.declared.held.TextHeld.{TextHeld};
 
-use std::ptr::null;
-use tl_answer::Answer;
+use crate::held::TextHeld;
+use std::alloc::Global;
+use std::marker::Model;
+use std::ptr::null_mut;
+use tl_c_beats::{Live, Parts};
 
-/// An answer whose bytes stand in a block of `malloc`, or why there is none.
+/// The right to a boxed text, or to nothing.
+#[repr(C)]
+#[derive(Drop)]
+pub struct OwnedText {
+    ptr: *mut (),
+    alloc: Global,
+    pub ghost held: { Option TextHeld } by { text_coded },
+}
+
+impl Model for OwnedText {
+    ghost also_owns = { λ o. holds_text o.alloc o.ptr o.held };
+}
+
+impl OwnedText {
+    pub(crate) fn nothing(alloc: Global) -> OwnedText
+        ensures { result.held ≡ None }
+    {
+        OwnedText {
+            ptr: null_mut(),
+            alloc,
+        }
+    }
+
+    pub(crate) fn of_parts(parts: Parts<TextHeld, Global>) -> OwnedText
+        ensures { result.held ≡ Some parts.value }
+    {
+        let Parts { ptr, alloc } = parts;
+        OwnedText {
+            ptr: ptr as *mut (),
+            alloc,
+        }
+    }
+
+    pub(crate) fn into_parts(self) -> Parts<TextHeld, Global>
+        requires { self.held ≢ None }
+        ensures { self.held ≡ Some result.value }
+    {
+        let OwnedText { ptr, alloc } = self;
+        Parts {
+            ptr: ptr as *mut TextHeld,
+            alloc,
+        }
+    }
+}
+
+/// An answer and the right to its text, or why there is none. With all zero there is none.
 #[repr(C)]
 #[derive(Drop)]
 pub struct AnswerBlock {
@@ -15,34 +64,12 @@ pub struct AnswerBlock {
     pub length: usize,
     /// The line of the trace that has the fault, counted from 1; 0 where no line has it.
     pub line: u64,
+    pub owned: OwnedText,
+    pub(crate) live: Live,
     /// 1 where all five channels are done, else 0.
     pub all_done: u8,
+    ghost tied: { (live.is ≡ true) ↔ (owned.held ≢ None) },
 }
 
-impl AnswerBlock {
-    /// Gives the answer's block away: nothing here frees it any more.
-    pub(crate) fn of(made: Answer) -> AnswerBlock
-        ensures { result ≡ block_of made }
-    {
-        let Answer { text, all_done } = made;
-        let (at, length) = (text.as_ptr(), text.len());
-        let _bytes = text.leak();
-        AnswerBlock {
-            text: at,
-            length,
-            line: 0,
-            all_done: u8::from(all_done),
-        }
-    }
-
-    pub(crate) fn none(line: Option<u64>) -> AnswerBlock
-        ensures { result ≡ no_block line }
-    {
-        AnswerBlock {
-            text: null(),
-            length: 0,
-            line: line.unwrap_or(0),
-            all_done: 0,
-        }
-    }
-}
+// C has this size from the header alone.
+const _: () = prove!(size_of::<AnswerBlock>() == 40);

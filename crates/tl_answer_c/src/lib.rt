@@ -4,20 +4,29 @@
 #![tactic(auto)]
 
 mod block;
+mod held;
+mod making;
 mod sync_answer;
 
-ghost use Rattle.std.specs.Prelude.{◌≡◌, ◌≢◌};
-ghost use Rattle.tl_answer_c.specs.Calls.{IsGiven, IsRefusal, is_set};
+ghost use Rattle.std.specs.Prelude.{◌≡◌, ◌≢◌, List, None, ℕ};
+ghost use Rattle.tl_answer.specs.Faults.{text_fault_name, text_fault_number};
+ghost use Rattle.tl_answer.specs.declared.fault.TextFault.{TextFault};
+ghost use Rattle.tl_c_beats.specs.Texts.{answer_name, answer_text};
+ghost use Rattle.tl_answer_c.specs.Calls.{IsGiven, IsRefusal, IsNoBlock, is_set};
 
 use crate::block::AnswerBlock;
-use crate::sync_answer::answer_text;
+use crate::sync_answer::answer_of;
 use std::alloc::Global;
+use tl_answer::TextFault;
+use tl_c_beats::{AnswerText, answer_text};
 
-/// The answer to the text of a trace, without its far beats where `check` is not 0.
+/// The answer to the text of a trace, without its far beats where `check` is not 0. An answer that
+/// was there before is let go first.
 ///
-/// 0 where there is one: `answer` has its block then, which is the caller's, to be given to `free`.
-/// Else `answer` has no block, and this is the number of the fault: 14 to 19, and its line, where the
-/// text is no trace; 23 where it has more than 67,108,864 bytes; 13 where there is no memory.
+/// 0 where there is one: `answer` holds its text then, which stays where it is until it is given
+/// back by `tl_answer_free`. Else `answer` has no text, and this is the number of the fault: 14 to
+/// 19, and its line, where the text is no trace; 23 where it has more than 67,108,864 bytes; 13 where
+/// there is no memory.
 #[unsafe(no_mangle)]
 pub extern "C" fn tl_answer_trace(
     alloc: Global,
@@ -28,14 +37,38 @@ pub extern "C" fn tl_answer_trace(
     ensures given { result ≡ 0 → IsGiven text.now (is_set check) answer.new }
     ensures refused { result ≢ 0 → IsRefusal text.now result answer.new }
 {
-    match answer_text(alloc, text, check != 0) {
-        Ok(made) => {
-            *answer = AnswerBlock::of(made);
-            0
-        }
-        Err(fault) => {
-            *answer = AnswerBlock::none(fault.line());
-            fault.number()
-        }
-    }
+    answer.free(alloc);
+    let fault = match answer_of(alloc, text, check != 0) {
+        Ok(made) => match AnswerBlock::of(alloc, made) {
+            Ok(block) => {
+                *answer = block;
+                return 0;
+            }
+            Err(_) => TextFault::OutOfMemory,
+        },
+        Err(fault) => fault,
+    };
+    *answer = AnswerBlock::none(alloc, fault.line());
+    fault.number()
+}
+
+/// Gives the text of an answer back, if there is one: there is none then.
+#[unsafe(no_mangle)]
+pub extern "C" fn tl_answer_free(alloc: Global, answer: &mut AnswerBlock)
+    ensures { IsNoBlock None answer.new }
+{
+    answer.free(alloc);
+}
+
+/// Writes the name and the sentence of an answer, each ended by zeros: of 0, of each fault by its
+/// number, 1 to 23, and of the answers of the library for a pair of widths. For a number that is no
+/// answer it writes zeros alone.
+#[unsafe(no_mangle)]
+pub extern "C" fn tl_answer_text(answer: u8, text: &mut AnswerText)
+    ensures text { text.new ≡ answer_text answer }
+    // which are the names of the faults of a text
+    ensures names { (fault : TextFault) →
+        answer_name (text_fault_number fault) ≡ text_fault_name fault }
+{
+    *text = answer_text(answer);
 }

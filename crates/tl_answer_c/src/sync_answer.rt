@@ -10,7 +10,7 @@ use tl_answer::{Answer, MAX_BYTES, TextFault, answer_sync};
 ///
 /// Refused with `TooLong`, with `Trace` and the text's first fault and its line, or with
 /// `OutOfMemory`.
-pub(crate) fn answer_text(alloc: Global, text: &[u8], check: bool) -> Result<Answer, TextFault>
+pub(crate) fn answer_of(alloc: Global, text: &[u8], check: bool) -> Result<Answer, TextFault>
     ensures ok { IfOk result (λ made. IsAnswer text.now check made.text.items made.all_done) }
     ensures err { IfErr result (IsOfCall text.now) }
 {

@@ -1,4 +1,5 @@
-mod AsOwner
+mod AsOwners
 mod BothWidths
-mod Idle
+mod Counting
+mod Rounds
 mod Taking

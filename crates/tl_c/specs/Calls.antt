@@ -1,58 +1,151 @@
--- What the calls of a handle do, by the past of the bridge that it holds (this project's choice).
-use Rattle.std.specs.Prelude.{◌≡◌, ℕ, Bool, false, Option, Some, None, List, [], length}
+-- What the calls of a side's handle do, by the past of the side that it holds (this project's choice).
+use Rattle.std.specs.Prelude.{◌≡◌, ◌+◌, ℕ, Bool, true, false, Option, Some, None, List, [], length, slice_get, take, IfSome}
+use Rattle.tl_msg.specs.Faults.{IsLawfulBeat}
+use Rattle.tl_msg.specs.Rules.{Rules}
+use Rattle.tl_msg.specs.declared.head.HeadA.{HeadA}
+use Rattle.tl_msg.specs.declared.head.HeadB.{HeadB}
+use Rattle.tl_msg.specs.declared.head.HeadC.{HeadC}
+use Rattle.tl_msg.specs.declared.head.HeadD.{HeadD}
+use Rattle.tl_msg.specs.declared.head.HeadE.{HeadE}
 use Rattle.tl_msg.specs.declared.beat.BeatOf.{BeatOf}
-use Rattle.tl_ring.specs.Crossing.{World}
-use Rattle.tl_sides.specs.Bridges.{Bridge, Past, StandsFor}
+use Rattle.tl_ring.specs.Ends.{Sending, Taking, known_items}
+use Rattle.tl_sides.specs.Ends.{Pumps, Fetches, pump_count, fetch_count}
+use Rattle.tl_sides.specs.Sides.{ClientPast, ManagerPast, ClientStandsFor, ManagerStandsFor, AreSides, SidesMeet, SameClient, SameManager, client_pumps, manager_pumps}
 use Rattle.tl_c_beats.specs.declared.counts.BeatCounts.{BeatCounts}
 use Rattle.tl_c_beats.specs.declared.counts.ChannelCounts.{ChannelCounts}
 use Rattle.tl_c_beats.specs.declared.fields.BeatFields.{BeatFields}
 use Rattle.tl_c_beats.specs.Calls.{Stands, Tells}
-use Rattle.tl_c.specs.declared.held.Held.{Held}
+use Rattle.tl_c.specs.declared.client_handle.ClientHandle.{ClientHandle}
+use Rattle.tl_c.specs.declared.manager_handle.ManagerHandle.{ManagerHandle}
+use Rattle.tl_c.specs.declared.held.ClientHeld.{ClientHeld}
+use Rattle.tl_c.specs.declared.held.ManagerHeld.{ManagerHeld}
 use Rattle.tl_c.specs.declared.widths.TheConstants.{CLIENT, MANAGER}
 
--- a bridge is held, and it stands for a past
-abbrev pub HoldsPast : Option Held → Past CLIENT MANAGER → Type 0
-HoldsPast = Stands (λ h x. StandsFor h.bridge x)
+-- a side is held, and it stands for a past
+abbrev pub HoldsClient : Option ClientHeld → ClientPast CLIENT MANAGER → Type 0
+HoldsClient = Stands (λ h x. ClientStandsFor h.side x)
 
--- a take of the first beat of a channel's inbox, which C is told: whether there was one. Where there was none, nothing is written
-pub record Takes {H : Type 0} {w v : ℕ} (fields_of : BeatOf H v → BeatFields) (channel : Past CLIENT MANAGER → World H w v)
-    (after : Past CLIENT MANAGER → Past CLIENT MANAGER) (before now : Option Held) (unwritten written : BeatFields) (old_bytes bytes : List ℕ)
-    (answer : Bool) : Type 0 where
+abbrev pub HoldsManager : Option ManagerHeld → ManagerPast CLIENT MANAGER → Type 0
+HoldsManager = Stands (λ h x. ManagerStandsFor h.side x)
+
+-- both sides of one bridge are held
+abbrev pub HoldSides : Option ClientHeld → Option ManagerHeld → Type 0
+HoldSides None t = ⊥
+HoldSides (Some s) None = ⊥
+HoldSides (Some s) (Some t) = AreSides s.side t.side
+
+-- the same side of the same bridge is held, or none as before
+abbrev pub Keeps : {S : Type 0} → (IsSame : S → S → Type 0) → (before now : Option S) → Type 0
+Keeps IsSame None s = s ≡ None
+Keeps IsSame (Some h) None = ⊥
+Keeps IsSame (Some h) (Some k) = IsSame h k
+
+-- a handle keeps its side, and its number
+abbrev pub KeepsClient : (before now : ClientHandle) → Type 0
+KeepsClient before now = Keeps (λ h k. SameClient h.side k.side) before.owned.held now.owned.held × (now.bridge ≡ before.bridge)
+
+abbrev pub KeepsManager : (before now : ManagerHandle) → Type 0
+KeepsManager before now = Keeps (λ h k. SameManager h.side k.side) before.owned.held now.owned.held × (now.bridge ≡ before.bridge)
+
+-- the beats of an inbox of a side, if one is held: those that it has fetched on a channel and not yet taken
+abbrev pub waiting : {S A : Type 0} → (inbox : S → List A) → Option S → List A
+waiting inbox None = []
+waiting inbox (Some h) = inbox h
+
+abbrev pub inbox_a : Option ManagerHeld → List (BeatOf HeadA MANAGER)
+inbox_a = waiting (λ h. h.side.a.inbox)
+
+abbrev pub inbox_b : Option ClientHeld → List (BeatOf HeadB CLIENT)
+inbox_b = waiting (λ h. h.side.b.inbox)
+
+abbrev pub inbox_c : Option ManagerHeld → List (BeatOf HeadC MANAGER)
+inbox_c = waiting (λ h. h.side.c.inbox)
+
+abbrev pub inbox_d : Option ClientHeld → List (BeatOf HeadD CLIENT)
+inbox_d = waiting (λ h. h.side.d.inbox)
+
+abbrev pub inbox_e : Option ManagerHeld → List (BeatOf HeadE MANAGER)
+inbox_e = waiting (λ h. h.side.e.inbox)
+
+-- a take of the first beat of an inbox, which C is told: whether there was one. The past goes on by the beats that are taken. Where there was none,
+-- nothing is written
+pub record Takes {S P : Type 0} (Holds : Option S → P → Type 0) {H : Type 0} {w : ℕ} (r : Rules H) (fields_of : BeatOf H w → BeatFields)
+    (inbox : Option S → List (BeatOf H w)) (after : List (BeatOf H w) → P → P) (before now : Option S)
+    (unwritten written : BeatFields) (old_bytes bytes : List ℕ) (answer : Bool) : Type 0 where
   pub nothing : before ≡ None → (answer ≡ false) × (now ≡ None)
-  pub taken : (x : Past CLIENT MANAGER) → HoldsPast before x → HoldsPast now (after x)
-  pub told : (x : Past CLIENT MANAGER) → HoldsPast before x → Tells fields_of (channel x).inbox written bytes answer
+  pub taken : (x : P) → Holds before x → Holds now (after (take 1 (inbox before)) x)
+  pub told : Tells fields_of (inbox before) written bytes answer
+  pub lawful : answer ≡ true → IfSome (slice_get (inbox before) 0) (λ beat. IsLawfulBeat r beat)
   pub none : answer ≡ false → (written ≡ unwritten) × (bytes ≡ old_bytes)
 
--- by the bridge that is held, how many beats a call moves, and the past after it
-abbrev pub moved_count : (Bridge CLIENT MANAGER → ℕ) → Option Held → ℕ
-moved_count count None = 0
-moved_count count (Some h) = count h.bridge
+-- what a call does with the side that is held, which moves so many beats: none where none is held
+abbrev pub Does : {S : Type 0} → (How : S → S → ℕ → Type 0) → (before now : Option S) (count : ℕ) → Type 0
+Does How None s count = (s ≡ None) × (count ≡ 0)
+Does How (Some h) None count = ⊥
+Does How (Some h) (Some k) count = How h k count
 
-abbrev pub moved_past : (Bridge CLIENT MANAGER → Past CLIENT MANAGER → Past CLIENT MANAGER) → Option Held → Past CLIENT MANAGER → Past CLIENT MANAGER
-moved_past after None x = x
-moved_past after (Some h) x = after h.bridge x
+-- a call that moves beats, so many of them, in this way, and what the past is after it
+pub record Moves {S P : Type 0} (Holds : Option S → P → Type 0) (How : S → S → ℕ → Type 0) (after : Option S → Option S → P → P)
+    (before now : Option S) (count : ℕ) : Type 0 where
+  pub moves : Does How before now count
+  pub stands : (x : P) → Holds before x → Holds now (after before now x)
 
--- a call that moves beats, and answers how many
-pub record Moves (count : Bridge CLIENT MANAGER → ℕ) (after : Bridge CLIENT MANAGER → Past CLIENT MANAGER → Past CLIENT MANAGER)
-    (before now : Option Held) (answer : ℕ) : Type 0 where
-  pub answers : answer ≡ moved_count count before
-  pub nothing : before ≡ None → now ≡ None
-  pub moved : (x : Past CLIENT MANAGER) → HoldsPast before x → HoldsPast now (moved_past after before x)
+-- a side moves staged beats into its rings, or beats from the other side's rings into its inboxes
+abbrev pub ClientPumps : ClientHeld → ClientHeld → ℕ → Type 0
+ClientPumps h k count =
+    Pumps h.side.a k.side.a × Pumps h.side.c k.side.c × Pumps h.side.e k.side.e
+    × (count ≡ pump_count h.side.a k.side.a + pump_count h.side.c k.side.c + pump_count h.side.e k.side.e)
 
--- how many far beats wait on a channel, and on all five
-abbrev pub beat_counts : {H : Type 0} {w v : ℕ} → World H w v → BeatCounts
-beat_counts x = record { staged = length x.stage; in_ring = length x.ring; inbox = length x.inbox }
+abbrev pub ManagerPumps : ManagerHeld → ManagerHeld → ℕ → Type 0
+ManagerPumps h k count =
+    Pumps h.side.b k.side.b × Pumps h.side.d k.side.d
+    × (count ≡ pump_count h.side.b k.side.b + pump_count h.side.d k.side.d)
 
-abbrev pub channel_counts : Past CLIENT MANAGER → ChannelCounts
-channel_counts x = record { a = beat_counts x.a; b = beat_counts x.b; c = beat_counts x.c; d = beat_counts x.d; e = beat_counts x.e }
+abbrev pub ClientFetches : ClientHeld → ClientHeld → ℕ → Type 0
+ClientFetches h k count =
+    Fetches h.side.b k.side.b × Fetches h.side.d k.side.d
+    × (count ≡ fetch_count h.side.b k.side.b + fetch_count h.side.d k.side.d)
 
--- no beat waits on a channel, and on any
-abbrev pub IsIdle : {H : Type 0} {w v : ℕ} → World H w v → Type 0
-IsIdle x = (x.stage ≡ []) × (x.ring ≡ []) × (x.inbox ≡ [])
+abbrev pub ManagerFetches : ManagerHeld → ManagerHeld → ℕ → Type 0
+ManagerFetches h k count =
+    Fetches h.side.a k.side.a × Fetches h.side.c k.side.c × Fetches h.side.e k.side.e
+    × (count ≡ fetch_count h.side.a k.side.a + fetch_count h.side.c k.side.c + fetch_count h.side.e k.side.e)
 
-pub record IsDrained (x : Past CLIENT MANAGER) : Type 0 where
-  pub a : IsIdle x.a
-  pub b : IsIdle x.b
-  pub c : IsIdle x.c
-  pub d : IsIdle x.d
-  pub e : IsIdle x.e
+-- the past after a pump, by the side before and after it
+abbrev pub pumped : {S P : Type 0} → (pumps : S → S → P → P) → (before now : Option S) → P → P
+pumped pumps None s x = x
+pumped pumps (Some h) None x = x
+pumped pumps (Some h) (Some k) x = pumps h k x
+
+abbrev pub client_pumped : (before now : Option ClientHeld) → ClientPast CLIENT MANAGER → ClientPast CLIENT MANAGER
+client_pumped = pumped (λ h k x. client_pumps h.side k.side x)
+
+abbrev pub manager_pumped : (before now : Option ManagerHeld) → ManagerPast CLIENT MANAGER → ManagerPast CLIENT MANAGER
+manager_pumped = pumped (λ h k x. manager_pumps h.side k.side x)
+
+-- two sides may meet: those that are held are of one bridge
+abbrev pub MayMeet : Option ClientHeld → Option ManagerHeld → Type 0
+MayMeet None t = Unit
+MayMeet (Some s) None = Unit
+MayMeet (Some s) (Some t) = AreSides s.side t.side
+
+-- two sides have met: each channel is one crossing, to which a list of events leads
+abbrev pub HaveMet : Option ClientHeld → Option ManagerHeld → ClientPast CLIENT MANAGER → ManagerPast CLIENT MANAGER → Type 0
+HaveMet None t x y = ⊥
+HaveMet (Some s) None x y = ⊥
+HaveMet (Some s) (Some t) x y = SidesMeet s.side t.side x y
+
+-- how many far beats wait on a channel whose sides have met, and on all five
+abbrev pub beat_counts : {K A H : Type 0} {v : ℕ} → Sending K A H v → Taking K A H v → BeatCounts
+beat_counts s t = record { staged = length s.stage; in_ring = length (known_items t); inbox = length t.inbox }
+
+abbrev pub AreCounted : Option ClientHeld → Option ManagerHeld → ChannelCounts → Type 0
+AreCounted None t counts = ⊥
+AreCounted (Some s) None counts = ⊥
+AreCounted (Some s) (Some t) counts = counts ≡ record {
+  a = beat_counts s.side.a t.side.a;
+  b = beat_counts t.side.b s.side.b;
+  c = beat_counts s.side.c t.side.c;
+  d = beat_counts t.side.d s.side.d;
+  e = beat_counts s.side.e t.side.e;
+}

@@ -1,2 +1,3 @@
-pub mod Handle
+pub mod Handles
 pub mod Calls
+pub mod Settling

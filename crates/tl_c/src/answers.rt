@@ -1,17 +1,18 @@
-//! The names of what calls answer, and the library's version.
+//! What answers mean, and the library's version.
 ghost use Rattle.std.specs.Prelude.{◌≡◌};
-ghost use Rattle.tl_c_beats.specs.Names.{answer_name, zero_ended};
+ghost use Rattle.tl_c_beats.specs.Texts.{answer_text};
 ghost use Rattle.tl_c_beats.specs.declared.answers.TheConstants.{VERSION};
 
-use tl_c_beats::{NAME_BYTES, VERSION, answer_name};
+use tl_c_beats::{AnswerText, VERSION, answer_text};
 
-/// Writes the name of what a call answered, ended by zeros: that of the fault of this number, `Ok`,
-/// `NoSide`, `NoBridge` or `NotReady`. For a number that no call answers it writes zeros alone.
+/// Writes the name and the sentence of what a call answered, each ended by zeros: of 0, of each
+/// fault by its number, 1 to 23, and of the answers of the library alone. For a number that is no
+/// answer it writes zeros alone.
 #[unsafe(no_mangle)]
-pub extern "C" fn tl_answer_name(answer: u8, name: &mut [u8; NAME_BYTES])
-    ensures { name.new ≡ zero_ended (answer_name answer) }
+pub extern "C" fn tl_answer_text(answer: u8, text: &mut AnswerText)
+    ensures { text.new ≡ answer_text answer }
 {
-    *name = answer_name(answer);
+    *text = answer_text(answer);
 }
 
 /// The library's version.

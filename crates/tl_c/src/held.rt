@@ -1,15 +1,27 @@
-//! What a handle holds.
+//! What the two handles hold.
 use crate::widths::{CLIENT, MANAGER};
-use tl_sides::SyncBridge;
+use tl_sides::{ClientSide, ManagerSide};
 
-/// The bridge behind a handle.
-pub struct Held {
-    pub bridge: SyncBridge<CLIENT, MANAGER>,
+/// The client's side behind a handle.
+pub struct ClientHeld {
+    pub side: ClientSide<CLIENT, MANAGER>,
 }
 
-// Written out, since a derived one asks for the bridge's size with every allocator.
-impl Drop for Held {
+// Written out, since a derived one asks for the side's size with every allocator.
+impl Drop for ClientHeld {
     fn drop(self) {
-        let Held { bridge: _bridge } = self;
+        let ClientHeld { side: _side } = self;
+    }
+}
+
+/// The manager's side behind a handle.
+pub struct ManagerHeld {
+    pub side: ManagerSide<CLIENT, MANAGER>,
+}
+
+// As that of the client's side.
+impl Drop for ManagerHeld {
+    fn drop(self) {
+        let ManagerHeld { side: _side } = self;
     }
 }

@@ -1,113 +1,101 @@
-//! The bridge of both sides for C: a handle, and the calls of `SyncBridge` on it, with numbers and
-//! with pointers to bytes.
+//! The bridge for C, each side behind a handle, in one thread or in two: the calls of `ClientSide`
+//! and `ManagerSide`, with numbers and with pointers to bytes, for one pair of widths.
 //!
 //! The client's side offers beats of A, C and E and takes those of B and D; the manager's side
 //! offers beats of B and D and takes those of A, C and E. A call's contract says which event of the
-//! bridge's past it is, and by that past what it answers. `include/tlbridge.h` says what a caller
-//! that is not proved owes.
+//! side's past it is, and by that past what it answers. No call waits for the other side.
+//! `include/tlbridge.h` says what a caller that is not proved owes.
 #![tactic(auto)]
 
 mod answers;
+mod client_handle;
 mod closes;
-mod handle;
 mod held;
+mod manager_handle;
+mod meetings;
+mod moves;
 mod offers;
+mod settling;
 mod takes;
 mod widths;
 
-ghost use Rattle.std.specs.Prelude.{◌≡◌, ◌≢◌, ◌<◌, ◌⊎◌, ◌↔◌, None, false, true};
+ghost use Rattle.std.specs.Prelude.{◌≡◌, ◌≢◌, ◌<◌, ◌⊎◌, ◌↔◌, None};
 ghost use Rattle.tl_ring.specs.declared.pipe.TheConstants.{MAX_RING};
-ghost use Rattle.tl_sides.specs.Bridges.{Past, nothing_yet, all_pumped, all_fetched, after_pump, after_fetch};
-ghost use Rattle.tl_c.specs.Calls.{HoldsPast, IsDrained, Moves, channel_counts};
+ghost use Rattle.tl_sides.specs.Sides.{ClientPast, ManagerPast, new_client, new_manager};
+ghost use Rattle.tl_c.specs.Calls.{HoldsClient, HoldsManager, HoldSides};
 
-use crate::handle::Handle;
-use crate::held::Held;
+use crate::client_handle::ClientHandle;
+use crate::held::{ClientHeld, ManagerHeld};
+use crate::manager_handle::ManagerHandle;
 use crate::widths::{CLIENT, MANAGER};
 use std::alloc::Global;
-use tl_c_beats::{ChannelCounts, are_idle, boxed, channel_counts, on_held};
-use tl_sides::SyncBridge;
+use tl_c_beats::boxed;
 
-/// Makes a bridge with five rings of `ring` beats and gives it to the handle. A bridge that the
-/// handle held before is let go first.
+/// Makes a bridge with five rings of `ring` beats and gives its sides to the two handles, with the
+/// caller's number of it, `bridge`. Sides that the handles held before are let go first.
 ///
-/// 0 where it is made. Else the handle holds none: 12 exactly where `ring` is 0 or above 4,096, 13
+/// 0 where it is made. Else both handles hold none: 12 exactly where `ring` is 0 or above 4,096, 13
 /// where there is no memory.
 #[unsafe(no_mangle)]
-pub extern "C" fn tl_open(alloc: Global, handle: &mut Handle, ring: usize) -> u8
-    ensures new { result ≡ 0 → HoldsPast handle.new.owned.held (nothing_yet ring) }
+pub extern "C" fn tl_open(
+    alloc: Global,
+    client: &mut ClientHandle,
+    manager: &mut ManagerHandle,
+    ring: usize,
+    bridge: u64,
+) -> u8
+    ensures sides { result ≡ 0 → HoldSides client.new.owned.held manager.new.owned.held }
+    ensures client { result ≡ 0 → HoldsClient client.new.owned.held (new_client ring) }
+    ensures manager { result ≡ 0 → HoldsManager manager.new.owned.held (new_manager ring) }
     ensures ring_size { (result ≡ 12) ↔ ((ring ≡ 0) ⊎ (MAX_RING < ring)) }
     ensures faults { (result ≡ 0) ⊎ ((result ≡ 12) ⊎ (result ≡ 13)) }
-    ensures refused { result ≢ 0 → handle.new.owned.held ≡ None }
+    ensures refused { result ≢ 0 →
+        (client.new.owned.held ≡ None) × (manager.new.owned.held ≡ None) }
+    ensures numbers { result ≡ 0 →
+        (client.new.bridge ≡ bridge) × (manager.new.bridge ≡ bridge) }
+    ensures no_numbers { result ≢ 0 → (client.new.bridge ≡ 0) × (manager.new.bridge ≡ 0) }
 {
-    drop(handle.take(alloc));
-    let bridge = match SyncBridge::<CLIENT, MANAGER>::new(alloc, ring) {
-        Ok(bridge) => bridge,
+    client.free(alloc);
+    manager.free(alloc);
+    let (client_side, manager_side) = match tl_sides::bridge::<CLIENT, MANAGER, Global>(
+        alloc, ring,
+    ) {
+        Ok(sides) => sides,
         Err(fault) => return fault.number(),
     };
-    match boxed(alloc, Held { bridge }) {
-        Ok(held) => {
-            handle.put(held);
-            0
-        }
+    let client_made = boxed(alloc, ClientHeld { side: client_side });
+    let manager_made = boxed(alloc, ManagerHeld { side: manager_side });
+    match client_made {
+        Ok(client_held) => match manager_made {
+            Ok(manager_held) => {
+                client.put(client_held);
+                manager.put(manager_held);
+                client.bridge = bridge;
+                manager.bridge = bridge;
+                0
+            }
+            Err(fault) => fault,
+        },
         Err(fault) => fault,
     }
 }
 
-/// Lets the bridge go, if the handle holds one: the handle holds none then.
+/// Lets the client's side go, if the handle holds one: the handle holds none then. The manager's
+/// side goes on by itself.
 #[unsafe(no_mangle)]
-pub extern "C" fn tl_free(alloc: Global, handle: &mut Handle)
-    ensures { handle.new.owned.held ≡ None }
+pub extern "C" fn tl_free_client(alloc: Global, client: &mut ClientHandle)
+    ensures none { client.new.owned.held ≡ None }
+    ensures number { client.new.bridge ≡ 0 }
 {
-    drop(handle.take(alloc));
+    client.free(alloc);
 }
 
-/// Moves staged beats to the rings on all channels, as many as each ring has room for, and answers
-/// how many these are in all: at most five times [`tl_ring::ROOM`], and 0 where no bridge is
-/// held.
+/// Lets the manager's side go, if the handle holds one: the handle holds none then. The client's
+/// side goes on by itself.
 #[unsafe(no_mangle)]
-pub extern "C" fn tl_pump(alloc: Global, handle: &mut Handle) -> usize
-    ensures { Moves all_pumped after_pump handle.old.owned.held handle.new.owned.held result }
+pub extern "C" fn tl_free_manager(alloc: Global, manager: &mut ManagerHandle)
+    ensures none { manager.new.owned.held ≡ None }
+    ensures number { manager.new.bridge ≡ 0 }
 {
-    on_held!(handle, alloc, 0, |held| held.bridge.pump())
-}
-
-/// Moves beats from the rings to the inboxes on all channels, as many as each inbox has room for,
-/// and answers how many these are in all: at most five times [`tl_ring::ROOM`], and 0 where no
-/// bridge is held.
-#[unsafe(no_mangle)]
-pub extern "C" fn tl_fetch(alloc: Global, handle: &mut Handle) -> usize
-    ensures { Moves all_fetched after_fetch handle.old.owned.held handle.new.owned.held result }
-{
-    on_held!(handle, alloc, 0, |held| held.bridge.fetch())
-}
-
-/// Writes how many far beats stand in the stage, the ring and the inbox of each channel: whether a
-/// bridge is held. Where none is, nothing is written.
-#[unsafe(no_mangle)]
-pub extern "C" fn tl_standings(
-    alloc: Global,
-    handle: &mut Handle,
-    counts: &mut ChannelCounts,
-) -> bool
-    ensures no_bridge { handle.old.owned.held ≡ None →
-        (result ≡ false) × (counts.new ≡ counts.old) }
-    ensures counts { (x : Past CLIENT MANAGER) → HoldsPast handle.old.owned.held x →
-        (result ≡ true) × (counts.new ≡ channel_counts x) }
-    ensures same { handle.new.owned.held ≡ handle.old.owned.held }
-{
-    let standings = on_held!(handle, alloc, false, |held| held.bridge.standings());
-    *counts = channel_counts(standings);
-    true
-}
-
-/// Whether a bridge is held and all its standings are 0: what was taken then is all that the
-/// accepted beats make due.
-#[unsafe(no_mangle)]
-pub extern "C" fn tl_drained(alloc: Global, handle: &mut Handle) -> bool
-    ensures no_bridge { handle.old.owned.held ≡ None → result ≡ false }
-    ensures drained { (x : Past CLIENT MANAGER) → HoldsPast handle.old.owned.held x →
-        (result ≡ true) ↔ IsDrained x }
-    ensures same { handle.new.owned.held ≡ handle.old.owned.held }
-{
-    are_idle(on_held!(handle, alloc, false, |held| held.bridge.standings()))
+    manager.free(alloc);
 }

@@ -2,159 +2,170 @@
 ghost use Rattle.tl_msg.specs.Tables.{rules_b, rules_c, rules_e};
 ghost use Rattle.tl_settle.specs.Histories.{client_answer, manager_answer};
 ghost use Rattle.tl_sides.specs.Crossings.{stops_alone};
-ghost use Rattle.tl_sides.specs.Bridges.{after_offer_a, after_offer_b, after_offer_c, after_offer_d, after_offer_e};
+ghost use Rattle.tl_sides.specs.Sides.{client_offers_a, client_offers_c, client_offers_e, manager_offers_b, manager_offers_d};
 ghost use Rattle.tl_c_beats.specs.Calls.{Asks, Offers};
 ghost use Rattle.tl_c_beats.specs.Fields.{beat_a, beat_b, beat_c, beat_d, beat_e};
-ghost use Rattle.tl_c.specs.Calls.{HoldsPast};
+ghost use Rattle.tl_c.specs.Calls.{HoldsClient, HoldsManager, KeepsClient, KeepsManager};
 
-use crate::handle::Handle;
+use crate::client_handle::ClientHandle;
+use crate::manager_handle::ManagerHandle;
 use crate::widths::{CLIENT, MANAGER};
 use std::alloc::Global;
 use tl_c_beats::{
-    BeatFields, NO_BRIDGE, beat_a, beat_b, beat_c, beat_d, beat_e, offer_held, on_held,
+    BeatFields, NO_SIDE, beat_a, beat_b, beat_c, beat_d, beat_e, offer_held, on_held,
 };
 
-/// Whether the client's side may offer a beat of A: a bridge is held, nothing of A is staged, and
+/// Whether the client's side may offer a beat of A: it is held, nothing of A is staged, and
 /// A isn't closed.
 #[unsafe(no_mangle)]
-pub extern "C" fn tl_ready_a(alloc: Global, handle: &mut Handle) -> bool
-    ensures { Asks HoldsPast (λ x. x.a) handle.old.owned.held handle.new.owned.held result }
+pub extern "C" fn tl_ready_a(alloc: Global, client: &mut ClientHandle) -> bool
+    ensures ask { Asks HoldsClient (λ x. x.a) client.old.owned.held client.new.owned.held result }
+    ensures kept { KeepsClient client.old client.new }
 {
-    on_held!(handle, alloc, false, |held| held.bridge.ready_a())
+    on_held!(client, alloc, false, |held| held.side.ready_a())
 }
 
 /// The client's side offers a beat of A.
 ///
 /// 0 where it is accepted. Else nothing changes: the number of its fault, `NOT_READY` where A takes
-/// no beat now, or `NO_BRIDGE`.
+/// no beat now, or `NO_SIDE`.
 #[unsafe(no_mangle)]
 pub extern "C" fn tl_offer_a(
     alloc: Global,
-    handle: &mut Handle,
+    client: &mut ClientHandle,
     beat: &BeatFields,
     lanes: &[u8; CLIENT],
 ) -> u8
-    ensures { Offers HoldsPast NO_BRIDGE (λ x. x.a)
-        (λ x. client_answer x.client (beat_a beat.now lanes.now))
-        (after_offer_a (beat_a beat.now lanes.now))
-        handle.old.owned.held handle.new.owned.held result }
+    ensures offer { Offers HoldsClient NO_SIDE (λ x. x.a)
+        (λ x. client_answer x.history (beat_a beat.now lanes.now))
+        (client_offers_a (beat_a beat.now lanes.now))
+        client.old.owned.held client.new.owned.held result }
+    ensures kept { KeepsClient client.old client.new }
 {
     let beat = beat_a(beat, lanes);
-    offer_held!(handle, alloc, NO_BRIDGE, bridge.ready_a, offer_a(beat))
+    offer_held!(client, alloc, NO_SIDE, side.ready_a, offer_a(beat))
 }
 
-/// Whether the manager's side may offer a beat of B: a bridge is held, nothing of B is staged, and
+/// Whether the manager's side may offer a beat of B: it is held, nothing of B is staged, and
 /// B isn't closed.
 #[unsafe(no_mangle)]
-pub extern "C" fn tl_ready_b(alloc: Global, handle: &mut Handle) -> bool
-    ensures { Asks HoldsPast (λ x. x.b) handle.old.owned.held handle.new.owned.held result }
+pub extern "C" fn tl_ready_b(alloc: Global, manager: &mut ManagerHandle) -> bool
+    ensures ask { Asks HoldsManager (λ x. x.b) manager.old.owned.held manager.new.owned.held result }
+    ensures kept { KeepsManager manager.old manager.new }
 {
-    on_held!(handle, alloc, false, |held| held.bridge.ready_b())
+    on_held!(manager, alloc, false, |held| held.side.ready_b())
 }
 
 /// The manager's side offers a beat of B.
 ///
 /// 0 where it is accepted. Else nothing changes: the number of its fault, `NOT_READY` where B takes
-/// no beat now, or `NO_BRIDGE`.
+/// no beat now, or `NO_SIDE`.
 #[unsafe(no_mangle)]
 pub extern "C" fn tl_offer_b(
     alloc: Global,
-    handle: &mut Handle,
+    manager: &mut ManagerHandle,
     beat: &BeatFields,
     lanes: &[u8; MANAGER],
 ) -> u8
-    ensures { Offers HoldsPast NO_BRIDGE (λ x. x.b)
+    ensures offer { Offers HoldsManager NO_SIDE (λ x. x.b)
         (λ x. stops_alone rules_b x.b.accepted (beat_b beat.now lanes.now))
-        (after_offer_b (beat_b beat.now lanes.now))
-        handle.old.owned.held handle.new.owned.held result }
+        (manager_offers_b (beat_b beat.now lanes.now))
+        manager.old.owned.held manager.new.owned.held result }
+    ensures kept { KeepsManager manager.old manager.new }
 {
     let beat = beat_b(beat, lanes);
-    offer_held!(handle, alloc, NO_BRIDGE, bridge.ready_b, offer_b(beat))
+    offer_held!(manager, alloc, NO_SIDE, side.ready_b, offer_b(beat))
 }
 
-/// Whether the client's side may offer a beat of C: a bridge is held, nothing of C is staged, and
+/// Whether the client's side may offer a beat of C: it is held, nothing of C is staged, and
 /// C isn't closed.
 #[unsafe(no_mangle)]
-pub extern "C" fn tl_ready_c(alloc: Global, handle: &mut Handle) -> bool
-    ensures { Asks HoldsPast (λ x. x.c) handle.old.owned.held handle.new.owned.held result }
+pub extern "C" fn tl_ready_c(alloc: Global, client: &mut ClientHandle) -> bool
+    ensures ask { Asks HoldsClient (λ x. x.c) client.old.owned.held client.new.owned.held result }
+    ensures kept { KeepsClient client.old client.new }
 {
-    on_held!(handle, alloc, false, |held| held.bridge.ready_c())
+    on_held!(client, alloc, false, |held| held.side.ready_c())
 }
 
 /// The client's side offers a beat of C.
 ///
 /// 0 where it is accepted. Else nothing changes: the number of its fault, `NOT_READY` where C takes
-/// no beat now, or `NO_BRIDGE`.
+/// no beat now, or `NO_SIDE`.
 #[unsafe(no_mangle)]
 pub extern "C" fn tl_offer_c(
     alloc: Global,
-    handle: &mut Handle,
+    client: &mut ClientHandle,
     beat: &BeatFields,
     lanes: &[u8; CLIENT],
 ) -> u8
-    ensures { Offers HoldsPast NO_BRIDGE (λ x. x.c)
+    ensures offer { Offers HoldsClient NO_SIDE (λ x. x.c)
         (λ x. stops_alone rules_c x.c.accepted (beat_c beat.now lanes.now))
-        (after_offer_c (beat_c beat.now lanes.now))
-        handle.old.owned.held handle.new.owned.held result }
+        (client_offers_c (beat_c beat.now lanes.now))
+        client.old.owned.held client.new.owned.held result }
+    ensures kept { KeepsClient client.old client.new }
 {
     let beat = beat_c(beat, lanes);
-    offer_held!(handle, alloc, NO_BRIDGE, bridge.ready_c, offer_c(beat))
+    offer_held!(client, alloc, NO_SIDE, side.ready_c, offer_c(beat))
 }
 
-/// Whether the manager's side may offer a beat of D: a bridge is held, nothing of D is staged, and
+/// Whether the manager's side may offer a beat of D: it is held, nothing of D is staged, and
 /// D isn't closed.
 #[unsafe(no_mangle)]
-pub extern "C" fn tl_ready_d(alloc: Global, handle: &mut Handle) -> bool
-    ensures { Asks HoldsPast (λ x. x.d) handle.old.owned.held handle.new.owned.held result }
+pub extern "C" fn tl_ready_d(alloc: Global, manager: &mut ManagerHandle) -> bool
+    ensures ask { Asks HoldsManager (λ x. x.d) manager.old.owned.held manager.new.owned.held result }
+    ensures kept { KeepsManager manager.old manager.new }
 {
-    on_held!(handle, alloc, false, |held| held.bridge.ready_d())
+    on_held!(manager, alloc, false, |held| held.side.ready_d())
 }
 
 /// The manager's side offers a beat of D.
 ///
 /// 0 where it is accepted. Else nothing changes: the number of its fault, `NOT_READY` where D takes
-/// no beat now, or `NO_BRIDGE`.
+/// no beat now, or `NO_SIDE`.
 #[unsafe(no_mangle)]
 pub extern "C" fn tl_offer_d(
     alloc: Global,
-    handle: &mut Handle,
+    manager: &mut ManagerHandle,
     beat: &BeatFields,
     lanes: &[u8; MANAGER],
 ) -> u8
-    ensures { Offers HoldsPast NO_BRIDGE (λ x. x.d)
-        (λ x. manager_answer x.manager (beat_d beat.now lanes.now))
-        (after_offer_d (beat_d beat.now lanes.now))
-        handle.old.owned.held handle.new.owned.held result }
+    ensures offer { Offers HoldsManager NO_SIDE (λ x. x.d)
+        (λ x. manager_answer x.history (beat_d beat.now lanes.now))
+        (manager_offers_d (beat_d beat.now lanes.now))
+        manager.old.owned.held manager.new.owned.held result }
+    ensures kept { KeepsManager manager.old manager.new }
 {
     let beat = beat_d(beat, lanes);
-    offer_held!(handle, alloc, NO_BRIDGE, bridge.ready_d, offer_d(beat))
+    offer_held!(manager, alloc, NO_SIDE, side.ready_d, offer_d(beat))
 }
 
-/// Whether the client's side may offer a beat of E: a bridge is held, nothing of E is staged, and
+/// Whether the client's side may offer a beat of E: it is held, nothing of E is staged, and
 /// E isn't closed.
 #[unsafe(no_mangle)]
-pub extern "C" fn tl_ready_e(alloc: Global, handle: &mut Handle) -> bool
-    ensures { Asks HoldsPast (λ x. x.e) handle.old.owned.held handle.new.owned.held result }
+pub extern "C" fn tl_ready_e(alloc: Global, client: &mut ClientHandle) -> bool
+    ensures ask { Asks HoldsClient (λ x. x.e) client.old.owned.held client.new.owned.held result }
+    ensures kept { KeepsClient client.old client.new }
 {
-    on_held!(handle, alloc, false, |held| held.bridge.ready_e())
+    on_held!(client, alloc, false, |held| held.side.ready_e())
 }
 
 /// The client's side offers a beat of E.
 ///
 /// 0 where it is accepted. Else nothing changes: the number of its fault, `NOT_READY` where E takes
-/// no beat now, or `NO_BRIDGE`.
+/// no beat now, or `NO_SIDE`.
 #[unsafe(no_mangle)]
 pub extern "C" fn tl_offer_e(
     alloc: Global,
-    handle: &mut Handle,
+    client: &mut ClientHandle,
     beat: &BeatFields,
     lanes: &[u8; CLIENT],
 ) -> u8
-    ensures { Offers HoldsPast NO_BRIDGE (λ x. x.e)
+    ensures offer { Offers HoldsClient NO_SIDE (λ x. x.e)
         (λ x. stops_alone rules_e x.e.accepted (beat_e beat.now lanes.now))
-        (after_offer_e (beat_e beat.now lanes.now))
-        handle.old.owned.held handle.new.owned.held result }
+        (client_offers_e (beat_e beat.now lanes.now))
+        client.old.owned.held client.new.owned.held result }
+    ensures kept { KeepsClient client.old client.new }
 {
     let beat = beat_e(beat, lanes);
-    offer_held!(handle, alloc, NO_BRIDGE, bridge.ready_e, offer_e(beat))
+    offer_held!(client, alloc, NO_SIDE, side.ready_e, offer_e(beat))
 }

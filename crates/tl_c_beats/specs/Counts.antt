@@ -1,5 +1,4 @@
 -- How many far beats wait, as C is told (this project's choice).
-use Rattle.std.specs.Prelude.{◌==◌, ◌&&◌, Bool}
 use Rattle.tl_ring.specs.declared.standing.Standing.{Standing}
 use Rattle.tl_sides.specs.declared.per_channel.PerChannel.{PerChannel}
 use Rattle.tl_c_beats.specs.declared.counts.BeatCounts.{BeatCounts}
@@ -11,10 +10,3 @@ beat_counts standing = record { staged = standing.staged; in_ring = standing.in_
 
 abbrev pub channel_counts : PerChannel Standing → ChannelCounts
 channel_counts s = record { a = beat_counts s.a; b = beat_counts s.b; c = beat_counts s.c; d = beat_counts s.d; e = beat_counts s.e }
-
--- whether no beat of one channel waits, and of all five
-abbrev pub is_idle : Standing → Bool
-is_idle standing = standing.staged == 0 && standing.in_ring == 0 && standing.inbox == 0
-
-abbrev pub are_idle : PerChannel Standing → Bool
-are_idle s = is_idle s.a && is_idle s.b && is_idle s.c && is_idle s.d && is_idle s.e

@@ -1,4 +1,4 @@
-pub mod Names
+pub mod Texts
 pub mod Masks
 pub mod Fields
 pub mod Answers

@@ -1,6 +1,6 @@
 //! How many far beats wait, as C is told.
 ghost use Rattle.std.specs.Prelude.{◌≡◌};
-ghost use Rattle.tl_c_beats.specs.Counts.{beat_counts, channel_counts, is_idle, are_idle};
+ghost use Rattle.tl_c_beats.specs.Counts.{beat_counts, channel_counts};
 
 use tl_ring::Standing;
 use tl_sides::Standings;
@@ -28,6 +28,11 @@ pub struct ChannelCounts {
     pub e: BeatCounts,
 }
 
+// C has these sizes from the header alone.
+const _: () = prove!(size_of::<BeatCounts>() == 24);
+
+const _: () = prove!(size_of::<ChannelCounts>() == 120);
+
 /// The counts of all channels, by how their beats stand.
 pub fn channel_counts(standings: Standings) -> ChannelCounts
     ensures { result ≡ channel_counts standings }
@@ -49,21 +54,4 @@ fn beat_counts(standing: Standing) -> BeatCounts
         in_ring: standing.in_ring,
         inbox: standing.inbox,
     }
-}
-
-/// Whether no far beat of any channel waits, by how their beats stand.
-pub fn are_idle(standings: Standings) -> bool
-    ensures { result ≡ are_idle standings }
-{
-    is_idle(standings.a)
-        & is_idle(standings.b)
-        & is_idle(standings.c)
-        & is_idle(standings.d)
-        & is_idle(standings.e)
-}
-
-fn is_idle(standing: Standing) -> bool
-    ensures { result ≡ is_idle standing }
-{
-    (standing.staged == 0) & (standing.in_ring == 0) & (standing.inbox == 0)
 }

@@ -31,6 +31,11 @@ pub struct BeatFields {
     pub mask_high: u64,
 }
 
+// C has this size from the header alone.
+const _: () = prove!(size_of::<BeatFields>() == 40);
+
+const _: () = prove!(RESERVED == 7);
+
 // A beat of a head, by what else its fields and lanes tell of it.
 macro_rules! beat_with {
     ($head:expr, $fields:ident, $lanes:ident) => {

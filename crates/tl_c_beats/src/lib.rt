@@ -1,5 +1,5 @@
-//! What the libraries for C have in common: a beat as C passes it, how many wait, what calls
-//! answer, and what a handle is made of.
+//! What the library for C does for every pair of widths: a beat as C passes it, how many wait, what
+//! calls answer and what that means, and what a handle is made of.
 #![tactic(auto)]
 
 mod answers;
@@ -10,12 +10,12 @@ pub mod laws;
 mod masks;
 mod parts;
 mod tells;
+mod texts;
 
 pub use answers::{
-    NAME_BYTES, NO_BRIDGE, NO_SIDE, NOT_READY, OUT_OF_MEMORY, VERSION, answer_name, close_number,
-    offer_number,
+    NO_SIDE, NOT_READY, OTHER_BRIDGE, OUT_OF_MEMORY, VERSION, close_number, offer_number,
 };
-pub use counts::{BeatCounts, ChannelCounts, are_idle, channel_counts};
+pub use counts::{BeatCounts, ChannelCounts, channel_counts};
 pub use fields::{
     BeatFields, RESERVED, beat_a, beat_b, beat_c, beat_d, beat_e, fields_a, fields_b, fields_c,
     fields_d, fields_e,
@@ -23,3 +23,4 @@ pub use fields::{
 pub use masks::{high_word, low_word, whole_mask};
 pub use parts::{Live, Parts, boxed};
 pub use tells::{tell_a, tell_b, tell_c, tell_d, tell_e};
+pub use texts::{AnswerText, NAME_BYTES, SENTENCE_BYTES, answer_text};

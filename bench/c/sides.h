@@ -1,0 +1,80 @@
+/* The calls of both sides of a bridge for the tests, by the number of a channel, for one pair of widths, -DCLIENT=8 -DMANAGER=4. */
+#include "messages.h"
+
+TLBRIDGE(CLIENT, MANAGER)
+#define CALL(name) TL_CALL(CLIENT, MANAGER, name)
+typedef CALL(client) client_handle;
+typedef CALL(manager) manager_handle;
+
+/* The calls of a channel, over whichever handle it takes. */
+#define CALLS_OF(x, near, far) \
+    static bool ready_##x(void *side) { return CALL(ready_##x)((near *)side); } \
+    static uint8_t offer_##x(void *side, const tl_beat *beat, const uint8_t *lanes) { return CALL(offer_##x)((near *)side, beat, lanes); } \
+    static bool take_##x(void *side, tl_beat *beat, uint8_t *lanes) { return CALL(take_##x)((far *)side, beat, lanes); } \
+    static uint8_t close_##x(void *side) { return CALL(close_##x)((near *)side); }
+CALLS_OF(a, client_handle, manager_handle)
+CALLS_OF(b, manager_handle, client_handle)
+CALLS_OF(c, client_handle, manager_handle)
+CALLS_OF(d, manager_handle, client_handle)
+CALLS_OF(e, client_handle, manager_handle)
+
+static bool (*const ready[])(void *) = {ready_a, ready_b, ready_c, ready_d, ready_e};
+static uint8_t (*const offer[])(void *, const tl_beat *, const uint8_t *) = {offer_a, offer_b, offer_c, offer_d, offer_e};
+static bool (*const take[])(void *, tl_beat *, uint8_t *) = {take_a, take_b, take_c, take_d, take_e};
+static uint8_t (*const close_it[])(void *) = {close_a, close_b, close_c, close_d, close_e};
+
+static bool from_client(int x) {
+    return x == A || x == C || x == E;
+}
+
+/* Both sides of a bridge, and the one that offers on a channel and the one that takes. */
+typedef struct {
+    client_handle client;
+    manager_handle manager;
+} both_sides;
+
+static void *near_side(both_sides *both, int x) {
+    return from_client(x) ? (void *)&both->client : (void *)&both->manager;
+}
+
+static void *far_side(both_sides *both, int x) {
+    return from_client(x) ? (void *)&both->manager : (void *)&both->client;
+}
+
+static uint8_t open_both(both_sides *both, size_t ring) {
+    return CALL(open)(&both->client, &both->manager, ring, 7);
+}
+
+static void free_both(both_sides *both) {
+    CALL(free_client)(&both->client);
+    CALL(free_manager)(&both->manager);
+}
+
+/* Each call on handles that hold no side. */
+static void without_sides(both_sides *none) {
+    client_handle *client = &none->client;
+    manager_handle *manager = &none->manager;
+    tl_beat beat, before;
+    uint8_t lanes[MAX_LANES], lanes_before[MAX_LANES];
+    memset(&beat, 0x5a, sizeof beat);
+    memset(lanes, 0x5a, sizeof lanes);
+    before = beat;
+    memcpy(lanes_before, lanes, sizeof lanes);
+    for (int x = A; x < CHANNELS; x++) {
+        CHECK(!ready[x](near_side(none, x)));
+        CHECK(offer[x](near_side(none, x), &beat, lanes) == TL_NO_SIDE);
+        CHECK(!take[x](far_side(none, x), &beat, lanes));
+        CHECK(close_it[x](near_side(none, x)) == TL_NO_SIDE);
+    }
+    CHECK(CALL(pump_client)(client) == 0 && CALL(fetch_client)(client) == 0);
+    CHECK(CALL(pump_manager)(manager) == 0 && CALL(fetch_manager)(manager) == 0);
+    CHECK(memcmp(&beat, &before, sizeof beat) == 0);
+    CHECK(memcmp(lanes, lanes_before, sizeof lanes) == 0);
+    tl_standings all, all_before;
+    memset(&all, 0x5a, sizeof all);
+    all_before = all;
+    CHECK(CALL(meet)(client, manager, &all) == TL_NO_SIDE && CALL(settle)(client, manager, &all) == TL_NO_SIDE);
+    CHECK(memcmp(&all, &all_before, sizeof all) == 0);
+    CHECK(client->held == NULL && !client->live && client->bridge == 0);
+    CHECK(manager->held == NULL && !manager->live && manager->bridge == 0);
+}

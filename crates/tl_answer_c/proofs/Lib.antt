@@ -1,0 +1,2 @@
+mod AsOwner
+mod Names

@@ -1,0 +1,59 @@
+//! How an answer's block is made and let go.
+ghost use Rattle.std.specs.Prelude.{◌≡◌, None, IfOk, IfErr};
+ghost use Rattle.tl_c_beats.specs.declared.answers.TheConstants.{OUT_OF_MEMORY};
+ghost use Rattle.tl_answer_c.specs.Calls.{IsBlockOf, IsNoBlock};
+
+use crate::block::{AnswerBlock, OwnedText};
+use crate::held::TextHeld;
+use std::alloc::Global;
+use std::mem::replace;
+use std::ptr::null;
+use tl_answer::Answer;
+use tl_c_beats::{Live, Parts, boxed};
+
+impl AnswerBlock {
+    /// The block of an answer, which holds its text. Where there is no memory, the number of that
+    /// fault.
+    pub(crate) fn of(alloc: Global, made: Answer) -> Result<AnswerBlock, u8>
+        ensures block { IfOk result (IsBlockOf made) }
+        ensures refused { IfErr result (λ number. number ≡ OUT_OF_MEMORY) }
+    {
+        let Answer { text, all_done } = made;
+        let (at, length) = (text.as_ptr(), text.len());
+        match boxed(alloc, TextHeld { text }) {
+            Ok(held) => Ok(AnswerBlock {
+                text: at,
+                length,
+                line: 0,
+                owned: OwnedText::of_parts(Parts::of(held)),
+                live: Live::set(),
+                all_done: u8::from(all_done),
+            }),
+            Err(fault) => Err(fault),
+        }
+    }
+
+    /// No answer, and the line that has the fault.
+    pub(crate) fn none(alloc: Global, line: Option<u64>) -> AnswerBlock
+        ensures { IsNoBlock line result }
+    {
+        AnswerBlock {
+            text: null(),
+            length: 0,
+            line: line.unwrap_or(0),
+            owned: OwnedText::nothing(alloc),
+            live: Live::unset(),
+            all_done: 0,
+        }
+    }
+
+    /// Lets the answer's text go, if there is one: there is none then.
+    pub(crate) fn free(&mut self, alloc: Global)
+        ensures { IsNoBlock None self.new }
+    {
+        let AnswerBlock { owned, live, .. } = replace(self, AnswerBlock::none(alloc, None));
+        if live.is {
+            drop(owned.into_parts().into_box());
+        }
+    }
+}

@@ -1,0 +1,182 @@
+-- What a round leaves on each channel, and what several leave.
+use Rattle.std.proofs.Common.{◌≡◌, ◌+◌, ◌-◌, ℕ, ◌++◌, length, take, drop, min, sym, ap, ◌∙◌, arith, append_assoc, append-nil, length-append}
+use Rattle.std.proofs.lemmas.List.{length-drop, length-take, drop-drop}
+use Rattle.std.proofs.Math.Seq.{take-add}
+use Rattle.tl_ring.specs.Crossing.{World}
+use Rattle.tl_ring.specs.Ends.{Sending, Taking, Met, sent, received, room, known_items, passed}
+use Rattle.tl_sides.specs.Ends.{Pumps, Fetches, pump_count, fetch_count}
+use Rattle.tl_sides.specs.Sides.{ClientState, ManagerState, ClientPast, ManagerPast, ClientStandsFor, ManagerStandsFor}
+use Rattle.tl_c.specs.Settling.{ClientWent, ManagerWent, IsKnown, KnownSides, IsStill, StillSides, SidesSettle, moves_left, all_moves_left}
+
+module _ {K A H : Type 0} {v : ℕ} where
+  -- both ends know all of the ring once they have met
+  pub met_known : {s s' : Sending K A H v} {t t' : Taking K A H v} → Met s t s' t' → IsKnown s' t'
+  met_known {s} {s'} {t} {t'} m =
+      let same_room : room s' ≡ room s = m.send.1 in
+      let all_free = m.all_free in
+      record { ring = m.ring; free = omega (arith, same_room, all_free) }
+
+  -- a round of one channel: so many moves, after which both ends know all again
+  pub record Turned (s s1 s3 : Sending K A H v) (t t1 t2 t3 : Taking K A H v) : Type 0 where
+    pub known : IsKnown s3 t3
+    pub fewer : moves_left s3 t3 + (pump_count s s1 + fetch_count t1 t2) ≡ moves_left s t
+    pub still : pump_count s s1 + fetch_count t1 t2 ≡ 0 → IsStill s3 t3
+
+  -- the sending end pumps while the taking end does something else, which then fetches while the sending end does something else; then they meet
+  pub turned : {s s1 s2 s3 : Sending K A H v} {t t1 t2 t3 : Taking K A H v} → IsKnown s t → Pumps s s1 → s2 ≡ s1 → t1 ≡ t → Fetches t1 t2 → Met s2 t2 s3 t3 →
+      Turned s s1 s3 t t1 t2 t3
+  turned {s} {s1} {s2} {s3} {t} {t1} {t2} {t3} known pump alone beside fetch met =
+      let left : length s1.stage ≡ length s.stage - pump_count s s1 = ap length pump.pushed.stage ∙ length-drop (pump_count s s1) s.stage in
+      let stage_2 : length s2.stage ≡ length s1.stage = ap (λ q. length q.stage) alone in
+      let stage_3 : length s3.stage ≡ length s2.stage = ap length met.same_stage in
+      let sent_1 : length (sent s1) ≡ length (sent s) + length (take (pump_count s s1) s.stage) =
+      ap length pump.pushed.more_sent ∙ length-append (sent s) (take (pump_count s s1) s.stage) in
+      let pushed : length (take (pump_count s s1) s.stage) ≡ min (pump_count s s1) (length s.stage) = length-take (pump_count s s1) s.stage in
+      let sent_2 : length (sent s2) ≡ length (sent s1) = ap (λ q. length (sent q)) alone in
+      let sent_3 : length (sent s3) ≡ length (sent s2) = ap length met.same_sent in
+      let received_1 : length (received t1) ≡ length (received t) = ap (λ q. length (received q)) beside in
+      let received_2 : length (received t2) ≡ length (received t1) + length fetch.fetched.moved =
+      ap length fetch.fetched.received ∙ length-append (received t1) fetch.fetched.moved in
+      let received_3 : length (received t3) ≡ length (received t2) = ap length met.same_received in
+      let items_1 : length (known_items t1) ≡ length (known_items t) = ap (λ q. length (known_items q)) beside in
+      let inbox_2 : length t2.inbox ≡ length t1.inbox + length fetch.fetched.moved = ap length fetch.fetched.inbox ∙ length-append t1.inbox fetch.fetched.moved in
+      let inbox_3 : length t3.inbox ≡ length t2.inbox = ap length met.same_inbox in
+      let ring : length (received t) + length (known_items t) ≡ length (sent s) = sym (length-append (received t) (known_items t)) ∙ ap length known.ring in
+      let ring_3 : length (received t3) + length (known_items t3) ≡ length (sent s3) = sym (length-append (received t3) (known_items t3)) ∙ ap length met.ring in
+      let room_1 : room s1 ≡ room s = pump.pushed.ring.1 in
+      let room_2 : room s2 ≡ room s1 = ap room alone in
+      let room_3 : room s3 ≡ room s2 = met.send.1 in
+      let free = known.free in
+      let least = pump.least in
+      let least_fetched = fetch.least in
+      record {
+        known = met_known met;
+        fewer = omega (arith, left, stage_2, stage_3, sent_1, pushed, sent_2, sent_3, received_1, received_2, received_3, inbox_2, ring, ring_3);
+        still = λ none. record {
+          staged = λ some. omega (
+            arith,
+            none,
+            some,
+            left,
+            stage_2,
+            stage_3,
+            sent_1,
+            pushed,
+            sent_2,
+            sent_3,
+            received_1,
+            received_2,
+            received_3,
+            inbox_2,
+            ring,
+            ring_3,
+            room_1,
+            room_2,
+            room_3,
+            free,
+            least,
+          );
+          in_ring = λ some. omega (
+            arith,
+            none,
+            some,
+            left,
+            stage_2,
+            stage_3,
+            sent_1,
+            pushed,
+            sent_2,
+            sent_3,
+            received_1,
+            received_2,
+            received_3,
+            items_1,
+            inbox_2,
+            inbox_3,
+            ring,
+            ring_3,
+            least_fetched,
+          );
+        };
+      }
+
+-- a round of all five: s becomes s1 by a pump, s2 by a fetch and s3 by the meeting, and so does t
+module _ {A : Type 0} {C M : ℕ} (s s1 s2 s3 : ClientState A C M) (t t1 t2 t3 : ManagerState A C M) where
+  -- how many moves the two sides have made
+  abbrev count : ℕ
+  count =
+      (pump_count s.a s1.a + pump_count s.c s1.c + pump_count s.e s1.e) + (pump_count t.b t1.b + pump_count t.d t1.d) +
+      ((fetch_count s1.b s2.b + fetch_count s1.d s2.d) + (fetch_count t1.a t2.a + fetch_count t1.c t2.c + fetch_count t1.e t2.e))
+
+  pub record AllTurned : Type 0 where
+    pub known : KnownSides s3 t3
+    pub fewer : all_moves_left s3 t3 + count ≡ all_moves_left s t
+    pub still : count ≡ 0 → StillSides s3 t3
+
+  pub all_turned : Turned s.a s1.a s3.a t.a t1.a t2.a t3.a → Turned t.b t1.b t3.b s.b s1.b s2.b s3.b → Turned s.c s1.c s3.c t.c t1.c t2.c t3.c →
+      Turned t.d t1.d t3.d s.d s1.d s2.d s3.d → Turned s.e s1.e s3.e t.e t1.e t2.e t3.e → AllTurned
+  all_turned a b c d e =
+      let fewer_a = a.fewer in
+      let fewer_b = b.fewer in
+      let fewer_c = c.fewer in
+      let fewer_d = d.fewer in
+      let fewer_e = e.fewer in
+      record {
+        known = record { a = a.known; b = b.known; c = c.known; d = d.known; e = e.known };
+        fewer = omega (arith, fewer_a, fewer_b, fewer_c, fewer_d, fewer_e);
+        still = λ none. record {
+          a = a.still (omega (arith, none));
+          b = b.still (omega (arith, none));
+          c = c.still (omega (arith, none));
+          d = d.still (omega (arith, none));
+          e = e.still (omega (arith, none));
+        };
+      }
+
+module _ {H : Type 0} {w v : ℕ} where
+  passed_none : (x : World H w v) → x ≡ passed 0 x
+  passed_none x = λ i. record x { taken = sym (append-nil x.taken) i }
+
+  passed_then : (j k : ℕ) (x : World H w v) → passed k (passed j x) ≡ passed (j + k) x
+  passed_then j k x =
+      let stage : drop k (drop j x.stage) ≡ drop (j + k) x.stage = drop-drop k j x.stage in
+      let taken : (x.taken ++ take j x.stage) ++ take k (drop j x.stage) ≡ x.taken ++ take (j + k) x.stage =
+      append_assoc x.taken (take j x.stage) (take k (drop j x.stage)) ∙ ap (λ l. x.taken ++ l) (sym (take-add j k x.stage)) in
+      λ i. record x { stage = stage i; taken = taken i }
+
+module _ {C M : ℕ} where
+  pub client_stays : (x : ClientPast C M) → ClientWent x x
+  client_stays x = record { a = 0; c = 0; e = 0; went = λ i. record x { a = passed_none x.a i; c = passed_none x.c i; e = passed_none x.e i } }
+
+  pub client_then : {x y z : ClientPast C M} → ClientWent x y → ClientWent y z → ClientWent x z
+  client_then {x} f g = record {
+    a = f.a + g.a;
+    c = f.c + g.c;
+    e = f.e + g.e;
+    went = let more : ClientPast C M → ClientPast C M = λ q. record q { a = passed g.a q.a; c = passed g.c q.c; e = passed g.e q.e } in
+        g.went ∙ ap more f.went ∙ (λ i. record x { a = passed_then f.a g.a x.a i; c = passed_then f.c g.c x.c i; e = passed_then f.e g.e x.e i });
+  }
+
+  pub manager_stays : (y : ManagerPast C M) → ManagerWent y y
+  manager_stays y = record { b = 0; d = 0; went = λ i. record y { b = passed_none y.b i; d = passed_none y.d i } }
+
+  pub manager_then : {x y z : ManagerPast C M} → ManagerWent x y → ManagerWent y z → ManagerWent x z
+  manager_then {x} f g = record {
+    b = f.b + g.b;
+    d = f.d + g.d;
+    went = let more : ManagerPast C M → ManagerPast C M = λ q. record q { b = passed g.b q.b; d = passed g.d q.d } in
+        g.went ∙ ap more f.went ∙ (λ i. record x { b = passed_then f.b g.b x.b i; d = passed_then f.d g.d x.d i });
+  }
+
+-- what rounds have left, and one round more
+pub settles_then : {A : Type 0} {C M : ℕ} {s s' : ClientState A C M} {t t' : ManagerState A C M} {x : ClientPast C M} {y : ManagerPast C M} →
+    SidesSettle s t x y → ((p : ClientPast C M) (q : ManagerPast C M) → ClientStandsFor s p → ManagerStandsFor t q → SidesSettle s' t' p q) → SidesSettle s' t' x y
+settles_then so_far more =
+    let last = more so_far.client so_far.manager so_far.meets.client so_far.meets.manager in
+    record {
+      client = last.client;
+      manager = last.manager;
+      client_went = client_then so_far.client_went last.client_went;
+      manager_went = manager_then so_far.manager_went last.manager_went;
+      meets = last.meets;
+    }

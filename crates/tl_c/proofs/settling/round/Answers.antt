@@ -1,0 +1,56 @@
+use Rattle.std.proofs.Common.{ap, refl, arith}
+use Rattle.tl_sides.specs.Ends.{pump_count}
+use Rattle.tl_sides.specs.Sides.{client_pumps, manager_pumps}
+use Rattle.tl_c.proofs.Rounds.{AllTurned, turned, all_turned}
+use Rattle.tl_c.proofs.settling.round.Goals as goal
+
+pub returns-clause-went : goal.returns-clause-went
+returns-clause-went c = λ x y client manager.
+    let s = c.args.client.now in
+    let s' = c.pump.new.self in
+    let t = c.args.manager.now in
+    let t' = c.pump-2.new.self in
+    record {
+      client = client_pumps s s' x;
+      manager = manager_pumps t t' y;
+      client_went = record { a = pump_count s.a s'.a; c = pump_count s.c s'.c; e = pump_count s.e s'.e; went = refl };
+      manager_went = record { b = pump_count t.b t'.b; d = pump_count t.d t'.d; went = refl };
+      meets = c.meet_sides-standings.ensures.meets _ _ (c.fetch.ensures.stands _ (c.pump.ensures.stands x client)) (c.fetch-2.ensures.stands _ (c.pump-2.ensures.stands y manager));
+    }
+
+-- each channel by itself
+turns : (c : goal.After-meet_sides-standings) → AllTurned c.args.client.now c.pump.new.self c.fetch.new.self c.meet_sides-standings.new.client
+    c.args.manager.now c.pump-2.new.self c.fetch-2.new.self c.meet_sides-standings.new.manager
+turns c =
+    let known = c.requires.known in
+    let client = c.pump.ensures in
+    let manager = c.pump-2.ensures in
+    let client_later = c.fetch.ensures in
+    let manager_later = c.fetch-2.ensures in
+    let met = c.meet_sides-standings.ensures in
+    all_turned _ _ _ _ _ _ _ _
+    (turned known.a client.a (ap (λ q. q.a) client_later.rest) (ap (λ q. q.a) manager.rest) manager_later.a met.a)
+    (turned known.b manager.b (ap (λ q. q.b) manager_later.rest) (ap (λ q. q.b) client.rest) client_later.b met.b)
+    (turned known.c client.c (ap (λ q. q.c) client_later.rest) (ap (λ q. q.c) manager.rest) manager_later.c met.c)
+    (turned known.d manager.d (ap (λ q. q.d) manager_later.rest) (ap (λ q. q.d) client.rest) client_later.d met.d)
+    (turned known.e client.e (ap (λ q. q.e) client_later.rest) (ap (λ q. q.e) manager.rest) manager_later.e met.e)
+
+pub returns-clause-known : goal.returns-clause-known
+returns-clause-known c = (turns c).known
+
+pub returns-clause-fewer : goal.returns-clause-fewer
+returns-clause-fewer c =
+    let fewer = (turns c).fewer in
+    let pumped = c.pump.ensures.total in
+    let manager_pumped = c.pump-2.ensures.total in
+    let fetched = c.fetch.ensures.total in
+    let manager_fetched = c.fetch-2.ensures.total in
+    omega (arith, fewer, pumped, manager_pumped, fetched, manager_fetched)
+
+pub returns-clause-still : goal.returns-clause-still
+returns-clause-still c = λ none.
+    let pumped = c.pump.ensures.total in
+    let manager_pumped = c.pump-2.ensures.total in
+    let fetched = c.fetch.ensures.total in
+    let manager_fetched = c.fetch-2.ensures.total in
+    (turns c).still (omega (arith, none, pumped, manager_pumped, fetched, manager_fetched))

@@ -1,0 +1,112 @@
+//! The handle by which C holds the client's side of a bridge.
+ghost use Rattle.std.specs.Prelude.{◌≡◌, ◌≢◌, ◌↔◌, true, Option, Some, None, IfSome};
+ghost use Rattle.tl_c.specs.Handles.{holds_client, client_coded};
+ghost use Rattle.tl_c.specs.declared.held.ClientHeld.{ClientHeld};
+
+use crate::held::ClientHeld;
+use std::alloc::Global;
+use std::marker::Model;
+use std::mem::replace;
+use std::ptr::null_mut;
+use tl_c_beats::{Live, Parts};
+
+/// The right to a boxed side, or to nothing.
+#[repr(C)]
+#[derive(Drop)]
+pub struct OwnedClient {
+    ptr: *mut (),
+    alloc: Global,
+    pub ghost held: { Option ClientHeld } by { client_coded },
+}
+
+impl Model for OwnedClient {
+    ghost also_owns = { λ o. holds_client o.alloc o.ptr o.held };
+}
+
+impl OwnedClient {
+    fn nothing(alloc: Global) -> OwnedClient
+        ensures { result.held ≡ None }
+    {
+        OwnedClient {
+            ptr: null_mut(),
+            alloc,
+        }
+    }
+
+    fn of_parts(parts: Parts<ClientHeld, Global>) -> OwnedClient
+        ensures { result.held ≡ Some parts.value }
+    {
+        let Parts { ptr, alloc } = parts;
+        OwnedClient {
+            ptr: ptr as *mut (),
+            alloc,
+        }
+    }
+
+    fn into_parts(self) -> Parts<ClientHeld, Global>
+        requires { self.held ≢ None }
+        ensures { self.held ≡ Some result.value }
+    {
+        let OwnedClient { ptr, alloc } = self;
+        Parts {
+            ptr: ptr as *mut ClientHeld,
+            alloc,
+        }
+    }
+}
+
+/// A handle as C keeps it: a pointer, whether a side stands there, and the caller's number of the
+/// side's bridge. With all zero it holds none.
+#[repr(C)]
+#[derive(Drop)]
+pub struct ClientHandle {
+    pub owned: OwnedClient,
+    live: Live,
+    pub bridge: u64,
+    ghost tied: { (live.is ≡ true) ↔ (owned.held ≢ None) },
+}
+
+// C has this size from the header alone.
+const _: () = prove!(size_of::<ClientHandle>() == 24);
+
+impl ClientHandle {
+    /// Puts a side into the handle, which keeps its number.
+    pub fn put(&mut self, held: Box<ClientHeld>)
+        ensures held { self.new.owned.held ≡ Some held.value }
+        ensures number { self.new.bridge ≡ self.old.bridge }
+    {
+        *self = ClientHandle {
+            owned: OwnedClient::of_parts(Parts::of(held)),
+            live: Live::set(),
+            bridge: self.bridge,
+        };
+    }
+
+    /// Takes the side out of the handle, which holds none then, and keeps its number.
+    pub fn take(&mut self, alloc: Global) -> Option<Box<ClientHeld>>
+        ensures some { IfSome result (λ held. self.old.owned.held ≡ Some held.value) }
+        ensures none { result ≡ None → self.old.owned.held ≡ None }
+        ensures after { self.new.owned.held ≡ None }
+        ensures number { self.new.bridge ≡ self.old.bridge }
+    {
+        if !self.live.is {
+            return None;
+        }
+        let empty = ClientHandle {
+            owned: OwnedClient::nothing(alloc),
+            live: Live::unset(),
+            bridge: self.bridge,
+        };
+        let ClientHandle { owned, .. } = replace(self, empty);
+        Some(owned.into_parts().into_box())
+    }
+
+    /// Lets the side go, if the handle holds one: the handle is as one that held none before.
+    pub fn free(&mut self, alloc: Global)
+        ensures none { self.new.owned.held ≡ None }
+        ensures number { self.new.bridge ≡ 0 }
+    {
+        drop(self.take(alloc));
+        self.bridge = 0;
+    }
+}

@@ -1,0 +1,112 @@
+//! The handle by which C holds the manager's side of a bridge.
+ghost use Rattle.std.specs.Prelude.{◌≡◌, ◌≢◌, ◌↔◌, true, Option, Some, None, IfSome};
+ghost use Rattle.tl_c.specs.Handles.{holds_manager, manager_coded};
+ghost use Rattle.tl_c.specs.declared.held.ManagerHeld.{ManagerHeld};
+
+use crate::held::ManagerHeld;
+use std::alloc::Global;
+use std::marker::Model;
+use std::mem::replace;
+use std::ptr::null_mut;
+use tl_c_beats::{Live, Parts};
+
+/// The right to a boxed side, or to nothing.
+#[repr(C)]
+#[derive(Drop)]
+pub struct OwnedManager {
+    ptr: *mut (),
+    alloc: Global,
+    pub ghost held: { Option ManagerHeld } by { manager_coded },
+}
+
+impl Model for OwnedManager {
+    ghost also_owns = { λ o. holds_manager o.alloc o.ptr o.held };
+}
+
+impl OwnedManager {
+    fn nothing(alloc: Global) -> OwnedManager
+        ensures { result.held ≡ None }
+    {
+        OwnedManager {
+            ptr: null_mut(),
+            alloc,
+        }
+    }
+
+    fn of_parts(parts: Parts<ManagerHeld, Global>) -> OwnedManager
+        ensures { result.held ≡ Some parts.value }
+    {
+        let Parts { ptr, alloc } = parts;
+        OwnedManager {
+            ptr: ptr as *mut (),
+            alloc,
+        }
+    }
+
+    fn into_parts(self) -> Parts<ManagerHeld, Global>
+        requires { self.held ≢ None }
+        ensures { self.held ≡ Some result.value }
+    {
+        let OwnedManager { ptr, alloc } = self;
+        Parts {
+            ptr: ptr as *mut ManagerHeld,
+            alloc,
+        }
+    }
+}
+
+/// A handle as C keeps it: a pointer, whether a side stands there, and the caller's number of the
+/// side's bridge. With all zero it holds none.
+#[repr(C)]
+#[derive(Drop)]
+pub struct ManagerHandle {
+    pub owned: OwnedManager,
+    live: Live,
+    pub bridge: u64,
+    ghost tied: { (live.is ≡ true) ↔ (owned.held ≢ None) },
+}
+
+// C has this size from the header alone.
+const _: () = prove!(size_of::<ManagerHandle>() == 24);
+
+impl ManagerHandle {
+    /// Puts a side into the handle, which keeps its number.
+    pub fn put(&mut self, held: Box<ManagerHeld>)
+        ensures held { self.new.owned.held ≡ Some held.value }
+        ensures number { self.new.bridge ≡ self.old.bridge }
+    {
+        *self = ManagerHandle {
+            owned: OwnedManager::of_parts(Parts::of(held)),
+            live: Live::set(),
+            bridge: self.bridge,
+        };
+    }
+
+    /// Takes the side out of the handle, which holds none then, and keeps its number.
+    pub fn take(&mut self, alloc: Global) -> Option<Box<ManagerHeld>>
+        ensures some { IfSome result (λ held. self.old.owned.held ≡ Some held.value) }
+        ensures none { result ≡ None → self.old.owned.held ≡ None }
+        ensures after { self.new.owned.held ≡ None }
+        ensures number { self.new.bridge ≡ self.old.bridge }
+    {
+        if !self.live.is {
+            return None;
+        }
+        let empty = ManagerHandle {
+            owned: OwnedManager::nothing(alloc),
+            live: Live::unset(),
+            bridge: self.bridge,
+        };
+        let ManagerHandle { owned, .. } = replace(self, empty);
+        Some(owned.into_parts().into_box())
+    }
+
+    /// Lets the side go, if the handle holds one: the handle is as one that held none before.
+    pub fn free(&mut self, alloc: Global)
+        ensures none { self.new.owned.held ≡ None }
+        ensures number { self.new.bridge ≡ 0 }
+    {
+        drop(self.take(alloc));
+        self.bridge = 0;
+    }
+}

@@ -1,4 +1,0 @@
-mod AsOwners
-mod BothWidths
-mod Counting
-mod Taking

@@ -1,9 +1,0 @@
--- Something is held, so the parts have what the owner had.
-use Rattle.tl_c_beats.proofs.Owners.{into_parts_meets}
-use Rattle.tl_c_sides.proofs.AsOwners.{client}
-use Rattle.tl_c_sides.specs.contracts.client_handle.OwnedClient.into_parts.Key.{name}
-use Rattle.tl_c_sides.proofs.client_handle.OwnedClient.into_parts.Statement.{statement}
-use Rattle.tl_c_sides.proofs.client_handle.OwnedClient.into_parts.Code as code
-
-pub into_parts_spec : {M : Type 1} → statement M
-into_parts_spec 𝓤 𝓛 𝓜 𝓡 wired = into_parts_meets client 𝓛 𝓜 𝓡 name (code.unfolded 𝓤 𝓛.H 𝓜 𝓡 wired)

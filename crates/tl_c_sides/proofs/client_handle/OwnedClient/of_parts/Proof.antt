@@ -1,9 +1,0 @@
--- The owner has what the parts had.
-use Rattle.tl_c_beats.proofs.Owners.{of_parts_meets}
-use Rattle.tl_c_sides.proofs.AsOwners.{client}
-use Rattle.tl_c_sides.specs.contracts.client_handle.OwnedClient.of_parts.Key.{name}
-use Rattle.tl_c_sides.proofs.client_handle.OwnedClient.of_parts.Statement.{statement}
-use Rattle.tl_c_sides.proofs.client_handle.OwnedClient.of_parts.Code as code
-
-pub of_parts_spec : {M : Type 1} → statement M
-of_parts_spec 𝓤 𝓛 𝓜 𝓡 wired = of_parts_meets client 𝓛 𝓜 𝓡 name (code.unfolded 𝓤 𝓛.H 𝓜 𝓡 wired)

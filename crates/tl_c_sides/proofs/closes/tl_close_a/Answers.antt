@@ -1,7 +1,0 @@
-use Rattle.std.proofs.Common.{rules}
-use Rattle.tl_c_beats.proofs.Closing.{closes}
-use Rattle.tl_c_sides.proofs.closes.tl_close_a.Goals as goal
-
-pub returns-clause-close : goal.returns-clause-close
-returns-clause-close c = closes (λ b. record { side = b }) {b = c.deref_mut.result.now.side} {k = c.close_a.new.self} (search rules) (search rules)
-    c.close_a.result c.close_number.ensures c.close_a.ensures.between c.close_a.ensures.stands c.close_a.ensures.refused

@@ -1,7 +1,0 @@
-use Rattle.std.proofs.Common.{rules}
-use Rattle.tl_c_beats.proofs.Closing.{closes}
-use Rattle.tl_c_sides.proofs.closes.tl_close_c.Goals as goal
-
-pub returns-clause-close : goal.returns-clause-close
-returns-clause-close c = closes (λ b. record { side = b }) {b = c.deref_mut.result.now.side} {k = c.close_c.new.self} (search rules) (search rules)
-    c.close_c.result c.close_number.ensures c.close_c.ensures.between c.close_c.ensures.stands c.close_c.ensures.refused

@@ -1,9 +1,0 @@
--- A null pointer owns nothing.
-use Rattle.tl_c_beats.proofs.Owners.{nothing_meets}
-use Rattle.tl_c_sides.proofs.AsOwners.{manager}
-use Rattle.tl_c_sides.specs.contracts.manager_handle.OwnedManager.nothing.Key.{name}
-use Rattle.tl_c_sides.proofs.manager_handle.OwnedManager.nothing.Statement.{statement}
-use Rattle.tl_c_sides.proofs.manager_handle.OwnedManager.nothing.Code as code
-
-pub nothing_spec : {M : Type 1} → statement M
-nothing_spec 𝓤 𝓛 𝓜 𝓡 wired = nothing_meets manager 𝓛 𝓜 𝓡 name (code.unfolded 𝓤 𝓛.H 𝓜 𝓡 wired)

@@ -1,2 +1,0 @@
-pub mod Handles
-pub mod Calls
