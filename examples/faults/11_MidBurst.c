@@ -8,23 +8,27 @@
 TLBRIDGE(8, 4)
 
 int main(void) {
-    tl_8_4_handle bridge = {0};
-    if (tl_8_4_open(&bridge, 16) != TL_OK) return 1;
-    tl_beat put = {.opcode = 0, .size = 4, .source = 7, .address = 0x80, .mask = 0xff};
+    tl_8_4_client client = {0};
+    tl_8_4_manager manager = {0};
+    if (tl_8_4_open(&client, &manager, 16, 0) != TL_OK) return 1;
+    tl_beat put = {.address = 0x80, .mask = 0xff, .source = 7, .opcode = 0, .size = 4};
     uint8_t lanes[8] = {0, 1, 2, 3, 4, 5, 6, 7}, far[4];
     tl_beat got;
+    tl_standings waiting;
     for (int beat = 1; beat <= 2; beat++) {
-        if (tl_8_4_offer_a(&bridge, &put, lanes) != TL_OK) return 1;
-        uint8_t name[TL_NAME_BYTES], fault = tl_8_4_close_a(&bridge);
+        if (tl_8_4_offer_a(&client, &put, lanes) != TL_OK) return 1;
+        tl_text text;
+        uint8_t fault = tl_8_4_close_a(&client);
         if (fault == TL_OK) {
             printf("closed after beat %d of 2\n", beat);
         } else {
-            tl_8_4_answer_name(fault, name);
-            printf("not closed after beat %d of 2: %d %s: the burst has beats left\n", beat, fault, name);
+            tl_8_4_answer_text(fault, &text);
+            printf("not closed after beat %d of 2: %d %s: the burst has beats left\n", beat, fault, text.name);
         }
-        while (tl_8_4_pump(&bridge) + tl_8_4_fetch(&bridge) > 0) {}
-        while (tl_8_4_take_a(&bridge, &got, far)) {}
+        if (tl_8_4_settle(&client, &manager, &waiting) != TL_OK) return 1;
+        while (tl_8_4_take_a(&manager, &got, far)) {}
     }
-    tl_8_4_free(&bridge);
+    tl_8_4_free_client(&client);
+    tl_8_4_free_manager(&manager);
     return 0;
 }

@@ -2,12 +2,12 @@
 ghost use Rattle.std.specs.Prelude.{◌≡◌, true};
 ghost use Rattle.tl_lanes.specs.Lanes.{IsWidth};
 
-use crate::seen::{Told, seen_of};
 use crate::story::Story;
 use arrayvec::ArrayVec;
 use tl_convert::Converter;
 use tl_lanes::{WIDEST, is_width};
 use tl_msg::{Beat, Channel, Verdict};
+use tl_remarks::{Told, seen_of};
 use tl_trace::line_of;
 
 /// Whether both are widths.

@@ -10,6 +10,7 @@ ghost use Rattle.tl_answer.specs.declared.fault.TextFault.TheVariants.{OutOfMemo
 ghost use Rattle.tl_explain.specs.Explained.{IsExplanation};
 
 use crate::channel::tell;
+use crate::held::{held_of, waiting_source};
 use crate::look::Look;
 use crate::story::Story;
 use arrayvec::ArrayVec;
@@ -19,6 +20,7 @@ use tl_check::verdicts_of;
 use tl_convert::Converter;
 use tl_lanes::WIDEST;
 use tl_msg::{Beat, ChA, ChB, ChC, ChD, ChE, Verdict};
+use tl_remarks::remarks_of;
 use tl_trace::{Script, TraceFault, TraceKind, header_of_text, read_script};
 
 /// What came of each line of a text, and whether all five channels are done.
@@ -56,6 +58,42 @@ fn tell_all<const C: usize, const M: usize>(
     tell::<ChE, C, 1>(story, b'E', e, &script.e, &mut way_e, &mut far_e);
 }
 
+/// Notes what the beats wait for that wait on A and on D.
+fn note_held<const C: usize, const M: usize>(
+    story: &mut Story,
+    script: &Script<C, M>,
+    verdicts: &[Verdict; 5],
+)
+    requires { IsWidth C × IsWidth M }
+{
+    let [on_a, _, _, on_d, _] = verdicts;
+    let busy = waiting_source::<ChA, C>(on_a, &script.a);
+    let missing = waiting_source::<ChD, M>(on_d, &script.d);
+    let letters = story.letters.as_slice();
+    story.requests.held_response = held_of::<ChD, M>(letters, b'D', on_d, &script.d, busy);
+    story.requests.held_request = held_of::<ChA, C>(letters, b'A', on_a, &script.a, missing);
+}
+
+/// Tells the story of a script, and gives what is said of its lines.
+fn tell_script<const C: usize, const M: usize>(
+    alloc: Global,
+    story: &mut Story,
+    script: &Script<C, M>,
+    verdicts: &[Verdict; 5],
+    look: &Look,
+) -> Result<Vec<u8>, AllocError>
+    requires { IsWidth C × IsWidth M }
+{
+    note_held::<C, M>(story, script, verdicts);
+    tell_all::<C, M>(story, script, verdicts);
+    let remarks = if look.remarks {
+        remarks_of::<C, M>(alloc, &story.letters, script, verdicts)?
+    } else {
+        Vec::new(alloc)
+    };
+    story.in_order(alloc, look, &remarks)
+}
+
 /// What came of each line from line 2 on, in sentences.
 fn sentences_of<const C: usize, const M: usize>(
     alloc: Global,
@@ -68,8 +106,9 @@ fn sentences_of<const C: usize, const M: usize>(
     requires { IsWidth C × IsWidth M }
 {
     let mut story = Story::new(alloc, text, version, look)?;
-    tell_all::<C, M>(&mut story, script, verdicts);
-    story.in_order(alloc)
+    let said = tell_script::<C, M>(alloc, &mut story, script, verdicts, look);
+    drop(story);
+    said
 }
 
 /// The explanation that has these sentences, of a text whose channels end with these verdicts, from A

@@ -2,9 +2,10 @@
 use crate::lane_list::{lanes_of, put_lanes};
 use crate::page::Page;
 use crate::page::Piece::{self, Address, Length, Letter, Number, Text};
-use crate::seen::Seen;
 use crate::walk::Walk;
+use crate::words::{name_of, sink_of, source_of};
 use tl_msg::{BeatFault, Kind};
+use tl_remarks::Seen;
 
 /// What is wrong with the opcode.
 fn opcode_fault(letter: char) -> &'static str {
@@ -21,12 +22,12 @@ fn put_param(out: &mut Page, beat: &Seen) {
     match beat.kind.map_or(0, Kind::params) {
         0 | 1 => out.say(
             "the param is #, but # has only the param 0",
-            &[param, beat.name()],
+            &[param, name_of(beat)],
         ),
         params => {
             let most = Number((params - 1) as u64);
             let rule = "the param is #, but # has only the params 0 to #";
-            out.say(rule, &[param, beat.name(), most]);
+            out.say(rule, &[param, name_of(beat), most]);
         }
     }
 }
@@ -66,11 +67,11 @@ fn change(beat: &Seen, first: &Seen) -> (&'static str, Piece<'static>, Piece<'st
         let was = Number(first.size as u64);
         ("the size", Number(beat.size as u64), was)
     } else if beat.source != first.source {
-        ("the source", beat.source(), first.source())
+        ("the source", source_of(beat), source_of(first))
     } else if beat.address != first.address {
         ("the address", Address(beat.address), Address(first.address))
     } else if beat.sink != first.sink {
-        ("the sink", beat.sink(), first.sink())
+        ("the sink", sink_of(beat), sink_of(first))
     } else {
         let was = Number(first.denied as u64);
         ("denied", Number(beat.denied as u64), was)
@@ -96,7 +97,7 @@ pub fn put_beat_fault(out: &mut Page, beat: &Seen, fault: BeatFault, walk: &Walk
         BeatFault::Mask => put_mask(out, beat, walk.w),
         BeatFault::Corrupt => out.say(
             "corrupt is 1, but # carries no data, so it has to be 0",
-            &[beat.name()],
+            &[name_of(beat)],
         ),
         BeatFault::HeadChanged => {
             let (field, is, was) = change(beat, &walk.first);

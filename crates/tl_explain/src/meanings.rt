@@ -27,7 +27,7 @@ pub const FAULTS: [&str; 23] = [
     "18 Range        a field has a value that it cannot have, as an opcode of 8\n",
     "19 NoEnd        the last line does not end with a newline (LF)\n",
     "20 Stalled      the two sides stopped moving beats; it is proved that no run does\n",
-    "21 Read         standard input could not be read\n",
+    "21 Read         the trace could not be read\n",
     "22 Write        standard output could not be written\n",
     "23 TooLong      the trace has more than 67108864 bytes (64 MiB)\n",
 ];

@@ -2,8 +2,8 @@
 use crate::lane_list::{has_lane, lanes_of};
 use crate::page::Piece::{Byte, Column, Text};
 use crate::page::{Page, Piece};
-use crate::seen::Seen;
 use tl_lanes::{Mask, WIDEST};
+use tl_remarks::Seen;
 
 /// How many lanes stand in a row.
 const ROW: usize = 16;

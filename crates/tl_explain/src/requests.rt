@@ -1,9 +1,13 @@
 //! The requests that A sent, and which of them were answered.
+use crate::held::Held;
 use std::alloc::{AllocError, Global};
 use tl_msg::SourceId;
 
 /// How many sources there are, by the bits of a [`SourceId`].
 const SOURCES: usize = 1 << SourceId::BITS;
+
+/// The place of no request.
+const NONE: usize = usize::MAX;
 
 /// A request: a message of A that was accepted.
 #[derive(Clone, Copy)]
@@ -16,55 +20,102 @@ pub struct Request {
     pub line: u64,
 }
 
-/// The requests in the order of A, and for each source where the search for its next one begins.
+/// A request in the order of A.
+#[derive(Clone, Copy)]
+struct Sent {
+    request: Request,
+    /// Where the next one of its source stands.
+    next: usize,
+    is_answered: bool,
+}
+
+/// The requests in the order of A, and for each source where its first one without an answer stands,
+/// and its last one.
 #[derive(Drop)]
 pub struct Requests {
-    sent: Vec<Request>,
-    next: Vec<usize>,
+    sent: Vec<Sent>,
+    open: Vec<usize>,
+    last: Vec<usize>,
+    /// The request that the beat waits for that waits on D, where A did not accept it.
+    pub held_request: Option<Held>,
+    /// The response that the beat waits for that waits on A, where D did not accept it.
+    pub held_response: Option<Held>,
+}
+
+/// What a table has for this source.
+fn place(table: &[usize], source: SourceId) -> usize {
+    table.get(source as usize).copied().unwrap_or(NONE)
+}
+
+/// Puts this into a table for this source.
+fn set_place(table: &mut [usize], source: SourceId, at: usize) {
+    if let Some(place) = table.get_mut(source as usize) {
+        *place = at;
+    }
 }
 
 impl Requests {
-    /// No request. The table of all sources takes its memory here.
+    /// No request. The tables of all sources take their memory here.
     pub fn new(alloc: Global) -> Result<Requests, AllocError> {
-        let next = vec![in alloc; 0usize; SOURCES]?;
+        let open = vec![in alloc; NONE; SOURCES]?;
+        let last = vec![in alloc; NONE; SOURCES]?;
         let sent = Vec::new(alloc);
-        Ok(Requests { sent, next })
+        Ok(Requests {
+            sent,
+            open,
+            last,
+            held_request: None,
+            held_response: None,
+        })
     }
 
     /// Adds one more request, and says whether there was memory for it.
     pub fn push(&mut self, request: Request) -> bool {
-        self.sent.push(request).is_ok()
-    }
-
-    /// Where the first request of this source stands that no response has answered.
-    fn place(&self, source: SourceId) -> Option<usize> {
-        let start = *self.next.get(source as usize)?;
-        for at in start..self.sent.len() {
-            if self.sent[at].source == source {
-                return Some(at);
-            }
+        let (at, source) = (self.sent.len(), request.source);
+        let sent = Sent {
+            request,
+            next: NONE,
+            is_answered: false,
+        };
+        if self.sent.push(sent).is_err() {
+            return false;
         }
-        None
+        if let Some(last) = self.sent.get_mut(place(&self.last, source)) {
+            last.next = at;
+        }
+        if place(&self.open, source) == NONE {
+            set_place(&mut self.open, source, at);
+        }
+        set_place(&mut self.last, source, at);
+        true
     }
 
     /// The first request of this source that no response has answered.
     pub fn open(&self, source: SourceId) -> Option<Request> {
-        let at = self.place(source)?;
-        self.sent.get(at).copied()
+        let sent = self.sent.get(place(&self.open, source))?;
+        Some(sent.request)
     }
 
     /// The same, which is answered from now on.
     pub fn answer(&mut self, source: SourceId) -> Option<Request> {
-        let at = self.place(source)?;
-        *self.next.get_mut(source as usize)? = at.saturating_add(1);
-        self.sent.get(at).copied()
+        let sent = self.sent.get_mut(place(&self.open, source))?;
+        sent.is_answered = true;
+        let (request, next) = (sent.request, sent.next);
+        set_place(&mut self.open, source, next);
+        Some(request)
     }
 
     /// The last request of this source.
     pub fn last(&self, source: SourceId) -> Option<Request> {
-        for request in self.sent.iter().rev() {
-            if request.source == source {
-                return Some(*request);
+        let sent = self.sent.get(place(&self.last, source))?;
+        Some(sent.request)
+    }
+
+    /// The first request of any source that no response has answered.
+    pub fn first_open(&self) -> Option<Request> {
+        for sent in &self.sent {
+            if !sent.is_answered {
+                return Some(sent.request);
             }
         }
         None

@@ -1,38 +1,67 @@
 //! What came of one line, in a sentence.
 use crate::fate::{Fate, fate_at};
 use crate::faults::put_beat_fault;
-use crate::page::Piece::{Coloured, Length, Number, Text};
+use crate::held::{REFUSED, WAITS};
+use crate::page::Piece::{Coloured, Id, Length, Number, Text};
 use crate::page::{Colour, Page, Piece};
 use crate::requests::{Request, Requests};
-use crate::seen::Seen;
-use crate::story::Story;
+use crate::story::{Fares, Story};
 use crate::walk::{Brought, Walk};
+use crate::words::{put_beat, source_of};
 use tl_msg::SideFault;
+use tl_remarks::Seen;
 
-/// Writes why a beat of A waits: its source is busy with this request.
-fn put_busy(out: &mut Page, beat: &Seen, request: Option<Request>) {
+/// Writes why a beat of A waits: its source is busy with its last request.
+fn put_busy(out: &mut Page, beat: &Seen, requests: &Requests) {
     out.say(
         "source # still waits for the response to its ",
-        &[beat.source()],
+        &[source_of(beat)],
     );
-    match request {
+    match requests.last(beat.source) {
         Some(request) => out.say("request in line #", &[Number(request.line)]),
         None => out.put(Text("last request")),
     }
-    out.put(Text(": answer it on D, or use another source"));
+    match requests.held_response {
+        Some(response) => {
+            out.put(Text(": its response in line "));
+            response.put(out);
+        }
+        None => out.put(Text(": answer it on D, or use another source")),
+    }
+}
+
+/// Writes that no request has the source of a beat of D, and the first request that waits.
+fn put_none_sent(out: &mut Page, beat: &Seen, first_open: Option<Request>) {
+    out.put(Text(": send one on A, or mend the source"));
+    if let Some(request) = first_open {
+        let waits = "; the first request that waits is of source #, in line #";
+        let source = Id(request.source, beat.version);
+        out.say(waits, &[source, Number(request.line)]);
+    }
 }
 
 /// Writes why a beat of D waits: no request of its source has arrived that it could answer.
-fn put_no_request(out: &mut Page, beat: &Seen, open: Option<Request>) {
-    match open {
-        Some(request) => out.say(
+fn put_no_request(out: &mut Page, beat: &Seen, requests: &Requests) {
+    if let Some(request) = requests.open(beat.source) {
+        return out.say(
             "the request of source # in line # has not arrived: bytes of its first far beat are missing",
-            &[beat.source(), Number(request.line)],
+            &[source_of(beat), Number(request.line)],
+        );
+    }
+    out.say(
+        "no request of source # waits for a response",
+        &[source_of(beat)],
+    );
+    match (requests.held_request, requests.last(beat.source)) {
+        (Some(held), _) => {
+            out.put(Text(": that in line "));
+            held.put(out);
+        }
+        (None, Some(last)) => out.say(
+            ": its last one, in line #, is answered",
+            &[Number(last.line)],
         ),
-        None => out.say(
-            "no request of source # waits for a response: send one on A, or mend the source",
-            &[beat.source()],
-        ),
+        (None, None) => put_none_sent(out, beat, requests.first_open()),
     }
 }
 
@@ -56,8 +85,8 @@ fn put_fault(out: &mut Page, beat: &Seen, fault: SideFault, walk: &Walk, request
     );
     match fault {
         SideFault::Beat(fault) => put_beat_fault(out, beat, fault, walk),
-        SideFault::SourceBusy => put_busy(out, beat, requests.last(beat.source)),
-        SideFault::NoRequest => put_no_request(out, beat, requests.open(beat.source)),
+        SideFault::SourceBusy => put_busy(out, beat, requests),
+        SideFault::NoRequest => put_no_request(out, beat, requests),
         SideFault::SizeMismatch => put_mismatch(out, beat, requests.open(beat.source)),
     }
 }
@@ -70,7 +99,8 @@ fn put_place(out: &mut Page, brought: &Brought) {
     }
 }
 
-/// Writes which far beats an accepted beat completed, or how much of the next one is there.
+/// Writes which far beats an accepted beat completed, counted from 1, or how much of the next one is
+/// there.
 fn put_brought(out: &mut Page, brought: &Brought) {
     let (from, to) = (brought.from as u64, brought.to as u64);
     match to.saturating_sub(from) {
@@ -78,13 +108,13 @@ fn put_brought(out: &mut Page, brought: &Brought) {
             let (staged, whole) = (brought.staged as u64, brought.whole as u64);
             out.say(
                 ", staged: far beat # has # of its # bytes",
-                &[Number(to), Number(staged), Number(whole)],
+                &[Number(to.saturating_add(1)), Number(staged), Number(whole)],
             );
         }
-        1 => out.say(", far beat #", &[Number(from)]),
+        1 => out.say(", far beat #", &[Number(to)]),
         _ => out.say(
             ", far beats # to #",
-            &[Number(from), Number(to.saturating_sub(1))],
+            &[Number(from.saturating_add(1)), Number(to)],
         ),
     }
 }
@@ -136,17 +166,18 @@ impl Story {
         match fate {
             Fate::Accepted => self.put_accepted(beat),
             Fate::Refused(fault) => {
-                self.walk.stop(" was refused");
+                self.stop(REFUSED);
                 self.put_held(beat, fault, Coloured(Colour::Red, "refused"));
             }
             Fate::Waiting(fault) => {
-                self.walk.stop(" waits");
+                self.stop(WAITS);
                 self.put_held(beat, fault, Coloured(Colour::Yellow, "waiting"));
             }
             Fate::NotOffered => {
-                let (line, how) = (self.walk.stop_line, self.walk.stop);
-                let pieces = [Number(line), Text(how)];
-                self.page.say(": not offered, since line ##", &pieces);
+                self.note(Fares::NotOffered);
+                let stop = self.stops.last().copied().unwrap_or_default();
+                self.page.put(Text(": not offered, since "));
+                stop.put(&mut self.page);
             }
         }
         matches!(fate, Fate::Accepted)
@@ -154,9 +185,9 @@ impl Story {
 
     /// Writes what came of the next near beat, in a line, and says whether it was accepted.
     pub fn put_line(&mut self, beat: &Seen) -> bool {
-        let line = self.walk.line();
+        let line = self.walk.cursor.line();
         self.page.say("line #: ", &[Number(line)]);
-        beat.put(&mut self.page);
+        put_beat(&mut self.page, beat);
         let accepted = self.put_fate(beat);
         self.page.put(Text("\n"));
         accepted

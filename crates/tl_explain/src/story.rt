@@ -1,33 +1,46 @@
 //! What is said of the lines of a text.
+use crate::held::Stop;
 use crate::look::Look;
 use crate::page::Page;
 use crate::page::Piece::{Letter, Number, Text};
 use crate::picture::put_picture;
 use crate::requests::Requests;
-use crate::seen::Seen;
 use crate::walk::Walk;
 use std::alloc::{AllocError, Global};
-use tl_msg::Verdict;
+use tl_msg::{SourceId, Verdict};
+use tl_remarks::{Seen, letters_of};
 
-/// As many bytes as the answer of a check has, or more.
-const ANSWER_ROOM: usize = 512;
+/// How the beat of a line fares.
+#[derive(Clone, Copy, PartialEq, Eq)]
+pub enum Fares {
+    Accepted,
+    /// Its channel stopped at it: it was refused, or waits.
+    Stopped,
+    /// Its channel stopped before it.
+    NotOffered,
+}
 
-/// A line of a text: the letter that it begins with, and where on the page stands what is said of it.
+/// A line of a text: the source of its beat, how that one fares, and where on the page stands what is
+/// said of it.
 #[derive(Clone, Copy)]
 pub struct SaidLine {
-    pub letter: u8,
-    from: usize,
-    to: usize,
+    pub source: SourceId,
+    pub fares: Fares,
+    pub from: usize,
+    pub to: usize,
 }
 
 /// What is said of the lines of a text, told channel by channel.
 #[derive(Drop)]
 pub struct Story {
-    /// The lines from line 2 on.
-    lines: Vec<SaidLine>,
+    /// The lines from line 2 on, and the letters that they begin with.
+    pub lines: Vec<SaidLine>,
+    pub letters: Vec<u8>,
     /// What is said of them, and what is said behind the last one.
     pub page: Page,
-    cuts: Page,
+    pub cuts: Page,
+    /// Where channels stopped.
+    pub stops: Vec<Stop>,
     /// The requests that A sent.
     pub requests: Requests,
     /// The version of the trace.
@@ -40,32 +53,26 @@ pub struct Story {
     pub walk: Walk,
 }
 
-/// The lines of a text from line 2 on, of which nothing is said yet.
-fn lines_of(alloc: Global, text: &[u8]) -> Result<Vec<SaidLine>, AllocError> {
-    let mut lines = Vec::new(alloc);
-    let mut begins = false;
-    for byte in text {
-        if begins {
-            lines.push(SaidLine {
-                letter: *byte,
-                from: 0,
-                to: 0,
-            })?;
-        }
-        begins = *byte == b'\n';
-    }
-    Ok(lines)
-}
+/// A line of which nothing is said yet.
+const UNSAID: SaidLine = SaidLine {
+    source: 0,
+    fares: Fares::Accepted,
+    from: 0,
+    to: 0,
+};
 
 impl Story {
     /// That of a text of this version, in which nothing is said yet.
     pub fn new(alloc: Global, text: &[u8], version: u8, look: &Look) -> Result<Story, AllocError> {
-        let lines = lines_of(alloc, text)?;
+        let letters = letters_of(alloc, text)?;
+        let lines = vec![in alloc; UNSAID; letters.len()]?;
         let requests = Requests::new(alloc)?;
         Ok(Story {
             lines,
+            letters,
             page: Page::new(alloc, look.colour),
             cuts: Page::new(alloc, false),
+            stops: Vec::new(alloc),
             requests,
             version,
             has_lanes: look.lanes,
@@ -91,9 +98,10 @@ impl Story {
     /// whether it was accepted.
     pub fn put_near(&mut self, beat: &Seen, lanes: &[u8]) -> bool {
         let from = self.page.len();
-        self.walk.seek(&self.lines, self.letter);
-        if let Some(line) = self.lines.get_mut(self.walk.lines.wrapping_sub(1)) {
+        self.walk.cursor.seek(&self.letters, self.letter);
+        if let Some(line) = self.lines.get_mut(self.walk.cursor.place()) {
             line.from = from;
+            line.source = beat.source;
         }
         let accepted = self.put_line(beat);
         if self.has_lanes && (accepted || beat.letter != 'D') {
@@ -105,6 +113,24 @@ impl Story {
             put_picture(&mut self.page, "near", beat, lanes, home);
         }
         accepted
+    }
+
+    /// Notes how the next near beat fares.
+    pub fn note(&mut self, fares: Fares) {
+        if let Some(line) = self.lines.get_mut(self.walk.cursor.place()) {
+            line.fares = fares;
+        }
+    }
+
+    /// Notes that the channel stops at the next near beat, which fares so.
+    pub fn stop(&mut self, how: &'static str) {
+        let stop = Stop {
+            letter: self.letter,
+            line: self.walk.cursor.line(),
+            how,
+        };
+        self.page.lacks_a_piece |= self.stops.push(stop).is_err();
+        self.note(Fares::Stopped);
     }
 
     /// Writes a far beat that the last near beat completed: this line, and where it is asked for the
@@ -120,7 +146,7 @@ impl Story {
     /// Notes that all is said of the line of the next near beat, and goes on by it.
     pub fn end_line(&mut self) {
         let to = self.page.len();
-        if let Some(line) = self.lines.get_mut(self.walk.lines.wrapping_sub(1)) {
+        if let Some(line) = self.lines.get_mut(self.walk.cursor.place()) {
             line.to = to;
         }
         self.walk.near = self.walk.near.saturating_add(1);
@@ -141,18 +167,5 @@ impl Story {
                 ],
             );
         }
-    }
-
-    /// What is said of the lines, in their order, and then what is said of all channels, with room for
-    /// the answer of a check behind it.
-    pub fn in_order(&self, alloc: Global) -> Result<Vec<u8>, AllocError> {
-        let (said, cuts) = (self.page.len(), self.cuts.len());
-        let mut out = Page::new(alloc, false);
-        out.reserve(said.saturating_add(cuts).saturating_add(ANSWER_ROOM));
-        for line in &self.lines {
-            out.put_part(&self.page, line.from, line.to);
-        }
-        out.put_part(&self.cuts, 0, cuts);
-        Ok(out.into_text()?.into_bytes())
     }
 }

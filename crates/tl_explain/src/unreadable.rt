@@ -1,15 +1,17 @@
 //! A text that is no trace: its first faulty line, the place of the fault, and what was expected.
 ghost use Rattle.tl_lanes.specs.Lanes.{IsWidth};
 
+use crate::likeness::put_length;
 use crate::page::Page;
 use crate::page::Piece::{Letter, Number, Text};
+use crate::places::{put_expected, put_field, put_found, put_no_channel, put_no_header};
 use arrayvec::ArrayVec;
 use std::alloc::{AllocError, Global};
 use tl_answer::at_width;
 use tl_lanes::WIDEST_POWER;
 use tl_msg::{ChA, ChB, ChC, ChD, ChE};
 use tl_trace::{
-    Header, LONGEST_LINE, TraceFault, TraceKind, header_of_text, id_digits, line_end, line_of, read,
+    Header, LONGEST_LINE, TraceFault, TraceKind, header_of_text, line_end, line_of, read,
 };
 
 /// How many bytes of a line are shown: as many as a line of a trace can have, so that the place of a
@@ -114,24 +116,6 @@ impl Trial {
     }
 }
 
-/// Writes that the line has another length than its form, and where it has the length of the other
-/// version, in which ids have other digits, that too.
-fn put_lengths(out: &mut Page, line: &[u8], form: &[u8], header: &Header) {
-    out.say(
-        "the line has # characters and has to have #, in the form below the mark",
-        &[Number(line.len() as u64), Number(form.len() as u64)],
-    );
-    let version = if header.version == 1 { 2 } else { 1 };
-    let letter = line.first().copied().unwrap_or(0);
-    let other = form_of(letter, &Header { version, ..*header });
-    if line_in(&other).len() == line.len() {
-        out.say(
-            "; it is as long as in version #, where an id has # digits",
-            &[Number(version as u64), Number(id_digits(version) as u64)],
-        );
-    }
-}
-
 /// A form without its LF.
 fn line_in(form: &ArrayVec<u8, LONGEST_LINE>) -> &[u8] {
     form.as_slice().trim_ascii_end()
@@ -200,11 +184,12 @@ fn put_formless(
             Ok(line.len())
         }
         TraceKind::Channel => {
-            out.put(Text("expected a channel's letter, A to E"));
+            put_no_channel(out, line);
             Ok(0)
         }
         _ => {
             out.put(Text(HEADER));
+            put_no_header(out, line);
             header_place(alloc, line)
         }
     }
@@ -223,20 +208,15 @@ fn put_formed(
     let mut trial = Trial::new(alloc, line_at(text, 1), whole)?;
     let at = trial.bad_place(alloc, line, form.len());
     match kind {
-        TraceKind::Length => {
-            if let Some(header) = header_of_text(text) {
-                put_lengths(out, line, form, &header);
-            }
-        }
+        TraceKind::Length => put_length(out, alloc, text, line, form, at)?,
         TraceKind::Range => {
             let largest = trial.largest_digit(alloc, at);
             out.say("expected a digit from 0 to #", &[Letter(largest as char)]);
+            put_field(out, form, at);
+            put_found(out, line, at);
         }
         TraceKind::NoEnd => out.put(Text(NO_END)),
-        _ => out.put(Text(match form.get(at) {
-            Some(b' ') => "expected a space",
-            _ => "expected a digit, 0 to 9 or a to f",
-        })),
+        _ => put_expected(out, line, form, at),
     }
     Ok(at)
 }

@@ -1,9 +1,8 @@
 //! How far the lines of one channel have come.
 ghost use Rattle.std.specs.Prelude.{◌≤◌};
 
-use crate::seen::Seen;
-use crate::story::SaidLine;
 use tl_lanes::MAX_SIZE;
+use tl_remarks::{Cursor, Seen};
 
 /// How far the lines of one channel have come.
 #[derive(Clone, Copy, Default)]
@@ -11,8 +10,8 @@ pub struct Walk {
     /// The bytes of the bus that the near beats stand on, and of that of the far beats.
     pub w: usize,
     pub v: usize,
-    /// The lines up to that of the next near beat, but the header's.
-    pub lines: usize,
+    /// The line of the next near beat.
+    pub cursor: Cursor,
     /// The near beats before it.
     pub near: u64,
     /// The far beats that are whole.
@@ -30,9 +29,6 @@ pub struct Walk {
     /// The address by which the bytes of that message stand on lanes: its own, and on D that of the
     /// request that it answers.
     pub home: u64,
-    /// The line of the beat that was not accepted, and how it fares.
-    pub stop_line: u64,
-    pub stop: &'static str,
 }
 
 /// What an accepted beat brought.
@@ -50,32 +46,11 @@ pub struct Brought {
 }
 
 impl Walk {
-    /// Goes on to the next line with this letter. The lines are those from line 2 on.
-    pub fn seek(&mut self, lines: &[SaidLine], letter: u8) {
-        for at in self.lines..lines.len() {
-            if lines[at].letter == letter {
-                self.lines = at + 1;
-                return;
-            }
-        }
-    }
-
-    /// The line of the next near beat.
-    pub fn line(&self) -> u64 {
-        (self.lines as u64).saturating_add(1)
-    }
-
-    /// Stops at the next near beat, which fares so.
-    pub fn stop(&mut self, how: &'static str) {
-        self.stop_line = self.line();
-        self.stop = how;
-    }
-
     /// Goes on by the next near beat, which was accepted.
     pub fn accept(&mut self, beat: &Seen) -> Brought {
         if self.index == 0 {
             self.first = *beat;
-            self.first_line = self.line();
+            self.first_line = self.cursor.line();
             self.home = beat.address;
         }
         let (near, whole, count) = bytes(beat, self.w, self.v);
@@ -108,5 +83,5 @@ fn bytes(beat: &Seen, w: usize, v: usize) -> (usize, usize, usize)
     let length = 1usize << beat.size;
     let near = length.min(w).max(1);
     let far = length.min(v).max(1);
-    (near, far, length / near)
+    (near, far, beat.beats(w))
 }

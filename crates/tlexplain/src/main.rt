@@ -1,11 +1,12 @@
-//! The program: what came of each line of a TileLink trace. It decides nothing by itself but whether
-//! to use colours: what is said, and how the program ends, is in the libraries that it calls.
+//! The program: what came of each line of a TileLink trace. It decides nothing by itself but which file
+//! to read and whether to use colours: what is said, and how the program ends, is in the libraries that it calls.
 #![tactic(auto)]
 
 mod words;
 
 use clap::Error;
 use std::alloc::AllocError;
+use std::fs::File;
 use std::io::{self, IsTerminal};
 use std::process::ExitCode;
 use tl_answer::{FaultLine, TextFault, exit_status};
@@ -15,8 +16,8 @@ use words::{Wish, not_utf8, wish_of};
 /// The program's name, as its lines on standard error begin with it.
 const PROGRAM: &str = "tlexplain";
 
-/// What the command line asks for.
-fn wish_from(rt: &HostRuntime) -> Result<Wish, Error> {
+/// The words of the command line.
+fn words_from(rt: &HostRuntime) -> Result<Vec<String>, Error> {
     let words = match std::env::args(rt) {
         Ok(words) => words,
         Err(error) if error.kind() == io::ErrorKind::OutOfMemory => {
@@ -24,9 +25,7 @@ fn wish_from(rt: &HostRuntime) -> Result<Wish, Error> {
         }
         Err(_) => return Err(not_utf8(rt.alloc())?),
     };
-    let words: Vec<String> = words.collect(rt.alloc())?;
-    let words: Vec<&str> = words.iter().map(|word| word.as_str()).collect(rt.alloc())?;
-    wish_of(rt.alloc(), &words)
+    Ok(words.collect(rt.alloc())?)
 }
 
 /// The exit status of an ending, after the line of its fault, and what it means where no line of the
@@ -75,17 +74,38 @@ fn has_colours(rt: &HostRuntime) -> bool {
         }
 }
 
-/// Explains the trace on standard input.
-fn explain(rt: &HostRuntime, lanes: bool) -> Result<bool, TextFault> {
-    let colour = has_colours(rt);
-    let look = Look { lanes, colour };
-    run_explain(rt.alloc(), &mut rt.stdin(), &mut rt.stdout(), &look)
+/// Explains the trace of a file, or that on standard input.
+fn explain(rt: &HostRuntime, file: Option<&str>, look: &Look) -> Result<bool, TextFault> {
+    let Some(file) = file else {
+        return run_explain(rt.alloc(), &mut rt.stdin(), &mut rt.stdout(), look);
+    };
+    let Ok(mut file) = File::open(rt, file) else {
+        return Err(TextFault::Read);
+    };
+    run_explain(rt.alloc(), &mut file, &mut rt.stdout(), look)
+}
+
+/// Does what these words ask for.
+fn obey(rt: &HostRuntime, words: &[String]) -> Result<ExitCode, Error> {
+    let words: Vec<&str> = words.iter().map(|word| word.as_str()).collect(rt.alloc())?;
+    Ok(match wish_of(rt.alloc(), &words)? {
+        Wish::Explain { file, look } => {
+            let colour = has_colours(rt);
+            status(rt, explain(rt, file, &Look { colour, ..look }))
+        }
+        Wish::Faults => status(rt, print_faults(rt)),
+    })
+}
+
+/// Does what the command line asks for.
+fn run(rt: &HostRuntime) -> Result<ExitCode, Error> {
+    let words = words_from(rt)?;
+    obey(rt, &words)
 }
 
 fn main(rt: HostRuntime) -> ExitCode {
-    match wish_from(&rt) {
-        Ok(Wish::Explain { lanes }) => status(&rt, explain(&rt, lanes)),
-        Ok(Wish::Faults) => status(&rt, print_faults(&rt)),
+    match run(&rt) {
+        Ok(code) => code,
         Err(error) => refuse(&rt, &error),
     }
 }

@@ -1,7 +1,7 @@
-//! A beat as sentences speak of it, whichever its channel.
-use crate::page::Page;
-use crate::page::Piece::{self, Address, Id, Length, Letter, Name, Opcode, Text};
-use tl_lanes::Mask;
+//! A beat as remarks and sentences speak of it, whichever its channel.
+ghost use Rattle.std.specs.Prelude.{◌≤◌};
+
+use tl_lanes::{MAX_SIZE, Mask};
 use tl_msg::{
     Beat, ChA, ChB, ChC, ChD, ChE, HeadA, HeadB, HeadC, HeadD, HeadE, Kind, SinkId, SourceId,
 };
@@ -120,36 +120,14 @@ impl Seen {
         self.letter == 'D' && !matches!(self.kind, Some(Kind::ReleaseAck))
     }
 
-    /// The message's name, as the standard spells it.
-    pub fn name(&self) -> Piece<'static> {
-        match self.kind {
-            Some(kind) => Name(kind),
-            None if self.letter == 'E' => Text("GrantAck"),
-            None => Opcode(self.opcode),
+    /// How many beats its message has on a bus of `w` bytes.
+    pub fn beats(&self, w: usize) -> usize
+        ensures { 1 ≤ result }
+    {
+        if self.size > MAX_SIZE || !self.carries_data() {
+            return 1;
         }
-    }
-
-    /// Its source.
-    pub fn source(&self) -> Piece<'static> {
-        Id(self.source, self.version)
-    }
-
-    /// Its sink.
-    pub fn sink(&self) -> Piece<'static> {
-        Id(self.sink, self.version)
-    }
-
-    /// Writes its channel, its message, and the fields by which one knows it.
-    pub fn put(&self, out: &mut Page) {
-        out.say("# #", &[Letter(self.letter), self.name()]);
-        if self.letter == 'E' {
-            return out.say(", sink #", &[self.sink()]);
-        }
-        out.say(", source #, #", &[self.source(), Length(self.size)]);
-        if self.letter != 'D' {
-            out.say(" at #", &[Address(self.address)]);
-        }
-        out.put(Text(if self.denied { ", denied" } else { "" }));
-        out.put(Text(if self.corrupt { ", corrupt" } else { "" }));
+        let length = 1usize << self.size;
+        (length / length.min(w).max(1)).max(1)
     }
 }

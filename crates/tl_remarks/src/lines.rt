@@ -1,0 +1,44 @@
+//! Where the beats of a channel stand in a text.
+use std::alloc::{AllocError, Global};
+
+/// The letters that the lines of a text begin with, from line 2 on.
+pub fn letters_of(alloc: Global, text: &[u8]) -> Result<Vec<u8>, AllocError> {
+    let mut letters = Vec::new(alloc);
+    let mut begins = false;
+    for byte in text {
+        if begins {
+            letters.push(*byte)?;
+        }
+        begins = *byte == b'\n';
+    }
+    Ok(letters)
+}
+
+/// How far one has come through the lines of one channel.
+#[derive(Clone, Copy, Default)]
+pub struct Cursor {
+    /// The lines from line 2 up to that of the last beat.
+    lines: usize,
+}
+
+impl Cursor {
+    /// Goes on to the next line with this letter. The letters are those of the lines from line 2 on.
+    pub fn seek(&mut self, letters: &[u8], letter: u8) {
+        for at in self.lines..letters.len() {
+            if letters[at] == letter {
+                self.lines = at + 1;
+                return;
+            }
+        }
+    }
+
+    /// The number of the line that it came to.
+    pub fn line(&self) -> u64 {
+        (self.lines as u64).saturating_add(1)
+    }
+
+    /// The place of that line among those from line 2 on.
+    pub fn place(&self) -> usize {
+        self.lines.wrapping_sub(1)
+    }
+}

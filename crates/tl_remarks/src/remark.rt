@@ -1,0 +1,51 @@
+//! What is remarked.
+use tl_msg::Kind;
+
+/// By what a message and its answer know each other: by source or sink, and those of B and C by their
+/// address, too.
+#[derive(Clone, Copy, PartialEq, Eq, Hash, Default)]
+pub struct Key {
+    pub id: u16,
+    pub address: u64,
+}
+
+/// A message whose first beat was accepted.
+#[derive(Clone, Copy, Default)]
+pub struct Message {
+    /// The line of its first beat.
+    pub line: u64,
+    /// None on E.
+    pub kind: Option<Kind>,
+    pub param: u8,
+    pub denied: bool,
+    pub key: Key,
+}
+
+/// What is remarked on a message, by the SiFive TileLink Specification 1.8.
+#[derive(Clone, Copy, PartialEq, Eq)]
+pub enum Rule {
+    /// It is no response to its partner, the request that it answers.
+    OtherResponse,
+    /// It grants less than its partner asks for.
+    OtherCap,
+    /// It reports that more is kept than its partner leaves.
+    LeavesMore,
+    /// Nothing answers it.
+    NotAnswered,
+    /// There is nothing that it could answer.
+    AnswersNothing,
+    /// A ReleaseAck that is denied.
+    DeniedAck,
+    /// Data that are denied and not corrupt.
+    DeniedData,
+    /// An AcquirePerm that asks for permission to read.
+    PermToRead,
+}
+
+/// A remark on a message. A rule of two messages names its partner, too.
+#[derive(Clone, Copy)]
+pub struct Remark {
+    pub rule: Rule,
+    pub message: Message,
+    pub partner: Message,
+}
