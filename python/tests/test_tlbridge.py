@@ -1,0 +1,382 @@
+"""The package as it is installed: what each call gives and refuses, and what the scoreboard says. The pair 8:4 has to be in the library.
+
+    python3 -m unittest discover python/tests
+
+cocotb itself is not needed: the class Watched stands in for the two calls of it that the package makes.
+"""
+import sys
+import threading
+import types
+import unittest
+from dataclasses import replace
+from unittest import mock
+
+import tlbridge
+from tlbridge import Beat, Bridge, MissingLibrary, Refused, Scoreboard
+from tlbridge.scoreboard import number_of
+
+GET = Beat(opcode=4, size=2, source=7, address=0x1004, mask=0xF0)
+
+
+class Fields(unittest.TestCase):
+    def test_misspelt(self):
+        with self.assertRaises(TypeError):
+            Beat(opcod=4)
+
+    def test_too_large(self):
+        for name, value in (("opcode", 256), ("source", 1 << 16), ("sink", 1 << 16), ("address", 1 << 64), ("mask", 1 << 128), ("size", -1)):
+            with self.subTest(name), self.assertRaises(ValueError):
+                Beat(**{name: value})
+
+    def test_not_a_number(self):
+        with self.assertRaises(TypeError):
+            Beat(opcode=4.0)
+        with self.assertRaises(ValueError):
+            Beat(corrupt=2)
+        with self.assertRaises(TypeError):
+            Beat(data=8)
+
+    def test_of_another_channel(self):
+        with Bridge(8, 4) as bridge:
+            with self.assertRaisesRegex(ValueError, "a beat of C has no mask"):
+                bridge.offer("C", Beat(opcode=6, mask=1))
+            with self.assertRaisesRegex(ValueError, "a beat of A has no sink"):
+                bridge.offer("A", Beat(opcode=4, sink=1))
+
+    def test_wrong_lanes(self):
+        with Bridge(8, 4) as bridge, self.assertRaisesRegex(ValueError, "8 lanes, and data 4 bytes"):
+            bridge.offer("A", Beat(opcode=0, size=2, mask=0xF, data=bytes(4)))
+
+
+class Calls(unittest.TestCase):
+    def test_read(self):
+        with Bridge(client=8, manager=4) as bridge:
+            bridge.offer("A", GET)
+            self.assertEqual(list(bridge.taken("A")), [Beat(opcode=4, size=2, source=7, address=0x1004, mask=0xF, data=bytes(4))])
+            bridge.offer("D", Beat(opcode=1, size=2, source=7, data=b"\xaa\xbb\xcc\xdd"))
+            self.assertEqual(list(bridge.taken("D")), [Beat(opcode=1, size=2, source=7, data=b"\0\0\0\0\xaa\xbb\xcc\xdd")])
+            self.assertTrue(bridge.settle().drained)
+
+    def test_each_beat_that_waits(self):
+        """What another channel's taken() moved into an inbox comes, too."""
+        with Bridge(8, 4) as bridge:
+            bridge.offer("A", GET)
+            bridge.offer("E", Beat(sink=3))
+            self.assertEqual(len(list(bridge.taken("A"))), 1)
+            self.assertEqual(list(bridge.taken("E")), [Beat(sink=3)])
+
+    def test_more_than_an_inbox(self):
+        """4,096 bytes from 8 lanes to 4 are 1,024 far beats."""
+        with Bridge(8, 4) as bridge:
+            for at in range(512):
+                bridge.offer("C", Beat(opcode=7, size=12, address=0x8000, data=bytes([at % 256] * 8)))
+            came = list(bridge.taken("C"))
+            self.assertEqual(len(came), 1024)
+            self.assertEqual([beat.data for beat in came], [bytes([at // 2 % 256] * 4) for at in range(1024)])
+
+    def test_refused(self):
+        with Bridge(8, 4) as bridge:
+            bridge.offer("A", GET)
+            with self.assertRaises(Refused) as refused:
+                bridge.offer("A", GET)
+            self.assertEqual((refused.exception.answer.number, refused.exception.answer.name), (8, "SourceBusy"))
+            self.assertTrue(refused.exception.answer.sentence)
+            with self.assertRaises(Refused) as refused:
+                bridge.offer("A", Beat(opcode=4, size=2, source=8, address=0x1002, mask=0xF0))
+            self.assertEqual(refused.exception.answer.name, "Unaligned")
+
+    def test_within_a_burst(self):
+        with Bridge(8, 4) as bridge:
+            bridge.offer("A", Beat(size=4, mask=0xFF))
+            with self.assertRaises(Refused) as refused:
+                bridge.client.close("A")
+            self.assertEqual(refused.exception.answer.name, "MidBurst")
+
+    def test_side(self):
+        with Bridge(8, 4) as bridge:
+            self.assertTrue(bridge.client.ready("A"))
+            with self.assertRaisesRegex(ValueError, "the client's side sends A, C, E"):
+                bridge.client.offer("B", Beat())
+            with self.assertRaisesRegex(ValueError, "the client's side takes B, D"):
+                bridge.client.take("A")
+
+    def test_not_there(self):
+        with self.assertRaisesRegex(MissingLibrary, "no pair 8:3; it has .*8:4"):
+            Bridge(8, 3)
+        for ring in (0, 4097):
+            with self.assertRaises(Refused) as refused:
+                Bridge(8, 4, ring=ring)
+            self.assertEqual(refused.exception.answer.name, "RingSize")
+
+    def test_freed(self):
+        bridge = Bridge(8, 4)
+        bridge.free()
+        bridge.free()
+        with self.assertRaises(Refused) as refused:
+            bridge.settle()
+        self.assertEqual(refused.exception.answer.name, "NoSide")
+
+    def test_two_threads(self):
+        with Bridge(8, 4, ring=4) as bridge:
+            sinks = []
+
+            def manage():
+                while len(sinks) < 500:
+                    bridge.manager.fetch()
+                    while (beat := bridge.manager.take("E")) is not None:
+                        sinks.append(beat.sink)
+
+            thread = threading.Thread(target=manage)
+            thread.start()
+            for sink in range(500):
+                while not bridge.client.ready("E"):
+                    bridge.client.pump()
+                bridge.client.offer("E", Beat(sink=sink))
+            while not bridge.client.ready("E"):
+                bridge.client.pump()
+            thread.join()
+            self.assertEqual(sinks, list(range(500)))
+            self.assertTrue(bridge.meet().drained)
+
+
+class Traces(unittest.TestCase):
+    TRACE = "tilelink-trace 1 client 8 manager 4\nA 4 0 2 07 0000000000001004 f0 1122334455667788 0\nD 1 0 2 07 00 0 ddccbbaa 0\n"
+    ANSWER = (
+        "tilelink-far 1 client 8 manager 4\nA 4 0 2 07 0000000000001004 f 00000000 0\nD 1 0 2 07 00 0 ddccbbaa00000000 0\n"
+        "= A done 1 1\n= B done 0 0\n= C done 0 0\n= D done 1 1\n= E done 0 0\n"
+    )
+
+    def test_answer(self):
+        answered = tlbridge.answer(self.TRACE)
+        self.assertEqual(answered.text, self.ANSWER)
+        self.assertTrue(answered.all_done)
+
+    def test_not_done(self):
+        self.assertFalse(tlbridge.answer(self.TRACE.replace("D 1 0 2 07", "D 1 0 2 08")).all_done)
+
+    def test_fault(self):
+        with self.assertRaises(tlbridge.TraceFault) as fault:
+            tlbridge.answer("A 4\n")
+        self.assertEqual((fault.exception.answer.name, fault.exception.line), ("Header", 1))
+
+
+def far(data):
+    return Beat(opcode=0, size=3, source=1, address=0x80, mask=0xF, data=data)
+
+
+class Board(unittest.TestCase):
+    """A write of 8 bytes at 0x80, from 8 lanes to 4: its two far beats, and the response."""
+
+    def setUp(self):
+        self.board = Scoreboard(client=8, manager=4)
+
+    def write(self, first=b"\0\1\2\3", second=b"\4\5\6\7"):
+        """Its first far beat comes before the near beat."""
+        self.board.beat("manager", "A", 10, far(first))
+        self.board.beat("client", "A", 20, Beat(opcode=0, size=3, source=1, address=0x80, mask=0xFF, data=bytes(range(8))))
+        self.board.beat("manager", "A", 20, far(second))
+
+    def respond(self, **fields):
+        self.board.beat("manager", "D", 30, Beat(opcode=0, size=3, source=1, **fields))
+        self.board.beat("client", "D", 30, Beat(opcode=0, size=3, source=1))
+
+    def test_right(self):
+        self.write()
+        self.respond()
+        self.assertEqual((self.board.end(), self.board.lines), (0, []))
+
+    def test_data(self):
+        self.write(second=b"\4\5\7\7")
+        self.respond()
+        self.assertEqual(self.board.lines, ["time 20: far A beat 1; data got 07070504, due 07060504"])
+        self.assertEqual((self.board.differences, self.board.end()), (1, 1))
+
+    def test_denied_lost(self):
+        self.write()
+        self.respond(denied=True)
+        self.assertEqual(self.board.lines, ["time 30: far D beat 0; denied got 0, due 1"])
+
+    def test_not_come(self):
+        self.write()
+        self.board.beat("manager", "D", 30, Beat(opcode=0, size=3, source=1, sink=9))
+        self.assertEqual(self.board.end(), 1)
+        self.assertEqual(self.board.lines, [
+            "time 30: far D beat 0: opcode 0, size 3, source 0001, sink 0009: is due and did not come",
+            "time 20: open: near A beat 0, source 0001, has no response",
+        ])
+
+    def test_not_due(self):
+        self.write()
+        self.respond()
+        self.board.beat("client", "D", 40, Beat(opcode=0, size=3, source=1))
+        self.assertEqual(self.board.end(), 1)
+        self.assertEqual(self.board.lines, ["time 40: far D beat 1: opcode 0, size 3, source 0001, sink 0000: came and is not due"])
+
+    def test_refused(self):
+        self.board.beat("client", "A", 5, Beat(opcode=4, size=2, source=1, address=0x82, mask=0xF0))
+        self.assertEqual(self.board.end(), 1)
+        self.assertRegex(self.board.lines[0], r"^time 5: near A beat 0: opcode 4, size 2, source 0001, address 82: refused: 4 Unaligned: ")
+
+    def test_busy_source(self):
+        """It is said although the response comes later."""
+        get = Beat(opcode=4, size=2, source=1, address=0x80, mask=0xF)
+        self.board.beat("client", "A", 10, get)
+        self.board.beat("client", "A", 20, get)
+        self.board.beat("client", "E", 30, Beat(sink=1))
+        self.assertRegex(self.board.lines[0], r"^time 20: near A beat 1: source 0001: 8 SourceBusy: ")
+
+    def test_source_of_this_cycle(self):
+        """A request may take its source in the cycle in which the response comes that frees it, in whatever order the two are told."""
+        get = Beat(opcode=4, size=2, source=1, address=0x80, mask=0xF)
+        response = Beat(opcode=1, size=2, source=1, data=bytes(4))
+        self.board.beat("client", "A", 10, get)
+        self.board.beat("manager", "A", 10, replace(get, data=bytes(4)))
+        self.board.beat("manager", "D", 10, response)
+        self.board.beat("client", "A", 20, get)
+        self.board.beat("client", "D", 20, replace(response, data=bytes(8)))
+        self.board.beat("client", "E", 30, Beat(sink=1))
+        self.assertEqual(self.board.lines, [])
+
+    def test_no_request(self):
+        self.board.beat("manager", "D", 10, Beat(opcode=1, size=2, source=1, data=bytes(4)))
+        self.board.beat("manager", "D", 20, Beat(opcode=1, size=2, source=2, data=bytes(4)))
+        self.assertEqual(self.board.end(), 3)
+        for line, begin in zip(self.board.lines, (
+            "time 10: near D beat 0: source 0001: 9 NoRequest: ",
+            "time 20: near D beat 1: source 0002: 9 NoRequest: ",
+            "time 10: near D beat 0: opcode 1, size 2, source 0001, sink 0000: waits: 9 NoRequest: ",
+        )):
+            self.assertTrue(line.startswith(begin), line)
+        self.assertTrue(self.board.lines[-1].endswith("; 1 more wait behind it"), self.board.lines[-1])
+
+    def test_release_ack(self):
+        """It answers no request, and needs none."""
+        release = Beat(opcode=6, size=3, source=1, address=0x80)
+        self.board.beat("client", "C", 10, release)
+        self.board.beat("manager", "C", 10, release)
+        self.board.beat("manager", "D", 20, Beat(opcode=6, size=3, source=1))
+        self.board.beat("client", "D", 20, Beat(opcode=6, size=3, source=1))
+        self.assertEqual((self.board.end(), self.board.lines), (0, []))
+
+    def test_cut(self):
+        put = Beat(size=4, source=1, address=0x80, mask=0xFF, data=bytes(8))
+        self.board.beat("client", "A", 10, put)
+        for _ in range(2):
+            self.board.beat("manager", "A", 10, replace(put, mask=0xF, data=bytes(4)))
+        self.assertEqual(self.board.end(), 1)
+        self.assertEqual(self.board.lines[0], "time 10: near A: the last message is not whole")
+
+    def test_behind_a_refused_beat(self):
+        """Nothing more is judged on its channel, and so nothing is missing."""
+        self.board.beat("client", "C", 5, Beat(opcode=6, size=2, source=1, address=0x82))
+        self.board.beat("client", "C", 6, Beat(opcode=6, size=2, source=1, address=0x84))
+        self.board.beat("client", "E", 7, Beat(sink=1))
+        self.board.beat("manager", "E", 7, Beat(sink=1))
+        self.assertEqual(self.board.end(), 1)
+        self.assertRegex(self.board.lines[0], "refused: 4 Unaligned: .*; later near beats of C are not judged$")
+
+    def test_far_ahead(self):
+        """Hundreds of far beats wait for their near beats, round a queue that grows."""
+        sink = 0
+        for count in (40, 300, 2000):
+            for link in ("manager", "client"):
+                for at in range(count):
+                    self.board.beat(link, "E", 10, Beat(sink=sink + at))
+            sink += count
+        self.assertEqual((self.board.end(), self.board.lines), (0, []))
+
+    def test_many_differences(self):
+        """After 20 lines of a channel they are counted alone."""
+        for sink in range(50):
+            self.board.beat("client", "E", sink, Beat(sink=sink))
+            self.board.beat("manager", "E", sink, Beat(sink=sink + 1))
+        self.assertEqual(self.board.end(), 50)
+        self.assertEqual(len(self.board.lines), 21)
+        self.assertEqual(self.board.lines[-1], "time 19: further differences on E are counted alone")
+
+    def test_unmasked(self):
+        """PutPartialData with its first byte alone; the design drives another byte where no mask bit is."""
+        for unmasked, differences in ((False, 0), (True, 1)):
+            with self.subTest(unmasked=unmasked):
+                board = Scoreboard(8, 4, unmasked=unmasked)
+                board.beat("client", "A", 10, Beat(opcode=1, size=2, source=1, address=0x80, mask=0x01, data=bytes(range(8))))
+                board.beat("manager", "A", 10, Beat(opcode=1, size=2, source=1, address=0x80, mask=0x1, data=b"\x00\x01\x09\x03"))
+                self.assertEqual(board.end(), differences)
+
+    def test_not_there(self):
+        with self.assertRaisesRegex(MissingLibrary, "no pair 16:3"):
+            Scoreboard(16, 3)
+
+
+
+class Watched(unittest.TestCase):
+    """Two links of a test as cocotb has it: handles whose value is text of 0, 1, x and z, and edges to wait for."""
+
+    def setUp(self):
+        self.now = 0
+        triggers, utils = types.ModuleType("cocotb.triggers"), types.ModuleType("cocotb.utils")
+        triggers.RisingEdge = Edge
+        utils.get_sim_time = lambda unit: {"step": self.now}[unit]
+        modules = {"cocotb": types.ModuleType("cocotb"), "cocotb.triggers": triggers, "cocotb.utils": utils}
+        patch = mock.patch.dict(sys.modules, modules)
+        patch.start()
+        self.addCleanup(patch.stop)
+
+    def watch(self, cycles, reset="0"):
+        """Lets both links be watched over cycles of signals by their names, and ends the board."""
+        board, values = Scoreboard(8, 4), {}
+
+        def handles(link):
+            return lambda channel, field: types.SimpleNamespace(value=values.get(f"{link}_{channel}_{field}", "0"))
+
+        watches = [board.watch(link, "clock", handles(link), types.SimpleNamespace(value=reset)) for link in ("client", "manager")]
+        for watch in watches:
+            watch.send(None)
+        for self.now, cycle in enumerate(cycles, 1):
+            values.clear()
+            values.update(cycle)
+            for watch in watches:
+                watch.send(None)
+        for watch in watches:
+            watch.close()
+        return board.end(), board.lines
+
+    # a read of 4 bytes at 0x1004, with unknown bytes on the lanes that carry none, and its response
+    ASKED = {"opcode": "100", "size": "0010", "source": "111", "address": f"{0x1004:032b}", "valid": "1", "ready": "1"}
+    RESPONSE = {"opcode": "001", "size": "0010", "source": "111", "valid": "1", "ready": "1"}
+    CLIENT = {f"client_a_{field}": value for field, value in {**ASKED, "mask": "11110000", "data": "x" * 64}.items()}
+    MANAGER = {f"manager_a_{field}": value for field, value in {**ASKED, "mask": "1111", "data": "z" * 32}.items()}
+    ANSWERED = {f"manager_d_{field}": value for field, value in {**RESPONSE, "data": f"{0xDDCCBBAA:032b}"}.items()}
+    CAME = {f"client_d_{field}": value for field, value in {**RESPONSE, "data": f"{0xDDCCBBAA:032b}" + "x" * 32}.items()}
+
+    def test_right(self):
+        self.assertEqual(self.watch([self.CLIENT, self.MANAGER, self.ANSWERED, self.CAME]), (0, []))
+
+    def test_wrong(self):
+        wrong = {**self.CAME, "client_d_data": f"{0xDDCCBBAB:032b}" + "x" * 32}
+        self.assertEqual(self.watch([self.CLIENT, self.MANAGER, self.ANSWERED, wrong]),
+                         (1, ["time 4: far D beat 0; data got ddccbbab........, due ddccbbaa........"]))
+
+    def test_not_ready(self):
+        stalled = {**self.CLIENT, "client_a_ready": "0"}
+        self.assertEqual(self.watch([stalled, self.CLIENT, self.MANAGER, self.ANSWERED, self.CAME]), (0, []))
+
+    def test_reset(self):
+        self.assertEqual(self.watch([self.MANAGER], reset="1"), (0, []))
+
+    def test_unknown_bits(self):
+        self.assertEqual(number_of(types.SimpleNamespace(value="1xz0")), 8)
+
+
+class Edge:
+    """Waits for one cycle."""
+
+    def __init__(self, clock):
+        self.clock = clock
+
+    def __await__(self):
+        yield
+
+
+if __name__ == "__main__":
+    unittest.main()

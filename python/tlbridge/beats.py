@@ -1,0 +1,72 @@
+"""A beat of any channel, with its fields checked."""
+import operator
+from dataclasses import dataclass, fields
+from typing import Tuple
+
+from .library import BeatFields
+
+CHANNELS = "ABCDE"
+WIDEST = 128
+_HEAD = ("opcode", "param", "size", "source")
+# The fields that a beat of each channel has.
+FIELDS = {
+    "A": (*_HEAD, "address", "mask", "data", "corrupt"),
+    "B": (*_HEAD, "address", "mask", "data", "corrupt"),
+    "C": (*_HEAD, "address", "data", "corrupt"),
+    "D": (*_HEAD, "sink", "denied", "data", "corrupt"),
+    "E": ("sink",),
+}
+# The bits of each field that is a number, as the library has it: whether a value is lawful is for the bridge to say.
+_BITS = {"opcode": 8, "param": 8, "size": 8, "source": 16, "sink": 16, "address": 64, "mask": WIDEST}
+
+
+@dataclass(frozen=True)
+class Beat:
+    """One transfer. `mask` has bit i for lane i, and `data` a byte for each lane, lane 0 first; without data it may be left out."""
+
+    opcode: int = 0
+    param: int = 0
+    size: int = 0
+    source: int = 0
+    sink: int = 0
+    address: int = 0
+    mask: int = 0
+    data: bytes = b""
+    denied: bool = False
+    corrupt: bool = False
+
+    def __post_init__(self) -> None:
+        for name, bits in _BITS.items():
+            value = operator.index(getattr(self, name))
+            if not 0 <= value < 1 << bits:
+                raise ValueError(f"{name} has {bits} bits, and {value} is no such number")
+        for name in ("denied", "corrupt"):
+            if getattr(self, name) not in (0, 1):
+                raise ValueError(f"{name} is one bit, and not {getattr(self, name)!r}")
+        if isinstance(self.data, int):
+            raise TypeError("data are bytes, lane 0 first")
+        object.__setattr__(self, "data", bytes(self.data))
+
+    def passed(self, channel: str, width: int) -> Tuple[BeatFields, bytes]:
+        """The fields and lanes for a call of the library, on a link of this width."""
+        for field in fields(self):
+            if field.name not in FIELDS[channel] and getattr(self, field.name) != field.default:
+                raise ValueError(f"a beat of {channel} has no {field.name}")
+        if channel != "E" and len(self.data) not in (0, width):
+            raise ValueError(f"the link has {width} lanes, and data {len(self.data)} bytes")
+        passed = BeatFields(
+            address=self.address, mask=self.mask & (1 << 64) - 1, mask_high=self.mask >> 64, source=self.source, sink=self.sink,
+            opcode=self.opcode, param=self.param, size=self.size, denied=self.denied, corrupt=self.corrupt,
+        )
+        return passed, self.data.ljust(width, b"\0")
+
+
+def beat_of(channel: str, came: BeatFields, lanes: bytes) -> Beat:
+    """The beat that the library wrote."""
+    values = {name: getattr(came, name) for name in FIELDS[channel] if name not in ("mask", "data")}
+    values.update((name, bool(values[name])) for name in ("denied", "corrupt") if name in values)
+    if "mask" in FIELDS[channel]:
+        values["mask"] = came.mask | came.mask_high << 64
+    if "data" in FIELDS[channel]:
+        values["data"] = lanes
+    return Beat(**values)
