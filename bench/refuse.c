@@ -4,12 +4,12 @@
        REFUSE_GROWTH=N   the Nth growth of memory, counted from the start of the program
        REFUSE_FROM=N     each growth from the Nth on
        REFUSE_START=N    the Nth start of a thread
-       REFUSE_READ=K     the Kth read of standard input
+       REFUSE_READ=K     the Kth read, of standard input or of the file that is named in its place
        REFUSE_WRITE=K    the Kth write to standard output
        REFUSE_ERROR=E    how that read or write fails: by this errno (EIO where nothing is said), or, for 0, by moving no byte
-       REFUSE_PIECE=B    each read of standard input and each write to standard output moves B bytes at most
+       REFUSE_PIECE=B    each read and each write to standard output moves B bytes at most
        REFUSE_LOG=FD     one letter for each event goes to this descriptor: g a growth, n a growth within the start of a thread,
-                         s such a start, r a read of standard input, w a write to standard output; in upper case where it was refused
+                         s such a start, r a read, w a write to standard output; in upper case where it was refused
 
    Where nothing is said, it refuses nothing. It uses the C library's own allocator and plain system calls. */
 #define _GNU_SOURCE
@@ -133,8 +133,6 @@ static size_t at_most(size_t count) {
 
 ssize_t read(int from, void *to, size_t count) {
     ssize_t result;
-    if (from != 0)
-        return syscall(SYS_read, from, to, count);
     if (is_refused_call('r', &reads, refused_read, &result))
         return result;
     return syscall(SYS_read, from, to, at_most(count));
