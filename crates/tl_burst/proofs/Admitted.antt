@@ -1,17 +1,8 @@
 -- Beats that may come next, and lists that are handed with one more beat.
-use Rattle.std.proofs.Common.{◌≡◌, ◌≤◌, ◌<◌, ◌+◌, ◌^◌, ◌≢◌, ◌⊎◌, ℕ, true, Option, None, Some, List, [], ◌∷◌, ◌++◌, length, slice_get, refl, sym, ap, subst, ◌∙◌, arith, inl, inr, ⊎_elim, append_assoc, append-nil, length-append}
-use Rattle.std.proofs.lemmas.Option.{slice_get_within}
-use Rattle.std.proofs.lemmas.List.{length_push}
-use Rattle.std.proofs.lemmas.List.Elements.{All-get_or}
-use Rattle.tl_msg.specs.Rules.{Rules}
-use Rattle.tl_msg.specs.declared.beat.BeatOf.{BeatOf}
-use Rattle.tl_lanes.specs.Lanes.{IsWidth, lane_of}
-use Rattle.tl_lanes.proofs.Widths.{lane-lt}
-use Rattle.tl_burst.specs.Messages.{Message, IsLawful, beats_of}
-use Rattle.tl_burst.specs.Spelling.{Spells, SpellsBeat}
-use Rattle.tl_burst.specs.Handing.{Handed, nothing, begun, whole, IsHandedWith, rest_of, with_home}
-use Rattle.tl_burst.specs.Reading.{message_of}
-use Rattle.std.specs.Prelude.{All}
+use Rattle.tl_burst.proofs.Names.{◌≡◌, ◌≤◌, ◌<◌, ◌+◌, ◌^◌, ◌≢◌, ◌⊎◌, ℕ, true, Option, None, Some, List, [], ◌∷◌, ◌++◌, length, slice_get, refl, sym}
+use Rattle.tl_burst.proofs.Names.{ap, subst, ◌∙◌, arith, inl, inr, ⊎_elim, append_assoc, append-nil, length-append, slice_get_within, length_push}
+use Rattle.tl_burst.proofs.Names.{same_from_push, All-get_or, Rules, BeatOf, IsWidth, lane_of, lane-lt, Message, IsLawful, beats_of, Spells}
+use Rattle.tl_burst.proofs.Names.{SpellsBeat, Handed, nothing, begun, whole, IsHandedWith, rest_of, with_home, message_of, All}
 use Rattle.tl_burst.proofs.Fits.{Accepts, head_of}
 use Rattle.tl_burst.proofs.Numbers.{slice_get-left, each-push}
 use Rattle.tl_burst.proofs.Burst.{beats-bounds, more-carries}
@@ -31,17 +22,6 @@ last-cases (x ∷ xs) = ⊎_elim
     (λ e. inr ([], x, ap (λ ys. x ∷ ys) e))
     (λ (front, y, e). inr (x ∷ front, y, ap (λ ys. x ∷ ys) e))
     (last-cases xs)
-
--- lists that end in an element have the same front and the same last element
-pub snoc-same : {A : Type 0} (xs ys : List A) (x y : A) → xs ++ x ∷ [] ≡ ys ++ y ∷ [] → (xs ≡ ys) × (x ≡ y)
-snoc-same [] [] x y e = (refl, cc)
-snoc-same [] (b ∷ ys) x y e = let f : [] ≡ ys ++ y ∷ [] = cc in absurd (snoc-some ys y (sym f))
-snoc-same (a ∷ xs) [] x y e = let f : xs ++ x ∷ [] ≡ [] = cc in absurd (snoc-some xs x f)
-snoc-same (a ∷ xs) (b ∷ ys) x y e =
-    let f : xs ++ x ∷ [] ≡ ys ++ y ∷ [] = cc in
-    let g : a ≡ b = cc in
-    let s = snoc-same xs ys x y f in
-    (ap (λ z. z ∷ xs) g ∙ ap (λ zs. b ∷ zs) s.0, s.1)
 
 last-seam : {A : Type 0} (xs : List A) (y : A) (ys : List A) → slice_get (xs ++ y ∷ ys) (length xs) ≡ Some y
 last-seam [] y ys = refl
@@ -111,7 +91,7 @@ module _ {H : Type 0} (r : Rules H) (w : ℕ) where
       record { m = m; more = []; lawful = l; spells = subst Q (sym k) t })
       (λ (front, x, f).
       let g : (cs ++ front) ++ x ∷ [] ≡ bs ++ b ∷ [] = append_assoc cs front (x ∷ []) ∙ ap (λ xs. cs ++ xs) (sym f) ∙ e in
-      let same = snoc-same (cs ++ front) bs x b g in
+      let same = same_from_push (cs ++ front) bs x b g in
       let o : Last front b = last-of h front b (f ∙ ap (λ y. front ++ y ∷ []) same.1) in
       let k : rest_of r w front ≡ rest_of r w bs = sym (whole-rest r w m cs front s) ∙ ap (λ xs. rest_of r w xs) same.0 in
       let Q : List (BeatOf H w) → Type 0 = λ xs. Spells r o.m w (xs ++ b ∷ o.more) in

@@ -1,11 +1,7 @@
 -- The heads of the messages that handed beats begin, and how many beats the last one lacks.
-use Rattle.std.proofs.Common.{◌≡◌, ◌≤◌, ◌<◌, ◌+◌, ◌-◌, ◌≢◌, ◌↔◌, ℕ, zero, suc, List, [], ◌∷◌, ◌++◌, length, map, refl, sym, ap, ◌∙◌, arith, length-append}
-use Rattle.tl_msg.specs.Rules.{Rules}
-use Rattle.tl_msg.specs.declared.beat.BeatOf.{BeatOf}
-use Rattle.tl_burst.specs.Messages.{Message, beats_of}
-use Rattle.tl_burst.specs.Spelling.{Spells}
-use Rattle.tl_burst.specs.Handing.{Handed, nothing, begun, whole, rest_of}
-use Rattle.tl_burst.specs.Begun.{heads_from, heads, left_from, left, rest_heads}
+use Rattle.tl_burst.proofs.Names.{◌≡◌, ◌≤◌, ◌<◌, ◌+◌, ◌-◌, ◌≢◌, ◌↔◌, ℕ, zero, suc, List, [], ◌∷◌, ◌++◌, length, map, refl, sym, ap, ◌∙◌, arith}
+use Rattle.tl_burst.proofs.Names.{length-append, Rules, BeatOf, Message, beats_of, Spells, Handed, nothing, begun, whole, rest_of, heads_from, heads}
+use Rattle.tl_burst.proofs.Names.{left_from, left, rest_heads}
 use Rattle.tl_burst.proofs.RestOf.{RestIs}
 
 module _ {H : Type 0} (r : Rules H) (w : ℕ) where

@@ -1,14 +1,8 @@
 -- How many beats a message has, and the rest after one more beat.
-use Rattle.std.proofs.Common.{◌≡◌, ◌≤◌, ◌<◌, ◌/◌, ◌^◌, ◌≢◌, ℕ, Bool, true, false, cond, List, [], ◌∷◌, ◌++◌, refl, arith, rules}
+use Rattle.tl_burst.proofs.Names.{◌≡◌, ◌≤◌, ◌<◌, ◌/◌, ◌^◌, ◌≢◌, ℕ, Bool, true, false, cond, List, [], ◌∷◌, ◌++◌, refl, arith, rules, div-le_self}
+use Rattle.tl_burst.proofs.Names.{Rules, BeatOf, IsWidth, bytes_per_beat, beats_per_message, width_bounds, beats_of, ends, rest_after}
 use Rattle.std.proofs.lemmas.Nat.{le-div}
-use Rattle.std.proofs.Math.Nat.{div-le_self}
 use Rattle.std.proofs.Math.Pow.{pow_mono}
-use Rattle.tl_msg.specs.Rules.{Rules}
-use Rattle.tl_msg.specs.declared.beat.BeatOf.{BeatOf}
-use Rattle.tl_lanes.specs.Lanes.{IsWidth, bytes_per_beat, beats_per_message}
-use Rattle.tl_lanes.proofs.Widths.{width_bounds}
-use Rattle.tl_burst.specs.Messages.{beats_of}
-use Rattle.tl_burst.specs.Handing.{ends, rest_after}
 
 count-bounds : (carries : Bool) (size w : ℕ) → IsWidth w → size ≤ 12 → (0 < beats_per_message carries size w) × (beats_per_message carries size w ≤ 4096)
 count-bounds false size w width small = (omega arith, omega arith)

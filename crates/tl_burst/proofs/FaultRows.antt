@@ -1,16 +1,12 @@
 -- Worked examples of the first fault of a beat after accepted beats, on 4 lanes.
-use Rattle.std.proofs.Common.{◌≡◌, ℕ, Bool, true, false, Option, Some, None, List, [], ◌∷◌, refl, replicate, map, take, length}
-use Rattle.tl_msg.specs.declared.head.HeadA.{HeadA}
+use Rattle.tl_burst.proofs.Names.{◌≡◌, ℕ, Bool, true, false, Option, Some, None, List, [], ◌∷◌, refl, replicate, map, take, length, HeadA, BeatOf}
+use Rattle.tl_burst.proofs.Names.{Opcode, Param, Size, Unaligned, Mask, Corrupt, HeadChanged, rules_a, rules_b, rules_c, rules_d, rules_e, beats_of}
+use Rattle.tl_burst.proofs.Names.{burst_after, fault_after, rest_of}
 use Rattle.tl_msg.specs.declared.head.HeadB.{HeadB}
 use Rattle.tl_msg.specs.declared.head.HeadC.{HeadC}
 use Rattle.tl_msg.specs.declared.head.HeadD.{HeadD}
 use Rattle.tl_msg.specs.declared.head.HeadE.{HeadE}
-use Rattle.tl_msg.specs.declared.beat.BeatOf.{BeatOf}
 use Rattle.tl_msg.specs.declared.fault.BeatFault.{BeatFault}
-use Rattle.tl_msg.specs.declared.fault.BeatFault.TheVariants.{Opcode, Param, Size, Unaligned, Mask, Corrupt, HeadChanged}
-use Rattle.tl_msg.specs.Tables.{rules_a, rules_b, rules_c, rules_d, rules_e}
-use Rattle.tl_burst.specs.Messages.{beats_of}
-use Rattle.tl_burst.specs.Handing.{burst_after, fault_after, rest_of}
 
 abbrev on : {H : Type 0} → H → (mask : ℕ) → (corrupt : Bool) → BeatOf H 4
 on head mask corrupt = record { head = head; mask = mask; lanes = replicate 4 0; corrupt = corrupt }

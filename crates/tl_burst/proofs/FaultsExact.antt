@@ -1,18 +1,10 @@
 -- A beat has no fault exactly where it is admitted.
-use Rattle.std.proofs.Common.{◌≡◌, ◌≤◌, ◌<◌, ◌^◌, ◌↔◌, ℕ, Bool, true, false, not, Option, None, Some, List, [], ◌∷◌, ◌++◌, refl, sym, ap, subst, ◌∙◌, ⊎_elim}
-use Rattle.std.specs.Prelude.{◌||◌}
-use Rattle.std.specs.Option.{option_map_or}
-use Rattle.tl_lanes.specs.Lanes.{IsWidth}
-use Rattle.tl_msg.specs.Rules.{Rules}
+use Rattle.tl_burst.proofs.Names.{◌≡◌, ◌≤◌, ◌<◌, ◌^◌, ◌↔◌, ℕ, Bool, true, false, not, Option, None, Some, List, [], ◌∷◌, ◌++◌, refl, sym, ap, subst}
+use Rattle.tl_burst.proofs.Names.{◌∙◌, ⊎_elim, ◌||◌, option_map_or, IsWidth, Rules, unless, ◌or_else◌, BeatOf, Mask, Corrupt, HeadChanged, first_none}
+use Rattle.tl_burst.proofs.Names.{second_none, both_none, unless_none, unless_true, Message, Handed, IsHanded, IsHandedWith, IsAdmitted, rest_of}
+use Rattle.tl_burst.proofs.Names.{burst_of, fault_in, fault_after, with_home, homes_with, IsOpen}
 use Rattle.tl_msg.specs.Beats.{IsBeat}
-use Rattle.tl_msg.specs.Firsts.{unless, ◌or_else◌}
 use Rattle.tl_msg.specs.Faults.{mask_fits, is_clean, continuing_fault}
-use Rattle.tl_msg.specs.declared.beat.BeatOf.{BeatOf}
-use Rattle.tl_msg.specs.declared.fault.BeatFault.TheVariants.{Mask, Corrupt, HeadChanged}
-use Rattle.tl_msg.proofs.Firsts.{first_none, second_none, both_none, unless_none, unless_true}
-use Rattle.tl_burst.specs.Messages.{Message}
-use Rattle.tl_burst.specs.Handing.{Handed, IsHanded, IsHandedWith, IsAdmitted, rest_of, burst_of, fault_in, fault_after, with_home, homes_with}
-use Rattle.tl_burst.specs.Tracking.{IsOpen}
 use Rattle.tl_burst.proofs.Fits.{Accepts, FitsMask, head_of}
 use Rattle.tl_burst.proofs.MaskTest.{mask-tests}
 use Rattle.tl_burst.proofs.RestOf.{RestIs}

@@ -1,9 +1,5 @@
 -- What a tracker tests of a beat, as facts over lanes.
-use Rattle.std.proofs.Common.{◌≡◌, ℕ, Bool, true, false, Option, None, Some, List, [], ◌∷◌}
-use Rattle.std.specs.Int.{bit_at}
-use Rattle.tl_msg.specs.Rules.{Rules}
-use Rattle.tl_msg.specs.declared.beat.BeatOf.{BeatOf}
-use Rattle.tl_lanes.proofs.ActiveLanes.{IsActive}
+use Rattle.tl_burst.proofs.Names.{◌≡◌, ℕ, Bool, true, false, Option, None, Some, List, [], ◌∷◌, bit_at, Rules, BeatOf, IsActive}
 
 -- the head of the burst that a rest has begun
 abbrev pub head_of : {H : Type 0} {W : ℕ} → List (BeatOf H W) → Option H

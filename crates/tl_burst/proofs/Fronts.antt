@@ -1,12 +1,8 @@
 -- The first beats of a list that is handed are handed too.
-use Rattle.std.proofs.Common.{◌≡◌, ◌≢◌, ℕ, List, [], ◌∷◌, ◌++◌, refl, sym, ap, subst, ◌∙◌, ⊎_elim, append_assoc, append-nil}
-use Rattle.tl_msg.specs.Rules.{Rules}
-use Rattle.tl_msg.specs.declared.beat.BeatOf.{BeatOf}
-use Rattle.tl_burst.specs.Messages.{Message, IsLawful}
-use Rattle.tl_burst.specs.Spelling.{Spells}
-use Rattle.tl_burst.specs.Handing.{Handed, nothing, begun, whole, IsHanded}
+use Rattle.tl_burst.proofs.Names.{◌≡◌, ◌≢◌, ℕ, List, [], ◌∷◌, ◌++◌, refl, sym, ap, subst, ◌∙◌, ⊎_elim, append_assoc, append-nil, Rules, BeatOf}
+use Rattle.tl_burst.proofs.Names.{Message, IsLawful, Spells, Handed, nothing, begun, whole, IsHanded, same_from_push}
 use Rattle.tl_burst.proofs.HandedSteps.{snoc-some}
-use Rattle.tl_burst.proofs.Admitted.{last-cases, snoc-same}
+use Rattle.tl_burst.proofs.Admitted.{last-cases}
 
 module _ {H : Type 0} (r : Rules H) (w : ℕ) where
   -- the first beats of a message
@@ -26,7 +22,7 @@ module _ {H : Type 0} (r : Rules H) (w : ℕ) where
       of-message m bs (b ∷ []) l (subst P (sym (append-nil cs) ∙ ap (λ xs. cs ++ xs) (sym none_of) ∙ e) s) (λ q. cc))
       (λ (front, x, f).
       let g : (cs ++ front) ++ x ∷ [] ≡ bs ++ b ∷ [] = append_assoc cs front (x ∷ []) ∙ ap (λ xs. cs ++ xs) (sym f) ∙ e in
-      let same = snoc-same (cs ++ front) bs x b g in
+      let same = same_from_push (cs ++ front) bs x b g in
       let o : IsHanded r front = front-of h front x f in
       let P : List (BeatOf H w) → Type 0 = λ xs. IsHanded r xs in
       subst P same.0 (record {

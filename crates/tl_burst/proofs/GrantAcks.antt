@@ -1,9 +1,6 @@
 -- Beats of E, each of which is a message.
-use Rattle.std.proofs.Common.{◌≡◌, ℕ, None, List, [], ◌∷◌, refl, ap}
-use Rattle.tl_msg.specs.Tables.{rules_e}
-use Rattle.tl_msg.specs.declared.beat.BeatOf.{BeatOf}
+use Rattle.tl_burst.proofs.Names.{◌≡◌, ℕ, None, List, [], ◌∷◌, refl, ap, rules_e, BeatOf, rest_of, burst_of, fault_in, fault_after}
 use Rattle.tl_msg.specs.declared.head.HeadE.{HeadE}
-use Rattle.tl_burst.specs.Handing.{rest_of, burst_of, fault_in, fault_after}
 
 never-open : (w : ℕ) (bs : List (BeatOf HeadE w)) → rest_of rules_e w bs ≡ []
 never-open w [] = refl

@@ -1,10 +1,6 @@
 -- One beat more: a beat that opens, continues or completes a message.
-use Rattle.std.proofs.Common.{◌≡◌, ◌≢◌, ℕ, List, [], ◌∷◌, ◌++◌, refl, ap, append_assoc, append-nil}
-use Rattle.tl_msg.specs.Rules.{Rules}
-use Rattle.tl_msg.specs.declared.beat.BeatOf.{BeatOf}
-use Rattle.tl_burst.specs.Messages.{Message, IsLawful}
-use Rattle.tl_burst.specs.Spelling.{Spells}
-use Rattle.tl_burst.specs.Handing.{Handed, nothing, begun, whole}
+use Rattle.tl_burst.proofs.Names.{◌≡◌, ◌≢◌, ℕ, List, [], ◌∷◌, ◌++◌, refl, ap, append_assoc, append-nil, Rules, BeatOf, Message, IsLawful, Spells}
+use Rattle.tl_burst.proofs.Names.{Handed, nothing, begun, whole}
 
 -- a beat that opens a message joins a list of whole messages
 pub opens : {H : Type 0} (r : Rules H) (w : ℕ) {bs : List (BeatOf H w)} {homes : List ℕ} {ms : List (Message H)} {rest : List (BeatOf H w)} →

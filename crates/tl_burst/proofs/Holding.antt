@@ -1,11 +1,7 @@
 -- What a tracker holds through a burst is what the messages of its head have.
-use Rattle.std.proofs.Common.{◌≡◌, ◌+◌, ℕ, false, if◌then◌else◌, Option, None, Some, sym, ap, subst, ◌∙◌, arith}
-use Rattle.tl_msg.specs.Rules.{Rules}
-use Rattle.tl_burst.specs.Messages.{beats_of}
-use Rattle.tl_burst.specs.Tracking.{IsPlace, burst_with, count_in}
-use Rattle.tl_burst.specs.Inner.Holding.{IsHeld, IsHeldIn}
+use Rattle.tl_burst.proofs.Names.{◌≡◌, ◌+◌, ℕ, false, if◌then◌else◌, Option, None, Some, sym, ap, subst, ◌∙◌, arith, Rules, beats_of, IsPlace}
+use Rattle.tl_burst.proofs.Names.{burst_with, count_in, IsHeld, IsHeldIn, Place}
 use Rattle.tl_burst.specs.declared.held.Held.{Held}
-use Rattle.tl_burst.specs.declared.place.Place.{Place}
 
 module _ {H : Type 0} (r : Rules H) (w : ℕ) where
   -- the beats of a head that is the open burst's

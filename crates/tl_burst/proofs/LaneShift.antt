@@ -1,9 +1,6 @@
 -- Lanes from a later byte on.
-use Rattle.std.proofs.Common.{◌≡◌, ◌≤◌, ◌<◌, ◌+◌, ◌%◌, ◌^◌, ℕ, sym, ap, ◌∙◌, arith, ⊎_elim}
-use Rattle.std.proofs.lemmas.Bool.Decides.{leb_tells}
-use Rattle.std.proofs.Math.Nat.{mod-add-mod, mod-eq_of_lt}
-use Rattle.tl_lanes.specs.Lanes.{IsWidth, lane_of, bytes_per_beat}
-use Rattle.tl_lanes.proofs.Widths.{lane-plain}
+use Rattle.tl_burst.proofs.Names.{◌≡◌, ◌≤◌, ◌<◌, ◌+◌, ◌%◌, ◌^◌, ℕ, sym, ap, ◌∙◌, arith, ⊎_elim, leb_tells, mod-add-mod, mod-eq_of_lt, IsWidth}
+use Rattle.tl_burst.proofs.Names.{lane_of, bytes_per_beat, lane-plain}
 
 -- byte i and byte i modulo a beat stand on the same lane
 pub same-lane : (x i size w : ℕ) → IsWidth w → i < 2 ^ size → lane_of x (i % bytes_per_beat size w) w ≡ lane_of x i w

@@ -1,11 +1,7 @@
 -- Worked examples of the layout of a message at several widths.
-use Rattle.std.proofs.Common.{◌≡◌, ◌+◌, ◌-◌, ◌^◌, ℕ, Bool, true, false, List, [], ◌∷◌, ◌++◌, map, replicate, refl}
-use Rattle.std.specs.List.{range_with_len}
-use Rattle.tl_msg.specs.declared.head.HeadA.{HeadA}
+use Rattle.tl_burst.proofs.Names.{◌≡◌, ◌+◌, ◌-◌, ◌^◌, ℕ, Bool, true, false, List, [], ◌∷◌, ◌++◌, map, replicate, refl, range_with_len, HeadA, BeatOf}
+use Rattle.tl_burst.proofs.Names.{rules_a, rules_d, Cell, Message, layout}
 use Rattle.tl_msg.specs.declared.head.HeadD.{HeadD}
-use Rattle.tl_msg.specs.declared.beat.BeatOf.{BeatOf}
-use Rattle.tl_msg.specs.Tables.{rules_a, rules_d}
-use Rattle.tl_burst.specs.Messages.{Cell, Message, layout}
 
 abbrev a : (opcode size address : ℕ) → HeadA
 a opcode size address = record { opcode = opcode; param = 0; size = size; source = 1; address = address }

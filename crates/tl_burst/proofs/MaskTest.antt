@@ -1,11 +1,7 @@
 -- The mask test of a beat, as facts over lanes.
-use Rattle.std.proofs.Common.{◌≡◌, ◌<◌, ◌≢◌, ◌==◌, ◌↔◌, ℕ, Bool, true, false, min, if◌then◌else◌, refl, sym, ap, ◌∙◌, arith, eq-eqb, ⊎_elim, bit_and}
-use Rattle.std.specs.Int.{bit_at}
-use Rattle.std.proofs.lemmas.Bool.{eqb-true}
-use Rattle.std.proofs.lemmas.Bool.Decides.{eqb_tells}
+use Rattle.tl_burst.proofs.Names.{◌≡◌, ◌<◌, ◌≢◌, ◌==◌, ◌↔◌, ℕ, Bool, true, false, min, if◌then◌else◌, refl, sym, ap, ◌∙◌, arith, eq-eqb, ⊎_elim}
+use Rattle.tl_burst.proofs.Names.{bit_and, bit_at, eqb-true, eqb_tells, IsWidth, active_mask, bit_at-active_mask}
 use Rattle.std.proofs.lemmas.Nat.Bits.{bit_at_and, bit_at-lt, same_from_bits}
-use Rattle.tl_lanes.specs.Lanes.{IsWidth, active_mask}
-use Rattle.tl_lanes.proofs.ActiveLanes.{bit_at-active_mask}
 use Rattle.tl_burst.proofs.Fits.{MaskFits}
 
 -- a mask within another one has no other bits

@@ -1,14 +1,10 @@
 -- Elements of joined lists, and powers of two that divide one another.
-use Rattle.std.proofs.Common.{◌≡◌, ◌≤◌, ◌<◌, ◌+◌, ◌-◌, ◌*◌, ◌/◌, ◌%◌, ◌^◌, ◌≢◌, ℕ, zero, suc, Some, List, [], ◌∷◌, ◌++◌, length, get_or, replicate, slice_get, refl, sym, ap, subst, ◌∙◌, arith, rules, ⊎_elim}
-use Rattle.std.proofs.lemmas.Bool.Decides.{eqb_tells, leb_tells}
-use Rattle.std.proofs.lemmas.Option.{slice_get_within, get_or_from_slice_get}
-use Rattle.std.proofs.lemmas.List.{length_push}
-use Rattle.std.proofs.lemmas.Nat.{pow-add, le-div}
+use Rattle.tl_burst.proofs.Names.{◌≡◌, ◌≤◌, ◌<◌, ◌+◌, ◌-◌, ◌*◌, ◌/◌, ◌%◌, ◌^◌, ◌≢◌, ℕ, zero, suc, Some, List, [], ◌∷◌, ◌++◌, length, get_or}
+use Rattle.tl_burst.proofs.Names.{replicate, slice_get, refl, sym, ap, subst, ◌∙◌, arith, rules, ⊎_elim, eqb_tells, leb_tells, slice_get_within}
+use Rattle.tl_burst.proofs.Names.{get_or_from_slice_get, length_push, mul-div_cancel, IsWidth, bytes_per_beat}
+use Rattle.std.proofs.lemmas.Nat.{pow-add, le-div, div-add-mod'}
 use Rattle.std.proofs.Math.Seq.{get_or-append_seam}
-use Rattle.std.proofs.Math.Nat.{mod-add-div, mul-div_cancel, mul-le-mul_right}
 use Rattle.std.proofs.Math.Pow.{pow_mono, pow-lt}
-use Rattle.std.proofs.Math.Arith.{digits_div}
-use Rattle.tl_lanes.specs.Lanes.{IsWidth, bytes_per_beat}
 
 -- the front of a join
 pub slice_get-left : {A : Type 0} (xs ys : List A) (t : ℕ) → t < length xs → slice_get xs t ≡ slice_get (xs ++ ys) t
@@ -57,32 +53,12 @@ powers-divide a b p q ep eq le =
     (λ s. let lt : 2 ^ a < 2 ^ b = pow-lt s.1 in absurd (omega arith))
     (leb_tells b a)
 
--- the places of far beat t of near beat j: p near bytes, q far bytes, c = p / q
-pub far-first : (j t p q c : ℕ) → p ≡ c * q → j * p + t * q ≡ (j * c + t) * q
-far-first j t p q c e = rw e (grind arith)
-
-pub far-inside : (j t p q c k : ℕ) → p ≡ c * q → 0 < q → t < c → k < q → (j * p + t * q + k) / p ≡ j
-far-inside j t p q c k e pos lt below =
-    let small : t * q + k < p = grind (arith, mul-le-mul_right) in
-    let sum : j * p + (t * q + k) ≡ j * p + t * q + k = omega arith in
-    ap (λ x. x / p) (sym sum) ∙ digits_div j small
-
-pub far-room : (j t p q c n s : ℕ) → p ≡ c * q → t < c → j < n → n * p ≤ s → j * p + t * q + q ≤ s
-far-room j t p q c n s e lt inside room =
-    let one : (t + 1) * q ≤ c * q = grind (arith, mul-le-mul_right) in
-    let two : (j + 1) * p ≤ n * p = grind (arith, mul-le-mul_right) in
-    omega arith
-
 -- every read of zeros is zero
 pub zeros : (n i : ℕ) → get_or {A = ℕ} (replicate n 0) i 0 ≡ 0
 zeros zero i = refl
 zeros (suc n) zero = refl
 zeros (suc n) (suc i) = zeros n i
 
--- a number by its quotient and its rest
-pub parts : (n p : ℕ) → n / p * p + n % p ≡ n
-parts n p = let e : n % p + p * (n / p) ≡ n = mod-add-div n p in grind arith
-
 -- quotients go up
 pub div-up : (a b p : ℕ) → 0 < p → a ≤ b → a / p ≤ b / p
-div-up a b p pos le = let s : a / p * p + a % p ≡ a = parts a p in le-div (a / p) b p pos (omega arith)
+div-up a b p pos le = let s : a / p * p + a % p ≡ a = div-add-mod' a p in le-div (a / p) b p pos (omega arith)

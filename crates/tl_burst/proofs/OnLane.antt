@@ -1,11 +1,7 @@
 -- The byte on a lane of a beat.
-use Rattle.std.proofs.Common.{◌≡◌, ◌≤◌, ◌<◌, ◌+◌, ◌-◌, ◌*◌, ◌/◌, ◌%◌, ◌^◌, ◌≢◌, ◌⊎◌, ℕ, Some, None, sym, ap, ◌∙◌, arith, inl, inr, ⊎_elim}
-use Rattle.std.proofs.Math.Nat.{mod-add-div, mod-lt}
-use Rattle.std.proofs.Math.Arith.{digits_div}
-use Rattle.tl_msg.specs.Rules.{Rules}
-use Rattle.tl_lanes.specs.Lanes.{IsWidth, lane_of}
-use Rattle.tl_lanes.proofs.Widths.{lanes_differ, lane_cases, lane-shift}
-use Rattle.tl_burst.specs.Messages.{Message, byte_on, per_beat}
+use Rattle.tl_burst.proofs.Names.{◌≡◌, ◌≤◌, ◌<◌, ◌+◌, ◌-◌, ◌*◌, ◌/◌, ◌%◌, ◌^◌, ◌≢◌, ◌⊎◌, ℕ, Some, None, sym, ap, ◌∙◌, arith, inl, inr, ⊎_elim}
+use Rattle.tl_burst.proofs.Names.{mod-add-div, mod-lt, digits_div, Rules, IsWidth, lane_of, lanes_differ, lane_cases, lane-shift, Message, byte_on}
+use Rattle.tl_burst.proofs.Names.{per_beat}
 use Rattle.tl_burst.proofs.Places.{byte_on-some, byte_on-none, per-pos, per-le}
 
 module _ {H : Type 0} (r : Rules H) (m : Message H) (v : ℕ) (vw : IsWidth v) where

@@ -1,13 +1,8 @@
 -- The byte of a message that stands in a beat on a lane.
-use Rattle.std.proofs.Common.{◌≡◌, ◌≤◌, ◌<◌, ◌+◌, ◌*◌, ◌/◌, ◌%◌, ◌^◌, ◌≢◌, ◌==◌, ◌&&◌, ℕ, zero, suc, Bool, true, false, cond, None, Some, find, refl, sym, subst, ◌∙◌, arith, rules, ⊎_elim}
-use Rattle.std.specs.List.{range_with_len}
+use Rattle.tl_burst.proofs.Names.{◌≡◌, ◌≤◌, ◌<◌, ◌+◌, ◌*◌, ◌/◌, ◌%◌, ◌^◌, ◌≢◌, ◌==◌, ◌&&◌, ℕ, zero, suc, Bool, true, false, cond, None, Some, find}
+use Rattle.tl_burst.proofs.Names.{refl, sym, subst, ◌∙◌, arith, rules, ⊎_elim, range_with_len, eqb_tells, mod-add-div, mod-lt, IsWidth, lane_of}
+use Rattle.tl_burst.proofs.Names.{lanes_differ, width_bounds, Rules, Message, byte_on, per_beat}
 use Rattle.std.proofs.lemmas.Grind.{common_steps}
-use Rattle.std.proofs.lemmas.Bool.Decides.{eqb_tells}
-use Rattle.std.proofs.Math.Nat.{mod-add-div, mod-lt}
-use Rattle.tl_lanes.specs.Lanes.{IsWidth, lane_of}
-use Rattle.tl_lanes.proofs.Widths.{lanes_differ, width_bounds}
-use Rattle.tl_msg.specs.Rules.{Rules}
-use Rattle.tl_burst.specs.Messages.{Message, byte_on, per_beat}
 
 -- the first number of a range that passes a test
 pub find-range : (p : ℕ → Bool) (a n i : ℕ) → a ≤ i → i < a + n → p i ≡ true → ((x : ℕ) → a ≤ x → x < i → p x ≡ false) →

@@ -1,18 +1,10 @@
 -- The places of beats without a fault.
-use Rattle.std.proofs.Common.{◌≡◌, ◌<◌, ◌+◌, ◌==◌, ◌↔◌, ◌++◌, ℕ, Bool, true, false, not, if◌then◌else◌, Option, None, Some, Result, Ok, Err, IsOk, IfOk, List, [], ◌∷◌, length, replicate, refl, sym, ap, subst, ◌∙◌, arith, eq-eqb, length-append}
-use Rattle.std.specs.Prelude.{◌||◌}
+use Rattle.tl_burst.proofs.Names.{◌≡◌, ◌<◌, ◌+◌, ◌==◌, ◌↔◌, ◌++◌, ℕ, Bool, true, false, not, if◌then◌else◌, Option, None, Some, Result, Ok, Err, IsOk}
+use Rattle.tl_burst.proofs.Names.{IfOk, List, [], ◌∷◌, length, replicate, refl, sym, ap, subst, ◌∙◌, arith, eq-eqb, length-append, ◌||◌, IsWidth}
+use Rattle.tl_burst.proofs.Names.{Rules, unless, ◌or_else◌, BeatOf, Mask, Corrupt, HeadChanged, both_none, unless_true, Message, beats_of, Handed}
+use Rattle.tl_burst.proofs.Names.{burst_of, burst_after, fault_in, IsOpen, IsPlace, IsPlaceOf, Place}
 use Rattle.std.specs.Int.Bits.{and_self, bit_and}
-use Rattle.tl_lanes.specs.Lanes.{IsWidth}
-use Rattle.tl_msg.specs.Rules.{Rules}
-use Rattle.tl_msg.specs.Firsts.{unless, ◌or_else◌}
 use Rattle.tl_msg.specs.Faults.{full_mask, mask_fits, is_clean}
-use Rattle.tl_msg.specs.declared.beat.BeatOf.{BeatOf}
-use Rattle.tl_msg.specs.declared.fault.BeatFault.TheVariants.{Mask, Corrupt, HeadChanged}
-use Rattle.tl_msg.proofs.Firsts.{both_none, unless_true}
-use Rattle.tl_burst.specs.Messages.{Message, beats_of}
-use Rattle.tl_burst.specs.Handing.{Handed, burst_of, burst_after, fault_in}
-use Rattle.tl_burst.specs.Tracking.{IsOpen, IsPlace, IsPlaceOf}
-use Rattle.tl_burst.specs.declared.place.Place.{Place}
 use Rattle.tl_burst.proofs.Admitted.{Open, open-of}
 use Rattle.tl_burst.proofs.FaultsExact.{ChannelLaws, none-lawful, none-held, begun-lawful}
 use Rattle.tl_burst.proofs.RestOf.{RestIs, some-first}

@@ -1,13 +1,7 @@
 -- What handed beats leave unfinished is found by the sizes in their heads.
-use Rattle.std.proofs.Common.{◌≡◌, ◌<◌, ◌+◌, ◌≢◌, ℕ, suc, true, false, Some, List, [], ◌∷◌, ◌++◌, length, slice_get, refl, sym, ap, ◌∙◌, arith, ⊎_elim, append_assoc, append-nil, length-append}
-use Rattle.std.proofs.lemmas.Option.{slice_get_within}
-use Rattle.std.proofs.lemmas.List.{length_push}
-use Rattle.std.proofs.lemmas.Bool.Decides.{eqb_tells}
-use Rattle.tl_msg.specs.Rules.{Rules}
-use Rattle.tl_msg.specs.declared.beat.BeatOf.{BeatOf}
-use Rattle.tl_burst.specs.Messages.{Message, beats_of}
-use Rattle.tl_burst.specs.Spelling.{Spells}
-use Rattle.tl_burst.specs.Handing.{Handed, nothing, begun, whole, ends, rest_after, rest_of}
+use Rattle.tl_burst.proofs.Names.{◌≡◌, ◌<◌, ◌+◌, ◌≢◌, ℕ, suc, true, false, Some, List, [], ◌∷◌, ◌++◌, length, slice_get, refl, sym, ap, ◌∙◌, arith}
+use Rattle.tl_burst.proofs.Names.{⊎_elim, append_assoc, append-nil, length-append, slice_get_within, length_push, eqb_tells, Rules, BeatOf, Message}
+use Rattle.tl_burst.proofs.Names.{beats_of, Spells, Handed, nothing, begun, whole, ends, rest_after, rest_of}
 use Rattle.tl_burst.proofs.Numbers.{slice_get-left}
 
 pub some-first : {A : Type 0} (xs : List A) → xs ≢ [] → (y : A) × (ys : List A) × (xs ≡ y ∷ ys)

@@ -1,15 +1,7 @@
 -- Worked examples of bursts, on 4 lanes.
-use Rattle.std.proofs.Common.{◌≡◌, ℕ, zero, suc, true, false, Some, None, List, [], ◌∷◌, refl, arith, rules}
-use Rattle.std.specs.List.{range_with_len}
-use Rattle.std.specs.Prelude.{slice_get}
-use Rattle.tl_msg.specs.declared.head.HeadA.{HeadA}
-use Rattle.tl_msg.specs.declared.beat.BeatOf.{BeatOf}
-use Rattle.tl_msg.specs.declared.fault.BeatFault.TheVariants.{Mask, HeadChanged}
-use Rattle.tl_msg.specs.Tables.{rules_a}
-use Rattle.tl_burst.specs.Messages.{Cell, Message, IsLawful, layout}
-use Rattle.tl_burst.specs.Spelling.{Spells, SpellsBeat}
-use Rattle.tl_burst.specs.Handing.{Handed, nothing, whole, rest_of, fault_after}
-use Rattle.tl_burst.specs.Begun.{heads, left}
+use Rattle.tl_burst.proofs.Names.{◌≡◌, ℕ, zero, suc, true, false, Some, None, List, [], ◌∷◌, refl, arith, rules, range_with_len, slice_get, HeadA}
+use Rattle.tl_burst.proofs.Names.{BeatOf, Mask, HeadChanged, rules_a, Cell, Message, IsLawful, layout, Spells, SpellsBeat, Handed, nothing, whole}
+use Rattle.tl_burst.proofs.Names.{rest_of, fault_after, heads, left}
 
 abbrev a : (opcode size source address : ℕ) → HeadA
 a opcode size source address = record { opcode = opcode; param = 0; size = size; source = source; address = address }

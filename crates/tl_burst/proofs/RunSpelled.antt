@@ -1,24 +1,16 @@
 -- A run of beats that may stand in a message brings the message that is read back from it.
-use Rattle.std.proofs.Common.{◌≡◌, ◌≤◌, ◌<◌, ◌+◌, ◌-◌, ◌*◌, ◌/◌, ◌^◌, ◌≢◌, ◌==◌, ◌⊎◌, ◌++◌, ℕ, zero, suc, Bool, true, false, cond, Option, None, Some, List, [], ◌∷◌, length, get_or, map, slice_get, slice_index, refl, sym, ap, subst, ◌∙◌, arith, inl, inr, ⊎_elim, length-append}
-use Rattle.std.specs.List.{range_with_len}
-use Rattle.std.specs.Int.{bit_at}
-use Rattle.std.proofs.lemmas.Option.{slice_get-get_or, get_or_from_slice_get, slice_get_within, slice_get_past}
-use Rattle.std.proofs.lemmas.List.Elements.{All-from_get_or}
+use Rattle.tl_burst.proofs.Names.{◌≡◌, ◌≤◌, ◌<◌, ◌+◌, ◌-◌, ◌*◌, ◌/◌, ◌^◌, ◌≢◌, ◌==◌, ◌⊎◌, ◌++◌, ℕ, zero, suc, Bool, true, false, cond, Option, None}
+use Rattle.tl_burst.proofs.Names.{Some, List, [], ◌∷◌, length, get_or, map, slice_get, slice_index, refl, sym, ap, subst, ◌∙◌, arith, inl, inr}
+use Rattle.tl_burst.proofs.Names.{⊎_elim, length-append, range_with_len, bit_at, slice_get-get_or, get_or_from_slice_get, slice_get_within}
+use Rattle.tl_burst.proofs.Names.{slice_get_past, All-from_get_or, digits_div, Rules, BeatOf, IsWidth, lane_of, lane-lt, Message, Cell, IsLawful}
+use Rattle.tl_burst.proofs.Names.{byte_on, per_beat, beats_of, lane_value, beat_at, some_of, is_bad, Spells, SpellsBeat, cell_of, message_of}
+use Rattle.tl_burst.proofs.Names.{cases_Bool}
 use Rattle.std.proofs.lemmas.List.FromFn.{get_or-map-range_with_len, length-map-range_with_len}
-use Rattle.std.proofs.Math.Arith.{digits_div}
-use Rattle.tl_msg.specs.Rules.{Rules}
-use Rattle.tl_msg.specs.declared.beat.BeatOf.{BeatOf}
-use Rattle.tl_lanes.specs.Lanes.{IsWidth, lane_of}
-use Rattle.tl_lanes.proofs.Widths.{lane-lt}
-use Rattle.tl_burst.specs.Messages.{Message, Cell, IsLawful, byte_on, per_beat, beats_of, lane_value, beat_at, some_of, is_bad}
-use Rattle.tl_burst.specs.Spelling.{Spells, SpellsBeat}
-use Rattle.tl_burst.specs.Reading.{cell_of, message_of}
 use Rattle.tl_burst.proofs.Fits.{MaskFits, FitsMask}
 use Rattle.tl_burst.proofs.Places.{byte_on-some}
 use Rattle.tl_burst.proofs.RestOf.{some-first}
 use Rattle.tl_burst.proofs.Runs.{of_cells, run_cells, cell_at, run-is, run-length, run-cell}
 use Rattle.tl_burst.proofs.SpelledRun.{Fitting, room-of, mask-is}
-use Rattle.std.proofs.lemmas.Bool.{cases_Bool}
 
 -- an element of a join stands in one of its parts
 parts-get : {A : Type 0} (xs ys : List A) (j : ℕ) (b : A) → slice_get (xs ++ ys) j ≡ Some b →

@@ -1,20 +1,14 @@
 -- The message that a run of beats brings, read back, and its cells.
-use Rattle.std.proofs.Common.{◌≡◌, ◌≤◌, ◌<◌, ◌+◌, ◌*◌, ◌/◌, ◌%◌, ◌^◌, ◌&&◌, ◌||◌, ◌++◌, ℕ, zero, suc, Bool, true, false, cond, Some, List, [], ◌∷◌, length, map, slice_get, refl, sym, ap, ◌∙◌, arith, ⊎_elim}
+use Rattle.tl_burst.proofs.Names.{◌≡◌, ◌≤◌, ◌<◌, ◌+◌, ◌*◌, ◌/◌, ◌%◌, ◌^◌, ◌&&◌, ◌||◌, ◌++◌, ℕ, zero, suc, Bool, true, false, cond, Some, List, []}
+use Rattle.tl_burst.proofs.Names.{◌∷◌, length, map, slice_get, refl, sym, ap, ◌∙◌, arith, ⊎_elim, range_with_len, option_map_or, slice_get-get_or}
+use Rattle.tl_burst.proofs.Names.{mul-le-mul_right, div-mul-le_self, Rules, BeatOf, IsWidth, lane_of, Message, Cell, per_beat, beats_of, lane_value}
+use Rattle.tl_burst.proofs.Names.{lane_on, beat_at, some_of, is_bad, mask_of, cell_of, message_of}
 use Rattle.tl_msg.proofs.Beats.{same_beat}
-use Rattle.std.specs.List.{range_with_len}
-use Rattle.std.specs.Option.{option_map_or}
-use Rattle.std.proofs.lemmas.Option.{slice_get-get_or}
 use Rattle.std.proofs.lemmas.List.FromFn.{get_or-map-range_with_len, length-map-range_with_len}
-use Rattle.std.proofs.Math.Nat.{mul-le-mul_right, div-mul-le_self}
-use Rattle.tl_msg.specs.Rules.{Rules}
-use Rattle.tl_msg.specs.declared.beat.BeatOf.{BeatOf}
-use Rattle.tl_lanes.specs.Lanes.{IsWidth, lane_of}
-use Rattle.tl_burst.specs.Messages.{Message, Cell, per_beat, beats_of, lane_value, lane_on, beat_at, some_of, is_bad}
-use Rattle.tl_lanes.specs.Lanes.{mask_of}
-use Rattle.tl_burst.specs.Reading.{cell_of, message_of}
 use Rattle.tl_burst.proofs.Places.{per-pos}
 use Rattle.tl_burst.proofs.OnLane.{on_lane}
-use Rattle.tl_burst.proofs.Numbers.{slice_get-left, per-power, powers-divide, parts}
+use Rattle.tl_burst.proofs.Numbers.{slice_get-left, per-power, powers-divide}
+use Rattle.std.proofs.lemmas.Nat.{div-add-mod'}
 
 -- maps that agree on a range
 pub map-same : {A : Type 0} (f g : ℕ → A) (a n : ℕ) → ((x : ℕ) → a ≤ x → x < a + n → f x ≡ g x) → map f (range_with_len a n) ≡ map g (range_with_len a n)
@@ -105,7 +99,7 @@ module _ {H : Type 0} (r : Rules H) where
         slice_get (run_cells bs) i ≡ slice_get (run_cells (bs ++ more)) i
     cells-same bs more e ee room i lt =
         let inside : i < 2 ^ r.size h = omega arith in
-        let q : i / per_beat r h w * per_beat r h w + i % per_beat r h w ≡ i = parts i (per_beat r h w) in
+        let q : i / per_beat r h w * per_beat r h w + i % per_beat r h w ≡ i = div-add-mod' i (per_beat r h w) in
         let before : i / per_beat r h w < length bs = grind (arith, mul-le-mul_right) in
         run-cell bs i inside ∙ ap (λ o. Some (cell_of r h w (lane_of x i w) o)) (slice_get-left bs more (i / per_beat r h w) before) ∙
         sym (run-cell (bs ++ more) i inside)

@@ -1,22 +1,11 @@
 -- A beat that brings a part of a lawful message: its mask fits, and a mask that fits is the message's.
-use Rattle.std.proofs.Common.{◌≡◌, ◌≤◌, ◌<◌, ◌+◌, ◌-◌, ◌*◌, ◌/◌, ◌%◌, ◌^◌, ◌≢◌, ◌==◌, ◌&&◌, ℕ, zero, suc, Bool, true, false, cond, not, Some, List, [], ◌∷◌, length, get_or, slice_get, slice_index, refl, sym, ap, subst, ◌∙◌, arith, ⊎_elim}
-use Rattle.std.specs.Prelude.{All}
-use Rattle.std.specs.Option.{option_map_or}
-use Rattle.std.specs.Int.{bit_at}
-use Rattle.std.proofs.lemmas.Bool.Decides.{eqb_tells, leb_tells}
-use Rattle.std.proofs.lemmas.Option.{slice_get-get_or, get_or_from_slice_get, slice_get_within}
-use Rattle.std.proofs.lemmas.List.Elements.{All-get_or}
+use Rattle.tl_burst.proofs.Names.{◌≡◌, ◌≤◌, ◌<◌, ◌+◌, ◌-◌, ◌*◌, ◌/◌, ◌%◌, ◌^◌, ◌≢◌, ◌==◌, ◌&&◌, ℕ, zero, suc, Bool, true, false, cond, not, Some}
+use Rattle.tl_burst.proofs.Names.{List, [], ◌∷◌, length, get_or, slice_get, slice_index, refl, sym, ap, subst, ◌∙◌, arith, ⊎_elim, All, option_map_or}
+use Rattle.tl_burst.proofs.Names.{bit_at, eqb_tells, leb_tells, slice_get-get_or, get_or_from_slice_get, slice_get_within, All-get_or, true≢false}
+use Rattle.tl_burst.proofs.Names.{mod-lt, mul-le-mul_right, digits_div, digits_mod, Rules, BeatOf, IsWidth, lane_of, bytes_per_beat}
+use Rattle.tl_burst.proofs.Names.{beats_per_message, IsActive, lane-lt, Message, Cell, IsLawful, byte_on, per_beat, beats_of, lane_on, mask_at}
+use Rattle.tl_burst.proofs.Names.{SpellsBeat}
 use Rattle.std.proofs.lemmas.Nat.Bits.{bit_at-lt, bit_at_above, same_from_bits}
-use Rattle.std.proofs.lemmas.Bool.{true≢false}
-use Rattle.std.proofs.Math.Nat.{mod-lt, mul-le-mul_right}
-use Rattle.std.proofs.Math.Arith.{digits_div, digits_mod}
-use Rattle.tl_msg.specs.Rules.{Rules}
-use Rattle.tl_msg.specs.declared.beat.BeatOf.{BeatOf}
-use Rattle.tl_lanes.specs.Lanes.{IsWidth, lane_of, bytes_per_beat, beats_per_message}
-use Rattle.tl_lanes.proofs.ActiveLanes.{IsActive}
-use Rattle.tl_lanes.proofs.Widths.{lane-lt}
-use Rattle.tl_burst.specs.Messages.{Message, Cell, IsLawful, byte_on, per_beat, beats_of, lane_on, mask_at}
-use Rattle.tl_burst.specs.Spelling.{SpellsBeat}
 use Rattle.tl_burst.proofs.Fits.{MaskFits, FitsMask}
 use Rattle.tl_burst.proofs.Places.{per-pos, byte_on-some}
 use Rattle.tl_burst.proofs.OnLane.{on_lane}

@@ -1,13 +1,7 @@
 -- One beat more: the burst that is open after a beat at its place.
-use Rattle.std.proofs.Common.{◌≡◌, ◌≢◌, ◌≤◌, ◌<◌, ◌+◌, ◌==◌, eq-eqb, ℕ, Bool, true, false, cond, if◌then◌else◌, Option, None, Some, List, [], ◌∷◌, ◌++◌, length, refl, sym, ap, ◌∙◌, arith}
-use Rattle.std.proofs.lemmas.List.{length_push}
-use Rattle.tl_lanes.specs.Lanes.{IsWidth}
-use Rattle.tl_msg.specs.Rules.{Rules}
-use Rattle.tl_msg.specs.declared.beat.BeatOf.{BeatOf}
-use Rattle.tl_burst.specs.Messages.{beats_of}
-use Rattle.tl_burst.specs.Handing.{ends, rest_of, burst_of, burst_after}
-use Rattle.tl_burst.specs.Tracking.{count_in, burst_with, IsOpen, IsPlace}
-use Rattle.tl_burst.specs.declared.place.Place.{Place}
+use Rattle.tl_burst.proofs.Names.{◌≡◌, ◌≢◌, ◌≤◌, ◌<◌, ◌+◌, ◌==◌, eq-eqb, ℕ, Bool, true, false, cond, if◌then◌else◌, Option, None, Some, List, [], ◌∷◌}
+use Rattle.tl_burst.proofs.Names.{◌++◌, length, refl, sym, ap, ◌∙◌, arith, length_push, IsWidth, Rules, BeatOf, beats_of, ends, rest_of, burst_of}
+use Rattle.tl_burst.proofs.Names.{burst_after, count_in, burst_with, IsOpen, IsPlace, Place}
 use Rattle.tl_burst.proofs.Burst.{rest-snoc, beats-bounds}
 
 not-both : {b : Bool} → b ≡ false → b ≡ true → ⊥

@@ -1,20 +1,10 @@
 -- The accepted beats are the longest first part of a list that is handed.
-use Rattle.std.proofs.Common.{◌≡◌, ◌⊎◌, ◌++◌, ℕ, suc, true, cond, Option, None, Some, List, [], ◌∷◌, slice_get, refl, sym, ap, subst, ◌∙◌, ⊎_elim, inl, inr, append_assoc, append-nil}
-use Rattle.std.specs.Prelude.{is_none}
+use Rattle.tl_convert.proofs.Names.{◌≡◌, ◌⊎◌, ◌++◌, ℕ, suc, cond, Option, None, Some, List, [], ◌∷◌, slice_get, refl, sym, ap, subst, ◌∙◌, ⊎_elim}
+use Rattle.tl_convert.proofs.Names.{inl, inr, append_assoc, append-nil, is_none, Rules, IsBeat, BeatOf, IsWidth, IsHanded, nothing, fault_after}
+use Rattle.tl_convert.proofs.Names.{ChannelLaws, faults-exact, admitted-none, accepted_after, IsLongest}
 use mathlib.Core.List.{IsPrefix}
-use Rattle.tl_msg.specs.Rules.{Rules}
-use Rattle.tl_msg.specs.Beats.{IsBeat}
-use Rattle.tl_msg.specs.declared.beat.BeatOf.{BeatOf}
 use Rattle.tl_msg.specs.declared.fault.BeatFault.{BeatFault}
-use Rattle.tl_lanes.specs.Lanes.{IsWidth}
-use Rattle.tl_burst.specs.Handing.{IsHanded, nothing, fault_after}
-use Rattle.tl_burst.proofs.FaultsExact.{ChannelLaws, faults-exact, admitted-none}
 use Rattle.tl_burst.proofs.Fronts.{front-handed}
-use Rattle.tl_convert.specs.Accepted.{accepted_after, IsLongest}
-
-pub no-fault : (o : Option BeatFault) → is_none o ≡ true → o ≡ None
-no-fault None e = refl
-no-fault (Some f) e = absurd (cc)
 
 pub none-or-some : (o : Option BeatFault) → (o ≡ None) ⊎ ((f : BeatFault) × (o ≡ Some f))
 none-or-some None = inl refl

@@ -1,11 +1,6 @@
 -- What is accepted is handed, where a beat after handed ones has no fault exactly where it is admitted.
-use Rattle.std.proofs.Common.{◌≡◌, ◌↔◌, ℕ, zero, suc, Option, None, Some, List, [], take, refl, sym, subst, arith}
-use Rattle.std.proofs.lemmas.Option.{slice_get_within, get_or_from_slice_get}
-use Rattle.std.specs.Prelude.{slice_get, All}
-use Rattle.tl_msg.specs.Rules.{Rules}
-use Rattle.tl_msg.specs.Beats.{IsBeat}
-use Rattle.tl_msg.specs.declared.beat.BeatOf.{BeatOf}
-use Rattle.tl_burst.specs.Handing.{nothing, IsHanded, IsAdmitted, fault_after}
+use Rattle.tl_convert.proofs.Names.{◌≡◌, ◌↔◌, ℕ, zero, suc, Option, None, Some, List, [], take, refl, sym, subst, arith, slice_get_within}
+use Rattle.tl_convert.proofs.Names.{get_or_from_slice_get, slice_get, All, Rules, IsBeat, BeatOf, nothing, IsHanded, IsAdmitted, fault_after}
 use Rattle.tl_convert.proofs.Extends.{take-next, take-past}
 use Rattle.tl_convert.proofs.FarHeads.{NoFaults, no-faults-less}
 

@@ -1,15 +1,8 @@
 -- Where messages begin in a list of beats that goes on, and in a layout.
-use Rattle.std.proofs.Common.{◌≡◌, ◌≤◌, ◌<◌, ◌+◌, ◌-◌, ◌*◌, ◌/◌, ◌^◌, ℕ, zero, suc, Bool, true, false, cond, List, [], ◌∷◌, ◌++◌, length, take, map, refl, sym, ap, ◌∙◌, arith, length-take}
-use Rattle.std.proofs.lemmas.Nat.{le-div}
-use Rattle.std.proofs.Math.Nat.{mul-le-mul_right, div-mul-le_self, le_trans}
-use Rattle.std.proofs.Math.Pow.{pow_pos}
-use Rattle.std.proofs.lemmas.List.FromFn.{length-map-range_with_len}
-use Rattle.std.specs.List.{range_with_len}
-use Rattle.tl_msg.specs.Rules.{Rules}
-use Rattle.tl_msg.specs.declared.beat.BeatOf.{BeatOf}
-use Rattle.tl_burst.specs.Messages.{Message, beats_of, per_beat, beat_at, layout}
-use Rattle.tl_burst.specs.Begun.{heads, heads_from, left_from}
-use Rattle.tl_convert.specs.Due.{far_beats_of}
+use Rattle.tl_convert.proofs.Names.{◌≡◌, ◌≤◌, ◌<◌, ◌+◌, ◌-◌, ◌*◌, ◌/◌, ◌^◌, ℕ, zero, suc, Bool, true, false, cond, List, [], ◌∷◌, ◌++◌, length, take}
+use Rattle.tl_convert.proofs.Names.{map, refl, sym, ap, ◌∙◌, arith, length-take, le-div, mul-le-mul_right, div-mul-le_self, le_trans, pow_pos}
+use Rattle.tl_convert.proofs.Names.{length-map-range_with_len, range_with_len, Rules, BeatOf, Message, beats_of, per_beat, beat_at, layout, heads}
+use Rattle.tl_convert.proofs.Names.{heads_from, left_from, far_beats_of}
 use Rattle.tl_convert.proofs.Extends.{Extends, more, extends-cons}
 use Rattle.tl_burst.proofs.BegunMessages.{heads-inside}
 

@@ -1,8 +1,6 @@
 -- Comparisons of numbers and questions to options, and what they tell.
-use Rattle.std.proofs.Common.{◌≡◌, ◌≤◌, ◌<◌, ◌≢◌, ℕ, zero, suc, Bool, true, false, Option, None, Some, List, [], ◌∷◌, ◌++◌, length, refl, arith, zero-le}
-use Rattle.std.proofs.lemmas.Bool.Decides.{nat_tests}
-use Rattle.std.specs.Prelude.{nat_lt, ◌==◌, slice_get}
-use Rattle.std.specs.Option.{option_map_or, is_some}
+use Rattle.tl_convert.proofs.Names.{◌≡◌, ◌≤◌, ◌<◌, ◌≢◌, ℕ, zero, suc, Bool, true, false, Option, None, Some, List, [], ◌∷◌, ◌++◌, length, refl, arith}
+use Rattle.tl_convert.proofs.Names.{zero-le, nat_tests, nat_lt, ◌==◌, slice_get, option_map_or, is_some}
 
 pub equal_true : (x y : ℕ) → x ≡ y → (x == y) ≡ true
 equal_true x y e = grind (arith, nat_tests)

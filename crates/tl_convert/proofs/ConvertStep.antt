@@ -1,21 +1,9 @@
 -- How what a converter stands for goes on by a near beat.
-use Rattle.std.proofs.Common.{◌≡◌, ◌<◌, ◌+◌, ◌*◌, ◌≢◌, ◌++◌, ℕ, true, false, cond, Some, List, [], ◌∷◌, length, drop, slice_get, slice_index, refl, sym, ap, subst, ◌∙◌, arith, ⊎_elim, append-nil}
-use Rattle.std.proofs.lemmas.Bool.Decides.{eqb_tells}
-use Rattle.std.proofs.lemmas.List.{length_push, nil_from_length}
-use Rattle.std.proofs.lemmas.Option.{same_Some}
-use Rattle.tl_msg.specs.Rules.{Rules}
-use Rattle.tl_msg.specs.declared.beat.BeatOf.{BeatOf}
-use Rattle.tl_lanes.specs.Lanes.{IsWidth}
-use Rattle.tl_burst.specs.Messages.{per_beat, beats_of}
-use Rattle.tl_burst.specs.Reading.{message_of}
-use Rattle.tl_burst.specs.Handing.{Handed, IsHandedWith, ends, rest_of, burst_of, burst_after, with_home, homes_with}
-use Rattle.tl_burst.proofs.Fits.{FitsMask, head_of}
-use Rattle.tl_burst.proofs.Burst.{rest-snoc, more-carries}
-use Rattle.tl_burst.proofs.RestOf.{RestIs}
-use Rattle.tl_convert.specs.Due.{due, far_beats_of}
-use Rattle.tl_convert.specs.Partial.{Filled}
-use Rattle.tl_convert.specs.Inner.Giving.{Run, Given}
-use Rattle.tl_convert.specs.Converting.{Progress, StandsFor}
+use Rattle.tl_convert.proofs.Names.{◌≡◌, ◌<◌, ◌+◌, ◌*◌, ◌≢◌, ◌++◌, ℕ, true, false, cond, Some, List, [], ◌∷◌, length, drop, slice_get, slice_index}
+use Rattle.tl_convert.proofs.Names.{refl, sym, ap, subst, ◌∙◌, arith, ⊎_elim, append-nil, eqb_tells, length_push, nil_from_length, same_Some, Rules}
+use Rattle.tl_convert.proofs.Names.{BeatOf, IsWidth, per_beat, beats_of, message_of, Handed, IsHandedWith, ends, rest_of, burst_of, burst_after}
+use Rattle.tl_convert.proofs.Names.{with_home, homes_with, FitsMask, head_of, rest-snoc, more-carries, RestIs, due, far_beats_of, Filled, Run, Given}
+use Rattle.tl_convert.proofs.Names.{Progress, StandsFor}
 use Rattle.tl_convert.proofs.FarHanded.{spelled-heads, all-heads}
 use Rattle.tl_convert.proofs.DueOne.{rest-begins}
 use Rattle.tl_convert.proofs.DueStep.{open_home, due-more, homes-count, homes-left, no-rest}

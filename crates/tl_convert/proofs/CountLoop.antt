@@ -1,19 +1,10 @@
 -- Counting goes on by a beat that is accepted, and stops at the first one that is not.
-use Rattle.std.proofs.Common.{◌≡◌, ◌≤◌, ◌<◌, ◌+◌, ◌++◌, ℕ, suc, cond, Option, None, Some, List, [], ◌∷◌, length, take, drop, get_or, sym, ap, subst, ◌∙◌, arith, append_assoc, append-nil}
-use Rattle.std.specs.Prelude.{is_none}
-use Rattle.std.proofs.lemmas.List.{take_more}
+use Rattle.tl_convert.proofs.Names.{◌≡◌, ◌≤◌, ◌<◌, ◌+◌, ◌++◌, ℕ, suc, cond, Option, None, Some, List, [], ◌∷◌, length, take, drop, get_or, sym, ap}
+use Rattle.tl_convert.proofs.Names.{subst, ◌∙◌, arith, append_assoc, append-nil, is_none, take_more, drop_of_length-le, IsWidth, Rules, BeatOf}
+use Rattle.tl_convert.proofs.Names.{beats_of, rest_of, burst_after, fault_after, IsPlace, due, accepted_of, accepted_after}
 use Rattle.std.proofs.Math.Seq.{drop-cons}
-use Rattle.std.proofs.Math.ListN.{drop_of_length-le}
-use Rattle.tl_lanes.specs.Lanes.{IsWidth}
-use Rattle.tl_msg.specs.Rules.{Rules}
-use Rattle.tl_msg.specs.declared.beat.BeatOf.{BeatOf}
 use Rattle.tl_msg.specs.declared.fault.BeatFault.{BeatFault}
-use Rattle.tl_burst.specs.Messages.{beats_of}
-use Rattle.tl_burst.specs.Handing.{rest_of, burst_after, fault_after}
-use Rattle.tl_burst.specs.Tracking.{IsPlace}
 use Rattle.tl_burst.specs.declared.place.Place.{Place}
-use Rattle.tl_convert.specs.Due.{due}
-use Rattle.tl_convert.specs.Accepted.{accepted_of, accepted_after}
 use Rattle.tl_convert.specs.Counting.{Gives}
 use Rattle.tl_convert.proofs.ConvertStep.{burst-head}
 use Rattle.tl_convert.proofs.CountStep.{count-more}

@@ -1,23 +1,10 @@
 -- How many far beats one more near beat makes due, whatever the homes are.
-use Rattle.std.proofs.Common.{◌≡◌, ◌≤◌, ◌<◌, ◌+◌, ◌*◌, ◌/◌, ◌^◌, ◌≢◌, ◌++◌, ℕ, true, false, cond, Some, List, [], ◌∷◌, length, take, drop, slice_index, refl, sym, ap, ◌∙◌, arith, ⊎_elim, append_assoc, append-nil, length-append}
-use Rattle.std.proofs.lemmas.List.{length_push}
-use Rattle.std.proofs.lemmas.List.FromFn.{take-map-range_with_len, length-map-range_with_len}
-use Rattle.std.proofs.lemmas.Bool.Decides.{eqb_tells}
-use Rattle.std.proofs.Math.Nat.{mul-le-mul_right}
-use Rattle.tl_lanes.specs.Lanes.{IsWidth}
-use Rattle.tl_msg.specs.Rules.{Rules}
-use Rattle.tl_msg.specs.declared.beat.BeatOf.{BeatOf}
-use Rattle.tl_burst.specs.Messages.{per_beat, beats_of, beat_at, layout}
-use Rattle.tl_burst.specs.Reading.{message_of}
-use Rattle.tl_burst.specs.Handing.{ends, rest_after, rest_of}
-use Rattle.tl_burst.proofs.Fits.{head_of}
-use Rattle.tl_burst.proofs.Burst.{more-carries}
-use Rattle.tl_burst.proofs.Numbers.{div-up}
-use Rattle.tl_burst.proofs.Places.{per-pos}
-use Rattle.tl_burst.proofs.Runs.{of_cells, near-fill, far-fill}
-use Rattle.tl_convert.specs.Due.{due_after, due, part, far_beats_of}
+use Rattle.tl_convert.proofs.Names.{◌≡◌, ◌≤◌, ◌<◌, ◌+◌, ◌*◌, ◌/◌, ◌^◌, ◌≢◌, ◌++◌, ℕ, true, false, cond, Some, List, [], ◌∷◌, length, take, drop}
+use Rattle.tl_convert.proofs.Names.{slice_index, refl, sym, ap, ◌∙◌, arith, ⊎_elim, append_assoc, append-nil, length-append, length_push}
+use Rattle.tl_convert.proofs.Names.{take-map-range_with_len, length-map-range_with_len, eqb_tells, mul-le-mul_right, IsWidth, Rules, BeatOf, per_beat}
+use Rattle.tl_convert.proofs.Names.{beats_of, beat_at, layout, message_of, ends, rest_after, rest_of, head_of, more-carries, div-up, per-pos}
+use Rattle.tl_convert.proofs.Names.{of_cells, near-fill, far-fill, due_after, due, part, far_beats_of, cases_Bool}
 use Rattle.tl_convert.specs.Counting.{Gives}
-use Rattle.std.proofs.lemmas.Bool.{cases_Bool}
 
 module _ {H : Type 0} (r : Rules H) (w v : ℕ) where
   -- the homes that the whole messages leave, and their far beats

@@ -1,18 +1,9 @@
 -- How many far beats near beats make due: as many whatever the homes are, and no fewer where more near beats come.
-use Rattle.std.proofs.Common.{◌≡◌, ◌≤◌, ◌<◌, ◌+◌, ◌*◌, ◌/◌, ◌^◌, ◌⊎◌, ℕ, Bool, true, false, cond, List, [], ◌∷◌, ◌++◌, length, drop, refl, sym, ap, subst, ◌∙◌, arith, zero-le, ⊎_elim, length-append}
-use Rattle.std.proofs.Math.Nat.{min-eq_left, min-le_left, min-le_right, mul-le-mul_left, div-mul-le_self, div_self, div-eq_of_lt, le_trans}
-use Rattle.std.proofs.Math.Pow.{pow_pos}
-use Rattle.std.proofs.lemmas.List.{length_push, length-take}
-use Rattle.std.proofs.lemmas.List.FromFn.{length-map-range_with_len}
-use Rattle.std.proofs.lemmas.Nat.{le-div}
-use Rattle.std.specs.Prelude.{min, slice_index}
-use Rattle.tl_lanes.specs.Lanes.{bytes_per_beat, beats_per_message}
-use Rattle.tl_msg.specs.Rules.{Rules}
-use Rattle.tl_msg.specs.declared.beat.BeatOf.{BeatOf}
-use Rattle.tl_burst.specs.Messages.{beats_of, beat_at, layout}
-use Rattle.tl_burst.specs.Reading.{message_of}
-use Rattle.tl_burst.specs.Handing.{ends}
-use Rattle.tl_convert.specs.Due.{far_beats_of, part, due_after, due}
+use Rattle.tl_convert.proofs.Names.{◌≡◌, ◌≤◌, ◌<◌, ◌+◌, ◌*◌, ◌/◌, ◌^◌, ◌⊎◌, ℕ, Bool, true, false, cond, List, [], ◌∷◌, ◌++◌, length, drop, refl, sym}
+use Rattle.tl_convert.proofs.Names.{ap, subst, ◌∙◌, arith, zero-le, ⊎_elim, length-append, min-eq_left, min-le_left, min-le_right, mul-le-mul_left}
+use Rattle.tl_convert.proofs.Names.{div-mul-le_self, div_self, div-eq_of_lt, le_trans, pow_pos, length_push, length-take, length-map-range_with_len}
+use Rattle.tl_convert.proofs.Names.{le-div, min, slice_index, bytes_per_beat, beats_per_message, Rules, BeatOf, beats_of, beat_at, layout, message_of}
+use Rattle.tl_convert.proofs.Names.{ends, far_beats_of, part, due_after, due}
 use Rattle.tl_convert.proofs.Begins.{some_beats, more-due}
 use Rattle.tl_convert.proofs.Comparisons.{true_equal}
 use Rattle.tl_convert.proofs.Extends.{both, both-two}

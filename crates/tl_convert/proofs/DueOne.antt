@@ -1,16 +1,9 @@
 -- Near beats with their homes have one reading, and what is due is the same for every message that the rest begins.
-use Rattle.std.proofs.Common.{◌≡◌, ◌≤◌, ◌<◌, ◌+◌, ◌≢◌, ◌⊎◌, ◌++◌, ℕ, true, Option, Some, List, [], ◌∷◌, length, take, slice_get, slice_index, refl, sym, ap, subst, ◌∙◌, arith, inl, inr, ⊎_elim, append-nil, append_assoc, length-append}
-use Rattle.std.proofs.lemmas.Option.{get_or_from_slice_get}
-use Rattle.std.proofs.lemmas.List.FromFn.{take-map-range_with_len}
-use Rattle.tl_msg.specs.Rules.{Rules}
-use Rattle.tl_msg.specs.declared.beat.BeatOf.{BeatOf}
-use Rattle.tl_lanes.specs.Lanes.{IsWidth}
-use Rattle.tl_burst.specs.Messages.{Message, beats_of, beat_at, layout, IsLawful}
-use Rattle.tl_burst.specs.Spelling.{Spells}
-use Rattle.tl_burst.specs.Handing.{Handed, nothing, begun, whole}
-use Rattle.tl_burst.specs.Reading.{message_of}
-use Rattle.tl_convert.specs.Due.{part, due, far_beats_of, layouts, Begins, DueOf, between, within}
-use Rattle.tl_burst.proofs.RestOf.{rest-unique}
+use Rattle.tl_convert.proofs.Names.{◌≡◌, ◌≤◌, ◌<◌, ◌+◌, ◌≢◌, ◌⊎◌, ◌++◌, ℕ, true, Option, Some, List, [], ◌∷◌, length, take, slice_get, slice_index}
+use Rattle.tl_convert.proofs.Names.{refl, sym, ap, subst, ◌∙◌, arith, inl, inr, ⊎_elim, append-nil, append_assoc, length-append}
+use Rattle.tl_convert.proofs.Names.{get_or_from_slice_get, take-map-range_with_len, Rules, BeatOf, IsWidth, Message, beats_of, beat_at, layout}
+use Rattle.tl_convert.proofs.Names.{IsLawful, Spells, Handed, nothing, begun, whole, message_of, part, due, far_beats_of, layouts, Begins, DueOf}
+use Rattle.tl_convert.proofs.Names.{between, within, rest-unique}
 use Rattle.tl_convert.proofs.FarHanded.{message-is, not-empty, far-proper, part-first, some-length}
 use Rattle.tl_convert.proofs.DuePrefix.{due-begun, due-whole}
 

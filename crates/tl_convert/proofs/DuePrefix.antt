@@ -1,19 +1,10 @@
 -- What was due stays due: more near beats only add far beats at the end.
-use Rattle.std.proofs.Common.{◌≡◌, ◌≤◌, ◌<◌, ◌+◌, ◌-◌, ◌*◌, ◌≢◌, ◌⊎◌, ◌++◌, ℕ, true, List, [], ◌∷◌, length, map, refl, sym, ap, subst, ◌∙◌, arith, inl, inr, ⊎_elim, append_assoc, length-append}
+use Rattle.tl_convert.proofs.Names.{◌≡◌, ◌≤◌, ◌<◌, ◌+◌, ◌-◌, ◌*◌, ◌≢◌, ◌⊎◌, ◌++◌, ℕ, true, List, [], ◌∷◌, length, map, refl, sym, ap, subst, ◌∙◌}
+use Rattle.tl_convert.proofs.Names.{arith, inl, inr, ⊎_elim, append_assoc, length-append, range_with_len, mul-le-mul_right, Rules, BeatOf, IsWidth}
+use Rattle.tl_convert.proofs.Names.{Message, per_beat, beats_of, beat_at, layout, IsLawful, Spells, Handed, nothing, begun, whole, due, far_beats_of}
+use Rattle.tl_convert.proofs.Names.{per-pos, div-up, map-parts}
 use mathlib.Core.List.{IsPrefix}
-use Rattle.std.specs.List.{range_with_len}
-use Rattle.std.proofs.Math.Nat.{mul-le-mul_right}
-use Rattle.tl_msg.specs.Rules.{Rules}
-use Rattle.tl_msg.specs.declared.beat.BeatOf.{BeatOf}
-use Rattle.tl_lanes.specs.Lanes.{IsWidth}
-use Rattle.tl_burst.specs.Messages.{Message, per_beat, beats_of, beat_at, layout, IsLawful}
-use Rattle.tl_burst.specs.Spelling.{Spells}
-use Rattle.tl_burst.specs.Handing.{Handed, nothing, begun, whole}
-use Rattle.tl_convert.specs.Due.{due, far_beats_of}
 use Rattle.tl_convert.specs.Laws.{EarlierDue}
-use Rattle.tl_burst.proofs.Places.{per-pos}
-use Rattle.tl_burst.proofs.Numbers.{div-up}
-use Rattle.tl_burst.proofs.Runs.{map-parts}
 use Rattle.tl_convert.proofs.FarHanded.{first_beats, message-is, spelled-heads, whole-due, begun-due, shorter, not-empty, far-proper, part-first}
 
 -- two cuts of a list: one is not after the other

@@ -1,11 +1,7 @@
 -- What one more near beat makes due.
-use Rattle.std.proofs.Common.{◌≡◌, ◌<◌, ◌+◌, ◌==◌, ◌≢◌, ◌++◌, ℕ, suc, true, false, cond, Some, List, [], ◌∷◌, length, drop, slice_get, slice_index, refl, sym, ap, ◌∙◌, arith, append_assoc, append-nil, length-append}
-use Rattle.tl_msg.specs.Rules.{Rules}
-use Rattle.tl_msg.specs.declared.beat.BeatOf.{BeatOf}
-use Rattle.tl_lanes.specs.Lanes.{IsWidth}
-use Rattle.tl_burst.specs.Messages.{Message, beats_of, layout}
-use Rattle.tl_burst.specs.Handing.{Handed, nothing, begun, whole, ends}
-use Rattle.tl_convert.specs.Due.{due_after, due, part, layouts}
+use Rattle.tl_convert.proofs.Names.{◌≡◌, ◌<◌, ◌+◌, ◌==◌, ◌≢◌, ◌++◌, ℕ, suc, true, false, cond, Some, List, [], ◌∷◌, length, drop, slice_get}
+use Rattle.tl_convert.proofs.Names.{slice_index, refl, sym, ap, ◌∙◌, arith, append_assoc, append-nil, length-append, Rules, BeatOf, IsWidth, Message}
+use Rattle.tl_convert.proofs.Names.{beats_of, layout, Handed, nothing, begun, whole, ends, due_after, due, part, layouts}
 use Rattle.tl_convert.proofs.FarHanded.{snoc-join, spelled-heads, shorter}
 use Rattle.tl_convert.proofs.DuePrefix.{due-whole}
 use Rattle.tl_convert.proofs.Comparisons.{not_equal}

@@ -1,9 +1,7 @@
 -- Lists that go on from another one, and what they count.
-use Rattle.std.proofs.Common.{◌≡◌, ◌≤◌, ◌<◌, ◌+◌, ◌⊎◌, ℕ, zero, suc, Bool, true, false, cond, None, Some, List, [], ◌∷◌, ◌++◌, take, drop, refl, ap, subst, arith, append-nil, append_assoc, ⊎_elim}
-use Rattle.std.specs.Prelude.{slice_get}
-use Rattle.std.specs.List.{count_by}
+use Rattle.tl_convert.proofs.Names.{◌≡◌, ◌≤◌, ◌<◌, ◌+◌, ◌⊎◌, ℕ, zero, suc, Bool, true, false, cond, None, Some, List, [], ◌∷◌, ◌++◌, take, drop, refl}
+use Rattle.tl_convert.proofs.Names.{ap, subst, arith, append-nil, append_assoc, ⊎_elim, slice_get, count_by, take-take, take-append-drop}
 use Rattle.std.proofs.lemmas.List.Sums.{sum_by-append}
-use Rattle.std.proofs.lemmas.List.{take-take, take-append-drop}
 use mathlib.Core.List.{IsPrefix}
 
 -- ys goes on from xs

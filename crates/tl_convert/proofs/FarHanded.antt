@@ -1,32 +1,18 @@
 -- What is due is handed at the far width, by the same messages with corrupt gathered.
-use Rattle.std.proofs.Common.{◌≡◌, ◌≤◌, ◌<◌, ◌+◌, ◌-◌, ◌*◌, ◌/◌, ◌^◌, ◌≢◌, ◌==◌, ◌&&◌, ◌++◌, ℕ, zero, suc, Bool, true, false, cond, not, Option, None, Some, List, [], ◌∷◌, length, get_or, take, map, slice_get, flat_map, refl, sym, ap, subst, ◌∙◌, arith, rules, ⊎_elim, append-nil, append_assoc, length-append}
-use Rattle.std.specs.List.{range_with_len, enumerate_from}
-use Rattle.std.specs.Option.{option_map_or}
+use Rattle.tl_convert.proofs.Names.{◌≡◌, ◌≤◌, ◌<◌, ◌+◌, ◌-◌, ◌*◌, ◌/◌, ◌^◌, ◌≢◌, ◌==◌, ◌&&◌, ◌++◌, ℕ, zero, suc, Bool, true, false, cond, not, Option}
+use Rattle.tl_convert.proofs.Names.{None, Some, List, [], ◌∷◌, length, get_or, take, map, slice_get, refl, sym, ap, subst, ◌∙◌, arith, rules, ⊎_elim}
+use Rattle.tl_convert.proofs.Names.{append-nil, length-append, range_with_len, enumerate_from, option_map_or, slice_get-get_or, get_or_from_slice_get}
+use Rattle.tl_convert.proofs.Names.{slice_get_within, none-some, same_Some, length-map-range_with_len, fill_by_all, leb_tells, mul-le-mul_right}
+use Rattle.tl_convert.proofs.Names.{div-mul-le_self, Rules, BeatOf, IsWidth, lane_of, lane-lt, Message, Cell, byte_on, per_beat, beats_of, lane_value}
+use Rattle.tl_convert.proofs.Names.{lane_on, beat_at, layout, some_of, is_bad, IsLawful, SpellsBeat, Spells, Handed, nothing, begun, whole, ends}
+use Rattle.tl_convert.proofs.Names.{cell_of, message_of, part, due_after, due, far_beats_of, Begins, byte_on-some, per-pos, mask_of-same, map-parts}
+use Rattle.tl_convert.proofs.Names.{of_cells, cell_at, run_cells, run-is, near-fill, whole-same, some_of-none, more-carries, slice_get-left, head_of}
+use Rattle.tl_convert.proofs.Names.{cases_Bool, nil_from_length}
 use Rattle.std.specs.Int.{bit_at}
-use Rattle.std.proofs.lemmas.Option.{slice_get-get_or, get_or_from_slice_get, slice_get_within, none-some, same_Some}
-use Rattle.std.proofs.lemmas.List.FromFn.{length-map-range_with_len, fill_by_all}
-use Rattle.std.proofs.lemmas.Bool.Decides.{leb_tells}
-use Rattle.std.proofs.Math.Nat.{mul-le-mul_right, div-mul-le_self}
-use Rattle.tl_msg.specs.Rules.{Rules}
-use Rattle.tl_msg.specs.declared.beat.BeatOf.{BeatOf}
-use Rattle.tl_lanes.specs.Lanes.{IsWidth, lane_of}
-use Rattle.tl_lanes.proofs.Widths.{lane-lt}
-use Rattle.tl_burst.specs.Messages.{Message, Cell, byte_on, per_beat, beats_of, lane_value, lane_on, beat_at, layout, some_of, is_bad, IsLawful}
-use Rattle.tl_burst.specs.Spelling.{SpellsBeat, Spells}
-use Rattle.tl_burst.specs.Handing.{Handed, nothing, begun, whole, ends}
-use Rattle.tl_burst.specs.Reading.{cell_of, message_of}
-use Rattle.tl_convert.specs.Due.{part, due_after, due, far_beats_of, Begins}
 use Rattle.tl_convert.specs.Laws.{is_bad_with, IsEvenlyBad, gathered, far_homes, FarIsHanded}
-use Rattle.tl_burst.proofs.Places.{byte_on-some, per-pos}
 use Rattle.tl_lanes.proofs.Masks.{bit_at-mask_of}
-use Rattle.tl_burst.proofs.Runs.{mask_of-same, map-parts, of_cells, cell_at, run_cells, run-is, near-fill, whole-same, some_of-none}
 use Rattle.tl_convert.proofs.RunStep.{run_end, end-room, part-is}
-use Rattle.tl_burst.proofs.Burst.{more-carries}
-use Rattle.tl_burst.proofs.Numbers.{slice_get-left}
-use Rattle.tl_burst.proofs.Fits.{head_of}
 use Rattle.tl_burst.proofs.RunSpelled.{get-range}
-use Rattle.std.proofs.lemmas.Bool.{cases_Bool}
-use Rattle.std.proofs.lemmas.List.{nil_from_length}
 use Rattle.tl_convert.proofs.Comparisons.{equal_true, not_equal, there_is}
 
 -- cells whose corrupt is f of their place
@@ -192,21 +178,6 @@ module _ {H : Type 0} (r : Rules H) where
   layout-spells-even v m vw all_cells even =
       let P : Message H → Type 0 = λ y. Spells r y v (layout r m v) in
       subst P (gathered-same v m even) (layout-spells v vw m all_cells)
-
-  -- the layouts of lawful messages, joined, and then what is handed, are handed
-  pub layouts-then : (v : ℕ) → IsWidth v → (ms : List (Message H)) → ((i : ℕ) (m : Message H) → slice_get ms i ≡ Some m → IsLawful r m) →
-      {others : List (BeatOf H v)} {homes : List ℕ} {ms' : List (Message H)} {rest : List (BeatOf H v)} → Handed r v others homes ms' rest →
-      Handed r v (flat_map (λ m. layout r m v) ms ++ others) (map (λ m. m.home) ms ++ homes) (map (gathered r v) ms ++ ms') rest
-  layouts-then v vw [] lawful then = then
-  layouts-then v vw (m ∷ ms) lawful then =
-      rw append_assoc (whole (gathered r v m) (layout r m v) _ _ _ _ (gathered-lawful v vw m (lawful 0 m refl)) (layout-spells v vw m (lawful 0 m refl).cells)
-      (layouts-then v vw ms (λ i x e. lawful (suc i) x e) then))
-
-  pub layouts-handed : (v : ℕ) → IsWidth v → (ms : List (Message H)) → ((i : ℕ) (m : Message H) → slice_get ms i ≡ Some m → IsLawful r m) →
-      Handed r v (flat_map (λ m. layout r m v) ms) (map (λ m. m.home) ms) (map (gathered r v) ms) []
-  layouts-handed v vw ms lawful =
-      let done : Handed r v (flat_map (λ m. layout r m v) ms ++ []) (map (λ m. m.home) ms ++ []) (map (gathered r v) ms ++ []) [] = layouts-then v vw ms lawful nothing in
-      rw (append-nil (flat_map (λ m. layout r m v) ms)) at (rw (append-nil (map (λ m. m.home) ms)) at (rw (append-nil (map (gathered r v) ms)) at done))
 
   -- the first k beats of a message at v lanes
   abbrev pub first_beats : Message H → (v k : ℕ) → List (BeatOf H v)

@@ -1,22 +1,15 @@
 -- The messages that begin in far beats, by the near beats that make them due, where no near beat has a fault.
-use Rattle.std.proofs.Common.{◌≡◌, ◌≤◌, ◌<◌, ◌+◌, ◌-◌, ◌≢◌, ◌↔◌, ◌⊎◌, inl, inr, ℕ, zero, suc, Bool, true, false, cond, Option, None, Some, List, [], ◌∷◌, ◌++◌, length, take, refl, sym, ap, subst, ◌∙◌, arith, zero-le, append_assoc, append-nil}
-use Rattle.std.proofs.lemmas.List.{length_push}
-use Rattle.std.specs.Prelude.{slice_get}
+use Rattle.tl_convert.proofs.Names.{◌≡◌, ◌≤◌, ◌<◌, ◌+◌, ◌-◌, ◌≢◌, ◌↔◌, ◌⊎◌, inl, inr, ℕ, zero, suc, Bool, true, false, cond, Option, None, Some, List}
+use Rattle.tl_convert.proofs.Names.{[], ◌∷◌, ◌++◌, length, take, refl, sym, ap, subst, ◌∙◌, arith, zero-le, append_assoc, append-nil, length_push}
+use Rattle.tl_convert.proofs.Names.{slice_get, mask_fits, continuing_fault, Rules, BeatOf, beats_of, ends, rest_of, fault_after, heads, left}
+use Rattle.tl_convert.proofs.Names.{rest_heads, far_beats_of, due, rest-snoc}
 use Rattle.tl_msg.specs.Firsts.{unless}
-use Rattle.tl_msg.specs.Faults.{mask_fits, continuing_fault}
-use Rattle.tl_msg.specs.Rules.{Rules}
-use Rattle.tl_msg.specs.declared.beat.BeatOf.{BeatOf}
 use Rattle.tl_msg.specs.declared.fault.BeatFault.TheVariants.{HeadChanged, Mask}
 use Rattle.tl_msg.proofs.Firsts.{first_none, unless_none}
-use Rattle.tl_burst.specs.Messages.{beats_of}
-use Rattle.tl_burst.specs.Handing.{ends, rest_of, fault_after}
-use Rattle.tl_burst.specs.Begun.{heads, left, rest_heads}
-use Rattle.tl_convert.specs.Due.{far_beats_of, due}
 use Rattle.tl_convert.proofs.Extends.{Extends, more, extends-same, extends-front, extends-on, take-grows, take-next, take-past, grows}
 use Rattle.tl_convert.proofs.Comparisons.{true_equal, false_apart}
 use Rattle.tl_convert.proofs.Begins.{take-nil, some_beats, more-due, heads_open, heads_inside_one, left_open, left_inside_one}
 use Rattle.tl_convert.proofs.Finished.{finished_after, finished_more, far_opened, heads_due}
-use Rattle.tl_burst.proofs.Burst.{rest-snoc}
 
 -- none of the first i beats has a fault after those before it
 pub record NoFaults {H : Type 0} (r : Rules H) {w : ℕ} (bs : List (BeatOf H w)) (i : ℕ) : Type 0 where

@@ -1,20 +1,10 @@
 -- What a converter that takes a near beat without a fault gives, and for what it then stands.
-use Rattle.std.proofs.Common.{◌≡◌, ◌≢◌, ◌<◌, ◌^◌, ◌++◌, ℕ, true, None, Some, List, [], ◌∷◌, length, refl, sym, ap, ◌∙◌}
-use Rattle.tl_msg.specs.Rules.{Rules}
-use Rattle.tl_msg.specs.Beats.{IsBeat}
-use Rattle.tl_msg.specs.declared.beat.BeatOf.{BeatOf}
-use Rattle.tl_lanes.specs.Lanes.{IsWidth}
-use Rattle.tl_burst.specs.Messages.{beats_of}
-use Rattle.tl_burst.specs.Tracking.{IsPlace, IsPlaceOf}
+use Rattle.tl_convert.proofs.Names.{◌≡◌, ◌≢◌, ◌<◌, ◌^◌, ◌++◌, ℕ, true, None, Some, List, [], ◌∷◌, length, refl, sym, ap, ◌∙◌, Rules, IsBeat, BeatOf}
+use Rattle.tl_convert.proofs.Names.{IsWidth, beats_of, IsPlace, IsPlaceOf, IsHanded, IsHandedWith, IsAdmitted, rest_of, burst_after, fault_in}
+use Rattle.tl_convert.proofs.Names.{fault_after, homes_with, FitsMask, head_of, RestIs, ChannelLaws, none-accepts, none-admitted, none-held}
+use Rattle.tl_convert.proofs.Names.{begun-lawful, due, Run, Given, Progress, StandsFor, IsFed}
 use Rattle.tl_burst.specs.declared.place.Place.{Place}
-use Rattle.tl_burst.specs.Handing.{IsHanded, IsHandedWith, IsAdmitted, rest_of, burst_after, fault_in, fault_after, homes_with}
-use Rattle.tl_burst.proofs.Fits.{FitsMask, head_of}
-use Rattle.tl_burst.proofs.RestOf.{RestIs}
-use Rattle.tl_burst.proofs.FaultsExact.{ChannelLaws, none-accepts, none-admitted, none-held, begun-lawful}
 use Rattle.tl_burst.proofs.PlacesExact.{place-after}
-use Rattle.tl_convert.specs.Due.{due}
-use Rattle.tl_convert.specs.Inner.Giving.{Run, Given}
-use Rattle.tl_convert.specs.Converting.{Progress, StandsFor, IsFed}
 use Rattle.tl_convert.proofs.ConvertStep.{run-of, due-grows, stands-more}
 
 -- beats that are handed with some homes are handed

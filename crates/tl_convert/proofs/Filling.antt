@@ -1,24 +1,13 @@
 -- A far beat that is filled chunk by chunk, until it is the one of the layout.
-use Rattle.std.proofs.Common.{◌≡◌, ◌≤◌, ◌<◌, ◌+◌, ◌-◌, ◌*◌, ◌%◌, ◌^◌, ◌≢◌, ◌==◌, ◌&&◌, ◌||◌, ℕ, zero, suc, Bool, true, false, cond, Some, length, get_or, map, slice_get, slice_index, refl, sym, ap, ◌∙◌, arith, ⊎_elim, replicate}
+use Rattle.tl_convert.proofs.Names.{◌≡◌, ◌≤◌, ◌<◌, ◌+◌, ◌-◌, ◌*◌, ◌%◌, ◌^◌, ◌≢◌, ◌==◌, ◌&&◌, ◌||◌, ℕ, zero, suc, Bool, true, false, cond, Some}
+use Rattle.tl_convert.proofs.Names.{length, get_or, map, slice_get, slice_index, refl, sym, ap, ◌∙◌, arith, ⊎_elim, replicate, range_with_len}
+use Rattle.tl_convert.proofs.Names.{leb_tells, slice_get-get_or, fill_by_all, pow_mono, Rules, BeatOf, WIDEST, IsWidth, lane_of, lane-lt}
+use Rattle.tl_convert.proofs.Names.{lane-lt_widest, width_bounds, lane-shift, Message, Cell, per_beat, lane_value, lane_on, mask_at, beat_at, some_of}
+use Rattle.tl_convert.proofs.Names.{is_bad, cell_of, Filled, Brings, Poured, zeros}
 use Rattle.tl_msg.proofs.Beats.{same_beat}
-use Rattle.std.specs.List.{range_with_len}
 use Rattle.std.specs.Int.{bit_at}
-use Rattle.std.proofs.lemmas.Bool.Decides.{leb_tells}
-use Rattle.std.proofs.lemmas.Option.{slice_get-get_or}
-use Rattle.std.proofs.lemmas.List.FromFn.{fill_by_all}
 use Rattle.std.proofs.lemmas.Nat.Bits.{bit_at-lt, bit_at-zero, bit_at_above, same_from_bits_below}
-use Rattle.std.proofs.Math.Pow.{pow_mono}
-use Rattle.tl_msg.specs.Rules.{Rules}
-use Rattle.tl_msg.specs.declared.beat.BeatOf.{BeatOf}
-use Rattle.tl_lanes.specs.declared.limits.TheConstants.{WIDEST}
-use Rattle.tl_lanes.specs.Lanes.{IsWidth, lane_of}
-use Rattle.tl_lanes.proofs.Widths.{lane-lt, lane-lt_widest, width_bounds, lane-shift}
-use Rattle.tl_burst.specs.Messages.{Message, Cell, per_beat, lane_value, lane_on, mask_at, beat_at, some_of, is_bad}
-use Rattle.tl_burst.specs.Reading.{cell_of}
-use Rattle.tl_convert.specs.Partial.{Filled}
-use Rattle.tl_convert.specs.Inner.Pouring.{Brings, Poured}
 use Rattle.tl_lanes.proofs.Masks.{mask_of-lt, bit_at-mask_of}
-use Rattle.tl_burst.proofs.Numbers.{zeros}
 use Rattle.tl_burst.proofs.OnLane.{on_lane, apart-lanes}
 
 abbrev digit : Bool → ℕ
@@ -27,10 +16,6 @@ digit b = cond b 1 0
 no-digit : (b : Bool) → digit (b && false) ≡ 0
 no-digit true = refl
 no-digit false = refl
-
-or-false : (b : Bool) → (b || false) ≡ b
-or-false true = refl
-or-false false = refl
 
 or-twice : (b x : Bool) → ((b || x) || x) ≡ (b || x)
 or-twice true x = refl

@@ -1,13 +1,7 @@
 -- What is due, as the far beats of the messages that were brought whole and those of the rest.
-use Rattle.std.proofs.Common.{◌≡◌, ◌≤◌, ◌<◌, ◌+◌, ℕ, Bool, true, false, cond, List, [], ◌∷◌, ◌++◌, length, take, drop, refl, sym, ap, ◌∙◌, arith, append_assoc, append-nil}
-use Rattle.std.specs.Prelude.{slice_index}
-use Rattle.tl_msg.specs.Rules.{Rules}
-use Rattle.tl_msg.specs.declared.beat.BeatOf.{BeatOf}
-use Rattle.tl_burst.specs.Messages.{beats_of, layout}
-use Rattle.tl_burst.specs.Reading.{message_of}
-use Rattle.tl_burst.specs.Handing.{ends, rest_after, rest_of}
-use Rattle.tl_burst.specs.Begun.{heads}
-use Rattle.tl_convert.specs.Due.{far_beats_of, part, due_after, due}
+use Rattle.tl_convert.proofs.Names.{◌≡◌, ◌≤◌, ◌<◌, ◌+◌, ℕ, Bool, true, false, cond, List, [], ◌∷◌, ◌++◌, length, take, drop, refl, sym, ap, ◌∙◌}
+use Rattle.tl_convert.proofs.Names.{arith, append_assoc, append-nil, slice_index, Rules, BeatOf, beats_of, layout, message_of, ends, rest_after}
+use Rattle.tl_convert.proofs.Names.{rest_of, heads, far_beats_of, part, due_after, due}
 use Rattle.tl_convert.proofs.Extends.{both-two, both-three, both-four}
 use Rattle.tl_convert.proofs.Begins.{heads_cut, heads_whole}
 

@@ -1,18 +1,8 @@
 -- What a near beat with data gives after the beats of its message that came before.
-use Rattle.std.proofs.Common.{◌≡◌, ◌<◌, ◌+◌, ◌-◌, ◌*◌, ◌/◌, ◌≢◌, ◌++◌, ℕ, true, List, [], ◌∷◌, length, map, refl, sym, ap, subst, ◌∙◌, arith, ⊎_elim}
-use Rattle.std.specs.List.{range_with_len}
-use Rattle.std.proofs.lemmas.Bool.Decides.{eqb_tells}
-use Rattle.tl_msg.specs.Rules.{Rules}
-use Rattle.tl_msg.specs.declared.beat.BeatOf.{BeatOf}
-use Rattle.tl_lanes.specs.Lanes.{IsWidth}
-use Rattle.tl_burst.specs.Messages.{Message, per_beat, beats_of, beat_at}
-use Rattle.tl_burst.proofs.Fits.{FitsMask}
-use Rattle.tl_convert.specs.Partial.{Filled}
-use Rattle.tl_convert.specs.Inner.Pouring.{Source, Pours, IsBlank}
-use Rattle.tl_convert.specs.Inner.Giving.{Run, GivenData}
-use Rattle.tl_burst.proofs.Places.{per-pos}
+use Rattle.tl_convert.proofs.Names.{◌≡◌, ◌<◌, ◌+◌, ◌-◌, ◌*◌, ◌/◌, ◌≢◌, ◌++◌, ℕ, true, List, [], ◌∷◌, length, map, refl, sym, ap, subst, ◌∙◌, arith}
+use Rattle.tl_convert.proofs.Names.{⊎_elim, range_with_len, eqb_tells, Rules, BeatOf, IsWidth, Message, per_beat, beats_of, beat_at, FitsMask, Filled}
+use Rattle.tl_convert.proofs.Names.{Source, Pours, IsBlank, Run, GivenData, per-pos, of_cells, run-is}
 use Rattle.tl_convert.proofs.Filling.{Filled-none}
-use Rattle.tl_burst.proofs.Runs.{of_cells, run-is}
 use Rattle.tl_convert.proofs.RunStep.{run_message, run_end, end-next, run-source, filled-longer, run-due}
 
 module _ {H : Type 0} (r : Rules H) (w v home : ℕ) (ww : IsWidth w) (vw : IsWidth v) (b : BeatOf H w) (carries : r.carries b.head ≡ true) where

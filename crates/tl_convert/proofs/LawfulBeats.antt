@@ -1,17 +1,9 @@
 -- Each beat of a list that is handed is lawful by itself.
-use Rattle.std.proofs.Common.{◌≡◌, ◌+◌, ◌++◌, ℕ, suc, Some, List, [], ◌∷◌, length, get_or, slice_get, All, sym, ap, subst, ◌∙◌, arith, length-append, append-nil}
-use Rattle.std.proofs.lemmas.Option.{slice_get-get_or}
+use Rattle.tl_convert.proofs.Names.{◌≡◌, ◌+◌, ◌++◌, ℕ, suc, Some, List, [], ◌∷◌, length, get_or, slice_get, All, sym, ap, subst, ◌∙◌, arith}
+use Rattle.tl_convert.proofs.Names.{length-append, append-nil, slice_get-get_or, IsWidth, Rules, IsLawfulBeat, BeatOf, Message, IsLawful, beats_of}
+use Rattle.tl_convert.proofs.Names.{Spells, Handed, nothing, begun, whole, slice_get-left, ChannelLaws, accepts-none}
 use Rattle.std.proofs.lemmas.List.Elements.{All-append}
-use Rattle.tl_lanes.specs.Lanes.{IsWidth}
-use Rattle.tl_msg.specs.Rules.{Rules}
-use Rattle.tl_msg.specs.Faults.{IsLawfulBeat}
-use Rattle.tl_msg.specs.declared.beat.BeatOf.{BeatOf}
-use Rattle.tl_burst.specs.Messages.{Message, IsLawful, beats_of}
-use Rattle.tl_burst.specs.Spelling.{Spells}
-use Rattle.tl_burst.specs.Handing.{Handed, nothing, begun, whole}
-use Rattle.tl_burst.proofs.Numbers.{slice_get-left}
 use Rattle.tl_burst.proofs.SpelledRun.{Fitting, fitting-of}
-use Rattle.tl_burst.proofs.FaultsExact.{ChannelLaws, accepts-none}
 
 -- what holds of all of a list holds of its last part
 pub all-right : {A : Type 0} (P : A → Type 0) (xs ys : List A) → All P (xs ++ ys) → All P ys

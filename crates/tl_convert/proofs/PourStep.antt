@@ -1,25 +1,15 @@
 -- One chunk of a near beat: where it begins and ends, and what the far beats then are.
-use Rattle.std.proofs.Common.{◌≡◌, ◌≤◌, ◌<◌, ◌+◌, ◌-◌, ◌*◌, ◌/◌, ◌%◌, ◌^◌, ◌≢◌, ◌++◌, ℕ, Bool, true, false, cond, min, List, [], ◌∷◌, length, take, drop, length-append, map, sym, ap, subst, ◌∙◌, arith, rules, ⊎_elim}
-use Rattle.std.specs.List.{range_with_len, refill}
-use Rattle.std.proofs.Math.ListN.{get_or, set}
+use Rattle.tl_convert.proofs.Names.{◌≡◌, ◌≤◌, ◌<◌, ◌+◌, ◌-◌, ◌*◌, ◌/◌, ◌%◌, ◌^◌, ◌≢◌, ◌++◌, ℕ, Bool, true, false, cond, min, List, [], ◌∷◌, length}
+use Rattle.tl_convert.proofs.Names.{take, drop, length-append, map, sym, ap, subst, ◌∙◌, arith, rules, ⊎_elim, range_with_len, refill, set, eqb_tells}
+use Rattle.tl_convert.proofs.Names.{leb_tells, bit_and, and_mask, map-range_with_len_more, mod-lt, add-mul-mod_self_right, div-eq_of_eq-mul_left}
+use Rattle.tl_convert.proofs.Names.{mul-le-mul_right, mul-mod_left, mod-eq_of_lt, div_self, Rules, BeatOf, MAX_SIZE, IsWidth, bytes_per_beat}
+use Rattle.tl_convert.proofs.Names.{width_bounds, Message, per_beat, beat_at, some_of, is_bad, Filled, Brings, Poured, Source, Pours, IsBlank}
+use Rattle.tl_convert.proofs.Names.{far_beats, per-pos, div-up, per-power, powers-divide}
+use Rattle.std.proofs.Math.ListN.{get_or}
 use Rattle.std.proofs.Math.Seq.{set-append_seam, get_or-append_seam, take-append_seam}
-use Rattle.std.proofs.lemmas.Bool.Decides.{eqb_tells, leb_tells}
-use Rattle.std.specs.Prelude.{bit_and}
-use Rattle.std.proofs.lemmas.Nat.{and_mask}
-use Rattle.std.proofs.lemmas.List.FromFn.{map-range_with_len_more}
-use Rattle.std.proofs.Math.Nat.{mod-lt, add-mul-mod_self_right, div-eq_of_eq-mul_left, mul-le-mul_right, mul-mod_left, mod-eq_of_lt, div_self}
 use Rattle.std.proofs.Math.Arith.{digits_div}
-use Rattle.tl_msg.specs.Rules.{Rules}
-use Rattle.tl_msg.specs.declared.beat.BeatOf.{BeatOf}
-use Rattle.tl_lanes.specs.declared.limits.TheConstants.{MAX_SIZE}
-use Rattle.tl_lanes.specs.Lanes.{IsWidth, bytes_per_beat}
-use Rattle.tl_lanes.proofs.Widths.{width_bounds}
-use Rattle.tl_burst.specs.Messages.{Message, per_beat, beat_at, some_of, is_bad}
-use Rattle.tl_convert.specs.Partial.{Filled}
-use Rattle.tl_convert.specs.Inner.Pouring.{Brings, Poured, Source, Pours, IsBlank, far_beats}
-use Rattle.tl_burst.proofs.Places.{per-pos}
-use Rattle.tl_burst.proofs.Numbers.{parts, div-up, per-power, powers-divide}
 use Rattle.tl_convert.proofs.Filling.{Filled-more, Filled-none, Filled-whole}
+use Rattle.std.proofs.lemmas.Nat.{div-add-mod'}
 
 -- a mask bit, where there is a mask or none
 pub to-old : (masked : Bool) (x y z : ℕ) → masked ≡ true → x ≡ y → x ≡ cond masked y z
@@ -33,7 +23,7 @@ from-old true x y z e h = cc
 -- a sum that ends a beat
 pub ends-beat : (n q p : ℕ) → 0 < p → 0 < q → n % p + q ≤ p → (n + q) % p ≡ 0 → n / p * p + p ≡ n + q
 ends-beat n q p pos posq room e =
-    let s : n / p * p + n % p ≡ n = parts n p in
+    let s : n / p * p + n % p ≡ n = div-add-mod' n p in
     ⊎_elim
     (λ s1. let k : n % p + q ≡ p = s1.1 in omega arith)
     (λ s1. let k : n % p + q ≢ p = s1.1 in
@@ -46,7 +36,7 @@ ends-beat n q p pos posq room e =
 -- a sum inside a beat
 pub inside-beat : (n q p : ℕ) → 0 < p → 0 < q → n % p + q ≤ p → (n + q) % p ≢ 0 → (n + q) / p ≡ n / p
 inside-beat n q p pos posq room ne =
-    let s : n / p * p + n % p ≡ n = parts n p in
+    let s : n / p * p + n % p ≡ n = div-add-mod' n p in
     ⊎_elim
     (λ s1. let k : n % p + q ≡ p = s1.1 in
     let t : n + q ≡ (n / p + 1) * p = grind arith in
@@ -63,7 +53,7 @@ spread x y c q = grind arith
 -- a chunk doesn't cross the end of a far beat
 pub chunk-room : (a c q : ℕ) → 0 < q → 0 < c → (a * q) % (c * q) + q ≤ c * q
 chunk-room a c q pos cpos =
-    let s : a / c * c + a % c ≡ a = parts a c in
+    let s : a / c * c + a % c ≡ a = div-add-mod' a c in
     let lt : a % c < c = mod-lt a cpos in
     let less : a % c * q + q ≤ c * q = grind (arith, mul-le-mul_right) in
     let small : a % c * q < c * q = omega arith in
@@ -116,7 +106,7 @@ blank-empty r m v vw head e b blank j = Filled-none r m v vw j b (blank.head_is 
 pub begun-empty : {H : Type 0} (r : Rules H) (m : Message H) (v first : ℕ) (b : BeatOf H v) → first % per_beat r m.head v ≡ 0 →
     Filled r m v (first / per_beat r m.head v) first b → IsEmpty r m v b
 begun-empty {H} r m v first b begins filled j =
-    let s : first / per_beat r m.head v * per_beat r m.head v + first % per_beat r m.head v ≡ first = parts first (per_beat r m.head v) in
+    let s : first / per_beat r m.head v * per_beat r m.head v + first % per_beat r m.head v ≡ first = div-add-mod' first (per_beat r m.head v) in
     let none : first - first / per_beat r m.head v * per_beat r m.head v ≡ 0 = omega arith in
     let same : j * per_beat r m.head v - j * per_beat r m.head v ≡ 0 = omega arith in
     record {
@@ -138,7 +128,7 @@ module _ {H : Type 0} {W : ℕ} (r : Rules H) (m : Message H) (v home first done
     (poured : Poured r.masked beat old new at q) (before : Pours r m v first done old out) where
   filled-more : Filled r m v (done / per_beat r m.head v) (done + q) new
   filled-more =
-      let s : done / per_beat r m.head v * per_beat r m.head v + done % per_beat r m.head v ≡ done = parts done (per_beat r m.head v) in
+      let s : done / per_beat r m.head v * per_beat r m.head v + done % per_beat r m.head v ≡ done = div-add-mod' done (per_beat r m.head v) in
       let brings : Brings r m done q beat = record {
         head = source.brings.head;
         cells = λ i lo hi. source.brings.cells i (omega arith) (omega arith);
@@ -188,7 +178,7 @@ module _ {H : Type 0} {W : ℕ} (r : Rules H) (m : Message H) (v home first done
 -- a run of whole far beats ends with one
 pub whole-ends : (first t q : ℕ) → 0 < q → first % q ≡ 0 → (first + t * q + q) % q ≡ 0
 whole-ends first t q pos e =
-    let s : first / q * q + first % q ≡ first = parts first q in
+    let s : first / q * q + first % q ≡ first = div-add-mod' first q in
     let n : first + t * q + q ≡ (first / q + t + 1) * q = grind arith in
     ap (λ x. x % q) n ∙ mul-mod_left (first / q + t + 1) q
 
@@ -202,7 +192,7 @@ chunk-facts : (near wide q first t : ℕ) → 0 < near → 0 < wide → 0 < q �
     Chunk near wide q first t
 chunk-facts near wide q first t pn pw pq dn dw whole lt =
     let more : (t + 1) * q ≤ near / q * q = grind (arith, mul-le-mul_right) in
-    let parted : first / near * near + first % near ≡ first = parts first near in
+    let parted : first / near * near + first % near ≡ first = div-add-mod' first near in
     let start : first ≡ first / near * (near / q) * q = grind arith in
     let done : first + t * q ≡ (first / near * (near / q) + t) * q = grind arith in
     let cpos : 0 < wide / q = grind arith in
@@ -262,7 +252,7 @@ begins-far r head W v first ww vw fits whole =
     let wv = per-power (r.size head) v vw in
     let d : per_beat r head W ≡ per_beat r head W / per_beat r head v * per_beat r head v =
     powers-divide wn.0 wv.0 (per_beat r head W) (per_beat r head v) wn.1 wv.1 fits in
-    let s : first / per_beat r head W * per_beat r head W + first % per_beat r head W ≡ first = parts first (per_beat r head W) in
+    let s : first / per_beat r head W * per_beat r head W + first % per_beat r head W ≡ first = div-add-mod' first (per_beat r head W) in
     let n : first ≡ first / per_beat r head W * (per_beat r head W / per_beat r head v) * per_beat r head v = grind arith in (
       power-pos (per_beat r head v) wv.0 wv.1,
       ap (λ x. x % per_beat r head v) n ∙ mul-mod_left (first / per_beat r head W * (per_beat r head W / per_beat r head v)) (per_beat r head v),

@@ -1,27 +1,16 @@
 -- What is due of a list goes on as the list does, where no beat has a fault.
-use Rattle.std.proofs.Common.{◌≡◌, ◌≤◌, ◌<◌, ◌+◌, ◌*◌, ◌/◌, ◌^◌, ℕ, zero, suc, Bool, true, false, cond, Option, None, Some, List, [], ◌∷◌, ◌++◌, length, take, drop, map, refl, sym, ap, subst, ◌∙◌, arith, append_assoc, length-append}
+use Rattle.tl_convert.proofs.Names.{◌≡◌, ◌≤◌, ◌<◌, ◌+◌, ◌*◌, ◌/◌, ◌^◌, ℕ, zero, suc, Bool, true, false, cond, Option, None, Some, List, [], ◌∷◌, ◌++◌}
+use Rattle.tl_convert.proofs.Names.{length, take, drop, map, refl, sym, ap, subst, ◌∙◌, arith, append_assoc, length-append, length_push, and_parts}
+use Rattle.tl_convert.proofs.Names.{div-lt_iff_lt-mul, lt-div-mul-add, div-mul-le_self, mul-le-mul_right, slice_get, slice_index, ◌==◌, ◌&&◌, ◌||◌}
+use Rattle.tl_convert.proofs.Names.{range_with_len, option_map_or, lane_of, Rules, BeatOf, Message, Cell, beats_of, per_beat, byte_on, lane_value}
+use Rattle.tl_convert.proofs.Names.{lane_on, mask_at, is_bad, some_of, beat_at, layout, cell_of, message_of, ends, rest_of, fault_after, heads}
+use Rattle.tl_convert.proofs.Names.{rest_heads, far_beats_of, part, due, mask_of-same, rest-snoc}
 use Rattle.tl_msg.proofs.Firsts.{find_holds}
-use Rattle.std.proofs.lemmas.List.{length_push}
-use Rattle.std.proofs.lemmas.Bool.{and_parts}
-use Rattle.std.proofs.Math.Nat.{div-lt_iff_lt-mul, lt-div-mul-add, div-mul-le_self, mul-le-mul_right}
-use Rattle.std.specs.Prelude.{slice_get, slice_index, ◌==◌, ◌&&◌, ◌||◌}
-use Rattle.std.specs.List.{range_with_len}
-use Rattle.std.specs.Option.{option_map_or}
-use Rattle.tl_lanes.specs.Lanes.{lane_of}
-use Rattle.tl_msg.specs.Rules.{Rules}
-use Rattle.tl_msg.specs.declared.beat.BeatOf.{BeatOf}
-use Rattle.tl_burst.specs.Messages.{Message, Cell, beats_of, per_beat, byte_on, lane_value, lane_on, mask_at, is_bad, some_of, beat_at, layout}
-use Rattle.tl_burst.specs.Reading.{cell_of, message_of}
-use Rattle.tl_burst.specs.Handing.{ends, rest_of, fault_after}
-use Rattle.tl_burst.specs.Begun.{heads, rest_heads}
-use Rattle.tl_convert.specs.Due.{far_beats_of, part, due}
 use Rattle.tl_convert.proofs.Extends.{Extends, more, extends-same, extends-front, take-some, take-grows, take-next, take-past, grows}
 use Rattle.tl_convert.proofs.Comparisons.{true_equal}
 use Rattle.tl_convert.proofs.Begins.{per-beat-some, more-due}
 use Rattle.tl_convert.proofs.Finished.{finished_after, laid_after, homes_left, due_split, laid_more, homes_more, laid_homes, left_homes, left_count}
 use Rattle.tl_convert.proofs.FarHeads.{NoFaults, IsRead, reads, KeepsHead, keeps_head, no-faults-less}
-use Rattle.tl_burst.proofs.Runs.{mask_of-same}
-use Rattle.tl_burst.proofs.Burst.{rest-snoc}
 
 map_agree : {X : Type 0} (f g : ℕ → X) (s n c : ℕ) → ((t : ℕ) → t < s + c → f t ≡ g t) → take c (map f (range_with_len s n)) ≡ take c (map g (range_with_len s n))
 map_agree f g s n zero h = refl

@@ -1,17 +1,12 @@
 -- Worked examples of far beats.
-use Rattle.std.proofs.Common.{◌≡◌, ◌-◌, ◌^◌, ℕ, Bool, true, false, List, [], ◌∷◌, ◌++◌, refl, replicate, length}
-use Rattle.std.specs.List.{range_with_len}
+use Rattle.tl_convert.proofs.Names.{◌≡◌, ◌-◌, ◌^◌, ℕ, Bool, true, false, List, [], ◌∷◌, ◌++◌, refl, replicate, length, range_with_len, BeatOf, Cell}
+use Rattle.tl_convert.proofs.Names.{Message, layout, accepted_of, due, far_beats_of, layouts, map, take}
 use Rattle.tl_msg.specs.declared.head.HeadA.{HeadA}
 use Rattle.tl_msg.specs.declared.head.HeadD.{HeadD}
-use Rattle.tl_msg.specs.declared.beat.BeatOf.{BeatOf}
 use Rattle.tl_msg.specs.Tables.{rules_a, rules_d}
 use Rattle.tl_msg.specs.declared.head.HeadC.{HeadC}
 use Rattle.tl_msg.specs.Tables.{rules_c}
-use Rattle.tl_burst.specs.Messages.{Cell, Message, layout}
-use Rattle.tl_convert.specs.Accepted.{accepted_of}
-use Rattle.tl_convert.specs.Due.{due, far_beats_of, layouts}
 use Rattle.tl_convert.specs.Laws.{gathered as gathered_over}
-use Rattle.std.proofs.Common.{map, take}
 
 abbrev a : (opcode param size source address : ℕ) → HeadA
 a opcode param size source address = record { opcode = opcode; param = param; size = size; source = source; address = address }

@@ -1,27 +1,13 @@
 -- The beats of a message as far as they have come, and one more.
-use Rattle.std.proofs.Common.{◌≡◌, ◌≤◌, ◌<◌, ◌+◌, ◌-◌, ◌*◌, ◌/◌, ◌%◌, ◌^◌, ◌++◌, ℕ, true, false, Some, List, [], ◌∷◌, length, take, map, slice_get, slice_index, refl, sym, ap, subst, ◌∙◌, arith, ⊎_elim, append-nil}
-use Rattle.std.specs.List.{range_with_len}
-use Rattle.std.specs.Option.{option_map_or}
-use Rattle.std.proofs.lemmas.List.{length_push}
-use Rattle.std.proofs.lemmas.List.FromFn.{take-map-range_with_len}
-use Rattle.std.proofs.lemmas.Bool.Decides.{eqb_tells}
-use Rattle.std.proofs.Math.Nat.{mod-lt, mul-le-mul_right}
+use Rattle.tl_convert.proofs.Names.{◌≡◌, ◌≤◌, ◌<◌, ◌+◌, ◌-◌, ◌*◌, ◌/◌, ◌%◌, ◌^◌, ◌++◌, ℕ, true, false, Some, List, [], ◌∷◌, length, take, map}
+use Rattle.tl_convert.proofs.Names.{slice_get, slice_index, refl, sym, ap, subst, ◌∙◌, arith, ⊎_elim, append-nil, range_with_len, option_map_or}
+use Rattle.tl_convert.proofs.Names.{length_push, take-map-range_with_len, eqb_tells, mod-lt, mul-le-mul_right, Rules, BeatOf, IsWidth, lane_of}
+use Rattle.tl_convert.proofs.Names.{Message, Cell, per_beat, beats_of, beat_at, layout, is_bad, cell_of, message_of, part, due_after, ends, FitsMask}
+use Rattle.tl_convert.proofs.Names.{head_of, Filled, Source, Pours, far_beats, per-pos, div-up, map-parts, some_of-same, of_cells, run_cells, run-is}
+use Rattle.tl_convert.proofs.Names.{run-length, run-cell, near-fill, far-fill, cells-same, whole-same}
 use Rattle.std.proofs.Math.Arith.{digits_div}
-use Rattle.tl_msg.specs.Rules.{Rules}
-use Rattle.tl_msg.specs.declared.beat.BeatOf.{BeatOf}
 use Rattle.tl_lanes.proofs.ActiveLanes.{IsActive}
-use Rattle.tl_lanes.specs.Lanes.{IsWidth, lane_of}
-use Rattle.tl_burst.specs.Messages.{Message, Cell, per_beat, beats_of, beat_at, layout, is_bad}
-use Rattle.tl_burst.specs.Reading.{cell_of, message_of}
-use Rattle.tl_convert.specs.Due.{part, due_after}
-use Rattle.tl_burst.specs.Handing.{ends}
-use Rattle.tl_burst.proofs.Fits.{FitsMask, head_of}
-use Rattle.tl_convert.specs.Partial.{Filled}
-use Rattle.tl_convert.specs.Inner.Pouring.{Source, Pours, far_beats}
-use Rattle.tl_burst.proofs.Places.{per-pos}
-use Rattle.tl_burst.proofs.Numbers.{div-up}
 use Rattle.tl_burst.proofs.LaneShift.{same-lane}
-use Rattle.tl_burst.proofs.Runs.{map-parts, some_of-same, of_cells, run_cells, run-is, run-length, run-cell, near-fill, far-fill, cells-same, whole-same}
 use Rattle.tl_convert.proofs.Comparisons.{seam}
 
 heads-more : {H : Type 0} {w : ℕ} (bs : List (BeatOf H w)) (b : BeatOf H w) (h : H) → b.head ≡ h → ((g : H) → head_of bs ≡ Some g → g ≡ h) →

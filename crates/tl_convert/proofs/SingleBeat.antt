@@ -1,19 +1,11 @@
 -- The far beat of a message without data.
-use Rattle.std.proofs.Common.{◌≡◌, ◌≤◌, ◌+◌, ◌*◌, ◌^◌, ◌&&◌, ℕ, zero, suc, true, false, [], ◌∷◌, length, get_or, map, replicate, refl, sym, ap, ◌∙◌, arith, ⊎_elim}
+use Rattle.tl_convert.proofs.Names.{◌≡◌, ◌≤◌, ◌+◌, ◌*◌, ◌^◌, ◌&&◌, ℕ, zero, suc, true, false, [], ◌∷◌, length, get_or, map, replicate, refl, sym, ap}
+use Rattle.tl_convert.proofs.Names.{◌∙◌, arith, ⊎_elim, range_with_len, fill_by_all, Rules, BeatOf, IsWidth, per_beat, beats_of, lane_value, lane_on}
+use Rattle.tl_convert.proofs.Names.{mask_at, beat_at, layout, is_bad, of_head, mask_of, is_active, active_mask, mask_of-same, some_of-none, zeros}
+use Rattle.tl_convert.proofs.Names.{cases_Bool}
 use Rattle.tl_msg.proofs.Beats.{same_beat}
-use Rattle.std.specs.List.{range_with_len}
-use Rattle.std.proofs.lemmas.List.FromFn.{fill_by_all}
-use Rattle.tl_msg.specs.Rules.{Rules}
-use Rattle.tl_msg.specs.declared.beat.BeatOf.{BeatOf}
 use Rattle.tl_lanes.proofs.ActiveLanes.{is_active-from_lane, is_active-false}
-use Rattle.tl_lanes.specs.Lanes.{IsWidth}
-use Rattle.tl_burst.specs.Messages.{per_beat, beats_of, lane_value, lane_on, mask_at, beat_at, layout, is_bad}
-use Rattle.tl_convert.specs.Inner.Giving.{of_head}
-use Rattle.tl_lanes.specs.Lanes.{mask_of, is_active, active_mask}
-use Rattle.tl_burst.proofs.Runs.{mask_of-same, some_of-none}
 use Rattle.tl_burst.proofs.OnLane.{on_lane}
-use Rattle.tl_burst.proofs.Numbers.{zeros}
-use Rattle.std.proofs.lemmas.Bool.{cases_Bool}
 
 no-mask : (n : ℕ) → mask_of (λ l. false) n ≡ 0
 no-mask zero = refl

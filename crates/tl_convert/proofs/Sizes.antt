@@ -1,11 +1,9 @@
 -- A tracker fits in memory, where the heads of its channel are small, and so do the places of a list of beats.
-use Rattle.std.proofs.Common.{◌≤◌, ◌<◌, ◌+◌, ◌*◌, ℕ, max, arith}
-use Rattle.std.proofs.Math.Nat.{mul-le-mul}
+use Rattle.tl_convert.proofs.Names.{◌≤◌, ◌<◌, ◌+◌, ◌*◌, ℕ, max, arith, mul-le-mul, WIDEST}
 use prog.Memory.{up, size, align}
 use prog.Align.{up-ge}
 use mir.Syntax.{Ty, w64}
 use mir.Val.{Fits}
-use Rattle.tl_lanes.specs.declared.limits.TheConstants.{WIDEST}
 use Rattle.tl_lanes.proofs.Sizes.{align-small, up_le}
 
 -- the bytes of a tracker whose heads have s bytes and are aligned to a, and lie at a multiple of x: the open burst, and 32 of what it holds

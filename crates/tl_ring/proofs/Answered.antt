@@ -1,8 +1,7 @@
 -- What an answer shows, and what holds of no item.
-use Rattle.std.specs.Prelude.{◌≡◌, ◌≤◌, ◌<◌, ◌∷◌, ◌++◌, Option, None, Some, IfSome, Result, Ok, Err, IsOk, OnOk, OnErr, List, [], All, length, drop, slice_get}
-use Rattle.std.proofs.Common.{◌⊎◌, ◌||◌, Bool, true, false, inl, inr, get_or, subst, refl, sym, ap, arith}
-use Rattle.std.proofs.lemmas.List.Elements.{All-take, All-drop}
-use Rattle.std.proofs.Math.Seq.{take-append_seam, drop-append_seam}
+use Rattle.tl_ring.proofs.Names.{◌≡◌, ◌≤◌, ◌<◌, ◌∷◌, ◌++◌, Option, None, Some, IfSome, Result, Ok, Err, IsOk, OnOk, OnErr, List, [], All, length}
+use Rattle.tl_ring.proofs.Names.{drop, slice_get, ◌⊎◌, ◌||◌, Bool, true, false, inl, inr, get_or, subst, refl, sym, ap, arith, All-take, All-drop}
+use Rattle.tl_ring.proofs.Names.{take-append_seam, drop-append_seam}
 
 -- what holds of each item of a list holds of the first one, if there is one
 pub first_of_all : {A : Type 0} (P : A → Type 0) (xs : List A) (first : Option A) → first ≡ slice_get xs 0 → All P xs → IfSome first P

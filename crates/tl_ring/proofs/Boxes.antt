@@ -1,18 +1,9 @@
 -- Each call of an outbox keeps what it stands for, and that tells every crossing that its beats are parted in.
-use Rattle.std.proofs.Common.{◌≡◌, ◌≤◌, ◌<◌, ◌^◌, ℕ, zero, suc, true, false, List, [], ◌∷◌, ◌++◌, length, take, drop, refl, sym, ap, subst, ◌∙◌, append_assoc, append-nil}
-use Rattle.std.proofs.Math.Seq.{drop-append_seam}
-use Rattle.tl_lanes.specs.Lanes.{IsWidth}
-use Rattle.tl_msg.specs.Beats.{IsBeat}
-use Rattle.tl_msg.specs.Rules.{Rules}
-use Rattle.tl_msg.specs.declared.beat.BeatOf.{BeatOf}
-use Rattle.tl_burst.specs.Handing.{IsAdmitted, rest_of, homes_with}
+use Rattle.tl_ring.proofs.Names.{◌≡◌, ◌≤◌, ◌<◌, ◌^◌, ℕ, zero, suc, true, false, List, [], ◌∷◌, ◌++◌, length, take, drop, refl, sym, ap, subst, ◌∙◌}
+use Rattle.tl_ring.proofs.Names.{append_assoc, append-nil, drop-append_seam, IsWidth, IsBeat, Rules, BeatOf, IsAdmitted, rest_of, homes_with, due}
+use Rattle.tl_ring.proofs.Names.{Outgoing, HasSent, as_sent, World, empty, inbox_room, IsReached, Crosses, RestIs}
 use Rattle.tl_convert.specs.Converting.{Progress}
 use Rattle.tl_convert.specs.Converting as converting
-use Rattle.tl_convert.specs.Due.{due}
-use Rattle.tl_ring.specs.Boxes.{Outgoing, HasSent, as_sent}
-use Rattle.tl_ring.specs.Crossing.{World, empty, inbox_room, IsReached}
-use Rattle.tl_ring.specs.Laws.{Crosses}
-use Rattle.tl_burst.proofs.RestOf.{RestIs}
 use Rattle.tl_ring.proofs.Moves.{cut_moves}
 use Rattle.tl_ring.proofs.Reached.{reached_new, reached_offered, reached_shut}
 use Rattle.tl_ring.proofs.Parting.{into_taken, reached_parted}

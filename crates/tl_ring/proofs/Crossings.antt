@@ -1,19 +1,11 @@
 -- The law of the crossing: each event keeps what holds at every moment of a crossing.
-use Rattle.std.proofs.Common.{◌≡◌, ◌≤◌, ◌+◌, ◌-◌, ℕ, true, false, List, [], ◌∷◌, ◌++◌, length, take, drop, min, refl, sym, ap, ◌∙◌, arith, append-nil, length-append}
-use Rattle.std.proofs.lemmas.List.{length-take, length-drop}
-use Rattle.std.proofs.Math.Seq.{drop-append_seam}
+use Rattle.tl_ring.proofs.Names.{◌≡◌, ◌≤◌, ◌+◌, ◌-◌, ℕ, true, false, List, [], ◌∷◌, ◌++◌, length, take, drop, min, refl, sym, ap, ◌∙◌, arith}
+use Rattle.tl_ring.proofs.Names.{append-nil, length-append, length-take, length-drop, drop-append_seam, IsWidth, Rules, BeatOf, Handed, nothing}
+use Rattle.tl_ring.proofs.Names.{IsHandedWith, rest_of, homes_with, due, layouts, World, Event, offer, push, pop, take_one, close, empty, offered}
+use Rattle.tl_ring.proofs.Names.{pushed, popped, took, shut, effect, IsPossible, inbox_room, Run, done, happens, fails, Crosses, ChannelLaws, RestIs}
 use mathlib.Core.List.{IsPrefix}
-use Rattle.tl_lanes.specs.Lanes.{IsWidth}
-use Rattle.tl_msg.specs.Rules.{Rules}
-use Rattle.tl_msg.specs.declared.beat.BeatOf.{BeatOf}
 use Rattle.tl_burst.specs.Messages.{Message}
-use Rattle.tl_burst.specs.Handing.{Handed, nothing, IsHandedWith, rest_of, homes_with}
-use Rattle.tl_convert.specs.Due.{due, layouts}
-use Rattle.tl_ring.specs.Crossing.{World, Event, offer, push, pop, take_one, close, empty, offered, pushed, popped, took, shut, effect, IsPossible, inbox_room, Run, done, happens, fails}
-use Rattle.tl_ring.specs.Laws.{Crosses}
 use Rattle.tl_ring.proofs.Moves.{cut_moves, cut_moves_after}
-use Rattle.tl_burst.proofs.FaultsExact.{ChannelLaws}
-use Rattle.tl_burst.proofs.RestOf.{RestIs}
 use Rattle.tl_ring.proofs.OneMore.{one_more, due_grows, whole_due}
 
 -- a prefix, and what a list has behind it, is the list

@@ -1,17 +1,12 @@
 -- Each call of a sending end takes it to where its crossing is after the same event, and a meeting makes one crossing of both ends.
-use Rattle.std.proofs.Common.{◌≡◌, ◌≤◌, ◌<◌, ◌+◌, ℕ, true, false, List, [], ◌∷◌, ◌++◌, length, take, drop, min, refl, sym, ap, subst, ◌∙◌, arith, ⊎_elim, append_assoc, length-append}
-use Rattle.std.proofs.lemmas.Bool.{cases_lt}
+use Rattle.tl_ring.proofs.Names.{◌≡◌, ◌≤◌, ◌<◌, ◌+◌, ℕ, true, false, List, [], ◌∷◌, ◌++◌, length, take, drop, min, refl, sym, ap, subst, ◌∙◌, arith}
+use Rattle.tl_ring.proofs.Names.{⊎_elim, append_assoc, length-append, cases_lt, Rules, BeatOf, rest_of, homes_with, Outgoing, HasSent, World, empty}
+use Rattle.tl_ring.proofs.Names.{offered, shut, inbox_room, Crosses}
 use mathlib.Core.List.{IsPrefix}
 use Rattle.rtrb.specs.Ring as rtrb
 use Rattle.rtrb.specs.declared.producer.Producer.{Producer}
 use Rattle.rtrb.specs.declared.consumer.Consumer.{Consumer}
-use Rattle.tl_msg.specs.Rules.{Rules}
-use Rattle.tl_msg.specs.declared.beat.BeatOf.{BeatOf}
-use Rattle.tl_burst.specs.Handing.{rest_of, homes_with}
-use Rattle.tl_ring.specs.Boxes.{Outgoing, HasSent}
-use Rattle.tl_ring.specs.Crossing.{World, empty, offered, shut, inbox_room}
 use Rattle.tl_ring.specs.Ends.{ArePair, Sending, as_pipe, Taking, Ended, Sends, Takes, Fetched, Met, Meets, Shows, Shown, LookedAfter, IsReceiptOf, Finishes, SameTake, sent, room, known_items, received, passed, closing, sending_of}
-use Rattle.tl_ring.specs.Laws.{Crosses}
 use Rattle.tl_ring.specs.Pipe.{Pipe, StandsFor, outbox_of}
 use Rattle.tl_ring.specs.declared.lawful.LawfulAt.{LawfulAt}
 use Rattle.tl_ring.proofs.Parting.{reached_parted}

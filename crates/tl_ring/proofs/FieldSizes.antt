@@ -1,10 +1,8 @@
 -- A field takes no more bytes of memory than its struct, and a beat takes few.
-use Rattle.std.proofs.Common.{ℕ, zero, suc, ◌+◌, ◌*◌, ◌≤◌, ◌<◌, max, arith}
-use Rattle.tl_lanes.specs.Lanes.{IsWidth}
+use Rattle.tl_ring.proofs.Names.{ℕ, zero, suc, ◌+◌, ◌*◌, ◌≤◌, ◌<◌, max, arith, IsWidth, ROOM}
 use Rattle.tl_lanes.proofs.Masks.{mask_width}
 use Rattle.tl_lanes.proofs.Widths.{width_bounds}
 use Rattle.tl_lanes.proofs.Sizes.{align-small, up_le}
-use Rattle.tl_ring.specs.declared.queue.TheConstants.{ROOM}
 use mir.Syntax.{Ty, Tys, tnil, tcons, ttcons, ty_struct, ty_enum, ty_int, ty_unit}
 use prog.Memory.{size, align, aligns, alignss, up, end_of, endss}
 use prog.Align.{up-ge, end_ge}

@@ -1,10 +1,6 @@
 -- The first beats of what goes into a ring, and of what came out of it.
-use Rattle.std.proofs.Common.{◌≡◌, ◌≤◌, ◌<◌, ◌+◌, ℕ, List, [], ◌∷◌, ◌++◌, length, take, min, ap, sym, ◌∙◌, arith, ⊎_elim, length-append}
-use Rattle.std.specs.Prelude.{All}
-use Rattle.std.proofs.lemmas.Bool.{cases_lt}
-use Rattle.std.proofs.lemmas.List.{length-take, take-append-le}
-use Rattle.std.proofs.lemmas.List.Elements.{All-append, All-replicate, All-nil}
-use Rattle.std.proofs.Math.Seq.{take-append_seam}
+use Rattle.tl_ring.proofs.Names.{◌≡◌, ◌≤◌, ◌<◌, ◌+◌, ℕ, List, [], ◌∷◌, ◌++◌, length, take, min, ap, sym, ◌∙◌, arith, ⊎_elim, length-append, All}
+use Rattle.tl_ring.proofs.Names.{cases_lt, length-take, take-append-le, All-append, All-replicate, All-nil, take-append_seam}
 use Rattle.rtrb.specs.Fifo.{Allowed}
 
 -- what went in of a slice is its first items

@@ -1,9 +1,8 @@
 -- A cut that goes from the front of one list to the end of the list before it leaves both together as they were.
-use Rattle.std.proofs.Common.{◌≡◌, ◌≤◌, ◌<◌, ◌+◌, ◌-◌, ◌↔◌, ◌⊎◌, ◌==◌, ◌&&◌, ℕ, Bool, true, false, List, [], ◌++◌, take, drop, length, min, inl, inr, refl, ap, sym, ◌∙◌, arith, ⊎_elim, append_assoc, append-nil}
-use Rattle.std.proofs.lemmas.List.{nil_from_length, take-append-drop, take-append-le}
-use Rattle.std.proofs.lemmas.Bool.{cases_lt, and_parts}
+use Rattle.tl_ring.proofs.Names.{◌≡◌, ◌≤◌, ◌<◌, ◌+◌, ◌-◌, ◌↔◌, ◌⊎◌, ◌==◌, ◌&&◌, ℕ, Bool, true, false, List, [], ◌++◌, take, drop, length, min, inl}
+use Rattle.tl_ring.proofs.Names.{inr, refl, ap, sym, ◌∙◌, arith, ⊎_elim, append_assoc, append-nil, nil_from_length, take-append-drop, take-append-le}
+use Rattle.tl_ring.proofs.Names.{cases_lt, and_parts, take-append-add, take-length}
 use Rattle.std.proofs.lemmas.Bool.Decides.{eqb_tells}
-use Rattle.std.proofs.Math.Seq.{take-append-add, take-length}
 use Rattle.tl_ring.specs.declared.pipe.TheConstants.{MAX_RING}
 use Rattle.tl_ring.specs.declared.fault.BuildFault.TheVariants.{RingSize, OutOfMemory}
 

@@ -1,19 +1,12 @@
 -- One more near beat: what is handed and what is due after it.
-use Rattle.std.proofs.Common.{◌≡◌, ◌+◌, ◌<◌, ◌^◌, ◌==◌, ℕ, true, cond, List, [], ◌∷◌, ◌++◌, length, map, slice_index, refl, sym, ap, subst, ◌∙◌, arith, append-nil, length-append}
-use Rattle.std.proofs.lemmas.List.{length-map}
+use Rattle.tl_ring.proofs.Names.{◌≡◌, ◌+◌, ◌<◌, ◌^◌, ◌==◌, ℕ, true, cond, List, [], ◌∷◌, ◌++◌, length, map, slice_index, refl, sym, ap, subst, ◌∙◌}
+use Rattle.tl_ring.proofs.Names.{arith, append-nil, length-append, length-map, IsWidth, IsBeat, Rules, BeatOf, Handed, IsHanded, IsHandedWith}
+use Rattle.tl_ring.proofs.Names.{IsAdmitted, rest_of, with_home, homes_with, ChannelLaws, none-handed, admitted-none, RestIs, due, layouts, part}
 use mathlib.Core.List.{IsPrefix}
-use Rattle.tl_lanes.specs.Lanes.{IsWidth}
-use Rattle.tl_msg.specs.Beats.{IsBeat}
-use Rattle.tl_msg.specs.Rules.{Rules}
-use Rattle.tl_msg.specs.declared.beat.BeatOf.{BeatOf}
 use Rattle.tl_burst.specs.Messages.{Message, beats_of}
-use Rattle.tl_burst.specs.Handing.{Handed, IsHanded, IsHandedWith, IsAdmitted, rest_of, with_home, homes_with}
 use Rattle.tl_burst.specs.Begun.{rest_heads}
 use Rattle.tl_burst.proofs.Burst.{some-beats}
 use Rattle.tl_burst.proofs.BegunMessages.{heads-handed}
-use Rattle.tl_burst.proofs.FaultsExact.{ChannelLaws, none-handed, admitted-none}
-use Rattle.tl_burst.proofs.RestOf.{RestIs}
-use Rattle.tl_convert.specs.Due.{due, layouts, part}
 use Rattle.tl_convert.specs.Laws.{EarlierDue}
 use Rattle.tl_convert.proofs.DueOne.{due-is}
 use Rattle.tl_convert.proofs.DuePrefix.{due-prefix}

@@ -1,12 +1,9 @@
 -- How far the taking end has come is of no matter to the sending end: a crossing that can be reached can be reached with the
 -- beats that went into its ring parted otherwise among the ring, the inbox and what was taken.
-use Rattle.std.proofs.Common.{◌≡◌, ◌≤◌, ◌<◌, ◌+◌, ◌-◌, ℕ, zero, suc, List, [], ◌∷◌, ◌++◌, length, take, drop, min, refl, sym, ap, subst, ◌∙◌, arith, ⊎_elim, append_assoc, append-nil, length-append}
-use Rattle.std.proofs.lemmas.List.{length-take, length-drop, take_all, drop_all, take-append-le, drop-append-le}
-use Rattle.std.proofs.lemmas.Bool.{cases_lt}
-use Rattle.std.proofs.Math.Seq.{drop-append_seam, take-append_seam}
-use Rattle.tl_msg.specs.Rules.{Rules}
-use Rattle.tl_msg.specs.declared.beat.BeatOf.{BeatOf}
-use Rattle.tl_ring.specs.Crossing.{World, Event, offer, push, pop, take_one, close, empty, pushed, popped, took, effect, IsPossible, inbox_room, Run, done, happens, fails, IsReached}
+use Rattle.tl_ring.proofs.Names.{◌≡◌, ◌≤◌, ◌<◌, ◌+◌, ◌-◌, ℕ, zero, suc, List, [], ◌∷◌, ◌++◌, length, take, drop, min, refl, sym, ap, subst, ◌∙◌}
+use Rattle.tl_ring.proofs.Names.{arith, ⊎_elim, append_assoc, append-nil, length-append, length-take, length-drop, take_all, drop_all, take-append-le}
+use Rattle.tl_ring.proofs.Names.{drop-append-le, cases_lt, drop-append_seam, take-append_seam, Rules, BeatOf, World, Event, offer, push, pop}
+use Rattle.tl_ring.proofs.Names.{take_one, close, empty, pushed, popped, took, effect, IsPossible, inbox_room, Run, done, happens, fails, IsReached}
 use Rattle.tl_ring.proofs.Moves.{cut_moves, cut_moves_after}
 use Rattle.tl_ring.proofs.Reached.{reached_new, reached_offered, reached_pushed, reached_popped, reached_took, reached_shut}
 

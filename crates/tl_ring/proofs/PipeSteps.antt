@@ -1,13 +1,7 @@
 -- Each call of a pipe takes it to where its crossing is after the same event.
-use Rattle.std.proofs.Common.{◌≡◌, ◌≤◌, ◌+◌, ◌-◌, ℕ, true, false, List, [], ◌∷◌, ◌++◌, length, take, drop, min, refl, sym, ap, subst, ◌∙◌, arith, append_assoc, append-nil, length-append}
-use Rattle.std.proofs.lemmas.List.{length-take, length-drop}
-use Rattle.std.proofs.Math.Seq.{drop-append_seam}
-use Rattle.tl_msg.specs.Rules.{Rules}
-use Rattle.tl_msg.specs.declared.beat.BeatOf.{BeatOf}
-use Rattle.tl_burst.specs.Handing.{rest_of, homes_with}
-use Rattle.tl_convert.specs.Due.{due}
-use Rattle.tl_ring.specs.Boxes.{Outgoing, HasSent}
-use Rattle.tl_ring.specs.Crossing.{World, empty, offered, pushed, popped, took, shut, inbox_room}
+use Rattle.tl_ring.proofs.Names.{◌≡◌, ◌≤◌, ◌+◌, ◌-◌, ℕ, true, false, List, [], ◌∷◌, ◌++◌, length, take, drop, min, refl, sym, ap, subst, ◌∙◌, arith}
+use Rattle.tl_ring.proofs.Names.{append_assoc, append-nil, length-append, length-take, length-drop, drop-append_seam, Rules, BeatOf, rest_of}
+use Rattle.tl_ring.proofs.Names.{homes_with, due, Outgoing, HasSent, World, empty, offered, pushed, popped, took, shut, inbox_room}
 use Rattle.tl_ring.specs.Pipe.{Pipe, StandsFor, outbox_of}
 use Rattle.tl_ring.proofs.Boxes.{has_more_sent, has_closed, reached_by, crosses_by}
 use Rattle.tl_ring.proofs.Moves.{cut_moves, cut_moves_after}

@@ -1,9 +1,7 @@
 -- A list of events goes on by what a call of a pipe does: an event, or nothing.
-use Rattle.std.proofs.Common.{◌≡◌, ◌≤◌, ◌-◌, ℕ, Bool, zero, suc, true, false, List, [], ◌∷◌, ◌++◌, length, take, drop, min, refl, sym, ap, subst, ◌∙◌, arith, append-nil}
-use Rattle.tl_msg.specs.Rules.{Rules}
-use Rattle.tl_msg.specs.declared.beat.BeatOf.{BeatOf}
-use Rattle.tl_burst.specs.Handing.{rest_of}
-use Rattle.tl_ring.specs.Crossing.{World, Event, offer, push, pop, take_one, close, empty, offered, pushed, popped, took, shut, effect, IsPossible, inbox_room, Run, done, happens, fails, IsReached}
+use Rattle.tl_ring.proofs.Names.{◌≡◌, ◌≤◌, ◌-◌, ℕ, Bool, zero, suc, true, false, List, [], ◌∷◌, ◌++◌, length, take, drop, min, refl, sym, ap, subst}
+use Rattle.tl_ring.proofs.Names.{◌∙◌, arith, append-nil, Rules, BeatOf, rest_of, World, Event, offer, push, pop, take_one, close, empty, offered}
+use Rattle.tl_ring.proofs.Names.{pushed, popped, took, shut, effect, IsPossible, inbox_room, Run, done, happens, fails, IsReached}
 
 module _ {H : Type 0} (r : Rules H) {w v : ℕ} where
   -- one event more

@@ -1,5 +1,5 @@
 -- The same end of the same ring, through several calls.
-use Rattle.std.proofs.Common.{ℕ, refl, sym, ◌∙◌}
+use Rattle.tl_ring.proofs.Names.{ℕ, refl, sym, ◌∙◌}
 use Rattle.tl_ring.specs.Ends.{Sending, Taking, Ended, ArePair, SameSend, SameTake, IsReceiptFor, IsReceiptOf}
 
 module _ {K A H : Type 0} {v : ℕ} where

@@ -1,17 +1,9 @@
 -- Every list of events leads to a world: whether an event is possible can be told.
-use Rattle.std.proofs.Common.{◌≡◌, ◌≤◌, ◌<◌, ◌-◌, ◌^◌, ℕ, suc, Bool, true, false, Option, None, Some, List, [], ◌∷◌, length, min, refl, ⊎_elim, inl, inr, arith}
-use Rattle.std.specs.Prelude.{◌⊎◌, All}
-use Rattle.std.proofs.lemmas.Bool.{cases_lt}
-use Rattle.std.proofs.lemmas.List.Elements.{All-nil, All-cons, All-head, All-tail}
+use Rattle.tl_ring.proofs.Names.{◌≡◌, ◌≤◌, ◌<◌, ◌-◌, ◌^◌, ℕ, suc, Bool, true, false, Option, None, Some, List, [], ◌∷◌, length, min, refl, ⊎_elim}
+use Rattle.tl_ring.proofs.Names.{inl, inr, arith, ◌⊎◌, All, cases_lt, All-nil, All-cons, All-head, All-tail, IsWidth, IsBeat, Rules, BeatOf, IsHanded}
+use Rattle.tl_ring.proofs.Names.{IsAdmitted, rest_of, fault_after, ChannelLaws, faults-exact, World, Event, offer, push, pop, take_one, close, effect}
+use Rattle.tl_ring.proofs.Names.{IsPossible, inbox_room, Run, done, happens, fails, Crosses}
 use Rattle.tl_lanes.specs.declared.limits.TheConstants.{WIDEST}
-use Rattle.tl_lanes.specs.Lanes.{IsWidth}
-use Rattle.tl_msg.specs.Beats.{IsBeat}
-use Rattle.tl_msg.specs.Rules.{Rules}
-use Rattle.tl_msg.specs.declared.beat.BeatOf.{BeatOf}
-use Rattle.tl_burst.specs.Handing.{IsHanded, IsAdmitted, rest_of, fault_after}
-use Rattle.tl_burst.proofs.FaultsExact.{ChannelLaws, faults-exact}
-use Rattle.tl_ring.specs.Crossing.{World, Event, offer, push, pop, take_one, close, effect, IsPossible, inbox_room, Run, done, happens, fails}
-use Rattle.tl_ring.specs.Laws.{Crosses}
 use Rattle.tl_ring.proofs.Crossings.{Crosses-effect}
 
 -- it is so, or it is not

@@ -1,16 +1,7 @@
 -- At every state that steps lead to, what was accepted is handed, and the next beat has no fault exactly where it is admitted.
-use Rattle.std.proofs.Common.{◌≡◌, ◌<◌, ◌↔◌, ℕ, None, List}
-use Rattle.std.specs.Prelude.{All}
-use Rattle.tl_msg.specs.Beats.{IsBeat}
-use Rattle.tl_msg.specs.Tables.{rules_a, rules_d}
-use Rattle.tl_msg.specs.declared.head.HeadA.{HeadA}
-use Rattle.tl_msg.specs.declared.head.HeadD.{HeadD}
-use Rattle.tl_msg.specs.declared.beat.BeatOf.{BeatOf}
-use Rattle.tl_burst.specs.Handing.{IsHanded, IsAdmitted, fault_after}
-use Rattle.tl_settle.specs.Steps.{Reaches}
-use Rattle.tl_settle.specs.Settling.{goes_a, goes_d}
+use Rattle.tl_settle.proofs.Names.{◌≡◌, ◌<◌, ◌↔◌, ℕ, None, List, All, IsBeat, rules_a, rules_d, HeadA, HeadD, BeatOf, IsHanded, IsAdmitted}
+use Rattle.tl_settle.proofs.Names.{fault_after, Reaches, goes_a, goes_d, reads, opens_is}
 use Rattle.tl_settle.specs.Laws.{IsAtAdmitted}
-use Rattle.tl_convert.proofs.FarHeads.{reads, opens_is}
 use Rattle.tl_settle.proofs.SameHeads.{same_a, same_d}
 use Rattle.tl_settle.proofs.Settles.{Good, good}
 use Rattle.tl_convert.proofs.Accepting.{each_beat, no_faults_handed}

@@ -1,26 +1,16 @@
 -- What a channel's accepted beats bring, in whole messages, and why its list goes no further.
-use Rattle.std.proofs.Common.{◌≡◌, ◌≢◌, ◌≤◌, ◌<◌, ◌+◌, ◌^◌, ◌↔◌, ℕ, suc, Bool, true, false, cond, Option, None, Some, List, [], ◌∷◌, ◌++◌, length, map, take, drop, refl, sym, ap, subst, ◌∙◌, arith, length-append}
-use Rattle.std.proofs.lemmas.List.{take-append-drop}
-use Rattle.std.specs.Prelude.{◌==◌, slice_get}
-use Rattle.std.specs.Option.{option_map_or}
+use Rattle.tl_settle.proofs.Names.{◌≡◌, ◌≢◌, ◌≤◌, ◌<◌, ◌+◌, ◌^◌, ◌↔◌, ℕ, suc, Bool, true, false, cond, Option, None, Some, List, [], ◌∷◌, ◌++◌}
+use Rattle.tl_settle.proofs.Names.{length, map, take, drop, refl, sym, ap, subst, ◌∙◌, arith, length-append, take-append-drop, ◌==◌, slice_get}
+use Rattle.tl_settle.proofs.Names.{option_map_or, IsBeat, BeatOf, BeatFault, SideFault, Beat, SourceBusy, NoRequest, SizeMismatch, Message, beats_of}
+use Rattle.tl_settle.proofs.Names.{Handed, nothing, begun, whole, IsHanded, IsHandedWith, IsAdmitted, fault_after, homes_with, heads, left}
+use Rattle.tl_settle.proofs.Names.{rest_heads, true_equal, false_apart, none_past, take-next, verdict_of, far_alone, verdict_alone}
 use Rattle.tl_msg.specs.Rules.{Rules}
-use Rattle.tl_msg.specs.Beats.{IsBeat}
-use Rattle.tl_msg.specs.declared.beat.BeatOf.{BeatOf}
-use Rattle.tl_msg.specs.declared.fault.BeatFault.{BeatFault}
-use Rattle.tl_msg.specs.declared.fault.SideFault.{SideFault}
-use Rattle.tl_msg.specs.declared.fault.SideFault.TheVariants.{Beat, SourceBusy, NoRequest, SizeMismatch}
 use Rattle.tl_msg.specs.declared.verdict.Verdict.TheVariants.{Done, Cut}
-use Rattle.tl_burst.specs.Messages.{Message, beats_of}
-use Rattle.tl_burst.specs.Handing.{Handed, nothing, begun, whole, IsHanded, IsHandedWith, IsAdmitted, fault_after, homes_with}
-use Rattle.tl_burst.specs.Begun.{heads, left, rest_heads}
 use Rattle.tl_burst.proofs.BegunMessages.{left-zero, heads-handed}
 use Rattle.tl_burst.proofs.RestOf.{RestIs}
 use Rattle.tl_convert.specs.Due.{due}
 use Rattle.tl_convert.specs.Accepted.{accepted_of, AcceptedIsLongest, IsLongest}
 use Rattle.tl_convert.specs.Laws.{DueIsOne, DueIsHanded, gathered}
-use Rattle.tl_convert.proofs.Comparisons.{true_equal, false_apart, none_past}
-use Rattle.tl_convert.proofs.Extends.{take-next}
-use Rattle.tl_settle.specs.Outcomes.{verdict_of, far_alone, verdict_alone}
 use Rattle.tl_settle.specs.InMessages.{NextOpens, IsVerdict, all_done, all_cut, not_admitted, another_size, waits, Brings, BringsAlone}
 
 -- the first items of a list

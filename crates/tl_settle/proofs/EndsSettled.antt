@@ -1,33 +1,19 @@
 -- What a script ends in, in whole messages: A and D at a state that steps lead to and that no step
 -- leaves, and each other channel by itself.
-use Rattle.std.proofs.Common.{◌≡◌, ◌≢◌, ◌≤◌, ◌<◌, ◌+◌, ◌-◌, ◌^◌, ◌↔◌, ℕ, zero, suc, Bool, true, false, cond, Option, None, Some, List, [], ◌∷◌, ◌++◌, length, map, take, refl, sym, ap, subst, ◌∙◌, arith, zero-le, append_assoc}
-use Rattle.std.proofs.lemmas.Option.{slice_get_within}
-use Rattle.std.proofs.lemmas.List.Sums.{length-filter}
-use Rattle.std.specs.Prelude.{◌==◌, ◌&&◌, not, slice_get, All}
-use Rattle.std.specs.Option.{option_map_or, is_none}
-use Rattle.std.specs.List.{filter}
+use Rattle.tl_settle.proofs.Names.{◌≡◌, ◌≢◌, ◌≤◌, ◌<◌, ◌+◌, ◌-◌, ◌^◌, ◌↔◌, ℕ, zero, suc, Bool, true, false, cond, Option, None, Some, List, [], ◌∷◌}
+use Rattle.tl_settle.proofs.Names.{◌++◌, length, map, take, refl, sym, ap, subst, ◌∙◌, arith, zero-le, append_assoc, slice_get_within, length-filter}
+use Rattle.tl_settle.proofs.Names.{◌==◌, ◌&&◌, not, slice_get, All, option_map_or, is_none, filter, IsBeat, rules_a, rules_b, rules_c, rules_d}
+use Rattle.tl_settle.proofs.Names.{rules_e, HeadA, HeadD, BeatOf, BeatFault, Beat, SourceBusy, NoRequest, SizeMismatch, beats_of, Handed, nothing}
+use Rattle.tl_settle.proofs.Names.{IsHanded, IsHandedWith, fault_after, rest_of, with_home, heads, heads_from, left, some_beats, heads_open}
+use Rattle.tl_settle.proofs.Names.{heads_inside_one, equal_true, map_true, there_is, Extends, take-next, take-past, count_by-append, NoFaults}
+use Rattle.tl_settle.proofs.Names.{no-faults-less, Beats, verdict_of, far_alone, verdict_alone, homes_after, home_of, is_release_ack, is_request_of}
+use Rattle.tl_settle.proofs.Names.{is_response_to, partner, requests_of, responses_to, IsSettledState, far_a, far_d, goes_a, goes_d, held_request}
+use Rattle.tl_settle.proofs.Names.{held_response, is_free, requests, responses, settled_state, stops_a, stops_d, Reaches, Settled, State, by_a, by_d}
+use Rattle.tl_settle.proofs.Names.{start}
 use Rattle.tl_msg.specs.Rules.{Rules}
-use Rattle.tl_msg.specs.Beats.{IsBeat}
-use Rattle.tl_msg.specs.Tables.{rules_a, rules_b, rules_c, rules_d, rules_e}
-use Rattle.tl_msg.specs.declared.head.HeadA.{HeadA}
-use Rattle.tl_msg.specs.declared.head.HeadD.{HeadD}
-use Rattle.tl_msg.specs.declared.beat.BeatOf.{BeatOf}
-use Rattle.tl_msg.specs.declared.fault.BeatFault.{BeatFault}
-use Rattle.tl_msg.specs.declared.fault.SideFault.TheVariants.{Beat, SourceBusy, NoRequest, SizeMismatch}
-use Rattle.tl_burst.specs.Messages.{beats_of}
-use Rattle.tl_burst.specs.Handing.{Handed, nothing, IsHanded, IsHandedWith, fault_after, rest_of, with_home}
-use Rattle.tl_burst.specs.Begun.{heads, heads_from, left}
 use Rattle.tl_burst.proofs.BegunMessages.{left-zero}
 use Rattle.tl_convert.proofs.Accepting.{each_beat, no_faults_handed}
-use Rattle.tl_convert.proofs.Begins.{some_beats, heads_open, heads_inside_one}
-use Rattle.tl_convert.proofs.Comparisons.{equal_true, map_true, there_is}
-use Rattle.tl_convert.proofs.Extends.{Extends, take-next, take-past, count_by-append}
-use Rattle.tl_convert.proofs.FarHeads.{NoFaults, no-faults-less}
 use Rattle.tl_settle.specs.InMessages.{AreBeats, Brings, BringsAlone, EndsInMessages}
-use Rattle.tl_settle.specs.Outcomes.{Beats, verdict_of, far_alone, verdict_alone}
-use Rattle.tl_settle.specs.Requests.{homes_after, home_of, is_release_ack, is_request_of, is_response_to, partner, requests_of, responses_to}
-use Rattle.tl_settle.specs.Settling.{IsSettledState, far_a, far_d, goes_a, goes_d, held_request, held_response, is_free, requests, responses, settled_state, stops_a, stops_d}
-use Rattle.tl_settle.specs.Steps.{Reaches, Settled, State, by_a, by_d, start}
 use Rattle.tl_settle.proofs.Admits.{at_admitted}
 use Rattle.tl_settle.proofs.Brings.{Known, own_homes, brings, brings_alone}
 use Rattle.tl_settle.proofs.Grows.{homes_more}

@@ -1,18 +1,9 @@
 -- What is due goes on as more beats of a script are accepted.
-use Rattle.std.proofs.Common.{◌≡◌, ◌≤◌, ◌<◌, ℕ, suc, List, [], ◌∷◌, ◌++◌, length, map, refl, sym, ap, ◌∙◌, arith, append_assoc, append-nil}
-use Rattle.std.proofs.lemmas.List.{length-map, map-append}
-use Rattle.tl_msg.specs.Tables.{rules_a, rules_d}
-use Rattle.tl_msg.specs.declared.head.HeadA.{HeadA}
-use Rattle.tl_msg.specs.declared.head.HeadD.{HeadD}
-use Rattle.tl_msg.specs.declared.beat.BeatOf.{BeatOf}
-use Rattle.tl_convert.proofs.Extends.{Extends, more, take-grows}
-use Rattle.tl_convert.proofs.Begins.{heads_extend}
-use Rattle.tl_convert.proofs.FarHeads.{NoFaults}
+use Rattle.tl_settle.proofs.Names.{◌≡◌, ◌≤◌, ◌<◌, ℕ, suc, List, [], ◌∷◌, ◌++◌, length, map, refl, sym, ap, ◌∙◌, arith, append_assoc, append-nil}
+use Rattle.tl_settle.proofs.Names.{length-map, map-append, rules_a, rules_d, HeadA, HeadD, BeatOf, Extends, more, take-grows, heads_extend, NoFaults}
+use Rattle.tl_settle.proofs.Names.{home_of, homes_after, far_a, far_d, requests, responses, heads}
 use Rattle.tl_settle.proofs.SameHeads.{same_a, same_d}
 use Rattle.tl_convert.proofs.Prefixes.{due_extends}
-use Rattle.tl_settle.specs.Requests.{home_of, homes_after}
-use Rattle.tl_settle.specs.Settling.{far_a, far_d, requests, responses}
-use Rattle.tl_burst.specs.Begun.{heads}
 
 map_grows : {X Y : Type 0} (f : X → Y) {xs ys : List X} → Extends xs ys → Extends (map f xs) (map f ys)
 map_grows f (more xs rest) = rw (map-append f xs rest) (more (map f xs) (map f rest))

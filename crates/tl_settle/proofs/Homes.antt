@@ -1,17 +1,10 @@
 -- The homes that the manager's side gives are those of the definition of the far list.
-use Rattle.std.proofs.Common.{◌≡◌, ◌<◌, ◌⊎◌, inl, inr, ℕ, Bool, true, false, cond, Option, Some, List, [], ◌∷◌, ◌++◌, take, map, refl, sym, ap, ◌∙◌, append_assoc, append-nil}
-use Rattle.std.specs.Option.{option_map_or}
-use Rattle.tl_msg.specs.Tables.{rules_a, rules_d}
-use Rattle.tl_msg.specs.declared.beat.BeatOf.{BeatOf}
-use Rattle.tl_burst.specs.Begun.{heads}
+use Rattle.tl_settle.proofs.Names.{◌≡◌, ◌<◌, ◌⊎◌, inl, inr, ℕ, Bool, true, false, cond, Option, Some, List, [], ◌∷◌, ◌++◌, take, map, refl, sym, ap}
+use Rattle.tl_settle.proofs.Names.{◌∙◌, append_assoc, append-nil, option_map_or, rules_a, rules_d, BeatOf, heads, HeadA, HeadD, is_release_ack}
+use Rattle.tl_settle.proofs.Names.{is_request_of, responses_to, partner, home_of, homes_after, Reaches, goes_a, goes_d, responses, far_a, far_d}
+use Rattle.tl_settle.proofs.Names.{Event, asked, answered, Mark, Asks, Answers, marks, open_request, home_after, homes_from, manager_homes, Extends}
+use Rattle.tl_settle.proofs.Names.{more, extends-on}
 use Rattle.tl_convert.specs.Due.{due}
-use Rattle.tl_msg.specs.declared.head.HeadA.{HeadA}
-use Rattle.tl_msg.specs.declared.head.HeadD.{HeadD}
-use Rattle.tl_settle.specs.Requests.{is_release_ack, is_request_of, responses_to, partner, home_of, homes_after}
-use Rattle.tl_settle.specs.Steps.{Reaches}
-use Rattle.tl_settle.specs.Settling.{goes_a, goes_d, responses, far_a, far_d}
-use Rattle.tl_settle.specs.Histories.{Event, asked, answered, Mark, Asks, Answers, marks, open_request, home_after, homes_from, manager_homes}
-use Rattle.tl_convert.proofs.Extends.{Extends, more, extends-on}
 use Rattle.tl_settle.proofs.Orders.{asks, answers, Ordered, unmarked, ask, answer, ClientIs, ManagerIs}
 use Rattle.tl_settle.proofs.Settles.{good, there_on}
 use Rattle.tl_settle.proofs.Manager.{manager_asks, manager_answers, whole_asks}

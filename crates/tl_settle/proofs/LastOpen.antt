@@ -1,15 +1,8 @@
 -- The open request of a source is the last message of the source that began.
-use Rattle.std.proofs.Common.{◌≡◌, ℕ, Bool, true, false, cond, Option, None, Some, List, [], ◌∷◌, ◌++◌, ◌⊎◌, inl, inr, refl, sym, ap, ◌∙◌, ⊎_elim}
-use Rattle.std.specs.Prelude.{◌&&◌, not}
-use Rattle.std.specs.List.{list_all}
-use Rattle.std.specs.Option.{is_some}
-use Rattle.tl_msg.specs.declared.head.HeadA.{HeadA}
-use Rattle.tl_msg.specs.declared.head.HeadD.{HeadD}
-use Rattle.tl_settle.specs.Histories.{Answers, Asks, Mark, open_after, open_from, open_request}
+use Rattle.tl_settle.proofs.Names.{◌≡◌, ℕ, Bool, true, false, cond, Option, None, Some, List, [], ◌∷◌, ◌++◌, ◌⊎◌, inl, inr, refl, sym, ap, ◌∙◌}
+use Rattle.tl_settle.proofs.Names.{⊎_elim, ◌&&◌, not, list_all, is_some, HeadA, HeadD, Answers, Asks, Mark, open_after, open_from, open_request}
+use Rattle.tl_settle.proofs.Names.{is_request_of, is_response_to, not-true, and_parts, same_Some}
 use Rattle.tl_settle.specs.Laws.{is_of, answers_to, IsOpenRequest, IsBusy}
-use Rattle.tl_settle.specs.Requests.{is_request_of, is_response_to}
-use Rattle.std.proofs.lemmas.Bool.{not-true, and_parts}
-use Rattle.std.proofs.lemmas.Option.{same_Some}
 
 open_over : (s : ℕ) (o : Option HeadA) (xs ys : List Mark) → open_from s o (xs ++ ys) ≡ open_from s (open_from s o xs) ys
 open_over s o [] ys = refl

@@ -1,3 +1,4 @@
+pub mod Names
 mod Rows
 pub mod SameHeads
 pub mod Persist

@@ -1,32 +1,16 @@
 -- The manager's side within a run: the same for channel D, and the homes that it gives.
-use Rattle.std.proofs.Common.{◌≡◌, ◌≤◌, ◌<◌, ℕ, zero, suc, Bool, true, false, cond, Option, None, Some, List, [], ◌∷◌, ◌++◌, length, take, drop, refl, sym, ap, subst, ◌∙◌, arith, inl, inr}
-use Rattle.std.proofs.lemmas.Option.{slice_get_within, slice_get_past}
-use Rattle.std.proofs.lemmas.List.Sums.{length-filter}
-use Rattle.std.specs.Prelude.{nat_lt, ◌==◌, slice_get}
-use Rattle.std.specs.Option.{option_map_or, is_none}
-use Rattle.std.specs.List.{filter}
-use Rattle.tl_msg.specs.Tables.{rules_a, rules_d}
-use Rattle.tl_msg.specs.declared.head.HeadA.{HeadA}
-use Rattle.tl_msg.specs.declared.head.HeadD.{HeadD}
-use Rattle.tl_msg.specs.declared.beat.BeatOf.{BeatOf}
-use Rattle.tl_msg.specs.declared.fault.BeatFault.{BeatFault}
-use Rattle.tl_msg.specs.declared.fault.SideFault.{SideFault}
-use Rattle.tl_msg.specs.declared.fault.SideFault.TheVariants.{Beat, NoRequest, SizeMismatch}
-use Rattle.std.proofs.lemmas.List.{take-append-drop}
-use Rattle.tl_convert.proofs.Extends.{Extends, count_by-append, count-grows, take-next}
-use Rattle.tl_convert.proofs.Comparisons.{equal_true, less_true, not_less_false, none_past}
-use Rattle.tl_convert.proofs.Begins.{heads_open, heads_grow, heads_extend}
+use Rattle.tl_settle.proofs.Names.{◌≡◌, ◌≤◌, ◌<◌, ℕ, zero, suc, Bool, true, false, cond, Option, None, Some, List, [], ◌∷◌, ◌++◌, length, take, drop}
+use Rattle.tl_settle.proofs.Names.{refl, sym, ap, subst, ◌∙◌, arith, inl, inr, slice_get_within, slice_get_past, length-filter, nat_lt, ◌==◌}
+use Rattle.tl_settle.proofs.Names.{slice_get, option_map_or, is_none, filter, rules_a, rules_d, HeadA, HeadD, BeatOf, BeatFault, SideFault, Beat}
+use Rattle.tl_settle.proofs.Names.{NoRequest, SizeMismatch, take-append-drop, Extends, count_by-append, count-grows, take-next, equal_true, less_true}
+use Rattle.tl_settle.proofs.Names.{not_less_false, none_past, heads_open, heads_grow, heads_extend, Answer, Ask, Event, answered, asked}
+use Rattle.tl_settle.proofs.Names.{manager_answer, manager_home, marks, open_request, to_request, home_of, is_release_ack, is_request_of, partner}
+use Rattle.tl_settle.proofs.Names.{requests_of, responses_to, far_a, goes_a, goes_d, requests, responses, stops_d, Reaches, heads, left, fault_after}
 use Rattle.tl_settle.proofs.Orders.{asks, answers, Ordered, ask, answer, ManagerIs}
 use Rattle.tl_settle.proofs.Settles.{good, there_on, there_behind, back_behind, requests_there}
 use Rattle.tl_settle.proofs.Opens.{Match, matches, asks_heads, answers_heads}
 use Rattle.tl_settle.proofs.Sides.{nth_stays, tight}
 use Rattle.tl_settle.proofs.Marks.{asked_ask, asked_answer, answered_ask, answered_answer, marks_ask_first, marks_ask_inside, marks_answer_first, marks_answer_inside}
-use Rattle.tl_settle.specs.Histories.{Answer, Ask, Event, answered, asked, manager_answer, manager_home, marks, open_request, to_request}
-use Rattle.tl_settle.specs.Requests.{home_of, is_release_ack, is_request_of, partner, requests_of, responses_to}
-use Rattle.tl_settle.specs.Settling.{far_a, goes_a, goes_d, requests, responses, stops_d}
-use Rattle.tl_settle.specs.Steps.{Reaches}
-use Rattle.tl_burst.specs.Begun.{heads, left}
-use Rattle.tl_burst.specs.Handing.{fault_after}
 
 manager_imp : (o : Option BeatFault) (l r : Bool) (request : Option HeadA) (h : HeadD) (n s : Bool) →
     ((q : HeadA) → request ≡ Some q → (n ≡ true) × (s ≡ (q.size == h.size))) →

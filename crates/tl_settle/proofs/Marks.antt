@@ -1,12 +1,6 @@
 -- The beats and the messages of a history with one event more.
-use Rattle.std.proofs.Common.{◌≡◌, ◌-◌, ℕ, zero, suc, List, [], ◌∷◌, ◌++◌, refl, ap}
-use Rattle.tl_msg.specs.Tables.{rules_a, rules_d}
-use Rattle.tl_msg.specs.declared.head.HeadA.{HeadA}
-use Rattle.tl_msg.specs.declared.head.HeadD.{HeadD}
-use Rattle.tl_msg.specs.declared.beat.BeatOf.{BeatOf}
-use Rattle.tl_settle.specs.Histories.{Answer, Answers, Ask, Asks, Event, answered, asked, marks_from}
-use Rattle.tl_burst.specs.Begun.{left_from}
-use Rattle.tl_burst.specs.Messages.{beats_of}
+use Rattle.tl_settle.proofs.Names.{◌≡◌, ◌-◌, ℕ, zero, suc, List, [], ◌∷◌, ◌++◌, refl, ap, rules_a, rules_d, HeadA, HeadD, BeatOf, Answer, Answers}
+use Rattle.tl_settle.proofs.Names.{Ask, Asks, Event, answered, asked, marks_from, left_from, beats_of}
 
 -- a history with one event more
 pub asked_ask : {w : ℕ} (es : List (Event w)) (b : BeatOf HeadA w) → asked (es ++ Ask b ∷ []) ≡ asked es ++ b ∷ []

@@ -1,21 +1,12 @@
 -- The open request of a source by the order of a history, and by counts.
-use Rattle.std.proofs.Common.{◌≡◌, ◌≤◌, ◌<◌, ◌-◌, ℕ, zero, suc, Bool, true, false, cond, Option, None, Some, List, [], ◌∷◌, ◌++◌, length, refl, sym, ap, subst, ◌∙◌, arith, zero-le, ⊎_elim, append-nil}
-use Rattle.std.proofs.lemmas.Bool.Decides.{nat_tests}
-use Rattle.std.proofs.lemmas.Option.{slice_get_within, slice_get_past}
+use Rattle.tl_settle.proofs.Names.{◌≡◌, ◌≤◌, ◌<◌, ◌-◌, ℕ, zero, suc, Bool, true, false, cond, Option, None, Some, List, [], ◌∷◌, ◌++◌, length, refl}
+use Rattle.tl_settle.proofs.Names.{sym, ap, subst, ◌∙◌, arith, zero-le, ⊎_elim, append-nil, nat_tests, slice_get_within, slice_get_past}
+use Rattle.tl_settle.proofs.Names.{length-filter, ◌==◌, ◌&&◌, not, slice_get, filter, rules_a, rules_d, HeadA, HeadD, count_by-append, none_past}
+use Rattle.tl_settle.proofs.Names.{true_equal, Answer, Answers, Ask, Asks, Event, Mark, answered, asked, marks_from, open_after, open_from}
+use Rattle.tl_settle.proofs.Names.{open_request, is_release_ack, is_request_of, is_response_to, partner, requests_of, responses_to, heads_from}
+use Rattle.tl_settle.proofs.Names.{beats_of}
 use Rattle.std.proofs.lemmas.List.Elements.{filter-append}
-use Rattle.std.proofs.lemmas.List.Sums.{length-filter}
-use Rattle.std.specs.Prelude.{◌==◌, ◌&&◌, not, slice_get}
-use Rattle.std.specs.List.{filter}
-use Rattle.tl_msg.specs.Tables.{rules_a, rules_d}
-use Rattle.tl_msg.specs.declared.head.HeadA.{HeadA}
-use Rattle.tl_msg.specs.declared.head.HeadD.{HeadD}
-use Rattle.tl_convert.proofs.Extends.{count_by-append}
 use Rattle.tl_settle.proofs.Orders.{Ordered, answer, answers, ask, asks, unmarked}
-use Rattle.tl_convert.proofs.Comparisons.{none_past, true_equal}
-use Rattle.tl_settle.specs.Histories.{Answer, Answers, Ask, Asks, Event, Mark, answered, asked, marks_from, open_after, open_from, open_request}
-use Rattle.tl_settle.specs.Requests.{is_release_ack, is_request_of, is_response_to, partner, requests_of, responses_to}
-use Rattle.tl_burst.specs.Begun.{heads_from}
-use Rattle.tl_burst.specs.Messages.{beats_of}
 
 -- the marks of a history are the messages that begin in its two lists
 pub asks_heads : {w : ℕ} (a d : ℕ) (es : List (Event w)) → asks (marks_from a d es) ≡ heads_from rules_a w a (asked es)

@@ -1,12 +1,6 @@
 -- Histories in which requests and responses take turns, and what a side has seen within a run.
-use Rattle.std.specs.Prelude.{◌≡◌, ◌≤◌, ◌<◌, ◌⊎◌, ◌++◌, ℕ, true, None, Some, List, [], ◌∷◌, take}
-use Rattle.tl_msg.specs.declared.head.HeadA.{HeadA}
-use Rattle.tl_msg.specs.declared.head.HeadD.{HeadD}
-use Rattle.tl_msg.specs.declared.beat.BeatOf.{BeatOf}
-use Rattle.tl_settle.specs.Requests.{is_release_ack}
-use Rattle.tl_settle.specs.Settling.{far_a, far_d, goes_a, goes_d}
-use Rattle.tl_settle.specs.Histories.{Event, asked, answered, Mark, Asks, Answers, marks, open_request}
-use Rattle.tl_convert.proofs.Extends.{Extends}
+use Rattle.tl_settle.proofs.Names.{◌≡◌, ◌≤◌, ◌<◌, ◌⊎◌, ◌++◌, ℕ, true, None, Some, List, [], ◌∷◌, take, HeadA, HeadD, BeatOf, is_release_ack, far_a}
+use Rattle.tl_settle.proofs.Names.{far_d, goes_a, goes_d, Event, asked, answered, Mark, Asks, Answers, marks, open_request, Extends}
 
 -- the requests and the responses among messages that begin
 abbrev pub asks : List Mark → List HeadA

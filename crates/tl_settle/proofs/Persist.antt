@@ -1,7 +1,6 @@
 -- Any two lists whose steps stay possible: one settled state, and no run goes past it.
-use Rattle.std.proofs.Common.{◌≡◌, ◌≤◌, ◌<◌, ◌+◌, ◌⊎◌, ℕ, zero, suc, Bool, true, false, refl, sym, ap, subst, ◌∙◌, arith, zero-le, ⊎_elim, cond}
-use Rattle.std.proofs.lemmas.Bool.{true≢false}
-use Rattle.tl_settle.specs.Steps.{IsTheSettled, Reaches, Settled, State, by_a, by_d, next, settle, start}
+use Rattle.tl_settle.proofs.Names.{◌≡◌, ◌≤◌, ◌<◌, ◌+◌, ◌⊎◌, ℕ, zero, suc, Bool, true, false, refl, sym, ap, subst, ◌∙◌, arith, zero-le, ⊎_elim, cond}
+use Rattle.tl_settle.proofs.Names.{true≢false, IsTheSettled, Reaches, Settled, State, by_a, by_d, next, settle, start}
 
 -- A step that may go stays possible while the other list goes on: so there is one settled state, and no run goes past it.
 module _ (goes_a goes_d : ℕ → ℕ → Bool) (n m : ℕ)

@@ -1,18 +1,11 @@
 -- Worked examples: the verdicts of A and D at settled states, what crosses, and what each side answers by its history.
-use Rattle.std.proofs.Common.{◌≡◌, ℕ, false, None, Some, List, [], ◌∷◌, refl, map}
-use Rattle.std.specs.List.{range_with_len}
-use Rattle.tl_msg.specs.declared.head.HeadA.{HeadA}
-use Rattle.tl_msg.specs.declared.head.HeadD.{HeadD}
+use Rattle.tl_settle.proofs.Names.{◌≡◌, ℕ, false, None, Some, List, [], ◌∷◌, refl, map, range_with_len, HeadA, HeadD, BeatOf, Beat, SourceBusy}
+use Rattle.tl_settle.proofs.Names.{NoRequest, SizeMismatch, rules_a, rules_e, far_a, far_d, settled_state, Ask, Answer, client_answer, manager_answer}
+use Rattle.tl_settle.proofs.Names.{manager_home, verdict_a, verdict_d, verdict_alone}
 use Rattle.tl_msg.specs.declared.head.HeadE.{HeadE}
-use Rattle.tl_msg.specs.declared.beat.BeatOf.{BeatOf}
-use Rattle.tl_msg.specs.declared.fault.SideFault.TheVariants.{Beat, SourceBusy, NoRequest, SizeMismatch}
 use Rattle.tl_msg.specs.declared.fault.BeatFault.TheVariants.{Mask, Unaligned, HeadChanged}
-use Rattle.tl_msg.specs.Tables.{rules_a, rules_e}
 use Rattle.tl_msg.specs.declared.verdict.Verdict.{Verdict}
 use Rattle.tl_msg.specs.declared.verdict.Verdict.TheVariants.{Done, Cut, Refused, Waiting}
-use Rattle.tl_settle.specs.Settling.{far_a, far_d, settled_state}
-use Rattle.tl_settle.specs.Histories.{Ask, Answer, client_answer, manager_answer, manager_home}
-use Rattle.tl_settle.specs.Outcomes.{verdict_a, verdict_d, verdict_alone}
 
 -- a beat of A on w lanes, all of which hold zero
 abbrev asks : (w opcode size source address mask : ℕ) → BeatOf HeadA w

@@ -1,22 +1,15 @@
 -- Runs in rounds: each is a list of steps, and one that is over is at the settled state.
-use Rattle.std.proofs.Common.{◌≡◌, ◌≤◌, ◌<◌, ◌⊎◌, ◌≢◌, ℕ, suc, true, false, Option, None, Some, List, [], refl, sym, ap, subst, ◌∙◌, arith, ⊎_elim}
-use Rattle.std.specs.Prelude.{slice_get}
-use Rattle.std.specs.Option.{option_map_or, is_none}
-use Rattle.tl_msg.specs.declared.head.HeadA.{HeadA}
-use Rattle.tl_msg.specs.declared.head.HeadD.{HeadD}
-use Rattle.tl_msg.specs.declared.beat.BeatOf.{BeatOf}
-use Rattle.tl_msg.specs.declared.fault.SideFault.{SideFault}
+use Rattle.tl_settle.proofs.Names.{◌≡◌, ◌≤◌, ◌<◌, ◌⊎◌, ◌≢◌, ℕ, suc, true, false, Option, None, Some, List, [], refl, sym, ap, subst, ◌∙◌, arith}
+use Rattle.tl_settle.proofs.Names.{⊎_elim, slice_get, option_map_or, is_none, HeadA, HeadD, BeatOf, SideFault, more, of_prefix, extends-on, Event}
+use Rattle.tl_settle.proofs.Names.{answered, asked, client_answer, manager_answer, far_a, far_d, goes_a, goes_d, settled_state, stops_a, stops_d}
+use Rattle.tl_settle.proofs.Names.{Reaches, Settled, by_a, by_d, start}
 use Rattle.tl_settle.proofs.Sides as sides
 use Rattle.tl_settle.proofs.Manager as manager
-use Rattle.tl_convert.proofs.Extends.{more, of_prefix, extends-on}
 use Rattle.tl_settle.proofs.Orders.{unmarked, ClientIs, ManagerIs}
 use Rattle.tl_settle.proofs.Settles.{good, round_reaches, one_settled}
 use Rattle.tl_settle.proofs.Homes.{manager_homes_are}
 use Rattle.tl_settle.proofs.Grows.{far_a_grows, far_d_grows}
-use Rattle.tl_settle.specs.Histories.{Event, answered, asked, client_answer, manager_answer}
 use Rattle.tl_settle.specs.Rounds.{ClientMoves, IsOver, IsSettledRun, ManagerMoves, Run, begins, client_accepts, client_rests, client_takes, manager_accepts, manager_rests, manager_takes, round}
-use Rattle.tl_settle.specs.Settling.{far_a, far_d, goes_a, goes_d, settled_state, stops_a, stops_d}
-use Rattle.tl_settle.specs.Steps.{Reaches, Settled, by_a, by_d, start}
 
 -- the last index below suc y, or one before
 last_or : (k y : ℕ) → k < suc y → (k < y) ⊎ (k ≡ y)

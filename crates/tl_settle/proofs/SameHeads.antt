@@ -1,12 +1,6 @@
 -- Heads of which all fields are the same are the same head.
-use Rattle.std.proofs.Common.{◌≡◌, Bool, true, false, refl, ap, ◌∙◌}
-use Rattle.std.specs.Prelude.{◌==◌}
+use Rattle.tl_settle.proofs.Names.{◌≡◌, Bool, true, false, refl, ap, ◌∙◌, ◌==◌, rules_a, rules_d, HeadA, HeadD, true_equal, and_parts}
 use Rattle.std.specs.Bool.{beq}
-use Rattle.tl_msg.specs.Tables.{rules_a, rules_d}
-use Rattle.tl_msg.specs.declared.head.HeadA.{HeadA}
-use Rattle.tl_msg.specs.declared.head.HeadD.{HeadD}
-use Rattle.tl_convert.proofs.Comparisons.{true_equal}
-use Rattle.std.proofs.lemmas.Bool.{and_parts}
 
 same_bool : (x y : Bool) → beq x y ≡ true → x ≡ y
 same_bool true true e = refl

@@ -1,28 +1,15 @@
 -- The settled state of A and D: a step that may go stays possible while the other channel goes on, and the steps of a round lead on.
-use Rattle.std.proofs.Common.{◌≡◌, ◌≤◌, ◌<◌, ◌+◌, ◌-◌, ◌≢◌, ℕ, zero, suc, Bool, true, false, cond, Option, None, Some, List, [], ◌∷◌, ◌++◌, length, take, map, refl, sym, ap, subst, ◌∙◌, arith, zero-le, ⊎_elim}
-use Rattle.std.proofs.lemmas.Bool.Decides.{eqb_tells}
-use Rattle.std.proofs.lemmas.Option.{slice_get_within}
-use Rattle.std.specs.Prelude.{nat_lt, ◌==◌, ◌&&◌, not, slice_get}
-use Rattle.std.specs.Option.{option_map_or, is_none}
-use Rattle.tl_msg.specs.Tables.{rules_a, rules_d}
-use Rattle.tl_msg.specs.declared.head.HeadA.{HeadA}
-use Rattle.tl_msg.specs.declared.head.HeadD.{HeadD}
-use Rattle.tl_msg.specs.declared.beat.BeatOf.{BeatOf}
-use Rattle.tl_msg.specs.declared.fault.BeatFault.{BeatFault}
-use Rattle.tl_msg.specs.declared.fault.SideFault.{SideFault}
-use Rattle.tl_msg.specs.declared.fault.SideFault.TheVariants.{Beat, SourceBusy, NoRequest, SizeMismatch}
-use Rattle.tl_convert.proofs.Extends.{Extends, count_by-append, count-grows, take-next}
-use Rattle.tl_convert.proofs.Comparisons.{equal_true, true_equal, less_true, true_less, map_true, map_imp}
-use Rattle.tl_convert.proofs.Begins.{heads_open, heads_inside_one}
-use Rattle.tl_convert.proofs.FarHeads.{NoFaults, no-faults-start, no-faults-next, reads, due_behind, due_grows}
+use Rattle.tl_settle.proofs.Names.{◌≡◌, ◌≤◌, ◌<◌, ◌+◌, ◌-◌, ◌≢◌, ℕ, zero, suc, Bool, true, false, cond, Option, None, Some, List, [], ◌∷◌, ◌++◌}
+use Rattle.tl_settle.proofs.Names.{length, take, map, refl, sym, ap, subst, ◌∙◌, arith, zero-le, ⊎_elim, eqb_tells, slice_get_within, nat_lt, ◌==◌}
+use Rattle.tl_settle.proofs.Names.{◌&&◌, not, slice_get, option_map_or, is_none, rules_a, rules_d, HeadA, HeadD, BeatOf, BeatFault, SideFault, Beat}
+use Rattle.tl_settle.proofs.Names.{SourceBusy, NoRequest, SizeMismatch, Extends, count_by-append, count-grows, take-next, equal_true, true_equal}
+use Rattle.tl_settle.proofs.Names.{less_true, true_less, map_true, map_imp, heads_open, heads_inside_one, NoFaults, no-faults-start, no-faults-next}
+use Rattle.tl_settle.proofs.Names.{reads, due_behind, due_grows, homes_after, is_release_ack, is_request_of, is_response_to, requests_of}
+use Rattle.tl_settle.proofs.Names.{responses_to, IsSettledState, far_a, far_d, goes_a, goes_d, held_response, is_free, requests, responses}
+use Rattle.tl_settle.proofs.Names.{settled_state, stops_a, stops_d, Reaches, by_a, by_d, start, heads, left, fault_after}
 use Rattle.tl_settle.proofs.SameHeads.{same_a, same_d}
 use Rattle.tl_settle.proofs.Orders.{IsRound}
 use Rattle.tl_settle.proofs.Persist.{settles}
-use Rattle.tl_settle.specs.Requests.{homes_after, is_release_ack, is_request_of, is_response_to, requests_of, responses_to}
-use Rattle.tl_settle.specs.Settling.{IsSettledState, far_a, far_d, goes_a, goes_d, held_response, is_free, requests, responses, settled_state, stops_a, stops_d}
-use Rattle.tl_settle.specs.Steps.{Reaches, by_a, by_d, start}
-use Rattle.tl_burst.specs.Begun.{heads, left}
-use Rattle.tl_burst.specs.Handing.{fault_after}
 
 -- what stops a beat, by its parts
 busy_imp : (o : Option BeatFault) (l f f' : Bool) → (f ≡ true → f' ≡ true) →

@@ -1,31 +1,17 @@
 -- The client's side within a run: what it accepts is a step, and what it answers, once all that is due is taken, is what stops the step.
-use Rattle.std.proofs.Common.{◌≡◌, ◌≤◌, ◌<◌, ◌≢◌, ℕ, zero, suc, Bool, true, false, cond, Option, None, Some, List, [], ◌∷◌, ◌++◌, length, take, refl, sym, ap, subst, ◌∙◌, arith, zero-le, ⊎_elim, inl, inr}
-use Rattle.std.proofs.lemmas.Bool.Decides.{eqb_tells}
-use Rattle.std.proofs.lemmas.Option.{slice_get_within}
-use Rattle.std.proofs.lemmas.List.Sums.{length-filter}
+use Rattle.tl_settle.proofs.Names.{◌≡◌, ◌≤◌, ◌<◌, ◌≢◌, ℕ, zero, suc, Bool, true, false, cond, Option, None, Some, List, [], ◌∷◌, ◌++◌, length, take}
+use Rattle.tl_settle.proofs.Names.{refl, sym, ap, subst, ◌∙◌, arith, zero-le, ⊎_elim, inl, inr, eqb_tells, slice_get_within, length-filter, ◌==◌}
+use Rattle.tl_settle.proofs.Names.{◌&&◌, not, slice_get, option_map_or, is_none, is_some, filter, rules_a, rules_d, HeadA, HeadD, BeatOf, BeatFault}
+use Rattle.tl_settle.proofs.Names.{Beat, SourceBusy, Extends, more, count_by-append, count-grows, take-next, equal_true, true_equal, not_equal}
+use Rattle.tl_settle.proofs.Names.{map_true, some_not_none, is_there, there_is, none_past, heads_open, heads_inside_one, heads_extend, Answer, Ask}
+use Rattle.tl_settle.proofs.Names.{Event, answered, asked, client_answer, marks, open_request, is_release_ack, is_request_of, is_response_to}
+use Rattle.tl_settle.proofs.Names.{requests_of, responses_to, far_d, goes_a, goes_d, is_free, requests, stops_a, Reaches, by_a, by_d, start, heads}
+use Rattle.tl_settle.proofs.Names.{left, fault_after}
 use Rattle.std.proofs.lemmas.List.Elements.{filter-append}
-use Rattle.std.specs.Prelude.{◌==◌, ◌&&◌, not, slice_get}
-use Rattle.std.specs.Option.{option_map_or, is_none, is_some}
-use Rattle.std.specs.List.{filter}
-use Rattle.tl_msg.specs.Tables.{rules_a, rules_d}
-use Rattle.tl_msg.specs.declared.head.HeadA.{HeadA}
-use Rattle.tl_msg.specs.declared.head.HeadD.{HeadD}
-use Rattle.tl_msg.specs.declared.beat.BeatOf.{BeatOf}
-use Rattle.tl_msg.specs.declared.fault.BeatFault.{BeatFault}
-use Rattle.tl_msg.specs.declared.fault.SideFault.TheVariants.{Beat, SourceBusy}
-use Rattle.tl_convert.proofs.Extends.{Extends, more, count_by-append, count-grows, take-next}
-use Rattle.tl_convert.proofs.Comparisons.{equal_true, true_equal, not_equal, map_true, some_not_none, is_there, there_is, none_past}
-use Rattle.tl_convert.proofs.Begins.{heads_open, heads_inside_one, heads_extend}
 use Rattle.tl_settle.proofs.Orders.{asks, answers, Ordered, ask, answer, ClientIs}
 use Rattle.tl_settle.proofs.Settles.{good, there_behind, back_grows, back_behind, responses_there}
 use Rattle.tl_settle.proofs.Opens.{Match, matches, asks_heads, answers_heads}
 use Rattle.tl_settle.proofs.Marks.{asked_ask, asked_answer, answered_ask, answered_answer, marks_ask_first, marks_ask_inside, marks_answer_first, marks_answer_inside}
-use Rattle.tl_settle.specs.Histories.{Answer, Ask, Event, answered, asked, client_answer, marks, open_request}
-use Rattle.tl_settle.specs.Requests.{is_release_ack, is_request_of, is_response_to, requests_of, responses_to}
-use Rattle.tl_settle.specs.Settling.{far_d, goes_a, goes_d, is_free, requests, stops_a}
-use Rattle.tl_settle.specs.Steps.{Reaches, by_a, by_d, start}
-use Rattle.tl_burst.specs.Begun.{heads, left}
-use Rattle.tl_burst.specs.Handing.{fault_after}
 
 client_imp : (o : Option BeatFault) (l p f : Bool) → (p ≡ false → f ≡ true) →
     option_map_or (λ x. Some (Beat x)) o (cond l (cond p (Some SourceBusy) None) None) ≡ None →

@@ -1,6 +1,5 @@
 -- A beat fits in memory.
-use Rattle.std.proofs.Common.{ℕ, ◌+◌, ◌*◌, ◌≤◌, ◌<◌, arith}
-use Rattle.tl_lanes.specs.declared.limits.TheConstants.{WIDEST}
+use Rattle.tl_trace.proofs.Names.{ℕ, ◌+◌, ◌*◌, ◌≤◌, ◌<◌, arith, WIDEST}
 use Rattle.tl_lanes.proofs.Masks.{mask_width}
 use Rattle.tl_lanes.proofs.Sizes.{up_le}
 use mir.Syntax.{ty_int}

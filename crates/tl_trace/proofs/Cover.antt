@@ -1,17 +1,10 @@
 -- A line of the right shape is its letter and its fields, and nothing else.
-use Rattle.std.proofs.Common.{◌≡◌, ◌≢◌, ℕ, zero, suc, ◌+◌, ◌-◌, ◌<◌, ◌≤◌, Bool, true, false, nat_eq, ◌||◌, List, [], ◌∷◌, ◌++◌, length, get_or, drop, refl, sym, ap, ◌∙◌, arith, drop-cons, append_assoc, append-nil, add-one, eq-eqb}
-use Rattle.std.proofs.lemmas.Bool.{eqb-true, or_from, and_parts, or_parts}
-use Rattle.std.proofs.lemmas.List.{length-take-le, length-drop, get_or-take, get_or-drop}
-use Rattle.std.proofs.lemmas.Bool.Decides.{nat_tests}
-use Rattle.std.proofs.lemmas.List.Folds.{drop_split, list_any-append}
-use Rattle.std.specs.List.{list_all, list_any, flat_map, slice_range, slice_index}
-use Rattle.tl_msg.specs.declared.beat.BeatOf.{BeatOf}
-use Rattle.tl_trace.specs.Fields.{Field, Form, digit_count, length_of, fields, form_a, form_b, form_c, form_d, form_e}
-use Rattle.tl_trace.specs.Lines.{FieldPlace, places_from, places, is_hex, digits_at, is_shaped_at, IsLine}
-use Rattle.tl_trace.specs.Faults.{is_newline}
-use Rattle.tl_trace.specs.Texts.{SaysLine}
-use Rattle.tl_trace.specs.declared.line.Line.{Line}
-use Rattle.tl_trace.specs.declared.line.Line.TheVariants.{A, B, C, D, E}
+use Rattle.tl_trace.proofs.Names.{◌≡◌, ◌≢◌, ℕ, zero, suc, ◌+◌, ◌-◌, ◌<◌, ◌≤◌, Bool, true, false, nat_eq, ◌||◌, List, [], ◌∷◌, ◌++◌, length, get_or}
+use Rattle.tl_trace.proofs.Names.{drop, refl, sym, ap, ◌∙◌, arith, drop-cons, append_assoc, append-nil, add-one, eq-eqb, eqb-true, or_from, and_parts}
+use Rattle.tl_trace.proofs.Names.{or_parts, length-take-le, length-drop, get_or-take, get_or-drop, drop_all, nat_tests, drop_split, list_any-append}
+use Rattle.tl_trace.proofs.Names.{list_all, list_any, flat_map, slice_range, slice_index, BeatOf, Field, Form, digit_count, length_of, fields, form_a}
+use Rattle.tl_trace.proofs.Names.{form_b, form_c, form_d, form_e, FieldPlace, places_from, places, is_hex, digits_at, is_shaped_at, IsLine}
+use Rattle.tl_trace.proofs.Names.{is_newline, SaysLine, Line, A, B, C, D, E}
 use Rattle.tl_trace.proofs.ReadLines.{IsFree}
 
 -- a field as it stands in the text
@@ -38,19 +31,13 @@ cover text at w (field ∷ more) shaped le =
     there ∙ ap (λ (xs : List ℕ). stands text p ++ xs) (after ∙ ap (λ (n : ℕ). flat_map (stands text) rest ++ drop n text) end)
     ∙ sym (append_assoc (stands text p) (flat_map (stands text) rest) (drop (at + length_of w (field ∷ more)) text))
 
-pub drop_all : (xs : List ℕ) (n : ℕ) → length xs ≤ n → drop n xs ≡ []
-drop_all [] zero le = refl
-drop_all [] (suc n) le = refl
-drop_all (x ∷ xs) zero le = absurd (omega arith)
-drop_all (x ∷ xs) (suc n) le = drop_all xs n (omega arith)
-
 pub whole_line : {H : Type 0} (f : Form H) {n : ℕ} (w : ℕ) (b : BeatOf H n) (text : List ℕ) → IsLine f w b text → text ≡ f.rules.letter ∷ flat_map (stands text) (places f w)
 whole_line f w b text line =
     let long : 0 < length text = omega (arith, line.long) in
     let fits : 1 + length_of w (fields f) ≤ length text = omega (arith, line.long) in
     drop-cons text 0 0 long ∙ ap (λ (x : ℕ). x ∷ drop 1 text) line.letter
     ∙ ap (λ (xs : List ℕ). f.rules.letter ∷ xs) (cover text 1 w (fields f) line.shaped fits
-    ∙ ap (λ (xs : List ℕ). flat_map (stands text) (places f w) ++ xs) (drop_all text (1 + length_of w (fields f)) (omega (arith, line.long))) ∙ append-nil (flat_map (stands text) (places f w)))
+    ∙ ap (λ (xs : List ℕ). flat_map (stands text) (places f w) ++ xs) (drop_all (1 + length_of w (fields f)) text (omega (arith, line.long))) ∙ append-nil (flat_map (stands text) (places f w)))
 
 -- ---- no line end in a line
 

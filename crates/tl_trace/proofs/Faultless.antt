@@ -1,17 +1,10 @@
 -- A text that tells a trace has no fault.
-use Rattle.std.proofs.Common.{◌≡◌, ℕ, zero, suc, ◌+◌, Bool, true, false, cond, ◌&&◌, ◌||◌, List, [], ◌∷◌, ◌++◌, length, map, replicate, Option, None, Some, is_none, refl, sym, ap, ◌∙◌, append_assoc, append-nil, add-one}
-use Rattle.std.specs.Prelude.{decimal, codes, find, bytes_eq, ◌==◌}
-use Rattle.std.specs.Bool.{Decides}
-use Rattle.std.specs.List.{list_all, list_any}
-use Rattle.std.proofs.lemmas.Bool.{eqb-true, or_from, and_parts}
-use Rattle.std.proofs.lemmas.List.Folds.{list_any-append}
+use Rattle.tl_trace.proofs.Names.{◌≡◌, ℕ, zero, suc, ◌+◌, Bool, true, false, cond, ◌&&◌, ◌||◌, List, [], ◌∷◌, ◌++◌, length, map, replicate, Option}
+use Rattle.tl_trace.proofs.Names.{None, Some, is_none, refl, sym, ap, ◌∙◌, append_assoc, append-nil, add-one, decimal, codes, find, ◌==◌, list_all}
+use Rattle.tl_trace.proofs.Names.{list_any, eqb-true, or_from, and_parts, list_any-append, versions, widths, is_version, is_width, newline}
+use Rattle.tl_trace.proofs.Names.{header_text, SaysLine, is_kept_line, TellsLines, Tells, is_newline, cut, headers, header_of, is_header_of}
+use Rattle.tl_trace.proofs.Names.{body_fault, later_fault, faults_after, faults_of_lines, faults, is_readable, TraceKind, Header, Line, A, B, C, D, E}
 use Rattle.std.proofs.lemmas.Slice.Eq.{bytes_eq-Decides}
-use Rattle.tl_trace.specs.Texts.{versions, widths, is_version, is_width, newline, header_text, SaysLine, is_kept_line, TellsLines, Tells}
-use Rattle.tl_trace.specs.Faults.{is_newline, cut, headers, header_of, is_header_of, body_fault, later_fault, faults_after, faults_of_lines, faults, is_readable}
-use Rattle.tl_trace.specs.declared.fault.TraceKind.{TraceKind}
-use Rattle.tl_trace.specs.declared.header.Header.{Header}
-use Rattle.tl_trace.specs.declared.line.Line.{Line}
-use Rattle.tl_trace.specs.declared.line.Line.TheVariants.{A, B, C, D, E}
 use Rattle.tl_trace.proofs.ReadLines.{IsFree, cut_line, body_line, ended, read_as_a, read_as_b, read_as_c, read_as_d, read_as_e}
 use Rattle.tl_trace.proofs.Walk.{later_line}
 use Rattle.tl_trace.proofs.Headers.{header, is_header, known}
@@ -51,9 +44,6 @@ found_some p q (y ∷ xs) e h = pick (p y) refl (q y) refl e (found_some p q xs)
         let rest = more (ap (λ (b : Bool). b || list_any q xs) (sym there) ∙ e) h in
         (rest.0, ap (λ (b : Bool). cond b (Some y) (find p xs)) here ∙ rest.1)
 
-yes_of : (b : Bool) (xs ys : List ℕ) → Decides b (xs ≡ ys) → xs ≡ ys → b ≡ true
-yes_of b xs ys d e = d.1 e
-
 named : (version client manager : ℕ) (h : Header) → is_it version client manager h ≡ true → is_header_of (header_text version client manager) h ≡ true
 named version client manager h e =
     let first = and_parts (version == h.version) ((client == h.client) && (manager == h.manager)) e in
@@ -62,7 +52,7 @@ named version client manager h e =
     let m = eqb-true manager h.manager (and_parts (client == h.client) (manager == h.manager) first.1).1 in
     let there = header_text h.version h.client h.manager in
     let same : header_text version client manager ≡ there = ap (λ (n : ℕ). header_text n client manager) v ∙ ap (λ (n : ℕ). header_text h.version n manager) c ∙ ap (λ (n : ℕ). header_text h.version h.client n) m in
-    yes_of (bytes_eq (header_text version client manager) there) (header_text version client manager) there (bytes_eq-Decides (header_text version client manager) there) same
+    (bytes_eq-Decides (header_text version client manager) there).1 same
 
 pub header_names : (version client manager : ℕ) → is_version version ≡ true → is_width version client ≡ true → is_width version manager ≡ true → header_of (header_text version client manager) ≡ Some (header version client manager)
 unfolding header_of

@@ -1,46 +1,16 @@
 -- Finding what a first line names.
-use Rattle.std.proofs.Common.{◌-◌, get_or, ◌≡◌, ℕ, zero, suc, ◌+◌, ◌*◌, ◌/◌, ◌%◌, ◌^◌, ◌<◌, ◌≤◌, Bool, true, false, cond, List, [], ◌∷◌, ◌++◌, length, map, take, Option, None, Some, refl, sym, ap, ◌∙◌, subst, arith, add-one, append-nil, length-append}
-use Rattle.std.proofs.Math.Nat.{div-lt_iff_lt-mul, mod-lt}
+use Rattle.tl_trace.proofs.Names.{◌-◌, get_or, ◌≡◌, ℕ, suc, ◌+◌, ◌*◌, ◌/◌, ◌%◌, ◌^◌, ◌<◌, ◌≤◌, Bool, true, false, cond, List, [], ◌∷◌, ◌++◌, length}
+use Rattle.tl_trace.proofs.Names.{map, take, Option, None, Some, refl, sym, ap, ◌∙◌, subst, arith, append-nil, length-append, drop, div-lt_iff_lt-mul}
+use Rattle.tl_trace.proofs.Names.{mod-lt, div-add-mod', take_all, length-map, length-take-le, get_or-map, drop_more, take_more, take-append-drop}
+use Rattle.tl_trace.proofs.Names.{find-append, WIDEST_POWER, find, slice_get, flat_map, option_or, list_all, slice_range, and_parts, nat_tests}
+use Rattle.tl_trace.proofs.Names.{header_text, widest_power, widths, is_width, is_version, headers, headers_of, header_of, is_header_of, Header}
 use Rattle.std.proofs.Math.Pow.{pow-lt}
-use Rattle.std.proofs.lemmas.Nat.{div-add-mod'}
-use Rattle.std.proofs.lemmas.List.{take_all, length-map, length-take-le, get_or-map}
 use Rattle.std.proofs.lemmas.List.Concat.{get_or-flat_map}
-use Rattle.std.proofs.lemmas.List.Folds.{find-append}
 use Rattle.std.proofs.lemmas.List.FromFn.{get_or-map-range_with_len, length-map-range_with_len}
-use Rattle.std.proofs.lemmas.Option.{slice_get-get_or}
-use Rattle.tl_lanes.specs.declared.limits.TheConstants.{WIDEST_POWER}
+use Rattle.std.proofs.lemmas.Option.{slice_get-get_or, slice_get_within, get_or_from_slice_get}
 use Rattle.tl_msg.proofs.Firsts.{find_holds}
-use Rattle.std.specs.Prelude.{find, slice_get, flat_map}
-use Rattle.std.specs.Option.{option_or}
-use Rattle.std.specs.List.{list_all, slice_range}
 use Rattle.std.specs.Bool.{Decides}
-use Rattle.std.proofs.lemmas.Bool.{and_parts}
-use Rattle.std.proofs.lemmas.Bool.Decides.{nat_tests}
 use Rattle.std.proofs.lemmas.Slice.Eq.{bytes_eq-Decides}
-use Rattle.tl_trace.specs.Texts.{header_text, widest_power, widths, is_width, is_version}
-use Rattle.tl_trace.specs.Faults.{headers, headers_of, header_of, is_header_of}
-use Rattle.tl_trace.specs.declared.header.Header.{Header}
-
-not_first : (b : Bool) (y : Header) (o : Option Header) → cond b (Some y) o ≡ None → (b ≡ false) × (o ≡ None)
-not_first true y o e = absurd cc
-not_first false y o e = (refl, e)
-
-pub find_at : (p : Header → Bool) (xs : List Header) (i : ℕ) (x : Header) → find p (take i xs) ≡ None → slice_get xs i ≡ Some x → p x ≡ true → find p xs ≡ Some x
-find_at p [] i x none at is = absurd cc
-find_at p (y ∷ xs) zero x none at is = let same : y ≡ x = cc in rw (same, is) refl
-find_at p (y ∷ xs) (suc i) x none at is =
-    let parts = not_first (p y) y (find p (take i xs)) none in
-    ap (λ (c : Bool). cond c (Some y) (find p xs)) parts.0 ∙ find_at p xs i x parts.1 at is
-
-find_past_suc : (p : Header → Bool) (xs : List Header) (i : ℕ) (x : Header) → find p (take i xs) ≡ None → slice_get xs i ≡ Some x → p x ≡ false → find p (take (suc i) xs) ≡ None
-find_past_suc p [] i x none at is = refl
-find_past_suc p (y ∷ xs) zero x none at is = let same : y ≡ x = cc in rw (same, is) refl
-find_past_suc p (y ∷ xs) (suc i) x none at is =
-    let parts = not_first (p y) y (find p (take i xs)) none in
-    ap (λ (c : Bool). cond c (Some y) (find p (take (suc i) xs))) parts.0 ∙ find_past_suc p xs i x parts.1 at is
-
-pub find_past : (p : Header → Bool) (xs : List Header) (i : ℕ) (x : Header) → find p (take i xs) ≡ None → slice_get xs i ≡ Some x → p x ≡ false → find p (take (i + 1) xs) ≡ None
-find_past p xs i x none at is = ap (λ (n : ℕ). find p (take n xs)) (add-one i) ∙ find_past_suc p xs i x none at is
 
 -- none of the first headers of a version is that of the text
 pub record IsPassed (text : List ℕ) (version i : ℕ) : Type 0 where
@@ -119,12 +89,26 @@ shifted_at version n i is few lt =
     ∙ ap (λ (k : ℕ). Some (header version k (2 ^ (i % n)))) (sym (shifted (i / n) (omega (arith, above, few))))
     ∙ ap (λ (k : ℕ). Some (header version (1 * 2 ^ (i / n) % 2 ^ 64) k)) (sym (shifted (i % n) (omega (arith, inside, few))))
 
+-- what is found behind headers of which none is
+behind : (p : Header → Bool) (xs ys : List Header) (x : Header) (is : Bool) → find p xs ≡ None → p x ≡ is
+    → find p (xs ++ x ∷ ys) ≡ cond is (Some x) (find p ys)
+behind p xs ys x is none at = find-append p xs (x ∷ ys) ∙ rw (none, at) refl
+
 pub found : (text : List ℕ) (version i : ℕ) (h : Header) → IsPassed text version i → slice_get (headers_of version) i ≡ Some h → is_header_of text h ≡ true
     → find (is_header_of text) (headers_of version) ≡ Some h
-found text version i h far at is = find_at (is_header_of text) (headers_of version) i h far.none at is
+found text version i h far at is =
+    let hs = headers_of version in
+    let here : drop i hs ≡ h ∷ drop (i + 1) hs =
+    drop_more hs i h (slice_get_within hs i h at) ∙ ap (λ (x : Header). x ∷ drop (i + 1) hs) (get_or_from_slice_get hs i h h at) in
+    ap (find (is_header_of text)) (sym (take-append-drop i hs) ∙ ap (λ (xs : List Header). take i hs ++ xs) here)
+    ∙ behind (is_header_of text) (take i hs) (drop (i + 1) hs) h true far.none is
 
 pub passed : (text : List ℕ) (version i : ℕ) (h : Header) → IsPassed text version i → slice_get (headers_of version) i ≡ Some h → is_header_of text h ≡ false → IsPassed text version (i + 1)
-passed text version i h far at is = record { none = find_past (is_header_of text) (headers_of version) i h far.none at is }
+passed text version i h far at is =
+    let hs = headers_of version in
+    let here : take (i + 1) hs ≡ take i hs ++ h ∷ [] =
+    take_more hs i h (slice_get_within hs i h at) ∙ ap (λ (x : Header). take i hs ++ x ∷ []) (get_or_from_slice_get hs i h h at) in
+    record { none = ap (find (is_header_of text)) here ∙ behind (is_header_of text) (take i hs) [] h false far.none is }
 
 pub not_found : (text : List ℕ) (version n i : ℕ) → n ≡ widest_power version + 1 → n * n ≤ i → IsPassed text version i → find (is_header_of text) (headers_of version) ≡ None
 not_found text version n i is le far =

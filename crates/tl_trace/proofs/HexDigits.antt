@@ -1,15 +1,8 @@
 -- Reading digits from the left.
-use Rattle.std.proofs.Common.{◌≡◌, ℕ, ◌+◌, ◌*◌, ◌^◌, ◌<◌, ◌≤◌, Bool, true, false, cond, List, length, get_or, take, Some, None, refl, sym, ap, ◌∙◌, add-one, arith}
-use Rattle.std.proofs.Math.Nat.{pow-suc, pow-le-pow_right}
-use Rattle.std.proofs.lemmas.List.{take_all}
-use Rattle.std.proofs.lemmas.List.Folds.{list_all_more, list_all_at}
+use Rattle.tl_trace.proofs.Names.{◌≡◌, ℕ, ◌+◌, ◌*◌, ◌^◌, ◌<◌, ◌≤◌, Bool, true, false, cond, List, length, get_or, take, Some, None, refl, sym, ap}
+use Rattle.tl_trace.proofs.Names.{◌∙◌, add-one, arith, pow-suc, pow-le-pow_right, take_all, list_all_more, list_all_at, nat_tests, list_all}
+use Rattle.tl_trace.proofs.Names.{digits_value, digit_value, is_hex, digit_of, number_of}
 use Rattle.std.proofs.lemmas.Int.Digits.{digits_value_more}
-use Rattle.std.proofs.lemmas.Bool.Decides.{nat_tests}
-use Rattle.std.specs.List.{list_all}
-use Rattle.std.specs.Str.Parse.{digits_value}
-use Rattle.std.specs.Char.{digit_value}
-use Rattle.tl_trace.specs.Lines.{is_hex}
-use Rattle.tl_trace.specs.Inner.Reading.{digit_of, number_of}
 
 pub room : (n i d : ℕ) → i < 16 → n < 16 ^ i → d ≤ 15 → n * 16 + d < 2 ^ 64
 room n i d lt small below =

@@ -1,14 +1,10 @@
 -- Writing digits.
-use Rattle.std.proofs.Common.{subst, ◌≡◌, ℕ, zero, suc, ◌+◌, ◌-◌, ◌*◌, ◌/◌, ◌%◌, ◌^◌, ◌<◌, ◌≤◌, List, [], ◌∷◌, ◌++◌, length, get_or, set, take, drop, refl, sym, ap, ◌∙◌, arith, append_assoc, append-nil, length-append, drop-cons}
-use Rattle.std.proofs.lemmas.List.{length-set, get_or-take, length-take-le, take_all, take_more_set}
+use Rattle.tl_trace.proofs.Names.{subst, ◌≡◌, ℕ, zero, suc, ◌+◌, ◌-◌, ◌*◌, ◌/◌, ◌%◌, ◌^◌, ◌<◌, ◌≤◌, List, [], ◌∷◌, ◌++◌, length, get_or, set, take}
+use Rattle.tl_trace.proofs.Names.{drop, refl, sym, ap, ◌∙◌, arith, append_assoc, append-nil, length-append, drop-cons, add-one, length-set}
+use Rattle.tl_trace.proofs.Names.{get_or-take, length-take-le, take_all, take_more_set, drop-set, drop_all, pow-suc, mul_comm, div-div-eq-div-mul}
+use Rattle.tl_trace.proofs.Names.{digit_char, number_of_lanes, hex, WIDEST}
 use Rattle.std.proofs.lemmas.Slice.{take-put_mid}
-use Rattle.std.proofs.Math.Nat.{pow-suc, mul_comm, div-div-eq-div-mul}
 use borrow.Rule.Slice.PartMut.{put_mid}
-use Rattle.std.specs.Char.{digit_char}
-use Rattle.tl_trace.specs.Fields.{number_of_lanes}
-use Rattle.tl_trace.specs.Lines.{hex}
-use Rattle.tl_trace.proofs.ReadDigits.{drop_set}
-use Rattle.tl_lanes.specs.declared.limits.TheConstants.{WIDEST}
 
 pub length-hex : (count value : ℕ) → length (hex count value) ≡ count
 length-hex zero value = refl
@@ -21,20 +17,14 @@ pub record HexSoFar (n value : ℕ) (digits : List ℕ) (rest i : ℕ) : Type 0 
 pub hex_start : (n value : ℕ) (digits : List ℕ) → length digits ≡ n → HexSoFar n value digits value 0
 hex_start n value digits long =
     let all : n - 0 ≡ n = omega arith in
-    record { long = long; made = ap (λ (k : ℕ). hex k value ++ drop k digits) all ∙ ap (λ (xs : List ℕ). hex n value ++ xs) (none digits n long) ∙ append-nil (hex n value) }
-  where
-    none : (xs : List ℕ) (n : ℕ) → length xs ≡ n → drop n xs ≡ []
-    none [] n e = rw (sym e) refl
-    none (x ∷ xs) zero e = absurd (omega arith)
-    none (x ∷ xs) (suc n) e = none xs n (omega arith)
+    record { long = long; made = ap (λ (k : ℕ). hex k value ++ drop k digits) all ∙ ap (λ (xs : List ℕ). hex n value ++ xs) (drop_all n digits (omega (arith, long))) ∙ append-nil (hex n value) }
 
 pub hex_next : (n value : ℕ) (digits : List ℕ) (rest i digit : ℕ) → i < n → HexSoFar n value digits rest i → digit ≡ digit_char (rest % 16) → HexSoFar n value (set digits (n - 1 - i) digit) (rest / 16) (i + 1)
 hex_next n value digits rest i digit lt far is =
     let k = n - 1 - i in
     let less : n - (i + 1) ≡ k = omega arith in
     let more : n - i ≡ suc k = omega arith in
-    let within : k < length digits = omega (arith, far.long) in
-    let there : drop k (set digits k digit) ≡ digit ∷ drop (suc k) digits = drop_set digits k digit within in
+    let there : drop k (set digits k digit) ≡ digit ∷ drop (suc k) digits = drop-set digits k digit (omega (arith, far.long)) ∙ ap (λ (m : ℕ). digit ∷ drop m digits) (add-one k) in
     record {
       long = length-set digits k digit ∙ far.long;
       made = ap (λ (m : ℕ). hex m (rest / 16) ++ drop m (set digits k digit)) less
@@ -42,9 +32,6 @@ hex_next n value digits rest i digit lt far is =
           ∙ sym (append_assoc (hex k (rest / 16)) (digit_char (rest % 16) ∷ []) (drop (suc k) digits))
           ∙ ap (λ (m : ℕ). hex m rest ++ drop m digits) (sym more) ∙ far.made;
     }
-
-pub hex_done : (n value : ℕ) (digits : List ℕ) (rest i : ℕ) → n ≤ i → HexSoFar n value digits rest i → digits ≡ hex n value
-hex_done n value digits rest i le far = let none : 0 ≡ n - i = omega arith in ap (λ (m : ℕ). hex m rest ++ drop m digits) none ∙ far.made
 
 -- two digits at a time
 pub pair_next : (n value : ℕ) (digits : List ℕ) (rest i low high : ℕ) → 2 * i + 1 < n → HexSoFar n value digits rest (2 * i) → low ≡ digit_char (rest % 256 % 16) → high ≡ digit_char (rest % 256 / 16 % 16)
@@ -128,13 +115,10 @@ pub lanes_start : (lanes : List ℕ) (w : ℕ) (digits : List ℕ) → length di
 lanes_start lanes w digits long le = record { long = long; made = refl }
 
 take_two : (xs : List ℕ) (n a b : ℕ) → n + 1 < length xs → take (n + 2) (set (set xs n a) (n + 1) b) ≡ take n xs ++ a ∷ b ∷ []
-take_two [] n a b lt = absurd (omega arith)
-take_two (x ∷ []) n a b lt = absurd (omega arith)
-take_two (x ∷ y ∷ xs) zero a b lt = refl
-take_two (x ∷ y ∷ xs) (suc n) a b lt =
-    let e : suc n + 2 ≡ suc (n + 2) = omega arith in
-    let e' : suc n + 1 ≡ suc (n + 1) = omega arith in
-    rw (e, e') (ap (λ (ys : List ℕ). x ∷ ys) (take_two (y ∷ xs) n a b (omega arith)))
+take_two xs n a b lt =
+    let two : n + 2 ≡ n + 1 + 1 = omega arith in
+    ap (λ (k : ℕ). take k (set (set xs n a) (n + 1) b)) two ∙ take_more_set (set xs n a) (n + 1) b (omega (arith, length-set xs n a))
+    ∙ ap (λ (ys : List ℕ). ys ++ b ∷ []) (take_more_set xs n a (omega arith)) ∙ append_assoc (take n xs) (a ∷ []) (b ∷ [])
 
 lane_small : (lanes : List ℕ) (i : ℕ) → get_or lanes i 0 < 256 → (rest : ℕ) → ((get_or lanes i 0 + 256 * rest) / 16 / 16 ≡ rest) × ((get_or lanes i 0 + 256 * rest) / 16 % 16 ≡ get_or lanes i 0 / 16 % 16) × ((get_or lanes i 0 + 256 * rest) % 16 ≡ get_or lanes i 0 % 16)
 lane_small lanes i lt rest = (omega arith, omega arith, omega arith)

@@ -1,10 +1,6 @@
 -- The digits of ids, and the two versions.
-use Rattle.std.proofs.Common.{◌≡◌, ℕ, ◌^◌, ◌<◌, ◌≤◌, Bool, true, false, cond, nat_eq, arith}
-use Rattle.std.proofs.lemmas.Bool.Decides.{nat_tests}
-use Rattle.tl_trace.specs.Fields.{id_digits}
-use Rattle.tl_trace.specs.Texts.{is_version}
-use Rattle.tl_trace.specs.Inner.Reading.{IsSmall}
-use Rattle.tl_trace.specs.declared.head_reader.HeadFields.{HeadFields}
+use Rattle.tl_trace.proofs.Names.{◌≡◌, ℕ, ◌^◌, ◌<◌, ◌≤◌, Bool, true, false, cond, nat_eq, arith, nat_tests, id_digits, is_version, IsSmall}
+use Rattle.tl_trace.proofs.Names.{HeadFields}
 
 -- there is an id, and none is above those of four digits
 pub id_limits : (version : ℕ) → (0 < 16 ^ id_digits version) × (16 ^ id_digits version ≤ 16 ^ 4)

@@ -1,17 +1,12 @@
 -- A head that was read before, and the beat of a line that begins with it.
-use Rattle.std.proofs.Common.{◌≡◌, ◌≤◌, ◌<◌, ◌+◌, ◌-◌, ◌^◌, ◌&&◌, ℕ, true, false, nat_eq, nat_lt, cond, List, [], ◌∷◌, length, take, drop, Option, Some, None, is_none, refl, sym, ap, ◌∙◌, arith, subst, bit_or}
-use Rattle.std.specs.Prelude.{IfSome}
-use Rattle.std.specs.List.{list_all, list_any, slice_range, slice_index}
-use Rattle.std.proofs.lemmas.List.{get_or-take, take-take, drop-take}
-use Rattle.std.proofs.lemmas.Nat.{or_lt}
-use Rattle.tl_msg.specs.declared.beat.BeatOf.{BeatOf}
-use Rattle.tl_trace.specs.Fields.{Field, Form, bit, id_digits, length_of, digit_count, mask_fields, data_fields, line_length, number_of_lanes}
-use Rattle.tl_trace.specs.Lines.{is_lanes}
-use Rattle.tl_trace.specs.Inner.Reading.{number_of, field_at, fields_from, is_head_field, is_head_in_range, IsPart, IsHead, IsRead, Takes, mask_values, data_values}
-use Rattle.tl_trace.specs.Inner.KnownHeads.{head_length, HasHead, IsKnown}
+use Rattle.tl_trace.proofs.Names.{◌≡◌, ◌≤◌, ◌<◌, ◌+◌, ◌-◌, ◌^◌, ◌&&◌, ℕ, true, false, nat_eq, nat_lt, cond, List, [], ◌∷◌, length, take, drop, Option}
+use Rattle.tl_trace.proofs.Names.{Some, None, is_none, refl, sym, ap, ◌∙◌, arith, subst, bit_or, IfSome, list_all, list_any, slice_range, slice_index}
+use Rattle.tl_trace.proofs.Names.{get_or-take, take-take, drop-take, or_lt, BeatOf, Field, Form, bit, id_digits, length_of, digit_count, mask_fields}
+use Rattle.tl_trace.proofs.Names.{data_fields, line_length, number_of_lanes, is_lanes, number_of, field_at, fields_from, is_head_field}
+use Rattle.tl_trace.proofs.Names.{is_head_in_range, IsPart, IsHead, IsRead, Takes, mask_values, data_values, head_length, HasHead, IsKnown}
+use Rattle.tl_trace.proofs.Names.{HeadFields}
 use Rattle.tl_trace.specs.declared.known_head.KnownHead.{KnownHead}
 use Rattle.tl_trace.proofs.ReadDigits.{range_long}
-use Rattle.tl_trace.specs.declared.head_reader.HeadFields.{HeadFields}
 use Rattle.tl_trace.proofs.Shaped.{made, bit_of}
 use Rattle.tl_trace.proofs.LineParts.{line_part, line_values, line_said, line_plain, below_is, in_all, low}
 

@@ -1,7 +1,5 @@
 -- Looking for the end of a line.
-use Rattle.std.proofs.Common.{◌≡◌, ◌≢◌, ◌≤◌, ◌<◌, ◌+◌, ◌⊎◌, inl, inr, ℕ, List, length, sym, ap, ◌∙◌, arith}
-use Rattle.std.specs.Prelude.{slice_index}
-use Rattle.std.proofs.lemmas.Bool.{cases_eq}
+use Rattle.tl_trace.proofs.Names.{◌≡◌, ◌≢◌, ◌≤◌, ◌<◌, ◌+◌, ◌⊎◌, inl, inr, ℕ, List, length, sym, ap, ◌∙◌, arith, slice_index, cases_eq}
 
 -- no LF from one place up to another
 pub record IsFreeTo (text : List ℕ) (at end : ℕ) : Type 0 where

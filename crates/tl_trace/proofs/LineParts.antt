@@ -1,16 +1,11 @@
 -- A line in three parts: the head, the mask, data and corrupt; once for the form of every channel.
-use Rattle.std.proofs.Common.{◌≡◌, ℕ, ◌+◌, ◌*◌, ◌^◌, ◌<◌, ◌≤◌, Bool, true, false, cond, not, nat_eq, nat_lt, ◌&&◌, ◌||◌, List, [], ◌∷◌, ◌++◌, length, map, Option, Some, is_none, refl, sym, ap, ◌∙◌, arith, bit_or, length-append}
+use Rattle.tl_trace.proofs.Names.{◌≡◌, ℕ, ◌+◌, ◌*◌, ◌^◌, ◌<◌, ◌≤◌, Bool, true, false, cond, not, nat_eq, nat_lt, ◌&&◌, ◌||◌, List, [], ◌∷◌, ◌++◌}
+use Rattle.tl_trace.proofs.Names.{length, map, Option, Some, is_none, refl, sym, ap, ◌∙◌, arith, bit_or, length-append, lt-ltb, ltb-true, and_parts}
+use Rattle.tl_trace.proofs.Names.{and_from, or_left, or_right, map-append, length-map, list_any-append, pow_pos, list_all, list_any, BeatOf, Field}
+use Rattle.tl_trace.proofs.Names.{length_of, mask, data_lanes, corrupt, Form, bit, digit_count, fields, mask_fields, data_fields, values, value_of}
+use Rattle.tl_trace.proofs.Names.{line_length, number_of_lanes, is_plain, field_at, fields_from, is_head_field, read_value, is_head_in_range}
+use Rattle.tl_trace.proofs.Names.{IsNumber, IsPart, IsHead, IsHeadOf, mask_values, data_values, HeadFields}
 use Rattle.std.proofs.Math.Bool.{and-true}
-use Rattle.std.proofs.lemmas.Bool.{lt-ltb, ltb-true, and_parts, and_from, or_left, or_right}
-use Rattle.std.proofs.lemmas.List.{map-append, length-map}
-use Rattle.std.proofs.lemmas.List.Folds.{list_any-append}
-use Rattle.std.proofs.lemmas.Nat.{pow_pos}
-use Rattle.std.specs.List.{list_all, list_any}
-use Rattle.tl_msg.specs.declared.beat.BeatOf.{BeatOf}
-use Rattle.tl_trace.specs.Fields.{Field, length_of, opcode, param, size, source, address, sink, denied, mask, data_lanes, corrupt, Form, bit, digit_count, fields, mask_fields, data_fields, values, value_of, line_length, number_of_lanes}
-use Rattle.tl_trace.specs.Lines.{is_plain}
-use Rattle.tl_trace.specs.Inner.Reading.{field_at, fields_from, is_head_field, read_value, is_head_in_range, IsNumber, IsPart, IsHead, IsHeadOf, mask_values, data_values}
-use Rattle.tl_trace.specs.declared.head_reader.HeadFields.{HeadFields}
 use Rattle.tl_trace.proofs.Shaped.{below}
 use Rattle.tl_trace.proofs.ReadDigits.{left_good, right_good, bad_or}
 
@@ -55,16 +50,10 @@ and_field w text at next xs us bad field v bad' there p n = both_parts w text at
 -- ---- the fields of a head, on any width
 
 head_count : (w : ℕ) (field : Field) → is_head_field field ≡ true → digit_count w field ≡ digit_count 0 field
-head_count w opcode e = refl
-head_count w param e = refl
-head_count w size e = refl
-head_count w (source digits) e = refl
-head_count w address e = refl
-head_count w (sink digits) e = refl
-head_count w denied e = refl
 head_count w mask e = absurd cc
 head_count w data_lanes e = absurd cc
 head_count w corrupt e = absurd cc
+head_count w field e = refl
 
 head_from : (w : ℕ) (text : List ℕ) (at : ℕ) (fs : List Field) → list_all is_head_field fs ≡ true → fields_from w text at fs ≡ fields_from 0 text at fs
 head_from w text at [] e = refl
@@ -89,16 +78,10 @@ head_part w text at fs vs bad heads p = record {
 
 module _ {H : Type 0} (f : Form H) where
   head_limit : (w : ℕ) (field : Field) → is_head_field field ≡ true → values f w field ≡ values f 0 field
-  head_limit w opcode e = refl
-  head_limit w param e = refl
-  head_limit w size e = refl
-  head_limit w (source digits) e = refl
-  head_limit w address e = refl
-  head_limit w (sink digits) e = refl
-  head_limit w denied e = refl
   head_limit w mask e = absurd cc
   head_limit w data_lanes e = absurd cc
   head_limit w corrupt e = absurd cc
+  head_limit w field e = refl
 
   head_below : (w : ℕ) (r : HeadFields) (fs : List Field) → list_all is_head_field fs ≡ true → below f w fs (map (read_value r) fs) ≡ list_all (λ field. nat_lt (read_value r field) (values f 0 field)) fs
   head_below w r [] e = refl
@@ -108,16 +91,10 @@ module _ {H : Type 0} (f : Form H) where
       ∙ ap (λ (b : Bool). nat_lt (read_value r field) (values f 0 field) && b) (head_below w r fs both.1)
 
   head_of_beat : {n : ℕ} (b : BeatOf H n) (field : Field) → is_head_field field ≡ true → value_of f b field ≡ f.value b.head field
-  head_of_beat b opcode e = refl
-  head_of_beat b param e = refl
-  head_of_beat b size e = refl
-  head_of_beat b (source digits) e = refl
-  head_of_beat b address e = refl
-  head_of_beat b (sink digits) e = refl
-  head_of_beat b denied e = refl
   head_of_beat b mask e = absurd cc
   head_of_beat b data_lanes e = absurd cc
   head_of_beat b corrupt e = absurd cc
+  head_of_beat b field e = refl
 
   head_said : {n : ℕ} (b : BeatOf H n) (fs : List Field) → list_all is_head_field fs ≡ true → map (value_of f b) fs ≡ map (f.value b.head) fs
   head_said b [] e = refl

@@ -1,27 +1,11 @@
 -- The lines of beats, each behind a head that another line may have, too.
-use Rattle.std.proofs.Common.{◌≡◌, ◌≤◌, ◌<◌, ◌+◌, ◌++◌, ℕ, Bool, true, false, not, Result, Ok, Err, List, [], ◌∷◌, length, take, get_or, refl, sym, ap, ◌∙◌, arith, append_assoc, append-nil, length-append}
-use Rattle.std.specs.Prelude.{is_err, OnOk, OnErr}
-use Rattle.std.specs.List.{flat_map}
-use Rattle.std.proofs.lemmas.Bool.{false≢true}
-use Rattle.std.proofs.lemmas.Grind.{flat_map-append}
-use Rattle.std.proofs.lemmas.List.{take-take, take_more, take_all, take-append-le, length-take-le}
-use Rattle.tl_msg.specs.declared.beat.BeatOf.{BeatOf}
-use Rattle.tl_trace.specs.Fields.{Field, Form, digit_count, length_of, value_of}
-use Rattle.tl_trace.specs.Lines.{hex, head_text, line_text, beats_text}
-use Rattle.tl_trace.specs.Texts.{newline}
-use Rattle.tl_trace.specs.Inner.KnownHeads.{head_length}
-use Rattle.tl_trace.specs.Inner.LineRests.{mask_text, data_text, rest_text, rest_length}
-use Rattle.tl_trace.specs.declared.places.TheConstants.{LONGEST_HEAD, LONGEST_LINE}
-use Rattle.tl_lanes.specs.declared.limits.TheConstants.{WIDEST}
+use Rattle.tl_trace.proofs.Names.{◌≡◌, ◌≤◌, ◌<◌, ◌+◌, ◌++◌, ℕ, Bool, true, false, not, Result, Ok, Err, List, [], ◌∷◌, length, take, get_or, refl}
+use Rattle.tl_trace.proofs.Names.{sym, ap, ◌∙◌, arith, append_assoc, append-nil, length-append, is_err, OnOk, OnErr, flat_map, false≢true}
+use Rattle.tl_trace.proofs.Names.{flat_map-append, take_more, take_all, take-append-le, length-take-le, BeatOf, Field, Form, digit_count, length_of}
+use Rattle.tl_trace.proofs.Names.{value_of, hex, head_text, line_text, beats_text, newline, head_length}
+use Rattle.tl_trace.specs.Inner.LineRests.{mask_text, data_text, rest_text}
 use Rattle.tl_trace.proofs.HexText.{length-hex}
 use Rattle.tl_trace.proofs.LineText.{line_parts}
-
--- the longest line has room for it
-pub rest_few : (masked has_data : Bool) (w : ℕ) → w ≤ WIDEST → LONGEST_HEAD + rest_length masked has_data w ≤ LONGEST_LINE
-rest_few true true w most = omega arith
-rest_few true false w most = omega arith
-rest_few false true w most = omega arith
-rest_few false false w most = omega arith
 
 -- a head is as long whatever it is
 pub head_long : {H : Type 0} (f : Form H) (h : H) → length (head_text f h) ≡ head_length f
@@ -84,8 +68,8 @@ module _ {H : Type 0} (f : Form H) {n : ℕ} (w : ℕ) where
   appended_all old out beats start i past before = before.made ∙ ap (λ bs. old ++ beats_text f w bs) (take_all i beats past)
 
   -- what stood there before all lines
-  pub appended_front : (old out new : List ℕ) (beats : List (BeatOf H n)) (start : ℕ) → take (length out) new ≡ out → Appended old beats start out → take start new ≡ old
-  appended_front old out new beats start same before = sym (take-take start (length out) new before.long) ∙ ap (take start) same ∙ before.front
+  pub appended_front : (old out new : List ℕ) (beats : List (BeatOf H n)) (start : ℕ) → new ≡ out → Appended old beats start out → take start new ≡ old
+  appended_front old out new beats start same before = ap (take start) same ∙ before.front
 
 pub on_err_at : {T E P : Type 0} (r : Result T E) → P → OnErr r P
 on_err_at (Ok x) p = tt
@@ -96,6 +80,7 @@ pub of_ok : {E P : Type 0} (r : Result (Unit {0}) E) → is_err r ≡ false → 
 of_ok (Ok x) fine p = p
 of_ok (Err e) fine p = absurd (false≢true (sym fine))
 
--- what was written over another line with the same head
-pub over_other : (other now rest : List ℕ) (at end : ℕ) → length now ≡ length other → end ≡ length other → take end now ≡ take at other ++ rest → now ≡ take at other ++ rest
-over_other other now rest at end long whole is = sym (take_all end now (omega (arith, long, whole))) ∙ is
+-- and where it answers one
+pub of_err : {E P : Type 0} (r : Result (Unit {0}) E) → is_err r ≡ true → OnErr r P → P
+of_err (Ok x) bad p = absurd (false≢true bad)
+of_err (Err e) bad p = p

@@ -1,14 +1,7 @@
 -- The parts of a line as they are written.
-use Rattle.std.proofs.Common.{◌≡◌, ℕ, ◌+◌, ◌*◌, ◌/◌, Bool, true, false, cond, List, [], ◌∷◌, ◌++◌, refl, sym, ap, ◌∙◌, append_assoc, append-nil}
-use Rattle.std.specs.Prelude.{if◌then◌else◌}
-use Rattle.std.specs.List.{flat_map}
-use Rattle.tl_msg.specs.declared.beat.BeatOf.{BeatOf}
-use Rattle.tl_trace.specs.Fields.{Field, Form, mask, data_lanes, corrupt, bit, digit_count, value_of, fields, number_of_lanes}
-use Rattle.tl_trace.specs.Lines.{hex, head_text, line_text}
-
-flat_map-append : (g : Field → List ℕ) (xs ys : List Field) → flat_map g (xs ++ ys) ≡ flat_map g xs ++ flat_map g ys
-flat_map-append g [] ys = refl
-flat_map-append g (x ∷ xs) ys = ap (λ (zs : List ℕ). g x ++ zs) (flat_map-append g xs ys) ∙ sym (append_assoc (g x) (flat_map g xs) (flat_map g ys))
+use Rattle.tl_trace.proofs.Names.{◌≡◌, ℕ, ◌+◌, ◌*◌, ◌/◌, Bool, true, false, cond, List, [], ◌∷◌, ◌++◌, refl, sym, ap, ◌∙◌, append_assoc, append-nil}
+use Rattle.tl_trace.proofs.Names.{if◌then◌else◌, flat_map, BeatOf, Field, Form, mask, data_lanes, corrupt, bit, digit_count, value_of, fields}
+use Rattle.tl_trace.proofs.Names.{number_of_lanes, hex, head_text, line_text, flat_map-append}
 
 one_part : (g : Field → List ℕ) (m : Bool) (x : Field) → flat_map g (cond m (x ∷ []) []) ≡ cond m (g x) []
 one_part g true x = append-nil (g x)

@@ -1,46 +1,26 @@
 -- A line that is too long has its fault by its letter alone, whatever follows in it.
-use Rattle.std.proofs.Common.{◌≡◌, ℕ, ◌<◌, ◌≤◌, Bool, true, false, List, [], ◌∷◌, ◌++◌, length, Option, Some, refl, sym, ap, ◌∙◌, arith, length-append, cond}
-use Rattle.std.specs.Prelude.{◌==◌, if◌then◌else◌}
-use Rattle.std.specs.List.{list_any, slice_index}
-use Rattle.std.proofs.lemmas.Bool.{eqb-true, or_parts}
-use Rattle.tl_lanes.specs.declared.limits.TheConstants.{WIDEST}
-use Rattle.tl_msg.specs.Firsts.{unless, ◌or_else◌}
-use Rattle.tl_trace.specs.Fields.{Form, id_digits, form_a, form_b, form_c, form_d, form_e, line_length}
-use Rattle.tl_trace.specs.Lines.{is_shaped, is_in_range}
-use Rattle.tl_trace.specs.Texts.{SaysLine}
-use Rattle.tl_trace.specs.Faults.{is_newline, onto_first, cut, body, form_fault, body_fault, later_fault, end_fault}
-use Rattle.tl_trace.specs.declared.line.Line.{Line}
-use Rattle.tl_trace.specs.declared.line.Line.TheVariants.{A, B, C, D, E}
-use Rattle.tl_trace.specs.declared.fault.TraceKind.{TraceKind}
-use Rattle.tl_trace.specs.declared.fault.TraceKind.TheVariants.{Channel, Length, Shape, Range}
-use Rattle.tl_trace.specs.declared.places.TheConstants.{LONGEST_LINE}
+use Rattle.tl_trace.proofs.Names.{◌≡◌, ℕ, ◌<◌, ◌≤◌, Bool, true, false, List, [], ◌∷◌, ◌++◌, length, Option, Some, refl, sym, ap, ◌∙◌, arith}
+use Rattle.tl_trace.proofs.Names.{length-append, cond, ◌==◌, if◌then◌else◌, list_any, slice_index, eqb-true, or_parts, WIDEST, unless, ◌or_else◌}
+use Rattle.tl_trace.proofs.Names.{Form, id_digits, form_a, form_b, form_c, form_d, form_e, line_length, is_shaped, is_in_range, SaysLine, is_newline}
+use Rattle.tl_trace.proofs.Names.{onto_first, cut, body, form_fault, body_fault, later_fault, end_fault, Line, A, B, C, D, E, TraceKind, Channel}
+use Rattle.tl_trace.proofs.Names.{Length, Shape, Range, LONGEST_LINE}
 use Rattle.tl_trace.proofs.ReadLines.{IsFree}
 
 ids_few : (version : ℕ) → id_digits version ≤ 4
 ids_few version = elim (version == 1) as (λ b. cond b 2 4 ≤ 4) [ true ↦ omega arith | false ↦ omega arith ]
 
-short_a : (version w : ℕ) → w ≤ WIDEST → line_length (form_a version) w < LONGEST_LINE
-short_a version w le = let few = ids_few version in omega arith
-
-short_b : (version w : ℕ) → w ≤ WIDEST → line_length (form_b version) w < LONGEST_LINE
-short_b version w le = let few = ids_few version in omega arith
-
-short_c : (version w : ℕ) → w ≤ WIDEST → line_length (form_c version) w < LONGEST_LINE
-short_c version w le = let few = ids_few version in omega arith
-
-short_d : (version w : ℕ) → w ≤ WIDEST → line_length (form_d version) w < LONGEST_LINE
-short_d version w le = let few = ids_few version in omega arith
-
-short_e : (version w : ℕ) → w ≤ WIDEST → line_length (form_e version) w < LONGEST_LINE
-short_e version w le = let few = ids_few version in omega arith
+short : (version w : ℕ) → w ≤ WIDEST
+    → (line_length (form_a version) w < LONGEST_LINE) × (line_length (form_b version) w < LONGEST_LINE) × (line_length (form_c version) w < LONGEST_LINE)
+    × (line_length (form_d version) w < LONGEST_LINE) × (line_length (form_e version) w < LONGEST_LINE)
+short version w le = let few = ids_few version in (omega arith, omega arith, omega arith, omega arith, omega arith)
 
 -- a line that says a beat is not too long
 pub says_short : (version client manager : ℕ) (line : Line) (text : List ℕ) → client ≤ WIDEST → manager ≤ WIDEST → SaysLine version client manager line text → length text < LONGEST_LINE
-says_short version client manager (A b) text c m says = let short = short_a version client c in omega (arith, says.long)
-says_short version client manager (B b) text c m says = let short = short_b version manager m in omega (arith, says.long)
-says_short version client manager (C b) text c m says = let short = short_c version client c in omega (arith, says.long)
-says_short version client manager (D b) text c m says = let short = short_d version manager m in omega (arith, says.long)
-says_short version client manager (E b) text c m says = let short = short_e version client c in omega (arith, says.long)
+says_short version client manager (A b) text c m says = let short = (short version client c).0 in omega (arith, says.long)
+says_short version client manager (B b) text c m says = let short = (short version manager m).1 in omega (arith, says.long)
+says_short version client manager (C b) text c m says = let short = (short version client c).2 in omega (arith, says.long)
+says_short version client manager (D b) text c m says = let short = (short version manager m).3 in omega (arith, says.long)
+says_short version client manager (E b) text c m says = let short = (short version client c).4 in omega (arith, says.long)
 
 other : (m n : ℕ) → n < m → (m == n) ≡ false
 other m n lt = pick (m == n) refl
@@ -60,11 +40,11 @@ letter_fault letter =
 
 by_letter : (version client manager : ℕ) (text : List ℕ) → client ≤ WIDEST → manager ≤ WIDEST → LONGEST_LINE ≤ length text → body_fault version client manager text ≡ letter_fault (slice_index text 0)
 by_letter version client manager text c m long =
-    let a = form_long (form_a version) client text (let short = short_a version client c in omega arith) in
-    let b = form_long (form_b version) manager text (let short = short_b version manager m in omega arith) in
-    let c' = form_long (form_c version) client text (let short = short_c version client c in omega arith) in
-    let d = form_long (form_d version) manager text (let short = short_d version manager m in omega arith) in
-    let e = form_long (form_e version) client text (let short = short_e version client c in omega arith) in
+    let a = form_long (form_a version) client text (let short = (short version client c).0 in omega arith) in
+    let b = form_long (form_b version) manager text (let short = (short version manager m).1 in omega arith) in
+    let c' = form_long (form_c version) client text (let short = (short version client c).2 in omega arith) in
+    let d = form_long (form_d version) manager text (let short = (short version manager m).3 in omega arith) in
+    let e = form_long (form_e version) client text (let short = (short version client c).4 in omega arith) in
     rw (a, b, c', d, e) refl
 
 same_letter : (text more : List ℕ) → 0 < length text → slice_index (text ++ more) 0 ≡ slice_index text 0

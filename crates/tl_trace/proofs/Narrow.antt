@@ -1,24 +1,13 @@
 -- A narrow beat, as a line of a trace keeps it.
-use Rattle.std.proofs.Common.{◌≡◌, ℕ, zero, suc, ◌+◌, ◌-◌, ◌*◌, ◌≤◌, Bool, true, false, nat_eq, nat_lt, ◌&&◌, ◌||◌, not, List, [], ◌∷◌, ◌++◌, length, map, take, replicate, refl, sym, ap, ◌∙◌, arith, eq-eqb, Some}
-use Rattle.std.proofs.lemmas.Bool.{eqb-true, and_parts, and_from}
-use Rattle.std.proofs.Math.Seq.{take-append_seam}
-use Rattle.std.proofs.lemmas.List.{length-append, length-replicate}
-use Rattle.std.proofs.lemmas.List.Folds.{list_all-append}
-use Rattle.std.specs.List.{list_all}
-use Rattle.tl_msg.specs.declared.beat.BeatOf.{BeatOf}
-use Rattle.tl_msg.specs.declared.head.HeadA.{HeadA}
-use Rattle.tl_msg.specs.declared.head.HeadB.{HeadB}
-use Rattle.tl_msg.specs.declared.head.HeadC.{HeadC}
-use Rattle.tl_msg.specs.declared.head.HeadD.{HeadD}
-use Rattle.tl_msg.specs.declared.head.HeadE.{HeadE}
-use Rattle.tl_trace.specs.Fields.{Field, opcode, param, size, source, address, sink, denied, mask, data_lanes, corrupt, Form, fields, values, value_of, number_of_lanes, form_a, form_b, form_c, form_d, form_e}
-use Rattle.tl_trace.specs.Lines.{is_lanes, is_writable, is_plain}
-use Rattle.tl_trace.specs.Scripts.{on_lanes, beat_of_a, beat_of_b, beat_of_c, beat_of_d, beat_of_e}
-use Rattle.tl_trace.specs.Inner.Reading.{IsRead, IsReadLine}
-use Rattle.tl_trace.specs.declared.line.Line.TheVariants.{A, B, C, D, E}
+use Rattle.tl_trace.proofs.Names.{◌≡◌, ℕ, zero, suc, ◌+◌, ◌-◌, ◌*◌, ◌≤◌, Bool, true, nat_eq, nat_lt, ◌&&◌, ◌||◌, not, List, [], ◌∷◌, ◌++◌, length}
+use Rattle.tl_trace.proofs.Names.{map, take, replicate, refl, sym, ap, ◌∙◌, arith, eq-eqb, Some, and_from, take-append_seam, length-append}
+use Rattle.tl_trace.proofs.Names.{length-replicate, list_all-append, list_all, BeatOf, HeadA, HeadB, HeadC, HeadD, HeadE, Field, mask, data_lanes}
+use Rattle.tl_trace.proofs.Names.{corrupt, Form, fields, values, value_of, number_of_lanes, form_a, form_b, form_c, form_d, form_e, is_lanes}
+use Rattle.tl_trace.proofs.Names.{is_writable, is_plain, on_lanes, beat_of_a, beat_of_b, beat_of_c, beat_of_d, beat_of_e, IsRead, IsReadLine, A, B, C}
+use Rattle.tl_trace.proofs.Names.{D, E, WIDEST}
 use Rattle.tl_trace.proofs.ReadLines.{read_as_a, read_as_b, read_as_c, read_as_d, read_as_e}
-use Rattle.tl_trace.proofs.ReadDigits.{zero_bytes, zero_bits}
-use Rattle.tl_lanes.specs.declared.limits.TheConstants.{WIDEST}
+use Rattle.tl_trace.proofs.ReadDigits.{zero_bytes, zero_bits, lanes_parts}
+use Rattle.tl_trace.proofs.Shaped.{kept_parts}
 
 -- ---- a narrow beat, as a line of a trace keeps it
 
@@ -32,15 +21,7 @@ wide_number (lane ∷ lanes) k = ap (λ (n : ℕ). lane + 256 * n) (wide_number 
 
 same_value : {H : Type 0} (f : Form H) {n : ℕ} (b : BeatOf H n) (field : Field) → value_of f (wide b) field ≡ value_of f b field
 same_value f {n} b data_lanes = wide_number b.lanes (WIDEST - n)
-same_value f b opcode = refl
-same_value f b param = refl
-same_value f b size = refl
-same_value f b (source digits) = refl
-same_value f b address = refl
-same_value f b (sink digits) = refl
-same_value f b denied = refl
-same_value f b mask = refl
-same_value f b corrupt = refl
+same_value f b field = refl
 
 same_values : {H : Type 0} (f : Form H) {n : ℕ} (b : BeatOf H n) (fs : List Field) → map (value_of f (wide b)) fs ≡ map (value_of f b) fs
 same_values f b [] = refl
@@ -53,11 +34,10 @@ same_writable f w b (field ∷ fs) = rw (same_value f b field) (ap (λ (x : Bool
 
 wide_lanes : (n : ℕ) (lanes : List ℕ) → n ≤ WIDEST → is_lanes n lanes ≡ true → is_lanes WIDEST (lanes ++ replicate (WIDEST - n) 0) ≡ true
 wide_lanes n lanes le e =
-    let long : length lanes ≡ n = eqb-true (length lanes) n (and_parts (nat_eq (length lanes) n) (list_all (λ lane. nat_lt lane 256) lanes) e).0 in
-    let bytes = (and_parts (nat_eq (length lanes) n) (list_all (λ lane. nat_lt lane 256) lanes) e).1 in
-    let all : length (lanes ++ replicate (WIDEST - n) 0) ≡ WIDEST = omega (arith, length-append lanes (replicate (WIDEST - n) 0), length-replicate {A = ℕ} (WIDEST - n) 0, long) in
+    let parts = lanes_parts n lanes e in
+    let all : length (lanes ++ replicate (WIDEST - n) 0) ≡ WIDEST = omega (arith, length-append lanes (replicate (WIDEST - n) 0), length-replicate {A = ℕ} (WIDEST - n) 0, parts.0) in
     and_from (nat_eq (length (lanes ++ replicate (WIDEST - n) 0)) WIDEST) (list_all (λ lane. nat_lt lane 256) (lanes ++ replicate (WIDEST - n) 0)) (eq-eqb (length (lanes ++ replicate (WIDEST - n) 0)) WIDEST all)
-    (list_all-append (λ lane. nat_lt lane 256) lanes (replicate (WIDEST - n) 0) ∙ and_from (list_all (λ lane. nat_lt lane 256) lanes) (list_all (λ lane. nat_lt lane 256) (replicate (WIDEST - n) 0)) bytes (zero_bytes (WIDEST - n)))
+    (list_all-append (λ lane. nat_lt lane 256) lanes (replicate (WIDEST - n) 0) ∙ and_from (list_all (λ lane. nat_lt lane 256) lanes) (list_all (λ lane. nat_lt lane 256) (replicate (WIDEST - n) 0)) parts.1 (zero_bytes (WIDEST - n)))
 
 wide_zero : (lanes : List ℕ) (k : ℕ) → list_all (λ lane. nat_eq lane 0) (lanes ++ replicate k 0) ≡ list_all (λ lane. nat_eq lane 0) lanes
 wide_zero [] k = zero_bits k
@@ -68,18 +48,17 @@ wide_plain f {n} b = ap (λ (x : Bool). (f.rules.masked || nat_eq b.mask 0) && (
 
 pub widened : {H : Type 0} (f : Form H) (w : ℕ) (text : List ℕ) (b : BeatOf H w) → w ≤ WIDEST → IsRead f w text b → IsRead f w text (wide b)
 widened f w text b le r =
-    let lanes = (and_parts (is_lanes w b.lanes) (is_writable f w b && is_plain f b) r.kept).0 in
-    let rest = (and_parts (is_lanes w b.lanes) (is_writable f w b && is_plain f b) r.kept).1 in
-    let writable : is_writable f w (wide b) ≡ true = same_writable f w b (fields f) ∙ (and_parts (is_writable f w b) (is_plain f b) rest).0 in
-    let plain : is_plain f (wide b) ≡ true = wide_plain f b ∙ (and_parts (is_writable f w b) (is_plain f b) rest).1 in
+    let parts = kept_parts f w b r.kept in
+    let writable : is_writable f w (wide b) ≡ true = same_writable f w b (fields f) ∙ parts.1 in
+    let plain : is_plain f (wide b) ≡ true = wide_plain f b ∙ parts.2 in
     record {
       line = record { letter = r.line.letter; long = r.line.long; shaped = r.line.shaped; says = r.line.says ∙ sym (same_values f b (fields f)) };
-      kept = and_from (is_lanes WIDEST (b.lanes ++ replicate (WIDEST - w) 0)) (is_writable f w (wide b) && is_plain f (wide b)) (wide_lanes w b.lanes le lanes) (and_from (is_writable f w (wide b)) (is_plain f (wide b)) writable plain);
+      kept = and_from (is_lanes WIDEST (b.lanes ++ replicate (WIDEST - w) 0)) (is_writable f w (wide b) && is_plain f (wide b)) (wide_lanes w b.lanes le parts.0) (and_from (is_writable f w (wide b)) (is_plain f (wide b)) writable plain);
     }
 
 narrowed : {H : Type 0} (f : Form H) (w : ℕ) (text : List ℕ) (b : BeatOf H w) → IsRead f w text b → take w (b.lanes ++ replicate (WIDEST - w) 0) ≡ b.lanes
 narrowed f w text b r =
-    let long : length b.lanes ≡ w = eqb-true (length b.lanes) w (and_parts (nat_eq (length b.lanes) w) (list_all (λ lane. nat_lt lane 256) b.lanes) (and_parts (is_lanes w b.lanes) (is_writable f w b && is_plain f b) r.kept).0).0 in
+    let long : length b.lanes ≡ w = (lanes_parts w b.lanes (kept_parts f w b r.kept).0).0 in
     ap (λ (k : ℕ). take k (b.lanes ++ replicate (WIDEST - w) 0)) (sym long) ∙ take-append_seam b.lanes (replicate (WIDEST - w) 0)
 
 same_beat : {H : Type 0} (f : Form H) (w : ℕ) (text : List ℕ) (b : BeatOf H w) → IsRead f w text b → b ≡ on_lanes w (wide b)
@@ -102,6 +81,3 @@ near_d v c m text b le r = (read_as_d v c m text (wide b) (widened (form_d v) m 
 
 pub near_e : (v c m : ℕ) (text : List ℕ) (b : BeatOf HeadE c) → c ≤ WIDEST → IsRead (form_e v) c text b → IsReadLine v c m text (E (wide b)) × (Some b ≡ beat_of_e c (E (wide b)))
 near_e v c m text b le r = (read_as_e v c m text (wide b) (widened (form_e v) c text b le r), ap Some (same_beat (form_e v) c text b r))
-
-pub plain_zero : (v w : ℕ) (h : HeadE) → is_plain (form_e v) {n = w} (record { head = h; mask = 0; lanes = replicate w 0; corrupt = false }) ≡ true
-plain_zero v w h = rw (zero_bits w) refl

@@ -1,13 +1,9 @@
 -- Each trace has exactly one text.
-use Rattle.std.proofs.Common.{◌≡◌, ℕ, true, List, [], ◌∷◌, ◌++◌, refl, ap, ◌∙◌, lit≤}
-use Rattle.std.specs.List.{list_all}
-use Rattle.std.proofs.lemmas.Bool.{and_parts}
-use Rattle.tl_trace.specs.Fields.{form_a, form_b, form_c, form_d, form_e}
-use Rattle.tl_trace.specs.Texts.{newline, header_text, SaysLine, is_kept_line, text_of_line, IsTrace, TellsLines, Tells, lines_text, trace_text}
-use Rattle.tl_trace.specs.declared.line.Line.{Line}
-use Rattle.tl_trace.specs.declared.line.Line.TheVariants.{A, B, C, D, E}
-use Rattle.tl_trace.proofs.ReadLines.{kept_writable}
+use Rattle.tl_trace.proofs.Names.{◌≡◌, ℕ, true, List, [], ◌∷◌, ◌++◌, refl, ap, ◌∙◌, lit≤, list_all, and_parts, form_a, form_b, form_c, form_d, form_e}
+use Rattle.tl_trace.proofs.Names.{newline, header_text, SaysLine, is_kept_line, text_of_line, IsTrace, TellsLines, Tells, lines_text, trace_text}
+use Rattle.tl_trace.proofs.Names.{Line, A, B, C, D, E}
 use Rattle.tl_trace.proofs.Spelling.{only_line, is_line}
+use Rattle.tl_trace.proofs.Shaped.{kept_parts}
 
 pub says_only : (version client manager : ℕ) (line : Line) (text : List ℕ) → SaysLine version client manager line text → text ≡ text_of_line version client manager line
 says_only version client manager (A b) text says = only_line (form_a version) client b text says
@@ -17,11 +13,11 @@ says_only version client manager (D b) text says = only_line (form_d version) ma
 says_only version client manager (E b) text says = only_line (form_e version) client b text says
 
 pub says_it : (version client manager : ℕ) (line : Line) → is_kept_line version client manager line ≡ true → SaysLine version client manager line (text_of_line version client manager line)
-says_it version client manager (A b) kept = is_line (form_a version) (lit≤ tt) client b (kept_writable (form_a version) client b kept)
-says_it version client manager (B b) kept = is_line (form_b version) (lit≤ tt) manager b (kept_writable (form_b version) manager b kept)
-says_it version client manager (C b) kept = is_line (form_c version) (lit≤ tt) client b (kept_writable (form_c version) client b kept)
-says_it version client manager (D b) kept = is_line (form_d version) (lit≤ tt) manager b (kept_writable (form_d version) manager b kept)
-says_it version client manager (E b) kept = is_line (form_e version) (lit≤ tt) client b (kept_writable (form_e version) client b kept)
+says_it version client manager (A b) kept = is_line (form_a version) (lit≤ tt) client b (kept_parts (form_a version) client b kept).1
+says_it version client manager (B b) kept = is_line (form_b version) (lit≤ tt) manager b (kept_parts (form_b version) manager b kept).1
+says_it version client manager (C b) kept = is_line (form_c version) (lit≤ tt) client b (kept_parts (form_c version) client b kept).1
+says_it version client manager (D b) kept = is_line (form_d version) (lit≤ tt) manager b (kept_parts (form_d version) manager b kept).1
+says_it version client manager (E b) kept = is_line (form_e version) (lit≤ tt) client b (kept_parts (form_e version) client b kept).1
 
 pub lines_only : (version client manager : ℕ) (lines : List Line) (text : List ℕ) → TellsLines version client manager lines text → text ≡ lines_text version client manager lines
 lines_only version client manager [] text told = told

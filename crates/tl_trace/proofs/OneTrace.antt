@@ -1,27 +1,16 @@
 -- No text tells two traces.
-use Rattle.std.proofs.Common.{◌≡◌, ◌≤◌, ℕ, zero, suc, Bool, true, false, not, nat_eq, nat_le, nat_lt, ◌&&◌, ◌||◌, List, [], ◌∷◌, ◌++◌, length, map, refl, sym, ap, ◌∙◌, arith, append_assoc, eq-eqb, subst}
+use Rattle.tl_trace.proofs.Names.{◌≡◌, ◌≤◌, ℕ, zero, suc, Bool, true, false, not, nat_eq, nat_le, nat_lt, ◌&&◌, ◌||◌, List, [], ◌∷◌, ◌++◌, length}
+use Rattle.tl_trace.proofs.Names.{map, refl, sym, ap, ◌∙◌, arith, append_assoc, eq-eqb, subst, get_or, decimal, codes, ◌==◌, eqb-true, leb-true}
+use Rattle.tl_trace.proofs.Names.{ltb-true, not-true, and_parts, or_parts, decimal_is_IsNumeral, list_all, list_any, digits_value, BeatOf, HeadA}
+use Rattle.tl_trace.proofs.Names.{HeadB, HeadC, HeadD, HeadE, Form, bit, fields, value_of, number_of_lanes, form_a, form_b, form_c, form_d, form_e}
+use Rattle.tl_trace.proofs.Names.{IsLine, is_kept, versions, is_version, is_width, newline, header_text, SaysLine, is_kept_line, TellsLines, Tells}
+use Rattle.tl_trace.proofs.Names.{Line, A, B, C, D, E, WIDEST, each_width, append_cancel_left}
 use Rattle.tl_msg.proofs.Beats.{same_beat}
-use Rattle.std.specs.Prelude.{decimal, codes, ◌==◌}
-use Rattle.std.proofs.lemmas.Bool.{eqb-true, leb-true, ltb-true, not-true, and_parts, or_parts}
-use Rattle.std.proofs.lemmas.Fmt.{decimal_is_IsNumeral}
 use Rattle.std.specs.Fmt.{digits}
-use Rattle.std.specs.List.{list_all, list_any, slice_index}
-use Rattle.std.specs.Str.Parse.{digits_value}
-use Rattle.tl_msg.specs.declared.beat.BeatOf.{BeatOf}
-use Rattle.tl_msg.specs.declared.head.HeadA.{HeadA}
-use Rattle.tl_msg.specs.declared.head.HeadB.{HeadB}
-use Rattle.tl_msg.specs.declared.head.HeadC.{HeadC}
-use Rattle.tl_msg.specs.declared.head.HeadD.{HeadD}
-use Rattle.tl_msg.specs.declared.head.HeadE.{HeadE}
-use Rattle.tl_trace.specs.Fields.{Form, bit, fields, value_of, number_of_lanes, form_a, form_b, form_c, form_d, form_e}
-use Rattle.tl_trace.specs.Lines.{is_lanes, IsLine, is_writable, is_plain, is_kept}
-use Rattle.tl_trace.specs.Texts.{versions, is_version, is_width, newline, header_text, SaysLine, is_kept_line, TellsLines, Tells}
-use Rattle.tl_trace.specs.declared.line.Line.{Line}
-use Rattle.tl_trace.specs.declared.line.Line.TheVariants.{A, B, C, D, E}
-use Rattle.tl_lanes.specs.declared.limits.TheConstants.{WIDEST}
-use Rattle.tl_lanes.proofs.Widths.{each_width}
 use Rattle.tl_trace.proofs.Widths.{width_of, width_most}
 use Rattle.tl_trace.proofs.Cover.{says_free}
+use Rattle.tl_trace.proofs.Shaped.{kept_parts}
+use Rattle.tl_trace.proofs.ReadDigits.{lanes_parts}
 
 -- ---- cutting at a byte
 
@@ -87,10 +76,6 @@ version_small version is = leb-true version WIDEST (in_list (λ v. nat_le v WIDE
 same_number : (m n : ℕ) → m ≤ WIDEST → n ≤ WIDEST → decimal m ≡ decimal n → m ≡ n
 same_number m n small small' e = sym (decimal_is_IsNumeral m (omega arith)).1 ∙ ap (digits_value 10) e ∙ (decimal_is_IsNumeral n (omega arith)).1
 
-cancel : (xs ys zs : List ℕ) → xs ++ ys ≡ xs ++ zs → ys ≡ zs
-cancel [] ys zs e = e
-cancel (x ∷ xs) ys zs e = cancel xs ys zs cc
-
 pub record SameHeader (version client manager version' client' manager' : ℕ) (rest rest' : List ℕ) : Type 0 where
   pub versions : version ≡ version'
   pub clients : client ≡ client'
@@ -115,11 +100,11 @@ pub same_header : (version client manager version' client' manager' : ℕ) (rest
     → header_text version client manager ++ newline ++ rest ≡ header_text version' client' manager' ++ newline ++ rest' → SameHeader version client manager version' client' manager' rest rest'
 same_header version client manager version' client' manager' rest rest' v c m v' c' m' e =
     let e0 = sym (whole_header version client manager rest) ∙ e ∙ whole_header version' client' manager' rest' in
-    let e1 = cancel (codes "tilelink-trace ") (decimal version ++ (codes " client " ++ behind_version client manager rest)) (decimal version' ++ (codes " client " ++ behind_version client' manager' rest')) e0 in
+    let e1 = append_cancel_left (codes "tilelink-trace ") (decimal version ++ (codes " client " ++ behind_version client manager rest)) (decimal version' ++ (codes " client " ++ behind_version client' manager' rest')) e0 in
     let s0 = split_at 32 (decimal version) (decimal version') (codes "client " ++ behind_version client manager rest) (codes "client " ++ behind_version client' manager' rest') e1 (no_space_in_version version v) (no_space_in_version version' v') in
-    let e2 = cancel (codes "client ") (behind_version client manager rest) (behind_version client' manager' rest') s0.back in
+    let e2 = append_cancel_left (codes "client ") (behind_version client manager rest) (behind_version client' manager' rest') s0.back in
     let s1 = split_at 32 (decimal client) (decimal client') (codes "manager " ++ behind_client manager rest) (codes "manager " ++ behind_client manager' rest') e2 (no_space version client c) (no_space version' client' c') in
-    let e3 = cancel (codes "manager ") (behind_client manager rest) (behind_client manager' rest') s1.back in
+    let e3 = append_cancel_left (codes "manager ") (behind_client manager rest) (behind_client manager' rest') s1.back in
     let s2 = split_at 10 (decimal manager) (decimal manager') rest rest' e3 (no_newline version manager m) (no_newline version' manager' m') in
     record {
       versions = same_number version version' (version_small version v) (version_small version' v') s0.front;
@@ -145,15 +130,9 @@ lanes_same (suc n) (x ∷ xs) (y ∷ ys) l l' b b' e =
 
 kept_lanes : {H : Type 0} (f : Form H) (w : ℕ) (x y : BeatOf H WIDEST) → is_kept f w x ≡ true → is_kept f w y ≡ true → number_of_lanes x.lanes ≡ number_of_lanes y.lanes → x.lanes ≡ y.lanes
 kept_lanes f w x y kept kept' e =
-    let a = (and_parts (is_lanes WIDEST x.lanes) (is_writable f w x && is_plain f x) kept).0 in
-    let b = (and_parts (is_lanes WIDEST y.lanes) (is_writable f w y && is_plain f y) kept').0 in
-    lanes_same WIDEST x.lanes y.lanes
-    (eqb-true (length x.lanes) WIDEST (and_parts (nat_eq (length x.lanes) WIDEST) (list_all (λ lane. nat_lt lane 256) x.lanes) a).0)
-    (eqb-true (length y.lanes) WIDEST (and_parts (nat_eq (length y.lanes) WIDEST) (list_all (λ lane. nat_lt lane 256) y.lanes) b).0)
-    (and_parts (nat_eq (length x.lanes) WIDEST) (list_all (λ lane. nat_lt lane 256) x.lanes) a).1 (and_parts (nat_eq (length y.lanes) WIDEST) (list_all (λ lane. nat_lt lane 256) y.lanes) b).1 e
-
-pub plain_of : {H : Type 0} (f : Form H) (w : ℕ) (x : BeatOf H WIDEST) → is_kept f w x ≡ true → is_plain f x ≡ true
-plain_of f w x kept = (and_parts (is_writable f w x) (is_plain f x) (and_parts (is_lanes WIDEST x.lanes) (is_writable f w x && is_plain f x) kept).1).1
+    let a = lanes_parts WIDEST x.lanes (kept_parts f w x kept).0 in
+    let b = lanes_parts WIDEST y.lanes (kept_parts f w y kept').0 in
+    lanes_same WIDEST x.lanes y.lanes a.0 b.0 a.1 b.1 e
 
 bit_same : (x y : Bool) → bit x ≡ bit y → x ≡ y
 bit_same true true e = refl
@@ -161,61 +140,41 @@ bit_same true false e = absurd (omega arith)
 bit_same false true e = absurd (omega arith)
 bit_same false false e = refl
 
-same_values : {H : Type 0} (f : Form H) (w : ℕ) (x y : BeatOf H WIDEST) (text : List ℕ) → IsLine f w x text → IsLine f w y text → map (value_of f x) (fields f) ≡ map (value_of f y) (fields f)
-same_values f w x y text a b = sym a.says ∙ b.says
+-- what the first values of a line say of a head
+abbrev head_a : List ℕ → HeadA
+head_a vs = record { opcode = get_or vs 0 0; param = get_or vs 1 0; size = get_or vs 2 0; source = get_or vs 3 0; address = get_or vs 4 0 }
 
-head_a : (x y : HeadA) → x.opcode ≡ y.opcode → x.param ≡ y.param → x.size ≡ y.size → x.source ≡ y.source → x.address ≡ y.address → x ≡ y
-head_a x y e0 e1 e2 e3 e4 =
-    ap (λ (z : ℕ). let h : HeadA = record { opcode = z; param = x.param; size = x.size; source = x.source; address = x.address } in h) e0
-    ∙ ap (λ (z : ℕ). let h : HeadA = record { opcode = y.opcode; param = z; size = x.size; source = x.source; address = x.address } in h) e1
-    ∙ ap (λ (z : ℕ). let h : HeadA = record { opcode = y.opcode; param = y.param; size = z; source = x.source; address = x.address } in h) e2
-    ∙ ap (λ (z : ℕ). let h : HeadA = record { opcode = y.opcode; param = y.param; size = y.size; source = z; address = x.address } in h) e3
-    ∙ ap (λ (z : ℕ). let h : HeadA = record { opcode = y.opcode; param = y.param; size = y.size; source = y.source; address = z } in h) e4
+abbrev head_b : List ℕ → HeadB
+head_b vs = record { opcode = get_or vs 0 0; param = get_or vs 1 0; size = get_or vs 2 0; source = get_or vs 3 0; address = get_or vs 4 0 }
 
-head_b : (x y : HeadB) → x.opcode ≡ y.opcode → x.param ≡ y.param → x.size ≡ y.size → x.source ≡ y.source → x.address ≡ y.address → x ≡ y
-head_b x y e0 e1 e2 e3 e4 =
-    ap (λ (z : ℕ). let h : HeadB = record { opcode = z; param = x.param; size = x.size; source = x.source; address = x.address } in h) e0
-    ∙ ap (λ (z : ℕ). let h : HeadB = record { opcode = y.opcode; param = z; size = x.size; source = x.source; address = x.address } in h) e1
-    ∙ ap (λ (z : ℕ). let h : HeadB = record { opcode = y.opcode; param = y.param; size = z; source = x.source; address = x.address } in h) e2
-    ∙ ap (λ (z : ℕ). let h : HeadB = record { opcode = y.opcode; param = y.param; size = y.size; source = z; address = x.address } in h) e3
-    ∙ ap (λ (z : ℕ). let h : HeadB = record { opcode = y.opcode; param = y.param; size = y.size; source = y.source; address = z } in h) e4
+abbrev head_c : List ℕ → HeadC
+head_c vs = record { opcode = get_or vs 0 0; param = get_or vs 1 0; size = get_or vs 2 0; source = get_or vs 3 0; address = get_or vs 4 0 }
 
-head_c : (x y : HeadC) → x.opcode ≡ y.opcode → x.param ≡ y.param → x.size ≡ y.size → x.source ≡ y.source → x.address ≡ y.address → x ≡ y
-head_c x y e0 e1 e2 e3 e4 =
-    ap (λ (z : ℕ). let h : HeadC = record { opcode = z; param = x.param; size = x.size; source = x.source; address = x.address } in h) e0
-    ∙ ap (λ (z : ℕ). let h : HeadC = record { opcode = y.opcode; param = z; size = x.size; source = x.source; address = x.address } in h) e1
-    ∙ ap (λ (z : ℕ). let h : HeadC = record { opcode = y.opcode; param = y.param; size = z; source = x.source; address = x.address } in h) e2
-    ∙ ap (λ (z : ℕ). let h : HeadC = record { opcode = y.opcode; param = y.param; size = y.size; source = z; address = x.address } in h) e3
-    ∙ ap (λ (z : ℕ). let h : HeadC = record { opcode = y.opcode; param = y.param; size = y.size; source = y.source; address = z } in h) e4
+abbrev head_d : Bool → List ℕ → HeadD
+head_d denied vs = record { opcode = get_or vs 0 0; param = get_or vs 1 0; size = get_or vs 2 0; source = get_or vs 3 0; sink = get_or vs 4 0; denied = denied }
 
-head_d : (x y : HeadD) → x.opcode ≡ y.opcode → x.param ≡ y.param → x.size ≡ y.size → x.source ≡ y.source → x.sink ≡ y.sink → x.denied ≡ y.denied → x ≡ y
-head_d x y e0 e1 e2 e3 e4 e5 =
-    ap (λ (z : ℕ). let h : HeadD = record { opcode = z; param = x.param; size = x.size; source = x.source; sink = x.sink; denied = x.denied } in h) e0
-    ∙ ap (λ (z : ℕ). let h : HeadD = record { opcode = y.opcode; param = z; size = x.size; source = x.source; sink = x.sink; denied = x.denied } in h) e1
-    ∙ ap (λ (z : ℕ). let h : HeadD = record { opcode = y.opcode; param = y.param; size = z; source = x.source; sink = x.sink; denied = x.denied } in h) e2
-    ∙ ap (λ (z : ℕ). let h : HeadD = record { opcode = y.opcode; param = y.param; size = y.size; source = z; sink = x.sink; denied = x.denied } in h) e3
-    ∙ ap (λ (z : ℕ). let h : HeadD = record { opcode = y.opcode; param = y.param; size = y.size; source = y.source; sink = z; denied = x.denied } in h) e4
-    ∙ ap (λ (z : Bool). let h : HeadD = record { opcode = y.opcode; param = y.param; size = y.size; source = y.source; sink = y.sink; denied = z } in h) e5
+abbrev head_e : List ℕ → HeadE
+head_e vs = record { sink = get_or vs 0 0 }
 
-head_e : (x y : HeadE) → x.sink ≡ y.sink → x ≡ y
-head_e x y e0 =
-    ap (λ (z : ℕ). let h : HeadE = record { sink = z } in h) e0
+-- beats of one line have the same values
+module _ {H : Type 0} (f : Form H) (w : ℕ) (x y : BeatOf H WIDEST) (text : List ℕ) (a : IsLine f w x text) (b : IsLine f w y text) where
+  same_values : map (value_of f x) (fields f) ≡ map (value_of f y) (fields f)
+  same_values = sym a.says ∙ b.says
 
-same_7 : (x0 x1 x2 x3 x4 x5 x6 y0 y1 y2 y3 y4 y5 y6 : ℕ) → x0 ∷ x1 ∷ x2 ∷ x3 ∷ x4 ∷ x5 ∷ x6 ∷ [] ≡ y0 ∷ y1 ∷ y2 ∷ y3 ∷ y4 ∷ y5 ∷ y6 ∷ [] → (x0 ≡ y0) × (x1 ≡ y1) × (x2 ≡ y2) × (x3 ≡ y3) × (x4 ≡ y4) × (x5 ≡ y5) × (x6 ≡ y6)
-same_7 x0 x1 x2 x3 x4 x5 x6 y0 y1 y2 y3 y4 y5 y6 e = (cc, cc, cc, cc, cc, cc, cc)
+  same_value : (k : ℕ) → get_or (map (value_of f x) (fields f)) k 0 ≡ get_or (map (value_of f y) (fields f)) k 0
+  same_value k = ap (λ vs. get_or vs k 0) same_values
 
-same_8 : (x0 x1 x2 x3 x4 x5 x6 x7 y0 y1 y2 y3 y4 y5 y6 y7 : ℕ) → x0 ∷ x1 ∷ x2 ∷ x3 ∷ x4 ∷ x5 ∷ x6 ∷ x7 ∷ [] ≡ y0 ∷ y1 ∷ y2 ∷ y3 ∷ y4 ∷ y5 ∷ y6 ∷ y7 ∷ [] → (x0 ≡ y0) × (x1 ≡ y1) × (x2 ≡ y2) × (x3 ≡ y3) × (x4 ≡ y4) × (x5 ≡ y5) × (x6 ≡ y6) × (x7 ≡ y7)
-same_8 x0 x1 x2 x3 x4 x5 x6 x7 y0 y1 y2 y3 y4 y5 y6 y7 e = (cc, cc, cc, cc, cc, cc, cc, cc)
-
-line_a : (version w : ℕ) (x y : BeatOf HeadA WIDEST) (text : List ℕ) → is_kept (form_a version) w x ≡ true → is_kept (form_a version) w y ≡ true → IsLine (form_a version) w x text → IsLine (form_a version) w y text → x ≡ y
+line_a : (version w : ℕ) (x y : BeatOf HeadA WIDEST) (text : List ℕ) → is_kept (form_a version) w x ≡ true → is_kept (form_a version) w y ≡ true
+    → IsLine (form_a version) w x text → IsLine (form_a version) w y text → x ≡ y
 line_a version w x y text kept kept' a b =
-    let v = same_8 _ _ _ _ _ _ _ _ _ _ _ _ _ _ _ _ (same_values (form_a version) w x y text a b) in
-    same_beat x y (head_a x.head y.head v.0 v.1 v.2 v.3 v.4) v.5 (kept_lanes (form_a version) w x y kept kept' v.6) (bit_same x.corrupt y.corrupt v.7)
+    let v = same_value (form_a version) w x y text a b in
+    same_beat x y (ap head_a (same_values (form_a version) w x y text a b)) (v 5) (kept_lanes (form_a version) w x y kept kept' (v 6)) (bit_same x.corrupt y.corrupt (v 7))
 
-line_b : (version w : ℕ) (x y : BeatOf HeadB WIDEST) (text : List ℕ) → is_kept (form_b version) w x ≡ true → is_kept (form_b version) w y ≡ true → IsLine (form_b version) w x text → IsLine (form_b version) w y text → x ≡ y
+line_b : (version w : ℕ) (x y : BeatOf HeadB WIDEST) (text : List ℕ) → is_kept (form_b version) w x ≡ true → is_kept (form_b version) w y ≡ true
+    → IsLine (form_b version) w x text → IsLine (form_b version) w y text → x ≡ y
 line_b version w x y text kept kept' a b =
-    let v = same_8 _ _ _ _ _ _ _ _ _ _ _ _ _ _ _ _ (same_values (form_b version) w x y text a b) in
-    same_beat x y (head_b x.head y.head v.0 v.1 v.2 v.3 v.4) v.5 (kept_lanes (form_b version) w x y kept kept' v.6) (bit_same x.corrupt y.corrupt v.7)
+    let v = same_value (form_b version) w x y text a b in
+    same_beat x y (ap head_b (same_values (form_b version) w x y text a b)) (v 5) (kept_lanes (form_b version) w x y kept kept' (v 6)) (bit_same x.corrupt y.corrupt (v 7))
 
 mask_zero : (masked : Bool) (mask : ℕ) (other : Bool) → masked ≡ false → (masked || nat_eq mask 0) && other ≡ true → mask ≡ 0
 mask_zero true mask other e h = absurd cc
@@ -223,18 +182,25 @@ mask_zero false mask other e h = eqb-true mask 0 (and_parts (nat_eq mask 0) othe
 
 no_mask : {H : Type 0} (f : Form H) (w : ℕ) (x y : BeatOf H WIDEST) → is_kept f w x ≡ true → is_kept f w y ≡ true → f.rules.masked ≡ false → x.mask ≡ y.mask
 no_mask f w x y kept kept' e =
-    mask_zero f.rules.masked x.mask (f.rules.corrupts || (list_all (λ lane. nat_eq lane 0) x.lanes && not x.corrupt)) e (plain_of f w x kept)
-    ∙ sym (mask_zero f.rules.masked y.mask (f.rules.corrupts || (list_all (λ lane. nat_eq lane 0) y.lanes && not y.corrupt)) e (plain_of f w y kept'))
+    mask_zero f.rules.masked x.mask (f.rules.corrupts || (list_all (λ lane. nat_eq lane 0) x.lanes && not x.corrupt)) e (kept_parts f w x kept).2
+    ∙ sym (mask_zero f.rules.masked y.mask (f.rules.corrupts || (list_all (λ lane. nat_eq lane 0) y.lanes && not y.corrupt)) e (kept_parts f w y kept').2)
 
-line_c : (version w : ℕ) (x y : BeatOf HeadC WIDEST) (text : List ℕ) → is_kept (form_c version) w x ≡ true → is_kept (form_c version) w y ≡ true → IsLine (form_c version) w x text → IsLine (form_c version) w y text → x ≡ y
+line_c : (version w : ℕ) (x y : BeatOf HeadC WIDEST) (text : List ℕ) → is_kept (form_c version) w x ≡ true → is_kept (form_c version) w y ≡ true
+    → IsLine (form_c version) w x text → IsLine (form_c version) w y text → x ≡ y
 line_c version w x y text kept kept' a b =
-    let v = same_7 _ _ _ _ _ _ _ _ _ _ _ _ _ _ (same_values (form_c version) w x y text a b) in
-    same_beat x y (head_c x.head y.head v.0 v.1 v.2 v.3 v.4) (no_mask (form_c version) w x y kept kept' refl) (kept_lanes (form_c version) w x y kept kept' v.5) (bit_same x.corrupt y.corrupt v.6)
+    let v = same_value (form_c version) w x y text a b in
+    same_beat x y (ap head_c (same_values (form_c version) w x y text a b)) (no_mask (form_c version) w x y kept kept' refl)
+    (kept_lanes (form_c version) w x y kept kept' (v 5)) (bit_same x.corrupt y.corrupt (v 6))
 
-line_d : (version w : ℕ) (x y : BeatOf HeadD WIDEST) (text : List ℕ) → is_kept (form_d version) w x ≡ true → is_kept (form_d version) w y ≡ true → IsLine (form_d version) w x text → IsLine (form_d version) w y text → x ≡ y
+line_d : (version w : ℕ) (x y : BeatOf HeadD WIDEST) (text : List ℕ) → is_kept (form_d version) w x ≡ true → is_kept (form_d version) w y ≡ true
+    → IsLine (form_d version) w x text → IsLine (form_d version) w y text → x ≡ y
 line_d version w x y text kept kept' a b =
-    let v = same_8 _ _ _ _ _ _ _ _ _ _ _ _ _ _ _ _ (same_values (form_d version) w x y text a b) in
-    same_beat x y (head_d x.head y.head v.0 v.1 v.2 v.3 v.4 (bit_same x.head.denied y.head.denied v.5)) (no_mask (form_d version) w x y kept kept' refl) (kept_lanes (form_d version) w x y kept kept' v.6) (bit_same x.corrupt y.corrupt v.7)
+    let v = same_value (form_d version) w x y text a b in
+    let denied : x.head.denied ≡ y.head.denied = bit_same x.head.denied y.head.denied (v 5) in
+    let head : x.head ≡ y.head =
+    ap (head_d x.head.denied) (same_values (form_d version) w x y text a b) ∙ ap (λ (n : Bool). let h : HeadD = record y.head { denied = n } in h) denied in
+    same_beat x y head (no_mask (form_d version) w x y kept kept' refl)
+    (kept_lanes (form_d version) w x y kept kept' (v 6)) (bit_same x.corrupt y.corrupt (v 7))
 
 no_lanes : (lanes : List ℕ) → list_all (λ lane. nat_eq lane 0) lanes ≡ true → number_of_lanes lanes ≡ 0
 no_lanes [] e = refl
@@ -245,42 +211,26 @@ no_lanes (lane ∷ lanes) e =
 
 plain_e : (version w : ℕ) (x : BeatOf HeadE WIDEST) → is_kept (form_e version) w x ≡ true → (list_all (λ lane. nat_eq lane 0) x.lanes ≡ true) × (x.corrupt ≡ false)
 plain_e version w x kept =
-    let plain = (and_parts (nat_eq x.mask 0) (list_all (λ lane. nat_eq lane 0) x.lanes && not x.corrupt) (plain_of (form_e version) w x kept)).1 in
+    let plain = (and_parts (nat_eq x.mask 0) (list_all (λ lane. nat_eq lane 0) x.lanes && not x.corrupt) (kept_parts (form_e version) w x kept).2).1 in
     ((and_parts (list_all (λ lane. nat_eq lane 0) x.lanes) (not x.corrupt) plain).0, not-true x.corrupt (and_parts (list_all (λ lane. nat_eq lane 0) x.lanes) (not x.corrupt) plain).1)
 
-line_e : (version w : ℕ) (x y : BeatOf HeadE WIDEST) (text : List ℕ) → is_kept (form_e version) w x ≡ true → is_kept (form_e version) w y ≡ true → IsLine (form_e version) w x text → IsLine (form_e version) w y text → x ≡ y
+line_e : (version w : ℕ) (x y : BeatOf HeadE WIDEST) (text : List ℕ) → is_kept (form_e version) w x ≡ true → is_kept (form_e version) w y ≡ true
+    → IsLine (form_e version) w x text → IsLine (form_e version) w y text → x ≡ y
 line_e version w x y text kept kept' a b =
-    let v : x.head.sink ∷ [] ≡ y.head.sink ∷ [] = same_values (form_e version) w x y text a b in
     let px = plain_e version w x kept in
     let py = plain_e version w y kept' in
-    same_beat x y (head_e x.head y.head cc) (no_mask (form_e version) w x y kept kept' refl) (kept_lanes (form_e version) w x y kept kept' (no_lanes x.lanes px.0 ∙ sym (no_lanes y.lanes py.0))) (px.1 ∙ sym py.1)
+    let lanes = kept_lanes (form_e version) w x y kept kept' (no_lanes x.lanes px.0 ∙ sym (no_lanes y.lanes py.0)) in
+    same_beat x y (ap head_e (same_values (form_e version) w x y text a b)) (no_mask (form_e version) w x y kept kept' refl) lanes (px.1 ∙ sym py.1)
 
-letter_of : Line → ℕ
-letter_of (A b) = 65
-letter_of (B b) = 66
-letter_of (C b) = 67
-letter_of (D b) = 68
-letter_of (E b) = 69
-
-letter_is : (version client manager : ℕ) (line : Line) (text : List ℕ) → SaysLine version client manager line text → slice_index text 0 ≡ letter_of line
-unfolding letter_of
-letter_is version client manager (A b) text says = says.letter
-letter_is version client manager (B b) text says = says.letter
-letter_is version client manager (C b) text says = says.letter
-letter_is version client manager (D b) text says = says.letter
-letter_is version client manager (E b) text says = says.letter
-
-same_letter : (version client manager : ℕ) (line line' : Line) (text : List ℕ) → SaysLine version client manager line text → SaysLine version client manager line' text → letter_of line ≡ letter_of line'
-same_letter version client manager line line' text says says' = sym (letter_is version client manager line text says) ∙ letter_is version client manager line' text says'
-
-line_same : (version client manager : ℕ) (line line' : Line) (text : List ℕ) → is_kept_line version client manager line ≡ true → is_kept_line version client manager line' ≡ true → SaysLine version client manager line text → SaysLine version client manager line' text → letter_of line ≡ letter_of line' → line ≡ line'
-unfolding letter_of
-line_same version client manager (A x) (A y) text kept kept' says says' e = ap A (line_a version client x y text kept kept' says says')
-line_same version client manager (B x) (B y) text kept kept' says says' e = ap B (line_b version manager x y text kept kept' says says')
-line_same version client manager (C x) (C y) text kept kept' says says' e = ap C (line_c version client x y text kept kept' says says')
-line_same version client manager (D x) (D y) text kept kept' says says' e = ap D (line_d version manager x y text kept kept' says says')
-line_same version client manager (E x) (E y) text kept kept' says says' e = ap E (line_e version client x y text kept kept' says says')
-line_same version client manager x y text kept kept' says says' e = absurd (omega arith)
+-- beats of two channels have two letters
+line_same : (version client manager : ℕ) (line line' : Line) (text : List ℕ) → is_kept_line version client manager line ≡ true → is_kept_line version client manager line' ≡ true
+    → SaysLine version client manager line text → SaysLine version client manager line' text → line ≡ line'
+line_same version client manager (A x) (A y) text kept kept' says says' = ap A (line_a version client x y text kept kept' says says')
+line_same version client manager (B x) (B y) text kept kept' says says' = ap B (line_b version manager x y text kept kept' says says')
+line_same version client manager (C x) (C y) text kept kept' says says' = ap C (line_c version client x y text kept kept' says says')
+line_same version client manager (D x) (D y) text kept kept' says says' = ap D (line_d version manager x y text kept kept' says says')
+line_same version client manager (E x) (E y) text kept kept' says says' = ap E (line_e version client x y text kept kept' says says')
+line_same version client manager x y text kept kept' says says' = absurd (omega (arith, says.letter, says'.letter))
 
 long_line : (body rest : List ℕ) → body ++ newline ++ rest ≡ [] → ⊥
 long_line [] rest e = cc
@@ -299,7 +249,7 @@ lines_same version client manager (line ∷ lines) (line' ∷ lines') text kept 
     let says' = subst P (sym parts.front) told'.3 in
     let Q : List ℕ → Type 0 = TellsLines version client manager lines' in
     let rest' = subst Q (sym parts.back) told'.4 in
-    let here = line_same version client manager line line' told.0 (and_parts (is_kept_line version client manager line) (list_all (is_kept_line version client manager) lines) kept).0 (and_parts (is_kept_line version client manager line') (list_all (is_kept_line version client manager) lines') kept').0 told.3 says' (same_letter version client manager line line' told.0 told.3 says') in
+    let here = line_same version client manager line line' told.0 (and_parts (is_kept_line version client manager line) (list_all (is_kept_line version client manager) lines) kept).0 (and_parts (is_kept_line version client manager line') (list_all (is_kept_line version client manager) lines') kept').0 told.3 says' in
     let more = lines_same version client manager lines lines' told.1 (and_parts (is_kept_line version client manager line) (list_all (is_kept_line version client manager) lines) kept).1 (and_parts (is_kept_line version client manager line') (list_all (is_kept_line version client manager) lines') kept').1 told.4 rest' in
     ap (λ (l : Line). l ∷ lines) here ∙ ap (λ (ls : List Line). line' ∷ ls) more
 

@@ -1,20 +1,14 @@
 -- Reading a text piece by piece: what has been read, and one line more.
-use Rattle.std.proofs.Common.{◌≡◌, ◌≢◌, ◌||◌, Bool, ℕ, ◌+◌, ◌-◌, ◌<◌, ◌≤◌, true, false, ◌&&◌, List, [], ◌∷◌, ◌++◌, length, map, take, drop, replicate, Option, Some, None, refl, sym, ap, ◌∙◌, arith, subst, append_assoc, append-nil, length-append, take-append-drop, length-drop, inl, inr}
-use Rattle.std.proofs.lemmas.Bool.{cases_eq, and_from, eqb-true}
-use Rattle.std.proofs.lemmas.List.Folds.{list_all-append}
-use Rattle.std.specs.Prelude.{◌==◌}
-use Rattle.std.specs.List.{list_all, list_any, slice_range}
-use Rattle.tl_lanes.specs.declared.limits.TheConstants.{WIDEST}
-use Rattle.tl_trace.specs.Texts.{newline, is_version, header_text, is_kept_line}
-use Rattle.tl_trace.specs.Scripts.{Gone, GoesOn, HasGrown, IsScriptOf, TellsScript, IsHeaderLine, HasLetGo, HasRead, HasReadPast, IsUnfinished, more_gone}
-use Rattle.tl_trace.specs.Faults.{is_newline, cut, body, body_fault, later_fault, header_of, faults, HasHeader, IsFirstFault, IsReadableTo}
-use Rattle.tl_trace.specs.Inner.Reading.{IsPushed, IsReadLine, IsNextPushed, IsSameScript, IsFaultyAt, IsReadableAt, LineAt}
-use Rattle.tl_trace.specs.declared.fault.TraceKind.{TraceKind}
-use Rattle.tl_trace.specs.declared.line.Line.{Line}
-use Rattle.tl_trace.specs.declared.places.TheConstants.{LONGEST_LINE}
-use Rattle.tl_trace.specs.declared.script.Script.{Script}
+use Rattle.tl_trace.proofs.Names.{◌≡◌, ℕ, ◌+◌, ◌-◌, ◌<◌, ◌≤◌, true, ◌&&◌, List, [], ◌∷◌, ◌++◌, length, map, take, drop, replicate, Option, Some, None}
+use Rattle.tl_trace.proofs.Names.{IsPieceRead, OutOfMemory, Result, Ok, Err, ◌≢◌, refl, sym, ap, ◌∙◌, arith, subst, append_assoc, append-nil}
+use Rattle.tl_trace.proofs.Names.{length-append, take-append-drop, length-drop, inl, inr, cases_eq, and_from, list_all-append, list_all, list_any}
+use Rattle.tl_trace.proofs.Names.{slice_range, WIDEST, newline, header_text, is_kept_line, Gone, GoesOn, HasGrown, IsScriptOf, TellsScript}
+use Rattle.tl_trace.proofs.Names.{IsHeaderLine, HasLetGo, HasRead, HasReadPast, IsUnfinished, more_gone, is_newline, cut, body, body_fault}
+use Rattle.tl_trace.proofs.Names.{later_fault, header_of, faults, HasHeader, IsFirstFault, IsReadableTo, IsPushed, IsReadLine, IsNextPushed}
+use Rattle.tl_trace.proofs.Names.{IsSameScript, IsFaultyAt, IsReadableAt, LineAt, TraceKind, Line, LONGEST_LINE, Script, drop_all}
+use Rattle.tl_trace.specs.declared.fault.TraceFault.{TraceFault}
 use Rattle.tl_trace.specs.declared.script.Counts.{Counts}
-use Rattle.tl_trace.proofs.Cover.{says_free, free_between, drop_all}
+use Rattle.tl_trace.proofs.Cover.{says_free, free_between}
 use Rattle.tl_trace.proofs.Faultless.{text_faults}
 use Rattle.tl_trace.proofs.Headers.{header, known, is_header}
 use Rattle.tl_trace.proofs.LongLines.{says_short, long_fault, starts_line}
@@ -170,7 +164,7 @@ module _ {C M : ℕ} (version : ℕ) (piece : List ℕ) (first : Script C M) (li
 
   -- and where it ends with one
   pub left_none : (at : ℕ) → length piece ≤ at → IsUnfinished (drop at piece)
-  left_none at le = subst IsUnfinished (sym (drop_all piece at le)) (record { free = refl; short = omega arith })
+  left_none at le = subst IsUnfinished (sym (drop_all at piece le)) (record { free = refl; short = omega arith })
 
   -- the lines behind those that were read
   later : (s : Script C M) (at before : ℕ) → Walked version piece first line s at before → (done more : List ℕ) (gone : Gone C M) → HasReadPast version done gone first line
@@ -238,6 +232,41 @@ module _ {C M : ℕ} (version : ℕ) (piece : List ℕ) (first : Script C M) (li
       → (done more : List ℕ) (gone : Gone C M) → HasReadPast version done gone first line → IsReadableTo (done ++ piece ++ more) (before + 1)
   unstored_at s at before w u = unstored s at before u.end u.beat w u.line u.read u.inside
 
+  -- a piece that is used up but for a line without its end
+  pub ends : (s : Script C M) (at before : ℕ) → Walked version piece first line s at before → IsUnfinished (drop at piece)
+      → IsPieceRead version piece first line s before (Ok at)
+  ends s at before w rest = record {
+    used = w.within;
+    lines = w.few;
+    rest = rest;
+    grown = λ _. w.grown;
+    told = w.read;
+    fault = λ done more gone r. tt;
+    memory = λ done more gone r. tt;
+    stopped = λ done gone r. tt;
+  }
+
+  -- and one with a line that is refused
+  pub stops : (s s' : Script C M) (at before : ℕ) (kind : TraceKind) → C ≤ WIDEST → M ≤ WIDEST → Walked version piece first line s at before
+      → at < length piece → (kind ≢ OutOfMemory → IsFaultyAt version C M piece at kind) → (kind ≡ OutOfMemory → IsReadableAt version C M piece at) → IsSameScript s s'
+      → IsPieceRead version piece first line s' before (Err (record { line = before + 1; kind = kind }))
+  stops s s' at before kind client manager w lt faulty readable same = record {
+    used = tt;
+    lines = tt;
+    rest = tt;
+    grown = λ ok. absurd cc;
+    told = λ done gone r. tt;
+    fault = λ done more gone r other. refused_at s at before kind client manager w lt (faulty other) done more gone r;
+    memory = λ done more gone r is. unstored_at s at before w (readable is) done more gone r;
+    stopped = λ done gone r. record { used = at; read = (waits s s' at before w same).read done gone r; next = refl };
+  }
+
+-- the same in a version that is this one
+pub of_version : {C M : ℕ} {v w : ℕ} {piece : List ℕ} {before after : Script C M} {line last : ℕ} {r : Result ℕ TraceFault} → v ≡ w
+    → IsPieceRead w piece before line after last r → IsPieceRead v piece before line after last r
+of_version {piece = piece} {before = before} {after = after} {line = line} {last = last} {r = r} same =
+    subst (λ k. IsPieceRead k piece before line after last r) (sym same)
+
 -- the fault of what is left at the end of a text
 pub end_faulty : {C M : ℕ} (version : ℕ) (done rest : List ℕ) (gone : Gone C M) (s : Script C M) (line : ℕ) (kind : TraceKind) → HasReadPast version done gone s line → 0 < length rest → IsFree rest
     → later_fault version C M rest ≡ Some kind → IsFirstFault (done ++ rest) (line + 1) kind
@@ -281,15 +310,6 @@ tells_script version done text s line same r = subst (λ t. TellsScript version 
   told = r.told;
   script = record { a = r.script.a; b = r.script.b; c = r.script.c; d = r.script.d; e = r.script.e };
 })
-
--- the version that is not the first
-pub version_2 : (version : ℕ) → is_version version ≡ true → version ≢ 1 → version ≡ 2
-version_2 version known other = pick (version == 1) refl (version == 2) refl known
-  where
-    pick : (one : Bool) → (version == 1) ≡ one → (two : Bool) → (version == 2) ≡ two → one || (two || false) ≡ true → version ≡ 2
-    pick true is two is' e = absurd (other (eqb-true version 1 is))
-    pick false is true is' e = eqb-true version 2 is'
-    pick false is false is' e = absurd cc
 
 -- ---- beats that are let go
 

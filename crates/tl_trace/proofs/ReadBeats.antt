@@ -1,22 +1,11 @@
 -- Reading beats by channel: what has been read, and one step more.
-use Rattle.std.proofs.Common.{◌≡◌, ℕ, ◌+◌, ◌<◌, false, Result, Ok, Err, arith, List, [], ◌∷◌, ◌++◌, length, drop, take, get_or, subst, Option, None, Some, refl, sym, ap, ◌∙◌, append_assoc}
-use Rattle.std.proofs.lemmas.List.{take_more}
+use Rattle.tl_trace.proofs.Names.{◌≡◌, ℕ, ◌+◌, ◌<◌, false, Result, Ok, Err, arith, List, [], ◌∷◌, ◌++◌, length, drop, take, get_or, subst, Option}
+use Rattle.tl_trace.proofs.Names.{None, Some, refl, sym, ap, ◌∙◌, append_assoc, take_more, filter_map, cons_option, slice_range, option_to_list}
+use Rattle.tl_trace.proofs.Names.{is_err, OnOk, Gone, IsScriptOf, IsRestOf, beat_of_a, beat_of_b, beat_of_c, beat_of_d, beat_of_e, IsPushed, LineAt}
+use Rattle.tl_trace.proofs.Names.{Line, Script, newline, is_newline, body, cases_eq, or_parts, list_any, inl, inr}
 use Rattle.std.proofs.lemmas.List.Elements.{filter_map-append}
-use Rattle.std.specs.List.{filter_map, cons_option, slice_range}
-use Rattle.std.specs.Option.{option_to_list}
-use Rattle.std.specs.Result.{is_err}
-use Rattle.std.specs.Prelude.{OnOk}
-use Rattle.tl_trace.specs.Scripts.{Gone, IsScriptOf, IsRestOf, beat_of_a, beat_of_b, beat_of_c, beat_of_d, beat_of_e}
-use Rattle.tl_trace.specs.Inner.Reading.{IsPushed, LineAt}
-use Rattle.tl_trace.specs.declared.line.Line.{Line}
-use Rattle.tl_trace.specs.declared.script.Script.{Script}
-use Rattle.tl_trace.specs.Texts.{newline}
-use Rattle.tl_trace.specs.Faults.{is_newline, body}
 use Rattle.tl_trace.proofs.ReadLines.{IsFree, body_last}
 use Rattle.tl_trace.proofs.Walk.{free_line, split_line, last_line}
-use Rattle.std.proofs.lemmas.Bool.{cases_eq, or_parts}
-use Rattle.std.specs.List.{list_any}
-use Rattle.std.proofs.Common.{inl, inr}
 
 one : {X : Type 0} (o : Option X) → cons_option o [] ≡ option_to_list o
 one None = refl

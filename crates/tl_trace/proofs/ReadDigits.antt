@@ -1,37 +1,36 @@
 -- Numbers read without a test of each digit: a bad digit shows in the bits above the lowest four.
-use Rattle.std.proofs.Common.{◌≡◌, ℕ, zero, suc, ◌+◌, ◌-◌, ◌*◌, ◌%◌, ◌^◌, ◌<◌, ◌≤◌, Bool, true, false, cond, nat_eq, nat_lt, ◌&&◌, List, [], ◌∷◌, ◌++◌, length, length-append, get_or, set, take, drop, replicate, Option, Some, None, refl, sym, ap, ◌∙◌, add-one, arith, eq-eqb, subst, bit_or}
-use Rattle.std.proofs.Math.Nat.{pow-suc}
-use Rattle.std.proofs.lemmas.Nat.{pow-add}
-use Rattle.std.proofs.lemmas.Bool.{eqb-true, lt-ltb, ltb-true, ltb-false, and_parts, and_from}
-use Rattle.std.proofs.lemmas.Nat.{le_or_l, le_or_r, or_lt}
-use Rattle.std.proofs.lemmas.List.{take-append-drop, take_all, length-set, length-replicate, length-take-le, length-drop}
-use Rattle.std.specs.List.{list_all, slice_range, slice_index}
-use Rattle.std.specs.Str.Parse.{digits_value, digits_value_after}
-use Rattle.std.specs.Char.{digit_value}
-use Rattle.std.proofs.lemmas.List.Folds.{list_all-append}
-use Rattle.tl_trace.specs.Fields.{number_of_lanes}
-use Rattle.tl_trace.specs.Lines.{is_hex, is_lanes}
-use Rattle.tl_trace.specs.Inner.Reading.{digit_of, number_of, field_at, IsNumber, IsPair, IsSpelt}
+use Rattle.tl_trace.proofs.Names.{◌≡◌, ℕ, zero, suc, ◌+◌, ◌-◌, ◌*◌, ◌%◌, ◌^◌, ◌<◌, ◌≤◌, Bool, true, false, cond, nat_eq, nat_lt, List, [], ◌∷◌, ◌++◌}
+use Rattle.tl_trace.proofs.Names.{length, length-append, get_or, set, take, drop, replicate, Option, Some, None, refl, sym, ap, ◌∙◌, add-one, arith}
+use Rattle.tl_trace.proofs.Names.{eq-eqb, subst, bit_or, inl, inr, pow-suc, pow-add, eqb-true, lt-ltb, ltb-true, ltb-false, and_parts, and_from}
+use Rattle.tl_trace.proofs.Names.{cases_lt, and_left, and_right, le_or_l, le_or_r, or_lt, take-append-drop, take_all, length-set, length-replicate}
+use Rattle.tl_trace.proofs.Names.{length-take-le, length-drop, drop-set, list_all, slice_range, slice_index, digits_value, digits_value_after}
+use Rattle.tl_trace.proofs.Names.{digit_value, list_all-append, number_of_lanes, is_hex, is_lanes, digit_of, number_of, field_at, IsNumber, IsPair}
+use Rattle.tl_trace.proofs.Names.{IsSpelt, nat_tests}
 use Rattle.tl_trace.proofs.HexDigits.{room, wider, step, fails, is_done}
 
 -- ---- bad digits
 
-pub left_good : (x y : ℕ) → bit_or x y ≤ 15 → x ≤ 15
+pub left_good : {most : ℕ} (x y : ℕ) → bit_or x y ≤ most → x ≤ most
 left_good x y le = omega (arith, le_or_l x y, le)
 
-pub right_good : (x y : ℕ) → bit_or x y ≤ 15 → y ≤ 15
+pub right_good : {most : ℕ} (x y : ℕ) → bit_or x y ≤ most → y ≤ most
 right_good x y le = omega (arith, le_or_r x y, le)
 
+-- where two numbers together are above a limit, one of them is
+bad_of : {A : Type 0} (k most x y : ℕ) → most + 1 ≡ 2 ^ k → most < bit_or x y → (most < x → A) → (most < y → A) → A
+bad_of {A} k most x y power lt left right = elim (cases_lt most x) [
+  | inl big ↦ left big
+  | inr few ↦ elim (cases_lt most y) [
+    | inl big ↦ right big
+    | inr few' ↦ absurd (omega (arith, or_lt k x y (omega (arith, few, power)) (omega (arith, few', power)), power, lt))
+  ]
+]
+
 pub bad_or : {A : Type 0} (x y : ℕ) → 15 < bit_or x y → (15 < x → A) → (15 < y → A) → A
-bad_or {A} x y lt left right = pick (nat_lt 15 x) (nat_lt 15 y) refl refl
-  where
-    pick : (p q : Bool) → nat_lt 15 x ≡ p → nat_lt 15 y ≡ q → A
-    pick true q e e' = left (ltb-true 15 x e)
-    pick false true e e' = right (ltb-true 15 y e')
-    pick false false e e' =
-        let few : x < 2 ^ 4 = omega (arith, ltb-false 15 x e) in
-        let few' : y < 2 ^ 4 = omega (arith, ltb-false 15 y e') in
-        absurd (omega (arith, or_lt 4 x y few few', lt))
+bad_or x y = bad_of 4 15 x y refl
+
+bad_pairs : {A : Type 0} (x y : ℕ) → 255 < bit_or x y → (255 < x → A) → (255 < y → A) → A
+bad_pairs x y = bad_of 8 255 x y refl
 
 none_either : {A : Type 0} (b : Bool) (o : Option A) → o ≡ None → cond b o None ≡ None
 none_either true o e = e
@@ -164,17 +163,10 @@ spelt_both xs ys a b bad bad' sixteen x y = record {
       subst P (sym (ap (λ (k : ℕ). 16 ^ k) long ∙ power ∙ ap (λ (k : ℕ). 16 ^ length xs * 16 ^ k) sixteen)) here;
   none = λ big.
       let out : list_all is_hex (xs ++ ys) ≡ false = list_all-append is_hex xs ys ∙ bad_or bad bad' big
-      (λ worse. and_no_left (list_all is_hex xs) (list_all is_hex ys) (number_bad xs (x.none worse)))
-      (λ worse. and_no_right (list_all is_hex xs) (list_all is_hex ys) (number_bad ys (y.none worse))) in
+      (λ worse. and_left (list_all is_hex xs) (list_all is_hex ys) (number_bad xs (x.none worse)))
+      (λ worse. and_right (list_all is_hex xs) (list_all is_hex ys) (number_bad ys (y.none worse))) in
       rw out refl;
 }
-  where
-    and_no_left : (p q : Bool) → p ≡ false → p && q ≡ false
-    and_no_left p q none = rw none refl
-
-    and_no_right : (p q : Bool) → q ≡ false → p && q ≡ false
-    and_no_right true q none = none
-    and_no_right false q none = refl
 
 -- digits whose last 16 are read apart from those before them
 pub spelt_split : (ds : List ℕ) (m a b bad bad' : ℕ) → m + 16 ≡ length ds → IsSpelt (take m ds) a bad → IsSpelt (slice_range ds m (length ds)) b bad' → IsSpelt ds (a * 2 ^ 64 + b) (bit_or bad bad')
@@ -186,15 +178,15 @@ spelt_split ds m a b bad bad' is high low =
 
 -- ---- lanes
 
+pub lanes_parts : (n : ℕ) (lanes : List ℕ) → is_lanes n lanes ≡ true → (length lanes ≡ n) × (list_all (λ lane. nat_lt lane 256) lanes ≡ true)
+lanes_parts n lanes all =
+    let both = and_parts (nat_eq (length lanes) n) (list_all (λ lane. nat_lt lane 256) lanes) all in
+    (eqb-true (length lanes) n both.0, both.1)
+
 pub zero_lanes : (lanes : List ℕ) (w : ℕ) → number_of_lanes lanes ≡ 0 → number_of_lanes (drop w lanes) ≡ 0
 zero_lanes lanes zero e = e
 zero_lanes [] (suc w) e = refl
 zero_lanes (lane ∷ lanes) (suc w) e = zero_lanes lanes w (omega arith)
-
-pub drop_set : (lanes : List ℕ) (i v : ℕ) → i < length lanes → drop i (set lanes i v) ≡ v ∷ drop (suc i) lanes
-drop_set [] i v lt = absurd (omega arith)
-drop_set (lane ∷ lanes) zero v lt = refl
-drop_set (lane ∷ lanes) (suc i) v lt = drop_set lanes i v (omega arith)
 
 pub bytes_set : (lanes : List ℕ) (i v : ℕ) → v < 256 → list_all (λ lane. nat_lt lane 256) lanes ≡ true → list_all (λ lane. nat_lt lane 256) (set lanes i v) ≡ true
 bytes_set [] i v lt e = refl
@@ -214,12 +206,9 @@ zero_are w =
 pub squares : (w : ℕ) → 256 ^ w ≡ 16 ^ (2 * w)
 squares zero = refl
 squares (suc w) =
-    let e : 2 * suc w ≡ suc (suc (2 * w)) = omega arith in
-    let one : 256 ^ suc w ≡ 256 ^ w * 256 = pow-suc 256 w in
-    let two : 16 ^ suc (suc (2 * w)) ≡ 16 ^ suc (2 * w) * 16 = pow-suc 16 (suc (2 * w)) in
-    let three : 16 ^ suc (2 * w) ≡ 16 ^ (2 * w) * 16 = pow-suc 16 (2 * w) in
-    let rest = squares w in
-    omega (arith, one, two, three, rest) ∙ ap (λ (n : ℕ). 16 ^ n) (sym e)
+    let more : 2 * suc w ≡ 2 * w + 2 = omega arith in
+    let power : 16 ^ (2 * w + 2) ≡ 16 ^ (2 * w) * 256 = pow-add 16 (2 * w) 2 in
+    omega (arith, pow-suc 256 w, power, squares w) ∙ ap (λ (n : ℕ). 16 ^ n) (sym more)
 
 -- ---- pairs
 
@@ -258,36 +247,8 @@ pair_bad h l high low high_is low_is big le = pick (nat_lt 255 high) (nat_lt 255
         let y = (low_parts l low low_is).1 (omega (arith, ltb-false 255 low e')) in
         absurd (omega (arith, x.1, y.1, y.0, le, big))
 
-left_pairs : (x y : ℕ) → bit_or x y ≤ 255 → x ≤ 255
-left_pairs x y le = omega (arith, le_or_l x y, le)
-
-right_pairs : (x y : ℕ) → bit_or x y ≤ 255 → y ≤ 255
-right_pairs x y le = omega (arith, le_or_r x y, le)
-
-bad_pairs : {A : Type 0} (x y : ℕ) → 255 < bit_or x y → (255 < x → A) → (255 < y → A) → A
-bad_pairs {A} x y lt left right = pick (nat_lt 255 x) (nat_lt 255 y) refl refl
-  where
-    pick : (p q : Bool) → nat_lt 255 x ≡ p → nat_lt 255 y ≡ q → A
-    pick true q e e' = left (ltb-true 255 x e)
-    pick false true e e' = right (ltb-true 255 y e')
-    pick false false e e' =
-        let few : x < 2 ^ 8 = omega (arith, ltb-false 255 x e) in
-        let few' : y < 2 ^ 8 = omega (arith, ltb-false 255 y e') in
-        absurd (omega (arith, or_lt 8 x y few few', lt))
-
-marked_good : (pairs bad : ℕ) → bad ≡ cond (nat_lt 255 pairs) 16 0 → bad ≤ 15 → pairs ≤ 255
-marked_good pairs bad is le = pick (nat_lt 255 pairs) refl is
-  where
-    pick : (b : Bool) → nat_lt 255 pairs ≡ b → bad ≡ cond b 16 0 → pairs ≤ 255
-    pick true e is = absurd (omega (arith, is, le))
-    pick false e is = omega (arith, ltb-false 255 pairs e)
-
-marked_bad : (pairs bad : ℕ) → bad ≡ cond (nat_lt 255 pairs) 16 0 → 15 < bad → 255 < pairs
-marked_bad pairs bad is lt = pick (nat_lt 255 pairs) refl is
-  where
-    pick : (b : Bool) → nat_lt 255 pairs ≡ b → bad ≡ cond b 16 0 → 255 < pairs
-    pick true e is = ltb-true 255 pairs e
-    pick false e is = absurd (omega (arith, is, lt))
+marked : (pairs bad : ℕ) → bad ≡ cond (nat_lt 255 pairs) 16 0 → (bad ≤ 15 → pairs ≤ 255) × (15 < bad → 255 < pairs)
+marked pairs bad is = (λ le. grind (arith, nat_tests), λ lt. grind (arith, nat_tests))
 
 -- where a pair has no value there is no number
 unspelt_pair : (ds : List ℕ) (i pair : ℕ) → 2 * i + 1 < length ds → (255 < pair → digit_of (get_or ds (2 * i) 0) ≤ 15 → 15 < digit_of (get_or ds (2 * i + 1) 0)) → 255 < pair → number_of ds ≡ None
@@ -327,7 +288,7 @@ pub pairs_more : (ds : List ℕ) (i n pairs pair : ℕ) → 2 * i + 1 < length d
     → (255 < pair → digit_of (get_or ds (2 * i) 0) ≤ 15 → 15 < digit_of (get_or ds (2 * i + 1) 0))
     → Pairs ds (i + 1) ((n * 256 % 2 ^ 64 + pair) % 2 ^ 64) (bit_or pairs pair)
 pairs_more ds i n pairs pair lt few f good bad = record {
-  spelt = λ le. spelt_pair ds i n pair lt few (f.spelt (left_pairs pairs pair le)) (good (right_pairs pairs pair le));
+  spelt = λ le. spelt_pair ds i n pair lt few (f.spelt (left_good pairs pair le)) (good (right_good pairs pair le));
   spoilt = λ big. bad_pairs pairs pair big f.spoilt (unspelt_pair ds i pair lt bad);
 }
 
@@ -335,9 +296,9 @@ pub pairs_done : (ds : List ℕ) (i n pairs mark : ℕ) → 2 * i ≡ length ds 
 pairs_done ds i n pairs mark same f marks =
     let P : ℕ → Type 0 = λ k. n < 16 ^ k in
     record {
-      good = λ good. let s = f.spelt (marked_good pairs mark marks good) in is_done ds (2 * i) n (omega (arith, same)) s.good s.value;
-      small = λ good. subst P same (f.spelt (marked_good pairs mark marks good)).small;
-      none = λ big. f.spoilt (marked_bad pairs mark marks big);
+      good = λ good. let s = f.spelt ((marked pairs mark marks).0 good) in is_done ds (2 * i) n (omega (arith, same)) s.good s.value;
+      small = λ good. subst P same (f.spelt ((marked pairs mark marks).0 good)).small;
+      none = λ big. f.spoilt ((marked pairs mark marks).1 big);
     }
 
 -- lanes so far, from the highest
@@ -355,11 +316,10 @@ pub record Lanes (text lanes : List ℕ) (n at w i pairs : ℕ) : Type 0 where
 
 pub lanes_start : (text lanes : List ℕ) (n at w : ℕ) → is_lanes n lanes ≡ true → number_of_lanes lanes ≡ 0 → Lanes text lanes n at w 0 0
 lanes_start text lanes n at w all dark =
-    let long : length lanes ≡ n = eqb-true (length lanes) n (and_parts (nat_eq (length lanes) n) (list_all (λ lane. nat_lt lane 256) lanes) all).0 in
-    let bytes = (and_parts (nat_eq (length lanes) n) (list_all (λ lane. nat_lt lane 256) lanes) all).1 in
+    let parts = lanes_parts n lanes all in
     let whole : w - 0 ≡ w = omega arith in
     let none : number_of_lanes (drop (w - 0) lanes) ≡ 0 = ap (λ (k : ℕ). number_of_lanes (drop k lanes)) whole ∙ zero_lanes lanes w dark in
-    record { long = long; bytes = bytes; laid = λ le. record { small = omega (arith, none); good = refl; value = none }; spoilt = λ lt. absurd (omega (arith, lt)) }
+    record { long = parts.0; bytes = parts.1; laid = λ le. record { small = omega (arith, none); good = refl; value = none }; spoilt = λ lt. absurd (omega (arith, lt)) }
 
 laid_more : (ds lanes : List ℕ) (w i high low : ℕ) → i < w → w ≤ length lanes → length ds ≡ 2 * w → Laid ds lanes w i
     → high ≡ digit_of (get_or ds (2 * i) 0) → high ≤ 15 → low ≡ digit_of (get_or ds (2 * i + 1) 0) → low ≤ 15
@@ -370,9 +330,9 @@ laid_more ds lanes w i high low lt wide long far h h_le l l_le =
     let two = step ds (2 * i + 1) (number * 16 + high) low (omega arith) one.0 one.1 l l_le in
     let twice : 2 * (i + 1) ≡ 2 * i + 1 + 1 = omega arith in
     let place : w - (i + 1) ≡ w - 1 - i = omega arith in
-    let after : suc (w - 1 - i) ≡ w - i = omega arith in
-    let within : w - 1 - i < length lanes = omega (arith, wide) in
-    let is : drop (w - 1 - i) (set lanes (w - 1 - i) (high * 16 + low)) ≡ (high * 16 + low) ∷ drop (w - i) lanes = drop_set lanes (w - 1 - i) (high * 16 + low) within ∙ ap (λ (k : ℕ). (high * 16 + low) ∷ drop k lanes) after in
+    let after : w - 1 - i + 1 ≡ w - i = omega arith in
+    let is : drop (w - 1 - i) (set lanes (w - 1 - i) (high * 16 + low)) ≡ (high * 16 + low) ∷ drop (w - i) lanes =
+    drop-set lanes (w - 1 - i) (high * 16 + low) (omega (arith, wide)) ∙ ap (λ (k : ℕ). (high * 16 + low) ∷ drop k lanes) after in
     record {
       small =
           let most : 256 ^ suc i ≡ 256 ^ i * 256 = pow-suc 256 i in
@@ -394,13 +354,13 @@ lanes_more text lanes n at w i pairs pair lt most long far good bad =
       long = length-set lanes (w - 1 - i) (pair % 256) ∙ far.long;
       bytes = bytes_set lanes (w - 1 - i) (pair % 256) (omega arith) far.bytes;
       laid = λ le.
-          let small = right_pairs pairs pair le in
+          let small = right_good pairs pair le in
           let p = good small in
           let high = digit_of (get_or ds (2 * i) 0) in
           let low = digit_of (get_or ds (2 * i + 1) 0) in
           let same : pair % 256 ≡ high * 16 + low = omega (arith, p.is, small) in
           let P : ℕ → Type 0 = λ v. Laid ds (set lanes (w - 1 - i) v) w (i + 1) in
-          subst P (sym same) (laid_more ds lanes w i high low lt (omega (arith, far.long)) long (far.laid (left_pairs pairs pair le)) refl p.high refl p.low);
+          subst P (sym same) (laid_more ds lanes w i high low lt (omega (arith, far.long)) long (far.laid (left_good pairs pair le)) refl p.high refl p.low);
       spoilt = λ big. bad_pairs pairs pair big far.spoilt (unspelt_pair ds i pair (omega (arith, long)) bad);
     }
 
@@ -419,17 +379,14 @@ lanes_done text lanes n at w i pairs space mark le ge fits far stands marks =
     let Q : ℕ → Type 0 = λ k. number_of_lanes lanes < 16 ^ k in
     spelt_after text at (2 * w) (number_of_lanes lanes) space mark fits stands (record {
       good = λ good.
-          let laid = far.laid (marked_good pairs mark marks good) in
+          let laid = far.laid ((marked pairs mark marks).0 good) in
           is_done ds (2 * i) (number_of_lanes lanes) (omega (arith, long)) laid.good (sym here ∙ laid.value);
       small = λ good.
-          let laid = far.laid (marked_good pairs mark marks good) in
+          let laid = far.laid ((marked pairs mark marks).0 good) in
           let small : number_of_lanes lanes < 256 ^ i = omega (arith, here, laid.small) in
-          subst Q (sym long) (powers w (number_of_lanes lanes) (subst P same small));
-      none = λ big. far.spoilt (marked_bad pairs mark marks big);
+          subst Q (sym long) (subst (λ k. number_of_lanes lanes < k) (squares w) (subst P same small));
+      none = λ big. far.spoilt ((marked pairs mark marks).1 big);
     })
-  where
-    powers : (w n : ℕ) → n < 256 ^ w → n < 16 ^ (2 * w)
-    powers w n lt = let e = squares w in omega (arith, e, lt)
 
 pub lanes_small : (w n : ℕ) → n < 16 ^ (2 * w) → n < 256 ^ w
 lanes_small w n lt = let e = squares w in omega (arith, e, lt)

@@ -1,57 +1,41 @@
 -- A later line, and the walk over the lines of a text.
-use Rattle.std.proofs.Common.{◌≡◌, ◌≢◌, ℕ, zero, suc, ◌+◌, ◌<◌, ◌≤◌, true, false, ◌&&◌, List, [], ◌∷◌, ◌++◌, length, map, get_or, take, drop, replicate, Option, Some, None, is_none, refl, sym, ap, ◌∙◌, arith, append_assoc, append-nil, add-one}
-use Rattle.std.specs.List.{list_all, list_any, slice_range, slice_get, slice_index}
-use Rattle.std.proofs.lemmas.Bool.{and_parts, or_parts, or_right}
-use Rattle.tl_msg.specs.declared.beat.BeatOf.{BeatOf}
-use Rattle.tl_msg.specs.declared.head.HeadA.{HeadA}
-use Rattle.tl_msg.specs.declared.head.HeadB.{HeadB}
-use Rattle.tl_msg.specs.declared.head.HeadC.{HeadC}
-use Rattle.tl_msg.specs.declared.head.HeadD.{HeadD}
-use Rattle.tl_msg.specs.declared.head.HeadE.{HeadE}
-use Rattle.tl_trace.specs.Fields.{Form, form_a, form_b, form_c, form_d, form_e}
-use Rattle.tl_trace.specs.Lines.{is_lanes, is_writable, is_plain, is_kept}
-use Rattle.tl_trace.specs.Texts.{newline, SaysLine, TellsLines, is_kept_line}
-use Rattle.tl_trace.specs.Faults.{is_newline, onto_first, cut, body, end_fault, form_fault, body_fault, later_fault, faults, IsFirstFault, IsReadableTo}
-use Rattle.tl_trace.specs.Inner.Reading.{IsRead, IsReadLine}
-use Rattle.tl_trace.specs.declared.line.Line.{Line}
-use Rattle.tl_trace.specs.declared.line.Line.TheVariants.{A, B, C, D, E}
-use Rattle.tl_trace.specs.declared.fault.TraceKind.{TraceKind}
-use Rattle.tl_trace.specs.declared.fault.TraceKind.TheVariants.{NoEnd}
-use Rattle.tl_trace.proofs.Shaped.{faultless}
-use Rattle.tl_lanes.specs.declared.limits.TheConstants.{WIDEST}
-
-pub kept_writable : {H : Type 0} (f : Form H) {n : ℕ} (w : ℕ) (b : BeatOf H n) → is_kept f w b ≡ true → is_writable f w b ≡ true
-kept_writable f {n} w b kept = (and_parts (is_writable f w b) (is_plain f b) (and_parts (is_lanes n b.lanes) (is_writable f w b && is_plain f b) kept).1).0
+use Rattle.tl_trace.proofs.Names.{◌≡◌, ◌≢◌, ℕ, zero, suc, ◌+◌, ◌<◌, ◌≤◌, true, false, List, [], ◌∷◌, ◌++◌, length, map, get_or, take, drop, replicate}
+use Rattle.tl_trace.proofs.Names.{Option, Some, None, is_none, refl, sym, ap, ◌∙◌, arith, append_assoc, append-nil, add-one, list_all, list_any}
+use Rattle.tl_trace.proofs.Names.{slice_range, slice_get, slice_index, or_parts, or_right, BeatOf, HeadA, HeadB, HeadC, HeadD, HeadE, form_a, form_b}
+use Rattle.tl_trace.proofs.Names.{form_c, form_d, form_e, newline, SaysLine, TellsLines, is_kept_line, is_newline, onto_first, cut, body, end_fault}
+use Rattle.tl_trace.proofs.Names.{form_fault, body_fault, later_fault, faults, IsFirstFault, IsReadableTo, IsRead, IsReadLine, Line, A, B, C, D, E}
+use Rattle.tl_trace.proofs.Names.{TraceKind, NoEnd, WIDEST}
+use Rattle.tl_trace.proofs.Shaped.{faultless, kept_parts}
 
 pub fault_a : (version client manager : ℕ) (text : List ℕ) (kind : TraceKind) → slice_index text 0 ≡ 65 → form_fault (form_a version) client text ≡ Some kind → body_fault version client manager text ≡ Some kind
 fault_a version client manager text kind letter fault = rw letter fault
 
 pub read_as_a : (version client manager : ℕ) (text : List ℕ) (b : BeatOf HeadA WIDEST) → IsRead (form_a version) client text b → IsReadLine version client manager text (A b)
-read_as_a version client manager text b r = record { says = r.line; kept = r.kept; faultless = rw r.line.letter (faultless (form_a version) client b text r.line (kept_writable (form_a version) client b r.kept)) }
+read_as_a version client manager text b r = record { says = r.line; kept = r.kept; faultless = rw r.line.letter (faultless (form_a version) client b text r.line (kept_parts (form_a version) client b r.kept).1) }
 
 pub fault_b : (version client manager : ℕ) (text : List ℕ) (kind : TraceKind) → slice_index text 0 ≡ 66 → form_fault (form_b version) manager text ≡ Some kind → body_fault version client manager text ≡ Some kind
 fault_b version client manager text kind letter fault = rw letter fault
 
 pub read_as_b : (version client manager : ℕ) (text : List ℕ) (b : BeatOf HeadB WIDEST) → IsRead (form_b version) manager text b → IsReadLine version client manager text (B b)
-read_as_b version client manager text b r = record { says = r.line; kept = r.kept; faultless = rw r.line.letter (faultless (form_b version) manager b text r.line (kept_writable (form_b version) manager b r.kept)) }
+read_as_b version client manager text b r = record { says = r.line; kept = r.kept; faultless = rw r.line.letter (faultless (form_b version) manager b text r.line (kept_parts (form_b version) manager b r.kept).1) }
 
 pub fault_c : (version client manager : ℕ) (text : List ℕ) (kind : TraceKind) → slice_index text 0 ≡ 67 → form_fault (form_c version) client text ≡ Some kind → body_fault version client manager text ≡ Some kind
 fault_c version client manager text kind letter fault = rw letter fault
 
 pub read_as_c : (version client manager : ℕ) (text : List ℕ) (b : BeatOf HeadC WIDEST) → IsRead (form_c version) client text b → IsReadLine version client manager text (C b)
-read_as_c version client manager text b r = record { says = r.line; kept = r.kept; faultless = rw r.line.letter (faultless (form_c version) client b text r.line (kept_writable (form_c version) client b r.kept)) }
+read_as_c version client manager text b r = record { says = r.line; kept = r.kept; faultless = rw r.line.letter (faultless (form_c version) client b text r.line (kept_parts (form_c version) client b r.kept).1) }
 
 pub fault_d : (version client manager : ℕ) (text : List ℕ) (kind : TraceKind) → slice_index text 0 ≡ 68 → form_fault (form_d version) manager text ≡ Some kind → body_fault version client manager text ≡ Some kind
 fault_d version client manager text kind letter fault = rw letter fault
 
 pub read_as_d : (version client manager : ℕ) (text : List ℕ) (b : BeatOf HeadD WIDEST) → IsRead (form_d version) manager text b → IsReadLine version client manager text (D b)
-read_as_d version client manager text b r = record { says = r.line; kept = r.kept; faultless = rw r.line.letter (faultless (form_d version) manager b text r.line (kept_writable (form_d version) manager b r.kept)) }
+read_as_d version client manager text b r = record { says = r.line; kept = r.kept; faultless = rw r.line.letter (faultless (form_d version) manager b text r.line (kept_parts (form_d version) manager b r.kept).1) }
 
 pub fault_e : (version client manager : ℕ) (text : List ℕ) (kind : TraceKind) → slice_index text 0 ≡ 69 → form_fault (form_e version) client text ≡ Some kind → body_fault version client manager text ≡ Some kind
 fault_e version client manager text kind letter fault = rw letter fault
 
 pub read_as_e : (version client manager : ℕ) (text : List ℕ) (b : BeatOf HeadE WIDEST) → IsRead (form_e version) client text b → IsReadLine version client manager text (E b)
-read_as_e version client manager text b r = record { says = r.line; kept = r.kept; faultless = rw r.line.letter (faultless (form_e version) client b text r.line (kept_writable (form_e version) client b r.kept)) }
+read_as_e version client manager text b r = record { says = r.line; kept = r.kept; faultless = rw r.line.letter (faultless (form_e version) client b text r.line (kept_parts (form_e version) client b r.kept).1) }
 
 -- ---- cutting
 

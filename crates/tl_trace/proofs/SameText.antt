@@ -1,12 +1,8 @@
 -- Two texts are the same where their words are.
-use Rattle.std.proofs.Common.{◌≡◌, ◌≤◌, ◌<◌, ◌+◌, ◌-◌, ◌*◌, ℕ, suc, List, [], ◌∷◌, ◌++◌, length, get_or, take, drop, inl, inr, drop-cons, refl, sym, ap, ◌∙◌, arith}
+use Rattle.tl_trace.proofs.Names.{◌≡◌, ◌≤◌, ◌<◌, ◌+◌, ◌-◌, ◌*◌, ℕ, suc, List, [], ◌∷◌, ◌++◌, length, get_or, take, drop, inl, inr, drop-cons, refl}
+use Rattle.tl_trace.proofs.Names.{sym, ap, ◌∙◌, arith, take-add, cases_lt, get_or-take, get_or-drop, take-take, take-append-drop, take_all}
+use Rattle.tl_trace.proofs.Names.{length-take, length-drop, le_bytes_8, w64, from_le_bytes, to_le_bytes, slice_range}
 use Rattle.std.proofs.Math.ListN.{get_or-eq_default}
-use Rattle.std.proofs.Math.Seq.{take-add}
-use Rattle.std.proofs.lemmas.Bool.{cases_lt}
-use Rattle.std.proofs.lemmas.List.{get_or-take, get_or-drop, take-take, take-append-drop, take_all, length-take, length-drop}
-use Rattle.std.proofs.lemmas.Nat.{le_bytes_8}
-use Rattle.std.specs.Int.{w64, from_le_bytes, to_le_bytes}
-use Rattle.std.specs.List.{slice_range}
 use Rattle.tl_trace.proofs.ReadDigits.{range_long}
 
 take_bytes : (xs : List ℕ) (n : ℕ) → ((k : ℕ) → get_or xs k 0 < 256) → (k : ℕ) → get_or (take n xs) k 0 < 256

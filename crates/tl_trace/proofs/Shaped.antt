@@ -1,13 +1,9 @@
 -- From the fields of a line to what the line says, once for the form of every channel.
-use Rattle.std.proofs.Common.{◌≡◌, ◌≢◌, ℕ, zero, suc, ◌+◌, ◌≤◌, Bool, true, false, cond, nat_eq, nat_lt, ◌&&◌, ◌||◌, List, [], ◌∷◌, length, map, Option, Some, None, is_none, refl, sym, ap, ◌∙◌, arith, eq-eqb}
-use Rattle.std.proofs.lemmas.Bool.{and_from, and_left, and_right}
-use Rattle.std.specs.List.{list_all, list_any, slice_index}
-use Rattle.tl_msg.specs.declared.beat.BeatOf.{BeatOf}
-use Rattle.tl_trace.specs.declared.fault.TraceKind.TheVariants.{Length, Shape, Range}
-use Rattle.tl_trace.specs.Fields.{Field, Form, bit, digit_count, fields, values, value_of, line_length}
-use Rattle.tl_trace.specs.Lines.{FieldPlace, places_from, places, is_hex, digits_at, is_shaped_at, value_at, is_in_range, is_lanes, IsLine, is_writable, is_plain}
-use Rattle.tl_trace.specs.Faults.{form_fault}
-use Rattle.tl_trace.specs.Inner.Reading.{number_of, field_at, fields_from, IsRead}
+use Rattle.tl_trace.proofs.Names.{◌≡◌, ◌≢◌, ℕ, zero, suc, ◌+◌, ◌≤◌, Bool, true, false, cond, nat_eq, nat_lt, ◌&&◌, ◌||◌, List, [], ◌∷◌, length, map}
+use Rattle.tl_trace.proofs.Names.{Option, Some, None, is_none, refl, sym, ap, ◌∙◌, arith, eq-eqb, and_from, and_left, and_right, and_parts, list_all}
+use Rattle.tl_trace.proofs.Names.{list_any, slice_index, BeatOf, Length, Shape, Range, Field, Form, bit, digit_count, fields, values, value_of}
+use Rattle.tl_trace.proofs.Names.{line_length, FieldPlace, places_from, places, is_hex, digits_at, is_shaped_at, value_at, is_in_range, is_lanes}
+use Rattle.tl_trace.proofs.Names.{IsLine, is_writable, is_plain, is_kept, form_fault, number_of, field_at, fields_from, IsRead}
 
 guarded : {A : Type 0} (a b : Bool) (x v : A) → cond a (cond b (Some x) None) None ≡ Some v → (a && b ≡ true) × (x ≡ v)
 guarded true true x v e = (refl, cc)
@@ -87,6 +83,13 @@ beat_below f w b (field ∷ more) (v ∷ vs) e =
 -- a line and its beat have the same values in range
 pub same_range : {H : Type 0} (f : Form H) {n : ℕ} (w : ℕ) (b : BeatOf H n) (text : List ℕ) → IsLine f w b text → is_in_range f w text ≡ is_writable f w b
 same_range f w b text line = text_below f w 1 text (fields f) _ line.says ∙ sym (beat_below f w b (fields f) (map (value_of f b) (fields f)) refl)
+
+-- what is known of a beat as a trace keeps it
+pub kept_parts : {H : Type 0} (f : Form H) {n : ℕ} (w : ℕ) (b : BeatOf H n) → is_kept f w b ≡ true → (is_lanes n b.lanes ≡ true) × (is_writable f w b ≡ true) × (is_plain f b ≡ true)
+kept_parts f {n} w b kept =
+    let first = and_parts (is_lanes n b.lanes) (is_writable f w b && is_plain f b) kept in
+    let rest = and_parts (is_writable f w b) (is_plain f b) first.1 in
+    (first.0, rest.0, rest.1)
 
 pub made : {H : Type 0} (f : Form H) {n : ℕ} (w : ℕ) (b : BeatOf H n) (text : List ℕ) (vs : List ℕ) → slice_index text 0 ≡ f.rules.letter → length text ≡ line_length f w
     → fields_from w text 1 (fields f) ≡ map Some vs → map (value_of f b) (fields f) ≡ vs → below f w (fields f) vs ≡ true → is_lanes n b.lanes ≡ true → is_plain f b ≡ true → IsRead f w text b

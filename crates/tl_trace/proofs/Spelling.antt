@@ -1,31 +1,23 @@
 -- The text of a beat is the only line that says it.
-use Rattle.std.proofs.Common.{◌≡◌, ℕ, zero, suc, ◌+◌, ◌-◌, ◌*◌, ◌/◌, ◌%◌, ◌^◌, ◌<◌, ◌≤◌, true, nat_eq, nat_lt, ◌&&◌, List, [], ◌∷◌, ◌++◌, length, map, get_or, take, drop, refl, sym, ap, ◌∙◌, arith, append_assoc, length-append, eq-eqb, lit≤}
-use Rattle.std.proofs.Math.Nat.{pow-suc, pow-le-pow_right}
-use Rattle.std.proofs.Math.Seq.{get_or-append_seam, take-append_seam, drop-append_seam}
-use Rattle.std.proofs.lemmas.Bool.{ltb-true, and_parts, and_from}
-use Rattle.std.proofs.lemmas.Bool.Decides.{nat_tests}
-use Rattle.std.proofs.lemmas.List.{length-take-le, length-drop}
-use Rattle.std.proofs.lemmas.List.Folds.{list_all-append}
+use Rattle.tl_trace.proofs.Names.{◌≡◌, ℕ, zero, suc, ◌+◌, ◌-◌, ◌*◌, ◌/◌, ◌%◌, ◌^◌, ◌<◌, ◌≤◌, true, nat_eq, nat_lt, ◌&&◌, List, [], ◌∷◌, ◌++◌, length}
+use Rattle.tl_trace.proofs.Names.{map, get_or, take, drop, refl, sym, ap, ◌∙◌, arith, append_assoc, length-append, eq-eqb, lit≤, pow-suc}
+use Rattle.tl_trace.proofs.Names.{pow-le-pow_right, get_or-append_seam, take-append_seam, drop-append_seam, ltb-true, and_parts, and_from, nat_tests}
+use Rattle.tl_trace.proofs.Names.{length-take-le, length-drop, take_all, take_more, list_all-append, list_all, flat_map, slice_range, slice_index}
+use Rattle.tl_trace.proofs.Names.{digits_value, digit_value, digit_char, BeatOf, Field, Form, opcode, param, size, source, address, sink, denied}
+use Rattle.tl_trace.proofs.Names.{mask, data_lanes, corrupt, digit_count, length_of, values, value_of, fields, FieldPlace, places_from, hex, is_hex}
+use Rattle.tl_trace.proofs.Names.{digits_at, value_at, is_shaped_at, IsLine, is_writable, line_text, pow-add}
 use Rattle.std.proofs.lemmas.Int.Digits.{digits_value_push}
-use Rattle.std.specs.List.{list_all, flat_map, slice_range, slice_index}
-use Rattle.std.specs.Str.Parse.{digits_value}
-use Rattle.std.specs.Char.{digit_value, digit_char}
-use Rattle.tl_msg.specs.declared.beat.BeatOf.{BeatOf}
-use Rattle.tl_trace.specs.Fields.{Field, Form, opcode, param, size, source, address, sink, denied, mask, data_lanes, corrupt, digit_count, length_of, values, value_of, fields}
-use Rattle.tl_trace.specs.Lines.{FieldPlace, places_from, hex, is_hex, digits_at, value_at, is_shaped_at, IsLine, is_writable, line_text}
 use Rattle.tl_trace.proofs.HexText.{length-hex}
 use Rattle.tl_trace.proofs.Cover.{stands, whole_line}
 use Rattle.tl_trace.proofs.HexDigits.{hex_small}
 use Rattle.tl_trace.proofs.ReadDigits.{squares}
 use Rattle.tl_trace.proofs.Shaped.{head_of, tail_of}
+use Rattle.std.proofs.lemmas.Str.{digit_value-digit_char}
 
 -- ---- digits
 
 hex_digit_of : (d : ℕ) → d < 16 → is_hex (digit_char d) ≡ true
 hex_digit_of d lt = grind (arith, nat_tests)
-
-pub digit_back : (d : ℕ) → d < 16 → digit_value (digit_char d) ≡ d
-digit_back d lt = grind (arith, nat_tests)
 
 char_back : (c : ℕ) → is_hex c ≡ true → digit_char (digit_value c) ≡ c
 char_back c h = grind (arith, nat_tests)
@@ -43,14 +35,7 @@ hex_value (suc count) value lt =
     let less : value / 16 < 16 ^ count = omega arith in
     digits_value_push 16 (hex count (value / 16)) (digit_char (value % 16))
     ∙ ap (λ (n : ℕ). n * 16 + digit_value (digit_char (value % 16))) (hex_value count (value / 16) less)
-    ∙ ap (λ (n : ℕ). value / 16 * 16 + n) (digit_back (value % 16) (omega arith)) ∙ omega arith
-
--- digits from the right
-last_first : (count : ℕ) (ds : List ℕ) → length ds ≡ suc count → ds ≡ take count ds ++ get_or ds count 0 ∷ []
-last_first count [] e = absurd (omega arith)
-last_first zero (d ∷ []) e = refl
-last_first zero (d ∷ x ∷ ds) e = absurd (omega arith)
-last_first (suc count) (d ∷ ds) e = ap (λ (xs : List ℕ). d ∷ xs) (last_first count ds (omega arith))
+    ∙ ap (λ (n : ℕ). value / 16 * 16 + n) (digit_value-digit_char (value % 16) (omega arith)) ∙ omega arith
 
 pub hex_back : (count : ℕ) (ds : List ℕ) → length ds ≡ count → list_all is_hex ds ≡ true → hex count (digits_value 16 ds) ≡ ds
 hex_back zero [] e h = refl
@@ -58,7 +43,7 @@ hex_back zero (d ∷ ds) e h = absurd (omega arith)
 hex_back (suc count) ds e h =
     let front = take count ds in
     let last = get_or ds count 0 in
-    let split : ds ≡ front ++ last ∷ [] = last_first count ds e in
+    let split : ds ≡ front ++ last ∷ [] = sym (take_all (count + 1) ds (omega arith)) ∙ take_more ds count 0 (omega arith) in
     let all = sym (list_all-append is_hex front (last ∷ [])) ∙ ap (list_all is_hex) (sym split) ∙ h in
     let good = (and_parts (list_all is_hex front) (is_hex last && true) all).0 in
     let lasts = (and_parts (is_hex last) true (and_parts (list_all is_hex front) (is_hex last && true) all).1).0 in
@@ -146,15 +131,9 @@ placed text before at w value fits (field ∷ more) e long small wide =
 pow_16 : (k : ℕ) → 16 ^ k ≡ 2 ^ (4 * k)
 pow_16 zero = refl
 pow_16 (suc k) =
-    let e : 4 * suc k ≡ suc (suc (suc (suc (4 * k)))) = omega arith in
-    let a : 2 ^ suc (suc (suc (suc (4 * k)))) ≡ 2 ^ suc (suc (suc (4 * k))) * 2 = pow-suc 2 (suc (suc (suc (4 * k)))) in
-    let b : 2 ^ suc (suc (suc (4 * k))) ≡ 2 ^ suc (suc (4 * k)) * 2 = pow-suc 2 (suc (suc (4 * k))) in
-    let c : 2 ^ suc (suc (4 * k)) ≡ 2 ^ suc (4 * k) * 2 = pow-suc 2 (suc (4 * k)) in
-    let d : 2 ^ suc (4 * k) ≡ 2 ^ (4 * k) * 2 = pow-suc 2 (4 * k) in
-    let top : 16 ^ suc k ≡ 16 ^ k * 16 = pow-suc 16 k in
-    let rest = pow_16 k in
-    let all : 16 ^ suc k ≡ 2 ^ suc (suc (suc (suc (4 * k)))) = omega arith in
-    all ∙ ap (λ (n : ℕ). 2 ^ n) (sym e)
+    let more : 4 * suc k ≡ 4 * k + 4 = omega arith in
+    let power : 2 ^ (4 * k + 4) ≡ 2 ^ (4 * k) * 16 = pow-add 2 (4 * k) 4 in
+    omega (arith, pow-suc 16 k, power, pow_16 k) ∙ ap (λ (n : ℕ). 2 ^ n) (sym more)
 
 mask_wide : (w : ℕ) → 2 ^ w ≤ 16 ^ ((w + 3) / 4)
 mask_wide w =

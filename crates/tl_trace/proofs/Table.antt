@@ -1,7 +1,6 @@
 -- A table of 256 bytes against a definition.
-use Rattle.std.proofs.Common.{◌≡◌, ℕ, zero, suc, ◌<◌, Bool, true, ◌&&◌, nat_eq, get_or, List, arith, inl, inr}
-use Rattle.std.proofs.lemmas.Bool.{cases_eq, eqb-true, and_parts}
-use Rattle.tl_trace.specs.Inner.Reading.{digit_of}
+use Rattle.tl_trace.proofs.Names.{◌≡◌, ℕ, zero, suc, ◌<◌, Bool, true, ◌&&◌, nat_eq, get_or, List, arith, inl, inr, cases_eq, eqb-true, and_parts}
+use Rattle.tl_trace.proofs.Names.{digit_of}
 
 -- the two are the same below n
 unfoldable pub agree_below : (f g : ℕ → ℕ) → ℕ → Bool

@@ -1,10 +1,7 @@
 -- A trace as it is written, line by line.
-use Rattle.std.proofs.Common.{◌≡◌, ◌≤◌, ◌<◌, ◌+◌, ◌++◌, ℕ, List, [], ◌∷◌, length, take, sym, ap, ◌∙◌, append_assoc, append-nil}
+use Rattle.tl_trace.proofs.Names.{◌≡◌, ◌≤◌, ◌<◌, ◌+◌, ◌++◌, ℕ, List, [], ◌∷◌, length, take, sym, ap, ◌∙◌, append_assoc, append-nil, flat_map-append}
+use Rattle.tl_trace.proofs.Names.{take_more, take_all, Line, header_text, newline, text_of_line, lines_text, trace_text}
 use Rattle.std.proofs.Math.ListN.{get_or}
-use Rattle.std.proofs.lemmas.Grind.{flat_map-append}
-use Rattle.std.proofs.lemmas.List.{take_more, take_all}
-use Rattle.tl_trace.specs.declared.line.Line.{Line}
-use Rattle.tl_trace.specs.Texts.{header_text, newline, text_of_line, lines_text, trace_text}
 
 module _ (version client manager : ℕ) (lines : List Line) where
   -- the header and the first lines

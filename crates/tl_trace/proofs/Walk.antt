@@ -1,24 +1,13 @@
 -- One step of the walk over the lines of a text.
-use Rattle.std.proofs.Common.{◌≡◌, ◌≢◌, ℕ, Bool, cond, zero, suc, ◌+◌, ◌-◌, ◌<◌, ◌≤◌, true, ◌&&◌, List, [], ◌∷◌, ◌++◌, length, map, get_or, take, drop, replicate, Option, Some, None, refl, sym, ap, ◌∙◌, arith, drop-cons, append_assoc, append-nil, add-one, length-drop, inl, inr, subst, false}
-use Rattle.std.proofs.lemmas.List.Folds.{drop_split, list_all-append}
-use Rattle.std.proofs.lemmas.Bool.{cases_eq, and_from}
-use Rattle.std.proofs.lemmas.List.{drop-drop, get_or-drop}
-use Rattle.std.proofs.Math.Seq.{take-add}
-use Rattle.std.specs.List.{list_all, slice_index, slice_range}
-use Rattle.std.specs.Prelude.{◌==◌}
-use Rattle.tl_msg.specs.Firsts.{unless, ◌or_else◌}
-use Rattle.tl_trace.specs.Fields.{Form, form_a, form_b, form_c, form_d, form_e, line_length}
-use Rattle.tl_trace.specs.Lines.{is_shaped, is_in_range}
-use Rattle.tl_trace.specs.Texts.{newline, is_kept_line, TellsLines}
-use Rattle.tl_trace.specs.Faults.{cut, body, form_fault, body_fault, later_fault, header_of, faults_after, faults_of_lines, faults, IsFirstFault, IsReadableTo}
-use Rattle.tl_trace.specs.Inner.Reading.{LineAt, IsReadLine}
-use Rattle.tl_trace.specs.declared.line.Line.{Line}
-use Rattle.tl_trace.specs.declared.fault.TraceKind.{TraceKind}
+use Rattle.tl_trace.proofs.Names.{◌≡◌, ◌≢◌, ℕ, Bool, cond, zero, suc, ◌+◌, ◌-◌, ◌<◌, ◌≤◌, true, ◌&&◌, List, [], ◌∷◌, ◌++◌, length, map, get_or, take}
+use Rattle.tl_trace.proofs.Names.{drop, replicate, Option, Some, None, refl, sym, ap, ◌∙◌, arith, drop-cons, append_assoc, append-nil, add-one}
+use Rattle.tl_trace.proofs.Names.{length-drop, inl, inr, subst, false, drop_split, list_all-append, cases_eq, and_from, drop-drop, get_or-drop}
+use Rattle.tl_trace.proofs.Names.{drop_all, nil_from_length, take-add, list_all, slice_index, slice_range, ◌==◌, unless, ◌or_else◌, Form, form_a}
+use Rattle.tl_trace.proofs.Names.{form_b, form_c, form_d, form_e, line_length, is_shaped, is_in_range, newline, is_kept_line, TellsLines, cut, body}
+use Rattle.tl_trace.proofs.Names.{form_fault, body_fault, later_fault, header_of, faults_after, faults_of_lines, faults, IsFirstFault, IsReadableTo}
+use Rattle.tl_trace.proofs.Names.{LineAt, IsReadLine, Line, TraceKind, OutOfMemory, Channel, Length, Shape, Range, NoEnd, Header}
 use Rattle.tl_trace.specs.declared.fault.TraceKind.TheVariants as kinds
-use Rattle.tl_trace.specs.declared.fault.TraceKind.TheVariants.{OutOfMemory, Channel, Length, Shape, Range, NoEnd}
-use Rattle.tl_trace.specs.declared.header.Header.{Header}
 use Rattle.tl_trace.proofs.ReadLines.{IsFree, SoFar, cut_line, cut_last, body_line, body_last, ended, unended, free_take, first_fault, readable_to, one_more, told_more}
-use Rattle.tl_trace.proofs.Cover.{drop_all}
 use Rattle.tl_trace.proofs.Headers.{no_empty_header}
 
 -- not for want of memory
@@ -64,7 +53,7 @@ split_line text at end line lt =
     ∙ sym (append_assoc (slice_range text at end) newline (drop (end + 1) text))
 
 pub last_line : (text : List ℕ) (at end : ℕ) → LineAt text at end → end ≡ length text → drop at text ≡ slice_range text at end
-last_line text at end line e = drop_split text at end line.from ∙ ap (λ (xs : List ℕ). slice_range text at end ++ xs) (drop_all text end (omega arith)) ∙ append-nil (slice_range text at end)
+last_line text at end line e = drop_split text at end line.from ∙ ap (λ (xs : List ℕ). slice_range text at end ++ xs) (drop_all end text (omega arith)) ∙ append-nil (slice_range text at end)
 
 or_none : {F : Type 0} (o : Option F) → o or_else None ≡ o
 or_none None = refl
@@ -176,10 +165,6 @@ advance text start version client manager lines at before end beat far line read
 pub header_lines : (text : List ℕ) (end : ℕ) → LineAt text 0 end → end < length text → cut text ≡ (slice_range text 0 end ++ newline) ∷ cut (drop (end + 1) text)
 header_lines text end line lt = cut_here text 0 end line lt
 
-no_text : (text : List ℕ) → length text ≡ 0 → text ≡ []
-no_text [] e = refl
-no_text (byte ∷ text) e = absurd (omega arith)
-
 pub header_last : (text : List ℕ) (end : ℕ) → LineAt text 0 end → end ≡ length text → 0 < end → cut text ≡ slice_range text 0 end ∷ []
 header_last text end line e some = cut_there text 0 end line (omega (arith, some, e)) e
 
@@ -193,7 +178,7 @@ no_header text end line none =
     let free = free_line text 0 end line in
     elim (cases_eq end (length text)) [
       | inl e ↦ elim (cases_eq (length text) 0) [
-        | inl empty ↦ first_fault text 0 kinds.Header [] (ap faults (no_text text empty))
+        | inl empty ↦ first_fault text 0 kinds.Header [] (ap faults (nil_from_length text empty))
         | inr some ↦ first_fault text 0 kinds.Header [] (ap faults_of_lines (header_last text end line e (omega (arith, e, some)))
             ∙ ap (λ (o : Option Header). faults_after o b []) (ap header_of (body_last b free) ∙ none))
       ]

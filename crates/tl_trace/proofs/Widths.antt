@@ -1,16 +1,9 @@
 -- What crates above may want: widths and lanes of a trace.
-use Rattle.std.proofs.Common.{◌≡◌, ℕ, zero, suc, ◌+◌, ◌*◌, ◌^◌, ◌<◌, ◌≤◌, true, false, cond, nat_lt, List, [], ◌∷◌, length, get_or, refl, sym, ◌∙◌, arith, lit≤, subst}
-use Rattle.std.specs.Prelude.{◌==◌}
-use Rattle.std.proofs.Math.Nat.{pow-suc}
-use Rattle.std.proofs.lemmas.Bool.{eqb-true, ltb-true, and_parts}
-use Rattle.std.proofs.lemmas.List.Folds.{Any-from_list_any}
+use Rattle.tl_trace.proofs.Names.{◌≡◌, ℕ, zero, suc, ◌+◌, ◌*◌, ◌^◌, ◌<◌, ◌≤◌, true, false, cond, nat_lt, List, [], ◌∷◌, length, get_or, refl, sym}
+use Rattle.tl_trace.proofs.Names.{◌∙◌, arith, lit≤, subst, ◌==◌, pow-suc, eqb-true, ltb-true, and_parts, Any-from_list_any, Any, list_all}
+use Rattle.tl_trace.proofs.Names.{slice_index, WIDEST, WIDEST_POWER, width_bounds, number_of_lanes, widest_power, widths, is_width}
 use Rattle.std.proofs.lemmas.List.FromFn.{get_or-map-range_with_len, length-map-range_with_len}
-use Rattle.std.specs.List.{Any, list_all, slice_index}
-use Rattle.tl_lanes.specs.declared.limits.TheConstants.{WIDEST, WIDEST_POWER}
 use Rattle.tl_lanes.specs.Lanes.{IsWidth}
-use Rattle.tl_lanes.proofs.Widths.{each_width, width_bounds}
-use Rattle.tl_trace.specs.Fields.{number_of_lanes}
-use Rattle.tl_trace.specs.Texts.{widest_power, widths, is_width}
 
 widest_most : (version : ℕ) → widest_power version ≤ WIDEST_POWER
 widest_most version = elim (version == 1) as (λ b. cond b 6 WIDEST_POWER ≤ WIDEST_POWER) [ true ↦ omega arith | false ↦ omega arith ]
@@ -24,10 +17,6 @@ power_of version w (k, x, lt, at, test) =
 -- a width that a header can name is one of a link
 pub width_of : (version w : ℕ) → is_width version w ≡ true → IsWidth w
 width_of version w e = power_of version w (Any-from_list_any (λ x. w == x) (widths version) e)
-
--- and a header of version 2 can name each of these
-pub width_in_version_2 : (w : ℕ) → IsWidth w → is_width 2 w ≡ true
-width_in_version_2 = each_width (is_width 2) refl
 
 pub width_most : (version w : ℕ) → is_width version w ≡ true → w ≤ WIDEST
 width_most version w e = (width_bounds w (width_of version w e)).1

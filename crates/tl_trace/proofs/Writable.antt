@@ -1,33 +1,18 @@
 -- A lawful beat is writable.
-use Rattle.std.proofs.Common.{◌≡◌, ℕ, zero, suc, ◌^◌, ◌<◌, Bool, true, false, cond, ◌&&◌, nat_eq, nat_le, nat_lt, List, [], ◌∷◌, length, Option, None, Some, refl, arith, subst, bit_and}
-use Rattle.std.proofs.lemmas.Bool.{eqb-true, lt-ltb, ltb-true, leb-true, and_parts, and_from}
-use Rattle.std.proofs.lemmas.Nat.{and_le_r}
-use Rattle.std.specs.Option.{option_map_or}
-use Rattle.std.specs.Prelude.{All}
-use Rattle.std.specs.List.{list_all}
+use Rattle.tl_trace.proofs.Names.{◌≡◌, ℕ, zero, suc, ◌^◌, ◌<◌, Bool, true, false, cond, ◌&&◌, nat_eq, nat_le, nat_lt, List, [], ◌∷◌, length, Option}
+use Rattle.tl_trace.proofs.Names.{None, Some, refl, arith, subst, bit_and, eqb-true, lt-ltb, ltb-true, leb-true, and_parts, and_from, and_le_r}
+use Rattle.tl_trace.proofs.Names.{option_map_or, All, list_all, unless, ◌or_else◌, BeatOf, bit, id_digits, form_a, form_b, form_c, form_d, form_e}
+use Rattle.tl_trace.proofs.Names.{number_of_lanes}
 use Rattle.tl_lanes.proofs.ActiveLanes.{active_mask-lt}
 use Rattle.tl_msg.specs.Faults.{full_mask, mask_fits, is_clean, IsLawfulBeat}
-use Rattle.tl_msg.specs.Firsts.{unless, ◌or_else◌}
 use Rattle.tl_msg.specs.Kinds.{column_a, column_b, column_c, column_d, kind_at, params}
 use Rattle.tl_msg.specs.Rules.{Rules}
 use Rattle.tl_msg.specs.Tables.{head_fault, is_aligned, rules_a, rules_b, rules_c, rules_d}
-use Rattle.tl_msg.specs.declared.beat.BeatOf.{BeatOf}
 use Rattle.tl_msg.specs.declared.fault.BeatFault.TheVariants.{Param, Size, Unaligned, Mask, Corrupt}
 use Rattle.tl_msg.specs.declared.kind.Kind.{Kind}
-use Rattle.tl_trace.specs.Fields.{bit, id_digits, form_a, form_b, form_c, form_d, form_e, number_of_lanes}
 use Rattle.tl_trace.specs.Laws.{LawfulIsWritable}
 use Rattle.tl_trace.proofs.Widths.{lanes_fit}
-use Rattle.tl_msg.proofs.Firsts.{unless_none}
-
--- ---- the first of several faults is none
-
-no_first : {F : Type 0} (x y : Option F) → x or_else y ≡ None → x ≡ None
-no_first None y e = refl
-no_first (Some v) y e = absurd cc
-
-no_second : {F : Type 0} (x y : Option F) → x or_else y ≡ None → y ≡ None
-no_second None y e = e
-no_second (Some v) y e = absurd cc
+use Rattle.tl_msg.proofs.Firsts.{unless_none, first_none, second_none}
 
 -- ---- the head
 
@@ -39,9 +24,9 @@ pub record Limits (column : List (Option Kind)) (limit o p z : ℕ) : Type 0 whe
 
 of_kind : (kind : Kind) (limit p z : ℕ) (aligned : Bool) → nat_le (params kind) limit ≡ true → head_fault (Some kind) p z aligned ≡ None → (p < limit) × (z < 16)
 of_kind kind limit p z aligned few e =
-    let rest = no_second (unless (nat_lt p (params kind)) Param) (unless (nat_le z 12) Size or_else unless aligned Unaligned) e in
-    let param = unless_none (nat_lt p (params kind)) Param (no_first (unless (nat_lt p (params kind)) Param) (unless (nat_le z 12) Size or_else unless aligned Unaligned) e) in
-    let size = unless_none (nat_le z 12) Size (no_first (unless (nat_le z 12) Size) (unless aligned Unaligned) rest) in
+    let rest = second_none (unless (nat_lt p (params kind)) Param) (unless (nat_le z 12) Size or_else unless aligned Unaligned) e in
+    let param = unless_none (nat_lt p (params kind)) Param (first_none (unless (nat_lt p (params kind)) Param) (unless (nat_le z 12) Size or_else unless aligned Unaligned) e) in
+    let size = unless_none (nat_le z 12) Size (first_none (unless (nat_le z 12) Size) (unless aligned Unaligned) rest) in
     let lt = ltb-true p (params kind) param in
     let le = leb-true (params kind) limit few in
     let most = leb-true z 12 size in
@@ -83,9 +68,9 @@ data_small w lanes long bytes = let P : ℕ → Type 0 = λ k. number_of_lanes l
 -- a lawful beat has no fault in its head, and its mask fits
 lawful_parts : {H : Type 0} (r : Rules H) {w : ℕ} (b : BeatOf H w) → IsLawfulBeat r b → (r.fault b.head ≡ None) × (mask_fits r b ≡ true)
 lawful_parts r b lawful =
-    let rest = no_second (r.fault b.head) (unless (mask_fits r b) Mask or_else unless (is_clean r b) Corrupt) lawful in (
-      no_first (r.fault b.head) (unless (mask_fits r b) Mask or_else unless (is_clean r b) Corrupt) lawful,
-      unless_none (mask_fits r b) Mask (no_first (unless (mask_fits r b) Mask) (unless (is_clean r b) Corrupt) rest),
+    let rest = second_none (r.fault b.head) (unless (mask_fits r b) Mask or_else unless (is_clean r b) Corrupt) lawful in (
+      first_none (r.fault b.head) (unless (mask_fits r b) Mask or_else unless (is_clean r b) Corrupt) lawful,
+      unless_none (mask_fits r b) Mask (first_none (unless (mask_fits r b) Mask) (unless (is_clean r b) Corrupt) rest),
     )
 
 -- the mask of a lawful beat of A or B is in range

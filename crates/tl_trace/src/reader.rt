@@ -1,9 +1,8 @@
 //! From a text to its trace.
-ghost use Rattle.std.specs.Prelude.{ℕ, ◌≡◌, ◌≢◌, ◌≤◌, ◌<◌, ◌+◌, true, None, Some, ◌∷◌, drop, map, length, slice_index, IfOk, IfErr, MatchResult};
-ghost use Rattle.tl_trace.specs.Texts.{Tells, TellsLines, is_kept_line};
+ghost use Rattle.std.specs.Prelude.{ℕ, ◌≡◌, ◌≢◌, ◌≤◌, ◌<◌, ◌+◌, None, Some, ◌∷◌, drop, map, length, slice_index, IfOk, IfErr, MatchResult};
+ghost use Rattle.tl_trace.specs.Texts.{Tells};
 ghost use Rattle.tl_trace.specs.Faults.{cut, faults, body_fault, later_fault, IsFirstFault, IsReadableTo};
-ghost use Rattle.tl_trace.specs.Inner.Reading.{CanRead, IsReadLine};
-ghost use Rattle.std.specs.List.{list_all};
+ghost use Rattle.tl_trace.specs.Inner.Reading.{AreLines, CanRead, IsFaultOf, IsReadLine};
 ghost use Rattle.tl_trace.specs.declared.fault.TraceKind.TheVariants.{OutOfMemory};
 
 use crate::fault::{TraceFault, TraceKind};
@@ -94,12 +93,8 @@ fn read_lines(
     requires start { (1 ≤ start) × (start ≤ length text.now) }
     requires header { faults text.now ≡ None ∷
         map (later_fault header.version header.client header.manager) (cut (drop start text.now)) }
-    ensures told { IfOk result (λ lines. TellsLines header.version header.client header.manager
-        lines.items (drop start text.now)) }
-    ensures kept { IfOk result (λ lines. list_all
-        (is_kept_line header.version header.client header.manager) lines.items ≡ true) }
-    ensures fault { IfErr result (λ e. e.kind ≢ OutOfMemory → IsFirstFault text.now e.line e.kind) }
-    ensures memory { IfErr result (λ e. e.kind ≡ OutOfMemory → IsReadableTo text.now e.line) }
+    ensures { MatchResult result (λ lines. AreLines header.version header.client header.manager
+        lines.items (drop start text.now)) (IsFaultOf text.now) }
 {
     let mut lines = Vec::new(alloc);
     let mut at = start;
@@ -152,7 +147,10 @@ pub fn read(alloc: Global, text: &[u8]) -> Result<Trace, TraceFault>
             kind: TraceKind::NoEnd,
         });
     }
-    let lines = read_lines(alloc, text, end + 1, header)?;
+    let lines = match read_lines(alloc, text, end + 1, header) {
+        Ok(lines) => lines,
+        Err(fault) => return Err(fault),
+    };
     Ok(Trace {
         version: header.version,
         client: header.client,

@@ -1,12 +1,12 @@
 //! From a text to its script.
-ghost use Rattle.std.specs.Prelude.{ℕ, true, false, ◌≡◌, ◌≢◌, ◌≤◌, ◌<◌, ◌+◌, ◌^◌, ◌++◌, None, Some, List, [], drop, take, length, IfSome, IfOk, IfErr, IsOk, MatchOption};
+ghost use Rattle.std.specs.Prelude.{ℕ, true, false, ◌≡◌, ◌≢◌, ◌≤◌, ◌<◌, ◌+◌, ◌^◌, ◌++◌, None, Some, List, [], drop, take, length, IfSome, IfOk, IfErr, IsOk, MatchOption, MatchResult};
 ghost use Rattle.std.specs.List.{list_any};
 ghost use Rattle.tl_lanes.specs.declared.limits.TheConstants.{WIDEST};
 ghost use Rattle.tl_trace.specs.Scripts.{Gone, TellsScript, HasCounts, HasGrown, HasLetGo, HasRead, HasReadPast, HasStopped, IsHeaderLine, IsUnfinished, more_gone};
 ghost use Rattle.tl_trace.specs.Texts.{is_version};
 ghost use Rattle.tl_trace.specs.Faults.{is_newline, body, later_fault, header_of, HasHeader, IsFirstFault, IsReadableTo};
 ghost use Rattle.tl_trace.specs.Inner.KnownHeads.{AreKnown, IsKnown};
-ghost use Rattle.tl_trace.specs.Inner.Reading.{CanPush, CanRead, IsFaultyAt, IsLeft, IsLinePushed, IsNextPushed, IsReadableAt, IsSameScript};
+ghost use Rattle.tl_trace.specs.Inner.Reading.{CanPush, CanRead, IsLeft, IsLinePushed, IsNextPushed, IsPieceRead, IsRefusedAt, IsSameScript};
 ghost use Rattle.tl_trace.specs.declared.fault.TraceKind.TheVariants.{OutOfMemory};
 
 use crate::fault::{TraceFault, TraceKind};
@@ -39,8 +39,7 @@ fn push_line<K: ReadHead, const W: usize, const VERSION: u8>(
     at: usize,
     no_room: &mut bool,
 ) -> Option<usize>
-    requires can { CanPush (K.form VERSION) W text.now at }
-    requires known { IfSome last.old (IsKnown (K.form VERSION) VERSION text.now) }
+    requires { CanPush (K.form VERSION) W text.now at × IfSome last.old (IsKnown (K.form VERSION) VERSION text.now) }
     ensures pushed { MatchOption result (list.new.items ≡ list.old.items)
         (IsLinePushed (K.form VERSION) W text.now at list.old.items list.new.items) }
     ensures known { IfSome last.new (IsKnown (K.form VERSION) VERSION text.now) }
@@ -49,8 +48,12 @@ fn push_line<K: ReadHead, const W: usize, const VERSION: u8>(
     if long >= text.len() - at || text[at + long] != b'\n' {
         return None;
     }
-    let head = head_at::<K, VERSION>(text, at, last)?;
-    let beat = beat_with_head::<K, W, VERSION>(&text[at..at + long], head)?;
+    let Some(head) = head_at::<K, VERSION>(text, at, last) else {
+        return None;
+    };
+    let Some(beat) = beat_with_head::<K, W, VERSION>(&text[at..at + long], head) else {
+        return None;
+    };
     if list.push(beat).is_err() {
         *no_room = true;
         return None;
@@ -68,8 +71,7 @@ fn push_next<const C: usize, const M: usize, const VERSION: u8>(
     at: usize,
     no_room: &mut bool,
 ) -> Option<usize>
-    requires can { CanRead VERSION C M × (at < length text.now) }
-    requires known { AreKnown VERSION text.now heads.old }
+    requires { CanRead VERSION C M × (at < length text.now) × AreKnown VERSION text.now heads.old }
     ensures pushed { MatchOption result (IsSameScript script.old script.new)
         (IsNextPushed VERSION text.now at script.old script.new) }
     ensures known { AreKnown VERSION text.now heads.new }
@@ -97,13 +99,9 @@ fn push_slowly<const C: usize, const M: usize>(
     no_room: bool,
 ) -> Result<Option<usize>, TraceKind>
     requires { CanRead version C M × (at < length piece.now) }
-    ensures read { IfOk result (λ end. MatchOption end (IsLeft piece.now at script.old script.new)
-        (IsNextPushed version piece.now at script.old script.new)) }
-    ensures fault { IfErr result (λ kind.
-        kind ≢ OutOfMemory → IsFaultyAt version C M piece.now at kind) }
-    ensures memory { IfErr result (λ kind.
-        kind ≡ OutOfMemory → IsReadableAt version C M piece.now at) }
-    ensures kept { IfErr result (λ _. IsSameScript script.old script.new) }
+    ensures { MatchResult result (λ end. MatchOption end (IsLeft piece.now at script.old script.new)
+        (IsNextPushed version piece.now at script.old script.new)) (λ kind.
+        IsRefusedAt version C M piece.now at kind × IsSameScript script.old script.new) }
 {
     let end = line_end(piece, at);
     if end == piece.len() && end - at < LONGEST_LINE {
@@ -155,23 +153,8 @@ fn read_beats<const C: usize, const M: usize, const VERSION: u8>(
 ) -> Result<usize, TraceFault>
     requires { CanRead VERSION C M × (reader.old.line + length piece.now < 2 ^ 64) }
     ensures version { reader.new.version ≡ reader.old.version }
-    ensures used { IfOk result (λ used. used ≤ length piece.now) }
-    ensures lines { IfOk result (λ used. reader.new.line ≤ reader.old.line + used) }
-    ensures rest { IfOk result (λ used. IsUnfinished (drop used piece.now)) }
-    ensures grown { IsOk result → HasGrown reader.old.script reader.new.script }
-    ensures told { (done : List ℕ) (gone : Gone C M) →
-        HasReadPast VERSION done gone reader.old.script reader.old.line → IfOk result (λ used.
-        HasReadPast VERSION (done ++ take used piece.now) gone reader.new.script
-        reader.new.line) }
-    ensures fault { (done more : List ℕ) (gone : Gone C M) →
-        HasReadPast VERSION done gone reader.old.script reader.old.line → IfErr result (λ e.
-        e.kind ≢ OutOfMemory → IsFirstFault (done ++ piece.now ++ more) e.line e.kind) }
-    ensures memory { (done more : List ℕ) (gone : Gone C M) →
-        HasReadPast VERSION done gone reader.old.script reader.old.line → IfErr result (λ e.
-        e.kind ≡ OutOfMemory → IsReadableTo (done ++ piece.now ++ more) e.line) }
-    ensures stopped { (done : List ℕ) (gone : Gone C M) →
-        HasReadPast VERSION done gone reader.old.script reader.old.line → IfErr result (λ e.
-        HasStopped VERSION done piece.now gone reader.new.script reader.new.line e.line) }
+    ensures read { IsPieceRead VERSION piece.now reader.old.script reader.old.line reader.new.script
+        reader.new.line result }
 {
     let mut at = 0;
     let mut no_room = false;

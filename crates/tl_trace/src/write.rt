@@ -148,7 +148,7 @@ fn append_line<K: HeadText, const W: usize>(
     requires room { length other.now ≡ at + rest_length K.MASKED K.HAS_DATA W }
     ensures ok { OnOk result (out.new.items ≡
         out.old.items ++ (take at other.now ++ rest_text K.MASKED K.HAS_DATA W beat.now)) }
-    ensures front { take (length out.old.items) out.new.items ≡ out.old.items }
+    ensures err { OnErr result (out.new.items ≡ out.old.items) }
 {
     let start = out.len();
     out.extend_from_slice(other)?;

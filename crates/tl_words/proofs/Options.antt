@@ -3,7 +3,7 @@ use Rattle.std.proofs.Common.{◌≡◌, ◌∙◌, ◌||◌, ap₂, Bool, false
 use Rattle.std.specs.Prelude.{unwrap_or}
 use Rattle.std.specs.Str.Parse.{ParsesUnsigned, digits_value, without_leading_plus}
 use Rattle.clap.specs.Simple.{app_of_fields}
-use Rattle.clap.specs.Words.{AddsArg, AddsInTurn, AddsSubcommand, App, Row, Rule, Text, app_of, first_of, is_simple, new_app, subcommand_name_of, subcommand_rows, subcommand_rows_of, with_rule, with_subcommand}
+use Rattle.clap.specs.Words.{AddsArg, AddsInTurn, App, Row, Rule, Text, app_of, first_of, is_simple, new_app, subcommand_name_of, subcommand_rows, subcommand_rows_of, with_rule}
 use Rattle.clap.specs.declared.builder.arg.Arg.{Arg}
 use Rattle.clap.specs.declared.builder.command.Command.{Command}
 use Rattle.clap.specs.declared.builder.command.Command.TheOpen.{Command-F}
@@ -13,8 +13,8 @@ use Rattle.clap.specs.declared.parser.matches.ArgMatches.TheViews.{out-ArgMatche
 use Rattle.clap.proofs.OnLiterals.{clap_on_literals}
 use Rattle.tl_order.specs.declared.Order.{Order}
 use Rattle.tl_order.specs.declared.Order.TheVariants.{Run, Check}
-use Rattle.tl_words.specs.CommandLines.{IsOrderOf, IsRunOf, check_shape, file_of, file_rule, number_rule, program, run_shape, sync_rule}
-use Rattle.tl_words.specs.Inner.Rules.{HasRule, HasShape}
+use Rattle.tl_words.specs.CommandLines.{IsOrderOf, IsRunOf, file_of, file_rule, number_rule, program, run_shape, sync_rule}
+use Rattle.tl_words.specs.Inner.Rules.{HasRule, HasShape, bare}
 
 -- clap says what comes of the words of this command
 pub program_is_simple : is_simple program ≡ true
@@ -74,21 +74,6 @@ run_of_parts top made ring turns sync file is none ring_is turns_is sync_is file
     let three = with_one added.2.0 added.2.2.0 sync _ _ added.2.2.1 two.0 two.1 sync_is in
     let four = with_one added.2.2.0 added.2.2.2.0 file _ _ added.2.2.2.1 three.0 three.1 file_is in
     (ap (λ (p : App). p.top) (ap app_of (sym added.2.2.2.2) ∙ four.0), ap (λ (c : Command). (fields_of c).has_globals) (sym added.2.2.2.2) ∙ four.1)
-
--- the command before its subcommands
-abbrev pub bare : App
-bare = record (new_app (codes "tlbridge")) {
-  top = record (new_app (codes "tlbridge")).top { has_version = true; subcommand_required = true };
-}
-
--- and with both of them
-pub program_of_parts : (top run check made : Command) → app_of top ≡ bare → HasShape run_shape run → HasShape check_shape check
-    → AddsInTurn AddsSubcommand top (run ∷ check ∷ []) made → app_of made ≡ program
-program_of_parts top run check made is run_is check_is added =
-    let first = added.1 in
-    let second = added.2.1 in
-    ap app_of (sym added.2.2) ∙ second.shape check_is.1
-    ∙ ap₂ with_subcommand (first.shape run_is.1 ∙ ap₂ with_subcommand is run_is.0) check_is.0
 
 -- the command before its subcommands, as it is made
 pub bare_of_new : (new about version required : Command) (x : Option (Bor Text)) (y : Bor Text)

@@ -2,11 +2,11 @@
 #![tactic(auto)]
 
 ghost use Rattle.std.specs.Prelude.{◌≡◌, ◌≤◌, Some, IfOk, codes, map, option_map};
-ghost use Rattle.clap.specs.Words.{app_of, found_of, rows_of, subcommand_rows_of};
+ghost use Rattle.clap.specs.Words.{app_of, found_of, rows_of, subcommand_rows_of, with_subcommand};
 ghost use Rattle.tl_order.specs.Orders.{IsInRange};
 ghost use Rattle.tl_words.specs.CommandLines.{IsOrderOf, IsRunOf, called_by, check_shape, file_of, file_rule};
 ghost use Rattle.tl_words.specs.CommandLines.{number_in, number_rule, program, run_shape, sync_rule};
-ghost use Rattle.tl_words.specs.Inner.Rules.{HasRule, HasShape};
+ghost use Rattle.tl_words.specs.Inner.Rules.{HasRule, HasShape, bare};
 
 use clap::error::{Error, ErrorKind};
 use clap::{Arg, ArgAction, ArgMatches, Command};
@@ -81,19 +81,31 @@ fn check_command<'a>(alloc: Global) -> Result<Command<'a>, AllocError>
         .arg(file_argument(alloc))
 }
 
-fn command<'a>(alloc: Global) -> Result<Command<'a>, AllocError>
-    ensures { IfOk result (λ c. app_of c ≡ program) }
+/// The command before its subcommands.
+fn bare_command<'a>(alloc: Global) -> Command<'a>
+    ensures { app_of result ≡ bare }
 {
     let about =
         "Sends a TileLink trace across a clock and width bridge. A file or standard input holds the trace, standard output gets the answer.";
-    let run = run_command(alloc)?;
-    let check = check_command(alloc)?;
-    let commands = vec![in alloc; run, check]?;
     Command::new(alloc, "tlbridge")
         .about(about)
         .version(VERSION)
         .subcommand_required(true)
-        .subcommands(commands)
+}
+
+fn command_with_run<'a>(alloc: Global) -> Result<Command<'a>, AllocError>
+    ensures { IfOk result (λ c. app_of c ≡ with_subcommand bare run_shape) }
+{
+    let run = run_command(alloc)?;
+    bare_command(alloc).subcommand(run)
+}
+
+fn command<'a>(alloc: Global) -> Result<Command<'a>, AllocError>
+    ensures { IfOk result (λ c. app_of c ≡ program) }
+{
+    let top = command_with_run(alloc)?;
+    let check = check_command(alloc)?;
+    top.subcommand(check)
 }
 
 /// What `command` takes from the words.

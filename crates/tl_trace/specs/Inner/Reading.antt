@@ -1,20 +1,22 @@
 -- What the parts of the reader give. Only contracts of private functions cite these words.
-use Rattle.std.specs.Prelude.{◌≡◌, ◌≢◌, ◌≤◌, ◌<◌, ◌+◌, ◌-◌, ◌*◌, ◌^◌, ◌==◌, ◌&&◌, ℕ, Bool, true, false, List, [], ◌∷◌, ◌++◌, drop, map, length, Option, Some, None, MatchOption, is_none, nat_lt, if◌then◌else◌, slice_index, slice_range}
+use Rattle.std.specs.Prelude.{◌≡◌, ◌≢◌, ◌≤◌, ◌<◌, ◌+◌, ◌-◌, ◌*◌, ◌^◌, ◌==◌, ◌&&◌, ℕ, Bool, true, false, List, [], ◌∷◌, ◌++◌, drop, take, map, length, IfErr, IfOk, IsOk, Result, Option, Some, None, MatchOption, is_none, nat_lt, if◌then◌else◌, slice_index, slice_range}
 use Rattle.std.specs.List.{list_all, list_any}
 use Rattle.std.specs.Option.{option_to_list}
 use Rattle.std.specs.Str.Parse.{digits_value}
 use Rattle.std.specs.Char.{digit_value}
 use Rattle.tl_trace.specs.Fields.{Field, mask, data_lanes, corrupt, Form, head_value, values}
 use Rattle.tl_lanes.specs.declared.limits.TheConstants.{WIDEST}
-use Rattle.tl_trace.specs.Texts.{SaysLine, is_kept_line, is_version}
-use Rattle.tl_trace.specs.Faults.{body_fault}
+use Rattle.tl_trace.specs.Texts.{SaysLine, TellsLines, is_kept_line, is_version}
+use Rattle.tl_trace.specs.Faults.{IsFirstFault, IsReadableTo, body_fault}
 use Rattle.tl_trace.specs.declared.head_reader.HeadFields.{HeadFields}
 use Rattle.tl_trace.specs.declared.head_reader.CommonFields.{CommonFields}
 use Rattle.tl_trace.specs.declared.line.Line.{Line}
 use Rattle.tl_trace.specs.declared.script.Script.{Script}
+use Rattle.tl_trace.specs.declared.fault.TraceFault.{TraceFault}
 use Rattle.tl_trace.specs.declared.fault.TraceKind.{TraceKind}
+use Rattle.tl_trace.specs.declared.fault.TraceKind.TheVariants.{OutOfMemory}
 use Rattle.tl_trace.specs.declared.places.TheConstants.{LONGEST_LINE}
-use Rattle.tl_trace.specs.Scripts.{IsUnfinished, beat_of_a, beat_of_b, beat_of_c, beat_of_d, beat_of_e}
+use Rattle.tl_trace.specs.Scripts.{Gone, HasGrown, HasReadPast, HasStopped, IsUnfinished, beat_of_a, beat_of_b, beat_of_c, beat_of_d, beat_of_e}
 use Rattle.tl_msg.specs.declared.beat.BeatOf.{BeatOf}
 use Rattle.tl_trace.specs.Lines.{is_hex, places_from, IsLine, is_kept}
 
@@ -198,3 +200,32 @@ pub record IsReadableAt (version client manager : ℕ) (text : List ℕ) (at : �
   pub beat : Line
   pub inside : end < length text
   pub read : IsReadLine version client manager (slice_range text at end) beat
+
+-- the line from a place on is refused with this: it has this fault, or its beat finds no memory
+abbrev pub IsRefusedAt : (version client manager : ℕ) (text : List ℕ) (at : ℕ) (kind : TraceKind) → Type 0
+IsRefusedAt version client manager text at kind =
+    (kind ≢ OutOfMemory → IsFaultyAt version client manager text at kind) × (kind ≡ OutOfMemory → IsReadableAt version client manager text at)
+
+-- whole lines of a piece were read behind a text whose last line has this number: all up to one without its end, or those before one with a fault
+pub record IsPieceRead {client manager : ℕ} (version : ℕ) (piece : List ℕ) (before : Script client manager) (line : ℕ) (after : Script client manager)
+    (last : ℕ) (r : Result ℕ TraceFault) : Type 0 where
+  pub used : IfOk r (λ used. used ≤ length piece)
+  pub lines : IfOk r (λ used. last ≤ line + used)
+  pub rest : IfOk r (λ used. IsUnfinished (drop used piece))
+  pub grown : IsOk r → HasGrown before after
+  pub told : (done : List ℕ) (gone : Gone client manager) → HasReadPast version done gone before line
+      → IfOk r (λ used. HasReadPast version (done ++ take used piece) gone after last)
+  pub fault : (done more : List ℕ) (gone : Gone client manager) → HasReadPast version done gone before line
+      → IfErr r (λ e. e.kind ≢ OutOfMemory → IsFirstFault (done ++ piece ++ more) e.line e.kind)
+  pub memory : (done more : List ℕ) (gone : Gone client manager) → HasReadPast version done gone before line
+      → IfErr r (λ e. e.kind ≡ OutOfMemory → IsReadableTo (done ++ piece ++ more) e.line)
+  pub stopped : (done : List ℕ) (gone : Gone client manager) → HasReadPast version done gone before line
+      → IfErr r (λ e. HasStopped version done piece gone after last e.line)
+
+-- a fault of a text: the first one, or the want of memory behind lines without a fault
+abbrev pub IsFaultOf : List ℕ → TraceFault → Type 0
+IsFaultOf text e = (e.kind ≢ OutOfMemory → IsFirstFault text e.line e.kind) × (e.kind ≡ OutOfMemory → IsReadableTo text e.line)
+
+-- the lines that a text tells, as a trace keeps them
+abbrev pub AreLines : (version client manager : ℕ) → List Line → List ℕ → Type 0
+AreLines version client manager lines text = TellsLines version client manager lines text × (list_all (is_kept_line version client manager) lines ≡ true)

@@ -1,6 +1,6 @@
 -- What the parts of the command are to clap.
-use Rattle.std.specs.Prelude.{◌≡◌, false}
-use Rattle.clap.specs.Words.{Rule, Shape, rule_of, shape_of}
+use Rattle.std.specs.Prelude.{◌≡◌, codes, false, true}
+use Rattle.clap.specs.Words.{App, Rule, Shape, new_app, rule_of, shape_of}
 use Rattle.clap.specs.declared.builder.command.Command.TheViews.{out-Command as fields_of}
 use Rattle.clap.specs.declared.builder.arg.Arg.{Arg}
 use Rattle.clap.specs.declared.builder.command.Command.{Command}
@@ -12,3 +12,9 @@ HasRule rule a = (rule_of a ≡ rule) × (a.global ≡ false)
 -- the subcommand has this shape, and no argument for others
 abbrev pub HasShape : Shape → Command → Type 0
 HasShape shape c = (shape_of c ≡ shape) × ((fields_of c).has_globals ≡ false)
+
+-- the command before its subcommands
+abbrev pub bare : App
+bare = record (new_app (codes "tlbridge")) {
+  top = record (new_app (codes "tlbridge")).top { has_version = true; subcommand_required = true };
+}

@@ -1,9 +1,6 @@
-use Rattle.std.proofs.Common.{rules, ◌≡◌, Bool, true, false, None, Some, sym, subst, ◌∙◌}
+use Rattle.tl_burst.proofs.Names.{rules, ◌≡◌, Bool, true, false, None, Some, sym, subst, ◌∙◌, unless, ◌or_else◌, Mask, HeadChanged, second_answers}
+use Rattle.tl_burst.proofs.Names.{both_none, unless_true, unless_false, IsHeld}
 use Rattle.tl_msg.specs.Faults as faults
-use Rattle.tl_msg.specs.Firsts.{unless, ◌or_else◌}
-use Rattle.tl_msg.specs.declared.fault.BeatFault.TheVariants.{Mask, HeadChanged}
-use Rattle.tl_msg.proofs.Firsts.{second_answers, both_none, unless_true, unless_false}
-use Rattle.tl_burst.specs.Inner.Holding.{IsHeld}
 use Rattle.tl_burst.proofs.faults.continuing_fault.Goals as goal
 
 masked : (same fits : Bool) → same ≡ true → fits ≡ false → (unless same HeadChanged or_else unless fits Mask) ≡ Some Mask

@@ -1,5 +1,4 @@
-use Rattle.std.proofs.Common.{◌≡◌, Bool, true, false, ◌==◌, if◌then◌else◌, sym, refl, ap, ◌∙◌}
-use Rattle.std.specs.Prelude.{bit_and}
+use Rattle.tl_burst.proofs.Names.{◌≡◌, Bool, true, false, ◌==◌, if◌then◌else◌, sym, refl, ap, ◌∙◌, bit_and}
 use Rattle.tl_msg.specs.Faults as faults
 use Rattle.tl_burst.proofs.faults.mask_fits.Goals as goal
 

@@ -1,9 +1,7 @@
-use Rattle.std.proofs.Common.{rules, ◌≡◌, Bool, true, false, Option, None, Some, sym, ◌∙◌}
+use Rattle.tl_burst.proofs.Names.{rules, ◌≡◌, Bool, true, false, Option, None, Some, sym, ◌∙◌, unless, ◌or_else◌, Mask, Corrupt, first_some}
+use Rattle.tl_burst.proofs.Names.{second_answers, both_none, unless_true, unless_false}
 use Rattle.tl_msg.specs.Faults as faults
-use Rattle.tl_msg.specs.Firsts.{unless, ◌or_else◌}
 use Rattle.tl_msg.specs.declared.fault.BeatFault.{BeatFault}
-use Rattle.tl_msg.specs.declared.fault.BeatFault.TheVariants.{Mask, Corrupt}
-use Rattle.tl_msg.proofs.Firsts.{first_some, second_answers, both_none, unless_true, unless_false}
 use Rattle.tl_burst.proofs.faults.opening_fault.Goals as goal
 
 masked : (f : Option BeatFault) (fits clean : Bool) → f ≡ None → fits ≡ false → (f or_else unless fits Mask or_else unless clean Corrupt) ≡ Some Mask

@@ -1,8 +1,6 @@
-use Rattle.std.proofs.Common.{rules, ◌≡◌, ◌+◌, ◌++◌, None, Some, [], ◌∷◌, length, take, refl, sym, ap, ◌∙◌, arith}
+use Rattle.tl_convert.proofs.Names.{rules, ◌≡◌, ◌+◌, ◌++◌, None, Some, [], ◌∷◌, length, take, refl, sym, ap, ◌∙◌, arith, burst_after, fault_in, due}
 use denote.Memory.{lone}
 use denote.Param.{layout}
-use Rattle.tl_burst.specs.Handing.{burst_after, fault_in}
-use Rattle.tl_convert.specs.Due.{due}
 use Rattle.tl_convert.proofs.Sizes.{tracker-fits}
 use Rattle.tl_convert.proofs.CountLoop.{one-more, accepted-next, accepted-stop, accepted-all, due-count}
 use Rattle.tl_convert.proofs.count.count_until_refused.Goals as goal

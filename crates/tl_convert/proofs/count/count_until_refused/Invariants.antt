@@ -1,8 +1,4 @@
-use Rattle.std.proofs.Common.{◌≡◌, ◌≤◌, ◌*◌, ◌++◌, ℕ, List, length, take, drop}
-use Rattle.tl_lanes.specs.declared.limits.TheConstants.{WIDEST}
-use Rattle.tl_burst.specs.Handing.{burst_after}
-use Rattle.tl_convert.specs.Due.{due}
-use Rattle.tl_convert.specs.Accepted.{accepted_of, accepted_after}
+use Rattle.tl_convert.proofs.Names.{◌≡◌, ◌≤◌, ◌*◌, ◌++◌, ℕ, List, length, take, drop, WIDEST, burst_after, due, accepted_of, accepted_after}
 use Rattle.tl_convert.proofs.count.count_until_refused.Given as goal
 
 abbrev pub invariant-loop-beat : goal.invariant-loop-beat

@@ -1,9 +1,5 @@
-use Rattle.std.proofs.Common.{◌≡◌, ◌≤◌, ◌<◌, ◌+◌, ◌-◌, ◌*◌, ◌/◌, ◌^◌, ℕ, rules, zero, suc, arith, sym, ap, subst, refl, ◌∙◌}
-use Rattle.std.proofs.Math.Nat.{add-mul-div_right, mul-div_cancel, div-le_self}
-use Rattle.tl_lanes.specs.Lanes.{bytes_per_beat}
-use Rattle.tl_lanes.proofs.Widths.{width_bounds}
-use Rattle.tl_burst.specs.Messages.{per_beat}
-use Rattle.tl_burst.proofs.Numbers.{div-up, per-power, powers-divide}
+use Rattle.tl_convert.proofs.Names.{◌≡◌, ◌≤◌, ◌<◌, ◌+◌, ◌-◌, ◌*◌, ◌/◌, ◌^◌, ℕ, rules, zero, suc, arith, sym, ap, subst, refl, ◌∙◌, add-mul-div_right}
+use Rattle.tl_convert.proofs.Names.{mul-div_cancel, div-le_self, bytes_per_beat, width_bounds, per_beat, div-up, per-power, powers-divide}
 use Rattle.tl_convert.proofs.PourStep.{some-bytes}
 use Rattle.tl_convert.proofs.count.far_beats_between.Goals as goal
 

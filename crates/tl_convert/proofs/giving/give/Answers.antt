@@ -1,4 +1,4 @@
-use Rattle.std.proofs.Common.{◌≡◌, true, sym, ◌∙◌}
+use Rattle.tl_convert.proofs.Names.{◌≡◌, true, sym, ◌∙◌}
 use Rattle.tl_convert.proofs.giving.give.Goals as goal
 
 pub returns-then-carries_data : goal.returns-then-carries_data

@@ -1,11 +1,5 @@
-use Rattle.std.proofs.Common.{◌≡◌, ◌≤◌, ◌<◌, ◌*◌, ◌%◌, ◌^◌, ℕ, sym, ap, subst, ◌∙◌, arith}
-use Rattle.std.proofs.Math.Nat.{mul-mod_left, mul-le-mul}
-use Rattle.tl_msg.specs.declared.beat.BeatOf.{BeatOf}
-use Rattle.tl_lanes.specs.declared.limits.TheConstants.{WIDEST}
-use Rattle.tl_lanes.specs.Lanes.{bytes_per_beat}
-use Rattle.tl_lanes.proofs.Widths.{width_bounds}
-use Rattle.tl_burst.specs.Messages.{per_beat}
-use Rattle.tl_convert.specs.Inner.Pouring.{IsBlank}
+use Rattle.tl_convert.proofs.Names.{◌≡◌, ◌≤◌, ◌<◌, ◌*◌, ◌%◌, ◌^◌, ℕ, sym, ap, subst, ◌∙◌, arith, mul-mod_left, mul-le-mul, BeatOf, WIDEST}
+use Rattle.tl_convert.proofs.Names.{bytes_per_beat, width_bounds, per_beat, IsBlank}
 use Rattle.tl_convert.proofs.giving.give_data.Goals.{then-index-eq0, else-index-eq0}
 use Rattle.tl_convert.proofs.PourStep.{same-small, bytes-within}
 use Rattle.tl_convert.proofs.GiveStep.{give-all}

@@ -1,9 +1,4 @@
-use Rattle.std.proofs.Common.{◌≡◌, ◌<◌, ℕ, length, true, false, [], ◌∷◌, ◌++◌, sym, ap, subst, ◌∙◌, arith}
-use Rattle.tl_lanes.specs.declared.limits.TheConstants.{WIDEST}
-use Rattle.tl_lanes.specs.Lanes.{active_mask}
-use Rattle.tl_msg.specs.declared.beat.BeatOf.{BeatOf}
-use Rattle.tl_burst.specs.Messages.{layout}
-use Rattle.tl_convert.specs.Inner.Giving.{of_head}
+use Rattle.tl_convert.proofs.Names.{◌≡◌, length, true, false, [], ◌∷◌, ◌++◌, sym, ap, subst, ◌∙◌, arith, active_mask, BeatOf, layout, of_head}
 use Rattle.tl_convert.proofs.SingleBeat.{single-is}
 use Rattle.tl_convert.proofs.PourStep.{same-small}
 use Rattle.tl_convert.proofs.giving.give_head.Goals.{then-MASKED, else-MASKED}
@@ -33,8 +28,5 @@ blank-beat-requires g c = c.requires-raw.1.1.1.1.0
 pub active-requires-clause-small : goal.active-requires-clause-small
 active-requires-clause-small g c = same-small c.size.result (g.K.Channel.rules.size c.args.head) c.size.ensures c.requires.1
 
-none-fits : (n : ℕ) → n ≡ 0 → n < WIDEST
-none-fits n e = omega arith
-
 pub push-requires : goal.push-requires
-push-requires g c = (c.requires-raw.1.1.1.0, none-fits (length c.args.out.now.items) (ap length c.requires.2))
+push-requires g c = (c.requires-raw.1.1.1.0, omega (arith, ap length c.requires.2))

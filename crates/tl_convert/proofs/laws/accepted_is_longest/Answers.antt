@@ -1,4 +1,4 @@
-use Rattle.tl_burst.proofs.FaultsExact.{ChannelLaws, laws-of}
+use Rattle.tl_convert.proofs.Names.{ChannelLaws, laws-of}
 use Rattle.tl_convert.proofs.AcceptedLaw.{accepted-is}
 use Rattle.tl_convert.proofs.laws.accepted_is_longest.Goals as goal
 

@@ -1,4 +1,4 @@
-use Rattle.std.proofs.Common.{refl}
+use Rattle.tl_convert.proofs.Names.{refl}
 use Rattle.tl_convert.proofs.DuePrefix.{due-prefix}
 use Rattle.tl_convert.proofs.laws.due_grows.Goals as goal
 

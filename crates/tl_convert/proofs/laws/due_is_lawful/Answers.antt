@@ -1,4 +1,4 @@
-use Rattle.tl_burst.proofs.FaultsExact.{ChannelLaws, laws-of}
+use Rattle.tl_convert.proofs.Names.{ChannelLaws, laws-of}
 use Rattle.tl_convert.proofs.FarHanded.{far-handed}
 use Rattle.tl_convert.proofs.LawfulBeats.{handed-lawful}
 use Rattle.tl_convert.proofs.laws.due_is_lawful.Goals as goal

@@ -1,6 +1,4 @@
-use Rattle.std.proofs.Common.{◌||◌, refl, sym, subst, ◌∙◌}
-use Rattle.tl_msg.specs.declared.beat.BeatOf.{BeatOf}
-use Rattle.tl_convert.specs.Inner.Pouring.{Poured}
+use Rattle.tl_convert.proofs.Names.{◌||◌, refl, sym, subst, ◌∙◌, BeatOf, Poured}
 use Rattle.tl_convert.proofs.PourStep.{to-old, from-old}
 use Rattle.tl_convert.proofs.pouring.add_bytes.Goals.{then-MASKED, else-MASKED}
 use Rattle.tl_convert.proofs.pouring.add_bytes.Goals as goal

@@ -1,17 +1,11 @@
-use Rattle.std.proofs.Common.{◌≡◌, ◌≤◌, ◌<◌, ◌+◌, ◌%◌, ◌^◌, ℕ, List, refl, sym, ap, subst, ◌∙◌, arith, ◌++◌, ◌∷◌, [], length, ◌*◌}
-use Rattle.std.specs.List.{refill}
-use Rattle.std.proofs.Math.ListN.{get_or, set}
+use Rattle.tl_convert.proofs.Names.{◌≡◌, ◌≤◌, ◌+◌, ◌%◌, ◌^◌, ℕ, List, refl, sym, ap, subst, ◌∙◌, arith, ◌++◌, ◌∷◌, [], length, ◌*◌, refill, set}
+use Rattle.tl_convert.proofs.Names.{BeatOf, bytes_per_beat, width_bounds, per_beat, Poured, Pours}
+use Rattle.std.proofs.Math.ListN.{get_or}
 use denote.Memory.{lone}
 use denote.Param.{layout}
 use prog.Memory.{size, align}
 use mir.Syntax.{w64}
 use mir.Val.{Fits}
-use Rattle.tl_msg.specs.declared.beat.BeatOf.{BeatOf}
-use Rattle.tl_lanes.specs.declared.limits.TheConstants.{WIDEST}
-use Rattle.tl_lanes.specs.Lanes.{bytes_per_beat}
-use Rattle.tl_lanes.proofs.Widths.{width_bounds}
-use Rattle.tl_burst.specs.Messages.{per_beat}
-use Rattle.tl_convert.specs.Inner.Pouring.{Poured, Pours}
 use Rattle.tl_convert.proofs.PourStep.{one-chunk, pour-stays, pour-ends, blank-empty, last-changed, last-was, last-inside, same-small, bytes-within, rest-by-mask}
 use Rattle.tl_convert.proofs.Sizes.{beat_bytes}
 use Rattle.tl_convert.proofs.pouring.pour_part.Goals as goal
@@ -88,11 +82,8 @@ beat_bytes-requires-clause-width g c = c.requires.0.far
 pub as_mut_slice-requires : goal.as_mut_slice-requires
 as_mut_slice-requires g c = c.requires-raw.1.1.1.1.1.1.0
 
-none-fits : (n : ℕ) → n ≡ 0 → n < WIDEST
-none-fits n e = omega arith
-
 pub push-requires : goal.push-requires
-push-requires g c = (c.requires-raw.1.1.1.1.1.1.0, none-fits (length c.args.out.now.items) (ap length c.requires.0.empty))
+push-requires g c = (c.requires-raw.1.1.1.1.1.1.0, omega (arith, ap length c.requires.0.empty))
 
 none-before : (n : ℕ) → Fits w64 (0 * n)
 none-before n = record { fits = omega arith }

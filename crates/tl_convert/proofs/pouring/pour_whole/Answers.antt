@@ -1,15 +1,9 @@
-use Rattle.std.proofs.Common.{◌≡◌, ◌≤◌, ◌<◌, ◌+◌, ◌-◌, ◌*◌, ◌/◌, ◌%◌, ◌^◌, ◌++◌, ◌∷◌, [], ℕ, List, length, min, refl, sym, ap, subst, ◌∙◌, arith, length-append}
-use Rattle.std.specs.List.{refill}
-use Rattle.std.proofs.Math.ListN.{get_or, set}
-use Rattle.std.proofs.Math.Nat.{div-le_self}
-use Rattle.tl_msg.specs.declared.beat.BeatOf.{BeatOf}
+use Rattle.tl_convert.proofs.Names.{◌≡◌, ◌≤◌, ◌<◌, ◌+◌, ◌-◌, ◌*◌, ◌/◌, ◌%◌, ◌^◌, ◌++◌, ◌∷◌, [], ℕ, List, length, min, refl, sym, ap, subst, ◌∙◌}
+use Rattle.tl_convert.proofs.Names.{arith, length-append, refill, set, div-le_self, BeatOf, WIDEST, bytes_per_beat, width_bounds, per_beat, Poured}
+use Rattle.tl_convert.proofs.Names.{Pours}
+use Rattle.std.proofs.Math.ListN.{get_or}
 use denote.Memory.{lone}
 use denote.Param.{layout}
-use Rattle.tl_lanes.specs.declared.limits.TheConstants.{WIDEST}
-use Rattle.tl_lanes.specs.Lanes.{bytes_per_beat}
-use Rattle.tl_lanes.proofs.Widths.{width_bounds}
-use Rattle.tl_burst.specs.Messages.{per_beat}
-use Rattle.tl_convert.specs.Inner.Pouring.{Poured, Pours}
 use Rattle.tl_convert.proofs.PourStep.{Chunk, chunk-at, chunk-all, pour-ends, whole-ends, begins-far, begun-empty, last-changed, last-was, last-inside, same-small, bytes-within}
 use Rattle.tl_convert.proofs.Sizes.{place_fits}
 use Rattle.tl_convert.proofs.pouring.pour_whole.Goals as goal

@@ -1,7 +1,5 @@
-use Rattle.std.proofs.Common.{◌≡◌, ◌+◌, ◌*◌, []}
+use Rattle.tl_convert.proofs.Names.{◌≡◌, ◌+◌, ◌*◌, [], Message, Source, Pours}
 use Rattle.arrayvec.specs.ArrayVec.{array_vec_len}
-use Rattle.tl_burst.specs.Messages.{Message}
-use Rattle.tl_convert.specs.Inner.Pouring.{Source, Pours}
 use Rattle.tl_convert.proofs.pouring.pour_whole.Given as goal
 
 abbrev pub invariant-loop-t : goal.invariant-loop-t

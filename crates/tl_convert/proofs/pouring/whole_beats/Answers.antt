@@ -1,6 +1,4 @@
-use Rattle.std.proofs.Common.{◌≡◌, ◌/◌, refl, sym, ap, ◌∙◌, arith}
-use Rattle.std.proofs.Math.Nat.{div_self}
-use Rattle.tl_lanes.specs.Lanes.{bytes_per_beat}
+use Rattle.tl_convert.proofs.Names.{◌≡◌, ◌/◌, refl, sym, ap, ◌∙◌, arith, div_self, bytes_per_beat}
 use Rattle.tl_convert.proofs.PourStep.{some-bytes}
 use Rattle.tl_convert.proofs.pouring.whole_beats.Goals as goal
 

@@ -1,4 +1,4 @@
-use Rattle.std.proofs.Common.{refl}
+use Rattle.tl_ring.proofs.Names.{refl}
 use Rattle.tl_ring.proofs.Moves.{no_ring_size, want_of_memory}
 use Rattle.tl_ring.proofs.halves.new_ring.Goals as goal
 

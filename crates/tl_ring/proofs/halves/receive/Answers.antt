@@ -1,6 +1,4 @@
-use Rattle.std.proofs.Common.{◌≤◌, ◌≡◌, length, rules, ◌∙◌, arith}
-use Rattle.std.proofs.lemmas.List.{length-take}
-use Rattle.tl_msg.specs.Faults.{IsLawfulBeat}
+use Rattle.tl_ring.proofs.Names.{◌≤◌, ◌≡◌, length, rules, ◌∙◌, arith, length-take, IsLawfulBeat}
 use Rattle.tl_ring.proofs.EndSteps.{fetched_of, takes_fetched, least_moved}
 use Rattle.tl_ring.proofs.Fronts.{all_allowed, all_front, front_of, front_size}
 use denote.Memory.{lone}

@@ -1,4 +1,4 @@
-use Rattle.std.proofs.Common.{ap, arith}
+use Rattle.tl_ring.proofs.Names.{ap, arith}
 use Rattle.tl_ring.proofs.EndSteps.{sends_passed}
 use Rattle.tl_ring.proofs.Fronts.{front_pushed, most_pushed, least_pushed}
 use denote.Memory.{lone}

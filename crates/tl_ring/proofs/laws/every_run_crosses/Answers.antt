@@ -1,5 +1,4 @@
-use Rattle.tl_burst.proofs.FaultsExact.{ChannelLaws, laws-of}
-use Rattle.tl_ring.specs.Crossing.{empty}
+use Rattle.tl_ring.proofs.Names.{ChannelLaws, laws-of, empty}
 use Rattle.tl_ring.proofs.Total.{leads}
 use Rattle.tl_ring.proofs.Crossings.{Crosses-empty, Crosses-run, shut_run}
 use Rattle.tl_ring.proofs.laws.every_run_crosses.Goals as goal

@@ -1,5 +1,4 @@
-use Rattle.std.proofs.Common.{◌≤◌, length, arith}
-use Rattle.tl_ring.specs.declared.queue.TheConstants.{ROOM}
+use Rattle.tl_ring.proofs.Names.{◌≤◌, length, arith, ROOM}
 use Rattle.tl_ring.proofs.EndSteps.{met_of, meets_of}
 use denote.Memory.{lone}
 use denote.Param.{layout, param, number, copied}

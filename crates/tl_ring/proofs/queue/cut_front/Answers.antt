@@ -1,4 +1,4 @@
-use Rattle.std.proofs.Common.{arith}
+use Rattle.tl_ring.proofs.Names.{arith}
 use Rattle.tl_ring.proofs.queue.cut_front.Goals as goal
 
 pub len-requires : goal.len-requires

@@ -1,6 +1,4 @@
-use Rattle.std.proofs.Common.{arith}
-use Rattle.std.proofs.lemmas.List.Elements.{All-drop}
-use Rattle.tl_msg.specs.Faults.{IsLawfulBeat}
+use Rattle.tl_ring.proofs.Names.{arith, All-drop, IsLawfulBeat}
 use Rattle.tl_ring.proofs.ring.fetch.Goals as goal
 
 pub invariant_of-ring : goal.invariant_of-ring

@@ -1,4 +1,4 @@
-use Rattle.std.proofs.Common.{arith}
+use Rattle.tl_ring.proofs.Names.{arith}
 use Rattle.tl_ring.proofs.ring.is_ring_size.Goals as goal
 
 pub returns-then-ring-ge1 : goal.returns-then-ring-ge1

@@ -1,6 +1,4 @@
-use Rattle.std.proofs.Common.{arith}
-use Rattle.std.proofs.lemmas.List.Elements.{All-append, All-take}
-use Rattle.tl_msg.specs.Faults.{IsLawfulBeat}
+use Rattle.tl_ring.proofs.Names.{arith, All-append, All-take, IsLawfulBeat}
 use denote.Memory.{lone}
 use denote.Param.{layout, param, number, copied}
 use Rattle.tl_ring.specs.contracts.outbox.Outbox.{the_row}

@@ -1,8 +1,6 @@
-use Rattle.std.proofs.Common.{rules, ◌≡◌, ◌-◌, ◌++◌, length, drop, append-nil, append_assoc, length-append, refl, sym, ap, ◌∙◌, arith}
+use Rattle.tl_ring.proofs.Names.{rules, ◌≡◌, ◌-◌, ◌++◌, length, drop, append-nil, append_assoc, length-append, refl, sym, ap, ◌∙◌, arith, length-take}
+use Rattle.tl_ring.proofs.Names.{All-take, IsLawfulBeat}
 use Rattle.circular_buffer.specs.Buffer.{buffer}
-use Rattle.std.proofs.lemmas.List.{length-take}
-use Rattle.std.proofs.lemmas.List.Elements.{All-take}
-use Rattle.tl_msg.specs.Faults.{IsLawfulBeat}
 use Rattle.tl_ring.proofs.Answered.{all_in_front, all_behind}
 use Rattle.tl_ring.proofs.Moves.{take_of_two, take_of_first}
 use Rattle.tl_ring.proofs.ring.read_front.Goals.{then-from_front-count, else-from_front-count}

@@ -1,4 +1,4 @@
-use Rattle.std.proofs.Common.{arith}
+use Rattle.tl_ring.proofs.Names.{arith}
 use denote.Param.{layout, param, number, copied}
 use Rattle.tl_msg.specs.contracts.beat.BeatOf as beat
 use Rattle.tl_ring.specs.contracts.queue.Queue.{the_row}

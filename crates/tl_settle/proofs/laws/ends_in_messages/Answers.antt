@@ -1,4 +1,4 @@
-use Rattle.tl_lanes.proofs.Widths.{width_bounds}
+use Rattle.tl_settle.proofs.Names.{width_bounds}
 use Rattle.tl_settle.proofs.EndsSettled.{script_ends}
 use Rattle.tl_settle.proofs.laws.ends_in_messages.Goals as goal
 

@@ -1,4 +1,4 @@
-use Rattle.tl_lanes.proofs.Widths.{width_bounds}
+use Rattle.tl_settle.proofs.Names.{width_bounds}
 use Rattle.tl_settle.proofs.Runs.{over}
 use Rattle.tl_settle.proofs.laws.every_run.Goals as goal
 

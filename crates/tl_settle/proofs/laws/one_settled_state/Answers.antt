@@ -1,4 +1,4 @@
-use Rattle.tl_lanes.proofs.Widths.{width_bounds}
+use Rattle.tl_settle.proofs.Names.{width_bounds}
 use Rattle.tl_settle.proofs.Settles.{one_settled}
 use Rattle.tl_settle.proofs.laws.one_settled_state.Goals as goal
 

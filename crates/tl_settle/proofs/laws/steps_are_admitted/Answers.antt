@@ -1,4 +1,4 @@
-use Rattle.tl_lanes.proofs.Widths.{width_bounds}
+use Rattle.tl_settle.proofs.Names.{width_bounds}
 use Rattle.tl_settle.proofs.Admits.{at_admitted}
 use Rattle.tl_settle.proofs.laws.steps_are_admitted.Goals as goal
 

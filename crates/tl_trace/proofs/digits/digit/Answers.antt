@@ -1,6 +1,5 @@
 -- The table is held against the definition at each of the 256 bytes, by computing.
-use Rattle.std.proofs.Common.{refl, arith}
-use Rattle.tl_trace.specs.declared.digits.TheConstants.{DIGIT_VALUES}
+use Rattle.tl_trace.proofs.Names.{refl, arith, DIGIT_VALUES}
 use Rattle.tl_trace.proofs.Table.{agree_below, from_table}
 use Rattle.tl_trace.proofs.digits.digit.Goals as goal
 

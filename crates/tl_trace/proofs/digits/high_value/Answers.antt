@@ -1,7 +1,5 @@
 -- The table is held against the definition at each of the 256 bytes, by computing.
-use Rattle.std.proofs.Common.{◌*◌, cond, nat_lt, get_or, refl, arith}
-use Rattle.tl_trace.specs.Inner.Reading.{digit_of}
-use Rattle.tl_trace.specs.declared.digits.TheConstants.{HIGH_VALUES}
+use Rattle.tl_trace.proofs.Names.{◌*◌, cond, nat_lt, get_or, refl, arith, digit_of, HIGH_VALUES}
 use Rattle.tl_trace.proofs.Table.{agree_below, agree_at}
 use Rattle.tl_trace.proofs.digits.high_value.Goals as goal
 

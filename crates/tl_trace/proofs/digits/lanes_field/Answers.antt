@@ -1,5 +1,4 @@
-use Rattle.std.proofs.Common.{◌≡◌, ◌+◌, ◌*◌, length, arith}
-use Rattle.std.specs.List.{slice_range}
+use Rattle.tl_trace.proofs.Names.{◌≡◌, ◌+◌, ◌*◌, length, arith, slice_range}
 use Rattle.tl_trace.proofs.ReadDigits.{lanes_start, lanes_more, lanes_are, lanes_done, range_long}
 use Rattle.tl_trace.proofs.digits.lanes_field.Goals as goal
 

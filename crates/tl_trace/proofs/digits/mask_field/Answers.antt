@@ -1,5 +1,4 @@
-use Rattle.std.proofs.Common.{◌≡◌, ◌+◌, ◌-◌, length, arith}
-use Rattle.std.specs.List.{slice_range}
+use Rattle.tl_trace.proofs.Names.{◌≡◌, ◌+◌, ◌-◌, length, arith, slice_range}
 use Rattle.tl_trace.proofs.ReadDigits.{range_long, spelt_after, spelt_split}
 use Rattle.tl_trace.proofs.digits.mask_field.Goals as goal
 

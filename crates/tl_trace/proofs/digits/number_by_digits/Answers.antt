@@ -1,4 +1,4 @@
-use Rattle.std.proofs.Common.{arith}
+use Rattle.tl_trace.proofs.Names.{arith}
 use Rattle.tl_trace.proofs.ReadDigits.{spelt_start, spelt_next, spelt_done}
 use Rattle.tl_trace.proofs.digits.number_by_digits.Goals as goal
 

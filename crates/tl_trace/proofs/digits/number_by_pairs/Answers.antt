@@ -1,4 +1,4 @@
-use Rattle.std.proofs.Common.{◌≡◌, ◌*◌, length, arith}
+use Rattle.tl_trace.proofs.Names.{◌≡◌, ◌*◌, length, arith}
 use Rattle.tl_trace.proofs.ReadDigits.{pairs_start, pairs_more, pairs_done}
 use Rattle.tl_trace.proofs.digits.number_by_pairs.Goals as goal
 

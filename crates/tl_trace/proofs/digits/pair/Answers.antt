@@ -1,5 +1,4 @@
-use Rattle.std.proofs.Common.{arith}
-use Rattle.tl_trace.specs.Inner.Reading.{digit_of}
+use Rattle.tl_trace.proofs.Names.{arith, digit_of}
 use Rattle.tl_trace.proofs.ReadDigits.{pair_fits, pair_good, pair_bad}
 use Rattle.tl_trace.proofs.digits.pair.Goals as goal
 

@@ -1,6 +1,5 @@
 -- The table is held against the definition at each of the 256 bytes, by computing.
-use Rattle.std.proofs.Common.{cond, nat_eq, get_or, refl, arith}
-use Rattle.tl_trace.specs.declared.digits.TheConstants.{SPACE_VALUES}
+use Rattle.tl_trace.proofs.Names.{cond, nat_eq, get_or, refl, arith, SPACE_VALUES}
 use Rattle.tl_trace.proofs.Table.{agree_below, agree_at}
 use Rattle.tl_trace.proofs.digits.space.Goals as goal
 

@@ -1,5 +1,4 @@
-use Rattle.std.proofs.Common.{arith}
-use Rattle.tl_trace.specs.Fields.{address}
+use Rattle.tl_trace.proofs.Names.{arith, address}
 use Rattle.tl_trace.proofs.ReadDigits.{left_good, right_good}
 use Rattle.tl_trace.proofs.LineParts.{and_field}
 use Rattle.tl_trace.proofs.head_reader.read_addressed.Goals as goal

@@ -1,6 +1,4 @@
-use Rattle.std.proofs.Common.{ℕ, refl, subst, arith}
-use Rattle.tl_trace.specs.Fields.{opcode, param, size, source, id_digits}
-use Rattle.tl_trace.specs.Inner.Reading.{IsNumber}
+use Rattle.tl_trace.proofs.Names.{ℕ, refl, subst, arith, opcode, param, size, source, id_digits, IsNumber}
 use Rattle.tl_trace.proofs.Ids.{id_limits}
 use Rattle.tl_trace.proofs.ReadDigits.{left_good, right_good}
 use Rattle.tl_trace.proofs.LineParts.{number_part, and_field}

@@ -1,5 +1,4 @@
-use Rattle.std.proofs.Common.{ap, sym, ◌∙◌}
-use Rattle.std.specs.Prelude.{bytes_eq}
+use Rattle.tl_trace.proofs.Names.{ap, sym, ◌∙◌, bytes_eq}
 use Rattle.tl_trace.proofs.Headers.{shifted_at, found, passed, not_found}
 use Rattle.tl_trace.proofs.header.header_in.Goals as goal
 

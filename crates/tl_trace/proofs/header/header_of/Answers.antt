@@ -1,8 +1,4 @@
-use Rattle.std.proofs.Common.{sym, ap, ◌∙◌, Option}
-use Rattle.std.specs.Prelude.{find}
-use Rattle.std.specs.Option.{option_or}
-use Rattle.tl_trace.specs.declared.header.Header.{Header}
-use Rattle.tl_trace.specs.Faults.{headers_of, is_header_of}
+use Rattle.tl_trace.proofs.Names.{sym, ap, ◌∙◌, Option, find, option_or, Header, headers_of, is_header_of}
 use Rattle.tl_trace.proofs.Headers.{of_versions}
 use Rattle.tl_trace.proofs.header.header_of.Goals as goal
 

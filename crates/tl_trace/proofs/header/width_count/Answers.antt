@@ -1,4 +1,4 @@
-use Rattle.std.proofs.Common.{arith}
+use Rattle.tl_trace.proofs.Names.{arith}
 use Rattle.tl_trace.proofs.Headers.{narrow_count, wide_count}
 use Rattle.tl_trace.proofs.header.width_count.Goals as goal
 

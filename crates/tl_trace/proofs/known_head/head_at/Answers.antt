@@ -1,4 +1,4 @@
-use Rattle.std.proofs.Common.{◌∙◌, arith}
+use Rattle.tl_trace.proofs.Names.{◌∙◌, arith}
 use Rattle.tl_trace.proofs.KnownHeads.{known_of, same_long, same_head, read_head}
 use Rattle.tl_trace.proofs.ReadDigits.{range_long}
 use Rattle.tl_trace.proofs.known_head.head_at.Goals as goal

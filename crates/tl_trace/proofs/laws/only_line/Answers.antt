@@ -1,6 +1,4 @@
-use Rattle.std.proofs.Common.{List, ℕ, lit≤, sym, subst}
-use Rattle.tl_trace.specs.Fields.{form_a, form_b, form_c, form_d, form_e}
-use Rattle.tl_trace.specs.Lines.{IsLine}
+use Rattle.tl_trace.proofs.Names.{List, ℕ, lit≤, sym, subst, form_a, form_b, form_c, form_d, form_e, IsLine}
 use Rattle.tl_trace.proofs.Spelling.{only_line, is_line}
 use Rattle.tl_trace.proofs.laws.only_line.Goals as goal
 

@@ -1,6 +1,4 @@
-use Rattle.std.proofs.Common.{◌≡◌, ◌+◌, ◌^◌, ◌&&◌, ℕ, true, nat_eq, nat_lt, refl, sym, ap, ◌∙◌, arith}
-use Rattle.std.specs.List.{list_all}
-use Rattle.tl_msg.specs.declared.beat.BeatOf.{BeatOf}
+use Rattle.tl_trace.proofs.Names.{◌≡◌, ◌+◌, ◌^◌, ◌&&◌, ℕ, true, nat_eq, nat_lt, refl, sym, ap, ◌∙◌, arith, list_all, BeatOf}
 use Rattle.tl_trace.proofs.ReadDigits.{left_good, right_good, zero_are, zero_number, zero_bits}
 use Rattle.tl_trace.proofs.LineParts.{line_long}
 use Rattle.tl_trace.proofs.KnownHeads.{beat_is}

@@ -1,11 +1,7 @@
-use Rattle.std.proofs.Common.{◌≡◌, ◌+◌, ◌^◌, ◌&&◌, ℕ, true, false, nat_lt, nat_eq, length, arith, refl, sym, ap, ◌∙◌}
-use Rattle.std.specs.List.{list_all}
-use Rattle.tl_msg.specs.declared.beat.BeatOf.{BeatOf}
-use Rattle.tl_trace.specs.Fields.{id_digits, line_length, number_of_lanes}
-use Rattle.tl_trace.specs.Inner.Reading.{is_head_in_range}
+use Rattle.tl_trace.proofs.Names.{◌≡◌, ◌+◌, ◌^◌, ◌&&◌, ℕ, true, false, nat_lt, nat_eq, length, arith, refl, sym, ap, ◌∙◌, list_all, BeatOf, id_digits}
+use Rattle.tl_trace.proofs.Names.{line_length, number_of_lanes, is_head_in_range, HasHead}
 use Rattle.tl_trace.proofs.Shaped.{wrong_length, wrong_shape, wrong_range}
 use Rattle.tl_trace.proofs.ReadDigits.{left_good, right_good, zero_are, zero_number, zero_bits}
-use Rattle.tl_trace.specs.Inner.KnownHeads.{HasHead}
 use Rattle.tl_trace.proofs.Ids.{four_digits}
 use Rattle.tl_trace.proofs.KnownHeads.{beat_is}
 use Rattle.tl_trace.proofs.LineParts.{line_long, line_part, line_values, below_is, no_head, out_fields}

@@ -1,8 +1,6 @@
-use Rattle.std.proofs.Common.{◌≡◌, true, refl, sym, ◌∙◌}
-use Rattle.std.proofs.lemmas.Bool.{false≢true}
+use Rattle.tl_trace.proofs.Names.{◌≡◌, true, refl, sym, ◌∙◌, false≢true, number_of_lanes}
 use Rattle.tl_trace.proofs.ReadDigits.{left_good, lanes_small, zero_small}
 use Rattle.tl_trace.proofs.LineParts.{data_part, no_data, data_room, fewer}
-use Rattle.tl_trace.specs.Fields.{number_of_lanes}
 use Rattle.tl_trace.proofs.line_reader.read_data.Goals as goal
 
 pub returns-then-not-HAS_DATA-clause-small : goal.returns-then-not-HAS_DATA-clause-small

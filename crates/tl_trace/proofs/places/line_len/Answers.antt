@@ -1,4 +1,4 @@
-use Rattle.std.proofs.Common.{arith}
+use Rattle.tl_trace.proofs.Names.{arith}
 use Rattle.tl_trace.proofs.LineParts.{line_long}
 use Rattle.tl_trace.proofs.places.line_len.Goals as goal
 

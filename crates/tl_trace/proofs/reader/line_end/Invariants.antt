@@ -1,4 +1,4 @@
-use Rattle.std.proofs.Common.{length, ◌-◌}
+use Rattle.tl_trace.proofs.Names.{length, ◌-◌}
 use Rattle.tl_trace.proofs.LineEnds.{IsFreeTo}
 use Rattle.tl_trace.proofs.reader.line_end.Given as goal
 

@@ -1,8 +1,4 @@
-use Rattle.tl_trace.specs.Inner.Reading.{LineAt}
-use Rattle.std.proofs.Common.{◌<◌, ◌≡◌, ◌+◌, ◌++◌, List, ℕ, Some, length, drop, arith, ap, ◌∙◌}
-use Rattle.std.specs.List.{slice_range}
-use Rattle.tl_trace.specs.Texts.{newline}
-use Rattle.tl_trace.specs.Faults.{header_of}
+use Rattle.tl_trace.proofs.Names.{LineAt, ◌<◌, ◌≡◌, ◌+◌, ◌++◌, List, ℕ, Some, length, drop, arith, ap, ◌∙◌, slice_range, newline, header_of}
 use Rattle.tl_trace.proofs.Headers.{known, is_header, from_start}
 use Rattle.tl_trace.proofs.Widths.{width_most}
 use Rattle.tl_trace.proofs.Walk.{no_header, no_header_end, header_faults, split_line}
@@ -38,7 +34,7 @@ pub invariant_of-result : goal.invariant_of-result
 invariant_of-result c =
     let some : header_of (slice_range c.args.text.now 0 c.line_end-end.result) ≡ Some c.in-Some.header = from_start c.args.text.now c.line_end-end.result _ c.in-Some.ensures in
     let all = known (slice_range c.args.text.now 0 c.line_end-end.result) c.in-Some.header some in
-    record { kept = record { known_version = all.0; client_width = all.1; manager_width = all.2; kept = c.in_ok-lines.ensures.kept } }
+    record { kept = record { known_version = all.0; client_width = all.1; manager_width = all.2; kept = c.in-Ok.ensures.1 } }
 
 pub returns-clause-told : goal.returns-clause-told
 returns-clause-told c =
@@ -50,10 +46,10 @@ returns-clause-told c =
     let all = known b c.in-Some.header some in
     let rest = drop (c.line_end-end.result + 1) c.args.text.now in
     record {
-      trace = record { known_version = all.0; client_width = all.1; manager_width = all.2; kept = c.in_ok-lines.ensures.kept };
+      trace = record { known_version = all.0; client_width = all.1; manager_width = all.2; kept = c.in-Ok.ensures.1 };
       rest = rest;
       header = split_line c.args.text.now 0 c.line_end-end.result line lt ∙ ap (λ (h : List ℕ). h ++ newline ++ rest) (is_header b c.in-Some.header some);
-      told = c.in_ok-lines.ensures.told;
+      told = c.in-Ok.ensures.0;
     }
 
 pub returns-in_default-clause-told : goal.returns-in_default-clause-told
@@ -73,3 +69,9 @@ returns-clause-fault c = tt
 
 pub returns-clause-memory : goal.returns-clause-memory
 returns-clause-memory c = tt
+
+pub returns-in-Err-clause-fault : goal.returns-in-Err-clause-fault
+returns-in-Err-clause-fault c = c.in-Err.ensures.0
+
+pub returns-in-Err-clause-memory : goal.returns-in-Err-clause-memory
+returns-in-Err-clause-memory c = c.in-Err.ensures.1

@@ -1,8 +1,5 @@
-use Rattle.std.proofs.Common.{◌≡◌, Some, rules, sym, subst}
-use Rattle.std.specs.Prelude.{MatchResult}
-use Rattle.tl_trace.specs.Faults.{body_fault}
-use Rattle.tl_trace.specs.Inner.Reading.{IsReadLine}
-use Rattle.tl_trace.proofs.Pieces.{version_2}
+use Rattle.tl_trace.proofs.Names.{◌≡◌, Some, rules, sym, subst, MatchResult, body_fault, IsReadLine}
+use Rattle.tl_trace.proofs.Ids.{other_version}
 use Rattle.tl_trace.proofs.reader.read_line.Goals as goal
 
 pub returns-in-1 : goal.returns-in-1
@@ -13,4 +10,4 @@ pub returns-in_default : goal.returns-in_default
 returns-in_default c =
     subst
     (λ v. MatchResult c.read_line_in-in_default.result (IsReadLine v c.args.client c.args.manager c.args.text.now) (λ kind. body_fault v c.args.client c.args.manager c.args.text.now ≡ Some kind))
-    (sym (version_2 c.args.version c.requires.version (search rules))) c.read_line_in-in_default.ensures
+    (sym (other_version c.args.version c.requires.version (search rules))) c.read_line_in-in_default.ensures

@@ -1,4 +1,4 @@
-use Rattle.std.proofs.Common.{sym, ◌∙◌}
+use Rattle.tl_trace.proofs.Names.{sym, ◌∙◌}
 use Rattle.tl_trace.proofs.ReadLines.{read_as_a, read_as_b, read_as_c, read_as_d, read_as_e, fault_a, fault_b, fault_c, fault_d, fault_e}
 use Rattle.tl_trace.proofs.reader.read_line_in.Goals as goal
 

@@ -1,34 +1,33 @@
-use Rattle.std.proofs.Common.{◌+◌, ◌<◌, ◌≡◌, false, length, arith, refl, sym, subst, ◌++◌, ◌∷◌, ◌∙◌, [], List}
-use Rattle.std.specs.List.{slice_range}
-use Rattle.std.specs.Result.{is_err}
-use Rattle.tl_trace.specs.Inner.Reading.{LineAt}
-use Rattle.tl_trace.specs.declared.line.Line.{Line}
+use Rattle.tl_trace.proofs.Names.{◌+◌, ◌<◌, ◌≡◌, false, length, arith, refl, sym, subst, ◌++◌, ◌∷◌, ◌∙◌, [], List, slice_range, is_err, LineAt, Line}
+use Rattle.tl_trace.proofs.Names.{drop, ◌-◌, take_all, length-drop, TellsLines}
 use Rattle.tl_trace.proofs.NextLine.{was_put}
 use Rattle.tl_trace.proofs.ReadLines.{SoFar}
 use Rattle.tl_trace.proofs.Walk.{no_memory, refused, no_end, unstored, advance}
 use Rattle.tl_trace.proofs.reader.read_lines.Goals as goal
 
-pub returns-in-Err-clause-fault : goal.returns-in-Err-clause-fault
-returns-in-Err-clause-fault c _ =
+pub returns-in-Err : goal.returns-in-Err
+returns-in-Err c =
     let e = c.line_end-end.ensures in
     let h = c.args.header in
     let line : LineAt c.args.text.now c.loop-at.at c.line_end-end.result = record { from = e.from; to = e.to; free = e.free; stop = e.end } in
-    refused c.args.text.now c.args.start h.version h.client h.manager c.loop-at.lines.items c.loop-at.at c.loop-at.before c.line_end-end.result c.in-Err.kind c.loop-at.invariant line c.loop-at-test.true c.in-Err.ensures
+    let first = refused c.args.text.now c.args.start h.version h.client h.manager c.loop-at.lines.items c.loop-at.at c.loop-at.before c.line_end-end.result c.in-Err.kind c.loop-at.invariant line c.loop-at-test.true c.in-Err.ensures in
+    (λ _. first, λ is. absurd (no_memory h.version h.client h.manager (slice_range c.args.text.now c.loop-at.at c.line_end-end.result) c.in-Err.kind c.in-Err.ensures is))
 
-pub returns-then-end-text-clause-fault : goal.returns-then-end-text-clause-fault
-returns-then-end-text-clause-fault c _ =
+pub returns-then-end-text : goal.returns-then-end-text
+returns-then-end-text c =
     let e = c.line_end-end.ensures in
     let h = c.args.header in
     let line : LineAt c.args.text.now c.loop-at.at c.line_end-end.result = record { from = e.from; to = e.to; free = e.free; stop = e.end } in
-    no_end c.args.text.now c.args.start h.version h.client h.manager c.loop-at.lines.items c.loop-at.at c.loop-at.before c.line_end-end.result c.in-Ok.beat c.loop-at.invariant line c.loop-at-test.true c.in-Ok.ensures c.if-end-text.true
+    (λ _. no_end c.args.text.now c.args.start h.version h.client h.manager c.loop-at.lines.items c.loop-at.at c.loop-at.before c.line_end-end.result c.in-Ok.beat c.loop-at.invariant line c.loop-at-test.true c.in-Ok.ensures c.if-end-text.true, λ is. absurd cc)
 
-pub returns-then-is_err-clause-memory : goal.returns-then-is_err-clause-memory
-returns-then-is_err-clause-memory c _ =
+pub returns-then-is_err : goal.returns-then-is_err
+returns-then-is_err c =
     let e = c.line_end-end.ensures in
     let h = c.args.header in
     let line : LineAt c.args.text.now c.loop-at.at c.line_end-end.result = record { from = e.from; to = e.to; free = e.free; stop = e.end } in
     let lt : c.line_end-end.result < length c.args.text.now = omega (arith, e.to, c.if-end-text.false) in
-    unstored c.args.text.now c.args.start h.version h.client h.manager c.loop-at.lines.items c.loop-at.at c.loop-at.before c.line_end-end.result c.in-Ok.beat c.loop-at.invariant line c.in-Ok.ensures lt
+    -- a want of memory is no fault of the text
+    (λ other. absurd (other refl), λ _. unstored c.args.text.now c.args.start h.version h.client h.manager c.loop-at.lines.items c.loop-at.at c.loop-at.before c.line_end-end.result c.in-Ok.beat c.loop-at.invariant line c.in-Ok.ensures lt)
 
 pub loop-at-preserved : goal.loop-at-preserved
 loop-at-preserved c =
@@ -45,33 +44,10 @@ loop-at-preserved c =
 pub line_end-end-requires : goal.line_end-end-requires
 line_end-end-requires c = c.loop-at.invariant.within
 
-pub returns-in-Err-clause-told : goal.returns-in-Err-clause-told
-returns-in-Err-clause-told c = tt
-
-pub returns-in-Err-clause-kept : goal.returns-in-Err-clause-kept
-returns-in-Err-clause-kept c = tt
-
-pub returns-in-Err-clause-memory : goal.returns-in-Err-clause-memory
-returns-in-Err-clause-memory c = λ is. absurd (no_memory c.args.header.version c.args.header.client c.args.header.manager (slice_range c.args.text.now c.loop-at.at c.line_end-end.result) c.in-Err.kind c.in-Err.ensures is)
-
-pub returns-then-end-text-clause-told : goal.returns-then-end-text-clause-told
-returns-then-end-text-clause-told c = tt
-
-pub returns-then-end-text-clause-kept : goal.returns-then-end-text-clause-kept
-returns-then-end-text-clause-kept c = tt
-
-pub returns-then-is_err-clause-told : goal.returns-then-is_err-clause-told
-returns-then-is_err-clause-told c = tt
-
-pub returns-then-is_err-clause-kept : goal.returns-then-is_err-clause-kept
-returns-then-is_err-clause-kept c = tt
-
--- a want of memory is no fault of the text
-pub returns-then-is_err-clause-fault : goal.returns-then-is_err-clause-fault
-returns-then-is_err-clause-fault c = λ other. absurd (other refl)
-
-pub returns-clause-fault : goal.returns-clause-fault
-returns-clause-fault c = tt
-
-pub returns-clause-memory : goal.returns-clause-memory
-returns-clause-memory c = tt
+pub returns : goal.returns
+returns c =
+    let h = c.args.header in
+    let rest = drop c.args.start c.args.text.now in
+    let all : slice_range c.args.text.now c.args.start c.loop-at.at ≡ rest =
+    take_all (c.loop-at.at - c.args.start) rest (omega (arith, length-drop c.args.start c.args.text.now, c.loop-at-test.false)) in
+    (subst (TellsLines h.version h.client h.manager c.loop-at.lines.items) all c.loop-at.invariant.told, c.loop-at.invariant.kept)

@@ -1,4 +1,4 @@
-use Rattle.std.proofs.Common.{length, ◌-◌}
+use Rattle.tl_trace.proofs.Names.{length, ◌-◌}
 use Rattle.tl_trace.proofs.ReadLines.{SoFar}
 use Rattle.tl_trace.proofs.reader.read_lines.Given as goal
 

@@ -1,6 +1,4 @@
-use Rattle.std.proofs.Common.{◌∙◌, sym, ap, arith}
-use Rattle.std.proofs.lemmas.Bool.{eqb-true}
-use Rattle.std.specs.Int.{w64, to_le_bytes}
+use Rattle.tl_trace.proofs.Names.{◌∙◌, sym, ap, arith, eqb-true, w64, to_le_bytes}
 use Rattle.tl_trace.proofs.SameText.{one_word_more, last_word}
 use Rattle.tl_trace.proofs.same_text.are_same.Goals as goal
 

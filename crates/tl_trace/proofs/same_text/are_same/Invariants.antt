@@ -1,4 +1,4 @@
-use Rattle.std.proofs.Common.{◌≡◌, ◌*◌, take}
+use Rattle.tl_trace.proofs.Names.{◌≡◌, ◌*◌, take}
 use Rattle.tl_trace.proofs.same_text.are_same.Given as goal
 
 abbrev pub invariant-loop-i : goal.invariant-loop-i

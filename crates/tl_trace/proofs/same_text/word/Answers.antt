@@ -1,5 +1,4 @@
-use Rattle.std.proofs.Common.{◌∙◌, sym, ap, arith}
-use Rattle.std.specs.Int.{w64, from_le_bytes}
+use Rattle.tl_trace.proofs.Names.{◌∙◌, sym, ap, arith, w64, from_le_bytes}
 use Rattle.tl_trace.proofs.SameText.{eight_items, word_bytes}
 use Rattle.tl_trace.proofs.same_text.word.Goals as goal
 

@@ -1,6 +1,6 @@
-use Rattle.std.proofs.Common.{◌≡◌, ◌+◌, ◌-◌, length, take, drop, ap, ◌∙◌, arith, rules, length-drop, take_all}
+use Rattle.tl_trace.proofs.Names.{◌≡◌, ◌+◌, ◌-◌, length, take, drop, ap, ◌∙◌, arith, rules, length-drop, take_all, with_items_is}
 use lib.Seq.{paste}
-use Rattle.std.proofs.lemmas.List.{with_items_is, places}
+use Rattle.std.proofs.lemmas.List.{places}
 use Rattle.std.proofs.lemmas.List.Edits.{take-paste}
 use Rattle.tl_trace.proofs.script.let_first_go.Goals as goal
 

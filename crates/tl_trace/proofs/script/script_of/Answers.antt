@@ -1,10 +1,5 @@
-use Rattle.std.proofs.Common.{◌≡◌, ◌≤◌, ◌∙◌, ℕ, List, length, take, lit<, sym}
-use Rattle.std.proofs.lemmas.List.{take_all}
-use Rattle.tl_lanes.proofs.Widths.{width_bounds}
+use Rattle.tl_trace.proofs.Names.{◌≡◌, ◌≤◌, ◌∙◌, ℕ, List, length, take, lit<, sym, take_all, width_bounds, IsScriptOf, Line, Script}
 use Rattle.tl_trace.proofs.ReadBeats.{script_more, on_ok}
-use Rattle.tl_trace.specs.Scripts.{IsScriptOf}
-use Rattle.tl_trace.specs.declared.line.Line.{Line}
-use Rattle.tl_trace.specs.declared.script.Script.{Script}
 use Rattle.tl_trace.proofs.script.script_of.Goals as goal
 
 -- at the end of the loop all lines were taken

@@ -1,5 +1,4 @@
-use Rattle.std.proofs.Common.{take}
-use Rattle.tl_trace.specs.Scripts.{IsScriptOf}
+use Rattle.tl_trace.proofs.Names.{take, IsScriptOf}
 use Rattle.tl_trace.proofs.script.script_of.Given as goal
 
 abbrev pub invariant-loop-line : goal.invariant-loop-line

@@ -1,6 +1,4 @@
-use Rattle.std.proofs.Common.{◌∙◌, sym, ap}
-use Rattle.tl_trace.specs.Faults.{header_of}
-use Rattle.tl_trace.specs.Inner.Reading.{LineAt}
+use Rattle.tl_trace.proofs.Names.{◌∙◌, sym, ap, header_of, LineAt}
 use Rattle.tl_trace.proofs.Headers.{from_start}
 use Rattle.tl_trace.proofs.ReadBeats.{first_line}
 use Rattle.tl_trace.proofs.script_reader.header_of_text.Goals as goal

@@ -1,7 +1,4 @@
-use Rattle.std.proofs.Common.{◌≡◌, ◌+◌, false, length, arith, refl, sym, ◌∙◌}
-use Rattle.std.specs.List.{slice_range}
-use Rattle.std.specs.Result.{is_err}
-use Rattle.tl_trace.specs.Fields.{line_length}
+use Rattle.tl_trace.proofs.Names.{◌≡◌, ◌+◌, false, length, arith, refl, sym, ◌∙◌, slice_range, is_err, line_length}
 use Rattle.tl_trace.proofs.KnownHeads.{line_head}
 use Rattle.tl_trace.proofs.LineParts.{line_long}
 use Rattle.tl_trace.proofs.NextLine.{was_put, was_kept, inside, first_in, at_most}
@@ -9,7 +6,7 @@ use Rattle.tl_trace.proofs.ReadDigits.{range_long}
 use Rattle.tl_trace.proofs.script_reader.push_line.Goals as goal
 
 pub overflow_sub-text : goal.overflow_sub-text
-overflow_sub-text g c = omega (arith, c.requires.can.inside)
+overflow_sub-text g c = omega (arith, c.requires.0.inside)
 
 pub bounds-text-at : goal.bounds-text-at
 bounds-text-at g c = inside c.args.at c.line_len-long.result _ c.if-long-text.false
@@ -24,16 +21,16 @@ pub returns-clause-pushed : goal.returns-clause-pushed
 returns-clause-pushed g c =
     let went : is_err c.push.result ≡ false = sym c.is_err.ensures.value ∙ c.if-is_err.false in
     record {
-      beat = c.in_ok-beat.beat;
+      beat = c.in-Some-beat_with_head.beat;
       from = omega (arith, c.line_len-long.ensures.few);
       to = omega (arith, c.if-long-text.false);
       stop = c.if-text-at-ne10.false;
-      read = c.in_ok-beat.ensures;
+      read = c.in-Some-beat_with_head.ensures;
       put = was_put c.push.result _ _ _ went c.push.ensures.items;
     }
 
 pub line_len-long-requires : goal.line_len-long-requires
-line_len-long-requires g c = c.requires.can.width
+line_len-long-requires g c = c.requires.0.width
 
 pub head_at-requires-clause-room : goal.head_at-requires-clause-room
 head_at-requires-clause-room g c =
@@ -48,28 +45,16 @@ beat_with_head-requires g c =
     let long = c.line_len-long.result in
     let room = inside c.args.at long _ c.if-long-text.false in
     let parts = line_long f g.row.W (g.met.K.ReadHead.head_alone g.row.VERSION) in
-    let first = first_in c.args.text.now c.args.at long c.line_len-long.ensures.few.0 c.requires.can.inside in
+    let first = first_in c.args.text.now c.args.at long c.line_len-long.ensures.few.0 c.requires.0.inside in
     let all : length (slice_range c.args.text.now c.args.at (c.args.at + long)) ≡ line_length f g.row.W = range_long c.args.text.now c.args.at long (omega (arith, room)) ∙ c.line_len-long.ensures.long in
-    let head = line_head f g.row.VERSION c.args.text.now c.args.at long c.in_ok-head.head (omega (arith, parts, c.line_len-long.ensures.long)) c.in_ok-head.ensures.head in
-    (c.requires-raw.1.1.1.1.0, (record { width = at_most g.row.W; most = c.requires.can.width; letter = first ∙ c.requires.can.letter }, (all, head)))
+    let head = line_head f g.row.VERSION c.args.text.now c.args.at long c.in-Some.head (omega (arith, parts, c.line_len-long.ensures.long)) c.in-Some.ensures.head in
+    (c.requires-raw.1.1.1.1.0, (record { width = at_most g.row.W; most = c.requires.0.width; letter = first ∙ c.requires.0.letter }, (all, head)))
 
 pub returns-then-long-text-clause-known : goal.returns-then-long-text-clause-known
-returns-then-long-text-clause-known g c = c.requires.known
+returns-then-long-text-clause-known g c = c.requires.1
 
 pub head_at-requires-clause-known : goal.head_at-requires-clause-known
-head_at-requires-clause-known g c = c.requires.known
-
-pub returns-in_err-head-clause-pushed : goal.returns-in_err-head-clause-pushed
-returns-in_err-head-clause-pushed g c = rw c.from_residual.ensures refl
-
-pub returns-in_err-head-clause-known : goal.returns-in_err-head-clause-known
-returns-in_err-head-clause-known g c = c.head_at.ensures.known
-
-pub returns-in_err-beat-clause-pushed : goal.returns-in_err-beat-clause-pushed
-returns-in_err-beat-clause-pushed g c = rw c.from_residual-in_err-beat.ensures refl
-
-pub returns-in_err-beat-clause-known : goal.returns-in_err-beat-clause-known
-returns-in_err-beat-clause-known g c = c.head_at.ensures.known
+head_at-requires-clause-known g c = c.requires.1
 
 pub returns-then-is_err-clause-known : goal.returns-then-is_err-clause-known
 returns-then-is_err-clause-known g c = c.head_at.ensures.known

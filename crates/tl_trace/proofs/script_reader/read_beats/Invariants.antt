@@ -1,5 +1,4 @@
-use Rattle.std.proofs.Common.{◌≡◌, length, ◌-◌}
-use Rattle.tl_trace.specs.Inner.KnownHeads.{AreKnown}
+use Rattle.tl_trace.proofs.Names.{◌≡◌, length, ◌-◌, AreKnown}
 use Rattle.tl_trace.proofs.Pieces.{Walked}
 use Rattle.tl_trace.proofs.script_reader.read_beats.Given as goal
 

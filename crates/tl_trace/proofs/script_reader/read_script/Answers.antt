@@ -1,10 +1,6 @@
-use Rattle.std.proofs.Common.{◌≡◌, ◌+◌, ◌-◌, ◌++◌, ◌∙◌, [], true, false, Some, length, drop, take, arith, rules, refl, subst, sym, ap}
-use Rattle.std.proofs.lemmas.List.{take_rest}
-use Rattle.std.specs.List.{list_any, slice_range}
-use Rattle.tl_trace.specs.Scripts.{HasRead, none_gone}
-use Rattle.tl_trace.specs.Texts.{is_version}
-use Rattle.tl_trace.specs.Faults.{is_newline, header_of, body, IsFirstFault, IsReadableTo}
-use Rattle.tl_trace.specs.Inner.Reading.{LineAt}
+use Rattle.tl_trace.proofs.Names.{◌≡◌, ◌+◌, ◌-◌, ◌++◌, ◌∙◌, [], true, false, Some, length, drop, take, arith, rules, refl, subst, sym, ap, take_rest}
+use Rattle.tl_trace.proofs.Names.{list_any, slice_range, HasRead, none_gone, is_version, is_newline, header_of, body, IsFirstFault, IsReadableTo}
+use Rattle.tl_trace.proofs.Names.{LineAt}
 use Rattle.tl_trace.proofs.Headers.{header, known}
 use Rattle.tl_trace.proofs.Widths.{width_most}
 use Rattle.tl_trace.proofs.Walk.{no_header_end}

@@ -1,7 +1,4 @@
-use Rattle.std.proofs.Common.{◌∙◌, Option, Some, ap}
-use Rattle.tl_msg.specs.Firsts.{◌or_else◌}
-use Rattle.tl_trace.specs.declared.fault.TraceKind.{TraceKind}
-use Rattle.tl_trace.specs.declared.fault.TraceKind.TheVariants.{NoEnd}
+use Rattle.tl_trace.proofs.Names.{◌∙◌, Option, Some, ap, ◌or_else◌, TraceKind, NoEnd}
 use Rattle.tl_trace.proofs.Walk.{later_last, no_memory}
 use Rattle.tl_trace.proofs.script_reader.unfinished_fault.Goals as goal
 

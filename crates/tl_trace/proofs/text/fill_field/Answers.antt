@@ -1,5 +1,4 @@
-use Rattle.std.proofs.Common.{◌≡◌, ◌<◌, ◌+◌, length, ap, ◌∙◌, arith}
-use Rattle.tl_trace.specs.Lines.{hex}
+use Rattle.tl_trace.proofs.Names.{◌≡◌, ◌<◌, ◌+◌, length, ap, ◌∙◌, arith, hex}
 use Rattle.tl_trace.proofs.HexText.{after_space, length-hex}
 use Rattle.tl_trace.proofs.text.fill_field.Goals as goal
 

@@ -1,4 +1,4 @@
-use Rattle.std.proofs.Common.{◌≡◌, ◌-◌, ◌%◌, ◌^◌, ◌∷◌, ◌++◌, List, ℕ, length, take, ap, ◌∙◌, arith}
+use Rattle.tl_trace.proofs.Names.{◌≡◌, ◌-◌, ◌%◌, ◌^◌, ◌∷◌, ◌++◌, List, ℕ, length, take, ap, ◌∙◌, arith}
 use Rattle.tl_trace.proofs.HexText.{length-hex, hex_rest, more_digits}
 use Rattle.tl_trace.proofs.text.fill_mask_field.Goals as goal
 

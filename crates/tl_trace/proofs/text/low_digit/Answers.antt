@@ -1,6 +1,5 @@
 -- The table is held against the definition at each of the 256 bytes, by computing.
-use Rattle.std.proofs.Common.{◌+◌, ◌*◌, ◌%◌, get_or, refl, arith}
-use Rattle.std.specs.Char.{digit_char}
+use Rattle.tl_trace.proofs.Names.{◌+◌, ◌*◌, ◌%◌, get_or, refl, arith, digit_char}
 use Rattle.tl_trace.specs.declared.text.TheConstants.{PAIRS}
 use Rattle.tl_trace.proofs.Table.{agree_below, agree_at}
 use Rattle.tl_trace.proofs.text.low_digit.Goals as goal

@@ -1,4 +1,4 @@
-use Rattle.std.proofs.Common.{arith}
+use Rattle.tl_trace.proofs.Names.{arith}
 use Rattle.tl_trace.proofs.HexText.{hex_start, pair_next}
 use Rattle.tl_trace.proofs.text.write_digits.Goals as goal
 

@@ -1,4 +1,4 @@
-use Rattle.std.proofs.Common.{◌*◌}
+use Rattle.tl_trace.proofs.Names.{◌*◌}
 use Rattle.tl_trace.proofs.HexText.{HexSoFar}
 use Rattle.tl_trace.proofs.text.write_digits.Given as goal
 

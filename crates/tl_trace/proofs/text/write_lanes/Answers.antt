@@ -1,4 +1,4 @@
-use Rattle.std.proofs.Common.{arith, ◌∙◌}
+use Rattle.tl_trace.proofs.Names.{arith, ◌∙◌}
 use Rattle.tl_trace.proofs.HexText.{lanes_start, lanes_next, lanes_done, hex_take}
 use Rattle.tl_trace.proofs.text.write_lanes.Goals as goal
 

@@ -1,4 +1,4 @@
-use Rattle.std.proofs.Common.{◌∙◌}
+use Rattle.tl_trace.proofs.Names.{◌∙◌}
 use Rattle.std.proofs.lemmas.Result.{IfOk-from_err}
 use Rattle.tl_trace.proofs.TraceLines.{written_none, written_more, written_all}
 use Rattle.tl_trace.proofs.Widths.{width_most}

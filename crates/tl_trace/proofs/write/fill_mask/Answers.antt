@@ -1,5 +1,4 @@
-use Rattle.std.proofs.Common.{◌≡◌, ◌+◌, ◌/◌, ◌++◌, ◌∷◌, take, sym, ◌∙◌}
-use Rattle.tl_trace.specs.Lines.{hex}
+use Rattle.tl_trace.proofs.Names.{◌≡◌, ◌+◌, ◌/◌, ◌++◌, ◌∷◌, take, sym, ◌∙◌, hex}
 use Rattle.tl_trace.proofs.LineText.{a_part, no_part}
 use Rattle.tl_trace.proofs.write.fill_mask.Goals as goal
 

@@ -1,4 +1,4 @@
-use Rattle.std.specs.Prelude.{decimal}
+use Rattle.tl_trace.proofs.Names.{decimal}
 use Rattle.tl_trace.proofs.LineText.{regrouped}
 use Rattle.tl_trace.proofs.write.put_fault.Goals as goal
 

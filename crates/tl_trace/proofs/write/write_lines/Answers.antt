@@ -1,9 +1,6 @@
-use Rattle.std.proofs.Common.{rules, ◌≡◌, ◌+◌, ◌++◌, ◌∙◌, ℕ, take, refl, sym, ap, arith}
-use Rattle.std.proofs.lemmas.List.{take-take}
-use Rattle.tl_trace.specs.Lines.{head_text, line_text}
-use Rattle.tl_trace.specs.Texts.{newline}
+use Rattle.tl_trace.proofs.Names.{rules, ◌≡◌, ◌+◌, ◌++◌, ◌∙◌, ℕ, take, refl, sym, ap, arith, take-take, head_text, line_text, newline}
 use Rattle.std.proofs.lemmas.Result.{IfOk-from_err}
-use Rattle.tl_trace.proofs.LineRests.{head_end, not_other, line_is, appended_none, appended_more, appended_all, appended_front, of_ok, on_err_at}
+use Rattle.tl_trace.proofs.LineRests.{head_end, not_other, line_is, appended_none, appended_more, appended_all, appended_front, of_ok, of_err, on_err_at}
 use Rattle.tl_trace.proofs.write.write_lines.Goals as goal
 use Rattle.tl_trace.proofs.write.write_lines.Goals.{then-ne, else-ne}
 
@@ -56,7 +53,8 @@ returns-then-is_err-clause-ok g c = tt
 
 pub returns-then-is_err-clause-err : goal.returns-then-is_err-clause-err
 returns-then-is_err-clause-err g c =
-    c.truncate.ensures.items ∙ appended_front (g.K.HeadText.form c.args.version) g.row.W c.args.out.now.items c.loop-beat.out.items c.append_line.new.out.items _ c.len-start.result c.append_line.ensures.front c.loop-beat.invariant.1
+    c.truncate.ensures.items ∙ appended_front (g.K.HeadText.form c.args.version) g.row.W c.args.out.now.items c.loop-beat.out.items c.append_line.new.out.items _ c.len-start.result
+    (of_err c.append_line.result (sym c.is_err.ensures.value ∙ c.if-is_err.true) c.append_line.ensures.err) c.loop-beat.invariant.1
 
 pub returns-clause-ok : goal.returns-clause-ok
 returns-clause-ok g c = appended_all (g.K.HeadText.form c.args.version) g.row.W c.args.out.now.items c.loop-beat.out.items c.args.beats.now c.len-start.result c.loop-beat.beat-index c.loop-beat-test.false c.loop-beat.invariant.1

@@ -1,5 +1,4 @@
-use Rattle.std.proofs.Common.{◌≡◌, take}
-use Rattle.tl_trace.specs.Lines.{head_text}
+use Rattle.tl_trace.proofs.Names.{◌≡◌, take, head_text}
 use Rattle.tl_trace.proofs.LineRests.{Appended}
 use Rattle.tl_trace.proofs.write.write_lines.Given as goal
 

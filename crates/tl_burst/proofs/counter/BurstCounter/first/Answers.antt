@@ -1,4 +1,4 @@
-use Rattle.std.proofs.Common.{◌==◌, ap}
+use Rattle.tl_burst.proofs.Names.{◌==◌, ap}
 use Rattle.tl_burst.proofs.counter.BurstCounter.first.Goals as goal
 
 pub returns : goal.returns

@@ -1,7 +1,4 @@
-use Rattle.std.proofs.Common.{◌≡◌, ◌-◌, sym, ap, ◌∙◌}
-use Rattle.tl_lanes.specs.Lanes.{beats_per_message}
-use Rattle.tl_burst.specs.Begun.{left}
-use Rattle.tl_burst.specs.Messages.{beats_of}
+use Rattle.tl_burst.proofs.Names.{◌≡◌, ◌-◌, sym, ap, ◌∙◌, beats_per_message, left, beats_of}
 use Rattle.tl_burst.proofs.BegunMessages.{left-begins, left-goes}
 use Rattle.tl_burst.proofs.counter.BurstCounter.pass.Goals.{then-self-eq0, else-self-eq0}
 use Rattle.tl_burst.proofs.counter.BurstCounter.pass.Goals as goal

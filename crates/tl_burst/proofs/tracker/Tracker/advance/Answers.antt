@@ -1,6 +1,4 @@
-use Rattle.std.proofs.Common.{◌<◌, ◌+◌, ◌^◌, ℕ, if◌then◌else◌, None, Some, sym, ap, subst, ◌∙◌, arith}
-use Rattle.tl_burst.specs.Tracking.{IsOpen}
-use Rattle.tl_burst.specs.Inner.Holding.{IsHeldIn}
+use Rattle.tl_burst.proofs.Names.{◌<◌, ◌+◌, ◌^◌, ℕ, if◌then◌else◌, None, Some, sym, ap, subst, ◌∙◌, arith, IsOpen, IsHeldIn}
 use Rattle.tl_burst.proofs.Holding.{goes-on, begins}
 use Rattle.tl_burst.proofs.Steps.{burst-step, index-small, place-opens}
 use Rattle.tl_burst.proofs.tracker.Tracker.advance.Goals as goal

@@ -1,4 +1,4 @@
-use Rattle.std.proofs.Common.{sym, ◌∙◌}
+use Rattle.tl_burst.proofs.Names.{sym, ◌∙◌}
 use Rattle.tl_burst.proofs.Holding.{held-beats}
 use Rattle.tl_burst.proofs.tracker.Tracker.beats.Goals as goal
 

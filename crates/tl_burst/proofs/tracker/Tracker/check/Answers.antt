@@ -1,5 +1,4 @@
-use Rattle.std.proofs.Common.{◌≡◌, None, Some, refl, sym, ap, ◌∙◌}
-use Rattle.tl_burst.specs.Handing.{fault_in, fault_after}
+use Rattle.tl_burst.proofs.Names.{◌≡◌, None, Some, refl, sym, ap, ◌∙◌, fault_in, fault_after}
 use Rattle.tl_burst.proofs.FaultsExact.{ChannelLaws, laws-of, faults-exact, admitted-none, none-lawful, none-held}
 use Rattle.tl_burst.proofs.tracker.Tracker.check.Goals as goal
 

@@ -1,5 +1,4 @@
-use Rattle.std.proofs.Common.{sym, ap, subst, ◌∙◌}
-use Rattle.tl_burst.specs.Tracking.{IsOpen, count_in}
+use Rattle.tl_burst.proofs.Names.{sym, ap, subst, ◌∙◌, IsOpen, count_in}
 use Rattle.tl_burst.proofs.tracker.Tracker.count.Goals as goal
 
 pub returns-in-Some-clause-count : goal.returns-in-Some-clause-count

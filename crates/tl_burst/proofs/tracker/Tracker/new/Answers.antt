@@ -1,4 +1,4 @@
-use Rattle.std.proofs.Common.{refl}
+use Rattle.tl_burst.proofs.Names.{refl}
 use Rattle.tl_burst.proofs.tracker.Tracker.new.Goals as goal
 
 pub invariant_of-result : goal.invariant_of-result

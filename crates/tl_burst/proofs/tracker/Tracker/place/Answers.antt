@@ -1,4 +1,4 @@
-use Rattle.std.proofs.Common.{refl}
+use Rattle.tl_burst.proofs.Names.{refl}
 use Rattle.tl_burst.proofs.Steps.{place-is}
 use Rattle.tl_burst.proofs.tracker.Tracker.place.Goals as goal
 

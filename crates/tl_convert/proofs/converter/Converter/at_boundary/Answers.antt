@@ -1,11 +1,7 @@
-use Rattle.std.proofs.Common.{rules, ◌≡◌, ◌↔◌, ◌∙◌, ℕ, Bool, true, false, Option, List, [], ◌∷◌, not, refl}
-use Rattle.std.specs.Prelude.{IsTrue}
-use Rattle.std.specs.Option.{is_some}
+use Rattle.tl_convert.proofs.Names.{rules, ◌≡◌, ◌↔◌, ◌∙◌, ℕ, Bool, true, false, Option, List, [], ◌∷◌, not, refl, IsTrue, is_some, Rules, BeatOf}
+use Rattle.tl_convert.proofs.Names.{burst_of, rest_of}
 use denote.Memory.{lone}
 use denote.Param.{layout}
-use Rattle.tl_msg.specs.Rules.{Rules}
-use Rattle.tl_msg.specs.declared.beat.BeatOf.{BeatOf}
-use Rattle.tl_burst.specs.Handing.{burst_of, rest_of}
 use Rattle.tl_convert.proofs.Sizes.{tracker-fits}
 use Rattle.tl_convert.proofs.converter.Converter.at_boundary.Goals as goal
 

@@ -1,5 +1,5 @@
 use Rattle.tl_burst.proofs.PlacesExact.{place-told}
-use Rattle.tl_burst.proofs.FaultsExact.{ChannelLaws, laws-of}
+use Rattle.tl_convert.proofs.Names.{ChannelLaws, laws-of}
 use Rattle.tl_convert.proofs.FeedStep.{is-handed}
 use denote.Memory.{lone}
 use denote.Param.{layout}

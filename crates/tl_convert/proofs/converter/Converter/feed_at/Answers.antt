@@ -1,14 +1,7 @@
-use Rattle.std.proofs.Common.{rules, ◌≡◌, ◌≢◌, ◌<◌, ◌^◌, ◌++◌, ℕ, Option, None, List, [], ◌∷◌, length, sym, ap, subst, ◌∙◌, All}
-use Rattle.tl_msg.specs.Faults.{IsLawfulBeat}
-use Rattle.tl_msg.specs.declared.beat.BeatOf.{BeatOf}
-use Rattle.tl_burst.specs.Tracking.{IsPlace, count_in}
-use Rattle.tl_burst.specs.Handing.{rest_of, burst_after, fault_in, homes_with}
-use Rattle.tl_burst.specs.Messages.{beats_of}
-use Rattle.tl_burst.proofs.FaultsExact.{ChannelLaws, laws-of}
+use Rattle.tl_convert.proofs.Names.{rules, ◌≡◌, ◌≢◌, ◌<◌, ◌^◌, ◌++◌, ℕ, Option, None, List, [], ◌∷◌, length, sym, ap, subst, ◌∙◌, All, IsLawfulBeat}
+use Rattle.tl_convert.proofs.Names.{BeatOf, IsPlace, count_in, rest_of, burst_after, fault_in, homes_with, beats_of, ChannelLaws, laws-of, Run}
+use Rattle.tl_convert.proofs.Names.{Progress, StandsFor, due}
 use Rattle.tl_burst.proofs.Steps.{count-of}
-use Rattle.tl_convert.specs.Inner.Giving.{Run}
-use Rattle.tl_convert.specs.Converting.{Progress, StandsFor}
-use Rattle.tl_convert.specs.Due.{due}
 use Rattle.tl_convert.proofs.FarHanded.{far-handed}
 use Rattle.tl_convert.proofs.LawfulBeats.{handed-lawful, all-right}
 use Rattle.tl_convert.proofs.FeedStep.{Fed, fed, fed-run, place-next}

@@ -1,6 +1,4 @@
-use Rattle.std.proofs.Common.{[]}
-use Rattle.tl_burst.specs.Handing.{nothing}
-use Rattle.tl_convert.specs.Converting.{StandsFor}
+use Rattle.tl_convert.proofs.Names.{[], nothing, StandsFor}
 use Rattle.tl_convert.proofs.converter.Converter.new.Goals as goal
 
 fed-nothing : (g : _) (c : goal.After-default g) →

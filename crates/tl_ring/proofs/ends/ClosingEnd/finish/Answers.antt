@@ -1,4 +1,4 @@
-use Rattle.std.proofs.Common.{sym, ◌∙◌}
+use Rattle.tl_ring.proofs.Names.{sym, ◌∙◌}
 use Rattle.tl_ring.proofs.EndSteps.{shows_of}
 use Rattle.tl_ring.proofs.ends.ClosingEnd.finish.Goals as goal
 

@@ -1,4 +1,4 @@
-use Rattle.std.proofs.Common.{◌∙◌}
+use Rattle.tl_ring.proofs.Names.{◌∙◌}
 use Rattle.tl_ring.proofs.ends.ClosingEnd.pump.Goals as goal
 
 pub returns-clause-least : goal.returns-clause-least

@@ -1,4 +1,4 @@
-use Rattle.std.proofs.Common.{refl}
+use Rattle.tl_ring.proofs.Names.{refl}
 use Rattle.tl_ring.proofs.EndSteps.{sends_shut}
 use denote.Param.{layout, param, number, copied}
 use Rattle.tl_ring.specs.contracts.ends.SendEnd.{the_row}

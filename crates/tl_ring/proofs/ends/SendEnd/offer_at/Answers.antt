@@ -1,4 +1,4 @@
-use Rattle.std.proofs.Common.{rules, ap}
+use Rattle.tl_ring.proofs.Names.{rules, ap}
 use denote.Param.{layout, param, number, copied}
 use Rattle.tl_ring.specs.contracts.ends.SendEnd.{the_row}
 use Rattle.tl_ring.proofs.FieldSizes.{part_small}

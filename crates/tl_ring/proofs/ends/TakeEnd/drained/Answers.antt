@@ -1,5 +1,4 @@
-use Rattle.std.proofs.Common.{◌≤◌, length, refl, arith, lit<}
-use Rattle.tl_ring.specs.declared.queue.TheConstants.{ROOM}
+use Rattle.tl_ring.proofs.Names.{◌≤◌, length, refl, arith, lit<, ROOM}
 use Rattle.tl_ring.proofs.EndSteps.{shown_of}
 use denote.Param.{layout, param, number, copied}
 use Rattle.tl_ring.specs.contracts.ends.TakeEnd.{the_row}

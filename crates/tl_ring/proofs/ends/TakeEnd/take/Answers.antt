@@ -1,4 +1,4 @@
-use Rattle.std.proofs.Common.{refl}
+use Rattle.tl_ring.proofs.Names.{refl}
 use denote.Param.{layout, param, number, copied}
 use Rattle.tl_ring.specs.contracts.ends.TakeEnd.{the_row}
 use Rattle.tl_ring.proofs.FieldSizes.{part_small}

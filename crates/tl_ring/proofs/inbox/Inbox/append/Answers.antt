@@ -1,5 +1,4 @@
-use Rattle.std.proofs.lemmas.List.Elements.{All-append}
-use Rattle.tl_msg.specs.Faults.{IsLawfulBeat}
+use Rattle.tl_ring.proofs.Names.{All-append, IsLawfulBeat}
 use denote.Memory.{lone}
 use denote.Param.{layout, param, number, copied}
 use Rattle.tl_ring.specs.contracts.inbox.Inbox.{the_row}

@@ -1,7 +1,7 @@
 use denote.Param.{layout, param, number, copied}
 use Rattle.tl_ring.specs.contracts.inbox.Inbox.{the_row}
 use Rattle.tl_ring.proofs.FieldSizes.{part_small}
-use Rattle.std.proofs.Common.{arith}
+use Rattle.tl_ring.proofs.Names.{arith}
 use Rattle.tl_ring.proofs.inbox.Inbox.take_all.Goals as goal
 
 pub len-count-requires : goal.len-count-requires

@@ -1,5 +1,4 @@
-use Rattle.std.proofs.Common.{refl, ⊎_elim}
-use Rattle.std.proofs.lemmas.Bool.{or_parts}
+use Rattle.tl_ring.proofs.Names.{refl, ⊎_elim, or_parts}
 use Rattle.tl_ring.proofs.Answered.{one_of_two}
 use Rattle.tl_ring.proofs.Boxes.{has_closed}
 use denote.Param.{layout, param, number, copied}

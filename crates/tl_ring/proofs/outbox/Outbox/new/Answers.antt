@@ -1,4 +1,4 @@
-use Rattle.std.proofs.Common.{refl}
+use Rattle.tl_ring.proofs.Names.{refl}
 use Rattle.tl_ring.proofs.Boxes.{has_new}
 use denote.Memory.{lone}
 use denote.Param.{layout, param, number, copied}

@@ -1,8 +1,7 @@
-use Rattle.std.proofs.Common.{refl}
+use Rattle.tl_ring.proofs.Names.{refl, the_row}
 use Rattle.tl_ring.proofs.Answered.{on_ok, on_err}
 use Rattle.tl_ring.proofs.PipeSteps.{stands_shut}
 use denote.Param.{layout, param, number, copied}
-use Rattle.tl_ring.specs.contracts.pipe.SyncPipe.{the_row}
 use Rattle.tl_ring.proofs.FieldSizes.{part_small}
 use Rattle.tl_ring.proofs.pipe.SyncPipe.close.Goals as goal
 

@@ -1,8 +1,6 @@
-use Rattle.std.proofs.Common.{◌≡◌, ◌+◌, ◌==◌, ℕ, length, refl, arith}
-use Rattle.std.proofs.lemmas.Bool.{and_parts}
+use Rattle.tl_ring.proofs.Names.{◌≡◌, ◌+◌, ◌==◌, ℕ, length, refl, arith, and_parts, the_row}
 use Rattle.tl_ring.proofs.Moves.{none_in_three}
 use denote.Param.{layout, param, number, copied}
-use Rattle.tl_ring.specs.contracts.pipe.SyncPipe.{the_row}
 use Rattle.tl_ring.proofs.FieldSizes.{part_small}
 use Rattle.tl_ring.proofs.pipe.SyncPipe.drained.Goals as goal
 

@@ -1,8 +1,6 @@
-use Rattle.std.proofs.Common.{◌≤◌, ◌-◌, length, min, arith}
-use Rattle.tl_ring.specs.Crossing.{inbox_room}
+use Rattle.tl_ring.proofs.Names.{◌≤◌, ◌-◌, length, min, arith, inbox_room, the_row}
 use Rattle.tl_ring.proofs.PipeSteps.{stands_popped}
 use denote.Param.{layout, param, number, copied}
-use Rattle.tl_ring.specs.contracts.pipe.SyncPipe.{the_row}
 use Rattle.tl_ring.proofs.FieldSizes.{part_small}
 use Rattle.tl_ring.proofs.pipe.SyncPipe.fetch.Goals as goal
 

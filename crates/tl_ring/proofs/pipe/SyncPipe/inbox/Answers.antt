@@ -1,5 +1,5 @@
 use denote.Param.{layout, param, number, copied}
-use Rattle.tl_ring.specs.contracts.pipe.SyncPipe.{the_row}
+use Rattle.tl_ring.proofs.Names.{the_row}
 use Rattle.tl_ring.proofs.FieldSizes.{part_small}
 use Rattle.tl_ring.proofs.pipe.SyncPipe.inbox.Goals as goal
 

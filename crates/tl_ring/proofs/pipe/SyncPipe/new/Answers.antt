@@ -1,7 +1,6 @@
-use Rattle.std.proofs.Common.{refl, ap}
+use Rattle.tl_ring.proofs.Names.{refl, ap, the_row}
 use Rattle.tl_ring.proofs.PipeSteps.{stands_new}
 use denote.Param.{layout, param, number, copied}
-use Rattle.tl_ring.specs.contracts.pipe.SyncPipe.{the_row}
 use Rattle.tl_ring.proofs.FieldSizes.{part_small}
 use Rattle.tl_ring.proofs.pipe.SyncPipe.new.Goals as goal
 

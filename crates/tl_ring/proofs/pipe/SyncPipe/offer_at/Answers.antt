@@ -1,6 +1,5 @@
-use Rattle.std.proofs.Common.{rules}
+use Rattle.tl_ring.proofs.Names.{rules, the_row}
 use denote.Param.{layout, param, number, copied}
-use Rattle.tl_ring.specs.contracts.pipe.SyncPipe.{the_row}
 use Rattle.tl_ring.proofs.FieldSizes.{part_small}
 use Rattle.tl_ring.proofs.PipeSteps.{stands_offered}
 use Rattle.tl_ring.proofs.pipe.SyncPipe.offer_at.Goals as goal

@@ -1,7 +1,6 @@
-use Rattle.std.proofs.Common.{◌≤◌, ◌-◌, length, min, arith}
+use Rattle.tl_ring.proofs.Names.{◌≤◌, ◌-◌, length, min, arith, the_row}
 use Rattle.tl_ring.proofs.PipeSteps.{stands_pushed}
 use denote.Param.{layout, param, number, copied}
-use Rattle.tl_ring.specs.contracts.pipe.SyncPipe.{the_row}
 use Rattle.tl_ring.proofs.FieldSizes.{part_small}
 use Rattle.tl_ring.proofs.pipe.SyncPipe.pump.Goals as goal
 

@@ -1,6 +1,6 @@
 use Rattle.tl_ring.proofs.PipeSteps.{stands_emptied}
 use denote.Param.{layout, param, number, copied}
-use Rattle.tl_ring.specs.contracts.pipe.SyncPipe.{the_row}
+use Rattle.tl_ring.proofs.Names.{the_row}
 use Rattle.tl_ring.proofs.FieldSizes.{part_small}
 use Rattle.tl_ring.proofs.pipe.SyncPipe.take_all.Goals as goal
 

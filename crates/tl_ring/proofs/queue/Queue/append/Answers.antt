@@ -1,10 +1,8 @@
-use Rattle.std.proofs.Common.{◌≡◌, ◌≤◌, ◌+◌, ◌++◌, ◌∷◌, [], length, drop, rules, arith, ap, ◌∙◌}
-use Rattle.std.proofs.lemmas.List.{drop-append-le}
+use Rattle.tl_ring.proofs.Names.{◌≡◌, ◌≤◌, ◌+◌, ◌++◌, ◌∷◌, [], length, drop, rules, arith, ap, ◌∙◌, drop-append-le, ROOM}
 use denote.Param.{layout, copied}
 use Rattle.tl_ring.proofs.Answered.{only_item}
 use Rattle.tl_ring.proofs.FieldSizes.{part_small}
 use Rattle.tl_ring.specs.contracts.queue.Queue.{the_row}
-use Rattle.tl_ring.specs.declared.queue.TheConstants.{ROOM}
 use Rattle.tl_ring.proofs.queue.Queue.append.Goals as goal
 use Rattle.tl_ring.proofs.queue.Queue.append.Goals.{then-more-len, else-more-len}
 

@@ -1,5 +1,4 @@
-use Rattle.std.proofs.Common.{drop, ap, ◌∙◌, arith}
-use Rattle.std.proofs.lemmas.List.{take_rest, length-drop}
+use Rattle.tl_ring.proofs.Names.{drop, ap, ◌∙◌, arith, take_rest, length-drop}
 use denote.Param.{layout, copied}
 use Rattle.tl_ring.proofs.FieldSizes.{part_small}
 use Rattle.tl_ring.specs.contracts.queue.Queue.{the_row}

@@ -1,4 +1,4 @@
-use Rattle.std.proofs.Common.{◌∙◌}
+use Rattle.tl_ring.proofs.Names.{◌∙◌}
 use Rattle.tl_ring.proofs.Answered.{some_first, none_first}
 use Rattle.tl_ring.proofs.queue.Queue.pop_front.Goals as goal
 

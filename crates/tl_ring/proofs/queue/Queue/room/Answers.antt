@@ -1,4 +1,4 @@
-use Rattle.std.proofs.Common.{refl}
+use Rattle.tl_ring.proofs.Names.{refl}
 use Rattle.tl_ring.proofs.queue.Queue.room.Goals as goal
 
 pub len-requires : goal.len-requires

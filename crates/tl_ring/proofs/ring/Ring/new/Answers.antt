@@ -1,5 +1,4 @@
-use Rattle.std.proofs.Common.{[], refl, rules}
-use Rattle.tl_msg.specs.Faults.{IsLawfulBeat}
+use Rattle.tl_ring.proofs.Names.{[], refl, rules, IsLawfulBeat}
 use Rattle.tl_ring.proofs.Answered.{all_of_none}
 use Rattle.tl_ring.proofs.Moves.{no_ring_size, want_of_memory}
 use Rattle.tl_ring.proofs.ring.Ring.new.Goals as goal

@@ -1,6 +1,4 @@
-use Rattle.std.proofs.Common.{◌≡◌, ◌+◌, ◌∷◌, ◌++◌, [], ℕ, subst, arith}
-use Rattle.tl_trace.specs.Fields.{common, length_of, sink, denied, id_digits}
-use Rattle.tl_trace.specs.Inner.Reading.{IsNumber}
+use Rattle.tl_trace.proofs.Names.{◌≡◌, ◌+◌, ◌∷◌, ◌++◌, [], ℕ, subst, arith, common, length_of, sink, denied, id_digits, IsNumber}
 use Rattle.tl_trace.proofs.ReadDigits.{left_good, right_good}
 use Rattle.tl_trace.proofs.LineParts.{and_field}
 use Rattle.tl_trace.proofs.head_reader.ChDReadHead.read_head.Goals as goal

@@ -1,6 +1,4 @@
-use Rattle.std.proofs.Common.{◌≡◌, ◌<◌, ◌∙◌, false, length, arith, sym}
-use Rattle.std.specs.Prelude.{◌==◌}
-use Rattle.std.proofs.lemmas.Bool.Decides.{nat_tests}
+use Rattle.tl_trace.proofs.Names.{◌≡◌, ◌<◌, ◌∙◌, false, length, arith, sym, ◌==◌, nat_tests}
 use Rattle.tl_trace.proofs.Pieces.{end_faulty}
 use Rattle.tl_trace.proofs.script_reader.ScriptReader.end_fault.Goals as goal
 
