@@ -1,23 +1,10 @@
 -- What a run ends in makes the answer.
-use Rattle.std.specs.Prelude.{Result, Ok, Err, IfOk}
-use Rattle.std.proofs.Common.{◌≡◌, ℕ, Bool, true, false, List, [], ◌∷◌, ◌++◌, length, refl, sym, ap, subst, ◌∙◌, append-nil, arith}
-use Rattle.std.specs.List.{list_all}
+use Rattle.tl_answer.proofs.Names.{Result, Ok, Err, IfOk, ◌≡◌, ℕ, Bool, true, false, List, [], ◌∷◌, ◌++◌, length, refl, sym, ap, subst, ◌∙◌}
+use Rattle.tl_answer.proofs.Names.{append-nil, arith, list_all, Beats, far_beats, verdicts, EndsIn, near_beats, Tells, IsScriptOf, Script, Line}
+use Rattle.tl_answer.proofs.Names.{far_header, far_lines, near, taken, report, is_done, text_of, IsAnswer, TextFault}
 use Rattle.tl_msg.specs.declared.verdict.Verdict.{Verdict}
-use Rattle.tl_order.specs.Orders.{is_check, is_sync}
-use Rattle.tl_order.specs.declared.Order.{Order}
-use Rattle.tl_order.specs.declared.Order.TheVariants.{Run, Check}
-use Rattle.tl_settle.specs.Outcomes.{Beats, far_beats, verdicts}
-use Rattle.tl_run.specs.Scripts.{EndsIn, near_beats}
 use Rattle.tl_run.specs.declared.outcome.Outcome.{Outcome}
-use Rattle.tl_trace.specs.Texts.{Tells}
-use Rattle.tl_trace.specs.Scripts.{IsScriptOf}
-use Rattle.tl_trace.specs.declared.script.Script.{Script}
-use Rattle.tl_trace.specs.declared.line.Line.{Line}
-use Rattle.tl_answer.specs.Answer.{far_header, far_lines, near, taken, report, is_done}
-use Rattle.tl_answer.specs.Inner.Parts.{text_of}
-use Rattle.tl_answer.specs.Texts.{IsAnswer}
 use Rattle.tl_answer.specs.declared.answer.Answer.{Answer}
-use Rattle.tl_answer.specs.declared.fault.TextFault.{TextFault}
 
 -- what a run took are the far beats of its script
 taken-is : {C M : ℕ} (bs : Beats C M) (outcome : Outcome C M) → EndsIn bs outcome → taken outcome ≡ far_beats bs
@@ -37,11 +24,6 @@ pub of-run : {C M : ℕ} (version : ℕ) (bs : Beats C M) (outcome : Outcome C M
 of-run {C} {M} version bs outcome h =
     ap (λ far. far_header version C M ++ far_lines version far ++ report outcome.verdicts) (taken-is bs outcome h) ∙
     ap (λ vs. far_header version C M ++ far_lines version (far_beats bs) ++ report vs) h.verdicts_are
-
--- an order that takes two threads is no check
-pub threads-run : (order : Order) → false ≡ is_sync order → false ≡ is_check order
-threads-run (Run ring turns sync) threads = refl
-threads-run Check threads = absurd cc
 
 -- what is written of what the near beats of a trace end in is the answer to a text that tells it
 module _ (version C M : ℕ) (lines : List Line) (text : List ℕ) (told : Tells text version C M lines) where

@@ -1,21 +1,12 @@
 -- What was read of a text, between two pieces of it.
-use Rattle.std.specs.Prelude.{IfSome}
-use Rattle.std.proofs.Common.{◌≡◌, ◌≢◌, ℕ, ◌+◌, ◌-◌, ◌≤◌, List, ◌++◌, length, take, drop, Option, None, Some, refl, sym, ap, ◌∙◌, subst, arith, length-append, length-drop, append_assoc, append-nil, take-append-drop}
-use Rattle.std.proofs.lemmas.List.{drop-drop, drop-take, length-take-le}
-use Rattle.std.specs.Io.KnownBytes.{Consumes, IsAtEnd}
-use Rattle.std.specs.List.{slice_range}
-use Rattle.tl_lanes.specs.Lanes.{IsWidth}
-use Rattle.tl_trace.specs.Faults.{IsFirstFault}
-use Rattle.tl_trace.specs.Scripts.{Gone, HasReadPast}
-use Rattle.tl_trace.specs.declared.script_reader.ScriptReader.{ScriptReader}
+use Rattle.tl_answer.proofs.Names.{IfSome, ◌≡◌, ◌≢◌, ℕ, ◌+◌, ◌-◌, ◌≤◌, List, ◌++◌, length, take, drop, Option, None, Some, refl, sym, ap, ◌∙◌, subst}
+use Rattle.tl_answer.proofs.Names.{arith, length-append, length-drop, append_assoc, append-nil, take-append-drop, drop-drop, drop-take}
+use Rattle.tl_answer.proofs.Names.{length-take-le, Consumes, IsAtEnd, slice_range, IsWidth, IsFirstFault, Gone, HasReadPast, ScriptReader}
+use Rattle.tl_answer.proofs.Names.{IsBetweenPast, IsReading, HasTaken, IsRefused, held, most_bytes, Input}
 use Rattle.tl_trace.specs.declared.fault.TraceFault.{TraceFault}
 use Rattle.tl_trace.specs.declared.fault.TraceKind.{TraceKind}
 use Rattle.tl_trace.specs.declared.fault.TraceKind.TheVariants as kinds
 use Rattle.tl_answer.specs.Faults.{of_kind, of_trace}
-use Rattle.tl_answer.specs.Inner.Lines.{IsBetweenPast, IsReading}
-use Rattle.tl_answer.specs.Inputs.{HasTaken, IsRefused, held}
-use Rattle.tl_answer.specs.Texts.{most_bytes}
-use Rattle.tl_answer.specs.declared.input.Input.{Input}
 use Rattle.tl_answer.proofs.Lengths.{lines-below}
 
 -- the lines that the input holds can be read

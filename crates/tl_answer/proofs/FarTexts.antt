@@ -1,24 +1,13 @@
 -- The lines of far beats, as they are written while the beats come.
-use Rattle.std.proofs.Common.{◌≡◌, ◌++◌, ◌∷◌, ℕ, List, [], refl, sym, ap, ◌∙◌, append_assoc}
+use Rattle.tl_answer.proofs.Names.{◌≡◌, ◌++◌, ◌∷◌, ℕ, List, [], refl, sym, ap, ◌∙◌, append_assoc, Form}
 use Rattle.std.proofs.lemmas.Grind.{flat_map-append}
 use Rattle.tl_msg.specs.declared.beat.BeatOf.{BeatOf}
-use Rattle.tl_trace.specs.Fields.{Form}
 use Rattle.tl_trace.specs.Lines.{line_text, beats_text}
-use Rattle.tl_answer.specs.Inner.FarTexts.{whole}
 
 module _ {H : Type 0} (f : Form H) (w : ℕ) where
   -- the lines of two lists
   lines-joined : (xs ys : List (BeatOf H w)) → beats_text f w (xs ++ ys) ≡ beats_text f w xs ++ beats_text f w ys
   lines-joined xs ys = flat_map-append (λ b. line_text f w b ++ 10 ∷ []) xs ys
-
-  -- beats that wait behind others
-  pub whole-added : (text : List ℕ) (waiting more : List (BeatOf H w)) → whole f w text (waiting ++ more) ≡ whole f w text waiting ++ beats_text f w more
-  whole-added text waiting more = ap (λ q. text ++ q) (lines-joined waiting more) ∙ sym (append_assoc text (beats_text f w waiting) (beats_text f w more))
-
-  -- the same of a list that is both, where the lines of those before are these
-  pub whole-grown : (text before : List ℕ) (waiting more both : List (BeatOf H w)) → both ≡ waiting ++ more → whole f w text waiting ≡ before →
-      whole f w text both ≡ before ++ beats_text f w more
-  whole-grown text before waiting more both is same = rw (is, sym same) (whole-added text waiting more)
 
   -- the lines of more beats, behind those of a list
   pub lines-more : (before after : List ℕ) (xs more : List (BeatOf H w)) → before ≡ beats_text f w xs → after ≡ before ++ beats_text f w more → after ≡ beats_text f w (xs ++ more)
@@ -26,7 +15,8 @@ module _ {H : Type 0} (f : Form H) (w : ℕ) where
 
   -- the same behind a start
   pub lines-on : (start before after : List ℕ) (xs more : List (BeatOf H w)) → before ≡ start ++ beats_text f w xs → after ≡ before ++ beats_text f w more → after ≡ start ++ beats_text f w (xs ++ more)
-  lines-on start before after xs more is on = on ∙ ap (λ q. q ++ beats_text f w more) is ∙ sym (whole-added start xs more)
+  lines-on start before after xs more is on =
+      on ∙ ap (λ q. q ++ beats_text f w more) is ∙ append_assoc start (beats_text f w xs) (beats_text f w more) ∙ ap (λ q. start ++ q) (sym (lines-joined xs more))
 
   -- the lines of beats behind a text, where these are the beats
   pub lines-of : (before after : List ℕ) (xs beats : List (BeatOf H w)) → xs ≡ beats → after ≡ before ++ beats_text f w xs → after ≡ before ++ beats_text f w beats

@@ -1,16 +1,10 @@
 -- What reads of a piece gave so far.
-use Rattle.std.specs.Prelude.{Result, Ok, Err, IfSome, IsErrOf}
-use Rattle.std.proofs.Common.{◌≡◌, ℕ, ◌+◌, ◌-◌, ◌<◌, ◌≤◌, List, ◌++◌, length, take, drop, Option, sym, ap, ◌∙◌, subst, arith, append_assoc, length-append, length-drop}
-use Rattle.std.proofs.lemmas.List.{length-take-le, take-append-le, take_rest}
+use Rattle.tl_answer.proofs.Names.{Result, Ok, Err, IfSome, IsErrOf, ◌≡◌, ℕ, ◌+◌, ◌-◌, ◌<◌, ◌≤◌, List, ◌++◌, length, take, drop, Option, sym, ap, ◌∙◌}
+use Rattle.tl_answer.proofs.Names.{subst, arith, append_assoc, length-append, length-drop, length-take-le, take-append-le, take_rest, Consumes-trans}
+use Rattle.tl_answer.proofs.Names.{Consumes, copy_within, slice_range, HasTaken, held, most_bytes, Input}
 use Rattle.std.proofs.Math.Seq.{take-append-add, take-append_seam}
-use Rattle.std.proofs.KnownBytes.{Consumes-trans}
-use Rattle.std.specs.Io.KnownBytes.{Consumes}
-use Rattle.std.specs.List.{copy_within, slice_range}
 use borrow.Rule.Slice.PartMut.{put_mid, post_of}
 use Rattle.tl_answer.specs.Inner.Filling.{IsFilled, IsRefilled, IsTooMany}
-use Rattle.tl_answer.specs.Inputs.{HasTaken, held}
-use Rattle.tl_answer.specs.Texts.{most_bytes}
-use Rattle.tl_answer.specs.declared.input.Input.{Input}
 use Rattle.tl_answer.proofs.Between.{held_size, of_text}
 
 -- the first bytes of the room are what was taken, at most so many

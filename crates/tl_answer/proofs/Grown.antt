@@ -1,6 +1,5 @@
 -- A list that grows where a result is Ok, and stays as it was else.
-use Rattle.std.proofs.Common.{◌≡◌, List, Result, Ok, Err, if◌then◌else◌}
-use Rattle.std.specs.Prelude.{OnOk}
+use Rattle.tl_answer.proofs.Names.{◌≡◌, List, Result, Ok, Err, if◌then◌else◌, OnOk}
 use Rattle.std.specs.Result.{is_ok}
 
 pub grown-ok : {E X : Type 0} (a : Result (Unit {0}) E) (list more before : List X) → list ≡ (if is_ok a then more else before) → OnOk a (list ≡ more)

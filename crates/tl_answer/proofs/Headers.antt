@@ -1,23 +1,13 @@
 -- What a text's header names, and a text that has none.
-use Rattle.std.proofs.Common.{◌≡◌, ◌≢◌, ◌≤◌, ◌∷◌, [], ◌||◌, ℕ, Bool, true, false, List, length, Option, None, Some, if◌then◌else◌, refl, sym, ap, ◌∙◌, subst}
-use Rattle.std.specs.Prelude.{◌==◌}
-use Rattle.std.proofs.lemmas.Bool.{eqb-true}
+use Rattle.tl_answer.proofs.Names.{◌≡◌, ◌≢◌, ◌≤◌, ◌∷◌, [], ◌||◌, ℕ, Bool, true, false, List, length, Option, None, Some, if◌then◌else◌, refl, sym, ap}
+use Rattle.tl_answer.proofs.Names.{◌∙◌, subst, ◌==◌, eqb-true, IsWidth, each_width, body, cut, onto_first, is_newline, header_of, HasHeader}
+use Rattle.tl_answer.proofs.Names.{faults_after, faults_of_lines, IsFirstFault, Header, Line, Script, IsScriptOf, most_bytes, IsFresh, held, Input}
 use Rattle.tl_lanes.specs.declared.limits.TheConstants.{WIDEST}
-use Rattle.tl_lanes.specs.Lanes.{IsWidth}
-use Rattle.tl_lanes.proofs.Widths.{each_width}
-use Rattle.tl_trace.specs.Faults.{body, cut, onto_first, is_newline, header_of, HasHeader, faults_after, faults_of_lines, IsFirstFault}
 use Rattle.tl_trace.specs.declared.fault.TraceKind.TheVariants as kinds
-use Rattle.tl_trace.specs.declared.header.Header.{Header}
-use Rattle.tl_trace.specs.declared.line.Line.{Line}
-use Rattle.tl_trace.specs.declared.script.Script.{Script}
-use Rattle.tl_trace.specs.Scripts.{IsScriptOf}
-use Rattle.tl_answer.specs.Texts.{most_bytes}
 use Rattle.tl_answer.proofs.Lengths.{short}
 use Rattle.tl_order.specs.Orders.{IsRunnable}
 use Rattle.tl_order.specs.declared.Order.{Order}
 use Rattle.tl_answer.specs.Inner.Asked.{IsAsked, CanCross}
-use Rattle.tl_answer.specs.Inputs.{IsFresh, held}
-use Rattle.tl_answer.specs.declared.input.Input.{Input}
 use Rattle.tl_trace.proofs.Headers.{header, known}
 use Rattle.tl_trace.proofs.ReadLines.{first_fault}
 use Rattle.tl_trace.proofs.Widths.{width_of}

@@ -1,13 +1,7 @@
 -- A trace has no more lines than its text has bytes, and no channel has more beats than the trace has lines.
-use Rattle.std.proofs.Common.{◌≡◌, ◌≤◌, ◌^◌, ℕ, suc, List, [], ◌∷◌, ◌++◌, length, Option, None, Some, sym, ap, subst, arith}
-use Rattle.std.proofs.lemmas.List.{length-append}
-use Rattle.std.specs.List.{filter_map, cons_option}
-use Rattle.tl_run.specs.Scripts.{HasShortLists}
-use Rattle.tl_trace.specs.Texts.{Tells, TellsLines, newline, header_text}
-use Rattle.tl_trace.specs.Scripts.{IsScriptOf, beat_of_a, beat_of_b, beat_of_c, beat_of_d, beat_of_e}
-use Rattle.tl_trace.specs.declared.script.Script.{Script}
-use Rattle.tl_trace.specs.declared.line.Line.{Line}
-use Rattle.tl_answer.specs.Texts.{most_bytes}
+use Rattle.tl_answer.proofs.Names.{◌≡◌, ◌≤◌, ◌^◌, ℕ, suc, List, [], ◌∷◌, ◌++◌, length, Option, None, Some, sym, ap, subst, arith, length-append}
+use Rattle.tl_answer.proofs.Names.{filter_map, cons_option, HasShortLists, Tells, TellsLines, newline, header_text, IsScriptOf, beat_of_a, beat_of_b}
+use Rattle.tl_answer.proofs.Names.{beat_of_c, beat_of_d, beat_of_e, Script, Line, most_bytes}
 
 -- one choice adds at most one item
 one-more : {X : Type 0} (o : Option X) (xs : List X) → length (cons_option o xs) ≤ suc (length xs)

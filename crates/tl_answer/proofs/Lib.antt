@@ -1,3 +1,4 @@
+pub mod Names
 mod Rows
 mod Grown
 mod FarTexts
@@ -11,4 +12,6 @@ pub mod Whole
 pub mod Writing
 pub mod Headers
 pub mod Running
-pub mod Judged
+pub mod Listening
+pub mod Crossings
+pub mod CrossingSize

@@ -1,10 +1,7 @@
 -- What reads of a text gave so far.
-use Rattle.std.proofs.Common.{◌≡◌, ℕ, ◌+◌, ◌-◌, ◌<◌, ◌≤◌, Bool, false, cond, List, ◌++◌, length, take, Option, arith, length-append}
-use Rattle.std.proofs.lemmas.List.{length-take-le}
-use Rattle.std.proofs.KnownBytes.{Consumes-trans}
-use Rattle.std.specs.Io.KnownBytes.{Consumes, IsAtEnd}
+use Rattle.tl_answer.proofs.Names.{◌≡◌, ℕ, ◌+◌, ◌-◌, ◌<◌, ◌≤◌, Bool, false, cond, List, ◌++◌, length, take, Option, arith, length-append}
+use Rattle.tl_answer.proofs.Names.{length-take-le, Consumes-trans, Consumes, IsAtEnd, most_bytes}
 use Rattle.tl_answer.specs.Inner.Reading.{IsPastMost}
-use Rattle.tl_answer.specs.Texts.{most_bytes}
 use Rattle.tl_answer.proofs.Between.{of_text}
 
 -- all that was taken behind what was read before

@@ -1,14 +1,11 @@
 -- Whole answers, computed.
-use Rattle.std.proofs.Common.{◌≡◌, ◌∷◌, ◌++◌, ℕ, true, false, List, [], map, replicate, refl}
-use Rattle.std.specs.Prelude.{codes, flat_map}
+use Rattle.tl_answer.proofs.Names.{◌≡◌, ◌∷◌, ◌++◌, ℕ, true, false, List, [], map, replicate, refl, codes, flat_map, newline, Line, answer_of}
+use Rattle.tl_answer.proofs.Names.{are_done}
 use Rattle.std.specs.Fmt.{digits}
 use Rattle.tl_lanes.specs.declared.limits.TheConstants.{WIDEST}
-use Rattle.tl_trace.specs.Texts.{newline}
-use Rattle.tl_trace.specs.declared.line.Line.{Line}
 use Rattle.tl_trace.specs.declared.line.Line.TheVariants as line
 use Rattle.tl_order.specs.declared.TheConstants as order
 use Rattle.tl_ring.specs.declared.pipe.TheConstants as ring
-use Rattle.tl_answer.specs.Answer.{answer_of, are_done}
 use Rattle.tl_answer.specs.Statuses.{fault_words}
 use Rattle.tl_answer.specs.declared.fault.TextFault.TheVariants as fault
 use Rattle.tl_trace.specs.declared.fault.TraceKind.TheVariants.{Header}

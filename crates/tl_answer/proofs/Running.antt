@@ -1,7 +1,5 @@
 -- What a run is refused for.
-use Rattle.std.specs.Prelude.{Result, Ok, Err, IfErr}
-use Rattle.std.proofs.Common.{◌≡◌, ◌≢◌, ◌≤◌, ◌<◌, ◌⊎◌, ◌↔◌, ℕ, inl, inr, refl, arith}
-use Rattle.std.proofs.lemmas.Result.{IfErr-weaker}
+use Rattle.tl_answer.proofs.Names.{Result, Ok, Err, IfErr, ◌≡◌, ◌≢◌, ◌≤◌, ◌<◌, ◌⊎◌, ◌↔◌, ℕ, inl, inr, refl, arith, IfErr-weaker}
 use Rattle.tl_run.specs.declared.outcome.RunFault.{RunFault}
 use Rattle.tl_run.specs.declared.outcome.RunFault.TheVariants.{RingSize, OutOfMemory, Stalled}
 use Rattle.tl_ring.specs.declared.pipe.TheConstants.{MAX_RING}

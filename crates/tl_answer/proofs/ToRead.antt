@@ -1,38 +1,23 @@
 -- Reading a text to its end, piece by piece.
-use Rattle.std.specs.Prelude.{IfSome}
-use Rattle.std.proofs.Common.{◌≡◌, ◌≢◌, ℕ, ◌+◌, ◌-◌, ◌<◌, ◌≤◌, ◌^◌, Bool, true, false, cond, nat_eq, nat_le, List, [], ◌++◌, length, take, Option, Some, refl, sym, ap, ◌∙◌, subst, arith, eq-eqb, length-append}
-use Rattle.std.proofs.lemmas.Bool.{eqb-true, leb-true}
-use Rattle.std.specs.Io.KnownBytes.{IsAtEnd}
+use Rattle.tl_answer.proofs.Names.{IfSome, ◌≡◌, ◌≢◌, ℕ, ◌+◌, ◌-◌, ◌<◌, ◌≤◌, ◌^◌, Bool, true, false, cond, nat_eq, nat_le, List, [], ◌++◌, length}
+use Rattle.tl_answer.proofs.Names.{take, Option, Some, refl, sym, ap, ◌∙◌, subst, arith, eq-eqb, length-append, eqb-true, leb-true, IsAtEnd, list_all}
+use Rattle.tl_answer.proofs.Names.{slice_range, header_of, HasHeader, IsFirstFault, Gone, HasRead, IsHeaderLine, versions, widths, is_version}
+use Rattle.tl_answer.proofs.Names.{is_width, header_text, Header, ScriptReader, IsBetween, IsBetweenPast, HasTaken, IsFresh, held, unread_of}
+use Rattle.tl_answer.proofs.Names.{most_bytes, Input}
 use Rattle.std.specs.Fmt.{digits}
-use Rattle.std.specs.List.{list_all, slice_range}
-use Rattle.tl_trace.specs.Faults.{header_of, HasHeader, IsFirstFault}
 use Rattle.tl_trace.specs.Inner.Reading.{LineAt}
-use Rattle.tl_trace.specs.Scripts.{Gone, HasRead, IsHeaderLine, IsUnfinished}
-use Rattle.tl_trace.specs.Texts.{versions, widths, is_version, is_width, header_text}
-use Rattle.tl_trace.specs.declared.header.Header.{Header}
-use Rattle.tl_trace.specs.declared.script_reader.ScriptReader.{ScriptReader}
 use Rattle.tl_trace.specs.declared.fault.TraceKind.TheVariants as kinds
 use Rattle.tl_trace.proofs.Headers.{header, known, is_header}
 use Rattle.tl_trace.proofs.OneTrace.{in_list}
 use Rattle.tl_trace.proofs.Pieces.{header_line}
 use Rattle.tl_trace.proofs.ReadBeats.{first_line}
 use Rattle.tl_trace.proofs.Walk.{no_header_end, last_line}
-use Rattle.tl_answer.specs.Inner.Lines.{IsBetween, IsBetweenPast}
-use Rattle.tl_answer.specs.Inputs.{HasTaken, IsFresh, held, unread_of}
-use Rattle.tl_answer.specs.Texts.{most_bytes}
-use Rattle.tl_answer.specs.declared.input.Input.{Input}
 use Rattle.tl_answer.proofs.Between.{held_size, advanced, of_whole}
 use Rattle.tl_answer.proofs.Lengths.{lines-below}
 
 -- what may still be read, and one more where the end was not found yet
 abbrev pub to_read : Input → ℕ
 to_read input = (most_bytes - input.total) + cond (nat_eq input.to (length input.buffer.items)) 1 0
-
--- the lines of what was read were read, but for one that may go on
-pub record IsAhead {C M : ℕ} (unread left : Option (List ℕ)) (v : ℕ) (lines : ScriptReader C M) (input : Input) : Type 0 where
-  pub between : IsBetween unread left lines input
-  pub version : lines.version ≡ v
-  pub rest : IsUnfinished (held input)
 
 -- what was read is not kept
 pub record IsDraining (first left : Option (List ℕ)) (input input' : Input) : Type 0 where
@@ -43,18 +28,20 @@ pub record IsDraining (first left : Option (List ℕ)) (input input' : Input) : 
   pub some : (unread : Option (List ℕ)) × (used : List ℕ) × HasTaken unread left used input'
   pub taken : (unread : Option (List ℕ)) (used : List ℕ) → HasTaken unread first used input → (used' : List ℕ) × HasTaken unread left used' input'
 
--- a piece more, or the end
-pub smaller : (a b c : Input) → nat_eq a.to (length a.buffer.items) ≡ true → a.total ≤ b.total → (b.to ≡ length b.buffer.items → a.total < b.total)
-    → b.total ≤ most_bytes → c.total ≡ b.total → c.to ≡ b.to → c.buffer.items ≡ b.buffer.items → to_read c < to_read a
-smaller a b c full more grown few total to buffer = pick (nat_eq c.to (length c.buffer.items)) refl
+-- a piece more was read, or the end, where the buffer was full and no more than used in between
+pub smaller : (was a c : Input) → a.total ≡ was.total → a.to ≡ was.to → a.buffer.items ≡ was.buffer.items → nat_eq a.to (length a.buffer.items) ≡ true
+    → a.total ≤ c.total → (c.to ≡ length c.buffer.items → a.total < c.total) → c.total ≤ most_bytes → to_read c < to_read was
+smaller was a c total to buffer full more grown few = pick (nat_eq c.to (length c.buffer.items)) refl
   where
-    before : to_read a ≡ (most_bytes - a.total) + 1
-    before = ap (λ (t : Bool). (most_bytes - a.total) + cond t 1 0) full
+    was_full : nat_eq was.to (length was.buffer.items) ≡ true
+    was_full = ap (λ (n : ℕ). nat_eq n (length was.buffer.items)) (sym to) ∙ ap (λ (n : ℕ). nat_eq a.to n) (ap length (sym buffer)) ∙ full
 
-    pick : (t : Bool) → nat_eq c.to (length c.buffer.items) ≡ t → to_read c < to_read a
+    before : to_read was ≡ (most_bytes - was.total) + 1
+    before = ap (λ (t : Bool). (most_bytes - was.total) + cond t 1 0) was_full
+
+    pick : (t : Bool) → nat_eq c.to (length c.buffer.items) ≡ t → to_read c < to_read was
     pick true e =
-        let past : b.to ≡ length b.buffer.items = sym to ∙ eqb-true c.to (length c.buffer.items) e ∙ ap length buffer in
-        let lt = grown past in
+        let lt = grown (eqb-true c.to (length c.buffer.items) e) in
         let after : to_read c ≡ (most_bytes - c.total) + 1 = ap (λ (t : Bool). (most_bytes - c.total) + cond t 1 0) e in
         omega (arith, before, after, lt, few, total)
     pick false e =

@@ -1,19 +1,10 @@
 -- What came of a text that is read piece by piece is what comes of the whole text.
-use Rattle.std.specs.Prelude.{IfSome, IfOk, IfErr}
-use Rattle.std.proofs.Common.{◌≡◌, ℕ, ◌-◌, ◌<◌, ◌≤◌, Bool, true, false, nat_eq, ◌||◌, List, [], ◌∷◌, ◌++◌, length, Option, None, Some, Result, Ok, Err, refl, sym, ap, ◌∙◌, subst, arith, length-append}
-use Rattle.std.proofs.lemmas.Bool.{or_parts, eqb-true}
-use Rattle.std.specs.List.{list_any}
-use Rattle.std.specs.Io.KnownBytes.{Consumes, IsAtEnd, prepend_known}
-use Rattle.tl_trace.specs.Faults.{is_newline, body, header_of, IsFirstFault}
-use Rattle.tl_trace.specs.declared.header.Header.{Header}
+use Rattle.tl_answer.proofs.Names.{IfSome, IfOk, IfErr, ◌≡◌, ℕ, ◌-◌, ◌<◌, ◌≤◌, Bool, true, false, nat_eq, ◌||◌, List, [], ◌∷◌, ◌++◌, length, Option}
+use Rattle.tl_answer.proofs.Names.{None, Some, Result, Ok, Err, refl, sym, ap, ◌∙◌, subst, arith, length-append, or_parts, eqb-true, list_any}
+use Rattle.tl_answer.proofs.Names.{Consumes, IsAtEnd, prepend_known, is_newline, body, header_of, IsFirstFault, Header, HasTaken, IsFresh, IsRefused}
+use Rattle.tl_answer.proofs.Names.{held, unread_of, ReadsAnswer, spelled, IsAnswer, most_bytes, TextFault, Input}
 use Rattle.tl_trace.specs.declared.fault.TraceKind.TheVariants as kinds
-use Rattle.tl_answer.specs.Inputs.{HasTaken, IsFresh, IsRefused, held, unread_of}
-use Rattle.tl_answer.specs.Inner.Answered.{ReadsAnswer}
-use Rattle.tl_answer.specs.Inner.Parts.{spelled}
-use Rattle.tl_answer.specs.Texts.{IsAnswer, most_bytes}
-use Rattle.tl_answer.specs.declared.fault.TextFault.{TextFault}
 use Rattle.tl_answer.specs.declared.fault.TextFault.TheVariants as faults
-use Rattle.tl_answer.specs.declared.input.Input.{Input}
 use Rattle.tl_answer.specs.declared.parts.AnswerParts.{AnswerParts}
 use Rattle.tl_answer.proofs.Between.{held_size, of_text, of_whole}
 use Rattle.tl_answer.proofs.Headers.{no_header}

@@ -1,16 +1,10 @@
 -- What writes of a text put out so far.
-use Rattle.std.specs.Prelude.{Result, Ok, Err, IfSome, IfOk, OnOk, IfErr}
-use Rattle.std.proofs.Common.{◌≡◌, ℕ, ◌+◌, ◌-◌, ◌≤◌, Bool, List, ◌++◌, length, take, drop, Option, None, Some, refl, sym, subst, ap, ◌∙◌, arith}
+use Rattle.tl_answer.proofs.Names.{Result, Ok, Err, IfSome, IfOk, OnOk, IfErr, ◌≡◌, ℕ, ◌+◌, ◌-◌, ◌≤◌, Bool, List, ◌++◌, length, take, drop, Option}
+use Rattle.tl_answer.proofs.Names.{None, Some, refl, sym, subst, ap, ◌∙◌, arith, length-drop, Appends-trans, Appends-kept, Appends, Keeps}
+use Rattle.tl_answer.proofs.Names.{AnswersRead, spelled, AnswersText, IsAnswer, TextFault}
 use Rattle.std.proofs.Math.Seq.{take-add, take-length}
-use Rattle.std.proofs.lemmas.List.{length-drop}
-use Rattle.std.proofs.KnownBytes.{Appends-trans, Appends-kept}
-use Rattle.std.specs.Io.KnownBytes.{Appends, Keeps}
 use Rattle.tl_order.specs.Orders.{is_check}
 use Rattle.tl_order.specs.declared.Order.{Order}
-use Rattle.tl_answer.specs.Inner.Answered.{AnswersRead}
-use Rattle.tl_answer.specs.Inner.Parts.{spelled}
-use Rattle.tl_answer.specs.Texts.{AnswersText, IsAnswer}
-use Rattle.tl_answer.specs.declared.fault.TextFault.{TextFault}
 use Rattle.tl_answer.specs.declared.fault.TextFault.TheVariants as faults
 use Rattle.tl_answer.specs.declared.parts.AnswerParts.{AnswerParts}
 

@@ -5,4 +5,6 @@ pub mod Parts
 pub mod Asked
 pub mod Answered
 pub mod FarTexts
-pub mod Judging
+pub mod Listening
+pub mod Listeners
+pub mod Crossing

@@ -16,11 +16,11 @@ ghost use Rattle.tl_answer.specs.declared.fault.TextFault.TheVariants.{OutOfMemo
 
 use crate::at_width;
 use crate::check_input::check_input;
+use crate::crossing::run_input;
 use crate::fault::TextFault;
 use crate::input::Input;
 use crate::later_lines::script_of_input;
 use crate::parts::AnswerParts;
-use crate::sync_answer::sync_answer_of;
 use std::alloc::{AllocError, Global};
 use std::io::Read;
 use std::thread::Threads;
@@ -195,27 +195,6 @@ fn threads_answer_of<T: Threads, const C: usize, const M: usize>(
     Ok(AnswerParts::of(alloc, answer?))
 }
 
-/// The answer to a script, as the order has it. Refused with `OutOfMemory` alone.
-fn answer_script<T: Threads, const C: usize, const M: usize>(
-    rt: &T,
-    alloc: Global,
-    script: Script<C, M>,
-    version: u8,
-    order: &Order,
-) -> Result<AnswerParts, TextFault>
-    requires { CanCross script × IsRunnable order.now }
-    ensures text { IfOk result (λ made. spelled made
-        ≡ text_of version (near_beats script.entry) (is_check order.now)) }
-    ensures done { IfOk result (λ made. made.all_done
-        ≡ list_all is_done (verdicts (near_beats script.entry))) }
-    ensures err { IfErr result (λ fault. fault ≡ NoMemory) }
-{
-    if order.is_sync() {
-        return sync_answer_of::<C, M>(alloc, script, version, order.is_check(), order.ring());
-    }
-    threads_answer_of::<T, C, M>(rt, alloc, script, version, order)
-}
-
 /// The answer to a text whose header names this version and these widths.
 fn with_widths<T: Threads, R: Read, const C: usize, const M: usize>(
     rt: &T,
@@ -232,8 +211,11 @@ fn with_widths<T: Threads, R: Read, const C: usize, const M: usize>(
     if order.is_check() {
         return check_input::<R, C, M>(alloc, reader, input, version);
     }
+    if order.is_sync() {
+        return run_input::<R, C, M>(alloc, reader, input, version, order.ring());
+    }
     match script_of_input::<R, C, M>(alloc, reader, input, version) {
-        Ok(script) => answer_script::<T, C, M>(rt, alloc, script, version, order),
+        Ok(script) => threads_answer_of::<T, C, M>(rt, alloc, script, version, order),
         Err(fault) => Err(fault),
     }
 }

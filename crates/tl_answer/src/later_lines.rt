@@ -1,20 +1,25 @@
-//! From a text as it comes in to its script.
-ghost use Rattle.std.specs.Prelude.{◌≡◌, ℕ, List, Option, OnOk, IfErr};
+//! From a text as it comes in to its near beats.
+ghost use Rattle.std.specs.Prelude.{◌≡◌, ℕ, List, Option, IfOk, OnOk, IfErr};
 ghost use Rattle.tl_lanes.specs.Lanes.{IsWidth};
 ghost use Rattle.tl_trace.specs.Faults.{HasHeader};
 ghost use Rattle.tl_trace.specs.Scripts.{Gone, HasGrown, IsUnfinished};
 ghost use Rattle.tl_answer.specs.Faults.{of_trace};
-ghost use Rattle.tl_answer.specs.Inner.Lines.{IsBeginning, IsBetweenPast, IsReading, ReadsPieces};
+ghost use Rattle.tl_answer.specs.Inner.Lines.{IsBeginning, IsBetweenPast, IsReading};
+ghost use Rattle.tl_answer.specs.Inner.Listening.{HasHeard, IsNew, IsReadThrough};
 ghost use Rattle.tl_answer.specs.Inputs.{IsFresh, IsRefused, ReadsScript, held, unread_of};
+ghost use Rattle.tl_answer.specs.declared.fault.TextFault.TheVariants.{OutOfMemory as NoMemory};
+ghost use Rattle.tl_answer.specs.declared.input.Input.{Input as TheInput};
 
 use crate::fault::TextFault;
 use crate::input::Input;
+use crate::keep_all::KeepAll;
+use crate::listener::Listener;
 use std::alloc::Global;
 use std::io::Read;
 use tl_trace::{Script, ScriptReader, TraceFault, TraceKind, line_end};
 
 /// Reads the lines that the input holds whole.
-pub(crate) fn read_held<const C: usize, const M: usize>(
+fn read_held<const C: usize, const M: usize>(
     lines: &mut ScriptReader<C, M>,
     input: &mut Input,
 ) -> Result<(), TraceFault>
@@ -44,16 +49,50 @@ pub(crate) fn read_held<const C: usize, const M: usize>(
     }
 }
 
+/// Lets a listener go on with the beats that were read, and those go that it is done with.
+fn hear_held<L: Listener<C, M>, const C: usize, const M: usize>(
+    lines: &mut ScriptReader<C, M>,
+    listener: &mut L,
+) -> Result<(), TextFault>
+    requires { IsWidth C × IsWidth M × ((gone : Gone C M) ×
+        L.Listens lines.old.version listener.old gone lines.old.script) }
+    ensures version { lines.new.version ≡ lines.old.version }
+    ensures err { IfErr result (λ fault. fault ≡ NoMemory) }
+
+    // for every text of which that was read
+    ensures on { (unread left : Option (List ℕ)) (input : TheInput) (gone : Gone C M) →
+        IsBetweenPast gone unread left lines.old input →
+        L.Listens lines.old.version listener.old gone lines.old.script →
+        OnOk result (HasHeard (L.Listens lines.old.version) unread left lines.new input
+        listener.new) }
+{
+    match listener.hear(&lines.script) {
+        Ok(counts) => {
+            lines.let_go(&counts);
+            Ok(())
+        }
+        Err(_) => Err(TextFault::OutOfMemory),
+    }
+}
+
 /// Reads a text to its end, piece by piece, where the input holds its first piece and nothing of it
-/// was used, and no line was read yet. Refused as `script_of_input` is.
-fn read_pieces<R: Read, const C: usize, const M: usize>(
+/// was used, and no line was read yet. After each piece but the last one a new listener goes on with
+/// the beats that were read, and those go that it is done with.
+///
+/// Refused as `script_of_input` is, and with `OutOfMemory` where the listener is refused.
+fn read_pieces<R: Read, L: Listener<C, M>, const C: usize, const M: usize>(
     reader: &mut R,
     input: &mut Input,
     lines: &mut ScriptReader<C, M>,
+    listener: &mut L,
 ) -> Result<(), TextFault>
-    requires { IsBeginning (R.remaining reader.old) input.old lines.old }
-    ensures { ReadsPieces (unread_of input.old (R.remaining reader.old)) (R.remaining reader.new)
-        lines.old.version lines.new.script input.new result }
+    requires { IsBeginning (R.remaining reader.old) input.old lines.old ×
+        IsNew (L.Listens lines.old.version) listener.old }
+    ensures ok { OnOk result (IsReadThrough (L.Listens lines.old.version)
+        (unread_of input.old (R.remaining reader.old)) (R.remaining reader.new)
+        lines.old.version listener.new lines.new.script) }
+    ensures err { IfErr result (IsRefused
+        (unread_of input.old (R.remaining reader.old)) (R.remaining reader.new) input.new) }
 {
     let end = line_end(input.held(), 0);
     if end >= input.held().len() {
@@ -63,20 +102,46 @@ fn read_pieces<R: Read, const C: usize, const M: usize>(
         }));
     }
     input.advance(end + 1);
-    if let Err(fault) = read_held(lines, input) {
-        return Err(TextFault::from(fault));
-    }
-    while input.is_full() {
-        if let Err(fault) = input.refill(reader) {
-            return Err(fault);
-        }
+    'pieces: loop {
         if let Err(fault) = read_held(lines, input) {
             return Err(TextFault::from(fault));
         }
+        if !input.is_full() {
+            return match lines.end_fault(input.held()) {
+                Some(fault) => Err(TextFault::from(fault)),
+                None => Ok(()),
+            };
+        }
+        if let Err(fault) = hear_held(lines, listener) {
+            return Err(fault);
+        }
+        if let Err(fault) = input.refill(reader) {
+            return Err(fault);
+        }
     }
-    match lines.end_fault(input.held()) {
-        Some(fault) => Err(TextFault::from(fault)),
-        None => Ok(()),
+}
+
+/// Reads a text whose header names this version and these widths to its end, as `read_pieces` does: the
+/// beats of its script that are still held then.
+pub(crate) fn read_through<R: Read, L: Listener<C, M>, const C: usize, const M: usize>(
+    alloc: Global,
+    reader: &mut R,
+    input: &mut Input,
+    version: u8,
+    listener: &mut L,
+) -> Result<Script<C, M>, TextFault>
+    requires { IsFresh (R.remaining reader.old) input.old ×
+        HasHeader (held input.old) version C M × IsNew (L.Listens version) listener.old }
+    ensures ok { IfOk result (IsReadThrough (L.Listens version)
+        (unread_of input.old (R.remaining reader.old)) (R.remaining reader.new)
+        version listener.new) }
+    ensures err { IfErr result (IsRefused
+        (unread_of input.old (R.remaining reader.old)) (R.remaining reader.new) input.new) }
+{
+    let mut lines = ScriptReader::<C, M>::new(alloc, version);
+    match read_pieces(reader, input, &mut lines, listener) {
+        Ok(()) => Ok(lines.script),
+        Err(fault) => Err(fault),
     }
 }
 
@@ -100,9 +165,5 @@ pub fn script_of_input<R: Read, const C: usize, const M: usize>(
     ensures { ReadsScript (unread_of input.old (R.remaining reader.old)) (R.remaining reader.new)
         version input.new result }
 {
-    let mut lines = ScriptReader::<C, M>::new(alloc, version);
-    match read_pieces(reader, input, &mut lines) {
-        Ok(()) => Ok(lines.script),
-        Err(fault) => Err(fault),
-    }
+    read_through(alloc, reader, input, version, &mut KeepAll)
 }

@@ -4,11 +4,14 @@
 
 mod answer;
 mod check_input;
+mod crossing;
 mod far_text;
 mod fault;
 mod input;
+mod keep_all;
 mod later_lines;
 pub mod laws;
+mod listener;
 mod parts;
 mod status;
 mod sync_answer;

@@ -1,7 +1,6 @@
 //! The answer to a text that the caller keeps, with both sides of the bridge in one thread.
 ghost use Rattle.std.specs.Prelude.{◌≡◌, ◌≤◌, ◌++◌, false, length, Some, IfOk, IfErr};
 ghost use Rattle.std.specs.List.{list_all};
-ghost use Rattle.tl_ring.specs.declared.pipe.TheConstants.{MAX_RING};
 ghost use Rattle.tl_settle.specs.Outcomes.{verdicts};
 ghost use Rattle.tl_run.specs.Scripts.{near_beats};
 ghost use Rattle.tl_answer.specs.Answer.{far_header, report, is_done};
@@ -13,11 +12,10 @@ ghost use Rattle.tl_answer.specs.declared.fault.TextFault.TheVariants.{OutOfMemo
 
 use crate::answer::{Answer, check_of};
 use crate::at_width;
-use crate::far_text::FarTexts;
+use crate::crossing::Crossing;
 use crate::fault::TextFault;
 use crate::parts::AnswerParts;
 use std::alloc::Global;
-use tl_bridge::{RunFault, run_sync_into};
 use tl_check::verdicts_of;
 use tl_trace::{Script, TraceFault, TraceKind, header_of_text, read_script};
 
@@ -43,50 +41,38 @@ fn check_script<const C: usize, const M: usize>(
     check_of(alloc, &verdicts, version, C, M)
 }
 
-/// The answer to a script by a run in one thread with rings of `ring` beats, which writes the lines
-/// of the far beats as they are taken: the version of the trace and the widths, the far beats, and
-/// the five report lines. The script is let go once the run is over. Refused with `OutOfMemory`
-/// alone.
+/// The answer to a script by a run in one thread: the version of the trace and the widths, the far
+/// beats, and the five report lines. Refused with `OutOfMemory` alone.
 fn sync_run_of<const C: usize, const M: usize>(
     alloc: Global,
     script: Script<C, M>,
     version: u8,
-    ring: usize,
 ) -> Result<AnswerParts, TextFault>
-    requires { CanCross script × (1 ≤ ring) × (ring ≤ MAX_RING) }
+    requires { CanCross script }
     ensures text { IfOk result (λ made. spelled made
         ≡ text_of version (near_beats script.entry) false) }
     ensures done { IfOk result (λ made. made.all_done
         ≡ list_all is_done (verdicts (near_beats script.entry))) }
     ensures err { IfErr result (λ fault. fault ≡ NoMemory) }
 {
-    let Ok(mut far) = FarTexts::<C, M>::new(alloc, version) else {
-        drop(script);
-        return Err(TextFault::OutOfMemory);
-    };
-    let run = run_sync_into::<FarTexts<C, M>, C, M>(alloc, &script, ring, &mut far);
-    drop(script);
-    match run {
-        Ok(ending) => far.into_answer(&ending.verdicts),
-        Err(RunFault::OutOfMemory) => {
-            drop(far);
-            Err(TextFault::OutOfMemory)
+    match Crossing::<C, M>::new(alloc, version, RING) {
+        Ok(crossing) => crossing.end(script),
+        Err(fault) => {
+            drop(script);
+            Err(fault)
         }
-        Err(RunFault::Stalled) => unreachable!(),
-        Err(RunFault::RingSize) => unreachable!(),
     }
 }
 
-/// The answer to a script with both sides in one thread: by a check, or by a run with rings of `ring`
-/// beats. Refused with `OutOfMemory` alone.
-pub(crate) fn sync_answer_of<const C: usize, const M: usize>(
+/// The answer to a script with both sides in one thread: by a check, or by a run. Refused with
+/// `OutOfMemory` alone.
+fn sync_answer_of<const C: usize, const M: usize>(
     alloc: Global,
     script: Script<C, M>,
     version: u8,
     check: bool,
-    ring: usize,
 ) -> Result<AnswerParts, TextFault>
-    requires { CanCross script × (1 ≤ ring) × (ring ≤ MAX_RING) }
+    requires { CanCross script }
     ensures text { IfOk result (λ made. spelled made
         ≡ text_of version (near_beats script.entry) check) }
     ensures done { IfOk result (λ made. made.all_done
@@ -98,7 +84,7 @@ pub(crate) fn sync_answer_of<const C: usize, const M: usize>(
         drop(script);
         return Ok(AnswerParts::of(alloc, answer?));
     }
-    sync_run_of::<C, M>(alloc, script, version, ring)
+    sync_run_of::<C, M>(alloc, script, version)
 }
 
 /// The answer to a text whose header names this version and these widths.
@@ -116,7 +102,7 @@ fn with_widths<const C: usize, const M: usize>(
         Ok(script) => script,
         Err(fault) => return Err(TextFault::from(fault)),
     };
-    sync_answer_of::<C, M>(alloc, script, version, check, RING)?.joined()
+    sync_answer_of::<C, M>(alloc, script, version, check)?.joined()
 }
 
 /// The same, for a client of `C` bytes: the manager's width is one of eight.

@@ -171,13 +171,15 @@ fn read_answer<T: Threads, R: Read>(
 /// arrive (a check leaves them out), and how far each channel comes. The order is one that
 /// `order_of` gives.
 ///
-/// All of the input is read first: `Read` where a read fails or is interrupted, `TooLong` above
-/// 67,108,864 bytes. Then the text is judged: `Trace` with its first fault and that fault's line.
-/// Then both sides of the bridge run over rings of the order's size: each in a thread of its own,
-/// where they meet after each round of the order's turns, or both in one where the order is a check
-/// or says `sync`. `Stalled` never comes. Nothing is written before the whole answer is made. `Write`
-/// where a write fails, is interrupted or takes no byte; after it, it isn't said how much went out.
-/// `OutOfMemory` comes before anything is written.
+/// All of the input is read, and the whole answer made, before anything is written: `Read` where a read
+/// fails or is interrupted, `TooLong` above 67,108,864 bytes, and else `Trace` with the text's first
+/// fault and that fault's line. Both sides of the bridge run over rings of the order's size: each in a
+/// thread of its own, once the whole text is there, where they meet after each round of the order's
+/// turns; or both in one where the order is a check or says `sync`, while the text is read, so that no
+/// beat is kept that they are done with. `OutOfMemory` comes before anything is written; where the text
+/// is answered while it is read, it may come before a later line's fault is seen (this project's
+/// choice). `Stalled` never comes. `Write` where a write fails, is interrupted or takes no byte; after
+/// it, it isn't said how much went out.
 pub fn run_text<T: Threads, R: Read, W: Write>(
     rt: &T,
     alloc: Global,

@@ -2,40 +2,15 @@
 use Rattle.std.proofs.Common.{◌≡◌, ◌+◌, ◌≤◌, ◌⊎◌, inl, inr, ◌++◌, ℕ, Bool, true, List, length, refl, sym, ap, subst, ◌∙◌, arith, length-append, ⊎_elim}
 use Rattle.std.specs.Global.{Global}
 use mathlib.Core.List.{IsPrefix}
-use Rattle.tl_lanes.specs.Lanes.{IsWidth}
-use Rattle.tl_msg.specs.Rules.{Rules}
-use Rattle.tl_msg.specs.Tables.{rules_a, rules_b, rules_c, rules_d, rules_e}
-use Rattle.tl_msg.specs.declared.beat.BeatOf.{BeatOf}
-use Rattle.tl_ring.specs.Crossing.{World}
-use Rattle.tl_ring.specs.Ends.{Sending, Taking, Met, Meets, seen_by, sent, received, known_items}
+use Rattle.tl_bridge.proofs.Words.{IsWidth, Rules, rules_a, rules_b, rules_c, rules_d, rules_e, BeatOf, World, Sending, Taking, Met, Meets, seen_by, sent, received, known_items, Standing, asked, answered, round, client_rests, manager_rests, far_a, far_d, Beats, StandsFor, PerChannel, AreStanding, ClientState, ManagerState, ClientPast, ManagerPast, ClientStandsFor, ManagerStandsFor, AreSides, SidesMeet, new_client, new_manager, no_beats, IsShort, HasRoomFor, beats_of, AllStop, AreStopped, HasEnded, HaveRoomToCount, all_progress, all_standing, all_stopped, all_under_way, progress, standing_count, under_way, Stop, inbox-due, sent-passed, same-sums, begins, progress-is, progress-ends, run_end, counts-fit, due-a, due-d}
 use Rattle.tl_ring.specs.Pipe as piping
-use Rattle.tl_ring.specs.declared.standing.Standing.{Standing}
-use Rattle.tl_settle.specs.Histories.{asked, answered}
-use Rattle.tl_settle.specs.Rounds.{round, client_rests, manager_rests}
-use Rattle.tl_settle.specs.Settling.{far_a, far_d}
-use Rattle.tl_settle.specs.Outcomes.{Beats}
-use Rattle.tl_sides.specs.Bridges.{StandsFor}
-use Rattle.tl_sides.specs.declared.per_channel.PerChannel.{PerChannel}
-use Rattle.tl_sides.specs.Ends.{AreStanding}
-use Rattle.tl_sides.specs.Sides.{ClientState, ManagerState, ClientPast, ManagerPast, ClientStandsFor, ManagerStandsFor, AreSides, SidesMeet, new_client, new_manager}
-use Rattle.tl_run.specs.Arrivals.{no_beats}
-use Rattle.tl_run.specs.Scripts.{IsShort}
-use Rattle.tl_run.specs.Inner.Arriving.{HasRoomFor, beats_of}
 use Rattle.tl_bridge.specs.Inner.Arriving.{HasRoomForInboxes, taken_of}
-use Rattle.tl_run.specs.Inner.Running.{AllStop, AreStopped, HasEnded, HaveRoomToCount, all_progress, all_standing, all_stopped, all_under_way, progress, standing_count, under_way}
 use Rattle.tl_bridge.specs.Inner.Sides.{ClientIsAt, ManagerIsAt, ClientMayPlay, ManagerMayPlay, ClientHasPlayed, ManagerHasPlayed, ClientRests, ManagerRests, HasMet, HasPlayed, AreNew, bridge_of, met_progress, none_ready, past_of, pipe_of}
-use Rattle.tl_run.specs.declared.channel_state.Stop.{Stop}
 use Rattle.tl_bridge.specs.declared.client_turns.ClientRun.{ClientRun}
 use Rattle.tl_bridge.specs.declared.manager_turns.ManagerRun.{ManagerRun}
 use Rattle.tl_bridge.specs.declared.turns.Turn.{Turn}
-use Rattle.tl_run.proofs.ChannelEnd.{inbox-due}
-use Rattle.tl_run.proofs.ChannelOffer.{sent-passed}
-use Rattle.tl_run.proofs.Counting.{same-sums}
-use Rattle.tl_run.proofs.Ended.{begins, progress-is, progress-ends, run_end}
 use Rattle.tl_bridge.proofs.Resting.{channel-rests, some-free}
-use Rattle.tl_run.proofs.Round.{counts-fit}
 use Rattle.tl_bridge.proofs.Rooms.{inboxes-fit}
-use Rattle.tl_run.proofs.RunRound.{due-a, due-d}
 
 -- ---- one channel
 

@@ -1,30 +1,8 @@
 -- A side rests within a round where it moves no beat, and where both rest nothing is under way.
 use Rattle.std.proofs.Common.{◌≡◌, ◌≢◌, ◌+◌, ◌-◌, ◌≤◌, ◌⊎◌, ◌↔◌, inl, inr, ◌++◌, ℕ, zero, suc, Bool, true, Option, List, [], length, take, drop, min, refl, sym, ap, subst, ◌∙◌, arith, append-nil, length-append, ⊎_elim}
 use Rattle.std.proofs.lemmas.List.{nil_from_length}
-use Rattle.tl_msg.specs.Rules.{Rules}
-use Rattle.tl_msg.specs.Tables.{rules_a, rules_b, rules_c, rules_d, rules_e}
-use Rattle.tl_msg.specs.declared.head.HeadA.{HeadA}
-use Rattle.tl_msg.specs.declared.head.HeadB.{HeadB}
-use Rattle.tl_msg.specs.declared.head.HeadC.{HeadC}
-use Rattle.tl_msg.specs.declared.head.HeadD.{HeadD}
-use Rattle.tl_msg.specs.declared.head.HeadE.{HeadE}
-use Rattle.tl_msg.specs.declared.beat.BeatOf.{BeatOf}
-use Rattle.tl_msg.specs.declared.fault.SideFault.{SideFault}
-use Rattle.tl_ring.specs.declared.queue.TheConstants.{ROOM}
-use Rattle.tl_ring.specs.Crossing.{World, inbox_room}
-use Rattle.tl_ring.specs.Ends.{Sending, Taking, Sends, Takes, Met, sent, received, known_free, known_items, room}
-use Rattle.tl_ring.specs.declared.standing.Standing.{Standing}
-use Rattle.tl_settle.specs.Histories.{Event, client_answer, manager_answer, manager_home}
-use Rattle.tl_settle.specs.Outcomes.{Beats}
-use Rattle.tl_sides.specs.Crossings.{stops_alone}
-use Rattle.tl_sides.specs.declared.per_channel.PerChannel.{PerChannel}
-use Rattle.tl_sides.specs.Ends.{Pumps, Fetches, AreStanding, pump_count, fetch_count}
-use Rattle.tl_sides.specs.Sides.{ClientState, ManagerState}
-use Rattle.tl_run.specs.Inner.Running.{Does, IsSent, IsStopped, standing_count, steps}
+use Rattle.tl_bridge.proofs.Words.{Rules, rules_a, rules_b, rules_c, rules_d, rules_e, HeadA, HeadB, HeadC, HeadD, HeadE, BeatOf, SideFault, ROOM, World, inbox_room, Sending, Taking, Sends, Takes, Met, sent, received, known_free, known_items, room, Standing, Event, client_answer, manager_answer, manager_home, Beats, stops_alone, PerChannel, Pumps, Fetches, AreStanding, pump_count, fetch_count, ClientState, ManagerState, Does, IsSent, IsStopped, standing_count, steps, Offered, Accepted, NotReady, Stopped, stage-full}
 use Rattle.tl_bridge.specs.Inner.Sides.{SameClientEnds, SameManagerEnds, ClientHasOffered, ManagerHasOffered, ClientIsAt, ManagerIsAt, ClientRests, ManagerRests, SendRests, TakeRests, all_steps}
-use Rattle.tl_run.specs.declared.channel_state.Offered.{Offered}
-use Rattle.tl_run.specs.declared.channel_state.Offered.TheVariants.{Accepted, NotReady, Stopped}
-use Rattle.tl_run.proofs.ChannelRound.{stage-full}
 
 -- the lesser of two numbers is zero
 one-is-none : (n m : ℕ) → min n m ≤ 0 → (n ≡ 0) ⊎ (m ≡ 0)

@@ -1,18 +1,6 @@
 -- The lists of far beats of a run in two threads have room for all that comes.
 use Rattle.std.proofs.Common.{◌≡◌, ◌+◌, ◌≤◌, ℕ, List, length, sym, subst}
-use Rattle.tl_lanes.specs.Lanes.{IsWidth}
-use Rattle.tl_msg.specs.Rules.{Rules}
-use Rattle.tl_msg.specs.Tables.{rules_a, rules_b, rules_c, rules_d, rules_e}
-use Rattle.tl_msg.specs.declared.beat.BeatOf.{BeatOf}
-use Rattle.tl_ring.specs.Crossing.{World}
-use Rattle.tl_ring.specs.Laws.{Crosses}
-use Rattle.tl_settle.specs.Outcomes.{Beats}
-use Rattle.tl_sides.specs.Bridges.{Bridge, Past, StandsFor}
-use Rattle.tl_sides.specs.declared.per_channel.PerChannel.{PerChannel}
-use Rattle.tl_run.specs.declared.taken.Taken.{Taken}
-use Rattle.tl_run.specs.Inner.Arriving.{HasRoom, HasRoomFor, beats_of}
-use Rattle.tl_run.specs.Inner.Running.{IsSent, IsAt}
-use Rattle.tl_run.proofs.ChannelEnd.{room-for}
+use Rattle.tl_bridge.proofs.Words.{IsWidth, Rules, rules_a, rules_b, rules_c, rules_d, rules_e, BeatOf, World, Crosses, Beats, Bridge, Past, StandsFor, PerChannel, Taken, HasRoom, HasRoomFor, beats_of, IsSent, IsAt, room-for}
 use Rattle.tl_bridge.specs.Inner.Arriving.{HasRoomForInboxes, KeepsRoom}
 
 -- a list of far beats has room for an inbox, where all that is due fits

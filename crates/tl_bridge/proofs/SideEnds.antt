@@ -1,16 +1,8 @@
 -- What no call but a pump and a fetch changes of a side's ends, and how far a side comes.
 use Rattle.std.proofs.Common.{◌≡◌, ◌+◌, ◌≤◌, ◌≢◌, ◌⊎◌, ℕ, Bool, true, length, take, refl, sym, ap, subst, ◌∙◌, arith, length-append, ⊎_elim}
 use Rattle.std.proofs.lemmas.List.{length-take}
-use Rattle.tl_ring.specs.Ends.{Sending, Taking, SameSend, SameTake, sent, received}
-use Rattle.tl_ring.proofs.Same.{same_send, same_take}
-use Rattle.tl_sides.specs.declared.per_channel.PerChannel.{PerChannel}
-use Rattle.tl_sides.specs.Ends.{Pumps, Fetches, pump_count, fetch_count}
-use Rattle.tl_sides.specs.Sides.{ClientState, ManagerState, SameClient, SameManager}
-use Rattle.tl_sides.proofs.SameSides.{same_client_then, same_manager_then}
-use Rattle.tl_run.specs.Inner.Running.{counted, steps}
+use Rattle.tl_bridge.proofs.Words.{Sending, Taking, SameSend, SameTake, sent, received, same_send, same_take, PerChannel, Pumps, Fetches, pump_count, fetch_count, ClientState, ManagerState, SameClient, SameManager, same_client_then, same_manager_then, counted, steps, Offered, NotReady}
 use Rattle.tl_bridge.specs.Inner.Sides.{SameClientEnds, SameManagerEnds, Goes, ClientGoes, ManagerGoes, client_progress, manager_progress, all_steps}
-use Rattle.tl_run.specs.declared.channel_state.Offered.{Offered}
-use Rattle.tl_run.specs.declared.channel_state.Offered.TheVariants.{NotReady}
 
 module _ {A : Type 0} where
   -- the same ends are those of the same rings
@@ -93,14 +85,8 @@ same-parts v0 v1 v2 v3 v4 v5 v6 v7 v8 v9 v10 a b c d e = omega arith
 
 module _ {A : Type 0} {C M : ℕ} where
   -- a side with the ends of another one
-  pub client-ends-same : (s : ClientState A C M) → SameClientEnds s s
-  client-ends-same s = record { a = refl; b = refl; c = refl; d = refl; e = refl }
-
   pub client-ends-then : (s t u : ClientState A C M) → SameClientEnds s t → SameClientEnds t u → SameClientEnds s u
   client-ends-then s t u f g = record { a = g.a ∙ f.a; b = g.b ∙ f.b; c = g.c ∙ f.c; d = g.d ∙ f.d; e = g.e ∙ f.e }
-
-  pub manager-ends-same : (s : ManagerState A C M) → SameManagerEnds s s
-  manager-ends-same s = record { a = refl; b = refl; c = refl; d = refl; e = refl }
 
   pub manager-ends-then : (s t u : ManagerState A C M) → SameManagerEnds s t → SameManagerEnds t u → SameManagerEnds s u
   manager-ends-then s t u f g = record { a = g.a ∙ f.a; b = g.b ∙ f.b; c = g.c ∙ f.c; d = g.d ∙ f.d; e = g.e ∙ f.e }

@@ -1,20 +1,12 @@
 -- What a side's thread does in a round, told of all that it holds.
 use Rattle.std.proofs.Common.{◌≡◌, ◌⊎◌, ◌↔◌, ◌++◌, inl, inr, ℕ, true, List, [], Global, sym, subst, ⊎_elim}
 use mathlib.Core.List.{IsPrefix}
-use Rattle.tl_ring.specs.Ends.{Takes}
-use Rattle.tl_settle.specs.Histories.{Event, asked, answered}
-use Rattle.tl_settle.specs.Settling.{far_a, far_d}
-use Rattle.tl_settle.specs.Outcomes.{Beats}
-use Rattle.tl_sides.specs.declared.per_channel.PerChannel.{PerChannel}
-use Rattle.tl_sides.specs.Sides.{ClientState, ManagerState}
+use Rattle.tl_bridge.proofs.Words.{Takes, Event, asked, answered, far_a, far_d, Beats, PerChannel, ClientState, ManagerState, Offered, answered-all, asked-all, same_client_then, same_manager_then}
 use Rattle.tl_bridge.specs.Inner.Sides.{ClientGoes, ManagerGoes, ClientIsAt, ManagerIsAt, ClientHasPlayed, ManagerHasPlayed, ClientHasTaken, ManagerHasTaken, ClientMovesOrRests, ManagerMovesOrRests, none_ready}
-use Rattle.tl_run.specs.declared.channel_state.Offered.{Offered}
 use Rattle.tl_bridge.specs.declared.client_turns.ClientRun.{ClientRun}
 use Rattle.tl_bridge.specs.declared.manager_turns.ManagerRun.{ManagerRun}
 use Rattle.tl_bridge.specs.declared.turns.Turn.{Turn}
-use Rattle.tl_run.proofs.ChannelOffer.{answered-all, asked-all}
 use Rattle.tl_bridge.proofs.Resting.{none-behind, client-rests-since, manager-rests-since}
-use Rattle.tl_sides.proofs.SameSides.{same_client_then, same_manager_then}
 use Rattle.tl_bridge.proofs.SideEnds.{client-goes-since, manager-goes-since, goes-then}
 use Rattle.tl_bridge.proofs.SideRound.{client-took, manager-took}
 

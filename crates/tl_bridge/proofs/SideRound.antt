@@ -1,29 +1,8 @@
 -- What a side does in a round, one step after another.
 use Rattle.std.proofs.Common.{◌≡◌, ◌+◌, ◌++◌, ℕ, None, List, map, refl, sym, ap, subst, ◌∙◌, append-nil}
 use mathlib.Core.List.{IsPrefix}
-use Rattle.tl_msg.specs.Tables.{rules_a, rules_b, rules_c, rules_d, rules_e}
-use Rattle.tl_msg.specs.declared.head.HeadA.{HeadA}
-use Rattle.tl_msg.specs.declared.head.HeadB.{HeadB}
-use Rattle.tl_msg.specs.declared.head.HeadC.{HeadC}
-use Rattle.tl_msg.specs.declared.head.HeadD.{HeadD}
-use Rattle.tl_msg.specs.declared.head.HeadE.{HeadE}
-use Rattle.tl_msg.specs.declared.beat.BeatOf.{BeatOf}
-use Rattle.tl_burst.specs.Handing.{fault_after}
-use Rattle.tl_settle.specs.Histories.{Event, Ask, Answer, asked, answered, client_answer, manager_answer, manager_home}
-use Rattle.tl_settle.specs.Rounds.{ClientMoves, ManagerMoves}
-use Rattle.tl_settle.specs.Settling.{far_a, far_d}
-use Rattle.tl_settle.specs.Outcomes.{Beats}
-use Rattle.tl_sides.specs.Crossings.{stops_alone}
-use Rattle.tl_sides.proofs.BridgeSteps.{asked_answers, answered_asks}
-use Rattle.tl_sides.specs.declared.per_channel.PerChannel.{PerChannel}
-use Rattle.tl_sides.specs.Sides.{ClientState, ManagerState, ClientStandsFor, ManagerStandsFor, client_pumps, manager_pumps}
-use Rattle.tl_sides.specs.Sides.{client_takes_b, client_takes_d, manager_takes_a, manager_takes_c, manager_takes_e}
-use Rattle.tl_run.specs.Inner.Running.{counted, steps}
+use Rattle.tl_bridge.proofs.Words.{rules_a, rules_b, rules_c, rules_d, rules_e, HeadA, HeadB, HeadC, HeadD, HeadE, BeatOf, fault_after, Event, Ask, Answer, asked, answered, client_answer, manager_answer, manager_home, ClientMoves, ManagerMoves, far_a, far_d, Beats, stops_alone, asked_answers, answered_asks, PerChannel, ClientState, ManagerState, ClientStandsFor, ManagerStandsFor, client_pumps, manager_pumps, client_takes_b, client_takes_d, manager_takes_a, manager_takes_c, manager_takes_e, counted, steps, Offered, answered-all, asked-all, sent-offer, homed-offer, stops-offer, sent-passed, alone-own, client-own, manager-own, none-accepted, stops-same, client-takes-all, manager-takes-all, client-offers, manager-offers}
 use Rattle.tl_bridge.specs.Inner.Sides.{ClientIsAt, ManagerIsAt, ClientHasOffered, ManagerHasOffered, none_ready}
-use Rattle.tl_run.specs.declared.channel_state.Offered.{Offered}
-use Rattle.tl_run.proofs.ChannelOffer.{answered-all, asked-all, sent-offer, homed-offer, stops-offer, sent-passed}
-use Rattle.tl_run.proofs.Round.{alone-own, client-own, manager-own, none-accepted, stops-same}
-use Rattle.tl_run.proofs.RoundMoves.{client-takes-all, manager-takes-all, client-offers, manager-offers}
 
 module _ {A : Type 0} {C M : ℕ} (near : Beats C M) where
   -- all that stood in the inboxes is taken

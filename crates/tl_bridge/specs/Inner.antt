@@ -1,4 +1,2 @@
 pub mod Arriving
-pub mod Taking
-pub mod Offering
 pub mod Sides

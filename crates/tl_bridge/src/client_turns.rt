@@ -13,11 +13,10 @@ ghost use Rattle.tl_run.specs.Inner.Running.{HaveRoomToCount};
 ghost use Rattle.tl_bridge.specs.Inner.Sides.{SameClientEnds, ClientHasTaken, ClientHasOffered, ClientGoes, ClientIsAt, ClientMovesOrRests, ClientMayPlay, ClientHasPlayed};
 
 use crate::gates::Gate;
-use crate::inboxes::take_all;
-use crate::side_offers::{offer_next_a, offer_next_c, offer_next_e};
+use crate::inboxes::append;
 use crate::turns::Turn;
 use tl_msg::{Beat, ChA, ChB, ChC, ChD, ChE};
-use tl_run::Offered;
+use tl_run::{Offered, Offers};
 use tl_sides::{ClientSide, PerChannel};
 use tl_trace::Script;
 
@@ -52,8 +51,9 @@ fn take_each<const C: usize, const M: usize>(
         (record { side = side.old; far_b = far_b.old; far_d = far_d.old })
         (record { side = side.new; far_b = far_b.new; far_d = far_d.new }) }
 {
-    take_all(side, far_b);
-    take_all(side, far_d);
+    append(far_b, side.inbox_b());
+    append(far_d, side.inbox_d());
+    side.take_all();
 }
 
 // The client's side offers the next beat of each of its channels, in the order of letters.
@@ -68,9 +68,9 @@ fn offer_each<const C: usize, const M: usize>(
     ensures ends { SameClientEnds side.old side.new }
     ensures others { (result.b ≡ NotReady) × (result.d ≡ NotReady) }
 {
-    let a = offer_next_a(side, &script.a, at.a);
-    let c = offer_next_c(side, &script.c, at.c);
-    let e = offer_next_e(side, &script.e, at.e);
+    let a = side.offer_next(&script.a, at.a);
+    let c = side.offer_next(&script.c, at.c);
+    let e = side.offer_next(&script.e, at.e);
     PerChannel {
         a,
         b: Offered::NotReady,

@@ -1,7 +1,7 @@
 //! The run of a whole script over a bridge whose two sides are each in a thread of their own
 //! (`run_threads`). Beside it, this crate gives callers of a bridge all names that they need of the
 //! crates below: `SyncBridge`, the two sides, the laws of what a script settles to, and of `tl_run` the
-//! run in one thread (`run_sync`, `run_sync_into`), where far beats go, and what a run ends in.
+//! run in one thread (`run_sync`, `SyncRun`), where far beats go, and what a run ends in.
 #![tactic(auto)]
 
 // A private function has one `requires`, since the checker states each clause by itself at each call.
@@ -10,14 +10,13 @@ mod client_turns;
 mod gates;
 mod inboxes;
 mod manager_turns;
-mod side_offers;
 mod thread_rounds;
 mod threads_run;
 mod turns;
 
 pub use gates::{Gate, NoGate};
 pub use threads_run::run_threads;
-pub use tl_run::{Ending, FarSink, Outcome, RunFault, run_sync, run_sync_into};
+pub use tl_run::{Ending, FarSink, Outcome, RunFault, SyncRun, run_sync};
 pub use tl_settle::laws;
 pub use tl_sides::{
     ClientSide, ManagerSide, PerChannel, Request, RequestTable, SourceTable, Standings, SyncBridge,

@@ -14,11 +14,10 @@ ghost use Rattle.tl_run.specs.Inner.Running.{HaveRoomToCount};
 ghost use Rattle.tl_bridge.specs.Inner.Sides.{SameManagerEnds, ManagerHasTaken, ManagerHasOffered, ManagerGoes, ManagerIsAt, ManagerMovesOrRests, ManagerMayPlay, ManagerHasPlayed};
 
 use crate::gates::Gate;
-use crate::inboxes::take_all;
-use crate::side_offers::{offer_next_b, offer_next_d};
+use crate::inboxes::append;
 use crate::turns::Turn;
 use tl_msg::{Beat, ChA, ChB, ChC, ChD, ChE};
-use tl_run::Offered;
+use tl_run::{Offered, Offers};
 use tl_sides::{ManagerSide, PerChannel};
 use tl_trace::Script;
 
@@ -56,9 +55,10 @@ fn take_each<const C: usize, const M: usize>(
         (record { side = side.old; far_a = far_a.old; far_c = far_c.old; far_e = far_e.old })
         (record { side = side.new; far_a = far_a.new; far_c = far_c.new; far_e = far_e.new }) }
 {
-    take_all(side, far_a);
-    take_all(side, far_c);
-    take_all(side, far_e);
+    append(far_a, side.inbox_a());
+    append(far_c, side.inbox_c());
+    append(far_e, side.inbox_e());
+    side.take_all();
 }
 
 // The manager's side offers the next beat of each of its channels, in the order of letters.
@@ -73,8 +73,8 @@ fn offer_each<const C: usize, const M: usize>(
     ensures ends { SameManagerEnds side.old side.new }
     ensures others { (result.a ≡ NotReady) × (result.c ≡ NotReady) × (result.e ≡ NotReady) }
 {
-    let b = offer_next_b(side, &script.b, at.b);
-    let d = offer_next_d(side, &script.d, at.d);
+    let b = side.offer_next(&script.b, at.b);
+    let d = side.offer_next(&script.d, at.d);
     PerChannel {
         a: Offered::NotReady,
         b,

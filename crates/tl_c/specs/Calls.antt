@@ -9,8 +9,11 @@ use Rattle.tl_msg.specs.declared.head.HeadD.{HeadD}
 use Rattle.tl_msg.specs.declared.head.HeadE.{HeadE}
 use Rattle.tl_msg.specs.declared.beat.BeatOf.{BeatOf}
 use Rattle.tl_ring.specs.Ends.{Sending, Taking, known_items}
+use Rattle.std.specs.Global.{Global}
+use Rattle.tl_sides.specs.Calls.{SendingChannel}
+use Rattle.tl_sides.specs.Sides.{side_sends_a, side_sends_b, side_sends_c, side_sends_d, side_sends_e}
 use Rattle.tl_sides.specs.Ends.{Pumps, Fetches, pump_count, fetch_count}
-use Rattle.tl_sides.specs.Sides.{ClientPast, ManagerPast, ClientStandsFor, ManagerStandsFor, AreSides, SidesMeet, SameClient, SameManager, client_pumps, manager_pumps}
+use Rattle.tl_sides.specs.Sides.{ClientState, ManagerState, ClientPast, ManagerPast, ClientStandsFor, ManagerStandsFor, AreSides, SidesMeet, SameClient, SameManager, client_pumps, manager_pumps}
 use Rattle.tl_c_beats.specs.declared.counts.BeatCounts.{BeatCounts}
 use Rattle.tl_c_beats.specs.declared.counts.ChannelCounts.{ChannelCounts}
 use Rattle.tl_c_beats.specs.declared.fields.BeatFields.{BeatFields}
@@ -46,6 +49,22 @@ KeepsClient before now = Keeps (λ h k. SameClient h.side k.side) before.owned.h
 
 abbrev pub KeepsManager : (before now : ManagerHandle) → Type 0
 KeepsManager before now = Keeps (λ h k. SameManager h.side k.side) before.owned.held now.owned.held × (now.bridge ≡ before.bridge)
+
+-- the channels that the sides send which the handles hold
+abbrev pub sends_a : SendingChannel (ClientState Global CLIENT MANAGER) (ClientPast CLIENT MANAGER) HeadA CLIENT
+sends_a = side_sends_a
+
+abbrev pub sends_b : SendingChannel (ManagerState Global CLIENT MANAGER) (ManagerPast CLIENT MANAGER) HeadB MANAGER
+sends_b = side_sends_b
+
+abbrev pub sends_c : SendingChannel (ClientState Global CLIENT MANAGER) (ClientPast CLIENT MANAGER) HeadC CLIENT
+sends_c = side_sends_c
+
+abbrev pub sends_d : SendingChannel (ManagerState Global CLIENT MANAGER) (ManagerPast CLIENT MANAGER) HeadD MANAGER
+sends_d = side_sends_d
+
+abbrev pub sends_e : SendingChannel (ClientState Global CLIENT MANAGER) (ClientPast CLIENT MANAGER) HeadE CLIENT
+sends_e = side_sends_e
 
 -- the beats of an inbox of a side, if one is held: those that it has fetched on a channel and not yet taken
 abbrev pub waiting : {S A : Type 0} → (inbox : S → List A) → Option S → List A

@@ -1,11 +1,7 @@
 //! The offers of each channel.
-ghost use Rattle.tl_msg.specs.Tables.{rules_b, rules_c, rules_e};
-ghost use Rattle.tl_settle.specs.Histories.{client_answer, manager_answer};
-ghost use Rattle.tl_sides.specs.Crossings.{stops_alone};
-ghost use Rattle.tl_sides.specs.Sides.{client_offers_a, client_offers_c, client_offers_e, manager_offers_b, manager_offers_d};
 ghost use Rattle.tl_c_beats.specs.Calls.{Asks, Offers};
 ghost use Rattle.tl_c_beats.specs.Fields.{beat_a, beat_b, beat_c, beat_d, beat_e};
-ghost use Rattle.tl_c.specs.Calls.{HoldsClient, HoldsManager, KeepsClient, KeepsManager};
+ghost use Rattle.tl_c.specs.Calls.{HoldsClient, HoldsManager, KeepsClient, KeepsManager, sends_a, sends_b, sends_c, sends_d, sends_e};
 
 use crate::client_handle::ClientHandle;
 use crate::manager_handle::ManagerHandle;
@@ -36,9 +32,7 @@ pub extern "C" fn tl_offer_a(
     beat: &BeatFields,
     lanes: &[u8; CLIENT],
 ) -> u8
-    ensures offer { Offers HoldsClient NO_SIDE (λ x. x.a)
-        (λ x. client_answer x.history (beat_a beat.now lanes.now))
-        (client_offers_a (beat_a beat.now lanes.now))
+    ensures offer { Offers HoldsClient NO_SIDE sends_a (λ x. x.a) (beat_a beat.now lanes.now)
         client.old.owned.held client.new.owned.held result }
     ensures kept { KeepsClient client.old client.new }
 {
@@ -67,9 +61,7 @@ pub extern "C" fn tl_offer_b(
     beat: &BeatFields,
     lanes: &[u8; MANAGER],
 ) -> u8
-    ensures offer { Offers HoldsManager NO_SIDE (λ x. x.b)
-        (λ x. stops_alone rules_b x.b.accepted (beat_b beat.now lanes.now))
-        (manager_offers_b (beat_b beat.now lanes.now))
+    ensures offer { Offers HoldsManager NO_SIDE sends_b (λ x. x.b) (beat_b beat.now lanes.now)
         manager.old.owned.held manager.new.owned.held result }
     ensures kept { KeepsManager manager.old manager.new }
 {
@@ -98,9 +90,7 @@ pub extern "C" fn tl_offer_c(
     beat: &BeatFields,
     lanes: &[u8; CLIENT],
 ) -> u8
-    ensures offer { Offers HoldsClient NO_SIDE (λ x. x.c)
-        (λ x. stops_alone rules_c x.c.accepted (beat_c beat.now lanes.now))
-        (client_offers_c (beat_c beat.now lanes.now))
+    ensures offer { Offers HoldsClient NO_SIDE sends_c (λ x. x.c) (beat_c beat.now lanes.now)
         client.old.owned.held client.new.owned.held result }
     ensures kept { KeepsClient client.old client.new }
 {
@@ -129,9 +119,7 @@ pub extern "C" fn tl_offer_d(
     beat: &BeatFields,
     lanes: &[u8; MANAGER],
 ) -> u8
-    ensures offer { Offers HoldsManager NO_SIDE (λ x. x.d)
-        (λ x. manager_answer x.history (beat_d beat.now lanes.now))
-        (manager_offers_d (beat_d beat.now lanes.now))
+    ensures offer { Offers HoldsManager NO_SIDE sends_d (λ x. x.d) (beat_d beat.now lanes.now)
         manager.old.owned.held manager.new.owned.held result }
     ensures kept { KeepsManager manager.old manager.new }
 {
@@ -160,9 +148,7 @@ pub extern "C" fn tl_offer_e(
     beat: &BeatFields,
     lanes: &[u8; CLIENT],
 ) -> u8
-    ensures offer { Offers HoldsClient NO_SIDE (λ x. x.e)
-        (λ x. stops_alone rules_e x.e.accepted (beat_e beat.now lanes.now))
-        (client_offers_e (beat_e beat.now lanes.now))
+    ensures offer { Offers HoldsClient NO_SIDE sends_e (λ x. x.e) (beat_e beat.now lanes.now)
         client.old.owned.held client.new.owned.held result }
     ensures kept { KeepsClient client.old client.new }
 {

@@ -4,6 +4,8 @@ use Rattle.std.proofs.Common.{◌≡◌, List, [], ◌∷◌, refl, sym, ap, ◌
 use Rattle.std.proofs.lemmas.Option.{none-some}
 use Rattle.tl_ring.specs.declared.fault.EndFault.{EndFault}
 use Rattle.tl_ring.specs.declared.fault.EndFault.TheVariants.{MidBurst}
+use Rattle.tl_burst.specs.Handing.{rest_of}
+use Rattle.tl_sides.specs.Calls.{SendingChannel, ClosesChannel}
 use Rattle.tl_c_beats.specs.Answers.{close_answer, close_number}
 use Rattle.tl_c_beats.specs.Calls.{Closes}
 use Rattle.tl_c_beats.proofs.Numbers.{end_fault_numbered}
@@ -24,15 +26,14 @@ close_told (Err MidBurst) (b ∷ bs) between = refl
 held_not_none : {S Q : Type 0} {before : Option S} {h : S} → before ≡ Some h → before ≡ None → Q
 held_not_none {h = h} was e = absurd (none-some h (sym e ∙ was))
 
--- what is held has a part b of itself before the call and k after it
-module _ {S P B : Type 0} {Holds : Option S → P → Type 0} {none : ℕ} {after : P → P} {before now : Option S} {answer : ℕ} (of : B → S) {b k : B}
-    (was : before ≡ Some (of b)) (is : now ≡ Some (of k)) where
-  pub closes : {A : Type 0} {rest : P → List A} (closed : Result Unit EndFault) → answer ≡ close_number closed →
-      ((x : P) → Holds (Some (of b)) x → IsOk closed ↔ (rest x ≡ [])) → ((x : P) → Holds (Some (of b)) x → OnOk closed (Holds (Some (of k)) (after x))) → OnErr closed (k ≡ b) →
-      Closes Holds none rest after before now answer
-  closes {rest = rest} closed told between stands same = record {
-    nothing = held_not_none was;
-    answers = λ x held. told ∙ close_told closed (rest x) (between x (subst (λ s. Holds s x) was held));
-    closed = λ x held e. subst (λ s. Holds s (after x)) (sym is) (on_0 closed (stands x (subst (λ s. Holds s x) was held)) (sym told ∙ e));
-    refused = λ e. is ∙ ap (λ q. Some (of q)) (on_else closed same (λ z. e (told ∙ z))) ∙ sym was;
-  }
+-- what is held is the side q before the call and q' after it
+pub closes : {S P R H : Type 0} {w : ℕ} {Holds : Option S → P → Type 0} {none : ℕ} {k : SendingChannel R P H w} {before now : Option S} {answer : ℕ} (of : R → S) {q q' : R} →
+    before ≡ Some (of q) → now ≡ Some (of q') → ((x : P) → Holds (Some (of q)) x → k.Stands q x) → ((x : P) → k.Stands q' x → Holds (Some (of q')) x) →
+    (closed : Result Unit EndFault) → answer ≡ close_number closed → ClosesChannel k q closed q' → Closes Holds none k before now answer
+closes {w = w} {Holds = Holds} {k = k} of was is to from closed told said =
+    record {
+      nothing = held_not_none was;
+      answers = λ x h. told ∙ close_told closed (rest_of k.rules w (k.accepted x)) (said.between x (to x (subst (λ s. Holds s x) was h)));
+      closed = λ x h e. subst (λ s. Holds s (k.ended x)) (sym is) (from (k.ended x) (on_0 closed (said.stands x (to x (subst (λ s. Holds s x) was h))) (sym told ∙ e)));
+      refused = λ e. is ∙ ap (λ z. Some (of z)) (on_else closed said.refused (λ z. e (told ∙ z))) ∙ sym was;
+    }

@@ -5,6 +5,8 @@ use Rattle.std.proofs.lemmas.Option.{none-some}
 use Rattle.tl_msg.specs.declared.fault.SideFault.{SideFault}
 use Rattle.tl_ring.specs.Crossing.{World}
 use Rattle.tl_ring.specs.Pipe.{Pipe, IsReady}
+use Rattle.tl_msg.specs.declared.beat.BeatOf.{BeatOf}
+use Rattle.tl_sides.specs.Calls.{SendingChannel, OffersBeat}
 use Rattle.tl_c_beats.specs.declared.answers.TheConstants.{NOT_READY}
 use Rattle.tl_c_beats.specs.Answers.{is_free, is_ready, fault_answer, offer_answer, offer_number}
 use Rattle.tl_c_beats.specs.Calls.{Stands, Offers}
@@ -55,44 +57,38 @@ stands_held StandsFor was x held = subst (λ s. Stands StandsFor s x) was held
 later_not_0 : NOT_READY ≡ 0 → ⊥
 later_not_0 e = omega (arith, e)
 
--- nothing is held
-module _ {S P : Type 0} {StandsFor : S → P → Type 0} {H : Type 0} {w v : ℕ} {channel : P → World H w v} {before now : Option S} where
-  pub offers_none : {none : ℕ} {verdict : P → Option SideFault} {after : P → P} → before ≡ None → now ≡ None →
-      Offers (Stands StandsFor) none channel verdict after before now none
-  offers_none {none = none} {verdict = verdict} {after = after} was is = record {
+module _ {S P : Type 0} {StandsFor : S → P → Type 0} {R H : Type 0} {w v : ℕ} {k : SendingChannel R P H w} {channel : P → World H w v} {b : BeatOf H w} {before now : Option S}
+    {none : ℕ} where
+  -- nothing is held
+  pub offers_none : before ≡ None → now ≡ None → Offers (Stands StandsFor) none k channel b before now none
+  offers_none was is = record {
     nothing = λ e. refl;
-    answers = not_held StandsFor (λ x. none ≡ offer_answer (channel x) (verdict x)) was;
-    accepted = λ x held e. not_held StandsFor (λ x. Stands StandsFor now (after x)) was x held;
+    answers = not_held StandsFor (λ x. none ≡ offer_answer (channel x) (k.stops x b)) was;
+    accepted = λ x held e. not_held StandsFor (λ x. Stands StandsFor now (k.with_beat b x)) was x held;
     refused = λ e. is ∙ sym was;
   }
 
--- what is held has a part on which the channel is this pipe
-module _ {S P : Type 0} {StandsFor : S → P → Type 0} {H : Type 0} {w v : ℕ} {channel : P → World H w v} {before now : Option S} (p : Pipe H v) (h : S)
-    (alike : (x : P) → StandsFor h x → (p.stage ≡ (channel x).stage) × (p.closed ≡ (channel x).closed)) (was : before ≡ Some h) where
-  pub offers_later : {none : ℕ} {verdict : P → Option SideFault} {after : P → P} → now ≡ Some h → (IsReady p → ⊥) →
-      Offers (Stands StandsFor) none channel verdict after before now NOT_READY
-  offers_later {verdict = verdict} is not = record {
+  -- what is held has a part on which the channel is this pipe
+  pub offers_later : (p : Pipe H v) (h : S) → ((x : P) → StandsFor h x → AreAlike p (channel x)) → before ≡ Some h → now ≡ Some h → (IsReady p → ⊥) →
+      Offers (Stands StandsFor) none k channel b before now NOT_READY
+  offers_later p h alike was is not = record {
     nothing = held_not_none was;
-    answers = λ x held. ap (λ b. if b then fault_answer (verdict x) else NOT_READY) (sym (ready_only p (channel x) (alike x (stands_held StandsFor was x held)) not));
+    answers = λ x held. ap (λ t. if t then fault_answer (k.stops x b) else NOT_READY) (sym (ready_only p (channel x) (alike x (stands_held StandsFor was x held)) not));
     accepted = λ x held e. absurd (later_not_0 e);
     refused = λ e. is ∙ sym was;
   }
 
--- what is held has a part b of itself before the offer and k after it; the beat that is offered is the one that C passes
-pub offers : {S P R B H : Type 0} {StandsFor : S → P → Type 0} {w v : ℕ} {channel : P → World H w v} {before now : Option S} (of : R → S) (b k : R) (p : Pipe H v) →
-    ((x : P) → StandsFor (of b) x → (p.stage ≡ (channel x).stage) × (p.closed ≡ (channel x).closed)) → before ≡ Some (of b) → now ≡ Some (of k) →
-    (verdict : B → P → Option SideFault) (after : B → P → P) {none answer : ℕ} {given beat : B} (offered : Result Unit SideFault) →
-    given ≡ beat → IsReady p → answer ≡ offer_number offered →
-    ((x : P) → StandsFor (of b) x → IsOk offered ↔ (verdict given x ≡ None)) → ((x : P) → StandsFor (of b) x → OnOk offered (StandsFor (of k) (after given x))) →
-    ((x : P) → StandsFor (of b) x → IfErr offered (λ fault. verdict given x ≡ Some fault)) → OnErr offered (k ≡ b) →
-    Offers (Stands StandsFor) none channel (verdict beat) (after beat) before now answer
-offers {StandsFor = StandsFor} {channel = channel} {before = before} {now = now} of b k p alike was is verdict after {none = none} {answer = answer} {given = given}
-    offered same_beat ready told admitted stands fault same =
-    subst (λ q. Offers (Stands StandsFor) none channel (verdict q) (after q) before now answer) same_beat (record {
-      nothing = held_not_none was;
-      answers = λ x held. let s = stands_held StandsFor was x held in
-          told ∙ verdict_told offered (verdict given x) (admitted x s) (fault x s)
-          ∙ ap (λ t. if t then fault_answer (verdict given x) else NOT_READY) (sym (ready_if p (channel x) (alike x s) ready));
-      accepted = λ x held e. subst (λ s. Stands StandsFor s (after given x)) (sym is) (on_0 offered (stands x (stands_held StandsFor was x held)) (sym told ∙ e));
-      refused = λ e. is ∙ ap (λ q. Some (of q)) (on_else offered same (λ z. e (told ∙ z))) ∙ sym was;
-    })
+  -- what is held is the side q before the offer and q' after it; the beat that is offered is the one that C passes
+  pub offers : (of : R → S) (q q' : R) (p : Pipe H v) → ((x : P) → StandsFor (of q) x → AreAlike p (channel x)) → before ≡ Some (of q) → now ≡ Some (of q') →
+      ((x : P) → StandsFor (of q) x → k.Stands q x) → ((x : P) → k.Stands q' x → StandsFor (of q') x) → {answer : ℕ} {given : BeatOf H w} (offered : Result Unit SideFault) →
+      given ≡ b → IsReady p → answer ≡ offer_number offered → OffersBeat k given q offered q' → Offers (Stands StandsFor) none k channel b before now answer
+  offers of q q' p alike was is to from {answer = answer} {given = given} offered same_beat ready told said =
+      subst (λ z. Offers (Stands StandsFor) none k channel z before now answer) same_beat (record {
+        nothing = held_not_none was;
+        answers = λ x held. let s = stands_held StandsFor was x held in
+            told ∙ verdict_told offered (k.stops x given) (said.admitted x (to x s)) (said.fault x (to x s))
+            ∙ ap (λ t. if t then fault_answer (k.stops x given) else NOT_READY) (sym (ready_if p (channel x) (alike x s) ready));
+        accepted = λ x held e. subst (λ s. Stands StandsFor s (k.with_beat given x)) (sym is)
+            (from (k.with_beat given x) (on_0 offered (said.accepted x (to x (stands_held StandsFor was x held))) (sym told ∙ e)));
+        refused = λ e. is ∙ ap (λ z. Some (of z)) (on_else offered said.refused (λ z. e (told ∙ z))) ∙ sym was;
+      })

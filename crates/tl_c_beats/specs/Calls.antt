@@ -2,8 +2,9 @@
 -- what is held stands for a past (`Holds`).
 use Rattle.std.specs.Prelude.{◌≡◌, ◌≢◌, ℕ, Bool, true, false, Option, None, Some, List, slice_get}
 use Rattle.tl_msg.specs.declared.beat.BeatOf.{BeatOf}
-use Rattle.tl_msg.specs.declared.fault.SideFault.{SideFault}
+use Rattle.tl_burst.specs.Handing.{rest_of}
 use Rattle.tl_ring.specs.Crossing.{World}
+use Rattle.tl_sides.specs.Calls.{SendingChannel}
 use Rattle.tl_c_beats.specs.declared.fields.BeatFields.{BeatFields}
 use Rattle.tl_c_beats.specs.Answers.{IsTold, is_ready, offer_answer, close_answer}
 
@@ -18,22 +19,20 @@ pub record Asks {S P : Type 0} (Holds : Option S → P → Type 0) {H : Type 0} 
   pub ready : (x : P) → Holds before x → answer ≡ is_ready (channel x)
   pub same : now ≡ before
 
--- an offer on a channel of a beat of which the rules of its side say `verdict`: `none` where nothing is held. Where it is accepted the past goes on to
--- `after`, else nothing changes
-pub record Offers {S P : Type 0} (Holds : Option S → P → Type 0) (none : ℕ) {H : Type 0} {w v : ℕ} (channel : P → World H w v)
-    (verdict : P → Option SideFault) (after : P → P) (before now : Option S) (answer : ℕ) : Type 0 where
+-- an offer of a beat on a channel of the side that is held: `none` where nothing is held. Where it is accepted the past goes on, else nothing changes
+pub record Offers {S P R : Type 0} (Holds : Option S → P → Type 0) (none : ℕ) {H : Type 0} {w v : ℕ} (k : SendingChannel R P H w)
+    (channel : P → World H w v) (b : BeatOf H w) (before now : Option S) (answer : ℕ) : Type 0 where
   pub nothing : before ≡ None → answer ≡ none
-  pub answers : (x : P) → Holds before x → answer ≡ offer_answer (channel x) (verdict x)
-  pub accepted : (x : P) → Holds before x → answer ≡ 0 → Holds now (after x)
+  pub answers : (x : P) → Holds before x → answer ≡ offer_answer (channel x) (k.stops x b)
+  pub accepted : (x : P) → Holds before x → answer ≡ 0 → Holds now (k.with_beat b x)
   pub refused : answer ≢ 0 → now ≡ before
 
--- a close of a channel whose accepted beats leave the rest of a message: `none` where nothing is held. Where it is closed the past goes on to `after`,
--- else nothing changes
-pub record Closes {S P : Type 0} (Holds : Option S → P → Type 0) (none : ℕ) {A : Type 0} (rest : P → List A) (after : P → P)
+-- a close of a channel: `none` where nothing is held. Where it is closed the past goes on, else nothing changes
+pub record Closes {S P R : Type 0} (Holds : Option S → P → Type 0) (none : ℕ) {H : Type 0} {w : ℕ} (k : SendingChannel R P H w)
     (before now : Option S) (answer : ℕ) : Type 0 where
   pub nothing : before ≡ None → answer ≡ none
-  pub answers : (x : P) → Holds before x → answer ≡ close_answer (rest x)
-  pub closed : (x : P) → Holds before x → answer ≡ 0 → Holds now (after x)
+  pub answers : (x : P) → Holds before x → answer ≡ close_answer (rest_of k.rules w (k.accepted x))
+  pub closed : (x : P) → Holds before x → answer ≡ 0 → Holds now (k.ended x)
   pub refused : answer ≢ 0 → now ≡ before
 
 -- C was told this beat, if it is one, and else nothing was written

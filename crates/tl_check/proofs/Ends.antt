@@ -1,26 +1,15 @@
 -- Where A and D both stop, they are at the settled state, and what stops them is what its verdicts read.
-use Rattle.std.proofs.Common.{◌≡◌, ◌≤◌, ℕ, false, Option, None, Some, List, [], length, map, take, refl, sym, ap, subst, ◌∙◌}
-use Rattle.std.proofs.lemmas.Option.{slice_get_past}
-use Rattle.std.specs.Prelude.{slice_get}
-use Rattle.std.specs.Option.{option_map_or, is_none}
-use Rattle.tl_lanes.specs.Lanes.{IsWidth}
+use Rattle.tl_check.proofs.Names.{◌≡◌, ◌≤◌, ℕ, false, Option, None, Some, List, [], length, map, take, refl, sym, ap, subst, ◌∙◌, slice_get_past}
+use Rattle.tl_check.proofs.Names.{slice_get, option_map_or, is_none, IsWidth, rules_a, rules_d, HeadA, HeadD, BeatOf, SideFault, heads, left}
+use Rattle.tl_check.proofs.Names.{verdict_of, verdict_a, verdict_d, requests, responses, far_a, far_d, goes_a, goes_d, settled_state, stops_a}
+use Rattle.tl_check.proofs.Names.{stops_d, Client, Manager, KnowsClient, KnowsManager, AreAt, HasCome}
 use Rattle.tl_lanes.proofs.Widths.{width_bounds}
-use Rattle.tl_msg.specs.Tables.{rules_a, rules_d}
-use Rattle.tl_msg.specs.declared.head.HeadA.{HeadA}
-use Rattle.tl_msg.specs.declared.head.HeadD.{HeadD}
-use Rattle.tl_msg.specs.declared.beat.BeatOf.{BeatOf}
-use Rattle.tl_msg.specs.declared.fault.SideFault.{SideFault}
 use Rattle.tl_msg.specs.declared.verdict.Verdict.{Verdict}
-use Rattle.tl_burst.specs.Begun.{heads, left}
-use Rattle.tl_settle.specs.Outcomes.{verdict_of, verdict_a, verdict_d}
 use Rattle.tl_settle.specs.Requests.{homes_after}
-use Rattle.tl_settle.specs.Settling.{requests, responses, far_a, far_d, goes_a, goes_d, settled_state, stops_a, stops_d}
 use Rattle.tl_settle.specs.Steps.{State, Settled}
 use Rattle.tl_settle.proofs.Runs.{run_is}
 use Rattle.tl_settle.proofs.Settles.{one_settled}
 use Rattle.tl_settle.specs.Rounds.{begins}
-use Rattle.tl_sides.specs.Books.{Client, Manager, KnowsClient, KnowsManager}
-use Rattle.tl_check.specs.Inner.Passing.{AreAt, HasCome}
 
 -- a beat that is stopped, or isn't there, does not go
 stays : {B : Type 0} (stops : B → Option SideFault) (o : Option B) (stopped_by : Option SideFault) → stopped_by ≡ option_map_or stops o None →

@@ -1,3 +1,4 @@
+pub mod Names
 pub mod NewHeads
 pub mod Sizes
 pub mod Passing

@@ -1,16 +1,12 @@
 -- The far beats that one more near beat makes due have its head.
-use Rattle.std.proofs.Common.{◌≡◌, ◌≤◌, ◌<◌, ◌+◌, ◌++◌, ℕ, zero, suc, Bool, true, false, cond, None, Some, List, [], ◌∷◌, length, take, drop, map, refl, sym, ap, subst, ◌∙◌, arith, append-nil, length-append}
-use Rattle.std.specs.Prelude.{slice_get, slice_index}
-use Rattle.tl_msg.specs.Rules.{Rules}
-use Rattle.tl_msg.specs.declared.beat.BeatOf.{BeatOf}
+use Rattle.tl_check.proofs.Names.{◌≡◌, ◌≤◌, ◌<◌, ◌+◌, ◌++◌, ℕ, zero, suc, Bool, true, false, cond, None, Some, List, [], ◌∷◌, length, take, drop, map}
+use Rattle.tl_check.proofs.Names.{refl, sym, ap, subst, ◌∙◌, arith, append-nil, length-append, slice_get, slice_index, Rules, BeatOf, ends, rest_of}
+use Rattle.tl_check.proofs.Names.{fault_after, due, part, far_beats_of, HaveHead}
 use Rattle.tl_burst.specs.Messages.{Message, beat_at, layout}
 use Rattle.tl_burst.specs.Reading.{message_of}
-use Rattle.tl_burst.specs.Handing.{ends, rest_of, fault_after}
-use Rattle.tl_convert.specs.Due.{due, part, far_beats_of}
 use Rattle.tl_convert.proofs.FarHeads.{KeepsHead, keeps_head}
 use Rattle.tl_convert.proofs.Finished.{laid_after, homes_left, due_split}
 use Rattle.tl_convert.proofs.Prefixes.{due_more}
-use Rattle.tl_check.specs.Inner.Passing.{HaveHead}
 
 -- each of them has it
 pub head-at : {H : Type 0} {w : ℕ} (h : H) (bs : List (BeatOf H w)) (k : ℕ) (b : BeatOf H w) → HaveHead h bs → slice_get bs k ≡ Some b → b.head ≡ h

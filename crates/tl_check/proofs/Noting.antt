@@ -1,10 +1,8 @@
 -- A side notes so many beats with one head, one after another.
-use Rattle.std.proofs.Common.{◌≡◌, ◌≤◌, ◌<◌, ◌+◌, ◌++◌, ℕ, List, [], ◌∷◌, length, map, take, sym, subst, arith}
+use Rattle.tl_check.proofs.Names.{◌≡◌, ◌≤◌, ◌<◌, ◌+◌, ◌++◌, ℕ, List, [], ◌∷◌, length, map, take, sym, subst, arith, get_or_from_slice_get, BeatOf}
+use Rattle.tl_check.proofs.Names.{HaveHead}
 use Rattle.std.proofs.lemmas.List.{take_all}
-use Rattle.std.proofs.lemmas.Option.{get_or_from_slice_get}
-use Rattle.tl_msg.specs.declared.beat.BeatOf.{BeatOf}
 use Rattle.tl_convert.proofs.Comparisons.{there_is}
-use Rattle.tl_check.specs.Inner.Passing.{HaveHead}
 use Rattle.tl_check.proofs.NewHeads.{head-at}
 use Rattle.tl_check.proofs.Passing.{next-noted}
 

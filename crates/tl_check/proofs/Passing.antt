@@ -1,31 +1,22 @@
 -- A channel goes on by a beat that is accepted, and what it ends with.
-use Rattle.std.proofs.Common.{◌≡◌, ◌≢◌, ◌≤◌, ◌<◌, ◌+◌, ◌++◌, ℕ, Bool, Option, None, Some, List, [], ◌∷◌, length, map, take, get_or, refl, sym, ap, subst, ◌∙◌, arith, zero-le, append_assoc}
+use Rattle.tl_check.proofs.Names.{◌≡◌, ◌≢◌, ◌≤◌, ◌<◌, ◌+◌, ◌++◌, ℕ, Bool, Option, None, Some, List, [], ◌∷◌, length, map, take, get_or, refl, sym, ap}
+use Rattle.tl_check.proofs.Names.{subst, ◌∙◌, arith, zero-le, append_assoc, slice_get_within, slice_get_past, get_or_from_slice_get, slice_get_read}
+use Rattle.tl_check.proofs.Names.{◌==◌, slice_get, if◌then◌else◌, option_map_or, IsWidth, Rules, BeatOf, SideFault, heads, left, IsHanded, nothing}
+use Rattle.tl_check.proofs.Names.{rest_of, burst_of, burst_after, fault_in, fault_after, due, verdict_of, far_alone, verdict_alone, HasCome}
 use Rattle.std.proofs.lemmas.List.{length-take-le, map-append, take_more}
-use Rattle.std.proofs.lemmas.Option.{slice_get_within, slice_get_past, get_or_from_slice_get, slice_get_read}
-use Rattle.std.specs.Prelude.{◌==◌, slice_get, if◌then◌else◌}
-use Rattle.std.specs.Option.{option_map_or}
-use Rattle.tl_lanes.specs.Lanes.{IsWidth}
-use Rattle.tl_msg.specs.Rules.{Rules}
-use Rattle.tl_msg.specs.declared.beat.BeatOf.{BeatOf}
 use Rattle.tl_msg.specs.declared.fault.BeatFault.{BeatFault}
-use Rattle.tl_msg.specs.declared.fault.SideFault.{SideFault}
 use Rattle.tl_msg.specs.declared.fault.SideFault.TheVariants.{Beat}
 use Rattle.tl_msg.specs.declared.verdict.Verdict.{Verdict}
 use Rattle.tl_msg.specs.declared.verdict.Verdict.TheVariants.{Done, Cut}
-use Rattle.tl_burst.specs.Begun.{heads, left}
 use Rattle.tl_burst.specs.Messages.{beats_of}
-use Rattle.tl_burst.specs.Handing.{IsHanded, nothing, rest_of, burst_of, burst_after, fault_in, fault_after}
 use Rattle.tl_burst.specs.Tracking.{IsPlace, IsPlaceOf, count_in}
 use Rattle.tl_burst.specs.declared.place.Place.{Place}
 use Rattle.tl_burst.proofs.BegunMessages.{left-zero}
 use Rattle.tl_burst.proofs.Steps.{count-of}
 use Rattle.tl_convert.specs.Accepted.{accepted_of}
 use Rattle.tl_convert.specs.Counting.{Gives}
-use Rattle.tl_convert.specs.Due.{due}
 use Rattle.tl_convert.proofs.Comparisons.{equal_true, not_equal}
 use Rattle.tl_convert.proofs.CountLoop.{accepted-all, accepted-next, accepted-stop, due-count, one-more}
-use Rattle.tl_settle.specs.Outcomes.{verdict_of, far_alone, verdict_alone}
-use Rattle.tl_check.specs.Inner.Passing.{HasCome}
 
 -- a side has noted one beat more
 pub next-noted : {E B : Type 0} (note : B → E) (es : List E) (bs : List B) (i : ℕ) (b : B) → i < length bs → b ≡ get_or bs i b →

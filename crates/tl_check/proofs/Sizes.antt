@@ -1,9 +1,8 @@
 -- The progress of a channel fits in memory, where the heads of the channel are small.
-use Rattle.std.proofs.Common.{◌≤◌, ◌<◌, ◌+◌, ℕ, max, arith}
+use Rattle.tl_check.proofs.Names.{◌≤◌, ◌<◌, ◌+◌, ℕ, max, arith, tracker_bytes, tracker-few}
 use prog.Memory.{up, size, align}
 use mir.Syntax.{Ty}
 use Rattle.tl_lanes.proofs.Sizes.{align-small, up_le}
-use Rattle.tl_convert.proofs.Sizes.{tracker_bytes, tracker-few}
 
 bytes-fit : (a t : ℕ) → a ≤ 16 → t < 1000 →
     up (max (max (max 1 (max (max (max a 4) 1) 1)) 16) 8) (up 8 (up 8 (up (max (max 1 (max (max (max a 4) 1) 1)) 16) 0 + t) + 8) + 8) < 9223372036854775808

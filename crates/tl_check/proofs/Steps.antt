@@ -1,28 +1,18 @@
 -- What a beat of A or D that is offered does to both sides, where each has taken all that is due.
-use Rattle.std.proofs.Common.{◌≡◌, ◌<◌, ◌+◌, ◌++◌, ℕ, suc, cond, Option, None, Some, List, true, [], ◌∷◌, length, map, take, refl, sym, ap, subst, ◌∙◌, arith, append-nil, length-append}
-use Rattle.std.specs.Prelude.{◌==◌, slice_get}
-use Rattle.std.specs.Option.{option_map_or}
+use Rattle.tl_check.proofs.Names.{◌≡◌, ◌<◌, ◌+◌, ◌++◌, ℕ, suc, cond, Option, None, Some, List, true, [], ◌∷◌, length, map, take, refl, sym, ap, subst}
+use Rattle.tl_check.proofs.Names.{◌∙◌, arith, append-nil, length-append, ◌==◌, slice_get, option_map_or, IsWidth, Rules, rules_a, rules_d, HeadA}
+use Rattle.tl_check.proofs.Names.{HeadD, BeatOf, SideFault, heads, left, IsHanded, burst_after, fault_after, fault_in, due, Ask, Answer, asked}
+use Rattle.tl_check.proofs.Names.{answered, client_answer, manager_answer, requests, responses, far_a, far_d, held_request, held_response, stops_a}
+use Rattle.tl_check.proofs.Names.{stops_d, Client, Manager, KnowsClient, KnowsManager, IsNext, AreAt, HasCome, HaveHead}
 use mathlib.Core.List.{IsPrefix}
-use Rattle.tl_lanes.specs.Lanes.{IsWidth}
 use Rattle.tl_lanes.proofs.Widths.{width_bounds}
-use Rattle.tl_msg.specs.Rules.{Rules}
-use Rattle.tl_msg.specs.Tables.{rules_a, rules_d}
-use Rattle.tl_msg.specs.declared.head.HeadA.{HeadA}
-use Rattle.tl_msg.specs.declared.head.HeadD.{HeadD}
-use Rattle.tl_msg.specs.declared.beat.BeatOf.{BeatOf}
 use Rattle.tl_msg.specs.declared.fault.BeatFault.{BeatFault}
-use Rattle.tl_msg.specs.declared.fault.SideFault.{SideFault}
 use Rattle.tl_msg.specs.declared.fault.SideFault.TheVariants.{Beat}
-use Rattle.tl_burst.specs.Begun.{heads, left}
-use Rattle.tl_burst.specs.Handing.{IsHanded, burst_after, fault_after, fault_in}
 use Rattle.tl_burst.specs.Tracking.{IsPlace, IsPlaceOf}
 use Rattle.tl_burst.specs.declared.place.Place.{Place}
-use Rattle.tl_convert.specs.Due.{due}
 use Rattle.tl_convert.proofs.Extends.{Extends, more, take-next}
 use Rattle.tl_settle.specs.Requests.{homes_after}
-use Rattle.tl_settle.specs.Histories.{Ask, Answer, asked, answered, client_answer, manager_answer}
 use Rattle.tl_settle.specs.Rounds.{Run, round, ManagerMoves, ClientMoves, client_rests, client_accepts, manager_rests, manager_accepts}
-use Rattle.tl_settle.specs.Settling.{requests, responses, far_a, far_d, held_request, held_response, stops_a, stops_d}
 use Rattle.tl_settle.proofs.Grows.{far_a_grows, far_d_grows}
 use Rattle.tl_settle.proofs.Manager.{manager_stops}
 use Rattle.tl_settle.proofs.Marks.{asked_answer, answered_ask}
@@ -30,10 +20,8 @@ use Rattle.tl_settle.proofs.Runs.{RunIs, run_is}
 use Rattle.tl_settle.proofs.SameHeads.{same_a, same_d}
 use Rattle.tl_settle.proofs.Settles.{good}
 use Rattle.tl_settle.proofs.Sides.{client_stops}
-use Rattle.tl_sides.specs.Books.{Client, Manager, KnowsClient, KnowsManager, IsNext}
 use Rattle.tl_run.proofs.ChannelOffer.{asked-all, answered-all}
 use Rattle.tl_run.proofs.RoundMoves.{client-takes-all, manager-takes-all}
-use Rattle.tl_check.specs.Inner.Passing.{AreAt, HasCome, HaveHead}
 use Rattle.tl_check.proofs.NewHeads.{new-heads}
 use Rattle.tl_check.proofs.Passing.{place-of}
 

@@ -5,7 +5,7 @@ ghost use Rattle.tl_msg.specs.declared.beat.BeatOf.{BeatOf};
 ghost use Rattle.tl_burst.specs.Begun.{left};
 ghost use Rattle.tl_settle.specs.Outcomes.{verdict_alone, verdict_of};
 ghost use Rattle.tl_check.specs.Inner.Passing.{HasCome, IsWithin};
-ghost use Rattle.tl_check.specs.Judging.{IsEnd, IsPart};
+ghost use Rattle.tl_run.specs.Parts.{IsEnd, IsPart};
 
 use crate::progress::Progress;
 use tl_msg::{Beat, Channel, SideFault};

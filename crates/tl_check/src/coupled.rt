@@ -12,7 +12,7 @@ ghost use Rattle.tl_burst.specs.Begun.{left};
 ghost use Rattle.tl_settle.specs.Outcomes.{verdict_a, verdict_d, verdict_of};
 ghost use Rattle.tl_sides.specs.Books.{Client, Manager};
 ghost use Rattle.tl_check.specs.Inner.Passing.{AreAt, HasCome, IsWithin, NotesAsks, NotesAnswers};
-ghost use Rattle.tl_check.specs.Judging.{IsEnd, IsPart};
+ghost use Rattle.tl_run.specs.Parts.{IsEnd, IsPart};
 
 use crate::progress::Progress;
 use tl_msg::{Beat, ChA, ChD, HeadA, HeadD, SideFault};

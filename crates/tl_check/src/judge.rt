@@ -1,17 +1,19 @@
 //! The verdicts of a script that comes piece by piece.
-ghost use Rattle.std.specs.Prelude.{◌≡◌, ◌+◌, ◌≤◌, [], length};
+ghost use Rattle.std.specs.Prelude.{◌≡◌, [], length};
 ghost use Rattle.tl_lanes.specs.Lanes.{IsWidth};
 ghost use Rattle.tl_settle.specs.Outcomes.{Beats, verdicts};
 ghost use Rattle.tl_sides.specs.Books.{KnowsClient, KnowsManager};
 ghost use Rattle.tl_trace.specs.Scripts.{HasCounts, HasLetGo};
+ghost use Rattle.tl_run.specs.Parts.{AreEnd, AreHalf, ArePart, HaveGone, none_counted};
 ghost use Rattle.tl_run.specs.Scripts.{HasShortLists};
 ghost use Rattle.tl_check.specs.Inner.Ending.{EndsWith};
-ghost use Rattle.tl_check.specs.Judging.{AreEnd, AreHalf, ArePart, CanJudge, HasJudged, HaveGone, none_counted};
+ghost use Rattle.tl_check.specs.Judging.{CanJudge, HasJudged};
 
 use crate::alone::judge_alone;
 use crate::coupled::judge_coupled;
 use crate::progress::Progress;
 use tl_msg::{ChA, ChB, ChC, ChD, ChE, SideFault, Verdict};
+use tl_run::let_leave;
 use tl_sides::{ClientBook, ManagerBook, PerChannel};
 use tl_trace::{Counts, Script};
 
@@ -39,17 +41,6 @@ pub struct Judge<const C: usize, const M: usize> {
     pub e: Progress<ChE, C>,
     /// How many beats of each channel are not held any more.
     pub gone: Counts,
-}
-
-// How many of these beats may go, where so many of all have gone and it has come to that one: at least
-// half of them, or none.
-fn leaving(held: usize, gone: usize, at: usize) -> usize
-    requires { (gone ≤ at) × (at ≤ gone + held) }
-    ensures past { gone + result ≤ at }
-    ensures half { AreHalf result held }
-{
-    let past = at - gone;
-    if past >= held - past { past } else { 0 }
 }
 
 // Goes on with each channel until all are stopped: what stops each, or None where no beat is left.
@@ -130,21 +121,14 @@ impl<const C: usize, const M: usize> Judge<C, M> {
             HasJudged near self.old → HasJudged near self.new }
     {
         go_through(self, held);
-        let counts = Counts {
-            a: leaving(held.a.len(), self.gone.a, self.a.at),
-            b: leaving(held.b.len(), self.gone.b, self.b.at),
-            c: leaving(held.c.len(), self.gone.c, self.c.at),
-            d: leaving(held.d.len(), self.gone.d, self.d.at),
-            e: leaving(held.e.len(), self.gone.e, self.e.at),
+        let at = PerChannel {
+            a: self.a.at,
+            b: self.b.at,
+            c: self.c.at,
+            d: self.d.at,
+            e: self.e.at,
         };
-        self.gone = Counts {
-            a: self.gone.a + counts.a,
-            b: self.gone.b + counts.b,
-            c: self.gone.c + counts.c,
-            d: self.gone.d + counts.d,
-            e: self.gone.e + counts.e,
-        };
-        counts
+        let_leave(&mut self.gone, held, &at)
     }
 
     /// The verdicts from A to E of the script that ends with these beats.

@@ -1,6 +1,5 @@
 -- Results that are joined by `and`: where what is joined is Ok, each of them is.
-use Rattle.std.proofs.Common.{◌≡◌, true, Result, Ok, Err, refl, sym, subst}
-use Rattle.std.specs.Prelude.{IsOk, OnOk}
+use Rattle.tl_run.proofs.Names.{◌≡◌, true, Result, Ok, Err, refl, sym, subst, IsOk, OnOk}
 use Rattle.std.specs.Result.{result_and}
 
 -- what holds whatever a result is

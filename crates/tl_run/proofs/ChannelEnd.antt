@@ -1,35 +1,16 @@
 -- What was taken of one channel of a run, the room for it, and where the channel ends.
-use Rattle.std.proofs.Common.{◌≡◌, ◌≢◌, ◌+◌, ◌≤◌, ◌*◌, ◌++◌, ℕ, zero, suc, Bool, true, false, Option, None, Some, List, [], ◌∷◌, length, map, take, drop, get_or, refl, sym, ap, subst, ◌∙◌, arith, append-nil, append_assoc, length-append}
-use Rattle.std.proofs.lemmas.List.{length-take-le}
-use Rattle.std.proofs.lemmas.Option.{slice_get_within}
-use Rattle.std.specs.Prelude.{◌==◌, slice_get, if◌then◌else◌}
-use Rattle.std.specs.Option.{option_map_or}
+use Rattle.tl_run.proofs.Names.{◌≡◌, ◌≢◌, ◌+◌, ◌≤◌, ◌*◌, ◌++◌, ℕ, zero, suc, Bool, true, false, Option, None, Some, List, [], ◌∷◌, length, map, take}
+use Rattle.tl_run.proofs.Names.{drop, get_or, refl, sym, ap, subst, ◌∙◌, arith, append-nil, append_assoc, length-append, length-take-le}
+use Rattle.tl_run.proofs.Names.{slice_get_within, ◌==◌, slice_get, if◌then◌else◌, option_map_or, IsWidth, Rules, BeatOf, BeatFault, SideFault, Beat}
+use Rattle.tl_run.proofs.Names.{SourceBusy, NoRequest, SizeMismatch, Verdict, heads, left, IsHanded, fault_after, due, accepted_of, accepted_after}
+use Rattle.tl_run.proofs.Names.{World, HasRoom, stops_alone, verdict_of, far_alone, verdict_alone, Stops, IsSent, IsHomed, under_way, progress}
+use Rattle.tl_run.proofs.Names.{stop_verdict, Stop, Done, Cut, Refused, Stopped, equal_true, not_equal, none_past}
 use mathlib.Core.List.{IsPrefix}
-use Rattle.tl_lanes.specs.Lanes.{IsWidth}
 use Rattle.tl_lanes.proofs.Widths.{width_bounds}
-use Rattle.tl_msg.specs.Rules.{Rules}
-use Rattle.tl_msg.specs.declared.beat.BeatOf.{BeatOf}
-use Rattle.tl_msg.specs.declared.fault.BeatFault.{BeatFault}
-use Rattle.tl_msg.specs.declared.fault.SideFault.{SideFault}
-use Rattle.tl_msg.specs.declared.fault.SideFault.TheVariants.{Beat, SourceBusy, NoRequest, SizeMismatch}
-use Rattle.tl_msg.specs.declared.verdict.Verdict.{Verdict}
 use Rattle.tl_msg.specs.declared.verdict.Verdict.TheVariants as ending
-use Rattle.tl_burst.specs.Begun.{heads, left}
-use Rattle.tl_burst.specs.Handing.{IsHanded, fault_after}
 use Rattle.tl_burst.proofs.BegunMessages.{left-zero}
-use Rattle.tl_convert.specs.Due.{due}
-use Rattle.tl_convert.specs.Accepted.{accepted_of, accepted_after}
 use Rattle.tl_convert.proofs.CountLoop.{accepted-all, accepted-stop}
-use Rattle.tl_ring.specs.Crossing.{World}
 use Rattle.tl_ring.specs.Laws.{Crosses}
-use Rattle.tl_run.specs.Inner.Arriving.{HasRoom}
-use Rattle.tl_sides.specs.Crossings.{stops_alone}
-use Rattle.tl_settle.specs.Outcomes.{verdict_of, far_alone, verdict_alone}
-use Rattle.tl_run.specs.Inner.Running.{Stops, IsSent, IsHomed, under_way, progress, stop_verdict}
-use Rattle.tl_run.specs.declared.channel_state.Stop.{Stop}
-use Rattle.tl_run.specs.declared.channel_state.Stop.TheVariants.{Done, Cut, Refused}
-use Rattle.tl_run.specs.declared.channel_state.Offered.TheVariants.{Stopped}
-use Rattle.tl_convert.proofs.Comparisons.{equal_true, not_equal, none_past}
 use Rattle.tl_convert.proofs.DueCounts.{due_length}
 
 -- four lists one after the other
@@ -124,7 +105,7 @@ module _ {H : Type 0} (r : Rules H) {w v : ℕ} (ww : IsWidth w) (vw : IsWidth v
       (due_length r w v (width_bounds v vw).0 x.accepted (accepted_after r (take n bs) (drop n bs)) hs ks)
 
   -- every far beat that is due stands somewhere
-  all_stand : Crosses r x → length x.taken + length x.inbox + length x.ring + length x.stage ≡ length (due r w v x.accepted x.homes)
+  pub all_stand : Crosses r x → length x.taken + length x.inbox + length x.ring + length x.stage ≡ length (due r w v x.accepted x.homes)
   all_stand c = sym (four_lengths x.taken x.inbox x.ring x.stage) ∙ ap length c.beats
 
   -- the far list has room for all that is taken and that stands in the inbox

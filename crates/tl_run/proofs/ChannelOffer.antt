@@ -1,27 +1,12 @@
 -- What an offer of the next beat does to one channel, whose other end is another thread's.
-use Rattle.std.proofs.Common.{◌↔◌, zero, suc, ◌≡◌, ◌+◌, ◌<◌, ◌≤◌, ℕ, None, Some, Option, List, [], ◌∷◌, ◌++◌, length, map, take, get_or, refl, sym, ap, subst, ◌∙◌, arith, append_assoc, append-nil}
-use Rattle.std.specs.Prelude.{slice_get}
-use Rattle.std.proofs.lemmas.Option.{slice_get_within, get_or_from_slice_get}
-use Rattle.tl_msg.specs.Rules.{Rules}
-use Rattle.tl_msg.specs.declared.head.HeadA.{HeadA}
-use Rattle.tl_msg.specs.declared.head.HeadD.{HeadD}
-use Rattle.tl_msg.specs.declared.beat.BeatOf.{BeatOf}
-use Rattle.tl_msg.specs.declared.fault.SideFault.{SideFault}
-use Rattle.tl_burst.specs.Begun.{heads, left}
-use Rattle.tl_burst.specs.Handing.{Handed, fault_after, rest_of, with_home, homes_with}
+use Rattle.tl_run.proofs.Names.{◌↔◌, zero, suc, ◌≡◌, ◌+◌, ◌<◌, ◌≤◌, ℕ, None, Some, Option, List, [], ◌∷◌, ◌++◌, length, map, take, get_or, refl, sym}
+use Rattle.tl_run.proofs.Names.{ap, subst, ◌∙◌, arith, slice_get, slice_get_within, get_or_from_slice_get, Rules, BeatOf, SideFault, heads, left}
+use Rattle.tl_run.proofs.Names.{Handed, fault_after, rest_of, with_home, homes_with, map-append, World, offered, shut, Does, Stops, IsSent, IsHomed}
+use Rattle.tl_run.proofs.Names.{steps, Offered, Accepted, NotReady, Stopped, Done, Cut, Refused, none_past}
 use Rattle.tl_burst.specs.Messages.{Message}
 use Rattle.tl_convert.proofs.Begins.{heads_open, heads_inside_one}
-use Rattle.std.proofs.lemmas.List.{map-append}
 use Rattle.tl_burst.proofs.BegunMessages.{left-zero}
 use Rattle.tl_convert.proofs.CountLoop.{one-more, accepted-next}
-use Rattle.tl_ring.specs.Crossing.{World, offered, shut}
-use Rattle.tl_settle.specs.Histories.{Event, Ask, Answer, asked, answered}
-use Rattle.tl_settle.proofs.Marks.{asked_ask, answered_answer}
-use Rattle.tl_run.specs.Inner.Running.{Does, Stops, IsSent, IsHomed, steps}
-use Rattle.tl_run.specs.declared.channel_state.Offered.{Offered}
-use Rattle.tl_run.specs.declared.channel_state.Offered.TheVariants.{Accepted, NotReady, Stopped}
-use Rattle.tl_run.specs.declared.channel_state.Stop.TheVariants.{Done, Cut, Refused}
-use Rattle.tl_convert.proofs.Comparisons.{none_past}
 use Rattle.tl_run.proofs.Counting.{none-more}
 pub use Rattle.tl_sides.proofs.Draining.{answered-all, asked-all}
 

@@ -1,30 +1,21 @@
 -- What a round does to one channel of a run.
-use Rattle.std.proofs.Common.{◌≡◌, ◌≢◌, ◌+◌, ◌-◌, ◌++◌, ◌≤◌, ◌<◌, ◌⊎◌, inl, inr, ℕ, zero, suc, true, Option, None, Some, List, [], length, take, drop, min, refl, sym, ap, subst, ◌∙◌, arith, ⊎_elim, length-append}
-use Rattle.std.specs.Prelude.{slice_get}
+use Rattle.tl_run.proofs.Names.{◌≡◌, ◌≢◌, ◌+◌, ◌-◌, ◌++◌, ◌≤◌, ◌<◌, ◌⊎◌, inl, inr, ℕ, zero, suc, true, Option, None, Some, List, [], length, take}
+use Rattle.tl_run.proofs.Names.{drop, min, refl, sym, ap, subst, ◌∙◌, arith, ⊎_elim, length-append, slice_get, length-take-le, length-drop}
+use Rattle.tl_run.proofs.Names.{nil_from_length, slice_get_within, Rules, BeatOf, SideFault, fault_after, World, offered, shut, inbox_room, Does}
+use Rattle.tl_run.proofs.Names.{IsSent, IsStopped, steps, emptied, progress, under_way, Offered, Accepted, NotReady, Stopped, Done, Cut, Refused}
 use Rattle.std.proofs.Math.Nat.{min-le_left}
-use Rattle.std.proofs.lemmas.List.{length-take-le, length-drop, nil_from_length}
-use Rattle.std.proofs.lemmas.Option.{slice_get_within}
-use Rattle.tl_msg.specs.Rules.{Rules}
-use Rattle.tl_msg.specs.declared.beat.BeatOf.{BeatOf}
-use Rattle.tl_msg.specs.declared.fault.SideFault.{SideFault}
-use Rattle.tl_burst.specs.Handing.{fault_after}
 use Rattle.tl_ring.specs.declared.queue.TheConstants.{ROOM}
-use Rattle.tl_ring.specs.Crossing.{World, offered, shut, inbox_room}
 use Rattle.tl_run.proofs.ChannelOffer.{sent-offer, sent-passed}
 use Rattle.tl_run.proofs.Counting.{none-more}
 use Rattle.tl_run.proofs.OfferSteps.{does-taken}
 use Rattle.tl_run.proofs.Moving.{moved_in, moved, push_count, pop_count}
-use Rattle.tl_run.specs.Inner.Running.{Does, IsSent, IsStopped, steps, emptied, progress, under_way}
-use Rattle.tl_run.specs.declared.channel_state.Offered.{Offered}
-use Rattle.tl_run.specs.declared.channel_state.Offered.TheVariants.{Accepted, NotReady, Stopped}
-use Rattle.tl_run.specs.declared.channel_state.Stop.TheVariants.{Done, Cut, Refused}
 
 -- how many items are left of a list whose first k are gone
-size-behind : {X : Type 0} (k : ℕ) (xs : List X) → k ≤ length xs → length (drop k xs) + k ≡ length xs
+pub size-behind : {X : Type 0} (k : ℕ) (xs : List X) → k ≤ length xs → length (drop k xs) + k ≡ length xs
 size-behind k xs le = let n : length (drop k xs) ≡ length xs - k = length-drop k xs in omega arith
 
 -- a number is zero, or it is not
-none-or-some : (n : ℕ) → (n ≡ 0) ⊎ (1 ≤ n)
+pub none-or-some : (n : ℕ) → (n ≡ 0) ⊎ (1 ≤ n)
 none-or-some zero = inl refl
 none-or-some (suc n) = inr (omega arith)
 

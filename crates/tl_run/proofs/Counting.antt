@@ -1,5 +1,5 @@
 -- The rounds of a run are counted, and end.
-use Rattle.std.proofs.Common.{◌≡◌, ◌+◌, ◌-◌, ◌^◌, ◌<◌, ◌≤◌, ℕ, arith}
+use Rattle.tl_run.proofs.Names.{◌≡◌, ◌+◌, ◌-◌, ◌^◌, ◌<◌, ◌≤◌, ℕ, arith}
 
 -- no beat more is the same number of beats
 pub none-more : (n : ℕ) → n ≡ n + 0
@@ -28,7 +28,3 @@ few-enough m f = omega arith
 -- five numbers that are the same have one sum
 pub same-sums : {a b c d e a' b' c' d' e' : ℕ} → a ≡ a' → b ≡ b' → c ≡ c' → d ≡ d' → e ≡ e' → a + b + c + d + e ≡ a' + b' + c' + d' + e'
 same-sums f g h i j = omega arith
-
--- a number that has grown, and then has not become less
-pub still-further : (k l m : ℕ) → k + 1 ≤ l → l ≤ m → k + 1 ≤ m
-still-further k l m g h = omega arith

@@ -1,29 +1,19 @@
 -- How many far beats the accepted beats of a list make due at most: 4,096 for each near beat, which is the most that a message has, and as many
 -- for one that is unfinished.
-use Rattle.std.proofs.Common.{◌≡◌, ◌+◌, ◌*◌, ◌≤◌, ℕ, Bool, true, false, cond, Option, None, Some, List, [], ◌∷◌, ◌++◌, length, drop, refl, sym, subst, arith, zero-le, length-append}
-use Rattle.std.proofs.lemmas.List.{length-take}
+use Rattle.tl_run.proofs.Names.{◌≡◌, ◌+◌, ◌*◌, ◌≤◌, ℕ, Bool, true, false, cond, Option, None, Some, List, [], ◌∷◌, ◌++◌, length, drop, refl, sym}
+use Rattle.tl_run.proofs.Names.{subst, arith, zero-le, append-nil, length-append, length-take, slice_index, is_none, ◌&&◌, ◌==◌, IsWidth, Rules}
+use Rattle.tl_run.proofs.Names.{rules_a, rules_b, rules_c, rules_d, rules_e, is_aligned, HeadA, HeadD, BeatOf, BeatFault, ends, rest_of, fault_in}
+use Rattle.tl_run.proofs.Names.{fault_after, burst_of, far_beats_of, part, due_after, due, accepted_of, accepted_after, true_equal}
 use Rattle.std.proofs.lemmas.List.FromFn.{length-map-range_with_len}
-use Rattle.std.specs.Prelude.{slice_index, is_none, ◌&&◌, ◌==◌}
-use Rattle.tl_lanes.specs.Lanes.{IsWidth}
-use Rattle.tl_msg.specs.Rules.{Rules}
 use Rattle.tl_msg.specs.Firsts.{unless, ◌or_else◌}
 use Rattle.tl_msg.specs.Laws.{small_fault}
 use Rattle.tl_msg.specs.Kinds.{column_a, column_b, column_c, column_d, kind_at}
-use Rattle.tl_msg.specs.Tables.{rules_a, rules_b, rules_c, rules_d, rules_e, is_aligned}
-use Rattle.tl_msg.specs.declared.head.HeadA.{HeadA}
 use Rattle.tl_msg.specs.declared.head.HeadB.{HeadB}
 use Rattle.tl_msg.specs.declared.head.HeadC.{HeadC}
-use Rattle.tl_msg.specs.declared.head.HeadD.{HeadD}
 use Rattle.tl_msg.specs.declared.head.HeadE.{HeadE}
-use Rattle.tl_msg.specs.declared.beat.BeatOf.{BeatOf}
-use Rattle.tl_msg.specs.declared.fault.BeatFault.{BeatFault}
 use Rattle.tl_burst.specs.Messages.{beats_of, beat_at, layout}
 use Rattle.tl_burst.specs.Reading.{message_of}
-use Rattle.tl_burst.specs.Handing.{ends, rest_of, fault_in, fault_after, burst_of}
 use Rattle.tl_burst.proofs.Burst.{beats-bounds, rest-snoc}
-use Rattle.tl_convert.specs.Due.{far_beats_of, part, due_after, due}
-use Rattle.tl_convert.specs.Accepted.{accepted_of, accepted_after}
-use Rattle.tl_convert.proofs.Comparisons.{true_equal}
 use Rattle.tl_convert.proofs.Extends.{both}
 
 -- a first fault that isn't there
@@ -36,6 +26,10 @@ unless-true : (b : Bool) (f : BeatFault) → unless b f ≡ None → b ≡ true
 unless-true true f e = refl
 unless-true false f e = cc
 
+-- beats without a fault are of messages of at most 4,096 bytes, and so is what goes on with such a message
+abbrev pub HaveSmall : {H : Type 0} → Rules H → Type 0
+HaveSmall {H} r = ((h : H) → r.fault h ≡ None → r.size h ≤ 12) × ((g h : H) → r.same g h ≡ true → r.size g ≡ r.size h)
+
 module _ {H : Type 0} (r : Rules H) (w v : ℕ) where
   -- heads of messages of at most 4,096 bytes, all through
   pub data AreSmall : List (BeatOf H w) → Type 0 where
@@ -46,6 +40,11 @@ module _ {H : Type 0} (r : Rules H) (w v : ℕ) where
   small-snoc : (bs : List (BeatOf H w)) (b : BeatOf H w) → AreSmall bs → r.size b.head ≤ 12 → AreSmall (bs ++ b ∷ [])
   small-snoc [] b none_small l = more_small b [] l none_small
   small-snoc (x ∷ xs) b (more_small _ _ k s) l = more_small x (xs ++ b ∷ []) k (small-snoc xs b s l)
+
+  -- so are the first of them
+  small-first : (xs ys : List (BeatOf H w)) → AreSmall (xs ++ ys) → AreSmall xs
+  small-first [] ys s = none_small
+  small-first (x ∷ xs) ys (more_small _ _ k s) = more_small x xs k (small-first xs ys s)
 
   module _ (small : (h : H) → r.fault h ≡ None → r.size h ≤ 12) (same : (g h : H) → r.same g h ≡ true → r.size g ≡ r.size h) where
     -- a beat that has no fault after small ones is small
@@ -103,14 +102,17 @@ module _ {H : Type 0} (r : Rules H) (w v : ℕ) where
         (λ e. let h : length (due_after r w v [] (drop 1 homes) bs) ≤ 4096 * (length bs + 1) = due-most [] (drop 1 homes) bs none_small t in omega arith)
         (λ e. let h : length (due_after r w v (seen ++ b ∷ []) homes bs) ≤ 4096 * (length bs + 1) = due-most (seen ++ b ∷ []) homes bs (small-snoc seen b s l) t in omega arith)
 
-    -- the far beats that the accepted beats of a list make due
-    pub accepted-most : (small : (h : H) → r.fault h ≡ None → r.size h ≤ 12) (same : (g h : H) → r.same g h ≡ true → r.size g ≡ r.size h) →
-        (homes : List ℕ) (bs : List (BeatOf H w)) → length (due r w v (accepted_of r bs) homes) ≤ 4096 * (length bs + 1)
-    accepted-most small same homes bs =
-        let l : length (accepted_of r bs) ≤ length bs = accepted-length [] bs in
-        let m : length (due r w v (accepted_of r bs) homes) ≤ 4096 * (length (accepted_of r bs) + 1) =
-        due-most [] homes (accepted_of r bs) none_small (accepted-small small same [] bs none_small) in
-        omega arith
+    -- the far beats that the first n accepted beats of a list make due
+    pub first-most : HaveSmall r → (homes : List ℕ) (bs xs rest : List (BeatOf H w)) (n : ℕ) → accepted_of r bs ≡ xs ++ rest → length xs ≤ n →
+        length (due r w v xs homes) ≤ 4096 * (n + 1)
+    first-most (small, same) homes bs xs rest n e few =
+        let m : length (due r w v xs homes) ≤ 4096 * (length xs + 1) =
+        due-most [] homes xs none_small (small-first xs rest (subst (λ q. AreSmall q) e (accepted-small small same [] bs none_small))) in
+        omega (arith, m, few)
+
+    -- and those that all its accepted beats do
+    accepted-most : HaveSmall r → (homes : List ℕ) (bs : List (BeatOf H w)) → length (due r w v (accepted_of r bs) homes) ≤ 4096 * (length bs + 1)
+    accepted-most small homes bs = first-most small homes bs (accepted_of r bs) [] (length bs) (sym (append-nil (accepted_of r bs))) (accepted-length [] bs)
 
 -- ---- the five channels
 
@@ -124,19 +126,35 @@ two false c e = cc
 third : (b c : Bool) (x y : ℕ) (d : Bool) → (b && (c && (x == y && d))) ≡ true → x ≡ y
 third b c x y d e = true_equal x y (two (x == y) d (two c (x == y && d) (two b (c && (x == y && d)) e).1).1).0
 
+-- each channel is such a one
+pub small-a : HaveSmall rules_a
+small-a = (λ h e. small_fault (kind_at column_a h.opcode) h.param h.size (is_aligned h.address h.size) e, λ g h e. third _ _ g.size h.size _ e)
+
+pub small-b : HaveSmall rules_b
+small-b = (λ h e. small_fault (kind_at column_b h.opcode) h.param h.size (is_aligned h.address h.size) e, λ g h e. third _ _ g.size h.size _ e)
+
+pub small-c : HaveSmall rules_c
+small-c = (λ h e. small_fault (kind_at column_c h.opcode) h.param h.size (is_aligned h.address h.size) e, λ g h e. third _ _ g.size h.size _ e)
+
+pub small-d : HaveSmall rules_d
+small-d = (λ h e. small_fault (kind_at column_d h.opcode) h.param h.size true e, λ g h e. third _ _ g.size h.size _ e)
+
+pub small-e : HaveSmall rules_e
+small-e = (λ h e. zero-le, λ g h e. refl)
+
 -- how many far beats the accepted beats of a list make due, on each channel
 module _ {w : ℕ} (v : ℕ) (vw : IsWidth v) (homes : List ℕ) where
   pub most-a : (bs : List (BeatOf HeadA w)) → length (due rules_a w v (accepted_of rules_a bs) homes) ≤ 4096 * (length bs + 1)
-  most-a bs = accepted-most rules_a w v vw (λ h e. small_fault (kind_at column_a h.opcode) h.param h.size (is_aligned h.address h.size) e) (λ g h e. third _ _ g.size h.size _ e) homes bs
+  most-a = accepted-most rules_a w v vw small-a homes
 
   pub most-b : (bs : List (BeatOf HeadB w)) → length (due rules_b w v (accepted_of rules_b bs) homes) ≤ 4096 * (length bs + 1)
-  most-b bs = accepted-most rules_b w v vw (λ h e. small_fault (kind_at column_b h.opcode) h.param h.size (is_aligned h.address h.size) e) (λ g h e. third _ _ g.size h.size _ e) homes bs
+  most-b = accepted-most rules_b w v vw small-b homes
 
   pub most-c : (bs : List (BeatOf HeadC w)) → length (due rules_c w v (accepted_of rules_c bs) homes) ≤ 4096 * (length bs + 1)
-  most-c bs = accepted-most rules_c w v vw (λ h e. small_fault (kind_at column_c h.opcode) h.param h.size (is_aligned h.address h.size) e) (λ g h e. third _ _ g.size h.size _ e) homes bs
+  most-c = accepted-most rules_c w v vw small-c homes
 
   pub most-d : (bs : List (BeatOf HeadD w)) → length (due rules_d w v (accepted_of rules_d bs) homes) ≤ 4096 * (length bs + 1)
-  most-d bs = accepted-most rules_d w v vw (λ h e. small_fault (kind_at column_d h.opcode) h.param h.size true e) (λ g h e. third _ _ g.size h.size _ e) homes bs
+  most-d = accepted-most rules_d w v vw small-d homes
 
   pub most-e : (bs : List (BeatOf HeadE w)) → length (due rules_e w v (accepted_of rules_e bs) homes) ≤ 4096 * (length bs + 1)
-  most-e bs = accepted-most rules_e w v vw (λ h e. zero-le) (λ g h e. refl) homes bs
+  most-e = accepted-most rules_e w v vw small-e homes

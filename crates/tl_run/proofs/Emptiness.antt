@@ -1,8 +1,7 @@
 -- Two things together are none where each is none, and some where one of them is some.
-use Rattle.std.proofs.Common.{◌≡◌, ◌≢◌, ◌+◌, ◌⊎◌, inl, inr, ◌↔◌, ◌&&◌, ◌||◌, ◌==◌, ℕ, Bool, arith, ⊎_elim}
+use Rattle.tl_run.proofs.Names.{◌≡◌, ◌≢◌, ◌+◌, ◌⊎◌, inl, inr, ◌↔◌, ◌&&◌, ◌||◌, ◌==◌, ℕ, Bool, arith, ⊎_elim, IsTrue}
 use Rattle.std.proofs.lemmas.Bool.{and_parts, and_from, or_cases, or_left, or_right, cases_eq}
 use Rattle.std.proofs.lemmas.Bool.Decides.{nat_tests}
-use Rattle.std.specs.Prelude.{IsTrue}
 
 pub none : (n : ℕ) → IsTrue (n == 0) ↔ (n ≡ 0)
 none n = (λ e. grind (arith, nat_tests), λ e. grind (arith, nat_tests))

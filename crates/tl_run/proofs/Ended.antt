@@ -1,28 +1,16 @@
 -- How far a run has come, by what its loop sees, and how it ends.
-use Rattle.std.proofs.Common.{◌≡◌, ◌+◌, ◌*◌, ◌^◌, ◌≤◌, ◌<◌, ℕ, false, List, [], length, refl, sym, subst, arith, ⊎_elim}
-use Rattle.tl_lanes.specs.Lanes.{IsWidth}
-use Rattle.tl_msg.specs.Rules.{Rules}
-use Rattle.tl_msg.specs.Tables.{rules_a, rules_b, rules_c, rules_d, rules_e}
-use Rattle.tl_msg.specs.declared.beat.BeatOf.{BeatOf}
-use Rattle.tl_convert.specs.Due.{due}
-use Rattle.tl_convert.specs.Accepted.{accepted_of}
-use Rattle.tl_ring.specs.Crossing.{World, empty}
-use Rattle.tl_ring.specs.Pipe.{Pipe}
+use Rattle.tl_run.proofs.Names.{◌≡◌, ◌+◌, ◌*◌, ◌^◌, ◌≤◌, ◌<◌, ◌++◌, ℕ, false, List, [], length, take, drop, refl, sym, ap, subst, ◌∙◌, arith, ⊎_elim}
+use Rattle.tl_run.proofs.Names.{length-take-le, IsWidth, Rules, rules_a, rules_b, rules_c, rules_d, rules_e, BeatOf, due, accepted_of, accepted_after}
+use Rattle.tl_run.proofs.Names.{World, empty, Pipe, Beats, Bridge, Past, StandsFor, IsStanding, nothing_yet, joined, no_beats, IsShort, IsSent}
+use Rattle.tl_run.proofs.Names.{AreStopped, IsNew, IsUnderWay, progress, under_way, counted, all_progress, all_under_way, standing_count}
+use Rattle.tl_run.proofs.Names.{all_standing, all_stopped, IsRunning, CanAdd, HaveRoomToCount, arriving, inboxes, lengths, IsAt, AllStop, HasRound}
+use Rattle.tl_run.proofs.Names.{HasEnded, Offered, Stop, PerChannel}
 use Rattle.tl_ring.specs.Pipe as piping
 use Rattle.tl_ring.specs.declared.standing.Standing.{Standing}
 use Rattle.tl_settle.specs.Rounds as rounds
-use Rattle.tl_settle.specs.Outcomes.{Beats}
-use Rattle.tl_sides.specs.Bridges.{Bridge, Past, StandsFor, IsStanding, nothing_yet}
-use Rattle.tl_run.specs.Arrivals.{joined, no_beats}
-use Rattle.tl_run.specs.Scripts.{IsShort}
-use Rattle.tl_run.specs.Inner.Going.{HasGone}
-use Rattle.tl_run.specs.Inner.Running.{IsSent, AreStopped, IsNew, IsUnderWay, progress, under_way, counted, all_progress, all_under_way, standing_count, all_standing, all_stopped, IsRunning, CanAdd, arriving, inboxes, lengths, IsAt, AllStop, HasRound, HasEnded}
-use Rattle.tl_run.specs.declared.channel_state.Offered.{Offered}
-use Rattle.tl_run.specs.declared.channel_state.Stop.{Stop}
-use Rattle.tl_sides.specs.declared.per_channel.PerChannel.{PerChannel}
-use Rattle.tl_run.proofs.ChannelEnd.{progress-most}
+use Rattle.tl_run.proofs.ChannelEnd.{all_stand, progress-most}
 use Rattle.tl_run.proofs.Counting.{same-sums}
-use Rattle.tl_run.proofs.DueBounds.{most-a, most-b, most-c, most-d, most-e}
+use Rattle.tl_run.proofs.DueBounds.{first-most, most-a, most-b, most-c, most-d, most-e, small-a, small-b, small-c, small-d, small-e}
 
 -- ---- how far a run has come
 
@@ -47,8 +35,22 @@ progress-in-is : {H : Type 0} (r : Rules H) {w v : ℕ} (bs : List (BeatOf H w))
 progress-in-is r bs n far p x s i = rw (i.taken, s.inbox, s.ring) refl
 
 -- five numbers that are bounded
-sums-most : {a b c d e a' b' c' d' e' : ℕ} → a ≤ a' → b ≤ b' → c ≤ c' → d ≤ d' → e ≤ e' → a + b + c + d + e ≤ a' + b' + c' + d' + e'
+pub sums-most : {a b c d e a' b' c' d' e' : ℕ} → a ≤ a' → b ≤ b' → c ≤ c' → d ≤ d' → e ≤ e' → a + b + c + d + e ≤ a' + b' + c' + d' + e'
 sums-most f g h i j = omega arith
+
+-- what was taken and stands in an inbox is few, where few beats were accepted
+few-stand : {H : Type 0} (r : Rules H) {w v : ℕ} → IsWidth w → IsWidth v → (bs : List (BeatOf H w)) (n : ℕ) (far : List (BeatOf H v)) (p : Pipe H v) (x : World H w v) →
+    piping.StandsFor r p x → IsSent r bs n far x →
+    ((rest : List (BeatOf H w)) → accepted_of r bs ≡ x.accepted ++ rest → length x.accepted ≤ n → length (due r w v x.accepted x.homes) ≤ 4096 * (n + 1)) →
+    n < 2 ^ 41 → length far + length p.inbox < 2 ^ 60
+few-stand r ww vw bs n far p x f s most few =
+    let stand = all_stand r ww vw bs n far x f.crosses in
+    let some : length x.accepted ≡ n = ap length s.accepted ∙ length-take-le n bs s.most in
+    let rest = accepted_after r (take n bs) (drop n bs) in
+    let due_few = most rest (s.lawful ∙ ap (λ q. q ++ rest) (sym s.accepted)) (omega (arith, some)) in
+    let taken : length far ≡ length x.taken = ap length s.taken in
+    let inbox : length p.inbox ≡ length x.inbox = ap length f.inbox in
+    omega (arith, stand, due_few, taken, inbox, few)
 
 -- so many beats stand in a pipe as are under way
 standing-is : {H : Type 0} (r : Rules H) {w v : ℕ} (p : Pipe H v) (x : World H w v) (s : Standing) → piping.StandsFor r p x → IsStanding p s →
@@ -93,24 +95,16 @@ module _ {C M : ℕ} (near : Beats C M) where
           (f + 2 * k) + (g + 2 * l) + (h + 2 * m) + (i + 2 * n) + (j + 2 * o) < 2 ^ 60
       bounded f g h i j k l m n o p q r t u x y z w v = omega arith
 
-  -- and so what stands in the inboxes can be counted
-  pub can-add : IsWidth C → IsWidth M → IsShort near → (n : PerChannel ℕ) (far : Beats M C) (s : Bridge C M) (x : Past C M) → StandsFor s x → IsAt near n far x →
+  -- what stands in the inboxes can be counted
+  pub can-add : IsWidth C → IsWidth M → (n : PerChannel ℕ) (far : Beats M C) (s : Bridge C M) (x : Past C M) → StandsFor s x → IsAt near n far x → HaveRoomToCount n →
       CanAdd (lengths far) (lengths (inboxes s))
-  can-add cw mw short n far s x f i =
-      let few = each-few _ _ _ _ _ _ (progress-ends cw mw n far s x f i) (end-few cw mw short) in
-      record {
-        a = part-few n.a (length far.a) (length s.a.inbox) (length s.a.ring) few.0;
-        b = part-few n.b (length far.b) (length s.b.inbox) (length s.b.ring) few.1;
-        c = part-few n.c (length far.c) (length s.c.inbox) (length s.c.ring) few.2;
-        d = part-few n.d (length far.d) (length s.d.inbox) (length s.d.ring) few.3;
-        e = part-few n.e (length far.e) (length s.e.inbox) (length s.e.ring) few.4;
-      }
-    where
-      each-few : (p q r t u most : ℕ) → p + q + r + t + u ≤ most → most < 2 ^ 60 → (p < 2 ^ 60) × (q < 2 ^ 60) × (r < 2 ^ 60) × (t < 2 ^ 60) × (u < 2 ^ 60)
-      each-few p q r t u most l m = (omega arith, omega arith, omega arith, omega arith, omega arith)
-
-      part-few : (n taken inbox ring : ℕ) → n + (taken + inbox + ring) + (taken + inbox) < 2 ^ 60 → taken + inbox < 2 ^ 60
-      part-few n taken inbox ring l = omega arith
+  can-add cw mw n far s x f i few = record {
+    a = few-stand rules_a cw mw near.a n.a far.a s.a x.a f.a i.a_sent (λ rest e l. first-most rules_a C M mw small-a x.a.homes near.a x.a.accepted rest n.a e l) few.a;
+    b = few-stand rules_b mw cw near.b n.b far.b s.b x.b f.b i.b_sent (λ rest e l. first-most rules_b M C cw small-b x.b.homes near.b x.b.accepted rest n.b e l) few.b;
+    c = few-stand rules_c cw mw near.c n.c far.c s.c x.c f.c i.c_sent (λ rest e l. first-most rules_c C M mw small-c x.c.homes near.c x.c.accepted rest n.c e l) few.c;
+    d = few-stand rules_d mw cw near.d n.d far.d s.d x.d f.d i.d_sent (λ rest e l. first-most rules_d M C cw small-d x.d.homes near.d x.d.accepted rest n.d e l) few.d;
+    e = few-stand rules_e cw mw near.e n.e far.e s.e x.e f.e i.e_sent (λ rest e l. first-most rules_e C M mw small-e x.e.homes near.e x.e.accepted rest n.e e l) few.e;
+  }
 
   -- ---- a round
 
@@ -153,28 +147,6 @@ module _ {C M : ℕ} (near : Beats C M) where
     -- it comes no further than that
     pub running-ends : IsWidth C → IsWidth M → progress_by n taken s ≤ run_end
     running-ends cw mw = subst (λ t. progress_by n t s ≤ run_end) (sym r.counts) (progress-ends cw mw n r.all s r.under_way.past r.under_way.stands r.under_way.is_at)
-
-    -- channels that go on by themselves
-    module _ (m : PerChannel ℕ) (t : Bridge C M) (goes : (all : Beats M C) (x : Past C M) → StandsFor s x → IsAt near n all x → HasGone near n all x m t) where
-      gone : HasGone near n r.all r.under_way.past m t
-      gone = goes r.all r.under_way.past r.under_way.stands r.under_way.is_at
-
-      -- the run is under way then
-      pub running-ahead : IsRunning Holds near m taken far t
-      running-ahead = record {
-        all = r.all;
-        holds = r.holds;
-        counts = r.counts;
-        under_way = record { past = gone.past; stands = gone.stands; is_at = gone.is_at };
-      }
-
-      -- and has come as far at least
-      pub running-keeps : progress_by n taken s ≤ progress_by m taken t
-      running-keeps =
-          let before : progress_here n r.all s ≡ all_progress n r.under_way.past = progress-is n r.all s r.under_way.past r.under_way.stands r.under_way.is_at in
-          let after : progress_here m r.all t ≡ all_progress m gone.past = progress-is m r.all t gone.past gone.stands gone.is_at in
-          subst (λ q. progress_by n q s ≤ progress_by m q t) (sym r.counts)
-          (subst (λ k. k ≤ progress_here m r.all t) (sym before) (subst (λ k. all_progress n r.under_way.past ≤ k) (sym after) gone.keeps))
 
     -- a round that answered so
     module _ (m taken' : PerChannel ℕ) (far' : F) (t : Bridge C M) (o : PerChannel Offered) (same : m ≡ counted n o)

@@ -1,19 +1,12 @@
 -- What a run that has ended has come to.
-use Rattle.std.proofs.Common.{◌≡◌, ◌+◌, ◌*◌, ◌≤◌, ℕ, [], ◌∷◌, length, refl, ap, ◌∙◌, arith}
-use Rattle.tl_lanes.specs.Lanes.{IsWidth}
-use Rattle.tl_msg.specs.Tables.{rules_a, rules_b, rules_c, rules_d, rules_e}
-use Rattle.tl_msg.specs.declared.verdict.Verdict.{Verdict}
-use Rattle.tl_settle.specs.Outcomes.{Beats, far_beats, far_alone, verdicts}
-use Rattle.tl_sides.specs.Bridges.{Bridge}
-use Rattle.tl_run.specs.Scripts.{near_count, far_count}
-use Rattle.tl_run.specs.Inner.Running.{progress, under_way, HasEnded, stop_verdict}
-use Rattle.tl_sides.specs.declared.per_channel.PerChannel.{PerChannel}
-use Rattle.tl_run.specs.declared.channel_state.Stop.{Stop}
+use Rattle.tl_run.proofs.Names.{◌≡◌, ◌+◌, ◌*◌, ◌≤◌, ℕ, [], ◌∷◌, length, refl, ap, ◌∙◌, arith, IsWidth, rules_a, rules_b, rules_c, rules_d, rules_e}
+use Rattle.tl_run.proofs.Names.{Verdict, Beats, far_beats, far_alone, verdicts, Bridge, near_count, far_count, progress, under_way, HasEnded}
+use Rattle.tl_run.proofs.Names.{stop_verdict, PerChannel, Stop}
 use Rattle.tl_run.proofs.ChannelEnd.{progress-end, count-end, far-end, verdict-end}
 use Rattle.tl_run.proofs.RunRound.{IsSettledEnd, run-end}
 
 -- five numbers whose sum is zero
-each-zero : (p q r s t : ℕ) → p + q + r + s + t ≡ 0 → (p ≡ 0) × (q ≡ 0) × (r ≡ 0) × (s ≡ 0) × (t ≡ 0)
+pub each-zero : (p q r s t : ℕ) → p + q + r + s + t ≡ 0 → (p ≡ 0) × (q ≡ 0) × (r ≡ 0) × (s ≡ 0) × (t ≡ 0)
 each-zero p q r s t e = (omega arith, omega arith, omega arith, omega arith, omega arith)
 
 -- the rounds by what was accepted and what was taken

@@ -1,3 +1,4 @@
+pub mod Names
 mod Moving
 pub mod ChannelRound
 pub mod ChannelEnd
@@ -6,10 +7,12 @@ pub mod RunRound
 pub mod OfferSteps
 pub mod OnlyMemory
 pub mod Round
+pub mod Parts
 mod Going
 mod Rooms
 pub mod Ended
-mod EndsIn
+pub mod EndsIn
+pub mod Pieces
 mod DueBounds
 pub mod ChannelOffer
 pub mod Lives

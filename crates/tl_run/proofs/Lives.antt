@@ -1,5 +1,5 @@
 -- What borrows nothing may be held as long as anything else.
-use Rattle.std.proofs.Common.{ℕ, List, [], rules}
+use Rattle.tl_run.proofs.Names.{ℕ, List, [], rules}
 use contract.BorrowLft.{◌⊑◌}
 
 pub lives-long : (κ : List ℕ) → κ ⊑ []

@@ -1,7 +1,5 @@
 -- All rings move on: staged beats go in, and beats come out, as many as there is room for.
-use Rattle.std.proofs.Common.{◌-◌, ℕ, length, min}
-use Rattle.tl_ring.specs.Crossing.{World, pushed, popped, inbox_room}
-use Rattle.tl_sides.specs.Bridges.{Past}
+use Rattle.tl_run.proofs.Names.{◌-◌, ℕ, length, min, World, pushed, popped, inbox_room, Past}
 
 module _ {H : Type 0} {w v : ℕ} where
   -- how many beats go into the ring where as many as fit do, and then how many come out of it

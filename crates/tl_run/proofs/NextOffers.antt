@@ -1,16 +1,10 @@
 -- What becomes of the next beat of a channel that a side of a run offers.
-use Rattle.std.proofs.Common.{◌≡◌, ◌↔◌, ℕ, Bool, None, Some, List, [], ◌∷◌, Result, Ok, Err, refl, sym, subst}
-use Rattle.std.specs.Prelude.{slice_get, IsTrue, IsOk, OnOk, OnErr, IfErr}
-use Rattle.tl_msg.specs.declared.beat.BeatOf.{BeatOf}
-use Rattle.tl_msg.specs.declared.fault.SideFault.{SideFault}
-use Rattle.tl_burst.specs.Handing.{rest_of}
-use Rattle.tl_ring.specs.Crossing.{offered, shut}
-use Rattle.tl_ring.specs.Pipe.{Pipe, IsReady, StandsFor}
+use Rattle.tl_run.proofs.Names.{◌≡◌, ◌↔◌, ℕ, Bool, None, Some, List, [], ◌∷◌, Result, Ok, Err, refl, sym, subst, slice_get, IsTrue, IsOk, OnOk, OnErr}
+use Rattle.tl_run.proofs.Names.{IfErr, BeatOf, SideFault, rest_of, offered, shut, Pipe, IsReady, Offering, OffersNext, SameClientEnds}
+use Rattle.tl_run.proofs.Names.{SameManagerEnds, offer_outcome, close_outcome, Offered, NotReady}
+use Rattle.tl_ring.specs.Pipe.{StandsFor}
 use Rattle.tl_ring.specs.declared.fault.EndFault.{EndFault}
-use Rattle.tl_sides.proofs.Places.{Closes, Offers}
-use Rattle.tl_run.specs.Inner.Offering.{Offering, OffersNext, offer_outcome, close_outcome}
-use Rattle.tl_run.specs.declared.channel_state.Offered.{Offered}
-use Rattle.tl_run.specs.declared.channel_state.Offered.TheVariants.{NotReady}
+use Rattle.tl_sides.specs.Sides.{ClientState, ManagerState}
 use Rattle.tl_run.proofs.OfferSteps.{not_ready}
 
 module _ {S P H : Type 0} {w v : ℕ} (k : Offering S P H w v) (s : S) where
@@ -45,12 +39,6 @@ module _ {S P H : Type 0} {w v : ℕ} (k : Offering S P H w v) (s : S) where
       does = λ x h. ([], k.crossing x, still s' refused x h, (b, next, fault x h, refl, refl));
     }
 
-  -- the same by all that such an offer says
-  pub answers-as : (r : Result (Unit {0}) SideFault) (s' : S) (b : BeatOf H w) → k.Same s s' →
-      Offers k.Stands (λ x. k.answer x b) (λ x. k.put (offered k.rules b (k.home x b) (k.crossing x)) (k.note (b ∷ []) x)) s s' r →
-      (bs : List (BeatOf H w)) (n : ℕ) → slice_get bs n ≡ Some b → OffersNext k bs n s (offer_outcome r) s'
-  answers-as r s' b stays told bs n next = answers bs n b next r s' stays told.admitted told.accepted told.fault told.refused
-
   -- no beat is left, and the channel was closed
   pub closes : (bs : List (BeatOf H w)) (n : ℕ) → slice_get bs n ≡ None → (r : Result (Unit {0}) EndFault) (s' : S) → k.Same s s' → OnErr r (s' ≡ s) →
       ((x : P) → k.Stands s x → IsOk r ↔ (rest_of k.rules w (k.crossing x).accepted ≡ [])) →
@@ -64,11 +52,18 @@ module _ {S P H : Type 0} {w v : ℕ} (k : Offering S P H w v) (s : S) where
     does = λ x h. ([], k.crossing x, still s' refused x h, (past, (λ whole. let ok = (between x h).1 whole in cc), refl, refl));
   }
 
-  -- the same by all that such a close says
-  pub closes-as : (before : Bool) (r : Result (Unit {0}) EndFault) (s' : S) → k.Same s s' →
-      Closes k.Stands (λ x. rest_of k.rules w (k.crossing x).accepted ≡ []) (λ x. k.put (shut (k.crossing x)) x) before s s' r →
-      (bs : List (BeatOf H w)) (n : ℕ) → slice_get bs n ≡ None → OffersNext k bs n s (close_outcome r) s'
-  closes-as before r s' stays told bs n past = closes bs n past r s' stays told.refused told.between told.closed
+-- what holds of a side before a call, and of what it is where the call succeeds, holds after it
+pub holds-after : {T E S : Type 0} (P : S → Type 0) (r : Result T E) (s s' t : S) → OnOk r (s' ≡ t) → OnErr r (s' ≡ s) → P s → P t → P s'
+holds-after P (Ok _) s s' t made refused before after = subst P (sym made) after
+holds-after P (Err _) s s' t made refused before after = subst P (sym refused) before
+
+module _ {A : Type 0} {C M : ℕ} where
+  -- an offer, and a close, leave a side's ends of the rings as they are
+  pub client-same : (s : ClientState A C M) → SameClientEnds s s
+  client-same s = record { a = refl; b = refl; c = refl; d = refl; e = refl }
+
+  pub manager-same : (t : ManagerState A C M) → SameManagerEnds t t
+  manager-same t = record { a = refl; b = refl; c = refl; d = refl; e = refl }
 
 -- of a list that is another one's
 pub of-list : {S P H : Type 0} {w v : ℕ} (k : Offering S P H w v) {bs bs' : List (BeatOf H w)} {n : ℕ} {s s' : S} {o : Offered} → bs ≡ bs' → OffersNext k bs n s o s' → OffersNext k bs' n s o s'

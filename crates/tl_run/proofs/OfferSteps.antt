@@ -1,18 +1,9 @@
 -- What a channel does within a round: what is read of its list, and why a beat waits.
-use Rattle.std.proofs.Common.{◌≡◌, ◌≤◌, ◌⊎◌, ◌≢◌, ℕ, Bool, true, false, Option, None, Some, List, [], ◌∷◌, length, inl, inr, refl, sym, ap, ◌∙◌, arith}
+use Rattle.tl_run.proofs.Names.{◌≡◌, ◌≤◌, ◌⊎◌, ◌≢◌, ℕ, Bool, true, false, Option, None, Some, List, [], ◌∷◌, length, inl, inr, refl, sym, ap, ◌∙◌}
+use Rattle.tl_run.proofs.Names.{arith, slice_get_read, slice_get_past, nat_lt, slice_get, slice_index_or, Rules, BeatOf, SideFault, World, Pipe}
+use Rattle.tl_run.proofs.Names.{IsReady, true_less, Does, Done, Cut, Refused, Offered, Accepted, NotReady, Stopped}
 use Rattle.std.proofs.lemmas.Bool.Decides.{nat_tests}
-use Rattle.std.proofs.lemmas.Option.{slice_get_read, slice_get_past}
-use Rattle.std.specs.Prelude.{nat_lt, slice_get, slice_index_or}
-use Rattle.tl_msg.specs.Rules.{Rules}
-use Rattle.tl_msg.specs.declared.beat.BeatOf.{BeatOf}
-use Rattle.tl_msg.specs.declared.fault.SideFault.{SideFault}
-use Rattle.tl_ring.specs.Crossing.{World}
-use Rattle.tl_ring.specs.Pipe.{Pipe, IsReady, StandsFor}
-use Rattle.tl_convert.proofs.Comparisons.{true_less}
-use Rattle.tl_run.specs.Inner.Running.{Does}
-use Rattle.tl_run.specs.declared.channel_state.Stop.TheVariants.{Done, Cut, Refused}
-use Rattle.tl_run.specs.declared.channel_state.Offered.{Offered}
-use Rattle.tl_run.specs.declared.channel_state.Offered.TheVariants.{Accepted, NotReady, Stopped}
+use Rattle.tl_ring.specs.Pipe.{StandsFor}
 
 -- the element at a place below a list's end
 pub read_some : {A : Type 0} (bs : List A) (n : ℕ) (b : A) → true ≡ nat_lt n (length bs) → b ≡ slice_index_or bs n b → slice_get bs n ≡ Some b

@@ -1,6 +1,5 @@
 -- A run whose rings are made is refused for want of memory alone.
-use Rattle.std.specs.Prelude.{Result, IfErr}
-use Rattle.std.proofs.Common.{◌≡◌, ◌≢◌, ◌≤◌, ◌<◌, ◌⊎◌, ◌↔◌, ℕ, refl}
+use Rattle.tl_run.proofs.Names.{Result, IfErr, ◌≡◌, ◌≢◌, ◌≤◌, ◌<◌, ◌⊎◌, ◌↔◌, ℕ, refl}
 use Rattle.std.proofs.lemmas.Result.{IfErr-weaker}
 use Rattle.tl_ring.proofs.Moves.{ring_size_only}
 use Rattle.tl_ring.specs.declared.fault.BuildFault.{BuildFault}

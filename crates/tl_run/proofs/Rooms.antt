@@ -1,13 +1,6 @@
 -- What has room for all that a script can make due has room for what stands in the inboxes of its run.
-use Rattle.std.proofs.Common.{◌+◌, ◌++◌, ◌≤◌, ℕ, List, length, length-append, sym, subst}
-use Rattle.tl_lanes.specs.Lanes.{IsWidth}
-use Rattle.tl_msg.specs.Tables.{rules_a, rules_b, rules_c, rules_d, rules_e}
-use Rattle.tl_settle.specs.Outcomes.{Beats}
-use Rattle.tl_sides.specs.Bridges.{Bridge, Past, StandsFor}
-use Rattle.tl_sides.specs.declared.per_channel.PerChannel.{PerChannel}
-use Rattle.tl_run.specs.Arrivals.{Fit, joined}
-use Rattle.tl_run.specs.Inner.Arriving.{HaveRoom}
-use Rattle.tl_run.specs.Inner.Running.{IsAt, inboxes}
+use Rattle.tl_run.proofs.Names.{◌+◌, ◌++◌, ◌≤◌, ℕ, List, length, length-append, sym, subst, IsWidth, rules_a, rules_b, rules_c, rules_d, rules_e}
+use Rattle.tl_run.proofs.Names.{Beats, Bridge, Past, StandsFor, PerChannel, Fit, joined, HaveRoom, IsAt, inboxes}
 use Rattle.tl_run.proofs.ChannelEnd.{room-for}
 use Rattle.tl_run.proofs.Round.{inboxes-are}
 

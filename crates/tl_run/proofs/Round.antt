@@ -1,33 +1,14 @@
 -- A round of a run: what the five channels do in it together.
-use Rattle.std.proofs.Common.{◌≡◌, ◌+◌, ◌++◌, ◌≤◌, ◌⊎◌, ℕ, Option, None, Some, List, [], map, refl, sym, ap, subst, ◌∙◌, arith, append-nil, length-append, inl, inr}
-use Rattle.std.specs.Option.{option_map_or}
-use Rattle.tl_lanes.specs.Lanes.{IsWidth}
-use Rattle.tl_msg.specs.Rules.{Rules}
-use Rattle.tl_msg.specs.Tables.{rules_a, rules_b, rules_c, rules_d, rules_e}
-use Rattle.tl_msg.specs.declared.head.HeadA.{HeadA}
-use Rattle.tl_msg.specs.declared.head.HeadD.{HeadD}
-use Rattle.tl_msg.specs.declared.beat.BeatOf.{BeatOf}
-use Rattle.tl_msg.specs.declared.fault.BeatFault.{BeatFault}
-use Rattle.tl_msg.specs.declared.fault.SideFault.{SideFault}
-use Rattle.tl_msg.specs.declared.fault.SideFault.TheVariants.{Beat}
-use Rattle.tl_burst.specs.Handing.{fault_after}
-use Rattle.tl_ring.specs.Crossing.{World, pushed, popped}
-use Rattle.tl_ring.specs.Pipe.{Pipe}
+use Rattle.tl_run.proofs.Names.{◌≡◌, ◌+◌, ◌++◌, ◌≤◌, ◌⊎◌, ℕ, Option, None, Some, List, [], map, refl, sym, ap, subst, ◌∙◌, arith, append-nil}
+use Rattle.tl_run.proofs.Names.{length-append, inl, inr, option_map_or, IsWidth, Rules, rules_a, rules_b, rules_c, rules_d, rules_e, HeadA, HeadD}
+use Rattle.tl_run.proofs.Names.{BeatOf, BeatFault, SideFault, Beat, fault_after, World, pushed, popped, Pipe, Event, Ask, Answer, asked, answered}
+use Rattle.tl_run.proofs.Names.{client_answer, manager_answer, manager_home, Run, Beats, Bridge, Past, StandsFor, pump_count, fetch_count, after_pump}
+use Rattle.tl_run.proofs.Names.{after_fetch, stops_alone, joined, IsShort, HaveRoomToCount, added, arriving, inboxes, lengths, Does, Stops, IsStopped}
+use Rattle.tl_run.proofs.Names.{AreStopped, steps, emptied, after_take_all, counted, all_progress, all_under_way, HasOffered, IsAt, AllStop, HasRound}
+use Rattle.tl_run.proofs.Names.{Done, Cut, Refused, Offered, Accepted, NotReady, Stopped, PerChannel}
 use Rattle.tl_ring.specs.Pipe as piping
-use Rattle.tl_settle.specs.Histories.{Event, Ask, Answer, asked, answered, client_answer, manager_answer, manager_home}
-use Rattle.tl_settle.specs.Rounds.{Run}
-use Rattle.tl_settle.specs.Outcomes.{Beats}
-use Rattle.tl_sides.specs.Bridges.{Bridge, Past, StandsFor, pump_count, fetch_count, after_pump, after_fetch}
-use Rattle.tl_sides.specs.Crossings.{stops_alone}
 use Rattle.tl_sides.proofs.BridgeSteps.{asked_answers, answered_asks}
-use Rattle.tl_run.specs.Arrivals.{joined}
-use Rattle.tl_run.specs.Scripts.{IsShort}
 use Rattle.tl_run.proofs.Moving.{moved, push_count, pop_count, after_moves}
-use Rattle.tl_run.specs.Inner.Running.{HaveRoomToCount, added, arriving, inboxes, lengths, Does, Stops, IsStopped, AreStopped, steps, emptied, after_take_all, counted, all_progress, all_under_way, HasOffered, IsAt, AllStop, HasRound}
-use Rattle.tl_run.specs.declared.channel_state.Stop.TheVariants.{Done, Cut, Refused}
-use Rattle.tl_run.specs.declared.channel_state.Offered.{Offered}
-use Rattle.tl_run.specs.declared.channel_state.Offered.TheVariants.{Accepted, NotReady, Stopped}
-use Rattle.tl_sides.specs.declared.per_channel.PerChannel.{PerChannel}
 use Rattle.tl_run.proofs.ChannelOffer.{homed-offer, stops-offer}
 use Rattle.tl_run.proofs.ChannelRound.{sent-round, progress-round}
 use Rattle.tl_run.proofs.RunRound.{run-round}

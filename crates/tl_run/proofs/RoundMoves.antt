@@ -1,21 +1,10 @@
 -- The moves of both sides within a round, and what a channel that stands still ends with.
-use Rattle.std.proofs.Common.{◌≡◌, ◌+◌, ◌++◌, ℕ, suc, Option, None, Some, List, [], ◌∷◌, map, sym, ap, subst, ◌∙◌, arith, append-nil, append_assoc}
-use Rattle.std.specs.Prelude.{slice_get}
+use Rattle.tl_run.proofs.Names.{◌≡◌, ◌+◌, ◌++◌, ℕ, suc, Option, None, Some, List, [], ◌∷◌, map, sym, ap, subst, ◌∙◌, arith, append-nil, append_assoc}
+use Rattle.tl_run.proofs.Names.{slice_get, Rules, SideFault, rules_a, rules_d, HeadA, HeadD, BeatOf, World, Event, Ask, Answer, asked, answered}
+use Rattle.tl_run.proofs.Names.{client_answer, manager_answer, ClientMoves, ManagerMoves, client_takes, client_accepts, manager_takes}
+use Rattle.tl_run.proofs.Names.{manager_accepts, Does, steps, Offered, Accepted, NotReady, Stopped, Done, Cut, Refused}
 use mathlib.Core.List.{IsPrefix}
-use Rattle.tl_msg.specs.Rules.{Rules}
-use Rattle.tl_msg.specs.declared.fault.SideFault.{SideFault}
-use Rattle.tl_msg.specs.Tables.{rules_a, rules_d}
-use Rattle.tl_msg.specs.declared.head.HeadA.{HeadA}
-use Rattle.tl_msg.specs.declared.head.HeadD.{HeadD}
-use Rattle.tl_msg.specs.declared.beat.BeatOf.{BeatOf}
-use Rattle.tl_ring.specs.Crossing.{World}
 use Rattle.tl_settle.specs.Settling.{far_a, far_d}
-use Rattle.tl_settle.specs.Histories.{Event, Ask, Answer, asked, answered, client_answer, manager_answer}
-use Rattle.tl_settle.specs.Rounds.{ClientMoves, ManagerMoves, client_takes, client_accepts, manager_takes, manager_accepts}
-use Rattle.tl_run.specs.Inner.Running.{Does, steps}
-use Rattle.tl_run.specs.declared.channel_state.Offered.{Offered}
-use Rattle.tl_run.specs.declared.channel_state.Offered.TheVariants.{Accepted, NotReady, Stopped}
-use Rattle.tl_run.specs.declared.channel_state.Stop.TheVariants.{Done, Cut, Refused}
 use Rattle.tl_run.proofs.Counting.{none-more}
 use Rattle.tl_settle.proofs.Marks.{asked_ask, answered_answer}
 

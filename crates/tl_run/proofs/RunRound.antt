@@ -1,29 +1,14 @@
 -- What a round does to channels A and D of a run, and where they end.
-use Rattle.std.proofs.Common.{◌≡◌, ◌+◌, ◌++◌, ◌<◌, ℕ, None, List, length, map, take, sym, ap, ◌∙◌}
-use Rattle.std.specs.Prelude.{slice_get}
-use Rattle.std.specs.Option.{option_map_or}
+use Rattle.tl_run.proofs.Names.{◌≡◌, ◌+◌, ◌++◌, ◌<◌, ℕ, None, List, length, map, take, sym, ap, ◌∙◌, slice_get, option_map_or, IsWidth, rules_a}
+use Rattle.tl_run.proofs.Names.{rules_d, HeadA, HeadD, BeatOf, Verdict, heads, left, due, Ask, Answer, asked, answered, client_answer, manager_answer}
+use Rattle.tl_run.proofs.Names.{manager_home, manager_homes, Run, round, ClientMoves, ManagerMoves, client_rests, manager_rests, IsOver, IsSettledRun}
+use Rattle.tl_run.proofs.Names.{verdict_a, verdict_d, verdict_of, Bridge, Past, StandsFor, Does, Stops, IsSent, IsHomed, steps, emptied, under_way}
+use Rattle.tl_run.proofs.Names.{stop_verdict, Offered, Stopped, Stop, World}
 use mathlib.Core.List.{IsPrefix}
-use Rattle.tl_lanes.specs.Lanes.{IsWidth}
 use Rattle.tl_lanes.proofs.Widths.{width_bounds}
-use Rattle.tl_msg.specs.Tables.{rules_a, rules_d}
-use Rattle.tl_msg.specs.declared.head.HeadA.{HeadA}
-use Rattle.tl_msg.specs.declared.head.HeadD.{HeadD}
-use Rattle.tl_msg.specs.declared.beat.BeatOf.{BeatOf}
-use Rattle.tl_msg.specs.declared.verdict.Verdict.{Verdict}
-use Rattle.tl_burst.specs.Begun.{heads, left}
-use Rattle.tl_convert.specs.Due.{due}
-use Rattle.tl_settle.specs.Histories.{Ask, Answer, asked, answered, client_answer, manager_answer, manager_home, manager_homes}
-use Rattle.tl_settle.specs.Rounds.{Run, round, ClientMoves, ManagerMoves, client_rests, manager_rests, IsOver, IsSettledRun}
 use Rattle.tl_settle.specs.Settling.{settled_state, stops_a, stops_d}
 use Rattle.tl_settle.specs.Settling.{far_a as due_far_a, far_d as due_far_d}
 use Rattle.tl_settle.specs.Steps.{State}
-use Rattle.tl_settle.specs.Outcomes.{verdict_a, verdict_d, verdict_of}
-use Rattle.tl_sides.specs.Bridges.{Bridge, Past, StandsFor}
-use Rattle.tl_run.specs.Inner.Running.{Does, Stops, IsSent, IsHomed, steps, emptied, under_way, stop_verdict}
-use Rattle.tl_run.specs.declared.channel_state.Offered.{Offered}
-use Rattle.tl_run.specs.declared.channel_state.Offered.TheVariants.{Stopped}
-use Rattle.tl_run.specs.declared.channel_state.Stop.{Stop}
-use Rattle.tl_ring.specs.Crossing.{World}
 use Rattle.tl_settle.proofs.Homes.{far_a_given, far_d_given}
 use Rattle.tl_settle.proofs.Runs.{RunIs, run_is, over}
 use Rattle.tl_run.proofs.RoundMoves.{client-takes-all, manager-takes-all, client-offers, manager-offers}
@@ -51,20 +36,33 @@ module _ {C M : ℕ} (cw : IsWidth C) (mw : IsWidth M) (a : List (BeatOf HeadA C
       ap (λ bs. due rules_d M C bs (manager_homes x.manager)) (sym stands.manager_answered) ∙
       far_d_given near far a d i j x.manager is.reached is.manager_is
 
+  -- what stands in the inboxes is due
+  on-a : IsPrefix (asked x.manager ++ x.a.inbox) (due_far_a a d i)
+  on-a = inbox-due rules_a x.a stands.a.crosses (asked x.manager) stands.manager_asked (due_far_a a d i) due-a
+
+  on-d : IsPrefix (answered x.client ++ x.d.inbox) (due_far_d a d j)
+  on-d = inbox-due rules_d x.d stands.d.crosses (answered x.client) stands.client_answered (due_far_d a d j) due-d
+
+  -- both sides take it
+  takes-client : ClientMoves a d j i x.client i (x.client ++ map Answer x.d.inbox)
+  takes-client = client-takes-all a d j i x.client i x.client x.d.inbox client_rests on-d
+
+  takes-manager : ManagerMoves a d i j x.manager j (x.manager ++ map Ask x.a.inbox)
+  takes-manager = manager-takes-all a d i j x.manager j x.manager x.a.inbox manager_rests on-a
+
+  pub takes-round : Run a d i j (x.client ++ map Answer x.d.inbox) (x.manager ++ map Ask x.a.inbox)
+  takes-round = round i j i j x.client (x.client ++ map Answer x.d.inbox) x.manager (x.manager ++ map Ask x.a.inbox) run takes-client takes-manager
+
   -- both sides take what stands in their inboxes, and then offer a beat or none: a round
   pub run-round : (o p : Offered) (asks : List (BeatOf HeadA C)) (answers : List (BeatOf HeadD M)) (y : World HeadA C M) (z : World HeadD M C) →
       Does rules_a a i (client_answer (x.client ++ map Answer x.d.inbox)) (λ _. 0) (emptied x.a) o asks y →
       Does rules_d d j (manager_answer (x.manager ++ map Ask x.a.inbox)) (λ b. manager_home (x.manager ++ map Ask x.a.inbox) b.head) (emptied x.d) p answers z →
       Run a d (i + steps o) (j + steps p) ((x.client ++ map Answer x.d.inbox) ++ map Ask asks) ((x.manager ++ map Ask x.a.inbox) ++ map Answer answers)
   run-round o p asks answers y z does_a does_d =
-      let on_d : IsPrefix (answered x.client ++ x.d.inbox) (due_far_d a d j) = inbox-due rules_d x.d stands.d.crosses (answered x.client) stands.client_answered (due_far_d a d j) due-d in
-      let on_a : IsPrefix (asked x.manager ++ x.a.inbox) (due_far_a a d i) = inbox-due rules_a x.a stands.a.crosses (asked x.manager) stands.manager_asked (due_far_a a d i) due-a in
-      let client : ClientMoves a d j i x.client i (x.client ++ map Answer x.d.inbox) = client-takes-all a d j i x.client i x.client x.d.inbox client_rests on_d in
-      let manager : ManagerMoves a d i j x.manager j (x.manager ++ map Ask x.a.inbox) = manager-takes-all a d i j x.manager j x.manager x.a.inbox manager_rests on_a in
       round i j (i + steps o) (j + steps p) x.client ((x.client ++ map Answer x.d.inbox) ++ map Ask asks)
       x.manager ((x.manager ++ map Ask x.a.inbox) ++ map Answer answers) run
-      (client-offers a d j i x.client i (x.client ++ map Answer x.d.inbox) (λ _. 0) (emptied x.a) o asks y client does_a)
-      (manager-offers a d i j x.manager j (x.manager ++ map Ask x.a.inbox) (λ b. manager_home (x.manager ++ map Ask x.a.inbox) b.head) (emptied x.d) p answers z manager does_d)
+      (client-offers a d j i x.client i (x.client ++ map Answer x.d.inbox) (λ _. 0) (emptied x.a) o asks y takes-client does_a)
+      (manager-offers a d i j x.manager j (x.manager ++ map Ask x.a.inbox) (λ b. manager_home (x.manager ++ map Ask x.a.inbox) b.head) (emptied x.d) p answers z takes-manager does_d)
 
   -- where nothing is under way and both channels stand still, the run has come to the settled state
   module _ (far_a : List (BeatOf HeadA M)) (far_d : List (BeatOf HeadD C)) (a_sent : IsSent rules_a a i far_a x.a) (d_sent : IsSent rules_d d j far_d x.d)

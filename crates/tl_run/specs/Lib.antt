@@ -1,4 +1,6 @@
 pub mod Arrivals
+pub mod Parts
 pub mod Scripts
+pub mod Streaming
 pub mod Names
 pub mod Inner

@@ -1,70 +1,97 @@
-//! A channel of a run in one thread goes on by itself, as long as its beats are accepted.
-ghost use Rattle.std.specs.Prelude.{◌≡◌, ◌<◌, ◌+◌, ◌^◌, ℕ, List};
+//! The channels of a run in one thread go on, one after another, as far as the beats that are held
+//! lead.
+ghost use Rattle.std.specs.Prelude.{◌≡◌, ◌≤◌, ◌<◌, ◌-◌, ◌+◌, ℕ, List, None, Option, length, slice_get};
+ghost use Rattle.tl_msg.specs.declared.fault.SideFault.{SideFault};
 ghost use Rattle.tl_settle.specs.Outcomes.{Beats};
 ghost use Rattle.tl_sides.specs.Bridges.{Past, StandsFor};
-ghost use Rattle.tl_run.specs.Scripts.{near_beats};
+ghost use Rattle.tl_run.specs.Parts.{AreBetween, AreEnd, IsBetween, IsEnd};
 ghost use Rattle.tl_run.specs.Inner.Widths.{AreWidths};
-ghost use Rattle.tl_run.specs.Inner.Running.{HaveRoomToCount, IsAt, steps};
-ghost use Rattle.tl_run.specs.Inner.Going.{GoesOn, HasGone, gone_none, gone_then, going_a, going_b, going_c, going_d, going_e};
+ghost use Rattle.tl_run.specs.Inner.Offering.{on_bridge_a, on_bridge_b, on_bridge_c, on_bridge_d, on_bridge_e};
+ghost use Rattle.tl_run.specs.Inner.Going.{AllRest, AreOn, HavePassed, Passes as PassesIn, RestsAt, Stays as StaysAs, StepsOn};
+ghost use Rattle.tl_run.specs.Inner.Going.{going_a, going_b, going_c, going_d, going_e, passes_none as none_passes, passes_then as one_passes_then, rests_none as none_rests, stays_same as same_stays};
 
 use crate::channel_state::Offered;
 use crate::offers::Offers;
-use tl_msg::{BeatOf, HeadA, HeadB, HeadC, HeadD, HeadE};
+use tl_msg::{BeatOf, HeadA, HeadB, HeadC, HeadD, HeadE, SideFault};
 use tl_sides::{PerChannel, SyncBridge};
-use tl_trace::Script;
+use tl_trace::{Counts, Script};
 
 /// What offers beats `B` on one of its channels, and moves into its ring at once what they give.
-trait GoesAhead<B> {
+trait GoesOn<B> {
     // whether it may offer
     ghost MayGo: { Type 0 };
 
-    // `new` is what `old` becomes where beats of a list were offered, of which `at` were accepted
-    // before and `later` after it
-    ghost Goes: { (beats : List B) → (at : ℕ) → (old : Self) → (later : ℕ) → (new : Self) →
-        Type 0 };
+    // `new` is what `old` becomes where beats were accepted of a list of which `gone` have gone and
+    // these are held: `at` of all before and `later` after it
+    ghost Passes: { (gone : ℕ) → (held : List B) → (at : ℕ) → (old : Self) → (later : ℕ) →
+        (new : Self) → Type 0 };
 
-    /// Offers the next beat of a list, of which `at` were accepted, and moves into the ring what is
-    /// staged. Where there is too little room, the ring's beats go on first.
-    fn go_on(&mut self, beats: &[B], at: usize) -> Offered
-        requires { MayGo }
-        ensures { Goes beats.now at self.old (at + steps result) self.new };
+    // `new` stands for all that `old` stood for
+    ghost Stays: { (old : Self) → (new : Self) → Type 0 };
 
-    ghost goes_none: { (beats : List B) (at : ℕ) (s : Self) → Goes beats at s at s };
+    // so many beats of a list were accepted, and this fault stops the next one, or there is none left,
+    // or none may be offered
+    ghost Rests: { List B → (at : ℕ) → Self → Option SideFault → Type 0 };
 
-    ghost goes_then: { (beats : List B) (j k l : ℕ) (s t u : Self) → Goes beats j s k t →
-        Goes beats k t l u → Goes beats j s l u };
+    /// Offers the next beat of a list of which `gone` have gone and these are held, and of which `at`
+    /// were accepted. Moves into the ring what it gives: where there is too little room, the ring's
+    /// beats go on first.
+    fn go_on(&mut self, held: &[B], gone: usize, at: usize) -> Offered
+        requires { MayGo × (gone ≤ at) × (at - gone < length held.now) }
+        ensures { StepsOn Passes Stays Rests gone held.now at self.old result self.new };
+
+    ghost passes_none: { (gone : ℕ) (held : List B) (at : ℕ) (s : Self) →
+        Passes gone held at s at s };
+
+    ghost passes_then: { (gone : ℕ) (held : List B) (i j l : ℕ) (s t u : Self) →
+        Passes gone held i s j t → Passes gone held j t l u → Passes gone held i s l u };
+
+    ghost stays_same: { (s : Self) → Stays s s };
+
+    ghost rests_none: { (beats : List B) (at : ℕ) (s : Self) → slice_get beats at ≡ None →
+        Rests beats at s None };
 }
 
-// Offers the beats of a list behind one that was offered, up to the first one that is not accepted,
-// and at most so many. Answers how many of the list were accepted then.
-fn go_ahead<B, S: GoesAhead<B>>(
+// Offers the beats that are held behind the first `at`, up to the first one that is not accepted:
+// counts them, and answers the fault that stopped that one, if one did.
+fn go_ahead<B, S: GoesOn<B>>(
     side: &mut S,
-    beats: &[B],
-    at: usize,
-    first: Offered,
-    most: usize,
-) -> usize
-    requires { S.MayGo × (at < 2 ^ 41) × (most < 2 ^ 41) }
-    ensures { S.Goes beats.now at side.old result side.new }
+    held: &[B],
+    gone: usize,
+    at: &mut usize,
+) -> Option<SideFault>
+    requires { S.MayGo × IsBetween gone at.old (length held.now) }
+    ensures within { IsBetween gone at.new (length held.now) }
+    ensures on { at.old ≤ at.new }
+    ensures passes { S.Passes gone held.now at.old side.old at.new side.new }
+    ensures stays { at.new ≡ at.old → S.Stays side.old side.new }
+    ensures rests { at.new ≡ at.old → (near : List B) → IsEnd gone held.now near →
+        S.Rests near at.old side.old result }
 {
-    let mut later = at;
-    let mut offered = first;
-    let mut left = most;
-    'beats: while left > 0 && offered.is_accepted() {
-        offered = side.go_on(beats, later);
-        later += offered.steps();
-        left -= 1;
+    'beats: while *at - gone < held.len() {
+        let offered = side.go_on(held, gone, *at);
+        if !offered.is_accepted() {
+            return offered.refused_by();
+        }
+        *at += 1;
     }
-    later
+    None
 }
 
-impl<const C: usize, const M: usize> GoesAhead<BeatOf<HeadA, C>> for SyncBridge<C, M> {
+impl<const C: usize, const M: usize> GoesOn<BeatOf<HeadA, C>> for SyncBridge<C, M> {
     ghost MayGo = { AreWidths C M };
 
-    ghost Goes = { GoesOn going_a };
+    ghost Passes = { PassesIn going_a };
 
-    fn go_on(&mut self, beats: &[BeatOf<HeadA, C>], at: usize) -> Offered {
-        let offered = self.offer_next(beats, at);
+    ghost Stays = { StaysAs };
+
+    ghost Rests = { RestsAt on_bridge_a };
+
+    fn go_on(&mut self, held: &[BeatOf<HeadA, C>], gone: usize, at: usize) -> Offered {
+        let offered = self.offer_next(held, at - gone);
+        if !offered.is_accepted() {
+            return offered;
+        }
         self.pump_a();
         if self.ready_a() {
             return offered;
@@ -74,18 +101,29 @@ impl<const C: usize, const M: usize> GoesAhead<BeatOf<HeadA, C>> for SyncBridge<
         offered
     }
 
-    ghost goes_none = { gone_none going_a };
+    ghost passes_none = { none_passes going_a };
 
-    ghost goes_then = { gone_then going_a };
+    ghost passes_then = { one_passes_then going_a };
+
+    ghost stays_same = { same_stays };
+
+    ghost rests_none = { none_rests on_bridge_a };
 }
 
-impl<const C: usize, const M: usize> GoesAhead<BeatOf<HeadB, M>> for SyncBridge<C, M> {
+impl<const C: usize, const M: usize> GoesOn<BeatOf<HeadB, M>> for SyncBridge<C, M> {
     ghost MayGo = { AreWidths C M };
 
-    ghost Goes = { GoesOn going_b };
+    ghost Passes = { PassesIn going_b };
 
-    fn go_on(&mut self, beats: &[BeatOf<HeadB, M>], at: usize) -> Offered {
-        let offered = self.offer_next(beats, at);
+    ghost Stays = { StaysAs };
+
+    ghost Rests = { RestsAt on_bridge_b };
+
+    fn go_on(&mut self, held: &[BeatOf<HeadB, M>], gone: usize, at: usize) -> Offered {
+        let offered = self.offer_next(held, at - gone);
+        if !offered.is_accepted() {
+            return offered;
+        }
         self.pump_b();
         if self.ready_b() {
             return offered;
@@ -95,18 +133,29 @@ impl<const C: usize, const M: usize> GoesAhead<BeatOf<HeadB, M>> for SyncBridge<
         offered
     }
 
-    ghost goes_none = { gone_none going_b };
+    ghost passes_none = { none_passes going_b };
 
-    ghost goes_then = { gone_then going_b };
+    ghost passes_then = { one_passes_then going_b };
+
+    ghost stays_same = { same_stays };
+
+    ghost rests_none = { none_rests on_bridge_b };
 }
 
-impl<const C: usize, const M: usize> GoesAhead<BeatOf<HeadC, C>> for SyncBridge<C, M> {
+impl<const C: usize, const M: usize> GoesOn<BeatOf<HeadC, C>> for SyncBridge<C, M> {
     ghost MayGo = { AreWidths C M };
 
-    ghost Goes = { GoesOn going_c };
+    ghost Passes = { PassesIn going_c };
 
-    fn go_on(&mut self, beats: &[BeatOf<HeadC, C>], at: usize) -> Offered {
-        let offered = self.offer_next(beats, at);
+    ghost Stays = { StaysAs };
+
+    ghost Rests = { RestsAt on_bridge_c };
+
+    fn go_on(&mut self, held: &[BeatOf<HeadC, C>], gone: usize, at: usize) -> Offered {
+        let offered = self.offer_next(held, at - gone);
+        if !offered.is_accepted() {
+            return offered;
+        }
         self.pump_c();
         if self.ready_c() {
             return offered;
@@ -116,18 +165,29 @@ impl<const C: usize, const M: usize> GoesAhead<BeatOf<HeadC, C>> for SyncBridge<
         offered
     }
 
-    ghost goes_none = { gone_none going_c };
+    ghost passes_none = { none_passes going_c };
 
-    ghost goes_then = { gone_then going_c };
+    ghost passes_then = { one_passes_then going_c };
+
+    ghost stays_same = { same_stays };
+
+    ghost rests_none = { none_rests on_bridge_c };
 }
 
-impl<const C: usize, const M: usize> GoesAhead<BeatOf<HeadD, M>> for SyncBridge<C, M> {
+impl<const C: usize, const M: usize> GoesOn<BeatOf<HeadD, M>> for SyncBridge<C, M> {
     ghost MayGo = { AreWidths C M };
 
-    ghost Goes = { GoesOn going_d };
+    ghost Passes = { PassesIn going_d };
 
-    fn go_on(&mut self, beats: &[BeatOf<HeadD, M>], at: usize) -> Offered {
-        let offered = self.offer_next(beats, at);
+    ghost Stays = { StaysAs };
+
+    ghost Rests = { RestsAt on_bridge_d };
+
+    fn go_on(&mut self, held: &[BeatOf<HeadD, M>], gone: usize, at: usize) -> Offered {
+        let offered = self.offer_next(held, at - gone);
+        if !offered.is_accepted() {
+            return offered;
+        }
         self.pump_d();
         if self.ready_d() {
             return offered;
@@ -137,18 +197,29 @@ impl<const C: usize, const M: usize> GoesAhead<BeatOf<HeadD, M>> for SyncBridge<
         offered
     }
 
-    ghost goes_none = { gone_none going_d };
+    ghost passes_none = { none_passes going_d };
 
-    ghost goes_then = { gone_then going_d };
+    ghost passes_then = { one_passes_then going_d };
+
+    ghost stays_same = { same_stays };
+
+    ghost rests_none = { none_rests on_bridge_d };
 }
 
-impl<const C: usize, const M: usize> GoesAhead<BeatOf<HeadE, C>> for SyncBridge<C, M> {
+impl<const C: usize, const M: usize> GoesOn<BeatOf<HeadE, C>> for SyncBridge<C, M> {
     ghost MayGo = { AreWidths C M };
 
-    ghost Goes = { GoesOn going_e };
+    ghost Passes = { PassesIn going_e };
 
-    fn go_on(&mut self, beats: &[BeatOf<HeadE, C>], at: usize) -> Offered {
-        let offered = self.offer_next(beats, at);
+    ghost Stays = { StaysAs };
+
+    ghost Rests = { RestsAt on_bridge_e };
+
+    fn go_on(&mut self, held: &[BeatOf<HeadE, C>], gone: usize, at: usize) -> Offered {
+        let offered = self.offer_next(held, at - gone);
+        if !offered.is_accepted() {
+            return offered;
+        }
         self.pump_e();
         if self.ready_e() {
             return offered;
@@ -158,33 +229,37 @@ impl<const C: usize, const M: usize> GoesAhead<BeatOf<HeadE, C>> for SyncBridge<
         offered
     }
 
-    ghost goes_none = { gone_none going_e };
+    ghost passes_none = { none_passes going_e };
 
-    ghost goes_then = { gone_then going_e };
+    ghost passes_then = { one_passes_then going_e };
+
+    ghost stays_same = { same_stays };
+
+    ghost rests_none = { none_rests on_bridge_e };
 }
 
-// Each channel whose beat was accepted goes on by itself, by at most so many beats, and then what
-// stands in the rings moves on, as far as there is room. `at` counts what is accepted.
+// Each channel goes on by itself as far as the beats that are held lead: counts what was accepted, and
+// answers the fault that stops each, if one does.
 pub(crate) fn all_go_ahead<const C: usize, const M: usize>(
     bridge: &mut SyncBridge<C, M>,
-    script: &Script<C, M>,
-    offers: &PerChannel<Offered>,
+    held: &Script<C, M>,
+    gone: &Counts,
     at: &mut PerChannel<usize>,
-    most: usize,
-)
-    requires { AreWidths C M × HaveRoomToCount at.old × (most < 2 ^ 41) }
-    ensures { (far : Beats M C) (x : Past C M) → StandsFor bridge.old x →
-        IsAt (near_beats script.now) at.old far x →
-        HasGone (near_beats script.now) at.old far x at.new bridge.new }
+) -> PerChannel<Option<SideFault>>
+    requires { AreWidths C M × AreBetween gone.now at.old held.now }
+    ensures within { AreBetween gone.now at.new held.now }
+    ensures on { AreOn at.old at.new }
+    ensures passes { (x : Past C M) → StandsFor bridge.old x →
+        HavePassed gone.now held.now at.old x at.new bridge.new }
+    ensures stays { at.new ≡ at.old → (x : Past C M) → StandsFor bridge.old x →
+        StandsFor bridge.new x }
+    ensures rests { at.new ≡ at.old → (x : Past C M) → StandsFor bridge.old x →
+        (near : Beats C M) → AreEnd gone.now held.now near → AllRest near at.old x result }
 {
-    // where no channel goes on there is nothing to fetch that the round did not fetch
-    if most == 0 {
-        return;
-    }
-    at.a = go_ahead(bridge, &script.a, at.a, offers.a, most);
-    at.c = go_ahead(bridge, &script.c, at.c, offers.c, most);
-    at.e = go_ahead(bridge, &script.e, at.e, offers.e, most);
-    at.b = go_ahead(bridge, &script.b, at.b, offers.b, most);
-    at.d = go_ahead(bridge, &script.d, at.d, offers.d, most);
-    bridge.fetch();
+    let b = go_ahead(bridge, &held.b, gone.b, &mut at.b);
+    let c = go_ahead(bridge, &held.c, gone.c, &mut at.c);
+    let e = go_ahead(bridge, &held.e, gone.e, &mut at.e);
+    let a = go_ahead(bridge, &held.a, gone.a, &mut at.a);
+    let d = go_ahead(bridge, &held.d, gone.d, &mut at.d);
+    PerChannel { a, b, c, d, e }
 }

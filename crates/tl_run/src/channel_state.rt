@@ -2,6 +2,7 @@
 ghost use Rattle.std.specs.Prelude.{◌≡◌, ◌≢◌, ◌↔◌, IsTrue, IfSome, IsNone};
 ghost use Rattle.tl_sides.specs.declared.per_channel.PerChannel.{PerChannel};
 ghost use Rattle.tl_run.specs.Inner.Offering.{close_outcome, offer_outcome};
+ghost use Rattle.tl_run.specs.Inner.Going.{refused_by};
 ghost use Rattle.tl_run.specs.Inner.Running.{AreStopped, HaveRoomToCount, all_stopped, counted, steps};
 
 use tl_msg::SideFault;
@@ -59,6 +60,16 @@ impl Offered {
         match self {
             Offered::Accepted => true,
             Offered::NotReady | Offered::Stopped(_) => false,
+        }
+    }
+
+    // The fault for which the beat is refused, if it is.
+    pub(crate) fn refused_by(&self) -> Option<SideFault>
+        ensures { result ≡ refused_by self.now }
+    {
+        match self {
+            Offered::Stopped(Stop::Refused(fault)) => Some(*fault),
+            Offered::Stopped(_) | Offered::Accepted | Offered::NotReady => None,
         }
     }
 

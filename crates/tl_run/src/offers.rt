@@ -3,30 +3,28 @@ ghost use Rattle.std.specs.Prelude.{ℕ, List};
 ghost use Rattle.tl_run.specs.declared.channel_state.Offered.{Offered};
 ghost use Rattle.tl_run.specs.Inner.Widths.{AreWidths};
 ghost use Rattle.tl_run.specs.Inner.Offering.{OffersNext, on_bridge_a, on_bridge_b, on_bridge_c, on_bridge_d, on_bridge_e};
+ghost use Rattle.tl_run.specs.Inner.Offering.{on_side_a, on_side_b, on_side_c, on_side_d, on_side_e};
 
 use crate::channel_state::Offered;
 use tl_msg::{BeatOf, HeadA, HeadB, HeadC, HeadD, HeadE};
-use tl_sides::SyncBridge;
+use tl_sides::{ClientSide, ManagerSide, SyncBridge};
 
-/// What becomes of the next beat of a list, of which `$at` were accepted: where no beat is left, the
-/// function that it is called in answers at once what comes of the channel's close, and where the
-/// channel is not ready, `NotReady`; else it is what comes of the beat's offer (this project's choice).
+// What becomes of the next beat of a list, of which `$at` were accepted, by the calls of its channel.
 // (No generic function, since its callers would owe the sizes of each thing that offers.)
-#[macro_export]
 macro_rules! next_offer {
-    ($beats:ident, $at:ident, $close:expr, $ready:expr, |$beat:ident| $offer:expr) => {{
-        let Some($beat) = $beats.get($at) else {
-            return $crate::Offered::from_close($close);
+    ($side:ident, $beats:ident, $at:ident, $ready:ident, $offer:ident, $close:ident) => {{
+        let Some(beat) = $beats.get($at) else {
+            return Offered::from_close($side.$close());
         };
-        if !$ready {
-            return $crate::Offered::NotReady;
+        if !$side.$ready() {
+            return Offered::NotReady;
         }
-        $crate::Offered::from_offer($offer)
+        Offered::from_offer($side.$offer(*beat))
     }};
 }
 
-/// What offers beats `B` on one of its channels, one after another.
-pub(crate) trait Offers<B> {
+/// What offers beats `B` on one of its channels, one after another: a bridge in one thread, or a side in its own.
+pub trait Offers<B> {
     // whether it may offer
     ghost CanOffer: { Type 0 };
 
@@ -35,7 +33,7 @@ pub(crate) trait Offers<B> {
     ghost Becomes: { (beats : List B) → (at : ℕ) → (old : Self) → Offered → (new : Self) → Type 0 };
 
     /// Offers the next beat of a list, of which `at` were accepted, where the channel is ready. Where
-    /// no beat is left, closes the channel.
+    /// no beat is left, closes the channel (this project's choice).
     fn offer_next(&mut self, beats: &[B], at: usize) -> Offered
         requires { CanOffer }
         ensures { Becomes beats.now at self.old result self.new };
@@ -47,13 +45,7 @@ impl<const C: usize, const M: usize> Offers<BeatOf<HeadA, C>> for SyncBridge<C, 
     ghost Becomes = { OffersNext on_bridge_a };
 
     fn offer_next(&mut self, beats: &[BeatOf<HeadA, C>], at: usize) -> Offered {
-        next_offer!(
-            beats,
-            at,
-            self.close_a(),
-            self.ready_a(),
-            |beat| self.offer_a(*beat)
-        )
+        next_offer!(self, beats, at, ready_a, offer_a, close_a)
     }
 }
 
@@ -63,13 +55,7 @@ impl<const C: usize, const M: usize> Offers<BeatOf<HeadB, M>> for SyncBridge<C, 
     ghost Becomes = { OffersNext on_bridge_b };
 
     fn offer_next(&mut self, beats: &[BeatOf<HeadB, M>], at: usize) -> Offered {
-        next_offer!(
-            beats,
-            at,
-            self.close_b(),
-            self.ready_b(),
-            |beat| self.offer_b(*beat)
-        )
+        next_offer!(self, beats, at, ready_b, offer_b, close_b)
     }
 }
 
@@ -79,13 +65,7 @@ impl<const C: usize, const M: usize> Offers<BeatOf<HeadC, C>> for SyncBridge<C, 
     ghost Becomes = { OffersNext on_bridge_c };
 
     fn offer_next(&mut self, beats: &[BeatOf<HeadC, C>], at: usize) -> Offered {
-        next_offer!(
-            beats,
-            at,
-            self.close_c(),
-            self.ready_c(),
-            |beat| self.offer_c(*beat)
-        )
+        next_offer!(self, beats, at, ready_c, offer_c, close_c)
     }
 }
 
@@ -95,13 +75,7 @@ impl<const C: usize, const M: usize> Offers<BeatOf<HeadD, M>> for SyncBridge<C, 
     ghost Becomes = { OffersNext on_bridge_d };
 
     fn offer_next(&mut self, beats: &[BeatOf<HeadD, M>], at: usize) -> Offered {
-        next_offer!(
-            beats,
-            at,
-            self.close_d(),
-            self.ready_d(),
-            |beat| self.offer_d(*beat)
-        )
+        next_offer!(self, beats, at, ready_d, offer_d, close_d)
     }
 }
 
@@ -111,12 +85,56 @@ impl<const C: usize, const M: usize> Offers<BeatOf<HeadE, C>> for SyncBridge<C, 
     ghost Becomes = { OffersNext on_bridge_e };
 
     fn offer_next(&mut self, beats: &[BeatOf<HeadE, C>], at: usize) -> Offered {
-        next_offer!(
-            beats,
-            at,
-            self.close_e(),
-            self.ready_e(),
-            |beat| self.offer_e(*beat)
-        )
+        next_offer!(self, beats, at, ready_e, offer_e, close_e)
+    }
+}
+
+impl<const C: usize, const M: usize> Offers<BeatOf<HeadA, C>> for ClientSide<C, M> {
+    ghost CanOffer = { AreWidths C M };
+
+    ghost Becomes = { OffersNext on_side_a };
+
+    fn offer_next(&mut self, beats: &[BeatOf<HeadA, C>], at: usize) -> Offered {
+        next_offer!(self, beats, at, ready_a, offer_a, close_a)
+    }
+}
+
+impl<const C: usize, const M: usize> Offers<BeatOf<HeadC, C>> for ClientSide<C, M> {
+    ghost CanOffer = { AreWidths C M };
+
+    ghost Becomes = { OffersNext on_side_c };
+
+    fn offer_next(&mut self, beats: &[BeatOf<HeadC, C>], at: usize) -> Offered {
+        next_offer!(self, beats, at, ready_c, offer_c, close_c)
+    }
+}
+
+impl<const C: usize, const M: usize> Offers<BeatOf<HeadE, C>> for ClientSide<C, M> {
+    ghost CanOffer = { AreWidths C M };
+
+    ghost Becomes = { OffersNext on_side_e };
+
+    fn offer_next(&mut self, beats: &[BeatOf<HeadE, C>], at: usize) -> Offered {
+        next_offer!(self, beats, at, ready_e, offer_e, close_e)
+    }
+}
+
+impl<const C: usize, const M: usize> Offers<BeatOf<HeadB, M>> for ManagerSide<C, M> {
+    ghost CanOffer = { AreWidths C M };
+
+    ghost Becomes = { OffersNext on_side_b };
+
+    fn offer_next(&mut self, beats: &[BeatOf<HeadB, M>], at: usize) -> Offered {
+        next_offer!(self, beats, at, ready_b, offer_b, close_b)
+    }
+}
+
+impl<const C: usize, const M: usize> Offers<BeatOf<HeadD, M>> for ManagerSide<C, M> {
+    ghost CanOffer = { AreWidths C M };
+
+    ghost Becomes = { OffersNext on_side_d };
+
+    fn offer_next(&mut self, beats: &[BeatOf<HeadD, M>], at: usize) -> Offered {
+        next_offer!(self, beats, at, ready_d, offer_d, close_d)
     }
 }

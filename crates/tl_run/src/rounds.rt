@@ -1,7 +1,7 @@
 //! The rounds of a run in one thread, and how each channel ends.
-ghost use Rattle.std.specs.Prelude.{◌≡◌, ◌<◌, ◌^◌, ◌↔◌, ℕ, IsTrue, IfSome, IsNone, IsOk, IfOk, IfErr, OnOk};
+ghost use Rattle.std.specs.Prelude.{◌≡◌, ◌↔◌, ℕ, IsTrue, IfSome, IsNone, IsOk, IfOk, IfErr, OnOk};
 ghost use Rattle.tl_lanes.specs.Lanes.{IsWidth};
-ghost use Rattle.tl_settle.specs.Outcomes.{Beats, far_beats};
+ghost use Rattle.tl_settle.specs.Outcomes.{Beats, far_beats, verdicts};
 ghost use Rattle.tl_sides.specs.Bridges.{Bridge, Past, StandsFor};
 ghost use Rattle.tl_run.specs.declared.outcome.RunFault.TheVariants.{OutOfMemory};
 ghost use Rattle.tl_run.specs.Arrivals.{joined, no_beats};
@@ -11,13 +11,13 @@ ghost use Rattle.tl_run.specs.Inner.Arriving.{HaveRoom, beats_of};
 ghost use Rattle.tl_sides.specs.declared.per_channel.PerChannel.{PerChannel as PerChannelOf};
 ghost use Rattle.tl_run.specs.Inner.Running.{IsAt, arriving, lengths, IsRunning, IsNew, HasRound, HasEnded, AreStopped, HasOffered, HaveRoomToCount, counted, standing_count, all_standing, all_under_way, all_stopped};
 
-use crate::ahead::all_go_ahead;
 use crate::channel_state::{Offered, Stop, add_accepted, all_stops};
 use crate::far_sink::FarSink;
 use crate::offers::Offers;
 use crate::outcome::{Ending, Outcome, RunFault, verdict};
 use crate::taken::{Taken, take_from_each};
 use std::alloc::AllocError;
+use tl_msg::Verdict;
 use tl_ring::Standing;
 use tl_sides::{PerChannel, Standings, SyncBridge};
 use tl_trace::Script;
@@ -126,6 +126,25 @@ fn stops_at_rest<const C: usize, const M: usize>(
     Some(stops)
 }
 
+// The verdicts of a run that has ended there, where so many far beats of each channel were taken.
+pub(crate) fn verdicts_at(
+    at: &PerChannel<usize>,
+    stops: &PerChannel<Stop>,
+    taken: &PerChannel<usize>,
+) -> [Verdict; 5]
+    ensures { (C M : ℕ) (near : Beats C M) (far : Beats M C) (s : Bridge C M) (rounds : ℕ) →
+        IsWidth C → IsWidth M → taken.now ≡ lengths far →
+        HasEnded near at.now far s stops.now rounds → result ≡ verdicts near }
+{
+    [
+        verdict(&stops.a, at.a, taken.a),
+        verdict(&stops.b, at.b, taken.b),
+        verdict(&stops.c, at.c, taken.c),
+        verdict(&stops.d, at.d, taken.d),
+        verdict(&stops.e, at.e, taken.e),
+    ]
+}
+
 // How a run ends that has ended there, where so many far beats of each channel were taken.
 fn ending_of(
     at: &PerChannel<usize>,
@@ -137,25 +156,20 @@ fn ending_of(
         IsWidth C → IsWidth M → taken.now ≡ lengths far →
         HasEnded near at.now far s stops.now rounds → HasEnding near result }
 {
-    let verdicts = [
-        verdict(&stops.a, at.a, taken.a),
-        verdict(&stops.b, at.b, taken.b),
-        verdict(&stops.c, at.c, taken.c),
-        verdict(&stops.d, at.d, taken.d),
-        verdict(&stops.e, at.e, taken.e),
-    ];
-    Ending { verdicts, rounds }
+    Ending {
+        verdicts: verdicts_at(at, stops, taken),
+        rounds,
+    }
 }
 
 // Rounds, up to the first one in which no channel could offer more, and after which nothing is
-// under way. After each one a channel whose beat was accepted goes on, by at most so many beats.
+// under way.
 pub(crate) fn run_rounds<F: FarSink<C, M>, const C: usize, const M: usize>(
     bridge: &mut SyncBridge<C, M>,
     script: &Script<C, M>,
     far: &mut F,
-    most: usize,
 ) -> Result<Ending, RunFault>
-    requires { AreWidths C M × HasShortLists script.now × (most < 2 ^ 41) × IsNew bridge.old ×
+    requires { AreWidths C M × HasShortLists script.now × IsNew bridge.old ×
         F.Holds far.old no_beats }
     ensures ending { IfOk result (HasEnding (near_beats script.now)) }
     ensures far { OnOk result (F.Holds far.new (far_beats (near_beats script.now))) }
@@ -179,7 +193,6 @@ pub(crate) fn run_rounds<F: FarSink<C, M>, const C: usize, const M: usize>(
         if let Some(stops) = stops_at_rest(bridge, &offers) {
             return Ok(ending_of(&at, &stops, rounds, &taken));
         }
-        all_go_ahead(bridge, script, &offers, &mut at, most);
     }
 }
 

@@ -1,5 +1,5 @@
 //! The run of a whole script in one thread.
-ghost use Rattle.std.specs.Prelude.{◌≡◌, ◌≢◌, ◌≤◌, ◌<◌, ◌^◌, ◌⊎◌, ◌↔◌, IsOk, IfOk, IfErr, OnOk};
+ghost use Rattle.std.specs.Prelude.{◌≡◌, ◌≢◌, ◌≤◌, ◌<◌, ◌⊎◌, ◌↔◌, IsOk, IfOk, IfErr, OnOk};
 ghost use Rattle.tl_ring.specs.declared.pipe.TheConstants.{MAX_RING};
 ghost use Rattle.tl_lanes.specs.Lanes.{IsWidth};
 ghost use Rattle.tl_run.specs.declared.outcome.RunFault.TheVariants.{RingSize, OutOfMemory, Stalled};
@@ -9,7 +9,6 @@ ghost use Rattle.tl_run.specs.Scripts.{HasEnding, HasShortLists, SettlesTo, near
 ghost use Rattle.tl_run.specs.Inner.Arriving.{HasRoomFor, beats_of};
 ghost use Rattle.tl_run.specs.Inner.Widths.{AreWidths};
 
-use crate::far_sink::FarSink;
 use crate::outcome::{Ending, Outcome, RunFault};
 use crate::rounds::run_rounds;
 use crate::taken::Taken;
@@ -17,10 +16,6 @@ use std::alloc::Global;
 use tl_ring::MAX_RING;
 use tl_sides::SyncBridge;
 use tl_trace::Script;
-
-/// The most beats by which a channel goes on after a round of [`run_sync_into`]: with the one of the
-/// round half of what an inbox holds.
-const MOST_AHEAD: usize = 63;
 
 /// Runs a script over a bridge in one thread, to its end: the far beats and the verdicts are those
 /// that the script settles to.
@@ -63,62 +58,6 @@ pub fn run_sync<const C: usize, const M: usize>(
     }
 }
 
-/// The same run as [`run_sync`] in fewer rounds, whose far beats go to `far` as they are taken, from
-/// each round to the next: where it ends, `far` has those that the script settles to.
-///
-/// After each round, each channel whose beat was accepted goes on by itself: it offers the beats
-/// behind it, at most 63, as long as they are accepted, and what they give goes into its ring, and
-/// where that has no room, the ring's beats into the inbox. At last all rings go on to the inboxes.
-///
-/// Refused as [`run_sync`] is, but that `far` may ask for memory in each round: where it is refused
-/// some, the run ends in that round with `OutOfMemory`.
-pub fn run_sync_into<F: FarSink<C, M>, const C: usize, const M: usize>(
-    alloc: Global,
-    script: &Script<C, M>,
-    ring: usize,
-    far: &mut F,
-) -> Result<Ending, RunFault>
-    requires client { IsWidth C }
-    requires manager { IsWidth M }
-    requires short { HasShortLists script.now }
-    requires empty { F.Holds far.old no_beats }
-    ensures ending { IfOk result (HasEnding (near_beats script.now)) }
-    ensures far { OnOk result (F.Holds far.new (far_beats (near_beats script.now))) }
-    ensures same { OnOk result (F.made_with far.new ≡ F.made_with far.old) }
-    ensures size { IsOk result → (1 ≤ ring) × (ring ≤ MAX_RING) }
-    ensures ring_size { IfErr result (λ fault. (fault ≡ RingSize) ↔
-        ((ring ≡ 0) ⊎ (MAX_RING < ring))) }
-    ensures never_stalled { IfErr result (λ fault. fault ≢ Stalled) }
-{
-    run_over(alloc, script, ring, far, MOST_AHEAD)
-}
-
-// A run over a new bridge, in which a channel goes on by at most so many beats after each round. (The
-// rounds get the bridge lent, so that one way out alone drops it.)
-fn run_over<F: FarSink<C, M>, const C: usize, const M: usize>(
-    alloc: Global,
-    script: &Script<C, M>,
-    ring: usize,
-    far: &mut F,
-    most: usize,
-) -> Result<Ending, RunFault>
-    requires { AreWidths C M × HasShortLists script.now × (most < 2 ^ 41) ×
-        F.Holds far.old no_beats }
-    ensures ending { IfOk result (HasEnding (near_beats script.now)) }
-    ensures far { OnOk result (F.Holds far.new (far_beats (near_beats script.now))) }
-    ensures same { OnOk result (F.made_with far.new ≡ F.made_with far.old) }
-    ensures size { IsOk result → (1 ≤ ring) × (ring ≤ MAX_RING) }
-    ensures ring_size { IfErr result (λ fault. (fault ≡ RingSize) ↔
-        ((ring ≡ 0) ⊎ (MAX_RING < ring))) }
-    ensures never_stalled { IfErr result (λ fault. fault ≢ Stalled) }
-{
-    let mut bridge = match SyncBridge::new(alloc, ring) {
-        Ok(bridge) => bridge,
-        Err(fault) => return Err(RunFault::from(fault)),
-    };
-    run_rounds(&mut bridge, script, far, most)
-}
-
 // A run over a new bridge, whose far beats go into lists that have room for all of them: its rounds ask
 // for no memory. (The rounds get the bridge lent, so that one way out alone drops it.)
 fn run_into_lists<const C: usize, const M: usize>(
@@ -140,7 +79,7 @@ fn run_into_lists<const C: usize, const M: usize>(
         Ok(bridge) => bridge,
         Err(fault) => return Err(RunFault::from(fault)),
     };
-    match run_rounds(&mut bridge, script, far, 0) {
+    match run_rounds(&mut bridge, script, far) {
         Ok(ending) => Ok(ending),
         // the lists have room for all that comes
         Err(_) => unreachable!(),

@@ -160,16 +160,16 @@ impl<const C: usize, const M: usize> FarSink<C, M> for Taken<C, M> {
     }
 }
 
-// So many beats of each channel are counted.
+// So many beats of each channel are counted. (A count stops at the largest number, which no run comes
+// to: that need not be known here.)
 fn add_counts(counts: &mut PerChannel<usize>, more: &PerChannel<usize>)
-    requires { CanAdd counts.old more.now }
-    ensures { counts.new ≡ added counts.old more.now }
+    ensures { CanAdd counts.old more.now → counts.new ≡ added counts.old more.now }
 {
-    counts.a += more.a;
-    counts.b += more.b;
-    counts.c += more.c;
-    counts.d += more.d;
-    counts.e += more.e;
+    counts.a = counts.a.saturating_add(more.a);
+    counts.b = counts.b.saturating_add(more.b);
+    counts.c = counts.c.saturating_add(more.c);
+    counts.d = counts.d.saturating_add(more.d);
+    counts.e = counts.e.saturating_add(more.e);
 }
 
 // Each side takes all that stands in its inboxes, which goes to `far`. `taken` counts it. (A refusal
@@ -179,7 +179,7 @@ pub(crate) fn take_from_each<F: FarSink<C, M>, const C: usize, const M: usize>(
     far: &mut F,
     taken: &mut PerChannel<usize>,
 ) -> Result<(), AllocError>
-    requires { AreWidths C M × CanAdd taken.old (lengths (inboxes bridge.old)) }
+    requires { AreWidths C M }
     ensures taken { (x : Past C M) → StandsFor bridge.old x →
         OnOk result (StandsFor bridge.new (after_take_all x)) }
     ensures far { (all : Beats M C) → F.Holds far.old all →
@@ -188,7 +188,8 @@ pub(crate) fn take_from_each<F: FarSink<C, M>, const C: usize, const M: usize>(
         F.HasRoom far.old room → Fit (joined all (inboxes bridge.old)) room →
         IsOk result × F.HasRoom far.new room }
     ensures same { OnOk result (F.made_with far.new ≡ F.made_with far.old) }
-    ensures counted { OnOk result (taken.new ≡ added taken.old (lengths (inboxes bridge.old))) }
+    ensures counted { CanAdd taken.old (lengths (inboxes bridge.old)) →
+        OnOk result (taken.new ≡ added taken.old (lengths (inboxes bridge.old))) }
 {
     let a = bridge.inbox_a();
     let b = bridge.inbox_b();

@@ -4,18 +4,7 @@ use Rattle.std.specs.Prelude.{◌==◌, ◌↔◌}
 use Rattle.std.proofs.lemmas.Bool.{false≢true}
 use Rattle.std.proofs.lemmas.Option.{none-some}
 use Rattle.std.specs.Option.{option_map_or, is_some}
-use Rattle.tl_msg.specs.Tables.{rules_a, rules_d}
-use Rattle.tl_msg.specs.declared.head.HeadA.{HeadA}
-use Rattle.tl_msg.specs.declared.head.HeadD.{HeadD}
-use Rattle.tl_msg.specs.declared.beat.BeatOf.{BeatOf}
-use Rattle.tl_msg.specs.declared.fault.BeatFault.{BeatFault}
-use Rattle.tl_msg.specs.declared.fault.SideFault.{SideFault}
-use Rattle.tl_msg.specs.declared.fault.SideFault.TheVariants.{Beat, SourceBusy}
-use Rattle.tl_burst.specs.Begun.{left}
-use Rattle.tl_burst.specs.Handing.{fault_after}
-use Rattle.tl_burst.specs.declared.place.Place.{Place}
-use Rattle.tl_settle.specs.Requests.{is_release_ack}
-use Rattle.tl_settle.specs.Histories.{Event, Mark, asked, answered, marks, open_request, to_request, home_after, client_answer, manager_answer}
+use Rattle.tl_sides.proofs.Words.{rules_a, rules_d, HeadA, HeadD, BeatOf, BeatFault, SideFault, Beat, SourceBusy, left, fault_after, Place, is_release_ack, Event, Mark, asked, answered, marks, open_request, to_request, home_after, client_answer, manager_answer}
 use Rattle.tl_sides.specs.declared.tables.Request.{Request}
 use Rattle.tl_sides.specs.Tables.{remembered_of}
 use Rattle.tl_sides.specs.Books.{IsNext}

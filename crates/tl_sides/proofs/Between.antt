@@ -1,14 +1,7 @@
 -- Whether the next beat opens a message.
 use Rattle.std.proofs.Common.{◌≡◌, ◌↔◌, ℕ, List, [], ◌∷◌, refl, sym, ◌∙◌, arith}
 use Rattle.std.specs.Prelude.{◌==◌}
-use Rattle.tl_msg.specs.Rules.{Rules}
-use Rattle.tl_msg.specs.declared.beat.BeatOf.{BeatOf}
-use Rattle.tl_burst.specs.Begun.{left}
-use Rattle.tl_burst.specs.Handing.{rest_of, burst_of}
-use Rattle.tl_burst.specs.Tracking.{count_in}
-use Rattle.tl_burst.specs.declared.place.Place.{Place}
-use Rattle.tl_burst.proofs.BegunMessages.{left-zero}
-use Rattle.tl_convert.proofs.Comparisons.{equal_true, not_equal}
+use Rattle.tl_sides.proofs.Words.{Rules, BeatOf, left, rest_of, burst_of, count_in, Place, left-zero, equal_true, not_equal}
 use Rattle.tl_sides.specs.Books.{IsNext}
 
 module _ {H K : Type 0} (r : Rules H) {w : ℕ} (bs : List (BeatOf H w)) (b : BeatOf H w) (place : Place K H) where

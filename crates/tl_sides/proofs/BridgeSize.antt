@@ -1,15 +1,15 @@
--- A bridge takes little memory, whatever its two widths are.
+-- A bridge, and each side of one, takes little memory, whatever the two widths are.
 use Rattle.std.proofs.Common.{◌≡◌, ◌<◌, ◌^◌, ℕ, true, refl}
 use Rattle.std.specs.Prelude.{nat_lt}
-use Rattle.tl_lanes.specs.Lanes.{IsWidth}
-use Rattle.tl_lanes.proofs.Widths.{at_widths, each_width}
-use Rattle.tl_convert.proofs.Comparisons.{true_less}
+use Rattle.tl_sides.proofs.Words.{IsWidth, at_widths, each_width, true_less}
 use denote.Param.{layout, param, number}
 use mir.Syntax.{Ty}
 use prog.Memory.{size}
 use Rattle.std.specs.contracts.alloc.Global as global
 use Rattle.std.specs.contracts.impls.GlobalAllocator.TheImpl as allocator
 use Rattle.tl_sides.specs.contracts.sync_bridge.SyncBridge.{the_row}
+use Rattle.tl_sides.specs.contracts.client_side.ClientSide as client
+use Rattle.tl_sides.specs.contracts.manager_side.ManagerSide as manager
 
 -- how a bridge lies in memory, and how many bytes it takes
 abbrev pub bridge_type : (C M : ℕ) → Ty
@@ -26,3 +26,16 @@ small_at_widths f passes C M c m =
 
 pub bridge_small : (C M : ℕ) → IsWidth C → IsWidth M → bridge_size C M < 2 ^ 63
 bridge_small = small_at_widths bridge_size refl
+
+-- and so does a side
+abbrev pub client_size : (C M : ℕ) → ℕ
+client_size C M = size (layout (client.the_row (param 0 (number C)) (param 1 (number M)) (param 2 global.the_row) allocator.ghosts))
+
+abbrev pub manager_size : (C M : ℕ) → ℕ
+manager_size C M = size (layout (manager.the_row (param 0 (number C)) (param 1 (number M)) (param 2 global.the_row) allocator.ghosts))
+
+pub client_small : (C M : ℕ) → IsWidth C → IsWidth M → client_size C M < 2 ^ 63
+client_small = small_at_widths client_size refl
+
+pub manager_small : (C M : ℕ) → IsWidth C → IsWidth M → manager_size C M < 2 ^ 63
+manager_small = small_at_widths manager_size refl

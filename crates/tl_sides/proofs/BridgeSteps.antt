@@ -1,33 +1,13 @@
 -- Each call of a bridge takes it to what it stands for after the same events.
 use Rattle.std.proofs.Common.{◌≡◌, ◌≤◌, ◌+◌, ◌*◌, ◌↔◌, ℕ, zero, suc, Bool, true, false, cond, None, Some, List, [], ◌∷◌, ◌++◌, map, length, take, drop, refl, sym, ap, subst, ◌∙◌, append-nil, append_assoc}
 use Rattle.std.specs.Prelude.{◌==◌, slice_get}
-use Rattle.tl_msg.specs.Rules.{Rules}
+use Rattle.tl_sides.proofs.Words.{Rules, mask_fits, is_clean, IsLawfulBeat, rules_a, rules_b, rules_c, rules_d, rules_e, Mask, Corrupt, first_none, HeadA, HeadB, HeadC, HeadD, HeadE, BeatOf, left, rest_of, with_home, due, World, offered, pushed, popped, ROOM, Pipe, Event, Ask, Answer, Mark, Asks, Answers, asked, answered, marks, home_after, homes_from, manager_home, manager_homes, equal_true, not_equal, from_ask, from_answer, marks_ask_first, marks_ask_inside, marks_answer_first, marks_answer_inside}
 use Rattle.tl_msg.specs.Firsts.{unless, ◌or_else◌}
-use Rattle.tl_msg.specs.Faults.{mask_fits, is_clean, IsLawfulBeat}
-use Rattle.tl_msg.specs.Tables.{rules_a, rules_b, rules_c, rules_d, rules_e}
-use Rattle.tl_msg.specs.declared.fault.BeatFault.TheVariants.{Mask, Corrupt}
-use Rattle.tl_msg.proofs.Firsts.{first_none}
-use Rattle.tl_msg.specs.declared.head.HeadA.{HeadA}
-use Rattle.tl_msg.specs.declared.head.HeadB.{HeadB}
-use Rattle.tl_msg.specs.declared.head.HeadC.{HeadC}
-use Rattle.tl_msg.specs.declared.head.HeadD.{HeadD}
-use Rattle.tl_msg.specs.declared.head.HeadE.{HeadE}
-use Rattle.tl_msg.specs.declared.beat.BeatOf.{BeatOf}
-use Rattle.tl_burst.specs.Begun.{left}
-use Rattle.tl_burst.specs.Handing.{rest_of, with_home}
-use Rattle.tl_convert.specs.Due.{due}
-use Rattle.tl_ring.specs.Crossing.{World, offered, pushed, popped}
-use Rattle.tl_ring.specs.declared.queue.TheConstants.{ROOM}
-use Rattle.tl_ring.specs.Pipe.{Pipe}
 use Rattle.tl_ring.specs.Pipe as piping
-use Rattle.tl_settle.specs.Histories.{Event, Ask, Answer, Mark, Asks, Answers, asked, answered, marks, home_after, homes_from, manager_home, manager_homes}
 use Rattle.tl_sides.specs.Books.{Client, Manager, KnowsClient, KnowsManager}
 use Rattle.tl_sides.specs.Inner.Noting.{begun_with}
 use Rattle.tl_sides.specs.Bridges.{Bridge, Past, StandsFor, pump_count, fetch_count, all_pumped, all_fetched, after_pump, after_fetch}
 use Rattle.tl_sides.proofs.Sums.{sum_most}
-use Rattle.tl_convert.proofs.Comparisons.{equal_true, not_equal}
-use Rattle.tl_settle.proofs.Homes.{from_ask, from_answer}
-use Rattle.tl_settle.proofs.Marks.{marks_ask_first, marks_ask_inside, marks_answer_first, marks_answer_inside}
 
 -- the messages of a history with one event more
 pub marks_ask : {w : ℕ} (es : List (Event w)) (b : BeatOf HeadA w) →

@@ -1,30 +1,17 @@
 -- The calls of a bridge are those of its sides' ports, and what moves between an outbox, a ring and an inbox.
-use Rattle.std.proofs.Common.{◌≡◌, ◌≤◌, ◌-◌, ◌++◌, ◌∷◌, [], ℕ, true, false, List, length, map, take, drop, min, refl, sym, subst, ap, ◌∙◌, arith}
-use Rattle.circular_buffer.specs.Buffer.{Buffer, buffer}
-use Rattle.tl_msg.specs.Rules.{Rules}
-use Rattle.tl_msg.specs.Laws.{partial_not_c, partial_not_d}
-use Rattle.tl_msg.specs.Tables.{rules_a, rules_b, rules_c, rules_d, rules_e}
-use Rattle.tl_msg.specs.declared.head.HeadA.{HeadA}
-use Rattle.tl_msg.specs.declared.head.HeadB.{HeadB}
-use Rattle.tl_msg.specs.declared.head.HeadC.{HeadC}
-use Rattle.tl_msg.specs.declared.head.HeadD.{HeadD}
-use Rattle.tl_msg.specs.declared.head.HeadE.{HeadE}
-use Rattle.tl_msg.specs.declared.beat.BeatOf.{BeatOf}
-use Rattle.tl_burst.specs.Handing.{homes_with, rest_of}
-use Rattle.tl_ring.specs.Boxes.{Outgoing, HasSent, IsOpen}
-use Rattle.tl_ring.specs.Crossing.{World, offered, pushed, popped, took, shut, inbox_room}
-use Rattle.tl_ring.specs.declared.queue.TheConstants.{ROOM}
-use Rattle.tl_ring.proofs.PipeSteps.{stands_new, stands_offered, stands_pushed, stands_popped, stands_took, stands_emptied, stands_shut}
-use Rattle.tl_settle.specs.Histories.{Event, Ask, Answer, asked, answered, manager_home, manager_homes}
-use Rattle.tl_settle.proofs.Marks.{asked_ask, asked_answer, answered_ask, answered_answer}
+use Rattle.std.proofs.Common.{◌≡◌, ◌≤◌, ◌-◌, ◌++◌, ◌∷◌, [], ℕ, true, List, Option, Result, length, map, take, drop, min, refl, sym, subst, ap, ◌∙◌, arith}
+use Rattle.tl_sides.proofs.Words.{Buffer, buffer, Rules, partial_not_c, partial_not_d, rules_a, rules_b, rules_c, rules_d, rules_e, HeadA, HeadB, HeadC, HeadD, HeadE, BeatOf, homes_with, Outgoing, HasSent, IsOpen, World, offered, pushed, popped, took, inbox_room, ROOM, stands_new, stands_offered, stands_pushed, stands_popped, stands_took, stands_emptied, stands_shut, Event, Ask, Answer, asked, answered, manager_home, manager_homes, asked_ask, asked_answer, answered_ask, answered_answer, SideFault, EndFault}
 use Rattle.tl_sides.specs.Books.{KnowsClient, KnowsManager}
-use Rattle.tl_sides.specs.Bridges.{Bridge, Past, StandsFor, nothing_yet, after_offer_a, after_offer_b, after_offer_c, after_offer_d, after_offer_e}
-use Rattle.tl_sides.specs.Bridges.{after_take_a, after_take_b, after_take_c, after_take_d, after_take_e, after_close_a, after_close_b, after_close_c, after_close_d, after_close_e}
+use Rattle.tl_sides.specs.Bridges.{Bridge, Past, StandsFor, nothing_yet}
+use Rattle.tl_sides.specs.Bridges.{bridge_sends_a, bridge_sends_b, bridge_sends_c, bridge_sends_d, bridge_sends_e, bridge_takes_a, bridge_takes_b, bridge_takes_c, bridge_takes_d, bridge_takes_e}
 use Rattle.tl_sides.specs.Bridges.{pump_count, fetch_count}
 use Rattle.tl_sides.proofs.BridgeSteps.{Moves, with_a, with_b, with_c, with_d, with_e, client_goes_on, manager_goes_on, homes_given, asked_answers, answered_asks, homes_asks}
 use Rattle.tl_sides.proofs.Draining.{answered-all, asked-all}
 use Rattle.tl_sides.specs.ChannelCalls.{after_take_all}
-use Rattle.tl_sides.specs.Ports.{ClientNow, ClientDone, ClientStands, client_new, ManagerNow, ManagerDone, ManagerStands, manager_new, Away, Hither, accepts}
+use Rattle.tl_sides.specs.Calls.{OffersBeat, ClosesChannel, TakesBeat}
+use Rattle.tl_sides.proofs.Lifting.{offer_lifted, close_lifted, take_lifted}
+use Rattle.tl_sides.specs.Ports.{ClientNow, ClientDone, ClientStands, client_new, ManagerNow, ManagerDone, ManagerStands, manager_new, Away, Hither}
+use Rattle.tl_sides.specs.Ports.{port_sends_a, port_sends_b, port_sends_c, port_sends_d, port_sends_e, port_takes_a, port_takes_b, port_takes_c, port_takes_d, port_takes_e}
 use Rattle.tl_sides.specs.Joining.{pipe_of, bridge_of}
 use Rattle.tl_sides.specs.declared.sync_bridge.SyncBridge.TheInside.{Inside}
 use Rattle.tl_sides.proofs.PortSteps.{between_of}
@@ -105,84 +92,6 @@ module _ {A : Type 0} {C M : ℕ} (q : Inside C M A) (x : Past C M) (h : StandsF
     book = h.manager;
   }
 
-  -- a beat is offered
-  pub offered_a : (s' : ClientNow C M) (y : BeatOf HeadA C) → s' ≡ record q.client { a = s'.a; book = s'.book } → IsOpen q.client.a → s'.a.closed ≡ false →
-      ClientStands s' (record (client_of x) { history = x.client ++ Ask y ∷ []; a_homes = homes_with rules_a (asked x.client) x.a.homes y 0 }) →
-      StandsFor (as_bridge (record q { client = s' })) (after_offer_a y x)
-  offered_a s' y rest ready still k =
-      let more : List (BeatOf HeadA C) = x.a.accepted ++ y ∷ [] in
-      let same : asked (x.client ++ Ask y ∷ []) ≡ more = asked_ask x.client y ∙ ap (λ z. z ++ y ∷ []) h.client_asked in
-      let sent = subst (λ z. HasSent rules_a s'.a more (homes_with rules_a z x.a.homes y 0) (sent_of x.a)) h.client_asked
-      (subst (λ z. HasSent rules_a s'.a z (homes_with rules_a (asked x.client) x.a.homes y 0) (sent_of x.a)) same k.a) in
-      subst (λ z. StandsFor (as_bridge (record q { client = z })) (after_offer_a y x)) (sym rest)
-      (client_goes_on (as_bridge q) x h (pipe_of s'.a q.a q.manager.a) (pipe_of q.manager.d q.d q.client.d) s'.book (x.client ++ Ask y ∷ []) (offered rules_a y 0 x.a) x.d
-      (stands_offered rules_a masked_a (pipe_of q.client.a q.a q.manager.a) x.a y 0 s'.a ready.0 ready.1 still sent h.a) h.d same
-      (answered_ask x.client y ∙ h.client_answered) k.book refl (refl, refl))
-
-  pub offered_b : (t' : ManagerNow C M) (y : BeatOf HeadB M) → t' ≡ record q.manager { b = t'.b } → IsOpen q.manager.b → t'.b.closed ≡ false →
-      ManagerStands t' (record (manager_of x) { b = accepts rules_b y 0 (away_of x.b) }) → StandsFor (as_bridge (record q { manager = t' })) (after_offer_b y x)
-  offered_b t' y rest ready still k = subst (λ z. StandsFor (as_bridge (record q { manager = z })) (after_offer_b y x)) (sym rest)
-      (with_b (as_bridge q) x h (pipe_of t'.b q.b q.client.b) (offered rules_b y 0 x.b)
-      (stands_offered rules_b masked_b (pipe_of q.manager.b q.b q.client.b) x.b y 0 t'.b ready.0 ready.1 still k.b h.b))
-
-  pub offered_c : (s' : ClientNow C M) (y : BeatOf HeadC C) → s' ≡ record q.client { c = s'.c } → IsOpen q.client.c → s'.c.closed ≡ false →
-      ClientStands s' (record (client_of x) { c = accepts rules_c y 0 (away_of x.c) }) → StandsFor (as_bridge (record q { client = s' })) (after_offer_c y x)
-  offered_c s' y rest ready still k = subst (λ z. StandsFor (as_bridge (record q { client = z })) (after_offer_c y x)) (sym rest)
-      (with_c (as_bridge q) x h (pipe_of s'.c q.c q.manager.c) (offered rules_c y 0 x.c)
-      (stands_offered rules_c masked_c (pipe_of q.client.c q.c q.manager.c) x.c y 0 s'.c ready.0 ready.1 still k.c h.c))
-
-  pub offered_d : (t' : ManagerNow C M) (y : BeatOf HeadD M) → t' ≡ record q.manager { d = t'.d; book = t'.book } → IsOpen q.manager.d → t'.d.closed ≡ false →
-      ManagerStands t' (record (manager_of x) { history = x.manager ++ Answer y ∷ [] }) → StandsFor (as_bridge (record q { manager = t' })) (after_offer_d y x)
-  offered_d t' y rest ready still k =
-      let more : List (Event M) = x.manager ++ Answer y ∷ [] in
-      let home : ℕ = manager_home x.manager y.head in
-      let between = between_of rules_d q.manager.d x.d.accepted x.d.homes (sent_of x.d) h.d.outbox in
-      let same : answered more ≡ x.d.accepted ++ y ∷ [] = answered_answer x.manager y ∙ ap (λ z. z ++ y ∷ []) h.manager_answered in
-      let homes = homes_given x.manager y x.d.accepted x.d.homes between h.manager_answered h.homes in
-      let sent = subst (λ z. HasSent rules_d t'.d (x.d.accepted ++ y ∷ []) z (sent_of x.d)) homes
-      (subst (λ z. HasSent rules_d t'.d z (manager_homes more) (sent_of x.d)) same k.d) in
-      subst (λ z. StandsFor (as_bridge (record q { manager = z })) (after_offer_d y x)) (sym rest)
-      (manager_goes_on (as_bridge q) x h (pipe_of q.client.a q.a q.manager.a) (pipe_of t'.d q.d q.client.d) t'.book more x.a (offered rules_d y home x.d) h.a
-      (stands_offered rules_d masked_d (pipe_of q.manager.d q.d q.client.d) x.d y home t'.d ready.0 ready.1 still sent h.d)
-      (asked_answer x.manager y ∙ h.manager_asked) same homes k.book refl refl)
-
-  pub offered_e : (s' : ClientNow C M) (y : BeatOf HeadE C) → s' ≡ record q.client { e = s'.e } → IsOpen q.client.e → s'.e.closed ≡ false →
-      ClientStands s' (record (client_of x) { e = accepts rules_e y 0 (away_of x.e) }) → StandsFor (as_bridge (record q { client = s' })) (after_offer_e y x)
-  offered_e s' y rest ready still k = subst (λ z. StandsFor (as_bridge (record q { client = z })) (after_offer_e y x)) (sym rest)
-      (with_e (as_bridge q) x h (pipe_of s'.e q.e q.manager.e) (offered rules_e y 0 x.e)
-      (stands_offered rules_e masked_e (pipe_of q.client.e q.e q.manager.e) x.e y 0 s'.e ready.0 ready.1 still k.e h.e))
-
-  -- a beat is taken
-  pub taken_a : (t' : ManagerNow C M) → t' ≡ record q.manager { a = drop 1 q.manager.a; book = t'.book } → KnowsManager t'.book (x.manager ++ map Ask (take 1 q.manager.a)) →
-      StandsFor (as_bridge (record q { manager = t' })) (after_take_a x)
-  taken_a t' rest knows = subst (λ z. StandsFor (as_bridge (record q { manager = z })) (after_take_a x)) (sym rest)
-      (manager_goes_on (as_bridge q) x h (pipe_of q.client.a q.a (drop 1 q.manager.a)) (pipe_of q.manager.d q.d q.client.d) t'.book
-      (x.manager ++ map Ask (take 1 x.a.inbox)) (took x.a) x.d (stands_took rules_a masked_a (pipe_of q.client.a q.a q.manager.a) x.a h.a) h.d
-      (asked-all x.manager (take 1 x.a.inbox) ∙ ap (λ z. z ++ take 1 x.a.inbox) h.manager_asked)
-      (answered_asks x.manager (take 1 x.a.inbox) ∙ h.manager_answered) (homes_asks x.manager (take 1 x.a.inbox) ∙ h.homes)
-      (subst (λ z. KnowsManager t'.book (x.manager ++ map Ask (take 1 z))) h.a.inbox knows) refl refl)
-
-  pub taken_b : (s' : ClientNow C M) → s' ≡ record q.client { b = drop 1 q.client.b } → StandsFor (as_bridge (record q { client = s' })) (after_take_b x)
-  taken_b s' rest = subst (λ z. StandsFor (as_bridge (record q { client = z })) (after_take_b x)) (sym rest)
-      (with_b (as_bridge q) x h (pipe_of q.manager.b q.b (drop 1 q.client.b)) (took x.b) (stands_took rules_b masked_b (pipe_of q.manager.b q.b q.client.b) x.b h.b))
-
-  pub taken_c : (t' : ManagerNow C M) → t' ≡ record q.manager { c = drop 1 q.manager.c } → StandsFor (as_bridge (record q { manager = t' })) (after_take_c x)
-  taken_c t' rest = subst (λ z. StandsFor (as_bridge (record q { manager = z })) (after_take_c x)) (sym rest)
-      (with_c (as_bridge q) x h (pipe_of q.client.c q.c (drop 1 q.manager.c)) (took x.c) (stands_took rules_c masked_c (pipe_of q.client.c q.c q.manager.c) x.c h.c))
-
-  pub taken_d : (s' : ClientNow C M) → s' ≡ record q.client { d = drop 1 q.client.d; book = s'.book } → KnowsClient s'.book (x.client ++ map Answer (take 1 q.client.d)) →
-      StandsFor (as_bridge (record q { client = s' })) (after_take_d x)
-  taken_d s' rest knows = subst (λ z. StandsFor (as_bridge (record q { client = z })) (after_take_d x)) (sym rest)
-      (client_goes_on (as_bridge q) x h (pipe_of q.client.a q.a q.manager.a) (pipe_of q.manager.d q.d (drop 1 q.client.d)) s'.book
-      (x.client ++ map Answer (take 1 x.d.inbox)) x.a (took x.d) h.a (stands_took rules_d masked_d (pipe_of q.manager.d q.d q.client.d) x.d h.d)
-      (asked_answers x.client (take 1 x.d.inbox) ∙ h.client_asked)
-      (answered-all x.client (take 1 x.d.inbox) ∙ ap (λ z. z ++ take 1 x.d.inbox) h.client_answered)
-      (subst (λ z. KnowsClient s'.book (x.client ++ map Answer (take 1 z))) h.d.inbox knows) refl (refl, refl))
-
-  pub taken_e : (t' : ManagerNow C M) → t' ≡ record q.manager { e = drop 1 q.manager.e } → StandsFor (as_bridge (record q { manager = t' })) (after_take_e x)
-  taken_e t' rest = subst (λ z. StandsFor (as_bridge (record q { manager = z })) (after_take_e x)) (sym rest)
-      (with_e (as_bridge q) x h (pipe_of q.client.e q.e (drop 1 q.manager.e)) (took x.e) (stands_took rules_e masked_e (pipe_of q.client.e q.e q.manager.e) x.e h.e))
-
   -- both sides take all that stands in their inboxes
   pub all_taken : (s' : ClientNow C M) (t' : ManagerNow C M) → s' ≡ record q.client { b = []; d = []; book = s'.book } →
       t' ≡ record q.manager { a = []; c = []; e = []; book = t'.book } → KnowsClient s'.book (x.client ++ map Answer q.client.d) →
@@ -205,35 +114,115 @@ module _ {A : Type 0} {C M : ℕ} (q : Inside C M A) (x : Past C M) (h : StandsF
         manager = subst (λ z. KnowsManager t'.book (x.manager ++ map Ask z)) h.a.inbox manager;
       }))
 
-  -- an end closes
-  pub closed_a : (s' : ClientNow C M) → s' ≡ record q.client { a = record q.client.a { closed = true } } → rest_of rules_a C (asked x.client) ≡ [] →
-      StandsFor (as_bridge (record q { client = s' })) (after_close_a x)
-  closed_a s' rest over = subst (λ z. StandsFor (as_bridge (record q { client = z })) (after_close_a x)) (sym rest)
-      (with_a (as_bridge q) x h (pipe_of (record q.client.a { closed = true }) q.a q.manager.a) (shut x.a)
-      (stands_shut rules_a masked_a (pipe_of q.client.a q.a q.manager.a) x.a (ap (λ z. rest_of rules_a C z) (sym h.client_asked) ∙ over) h.a) (refl, refl))
+module _ {A : Type 0} {C M : ℕ} (q : Inside C M A) where
+  -- the bridge with another port of a side
+  abbrev with_client : ClientNow C M → Bridge C M
+  with_client s = as_bridge (record q { client = s })
 
-  pub closed_b : (t' : ManagerNow C M) → t' ≡ record q.manager { b = record q.manager.b { closed = true } } → rest_of rules_b M x.b.accepted ≡ [] →
-      StandsFor (as_bridge (record q { manager = t' })) (after_close_b x)
-  closed_b t' rest over = subst (λ z. StandsFor (as_bridge (record q { manager = z })) (after_close_b x)) (sym rest)
-      (with_b (as_bridge q) x h (pipe_of (record q.manager.b { closed = true }) q.b q.client.b) (shut x.b)
+  abbrev with_manager : ManagerNow C M → Bridge C M
+  with_manager s = as_bridge (record q { manager = s })
+
+  -- an offer to a port is one to its bridge
+  pub bridge_offers_a : (s' : ClientNow C M) (y : BeatOf HeadA C) (r : Result (Unit {0}) SideFault) → IsOpen q.client.a → OffersBeat port_sends_a y q.client r s' → OffersBeat bridge_sends_a y (as_bridge q) r (with_client s')
+  bridge_offers_a s' y r ready = offer_lifted port_sends_a bridge_sends_a with_client client_of q.client s' (client_stands q) y r (λ x. refl) (λ k. ap with_client k.0)
+      (λ x h k stands.
+      let more : List (BeatOf HeadA C) = x.a.accepted ++ y ∷ [] in
+      let same : asked (x.client ++ Ask y ∷ []) ≡ more = asked_ask x.client y ∙ ap (λ z. z ++ y ∷ []) h.client_asked in
+      let sent = subst (λ z. HasSent rules_a s'.a more (homes_with rules_a z x.a.homes y 0) (sent_of x.a)) h.client_asked
+      (subst (λ z. HasSent rules_a s'.a z (homes_with rules_a (asked x.client) x.a.homes y 0) (sent_of x.a)) same stands.a) in
+      subst (λ z. StandsFor (with_client z) (bridge_sends_a.with_beat y x)) (sym k.0)
+      (client_goes_on (as_bridge q) x h (pipe_of s'.a q.a q.manager.a) (pipe_of q.manager.d q.d q.client.d) s'.book (x.client ++ Ask y ∷ []) (offered rules_a y 0 x.a) x.d
+      (stands_offered rules_a masked_a (pipe_of q.client.a q.a q.manager.a) x.a y 0 s'.a ready.0 ready.1 k.1 sent h.a) h.d same
+      (answered_ask x.client y ∙ h.client_answered) stands.book refl (refl, refl)))
+
+  pub bridge_offers_b : (s' : ManagerNow C M) (y : BeatOf HeadB M) (r : Result (Unit {0}) SideFault) → IsOpen q.manager.b → OffersBeat port_sends_b y q.manager r s' → OffersBeat bridge_sends_b y (as_bridge q) r (with_manager s')
+  bridge_offers_b s' y r ready = offer_lifted port_sends_b bridge_sends_b with_manager manager_of q.manager s' (manager_stands q) y r (λ x. refl) (λ k. ap with_manager k.0)
+      (λ x h k stands. subst (λ z. StandsFor (with_manager z) (bridge_sends_b.with_beat y x)) (sym k.0) (with_b (as_bridge q) x h (pipe_of s'.b q.b q.client.b) (offered rules_b y 0 x.b)
+      (stands_offered rules_b masked_b (pipe_of q.manager.b q.b q.client.b) x.b y 0 s'.b ready.0 ready.1 k.1 stands.b h.b)))
+
+  pub bridge_offers_c : (s' : ClientNow C M) (y : BeatOf HeadC C) (r : Result (Unit {0}) SideFault) → IsOpen q.client.c → OffersBeat port_sends_c y q.client r s' → OffersBeat bridge_sends_c y (as_bridge q) r (with_client s')
+  bridge_offers_c s' y r ready = offer_lifted port_sends_c bridge_sends_c with_client client_of q.client s' (client_stands q) y r (λ x. refl) (λ k. ap with_client k.0)
+      (λ x h k stands. subst (λ z. StandsFor (with_client z) (bridge_sends_c.with_beat y x)) (sym k.0) (with_c (as_bridge q) x h (pipe_of s'.c q.c q.manager.c) (offered rules_c y 0 x.c)
+      (stands_offered rules_c masked_c (pipe_of q.client.c q.c q.manager.c) x.c y 0 s'.c ready.0 ready.1 k.1 stands.c h.c)))
+
+  pub bridge_offers_d : (s' : ManagerNow C M) (y : BeatOf HeadD M) (r : Result (Unit {0}) SideFault) → IsOpen q.manager.d → OffersBeat port_sends_d y q.manager r s' → OffersBeat bridge_sends_d y (as_bridge q) r (with_manager s')
+  bridge_offers_d s' y r ready = offer_lifted port_sends_d bridge_sends_d with_manager manager_of q.manager s' (manager_stands q) y r (λ x. refl) (λ k. ap with_manager k.0)
+      (λ x h k stands.
+      let more : List (Event M) = x.manager ++ Answer y ∷ [] in
+      let home : ℕ = manager_home x.manager y.head in
+      let between = between_of rules_d q.manager.d x.d.accepted x.d.homes (sent_of x.d) h.d.outbox in
+      let same : answered more ≡ x.d.accepted ++ y ∷ [] = answered_answer x.manager y ∙ ap (λ z. z ++ y ∷ []) h.manager_answered in
+      let homes = homes_given x.manager y x.d.accepted x.d.homes between h.manager_answered h.homes in
+      let sent = subst (λ z. HasSent rules_d s'.d (x.d.accepted ++ y ∷ []) z (sent_of x.d)) homes
+      (subst (λ z. HasSent rules_d s'.d z (manager_homes more) (sent_of x.d)) same stands.d) in
+      subst (λ z. StandsFor (with_manager z) (bridge_sends_d.with_beat y x)) (sym k.0)
+      (manager_goes_on (as_bridge q) x h (pipe_of q.client.a q.a q.manager.a) (pipe_of s'.d q.d q.client.d) s'.book more x.a (offered rules_d y home x.d) h.a
+      (stands_offered rules_d masked_d (pipe_of q.manager.d q.d q.client.d) x.d y home s'.d ready.0 ready.1 k.1 sent h.d)
+      (asked_answer x.manager y ∙ h.manager_asked) same homes stands.book refl refl))
+
+  pub bridge_offers_e : (s' : ClientNow C M) (y : BeatOf HeadE C) (r : Result (Unit {0}) SideFault) → IsOpen q.client.e → OffersBeat port_sends_e y q.client r s' → OffersBeat bridge_sends_e y (as_bridge q) r (with_client s')
+  bridge_offers_e s' y r ready = offer_lifted port_sends_e bridge_sends_e with_client client_of q.client s' (client_stands q) y r (λ x. refl) (λ k. ap with_client k.0)
+      (λ x h k stands. subst (λ z. StandsFor (with_client z) (bridge_sends_e.with_beat y x)) (sym k.0) (with_e (as_bridge q) x h (pipe_of s'.e q.e q.manager.e) (offered rules_e y 0 x.e)
+      (stands_offered rules_e masked_e (pipe_of q.client.e q.e q.manager.e) x.e y 0 s'.e ready.0 ready.1 k.1 stands.e h.e)))
+
+  -- so is a take
+  pub bridge_taken_a : (s' : ManagerNow C M) (r : Option (BeatOf HeadA M)) → TakesBeat port_takes_a q.manager r s' → TakesBeat bridge_takes_a (as_bridge q) r (with_manager s')
+  bridge_taken_a s' r = take_lifted port_takes_a bridge_takes_a with_manager manager_of q.manager s' r (manager_stands q) refl refl (λ k. ap with_manager k)
+      (λ x h k stands. subst (λ z. StandsFor (with_manager z) (bridge_takes_a.after_take (as_bridge q) x)) (sym k)
+      (manager_goes_on (as_bridge q) x h (pipe_of q.client.a q.a (drop 1 q.manager.a)) (pipe_of q.manager.d q.d q.client.d) s'.book
+      (x.manager ++ map Ask (take 1 x.a.inbox)) (took x.a) x.d (stands_took rules_a masked_a (pipe_of q.client.a q.a q.manager.a) x.a h.a) h.d
+      (asked-all x.manager (take 1 x.a.inbox) ∙ ap (λ z. z ++ take 1 x.a.inbox) h.manager_asked)
+      (answered_asks x.manager (take 1 x.a.inbox) ∙ h.manager_answered) (homes_asks x.manager (take 1 x.a.inbox) ∙ h.homes)
+      (subst (λ z. KnowsManager s'.book (x.manager ++ map Ask (take 1 z))) h.a.inbox stands.book) refl refl))
+
+  pub bridge_taken_b : (s' : ClientNow C M) (r : Option (BeatOf HeadB C)) → TakesBeat port_takes_b q.client r s' → TakesBeat bridge_takes_b (as_bridge q) r (with_client s')
+  bridge_taken_b s' r = take_lifted port_takes_b bridge_takes_b with_client client_of q.client s' r (client_stands q) refl refl (λ k. ap with_client k)
+      (λ x h k stands. subst (λ z. StandsFor (with_client z) (bridge_takes_b.after_take (as_bridge q) x)) (sym k)
+      (with_b (as_bridge q) x h (pipe_of q.manager.b q.b (drop 1 q.client.b)) (took x.b) (stands_took rules_b masked_b (pipe_of q.manager.b q.b q.client.b) x.b h.b)))
+
+  pub bridge_taken_c : (s' : ManagerNow C M) (r : Option (BeatOf HeadC M)) → TakesBeat port_takes_c q.manager r s' → TakesBeat bridge_takes_c (as_bridge q) r (with_manager s')
+  bridge_taken_c s' r = take_lifted port_takes_c bridge_takes_c with_manager manager_of q.manager s' r (manager_stands q) refl refl (λ k. ap with_manager k)
+      (λ x h k stands. subst (λ z. StandsFor (with_manager z) (bridge_takes_c.after_take (as_bridge q) x)) (sym k)
+      (with_c (as_bridge q) x h (pipe_of q.client.c q.c (drop 1 q.manager.c)) (took x.c) (stands_took rules_c masked_c (pipe_of q.client.c q.c q.manager.c) x.c h.c)))
+
+  pub bridge_taken_d : (s' : ClientNow C M) (r : Option (BeatOf HeadD C)) → TakesBeat port_takes_d q.client r s' → TakesBeat bridge_takes_d (as_bridge q) r (with_client s')
+  bridge_taken_d s' r = take_lifted port_takes_d bridge_takes_d with_client client_of q.client s' r (client_stands q) refl refl (λ k. ap with_client k)
+      (λ x h k stands. subst (λ z. StandsFor (with_client z) (bridge_takes_d.after_take (as_bridge q) x)) (sym k)
+      (client_goes_on (as_bridge q) x h (pipe_of q.client.a q.a q.manager.a) (pipe_of q.manager.d q.d (drop 1 q.client.d)) s'.book
+      (x.client ++ map Answer (take 1 x.d.inbox)) x.a (took x.d) h.a (stands_took rules_d masked_d (pipe_of q.manager.d q.d q.client.d) x.d h.d)
+      (asked_answers x.client (take 1 x.d.inbox) ∙ h.client_asked)
+      (answered-all x.client (take 1 x.d.inbox) ∙ ap (λ z. z ++ take 1 x.d.inbox) h.client_answered)
+      (subst (λ z. KnowsClient s'.book (x.client ++ map Answer (take 1 z))) h.d.inbox stands.book) refl (refl, refl)))
+
+  pub bridge_taken_e : (s' : ManagerNow C M) (r : Option (BeatOf HeadE M)) → TakesBeat port_takes_e q.manager r s' → TakesBeat bridge_takes_e (as_bridge q) r (with_manager s')
+  bridge_taken_e s' r = take_lifted port_takes_e bridge_takes_e with_manager manager_of q.manager s' r (manager_stands q) refl refl (λ k. ap with_manager k)
+      (λ x h k stands. subst (λ z. StandsFor (with_manager z) (bridge_takes_e.after_take (as_bridge q) x)) (sym k)
+      (with_e (as_bridge q) x h (pipe_of q.client.e q.e (drop 1 q.manager.e)) (took x.e) (stands_took rules_e masked_e (pipe_of q.client.e q.e q.manager.e) x.e h.e)))
+
+  -- and a close
+  pub bridge_closes_a : (s' : ClientNow C M) (r : Result (Unit {0}) EndFault) → ClosesChannel port_sends_a q.client r s' → ClosesChannel bridge_sends_a (as_bridge q) r (with_client s')
+  bridge_closes_a s' r = close_lifted port_sends_a bridge_sends_a with_client client_of q.client s' (client_stands q) r refl (λ x h. h.client_asked) refl refl
+      (λ x h over. with_a (as_bridge q) x h (pipe_of (record q.client.a { closed = true }) q.a q.manager.a) (record x.a { closed = true })
+      (stands_shut rules_a masked_a (pipe_of q.client.a q.a q.manager.a) x.a over h.a) (refl, refl))
+
+  pub bridge_closes_b : (s' : ManagerNow C M) (r : Result (Unit {0}) EndFault) → ClosesChannel port_sends_b q.manager r s' → ClosesChannel bridge_sends_b (as_bridge q) r (with_manager s')
+  bridge_closes_b s' r = close_lifted port_sends_b bridge_sends_b with_manager manager_of q.manager s' (manager_stands q) r refl (λ x h. refl) refl refl
+      (λ x h over. with_b (as_bridge q) x h (pipe_of (record q.manager.b { closed = true }) q.b q.client.b) (record x.b { closed = true })
       (stands_shut rules_b masked_b (pipe_of q.manager.b q.b q.client.b) x.b over h.b))
 
-  pub closed_c : (s' : ClientNow C M) → s' ≡ record q.client { c = record q.client.c { closed = true } } → rest_of rules_c C x.c.accepted ≡ [] →
-      StandsFor (as_bridge (record q { client = s' })) (after_close_c x)
-  closed_c s' rest over = subst (λ z. StandsFor (as_bridge (record q { client = z })) (after_close_c x)) (sym rest)
-      (with_c (as_bridge q) x h (pipe_of (record q.client.c { closed = true }) q.c q.manager.c) (shut x.c)
+  pub bridge_closes_c : (s' : ClientNow C M) (r : Result (Unit {0}) EndFault) → ClosesChannel port_sends_c q.client r s' → ClosesChannel bridge_sends_c (as_bridge q) r (with_client s')
+  bridge_closes_c s' r = close_lifted port_sends_c bridge_sends_c with_client client_of q.client s' (client_stands q) r refl (λ x h. refl) refl refl
+      (λ x h over. with_c (as_bridge q) x h (pipe_of (record q.client.c { closed = true }) q.c q.manager.c) (record x.c { closed = true })
       (stands_shut rules_c masked_c (pipe_of q.client.c q.c q.manager.c) x.c over h.c))
 
-  pub closed_d : (t' : ManagerNow C M) → t' ≡ record q.manager { d = record q.manager.d { closed = true } } → rest_of rules_d M (answered x.manager) ≡ [] →
-      StandsFor (as_bridge (record q { manager = t' })) (after_close_d x)
-  closed_d t' rest over = subst (λ z. StandsFor (as_bridge (record q { manager = z })) (after_close_d x)) (sym rest)
-      (with_d (as_bridge q) x h (pipe_of (record q.manager.d { closed = true }) q.d q.client.d) (shut x.d)
-      (stands_shut rules_d masked_d (pipe_of q.manager.d q.d q.client.d) x.d (ap (λ z. rest_of rules_d M z) (sym h.manager_answered) ∙ over) h.d) (refl, refl, refl))
+  pub bridge_closes_d : (s' : ManagerNow C M) (r : Result (Unit {0}) EndFault) → ClosesChannel port_sends_d q.manager r s' → ClosesChannel bridge_sends_d (as_bridge q) r (with_manager s')
+  bridge_closes_d s' r = close_lifted port_sends_d bridge_sends_d with_manager manager_of q.manager s' (manager_stands q) r refl (λ x h. h.manager_answered) refl refl
+      (λ x h over. with_d (as_bridge q) x h (pipe_of (record q.manager.d { closed = true }) q.d q.client.d) (record x.d { closed = true })
+      (stands_shut rules_d masked_d (pipe_of q.manager.d q.d q.client.d) x.d over h.d) (refl, refl, refl))
 
-  pub closed_e : (s' : ClientNow C M) → s' ≡ record q.client { e = record q.client.e { closed = true } } → rest_of rules_e C x.e.accepted ≡ [] →
-      StandsFor (as_bridge (record q { client = s' })) (after_close_e x)
-  closed_e s' rest over = subst (λ z. StandsFor (as_bridge (record q { client = z })) (after_close_e x)) (sym rest)
-      (with_e (as_bridge q) x h (pipe_of (record q.client.e { closed = true }) q.e q.manager.e) (shut x.e)
+  pub bridge_closes_e : (s' : ClientNow C M) (r : Result (Unit {0}) EndFault) → ClosesChannel port_sends_e q.client r s' → ClosesChannel bridge_sends_e (as_bridge q) r (with_client s')
+  bridge_closes_e s' r = close_lifted port_sends_e bridge_sends_e with_client client_of q.client s' (client_stands q) r refl (λ x h. refl) refl refl
+      (λ x h over. with_e (as_bridge q) x h (pipe_of (record q.client.e { closed = true }) q.e q.manager.e) (record x.e { closed = true })
       (stands_shut rules_e masked_e (pipe_of q.client.e q.e q.manager.e) x.e over h.e))
 
 -- a pump of an outbox and a ring is one of their pipe, and so is a fetch

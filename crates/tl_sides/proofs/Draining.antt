@@ -1,11 +1,7 @@
 -- A side takes all that stands in an inbox, one beat after another.
 use Rattle.std.proofs.Common.{◌≡◌, ℕ, ◌+◌, ◌<◌, List, [], ◌∷◌, ◌++◌, length, take, map, sym, ap, ◌∙◌, get_or, append-nil, append_assoc}
 use Rattle.std.proofs.lemmas.List.{take_more}
-use Rattle.tl_msg.specs.declared.head.HeadA.{HeadA}
-use Rattle.tl_msg.specs.declared.head.HeadD.{HeadD}
-use Rattle.tl_msg.specs.declared.beat.BeatOf.{BeatOf}
-use Rattle.tl_settle.specs.Histories.{Event, Ask, Answer, asked, answered}
-use Rattle.tl_settle.proofs.Marks.{asked_ask, answered_answer}
+use Rattle.tl_sides.proofs.Words.{HeadA, HeadD, BeatOf, Event, Ask, Answer, asked, answered, asked_ask, answered_answer}
 
 -- the beats that a side took are the last of its history
 pub answered-all : {w : ℕ} (es : List (Event w)) (bs : List (BeatOf HeadD w)) → answered (es ++ map Answer bs) ≡ answered es ++ bs

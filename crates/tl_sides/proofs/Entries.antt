@@ -4,13 +4,9 @@ use Rattle.std.specs.Prelude.{slice_index_or, slice_set, ◌==◌, ◌&&◌, not
 use Rattle.std.specs.Option.{is_some}
 use Rattle.std.proofs.Math.ListN.{get_or-map}
 use Rattle.std.proofs.lemmas.List.{map-set, length-map}
-use Rattle.tl_msg.specs.declared.head.HeadA.{HeadA}
-use Rattle.tl_msg.specs.declared.head.HeadD.{HeadD}
+use Rattle.tl_sides.proofs.Words.{HeadA, HeadD, is_release_ack, Mark, Asks, Answers, open_request, open_more}
 use Rattle.tl_sides.specs.declared.tables.Request.{Request}
-use Rattle.tl_settle.specs.Requests.{is_release_ack}
-use Rattle.tl_settle.specs.Histories.{Mark, Asks, Answers, open_request}
 use Rattle.tl_sides.specs.Tables.{is_busy, entry, remembered, remembered_of, AreBusy, AreOpen}
-use Rattle.tl_settle.proofs.Opens.{open_more}
 
 pub replicate_any : {A : Type 0} (n s : ℕ) (x : A) → slice_index_or (replicate n x) s x ≡ x
 replicate_any zero s x = refl

@@ -1,9 +1,7 @@
 -- A beat that begins no response other than ReleaseAck changes no table.
 use Rattle.std.proofs.Common.{◌≡◌, Bool, true, false, Option, List, refl}
-use Rattle.tl_msg.specs.declared.head.HeadD.{HeadD}
+use Rattle.tl_sides.proofs.Words.{HeadD, is_release_ack, Mark, Answers}
 use Rattle.tl_sides.specs.declared.tables.Request.{Request}
-use Rattle.tl_settle.specs.Requests.{is_release_ack}
-use Rattle.tl_settle.specs.Histories.{Mark, Answers}
 use Rattle.tl_sides.specs.Tables.{AreBusy, AreOpen}
 use Rattle.tl_sides.specs.Inner.Noting.{begun_with}
 use Rattle.tl_sides.proofs.Entries.{acknowledged_busy, acknowledged_open}

@@ -1,9 +1,10 @@
--- How ports, bridge and sides lie in memory: the number of a field is its place in `part` of `FieldSizes`.
+-- How ports, bridge and sides lie in memory, and how small their parts are: the number of a field is its place in `part` of `FieldSizes`.
 use Rattle.std.proofs.Common.{ℕ}
 use Rattle.std.specs.declared.alloc.Allocator.{Ghosts}
 use denote.Param.{layout, param, number}
 use denote.RattleType.{RattleType}
 use mir.Syntax.{Ty}
+pub use Rattle.tl_ring.proofs.FieldSizes.{beat_in_queue, beat_small, inner_small, part, part_small}
 use Rattle.tl_sides.specs.contracts.client_port.ClientPort as client_port
 use Rattle.tl_sides.specs.contracts.manager_port.ManagerPort as manager_port
 use Rattle.tl_sides.specs.contracts.sync_bridge.SyncBridge as sync_bridge

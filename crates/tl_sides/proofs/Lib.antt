@@ -1,8 +1,9 @@
+mod Words
 pub mod Entries
 pub mod Between
 pub mod Answering
-pub mod Places
 pub mod Draining
+mod Lifting
 pub mod BridgeSteps
 pub mod PortSteps
 pub mod Bridging

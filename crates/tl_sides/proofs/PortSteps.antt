@@ -1,24 +1,11 @@
 -- What the calls of a side keep.
-use Rattle.std.proofs.Common.{◌≡◌, ◌↔◌, ◌++◌, ◌∷◌, [], ℕ, List, Option, map, take, refl, sym, subst, ap, ◌∙◌, append-nil}
-use Rattle.tl_msg.specs.Rules.{Rules}
-use Rattle.tl_msg.specs.Tables.{rules_a, rules_b, rules_c, rules_d, rules_e}
-use Rattle.tl_msg.specs.declared.head.HeadA.{HeadA}
-use Rattle.tl_msg.specs.declared.head.HeadB.{HeadB}
-use Rattle.tl_msg.specs.declared.head.HeadC.{HeadC}
-use Rattle.tl_msg.specs.declared.head.HeadD.{HeadD}
-use Rattle.tl_msg.specs.declared.head.HeadE.{HeadE}
-use Rattle.tl_msg.specs.declared.beat.BeatOf.{BeatOf}
-use Rattle.tl_burst.specs.Begun.{left}
-use Rattle.tl_burst.specs.Tracking.{IsPlaceOf}
-use Rattle.tl_burst.specs.Handing.{homes_with, rest_of}
-use Rattle.tl_burst.specs.declared.place.Place.{Place}
-use Rattle.tl_burst.proofs.BegunMessages.{left-zero}
-use Rattle.tl_ring.specs.Boxes.{Outgoing, HasSent, HasTaken, as_sent}
-use Rattle.tl_settle.specs.Histories.{Event, Ask, Answer, asked, answered, manager_home, manager_homes}
-use Rattle.tl_settle.proofs.Marks.{answered_ask, answered_answer, asked_answer}
+use Rattle.std.proofs.Common.{◌≡◌, ◌↔◌, ◌++◌, ◌∷◌, [], ℕ, List, Option, Result, map, take, refl, sym, subst, ap, ◌∙◌, append-nil}
+use Rattle.tl_sides.proofs.Words.{Rules, rules_a, rules_b, rules_c, rules_d, rules_e, HeadA, HeadB, HeadC, HeadD, HeadE, BeatOf, left, IsPlaceOf, homes_with, rest_of, Place, left-zero, Outgoing, HasSent, HasTaken, as_sent, Event, Ask, Answer, asked, answered, manager_home, manager_homes, answered_ask, answered_answer, asked_answer, SideFault}
 use Rattle.tl_sides.specs.Books.{Client, Manager, KnowsClient, KnowsManager, IsNext}
 use Rattle.tl_sides.proofs.BridgeSteps.{asked_answers, answered_asks, homes_asks, homes_given, home_given}
-use Rattle.tl_sides.specs.Ports.{Away, Hither, ClientNow, ClientDone, ClientStands, ManagerNow, ManagerDone, ManagerStands, takes}
+use Rattle.tl_sides.specs.Calls.{OffersBeat}
+use Rattle.tl_sides.proofs.Lifting.{offer_lifted}
+use Rattle.tl_sides.specs.Ports.{outbox_sends, port_sends_b, port_sends_c, port_sends_e, Away, Hither, ClientNow, ClientDone, ClientStands, ManagerNow, ManagerDone, ManagerStands, takes}
 use Rattle.tl_sides.proofs.Draining.{answered-all, asked-all}
 
 -- what an outbox's check says is said of the beats that it accepted
@@ -167,3 +154,14 @@ module _ {C M : ℕ} (s : ManagerNow C M) (x : ManagerDone C M) (h : ManagerStan
         e = h.e ∙ sym (append-nil (x.e.taken ++ s.e));
         book = knows;
       }
+
+-- an offer to an outbox is one to its port
+module _ {C M : ℕ} {r : Result (Unit {0}) SideFault} where
+  pub port_offers_b : (s : ManagerNow C M) (b : BeatOf HeadB M) (o : Outgoing HeadB C) → OffersBeat (outbox_sends rules_b) b s.b r o → OffersBeat port_sends_b b s r (record s { b = o })
+  port_offers_b s b o = offer_lifted (outbox_sends rules_b) port_sends_b (λ z. record s { b = z }) (λ x. x.b) s.b o (λ x h. h.b) b r (λ x. refl) (λ k. (refl, k.1)) (λ x h k. manager_b s x h o _)
+
+  pub port_offers_c : (s : ClientNow C M) (b : BeatOf HeadC C) (o : Outgoing HeadC M) → OffersBeat (outbox_sends rules_c) b s.c r o → OffersBeat port_sends_c b s r (record s { c = o })
+  port_offers_c s b o = offer_lifted (outbox_sends rules_c) port_sends_c (λ z. record s { c = z }) (λ x. x.c) s.c o (λ x h. h.c) b r (λ x. refl) (λ k. (refl, k.1)) (λ x h k. client_c s x h o _)
+
+  pub port_offers_e : (s : ClientNow C M) (b : BeatOf HeadE C) (o : Outgoing HeadE M) → OffersBeat (outbox_sends rules_e) b s.e r o → OffersBeat port_sends_e b s r (record s { e = o })
+  port_offers_e s b o = offer_lifted (outbox_sends rules_e) port_sends_e (λ z. record s { e = z }) (λ x. x.e) s.e o (λ x h. h.e) b r (λ x. refl) (λ k. (refl, k.1)) (λ x h k. client_e s x h o _)

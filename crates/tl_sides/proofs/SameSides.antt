@@ -1,7 +1,6 @@
 -- The same side of the same bridge, through several calls.
 use Rattle.std.proofs.Common.{◌≡◌, ℕ, sym, subst}
-use Rattle.tl_ring.proofs.Same.{same_send, same_send_then, same_take_then, still_pair}
-use Rattle.tl_ring.specs.Ends.{SameSend, SameTake}
+use Rattle.tl_sides.proofs.Words.{same_send, same_send_then, same_take_then, still_pair, SameSend, SameTake}
 use Rattle.tl_sides.specs.Sides.{ClientState, ManagerState, AreSides, SameClient, SameManager}
 
 module _ {A : Type 0} {C M : ℕ} where

@@ -1,35 +1,16 @@
 -- Each call of a side is one of its port, or moves beats between that and its halves of rings.
-use Rattle.std.proofs.Common.{◌≡◌, ◌≤◌, ◌+◌, ◌*◌, ◌-◌, ℕ, true, false, List, [], ◌∷◌, ◌++◌, length, map, take, drop, min, refl, sym, ap, subst, ◌∙◌, arith, length-append}
+use Rattle.std.proofs.Common.{◌≡◌, ◌≤◌, ◌+◌, ◌*◌, ◌-◌, ℕ, List, Option, Result, [], ◌∷◌, ◌++◌, length, map, take, drop, min, refl, sym, ap, subst, ◌∙◌, arith, append-nil, length-append}
 use Rattle.std.proofs.lemmas.List.{length-drop}
-use Rattle.tl_msg.specs.Rules.{Rules}
-use Rattle.tl_msg.specs.Tables.{rules_a, rules_b, rules_c, rules_d, rules_e}
-use Rattle.tl_msg.specs.declared.channel.ChA.{ChA}
-use Rattle.tl_msg.specs.declared.channel.ChB.{ChB}
-use Rattle.tl_msg.specs.declared.channel.ChC.{ChC}
-use Rattle.tl_msg.specs.declared.channel.ChD.{ChD}
-use Rattle.tl_msg.specs.declared.channel.ChE.{ChE}
-use Rattle.tl_msg.specs.declared.head.HeadA.{HeadA}
-use Rattle.tl_msg.specs.declared.head.HeadB.{HeadB}
-use Rattle.tl_msg.specs.declared.head.HeadC.{HeadC}
-use Rattle.tl_msg.specs.declared.head.HeadD.{HeadD}
-use Rattle.tl_msg.specs.declared.head.HeadE.{HeadE}
-use Rattle.tl_msg.specs.declared.beat.BeatOf.{BeatOf}
-use Rattle.tl_burst.specs.Handing.{homes_with, rest_of}
-use Rattle.tl_ring.specs.Boxes.{HasSent, IsOpen}
-use Rattle.tl_ring.specs.Crossing.{World, inbox_room}
-use Rattle.tl_ring.specs.Ends.{Sending, Taking, sending_of, taking_of, Sends, Takes, Pushed, Fetched, Met, Meets, passed, received, known_free, known_items}
-use Rattle.tl_ring.specs.declared.queue.TheConstants.{ROOM}
-use Rattle.tl_ring.specs.declared.standing.Standing.{Standing}
-use Rattle.tl_ring.proofs.EndSteps.{sends_offered, sends_shut, meets_of}
-use Rattle.tl_ring.proofs.Moves.{cut_moves}
-use Rattle.tl_settle.specs.Histories.{Event, Ask, Answer, asked, answered, manager_home, manager_homes}
-use Rattle.tl_settle.proofs.Marks.{asked_ask, asked_answer, answered_ask, answered_answer}
-use Rattle.tl_sides.specs.Books.{KnowsClient, KnowsManager}
-use Rattle.tl_sides.specs.Ports.{ClientNow, ClientDone, ClientStands, ManagerNow, ManagerDone, ManagerStands, accepts}
+use Rattle.tl_sides.proofs.Words.{Rules, rules_a, rules_b, rules_c, rules_d, rules_e, ChA, ChB, ChC, ChD, ChE, HeadA, HeadB, HeadC, HeadD, HeadE, BeatOf, homes_with, HasSent, IsOpen, World, inbox_room, Sending, Taking, sending_of, taking_of, Sends, Takes, Pushed, Fetched, Met, Meets, passed, received, known_free, known_items, ROOM, Standing, sends_offered, sends_shut, meets_of, cut_moves, Event, Ask, Answer, asked, answered, manager_home, manager_homes, asked_ask, asked_answer, answered_ask, answered_answer, SideFault, EndFault}
+use Rattle.tl_sides.specs.Calls.{OffersBeat, ClosesChannel, TakesBeat}
+use Rattle.tl_sides.proofs.Lifting.{offer_lifted, close_lifted, take_lifted}
+use Rattle.tl_sides.specs.Ports.{ClientNow, ClientDone, ClientStands, ManagerNow, ManagerDone, ManagerStands}
+use Rattle.tl_sides.specs.Ports.{port_sends_a, port_sends_b, port_sends_c, port_sends_d, port_sends_e, port_takes_a, port_takes_b, port_takes_c, port_takes_d, port_takes_e}
 use Rattle.tl_sides.specs.Ends.{Pumps, Fetches, AreStanding, pump_count, fetch_count, after_pump}
 use Rattle.tl_sides.specs.Sides.{ClientState, ManagerState, ClientPast, ManagerPast, ClientStandsFor, ManagerStandsFor, AreSides, SidesMeet, client_state_of, manager_state_of, client_pumps, manager_pumps}
-use Rattle.tl_sides.specs.Sides.{client_offers_a, client_offers_c, client_offers_e, client_takes_b, client_takes_d, client_closes_a, client_closes_c, client_closes_e}
-use Rattle.tl_sides.specs.Sides.{manager_offers_b, manager_offers_d, manager_takes_a, manager_takes_c, manager_takes_e, manager_closes_b, manager_closes_d}
+use Rattle.tl_sides.specs.Books.{KnowsClient, KnowsManager}
+use Rattle.tl_sides.specs.Sides.{client_takes_b, client_takes_d, manager_takes_a, manager_takes_c, manager_takes_e}
+use Rattle.tl_sides.specs.Sides.{side_sends_a, side_sends_b, side_sends_c, side_sends_d, side_sends_e, side_takes_a, side_takes_b, side_takes_c, side_takes_d, side_takes_e}
 use Rattle.tl_sides.specs.declared.client_side.ClientSide.TheInside as client
 use Rattle.tl_sides.specs.declared.manager_side.ManagerSide.TheInside as manager
 use Rattle.tl_sides.proofs.BridgeSteps.{asked_answers, answered_asks, homes_asks, homes_given}
@@ -77,55 +58,68 @@ module _ {A : Type 0} {C M : ℕ} (q : client.Inside C M A) (x : ClientPast C M)
     book = h.book;
   }
 
-  -- a beat is offered
-  pub client_offered_a : (s' : ClientNow C M) (y : BeatOf HeadA C) → s' ≡ record q.port { a = s'.a; book = s'.book } → IsOpen q.port.a → s'.a.closed ≡ false →
-      ClientStands s' (record (client_done q x) { history = x.history ++ Ask y ∷ []; a_homes = homes_with rules_a (asked x.history) x.a.homes y 0 }) →
-      ClientStandsFor (client_side_of (record q { port = s' })) (client_offers_a y x)
-  client_offered_a s' y rest ready still k =
+  -- all that stands in the inboxes is taken
+  pub client_takes_all : (s' : ClientNow C M) → s' ≡ record q.port { b = []; d = []; book = s'.book } → KnowsClient s'.book (x.history ++ map Answer q.port.d) →
+      ClientStandsFor (client_side_of (record q { port = s' })) (client_takes_d q.port.d (client_takes_b q.port.b x))
+  client_takes_all s' rest knows = subst (λ z. ClientStandsFor (client_side_of (record q { port = z })) (client_takes_d q.port.d (client_takes_b q.port.b x))) (sym rest) (record {
+    a = h.a;
+    b = h.b ∙ sym (append-nil (x.b ++ q.port.b));
+    c = h.c;
+    d = h.d ∙ sym (answered-all x.history q.port.d) ∙ sym (append-nil (answered (x.history ++ map Answer q.port.d)));
+    e = h.e;
+    accepted = asked_answers x.history q.port.d ∙ h.accepted;
+    book = knows;
+  })
+
+module _ {A : Type 0} {C M : ℕ} (q : client.Inside C M A) where
+  -- the side with another port
+  abbrev client_with : ClientNow C M → ClientState A C M
+  client_with s = client_side_of (record q { port = s })
+
+  -- an offer to its port is one to the side
+  pub side_offers_a : (s' : ClientNow C M) (y : BeatOf HeadA C) (r : Result (Unit {0}) SideFault) → IsOpen q.port.a → OffersBeat port_sends_a y q.port r s' → OffersBeat side_sends_a y (client_side_of q) r (client_with s')
+  side_offers_a s' y r ready = offer_lifted port_sends_a side_sends_a client_with (client_done q) q.port s' (client_port_stands q) y r (λ x. refl) (λ k. (refl, ap client_with k.0))
+      (λ x h k stands.
       let more : List (BeatOf HeadA C) = x.a.accepted ++ y ∷ [] in
       let same : asked (x.history ++ Ask y ∷ []) ≡ more = asked_ask x.history y ∙ ap (λ z. z ++ y ∷ []) h.accepted in
       let sent = subst (λ z. HasSent rules_a s'.a more (homes_with rules_a z x.a.homes y 0) (sent_of x.a)) h.accepted
-      (subst (λ z. HasSent rules_a s'.a z (homes_with rules_a (asked x.history) x.a.homes y 0) (sent_of x.a)) same k.a) in
-      subst (λ z. ClientStandsFor (client_side_of (record q { port = z })) (client_offers_a y x)) (sym rest)
-      (record { a = sends_offered rules_a masked_a (sending_of q.port.a q.a) x.a y 0 s'.a ready.0 ready.1 still sent h.a; b = h.b; c = h.c; d = subst (λ z. Takes (taking_of q.port.d q.d.half) z) (sym (answered_ask x.history y)) h.d; e = h.e; accepted = same; book = k.book })
+      (subst (λ z. HasSent rules_a s'.a z (homes_with rules_a (asked x.history) x.a.homes y 0) (sent_of x.a)) same stands.a) in
+      subst (λ z. ClientStandsFor (client_with z) ((side_sends_a {A = A}).with_beat y x)) (sym k.0)
+      (record { a = sends_offered rules_a masked_a (sending_of q.port.a q.a) x.a y 0 s'.a ready.0 ready.1 k.1 sent h.a; b = h.b; c = h.c; d = subst (λ z. Takes (taking_of q.port.d q.d.half) z) (sym (answered_ask x.history y)) h.d; e = h.e; accepted = same; book = stands.book }))
 
-  pub client_offered_c : (s' : ClientNow C M) (y : BeatOf HeadC C) → s' ≡ record q.port { c = s'.c } → IsOpen q.port.c → s'.c.closed ≡ false →
-      ClientStands s' (record (client_done q x) { c = accepts rules_c y 0 (away_of x.c) }) → ClientStandsFor (client_side_of (record q { port = s' })) (client_offers_c y x)
-  client_offered_c s' y rest ready still k = subst (λ z. ClientStandsFor (client_side_of (record q { port = z })) (client_offers_c y x)) (sym rest)
-      (record { a = h.a; b = h.b; c = sends_offered rules_c masked_c (sending_of q.port.c q.c) x.c y 0 s'.c ready.0 ready.1 still k.c h.c; d = h.d; e = h.e; accepted = h.accepted; book = h.book })
+  pub side_offers_c : (s' : ClientNow C M) (y : BeatOf HeadC C) (r : Result (Unit {0}) SideFault) → IsOpen q.port.c → OffersBeat port_sends_c y q.port r s' → OffersBeat side_sends_c y (client_side_of q) r (client_with s')
+  side_offers_c s' y r ready = offer_lifted port_sends_c side_sends_c client_with (client_done q) q.port s' (client_port_stands q) y r (λ x. refl) (λ k. (refl, ap client_with k.0))
+      (λ x h k stands. subst (λ z. ClientStandsFor (client_with z) ((side_sends_c {A = A}).with_beat y x)) (sym k.0)
+      (record { a = h.a; b = h.b; c = sends_offered rules_c masked_c (sending_of q.port.c q.c) x.c y 0 s'.c ready.0 ready.1 k.1 stands.c h.c; d = h.d; e = h.e; accepted = h.accepted; book = h.book }))
 
-  pub client_offered_e : (s' : ClientNow C M) (y : BeatOf HeadE C) → s' ≡ record q.port { e = s'.e } → IsOpen q.port.e → s'.e.closed ≡ false →
-      ClientStands s' (record (client_done q x) { e = accepts rules_e y 0 (away_of x.e) }) → ClientStandsFor (client_side_of (record q { port = s' })) (client_offers_e y x)
-  client_offered_e s' y rest ready still k = subst (λ z. ClientStandsFor (client_side_of (record q { port = z })) (client_offers_e y x)) (sym rest)
-      (record { a = h.a; b = h.b; c = h.c; d = h.d; e = sends_offered rules_e masked_e (sending_of q.port.e q.e) x.e y 0 s'.e ready.0 ready.1 still k.e h.e; accepted = h.accepted; book = h.book })
+  pub side_offers_e : (s' : ClientNow C M) (y : BeatOf HeadE C) (r : Result (Unit {0}) SideFault) → IsOpen q.port.e → OffersBeat port_sends_e y q.port r s' → OffersBeat side_sends_e y (client_side_of q) r (client_with s')
+  side_offers_e s' y r ready = offer_lifted port_sends_e side_sends_e client_with (client_done q) q.port s' (client_port_stands q) y r (λ x. refl) (λ k. (refl, ap client_with k.0))
+      (λ x h k stands. subst (λ z. ClientStandsFor (client_with z) ((side_sends_e {A = A}).with_beat y x)) (sym k.0)
+      (record { a = h.a; b = h.b; c = h.c; d = h.d; e = sends_offered rules_e masked_e (sending_of q.port.e q.e) x.e y 0 s'.e ready.0 ready.1 k.1 stands.e h.e; accepted = h.accepted; book = h.book }))
 
-  -- the first beat of an inbox is taken, if there is one
-  pub client_taken_b : (s' : ClientNow C M) → s' ≡ record q.port { b = drop 1 q.port.b } →
-      ClientStandsFor (client_side_of (record q { port = s' })) (client_takes_b (take 1 q.port.b) x)
-  client_taken_b s' rest = subst (λ z. ClientStandsFor (client_side_of (record q { port = z })) (client_takes_b (take 1 q.port.b) x)) (sym rest)
-      (record { a = h.a; b = h.b ∙ sym (cut_moves 1 x.b q.port.b); c = h.c; d = h.d; e = h.e; accepted = h.accepted; book = h.book })
+  -- so is a take
+  pub side_taken_b : (s' : ClientNow C M) (r : Option (BeatOf HeadB C)) → TakesBeat port_takes_b q.port r s' → TakesBeat side_takes_b (client_side_of q) r (client_with s')
+  side_taken_b s' r = take_lifted port_takes_b side_takes_b client_with (client_done q) q.port s' r (client_port_stands q) refl refl (λ k. ap client_with k)
+      (λ x h k stands. subst (λ z. ClientStandsFor (client_with z) ((side_takes_b {A = A}).after_take (client_side_of q) x)) (sym k)
+      (record { a = h.a; b = h.b ∙ sym (cut_moves 1 x.b q.port.b); c = h.c; d = h.d; e = h.e; accepted = h.accepted; book = h.book }))
 
-  pub client_taken_d : (s' : ClientNow C M) → s' ≡ record q.port { d = drop 1 q.port.d; book = s'.book } →
-      KnowsClient s'.book (x.history ++ map Answer (take 1 q.port.d)) →
-      ClientStandsFor (client_side_of (record q { port = s' })) (client_takes_d (take 1 q.port.d) x)
-  client_taken_d s' rest knows = subst (λ z. ClientStandsFor (client_side_of (record q { port = z })) (client_takes_d (take 1 q.port.d) x)) (sym rest)
-      (record { a = h.a; b = h.b; c = h.c; d = h.d ∙ sym (cut_moves 1 (answered x.history) q.port.d) ∙ ap (λ z. z ++ drop 1 q.port.d) (sym (answered-all x.history (take 1 q.port.d))); e = h.e; accepted = asked_answers x.history (take 1 q.port.d) ∙ h.accepted; book = knows })
+  pub side_taken_d : (s' : ClientNow C M) (r : Option (BeatOf HeadD C)) → TakesBeat port_takes_d q.port r s' → TakesBeat side_takes_d (client_side_of q) r (client_with s')
+  side_taken_d s' r = take_lifted port_takes_d side_takes_d client_with (client_done q) q.port s' r (client_port_stands q) refl refl (λ k. ap client_with k)
+      (λ x h k stands. subst (λ z. ClientStandsFor (client_with z) ((side_takes_d {A = A}).after_take (client_side_of q) x)) (sym k)
+      (record { a = h.a; b = h.b; c = h.c; d = h.d ∙ sym (cut_moves 1 (answered x.history) q.port.d) ∙ ap (λ z. z ++ drop 1 q.port.d) (sym (answered-all x.history (take 1 q.port.d))); e = h.e; accepted = asked_answers x.history (take 1 q.port.d) ∙ h.accepted; book = stands.book }))
 
-  -- a channel closes
-  pub client_closed_a : (s' : ClientNow C M) → s' ≡ record q.port { a = record q.port.a { closed = true } } → rest_of rules_a C (asked x.history) ≡ [] →
-      ClientStandsFor (client_side_of (record q { port = s' })) (client_closes_a x)
-  client_closed_a s' rest over = subst (λ z. ClientStandsFor (client_side_of (record q { port = z })) (client_closes_a x)) (sym rest)
-      (record { a = sends_shut rules_a masked_a (sending_of q.port.a q.a) x.a (ap (λ z. rest_of rules_a C z) (sym h.accepted) ∙ over) h.a; b = h.b; c = h.c; d = h.d; e = h.e; accepted = h.accepted; book = h.book })
+  -- and a close
+  pub side_closes_a : (s' : ClientNow C M) (r : Result (Unit {0}) EndFault) → ClosesChannel port_sends_a q.port r s' → ClosesChannel side_sends_a (client_side_of q) r (client_with s')
+  side_closes_a s' r = close_lifted port_sends_a side_sends_a client_with (client_done q) q.port s' (client_port_stands q) r refl (λ x h. h.accepted) refl refl
+      (λ x h over. record { a = sends_shut rules_a masked_a (sending_of q.port.a q.a) x.a over h.a; b = h.b; c = h.c; d = h.d; e = h.e; accepted = h.accepted; book = h.book })
 
-  pub client_closed_c : (s' : ClientNow C M) → s' ≡ record q.port { c = record q.port.c { closed = true } } → rest_of rules_c C x.c.accepted ≡ [] →
-      ClientStandsFor (client_side_of (record q { port = s' })) (client_closes_c x)
-  client_closed_c s' rest over = subst (λ z. ClientStandsFor (client_side_of (record q { port = z })) (client_closes_c x)) (sym rest)
-      (record { a = h.a; b = h.b; c = sends_shut rules_c masked_c (sending_of q.port.c q.c) x.c over h.c; d = h.d; e = h.e; accepted = h.accepted; book = h.book })
+  pub side_closes_c : (s' : ClientNow C M) (r : Result (Unit {0}) EndFault) → ClosesChannel port_sends_c q.port r s' → ClosesChannel side_sends_c (client_side_of q) r (client_with s')
+  side_closes_c s' r = close_lifted port_sends_c side_sends_c client_with (client_done q) q.port s' (client_port_stands q) r refl (λ x h. refl) refl refl
+      (λ x h over. record { a = h.a; b = h.b; c = sends_shut rules_c masked_c (sending_of q.port.c q.c) x.c over h.c; d = h.d; e = h.e; accepted = h.accepted; book = h.book })
 
-  pub client_closed_e : (s' : ClientNow C M) → s' ≡ record q.port { e = record q.port.e { closed = true } } → rest_of rules_e C x.e.accepted ≡ [] →
-      ClientStandsFor (client_side_of (record q { port = s' })) (client_closes_e x)
-  client_closed_e s' rest over = subst (λ z. ClientStandsFor (client_side_of (record q { port = z })) (client_closes_e x)) (sym rest)
-      (record { a = h.a; b = h.b; c = h.c; d = h.d; e = sends_shut rules_e masked_e (sending_of q.port.e q.e) x.e over h.e; accepted = h.accepted; book = h.book })
+  pub side_closes_e : (s' : ClientNow C M) (r : Result (Unit {0}) EndFault) → ClosesChannel port_sends_e q.port r s' → ClosesChannel side_sends_e (client_side_of q) r (client_with s')
+  side_closes_e s' r = close_lifted port_sends_e side_sends_e client_with (client_done q) q.port s' (client_port_stands q) r refl (λ x h. refl) refl refl
+      (λ x h over. record { a = h.a; b = h.b; c = h.c; d = h.d; e = sends_shut rules_e masked_e (sending_of q.port.e q.e) x.e over h.e; accepted = h.accepted; book = h.book })
 
 module _ {A : Type 0} {C M : ℕ} (q : manager.Inside C M A) (x : ManagerPast C M) (h : ManagerStandsFor (manager_side_of q) x) where
   pub manager_port_stands : ManagerStands q.port (manager_done q x)
@@ -139,52 +133,69 @@ module _ {A : Type 0} {C M : ℕ} (q : manager.Inside C M A) (x : ManagerPast C 
     book = h.book;
   }
 
-  -- a beat is offered
-  pub manager_offered_b : (s' : ManagerNow C M) (y : BeatOf HeadB M) → s' ≡ record q.port { b = s'.b } → IsOpen q.port.b → s'.b.closed ≡ false →
-      ManagerStands s' (record (manager_done q x) { b = accepts rules_b y 0 (away_of x.b) }) → ManagerStandsFor (manager_side_of (record q { port = s' })) (manager_offers_b y x)
-  manager_offered_b s' y rest ready still k = subst (λ z. ManagerStandsFor (manager_side_of (record q { port = z })) (manager_offers_b y x)) (sym rest)
-      (record { a = h.a; b = sends_offered rules_b masked_b (sending_of q.port.b q.b) x.b y 0 s'.b ready.0 ready.1 still k.b h.b; c = h.c; d = h.d; e = h.e; accepted = h.accepted; homes = h.homes; book = h.book })
+  -- all that stands in the inboxes is taken
+  pub manager_takes_all : (s' : ManagerNow C M) → s' ≡ record q.port { a = []; c = []; e = []; book = s'.book } → KnowsManager s'.book (x.history ++ map Ask q.port.a) →
+      ManagerStandsFor (manager_side_of (record q { port = s' })) (manager_takes_e q.port.e (manager_takes_c q.port.c (manager_takes_a q.port.a x)))
+  manager_takes_all s' rest knows =
+      subst (λ z. ManagerStandsFor (manager_side_of (record q { port = z })) (manager_takes_e q.port.e (manager_takes_c q.port.c (manager_takes_a q.port.a x)))) (sym rest) (record {
+        a = h.a ∙ sym (asked-all x.history q.port.a) ∙ sym (append-nil (asked (x.history ++ map Ask q.port.a)));
+        b = h.b;
+        c = h.c ∙ sym (append-nil (x.c ++ q.port.c));
+        d = h.d;
+        e = h.e ∙ sym (append-nil (x.e ++ q.port.e));
+        accepted = answered_asks x.history q.port.a ∙ h.accepted;
+        homes = homes_asks x.history q.port.a ∙ h.homes;
+        book = knows;
+      })
 
-  pub manager_offered_d : (s' : ManagerNow C M) (y : BeatOf HeadD M) → s' ≡ record q.port { d = s'.d; book = s'.book } → IsOpen q.port.d → s'.d.closed ≡ false →
-      ManagerStands s' (record (manager_done q x) { history = x.history ++ Answer y ∷ [] }) → ManagerStandsFor (manager_side_of (record q { port = s' })) (manager_offers_d y x)
-  manager_offered_d s' y rest ready still k =
+module _ {A : Type 0} {C M : ℕ} (q : manager.Inside C M A) where
+  -- the side with another port
+  abbrev manager_with : ManagerNow C M → ManagerState A C M
+  manager_with s = manager_side_of (record q { port = s })
+
+  -- an offer to its port is one to the side
+  pub side_offers_b : (s' : ManagerNow C M) (y : BeatOf HeadB M) (r : Result (Unit {0}) SideFault) → IsOpen q.port.b → OffersBeat port_sends_b y q.port r s' → OffersBeat side_sends_b y (manager_side_of q) r (manager_with s')
+  side_offers_b s' y r ready = offer_lifted port_sends_b side_sends_b manager_with (manager_done q) q.port s' (manager_port_stands q) y r (λ x. refl) (λ k. (refl, ap manager_with k.0))
+      (λ x h k stands. subst (λ z. ManagerStandsFor (manager_with z) ((side_sends_b {A = A}).with_beat y x)) (sym k.0)
+      (record { a = h.a; b = sends_offered rules_b masked_b (sending_of q.port.b q.b) x.b y 0 s'.b ready.0 ready.1 k.1 stands.b h.b; c = h.c; d = h.d; e = h.e; accepted = h.accepted; homes = h.homes; book = h.book }))
+
+  pub side_offers_d : (s' : ManagerNow C M) (y : BeatOf HeadD M) (r : Result (Unit {0}) SideFault) → IsOpen q.port.d → OffersBeat port_sends_d y q.port r s' → OffersBeat side_sends_d y (manager_side_of q) r (manager_with s')
+  side_offers_d s' y r ready = offer_lifted port_sends_d side_sends_d manager_with (manager_done q) q.port s' (manager_port_stands q) y r (λ x. refl) (λ k. (refl, ap manager_with k.0))
+      (λ x h k stands.
       let more : List (Event M) = x.history ++ Answer y ∷ [] in
       let home : ℕ = manager_home x.history y.head in
       let between = between_of rules_d q.port.d x.d.accepted x.d.homes (sent_of x.d) h.d.pipe.outbox in
       let same : answered more ≡ x.d.accepted ++ y ∷ [] = answered_answer x.history y ∙ ap (λ z. z ++ y ∷ []) h.accepted in
       let homes = homes_given x.history y x.d.accepted x.d.homes between h.accepted h.homes in
       let sent = subst (λ z. HasSent rules_d s'.d (x.d.accepted ++ y ∷ []) z (sent_of x.d)) homes
-      (subst (λ z. HasSent rules_d s'.d z (manager_homes more) (sent_of x.d)) same k.d) in
-      subst (λ z. ManagerStandsFor (manager_side_of (record q { port = z })) (manager_offers_d y x)) (sym rest)
-      (record { a = subst (λ z. Takes (taking_of q.port.a q.a.half) z) (sym (asked_answer x.history y)) h.a; b = h.b; c = h.c; d = sends_offered rules_d masked_d (sending_of q.port.d q.d) x.d y home s'.d ready.0 ready.1 still sent h.d; e = h.e; accepted = same; homes = homes; book = k.book })
+      (subst (λ z. HasSent rules_d s'.d z (manager_homes more) (sent_of x.d)) same stands.d) in
+      subst (λ z. ManagerStandsFor (manager_with z) ((side_sends_d {A = A}).with_beat y x)) (sym k.0)
+      (record { a = subst (λ z. Takes (taking_of q.port.a q.a.half) z) (sym (asked_answer x.history y)) h.a; b = h.b; c = h.c; d = sends_offered rules_d masked_d (sending_of q.port.d q.d) x.d y home s'.d ready.0 ready.1 k.1 sent h.d; e = h.e; accepted = same; homes = homes; book = stands.book }))
 
-  -- the first beat of an inbox is taken, if there is one
-  pub manager_taken_a : (s' : ManagerNow C M) → s' ≡ record q.port { a = drop 1 q.port.a; book = s'.book } →
-      KnowsManager s'.book (x.history ++ map Ask (take 1 q.port.a)) →
-      ManagerStandsFor (manager_side_of (record q { port = s' })) (manager_takes_a (take 1 q.port.a) x)
-  manager_taken_a s' rest knows = subst (λ z. ManagerStandsFor (manager_side_of (record q { port = z })) (manager_takes_a (take 1 q.port.a) x)) (sym rest)
-      (record { a = h.a ∙ sym (cut_moves 1 (asked x.history) q.port.a) ∙ ap (λ z. z ++ drop 1 q.port.a) (sym (asked-all x.history (take 1 q.port.a))); b = h.b; c = h.c; d = h.d; e = h.e; accepted = answered_asks x.history (take 1 q.port.a) ∙ h.accepted; homes = homes_asks x.history (take 1 q.port.a) ∙ h.homes; book = knows })
+  -- so is a take
+  pub side_taken_a : (s' : ManagerNow C M) (r : Option (BeatOf HeadA M)) → TakesBeat port_takes_a q.port r s' → TakesBeat side_takes_a (manager_side_of q) r (manager_with s')
+  side_taken_a s' r = take_lifted port_takes_a side_takes_a manager_with (manager_done q) q.port s' r (manager_port_stands q) refl refl (λ k. ap manager_with k)
+      (λ x h k stands. subst (λ z. ManagerStandsFor (manager_with z) ((side_takes_a {A = A}).after_take (manager_side_of q) x)) (sym k)
+      (record { a = h.a ∙ sym (cut_moves 1 (asked x.history) q.port.a) ∙ ap (λ z. z ++ drop 1 q.port.a) (sym (asked-all x.history (take 1 q.port.a))); b = h.b; c = h.c; d = h.d; e = h.e; accepted = answered_asks x.history (take 1 q.port.a) ∙ h.accepted; homes = homes_asks x.history (take 1 q.port.a) ∙ h.homes; book = stands.book }))
 
-  pub manager_taken_c : (s' : ManagerNow C M) → s' ≡ record q.port { c = drop 1 q.port.c } →
-      ManagerStandsFor (manager_side_of (record q { port = s' })) (manager_takes_c (take 1 q.port.c) x)
-  manager_taken_c s' rest = subst (λ z. ManagerStandsFor (manager_side_of (record q { port = z })) (manager_takes_c (take 1 q.port.c) x)) (sym rest)
-      (record { a = h.a; b = h.b; c = h.c ∙ sym (cut_moves 1 x.c q.port.c); d = h.d; e = h.e; accepted = h.accepted; homes = h.homes; book = h.book })
+  pub side_taken_c : (s' : ManagerNow C M) (r : Option (BeatOf HeadC M)) → TakesBeat port_takes_c q.port r s' → TakesBeat side_takes_c (manager_side_of q) r (manager_with s')
+  side_taken_c s' r = take_lifted port_takes_c side_takes_c manager_with (manager_done q) q.port s' r (manager_port_stands q) refl refl (λ k. ap manager_with k)
+      (λ x h k stands. subst (λ z. ManagerStandsFor (manager_with z) ((side_takes_c {A = A}).after_take (manager_side_of q) x)) (sym k)
+      (record { a = h.a; b = h.b; c = h.c ∙ sym (cut_moves 1 x.c q.port.c); d = h.d; e = h.e; accepted = h.accepted; homes = h.homes; book = h.book }))
 
-  pub manager_taken_e : (s' : ManagerNow C M) → s' ≡ record q.port { e = drop 1 q.port.e } →
-      ManagerStandsFor (manager_side_of (record q { port = s' })) (manager_takes_e (take 1 q.port.e) x)
-  manager_taken_e s' rest = subst (λ z. ManagerStandsFor (manager_side_of (record q { port = z })) (manager_takes_e (take 1 q.port.e) x)) (sym rest)
-      (record { a = h.a; b = h.b; c = h.c; d = h.d; e = h.e ∙ sym (cut_moves 1 x.e q.port.e); accepted = h.accepted; homes = h.homes; book = h.book })
+  pub side_taken_e : (s' : ManagerNow C M) (r : Option (BeatOf HeadE M)) → TakesBeat port_takes_e q.port r s' → TakesBeat side_takes_e (manager_side_of q) r (manager_with s')
+  side_taken_e s' r = take_lifted port_takes_e side_takes_e manager_with (manager_done q) q.port s' r (manager_port_stands q) refl refl (λ k. ap manager_with k)
+      (λ x h k stands. subst (λ z. ManagerStandsFor (manager_with z) ((side_takes_e {A = A}).after_take (manager_side_of q) x)) (sym k)
+      (record { a = h.a; b = h.b; c = h.c; d = h.d; e = h.e ∙ sym (cut_moves 1 x.e q.port.e); accepted = h.accepted; homes = h.homes; book = h.book }))
 
-  -- a channel closes
-  pub manager_closed_b : (s' : ManagerNow C M) → s' ≡ record q.port { b = record q.port.b { closed = true } } → rest_of rules_b M x.b.accepted ≡ [] →
-      ManagerStandsFor (manager_side_of (record q { port = s' })) (manager_closes_b x)
-  manager_closed_b s' rest over = subst (λ z. ManagerStandsFor (manager_side_of (record q { port = z })) (manager_closes_b x)) (sym rest)
-      (record { a = h.a; b = sends_shut rules_b masked_b (sending_of q.port.b q.b) x.b over h.b; c = h.c; d = h.d; e = h.e; accepted = h.accepted; homes = h.homes; book = h.book })
+  -- and a close
+  pub side_closes_b : (s' : ManagerNow C M) (r : Result (Unit {0}) EndFault) → ClosesChannel port_sends_b q.port r s' → ClosesChannel side_sends_b (manager_side_of q) r (manager_with s')
+  side_closes_b s' r = close_lifted port_sends_b side_sends_b manager_with (manager_done q) q.port s' (manager_port_stands q) r refl (λ x h. refl) refl refl
+      (λ x h over. record { a = h.a; b = sends_shut rules_b masked_b (sending_of q.port.b q.b) x.b over h.b; c = h.c; d = h.d; e = h.e; accepted = h.accepted; homes = h.homes; book = h.book })
 
-  pub manager_closed_d : (s' : ManagerNow C M) → s' ≡ record q.port { d = record q.port.d { closed = true } } → rest_of rules_d M (answered x.history) ≡ [] →
-      ManagerStandsFor (manager_side_of (record q { port = s' })) (manager_closes_d x)
-  manager_closed_d s' rest over = subst (λ z. ManagerStandsFor (manager_side_of (record q { port = z })) (manager_closes_d x)) (sym rest)
-      (record { a = h.a; b = h.b; c = h.c; d = sends_shut rules_d masked_d (sending_of q.port.d q.d) x.d (ap (λ z. rest_of rules_d M z) (sym h.accepted) ∙ over) h.d; e = h.e; accepted = h.accepted; homes = h.homes; book = h.book })
+  pub side_closes_d : (s' : ManagerNow C M) (r : Result (Unit {0}) EndFault) → ClosesChannel port_sends_d q.port r s' → ClosesChannel side_sends_d (manager_side_of q) r (manager_with s')
+  side_closes_d s' r = close_lifted port_sends_d side_sends_d manager_with (manager_done q) q.port s' (manager_port_stands q) r refl (λ x h. h.accepted) refl refl
+      (λ x h over. record { a = h.a; b = h.b; c = h.c; d = sends_shut rules_d masked_d (sending_of q.port.d q.d) x.d over h.d; e = h.e; accepted = h.accepted; homes = h.homes; book = h.book })
 
 module _ {K A H : Type 0} {v : ℕ} where
   -- the count of a pump is what left the stage

@@ -1,14 +1,7 @@
 -- What each side keeps between its calls, and that it is enough to know the side's history (this project's choice).
 use Rattle.std.specs.Prelude.{◌≡◌, ℕ, Bool, Option, List}
-use Rattle.tl_msg.specs.Rules.{Rules}
-use Rattle.tl_msg.specs.Tables.{rules_a, rules_d}
-use Rattle.tl_msg.specs.declared.beat.BeatOf.{BeatOf}
-use Rattle.tl_burst.specs.Begun.{left}
-use Rattle.tl_burst.specs.Handing.{IsHanded, burst_after}
-use Rattle.tl_burst.specs.Tracking.{IsPlaceOf}
-use Rattle.tl_burst.specs.declared.place.Place.{Place}
+use Rattle.tl_sides.specs.Words.{Rules, rules_a, rules_d, BeatOf, left, IsHanded, burst_after, IsPlaceOf, Place, Event, asked, answered, marks}
 use Rattle.tl_sides.specs.declared.tables.Request.{Request}
-use Rattle.tl_settle.specs.Histories.{Event, asked, answered, marks}
 use Rattle.tl_sides.specs.Tables.{AreBusy, AreOpen}
 
 -- the client's side: its busy sources, and how many beats the last response that it takes still lacks

@@ -1,19 +1,10 @@
 -- What a contract sees of the bridge of both sides in one thread: five crossings, and what each side has seen of A and D. A, C and E cross
 -- from the client's side, at width C, to the manager's, at width M; B and D cross back (this project's choice).
-use Rattle.std.specs.Prelude.{◌≡◌, ◌-◌, ◌+◌, ◌++◌, ℕ, List, [], ◌∷◌, length, map, take, min}
-use Rattle.tl_msg.specs.Tables.{rules_a, rules_b, rules_c, rules_d, rules_e}
-use Rattle.tl_msg.specs.declared.head.HeadA.{HeadA}
-use Rattle.tl_msg.specs.declared.head.HeadB.{HeadB}
-use Rattle.tl_msg.specs.declared.head.HeadC.{HeadC}
-use Rattle.tl_msg.specs.declared.head.HeadD.{HeadD}
-use Rattle.tl_msg.specs.declared.head.HeadE.{HeadE}
-use Rattle.tl_msg.specs.declared.beat.BeatOf.{BeatOf}
-use Rattle.tl_ring.specs.Crossing.{World, empty, offered, pushed, popped, took, shut, inbox_room}
-use Rattle.tl_ring.specs.Pipe.{Pipe}
+use Rattle.std.specs.Prelude.{◌≡◌, ◌-◌, ◌+◌, ◌++◌, ℕ, true, List, [], ◌∷◌, length, map, take, drop, min}
+use Rattle.tl_sides.specs.Words.{rules_a, rules_b, rules_c, rules_d, rules_e, HeadA, HeadB, HeadC, HeadD, HeadE, World, empty, offered, pushed, popped, took, inbox_room, Pipe, Standing, Event, Ask, Answer, asked, answered, client_answer, manager_answer, manager_home, manager_homes}
 use Rattle.tl_ring.specs.Pipe as piping
-use Rattle.tl_ring.specs.declared.standing.Standing.{Standing}
-use Rattle.tl_settle.specs.Histories.{Event, Ask, Answer, asked, answered, manager_home, manager_homes}
 use Rattle.tl_sides.specs.Books.{Client, Manager, KnowsClient, KnowsManager}
+use Rattle.tl_sides.specs.Calls.{SendingChannel, TakingChannel, alone}
 
 -- a bridge as it is now: it keeps no history
 pub record Bridge (C M : ℕ) : Type 0 where
@@ -81,54 +72,79 @@ module _ {C M : ℕ} where
     e = empty room;
   }
 
-  -- a beat is accepted: on A the client's side has asked, and on D the manager's has answered; the home of a message of D is the address of the
-  -- request that is open there then, and 0 of ReleaseAck
-  abbrev pub after_offer_a : BeatOf HeadA C → Past C M → Past C M
-  after_offer_a b x = record x { client = x.client ++ Ask b ∷ []; a = offered rules_a b 0 x.a }
+  -- the channels that a bridge sends from one of its sides: on A the client's side has asked, and on D the manager's has answered; the home of a message of D
+  -- is the address of the request that is open there then, and 0 of ReleaseAck
+  abbrev pub bridge_sends_a : SendingChannel (Bridge C M) (Past C M) HeadA C
+  bridge_sends_a = record (alone rules_a StandsFor (λ x. x.a) (λ y x. record x { a = y }) (λ s. s.a.closed) (λ s. record s { a = record s.a { closed = true } })
+      (λ s s'. s' ≡ record s { a = s'.a; client = s'.client })) {
+        stops = λ x. client_answer x.client;
+        with_beat = λ b x. record x { client = x.client ++ Ask b ∷ []; a = offered rules_a b 0 x.a };
+      }
 
-  abbrev pub after_offer_b : BeatOf HeadB M → Past C M → Past C M
-  after_offer_b b x = record x { b = offered rules_b b 0 x.b }
+  abbrev pub bridge_sends_b : SendingChannel (Bridge C M) (Past C M) HeadB M
+  bridge_sends_b = alone rules_b StandsFor (λ x. x.b) (λ y x. record x { b = y }) (λ s. s.b.closed) (λ s. record s { b = record s.b { closed = true } })
+      (λ s s'. s' ≡ record s { b = s'.b })
 
-  abbrev pub after_offer_c : BeatOf HeadC C → Past C M → Past C M
-  after_offer_c b x = record x { c = offered rules_c b 0 x.c }
+  abbrev pub bridge_sends_c : SendingChannel (Bridge C M) (Past C M) HeadC C
+  bridge_sends_c = alone rules_c StandsFor (λ x. x.c) (λ y x. record x { c = y }) (λ s. s.c.closed) (λ s. record s { c = record s.c { closed = true } })
+      (λ s s'. s' ≡ record s { c = s'.c })
 
-  abbrev pub after_offer_d : BeatOf HeadD M → Past C M → Past C M
-  after_offer_d b x = record x { manager = x.manager ++ Answer b ∷ []; d = offered rules_d b (manager_home x.manager b.head) x.d }
+  abbrev pub bridge_sends_d : SendingChannel (Bridge C M) (Past C M) HeadD M
+  bridge_sends_d = record (alone rules_d StandsFor (λ x. x.d) (λ y x. record x { d = y }) (λ s. s.d.closed) (λ s. record s { d = record s.d { closed = true } })
+      (λ s s'. s' ≡ record s { d = s'.d; manager = s'.manager })) {
+        stops = λ x. manager_answer x.manager;
+        with_beat = λ b x. record x { manager = x.manager ++ Answer b ∷ []; d = offered rules_d b (manager_home x.manager b.head) x.d };
+      }
 
-  abbrev pub after_offer_e : BeatOf HeadE C → Past C M → Past C M
-  after_offer_e b x = record x { e = offered rules_e b 0 x.e }
+  abbrev pub bridge_sends_e : SendingChannel (Bridge C M) (Past C M) HeadE C
+  bridge_sends_e = alone rules_e StandsFor (λ x. x.e) (λ y x. record x { e = y }) (λ s. s.e.closed) (λ s. record s { e = record s.e { closed = true } })
+      (λ s s'. s' ≡ record s { e = s'.e })
 
-  -- the first beat of an inbox, if there is one, is taken: on A the manager's side is asked, and on D the client's is answered
-  abbrev pub after_take_a : Past C M → Past C M
-  after_take_a x = record x { manager = x.manager ++ map Ask (take 1 x.a.inbox); a = took x.a }
+  -- and those that it takes at the other: on A the manager's side is asked, and on D the client's is answered
+  abbrev pub bridge_takes_a : TakingChannel (Bridge C M) (Past C M) HeadA M
+  bridge_takes_a = record {
+    rules = rules_a;
+    Stands = StandsFor;
+    inbox = λ s. s.a.inbox;
+    after_take = λ _ x. record x { manager = x.manager ++ map Ask (take 1 x.a.inbox); a = took x.a };
+    Keeps = λ s s'. s' ≡ record s { a = record s.a { inbox = drop 1 s.a.inbox }; manager = s'.manager };
+  }
 
-  abbrev pub after_take_b : Past C M → Past C M
-  after_take_b x = record x { b = took x.b }
+  abbrev pub bridge_takes_b : TakingChannel (Bridge C M) (Past C M) HeadB C
+  bridge_takes_b = record {
+    rules = rules_b;
+    Stands = StandsFor;
+    inbox = λ s. s.b.inbox;
+    after_take = λ _ x. record x { b = took x.b };
+    Keeps = λ s s'. s' ≡ record s { b = record s.b { inbox = drop 1 s.b.inbox } };
+  }
 
-  abbrev pub after_take_c : Past C M → Past C M
-  after_take_c x = record x { c = took x.c }
+  abbrev pub bridge_takes_c : TakingChannel (Bridge C M) (Past C M) HeadC M
+  bridge_takes_c = record {
+    rules = rules_c;
+    Stands = StandsFor;
+    inbox = λ s. s.c.inbox;
+    after_take = λ _ x. record x { c = took x.c };
+    Keeps = λ s s'. s' ≡ record s { c = record s.c { inbox = drop 1 s.c.inbox } };
+  }
 
-  abbrev pub after_take_d : Past C M → Past C M
-  after_take_d x = record x { client = x.client ++ map Answer (take 1 x.d.inbox); d = took x.d }
+  abbrev pub bridge_takes_d : TakingChannel (Bridge C M) (Past C M) HeadD C
+  bridge_takes_d = record {
+    rules = rules_d;
+    Stands = StandsFor;
+    inbox = λ s. s.d.inbox;
+    after_take = λ _ x. record x { client = x.client ++ map Answer (take 1 x.d.inbox); d = took x.d };
+    Keeps = λ s s'. s' ≡ record s { d = record s.d { inbox = drop 1 s.d.inbox }; client = s'.client };
+  }
 
-  abbrev pub after_take_e : Past C M → Past C M
-  after_take_e x = record x { e = took x.e }
-
-  -- an end closes
-  abbrev pub after_close_a : Past C M → Past C M
-  after_close_a x = record x { a = shut x.a }
-
-  abbrev pub after_close_b : Past C M → Past C M
-  after_close_b x = record x { b = shut x.b }
-
-  abbrev pub after_close_c : Past C M → Past C M
-  after_close_c x = record x { c = shut x.c }
-
-  abbrev pub after_close_d : Past C M → Past C M
-  after_close_d x = record x { d = shut x.d }
-
-  abbrev pub after_close_e : Past C M → Past C M
-  after_close_e x = record x { e = shut x.e }
+  abbrev pub bridge_takes_e : TakingChannel (Bridge C M) (Past C M) HeadE M
+  bridge_takes_e = record {
+    rules = rules_e;
+    Stands = StandsFor;
+    inbox = λ s. s.e.inbox;
+    after_take = λ _ x. record x { e = took x.e };
+    Keeps = λ s s'. s' ≡ record s { e = record s.e { inbox = drop 1 s.e.inbox } };
+  }
 
   -- a bridge pumps, or fetches, on all channels
   abbrev pub after_pump : Bridge C M → Past C M → Past C M

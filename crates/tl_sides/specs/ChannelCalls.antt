@@ -1,7 +1,6 @@
 -- What comes of the calls on one channel of a bridge in one thread, and of a call that takes all that has arrived (this project's choice).
 use Rattle.std.specs.Prelude.{◌++◌, ℕ, [], map}
-use Rattle.tl_ring.specs.Crossing.{World, popped, pushed}
-use Rattle.tl_settle.specs.Histories.{Ask, Answer}
+use Rattle.tl_sides.specs.Words.{World, popped, pushed, Ask, Answer}
 use Rattle.tl_sides.specs.Bridges.{Bridge, Past, fetch_count, pump_count}
 
 -- all of an inbox is taken

@@ -1,9 +1,6 @@
 -- What a contract of the two sides sees of one channel's ends.
 use Rattle.std.specs.Prelude.{◌≡◌, ◌≤◌, ◌-◌, ℕ, [], length, min}
-use Rattle.tl_ring.specs.Crossing.{World, inbox_room}
-use Rattle.tl_ring.specs.Ends.{Sending, Taking, Pushed, Fetched, known_free, known_items, passed}
-use Rattle.tl_ring.specs.declared.queue.TheConstants.{ROOM}
-use Rattle.tl_ring.specs.declared.standing.Standing.{Standing}
+use Rattle.tl_sides.specs.Words.{World, inbox_room, Sending, Taking, Pushed, Fetched, known_free, known_items, passed, ROOM, Standing}
 
 module _ {K A H : Type 0} {v : ℕ} where
   -- how many beats left the stage of a sending end, and how many came into the inbox of a taking

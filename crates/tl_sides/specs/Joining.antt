@@ -1,14 +1,6 @@
 -- The bridge of both sides in one thread is their two ports and a ring on each channel.
 use Rattle.std.specs.Prelude.{ℕ, List}
-use Rattle.circular_buffer.specs.Buffer.{Buffer}
-use Rattle.tl_msg.specs.declared.head.HeadA.{HeadA}
-use Rattle.tl_msg.specs.declared.head.HeadB.{HeadB}
-use Rattle.tl_msg.specs.declared.head.HeadC.{HeadC}
-use Rattle.tl_msg.specs.declared.head.HeadD.{HeadD}
-use Rattle.tl_msg.specs.declared.head.HeadE.{HeadE}
-use Rattle.tl_msg.specs.declared.beat.BeatOf.{BeatOf}
-use Rattle.tl_ring.specs.Boxes.{Outgoing}
-use Rattle.tl_ring.specs.Pipe.{Pipe}
+use Rattle.tl_sides.specs.Words.{Buffer, HeadA, HeadB, HeadC, HeadD, HeadE, BeatOf, Outgoing, Pipe}
 use Rattle.tl_sides.specs.Bridges.{Bridge}
 use Rattle.tl_sides.specs.Ports.{ClientNow, ManagerNow}
 

@@ -1,6 +1,8 @@
+pub mod Words
 pub mod Tables
 pub mod Books
 pub mod Crossings
+pub mod Calls
 pub mod Bridges
 pub mod ChannelCalls
 pub mod Ports

@@ -1,17 +1,9 @@
 -- What a contract sees of a side, whatever carries its beats: its own history alone.
-use Rattle.std.specs.Prelude.{◌++◌, ℕ, List, [], ◌∷◌}
-use Rattle.tl_msg.specs.Rules.{Rules}
-use Rattle.tl_msg.specs.Tables.{rules_a, rules_b, rules_c, rules_d, rules_e}
-use Rattle.tl_msg.specs.declared.head.HeadA.{HeadA}
-use Rattle.tl_msg.specs.declared.head.HeadB.{HeadB}
-use Rattle.tl_msg.specs.declared.head.HeadC.{HeadC}
-use Rattle.tl_msg.specs.declared.head.HeadD.{HeadD}
-use Rattle.tl_msg.specs.declared.head.HeadE.{HeadE}
-use Rattle.tl_msg.specs.declared.beat.BeatOf.{BeatOf}
-use Rattle.tl_burst.specs.Handing.{homes_with}
-use Rattle.tl_ring.specs.Boxes.{Outgoing, HasSent, HasTaken}
-use Rattle.tl_settle.specs.Histories.{Event, asked, answered, manager_homes}
+use Rattle.std.specs.Prelude.{◌≡◌, ◌++◌, ℕ, true, false, List, [], ◌∷◌, map, take, drop}
+use Rattle.tl_sides.specs.Words.{Rules, rules_a, rules_b, rules_c, rules_d, rules_e, HeadA, HeadB, HeadC, HeadD, HeadE, BeatOf, homes_with, Outgoing, HasSent, HasTaken, Event, Ask, Answer, asked, answered, client_answer, manager_answer, manager_homes}
 use Rattle.tl_sides.specs.Books.{Client, Manager, KnowsClient, KnowsManager}
+use Rattle.tl_sides.specs.Calls.{SendingChannel, TakingChannel}
+use Rattle.tl_sides.specs.Crossings.{stops_alone}
 
 -- what a side did on a channel that it sends
 pub record Away (H : Type 0) (w v : ℕ) : Type 0 where
@@ -108,3 +100,105 @@ manager_new = record {
   d_sent = [];
   e = record { received = []; taken = [] };
 }
+
+-- a channel that a side sends, and that nothing couples to another one, by its outbox and by what went through that. An offer closes none
+abbrev pub through : {S P H : Type 0} {w v : ℕ} (r : Rules H) (Stands : S → P → Type 0) (outbox : S → Outgoing H v) (lay : Outgoing H v → S → S)
+    (away : P → Away H w v) (put : Away H w v → P → P) → SendingChannel S P H w
+through r Stands outbox lay away put = record {
+  rules = r;
+  Stands = Stands;
+  accepted = λ x. (away x).accepted;
+  stops = λ x. stops_alone r (away x).accepted;
+  with_beat = λ b x. put (accepts r b 0 (away x)) x;
+  ended = λ x. x;
+  closed = λ s. (outbox s).closed;
+  as_closed = λ s. lay (record (outbox s) { closed = true }) s;
+  Keeps = λ s s'. (s' ≡ lay (outbox s') s) × ((outbox s').closed ≡ false);
+}
+
+-- an outbox alone
+abbrev pub outbox_sends : {H : Type 0} (r : Rules H) {w v : ℕ} → SendingChannel (Outgoing H v) (Away H w v) H w
+outbox_sends r = through r (λ o x. HasSent r o x.accepted x.homes x.sent) (λ o. o) (λ o _. o) (λ x. x) (λ y _. y)
+
+module _ {C M : ℕ} where
+  -- the channels that each side sends: on A and D its book decides, and what is accepted is part of its history
+  abbrev pub port_sends_a : SendingChannel (ClientNow C M) (ClientDone C M) HeadA C
+  port_sends_a = record {
+    rules = rules_a;
+    Stands = ClientStands;
+    accepted = λ x. asked x.history;
+    stops = λ x. client_answer x.history;
+    with_beat = λ b x. record x { history = x.history ++ Ask b ∷ []; a_homes = homes_with rules_a (asked x.history) x.a_homes b 0 };
+    ended = λ x. x;
+    closed = λ s. s.a.closed;
+    as_closed = λ s. record s { a = record s.a { closed = true } };
+    Keeps = λ s s'. (s' ≡ record s { a = s'.a; book = s'.book }) × (s'.a.closed ≡ false);
+  }
+
+  abbrev pub port_sends_b : SendingChannel (ManagerNow C M) (ManagerDone C M) HeadB M
+  port_sends_b = through rules_b ManagerStands (λ s. s.b) (λ o s. record s { b = o }) (λ x. x.b) (λ y x. record x { b = y })
+
+  abbrev pub port_sends_c : SendingChannel (ClientNow C M) (ClientDone C M) HeadC C
+  port_sends_c = through rules_c ClientStands (λ s. s.c) (λ o s. record s { c = o }) (λ x. x.c) (λ y x. record x { c = y })
+
+  abbrev pub port_sends_d : SendingChannel (ManagerNow C M) (ManagerDone C M) HeadD M
+  port_sends_d = record {
+    rules = rules_d;
+    Stands = ManagerStands;
+    accepted = λ x. answered x.history;
+    stops = λ x. manager_answer x.history;
+    with_beat = λ b x. record x { history = x.history ++ Answer b ∷ [] };
+    ended = λ x. x;
+    closed = λ s. s.d.closed;
+    as_closed = λ s. record s { d = record s.d { closed = true } };
+    Keeps = λ s s'. (s' ≡ record s { d = s'.d; book = s'.book }) × (s'.d.closed ≡ false);
+  }
+
+  abbrev pub port_sends_e : SendingChannel (ClientNow C M) (ClientDone C M) HeadE C
+  port_sends_e = through rules_e ClientStands (λ s. s.e) (λ o s. record s { e = o }) (λ x. x.e) (λ y x. record x { e = y })
+
+  -- and those that it takes
+  abbrev pub port_takes_a : TakingChannel (ManagerNow C M) (ManagerDone C M) HeadA M
+  port_takes_a = record {
+    rules = rules_a;
+    Stands = ManagerStands;
+    inbox = λ s. s.a;
+    after_take = λ s x. record x { history = x.history ++ map Ask (take 1 s.a) };
+    Keeps = λ s s'. s' ≡ record s { a = drop 1 s.a; book = s'.book };
+  }
+
+  abbrev pub port_takes_b : TakingChannel (ClientNow C M) (ClientDone C M) HeadB C
+  port_takes_b = record {
+    rules = rules_b;
+    Stands = ClientStands;
+    inbox = λ s. s.b;
+    after_take = λ s x. record x { b = takes (take 1 s.b) x.b };
+    Keeps = λ s s'. s' ≡ record s { b = drop 1 s.b };
+  }
+
+  abbrev pub port_takes_c : TakingChannel (ManagerNow C M) (ManagerDone C M) HeadC M
+  port_takes_c = record {
+    rules = rules_c;
+    Stands = ManagerStands;
+    inbox = λ s. s.c;
+    after_take = λ s x. record x { c = takes (take 1 s.c) x.c };
+    Keeps = λ s s'. s' ≡ record s { c = drop 1 s.c };
+  }
+
+  abbrev pub port_takes_d : TakingChannel (ClientNow C M) (ClientDone C M) HeadD C
+  port_takes_d = record {
+    rules = rules_d;
+    Stands = ClientStands;
+    inbox = λ s. s.d;
+    after_take = λ s x. record x { history = x.history ++ map Answer (take 1 s.d) };
+    Keeps = λ s s'. s' ≡ record s { d = drop 1 s.d; book = s'.book };
+  }
+
+  abbrev pub port_takes_e : TakingChannel (ManagerNow C M) (ManagerDone C M) HeadE M
+  port_takes_e = record {
+    rules = rules_e;
+    Stands = ManagerStands;
+    inbox = λ s. s.e;
+    after_take = λ s x. record x { e = takes (take 1 s.e) x.e };
+    Keeps = λ s s'. s' ≡ record s { e = drop 1 s.e };
+  }

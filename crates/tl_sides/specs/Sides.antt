@@ -2,23 +2,10 @@
 -- width C, to the manager's, at width M; B and D cross back. What a side stands for is its own
 -- alone: where the beats are that it has sent, and which ones will come, only a meeting tells (this
 -- project's choice).
-use Rattle.std.specs.Prelude.{◌≡◌, ◌++◌, ℕ, List, [], ◌∷◌, map}
-use Rattle.tl_msg.specs.Tables.{rules_a, rules_b, rules_c, rules_d, rules_e}
-use Rattle.tl_msg.specs.declared.channel.ChA.{ChA}
-use Rattle.tl_msg.specs.declared.channel.ChB.{ChB}
-use Rattle.tl_msg.specs.declared.channel.ChC.{ChC}
-use Rattle.tl_msg.specs.declared.channel.ChD.{ChD}
-use Rattle.tl_msg.specs.declared.channel.ChE.{ChE}
-use Rattle.tl_msg.specs.declared.head.HeadA.{HeadA}
-use Rattle.tl_msg.specs.declared.head.HeadB.{HeadB}
-use Rattle.tl_msg.specs.declared.head.HeadC.{HeadC}
-use Rattle.tl_msg.specs.declared.head.HeadD.{HeadD}
-use Rattle.tl_msg.specs.declared.head.HeadE.{HeadE}
-use Rattle.tl_msg.specs.declared.beat.BeatOf.{BeatOf}
-use Rattle.tl_ring.specs.Crossing.{World, empty, offered, shut}
-use Rattle.tl_ring.specs.Ends.{Sending, Taking, SendHalf, TakeHalf, sending_of, taking_of, Sends, Takes, Meets, ArePair, SameSend, SameTake, known_free}
-use Rattle.tl_settle.specs.Histories.{Event, Ask, Answer, asked, answered, manager_home, manager_homes}
+use Rattle.std.specs.Prelude.{◌≡◌, ◌++◌, ℕ, List, [], ◌∷◌, map, take}
+use Rattle.tl_sides.specs.Words.{rules_a, rules_b, rules_c, rules_d, rules_e, ChA, ChB, ChC, ChD, ChE, HeadA, HeadB, HeadC, HeadD, HeadE, BeatOf, World, empty, offered, Sending, Taking, SendHalf, TakeHalf, sending_of, taking_of, Sends, Takes, Meets, ArePair, SameSend, SameTake, known_free, closing, took_first, Event, Ask, Answer, asked, answered, client_answer, manager_answer, manager_home, manager_homes}
 use Rattle.tl_sides.specs.Books.{Client, Manager, KnowsClient, KnowsManager}
+use Rattle.tl_sides.specs.Calls.{SendingChannel, TakingChannel, alone}
 use Rattle.tl_sides.specs.Ports.{ClientNow, ManagerNow}
 use Rattle.tl_sides.specs.Ends.{after_pump, IsIdle}
 
@@ -109,46 +96,13 @@ module _ {C M : ℕ} where
   abbrev pub new_manager : (room : ℕ) → ManagerPast C M
   new_manager room = record { history = []; b = empty room; c = []; d = empty room; e = [] }
 
-  -- the client's side accepts a beat
-  abbrev pub client_offers_a : BeatOf HeadA C → ClientPast C M → ClientPast C M
-  client_offers_a b x =
-      record x { history = x.history ++ Ask b ∷ []; a = offered rules_a b 0 x.a }
-
-  abbrev pub client_offers_c : BeatOf HeadC C → ClientPast C M → ClientPast C M
-  client_offers_c b x = record x { c = offered rules_c b 0 x.c }
-
-  abbrev pub client_offers_e : BeatOf HeadE C → ClientPast C M → ClientPast C M
-  client_offers_e b x = record x { e = offered rules_e b 0 x.e }
-
-  -- it takes these beats: one, or none
+  -- these beats of a channel are taken: one, or none
   abbrev pub client_takes_b : List (BeatOf HeadB C) → ClientPast C M → ClientPast C M
   client_takes_b bs x = record x { b = x.b ++ bs }
 
   abbrev pub client_takes_d : List (BeatOf HeadD C) → ClientPast C M → ClientPast C M
   client_takes_d bs x = record x { history = x.history ++ map Answer bs }
 
-  -- it closes a channel
-  abbrev pub client_closes_a : ClientPast C M → ClientPast C M
-  client_closes_a x = record x { a = shut x.a }
-
-  abbrev pub client_closes_c : ClientPast C M → ClientPast C M
-  client_closes_c x = record x { c = shut x.c }
-
-  abbrev pub client_closes_e : ClientPast C M → ClientPast C M
-  client_closes_e x = record x { e = shut x.e }
-
-  -- the manager's side accepts a beat; the home of a message of D is the address of the request
-  -- that is open there then, and 0 of ReleaseAck
-  abbrev pub manager_offers_b : BeatOf HeadB M → ManagerPast C M → ManagerPast C M
-  manager_offers_b b x = record x { b = offered rules_b b 0 x.b }
-
-  abbrev pub manager_offers_d : BeatOf HeadD M → ManagerPast C M → ManagerPast C M
-  manager_offers_d b x = record x {
-    history = x.history ++ Answer b ∷ [];
-    d = offered rules_d b (manager_home x.history b.head) x.d;
-  }
-
-  -- it takes these beats: one, or none
   abbrev pub manager_takes_a : List (BeatOf HeadA M) → ManagerPast C M → ManagerPast C M
   manager_takes_a bs x = record x { history = x.history ++ map Ask bs }
 
@@ -158,12 +112,80 @@ module _ {C M : ℕ} where
   abbrev pub manager_takes_e : List (BeatOf HeadE M) → ManagerPast C M → ManagerPast C M
   manager_takes_e bs x = record x { e = x.e ++ bs }
 
-  -- it closes a channel
-  abbrev pub manager_closes_b : ManagerPast C M → ManagerPast C M
-  manager_closes_b x = record x { b = shut x.b }
+module _ {A : Type 0} {C M : ℕ} where
+  -- the channels that each side sends: its half of a ring stays as it is; the home of a message of D is the address of the request that is open there then, and 0
+  -- of ReleaseAck
+  abbrev pub side_sends_a : SendingChannel (ClientState A C M) (ClientPast C M) HeadA C
+  side_sends_a = record (alone rules_a ClientStandsFor (λ x. x.a) (λ y x. record x { a = y }) (λ s. s.a.closed) (λ s. record s { a = closing s.a })
+      (λ s s'. (s'.a.producer ≡ s.a.producer) × (s' ≡ record s { a = s'.a; book = s'.book }))) {
+        stops = λ x. client_answer x.history;
+        with_beat = λ b x. record x { history = x.history ++ Ask b ∷ []; a = offered rules_a b 0 x.a };
+      }
 
-  abbrev pub manager_closes_d : ManagerPast C M → ManagerPast C M
-  manager_closes_d x = record x { d = shut x.d }
+  abbrev pub side_sends_b : SendingChannel (ManagerState A C M) (ManagerPast C M) HeadB M
+  side_sends_b = alone rules_b ManagerStandsFor (λ x. x.b) (λ y x. record x { b = y }) (λ s. s.b.closed) (λ s. record s { b = closing s.b })
+      (λ s s'. (s'.b.producer ≡ s.b.producer) × (s' ≡ record s { b = s'.b }))
+
+  abbrev pub side_sends_c : SendingChannel (ClientState A C M) (ClientPast C M) HeadC C
+  side_sends_c = alone rules_c ClientStandsFor (λ x. x.c) (λ y x. record x { c = y }) (λ s. s.c.closed) (λ s. record s { c = closing s.c })
+      (λ s s'. (s'.c.producer ≡ s.c.producer) × (s' ≡ record s { c = s'.c }))
+
+  abbrev pub side_sends_d : SendingChannel (ManagerState A C M) (ManagerPast C M) HeadD M
+  side_sends_d = record (alone rules_d ManagerStandsFor (λ x. x.d) (λ y x. record x { d = y }) (λ s. s.d.closed) (λ s. record s { d = closing s.d })
+      (λ s s'. (s'.d.producer ≡ s.d.producer) × (s' ≡ record s { d = s'.d; book = s'.book }))) {
+        stops = λ x. manager_answer x.history;
+        with_beat = λ b x. record x { history = x.history ++ Answer b ∷ []; d = offered rules_d b (manager_home x.history b.head) x.d };
+      }
+
+  abbrev pub side_sends_e : SendingChannel (ClientState A C M) (ClientPast C M) HeadE C
+  side_sends_e = alone rules_e ClientStandsFor (λ x. x.e) (λ y x. record x { e = y }) (λ s. s.e.closed) (λ s. record s { e = closing s.e })
+      (λ s s'. (s'.e.producer ≡ s.e.producer) × (s' ≡ record s { e = s'.e }))
+
+  -- and those that it takes
+  abbrev pub side_takes_a : TakingChannel (ManagerState A C M) (ManagerPast C M) HeadA M
+  side_takes_a = record {
+    rules = rules_a;
+    Stands = ManagerStandsFor;
+    inbox = λ s. s.a.inbox;
+    after_take = λ s. manager_takes_a (take 1 s.a.inbox);
+    Keeps = λ s s'. s' ≡ record s { a = took_first s.a; book = s'.book };
+  }
+
+  abbrev pub side_takes_b : TakingChannel (ClientState A C M) (ClientPast C M) HeadB C
+  side_takes_b = record {
+    rules = rules_b;
+    Stands = ClientStandsFor;
+    inbox = λ s. s.b.inbox;
+    after_take = λ s. client_takes_b (take 1 s.b.inbox);
+    Keeps = λ s s'. s' ≡ record s { b = took_first s.b };
+  }
+
+  abbrev pub side_takes_c : TakingChannel (ManagerState A C M) (ManagerPast C M) HeadC M
+  side_takes_c = record {
+    rules = rules_c;
+    Stands = ManagerStandsFor;
+    inbox = λ s. s.c.inbox;
+    after_take = λ s. manager_takes_c (take 1 s.c.inbox);
+    Keeps = λ s s'. s' ≡ record s { c = took_first s.c };
+  }
+
+  abbrev pub side_takes_d : TakingChannel (ClientState A C M) (ClientPast C M) HeadD C
+  side_takes_d = record {
+    rules = rules_d;
+    Stands = ClientStandsFor;
+    inbox = λ s. s.d.inbox;
+    after_take = λ s. client_takes_d (take 1 s.d.inbox);
+    Keeps = λ s s'. s' ≡ record s { d = took_first s.d; book = s'.book };
+  }
+
+  abbrev pub side_takes_e : TakingChannel (ManagerState A C M) (ManagerPast C M) HeadE M
+  side_takes_e = record {
+    rules = rules_e;
+    Stands = ManagerStandsFor;
+    inbox = λ s. s.e.inbox;
+    after_take = λ s. manager_takes_e (take 1 s.e.inbox);
+    Keeps = λ s s'. s' ≡ record s { e = took_first s.e };
+  }
 
 module _ {A : Type 0} {C M : ℕ} where
   -- a side pumps: each crossing goes on by as many beats as left its stage

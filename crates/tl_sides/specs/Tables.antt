@@ -2,9 +2,8 @@
 -- (this project's choice).
 use Rattle.std.specs.Prelude.{◌≡◌, ℕ, Bool, false, Option, None, Some, List, slice_index_or}
 use Rattle.std.specs.Option.{is_some}
-use Rattle.tl_msg.specs.declared.head.HeadA.{HeadA}
+use Rattle.tl_sides.specs.Words.{HeadA, Mark, open_request}
 use Rattle.tl_sides.specs.declared.tables.Request.{Request}
-use Rattle.tl_settle.specs.Histories.{Mark, open_request}
 
 -- a table of busy sources is a list with a place for each source
 abbrev pub is_busy : (table : List Bool) → (s : ℕ) → Bool

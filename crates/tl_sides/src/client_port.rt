@@ -1,14 +1,12 @@
 //! The client's side, whatever carries its beats.
-ghost use Rattle.std.specs.Prelude.{◌≡◌, ◌↔◌, ◌++◌, ◌∷◌, [], true, false, None, Some, map, take, drop, slice_get, IsOk, IsTrue, IfErr, IfSome, OnOk, OnErr};
+ghost use Rattle.std.specs.Prelude.{◌≡◌, ◌↔◌, ◌++◌, [], map, IsTrue};
 ghost use Rattle.tl_lanes.specs.Lanes.{IsWidth};
-ghost use Rattle.tl_msg.specs.Faults.{IsLawfulBeat};
-ghost use Rattle.tl_msg.specs.Tables.{rules_a, rules_b, rules_c, rules_d, rules_e};
-ghost use Rattle.tl_burst.specs.Handing.{rest_of, homes_with};
 ghost use Rattle.tl_ring.specs.Boxes.{IsOpen};
-ghost use Rattle.tl_settle.specs.Histories.{Ask, Answer, asked, client_answer};
+ghost use Rattle.tl_settle.specs.Histories.{Answer};
 ghost use Rattle.tl_sides.specs.Books.{KnowsClient};
-ghost use Rattle.tl_sides.specs.Crossings.{stops_alone};
-ghost use Rattle.tl_sides.specs.Ports.{ClientDone, ClientStands, client_new, accepts, takes};
+ghost use Rattle.tl_sides.specs.Calls.{OffersBeat, ClosesChannel, TakesBeat};
+ghost use Rattle.tl_sides.specs.Ports.{ClientDone, ClientStands, client_new, takes};
+ghost use Rattle.tl_sides.specs.Ports.{port_sends_a, port_sends_c, port_sends_e, port_takes_b, port_takes_d};
 
 use crate::books::ClientBook;
 use crate::noting::note_all;
@@ -92,18 +90,7 @@ impl<const C: usize, const M: usize, A: Allocator> ClientPort<C, M, A> {
         requires near { IsWidth C }
         requires far { IsWidth M }
         requires ready { IsOpen self.old.a }
-        // for all that the side has done
-        ensures admitted { (x : ClientDone C M) → ClientStands self.old x →
-            IsOk result ↔ (client_answer x.history beat.now ≡ None) }
-        ensures accepted { (x : ClientDone C M) → ClientStands self.old x →
-            OnOk result (ClientStands self.new
-            (record x { history = x.history ++ Ask beat.now ∷ []; a_homes = homes_with rules_a (asked x.history) x.a_homes beat.now 0 })) }
-        ensures fault { (x : ClientDone C M) → ClientStands self.old x →
-            IfErr result (λ fault. client_answer x.history beat.now ≡ Some fault) }
-        // for every side
-        ensures rest { self.new ≡ record self.old { a = self.new.a; book = self.new.book } }
-        ensures still { self.new.a.closed ≡ false }
-        ensures refused { OnErr result (self.new ≡ self.old) }
+        ensures { OffersBeat port_sends_a beat.now self.old result self.new }
     {
         offer_request(&mut self.book, &mut self.a, beat)
     }
@@ -114,18 +101,7 @@ impl<const C: usize, const M: usize, A: Allocator> ClientPort<C, M, A> {
         requires near { IsWidth C }
         requires far { IsWidth M }
         requires ready { IsOpen self.old.c }
-        // for all that the side has done
-        ensures admitted { (x : ClientDone C M) → ClientStands self.old x →
-            IsOk result ↔ (stops_alone rules_c x.c.accepted beat.now ≡ None) }
-        ensures accepted { (x : ClientDone C M) → ClientStands self.old x →
-            OnOk result (ClientStands self.new
-            (record x { c = accepts rules_c beat.now 0 x.c })) }
-        ensures fault { (x : ClientDone C M) → ClientStands self.old x →
-            IfErr result (λ fault. stops_alone rules_c x.c.accepted beat.now ≡ Some fault) }
-        // for every side
-        ensures rest { self.new ≡ record self.old { c = self.new.c } }
-        ensures still { self.new.c.closed ≡ false }
-        ensures refused { OnErr result (self.new ≡ self.old) }
+        ensures { OffersBeat port_sends_c beat.now self.old result self.new }
     {
         offer_alone(&mut self.c, beat)
     }
@@ -136,31 +112,14 @@ impl<const C: usize, const M: usize, A: Allocator> ClientPort<C, M, A> {
         requires near { IsWidth C }
         requires far { IsWidth M }
         requires ready { IsOpen self.old.e }
-        // for all that the side has done
-        ensures admitted { (x : ClientDone C M) → ClientStands self.old x →
-            IsOk result ↔ (stops_alone rules_e x.e.accepted beat.now ≡ None) }
-        ensures accepted { (x : ClientDone C M) → ClientStands self.old x →
-            OnOk result (ClientStands self.new
-            (record x { e = accepts rules_e beat.now 0 x.e })) }
-        ensures fault { (x : ClientDone C M) → ClientStands self.old x →
-            IfErr result (λ fault. stops_alone rules_e x.e.accepted beat.now ≡ Some fault) }
-        // for every side
-        ensures rest { self.new ≡ record self.old { e = self.new.e } }
-        ensures still { self.new.e.closed ≡ false }
-        ensures refused { OnErr result (self.new ≡ self.old) }
+        ensures { OffersBeat port_sends_e beat.now self.old result self.new }
     {
         offer_alone(&mut self.e, beat)
     }
 
     /// Takes the first beat of B's inbox. None exactly where it is empty.
     pub fn take_b(&mut self) -> Option<Beat<ChB, C>>
-        ensures beat { result ≡ slice_get self.old.b 0 }
-        ensures lawful { IfSome result (λ beat. IsLawfulBeat rules_b beat) }
-        // for all that the side has done
-        ensures taken { (x : ClientDone C M) → ClientStands self.old x →
-            ClientStands self.new (record x { b = takes (take 1 self.old.b) x.b }) }
-        // for every side
-        ensures rest { self.new ≡ record self.old { b = drop 1 self.old.b } }
+        ensures { TakesBeat port_takes_b self.old result self.new }
     {
         self.b.take()
     }
@@ -168,13 +127,7 @@ impl<const C: usize, const M: usize, A: Allocator> ClientPort<C, M, A> {
     /// Takes the first beat of D's inbox. None exactly where it is empty. A first beat other than of ReleaseAck frees its source.
     pub fn take_d(&mut self) -> Option<Beat<ChD, C>>
         requires { IsWidth C }
-        ensures beat { result ≡ slice_get self.old.d 0 }
-        ensures lawful { IfSome result (λ beat. IsLawfulBeat rules_d beat) }
-        // for all that the side has done
-        ensures taken { (x : ClientDone C M) → ClientStands self.old x →
-            ClientStands self.new (record x { history = x.history ++ map Answer (take 1 self.old.d) }) }
-        // for every side
-        ensures rest { self.new ≡ record self.old { d = drop 1 self.old.d; book = self.new.book } }
+        ensures { TakesBeat port_takes_d self.old result self.new }
     {
         match self.d.take() {
             Some(beat) => {
@@ -202,16 +155,7 @@ impl<const C: usize, const M: usize, A: Allocator> ClientPort<C, M, A> {
     /// Ends the offers of A. Refused exactly where a burst is unfinished, and nothing changes then. What is staged stays so, and
     /// still crosses. A second close answers Ok and changes nothing.
     pub fn close_a(&mut self) -> Result<(), EndFault>
-        // for all that the side has done
-        ensures between { (x : ClientDone C M) → ClientStands self.old x →
-            IsOk result ↔ (rest_of rules_a C (asked x.history) ≡ []) }
-        ensures stands { (x : ClientDone C M) → ClientStands self.old x →
-            OnOk result (ClientStands self.new x) }
-        // for every side
-        ensures closed { OnOk result
-            (self.new ≡ record self.old { a = record self.old.a { closed = true } }) }
-        ensures again { self.old.a.closed ≡ true → IsOk result × (self.new ≡ self.old) }
-        ensures refused { OnErr result (self.new ≡ self.old) }
+        ensures { ClosesChannel port_sends_a self.old result self.new }
     {
         self.a.close()
     }
@@ -219,16 +163,7 @@ impl<const C: usize, const M: usize, A: Allocator> ClientPort<C, M, A> {
     /// Ends the offers of C. Refused exactly where a burst is unfinished, and nothing changes then. What is staged stays so, and
     /// still crosses. A second close answers Ok and changes nothing.
     pub fn close_c(&mut self) -> Result<(), EndFault>
-        // for all that the side has done
-        ensures between { (x : ClientDone C M) → ClientStands self.old x →
-            IsOk result ↔ (rest_of rules_c C x.c.accepted ≡ []) }
-        ensures stands { (x : ClientDone C M) → ClientStands self.old x →
-            OnOk result (ClientStands self.new x) }
-        // for every side
-        ensures closed { OnOk result
-            (self.new ≡ record self.old { c = record self.old.c { closed = true } }) }
-        ensures again { self.old.c.closed ≡ true → IsOk result × (self.new ≡ self.old) }
-        ensures refused { OnErr result (self.new ≡ self.old) }
+        ensures { ClosesChannel port_sends_c self.old result self.new }
     {
         self.c.close()
     }
@@ -236,16 +171,7 @@ impl<const C: usize, const M: usize, A: Allocator> ClientPort<C, M, A> {
     /// Ends the offers of E. Refused exactly where a burst is unfinished, and nothing changes then. What is staged stays so, and
     /// still crosses. A second close answers Ok and changes nothing.
     pub fn close_e(&mut self) -> Result<(), EndFault>
-        // for all that the side has done
-        ensures between { (x : ClientDone C M) → ClientStands self.old x →
-            IsOk result ↔ (rest_of rules_e C x.e.accepted ≡ []) }
-        ensures stands { (x : ClientDone C M) → ClientStands self.old x →
-            OnOk result (ClientStands self.new x) }
-        // for every side
-        ensures closed { OnOk result
-            (self.new ≡ record self.old { e = record self.old.e { closed = true } }) }
-        ensures again { self.old.e.closed ≡ true → IsOk result × (self.new ≡ self.old) }
-        ensures refused { OnErr result (self.new ≡ self.old) }
+        ensures { ClosesChannel port_sends_e self.old result self.new }
     {
         self.e.close()
     }

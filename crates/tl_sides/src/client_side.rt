@@ -1,17 +1,13 @@
 //! The client's side of the bridge.
 ghost use Rattle.std.specs.Prelude.{◌≡◌, ◌+◌, ◌*◌, ◌≤◌, ◌↔◌, [], true, None, Some, length, slice_get, take, IsOk, IsTrue, IfErr, IfSome, OnOk, OnErr};
 ghost use Rattle.tl_lanes.specs.Lanes.{IsWidth};
-ghost use Rattle.tl_msg.specs.Faults.{IsLawfulBeat};
-ghost use Rattle.tl_msg.specs.Tables.{rules_a, rules_b, rules_c, rules_d, rules_e};
-ghost use Rattle.tl_burst.specs.Handing.{rest_of};
 ghost use Rattle.tl_ring.specs.Ends.{as_pipe, closing, took_first};
 ghost use Rattle.tl_ring.specs.Pipe.{IsReady};
 ghost use Rattle.tl_ring.specs.declared.queue.TheConstants.{ROOM};
-ghost use Rattle.tl_settle.specs.Histories.{client_answer};
-ghost use Rattle.tl_sides.specs.Crossings.{stops_alone};
+ghost use Rattle.tl_sides.specs.Calls.{OffersBeat, ClosesChannel, TakesBeat};
 ghost use Rattle.tl_sides.specs.Ends.{Pumps, Fetches, pump_count, fetch_count};
-ghost use Rattle.tl_sides.specs.Sides.{ClientPast, ClientStandsFor, client_pumps};
-ghost use Rattle.tl_sides.specs.Sides.{client_offers_a, client_offers_c, client_offers_e, client_takes_b, client_takes_d, client_closes_a, client_closes_c, client_closes_e};
+ghost use Rattle.tl_sides.specs.Sides.{ClientPast, ClientStandsFor, client_pumps, client_takes_b, client_takes_d};
+ghost use Rattle.tl_sides.specs.Sides.{side_sends_a, side_sends_c, side_sends_e, side_takes_b, side_takes_d};
 
 use crate::client_port::ClientPort;
 use std::alloc::{Allocator, Global};
@@ -77,17 +73,7 @@ impl<const C: usize, const M: usize, A: Allocator> ClientSide<C, M, A> {
         requires near { IsWidth C }
         requires far { IsWidth M }
         requires ready { IsReady (as_pipe self.old.a) }
-        // for every past that the side stands for
-        ensures admitted { (x : ClientPast C M) → ClientStandsFor self.old x →
-            IsOk result ↔ (client_answer x.history beat.entry ≡ None) }
-        ensures accepted { (x : ClientPast C M) → ClientStandsFor self.old x →
-            OnOk result (ClientStandsFor self.new (client_offers_a beat.entry x)) }
-        ensures fault { (x : ClientPast C M) → ClientStandsFor self.old x →
-            IfErr result (λ fault. client_answer x.history beat.entry ≡ Some fault) }
-        // for every side
-        ensures ring { self.new.a.producer ≡ self.old.a.producer }
-        ensures rest { self.new ≡ record self.old { a = self.new.a; book = self.new.book } }
-        ensures refused { OnErr result (self.new ≡ self.old) }
+        ensures { OffersBeat side_sends_a beat.entry self.old result self.new }
     {
         self.port.offer_a(&beat)
     }
@@ -98,17 +84,7 @@ impl<const C: usize, const M: usize, A: Allocator> ClientSide<C, M, A> {
         requires near { IsWidth C }
         requires far { IsWidth M }
         requires ready { IsReady (as_pipe self.old.c) }
-        // for every past that the side stands for
-        ensures admitted { (x : ClientPast C M) → ClientStandsFor self.old x →
-            IsOk result ↔ (stops_alone rules_c x.c.accepted beat.entry ≡ None) }
-        ensures accepted { (x : ClientPast C M) → ClientStandsFor self.old x →
-            OnOk result (ClientStandsFor self.new (client_offers_c beat.entry x)) }
-        ensures fault { (x : ClientPast C M) → ClientStandsFor self.old x →
-            IfErr result (λ fault. stops_alone rules_c x.c.accepted beat.entry ≡ Some fault) }
-        // for every side
-        ensures ring { self.new.c.producer ≡ self.old.c.producer }
-        ensures rest { self.new ≡ record self.old { c = self.new.c } }
-        ensures refused { OnErr result (self.new ≡ self.old) }
+        ensures { OffersBeat side_sends_c beat.entry self.old result self.new }
     {
         self.port.offer_c(&beat)
     }
@@ -118,17 +94,7 @@ impl<const C: usize, const M: usize, A: Allocator> ClientSide<C, M, A> {
         requires near { IsWidth C }
         requires far { IsWidth M }
         requires ready { IsReady (as_pipe self.old.e) }
-        // for every past that the side stands for
-        ensures admitted { (x : ClientPast C M) → ClientStandsFor self.old x →
-            IsOk result ↔ (stops_alone rules_e x.e.accepted beat.entry ≡ None) }
-        ensures accepted { (x : ClientPast C M) → ClientStandsFor self.old x →
-            OnOk result (ClientStandsFor self.new (client_offers_e beat.entry x)) }
-        ensures fault { (x : ClientPast C M) → ClientStandsFor self.old x →
-            IfErr result (λ fault. stops_alone rules_e x.e.accepted beat.entry ≡ Some fault) }
-        // for every side
-        ensures ring { self.new.e.producer ≡ self.old.e.producer }
-        ensures rest { self.new ≡ record self.old { e = self.new.e } }
-        ensures refused { OnErr result (self.new ≡ self.old) }
+        ensures { OffersBeat side_sends_e beat.entry self.old result self.new }
     {
         self.port.offer_e(&beat)
     }
@@ -136,12 +102,7 @@ impl<const C: usize, const M: usize, A: Allocator> ClientSide<C, M, A> {
     /// Takes the first beat of B's inbox, which is lawful at `C` bytes. None exactly where it is
     /// empty.
     pub fn take_b(&mut self) -> Option<BeatOf<HeadB, C>>
-        ensures beat { result ≡ slice_get self.old.b.inbox 0 }
-        ensures lawful { IfSome result (λ beat. IsLawfulBeat rules_b beat) }
-        ensures rest { self.new ≡ record self.old { b = took_first self.old.b } }
-        // for every past that the side stands for
-        ensures taken { (x : ClientPast C M) → ClientStandsFor self.old x →
-            ClientStandsFor self.new (client_takes_b (take 1 self.old.b.inbox) x) }
+        ensures { TakesBeat side_takes_b self.old result self.new }
     {
         self.port.take_b()
     }
@@ -150,29 +111,42 @@ impl<const C: usize, const M: usize, A: Allocator> ClientSide<C, M, A> {
     /// empty. A first beat other than of ReleaseAck frees its source.
     pub fn take_d(&mut self) -> Option<BeatOf<HeadD, C>>
         requires far { IsWidth C }
-        ensures beat { result ≡ slice_get self.old.d.inbox 0 }
-        ensures lawful { IfSome result (λ beat. IsLawfulBeat rules_d beat) }
-        ensures rest { self.new ≡
-            record self.old { d = took_first self.old.d; book = self.new.book } }
-        // for every past that the side stands for
-        ensures taken { (x : ClientPast C M) → ClientStandsFor self.old x →
-            ClientStandsFor self.new (client_takes_d (take 1 self.old.d.inbox) x) }
+        ensures { TakesBeat side_takes_d self.old result self.new }
     {
         self.port.take_d()
+    }
+
+    /// The beats of B's inbox, in order, for [`ClientSide::take_all`].
+    pub fn inbox_b(&self) -> &[BeatOf<HeadB, C>]
+        ensures { result.now ≡ self.now.b.inbox }
+    {
+        self.port.b.as_slice()
+    }
+
+    /// The beats of D's inbox, in order, for [`ClientSide::take_all`].
+    pub fn inbox_d(&self) -> &[BeatOf<HeadD, C>]
+        ensures { result.now ≡ self.now.d.inbox }
+    {
+        self.port.d.as_slice()
+    }
+
+    /// Takes all beats of its inboxes, which [`ClientSide::inbox_b`] and its like show: as many calls of `take_x` on each channel.
+    pub fn take_all(&mut self)
+        requires { IsWidth C }
+        // for every past that the side stands for
+        ensures taken { (x : ClientPast C M) → ClientStandsFor self.old x →
+            ClientStandsFor self.new (client_takes_d self.old.d.inbox (client_takes_b self.old.b.inbox x)) }
+        // for every side
+        ensures rest { self.new ≡
+            record self.old { b = record self.old.b { inbox = [] }; d = record self.old.d { inbox = [] }; book = self.new.book } }
+    {
+        self.port.take_all();
     }
 
     /// Ends the offers of A. Refused exactly where a burst is unfinished, and nothing changes then.
     /// What is staged stays so, and still crosses. A second close answers Ok and changes nothing.
     pub fn close_a(&mut self) -> Result<(), EndFault>
-        // for every past that the side stands for
-        ensures between { (x : ClientPast C M) → ClientStandsFor self.old x →
-            IsOk result ↔ (rest_of rules_a C x.a.accepted ≡ []) }
-        ensures stands { (x : ClientPast C M) → ClientStandsFor self.old x →
-            OnOk result (ClientStandsFor self.new (client_closes_a x)) }
-        // for every side
-        ensures closed { OnOk result (self.new ≡ record self.old { a = closing self.old.a }) }
-        ensures again { self.old.a.closed ≡ true → IsOk result × (self.new ≡ self.old) }
-        ensures refused { OnErr result (self.new ≡ self.old) }
+        ensures { ClosesChannel side_sends_a self.old result self.new }
     {
         self.port.close_a()
     }
@@ -180,15 +154,7 @@ impl<const C: usize, const M: usize, A: Allocator> ClientSide<C, M, A> {
     /// Ends the offers of C. Refused exactly where a burst is unfinished, and nothing changes then.
     /// What is staged stays so, and still crosses. A second close answers Ok and changes nothing.
     pub fn close_c(&mut self) -> Result<(), EndFault>
-        // for every past that the side stands for
-        ensures between { (x : ClientPast C M) → ClientStandsFor self.old x →
-            IsOk result ↔ (rest_of rules_c C x.c.accepted ≡ []) }
-        ensures stands { (x : ClientPast C M) → ClientStandsFor self.old x →
-            OnOk result (ClientStandsFor self.new (client_closes_c x)) }
-        // for every side
-        ensures closed { OnOk result (self.new ≡ record self.old { c = closing self.old.c }) }
-        ensures again { self.old.c.closed ≡ true → IsOk result × (self.new ≡ self.old) }
-        ensures refused { OnErr result (self.new ≡ self.old) }
+        ensures { ClosesChannel side_sends_c self.old result self.new }
     {
         self.port.close_c()
     }
@@ -196,15 +162,7 @@ impl<const C: usize, const M: usize, A: Allocator> ClientSide<C, M, A> {
     /// Ends the offers of E. Refused exactly where a burst is unfinished, and nothing changes then.
     /// What is staged stays so, and still crosses. A second close answers Ok and changes nothing.
     pub fn close_e(&mut self) -> Result<(), EndFault>
-        // for every past that the side stands for
-        ensures between { (x : ClientPast C M) → ClientStandsFor self.old x →
-            IsOk result ↔ (rest_of rules_e C x.e.accepted ≡ []) }
-        ensures stands { (x : ClientPast C M) → ClientStandsFor self.old x →
-            OnOk result (ClientStandsFor self.new (client_closes_e x)) }
-        // for every side
-        ensures closed { OnOk result (self.new ≡ record self.old { e = closing self.old.e }) }
-        ensures again { self.old.e.closed ≡ true → IsOk result × (self.new ≡ self.old) }
-        ensures refused { OnErr result (self.new ≡ self.old) }
+        ensures { ClosesChannel side_sends_e self.old result self.new }
     {
         self.port.close_e()
     }

@@ -1,14 +1,12 @@
 //! The manager's side, whatever carries its beats.
-ghost use Rattle.std.specs.Prelude.{◌≡◌, ◌↔◌, ◌++◌, ◌∷◌, [], true, false, None, Some, map, take, drop, slice_get, IsOk, IsTrue, IfErr, IfSome, OnOk, OnErr};
+ghost use Rattle.std.specs.Prelude.{◌≡◌, ◌↔◌, ◌++◌, [], map, IsTrue};
 ghost use Rattle.tl_lanes.specs.Lanes.{IsWidth};
-ghost use Rattle.tl_msg.specs.Faults.{IsLawfulBeat};
-ghost use Rattle.tl_msg.specs.Tables.{rules_a, rules_b, rules_c, rules_d, rules_e};
-ghost use Rattle.tl_burst.specs.Handing.{rest_of};
 ghost use Rattle.tl_ring.specs.Boxes.{IsOpen};
-ghost use Rattle.tl_settle.specs.Histories.{Ask, Answer, answered, manager_answer};
+ghost use Rattle.tl_settle.specs.Histories.{Ask};
 ghost use Rattle.tl_sides.specs.Books.{KnowsManager};
-ghost use Rattle.tl_sides.specs.Crossings.{stops_alone};
-ghost use Rattle.tl_sides.specs.Ports.{ManagerDone, ManagerStands, manager_new, accepts, takes};
+ghost use Rattle.tl_sides.specs.Calls.{OffersBeat, ClosesChannel, TakesBeat};
+ghost use Rattle.tl_sides.specs.Ports.{ManagerDone, ManagerStands, manager_new, takes};
+ghost use Rattle.tl_sides.specs.Ports.{port_sends_b, port_sends_d, port_takes_a, port_takes_c, port_takes_e};
 
 use crate::books::ManagerBook;
 use crate::noting::note_all;
@@ -83,18 +81,7 @@ impl<const C: usize, const M: usize, A: Allocator> ManagerPort<C, M, A> {
         requires near { IsWidth M }
         requires far { IsWidth C }
         requires ready { IsOpen self.old.b }
-        // for all that the side has done
-        ensures admitted { (x : ManagerDone C M) → ManagerStands self.old x →
-            IsOk result ↔ (stops_alone rules_b x.b.accepted beat.now ≡ None) }
-        ensures accepted { (x : ManagerDone C M) → ManagerStands self.old x →
-            OnOk result (ManagerStands self.new
-            (record x { b = accepts rules_b beat.now 0 x.b })) }
-        ensures fault { (x : ManagerDone C M) → ManagerStands self.old x →
-            IfErr result (λ fault. stops_alone rules_b x.b.accepted beat.now ≡ Some fault) }
-        // for every side
-        ensures rest { self.new ≡ record self.old { b = self.new.b } }
-        ensures still { self.new.b.closed ≡ false }
-        ensures refused { OnErr result (self.new ≡ self.old) }
+        ensures { OffersBeat port_sends_b beat.now self.old result self.new }
     {
         offer_alone(&mut self.b, beat)
     }
@@ -107,18 +94,7 @@ impl<const C: usize, const M: usize, A: Allocator> ManagerPort<C, M, A> {
         requires near { IsWidth M }
         requires far { IsWidth C }
         requires ready { IsOpen self.old.d }
-        // for all that the side has done
-        ensures admitted { (x : ManagerDone C M) → ManagerStands self.old x →
-            IsOk result ↔ (manager_answer x.history beat.now ≡ None) }
-        ensures accepted { (x : ManagerDone C M) → ManagerStands self.old x →
-            OnOk result (ManagerStands self.new
-            (record x { history = x.history ++ Answer beat.now ∷ [] })) }
-        ensures fault { (x : ManagerDone C M) → ManagerStands self.old x →
-            IfErr result (λ fault. manager_answer x.history beat.now ≡ Some fault) }
-        // for every side
-        ensures rest { self.new ≡ record self.old { d = self.new.d; book = self.new.book } }
-        ensures still { self.new.d.closed ≡ false }
-        ensures refused { OnErr result (self.new ≡ self.old) }
+        ensures { OffersBeat port_sends_d beat.now self.old result self.new }
     {
         offer_response(&mut self.book, &mut self.d, beat)
     }
@@ -126,13 +102,7 @@ impl<const C: usize, const M: usize, A: Allocator> ManagerPort<C, M, A> {
     /// Takes the first beat of A's inbox. None exactly where it is empty. A first beat begins its request: from now on it may be answered.
     pub fn take_a(&mut self) -> Option<Beat<ChA, M>>
         requires { IsWidth M }
-        ensures beat { result ≡ slice_get self.old.a 0 }
-        ensures lawful { IfSome result (λ beat. IsLawfulBeat rules_a beat) }
-        // for all that the side has done
-        ensures taken { (x : ManagerDone C M) → ManagerStands self.old x →
-            ManagerStands self.new (record x { history = x.history ++ map Ask (take 1 self.old.a) }) }
-        // for every side
-        ensures rest { self.new ≡ record self.old { a = drop 1 self.old.a; book = self.new.book } }
+        ensures { TakesBeat port_takes_a self.old result self.new }
     {
         match self.a.take() {
             Some(beat) => {
@@ -145,26 +115,14 @@ impl<const C: usize, const M: usize, A: Allocator> ManagerPort<C, M, A> {
 
     /// Takes the first beat of C's inbox. None exactly where it is empty.
     pub fn take_c(&mut self) -> Option<Beat<ChC, M>>
-        ensures beat { result ≡ slice_get self.old.c 0 }
-        ensures lawful { IfSome result (λ beat. IsLawfulBeat rules_c beat) }
-        // for all that the side has done
-        ensures taken { (x : ManagerDone C M) → ManagerStands self.old x →
-            ManagerStands self.new (record x { c = takes (take 1 self.old.c) x.c }) }
-        // for every side
-        ensures rest { self.new ≡ record self.old { c = drop 1 self.old.c } }
+        ensures { TakesBeat port_takes_c self.old result self.new }
     {
         self.c.take()
     }
 
     /// Takes the first beat of E's inbox. None exactly where it is empty.
     pub fn take_e(&mut self) -> Option<Beat<ChE, M>>
-        ensures beat { result ≡ slice_get self.old.e 0 }
-        ensures lawful { IfSome result (λ beat. IsLawfulBeat rules_e beat) }
-        // for all that the side has done
-        ensures taken { (x : ManagerDone C M) → ManagerStands self.old x →
-            ManagerStands self.new (record x { e = takes (take 1 self.old.e) x.e }) }
-        // for every side
-        ensures rest { self.new ≡ record self.old { e = drop 1 self.old.e } }
+        ensures { TakesBeat port_takes_e self.old result self.new }
     {
         self.e.take()
     }
@@ -192,16 +150,7 @@ impl<const C: usize, const M: usize, A: Allocator> ManagerPort<C, M, A> {
     /// Ends the offers of B. Refused exactly where a burst is unfinished, and nothing changes then. What is staged stays so, and
     /// still crosses. A second close answers Ok and changes nothing.
     pub fn close_b(&mut self) -> Result<(), EndFault>
-        // for all that the side has done
-        ensures between { (x : ManagerDone C M) → ManagerStands self.old x →
-            IsOk result ↔ (rest_of rules_b M x.b.accepted ≡ []) }
-        ensures stands { (x : ManagerDone C M) → ManagerStands self.old x →
-            OnOk result (ManagerStands self.new x) }
-        // for every side
-        ensures closed { OnOk result
-            (self.new ≡ record self.old { b = record self.old.b { closed = true } }) }
-        ensures again { self.old.b.closed ≡ true → IsOk result × (self.new ≡ self.old) }
-        ensures refused { OnErr result (self.new ≡ self.old) }
+        ensures { ClosesChannel port_sends_b self.old result self.new }
     {
         self.b.close()
     }
@@ -209,16 +158,7 @@ impl<const C: usize, const M: usize, A: Allocator> ManagerPort<C, M, A> {
     /// Ends the offers of D. Refused exactly where a burst is unfinished, and nothing changes then. What is staged stays so, and
     /// still crosses. A second close answers Ok and changes nothing.
     pub fn close_d(&mut self) -> Result<(), EndFault>
-        // for all that the side has done
-        ensures between { (x : ManagerDone C M) → ManagerStands self.old x →
-            IsOk result ↔ (rest_of rules_d M (answered x.history) ≡ []) }
-        ensures stands { (x : ManagerDone C M) → ManagerStands self.old x →
-            OnOk result (ManagerStands self.new x) }
-        // for every side
-        ensures closed { OnOk result
-            (self.new ≡ record self.old { d = record self.old.d { closed = true } }) }
-        ensures again { self.old.d.closed ≡ true → IsOk result × (self.new ≡ self.old) }
-        ensures refused { OnErr result (self.new ≡ self.old) }
+        ensures { ClosesChannel port_sends_d self.old result self.new }
     {
         self.d.close()
     }

@@ -1,17 +1,13 @@
 //! The manager's side of the bridge.
 ghost use Rattle.std.specs.Prelude.{◌≡◌, ◌+◌, ◌*◌, ◌≤◌, ◌↔◌, [], true, None, Some, length, slice_get, take, IsOk, IsTrue, IfErr, IfSome, OnOk, OnErr};
 ghost use Rattle.tl_lanes.specs.Lanes.{IsWidth};
-ghost use Rattle.tl_msg.specs.Faults.{IsLawfulBeat};
-ghost use Rattle.tl_msg.specs.Tables.{rules_a, rules_b, rules_c, rules_d, rules_e};
-ghost use Rattle.tl_burst.specs.Handing.{rest_of};
 ghost use Rattle.tl_ring.specs.Ends.{as_pipe, closing, took_first};
 ghost use Rattle.tl_ring.specs.Pipe.{IsReady};
 ghost use Rattle.tl_ring.specs.declared.queue.TheConstants.{ROOM};
-ghost use Rattle.tl_settle.specs.Histories.{manager_answer};
-ghost use Rattle.tl_sides.specs.Crossings.{stops_alone};
+ghost use Rattle.tl_sides.specs.Calls.{OffersBeat, ClosesChannel, TakesBeat};
 ghost use Rattle.tl_sides.specs.Ends.{Pumps, Fetches, pump_count, fetch_count};
-ghost use Rattle.tl_sides.specs.Sides.{ManagerPast, ManagerStandsFor, manager_pumps};
-ghost use Rattle.tl_sides.specs.Sides.{manager_offers_b, manager_offers_d, manager_takes_a, manager_takes_c, manager_takes_e, manager_closes_b, manager_closes_d};
+ghost use Rattle.tl_sides.specs.Sides.{ManagerPast, ManagerStandsFor, manager_pumps, manager_takes_a, manager_takes_c, manager_takes_e};
+ghost use Rattle.tl_sides.specs.Sides.{side_sends_b, side_sends_d, side_takes_a, side_takes_c, side_takes_e};
 
 use crate::manager_port::ManagerPort;
 use std::alloc::{Allocator, Global};
@@ -69,17 +65,7 @@ impl<const C: usize, const M: usize, A: Allocator> ManagerSide<C, M, A> {
         requires near { IsWidth M }
         requires far { IsWidth C }
         requires ready { IsReady (as_pipe self.old.b) }
-        // for every past that the side stands for
-        ensures admitted { (x : ManagerPast C M) → ManagerStandsFor self.old x →
-            IsOk result ↔ (stops_alone rules_b x.b.accepted beat.entry ≡ None) }
-        ensures accepted { (x : ManagerPast C M) → ManagerStandsFor self.old x →
-            OnOk result (ManagerStandsFor self.new (manager_offers_b beat.entry x)) }
-        ensures fault { (x : ManagerPast C M) → ManagerStandsFor self.old x →
-            IfErr result (λ fault. stops_alone rules_b x.b.accepted beat.entry ≡ Some fault) }
-        // for every side
-        ensures ring { self.new.b.producer ≡ self.old.b.producer }
-        ensures rest { self.new ≡ record self.old { b = self.new.b } }
-        ensures refused { OnErr result (self.new ≡ self.old) }
+        ensures { OffersBeat side_sends_b beat.entry self.old result self.new }
     {
         self.port.offer_b(&beat)
     }
@@ -93,17 +79,7 @@ impl<const C: usize, const M: usize, A: Allocator> ManagerSide<C, M, A> {
         requires near { IsWidth M }
         requires far { IsWidth C }
         requires ready { IsReady (as_pipe self.old.d) }
-        // for every past that the side stands for
-        ensures admitted { (x : ManagerPast C M) → ManagerStandsFor self.old x →
-            IsOk result ↔ (manager_answer x.history beat.entry ≡ None) }
-        ensures accepted { (x : ManagerPast C M) → ManagerStandsFor self.old x →
-            OnOk result (ManagerStandsFor self.new (manager_offers_d beat.entry x)) }
-        ensures fault { (x : ManagerPast C M) → ManagerStandsFor self.old x →
-            IfErr result (λ fault. manager_answer x.history beat.entry ≡ Some fault) }
-        // for every side
-        ensures ring { self.new.d.producer ≡ self.old.d.producer }
-        ensures rest { self.new ≡ record self.old { d = self.new.d; book = self.new.book } }
-        ensures refused { OnErr result (self.new ≡ self.old) }
+        ensures { OffersBeat side_sends_d beat.entry self.old result self.new }
     {
         self.port.offer_d(&beat)
     }
@@ -112,13 +88,7 @@ impl<const C: usize, const M: usize, A: Allocator> ManagerSide<C, M, A> {
     /// empty. A first beat begins its request: from now on it may be answered.
     pub fn take_a(&mut self) -> Option<BeatOf<HeadA, M>>
         requires far { IsWidth M }
-        ensures beat { result ≡ slice_get self.old.a.inbox 0 }
-        ensures lawful { IfSome result (λ beat. IsLawfulBeat rules_a beat) }
-        ensures rest { self.new ≡
-            record self.old { a = took_first self.old.a; book = self.new.book } }
-        // for every past that the side stands for
-        ensures taken { (x : ManagerPast C M) → ManagerStandsFor self.old x →
-            ManagerStandsFor self.new (manager_takes_a (take 1 self.old.a.inbox) x) }
+        ensures { TakesBeat side_takes_a self.old result self.new }
     {
         self.port.take_a()
     }
@@ -126,12 +96,7 @@ impl<const C: usize, const M: usize, A: Allocator> ManagerSide<C, M, A> {
     /// Takes the first beat of C's inbox, which is lawful at `M` bytes. None exactly where it is
     /// empty.
     pub fn take_c(&mut self) -> Option<BeatOf<HeadC, M>>
-        ensures beat { result ≡ slice_get self.old.c.inbox 0 }
-        ensures lawful { IfSome result (λ beat. IsLawfulBeat rules_c beat) }
-        ensures rest { self.new ≡ record self.old { c = took_first self.old.c } }
-        // for every past that the side stands for
-        ensures taken { (x : ManagerPast C M) → ManagerStandsFor self.old x →
-            ManagerStandsFor self.new (manager_takes_c (take 1 self.old.c.inbox) x) }
+        ensures { TakesBeat side_takes_c self.old result self.new }
     {
         self.port.take_c()
     }
@@ -139,28 +104,49 @@ impl<const C: usize, const M: usize, A: Allocator> ManagerSide<C, M, A> {
     /// Takes the first beat of E's inbox, which is lawful at `M` bytes. None exactly where it is
     /// empty.
     pub fn take_e(&mut self) -> Option<BeatOf<HeadE, M>>
-        ensures beat { result ≡ slice_get self.old.e.inbox 0 }
-        ensures lawful { IfSome result (λ beat. IsLawfulBeat rules_e beat) }
-        ensures rest { self.new ≡ record self.old { e = took_first self.old.e } }
-        // for every past that the side stands for
-        ensures taken { (x : ManagerPast C M) → ManagerStandsFor self.old x →
-            ManagerStandsFor self.new (manager_takes_e (take 1 self.old.e.inbox) x) }
+        ensures { TakesBeat side_takes_e self.old result self.new }
     {
         self.port.take_e()
+    }
+
+    /// The beats of A's inbox, in order, for [`ManagerSide::take_all`].
+    pub fn inbox_a(&self) -> &[BeatOf<HeadA, M>]
+        ensures { result.now ≡ self.now.a.inbox }
+    {
+        self.port.a.as_slice()
+    }
+
+    /// The beats of C's inbox, in order, for [`ManagerSide::take_all`].
+    pub fn inbox_c(&self) -> &[BeatOf<HeadC, M>]
+        ensures { result.now ≡ self.now.c.inbox }
+    {
+        self.port.c.as_slice()
+    }
+
+    /// The beats of E's inbox, in order, for [`ManagerSide::take_all`].
+    pub fn inbox_e(&self) -> &[BeatOf<HeadE, M>]
+        ensures { result.now ≡ self.now.e.inbox }
+    {
+        self.port.e.as_slice()
+    }
+
+    /// Takes all beats of its inboxes, which [`ManagerSide::inbox_a`] and its like show: as many calls of `take_x` on each channel.
+    pub fn take_all(&mut self)
+        requires { IsWidth M }
+        // for every past that the side stands for
+        ensures taken { (x : ManagerPast C M) → ManagerStandsFor self.old x →
+            ManagerStandsFor self.new (manager_takes_e self.old.e.inbox (manager_takes_c self.old.c.inbox (manager_takes_a self.old.a.inbox x))) }
+        // for every side
+        ensures rest { self.new ≡
+            record self.old { a = record self.old.a { inbox = [] }; c = record self.old.c { inbox = [] }; e = record self.old.e { inbox = [] }; book = self.new.book } }
+    {
+        self.port.take_all();
     }
 
     /// Ends the offers of B. Refused exactly where a burst is unfinished, and nothing changes then.
     /// What is staged stays so, and still crosses. A second close answers Ok and changes nothing.
     pub fn close_b(&mut self) -> Result<(), EndFault>
-        // for every past that the side stands for
-        ensures between { (x : ManagerPast C M) → ManagerStandsFor self.old x →
-            IsOk result ↔ (rest_of rules_b M x.b.accepted ≡ []) }
-        ensures stands { (x : ManagerPast C M) → ManagerStandsFor self.old x →
-            OnOk result (ManagerStandsFor self.new (manager_closes_b x)) }
-        // for every side
-        ensures closed { OnOk result (self.new ≡ record self.old { b = closing self.old.b }) }
-        ensures again { self.old.b.closed ≡ true → IsOk result × (self.new ≡ self.old) }
-        ensures refused { OnErr result (self.new ≡ self.old) }
+        ensures { ClosesChannel side_sends_b self.old result self.new }
     {
         self.port.close_b()
     }
@@ -168,15 +154,7 @@ impl<const C: usize, const M: usize, A: Allocator> ManagerSide<C, M, A> {
     /// Ends the offers of D. Refused exactly where a burst is unfinished, and nothing changes then.
     /// What is staged stays so, and still crosses. A second close answers Ok and changes nothing.
     pub fn close_d(&mut self) -> Result<(), EndFault>
-        // for every past that the side stands for
-        ensures between { (x : ManagerPast C M) → ManagerStandsFor self.old x →
-            IsOk result ↔ (rest_of rules_d M x.d.accepted ≡ []) }
-        ensures stands { (x : ManagerPast C M) → ManagerStandsFor self.old x →
-            OnOk result (ManagerStandsFor self.new (manager_closes_d x)) }
-        // for every side
-        ensures closed { OnOk result (self.new ≡ record self.old { d = closing self.old.d }) }
-        ensures again { self.old.d.closed ≡ true → IsOk result × (self.new ≡ self.old) }
-        ensures refused { OnErr result (self.new ≡ self.old) }
+        ensures { ClosesChannel side_sends_d self.old result self.new }
     {
         self.port.close_d()
     }

@@ -1,15 +1,8 @@
 //! What a side does at its end of a channel that it sends. On A and D its book decides and notes.
-ghost use Rattle.std.specs.Prelude.{◌≡◌, ◌↔◌, ◌++◌, ◌∷◌, [], ℕ, List, None, false, Some, IsOk, IfErr, OnOk, OnErr};
 ghost use Rattle.tl_lanes.specs.Lanes.{IsWidth};
-ghost use Rattle.tl_msg.specs.Tables.{rules_a, rules_d};
-ghost use Rattle.tl_msg.specs.declared.head.HeadA.{HeadA};
-ghost use Rattle.tl_msg.specs.declared.head.HeadD.{HeadD};
-ghost use Rattle.tl_msg.specs.declared.beat.BeatOf.{BeatOf};
-ghost use Rattle.tl_burst.specs.Handing.{homes_with};
-ghost use Rattle.tl_ring.specs.Boxes.{IsOpen, HasSent};
-ghost use Rattle.tl_settle.specs.Histories.{Event, Ask, Answer, asked, answered, client_answer, manager_answer, manager_homes};
-ghost use Rattle.tl_sides.specs.Books.{KnowsClient, KnowsManager};
-ghost use Rattle.tl_sides.specs.Crossings.{stops_alone};
+ghost use Rattle.tl_ring.specs.Boxes.{IsOpen};
+ghost use Rattle.tl_sides.specs.Calls.{OffersBeat};
+ghost use Rattle.tl_sides.specs.Ports.{ClientNow, ManagerNow, outbox_sends, port_sends_a, port_sends_d};
 
 use crate::books::{ClientBook, ManagerBook};
 use std::alloc::Allocator;
@@ -22,19 +15,7 @@ pub(crate) fn offer_alone<K: Channel, const W: usize, const V: usize>(
     beat: &Beat<K, W>,
 ) -> Result<(), SideFault>
     requires { IsWidth W × IsWidth V × IsOpen outbox.old }
-    // for all that the outbox accepted and sent
-    ensures admitted { (bs : List (BeatOf K.Head W)) (homes : List ℕ) (sent : List (BeatOf K.Head V)) →
-        HasSent K.rules outbox.old bs homes sent →
-        IsOk result ↔ (stops_alone K.rules bs beat.now ≡ None) }
-    ensures accepted { (bs : List (BeatOf K.Head W)) (homes : List ℕ) (sent : List (BeatOf K.Head V)) →
-        HasSent K.rules outbox.old bs homes sent → OnOk result
-        (HasSent K.rules outbox.new (bs ++ beat.now ∷ []) (homes_with K.rules bs homes beat.now 0) sent) }
-    ensures fault { (bs : List (BeatOf K.Head W)) (homes : List ℕ) (sent : List (BeatOf K.Head V)) →
-        HasSent K.rules outbox.old bs homes sent →
-        IfErr result (λ fault. stops_alone K.rules bs beat.now ≡ Some fault) }
-    // for every outbox
-    ensures still { outbox.new.closed ≡ false }
-    ensures refused { OnErr result (outbox.new ≡ outbox.old) }
+    ensures { OffersBeat (outbox_sends K.rules) beat.now outbox.old result outbox.new }
 {
     let place = match outbox.check(beat) {
         Ok(place) => place,
@@ -51,21 +32,10 @@ pub(crate) fn offer_request<const C: usize, const M: usize, A: Allocator>(
     beat: &Beat<ChA, C>,
 ) -> Result<(), SideFault>
     requires { IsWidth C × IsWidth M × IsOpen outbox.old }
-    // for every history that the book knows, and all that the outbox sent
-    ensures admitted { (es : List (Event C)) (homes : List ℕ) (sent : List (BeatOf HeadA M)) →
-        KnowsClient book.old es → HasSent rules_a outbox.old (asked es) homes sent →
-        IsOk result ↔ (client_answer es beat.now ≡ None) }
-    ensures accepted { (es : List (Event C)) (homes : List ℕ) (sent : List (BeatOf HeadA M)) →
-        KnowsClient book.old es → HasSent rules_a outbox.old (asked es) homes sent →
-        OnOk result (KnowsClient book.new (es ++ Ask beat.now ∷ []) ×
-        HasSent rules_a outbox.new (asked (es ++ Ask beat.now ∷ []))
-        (homes_with rules_a (asked es) homes beat.now 0) sent) }
-    ensures fault { (es : List (Event C)) (homes : List ℕ) (sent : List (BeatOf HeadA M)) →
-        KnowsClient book.old es → HasSent rules_a outbox.old (asked es) homes sent →
-        IfErr result (λ fault. client_answer es beat.now ≡ Some fault) }
-    // for every book and outbox
-    ensures still { outbox.new.closed ≡ false }
-    ensures refused { OnErr result ((book.new ≡ book.old) × (outbox.new ≡ outbox.old)) }
+    // for every side that has this book and this outbox
+    ensures { (s : ClientNow C M) →
+        OffersBeat port_sends_a beat.now (record s { a = outbox.old; book = book.old }) result
+        (record s { a = outbox.new; book = book.new }) }
 {
     let place = match outbox.check(beat) {
         Ok(place) => place,
@@ -83,21 +53,10 @@ pub(crate) fn offer_response<const C: usize, const M: usize, A: Allocator>(
     beat: &Beat<ChD, M>,
 ) -> Result<(), SideFault>
     requires { IsWidth M × IsWidth C × IsOpen outbox.old }
-    // for every history that the book knows, and all that the outbox sent
-    ensures admitted { (es : List (Event M)) (sent : List (BeatOf HeadD C)) →
-        KnowsManager book.old es → HasSent rules_d outbox.old (answered es) (manager_homes es) sent →
-        IsOk result ↔ (manager_answer es beat.now ≡ None) }
-    ensures accepted { (es : List (Event M)) (sent : List (BeatOf HeadD C)) →
-        KnowsManager book.old es → HasSent rules_d outbox.old (answered es) (manager_homes es) sent →
-        OnOk result (KnowsManager book.new (es ++ Answer beat.now ∷ []) ×
-        HasSent rules_d outbox.new (answered (es ++ Answer beat.now ∷ []))
-        (manager_homes (es ++ Answer beat.now ∷ [])) sent) }
-    ensures fault { (es : List (Event M)) (sent : List (BeatOf HeadD C)) →
-        KnowsManager book.old es → HasSent rules_d outbox.old (answered es) (manager_homes es) sent →
-        IfErr result (λ fault. manager_answer es beat.now ≡ Some fault) }
-    // for every book and outbox
-    ensures still { outbox.new.closed ≡ false }
-    ensures refused { OnErr result ((book.new ≡ book.old) × (outbox.new ≡ outbox.old)) }
+    // for every side that has this book and this outbox
+    ensures { (s : ManagerNow C M) →
+        OffersBeat port_sends_d beat.now (record s { d = outbox.old; book = book.old }) result
+        (record s { d = outbox.new; book = book.new }) }
 {
     let place = match outbox.check(beat) {
         Ok(place) => place,

@@ -3,18 +3,14 @@ ghost use Rattle.std.specs.Prelude.{ℕ, ◌≡◌, ◌≤◌, ◌<◌, ◌*◌,
 ghost use Rattle.tl_ring.specs.declared.pipe.TheConstants.{MAX_RING};
 ghost use Rattle.tl_ring.specs.declared.queue.TheConstants.{ROOM};
 ghost use Rattle.tl_lanes.specs.Lanes.{IsWidth};
-ghost use Rattle.tl_msg.specs.Tables.{rules_a, rules_b, rules_c, rules_d, rules_e};
-ghost use Rattle.tl_burst.specs.Handing.{rest_of};
 ghost use Rattle.tl_ring.specs.Pipe.{IsReady};
-ghost use Rattle.tl_settle.specs.Histories.{client_answer, manager_answer};
 ghost use Rattle.circular_buffer.specs.Buffer.{buffer};
 ghost use Rattle.tl_sides.specs.Bridges.{Past, StandsFor, IsStanding, nothing_yet, all_pumped, all_fetched, after_pump, after_fetch};
 ghost use Rattle.tl_sides.specs.Books.{KnowsClient, KnowsManager};
 ghost use Rattle.tl_sides.specs.Joining.{pipe_of};
-ghost use Rattle.tl_sides.specs.Crossings.{stops_alone};
-ghost use Rattle.tl_sides.specs.Bridges.{after_offer_a, after_offer_b, after_offer_c, after_offer_d, after_offer_e};
-ghost use Rattle.tl_sides.specs.Bridges.{after_take_a, after_take_b, after_take_c, after_take_d, after_take_e};
-ghost use Rattle.tl_sides.specs.Bridges.{after_close_a, after_close_b, after_close_c, after_close_d, after_close_e};
+ghost use Rattle.tl_sides.specs.Bridges.{bridge_sends_a, bridge_sends_b, bridge_sends_c, bridge_sends_d, bridge_sends_e};
+ghost use Rattle.tl_sides.specs.Bridges.{bridge_takes_a, bridge_takes_b, bridge_takes_c, bridge_takes_d, bridge_takes_e};
+ghost use Rattle.tl_sides.specs.Calls.{OffersBeat, ClosesChannel, TakesBeat};
 
 use crate::books::{ClientBook, ManagerBook};
 use crate::client_port::ClientPort;
@@ -216,13 +212,7 @@ impl<const C: usize, const M: usize, A: Allocator> SyncBridge<C, M, A> {
         requires client { IsWidth C }
         requires manager { IsWidth M }
         requires ready { IsReady self.old.a }
-        ensures admitted { (x : Past C M) → StandsFor self.old x →
-            IsOk result ↔ (client_answer x.client beat.entry ≡ None) }
-        ensures accepted { (x : Past C M) → StandsFor self.old x →
-            OnOk result (StandsFor self.new (after_offer_a beat.entry x)) }
-        ensures fault { (x : Past C M) → StandsFor self.old x →
-            IfErr result (λ fault. client_answer x.client beat.entry ≡ Some fault) }
-        ensures refused { OnErr result (self.new ≡ self.old) }
+        ensures { OffersBeat bridge_sends_a beat.entry self.old result self.new }
     {
         self.client.offer_a(&beat)
     }
@@ -233,13 +223,7 @@ impl<const C: usize, const M: usize, A: Allocator> SyncBridge<C, M, A> {
         requires client { IsWidth C }
         requires manager { IsWidth M }
         requires ready { IsReady self.old.b }
-        ensures admitted { (x : Past C M) → StandsFor self.old x →
-            IsOk result ↔ (stops_alone rules_b x.b.accepted beat.entry ≡ None) }
-        ensures accepted { (x : Past C M) → StandsFor self.old x →
-            OnOk result (StandsFor self.new (after_offer_b beat.entry x)) }
-        ensures fault { (x : Past C M) → StandsFor self.old x →
-            IfErr result (λ fault. stops_alone rules_b x.b.accepted beat.entry ≡ Some fault) }
-        ensures refused { OnErr result (self.new ≡ self.old) }
+        ensures { OffersBeat bridge_sends_b beat.entry self.old result self.new }
     {
         self.manager.offer_b(&beat)
     }
@@ -250,13 +234,7 @@ impl<const C: usize, const M: usize, A: Allocator> SyncBridge<C, M, A> {
         requires client { IsWidth C }
         requires manager { IsWidth M }
         requires ready { IsReady self.old.c }
-        ensures admitted { (x : Past C M) → StandsFor self.old x →
-            IsOk result ↔ (stops_alone rules_c x.c.accepted beat.entry ≡ None) }
-        ensures accepted { (x : Past C M) → StandsFor self.old x →
-            OnOk result (StandsFor self.new (after_offer_c beat.entry x)) }
-        ensures fault { (x : Past C M) → StandsFor self.old x →
-            IfErr result (λ fault. stops_alone rules_c x.c.accepted beat.entry ≡ Some fault) }
-        ensures refused { OnErr result (self.new ≡ self.old) }
+        ensures { OffersBeat bridge_sends_c beat.entry self.old result self.new }
     {
         self.client.offer_c(&beat)
     }
@@ -270,13 +248,7 @@ impl<const C: usize, const M: usize, A: Allocator> SyncBridge<C, M, A> {
         requires client { IsWidth C }
         requires manager { IsWidth M }
         requires ready { IsReady self.old.d }
-        ensures admitted { (x : Past C M) → StandsFor self.old x →
-            IsOk result ↔ (manager_answer x.manager beat.entry ≡ None) }
-        ensures accepted { (x : Past C M) → StandsFor self.old x →
-            OnOk result (StandsFor self.new (after_offer_d beat.entry x)) }
-        ensures fault { (x : Past C M) → StandsFor self.old x →
-            IfErr result (λ fault. manager_answer x.manager beat.entry ≡ Some fault) }
-        ensures refused { OnErr result (self.new ≡ self.old) }
+        ensures { OffersBeat bridge_sends_d beat.entry self.old result self.new }
     {
         self.manager.offer_d(&beat)
     }
@@ -287,13 +259,7 @@ impl<const C: usize, const M: usize, A: Allocator> SyncBridge<C, M, A> {
         requires client { IsWidth C }
         requires manager { IsWidth M }
         requires ready { IsReady self.old.e }
-        ensures admitted { (x : Past C M) → StandsFor self.old x →
-            IsOk result ↔ (stops_alone rules_e x.e.accepted beat.entry ≡ None) }
-        ensures accepted { (x : Past C M) → StandsFor self.old x →
-            OnOk result (StandsFor self.new (after_offer_e beat.entry x)) }
-        ensures fault { (x : Past C M) → StandsFor self.old x →
-            IfErr result (λ fault. stops_alone rules_e x.e.accepted beat.entry ≡ Some fault) }
-        ensures refused { OnErr result (self.new ≡ self.old) }
+        ensures { OffersBeat bridge_sends_e beat.entry self.old result self.new }
     {
         self.client.offer_e(&beat)
     }
@@ -302,27 +268,21 @@ impl<const C: usize, const M: usize, A: Allocator> SyncBridge<C, M, A> {
     /// first beat begins its request: from now on it may be answered.
     pub fn take_a(&mut self) -> Option<Beat<ChA, M>>
         requires far { IsWidth M }
-        ensures beat { result ≡ slice_get self.old.a.inbox 0 }
-        ensures taken { (x : Past C M) → StandsFor self.old x →
-            StandsFor self.new (after_take_a x) }
+        ensures { TakesBeat bridge_takes_a self.old result self.new }
     {
         self.manager.take_a()
     }
 
     /// The client's side takes the first beat of B's inbox. None exactly where it is empty.
     pub fn take_b(&mut self) -> Option<Beat<ChB, C>>
-        ensures beat { result ≡ slice_get self.old.b.inbox 0 }
-        ensures taken { (x : Past C M) → StandsFor self.old x →
-            StandsFor self.new (after_take_b x) }
+        ensures { TakesBeat bridge_takes_b self.old result self.new }
     {
         self.client.take_b()
     }
 
     /// The manager's side takes the first beat of C's inbox. None exactly where it is empty.
     pub fn take_c(&mut self) -> Option<Beat<ChC, M>>
-        ensures beat { result ≡ slice_get self.old.c.inbox 0 }
-        ensures taken { (x : Past C M) → StandsFor self.old x →
-            StandsFor self.new (after_take_c x) }
+        ensures { TakesBeat bridge_takes_c self.old result self.new }
     {
         self.manager.take_c()
     }
@@ -331,18 +291,14 @@ impl<const C: usize, const M: usize, A: Allocator> SyncBridge<C, M, A> {
     /// beat other than of ReleaseAck frees its source.
     pub fn take_d(&mut self) -> Option<Beat<ChD, C>>
         requires far { IsWidth C }
-        ensures beat { result ≡ slice_get self.old.d.inbox 0 }
-        ensures taken { (x : Past C M) → StandsFor self.old x →
-            StandsFor self.new (after_take_d x) }
+        ensures { TakesBeat bridge_takes_d self.old result self.new }
     {
         self.client.take_d()
     }
 
     /// The manager's side takes the first beat of E's inbox. None exactly where it is empty.
     pub fn take_e(&mut self) -> Option<Beat<ChE, M>>
-        ensures beat { result ≡ slice_get self.old.e.inbox 0 }
-        ensures taken { (x : Past C M) → StandsFor self.old x →
-            StandsFor self.new (after_take_e x) }
+        ensures { TakesBeat bridge_takes_e self.old result self.new }
     {
         self.manager.take_e()
     }
@@ -351,12 +307,7 @@ impl<const C: usize, const M: usize, A: Allocator> SyncBridge<C, M, A> {
     /// nothing changes then. What is staged stays so, and still crosses. A second close answers Ok
     /// and changes nothing.
     pub fn close_a(&mut self) -> Result<(), EndFault>
-        ensures between { (x : Past C M) → StandsFor self.old x →
-            IsOk result ↔ (rest_of rules_a C x.a.accepted ≡ []) }
-        ensures closed { (x : Past C M) → StandsFor self.old x →
-            OnOk result (StandsFor self.new (after_close_a x)) }
-        ensures again { self.old.a.closed ≡ true → IsOk result × (self.new ≡ self.old) }
-        ensures refused { OnErr result (self.new ≡ self.old) }
+        ensures { ClosesChannel bridge_sends_a self.old result self.new }
     {
         self.client.close_a()
     }
@@ -365,12 +316,7 @@ impl<const C: usize, const M: usize, A: Allocator> SyncBridge<C, M, A> {
     /// nothing changes then. What is staged stays so, and still crosses. A second close answers Ok
     /// and changes nothing.
     pub fn close_b(&mut self) -> Result<(), EndFault>
-        ensures between { (x : Past C M) → StandsFor self.old x →
-            IsOk result ↔ (rest_of rules_b M x.b.accepted ≡ []) }
-        ensures closed { (x : Past C M) → StandsFor self.old x →
-            OnOk result (StandsFor self.new (after_close_b x)) }
-        ensures again { self.old.b.closed ≡ true → IsOk result × (self.new ≡ self.old) }
-        ensures refused { OnErr result (self.new ≡ self.old) }
+        ensures { ClosesChannel bridge_sends_b self.old result self.new }
     {
         self.manager.close_b()
     }
@@ -379,12 +325,7 @@ impl<const C: usize, const M: usize, A: Allocator> SyncBridge<C, M, A> {
     /// nothing changes then. What is staged stays so, and still crosses. A second close answers Ok
     /// and changes nothing.
     pub fn close_c(&mut self) -> Result<(), EndFault>
-        ensures between { (x : Past C M) → StandsFor self.old x →
-            IsOk result ↔ (rest_of rules_c C x.c.accepted ≡ []) }
-        ensures closed { (x : Past C M) → StandsFor self.old x →
-            OnOk result (StandsFor self.new (after_close_c x)) }
-        ensures again { self.old.c.closed ≡ true → IsOk result × (self.new ≡ self.old) }
-        ensures refused { OnErr result (self.new ≡ self.old) }
+        ensures { ClosesChannel bridge_sends_c self.old result self.new }
     {
         self.client.close_c()
     }
@@ -393,12 +334,7 @@ impl<const C: usize, const M: usize, A: Allocator> SyncBridge<C, M, A> {
     /// nothing changes then. What is staged stays so, and still crosses. A second close answers Ok
     /// and changes nothing.
     pub fn close_d(&mut self) -> Result<(), EndFault>
-        ensures between { (x : Past C M) → StandsFor self.old x →
-            IsOk result ↔ (rest_of rules_d M x.d.accepted ≡ []) }
-        ensures closed { (x : Past C M) → StandsFor self.old x →
-            OnOk result (StandsFor self.new (after_close_d x)) }
-        ensures again { self.old.d.closed ≡ true → IsOk result × (self.new ≡ self.old) }
-        ensures refused { OnErr result (self.new ≡ self.old) }
+        ensures { ClosesChannel bridge_sends_d self.old result self.new }
     {
         self.manager.close_d()
     }
@@ -407,12 +343,7 @@ impl<const C: usize, const M: usize, A: Allocator> SyncBridge<C, M, A> {
     /// nothing changes then. What is staged stays so, and still crosses. A second close answers Ok
     /// and changes nothing.
     pub fn close_e(&mut self) -> Result<(), EndFault>
-        ensures between { (x : Past C M) → StandsFor self.old x →
-            IsOk result ↔ (rest_of rules_e C x.e.accepted ≡ []) }
-        ensures closed { (x : Past C M) → StandsFor self.old x →
-            OnOk result (StandsFor self.new (after_close_e x)) }
-        ensures again { self.old.e.closed ≡ true → IsOk result × (self.new ≡ self.old) }
-        ensures refused { OnErr result (self.new ≡ self.old) }
+        ensures { ClosesChannel bridge_sends_e self.old result self.new }
     {
         self.client.close_e()
     }

@@ -1,13 +1,11 @@
 -- Between two pieces of a text. Only private contracts cite these words.
-use Rattle.std.specs.Prelude.{◌≡◌, ◌≤◌, ◌<◌, ◌+◌, ◌^◌, ℕ, true, List, length, Option, Result, Ok, Err}
+use Rattle.std.specs.Prelude.{◌≡◌, ◌≤◌, ◌<◌, ◌+◌, ◌^◌, ℕ, true, List, length, Option}
 use Rattle.tl_lanes.specs.Lanes.{IsWidth}
 use Rattle.tl_trace.specs.Faults.{HasHeader}
 use Rattle.tl_trace.specs.Scripts.{Gone, HasRead, HasReadPast, IsHeaderLine, none_gone}
 use Rattle.tl_trace.specs.Texts.{is_version}
-use Rattle.tl_trace.specs.declared.script.Script.{Script}
 use Rattle.tl_trace.specs.declared.script_reader.ScriptReader.{ScriptReader}
-use Rattle.tl_answer.specs.Inputs.{HasTaken, IsFresh, IsRefused, IsScriptRead, held}
-use Rattle.tl_answer.specs.declared.fault.TextFault.{TextFault}
+use Rattle.tl_answer.specs.Inputs.{HasTaken, IsFresh, held}
 use Rattle.tl_answer.specs.declared.input.Input.{Input}
 
 -- the input holds the front of a text whose header names the version and the widths, and no line was read yet
@@ -17,11 +15,6 @@ pub record IsBeginning {C M : ℕ} (left : Option (List ℕ)) (input : Input) (l
   pub fresh : IsFresh left input
   pub header : HasHeader (held input) lines.version C M
   pub none : (text : List ℕ) → IsHeaderLine text lines.version C M → HasRead lines.version text lines.script lines.line
-
--- what comes of the reading of all pieces
-abbrev pub ReadsPieces : {X : Type 0} {C M : ℕ} → (unread left : Option (List ℕ)) (version : ℕ) → Script C M → Input → Result X TextFault → Type 0
-ReadsPieces unread left version script input (Ok done) = IsScriptRead unread left version script
-ReadsPieces unread left version script input (Err fault) = IsRefused unread left input fault
 
 -- the lines that were read are what was used of the text, and these beats have gone
 pub record IsBetweenPast {C M : ℕ} (gone : Gone C M) (unread left : Option (List ℕ)) (lines : ScriptReader C M) (input : Input) : Type 0 where

@@ -1,7 +1,6 @@
 -- The lists of far beats of a run in two threads, and their room. Only contracts of private functions cite these words.
 use Rattle.std.specs.Prelude.{◌≡◌, ◌+◌, ◌≤◌, ℕ, length, vec_len, vec_capacity}
-use Rattle.tl_sides.specs.Bridges.{Bridge}
-use Rattle.tl_run.specs.declared.taken.Taken.{Taken}
+use Rattle.tl_bridge.specs.Words.{Bridge, Taken}
 use Rattle.tl_bridge.specs.declared.client_turns.ClientRun.{ClientRun}
 use Rattle.tl_bridge.specs.declared.manager_turns.ManagerRun.{ManagerRun}
 

@@ -1,27 +1,8 @@
 -- What each side of a run does within a round, and what both have come to at a meeting. Only contracts of private functions cite these words.
 use Rattle.std.specs.Prelude.{◌≡◌, ◌≢◌, ◌+◌, ◌≤◌, ◌⊎◌, ◌++◌, ℕ, Bool, true, List, [], length, map, vec_len, vec_capacity}
 use mathlib.Core.List.{IsPrefix}
-use Rattle.tl_msg.specs.Tables.{rules_a, rules_b, rules_c, rules_d, rules_e}
-use Rattle.tl_msg.specs.declared.head.HeadA.{HeadA}
-use Rattle.tl_msg.specs.declared.head.HeadB.{HeadB}
-use Rattle.tl_msg.specs.declared.head.HeadC.{HeadC}
-use Rattle.tl_msg.specs.declared.head.HeadD.{HeadD}
-use Rattle.tl_msg.specs.declared.head.HeadE.{HeadE}
-use Rattle.tl_msg.specs.declared.beat.BeatOf.{BeatOf}
-use Rattle.tl_ring.specs.Ends.{Sending, Taking, seen_by, sent, received, known_free, known_items, room}
-use Rattle.tl_ring.specs.Pipe.{Pipe}
-use Rattle.tl_settle.specs.Histories.{Event, Ask, Answer, asked, answered, client_answer, manager_answer, manager_home}
-use Rattle.tl_settle.specs.Rounds.{ClientMoves, ManagerMoves}
-use Rattle.tl_settle.specs.Settling.{far_a, far_d}
-use Rattle.tl_settle.specs.Outcomes.{Beats}
-use Rattle.tl_sides.specs.declared.per_channel.PerChannel.{PerChannel}
-use Rattle.tl_sides.specs.Crossings.{stops_alone}
-use Rattle.tl_sides.specs.Bridges.{Bridge, Past}
-use Rattle.tl_sides.specs.Sides.{ClientState, ManagerState, ClientPast, ManagerPast, ClientStandsFor, ManagerStandsFor, AreSides, SameClient, SameManager, SidesMeet, new_client, new_manager}
-use Rattle.tl_sides.specs.Sides.{client_takes_b, client_takes_d, manager_takes_a, manager_takes_c, manager_takes_e}
-use Rattle.tl_run.specs.Inner.Running.{Does, Stops, IsSent, IsHomed, IsAt, AllStop, AreStopped, IsStopped, HaveRoomToCount, all_standing, all_under_way, steps}
-use Rattle.tl_run.specs.declared.channel_state.Offered.{Offered}
-use Rattle.tl_run.specs.declared.channel_state.Offered.TheVariants.{NotReady}
+use Rattle.tl_bridge.specs.Words.{rules_a, rules_b, rules_c, rules_d, rules_e, HeadA, HeadB, HeadC, HeadD, HeadE, BeatOf, Sending, Taking, seen_by, sent, received, known_free, known_items, room, Pipe, Event, Ask, Answer, asked, answered, client_answer, manager_answer, manager_home, ClientMoves, ManagerMoves, far_a, far_d, Beats, PerChannel, stops_alone, Bridge, Past, ClientState, ManagerState, ClientPast, ManagerPast, ClientStandsFor, ManagerStandsFor, AreSides, SameClient, SameManager, SidesMeet, new_client, new_manager, client_takes_b, client_takes_d, manager_takes_a, manager_takes_c, manager_takes_e, Does, Stops, IsSent, IsHomed, IsAt, AllStop, AreStopped, IsStopped, HaveRoomToCount, all_standing, all_under_way, steps, Offered, NotReady}
+pub use Rattle.tl_run.specs.Inner.Offering.{SameClientEnds, SameManagerEnds}
 use Rattle.tl_bridge.specs.declared.client_turns.ClientRun.{ClientRun}
 use Rattle.tl_bridge.specs.declared.manager_turns.ManagerRun.{ManagerRun}
 use Rattle.tl_bridge.specs.declared.turns.Turn.{Turn}
@@ -44,21 +25,6 @@ pub record Goes {S : Type 0} (Same : S → S → Type 0) (progress : PerChannel 
   pub goes : moved ≡ true → progress n s + 1 ≤ progress n' s'
 
 module _ {A : Type 0} {C M : ℕ} where
-  -- a side's ends of the rings are as they were
-  pub record SameClientEnds (s s' : ClientState A C M) : Type 0 where
-    pub a : s'.a.producer ≡ s.a.producer
-    pub b : s'.b.consumer ≡ s.b.consumer
-    pub c : s'.c.producer ≡ s.c.producer
-    pub d : s'.d.consumer ≡ s.d.consumer
-    pub e : s'.e.producer ≡ s.e.producer
-
-  pub record SameManagerEnds (t t' : ManagerState A C M) : Type 0 where
-    pub a : t'.a.consumer ≡ t.a.consumer
-    pub b : t'.b.producer ≡ t.b.producer
-    pub c : t'.c.consumer ≡ t.c.consumer
-    pub d : t'.d.producer ≡ t.d.producer
-    pub e : t'.e.consumer ≡ t.e.consumer
-
   -- how far a side has come: the beats that it accepted, those that it sent, and those that it received
   abbrev pub client_progress : PerChannel ℕ → ClientState A C M → ℕ
   client_progress n s = n.a + n.c + n.e + length (sent s.a) + length (sent s.c) + length (sent s.e) + length (received s.b) + length (received s.d)

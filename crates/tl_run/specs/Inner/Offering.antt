@@ -14,6 +14,7 @@ use Rattle.tl_ring.specs.declared.fault.EndFault.{EndFault}
 use Rattle.tl_settle.specs.Histories.{Event, Ask, Answer, client_answer, manager_answer, manager_home}
 use Rattle.tl_sides.specs.Bridges.{Bridge, Past, StandsFor}
 use Rattle.tl_sides.specs.Crossings.{stops_alone}
+use Rattle.tl_sides.specs.Sides.{ClientState, ManagerState, ClientPast, ManagerPast, ClientStandsFor, ManagerStandsFor}
 use Rattle.tl_run.specs.Inner.Running.{Does}
 use Rattle.tl_run.specs.declared.channel_state.Offered.{Offered}
 use Rattle.tl_run.specs.declared.channel_state.Offered.TheVariants.{Accepted, Stopped}
@@ -101,3 +102,37 @@ module _ {C M : ℕ} where
 
   abbrev pub on_bridge_e : Offering (Bridge C M) (Past C M) HeadE C M
   on_bridge_e = on_bridge rules_e (λ x. x.e) (λ y x. record x { e = y }) (λ _. refl)
+
+module _ {A : Type 0} {C M : ℕ} where
+  -- a side's ends of the rings are as they were
+  pub record SameClientEnds (s s' : ClientState A C M) : Type 0 where
+    pub a : s'.a.producer ≡ s.a.producer
+    pub b : s'.b.consumer ≡ s.b.consumer
+    pub c : s'.c.producer ≡ s.c.producer
+    pub d : s'.d.consumer ≡ s.d.consumer
+    pub e : s'.e.producer ≡ s.e.producer
+
+  pub record SameManagerEnds (t t' : ManagerState A C M) : Type 0 where
+    pub a : t'.a.consumer ≡ t.a.consumer
+    pub b : t'.b.producer ≡ t.b.producer
+    pub c : t'.c.consumer ≡ t.c.consumer
+    pub d : t'.d.producer ≡ t.d.producer
+    pub e : t'.e.consumer ≡ t.e.consumer
+
+  -- the channels of a side in its own thread
+  abbrev pub on_side_a : Offering (ClientState A C M) (ClientPast C M) HeadA C M
+  on_side_a = coupled rules_a ClientStandsFor SameClientEnds (λ x. x.a) (λ y x. record x { a = y }) (λ _. refl) Ask (λ x. x.history) (λ es x. record x { history = es }) (λ _. refl)
+      client_answer (λ _ _. 0)
+
+  abbrev pub on_side_b : Offering (ManagerState A C M) (ManagerPast C M) HeadB M C
+  on_side_b = alone rules_b ManagerStandsFor SameManagerEnds (λ x. x.b) (λ y x. record x { b = y }) (λ _. refl)
+
+  abbrev pub on_side_c : Offering (ClientState A C M) (ClientPast C M) HeadC C M
+  on_side_c = alone rules_c ClientStandsFor SameClientEnds (λ x. x.c) (λ y x. record x { c = y }) (λ _. refl)
+
+  abbrev pub on_side_d : Offering (ManagerState A C M) (ManagerPast C M) HeadD M C
+  on_side_d = coupled rules_d ManagerStandsFor SameManagerEnds (λ x. x.d) (λ y x. record x { d = y }) (λ _. refl) Answer (λ x. x.history) (λ es x. record x { history = es }) (λ _. refl)
+      manager_answer (λ es b. manager_home es b.head)
+
+  abbrev pub on_side_e : Offering (ClientState A C M) (ClientPast C M) HeadE C M
+  on_side_e = alone rules_e ClientStandsFor SameClientEnds (λ x. x.e) (λ y x. record x { e = y }) (λ _. refl)

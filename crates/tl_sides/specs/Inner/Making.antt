@@ -1,16 +1,6 @@
 -- What a side is that was made over halves of rings. Only contracts of private functions cite these words.
 use Rattle.std.specs.Prelude.{◌≡◌, ℕ, []}
-use Rattle.tl_msg.specs.declared.channel.ChA.{ChA}
-use Rattle.tl_msg.specs.declared.channel.ChB.{ChB}
-use Rattle.tl_msg.specs.declared.channel.ChC.{ChC}
-use Rattle.tl_msg.specs.declared.channel.ChD.{ChD}
-use Rattle.tl_msg.specs.declared.channel.ChE.{ChE}
-use Rattle.tl_msg.specs.declared.head.HeadA.{HeadA}
-use Rattle.tl_msg.specs.declared.head.HeadB.{HeadB}
-use Rattle.tl_msg.specs.declared.head.HeadC.{HeadC}
-use Rattle.tl_msg.specs.declared.head.HeadD.{HeadD}
-use Rattle.tl_msg.specs.declared.head.HeadE.{HeadE}
-use Rattle.tl_ring.specs.Ends.{SendHalf, TakeHalf, Taking, IsNewRing}
+use Rattle.tl_sides.specs.Words.{ChA, ChB, ChC, ChD, ChE, HeadA, HeadB, HeadC, HeadD, HeadE, SendHalf, TakeHalf, Taking, IsNewRing}
 use Rattle.tl_sides.specs.Sides.{ClientState, ManagerState}
 
 -- a half that sends is of a new ring of this size, and so is one from which is taken

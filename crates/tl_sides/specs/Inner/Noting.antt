@@ -1,9 +1,6 @@
 -- What is noted of a beat, and what is asked, where it opens a message. Only contracts of private functions cite these words.
 use Rattle.std.specs.Prelude.{◌++◌, Bool, Option, None, List, [], ◌∷◌, if◌then◌else◌}
-use Rattle.tl_msg.specs.declared.head.HeadD.{HeadD}
-use Rattle.tl_msg.specs.declared.fault.SideFault.{SideFault}
-use Rattle.tl_settle.specs.Requests.{is_release_ack}
-use Rattle.tl_settle.specs.Histories.{Mark, open_request, to_request}
+use Rattle.tl_sides.specs.Words.{HeadD, SideFault, is_release_ack, Mark, open_request, to_request}
 
 -- what the open requests say to a response that opens a message; None is Ok
 abbrev pub stops_response : List Mark → HeadD → Option SideFault

@@ -1,6 +1,4 @@
-use Rattle.std.proofs.Common.{◌≡◌, ◌∙◌, [], None, rules, sym, ap}
-use Rattle.tl_trace.specs.Faults.{body, header_of, HasHeader}
-use Rattle.tl_answer.specs.Inputs.{held}
+use Rattle.tl_answer.proofs.Names.{◌≡◌, ◌∙◌, [], None, rules, sym, ap, body, header_of, HasHeader, held}
 use Rattle.tl_answer.proofs.Headers.{last_client, asked_client}
 use Rattle.tl_answer.proofs.Whole.{header_missing}
 use Rattle.tl_answer.proofs.answer.answer_input.Goals as goal

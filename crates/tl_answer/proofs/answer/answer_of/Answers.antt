@@ -1,5 +1,4 @@
-use Rattle.std.proofs.Common.{◌∙◌, ◌++◌, ap}
-use Rattle.tl_answer.specs.Answer.{far_header, far_lines, taken, report}
+use Rattle.tl_answer.proofs.Names.{◌∙◌, ◌++◌, ap, far_header, far_lines, taken, report}
 use Rattle.tl_answer.proofs.Answering.{text-behind}
 use Rattle.tl_answer.proofs.answer.answer_of.Goals as goal
 

@@ -1,4 +1,4 @@
-use Rattle.tl_answer.specs.Answer.{far_header, report}
+use Rattle.tl_answer.proofs.Names.{far_header, report}
 use Rattle.tl_answer.proofs.Answering.{text-behind}
 use Rattle.tl_answer.proofs.answer.check_of.Goals as goal
 

@@ -1,4 +1,4 @@
-use Rattle.std.proofs.Common.{◌∙◌, ap, append_assoc}
+use Rattle.tl_answer.proofs.Names.{◌∙◌, ap, append_assoc}
 use Rattle.tl_answer.proofs.answer.header.Goals as goal
 
 pub returns : goal.returns

@@ -1,4 +1,4 @@
-use Rattle.std.proofs.Common.{lit<}
+use Rattle.tl_answer.proofs.Names.{lit<}
 use Rattle.tl_answer.proofs.Running.{size-is-right, for-memory}
 use Rattle.tl_answer.proofs.answer.run_script.Goals as goal
 

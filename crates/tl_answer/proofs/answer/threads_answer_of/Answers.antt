@@ -1,7 +1,4 @@
-use Rattle.std.proofs.Common.{◌∙◌, ap, refl}
-use Rattle.std.specs.List.{list_all}
-use Rattle.tl_run.specs.Scripts.{near_beats}
-use Rattle.tl_answer.specs.Answer.{is_done}
+use Rattle.tl_answer.proofs.Names.{◌∙◌, ap, refl, list_all, near_beats, is_done}
 use Rattle.tl_answer.proofs.Answering.{of-run}
 use Rattle.tl_answer.proofs.answer.threads_answer_of.Goals as goal
 

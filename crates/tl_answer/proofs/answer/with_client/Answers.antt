@@ -1,5 +1,4 @@
-use Rattle.std.proofs.Common.{rules}
-use Rattle.tl_answer.specs.Inputs.{held}
+use Rattle.tl_answer.proofs.Names.{rules, held}
 use Rattle.tl_answer.proofs.Headers.{last_manager, asked_manager}
 use Rattle.tl_answer.proofs.answer.with_client.Goals as goal
 

@@ -1,9 +1,4 @@
-use Rattle.std.proofs.Common.{lit<, subst, sym, ◌∙◌}
-use Rattle.tl_order.specs.Orders.{is_check}
-use Rattle.tl_run.specs.Scripts.{near_beats}
-use Rattle.tl_answer.specs.Inner.Parts.{spelled}
-use Rattle.tl_answer.specs.Inputs.{held, unread_of}
-use Rattle.tl_answer.specs.Inner.Answered.{ReadsAnswer}
+use Rattle.tl_answer.proofs.Names.{false, lit<, subst, sym, ◌∙◌, near_beats, spelled, held, unread_of, ReadsAnswer}
 use Rattle.tl_answer.proofs.Answering.{script-text, of-both, near-is}
 use Rattle.tl_answer.proofs.Headers.{widths_named, can-cross}
 use Rattle.tl_answer.proofs.Lengths.{lines-few}
@@ -15,8 +10,8 @@ script_of_input-requires g c =
     let widths = widths_named (held c.args.input.now) c.args.version g.row.C g.row.M c.requires.header in
     (lit< tt, (widths.0, (widths.1, (c.requires.fresh, c.requires.header))))
 
-pub answer_script-requires : goal.answer_script-requires
-answer_script-requires g c =
+pub threads_answer_of-requires : goal.threads_answer_of-requires
+threads_answer_of-requires g c =
     let read = c.in-Ok.ensures in
     let few = lines-few _ _ _ _ read.told.lines read.told.told read.few in
     (lit< tt, (can-cross (held c.args.input.now) _ _ _ c.requires.header read.told.lines few _ read.told.script, c.requires.runnable))
@@ -24,11 +19,13 @@ answer_script-requires g c =
 pub returns-in-Ok : goal.returns-in-Ok
 returns-in-Ok g c =
     let read = c.in-Ok.ensures in
-    reads_answer _ _ _ _ read.text read.took read.end read.few c.answer_script.result
+    subst (λ check. ReadsAnswer (unread_of c.args.input.now (g.R.Read.remaining c.args.reader.now)) (g.R.Read.remaining c.script_of_input.new.reader) check c.script_of_input.new.input c.threads_answer_of.result)
+    (sym c.if-is_check.false ∙ c.is_check.ensures)
+    (reads_answer _ _ false _ read.text read.took read.end read.few c.threads_answer_of.result
     (of-both _ _ _ (λ made text-is done-is. script-text c.args.version g.row.C g.row.M read.told.lines read.text read.told.told
-    (near_beats c.in-Ok.script) (near-is read.told.lines _ read.told.script) (is_check c.args.order.now) (spelled made) text-is made.all_done done-is)
-    c.answer_script.result c.answer_script.ensures.text c.answer_script.ensures.done)
-    c.answer_script.ensures.err
+    (near_beats c.in-Ok.script) (near-is read.told.lines _ read.told.script) false (spelled made) text-is made.all_done done-is)
+    c.threads_answer_of.result c.threads_answer_of.ensures.text c.threads_answer_of.ensures.done)
+    c.threads_answer_of.ensures.err)
 
 pub check_input-requires : goal.check_input-requires
 check_input-requires g c = (c.requires.fresh, c.requires.header)
@@ -37,3 +34,11 @@ pub returns-then-is_check : goal.returns-then-is_check
 returns-then-is_check g c =
     subst (λ check. ReadsAnswer (unread_of c.args.input.now (g.R.Read.remaining c.args.reader.now)) (g.R.Read.remaining c.check_input.new.reader) check c.check_input.new.input c.check_input.result)
     (sym c.if-is_check.true ∙ c.is_check.ensures) c.check_input.ensures
+
+pub run_input-requires : goal.run_input-requires
+run_input-requires g c = let size = c.ring.ensures.size c.requires.runnable in (c.requires.fresh, c.requires.header, size.0, size.1)
+
+pub returns-then-is_sync : goal.returns-then-is_sync
+returns-then-is_sync g c =
+    subst (λ check. ReadsAnswer (unread_of c.args.input.now (g.R.Read.remaining c.args.reader.now)) (g.R.Read.remaining c.run_input.new.reader) check c.run_input.new.input c.run_input.result)
+    (sym c.if-is_check.false ∙ c.is_check.ensures) c.run_input.ensures

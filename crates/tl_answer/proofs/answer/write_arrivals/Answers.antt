@@ -1,6 +1,5 @@
 use Rattle.tl_ring.proofs.FieldSizes.{beat_small}
-use Rattle.tl_trace.specs.Fields.{form_a, form_b, form_c, form_d, form_e}
-use Rattle.tl_run.proofs.AllOk.{five_ok}
+use Rattle.tl_answer.proofs.Names.{form_a, form_b, form_c, form_d, form_e, five_ok}
 use Rattle.tl_answer.proofs.FarTexts.{five-put, lines-of}
 use Rattle.tl_answer.proofs.answer.write_arrivals.Goals as goal
 

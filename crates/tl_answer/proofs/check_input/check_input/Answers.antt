@@ -1,42 +1,30 @@
-use Rattle.std.proofs.Common.{lit<, ◌++◌, ◌∙◌, true, Ok, List, ℕ, ap, refl, subst, sym}
-use Rattle.std.specs.List.{list_all}
-use Rattle.tl_answer.specs.Answer.{far_header, is_done, near, report}
-use Rattle.tl_answer.specs.Inner.Judging.{AreVerdictsRead}
-use Rattle.tl_answer.specs.Inner.Parts.{spelled}
-use Rattle.tl_answer.proofs.Answering.{script-text, without-far}
-use Rattle.tl_answer.proofs.Whole.{reads_answer}
-use Rattle.tl_trace.specs.Faults.{HasHeader}
-use Rattle.tl_trace.specs.Scripts.{HasRead, IsHeaderLine}
-use Rattle.tl_answer.specs.Inputs.{held, unread_of}
+use Rattle.tl_answer.proofs.Names.{lit<, ◌∙◌, true, Ok, ap, Beats, verdicts, CanJudge, HasJudged, all_of, spelled, held}
+use Rattle.tl_answer.proofs.Answering.{checks-text}
 use Rattle.tl_answer.proofs.Headers.{widths_named}
+use Rattle.tl_answer.proofs.Listening.{all-near, are-end, has-all, new-goes}
+use Rattle.tl_answer.proofs.Whole.{reads_answer}
 use Rattle.tl_answer.proofs.check_input.check_input.Goals as goal
 
-pub judge_pieces-judged-requires : goal.judge_pieces-judged-requires
-judge_pieces-judged-requires g c =
-    let lines = c.new-lines.result in
-    let widths = widths_named (held c.args.input.now) c.args.version g.row.C g.row.M c.requires.1 in (
-      lit< tt,
-      (
-        lit< tt,
-        (
-          record {
-            client = widths.0;
-            manager = widths.1;
-            fresh = c.requires.0;
-            header = subst (λ v. HasHeader (held c.args.input.now) v g.row.C g.row.M) (sym c.new-lines.ensures.version) c.requires.1;
-            none = subst (λ v. (text : List ℕ) → IsHeaderLine text v g.row.C g.row.M → HasRead v text lines.script lines.line) (sym c.new-lines.ensures.version) c.new-lines.ensures.header;
-          },
-          record { none = c.new-judge.ensures.none; begins = c.new-judge.ensures.begins; judged = c.new-judge.ensures.judged },
-        ),
-      ),
-    )
+pub read_through-requires : goal.read_through-requires
+read_through-requires g c =
+    let judge = c.new-judge.result in
+    let new = c.new-judge.ensures in
+    (lit< tt, (c.requires.0, c.requires.1, λ s short. new-goes (CanJudge judge) (λ beats. HasJudged beats judge) judge.gone new.none s (new.begins s short) new.judged))
 
-pub returns-in_ok-answer-in-Ok-judged : goal.returns-in_ok-answer-in-Ok-judged
-returns-in_ok-answer-in-Ok-judged g c =
-    let read = subst (λ v. AreVerdictsRead g.row.C g.row.M (unread_of c.args.input.now (g.R.Read.remaining c.args.reader.now)) (g.R.Read.remaining c.judge_pieces-judged.new.reader) v c.in-Ok-judged.verdicts)
-    c.new-lines.ensures.version c.in-Ok-judged.ensures in
-    let beats = near g.row.C g.row.M read.lines in
-    reads_answer _ _ true c.judge_pieces-judged.new.input read.text read.took read.end read.few (Ok c.of.result)
-    (script-text c.args.version g.row.C g.row.M read.lines read.text read.told beats refl true (spelled c.of.result)
-    (c.of.ensures.text ∙ c.in_ok-answer-in-Ok-judged.ensures.text ∙ ap (λ vs. far_header c.args.version g.row.C g.row.M ++ report vs) read.found_are ∙ without-far c.args.version beats)
-    c.of.result.all_done (c.of.ensures.done ∙ c.in_ok-answer-in-Ok-judged.ensures.done ∙ ap (λ vs. list_all is_done vs) read.found_are)) tt
+pub end-verdicts-requires : goal.end-verdicts-requires
+end-verdicts-requires g c =
+    let widths = widths_named (held c.args.input.now) c.args.version g.row.C g.row.M c.requires.1 in
+    (lit< tt, (lit< tt, (widths.0, (widths.1, c.in-Ok-read_through.ensures.ok.listens.can))))
+
+pub returns-in_ok-answer-in-Ok-read_through : goal.returns-in_ok-answer-in-Ok-read_through
+returns-in_ok-answer-in-Ok-read_through g c =
+    let read = c.in-Ok-read_through.ensures.ok in
+    let judge = c.read_through.new.listener in
+    let s = c.in-Ok-read_through.last in
+    let Has : Beats g.row.C g.row.M → Type 0 = λ beats. HasJudged beats judge in
+    let found = c.end-verdicts.ensures (all_of read.gone s) (are-end (CanJudge judge) Has judge.gone read.gone s read.listens) (has-all (CanJudge judge) Has judge.gone read.gone s read.listens) ∙
+    ap (λ beats. verdicts beats) (all-near read.lines read.gone s read.rest) in
+    let made = c.in_ok-answer-in-Ok-read_through.ensures in
+    reads_answer _ _ true c.read_through.new.input read.text read.took read.end read.few (Ok c.of.result)
+    (checks-text c.args.version g.row.C g.row.M read.lines read.text read.told c.end-verdicts.result found
+    (spelled c.of.result) (c.of.ensures.text ∙ made.text) c.of.result.all_done (c.of.ensures.done ∙ made.done)) tt

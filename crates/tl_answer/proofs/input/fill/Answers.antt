@@ -1,4 +1,4 @@
-use Rattle.std.proofs.Common.{arith, ◌∙◌}
+use Rattle.tl_answer.proofs.Names.{arith, ◌∙◌}
 use Rattle.tl_answer.proofs.Filling.{goes_on, too_many, room_size}
 use Rattle.tl_answer.proofs.input.fill.Goals as goal
 

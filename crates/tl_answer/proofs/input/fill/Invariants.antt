@@ -1,4 +1,4 @@
-use Rattle.std.proofs.Common.{length, ◌-◌}
+use Rattle.tl_answer.proofs.Names.{length, ◌-◌}
 use Rattle.tl_answer.proofs.Filling.{SoFar}
 use Rattle.tl_answer.proofs.input.fill.Given as goal
 

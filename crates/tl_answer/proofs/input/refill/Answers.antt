@@ -1,4 +1,4 @@
-use Rattle.std.proofs.Common.{◌-◌, ◌∙◌}
+use Rattle.tl_answer.proofs.Names.{◌-◌, ◌∙◌}
 use Rattle.tl_answer.proofs.Filling.{refilled, room_size}
 use Rattle.tl_answer.proofs.input.refill.Goals as goal
 

@@ -1,7 +1,4 @@
-use Rattle.std.proofs.Common.{◌+◌, ◌≤◌, ◌++◌, length, take, drop, arith, ap, subst, sym}
-use Rattle.tl_trace.specs.Scripts.{HasReadPast, IsUnfinished}
-use Rattle.tl_trace.specs.Faults.{IsFirstFault}
-use Rattle.tl_answer.specs.Inputs.{held}
+use Rattle.tl_answer.proofs.Names.{◌+◌, ◌≤◌, ◌++◌, length, take, drop, arith, ap, subst, sym, HasReadPast, IsUnfinished, IsFirstFault, held}
 use Rattle.tl_answer.proofs.Between.{any_refused, held_size, held_rest, between_on, of_text}
 use Rattle.tl_answer.proofs.later_lines.read_held.Goals as goal
 

@@ -1,26 +1,9 @@
-use Rattle.std.proofs.Common.{lit<, List, ℕ, subst, sym}
-use Rattle.tl_trace.specs.Faults.{HasHeader}
-use Rattle.tl_trace.specs.Scripts.{HasRead, IsHeaderLine}
-use Rattle.tl_answer.specs.Inputs.{IsScriptRead, held, unread_of}
+use Rattle.tl_answer.proofs.Names.{lit<, refl}
+use Rattle.tl_answer.proofs.Listening.{reads-script}
 use Rattle.tl_answer.proofs.later_lines.script_of_input.Goals as goal
 
-pub read_pieces-requires : goal.read_pieces-requires
-read_pieces-requires g c =
-    let lines = c.new-lines.result in (
-      lit< tt,
-      record {
-        client = c.requires.client;
-        manager = c.requires.manager;
-        fresh = c.requires.fresh;
-        header = subst (λ v. HasHeader (held c.args.input.now) v g.row.C g.row.M) (sym c.new-lines.ensures.version) c.requires.header;
-        none = subst (λ v. (text : List ℕ) → IsHeaderLine text v g.row.C g.row.M → HasRead v text lines.script lines.line) (sym c.new-lines.ensures.version) c.new-lines.ensures.header;
-      },
-    )
+pub read_through-requires : goal.read_through-requires
+read_through-requires g c = (lit< tt, (c.requires.fresh, c.requires.header, λ s short. refl))
 
-pub returns-in-Ok : goal.returns-in-Ok
-returns-in-Ok g c =
-    subst (λ v. IsScriptRead (unread_of c.args.input.now (g.R.Read.remaining c.args.reader.now)) (g.R.Read.remaining c.read_pieces.new.reader) v c.read_pieces.new.lines.script)
-    c.new-lines.ensures.version c.in-Ok.ensures
-
-pub returns-in-Err : goal.returns-in-Err
-returns-in-Err g c = c.in-Err.ensures
+pub returns : goal.returns
+returns g c = reads-script _ _ c.args.version c.read_through.new.input c.read_through.new.listener c.read_through.result c.read_through.ensures.ok c.read_through.ensures.err

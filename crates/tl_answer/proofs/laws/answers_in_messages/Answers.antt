@@ -1,4 +1,4 @@
-use Rattle.tl_answer.specs.Answer.{near}
+use Rattle.tl_answer.proofs.Names.{near}
 use Rattle.tl_answer.proofs.laws.answers_in_messages.Goals as goal
 
 pub returns : goal.returns

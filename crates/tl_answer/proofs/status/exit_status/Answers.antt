@@ -1,4 +1,4 @@
-use Rattle.std.proofs.Common.{rules}
+use Rattle.tl_answer.proofs.Names.{rules}
 use Rattle.tl_answer.proofs.status.exit_status.Goals as goal
 
 pub returns-in-Ok-false : goal.returns-in-Ok-false

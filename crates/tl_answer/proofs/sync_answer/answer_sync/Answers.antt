@@ -1,6 +1,4 @@
-use Rattle.std.proofs.Common.{rules, refl, sym, subst}
-use Rattle.tl_trace.specs.Faults.{HasHeader}
-use Rattle.tl_answer.specs.Texts.{IsOfText}
+use Rattle.tl_answer.proofs.Names.{rules, refl, sym, subst, HasHeader, IsOfText}
 use Rattle.tl_answer.proofs.Headers.{last_client, with_client, no_header}
 use Rattle.tl_answer.proofs.sync_answer.answer_sync.Goals as goal
 

@@ -1,7 +1,4 @@
-use Rattle.std.specs.Prelude.{IfOk}
-use Rattle.std.proofs.Common.{◌≡◌, ◌++◌, subst}
-use Rattle.std.specs.List.{list_all}
-use Rattle.tl_answer.specs.Answer.{far_header, report, is_done}
+use Rattle.tl_answer.proofs.Names.{IfOk, ◌≡◌, ◌++◌, subst, list_all, far_header, report, is_done}
 use Rattle.tl_answer.proofs.sync_answer.check_script.Goals as goal
 
 pub returns-clause-text : goal.returns-clause-text

@@ -1,12 +1,9 @@
-use Rattle.std.specs.Prelude.{IfOk}
-use Rattle.std.proofs.Common.{lit<, ◌≡◌, ◌∙◌, subst, sym}
-use Rattle.tl_run.specs.Scripts.{near_beats}
-use Rattle.tl_answer.specs.Inner.Parts.{spelled, text_of}
+use Rattle.tl_answer.proofs.Names.{IfOk, lit<, ◌≡◌, ◌∙◌, subst, sym, near_beats, spelled, text_of}
 use Rattle.tl_answer.proofs.Answering.{without-far}
 use Rattle.tl_answer.proofs.sync_answer.sync_answer_of.Goals as goal
 
 pub check_script-answer-requires : goal.check_script-answer-requires
-check_script-answer-requires g c = (lit< tt, c.requires.0)
+check_script-answer-requires g c = (lit< tt, c.requires)
 
 pub returns-then-check-clause-text : goal.returns-then-check-clause-text
 returns-then-check-clause-text g c =

@@ -1,4 +1,4 @@
-use Rattle.std.proofs.Common.{rules}
+use Rattle.tl_answer.proofs.Names.{rules}
 use Rattle.tl_answer.proofs.Headers.{last_manager, with_manager}
 use Rattle.tl_answer.proofs.sync_answer.with_client.Goals as goal
 

@@ -1,5 +1,4 @@
-use Rattle.std.proofs.Common.{lit<, ◌∙◌, arith}
-use Rattle.tl_run.specs.Scripts.{near_beats}
+use Rattle.tl_answer.proofs.Names.{lit<, ◌∙◌, near_beats}
 use Rattle.tl_answer.proofs.Answering.{script-text, of-both, near-is}
 use Rattle.tl_answer.proofs.Headers.{can-cross}
 use Rattle.tl_answer.proofs.Lengths.{lines-few}
@@ -8,7 +7,7 @@ use Rattle.tl_answer.proofs.sync_answer.with_widths.Goals as goal
 pub sync_answer_of-requires : goal.sync_answer_of-requires
 sync_answer_of-requires g c =
     let told = c.in-Ok.ensures.told in
-    (lit< tt, (can-cross c.args.text.now _ _ _ c.requires.0 told.lines (lines-few _ _ _ _ told.lines told.told c.requires.1) _ told.script, omega arith, omega arith))
+    (lit< tt, (can-cross c.args.text.now _ _ _ c.requires.0 told.lines (lines-few _ _ _ _ told.lines told.told c.requires.1) _ told.script))
 
 pub returns-clause-ok : goal.returns-clause-ok
 returns-clause-ok g c =

@@ -1,4 +1,4 @@
-use Rattle.std.proofs.Common.{arith}
+use Rattle.tl_answer.proofs.Names.{arith}
 use Rattle.tl_answer.proofs.Reading.{too_long}
 use Rattle.tl_answer.proofs.text.read_on.Goals as goal
 

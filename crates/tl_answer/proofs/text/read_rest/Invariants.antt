@@ -1,4 +1,4 @@
-use Rattle.std.proofs.Common.{length, ◌<◌}
+use Rattle.tl_answer.proofs.Names.{length, ◌<◌}
 use Rattle.tl_answer.proofs.Reading.{SoFar, to_read}
 use Rattle.tl_answer.proofs.text.read_rest.Given as goal
 

@@ -1,4 +1,4 @@
-use Rattle.std.proofs.lemmas.Result.{err_from_is_err_and}
+use Rattle.tl_answer.proofs.Names.{err_from_is_err_and}
 use Rattle.tl_answer.proofs.Writing.{unwritten, written}
 use Rattle.tl_answer.proofs.text.run_text.Goals as goal
 

@@ -1,5 +1,4 @@
-use Rattle.std.proofs.KnownBytes.{Appends-kept}
-use Rattle.std.proofs.lemmas.Result.{on_ok_weaker}
+use Rattle.tl_answer.proofs.Names.{Appends-kept, on_ok_weaker}
 use Rattle.tl_answer.proofs.text.write_all.Goals as goal
 
 pub returns-clause-all : goal.returns-clause-all

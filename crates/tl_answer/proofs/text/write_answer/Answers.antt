@@ -1,5 +1,4 @@
-use Rattle.std.proofs.Common.{subst}
-use Rattle.std.specs.Io.KnownBytes.{Appends}
+use Rattle.tl_answer.proofs.Names.{subst, Appends}
 use Rattle.tl_answer.proofs.Writing.{five-out}
 use Rattle.tl_answer.proofs.text.write_answer.Goals as goal
 

@@ -1,4 +1,4 @@
-use Rattle.std.proofs.Common.{refl}
+use Rattle.tl_answer.proofs.Names.{refl}
 use Rattle.tl_answer.proofs.Writing.{goes_on}
 use Rattle.tl_answer.proofs.text.write_bytes.Goals as goal
 

@@ -1,4 +1,4 @@
-use Rattle.std.proofs.Common.{length, ◌-◌}
+use Rattle.tl_answer.proofs.Names.{length, ◌-◌}
 use Rattle.tl_answer.proofs.Writing.{SoFar}
 use Rattle.tl_answer.proofs.text.write_bytes.Given as goal
 

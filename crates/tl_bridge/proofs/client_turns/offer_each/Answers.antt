@@ -1,10 +1,6 @@
 use Rattle.std.proofs.Common.{refl}
-use Rattle.tl_bridge.specs.Inner.Offering.{on_a, on_c, on_e}
+use Rattle.tl_bridge.proofs.Words.{on_side_a, on_side_c, on_side_e, of-list, beat_small, client_small, lives-long}
 use Rattle.tl_bridge.proofs.SideEnds.{client-ends-then}
-use Rattle.tl_run.proofs.NextOffers.{of-list}
-use Rattle.tl_ring.proofs.FieldSizes.{beat_small}
-use Rattle.tl_bridge.proofs.SideSizes.{client_small}
-use Rattle.tl_run.proofs.Lives.{lives-long}
 use Rattle.tl_bridge.proofs.client_turns.offer_each.Goals as goal
 
 pub deref-requires : goal.deref-requires
@@ -19,20 +15,20 @@ deref-requires-3 g c = λ κs. (lives-long κs.1.0, lives-long κs.1.1.0)
 pub returns-clause-others : goal.returns-clause-others
 returns-clause-others g c = (refl, refl)
 
-pub offer_next_a-a-requires : goal.offer_next_a-a-requires
-offer_next_a-a-requires g c = (client_small g.row.C g.row.M c.requires.client c.requires.manager, (beat_small g.row.C c.requires.client, c.requires))
+pub offer_next-a-requires : goal.offer_next-a-requires
+offer_next-a-requires g c = (client_small g.row.C g.row.M c.requires.client c.requires.manager, (beat_small g.row.C c.requires.client, c.requires))
 
-pub offer_next_c-c-requires : goal.offer_next_c-c-requires
-offer_next_c-c-requires g c = (client_small g.row.C g.row.M c.requires.client c.requires.manager, (beat_small g.row.C c.requires.client, c.requires))
+pub offer_next-c-requires : goal.offer_next-c-requires
+offer_next-c-requires g c = (client_small g.row.C g.row.M c.requires.client c.requires.manager, (beat_small g.row.C c.requires.client, c.requires))
 
-pub offer_next_e-e-requires : goal.offer_next_e-e-requires
-offer_next_e-e-requires g c = (client_small g.row.C g.row.M c.requires.client c.requires.manager, (beat_small g.row.C c.requires.client, c.requires))
+pub offer_next-e-requires : goal.offer_next-e-requires
+offer_next-e-requires g c = (client_small g.row.C g.row.M c.requires.client c.requires.manager, (beat_small g.row.C c.requires.client, c.requires))
 
 pub returns-clause-offers : goal.returns-clause-offers
 returns-clause-offers g c = λ x h.
-    let a = (of-list on_a c.deref.ensures.value c.offer_next_a-a.ensures).does x h in
-    let c' = (of-list on_c c.deref-2.ensures.value c.offer_next_c-c.ensures).does _ a.2 in
-    let e = (of-list on_e c.deref-3.ensures.value c.offer_next_e-e.ensures).does _ c'.2 in
+    let a = (of-list on_side_a c.deref.ensures.value c.offer_next-a.ensures).does x h in
+    let c' = (of-list on_side_c c.deref-2.ensures.value c.offer_next-c.ensures).does _ a.2 in
+    let e = (of-list on_side_e c.deref-3.ensures.value c.offer_next-e.ensures).does _ c'.2 in
     record {
       past = _;
       stands = e.2;
@@ -47,4 +43,4 @@ returns-clause-offers g c = λ x h.
     }
 
 pub returns-clause-ends : goal.returns-clause-ends
-returns-clause-ends g c = client-ends-then _ _ _ (client-ends-then _ _ _ c.offer_next_a-a.ensures.same c.offer_next_c-c.ensures.same) c.offer_next_e-e.ensures.same
+returns-clause-ends g c = client-ends-then _ _ _ (client-ends-then _ _ _ c.offer_next-a.ensures.same c.offer_next-c.ensures.same) c.offer_next-e.ensures.same

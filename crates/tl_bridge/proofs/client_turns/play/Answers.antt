@@ -1,10 +1,7 @@
 use Rattle.std.proofs.Common.{lit<, inl, ◌<◌, ◌^◌, sym, ap, subst, ◌∙◌}
-use Rattle.tl_ring.proofs.FieldSizes.{beat_small}
-use Rattle.tl_run.specs.Scripts.{near_beats}
+use Rattle.tl_bridge.proofs.Words.{beat_small, near_beats, few-enough, client_small}
 use Rattle.tl_bridge.specs.Inner.Sides.{none_ready}
-use Rattle.tl_run.proofs.Counting.{few-enough}
 use Rattle.tl_bridge.proofs.SidePlays.{client-played-first, client-played-then}
-use Rattle.tl_bridge.proofs.SideSizes.{client_small}
 use Rattle.tl_bridge.proofs.client_turns.play.Goals as goal
 
 pub take_each-requires : goal.take_each-requires

@@ -1,14 +1,9 @@
 use Rattle.std.proofs.Common.{◌+◌, sym, ap, subst, ◌∙◌, lit<, arith}
-use Rattle.tl_ring.specs.Ends.{Takes}
-use Rattle.tl_sides.specs.Sides.{client_pumps}
-use Rattle.tl_run.specs.Scripts.{near_beats}
-use Rattle.tl_run.specs.Inner.Running.{steps}
+use Rattle.tl_bridge.proofs.Words.{Takes, client_pumps, near_beats, steps, none-more, client_small}
 use Rattle.tl_bridge.specs.Inner.Sides.{ClientIsAt, ClientGoes, ClientRests, all_steps}
-use Rattle.tl_run.proofs.Counting.{none-more}
 use Rattle.tl_bridge.proofs.Resting.{client-rests, moves-or}
 use Rattle.tl_bridge.proofs.SideEnds.{client-pumped, client-fetched, client-turn-goes}
 use Rattle.tl_bridge.proofs.SideRound.{client-turned}
-use Rattle.tl_bridge.proofs.SideSizes.{client_small}
 use Rattle.tl_bridge.proofs.client_turns.turn.Goals as goal
 
 pub offer_each-offers-requires : goal.offer_each-offers-requires

@@ -1,10 +1,6 @@
 use Rattle.std.proofs.Common.{refl}
-use Rattle.tl_bridge.specs.Inner.Offering.{on_b, on_d}
+use Rattle.tl_bridge.proofs.Words.{on_side_b, on_side_d, of-list, beat_small, manager_small, lives-long}
 use Rattle.tl_bridge.proofs.SideEnds.{manager-ends-then}
-use Rattle.tl_run.proofs.NextOffers.{of-list}
-use Rattle.tl_ring.proofs.FieldSizes.{beat_small}
-use Rattle.tl_bridge.proofs.SideSizes.{manager_small}
-use Rattle.tl_run.proofs.Lives.{lives-long}
 use Rattle.tl_bridge.proofs.manager_turns.offer_each.Goals as goal
 
 pub deref-requires : goal.deref-requires
@@ -16,16 +12,16 @@ deref-requires-2 g c = λ κs. (lives-long κs.1.0, lives-long κs.1.1.0)
 pub returns-clause-others : goal.returns-clause-others
 returns-clause-others g c = (refl, refl, refl)
 
-pub offer_next_b-b-requires : goal.offer_next_b-b-requires
-offer_next_b-b-requires g c = (manager_small g.row.C g.row.M c.requires.client c.requires.manager, (beat_small g.row.M c.requires.manager, c.requires))
+pub offer_next-b-requires : goal.offer_next-b-requires
+offer_next-b-requires g c = (manager_small g.row.C g.row.M c.requires.client c.requires.manager, (beat_small g.row.M c.requires.manager, c.requires))
 
-pub offer_next_d-d-requires : goal.offer_next_d-d-requires
-offer_next_d-d-requires g c = (manager_small g.row.C g.row.M c.requires.client c.requires.manager, (beat_small g.row.M c.requires.manager, c.requires))
+pub offer_next-d-requires : goal.offer_next-d-requires
+offer_next-d-requires g c = (manager_small g.row.C g.row.M c.requires.client c.requires.manager, (beat_small g.row.M c.requires.manager, c.requires))
 
 pub returns-clause-offers : goal.returns-clause-offers
 returns-clause-offers g c = λ x h.
-    let b = (of-list on_b c.deref.ensures.value c.offer_next_b-b.ensures).does x h in
-    let d = (of-list on_d c.deref-2.ensures.value c.offer_next_d-d.ensures).does _ b.2 in
+    let b = (of-list on_side_b c.deref.ensures.value c.offer_next-b.ensures).does x h in
+    let d = (of-list on_side_d c.deref-2.ensures.value c.offer_next-d.ensures).does _ b.2 in
     record {
       past = _;
       stands = d.2;
@@ -39,4 +35,4 @@ returns-clause-offers g c = λ x h.
     }
 
 pub returns-clause-ends : goal.returns-clause-ends
-returns-clause-ends g c = manager-ends-then _ _ _ c.offer_next_b-b.ensures.same c.offer_next_d-d.ensures.same
+returns-clause-ends g c = manager-ends-then _ _ _ c.offer_next-b.ensures.same c.offer_next-d.ensures.same

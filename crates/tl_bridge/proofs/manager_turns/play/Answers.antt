@@ -1,10 +1,7 @@
 use Rattle.std.proofs.Common.{lit<, inl, ◌<◌, ◌^◌, sym, ap, subst, ◌∙◌}
-use Rattle.tl_ring.proofs.FieldSizes.{beat_small}
-use Rattle.tl_run.specs.Scripts.{near_beats}
+use Rattle.tl_bridge.proofs.Words.{beat_small, near_beats, few-enough, manager_small}
 use Rattle.tl_bridge.specs.Inner.Sides.{none_ready}
-use Rattle.tl_run.proofs.Counting.{few-enough}
 use Rattle.tl_bridge.proofs.SidePlays.{manager-played-first, manager-played-then}
-use Rattle.tl_bridge.proofs.SideSizes.{manager_small}
 use Rattle.tl_bridge.proofs.manager_turns.play.Goals as goal
 
 pub take_each-requires : goal.take_each-requires

@@ -1,14 +1,9 @@
 use Rattle.std.proofs.Common.{◌+◌, sym, ap, subst, ◌∙◌, lit<, arith}
-use Rattle.tl_ring.specs.Ends.{Takes}
-use Rattle.tl_sides.specs.Sides.{manager_pumps}
-use Rattle.tl_run.specs.Scripts.{near_beats}
-use Rattle.tl_run.specs.Inner.Running.{steps}
+use Rattle.tl_bridge.proofs.Words.{Takes, manager_pumps, near_beats, steps, none-more, manager_small}
 use Rattle.tl_bridge.specs.Inner.Sides.{ManagerIsAt, ManagerGoes, ManagerRests, all_steps}
-use Rattle.tl_run.proofs.Counting.{none-more}
 use Rattle.tl_bridge.proofs.Resting.{manager-rests, moves-or}
 use Rattle.tl_bridge.proofs.SideEnds.{manager-pumped, manager-fetched, manager-turn-goes}
 use Rattle.tl_bridge.proofs.SideRound.{manager-turned}
-use Rattle.tl_bridge.proofs.SideSizes.{manager_small}
 use Rattle.tl_bridge.proofs.manager_turns.turn.Goals as goal
 
 pub offer_each-offers-requires : goal.offer_each-offers-requires

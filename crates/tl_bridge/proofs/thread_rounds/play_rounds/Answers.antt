@@ -1,13 +1,9 @@
 use Rattle.std.proofs.Common.{lit<, ◌+◌, ◌^◌, ◌<◌, ◌≤◌, refl, sym, subst, ◌∙◌, arith, zero-le, ⊎_elim}
-use Rattle.tl_run.specs.Scripts.{near_beats}
-use Rattle.tl_run.specs.Inner.Arriving.{beats_of}
+use Rattle.tl_bridge.proofs.Words.{near_beats, beats_of, AllStop, counts-on, last-one, nearer, one-round-more, end-few, client_small, manager_small}
 use Rattle.tl_bridge.specs.Inner.Arriving.{taken_of}
-use Rattle.tl_run.specs.Inner.Running.{AllStop}
 use Rattle.tl_bridge.specs.Inner.Sides.{met_progress, past_of}
-use Rattle.tl_run.proofs.Counting.{counts-on, last-one, nearer, one-round-more}
-use Rattle.tl_run.proofs.Ended.{end-few}
 use Rattle.tl_bridge.proofs.Rooms.{keeps-room}
-use Rattle.tl_bridge.proofs.SideSizes.{client_small, manager_small, client_run_small, manager_run_small}
+use Rattle.tl_bridge.proofs.SideSizes.{client_run_small, manager_run_small}
 use Rattle.tl_bridge.proofs.Meeting.{met-most, met-ended, new-met}
 use Rattle.tl_bridge.proofs.thread_rounds.play_rounds.Given.{Over}
 use Rattle.tl_bridge.proofs.thread_rounds.play_rounds.Goals as goal

@@ -1,9 +1,7 @@
 use Rattle.std.proofs.Common.{◌-◌, ◌≤◌}
-use Rattle.tl_run.specs.Scripts.{near_beats}
-use Rattle.tl_run.specs.Inner.Arriving.{HasRoomFor, beats_of}
+use Rattle.tl_bridge.proofs.Words.{near_beats, HasRoomFor, beats_of, run_end}
 use Rattle.tl_bridge.specs.Inner.Arriving.{taken_of}
 use Rattle.tl_bridge.specs.Inner.Sides.{HasMet, met_progress}
-use Rattle.tl_run.proofs.Ended.{run_end}
 use Rattle.tl_bridge.proofs.thread_rounds.play_rounds.Given as goal
 
 abbrev pub invariant-rounds : goal.invariant-rounds

@@ -1,8 +1,7 @@
 use Rattle.std.proofs.Common.{lit<}
-use Rattle.tl_run.specs.Scripts.{near_beats}
+use Rattle.tl_bridge.proofs.Words.{near_beats, client_small, manager_small, still_sides}
 use Rattle.tl_bridge.proofs.Meeting.{both-played, client-may, manager-may}
-use Rattle.tl_bridge.proofs.SideSizes.{client_small, manager_small, client_run_small, manager_run_small}
-use Rattle.tl_sides.proofs.SameSides.{still_sides}
+use Rattle.tl_bridge.proofs.SideSizes.{client_run_small, manager_run_small}
 use Rattle.tl_bridge.proofs.thread_rounds.round.Goals as goal
 
 pub play_both-requires-after_bounds : goal.play_both-requires-after_bounds

@@ -1,11 +1,8 @@
 use Rattle.std.proofs.Common.{lit<, refl, sym, subst}
 use Rattle.std.specs.Prelude.{IfOk}
-use Rattle.tl_ring.proofs.FieldSizes.{beat_small}
-use Rattle.tl_run.specs.Scripts.{near_beats}
-use Rattle.tl_run.specs.Inner.Running.{HasEnded}
+use Rattle.tl_bridge.proofs.Words.{beat_small, near_beats, HasEnded, client_small, manager_small, not-for-size, not-stalled, same-size, stalled-never}
 use Rattle.tl_bridge.specs.Inner.Sides.{bridge_of}
-use Rattle.tl_bridge.proofs.SideSizes.{client_small, manager_small, client_run_small, manager_run_small}
-use Rattle.tl_run.proofs.OnlyMemory.{not-for-size, not-stalled, same-size, stalled-never}
+use Rattle.tl_bridge.proofs.SideSizes.{client_run_small, manager_run_small}
 use Rattle.tl_bridge.proofs.threads_run.run_threads.Goals as goal
 
 pub bridge-requires : goal.bridge-requires

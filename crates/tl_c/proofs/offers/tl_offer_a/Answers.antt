@@ -1,7 +1,5 @@
 use Rattle.std.proofs.Common.{rules, lit<}
-use Rattle.tl_settle.specs.Histories.{client_answer}
 use Rattle.tl_ring.specs.Ends.{as_pipe}
-use Rattle.tl_sides.specs.Sides.{client_offers_a}
 use Rattle.tl_c_beats.proofs.Offering.{offers_none, offers_later, offers}
 use Rattle.tl_c.proofs.BothWidths.{widths}
 use Rattle.tl_c.proofs.offers.tl_offer_a.Goals as goal
@@ -13,11 +11,10 @@ pub returns-in_default-clause-offer : goal.returns-in_default-clause-offer
 returns-in_default-clause-offer c = offers_none (search rules) (search rules)
 
 pub returns-clause-offer : goal.returns-clause-offer
-returns-clause-offer c = offers_later (as_pipe c.offer_held-deref.result.now.side.a) c.offer_held-deref.result.now
-    (λ x s. (s.a.pipe.stage, s.a.pipe.closed)) (search rules) (search rules) (search rules)
+returns-clause-offer c = offers_later (as_pipe c.offer_held-deref.result.now.side.a) c.offer_held-deref.result.now (λ x s. (s.a.pipe.stage, s.a.pipe.closed))
+    (search rules) (search rules) (search rules)
 
 pub returns-2-clause-offer : goal.returns-2-clause-offer
-returns-2-clause-offer c = offers (λ b. record { side = b }) c.offer_held-deref_mut.result.now.side c.offer_held-offer_a.new.self
-    (as_pipe c.offer_held-deref_mut.result.now.side.a) (λ x s. (s.a.pipe.stage, s.a.pipe.closed)) (search rules) (search rules)
-    (λ b x. client_answer x.history b) client_offers_a c.offer_held-offer_a.result c.beat_a-beat.ensures (search rules) c.offer_held.ensures
-    c.offer_held-offer_a.ensures.admitted c.offer_held-offer_a.ensures.accepted c.offer_held-offer_a.ensures.fault c.offer_held-offer_a.ensures.refused
+returns-2-clause-offer c = offers (λ q. record { side = q }) c.offer_held-deref_mut.result.now.side c.offer_held-offer_a.new.self
+    (as_pipe c.offer_held-deref_mut.result.now.side.a) (λ x s. (s.a.pipe.stage, s.a.pipe.closed)) (search rules) (search rules) (λ x s. s) (λ x s. s)
+    c.offer_held-offer_a.result c.beat_a-beat.ensures (search rules) c.offer_held.ensures c.offer_held-offer_a.ensures

@@ -1,10 +1,7 @@
-use Rattle.std.proofs.Common.{rules, ◌-◌, length, take, refl}
+use Rattle.tl_check.proofs.Names.{rules, ◌-◌, length, take, refl, slice_get_within, tracker-fits, read_some, end-past, part-get, part-of}
 use denote.Memory.{lone}
 use denote.Param.{layout}
-use Rattle.std.proofs.lemmas.Option.{slice_get_within}
-use Rattle.tl_convert.proofs.Sizes.{tracker-fits}
-use Rattle.tl_run.proofs.OfferSteps.{read_some}
-use Rattle.tl_check.proofs.Parts.{end-past, low, none-left, part-get, part-of, steps}
+use Rattle.tl_check.proofs.Parts.{low, none-left, steps}
 use Rattle.tl_check.proofs.Passing.{alone-all, alone-stops}
 use Rattle.tl_check.proofs.Sizes.{progress-fits}
 use Rattle.tl_check.proofs.alone.judge_alone.Goals as goal

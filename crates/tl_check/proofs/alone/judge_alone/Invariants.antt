@@ -1,6 +1,4 @@
-use Rattle.std.proofs.Common.{◌+◌, ◌-◌, List, length}
-use Rattle.tl_check.specs.Inner.Passing.{HasCome, IsWithin}
-use Rattle.tl_check.specs.Judging.{IsPart}
+use Rattle.tl_check.proofs.Names.{◌+◌, ◌-◌, List, length, HasCome, IsWithin, IsPart}
 use Rattle.tl_check.proofs.alone.judge_alone.Given as goal
 
 abbrev pub invariant-beats : goal.invariant-beats

@@ -1,7 +1,5 @@
-use Rattle.std.proofs.Common.{lit<, ◌≡◌, arith}
+use Rattle.tl_check.proofs.Names.{lit<, ◌≡◌, arith, end-past, part-of, beat_small}
 use Rattle.tl_check.proofs.Ends.{both-end}
-use Rattle.tl_check.proofs.Parts.{end-past, part-of}
-use Rattle.tl_ring.proofs.FieldSizes.{beat_small}
 use Rattle.tl_check.proofs.coupled.judge_coupled.Goals as goal
 
 pub passes-init : goal.passes-init

@@ -1,10 +1,4 @@
-use Rattle.std.proofs.Common.{◌+◌, ◌-◌, List, length}
-use Rattle.tl_msg.specs.Tables.{rules_a, rules_d}
-use Rattle.tl_msg.specs.declared.head.HeadA.{HeadA}
-use Rattle.tl_msg.specs.declared.head.HeadD.{HeadD}
-use Rattle.tl_msg.specs.declared.beat.BeatOf.{BeatOf}
-use Rattle.tl_check.specs.Inner.Passing.{AreAt, HasCome, IsWithin}
-use Rattle.tl_check.specs.Judging.{IsPart}
+use Rattle.tl_check.proofs.Names.{◌+◌, ◌-◌, List, length, rules_a, rules_d, HeadA, HeadD, BeatOf, AreAt, HasCome, IsWithin, IsPart}
 use Rattle.tl_check.proofs.coupled.judge_coupled.Given as goal
 
 abbrev pub invariant-passes : goal.invariant-passes

@@ -1,9 +1,4 @@
-use Rattle.std.proofs.Common.{◌≡◌, ◌++◌, List, length, map, take}
-use Rattle.tl_msg.specs.declared.head.HeadD.{HeadD}
-use Rattle.tl_msg.specs.declared.beat.BeatOf.{BeatOf}
-use Rattle.tl_settle.specs.Histories.{Event, Answer}
-use Rattle.tl_sides.specs.Books.{KnowsClient}
-use Rattle.tl_check.specs.Inner.Passing.{HaveHead}
+use Rattle.tl_check.proofs.Names.{◌≡◌, ◌++◌, List, length, map, take, HeadD, BeatOf, Event, Answer, KnowsClient, HaveHead}
 use Rattle.tl_check.proofs.coupled.note_answers.Given as goal
 
 abbrev pub invariant-loop : goal.invariant-loop

@@ -1,6 +1,4 @@
-use Rattle.std.proofs.Common.{sym, subst, arith, append-nil}
-use Rattle.tl_settle.specs.Histories.{Ask}
-use Rattle.tl_sides.specs.Books.{KnowsManager}
+use Rattle.tl_check.proofs.Names.{sym, subst, arith, append-nil, Ask, KnowsManager}
 use Rattle.tl_check.proofs.Noting.{one-noted, all-noted}
 use Rattle.tl_check.proofs.coupled.note_asks.Goals as goal
 

@@ -1,8 +1,6 @@
-use Rattle.std.proofs.Common.{lit<, None, take, refl, sym, ap, ◌∙◌}
-use Rattle.tl_msg.specs.Tables.{rules_a}
+use Rattle.tl_check.proofs.Names.{lit<, None, take, refl, sym, ap, ◌∙◌, rules_a, beat_small}
 use Rattle.tl_check.proofs.Passing.{says-after}
 use Rattle.tl_check.proofs.Steps.{ask-accepted, ask-faulty, ask-next, ask-stops}
-use Rattle.tl_ring.proofs.FieldSizes.{beat_small}
 use Rattle.tl_check.proofs.coupled.offer_request.Goals as goal
 
 pub returns-in-Err-clause-stopped : goal.returns-in-Err-clause-stopped

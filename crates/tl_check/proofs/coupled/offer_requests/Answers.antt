@@ -1,11 +1,7 @@
-use Rattle.std.proofs.Common.{lit<, ◌-◌, None, length, sym, ap}
-use Rattle.std.specs.Option.{option_map_or}
-use Rattle.std.proofs.lemmas.Option.{slice_get_past, slice_get_within}
-use Rattle.tl_settle.specs.Settling.{stops_a}
-use Rattle.tl_run.proofs.OfferSteps.{read_some}
+use Rattle.tl_check.proofs.Names.{lit<, ◌-◌, None, length, sym, ap, option_map_or, slice_get_past, slice_get_within, stops_a, read_some, end-past}
+use Rattle.tl_check.proofs.Names.{part-get, part-of, beat_small}
 use Rattle.tl_check.proofs.Ends.{stopped-at}
-use Rattle.tl_check.proofs.Parts.{end-past, low, none-left, part-get, part-of, steps}
-use Rattle.tl_ring.proofs.FieldSizes.{beat_small}
+use Rattle.tl_check.proofs.Parts.{low, none-left, steps}
 use Rattle.tl_check.proofs.coupled.offer_requests.Goals as goal
 
 pub beats-preserved : goal.beats-preserved

@@ -1,8 +1,6 @@
-use Rattle.std.proofs.Common.{lit<, None, take, refl, sym, ap, ◌∙◌}
-use Rattle.tl_msg.specs.Tables.{rules_d}
+use Rattle.tl_check.proofs.Names.{lit<, None, take, refl, sym, ap, ◌∙◌, rules_d, beat_small}
 use Rattle.tl_check.proofs.Passing.{says-after}
 use Rattle.tl_check.proofs.Steps.{answer-accepted, answer-faulty, answer-next, answer-stops}
-use Rattle.tl_ring.proofs.FieldSizes.{beat_small}
 use Rattle.tl_check.proofs.coupled.offer_response.Goals as goal
 
 pub returns-in-Err-clause-stopped : goal.returns-in-Err-clause-stopped

@@ -1,5 +1,4 @@
-use Rattle.std.proofs.Common.{sym, subst}
-use Rattle.tl_check.specs.Judging.{IsPart}
+use Rattle.tl_check.proofs.Names.{sym, subst, IsPart}
 use Rattle.tl_check.proofs.judge.go_through.Goals as goal
 
 pub returns-clause-judged : goal.returns-clause-judged

@@ -1,5 +1,5 @@
 use Rattle.tl_run.specs.Scripts.{near_beats}
-use Rattle.tl_check.proofs.Parts.{all-held}
+use Rattle.tl_check.proofs.Names.{all-held}
 use Rattle.tl_check.proofs.verdicts.verdicts_of.Goals as goal
 
 pub returns : goal.returns

@@ -1,11 +1,13 @@
-use Rattle.std.proofs.Common.{◌+◌, ◌≤◌}
+use Rattle.tl_run.proofs.Names.{◌≡◌, ◌+◌, ◌-◌, ◌≤◌, length, IsBetween}
 use Rattle.tl_run.proofs.ahead.go_ahead.Given as goal
 
 abbrev pub invariant-beats : goal.invariant-beats
 invariant-beats g l = record {
-  goes : g.S.GoesAhead.Goes l.beats l.at l.fn.side l.later l.side;
-  few : l.later + l.left ≤ l.at + l.most;
+  within : IsBetween l.gone l.at (length l.held);
+  on : l.fn.at ≤ l.at;
+  passes : g.S.GoesOn.Passes l.gone l.held l.fn.at l.fn.side l.at l.side;
+  same : l.at ≡ l.fn.at → l.side ≡ l.fn.side;
 }
 
 abbrev pub decreases-beats : goal.decreases-beats
-decreases-beats g l = l.left
+decreases-beats g l = l.gone + length l.held - l.at

@@ -1,9 +1,4 @@
-use Rattle.std.proofs.Common.{◌≡◌, refl, ap, ◌∙◌}
-use Rattle.tl_sides.specs.declared.per_channel.PerChannel.{PerChannel}
-use Rattle.tl_run.specs.declared.channel_state.Stop.{Stop}
-use Rattle.tl_run.specs.declared.channel_state.Offered.{Offered}
-use Rattle.tl_run.specs.declared.channel_state.Offered.TheVariants.{Accepted, NotReady, Stopped}
-use Rattle.tl_run.specs.Inner.Running.{IsStopped, all_stopped}
+use Rattle.tl_run.proofs.Names.{◌≡◌, refl, ap, ◌∙◌, PerChannel, Stop, Offered, Accepted, NotReady, Stopped, IsStopped, all_stopped}
 use Rattle.tl_run.proofs.channel_state.all_stops.Goals as goal
 
 -- offers that are each stopped by this

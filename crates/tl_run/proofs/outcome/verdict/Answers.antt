@@ -1,10 +1,6 @@
-use Rattle.std.proofs.Common.{◌≡◌, ◌⊎◌, ℕ, refl, sym, ap, subst, ◌∙◌, ⊎_elim}
-use Rattle.tl_msg.specs.declared.fault.BeatFault.{BeatFault}
-use Rattle.tl_msg.specs.declared.fault.SideFault.{SideFault}
-use Rattle.tl_msg.specs.declared.fault.SideFault.TheVariants.{Beat, SourceBusy, NoRequest, SizeMismatch}
+use Rattle.tl_run.proofs.Names.{◌≡◌, ◌⊎◌, ℕ, refl, sym, ap, subst, ◌∙◌, ⊎_elim, BeatFault, SideFault, Beat, SourceBusy, NoRequest, SizeMismatch}
+use Rattle.tl_run.proofs.Names.{Refused, stop_verdict}
 use Rattle.tl_msg.specs.declared.verdict.Verdict.TheVariants as ending
-use Rattle.tl_run.specs.declared.channel_state.Stop.TheVariants.{Refused}
-use Rattle.tl_run.specs.Inner.Running.{stop_verdict}
 use Rattle.tl_run.proofs.outcome.verdict.Goals as goal
 
 -- a beat that is refused for good, and one that waits

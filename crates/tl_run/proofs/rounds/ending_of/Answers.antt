@@ -1,16 +1,9 @@
-use Rattle.std.proofs.Common.{ap, ◌∙◌}
-use Rattle.tl_run.proofs.EndsIn.{verdicts-are, rounds-few, five-same, verdict-is}
+use Rattle.tl_run.proofs.EndsIn.{rounds-few}
 use Rattle.tl_run.proofs.rounds.ending_of.Goals as goal
 
 pub returns : goal.returns
 returns c = λ C M near far s cw mw same h.
     record {
-      verdicts_are =
-          five-same (verdict-is c.args.stops.now.a c.args.at.now.a (ap (λ q. q.a) same) c.verdict.ensures)
-          (verdict-is c.args.stops.now.b c.args.at.now.b (ap (λ q. q.b) same) c.verdict-2.ensures)
-          (verdict-is c.args.stops.now.c c.args.at.now.c (ap (λ q. q.c) same) c.verdict-3.ensures)
-          (verdict-is c.args.stops.now.d c.args.at.now.d (ap (λ q. q.d) same) c.verdict-4.ensures)
-          (verdict-is c.args.stops.now.e c.args.at.now.e (ap (λ q. q.e) same) c.verdict-5.ensures) ∙
-          verdicts-are cw mw near c.args.at.now far s c.args.stops.now c.args.rounds h;
+      verdicts_are = c.verdicts_at.ensures C M near far s c.args.rounds cw mw same h;
       few_rounds = rounds-few cw mw near c.args.at.now far s c.args.stops.now c.args.rounds h;
     }

@@ -1,8 +1,5 @@
-use Rattle.std.proofs.Common.{refl}
-use Rattle.tl_ring.proofs.FieldSizes.{beat_small}
-use Rattle.tl_run.specs.Inner.Offering.{on_bridge_a, on_bridge_b, on_bridge_c, on_bridge_d, on_bridge_e}
+use Rattle.tl_run.proofs.Names.{refl, beat_small, on_bridge_a, on_bridge_b, on_bridge_c, on_bridge_d, on_bridge_e, bridge_small}
 use Rattle.tl_run.proofs.NextOffers.{of-list}
-use Rattle.tl_sides.proofs.BridgeSize.{bridge_small}
 use Rattle.tl_run.proofs.Lives.{lives-long}
 use Rattle.tl_run.proofs.rounds.offer_on_each.Goals as goal
 

@@ -1,8 +1,5 @@
-use Rattle.std.proofs.Common.{◌≡◌, ◌∙◌, refl, subst}
-use Rattle.std.specs.Prelude.{IfOk, IfErr}
+use Rattle.tl_run.proofs.Names.{◌≡◌, ◌∙◌, refl, subst, IfOk, IfErr, beats_of, HasEnded, lengths}
 use Rattle.tl_run.specs.declared.outcome.RunFault.TheVariants.{OutOfMemory}
-use Rattle.tl_run.specs.Inner.Arriving.{beats_of}
-use Rattle.tl_run.specs.Inner.Running.{HasEnded, lengths}
 use Rattle.tl_run.proofs.EndsIn.{far-is}
 use Rattle.tl_run.proofs.rounds.outcome_of.Goals as goal
 

@@ -1,25 +1,12 @@
-use Rattle.std.proofs.Common.{true, lit<, refl, sym, ap, subst, ◌∙◌}
-use Rattle.tl_sides.proofs.BridgeSize.{bridge_small}
-use Rattle.tl_run.specs.Scripts.{near_beats}
-use Rattle.tl_sides.specs.Bridges.{after_pump}
-use Rattle.tl_run.specs.Arrivals.{joined}
-use Rattle.tl_run.specs.Inner.Running.{CanAdd, added, after_take_all, arriving, inboxes, lengths}
+use Rattle.tl_run.proofs.Names.{true, lit<, refl, sym, ap, subst, ◌∙◌, bridge_small, near_beats, after_pump, joined, CanAdd, added, after_take_all}
+use Rattle.tl_run.proofs.Names.{arriving, inboxes, lengths}
 use Rattle.tl_run.proofs.Ended.{can-add}
 use Rattle.tl_run.proofs.Round.{moved-stands, has-round, inboxes-are, counts-fit, joined-lengths}
 use Rattle.tl_run.proofs.Rooms.{inboxes-fit}
 use Rattle.tl_run.proofs.rounds.round.Goals as goal
 
 pub take_from_each-requires : goal.take_from_each-requires
-take_from_each-requires g c =
-    let r = c.requires.2 in
-    let u = r.under_way in (
-      bridge_small g.row.C g.row.M c.requires.0.client c.requires.0.manager,
-      (
-        c.requires.0,
-        subst (λ q. CanAdd q (lengths (inboxes c.args.bridge.now))) (sym r.counts)
-            (can-add (near_beats c.args.script.now) c.requires.0.client c.requires.0.manager c.requires.1 c.args.at.now r.all c.args.bridge.now u.past u.stands u.is_at),
-      ),
-    )
+take_from_each-requires g c = (bridge_small g.row.C g.row.M c.requires.0.client c.requires.0.manager, c.requires.0)
 
 pub offer_on_each-offers-requires : goal.offer_on_each-offers-requires
 offer_on_each-offers-requires g c = (
@@ -56,7 +43,12 @@ returns-clause-counted g c = c.offer_on_each-offers.ensures.counted
 
 pub returns-clause-taken : goal.returns-clause-taken
 returns-clause-taken g c = λ x all stands same.
-    c.in_ok-take_from_each.ensures.counted ∙ ap (λ q. added q (lengths (inboxes c.args.bridge.now))) same ∙
+    let r = c.requires.2 in
+    let u = r.under_way in
+    let can = subst (λ q. CanAdd q (lengths (inboxes c.args.bridge.now))) (sym r.counts)
+    (can-add (near_beats c.args.script.now) c.requires.0.client c.requires.0.manager c.args.at.now r.all c.args.bridge.now u.past u.stands u.is_at
+    (counts-fit c.requires.0.client c.requires.0.manager (near_beats c.args.script.now) c.args.at.now r.all u.past u.is_at c.requires.1)) in
+    c.in_ok-take_from_each.ensures.counted can ∙ ap (λ q. added q (lengths (inboxes c.args.bridge.now))) same ∙
     ap (λ q. added (lengths all) (lengths q)) (inboxes-are c.args.bridge.now x stands) ∙ joined-lengths all (arriving x)
 
 pub returns-clause-same : goal.returns-clause-same

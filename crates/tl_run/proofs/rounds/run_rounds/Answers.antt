@@ -1,12 +1,8 @@
-use Rattle.std.proofs.Common.{lit<, ◌+◌, ◌^◌, ◌<◌, ◌≤◌, refl, subst, ◌∙◌, arith, zero-le}
-use Rattle.tl_sides.proofs.BridgeSize.{bridge_small}
-use Rattle.tl_run.specs.Arrivals.{joined, no_beats}
-use Rattle.tl_run.specs.Scripts.{near_beats}
-use Rattle.tl_run.specs.Inner.Running.{HasEnded, IsRunning, arriving}
-use Rattle.tl_run.proofs.Counting.{counts-on, nearer, one-round-more, still-further}
-use Rattle.tl_run.proofs.Ended.{progress_by, end-few, starts, running-ends, running-ahead, running-keeps, running-on, running-further, running-ended, round-is, holds-all, counts-all}
+use Rattle.tl_run.proofs.Names.{lit<, ◌+◌, ◌^◌, ◌<◌, ◌≤◌, refl, subst, ◌∙◌, arith, zero-le, bridge_small, joined, no_beats, near_beats, HasEnded}
+use Rattle.tl_run.proofs.Names.{arriving}
+use Rattle.tl_run.proofs.Counting.{counts-on, nearer, one-round-more}
+use Rattle.tl_run.proofs.Ended.{progress_by, end-few, starts, running-ends, running-on, running-further, running-ended, round-is, holds-all, counts-all}
 use Rattle.tl_run.proofs.EndsIn.{far-is}
-use Rattle.tl_run.proofs.Round.{counts-fit}
 use Rattle.tl_run.proofs.rounds.run_rounds.Given.{Over}
 use Rattle.tl_run.proofs.rounds.run_rounds.Goals as goal
 
@@ -14,9 +10,9 @@ pub rounds-init : goal.rounds-init
 rounds-init g c = record {
   running = record {
     all = no_beats;
-    holds = c.requires.4;
+    holds = c.requires.3;
     counts = refl;
-    under_way = starts (near_beats c.args.script.now) _ no_beats c.args.bridge.now refl refl c.requires.3;
+    under_way = starts (near_beats c.args.script.now) _ no_beats c.args.bridge.now refl refl c.requires.2;
   };
   same = refl;
   room = λ room enough free. free;
@@ -66,60 +62,38 @@ returns-in-Some-clause-far g c =
     c.round.new.at c.round.new.taken c.round.new.far c.round.new.bridge c.in_ok-offers.offers c.in_ok-offers.ensures.counted c.in_ok-offers.ensures.round c.in_ok-offers.ensures.far
     c.in_ok-offers.ensures.taken)
 
--- the way after a round that is not the last one
-onward : (g : Over) (c : goal.After-all_go_ahead g) → progress_by c.rounds.at c.rounds.taken c.rounds.bridge + 1 ≤ progress_by c.round.new.at c.round.new.taken c.round.new.bridge
-onward g c =
+pub rounds-smaller : goal.rounds-smaller
+rounds-smaller g c =
     let h = round-is (near_beats c.args.script.now) g.F.FarSink.Holds c.rounds.at c.rounds.taken c.rounds.far c.rounds.bridge c.rounds.invariant.running
     c.round.new.at c.round.new.taken c.round.new.far c.round.new.bridge c.in_ok-offers.offers c.in_ok-offers.ensures.counted c.in_ok-offers.ensures.round c.in_ok-offers.ensures.far
     c.in_ok-offers.ensures.taken in
-    running-further (near_beats c.args.script.now) g.F.FarSink.Holds c.rounds.at c.rounds.taken c.rounds.far c.rounds.bridge c.rounds.invariant.running
+    let on = running-on (near_beats c.args.script.now) g.F.FarSink.Holds c.rounds.at c.rounds.taken c.rounds.far c.rounds.bridge c.rounds.invariant.running
     c.round.new.at c.round.new.taken c.round.new.far c.round.new.bridge c.in_ok-offers.offers c.in_ok-offers.ensures.counted c.in_ok-offers.ensures.round c.in_ok-offers.ensures.far
-    c.in_ok-offers.ensures.taken
-    (λ stopped rest. c.in_default.ensures.goes h.past h.stands refl stopped rest)
-
--- and where the run stands then
-goes-on : (g : Over) (c : goal.After-all_go_ahead g) → IsRunning g.F.FarSink.Holds (near_beats c.args.script.now) c.round.new.at c.round.new.taken c.round.new.far c.round.new.bridge
-goes-on g c = running-on (near_beats c.args.script.now) g.F.FarSink.Holds c.rounds.at c.rounds.taken c.rounds.far c.rounds.bridge c.rounds.invariant.running
+    c.in_ok-offers.ensures.taken in
+    nearer _ _ _
+    (running-further (near_beats c.args.script.now) g.F.FarSink.Holds c.rounds.at c.rounds.taken c.rounds.far c.rounds.bridge c.rounds.invariant.running
     c.round.new.at c.round.new.taken c.round.new.far c.round.new.bridge c.in_ok-offers.offers c.in_ok-offers.ensures.counted c.in_ok-offers.ensures.round c.in_ok-offers.ensures.far
-    c.in_ok-offers.ensures.taken
-
--- where it stands when channels went on by themselves, and that it has come further by then
-ahead : (g : Over) (c : goal.After-all_go_ahead g) → IsRunning g.F.FarSink.Holds (near_beats c.args.script.now) c.all_go_ahead.new.at c.round.new.taken c.round.new.far c.all_go_ahead.new.bridge
-ahead g c = running-ahead (near_beats c.args.script.now) g.F.FarSink.Holds c.round.new.at c.round.new.taken c.round.new.far c.round.new.bridge (goes-on g c) c.all_go_ahead.new.at c.all_go_ahead.new.bridge c.all_go_ahead.ensures
-
-further : (g : Over) (c : goal.After-all_go_ahead g) → progress_by c.rounds.at c.rounds.taken c.rounds.bridge + 1 ≤ progress_by c.all_go_ahead.new.at c.round.new.taken c.all_go_ahead.new.bridge
-further g c = still-further _ _ _ (onward g c) (running-keeps (near_beats c.args.script.now) g.F.FarSink.Holds c.round.new.at c.round.new.taken c.round.new.far c.round.new.bridge (goes-on g c) c.all_go_ahead.new.at c.all_go_ahead.new.bridge c.all_go_ahead.ensures)
-
-pub all_go_ahead-requires : goal.all_go_ahead-requires
-all_go_ahead-requires g c =
-    let r = running-on (near_beats c.args.script.now) g.F.FarSink.Holds c.rounds.at c.rounds.taken c.rounds.far c.rounds.bridge c.rounds.invariant.running
-    c.round.new.at c.round.new.taken c.round.new.far c.round.new.bridge c.in_ok-offers.offers c.in_ok-offers.ensures.counted c.in_ok-offers.ensures.round c.in_ok-offers.ensures.far
-    c.in_ok-offers.ensures.taken in (
-      bridge_small g.row.C g.row.M c.requires.0.client c.requires.0.manager,
-      (
-        lit< tt,
-        (
-          c.requires.0,
-          counts-fit c.requires.0.client c.requires.0.manager (near_beats c.args.script.now) c.round.new.at r.all r.under_way.past r.under_way.is_at c.requires.1,
-          c.requires.2,
-        ),
-      ),
-    )
-
-pub rounds-smaller : goal.rounds-smaller
-rounds-smaller g c =
-    nearer _ _ _ (further g c)
-    (running-ends (near_beats c.args.script.now) g.F.FarSink.Holds c.all_go_ahead.new.at c.round.new.taken c.round.new.far c.all_go_ahead.new.bridge (ahead g c) c.requires.0.client c.requires.0.manager)
+    c.in_ok-offers.ensures.taken (λ stopped rest. c.in_default.ensures.goes h.past h.stands refl stopped rest))
+    (running-ends (near_beats c.args.script.now) g.F.FarSink.Holds c.round.new.at c.round.new.taken c.round.new.far c.round.new.bridge on c.requires.0.client c.requires.0.manager)
 
 pub rounds-preserved : goal.rounds-preserved
-rounds-preserved g c = record {
-  running = ahead g c;
-  same = c.in_ok-offers.ensures.same ∙ c.rounds.invariant.same;
-  room = λ room enough free.
-      let r = c.rounds.invariant.running in
-      (c.in_ok-offers.ensures.room r.under_way.past r.all room r.under_way.stands r.under_way.is_at r.holds enough (c.rounds.invariant.room room enough free)).1;
-  few = one-round-more _ _ _ c.rounds.invariant.few (further g c);
-}
+rounds-preserved g c =
+    let h = round-is (near_beats c.args.script.now) g.F.FarSink.Holds c.rounds.at c.rounds.taken c.rounds.far c.rounds.bridge c.rounds.invariant.running
+    c.round.new.at c.round.new.taken c.round.new.far c.round.new.bridge c.in_ok-offers.offers c.in_ok-offers.ensures.counted c.in_ok-offers.ensures.round c.in_ok-offers.ensures.far
+    c.in_ok-offers.ensures.taken in
+    record {
+      running = running-on (near_beats c.args.script.now) g.F.FarSink.Holds c.rounds.at c.rounds.taken c.rounds.far c.rounds.bridge c.rounds.invariant.running
+          c.round.new.at c.round.new.taken c.round.new.far c.round.new.bridge c.in_ok-offers.offers c.in_ok-offers.ensures.counted c.in_ok-offers.ensures.round c.in_ok-offers.ensures.far
+          c.in_ok-offers.ensures.taken;
+      same = c.in_ok-offers.ensures.same ∙ c.rounds.invariant.same;
+      room = λ room enough free.
+          let r = c.rounds.invariant.running in
+          (c.in_ok-offers.ensures.room r.under_way.past r.all room r.under_way.stands r.under_way.is_at r.holds enough (c.rounds.invariant.room room enough free)).1;
+      few = one-round-more _ _ _ c.rounds.invariant.few
+          (running-further (near_beats c.args.script.now) g.F.FarSink.Holds c.rounds.at c.rounds.taken c.rounds.far c.rounds.bridge c.rounds.invariant.running
+          c.round.new.at c.round.new.taken c.round.new.far c.round.new.bridge c.in_ok-offers.offers c.in_ok-offers.ensures.counted c.in_ok-offers.ensures.round c.in_ok-offers.ensures.far
+          c.in_ok-offers.ensures.taken (λ stopped rest. c.in_default.ensures.goes h.past h.stands refl stopped rest));
+    }
 
 pub returns-in-Some-clause-same : goal.returns-in-Some-clause-same
 returns-in-Some-clause-same g c = c.in_ok-offers.ensures.same ∙ c.rounds.invariant.same

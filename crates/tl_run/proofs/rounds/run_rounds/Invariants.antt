@@ -1,8 +1,4 @@
-use Rattle.std.proofs.Common.{◌≡◌, ◌-◌, ◌≤◌, ℕ}
-use Rattle.tl_run.specs.Scripts.{near_beats}
-use Rattle.tl_run.specs.Inner.Arriving.{HaveRoom}
-use Rattle.tl_run.specs.Inner.Running.{IsRunning}
-use Rattle.tl_sides.specs.declared.per_channel.PerChannel.{PerChannel}
+use Rattle.tl_run.proofs.Names.{◌≡◌, ◌-◌, ◌≤◌, ℕ, near_beats, HaveRoom, IsRunning, PerChannel}
 use Rattle.tl_run.proofs.Ended.{progress_by, run_end}
 use Rattle.tl_run.proofs.rounds.run_rounds.Given as goal
 

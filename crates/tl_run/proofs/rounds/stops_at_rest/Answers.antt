@@ -1,6 +1,4 @@
-use Rattle.std.proofs.Common.{◌≡◌, IfSome, refl, sym, subst, ◌∙◌}
-use Rattle.tl_sides.proofs.BridgeSize.{bridge_small}
-use Rattle.tl_run.specs.Inner.Running.{all_stopped, all_under_way}
+use Rattle.tl_run.proofs.Names.{◌≡◌, IfSome, refl, sym, subst, ◌∙◌, bridge_small, all_stopped, all_under_way}
 use Rattle.tl_run.proofs.Ended.{all-standing-is}
 use Rattle.tl_run.proofs.rounds.stops_at_rest.Goals as goal
 

@@ -1,6 +1,4 @@
-use Rattle.std.proofs.Common.{lit<, refl, arith}
-use Rattle.std.specs.Prelude.{vec_capacity}
-use Rattle.tl_sides.proofs.BridgeSize.{bridge_small}
+use Rattle.tl_run.proofs.Names.{lit<, refl, arith, vec_capacity, bridge_small}
 use Rattle.tl_run.proofs.OnlyMemory.{same-size, stalled-never}
 use Rattle.tl_run.proofs.sync_run.run_into_lists.Goals as goal
 
@@ -10,7 +8,7 @@ new-requires g c = (bridge_small g.row.C g.row.M c.requires.0.client c.requires.
 pub run_rounds-requires : goal.run_rounds-requires
 run_rounds-requires g c = (
   bridge_small g.row.C g.row.M c.requires.0.client c.requires.0.manager,
-  (lit< tt, (c.requires.0, c.requires.1, lit< tt, (c.args.ring, (c.in-Ok.ensures.size refl).0, c.in-Ok.ensures.new), c.requires.2)),
+  (lit< tt, (c.requires.0, c.requires.1, (c.args.ring, (c.in-Ok.ensures.size refl).0, c.in-Ok.ensures.new), c.requires.2)),
 )
 
 pub returns-in-Err-clause-ring_size : goal.returns-in-Err-clause-ring_size

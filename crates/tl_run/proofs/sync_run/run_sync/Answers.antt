@@ -1,5 +1,4 @@
-use Rattle.std.proofs.Common.{lit<}
-use Rattle.tl_run.specs.Scripts.{near_beats}
+use Rattle.tl_run.proofs.Names.{lit<, near_beats}
 use Rattle.tl_run.proofs.sync_run.run_sync.Goals as goal
 
 pub run_into_lists-requires : goal.run_into_lists-requires

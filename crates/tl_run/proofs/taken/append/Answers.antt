@@ -1,4 +1,4 @@
-use Rattle.std.proofs.Common.{◌≡◌, ◌<◌, ◌≤◌, ◌∙◌, ◌++◌, List, [], ◌∷◌, length, get_or, ap, arith}
+use Rattle.tl_run.proofs.Names.{◌≡◌, ◌<◌, ◌≤◌, ◌∙◌, ◌++◌, List, [], ◌∷◌, length, get_or, ap, arith}
 use Rattle.tl_run.proofs.taken.append.Goals as goal
 
 -- a list that has one item

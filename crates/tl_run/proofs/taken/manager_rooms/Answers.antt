@@ -1,7 +1,4 @@
-use Rattle.std.proofs.Common.{◌≤◌, ◌^◌, length, sym, subst, arith}
-use Rattle.tl_msg.specs.Tables.{rules_b, rules_d}
-use Rattle.tl_ring.proofs.FieldSizes.{beat_small}
-use Rattle.tl_run.specs.Inner.Arriving.{HasRoom}
+use Rattle.tl_run.proofs.Names.{◌≤◌, ◌^◌, length, sym, subst, arith, rules_b, rules_d, beat_small, HasRoom}
 use Rattle.tl_run.proofs.taken.manager_rooms.Goals as goal
 
 pub far_count-b-requires : goal.far_count-b-requires

@@ -1,37 +1,30 @@
-use Rattle.std.specs.Prelude.{OnOk}
-use Rattle.tl_ring.proofs.FieldSizes.{beat_small}
-use Rattle.tl_sides.proofs.BridgeSize.{bridge_small}
-use Rattle.tl_run.specs.Arrivals.{joined}
+use Rattle.tl_run.proofs.Names.{OnOk, beat_small, bridge_small, joined}
 use Rattle.tl_run.proofs.AllOk.{always}
 use Rattle.tl_run.proofs.taken.take_from_each.Goals as goal
 
 pub inbox_a-a-requires : goal.inbox_a-a-requires
-inbox_a-a-requires g c = (bridge_small g.row.C g.row.M c.requires.0.client c.requires.0.manager, beat_small g.row.M c.requires.0.manager)
+inbox_a-a-requires g c = (bridge_small g.row.C g.row.M c.requires.client c.requires.manager, beat_small g.row.M c.requires.manager)
 
 pub inbox_b-b-requires : goal.inbox_b-b-requires
-inbox_b-b-requires g c = (bridge_small g.row.C g.row.M c.requires.0.client c.requires.0.manager, beat_small g.row.C c.requires.0.client)
+inbox_b-b-requires g c = (bridge_small g.row.C g.row.M c.requires.client c.requires.manager, beat_small g.row.C c.requires.client)
 
 pub inbox_c-c-requires : goal.inbox_c-c-requires
-inbox_c-c-requires g c = (bridge_small g.row.C g.row.M c.requires.0.client c.requires.0.manager, beat_small g.row.M c.requires.0.manager)
+inbox_c-c-requires g c = (bridge_small g.row.C g.row.M c.requires.client c.requires.manager, beat_small g.row.M c.requires.manager)
 
 pub inbox_d-d-requires : goal.inbox_d-d-requires
-inbox_d-d-requires g c = (bridge_small g.row.C g.row.M c.requires.0.client c.requires.0.manager, beat_small g.row.C c.requires.0.client)
+inbox_d-d-requires g c = (bridge_small g.row.C g.row.M c.requires.client c.requires.manager, beat_small g.row.C c.requires.client)
 
 pub inbox_e-e-requires : goal.inbox_e-e-requires
-inbox_e-e-requires g c = (bridge_small g.row.C g.row.M c.requires.0.client c.requires.0.manager, beat_small g.row.M c.requires.0.manager)
+inbox_e-e-requires g c = (bridge_small g.row.C g.row.M c.requires.client c.requires.manager, beat_small g.row.M c.requires.manager)
 
 pub take-kept-requires : goal.take-kept-requires
 take-kept-requires g c =
-    let on_c = beat_small g.row.C c.requires.0.client in
-    let on_m = beat_small g.row.M c.requires.0.manager in
-    (on_m, (on_c, (on_m, (on_c, (on_m, (c.requires.0.client, c.requires.0.manager))))))
-
-pub add_counts-requires : goal.add_counts-requires
-add_counts-requires g c =
-    rw (c.inbox_a-a.ensures, c.inbox_b-b.ensures, c.inbox_c-c.ensures, c.inbox_d-d.ensures, c.inbox_e-e.ensures) c.requires.1
+    let on_c = beat_small g.row.C c.requires.client in
+    let on_m = beat_small g.row.M c.requires.manager in
+    (on_m, (on_c, (on_m, (on_c, (on_m, (c.requires.client, c.requires.manager))))))
 
 pub take_all-requires : goal.take_all-requires
-take_all-requires g c = (bridge_small g.row.C g.row.M c.requires.0.client c.requires.0.manager, (c.requires.0.client, c.requires.0.manager))
+take_all-requires g c = (bridge_small g.row.C g.row.M c.requires.client c.requires.manager, (c.requires.client, c.requires.manager))
 
 pub returns-clause-taken : goal.returns-clause-taken
 returns-clause-taken g c = λ x h. always c.take-kept.result (c.take_all.ensures x h)
@@ -44,8 +37,9 @@ returns-clause-far g c = λ all h.
     rw (c.inbox_a-a.ensures, c.inbox_b-b.ensures, c.inbox_c-c.ensures, c.inbox_d-d.ensures, c.inbox_e-e.ensures) at has
 
 pub returns-clause-counted : goal.returns-clause-counted
-returns-clause-counted g c =
-    always c.take-kept.result (rw (c.inbox_a-a.ensures, c.inbox_b-b.ensures, c.inbox_c-c.ensures, c.inbox_d-d.ensures, c.inbox_e-e.ensures) at c.add_counts.ensures)
+returns-clause-counted g c = λ can.
+    let counts = rw (c.inbox_a-a.ensures, c.inbox_b-b.ensures, c.inbox_c-c.ensures, c.inbox_d-d.ensures, c.inbox_e-e.ensures) at c.add_counts.ensures in
+    always c.take-kept.result (counts can)
 
 pub returns-clause-same : goal.returns-clause-same
 returns-clause-same g c = c.take-kept.ensures.same

@@ -1,35 +1,39 @@
-use Rattle.std.proofs.Common.{refl}
-use Rattle.tl_msg.specs.Tables.{rules_d}
-use Rattle.tl_settle.specs.Histories.{answered, manager_homes}
+use Rattle.std.proofs.Common.{refl, ap}
+use Rattle.tl_sides.proofs.Words.{rules_d, answered, manager_homes}
 use Rattle.tl_sides.proofs.Answering.{manager_fault, stopped}
-use Rattle.tl_sides.proofs.PortSteps.{next_in, answered_with}
+use Rattle.tl_sides.proofs.PortSteps.{next_in, answered_with, manager_offers}
 use Rattle.tl_sides.proofs.offering.offer_response.Goals as goal
 
-pub returns-in-Err-clause-admitted : goal.returns-in-Err-clause-admitted
-returns-in-Err-clause-admitted g c = λ es sent knows h. stopped (manager_fault es c.args.beat.now (answered es) refl _ (c.in-Err.ensures.first_fault (answered es) (manager_homes es) sent h))
+pub returns-in-Err : goal.returns-in-Err
+returns-in-Err g c = λ s. record {
+  admitted = λ x h. stopped (manager_fault x.history c.args.beat.now (answered x.history) refl _ (c.in-Err.ensures.first_fault (answered x.history) (manager_homes x.history) x.d_sent h.d));
+  accepted = λ x h. tt;
+  fault = λ x h. manager_fault x.history c.args.beat.now (answered x.history) refl _ (c.in-Err.ensures.first_fault (answered x.history) (manager_homes x.history) x.d_sent h.d);
+  refused = refl;
+  rest = (refl, c.requires.2.1);
+}
 
-pub returns-in-Err-clause-fault : goal.returns-in-Err-clause-fault
-returns-in-Err-clause-fault g c = λ es sent knows h. manager_fault es c.args.beat.now (answered es) refl _ (c.in-Err.ensures.first_fault (answered es) (manager_homes es) sent h)
+pub returns-in-Err-answer : goal.returns-in-Err-answer
+returns-in-Err-answer g c = λ s. record {
+  admitted = λ x h.
+      c.in-Err-answer.ensures.admitted x.history c.args.beat.now h.book (next_in rules_d _ (answered x.history) (manager_homes x.history) x.d_sent c.args.beat.now _ h.d c.in-Ok.ensures.place);
+  accepted = λ x h. tt;
+  fault = λ x h.
+      c.in-Err-answer.ensures.fault x.history c.args.beat.now h.book (next_in rules_d _ (answered x.history) (manager_homes x.history) x.d_sent c.args.beat.now _ h.d c.in-Ok.ensures.place);
+  refused = ap (λ book. record s { d = c.args.outbox.now; book = book }) c.in-Err-answer.ensures.refused;
+  rest = (refl, c.requires.2.1);
+}
 
-pub returns-in-Err-answer-clause-admitted : goal.returns-in-Err-answer-clause-admitted
-returns-in-Err-answer-clause-admitted g c = λ es sent knows h.
-    c.in-Err-answer.ensures.admitted es c.args.beat.now knows (next_in rules_d _ (answered es) (manager_homes es) sent c.args.beat.now _ h c.in-Ok.ensures.place)
-
-pub returns-in-Err-answer-clause-fault : goal.returns-in-Err-answer-clause-fault
-returns-in-Err-answer-clause-fault g c = λ es sent knows h.
-    c.in-Err-answer.ensures.fault es c.args.beat.now knows (next_in rules_d _ (answered es) (manager_homes es) sent c.args.beat.now _ h c.in-Ok.ensures.place)
-
-pub returns-in-Err-answer-clause-refused : goal.returns-in-Err-answer-clause-refused
-returns-in-Err-answer-clause-refused g c = (c.in-Err-answer.ensures.refused, refl)
-
-pub returns-clause-admitted : goal.returns-clause-admitted
-returns-clause-admitted g c = λ es sent knows h.
-    c.in-Ok-answer.ensures.admitted es c.args.beat.now knows (next_in rules_d _ (answered es) (manager_homes es) sent c.args.beat.now _ h c.in-Ok.ensures.place)
-
-pub returns-clause-accepted : goal.returns-clause-accepted
-returns-clause-accepted g c = λ es sent knows h.
-    let next = next_in rules_d _ (answered es) (manager_homes es) sent c.args.beat.now _ h c.in-Ok.ensures.place in (
-      c.in-Ok-answer.ensures.noted es c.args.beat.now knows next,
-      answered_with es _ _ sent c.args.beat.now _ h (c.in-Ok-answer.ensures.home es c.args.beat.now knows next)
-          (c.offer_at.ensures.accepted (answered es) (manager_homes es) sent h),
-    )
+pub returns : goal.returns
+returns g c = λ s. record {
+  admitted = λ x h.
+      c.in-Ok-answer.ensures.admitted x.history c.args.beat.now h.book (next_in rules_d _ (answered x.history) (manager_homes x.history) x.d_sent c.args.beat.now _ h.d c.in-Ok.ensures.place);
+  accepted = λ x h.
+      let next = next_in rules_d _ (answered x.history) (manager_homes x.history) x.d_sent c.args.beat.now _ h.d c.in-Ok.ensures.place in
+      manager_offers _ x h c.offer_at.new.self _ c.args.beat.now (c.in-Ok-answer.ensures.noted x.history c.args.beat.now h.book next)
+      (answered_with x.history _ _ x.d_sent c.args.beat.now _ h.d (c.in-Ok-answer.ensures.home x.history c.args.beat.now h.book next)
+      (c.offer_at.ensures.accepted (answered x.history) (manager_homes x.history) x.d_sent h.d));
+  fault = λ x h. tt;
+  refused = tt;
+  rest = (refl, c.offer_at.ensures.still);
+}

@@ -2,8 +2,7 @@ use Rattle.std.proofs.Common.{ℕ, List, [], true, false, ◌≡◌, ◌<◌, �
 use Rattle.std.proofs.lemmas.Bool.{false≢true}
 use contract.BorrowLft.{◌⊑◌}
 use prog.Memory.{up}
-use Rattle.tl_lanes.specs.Lanes.{IsWidth}
-use Rattle.tl_ring.proofs.FieldSizes.{inner_small, beat_small, mask_bytes}
+use Rattle.tl_sides.proofs.Words.{IsWidth, inner_small, beat_small, mask_bytes}
 use Rattle.tl_sides.proofs.Layouts.{client_side_layout, manager_side_layout}
 use Rattle.tl_sides.proofs.NewEnds.{pair_over, all_free, idle}
 use Rattle.tl_sides.proofs.sides.bridge.Goals as goal

@@ -1,10 +1,7 @@
 use Rattle.std.proofs.Common.{refl, lit<}
-use Rattle.tl_msg.specs.Tables.{rules_b, rules_d}
-use Rattle.tl_ring.specs.Ends.{taking_of}
-use Rattle.tl_ring.proofs.EndSteps.{sends_new}
+use Rattle.tl_sides.proofs.Words.{rules_b, rules_d, taking_of, sends_new}
 use Rattle.tl_sides.proofs.Bridging.{masked_b, masked_d}
-use Rattle.tl_ring.proofs.FieldSizes.{part_small}
-use Rattle.tl_sides.proofs.Layouts.{manager_side_layout}
+use Rattle.tl_sides.proofs.Layouts.{manager_side_layout, part_small}
 use Rattle.tl_sides.proofs.NewEnds.{none_taken}
 use Rattle.tl_sides.proofs.sides.manager_over.Goals as goal
 

@@ -1,5 +1,5 @@
 use Rattle.std.proofs.Common.{ap, ◌∙◌}
-use Rattle.tl_msg.specs.Tables.{rules_a, rules_b, rules_c, rules_d, rules_e}
+use Rattle.tl_sides.proofs.Words.{rules_a, rules_b, rules_c, rules_d, rules_e, met_of}
 use denote.Memory.{lone}
 use denote.Param.{layout}
 use Rattle.tl_msg.specs.contracts.head.HeadA as head_a
@@ -7,9 +7,7 @@ use Rattle.tl_msg.specs.contracts.head.HeadB as head_b
 use Rattle.tl_msg.specs.contracts.head.HeadC as head_c
 use Rattle.tl_msg.specs.contracts.head.HeadD as head_d
 use Rattle.tl_msg.specs.contracts.head.HeadE as head_e
-use Rattle.tl_ring.proofs.FieldSizes.{part, part_small, inner_small, beat_in_queue}
-use Rattle.tl_sides.proofs.Layouts.{client_side_layout, manager_side_layout}
-use Rattle.tl_ring.proofs.EndSteps.{met_of}
+use Rattle.tl_sides.proofs.Layouts.{client_side_layout, manager_side_layout, part, part_small, inner_small, beat_in_queue}
 use Rattle.tl_sides.proofs.SideSteps.{client_side_of, manager_side_of, sides_inside, sides_met, ends_meet}
 use Rattle.tl_sides.proofs.sides.meet_sides.Goals as goal
 

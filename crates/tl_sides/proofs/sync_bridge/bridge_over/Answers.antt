@@ -1,6 +1,5 @@
-use Rattle.tl_sides.proofs.Layouts.{bridge_layout}
+use Rattle.tl_sides.proofs.Layouts.{bridge_layout, part_small}
 use Rattle.tl_sides.proofs.Bridging.{new_bridge}
-use Rattle.tl_ring.proofs.FieldSizes.{part_small}
 use Rattle.tl_sides.proofs.sync_bridge.bridge_over.Goals as goal
 
 -- each port is a part of the result

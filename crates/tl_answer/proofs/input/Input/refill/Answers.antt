@@ -1,5 +1,4 @@
-use Rattle.std.proofs.Common.{◌+◌, ◌-◌, ◌∙◌, length, refl, sym, ap}
-use Rattle.std.proofs.lemmas.List.{with_items_is}
+use Rattle.tl_answer.proofs.Names.{◌+◌, ◌-◌, ◌∙◌, length, refl, sym, ap, with_items_is}
 use Rattle.std.specs.Vec.{with_items}
 use Rattle.tl_answer.proofs.Filling.{refilled-taken, refilled-long, same-fault}
 use Rattle.tl_answer.proofs.input.Input.refill.Goals as goal

@@ -1,5 +1,4 @@
-use Rattle.std.proofs.Common.{Ok}
-use Rattle.tl_run.proofs.AllOk.{four_ok}
+use Rattle.tl_answer.proofs.Names.{Ok, four_ok}
 use Rattle.tl_answer.proofs.Grown.{grown-ok}
 use Rattle.tl_answer.proofs.FarTexts.{four-put}
 use Rattle.tl_answer.proofs.parts.AnswerParts.joined.Goals as goal

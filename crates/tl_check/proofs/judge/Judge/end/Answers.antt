@@ -1,10 +1,6 @@
-use Rattle.std.proofs.Common.{◌≡◌, [], ◌∷◌, refl, ◌∙◌}
-use Rattle.tl_check.proofs.Parts.{are-part}
+use Rattle.tl_check.proofs.Names.{◌∙◌, are-part}
+use Rattle.tl_run.proofs.EndsIn.{five-same}
 use Rattle.tl_check.proofs.judge.Judge.end.Goals as goal
-
--- five items, one after the other
-five-same : {A : Type 0} {p q r s t p' q' r' s' t' : A} → p ≡ p' → q ≡ q' → r ≡ r' → s ≡ s' → t ≡ t' → p ∷ q ∷ r ∷ s ∷ t ∷ [] ≡ p' ∷ q' ∷ r' ∷ s' ∷ t' ∷ []
-five-same f g h i j = rw (f, g, h, i, j) refl
 
 pub returns : goal.returns
 returns g c = λ near end was.

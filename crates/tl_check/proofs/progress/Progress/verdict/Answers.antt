@@ -1,6 +1,4 @@
-use Rattle.std.proofs.Common.{sym, ap, ◌∙◌, take}
-use Rattle.tl_burst.specs.Begun.{left}
-use Rattle.tl_settle.specs.Outcomes.{verdict_of}
+use Rattle.tl_check.proofs.Names.{sym, ap, ◌∙◌, take, left, verdict_of}
 use Rattle.tl_check.proofs.Passing.{done, cut}
 use Rattle.tl_check.proofs.progress.Progress.verdict.Goals as goal
 

@@ -1,6 +1,5 @@
 -- Search finds it. It has a name here, so that a wrong body is refused at once.
-use Rattle.std.proofs.Common.{sym, ap, ⊎_elim}
-use Rattle.tl_run.specs.Inner.Running.{steps}
+use Rattle.tl_run.proofs.Names.{sym, ap, ⊎_elim, steps}
 use Rattle.tl_run.proofs.channel_state.Offered.steps.Goals as goal
 
 pub returns-in-NotReady : goal.returns-in-NotReady

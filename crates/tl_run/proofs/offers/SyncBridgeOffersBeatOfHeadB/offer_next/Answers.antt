@@ -1,8 +1,5 @@
-use Rattle.std.proofs.Common.{refl}
-use Rattle.tl_run.specs.Inner.Offering.{on_bridge_b}
-use Rattle.tl_run.proofs.NextOffers.{answers-as, asked, closes-as}
-use Rattle.tl_sides.proofs.BridgeSize.{bridge_small}
-use Rattle.tl_ring.proofs.FieldSizes.{beat_small}
+use Rattle.tl_run.proofs.Names.{refl, bridge_small, beat_small, on_bridge_b}
+use Rattle.tl_run.proofs.NextOffers.{asked, answers, closes}
 use Rattle.tl_run.proofs.OfferSteps.{read_some, read_none}
 use Rattle.tl_run.proofs.offers.SyncBridgeOffersBeatOfHeadB.offer_next.Goals as goal
 
@@ -17,16 +14,16 @@ offer_b-requires g c = (bridge_small g.row.C g.row.M c.requires.client c.require
 
 pub returns-in_default : goal.returns-in_default
 returns-in_default g c =
-    rw (c.from_close.ensures)
-    (closes-as on_bridge_b c.args.self.now _ c.close_b.result _ tt c.close_b.ensures c.args.beats.now c.args.at (read_none c.args.beats.now c.args.at c.in_default.ensures.lookup.0))
+    let said = c.close_b.ensures in
+    rw c.from_close.ensures (closes on_bridge_b _ _ _ (read_none c.args.beats.now c.args.at c.in_default.ensures.lookup.0) c.close_b.result _ tt said.refused said.between said.stands)
 
 pub returns-then-not-ready_b : goal.returns-then-not-ready_b
 returns-then-not-ready_b g c =
-    (asked on_bridge_b c.args.self.now tt _ (λ x h. h.b) _ c.if-not-ready_b.ensures).1 (λ ready. cc) c.args.beats.now c.args.at c.in-Some.beat.now
+    (asked on_bridge_b c.args.self.now tt _ (λ x h. h.b) _ c.if-not-ready_b.ensures).1 (λ ready. cc) _ _ _
     (read_some c.args.beats.now c.args.at c.in-Some.beat.now c.in-Some.ensures.lookup.0 c.in-Some.ensures.lookup.1)
 
 pub returns : goal.returns
 returns g c =
-    rw (c.from_offer.ensures)
-    (answers-as on_bridge_b c.args.self.now c.offer_b.result _ c.in-Some.beat.now tt c.offer_b.ensures c.args.beats.now c.args.at
-    (read_some c.args.beats.now c.args.at c.in-Some.beat.now c.in-Some.ensures.lookup.0 c.in-Some.ensures.lookup.1))
+    let said = c.offer_b.ensures in
+    rw c.from_offer.ensures (answers on_bridge_b _ _ _ _ (read_some c.args.beats.now c.args.at c.in-Some.beat.now c.in-Some.ensures.lookup.0 c.in-Some.ensures.lookup.1) c.offer_b.result _
+    tt said.admitted said.accepted said.fault said.refused)

@@ -1,5 +1,5 @@
 -- Search finds it. It has a name here, so that a wrong body is refused at once.
-use Rattle.std.proofs.Common.{sym, ap}
+use Rattle.tl_run.proofs.Names.{sym, ap}
 use Rattle.tl_run.specs.Names.{of_build_fault}
 use Rattle.tl_run.proofs.outcome.RunFaultFromBuildFault.from.Goals as goal
 

@@ -1,4 +1,4 @@
-use Rattle.std.proofs.Common.{ap}
+use Rattle.tl_run.proofs.Names.{ap}
 use Rattle.tl_run.proofs.taken.Taken.into_outcome.Goals as goal
 
 pub returns : goal.returns

@@ -1,4 +1,4 @@
-use Rattle.tl_run.specs.Scripts.{near_beats}
+use Rattle.tl_run.proofs.Names.{near_beats}
 use Rattle.tl_run.proofs.taken.Taken.new.Goals as goal
 
 pub returns-clause-room : goal.returns-clause-room

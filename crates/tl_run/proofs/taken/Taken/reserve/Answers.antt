@@ -1,4 +1,4 @@
-use Rattle.std.proofs.Common.{◌+◌, ◌≤◌, ℕ, arith}
+use Rattle.tl_run.proofs.Names.{◌+◌, ◌≤◌, ℕ, arith}
 use Rattle.tl_run.proofs.AllOk.{five_ok}
 use Rattle.tl_run.proofs.taken.Taken.reserve.Goals as goal
 

@@ -1,7 +1,4 @@
-use Rattle.std.proofs.Common.{◌≡◌, ◌+◌, ◌≤◌, ◌++◌, ℕ, List, length, length-append, subst, ap, ◌∙◌, arith}
-use Rattle.tl_settle.specs.Outcomes.{Beats}
-use Rattle.tl_run.specs.Arrivals.{joined}
-use Rattle.tl_run.specs.Inner.Arriving.{beats_of}
+use Rattle.tl_run.proofs.Names.{◌≡◌, ◌+◌, ◌≤◌, ◌++◌, ℕ, List, length, length-append, subst, ap, ◌∙◌, arith, Beats, joined, beats_of}
 use Rattle.tl_run.proofs.AllOk.{five_ok, five-are-ok}
 use Rattle.tl_run.proofs.taken.TakenFarSink.take.Goals as goal
 

@@ -1,12 +1,9 @@
 use Rattle.std.proofs.Common.{◌==◌, true, false, refl, sym, ap, subst, ◌∙◌}
-use Rattle.tl_msg.specs.Tables.{rules_a, rules_d}
-use Rattle.tl_burst.specs.Begun.{left}
+use Rattle.tl_sides.proofs.Words.{rules_a, rules_d, left, Asks, asked, marks, answered_ask}
 use Rattle.tl_sides.specs.Tables.{AreBusy}
-use Rattle.tl_settle.specs.Histories.{Asks, asked, marks}
 use Rattle.tl_sides.specs.Inner.Noting.{begun_with}
 use Rattle.tl_sides.proofs.Answering.{client_says, stopped}
 use Rattle.tl_sides.proofs.Between.{opens}
-use Rattle.tl_settle.proofs.Marks.{answered_ask}
 use Rattle.tl_sides.proofs.BridgeSteps.{noted_ask}
 use Rattle.tl_sides.proofs.books.ClientBook.ask.Goals as goal
 

@@ -1,10 +1,7 @@
 use Rattle.std.proofs.Common.{◌==◌, refl, sym, ap, subst, ◌∙◌}
-use Rattle.tl_msg.specs.Tables.{rules_d}
-use Rattle.tl_burst.specs.Begun.{left}
+use Rattle.tl_sides.proofs.Words.{rules_d, left, Answers, answered, marks, answered_answer}
 use Rattle.tl_sides.specs.Tables.{AreBusy}
-use Rattle.tl_settle.specs.Histories.{Answers, answered, marks}
 use Rattle.tl_sides.specs.Inner.Noting.{begun_with}
-use Rattle.tl_settle.proofs.Marks.{answered_answer}
 use Rattle.tl_sides.proofs.BridgeSteps.{noted_answer}
 use Rattle.tl_sides.proofs.books.ClientBook.note_answer.Goals as goal
 

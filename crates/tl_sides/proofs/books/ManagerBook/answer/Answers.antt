@@ -1,13 +1,9 @@
 use Rattle.std.proofs.Common.{◌==◌, refl, sym, ap, subst, ◌∙◌}
-use Rattle.tl_msg.specs.Tables.{rules_a, rules_d}
-use Rattle.tl_burst.specs.Begun.{left}
-use Rattle.tl_convert.proofs.Comparisons.{equal_true}
+use Rattle.tl_sides.proofs.Words.{rules_a, rules_d, left, equal_true, Answers, answered, marks, home_after, asked_answer}
 use Rattle.tl_sides.specs.Tables.{AreOpen}
-use Rattle.tl_settle.specs.Histories.{Answers, answered, marks, home_after}
 use Rattle.tl_sides.specs.Inner.Noting.{begun_with, stops_response}
 use Rattle.tl_sides.proofs.Answering.{manager_stops, manager_none, stopped}
 use Rattle.tl_sides.proofs.Between.{opens}
-use Rattle.tl_settle.proofs.Marks.{asked_answer}
 use Rattle.tl_sides.proofs.BridgeSteps.{noted_answer}
 use Rattle.tl_sides.proofs.books.ManagerBook.answer.Goals as goal
 

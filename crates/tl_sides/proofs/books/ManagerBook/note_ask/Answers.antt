@@ -1,10 +1,7 @@
 use Rattle.std.proofs.Common.{◌==◌, refl, sym, ap, subst, ◌∙◌}
-use Rattle.tl_msg.specs.Tables.{rules_a}
-use Rattle.tl_burst.specs.Begun.{left}
+use Rattle.tl_sides.proofs.Words.{rules_a, left, Asks, asked, marks, asked_ask}
 use Rattle.tl_sides.specs.Tables.{AreOpen}
-use Rattle.tl_settle.specs.Histories.{Asks, asked, marks}
 use Rattle.tl_sides.specs.Inner.Noting.{begun_with}
-use Rattle.tl_settle.proofs.Marks.{asked_ask}
 use Rattle.tl_sides.proofs.BridgeSteps.{noted_ask}
 use Rattle.tl_sides.proofs.books.ManagerBook.note_ask.Goals as goal
 

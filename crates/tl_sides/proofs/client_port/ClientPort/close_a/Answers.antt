@@ -1,8 +1,7 @@
 use Rattle.std.proofs.Common.{refl}
 use Rattle.tl_ring.proofs.Answered.{on_ok, on_err}
 use Rattle.tl_sides.proofs.PortSteps.{client_a}
-use Rattle.tl_sides.proofs.Layouts.{client_layout}
-use Rattle.tl_ring.proofs.FieldSizes.{part_small}
+use Rattle.tl_sides.proofs.Layouts.{client_layout, part_small}
 use Rattle.tl_sides.proofs.client_port.ClientPort.close_a.Goals as goal
 
 pub close-requires : goal.close-requires

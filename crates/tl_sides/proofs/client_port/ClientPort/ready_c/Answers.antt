@@ -1,5 +1,4 @@
-use Rattle.tl_sides.proofs.Layouts.{client_layout}
-use Rattle.tl_ring.proofs.FieldSizes.{part_small}
+use Rattle.tl_sides.proofs.Layouts.{client_layout, part_small}
 use Rattle.tl_sides.proofs.client_port.ClientPort.ready_c.Goals as goal
 
 pub ready-requires : goal.ready-requires

@@ -1,11 +1,9 @@
 use Rattle.std.proofs.Common.{◌++◌, map, refl, subst, get_or}
-use Rattle.tl_msg.specs.Tables.{rules_d}
-use Rattle.tl_settle.specs.Histories.{Answer}
+use Rattle.tl_sides.proofs.Words.{rules_d, Answer}
 use Rattle.tl_sides.specs.Books.{KnowsClient}
-use Rattle.tl_ring.proofs.FieldSizes.{part_small, beat_small}
 use Rattle.tl_sides.proofs.BridgeSteps.{lawful_head}
 use Rattle.tl_sides.proofs.PortSteps.{client_takes_all}
-use Rattle.tl_sides.proofs.Layouts.{client_layout}
+use Rattle.tl_sides.proofs.Layouts.{client_layout, part_small, beat_small}
 use Rattle.tl_sides.proofs.client_port.ClientPort.take_all.Goals as goal
 
 pub as_slice-requires : goal.as_slice-requires

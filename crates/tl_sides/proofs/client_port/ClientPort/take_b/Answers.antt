@@ -1,7 +1,6 @@
 use Rattle.tl_sides.proofs.PortSteps.{client_b}
 use Rattle.std.proofs.Common.{refl}
-use Rattle.tl_sides.proofs.Layouts.{client_layout}
-use Rattle.tl_ring.proofs.FieldSizes.{part_small}
+use Rattle.tl_sides.proofs.Layouts.{client_layout, part_small}
 use Rattle.tl_sides.proofs.client_port.ClientPort.take_b.Goals as goal
 
 pub take-requires : goal.take-requires

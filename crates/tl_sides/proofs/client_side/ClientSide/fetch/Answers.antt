@@ -1,6 +1,5 @@
 use Rattle.std.proofs.Common.{ap, ◌∙◌, arith}
-use Rattle.tl_ring.proofs.FieldSizes.{part_small, inner_small}
-use Rattle.tl_sides.proofs.Layouts.{client_side_layout}
+use Rattle.tl_sides.proofs.Layouts.{client_side_layout, part_small, inner_small}
 use Rattle.tl_sides.proofs.SideSteps.{client_side_of, client_fetched}
 use Rattle.tl_sides.proofs.client_side.ClientSide.fetch.Goals as goal
 

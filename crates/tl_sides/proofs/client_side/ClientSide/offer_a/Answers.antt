@@ -1,23 +1,9 @@
-use Rattle.std.proofs.Common.{refl, ap}
-use Rattle.tl_ring.proofs.Answered.{on_ok, on_err}
-use Rattle.tl_sides.proofs.SideSteps.{client_side_of, client_done, client_port_stands, client_offered_a}
-use Rattle.tl_ring.proofs.FieldSizes.{part_small, beat_small}
-use Rattle.tl_sides.proofs.Layouts.{client_side_layout}
+use Rattle.tl_sides.proofs.SideSteps.{side_offers_a}
+use Rattle.tl_sides.proofs.Layouts.{client_side_layout, part_small, beat_small}
 use Rattle.tl_sides.proofs.client_side.ClientSide.offer_a.Goals as goal
 
 pub offer_a-requires : goal.offer_a-requires
 offer_a-requires g c = (part_small (client_side_layout g.row.C g.row.M g.row.A g.A.Allocator) 0 9223372036854775808 c.requires-raw.1.1.1.0, (beat_small g.row.C c.requires.near, (c.requires.near, (c.requires.far, rw (← c.self.view_is) at c.requires.ready))))
 
 pub returns : goal.returns
-returns g c =
-    let ready = rw (← c.self.view_is) at c.requires.ready in
-    let said = c.offer_a.ensures in
-    rw (← c.self.view_is) (record {
-      admitted = λ x h. said.admitted (client_done c.self.inside x) (client_port_stands c.self.inside x h);
-      accepted = λ x h. on_ok c.offer_a.result (λ ok k. client_offered_a c.self.inside x h c.offer_a.new.self c.args.beat said.rest ready said.still k)
-          (said.accepted (client_done c.self.inside x) (client_port_stands c.self.inside x h));
-      fault = λ x h. said.fault (client_done c.self.inside x) (client_port_stands c.self.inside x h);
-      ring = refl;
-      rest = ap (λ z. client_side_of (record c.self.inside { port = z })) said.rest;
-      refused = on_err c.offer_a.result (λ same. rw same refl) said.refused;
-    })
+returns g c = rw (← c.self.view_is) (side_offers_a c.self.inside _ _ _ (rw (← c.self.view_is) at c.requires.ready) c.offer_a.ensures)

@@ -6,8 +6,7 @@ use denote.Param.{layout}
 use Rattle.tl_msg.specs.contracts.head.HeadA as head_a
 use Rattle.tl_msg.specs.contracts.head.HeadC as head_c
 use Rattle.tl_msg.specs.contracts.head.HeadE as head_e
-use Rattle.tl_ring.proofs.FieldSizes.{part, part_small, inner_small, beat_in_queue}
-use Rattle.tl_sides.proofs.Layouts.{client_side_layout}
+use Rattle.tl_sides.proofs.Layouts.{client_side_layout, part, part_small, inner_small, beat_in_queue}
 use Rattle.tl_sides.proofs.SideSteps.{client_side_of, client_pumped, pumps_end}
 use Rattle.tl_sides.proofs.client_side.ClientSide.pump.Goals as goal
 

@@ -1,5 +1,4 @@
-use Rattle.tl_ring.proofs.FieldSizes.{part_small}
-use Rattle.tl_sides.proofs.Layouts.{client_side_layout}
+use Rattle.tl_sides.proofs.Layouts.{client_side_layout, part_small}
 use Rattle.tl_sides.proofs.client_side.ClientSide.ready_a.Goals as goal
 
 pub ready_a-requires : goal.ready_a-requires

@@ -1,8 +1,7 @@
 use Rattle.std.proofs.Common.{refl}
 use Rattle.tl_ring.proofs.Answered.{on_ok, on_err}
 use Rattle.tl_sides.proofs.PortSteps.{manager_d}
-use Rattle.tl_sides.proofs.Layouts.{manager_layout}
-use Rattle.tl_ring.proofs.FieldSizes.{part_small}
+use Rattle.tl_sides.proofs.Layouts.{manager_layout, part_small}
 use Rattle.tl_sides.proofs.manager_port.ManagerPort.close_d.Goals as goal
 
 pub close-requires : goal.close-requires

@@ -1,6 +1,5 @@
 use Rattle.std.proofs.Common.{sym}
-use Rattle.tl_sides.proofs.Layouts.{manager_layout}
-use Rattle.tl_ring.proofs.FieldSizes.{part_small}
+use Rattle.tl_sides.proofs.Layouts.{manager_layout, part_small}
 use Rattle.tl_sides.proofs.manager_port.ManagerPort.over.Goals as goal
 
 pub new-requires : goal.new-requires

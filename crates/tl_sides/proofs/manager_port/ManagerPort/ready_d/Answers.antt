@@ -1,5 +1,4 @@
-use Rattle.tl_sides.proofs.Layouts.{manager_layout}
-use Rattle.tl_ring.proofs.FieldSizes.{part_small}
+use Rattle.tl_sides.proofs.Layouts.{manager_layout, part_small}
 use Rattle.tl_sides.proofs.manager_port.ManagerPort.ready_d.Goals as goal
 
 pub ready-requires : goal.ready-requires

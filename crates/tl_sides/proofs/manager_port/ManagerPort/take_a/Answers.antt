@@ -1,11 +1,9 @@
 use Rattle.std.proofs.Common.{◌++◌, map, refl, sym, ap, subst, ◌∙◌, append-nil}
-use Rattle.tl_msg.specs.Tables.{rules_a}
-use Rattle.tl_settle.specs.Histories.{Ask, asked}
+use Rattle.tl_sides.proofs.Words.{rules_a, Ask, asked}
 use Rattle.tl_sides.specs.Books.{KnowsManager}
 use Rattle.tl_sides.proofs.BridgeSteps.{lawful_head, some_taken, none_taken}
 use Rattle.tl_sides.proofs.PortSteps.{manager_takes}
-use Rattle.tl_sides.proofs.Layouts.{manager_layout}
-use Rattle.tl_ring.proofs.FieldSizes.{part_small, beat_small}
+use Rattle.tl_sides.proofs.Layouts.{manager_layout, part_small, beat_small}
 use Rattle.tl_sides.proofs.manager_port.ManagerPort.take_a.Goals as goal
 
 pub take-requires : goal.take-requires

@@ -1,11 +1,9 @@
 use Rattle.std.proofs.Common.{◌++◌, map, refl, subst, get_or}
-use Rattle.tl_msg.specs.Tables.{rules_a}
-use Rattle.tl_settle.specs.Histories.{Ask}
+use Rattle.tl_sides.proofs.Words.{rules_a, Ask}
 use Rattle.tl_sides.specs.Books.{KnowsManager}
-use Rattle.tl_ring.proofs.FieldSizes.{part_small, beat_small}
 use Rattle.tl_sides.proofs.BridgeSteps.{lawful_head}
 use Rattle.tl_sides.proofs.PortSteps.{manager_takes_all}
-use Rattle.tl_sides.proofs.Layouts.{manager_layout}
+use Rattle.tl_sides.proofs.Layouts.{manager_layout, part_small, beat_small}
 use Rattle.tl_sides.proofs.manager_port.ManagerPort.take_all.Goals as goal
 
 pub as_slice-requires : goal.as_slice-requires

@@ -1,7 +1,6 @@
 use Rattle.tl_sides.proofs.PortSteps.{manager_c}
 use Rattle.std.proofs.Common.{refl}
-use Rattle.tl_sides.proofs.Layouts.{manager_layout}
-use Rattle.tl_ring.proofs.FieldSizes.{part_small}
+use Rattle.tl_sides.proofs.Layouts.{manager_layout, part_small}
 use Rattle.tl_sides.proofs.manager_port.ManagerPort.take_c.Goals as goal
 
 pub take-requires : goal.take-requires

@@ -1,6 +1,5 @@
 use Rattle.std.proofs.Common.{ap, ◌∙◌, arith}
-use Rattle.tl_ring.proofs.FieldSizes.{part_small, inner_small}
-use Rattle.tl_sides.proofs.Layouts.{manager_side_layout}
+use Rattle.tl_sides.proofs.Layouts.{manager_side_layout, part_small, inner_small}
 use Rattle.tl_sides.proofs.SideSteps.{manager_side_of, manager_fetched}
 use Rattle.tl_sides.proofs.manager_side.ManagerSide.fetch.Goals as goal
 

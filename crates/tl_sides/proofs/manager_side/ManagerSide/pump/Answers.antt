@@ -5,8 +5,7 @@ use denote.Memory.{lone}
 use denote.Param.{layout}
 use Rattle.tl_msg.specs.contracts.head.HeadB as head_b
 use Rattle.tl_msg.specs.contracts.head.HeadD as head_d
-use Rattle.tl_ring.proofs.FieldSizes.{part, part_small, inner_small, beat_in_queue}
-use Rattle.tl_sides.proofs.Layouts.{manager_side_layout}
+use Rattle.tl_sides.proofs.Layouts.{manager_side_layout, part, part_small, inner_small, beat_in_queue}
 use Rattle.tl_sides.proofs.SideSteps.{manager_side_of, manager_pumped, pumps_end}
 use Rattle.tl_sides.proofs.manager_side.ManagerSide.pump.Goals as goal
 

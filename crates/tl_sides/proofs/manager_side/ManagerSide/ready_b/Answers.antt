@@ -1,5 +1,4 @@
-use Rattle.tl_ring.proofs.FieldSizes.{part_small}
-use Rattle.tl_sides.proofs.Layouts.{manager_side_layout}
+use Rattle.tl_sides.proofs.Layouts.{manager_side_layout, part_small}
 use Rattle.tl_sides.proofs.manager_side.ManagerSide.ready_b.Goals as goal
 
 pub ready_b-requires : goal.ready_b-requires

@@ -1,18 +1,9 @@
-use Rattle.std.proofs.Common.{ap}
-use Rattle.tl_sides.proofs.SideSteps.{manager_side_of, manager_taken_e}
-use Rattle.tl_ring.proofs.FieldSizes.{part_small}
-use Rattle.tl_sides.proofs.Layouts.{manager_side_layout}
+use Rattle.tl_sides.proofs.SideSteps.{side_taken_e}
+use Rattle.tl_sides.proofs.Layouts.{manager_side_layout, part_small}
 use Rattle.tl_sides.proofs.manager_side.ManagerSide.take_e.Goals as goal
 
 pub take_e-requires : goal.take_e-requires
 take_e-requires g c = (part_small (manager_side_layout g.row.C g.row.M g.row.A g.A.Allocator) 0 9223372036854775808 c.requires-raw.1.1.1.0, c.requires-raw.1.1.1.1)
 
 pub returns : goal.returns
-returns g c =
-    let said = c.take_e.ensures in
-    rw (← c.self.view_is) (record {
-      beat = said.beat;
-      lawful = said.lawful;
-      rest = ap (λ z. manager_side_of (record c.self.inside { port = z })) said.rest;
-      taken = λ x h. manager_taken_e c.self.inside x h c.take_e.new.self said.rest;
-    })
+returns g c = rw (← c.self.view_is) (side_taken_e c.self.inside _ _ c.take_e.ensures)

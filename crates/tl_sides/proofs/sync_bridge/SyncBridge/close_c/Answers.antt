@@ -1,17 +1,9 @@
-use Rattle.std.proofs.Common.{refl}
-use Rattle.tl_ring.proofs.Answered.{on_ok, on_err}
-use Rattle.tl_sides.proofs.Bridging.{client_of, client_stands, closed_c}
-use Rattle.tl_sides.proofs.Layouts.{bridge_layout}
-use Rattle.tl_ring.proofs.FieldSizes.{part_small}
+use Rattle.tl_sides.proofs.Bridging.{bridge_closes_c}
+use Rattle.tl_sides.proofs.Layouts.{bridge_layout, part_small}
 use Rattle.tl_sides.proofs.sync_bridge.SyncBridge.close_c.Goals as goal
 
 pub close_c-requires : goal.close_c-requires
 close_c-requires g c = part_small (bridge_layout g.row.C g.row.M g.row.A g.A.Allocator) 0 9223372036854775808 c.requires-raw.1.1.1
 
 pub returns : goal.returns
-returns g c = rw (← c.self.view_is) (record {
-  between = λ x h. c.close_c.ensures.between (client_of x) (client_stands c.self.inside x h);
-  closed = λ x h. on_ok c.close_c.result (λ ok same. closed_c c.self.inside x h c.close_c.new.self same ((c.close_c.ensures.between (client_of x) (client_stands c.self.inside x h)).0 ok)) c.close_c.ensures.closed;
-  again = λ shut. let again = c.close_c.ensures.again shut in (again.0, rw again.1 refl);
-  refused = on_err c.close_c.result (λ same. rw same refl) c.close_c.ensures.refused;
-})
+returns g c = rw (← c.self.view_is) (bridge_closes_c c.self.inside _ _ c.close_c.ensures)

@@ -4,8 +4,7 @@ use Rattle.tl_msg.specs.Tables.{rules_a, rules_b, rules_c, rules_d, rules_e}
 use Rattle.tl_sides.proofs.Sums.{sum_2, sum_3, sum_4, sum_5}
 use Rattle.tl_sides.proofs.BridgeSteps.{all_popped}
 use Rattle.tl_sides.proofs.Bridging.{masked_a, masked_b, masked_c, masked_d, masked_e, fetched}
-use Rattle.tl_sides.proofs.Layouts.{bridge_layout}
-use Rattle.tl_ring.proofs.FieldSizes.{part_small, inner_small}
+use Rattle.tl_sides.proofs.Layouts.{bridge_layout, part_small, inner_small}
 use Rattle.tl_sides.proofs.sync_bridge.SyncBridge.fetch.Goals as goal
 
 pub fetch-a-requires : goal.fetch-a-requires

@@ -1,7 +1,6 @@
 use Rattle.std.proofs.Common.{ap, ◌∙◌}
-use Rattle.tl_ring.proofs.FieldSizes.{inner_small}
 use Rattle.tl_sides.specs.Joining.{bridge_of}
-use Rattle.tl_sides.proofs.Layouts.{bridge_layout}
+use Rattle.tl_sides.proofs.Layouts.{bridge_layout, inner_small}
 use Rattle.tl_sides.proofs.sync_bridge.SyncBridge.inbox_a.Goals as goal
 
 pub as_slice-requires : goal.as_slice-requires

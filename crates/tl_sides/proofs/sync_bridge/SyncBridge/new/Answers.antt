@@ -1,8 +1,7 @@
 use Rattle.std.proofs.Common.{ℕ, List, [], rules, refl}
 use contract.BorrowLft.{◌⊑◌}
 use Rattle.std.proofs.lemmas.Bool.{false≢true}
-use Rattle.tl_sides.proofs.Layouts.{bridge_layout}
-use Rattle.tl_ring.proofs.FieldSizes.{part_small, inner_small}
+use Rattle.tl_sides.proofs.Layouts.{bridge_layout, part_small, inner_small}
 use Rattle.tl_sides.proofs.sync_bridge.SyncBridge.new.Goals as goal
 
 -- a ring that is dropped owes nothing else than its allocator

@@ -1,21 +1,9 @@
-use Rattle.std.proofs.Common.{refl}
-use Rattle.tl_ring.proofs.Answered.{on_ok, on_err}
-use Rattle.tl_sides.proofs.Bridging.{client_of, client_stands, offered_e}
-use Rattle.tl_sides.proofs.Layouts.{bridge_layout}
-use Rattle.tl_ring.proofs.FieldSizes.{part_small, beat_small}
+use Rattle.tl_sides.proofs.Bridging.{bridge_offers_e}
+use Rattle.tl_sides.proofs.Layouts.{bridge_layout, part_small, beat_small}
 use Rattle.tl_sides.proofs.sync_bridge.SyncBridge.offer_e.Goals as goal
 
 pub offer_e-requires : goal.offer_e-requires
 offer_e-requires g c = (part_small (bridge_layout g.row.C g.row.M g.row.A g.A.Allocator) 0 9223372036854775808 c.requires-raw.1.1.1.0, (beat_small g.row.C c.requires.client, (c.requires.client, (c.requires.manager, rw (← c.self.view_is) at c.requires.ready))))
 
 pub returns : goal.returns
-returns g c =
-    let ready = rw (← c.self.view_is) at c.requires.ready in
-    rw (← c.self.view_is) (record {
-      admitted = λ x h. c.offer_e.ensures.admitted (client_of x) (client_stands c.self.inside x h);
-      accepted = λ x h. on_ok c.offer_e.result
-          (λ ok said. offered_e c.self.inside x h c.offer_e.new.self c.args.beat c.offer_e.ensures.rest ready c.offer_e.ensures.still said)
-          (c.offer_e.ensures.accepted (client_of x) (client_stands c.self.inside x h));
-      fault = λ x h. c.offer_e.ensures.fault (client_of x) (client_stands c.self.inside x h);
-      refused = on_err c.offer_e.result (λ same. rw same refl) c.offer_e.ensures.refused;
-    })
+returns g c = rw (← c.self.view_is) (bridge_offers_e c.self.inside _ _ _ (rw (← c.self.view_is) at c.requires.ready) c.offer_e.ensures)

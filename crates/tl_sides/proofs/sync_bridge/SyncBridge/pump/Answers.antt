@@ -4,8 +4,7 @@ use Rattle.tl_msg.specs.Tables.{rules_a, rules_b, rules_c, rules_d, rules_e}
 use Rattle.tl_sides.proofs.Sums.{sum_2, sum_3, sum_4, sum_5}
 use Rattle.tl_sides.proofs.BridgeSteps.{all_pushed}
 use Rattle.tl_sides.proofs.Bridging.{masked_a, masked_b, masked_c, masked_d, masked_e, pumped}
-use Rattle.tl_sides.proofs.Layouts.{bridge_layout}
-use Rattle.tl_ring.proofs.FieldSizes.{part_small, inner_small}
+use Rattle.tl_sides.proofs.Layouts.{bridge_layout, part_small, inner_small}
 use Rattle.tl_sides.proofs.sync_bridge.SyncBridge.pump.Goals as goal
 
 pub pump-a-requires : goal.pump-a-requires

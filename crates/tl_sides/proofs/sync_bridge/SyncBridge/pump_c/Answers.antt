@@ -1,11 +1,9 @@
 use Rattle.std.proofs.Common.{ap, ◌∙◌}
-use Rattle.tl_msg.specs.Tables.{rules_c}
-use Rattle.tl_ring.specs.Crossing.{pushed}
-use Rattle.tl_ring.proofs.FieldSizes.{part_small, inner_small}
+use Rattle.tl_sides.proofs.Words.{rules_c, pushed}
 use Rattle.tl_sides.specs.Joining.{bridge_of}
 use Rattle.tl_sides.proofs.BridgeSteps.{with_c, moved_by}
 use Rattle.tl_sides.proofs.Bridging.{masked_c, pumped}
-use Rattle.tl_sides.proofs.Layouts.{bridge_layout}
+use Rattle.tl_sides.proofs.Layouts.{bridge_layout, part_small, inner_small}
 use Rattle.tl_sides.proofs.sync_bridge.SyncBridge.pump_c.Goals as goal
 
 pub pump-requires : goal.pump-requires

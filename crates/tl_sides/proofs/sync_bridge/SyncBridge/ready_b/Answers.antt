@@ -1,5 +1,4 @@
-use Rattle.tl_sides.proofs.Layouts.{bridge_layout}
-use Rattle.tl_ring.proofs.FieldSizes.{part_small}
+use Rattle.tl_sides.proofs.Layouts.{bridge_layout, part_small}
 use Rattle.tl_sides.proofs.sync_bridge.SyncBridge.ready_b.Goals as goal
 
 pub ready_b-requires : goal.ready_b-requires

@@ -1,7 +1,6 @@
 use Rattle.std.proofs.Common.{ap, ◌∙◌}
 use Rattle.tl_sides.specs.Joining.{bridge_of}
-use Rattle.tl_sides.proofs.Layouts.{bridge_layout}
-use Rattle.tl_ring.proofs.FieldSizes.{part_small, inner_small}
+use Rattle.tl_sides.proofs.Layouts.{bridge_layout, part_small, inner_small}
 use Rattle.tl_sides.proofs.sync_bridge.SyncBridge.standings.Goals as goal
 
 pub standing-requires : goal.standing-requires

@@ -1,6 +1,5 @@
-use Rattle.tl_ring.proofs.FieldSizes.{part_small}
 use Rattle.tl_sides.proofs.Bridging.{client_of, client_stands, manager_of, manager_stands, all_taken}
-use Rattle.tl_sides.proofs.Layouts.{bridge_layout}
+use Rattle.tl_sides.proofs.Layouts.{bridge_layout, part_small}
 use Rattle.tl_sides.proofs.sync_bridge.SyncBridge.take_all.Goals as goal
 
 pub take_all-requires : goal.take_all-requires

@@ -1,13 +1,9 @@
-use Rattle.tl_sides.proofs.Bridging.{taken_b}
-use Rattle.tl_sides.proofs.Layouts.{bridge_layout}
-use Rattle.tl_ring.proofs.FieldSizes.{part_small}
+use Rattle.tl_sides.proofs.Bridging.{bridge_taken_b}
+use Rattle.tl_sides.proofs.Layouts.{bridge_layout, part_small}
 use Rattle.tl_sides.proofs.sync_bridge.SyncBridge.take_b.Goals as goal
 
 pub take_b-requires : goal.take_b-requires
 take_b-requires g c = (part_small (bridge_layout g.row.C g.row.M g.row.A g.A.Allocator) 0 9223372036854775808 c.requires-raw.1.1.1.0, c.requires-raw.1.1.1.1)
 
 pub returns : goal.returns
-returns g c = rw (← c.self.view_is) (record {
-  beat = c.take_b.ensures.beat;
-  taken = λ x h. taken_b c.self.inside x h c.take_b.new.self c.take_b.ensures.rest;
-})
+returns g c = rw (← c.self.view_is) (bridge_taken_b c.self.inside _ _ c.take_b.ensures)

@@ -1,13 +1,9 @@
-use Rattle.tl_sides.proofs.Bridging.{taken_c}
-use Rattle.tl_sides.proofs.Layouts.{bridge_layout}
-use Rattle.tl_ring.proofs.FieldSizes.{part_small}
+use Rattle.tl_sides.proofs.Bridging.{bridge_taken_c}
+use Rattle.tl_sides.proofs.Layouts.{bridge_layout, part_small}
 use Rattle.tl_sides.proofs.sync_bridge.SyncBridge.take_c.Goals as goal
 
 pub take_c-requires : goal.take_c-requires
 take_c-requires g c = (part_small (bridge_layout g.row.C g.row.M g.row.A g.A.Allocator) 1 9223372036854775808 c.requires-raw.1.1.1.0, c.requires-raw.1.1.1.1)
 
 pub returns : goal.returns
-returns g c = rw (← c.self.view_is) (record {
-  beat = c.take_c.ensures.beat;
-  taken = λ x h. taken_c c.self.inside x h c.take_c.new.self c.take_c.ensures.rest;
-})
+returns g c = rw (← c.self.view_is) (bridge_taken_c c.self.inside _ _ c.take_c.ensures)

@@ -1,0 +1,110 @@
+//! The answer of a run in one thread to a text as it comes in: what was accepted is not held any more.
+ghost use Rattle.std.specs.Prelude.{◌≡◌, ◌≤◌, ℕ, false, IfOk, IfErr};
+ghost use Rattle.std.specs.List.{list_all};
+ghost use Rattle.tl_lanes.specs.Lanes.{IsWidth};
+ghost use Rattle.tl_ring.specs.declared.pipe.TheConstants.{MAX_RING};
+ghost use Rattle.tl_settle.specs.Outcomes.{verdicts};
+ghost use Rattle.tl_trace.specs.Faults.{HasHeader};
+ghost use Rattle.tl_trace.specs.Scripts.{Gone};
+ghost use Rattle.tl_answer.specs.Answer.{is_done};
+ghost use Rattle.tl_answer.specs.Inner.Answered.{ReadsAnswer};
+ghost use Rattle.tl_answer.specs.Inner.Crossing.{Crosses};
+ghost use Rattle.tl_answer.specs.Inner.Listening.{IsNew, all_of};
+ghost use Rattle.tl_answer.specs.Inner.Parts.{spelled, text_of};
+ghost use Rattle.tl_answer.specs.Inputs.{IsFresh, held, unread_of};
+ghost use Rattle.tl_answer.specs.declared.fault.TextFault.TheVariants.{OutOfMemory as NoMemory};
+
+use crate::far_text::FarTexts;
+use crate::fault::TextFault;
+use crate::input::Input;
+use crate::later_lines::read_through;
+use crate::listener::Listener;
+use crate::parts::AnswerParts;
+use std::alloc::{AllocError, Global};
+use std::io::Read;
+use tl_run::SyncRun;
+use tl_sides::SyncBridge;
+use tl_trace::{Counts, Script};
+
+/// A run in one thread, whose far beats are written as lines as they are taken.
+#[derive(Drop)]
+pub(crate) struct Crossing<const C: usize, const M: usize> {
+    run: SyncRun<C, M>,
+    far: FarTexts,
+}
+
+impl<const C: usize, const M: usize> Crossing<C, M> {
+    /// A run that has not begun, of a trace in this version, over rings of `ring` beats each. Refused
+    /// with `OutOfMemory` alone.
+    pub(crate) fn new(alloc: Global, version: u8, ring: usize) -> Result<Self, TextFault>
+        requires { IsWidth C × IsWidth M × (1 ≤ ring) × (ring ≤ MAX_RING) }
+        ensures new { IfOk result (IsNew (Crosses version)) }
+        ensures err { IfErr result (λ fault. fault ≡ NoMemory) }
+    {
+        let far = FarTexts::new(alloc, version, C, M)?;
+        match SyncBridge::<C, M, Global>::new(alloc, ring) {
+            Ok(bridge) => Ok(Crossing {
+                run: SyncRun::new(bridge),
+                far,
+            }),
+            // the rings have a size that rings may have
+            Err(_) => Err(TextFault::OutOfMemory),
+        }
+    }
+
+    /// The answer of the run that ends with these beats: the version of the trace and the widths, the
+    /// far beats, and the five report lines. Refused with `OutOfMemory` alone.
+    pub(crate) fn end(self, last: Script<C, M>) -> Result<AnswerParts, TextFault>
+        requires { IsWidth C × IsWidth M ×
+            ((version : ℕ) × (gone : Gone C M) × Crosses version self gone last) }
+        ensures text { (version : ℕ) (gone : Gone C M) →
+            Crosses version self.entry gone last.entry → IfOk result (λ made.
+            spelled made ≡ text_of version (all_of gone last.entry) false) }
+        ensures done { (version : ℕ) (gone : Gone C M) →
+            Crosses version self.entry gone last.entry → IfOk result (λ made.
+            made.all_done ≡ list_all is_done (verdicts (all_of gone last.entry))) }
+        ensures err { IfErr result (λ fault. fault ≡ NoMemory) }
+    {
+        let Crossing { mut run, mut far } = self;
+        let ended = run.end(&last, &mut far);
+        drop(last);
+        match ended {
+            Ok(verdicts) => far.into_answer(&verdicts),
+            Err(_) => Err(TextFault::OutOfMemory),
+        }
+    }
+}
+
+impl<const C: usize, const M: usize> Listener<C, M> for Crossing<C, M> {
+    ghost Listens = { Crosses };
+
+    fn hear(&mut self, held: &Script<C, M>) -> Result<Counts, AllocError> {
+        self.run.go_on(held, &mut self.far)
+    }
+}
+
+/// The answer of a run in one thread, over rings of `ring` beats, to a text whose header names this
+/// version and these widths, where the input holds its first piece and nothing of it was used. It is
+/// read to its end, piece by piece: no more stands in memory than a piece of it, the beats that wait,
+/// and the answer so far. Refused as `script_of_input` is.
+pub(crate) fn run_input<R: Read, const C: usize, const M: usize>(
+    alloc: Global,
+    reader: &mut R,
+    input: &mut Input,
+    version: u8,
+    ring: usize,
+) -> Result<AnswerParts, TextFault>
+    requires { IsFresh (R.remaining reader.old) input.old ×
+        HasHeader (held input.old) version C M × (1 ≤ ring) × (ring ≤ MAX_RING) }
+    ensures { ReadsAnswer (unread_of input.old (R.remaining reader.old)) (R.remaining reader.new)
+        false input.new result }
+{
+    let mut crossing = match Crossing::<C, M>::new(alloc, version, ring) {
+        Ok(crossing) => crossing,
+        Err(fault) => return Err(fault),
+    };
+    match read_through(alloc, reader, input, version, &mut crossing) {
+        Ok(last) => crossing.end(last),
+        Err(fault) => Err(fault),
+    }
+}

@@ -1,0 +1,22 @@
+-- The words of the crates below that the definitions of this crate speak in.
+pub use Rattle.tl_msg.specs.Tables.{rules_a, rules_b, rules_c, rules_d, rules_e}
+pub use Rattle.tl_msg.specs.declared.beat.BeatOf.{BeatOf}
+pub use Rattle.tl_msg.specs.declared.head.HeadA.{HeadA}
+pub use Rattle.tl_msg.specs.declared.head.HeadB.{HeadB}
+pub use Rattle.tl_msg.specs.declared.head.HeadC.{HeadC}
+pub use Rattle.tl_msg.specs.declared.head.HeadD.{HeadD}
+pub use Rattle.tl_msg.specs.declared.head.HeadE.{HeadE}
+pub use Rattle.tl_ring.specs.Ends.{Sending, Taking, known_free, known_items, received, room, seen_by, sent}
+pub use Rattle.tl_ring.specs.Pipe.{Pipe}
+pub use Rattle.tl_run.specs.Inner.Running.{AllStop, AreStopped, Does, HaveRoomToCount, IsAt, IsHomed, IsSent, IsStopped, Stops, all_standing, all_under_way, steps}
+pub use Rattle.tl_run.specs.declared.channel_state.Offered.{Offered}
+pub use Rattle.tl_run.specs.declared.channel_state.Offered.TheVariants.{NotReady}
+pub use Rattle.tl_run.specs.declared.taken.Taken.{Taken}
+pub use Rattle.tl_settle.specs.Histories.{Answer, Ask, Event, answered, asked, client_answer, manager_answer, manager_home}
+pub use Rattle.tl_settle.specs.Outcomes.{Beats}
+pub use Rattle.tl_settle.specs.Rounds.{ClientMoves, ManagerMoves}
+pub use Rattle.tl_settle.specs.Settling.{far_a, far_d}
+pub use Rattle.tl_sides.specs.Bridges.{Bridge, Past}
+pub use Rattle.tl_sides.specs.Crossings.{stops_alone}
+pub use Rattle.tl_sides.specs.Sides.{AreSides, ClientPast, ClientStandsFor, ClientState, ManagerPast, ManagerStandsFor, ManagerState, SameClient, SameManager, SidesMeet, client_takes_b, client_takes_d, manager_takes_a, manager_takes_c, manager_takes_e, new_client, new_manager}
+pub use Rattle.tl_sides.specs.declared.per_channel.PerChannel.{PerChannel}

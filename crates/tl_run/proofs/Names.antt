@@ -1,0 +1,52 @@
+-- What the proofs of this crate name most, of the library and of the definitions, passed on by one module.
+pub use Rattle.std.proofs.Common.{◌≡◌, true, Result, Ok, Err, refl, sym, subst, ◌≢◌, ◌+◌, ◌≤◌, ◌*◌, ◌++◌, ℕ, zero, suc, Bool, false, Option, None}
+pub use Rattle.std.proofs.Common.{Some, List, [], ◌∷◌, length, map, take, drop, get_or, ap, ◌∙◌, arith, append-nil, append_assoc, length-append, ◌↔◌}
+pub use Rattle.std.proofs.Common.{◌<◌, ◌-◌, ◌⊎◌, inl, inr, min, ⊎_elim, ◌^◌, cond, zero-le, ◌&&◌, ◌||◌, rules, lit<, IfSome}
+pub use Rattle.std.proofs.lemmas.List.{length-take-le, map-append, length-drop, nil_from_length, length-take}
+pub use Rattle.std.proofs.lemmas.Option.{slice_get_within, get_or_from_slice_get, slice_get_read, slice_get_past}
+pub use Rattle.std.specs.Option.{option_map_or}
+pub use Rattle.std.specs.Prelude.{IsOk, OnOk, ◌==◌, slice_get, if◌then◌else◌, slice_index, is_none, IsTrue, OnErr, IfErr, nat_lt, slice_index_or}
+pub use Rattle.std.specs.Prelude.{IfOk, vec_capacity}
+pub use Rattle.tl_burst.specs.Begun.{heads, left}
+pub use Rattle.tl_burst.specs.Handing.{IsHanded, fault_after, Handed, rest_of, with_home, homes_with, ends, fault_in, burst_of}
+pub use Rattle.tl_convert.proofs.Comparisons.{equal_true, not_equal, none_past, true_equal, true_less}
+pub use Rattle.tl_convert.specs.Accepted.{accepted_of, accepted_after}
+pub use Rattle.tl_convert.specs.Due.{due, far_beats_of, part, due_after}
+pub use Rattle.tl_lanes.specs.Lanes.{IsWidth}
+pub use Rattle.tl_msg.specs.Rules.{Rules}
+pub use Rattle.tl_msg.specs.Tables.{rules_a, rules_b, rules_c, rules_d, rules_e, is_aligned}
+pub use Rattle.tl_msg.specs.declared.beat.BeatOf.{BeatOf}
+pub use Rattle.tl_msg.specs.declared.fault.BeatFault.{BeatFault}
+pub use Rattle.tl_msg.specs.declared.fault.SideFault.{SideFault}
+pub use Rattle.tl_msg.specs.declared.fault.SideFault.TheVariants.{Beat, SourceBusy, NoRequest, SizeMismatch}
+pub use Rattle.tl_msg.specs.declared.head.HeadA.{HeadA}
+pub use Rattle.tl_msg.specs.declared.head.HeadD.{HeadD}
+pub use Rattle.tl_msg.specs.declared.verdict.Verdict.{Verdict}
+pub use Rattle.tl_ring.proofs.FieldSizes.{beat_small}
+pub use Rattle.tl_ring.specs.Crossing.{World, offered, shut, inbox_room, empty, pushed, popped}
+pub use Rattle.tl_ring.specs.Pipe.{Pipe, IsReady}
+pub use Rattle.tl_run.specs.Arrivals.{joined, no_beats, Fit}
+pub use Rattle.tl_run.specs.Inner.Arriving.{HasRoom, HaveRoom, beats_of}
+pub use Rattle.tl_run.specs.Inner.Going.{Going, Passes, RestsIn, Stays, StepsOn, passed_on, passes_stays, refused_by, going_a, going_b, going_c}
+pub use Rattle.tl_run.specs.Inner.Going.{going_d, going_e, AreOn, AreStopsOf, HasStopped, IsStopOf, all_counts, all_ways, stop_by, way_in, IsSound}
+pub use Rattle.tl_run.specs.Inner.Going.{AllRest}
+pub use Rattle.tl_run.specs.Inner.Offering.{Offering, OffersNext, on_bridge_a, on_bridge_b, on_bridge_c, on_bridge_d, on_bridge_e, SameClientEnds}
+pub use Rattle.tl_run.specs.Inner.Offering.{SameManagerEnds, offer_outcome, close_outcome, on_side_a, on_side_c, on_side_e, on_side_b, on_side_d}
+pub use Rattle.tl_run.specs.Inner.Running.{Stops, IsSent, IsHomed, under_way, progress, stop_verdict, Does, steps, IsStopped, emptied, AreStopped}
+pub use Rattle.tl_run.specs.Inner.Running.{IsNew, IsUnderWay, counted, all_progress, all_under_way, standing_count, all_standing, all_stopped}
+pub use Rattle.tl_run.specs.Inner.Running.{IsRunning, CanAdd, HaveRoomToCount, arriving, inboxes, lengths, IsAt, AllStop, HasRound, HasEnded}
+pub use Rattle.tl_run.specs.Inner.Running.{after_take_all, added, HasOffered}
+pub use Rattle.tl_run.specs.Parts.{IsPart, AreEnd, ArePart, IsEnd, none_counted, AreBetween, IsBetween}
+pub use Rattle.tl_run.specs.Scripts.{IsShort, near_count, far_count, near_beats, HasShortLists}
+pub use Rattle.tl_run.specs.declared.channel_state.Offered.{Offered}
+pub use Rattle.tl_run.specs.declared.channel_state.Offered.TheVariants.{Stopped, Accepted, NotReady}
+pub use Rattle.tl_run.specs.declared.channel_state.Stop.{Stop}
+pub use Rattle.tl_run.specs.declared.channel_state.Stop.TheVariants.{Done, Cut, Refused}
+pub use Rattle.tl_settle.specs.Histories.{Ask, Answer, client_answer, manager_answer, manager_home, Event, asked, answered, manager_homes}
+pub use Rattle.tl_settle.specs.Outcomes.{verdict_of, far_alone, verdict_alone, Beats, far_beats, verdicts, verdict_a, verdict_d}
+pub use Rattle.tl_settle.specs.Rounds.{round, client_rests, manager_rests, Run, ClientMoves, ManagerMoves, client_takes, client_accepts}
+pub use Rattle.tl_settle.specs.Rounds.{manager_takes, manager_accepts, IsOver, IsSettledRun}
+pub use Rattle.tl_sides.proofs.BridgeSize.{bridge_small, client_small, manager_small}
+pub use Rattle.tl_sides.specs.Bridges.{Bridge, Past, StandsFor, IsStanding, nothing_yet, fetch_count, pump_count, after_fetch, after_pump}
+pub use Rattle.tl_sides.specs.Crossings.{stops_alone}
+pub use Rattle.tl_sides.specs.declared.per_channel.PerChannel.{PerChannel}

@@ -1,0 +1,41 @@
+use Rattle.tl_run.proofs.Names.{refl, subst, beat_small, StandsFor, fetch_count, pump_count, bridge_small, going_a, on_bridge_a}
+use Rattle.tl_run.proofs.Going.{has-passed, has-stayed, none-again, none-at-all, passes-a, rests-next, stays-next}
+use Rattle.tl_run.proofs.ahead.SyncBridgeGoesOnBeatOfHeadA.go_on.Goals as goal
+
+pub offer_next-offered-requires : goal.offer_next-offered-requires
+offer_next-offered-requires g c = (bridge_small g.row.C g.row.M c.requires.0.client c.requires.0.manager, (beat_small g.row.C c.requires.0.client, c.requires.0))
+
+pub pump_a-requires : goal.pump_a-requires
+pump_a-requires g c = bridge_small g.row.C g.row.M c.requires.0.client c.requires.0.manager
+
+pub ready_a-requires : goal.ready_a-requires
+ready_a-requires g c = bridge_small g.row.C g.row.M c.requires.0.client c.requires.0.manager
+
+pub fetch_a-requires : goal.fetch_a-requires
+fetch_a-requires g c = bridge_small g.row.C g.row.M c.requires.0.client c.requires.0.manager
+
+pub pump_a-requires-2 : goal.pump_a-requires-2
+pump_a-requires-2 g c = bridge_small g.row.C g.row.M c.requires.0.client c.requires.0.manager
+
+pub returns-then-not-is_accepted : goal.returns-then-not-is_accepted
+returns-then-not-is_accepted g c =
+    let none = none-at-all _ (λ some. let h = c.if-not-is_accepted.ensures.1 some in cc (h)) in
+    let offered = c.offer_next-offered in
+    has-stayed going_a none
+    (stays-next on_bridge_a c.args.held.now c.args.gone c.args.at c.requires.1 c.requires.2 c.args.self.now offered.new.self offered.result none offered.ensures)
+    (λ near part. rests-next on_bridge_a c.args.held.now c.args.gone c.args.at c.requires.1 c.requires.2 c.args.self.now offered.new.self offered.result none offered.ensures near part)
+
+pub returns-then-ready_a : goal.returns-then-ready_a
+returns-then-ready_a g c =
+    let offered = c.offer_next-offered in
+    has-passed going_a (c.if-not-is_accepted.ensures.0 refl)
+    (passes-a c.pump_a.new.self (pump_count offered.new.self.a) 0 0 c.args.gone c.args.at c.requires.1 offered.result c.args.held.now c.requires.2 offered.ensures
+    (λ y h. subst (λ q. StandsFor c.pump_a.new.self (record y { a = q })) (none-again (pump_count offered.new.self.a) y.a) (c.pump_a.ensures.moved y h)))
+
+pub returns : goal.returns
+returns g c =
+    let offered = c.offer_next-offered in
+    has-passed going_a (c.if-not-is_accepted.ensures.0 refl)
+    (passes-a c.pump_a-2.new.self (pump_count offered.new.self.a) (fetch_count c.pump_a.new.self.a) (pump_count c.fetch_a.new.self.a) c.args.gone c.args.at c.requires.1
+    offered.result c.args.held.now c.requires.2 offered.ensures
+    (λ y h. c.pump_a-2.ensures.moved _ (c.fetch_a.ensures.moved _ (c.pump_a.ensures.moved y h))))

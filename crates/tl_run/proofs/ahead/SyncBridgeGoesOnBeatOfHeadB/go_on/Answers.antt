@@ -1,0 +1,41 @@
+use Rattle.tl_run.proofs.Names.{refl, subst, beat_small, StandsFor, fetch_count, pump_count, bridge_small, going_b, on_bridge_b}
+use Rattle.tl_run.proofs.Going.{has-passed, has-stayed, none-again, none-at-all, passes-b, rests-next, stays-next}
+use Rattle.tl_run.proofs.ahead.SyncBridgeGoesOnBeatOfHeadB.go_on.Goals as goal
+
+pub offer_next-offered-requires : goal.offer_next-offered-requires
+offer_next-offered-requires g c = (bridge_small g.row.C g.row.M c.requires.0.client c.requires.0.manager, (beat_small g.row.M c.requires.0.manager, c.requires.0))
+
+pub pump_b-requires : goal.pump_b-requires
+pump_b-requires g c = bridge_small g.row.C g.row.M c.requires.0.client c.requires.0.manager
+
+pub ready_b-requires : goal.ready_b-requires
+ready_b-requires g c = bridge_small g.row.C g.row.M c.requires.0.client c.requires.0.manager
+
+pub fetch_b-requires : goal.fetch_b-requires
+fetch_b-requires g c = bridge_small g.row.C g.row.M c.requires.0.client c.requires.0.manager
+
+pub pump_b-requires-2 : goal.pump_b-requires-2
+pump_b-requires-2 g c = bridge_small g.row.C g.row.M c.requires.0.client c.requires.0.manager
+
+pub returns-then-not-is_accepted : goal.returns-then-not-is_accepted
+returns-then-not-is_accepted g c =
+    let none = none-at-all _ (λ some. let h = c.if-not-is_accepted.ensures.1 some in cc (h)) in
+    let offered = c.offer_next-offered in
+    has-stayed going_b none
+    (stays-next on_bridge_b c.args.held.now c.args.gone c.args.at c.requires.1 c.requires.2 c.args.self.now offered.new.self offered.result none offered.ensures)
+    (λ near part. rests-next on_bridge_b c.args.held.now c.args.gone c.args.at c.requires.1 c.requires.2 c.args.self.now offered.new.self offered.result none offered.ensures near part)
+
+pub returns-then-ready_b : goal.returns-then-ready_b
+returns-then-ready_b g c =
+    let offered = c.offer_next-offered in
+    has-passed going_b (c.if-not-is_accepted.ensures.0 refl)
+    (passes-b c.pump_b.new.self (pump_count offered.new.self.b) 0 0 c.args.gone c.args.at c.requires.1 offered.result c.args.held.now c.requires.2 offered.ensures
+    (λ y h. subst (λ q. StandsFor c.pump_b.new.self (record y { b = q })) (none-again (pump_count offered.new.self.b) y.b) (c.pump_b.ensures.moved y h)))
+
+pub returns : goal.returns
+returns g c =
+    let offered = c.offer_next-offered in
+    has-passed going_b (c.if-not-is_accepted.ensures.0 refl)
+    (passes-b c.pump_b-2.new.self (pump_count offered.new.self.b) (fetch_count c.pump_b.new.self.b) (pump_count c.fetch_b.new.self.b) c.args.gone c.args.at c.requires.1
+    offered.result c.args.held.now c.requires.2 offered.ensures
+    (λ y h. c.pump_b-2.ensures.moved _ (c.fetch_b.ensures.moved _ (c.pump_b.ensures.moved y h))))

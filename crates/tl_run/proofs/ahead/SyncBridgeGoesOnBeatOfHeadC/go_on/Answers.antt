@@ -1,0 +1,41 @@
+use Rattle.tl_run.proofs.Names.{refl, subst, beat_small, StandsFor, fetch_count, pump_count, bridge_small, going_c, on_bridge_c}
+use Rattle.tl_run.proofs.Going.{has-passed, has-stayed, none-again, none-at-all, passes-c, rests-next, stays-next}
+use Rattle.tl_run.proofs.ahead.SyncBridgeGoesOnBeatOfHeadC.go_on.Goals as goal
+
+pub offer_next-offered-requires : goal.offer_next-offered-requires
+offer_next-offered-requires g c = (bridge_small g.row.C g.row.M c.requires.0.client c.requires.0.manager, (beat_small g.row.C c.requires.0.client, c.requires.0))
+
+pub pump_c-requires : goal.pump_c-requires
+pump_c-requires g c = bridge_small g.row.C g.row.M c.requires.0.client c.requires.0.manager
+
+pub ready_c-requires : goal.ready_c-requires
+ready_c-requires g c = bridge_small g.row.C g.row.M c.requires.0.client c.requires.0.manager
+
+pub fetch_c-requires : goal.fetch_c-requires
+fetch_c-requires g c = bridge_small g.row.C g.row.M c.requires.0.client c.requires.0.manager
+
+pub pump_c-requires-2 : goal.pump_c-requires-2
+pump_c-requires-2 g c = bridge_small g.row.C g.row.M c.requires.0.client c.requires.0.manager
+
+pub returns-then-not-is_accepted : goal.returns-then-not-is_accepted
+returns-then-not-is_accepted g c =
+    let none = none-at-all _ (λ some. let h = c.if-not-is_accepted.ensures.1 some in cc (h)) in
+    let offered = c.offer_next-offered in
+    has-stayed going_c none
+    (stays-next on_bridge_c c.args.held.now c.args.gone c.args.at c.requires.1 c.requires.2 c.args.self.now offered.new.self offered.result none offered.ensures)
+    (λ near part. rests-next on_bridge_c c.args.held.now c.args.gone c.args.at c.requires.1 c.requires.2 c.args.self.now offered.new.self offered.result none offered.ensures near part)
+
+pub returns-then-ready_c : goal.returns-then-ready_c
+returns-then-ready_c g c =
+    let offered = c.offer_next-offered in
+    has-passed going_c (c.if-not-is_accepted.ensures.0 refl)
+    (passes-c c.pump_c.new.self (pump_count offered.new.self.c) 0 0 c.args.gone c.args.at c.requires.1 offered.result c.args.held.now c.requires.2 offered.ensures
+    (λ y h. subst (λ q. StandsFor c.pump_c.new.self (record y { c = q })) (none-again (pump_count offered.new.self.c) y.c) (c.pump_c.ensures.moved y h)))
+
+pub returns : goal.returns
+returns g c =
+    let offered = c.offer_next-offered in
+    has-passed going_c (c.if-not-is_accepted.ensures.0 refl)
+    (passes-c c.pump_c-2.new.self (pump_count offered.new.self.c) (fetch_count c.pump_c.new.self.c) (pump_count c.fetch_c.new.self.c) c.args.gone c.args.at c.requires.1
+    offered.result c.args.held.now c.requires.2 offered.ensures
+    (λ y h. c.pump_c-2.ensures.moved _ (c.fetch_c.ensures.moved _ (c.pump_c.ensures.moved y h))))

@@ -1,0 +1,41 @@
+use Rattle.tl_run.proofs.Names.{refl, subst, beat_small, StandsFor, fetch_count, pump_count, bridge_small, going_e, on_bridge_e}
+use Rattle.tl_run.proofs.Going.{has-passed, has-stayed, none-again, none-at-all, passes-e, rests-next, stays-next}
+use Rattle.tl_run.proofs.ahead.SyncBridgeGoesOnBeatOfHeadE.go_on.Goals as goal
+
+pub offer_next-offered-requires : goal.offer_next-offered-requires
+offer_next-offered-requires g c = (bridge_small g.row.C g.row.M c.requires.0.client c.requires.0.manager, (beat_small g.row.C c.requires.0.client, c.requires.0))
+
+pub pump_e-requires : goal.pump_e-requires
+pump_e-requires g c = bridge_small g.row.C g.row.M c.requires.0.client c.requires.0.manager
+
+pub ready_e-requires : goal.ready_e-requires
+ready_e-requires g c = bridge_small g.row.C g.row.M c.requires.0.client c.requires.0.manager
+
+pub fetch_e-requires : goal.fetch_e-requires
+fetch_e-requires g c = bridge_small g.row.C g.row.M c.requires.0.client c.requires.0.manager
+
+pub pump_e-requires-2 : goal.pump_e-requires-2
+pump_e-requires-2 g c = bridge_small g.row.C g.row.M c.requires.0.client c.requires.0.manager
+
+pub returns-then-not-is_accepted : goal.returns-then-not-is_accepted
+returns-then-not-is_accepted g c =
+    let none = none-at-all _ (λ some. let h = c.if-not-is_accepted.ensures.1 some in cc (h)) in
+    let offered = c.offer_next-offered in
+    has-stayed going_e none
+    (stays-next on_bridge_e c.args.held.now c.args.gone c.args.at c.requires.1 c.requires.2 c.args.self.now offered.new.self offered.result none offered.ensures)
+    (λ near part. rests-next on_bridge_e c.args.held.now c.args.gone c.args.at c.requires.1 c.requires.2 c.args.self.now offered.new.self offered.result none offered.ensures near part)
+
+pub returns-then-ready_e : goal.returns-then-ready_e
+returns-then-ready_e g c =
+    let offered = c.offer_next-offered in
+    has-passed going_e (c.if-not-is_accepted.ensures.0 refl)
+    (passes-e c.pump_e.new.self (pump_count offered.new.self.e) 0 0 c.args.gone c.args.at c.requires.1 offered.result c.args.held.now c.requires.2 offered.ensures
+    (λ y h. subst (λ q. StandsFor c.pump_e.new.self (record y { e = q })) (none-again (pump_count offered.new.self.e) y.e) (c.pump_e.ensures.moved y h)))
+
+pub returns : goal.returns
+returns g c =
+    let offered = c.offer_next-offered in
+    has-passed going_e (c.if-not-is_accepted.ensures.0 refl)
+    (passes-e c.pump_e-2.new.self (pump_count offered.new.self.e) (fetch_count c.pump_e.new.self.e) (pump_count c.fetch_e.new.self.e) c.args.gone c.args.at c.requires.1
+    offered.result c.args.held.now c.requires.2 offered.ensures
+    (λ y h. c.pump_e-2.ensures.moved _ (c.fetch_e.ensures.moved _ (c.pump_e.ensures.moved y h))))

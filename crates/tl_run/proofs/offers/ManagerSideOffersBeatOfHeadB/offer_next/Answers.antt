@@ -1,0 +1,29 @@
+use Rattle.tl_run.proofs.Names.{refl, sym, subst, manager_small, beat_small, SameManagerEnds, on_side_b}
+use Rattle.tl_run.proofs.NextOffers.{asked, answers, closes, holds-after, manager-same}
+use Rattle.tl_run.proofs.OfferSteps.{read_some, read_none}
+use Rattle.tl_run.proofs.offers.ManagerSideOffersBeatOfHeadB.offer_next.Goals as goal
+
+pub close_b-requires : goal.close_b-requires
+close_b-requires g c = manager_small g.row.C g.row.M c.requires.client c.requires.manager
+
+pub ready_b-requires : goal.ready_b-requires
+ready_b-requires g c = manager_small g.row.C g.row.M c.requires.client c.requires.manager
+
+pub offer_b-requires : goal.offer_b-requires
+offer_b-requires g c = (manager_small g.row.C g.row.M c.requires.client c.requires.manager, (beat_small g.row.M c.requires.manager, (c.requires.manager, (c.requires.client, c.if-not-ready_b.ensures.0 refl))))
+
+pub returns-in_default : goal.returns-in_default
+returns-in_default g c =
+    let said = c.close_b.ensures in
+    rw c.from_close.ensures (closes on_side_b _ _ _ (read_none c.args.beats.now c.args.at c.in_default.ensures.lookup.0) c.close_b.result _ (holds-after (SameManagerEnds c.args.self.now) c.close_b.result _ _ _ said.closed said.refused (manager-same _) (record { a = refl; b = refl; c = refl; d = refl; e = refl })) said.refused said.between said.stands)
+
+pub returns-then-not-ready_b : goal.returns-then-not-ready_b
+returns-then-not-ready_b g c =
+    (asked on_side_b c.args.self.now (manager-same _) _ (λ x h. h.b.pipe) _ c.if-not-ready_b.ensures).1 (λ ready. cc) _ _ _
+    (read_some c.args.beats.now c.args.at c.in-Some.beat.now c.in-Some.ensures.lookup.0 c.in-Some.ensures.lookup.1)
+
+pub returns : goal.returns
+returns g c =
+    let said = c.offer_b.ensures in
+    rw c.from_offer.ensures (answers on_side_b _ _ _ _ (read_some c.args.beats.now c.args.at c.in-Some.beat.now c.in-Some.ensures.lookup.0 c.in-Some.ensures.lookup.1) c.offer_b.result _
+    (subst (SameManagerEnds c.args.self.now) (sym said.rest.1) (record { a = refl; b = said.rest.0; c = refl; d = refl; e = refl })) said.admitted said.accepted said.fault said.refused)

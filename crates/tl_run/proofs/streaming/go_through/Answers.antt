@@ -1,0 +1,95 @@
+use Rattle.tl_run.proofs.Names.{lit<, refl, sym, subst, ◌∙◌, bridge_small, AreEnd, ArePart, AllRest, IsAt}
+use Rattle.tl_run.proofs.Counting.{nearer}
+use Rattle.tl_run.proofs.Parts.{are-part}
+use Rattle.tl_run.proofs.Pieces.{all-on, all-same, all-within, rests-too, room-to-count}
+use Rattle.tl_run.proofs.streaming.go_through.Goals as goal
+
+pub turns-init : goal.turns-init
+turns-init g c = record { can = c.requires.1; gone = refl; on = λ near part was. was; same = refl }
+
+pub total-before-requires : goal.total-before-requires
+total-before-requires g c = room-to-count c.turns.run.gone c.turns.run.at c.args.held.now c.turns.invariant.can.within
+
+pub all_go_ahead-stopped_by-requires : goal.all_go_ahead-stopped_by-requires
+all_go_ahead-stopped_by-requires g c = (
+  bridge_small g.row.C g.row.M c.requires.0.client c.requires.0.manager,
+  (lit< tt, (c.requires.0, c.turns.invariant.can.within)),
+)
+
+pub total-requires : goal.total-requires
+total-requires g c = room-to-count _ _ c.args.held.now c.all_go_ahead-stopped_by.ensures.within
+
+pub empty-requires : goal.empty-requires
+empty-requires g c =
+    let rests = c.turns.invariant.can.rests in
+    let passed = c.all_go_ahead-stopped_by.ensures.passes rests.past rests.stands in
+    (bridge_small g.row.C g.row.M c.requires.0.client c.requires.0.manager, (c.requires.0, (passed.past, passed.stands)))
+
+pub turns-smaller : goal.turns-smaller
+turns-smaller g c =
+    let turn = c.all_go_ahead-stopped_by.ensures in
+    nearer _ _ _ (all-on _ _ turn.on c.total-before.ensures c.total.ensures c.if-total-before.false) (all-within _ _ c.args.held.now turn.within)
+
+pub turns-preserved : goal.turns-preserved
+turns-preserved g c =
+    let here = c.turns.invariant in
+    let turn = c.all_go_ahead-stopped_by.ensures in
+    record {
+      can = record { within = turn.within; rests = c.in_ok-empty.ensures.rests };
+      gone = here.gone;
+      on = λ near part was.
+          let r = here.on near part was in
+          let passed = turn.passes r.under_way.past r.under_way.stands in
+          c.in_ok-empty.ensures.on near c.all_go_ahead-stopped_by.new.at (room-to-count _ _ c.args.held.now turn.within) (record {
+            all = r.all;
+            holds = r.holds;
+            counts = r.counts;
+            under_way = record {
+              past = passed.past;
+              stands = passed.stands;
+              is_at = passed.is_at near r.all (subst (λ q. ArePart q c.args.held.now near) (sym here.gone) part) r.under_way.is_at;
+            };
+          });
+      same = c.in_ok-empty.ensures.same ∙ here.same;
+    }
+
+pub returns-then-total-before-clause-can : goal.returns-then-total-before-clause-can
+returns-then-total-before-clause-can g c =
+    let rests = c.turns.invariant.can.rests in
+    let turn = c.all_go_ahead-stopped_by.ensures in
+    let same = all-same _ _ turn.on (sym c.total.ensures ∙ c.if-total-before.true ∙ c.total-before.ensures) in
+    record { within = turn.within; rests = record { past = rests.past; stands = turn.stays same rests.past rests.stands; rest = rests.rest } }
+
+pub returns-then-total-before-clause-on : goal.returns-then-total-before-clause-on
+returns-then-total-before-clause-on g c = λ near part was.
+    let r = c.turns.invariant.on near part was in
+    let passed = c.all_go_ahead-stopped_by.ensures.passes r.under_way.past r.under_way.stands in
+    record {
+      all = r.all;
+      holds = r.holds;
+      counts = r.counts;
+      under_way = record {
+        past = passed.past;
+        stands = passed.stands;
+        is_at = passed.is_at near r.all (subst (λ q. ArePart q c.args.held.now near) (sym c.turns.invariant.gone) part) r.under_way.is_at;
+      };
+    }
+
+pub returns-then-total-before-clause-stopped : goal.returns-then-total-before-clause-stopped
+returns-then-total-before-clause-stopped g c = λ near end was.
+    let here = c.turns.invariant in
+    let r = here.on near (are-part c.args.run.now.gone c.args.held.now near end) was in
+    let u = r.under_way in
+    let turn = c.all_go_ahead-stopped_by.ensures in
+    let same = all-same _ _ turn.on (sym c.total.ensures ∙ c.if-total-before.true ∙ c.total-before.ensures) in
+    record {
+      all = r.all;
+      holds = r.holds;
+      counts = r.counts;
+      past = u.past;
+      stands = turn.stays same u.past u.stands;
+      is_at = subst (λ n. IsAt near n r.all u.past) (sym same) u.is_at;
+      at_rest = rests-too c.turns.run.bridge here.can.rests.past u.past here.can.rests.stands u.stands here.can.rests.rest;
+      rests = subst (λ n. AllRest near n u.past c.all_go_ahead-stopped_by.result) (sym same)
+          (turn.rests same u.past u.stands near (subst (λ q. AreEnd q c.args.held.now near) (sym here.gone) end));
+    }

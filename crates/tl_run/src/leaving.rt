@@ -1,0 +1,55 @@
+//! How many beats of a script that comes piece by piece may go.
+ghost use Rattle.std.specs.Prelude.{◌≡◌, ◌+◌, ◌≤◌, length};
+ghost use Rattle.tl_trace.specs.Scripts.{HasCounts, HasLetGo};
+ghost use Rattle.tl_run.specs.Parts.{AreBetween, AreHalf, HaveGone, IsBetween};
+
+use tl_sides::PerChannel;
+use tl_trace::{Counts, Script};
+
+// How many of these beats may go, where so many of all have gone and so many are done with: at least
+// half of them, or none.
+fn leaving(held: usize, gone: usize, at: usize) -> usize
+    requires { IsBetween gone at held }
+    ensures past { gone + result ≤ at }
+    ensures half { AreHalf result held }
+{
+    let past = at - gone;
+    if past >= held - past { past } else { 0 }
+}
+
+/// Lets go beats of a script that comes piece by piece, of which `gone` have gone and `at` are done
+/// with: answers how many of those that are held have to go now, and counts them in `gone`. Of each
+/// channel they are at least half of those that are held, or none, so that letting them go costs no
+/// more than reading them (this project's choice).
+pub fn let_leave<const C: usize, const M: usize>(
+    gone: &mut Counts,
+    held: &Script<C, M>,
+    at: &PerChannel<usize>,
+) -> Counts
+    requires { AreBetween gone.old at.now held.now }
+    ensures counts { HasCounts result held.now }
+    ensures half_a { AreHalf result.a (length held.now.a.items) }
+    ensures half_b { AreHalf result.b (length held.now.b.items) }
+    ensures half_c { AreHalf result.c (length held.now.c.items) }
+    ensures half_d { AreHalf result.d (length held.now.d.items) }
+    ensures half_e { AreHalf result.e (length held.now.e.items) }
+    ensures gone { HaveGone gone.old result gone.new }
+    ensures rest { (rest : Script C M) → HasLetGo result held.now rest →
+        AreBetween gone.new at.now rest }
+{
+    let counts = Counts {
+        a: leaving(held.a.len(), gone.a, at.a),
+        b: leaving(held.b.len(), gone.b, at.b),
+        c: leaving(held.c.len(), gone.c, at.c),
+        d: leaving(held.d.len(), gone.d, at.d),
+        e: leaving(held.e.len(), gone.e, at.e),
+    };
+    *gone = Counts {
+        a: gone.a + counts.a,
+        b: gone.b + counts.b,
+        c: gone.c + counts.c,
+        d: gone.d + counts.d,
+        e: gone.e + counts.e,
+    };
+    counts
+}

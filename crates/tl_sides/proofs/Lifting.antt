@@ -1,0 +1,45 @@
+-- What a call does to a part of who holds a channel, it does to the whole: an outbox is lifted to its port, and a port to the bridge and to its side.
+use Rattle.std.specs.Prelude.{◌≡◌, ◌↔◌, ℕ, None, Some, [], Option, Result, IsOk, IfErr, IfSome, slice_get}
+use Rattle.std.proofs.Common.{sym, subst, ap, ◌∙◌}
+use Rattle.tl_sides.proofs.Words.{IsLawfulBeat, BeatOf, SideFault, rest_of, EndFault, on_ok, on_err}
+use Rattle.tl_sides.specs.Calls.{SendingChannel, TakingChannel, OffersBeat, ClosesChannel, TakesBeat}
+
+-- a part s of the whole `up s`, which stands for what the part of a past `down y` is of the past y
+module _ {S P T Q H : Type 0} {w : ℕ} (k : SendingChannel S P H w) (j : SendingChannel T Q H w) (up : S → T) (down : Q → P) (s s' : S)
+    (part : (y : Q) → j.Stands (up s) y → k.Stands s (down y)) where
+  pub offer_lifted : (b : BeatOf H w) (answer : Result (Unit {0}) SideFault) → ((y : Q) → k.stops (down y) b ≡ j.stops y b) → (k.Keeps s s' → j.Keeps (up s) (up s')) →
+      ((y : Q) → j.Stands (up s) y → k.Keeps s s' → k.Stands s' (k.with_beat b (down y)) → j.Stands (up s') (j.with_beat b y)) →
+      OffersBeat k b s answer s' → OffersBeat j b (up s) answer (up s')
+  offer_lifted b answer stops keeps whole said = record {
+    admitted = λ y h. subst (λ z. IsOk answer ↔ (z ≡ None)) (stops y) (said.admitted (down y) (part y h));
+    accepted = λ y h. on_ok answer (λ ok stands. whole y h said.rest stands) (said.accepted (down y) (part y h));
+    fault = λ y h. subst (λ z. IfErr answer (λ fault. z ≡ Some fault)) (stops y) (said.fault (down y) (part y h));
+    refused = on_err answer (λ same. ap up same) said.refused;
+    rest = keeps said.rest;
+  }
+
+  pub close_lifted : (answer : Result (Unit {0}) EndFault) → k.rules ≡ j.rules → ((y : Q) → j.Stands (up s) y → k.accepted (down y) ≡ j.accepted y) →
+      k.closed s ≡ j.closed (up s) → up (k.as_closed s) ≡ j.as_closed (up s) →
+      ((y : Q) → j.Stands (up s) y → rest_of j.rules w (j.accepted y) ≡ [] → j.Stands (up (k.as_closed s)) (j.ended y)) →
+      ClosesChannel k s answer s' → ClosesChannel j (up s) answer (up s')
+  close_lifted answer rules accepted closed as_closed whole said =
+      let over = λ (y : Q) (h : j.Stands (up s) y). subst (λ r. IsOk answer ↔ (rest_of r w (j.accepted y) ≡ [])) rules
+      (subst (λ bs. IsOk answer ↔ (rest_of k.rules w bs ≡ [])) (accepted y h) (said.between (down y) (part y h))) in
+      record {
+        between = over;
+        stands = λ y h. on_ok answer (λ ok made. subst (λ z. j.Stands (up z) (j.ended y)) (sym made) (whole y h ((over y h).0 ok))) said.closed;
+        closed = on_ok answer (λ ok made. ap up made ∙ as_closed) said.closed;
+        again = λ shut. let again = said.again (closed ∙ shut) in (again.0, ap up again.1);
+        refused = on_err answer (λ same. ap up same) said.refused;
+      }
+
+pub take_lifted : {S P T Q H : Type 0} {w : ℕ} (k : TakingChannel S P H w) (j : TakingChannel T Q H w) (up : S → T) (down : Q → P) (s s' : S) (answer : Option (BeatOf H w)) →
+    ((y : Q) → j.Stands (up s) y → k.Stands s (down y)) → k.rules ≡ j.rules → k.inbox s ≡ j.inbox (up s) → (k.Keeps s s' → j.Keeps (up s) (up s')) →
+    ((y : Q) → j.Stands (up s) y → k.Keeps s s' → k.Stands s' (k.after_take s (down y)) → j.Stands (up s') (j.after_take (up s) y)) →
+    TakesBeat k s answer s' → TakesBeat j (up s) answer (up s')
+take_lifted k j up down s s' answer part rules inbox keeps whole said = record {
+  beat = said.beat ∙ ap (λ bs. slice_get bs 0) inbox;
+  lawful = subst (λ r. IfSome answer (λ beat. IsLawfulBeat r beat)) rules said.lawful;
+  taken = λ y h. whole y h said.rest (said.taken (down y) (part y h));
+  rest = keeps said.rest;
+}
