@@ -7,8 +7,8 @@ use arrayvec::ArrayVec;
 use tl_convert::Converter;
 use tl_lanes::{WIDEST, is_width};
 use tl_msg::{Beat, Channel, Verdict};
-use tl_remarks::{Told, seen_of};
-use tl_trace::line_of;
+use tl_remarks::{Seen, Told, seen_of};
+use tl_trace::{line_of, write_far};
 
 /// Whether both are widths.
 fn are_widths(w: usize, v: usize) -> bool
@@ -45,16 +45,37 @@ fn pass<K: Channel, const W: usize, const V: usize>(
     }
 }
 
+/// Draws the next near beat, where beats are drawn.
+fn draw_near<K: Told, const W: usize>(
+    story: &mut Story,
+    beat: &Beat<K, W>,
+    seen: &Seen,
+    accepted: bool,
+) {
+    // (tested, too)
+    if story.drawing.is_wanted && is_width(W) {
+        let line = line_of::<K, W>(beat, story.version);
+        story.draw_near(seen, &beat.lanes, line.as_slice(), accepted);
+    }
+}
+
 /// Writes far beats, each as its line.
-fn put_far<K: Told, const V: usize>(story: &mut Story, far: &ArrayVec<Beat<K, V>, WIDEST>) {
+fn put_far<K: Told, const V: usize>(story: &mut Story, far: &[Beat<K, V>]) {
     // (tested, too)
     if !is_width(V) {
         return;
     }
-    for beat in far.as_slice() {
-        let line = line_of::<K, V>(beat, story.version);
-        let seen = seen_of::<K, V>(beat, story.version);
-        story.put_far(line.as_slice(), &seen, &beat.lanes);
+    story.far.clear();
+    let written = write_far::<K, V>(&mut story.far, far, story.version);
+    story.page.lacks_a_piece |= written.is_err();
+    // all lines of a channel are of one length
+    let length = story.far.len() / far.len().max(1);
+    for number in 0..far.len() {
+        story.put_far_line(number, length);
+        if story.shows_far_lanes() {
+            let seen = seen_of::<K, V>(&far[number], story.version);
+            story.put_far_lanes(number, length, &seen, &far[number].lanes);
+        }
     }
 }
 
@@ -71,9 +92,11 @@ pub fn tell<K: Told, const W: usize, const V: usize>(
     story.begin(letter, verdict, W, V);
     for beat in beats {
         let seen = seen_of::<K, W>(beat, story.version);
-        if story.put_near(&seen, &beat.lanes) {
+        let accepted = story.put_near(&seen, &beat.lanes);
+        draw_near::<K, W>(story, beat, &seen, accepted);
+        if accepted {
             pass::<K, W, V>(converter, beat, story.walk.home, far);
-            put_far::<K, V>(story, far);
+            put_far::<K, V>(story, far.as_slice());
         }
         story.end_line();
     }

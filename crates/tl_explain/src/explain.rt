@@ -1,27 +1,28 @@
 //! From a text to what came of each of its lines.
-ghost use Rattle.std.specs.Prelude.{◌≡◌, ◌≤◌, ◌++◌, length, Some, IfOk, IfErr};
+ghost use Rattle.std.specs.Prelude.{◌≡◌, ◌≤◌, ◌++◌, true, length, Some, IfOk, IfErr};
 ghost use Rattle.std.specs.List.{list_all};
 ghost use Rattle.tl_lanes.specs.Lanes.{IsWidth};
 ghost use Rattle.tl_trace.specs.Faults.{HasHeader};
 ghost use Rattle.tl_trace.specs.Scripts.{TellsScript};
 ghost use Rattle.tl_answer.specs.Answer.{far_header, report, is_done};
-ghost use Rattle.tl_answer.specs.Texts.{IsOfText, most_bytes};
+ghost use Rattle.tl_answer.specs.Texts.{IsAnswer, IsOfText, most_bytes};
 ghost use Rattle.tl_answer.specs.declared.fault.TextFault.TheVariants.{OutOfMemory as NoMemory};
 ghost use Rattle.tl_explain.specs.Explained.{IsExplanation};
 
 use crate::channel::tell;
 use crate::held::{held_of, waiting_source};
+use crate::letters::letters_of;
 use crate::look::Look;
 use crate::story::Story;
 use arrayvec::ArrayVec;
 use std::alloc::{AllocError, Global};
-use tl_answer::{TextFault, at_width, check_of};
+use tl_answer::{Answer, TextFault, at_width, check_of};
 use tl_check::verdicts_of;
 use tl_convert::Converter;
 use tl_lanes::WIDEST;
 use tl_msg::{Beat, ChA, ChB, ChC, ChD, ChE, Verdict};
-use tl_remarks::remarks_of;
-use tl_trace::{Script, TraceFault, TraceKind, header_of_text, read_script};
+use tl_remarks::{Noted, notes_of};
+use tl_trace::{Header, Script, TraceFault, TraceKind, header_of_text, read_script};
 
 /// What came of each line of a text, and whether all five channels are done.
 #[derive(Drop)]
@@ -74,102 +75,122 @@ fn note_held<const C: usize, const M: usize>(
     story.requests.held_request = held_of::<ChA, C>(letters, b'A', on_a, &script.a, missing);
 }
 
-/// Tells the story of a script, and gives what is said of its lines.
+/// What was told of a text: what came of its lines, and the answer of a check to it.
+#[derive(Drop)]
+pub struct Telling {
+    pub told: Told,
+    pub answer: Answer,
+}
+
+/// What came of the lines of a text, and what was noted of its messages.
+#[derive(Drop)]
+pub struct Told {
+    pub story: Story,
+    pub noted: Noted,
+}
+
+/// Tells the story of a script, and gives what was noted of its messages.
 fn tell_script<const C: usize, const M: usize>(
     alloc: Global,
     story: &mut Story,
     script: &Script<C, M>,
     verdicts: &[Verdict; 5],
     look: &Look,
-) -> Result<Vec<u8>, AllocError>
+) -> Result<Noted, AllocError>
     requires { IsWidth C × IsWidth M }
 {
     note_held::<C, M>(story, script, verdicts);
     tell_all::<C, M>(story, script, verdicts);
-    let remarks = if look.remarks {
-        remarks_of::<C, M>(alloc, &story.letters, script, verdicts)?
+    let is_drawn = story.drawing.is_wanted;
+    if look.remarks || is_drawn {
+        notes_of::<C, M>(alloc, &story.letters, script, verdicts, is_drawn)
     } else {
-        Vec::new(alloc)
-    };
-    story.in_order(alloc, look, &remarks)
+        Ok(Noted::new(alloc, false))
+    }
 }
 
-/// What came of each line from line 2 on, in sentences.
-fn sentences_of<const C: usize, const M: usize>(
+/// What came of each line from line 2 on.
+fn told_of<const C: usize, const M: usize>(
     alloc: Global,
     text: &[u8],
     script: &Script<C, M>,
     verdicts: &[Verdict; 5],
     version: u8,
     look: &Look,
-) -> Result<Vec<u8>, AllocError>
+) -> Result<Told, AllocError>
     requires { IsWidth C × IsWidth M }
 {
-    let mut story = Story::new(alloc, text, version, look)?;
-    let said = tell_script::<C, M>(alloc, &mut story, script, verdicts, look);
-    drop(story);
-    said
+    let header = Header {
+        version,
+        client: C,
+        manager: M,
+    };
+    let letters = letters_of(alloc, text, &header)?;
+    let mut story = Story::new(alloc, letters, version, look)?;
+    match tell_script::<C, M>(alloc, &mut story, script, verdicts, look) {
+        Ok(noted) => Ok(Told { story, noted }),
+        Err(error) => {
+            drop(story);
+            Err(error)
+        }
+    }
 }
 
-/// The explanation that has these sentences, of a text whose channels end with these verdicts, from A
-/// to E: behind the sentences stands the answer of a check.
+/// The same, with the answer of a check to a text whose channels end with these verdicts, from A to E.
 fn with_answer(
     alloc: Global,
-    sentences: Vec<u8>,
+    told: Told,
     verdicts: &[Verdict; 5],
     version: u8,
     client: usize,
     manager: usize,
-) -> Result<Explanation, TextFault>
-    ensures text { IfOk result (λ made. made.text.items
-        ≡ sentences.items ++ (far_header version client manager ++ report verdicts.now)) }
-    ensures done { IfOk result (λ made. made.all_done ≡ list_all is_done verdicts.now) }
+) -> Result<Telling, TextFault>
+    ensures text { IfOk result (λ made. made.answer.text.items
+        ≡ far_header version client manager ++ report verdicts.now) }
+    ensures done { IfOk result (λ made. made.answer.all_done ≡ list_all is_done verdicts.now) }
     ensures err { IfErr result (λ fault. fault ≡ NoMemory) }
 {
     let answer = check_of(alloc, verdicts, version, client, manager)?;
-    let mut text = sentences;
-    text.extend_from_slice(&answer.text)?;
-    Ok(Explanation {
-        text,
-        all_done: answer.all_done,
-    })
+    Ok(Telling { told, answer })
 }
 
-/// The explanation of a text of this version that tells this script.
+/// What is told of a text of this version that tells this script.
 fn with_script<const C: usize, const M: usize>(
     alloc: Global,
     text: &[u8],
     script: &Script<C, M>,
     version: u8,
     look: &Look,
-) -> Result<Explanation, TextFault>
+) -> Result<Telling, TextFault>
     requires { IsWidth C × IsWidth M × (length text.now ≤ most_bytes) ×
         TellsScript version text.now script.now }
-    ensures ok { IfOk result (λ made. IsExplanation text.now made.text.items made.all_done) }
+    ensures ok { IfOk result (λ made.
+        IsAnswer text.now true made.answer.text.items made.answer.all_done) }
     ensures err { IfErr result (λ fault. fault ≡ NoMemory) }
 {
     let Ok(verdicts) = verdicts_of::<C, M>(alloc, script) else {
         return Err(TextFault::OutOfMemory);
     };
-    let sentences = sentences_of(alloc, text, script, &verdicts, version, look)?;
-    with_answer(alloc, sentences, &verdicts, version, C, M)
+    let told = told_of(alloc, text, script, &verdicts, version, look)?;
+    with_answer(alloc, told, &verdicts, version, C, M)
 }
 
-/// The explanation of a text whose header names this version and these widths.
+/// What is told of a text whose header names this version and these widths.
 fn with_widths<const C: usize, const M: usize>(
     alloc: Global,
     text: &[u8],
     version: u8,
     look: &Look,
-) -> Result<Explanation, TextFault>
+) -> Result<Telling, TextFault>
     requires { HasHeader text.now version C M × (length text.now ≤ most_bytes) }
-    ensures ok { IfOk result (λ made. IsExplanation text.now made.text.items made.all_done) }
+    ensures ok { IfOk result (λ made.
+        IsAnswer text.now true made.answer.text.items made.answer.all_done) }
     ensures err { IfErr result (IsOfText text.now) }
 {
     let script = read_script::<C, M>(alloc, text, version)?;
-    let explanation = with_script(alloc, text, &script, version, look);
+    let telling = with_script(alloc, text, &script, version, look);
     drop(script);
-    explanation
+    telling
 }
 
 /// The same, for a client of `C` bytes: the manager's width is one of eight.
@@ -179,12 +200,48 @@ fn with_client<const C: usize>(
     version: u8,
     manager: usize,
     look: &Look,
-) -> Result<Explanation, TextFault>
+) -> Result<Telling, TextFault>
     requires { HasHeader text.now version C manager × (length text.now ≤ most_bytes) }
-    ensures ok { IfOk result (λ made. IsExplanation text.now made.text.items made.all_done) }
+    ensures ok { IfOk result (λ made.
+        IsAnswer text.now true made.answer.text.items made.answer.all_done) }
     ensures err { IfErr result (IsOfText text.now) }
 {
     at_width!(manager, with_widths::<C, _>(alloc, text, version, look))
+}
+
+/// What is told of a text.
+///
+/// Refused with `Trace` and the text's first fault and its line, or with `OutOfMemory`.
+pub fn telling_of(alloc: Global, text: &[u8], look: &Look) -> Result<Telling, TextFault>
+    requires few { length text.now ≤ most_bytes }
+    ensures ok { IfOk result (λ made.
+        IsAnswer text.now true made.answer.text.items made.answer.all_done) }
+    ensures err { IfErr result (IsOfText text.now) }
+{
+    let Some(header) = header_of_text(text) else {
+        return Err(TextFault::from(TraceFault {
+            line: 1,
+            kind: TraceKind::Header,
+        }));
+    };
+    at_width!(
+        header.client,
+        with_client::<_>(alloc, text, header.version, header.manager, look)
+    )
+}
+
+/// The explanation that these sentences make with this answer of a check behind them.
+fn explanation_of(sentences: Vec<u8>, answer: &Answer) -> Result<Explanation, AllocError>
+    ensures text { IfOk result (λ made. made.text.items
+        ≡ sentences.items ++ answer.now.text.items) }
+    ensures done { IfOk result (λ made. made.all_done ≡ answer.now.all_done) }
+{
+    let mut text = sentences;
+    text.extend_from_slice(&answer.text)?;
+    Ok(Explanation {
+        text,
+        all_done: answer.all_done,
+    })
 }
 
 /// What came of each line of a text, in the order of its lines, and then the answer that
@@ -200,14 +257,11 @@ pub fn explain_text(alloc: Global, text: &[u8], look: &Look) -> Result<Explanati
     ensures ok { IfOk result (λ made. IsExplanation text.now made.text.items made.all_done) }
     ensures err { IfErr result (IsOfText text.now) }
 {
-    let Some(header) = header_of_text(text) else {
-        return Err(TextFault::from(TraceFault {
-            line: 1,
-            kind: TraceKind::Header,
-        }));
+    let look = Look {
+        page: false,
+        ..*look
     };
-    at_width!(
-        header.client,
-        with_client::<_>(alloc, text, header.version, header.manager, look)
-    )
+    let telling = telling_of(alloc, text, &look)?;
+    let sentences = telling.told.sentences(alloc, &look)?;
+    Ok(explanation_of(sentences, &telling.answer)?)
 }

@@ -1,17 +1,17 @@
 //! The faults of a beat in sentences: which field, what it is, and what it has to be.
 use crate::lane_list::{lanes_of, put_lanes};
-use crate::page::Page;
-use crate::page::Piece::{self, Address, Length, Letter, Number, Text};
 use crate::walk::Walk;
 use crate::words::{name_of, sink_of, source_of};
 use tl_msg::{BeatFault, Kind};
 use tl_remarks::Seen;
+use tl_unreadable::Page;
+use tl_unreadable::Piece::{self, Address, Length, Letter, Number, Text};
 
 /// What is wrong with the opcode.
-fn opcode_fault(letter: char) -> &'static str {
+fn opcode_fault(letter: u8) -> &'static str {
     match letter {
-        'C' => "the opcode is #, but channel # has only the opcodes 0, 1, 2 and 4 to 7",
-        'D' => "the opcode is #, but channel # has only the opcodes 0, 1, 2 and 4 to 6",
+        b'C' => "the opcode is #, but channel # has only the opcodes 0, 1, 2 and 4 to 7",
+        b'D' => "the opcode is #, but channel # has only the opcodes 0, 1, 2 and 4 to 6",
         _ => "the opcode is #, but channel # has only the opcodes 0 to 7",
     }
 }

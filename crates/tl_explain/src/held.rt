@@ -1,9 +1,9 @@
 //! Beats that their channel did not accept.
 use crate::fate::{Fate, fate_at};
-use crate::page::Page;
-use crate::page::Piece::{Letter, Number, Text};
 use tl_msg::{Beat, SourceId, Verdict};
 use tl_remarks::{Cursor, Told, seen_of};
+use tl_unreadable::Page;
+use tl_unreadable::Piece::{Letter, Number, Text};
 
 /// How a beat that breaks a rule fares, and one that waits.
 pub const REFUSED: &str = "was refused";
@@ -27,7 +27,7 @@ impl Stop {
 
     /// Writes the same behind the channel's letter.
     pub fn put_with_letter(&self, out: &mut Page) {
-        out.say(", # since ", &[Letter(self.letter as char)]);
+        out.say(", # since ", &[Letter(self.letter)]);
         self.put(out);
     }
 }

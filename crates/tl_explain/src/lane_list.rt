@@ -1,7 +1,7 @@
 //! Lanes in words.
-use crate::page::Page;
-use crate::page::Piece::{Number, Text};
 use tl_lanes::{MAX_SIZE, Mask, WIDEST, active, is_width};
+use tl_unreadable::Page;
+use tl_unreadable::Piece::{Number, Text};
 
 /// The lanes of a bus of `w` bytes that the bytes of a message of `2^size` bytes at this address stand
 /// on. None where there is no such message or no such bus.

@@ -3,28 +3,32 @@
 #![tactic(auto)]
 
 mod channel;
+mod drawing;
 mod explain;
 mod fate;
 mod faults;
 mod held;
 mod lane_list;
-mod likeness;
+mod letters;
 mod look;
 mod meanings;
-mod page;
 mod picture;
-mod places;
 mod remarks;
 mod requests;
+mod scene;
 mod sentences;
 mod shown;
 mod story;
 mod stream;
-mod unreadable;
 mod walk;
 mod words;
 
+pub use drawing::Drawn;
 pub use explain::{Explanation, explain_text};
 pub use look::{Choice, Look};
 pub use meanings::{FAULTS, meaning};
+pub use picture::{Cell, Picture, ROW};
+pub use scene::{Scene, Ties, scene_of};
+pub use shown::Item;
+pub use story::Fares;
 pub use stream::run_explain;

@@ -6,6 +6,8 @@ use tl_msg::SourceId;
 pub struct Look {
     /// Whether each beat has a picture of its lanes.
     pub lanes: bool,
+    /// Whether a page is asked for in place of text: it shows the lanes of each beat.
+    pub page: bool,
     /// Whether what came of a line is coloured, for a terminal.
     pub colour: bool,
     /// Whether it is said what a protocol monitor would remark on accepted beats.

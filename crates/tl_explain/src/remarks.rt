@@ -1,8 +1,8 @@
 //! Remarks in sentences.
-use crate::page::Piece::{self, Coloured, Id, Name, Number, Text};
-use crate::page::{Colour, Page};
 use tl_msg::Kind;
 use tl_remarks::{Message, Remark, Rule};
+use tl_unreadable::Piece::{self, Coloured, Id, Name, Number, Text};
+use tl_unreadable::{Colour, Page};
 
 /// The params of an Acquire, of a Grant or a probe, and of a report, as the standard spells them.
 const GROWTHS: [&str; 3] = ["NtoB", "NtoT", "BtoT"];

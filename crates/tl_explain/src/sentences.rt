@@ -2,14 +2,14 @@
 use crate::fate::{Fate, fate_at};
 use crate::faults::put_beat_fault;
 use crate::held::{REFUSED, WAITS};
-use crate::page::Piece::{Coloured, Id, Length, Number, Text};
-use crate::page::{Colour, Page, Piece};
 use crate::requests::{Request, Requests};
 use crate::story::{Fares, Story};
 use crate::walk::{Brought, Walk};
 use crate::words::{put_beat, source_of};
 use tl_msg::SideFault;
 use tl_remarks::Seen;
+use tl_unreadable::Piece::{Coloured, Id, Length, Number, Text};
+use tl_unreadable::{Colour, Page, Piece};
 
 /// Writes why a beat of A waits: its source is busy with its last request.
 fn put_busy(out: &mut Page, beat: &Seen, requests: &Requests) {
@@ -94,8 +94,8 @@ fn put_fault(out: &mut Page, beat: &Seen, fault: SideFault, walk: &Walk, request
 /// Writes which beat of its message an accepted beat is, where the message has several.
 fn put_place(out: &mut Page, brought: &Brought) {
     if brought.beats > 1 {
-        let (beat, beats) = (brought.beat as u64, brought.beats as u64);
-        out.say(", beat # of #", &[Number(beat), Number(beats)]);
+        let (beat, beats) = (Number(brought.beat as u64), Number(brought.beats as u64));
+        out.put_all(&[Text(", beat "), beat, Text(" of "), beats]);
     }
 }
 
@@ -111,11 +111,11 @@ fn put_brought(out: &mut Page, brought: &Brought) {
                 &[Number(to.saturating_add(1)), Number(staged), Number(whole)],
             );
         }
-        1 => out.say(", far beat #", &[Number(to)]),
-        _ => out.say(
-            ", far beats # to #",
-            &[Number(from.saturating_add(1)), Number(to)],
-        ),
+        1 => out.put_all(&[Text(", far beat "), Number(to)]),
+        _ => {
+            let first = Number(from.saturating_add(1));
+            out.put_all(&[Text(", far beats "), first, Text(" to "), Number(to)]);
+        }
     }
 }
 
@@ -136,7 +136,8 @@ impl Story {
     fn put_answered(&mut self, beat: &Seen) {
         if let Some(request) = self.requests.answer(beat.source) {
             self.walk.home = request.address;
-            self.page.say(", answers line #", &[Number(request.line)]);
+            let line = Number(request.line);
+            self.page.put_all(&[Text(", answers line "), line]);
         }
     }
 
@@ -144,9 +145,10 @@ impl Story {
     fn put_accepted(&mut self, beat: &Seen) {
         let brought = self.walk.accept(beat);
         put_place(&mut self.page, &brought);
-        self.page.say(": #", &[Coloured(Colour::Green, "accepted")]);
+        let accepted = Coloured(Colour::Green, "accepted");
+        self.page.put_all(&[Text(": "), accepted]);
         put_brought(&mut self.page, &brought);
-        if brought.beat == 1 && beat.letter == 'A' {
+        if brought.beat == 1 && beat.letter == b'A' {
             self.add_request(beat);
         }
         if brought.beat == 1 && beat.answers_request() {
@@ -166,11 +168,11 @@ impl Story {
         match fate {
             Fate::Accepted => self.put_accepted(beat),
             Fate::Refused(fault) => {
-                self.stop(REFUSED);
+                self.stop(Fares::Refused, REFUSED);
                 self.put_held(beat, fault, Coloured(Colour::Red, "refused"));
             }
             Fate::Waiting(fault) => {
-                self.stop(WAITS);
+                self.stop(Fares::Waits, WAITS);
                 self.put_held(beat, fault, Coloured(Colour::Yellow, "waiting"));
             }
             Fate::NotOffered => {
@@ -185,8 +187,8 @@ impl Story {
 
     /// Writes what came of the next near beat, in a line, and says whether it was accepted.
     pub fn put_line(&mut self, beat: &Seen) -> bool {
-        let line = self.walk.cursor.line();
-        self.page.say("line #: ", &[Number(line)]);
+        let line = Number(self.walk.cursor.line());
+        self.page.put_all(&[Text("line "), line, Text(": ")]);
         put_beat(&mut self.page, beat);
         let accepted = self.put_fate(beat);
         self.page.put(Text("\n"));

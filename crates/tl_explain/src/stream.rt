@@ -3,10 +3,10 @@ ghost use Rattle.tl_explain.specs.Explained.{ExplainsText};
 
 use crate::explain::explain_text;
 use crate::look::Look;
-use crate::unreadable::show_fault;
 use std::alloc::Global;
 use std::io::{Read, Write};
 use tl_answer::{TextFault, read_all, write_all};
+use tl_unreadable::show_fault;
 
 /// Reads a trace to the end of the input, and writes what came of each of its lines: true where all
 /// five channels are done.
@@ -33,7 +33,7 @@ pub fn run_explain<R: Read, W: Write>(
         }
         Err(TextFault::Trace(fault)) => {
             let shown = show_fault(alloc, &text, &fault)?;
-            write_all(writer, shown.as_bytes())?;
+            write_all(writer, &shown)?;
             Err(TextFault::Trace(fault))
         }
         Err(fault) => Err(fault),

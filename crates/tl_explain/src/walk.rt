@@ -14,8 +14,9 @@ pub struct Walk {
     pub cursor: Cursor,
     /// The near beats before it.
     pub near: u64,
-    /// The far beats that are whole.
+    /// The far beats that are whole, and those before the message that is open, or was last.
     pub far: usize,
+    pub far_before: usize,
     /// How many beats of the open burst were accepted; 0 where none is open.
     pub index: u32,
     /// How many bytes of the next far beat are there.
@@ -29,10 +30,12 @@ pub struct Walk {
     /// The address by which the bytes of that message stand on lanes: its own, and on D that of the
     /// request that it answers.
     pub home: u64,
+    /// What the last accepted beat brought.
+    pub brought: Brought,
 }
 
 /// What an accepted beat brought.
-#[derive(Clone, Copy)]
+#[derive(Clone, Copy, Default)]
 pub struct Brought {
     /// Which beat of its message it is, from 1, and how many these are.
     pub beat: u32,
@@ -43,6 +46,8 @@ pub struct Brought {
     /// How many bytes of the next far beat are there, of how many.
     pub staged: usize,
     pub whole: usize,
+    /// Which byte of its message is its first one.
+    pub first_byte: usize,
 }
 
 impl Walk {
@@ -52,23 +57,27 @@ impl Walk {
             self.first = *beat;
             self.first_line = self.cursor.line();
             self.home = beat.address;
+            self.far_before = self.far;
         }
         let (near, whole, count) = bytes(beat, self.w, self.v);
         let number = self.index.saturating_add(1);
+        let first_byte = (self.index as usize).saturating_mul(near);
         let from = self.far;
         let come = self.staged.saturating_add(near);
         self.far = from.saturating_add(come / whole);
         self.staged = come % whole;
         self.beats = count;
         self.index = if (number as usize) < count { number } else { 0 };
-        Brought {
+        self.brought = Brought {
             beat: number,
             beats: count,
             from,
             to: self.far,
             staged: self.staged,
             whole,
-        }
+            first_byte,
+        };
+        self.brought
     }
 }
 

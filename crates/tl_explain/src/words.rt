@@ -1,13 +1,13 @@
 //! A beat in words.
-use crate::page::Page;
-use crate::page::Piece::{self, Address, Id, Length, Letter, Name, Opcode, Text};
 use tl_remarks::Seen;
+use tl_unreadable::Page;
+use tl_unreadable::Piece::{self, Address, Id, Length, Letter, Name, Opcode, Text};
 
 /// The message's name, as the standard spells it.
 pub fn name_of(beat: &Seen) -> Piece<'static> {
     match beat.kind {
         Some(kind) => Name(kind),
-        None if beat.letter == 'E' => Text("GrantAck"),
+        None if beat.letter == b'E' => Text("GrantAck"),
         None => Opcode(beat.opcode),
     }
 }
@@ -24,13 +24,14 @@ pub fn sink_of(beat: &Seen) -> Piece<'static> {
 
 /// Writes its channel, its message, and the fields by which one knows it.
 pub fn put_beat(out: &mut Page, beat: &Seen) {
-    out.say("# #", &[Letter(beat.letter), name_of(beat)]);
-    if beat.letter == 'E' {
-        return out.say(", sink #", &[sink_of(beat)]);
+    out.put_all(&[Letter(beat.letter), Text(" "), name_of(beat)]);
+    if beat.letter == b'E' {
+        return out.put_all(&[Text(", sink "), sink_of(beat)]);
     }
-    out.say(", source #, #", &[source_of(beat), Length(beat.size)]);
-    if beat.letter != 'D' {
-        out.say(" at #", &[Address(beat.address)]);
+    let (source, length) = (source_of(beat), Length(beat.size));
+    out.put_all(&[Text(", source "), source, Text(", "), length]);
+    if beat.letter != b'D' {
+        out.put_all(&[Text(" at "), Address(beat.address)]);
     }
     out.put(Text(if beat.denied { ", denied" } else { "" }));
     out.put(Text(if beat.corrupt { ", corrupt" } else { "" }));

@@ -9,7 +9,7 @@ mod notes;
 mod remark;
 mod seen;
 
-pub use lines::{Cursor, letters_of};
-pub use notes::remarks_of;
-pub use remark::{Key, Message, Remark, Rule};
+pub use lines::Cursor;
+pub use notes::notes_of;
+pub use remark::{Key, Message, Noted, Pair, Remark, Rule};
 pub use seen::{Seen, Told, seen_of};

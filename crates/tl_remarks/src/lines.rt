@@ -1,18 +1,4 @@
 //! Where the beats of a channel stand in a text.
-use std::alloc::{AllocError, Global};
-
-/// The letters that the lines of a text begin with, from line 2 on.
-pub fn letters_of(alloc: Global, text: &[u8]) -> Result<Vec<u8>, AllocError> {
-    let mut letters = Vec::new(alloc);
-    let mut begins = false;
-    for byte in text {
-        if begins {
-            letters.push(*byte)?;
-        }
-        begins = *byte == b'\n';
-    }
-    Ok(letters)
-}
 
 /// How far one has come through the lines of one channel.
 #[derive(Clone, Copy, Default)]

@@ -1,10 +1,10 @@
 //! From the beats of a script to remarks.
 ghost use Rattle.tl_lanes.specs.Lanes.{IsWidth};
 
-use crate::exchange::{Exchange, push_remark};
+use crate::exchange::Exchange;
 use crate::fits::N_TO_B;
 use crate::lines::Cursor;
-use crate::remark::{Key, Message, Remark, Rule};
+use crate::remark::{Key, Message, Noted, Rule};
 use crate::seen::{Seen, Told, seen_of};
 use std::alloc::{AllocError, Global};
 use std::mem;
@@ -22,7 +22,7 @@ struct Notes {
     releases: Exchange,
     /// Grants of D and their GrantAck on E, by sink.
     grants: Exchange,
-    remarks: Vec<Remark>,
+    noted: Noted,
 }
 
 /// The message of a beat, with this id and address to know it by.
@@ -46,13 +46,13 @@ fn rule_alone(beat: &Seen) -> Option<Rule> {
 }
 
 impl Notes {
-    fn new(alloc: Global) -> Notes {
+    fn new(alloc: Global, has_pairs: bool) -> Notes {
         Notes {
             requests: Exchange::new(alloc),
             probes: Exchange::new(alloc),
             releases: Exchange::new(alloc),
             grants: Exchange::new(alloc),
-            remarks: Vec::new(alloc),
+            noted: Noted::new(alloc, has_pairs),
         }
     }
 
@@ -74,20 +74,17 @@ impl Notes {
     fn add(&mut self, beat: &Seen, line: u64) -> Result<(), AllocError> {
         let by_source = message_of(beat, line, beat.source, 0);
         let by_address = message_of(beat, line, beat.source, beat.address);
-        push_remark(
-            &mut self.remarks,
-            rule_alone(beat),
-            &by_source,
-            &Message::default(),
-        )?;
+        let alone = rule_alone(beat);
+        self.noted
+            .push_remark(alone, &by_source, &Message::default())?;
         match (beat.letter, beat.kind) {
-            ('A', _) => self.requests.asks.push(by_source)?,
-            ('B', _) => self.probes.asks.push(by_address)?,
-            ('C', Some(Kind::Release | Kind::ReleaseData)) => {
+            (b'A', _) => self.requests.asks.push(by_source)?,
+            (b'B', _) => self.probes.asks.push(by_address)?,
+            (b'C', Some(Kind::Release | Kind::ReleaseData)) => {
                 self.releases.asks.push(by_source)?
             }
-            ('C', _) => self.probes.answers.push(by_address)?,
-            ('D', _) => self.add_of_d(beat, line)?,
+            (b'C', _) => self.probes.answers.push(by_address)?,
+            (b'D', _) => self.add_of_d(beat, line)?,
             _ => self
                 .grants
                 .answers
@@ -101,14 +98,12 @@ impl Notes {
         if begins {
             self.add(beat, line)?;
         }
-        let is_wrong = beat.denied && beat.carries_data() && !beat.corrupt;
-        let rule = if is_wrong {
-            Some(Rule::DeniedData)
-        } else {
-            None
-        };
-        let message = message_of(beat, line, beat.source, 0);
-        push_remark(&mut self.remarks, rule, &message, &Message::default())
+        if beat.denied && beat.carries_data() && !beat.corrupt {
+            let message = message_of(beat, line, beat.source, 0);
+            let rule = Some(Rule::DeniedData);
+            self.noted.push_remark(rule, &message, &Message::default())?;
+        }
+        Ok(())
     }
 
     /// Remarks on all exchanges. A channel of which not all beats were accepted may lack messages.
@@ -116,11 +111,11 @@ impl Notes {
         let [a, b, c, d, e] = verdicts;
         let (a, b, c) = (is_whole(a), is_whole(b), is_whole(c));
         let (d, e) = (is_whole(d), is_whole(e));
-        let remarks = &mut self.remarks;
-        self.requests.judge(alloc, a, d, remarks)?;
-        self.probes.judge(alloc, b, c, remarks)?;
-        self.releases.judge(alloc, c, d, remarks)?;
-        self.grants.judge(alloc, d, e, remarks)
+        let noted = &mut self.noted;
+        self.requests.judge(alloc, a, d, noted)?;
+        self.probes.judge(alloc, b, c, noted)?;
+        self.releases.judge(alloc, c, d, noted)?;
+        self.grants.judge(alloc, d, e, noted)
     }
 }
 
@@ -136,7 +131,10 @@ fn fill<const C: usize, const M: usize>(
 {
     add_script::<C, M>(notes, letters, script, verdicts)?;
     notes.judge(alloc, verdicts)?;
-    notes.remarks.sort_by_key(|remark| remark.message.line)
+    notes
+        .noted
+        .remarks
+        .sort_by_key(|remark| remark.message.line)
 }
 
 /// Whether all beats of a channel were accepted.
@@ -198,24 +196,26 @@ fn add_script<const C: usize, const M: usize>(
 }
 
 /// The remarks on the accepted messages of a script whose channels end with these verdicts, from A to E,
-/// in the order of their lines. `letters` are those of the text that tells the script (`letters_of`).
+/// in the order of their lines; and, where `has_pairs` says so, the pairs of a message and its answer, those
+/// of A, B, C and D in this order. `letters` are those of the text that tells the script.
 ///
 /// Messages and answers are matched by their order within source, sink, or source and address. That one
 /// has no partner is remarked only where no beat of the partner's channel was held back.
-pub fn remarks_of<const C: usize, const M: usize>(
+pub fn notes_of<const C: usize, const M: usize>(
     alloc: Global,
     letters: &[u8],
     script: &Script<C, M>,
     verdicts: &[Verdict; 5],
-) -> Result<Vec<Remark>, AllocError>
+    has_pairs: bool,
+) -> Result<Noted, AllocError>
     requires { IsWidth C × IsWidth M }
 {
-    let mut notes = Notes::new(alloc);
+    let mut notes = Notes::new(alloc, has_pairs);
     let filled = fill::<C, M>(&mut notes, alloc, letters, script, verdicts);
-    let remarks = mem::replace(&mut notes.remarks, Vec::new(alloc));
+    let noted = mem::replace(&mut notes.noted, Noted::new(alloc, false));
     drop(notes);
     match filled {
-        Ok(()) => Ok(remarks),
+        Ok(()) => Ok(noted),
         Err(error) => Err(error),
     }
 }

@@ -1,4 +1,5 @@
 //! What is remarked.
+use std::alloc::{AllocError, Global};
 use tl_msg::Kind;
 
 /// By what a message and its answer know each other: by source or sink, and those of B and C by their
@@ -48,4 +49,56 @@ pub struct Remark {
     pub rule: Rule,
     pub message: Message,
     pub partner: Message,
+}
+
+/// A message and its answer, by the lines of their first beats.
+#[derive(Clone, Copy)]
+pub struct Pair {
+    pub ask: u64,
+    pub answer: u64,
+}
+
+/// What was found of the messages of a trace.
+#[derive(Drop)]
+pub struct Noted {
+    pub remarks: Vec<Remark>,
+    /// Messages and their answers, where these are asked for.
+    pub pairs: Vec<Pair>,
+    has_pairs: bool,
+}
+
+impl Noted {
+    /// Nothing. Where `has_pairs` says so, messages and their answers will be noted.
+    pub fn new(alloc: Global, has_pairs: bool) -> Noted {
+        Noted {
+            remarks: Vec::new(alloc),
+            pairs: Vec::new(alloc),
+            has_pairs,
+        }
+    }
+
+    /// Adds a remark, where there is one.
+    pub fn push_remark(
+        &mut self,
+        rule: Option<Rule>,
+        message: &Message,
+        partner: &Message,
+    ) -> Result<(), AllocError> {
+        if let Some(rule) = rule {
+            self.remarks.push(Remark {
+                rule,
+                message: *message,
+                partner: *partner,
+            })?;
+        }
+        Ok(())
+    }
+
+    /// Adds a message and its answer, where these are asked for.
+    pub fn push_pair(&mut self, ask: u64, answer: u64) -> Result<(), AllocError> {
+        if self.has_pairs {
+            self.pairs.push(Pair { ask, answer })?;
+        }
+        Ok(())
+    }
 }

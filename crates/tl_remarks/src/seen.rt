@@ -13,7 +13,7 @@ pub struct Seen {
     /// The version of its trace, which says how many digits an id has.
     pub version: u8,
     /// `A` to `E`.
-    pub letter: char,
+    pub letter: u8,
     /// The message of the opcode, where the channel has one. None on E.
     pub kind: Option<Kind>,
     pub opcode: u8,
@@ -52,26 +52,26 @@ macro_rules! seen_with {
 
 impl Told for ChA {
     fn seen(head: &HeadA) -> Seen {
-        seen_with!('A', Kind::on_a, head)
+        seen_with!(b'A', Kind::on_a, head)
     }
 }
 
 impl Told for ChB {
     fn seen(head: &HeadB) -> Seen {
-        seen_with!('B', Kind::on_b, head)
+        seen_with!(b'B', Kind::on_b, head)
     }
 }
 
 impl Told for ChC {
     fn seen(head: &HeadC) -> Seen {
-        seen_with!('C', Kind::on_c, head)
+        seen_with!(b'C', Kind::on_c, head)
     }
 }
 
 impl Told for ChD {
     fn seen(head: &HeadD) -> Seen {
         Seen {
-            letter: 'D',
+            letter: b'D',
             kind: Kind::on_d(head.opcode),
             opcode: head.opcode,
             param: head.param,
@@ -87,7 +87,7 @@ impl Told for ChD {
 impl Told for ChE {
     fn seen(head: &HeadE) -> Seen {
         Seen {
-            letter: 'E',
+            letter: b'E',
             sink: head.sink,
             ..Seen::default()
         }
@@ -112,12 +112,12 @@ impl Seen {
 
     /// Whether its channel has masks.
     pub fn is_masked(&self) -> bool {
-        matches!(self.letter, 'A' | 'B')
+        matches!(self.letter, b'A' | b'B')
     }
 
     /// Whether it is a response that answers a request of A: any on D but ReleaseAck.
     pub fn answers_request(&self) -> bool {
-        self.letter == 'D' && !matches!(self.kind, Some(Kind::ReleaseAck))
+        self.letter == b'D' && !matches!(self.kind, Some(Kind::ReleaseAck))
     }
 
     /// How many beats its message has on a bus of `w` bytes.

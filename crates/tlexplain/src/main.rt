@@ -7,10 +7,11 @@ mod words;
 use clap::Error;
 use std::alloc::AllocError;
 use std::fs::File;
-use std::io::{self, IsTerminal};
+use std::io::{self, IsTerminal, Read};
 use std::process::ExitCode;
 use tl_answer::{FaultLine, TextFault, exit_status};
 use tl_explain::{FAULTS, Look, meaning, run_explain};
+use tl_page::run_page;
 use words::{Wish, not_utf8, wish_of};
 
 /// The program's name, as its lines on standard error begin with it.
@@ -74,15 +75,24 @@ fn has_colours(rt: &HostRuntime) -> bool {
         }
 }
 
+/// Explains the trace that a reader gives, in text or by a page.
+fn explain_from<R: Read>(rt: &HostRuntime, reader: &mut R, look: &Look) -> Result<bool, TextFault> {
+    if look.page {
+        run_page(rt.alloc(), reader, &mut rt.stdout(), look)
+    } else {
+        run_explain(rt.alloc(), reader, &mut rt.stdout(), look)
+    }
+}
+
 /// Explains the trace of a file, or that on standard input.
 fn explain(rt: &HostRuntime, file: Option<&str>, look: &Look) -> Result<bool, TextFault> {
     let Some(file) = file else {
-        return run_explain(rt.alloc(), &mut rt.stdin(), &mut rt.stdout(), look);
+        return explain_from(rt, &mut rt.stdin(), look);
     };
     let Ok(mut file) = File::open(rt, file) else {
         return Err(TextFault::Read);
     };
-    run_explain(rt.alloc(), &mut file, &mut rt.stdout(), look)
+    explain_from(rt, &mut file, look)
 }
 
 /// Does what these words ask for.

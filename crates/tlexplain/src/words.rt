@@ -71,6 +71,11 @@ fn arguments<'a>(alloc: Global) -> Result<Vec<Arg<'a>>, AllocError> {
             "no-remarks",
             "Leaves out what a protocol monitor would remark on accepted beats"
         ),
+        flag(
+            alloc,
+            "html",
+            "Writes a page for a browser, with the lanes of each beat, in place of text"
+        ),
         flag(alloc, "faults", faults),
     ]?;
     Ok(arguments)
@@ -166,6 +171,7 @@ pub fn wish_of<'a>(alloc: Global, words: &'a [&'a str]) -> Result<Wish<'a>, Erro
     }
     let look = Look {
         lanes: matches.get_flag("lanes"),
+        page: matches.get_flag("html"),
         colour: false,
         remarks: !matches.get_flag("no-remarks"),
         choice: choice_of(alloc, &matches)?,

@@ -1,6 +1,5 @@
-use Rattle.std.proofs.Common.{lit<, ◌++◌, ap, refl, ◌∙◌}
+use Rattle.std.proofs.Common.{lit<, ap, ◌∙◌}
 use Rattle.tl_settle.specs.Outcomes.{verdicts}
-use Rattle.tl_answer.specs.Answer.{far_header, report}
 use Rattle.tl_answer.proofs.Answering.{checks-text, of-both, near-is}
 use Rattle.tl_answer.proofs.Lengths.{lines-few, short}
 use Rattle.tl_explain.proofs.explain.with_script.Goals as goal
@@ -12,10 +11,7 @@ verdicts_of-requires g c =
     (lit< tt, (c.requires.0, (c.requires.1, short g.row.C g.row.M told.lines few _ told.script)))
 
 pub returns-clause-ok : goal.returns-clause-ok
-returns-clause-ok g c = of-both _ _ _ (λ made text-is done-is. record {
-  sentences = c.in_ok-sentences.sentences.items;
-  answer = far_header c.args.version g.row.C g.row.M ++ report c.in-Ok.verdicts;
-  ends = text-is;
-  answered = checks-text c.args.version g.row.C g.row.M c.requires.3.lines _ c.requires.3.told c.in-Ok.verdicts
-      (c.in-Ok.ensures ∙ ap (λ bs. verdicts bs) (near-is c.requires.3.lines _ c.requires.3.script)) _ refl _ done-is;
-}) c.with_answer.result c.with_answer.ensures.text c.with_answer.ensures.done
+returns-clause-ok g c = of-both _ _ _ (λ made text-is done-is.
+    checks-text c.args.version g.row.C g.row.M c.requires.3.lines _ c.requires.3.told c.in-Ok.verdicts
+    (c.in-Ok.ensures ∙ ap (λ bs. verdicts bs) (near-is c.requires.3.lines _ c.requires.3.script)) _ text-is _ done-is)
+    c.with_answer.result c.with_answer.ensures.text c.with_answer.ensures.done

@@ -40,7 +40,7 @@ fn byte_name(byte: u8) -> Option<&'static str> {
 fn put_byte(out: &mut Page, byte: u8) {
     match byte_name(byte) {
         Some(name) => out.put(Text(name)),
-        None if byte.is_ascii_graphic() => out.say("'#'", &[Letter(byte as char)]),
+        None if byte.is_ascii_graphic() => out.say("'#'", &[Letter(byte)]),
         None => out.say("the byte #, which is no ASCII", &[Byte(byte)]),
     }
 }

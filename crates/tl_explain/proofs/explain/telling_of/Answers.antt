@@ -2,7 +2,7 @@ use Rattle.std.proofs.Common.{rules, sym, subst}
 use Rattle.tl_trace.specs.Faults.{HasHeader}
 use Rattle.tl_answer.specs.Texts.{IsOfText}
 use Rattle.tl_answer.proofs.Headers.{last_client, no_header}
-use Rattle.tl_explain.proofs.explain.explain_text.Goals as goal
+use Rattle.tl_explain.proofs.explain.telling_of.Goals as goal
 
 pub returns-in_default-clause-err : goal.returns-in_default-clause-err
 returns-in_default-clause-err c =

@@ -47,7 +47,7 @@ fn form_on<const W: usize>(letter: u8, version: u8) -> ArrayVec<u8, LONGEST_LINE
 }
 
 /// The form of the lines with this letter in a trace with this header.
-fn form_of(letter: u8, header: &Header) -> ArrayVec<u8, LONGEST_LINE> {
+pub fn form_of(letter: u8, header: &Header) -> ArrayVec<u8, LONGEST_LINE> {
     let width = match letter {
         b'B' | b'D' => header.manager,
         _ => header.client,
@@ -153,8 +153,8 @@ fn put_shown(out: &mut Page, line: &[u8]) {
     out.put(Text("    "));
     for byte in line.get(..SHOWN).unwrap_or(line) {
         out.put(Letter(match *byte {
-            32..=126 => *byte as char,
-            _ => '?',
+            32..=126 => *byte,
+            _ => b'?',
         }));
     }
     out.put(Text("\n"));
@@ -211,7 +211,7 @@ fn put_formed(
         TraceKind::Length => put_length(out, alloc, text, line, form, at)?,
         TraceKind::Range => {
             let largest = trial.largest_digit(alloc, at);
-            out.say("expected a digit from 0 to #", &[Letter(largest as char)]);
+            out.say("expected a digit from 0 to #", &[Letter(largest)]);
             put_field(out, form, at);
             put_found(out, line, at);
         }
@@ -231,7 +231,7 @@ fn form_at(text: &[u8], number: u64, line: &[u8]) -> ArrayVec<u8, LONGEST_LINE> 
 
 /// The faulty line of a text, with a mark below the place of its fault, and what was expected there;
 /// below the mark the form of the line, where it has another length.
-pub fn show_fault(alloc: Global, text: &[u8], fault: &TraceFault) -> Result<String, AllocError> {
+pub fn show_fault(alloc: Global, text: &[u8], fault: &TraceFault) -> Result<Vec<u8>, AllocError> {
     let line = line_at(text, fault.line);
     let form = form_at(text, fault.line, line);
     let mut out = Page::new(alloc, false);

@@ -72,7 +72,7 @@ fn put_width(
             )
         };
         if fits(alloc, &other, letter, line)? {
-            let pieces = [Letter(letter as char), Text(side), Number(width as u64)];
+            let pieces = [Letter(letter), Text(side), Number(width as u64)];
             out.say("; it has the form of a line of # for # #", &pieces);
             if width.saturating_mul(8) == said {
                 out.put(Text(": the widths of the header are bytes, and not bits"));
@@ -92,10 +92,7 @@ fn put_channel(
 ) -> Result<bool, AllocError> {
     for letter in LETTERS {
         if fits(alloc, header, *letter, line)? {
-            out.say(
-                "; it has the form of a line of #",
-                &[Letter(*letter as char)],
-            );
+            out.say("; it has the form of a line of #", &[Letter(*letter)]);
             return Ok(true);
         }
     }

@@ -1,0 +1,92 @@
+//! Beats with their lanes, for a page to draw.
+use crate::picture::Picture;
+use std::alloc::Global;
+use tl_remarks::Seen;
+
+/// A beat that is drawn.
+#[derive(Clone, Copy, Default)]
+pub struct Drawn {
+    /// Whether it arrives, in place of being sent.
+    pub is_far: bool,
+    pub beat: Seen,
+    /// The line of the first beat of its message; 0 where it was not accepted.
+    pub message: u64,
+    /// Which byte of its message is its first one.
+    pub first_byte: usize,
+    /// The address by which the bytes of its message stand on lanes. None where that is not known.
+    pub home: Option<u64>,
+    /// Where its lanes stand among those of all beats.
+    pub(crate) lanes_from: usize,
+    pub(crate) lanes_to: usize,
+    /// Where its line stands among those of all beats.
+    pub(crate) line_from: usize,
+    pub(crate) line_to: usize,
+}
+
+/// The beats that are drawn, near beats each before the far beats that they completed.
+#[derive(Drop)]
+pub struct Drawing {
+    /// Whether beats are drawn at all.
+    pub is_wanted: bool,
+    beats: Vec<Drawn>,
+    /// The lanes of all beats, and their lines.
+    lanes: Vec<u8>,
+    lines: Vec<u8>,
+    pub lacks_a_piece: bool,
+}
+
+impl Drawing {
+    /// No beats.
+    pub fn new(alloc: Global, is_wanted: bool) -> Drawing {
+        Drawing {
+            is_wanted,
+            beats: Vec::new(alloc),
+            lanes: Vec::new(alloc),
+            lines: Vec::new(alloc),
+            lacks_a_piece: false,
+        }
+    }
+
+    /// How many beats there are.
+    pub fn len(&self) -> usize {
+        self.beats.len()
+    }
+
+    /// Adds a beat with these lanes and this line, which ends with an LF.
+    pub fn add(&mut self, drawn: &Drawn, lanes: &[u8], line: &[u8]) {
+        let (lanes_from, line_from) = (self.lanes.len(), self.lines.len());
+        let has_lanes = self.lanes.extend_from_slice(lanes).is_ok();
+        let has_line = self.lines.extend_from_slice(line.trim_ascii_end()).is_ok();
+        let beat = Drawn {
+            lanes_from,
+            lanes_to: self.lanes.len(),
+            line_from,
+            line_to: self.lines.len(),
+            ..*drawn
+        };
+        let is_there = self.beats.push(beat).is_ok();
+        self.lacks_a_piece |= !(has_lanes & has_line & is_there);
+    }
+
+    /// The near beat at this place, and the far beats that it completed.
+    pub fn beats(&self, at: usize) -> &[Drawn] {
+        let rest = self.beats.get(at..).unwrap_or(&[]);
+        for end in 1..rest.len() {
+            if !rest[end].is_far {
+                return rest.get(..end).unwrap_or(rest);
+            }
+        }
+        rest
+    }
+
+    /// The line of a beat, without its LF.
+    pub fn line(&self, beat: &Drawn) -> &[u8] {
+        self.lines.get(beat.line_from..beat.line_to).unwrap_or(&[])
+    }
+
+    /// The lanes of a beat, where it has a mask or data and it is known which of them bytes stand on.
+    pub fn picture(&self, beat: &Drawn) -> Option<Picture<'_>> {
+        let lanes = self.lanes.get(beat.lanes_from..beat.lanes_to);
+        Picture::of(&beat.beat, lanes.unwrap_or(&[]), beat.home?)
+    }
+}

@@ -1,0 +1,75 @@
+//! A page that is written piece by piece.
+use crate::escape::put_escaped;
+use itoa::Buffer;
+use std::alloc::{AllocError, Global};
+
+/// The digits of a byte.
+const DIGITS: &[u8; 16] = b"0123456789abcdef";
+
+/// A page that is written piece by piece. Whether memory was there for all pieces is asked once, at the
+/// end.
+#[derive(Drop)]
+pub struct Html {
+    text: Vec<u8>,
+    lacks_a_piece: bool,
+}
+
+impl Html {
+    /// An empty page.
+    pub fn new(alloc: Global) -> Html {
+        Html {
+            text: Vec::new(alloc),
+            lacks_a_piece: false,
+        }
+    }
+
+    /// The whole page, where memory was there for all of it.
+    pub fn into_text(self) -> Result<Vec<u8>, AllocError> {
+        if self.lacks_a_piece {
+            return Err(AllocError);
+        }
+        Ok(self.text)
+    }
+
+    /// Writes markup, which is this crate's own.
+    pub fn put(&mut self, markup: &'static str) {
+        if self.text.extend_from_slice(markup.as_bytes()).is_err() {
+            self.lacks_a_piece = true;
+        }
+    }
+
+    /// Writes text, whatever it is.
+    pub fn text(&mut self, text: &str) {
+        if put_escaped(&mut self.text, text.as_bytes()).is_err() {
+            self.lacks_a_piece = true;
+        }
+    }
+
+    /// Writes a number in decimal digits.
+    pub fn number(&mut self, number: u64) {
+        let mut buffer = Buffer::new();
+        self.text(buffer.format(number));
+    }
+
+    /// Writes the two digits of a byte.
+    pub fn byte(&mut self, byte: u8) {
+        let digits = [DIGITS[(byte / 16) as usize], DIGITS[(byte % 16) as usize]];
+        if self.text.extend_from_slice(&digits).is_err() {
+            self.lacks_a_piece = true;
+        }
+    }
+
+    /// Writes an attribute that has a number, behind a space.
+    pub fn attribute(&mut self, name: &'static str, number: u64) {
+        self.put(" ");
+        self.put(name);
+        self.put("=\"");
+        self.number(number);
+        self.put("\"");
+    }
+}
+
+/// A text of bytes that are ASCII; else nothing.
+pub fn ascii(text: &[u8]) -> &str {
+    std::str::from_utf8(text).unwrap_or("")
+}

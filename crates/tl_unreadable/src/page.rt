@@ -1,0 +1,231 @@
+//! Text that is written piece by piece.
+use itoa::Buffer;
+use std::alloc::{AllocError, Global};
+use tl_lanes::MAX_SIZE;
+use tl_msg::{Kind, SourceId};
+use tl_trace::id_digits;
+
+/// The colours of a terminal by their numbers.
+#[derive(Clone, Copy)]
+pub enum Colour {
+    Red = 31,
+    Green = 32,
+    Yellow = 33,
+}
+
+/// A piece of a sentence.
+#[derive(Clone, Copy)]
+pub enum Piece<'a> {
+    Text(&'a str),
+    Bytes(&'a [u8]),
+    /// A text in a colour, where the page has colours.
+    Coloured(Colour, &'a str),
+    Letter(u8),
+    Number(u64),
+    /// A number behind a blank, with room for so many digits.
+    Column(usize, usize),
+    /// The two digits of a byte.
+    Byte(u8),
+    Address(u64),
+    /// A source or a sink, with the digits that it has in a trace of this version.
+    Id(SourceId, u8),
+    /// How long a message of this size is.
+    Length(u8),
+    /// The name of a message, as the standard spells it.
+    Name(Kind),
+    /// An opcode of which there is no message.
+    Opcode(u8),
+}
+
+use Piece::{
+    Address, Byte, Bytes, Coloured, Column, Id, Length, Letter, Name, Number, Opcode, Text,
+};
+
+/// The hexadecimal digits, and how many of them a number has at most.
+const DIGITS: &[u8; 16] = b"0123456789abcdef";
+
+const MOST_DIGITS: usize = 16;
+
+/// The name of a message, as the standard spells it.
+fn kind_name(kind: Kind) -> &'static str {
+    match kind {
+        Kind::PutFullData => "PutFullData",
+        Kind::PutPartialData => "PutPartialData",
+        Kind::ArithmeticData => "ArithmeticData",
+        Kind::LogicalData => "LogicalData",
+        Kind::Get => "Get",
+        Kind::Intent => "Intent",
+        Kind::AcquireBlock => "AcquireBlock",
+        Kind::AcquirePerm => "AcquirePerm",
+        Kind::ProbeBlock => "ProbeBlock",
+        Kind::ProbePerm => "ProbePerm",
+        Kind::AccessAck => "AccessAck",
+        Kind::AccessAckData => "AccessAckData",
+        Kind::HintAck => "HintAck",
+        Kind::ProbeAck => "ProbeAck",
+        Kind::ProbeAckData => "ProbeAckData",
+        Kind::Release => "Release",
+        Kind::ReleaseData => "ReleaseData",
+        Kind::Grant => "Grant",
+        Kind::GrantData => "GrantData",
+        Kind::ReleaseAck => "ReleaseAck",
+    }
+}
+
+/// Text that is written piece by piece. Whether memory was there for all pieces is asked once, at the
+/// end.
+#[derive(Drop)]
+pub struct Page {
+    text: Vec<u8>,
+    has_colours: bool,
+    pub lacks_a_piece: bool,
+}
+
+impl Page {
+    /// No text. Coloured pieces have their colours where this says so.
+    pub fn new(alloc: Global, has_colours: bool) -> Page {
+        Page {
+            text: Vec::new(alloc),
+            has_colours,
+            lacks_a_piece: false,
+        }
+    }
+
+    /// The whole text, where memory was there for all of it.
+    pub fn into_text(self) -> Result<Vec<u8>, AllocError> {
+        if self.lacks_a_piece {
+            return Err(AllocError);
+        }
+        Ok(self.text)
+    }
+
+    /// Writes bytes.
+    fn put_bytes(&mut self, bytes: &[u8]) {
+        if self.text.extend_from_slice(bytes).is_err() {
+            self.lacks_a_piece = true;
+        }
+    }
+
+    /// Writes a number in decimal digits, behind blanks where it has fewer than so many.
+    fn put_decimal(&mut self, number: u64, room: usize) {
+        let mut buffer = Buffer::new();
+        let digits = buffer.format(number).as_bytes();
+        for _ in digits.len()..room {
+            self.put_bytes(b" ");
+        }
+        self.put_bytes(digits);
+    }
+
+    /// Writes a number in hexadecimal digits, so many at least.
+    fn put_hex(&mut self, number: u64, least: usize) {
+        let mut digits = [b'0'; MOST_DIGITS];
+        let (mut rest, mut first) = (number, 0);
+        for back in 0..MOST_DIGITS {
+            let at = MOST_DIGITS - 1 - back;
+            digits[at] = DIGITS[(rest % 16) as usize];
+            rest /= 16;
+            if rest == 0 {
+                first = at;
+                break;
+            }
+        }
+        let first = first.min(MOST_DIGITS.saturating_sub(least));
+        self.put_bytes(digits.get(first..).unwrap_or(&[]));
+    }
+
+    /// Writes a word in a colour.
+    fn put_coloured(&mut self, colour: Colour, word: &str) {
+        self.put_bytes(b"\x1b[");
+        self.put_decimal(colour as u64, 0);
+        self.put_bytes(b"m");
+        self.put_bytes(word.as_bytes());
+        self.put_bytes(b"\x1b[0m");
+    }
+
+    /// Writes how long a message of this size is.
+    fn put_length(&mut self, size: u8) {
+        match size {
+            0 => self.put_bytes(b"1 byte"),
+            1..=MAX_SIZE => {
+                self.put_decimal(1u64 << size, 0);
+                self.put_bytes(b" bytes");
+            }
+            _ => {
+                self.put_bytes(b"2^");
+                self.put_decimal(size as u64, 0);
+                self.put_bytes(b" bytes");
+            }
+        }
+    }
+
+    /// Writes a piece.
+    pub fn put(&mut self, piece: Piece<'_>) {
+        match piece {
+            Coloured(colour, word) if self.has_colours => self.put_coloured(colour, word),
+            Text(word) | Coloured(_, word) => self.put_bytes(word.as_bytes()),
+            Bytes(bytes) => self.put_bytes(bytes),
+            Letter(letter) => self.put_bytes(&[letter]),
+            Number(number) => self.put_decimal(number, 0),
+            Column(number, digits) => {
+                self.put_bytes(b" ");
+                self.put_decimal(number as u64, digits);
+            }
+            Byte(byte) => self.put_hex(byte as u64, 2),
+            Address(address) => {
+                self.put_bytes(b"0x");
+                self.put_hex(address, 1);
+            }
+            Id(id, version) => self.put_hex(id as u64, id_digits(version)),
+            Length(size) => self.put_length(size),
+            Name(kind) => self.put_bytes(kind_name(kind).as_bytes()),
+            Opcode(opcode) => {
+                self.put_bytes(b"opcode ");
+                self.put_decimal(opcode as u64, 0);
+            }
+        }
+    }
+
+    /// Writes pieces, one behind the other.
+    pub fn put_all(&mut self, pieces: &[Piece<'_>]) {
+        for piece in pieces {
+            self.put(*piece);
+        }
+    }
+
+    /// Writes a sentence, in which each `#` stands for the next of these pieces.
+    pub fn say(&mut self, sentence: &str, pieces: &[Piece<'_>]) {
+        let mut rest = sentence;
+        for piece in pieces {
+            let Some((before, after)) = rest.split_once("#") else {
+                break;
+            };
+            self.put(Text(before));
+            self.put(*piece);
+            rest = after;
+        }
+        self.put(Text(rest));
+    }
+
+    /// How many bytes were written.
+    pub fn len(&self) -> usize {
+        self.text.len()
+    }
+
+    /// Makes room for so many bytes more.
+    pub fn reserve(&mut self, bytes: usize) {
+        if self.text.reserve(bytes).is_err() {
+            self.lacks_a_piece = true;
+        }
+    }
+
+    /// What is written from here to there.
+    pub fn part(&self, from: usize, to: usize) -> &[u8] {
+        self.text.get(from..to).unwrap_or(&[])
+    }
+
+    /// Writes what another page has from here to there.
+    pub fn put_part(&mut self, page: &Page, from: usize, to: usize) {
+        self.lacks_a_piece |= page.lacks_a_piece;
+        self.put_bytes(page.part(from, to));
+    }
+}
