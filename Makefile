@@ -10,17 +10,15 @@
 # PAIRS are the pairs of widths that the installed library has, as PAIRS="8:4 4:8"; 8:4 where they are left out. PROGRAMS=no leaves out the
 # programs, whose proofs take longest.
 
-PREFIX ?= /usr/local
+override PREFIX := $(or $(PREFIX),/usr/local)
 PAIRS ?= 8:4
 PROGRAMS ?= yes
 CFLAGS ?= -O2
 VERSION := $(shell sed -n 's/^.define TL_VERSION \([0-9]*\)$$/\1/p' include/tlbridge.h)
 
-comma := ,
 underscored := $(subst :,_,$(PAIRS))
 archives := $(underscored:%=out/libtlbridge_%.a) out/libtlbridge_trace.a
 proved := crates.txt bench/make-library $(shell find $(wildcard crates/*/src crates/*/specs crates/*/proofs) -type f)
-pairs_line := \#define TLBRIDGE_PAIRS(PAIR) $(foreach pair,$(underscored),PAIR($(subst _,$(comma) ,$(pair))))
 root := $(DESTDIR)$(PREFIX)
 share := $(root)/share/tlbridge
 
@@ -43,14 +41,11 @@ out/libtlbridge_%.a: $(proved)
 
 # One library of all pairs, the answer to a trace, the scoreboard, and what the SystemVerilog package imports. The list of pairs is written
 # anew where it is another one.
-out/tlbridge_pairs.h: FORCE
+out/pairs: FORCE
 	@mkdir -p out
-	@echo '$(pairs_line)' | cmp -s - $@ || echo '$(pairs_line)' > $@
+	@echo "$(underscored)" | cmp -s - $@ || echo "$(underscored)" > $@
 
-out/tlbridge_scoreboard.o: sv/tlbridge_scoreboard.c include/tlbridge.h include/tlbridge_scoreboard.h out/tlbridge_pairs.h
-	$(CC) -std=c11 $(CFLAGS) -fPIC -Iinclude -Iout -c $< -o $@
-
-out/tlbridge_dpi.o: sv/tlbridge_dpi.c include/tlbridge.h packaging/dpi/svdpi.h out/tlbridge_pairs.h
+out/tlbridge_%.o: sv/tlbridge_%.c sv/tlbridge_calls.h include/tlbridge.h include/tlbridge_scoreboard.h packaging/dpi/svdpi.h out/pairs
 	$(CC) -std=c11 $(CFLAGS) -fPIC -Iinclude -Ipackaging/dpi $(underscored:%=-DTLBRIDGE_%) -c $< -o $@
 
 glue := out/tlbridge_scoreboard.o out/tlbridge_dpi.o
@@ -73,7 +68,7 @@ install: out/libtlbridge.a out/libtlbridge.so $(if $(filter yes,$(PROGRAMS)),ins
 	$(fill) packaging/tlbridge.pc > $(root)/lib/pkgconfig/tlbridge.pc
 	$(fill) packaging/tlbridgeConfig.cmake > $(root)/lib/cmake/tlbridge/tlbridgeConfig.cmake
 	$(fill) packaging/tlbridgeConfigVersion.cmake > $(root)/lib/cmake/tlbridge/tlbridgeConfigVersion.cmake
-	install -m 644 sv/*.sv sv/tlbridge_dpi.c $(share)/sv
+	install -m 644 sv/*.sv sv/tlbridge_dpi.c sv/tlbridge_calls.h $(share)/sv
 	install -m 755 sv/compare $(root)/bin/tlbridge-compare
 	install -m 644 python/pyproject.toml python/backend.py $(share)/python
 	install -m 644 python/tlbridge/*.py python/tlbridge/py.typed $(share)/python/tlbridge
@@ -85,7 +80,7 @@ install: out/libtlbridge.a out/libtlbridge.so $(if $(filter yes,$(PROGRAMS)),ins
 	cp -R examples/. $(share)/examples
 	install -d $(root)/share/doc/tlbridge/docs
 	install -m 644 README.md $(root)/share/doc/tlbridge
-	install -m 644 docs/*.md $(root)/share/doc/tlbridge/docs
+	install -m 644 docs/*.md $(wildcard docs/*.svg) $(root)/share/doc/tlbridge/docs
 
 install-programs: programs
 	install -d $(root)/bin

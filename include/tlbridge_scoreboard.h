@@ -33,7 +33,7 @@ enum { TL_UNMASKED = 1 };
  * (tl_board_pairs), or there is no memory. */
 tl_board *tl_board_open(unsigned client, unsigned manager, unsigned flags);
 
-/* The pairs of the library, as "8:4 4:8". */
+/* The pairs of the library, as "4:8 8:4". */
 const char *tl_board_pairs(void);
 
 /* Gives a board back; NULL is none. */

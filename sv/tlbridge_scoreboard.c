@@ -1,94 +1,17 @@
 /* The scoreboard of include/tlbridge_scoreboard.h, and what sv/tlbridge_scoreboard.sv imports. It is compiled into the library that
- * `make install` makes; tlbridge_pairs.h is written for it and names the pairs of widths that this library has:
- *
- *     #define TLBRIDGE_PAIRS(PAIR) PAIR(8, 4) PAIR(4, 8)
- */
+ * `make install` makes, with a macro for each pair of widths that this library has, as -DTLBRIDGE_8_4. */
 #include "tlbridge_scoreboard.h"
-#include "tlbridge_pairs.h"
+#include "tlbridge_calls.h"
 #include <inttypes.h>
 #include <stdarg.h>
 #include <stdio.h>
 #include <stdlib.h>
 #include <string.h>
 
-enum { CHANNELS = 5, SOURCES = 1 << 16, MOST_LINES = 20, LINE_BYTES = 1024 };
+enum { SOURCES = 1 << 16, MOST_LINES = 20, LINE_BYTES = 1024 };
 
-/* ---- The proved bridge, by a table for each pair of widths */
-
-typedef struct {
-    unsigned client, manager;
-    void *(*make)(void);
-    uint8_t (*open)(void *sides);
-    void (*free)(void *sides);
-    void (*settle)(void *sides);
-    void (*text)(uint8_t answer, tl_text *text);
-    bool (*ready)(void *sides, int channel);
-    uint8_t (*offer)(void *sides, int channel, const tl_beat *beat, const uint8_t *lanes);
-    bool (*take)(void *sides, int channel, tl_beat *beat, uint8_t *lanes);
-    uint8_t (*close)(void *sides, int channel);
-} pair_calls;
-
-/* The call on channels A to E, with the handle of the side that makes it: those of `first` for A, C, E, and of `second` for B, D. */
-#define EACH(c, m, call, first, second, arguments) \
-    switch (channel) { \
-    case 0: return TL_CALL(c, m, call##_a) arguments(first); \
-    case 1: return TL_CALL(c, m, call##_b) arguments(second); \
-    case 2: return TL_CALL(c, m, call##_c) arguments(first); \
-    case 3: return TL_CALL(c, m, call##_d) arguments(second); \
-    default: return TL_CALL(c, m, call##_e) arguments(first); \
-    }
-#define SIDE_ALONE(side) (&sides->side)
-#define WITH_BEAT(side) (&sides->side, beat, lanes)
-
-#define PAIR_CALLS(c, m) \
-    TLBRIDGE(c, m) \
-    typedef struct { \
-        TL_CALL(c, m, client) client; \
-        TL_CALL(c, m, manager) manager; \
-    } sides_##c##_##m; \
-    static void *make_##c##_##m(void) { \
-        return calloc(1, sizeof(sides_##c##_##m)); \
-    } \
-    static uint8_t open_##c##_##m(void *all) { \
-        sides_##c##_##m *sides = all; \
-        return TL_CALL(c, m, open)(&sides->client, &sides->manager, TL_MAX_RING, 0); \
-    } \
-    static void free_##c##_##m(void *all) { \
-        sides_##c##_##m *sides = all; \
-        TL_CALL(c, m, free_client)(&sides->client); \
-        TL_CALL(c, m, free_manager)(&sides->manager); \
-    } \
-    static void settle_##c##_##m(void *all) { \
-        sides_##c##_##m *sides = all; \
-        tl_standings standings; \
-        TL_CALL(c, m, settle)(&sides->client, &sides->manager, &standings); \
-    } \
-    static bool ready_##c##_##m(void *all, int channel) { \
-        sides_##c##_##m *sides = all; \
-        EACH(c, m, ready, client, manager, SIDE_ALONE) \
-    } \
-    static uint8_t close_##c##_##m(void *all, int channel) { \
-        sides_##c##_##m *sides = all; \
-        EACH(c, m, close, client, manager, SIDE_ALONE) \
-    } \
-    static uint8_t offer_##c##_##m(void *all, int channel, const tl_beat *beat, const uint8_t *lanes) { \
-        sides_##c##_##m *sides = all; \
-        EACH(c, m, offer, client, manager, WITH_BEAT) \
-    } \
-    static bool take_##c##_##m(void *all, int channel, tl_beat *beat, uint8_t *lanes) { \
-        sides_##c##_##m *sides = all; \
-        EACH(c, m, take, manager, client, WITH_BEAT) \
-    }
-
-TLBRIDGE_PAIRS(PAIR_CALLS)
-
-#define PAIR_ROW(c, m) \
-    {c, m, make_##c##_##m, open_##c##_##m, free_##c##_##m, settle_##c##_##m, TL_CALL(c, m, answer_text), \
-     ready_##c##_##m, offer_##c##_##m, take_##c##_##m, close_##c##_##m},
-static const pair_calls pairs[] = {TLBRIDGE_PAIRS(PAIR_ROW)};
-
-#define PAIR_NAME(c, m) " " #c ":" #m
-static const char pair_names[] = TLBRIDGE_PAIRS(PAIR_NAME);
+#define PAIR_NAME(cw, mw) " " #cw ":" #mw
+static const char pair_names[] = OF_EACH_PAIR(PAIR_NAME);
 
 const char *tl_board_pairs(void) {
     return pair_names + 1;
@@ -161,8 +84,7 @@ typedef struct {
 } suspect;
 
 struct tl_board {
-    const pair_calls *calls;
-    void *sides;
+    both_sides bridge;
     unsigned flags;
     queue near[CHANNELS], far[CHANNELS];
     uint64_t *homes; /* by source, the address of its last request that the bridge accepted */
@@ -177,20 +99,19 @@ struct tl_board {
 };
 
 static unsigned width_of(const tl_board *board, int link) {
-    return link == TL_CLIENT_LINK ? board->calls->client : board->calls->manager;
+    return link == TL_CLIENT_LINK ? board->bridge.calls->client : board->bridge.calls->manager;
 }
 
-/* A, C and E are sent by the client, B and D by the manager. */
 static int near_link(int channel) {
-    return channel % 2 == 0 ? TL_CLIENT_LINK : TL_MANAGER_LINK;
+    return from_client(channel) ? TL_CLIENT_LINK : TL_MANAGER_LINK;
 }
 
 static bool carries(int channel, const tl_beat *beat) {
     switch (channel) {
-    case 0:
-    case 1: return beat->opcode < 4;
-    case 2: return beat->opcode % 2 == 1;
-    case 3: return beat->opcode == 1 || beat->opcode == 5;
+    case A:
+    case B: return beat->opcode < 4;
+    case C: return beat->opcode % 2 == 1;
+    case D: return beat->opcode == 1 || beat->opcode == 5;
     default: return false;
     }
 }
@@ -251,18 +172,18 @@ static void say(words *words, const char *format, ...) {
 }
 
 static void say_head(words *words, int channel, const tl_beat *beat) {
-    if (channel == 4) {
+    if (channel == E) {
         say(words, "sink %04x", beat->sink);
         return;
     }
     say(words, "opcode %u, size %u, source %04x", beat->opcode, beat->size, beat->source);
-    if (channel == 3) say(words, ", sink %04x", beat->sink);
+    if (channel == D) say(words, ", sink %04x", beat->sink);
     else say(words, ", address %" PRIx64, beat->address);
 }
 
 static void say_fault(words *words, const tl_board *board, uint8_t answer) {
     tl_text text = {.name = {0}};
-    board->calls->text(answer, &text);
+    board->bridge.calls->text(answer, &text);
     say(words, "%u %s: %s", answer, text.name, text.sentence);
 }
 
@@ -292,7 +213,7 @@ static void say_lanes(words *words, const uint8_t *lanes, const bool *compared, 
 
 static void compared_lanes(const tl_board *board, int channel, const tl_beat *due, uint64_t home, bool *compared) {
     unsigned width = width_of(board, !near_link(channel));
-    bool masked = channel < 2 && due->opcode == 1 && !(board->flags & TL_UNMASKED);
+    bool masked = channel <= B && due->opcode == 1 && !(board->flags & TL_UNMASKED);
     for (unsigned lane = 0; lane < width; lane++)
         compared[lane] = carries(channel, due) && is_active(lane, home, due->size, width) && (!masked || tl_mask_has(due, lane));
 }
@@ -300,7 +221,7 @@ static void compared_lanes(const tl_board *board, int channel, const tl_beat *du
 /* The address by which the bytes of a due beat stand on their lanes. A source has no later request while the one beat of a short response
  * is due, and a longer one fills all lanes. */
 static uint64_t home_of(const tl_board *board, int channel, const tl_beat *due) {
-    return channel == 3 ? board->homes[due->source] : due->address;
+    return channel == D ? board->homes[due->source] : due->address;
 }
 
 static void compare(tl_board *board, int channel, const entry *came, const tl_beat *due, const uint8_t *due_lanes) {
@@ -310,17 +231,17 @@ static void compare(tl_board *board, int channel, const entry *came, const tl_be
     words words = {.length = 0};
     say(&words, "far %c beat %" PRIu64, 'A' + channel, came->number);
     size_t without = words.length;
-    if (channel != 4) {
+    if (channel != E) {
         say_number(&words, "opcode", 1, got->opcode, due->opcode);
         say_number(&words, "param", 1, got->param, due->param);
         say_number(&words, "size", 1, got->size, due->size);
         say_number(&words, "source", 4, got->source, due->source);
     }
-    if (channel >= 3) say_number(&words, "sink", 4, got->sink, due->sink);
-    if (channel < 3) say_number(&words, "address", 16, got->address, due->address);
-    if (channel < 2) say_mask(&words, got, due, width);
-    if (channel == 3) say_number(&words, "denied", 1, got->denied != 0, due->denied != 0);
-    if (channel != 4) say_number(&words, "corrupt", 1, got->corrupt != 0, due->corrupt != 0);
+    if (channel >= D) say_number(&words, "sink", 4, got->sink, due->sink);
+    if (channel <= C) say_number(&words, "address", 16, got->address, due->address);
+    if (channel <= B) say_mask(&words, got, due, width);
+    if (channel == D) say_number(&words, "denied", 1, got->denied != 0, due->denied != 0);
+    if (channel != E) say_number(&words, "corrupt", 1, got->corrupt != 0, due->corrupt != 0);
     compared_lanes(board, channel, due, home_of(board, channel, due), compared);
     for (unsigned lane = 0; lane < width; lane++) same &= !compared[lane] || came->lanes[lane] == due_lanes[lane];
     if (!same) {
@@ -349,15 +270,15 @@ static void refused(tl_board *board, int channel, const entry *near, uint8_t ans
 static bool offer(tl_board *board, int channel) {
     queue *near = &board->near[channel];
     bool moved = false;
-    while (near->count > 0 && !board->stopped[channel] && board->calls->ready(board->sides, channel)) {
+    while (near->count > 0 && !board->stopped[channel] && ready_on(&board->bridge, channel)) {
         entry *front = queue_front(near);
-        uint8_t answer = board->calls->offer(board->sides, channel, &front->beat, front->lanes);
+        uint8_t answer = offer_on(&board->bridge, channel, &front->beat, front->lanes);
         if (answer == TL_SOURCE_BUSY || answer == TL_NO_REQUEST) break;
         if (answer != TL_OK) {
             refused(board, channel, front, answer);
             break;
         }
-        if (channel == 0) board->homes[front->beat.source] = front->beat.address;
+        if (channel == A) board->homes[front->beat.source] = front->beat.address;
         queue_drop(near);
         moved = true;
     }
@@ -370,7 +291,7 @@ static bool judge(tl_board *board, int channel) {
     bool moved = false;
     tl_beat due;
     uint8_t lanes[TL_WIDEST];
-    while (far->count > 0 && board->calls->take(board->sides, channel, &due, lanes)) {
+    while (far->count > 0 && take_on(&board->bridge, channel, &due, lanes)) {
         compare(board, channel, queue_front(far), &due, lanes);
         queue_drop(far);
         moved = true;
@@ -378,12 +299,17 @@ static bool judge(tl_board *board, int channel) {
     return moved;
 }
 
+static void settle(tl_board *board) {
+    tl_standings standings;
+    board->bridge.calls->settle(&board->bridge.client, &board->bridge.manager, &standings);
+}
+
 static void advance(tl_board *board) {
     bool moved = true;
     while (moved) {
         moved = false;
         for (int channel = 0; channel < CHANNELS; channel++) moved |= offer(board, channel);
-        board->calls->settle(board->sides);
+        settle(board);
         for (int channel = 0; channel < CHANNELS; channel++) moved |= judge(board, channel);
     }
 }
@@ -396,11 +322,11 @@ static void end_of_cycle(tl_board *board) {
         suspect *seen = &board->suspects[link];
         if (!seen->there) continue;
         seen->there = false;
-        int open = board->views[link].open[seen->source], channel = link == TL_CLIENT_LINK ? 0 : 3;
-        if (board->stopped[channel] || (channel == 0 ? open <= 1 : open >= 0)) continue;
+        int open = board->views[link].open[seen->source], channel = link == TL_CLIENT_LINK ? A : D;
+        if (board->stopped[channel] || (channel == A ? open <= 1 : open >= 0)) continue;
         words words = {.length = 0};
         say(&words, "near %c beat %" PRIu64 ": source %04x: ", 'A' + channel, seen->number, seen->source);
-        say_fault(&words, board, channel == 0 ? TL_SOURCE_BUSY : TL_NO_REQUEST);
+        say_fault(&words, board, channel == A ? TL_SOURCE_BUSY : TL_NO_REQUEST);
         differs(board, channel, seen->time, words.text);
     }
 }
@@ -408,16 +334,16 @@ static void end_of_cycle(tl_board *board) {
 /* Counts the requests and responses of a link. */
 static void view(tl_board *board, int link, int channel, const entry *came) {
     link_view *view = &board->views[link];
-    uint32_t *left = channel == 0 ? &view->a_left : &view->d_left;
-    if (channel != 0 && channel != 3) return;
+    uint32_t *left = channel == A ? &view->a_left : &view->d_left;
+    if (channel != A && channel != D) return;
     bool begins = *left == 0;
     if (begins) *left = beats_of(channel, &came->beat, width_of(board, link));
     --*left;
     tl_id source = came->beat.source;
-    if (!begins || (channel == 3 && came->beat.opcode == 6)) return;
-    if (channel == 0 && view->open[source] < INT8_MAX) view->open[source]++;
-    if (channel == 3 && view->open[source] > INT8_MIN) view->open[source]--;
-    if (channel == 0) {
+    if (!begins || (channel == D && came->beat.opcode == 6)) return;
+    if (channel == A && view->open[source] < INT8_MAX) view->open[source]++;
+    if (channel == D && view->open[source] > INT8_MIN) view->open[source]--;
+    if (channel == A) {
         view->number[source] = came->number;
         view->time[source] = came->time;
     }
@@ -445,8 +371,8 @@ static void not_come(tl_board *board, int channel) {
     tl_beat due, first = {0};
     uint8_t lanes[TL_WIDEST];
     uint64_t count = 0;
-    for (bool more = true; more; board->calls->settle(board->sides)) {
-        more = board->calls->take(board->sides, channel, &due, lanes);
+    for (bool more = true; more; settle(board)) {
+        more = take_on(&board->bridge, channel, &due, lanes);
         if (more && count++ == 0) first = due;
     }
     if (count == 0) return;
@@ -479,14 +405,14 @@ static void waits(tl_board *board, int channel) {
     say(&words, "near %c beat %" PRIu64 ": ", 'A' + channel, front->number);
     say_head(&words, channel, &front->beat);
     say(&words, ": waits: ");
-    say_fault(&words, board, board->calls->offer(board->sides, channel, &front->beat, front->lanes));
+    say_fault(&words, board, offer_on(&board->bridge, channel, &front->beat, front->lanes));
     if (near->count > 1) say(&words, "; %zu more wait behind it", near->count - 1);
     differs(board, channel, front->time, words.text);
 }
 
 static void is_cut(tl_board *board, int channel) {
     if (board->stopped[channel] || board->near[channel].count != 0) return;
-    if (board->calls->close(board->sides, channel) != TL_MID_BURST) return;
+    if (close_on(&board->bridge, channel) != TL_MID_BURST) return;
     words words = {.length = 0};
     say(&words, "near %c: the last message is not whole", 'A' + channel);
     differs(board, channel, board->now, words.text);
@@ -543,9 +469,8 @@ const char *tl_board_line(tl_board *board, uint64_t *time) {
 /* ---- A board from its beginning to its end */
 
 static bool make_parts(tl_board *board) {
-    board->sides = board->calls->make();
     board->homes = calloc(SOURCES, sizeof *board->homes);
-    bool made = board->sides != NULL && board->homes != NULL && board->calls->open(board->sides) == TL_OK;
+    bool made = board->homes != NULL && board->bridge.calls->open(&board->bridge.client, &board->bridge.manager, TL_MAX_RING) == TL_OK;
     for (int link = 0; link < 2; link++) {
         link_view *view = &board->views[link];
         view->open = calloc(SOURCES, 1);
@@ -557,13 +482,11 @@ static bool make_parts(tl_board *board) {
 }
 
 tl_board *tl_board_open(unsigned client, unsigned manager, unsigned flags) {
-    const pair_calls *calls = NULL;
-    for (size_t i = 0; i < sizeof pairs / sizeof *pairs; i++)
-        if (pairs[i].client == client && pairs[i].manager == manager) calls = &pairs[i];
+    const pair_calls *calls = pair_of(client, manager);
     if (calls == NULL) return NULL;
     tl_board *board = calloc(1, sizeof *board);
     if (board == NULL) return NULL;
-    board->calls = calls;
+    board->bridge.calls = calls;
     board->flags = flags;
     if (make_parts(board)) return board;
     tl_board_free(board);
@@ -572,8 +495,7 @@ tl_board *tl_board_open(unsigned client, unsigned manager, unsigned flags) {
 
 void tl_board_free(tl_board *board) {
     if (board == NULL) return;
-    if (board->sides != NULL) board->calls->free(board->sides);
-    free(board->sides);
+    board->bridge.calls->free(&board->bridge.client, &board->bridge.manager);
     free(board->homes);
     for (int link = 0; link < 2; link++) {
         free(board->views[link].open);

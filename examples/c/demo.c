@@ -5,12 +5,12 @@
 TLBRIDGE(8, 4)
 
 int main(void) {
+    uint8_t near[8], far[4];
+    tl_standings waiting;
     tl_8_4_client client = {0};
     tl_8_4_manager manager = {0};
     if (tl_8_4_open(&client, &manager, 16, 0) != TL_OK) return 1;
     tl_beat put = {.address = 0x80, .mask = 0xff, .source = 7, .opcode = 0, .size = 4}, got;
-    uint8_t near[8], far[4];
-    tl_standings waiting;
     for (int beat = 0; beat < 2; beat++) {
         for (int i = 0; i < 8; i++) near[i] = (uint8_t)(8 * beat + i);
         if (tl_8_4_offer_a(&client, &put, near) != TL_OK || tl_8_4_settle(&client, &manager, &waiting) != TL_OK) return 1;

@@ -2,7 +2,7 @@
 
     python3 -m unittest discover python/tests
 
-cocotb itself is not needed: the class Watched stands in for the two calls of it that the package makes.
+cocotb itself is not needed: the class Watched stands in for what the package and a test call of it.
 """
 import sys
 import threading
@@ -308,7 +308,6 @@ class Board(unittest.TestCase):
             Scoreboard(16, 3)
 
 
-
 class Watched(unittest.TestCase):
     """Two links of a test as cocotb has it: handles whose value is text of 0, 1, x and z, and edges to wait for."""
 
@@ -324,17 +323,15 @@ class Watched(unittest.TestCase):
 
     def watch(self, cycles, reset="0"):
         """Lets both links be watched over cycles of signals by their names, and ends the board."""
-        board, values = Scoreboard(8, 4), {}
+        import cocotb
 
-        def handles(link):
-            return lambda channel, field: types.SimpleNamespace(value=values.get(f"{link}_{channel}_{field}", "0"))
-
-        watches = [board.watch(link, "clock", handles(link), types.SimpleNamespace(value=reset)) for link in ("client", "manager")]
+        board, dut, watches = Scoreboard(8, 4), Design(reset=reset), []
+        cocotb.start_soon = watches.append
+        cocotb.start_soon(board.watch("client", dut.clock, lambda channel, field: getattr(dut, f"client_{channel}_{field}"), dut.reset))
+        cocotb.start_soon(board.watch("manager", dut.clock, lambda channel, field: getattr(dut, f"manager_{channel}_{field}"), dut.reset))
         for watch in watches:
             watch.send(None)
-        for self.now, cycle in enumerate(cycles, 1):
-            values.clear()
-            values.update(cycle)
+        for self.now, dut.values in enumerate(cycles, 1):
             for watch in watches:
                 watch.send(None)
         for watch in watches:
@@ -366,6 +363,16 @@ class Watched(unittest.TestCase):
 
     def test_unknown_bits(self):
         self.assertEqual(number_of(types.SimpleNamespace(value="1xz0")), 8)
+
+
+class Design:
+    """Handles by their names, of value 0 where no other is given."""
+
+    def __init__(self, **values):
+        self.values = values
+
+    def __getattr__(self, name):
+        return types.SimpleNamespace(value=self.values.get(name, "0"))
 
 
 class Edge:
