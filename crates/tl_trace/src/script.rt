@@ -43,6 +43,10 @@ fn let_first_go<T: Copy>(list: &mut Vec<T>, count: usize)
     requires { count ≤ length list.old.items }
     ensures { list.new.items ≡ drop count list.old.items }
 {
+    // what stays where it is costs nothing
+    if count == 0 {
+        return;
+    }
     let len = list.len();
     list.as_mut_slice().copy_within(count..len, 0);
     list.truncate(len - count);
