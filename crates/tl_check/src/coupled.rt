@@ -41,7 +41,7 @@ fn note_answers<const C: usize>(book: &mut ClientBook<C>, head: &HeadD, count: u
 
 // The client's side offers the next beat of A. Where it is accepted, so many far beats are due,
 // which the manager's side has to note; else nothing changes.
-#[inline(never)]
+#[inline(always)]
 fn offer_request<const C: usize>(
     client: &mut ClientBook<C>,
     beat: &Beat<ChA, C>,
@@ -82,7 +82,7 @@ fn offer_request<const C: usize>(
 
 // The manager's side offers the next beat of D. Where it is accepted, so many far beats are due,
 // which the client's side has to note; else nothing changes.
-#[inline(never)]
+#[inline(always)]
 fn offer_response<const M: usize>(
     manager: &mut ManagerBook<M>,
     beat: &Beat<ChD, M>,

@@ -132,6 +132,7 @@ impl<const C: usize, const M: usize> Judge<C, M> {
     }
 
     /// The verdicts from A to E of the script that ends with these beats.
+    #[inline(never)]
     pub fn end(&mut self, held: &Script<C, M>) -> [Verdict; 5]
         requires client { IsWidth C }
         requires manager { IsWidth M }

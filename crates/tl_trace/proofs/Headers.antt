@@ -29,18 +29,22 @@ rows_long version (client ∷ clients) =
     let here : length (row version client) ≡ widest_power version + 1 =
     length-map (widths version) (λ manager. header version client manager) ∙ length-map-range_with_len (λ k. 2 ^ k) 0 (widest_power version + 1) in
     let rest = rows_long version clients in
-    let spread : suc (length clients) * (widest_power version + 1) ≡ (widest_power version + 1) + length clients * (widest_power version + 1) = grind arith in
+    let spread : suc (length clients) * (widest_power version + 1) ≡ (widest_power version + 1) + length clients * (widest_power version + 1) =
+    grind arith in
     length-append (row version client) (flat_map (row version) clients) ∙ omega (arith, here, rest) ∙ sym spread
 
 pub headers_long : (version : ℕ) → length (headers_of version) ≡ (widest_power version + 1) * (widest_power version + 1)
-headers_long version = rows_long version (widths version) ∙ ap (λ (n : ℕ). n * (widest_power version + 1)) (length-map-range_with_len (λ k. 2 ^ k) 0 (widest_power version + 1))
+headers_long version =
+    rows_long version (widths version)
+    ∙ ap (λ (n : ℕ). n * (widest_power version + 1)) (length-map-range_with_len (λ k. 2 ^ k) 0 (widest_power version + 1))
 
 -- the width at k
 width_at : (version k : ℕ) → k < widest_power version + 1 → get_or (widths version) k 0 ≡ 2 ^ k
 width_at version k lt = get_or-map-range_with_len (λ j. 2 ^ j) 0 (widest_power version + 1) k k 0 lt (omega arith)
 
 -- the header of a version at i, by its row and its place in the row
-pub listed_at : (version n i : ℕ) → n ≡ widest_power version + 1 → i < n * n → slice_get (headers_of version) i ≡ Some (header version (2 ^ (i / n)) (2 ^ (i % n)))
+pub listed_at : (version n i : ℕ) → n ≡ widest_power version + 1 → i < n * n
+    → slice_get (headers_of version) i ≡ Some (header version (2 ^ (i / n)) (2 ^ (i % n)))
 listed_at version n i is lt = subst P (sym is) (at i (subst Q is lt))
   where
     P : ℕ → Type 0
@@ -94,7 +98,8 @@ behind : (p : Header → Bool) (xs ys : List Header) (x : Header) (is : Bool) �
     → find p (xs ++ x ∷ ys) ≡ cond is (Some x) (find p ys)
 behind p xs ys x is none at = find-append p xs (x ∷ ys) ∙ rw (none, at) refl
 
-pub found : (text : List ℕ) (version i : ℕ) (h : Header) → IsPassed text version i → slice_get (headers_of version) i ≡ Some h → is_header_of text h ≡ true
+pub found : (text : List ℕ) (version i : ℕ) (h : Header) → IsPassed text version i → slice_get (headers_of version) i ≡ Some h
+    → is_header_of text h ≡ true
     → find (is_header_of text) (headers_of version) ≡ Some h
 found text version i h far at is =
     let hs = headers_of version in
@@ -103,14 +108,16 @@ found text version i h far at is =
     ap (find (is_header_of text)) (sym (take-append-drop i hs) ∙ ap (λ (xs : List Header). take i hs ++ xs) here)
     ∙ behind (is_header_of text) (take i hs) (drop (i + 1) hs) h true far.none is
 
-pub passed : (text : List ℕ) (version i : ℕ) (h : Header) → IsPassed text version i → slice_get (headers_of version) i ≡ Some h → is_header_of text h ≡ false → IsPassed text version (i + 1)
+pub passed : (text : List ℕ) (version i : ℕ) (h : Header) → IsPassed text version i → slice_get (headers_of version) i ≡ Some h
+    → is_header_of text h ≡ false → IsPassed text version (i + 1)
 passed text version i h far at is =
     let hs = headers_of version in
     let here : take (i + 1) hs ≡ take i hs ++ h ∷ [] =
     take_more hs i h (slice_get_within hs i h at) ∙ ap (λ (x : Header). take i hs ++ x ∷ []) (get_or_from_slice_get hs i h h at) in
     record { none = ap (find (is_header_of text)) here ∙ behind (is_header_of text) (take i hs) [] h false far.none is }
 
-pub not_found : (text : List ℕ) (version n i : ℕ) → n ≡ widest_power version + 1 → n * n ≤ i → IsPassed text version i → find (is_header_of text) (headers_of version) ≡ None
+pub not_found : (text : List ℕ) (version n i : ℕ) → n ≡ widest_power version + 1 → n * n ≤ i → IsPassed text version i
+    → find (is_header_of text) (headers_of version) ≡ None
 not_found text version n i is le far =
     let P : ℕ → Type 0 = λ k. k * k ≤ i in
     let most : (widest_power version + 1) * (widest_power version + 1) ≤ i = subst P is le in
@@ -125,16 +132,19 @@ of_versions text =
 
 -- ---- what is found
 
-split_all : (q : Header → Bool) (y x : Header) (o : Option Header) (b : Bool) → q y ≡ true → cond b (Some y) o ≡ Some x → (o ≡ Some x → q x ≡ true) → q x ≡ true
+split_all : (q : Header → Bool) (y x : Header) (o : Option Header) (b : Bool) → q y ≡ true → cond b (Some y) o ≡ Some x → (o ≡ Some x → q x ≡ true)
+    → q x ≡ true
 split_all q y x o true here e more = let same : x ≡ y = cc in rw (same, here) refl
 split_all q y x o false here e more = more e
 
 find_all : (p q : Header → Bool) (xs : List Header) (x : Header) → list_all q xs ≡ true → find p xs ≡ Some x → q x ≡ true
 find_all p q [] x all e = absurd cc
-find_all p q (y ∷ xs) x all e = split_all q y x (find p xs) (p y) (and_parts (q y) (list_all q xs) all).0 e (find_all p q xs x (and_parts (q y) (list_all q xs) all).1)
+find_all p q (y ∷ xs) x all e =
+    split_all q y x (find p xs) (p y) (and_parts (q y) (list_all q xs) all).0 e (find_all p q xs x (and_parts (q y) (list_all q xs) all).1)
 
 -- what a first line names are a version and widths
-pub known : (text : List ℕ) (h : Header) → header_of text ≡ Some h → (is_version h.version ≡ true) × (is_width h.version h.client ≡ true) × (is_width h.version h.manager ≡ true)
+pub known : (text : List ℕ) (h : Header) → header_of text ≡ Some h
+    → (is_version h.version ≡ true) × (is_width h.version h.client ≡ true) × (is_width h.version h.manager ≡ true)
 unfolding header_of
 known text h e = (
   find_all (is_header_of text) (λ h. is_version h.version) headers h refl e,
@@ -144,7 +154,8 @@ known text h e = (
 
 pub is_header : (text : List ℕ) (h : Header) → header_of text ≡ Some h → text ≡ header_text h.version h.client h.manager
 unfolding header_of
-is_header text h e = same_bytes (is_header_of text h) text (header_text h.version h.client h.manager) (bytes_eq-Decides text (header_text h.version h.client h.manager)) (find_holds (is_header_of text) headers h e)
+is_header text h e =
+    same_bytes (is_header_of text h) text (header_text h.version h.client h.manager) (bytes_eq-Decides text (header_text h.version h.client h.manager)) (find_holds (is_header_of text) headers h e)
   where
     same_bytes : (b : Bool) (xs ys : List ℕ) → Decides b (xs ≡ ys) → b ≡ true → xs ≡ ys
     same_bytes true xs ys d e = d.0 refl

@@ -24,7 +24,8 @@ pub bad_digit : (b : Bool) (v d : ℕ) → (b ≡ true → v < 16) → d ≡ con
 bad_digit true v d h e lt = let small : v < 16 = h refl in absurd (omega arith)
 bad_digit false v d h e lt = refl
 
-pub step : (ds : List ℕ) (i n d : ℕ) → i < length ds → list_all is_hex (take i ds) ≡ true → n ≡ digits_value 16 (take i ds) → d ≡ digit_of (get_or ds i 0) → d ≤ 15
+pub step : (ds : List ℕ) (i n d : ℕ) → i < length ds → list_all is_hex (take i ds) ≡ true → n ≡ digits_value 16 (take i ds)
+    → d ≡ digit_of (get_or ds i 0) → d ≤ 15
     → (list_all is_hex (take (i + 1) ds) ≡ true) × (n * 16 + d ≡ digits_value 16 (take (i + 1) ds))
 step ds i n d lt good value digit le =
     let g = good_digit (is_hex (get_or ds i 0)) (digit_value (get_or ds i 0)) d digit le in

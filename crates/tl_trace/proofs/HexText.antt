@@ -19,12 +19,14 @@ hex_start n value digits long =
     let all : n - 0 ≡ n = omega arith in
     record { long = long; made = ap (λ (k : ℕ). hex k value ++ drop k digits) all ∙ ap (λ (xs : List ℕ). hex n value ++ xs) (drop_all n digits (omega (arith, long))) ∙ append-nil (hex n value) }
 
-pub hex_next : (n value : ℕ) (digits : List ℕ) (rest i digit : ℕ) → i < n → HexSoFar n value digits rest i → digit ≡ digit_char (rest % 16) → HexSoFar n value (set digits (n - 1 - i) digit) (rest / 16) (i + 1)
+pub hex_next : (n value : ℕ) (digits : List ℕ) (rest i digit : ℕ) → i < n → HexSoFar n value digits rest i → digit ≡ digit_char (rest % 16)
+    → HexSoFar n value (set digits (n - 1 - i) digit) (rest / 16) (i + 1)
 hex_next n value digits rest i digit lt far is =
     let k = n - 1 - i in
     let less : n - (i + 1) ≡ k = omega arith in
     let more : n - i ≡ suc k = omega arith in
-    let there : drop k (set digits k digit) ≡ digit ∷ drop (suc k) digits = drop-set digits k digit (omega (arith, far.long)) ∙ ap (λ (m : ℕ). digit ∷ drop m digits) (add-one k) in
+    let there : drop k (set digits k digit) ≡ digit ∷ drop (suc k) digits =
+    drop-set digits k digit (omega (arith, far.long)) ∙ ap (λ (m : ℕ). digit ∷ drop m digits) (add-one k) in
     record {
       long = length-set digits k digit ∙ far.long;
       made = ap (λ (m : ℕ). hex m (rest / 16) ++ drop m (set digits k digit)) less
@@ -34,12 +36,14 @@ hex_next n value digits rest i digit lt far is =
     }
 
 -- two digits at a time
-pub pair_next : (n value : ℕ) (digits : List ℕ) (rest i low high : ℕ) → 2 * i + 1 < n → HexSoFar n value digits rest (2 * i) → low ≡ digit_char (rest % 256 % 16) → high ≡ digit_char (rest % 256 / 16 % 16)
+pub pair_next : (n value : ℕ) (digits : List ℕ) (rest i low high : ℕ) → 2 * i + 1 < n → HexSoFar n value digits rest (2 * i)
+    → low ≡ digit_char (rest % 256 % 16) → high ≡ digit_char (rest % 256 / 16 % 16)
     → HexSoFar n value (set (set digits (n - 1 - 2 * i) low) (n - 2 - 2 * i) high) (rest / 256) (2 * (i + 1))
 pair_next n value digits rest i low high lt far l h =
     let low_is : rest % 256 % 16 ≡ rest % 16 = omega arith in
     let high_is : rest % 256 / 16 % 16 ≡ rest / 16 % 16 = omega arith in
-    let one : HexSoFar n value (set digits (n - 1 - 2 * i) low) (rest / 16) (2 * i + 1) = hex_next n value digits rest (2 * i) low (omega arith) far (l ∙ ap digit_char low_is) in
+    let one : HexSoFar n value (set digits (n - 1 - 2 * i) low) (rest / 16) (2 * i + 1) =
+    hex_next n value digits rest (2 * i) low (omega arith) far (l ∙ ap digit_char low_is) in
     let two : HexSoFar n value (set (set digits (n - 1 - 2 * i) low) (n - 1 - (2 * i + 1)) high) (rest / 16 / 16) (2 * i + 1 + 1) =
     hex_next n value (set digits (n - 1 - 2 * i) low) (rest / 16) (2 * i + 1) high lt one (h ∙ ap digit_char high_is) in
     let place : n - 1 - (2 * i + 1) ≡ n - 2 - 2 * i = omega arith in
@@ -51,7 +55,8 @@ pair_next n value digits rest i low high lt far l h =
     subst R count (subst Q left (subst P place two))
 
 -- a space, and digits behind it
-pub after_space : (line digits made : List ℕ) (at k n : ℕ) → at < length line → n ≡ at + 1 + length digits → digits ≡ made → take n (put_mid (at + 1) k (set line at 32) digits) ≡ take at line ++ 32 ∷ made
+pub after_space : (line digits made : List ℕ) (at k n : ℕ) → at < length line → n ≡ at + 1 + length digits → digits ≡ made
+    → take n (put_mid (at + 1) k (set line at 32) digits) ≡ take at line ++ 32 ∷ made
 after_space line digits made at k n lt e is =
     let within : at + 1 ≤ length (set line at 32) = omega (arith, length-set line at 32) in
     take-put_mid (at + 1) k (set line at 32) digits n e within ∙ ap (λ (xs : List ℕ). xs ++ digits) (take_more_set line at 32 lt)
@@ -100,7 +105,8 @@ hex_both m count value is =
 
 -- the last 16 digits behind those that were written before them
 pub more_digits : (line digits front : List ℕ) (half k n m count value : ℕ) → half ≤ length line → n ≡ half + length digits → m + 16 ≡ count
-    → take half line ≡ front ++ 32 ∷ hex m (value / 2 ^ 64) → digits ≡ hex 16 (value % 2 ^ 64) → take n (put_mid half k line digits) ≡ front ++ 32 ∷ hex count value
+    → take half line ≡ front ++ 32 ∷ hex m (value / 2 ^ 64) → digits ≡ hex 16 (value % 2 ^ 64)
+    → take n (put_mid half k line digits) ≡ front ++ 32 ∷ hex count value
 more_digits line digits front half k n m count value within e same before last =
     take-put_mid half k line digits n e within ∙ ap (λ (xs : List ℕ). xs ++ digits) before ∙ append_assoc front (32 ∷ hex m (value / 2 ^ 64)) digits
     ∙ ap (λ (ds : List ℕ). front ++ 32 ∷ (hex m (value / 2 ^ 64) ++ ds)) last ∙ ap (λ (ds : List ℕ). front ++ 32 ∷ ds) (hex_both m count value same)
@@ -120,11 +126,14 @@ take_two xs n a b lt =
     ap (λ (k : ℕ). take k (set (set xs n a) (n + 1) b)) two ∙ take_more_set (set xs n a) (n + 1) b (omega (arith, length-set xs n a))
     ∙ ap (λ (ys : List ℕ). ys ++ b ∷ []) (take_more_set xs n a (omega arith)) ∙ append_assoc (take n xs) (a ∷ []) (b ∷ [])
 
-lane_small : (lanes : List ℕ) (i : ℕ) → get_or lanes i 0 < 256 → (rest : ℕ) → ((get_or lanes i 0 + 256 * rest) / 16 / 16 ≡ rest) × ((get_or lanes i 0 + 256 * rest) / 16 % 16 ≡ get_or lanes i 0 / 16 % 16) × ((get_or lanes i 0 + 256 * rest) % 16 ≡ get_or lanes i 0 % 16)
+lane_small : (lanes : List ℕ) (i : ℕ) → get_or lanes i 0 < 256 → (rest : ℕ)
+    → ((get_or lanes i 0 + 256 * rest) / 16 / 16 ≡ rest) × ((get_or lanes i 0 + 256 * rest) / 16 % 16 ≡ get_or lanes i 0 / 16 % 16) × ((get_or lanes i 0 + 256 * rest) % 16 ≡ get_or lanes i 0 % 16)
 lane_small lanes i lt rest = (omega arith, omega arith, omega arith)
 
-pub lanes_next : (lanes : List ℕ) (w : ℕ) (digits : List ℕ) (i high low : ℕ) → i < w → w ≤ WIDEST → w ≤ length lanes → ((k : ℕ) → get_or lanes k 0 < 256) → LanesSoFar lanes w digits i
-    → high ≡ digit_char (get_or lanes (w - 1 - i) 0 / 16 % 16) → low ≡ digit_char (get_or lanes (w - 1 - i) 0 % 16) → LanesSoFar lanes w (set (set digits (2 * i) high) (2 * i + 1) low) (i + 1)
+pub lanes_next : (lanes : List ℕ) (w : ℕ) (digits : List ℕ) (i high low : ℕ) → i < w → w ≤ WIDEST → w ≤ length lanes
+    → ((k : ℕ) → get_or lanes k 0 < 256) → LanesSoFar lanes w digits i
+    → high ≡ digit_char (get_or lanes (w - 1 - i) 0 / 16 % 16) → low ≡ digit_char (get_or lanes (w - 1 - i) 0 % 16)
+    → LanesSoFar lanes w (set (set digits (2 * i) high) (2 * i + 1) low) (i + 1)
 lanes_next lanes w digits i high low lt few le bytes far h l =
     let k = w - 1 - i in
     let lane = get_or lanes k 0 in
@@ -133,15 +142,18 @@ lanes_next lanes w digits i high low lt few le bytes far h l =
     let within : k < length (take w lanes) = omega (arith, long) in
     let more : suc k ≡ w - i = omega arith in
     let same : get_or (take w lanes) k 0 ≡ lane = get_or-take w lanes k 0 (omega arith) in
-    let here : drop k (take w lanes) ≡ lane ∷ drop (w - i) (take w lanes) = drop-cons (take w lanes) k 0 within ∙ ap (λ (x : ℕ). x ∷ drop (suc k) (take w lanes)) same ∙ ap (λ (n : ℕ). lane ∷ drop n (take w lanes)) more in
+    let here : drop k (take w lanes) ≡ lane ∷ drop (w - i) (take w lanes) =
+    drop-cons (take w lanes) k 0 within ∙ ap (λ (x : ℕ). x ∷ drop (suc k) (take w lanes)) same ∙ ap (λ (n : ℕ). lane ∷ drop n (take w lanes)) more in
     let less : w - (i + 1) ≡ k = omega arith in
-    let number : number_of_lanes (drop (w - (i + 1)) (take w lanes)) ≡ lane + 256 * rest = ap (λ (n : ℕ). number_of_lanes (drop n (take w lanes))) less ∙ ap number_of_lanes here in
+    let number : number_of_lanes (drop (w - (i + 1)) (take w lanes)) ≡ lane + 256 * rest =
+    ap (λ (n : ℕ). number_of_lanes (drop n (take w lanes))) less ∙ ap number_of_lanes here in
     let parts = lane_small lanes k (bytes k) rest in
     let twice : 2 * (i + 1) ≡ 2 * i + 2 = omega arith in
     let twice' : 2 * (i + 1) ≡ suc (suc (2 * i)) = omega arith in
     let right : hex (2 * (i + 1)) (lane + 256 * rest) ≡ hex (2 * i) rest ++ high ∷ low ∷ [] =
     ap (λ (n : ℕ). hex n (lane + 256 * rest)) twice'
-    ∙ append_assoc (hex (2 * i) ((lane + 256 * rest) / 16 / 16)) (digit_char ((lane + 256 * rest) / 16 % 16) ∷ []) (digit_char ((lane + 256 * rest) % 16) ∷ [])
+    ∙ append_assoc (hex (2 * i) ((lane + 256 * rest) / 16 / 16)) (digit_char ((lane + 256 * rest) / 16 % 16) ∷ [])
+    (digit_char ((lane + 256 * rest) % 16) ∷ [])
     ∙ ap (λ (n : ℕ). hex (2 * i) n ++ digit_char ((lane + 256 * rest) / 16 % 16) ∷ digit_char ((lane + 256 * rest) % 16) ∷ []) parts.0
     ∙ ap (λ (n : ℕ). hex (2 * i) rest ++ digit_char n ∷ digit_char ((lane + 256 * rest) % 16) ∷ []) parts.1
     ∙ ap (λ (n : ℕ). hex (2 * i) rest ++ digit_char (lane / 16 % 16) ∷ digit_char n ∷ []) parts.2
@@ -152,26 +164,32 @@ lanes_next lanes w digits i high low lt few le bytes far h l =
           ∙ ap (λ (xs : List ℕ). xs ++ high ∷ low ∷ []) far.made ∙ sym right ∙ ap (λ (n : ℕ). hex (2 * (i + 1)) n) (sym number);
     }
 
-pub lanes_done : (lanes : List ℕ) (w : ℕ) (digits : List ℕ) (i : ℕ) → w ≤ i → i ≤ w → LanesSoFar lanes w digits i → digits ≡ hex (2 * w) (number_of_lanes (take w lanes))
+pub lanes_done : (lanes : List ℕ) (w : ℕ) (digits : List ℕ) (i : ℕ) → w ≤ i → i ≤ w → LanesSoFar lanes w digits i
+    → digits ≡ hex (2 * w) (number_of_lanes (take w lanes))
 lanes_done lanes w digits i le ge far =
     let same : w ≡ i = omega arith in
     let none : w - i ≡ 0 = omega arith in
-    sym (take_all (2 * w) digits (omega (arith, far.long))) ∙ ap (λ (n : ℕ). take (2 * n) digits) same ∙ far.made ∙ ap (λ (n : ℕ). hex (2 * i) (number_of_lanes (drop n (take w lanes)))) none ∙ ap (λ (n : ℕ). hex (2 * n) (number_of_lanes (take w lanes))) (sym same)
+    sym (take_all (2 * w) digits (omega (arith, far.long))) ∙ ap (λ (n : ℕ). take (2 * n) digits) same ∙ far.made
+    ∙ ap (λ (n : ℕ). hex (2 * i) (number_of_lanes (drop n (take w lanes)))) none
+    ∙ ap (λ (n : ℕ). hex (2 * n) (number_of_lanes (take w lanes))) (sym same)
 
-pub two_digits : (w lane rest : ℕ) → lane < 256 → hex (2 * suc w) (lane + 256 * rest) ≡ hex (2 * w) rest ++ digit_char (lane / 16 % 16) ∷ digit_char (lane % 16) ∷ []
+pub two_digits : (w lane rest : ℕ) → lane < 256
+    → hex (2 * suc w) (lane + 256 * rest) ≡ hex (2 * w) rest ++ digit_char (lane / 16 % 16) ∷ digit_char (lane % 16) ∷ []
 two_digits w lane rest lt =
     let twice : 2 * suc w ≡ suc (suc (2 * w)) = omega arith in
     let up : (lane + 256 * rest) / 16 / 16 ≡ rest = omega arith in
     let high : (lane + 256 * rest) / 16 % 16 ≡ lane / 16 % 16 = omega arith in
     let low : (lane + 256 * rest) % 16 ≡ lane % 16 = omega arith in
     ap (λ (n : ℕ). hex n (lane + 256 * rest)) twice
-    ∙ append_assoc (hex (2 * w) ((lane + 256 * rest) / 16 / 16)) (digit_char ((lane + 256 * rest) / 16 % 16) ∷ []) (digit_char ((lane + 256 * rest) % 16) ∷ [])
+    ∙ append_assoc (hex (2 * w) ((lane + 256 * rest) / 16 / 16)) (digit_char ((lane + 256 * rest) / 16 % 16) ∷ [])
+    (digit_char ((lane + 256 * rest) % 16) ∷ [])
     ∙ ap (λ (n : ℕ). hex (2 * w) n ++ digit_char ((lane + 256 * rest) / 16 % 16) ∷ digit_char ((lane + 256 * rest) % 16) ∷ []) up
     ∙ ap (λ (n : ℕ). hex (2 * w) rest ++ digit_char n ∷ digit_char ((lane + 256 * rest) % 16) ∷ []) high
     ∙ ap (λ (n : ℕ). hex (2 * w) rest ++ digit_char (lane / 16 % 16) ∷ digit_char n ∷ []) low
 
 -- lanes from w on leave no digit
-pub hex_take : (lanes : List ℕ) (w : ℕ) → ((k : ℕ) → get_or lanes k 0 < 256) → hex (2 * w) (number_of_lanes (take w lanes)) ≡ hex (2 * w) (number_of_lanes lanes)
+pub hex_take : (lanes : List ℕ) (w : ℕ) → ((k : ℕ) → get_or lanes k 0 < 256)
+    → hex (2 * w) (number_of_lanes (take w lanes)) ≡ hex (2 * w) (number_of_lanes lanes)
 hex_take lanes zero bytes = refl
 hex_take [] (suc w) bytes = refl
 hex_take (lane ∷ lanes) (suc w) bytes =

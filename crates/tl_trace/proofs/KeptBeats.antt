@@ -42,7 +42,8 @@ or_second false y none e = e
 
 no_mask : {H : Type 0} (f : Form H) (b : BeatOf H WIDEST) (w : ℕ) → f.rules.masked ≡ false → is_kept f w b ≡ true → b.mask < 2 ^ WIDEST
 no_mask f b w none kept =
-    let test = (and_parts (f.rules.masked || nat_eq b.mask 0) (f.rules.corrupts || (list_all (λ lane. nat_eq lane 0) b.lanes && not b.corrupt)) (kept_parts f w b kept).2).0 in
+    let test =
+    (and_parts (f.rules.masked || nat_eq b.mask 0) (f.rules.corrupts || (list_all (λ lane. nat_eq lane 0) b.lanes && not b.corrupt)) (kept_parts f w b kept).2).0 in
     let zero_mask = eqb-true b.mask 0 (or_second f.rules.masked (nat_eq b.mask 0) none test) in
     omega (arith, zero_mask)
 
@@ -52,18 +53,21 @@ held_a : (version : ℕ) (b : BeatOf HeadA WIDEST) (w : ℕ) → w ≤ WIDEST �
 held_a version b w le kept =
     let test = in_range (λ field. nat_lt (value_of (form_a version) b field) (values (form_a version) w field)) (fields (form_a version)) in
     let writable = (kept_parts (form_a version) w b kept).1 in
-    kept_beat (form_a version) b w le kept (ltb-true b.head.address (2 ^ 64) (test 4 address writable refl)) (most w b.mask le (ltb-true b.mask (2 ^ w) (test 5 mask writable refl)))
+    kept_beat (form_a version) b w le kept (ltb-true b.head.address (2 ^ 64) (test 4 address writable refl))
+    (most w b.mask le (ltb-true b.mask (2 ^ w) (test 5 mask writable refl)))
 
 held_b : (version : ℕ) (b : BeatOf HeadB WIDEST) (w : ℕ) → w ≤ WIDEST → is_kept (form_b version) w b ≡ true → IsBeat rules_b (on_lanes w b)
 held_b version b w le kept =
     let test = in_range (λ field. nat_lt (value_of (form_b version) b field) (values (form_b version) w field)) (fields (form_b version)) in
     let writable = (kept_parts (form_b version) w b kept).1 in
-    kept_beat (form_b version) b w le kept (ltb-true b.head.address (2 ^ 64) (test 4 address writable refl)) (most w b.mask le (ltb-true b.mask (2 ^ w) (test 5 mask writable refl)))
+    kept_beat (form_b version) b w le kept (ltb-true b.head.address (2 ^ 64) (test 4 address writable refl))
+    (most w b.mask le (ltb-true b.mask (2 ^ w) (test 5 mask writable refl)))
 
 held_c : (version : ℕ) (b : BeatOf HeadC WIDEST) (w : ℕ) → w ≤ WIDEST → is_kept (form_c version) w b ≡ true → IsBeat rules_c (on_lanes w b)
 held_c version b w le kept =
     let test = in_range (λ field. nat_lt (value_of (form_c version) b field) (values (form_c version) w field)) (fields (form_c version)) in
-    kept_beat (form_c version) b w le kept (ltb-true b.head.address (2 ^ 64) (test 4 address (kept_parts (form_c version) w b kept).1 refl)) (no_mask (form_c version) b w refl kept)
+    kept_beat (form_c version) b w le kept (ltb-true b.head.address (2 ^ 64) (test 4 address (kept_parts (form_c version) w b kept).1 refl))
+    (no_mask (form_c version) b w refl kept)
 
 held_d : (version : ℕ) (b : BeatOf HeadD WIDEST) (w : ℕ) → w ≤ WIDEST → is_kept (form_d version) w b ≡ true → IsBeat rules_d (on_lanes w b)
 held_d version b w le kept = kept_beat (form_d version) b w le kept (omega arith) (no_mask (form_d version) b w refl kept)
@@ -73,7 +77,8 @@ held_e version b w le kept = kept_beat (form_e version) b w le kept (omega arith
 
 -- ---- the lists
 
-all_held : {X : Type 0} (P : X → Type 0) (h : Line → Option X) (q : Line → Bool) (lines : List Line) → ((line : Line) (x : X) → q line ≡ true → h line ≡ Some x → P x) → list_all q lines ≡ true → All P (filter_map h lines)
+all_held : {X : Type 0} (P : X → Type 0) (h : Line → Option X) (q : Line → Bool) (lines : List Line)
+    → ((line : Line) (x : X) → q line ≡ true → h line ≡ Some x → P x) → list_all q lines ≡ true → All P (filter_map h lines)
 all_held P h q [] each kept = All-nil P
 all_held {X} P h q (line ∷ lines) each kept =
     put (h line) refl (all_held P h q lines each (and_parts (q line) (list_all q lines) kept).1)
@@ -95,22 +100,27 @@ has_beats version client manager lines t =
       e = all_held (λ b. IsBeat rules_e b) (beat_of_e client) q lines (each_e c_le) t.kept;
     }
   where
-    each_a : client ≤ WIDEST → (line : Line) (x : BeatOf HeadA client) → is_kept_line version client manager line ≡ true → beat_of_a client line ≡ Some x → IsBeat rules_a x
+    each_a : client ≤ WIDEST → (line : Line) (x : BeatOf HeadA client) → is_kept_line version client manager line ≡ true
+        → beat_of_a client line ≡ Some x → IsBeat rules_a x
     each_a le (A b) x kept is = subst (λ y. IsBeat rules_a y) (same_Some (on_lanes client b) x is) (held_a version b client le kept)
     each_a le line x kept is = absurd cc
 
-    each_b : manager ≤ WIDEST → (line : Line) (x : BeatOf HeadB manager) → is_kept_line version client manager line ≡ true → beat_of_b manager line ≡ Some x → IsBeat rules_b x
+    each_b : manager ≤ WIDEST → (line : Line) (x : BeatOf HeadB manager) → is_kept_line version client manager line ≡ true
+        → beat_of_b manager line ≡ Some x → IsBeat rules_b x
     each_b le (B b) x kept is = subst (λ y. IsBeat rules_b y) (same_Some (on_lanes manager b) x is) (held_b version b manager le kept)
     each_b le line x kept is = absurd cc
 
-    each_c : client ≤ WIDEST → (line : Line) (x : BeatOf HeadC client) → is_kept_line version client manager line ≡ true → beat_of_c client line ≡ Some x → IsBeat rules_c x
+    each_c : client ≤ WIDEST → (line : Line) (x : BeatOf HeadC client) → is_kept_line version client manager line ≡ true
+        → beat_of_c client line ≡ Some x → IsBeat rules_c x
     each_c le (C b) x kept is = subst (λ y. IsBeat rules_c y) (same_Some (on_lanes client b) x is) (held_c version b client le kept)
     each_c le line x kept is = absurd cc
 
-    each_d : manager ≤ WIDEST → (line : Line) (x : BeatOf HeadD manager) → is_kept_line version client manager line ≡ true → beat_of_d manager line ≡ Some x → IsBeat rules_d x
+    each_d : manager ≤ WIDEST → (line : Line) (x : BeatOf HeadD manager) → is_kept_line version client manager line ≡ true
+        → beat_of_d manager line ≡ Some x → IsBeat rules_d x
     each_d le (D b) x kept is = subst (λ y. IsBeat rules_d y) (same_Some (on_lanes manager b) x is) (held_d version b manager le kept)
     each_d le line x kept is = absurd cc
 
-    each_e : client ≤ WIDEST → (line : Line) (x : BeatOf HeadE client) → is_kept_line version client manager line ≡ true → beat_of_e client line ≡ Some x → IsBeat rules_e x
+    each_e : client ≤ WIDEST → (line : Line) (x : BeatOf HeadE client) → is_kept_line version client manager line ≡ true
+        → beat_of_e client line ≡ Some x → IsBeat rules_e x
     each_e le (E b) x kept is = subst (λ y. IsBeat rules_e y) (same_Some (on_lanes client b) x is) (held_e version b client le kept)
     each_e le line x kept is = absurd cc

@@ -15,7 +15,8 @@ use Rattle.tl_trace.proofs.LineParts.{line_part, line_values, line_said, line_pl
 range_before : (text : List ℕ) (n a b : ℕ) → a ≤ b → b ≤ n → slice_range (take n text) a b ≡ slice_range text a b
 range_before text n a b first last =
     let whole : n ≡ a + (n - a) = omega arith in
-    ap (λ k. take (b - a) (drop a (take k text))) whole ∙ ap (take (b - a)) (drop-take a (n - a) text) ∙ take-take (b - a) (n - a) (drop a text) (omega arith)
+    ap (λ k. take (b - a) (drop a (take k text))) whole ∙ ap (take (b - a)) (drop-take a (n - a) text)
+    ∙ take-take (b - a) (n - a) (drop a text) (omega arith)
 
 field_before : (text : List ℕ) (n at count : ℕ) → at + 1 + count ≤ n → field_at (take n text) at count ≡ field_at text at count
 unfolding field_at
@@ -30,7 +31,8 @@ fields_before text n at (field ∷ fs) room =
     ap (λ o. o ∷ fields_from 0 (take n text) next fs) (field_before text n at (digit_count 0 field) (omega arith))
     ∙ ap (λ os. field_at text at (digit_count 0 field) ∷ os) (fields_before text n next fs (omega arith))
 
-pub same_long : (text : List ℕ) (at before n : ℕ) → at + n ≤ length text → before + n ≤ length text → length (slice_range text at (at + n)) ≡ length (slice_range text before (before + n))
+pub same_long : (text : List ℕ) (at before n : ℕ) → at + n ≤ length text → before + n ≤ length text
+    → length (slice_range text at (at + n)) ≡ length (slice_range text before (before + n))
 same_long text at before n room room' = range_long text at n room ∙ sym (range_long text before n room')
 
 both_good : (x y : ℕ) → x ≤ 15 → y ≤ 15 → bit_or x y ≤ 15
@@ -57,49 +59,69 @@ module _ {H : Type 0} (f : Form H) (version : ℕ) where
       }
 
   -- a line begins with the head of its first bytes
-  pub line_head : (text : List ℕ) (at long : ℕ) (h : H) → head_length f ≤ long → HasHead f version (slice_range text at (at + head_length f)) h → HasHead f version (slice_range text at (at + long)) h
+  pub line_head : (text : List ℕ) (at long : ℕ) (h : H) → head_length f ≤ long → HasHead f version (slice_range text at (at + head_length f)) h
+      → HasHead f version (slice_range text at (at + long)) h
   line_head text at long h room has =
       let few : at + head_length f - at ≡ head_length f = omega arith in
       let all : at + long - at ≡ long = omega arith in
       let cut : slice_range text at (at + head_length f) ≡ take (head_length f) (slice_range text at (at + long)) =
-      ap (λ k. take k (drop at text)) few ∙ sym (take-take (head_length f) long (drop at text) room) ∙ ap (λ k. take (head_length f) (take k (drop at text))) (sym all) in
+      ap (λ k. take k (drop at text)) few ∙ sym (take-take (head_length f) long (drop at text) room)
+      ∙ ap (λ k. take (head_length f) (take k (drop at text))) (sym all) in
       grown (slice_range text at (at + long)) (head_length f) h (omega arith) (subst (λ t. HasHead f version t h) cut has)
 
   -- what was read of a head
-  pub new_head : (text : List ℕ) (r : HeadFields) (o : Option H) → IsHead (id_digits version) text f.head_fields r → r.bad ≤ 15 → Takes f r o → IfSome o (HasHead f version text)
+  pub new_head : (text : List ℕ) (r : HeadFields) (o : Option H) → IsHead (id_digits version) text f.head_fields r → r.bad ≤ 15 → Takes f r o
+      → IfSome o (HasHead f version text)
   new_head text r None read good takes = tt
   new_head text r (Some h) read good takes = record { fields = r; read = read; good = good; is = takes }
 
   -- ---- one head after another
 
-  pub known_of : (text : List ℕ) (o : Option (KnownHead H)) (known : KnownHead H) → o ≡ Some known → IfSome o (IsKnown f version text) → IsKnown f version text known
+  pub known_of : (text : List ℕ) (o : Option (KnownHead H)) (known : KnownHead H) → o ≡ Some known → IfSome o (IsKnown f version text)
+      → IsKnown f version text known
   known_of text o known is all = rw is at all
 
+  -- the head of a text is that of the same text at another place
+  pub head_there : (text : List ℕ) (at before len : ℕ) (h : H) → len ≡ head_length f
+      → slice_range text at (at + len) ≡ slice_range text before (before + len)
+      → HasHead f version (slice_range text before (before + head_length f)) h → HasHead f version (slice_range text at (at + head_length f)) h
+  head_there text at before len h long same has =
+      let here : slice_range text before (before + head_length f) ≡ slice_range text at (at + head_length f) =
+      ap (λ k. slice_range text before (before + k)) (sym long) ∙ sym same ∙ ap (λ k. slice_range text at (at + k)) long in
+      subst (λ t. HasHead f version t h) here has
+
   -- a text that was read before has the head that it had
-  pub same_head : (text : List ℕ) (at len : ℕ) (known : KnownHead H) → len ≡ head_length f → slice_range text at (at + len) ≡ slice_range text known.at (known.at + len)
+  pub same_head : (text : List ℕ) (at len : ℕ) (known : KnownHead H) → len ≡ head_length f
+      → slice_range text at (at + len) ≡ slice_range text known.at (known.at + len)
       → IsKnown f version text known → HasHead f version (slice_range text at (at + head_length f)) known.head
-  same_head text at len known long same is =
-      let here : slice_range text known.at (known.at + head_length f) ≡ slice_range text at (at + head_length f) =
-      ap (λ k. slice_range text known.at (known.at + k)) (sym long) ∙ sym same ∙ ap (λ k. slice_range text at (at + k)) long in
-      subst (λ t. HasHead f version t known.head) here is.has
+  same_head text at len known long same is = head_there text at known.at len known.head long same is.has
 
   -- a head that was read is one that is known
-  pub read_head : (text : List ℕ) (at len : ℕ) (o : Option H) (h : H) → len ≡ head_length f → o ≡ Some h → IfSome o (HasHead f version (slice_range text at (at + len)))
+  pub read_head : (text : List ℕ) (at len : ℕ) (o : Option H) (h : H) → len ≡ head_length f → o ≡ Some h
+      → IfSome o (HasHead f version (slice_range text at (at + len)))
       → HasHead f version (slice_range text at (at + head_length f)) h
   read_head text at len o h long is has =
       let read : HasHead f version (slice_range text at (at + len)) h = rw is at has in
       subst (λ k. HasHead f version (slice_range text at (at + k)) h) long read
 
   -- the beat of a line by its parts
-  pub beat_is : {n : ℕ} (w : ℕ) (text : List ℕ) (b : BeatOf H n) (x mask_bad data_bad mask_at data_at : ℕ) → list_all is_head_field f.head_fields ≡ true
-      → slice_index text 0 ≡ f.rules.letter → length text ≡ line_length f w → mask_at ≡ head_length f → data_at ≡ mask_at + length_of w (mask_fields f) → HasHead f version text b.head
-      → IsPart w text mask_at (mask_fields f) (mask_values f b.mask) mask_bad → IsPart w text data_at (data_fields f) (data_values f (number_of_lanes b.lanes) x) data_bad → mask_bad ≤ 15 → data_bad ≤ 15
+  pub beat_is : {n : ℕ} (w : ℕ) (text : List ℕ) (b : BeatOf H n) (x mask_bad data_bad mask_at data_at : ℕ)
+      → list_all is_head_field f.head_fields ≡ true
+      → slice_index text 0 ≡ f.rules.letter → length text ≡ line_length f w → mask_at ≡ head_length f
+      → data_at ≡ mask_at + length_of w (mask_fields f) → HasHead f version text b.head
+      → IsPart w text mask_at (mask_fields f) (mask_values f b.mask) mask_bad
+      → IsPart w text data_at (data_fields f) (data_values f (number_of_lanes b.lanes) x) data_bad → mask_bad ≤ 15 → data_bad ≤ 15
       → nat_lt b.mask (2 ^ w) && nat_lt x 2 ≡ true → b.corrupt ≡ nat_eq x 1 → number_of_lanes b.lanes < 256 ^ w → is_lanes n b.lanes ≡ true
-      → (f.rules.masked ≡ false → b.mask ≡ 0) → (f.rules.corrupts ≡ false → (list_all (λ lane. nat_eq lane 0) b.lanes ≡ true) × (x ≡ 0)) → IsRead f w text b
+      → (f.rules.masked ≡ false → b.mask ≡ 0) → (f.rules.corrupts ≡ false → (list_all (λ lane. nat_eq lane 0) b.lanes ≡ true) × (x ≡ 0))
+      → IsRead f w text b
   beat_is w text b x mask_bad data_bad mask_at data_at heads letter long first second has masks datas mask_good data_good fit same_bit small lanes no_mask no_data =
       let r = has.fields in
-      let part = line_part f w (id_digits version) text r b.mask (number_of_lanes b.lanes) x mask_bad data_bad mask_at data_at heads first second has.read masks datas in
-      let range = below_is f w r b.mask (number_of_lanes b.lanes) x true heads no_mask (λ none. (no_data none).1) small (in_all (is_head_in_range f r) _ _ has.is.range fit) in
+      let part =
+      line_part f w (id_digits version) text r b.mask (number_of_lanes b.lanes) x mask_bad data_bad mask_at data_at heads first second has.read masks
+      datas in
+      let range =
+      below_is f w r b.mask (number_of_lanes b.lanes) x true heads no_mask (λ none. (no_data none).1) small
+      (in_all (is_head_in_range f r) _ _ has.is.range fit) in
       made f w b text (line_values f r b.mask (number_of_lanes b.lanes) x) letter long (part.good (both_good _ _ (both_good _ _ has.good mask_good) data_good))
       (line_said f b r x heads has.is (ap bit same_bit ∙ bit_of x (low (nat_lt b.mask (2 ^ w)) x fit))) range lanes
       (line_plain f b no_mask (λ none. ((no_data none).0, same_bit ∙ ap (λ k. nat_eq k 1) (no_data none).1)))

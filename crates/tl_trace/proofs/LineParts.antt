@@ -11,7 +11,8 @@ use Rattle.tl_trace.proofs.ReadDigits.{left_good, right_good, bad_or}
 
 -- ---- one part after the other
 
-pub number_part : (w : ℕ) (text : List ℕ) (at : ℕ) (field : Field) (v bad : ℕ) → IsNumber text at (digit_count w field) v bad → IsPart w text at (field ∷ []) (v ∷ []) bad
+pub number_part : (w : ℕ) (text : List ℕ) (at : ℕ) (field : Field) (v bad : ℕ) → IsNumber text at (digit_count w field) v bad
+    → IsPart w text at (field ∷ []) (v ∷ []) bad
 number_part w text at field v bad n = record {
   good = λ le. ap (λ (o : Option ℕ). o ∷ []) (n.good le);
   none = λ lt. ap (λ (o : Option ℕ). is_none o || false) (n.none lt);
@@ -20,7 +21,8 @@ number_part w text at field v bad n = record {
 pub no_part : (w : ℕ) (text : List ℕ) (at : ℕ) → IsPart w text at [] [] 0
 no_part w text at = record { good = λ le. refl; none = λ lt. absurd (omega (arith, lt)) }
 
-fields_append : (w : ℕ) (text : List ℕ) (at : ℕ) (xs ys : List Field) → fields_from w text at (xs ++ ys) ≡ fields_from w text at xs ++ fields_from w text (at + length_of w xs) ys
+fields_append : (w : ℕ) (text : List ℕ) (at : ℕ) (xs ys : List Field)
+    → fields_from w text at (xs ++ ys) ≡ fields_from w text at xs ++ fields_from w text (at + length_of w xs) ys
 fields_append w text at [] ys = let same : at ≡ at + 0 = omega arith in ap (λ (k : ℕ). fields_from w text k ys) same
 fields_append w text at (x ∷ xs) ys =
     let next = at + 1 + digit_count w x in
@@ -34,7 +36,8 @@ length_append w (x ∷ xs) ys = let rest = length_append w xs ys in omega (arith
 pub both_parts : (w : ℕ) (text : List ℕ) (at next : ℕ) (xs ys : List Field) (us vs : List ℕ) (bad bad' : ℕ) → next ≡ at + length_of w xs
     → IsPart w text at xs us bad → IsPart w text next ys vs bad' → IsPart w text at (xs ++ ys) (us ++ vs) (bit_or bad bad')
 both_parts w text at next xs ys us vs bad bad' there p q =
-    let split : fields_from w text at (xs ++ ys) ≡ fields_from w text at xs ++ fields_from w text next ys = fields_append w text at xs ys ∙ ap (λ (k : ℕ). fields_from w text at xs ++ fields_from w text k ys) (sym there) in
+    let split : fields_from w text at (xs ++ ys) ≡ fields_from w text at xs ++ fields_from w text next ys =
+    fields_append w text at xs ys ∙ ap (λ (k : ℕ). fields_from w text at xs ++ fields_from w text k ys) (sym there) in
     record {
       good = λ le. split ∙ ap (λ (os : List (Option ℕ)). os ++ fields_from w text next ys) (p.good (left_good bad bad' le))
           ∙ ap (λ (os : List (Option ℕ)). map Some us ++ os) (q.good (right_good bad bad' le)) ∙ sym (map-append Some us vs);
@@ -43,9 +46,12 @@ both_parts w text at next xs ys us vs bad bad' there p q =
     }
 
 -- one field more
-pub and_field : (w : ℕ) (text : List ℕ) (at next : ℕ) (xs : List Field) (us : List ℕ) (bad : ℕ) (field : Field) (v bad' : ℕ) → next ≡ at + length_of w xs
-    → IsPart w text at xs us bad → IsNumber text next (digit_count w field) v bad' → IsPart w text at (xs ++ field ∷ []) (us ++ v ∷ []) (bit_or bad bad')
-and_field w text at next xs us bad field v bad' there p n = both_parts w text at next xs (field ∷ []) us (v ∷ []) bad bad' there p (number_part w text next field v bad' n)
+pub and_field : (w : ℕ) (text : List ℕ) (at next : ℕ) (xs : List Field) (us : List ℕ) (bad : ℕ) (field : Field) (v bad' : ℕ)
+    → next ≡ at + length_of w xs
+    → IsPart w text at xs us bad → IsNumber text next (digit_count w field) v bad'
+    → IsPart w text at (xs ++ field ∷ []) (us ++ v ∷ []) (bit_or bad bad')
+and_field w text at next xs us bad field v bad' there p n =
+    both_parts w text at next xs (field ∷ []) us (v ∷ []) bad bad' there p (number_part w text next field v bad' n)
 
 -- ---- the fields of a head, on any width
 
@@ -55,7 +61,8 @@ head_count w data_lanes e = absurd cc
 head_count w corrupt e = absurd cc
 head_count w field e = refl
 
-head_from : (w : ℕ) (text : List ℕ) (at : ℕ) (fs : List Field) → list_all is_head_field fs ≡ true → fields_from w text at fs ≡ fields_from 0 text at fs
+head_from : (w : ℕ) (text : List ℕ) (at : ℕ) (fs : List Field) → list_all is_head_field fs ≡ true
+    → fields_from w text at fs ≡ fields_from 0 text at fs
 head_from w text at [] e = refl
 head_from w text at (field ∷ fs) e =
     let both = and_parts (is_head_field field) (list_all is_head_field fs) e in
@@ -70,7 +77,8 @@ head_length w (field ∷ fs) e =
     let rest = head_length w fs both.1 in
     omega (arith, here, rest)
 
-pub head_part : (w : ℕ) (text : List ℕ) (at : ℕ) (fs : List Field) (vs : List ℕ) (bad : ℕ) → list_all is_head_field fs ≡ true → IsPart 0 text at fs vs bad → IsPart w text at fs vs bad
+pub head_part : (w : ℕ) (text : List ℕ) (at : ℕ) (fs : List Field) (vs : List ℕ) (bad : ℕ) → list_all is_head_field fs ≡ true
+    → IsPart 0 text at fs vs bad → IsPart w text at fs vs bad
 head_part w text at fs vs bad heads p = record {
   good = λ le. head_from w text at fs heads ∙ p.good le;
   none = λ lt. ap (list_any is_none) (head_from w text at fs heads) ∙ p.none lt;
@@ -83,7 +91,8 @@ module _ {H : Type 0} (f : Form H) where
   head_limit w corrupt e = absurd cc
   head_limit w field e = refl
 
-  head_below : (w : ℕ) (r : HeadFields) (fs : List Field) → list_all is_head_field fs ≡ true → below f w fs (map (read_value r) fs) ≡ list_all (λ field. nat_lt (read_value r field) (values f 0 field)) fs
+  head_below : (w : ℕ) (r : HeadFields) (fs : List Field) → list_all is_head_field fs ≡ true
+      → below f w fs (map (read_value r) fs) ≡ list_all (λ field. nat_lt (read_value r field) (values f 0 field)) fs
   head_below w r [] e = refl
   head_below w r (field ∷ fs) e =
       let both = and_parts (is_head_field field) (list_all is_head_field fs) e in
@@ -100,7 +109,8 @@ module _ {H : Type 0} (f : Form H) where
   head_said b [] e = refl
   head_said b (field ∷ fs) e =
       let both = and_parts (is_head_field field) (list_all is_head_field fs) e in
-      ap (λ (k : ℕ). k ∷ map (value_of f b) fs) (head_of_beat b field both.0) ∙ ap (λ (ks : List ℕ). f.value b.head field ∷ ks) (head_said b fs both.1)
+      ap (λ (k : ℕ). k ∷ map (value_of f b) fs) (head_of_beat b field both.0)
+      ∙ ap (λ (ks : List ℕ). f.value b.head field ∷ ks) (head_said b fs both.1)
 
   -- no data, and none of their values, where the channel has none
   pub no_data : (w : ℕ) (text : List ℕ) (at d c : ℕ) → f.rules.corrupts ≡ false → IsPart w text at (data_fields f) (data_values f d c) 0
@@ -109,7 +119,8 @@ module _ {H : Type 0} (f : Form H) where
   pub data_room : (w at n : ℕ) → f.rules.corrupts ≡ true → at + length_of w (data_fields f) ≤ n → at + 1 + 2 * w + 1 + 1 ≤ n
   data_room w at n has room = let there = rw has at room in omega arith
 
-  pub data_part : (w : ℕ) (text : List ℕ) (at d c bad bad' : ℕ) → f.rules.corrupts ≡ true → IsNumber text at (2 * w) d bad → IsNumber text (at + 1 + 2 * w) 1 c bad'
+  pub data_part : (w : ℕ) (text : List ℕ) (at d c bad bad' : ℕ) → f.rules.corrupts ≡ true → IsNumber text at (2 * w) d bad
+      → IsNumber text (at + 1 + 2 * w) 1 c bad'
       → IsPart w text at (data_fields f) (data_values f d c) (bit_or bad bad')
   data_part w text at d c bad bad' has lanes bits = part f.rules.corrupts has
     where
@@ -125,42 +136,52 @@ module _ {H : Type 0} (f : Form H) where
   abbrev pub line_values : (r : HeadFields) (m d c : ℕ) → List ℕ
   line_values r m d c = (map (read_value r) f.head_fields ++ mask_values f m) ++ data_values f d c
 
-  pub line_long : (w : ℕ) → list_all is_head_field f.head_fields ≡ true → line_length f w ≡ 1 + length_of 0 f.head_fields + length_of w (mask_fields f) + length_of w (data_fields f)
+  pub line_long : (w : ℕ) → list_all is_head_field f.head_fields ≡ true
+      → line_length f w ≡ 1 + length_of 0 f.head_fields + length_of w (mask_fields f) + length_of w (data_fields f)
   line_long w heads =
       let head = head_length w f.head_fields heads in
       let two = length_append w f.head_fields (mask_fields f) in
       let three = length_append w (f.head_fields ++ mask_fields f) (data_fields f) in
       omega (arith, head, two, three)
 
-  pub line_part : (w digits : ℕ) (text : List ℕ) (r : HeadFields) (m d c mask_bad data_bad mask_at data_at : ℕ) → list_all is_head_field f.head_fields ≡ true
+  pub line_part : (w digits : ℕ) (text : List ℕ) (r : HeadFields) (m d c mask_bad data_bad mask_at data_at : ℕ)
+      → list_all is_head_field f.head_fields ≡ true
       → mask_at ≡ 1 + length_of 0 f.head_fields → data_at ≡ mask_at + length_of w (mask_fields f)
-      → IsHead digits text f.head_fields r → IsPart w text mask_at (mask_fields f) (mask_values f m) mask_bad → IsPart w text data_at (data_fields f) (data_values f d c) data_bad
+      → IsHead digits text f.head_fields r → IsPart w text mask_at (mask_fields f) (mask_values f m) mask_bad
+      → IsPart w text data_at (data_fields f) (data_values f d c) data_bad
       → IsPart w text 1 (fields f) (line_values r m d c) (bit_or (bit_or r.bad mask_bad) data_bad)
   line_part w digits text r m d c mask_bad data_bad mask_at data_at heads first second head masks datas =
       let wide = head_length w f.head_fields heads in
       let two = length_append w f.head_fields (mask_fields f) in
       let there : mask_at ≡ 1 + length_of w f.head_fields = omega (arith, wide, first) in
       let there' : data_at ≡ 1 + length_of w (f.head_fields ++ mask_fields f) = omega (arith, wide, two, first, second) in
-      let front = both_parts w text 1 mask_at f.head_fields (mask_fields f) (map (read_value r) f.head_fields) (mask_values f m) r.bad mask_bad there (head_part w text 1 f.head_fields (map (read_value r) f.head_fields) r.bad heads head.part) masks in
-      both_parts w text 1 data_at (f.head_fields ++ mask_fields f) (data_fields f) (map (read_value r) f.head_fields ++ mask_values f m) (data_values f d c) (bit_or r.bad mask_bad) data_bad there' front datas
+      let front =
+      both_parts w text 1 mask_at f.head_fields (mask_fields f) (map (read_value r) f.head_fields) (mask_values f m) r.bad mask_bad there
+      (head_part w text 1 f.head_fields (map (read_value r) f.head_fields) r.bad heads head.part) masks in
+      both_parts w text 1 data_at (f.head_fields ++ mask_fields f) (data_fields f) (map (read_value r) f.head_fields ++ mask_values f m)
+      (data_values f d c) (bit_or r.bad mask_bad) data_bad there' front datas
 
   and_and : (a b c : Bool) → (a && b) && c ≡ a && (b && c)
   and_and true b c = refl
   and_and false b c = refl
 
-  below_append : (w : ℕ) (xs ys : List Field) (us vs : List ℕ) → length us ≡ length xs → below f w (xs ++ ys) (us ++ vs) ≡ below f w xs us && below f w ys vs
+  below_append : (w : ℕ) (xs ys : List Field) (us vs : List ℕ) → length us ≡ length xs
+      → below f w (xs ++ ys) (us ++ vs) ≡ below f w xs us && below f w ys vs
   below_append w [] ys [] vs e = refl
   below_append w [] ys (u ∷ us) vs e = absurd (omega arith)
   below_append w (x ∷ xs) ys [] vs e = absurd (omega arith)
   below_append w (x ∷ xs) ys (u ∷ us) vs e =
-      ap (λ (b : Bool). nat_lt u (values f w x) && b) (below_append w xs ys us vs (omega arith)) ∙ sym (and_and (nat_lt u (values f w x)) (below f w xs us) (below f w ys vs))
+      ap (λ (b : Bool). nat_lt u (values f w x) && b) (below_append w xs ys us vs (omega arith))
+      ∙ sym (and_and (nat_lt u (values f w x)) (below f w xs us) (below f w ys vs))
 
   mask_long : (m : ℕ) (b : Bool) → length {A = ℕ} (cond b (m ∷ []) []) ≡ length {A = Field} (cond b (mask ∷ []) [])
   mask_long m true = refl
   mask_long m false = refl
 
   lengths : (r : HeadFields) (m : ℕ) → length (map (read_value r) f.head_fields ++ mask_values f m) ≡ length (f.head_fields ++ mask_fields f)
-  lengths r m = grow (map (read_value r) f.head_fields) (mask_values f m) f.head_fields (mask_fields f) (length-map f.head_fields (read_value r)) (mask_long m f.rules.masked)
+  lengths r m =
+      grow (map (read_value r) f.head_fields) (mask_values f m) f.head_fields (mask_fields f) (length-map f.head_fields (read_value r))
+      (mask_long m f.rules.masked)
     where
       grow : (us vs : List ℕ) (xs ys : List Field) → length us ≡ length xs → length vs ≡ length ys → length (us ++ vs) ≡ length (xs ++ ys)
       grow us vs xs ys e e' = omega (arith, length-append us vs, length-append xs ys, e, e')
@@ -169,15 +190,18 @@ module _ {H : Type 0} (f : Form H) where
   mask_test w m true none = and-true (nat_lt m (2 ^ w))
   mask_test w m false none = sym (lt-ltb m (2 ^ w) (let zero = none refl in let most = pow_pos w in omega (arith, zero, most)))
 
-  data_test : (w d c : ℕ) (b : Bool) → (b ≡ false → c ≡ 0) → d < 256 ^ w → below f w (cond b (data_lanes ∷ corrupt ∷ []) []) (cond b (d ∷ c ∷ []) []) ≡ nat_lt c 2
+  data_test : (w d c : ℕ) (b : Bool) → (b ≡ false → c ≡ 0) → d < 256 ^ w
+      → below f w (cond b (data_lanes ∷ corrupt ∷ []) []) (cond b (d ∷ c ∷ []) []) ≡ nat_lt c 2
   data_test w d c true none small = rw (lt-ltb d (256 ^ w) small) (and-true (nat_lt c 2))
   data_test w d c false none small = sym (lt-ltb c 2 (let zero = none refl in omega (arith, zero)))
 
   -- a line is in range where its head, its mask and corrupt are
-  pub line_range : (w : ℕ) (r : HeadFields) (m d c : ℕ) → list_all is_head_field f.head_fields ≡ true → (f.rules.masked ≡ false → m ≡ 0) → (f.rules.corrupts ≡ false → c ≡ 0) → d < 256 ^ w
+  pub line_range : (w : ℕ) (r : HeadFields) (m d c : ℕ) → list_all is_head_field f.head_fields ≡ true → (f.rules.masked ≡ false → m ≡ 0)
+      → (f.rules.corrupts ≡ false → c ≡ 0) → d < 256 ^ w
       → below f w (fields f) (line_values r m d c) ≡ (is_head_in_range f r && nat_lt m (2 ^ w)) && nat_lt c 2
   line_range w r m d c heads no_mask no_data small =
-      below_append w (f.head_fields ++ mask_fields f) (data_fields f) (map (read_value r) f.head_fields ++ mask_values f m) (data_values f d c) (lengths r m)
+      below_append w (f.head_fields ++ mask_fields f) (data_fields f) (map (read_value r) f.head_fields ++ mask_values f m) (data_values f d c)
+      (lengths r m)
       ∙ ap (λ (b : Bool). b && below f w (data_fields f) (data_values f d c)) (below_append w f.head_fields (mask_fields f) (map (read_value r) f.head_fields) (mask_values f m) (length-map f.head_fields (read_value r))
       ∙ ap (λ (b : Bool). b && below f w (mask_fields f) (mask_values f m)) (head_below w r f.head_fields heads)
       ∙ ap (λ (b : Bool). is_head_in_range f r && b) (mask_test w m f.rules.masked no_mask))
@@ -187,33 +211,41 @@ module _ {H : Type 0} (f : Form H) where
   mask_said b true = refl
   mask_said b false = refl
 
-  data_said : {n : ℕ} (b : BeatOf H n) (t : Bool) → map (value_of f b) (cond t (data_lanes ∷ corrupt ∷ []) []) ≡ cond t (number_of_lanes b.lanes ∷ bit b.corrupt ∷ []) []
+  data_said : {n : ℕ} (b : BeatOf H n) (t : Bool)
+      → map (value_of f b) (cond t (data_lanes ∷ corrupt ∷ []) []) ≡ cond t (number_of_lanes b.lanes ∷ bit b.corrupt ∷ []) []
   data_said b true = refl
   data_said b false = refl
 
-  pub line_said : {n : ℕ} (b : BeatOf H n) (r : HeadFields) (c : ℕ) → list_all is_head_field f.head_fields ≡ true → IsHeadOf f r b.head → bit b.corrupt ≡ c
+  pub line_said : {n : ℕ} (b : BeatOf H n) (r : HeadFields) (c : ℕ) → list_all is_head_field f.head_fields ≡ true → IsHeadOf f r b.head
+      → bit b.corrupt ≡ c
       → map (value_of f b) (fields f) ≡ line_values r b.mask (number_of_lanes b.lanes) c
   line_said b r c heads head same =
       map-append (value_of f b) (f.head_fields ++ mask_fields f) (data_fields f)
       ∙ ap (λ (vs : List ℕ). vs ++ map (value_of f b) (data_fields f)) (map-append (value_of f b) f.head_fields (mask_fields f)
       ∙ ap (λ (vs : List ℕ). vs ++ map (value_of f b) (mask_fields f)) (head_said b f.head_fields heads ∙ head.same)
       ∙ ap (λ (vs : List ℕ). map (read_value r) f.head_fields ++ vs) (mask_said b f.rules.masked))
-      ∙ ap (λ (vs : List ℕ). (map (read_value r) f.head_fields ++ mask_values f b.mask) ++ vs) (data_said b f.rules.corrupts ∙ ap (λ (k : ℕ). cond f.rules.corrupts (number_of_lanes b.lanes ∷ k ∷ []) []) same)
+      ∙ ap (λ (vs : List ℕ). (map (read_value r) f.head_fields ++ mask_values f b.mask) ++ vs)
+      (data_said b f.rules.corrupts ∙ ap (λ (k : ℕ). cond f.rules.corrupts (number_of_lanes b.lanes ∷ k ∷ []) []) same)
 
-  pub line_plain : {n : ℕ} (b : BeatOf H n) → (f.rules.masked ≡ false → b.mask ≡ 0) → (f.rules.corrupts ≡ false → (list_all (λ lane. nat_eq lane 0) b.lanes ≡ true) × (b.corrupt ≡ false)) → is_plain f b ≡ true
-  line_plain b no_mask no_data = and_from (f.rules.masked || nat_eq b.mask 0) (f.rules.corrupts || (list_all (λ lane. nat_eq lane 0) b.lanes && not b.corrupt)) (left f.rules.masked no_mask) (right f.rules.corrupts no_data)
+  pub line_plain : {n : ℕ} (b : BeatOf H n) → (f.rules.masked ≡ false → b.mask ≡ 0)
+      → (f.rules.corrupts ≡ false → (list_all (λ lane. nat_eq lane 0) b.lanes ≡ true) × (b.corrupt ≡ false)) → is_plain f b ≡ true
+  line_plain b no_mask no_data =
+      and_from (f.rules.masked || nat_eq b.mask 0) (f.rules.corrupts || (list_all (λ lane. nat_eq lane 0) b.lanes && not b.corrupt))
+      (left f.rules.masked no_mask) (right f.rules.corrupts no_data)
     where
       left : (t : Bool) → (t ≡ false → b.mask ≡ 0) → t || nat_eq b.mask 0 ≡ true
       left true none = refl
       left false none = rw (none refl) refl
 
-      right : (t : Bool) → (t ≡ false → (list_all (λ lane. nat_eq lane 0) b.lanes ≡ true) × (b.corrupt ≡ false)) → t || (list_all (λ lane. nat_eq lane 0) b.lanes && not b.corrupt) ≡ true
+      right : (t : Bool) → (t ≡ false → (list_all (λ lane. nat_eq lane 0) b.lanes ≡ true) × (b.corrupt ≡ false))
+          → t || (list_all (λ lane. nat_eq lane 0) b.lanes && not b.corrupt) ≡ true
       right true none = refl
       right false none = rw ((none refl).0, (none refl).1) refl
 
   -- ---- what the readers need
 
-  pub below_is : (w : ℕ) (r : HeadFields) (m d c : ℕ) (bad : Bool) → list_all is_head_field f.head_fields ≡ true → (f.rules.masked ≡ false → m ≡ 0) → (f.rules.corrupts ≡ false → c ≡ 0) → d < 256 ^ w
+  pub below_is : (w : ℕ) (r : HeadFields) (m d c : ℕ) (bad : Bool) → list_all is_head_field f.head_fields ≡ true → (f.rules.masked ≡ false → m ≡ 0)
+      → (f.rules.corrupts ≡ false → c ≡ 0) → d < 256 ^ w
       → (is_head_in_range f r && nat_lt m (2 ^ w)) && nat_lt c 2 ≡ bad → below f w (fields f) (line_values r m d c) ≡ bad
   below_is w r m d c bad heads no_mask no_data small is = line_range w r m d c heads no_mask no_data small ∙ is
 

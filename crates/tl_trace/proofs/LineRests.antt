@@ -36,7 +36,8 @@ module _ {H : Type 0} (f : Form H) {n : ℕ} (w : ℕ) where
       let masks = mask_text masked w b.mask in
       let datas = data_text has_data w b.lanes b.corrupt in
       is ∙ ap (λ xs. xs ++ rest_text masked has_data w b) head
-      ∙ sym (append_assoc (head_text f b.head) (masks ++ datas) newline) ∙ ap (λ xs. xs ++ newline) (sym (append_assoc (head_text f b.head) masks datas) ∙ line_parts f w b masked has_data has_mask has_datas narrow)
+      ∙ sym (append_assoc (head_text f b.head) (masks ++ datas) newline)
+      ∙ ap (λ xs. xs ++ newline) (sym (append_assoc (head_text f b.head) masks datas) ∙ line_parts f w b masked has_data has_mask has_datas narrow)
 
   -- lines are appended, behind what stood there
   pub record Appended (old : List ℕ) (beats : List (BeatOf H n)) (start : ℕ) (out : List ℕ) : Type 0 where
@@ -52,7 +53,8 @@ module _ {H : Type 0} (f : Form H) {n : ℕ} (w : ℕ) where
   }
 
   -- one line more
-  pub appended_more : (old out new line : List ℕ) (beats : List (BeatOf H n)) (start i : ℕ) (b : BeatOf H n) → i < length beats → line ≡ line_text f w (get_or beats i b) ++ newline →
+  pub appended_more : (old out new line : List ℕ) (beats : List (BeatOf H n)) (start i : ℕ) (b : BeatOf H n) → i < length beats
+      → line ≡ line_text f w (get_or beats i b) ++ newline →
       new ≡ out ++ line → Appended old (take i beats) start out → Appended old (take (i + 1) beats) start new
   appended_more old out new line beats start i b less is written before =
       let this = get_or beats i b in
@@ -60,15 +62,19 @@ module _ {H : Type 0} (f : Form H) {n : ℕ} (w : ℕ) where
         long = omega (arith, before.long, length-append out line, ap length written);
         front = ap (take start) written ∙ take-append-le start out line before.long ∙ before.front;
         made =
-            written ∙ ap (λ x. x ++ line) before.made ∙ append_assoc old (beats_text f w (take i beats)) line ∙ ap (λ x. old ++ (beats_text f w (take i beats) ++ x)) (is ∙ sym (append-nil (line_text f w this ++ newline))) ∙
-            ap (λ x. old ++ x) (sym (flat_map-append (λ x. line_text f w x ++ newline) (take i beats) (this ∷ []))) ∙ ap (λ bs. old ++ beats_text f w bs) (sym (take_more beats i b less));
+            written ∙ ap (λ x. x ++ line) before.made ∙ append_assoc old (beats_text f w (take i beats)) line
+            ∙ ap (λ x. old ++ (beats_text f w (take i beats) ++ x)) (is ∙ sym (append-nil (line_text f w this ++ newline))) ∙
+            ap (λ x. old ++ x) (sym (flat_map-append (λ x. line_text f w x ++ newline) (take i beats) (this ∷ [])))
+            ∙ ap (λ bs. old ++ beats_text f w bs) (sym (take_more beats i b less));
       }
 
-  pub appended_all : (old out : List ℕ) (beats : List (BeatOf H n)) (start i : ℕ) → length beats ≤ i → Appended old (take i beats) start out → out ≡ old ++ beats_text f w beats
+  pub appended_all : (old out : List ℕ) (beats : List (BeatOf H n)) (start i : ℕ) → length beats ≤ i → Appended old (take i beats) start out
+      → out ≡ old ++ beats_text f w beats
   appended_all old out beats start i past before = before.made ∙ ap (λ bs. old ++ beats_text f w bs) (take_all i beats past)
 
   -- what stood there before all lines
-  pub appended_front : (old out new : List ℕ) (beats : List (BeatOf H n)) (start : ℕ) → new ≡ out → Appended old beats start out → take start new ≡ old
+  pub appended_front : (old out new : List ℕ) (beats : List (BeatOf H n)) (start : ℕ) → new ≡ out → Appended old beats start out
+      → take start new ≡ old
   appended_front old out new beats start same before = ap (take start) same ∙ before.front
 
 pub on_err_at : {T E P : Type 0} (r : Result T E) → P → OnErr r P

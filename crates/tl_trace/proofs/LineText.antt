@@ -11,7 +11,8 @@ two_parts : (g : Field → List ℕ) (m : Bool) (x y : Field) → flat_map g (co
 two_parts g true x y = ap (λ (ys : List ℕ). g x ++ ys) (append-nil (g y))
 two_parts g false x y = refl
 
-pub line_parts : {H : Type 0} (f : Form H) {n : ℕ} (w : ℕ) (b : BeatOf H n) (masked corrupts : Bool) → f.rules.masked ≡ masked → f.rules.corrupts ≡ corrupts
+pub line_parts : {H : Type 0} (f : Form H) {n : ℕ} (w : ℕ) (b : BeatOf H n) (masked corrupts : Bool) → f.rules.masked ≡ masked
+    → f.rules.corrupts ≡ corrupts
     → flat_map (λ field. 32 ∷ hex (digit_count w field) (value_of f b field)) f.head_fields ≡ flat_map (λ field. 32 ∷ hex (digit_count 0 field) (f.value b.head field)) f.head_fields
     → (head_text f b.head ++ cond masked (32 ∷ hex ((w + 3) / 4) b.mask) [])
     ++ cond corrupts ((32 ∷ hex (2 * w) (number_of_lanes b.lanes)) ++ 32 ∷ hex 1 (bit b.corrupt)) []

@@ -15,7 +15,8 @@ short : (version w : ℕ) → w ≤ WIDEST
 short version w le = let few = ids_few version in (omega arith, omega arith, omega arith, omega arith, omega arith)
 
 -- a line that says a beat is not too long
-pub says_short : (version client manager : ℕ) (line : Line) (text : List ℕ) → client ≤ WIDEST → manager ≤ WIDEST → SaysLine version client manager line text → length text < LONGEST_LINE
+pub says_short : (version client manager : ℕ) (line : Line) (text : List ℕ) → client ≤ WIDEST → manager ≤ WIDEST
+    → SaysLine version client manager line text → length text < LONGEST_LINE
 says_short version client manager (A b) text c m says = let short = (short version client c).0 in omega (arith, says.long)
 says_short version client manager (B b) text c m says = let short = (short version manager m).1 in omega (arith, says.long)
 says_short version client manager (C b) text c m says = let short = (short version client c).2 in omega (arith, says.long)
@@ -30,7 +31,9 @@ other m n lt = pick (m == n) refl
     pick false e = e
 
 form_long : {H : Type 0} (f : Form H) (w : ℕ) (text : List ℕ) → line_length f w < length text → form_fault f w text ≡ Some Length
-form_long f w text lt = ap (λ (b : Bool). unless b Length or_else unless (is_shaped f w text) Shape or_else unless (is_in_range f w text) Range) (other (length text) (line_length f w) lt)
+form_long f w text lt =
+    ap (λ (b : Bool). unless b Length or_else unless (is_shaped f w text) Shape or_else unless (is_in_range f w text) Range)
+    (other (length text) (line_length f w) lt)
 
 -- the fault of a line that is too long
 abbrev letter_fault : (letter : ℕ) → Option TraceKind
@@ -38,7 +41,8 @@ letter_fault letter =
     if letter == 65 then Some Length else if letter == 66 then Some Length else if letter == 67 then Some Length else
     if letter == 68 then Some Length else if letter == 69 then Some Length else Some Channel
 
-by_letter : (version client manager : ℕ) (text : List ℕ) → client ≤ WIDEST → manager ≤ WIDEST → LONGEST_LINE ≤ length text → body_fault version client manager text ≡ letter_fault (slice_index text 0)
+by_letter : (version client manager : ℕ) (text : List ℕ) → client ≤ WIDEST → manager ≤ WIDEST → LONGEST_LINE ≤ length text
+    → body_fault version client manager text ≡ letter_fault (slice_index text 0)
 by_letter version client manager text c m long =
     let a = form_long (form_a version) client text (let short = (short version client c).0 in omega arith) in
     let b = form_long (form_b version) manager text (let short = (short version manager m).1 in omega arith) in
@@ -58,13 +62,15 @@ body_on (byte ∷ text) more free =
     rw no (ap (λ (xs : List ℕ). byte ∷ xs) (body_on text more (or_parts (is_newline byte) (list_any is_newline text) free).1))
 
 -- the fault of the start of such a line is the line's
-pub long_fault : (version client manager : ℕ) (text more : List ℕ) (kind : TraceKind) → client ≤ WIDEST → manager ≤ WIDEST → IsFree text → LONGEST_LINE ≤ length text
+pub long_fault : (version client manager : ℕ) (text more : List ℕ) (kind : TraceKind) → client ≤ WIDEST → manager ≤ WIDEST → IsFree text
+    → LONGEST_LINE ≤ length text
     → body_fault version client manager text ≡ Some kind → later_fault version client manager (text ++ more) ≡ Some kind
 long_fault version client manager text more kind c m free long is =
     let whole = text ++ body more in
     let longer : LONGEST_LINE ≤ length whole = let sum = length-append text (body more) in omega arith in
     let same : body_fault version client manager whole ≡ Some kind =
-    by_letter version client manager whole c m longer ∙ ap letter_fault (same_letter text (body more) (omega arith)) ∙ sym (by_letter version client manager text c m long) ∙ is in
+    by_letter version client manager whole c m longer ∙ ap letter_fault (same_letter text (body more) (omega arith))
+    ∙ sym (by_letter version client manager text c m long) ∙ is in
     ap (λ (o : Option TraceKind). o or_else end_fault (text ++ more)) (ap (λ (b : List ℕ). body_fault version client manager b) (body_on text more free) ∙ same)
 
 -- the first line of a text begins with what is free of line ends

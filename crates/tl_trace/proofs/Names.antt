@@ -21,7 +21,7 @@ pub use Rattle.std.specs.Int.{w64, from_le_bytes, to_le_bytes}
 pub use Rattle.std.specs.List.{list_all, list_any, flat_map, slice_range, slice_index, filter_map, cons_option, range_with_len, Any}
 pub use Rattle.std.specs.Option.{option_or, option_to_list, option_map_or}
 pub use Rattle.std.specs.Prelude.{decimal, codes, find, ◌==◌, slice_get, All, IfSome, OnOk, OnErr, if◌then◌else◌, MatchOption, is_some, bytes_eq}
-pub use Rattle.std.specs.Prelude.{MatchResult}
+pub use Rattle.std.specs.Prelude.{MatchResult, Vec}
 pub use Rattle.std.specs.Result.{is_err, is_ok}
 pub use Rattle.std.specs.Str.Parse.{digits_value, digits_value_after}
 pub use Rattle.tl_lanes.proofs.Widths.{each_width, width_bounds}
@@ -39,9 +39,10 @@ unfoldable pub use Rattle.tl_trace.specs.Faults.{header_of}
 pub use Rattle.tl_trace.specs.Fields.{Field, Form, digit_count, length_of, fields, form_a, form_b, form_c, form_d, form_e, number_of_lanes, id_digits}
 pub use Rattle.tl_trace.specs.Fields.{address, mask, value_of, values, bit, mask_fields, data_fields, line_length, data_lanes, corrupt, is_id_short}
 pub use Rattle.tl_trace.specs.Fields.{opcode, param, size, source, sink, denied, common}
-pub use Rattle.tl_trace.specs.Inner.KnownHeads.{head_length, HasHead, IsKnown, AreKnown}
+pub use Rattle.tl_trace.specs.Inner.KnownHeads.{head_length, HasHead, IsKnown, AreKnown, IsSameAt}
 pub use Rattle.tl_trace.specs.Inner.Reading.{digit_of, IsSmall, fields_from, is_head_field, is_head_in_range, IsPart, IsHead, IsRead, Takes}
 pub use Rattle.tl_trace.specs.Inner.Reading.{mask_values, data_values, read_value, IsNumber, IsHeadOf, IsReadLine, IsLinePushed, IsNextPushed}
+pub use Rattle.tl_trace.specs.Inner.Reading.{ArePushed, AreLinesPushed, AreBehind, AreNextPushed}
 pub use Rattle.tl_trace.specs.Inner.Reading.{IsPieceRead, IsSameScript, IsPushed, IsFaultyAt, IsReadableAt, LineAt, IsPair, IsSpelt}
 unfoldable pub use Rattle.tl_trace.specs.Inner.Reading.{number_of, field_at}
 pub use Rattle.tl_trace.specs.Lines.{FieldPlace, places_from, places, is_hex, digits_at, is_shaped_at, IsLine, hex, is_kept, is_lanes, is_plain}
@@ -60,3 +61,4 @@ pub use Rattle.tl_trace.specs.declared.line.Line.{Line}
 pub use Rattle.tl_trace.specs.declared.line.Line.TheVariants.{A, B, C, D, E}
 pub use Rattle.tl_trace.specs.declared.places.TheConstants.{LONGEST_LINE}
 pub use Rattle.tl_trace.specs.declared.script.Script.{Script}
+pub use Rattle.tl_trace.specs.declared.script_reader.PushedLines.{PushedLines}

@@ -24,7 +24,8 @@ pub record Split (xs ys more more' : List ℕ) : Type 0 where
 not_stop : (b stop : ℕ) → (b == stop) ≡ false → b ≡ stop → false ≡ true
 not_stop b stop other e = sym other ∙ eq-eqb b stop e
 
-split_at : (stop : ℕ) (xs ys more more' : List ℕ) → xs ++ stop ∷ more ≡ ys ++ stop ∷ more' → Without stop xs → Without stop ys → Split xs ys more more'
+split_at : (stop : ℕ) (xs ys more more' : List ℕ) → xs ++ stop ∷ more ≡ ys ++ stop ∷ more' → Without stop xs → Without stop ys
+    → Split xs ys more more'
 split_at stop [] [] more more' e none none' = record { front = refl; back = cc }
 split_at stop [] (y ∷ ys) more more' e none none' =
     let same : y ≡ stop = cc in let bad = not_stop y stop (or_parts (y == stop) (list_any (λ b. b == stop) ys) none').0 same in absurd cc
@@ -33,7 +34,9 @@ split_at stop (x ∷ xs) [] more more' e none none' =
 split_at stop (x ∷ xs) (y ∷ ys) more more' e none none' =
     let same : x ≡ y = cc in
     let rest : xs ++ stop ∷ more ≡ ys ++ stop ∷ more' = cc in
-    let more_split = split_at stop xs ys more more' rest (or_parts (x == stop) (list_any (λ b. b == stop) xs) none).1 (or_parts (y == stop) (list_any (λ b. b == stop) ys) none').1 in
+    let more_split =
+    split_at stop xs ys more more' rest (or_parts (x == stop) (list_any (λ b. b == stop) xs) none).1
+    (or_parts (y == stop) (list_any (λ b. b == stop) ys) none').1 in
     record { front = ap (λ (b : ℕ). b ∷ xs) same ∙ ap (λ (zs : List ℕ). y ∷ zs) more_split.front; back = more_split.back }
 
 -- ---- the header
@@ -42,12 +45,14 @@ pub in_list : (p : ℕ → Bool) (xs : List ℕ) (w : ℕ) → list_any (λ x. w
 in_list p [] w e all = absurd cc
 in_list p (x ∷ xs) w e all = pick (w == x) refl e (and_parts (p x) (list_all p xs) all).0 (in_list p xs w) (and_parts (p x) (list_all p xs) all).1
   where
-    pick : (b : Bool) → (w == x) ≡ b → b || list_any (λ y. w == y) xs ≡ true → p x ≡ true → (list_any (λ y. w == y) xs ≡ true → list_all p xs ≡ true → p w ≡ true) → list_all p xs ≡ true → p w ≡ true
+    pick : (b : Bool) → (w == x) ≡ b → b || list_any (λ y. w == y) xs ≡ true → p x ≡ true
+        → (list_any (λ y. w == y) xs ≡ true → list_all p xs ≡ true → p w ≡ true) → list_all p xs ≡ true → p w ≡ true
     pick true is any here more rest = ap p (eqb-true w x is) ∙ here
     pick false is any here more rest = more any rest
 
 -- no number of the list has this byte among its digits
-clear : (stop : ℕ) (xs : List ℕ) (n : ℕ) → list_any (λ x. n == x) xs ≡ true → list_all (λ x. not (list_any (λ b. b == stop) (decimal x))) xs ≡ true → Without stop (decimal n)
+clear : (stop : ℕ) (xs : List ℕ) (n : ℕ) → list_any (λ x. n == x) xs ≡ true → list_all (λ x. not (list_any (λ b. b == stop) (decimal x))) xs ≡ true
+    → Without stop (decimal n)
 clear stop xs n is all = not-true (list_any (λ b. b == stop) (decimal n)) (in_list (λ x. not (list_any (λ b. b == stop) (decimal x))) xs n is all)
 
 -- nor has a width
@@ -92,18 +97,28 @@ behind_version client manager rest = decimal client ++ (codes " manager " ++ (de
 abbrev behind_client : (manager : ℕ) → List ℕ → List ℕ
 behind_client manager rest = decimal manager ++ 10 ∷ rest
 
-whole_header : (version client manager : ℕ) (rest : List ℕ) → header_text version client manager ++ newline ++ rest ≡ codes "tilelink-trace " ++ (decimal version ++ (codes " client " ++ behind_version client manager rest))
-whole_header version client manager rest = flat (codes "tilelink-trace ") (decimal version) (codes " client ") (decimal client) (codes " manager ") (decimal manager) rest
+whole_header : (version client manager : ℕ) (rest : List ℕ)
+    → header_text version client manager ++ newline ++ rest ≡ codes "tilelink-trace " ++ (decimal version ++ (codes " client " ++ behind_version client manager rest))
+whole_header version client manager rest =
+    flat (codes "tilelink-trace ") (decimal version) (codes " client ") (decimal client) (codes " manager ") (decimal manager) rest
 
-pub same_header : (version client manager version' client' manager' : ℕ) (rest rest' : List ℕ) → is_version version ≡ true → is_width version client ≡ true → is_width version manager ≡ true
+pub same_header : (version client manager version' client' manager' : ℕ) (rest rest' : List ℕ) → is_version version ≡ true
+    → is_width version client ≡ true → is_width version manager ≡ true
     → is_version version' ≡ true → is_width version' client' ≡ true → is_width version' manager' ≡ true
-    → header_text version client manager ++ newline ++ rest ≡ header_text version' client' manager' ++ newline ++ rest' → SameHeader version client manager version' client' manager' rest rest'
+    → header_text version client manager ++ newline ++ rest ≡ header_text version' client' manager' ++ newline ++ rest'
+    → SameHeader version client manager version' client' manager' rest rest'
 same_header version client manager version' client' manager' rest rest' v c m v' c' m' e =
     let e0 = sym (whole_header version client manager rest) ∙ e ∙ whole_header version' client' manager' rest' in
-    let e1 = append_cancel_left (codes "tilelink-trace ") (decimal version ++ (codes " client " ++ behind_version client manager rest)) (decimal version' ++ (codes " client " ++ behind_version client' manager' rest')) e0 in
-    let s0 = split_at 32 (decimal version) (decimal version') (codes "client " ++ behind_version client manager rest) (codes "client " ++ behind_version client' manager' rest') e1 (no_space_in_version version v) (no_space_in_version version' v') in
+    let e1 =
+    append_cancel_left (codes "tilelink-trace ") (decimal version ++ (codes " client " ++ behind_version client manager rest))
+    (decimal version' ++ (codes " client " ++ behind_version client' manager' rest')) e0 in
+    let s0 =
+    split_at 32 (decimal version) (decimal version') (codes "client " ++ behind_version client manager rest)
+    (codes "client " ++ behind_version client' manager' rest') e1 (no_space_in_version version v) (no_space_in_version version' v') in
     let e2 = append_cancel_left (codes "client ") (behind_version client manager rest) (behind_version client' manager' rest') s0.back in
-    let s1 = split_at 32 (decimal client) (decimal client') (codes "manager " ++ behind_client manager rest) (codes "manager " ++ behind_client manager' rest') e2 (no_space version client c) (no_space version' client' c') in
+    let s1 =
+    split_at 32 (decimal client) (decimal client') (codes "manager " ++ behind_client manager rest) (codes "manager " ++ behind_client manager' rest')
+    e2 (no_space version client c) (no_space version' client' c') in
     let e3 = append_cancel_left (codes "manager ") (behind_client manager rest) (behind_client manager' rest') s1.back in
     let s2 = split_at 10 (decimal manager) (decimal manager') rest rest' e3 (no_newline version manager m) (no_newline version' manager' m') in
     record {
@@ -115,7 +130,8 @@ same_header version client manager version' client' manager' rest rest' v c m v'
 
 -- ---- one beat
 
-pub lanes_same : (n : ℕ) (xs ys : List ℕ) → length xs ≡ n → length ys ≡ n → list_all (λ lane. nat_lt lane 256) xs ≡ true → list_all (λ lane. nat_lt lane 256) ys ≡ true → number_of_lanes xs ≡ number_of_lanes ys → xs ≡ ys
+pub lanes_same : (n : ℕ) (xs ys : List ℕ) → length xs ≡ n → length ys ≡ n → list_all (λ lane. nat_lt lane 256) xs ≡ true
+    → list_all (λ lane. nat_lt lane 256) ys ≡ true → number_of_lanes xs ≡ number_of_lanes ys → xs ≡ ys
 lanes_same n [] [] l l' b b' e = refl
 lanes_same n [] (y ∷ ys) l l' b b' e = absurd (omega arith)
 lanes_same n (x ∷ xs) [] l l' b b' e = absurd (omega arith)
@@ -125,10 +141,13 @@ lanes_same (suc n) (x ∷ xs) (y ∷ ys) l l' b b' e =
     let small' = ltb-true y 256 (and_parts (nat_lt y 256) (list_all (λ lane. nat_lt lane 256) ys) b').0 in
     let low : x ≡ y = omega arith in
     let rest : number_of_lanes xs ≡ number_of_lanes ys = omega arith in
-    let more = lanes_same n xs ys (omega arith) (omega arith) (and_parts (nat_lt x 256) (list_all (λ lane. nat_lt lane 256) xs) b).1 (and_parts (nat_lt y 256) (list_all (λ lane. nat_lt lane 256) ys) b').1 rest in
+    let more =
+    lanes_same n xs ys (omega arith) (omega arith) (and_parts (nat_lt x 256) (list_all (λ lane. nat_lt lane 256) xs) b).1
+    (and_parts (nat_lt y 256) (list_all (λ lane. nat_lt lane 256) ys) b').1 rest in
     ap (λ (z : ℕ). z ∷ xs) low ∙ ap (λ (zs : List ℕ). y ∷ zs) more
 
-kept_lanes : {H : Type 0} (f : Form H) (w : ℕ) (x y : BeatOf H WIDEST) → is_kept f w x ≡ true → is_kept f w y ≡ true → number_of_lanes x.lanes ≡ number_of_lanes y.lanes → x.lanes ≡ y.lanes
+kept_lanes : {H : Type 0} (f : Form H) (w : ℕ) (x y : BeatOf H WIDEST) → is_kept f w x ≡ true → is_kept f w y ≡ true
+    → number_of_lanes x.lanes ≡ number_of_lanes y.lanes → x.lanes ≡ y.lanes
 kept_lanes f w x y kept kept' e =
     let a = lanes_parts WIDEST x.lanes (kept_parts f w x kept).0 in
     let b = lanes_parts WIDEST y.lanes (kept_parts f w y kept').0 in
@@ -168,19 +187,22 @@ line_a : (version w : ℕ) (x y : BeatOf HeadA WIDEST) (text : List ℕ) → is_
     → IsLine (form_a version) w x text → IsLine (form_a version) w y text → x ≡ y
 line_a version w x y text kept kept' a b =
     let v = same_value (form_a version) w x y text a b in
-    same_beat x y (ap head_a (same_values (form_a version) w x y text a b)) (v 5) (kept_lanes (form_a version) w x y kept kept' (v 6)) (bit_same x.corrupt y.corrupt (v 7))
+    same_beat x y (ap head_a (same_values (form_a version) w x y text a b)) (v 5) (kept_lanes (form_a version) w x y kept kept' (v 6))
+    (bit_same x.corrupt y.corrupt (v 7))
 
 line_b : (version w : ℕ) (x y : BeatOf HeadB WIDEST) (text : List ℕ) → is_kept (form_b version) w x ≡ true → is_kept (form_b version) w y ≡ true
     → IsLine (form_b version) w x text → IsLine (form_b version) w y text → x ≡ y
 line_b version w x y text kept kept' a b =
     let v = same_value (form_b version) w x y text a b in
-    same_beat x y (ap head_b (same_values (form_b version) w x y text a b)) (v 5) (kept_lanes (form_b version) w x y kept kept' (v 6)) (bit_same x.corrupt y.corrupt (v 7))
+    same_beat x y (ap head_b (same_values (form_b version) w x y text a b)) (v 5) (kept_lanes (form_b version) w x y kept kept' (v 6))
+    (bit_same x.corrupt y.corrupt (v 7))
 
 mask_zero : (masked : Bool) (mask : ℕ) (other : Bool) → masked ≡ false → (masked || nat_eq mask 0) && other ≡ true → mask ≡ 0
 mask_zero true mask other e h = absurd cc
 mask_zero false mask other e h = eqb-true mask 0 (and_parts (nat_eq mask 0) other h).0
 
-no_mask : {H : Type 0} (f : Form H) (w : ℕ) (x y : BeatOf H WIDEST) → is_kept f w x ≡ true → is_kept f w y ≡ true → f.rules.masked ≡ false → x.mask ≡ y.mask
+no_mask : {H : Type 0} (f : Form H) (w : ℕ) (x y : BeatOf H WIDEST) → is_kept f w x ≡ true → is_kept f w y ≡ true → f.rules.masked ≡ false
+    → x.mask ≡ y.mask
 no_mask f w x y kept kept' e =
     mask_zero f.rules.masked x.mask (f.rules.corrupts || (list_all (λ lane. nat_eq lane 0) x.lanes && not x.corrupt)) e (kept_parts f w x kept).2
     ∙ sym (mask_zero f.rules.masked y.mask (f.rules.corrupts || (list_all (λ lane. nat_eq lane 0) y.lanes && not y.corrupt)) e (kept_parts f w y kept').2)
@@ -198,7 +220,8 @@ line_d version w x y text kept kept' a b =
     let v = same_value (form_d version) w x y text a b in
     let denied : x.head.denied ≡ y.head.denied = bit_same x.head.denied y.head.denied (v 5) in
     let head : x.head ≡ y.head =
-    ap (head_d x.head.denied) (same_values (form_d version) w x y text a b) ∙ ap (λ (n : Bool). let h : HeadD = record y.head { denied = n } in h) denied in
+    ap (head_d x.head.denied) (same_values (form_d version) w x y text a b)
+    ∙ ap (λ (n : Bool). let h : HeadD = record y.head { denied = n } in h) denied in
     same_beat x y head (no_mask (form_d version) w x y kept kept' refl)
     (kept_lanes (form_d version) w x y kept kept' (v 6)) (bit_same x.corrupt y.corrupt (v 7))
 
@@ -209,9 +232,11 @@ no_lanes (lane ∷ lanes) e =
     let rest = no_lanes lanes (and_parts (nat_eq lane 0) (list_all (λ lane. nat_eq lane 0) lanes) e).1 in
     omega arith
 
-plain_e : (version w : ℕ) (x : BeatOf HeadE WIDEST) → is_kept (form_e version) w x ≡ true → (list_all (λ lane. nat_eq lane 0) x.lanes ≡ true) × (x.corrupt ≡ false)
+plain_e : (version w : ℕ) (x : BeatOf HeadE WIDEST) → is_kept (form_e version) w x ≡ true
+    → (list_all (λ lane. nat_eq lane 0) x.lanes ≡ true) × (x.corrupt ≡ false)
 plain_e version w x kept =
-    let plain = (and_parts (nat_eq x.mask 0) (list_all (λ lane. nat_eq lane 0) x.lanes && not x.corrupt) (kept_parts (form_e version) w x kept).2).1 in
+    let plain =
+    (and_parts (nat_eq x.mask 0) (list_all (λ lane. nat_eq lane 0) x.lanes && not x.corrupt) (kept_parts (form_e version) w x kept).2).1 in
     ((and_parts (list_all (λ lane. nat_eq lane 0) x.lanes) (not x.corrupt) plain).0, not-true x.corrupt (and_parts (list_all (λ lane. nat_eq lane 0) x.lanes) (not x.corrupt) plain).1)
 
 line_e : (version w : ℕ) (x y : BeatOf HeadE WIDEST) (text : List ℕ) → is_kept (form_e version) w x ≡ true → is_kept (form_e version) w y ≡ true
@@ -223,7 +248,8 @@ line_e version w x y text kept kept' a b =
     same_beat x y (ap head_e (same_values (form_e version) w x y text a b)) (no_mask (form_e version) w x y kept kept' refl) lanes (px.1 ∙ sym py.1)
 
 -- beats of two channels have two letters
-line_same : (version client manager : ℕ) (line line' : Line) (text : List ℕ) → is_kept_line version client manager line ≡ true → is_kept_line version client manager line' ≡ true
+line_same : (version client manager : ℕ) (line line' : Line) (text : List ℕ) → is_kept_line version client manager line ≡ true
+    → is_kept_line version client manager line' ≡ true
     → SaysLine version client manager line text → SaysLine version client manager line' text → line ≡ line'
 line_same version client manager (A x) (A y) text kept kept' says says' = ap A (line_a version client x y text kept kept' says says')
 line_same version client manager (B x) (B y) text kept kept' says says' = ap B (line_b version manager x y text kept kept' says says')
@@ -236,7 +262,8 @@ long_line : (body rest : List ℕ) → body ++ newline ++ rest ≡ [] → ⊥
 long_line [] rest e = cc
 long_line (b ∷ body) rest e = cc
 
-pub lines_same : (version client manager : ℕ) (lines lines' : List Line) (text : List ℕ) → list_all (is_kept_line version client manager) lines ≡ true → list_all (is_kept_line version client manager) lines' ≡ true
+pub lines_same : (version client manager : ℕ) (lines lines' : List Line) (text : List ℕ)
+    → list_all (is_kept_line version client manager) lines ≡ true → list_all (is_kept_line version client manager) lines' ≡ true
     → TellsLines version client manager lines text → TellsLines version client manager lines' text → lines ≡ lines'
 lines_same version client manager [] [] text kept kept' told told' = refl
 lines_same version client manager [] (line ∷ lines') text kept kept' told told' = absurd (long_line told'.0 told'.1 (sym told'.2 ∙ told))
@@ -244,19 +271,26 @@ lines_same version client manager (line ∷ lines) [] text kept kept' told told'
 lines_same version client manager (line ∷ lines) (line' ∷ lines') text kept kept' told told' =
     let free = says_free version client manager line told.0 told.3 in
     let free' = says_free version client manager line' told'.0 told'.3 in
-    let parts = split_at 10 told.0 told'.0 told.1 told'.1 (sym (append_assoc told.0 newline told.1) ∙ sym told.2 ∙ told'.2 ∙ append_assoc told'.0 newline told'.1) free free' in
+    let parts =
+    split_at 10 told.0 told'.0 told.1 told'.1 (sym (append_assoc told.0 newline told.1) ∙ sym told.2 ∙ told'.2 ∙ append_assoc told'.0 newline told'.1)
+    free free' in
     let P : List ℕ → Type 0 = SaysLine version client manager line' in
     let says' = subst P (sym parts.front) told'.3 in
     let Q : List ℕ → Type 0 = TellsLines version client manager lines' in
     let rest' = subst Q (sym parts.back) told'.4 in
-    let here = line_same version client manager line line' told.0 (and_parts (is_kept_line version client manager line) (list_all (is_kept_line version client manager) lines) kept).0 (and_parts (is_kept_line version client manager line') (list_all (is_kept_line version client manager) lines') kept').0 told.3 says' in
-    let more = lines_same version client manager lines lines' told.1 (and_parts (is_kept_line version client manager line) (list_all (is_kept_line version client manager) lines) kept).1 (and_parts (is_kept_line version client manager line') (list_all (is_kept_line version client manager) lines') kept').1 told.4 rest' in
+    let here =
+    line_same version client manager line line' told.0 (and_parts (is_kept_line version client manager line) (list_all (is_kept_line version client manager) lines) kept).0 (and_parts (is_kept_line version client manager line') (list_all (is_kept_line version client manager) lines') kept').0 told.3 says' in
+    let more =
+    lines_same version client manager lines lines' told.1 (and_parts (is_kept_line version client manager line) (list_all (is_kept_line version client manager) lines) kept).1 (and_parts (is_kept_line version client manager line') (list_all (is_kept_line version client manager) lines') kept').1 told.4 rest' in
     ap (λ (l : Line). l ∷ lines) here ∙ ap (λ (ls : List Line). line' ∷ ls) more
 
-pub one_trace : (text : List ℕ) (version client manager : ℕ) (lines : List Line) (version' client' manager' : ℕ) (lines' : List Line) → Tells text version client manager lines → Tells text version' client' manager' lines'
+pub one_trace : (text : List ℕ) (version client manager : ℕ) (lines : List Line) (version' client' manager' : ℕ) (lines' : List Line)
+    → Tells text version client manager lines → Tells text version' client' manager' lines'
     → (version ≡ version') × (client ≡ client') × (manager ≡ manager') × (lines ≡ lines')
 one_trace text version client manager lines version' client' manager' lines' t t' =
-    let h = same_header version client manager version' client' manager' t.rest t'.rest t.trace.known_version t.trace.client_width t.trace.manager_width t'.trace.known_version t'.trace.client_width t'.trace.manager_width (sym t.header ∙ t'.header) in
+    let h =
+    same_header version client manager version' client' manager' t.rest t'.rest t.trace.known_version t.trace.client_width t.trace.manager_width
+    t'.trace.known_version t'.trace.client_width t'.trace.manager_width (sym t.header ∙ t'.header) in
     let O : ℕ → Type 0 = λ v. TellsLines v client' manager' lines' t.rest in
     let P : ℕ → Type 0 = λ c. TellsLines version c manager' lines' t.rest in
     let Q : ℕ → Type 0 = λ m. TellsLines version client m lines' t.rest in

@@ -15,7 +15,8 @@ get_back xs a b i e =
     let next : length xs + 1 ≡ i + 1 = omega arith in
     (get_or_at xs a (b ∷ []) 0 i e, ap (λ (n : ℕ). get_or (xs ++ a ∷ b ∷ []) n 0) (sym next) ∙ get_or-append-add xs (a ∷ b ∷ []) 1 0)
 
-pub pairs : (w l : ℕ) (lanes : List ℕ) → length lanes ≡ w → list_all (λ lane. nat_lt lane 256) lanes ≡ true → l < w → pair_at (hex (2 * w) (number_of_lanes lanes)) (2 * (w - 1 - l)) ≡ get_or lanes l 0
+pub pairs : (w l : ℕ) (lanes : List ℕ) → length lanes ≡ w → list_all (λ lane. nat_lt lane 256) lanes ≡ true → l < w
+    → pair_at (hex (2 * w) (number_of_lanes lanes)) (2 * (w - 1 - l)) ≡ get_or lanes l 0
 pairs zero l lanes long bytes lt = absurd (omega arith)
 pairs (suc w) l [] long bytes lt = absurd (omega arith)
 pairs (suc w) zero (lane ∷ lanes) long bytes lt =
@@ -47,5 +48,6 @@ pairs (suc w) (suc l) (lane ∷ lanes) long bytes lt =
     ∙ ap (λ (d : ℕ). digit_value (slice_index rest i) * 16 + digit_value d) second
     ∙ pairs w l lanes (omega arith) (and_parts (nat_lt lane 256) (list_all (λ lane. nat_lt lane 256) lanes) bytes).1 (omega arith)
 
-pub by_pairs : (w l : ℕ) (lanes : List ℕ) → is_lanes w lanes ≡ true → l < w → pair_at (hex (2 * w) (number_of_lanes lanes)) (2 * (w - 1 - l)) ≡ get_or lanes l 0
+pub by_pairs : (w l : ℕ) (lanes : List ℕ) → is_lanes w lanes ≡ true → l < w
+    → pair_at (hex (2 * w) (number_of_lanes lanes)) (2 * (w - 1 - l)) ≡ get_or lanes l 0
 by_pairs w l lanes is lt = let parts = lanes_parts w lanes is in pairs w l lanes parts.0 parts.1 lt

@@ -4,7 +4,7 @@ use Rattle.tl_trace.proofs.Names.{IsPieceRead, OutOfMemory, Result, Ok, Err, ◌
 use Rattle.tl_trace.proofs.Names.{length-append, take-append-drop, length-drop, inl, inr, cases_eq, and_from, list_all-append, list_all, list_any}
 use Rattle.tl_trace.proofs.Names.{slice_range, WIDEST, newline, header_text, is_kept_line, Gone, GoesOn, HasGrown, IsScriptOf, TellsScript}
 use Rattle.tl_trace.proofs.Names.{IsHeaderLine, HasLetGo, HasRead, HasReadPast, IsUnfinished, more_gone, is_newline, cut, body, body_fault}
-use Rattle.tl_trace.proofs.Names.{later_fault, header_of, faults, HasHeader, IsFirstFault, IsReadableTo, IsPushed, IsReadLine, IsNextPushed}
+use Rattle.tl_trace.proofs.Names.{AreBehind, AreNextPushed, PushedLines, later_fault, header_of, faults, HasHeader, IsFirstFault, IsReadableTo, IsPushed, IsReadLine, IsNextPushed}
 use Rattle.tl_trace.proofs.Names.{IsSameScript, IsFaultyAt, IsReadableAt, LineAt, TraceKind, Line, LONGEST_LINE, Script, drop_all}
 use Rattle.tl_trace.specs.declared.fault.TraceFault.{TraceFault}
 use Rattle.tl_trace.specs.declared.script.Counts.{Counts}
@@ -41,7 +41,8 @@ begun {C} {M} version text s none line =
     }
 
 -- a line more
-pub read_more : {C M : ℕ} (version : ℕ) (done b : List ℕ) (gone : Gone C M) (s s' : Script C M) (line : ℕ) (beat : Line) → HasReadPast version done gone s line → IsReadLine version C M b beat → IsPushed beat s s'
+pub read_more : {C M : ℕ} (version : ℕ) (done b : List ℕ) (gone : Gone C M) (s s' : Script C M) (line : ℕ) (beat : Line)
+    → HasReadPast version done gone s line → IsReadLine version C M b beat → IsPushed beat s s'
     → HasReadPast version (done ++ b ++ newline) gone s' (line + 1)
 read_more {C} {M} version done b gone s s' line beat r read put =
     let kept_line = is_kept_line version C M in
@@ -73,7 +74,8 @@ left piece at end l e few = record {
 }
 
 -- a line that says a beat and is not left ends in the piece
-pub ends_inside : (version client manager : ℕ) (piece : List ℕ) (at end : ℕ) (beat : Line) → client ≤ WIDEST → manager ≤ WIDEST → LineAt piece at end → (end ≡ length piece → LONGEST_LINE ≤ end - at)
+pub ends_inside : (version client manager : ℕ) (piece : List ℕ) (at end : ℕ) (beat : Line) → client ≤ WIDEST → manager ≤ WIDEST → LineAt piece at end
+    → (end ≡ length piece → LONGEST_LINE ≤ end - at)
     → IsReadLine version client manager (slice_range piece at end) beat → end < length piece
 ends_inside version client manager piece at end beat client_few manager_few l long read = elim (cases_eq end (length piece)) [
   | inl e ↦
@@ -121,9 +123,11 @@ module _ {C M : ℕ} (version : ℕ) (piece : List ℕ) (first : Script C M) (li
   to_end at end l lt =
       let whole : (end + 1) - 0 ≡ end + 1 = omega arith in
       let front : at - 0 ≡ at = omega arith in
-      ap (λ (n : ℕ). take n piece) (sym whole) ∙ line_more piece 0 at end (omega arith) l lt ∙ ap (λ (n : ℕ). take n piece ++ slice_range piece at end ++ newline) front
+      ap (λ (n : ℕ). take n piece) (sym whole) ∙ line_more piece 0 at end (omega arith) l lt
+      ∙ ap (λ (n : ℕ). take n piece ++ slice_range piece at end ++ newline) front
 
-  pub walks : (s s' : Script C M) (at before end : ℕ) (beat : Line) → Walked version piece first line s at before → LineAt piece at end → IsReadLine version C M (slice_range piece at end) beat
+  pub walks : (s s' : Script C M) (at before end : ℕ) (beat : Line) → Walked version piece first line s at before → LineAt piece at end
+      → IsReadLine version C M (slice_range piece at end) beat
       → end < length piece → IsPushed beat s s' → Walked version piece first line s' (end + 1) (before + 1)
   walks s s' at before end beat w l read lt put = record {
     within = omega arith;
@@ -131,12 +135,14 @@ module _ {C M : ℕ} (version : ℕ) (piece : List ℕ) (first : Script C M) (li
     grown = record { a = longer first.a.items s.a.items s'.a.items _ w.grown.a put.a; b = longer first.b.items s.b.items s'.b.items _ w.grown.b put.b; c = longer first.c.items s.c.items s'.c.items _ w.grown.c put.c; d = longer first.d.items s.d.items s'.d.items _ w.grown.d put.d; e = longer first.e.items s.e.items s'.e.items _ w.grown.e put.e };
     read = λ done gone r.
         let whole : (done ++ take at piece) ++ slice_range piece at end ++ newline ≡ done ++ take (end + 1) piece =
-        ap (λ (xs : List ℕ). xs ++ newline) (append_assoc done (take at piece) (slice_range piece at end)) ∙ append_assoc done (take at piece ++ slice_range piece at end) newline ∙ ap (λ (xs : List ℕ). done ++ xs) (sym (to_end at end l lt)) in
+        ap (λ (xs : List ℕ). xs ++ newline) (append_assoc done (take at piece) (slice_range piece at end))
+        ∙ append_assoc done (take at piece ++ slice_range piece at end) newline ∙ ap (λ (xs : List ℕ). done ++ xs) (sym (to_end at end l lt)) in
         subst (λ text. HasReadPast version text gone s' (before + 1)) whole (read_more version (done ++ take at piece) (slice_range piece at end) gone s s' before beat (w.read done gone r) read put);
   }
 
   -- a line that the quick reader takes
-  pub walks_quick : (s s' : Script C M) (at before end : ℕ) → Walked version piece first line s at before → IsNextPushed version piece at s s' end → Walked version piece first line s' (end + 1) (before + 1)
+  pub walks_quick : (s s' : Script C M) (at before end : ℕ) → Walked version piece first line s at before → IsNextPushed version piece at s s' end
+      → Walked version piece first line s' (end + 1) (before + 1)
   walks_quick s s' at before end w q =
       let l : LineAt piece at end = record {
         from = q.from;
@@ -147,7 +153,8 @@ module _ {C M : ℕ} (version : ℕ) (piece : List ℕ) (first : Script C M) (li
       walks s s' at before end q.line w l q.read q.to q.put
 
   -- one that it does not take
-  pub waits : (s s' : Script C M) (at before : ℕ) → Walked version piece first line s at before → IsSameScript s s' → Walked version piece first line s' at before
+  pub waits : (s s' : Script C M) (at before : ℕ) → Walked version piece first line s at before → IsSameScript s s'
+      → Walked version piece first line s' at before
   waits s s' at before w same = record {
     within = w.within;
     few = w.few;
@@ -162,28 +169,51 @@ module _ {C M : ℕ} (version : ℕ) (piece : List ℕ) (first : Script C M) (li
         };
   }
 
+  -- lines that the quick reader takes
+  walks_behind : (s s' : Script C M) (at before place : ℕ) (ends : List ℕ) → Walked version piece first line s at before
+      → AreBehind version piece at s s' ends place
+      → Walked version piece first line s' place (before + length ends)
+  walks_behind s s' at before place [] w p =
+      let none : before ≡ before + 0 = omega arith in
+      subst (λ (n : ℕ). Walked version piece first line s' place n) none (subst (λ (n : ℕ). Walked version piece first line s' n before) (sym p.1) (waits s s' at before w p.0))
+  walks_behind s s' at before place (end ∷ ends) w p =
+      let far = walks_quick p.0 s' p.1 (before + length ends) end (walks_behind s p.0 at before p.1 ends w p.2) p.3 in
+      let one : before + length ends + 1 ≡ before + length (end ∷ ends) = omega arith in
+      subst (λ (n : ℕ). Walked version piece first line s' place n) one (subst (λ (n : ℕ). Walked version piece first line s' n (before + length ends + 1)) (sym p.4) far)
+
+  pub walks_lines : (s s' : Script C M) (at before : ℕ) (lines : PushedLines) → Walked version piece first line s at before
+      → AreNextPushed version piece at s s' lines
+      → Walked version piece first line s' lines.place (before + lines.count)
+  walks_lines s s' at before lines w far =
+      subst (λ (n : ℕ). Walked version piece first line s' lines.place (before + n)) (sym far.count)
+      (walks_behind s s' at before lines.place far.ends w far.pushed)
+
   -- and where it ends with one
   pub left_none : (at : ℕ) → length piece ≤ at → IsUnfinished (drop at piece)
   left_none at le = subst IsUnfinished (sym (drop_all at piece le)) (record { free = refl; short = omega arith })
 
   -- the lines behind those that were read
-  later : (s : Script C M) (at before : ℕ) → Walked version piece first line s at before → (done more : List ℕ) (gone : Gone C M) → HasReadPast version done gone first line
+  later : (s : Script C M) (at before : ℕ) → Walked version piece first line s at before → (done more : List ℕ) (gone : Gone C M)
+      → HasReadPast version done gone first line
       → faults (done ++ piece ++ more) ≡ replicate before None ++ map (later_fault version C M) (cut (drop at piece ++ more))
   later s at before w done more gone r =
-      let parts : piece ++ more ≡ take at piece ++ (drop at piece ++ more) = ap (λ (xs : List ℕ). xs ++ more) (sym (take-append-drop at piece)) ∙ append_assoc (take at piece) (drop at piece) more in
+      let parts : piece ++ more ≡ take at piece ++ (drop at piece ++ more) =
+      ap (λ (xs : List ℕ). xs ++ more) (sym (take-append-drop at piece)) ∙ append_assoc (take at piece) (drop at piece) more in
       let whole : done ++ piece ++ more ≡ (done ++ take at piece) ++ (drop at piece ++ more) =
       append_assoc done piece more ∙ ap (λ (xs : List ℕ). done ++ xs) parts ∙ sym (append_assoc done (take at piece) (drop at piece ++ more)) in
       ap faults whole ∙ read_faults version (done ++ take at piece) (drop at piece ++ more) gone s before (w.read done gone r)
 
   -- the line at a place, where it ends in the piece
-  cut_here : (at end : ℕ) (more : List ℕ) → LineAt piece at end → end < length piece → cut (drop at piece ++ more) ≡ (slice_range piece at end ++ newline) ∷ cut (drop (end + 1) piece ++ more)
+  cut_here : (at end : ℕ) (more : List ℕ) → LineAt piece at end → end < length piece
+      → cut (drop at piece ++ more) ≡ (slice_range piece at end ++ newline) ∷ cut (drop (end + 1) piece ++ more)
   cut_here at end more l lt =
       let b = slice_range piece at end in
       ap (λ (xs : List ℕ). cut (xs ++ more)) (split_line piece at end l lt) ∙ ap cut (append_assoc (b ++ newline) (drop (end + 1) piece) more)
       ∙ cut_line b (drop (end + 1) piece ++ more) (free_line piece at end l)
 
   -- the fault of the line that was read last
-  pub refused : (s : Script C M) (at before end : ℕ) (kind : TraceKind) → C ≤ WIDEST → M ≤ WIDEST → Walked version piece first line s at before → LineAt piece at end → at < length piece
+  pub refused : (s : Script C M) (at before end : ℕ) (kind : TraceKind) → C ≤ WIDEST → M ≤ WIDEST → Walked version piece first line s at before
+      → LineAt piece at end → at < length piece
       → (end ≡ length piece → LONGEST_LINE ≤ end - at) → body_fault version C M (slice_range piece at end) ≡ Some kind
       → (done more : List ℕ) (gone : Gone C M) → HasReadPast version done gone first line → IsFirstFault (done ++ piece ++ more) (before + 1) kind
   refused s at before end kind client manager w l lt long fault done more gone r =
@@ -199,20 +229,24 @@ module _ {C M : ℕ} (version : ℕ) (piece : List ℕ) (first : Script C M) (li
             let inside : end < length piece = omega (arith, l.to, ne) in
             first_fault (done ++ piece ++ more) before kind (map (later_fault version C M) (cut (drop (end + 1) piece ++ more)))
             (all ∙ ap (λ (ls : List (List ℕ)). replicate before None ++ map (later_fault version C M) ls) (cut_here at end more l inside)
-            ∙ ap (λ (o : Option TraceKind). replicate before None ++ o ∷ map (later_fault version C M) (cut (drop (end + 1) piece ++ more))) (later_line version C M b free ∙ fault))
+            ∙ ap (λ (o : Option TraceKind). replicate before None ++ o ∷ map (later_fault version C M) (cut (drop (end + 1) piece ++ more)))
+            (later_line version C M b free ∙ fault))
       ]
     where
-      unended : (b : List ℕ) → IsFree b → LONGEST_LINE ≤ length b → drop at piece ≡ b → body_fault version C M b ≡ Some kind → IsFirstFault (done ++ piece ++ more) (before + 1) kind
+      unended : (b : List ℕ) → IsFree b → LONGEST_LINE ≤ length b → drop at piece ≡ b → body_fault version C M b ≡ Some kind
+          → IsFirstFault (done ++ piece ++ more) (before + 1) kind
       unended [] free enough rest is = absurd (omega arith)
       unended (byte ∷ b) free enough rest is =
           let starts = starts_line byte b more free in
           first_fault (done ++ piece ++ more) before kind (map (later_fault version C M) starts.rest)
           (later s at before w done more gone r ∙ ap (λ (xs : List ℕ). replicate before None ++ map (later_fault version C M) (cut (xs ++ more))) rest
           ∙ ap (λ (ls : List (List ℕ)). replicate before None ++ map (later_fault version C M) ls) starts.cuts
-          ∙ ap (λ (o : Option TraceKind). replicate before None ++ o ∷ map (later_fault version C M) starts.rest) (long_fault version C M (byte ∷ b) starts.end kind client manager free enough is))
+          ∙ ap (λ (o : Option TraceKind). replicate before None ++ o ∷ map (later_fault version C M) starts.rest)
+          (long_fault version C M (byte ∷ b) starts.end kind client manager free enough is))
 
   -- no line up to one that was read and not stored has a fault
-  pub unstored : (s : Script C M) (at before end : ℕ) (beat : Line) → Walked version piece first line s at before → LineAt piece at end → IsReadLine version C M (slice_range piece at end) beat → end < length piece
+  pub unstored : (s : Script C M) (at before end : ℕ) (beat : Line) → Walked version piece first line s at before → LineAt piece at end
+      → IsReadLine version C M (slice_range piece at end) beat → end < length piece
       → (done more : List ℕ) (gone : Gone C M) → HasReadPast version done gone first line → IsReadableTo (done ++ piece ++ more) (before + 1)
   unstored s at before end beat w l read lt done more gone r =
       let b = slice_range piece at end in
@@ -224,7 +258,8 @@ module _ {C M : ℕ} (version : ℕ) (piece : List ℕ) (first : Script C M) (li
       ∙ ap (λ (o : Option TraceKind). replicate before None ++ o ∷ rest) is ∙ one_more before rest)
 
   -- the same of what a slow reading says of a line
-  pub refused_at : (s : Script C M) (at before : ℕ) (kind : TraceKind) → C ≤ WIDEST → M ≤ WIDEST → Walked version piece first line s at before → at < length piece → IsFaultyAt version C M piece at kind
+  pub refused_at : (s : Script C M) (at before : ℕ) (kind : TraceKind) → C ≤ WIDEST → M ≤ WIDEST → Walked version piece first line s at before
+      → at < length piece → IsFaultyAt version C M piece at kind
       → (done more : List ℕ) (gone : Gone C M) → HasReadPast version done gone first line → IsFirstFault (done ++ piece ++ more) (before + 1) kind
   refused_at s at before kind client manager w lt f = refused s at before f.end kind client manager w f.line lt f.long f.fault
 
@@ -248,7 +283,8 @@ module _ {C M : ℕ} (version : ℕ) (piece : List ℕ) (first : Script C M) (li
 
   -- and one with a line that is refused
   pub stops : (s s' : Script C M) (at before : ℕ) (kind : TraceKind) → C ≤ WIDEST → M ≤ WIDEST → Walked version piece first line s at before
-      → at < length piece → (kind ≢ OutOfMemory → IsFaultyAt version C M piece at kind) → (kind ≡ OutOfMemory → IsReadableAt version C M piece at) → IsSameScript s s'
+      → at < length piece → (kind ≢ OutOfMemory → IsFaultyAt version C M piece at kind) → (kind ≡ OutOfMemory → IsReadableAt version C M piece at)
+      → IsSameScript s s'
       → IsPieceRead version piece first line s' before (Err (record { line = before + 1; kind = kind }))
   stops s s' at before kind client manager w lt faulty readable same = record {
     used = tt;
@@ -268,7 +304,8 @@ of_version {piece = piece} {before = before} {after = after} {line = line} {last
     subst (λ k. IsPieceRead k piece before line after last r) (sym same)
 
 -- the fault of what is left at the end of a text
-pub end_faulty : {C M : ℕ} (version : ℕ) (done rest : List ℕ) (gone : Gone C M) (s : Script C M) (line : ℕ) (kind : TraceKind) → HasReadPast version done gone s line → 0 < length rest → IsFree rest
+pub end_faulty : {C M : ℕ} (version : ℕ) (done rest : List ℕ) (gone : Gone C M) (s : Script C M) (line : ℕ) (kind : TraceKind)
+    → HasReadPast version done gone s line → 0 < length rest → IsFree rest
     → later_fault version C M rest ≡ Some kind → IsFirstFault (done ++ rest) (line + 1) kind
 end_faulty {C} {M} version done rest gone s line kind r lt free fault =
     first_fault (done ++ rest) line kind [] (read_faults version done rest gone s line r
@@ -277,7 +314,8 @@ end_faulty {C} {M} version done rest gone s line kind r lt free fault =
 
 -- ---- a whole text
 
-pub header_line : (text : List ℕ) (end version client manager : ℕ) → LineAt text 0 end → end < length text → HasHeader text version client manager → IsHeaderLine (take (end + 1) text) version client manager
+pub header_line : (text : List ℕ) (end version client manager : ℕ) → LineAt text 0 end → end < length text → HasHeader text version client manager
+    → IsHeaderLine (take (end + 1) text) version client manager
 header_line text end version client manager l lt named =
     let b = slice_range text 0 end in
     let size : (end + 1) - 0 ≡ end + 1 = omega arith in
@@ -304,7 +342,8 @@ module _ (text : List ℕ) (n : ℕ) (later : List ℕ) (is : later ≡ drop n t
     pub used_text : rest ≡ [] → take n text ++ take used later ≡ text
     used_text none = sym (append-nil (take n text ++ take used later)) ∙ ap (λ (xs : List ℕ). take n text ++ take used later ++ xs) (sym none) ∙ parted_text
 
-pub tells_script : {C M : ℕ} (version : ℕ) (done text : List ℕ) (s : Script C M) (line : ℕ) → done ≡ text → HasRead version done s line → TellsScript version text s
+pub tells_script : {C M : ℕ} (version : ℕ) (done text : List ℕ) (s : Script C M) (line : ℕ) → done ≡ text → HasRead version done s line
+    → TellsScript version text s
 tells_script version done text s line same r = subst (λ t. TellsScript version t s) same (record {
   lines = r.lines;
   told = r.told;

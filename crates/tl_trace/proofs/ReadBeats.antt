@@ -12,13 +12,15 @@ one None = refl
 one (Some y) = refl
 
 -- one more line, of this or another channel
-grown : {X : Type 0} (h : Line → Option X) (lines : List Line) (line : Line) (before now : List X) → before ≡ filter_map h lines → now ≡ before ++ option_to_list (h line) → now ≡ filter_map h (lines ++ line ∷ [])
+grown : {X : Type 0} (h : Line → Option X) (lines : List Line) (line : Line) (before now : List X) → before ≡ filter_map h lines
+    → now ≡ before ++ option_to_list (h line) → now ≡ filter_map h (lines ++ line ∷ [])
 grown {X} h lines line before now was is =
     is ∙ ap (λ (xs : List X). xs ++ option_to_list (h line)) was
     ∙ ap (λ (xs : List X). filter_map h lines ++ xs) (sym (one (h line))) ∙ sym (filter_map-append h lines (line ∷ []))
 
 -- a beat more, of one channel
-pub pushed : {C M : ℕ} (lines : List Line) (line : Line) (s s' : Script C M) → IsScriptOf lines s → IsPushed line s s' → IsScriptOf (lines ++ line ∷ []) s'
+pub pushed : {C M : ℕ} (lines : List Line) (line : Line) (s s' : Script C M) → IsScriptOf lines s → IsPushed line s s'
+    → IsScriptOf (lines ++ line ∷ []) s'
 pushed {C} {M} lines line s s' far put = record {
   a = grown (beat_of_a C) lines line s.a.items s'.a.items far.a put.a;
   b = grown (beat_of_b M) lines line s.b.items s'.b.items far.b put.b;
@@ -28,11 +30,13 @@ pushed {C} {M} lines line s s' far put = record {
 }
 
 -- the same where beats have gone
-grown_past : {X : Type 0} (h : Line → Option X) (lines : List Line) (line : Line) (gone before now : List X) → gone ++ before ≡ filter_map h lines → now ≡ before ++ option_to_list (h line) → gone ++ now ≡ filter_map h (lines ++ line ∷ [])
+grown_past : {X : Type 0} (h : Line → Option X) (lines : List Line) (line : Line) (gone before now : List X) → gone ++ before ≡ filter_map h lines
+    → now ≡ before ++ option_to_list (h line) → gone ++ now ≡ filter_map h (lines ++ line ∷ [])
 grown_past {X} h lines line gone before now was is =
     grown h lines line (gone ++ before) (gone ++ now) was (ap (λ (xs : List X). gone ++ xs) is ∙ sym (append_assoc gone before (option_to_list (h line))))
 
-pub pushed_past : {C M : ℕ} (lines : List Line) (line : Line) (gone : Gone C M) (s s' : Script C M) → IsRestOf lines gone s → IsPushed line s s' → IsRestOf (lines ++ line ∷ []) gone s'
+pub pushed_past : {C M : ℕ} (lines : List Line) (line : Line) (gone : Gone C M) (s s' : Script C M) → IsRestOf lines gone s → IsPushed line s s'
+    → IsRestOf (lines ++ line ∷ []) gone s'
 pushed_past {C} {M} lines line gone s s' far put = record {
   a = grown_past (beat_of_a C) lines line gone.a s.a.items s'.a.items far.a put.a;
   b = grown_past (beat_of_b M) lines line gone.b s.b.items s'.b.items far.b put.b;
@@ -42,9 +46,11 @@ pushed_past {C} {M} lines line gone s s' far put = record {
 }
 
 -- the beat of the line at i
-pub script_more : {C M : ℕ} (xs lines : List Line) (i : ℕ) (d : Line) (s s' : Script C M) → i < length xs → xs ≡ lines → IsScriptOf (take i lines) s → IsPushed (get_or xs i d) s s' → IsScriptOf (take (i + 1) lines) s'
+pub script_more : {C M : ℕ} (xs lines : List Line) (i : ℕ) (d : Line) (s s' : Script C M) → i < length xs → xs ≡ lines → IsScriptOf (take i lines) s
+    → IsPushed (get_or xs i d) s s' → IsScriptOf (take (i + 1) lines) s'
 script_more {C} {M} xs lines i d s s' lt same far put =
-    let here : take (i + 1) lines ≡ take i lines ++ get_or xs i d ∷ [] = ap (take (i + 1)) (sym same) ∙ take_more xs i d lt ∙ ap (λ (ys : List Line). take i ys ++ get_or xs i d ∷ []) same in
+    let here : take (i + 1) lines ≡ take i lines ++ get_or xs i d ∷ [] =
+    ap (take (i + 1)) (sym same) ∙ take_more xs i d lt ∙ ap (λ (ys : List Line). take i ys ++ get_or xs i d ∷ []) same in
     let P : List Line → Type 0 = λ ys. IsScriptOf ys s' in
     subst P (sym here) (pushed (take i lines) (get_or xs i d) s s' far put)
 

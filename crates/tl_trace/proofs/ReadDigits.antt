@@ -57,7 +57,8 @@ pub record SpeltSoFar (digits : List ℕ) (i n bad : ℕ) : Type 0 where
 pub spelt_start : (ds : List ℕ) → SpeltSoFar ds 0 0 0
 spelt_start ds = record { spelt = λ le. record { good = refl; value = refl; small = omega arith }; spoilt = λ lt. absurd (omega (arith, lt)) }
 
-spelt_more : (ds : List ℕ) (i n d : ℕ) → i < length ds → i < 16 → Spelt ds i n → d ≡ digit_of (get_or ds i 0) → d ≤ 15 → Spelt ds (i + 1) ((n * 16 % 2 ^ 64 + d) % 2 ^ 64)
+spelt_more : (ds : List ℕ) (i n d : ℕ) → i < length ds → i < 16 → Spelt ds i n → d ≡ digit_of (get_or ds i 0) → d ≤ 15
+    → Spelt ds (i + 1) ((n * 16 % 2 ^ 64 + d) % 2 ^ 64)
 spelt_more ds i n d lt few s digit le =
     let top : n * 16 + d < 2 ^ 64 = room n i d few s.small le in
     let same : (n * 16 % 2 ^ 64 + d) % 2 ^ 64 ≡ n * 16 + d = omega arith in
@@ -65,7 +66,8 @@ spelt_more ds i n d lt few s digit le =
     let P : ℕ → Type 0 = Spelt ds (i + 1) in
     subst P (sym same) (record { good = more.0; value = more.1; small = wider n i d s.small le })
 
-pub spelt_next : (ds : List ℕ) (i n bad d : ℕ) → i < length ds → i < 16 → SpeltSoFar ds i n bad → d ≡ digit_of (get_or ds i 0) → SpeltSoFar ds (i + 1) ((n * 16 % 2 ^ 64 + d) % 2 ^ 64) (bit_or bad d)
+pub spelt_next : (ds : List ℕ) (i n bad d : ℕ) → i < length ds → i < 16 → SpeltSoFar ds i n bad → d ≡ digit_of (get_or ds i 0)
+    → SpeltSoFar ds (i + 1) ((n * 16 % 2 ^ 64 + d) % 2 ^ 64) (bit_or bad d)
 spelt_next ds i n bad d lt few f digit = record {
   spelt = λ le. spelt_more ds i n d lt few (f.spelt (left_good bad d le)) digit (right_good bad d le);
   spoilt = λ big. bad_or bad d big f.spoilt (fails ds i d lt digit);
@@ -128,7 +130,8 @@ number_good : (ds : List ℕ) (n : ℕ) → number_of ds ≡ Some n → (list_al
 unfolding number_of
 number_good ds n e = pick (list_all is_hex ds) refl e
   where
-    pick : (b : Bool) → list_all is_hex ds ≡ b → cond b (Some (digits_value 16 ds)) None ≡ Some n → (list_all is_hex ds ≡ true) × (digits_value 16 ds ≡ n)
+    pick : (b : Bool) → list_all is_hex ds ≡ b → cond b (Some (digits_value 16 ds)) None ≡ Some n
+        → (list_all is_hex ds ≡ true) × (digits_value 16 ds ≡ n)
     pick true is e = (is, cc)
     pick false is e = absurd cc
 
@@ -141,7 +144,8 @@ number_bad ds e = pick (list_all is_hex ds) refl e
     pick false is e = is
 
 -- the number of so many digits before 16 others
-pub spelt_both : (xs ys : List ℕ) (a b bad bad' : ℕ) → length ys ≡ 16 → IsSpelt xs a bad → IsSpelt ys b bad' → IsSpelt (xs ++ ys) (a * 2 ^ 64 + b) (bit_or bad bad')
+pub spelt_both : (xs ys : List ℕ) (a b bad bad' : ℕ) → length ys ≡ 16 → IsSpelt xs a bad → IsSpelt ys b bad'
+    → IsSpelt (xs ++ ys) (a * 2 ^ 64 + b) (bit_or bad bad')
 unfolding number_of
 spelt_both xs ys a b bad bad' sixteen x y = record {
   good = λ le.
@@ -169,7 +173,8 @@ spelt_both xs ys a b bad bad' sixteen x y = record {
 }
 
 -- digits whose last 16 are read apart from those before them
-pub spelt_split : (ds : List ℕ) (m a b bad bad' : ℕ) → m + 16 ≡ length ds → IsSpelt (take m ds) a bad → IsSpelt (slice_range ds m (length ds)) b bad' → IsSpelt ds (a * 2 ^ 64 + b) (bit_or bad bad')
+pub spelt_split : (ds : List ℕ) (m a b bad bad' : ℕ) → m + 16 ≡ length ds → IsSpelt (take m ds) a bad → IsSpelt (slice_range ds m (length ds)) b bad'
+    → IsSpelt ds (a * 2 ^ 64 + b) (bit_or bad bad')
 spelt_split ds m a b bad bad' is high low =
     let P : List ℕ → Type 0 = λ xs. IsSpelt xs (a * 2 ^ 64 + b) (bit_or bad bad') in
     let all : slice_range ds m (length ds) ≡ drop m ds = take_all (length ds - m) (drop m ds) (omega (arith, length-drop m ds)) in
@@ -188,10 +193,13 @@ zero_lanes lanes zero e = e
 zero_lanes [] (suc w) e = refl
 zero_lanes (lane ∷ lanes) (suc w) e = zero_lanes lanes w (omega arith)
 
-pub bytes_set : (lanes : List ℕ) (i v : ℕ) → v < 256 → list_all (λ lane. nat_lt lane 256) lanes ≡ true → list_all (λ lane. nat_lt lane 256) (set lanes i v) ≡ true
+pub bytes_set : (lanes : List ℕ) (i v : ℕ) → v < 256 → list_all (λ lane. nat_lt lane 256) lanes ≡ true
+    → list_all (λ lane. nat_lt lane 256) (set lanes i v) ≡ true
 bytes_set [] i v lt e = refl
-bytes_set (lane ∷ lanes) zero v lt e = and_from (nat_lt v 256) (list_all (λ lane. nat_lt lane 256) lanes) (lt-ltb v 256 lt) (and_parts (nat_lt lane 256) (list_all (λ lane. nat_lt lane 256) lanes) e).1
-bytes_set (lane ∷ lanes) (suc i) v lt e = and_from (nat_lt lane 256) (list_all (λ lane. nat_lt lane 256) (set lanes i v)) (and_parts (nat_lt lane 256) (list_all (λ lane. nat_lt lane 256) lanes) e).0
+bytes_set (lane ∷ lanes) zero v lt e =
+    and_from (nat_lt v 256) (list_all (λ lane. nat_lt lane 256) lanes) (lt-ltb v 256 lt) (and_parts (nat_lt lane 256) (list_all (λ lane. nat_lt lane 256) lanes) e).1
+bytes_set (lane ∷ lanes) (suc i) v lt e =
+    and_from (nat_lt lane 256) (list_all (λ lane. nat_lt lane 256) (set lanes i v)) (and_parts (nat_lt lane 256) (list_all (λ lane. nat_lt lane 256) lanes) e).0
     (bytes_set lanes i v lt (and_parts (nat_lt lane 256) (list_all (λ lane. nat_lt lane 256) lanes) e).1)
 
 pub zero_bytes : (n : ℕ) → list_all (λ lane. nat_lt lane 256) (replicate n 0) ≡ true
@@ -229,7 +237,8 @@ low_parts d v is = pick (nat_lt 15 d) refl is
 pub pair_fits : (h l high low : ℕ) → high ≡ cond (nat_lt 15 h) 256 (16 * h) → low ≡ cond (nat_lt 15 l) 256 l → high + low ≤ 512
 pair_fits h l high low high_is low_is = let x = (high_parts h high high_is).0 in let y = (low_parts l low low_is).0 in omega arith
 
-pub pair_good : (first second high low : ℕ) → high ≡ cond (nat_lt 15 (digit_of first)) 256 (16 * digit_of first) → low ≡ cond (nat_lt 15 (digit_of second)) 256 (digit_of second)
+pub pair_good : (first second high low : ℕ) → high ≡ cond (nat_lt 15 (digit_of first)) 256 (16 * digit_of first)
+    → low ≡ cond (nat_lt 15 (digit_of second)) 256 (digit_of second)
     → high + low ≤ 255 → IsPair first second (high + low)
 pair_good first second high low high_is low_is le =
     let x = (high_parts (digit_of first) high high_is).1 (omega arith) in
@@ -251,7 +260,8 @@ marked : (pairs bad : ℕ) → bad ≡ cond (nat_lt 255 pairs) 16 0 → (bad ≤
 marked pairs bad is = (λ le. grind (arith, nat_tests), λ lt. grind (arith, nat_tests))
 
 -- where a pair has no value there is no number
-unspelt_pair : (ds : List ℕ) (i pair : ℕ) → 2 * i + 1 < length ds → (255 < pair → digit_of (get_or ds (2 * i) 0) ≤ 15 → 15 < digit_of (get_or ds (2 * i + 1) 0)) → 255 < pair → number_of ds ≡ None
+unspelt_pair : (ds : List ℕ) (i pair : ℕ) → 2 * i + 1 < length ds
+    → (255 < pair → digit_of (get_or ds (2 * i) 0) ≤ 15 → 15 < digit_of (get_or ds (2 * i + 1) 0)) → 255 < pair → number_of ds ≡ None
 unspelt_pair ds i pair lt either big = pick (nat_lt 15 high) refl
   where
     high : ℕ
@@ -269,7 +279,8 @@ pub record Pairs (digits : List ℕ) (i n pairs : ℕ) : Type 0 where
 pub pairs_start : (ds : List ℕ) → Pairs ds 0 0 0
 pairs_start ds = record { spelt = λ le. record { good = refl; value = refl; small = omega arith }; spoilt = λ lt. absurd (omega (arith, lt)) }
 
-spelt_pair : (ds : List ℕ) (i n pair : ℕ) → 2 * i + 1 < length ds → 2 * i + 1 < 16 → Spelt ds (2 * i) n → IsPair (get_or ds (2 * i) 0) (get_or ds (2 * i + 1) 0) pair → Spelt ds (2 * (i + 1)) ((n * 256 % 2 ^ 64 + pair) % 2 ^ 64)
+spelt_pair : (ds : List ℕ) (i n pair : ℕ) → 2 * i + 1 < length ds → 2 * i + 1 < 16 → Spelt ds (2 * i) n
+    → IsPair (get_or ds (2 * i) 0) (get_or ds (2 * i + 1) 0) pair → Spelt ds (2 * (i + 1)) ((n * 256 % 2 ^ 64 + pair) % 2 ^ 64)
 spelt_pair ds i n pair lt few s p =
     let high = digit_of (get_or ds (2 * i) 0) in
     let low = digit_of (get_or ds (2 * i + 1) 0) in
@@ -344,7 +355,8 @@ laid_more ds lanes w i high low lt wide long far h h_le l l_le =
           ∙ omega (arith, far.value) ∙ two.1 ∙ ap (λ (k : ℕ). digits_value 16 (take k ds)) (sym twice);
     }
 
-pub lanes_more : (text lanes : List ℕ) (n at w i pairs pair : ℕ) → i < w → w ≤ n → length (slice_range text (at + 1) (at + 1 + 2 * w)) ≡ 2 * w → Lanes text lanes n at w i pairs
+pub lanes_more : (text lanes : List ℕ) (n at w i pairs pair : ℕ) → i < w → w ≤ n → length (slice_range text (at + 1) (at + 1 + 2 * w)) ≡ 2 * w
+    → Lanes text lanes n at w i pairs
     → (pair ≤ 255 → IsPair (get_or (slice_range text (at + 1) (at + 1 + 2 * w)) (2 * i) 0) (get_or (slice_range text (at + 1) (at + 1 + 2 * w)) (2 * i + 1) 0) pair)
     → (255 < pair → digit_of (get_or (slice_range text (at + 1) (at + 1 + 2 * w)) (2 * i) 0) ≤ 15 → 15 < digit_of (get_or (slice_range text (at + 1) (at + 1 + 2 * w)) (2 * i + 1) 0))
     → Lanes text (set lanes (w - 1 - i) (pair % 256)) n at w (i + 1) (bit_or pairs pair)
@@ -367,8 +379,10 @@ lanes_more text lanes n at w i pairs pair lt most long far good bad =
 pub lanes_are : (text lanes : List ℕ) (n at w i pairs : ℕ) → Lanes text lanes n at w i pairs → is_lanes n lanes ≡ true
 lanes_are text lanes n at w i pairs far = rw (eq-eqb (length lanes) n far.long) far.bytes
 
-pub lanes_done : (text lanes : List ℕ) (n at w i pairs space mark : ℕ) → w ≤ i → i ≤ w → at + 1 + 2 * w ≤ length text → Lanes text lanes n at w i pairs
-    → space ≡ cond (nat_eq (slice_index text at) 32) 0 16 → mark ≡ cond (nat_lt 255 pairs) 16 0 → IsNumber text at (2 * w) (number_of_lanes lanes) (bit_or space mark)
+pub lanes_done : (text lanes : List ℕ) (n at w i pairs space mark : ℕ) → w ≤ i → i ≤ w → at + 1 + 2 * w ≤ length text
+    → Lanes text lanes n at w i pairs
+    → space ≡ cond (nat_eq (slice_index text at) 32) 0 16 → mark ≡ cond (nat_lt 255 pairs) 16 0
+    → IsNumber text at (2 * w) (number_of_lanes lanes) (bit_or space mark)
 lanes_done text lanes n at w i pairs space mark le ge fits far stands marks =
     let ds = slice_range text (at + 1) (at + 1 + 2 * w) in
     let long : length ds ≡ 2 * w = range_long text (at + 1) (2 * w) fits in

@@ -7,34 +7,44 @@ use Rattle.tl_trace.proofs.Names.{form_fault, body_fault, later_fault, faults, I
 use Rattle.tl_trace.proofs.Names.{TraceKind, NoEnd, WIDEST}
 use Rattle.tl_trace.proofs.Shaped.{faultless, kept_parts}
 
-pub fault_a : (version client manager : ℕ) (text : List ℕ) (kind : TraceKind) → slice_index text 0 ≡ 65 → form_fault (form_a version) client text ≡ Some kind → body_fault version client manager text ≡ Some kind
+pub fault_a : (version client manager : ℕ) (text : List ℕ) (kind : TraceKind) → slice_index text 0 ≡ 65
+    → form_fault (form_a version) client text ≡ Some kind → body_fault version client manager text ≡ Some kind
 fault_a version client manager text kind letter fault = rw letter fault
 
-pub read_as_a : (version client manager : ℕ) (text : List ℕ) (b : BeatOf HeadA WIDEST) → IsRead (form_a version) client text b → IsReadLine version client manager text (A b)
+pub read_as_a : (version client manager : ℕ) (text : List ℕ) (b : BeatOf HeadA WIDEST) → IsRead (form_a version) client text b
+    → IsReadLine version client manager text (A b)
 read_as_a version client manager text b r = record { says = r.line; kept = r.kept; faultless = rw r.line.letter (faultless (form_a version) client b text r.line (kept_parts (form_a version) client b r.kept).1) }
 
-pub fault_b : (version client manager : ℕ) (text : List ℕ) (kind : TraceKind) → slice_index text 0 ≡ 66 → form_fault (form_b version) manager text ≡ Some kind → body_fault version client manager text ≡ Some kind
+pub fault_b : (version client manager : ℕ) (text : List ℕ) (kind : TraceKind) → slice_index text 0 ≡ 66
+    → form_fault (form_b version) manager text ≡ Some kind → body_fault version client manager text ≡ Some kind
 fault_b version client manager text kind letter fault = rw letter fault
 
-pub read_as_b : (version client manager : ℕ) (text : List ℕ) (b : BeatOf HeadB WIDEST) → IsRead (form_b version) manager text b → IsReadLine version client manager text (B b)
+pub read_as_b : (version client manager : ℕ) (text : List ℕ) (b : BeatOf HeadB WIDEST) → IsRead (form_b version) manager text b
+    → IsReadLine version client manager text (B b)
 read_as_b version client manager text b r = record { says = r.line; kept = r.kept; faultless = rw r.line.letter (faultless (form_b version) manager b text r.line (kept_parts (form_b version) manager b r.kept).1) }
 
-pub fault_c : (version client manager : ℕ) (text : List ℕ) (kind : TraceKind) → slice_index text 0 ≡ 67 → form_fault (form_c version) client text ≡ Some kind → body_fault version client manager text ≡ Some kind
+pub fault_c : (version client manager : ℕ) (text : List ℕ) (kind : TraceKind) → slice_index text 0 ≡ 67
+    → form_fault (form_c version) client text ≡ Some kind → body_fault version client manager text ≡ Some kind
 fault_c version client manager text kind letter fault = rw letter fault
 
-pub read_as_c : (version client manager : ℕ) (text : List ℕ) (b : BeatOf HeadC WIDEST) → IsRead (form_c version) client text b → IsReadLine version client manager text (C b)
+pub read_as_c : (version client manager : ℕ) (text : List ℕ) (b : BeatOf HeadC WIDEST) → IsRead (form_c version) client text b
+    → IsReadLine version client manager text (C b)
 read_as_c version client manager text b r = record { says = r.line; kept = r.kept; faultless = rw r.line.letter (faultless (form_c version) client b text r.line (kept_parts (form_c version) client b r.kept).1) }
 
-pub fault_d : (version client manager : ℕ) (text : List ℕ) (kind : TraceKind) → slice_index text 0 ≡ 68 → form_fault (form_d version) manager text ≡ Some kind → body_fault version client manager text ≡ Some kind
+pub fault_d : (version client manager : ℕ) (text : List ℕ) (kind : TraceKind) → slice_index text 0 ≡ 68
+    → form_fault (form_d version) manager text ≡ Some kind → body_fault version client manager text ≡ Some kind
 fault_d version client manager text kind letter fault = rw letter fault
 
-pub read_as_d : (version client manager : ℕ) (text : List ℕ) (b : BeatOf HeadD WIDEST) → IsRead (form_d version) manager text b → IsReadLine version client manager text (D b)
+pub read_as_d : (version client manager : ℕ) (text : List ℕ) (b : BeatOf HeadD WIDEST) → IsRead (form_d version) manager text b
+    → IsReadLine version client manager text (D b)
 read_as_d version client manager text b r = record { says = r.line; kept = r.kept; faultless = rw r.line.letter (faultless (form_d version) manager b text r.line (kept_parts (form_d version) manager b r.kept).1) }
 
-pub fault_e : (version client manager : ℕ) (text : List ℕ) (kind : TraceKind) → slice_index text 0 ≡ 69 → form_fault (form_e version) client text ≡ Some kind → body_fault version client manager text ≡ Some kind
+pub fault_e : (version client manager : ℕ) (text : List ℕ) (kind : TraceKind) → slice_index text 0 ≡ 69
+    → form_fault (form_e version) client text ≡ Some kind → body_fault version client manager text ≡ Some kind
 fault_e version client manager text kind letter fault = rw letter fault
 
-pub read_as_e : (version client manager : ℕ) (text : List ℕ) (b : BeatOf HeadE WIDEST) → IsRead (form_e version) client text b → IsReadLine version client manager text (E b)
+pub read_as_e : (version client manager : ℕ) (text : List ℕ) (b : BeatOf HeadE WIDEST) → IsRead (form_e version) client text b
+    → IsReadLine version client manager text (E b)
 read_as_e version client manager text b r = record { says = r.line; kept = r.kept; faultless = rw r.line.letter (faultless (form_e version) client b text r.line (kept_parts (form_e version) client b r.kept).1) }
 
 -- ---- cutting
@@ -89,7 +99,8 @@ free_take (suc n) (byte ∷ bytes) h =
 
 -- ---- lines of a text
 
-pub first_fault : (text : List ℕ) (before : ℕ) (kind : TraceKind) (more : List (Option TraceKind)) → faults text ≡ replicate before None ++ Some kind ∷ more → IsFirstFault text (before + 1) kind
+pub first_fault : (text : List ℕ) (before : ℕ) (kind : TraceKind) (more : List (Option TraceKind))
+    → faults text ≡ replicate before None ++ Some kind ∷ more → IsFirstFault text (before + 1) kind
 first_fault text before kind more e = record { before = before; place = refl; here = ap (λ (xs : List (Option TraceKind)). slice_get xs before) e ∙ get_after before; none_before = ap (λ (xs : List (Option TraceKind)). list_all is_none (take before xs)) e ∙ none_to before }
   where
     get_after : (n : ℕ) → slice_get (replicate n None ++ Some kind ∷ more) n ≡ Some (Some kind)
@@ -108,7 +119,8 @@ long_enough : (n : ℕ) (more : List (Option TraceKind)) → n ≤ length (repli
 long_enough zero more = omega arith
 long_enough (suc n) more = let rest : n ≤ length (replicate n None ++ more) = long_enough n more in omega arith
 
-pub readable_to : (text : List ℕ) (line : ℕ) (more : List (Option TraceKind)) → 1 < line → faults text ≡ replicate line None ++ more → IsReadableTo text line
+pub readable_to : (text : List ℕ) (line : ℕ) (more : List (Option TraceKind)) → 1 < line → faults text ≡ replicate line None ++ more
+    → IsReadableTo text line
 readable_to text line more lt e = record {
   stored = lt;
   within = let enough = long_enough line more in omega (arith, ap length e, enough);
@@ -122,9 +134,11 @@ one_more n more = onto n ∙ ap (λ (k : ℕ). replicate k None ++ more) (sym (a
     onto zero = refl
     onto (suc n) = ap (λ (xs : List (Option TraceKind)). None ∷ xs) (onto n)
 
-pub told_more : (version client manager : ℕ) (lines : List Line) (line : Line) (text body : List ℕ) → TellsLines version client manager lines text → SaysLine version client manager line body
+pub told_more : (version client manager : ℕ) (lines : List Line) (line : Line) (text body : List ℕ) → TellsLines version client manager lines text
+    → SaysLine version client manager line body
     → TellsLines version client manager (lines ++ line ∷ []) (text ++ body ++ newline)
-told_more version client manager [] line text body told says = (body, [], ap (λ (xs : List ℕ). xs ++ body ++ newline) told ∙ sym (append-nil (body ++ newline)), says, refl)
+told_more version client manager [] line text body told says =
+    (body, [], ap (λ (xs : List ℕ). xs ++ body ++ newline) told ∙ sym (append-nil (body ++ newline)), says, refl)
 told_more version client manager (first ∷ lines) line text body told says =
     let front = told.0 in
     let rest = told.1 in

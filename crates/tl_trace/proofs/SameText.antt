@@ -12,9 +12,11 @@ take_bytes xs n bytes k = elim (cases_lt k n) [
 ]
 
 one_item : (xs : List ℕ) (n at next : ℕ) → next ≡ at + 1 → at < length xs → take (suc n) (drop at xs) ≡ get_or xs at 0 ∷ take n (drop next xs)
-one_item xs n at next is less = ap (take (suc n)) (drop-cons xs at 0 less) ∙ ap (λ k. get_or xs at 0 ∷ take n (drop k xs)) (let more : suc at ≡ next = omega (arith, is) in more)
+one_item xs n at next is less =
+    ap (take (suc n)) (drop-cons xs at 0 less) ∙ ap (λ k. get_or xs at 0 ∷ take n (drop k xs)) (let more : suc at ≡ next = omega (arith, is) in more)
 
-pub eight_items : (xs : List ℕ) (at : ℕ) → at + 8 ≤ length xs → slice_range xs at (at + 8) ≡ get_or xs at 0 ∷ get_or xs (at + 1) 0 ∷ get_or xs (at + 2) 0 ∷ get_or xs (at + 3) 0 ∷ get_or xs (at + 4) 0 ∷ get_or xs (at + 5) 0 ∷ get_or xs (at + 6) 0 ∷ get_or xs (at + 7) 0 ∷ []
+pub eight_items : (xs : List ℕ) (at : ℕ) → at + 8 ≤ length xs
+    → slice_range xs at (at + 8) ≡ get_or xs at 0 ∷ get_or xs (at + 1) 0 ∷ get_or xs (at + 2) 0 ∷ get_or xs (at + 3) 0 ∷ get_or xs (at + 4) 0 ∷ get_or xs (at + 5) 0 ∷ get_or xs (at + 6) 0 ∷ get_or xs (at + 7) 0 ∷ []
 eight_items xs at room =
     let n : at + 8 - at ≡ 8 = omega arith in
     ap (λ k. take k (drop at xs)) n
@@ -30,7 +32,8 @@ eight_items xs at room =
     ) refl
 
 -- a word gives its bytes back
-pub word_bytes : (text : List ℕ) (at n : ℕ) → at + 8 ≤ length text → ((k : ℕ) → get_or text k 0 < 256) → n ≡ from_le_bytes w64 (slice_range text at (at + 8)) → to_le_bytes w64 n ≡ slice_range text at (at + 8)
+pub word_bytes : (text : List ℕ) (at n : ℕ) → at + 8 ≤ length text → ((k : ℕ) → get_or text k 0 < 256)
+    → n ≡ from_le_bytes w64 (slice_range text at (at + 8)) → to_le_bytes w64 n ≡ slice_range text at (at + 8)
 word_bytes text at n room bytes is =
     le_bytes_8 (slice_range text at (at + 8)) n (range_long text at 8 room) (take_bytes (drop at text) (at + 8 - at) (λ k. rw (get_or-drop at text k 0) (bytes (at + k)))) is
 
@@ -43,14 +46,17 @@ pub one_word_more : (xs ys : List ℕ) (i : ℕ) → slice_range xs (8 * i) (8 *
     → take (8 * i) xs ≡ take (8 * i) ys → take (8 * (i + 1)) xs ≡ take (8 * (i + 1)) ys
 one_word_more xs ys i same before =
     let more : 8 * (i + 1) ≡ 8 * i + 8 = omega arith in
-    ap (λ k. take k xs) more ∙ take-add (8 * i) 8 xs ∙ ap (λ zs. zs ++ take 8 (drop (8 * i) xs)) before ∙ ap (λ zs. take (8 * i) ys ++ zs) (eight xs ys (8 * i) same)
+    ap (λ k. take k xs) more ∙ take-add (8 * i) 8 xs ∙ ap (λ zs. zs ++ take 8 (drop (8 * i) xs)) before
+    ∙ ap (λ zs. take (8 * i) ys ++ zs) (eight xs ys (8 * i) same)
     ∙ sym (take-add (8 * i) 8 ys) ∙ ap (λ k. take k ys) (sym more)
 
 -- the last word ends both texts
-pub last_word : (xs ys : List ℕ) (at i : ℕ) → at + 8 ≡ length xs → at ≤ 8 * i → length xs ≡ length ys → slice_range xs at (at + 8) ≡ slice_range ys at (at + 8)
+pub last_word : (xs ys : List ℕ) (at i : ℕ) → at + 8 ≡ length xs → at ≤ 8 * i → length xs ≡ length ys
+    → slice_range xs at (at + 8) ≡ slice_range ys at (at + 8)
     → take (8 * i) xs ≡ take (8 * i) ys → xs ≡ ys
 last_word xs ys at i end past long same before =
     let front : take at xs ≡ take at ys = sym (take-take at (8 * i) xs past) ∙ ap (take at) before ∙ take-take at (8 * i) ys past in
     let rest : drop at xs ≡ drop at ys =
-    sym (take_all 8 (drop at xs) (omega (arith, length-drop at xs))) ∙ eight xs ys at same ∙ take_all 8 (drop at ys) (omega (arith, length-drop at ys)) in
+    sym (take_all 8 (drop at xs) (omega (arith, length-drop at xs))) ∙ eight xs ys at same
+    ∙ take_all 8 (drop at ys) (omega (arith, length-drop at ys)) in
     sym (take-append-drop at xs) ∙ ap (λ zs. zs ++ drop at xs) front ∙ ap (λ zs. take at ys ++ zs) rest ∙ take-append-drop at ys

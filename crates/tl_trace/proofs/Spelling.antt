@@ -26,7 +26,8 @@ pub hex_all : (count value : ℕ) → list_all is_hex (hex count value) ≡ true
 hex_all zero value = refl
 hex_all (suc count) value =
     list_all-append is_hex (hex count (value / 16)) (digit_char (value % 16) ∷ [])
-    ∙ and_from (list_all is_hex (hex count (value / 16))) (is_hex (digit_char (value % 16)) && true) (hex_all count (value / 16)) (and_from (is_hex (digit_char (value % 16))) true (hex_digit_of (value % 16) (omega arith)) refl)
+    ∙ and_from (list_all is_hex (hex count (value / 16))) (is_hex (digit_char (value % 16)) && true) (hex_all count (value / 16))
+    (and_from (is_hex (digit_char (value % 16))) true (hex_digit_of (value % 16) (omega arith)) refl)
 
 pub hex_value : (count value : ℕ) → value < 16 ^ count → digits_value 16 (hex count value) ≡ value
 hex_value zero value lt = omega arith
@@ -62,7 +63,8 @@ hex_back (suc count) ds e h =
 abbrev pub spelled : ℕ → (Field → ℕ) → Field → List ℕ
 spelled w value field = 32 ∷ hex (digit_count w field) (value field)
 
-pub as_spelled : (text : List ℕ) (at w : ℕ) (value : Field → ℕ) (fs : List Field) → list_all (is_shaped_at text) (places_from at w fs) ≡ true → at + length_of w fs ≤ length text
+pub as_spelled : (text : List ℕ) (at w : ℕ) (value : Field → ℕ) (fs : List Field) → list_all (is_shaped_at text) (places_from at w fs) ≡ true
+    → at + length_of w fs ≤ length text
     → map (value_at text) (places_from at w fs) ≡ map value fs → flat_map (stands text) (places_from at w fs) ≡ flat_map (spelled w value) fs
 as_spelled text at w value [] shaped le says = refl
 as_spelled text at w value (field ∷ more) shaped le says =
@@ -71,16 +73,20 @@ as_spelled text at w value (field ∷ more) shaped le says =
     let rest = places_from next w more in
     let here = head_of (value_at text p) (value field) (map (value_at text) rest) (map value more) says in
     let there = tail_of (value_at text p) (value field) (map (value_at text) rest) (map value more) says in
-    let digits = (and_parts (nat_eq (slice_index text at) 32) (list_all is_hex (digits_at text p)) (and_parts (is_shaped_at text p) (list_all (is_shaped_at text) rest) shaped).0).1 in
+    let digits =
+    (and_parts (nat_eq (slice_index text at) 32) (list_all is_hex (digits_at text p)) (and_parts (is_shaped_at text p) (list_all (is_shaped_at text) rest) shaped).0).1 in
     let count : (at + 1 + digit_count w field) - (at + 1) ≡ digit_count w field = omega arith in
-    let long : length (digits_at text p) ≡ digit_count w field = length-take-le ((at + 1 + digit_count w field) - (at + 1)) (drop (at + 1) text) (omega (arith, length-drop (at + 1) text)) ∙ count in
-    let same : digits_at text p ≡ hex (digit_count w field) (value field) = sym (hex_back (digit_count w field) (digits_at text p) long digits) ∙ ap (λ (n : ℕ). hex (digit_count w field) n) here in
+    let long : length (digits_at text p) ≡ digit_count w field =
+    length-take-le ((at + 1 + digit_count w field) - (at + 1)) (drop (at + 1) text) (omega (arith, length-drop (at + 1) text)) ∙ count in
+    let same : digits_at text p ≡ hex (digit_count w field) (value field) =
+    sym (hex_back (digit_count w field) (digits_at text p) long digits) ∙ ap (λ (n : ℕ). hex (digit_count w field) n) here in
     ap (λ (ds : List ℕ). (32 ∷ ds) ++ flat_map (stands text) rest) same
     ∙ ap (λ (xs : List ℕ). spelled w value field ++ xs) (as_spelled text next w value more (and_parts (is_shaped_at text p) (list_all (is_shaped_at text) rest) shaped).1 (omega arith) there)
 
 pub only_line : {H : Type 0} (f : Form H) {n : ℕ} (w : ℕ) (b : BeatOf H n) (text : List ℕ) → IsLine f w b text → text ≡ line_text f w b
 only_line f w b text line =
-    whole_line f w b text line ∙ ap (λ (xs : List ℕ). f.rules.letter ∷ xs) (as_spelled text 1 w (value_of f b) (fields f) line.shaped (omega (arith, line.long)) line.says)
+    whole_line f w b text line
+    ∙ ap (λ (xs : List ℕ). f.rules.letter ∷ xs) (as_spelled text 1 w (value_of f b) (fields f) line.shaped (omega (arith, line.long)) line.says)
 
 -- ---- from the text to the line
 
@@ -96,15 +102,18 @@ middle before digits after i j at long =
 length-spelled : (w : ℕ) (value : Field → ℕ) (fs : List Field) → length (flat_map (spelled w value) fs) ≡ length_of w fs
 length-spelled w value [] = refl
 length-spelled w value (field ∷ more) =
-    length-append (spelled w value field) (flat_map (spelled w value) more) ∙ omega (arith, length-hex (digit_count w field) (value field), length-spelled w value more)
+    length-append (spelled w value field) (flat_map (spelled w value) more)
+    ∙ omega (arith, length-hex (digit_count w field) (value field), length-spelled w value more)
 
 -- what stands in a text at the places of fields
 pub record Placed (text : List ℕ) (at w : ℕ) (value : Field → ℕ) (fs : List Field) : Type 0 where
   pub shaped : list_all (is_shaped_at text) (places_from at w fs) ≡ true
   pub says : map (value_at text) (places_from at w fs) ≡ map value fs
 
-pub placed : (text before : List ℕ) (at w : ℕ) (value fits : Field → ℕ) (fs : List Field) → text ≡ before ++ flat_map (spelled w value) fs → length before ≡ at
-    → list_all (λ field. nat_lt (value field) (fits field)) fs ≡ true → ((field : Field) → fits field ≤ 16 ^ digit_count w field) → Placed text at w value fs
+pub placed : (text before : List ℕ) (at w : ℕ) (value fits : Field → ℕ) (fs : List Field) → text ≡ before ++ flat_map (spelled w value) fs
+    → length before ≡ at
+    → list_all (λ field. nat_lt (value field) (fits field)) fs ≡ true → ((field : Field) → fits field ≤ 16 ^ digit_count w field)
+    → Placed text at w value fs
 placed text before at w value fits [] e long small wide = record { shaped = refl; says = refl }
 placed text before at w value fits (field ∷ more) e long small wide =
     let count = digit_count w field in
@@ -113,15 +122,23 @@ placed text before at w value fits (field ∷ more) e long small wide =
     let rest = flat_map (spelled w value) more in
     let next = at + 1 + count in
     let seam : text ≡ before ++ (32 ∷ (digits ++ rest)) = e in
-    let space : get_or text at 0 ≡ 32 = ap (λ (t : List ℕ). get_or t at 0) seam ∙ ap (λ (i : ℕ). get_or (before ++ (32 ∷ (digits ++ rest))) i 0) (sym long) ∙ get_or-append_seam before 32 (digits ++ rest) 0 in
-    let split : text ≡ (before ++ 32 ∷ []) ++ digits ++ rest = seam ∙ sym (append_assoc (before ++ 32 ∷ []) digits rest ∙ append_assoc before (32 ∷ []) (digits ++ rest)) in
+    let space : get_or text at 0 ≡ 32 =
+    ap (λ (t : List ℕ). get_or t at 0) seam ∙ ap (λ (i : ℕ). get_or (before ++ (32 ∷ (digits ++ rest))) i 0) (sym long)
+    ∙ get_or-append_seam before 32 (digits ++ rest) 0 in
+    let split : text ≡ (before ++ 32 ∷ []) ++ digits ++ rest =
+    seam ∙ sym (append_assoc (before ++ 32 ∷ []) digits rest ∙ append_assoc before (32 ∷ []) (digits ++ rest)) in
     let front : length (before ++ 32 ∷ []) ≡ at + 1 = length-append before (32 ∷ []) ∙ omega arith in
-    let same : digits_at text p ≡ digits = ap (λ (t : List ℕ). slice_range t (at + 1) (at + 1 + count)) split ∙ middle (before ++ 32 ∷ []) digits rest (at + 1) (at + 1 + count) front (omega (arith, length-hex count (value field))) in
+    let same : digits_at text p ≡ digits =
+    ap (λ (t : List ℕ). slice_range t (at + 1) (at + 1 + count)) split
+    ∙ middle (before ++ 32 ∷ []) digits rest (at + 1) (at + 1 + count) front (omega (arith, length-hex count (value field))) in
     let whole : text ≡ (before ++ spelled w value field) ++ rest = seam ∙ sym (append_assoc before (spelled w value field) rest) in
-    let further : length (before ++ spelled w value field) ≡ next = length-append before (spelled w value field) ∙ omega (arith, length-hex count (value field)) in
-    let here = ltb-true (value field) (fits field) (and_parts (nat_lt (value field) (fits field)) (list_all (λ field. nat_lt (value field) (fits field)) more) small).0 in
+    let further : length (before ++ spelled w value field) ≡ next =
+    length-append before (spelled w value field) ∙ omega (arith, length-hex count (value field)) in
+    let here =
+    ltb-true (value field) (fits field) (and_parts (nat_lt (value field) (fits field)) (list_all (λ field. nat_lt (value field) (fits field)) more) small).0 in
     let below : value field < 16 ^ count = omega (arith, wide field) in
-    let after = placed text (before ++ spelled w value field) next w value fits more whole further (and_parts (nat_lt (value field) (fits field)) (list_all (λ field. nat_lt (value field) (fits field)) more) small).1 wide in
+    let after =
+    placed text (before ++ spelled w value field) next w value fits more whole further (and_parts (nat_lt (value field) (fits field)) (list_all (λ field. nat_lt (value field) (fits field)) more) small).1 wide in
     record {
       shaped = and_from (is_shaped_at text p) (list_all (is_shaped_at text) (places_from next w more)) (and_from (nat_eq (slice_index text at) 32) (list_all is_hex (digits_at text p)) (eq-eqb (slice_index text at) 32 space) (ap (list_all is_hex) same ∙ hex_all count (value field))) after.shaped;
       says = ap (λ (n : ℕ). n ∷ map (value_at text) (places_from next w more)) (ap (digits_value 16) same ∙ hex_value count (value field) below) ∙ ap (λ (ns : List ℕ). value field ∷ ns) after.says;

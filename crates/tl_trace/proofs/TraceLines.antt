@@ -8,7 +8,8 @@ module _ (version client manager : ℕ) (lines : List Line) where
   pub record IsWritten (out : List ℕ) (i : ℕ) : Type 0 where
     pub text : out ≡ header_text version client manager ++ newline ++ lines_text version client manager (take i lines)
 
-  pub written_none : (header before behind out : List ℕ) → header ≡ header_text version client manager → before ≡ [] → behind ≡ before ++ header → out ≡ behind ++ 10 ∷ [] → IsWritten out 0
+  pub written_none : (header before behind out : List ℕ) → header ≡ header_text version client manager → before ≡ [] → behind ≡ before ++ header
+      → out ≡ behind ++ 10 ∷ [] → IsWritten out 0
   written_none header before behind out is none first last =
       record { text = last ∙ ap (λ (xs : List ℕ). xs ++ newline) (first ∙ ap (λ (xs : List ℕ). xs ++ header) none ∙ is) ∙ sym (append-nil (header_text version client manager ++ newline)) }
 
@@ -29,6 +30,9 @@ module _ (version client manager : ℕ) (lines : List Line) where
       here : take (i + 1) lines ≡ take i lines ++ get_or xs i d ∷ []
       here = ap (take (i + 1)) (sym same) ∙ take_more xs i d less ∙ ap (λ (ys : List Line). take i ys ++ get_or xs i d ∷ []) same
 
-  pub written_all : (xs : List Line) (out : List ℕ) (i : ℕ) → xs ≡ lines → length xs ≤ i → IsWritten out i → out ≡ trace_text version client manager lines
+  pub written_all : (xs : List Line) (out : List ℕ) (i : ℕ) → xs ≡ lines → length xs ≤ i → IsWritten out i
+      → out ≡ trace_text version client manager lines
   written_all xs out i same past far =
-      far.text ∙ ap (λ (ys : List Line). header_text version client manager ++ newline ++ lines_text version client manager ys) (ap (take i) (sym same) ∙ take_all i xs past ∙ same)
+      far.text
+      ∙ ap (λ (ys : List Line). header_text version client manager ++ newline ++ lines_text version client manager ys)
+      (ap (take i) (sym same) ∙ take_all i xs past ∙ same)

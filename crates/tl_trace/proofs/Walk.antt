@@ -46,25 +46,31 @@ no_memory version client manager text =
 pub free_line : (text : List ℕ) (at end : ℕ) → LineAt text at end → IsFree (slice_range text at end)
 free_line text at end line = free_take (end - at) (drop at text) (λ k lt e. line.free k (omega arith) (sym (get_or-drop at text k 0) ∙ e))
 
-pub split_line : (text : List ℕ) (at end : ℕ) → LineAt text at end → end < length text → drop at text ≡ slice_range text at end ++ newline ++ drop (end + 1) text
+pub split_line : (text : List ℕ) (at end : ℕ) → LineAt text at end → end < length text
+    → drop at text ≡ slice_range text at end ++ newline ++ drop (end + 1) text
 split_line text at end line lt =
     drop_split text at end line.from
     ∙ ap (λ (xs : List ℕ). slice_range text at end ++ xs) (drop-cons text end 0 lt ∙ ap (λ (x : ℕ). x ∷ drop (suc end) text) (line.stop lt) ∙ ap (λ (n : ℕ). 10 ∷ drop n text) (sym (add-one end)))
     ∙ sym (append_assoc (slice_range text at end) newline (drop (end + 1) text))
 
 pub last_line : (text : List ℕ) (at end : ℕ) → LineAt text at end → end ≡ length text → drop at text ≡ slice_range text at end
-last_line text at end line e = drop_split text at end line.from ∙ ap (λ (xs : List ℕ). slice_range text at end ++ xs) (drop_all end text (omega arith)) ∙ append-nil (slice_range text at end)
+last_line text at end line e =
+    drop_split text at end line.from ∙ ap (λ (xs : List ℕ). slice_range text at end ++ xs) (drop_all end text (omega arith))
+    ∙ append-nil (slice_range text at end)
 
 or_none : {F : Type 0} (o : Option F) → o or_else None ≡ o
 or_none None = refl
 or_none (Some x) = refl
 
-pub later_line : (version client manager : ℕ) (line : List ℕ) → IsFree line → later_fault version client manager (line ++ newline) ≡ body_fault version client manager line
+pub later_line : (version client manager : ℕ) (line : List ℕ) → IsFree line
+    → later_fault version client manager (line ++ newline) ≡ body_fault version client manager line
 later_line version client manager line free =
-    ap (λ (o : Option TraceKind). body_fault version client manager (body (line ++ newline)) or_else o) (ended line) ∙ or_none (body_fault version client manager (body (line ++ newline)))
+    ap (λ (o : Option TraceKind). body_fault version client manager (body (line ++ newline)) or_else o) (ended line)
+    ∙ or_none (body_fault version client manager (body (line ++ newline)))
     ∙ ap (λ (b : List ℕ). body_fault version client manager b) (body_line line free)
 
-pub later_last : (version client manager : ℕ) (line : List ℕ) → IsFree line → later_fault version client manager line ≡ body_fault version client manager line or_else Some NoEnd
+pub later_last : (version client manager : ℕ) (line : List ℕ) → IsFree line
+    → later_fault version client manager line ≡ body_fault version client manager line or_else Some NoEnd
 later_last version client manager line free =
     ap (λ (o : Option TraceKind). body_fault version client manager (body line) or_else o) (unended line free)
     ∙ ap (λ (b : List ℕ). body_fault version client manager b or_else Some NoEnd) (body_last line free)
@@ -73,23 +79,28 @@ pub cut_whole : (line : List ℕ) → 0 < length line → IsFree line → cut li
 cut_whole [] lt free = absurd (omega arith)
 cut_whole (byte ∷ line) lt free = cut_last byte line free
 
-cut_here : (text : List ℕ) (at end : ℕ) → LineAt text at end → end < length text → cut (drop at text) ≡ (slice_range text at end ++ newline) ∷ cut (drop (end + 1) text)
-cut_here text at end line lt = ap cut (split_line text at end line lt) ∙ cut_line (slice_range text at end) (drop (end + 1) text) (free_line text at end line)
+cut_here : (text : List ℕ) (at end : ℕ) → LineAt text at end → end < length text
+    → cut (drop at text) ≡ (slice_range text at end ++ newline) ∷ cut (drop (end + 1) text)
+cut_here text at end line lt =
+    ap cut (split_line text at end line lt) ∙ cut_line (slice_range text at end) (drop (end + 1) text) (free_line text at end line)
 
-cut_there : (text : List ℕ) (at end : ℕ) → LineAt text at end → at < length text → end ≡ length text → cut (drop at text) ≡ slice_range text at end ∷ []
+cut_there : (text : List ℕ) (at end : ℕ) → LineAt text at end → at < length text → end ≡ length text
+    → cut (drop at text) ≡ slice_range text at end ∷ []
 cut_there text at end line lt e =
     let whole = last_line text at end line e in
     let long : 0 < length (slice_range text at end) = omega (arith, ap length whole, length-drop at text) in
     ap cut whole ∙ cut_whole (slice_range text at end) long (free_line text at end line)
 
-pub refused : (text : List ℕ) (start version client manager : ℕ) (lines : List Line) (at before end : ℕ) (kind : TraceKind) → SoFar text start version client manager lines at before → LineAt text at end → at < length text
+pub refused : (text : List ℕ) (start version client manager : ℕ) (lines : List Line) (at before end : ℕ) (kind : TraceKind)
+    → SoFar text start version client manager lines at before → LineAt text at end → at < length text
     → body_fault version client manager (slice_range text at end) ≡ Some kind → IsFirstFault text (before + 1) kind
 refused text start version client manager lines at before end kind far line lt fault =
     let b = slice_range text at end in
     let free = free_line text at end line in
     elim (cases_eq end (length text)) [
       | inl e ↦
-          let is : later_fault version client manager b ≡ Some kind = later_last version client manager b free ∙ ap (λ (o : Option TraceKind). o or_else Some NoEnd) fault in
+          let is : later_fault version client manager b ≡ Some kind =
+          later_last version client manager b free ∙ ap (λ (o : Option TraceKind). o or_else Some NoEnd) fault in
           first_fault text before kind [] (far.faultless ∙ ap (λ (xs : List (List ℕ)). replicate before None ++ map (later_fault version client manager) xs) (cut_there text at end line lt e)
           ∙ ap (λ (o : Option TraceKind). replicate before None ++ o ∷ []) is)
       | inr ne ↦
@@ -99,28 +110,35 @@ refused text start version client manager lines at before end kind far line lt f
           ∙ ap (λ (o : Option TraceKind). replicate before None ++ o ∷ more) is)
     ]
 
-pub no_end : (text : List ℕ) (start version client manager : ℕ) (lines : List Line) (at before end : ℕ) (beat : Line) → SoFar text start version client manager lines at before → LineAt text at end → at < length text
+pub no_end : (text : List ℕ) (start version client manager : ℕ) (lines : List Line) (at before end : ℕ) (beat : Line)
+    → SoFar text start version client manager lines at before → LineAt text at end → at < length text
     → IsReadLine version client manager (slice_range text at end) beat → end ≡ length text → IsFirstFault text (before + 1) NoEnd
 no_end text start version client manager lines at before end beat far line lt read e =
     let b = slice_range text at end in
-    let is : later_fault version client manager b ≡ Some NoEnd = later_last version client manager b (free_line text at end line) ∙ ap (λ (o : Option TraceKind). o or_else Some NoEnd) read.faultless in
+    let is : later_fault version client manager b ≡ Some NoEnd =
+    later_last version client manager b (free_line text at end line) ∙ ap (λ (o : Option TraceKind). o or_else Some NoEnd) read.faultless in
     first_fault text before NoEnd [] (far.faultless ∙ ap (λ (xs : List (List ℕ)). replicate before None ++ map (later_fault version client manager) xs) (cut_there text at end line lt e)
     ∙ ap (λ (o : Option TraceKind). replicate before None ++ o ∷ []) is)
 
 -- one more line has no fault
-more_faultless : (text : List ℕ) (start version client manager : ℕ) (lines : List Line) (at before end : ℕ) (beat : Line) → SoFar text start version client manager lines at before → LineAt text at end
-    → IsReadLine version client manager (slice_range text at end) beat → end < length text → faults text ≡ replicate (before + 1) None ++ map (later_fault version client manager) (cut (drop (end + 1) text))
+more_faultless : (text : List ℕ) (start version client manager : ℕ) (lines : List Line) (at before end : ℕ) (beat : Line)
+    → SoFar text start version client manager lines at before → LineAt text at end
+    → IsReadLine version client manager (slice_range text at end) beat → end < length text
+    → faults text ≡ replicate (before + 1) None ++ map (later_fault version client manager) (cut (drop (end + 1) text))
 more_faultless text start version client manager lines at before end beat far line read lt =
     let b = slice_range text at end in
     let more = map (later_fault version client manager) (cut (drop (end + 1) text)) in
-    let is : later_fault version client manager (b ++ newline) ≡ None = later_line version client manager b (free_line text at end line) ∙ read.faultless in
+    let is : later_fault version client manager (b ++ newline) ≡ None =
+    later_line version client manager b (free_line text at end line) ∙ read.faultless in
     far.faultless ∙ ap (λ (xs : List (List ℕ)). replicate before None ++ map (later_fault version client manager) xs) (cut_here text at end line lt)
     ∙ ap (λ (o : Option TraceKind). replicate before None ++ o ∷ more) is ∙ one_more before more
 
-pub unstored : (text : List ℕ) (start version client manager : ℕ) (lines : List Line) (at before end : ℕ) (beat : Line) → SoFar text start version client manager lines at before → LineAt text at end
+pub unstored : (text : List ℕ) (start version client manager : ℕ) (lines : List Line) (at before end : ℕ) (beat : Line)
+    → SoFar text start version client manager lines at before → LineAt text at end
     → IsReadLine version client manager (slice_range text at end) beat → end < length text → IsReadableTo text (before + 1)
 unstored text start version client manager lines at before end beat far line read lt =
-    readable_to text (before + 1) (map (later_fault version client manager) (cut (drop (end + 1) text))) (omega (arith, far.one)) (more_faultless text start version client manager lines at before end beat far line read lt)
+    readable_to text (before + 1) (map (later_fault version client manager) (cut (drop (end + 1) text))) (omega (arith, far.one))
+    (more_faultless text start version client manager lines at before end beat far line read lt)
 
 range_split : (xs : List ℕ) (i j k : ℕ) → i ≤ j → j ≤ k → slice_range xs i k ≡ slice_range xs i j ++ slice_range xs j k
 range_split xs i j k le le' =
@@ -135,7 +153,8 @@ one_byte xs at lt =
     ap (λ (n : ℕ). take n (drop at xs)) one ∙ ap (λ (ys : List ℕ). take 1 ys) (drop-cons xs at 0 lt)
 
 -- what was read of a text, and a line more
-pub line_more : (text : List ℕ) (start at end : ℕ) → start ≤ at → LineAt text at end → end < length text → slice_range text start (end + 1) ≡ slice_range text start at ++ slice_range text at end ++ newline
+pub line_more : (text : List ℕ) (start at end : ℕ) → start ≤ at → LineAt text at end → end < length text
+    → slice_range text start (end + 1) ≡ slice_range text start at ++ slice_range text at end ++ newline
 line_more text start at end begun line lt =
     let b = slice_range text at end in
     let stop : slice_range text end (end + 1) ≡ newline = one_byte text end lt ∙ ap (λ (x : ℕ). x ∷ []) (line.stop lt) in
@@ -143,8 +162,10 @@ line_more text start at end begun line lt =
     ∙ ap (λ (ys : List ℕ). slice_range text start at ++ ys) (range_split text at end (end + 1) line.from (omega arith) ∙ ap (λ (ys : List ℕ). b ++ ys) stop)
     ∙ sym (append_assoc (slice_range text start at) b newline)
 
-pub advance : (text : List ℕ) (start version client manager : ℕ) (lines : List Line) (at before end : ℕ) (beat : Line) → SoFar text start version client manager lines at before → LineAt text at end
-    → IsReadLine version client manager (slice_range text at end) beat → end < length text → SoFar text start version client manager (lines ++ beat ∷ []) (end + 1) (before + 1)
+pub advance : (text : List ℕ) (start version client manager : ℕ) (lines : List Line) (at before end : ℕ) (beat : Line)
+    → SoFar text start version client manager lines at before → LineAt text at end
+    → IsReadLine version client manager (slice_range text at end) beat → end < length text
+    → SoFar text start version client manager (lines ++ beat ∷ []) (end + 1) (before + 1)
 advance text start version client manager lines at before end beat far line read lt =
     let b = slice_range text at end in
     let whole : slice_range text start (end + 1) ≡ slice_range text start at ++ b ++ newline = line_more text start at end far.begun line lt in
@@ -162,7 +183,8 @@ advance text start version client manager lines at before end beat far line read
 
 -- ---- the header
 
-pub header_lines : (text : List ℕ) (end : ℕ) → LineAt text 0 end → end < length text → cut text ≡ (slice_range text 0 end ++ newline) ∷ cut (drop (end + 1) text)
+pub header_lines : (text : List ℕ) (end : ℕ) → LineAt text 0 end → end < length text
+    → cut text ≡ (slice_range text 0 end ++ newline) ∷ cut (drop (end + 1) text)
 header_lines text end line lt = cut_here text 0 end line lt
 
 pub header_last : (text : List ℕ) (end : ℕ) → LineAt text 0 end → end ≡ length text → 0 < end → cut text ≡ slice_range text 0 end ∷ []
@@ -186,7 +208,8 @@ no_header text end line none =
           ∙ ap (λ (o : Option Header). faults_after o (b ++ newline) (cut (drop (end + 1) text))) (ap header_of (body_line b free) ∙ none))
     ]
 
-pub no_header_end : (text : List ℕ) (end : ℕ) (h : Header) → LineAt text 0 end → header_of (slice_range text 0 end) ≡ Some h → end ≡ length text → IsFirstFault text 1 NoEnd
+pub no_header_end : (text : List ℕ) (end : ℕ) (h : Header) → LineAt text 0 end → header_of (slice_range text 0 end) ≡ Some h → end ≡ length text
+    → IsFirstFault text 1 NoEnd
 no_header_end text end h line some e =
     let b = slice_range text 0 end in
     let free = free_line text 0 end line in
@@ -199,5 +222,6 @@ header_faults text end h line some lt =
     let b = slice_range text 0 end in
     let free = free_line text 0 end line in
     let lines = cut (drop (end + 1) text) in
-    ap faults_of_lines (header_lines text end line lt) ∙ ap (λ (o : Option Header). faults_after o (b ++ newline) lines) (ap header_of (body_line b free) ∙ some)
+    ap faults_of_lines (header_lines text end line lt)
+    ∙ ap (λ (o : Option Header). faults_after o (b ++ newline) lines) (ap header_of (body_line b free) ∙ some)
     ∙ ap (λ (o : Option TraceKind). o ∷ map (later_fault h.version h.client h.manager) lines) (ended b)

@@ -22,10 +22,12 @@ pub record Limits (column : List (Option Kind)) (limit o p z : ℕ) : Type 0 whe
   pub param : p < limit
   pub size : z < 16
 
-of_kind : (kind : Kind) (limit p z : ℕ) (aligned : Bool) → nat_le (params kind) limit ≡ true → head_fault (Some kind) p z aligned ≡ None → (p < limit) × (z < 16)
+of_kind : (kind : Kind) (limit p z : ℕ) (aligned : Bool) → nat_le (params kind) limit ≡ true → head_fault (Some kind) p z aligned ≡ None
+    → (p < limit) × (z < 16)
 of_kind kind limit p z aligned few e =
     let rest = second_none (unless (nat_lt p (params kind)) Param) (unless (nat_le z 12) Size or_else unless aligned Unaligned) e in
-    let param = unless_none (nat_lt p (params kind)) Param (first_none (unless (nat_lt p (params kind)) Param) (unless (nat_le z 12) Size or_else unless aligned Unaligned) e) in
+    let param =
+    unless_none (nat_lt p (params kind)) Param (first_none (unless (nat_lt p (params kind)) Param) (unless (nat_le z 12) Size or_else unless aligned Unaligned) e) in
     let size = unless_none (nat_le z 12) Size (first_none (unless (nat_le z 12) Size) (unless aligned Unaligned) rest) in
     let lt = ltb-true p (params kind) param in
     let le = leb-true (params kind) limit few in
@@ -36,7 +38,8 @@ of_kind kind limit p z aligned few e =
 abbrev few_params : (limit : ℕ) → Option Kind → Bool
 few_params limit kind = option_map_or (λ k. nat_le (params k) limit) kind true
 
-in_column : (column : List (Option Kind)) (limit o p z : ℕ) (aligned : Bool) → list_all (few_params limit) column ≡ true → head_fault (kind_at column o) p z aligned ≡ None → Limits column limit o p z
+in_column : (column : List (Option Kind)) (limit o p z : ℕ) (aligned : Bool) → list_all (few_params limit) column ≡ true
+    → head_fault (kind_at column o) p z aligned ≡ None → Limits column limit o p z
 in_column [] limit o p z aligned few e = absurd cc
 in_column (None ∷ kinds) limit zero p z aligned few e = absurd cc
 in_column (Some kind ∷ kinds) limit zero p z aligned few e =
@@ -97,24 +100,29 @@ head_in_range version column o p z s a rest long few head id small more =
 
 pub lawful_a : (version : ℕ) → LawfulIsWritable (form_a version)
 lawful_a version w b held ids lawful =
-    head_in_range version column_a b.head.opcode b.head.param b.head.size b.head.source b.head.address _ refl refl (lawful_parts rules_a b lawful).0 ids held.address
+    head_in_range version column_a b.head.opcode b.head.param b.head.size b.head.source b.head.address _ refl refl (lawful_parts rules_a b lawful).0
+    ids held.address
     (and_from (nat_lt b.mask (2 ^ w)) _ (mask_in_range rules_a b refl lawful) (data_in_range b held.lanes held.bytes))
 
 pub lawful_b : (version : ℕ) → LawfulIsWritable (form_b version)
 lawful_b version w b held ids lawful =
-    head_in_range version column_b b.head.opcode b.head.param b.head.size b.head.source b.head.address _ refl refl (lawful_parts rules_b b lawful).0 ids held.address
+    head_in_range version column_b b.head.opcode b.head.param b.head.size b.head.source b.head.address _ refl refl (lawful_parts rules_b b lawful).0
+    ids held.address
     (and_from (nat_lt b.mask (2 ^ w)) _ (mask_in_range rules_b b refl lawful) (data_in_range b held.lanes held.bytes))
 
 pub lawful_c : (version : ℕ) → LawfulIsWritable (form_c version)
 lawful_c version w b held ids lawful =
-    head_in_range version column_c b.head.opcode b.head.param b.head.size b.head.source b.head.address _ refl refl (lawful_parts rules_c b lawful).0 ids held.address
+    head_in_range version column_c b.head.opcode b.head.param b.head.size b.head.source b.head.address _ refl refl (lawful_parts rules_c b lawful).0
+    ids held.address
     (data_in_range b held.lanes held.bytes)
 
 pub lawful_d : (version : ℕ) → LawfulIsWritable (form_d version)
 lawful_d version w b held ids lawful =
     let l = in_column column_d 4 b.head.opcode b.head.param b.head.size true refl (lawful_parts rules_d b lawful).0 in
-    let id : nat_lt b.head.source (16 ^ id_digits version) ≡ true = (and_parts (nat_lt b.head.source (16 ^ id_digits version)) (nat_lt b.head.sink (16 ^ id_digits version) && true) ids).0 in
-    let id' : nat_lt b.head.sink (16 ^ id_digits version) ≡ true = (and_parts (nat_lt b.head.sink (16 ^ id_digits version)) true (and_parts (nat_lt b.head.source (16 ^ id_digits version)) (nat_lt b.head.sink (16 ^ id_digits version) && true) ids).1).0 in
+    let id : nat_lt b.head.source (16 ^ id_digits version) ≡ true =
+    (and_parts (nat_lt b.head.source (16 ^ id_digits version)) (nat_lt b.head.sink (16 ^ id_digits version) && true) ids).0 in
+    let id' : nat_lt b.head.sink (16 ^ id_digits version) ≡ true =
+    (and_parts (nat_lt b.head.sink (16 ^ id_digits version)) true (and_parts (nat_lt b.head.source (16 ^ id_digits version)) (nat_lt b.head.sink (16 ^ id_digits version) && true) ids).1).0 in
     rw (
       lt-ltb b.head.opcode 8 l.opcode,
       lt-ltb b.head.param 4 l.param,

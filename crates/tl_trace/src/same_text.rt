@@ -2,6 +2,7 @@
 ghost use Rattle.std.specs.Prelude.{◌≡◌, ◌≤◌, ◌+◌, true, length};
 ghost use Rattle.std.specs.Int.{w64, to_le_bytes};
 ghost use Rattle.std.specs.List.{slice_range};
+ghost use Rattle.tl_trace.specs.Inner.KnownHeads.{IsSameAt};
 ghost use Rattle.tl_trace.specs.declared.same_text.TheConstants.{WORD};
 
 /// The bytes of a word.
@@ -42,4 +43,16 @@ pub fn are_same(one: &[u8], other: &[u8]) -> bool
     }
     // the last word may begin within the one before it
     word(one, len - WORD) == word(other, len - WORD)
+}
+
+/// Whether so many bytes of a text from one place on are there, and are those from another place on.
+#[inline(always)]
+pub fn goes_on_as(text: &[u8], at: usize, before: usize, len: usize) -> bool
+    requires { (at ≤ length text.now) × (before + len ≤ length text.now) }
+    ensures { result ≡ true → IsSameAt text.now at before len }
+{
+    if len > text.len() - at {
+        return false;
+    }
+    are_same(&text[at..at + len], &text[before..before + len])
 }

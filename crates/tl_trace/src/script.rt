@@ -39,6 +39,7 @@ pub struct Counts {
 }
 
 /// Lets so many of the first items of a list go.
+#[inline(never)]
 fn let_first_go<T: Copy>(list: &mut Vec<T>, count: usize)
     requires { count ≤ length list.old.items }
     ensures { list.new.items ≡ drop count list.old.items }

@@ -1,12 +1,12 @@
 //! From a text to its script.
 ghost use Rattle.std.specs.Prelude.{ℕ, true, false, ◌≡◌, ◌≢◌, ◌≤◌, ◌<◌, ◌+◌, ◌^◌, ◌++◌, None, Some, List, [], drop, take, length, IfSome, IfOk, IfErr, IsOk, MatchOption, MatchResult};
-ghost use Rattle.std.specs.List.{list_any};
+ghost use Rattle.std.specs.List.{list_any, slice_range};
 ghost use Rattle.tl_lanes.specs.declared.limits.TheConstants.{WIDEST};
 ghost use Rattle.tl_trace.specs.Scripts.{Gone, TellsScript, HasCounts, HasGrown, HasLetGo, HasRead, HasReadPast, HasStopped, IsHeaderLine, IsUnfinished, more_gone};
 ghost use Rattle.tl_trace.specs.Texts.{is_version};
 ghost use Rattle.tl_trace.specs.Faults.{is_newline, body, later_fault, header_of, HasHeader, IsFirstFault, IsReadableTo};
-ghost use Rattle.tl_trace.specs.Inner.KnownHeads.{AreKnown, IsKnown};
-ghost use Rattle.tl_trace.specs.Inner.Reading.{CanPush, CanRead, IsLeft, IsLinePushed, IsNextPushed, IsPieceRead, IsRefusedAt, IsSameScript};
+ghost use Rattle.tl_trace.specs.Inner.KnownHeads.{head_length, AreKnown, HasHead, IsKnown};
+ghost use Rattle.tl_trace.specs.Inner.Reading.{AreLinesPushed, AreNextPushed, CanPush, CanRead, IsLeft, IsLinePushed, IsNextPushed, IsPieceRead, IsRefusedAt, IsSameScript};
 ghost use Rattle.tl_trace.specs.declared.fault.TraceKind.TheVariants.{OutOfMemory};
 
 use crate::fault::{TraceFault, TraceKind};
@@ -16,6 +16,7 @@ use crate::known_head::{KnownHead, LastHeads, head_at, no_heads};
 use crate::line_reader::beat_with_head;
 use crate::places::{LONGEST_LINE, line_len};
 use crate::reader::{line_end, read_line};
+use crate::same_text::goes_on_as;
 use crate::script::{Counts, Script, empty_script, push_beat_of};
 use std::alloc::Global;
 use tl_msg::{Beat, ChA, ChB, ChC, ChD, ChE};
@@ -27,30 +28,33 @@ pub fn header_of_text(text: &[u8]) -> Option<Header>
     header_of(&text[..line_end(text, 0)])
 }
 
-/// Puts the beat of the line from `at` on behind those of its channel, and gives the line's end.
-/// `None`, and the list as it was, where the line has a fault, where its LF is not at its place, and
-/// where a growth is refused, which `no_room` then says, so that it is not asked for again. A head is not read where that
-/// of the last line of its channel has the same text.
-#[inline(never)]
+/// How many lines were pushed, one behind the other, and the place behind the last of them.
+#[derive(Clone, Copy)]
+pub struct PushedLines {
+    pub count: usize,
+    pub place: usize,
+}
+
+/// Puts the beat of the line from `at` on, which begins with this head, behind those of its channel, and gives the line's
+/// end. `None`, and the list as it was, where the rest of the line has a fault, where its LF is not at its place, and
+/// where a growth is refused, which `no_room` then says.
+#[inline(always)]
 fn push_line<K: ReadHead, const W: usize, const VERSION: u8>(
     list: &mut Vec<Beat<K, W>>,
-    last: &mut Option<KnownHead<K::Head>>,
+    head: K::Head,
     text: &[u8],
     at: usize,
     no_room: &mut bool,
 ) -> Option<usize>
-    requires { CanPush (K.form VERSION) W text.now at × IfSome last.old (IsKnown (K.form VERSION) VERSION text.now) }
-    ensures pushed { MatchOption result (list.new.items ≡ list.old.items)
+    requires { CanPush (K.form VERSION) W text.now at × HasHead (K.form VERSION) VERSION
+        (slice_range text.now at (at + head_length (K.form VERSION))) head }
+    ensures { MatchOption result (list.new.items ≡ list.old.items)
         (IsLinePushed (K.form VERSION) W text.now at list.old.items list.new.items) }
-    ensures known { IfSome last.new (IsKnown (K.form VERSION) VERSION text.now) }
 {
     let long = line_len::<K, VERSION>(W);
     if long >= text.len() - at || text[at + long] != b'\n' {
         return None;
     }
-    let Some(head) = head_at::<K, VERSION>(text, at, last) else {
-        return None;
-    };
     let Some(beat) = beat_with_head::<K, W, VERSION>(&text[at..at + long], head) else {
         return None;
     };
@@ -61,8 +65,50 @@ fn push_line<K: ReadHead, const W: usize, const VERSION: u8>(
     Some(at + long)
 }
 
-/// The same for a line of any channel: `None`, and the lists as they were, where its letter is none
-/// of the five, too.
+/// Puts the beats of the line from `at` on, and of those right behind it whose heads have the same text, behind those of
+/// their channel. It ends before a line that has a fault or whose LF is not at its place, and where a growth is refused,
+/// which `no_room` then says, so that it is not asked for again. The head is not read where that of the last line of the
+/// channel has the same text.
+#[inline(never)]
+fn push_lines<K: ReadHead, const W: usize, const VERSION: u8>(
+    list: &mut Vec<Beat<K, W>>,
+    last: &mut Option<KnownHead<K::Head>>,
+    text: &[u8],
+    at: usize,
+    no_room: &mut bool,
+) -> PushedLines
+    requires { CanPush (K.form VERSION) W text.now at × IfSome last.old (IsKnown (K.form VERSION) VERSION text.now) }
+    ensures pushed { AreLinesPushed (K.form VERSION) W text.now at list.old list.new result }
+    ensures known { IfSome last.new (IsKnown (K.form VERSION) VERSION text.now) }
+{
+    let len = K::head_end(VERSION);
+    if *no_room || len > text.len() - at {
+        return PushedLines {
+            count: 0,
+            place: at,
+        };
+    }
+    let Some(head) = head_at::<K, VERSION>(text, at, last) else {
+        return PushedLines {
+            count: 0,
+            place: at,
+        };
+    };
+    let mut count = 0;
+    let mut place = at;
+    'lines: loop {
+        let Some(end) = push_line::<K, W, VERSION>(list, head, text, place, no_room) else {
+            return PushedLines { count, place };
+        };
+        count += 1;
+        place = end + 1;
+        if !goes_on_as(text, place, at, len) {
+            return PushedLines { count, place };
+        }
+    }
+}
+
+/// The same for lines of any channel: none, where the letter of the first one is none of the five, too.
 #[inline(always)]
 fn push_next<const C: usize, const M: usize, const VERSION: u8>(
     script: &mut Script<C, M>,
@@ -70,19 +116,21 @@ fn push_next<const C: usize, const M: usize, const VERSION: u8>(
     text: &[u8],
     at: usize,
     no_room: &mut bool,
-) -> Option<usize>
+) -> PushedLines
     requires { CanRead VERSION C M × (at < length text.now) × AreKnown VERSION text.now heads.old }
-    ensures pushed { MatchOption result (IsSameScript script.old script.new)
-        (IsNextPushed VERSION text.now at script.old script.new) }
+    ensures pushed { AreNextPushed VERSION text.now at script.old script.new result }
     ensures known { AreKnown VERSION text.now heads.new }
 {
     match text[at] {
-        b'A' => { push_line::<ChA, C, VERSION>(&mut script.a, &mut heads.a, text, at, no_room) }
-        b'B' => { push_line::<ChB, M, VERSION>(&mut script.b, &mut heads.b, text, at, no_room) }
-        b'C' => { push_line::<ChC, C, VERSION>(&mut script.c, &mut heads.c, text, at, no_room) }
-        b'D' => { push_line::<ChD, M, VERSION>(&mut script.d, &mut heads.d, text, at, no_room) }
-        b'E' => { push_line::<ChE, C, VERSION>(&mut script.e, &mut heads.e, text, at, no_room) }
-        _ => None,
+        b'A' => { push_lines::<ChA, C, VERSION>(&mut script.a, &mut heads.a, text, at, no_room) }
+        b'B' => { push_lines::<ChB, M, VERSION>(&mut script.b, &mut heads.b, text, at, no_room) }
+        b'C' => { push_lines::<ChC, C, VERSION>(&mut script.c, &mut heads.c, text, at, no_room) }
+        b'D' => { push_lines::<ChD, M, VERSION>(&mut script.d, &mut heads.d, text, at, no_room) }
+        b'E' => { push_lines::<ChE, C, VERSION>(&mut script.e, &mut heads.e, text, at, no_room) }
+        _ => PushedLines {
+            count: 0,
+            place: at,
+        },
     }
 }
 
@@ -160,16 +208,16 @@ fn read_beats<const C: usize, const M: usize, const VERSION: u8>(
     let mut no_room = false;
     let mut heads = no_heads();
     while at < piece.len() {
-        let next = push_next::<C, M, VERSION>(
+        let lines = push_next::<C, M, VERSION>(
             &mut reader.script,
             &mut heads,
             piece,
             at,
             &mut no_room,
         );
-        if let Some(end) = next {
-            at = end + 1;
-            reader.line += 1;
+        if lines.count > 0 {
+            at = lines.place;
+            reader.line += lines.count as u64;
             continue;
         }
         match push_slowly(&mut reader.script, piece, at, VERSION, no_room) {

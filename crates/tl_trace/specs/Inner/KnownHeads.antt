@@ -1,5 +1,5 @@
 -- Heads that were read before. Only contracts of private functions cite these words.
-use Rattle.std.specs.Prelude.{◌≤◌, ◌+◌, ℕ, List, length, IfSome}
+use Rattle.std.specs.Prelude.{◌≡◌, ◌≤◌, ◌+◌, ℕ, List, length, IfSome}
 use Rattle.std.specs.List.{slice_range}
 use Rattle.tl_trace.specs.Fields.{Form, id_digits, length_of, form_a, form_b, form_c, form_d, form_e}
 use Rattle.tl_trace.specs.Inner.Reading.{IsHead, IsHeadOf}
@@ -17,6 +17,11 @@ pub record HasHead {H : Type 0} (f : Form H) (version : ℕ) (text : List ℕ) (
   pub read : IsHead (id_digits version) text f.head_fields fields
   pub good : fields.bad ≤ 15
   pub is : IsHeadOf f fields h
+
+-- so many bytes of the text from one place on are there, and are those from another place on
+pub record IsSameAt (text : List ℕ) (at before n : ℕ) : Type 0 where
+  pub within : at + n ≤ length text
+  pub same : slice_range text at (at + n) ≡ slice_range text before (before + n)
 
 -- a line of the text begins with this head
 pub record IsKnown {H : Type 0} (f : Form H) (version : ℕ) (text : List ℕ) (known : KnownHead H) : Type 0 where

@@ -1,5 +1,5 @@
 -- What the parts of the reader give. Only contracts of private functions cite these words.
-use Rattle.std.specs.Prelude.{◌≡◌, ◌≢◌, ◌≤◌, ◌<◌, ◌+◌, ◌-◌, ◌*◌, ◌^◌, ◌==◌, ◌&&◌, ℕ, Bool, true, false, List, [], ◌∷◌, ◌++◌, drop, take, map, length, IfErr, IfOk, IsOk, Result, Option, Some, None, MatchOption, is_none, nat_lt, if◌then◌else◌, slice_index, slice_range}
+use Rattle.std.specs.Prelude.{◌≡◌, ◌≢◌, ◌≤◌, ◌<◌, ◌+◌, ◌-◌, ◌*◌, ◌^◌, ◌==◌, ◌&&◌, ℕ, Bool, true, false, List, [], ◌∷◌, ◌++◌, drop, take, map, length, IfErr, IfOk, IsOk, Result, Option, Some, None, MatchOption, is_none, nat_lt, if◌then◌else◌, slice_index, slice_range, Vec}
 use Rattle.std.specs.List.{list_all, list_any}
 use Rattle.std.specs.Option.{option_to_list}
 use Rattle.std.specs.Str.Parse.{digits_value}
@@ -12,6 +12,7 @@ use Rattle.tl_trace.specs.declared.head_reader.HeadFields.{HeadFields}
 use Rattle.tl_trace.specs.declared.head_reader.CommonFields.{CommonFields}
 use Rattle.tl_trace.specs.declared.line.Line.{Line}
 use Rattle.tl_trace.specs.declared.script.Script.{Script}
+use Rattle.tl_trace.specs.declared.script_reader.PushedLines.{PushedLines}
 use Rattle.tl_trace.specs.declared.fault.TraceFault.{TraceFault}
 use Rattle.tl_trace.specs.declared.fault.TraceKind.{TraceKind}
 use Rattle.tl_trace.specs.declared.fault.TraceKind.TheVariants.{OutOfMemory}
@@ -164,6 +165,20 @@ pub record IsLinePushed {H : Type 0} (f : Form H) (w : ℕ) (text : List ℕ) (a
   pub read : IsRead f w (slice_range text at end) beat
   pub put : after ≡ before ++ beat ∷ []
 
+-- lines of a channel, one behind the other from a place on, end at these places, the last of them first: their beats were put behind those of the
+-- channel, and this is the place behind them
+abbrev pub ArePushed : {H Z : Type 0} (f : Form H) (w : ℕ) (text : List ℕ) (at : ℕ) (before after : Vec (BeatOf H w) Z) → List ℕ → (place : ℕ) → Type 0
+ArePushed f w text at before after [] place = (after.items ≡ before.items) × (place ≡ at)
+ArePushed {H} {Z} f w text at before after (end ∷ ends) place = (between : Vec (BeatOf H w) Z) × (from : ℕ) × ArePushed f w text at before between ends from
+    × IsLinePushed f w text from between.items after.items end × (place ≡ end + 1)
+
+-- so many lines of a channel were put behind its beats
+pub record AreLinesPushed {H Z : Type 0} (f : Form H) (w : ℕ) (text : List ℕ) (at : ℕ) (before after : Vec (BeatOf H w) Z) (lines : PushedLines) : Type 0 where
+  pub ends : List ℕ
+  pub count : lines.count ≡ length ends
+  pub few : at + lines.count ≤ lines.place
+  pub pushed : ArePushed f w text at before after ends lines.place
+
 -- the same of a line of any channel
 pub record IsNextPushed {client manager : ℕ} (version : ℕ) (text : List ℕ) (at : ℕ) (before after : Script client manager) (end : ℕ) : Type 0 where
   pub line : Line
@@ -180,6 +195,20 @@ pub record IsSameScript {client manager : ℕ} (before after : Script client man
   pub c : after.c.items ≡ before.c.items
   pub d : after.d.items ≡ before.d.items
   pub e : after.e.items ≡ before.e.items
+
+-- lines of one channel or another, one behind the other from a place on, end at these places, the last of them first: their beats were put behind
+-- those of their channels, and this is the place behind them
+abbrev pub AreBehind : {client manager : ℕ} (version : ℕ) (text : List ℕ) (at : ℕ) (before after : Script client manager) → List ℕ → (place : ℕ) → Type 0
+AreBehind version text at before after [] place = IsSameScript before after × (place ≡ at)
+AreBehind {client} {manager} version text at before after (end ∷ ends) place = (between : Script client manager) × (from : ℕ)
+    × AreBehind version text at before between ends from × IsNextPushed version text from between after end × (place ≡ end + 1)
+
+-- so many lines were put behind the beats of their channels
+pub record AreNextPushed {client manager : ℕ} (version : ℕ) (text : List ℕ) (at : ℕ) (before after : Script client manager) (lines : PushedLines) : Type 0 where
+  pub ends : List ℕ
+  pub count : lines.count ≡ length ends
+  pub few : at + lines.count ≤ lines.place
+  pub pushed : AreBehind version text at before after ends lines.place
 
 -- the text ends within the line from a place on, which is no longer than a line can be, and the script stays
 pub record IsLeft {client manager : ℕ} (text : List ℕ) (at : ℕ) (before after : Script client manager) : Type 0 where

@@ -3,7 +3,9 @@ use Rattle.tl_trace.proofs.ReadDigits.{range_long, spelt_after, spelt_split}
 use Rattle.tl_trace.proofs.digits.mask_field.Goals as goal
 
 pub returns-then-count-le-DIGITS : goal.returns-then-count-le-DIGITS
-returns-then-count-le-DIGITS c = spelt_after c.args.text.now c.args.at c.args.count c.number_by_digits-number.result.value c.space.result c.number_by_digits-number.result.bad c.requires.room c.space.ensures c.number_by_digits-number.ensures
+returns-then-count-le-DIGITS c =
+    spelt_after c.args.text.now c.args.at c.args.count c.number_by_digits-number.result.value c.space.result c.number_by_digits-number.result.bad
+    c.requires.room c.space.ensures c.number_by_digits-number.ensures
 
 pub returns : goal.returns
 returns c =

@@ -7,7 +7,8 @@ loop-i-init c = pairs_start c.args.digits.now
 
 pub loop-i-preserved : goal.loop-i-preserved
 loop-i-preserved c =
-    pairs_more c.args.digits.now c.loop-i.i c.loop-i.value c.loop-i.pairs c.pair-byte.result (omega (arith, c.loop-i-test.true)) (omega (arith, c.requires.few, c.loop-i-test.true)) c.loop-i.invariant c.pair-byte.ensures.good c.pair-byte.ensures.bad
+    pairs_more c.args.digits.now c.loop-i.i c.loop-i.value c.loop-i.pairs c.pair-byte.result (omega (arith, c.loop-i-test.true))
+    (omega (arith, c.requires.few, c.loop-i-test.true)) c.loop-i.invariant c.pair-byte.ensures.good c.pair-byte.ensures.bad
 
 pub returns : goal.returns
 returns c =

@@ -13,4 +13,5 @@ loop-i-preserved c =
     passed c.args.text.now c.args.version c.loop-i.i _ c.loop-i.invariant (shifted_at c.args.version c.width_count-widths.result c.loop-i.i c.width_count-widths.ensures.count c.width_count-widths.ensures.few c.loop-i-test.true) is
 
 pub returns : goal.returns
-returns c = sym (not_found c.args.text.now c.args.version c.width_count-widths.result c.loop-i.i c.width_count-widths.ensures.count c.loop-i-test.false c.loop-i.invariant)
+returns c =
+    sym (not_found c.args.text.now c.args.version c.width_count-widths.result c.loop-i.i c.width_count-widths.ensures.count c.loop-i-test.false c.loop-i.invariant)

@@ -10,4 +10,5 @@ returns-in-Some c =
 pub returns-in-None : goal.returns-in-None
 returns-in-None c =
     let second = find (is_header_of c.args.text.now) (headers_of 2) in
-    c.header_in-in-None.ensures ∙ sym (of_versions c.args.text.now ∙ ap (λ (first : Option Header). option_or first second) (sym c.header_in.ensures ∙ c.in-None.is))
+    c.header_in-in-None.ensures
+    ∙ sym (of_versions c.args.text.now ∙ ap (λ (first : Option Header). option_or first second) (sym c.header_in.ensures ∙ c.in-None.is))

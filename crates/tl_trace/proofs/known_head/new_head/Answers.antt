@@ -7,5 +7,6 @@ head_of-requires g c = four_digits g.row.VERSION c.read_head-fields.result (c.re
 
 pub returns : goal.returns
 returns g c =
-    new_head (g.K.HeadText.form g.row.VERSION) g.row.VERSION c.args.text.now c.read_head-fields.result c.head_of.result c.read_head-fields.ensures c.if-fields-gt15.false
+    new_head (g.K.HeadText.form g.row.VERSION) g.row.VERSION c.args.text.now c.read_head-fields.result c.head_of.result c.read_head-fields.ensures
+    c.if-fields-gt15.false
     (c.head_of.ensures g.row.VERSION (c.read_head-fields.ensures.small c.if-fields-gt15.false))

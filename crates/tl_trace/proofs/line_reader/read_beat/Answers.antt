@@ -33,12 +33,14 @@ returns-then-fields-mask-gt15 g c =
     let f = g.K.HeadText.form g.row.VERSION in
     let long : length c.args.text.now ≡ line_length f c.args.w = omega (arith, c.line_len.ensures.long, c.if-text-line_len.false) in
     let part = line_part f c.args.w (id_digits g.row.VERSION) c.args.text.now c.read_head-fields.result c.read_mask-mask.result.value (number_of_lanes c.read_data-corrupt.new.lanes) c.read_data-corrupt.result.value
-    c.read_mask-mask.result.bad c.read_data-corrupt.result.bad c.head_end-mask_at.result _ (g.met.K.ReadHead.head_alone g.row.VERSION) c.head_end-mask_at.ensures.end (ap (λ (k : ℕ). c.head_end-mask_at.result + k) c.mask_len.ensures.long)
+    c.read_mask-mask.result.bad c.read_data-corrupt.result.bad c.head_end-mask_at.result _ (g.met.K.ReadHead.head_alone g.row.VERSION)
+    c.head_end-mask_at.ensures.end (ap (λ (k : ℕ). c.head_end-mask_at.result + k) c.mask_len.ensures.long)
     c.read_head-fields.ensures c.read_mask-mask.ensures.part c.read_data-corrupt.ensures.part in
     wrong_shape f c.args.w c.args.text.now long (part.none c.if-fields-mask-gt15.true)
 
 pub head_of-requires : goal.head_of-requires
-head_of-requires g c = four_digits g.row.VERSION c.read_head-fields.result (c.read_head-fields.ensures.small (left_good _ _ (left_good _ _ c.if-fields-mask-gt15.false)))
+head_of-requires g c =
+    four_digits g.row.VERSION c.read_head-fields.result (c.read_head-fields.ensures.small (left_good _ _ (left_good _ _ c.if-fields-mask-gt15.false)))
 
 pub returns-in_default : goal.returns-in_default
 returns-in_default g c =
@@ -49,7 +51,8 @@ returns-in_default g c =
     let d = number_of_lanes c.read_data-corrupt.new.lanes in
     let x = c.read_data-corrupt.result.value in
     let part = line_part f c.args.w (id_digits g.row.VERSION) c.args.text.now r m d x
-    c.read_mask-mask.result.bad c.read_data-corrupt.result.bad c.head_end-mask_at.result _ (g.met.K.ReadHead.head_alone g.row.VERSION) c.head_end-mask_at.ensures.end (ap (λ (k : ℕ). c.head_end-mask_at.result + k) c.mask_len.ensures.long)
+    c.read_mask-mask.result.bad c.read_data-corrupt.result.bad c.head_end-mask_at.result _ (g.met.K.ReadHead.head_alone g.row.VERSION)
+    c.head_end-mask_at.ensures.end (ap (λ (k : ℕ). c.head_end-mask_at.result + k) c.mask_len.ensures.long)
     c.read_head-fields.ensures c.read_mask-mask.ensures.part c.read_data-corrupt.ensures.part in
     wrong_range f c.args.w c.args.text.now (line_values f r m d x) long (part.good c.if-fields-mask-gt15.false)
     (below_is f c.args.w r m d x false (g.met.K.ReadHead.head_alone g.row.VERSION) c.read_mask-mask.ensures.none (λ none. (c.read_data-corrupt.ensures.none none).1) (c.read_data-corrupt.ensures.small (right_good _ _ c.if-fields-mask-gt15.false))
@@ -64,7 +67,8 @@ returns-then-not-are_in_range g c =
     let d = number_of_lanes c.read_data-corrupt.new.lanes in
     let x = c.read_data-corrupt.result.value in
     let part = line_part f c.args.w (id_digits g.row.VERSION) c.args.text.now r m d x
-    c.read_mask-mask.result.bad c.read_data-corrupt.result.bad c.head_end-mask_at.result _ (g.met.K.ReadHead.head_alone g.row.VERSION) c.head_end-mask_at.ensures.end (ap (λ (k : ℕ). c.head_end-mask_at.result + k) c.mask_len.ensures.long)
+    c.read_mask-mask.result.bad c.read_data-corrupt.result.bad c.head_end-mask_at.result _ (g.met.K.ReadHead.head_alone g.row.VERSION)
+    c.head_end-mask_at.ensures.end (ap (λ (k : ℕ). c.head_end-mask_at.result + k) c.mask_len.ensures.long)
     c.read_head-fields.ensures c.read_mask-mask.ensures.part c.read_data-corrupt.ensures.part in
     wrong_range f c.args.w c.args.text.now (line_values f r m d x) long (part.good c.if-fields-mask-gt15.false)
     (below_is f c.args.w r m d x false (g.met.K.ReadHead.head_alone g.row.VERSION) c.read_mask-mask.ensures.none (λ none. (c.read_data-corrupt.ensures.none none).1) (c.read_data-corrupt.ensures.small (right_good _ _ c.if-fields-mask-gt15.false))
@@ -75,18 +79,23 @@ returns g c =
     let f = g.K.HeadText.form g.row.VERSION in
     let long : length c.args.text.now ≡ line_length f c.args.w = omega (arith, c.line_len.ensures.long, c.if-text-line_len.false) in
     let x = c.read_data-corrupt.result.value in
-    let b : BeatOf g.row.K-Head.Denot g.row.N = record { head = c.in-Some.head; mask = c.read_mask-mask.result.value; lanes = c.read_data-corrupt.new.lanes; corrupt = nat_eq x 1 } in
+    let b : BeatOf g.row.K-Head.Denot g.row.N =
+    record { head = c.in-Some.head; mask = c.read_mask-mask.result.value; lanes = c.read_data-corrupt.new.lanes; corrupt = nat_eq x 1 } in
     let front = left_good _ _ c.if-fields-mask-gt15.false in
     let data_good = right_good _ _ c.if-fields-mask-gt15.false in
     let good = left_good _ _ front in
-    let head : HasHead f g.row.VERSION c.args.text.now b.head = record { fields = c.read_head-fields.result; read = c.read_head-fields.ensures; good = good; is = c.in-Some.ensures g.row.VERSION (c.read_head-fields.ensures.small good) } in
+    let head : HasHead f g.row.VERSION c.args.text.now b.head =
+    record { fields = c.read_head-fields.result; read = c.read_head-fields.ensures; good = good; is = c.in-Some.ensures g.row.VERSION (c.read_head-fields.ensures.small good) } in
     let fit : nat_lt b.mask (2 ^ c.args.w) && nat_lt x 2 ≡ true = sym c.are_in_range.ensures ∙ c.if-not-are_in_range.false in
-    beat_is f g.row.VERSION c.args.w c.args.text.now b x c.read_mask-mask.result.bad c.read_data-corrupt.result.bad c.head_end-mask_at.result _ (g.met.K.ReadHead.head_alone g.row.VERSION)
+    beat_is f g.row.VERSION c.args.w c.args.text.now b x c.read_mask-mask.result.bad c.read_data-corrupt.result.bad c.head_end-mask_at.result _
+    (g.met.K.ReadHead.head_alone g.row.VERSION)
     c.requires.letter long c.head_end-mask_at.ensures.end (ap (λ (k : ℕ). c.head_end-mask_at.result + k) c.mask_len.ensures.long) head
-    c.read_mask-mask.ensures.part c.read_data-corrupt.ensures.part (right_good _ _ front) data_good fit refl (c.read_data-corrupt.ensures.small data_good) c.read_data-corrupt.ensures.bytes
+    c.read_mask-mask.ensures.part c.read_data-corrupt.ensures.part (right_good _ _ front) data_good fit refl
+    (c.read_data-corrupt.ensures.small data_good) c.read_data-corrupt.ensures.bytes
     c.read_mask-mask.ensures.none (λ none.
     let same = c.read_data-corrupt.ensures.none none in
     (ap (list_all (λ lane. nat_eq lane 0)) same.0 ∙ zero_bits g.row.N, same.1))
 
 pub returns-then-text-line_len : goal.returns-then-text-line_len
-returns-then-text-line_len g c = wrong_length (g.K.HeadText.form g.row.VERSION) c.args.w c.args.text.now (λ is. c.if-text-line_len.true (is ∙ sym c.line_len.ensures.long))
+returns-then-text-line_len g c =
+    wrong_length (g.K.HeadText.form g.row.VERSION) c.args.w c.args.text.now (λ is. c.if-text-line_len.true (is ∙ sym c.line_len.ensures.long))

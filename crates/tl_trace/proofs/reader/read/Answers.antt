@@ -14,11 +14,13 @@ pub returns-then-end-text-clause-fault : goal.returns-then-end-text-clause-fault
 returns-then-end-text-clause-fault c _ =
     let e = c.line_end-end.ensures in
     let line : LineAt c.args.text.now 0 c.line_end-end.result = record { from = e.from; to = e.to; free = e.free; stop = e.end } in
-    no_header_end c.args.text.now c.line_end-end.result c.in-Some.header line (from_start c.args.text.now c.line_end-end.result _ c.in-Some.ensures) (omega (arith, c.line_end-end.ensures.to, c.if-end-text.true))
+    no_header_end c.args.text.now c.line_end-end.result c.in-Some.header line (from_start c.args.text.now c.line_end-end.result _ c.in-Some.ensures)
+    (omega (arith, c.line_end-end.ensures.to, c.if-end-text.true))
 
 pub read_lines-requires-clause-can : goal.read_lines-requires-clause-can
 read_lines-requires-clause-can c =
-    let some : header_of (slice_range c.args.text.now 0 c.line_end-end.result) ≡ Some c.in-Some.header = from_start c.args.text.now c.line_end-end.result _ c.in-Some.ensures in
+    let some : header_of (slice_range c.args.text.now 0 c.line_end-end.result) ≡ Some c.in-Some.header =
+    from_start c.args.text.now c.line_end-end.result _ c.in-Some.ensures in
     let h = c.in-Some.header in
     let all = known (slice_range c.args.text.now 0 c.line_end-end.result) h some in
     record { version = all.0; client = width_most h.version h.client all.1; manager = width_most h.version h.manager all.2 }
@@ -28,11 +30,13 @@ read_lines-requires-clause-header c =
     let e = c.line_end-end.ensures in
     let line : LineAt c.args.text.now 0 c.line_end-end.result = record { from = e.from; to = e.to; free = e.free; stop = e.end } in
     let lt : c.line_end-end.result < length c.args.text.now = omega (arith, e.to, c.if-end-text.false) in
-    header_faults c.args.text.now c.line_end-end.result c.in-Some.header line (from_start c.args.text.now c.line_end-end.result _ c.in-Some.ensures) lt
+    header_faults c.args.text.now c.line_end-end.result c.in-Some.header line (from_start c.args.text.now c.line_end-end.result _ c.in-Some.ensures)
+    lt
 
 pub invariant_of-result : goal.invariant_of-result
 invariant_of-result c =
-    let some : header_of (slice_range c.args.text.now 0 c.line_end-end.result) ≡ Some c.in-Some.header = from_start c.args.text.now c.line_end-end.result _ c.in-Some.ensures in
+    let some : header_of (slice_range c.args.text.now 0 c.line_end-end.result) ≡ Some c.in-Some.header =
+    from_start c.args.text.now c.line_end-end.result _ c.in-Some.ensures in
     let all = known (slice_range c.args.text.now 0 c.line_end-end.result) c.in-Some.header some in
     record { kept = record { known_version = all.0; client_width = all.1; manager_width = all.2; kept = c.in-Ok.ensures.1 } }
 

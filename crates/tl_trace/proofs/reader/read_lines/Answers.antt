@@ -10,7 +10,9 @@ returns-in-Err c =
     let e = c.line_end-end.ensures in
     let h = c.args.header in
     let line : LineAt c.args.text.now c.loop-at.at c.line_end-end.result = record { from = e.from; to = e.to; free = e.free; stop = e.end } in
-    let first = refused c.args.text.now c.args.start h.version h.client h.manager c.loop-at.lines.items c.loop-at.at c.loop-at.before c.line_end-end.result c.in-Err.kind c.loop-at.invariant line c.loop-at-test.true c.in-Err.ensures in
+    let first =
+    refused c.args.text.now c.args.start h.version h.client h.manager c.loop-at.lines.items c.loop-at.at c.loop-at.before c.line_end-end.result
+    c.in-Err.kind c.loop-at.invariant line c.loop-at-test.true c.in-Err.ensures in
     (λ _. first, λ is. absurd (no_memory h.version h.client h.manager (slice_range c.args.text.now c.loop-at.at c.line_end-end.result) c.in-Err.kind c.in-Err.ensures is))
 
 pub returns-then-end-text : goal.returns-then-end-text
@@ -35,10 +37,13 @@ loop-at-preserved c =
     let h = c.args.header in
     let line : LineAt c.args.text.now c.loop-at.at c.line_end-end.result = record { from = e.from; to = e.to; free = e.free; stop = e.end } in
     let lt : c.line_end-end.result < length c.args.text.now = omega (arith, e.to, c.if-end-text.false) in
-    let next = advance c.args.text.now c.args.start h.version h.client h.manager c.loop-at.lines.items c.loop-at.at c.loop-at.before c.line_end-end.result c.in-Ok.beat c.loop-at.invariant line c.in-Ok.ensures lt in
+    let next =
+    advance c.args.text.now c.args.start h.version h.client h.manager c.loop-at.lines.items c.loop-at.at c.loop-at.before c.line_end-end.result
+    c.in-Ok.beat c.loop-at.invariant line c.in-Ok.ensures lt in
     let went : is_err c.push.result ≡ false = sym c.is_err.ensures.value ∙ c.if-is_err.false in
     let pushed : c.push.new.self.items ≡ c.loop-at.lines.items ++ c.in-Ok.beat ∷ [] = was_put c.push.result _ _ _ went c.push.ensures.items in
-    let P : List Line → Type 0 = λ xs. SoFar c.args.text.now c.args.start h.version h.client h.manager xs (c.line_end-end.result + 1) (c.loop-at.before + 1) in
+    let P : List Line → Type 0 =
+    λ xs. SoFar c.args.text.now c.args.start h.version h.client h.manager xs (c.line_end-end.result + 1) (c.loop-at.before + 1) in
     subst P (sym pushed) next
 
 pub line_end-end-requires : goal.line_end-end-requires

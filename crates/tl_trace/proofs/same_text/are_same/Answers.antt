@@ -4,7 +4,8 @@ use Rattle.tl_trace.proofs.same_text.are_same.Goals as goal
 
 pub loop-i-preserved : goal.loop-i-preserved
 loop-i-preserved c =
-    one_word_more c.args.one.now c.args.other.now c.loop-i.i (sym c.word.ensures ∙ ap (to_le_bytes w64) c.if-word.false ∙ c.word-in-loop-i.ensures) c.loop-i.invariant
+    one_word_more c.args.one.now c.args.other.now c.loop-i.i (sym c.word.ensures ∙ ap (to_le_bytes w64) c.if-word.false ∙ c.word-in-loop-i.ensures)
+    c.loop-i.invariant
 
 pub returns : goal.returns
 returns c same =

@@ -11,6 +11,7 @@ returns g c =
     let long : length all ≡ c.len-len.result = search rules in
     let same : left ≡ 0 + left = omega arith in
     let rest : length (drop c.args.count all) ≡ left = omega (arith, length-drop c.args.count all) in
-    c.truncate.ensures.items ∙ ap (take left) (with_items_is c.args.list.now c.copy_within.new.self (search (rules, places)) ∙ c.copy_within.ensures.after)
+    c.truncate.ensures.items
+    ∙ ap (take left) (with_items_is c.args.list.now c.copy_within.new.self (search (rules, places)) ∙ c.copy_within.ensures.after)
     ∙ ap (λ k. take k (paste all 0 (drop c.args.count all) left)) same ∙ take-paste all 0 (drop c.args.count all) left (omega arith) (omega arith)
     ∙ take_all left (drop c.args.count all) (omega arith) ∙ ap (drop c.args.count) c.as_mut_slice.ensures.value

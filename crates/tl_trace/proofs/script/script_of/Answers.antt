@@ -3,12 +3,14 @@ use Rattle.tl_trace.proofs.ReadBeats.{script_more, on_ok}
 use Rattle.tl_trace.proofs.script.script_of.Goals as goal
 
 -- at the end of the loop all lines were taken
-whole : {C M : ℕ} (s : Script C M) (lines items : List Line) (i : ℕ) → items ≡ lines → length items ≤ i → IsScriptOf (take i lines) s → IsScriptOf lines s
+whole : {C M : ℕ} (s : Script C M) (lines items : List Line) (i : ℕ) → items ≡ lines → length items ≤ i → IsScriptOf (take i lines) s
+    → IsScriptOf lines s
 whole s lines items i same past is = let long : length lines ≤ i = rw same at past in rw (take_all i lines long) at is
 
 pub loop-line-preserved : goal.loop-line-preserved
 loop-line-preserved g c =
-    script_more c.deref-line-items.result.now c.args.trace.now.lines.items c.loop-line.line-index _ c.loop-line.script c.push_beat_of.new.script c.loop-line-test.true c.deref-line-items.ensures.value c.loop-line.invariant
+    script_more c.deref-line-items.result.now c.args.trace.now.lines.items c.loop-line.line-index _ c.loop-line.script c.push_beat_of.new.script
+    c.loop-line-test.true c.deref-line-items.ensures.value c.loop-line.invariant
     (on_ok c.push_beat_of.result c.push_beat_of.ensures.pushed (sym c.is_err.ensures.value ∙ c.if-is_err.false))
 
 pub empty_script-script-requires : goal.empty_script-script-requires
@@ -18,4 +20,6 @@ pub push_beat_of-requires : goal.push_beat_of-requires
 push_beat_of-requires g c = (lit< tt, ((width_bounds g.row.C c.requires.client_width).1, (width_bounds g.row.M c.requires.manager_width).1))
 
 pub returns : goal.returns
-returns g c = whole c.loop-line.script c.args.trace.now.lines.items _ c.loop-line.line-index c.deref-line-items.ensures.value c.loop-line-test.false c.loop-line.invariant
+returns g c =
+    whole c.loop-line.script c.args.trace.now.lines.items _ c.loop-line.line-index c.deref-line-items.ensures.value c.loop-line-test.false
+    c.loop-line.invariant

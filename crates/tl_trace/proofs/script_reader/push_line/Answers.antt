@@ -11,33 +11,26 @@ overflow_sub-text g c = omega (arith, c.requires.0.inside)
 pub bounds-text-at : goal.bounds-text-at
 bounds-text-at g c = inside c.args.at c.line_len-long.result _ c.if-long-text.false
 
-pub returns-then-long-text-clause-pushed : goal.returns-then-long-text-clause-pushed
-returns-then-long-text-clause-pushed g c = refl
+pub returns-then-long-text : goal.returns-then-long-text
+returns-then-long-text g c = refl
 
-pub returns-then-is_err-clause-pushed : goal.returns-then-is_err-clause-pushed
-returns-then-is_err-clause-pushed g c = was_kept c.push.result _ _ _ (sym c.is_err.ensures.value ∙ c.if-is_err.true) c.push.ensures.items
+pub returns-then-is_err : goal.returns-then-is_err
+returns-then-is_err g c = was_kept c.push.result _ _ _ (sym c.is_err.ensures.value ∙ c.if-is_err.true) c.push.ensures.items
 
-pub returns-clause-pushed : goal.returns-clause-pushed
-returns-clause-pushed g c =
+pub returns : goal.returns
+returns g c =
     let went : is_err c.push.result ≡ false = sym c.is_err.ensures.value ∙ c.if-is_err.false in
     record {
-      beat = c.in-Some-beat_with_head.beat;
+      beat = c.in-Some.beat;
       from = omega (arith, c.line_len-long.ensures.few);
       to = omega (arith, c.if-long-text.false);
       stop = c.if-text-at-ne10.false;
-      read = c.in-Some-beat_with_head.ensures;
+      read = c.in-Some.ensures;
       put = was_put c.push.result _ _ _ went c.push.ensures.items;
     }
 
 pub line_len-long-requires : goal.line_len-long-requires
 line_len-long-requires g c = c.requires.0.width
-
-pub head_at-requires-clause-room : goal.head_at-requires-clause-room
-head_at-requires-clause-room g c =
-    let f = g.K.HeadText.form g.row.VERSION in
-    let parts = line_long f g.row.W (g.met.K.ReadHead.head_alone g.row.VERSION) in
-    let room = inside c.args.at c.line_len-long.result _ c.if-long-text.false in
-    omega (arith, parts, c.line_len-long.ensures.long, room)
 
 pub beat_with_head-requires : goal.beat_with_head-requires
 beat_with_head-requires g c =
@@ -46,21 +39,11 @@ beat_with_head-requires g c =
     let room = inside c.args.at long _ c.if-long-text.false in
     let parts = line_long f g.row.W (g.met.K.ReadHead.head_alone g.row.VERSION) in
     let first = first_in c.args.text.now c.args.at long c.line_len-long.ensures.few.0 c.requires.0.inside in
-    let all : length (slice_range c.args.text.now c.args.at (c.args.at + long)) ≡ line_length f g.row.W = range_long c.args.text.now c.args.at long (omega (arith, room)) ∙ c.line_len-long.ensures.long in
-    let head = line_head f g.row.VERSION c.args.text.now c.args.at long c.in-Some.head (omega (arith, parts, c.line_len-long.ensures.long)) c.in-Some.ensures.head in
+    let all : length (slice_range c.args.text.now c.args.at (c.args.at + long)) ≡ line_length f g.row.W =
+    range_long c.args.text.now c.args.at long (omega (arith, room)) ∙ c.line_len-long.ensures.long in
+    let head =
+    line_head f g.row.VERSION c.args.text.now c.args.at long c.args.head (omega (arith, parts, c.line_len-long.ensures.long)) c.requires.1 in
     (c.requires-raw.1.1.1.1.0, (record { width = at_most g.row.W; most = c.requires.0.width; letter = first ∙ c.requires.0.letter }, (all, head)))
-
-pub returns-then-long-text-clause-known : goal.returns-then-long-text-clause-known
-returns-then-long-text-clause-known g c = c.requires.1
-
-pub head_at-requires-clause-known : goal.head_at-requires-clause-known
-head_at-requires-clause-known g c = c.requires.1
-
-pub returns-then-is_err-clause-known : goal.returns-then-is_err-clause-known
-returns-then-is_err-clause-known g c = c.head_at.ensures.known
-
-pub returns-clause-known : goal.returns-clause-known
-returns-clause-known g c = c.head_at.ensures.known
 
 pub slice_bounds-beat_with_head-end : goal.slice_bounds-beat_with_head-end
 slice_bounds-beat_with_head-end g c = let room = inside c.args.at c.line_len-long.result _ c.if-long-text.false in omega (arith, room)

@@ -56,7 +56,9 @@ returns g c =
       | else-end-piece-via-then-end-piece+else-end-at-lt-LONGEST_LINE w ↦ omega (arith, w.if-end-at-lt-LONGEST_LINE.false)
       | else-end-piece-via-else-end-piece w ↦ absurd (w.if-end-piece.false is)
     ] in
-    let inside : c.line_end-end.result < length c.args.piece.now = ends_inside c.args.version g.row.C g.row.M c.args.piece.now c.args.at c.line_end-end.result c.in-Ok.line c.requires.0.client c.requires.0.manager line long c.in-Ok.ensures in
+    let inside : c.line_end-end.result < length c.args.piece.now =
+    ends_inside c.args.version g.row.C g.row.M c.args.piece.now c.args.at c.line_end-end.result c.in-Ok.line c.requires.0.client c.requires.0.manager
+    line long c.in-Ok.ensures in
     let went : is_err c.push_beat_of.result ≡ false = sym c.is_err.ensures.value ∙ c.if-is_err.false in
     record {
       line = c.in-Ok.line;

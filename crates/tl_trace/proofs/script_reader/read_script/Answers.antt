@@ -12,7 +12,8 @@ pub returns-then-end-text-clause-fault : goal.returns-then-end-text-clause-fault
 returns-then-end-text-clause-fault g c _ =
     let e = c.line_end-end.ensures in
     let line : LineAt c.args.text.now 0 c.line_end-end.result = record { from = e.from; to = e.to; free = e.free; stop = e.end } in
-    let some : header_of (slice_range c.args.text.now 0 c.line_end-end.result) ≡ Some (header c.args.version g.row.C g.row.M) = ap header_of (sym (first_line c.args.text.now c.line_end-end.result line)) ∙ c.requires.header in
+    let some : header_of (slice_range c.args.text.now 0 c.line_end-end.result) ≡ Some (header c.args.version g.row.C g.row.M) =
+    ap header_of (sym (first_line c.args.text.now c.line_end-end.result line)) ∙ c.requires.header in
     no_header_end c.args.text.now c.line_end-end.result (header c.args.version g.row.C g.row.M) line some (omega (arith, e.to, c.if-end-text.true))
 
 pub read-requires : goal.read-requires
@@ -28,8 +29,11 @@ returns-in-Err-clause-fault g c other =
     let text = c.args.text.now in
     let n = c.line_end-end.result + 1 in
     let begins = header_line text c.line_end-end.result c.args.version g.row.C g.row.M line c.if-end-text.false c.requires.header in
-    let read = subst (λ v. HasRead v (take n text) c.new-reader.result.script c.new-reader.result.line) (sym c.new-reader.ensures.version) (c.new-reader.ensures.header (take n text) begins) in
-    subst (λ t. IsFirstFault t c.in-Err.fault.line c.in-Err.fault.kind) (whole_text text n (take (length text - n) (drop n text)) (take_rest text n)) (c.in-Err.ensures.fault (take n text) [] none_gone read other)
+    let read =
+    subst (λ v. HasRead v (take n text) c.new-reader.result.script c.new-reader.result.line) (sym c.new-reader.ensures.version)
+    (c.new-reader.ensures.header (take n text) begins) in
+    subst (λ t. IsFirstFault t c.in-Err.fault.line c.in-Err.fault.kind) (whole_text text n (take (length text - n) (drop n text)) (take_rest text n))
+    (c.in-Err.ensures.fault (take n text) [] none_gone read other)
 
 pub returns-in-Err-clause-memory : goal.returns-in-Err-clause-memory
 returns-in-Err-clause-memory g c is =
@@ -38,15 +42,20 @@ returns-in-Err-clause-memory g c is =
     let text = c.args.text.now in
     let n = c.line_end-end.result + 1 in
     let begins = header_line text c.line_end-end.result c.args.version g.row.C g.row.M line c.if-end-text.false c.requires.header in
-    let read = subst (λ v. HasRead v (take n text) c.new-reader.result.script c.new-reader.result.line) (sym c.new-reader.ensures.version) (c.new-reader.ensures.header (take n text) begins) in
-    subst (λ t. IsReadableTo t c.in-Err.fault.line) (whole_text text n (take (length text - n) (drop n text)) (take_rest text n)) (c.in-Err.ensures.memory (take n text) [] none_gone read is)
+    let read =
+    subst (λ v. HasRead v (take n text) c.new-reader.result.script c.new-reader.result.line) (sym c.new-reader.ensures.version)
+    (c.new-reader.ensures.header (take n text) begins) in
+    subst (λ t. IsReadableTo t c.in-Err.fault.line) (whole_text text n (take (length text - n) (drop n text)) (take_rest text n))
+    (c.in-Err.ensures.memory (take n text) [] none_gone read is)
 
 pub end_fault-requires : goal.end_fault-requires
 end_fault-requires g c =
     let all = known (body c.args.text.now) (header c.args.version g.row.C g.row.M) c.requires.header in
-    let version : is_version c.read.new.self.version ≡ true = subst (λ v. is_version v ≡ true) (sym (c.in-Ok.ensures.version ∙ c.new-reader.ensures.version)) all.0 in
+    let version : is_version c.read.new.self.version ≡ true =
+    subst (λ v. is_version v ≡ true) (sym (c.in-Ok.ensures.version ∙ c.new-reader.ensures.version)) all.0 in
     let later = take (length c.args.text.now - (c.line_end-end.result + 1)) (drop (c.line_end-end.result + 1) c.args.text.now) in
-    let free : list_any is_newline (take (length later - c.in-Ok.used) (drop c.in-Ok.used later)) ≡ false = ap (list_any is_newline) (take_rest later c.in-Ok.used) ∙ c.in-Ok.ensures.rest.free in
+    let free : list_any is_newline (take (length later - c.in-Ok.used) (drop c.in-Ok.used later)) ≡ false =
+    ap (list_any is_newline) (take_rest later c.in-Ok.used) ∙ c.in-Ok.ensures.rest.free in
     (search rules, (version, (width_most c.args.version g.row.C all.1, (width_most c.args.version g.row.M all.2, (search rules, free)))))
 
 pub returns-in-Some-clause-fault : goal.returns-in-Some-clause-fault
@@ -57,8 +66,12 @@ returns-in-Some-clause-fault g c other =
     let n = c.line_end-end.result + 1 in
     let later = take (length text - n) (drop n text) in
     let begins = header_line text c.line_end-end.result c.args.version g.row.C g.row.M line c.if-end-text.false c.requires.header in
-    let read = subst (λ v. HasRead v (take n text) c.new-reader.result.script c.new-reader.result.line) (sym c.new-reader.ensures.version) (c.new-reader.ensures.header (take n text) begins) in
-    let more = subst (λ v. HasRead v (take n text ++ take c.in-Ok.used later) c.read.new.self.script c.read.new.self.line) (sym c.in-Ok.ensures.version) (c.in-Ok.ensures.told (take n text) none_gone read) in
+    let read =
+    subst (λ v. HasRead v (take n text) c.new-reader.result.script c.new-reader.result.line) (sym c.new-reader.ensures.version)
+    (c.new-reader.ensures.header (take n text) begins) in
+    let more =
+    subst (λ v. HasRead v (take n text ++ take c.in-Ok.used later) c.read.new.self.script c.read.new.self.line) (sym c.in-Ok.ensures.version)
+    (c.in-Ok.ensures.told (take n text) none_gone read) in
     subst (λ t. IsFirstFault t c.in-Some.fault.line c.in-Some.fault.kind)
     (parted_text text n later (take_rest text n) c.in-Ok.used (take (length later - c.in-Ok.used) (drop c.in-Ok.used later)) (take_rest later c.in-Ok.used))
     (c.in-Some.ensures.fault (take n text ++ take c.in-Ok.used later) none_gone more)
@@ -73,6 +86,8 @@ returns-in-None-clause-told g c =
     let begins = header_line text c.line_end-end.result c.args.version g.row.C g.row.M line c.if-end-text.false c.requires.header in
     let first = c.new-reader.ensures.header (take n text) begins in
     let read = subst (λ v. HasRead v (take n text) c.new-reader.result.script c.new-reader.result.line) (sym c.new-reader.ensures.version) first in
-    let more = subst (λ v. HasRead v (take n text ++ take c.in-Ok.used later) c.read.new.self.script c.read.new.self.line) c.new-reader.ensures.version (c.in-Ok.ensures.told (take n text) none_gone read) in
+    let more =
+    subst (λ v. HasRead v (take n text ++ take c.in-Ok.used later) c.read.new.self.script c.read.new.self.line) c.new-reader.ensures.version
+    (c.in-Ok.ensures.told (take n text) none_gone read) in
     tells_script c.args.version (take n text ++ take c.in-Ok.used later) text c.read.new.self.script c.read.new.self.line
     (used_text text n later (take_rest text n) c.in-Ok.used (take (length later - c.in-Ok.used) (drop c.in-Ok.used later)) (take_rest later c.in-Ok.used) (c.in-None.ensures.none refl)) more

@@ -4,7 +4,8 @@ use Rattle.tl_trace.proofs.script_reader.unfinished_fault.Goals as goal
 
 pub returns-in-Ok-clause-fault : goal.returns-in-Ok-clause-fault
 returns-in-Ok-clause-fault g c =
-    later_last c.args.version g.row.C g.row.M c.args.rest.now c.requires.1 ∙ ap (λ (o : Option TraceKind). o or_else Some NoEnd) c.in-Ok.ensures.faultless
+    later_last c.args.version g.row.C g.row.M c.args.rest.now c.requires.1
+    ∙ ap (λ (o : Option TraceKind). o or_else Some NoEnd) c.in-Ok.ensures.faultless
 
 pub returns-in-Err-clause-fault : goal.returns-in-Err-clause-fault
 returns-in-Err-clause-fault g c =

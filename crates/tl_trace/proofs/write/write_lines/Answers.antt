@@ -10,7 +10,8 @@ loop-beat-preserved g c =
     let at = c.fill_head-at.result in
     let b = c.beat-item.result in (
       head.0,
-      appended_more f g.row.W c.args.out.now.items c.loop-beat.out.items c.append_line.new.out.items _ c.args.beats.now c.len-start.result c.loop-beat.beat-index b c.loop-beat-test.true
+      appended_more f g.row.W c.args.out.now.items c.loop-beat.out.items c.append_line.new.out.items _ c.args.beats.now c.len-start.result
+          c.loop-beat.beat-index b c.loop-beat-test.true
           (line_is f g.row.W b _ _ _ _ (g.met.K.HeadText.masked_form c.args.version) (g.met.K.HeadText.data_form c.args.version) (g.met.K.HeadText.narrow_head c.args.version _ g.row.W b)
           (take-take at (at + c.rest_len.result) c.if-ne.line (omega arith) ∙ head.0 ∙ ap (head_text f) head.1) refl
           ∙ ap (λ x. line_text f g.row.W x ++ newline) c.beat-item.is)
@@ -21,8 +22,11 @@ loop-beat-preserved g c =
     head = elim c.if-ne.branch [
       | then-ne w ↦
           let f = g.K.HeadText.form c.args.version in
-          let first = head_end f _ c.fill_head-at.new.line c.fill_head-at.result (omega (arith, c.fill_head-at.array_long, c.fill_head-at.ensures.end)) c.fill_head-at.ensures.items in
-          let other = head_end f _ w.fill_other_head.new.line w.fill_other_head.result (omega (arith, w.fill_other_head.array_long, w.fill_other_head.ensures.end)) w.fill_other_head.ensures.items in
+          let first =
+          head_end f _ c.fill_head-at.new.line c.fill_head-at.result (omega (arith, c.fill_head-at.array_long, c.fill_head-at.ensures.end))
+          c.fill_head-at.ensures.items in
+          let other =
+          head_end f _ w.fill_other_head.new.line w.fill_other_head.result (omega (arith, w.fill_other_head.array_long, w.fill_other_head.ensures.end)) w.fill_other_head.ensures.items in
           (ap (take c.fill_head-at.result) w.line-is ∙ ap (λ (k : ℕ). take k w.fill_other_head.new.line) (first ∙ sym other) ∙ w.fill_other_head.ensures.items ∙ ap (head_text f) (sym w.head-is), w.head-is)
       | else-ne w ↦
           let f = g.K.HeadText.form c.args.version in
@@ -53,11 +57,15 @@ returns-then-is_err-clause-ok g c = tt
 
 pub returns-then-is_err-clause-err : goal.returns-then-is_err-clause-err
 returns-then-is_err-clause-err g c =
-    c.truncate.ensures.items ∙ appended_front (g.K.HeadText.form c.args.version) g.row.W c.args.out.now.items c.loop-beat.out.items c.append_line.new.out.items _ c.len-start.result
+    c.truncate.ensures.items
+    ∙ appended_front (g.K.HeadText.form c.args.version) g.row.W c.args.out.now.items c.loop-beat.out.items c.append_line.new.out.items _
+    c.len-start.result
     (of_err c.append_line.result (sym c.is_err.ensures.value ∙ c.if-is_err.true) c.append_line.ensures.err) c.loop-beat.invariant.1
 
 pub returns-clause-ok : goal.returns-clause-ok
-returns-clause-ok g c = appended_all (g.K.HeadText.form c.args.version) g.row.W c.args.out.now.items c.loop-beat.out.items c.args.beats.now c.len-start.result c.loop-beat.beat-index c.loop-beat-test.false c.loop-beat.invariant.1
+returns-clause-ok g c =
+    appended_all (g.K.HeadText.form c.args.version) g.row.W c.args.out.now.items c.loop-beat.out.items c.args.beats.now c.len-start.result
+    c.loop-beat.beat-index c.loop-beat-test.false c.loop-beat.invariant.1
 
 pub returns-clause-err : goal.returns-clause-err
 returns-clause-err g c = tt

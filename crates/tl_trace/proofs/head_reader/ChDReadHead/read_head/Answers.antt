@@ -11,7 +11,9 @@ returns c =
     let digits = id_digits c.args.version in
     let Id : ℕ → Type 0 = λ n. IsNumber c.args.text.now c.common_end.result n k.result.value k.result.bad in
     let id = subst Id c.id_digits.ensures.digits k.ensures in
-    let five = and_field 0 c.args.text.now 1 c.common_end.result _ _ _ (sink digits) k.result.value k.result.bad c.common_end.ensures.end fields.ensures.part id in
+    let five =
+    and_field 0 c.args.text.now 1 c.common_end.result _ _ _ (sink digits) k.result.value k.result.bad c.common_end.ensures.end fields.ensures.part
+    id in
     let there : c.denied_at.result ≡ 1 + length_of 0 (common c.args.version ++ sink digits ∷ []) = omega (arith, c.denied_at.ensures.end) in
     record {
       part = and_field 0 c.args.text.now 1 c.denied_at.result _ _ _ denied n.result.value n.result.bad there five n.ensures;
