@@ -5,7 +5,7 @@ use mathlib.Core.List.{IsPrefix}
 use Rattle.tl_bridge.proofs.Words.{IsWidth, Rules, rules_a, rules_b, rules_c, rules_d, rules_e, BeatOf, World, Sending, Taking, Met, Meets, seen_by, sent, received, known_items, Standing, asked, answered, round, client_rests, manager_rests, far_a, far_d, Beats, StandsFor, PerChannel, AreStanding, ClientState, ManagerState, ClientPast, ManagerPast, ClientStandsFor, ManagerStandsFor, AreSides, SidesMeet, new_client, new_manager, no_beats, IsShort, HasRoomFor, beats_of, AllStop, AreStopped, HasEnded, HaveRoomToCount, all_progress, all_standing, all_stopped, all_under_way, progress, standing_count, under_way, Stop, inbox-due, sent-passed, same-sums, begins, progress-is, progress-ends, run_end, counts-fit, due-a, due-d}
 use Rattle.tl_ring.specs.Pipe as piping
 use Rattle.tl_bridge.specs.Inner.Arriving.{HasRoomForInboxes, taken_of}
-use Rattle.tl_bridge.specs.Inner.Sides.{ClientIsAt, ManagerIsAt, ClientMayPlay, ManagerMayPlay, ClientHasPlayed, ManagerHasPlayed, ClientRests, ManagerRests, HasMet, HasPlayed, AreNew, bridge_of, met_progress, none_ready, past_of, pipe_of}
+use Rattle.tl_bridge.specs.Inner.Sides.{ClientIsAt, ManagerIsAt, MayPlay, HasPlayedTurns, RoundOf, ClientRests, ManagerRests, client_playing, manager_playing, HasMet, HasPlayed, AreNew, bridge_of, met_progress, none_ready, past_of, pipe_of}
 use Rattle.tl_bridge.specs.declared.client_turns.ClientRun.{ClientRun}
 use Rattle.tl_bridge.specs.declared.manager_turns.ManagerRun.{ManagerRun}
 use Rattle.tl_bridge.specs.declared.turns.Turn.{Turn}
@@ -169,29 +169,22 @@ module _ {C M : ℕ} (cw : IsWidth C) (mw : IsWidth M) (near : Beats C M) (short
       let far = beats_of (taken_of x y) in
       inboxes-fit cw mw near n (taken_of x y) (bridge_of x.side y.side) (past_of x.side y.side h.client h.manager) (met-stands near n far x.side y.side h) h.is_at has
 
-  pub client-may : ClientMayPlay near n x
+  pub client-may : MayPlay client_playing near n x
   client-may = record {
     few = few;
-    j = n.d;
-    m = n.a;
-    es = h.client.history;
+    round = record { a = n.a; d = n.d; history = h.client.history };
     is_at = client-begins near n (beats_of (taken_of x y)) x.side y.side h cw mw;
     due = client-due near n (beats_of (taken_of x y)) x.side y.side h cw mw;
-    room_b = fit.b;
-    room_d = fit.d;
+    room = (fit.b, fit.d);
   }
 
-  pub manager-may : ManagerMayPlay near n y
+  pub manager-may : MayPlay manager_playing near n y
   manager-may = record {
     few = few;
-    i = n.a;
-    m = n.d;
-    es = h.manager.history;
+    round = record { a = n.a; d = n.d; history = h.manager.history };
     is_at = manager-begins near n (beats_of (taken_of x y)) x.side y.side h cw mw;
     due = manager-due near n (beats_of (taken_of x y)) x.side y.side h cw mw;
-    room_a = fit.a;
-    room_c = fit.c;
-    room_e = fit.e;
+    room = (fit.a, fit.c, fit.e);
   }
 
 -- ---- a meeting
@@ -248,7 +241,7 @@ module _ {A : Type 0} {C M : ℕ} (s : ClientState A C M) (t : ManagerState A C 
 -- both sides have played a round, and met
 module _ {C M : ℕ} (cw : IsWidth C) (mw : IsWidth M) (near : Beats C M) (n : PerChannel ℕ) (x : ClientRun C M) (y : ManagerRun C M)
     (h : HasMet near n (beats_of (taken_of x y)) x.side y.side) (x' : ClientRun C M) (y' : ManagerRun C M) (there back : Turn)
-    (client : ClientHasPlayed near n x x' there) (manager : ManagerHasPlayed near n y y' back) (s' : ClientState Global C M) (t' : ManagerState Global C M)
+    (client : HasPlayedTurns client_playing near n x x' there) (manager : HasPlayedTurns manager_playing near n y y' back) (s' : ClientState Global C M) (t' : ManagerState Global C M)
     (standings : PerChannel Standing) (m : Meeting x'.side y'.side s' t' standings)
     (meets : (p : ClientPast C M) (q : ManagerPast C M) → ClientStandsFor x'.side p → ManagerStandsFor y'.side q → SidesMeet s' t' p q)
     (accepted : Bool) (which : accepted ≡ true → (there.accepted ≡ true) ⊎ (back.accepted ≡ true)) where
@@ -275,14 +268,18 @@ module _ {C M : ℕ} (cw : IsWidth C) (mw : IsWidth M) (near : Beats C M) (n : P
   both-played =
       let far = beats_of (taken_of x y) in
       let far' = beats_of (taken_of x' y') in
-      let k = client.is_at n.d n.a h.client.history none_ready (client-begins near n far x.side y.side h cw mw) (client-due near n far x.side y.side h cw mw) in
-      let l = manager.is_at n.a n.d h.manager.history none_ready (manager-begins near n far x.side y.side h cw mw) (manager-due near n far x.side y.side h cw mw) in
+      let from : RoundOf C = record { a = n.a; d = n.d; history = h.client.history } in
+      let from' : RoundOf M = record { a = n.a; d = n.d; history = h.manager.history } in
+      let begins = client-begins near n far x.side y.side h cw mw in
+      let begins' = manager-begins near n far x.side y.side h cw mw in
+      let due = client-due near n far x.side y.side h cw mw in
+      let due' = manager-due near n far x.side y.side h cw mw in
+      let k = (client.is_at from none_ready begins due).1 in
+      let l = (manager.is_at from' none_ready begins' due').1 in
       let n' : PerChannel ℕ = record { a = there.at.a; b = back.at.b; c = there.at.c; d = back.at.d; e = there.at.e } in
       let past = past_of s' t' k.past l.past in
       let met = meets k.past l.past k.stands l.stands in
       let same = same-progress x'.side y'.side s' t' standings m n' in
-      let least = client.goes.keeps in
-      let least' = manager.goes.keeps in
       record {
         met = record {
           client = k.past;
@@ -313,12 +310,12 @@ module _ {C M : ℕ} (cw : IsWidth C) (mw : IsWidth M) (near : Beats C M) (n : P
           };
         };
         stops = record { stop_a = k.stop_a; stop_b = l.stop_b; stop_c = k.stop_c; stop_d = l.stop_d; stop_e = k.stop_e };
-        keeps = keeps-on _ _ _ _ _ least least' same;
-        goes = ⊎_elim (λ e. let further = client.goes.goes e in inl (goes-left _ _ _ _ _ further least' same))
-            (λ f. ⊎_elim (λ e. let further = manager.goes.goes e in inl (goes-right _ _ _ _ _ least further same))
+        keeps = keeps-on _ _ _ _ _ client.keeps manager.keeps same;
+        goes = ⊎_elim (λ e. inl (goes-left _ _ _ _ _ (client.goes e) manager.keeps same))
+            (λ f. ⊎_elim (λ e. inl (goes-right _ _ _ _ _ client.keeps (manager.goes e) same))
             (λ g. let rest = both-rest f.1 g.1 in inr (λ e. ⊎_elim (λ a. f.0 a) (λ a. g.0 a) (which e), rest.0, rest.1))
-            (manager.rests n.a n.d h.manager.history none_ready (manager-begins near n far x.side y.side h cw mw) (manager-due near n far x.side y.side h cw mw)))
-            (client.rests n.d n.a h.client.history none_ready (client-begins near n far x.side y.side h cw mw) (client-due near n far x.side y.side h cw mw));
+            (manager.rests from' none_ready begins' due'))
+            (client.rests from none_ready begins due);
         standing = same-sums (met-standing rules_a s'.a t'.a k.past.a (asked l.past.history) met.a standings.a m.in_a)
             (met-standing rules_b t'.b s'.b l.past.b k.past.b met.b standings.b m.in_b)
             (met-standing rules_c s'.c t'.c k.past.c l.past.c met.c standings.c m.in_c)

@@ -1,8 +1,8 @@
 -- What no call but a pump and a fetch changes of a side's ends, and how far a side comes.
-use Rattle.std.proofs.Common.{◌≡◌, ◌+◌, ◌≤◌, ◌≢◌, ◌⊎◌, ℕ, Bool, true, length, take, refl, sym, ap, subst, ◌∙◌, arith, length-append, ⊎_elim}
+use Rattle.std.proofs.Common.{◌≡◌, ◌+◌, ℕ, length, take, sym, ap, subst, ◌∙◌, arith, length-append}
 use Rattle.std.proofs.lemmas.List.{length-take}
 use Rattle.tl_bridge.proofs.Words.{Sending, Taking, SameSend, SameTake, sent, received, same_send, same_take, PerChannel, Pumps, Fetches, pump_count, fetch_count, ClientState, ManagerState, SameClient, SameManager, same_client_then, same_manager_then, counted, steps, Offered, NotReady}
-use Rattle.tl_bridge.specs.Inner.Sides.{SameClientEnds, SameManagerEnds, Goes, ClientGoes, ManagerGoes, client_progress, manager_progress, all_steps}
+use Rattle.tl_bridge.specs.Inner.Sides.{SameClientEnds, SameManagerEnds, client_progress, manager_progress, all_steps}
 
 module _ {A : Type 0} where
   -- the same ends are those of the same rings
@@ -28,56 +28,6 @@ module _ {A : Type 0} where
 
   fetched-count : {K H : Type 0} {v : ℕ} (t t' : Taking K A H v) → Fetches t t' → length (received t') ≡ length (received t) + fetch_count t t'
   fetched-count t t' h = ap length h.fetched.received ∙ length-append (received t) h.fetched.moved ∙ ap (λ k. length (received t) + k) h.fetched.count
-
--- how a side goes, whichever of the two it is
-module _ {S : Type 0} {Same : S → S → Type 0} {progress : PerChannel ℕ → S → ℕ} where
-  -- a turn: offers, a pump and a fetch
-  turn-goes : (n : PerChannel ℕ) (s t u v : S) (o : PerChannel Offered) (pumped fetched : ℕ) (moved : Bool) → Same s v →
-      progress (counted n o) s ≡ progress n s + all_steps o → progress (counted n o) t ≡ progress (counted n o) s → progress (counted n o) u ≡ progress (counted n o) t + pumped →
-      progress (counted n o) v ≡ progress (counted n o) u + fetched → (moved ≡ true → (all_steps o ≢ 0) ⊎ (pumped + fetched ≢ 0)) → Goes Same progress n s (counted n o) v moved
-  turn-goes n s t u v o pumped fetched moved same accepted stayed sent received why =
-      let on : progress (counted n o) v ≡ progress n s + all_steps o + pumped + fetched =
-      received ∙ ap (λ k. k + fetched) (sent ∙ ap (λ k. k + pumped) (stayed ∙ accepted)) in
-      record {
-        same = same;
-        keeps = keeps (progress n s) (all_steps o) pumped fetched _ on;
-        goes = λ m. ⊎_elim (λ e. accepts (progress n s) (all_steps o) pumped fetched _ on e) (λ e. moves (progress n s) (all_steps o) pumped fetched _ on e) (why m);
-      }
-    where
-      keeps : (k l i j whole : ℕ) → whole ≡ k + l + i + j → k ≤ whole
-      keeps k l i j whole e = omega arith
-
-      accepts : (k l i j whole : ℕ) → whole ≡ k + l + i + j → l ≢ 0 → k + 1 ≤ whole
-      accepts k l i j whole e some = omega arith
-
-      moves : (k l i j whole : ℕ) → whole ≡ k + l + i + j → i + j ≢ 0 → k + 1 ≤ whole
-      moves k l i j whole e some = omega arith
-
-  -- turns, one after the other
-  pub goes-then : ((s t u : S) → Same s t → Same t u → Same s u) → (n m l : PerChannel ℕ) (s t u : S) (one other both : Bool) → Goes Same progress n s m t one →
-      Goes Same progress m t l u other → (both ≡ true → (one ≡ true) ⊎ (other ≡ true)) → Goes Same progress n s l u both
-  goes-then then n m l s t u one other both f g why = record {
-    same = then s t u f.same g.same;
-    keeps = steps-on _ _ _ f.keeps g.keeps;
-    goes = λ e. ⊎_elim (λ a. first _ _ _ (f.goes a) g.keeps) (λ b. second _ _ _ f.keeps (g.goes b)) (why e);
-  }
-    where
-      steps-on : (x y z : ℕ) → x ≤ y → y ≤ z → x ≤ z
-      steps-on v0 v1 v2 a b = omega arith
-
-      first : (x y z : ℕ) → x + 1 ≤ y → y ≤ z → x + 1 ≤ z
-      first v0 v1 v2 a b = omega arith
-
-      second : (x y z : ℕ) → x ≤ y → y + 1 ≤ z → x + 1 ≤ z
-      second v0 v1 v2 a b = omega arith
-
-  -- turns after what leaves a side as far as it was
-  goes-since : (n m : PerChannel ℕ) (s t u : S) (moved : Bool) → Same s u → progress n t ≡ progress n s → Goes Same progress n t m u moved → Goes Same progress n s m u moved
-  goes-since n m s t u moved same stayed f = record {
-    same = same;
-    keeps = subst (λ k. k ≤ progress m u) stayed f.keeps;
-    goes = λ a. subst (λ k. k + 1 ≤ progress m u) stayed (f.goes a);
-  }
 
 -- five parts that are as they were
 same-parts : (k p q r u v p' q' r' u' v' : ℕ) → p ≡ p' → q ≡ q' → r ≡ r' → u ≡ u' → v ≡ v' → k + p + q + r + u + v ≡ k + p' + q' + r' + u' + v'
@@ -176,35 +126,30 @@ module _ {A : Type 0} {C M : ℕ} where
       sums v0 v1 v2 v3 v4 v5 v6 v7 v8 v9 v10 v11 v12 v13 v14 a b c d e f = omega arith
 
   -- offers, a pump and a fetch
-  pub client-turn-goes : (n : PerChannel ℕ) (s t u v : ClientState A C M) (o : PerChannel Offered) (pumped fetched : ℕ) (moved : Bool) → SameClientEnds s t →
-      (o.b ≡ NotReady) × (o.d ≡ NotReady) → SameClient t u × ((n : PerChannel ℕ) → client_progress n u ≡ client_progress n t + pumped) →
+  pub client-goes : (n : PerChannel ℕ) (s t u v : ClientState A C M) (o : PerChannel Offered) (pumped fetched : ℕ) → SameClientEnds s t → (o.b ≡ NotReady) × (o.d ≡ NotReady) →
+      SameClient t u × ((n : PerChannel ℕ) → client_progress n u ≡ client_progress n t + pumped) →
       SameClient u v × ((n : PerChannel ℕ) → client_progress n v ≡ client_progress n u + fetched) →
-      (moved ≡ true → (all_steps o ≢ 0) ⊎ (pumped + fetched ≢ 0)) → ClientGoes n s (counted n o) v moved
-  client-turn-goes n s t u v o pumped fetched moved ends others p f why =
-      turn-goes n s t u v o pumped fetched moved (same_client_then s t v (client-same s t ends) (same_client_then t u v p.0 f.0))
-      (accepts n.a n.c n.e _ _ _ _ _ (steps o.a) (steps o.b) (steps o.c) (steps o.d) (steps o.e) (ap steps others.0) (ap steps others.1))
-      (client-stays (counted n o) s t ends) (p.1 (counted n o)) (f.1 (counted n o)) why
+      SameClient s v × (client_progress (counted n o) v ≡ client_progress n s + all_steps o + (pumped + fetched))
+  client-goes n s t u v o pumped fetched ends others p f = (
+    same_client_then s t v (client-same s t ends) (same_client_then t u v p.0 f.0),
+    accepts n.a n.c n.e _ _ _ _ _ (steps o.a) (steps o.b) (steps o.c) (steps o.d) (steps o.e) _ _ _ pumped fetched (ap steps others.0) (ap steps others.1)
+        (client-stays (counted n o) s t ends) (p.1 (counted n o)) (f.1 (counted n o)),
+  )
     where
-      accepts : (na nc ne sa sc se rb rd a b c d e : ℕ) → b ≡ 0 → d ≡ 0 →
-          (na + a) + (nc + c) + (ne + e) + sa + sc + se + rb + rd ≡ na + nc + ne + sa + sc + se + rb + rd + (a + b + c + d + e)
-      accepts na nc ne sa sc se rb rd a b c d e k l = omega arith
+      accepts : (na nc ne sa sc se rb rd a b c d e offered sent received pumped fetched : ℕ) → b ≡ 0 → d ≡ 0 → offered ≡ (na + a) + (nc + c) + (ne + e) + sa + sc + se + rb + rd →
+          sent ≡ offered + pumped → received ≡ sent + fetched → received ≡ na + nc + ne + sa + sc + se + rb + rd + (a + b + c + d + e) + (pumped + fetched)
+      accepts na nc ne sa sc se rb rd a b c d e offered sent received pumped fetched k l f g h = omega arith
 
-  pub manager-turn-goes : (n : PerChannel ℕ) (s t u v : ManagerState A C M) (o : PerChannel Offered) (pumped fetched : ℕ) (moved : Bool) → SameManagerEnds s t →
+  pub manager-goes : (n : PerChannel ℕ) (s t u v : ManagerState A C M) (o : PerChannel Offered) (pumped fetched : ℕ) → SameManagerEnds s t →
       (o.a ≡ NotReady) × (o.c ≡ NotReady) × (o.e ≡ NotReady) → SameManager t u × ((n : PerChannel ℕ) → manager_progress n u ≡ manager_progress n t + pumped) →
       SameManager u v × ((n : PerChannel ℕ) → manager_progress n v ≡ manager_progress n u + fetched) →
-      (moved ≡ true → (all_steps o ≢ 0) ⊎ (pumped + fetched ≢ 0)) → ManagerGoes n s (counted n o) v moved
-  manager-turn-goes n s t u v o pumped fetched moved ends others p f why =
-      turn-goes n s t u v o pumped fetched moved (same_manager_then s t v (manager-same s t ends) (same_manager_then t u v p.0 f.0))
-      (accepts n.b n.d _ _ _ _ _ (steps o.a) (steps o.b) (steps o.c) (steps o.d) (steps o.e) (ap steps others.0) (ap steps others.1) (ap steps others.2))
-      (manager-stays (counted n o) s t ends) (p.1 (counted n o)) (f.1 (counted n o)) why
+      SameManager s v × (manager_progress (counted n o) v ≡ manager_progress n s + all_steps o + (pumped + fetched))
+  manager-goes n s t u v o pumped fetched ends others p f = (
+    same_manager_then s t v (manager-same s t ends) (same_manager_then t u v p.0 f.0),
+    accepts n.b n.d _ _ _ _ _ (steps o.a) (steps o.b) (steps o.c) (steps o.d) (steps o.e) _ _ _ pumped fetched (ap steps others.0) (ap steps others.1) (ap steps others.2)
+        (manager-stays (counted n o) s t ends) (p.1 (counted n o)) (f.1 (counted n o)),
+  )
     where
-      accepts : (nb nd sb sd ra rc re a b c d e : ℕ) → a ≡ 0 → c ≡ 0 → e ≡ 0 →
-          (nb + b) + (nd + d) + sb + sd + ra + rc + re ≡ nb + nd + sb + sd + ra + rc + re + (a + b + c + d + e)
-      accepts nb nd sb sd ra rc re a b c d e k l m = omega arith
-
-  -- takes leave the ends as they were, so turns after them go as far
-  pub client-goes-since : (n m : PerChannel ℕ) (s t u : ClientState A C M) (moved : Bool) → SameClientEnds s t → ClientGoes n t m u moved → ClientGoes n s m u moved
-  client-goes-since n m s t u moved ends f = goes-since n m s t u moved (same_client_then s t u (client-same s t ends) f.same) (client-stays n s t ends) f
-
-  pub manager-goes-since : (n m : PerChannel ℕ) (s t u : ManagerState A C M) (moved : Bool) → SameManagerEnds s t → ManagerGoes n t m u moved → ManagerGoes n s m u moved
-  manager-goes-since n m s t u moved ends f = goes-since n m s t u moved (same_manager_then s t u (manager-same s t ends) f.same) (manager-stays n s t ends) f
+      accepts : (nb nd sb sd ra rc re a b c d e offered sent received pumped fetched : ℕ) → a ≡ 0 → c ≡ 0 → e ≡ 0 → offered ≡ (nb + b) + (nd + d) + sb + sd + ra + rc + re →
+          sent ≡ offered + pumped → received ≡ sent + fetched → received ≡ nb + nd + sb + sd + ra + rc + re + (a + b + c + d + e) + (pumped + fetched)
+      accepts nb nd sb sd ra rc re a b c d e offered sent received pumped fetched k l m f g h = omega arith

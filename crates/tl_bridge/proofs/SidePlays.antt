@@ -1,88 +1,104 @@
 -- What a side's thread does in a round, told of all that it holds.
-use Rattle.std.proofs.Common.{◌≡◌, ◌⊎◌, ◌↔◌, ◌++◌, inl, inr, ℕ, true, List, [], Global, sym, subst, ⊎_elim}
-use mathlib.Core.List.{IsPrefix}
-use Rattle.tl_bridge.proofs.Words.{Takes, Event, asked, answered, far_a, far_d, Beats, PerChannel, ClientState, ManagerState, Offered, answered-all, asked-all, same_client_then, same_manager_then}
-use Rattle.tl_bridge.specs.Inner.Sides.{ClientGoes, ManagerGoes, ClientIsAt, ManagerIsAt, ClientHasPlayed, ManagerHasPlayed, ClientHasTaken, ManagerHasTaken, ClientMovesOrRests, ManagerMovesOrRests, none_ready}
+use Rattle.std.proofs.Common.{◌≡◌, ◌≢◌, ◌⊎◌, ◌↔◌, ◌+◌, ◌<◌, ◌≤◌, ◌^◌, ◌++◌, inl, inr, ℕ, true, sym, subst, ap, ◌∙◌, arith, vec_capacity, ⊎_elim}
+use Rattle.tl_bridge.proofs.Words.{Takes, answered, asked, Beats, PerChannel, ClientPast, ManagerPast, ClientStandsFor, ManagerStandsFor, HaveRoomToCount, Offered, NotReady, steps, counted, none-more, answered-all, asked-all, client_takes_b, client_takes_d, manager_takes_a, manager_takes_c, manager_takes_e}
+use Rattle.tl_bridge.specs.Inner.Sides.{Playing, HasTaken, HasTurned, HasPlayedTurns, SameClientEnds, SameManagerEnds, client_playing, manager_playing, none_ready, all_steps}
 use Rattle.tl_bridge.specs.declared.client_turns.ClientRun.{ClientRun}
 use Rattle.tl_bridge.specs.declared.manager_turns.ManagerRun.{ManagerRun}
 use Rattle.tl_bridge.specs.declared.turns.Turn.{Turn}
-use Rattle.tl_bridge.proofs.Resting.{none-behind, client-rests-since, manager-rests-since}
-use Rattle.tl_bridge.proofs.SideEnds.{client-goes-since, manager-goes-since, goes-then}
+use Rattle.tl_bridge.proofs.Resting.{moves-or, none-behind, client-rests-since, manager-rests-since}
+use Rattle.tl_bridge.proofs.SideEnds.{client-same, client-stays, manager-same, manager-stays}
 use Rattle.tl_bridge.proofs.SideRound.{client-took, manager-took}
 
-module _ {C M : ℕ} (near : Beats C M) (n : PerChannel ℕ) where
-  -- it has taken all that stood in its inboxes, and made one turn
-  pub client-played-first : (x x' : ClientRun C M) (s : ClientState Global C M) (u : Turn) → ClientHasTaken x x' → ClientGoes n x'.side u.at s u.moved →
-      ((j m : ℕ) (es : List (Event C)) → ClientIsAt near j m es n x'.far_b.items x'.far_d.items x'.side none_ready → ClientIsAt near j m es u.at x'.far_b.items x'.far_d.items s u.offers) →
-      ((j m : ℕ) (es : List (Event C)) → ClientIsAt near j m es n x'.far_b.items x'.far_d.items x'.side none_ready → x'.side.b.inbox ≡ [] → x'.side.d.inbox ≡ [] →
-      ClientMovesOrRests x'.side s u) → ClientHasPlayed near n x (record x' { side = s }) u
-  client-played-first x x' s u t goes turned rests =
-      let begins = λ (j m : ℕ) (es : List (Event C)) (o : PerChannel Offered) (h : ClientIsAt near j m es n x.far_b.items x.far_d.items x.side o) (due : IsPrefix (x.far_d.items ++ x.side.d.inbox) (far_d near.a near.d j)).
-      client-took near j m es n x.far_b.items x'.far_b.items x.far_d.items x'.far_d.items x.side x'.side o h due (t.taken h.past h.stands) t.far_b t.far_d in
-      record {
-        goes = client-goes-since n u.at x.side x'.side s u.moved t.ends goes;
-        capacity_b = t.capacity_b;
-        capacity_d = t.capacity_d;
-        is_at = λ j m es o h due. turned j m es (begins j m es o h due);
-        rests = λ j m es o h due.
-            let stands = t.taken h.past h.stands in
-            let none_b = none-behind x.side.b x'.side.b h.past.b t.ends.b h.stands.b stands.b in
-            let none_d = none-behind x.side.d x'.side.d (answered h.past.history) t.ends.d h.stands.d
-            (subst (λ q. Takes x'.side.d q) (answered-all h.past.history x.side.d.inbox) stands.d) in
-            ⊎_elim (λ e. inl e) (λ r. inr (r.0, client-rests-since x.side x'.side s u.offers t.ends r.1)) (rests j m es (begins j m es o h due) none_b none_d);
-      }
+module _ {S : Type 0} {C M : ℕ} (k : Playing S C M) (near : Beats C M) (n : PerChannel ℕ) where
+  -- it has made one turn, in which these were its offers, and so many beats were pumped and fetched
+  pub turned : (s t : S) (o : PerChannel Offered) (others : ℕ) (u : Turn) → u.at ≡ counted n o → u.offers ≡ o → ((u.accepted ≡ true) ↔ (all_steps o ≢ 0)) →
+      ((u.moved ≡ true) ↔ ((all_steps o ≢ 0) ⊎ (others ≢ 0))) → k.Same s t → k.progress (counted n o) t ≡ k.progress n s + all_steps o + others →
+      ((r : k.Round) (p : PerChannel Offered) → k.IsAt near r n s p → HaveRoomToCount (counted n o) × k.IsAt near r (counted n o) t o) →
+      ((r : k.Round) (p : PerChannel Offered) → k.IsAt near r n s p → k.IsEmpty s → all_steps o ≡ 0 → others ≡ 0 → k.Rests s t o) → HasTurned k near n s t u
+  turned s t o others u at offers accepted moved same on is_at rests = record {
+    same = same;
+    keeps = subst (λ m. k.progress n s ≤ k.progress m t) (sym at) (keeps _ _ _ _ on);
+    goes = λ e. subst (λ m. k.progress n s + 1 ≤ k.progress m t) (sym at) (⊎_elim (λ some. first _ _ _ _ on some) (λ some. second _ _ _ _ on some) (moved.0 e));
+    is_at = λ r p h may. subst (λ q. HaveRoomToCount u.at × k.IsAt near r u.at t q) (sym offers)
+        (subst (λ m. HaveRoomToCount m × k.IsAt near r m t o) (sym at) (is_at r p h));
+    rests = λ r p h empty. moves-or (all_steps o) others u.moved u.accepted (k.Rests s t u.offers) moved accepted
+        (λ none still. subst (λ q. k.Rests s t q) (sym offers) (rests r p h empty none still));
+  }
+    where
+      keeps : (i j l whole : ℕ) → whole ≡ i + j + l → i ≤ whole
+      keeps i j l whole e = omega arith
 
-  pub manager-played-first : (y y' : ManagerRun C M) (s : ManagerState Global C M) (u : Turn) → ManagerHasTaken y y' → ManagerGoes n y'.side u.at s u.moved →
-      ((i m : ℕ) (es : List (Event M)) → ManagerIsAt near i m es n y'.far_a.items y'.far_c.items y'.far_e.items y'.side none_ready →
-      ManagerIsAt near i m es u.at y'.far_a.items y'.far_c.items y'.far_e.items s u.offers) →
-      ((i m : ℕ) (es : List (Event M)) → ManagerIsAt near i m es n y'.far_a.items y'.far_c.items y'.far_e.items y'.side none_ready → y'.side.a.inbox ≡ [] → y'.side.c.inbox ≡ [] →
-      y'.side.e.inbox ≡ [] → ManagerMovesOrRests y'.side s u) → ManagerHasPlayed near n y (record y' { side = s }) u
-  manager-played-first y y' s u t goes turned rests =
-      let begins = λ (i m : ℕ) (es : List (Event M)) (o : PerChannel Offered) (h : ManagerIsAt near i m es n y.far_a.items y.far_c.items y.far_e.items y.side o) (due : IsPrefix (y.far_a.items ++ y.side.a.inbox) (far_a near.a near.d i)).
-      manager-took near i m es n y.far_a.items y'.far_a.items y.far_c.items y'.far_c.items y.far_e.items y'.far_e.items y.side y'.side o h due (t.taken h.past h.stands)
-      t.far_a t.far_c t.far_e in
-      record {
-        goes = manager-goes-since n u.at y.side y'.side s u.moved t.ends goes;
-        capacity_a = t.capacity_a;
-        capacity_c = t.capacity_c;
-        capacity_e = t.capacity_e;
-        is_at = λ i m es o h due. turned i m es (begins i m es o h due);
-        rests = λ i m es o h due.
-            let stands = t.taken h.past h.stands in
-            let none_a = none-behind y.side.a y'.side.a (asked h.past.history) t.ends.a h.stands.a
-            (subst (λ q. Takes y'.side.a q) (asked-all h.past.history y.side.a.inbox) stands.a) in
-            let none_c = none-behind y.side.c y'.side.c h.past.c t.ends.c h.stands.c stands.c in
-            let none_e = none-behind y.side.e y'.side.e h.past.e t.ends.e h.stands.e stands.e in
-            ⊎_elim (λ e. inl e) (λ r. inr (r.0, manager-rests-since y.side y'.side s u.offers t.ends r.1)) (rests i m es (begins i m es o h due) none_a none_c none_e);
-      }
+      first : (i j l whole : ℕ) → whole ≡ i + j + l → j ≢ 0 → i + 1 ≤ whole
+      first i j l whole e some = omega arith
 
-  -- it has made one turn more, after some in which it moved a beat
-  pub client-played-then : (x x' : ClientRun C M) (s : ClientState Global C M) (u last both : Turn) → ClientHasPlayed near n x x' u → ClientGoes u.at x'.side last.at s last.moved →
-      ((j m : ℕ) (es : List (Event C)) → ClientIsAt near j m es u.at x'.far_b.items x'.far_d.items x'.side u.offers →
-      ClientIsAt near j m es last.at x'.far_b.items x'.far_d.items s last.offers) →
-      both.at ≡ last.at → both.offers ≡ last.offers → ((both.moved ≡ true) ↔ ((u.moved ≡ true) ⊎ (last.moved ≡ true))) → u.moved ≡ true →
-      ClientHasPlayed near n x (record x' { side = s }) both
-  client-played-then x x' s u last both before goes turned at offers moved some = record {
-    goes = subst (λ k. ClientGoes n x.side k s both.moved) (sym at) (goes-then same_client_then n u.at last.at x.side x'.side s u.moved last.moved both.moved before.goes goes moved.0);
-    capacity_b = before.capacity_b;
-    capacity_d = before.capacity_d;
-    is_at = λ j m es o h due. subst (λ k. ClientIsAt near j m es k x'.far_b.items x'.far_d.items s both.offers) (sym at)
-        (subst (λ q. ClientIsAt near j m es last.at x'.far_b.items x'.far_d.items s q) (sym offers) (turned j m es (before.is_at j m es o h due)));
-    rests = λ j m es o h due. inl (moved.1 (inl some));
+      second : (i j l whole : ℕ) → whole ≡ i + j + l → l ≢ 0 → i + 1 ≤ whole
+      second i j l whole e some = omega arith
+
+  module _ (s t u : S) where
+    -- it has taken all that stood in its inboxes, and made one turn
+    pub played-first : (one : Turn) → HasTaken k s t → HasTurned k near n t u one → HasPlayedTurns k near n s u one
+    played-first one took turn = record {
+      same = k.same_then s t u took.same turn.same;
+      keeps = subst (λ i. i ≤ k.progress one.at u) (took.stays n) turn.keeps;
+      goes = λ e. subst (λ i. i + 1 ≤ k.progress one.at u) (took.stays n) (turn.goes e);
+      is_at = λ r o h due. turn.is_at r none_ready (took.is_at near r n o h due).0 tt;
+      rests = λ r o h due.
+          let here = took.is_at near r n o h due in
+          ⊎_elim (λ e. inl e) (λ still. inr (still.0, took.rests u one.offers still.1)) (turn.rests r none_ready here.0 here.1);
+    }
+
+    -- it has made one turn more, after some in which it moved a beat
+    pub played-then : (some last both : Turn) → HasPlayedTurns k near n s t some → some.moved ≡ true → HasTurned k near some.at t u last → both.at ≡ last.at → both.offers ≡ last.offers →
+        ((both.moved ≡ true) ↔ ((some.moved ≡ true) ⊎ (last.moved ≡ true))) → HasPlayedTurns k near n s u both
+    played-then some last both before moved turn at offers moves = record {
+      same = k.same_then s t u before.same turn.same;
+      keeps = subst (λ m. k.progress n s ≤ k.progress m u) (sym at) (on before.keeps turn.keeps);
+      goes = λ e. subst (λ m. k.progress n s + 1 ≤ k.progress m u) (sym at) (on (before.goes moved) turn.keeps);
+      is_at = λ r o h due. subst (λ q. HaveRoomToCount both.at × k.IsAt near r both.at u q) (sym offers)
+          (subst (λ m. HaveRoomToCount m × k.IsAt near r m u last.offers) (sym at) (turn.is_at r some.offers (before.is_at r o h due).1 tt));
+      rests = λ r o h due. inl (moves.1 (inl moved));
+    }
+      where
+        on : {i j l : ℕ} → i ≤ j → j ≤ l → i ≤ l
+        on e f = omega arith
+
+-- a channel that is not offered a beat has as much room to count
+pub still-few : {n : ℕ} {o : Offered} → o ≡ NotReady → n < 2 ^ 41 → n + steps o < 2 ^ 41
+still-few {n} e few = subst (λ k. k < 2 ^ 41) (none-more n ∙ ap (λ q. n + steps q) (sym e)) few
+
+module _ {C M : ℕ} where
+  -- all that stood in the inboxes of a side is behind what its lists had
+  pub client-taken : (x x' : ClientRun C M) → ((p : ClientPast C M) → ClientStandsFor x.side p → ClientStandsFor x'.side (client_takes_d x.side.d.inbox (client_takes_b x.side.b.inbox p))) →
+      SameClientEnds x.side x'.side → x'.far_b.items ≡ x.far_b.items ++ x.side.b.inbox → x'.far_d.items ≡ x.far_d.items ++ x.side.d.inbox →
+      vec_capacity x'.far_b ≡ vec_capacity x.far_b → vec_capacity x'.far_d ≡ vec_capacity x.far_d → HasTaken client_playing x x'
+  client-taken x x' taken ends far_b far_d capacity_b capacity_d = record {
+    same = (client-same x.side x'.side ends, capacity_b, capacity_d);
+    stays = λ n. client-stays n x.side x'.side ends;
+    is_at = λ near r n o h due. let stands = taken h.past h.stands in (
+      client-took near r.d r.a r.history n x.far_b.items x'.far_b.items x.far_d.items x'.far_d.items x.side x'.side o h due stands far_b far_d,
+      (
+        none-behind x.side.b x'.side.b h.past.b ends.b h.stands.b stands.b,
+        none-behind x.side.d x'.side.d (answered h.past.history) ends.d h.stands.d (subst (λ q. Takes x'.side.d q) (answered-all h.past.history x.side.d.inbox) stands.d),
+      ),
+    );
+    rests = λ t o still. client-rests-since x.side x'.side t.side o ends still;
   }
 
-  pub manager-played-then : (y y' : ManagerRun C M) (t : ManagerState Global C M) (u last both : Turn) → ManagerHasPlayed near n y y' u →
-      ManagerGoes u.at y'.side last.at t last.moved →
-      ((i m : ℕ) (es : List (Event M)) → ManagerIsAt near i m es u.at y'.far_a.items y'.far_c.items y'.far_e.items y'.side u.offers →
-      ManagerIsAt near i m es last.at y'.far_a.items y'.far_c.items y'.far_e.items t last.offers) →
-      both.at ≡ last.at → both.offers ≡ last.offers → ((both.moved ≡ true) ↔ ((u.moved ≡ true) ⊎ (last.moved ≡ true))) → u.moved ≡ true →
-      ManagerHasPlayed near n y (record y' { side = t }) both
-  manager-played-then y y' t u last both before goes turned at offers moved some = record {
-    goes = subst (λ k. ManagerGoes n y.side k t both.moved) (sym at) (goes-then same_manager_then n u.at last.at y.side y'.side t u.moved last.moved both.moved before.goes goes moved.0);
-    capacity_a = before.capacity_a;
-    capacity_c = before.capacity_c;
-    capacity_e = before.capacity_e;
-    is_at = λ i m es o h due. subst (λ k. ManagerIsAt near i m es k y'.far_a.items y'.far_c.items y'.far_e.items t both.offers) (sym at)
-        (subst (λ q. ManagerIsAt near i m es last.at y'.far_a.items y'.far_c.items y'.far_e.items t q) (sym offers) (turned i m es (before.is_at i m es o h due)));
-    rests = λ i m es o h due. inl (moved.1 (inl some));
+  pub manager-taken : (y y' : ManagerRun C M) →
+      ((p : ManagerPast C M) → ManagerStandsFor y.side p → ManagerStandsFor y'.side (manager_takes_e y.side.e.inbox (manager_takes_c y.side.c.inbox (manager_takes_a y.side.a.inbox p)))) →
+      SameManagerEnds y.side y'.side → y'.far_a.items ≡ y.far_a.items ++ y.side.a.inbox → y'.far_c.items ≡ y.far_c.items ++ y.side.c.inbox →
+      y'.far_e.items ≡ y.far_e.items ++ y.side.e.inbox → vec_capacity y'.far_a ≡ vec_capacity y.far_a → vec_capacity y'.far_c ≡ vec_capacity y.far_c →
+      vec_capacity y'.far_e ≡ vec_capacity y.far_e → HasTaken manager_playing y y'
+  manager-taken y y' taken ends far_a far_c far_e capacity_a capacity_c capacity_e = record {
+    same = (manager-same y.side y'.side ends, capacity_a, capacity_c, capacity_e);
+    stays = λ n. manager-stays n y.side y'.side ends;
+    is_at = λ near r n o h due. let stands = taken h.past h.stands in (
+      manager-took near r.a r.d r.history n y.far_a.items y'.far_a.items y.far_c.items y'.far_c.items y.far_e.items y'.far_e.items y.side y'.side o h due stands far_a far_c far_e,
+      (
+        none-behind y.side.a y'.side.a (asked h.past.history) ends.a h.stands.a (subst (λ q. Takes y'.side.a q) (asked-all h.past.history y.side.a.inbox) stands.a),
+        none-behind y.side.c y'.side.c h.past.c ends.c h.stands.c stands.c,
+        none-behind y.side.e y'.side.e h.past.e ends.e h.stands.e stands.e,
+      ),
+    );
+    rests = λ t o still. manager-rests-since y.side y'.side t.side o ends still;
   }

@@ -18,5 +18,5 @@ pub use Rattle.tl_settle.specs.Rounds.{ClientMoves, ManagerMoves}
 pub use Rattle.tl_settle.specs.Settling.{far_a, far_d}
 pub use Rattle.tl_sides.specs.Bridges.{Bridge, Past}
 pub use Rattle.tl_sides.specs.Crossings.{stops_alone}
-pub use Rattle.tl_sides.specs.Sides.{AreSides, ClientPast, ClientStandsFor, ClientState, ManagerPast, ManagerStandsFor, ManagerState, SameClient, SameManager, SidesMeet, client_takes_b, client_takes_d, manager_takes_a, manager_takes_c, manager_takes_e, new_client, new_manager}
+pub use Rattle.tl_sides.specs.Sides.{AreSides, ClientPast, ClientStandsFor, ClientState, ManagerPast, ManagerStandsFor, ManagerState, SameClient, SameManager, SidesMeet, new_client, new_manager}
 pub use Rattle.tl_sides.specs.declared.per_channel.PerChannel.{PerChannel}

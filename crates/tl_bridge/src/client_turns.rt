@@ -1,20 +1,13 @@
 //! What the client's side does in a round of a run in two threads.
-ghost use Rattle.std.specs.Prelude.{◌≡◌, ◌+◌, ◌≤◌, ℕ, List, [], length, vec_len, vec_capacity};
-ghost use Rattle.tl_lanes.specs.Lanes.{IsWidth};
-ghost use Rattle.tl_msg.specs.declared.head.HeadB.{HeadB};
-ghost use Rattle.tl_msg.specs.declared.head.HeadD.{HeadD};
-ghost use Rattle.tl_msg.specs.declared.beat.BeatOf.{BeatOf};
-ghost use Rattle.tl_settle.specs.Histories.{Event};
+ghost use Rattle.std.specs.Prelude.{◌≡◌};
 ghost use Rattle.tl_sides.specs.Sides.{ClientPast, ClientStandsFor};
-ghost use Rattle.tl_run.specs.Scripts.{HasShortLists, near_beats};
+ghost use Rattle.tl_run.specs.Scripts.{near_beats};
 ghost use Rattle.tl_run.specs.declared.channel_state.Offered.TheVariants.{NotReady};
 ghost use Rattle.tl_run.specs.Inner.Widths.{AreWidths};
-ghost use Rattle.tl_run.specs.Inner.Running.{HaveRoomToCount};
-ghost use Rattle.tl_bridge.specs.Inner.Sides.{SameClientEnds, ClientHasTaken, ClientHasOffered, ClientGoes, ClientIsAt, ClientMovesOrRests, ClientMayPlay, ClientHasPlayed};
+ghost use Rattle.tl_bridge.specs.Inner.Sides.{SameClientEnds, ClientHasOffered, client_playing};
 
-use crate::gates::Gate;
 use crate::inboxes::append;
-use crate::turns::Turn;
+use crate::turns::{PlaysRounds, Turn};
 use tl_msg::{Beat, ChA, ChB, ChC, ChD, ChE};
 use tl_run::{Offered, Offers};
 use tl_sides::{ClientSide, PerChannel};
@@ -37,23 +30,6 @@ impl<const C: usize, const M: usize> ClientRun<C, M> {
     {
         (self.far_b, self.far_d)
     }
-}
-
-// The client's side takes all that stands in its inboxes.
-fn take_each<const C: usize, const M: usize>(
-    side: &mut ClientSide<C, M>,
-    far_b: &mut Vec<Beat<ChB, C>>,
-    far_d: &mut Vec<Beat<ChD, C>>,
-)
-    requires { IsWidth C × (vec_len far_b.old + length side.old.b.inbox ≤ vec_capacity far_b.old) ×
-        (vec_len far_d.old + length side.old.d.inbox ≤ vec_capacity far_d.old) }
-    ensures { ClientHasTaken
-        (record { side = side.old; far_b = far_b.old; far_d = far_d.old })
-        (record { side = side.new; far_b = far_b.new; far_d = far_d.new }) }
-{
-    append(far_b, side.inbox_b());
-    append(far_d, side.inbox_d());
-    side.take_all();
 }
 
 // The client's side offers the next beat of each of its channels, in the order of letters.
@@ -80,59 +56,19 @@ fn offer_each<const C: usize, const M: usize>(
     }
 }
 
-// A turn of the client's side: it offers the next beat of each of its channels, pumps and fetches.
-fn turn<const C: usize, const M: usize>(
-    side: &mut ClientSide<C, M>,
-    script: &Script<C, M>,
-    at: &PerChannel<usize>,
-) -> Turn
-    requires { AreWidths C M × HaveRoomToCount at.now }
-    ensures goes { ClientGoes at.now side.old result.at side.new result.moved }
-    ensures others { (result.at.b ≡ at.now.b) × (result.at.d ≡ at.now.d) }
-    ensures is_at { (j m : ℕ) (es : List (Event C)) (far_of_b : List (BeatOf HeadB C))
-        (far_of_d : List (BeatOf HeadD C)) (o : PerChannel Offered) →
-        ClientIsAt (near_beats script.now) j m es at.now far_of_b far_of_d side.old o →
-        ClientIsAt (near_beats script.now) j m es result.at far_of_b far_of_d side.new
-        result.offers }
-    // where it has taken all that it received
-    ensures rests { (j m : ℕ) (es : List (Event C)) (far_of_b : List (BeatOf HeadB C))
-        (far_of_d : List (BeatOf HeadD C)) (o : PerChannel Offered) →
-        ClientIsAt (near_beats script.now) j m es at.now far_of_b far_of_d side.old o →
-        side.old.b.inbox ≡ [] → side.old.d.inbox ≡ [] →
-        ClientMovesOrRests side.old side.new result }
-{
-    let offers = offer_each(side, script, at);
-    let pumped = side.pump();
-    let fetched = side.fetch();
-    Turn::new(at, offers, pumped + fetched)
-}
+impl<const C: usize, const M: usize> PlaysRounds<C, M> for ClientRun<C, M> {
+    ghost playing = { client_playing };
 
-// What the client's side does in a round, before which so many beats of each channel were accepted.
-// A turn in which nothing moves is its last: the ones after it would find the same, until the other
-// side moves.
-pub(crate) fn play<G: Gate, const C: usize, const M: usize>(
-    run: &mut ClientRun<C, M>,
-    script: &Script<C, M>,
-    at: &PerChannel<usize>,
-    turns: usize,
-    gate: &mut G,
-) -> Turn
-    requires { AreWidths C M × HasShortLists script.now ×
-        ClientMayPlay (near_beats script.now) at.now run.old }
-    ensures { ClientHasPlayed (near_beats script.now) at.now run.old run.new result }
-{
-    gate.pass();
-    take_each(&mut run.side, &mut run.far_b, &mut run.far_d);
-    let mut played = turn(&mut run.side, script, at);
-    if !played.moved {
-        return played;
+    fn take_each(&mut self) {
+        append(&mut self.far_b, self.side.inbox_b());
+        append(&mut self.far_d, self.side.inbox_d());
+        self.side.take_all();
     }
-    'turns: for _ in 1..turns {
-        let last = turn(&mut run.side, script, &played.at);
-        played = played.then(&last);
-        if !last.moved {
-            return played;
-        }
+
+    fn turn(&mut self, script: &Script<C, M>, at: &PerChannel<usize>) -> Turn {
+        let offers = offer_each(&mut self.side, script, at);
+        let pumped = self.side.pump();
+        let fetched = self.side.fetch();
+        Turn::new(at, offers, pumped + fetched)
     }
-    played
 }

@@ -6,12 +6,12 @@ ghost use Rattle.tl_run.specs.Inner.Widths.{AreWidths};
 ghost use Rattle.tl_run.specs.Inner.Arriving.{HasRoomFor, beats_of};
 ghost use Rattle.tl_bridge.specs.Inner.Arriving.{KeepsRoom, taken_of};
 ghost use Rattle.tl_run.specs.Inner.Running.{AreStopped, HasEnded, all_standing, all_stopped};
-ghost use Rattle.tl_bridge.specs.Inner.Sides.{ClientMayPlay, ClientHasPlayed, ManagerMayPlay, ManagerHasPlayed, HasMet, HasPlayed, AreNew, bridge_of};
+ghost use Rattle.tl_bridge.specs.Inner.Sides.{MayPlay, HasPlayedTurns, client_playing, manager_playing, HasMet, HasPlayed, AreNew, bridge_of};
 
-use crate::client_turns::{self, ClientRun};
+use crate::client_turns::ClientRun;
 use crate::gates::Gate;
-use crate::manager_turns::{self, ManagerRun};
-use crate::turns::{Turn, either};
+use crate::manager_turns::ManagerRun;
+use crate::turns::{Turn, either, play};
 use std::thread::{Threads, join_mut};
 use tl_run::{End, Offered, Stop, all_stops, are_empty};
 use tl_sides::{PerChannel, Standings, meet_sides};
@@ -39,26 +39,27 @@ fn play_both<R: Threads, G: Gate + Send, H: Gate + Send, const C: usize, const M
     manager_gate: &mut H,
 ) -> (Turn, Turn)
     requires { AreWidths C M × HasShortLists script.now ×
-        ClientMayPlay (near_beats script.now) at.now client.old ×
-        ManagerMayPlay (near_beats script.now) at.now manager.old }
-    ensures client { ClientHasPlayed (near_beats script.now) at.now client.old client.new result.0 }
-    ensures manager { ManagerHasPlayed (near_beats script.now) at.now manager.old manager.new
-        result.1 }
+        MayPlay client_playing (near_beats script.now) at.now client.old ×
+        MayPlay manager_playing (near_beats script.now) at.now manager.old }
+    ensures client { HasPlayedTurns client_playing (near_beats script.now) at.now client.old
+        client.new result.0 }
+    ensures manager { HasPlayedTurns manager_playing (near_beats script.now) at.now manager.old
+        manager.new result.1 }
 {
     join_mut(
         rt,
         &mut || -> Turn
             requires { AreWidths C M × HasShortLists script.now ×
-                ClientMayPlay (near_beats script.now) at.now client.now }
-            ensures { ClientHasPlayed (near_beats script.entry.now) at.entry.now client.entry.now
-                client.exit.now result }
-        { client_turns::play(client, script, at, turns, client_gate) },
+                MayPlay client_playing (near_beats script.now) at.now client.now }
+            ensures { HasPlayedTurns client_playing (near_beats script.entry.now) at.entry.now
+                client.entry.now client.exit.now result }
+        { play(client, script, at, turns, client_gate) },
         &mut || -> Turn
             requires { AreWidths C M × HasShortLists script.now ×
-                ManagerMayPlay (near_beats script.now) at.now manager.now }
-            ensures { ManagerHasPlayed (near_beats script.entry.now) at.entry.now manager.entry.now
-                manager.exit.now result }
-        { manager_turns::play(manager, script, at, turns, manager_gate) },
+                MayPlay manager_playing (near_beats script.now) at.now manager.now }
+            ensures { HasPlayedTurns manager_playing (near_beats script.entry.now) at.entry.now
+                manager.entry.now manager.exit.now result }
+        { play(manager, script, at, turns, manager_gate) },
     )
 }
 
@@ -129,6 +130,7 @@ fn stops_after(played: &Played) -> Option<PerChannel<Stop>>
 
 // Rounds, up to the first one in which no beat was accepted and after which nothing is under way.
 // It comes at the latest when nothing moves in a round.
+#[inline(never)]
 pub(crate) fn play_rounds<
     R: Threads,
     G: Gate + Send,

@@ -35,6 +35,7 @@ use tl_trace::Script;
 /// 4,096, which is tested first, and else with `OutOfMemory` where there is no memory for the bridge
 /// or for the far beats: all of it is asked for before the first round. `Stalled` never comes.
 /// `turns` is 1 at least, and each list has at most `2^40` beats.
+#[inline(never)]
 pub fn run_threads<R: Threads, G: Gate + Send, H: Gate + Send, const C: usize, const M: usize>(
     rt: &R,
     alloc: Global,
@@ -85,6 +86,7 @@ pub fn run_threads<R: Threads, G: Gate + Send, H: Gate + Send, const C: usize, c
 }
 
 // The rounds of a run over two new sides, which get lists with room for all far beats.
+#[inline(never)]
 fn run_sides<R: Threads, G: Gate + Send, H: Gate + Send, const C: usize, const M: usize>(
     rt: &R,
     alloc: Global,

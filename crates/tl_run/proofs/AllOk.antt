@@ -2,11 +2,6 @@
 use Rattle.tl_run.proofs.Names.{◌≡◌, true, Result, Ok, Err, refl, sym, subst, IsOk, OnOk}
 use Rattle.std.specs.Result.{result_and}
 
--- what holds whatever a result is
-pub always : {T E P : Type 0} (r : Result T E) → P → OnOk r P
-always (Ok x) p = p
-always (Err e) p = tt
-
 module _ {E : Type 0} where
   both : {P Q X : Type 0} (a b : Result (Unit {0}) E) → (P → Q → X) → OnOk a P → OnOk b Q → OnOk (result_and a b) X
   both (Ok x) (Ok y) f p q = f p q

@@ -1,9 +1,9 @@
 -- How far a run has come, by what its loop sees, and how it ends.
 use Rattle.tl_run.proofs.Names.{◌≡◌, ◌+◌, ◌*◌, ◌^◌, ◌≤◌, ◌<◌, ◌++◌, ℕ, false, List, [], length, take, drop, refl, sym, ap, subst, ◌∙◌, arith, ⊎_elim}
 use Rattle.tl_run.proofs.Names.{length-take-le, IsWidth, Rules, rules_a, rules_b, rules_c, rules_d, rules_e, BeatOf, due, accepted_of, accepted_after}
-use Rattle.tl_run.proofs.Names.{World, empty, Pipe, Beats, Bridge, Past, StandsFor, IsStanding, nothing_yet, joined, no_beats, IsShort, IsSent}
+use Rattle.tl_run.proofs.Names.{World, empty, Pipe, Beats, Bridge, Past, StandsFor, IsStanding, nothing_yet, no_beats, IsShort, IsSent}
 use Rattle.tl_run.proofs.Names.{AreStopped, IsNew, IsUnderWay, progress, under_way, counted, all_progress, all_under_way, standing_count}
-use Rattle.tl_run.proofs.Names.{all_standing, all_stopped, IsRunning, CanAdd, HaveRoomToCount, arriving, inboxes, lengths, IsAt, AllStop, HasRound}
+use Rattle.tl_run.proofs.Names.{all_standing, all_stopped, CanAdd, HaveRoomToCount, inboxes, lengths, IsAt, AllStop, HasRound}
 use Rattle.tl_run.proofs.Names.{HasEnded, Offered, Stop, PerChannel}
 use Rattle.tl_ring.specs.Pipe as piping
 use Rattle.tl_ring.specs.declared.standing.Standing.{Standing}
@@ -134,61 +134,6 @@ module _ {C M : ℕ} (near : Beats C M) where
       where
         counts : {k l m : ℕ} → k ≤ l → l ≤ m → k + 1 ≤ m + 1
         counts g l = omega arith
-
-  -- a run is under way after a round
-  pub under-way-after : (n m : PerChannel ℕ) (far' : Beats M C) (x : Past C M) (t : Bridge C M) (o : PerChannel Offered) → m ≡ counted n o →
-      HasRound near n far' x t o → IsUnderWay near m far' t
-  under-way-after n m far' x t o same h =
-      subst (λ k. IsUnderWay near k far' t) (sym same) (record { past = h.past; stands = h.stands; is_at = h.is_at })
-
-  -- ---- the same, where what was taken went elsewhere and was counted
-
-  module _ {F : Type 0} (Holds : F → Beats M C → Type 0) (n taken : PerChannel ℕ) (far : F) (s : Bridge C M) (r : IsRunning Holds near n taken far s) where
-    -- it comes no further than that
-    pub running-ends : IsWidth C → IsWidth M → progress_by n taken s ≤ run_end
-    running-ends cw mw = subst (λ t. progress_by n t s ≤ run_end) (sym r.counts) (progress-ends cw mw n r.all s r.under_way.past r.under_way.stands r.under_way.is_at)
-
-    -- a round that answered so
-    module _ (m taken' : PerChannel ℕ) (far' : F) (t : Bridge C M) (o : PerChannel Offered) (same : m ≡ counted n o)
-        (rounds : (x : Past C M) (all : Beats M C) → StandsFor s x → IsAt near n all x → HasRound near n (joined all (arriving x)) x t o)
-        (goes : (x : Past C M) (all : Beats M C) → StandsFor s x → Holds far all → Holds far' (joined all (arriving x)))
-        (counts : (x : Past C M) (all : Beats M C) → StandsFor s x → taken ≡ lengths all → taken' ≡ lengths (joined all (arriving x))) where
-      -- what was taken until then
-      abbrev pub all-taken : Beats M C
-      all-taken = joined r.all (arriving r.under_way.past)
-
-      pub round-is : HasRound near n all-taken r.under_way.past t o
-      round-is = rounds r.under_way.past r.all r.under_way.stands r.under_way.is_at
-
-      pub holds-all : Holds far' all-taken
-      holds-all = goes r.under_way.past r.all r.under_way.stands r.holds
-
-      pub counts-all : taken' ≡ lengths all-taken
-      counts-all = counts r.under_way.past r.all r.under_way.stands r.counts
-
-      -- where the run stands then
-      pub running-on : IsRunning Holds near m taken' far' t
-      running-on = record {
-        all = all-taken;
-        holds = holds-all;
-        counts = counts-all;
-        under_way = under-way-after n m all-taken r.under_way.past t o same round-is;
-      }
-
-      -- it is not the last one
-      pub running-further : (AreStopped o → all_under_way round-is.past ≡ 0 → ⊥) → progress_by n taken s + 1 ≤ progress_by m taken' t
-      running-further on =
-          subst (λ k. progress_by n k s + 1 ≤ progress_by m taken' t) (sym r.counts)
-          (subst (λ k. progress_here n r.all s + 1 ≤ progress_by m k t) (sym counts-all)
-          (subst (λ k. progress_here n r.all s + 1 ≤ progress_here k all-taken t) (sym same)
-          (further n r.all all-taken s t r.under_way.past o r.under_way.stands r.under_way.is_at round-is on)))
-
-      -- or it is
-      pub running-ended : (k : ℕ) → k ≤ progress_by n taken s → (stops : PerChannel Stop) → o ≡ all_stopped stops → all_under_way round-is.past ≡ 0 →
-          HasEnded near m all-taken t stops (k + 1)
-      running-ended k few stops stopped rest =
-          subst (λ q. HasEnded near q all-taken t stops (k + 1)) (sym same)
-          (ended n r.all all-taken s t r.under_way.past o r.under_way.stands r.under_way.is_at round-is k (subst (λ q. k ≤ progress_by n q s) r.counts few) stops stopped rest)
 
   -- ---- the first round
 

@@ -3,8 +3,8 @@ use Rattle.tl_run.proofs.Names.{◌≡◌, ◌≢◌, ◌+◌, ◌-◌, ◌++◌
 use Rattle.tl_run.proofs.Names.{subst, ◌∙◌, arith, Rules, rules_a, rules_b, rules_c, rules_d, rules_e, HeadA, HeadD, BeatOf, SideFault, fault_after}
 use Rattle.tl_run.proofs.Names.{none_past, World, pushed, Ask, Answer, client_answer, manager_answer, manager_home, round, client_rests}
 use Rattle.tl_run.proofs.Names.{manager_rests, Beats, PerChannel, Bridge, Past, StandsFor, stops_alone, IsPart, Does, IsSent, IsAt, steps, Going}
-use Rattle.tl_run.proofs.Names.{Passes, RestsIn, Stays, StepsOn, passed_on, passes_stays, refused_by, going_a, going_b, going_c, going_d, going_e}
-use Rattle.tl_run.proofs.Names.{Offering, OffersNext, on_bridge_a, on_bridge_b, on_bridge_c, on_bridge_d, on_bridge_e, Offered, Accepted, NotReady}
+use Rattle.tl_run.proofs.Names.{Passes, RestsAt, RestsIn, Stays, StepsOn, passed_on, passes_stays, refused_by}
+use Rattle.tl_run.proofs.Names.{Offering, OffersNext, Offered, Accepted, NotReady}
 use Rattle.tl_run.proofs.Names.{Stopped, Done, Cut, Refused}
 use Rattle.tl_msg.specs.declared.head.HeadB.{HeadB}
 use Rattle.tl_msg.specs.declared.head.HeadC.{HeadC}
@@ -92,8 +92,8 @@ module _ {H : Type 0} (r : Rules H) {w v : ℕ} (bs : List (BeatOf H w)) (n : �
       let after : IsSent r bs (n + steps o) y.taken y = sent-offer r bs n answer home x o accepted y before own does in
       sent-passed r bs (n + steps o) y.taken y (passed_on i j k y) after refl refl refl far (s.taken ∙ sym (does-taken r bs n answer home x y o accepted does))
 
-module _ {C M : ℕ} (near : Beats C M) (n : PerChannel ℕ) (far : Beats M C) (x : Past C M) (i : IsAt near n far x) (s : Bridge C M) (stands : StandsFor s x) (o : Offered) (i' j k : ℕ) where
-  ahead-a : (accepted : List (BeatOf HeadA C)) (y : World HeadA C M) → Does rules_a near.a n.a (client_answer x.client) (λ _. 0) x.a o accepted y →
+module _ {C M : ℕ} (i' j k : ℕ) (near : Beats C M) (n : PerChannel ℕ) (far : Beats M C) (x : Past C M) (i : IsAt near n far x) (s : Bridge C M) (stands : StandsFor s x) (o : Offered) where
+  pub ahead-a : (accepted : List (BeatOf HeadA C)) (y : World HeadA C M) → Does rules_a near.a n.a (client_answer x.client) (λ _. 0) x.a o accepted y →
       IsAt near (record n { a = n.a + steps o }) far (record x { client = x.client ++ map Ask accepted; a = passed_on i' j k y })
   ahead-a accepted y does = record {
     run = round n.a n.d (n.a + steps o) n.d x.client (x.client ++ map Ask accepted) x.manager x.manager i.run
@@ -110,7 +110,7 @@ module _ {C M : ℕ} (near : Beats C M) (n : PerChannel ℕ) (far : Beats M C) (
     e_homed = i.e_homed;
   }
 
-  ahead-b : (accepted : List (BeatOf HeadB M)) (y : World HeadB M C) → Does rules_b near.b n.b (stops_alone rules_b x.b.accepted) (λ _. 0) x.b o accepted y →
+  pub ahead-b : (accepted : List (BeatOf HeadB M)) (y : World HeadB M C) → Does rules_b near.b n.b (stops_alone rules_b x.b.accepted) (λ _. 0) x.b o accepted y →
       IsAt near (record n { b = n.b + steps o }) far (record x { b = passed_on i' j k y })
   ahead-b accepted y does = record {
     run = i.run;
@@ -126,7 +126,7 @@ module _ {C M : ℕ} (near : Beats C M) (n : PerChannel ℕ) (far : Beats M C) (
     e_homed = i.e_homed;
   }
 
-  ahead-c : (accepted : List (BeatOf HeadC C)) (y : World HeadC C M) → Does rules_c near.c n.c (stops_alone rules_c x.c.accepted) (λ _. 0) x.c o accepted y →
+  pub ahead-c : (accepted : List (BeatOf HeadC C)) (y : World HeadC C M) → Does rules_c near.c n.c (stops_alone rules_c x.c.accepted) (λ _. 0) x.c o accepted y →
       IsAt near (record n { c = n.c + steps o }) far (record x { c = passed_on i' j k y })
   ahead-c accepted y does = record {
     run = i.run;
@@ -142,7 +142,7 @@ module _ {C M : ℕ} (near : Beats C M) (n : PerChannel ℕ) (far : Beats M C) (
     e_homed = i.e_homed;
   }
 
-  ahead-d : (accepted : List (BeatOf HeadD M)) (y : World HeadD M C) → Does rules_d near.d n.d (manager_answer x.manager) (λ b. manager_home x.manager b.head) x.d o accepted y →
+  pub ahead-d : (accepted : List (BeatOf HeadD M)) (y : World HeadD M C) → Does rules_d near.d n.d (manager_answer x.manager) (λ b. manager_home x.manager b.head) x.d o accepted y →
       IsAt near (record n { d = n.d + steps o }) far (record x { manager = x.manager ++ map Answer accepted; d = passed_on i' j k y })
   ahead-d accepted y does = record {
     run = round n.a n.d n.a (n.d + steps o) x.client x.client x.manager (x.manager ++ map Answer accepted) i.run client_rests
@@ -159,7 +159,7 @@ module _ {C M : ℕ} (near : Beats C M) (n : PerChannel ℕ) (far : Beats M C) (
     e_homed = i.e_homed;
   }
 
-  ahead-e : (accepted : List (BeatOf HeadE C)) (y : World HeadE C M) → Does rules_e near.e n.e (stops_alone rules_e x.e.accepted) (λ _. 0) x.e o accepted y →
+  pub ahead-e : (accepted : List (BeatOf HeadE C)) (y : World HeadE C M) → Does rules_e near.e n.e (stops_alone rules_e x.e.accepted) (λ _. 0) x.e o accepted y →
       IsAt near (record n { e = n.e + steps o }) far (record x { e = passed_on i' j k y })
   ahead-e accepted y does = record {
     run = i.run;
@@ -177,86 +177,37 @@ module _ {C M : ℕ} (near : Beats C M) (n : PerChannel ℕ) (far : Beats M C) (
 
 -- ---- a beat that is held is offered, and its channel moves on
 
-module _ {C M : ℕ} {s t : Bridge C M} (u : Bridge C M) (i' j k gone at : ℕ) (from : gone ≤ at) (o : Offered) where
-  pub passes-a : (held : List (BeatOf HeadA C)) → at - gone < length held → OffersNext on_bridge_a held (at - gone) s o t →
-      ((y : Past C M) → StandsFor t y → StandsFor u (record y { a = passed_on i' j k y.a })) → Passes going_a gone held at s (at + steps o) u
-  passes-a held within offers passed x stands =
-      let h = offers.does x stands in
+-- on a channel of a bridge in one thread
+module _ {C M : ℕ} {H : Type 0} {w v : ℕ} (k : Going C M (BeatOf H w)) (q : Offering (Bridge C M) (Past C M) H w v)
+    (on : (s : Bridge C M) (x : Past C M) → (StandsFor s x → q.Stands s x) × (q.Stands s x → StandsFor s x))
+    (gone at : ℕ) (from : gone ≤ at) (held : List (BeatOf H w)) (within : at - gone < length held) (s t : Bridge C M) (o : Offered) (offers : OffersNext q held (at - gone) s o t) where
+  -- no beat was accepted
+  pub has-stayed : steps o ≡ 0 → StepsOn (Passes k) Stays (RestsAt q) gone held at s o t
+  has-stayed none =
+      let stays : Stays s t = λ x h. (on t x).1 (stays-next q held gone at from within s t o none offers x ((on s x).0 h)) in
       record {
-        past = record x { client = x.client ++ map Ask h.0; a = passed_on i' j k h.1 };
-        stands = passed (record x { client = x.client ++ map Ask h.0; a = h.1 }) h.2;
-        is_at = λ near n far part here i.
-            let does = subst (λ m. Does rules_a near.a m (client_answer x.client) (λ _. 0) x.a o h.0 h.1) (sym here)
-            (does-part rules_a (client_answer x.client) (λ _. 0) x.a gone at held near.a part from within o h.0 h.1 h.3) in
-            subst (λ m. IsAt near (record n { a = m + steps o }) far (record x { client = x.client ++ map Ask h.0; a = passed_on i' j k h.1 })) here
-            (ahead-a near n far x i s stands o i' j k h.0 h.1 does);
+        passes = subst (λ m. Passes k gone held at s m t) (none-more at ∙ ap (λ m. at + m) (sym none)) (passes_stays k gone held at s t stays);
+        stays = λ _. stays;
+        rests = λ _. rests-next q held gone at from within s t o none offers;
       }
 
-  pub passes-b : (held : List (BeatOf HeadB M)) → at - gone < length held → OffersNext on_bridge_b held (at - gone) s o t →
-      ((y : Past C M) → StandsFor t y → StandsFor u (record y { b = passed_on i' j k y.b })) → Passes going_b gone held at s (at + steps o) u
-  passes-b held within offers passed x stands =
-      let h = offers.does x stands in
-      record {
-        past = record x { b = passed_on i' j k h.1 };
-        stands = passed (record x { b = h.1 }) h.2;
-        is_at = λ near n far part here i.
-            let does = subst (λ m. Does rules_b near.b m (stops_alone rules_b x.b.accepted) (λ _. 0) x.b o h.0 h.1) (sym here)
-            (does-part rules_b (stops_alone rules_b x.b.accepted) (λ _. 0) x.b gone at held near.b part from within o h.0 h.1 h.3) in
-            subst (λ m. IsAt near (record n { b = m + steps o }) far (record x { b = passed_on i' j k h.1 })) here
-            (ahead-b near n far x i s stands o i' j k h.0 h.1 does);
-      }
-
-  pub passes-c : (held : List (BeatOf HeadC C)) → at - gone < length held → OffersNext on_bridge_c held (at - gone) s o t →
-      ((y : Past C M) → StandsFor t y → StandsFor u (record y { c = passed_on i' j k y.c })) → Passes going_c gone held at s (at + steps o) u
-  passes-c held within offers passed x stands =
-      let h = offers.does x stands in
-      record {
-        past = record x { c = passed_on i' j k h.1 };
-        stands = passed (record x { c = h.1 }) h.2;
-        is_at = λ near n far part here i.
-            let does = subst (λ m. Does rules_c near.c m (stops_alone rules_c x.c.accepted) (λ _. 0) x.c o h.0 h.1) (sym here)
-            (does-part rules_c (stops_alone rules_c x.c.accepted) (λ _. 0) x.c gone at held near.c part from within o h.0 h.1 h.3) in
-            subst (λ m. IsAt near (record n { c = m + steps o }) far (record x { c = passed_on i' j k h.1 })) here
-            (ahead-c near n far x i s stands o i' j k h.0 h.1 does);
-      }
-
-  pub passes-d : (held : List (BeatOf HeadD M)) → at - gone < length held → OffersNext on_bridge_d held (at - gone) s o t →
-      ((y : Past C M) → StandsFor t y → StandsFor u (record y { d = passed_on i' j k y.d })) → Passes going_d gone held at s (at + steps o) u
-  passes-d held within offers passed x stands =
-      let h = offers.does x stands in
-      record {
-        past = record x { manager = x.manager ++ map Answer h.0; d = passed_on i' j k h.1 };
-        stands = passed (record x { manager = x.manager ++ map Answer h.0; d = h.1 }) h.2;
-        is_at = λ near n far part here i.
-            let does = subst (λ m. Does rules_d near.d m (manager_answer x.manager) (λ b. manager_home x.manager b.head) x.d o h.0 h.1) (sym here)
-            (does-part rules_d (manager_answer x.manager) (λ b. manager_home x.manager b.head) x.d gone at held near.d part from within o h.0 h.1 h.3) in
-            subst (λ m. IsAt near (record n { d = m + steps o }) far (record x { manager = x.manager ++ map Answer h.0; d = passed_on i' j k h.1 })) here
-            (ahead-d near n far x i s stands o i' j k h.0 h.1 does);
-      }
-
-  pub passes-e : (held : List (BeatOf HeadE C)) → at - gone < length held → OffersNext on_bridge_e held (at - gone) s o t →
-      ((y : Past C M) → StandsFor t y → StandsFor u (record y { e = passed_on i' j k y.e })) → Passes going_e gone held at s (at + steps o) u
-  passes-e held within offers passed x stands =
-      let h = offers.does x stands in
-      record {
-        past = record x { e = passed_on i' j k h.1 };
-        stands = passed (record x { e = h.1 }) h.2;
-        is_at = λ near n far part here i.
-            let does = subst (λ m. Does rules_e near.e m (stops_alone rules_e x.e.accepted) (λ _. 0) x.e o h.0 h.1) (sym here)
-            (does-part rules_e (stops_alone rules_e x.e.accepted) (λ _. 0) x.e gone at held near.e part from within o h.0 h.1 h.3) in
-            subst (λ m. IsAt near (record n { e = m + steps o }) far (record x { e = passed_on i' j k h.1 })) here
-            (ahead-e near n far x i s stands o i' j k h.0 h.1 does);
-      }
-
-module _ {C M : ℕ} {B : Type 0} (k : Going C M B) {Rests : List B → ℕ → Bridge C M → Option SideFault → Type 0} {gone at : ℕ} {held : List B} {s t : Bridge C M} {o : Offered} where
-  -- a beat was accepted
-  pub has-passed : steps o ≢ 0 → Passes k gone held at s (at + steps o) t → StepsOn (Passes k) Stays Rests gone held at s o t
-  has-passed some passes = record { passes = passes; stays = λ none. absurd (some none); rests = λ none near part. absurd (some none) }
-
-  -- or none
-  pub has-stayed : steps o ≡ 0 → Stays s t → ((near : List B) → IsPart gone held near → Rests near at s (refused_by o)) → StepsOn (Passes k) Stays Rests gone held at s o t
-  has-stayed none stays rests = record {
-    passes = subst (λ m. Passes k gone held at s m t) (none-more at ∙ ap (λ m. at + m) (sym none)) (passes_stays k gone held at s t stays);
-    stays = λ _. stays;
-    rests = λ _. rests;
+  -- or one was, and beats moved on
+  pub has-passed : (i j l : ℕ) (u : Bridge C M) → steps o ≢ 0 → ((near : Beats C M) (n : PerChannel ℕ) (far : Beats M C) (x : Past C M) → IsAt near n far x → (s : Bridge C M) → StandsFor s x →
+      (o : Offered) (accepted : List (BeatOf H w)) (y : World H w v) → Does q.rules (k.list near) (k.count n) (q.answer x) (q.home x) (q.crossing x) o accepted y →
+      IsAt near (k.set (k.count n + steps o) n) far (q.put (passed_on i j l y) (q.note accepted x))) →
+      ((y : World H w v) (x : Past C M) → StandsFor t (q.put y x) → StandsFor u (q.put (passed_on i j l y) x)) → StepsOn (Passes k) Stays (RestsAt q) gone held at s o u
+  has-passed i j l u some ahead passed = record {
+    passes = λ x stands.
+        let h = offers.does x ((on s x).0 stands) in
+        let after = q.put (passed_on i j l h.1) (q.note h.0 x) in
+        record {
+          past = after;
+          stands = passed h.1 (q.note h.0 x) ((on t (q.put h.1 (q.note h.0 x))).1 h.2);
+          is_at = λ near n far part here is.
+              let does = subst (λ m. Does q.rules (k.list near) m (q.answer x) (q.home x) (q.crossing x) o h.0 h.1) (sym here)
+              (does-part q.rules (q.answer x) (q.home x) (q.crossing x) gone at held (k.list near) part from within o h.0 h.1 h.3) in
+              subst (λ m. IsAt near (k.set (m + steps o) n) far after) here (ahead near n far x is s stands o h.0 h.1 does);
+        };
+    stays = λ none. absurd (some none);
+    rests = λ none near part. absurd (some none);
   }

@@ -1,6 +1,8 @@
 -- What has room for all that a script can make due has room for what stands in the inboxes of its run.
-use Rattle.tl_run.proofs.Names.{◌+◌, ◌++◌, ◌≤◌, ℕ, List, length, length-append, sym, subst, IsWidth, rules_a, rules_b, rules_c, rules_d, rules_e}
-use Rattle.tl_run.proofs.Names.{Beats, Bridge, Past, StandsFor, PerChannel, Fit, joined, HaveRoom, IsAt, inboxes}
+use Rattle.tl_run.proofs.Names.{◌+◌, ◌++◌, ◌≤◌, ℕ, List, length, length-append, sym, subst, arith, vec_capacity, IsWidth, rules_a, rules_b, rules_c, rules_d, rules_e}
+use Rattle.tl_run.proofs.Names.{Beats, Bridge, Past, StandsFor, PerChannel, Fit, joined, HaveRoom, IsUnderWay, IsAt, beats_of, inboxes}
+use Rattle.tl_run.specs.Inner.Arriving.{HasRoomFor, HaveCapacity}
+use Rattle.tl_run.specs.declared.taken.Taken.{Taken}
 use Rattle.tl_run.proofs.ChannelEnd.{room-for}
 use Rattle.tl_run.proofs.Round.{inboxes-are}
 
@@ -17,3 +19,28 @@ inboxes-fit cw mw near n far s x stands i room has =
       d = fits far.d x.d.inbox (room-for rules_d mw cw near.d n.d far.d x.d i.d_sent stands.d.crosses room.d has.in_d);
       e = fits far.e x.e.inbox (room-for rules_e cw mw near.e n.e far.e x.e i.e_sent stands.e.crosses room.e has.in_e);
     })
+
+-- how many places the lists of a run have
+abbrev pub places : {C M : ℕ} → Taken C M → PerChannel ℕ
+places t = record { a = vec_capacity t.a; b = vec_capacity t.b; c = vec_capacity t.c; d = vec_capacity t.d; e = vec_capacity t.e }
+
+-- they have them
+pub has-places : {C M : ℕ} (t : Taken C M) → HaveCapacity t (places t)
+has-places t = record { a = omega arith; b = omega arith; c = omega arith; d = omega arith; e = omega arith }
+
+-- which are enough for what stands in the inboxes, and stay enough where there are more
+pub lists-fit : {C M : ℕ} → IsWidth C → IsWidth M → (near : Beats C M) (n : PerChannel ℕ) (far : Taken C M) (s : Bridge C M) → IsUnderWay near n (beats_of far) s → HasRoomFor near far →
+    Fit (joined (beats_of far) (inboxes s)) (places far)
+lists-fit cw mw near n far s u has = inboxes-fit cw mw near n (beats_of far) s u.past u.stands u.is_at (places far) has
+
+pub more-room : {C M : ℕ} (near : Beats C M) (old new : Taken C M) → HasRoomFor near old → HaveCapacity new (places old) → HasRoomFor near new
+more-room near old new has more = record {
+  in_a = λ homes. enough (has.in_a homes) more.a;
+  in_b = λ homes. enough (has.in_b homes) more.b;
+  in_c = λ homes. enough (has.in_c homes) more.c;
+  in_d = λ homes. enough (has.in_d homes) more.d;
+  in_e = λ homes. enough (has.in_e homes) more.e;
+}
+  where
+    enough : {k l m : ℕ} → k ≤ l → l ≤ m → k ≤ m
+    enough f g = omega arith

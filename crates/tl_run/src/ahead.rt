@@ -16,6 +16,25 @@ use tl_msg::{BeatOf, HeadA, HeadB, HeadC, HeadD, HeadE, SideFault};
 use tl_sides::{PerChannel, SyncBridge};
 use tl_trace::{Counts, Script};
 
+// The next beat of a list of which `$gone` have gone, `$held` are held and `$at` were accepted is offered,
+// and what it gives moves into the ring, by the calls of its channel. (No generic function, as in
+// `next_offer!`.)
+macro_rules! next_step {
+    ($bridge:ident, $held:ident, $gone:ident, $at:ident, $pump:ident, $ready:ident, $fetch:ident) => {{
+        let offered = $bridge.offer_next($held, $at - $gone);
+        if !offered.is_accepted() {
+            return offered;
+        }
+        $bridge.$pump();
+        if $bridge.$ready() {
+            return offered;
+        }
+        $bridge.$fetch();
+        $bridge.$pump();
+        offered
+    }};
+}
+
 /// What offers beats `B` on one of its channels, and moves into its ring at once what they give.
 trait GoesOn<B> {
     // whether it may offer
@@ -88,17 +107,7 @@ impl<const C: usize, const M: usize> GoesOn<BeatOf<HeadA, C>> for SyncBridge<C, 
     ghost Rests = { RestsAt on_bridge_a };
 
     fn go_on(&mut self, held: &[BeatOf<HeadA, C>], gone: usize, at: usize) -> Offered {
-        let offered = self.offer_next(held, at - gone);
-        if !offered.is_accepted() {
-            return offered;
-        }
-        self.pump_a();
-        if self.ready_a() {
-            return offered;
-        }
-        self.fetch_a();
-        self.pump_a();
-        offered
+        next_step!(self, held, gone, at, pump_a, ready_a, fetch_a)
     }
 
     ghost passes_none = { none_passes going_a };
@@ -120,17 +129,7 @@ impl<const C: usize, const M: usize> GoesOn<BeatOf<HeadB, M>> for SyncBridge<C, 
     ghost Rests = { RestsAt on_bridge_b };
 
     fn go_on(&mut self, held: &[BeatOf<HeadB, M>], gone: usize, at: usize) -> Offered {
-        let offered = self.offer_next(held, at - gone);
-        if !offered.is_accepted() {
-            return offered;
-        }
-        self.pump_b();
-        if self.ready_b() {
-            return offered;
-        }
-        self.fetch_b();
-        self.pump_b();
-        offered
+        next_step!(self, held, gone, at, pump_b, ready_b, fetch_b)
     }
 
     ghost passes_none = { none_passes going_b };
@@ -152,17 +151,7 @@ impl<const C: usize, const M: usize> GoesOn<BeatOf<HeadC, C>> for SyncBridge<C, 
     ghost Rests = { RestsAt on_bridge_c };
 
     fn go_on(&mut self, held: &[BeatOf<HeadC, C>], gone: usize, at: usize) -> Offered {
-        let offered = self.offer_next(held, at - gone);
-        if !offered.is_accepted() {
-            return offered;
-        }
-        self.pump_c();
-        if self.ready_c() {
-            return offered;
-        }
-        self.fetch_c();
-        self.pump_c();
-        offered
+        next_step!(self, held, gone, at, pump_c, ready_c, fetch_c)
     }
 
     ghost passes_none = { none_passes going_c };
@@ -184,17 +173,7 @@ impl<const C: usize, const M: usize> GoesOn<BeatOf<HeadD, M>> for SyncBridge<C, 
     ghost Rests = { RestsAt on_bridge_d };
 
     fn go_on(&mut self, held: &[BeatOf<HeadD, M>], gone: usize, at: usize) -> Offered {
-        let offered = self.offer_next(held, at - gone);
-        if !offered.is_accepted() {
-            return offered;
-        }
-        self.pump_d();
-        if self.ready_d() {
-            return offered;
-        }
-        self.fetch_d();
-        self.pump_d();
-        offered
+        next_step!(self, held, gone, at, pump_d, ready_d, fetch_d)
     }
 
     ghost passes_none = { none_passes going_d };
@@ -216,17 +195,7 @@ impl<const C: usize, const M: usize> GoesOn<BeatOf<HeadE, C>> for SyncBridge<C, 
     ghost Rests = { RestsAt on_bridge_e };
 
     fn go_on(&mut self, held: &[BeatOf<HeadE, C>], gone: usize, at: usize) -> Offered {
-        let offered = self.offer_next(held, at - gone);
-        if !offered.is_accepted() {
-            return offered;
-        }
-        self.pump_e();
-        if self.ready_e() {
-            return offered;
-        }
-        self.fetch_e();
-        self.pump_e();
-        offered
+        next_step!(self, held, gone, at, pump_e, ready_e, fetch_e)
     }
 
     ghost passes_none = { none_passes going_e };

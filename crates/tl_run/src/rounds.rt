@@ -1,22 +1,19 @@
 //! The rounds of a run in one thread, and how each channel ends.
-ghost use Rattle.std.specs.Prelude.{◌≡◌, ◌↔◌, ℕ, IsTrue, IfSome, IsNone, IsOk, IfOk, IfErr, OnOk};
+ghost use Rattle.std.specs.Prelude.{◌≡◌, ◌↔◌, ℕ, IsTrue, IfSome, IsNone, IfOk, IfErr};
 ghost use Rattle.tl_lanes.specs.Lanes.{IsWidth};
-ghost use Rattle.tl_settle.specs.Outcomes.{Beats, far_beats, verdicts};
+ghost use Rattle.tl_settle.specs.Outcomes.{Beats, verdicts};
 ghost use Rattle.tl_sides.specs.Bridges.{Bridge, Past, StandsFor};
 ghost use Rattle.tl_run.specs.declared.outcome.RunFault.TheVariants.{OutOfMemory};
-ghost use Rattle.tl_run.specs.Arrivals.{joined, no_beats};
+ghost use Rattle.tl_run.specs.Arrivals.{no_beats};
 ghost use Rattle.tl_run.specs.Scripts.{EndsIn, HasEnding, HasShortLists, near_beats};
 ghost use Rattle.tl_run.specs.Inner.Widths.{AreWidths};
-ghost use Rattle.tl_run.specs.Inner.Arriving.{HaveRoom, beats_of};
-ghost use Rattle.tl_sides.specs.declared.per_channel.PerChannel.{PerChannel as PerChannelOf};
-ghost use Rattle.tl_run.specs.Inner.Running.{IsAt, arriving, lengths, IsRunning, IsNew, HasRound, HasEnded, AreStopped, HasOffered, HaveRoomToCount, counted, standing_count, all_standing, all_under_way, all_stopped};
+ghost use Rattle.tl_run.specs.Inner.Arriving.{HasRoomFor, beats_of};
+ghost use Rattle.tl_run.specs.Inner.Running.{IsAt, lengths, IsNew, IsUnderWay, HasRound, HasEnded, AreStopped, HasOffered, HaveRoomToCount, counted, standing_count, all_standing, all_under_way, all_stopped};
 
 use crate::channel_state::{Offered, Stop, add_accepted, all_stops};
-use crate::far_sink::FarSink;
 use crate::offers::Offers;
 use crate::outcome::{Ending, Outcome, RunFault, verdict};
 use crate::taken::{Taken, take_from_each};
-use std::alloc::AllocError;
 use tl_msg::Verdict;
 use tl_ring::Standing;
 use tl_sides::{PerChannel, Standings, SyncBridge};
@@ -72,38 +69,33 @@ fn offer_on_each<const C: usize, const M: usize>(
     offers
 }
 
-// One round: both sides take all that stands in their inboxes, which goes to `far` and is counted by
-// `taken`, then each offers the next beat of each of its channels, and then what is staged and what
+// One round: both sides take all that stands in their inboxes, which goes behind the far beats of the
+// lists, then each offers the next beat of each of its channels, and then what is staged and what
 // stands in the rings moves on, as far as there is room.
-fn round<F: FarSink<C, M>, const C: usize, const M: usize>(
+fn round<const C: usize, const M: usize>(
     bridge: &mut SyncBridge<C, M>,
     script: &Script<C, M>,
     at: &mut PerChannel<usize>,
-    taken: &mut PerChannel<usize>,
-    far: &mut F,
-) -> Result<PerChannel<Offered>, AllocError>
+    far: &mut Taken<C, M>,
+) -> PerChannel<Offered>
     requires { AreWidths C M × HasShortLists script.now ×
-        IsRunning F.Holds (near_beats script.now) at.old taken.old far.old bridge.old }
-    ensures round { (x : Past C M) (all : Beats M C) → StandsFor bridge.old x →
-        IsAt (near_beats script.now) at.old all x → IfOk result (λ offers.
-        HasRound (near_beats script.now) at.old (joined all (arriving x)) x bridge.new offers) }
-    ensures far { (x : Past C M) (all : Beats M C) → StandsFor bridge.old x →
-        F.Holds far.old all → OnOk result (F.Holds far.new (joined all (arriving x))) }
-    ensures room { (x : Past C M) (all : Beats M C) (room : PerChannelOf ℕ) →
-        StandsFor bridge.old x → IsAt (near_beats script.now) at.old all x →
-        F.Holds far.old all → HaveRoom (near_beats script.now) room →
-        F.HasRoom far.old room → IsOk result × F.HasRoom far.new room }
-    ensures same { OnOk result (F.made_with far.new ≡ F.made_with far.old) }
-    ensures counted { IfOk result (λ offers. at.new ≡ counted at.old offers) }
-    ensures taken { (x : Past C M) (all : Beats M C) → StandsFor bridge.old x →
-        taken.old ≡ lengths all →
-        OnOk result (taken.new ≡ lengths (joined all (arriving x))) }
+        HasRoomFor (near_beats script.now) far.old ×
+        IsUnderWay (near_beats script.now) at.old (beats_of far.old) bridge.old }
+    ensures round { (x : Past C M) → StandsFor bridge.old x →
+        IsAt (near_beats script.now) at.old (beats_of far.old) x →
+        HasRound (near_beats script.now) at.old (beats_of far.new) x bridge.new result }
+    ensures counted { at.new ≡ counted at.old result }
+    ensures room { HasRoomFor (near_beats script.now) far.new }
 {
-    take_from_each(bridge, far, taken)?;
+    match take_from_each(bridge, far) {
+        Ok(_) => {}
+        // the lists have room for all that comes
+        Err(_) => unreachable!(),
+    }
     let offers = offer_on_each(bridge, script, at);
     bridge.pump();
     bridge.fetch();
-    Ok(offers)
+    offers
 }
 
 // Why each channel offers no more after a round, where nothing is under way. None where there is
@@ -163,20 +155,16 @@ fn ending_of(
 }
 
 // Rounds, up to the first one in which no channel could offer more, and after which nothing is
-// under way.
-pub(crate) fn run_rounds<F: FarSink<C, M>, const C: usize, const M: usize>(
+// under way. The far beats go into lists that have room for all of them.
+pub(crate) fn run_rounds<const C: usize, const M: usize>(
     bridge: &mut SyncBridge<C, M>,
     script: &Script<C, M>,
-    far: &mut F,
-) -> Result<Ending, RunFault>
+    far: &mut Taken<C, M>,
+) -> End
     requires { AreWidths C M × HasShortLists script.now × IsNew bridge.old ×
-        F.Holds far.old no_beats }
-    ensures ending { IfOk result (HasEnding (near_beats script.now)) }
-    ensures far { OnOk result (F.Holds far.new (far_beats (near_beats script.now))) }
-    ensures same { OnOk result (F.made_with far.new ≡ F.made_with far.old) }
-    ensures room { (room : PerChannelOf ℕ) → HaveRoom (near_beats script.now) room →
-        F.HasRoom far.old room → IsOk result }
-    ensures memory { IfErr result (λ fault. fault ≡ OutOfMemory) }
+        (beats_of far.old ≡ no_beats) × HasRoomFor (near_beats script.now) far.old }
+    ensures { HasEnded (near_beats script.now) result.at (beats_of far.new) bridge.new
+        result.stops result.rounds }
 {
     let mut at = PerChannel {
         a: 0,
@@ -185,15 +173,33 @@ pub(crate) fn run_rounds<F: FarSink<C, M>, const C: usize, const M: usize>(
         d: 0,
         e: 0,
     };
-    let mut taken = at;
     let mut rounds = 0;
     'rounds: loop {
-        let offers = round(bridge, script, &mut at, &mut taken, far)?;
+        let offers = round(bridge, script, &mut at, far);
         rounds += 1;
         if let Some(stops) = stops_at_rest(bridge, &offers) {
-            return Ok(ending_of(&at, &stops, rounds, &taken));
+            return End { at, stops, rounds };
         }
     }
+}
+
+// The outcome of a run that has ended there, by the far beats that it took.
+pub(crate) fn outcome_at<const C: usize, const M: usize>(
+    end: End,
+    far: Taken<C, M>,
+) -> Outcome<C, M>
+    requires { AreWidths C M }
+    ensures { (near : Beats C M) (s : Bridge C M) →
+        HasEnded near end.at (beats_of far.entry) s end.stops end.rounds → EndsIn near result }
+{
+    let taken = PerChannel {
+        a: far.a.len(),
+        b: far.b.len(),
+        c: far.c.len(),
+        d: far.d.len(),
+        e: far.e.len(),
+    };
+    far.into_outcome(ending_of(&end.at, &end.stops, end.rounds, &taken))
 }
 
 /// The outcome of a run by the far beats that it took: where it has ended, these, the verdict of each
@@ -209,16 +215,8 @@ pub fn outcome_of<const C: usize, const M: usize>(
     ensures memory { IfErr ended (λ fault. fault ≡ OutOfMemory) →
         IfErr result (λ fault. fault ≡ OutOfMemory) }
 {
-    let end = match ended {
-        Ok(end) => end,
-        Err(fault) => return Err(fault),
-    };
-    let taken = PerChannel {
-        a: far.a.len(),
-        b: far.b.len(),
-        c: far.c.len(),
-        d: far.d.len(),
-        e: far.e.len(),
-    };
-    Ok(far.into_outcome(ending_of(&end.at, &end.stops, end.rounds, &taken)))
+    match ended {
+        Ok(end) => Ok(outcome_at(end, far)),
+        Err(fault) => Err(fault),
+    }
 }

@@ -17,7 +17,7 @@ use crate::channel_state::Stop;
 use crate::far_sink::FarSink;
 use crate::leaving::let_leave;
 use crate::rounds::{are_empty, verdicts_at};
-use crate::taken::take_from_each;
+use crate::taken::{add_counts, take_from_each};
 use std::alloc::AllocError;
 use tl_msg::{SideFault, Verdict};
 use tl_ring::EndFault;
@@ -67,7 +67,8 @@ fn move_on<F: FarSink<C, M>, const C: usize, const M: usize>(
     ensures same { OnOk result (F.made_with far.new ≡ F.made_with far.old) }
 {
     bridge.fetch();
-    take_from_each(bridge, far, taken)?;
+    let more = take_from_each(bridge, far)?;
+    add_counts(taken, &more);
     bridge.pump();
     Ok(())
 }

@@ -1,16 +1,17 @@
 //! The run of a whole script in one thread.
-ghost use Rattle.std.specs.Prelude.{◌≡◌, ◌≢◌, ◌≤◌, ◌<◌, ◌⊎◌, ◌↔◌, IsOk, IfOk, IfErr, OnOk};
+ghost use Rattle.std.specs.Prelude.{◌≡◌, ◌≢◌, ◌≤◌, ◌<◌, ◌⊎◌, ◌↔◌, IsOk, IfOk, IfErr};
 ghost use Rattle.tl_ring.specs.declared.pipe.TheConstants.{MAX_RING};
 ghost use Rattle.tl_lanes.specs.Lanes.{IsWidth};
 ghost use Rattle.tl_run.specs.declared.outcome.RunFault.TheVariants.{RingSize, OutOfMemory, Stalled};
-ghost use Rattle.tl_settle.specs.Outcomes.{far_beats};
+ghost use Rattle.tl_sides.specs.Bridges.{Bridge};
 ghost use Rattle.tl_run.specs.Arrivals.{no_beats};
-ghost use Rattle.tl_run.specs.Scripts.{HasEnding, HasShortLists, SettlesTo, near_beats};
+ghost use Rattle.tl_run.specs.Scripts.{HasShortLists, SettlesTo, near_beats};
 ghost use Rattle.tl_run.specs.Inner.Arriving.{HasRoomFor, beats_of};
+ghost use Rattle.tl_run.specs.Inner.Running.{HasEnded};
 ghost use Rattle.tl_run.specs.Inner.Widths.{AreWidths};
 
-use crate::outcome::{Ending, Outcome, RunFault};
-use crate::rounds::run_rounds;
+use crate::outcome::{Outcome, RunFault};
+use crate::rounds::{End, outcome_at, run_rounds};
 use crate::taken::Taken;
 use std::alloc::Global;
 use tl_ring::MAX_RING;
@@ -53,7 +54,7 @@ pub fn run_sync<const C: usize, const M: usize>(
         return Err(RunFault::OutOfMemory);
     };
     match run_into_lists(alloc, script, ring, &mut far) {
-        Ok(ending) => Ok(far.into_outcome(ending)),
+        Ok(end) => Ok(outcome_at(end, far)),
         Err(fault) => Err(fault),
     }
 }
@@ -65,11 +66,11 @@ fn run_into_lists<const C: usize, const M: usize>(
     script: &Script<C, M>,
     ring: usize,
     far: &mut Taken<C, M>,
-) -> Result<Ending, RunFault>
+) -> Result<End, RunFault>
     requires { AreWidths C M × HasShortLists script.now × (beats_of far.old ≡ no_beats) ×
         HasRoomFor (near_beats script.now) far.old }
-    ensures ending { IfOk result (HasEnding (near_beats script.now)) }
-    ensures far { OnOk result (beats_of far.new ≡ far_beats (near_beats script.now)) }
+    ensures ended { IfOk result (λ end. (s : Bridge C M) ×
+        HasEnded (near_beats script.now) end.at (beats_of far.new) s end.stops end.rounds) }
     ensures size { IsOk result → (1 ≤ ring) × (ring ≤ MAX_RING) }
     ensures ring_size { IfErr result (λ fault. (fault ≡ RingSize) ↔
         ((ring ≡ 0) ⊎ (MAX_RING < ring))) }
@@ -79,9 +80,5 @@ fn run_into_lists<const C: usize, const M: usize>(
         Ok(bridge) => bridge,
         Err(fault) => return Err(RunFault::from(fault)),
     };
-    match run_rounds(&mut bridge, script, far) {
-        Ok(ending) => Ok(ending),
-        // the lists have room for all that comes
-        Err(_) => unreachable!(),
-    }
+    Ok(run_rounds(&mut bridge, script, far))
 }

@@ -67,6 +67,7 @@ fn far_rooms<const C: usize, const M: usize>(script: &Script<C, M>) -> PerChanne
 impl<const C: usize, const M: usize> Taken<C, M> {
     /// Empty lists, with room for all far beats that a script can make due. Refused where there is no
     /// memory for them. Each list of the script has at most `2^40` beats.
+    #[inline(never)]
     pub fn new(alloc: Global, script: &Script<C, M>) -> Result<Self, AllocError>
         requires { AreWidths C M × HasShortLists script.now }
         ensures empty { IfOk result (λ far. beats_of far ≡ no_beats) }
@@ -84,6 +85,7 @@ impl<const C: usize, const M: usize> Taken<C, M> {
     }
 
     // Makes room for so many beats more of each channel.
+    #[inline(never)]
     fn reserve(&mut self, room: &PerChannel<usize>) -> Result<(), AllocError>
         requires { AreWidths C M }
         ensures beats { OnOk result (beats_of self.new ≡ beats_of self.old) }
@@ -162,7 +164,7 @@ impl<const C: usize, const M: usize> FarSink<C, M> for Taken<C, M> {
 
 // So many beats of each channel are counted. (A count stops at the largest number, which no run comes
 // to: that need not be known here.)
-fn add_counts(counts: &mut PerChannel<usize>, more: &PerChannel<usize>)
+pub(crate) fn add_counts(counts: &mut PerChannel<usize>, more: &PerChannel<usize>)
     ensures { CanAdd counts.old more.now → counts.new ≡ added counts.old more.now }
 {
     counts.a = counts.a.saturating_add(more.a);
@@ -172,13 +174,12 @@ fn add_counts(counts: &mut PerChannel<usize>, more: &PerChannel<usize>)
     counts.e = counts.e.saturating_add(more.e);
 }
 
-// Each side takes all that stands in its inboxes, which goes to `far`. `taken` counts it. (A refusal
-// of `far` ends the run: what the sides have taken then is lost.)
+// Each side takes all that stands in its inboxes, which goes to `far`: how many beats of each channel
+// that is.
 pub(crate) fn take_from_each<F: FarSink<C, M>, const C: usize, const M: usize>(
     bridge: &mut SyncBridge<C, M>,
     far: &mut F,
-    taken: &mut PerChannel<usize>,
-) -> Result<(), AllocError>
+) -> Result<PerChannel<usize>, AllocError>
     requires { AreWidths C M }
     ensures taken { (x : Past C M) → StandsFor bridge.old x →
         OnOk result (StandsFor bridge.new (after_take_all x)) }
@@ -188,15 +189,14 @@ pub(crate) fn take_from_each<F: FarSink<C, M>, const C: usize, const M: usize>(
         F.HasRoom far.old room → Fit (joined all (inboxes bridge.old)) room →
         IsOk result × F.HasRoom far.new room }
     ensures same { OnOk result (F.made_with far.new ≡ F.made_with far.old) }
-    ensures counted { CanAdd taken.old (lengths (inboxes bridge.old)) →
-        OnOk result (taken.new ≡ added taken.old (lengths (inboxes bridge.old))) }
+    ensures counted { IfOk result (λ more. more ≡ lengths (inboxes bridge.old)) }
 {
     let a = bridge.inbox_a();
     let b = bridge.inbox_b();
     let c = bridge.inbox_c();
     let d = bridge.inbox_d();
     let e = bridge.inbox_e();
-    let kept = far.take(a, b, c, d, e);
+    far.take(a, b, c, d, e)?;
     let more = PerChannel {
         a: a.len(),
         b: b.len(),
@@ -204,7 +204,6 @@ pub(crate) fn take_from_each<F: FarSink<C, M>, const C: usize, const M: usize>(
         d: d.len(),
         e: e.len(),
     };
-    add_counts(taken, &more);
     bridge.take_all();
-    kept
+    Ok(more)
 }

@@ -133,6 +133,7 @@ fn manager_over<const C: usize, const M: usize, A: Allocator>(
 /// the tables of both sides, of 64 KiB and 1 MiB: the only memory that is taken. Refused with
 /// `RingSize` exactly where `ring` is 0 or above 4,096, and else with `OutOfMemory` where the
 /// allocator has no memory for a ring or for a table.
+#[inline(never)]
 pub fn bridge<const C: usize, const M: usize, A: Allocator + Copy>(
     alloc: A,
     ring: usize,

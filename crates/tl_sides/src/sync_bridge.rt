@@ -154,6 +154,7 @@ impl<const C: usize, const M: usize, A: Allocator + Copy> SyncBridge<C, M, A> {
     /// KiB and 1 MiB: the only memory that it takes. Refused with `RingSize` exactly where `ring`
     /// is 0 or above 4,096, and else with `OutOfMemory` where the allocator has no memory for a
     /// ring or for a table.
+    #[inline(never)]
     pub fn new(alloc: A, ring: usize) -> Result<Self, BuildFault>
         requires client { IsWidth C }
         requires manager { IsWidth M }

@@ -1,7 +1,8 @@
 -- What each side of a run does within a round, and what both have come to at a meeting. Only contracts of private functions cite these words.
-use Rattle.std.specs.Prelude.{◌≡◌, ◌≢◌, ◌+◌, ◌≤◌, ◌⊎◌, ◌++◌, ℕ, Bool, true, List, [], length, map, vec_len, vec_capacity}
+use Rattle.std.proofs.Common.{◌≡◌, ◌≢◌, ◌+◌, ◌≤◌, ◌⊎◌, ◌++◌, ◌∙◌, ℕ, true, List, [], length, map, vec_len, vec_capacity}
 use mathlib.Core.List.{IsPrefix}
-use Rattle.tl_bridge.specs.Words.{rules_a, rules_b, rules_c, rules_d, rules_e, HeadA, HeadB, HeadC, HeadD, HeadE, BeatOf, Sending, Taking, seen_by, sent, received, known_free, known_items, room, Pipe, Event, Ask, Answer, asked, answered, client_answer, manager_answer, manager_home, ClientMoves, ManagerMoves, far_a, far_d, Beats, PerChannel, stops_alone, Bridge, Past, ClientState, ManagerState, ClientPast, ManagerPast, ClientStandsFor, ManagerStandsFor, AreSides, SameClient, SameManager, SidesMeet, new_client, new_manager, client_takes_b, client_takes_d, manager_takes_a, manager_takes_c, manager_takes_e, Does, Stops, IsSent, IsHomed, IsAt, AllStop, AreStopped, IsStopped, HaveRoomToCount, all_standing, all_under_way, steps, Offered, NotReady}
+use Rattle.tl_bridge.specs.Words.{rules_a, rules_b, rules_c, rules_d, rules_e, HeadA, HeadB, HeadC, HeadD, HeadE, BeatOf, Sending, Taking, seen_by, sent, received, known_free, known_items, room, Pipe, Event, Ask, Answer, asked, answered, client_answer, manager_answer, manager_home, ClientMoves, ManagerMoves, far_a, far_d, Beats, PerChannel, stops_alone, Bridge, Past, ClientState, ManagerState, ClientPast, ManagerPast, ClientStandsFor, ManagerStandsFor, AreSides, SameClient, SameManager, SidesMeet, new_client, new_manager, Does, Stops, IsSent, IsHomed, IsAt, AllStop, AreStopped, IsStopped, HaveRoomToCount, all_standing, all_under_way, steps, Offered, NotReady}
+use Rattle.tl_sides.proofs.SameSides.{same_client_then, same_manager_then}
 pub use Rattle.tl_run.specs.Inner.Offering.{SameClientEnds, SameManagerEnds}
 use Rattle.tl_bridge.specs.declared.client_turns.ClientRun.{ClientRun}
 use Rattle.tl_bridge.specs.declared.manager_turns.ManagerRun.{ManagerRun}
@@ -16,14 +17,6 @@ none_ready = record { a = NotReady; b = NotReady; c = NotReady; d = NotReady; e 
 abbrev pub all_steps : PerChannel Offered → ℕ
 all_steps o = steps o.a + steps o.b + steps o.c + steps o.d + steps o.e
 
--- ---- what no call but a pump and a fetch changes
-
--- the same side has come as far as before at least, and further where something moved
-pub record Goes {S : Type 0} (Same : S → S → Type 0) (progress : PerChannel ℕ → S → ℕ) (n : PerChannel ℕ) (s : S) (n' : PerChannel ℕ) (s' : S) (moved : Bool) : Type 0 where
-  pub same : Same s s'
-  pub keeps : progress n s ≤ progress n' s'
-  pub goes : moved ≡ true → progress n s + 1 ≤ progress n' s'
-
 module _ {A : Type 0} {C M : ℕ} where
   -- how far a side has come: the beats that it accepted, those that it sent, and those that it received
   abbrev pub client_progress : PerChannel ℕ → ClientState A C M → ℕ
@@ -31,12 +24,6 @@ module _ {A : Type 0} {C M : ℕ} where
 
   abbrev pub manager_progress : PerChannel ℕ → ManagerState A C M → ℕ
   manager_progress n t = n.b + n.d + length (sent t.b) + length (sent t.d) + length (received t.a) + length (received t.c) + length (received t.e)
-
-  abbrev pub ClientGoes : PerChannel ℕ → ClientState A C M → PerChannel ℕ → ClientState A C M → Bool → Type 0
-  ClientGoes = Goes SameClient client_progress
-
-  abbrev pub ManagerGoes : PerChannel ℕ → ManagerState A C M → PerChannel ℕ → ManagerState A C M → Bool → Type 0
-  ManagerGoes = Goes SameManager manager_progress
 
 -- ---- offers
 
@@ -102,29 +89,6 @@ module _ {A : Type 0} {C M : ℕ} (near : Beats C M) where
     pub stop_b : Stops rules_b near.b n.b (stops_alone rules_b past.b.accepted) past.b.accepted o.b
     pub stop_d : Stops rules_d near.d n.d (manager_answer past.history) past.d.accepted o.d
 
--- ---- takes
-
-module _ {C M : ℕ} where
-  -- a side has taken all that stood in its inboxes, into its lists
-  pub record ClientHasTaken (x x' : ClientRun C M) : Type 0 where
-    pub taken : (p : ClientPast C M) → ClientStandsFor x.side p → ClientStandsFor x'.side (client_takes_d x.side.d.inbox (client_takes_b x.side.b.inbox p))
-    pub far_b : x'.far_b.items ≡ x.far_b.items ++ x.side.b.inbox
-    pub far_d : x'.far_d.items ≡ x.far_d.items ++ x.side.d.inbox
-    pub capacity_b : vec_capacity x'.far_b ≡ vec_capacity x.far_b
-    pub capacity_d : vec_capacity x'.far_d ≡ vec_capacity x.far_d
-    pub ends : SameClientEnds x.side x'.side
-
-  pub record ManagerHasTaken (y y' : ManagerRun C M) : Type 0 where
-    pub taken : (q : ManagerPast C M) → ManagerStandsFor y.side q →
-        ManagerStandsFor y'.side (manager_takes_e y.side.e.inbox (manager_takes_c y.side.c.inbox (manager_takes_a y.side.a.inbox q)))
-    pub far_a : y'.far_a.items ≡ y.far_a.items ++ y.side.a.inbox
-    pub far_c : y'.far_c.items ≡ y.far_c.items ++ y.side.c.inbox
-    pub far_e : y'.far_e.items ≡ y.far_e.items ++ y.side.e.inbox
-    pub capacity_a : vec_capacity y'.far_a ≡ vec_capacity y.far_a
-    pub capacity_c : vec_capacity y'.far_c ≡ vec_capacity y.far_c
-    pub capacity_e : vec_capacity y'.far_e ≡ vec_capacity y.far_e
-    pub ends : SameManagerEnds y.side y'.side
-
 -- ---- a side rests
 
 module _ {K A H : Type 0} {v : ℕ} where
@@ -156,59 +120,92 @@ module _ {A : Type 0} {C M : ℕ} where
     pub d : SendRests t.d t'.d o.d
     pub e : TakeRests t.e t'.e
 
-  -- a side has moved a beat in some turns, or it has accepted none and rests
-  abbrev pub ClientMovesOrRests : (s s' : ClientState A C M) → Turn → Type 0
-  ClientMovesOrRests s s' u = (u.moved ≡ true) ⊎ ((u.accepted ≢ true) × ClientRests s s' u.offers)
+-- ---- a side in its thread, whichever of the two it is
 
-  abbrev pub ManagerMovesOrRests : (t t' : ManagerState A C M) → Turn → Type 0
-  ManagerMovesOrRests t t' u = (u.moved ≡ true) ⊎ ((u.accepted ≢ true) × ManagerRests t t' u.offers)
+-- what a side S of a run is told by, with the lists of what it takes
+pub record Playing (S : Type 0) (C M : ℕ) : Type 1 where
+  -- it is the same side, and its lists have as much room
+  pub Same : S → S → Type 0
+  pub same_then : (s t u : S) → Same s t → Same t u → Same s u
+  -- how far it has come, where so many beats of each list are accepted
+  pub progress : PerChannel ℕ → S → ℕ
+  -- what a round began with, where the side stands in it, and that all that stands in its inboxes is due then
+  pub Round : Type 0
+  pub IsAt : Beats C M → Round → PerChannel ℕ → S → PerChannel Offered → Type 0
+  pub IsDue : Beats C M → Round → S → Type 0
+  -- nothing stands in its inboxes, or its lists have room for all that does
+  pub IsEmpty : S → Type 0
+  pub HasRoom : S → Type 0
+  -- all of its ends rest
+  pub Rests : S → S → PerChannel Offered → Type 0
 
--- ---- a round of a side in its thread
+-- what a side's history was when a round began, and how many beats of A and of D were accepted
+pub record RoundOf (w : ℕ) : Type 0 where
+  pub a : ℕ
+  pub d : ℕ
+  pub history : List (Event w)
 
-module _ {C M : ℕ} (near : Beats C M) (n : PerChannel ℕ) where
-  -- a side may play a round: it stands at its beginning, and its lists have room for all that stands in its inboxes, all of which is due
-  pub record ClientMayPlay (x : ClientRun C M) : Type 0 where
-    pub few : HaveRoomToCount n
-    pub j : ℕ
-    pub m : ℕ
-    pub es : List (Event C)
-    pub is_at : ClientIsAt near j m es n x.far_b.items x.far_d.items x.side none_ready
-    pub due : IsPrefix (x.far_d.items ++ x.side.d.inbox) (far_d near.a near.d j)
-    pub room_b : vec_len x.far_b + length x.side.b.inbox ≤ vec_capacity x.far_b
-    pub room_d : vec_len x.far_d + length x.side.d.inbox ≤ vec_capacity x.far_d
+module _ {C M : ℕ} where
+  abbrev pub client_playing : Playing (ClientRun C M) C M
+  client_playing = record {
+    Same = λ x x'. SameClient x.side x'.side × (vec_capacity x'.far_b ≡ vec_capacity x.far_b) × (vec_capacity x'.far_d ≡ vec_capacity x.far_d);
+    same_then = λ x y z f g. (same_client_then x.side y.side z.side f.0 g.0, g.1 ∙ f.1, g.2 ∙ f.2);
+    progress = λ n x. client_progress n x.side;
+    Round = RoundOf C;
+    IsAt = λ near r n x o. ClientIsAt near r.d r.a r.history n x.far_b.items x.far_d.items x.side o;
+    IsDue = λ near r x. IsPrefix (x.far_d.items ++ x.side.d.inbox) (far_d near.a near.d r.d);
+    IsEmpty = λ x. (x.side.b.inbox ≡ []) × (x.side.d.inbox ≡ []);
+    HasRoom = λ x. (vec_len x.far_b + length x.side.b.inbox ≤ vec_capacity x.far_b) × (vec_len x.far_d + length x.side.d.inbox ≤ vec_capacity x.far_d);
+    Rests = λ x x' o. ClientRests x.side x'.side o;
+  }
 
-  pub record ManagerMayPlay (y : ManagerRun C M) : Type 0 where
-    pub few : HaveRoomToCount n
-    pub i : ℕ
-    pub m : ℕ
-    pub es : List (Event M)
-    pub is_at : ManagerIsAt near i m es n y.far_a.items y.far_c.items y.far_e.items y.side none_ready
-    pub due : IsPrefix (y.far_a.items ++ y.side.a.inbox) (far_a near.a near.d i)
-    pub room_a : vec_len y.far_a + length y.side.a.inbox ≤ vec_capacity y.far_a
-    pub room_c : vec_len y.far_c + length y.side.c.inbox ≤ vec_capacity y.far_c
-    pub room_e : vec_len y.far_e + length y.side.e.inbox ≤ vec_capacity y.far_e
+  abbrev pub manager_playing : Playing (ManagerRun C M) C M
+  manager_playing = record {
+    Same = λ y y'. SameManager y.side y'.side × (vec_capacity y'.far_a ≡ vec_capacity y.far_a) × (vec_capacity y'.far_c ≡ vec_capacity y.far_c) × (vec_capacity y'.far_e ≡ vec_capacity y.far_e);
+    same_then = λ x y z f g. (same_manager_then x.side y.side z.side f.0 g.0, g.1 ∙ f.1, g.2 ∙ f.2, g.3 ∙ f.3);
+    progress = λ n y. manager_progress n y.side;
+    Round = RoundOf M;
+    IsAt = λ near r n y o. ManagerIsAt near r.a r.d r.history n y.far_a.items y.far_c.items y.far_e.items y.side o;
+    IsDue = λ near r y. IsPrefix (y.far_a.items ++ y.side.a.inbox) (far_a near.a near.d r.a);
+    IsEmpty = λ y. (y.side.a.inbox ≡ []) × (y.side.c.inbox ≡ []) × (y.side.e.inbox ≡ []);
+    HasRoom = λ y. (vec_len y.far_a + length y.side.a.inbox ≤ vec_capacity y.far_a) × (vec_len y.far_c + length y.side.c.inbox ≤ vec_capacity y.far_c) × (vec_len y.far_e + length y.side.e.inbox ≤ vec_capacity y.far_e);
+    Rests = λ y y' o. ManagerRests y.side y'.side o;
+  }
 
-  -- a side has played a round, or a part of it
-  pub record ClientHasPlayed (x x' : ClientRun C M) (u : Turn) : Type 0 where
-    pub goes : ClientGoes n x.side u.at x'.side u.moved
-    pub capacity_b : vec_capacity x'.far_b ≡ vec_capacity x.far_b
-    pub capacity_d : vec_capacity x'.far_d ≡ vec_capacity x.far_d
-    pub is_at : (j m : ℕ) (es : List (Event C)) (o : PerChannel Offered) → ClientIsAt near j m es n x.far_b.items x.far_d.items x.side o →
-        IsPrefix (x.far_d.items ++ x.side.d.inbox) (far_d near.a near.d j) →
-        ClientIsAt near j m es u.at x'.far_b.items x'.far_d.items x'.side u.offers
-    pub rests : (j m : ℕ) (es : List (Event C)) (o : PerChannel Offered) → ClientIsAt near j m es n x.far_b.items x.far_d.items x.side o →
-        IsPrefix (x.far_d.items ++ x.side.d.inbox) (far_d near.a near.d j) → ClientMovesOrRests x.side x'.side u
+module _ {S : Type 0} {C M : ℕ} (k : Playing S C M) where
+  -- a side has taken all that stood in its inboxes, into its lists
+  pub record HasTaken (s s' : S) : Type 0 where
+    pub same : k.Same s s'
+    pub stays : (n : PerChannel ℕ) → k.progress n s' ≡ k.progress n s
+    pub is_at : (near : Beats C M) (r : k.Round) (n : PerChannel ℕ) (o : PerChannel Offered) → k.IsAt near r n s o → k.IsDue near r s → k.IsAt near r n s' none_ready × k.IsEmpty s'
+    -- if it rests from here on, it did so from before it took
+    pub rests : (t : S) (o : PerChannel Offered) → k.Rests s' t o → k.Rests s t o
 
-  pub record ManagerHasPlayed (y y' : ManagerRun C M) (u : Turn) : Type 0 where
-    pub goes : ManagerGoes n y.side u.at y'.side u.moved
-    pub capacity_a : vec_capacity y'.far_a ≡ vec_capacity y.far_a
-    pub capacity_c : vec_capacity y'.far_c ≡ vec_capacity y.far_c
-    pub capacity_e : vec_capacity y'.far_e ≡ vec_capacity y.far_e
-    pub is_at : (i m : ℕ) (es : List (Event M)) (o : PerChannel Offered) → ManagerIsAt near i m es n y.far_a.items y.far_c.items y.far_e.items y.side o →
-        IsPrefix (y.far_a.items ++ y.side.a.inbox) (far_a near.a near.d i) →
-        ManagerIsAt near i m es u.at y'.far_a.items y'.far_c.items y'.far_e.items y'.side u.offers
-    pub rests : (i m : ℕ) (es : List (Event M)) (o : PerChannel Offered) → ManagerIsAt near i m es n y.far_a.items y.far_c.items y.far_e.items y.side o →
-        IsPrefix (y.far_a.items ++ y.side.a.inbox) (far_a near.a near.d i) → ManagerMovesOrRests y.side y'.side u
+  module _ (near : Beats C M) (n : PerChannel ℕ) (s : S) where
+    -- a side may play a round: it stands at its beginning, and its lists have room for all that stands in its inboxes, all of which is due
+    pub record MayPlay : Type 0 where
+      pub few : HaveRoomToCount n
+      pub round : k.Round
+      pub is_at : k.IsAt near round n s none_ready
+      pub due : k.IsDue near round s
+      pub room : k.HasRoom s
+
+    -- A side has played a part of a round: where it stands in every round that is as `May` says, and, if it is as `Rest` says, that it has moved a beat, or
+    -- has accepted none and rests
+    pub record HasPlayedPart (May Rest : k.Round → Type 0) (s' : S) (u : Turn) : Type 0 where
+      pub same : k.Same s s'
+      -- it has come as far as before at least, and further where something moved
+      pub keeps : k.progress n s ≤ k.progress u.at s'
+      pub goes : u.moved ≡ true → k.progress n s + 1 ≤ k.progress u.at s'
+      pub is_at : (r : k.Round) (o : PerChannel Offered) → k.IsAt near r n s o → May r → HaveRoomToCount u.at × k.IsAt near r u.at s' u.offers
+      pub rests : (r : k.Round) (o : PerChannel Offered) → k.IsAt near r n s o → Rest r → (u.moved ≡ true) ⊎ ((u.accepted ≢ true) × k.Rests s s' u.offers)
+
+    -- it has made one turn, or taken what stood in its inboxes and made turns
+    abbrev pub HasTurned : S → Turn → Type 0
+    HasTurned = HasPlayedPart (λ _. Unit {0}) (λ _. k.IsEmpty s)
+
+    abbrev pub HasPlayedTurns : S → Turn → Type 0
+    HasPlayedTurns = HasPlayedPart (λ r. k.IsDue near r s) (λ r. k.IsDue near r s)
 
 -- ---- a meeting
 

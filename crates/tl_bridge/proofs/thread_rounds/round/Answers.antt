@@ -8,7 +8,7 @@ pub play_both-requires-after_bounds : goal.play_both-requires-after_bounds
 play_both-requires-after_bounds g c = λ κs bounds. (client_run_small g.row.C g.row.M c.requires.0.client c.requires.0.manager, (manager_run_small g.row.C g.row.M c.requires.0.client c.requires.0.manager, (lit< tt, (c.requires.0, c.requires.1, client-may c.requires.0.client c.requires.0.manager (near_beats c.args.script.now) c.requires.1 c.args.at.now c.args.client.now c.args.manager.now c.requires.3 c.requires.2, manager-may c.requires.0.client c.requires.0.manager (near_beats c.args.script.now) c.requires.1 c.args.at.now c.args.client.now c.args.manager.now c.requires.3 c.requires.2))))
 
 pub meet_sides-standings-requires : goal.meet_sides-standings-requires
-meet_sides-standings-requires g c = (client_small g.row.C g.row.M c.requires.0.client c.requires.0.manager, (manager_small g.row.C g.row.M c.requires.0.client c.requires.0.manager, still_sides c.args.client.now.side c.play_both.new.client.side c.args.manager.now.side c.play_both.new.manager.side c.play_both.ensures.client.goes.same c.play_both.ensures.manager.goes.same c.requires.3.sides))
+meet_sides-standings-requires g c = (client_small g.row.C g.row.M c.requires.0.client c.requires.0.manager, (manager_small g.row.C g.row.M c.requires.0.client c.requires.0.manager, still_sides c.args.client.now.side c.play_both.new.client.side c.args.manager.now.side c.play_both.new.manager.side c.play_both.ensures.client.same.0 c.play_both.ensures.manager.same.0 c.requires.3.sides))
 
 pub returns : goal.returns
 returns g c = record {
@@ -29,10 +29,10 @@ returns g c = record {
       })
       c.meet_sides-standings.ensures.meets c.either.result c.either.ensures.0;
   capacity = record {
-    a = c.play_both.ensures.manager.capacity_a;
-    b = c.play_both.ensures.client.capacity_b;
-    c = c.play_both.ensures.manager.capacity_c;
-    d = c.play_both.ensures.client.capacity_d;
-    e = c.play_both.ensures.manager.capacity_e;
+    a = c.play_both.ensures.manager.same.1;
+    b = c.play_both.ensures.client.same.1;
+    c = c.play_both.ensures.manager.same.2;
+    d = c.play_both.ensures.client.same.2;
+    e = c.play_both.ensures.manager.same.3;
   };
 }

@@ -1,19 +1,10 @@
-use Rattle.tl_run.proofs.Names.{◌≡◌, ◌∙◌, refl, subst, IfOk, IfErr, beats_of, HasEnded, lengths}
+use Rattle.tl_run.proofs.Names.{◌≡◌, subst, IfOk, IfErr, beats_of, HasEnded}
 use Rattle.tl_run.specs.declared.outcome.RunFault.TheVariants.{OutOfMemory}
-use Rattle.tl_run.proofs.EndsIn.{far-is}
 use Rattle.tl_run.proofs.rounds.outcome_of.Goals as goal
 
-pub returns : goal.returns
-returns g c = record {
-  outcome = λ near s h.
-      let far = beats_of c.args.far in
-      let end = c.in-Ok.end in
-      let ended = subst (λ r. IfOk r (λ end. HasEnded near end.at far s end.stops end.rounds)) c.in-Ok.is h in
-      let counts : record { a = c.len.result; b = c.len-2.result; c = c.len-3.result; d = c.len-4.result; e = c.len-5.result } ≡ lengths far =
-      rw (c.len.ensures ∙ c.args.far.a.ok.0, c.len-2.ensures ∙ c.args.far.b.ok.0, c.len-3.ensures ∙ c.args.far.c.ok.0, c.len-4.ensures ∙ c.args.far.d.ok.0, c.len-5.ensures ∙ c.args.far.e.ok.0) refl in
-      c.into_outcome.ensures near
-      (c.ending_of.ensures g.row.C g.row.M near far s c.requires.client c.requires.manager counts ended)
-      (far-is c.requires.client c.requires.manager near end.at far s end.stops end.rounds ended);
+pub returns-in-Ok : goal.returns-in-Ok
+returns-in-Ok g c = record {
+  outcome = λ near s h. c.outcome_at.ensures near s (subst (λ r. IfOk r (λ end. HasEnded near end.at (beats_of c.args.far) s end.stops end.rounds)) c.in-Ok.is h);
   memory = λ h. tt;
 }
 

@@ -1,4 +1,4 @@
-use Rattle.tl_run.proofs.Names.{lit<, refl, arith, vec_capacity, bridge_small}
+use Rattle.tl_run.proofs.Names.{lit<, refl, bridge_small}
 use Rattle.tl_run.proofs.OnlyMemory.{same-size, stalled-never}
 use Rattle.tl_run.proofs.sync_run.run_into_lists.Goals as goal
 
@@ -8,7 +8,7 @@ new-requires g c = (bridge_small g.row.C g.row.M c.requires.0.client c.requires.
 pub run_rounds-requires : goal.run_rounds-requires
 run_rounds-requires g c = (
   bridge_small g.row.C g.row.M c.requires.0.client c.requires.0.manager,
-  (lit< tt, (c.requires.0, c.requires.1, (c.args.ring, (c.in-Ok.ensures.size refl).0, c.in-Ok.ensures.new), c.requires.2)),
+  (lit< tt, (lit< tt, (c.requires.0, c.requires.1, (c.args.ring, (c.in-Ok.ensures.size refl).0, c.in-Ok.ensures.new), c.requires.2, c.requires.3))),
 )
 
 pub returns-in-Err-clause-ring_size : goal.returns-in-Err-clause-ring_size
@@ -17,11 +17,5 @@ returns-in-Err-clause-ring_size g c = same-size c.in-Err.fault c.from.result c.f
 pub returns-in-Err-clause-never_stalled : goal.returns-in-Err-clause-never_stalled
 returns-in-Err-clause-never_stalled g c = stalled-never c.in-Err.fault c.from.result c.from.ensures
 
--- the lists have room for all that comes
-pub unreachable-requires : goal.unreachable-requires
-unreachable-requires g c =
-    let far = c.args.far.now in
-    let ok = c.in-Err-run_rounds.ensures.room
-    (record { a = vec_capacity far.a; b = vec_capacity far.b; c = vec_capacity far.c; d = vec_capacity far.d; e = vec_capacity far.e }) c.requires.3
-    (record { a = omega arith; b = omega arith; c = omega arith; d = omega arith; e = omega arith }) in
-    cc (ok)
+pub returns-clause-ended : goal.returns-clause-ended
+returns-clause-ended g c = (c.run_rounds.new.bridge, c.run_rounds.ensures)

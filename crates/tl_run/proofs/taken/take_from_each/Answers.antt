@@ -1,5 +1,4 @@
-use Rattle.tl_run.proofs.Names.{OnOk, beat_small, bridge_small, joined}
-use Rattle.tl_run.proofs.AllOk.{always}
+use Rattle.tl_run.proofs.Names.{refl, beat_small, bridge_small}
 use Rattle.tl_run.proofs.taken.take_from_each.Goals as goal
 
 pub inbox_a-a-requires : goal.inbox_a-a-requires
@@ -17,8 +16,8 @@ inbox_d-d-requires g c = (bridge_small g.row.C g.row.M c.requires.client c.requi
 pub inbox_e-e-requires : goal.inbox_e-e-requires
 inbox_e-e-requires g c = (bridge_small g.row.C g.row.M c.requires.client c.requires.manager, beat_small g.row.M c.requires.manager)
 
-pub take-kept-requires : goal.take-kept-requires
-take-kept-requires g c =
+pub take-requires : goal.take-requires
+take-requires g c =
     let on_c = beat_small g.row.C c.requires.client in
     let on_m = beat_small g.row.M c.requires.manager in
     (on_m, (on_c, (on_m, (on_c, (on_m, (c.requires.client, c.requires.manager))))))
@@ -27,24 +26,26 @@ pub take_all-requires : goal.take_all-requires
 take_all-requires g c = (bridge_small g.row.C g.row.M c.requires.client c.requires.manager, (c.requires.client, c.requires.manager))
 
 pub returns-clause-taken : goal.returns-clause-taken
-returns-clause-taken g c = λ x h. always c.take-kept.result (c.take_all.ensures x h)
+returns-clause-taken g c = c.take_all.ensures
 
 pub returns-clause-far : goal.returns-clause-far
 returns-clause-far g c = λ all h.
-    let has : OnOk c.take-kept.result (g.F.FarSink.Holds c.take-kept.new.self
-    (joined all (record { a = c.inbox_a-a.result.now; b = c.inbox_b-b.result.now; c = c.inbox_c-c.result.now; d = c.inbox_d-d.result.now; e = c.inbox_e-e.result.now }))) =
-    c.take-kept.ensures.far all h in
+    let has = c.in_ok-take.ensures.far all h in
     rw (c.inbox_a-a.ensures, c.inbox_b-b.ensures, c.inbox_c-c.ensures, c.inbox_d-d.ensures, c.inbox_e-e.ensures) at has
 
 pub returns-clause-counted : goal.returns-clause-counted
-returns-clause-counted g c = λ can.
-    let counts = rw (c.inbox_a-a.ensures, c.inbox_b-b.ensures, c.inbox_c-c.ensures, c.inbox_d-d.ensures, c.inbox_e-e.ensures) at c.add_counts.ensures in
-    always c.take-kept.result (counts can)
+returns-clause-counted g c = rw (c.inbox_a-a.ensures, c.inbox_b-b.ensures, c.inbox_c-c.ensures, c.inbox_d-d.ensures, c.inbox_e-e.ensures) refl
 
 pub returns-clause-same : goal.returns-clause-same
-returns-clause-same g c = c.take-kept.ensures.same
+returns-clause-same g c = c.in_ok-take.ensures.same
 
 pub returns-clause-room : goal.returns-clause-room
 returns-clause-room g c = λ all room h has fit.
-    c.take-kept.ensures.room all room h has
+    c.in_ok-take.ensures.room all room h has
     (rw (c.inbox_a-a.ensures, c.inbox_b-b.ensures, c.inbox_c-c.ensures, c.inbox_d-d.ensures, c.inbox_e-e.ensures) fit)
+
+pub returns-in_err-take-clause-room : goal.returns-in_err-take-clause-room
+returns-in_err-take-clause-room g c = λ all room h has fit.
+    let ok = (c.in_err-take.ensures.room all room h has
+    (rw (c.inbox_a-a.ensures, c.inbox_b-b.ensures, c.inbox_c-c.ensures, c.inbox_d-d.ensures, c.inbox_e-e.ensures) fit)).0 in
+    absurd (cc (ok))

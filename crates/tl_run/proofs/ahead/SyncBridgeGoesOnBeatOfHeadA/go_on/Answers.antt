@@ -1,5 +1,5 @@
 use Rattle.tl_run.proofs.Names.{refl, subst, beat_small, StandsFor, fetch_count, pump_count, bridge_small, going_a, on_bridge_a}
-use Rattle.tl_run.proofs.Going.{has-passed, has-stayed, none-again, none-at-all, passes-a, rests-next, stays-next}
+use Rattle.tl_run.proofs.Going.{ahead-a, has-passed, has-stayed, none-again, none-at-all}
 use Rattle.tl_run.proofs.ahead.SyncBridgeGoesOnBeatOfHeadA.go_on.Goals as goal
 
 pub offer_next-offered-requires : goal.offer_next-offered-requires
@@ -19,23 +19,24 @@ pump_a-requires-2 g c = bridge_small g.row.C g.row.M c.requires.0.client c.requi
 
 pub returns-then-not-is_accepted : goal.returns-then-not-is_accepted
 returns-then-not-is_accepted g c =
-    let none = none-at-all _ (λ some. let h = c.if-not-is_accepted.ensures.1 some in cc (h)) in
     let offered = c.offer_next-offered in
-    has-stayed going_a none
-    (stays-next on_bridge_a c.args.held.now c.args.gone c.args.at c.requires.1 c.requires.2 c.args.self.now offered.new.self offered.result none offered.ensures)
-    (λ near part. rests-next on_bridge_a c.args.held.now c.args.gone c.args.at c.requires.1 c.requires.2 c.args.self.now offered.new.self offered.result none offered.ensures near part)
+    has-stayed going_a on_bridge_a (λ s x. (λ h. h, λ h. h)) c.args.gone c.args.at c.requires.1 c.args.held.now c.requires.2 c.args.self.now offered.new.self offered.result offered.ensures
+    (none-at-all _ (λ some. let h = c.if-not-is_accepted.ensures.1 some in cc (h)))
 
 pub returns-then-ready_a : goal.returns-then-ready_a
 returns-then-ready_a g c =
     let offered = c.offer_next-offered in
-    has-passed going_a (c.if-not-is_accepted.ensures.0 refl)
-    (passes-a c.pump_a.new.self (pump_count offered.new.self.a) 0 0 c.args.gone c.args.at c.requires.1 offered.result c.args.held.now c.requires.2 offered.ensures
-    (λ y h. subst (λ q. StandsFor c.pump_a.new.self (record y { a = q })) (none-again (pump_count offered.new.self.a) y.a) (c.pump_a.ensures.moved y h)))
+    let count = pump_count offered.new.self.a in
+    has-passed going_a on_bridge_a (λ s x. (λ h. h, λ h. h)) c.args.gone c.args.at c.requires.1 c.args.held.now c.requires.2 c.args.self.now offered.new.self offered.result offered.ensures
+    count 0 0 c.pump_a.new.self (c.if-not-is_accepted.ensures.0 refl) (ahead-a count 0 0)
+    (λ y x h. subst (λ z. StandsFor c.pump_a.new.self (record x { a = z })) (none-again count y) (c.pump_a.ensures.moved _ h))
 
 pub returns : goal.returns
 returns g c =
     let offered = c.offer_next-offered in
-    has-passed going_a (c.if-not-is_accepted.ensures.0 refl)
-    (passes-a c.pump_a-2.new.self (pump_count offered.new.self.a) (fetch_count c.pump_a.new.self.a) (pump_count c.fetch_a.new.self.a) c.args.gone c.args.at c.requires.1
-    offered.result c.args.held.now c.requires.2 offered.ensures
-    (λ y h. c.pump_a-2.ensures.moved _ (c.fetch_a.ensures.moved _ (c.pump_a.ensures.moved y h))))
+    let first = pump_count offered.new.self.a in
+    let out = fetch_count c.pump_a.new.self.a in
+    let again = pump_count c.fetch_a.new.self.a in
+    has-passed going_a on_bridge_a (λ s x. (λ h. h, λ h. h)) c.args.gone c.args.at c.requires.1 c.args.held.now c.requires.2 c.args.self.now offered.new.self offered.result offered.ensures
+    first out again c.pump_a-2.new.self (c.if-not-is_accepted.ensures.0 refl) (ahead-a first out again)
+    (λ y x h. c.pump_a-2.ensures.moved _ (c.fetch_a.ensures.moved _ (c.pump_a.ensures.moved _ h)))

@@ -1,5 +1,5 @@
 use Rattle.tl_run.proofs.Names.{refl, subst, beat_small, StandsFor, fetch_count, pump_count, bridge_small, going_e, on_bridge_e}
-use Rattle.tl_run.proofs.Going.{has-passed, has-stayed, none-again, none-at-all, passes-e, rests-next, stays-next}
+use Rattle.tl_run.proofs.Going.{ahead-e, has-passed, has-stayed, none-again, none-at-all}
 use Rattle.tl_run.proofs.ahead.SyncBridgeGoesOnBeatOfHeadE.go_on.Goals as goal
 
 pub offer_next-offered-requires : goal.offer_next-offered-requires
@@ -19,23 +19,24 @@ pump_e-requires-2 g c = bridge_small g.row.C g.row.M c.requires.0.client c.requi
 
 pub returns-then-not-is_accepted : goal.returns-then-not-is_accepted
 returns-then-not-is_accepted g c =
-    let none = none-at-all _ (λ some. let h = c.if-not-is_accepted.ensures.1 some in cc (h)) in
     let offered = c.offer_next-offered in
-    has-stayed going_e none
-    (stays-next on_bridge_e c.args.held.now c.args.gone c.args.at c.requires.1 c.requires.2 c.args.self.now offered.new.self offered.result none offered.ensures)
-    (λ near part. rests-next on_bridge_e c.args.held.now c.args.gone c.args.at c.requires.1 c.requires.2 c.args.self.now offered.new.self offered.result none offered.ensures near part)
+    has-stayed going_e on_bridge_e (λ s x. (λ h. h, λ h. h)) c.args.gone c.args.at c.requires.1 c.args.held.now c.requires.2 c.args.self.now offered.new.self offered.result offered.ensures
+    (none-at-all _ (λ some. let h = c.if-not-is_accepted.ensures.1 some in cc (h)))
 
 pub returns-then-ready_e : goal.returns-then-ready_e
 returns-then-ready_e g c =
     let offered = c.offer_next-offered in
-    has-passed going_e (c.if-not-is_accepted.ensures.0 refl)
-    (passes-e c.pump_e.new.self (pump_count offered.new.self.e) 0 0 c.args.gone c.args.at c.requires.1 offered.result c.args.held.now c.requires.2 offered.ensures
-    (λ y h. subst (λ q. StandsFor c.pump_e.new.self (record y { e = q })) (none-again (pump_count offered.new.self.e) y.e) (c.pump_e.ensures.moved y h)))
+    let count = pump_count offered.new.self.e in
+    has-passed going_e on_bridge_e (λ s x. (λ h. h, λ h. h)) c.args.gone c.args.at c.requires.1 c.args.held.now c.requires.2 c.args.self.now offered.new.self offered.result offered.ensures
+    count 0 0 c.pump_e.new.self (c.if-not-is_accepted.ensures.0 refl) (ahead-e count 0 0)
+    (λ y x h. subst (λ z. StandsFor c.pump_e.new.self (record x { e = z })) (none-again count y) (c.pump_e.ensures.moved _ h))
 
 pub returns : goal.returns
 returns g c =
     let offered = c.offer_next-offered in
-    has-passed going_e (c.if-not-is_accepted.ensures.0 refl)
-    (passes-e c.pump_e-2.new.self (pump_count offered.new.self.e) (fetch_count c.pump_e.new.self.e) (pump_count c.fetch_e.new.self.e) c.args.gone c.args.at c.requires.1
-    offered.result c.args.held.now c.requires.2 offered.ensures
-    (λ y h. c.pump_e-2.ensures.moved _ (c.fetch_e.ensures.moved _ (c.pump_e.ensures.moved y h))))
+    let first = pump_count offered.new.self.e in
+    let out = fetch_count c.pump_e.new.self.e in
+    let again = pump_count c.fetch_e.new.self.e in
+    has-passed going_e on_bridge_e (λ s x. (λ h. h, λ h. h)) c.args.gone c.args.at c.requires.1 c.args.held.now c.requires.2 c.args.self.now offered.new.self offered.result offered.ensures
+    first out again c.pump_e-2.new.self (c.if-not-is_accepted.ensures.0 refl) (ahead-e first out again)
+    (λ y x h. c.pump_e-2.ensures.moved _ (c.fetch_e.ensures.moved _ (c.pump_e.ensures.moved _ h)))
