@@ -151,6 +151,7 @@ pub fn check_of(
 
 /// The answer that the outcome of a run makes: the version of the trace and the widths, the far
 /// beats, and the five report lines.
+#[inline(never)]
 pub fn answer_of<const C: usize, const M: usize>(
     alloc: Global,
     outcome: &Outcome<C, M>,
@@ -170,6 +171,7 @@ pub fn answer_of<const C: usize, const M: usize>(
 
 /// The answer to a script by that run. The script is let go before the answer is made. Refused with
 /// `OutOfMemory` alone.
+#[inline(never)]
 fn threads_answer_of<T: Threads, const C: usize, const M: usize>(
     rt: &T,
     alloc: Global,

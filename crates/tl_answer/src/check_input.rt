@@ -28,6 +28,7 @@ impl<const C: usize, const M: usize> Listener<C, M> for Judge<C, M> {
 /// The answer of a check to a text whose header names this version and these widths, where the input
 /// holds its first piece and nothing of it was used. It is read to its end, piece by piece, and no
 /// more stands in memory than a piece of it and the beats that wait. Refused as `script_of_input` is.
+#[inline(never)]
 pub(crate) fn check_input<R: Read, const C: usize, const M: usize>(
     alloc: Global,
     reader: &mut R,

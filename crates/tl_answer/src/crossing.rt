@@ -36,6 +36,7 @@ pub(crate) struct Crossing<const C: usize, const M: usize> {
 impl<const C: usize, const M: usize> Crossing<C, M> {
     /// A run that has not begun, of a trace in this version, over rings of `ring` beats each. Refused
     /// with `OutOfMemory` alone.
+    #[inline(never)]
     pub(crate) fn new(alloc: Global, version: u8, ring: usize) -> Result<Self, TextFault>
         requires { IsWidth C × IsWidth M × (1 ≤ ring) × (ring ≤ MAX_RING) }
         ensures new { IfOk result (IsNew (Crosses version)) }
@@ -54,6 +55,7 @@ impl<const C: usize, const M: usize> Crossing<C, M> {
 
     /// The answer of the run that ends with these beats: the version of the trace and the widths, the
     /// far beats, and the five report lines. Refused with `OutOfMemory` alone.
+    #[inline(never)]
     pub(crate) fn end(self, last: Script<C, M>) -> Result<AnswerParts, TextFault>
         requires { IsWidth C × IsWidth M ×
             ((version : ℕ) × (gone : Gone C M) × Crosses version self gone last) }
@@ -87,6 +89,7 @@ impl<const C: usize, const M: usize> Listener<C, M> for Crossing<C, M> {
 /// version and these widths, where the input holds its first piece and nothing of it was used. It is
 /// read to its end, piece by piece: no more stands in memory than a piece of it, the beats that wait,
 /// and the answer so far. Refused as `script_of_input` is.
+#[inline(never)]
 pub(crate) fn run_input<R: Read, const C: usize, const M: usize>(
     alloc: Global,
     reader: &mut R,

@@ -80,6 +80,7 @@ fn hear_held<L: Listener<C, M>, const C: usize, const M: usize>(
 /// the beats that were read, and those go that it is done with.
 ///
 /// Refused as `script_of_input` is, and with `OutOfMemory` where the listener is refused.
+#[inline(never)]
 fn read_pieces<R: Read, L: Listener<C, M>, const C: usize, const M: usize>(
     reader: &mut R,
     input: &mut Input,
@@ -152,6 +153,7 @@ pub(crate) fn read_through<R: Read, L: Listener<C, M>, const C: usize, const M: 
 /// Refused with `Trace`, the text's first fault and its line, where the rest of the text is not read
 /// yet; with `Read` where a read fails or is interrupted, with `TooLong` above 67,108,864 bytes, or
 /// with `OutOfMemory`.
+#[inline(never)]
 pub fn script_of_input<R: Read, const C: usize, const M: usize>(
     alloc: Global,
     reader: &mut R,
