@@ -1,4 +1,4 @@
-//! The beats of one channel: what came of each, and the far beats that it completed.
+//! A beat of a channel: what came of it, and the far beats that it completed.
 ghost use Rattle.std.specs.Prelude.{◌≡◌, true};
 ghost use Rattle.tl_lanes.specs.Lanes.{IsWidth};
 
@@ -6,7 +6,7 @@ use crate::story::Story;
 use arrayvec::ArrayVec;
 use tl_convert::Converter;
 use tl_lanes::{WIDEST, is_width};
-use tl_msg::{Beat, Channel, Verdict};
+use tl_msg::{Beat, Channel};
 use tl_remarks::{Seen, Told, seen_of};
 use tl_trace::{line_of, write_far};
 
@@ -45,7 +45,8 @@ fn pass<K: Channel, const W: usize, const V: usize>(
     }
 }
 
-/// Draws the next near beat, where beats are drawn.
+/// Draws the next near beat.
+#[inline(never)]
 fn draw_near<K: Told, const W: usize>(
     story: &mut Story,
     beat: &Beat<K, W>,
@@ -53,7 +54,7 @@ fn draw_near<K: Told, const W: usize>(
     accepted: bool,
 ) {
     // (tested, too)
-    if story.drawing.is_wanted && is_width(W) {
+    if is_width(W) {
         let line = line_of::<K, W>(beat, story.version);
         story.draw_near(seen, &beat.lanes, line.as_slice(), accepted);
     }
@@ -79,26 +80,29 @@ fn put_far<K: Told, const V: usize>(story: &mut Story, far: &[Beat<K, V>]) {
     }
 }
 
-/// Writes what came of the beats of the channel with this letter, which ends in this verdict, and below
-/// each the far beats that it completed: a new converter makes them, and `far` has room for them.
+/// Writes what came of the next of these beats, in a line of the channel with this letter, and below it the
+/// far beats that it completed: the channel's converter makes them, and `far` has room for them.
 pub fn tell<K: Told, const W: usize, const V: usize>(
     story: &mut Story,
     letter: u8,
-    verdict: &Verdict,
     beats: &[Beat<K, W>],
     converter: &mut Converter<K, W, V>,
     far: &mut ArrayVec<Beat<K, V>, WIDEST>,
 ) {
-    story.begin(letter, verdict, W, V);
-    for beat in beats {
-        let seen = seen_of::<K, W>(beat, story.version);
-        let accepted = story.put_near(&seen, &beat.lanes);
+    story.begin_line(letter);
+    let Some(beat) = beats.get(story.walk.near) else {
+        return;
+    };
+    let seen = seen_of::<K, W>(beat, story.version);
+    let accepted = story.put_near(&seen, &beat.lanes);
+    if story.drawing.is_wanted {
         draw_near::<K, W>(story, beat, &seen, accepted);
-        if accepted {
-            pass::<K, W, V>(converter, beat, story.walk.home, far);
+    }
+    if accepted {
+        pass::<K, W, V>(converter, beat, story.walk.home, far);
+        if story.shows_far() && !far.is_empty() {
             put_far::<K, V>(story, far.as_slice());
         }
-        story.end_line();
     }
-    story.end();
+    story.end_line();
 }

@@ -13,7 +13,9 @@ use crate::channel::tell;
 use crate::held::{held_of, waiting_source};
 use crate::letters::letters_of;
 use crate::look::Look;
-use crate::story::Story;
+use crate::requests::Requests;
+use crate::story::{Story, Told};
+use crate::walk::Walk;
 use arrayvec::ArrayVec;
 use std::alloc::{AllocError, Global};
 use tl_answer::{Answer, TextFault, at_width, check_of};
@@ -31,17 +33,16 @@ pub struct Explanation {
     pub all_done: bool,
 }
 
-/// Writes what came of the beats of each channel: each has a converter, and room for the far beats that
-/// one near beat completes. A comes before D, which answers its requests. A beat of E has nothing on its
+/// Writes what came of the beats of a script, whose lines begin with these letters: each channel has a
+/// converter, and room for the far beats that one near beat completes. A beat of E has nothing on its
 /// lanes, so a bus of one byte stands for any that it goes to.
 fn tell_all<const C: usize, const M: usize>(
     story: &mut Story,
+    letters: &[u8],
     script: &Script<C, M>,
-    verdicts: &[Verdict; 5],
 )
     requires { IsWidth C × IsWidth M }
 {
-    let [a, b, c, d, e] = verdicts;
     let mut way_a = Converter::<ChA, C, M>::new();
     let mut far_a = ArrayVec::<Beat<ChA, M>, WIDEST>::new();
     let mut way_b = Converter::<ChB, M, C>::new();
@@ -52,27 +53,35 @@ fn tell_all<const C: usize, const M: usize>(
     let mut far_d = ArrayVec::<Beat<ChD, C>, WIDEST>::new();
     let mut way_e = Converter::<ChE, C, 1>::new();
     let mut far_e = ArrayVec::<Beat<ChE, 1>, WIDEST>::new();
-    tell::<ChA, C, M>(story, b'A', a, &script.a, &mut way_a, &mut far_a);
-    tell::<ChB, M, C>(story, b'B', b, &script.b, &mut way_b, &mut far_b);
-    tell::<ChC, C, M>(story, b'C', c, &script.c, &mut way_c, &mut far_c);
-    tell::<ChD, M, C>(story, b'D', d, &script.d, &mut way_d, &mut far_d);
-    tell::<ChE, C, 1>(story, b'E', e, &script.e, &mut way_e, &mut far_e);
+    for letter in letters {
+        match *letter {
+            b'A' => tell::<ChA, C, M>(story, b'A', &script.a, &mut way_a, &mut far_a),
+            b'B' => tell::<ChB, M, C>(story, b'B', &script.b, &mut way_b, &mut far_b),
+            b'C' => tell::<ChC, C, M>(story, b'C', &script.c, &mut way_c, &mut far_c),
+            b'D' => tell::<ChD, M, C>(story, b'D', &script.d, &mut way_d, &mut far_d),
+            _ => tell::<ChE, C, 1>(story, b'E', &script.e, &mut way_e, &mut far_e),
+        }
+    }
+    story.end();
 }
 
-/// Notes what the beats wait for that wait on A and on D.
-fn note_held<const C: usize, const M: usize>(
-    story: &mut Story,
+/// The requests of A, none of which is answered yet, and what the beats wait for that wait on A and on D.
+fn requests_of<const C: usize, const M: usize>(
+    alloc: Global,
+    letters: &[u8],
     script: &Script<C, M>,
     verdicts: &[Verdict; 5],
-)
+) -> Result<Requests, AllocError>
     requires { IsWidth C × IsWidth M }
 {
+    let mut requests = Requests::new(alloc)?;
     let [on_a, _, _, on_d, _] = verdicts;
     let busy = waiting_source::<ChA, C>(on_a, &script.a);
     let missing = waiting_source::<ChD, M>(on_d, &script.d);
-    let letters = story.letters.as_slice();
-    story.requests.held_response = held_of::<ChD, M>(letters, b'D', on_d, &script.d, busy);
-    story.requests.held_request = held_of::<ChA, C>(letters, b'A', on_a, &script.a, missing);
+    requests.held_response = held_of::<ChD, M>(letters, b'D', on_d, &script.d, busy);
+    requests.held_request = held_of::<ChA, C>(letters, b'A', on_a, &script.a, missing);
+    requests.add_all::<C>(letters, on_a, &script.a)?;
+    Ok(requests)
 }
 
 /// What was told of a text: what came of its lines, and the answer of a check to it.
@@ -82,31 +91,44 @@ pub struct Telling {
     pub answer: Answer,
 }
 
-/// What came of the lines of a text, and what was noted of its messages.
-#[derive(Drop)]
-pub struct Told {
-    pub story: Story,
-    pub noted: Noted,
-}
-
-/// Tells the story of a script, and gives what was noted of its messages.
-fn tell_script<const C: usize, const M: usize>(
+/// What is noted of the messages of a script: remarks where they are asked for, and pairs where beats are
+/// drawn.
+fn noted_of<const C: usize, const M: usize>(
     alloc: Global,
-    story: &mut Story,
+    letters: &[u8],
     script: &Script<C, M>,
     verdicts: &[Verdict; 5],
     look: &Look,
 ) -> Result<Noted, AllocError>
     requires { IsWidth C × IsWidth M }
 {
-    note_held::<C, M>(story, script, verdicts);
-    tell_all::<C, M>(story, script, verdicts);
-    let is_drawn = story.drawing.is_wanted;
-    if look.remarks || is_drawn {
-        notes_of::<C, M>(alloc, &story.letters, script, verdicts, is_drawn)
-    } else {
-        Ok(Noted::new(alloc, false))
+    if !look.remarks && !look.page {
+        return Ok(Noted::new(alloc, false));
     }
+    let mut noted = notes_of::<C, M>(alloc, letters, script, verdicts, look.page)?;
+    if !look.remarks {
+        noted.remarks.clear();
+    }
+    Ok(noted)
+}
+
+/// The walks of channels that end in these verdicts, from A to E, between a client of `c` bytes and a
+/// manager of `m`.
+fn walks_of(
+    alloc: Global,
+    verdicts: &[Verdict; 5],
+    c: usize,
+    m: usize,
+) -> Result<Vec<Walk>, AllocError> {
+    let [on_a, on_b, on_c, on_d, on_e] = verdicts;
+    let walks = vec![in alloc;
+        Walk::new(b'A', on_a, c, m),
+        Walk::new(b'B', on_b, m, c),
+        Walk::new(b'C', on_c, c, m),
+        Walk::new(b'D', on_d, m, c),
+        Walk::new(b'E', on_e, c, 1),
+    ]?;
+    Ok(walks)
 }
 
 /// What came of each line from line 2 on.
@@ -126,14 +148,12 @@ fn told_of<const C: usize, const M: usize>(
         manager: M,
     };
     let letters = letters_of(alloc, text, &header)?;
-    let mut story = Story::new(alloc, letters, version, look)?;
-    match tell_script::<C, M>(alloc, &mut story, script, verdicts, look) {
-        Ok(noted) => Ok(Told { story, noted }),
-        Err(error) => {
-            drop(story);
-            Err(error)
-        }
-    }
+    let noted = noted_of::<C, M>(alloc, &letters, script, verdicts, look)?;
+    let requests = requests_of::<C, M>(alloc, &letters, script, verdicts)?;
+    let walks = walks_of(alloc, verdicts, C, M)?;
+    let mut story = Story::new(alloc, version, look, requests, noted, walks);
+    tell_all::<C, M>(&mut story, &letters, script);
+    story.told()
 }
 
 /// The same, with the answer of a check to a text whose channels end with these verdicts, from A to E.
@@ -262,6 +282,6 @@ pub fn explain_text(alloc: Global, text: &[u8], look: &Look) -> Result<Explanati
         ..*look
     };
     let telling = telling_of(alloc, text, &look)?;
-    let sentences = telling.told.sentences(alloc, &look)?;
-    Ok(explanation_of(sentences, &telling.answer)?)
+    let Telling { told, answer } = telling;
+    Ok(explanation_of(told.text, &answer)?)
 }

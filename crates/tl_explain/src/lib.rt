@@ -2,7 +2,9 @@
 //! them, which one was held back and by what, and which were not offered.
 #![tactic(auto)]
 
+mod alike;
 mod channel;
+mod count;
 mod drawing;
 mod explain;
 mod fate;

@@ -1,7 +1,9 @@
 //! The requests that A sent, and which of them were answered.
+use crate::fate::{Fate, fate_at};
 use crate::held::Held;
 use std::alloc::{AllocError, Global};
-use tl_msg::SourceId;
+use tl_msg::{Beat, ChA, SourceId, Verdict};
+use tl_remarks::{Cursor, seen_of};
 
 /// How many sources there are, by the bits of a [`SourceId`].
 const SOURCES: usize = 1 << SourceId::BITS;
@@ -69,17 +71,15 @@ impl Requests {
         })
     }
 
-    /// Adds one more request, and says whether there was memory for it.
-    pub fn push(&mut self, request: Request) -> bool {
+    /// Adds one more request.
+    fn push(&mut self, request: Request) -> Result<(), AllocError> {
         let (at, source) = (self.sent.len(), request.source);
         let sent = Sent {
             request,
             next: NONE,
             is_answered: false,
         };
-        if self.sent.push(sent).is_err() {
-            return false;
-        }
+        self.sent.push(sent)?;
         if let Some(last) = self.sent.get_mut(place(&self.last, source)) {
             last.next = at;
         }
@@ -87,7 +87,37 @@ impl Requests {
             set_place(&mut self.open, source, at);
         }
         set_place(&mut self.last, source, at);
-        true
+        Ok(())
+    }
+
+    /// Adds the requests that these beats of A begin, of which those are accepted that this verdict says.
+    pub fn add_all<const W: usize>(
+        &mut self,
+        letters: &[u8],
+        verdict: &Verdict,
+        beats: &[Beat<ChA, W>],
+    ) -> Result<(), AllocError> {
+        let mut cursor = Cursor::default();
+        let (mut at, mut left) = (0u64, 0usize);
+        for beat in beats {
+            if !matches!(fate_at(at, verdict), Fate::Accepted) {
+                break;
+            }
+            cursor.seek(letters, b'A');
+            if left == 0 {
+                let seen = seen_of::<ChA, W>(beat, 1);
+                left = seen.beats(W);
+                self.push(Request {
+                    source: seen.source,
+                    size: seen.size,
+                    address: seen.address,
+                    line: cursor.line(),
+                })?;
+            }
+            left = left.saturating_sub(1);
+            at = at.saturating_add(1);
+        }
+        Ok(())
     }
 
     /// The first request of this source that no response has answered.

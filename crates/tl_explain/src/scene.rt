@@ -3,10 +3,11 @@ ghost use Rattle.std.specs.Prelude.{◌≡◌, ◌≤◌, true, length, IfOk, If
 ghost use Rattle.tl_answer.specs.Texts.{IsAnswer, IsOfText, most_bytes};
 
 use crate::drawing::Drawn;
-use crate::explain::{Told, telling_of};
+use crate::explain::telling_of;
 use crate::look::Look;
 use crate::picture::Picture;
-use crate::shown::{Item, Shown};
+use crate::shown::Item;
+use crate::story::Told;
 use std::alloc::{AllocError, Global};
 use tl_answer::{Answer, TextFault};
 use tl_remarks::Pair;
@@ -26,9 +27,6 @@ pub struct Ties {
 /// What a page shows of a trace.
 #[derive(Drop)]
 pub struct Scene {
-    /// What is said of its lines, of those that are shown in their order, and behind them of channels
-    /// that end within a burst.
-    shown: Shown,
     told: Told,
     /// The lines from line 2 on.
     ties: Vec<Ties>,
@@ -57,13 +55,12 @@ fn tie(ties: &mut [Ties], pairs: &[Pair]) {
 }
 
 /// Numbers the exchanges, in the order of their first lines.
-fn number_all(ties: &mut [Ties], told: &Told) {
+fn number_all(ties: &mut [Ties], begins: &[bool]) {
     let mut number = 0u64;
-    for at in 0..ties.len() {
-        let line = (at as u64).saturating_add(2);
-        if ties[at].asked_in == 0 && told.begins(at, line) {
+    for (line, begins) in ties.iter_mut().zip(begins) {
+        if *begins && line.asked_in == 0 {
             number = number.saturating_add(1);
-            ties[at].number = number;
+            line.number = number;
         }
     }
 }
@@ -78,61 +75,55 @@ fn note_shown(ties: &mut [Ties], items: &[Item]) {
 }
 
 impl Told {
-    /// Whether a message begins in this line, which stands at this place, and was accepted.
-    fn begins(&self, at: usize, line: u64) -> bool {
-        let Some(said) = self.story.lines.get(at) else {
-            return false;
-        };
-        match self.story.drawing.beats(said.drawn).first() {
-            Some(beat) => beat.message == line,
-            None => false,
-        }
+    /// Which messages belong together, for the lines from line 2 on.
+    fn ties(&self, alloc: Global) -> Result<Vec<Ties>, AllocError> {
+        let mut ties = vec![in alloc; Ties::default(); self.begins.len()]?;
+        tie(ties.as_mut_slice(), &self.noted.pairs);
+        number_all(ties.as_mut_slice(), &self.begins);
+        note_shown(ties.as_mut_slice(), &self.items);
+        Ok(ties)
     }
 
-    /// Which messages belong together, for the lines from line 2 on, of which these are shown.
-    fn ties(&self, alloc: Global, items: &[Item]) -> Result<Vec<Ties>, AllocError> {
-        let mut ties = vec![in alloc; Ties::default(); self.story.lines.len()]?;
-        tie(ties.as_mut_slice(), &self.noted.pairs);
-        number_all(ties.as_mut_slice(), self);
-        note_shown(ties.as_mut_slice(), items);
-        Ok(ties)
+    /// What is said from here to there.
+    fn part(&self, from: usize, to: usize) -> &[u8] {
+        self.text.get(from..to).unwrap_or(&[])
     }
 }
 
 impl Scene {
     /// What is said of each line that is shown, in their order.
     pub fn items(&self) -> &[Item] {
-        &self.shown.items
+        &self.told.items
     }
 
     /// The sentence on the lines of an item, and the remarks on them, a line each.
     pub fn sentence(&self, item: &Item) -> &[u8] {
-        self.shown.page.part(item.from, item.to)
+        self.told.part(item.from, item.to)
     }
 
     pub fn remarks(&self, item: &Item) -> &[u8] {
-        self.shown.page.part(item.to, item.end)
+        self.told.part(item.to, item.end)
     }
 
     /// What is said of channels that end within a burst, a line each.
     pub fn cuts(&self) -> &[u8] {
-        let from = self.shown.items.last().map_or(0, |item| item.end);
-        self.shown.page.part(from, self.shown.page.len())
+        let from = self.told.items.last().map_or(0, |item| item.end);
+        self.told.part(from, self.told.text.len())
     }
 
     /// The near beat of an item, and the far beats that it completed.
     pub fn beats(&self, item: &Item) -> &[Drawn] {
-        self.told.story.drawing.beats(item.drawn)
+        self.told.drawing.beats(item.drawn)
     }
 
     /// The line of a beat, without its LF.
     pub fn line(&self, beat: &Drawn) -> &[u8] {
-        self.told.story.drawing.line(beat)
+        self.told.drawing.line(beat)
     }
 
     /// The lanes of a beat, where it has a mask or data and it is known which of them bytes stand on.
     pub fn picture(&self, beat: &Drawn) -> Option<Picture<'_>> {
-        self.told.story.drawing.picture(beat)
+        self.told.drawing.picture(beat)
     }
 
     /// Which messages belong to the one that begins in this line.
@@ -169,13 +160,8 @@ pub fn scene_of(alloc: Global, text: &[u8], look: &Look) -> Result<Scene, TextFa
         ..*look
     };
     let telling = telling_of(alloc, text, &look)?;
-    let shown = telling.told.shown(alloc, &look, true);
-    let ties = telling.told.ties(alloc, &shown.items)?;
-    if shown.page.lacks_a_piece || telling.told.story.drawing.lacks_a_piece {
-        return Err(TextFault::OutOfMemory);
-    }
+    let ties = telling.told.ties(alloc)?;
     Ok(Scene {
-        shown,
         told: telling.told,
         ties,
         answer: telling.answer,

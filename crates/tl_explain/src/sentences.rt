@@ -1,11 +1,9 @@
 //! What came of one line, in a sentence.
-use crate::fate::{Fate, fate_at};
 use crate::faults::put_beat_fault;
-use crate::held::{REFUSED, WAITS};
 use crate::requests::{Request, Requests};
-use crate::story::{Fares, Story};
+use crate::story::{Came, Fares, Story, place};
 use crate::walk::{Brought, Walk};
-use crate::words::{put_beat, source_of};
+use crate::words::{put_fields, source_of};
 use tl_msg::SideFault;
 use tl_remarks::Seen;
 use tl_unreadable::Piece::{Coloured, Id, Length, Number, Text};
@@ -91,107 +89,74 @@ fn put_fault(out: &mut Page, beat: &Seen, fault: SideFault, walk: &Walk, request
     }
 }
 
-/// Writes which beat of its message an accepted beat is, where the message has several.
-fn put_place(out: &mut Page, brought: &Brought) {
-    if brought.beats > 1 {
-        let (beat, beats) = (Number(brought.beat as u64), Number(brought.beats as u64));
-        out.put_all(&[Text(", beat "), beat, Text(" of "), beats]);
-    }
-}
-
-/// Writes which far beats an accepted beat completed, counted from 1, or how much of the next one is
-/// there.
-fn put_brought(out: &mut Page, brought: &Brought) {
-    let (from, to) = (brought.from as u64, brought.to as u64);
-    match to.saturating_sub(from) {
-        0 => {
-            let (staged, whole) = (brought.staged as u64, brought.whole as u64);
-            out.say(
-                ", staged: far beat # has # of its # bytes",
-                &[Number(to.saturating_add(1)), Number(staged), Number(whole)],
-            );
+impl Brought {
+    /// Writes which far beats the beat completed, counted from 1.
+    pub fn put_far(&self, out: &mut Page) {
+        let (from, to) = (self.from as u64, self.to as u64);
+        if to.saturating_sub(from) == 1 {
+            out.put_text(", far beat ");
+        } else {
+            out.put_text(", far beats ");
+            out.put_number(from.saturating_add(1));
+            out.put_text(" to ");
         }
-        1 => out.put_all(&[Text(", far beat "), Number(to)]),
-        _ => {
-            let first = Number(from.saturating_add(1));
-            out.put_all(&[Text(", far beats "), first, Text(" to "), Number(to)]);
-        }
+        out.put_number(to);
     }
 }
 
 impl Story {
-    /// Counts the request that an accepted beat of A begins.
-    fn add_request(&mut self, beat: &Seen) {
-        let is_there = self.requests.push(Request {
-            source: beat.source,
-            size: beat.size,
-            address: beat.address,
-            line: self.walk.first_line,
-        });
-        self.page.lacks_a_piece |= !is_there;
-    }
-
-    /// Writes which request an accepted beat answers, if it begins a response to one. It counts as
-    /// answered from now on.
-    fn put_answered(&mut self, beat: &Seen) {
-        if let Some(request) = self.requests.answer(beat.source) {
-            self.walk.home = request.address;
-            let line = Number(request.line);
-            self.page.put_all(&[Text(", answers line "), line]);
-        }
-    }
-
-    /// Writes what the next near beat brought, which was accepted.
-    fn put_accepted(&mut self, beat: &Seen) {
-        let brought = self.walk.accept(beat);
-        put_place(&mut self.page, &brought);
-        let accepted = Coloured(Colour::Green, "accepted");
-        self.page.put_all(&[Text(": "), accepted]);
-        put_brought(&mut self.page, &brought);
-        if brought.beat == 1 && beat.letter == b'A' {
-            self.add_request(beat);
-        }
-        if brought.beat == 1 && beat.answers_request() {
-            self.put_answered(beat);
-        }
-    }
-
-    /// Writes why the next near beat was not accepted, after a word that says how it fares.
-    fn put_held(&mut self, beat: &Seen, fault: SideFault, word: Piece<'static>) {
+    /// Writes why a beat was not accepted, after a word that says how it fares.
+    fn put_held(&mut self, beat: &Seen, fault: Option<SideFault>, word: Piece<'static>) {
         self.page.say(": #, ", &[word]);
-        put_fault(&mut self.page, beat, fault, &self.walk, &self.requests);
+        if let Some(fault) = fault {
+            put_fault(&mut self.page, beat, fault, &self.walk, &self.requests);
+        }
     }
 
-    /// Writes what came of the next near beat, and says whether it was accepted.
-    fn put_fate(&mut self, beat: &Seen) -> bool {
-        let fate = fate_at(self.walk.near, &self.verdict);
-        match fate {
-            Fate::Accepted => self.put_accepted(beat),
-            Fate::Refused(fault) => {
-                self.stop(Fares::Refused, REFUSED);
-                self.put_held(beat, fault, Coloured(Colour::Red, "refused"));
-            }
-            Fate::Waiting(fault) => {
-                self.stop(Fares::Waits, WAITS);
-                self.put_held(beat, fault, Coloured(Colour::Yellow, "waiting"));
-            }
-            Fate::NotOffered => {
-                self.note(Fares::NotOffered);
-                let stop = self.stops.last().copied().unwrap_or_default();
-                self.page.put(Text(": not offered, since "));
+    /// Writes that a beat was accepted, in a message that has no other.
+    fn put_accepted(&mut self) {
+        self.page.put_text(": ");
+        self.page.put_coloured(Colour::Green, "accepted");
+        self.walk.brought.put_far(&mut self.page);
+    }
+
+    /// Writes what came of a beat.
+    fn put_fate(&mut self, beat: &Seen, came: &Came) {
+        match came.fares {
+            Fares::Accepted => self.put_accepted(),
+            Fares::Refused => self.put_held(beat, came.fault, Coloured(Colour::Red, "refused")),
+            Fares::Waits => self.put_held(beat, came.fault, Coloured(Colour::Yellow, "waiting")),
+            Fares::NotOffered => {
+                let stop = self.stop_of(beat.letter).unwrap_or_default();
+                self.page.put_text(": not offered, since ");
                 stop.put(&mut self.page);
             }
         }
-        matches!(fate, Fate::Accepted)
     }
 
-    /// Writes what came of the next near beat, in a line, and says whether it was accepted.
-    pub fn put_line(&mut self, beat: &Seen) -> bool {
-        let line = Number(self.walk.cursor.line());
-        self.page.put_all(&[Text("line "), line, Text(": ")]);
-        put_beat(&mut self.page, beat);
-        let accepted = self.put_fate(beat);
-        self.page.put(Text("\n"));
-        accepted
+    /// Writes the fields of a beat, and what came of it.
+    fn put_beat(&mut self, beat: &Seen, came: &Came) {
+        let brought = &self.walk.brought;
+        if came.fares == Fares::Accepted && brought.beats > 1 {
+            if let Some(alike) = self.alike.get_mut(place(beat.letter)) {
+                alike.put(&mut self.page, beat, brought, self.walk.first_line);
+            }
+            return;
+        }
+        self.page.put_text(": ");
+        put_fields(&mut self.page, beat);
+        self.put_fate(beat, came);
+    }
+
+    /// Writes what came of the beat of the line that is told, in a line.
+    pub fn put_line(&mut self, beat: &Seen, came: &Came) {
+        self.page.put_text("line ");
+        self.page.put_bytes(self.count.digits());
+        self.put_beat(beat, came);
+        if came.answers != 0 {
+            self.page.put_text(", answers line ");
+            self.page.put_number(came.answers);
+        }
+        self.page.put_text("\n");
     }
 }

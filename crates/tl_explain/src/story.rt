@@ -1,15 +1,20 @@
-//! What is said of the lines of a text.
+//! What is said of the lines of a text, told line by line.
+use crate::alike::Alike;
+use crate::count::Count;
 use crate::drawing::{Drawing, Drawn};
-use crate::held::Stop;
-use crate::look::Look;
+use crate::fate::Fate;
+use crate::held::{REFUSED, Stop, WAITS};
+use crate::look::{Choice, Look};
 use crate::picture::put_picture;
+use crate::remarks::put_remark;
 use crate::requests::Requests;
+use crate::shown::{Item, Run};
 use crate::walk::Walk;
 use std::alloc::{AllocError, Global};
-use tl_msg::{SourceId, Verdict};
-use tl_remarks::Seen;
+use tl_msg::{SideFault, Verdict};
+use tl_remarks::{Noted, Seen};
 use tl_unreadable::Page;
-use tl_unreadable::Piece::{Bytes, Letter, Number, Text};
+use tl_unreadable::Piece::{Letter, Number};
 
 /// How the beat of a line fares.
 #[derive(Clone, Copy, PartialEq, Eq, Default)]
@@ -24,42 +29,74 @@ pub enum Fares {
     NotOffered,
 }
 
-/// A line of a text: the source of its beat, how that one fares, where on the page stands what is
-/// said of it, and which drawn beat is its own, before its far beats.
-#[derive(Clone, Copy, Default)]
-pub struct SaidLine {
-    pub source: SourceId,
+/// What came of a near beat.
+#[derive(Clone, Copy)]
+pub struct Came {
     pub fares: Fares,
-    pub from: usize,
-    pub to: usize,
-    pub drawn: usize,
+    /// Why it was refused, or waits.
+    pub fault: Option<SideFault>,
+    /// The line of the request that it begins to answer; 0 where there is none.
+    pub answers: u64,
 }
 
-/// What is said of the lines of a text, told channel by channel.
+/// What is said of the lines of a text, told line by line.
 #[derive(Drop)]
 pub struct Story {
-    /// The lines from line 2 on, and the letters that they begin with.
-    pub lines: Vec<SaidLine>,
-    pub letters: Vec<u8>,
-    /// What is said of them, and what is said behind the last one.
+    /// What is said of the lines that are shown.
     pub page: Page,
-    pub cuts: Page,
-    /// Where channels stopped.
-    pub stops: Vec<Stop>,
-    /// The requests that A sent.
+    /// The requests that A sends, of which those are open that no line has answered yet.
     pub requests: Requests,
     /// The version of the trace.
     pub version: u8,
+    /// Which lines are shown.
+    choice: Choice,
     /// Whether each beat has a picture of its lanes.
     has_lanes: bool,
-    /// The lines of the far beats that the last near beat completed.
-    pub far: Vec<u8>,
-    /// The beats that are drawn.
-    pub drawing: Drawing,
-    /// The channel that is told: its letter, what it ends in, and how far its lines have come.
-    letter: u8,
-    pub verdict: Verdict,
+    /// What was noted of the messages, and how many of the remarks are passed.
+    noted: Noted,
+    remarks_passed: usize,
+    /// Where channels stopped, in the order of lines.
+    pub stops: Vec<Stop>,
+    /// How far the lines of the channels have come, from A to E, but for the channel of the line that is
+    /// told: that one's is `walk`, which is of no channel before the first line.
+    walks: Vec<Walk>,
     pub walk: Walk,
+    /// The number of the line that is told, its digits, whether it is shown, and what is noted of it.
+    line: u64,
+    pub count: Count,
+    is_shown: bool,
+    item: Item,
+    /// The last lines that are shown, where their beats were not offered.
+    pub run: Run,
+    /// What the sentences on the beats of a message have alike, for each channel.
+    pub alike: [Alike; 5],
+    /// The lines of the far beats that its beat completed.
+    pub far: Vec<u8>,
+    /// The beats that are drawn, and, where they are, what is noted of the lines that are shown, and for
+    /// each line whether a message begins in it that was accepted.
+    pub drawing: Drawing,
+    pub items: Vec<Item>,
+    begins: Vec<bool>,
+}
+
+/// What was told of a text.
+#[derive(Drop)]
+pub struct Told {
+    /// What is said of the lines that are shown, in their order, and behind them of channels that end
+    /// within a burst.
+    pub text: Vec<u8>,
+    pub noted: Noted,
+    pub drawing: Drawing,
+    pub items: Vec<Item>,
+    pub begins: Vec<bool>,
+}
+
+/// The letters of the channels.
+pub const LETTERS: &[u8; 5] = b"ABCDE";
+
+/// The place of the channel with this letter among all five.
+pub fn place(letter: u8) -> usize {
+    letter.wrapping_sub(b'A') as usize
 }
 
 /// The line of this number, from 0 on, among lines of so many bytes each.
@@ -69,60 +106,172 @@ fn line_in(lines: &[u8], number: usize, length: usize) -> &[u8] {
 }
 
 impl Story {
-    /// That of a text of this version whose lines begin with these letters from line 2 on, in which
-    /// nothing is said yet.
+    /// That of a text of this version of which no line is told yet, whose channels have these walks before
+    /// them, from A to E.
     pub fn new(
         alloc: Global,
-        letters: Vec<u8>,
         version: u8,
         look: &Look,
-    ) -> Result<Story, AllocError> {
-        let lines = vec![in alloc; SaidLine::default(); letters.len()]?;
-        let requests = Requests::new(alloc)?;
-        Ok(Story {
-            lines,
-            letters,
+        requests: Requests,
+        noted: Noted,
+        walks: Vec<Walk>,
+    ) -> Story {
+        Story {
             page: Page::new(alloc, look.colour),
-            cuts: Page::new(alloc, false),
-            stops: Vec::new(alloc),
             requests,
             version,
+            choice: look.choice,
             has_lanes: look.lanes && !look.page,
+            noted,
+            remarks_passed: 0,
+            stops: Vec::new(alloc),
+            walk: Walk::new(b' ', &Verdict::Done { near: 0, far: 0 }, 1, 1),
+            walks,
+            line: 1,
+            count: Count::one(),
+            is_shown: false,
+            item: Item::default(),
+            run: Run::default(),
+            alike: [
+                Alike::new(alloc),
+                Alike::new(alloc),
+                Alike::new(alloc),
+                Alike::new(alloc),
+                Alike::new(alloc),
+            ],
             far: Vec::new(alloc),
             drawing: Drawing::new(alloc, look.page),
-            letter: b'A',
-            verdict: Verdict::Done { near: 0, far: 0 },
-            walk: Walk::default(),
-        })
+            items: Vec::new(alloc),
+            begins: Vec::new(alloc),
+        }
     }
 
-    /// Begins the channel with this letter, which ends in this verdict, and goes from a bus of `w`
-    /// bytes to one of `v`.
-    pub fn begin(&mut self, letter: u8, verdict: &Verdict, w: usize, v: usize) {
-        self.letter = letter;
-        self.verdict = *verdict;
-        self.walk = Walk {
-            w,
-            v,
-            ..Walk::default()
+    /// Goes on to the channel with this letter.
+    fn turn_to(&mut self, letter: u8) {
+        if letter == self.walk.letter {
+            return;
+        }
+        let last = self.walk;
+        if let Some(walk) = self.walks.get_mut(place(last.letter)) {
+            *walk = last;
+        }
+        if let Some(walk) = self.walks.get(place(letter)) {
+            self.walk = *walk;
+        }
+    }
+
+    /// Begins the next line, which has this letter.
+    pub fn begin_line(&mut self, letter: u8) {
+        self.turn_to(letter);
+        self.line = self.line.saturating_add(1);
+        self.count.go_up();
+        self.item = Item {
+            letter,
+            line: self.line,
+            last: self.line,
+            drawn: self.drawing.len(),
+            ..Item::default()
         };
     }
 
-    /// Writes what came of the channel's next near beat, which has these bytes on its lanes, and says
-    /// whether it was accepted.
-    pub fn put_near(&mut self, beat: &Seen, lanes: &[u8]) -> bool {
-        let from = self.page.len();
-        self.walk.cursor.seek(&self.letters, self.letter);
-        if let Some(line) = self.lines.get_mut(self.walk.cursor.place()) {
-            line.from = from;
-            line.source = beat.source;
-            line.drawn = self.drawing.len();
+    /// Notes that the channel stops at the next near beat, which fares so.
+    fn stop(&mut self, how: &'static str) {
+        let stop = Stop {
+            letter: self.walk.letter,
+            line: self.line,
+            how,
+        };
+        self.page.lacks_a_piece |= self.stops.push(stop).is_err();
+    }
+
+    /// Where the channel with this letter stopped, if it did.
+    pub fn stop_of(&self, letter: u8) -> Option<Stop> {
+        for stop in &self.stops {
+            if stop.letter == letter {
+                return Some(*stop);
+            }
         }
-        let accepted = self.put_line(beat);
-        if let (true, Some(home)) = (self.has_lanes, self.near_home(beat, accepted)) {
-            put_picture(&mut self.page, "near", beat, lanes, home);
+        None
+    }
+
+    /// Counts the request as answered that an accepted beat answers, if it begins a response to one, and
+    /// gives the line of that request, else 0.
+    fn answer(&mut self, beat: &Seen) -> u64 {
+        if self.walk.brought.beat != 1 || !beat.answers_request() {
+            return 0;
+        }
+        match self.requests.answer(beat.source) {
+            Some(request) => {
+                self.walk.home = request.address;
+                request.line
+            }
+            None => 0,
+        }
+    }
+
+    /// Goes on by the channel's next near beat, and says what came of it.
+    fn go_on(&mut self, beat: &Seen) -> Came {
+        let fate = self.walk.fate();
+        let (fares, fault) = match fate {
+            Fate::Accepted => (Fares::Accepted, None),
+            Fate::Refused(fault) => (Fares::Refused, Some(fault)),
+            Fate::Waiting(fault) => (Fares::Waits, Some(fault)),
+            Fate::NotOffered => (Fares::NotOffered, None),
+        };
+        let mut answers = 0;
+        match fares {
+            Fares::Accepted => {
+                self.walk.accept(beat, self.line);
+                answers = self.answer(beat);
+            }
+            Fares::Refused => self.stop(REFUSED),
+            Fares::Waits => self.stop(WAITS),
+            Fares::NotOffered => (),
+        }
+        Came {
+            fares,
+            fault,
+            answers,
+        }
+    }
+
+    /// Whether there is a remark on the line.
+    fn has_remarks(&self) -> bool {
+        match self.noted.remarks.get(self.remarks_passed) {
+            Some(remark) => remark.message.line == self.line,
+            None => false,
+        }
+    }
+
+    /// Writes what came of the channel's next near beat, which has these bytes on its lanes, if the line is
+    /// shown, and says whether it was accepted.
+    pub fn put_near(&mut self, beat: &Seen, lanes: &[u8]) -> bool {
+        let came = self.go_on(beat);
+        let accepted = came.fares == Fares::Accepted;
+        self.item.fares = came.fares;
+        self.is_shown = self
+            .choice
+            .shows(&self.item, beat.source, self.has_remarks());
+        if self.is_shown && self.begins_sentence() {
+            self.item.from = self.page.len();
+            self.put_line(beat, &came);
+            if let (true, Some(home)) = (self.has_lanes, self.near_home(beat, accepted)) {
+                put_picture(&mut self.page, "near", beat, lanes, home);
+            }
         }
         accepted
+    }
+
+    /// Whether a sentence begins with the line: not where it goes on with lines whose beats were not
+    /// offered. Ends these where it does not.
+    fn begins_sentence(&mut self) -> bool {
+        if self.item.fares == Fares::NotOffered {
+            return self.run.count == 0;
+        }
+        if self.run.count != 0 {
+            self.end_run();
+        }
+        true
     }
 
     /// The address by which bytes stand on the lanes of the next near beat. Not known of a response that
@@ -152,27 +301,13 @@ impl Story {
         self.drawing.add(&drawn, lanes, line);
     }
 
-    /// Whether the far beats are shown on their lanes.
+    /// Whether the far beats are shown, and whether they are on their lanes.
+    pub fn shows_far(&self) -> bool {
+        self.is_shown || self.drawing.is_wanted
+    }
+
     pub fn shows_far_lanes(&self) -> bool {
         self.has_lanes || self.drawing.is_wanted
-    }
-
-    /// Notes how the next near beat fares.
-    pub fn note(&mut self, fares: Fares) {
-        if let Some(line) = self.lines.get_mut(self.walk.cursor.place()) {
-            line.fares = fares;
-        }
-    }
-
-    /// Notes that the channel stops at the next near beat, which fares so.
-    pub fn stop(&mut self, fares: Fares, how: &'static str) {
-        let stop = Stop {
-            letter: self.letter,
-            line: self.walk.cursor.line(),
-            how,
-        };
-        self.page.lacks_a_piece |= self.stops.push(stop).is_err();
-        self.note(fares);
     }
 
     /// Writes the line of the far beat of this number, from 0 on, among those that the last near beat
@@ -181,8 +316,8 @@ impl Story {
         if self.drawing.is_wanted {
             return;
         }
-        self.page.put(Text("    "));
-        self.page.put(Bytes(line_in(&self.far, number, length)));
+        self.page.put_text("    ");
+        self.page.put_bytes(line_in(&self.far, number, length));
     }
 
     /// Draws the same far beat, or writes the picture of its lanes.
@@ -204,29 +339,97 @@ impl Story {
             .add(&drawn, lanes, line_in(&self.far, number, length));
     }
 
-    /// Notes that all is said of the line of the next near beat, and goes on by it.
-    pub fn end_line(&mut self) {
-        let to = self.page.len();
-        if let Some(line) = self.lines.get_mut(self.walk.cursor.place()) {
-            line.to = to;
+    /// Passes the remarks on the line, and writes them where it is shown.
+    fn put_remarks(&mut self) {
+        for at in self.remarks_passed..self.noted.remarks.len() {
+            let Some(remark) = self.noted.remarks.get(at).copied() else {
+                break;
+            };
+            if remark.message.line != self.line {
+                break;
+            }
+            if self.is_shown {
+                put_remark(&mut self.page, &remark, self.version);
+            }
+            self.remarks_passed = at.saturating_add(1);
         }
+    }
+
+    /// Notes of the line in which the next near beat stands what a page needs.
+    fn note_line(&mut self) {
+        if self.drawing.is_wanted {
+            let begins = self.item.fares == Fares::Accepted && self.walk.brought.beat == 1;
+            self.page.lacks_a_piece |= self.begins.push(begins).is_err();
+        }
+    }
+
+    /// Notes what is said of a line, or of several.
+    pub fn note(&mut self, item: Item) {
+        if self.drawing.is_wanted {
+            self.page.lacks_a_piece |= self.items.push(item).is_err();
+        }
+    }
+
+    /// Writes the remarks on the line of the next near beat, of which all else is said, and goes on by it.
+    pub fn end_line(&mut self) {
+        self.item.to = self.page.len();
+        self.put_remarks();
+        self.item.end = self.page.len();
+        if self.is_shown {
+            self.end_shown();
+        }
+        self.note_line();
         self.walk.near = self.walk.near.saturating_add(1);
     }
 
-    /// Writes where the channel's lines end within a burst, if they do.
-    pub fn end(&mut self) {
-        if let Verdict::Cut { .. } = self.verdict {
-            let letter = self.letter;
-            let (line, index, beats) = (self.walk.first_line, self.walk.index, self.walk.beats);
-            self.cuts.say(
+    /// Notes what is said of the line, or adds it to those whose beats were not offered. Several of these
+    /// have one sentence, which is written once all are there.
+    fn end_shown(&mut self) {
+        if self.item.fares != Fares::NotOffered {
+            return self.note(self.item);
+        }
+        if self.run.count == 1 {
+            self.page.truncate(self.run.item.from);
+        }
+        self.run.add(&self.item);
+    }
+
+    /// Writes where the lines of a channel end within a burst, if they do.
+    fn put_cut(&mut self) {
+        let walk = &self.walk;
+        if let Verdict::Cut { .. } = walk.verdict {
+            self.page.say(
                 "# ends within the burst that line # begins: # of its # beats are there\n",
                 &[
-                    Letter(letter),
-                    Number(line),
-                    Number(index as u64),
-                    Number(beats as u64),
+                    Letter(walk.letter),
+                    Number(walk.first_line),
+                    Number(walk.index as u64),
+                    Number(walk.beats as u64),
                 ],
             );
         }
+    }
+
+    /// Writes what is said behind the last line.
+    pub fn end(&mut self) {
+        self.end_run();
+        for letter in LETTERS {
+            self.turn_to(*letter);
+            self.put_cut();
+        }
+    }
+
+    /// All that was told, where memory was there for it.
+    pub fn told(self) -> Result<Told, AllocError> {
+        if self.drawing.lacks_a_piece {
+            return Err(AllocError);
+        }
+        Ok(Told {
+            text: self.page.into_text()?,
+            noted: self.noted,
+            drawing: self.drawing,
+            items: self.items,
+            begins: self.begins,
+        })
     }
 }

@@ -1,19 +1,22 @@
 //! How far the lines of one channel have come.
 ghost use Rattle.std.specs.Prelude.{◌≤◌};
 
+use crate::fate::{Fate, fate_at};
 use tl_lanes::MAX_SIZE;
-use tl_remarks::{Cursor, Seen};
+use tl_msg::Verdict;
+use tl_remarks::Seen;
 
 /// How far the lines of one channel have come.
-#[derive(Clone, Copy, Default)]
+#[derive(Clone, Copy)]
 pub struct Walk {
+    /// The channel's letter, and what it ends in.
+    pub letter: u8,
+    pub verdict: Verdict,
     /// The bytes of the bus that the near beats stand on, and of that of the far beats.
     pub w: usize,
     pub v: usize,
-    /// The line of the next near beat.
-    pub cursor: Cursor,
-    /// The near beats before it.
-    pub near: u64,
+    /// The near beats before the next one.
+    pub near: usize,
     /// The far beats that are whole, and those before the message that is open, or was last.
     pub far: usize,
     pub far_before: usize,
@@ -50,12 +53,48 @@ pub struct Brought {
     pub first_byte: usize,
 }
 
+impl Brought {
+    /// The far beat, from 1 on, of which bytes are there; 0 where the beat completed one.
+    pub fn staged_far(&self) -> u64 {
+        if self.from < self.to {
+            return 0;
+        }
+        (self.to as u64).saturating_add(1)
+    }
+}
+
 impl Walk {
-    /// Goes on by the next near beat, which was accepted.
-    pub fn accept(&mut self, beat: &Seen) -> Brought {
+    /// None of the lines of the channel with this letter, which ends in this verdict, and goes from a bus
+    /// of `w` bytes to one of `v`.
+    pub fn new(letter: u8, verdict: &Verdict, w: usize, v: usize) -> Walk {
+        Walk {
+            letter,
+            verdict: *verdict,
+            w,
+            v,
+            near: 0,
+            far: 0,
+            far_before: 0,
+            index: 0,
+            staged: 0,
+            beats: 0,
+            first: Seen::default(),
+            first_line: 0,
+            home: 0,
+            brought: Brought::default(),
+        }
+    }
+
+    /// What came of the next near beat.
+    pub fn fate(&self) -> Fate {
+        fate_at(self.near as u64, &self.verdict)
+    }
+
+    /// Goes on by the next near beat, which was accepted and stands in this line.
+    pub fn accept(&mut self, beat: &Seen, line: u64) -> Brought {
         if self.index == 0 {
             self.first = *beat;
-            self.first_line = self.cursor.line();
+            self.first_line = line;
             self.home = beat.address;
             self.far_before = self.far;
         }

@@ -1,7 +1,7 @@
 //! A beat in words.
 use tl_remarks::Seen;
 use tl_unreadable::Page;
-use tl_unreadable::Piece::{self, Address, Id, Length, Letter, Name, Opcode, Text};
+use tl_unreadable::Piece::{self, Id, Name, Opcode, Text};
 
 /// The message's name, as the standard spells it.
 pub fn name_of(beat: &Seen) -> Piece<'static> {
@@ -22,17 +22,32 @@ pub fn sink_of(beat: &Seen) -> Piece<'static> {
     Id(beat.sink, beat.version)
 }
 
-/// Writes its channel, its message, and the fields by which one knows it.
-pub fn put_beat(out: &mut Page, beat: &Seen) {
-    out.put_all(&[Letter(beat.letter), Text(" "), name_of(beat)]);
+/// Writes its channel, its message, and the fields by which one knows it: what all beats of a message have
+/// alike.
+fn put_head(out: &mut Page, beat: &Seen) {
+    out.put_bytes(&[beat.letter, b' ']);
+    out.put(name_of(beat));
     if beat.letter == b'E' {
-        return out.put_all(&[Text(", sink "), sink_of(beat)]);
+        out.put_text(", sink ");
+        return out.put_id(beat.sink, beat.version);
     }
-    let (source, length) = (source_of(beat), Length(beat.size));
-    out.put_all(&[Text(", source "), source, Text(", "), length]);
+    out.put_text(", source ");
+    out.put_id(beat.source, beat.version);
+    out.put_text(", ");
+    out.put_length(beat.size);
     if beat.letter != b'D' {
-        out.put_all(&[Text(" at "), Address(beat.address)]);
+        out.put_text(" at ");
+        out.put_address(beat.address);
     }
-    out.put(Text(if beat.denied { ", denied" } else { "" }));
-    out.put(Text(if beat.corrupt { ", corrupt" } else { "" }));
+    if beat.denied {
+        out.put_text(", denied");
+    }
+}
+
+/// The same, and whether the beat is corrupt.
+pub fn put_fields(out: &mut Page, beat: &Seen) {
+    put_head(out, beat);
+    if beat.corrupt {
+        out.put_text(", corrupt");
+    }
 }

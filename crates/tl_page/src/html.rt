@@ -1,7 +1,7 @@
 //! A page that is written piece by piece.
-use crate::escape::put_escaped;
 use itoa::Buffer;
 use std::alloc::{AllocError, Global};
+use tl_unreadable::put_escaped;
 
 /// The digits of a byte.
 const DIGITS: &[u8; 16] = b"0123456789abcdef";

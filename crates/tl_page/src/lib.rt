@@ -2,7 +2,6 @@
 #![tactic(auto)]
 
 mod beat;
-mod escape;
 mod html;
 mod page;
 mod row;
@@ -11,5 +10,5 @@ mod stream;
 mod style;
 mod summary;
 
-pub use escape::put_escaped;
 pub use stream::run_page;
+pub use tl_unreadable::put_escaped;

@@ -167,13 +167,16 @@ fn add_channel<K: Told, const W: usize>(
         }
         before -= 1;
         cursor.seek(letters, letter);
-        let beat = seen_of::<K, W>(beat, 1);
         let begins = left == 0;
-        if begins {
-            left = beat.beats(W);
+        // of the later beats of a message those of D alone can have a remark
+        if begins || letter == b'D' {
+            let seen = seen_of::<K, W>(beat, 1);
+            if begins {
+                left = seen.beats(W);
+            }
+            notes.add_beat(&seen, cursor.line(), begins)?;
         }
         left = left.saturating_sub(1);
-        notes.add_beat(&beat, cursor.line(), begins)?;
     }
     Ok(())
 }

@@ -17,7 +17,6 @@ pub enum Colour {
 #[derive(Clone, Copy)]
 pub enum Piece<'a> {
     Text(&'a str),
-    Bytes(&'a [u8]),
     /// A text in a colour, where the page has colours.
     Coloured(Colour, &'a str),
     Letter(u8),
@@ -37,9 +36,7 @@ pub enum Piece<'a> {
     Opcode(u8),
 }
 
-use Piece::{
-    Address, Byte, Bytes, Coloured, Column, Id, Length, Letter, Name, Number, Opcode, Text,
-};
+use Piece::{Address, Byte, Coloured, Column, Id, Length, Letter, Name, Number, Opcode, Text};
 
 /// The hexadecimal digits, and how many of them a number has at most.
 const DIGITS: &[u8; 16] = b"0123456789abcdef";
@@ -72,11 +69,22 @@ fn kind_name(kind: Kind) -> &'static str {
     }
 }
 
+/// The last decimal digit of a number.
+fn decimal(number: u64) -> u8 {
+    b'0' + (number % 10) as u8
+}
+
+/// How many bytes are put together before they go to the text.
+const ROOM: usize = 512;
+
 /// Text that is written piece by piece. Whether memory was there for all pieces is asked once, at the
 /// end.
 #[derive(Drop)]
 pub struct Page {
+    /// The text, but for its last bytes: those stand in `last`, of which so many are `used`.
     text: Vec<u8>,
+    last: [u8; ROOM],
+    used: usize,
     has_colours: bool,
     pub lacks_a_piece: bool,
 }
@@ -86,6 +94,8 @@ impl Page {
     pub fn new(alloc: Global, has_colours: bool) -> Page {
         Page {
             text: Vec::new(alloc),
+            last: [0; ROOM],
+            used: 0,
             has_colours,
             lacks_a_piece: false,
         }
@@ -93,21 +103,65 @@ impl Page {
 
     /// The whole text, where memory was there for all of it.
     pub fn into_text(self) -> Result<Vec<u8>, AllocError> {
-        if self.lacks_a_piece {
+        let mut page = self;
+        page.settle();
+        if page.lacks_a_piece {
             return Err(AllocError);
         }
-        Ok(self.text)
+        Ok(page.text)
     }
 
-    /// Writes bytes.
-    fn put_bytes(&mut self, bytes: &[u8]) {
+    /// Moves the last bytes to the text.
+    fn settle(&mut self) {
+        let last = self.last.get(..self.used).unwrap_or(&[]);
+        if self.text.extend_from_slice(last).is_err() {
+            self.lacks_a_piece = true;
+        }
+        self.used = 0;
+    }
+
+    /// Writes bytes for which there is no room among the last ones.
+    #[inline(never)]
+    fn put_apart(&mut self, bytes: &[u8]) {
+        self.settle();
         if self.text.extend_from_slice(bytes).is_err() {
             self.lacks_a_piece = true;
         }
     }
 
+    /// Writes bytes.
+    #[inline(always)]
+    pub fn put_bytes(&mut self, bytes: &[u8]) {
+        let end = self.used.saturating_add(bytes.len());
+        match self.last.get_mut(self.used..end) {
+            Some(room) => {
+                room.copy_from_slice(bytes);
+                self.used = end;
+            }
+            None => self.put_apart(bytes),
+        }
+    }
+
+    /// Writes a word.
+    #[inline(always)]
+    pub fn put_text(&mut self, word: &str) {
+        self.put_bytes(word.as_bytes());
+    }
+
+    /// Writes a number in decimal digits.
+    pub fn put_number(&mut self, number: u64) {
+        match number {
+            0..=9 => self.put_bytes(&[decimal(number)]),
+            10..=99 => self.put_bytes(&[decimal(number / 10), decimal(number % 10)]),
+            _ => {
+                let mut buffer = Buffer::new();
+                self.put_bytes(buffer.format(number).as_bytes());
+            }
+        }
+    }
+
     /// Writes a number in decimal digits, behind blanks where it has fewer than so many.
-    fn put_decimal(&mut self, number: u64, room: usize) {
+    fn put_column(&mut self, number: u64, room: usize) {
         let mut buffer = Buffer::new();
         let digits = buffer.format(number).as_bytes();
         for _ in digits.len()..room {
@@ -133,26 +187,48 @@ impl Page {
         self.put_bytes(digits.get(first..).unwrap_or(&[]));
     }
 
-    /// Writes a word in a colour.
-    fn put_coloured(&mut self, colour: Colour, word: &str) {
+    /// Writes an address.
+    pub fn put_address(&mut self, address: u64) {
+        self.put_bytes(b"0x");
+        self.put_hex(address, 1);
+    }
+
+    /// Writes a source or a sink, with the digits that it has in a trace of this version.
+    pub fn put_id(&mut self, id: SourceId, version: u8) {
+        self.put_hex(id as u64, id_digits(version));
+    }
+
+    /// Writes a word in a colour, of a terminal.
+    #[inline(never)]
+    fn put_in_colour(&mut self, colour: Colour, word: &str) {
         self.put_bytes(b"\x1b[");
-        self.put_decimal(colour as u64, 0);
+        self.put_number(colour as u64);
         self.put_bytes(b"m");
-        self.put_bytes(word.as_bytes());
+        self.put_text(word);
         self.put_bytes(b"\x1b[0m");
     }
 
+    /// Writes a word in a colour, where the page has colours.
+    #[inline(always)]
+    pub fn put_coloured(&mut self, colour: Colour, word: &str) {
+        if self.has_colours {
+            self.put_in_colour(colour, word);
+        } else {
+            self.put_text(word);
+        }
+    }
+
     /// Writes how long a message of this size is.
-    fn put_length(&mut self, size: u8) {
+    pub fn put_length(&mut self, size: u8) {
         match size {
             0 => self.put_bytes(b"1 byte"),
             1..=MAX_SIZE => {
-                self.put_decimal(1u64 << size, 0);
+                self.put_number(1u64 << size);
                 self.put_bytes(b" bytes");
             }
             _ => {
                 self.put_bytes(b"2^");
-                self.put_decimal(size as u64, 0);
+                self.put_number(size as u64);
                 self.put_bytes(b" bytes");
             }
         }
@@ -161,26 +237,22 @@ impl Page {
     /// Writes a piece.
     pub fn put(&mut self, piece: Piece<'_>) {
         match piece {
-            Coloured(colour, word) if self.has_colours => self.put_coloured(colour, word),
-            Text(word) | Coloured(_, word) => self.put_bytes(word.as_bytes()),
-            Bytes(bytes) => self.put_bytes(bytes),
+            Text(word) => self.put_text(word),
+            Coloured(colour, word) => self.put_coloured(colour, word),
             Letter(letter) => self.put_bytes(&[letter]),
-            Number(number) => self.put_decimal(number, 0),
+            Number(number) => self.put_number(number),
             Column(number, digits) => {
                 self.put_bytes(b" ");
-                self.put_decimal(number as u64, digits);
+                self.put_column(number as u64, digits);
             }
             Byte(byte) => self.put_hex(byte as u64, 2),
-            Address(address) => {
-                self.put_bytes(b"0x");
-                self.put_hex(address, 1);
-            }
-            Id(id, version) => self.put_hex(id as u64, id_digits(version)),
+            Address(address) => self.put_address(address),
+            Id(id, version) => self.put_id(id, version),
             Length(size) => self.put_length(size),
-            Name(kind) => self.put_bytes(kind_name(kind).as_bytes()),
+            Name(kind) => self.put_text(kind_name(kind)),
             Opcode(opcode) => {
                 self.put_bytes(b"opcode ");
-                self.put_decimal(opcode as u64, 0);
+                self.put_number(opcode as u64);
             }
         }
     }
@@ -208,24 +280,17 @@ impl Page {
 
     /// How many bytes were written.
     pub fn len(&self) -> usize {
-        self.text.len()
+        self.text.len().saturating_add(self.used)
     }
 
-    /// Makes room for so many bytes more.
-    pub fn reserve(&mut self, bytes: usize) {
-        if self.text.reserve(bytes).is_err() {
-            self.lacks_a_piece = true;
-        }
+    /// What was written from here on, if that is little.
+    pub fn end_from(&self, from: usize) -> Option<&[u8]> {
+        self.last.get(from.wrapping_sub(self.text.len())..self.used)
     }
 
-    /// What is written from here to there.
-    pub fn part(&self, from: usize, to: usize) -> &[u8] {
-        self.text.get(from..to).unwrap_or(&[])
-    }
-
-    /// Writes what another page has from here to there.
-    pub fn put_part(&mut self, page: &Page, from: usize, to: usize) {
-        self.lacks_a_piece |= page.lacks_a_piece;
-        self.put_bytes(page.part(from, to));
+    /// Takes back all but so many first bytes.
+    pub fn truncate(&mut self, length: usize) {
+        self.settle();
+        self.text.truncate(length);
     }
 }

@@ -1,0 +1,42 @@
+//! A number that goes up by one, in decimal digits.
+
+/// The most digits that a number has.
+const MOST_DIGITS: usize = 20;
+
+/// A number that goes up by one, in decimal digits.
+#[derive(Clone, Copy)]
+pub struct Count {
+    /// The digits with zeros before them, and where the first digit stands.
+    digits: [u8; MOST_DIGITS],
+    first: usize,
+}
+
+impl Count {
+    /// One.
+    pub fn one() -> Count {
+        let mut digits = [b'0'; MOST_DIGITS];
+        digits[MOST_DIGITS - 1] = b'1';
+        Count {
+            digits,
+            first: MOST_DIGITS - 1,
+        }
+    }
+
+    /// Goes up by one.
+    pub fn go_up(&mut self) {
+        for back in 1..=MOST_DIGITS {
+            let at = MOST_DIGITS - back;
+            if self.digits[at] < b'9' {
+                self.digits[at] += 1;
+                self.first = self.first.min(at);
+                return;
+            }
+            self.digits[at] = b'0';
+        }
+    }
+
+    /// Its digits.
+    pub fn digits(&self) -> &[u8] {
+        self.digits.get(self.first..).unwrap_or(&[])
+    }
+}
