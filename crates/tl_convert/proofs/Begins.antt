@@ -68,7 +68,8 @@ module _ {H : Type 0} (r : Rules H) (w : ℕ) where
   heads_inside_one (suc k) l (x ∷ xs) b e = heads_inside_one k l xs b e
 
   -- and how many beats the last message then lacks
-  pub left_open : (k : ℕ) (xs : List (BeatOf H w)) (b : BeatOf H w) → left_from r w k xs ≡ 0 → left_from r w k (xs ++ b ∷ []) ≡ beats_of r b.head w - 1
+  pub left_open : (k : ℕ) (xs : List (BeatOf H w)) (b : BeatOf H w) → left_from r w k xs ≡ 0 →
+      left_from r w k (xs ++ b ∷ []) ≡ beats_of r b.head w - 1
   left_open zero [] b e = refl
   left_open (suc k) [] b e = cc
   left_open zero (x ∷ xs) b e = left_open (beats_of r x.head w - 1) xs b e

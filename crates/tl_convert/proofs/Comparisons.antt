@@ -28,7 +28,8 @@ pub map_true : {X : Type 0} (f : X → Bool) (o : Option X) → option_map_or f 
 map_true f None e = cc
 map_true f (Some x) e = (x, refl, e)
 
-pub map_imp : {X : Type 0} (f g : X → Bool) (o : Option X) → ((x : X) → f x ≡ true → g x ≡ true) → option_map_or f o false ≡ true → option_map_or g o false ≡ true
+pub map_imp : {X : Type 0} (f g : X → Bool) (o : Option X) → ((x : X) → f x ≡ true → g x ≡ true) → option_map_or f o false ≡ true →
+    option_map_or g o false ≡ true
 map_imp f g None h e = e
 map_imp f g (Some x) h e = h x e
 

@@ -15,7 +15,8 @@ module _ {H : Type 0} (r : Rules H) {w : ℕ} where
   open-burst [] ne = absurd (ne refl)
   open-burst (b ∷ bs) ne = (b.head, refl, refl)
 
-  rest-open : (rest : List (BeatOf H w)) (h : H) (count : ℕ) → burst_of r rest ≡ Some (h, count) → (rest ≢ []) × (head_of rest ≡ Some h) × (count ≡ length rest)
+  rest-open : (rest : List (BeatOf H w)) (h : H) (count : ℕ) → burst_of r rest ≡ Some (h, count) →
+      (rest ≢ []) × (head_of rest ≡ Some h) × (count ≡ length rest)
   rest-open [] h count e = absurd (cc)
   rest-open (b ∷ bs) h count e =
       let pair : (b.head, length (b ∷ bs)) ≡ (h, count) = same_Some {A = H × ℕ} (b.head, length (b ∷ bs)) (h, count) e in
@@ -73,7 +74,8 @@ module _ {H : Type 0} {w v : ℕ} (r : Rules H) (ww : IsWidth w) (vw : IsWidth v
       (λ (m, some_rest, begins).
       let same : m.home ≡ old.home = same_Some m.home old.home (sym begins.home_is ∙ home-turn ne) in
       let o = open-burst r (rest_of r w bs) ne in
-      let head : m.head ≡ b.head = sym (all-heads m.head (rest_of r w bs) (spelled-heads r w v ww vw partial_masked m (rest_of r w bs) begins.more begins.spells) o.0 o.1) ∙ heads o.0 o.1 in
+      let head : m.head ≡ b.head = sym (all-heads m.head (rest_of r w bs)
+      (spelled-heads r w v ww vw partial_masked m (rest_of r w bs) begins.more begins.spells) o.0 o.1) ∙ heads o.0 o.1 in
       sym same ∙ sym begins.lawful.home ∙ masked_address masked m.head m.home 0 ∙ ap (λ h. r.lane_address h 0) head)
       (rest-begins r w v ww vw partial_masked here)
 
@@ -166,11 +168,15 @@ module _ {H : Type 0} {w v : ℕ} (r : Rules H) (ww : IsWidth w) (vw : IsWidth v
         partial_is = λ h count e.
             let o = rest-open r (rest_of r w (bs ++ b ∷ [])) h count (sym burst_now ∙ e) in
             let g = goes-on (rest_of r w (bs ++ b ∷ [])) step o.0 in
-            let P : H → Type 0 = λ y. Filled r (message_of r y w x (rest_of r w bs ++ b ∷ [])) v (far_beats_of r y w v (length (rest_of r w bs ++ b ∷ [])))
+            let P : H → Type 0 = λ y. Filled r (message_of r y w x (rest_of r w bs ++ b ∷ [])) v
+            (far_beats_of r y w v (length (rest_of r w bs ++ b ∷ [])))
             (length (rest_of r w bs ++ b ∷ []) * per_beat r y w) new.partial in
-            let Q : ℕ → Type 0 = λ n. Filled r (message_of r h w x (rest_of r w bs ++ b ∷ [])) v (far_beats_of r h w v n) (n * per_beat r h w) new.partial in
-            let R : List (BeatOf H w) → Type 0 = λ q. Filled r (message_of r h w x q) v (far_beats_of r h w v count) (count * per_beat r h w) new.partial in
-            let S : ℕ → Type 0 = λ y. Filled r (message_of r h w y (rest_of r w (bs ++ b ∷ []))) v (far_beats_of r h w v count) (count * per_beat r h w) new.partial in
+            let Q : ℕ → Type 0 = λ n. Filled r (message_of r h w x (rest_of r w bs ++ b ∷ [])) v (far_beats_of r h w v n) (n * per_beat r h w)
+            new.partial in
+            let R : List (BeatOf H w) → Type 0 = λ q. Filled r (message_of r h w x q) v (far_beats_of r h w v count) (count * per_beat r h w)
+            new.partial in
+            let S : ℕ → Type 0 = λ y. Filled r (message_of r h w y (rest_of r w (bs ++ b ∷ []))) v (far_beats_of r h w v count)
+            (count * per_beat r h w) new.partial in
             let head : b.head ≡ h = same_Some {A = H} b.head h (sym (head-of-more r (rest_of r w bs) b heads) ∙ ap head_of (sym g.0) ∙ o.1) in
             let size : length (rest_of r w bs ++ b ∷ []) ≡ count = ap length (sym g.0) ∙ sym o.2 in
             subst S (sym home_now) (subst R (sym g.0) (subst Q size (subst P head (given.filled g.1))));

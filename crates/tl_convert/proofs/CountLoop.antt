@@ -9,7 +9,8 @@ use Rattle.tl_convert.specs.Counting.{Gives}
 use Rattle.tl_convert.proofs.ConvertStep.{burst-head}
 use Rattle.tl_convert.proofs.CountStep.{count-more}
 
-module _ {H : Type 0} (r : Rules H) {w : ℕ} (bs : List (BeatOf H w)) (i : ℕ) (accepted : accepted_of r bs ≡ take i bs ++ accepted_after r (take i bs) (drop i bs)) where
+module _ {H : Type 0} (r : Rules H) {w : ℕ} (bs : List (BeatOf H w)) (i : ℕ)
+    (accepted : accepted_of r bs ≡ take i bs ++ accepted_after r (take i bs) (drop i bs)) where
   -- all beats are accepted
   pub accepted-all : length bs ≤ i → accepted_of r bs ≡ take i bs
   accepted-all le = accepted ∙ ap (λ q. take i bs ++ accepted_after r (take i bs) q) (drop_of_length-le bs le) ∙ append-nil (take i bs)
@@ -23,7 +24,8 @@ module _ {H : Type 0} (r : Rules H) {w : ℕ} (bs : List (BeatOf H w)) (i : ℕ)
         let n : suc i ≡ i + 1 = omega arith in
         drop-cons bs i b lt ∙ ap (λ y. y ∷ drop (suc i) bs) (sym is) ∙ ap (λ n. b ∷ drop n bs) n
 
-    next-is : accepted_of r bs ≡ take i bs ++ cond (is_none (fault_after r (take i bs) b)) (b ∷ accepted_after r (take i bs ++ b ∷ []) (drop (i + 1) bs)) []
+    next-is : accepted_of r bs ≡ take i bs ++ cond (is_none (fault_after r (take i bs) b))
+        (b ∷ accepted_after r (take i bs ++ b ∷ []) (drop (i + 1) bs)) []
     next-is = accepted ∙ ap (λ q. take i bs ++ accepted_after r (take i bs) q) others
 
     -- this one is not

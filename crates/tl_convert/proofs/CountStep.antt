@@ -30,7 +30,8 @@ module _ {H : Type 0} (r : Rules H) (w v : ℕ) where
       (outs_after (seen ++ b ∷ []) homes bs) ++
       due_after r w v (cond e (rest_after r w [] bs) (rest_after r w (seen ++ b ∷ []) bs))
       (cond e (homes_after [] (drop 1 homes) bs) (homes_after (seen ++ b ∷ []) homes bs)) ys) [
-        | true ↦ rw append_assoc (ap (λ zs. layout r (message_of r b.head w (slice_index homes 0) (seen ++ b ∷ [])) v ++ zs) (due-split [] (drop 1 homes) bs ys))
+        | true ↦ rw append_assoc (ap (λ zs. layout r (message_of r b.head w (slice_index homes 0) (seen ++ b ∷ [])) v ++ zs)
+            (due-split [] (drop 1 homes) bs ys))
         | false ↦ due-split (seen ++ b ∷ []) homes bs ys
       ]
 
@@ -53,7 +54,8 @@ module _ {H : Type 0} (r : Rules H) (w v : ℕ) where
         div-up (length (a ∷ xs) * per_beat r h w) (2 ^ r.size h) (per_beat r h v) pp (omega arith) in
         let far : beats_of r h v ≡ 2 ^ r.size h / per_beat r h v = far-fill r h w v x ww vw carries in
         ap (λ g. length (take (far_beats_of r g w v (length (a ∷ xs))) (layout r (message_of r g w x (a ∷ xs)) v))) e ∙
-        ap length (take-map-range_with_len (beat_at r (message_of r h w x (a ∷ xs)) v) 0 (beats_of r h v) (far_beats_of r h w v (length (a ∷ xs))) (omega arith)) ∙
+        ap length (take-map-range_with_len (beat_at r (message_of r h w x (a ∷ xs)) v) 0 (beats_of r h v) (far_beats_of r h w v (length (a ∷ xs)))
+        (omega arith)) ∙
         length-map-range_with_len (beat_at r (message_of r h w x (a ∷ xs)) v) 0 (far_beats_of r h w v (length (a ∷ xs)))
 
     -- and of a whole message as many as it has
@@ -85,11 +87,13 @@ module _ {H : Type 0} (r : Rules H) (w v : ℕ) where
         (λ s.
         let t : ends r w rest b ≡ true = s.0 in
         let all : length (due_after r w v rest hs (b ∷ [])) ≡ beats_of r b.head v =
-        rw t (ap length (append-nil (layout r (message_of r b.head w (slice_index hs 0) (rest ++ b ∷ [])) v)) ∙ whole-length b.head (slice_index hs 0) (rest ++ b ∷ [])) in
+        rw t (ap length (append-nil (layout r (message_of r b.head w (slice_index hs 0) (rest ++ b ∷ [])) v)) ∙
+        whole-length b.head (slice_index hs 0) (rest ++ b ∷ [])) in
         ⊎_elim
         (λ carries.
         let k : given + far_beats_of r b.head w v (length rest) ≡ far_beats_of r b.head w v (length rest + 1) = gives.data_beat carries in
-        let last : far_beats_of r b.head w v (length rest + 1) ≡ beats_of r b.head v = ap (far_beats_of r b.head w v) s.1 ∙ whole-count b.head carries in
+        let last : far_beats_of r b.head w v (length rest + 1) ≡ beats_of r b.head v = ap (far_beats_of r b.head w v) s.1 ∙
+        whole-count b.head carries in
         omega arith)
         (λ empty.
         let k : given ≡ 1 = gives.no_data empty in
@@ -111,14 +115,16 @@ module _ {H : Type 0} (r : Rules H) (w v : ℕ) where
         omega arith)
         (eqb_tells (length rest + 1) (beats_of r b.head w))
 
-    pub count-more : (homes : List ℕ) (bs : List (BeatOf H w)) (b : BeatOf H w) (given : ℕ) → ((g : H) → head_of (rest_of r w bs) ≡ Some g → g ≡ b.head) →
+    pub count-more : (homes : List ℕ) (bs : List (BeatOf H w)) (b : BeatOf H w) (given : ℕ) →
+        ((g : H) → head_of (rest_of r w bs) ≡ Some g → g ≡ b.head) →
         length (rest_of r w bs) < beats_of r b.head w → Gives r w v b.head (length (rest_of r w bs)) given →
         length (due r w v (bs ++ b ∷ []) homes) ≡ length (due r w v bs homes) + given
     count-more homes bs b given heads lt gives =
         let hs : List ℕ = homes_after [] homes bs in
         let after : length (due r w v (bs ++ b ∷ []) homes) ≡
         length (outs_after [] homes bs) + length (due_after r w v (rest_of r w bs) (homes_after [] homes bs) (b ∷ [])) =
-        ap length (due-split [] homes bs (b ∷ [])) ∙ length-append (outs_after [] homes bs) (due_after r w v (rest_of r w bs) (homes_after [] homes bs) (b ∷ [])) in
+        ap length (due-split [] homes bs (b ∷ [])) ∙ length-append (outs_after [] homes bs)
+        (due_after r w v (rest_of r w bs) (homes_after [] homes bs) (b ∷ [])) in
         let before : length (due r w v bs homes) ≡
         length (outs_after [] homes bs) + length (part r w v (slice_index (homes_after [] homes bs) 0) (rest_of r w bs)) =
         ap length (ap (λ q. due r w v q homes) (sym (append-nil bs)) ∙ due-split [] homes bs []) ∙

@@ -57,7 +57,8 @@ no-cell [] i e = refl
 no-cell (c ∷ cs) i e = absurd (omega arith)
 
 -- only a message that carries data has a cell
-pub carries-cell : (carries : Bool) (cs : List Cell) (n i : ℕ) (c : Cell) → length cs ≡ cond carries n 0 → slice_get cs i ≡ Some c → (carries ≡ true) × (i < n)
+pub carries-cell : (carries : Bool) (cs : List Cell) (n i : ℕ) (c : Cell) → length cs ≡ cond carries n 0 → slice_get cs i ≡ Some c →
+    (carries ≡ true) × (i < n)
 carries-cell true cs n i c e g = let lt : i < length cs = slice_get_within cs i c g in (refl, omega arith)
 carries-cell false cs n i c e g = let lt : i < length cs = slice_get_within cs i c g in absurd (omega arith)
 
@@ -100,7 +101,8 @@ all-heads {H = H} h [] heads g e = absurd (none-some g e)
 all-heads {H = H} h (b ∷ bs) heads g e = sym (same_Some {A = H} b.head g e) ∙ heads 0 b refl
 
 pub less-factor : (k n p : ℕ) → k * p < n * p → k < n
-less-factor k n p lt = ⊎_elim (λ s. let le : n ≤ k = s.1 in let m : n * p ≤ k * p = grind (arith, mul-le-mul_right) in absurd (omega arith)) (λ s. s.1) (leb_tells n k)
+less-factor k n p lt = ⊎_elim (λ s. let le : n ≤ k = s.1 in let m : n * p ≤ k * p = grind (arith, mul-le-mul_right) in absurd (omega arith))
+    (λ s. s.1) (leb_tells n k)
 
 module _ {H : Type 0} (r : Rules H) where
   module _ (v : ℕ) (vw : IsWidth v) (m : Message H) (lawful : IsLawful r m) where
@@ -219,7 +221,8 @@ module _ {H : Type 0} (r : Rules H) where
           let pp : 0 < per_beat r m.head w = per-pos r m w ww in
           let fill : beats_of r m.head w * per_beat r m.head w ≡ 2 ^ r.size m.head = near-fill r m.head w v m.home ww vw carries in
           let le : k / per_beat r m.head w * per_beat r m.head w ≤ k = div-mul-le_self k (per_beat r m.head w) in
-          let j : k / per_beat r m.head w < beats_of r m.head w = less-factor (k / per_beat r m.head w) (beats_of r m.head w) (per_beat r m.head w) (omega arith) in
+          let j : k / per_beat r m.head w < beats_of r m.head w =
+          less-factor (k / per_beat r m.head w) (beats_of r m.head w) (per_beat r m.head w) (omega arith) in
           let count : length bs ≡ beats_of r m.head w = spells.count in
           let b = there_is bs (k / per_beat r m.head w) (omega arith) in
           let beat : SpellsBeat r m w (k / per_beat r m.head w) b.0 = spells.each (k / per_beat r m.head w) b.0 b.1 in
@@ -254,7 +257,8 @@ module _ {H : Type 0} (r : Rules H) where
           (cases_Bool (r.carries m.head))
 
     -- what is due of a list that begins with the beats of a message
-    pub whole-due : (h : H) (x : ℕ) (homes : List ℕ) (o seen bs : List (BeatOf H w)) → ((j : ℕ) (b : BeatOf H w) → slice_get bs j ≡ Some b → b.head ≡ h) →
+    pub whole-due : (h : H) (x : ℕ) (homes : List ℕ) (o seen bs : List (BeatOf H w)) →
+        ((j : ℕ) (b : BeatOf H w) → slice_get bs j ≡ Some b → b.head ≡ h) →
         bs ≢ [] → length seen + length bs ≡ beats_of r h w →
         due_after r w v seen (x ∷ homes) (bs ++ o) ≡ layout r (message_of r h w x (seen ++ bs)) v ++ due_after r w v [] homes o
     whole-due h x homes o seen [] heads some count = absurd (some refl)
@@ -281,7 +285,8 @@ module _ {H : Type 0} (r : Rules H) where
         let len : length (seen ++ b ∷ []) ≡ length seen + 1 = length-append seen (b ∷ []) in
         rw t (begun-due h x (seen ++ b ∷ []) bs (λ j y q. heads (suc j) y q) (omega arith) ∙ ap (λ q. part r w v x q) (snoc-join seen b bs))
 
-    pub spelled-heads : (m : Message H) (rest more : List (BeatOf H w)) → Spells r m w (rest ++ more) → (j : ℕ) (b : BeatOf H w) → slice_get rest j ≡ Some b → b.head ≡ m.head
+    pub spelled-heads : (m : Message H) (rest more : List (BeatOf H w)) → Spells r m w (rest ++ more) → (j : ℕ) (b : BeatOf H w) →
+        slice_get rest j ≡ Some b → b.head ≡ m.head
     spelled-heads m rest more spells j b e =
         (spells.each j b (sym (slice_get-left rest more j (slice_get_within rest j b e)) ∙ e)).head
 
@@ -304,7 +309,8 @@ module _ {H : Type 0} (r : Rules H) where
         absurd (omega arith)
 
     -- the beats that begin a message
-    module _ (m : Message H) (rest more : List (BeatOf H w)) (lawful : IsLawful r m) (spells : Spells r m w (rest ++ more)) (some : rest ≢ []) (left : more ≢ []) where
+    module _ (m : Message H) (rest more : List (BeatOf H w)) (lawful : IsLawful r m) (spells : Spells r m w (rest ++ more)) (some : rest ≢ [])
+        (left : more ≢ []) where
       pub shorter : length rest < beats_of r m.head w
       shorter =
           let n : length (rest ++ more) ≡ length rest + length more = length-append rest more in
@@ -325,7 +331,8 @@ module _ {H : Type 0} (r : Rules H) where
           let lt : length rest < beats_of r m.head w = shorter in
           let near : beats_of r m.head w * per_beat r m.head w ≡ 2 ^ r.size m.head = near-fill r m.head w v m.home ww vw rest-carries in
           let far : beats_of r m.head v * per_beat r m.head v ≡ 2 ^ r.size m.head = near-fill r m.head v v m.home vw vw rest-carries in
-          let le : far_beats_of r m.head w v (length rest) * per_beat r m.head v ≤ length rest * per_beat r m.head w = div-mul-le_self (length rest * per_beat r m.head w) (per_beat r m.head v) in
+          let le : far_beats_of r m.head w v (length rest) * per_beat r m.head v ≤ length rest * per_beat r m.head w =
+          div-mul-le_self (length rest * per_beat r m.head w) (per_beat r m.head v) in
           let up : (length rest + 1) * per_beat r m.head w ≤ beats_of r m.head w * per_beat r m.head w = grind (arith, mul-le-mul_right) in
           let one : (length rest + 1) * per_beat r m.head w ≡ length rest * per_beat r m.head w + per_beat r m.head w = grind arith in
           less-factor (far_beats_of r m.head w v (length rest)) (beats_of r m.head v) (per_beat r m.head v) (omega arith)
@@ -380,8 +387,10 @@ module _ {H : Type 0} (r : Rules H) where
         whole-due m.head m.home homes others [] bs (λ j b e. (spells.each j b e).head) some (omega arith) ∙
         ap (λ y. layout r y v ++ due r w v others homes) (message-is m lawful bs spells) in
         let n : length (m ∷ ms) + cond (length ih.far_rest == 0) 0 1 ≡ suc (length ms + cond (length ih.far_rest == 0) 0 1) = omega arith in
-        let homes_are : far_homes r (m ∷ ms) (m.home ∷ homes) ih.far_rest ≡ m.home ∷ far_homes r ms homes ih.far_rest = ap (λ x. take x (m.home ∷ homes)) n in
-        let P : List (BeatOf H v) → Type 0 = λ y. Handed r v y (far_homes r (m ∷ ms) (m.home ∷ homes) ih.far_rest) (map (gathered r v) (m ∷ ms)) ih.far_rest in
+        let homes_are : far_homes r (m ∷ ms) (m.home ∷ homes) ih.far_rest ≡ m.home ∷ far_homes r ms homes ih.far_rest =
+        ap (λ x. take x (m.home ∷ homes)) n in
+        let P : List (BeatOf H v) → Type 0 = λ y. Handed r v y (far_homes r (m ∷ ms) (m.home ∷ homes) ih.far_rest) (map (gathered r v) (m ∷ ms))
+        ih.far_rest in
         let Q : List ℕ → Type 0 = λ y. Handed r v (layout r m v ++ due r w v others homes) y (map (gathered r v) (m ∷ ms)) ih.far_rest in
         record {
           far_rest = ih.far_rest;

@@ -110,7 +110,8 @@ module _ {H : Type 0} (r : Rules H) (exact : (x y : H) → r.same x y ≡ true �
   is-read-more bs b fine k =
       let next = step bs b (rest_of r w bs) (ends r w (rest_of r w bs) b) refl (keeps_head r exact bs b fine) (k.heads_are, k.left_is, k.short) in
       record {
-        heads_are = next.0 ∙ ap (λ q. q ++ rest_heads r w (cond (ends r w (rest_of r w bs) b) [] (rest_of r w bs ++ b ∷ []))) (sym (finished_more r w [] bs b)) ∙
+        heads_are = next.0 ∙ ap (λ q. q ++ rest_heads r w (cond (ends r w (rest_of r w bs) b) [] (rest_of r w bs ++ b ∷ [])))
+            (sym (finished_more r w [] bs b)) ∙
             ap (λ q. finished_after r w [] (bs ++ b ∷ []) ++ rest_heads r w q) (sym (rest-snoc r w [] bs b));
         left_is = next.1 ∙ ap lacks (sym (rest-snoc r w [] bs b));
         short = subst IsShort (sym (rest-snoc r w [] bs b)) next.2;
@@ -182,7 +183,8 @@ module _ {H : Type 0} (r : Rules H) (exact : (x y : H) → r.same x y ≡ true �
         each : (k : ℕ) (o : Option (BeatOf H w)) → slice_get bs k ≡ o → k < n →
             Extends (heads r v (due r w v (take k bs) (homes k))) (heads r v (due r w v (take (suc k) bs) (homes (suc k))))
         each k None e m =
-            extends-on (extends-same (homes_free (take k bs))) (extends-same (ap (λ xs. heads r v (due r w v xs (homes (suc k)))) (sym (take-past bs k e))))
+            extends-on (extends-same (homes_free (take k bs)))
+            (extends-same (ap (λ xs. heads r v (due r w v xs (homes (suc k)))) (sym (take-past bs k e))))
           where
             homes_free : (xs : List (BeatOf H w)) → heads r v (due r w v xs (homes k)) ≡ heads r v (due r w v xs (homes (suc k)))
             homes_free xs = heads_due r w v some_far (homes k) xs ∙ sym (heads_due r w v some_far (homes (suc k)) xs)

@@ -17,7 +17,8 @@ pub place-next : {H K : Type 0} {w v : ℕ} (r : Rules H) → IsWidth w → Chan
 place-next {w = w} r ww laws state (bs, homes, stands) b place is = place-after r w ww laws stands.handed.2 state.burst b place stands.burst_is is
 
 -- a converter that has taken a beat
-pub record Fed {H : Type 0} {w v : ℕ} (r : Rules H) (new : Progress H v) (bs : List (BeatOf H w)) (homes : List ℕ) (b : BeatOf H w) (home : ℕ) (out : List (BeatOf H v)) : Type 0 where
+pub record Fed {H : Type 0} {w v : ℕ} (r : Rules H) (new : Progress H v) (bs : List (BeatOf H w)) (homes : List ℕ) (b : BeatOf H w) (home : ℕ)
+    (out : List (BeatOf H v)) : Type 0 where
   pub admitted : IsAdmitted r bs b
   pub stands : StandsFor r new (bs ++ b ∷ []) (homes_with r bs homes b home)
   pub due_is : due r w v (bs ++ b ∷ []) (homes_with r bs homes b home) ≡ due r w v bs homes ++ out
@@ -49,7 +50,8 @@ module _ {H : Type 0} {w v : ℕ} (r : Rules H) (ww : IsWidth w) (vw : IsWidth v
       (λ e. small (index_is ∙ ap length e)) in
       record {
         admitted = is-handed handed;
-        stands = stands-more r ww vw partial_masked laws.masked_address old bs homes before b home new.home index index_is inside held fits opened kept
+        stands = stands-more r ww vw partial_masked laws.masked_address old bs homes before b home new.home index index_is inside held fits opened
+            kept
             new out given refl burst_now handed;
         due_is = due-grows r ww vw partial_masked laws.masked_address old bs homes before b home new.home index index_is inside held fits opened kept
             new.partial out given;

@@ -59,7 +59,8 @@ module _ {H : Type 0} (r : Rules H) (w : ℕ) where
         (laid_more (seen ++ x ∷ []) homes xs b)
 
     pub homes_more : (seen : List (BeatOf H w)) (homes : List ℕ) (xs : List (BeatOf H w)) (b : BeatOf H w) →
-        homes_left seen homes (xs ++ b ∷ []) ≡ cond (ends r w (rest_after r w seen xs) b) (drop 1 (homes_left seen homes xs)) (homes_left seen homes xs)
+        homes_left seen homes (xs ++ b ∷ []) ≡ cond (ends r w (rest_after r w seen xs) b) (drop 1 (homes_left seen homes xs))
+        (homes_left seen homes xs)
     homes_more seen homes [] b = refl
     homes_more seen homes (x ∷ xs) b =
         both-three (λ y u k. y ≡ cond (ends r w u b) (drop 1 k) k) (ends r w seen x)
@@ -70,7 +71,8 @@ module _ {H : Type 0} (r : Rules H) (w : ℕ) where
         laid_after seen (hs ++ ks) xs ≡ laid_after seen hs xs
     laid_homes seen hs ks [] n = refl
     laid_homes seen [] ks (b ∷ bs) n =
-        under (λ q y z. y ≡ z) 0 (b.head ∷ finished_after [] bs) (finished_after (seen ++ b ∷ []) bs) (ends r w seen b) n (λ l. absurd (omega arith)) (λ l. laid_homes (seen ++ b ∷ []) [] ks bs l)
+        under (λ q y z. y ≡ z) 0 (b.head ∷ finished_after [] bs) (finished_after (seen ++ b ∷ []) bs) (ends r w seen b) n (λ l. absurd (omega arith))
+        (λ l. laid_homes (seen ++ b ∷ []) [] ks bs l)
     laid_homes seen (h ∷ hs) ks (b ∷ bs) n =
         under (λ q y z. y ≡ z) (length (h ∷ hs)) (b.head ∷ finished_after [] bs) (finished_after (seen ++ b ∷ []) bs) (ends r w seen b) n
         (λ l. ap (λ q. layout r (message_of r b.head w h (seen ++ b ∷ [])) v ++ q) (laid_homes [] hs ks bs (omega arith)))
@@ -80,18 +82,22 @@ module _ {H : Type 0} (r : Rules H) (w : ℕ) where
         homes_left seen (hs ++ ks) xs ≡ homes_left seen hs xs ++ ks
     left_homes seen hs ks [] n = refl
     left_homes seen [] ks (b ∷ bs) n =
-        under (λ q y z. y ≡ z ++ ks) 0 (b.head ∷ finished_after [] bs) (finished_after (seen ++ b ∷ []) bs) (ends r w seen b) n (λ l. absurd (omega arith)) (λ l. left_homes (seen ++ b ∷ []) [] ks bs l)
+        under (λ q y z. y ≡ z ++ ks) 0 (b.head ∷ finished_after [] bs) (finished_after (seen ++ b ∷ []) bs) (ends r w seen b) n
+        (λ l. absurd (omega arith)) (λ l. left_homes (seen ++ b ∷ []) [] ks bs l)
     left_homes seen (h ∷ hs) ks (b ∷ bs) n =
-        under (λ q y z. y ≡ z ++ ks) (length (h ∷ hs)) (b.head ∷ finished_after [] bs) (finished_after (seen ++ b ∷ []) bs) (ends r w seen b) n (λ l. left_homes [] hs ks bs (omega arith)) (λ l. left_homes (seen ++ b ∷ []) (h ∷ hs) ks bs l)
+        under (λ q y z. y ≡ z ++ ks) (length (h ∷ hs)) (b.head ∷ finished_after [] bs) (finished_after (seen ++ b ∷ []) bs) (ends r w seen b) n
+        (λ l. left_homes [] hs ks bs (omega arith)) (λ l. left_homes (seen ++ b ∷ []) (h ∷ hs) ks bs l)
 
     -- each message that is whole has had its home
     pub left_count : (seen : List (BeatOf H w)) (hs : List ℕ) (xs : List (BeatOf H w)) → length (finished_after seen xs) ≤ length hs →
         length (homes_left seen hs xs) + length (finished_after seen xs) ≡ length hs
     left_count seen hs [] n = omega arith
     left_count seen [] (b ∷ bs) n =
-        under (λ q y (z : ℕ). length y + length q ≡ 0) 0 (b.head ∷ finished_after [] bs) (finished_after (seen ++ b ∷ []) bs) {z = 0} {z' = 0} (ends r w seen b) n (λ l. absurd (omega arith)) (λ l. left_count (seen ++ b ∷ []) [] bs l)
+        under (λ q y (z : ℕ). length y + length q ≡ 0) 0 (b.head ∷ finished_after [] bs) (finished_after (seen ++ b ∷ []) bs) {z = 0} {z' = 0}
+        (ends r w seen b) n (λ l. absurd (omega arith)) (λ l. left_count (seen ++ b ∷ []) [] bs l)
     left_count seen (h ∷ hs) (b ∷ bs) n =
-        under (λ q y (z : ℕ). length y + length q ≡ (length (h ∷ hs))) (length (h ∷ hs)) (b.head ∷ finished_after [] bs) (finished_after (seen ++ b ∷ []) bs) {z = 0} {z' = 0} (ends r w seen b) n
+        under (λ q y (z : ℕ). length y + length q ≡ (length (h ∷ hs))) (length (h ∷ hs)) (b.head ∷ finished_after [] bs)
+        (finished_after (seen ++ b ∷ []) bs) {z = 0} {z' = 0} (ends r w seen b) n
         (λ l. let e : length (homes_left [] hs bs) + length (finished_after [] bs) ≡ length hs = left_count [] hs bs (omega arith) in omega arith)
         (λ l. left_count (seen ++ b ∷ []) (h ∷ hs) bs l)
 
@@ -102,7 +108,8 @@ module _ {H : Type 0} (r : Rules H) (w : ℕ) where
       heads_laid_after seen homes [] ys = refl
       heads_laid_after seen homes (b ∷ bs) ys =
           both-two (λ x y. heads r v (x ++ ys) ≡ y ++ heads r v ys) (ends r w seen b)
-          (ap (λ q. heads r v q) (append_assoc (layout r (message_of r b.head w (slice_index homes 0) (seen ++ b ∷ [])) v) (laid_after [] (drop 1 homes) bs) ys) ∙
+          (ap (λ q. heads r v q) (append_assoc (layout r (message_of r b.head w (slice_index homes 0) (seen ++ b ∷ [])) v)
+          (laid_after [] (drop 1 homes) bs) ys) ∙
           heads_whole r v some (message_of r b.head w (slice_index homes 0) (seen ++ b ∷ [])) (laid_after [] (drop 1 homes) bs ++ ys) ∙
           ap (λ q. b.head ∷ q) (heads_laid_after [] (drop 1 homes) bs ys))
           (heads_laid_after (seen ++ b ∷ []) homes bs ys)

@@ -18,7 +18,8 @@ module _ {H : Type 0} (r : Rules H) (w v home : ℕ) (ww : IsWidth w) (vw : IsWi
       let zv : 0 * per_beat r b.head v ≡ 0 = omega arith in
       let q : length bs * per_beat r b.head w / per_beat r b.head v ≡ 0 = ap (λ k. k / per_beat r b.head v) (n ∙ z) ∙ omega arith in
       let none_is : Filled r (run_message r b.head w v home ww vw carries (bs ++ b ∷ [])) v 0 (0 * per_beat r b.head v) far =
-      Filled-none r (run_message r b.head w v home ww vw carries (bs ++ b ∷ [])) v vw 0 far blank.head_is blank.lanes blank.size blank.mask blank.corrupt in
+      Filled-none r (run_message r b.head w v home ww vw carries (bs ++ b ∷ [])) v vw 0 far blank.head_is blank.lanes blank.size blank.mask
+      blank.corrupt in
       let P : ℕ → Type 0 = λ k. Filled r (run_message r b.head w v home ww vw carries (bs ++ b ∷ [])) v 0 k far in
       let Q : ℕ → Type 0 = λ j. Filled r (run_message r b.head w v home ww vw carries (bs ++ b ∷ [])) v j (length bs * per_beat r b.head w) far in
       subst Q (sym q) (subst P (zv ∙ sym (n ∙ z)) none_is)
@@ -33,19 +34,23 @@ module _ {H : Type 0} (r : Rules H) (w v home : ℕ) (ww : IsWidth w) (vw : IsWi
       let m : Message H = run_message r b.head w v home ww vw carries (bs ++ b ∷ []) in
       let shorter : length bs < beats_of r b.head w = (let i : index ≡ length bs = run.index_is in omega arith) in
       let e : first ≡ run_end r b.head w v home ww vw carries bs = ef ∙ ap (λ k. k * per_beat r b.head w) run.index_is in
-      let before : Filled r (run_message r b.head w v home ww vw carries (bs ++ b ∷ [])) v (run_end r b.head w v home ww vw carries bs / per_beat r b.head v)
+      let before : Filled r (run_message r b.head w v home ww vw carries (bs ++ b ∷ [])) v
+      (run_end r b.head w v home ww vw carries bs / per_beat r b.head v)
       (run_end r b.head w v home ww vw carries bs) far1 =
       ⊎_elim
       (λ s. none-filled bs far1 (sym run.index_is ∙ s.1) (blank s.1))
       (λ s.
-      let M : Message H → Type 0 = λ y. Filled r y v (run_end r b.head w v home ww vw carries bs / per_beat r b.head v) (run_end r b.head w v home ww vw carries bs) far0 in
+      let M : Message H → Type 0 = λ y. Filled r y v (run_end r b.head w v home ww vw carries bs / per_beat r b.head v)
+      (run_end r b.head w v home ww vw carries bs) far0 in
       let F : BeatOf H v → Type 0 = λ y. Filled r (run_message r b.head w v home ww vw carries (bs ++ b ∷ [])) v
       (run_end r b.head w v home ww vw carries bs / per_beat r b.head v) (run_end r b.head w v home ww vw carries bs) y in
       subst F (sym (kept s.1))
-      (filled-longer r b.head w v home ww vw carries bs b shorter refl fits run.home_is (run_end r b.head w v home ww vw carries bs / per_beat r b.head v) far0
+      (filled-longer r b.head w v home ww vw carries bs b shorter refl fits run.home_is
+      (run_end r b.head w v home ww vw carries bs / per_beat r b.head v) far0
       (subst M (run-is r b.head w v home ww vw carries bs) (run.filled s.1))))
       (eqb_tells index 0) in
-      let z : run_end r b.head w v home ww vw carries bs / per_beat r b.head v - run_end r b.head w v home ww vw carries bs / per_beat r b.head v ≡ 0 = omega arith in
+      let z : run_end r b.head w v home ww vw carries bs / per_beat r b.head v - run_end r b.head w v home ww vw carries bs / per_beat r b.head
+      v ≡ 0 = omega arith in
       let start : Pours r (run_message r b.head w v home ww vw carries (bs ++ b ∷ [])) v (run_end r b.head w v home ww vw carries bs)
       (run_end r b.head w v home ww vw carries bs) far1 [] = record {
         filled = before;
@@ -64,5 +69,6 @@ module _ {H : Type 0} (r : Rules H) (w v home : ℕ) (ww : IsWidth w) (vw : IsWi
       let E : ℕ → Type 0 = λ k. Filled r (run_message r b.head w v home ww vw carries (bs ++ b ∷ [])) v (k / per_beat r b.head v) k new in
       record {
         due_is = λ homes eh. run-due r b.head w v home ww vw carries bs b shorter refl fits run.home_is homes eh run.heads new out done;
-        filled = subst M (sym (run-is r b.head w v home ww vw carries (bs ++ b ∷ []))) (subst E (end-next r b.head w v home ww vw carries bs b) done.filled);
+        filled = subst M (sym (run-is r b.head w v home ww vw carries (bs ++ b ∷ [])))
+            (subst E (end-next r b.head w v home ww vw carries bs b) done.filled);
       }

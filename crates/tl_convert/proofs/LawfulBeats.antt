@@ -32,4 +32,5 @@ module _ {H : Type 0} (r : Rules H) (w : ℕ) (ww : IsWidth w) (laws : ChannelLa
   handed-lawful nothing = λ k d lt. absurd (omega arith)
   handed-lawful (begun m rest more lawful spells some left) = spelled-lawful m rest more lawful spells
   handed-lawful (whole m bs others homes ms rest lawful spells h) =
-      All-append (λ b. IsLawfulBeat r b) bs others (λ k d lt. spelled-lawful m bs [] lawful (subst (λ (q : List (BeatOf H w)). Spells r m w q) (sym (append-nil bs)) spells) k d lt) (handed-lawful h)
+      All-append (λ b. IsLawfulBeat r b) bs others (λ k d lt.
+      spelled-lawful m bs [] lawful (subst (λ (q : List (BeatOf H w)). Spells r m w q) (sym (append-nil bs)) spells) k d lt) (handed-lawful h)

@@ -1,7 +1,7 @@
 -- What the proofs of this crate name most, of the library and of the definitions, passed on by one module.
 pub use Rattle.std.proofs.Common.{◌≡◌, ◌⊎◌, ◌++◌, ℕ, suc, cond, Option, None, Some, List, [], ◌∷◌, slice_get, refl, sym, ap, subst, ◌∙◌, ⊎_elim, inl}
 pub use Rattle.std.proofs.Common.{inr, append_assoc, append-nil, ◌↔◌, zero, take, arith, All, ◌≤◌, ◌<◌, ◌+◌, ◌-◌, ◌*◌, ◌/◌, ◌^◌, Bool, true, false}
-pub use Rattle.std.proofs.Common.{length, map, length-take, ◌≢◌, zero-le, ◌==◌, drop, slice_index, get_or, length-append, min, ◌&&◌, not, flat_map}
+pub use Rattle.std.proofs.Common.{length, map, length-take, ◌≢◌, zero-le, ◌==◌, drop, slice_index, get_or, length-append, min, ◌&&◌, not}
 pub use Rattle.std.proofs.Common.{rules, ◌%◌, ◌||◌, replicate, max}
 pub use Rattle.std.proofs.Math.ListN.{drop_of_length-le, set}
 pub use Rattle.std.proofs.Math.Nat.{mul-le-mul_right, div-mul-le_self, le_trans, min-eq_left, min-le_left, min-le_right, mul-le-mul_left, div_self}

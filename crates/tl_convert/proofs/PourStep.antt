@@ -66,18 +66,21 @@ chunk-room a c q pos cpos =
 pub last-changed : {X : Type 0} (xs : List X) (x y : X) (t : ℕ) (items slice : List X) → length xs ≡ t → items ≡ xs ++ x ∷ [] → slice ≡ items →
     refill (length items) items (set slice t y) ≡ xs ++ y ∷ []
 last-changed xs x y t items slice count is same =
-    let changed : set slice t y ≡ xs ++ y ∷ [] = ap (λ s. set s t y) (same ∙ is) ∙ ap (λ i. set (xs ++ x ∷ []) i y) (sym count) ∙ set-append_seam xs x [] y in
+    let changed : set slice t y ≡ xs ++ y ∷ [] = ap (λ s. set s t y) (same ∙ is) ∙ ap (λ i. set (xs ++ x ∷ []) i y) (sym count) ∙
+    set-append_seam xs x [] y in
     let long : length items ≡ length (xs ++ y ∷ []) = ap length is ∙ length-append xs (x ∷ []) ∙ sym (length-append xs (y ∷ [])) in
     ap (λ ws. refill (length items) items ws) changed ∙ ap (λ n. take n ((xs ++ y ∷ []) ++ drop (length (xs ++ y ∷ [])) items)) long ∙
     take-append_seam (xs ++ y ∷ []) (drop (length (xs ++ y ∷ [])) items)
 
 -- and it was this one before
-pub last-was : {X : Type 0} (xs : List X) (x z : X) (t : ℕ) (items slice : List X) → length xs ≡ t → items ≡ xs ++ x ∷ [] → slice ≡ items → get_or slice t z ≡ x
+pub last-was : {X : Type 0} (xs : List X) (x z : X) (t : ℕ) (items slice : List X) → length xs ≡ t → items ≡ xs ++ x ∷ [] → slice ≡ items →
+    get_or slice t z ≡ x
 last-was xs x z t items slice count is same =
     ap (λ s. get_or s t z) (same ∙ is) ∙ ap (λ i. get_or (xs ++ x ∷ []) i z) (sym count) ∙ get_or-append_seam xs x [] z
 
 -- it stands in the list
-pub last-inside : {X : Type 0} (xs : List X) (x : X) (t : ℕ) (items slice : List X) → length xs ≡ t → items ≡ xs ++ x ∷ [] → slice ≡ items → t < length slice
+pub last-inside : {X : Type 0} (xs : List X) (x : X) (t : ℕ) (items slice : List X) → length xs ≡ t → items ≡ xs ++ x ∷ [] → slice ≡ items →
+    t < length slice
 last-inside xs x t items slice count is same =
     let long : length slice ≡ length xs + 1 = ap length (same ∙ is) ∙ length-append xs (x ∷ []) in omega arith
 
@@ -90,7 +93,8 @@ some-bytes size w n width is = let z : 0 < 2 ^ size = search rules in let b = wi
 
 -- the rest of a division by the bytes per beat, by a mask
 pub rest-by-mask : (size v n wide : ℕ) → IsWidth v → wide ≡ bytes_per_beat size v → bit_and n (wide - 1) ≡ n % wide
-rest-by-mask size v n wide width is = let power = per-power size v width in subst (λ x. bit_and n (x - 1) ≡ n % x) (sym (is ∙ power.1)) (and_mask n power.0)
+rest-by-mask size v n wide width is = let power = per-power size v width in
+    subst (λ x. bit_and n (x - 1) ≡ n % x) (sym (is ∙ power.1)) (and_mask n power.0)
 
 pub bytes-within : (size w n : ℕ) → n ≡ bytes_per_beat size w → n ≤ w
 bytes-within size w n is = omega arith
@@ -99,7 +103,8 @@ bytes-within size w n is = omega arith
 abbrev pub IsEmpty : {H : Type 0} (r : Rules H) (m : Message H) (v : ℕ) → BeatOf H v → Type 0
 IsEmpty r m v b = (j : ℕ) → Filled r m v j (j * per_beat r m.head v) b
 
-pub blank-empty : {H : Type 0} (r : Rules H) (m : Message H) (v : ℕ) → IsWidth v → (head : H) → head ≡ m.head → (b : BeatOf H v) → IsBlank head b → IsEmpty r m v b
+pub blank-empty : {H : Type 0} (r : Rules H) (m : Message H) (v : ℕ) → IsWidth v → (head : H) → head ≡ m.head → (b : BeatOf H v) → IsBlank head b →
+    IsEmpty r m v b
 blank-empty r m v vw head e b blank j = Filled-none r m v vw j b (blank.head_is ∙ e) blank.lanes blank.size blank.mask blank.corrupt
 
 -- a far beat that none is begun of, where a beat begins, has no byte
@@ -154,12 +159,14 @@ module _ {H : Type 0} {W : ℕ} (r : Rules H) (m : Message H) (v home first done
       let p : ℕ = per_beat r m.head v in
       let pp : 0 < per_beat r m.head v = per-pos r m v vw in
       let j : ℕ = done / per_beat r m.head v in
-      let e : done / per_beat r m.head v * per_beat r m.head v + per_beat r m.head v ≡ done + q = ends-beat done q (per_beat r m.head v) pp pos fits z in
+      let e : done / per_beat r m.head v * per_beat r m.head v + per_beat r m.head v ≡ done + q =
+      ends-beat done q (per_beat r m.head v) pp pos fits z in
       let f : (done / per_beat r m.head v + 1) * per_beat r m.head v ≡ done + q = grind arith in
       let g : (done + q) / per_beat r m.head v ≡ done / per_beat r m.head v + 1 = div-eq_of_eq-mul_left pp (sym f) in
       let le : first / per_beat r m.head v ≤ done / per_beat r m.head v = div-up first done (per_beat r m.head v) pp begun in
       let up : first / per_beat r m.head v + (done / per_beat r m.head v - first / per_beat r m.head v) ≡ done / per_beat r m.head v = omega arith in
-      let n : done / per_beat r m.head v - first / per_beat r m.head v + 1 ≡ (done + q) / per_beat r m.head v - first / per_beat r m.head v = omega arith in
+      let n : done / per_beat r m.head v - first / per_beat r m.head v + 1 ≡ (done + q) / per_beat r m.head v - first / per_beat r m.head v =
+      omega arith in
       let room : done + q ≤ 2 ^ r.size m.head = (let x : first + per_beat r m.head W ≤ 2 ^ r.size m.head = source.room in omega arith) in
       let P : ℕ → Type 0 = λ d. Filled r m v (done / per_beat r m.head v) d new in
       let whole : new ≡ beat_at r m v (done / per_beat r m.head v) =
@@ -171,7 +178,8 @@ module _ {H : Type 0} {W : ℕ} (r : Rules H) (m : Message H) (v home first done
       record {
         filled = subst R (sym g) (subst Q f none_in);
         beats = eo ∙ ap (λ x. x ++ new ∷ []) before.beats ∙ ap (λ x. far_beats r m v first done ++ x ∷ []) whole ∙
-            sym (map-range_with_len_more (beat_at r m v) (first / per_beat r m.head v) (done / per_beat r m.head v - first / per_beat r m.head v) (done / per_beat r m.head v) up) ∙
+            sym (map-range_with_len_more (beat_at r m v) (first / per_beat r m.head v) (done / per_beat r m.head v - first / per_beat r m.head v)
+            (done / per_beat r m.head v) up) ∙
             ap (λ k. map (beat_at r m v) (range_with_len (first / per_beat r m.head v) k)) n;
       }
 
@@ -211,7 +219,8 @@ min-power p q a b ep eq = ⊎_elim (λ s. (a, let z : p ≤ q = s.1 in omega ari
 power-pos : (p k : ℕ) → p ≡ 2 ^ k → 0 < p
 power-pos p k e = let z : 0 < 2 ^ k = search rules in omega arith
 
-pub chunks : (size W v first t near wide q : ℕ) → IsWidth W → IsWidth v → near ≡ bytes_per_beat size W → wide ≡ bytes_per_beat size v → q ≡ min near wide →
+pub chunks : (size W v first t near wide q : ℕ) → IsWidth W → IsWidth v → near ≡ bytes_per_beat size W → wide ≡ bytes_per_beat size v →
+    q ≡ min near wide →
     first % near ≡ 0 → t < near / q → Chunk near wide q first t
 chunks size W v first t near wide q ww vw en ew eq whole lt =
     let wn = per-power size W ww in

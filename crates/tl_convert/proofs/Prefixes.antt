@@ -12,12 +12,14 @@ use Rattle.tl_convert.proofs.Begins.{per-beat-some, more-due}
 use Rattle.tl_convert.proofs.Finished.{finished_after, laid_after, homes_left, due_split, laid_more, homes_more, laid_homes, left_homes, left_count}
 use Rattle.tl_convert.proofs.FarHeads.{NoFaults, IsRead, reads, KeepsHead, keeps_head, no-faults-less}
 
-map_agree : {X : Type 0} (f g : ℕ → X) (s n c : ℕ) → ((t : ℕ) → t < s + c → f t ≡ g t) → take c (map f (range_with_len s n)) ≡ take c (map g (range_with_len s n))
+map_agree : {X : Type 0} (f g : ℕ → X) (s n c : ℕ) → ((t : ℕ) → t < s + c → f t ≡ g t) →
+    take c (map f (range_with_len s n)) ≡ take c (map g (range_with_len s n))
 map_agree f g s n zero h = refl
 map_agree f g s zero (suc c) h = refl
 map_agree f g s (suc n) (suc c) h =
     let e : f s ≡ g s = h s (omega arith) in
-    let m : take c (map f (range_with_len (s + 1) n)) ≡ take c (map g (range_with_len (s + 1) n)) = map_agree f g (s + 1) n c (λ t l. h t (omega arith)) in
+    let m : take c (map f (range_with_len (s + 1) n)) ≡ take c (map g (range_with_len (s + 1) n)) =
+    map_agree f g (s + 1) n c (λ t l. h t (omega arith)) in
     ap (λ x. x ∷ take c (map f (range_with_len (s + 1) n))) e ∙ ap (λ q. g s ∷ q) m
 
 map_same : {X : Type 0} (f g : ℕ → X) (xs : List ℕ) → ((t : ℕ) → f t ≡ g t) → map f xs ≡ map g xs
@@ -77,10 +79,12 @@ module _ {H : Type 0} (r : Rules H) (h : H) (home v : ℕ) (wide : 0 < v) where
         let lanes : map (lane_value r (told xs) v t) (range_with_len 0 v) ≡ map (lane_value r (told ys) v t) (range_with_len 0 v) =
         map_same (lane_value r (told xs) v t) (lane_value r (told ys) v t) (range_with_len 0 v)
         (λ l. get_same l (λ c. c.byte) 0 0 (byte_on r (told xs) v t l) refl) in
-        let corrupts : some_of (is_bad r (told xs)) (t * per_beat r h v) (per_beat r h v) ≡ some_of (is_bad r (told ys)) (t * per_beat r h v) (per_beat r h v) =
+        let corrupts : some_of (is_bad r (told xs)) (t * per_beat r h v) (per_beat r h v) ≡ some_of (is_bad r (told ys)) (t * per_beat r h v)
+        (per_beat r h v) =
         some_same (is_bad r (told xs)) (is_bad r (told ys)) (t * per_beat r h v) (per_beat r h v)
         (λ i l. ap (λ c. option_map_or (λ c. c.bad) c false) (get_agree k i xs ys (omega arith) same)) in
-        ap (λ n. beat_of n (map (lane_value r (told xs) v t) (range_with_len 0 v)) (some_of (is_bad r (told xs)) (t * per_beat r h v) (per_beat r h v))) masks ∙
+        ap (λ n. beat_of n (map (lane_value r (told xs) v t) (range_with_len 0 v))
+        (some_of (is_bad r (told xs)) (t * per_beat r h v) (per_beat r h v))) masks ∙
         ap (λ ls. beat_of (mask_at r (told ys) v t) ls (some_of (is_bad r (told xs)) (t * per_beat r h v) (per_beat r h v))) lanes ∙
         ap (λ b. beat_of (mask_at r (told ys) v t) (map (lane_value r (told ys) v t) (range_with_len 0 v)) b) corrupts
 
@@ -137,23 +141,29 @@ module _ {H : Type 0} (r : Rules H) (exact : (x y : H) → r.same x y ≡ true �
   pub due_more : (bs : List (BeatOf H w)) (b : BeatOf H w) (homes : List ℕ) →
       due r w v (bs ++ b ∷ []) homes ≡
       laid_after r w v [] homes bs ++
-      (cond (ends r w (rest_of r w bs) b) (layout r (message_of r b.head w (slice_index (homes_left r w v [] homes bs) 0) (rest_of r w bs ++ b ∷ [])) v) [] ++
+      (cond (ends r w (rest_of r w bs) b) (layout r (message_of r b.head w (slice_index (homes_left r w v [] homes bs) 0) (rest_of r w bs ++ b ∷ []))
+      v) [] ++
       part r w v (slice_index (cond (ends r w (rest_of r w bs) b) (drop 1 (homes_left r w v [] homes bs)) (homes_left r w v [] homes bs)) 0)
       (cond (ends r w (rest_of r w bs) b) [] (rest_of r w bs ++ b ∷ [])))
   due_more bs b homes =
       due_split r w v [] homes (bs ++ b ∷ []) ∙
-      ap (λ q. q ++ part r w v (slice_index (homes_left r w v [] homes (bs ++ b ∷ [])) 0) (rest_of r w (bs ++ b ∷ []))) (laid_more r w v [] homes bs b) ∙
+      ap (λ q. q ++ part r w v (slice_index (homes_left r w v [] homes (bs ++ b ∷ [])) 0) (rest_of r w (bs ++ b ∷ [])))
+      (laid_more r w v [] homes bs b) ∙
       append_assoc (laid_after r w v [] homes bs) _ _ ∙
       ap (λ q. laid_after r w v [] homes bs ++
-      (cond (ends r w (rest_of r w bs) b) (layout r (message_of r b.head w (slice_index (homes_left r w v [] homes bs) 0) (rest_of r w bs ++ b ∷ [])) v) [] ++
+      (cond (ends r w (rest_of r w bs) b) (layout r (message_of r b.head w (slice_index (homes_left r w v [] homes bs) 0) (rest_of r w bs ++ b ∷ []))
+      v) [] ++
       part r w v (slice_index q 0) (rest_of r w (bs ++ b ∷ [])))) (homes_more r w v [] homes bs b) ∙
       ap (λ q. laid_after r w v [] homes bs ++
-      (cond (ends r w (rest_of r w bs) b) (layout r (message_of r b.head w (slice_index (homes_left r w v [] homes bs) 0) (rest_of r w bs ++ b ∷ [])) v) [] ++
-      part r w v (slice_index (cond (ends r w (rest_of r w bs) b) (drop 1 (homes_left r w v [] homes bs)) (homes_left r w v [] homes bs)) 0) q)) (rest-snoc r w [] bs b)
+      (cond (ends r w (rest_of r w bs) b) (layout r (message_of r b.head w (slice_index (homes_left r w v [] homes bs) 0) (rest_of r w bs ++ b ∷ []))
+      v) [] ++
+      part r w v (slice_index (cond (ends r w (rest_of r w bs) b) (drop 1 (homes_left r w v [] homes bs)) (homes_left r w v [] homes bs)) 0) q))
+      (rest-snoc r w [] bs b)
 
   count_opened : (finished : List H) (rest : List (BeatOf H w)) (n : ℕ) → length (finished ++ rest_heads r w rest) ≤ n →
       (length finished ≤ n) × (0 < length rest → length finished < n)
-  count_opened finished [] n l = let e : length (finished ++ []) ≡ length finished + 0 = length-append finished [] in (omega arith, λ k. absurd (omega arith))
+  count_opened finished [] n l = let e : length (finished ++ []) ≡ length finished + 0 = length-append finished [] in
+      (omega arith, λ k. absurd (omega arith))
   count_opened finished (x ∷ xs) n l =
       let e : length (finished ++ x.head ∷ []) ≡ length finished + 1 = length-append finished (x.head ∷ []) in (omega arith, λ k. omega arith)
 
@@ -197,7 +207,8 @@ module _ {H : Type 0} (r : Rules H) (exact : (x y : H) → r.same x y ≡ true �
   due_extends bs homes i n l f homes_grow enough =
       grows (λ k. due r w v (take k bs) (homes k)) i n l (λ k m. each k (slice_get bs k) refl m (homes_grow k) (enough k))
     where
-      each : (k : ℕ) (o : Option (BeatOf H w)) → slice_get bs k ≡ o → k < n → {hs ks : List ℕ} → Extends hs ks → length (heads r w (take k bs)) ≤ length hs →
+      each : (k : ℕ) (o : Option (BeatOf H w)) → slice_get bs k ≡ o → k < n → {hs ks : List ℕ} → Extends hs ks →
+          length (heads r w (take k bs)) ≤ length hs →
           Extends (due r w v (take k bs) hs) (due r w v (take (suc k) bs) ks)
       each k None e m (more hs ks) enough =
           subst (λ xs. Extends (due r w v (take k bs) hs) (due r w v xs (hs ++ ks))) (sym (take-past bs k e))

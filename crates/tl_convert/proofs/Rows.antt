@@ -114,7 +114,8 @@ none : due rules_a 4 8 [] [] ≡ []
 none = refl
 
 -- the last address
-last : due rules_a 4 8 (on 4 (a 4 0 2 0 (2 ^ 64 - 4)) 15 (zeros 4) false ∷ []) ((2 ^ 64 - 4) ∷ []) ≡ on 8 (a 4 0 2 0 (2 ^ 64 - 4)) 0xf0 (zeros 8) false ∷ []
+last : due rules_a 4 8 (on 4 (a 4 0 2 0 (2 ^ 64 - 4)) 15 (zeros 4) false ∷ []) ((2 ^ 64 - 4) ∷ []) ≡ on 8 (a 4 0 2 0 (2 ^ 64 - 4)) 0xf0 (zeros 8)
+    false ∷ []
 last = refl
 
 -- one corrupt beat of 8 bytes makes two of 4
@@ -148,9 +149,17 @@ counts = refl
 
 -- corrupt in one beat of 4 bytes is corrupt in all of the 8
 abbrev bad_put : Message HeadA
-bad_put = record { head = a 0 0 3 1 0x10; home = 0x10; cells = map cell (from 0 4) ++ map (λ byte. record { byte = byte; on = true; bad = true }) (from 4 4) }
+bad_put = record {
+  head = a 0 0 3 1 0x10;
+  home = 0x10;
+  cells = map cell (from 0 4) ++ map (λ byte. record { byte = byte; on = true; bad = true }) (from 4 4);
+}
 
-gathered_put : gathered_over rules_a 8 bad_put ≡ record { head = a 0 0 3 1 0x10; home = 0x10; cells = map (λ byte. record { byte = byte; on = true; bad = true }) (from 0 8) }
+gathered_put : gathered_over rules_a 8 bad_put ≡ record {
+  head = a 0 0 3 1 0x10;
+  home = 0x10;
+  cells = map (λ byte. record { byte = byte; on = true; bad = true }) (from 0 8);
+}
 gathered_put = refl
 
 -- a release of 64 bytes, from 64 lanes to 1

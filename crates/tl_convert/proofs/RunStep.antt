@@ -42,7 +42,8 @@ module _ {H : Type 0} (r : Rules H) (h : H) (w v x : ℕ) (ww : IsWidth w) (vw :
   part-is (a ∷ xs) heads le =
       let pp : 0 < per_beat r h v = per-pos r (of_cells r h x []) v vw in
       let e : a.head ≡ h = heads a.head refl in
-      let up : run_end (a ∷ xs) / per_beat r h v ≤ 2 ^ r.size h / per_beat r h v = div-up (run_end (a ∷ xs)) (2 ^ r.size h) (per_beat r h v) pp (end-room (a ∷ xs) le) in
+      let up : run_end (a ∷ xs) / per_beat r h v ≤ 2 ^ r.size h / per_beat r h v =
+      div-up (run_end (a ∷ xs)) (2 ^ r.size h) (per_beat r h v) pp (end-room (a ∷ xs) le) in
       let n : beats_of r h v ≡ 2 ^ r.size h / per_beat r h v = far-fill r h w v x ww vw carries in
       ap (λ g. take (length (a ∷ xs) * per_beat r g w / per_beat r g v) (layout r (message_of r g w x (a ∷ xs)) v)) e ∙
       ap (λ m. take (run_end (a ∷ xs) / per_beat r h v) (layout r m v)) (run-is r h w v x ww vw carries (a ∷ xs)) ∙
@@ -93,10 +94,12 @@ module _ {H : Type 0} (r : Rules H) (h : H) (w v x : ℕ) (ww : IsWidth w) (vw :
         }
 
     -- what was filled stays so in the longer run's message
-    pub filled-longer : (j : ℕ) (p : BeatOf H v) → Filled r (run_message bs) v j (run_end bs) p → Filled r (run_message (bs ++ b ∷ [])) v j (run_end bs) p
+    pub filled-longer : (j : ℕ) (p : BeatOf H v) → Filled r (run_message bs) v j (run_end bs) p →
+        Filled r (run_message (bs ++ b ∷ [])) v j (run_end bs) p
     filled-longer j p f =
         let room : run_end bs ≤ 2 ^ r.size h = end-room bs (omega arith) in
-        let same : (i : ℕ) → i < run_end bs → slice_get (run_cells r h w v x ww vw carries bs) i ≡ slice_get (run_cells r h w v x ww vw carries (bs ++ b ∷ [])) i =
+        let same : (i : ℕ) → i < run_end bs → slice_get (run_cells r h w v x ww vw carries bs) i ≡ slice_get
+        (run_cells r h w v x ww vw carries (bs ++ b ∷ [])) i =
         λ i lt. cells-same r h w v x ww vw carries bs (b ∷ []) (run_end bs) refl room i lt in
         record {
           head = f.head;
@@ -106,26 +109,32 @@ module _ {H : Type 0} (r : Rules H) (h : H) (w v x : ℕ) (ww : IsWidth w) (vw :
           bits = λ i c lo hi e. f.bits i c lo hi (same i hi ∙ e);
           clear = f.clear;
           small = f.small;
-          corrupt = f.corrupt ∙ some_of-same (is_bad r (run_message bs)) (is_bad r (run_message (bs ++ b ∷ []))) (j * per_beat r h v) (run_end bs - j * per_beat r h v)
+          corrupt = f.corrupt ∙ some_of-same (is_bad r (run_message bs)) (is_bad r (run_message (bs ++ b ∷ []))) (j * per_beat r h v)
+              (run_end bs - j * per_beat r h v)
               (λ i lo hi. ap (λ o. option_map_or (λ (y : Cell). y.bad) o false) (same i (omega arith)));
         }
 
     -- the far beats that the near beat gives follow those that were due
-    pub run-due : (homes : List ℕ) → slice_index homes 0 ≡ x → ((g : H) → head_of bs ≡ Some g → g ≡ h) → (new : BeatOf H v) (out : List (BeatOf H v)) →
+    pub run-due : (homes : List ℕ) → slice_index homes 0 ≡ x → ((g : H) → head_of bs ≡ Some g → g ≡ h) →
+        (new : BeatOf H v) (out : List (BeatOf H v)) →
         Pours r (run_message (bs ++ b ∷ [])) v (run_end bs) (run_end bs + per_beat r h w) new out →
         due_after r w v bs homes (b ∷ []) ≡ part r w v x bs ++ out
     run-due homes eh heads new out pours =
         let n : length (bs ++ b ∷ []) ≡ length bs + 1 = length_push bs b in
         let next : run_end bs + per_beat r h w ≡ run_end (bs ++ b ∷ []) = end-next bs b in
         let pp : 0 < per_beat r h v = per-pos r (of_cells r h x []) v vw in
-        let up : run_end bs / per_beat r h v ≤ run_end (bs ++ b ∷ []) / per_beat r h v = div-up (run_end bs) (run_end (bs ++ b ∷ [])) (per_beat r h v) pp (omega arith) in
-        let sum : run_end bs / per_beat r h v + (run_end (bs ++ b ∷ []) / per_beat r h v - run_end bs / per_beat r h v) ≡ run_end (bs ++ b ∷ []) / per_beat r h v = omega arith in
+        let up : run_end bs / per_beat r h v ≤ run_end (bs ++ b ∷ []) / per_beat r h v =
+        div-up (run_end bs) (run_end (bs ++ b ∷ [])) (per_beat r h v) pp (omega arith) in
+        let sum : run_end bs / per_beat r h v + (run_end (bs ++ b ∷ []) / per_beat r h v - run_end bs / per_beat r h v) ≡ run_end (bs ++ b ∷ []) /
+        per_beat r h v = omega arith in
         let front : part r w v x bs ≡ map (beat_at r (run_message (bs ++ b ∷ [])) v) (range_with_len 0 (run_end bs / per_beat r h v)) =
         part-is bs heads (omega arith) ∙ whole-same r h w v x ww vw carries bs (b ∷ []) (run_end bs) refl (end-room bs (omega arith)) in
         let back : out ≡ far_beats r (run_message (bs ++ b ∷ [])) v (run_end bs) (run_end (bs ++ b ∷ [])) =
         pours.beats ∙ ap (λ e. far_beats r (run_message (bs ++ b ∷ [])) v (run_end bs) e) next in
-        let all : part r w v x bs ++ out ≡ map (beat_at r (run_message (bs ++ b ∷ [])) v) (range_with_len 0 (run_end (bs ++ b ∷ []) / per_beat r h v)) =
-        ap (λ xs. xs ++ out) front ∙ ap (λ ys. map (beat_at r (run_message (bs ++ b ∷ [])) v) (range_with_len 0 (run_end bs / per_beat r h v)) ++ ys) back ∙
+        let all : part r w v x bs ++ out ≡ map (beat_at r (run_message (bs ++ b ∷ [])) v)
+        (range_with_len 0 (run_end (bs ++ b ∷ []) / per_beat r h v)) =
+        ap (λ xs. xs ++ out) front ∙ ap (λ ys. map (beat_at r (run_message (bs ++ b ∷ [])) v) (range_with_len 0 (run_end bs / per_beat r h v)) ++ ys)
+        back ∙
         sym (map-parts (beat_at r (run_message (bs ++ b ∷ [])) v) 0 (run_end bs / per_beat r h v)
         (run_end (bs ++ b ∷ []) / per_beat r h v - run_end bs / per_beat r h v) (run_end bs / per_beat r h v) (omega arith)) ∙
         ap (λ k. map (beat_at r (run_message (bs ++ b ∷ [])) v) (range_with_len 0 k)) sum in
@@ -134,7 +143,8 @@ module _ {H : Type 0} (r : Rules H) (h : H) (w v x : ℕ) (ww : IsWidth w) (vw :
         (λ s.
         let e : length bs + 1 ≡ beats_of r b.head w = s.1 in
         let t : ends r w bs b ≡ true = s.0 in
-        rw t (append-nil (layout r (message_of r b.head w (slice_index homes 0) (bs ++ b ∷ [])) v) ∙ ap (λ g. layout r (message_of r g w (slice_index homes 0) (bs ++ b ∷ [])) v) head ∙
+        rw t (append-nil (layout r (message_of r b.head w (slice_index homes 0) (bs ++ b ∷ [])) v) ∙
+        ap (λ g. layout r (message_of r g w (slice_index homes 0) (bs ++ b ∷ [])) v) head ∙
         ap (λ y. layout r (message_of r h w y (bs ++ b ∷ [])) v) eh ∙ whole-is (bs ++ b ∷ []) (omega arith) ∙ sym all))
         (λ s.
         let t : ends r w bs b ≡ false = s.0 in

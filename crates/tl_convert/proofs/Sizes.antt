@@ -42,7 +42,8 @@ list_bytes a x s v =
     let m : ℕ = max (max a 16) 1 in
     up (max m 8) (up 1 (up 8 (up m 0 + up m (up (max a 16) 0 + WIDEST * beat_bytes a x s v)) + 8) + 0)
 
-place-fits : (a m n beat t : ℕ) → up n (up 1 (up 8 (up m 0 + up m (up a 0 + WIDEST * beat)) + 8) + 0) < 9223372036854775808 → t ≤ WIDEST → Fits w64 (t * beat)
+place-fits : (a m n beat t : ℕ) → up n (up 1 (up 8 (up m 0 + up m (up a 0 + WIDEST * beat)) + 8) + 0) < 9223372036854775808 → t ≤ WIDEST →
+    Fits w64 (t * beat)
 place-fits a m n beat t small le =
     let same : beat ≤ beat = omega arith in
     let most : t * beat ≤ WIDEST * beat = mul-le-mul le same in

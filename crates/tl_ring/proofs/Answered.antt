@@ -1,13 +1,7 @@
 -- What an answer shows, and what holds of no item.
-use Rattle.tl_ring.proofs.Names.{◌≡◌, ◌≤◌, ◌<◌, ◌∷◌, ◌++◌, Option, None, Some, IfSome, Result, Ok, Err, IsOk, OnOk, OnErr, List, [], All, length}
+use Rattle.tl_ring.proofs.Names.{◌≡◌, ◌≤◌, ◌<◌, ◌∷◌, ◌++◌, None, Some, Result, Ok, Err, IsOk, OnOk, OnErr, List, [], All, length}
 use Rattle.tl_ring.proofs.Names.{drop, slice_get, ◌⊎◌, ◌||◌, Bool, true, false, inl, inr, get_or, subst, refl, sym, ap, arith, All-take, All-drop}
 use Rattle.tl_ring.proofs.Names.{take-append_seam, drop-append_seam}
-
--- what holds of each item of a list holds of the first one, if there is one
-pub first_of_all : {A : Type 0} (P : A → Type 0) (xs : List A) (first : Option A) → first ≡ slice_get xs 0 → All P xs → IfSome first P
-first_of_all P xs None e all = tt
-first_of_all P [] (Some x) e all = absurd (cc)
-first_of_all P (y ∷ ys) (Some x) e all = let same : y ≡ x = cc in subst P same (all 0 y (omega arith))
 
 -- of each item of an empty list anything holds
 pub all_of_none : {A : Type 0} (P : A → Type 0) (xs : List A) → xs ≡ [] → All P xs

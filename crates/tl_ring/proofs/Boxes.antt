@@ -49,7 +49,8 @@ module _ {H : Type 0} (r : Rules H) {w v : ℕ} where
         subst (λ (y : World H w v). IsReached r y) e (reached_new r room);
   }
 
-  pub has_offered : (o : Outgoing H v) (bs : List (BeatOf H w)) (homes : List ℕ) (sent : List (BeatOf H v)) (b : BeatOf H w) (home : ℕ) (c : Progress H v) (out : List (BeatOf H v)) →
+  pub has_offered : (o : Outgoing H v) (bs : List (BeatOf H w)) (homes : List ℕ) (sent : List (BeatOf H v)) (b : BeatOf H w) (home : ℕ)
+      (c : Progress H v) (out : List (BeatOf H v)) →
       IsBeat r b → r.lane_address b.head home < 2 ^ 64 → IsAdmitted r bs b → o.stage ≡ [] → o.closed ≡ false →
       converting.StandsFor r c (bs ++ b ∷ []) (homes_with r bs homes b home) →
       due r w v (bs ++ b ∷ []) (homes_with r bs homes b home) ≡ due r w v bs homes ++ out → HasSent r o bs homes sent →
@@ -83,7 +84,8 @@ module _ {H : Type 0} (r : Rules H) {w v : ℕ} where
     reached = λ room some. reached_passed k o.stage (as_sent room o bs homes sent) refl refl refl some (h.reached room some);
   }
 
-  pub has_closed : (o : Outgoing H v) (bs : List (BeatOf H w)) (homes : List ℕ) (sent : List (BeatOf H v)) → rest_of r w bs ≡ [] → HasSent r o bs homes sent →
+  pub has_closed : (o : Outgoing H v) (bs : List (BeatOf H w)) (homes : List ℕ) (sent : List (BeatOf H v)) → rest_of r w bs ≡ [] →
+      HasSent r o bs homes sent →
       HasSent r (record o { closed = true }) bs homes sent
   has_closed o bs homes sent over h = record {
     near = h.near;

@@ -58,7 +58,8 @@ module _ {H : Type 0} (r : Rules H) {w v : ℕ} (near : IsWidth w) (far : IsWidt
       rest_behind (due r w v x.accepted x.homes) (due r w v (x.accepted ++ b ∷ []) (homes_with r x.accepted x.homes b home)) prefix in
       crosses (offered r b home x) ms rest handed beats (λ shut. absurd (cc)) c.ring_room c.inbox_size
 
-  pub Crosses-offered : ChannelLaws r → (x : World H w v) (b : BeatOf H w) (home : ℕ) → IsPossible r x (offer b home) → Crosses r x → Crosses r (offered r b home x)
+  pub Crosses-offered : ChannelLaws r → (x : World H w v) (b : BeatOf H w) (home : ℕ) → IsPossible r x (offer b home) → Crosses r x →
+      Crosses r (offered r b home x)
   Crosses-offered laws x b home (still, no_stage, is_beat, small, admitted) c =
       let next : IsHandedWith r (x.accepted ++ b ∷ []) (homes_with r x.accepted x.homes b home) =
       one_more r near far partial_masked laws c.handed b home is_beat small admitted in

@@ -6,7 +6,8 @@ use mathlib.Core.List.{IsPrefix}
 use Rattle.rtrb.specs.Ring as rtrb
 use Rattle.rtrb.specs.declared.producer.Producer.{Producer}
 use Rattle.rtrb.specs.declared.consumer.Consumer.{Consumer}
-use Rattle.tl_ring.specs.Ends.{ArePair, Sending, as_pipe, Taking, Ended, Sends, Takes, Fetched, Met, Meets, Shows, Shown, LookedAfter, IsReceiptOf, Finishes, SameTake, sent, room, known_items, received, passed, closing, sending_of}
+use Rattle.tl_ring.specs.Ends.{ArePair, Sending, as_pipe, Taking, Ended, Sends, Takes, Fetched, Met, Meets, Shows, Shown, LookedAfter, IsReceiptOf}
+use Rattle.tl_ring.specs.Ends.{Finishes, SameTake, sent, room, known_items, received, passed, closing, sending_of}
 use Rattle.tl_ring.specs.Pipe.{Pipe, StandsFor, outbox_of}
 use Rattle.tl_ring.specs.declared.lawful.LawfulAt.{LawfulAt}
 use Rattle.tl_ring.proofs.Parting.{reached_parted}
@@ -16,7 +17,8 @@ use Rattle.tl_ring.proofs.PipeSteps.{stands_of, stands_new, stands_offered, stan
 module _ {H : Type 0} (r : Rules H) {w v : ℕ} where
   -- what holds at every moment goes on to another parting of the same beats
   pub Crosses-parted : (x : World H w v) → (taken inbox ring : List (BeatOf H v)) → x.taken ++ x.inbox ++ x.ring ≡ taken ++ inbox ++ ring →
-      x.ring ≡ [] → x.inbox ≡ [] → length inbox ≤ inbox_room → length ring ≤ x.room → Crosses r x → Crosses r (record x { ring = ring; inbox = inbox; taken = taken })
+      x.ring ≡ [] → x.inbox ≡ [] → length inbox ≤ inbox_room → length ring ≤ x.room → Crosses r x →
+      Crosses r (record x { ring = ring; inbox = inbox; taken = taken })
   Crosses-parted x taken inbox ring all no_ring no_inbox held fits c = record {
     beats = ap (λ t. t ++ x.stage) (sym all) ∙ c.beats;
     messages = c.messages;
@@ -39,7 +41,8 @@ module _ {K A H : Type 0} (r : Rules H) {w v : ℕ} (partial_masked : (h : H) �
     some_room = some;
   }
 
-  pub sends_offered : (s : Sending K A H v) (x : World H w v) (b : BeatOf H w) (home : ℕ) (o : Outgoing H v) → s.stage ≡ [] → s.closed ≡ false → o.closed ≡ false →
+  pub sends_offered : (s : Sending K A H v) (x : World H w v) (b : BeatOf H w) (home : ℕ) (o : Outgoing H v) → s.stage ≡ [] → s.closed ≡ false →
+      o.closed ≡ false →
       HasSent r o (x.accepted ++ b ∷ []) (homes_with r x.accepted x.homes b home) (x.taken ++ x.inbox ++ x.ring) → Sends r s x →
       Sends r (sending_of o s.producer) (offered r b home x)
   sends_offered s x b home o none_staged still still' h' h = record {
@@ -109,7 +112,8 @@ module _ {K A H : Type 0} (r : Rules H) {w v : ℕ} where
       }
 
 -- what was known to be there is moved, or there was no room for more
-pub least_moved : {X : Type 0} (known moved left : List X) (k room : ℕ) → IsPrefix known (moved ++ left) → length moved ≡ k → (k < room → length left ≡ 0) →
+pub least_moved : {X : Type 0} (known moved left : List X) (k room : ℕ) → IsPrefix known (moved ++ left) → length moved ≡ k →
+    (k < room → length left ≡ 0) →
     min (length known) room ≤ k
 least_moved known moved left k room (more, e) count none = ⊎_elim
     (λ short.
@@ -126,7 +130,8 @@ prefix_twice xs ys zs (more, one) (rest, two) = (more ++ rest, sym (append_assoc
 
 module _ {X A P : Type 0} where
   -- ends that look at their ring stay a pair
-  pub still_pair_after : (p p' : Producer X A P) (c c' : Consumer X A P) → rtrb.IsPair p c → rtrb.ProducerLooked p p' → rtrb.ConsumerLooked c c' → rtrb.IsPair p' c'
+  pub still_pair_after : (p p' : Producer X A P) (c c' : Consumer X A P) → rtrb.IsPair p c → rtrb.ProducerLooked p p' → rtrb.ConsumerLooked c c' →
+      rtrb.IsPair p' c'
   still_pair_after p p' c c' pair sees seen = (
     seen.0.0.0 ∙ pair.0 ∙ sym sees.0.0.0,
     seen.0.0.1 ∙ pair.1 ∙ sym sees.0.0.1,
@@ -162,8 +167,10 @@ module _ {X A P : Type 0} where
       let sent_size : length (rtrb.sent p2) ≡ length (rtrb.sent p1) = ap length sees2.1 in
       let received_size : length (rtrb.received c2) ≡ length (rtrb.received c1) = ap length seen2.1 in
       let capacity : p1.capacity ≡ p.capacity = sees1.0.1 in
-      let more : rtrb.known_free p1 ≤ rtrb.known_free p2 = sees2.2 in
-      (omega (arith, size, sent_size, received_size, capacity, all_free, counts), omega (arith, size, sent_size, received_size, capacity, all_free, value, more, counts))
+      let more : rtrb.known_free p1 ≤ rtrb.known_free p2 = sees2.2 in (
+        omega (arith, size, sent_size, received_size, capacity, all_free, counts),
+        omega (arith, size, sent_size, received_size, capacity, all_free, value, more, counts),
+      )
 
 module _ {K A H : Type 0} {v : ℕ} where
   -- the same end of the same ring is of the same receipt
@@ -176,7 +183,8 @@ module _ {K A H : Type 0} {v : ℕ} where
       (here.0 ∙ sym of'.0 ∙ of.0, here.1 ∙ sym of'.1 ∙ of.1, here.2 ∙ sym of'.2 ∙ of.2, here.3 ∙ sym of'.3 ∙ of.3)
 
   -- both ends have looked at the ring
-  pub met_of : (s : Sending K A H v) (t : Taking K A H v) (p : Producer (BeatOf H v) A (LawfulAt K v H)) (c : Consumer (BeatOf H v) A (LawfulAt K v H)) (count : ℕ) →
+  pub met_of : (s : Sending K A H v) (t : Taking K A H v) (p : Producer (BeatOf H v) A (LawfulAt K v H))
+      (c : Consumer (BeatOf H v) A (LawfulAt K v H)) (count : ℕ) →
       ArePair s t → rtrb.ProducerLooked s.producer p → rtrb.ConsumerLooked t.consumer c → count ≡ length (rtrb.known_items c) →
       rtrb.received c ++ rtrb.known_items c ≡ rtrb.sent p →
       (count ≤ rtrb.producer_capacity s.producer) × (rtrb.producer_capacity s.producer ≤ rtrb.known_free p + count) →
@@ -198,7 +206,8 @@ module _ {K A H : Type 0} {v : ℕ} where
   }
 
   -- beats came out of the ring into the inbox
-  pub fetched_of : (t : Taking K A H v) (c : Consumer (BeatOf H v) A (LawfulAt K v H)) (inbox moved : List (BeatOf H v)) (k : ℕ) → rtrb.SameConsumer t.consumer c →
+  pub fetched_of : (t : Taking K A H v) (c : Consumer (BeatOf H v) A (LawfulAt K v H)) (inbox moved : List (BeatOf H v)) (k : ℕ) →
+      rtrb.SameConsumer t.consumer c →
       length moved ≡ k → inbox ≡ t.inbox ++ moved → rtrb.received c ≡ received t ++ moved → IsPrefix (known_items t) (moved ++ rtrb.known_items c) →
       Fetched t k (record { inbox = inbox; consumer = c })
   fetched_of t c inbox moved k same count more receives known = record {
@@ -216,7 +225,8 @@ module _ {K A H : Type 0} {v : ℕ} where
 
 module _ {K A H : Type 0} (r : Rules H) {w v : ℕ} where
   -- the receipt of an end shows what the end stands for, and its ring is no larger than the end's
-  pub shows_of : (s : Sending K A H v) (e : Ended K A H v) (x : World H w v) → Finishes s e → s.stage ≡ [] → s.closed ≡ true → Sends r s x → Shows r e x
+  pub shows_of : (s : Sending K A H v) (e : Ended K A H v) (x : World H w v) → Finishes s e → s.stage ≡ [] → s.closed ≡ true → Sends r s x →
+      Shows r e x
   shows_of s e x finishes none_staged closed h = record {
     closed = sym h.pipe.closed ∙ closed;
     none_staged = sym h.pipe.stage ∙ none_staged;
@@ -235,7 +245,8 @@ module _ {K A H : Type 0} (r : Rules H) {w v : ℕ} where
   }
 
   -- what the taking end learns of it
-  pub shown_of : (e e' : Ended K A H v) (t t' : Taking K A H v) (x : World H w v) (taken : List (BeatOf H v)) → IsReceiptOf e t → LookedAfter e t e' t' →
+  pub shown_of : (e e' : Ended K A H v) (t t' : Taking K A H v) (x : World H w v) (taken : List (BeatOf H v)) → IsReceiptOf e t →
+      LookedAfter e t e' t' →
       length t'.inbox ≤ inbox_room → Shows r e x → Takes t taken → Shown r e' t' x taken
   shown_of e e' t t' x taken of looked held h takes =
       let now : Takes t' taken = looked.same_received ∙ takes ∙ ap (λ l. taken ++ l) (sym looked.same_inbox) in

@@ -3,8 +3,8 @@ use Rattle.tl_ring.proofs.Names.{ℕ, zero, suc, ◌+◌, ◌*◌, ◌≤◌, �
 use Rattle.tl_lanes.proofs.Masks.{mask_width}
 use Rattle.tl_lanes.proofs.Widths.{width_bounds}
 use Rattle.tl_lanes.proofs.Sizes.{align-small, up_le}
-use mir.Syntax.{Ty, Tys, tnil, tcons, ttcons, ty_struct, ty_enum, ty_int, ty_unit}
-use prog.Memory.{size, align, aligns, alignss, up, end_of, endss}
+use mir.Syntax.{Ty, Tys, tnil, tcons, ty_struct, ty_int, ty_unit}
+use prog.Memory.{size, align, aligns, up, end_of}
 use prog.Align.{up-ge, end_ge}
 
 abbrev pub field_of : Tys → ℕ → Ty
@@ -30,16 +30,6 @@ part_small t k n small = omega arith
 -- nor does a field of a field
 pub inner_small : (t : Ty) (k j n : ℕ) → size t < n → size (part (part t k) j) < n
 inner_small t k j n small = part_small (part t k) j n (part_small t k n small)
-
--- the type of the first variant's first field
-abbrev pub first_part : Ty → Ty
-first_part (ty_enum name (ttcons (tcons t ts) tss)) = t
-first_part t = ty_unit
-
-pub first_part_small : (t : Ty) (n : ℕ) → size t < n → size (first_part t) < n
-first_part_small (ty_enum name (ttcons (tcons t ts) tss)) n small =
-    let h = end_holds 1 (tcons t ts) 0 in let g = up-ge (alignss (ttcons (tcons t ts) tss)) (endss (ttcons (tcons t ts) tss)) in omega arith
-first_part_small t n small = omega arith
 
 -- the bytes of a mask, which it is aligned to
 abbrev pub mask_bytes : ℕ

@@ -34,7 +34,8 @@ take_of_two n front back = ⊎_elim
 pub take_of_first : {X : Type 0} (n : ℕ) (front back : List X) → n ≤ min n (length front) → take (min n (length front)) front ≡ take n (front ++ back)
 take_of_first n front back all =
     let none : n - min n (length front) ≡ 0 = omega arith in
-    sym (append-nil (take (min n (length front)) front)) ∙ ap (λ k. take (min n (length front)) front ++ take k back) (sym none) ∙ take_of_two n front back
+    sym (append-nil (take (min n (length front)) front)) ∙ ap (λ k. take (min n (length front)) front ++ take k back) (sym none) ∙
+    take_of_two n front back
 
 -- a list has no element exactly where it is empty
 pub none_in_one : {X : Type 0} (xs : List X) (n : ℕ) → n ≡ length xs → ((n == 0) ≡ true) ↔ (xs ≡ [])

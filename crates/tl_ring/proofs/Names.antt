@@ -7,7 +7,7 @@ pub use Rattle.std.proofs.lemmas.Bool.{cases_lt, and_parts, or_parts}
 pub use Rattle.std.proofs.lemmas.List.{length-take, length-drop, take-append-le, nil_from_length, take-append-drop, length-map, take_all, drop_all}
 pub use Rattle.std.proofs.lemmas.List.{drop-append-le, take_rest, drop-drop}
 pub use Rattle.std.proofs.lemmas.List.Elements.{All-take, All-drop, All-append, All-replicate, All-nil, All-cons, All-head, All-tail}
-pub use Rattle.std.specs.Prelude.{IfSome, Result, Ok, Err, IsOk, OnOk, OnErr, All, slice_get}
+pub use Rattle.std.specs.Prelude.{Result, Ok, Err, IsOk, OnOk, OnErr, All, slice_get}
 pub use Rattle.tl_burst.proofs.FaultsExact.{ChannelLaws, none-handed, admitted-none, faults-exact, laws-of}
 pub use Rattle.tl_burst.proofs.RestOf.{RestIs}
 pub use Rattle.tl_burst.specs.Handing.{IsAdmitted, rest_of, homes_with, Handed, nothing, IsHandedWith, IsHanded, with_home, fault_after}

@@ -49,7 +49,8 @@ module _ {H : Type 0} (r : Rules H) {w v : ℕ} (near : IsWidth w) (far : IsWidt
       ap (λ t. length ms' + cond (length t == 0) 0 1) same ∙ sym (homes-count r w v near far partial_masked h')
 
   -- handed beats and an admitted one are handed, with one more home where it opens a message
-  pub one_more : ChannelLaws r → {bs : List (BeatOf H w)} {homes : List ℕ} {ms : List (Message H)} {rest : List (BeatOf H w)} → Handed r w bs homes ms rest →
+  pub one_more : ChannelLaws r → {bs : List (BeatOf H w)} {homes : List ℕ} {ms : List (Message H)} {rest : List (BeatOf H w)} →
+      Handed r w bs homes ms rest →
       (b : BeatOf H w) (home : ℕ) → IsBeat r b → r.lane_address b.head home < 2 ^ 64 → IsAdmitted r bs b →
       IsHandedWith r (bs ++ b ∷ []) (homes_with r bs homes b home)
   one_more laws {bs = bs} {homes = homes} {ms = ms} {rest = rest} handed b home is_beat small admitted =

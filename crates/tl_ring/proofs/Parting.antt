@@ -168,7 +168,8 @@ module _ {H : Type 0} (r : Rules H) {w v : ℕ} where
       (parted_effect t p order held x e possible room (omega (arith, later.0, later.1, same, fits)) h)
   parted_run t p order held (fails x y e es never run) room fits h = parted_run t p order held run room fits h
 
-  pub reached_parted : (x : World H w v) → 1 ≤ x.room → (taken inbox ring : List (BeatOf H v)) → x.taken ++ x.inbox ++ x.ring ≡ taken ++ inbox ++ ring →
+  pub reached_parted : (x : World H w v) → 1 ≤ x.room → (taken inbox ring : List (BeatOf H v)) →
+      x.taken ++ x.inbox ++ x.ring ≡ taken ++ inbox ++ ring →
       length inbox ≤ inbox_room → length ring ≤ x.room → IsReached r x → IsReached r (record x { ring = ring; inbox = inbox; taken = taken })
   reached_parted x room taken inbox ring all held fits h =
       let t : ℕ = length taken in

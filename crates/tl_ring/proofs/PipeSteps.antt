@@ -39,12 +39,14 @@ module _ {H : Type 0} (r : Rules H) {w v : ℕ} (partial_masked : (h : H) → r.
       sym (drop-append_seam (due r w v x.accepted x.homes) o'.stage) ∙
       ap (λ t. drop (length (due r w v x.accepted x.homes)) t) (ap (λ t. t ++ o'.stage) before ∙ h'.beats)
 
-  pub stands_offered : (p : Pipe H v) (x : World H w v) (b : BeatOf H w) (home : ℕ) (o : Outgoing H v) → p.stage ≡ [] → p.closed ≡ false → o.closed ≡ false →
+  pub stands_offered : (p : Pipe H v) (x : World H w v) (b : BeatOf H w) (home : ℕ) (o : Outgoing H v) → p.stage ≡ [] → p.closed ≡ false →
+      o.closed ≡ false →
       HasSent r o (x.accepted ++ b ∷ []) (homes_with r x.accepted x.homes b home) (x.taken ++ x.inbox ++ x.ring) → StandsFor r p x →
       StandsFor r (record p { converter = o.converter; stage = o.stage; closed = o.closed }) (offered r b home x)
   stands_offered p x b home o none_staged still still' h' h =
       stands_of (record p { converter = o.converter; stage = o.stage; closed = o.closed }) (offered r b home x) h.some_room h.room
-      (staged_of x b home (outbox_of p) o none_staged h.outbox h') h.ring h.inbox (still' ∙ sym still ∙ h.closed) h.crosses.ring_room h.crosses.inbox_size h'
+      (staged_of x b home (outbox_of p) o none_staged h.outbox h') h.ring h.inbox (still' ∙ sym still ∙ h.closed) h.crosses.ring_room
+      h.crosses.inbox_size h'
 
   pub stands_pushed : (k : ℕ) (p : Pipe H v) (x : World H w v) → k ≤ min (length p.stage) (p.room - length p.ring) → StandsFor r p x →
       StandsFor r (record p { stage = drop k p.stage; ring = p.ring ++ take k p.stage }) (pushed k x)
@@ -81,7 +83,8 @@ module _ {H : Type 0} (r : Rules H) {w v : ℕ} (partial_masked : (h : H) → r.
   stands_took p x h =
       let held : length x.inbox ≤ inbox_room = h.crosses.inbox_size in
       let fewer : length (drop 1 x.inbox) ≡ length x.inbox - 1 = length-drop 1 x.inbox in
-      stands_of (record p { inbox = drop 1 p.inbox }) (took x) h.some_room h.room h.stage h.ring (ap (λ t. drop 1 t) h.inbox) h.closed h.crosses.ring_room (omega arith)
+      stands_of (record p { inbox = drop 1 p.inbox }) (took x) h.some_room h.room h.stage h.ring (ap (λ t. drop 1 t) h.inbox) h.closed
+      h.crosses.ring_room (omega arith)
       (subst (λ t. HasSent r (outbox_of p) x.accepted x.homes (t ++ x.ring)) (sym (cut_moves 1 x.taken x.inbox)) h.outbox)
 
   -- all of the inbox is taken
@@ -92,7 +95,8 @@ module _ {H : Type 0} (r : Rules H) {w v : ℕ} (partial_masked : (h : H) → r.
       h.crosses.ring_room (omega arith)
       (subst (λ t. HasSent r (outbox_of p) x.accepted x.homes (t ++ x.ring)) (sym (append-nil (x.taken ++ x.inbox))) h.outbox)
 
-  pub stands_shut : (p : Pipe H v) (x : World H w v) → rest_of r w x.accepted ≡ [] → StandsFor r p x → StandsFor r (record p { closed = true }) (shut x)
+  pub stands_shut : (p : Pipe H v) (x : World H w v) → rest_of r w x.accepted ≡ [] → StandsFor r p x →
+      StandsFor r (record p { closed = true }) (shut x)
   stands_shut p x over h =
       stands_of (record p { closed = true }) (shut x) h.some_room h.room h.stage h.ring h.inbox refl h.crosses.ring_room h.crosses.inbox_size
       (has_closed r (outbox_of p) x.accepted x.homes (x.taken ++ x.inbox ++ x.ring) over h.outbox)

@@ -13,7 +13,8 @@ module _ {H : Type 0} (r : Rules H) {w v : ℕ} where
   pub reached_new : (room : ℕ) → IsReached r (empty {w = w} {v = v} room)
   reached_new room = record { events = []; run = done (empty room) }
 
-  pub reached_offered : (x : World H w v) (b : BeatOf H w) (home : ℕ) → IsPossible r x (offer b home) → IsReached r x → IsReached r (offered r b home x)
+  pub reached_offered : (x : World H w v) (b : BeatOf H w) (home : ℕ) → IsPossible r x (offer b home) → IsReached r x →
+      IsReached r (offered r b home x)
   reached_offered x b home possible h = record { events = h.events ++ offer b home ∷ []; run = run_then h.run (offer b home) possible }
 
   pub reached_pushed : (k : ℕ) (x : World H w v) → k ≤ min (length x.stage) (x.room - length x.ring) → IsReached r x → IsReached r (pushed k x)

@@ -25,5 +25,6 @@ module _ {K A H : Type 0} {v : ℕ} where
   )
 
   -- a receipt goes to the end that is a pair with the one that left it
-  pub receipt_of : (s : Sending K A H v) (e : Ended K A H v) (t t' : Taking K A H v) → IsReceiptFor s e → ArePair s t → SameTake t t' → IsReceiptOf e t'
+  pub receipt_of : (s : Sending K A H v) (e : Ended K A H v) (t t' : Taking K A H v) → IsReceiptFor s e → ArePair s t → SameTake t t' →
+      IsReceiptOf e t'
   receipt_of s e t t' left pair same = left t' (still_pair s s t t' (same_send s) same pair)

@@ -1,5 +1,6 @@
 //! The ring between two threads, by its halves, and what moves between these and an outbox or an inbox.
-ghost use Rattle.std.specs.Prelude.{◌≡◌, ◌≤◌, ◌<◌, ◌+◌, ◌-◌, ◌++◌, ◌↔◌, ◌⊎◌, List, length, min, IsOk, IfOk, IfErr};
+ghost use Rattle.std.specs.Prelude.{◌≡◌, ◌≤◌, ◌<◌, ◌+◌, ◌-◌, ◌++◌, ◌↔◌, ◌⊎◌, List, length, min, drop, take, IsOk, IfOk, IfErr};
+ghost use Rattle.rtrb.specs.Fifo.{EachAllowed};
 ghost use Rattle.rtrb.specs.Ring as rtrb;
 ghost use Rattle.tl_msg.specs.declared.beat.BeatOf.{BeatOf};
 ghost use Rattle.tl_ring.specs.Crossing.{World, inbox_room};
@@ -11,7 +12,7 @@ use crate::fault::BuildFault;
 use crate::inbox::Inbox;
 use crate::lawful::LawfulAt;
 use crate::outbox::Outbox;
-use crate::queue::ROOM;
+use crate::queue::{Queue, ROOM};
 use crate::ring::is_ring_size;
 use rtrb::{Consumer, Producer, Protocol, RingBuffer};
 use std::alloc::{Allocator, Global};
@@ -88,6 +89,27 @@ pub fn receive<K: Channel, const V: usize, A: Allocator>(
     count
 }
 
+// Moves the first items of a queue into a ring, as many as find a place, and answers their number. It knows the far width alone, so a
+// program has it once for each channel and far width.
+#[inline(never)]
+fn push_queue<T: Copy, A: Allocator, P: Protocol<T>>(
+    producer: &mut Producer<T, A, P>,
+    queue: &mut Queue<T>,
+) -> usize
+    requires { EachAllowed P.allows (rtrb.sent producer.old) queue.old }
+    ensures least { min (length queue.old) (rtrb.known_free producer.old) ≤ result }
+    ensures most { (result ≤ length queue.old) × (result ≤ ROOM) }
+    ensures queue { queue.new ≡ drop result queue.old }
+    ensures ring { rtrb.SameProducer producer.old producer.new }
+    ensures sent { rtrb.sent producer.new ≡ rtrb.sent producer.old ++ take result queue.old }
+    ensures known { rtrb.known_free producer.old ≤ rtrb.known_free producer.new + result }
+{
+    let (pushed, _) = producer.push_partial_slice(queue.as_slice());
+    let count = pushed.len();
+    queue.drop_front(count);
+    count
+}
+
 /// Moves staged beats of an outbox into a ring, in order, and answers their number. They are all of
 /// them, or as many as find a place: no fewer than the half knows to be free. After a look at the
 /// ring ([`look`]) it knows each free place.
@@ -102,10 +124,7 @@ pub fn send_staged<K: Channel, const W: usize, const V: usize, A: Allocator>(
     ensures stands { (x : World K.Head W V) → Sends K.rules (sending_of outbox.old producer.old) x →
         Sends K.rules (sending_of outbox.new producer.new) (passed result x) }
 {
-    let (pushed, _) = producer.push_partial_slice(outbox.as_slice());
-    let count = pushed.len();
-    outbox.sent(count);
-    count
+    push_queue(producer, &mut outbox.stage)
 }
 
 /// Looks at a ring from both its halves, in one thread, and answers how many items it holds. The

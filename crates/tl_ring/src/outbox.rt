@@ -22,7 +22,7 @@ use tl_msg::{Beat, BeatFault, Channel};
 #[derive(Drop)]
 pub struct Outbox<K: Channel, const W: usize, const V: usize> {
     converter: Converter<K, W, V>,
-    stage: Queue<Beat<K, V>>,
+    pub(crate) stage: Queue<Beat<K, V>>,
     closed: bool,
 }
 

@@ -10,6 +10,7 @@ use crate::fault::BuildFault;
 use crate::inbox::Inbox;
 use crate::outbox::Outbox;
 use crate::pipe::MAX_RING;
+use crate::queue::Queue;
 use circular_buffer::HeapCircularBuffer;
 use std::alloc::{Allocator, Global};
 use std::marker::Model;
@@ -88,6 +89,27 @@ fn write_back<T: Copy, A: Allocator>(ring: &mut HeapCircularBuffer<T, A>, items:
     ring.fill_from_slice(items)
 }
 
+// Moves the first items of a queue to the end of a ring, as many as it has room for, and answers their number. It knows the far
+// width alone, so a program has it once for each channel and far width.
+fn write_queue<T: Copy, A: Allocator>(
+    ring: &mut HeapCircularBuffer<T, A>,
+    queue: &mut Queue<T>,
+) -> usize
+    ensures count { result ≡
+        min (length queue.old) (ring.old.capacity - length ring.old.items) }
+    ensures ring { ring.new ≡
+        buffer (ring.old.items ++ take result queue.old) ring.old.capacity }
+    ensures queue { queue.new ≡ drop result queue.old }
+    ensures most { result ≤ ROOM }
+{
+    if queue.len() == 0 {
+        return 0;
+    }
+    let count = write_back(ring, queue.as_slice());
+    queue.drop_front(count);
+    count
+}
+
 // Moves the first `count` beats of a ring to the end of an inbox.
 fn read_front<K: Channel, const V: usize, A: Allocator>(
     ring: &mut HeapCircularBuffer<Beat<K, V>, A>,
@@ -125,12 +147,7 @@ pub fn pump<K: Channel, const W: usize, const V: usize, A: Allocator>(
         buffer (ring.old.items ++ take result outbox.old.stage) ring.old.capacity }
     ensures most { result ≤ ROOM }
 {
-    if outbox.staged() == 0 {
-        return 0;
-    }
-    let count = write_back(&mut ring.buffer, outbox.as_slice());
-    outbox.sent(count);
-    count
+    write_queue(&mut ring.buffer, &mut outbox.stage)
 }
 
 /// Moves the first beats of a ring into the inbox, as many as it has room for, and answers their number.

@@ -7,8 +7,10 @@ use Rattle.tl_settle.proofs.Settles.{Good, good}
 use Rattle.tl_convert.proofs.Accepting.{each_beat, no_faults_handed}
 
 pub at_admitted : {C M : ℕ} → 0 < C → 0 < M →
-    ((bs : List (BeatOf HeadA C)) (b : BeatOf HeadA C) → IsHanded rules_a bs → IsBeat rules_a b → (fault_after rules_a bs b ≡ None) ↔ IsAdmitted rules_a bs b) →
-    ((bs : List (BeatOf HeadD M)) (b : BeatOf HeadD M) → IsHanded rules_d bs → IsBeat rules_d b → (fault_after rules_d bs b ≡ None) ↔ IsAdmitted rules_d bs b) →
+    ((bs : List (BeatOf HeadA C)) (b : BeatOf HeadA C) → IsHanded rules_a bs → IsBeat rules_a b →
+    (fault_after rules_a bs b ≡ None) ↔ IsAdmitted rules_a bs b) →
+    ((bs : List (BeatOf HeadD M)) (b : BeatOf HeadD M) → IsHanded rules_d bs → IsBeat rules_d b →
+    (fault_after rules_d bs b ≡ None) ↔ IsAdmitted rules_d bs b) →
     (a : List (BeatOf HeadA C)) (d : List (BeatOf HeadD M)) → All (λ b. IsBeat rules_a b) a → All (λ b. IsBeat rules_d b) d → (i j : ℕ) →
     Reaches (goes_a a d) (goes_d a d) i j → IsAtAdmitted a d i j
 at_admitted near far exact_a exact_d a d all_a all_d i j r =

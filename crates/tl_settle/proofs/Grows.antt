@@ -9,7 +9,8 @@ map_grows : {X Y : Type 0} (f : X → Y) {xs ys : List X} → Extends xs ys → 
 map_grows f (more xs rest) = rw (map-append f xs rest) (more (map f xs) (map f rest))
 
 -- the homes of more messages begin with those of the first
-pub homes_more : (qs : List HeadA) (before hs ks : List HeadD) → homes_after qs before (hs ++ ks) ≡ homes_after qs before hs ++ homes_after qs (before ++ hs) ks
+pub homes_more : (qs : List HeadA) (before hs ks : List HeadD) →
+    homes_after qs before (hs ++ ks) ≡ homes_after qs before hs ++ homes_after qs (before ++ hs) ks
 homes_more qs before [] ks = ap (λ b. homes_after qs b ks) (sym (append-nil before))
 homes_more qs before (h ∷ hs) ks =
     ap (λ q. home_of qs before h ∷ q) (homes_more qs (before ++ h ∷ []) hs ks ∙
@@ -27,7 +28,8 @@ module _ {C M : ℕ} (near : 0 < C) (far : 0 < M) (a : List (BeatOf HeadA C)) (d
   far_a_grows i x l f =
       due_extends rules_a same_a C M near far a (λ k. map (λ h. h.address) (requests a d k)) i x l f
       (λ k. map_grows (λ h. h.address) (heads_extend rules_a C (take-grows k (suc k) a (omega arith))))
-      (λ k. let n : length (map (λ h. h.address) (requests a d k)) ≡ length (requests a d k) = length-map (requests a d k) (λ h. h.address) in omega arith)
+      (λ k. let n : length (map (λ h. h.address) (requests a d k)) ≡ length (requests a d k) = length-map (requests a d k) (λ h. h.address) in
+      omega arith)
 
   pub far_d_grows : (j y : ℕ) → j ≤ y → NoFaults rules_d d y → Extends (far_d a d j) (far_d a d y)
   far_d_grows j y l f =

@@ -18,7 +18,8 @@ from_ask before [] h = refl
 from_ask before (Asks x ∷ ms) h = from_ask (before ++ Asks x ∷ []) ms h
 from_ask before (Answers x ∷ ms) h = ap (λ q. home_after before x ∷ q) (from_ask (before ++ Answers x ∷ []) ms h)
 
-pub from_answer : (before ms : List Mark) (h : HeadD) → homes_from before (ms ++ Answers h ∷ []) ≡ homes_from before ms ++ home_after (before ++ ms) h ∷ []
+pub from_answer : (before ms : List Mark) (h : HeadD) →
+    homes_from before (ms ++ Answers h ∷ []) ≡ homes_from before ms ++ home_after (before ++ ms) h ∷ []
 from_answer before [] h = ap (λ q. home_after q h ∷ []) (sym (append-nil before))
 from_answer before (Asks x ∷ ms) h =
     from_answer (before ++ Asks x ∷ []) ms h ∙
@@ -57,7 +58,8 @@ module _ {C M : ℕ} (near : 0 < C) (far : 0 < M) (a : List (BeatOf HeadA C)) (d
       manager_homes es ≡ homes_after (heads rules_a C a) [] (responses a d j)
   manager_homes_are i j es r m =
       let on : Extends (asks (marks es)) (heads rules_a C a) =
-      extends-on (manager_asks near far a d i j es m) (extends-on (there_on near far a d i (good near far a d r).a_fine) (whole_asks near far a d i)) in
+      extends-on (manager_asks near far a d i j es m)
+      (extends-on (there_on near far a d i (good near far a d r).a_fine) (whole_asks near far a d i)) in
       homes_given m.ordered (heads rules_a C a) on ∙ ap (λ hs. homes_after (heads rules_a C a) [] hs) (manager_answers near far a d i j es m)
 
   -- so what the beats accepted on each side make due, with the homes given there, is what the definitions say

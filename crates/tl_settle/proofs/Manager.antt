@@ -4,13 +4,14 @@ use Rattle.tl_settle.proofs.Names.{refl, sym, ap, subst, ◌∙◌, arith, inl, 
 use Rattle.tl_settle.proofs.Names.{slice_get, option_map_or, is_none, filter, rules_a, rules_d, HeadA, HeadD, BeatOf, BeatFault, SideFault, Beat}
 use Rattle.tl_settle.proofs.Names.{NoRequest, SizeMismatch, take-append-drop, Extends, count_by-append, count-grows, take-next, equal_true, less_true}
 use Rattle.tl_settle.proofs.Names.{not_less_false, none_past, heads_open, heads_grow, heads_extend, Answer, Ask, Event, answered, asked}
-use Rattle.tl_settle.proofs.Names.{manager_answer, manager_home, marks, open_request, to_request, home_of, is_release_ack, is_request_of, partner}
+use Rattle.tl_settle.proofs.Names.{manager_answer, marks, open_request, to_request, is_release_ack, is_request_of, partner}
 use Rattle.tl_settle.proofs.Names.{requests_of, responses_to, far_a, goes_a, goes_d, requests, responses, stops_d, Reaches, heads, left, fault_after}
 use Rattle.tl_settle.proofs.Orders.{asks, answers, Ordered, ask, answer, ManagerIs}
 use Rattle.tl_settle.proofs.Settles.{good, there_on, there_behind, back_behind, requests_there}
 use Rattle.tl_settle.proofs.Opens.{Match, matches, asks_heads, answers_heads}
 use Rattle.tl_settle.proofs.Sides.{nth_stays, tight}
-use Rattle.tl_settle.proofs.Marks.{asked_ask, asked_answer, answered_ask, answered_answer, marks_ask_first, marks_ask_inside, marks_answer_first, marks_answer_inside}
+use Rattle.tl_settle.proofs.Marks.{asked_ask, asked_answer, answered_ask, answered_answer, marks_ask_first, marks_ask_inside, marks_answer_first}
+use Rattle.tl_settle.proofs.Marks.{marks_answer_inside}
 
 manager_imp : (o : Option BeatFault) (l r : Bool) (request : Option HeadA) (h : HeadD) (n s : Bool) →
     ((q : HeadA) → request ≡ Some q → (n ≡ true) × (s ≡ (q.size == h.size))) →
@@ -57,7 +58,8 @@ module _ {C M : ℕ} (near : 0 < C) (far : 0 < M) (a : List (BeatOf HeadA C)) (d
       (heads_grow rules_a C 0 (take i a) (drop i a))
 
   -- what is open at the manager's side is the partner of the next response, and has begun there
-  opened : (i j s : ℕ) (es : List (Event M)) (q : HeadA) → Reaches (goes_a a d) (goes_d a d) i j → ManagerIs a d i j es → open_request s (marks es) ≡ Some q →
+  opened : (i j s : ℕ) (es : List (Event M)) (q : HeadA) → Reaches (goes_a a d) (goes_d a d) i j → ManagerIs a d i j es →
+      open_request s (marks es) ≡ Some q →
       (partner (heads rules_a C a) (responses a d j) s ≡ Some q) ×
       (responses_to s (responses a d j) < requests_of s (requests_there a d i))
   opened i j s es q r m e =
@@ -65,12 +67,16 @@ module _ {C M : ℕ} (near : 0 < C) (far : 0 < M) (a : List (BeatOf HeadA C)) (d
       let k : ℕ = responses_to s (responses a d j) in
       let here : slice_get (filter (is_request_of s) (asks (marks es))) k ≡ Some q =
       ap (λ hs. slice_get (filter (is_request_of s) (asks (marks es))) (responses_to s hs)) (sym (manager_answers i j es m)) ∙ sym t.is ∙ e in
-      let there : slice_get (filter (is_request_of s) (requests_there a d i)) k ≡ Some q = nth_stays (is_request_of s) k q (manager_asks i j es m) here in
-      let n : k < length (filter (is_request_of s) (requests_there a d i)) = slice_get_within (filter (is_request_of s) (requests_there a d i)) k q there in
-      let l : length (filter (is_request_of s) (requests_there a d i)) ≡ requests_of s (requests_there a d i) = length-filter (is_request_of s) (requests_there a d i) in
+      let there : slice_get (filter (is_request_of s) (requests_there a d i)) k ≡ Some q =
+      nth_stays (is_request_of s) k q (manager_asks i j es m) here in
+      let n : k < length (filter (is_request_of s) (requests_there a d i)) =
+      slice_get_within (filter (is_request_of s) (requests_there a d i)) k q there in
+      let l : length (filter (is_request_of s) (requests_there a d i)) ≡ requests_of s (requests_there a d i) =
+      length-filter (is_request_of s) (requests_there a d i) in
       (both_on (there_on near far a d i (good near far a d r).a_fine) (whole_asks i) (is_request_of s) k q there, omega arith)
 
-  both_tests : (i j : ℕ) (es : List (Event M)) (h : HeadD) → Reaches (goes_a a d) (goes_d a d) i j → ManagerIs a d i j es → (q : HeadA) → open_request h.source (marks es) ≡ Some q →
+  both_tests : (i j : ℕ) (es : List (Event M)) (h : HeadD) → Reaches (goes_a a d) (goes_d a d) i j → ManagerIs a d i j es → (q : HeadA) →
+      open_request h.source (marks es) ≡ Some q →
       (nat_lt (responses_to h.source (responses a d j)) (requests_of h.source (requests_there a d i)) ≡ true) ×
       (option_map_or (λ x. x.size == h.size) (partner (heads rules_a C a) (responses a d j) h.source) false ≡ (q.size == h.size))
   both_tests i j es h r m q e =
@@ -82,11 +88,14 @@ module _ {C M : ℕ} (near : 0 < C) (far : 0 < M) (a : List (BeatOf HeadA C)) (d
       slice_get d j ≡ Some b → manager_answer es b ≡ None → goes_d a d i j ≡ true
   manager_accepts i j es b r m at ok =
       let here : option_map_or (λ x. Some (Beat x)) (fault_after rules_d (take j d) b)
-      (cond (left rules_d M (take j d) == 0) (cond (is_release_ack b.head) None (to_request (open_request b.head.source (marks es)) b.head)) None) ≡ None =
+      (cond (left rules_d M (take j d) == 0) (cond (is_release_ack b.head) None (to_request (open_request b.head.source (marks es)) b.head))
+      None) ≡ None =
       subst (λ bs. option_map_or (λ x. Some (Beat x)) (fault_after rules_d bs b)
-      (cond (left rules_d M bs == 0) (cond (is_release_ack b.head) None (to_request (open_request b.head.source (marks es)) b.head)) None) ≡ None) m.accepted ok in
+      (cond (left rules_d M bs == 0) (cond (is_release_ack b.head) None (to_request (open_request b.head.source (marks es)) b.head)) None) ≡ None)
+      m.accepted ok in
       ap (λ o. option_map_or (λ x. is_none (stops_d a d i j x)) o false) at ∙
-      manager_imp (fault_after rules_d (take j d) b) (left rules_d M (take j d) == 0) (is_release_ack b.head) (open_request b.head.source (marks es)) b.head
+      manager_imp (fault_after rules_d (take j d) b) (left rules_d M (take j d) == 0) (is_release_ack b.head) (open_request b.head.source (marks es))
+      b.head
       _ _ (both_tests i j es b.head r m) here
 
   answer_ordered : (es : List (Event M)) (b : BeatOf HeadD M) (l : ℕ) (t : Bool) → left rules_d M (answered es) ≡ l → is_release_ack b.head ≡ t →
@@ -99,7 +108,8 @@ module _ {C M : ℕ} (near : 0 < C) (far : 0 < M) (a : List (BeatOf HeadA C)) (d
       (subst (λ x. option_map_or (λ x. Some (Beat x)) (fault_after rules_d (answered es) b)
       (cond (x == 0) (cond (is_release_ack b.head) None (to_request (open_request b.head.source (marks es)) b.head)) None) ≡ None) e ok))))
 
-  pub manager_accepted : (i j : ℕ) (es : List (Event M)) (b : BeatOf HeadD M) → ManagerIs a d i j es → slice_get d j ≡ Some b → manager_answer es b ≡ None →
+  pub manager_accepted : (i j : ℕ) (es : List (Event M)) (b : BeatOf HeadD M) → ManagerIs a d i j es → slice_get d j ≡ Some b →
+      manager_answer es b ≡ None →
       ManagerIs a d i (suc j) (es ++ Answer b ∷ [])
   manager_accepted i j es b m at ok = record {
     taken = rw (asked_answer es b) m.taken;
@@ -159,14 +169,9 @@ module _ {C M : ℕ} (near : 0 < C) (far : 0 < M) (a : List (BeatOf HeadA C)) (d
       asked es ≡ far_a a d i → manager_answer es b ≡ stops_d a d i j b
   manager_stops i j es b r m all =
       ap (λ bs. option_map_or (λ x. Some (Beat x)) (fault_after rules_d bs b)
-      (cond (left rules_d M bs == 0) (cond (is_release_ack b.head) None (to_request (open_request b.head.source (marks es)) b.head)) None)) m.accepted ∙
+      (cond (left rules_d M bs == 0) (cond (is_release_ack b.head) None (to_request (open_request b.head.source (marks es)) b.head)) None))
+      m.accepted ∙
       ap (λ o. option_map_or (λ x. Some (Beat x)) (fault_after rules_d (take j d) b)
       (cond (left rules_d M (take j d) == 0) (cond (is_release_ack b.head) None o) None))
       (same_request (open_request b.head.source (marks es)) b.head _ _
       (none_open i j b.head.source es m all) (both_tests i j es b.head r m))
-
-  -- the home that it gives is the one that the definition of the far list has
-  pub manager_home_is : (i j : ℕ) (es : List (Event M)) (h : HeadD) (q : HeadA) → Reaches (goes_a a d) (goes_d a d) i j → ManagerIs a d i j es → open_request h.source (marks es) ≡ Some q →
-      manager_home es h ≡ home_of (heads rules_a C a) (responses a d j) h
-  manager_home_is i j es h q r m e =
-      ap (λ (x : Option HeadA). cond (is_release_ack h) 0 (option_map_or (λ y. y.address) x 0)) (e ∙ sym (opened i j h.source es q r m e).0)

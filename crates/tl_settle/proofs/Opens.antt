@@ -79,7 +79,8 @@ match_ask s o qs rs h true e m free =
     }
 match_ask s o qs rs h false e m free =
     let g : filter (is_request_of s) (qs ++ h ∷ []) ≡ filter (is_request_of s) qs =
-    filter-append (is_request_of s) qs (h ∷ []) ∙ ap (λ b. filter (is_request_of s) qs ++ cond b (h ∷ []) []) e ∙ append-nil (filter (is_request_of s) qs) in
+    filter-append (is_request_of s) qs (h ∷ []) ∙ ap (λ b. filter (is_request_of s) qs ++ cond b (h ∷ []) []) e ∙
+    append-nil (filter (is_request_of s) qs) in
     let a = count_by-append (is_request_of s) qs (h ∷ []) in
     let u : ◌≡◌ {A = ℕ} (cond (is_request_of s h) 1 0) 0 = ap (λ b. cond b 1 0) e in
     let l = m.low in

@@ -81,7 +81,8 @@ module _ (goes_a goes_d : ℕ → ℕ → Bool) (n m : ℕ)
     pub settles : IsTheSettled goes_a goes_d (settle goes_a goes_d (n + m) (record { a = 0; d = 0 }))
     settles =
         let s : State = settle goes_a goes_d (n + m) (record { a = 0; d = 0 }) in
-        let done : Settled goes_a goes_d s.a s.d = onward (n + m) (record { a = 0; d = 0 }) (goes_a 0 0) (goes_d 0 0) refl refl start (zero-le, zero-le) (omega arith) in
+        let done : Settled goes_a goes_d s.a s.d = onward (n + m) (record { a = 0; d = 0 }) (goes_a 0 0) (goes_d 0 0) refl refl start
+        (zero-le, zero-le) (omega arith) in
         record {
           settled = done;
           only = λ i j t.

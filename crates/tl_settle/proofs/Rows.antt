@@ -123,12 +123,14 @@ nothing_sent = refl
 -- ---- what crosses
 
 abbrev only_far_a : List (BeatOf HeadA 4)
-only_far_a = let a = get_at 1 0 ∷ get_at 1 4 ∷ get_at 2 8 ∷ [] in let d = tells 4 1 0 2 2 17 ∷ tells 4 1 0 2 1 34 ∷ [] in far_a {C = 4} {M = 4} a d (settled_state a d).a
+only_far_a = let a = get_at 1 0 ∷ get_at 1 4 ∷ get_at 2 8 ∷ [] in let d = tells 4 1 0 2 2 17 ∷ tells 4 1 0 2 1 34 ∷ [] in
+    far_a {C = 4} {M = 4} a d (settled_state a d).a
 
 first_alone : only_far_a ≡ get_at 1 0 ∷ []
 first_alone = refl
 
-none_back : let a = get_at 1 0 ∷ get_at 1 4 ∷ get_at 2 8 ∷ [] in let d = tells 4 1 0 2 2 17 ∷ tells 4 1 0 2 1 34 ∷ [] in far_d {C = 4} {M = 4} a d (settled_state a d).d ≡ []
+none_back : let a = get_at 1 0 ∷ get_at 1 4 ∷ get_at 2 8 ∷ [] in let d = tells 4 1 0 2 2 17 ∷ tells 4 1 0 2 1 34 ∷ [] in
+    far_d {C = 4} {M = 4} a d (settled_state a d).d ≡ []
 none_back = refl
 
 -- a release acknowledged without a request

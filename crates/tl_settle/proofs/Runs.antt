@@ -9,7 +9,8 @@ use Rattle.tl_settle.proofs.Orders.{unmarked, ClientIs, ManagerIs}
 use Rattle.tl_settle.proofs.Settles.{good, round_reaches, one_settled}
 use Rattle.tl_settle.proofs.Homes.{manager_homes_are}
 use Rattle.tl_settle.proofs.Grows.{far_a_grows, far_d_grows}
-use Rattle.tl_settle.specs.Rounds.{ClientMoves, IsOver, IsSettledRun, ManagerMoves, Run, begins, client_accepts, client_rests, client_takes, manager_accepts, manager_rests, manager_takes, round}
+use Rattle.tl_settle.specs.Rounds.{ClientMoves, IsOver, IsSettledRun, ManagerMoves, Run, begins, client_accepts, client_rests, client_takes}
+use Rattle.tl_settle.specs.Rounds.{manager_accepts, manager_rests, manager_takes, round}
 
 -- the last index below suc y, or one before
 last_or : (k y : ℕ) → k < suc y → (k < y) ⊎ (k ≡ y)
@@ -22,18 +23,25 @@ module _ {C M : ℕ} (near : 0 < C) (far : 0 < M) (a : List (BeatOf HeadA C)) (d
     reached : Reaches (goes_a a d) (goes_d a d) x j
     is : ClientIs a d x j fc
 
-  client_done : (i j : ℕ) (ec : List (Event C)) (x : ℕ) (fc : List (Event C)) → Reaches (goes_a a d) (goes_d a d) i j → ClientIs a d i j ec → ClientMoves a d j i ec x fc → ClientDone i j x fc
+  client_done : (i j : ℕ) (ec : List (Event C)) (x : ℕ) (fc : List (Event C)) → Reaches (goes_a a d) (goes_d a d) i j → ClientIs a d i j ec →
+      ClientMoves a d j i ec x fc → ClientDone i j x fc
   client_done i j ec x fc r c client_rests = record { on = omega arith; goes = λ k l m. absurd (omega arith); reached = r; is = c }
   client_done i j ec x fc r c (client_takes y fs b moves on) =
       let before : ClientDone i j y fs = client_done i j ec y fs r c moves in
-      record { on = before.on; goes = before.goes; reached = before.reached; is = sides.client_takes near far a d y j fs b before.reached before.is (of_prefix _ _ on) }
+      record {
+        on = before.on;
+        goes = before.goes;
+        reached = before.reached;
+        is = sides.client_takes near far a d y j fs b before.reached before.is (of_prefix _ _ on);
+      }
   client_done i j ec x fc r c (client_accepts y fs b moves at ok) =
       let before : ClientDone i j y fs = client_done i j ec y fs r c moves in
       let step : goes_a a d y j ≡ true = sides.client_accepts near far a d y j fs b before.reached before.is at ok in
       let l = before.on in
       record {
         on = omega arith;
-        goes = λ k low high. ⊎_elim (λ less. before.goes k low less) (λ (e : k ≡ y). subst (λ n. goes_a a d n j ≡ true) (sym e) step) (last_or k y high);
+        goes = λ k low high. ⊎_elim (λ less. before.goes k low less) (λ (e : k ≡ y). subst (λ n. goes_a a d n j ≡ true) (sym e) step)
+            (last_or k y high);
         reached = by_a y j before.reached step;
         is = sides.client_accepted near far a d y j fs b before.is at ok;
       }
@@ -44,18 +52,25 @@ module _ {C M : ℕ} (near : 0 < C) (far : 0 < M) (a : List (BeatOf HeadA C)) (d
     reached : Reaches (goes_a a d) (goes_d a d) i y
     is : ManagerIs a d i y fm
 
-  manager_done : (i j : ℕ) (em : List (Event M)) (x : ℕ) (fm : List (Event M)) → Reaches (goes_a a d) (goes_d a d) i j → ManagerIs a d i j em → ManagerMoves a d i j em x fm → ManagerDone i j x fm
+  manager_done : (i j : ℕ) (em : List (Event M)) (x : ℕ) (fm : List (Event M)) → Reaches (goes_a a d) (goes_d a d) i j → ManagerIs a d i j em →
+      ManagerMoves a d i j em x fm → ManagerDone i j x fm
   manager_done i j em x fm r m manager_rests = record { on = omega arith; goes = λ k l h. absurd (omega arith); reached = r; is = m }
   manager_done i j em x fm r m (manager_takes y fs b moves on) =
       let before : ManagerDone i j y fs = manager_done i j em y fs r m moves in
-      record { on = before.on; goes = before.goes; reached = before.reached; is = manager.manager_takes near far a d i y fs b before.reached before.is (of_prefix _ _ on) }
+      record {
+        on = before.on;
+        goes = before.goes;
+        reached = before.reached;
+        is = manager.manager_takes near far a d i y fs b before.reached before.is (of_prefix _ _ on);
+      }
   manager_done i j em x fm r m (manager_accepts y fs b moves at ok) =
       let before : ManagerDone i j y fs = manager_done i j em y fs r m moves in
       let step : goes_d a d i y ≡ true = manager.manager_accepts near far a d i y fs b before.reached before.is at ok in
       let l = before.on in
       record {
         on = omega arith;
-        goes = λ k low high. ⊎_elim (λ less. before.goes k low less) (λ (e : k ≡ y). subst (λ n. goes_d a d i n ≡ true) (sym e) step) (last_or k y high);
+        goes = λ k low high. ⊎_elim (λ less. before.goes k low less) (λ (e : k ≡ y). subst (λ n. goes_d a d i n ≡ true) (sym e) step)
+            (last_or k y high);
         reached = by_d i y before.reached step;
         is = manager.manager_accepted near far a d i y fs b before.is at ok;
       }
@@ -80,22 +95,33 @@ module _ {C M : ℕ} (near : 0 < C) (far : 0 < M) (a : List (BeatOf HeadA C)) (d
       round_reaches near far a d i j x y b.reached (record { a_on = c.on; d_on = m.on; a_goes = c.goes; d_goes = m.goes }) in
       record {
         reached = r;
-        client = record { accepted = c.is.accepted; taken = extends-on c.is.taken (far_d_grows near far a d j y m.on (good near far a d m.reached).d_fine); ordered = c.is.ordered };
-        manager_is = record { taken = extends-on m.is.taken (far_a_grows near far a d i x c.on (good near far a d c.reached).a_fine); accepted = m.is.accepted; ordered = m.is.ordered };
+        client = record {
+          accepted = c.is.accepted;
+          taken = extends-on c.is.taken
+              (far_d_grows near far a d j y m.on (good near far a d m.reached).d_fine);
+          ordered = c.is.ordered;
+        };
+        manager_is = record {
+          taken = extends-on m.is.taken (far_a_grows near far a d i x c.on (good near far a d c.reached).a_fine);
+          accepted = m.is.accepted;
+          ordered = m.is.ordered;
+        };
       }
 
   not_none : (x : Option SideFault) → x ≢ None → is_none x ≡ false
   not_none None h = absurd (h refl)
   not_none (Some x) h = refl
 
-  a_ends : (i j : ℕ) (ec : List (Event C)) (o : Option (BeatOf HeadA C)) → slice_get a i ≡ o → Reaches (goes_a a d) (goes_d a d) i j → ClientIs a d i j ec →
+  a_ends : (i j : ℕ) (ec : List (Event C)) (o : Option (BeatOf HeadA C)) → slice_get a i ≡ o → Reaches (goes_a a d) (goes_d a d) i j →
+      ClientIs a d i j ec →
       answered ec ≡ far_d a d j → ((b : BeatOf HeadA C) → slice_get a i ≡ Some b → client_answer ec b ≢ None) → goes_a a d i j ≡ false
   a_ends i j ec None e r c all stops = ap (λ o. option_map_or (λ x. is_none (stops_a a d i j x)) o false) e
   a_ends i j ec (Some b) e r c all stops =
       ap (λ o. option_map_or (λ x. is_none (stops_a a d i j x)) o false) e ∙
       not_none (stops_a a d i j b) (λ f. stops b e (sides.client_stops near far a d i j ec b r c all ∙ f))
 
-  d_ends : (i j : ℕ) (em : List (Event M)) (o : Option (BeatOf HeadD M)) → slice_get d j ≡ o → Reaches (goes_a a d) (goes_d a d) i j → ManagerIs a d i j em →
+  d_ends : (i j : ℕ) (em : List (Event M)) (o : Option (BeatOf HeadD M)) → slice_get d j ≡ o → Reaches (goes_a a d) (goes_d a d) i j →
+      ManagerIs a d i j em →
       asked em ≡ far_a a d i → ((b : BeatOf HeadD M) → slice_get d j ≡ Some b → manager_answer em b ≢ None) → goes_d a d i j ≡ false
   d_ends i j em None e r m all stops = ap (λ o. option_map_or (λ x. is_none (stops_d a d i j x)) o false) e
   d_ends i j em (Some b) e r m all stops =

@@ -30,7 +30,8 @@ ask_imp None true false false n' s h e = cc
 ask_imp None true false true n' s h e = rw (h refl) e
 
 ask_true : (o : Option BeatFault) (r n s : Bool) → r ≡ false →
-    is_none (option_map_or (λ x. Some (Beat x)) o (cond true (cond r None (cond n (cond s None (Some SizeMismatch)) (Some NoRequest))) None)) ≡ true → n ≡ true
+    is_none (option_map_or (λ x. Some (Beat x)) o (cond true (cond r None (cond n (cond s None (Some SizeMismatch)) (Some NoRequest))) None)) ≡ true →
+    n ≡ true
 ask_true (Some x) r n s h e = cc
 ask_true None true n s h e = cc
 ask_true None false true s h e = refl
@@ -89,7 +90,8 @@ module _ {C M : ℕ} (near : 0 < C) (far : 0 < M) (a : List (BeatOf HeadA C)) (d
         fewer = λ s. let h = g.fewer s in let k = there_grows i (suc i) s (omega arith) fine in omega arith;
       }
 
-  counts_one : (s : ℕ) (h : HeadD) (t u : Bool) → is_release_ack h ≡ t → (h.source == s) ≡ u → ◌≡◌ {A = ℕ} (cond (is_response_to s h) 1 0) (cond (not t && u) 1 0)
+  counts_one : (s : ℕ) (h : HeadD) (t u : Bool) → is_release_ack h ≡ t → (h.source == s) ≡ u →
+      ◌≡◌ {A = ℕ} (cond (is_response_to s h) 1 0) (cond (not t && u) 1 0)
   counts_one s h t u e f = ap (λ x. cond (not x && (h.source == s)) 1 0) e ∙ ap (λ x. cond (not t && x) 1 0) f
 
   -- one more response of D
@@ -196,14 +198,6 @@ module _ {C M : ℕ} (near : 0 < C) (far : 0 < M) (a : List (BeatOf HeadA C)) (d
       let before : Reaches (goes_a a d) (goes_d a d) (i + n) j = a_run i j (i + n) r n refl (λ k l m. g k l (omega arith)) in
       let f : suc (i + n) ≡ x = omega arith in
       subst (λ q. Reaches (goes_a a d) (goes_d a d) q j) f (by_a (i + n) j before (g (i + n) (omega arith) (omega arith)))
-
-  d_run : (i j y : ℕ) → Reaches (goes_a a d) (goes_d a d) i j → (n : ℕ) → y ≡ j + n → ((k : ℕ) → j ≤ k → k < y → goes_d a d i k ≡ true) →
-      Reaches (goes_a a d) (goes_d a d) i y
-  d_run i j y r zero e g = let f : j ≡ y = omega arith in rw f at r
-  d_run i j y r (suc n) e g =
-      let before : Reaches (goes_a a d) (goes_d a d) i (j + n) = d_run i j (j + n) r n refl (λ k l m. g k l (omega arith)) in
-      let f : suc (j + n) ≡ y = omega arith in
-      subst (λ q. Reaches (goes_a a d) (goes_d a d) i q) f (by_d i (j + n) before (g (j + n) (omega arith) (omega arith)))
 
   -- D's steps stay possible after A's
   later : (i j x y : ℕ) → Reaches (goes_a a d) (goes_d a d) x j → i ≤ x → (n : ℕ) → y ≡ j + n → ((k : ℕ) → j ≤ k → k < y → goes_d a d i k ≡ true) →

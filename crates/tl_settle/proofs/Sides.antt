@@ -11,7 +11,8 @@ use Rattle.std.proofs.lemmas.List.Elements.{filter-append}
 use Rattle.tl_settle.proofs.Orders.{asks, answers, Ordered, ask, answer, ClientIs}
 use Rattle.tl_settle.proofs.Settles.{good, there_behind, back_grows, back_behind, responses_there}
 use Rattle.tl_settle.proofs.Opens.{Match, matches, asks_heads, answers_heads}
-use Rattle.tl_settle.proofs.Marks.{asked_ask, asked_answer, answered_ask, answered_answer, marks_ask_first, marks_ask_inside, marks_answer_first, marks_answer_inside}
+use Rattle.tl_settle.proofs.Marks.{asked_ask, asked_answer, answered_ask, answered_answer, marks_ask_first, marks_ask_inside, marks_answer_first}
+use Rattle.tl_settle.proofs.Marks.{marks_answer_inside}
 
 client_imp : (o : Option BeatFault) (l p f : Bool) → (p ≡ false → f ≡ true) →
     option_map_or (λ x. Some (Beat x)) o (cond l (cond p (Some SourceBusy) None) None) ≡ None →
@@ -27,13 +28,11 @@ client_first (Some x) p e = cc
 client_first None true e = cc
 client_first None false e = refl
 
-free_true : (o : Option BeatFault) (f : Bool) → is_none (option_map_or (λ x. Some (Beat x)) o (cond true (cond f None (Some SourceBusy)) None)) ≡ true → f ≡ true
+free_true : (o : Option BeatFault) (f : Bool) →
+    is_none (option_map_or (λ x. Some (Beat x)) o (cond true (cond f None (Some SourceBusy)) None)) ≡ true → f ≡ true
 free_true (Some x) f e = cc
 free_true None true e = refl
 free_true None false e = cc
-
-same_equal : (x : ℕ) → (x == x) ≡ true
-same_equal x = equal_true x x refl
 
 swap : (p f : Bool) → f ≡ not p → cond p (Some SourceBusy) None ≡ cond f None (Some SourceBusy)
 swap true f e = rw e refl
@@ -43,7 +42,8 @@ pub to_response : (s : ℕ) (h : HeadD) → is_release_ack h ≡ false → h.sou
 to_response s h e f = ap (λ b. not b && (h.source == s)) e ∙ equal_true h.source s f
 
 -- the number of a request among those of a source stays while the list goes on
-pub nth_stays : {X : Type 0} (p : X → Bool) (k : ℕ) (q : X) {xs ys : List X} → Extends xs ys → slice_get (filter p xs) k ≡ Some q → slice_get (filter p ys) k ≡ Some q
+pub nth_stays : {X : Type 0} (p : X → Bool) (k : ℕ) (q : X) {xs ys : List X} → Extends xs ys → slice_get (filter p xs) k ≡ Some q →
+    slice_get (filter p ys) k ≡ Some q
 nth_stays {X = X} p k q (more xs rest) e = ap (λ zs. slice_get zs k) (filter-append p xs rest) ∙ first_stays (filter p xs) (filter p rest) k e
   where
     first_stays : (us vs : List X) (n : ℕ) → slice_get us n ≡ Some q → slice_get (us ++ vs) n ≡ Some q
@@ -85,7 +85,8 @@ module _ {C M : ℕ} (near : 0 < C) (far : 0 < M) (a : List (BeatOf HeadA C)) (d
   tight (by_a i j r g) s =
       let found = map_true (λ b. is_none (stops_a a d i j b)) (slice_get a i) g in
       rw (take-next a i found.0 found.1) (tight_a i j s found.0 (left rules_a C (take i a)) refl found.2 (tight r s))
-  tight (by_d i j r g) s = let h = tight r s in let k = back_grows near far a d j (suc j) s (omega arith) (good near far a d (by_d i j r g)).d_fine in omega arith
+  tight (by_d i j r g) s = let h = tight r s in let k = back_grows near far a d j (suc j) s (omega arith) (good near far a d (by_d i j r g)).d_fine in
+      omega arith
 
   -- The client's side: what it counts.
   client_asks : (i j : ℕ) (es : List (Event C)) → ClientIs a d i j es → asks (marks es) ≡ requests a d i
@@ -124,7 +125,8 @@ module _ {C M : ℕ} (near : 0 < C) (far : 0 < M) (a : List (BeatOf HeadA C)) (d
       (is_free a d i j b.head.source) (client_free i j b.head.source es r c) here
 
   -- and after it the side stands where the step leads
-  client_ordered : (es : List (Event C)) (b : BeatOf HeadA C) (l : ℕ) → left rules_a C (asked es) ≡ l → Ordered (marks es) → client_answer es b ≡ None →
+  client_ordered : (es : List (Event C)) (b : BeatOf HeadA C) (l : ℕ) → left rules_a C (asked es) ≡ l → Ordered (marks es) →
+      client_answer es b ≡ None →
       Ordered (marks (es ++ Ask b ∷ []))
   client_ordered es b zero e o ok =
       rw (marks_ask_first 0 0 es b e)
@@ -134,7 +136,8 @@ module _ {C M : ℕ} (near : 0 < C) (far : 0 < M) (a : List (BeatOf HeadA C)) (d
       (cond (x == 0) (cond (is_some (open_request b.head.source (marks es))) (Some SourceBusy) None) None) ≡ None) e ok))))
   client_ordered es b (suc l) e o ok = rw (marks_ask_inside 0 0 l es b e) o
 
-  pub client_accepted : (i j : ℕ) (es : List (Event C)) (b : BeatOf HeadA C) → ClientIs a d i j es → slice_get a i ≡ Some b → client_answer es b ≡ None →
+  pub client_accepted : (i j : ℕ) (es : List (Event C)) (b : BeatOf HeadA C) → ClientIs a d i j es → slice_get a i ≡ Some b →
+      client_answer es b ≡ None →
       ClientIs a d (suc i) j (es ++ Ask b ∷ [])
   client_accepted i j es b c at ok = record {
     accepted = asked_ask es b ∙ ap (λ q. q ++ b ∷ []) c.accepted ∙ sym (take-next a i b at);
@@ -165,8 +168,10 @@ module _ {C M : ℕ} (near : 0 < C) (far : 0 < M) (a : List (BeatOf HeadA C)) (d
       let got = there_is (filter (is_request_of s) (asks (marks es))) (responses_to s (answers (marks es))) (omega arith) in
       (got.0, m.is ∙ got.1)
 
-  takes_ordered : (i j : ℕ) (es : List (Event C)) (b : BeatOf HeadD C) (l : ℕ) (t : Bool) → left rules_d C (answered es) ≡ l → is_release_ack b.head ≡ t →
-      Reaches (goes_a a d) (goes_d a d) i j → ClientIs a d i j es → Extends (answered es ++ b ∷ []) (far_d a d j) → Ordered (marks (es ++ Answer b ∷ []))
+  takes_ordered : (i j : ℕ) (es : List (Event C)) (b : BeatOf HeadD C) (l : ℕ) (t : Bool) → left rules_d C (answered es) ≡ l →
+      is_release_ack b.head ≡ t →
+      Reaches (goes_a a d) (goes_d a d) i j → ClientIs a d i j es → Extends (answered es ++ b ∷ []) (far_d a d j) →
+      Ordered (marks (es ++ Answer b ∷ []))
   takes_ordered i j es b (suc l) t e f r c on = rw (marks_answer_inside 0 0 l es b e) c.ordered
   takes_ordered i j es b zero true e f r c on = rw (marks_answer_first 0 0 es b e) (answer (marks es) b.head c.ordered (inl f))
   takes_ordered i j es b zero false e f r c on =

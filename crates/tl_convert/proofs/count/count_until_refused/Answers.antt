@@ -17,18 +17,23 @@ advance-requires g c = (tracker-fits (lone g.row.K-Head.mir) (layout g.row.K-Hea
 pub loop-beat-preserved : goal.loop-beat-preserved
 loop-beat-preserved g c =
     let more : take (c.loop-beat.beat-index + 1) c.args.beats.now ≡ take c.loop-beat.beat-index c.args.beats.now ++ c.beat-item.result ∷ [] =
-    one-more g.K.Channel.rules c.args.beats.now c.loop-beat.beat-index c.loop-beat.invariant.accepted c.beat-item.result (omega arith) c.beat-item.is in
+    one-more g.K.Channel.rules c.args.beats.now c.loop-beat.beat-index c.loop-beat.invariant.accepted c.beat-item.result (omega arith)
+    c.beat-item.is in
     let none : fault_in g.K.Channel.rules c.loop-beat.tracker c.beat-item.result ≡ None = c.in-Ok.ensures.accepts.0 refl in
     record {
-      open_now = c.advance.ensures.stands (take c.loop-beat.beat-index c.args.beats.now) c.beat-item.result c.loop-beat.invariant.open_now (sym c.in-Ok.ensures.head) ∙
+      open_now = c.advance.ensures.stands (take c.loop-beat.beat-index c.args.beats.now) c.beat-item.result c.loop-beat.invariant.open_now
+          (sym c.in-Ok.ensures.head) ∙
           ap (λ q. burst_after g.K.Channel.rules q) (sym more);
-      accepted = accepted-next g.K.Channel.rules c.args.beats.now c.loop-beat.beat-index c.loop-beat.invariant.accepted c.beat-item.result (omega arith) c.beat-item.is
+      accepted = accepted-next g.K.Channel.rules c.args.beats.now c.loop-beat.beat-index c.loop-beat.invariant.accepted c.beat-item.result
+          (omega arith) c.beat-item.is
           (ap (λ burst. fault_in g.K.Channel.rules burst c.beat-item.result) (sym c.loop-beat.invariant.open_now) ∙ none);
       count = λ homes.
           ap (λ n. n + c.far_beats_between-count.result) (c.loop-beat.invariant.count homes) ∙
-          sym (due-count g.K.Channel.rules g.row.W c.args.far c.requires.0 c.requires.1 homes (take c.loop-beat.beat-index c.args.beats.now) c.beat-item.result
+          sym (due-count g.K.Channel.rules g.row.W c.args.far c.requires.0 c.requires.1 homes (take c.loop-beat.beat-index c.args.beats.now)
+          c.beat-item.result
           c.loop-beat.tracker c.in-Ok.place c.far_beats_between-count.result c.loop-beat.invariant.open_now c.in-Ok.ensures.head c.in-Ok.ensures.place
-          (c.in-Ok.ensures.index (take c.loop-beat.beat-index c.args.beats.now) c.loop-beat.invariant.open_now) c.far_beats_between-count.ensures.gives) ∙
+          (c.in-Ok.ensures.index (take c.loop-beat.beat-index c.args.beats.now) c.loop-beat.invariant.open_now)
+          c.far_beats_between-count.ensures.gives) ∙
           ap (λ q. length (due g.K.Channel.rules g.row.W c.args.far q homes)) (sym more);
       few = omega (arith, c.loop-beat.invariant.few, c.far_beats_between-count.ensures.few);
     }
@@ -38,14 +43,16 @@ returns-in_default g c = λ homes.
     let some : fault_in g.K.Channel.rules c.loop-beat.tracker c.beat-item.result ≡ Some c.in_default.field-0 = c.in_default.ensures.fault in
     c.loop-beat.invariant.count homes ∙
     ap (λ q. length (due g.K.Channel.rules g.row.W c.args.far q homes))
-    (sym (accepted-stop g.K.Channel.rules c.args.beats.now c.loop-beat.beat-index c.loop-beat.invariant.accepted c.beat-item.result (omega arith) c.beat-item.is
+    (sym (accepted-stop g.K.Channel.rules c.args.beats.now c.loop-beat.beat-index c.loop-beat.invariant.accepted c.beat-item.result (omega arith)
+    c.beat-item.is
     c.in_default.field-0 (ap (λ burst. fault_in g.K.Channel.rules burst c.beat-item.result) (sym c.loop-beat.invariant.open_now) ∙ some)))
 
 pub returns : goal.returns
 returns g c = λ homes.
     c.loop-beat.invariant.count homes ∙
     ap (λ q. length (due g.K.Channel.rules g.row.W c.args.far q homes))
-    (sym (accepted-all g.K.Channel.rules c.args.beats.now c.loop-beat.beat-index c.loop-beat.invariant.accepted (omega (arith, c.loop-beat-test.false))))
+    (sym (accepted-all g.K.Channel.rules c.args.beats.now c.loop-beat.beat-index c.loop-beat.invariant.accepted
+    (omega (arith, c.loop-beat-test.false))))
 
 pub far_beats_between-count-requires-clause-near : goal.far_beats_between-count-requires-clause-near
 far_beats_between-count-requires-clause-near g c = c.requires.0

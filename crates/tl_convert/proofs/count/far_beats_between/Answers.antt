@@ -38,14 +38,23 @@ pub returns-clause-few : goal.returns-clause-few
 returns-clause-few g c =
     let w = width_bounds c.args.near c.requires.near in
     let pos = some-bytes c.size-size.result c.args.far c.beat_bytes-far_bytes.result c.requires.far c.beat_bytes-far_bytes.ensures in
-    let before = filled (c.args.place.now.index * c.beat_bytes-near_bytes.result) _ _ _ c.beats_filled-before.ensures c.beat_bytes-far_bytes.ensures in
-    let after = filled ((c.args.place.now.index + 1) * c.beat_bytes-near_bytes.result) _ _ _ c.beats_filled-after.ensures c.beat_bytes-far_bytes.ensures in
-    omega (arith, before, after, ended c.args.place.now.index c.beat_bytes-near_bytes.result c.beat_bytes-far_bytes.result pos, c.beat_bytes-near_bytes.ensures)
+    let before = filled (c.args.place.now.index * c.beat_bytes-near_bytes.result) _ _ _ c.beats_filled-before.ensures
+    c.beat_bytes-far_bytes.ensures in
+    let after = filled ((c.args.place.now.index + 1) * c.beat_bytes-near_bytes.result) _ _ _ c.beats_filled-after.ensures
+    c.beat_bytes-far_bytes.ensures in
+    omega (
+      arith,
+      before,
+      after,
+      ended c.args.place.now.index c.beat_bytes-near_bytes.result c.beat_bytes-far_bytes.result pos,
+      c.beat_bytes-near_bytes.ensures,
+    )
 
 pub returns-then-near_bytes-far_bytes-clause-few : goal.returns-then-near_bytes-far_bytes-clause-few
 returns-then-near_bytes-far_bytes-clause-few g c =
     let w = width_bounds c.args.near c.requires.near in
-    let most : c.beat_bytes-near_bytes.result / c.beat_bytes-far_bytes.result ≤ c.beat_bytes-near_bytes.result = div-le_self c.beat_bytes-near_bytes.result c.beat_bytes-far_bytes.result in
+    let most : c.beat_bytes-near_bytes.result / c.beat_bytes-far_bytes.result ≤ c.beat_bytes-near_bytes.result =
+    div-le_self c.beat_bytes-near_bytes.result c.beat_bytes-far_bytes.result in
     let is = filled c.beat_bytes-near_bytes.result _ _ _ c.beats_filled.ensures c.beat_bytes-far_bytes.ensures in
     omega (arith, is, c.beat_bytes-near_bytes.ensures)
 
@@ -70,8 +79,10 @@ returns-clause-gives g c =
     let F : ℕ → Type 0 = λ m. ((i + 1) * near / far - i * near / far) + i * per_beat r h c.args.near / m ≡ (i + 1) * per_beat r h c.args.near / m in
     let before = filled (i * near) _ _ _ c.beats_filled-before.ensures c.beat_bytes-far_bytes.ensures in
     let after = filled ((i + 1) * near) _ _ _ c.beats_filled-after.ensures c.beat_bytes-far_bytes.ensures in
-    let is : c.beats_filled-after.result - c.beats_filled-before.result ≡ (i + 1) * near / far - i * near / far = ap (λ x. x - c.beats_filled-before.result) after ∙ ap (λ x. (i + 1) * near / far - x) before in
-    let R : ℕ → Type 0 = λ given. given + i * per_beat r h c.args.near / per_beat r h c.args.far ≡ (i + 1) * per_beat r h c.args.near / per_beat r h c.args.far in
+    let is : c.beats_filled-after.result - c.beats_filled-before.result ≡ (i + 1) * near / far - i * near / far =
+    ap (λ x. x - c.beats_filled-before.result) after ∙ ap (λ x. (i + 1) * near / far - x) before in
+    let R : ℕ → Type 0 = λ given. given + i * per_beat r h c.args.near / per_beat r h c.args.far ≡ (i + 1) * per_beat r h c.args.near / per_beat r h
+    c.args.far in
     record {
       data_beat = λ _. subst R (sym is) (subst F q (subst N p sum));
       no_data = λ none. search (rules, none, c.if-not-carries_data.false, c.if-not-carries_data.ensures, c.carries_data.ensures);
@@ -108,7 +119,8 @@ returns-then-near_bytes-far_bytes-clause-gives g c =
     let N : ℕ → Type 0 = λ n. near / far + i * n / far ≡ (i + 1) * n / far in
     let F : ℕ → Type 0 = λ m. near / far + i * per_beat r h c.args.near / m ≡ (i + 1) * per_beat r h c.args.near / m in
     let is = filled near _ _ _ c.beats_filled.ensures c.beat_bytes-far_bytes.ensures in
-    let R : ℕ → Type 0 = λ given. given + i * per_beat r h c.args.near / per_beat r h c.args.far ≡ (i + 1) * per_beat r h c.args.near / per_beat r h c.args.far in
+    let R : ℕ → Type 0 = λ given. given + i * per_beat r h c.args.near / per_beat r h c.args.far ≡ (i + 1) * per_beat r h c.args.near / per_beat r h
+    c.args.far in
     record {
       data_beat = λ _. subst R (sym is) (subst F q (subst N p sum));
       no_data = λ none. search (rules, none, c.if-not-carries_data.false, c.if-not-carries_data.ensures, c.carries_data.ensures);

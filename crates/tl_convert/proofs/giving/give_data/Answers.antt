@@ -20,17 +20,20 @@ pub overflow_mul-first : goal.overflow_mul-first
 overflow_mul-first g c =
     let b = width_bounds g.row.W c.requires.near in
     let small : c.args.index * c.beat_bytes-near.result < 2 ^ 40 =
-    first-small c.args.index c.beat_bytes-near.result g.row.W c.ranges.index.fits (bytes-within c.size-size.result g.row.W c.beat_bytes-near.result c.beat_bytes-near.ensures) b.1 in
+    first-small c.args.index c.beat_bytes-near.result g.row.W c.ranges.index.fits
+    (bytes-within c.size-size.result g.row.W c.beat_bytes-near.result c.beat_bytes-near.ensures) b.1 in
     record { fits = far-below (c.args.index * c.beat_bytes-near.result) small }
 
 pub size-size-requires : goal.size-size-requires
 size-size-requires g c κs = λ p. p
 
 pub beat_bytes-near-requires-clause-small : goal.beat_bytes-near-requires-clause-small
-beat_bytes-near-requires-clause-small g c = same-small c.size-size.result (g.K.Channel.rules.size c.args.beat.now.head) c.size-size.ensures c.requires.small
+beat_bytes-near-requires-clause-small g c = same-small c.size-size.result (g.K.Channel.rules.size c.args.beat.now.head) c.size-size.ensures
+    c.requires.small
 
 pub beat_bytes-requires-clause-small : goal.beat_bytes-requires-clause-small
-beat_bytes-requires-clause-small g c = same-small c.size-size.result (g.K.Channel.rules.size c.args.beat.now.head) c.size-size.ensures c.requires.small
+beat_bytes-requires-clause-small g c = same-small c.size-size.result (g.K.Channel.rules.size c.args.beat.now.head) c.size-size.ensures
+    c.requires.small
 
 pub beat_bytes-near-requires-clause-width : goal.beat_bytes-near-requires-clause-width
 beat_bytes-near-requires-clause-width g c = c.requires.near
@@ -40,12 +43,16 @@ beat_bytes-requires-clause-width g c = c.requires.far
 
 pub pour_whole-requires : goal.pour_whole-requires
 pour_whole-requires g c =
-    let near : c.beat_bytes-near.result ≡ per_beat g.K.Channel.rules c.args.beat.now.head g.row.W = c.beat_bytes-near.ensures ∙ ap (λ z. bytes_per_beat z g.row.W) c.size-size.ensures in
-    let far : c.beat_bytes.result ≡ per_beat g.K.Channel.rules c.args.beat.now.head g.row.V = c.beat_bytes.ensures ∙ ap (λ z. bytes_per_beat z g.row.V) c.size-size.ensures in
+    let near : c.beat_bytes-near.result ≡ per_beat g.K.Channel.rules c.args.beat.now.head g.row.W = c.beat_bytes-near.ensures ∙
+    ap (λ z. bytes_per_beat z g.row.W) c.size-size.ensures in
+    let far : c.beat_bytes.result ≡ per_beat g.K.Channel.rules c.args.beat.now.head g.row.V = c.beat_bytes.ensures ∙
+    ap (λ z. bytes_per_beat z g.row.V) c.size-size.ensures in
     let b = width_bounds g.row.W c.requires.near in
     let small : c.args.index * c.beat_bytes-near.result < 2 ^ 40 =
-    first-small c.args.index c.beat_bytes-near.result g.row.W c.ranges.index.fits (bytes-within c.size-size.result g.row.W c.beat_bytes-near.result c.beat_bytes-near.ensures) b.1 in
-    let e : c.args.index * c.beat_bytes-near.result ≡ c.args.index * per_beat g.K.Channel.rules c.args.beat.now.head g.row.W = ap (λ n. c.args.index * n) near in (
+    first-small c.args.index c.beat_bytes-near.result g.row.W c.ranges.index.fits
+    (bytes-within c.size-size.result g.row.W c.beat_bytes-near.result c.beat_bytes-near.ensures) b.1 in
+    let e : c.args.index * c.beat_bytes-near.result ≡ c.args.index * per_beat g.K.Channel.rules c.args.beat.now.head g.row.W =
+    ap (λ n. c.args.index * n) near in (
       c.requires-raw.1.1.1.1.0,
       (
         c.requires-raw.1.1.1.1.1.0,
@@ -56,7 +63,8 @@ pour_whole-requires g c =
               near = c.requires.near;
               far = c.requires.far;
               small = c.requires.small;
-              whole = ap (λ n. n % per_beat g.K.Channel.rules c.args.beat.now.head g.row.W) e ∙ mul-mod_left c.args.index (per_beat g.K.Channel.rules c.args.beat.now.head g.row.W);
+              whole = ap (λ n. n % per_beat g.K.Channel.rules c.args.beat.now.head g.row.W) e ∙
+                  mul-mod_left c.args.index (per_beat g.K.Channel.rules c.args.beat.now.head g.row.W);
               room = small;
               empty = c.requires.empty;
             },
@@ -68,12 +76,16 @@ pour_whole-requires g c =
 
 pub pour_part-requires : goal.pour_part-requires
 pour_part-requires g c =
-    let near : c.beat_bytes-near.result ≡ per_beat g.K.Channel.rules c.args.beat.now.head g.row.W = c.beat_bytes-near.ensures ∙ ap (λ z. bytes_per_beat z g.row.W) c.size-size.ensures in
-    let far : c.beat_bytes.result ≡ per_beat g.K.Channel.rules c.args.beat.now.head g.row.V = c.beat_bytes.ensures ∙ ap (λ z. bytes_per_beat z g.row.V) c.size-size.ensures in
+    let near : c.beat_bytes-near.result ≡ per_beat g.K.Channel.rules c.args.beat.now.head g.row.W = c.beat_bytes-near.ensures ∙
+    ap (λ z. bytes_per_beat z g.row.W) c.size-size.ensures in
+    let far : c.beat_bytes.result ≡ per_beat g.K.Channel.rules c.args.beat.now.head g.row.V = c.beat_bytes.ensures ∙
+    ap (λ z. bytes_per_beat z g.row.V) c.size-size.ensures in
     let b = width_bounds g.row.W c.requires.near in
     let small : c.args.index * c.beat_bytes-near.result < 2 ^ 40 =
-    first-small c.args.index c.beat_bytes-near.result g.row.W c.ranges.index.fits (bytes-within c.size-size.result g.row.W c.beat_bytes-near.result c.beat_bytes-near.ensures) b.1 in
-    let e : c.args.index * c.beat_bytes-near.result ≡ c.args.index * per_beat g.K.Channel.rules c.args.beat.now.head g.row.W = ap (λ n. c.args.index * n) near in (
+    first-small c.args.index c.beat_bytes-near.result g.row.W c.ranges.index.fits
+    (bytes-within c.size-size.result g.row.W c.beat_bytes-near.result c.beat_bytes-near.ensures) b.1 in
+    let e : c.args.index * c.beat_bytes-near.result ≡ c.args.index * per_beat g.K.Channel.rules c.args.beat.now.head g.row.W =
+    ap (λ n. c.args.index * n) near in (
       c.requires-raw.1.1.1.1.0,
       (
         c.requires-raw.1.1.1.1.1.0,
@@ -84,7 +96,8 @@ pour_part-requires g c =
               near = c.requires.near;
               far = c.requires.far;
               small = c.requires.small;
-              whole = ap (λ n. n % per_beat g.K.Channel.rules c.args.beat.now.head g.row.W) e ∙ mul-mod_left c.args.index (per_beat g.K.Channel.rules c.args.beat.now.head g.row.W);
+              whole = ap (λ n. n % per_beat g.K.Channel.rules c.args.beat.now.head g.row.W) e ∙
+                  mul-mod_left c.args.index (per_beat g.K.Channel.rules c.args.beat.now.head g.row.W);
               room = small;
               empty = c.requires.empty;
             },
@@ -96,28 +109,36 @@ pour_part-requires g c =
 
 pub returns-then-beat_bytes-near : goal.returns-then-beat_bytes-near
 returns-then-beat_bytes-near g c = λ carried bs run.
-    let near : c.beat_bytes-near.result ≡ per_beat g.K.Channel.rules c.args.beat.now.head g.row.W = c.beat_bytes-near.ensures ∙ ap (λ z. bytes_per_beat z g.row.W) c.size-size.ensures in
-    let e : c.args.index * c.beat_bytes-near.result ≡ c.args.index * per_beat g.K.Channel.rules c.args.beat.now.head g.row.W = ap (λ n. c.args.index * n) near in
+    let near : c.beat_bytes-near.result ≡ per_beat g.K.Channel.rules c.args.beat.now.head g.row.W = c.beat_bytes-near.ensures ∙
+    ap (λ z. bytes_per_beat z g.row.W) c.size-size.ensures in
+    let e : c.args.index * c.beat_bytes-near.result ≡ c.args.index * per_beat g.K.Channel.rules c.args.beat.now.head g.row.W =
+    ap (λ n. c.args.index * n) near in
     elim c.if-index-eq0.branch [
-      | then-index-eq0 w ↦ give-all g.K.Channel.rules g.row.W g.row.V c.args.home c.requires.near c.requires.far c.args.beat.now carried bs c.args.index
+      | then-index-eq0 w ↦ give-all g.K.Channel.rules g.row.W g.row.V c.args.home c.requires.near c.requires.far c.args.beat.now carried bs
+          c.args.index
           (c.args.index * c.beat_bytes-near.result) c.args.partial.now c.if-index-eq0.partial c.if-index-eq0.partial c.pour_whole.new.out.items run e
           (λ z. subst (λ (f : BeatOf g.row.K-Head.Denot g.row.V). IsBlank c.args.beat.now.head f) (sym w.partial-is) w.blank.ensures)
           (λ ne. absurd (ne w.if-index-eq0.true)) (λ m s p. c.pour_whole.ensures m s p)
-      | else-index-eq0 w ↦ give-all g.K.Channel.rules g.row.W g.row.V c.args.home c.requires.near c.requires.far c.args.beat.now carried bs c.args.index
+      | else-index-eq0 w ↦ give-all g.K.Channel.rules g.row.W g.row.V c.args.home c.requires.near c.requires.far c.args.beat.now carried bs
+          c.args.index
           (c.args.index * c.beat_bytes-near.result) c.args.partial.now c.if-index-eq0.partial c.if-index-eq0.partial c.pour_whole.new.out.items run e
           (λ z. absurd (w.if-index-eq0.false z)) (λ ne. w.partial-is) (λ m s p. c.pour_whole.ensures m s p)
     ]
 
 pub returns-else-beat_bytes-near : goal.returns-else-beat_bytes-near
 returns-else-beat_bytes-near g c = λ carried bs run.
-    let near : c.beat_bytes-near.result ≡ per_beat g.K.Channel.rules c.args.beat.now.head g.row.W = c.beat_bytes-near.ensures ∙ ap (λ z. bytes_per_beat z g.row.W) c.size-size.ensures in
-    let e : c.args.index * c.beat_bytes-near.result ≡ c.args.index * per_beat g.K.Channel.rules c.args.beat.now.head g.row.W = ap (λ n. c.args.index * n) near in
+    let near : c.beat_bytes-near.result ≡ per_beat g.K.Channel.rules c.args.beat.now.head g.row.W = c.beat_bytes-near.ensures ∙
+    ap (λ z. bytes_per_beat z g.row.W) c.size-size.ensures in
+    let e : c.args.index * c.beat_bytes-near.result ≡ c.args.index * per_beat g.K.Channel.rules c.args.beat.now.head g.row.W =
+    ap (λ n. c.args.index * n) near in
     elim c.if-index-eq0.branch [
-      | then-index-eq0 w ↦ give-all g.K.Channel.rules g.row.W g.row.V c.args.home c.requires.near c.requires.far c.args.beat.now carried bs c.args.index
+      | then-index-eq0 w ↦ give-all g.K.Channel.rules g.row.W g.row.V c.args.home c.requires.near c.requires.far c.args.beat.now carried bs
+          c.args.index
           (c.args.index * c.beat_bytes-near.result) c.args.partial.now c.if-index-eq0.partial c.pour_part.new.partial c.pour_part.new.out.items run e
           (λ z. subst (λ (f : BeatOf g.row.K-Head.Denot g.row.V). IsBlank c.args.beat.now.head f) (sym w.partial-is) w.blank.ensures)
           (λ ne. absurd (ne w.if-index-eq0.true)) (λ m s p. c.pour_part.ensures m s p)
-      | else-index-eq0 w ↦ give-all g.K.Channel.rules g.row.W g.row.V c.args.home c.requires.near c.requires.far c.args.beat.now carried bs c.args.index
+      | else-index-eq0 w ↦ give-all g.K.Channel.rules g.row.W g.row.V c.args.home c.requires.near c.requires.far c.args.beat.now carried bs
+          c.args.index
           (c.args.index * c.beat_bytes-near.result) c.args.partial.now c.if-index-eq0.partial c.pour_part.new.partial c.pour_part.new.out.items run e
           (λ z. absurd (w.if-index-eq0.false z)) (λ ne. w.partial-is) (λ m s p. c.pour_part.ensures m s p)
     ]

@@ -14,7 +14,8 @@ returns g c =
         size = c.move_lanes.ensures.size;
         moved = λ k lt. c.move_lanes.ensures.moved k lt;
         kept = λ l never. c.move_lanes.ensures.kept l never;
-        bits = λ k lt. to-old g.K.Channel.rules.masked _ _ _ (g.met.K.Channel.masked_is ∙ sym c.MASKED.ensures ∙ w.if-MASKED.true) (w.move_mask-far.ensures.moved k lt);
+        bits = λ k lt. to-old g.K.Channel.rules.masked _ _ _ (g.met.K.Channel.masked_is ∙ sym c.MASKED.ensures ∙ w.if-MASKED.true)
+            (w.move_mask-far.ensures.moved k lt);
         bits_kept = λ l lt never. w.move_mask-far.ensures.kept l never;
         small = λ _. w.move_mask-far.type_inv;
         corrupt = refl;

@@ -6,7 +6,8 @@ use denote.Param.{layout}
 use prog.Memory.{size, align}
 use mir.Syntax.{w64}
 use mir.Val.{Fits}
-use Rattle.tl_convert.proofs.PourStep.{one-chunk, pour-stays, pour-ends, blank-empty, last-changed, last-was, last-inside, same-small, bytes-within, rest-by-mask}
+use Rattle.tl_convert.proofs.PourStep.{one-chunk, pour-stays, pour-ends, blank-empty, last-changed, last-was, last-inside, same-small, bytes-within}
+use Rattle.tl_convert.proofs.PourStep.{rest-by-mask}
 use Rattle.tl_convert.proofs.Sizes.{beat_bytes}
 use Rattle.tl_convert.proofs.pouring.pour_part.Goals as goal
 
@@ -16,19 +17,25 @@ returns-then-first-near-ne0 g c = λ m s p.
     c.beat_bytes-near.ensures ∙ ap (λ z. bytes_per_beat z g.row.W) c.size-size.ensures in
     let wide : c.beat_bytes.result ≡ per_beat g.K.Channel.rules c.args.beat.now.head g.row.V =
     c.beat_bytes.ensures ∙ ap (λ z. bytes_per_beat z g.row.V) c.size-size.ensures in
-    let k = one-chunk g.K.Channel.rules c.args.beat.now.head g.row.W g.row.V c.args.first c.size-size.result c.beat_bytes-near.result c.beat_bytes.result
-    c.requires.0.near c.requires.0.far c.size-size.ensures c.beat_bytes-near.ensures c.beat_bytes.ensures (omega (arith, near, wide, c.requires.1)) c.requires.0.whole in
-    let hw : per_beat g.K.Channel.rules c.args.beat.now.head g.row.W ≡ per_beat g.K.Channel.rules m.head g.row.W = ap (λ h. per_beat g.K.Channel.rules h g.row.W) s.brings.head in
-    let hv : per_beat g.K.Channel.rules c.args.beat.now.head g.row.V ≡ per_beat g.K.Channel.rules m.head g.row.V = ap (λ h. per_beat g.K.Channel.rules h g.row.V) s.brings.head in
+    let k = one-chunk g.K.Channel.rules c.args.beat.now.head g.row.W g.row.V c.args.first c.size-size.result c.beat_bytes-near.result
+    c.beat_bytes.result
+    c.requires.0.near c.requires.0.far c.size-size.ensures c.beat_bytes-near.ensures c.beat_bytes.ensures (omega (arith, near, wide, c.requires.1))
+    c.requires.0.whole in
+    let hw : per_beat g.K.Channel.rules c.args.beat.now.head g.row.W ≡ per_beat g.K.Channel.rules m.head g.row.W =
+    ap (λ h. per_beat g.K.Channel.rules h g.row.W) s.brings.head in
+    let hv : per_beat g.K.Channel.rules c.args.beat.now.head g.row.V ≡ per_beat g.K.Channel.rules m.head g.row.V =
+    ap (λ h. per_beat g.K.Channel.rules h g.row.V) s.brings.head in
     let P : ℕ → Type 0 = λ d. Pours g.K.Channel.rules m g.row.V c.args.first d c.add_bytes.new.far c.args.out.now.items in
-    let O : List (BeatOf g.row.K-Head.Denot g.row.V) → Type 0 = λ o. Pours g.K.Channel.rules m g.row.V c.args.first c.args.first c.args.partial.now o in
+    let O : List (BeatOf g.row.K-Head.Denot g.row.V) → Type 0 =
+    λ o. Pours g.K.Channel.rules m g.row.V c.args.first c.args.first c.args.partial.now o in
     let A : ℕ → Type 0 = λ x. c.args.first % x + c.beat_bytes-near.result ≤ x in
     subst P (ap (λ n. c.args.first + n) (near ∙ hw))
     (pour-stays g.K.Channel.rules m g.row.V c.args.home c.args.first c.args.first c.beat_bytes-near.result
     ((c.args.home + c.args.first) % 2 ^ 64) c.requires.0.near c.requires.0.far
     c.args.beat.now c.args.partial.now c.add_bytes.new.far c.args.out.now.items s (omega arith)
     (omega (arith, near, hw)) k.0 (subst A (wide ∙ hv) k.1) refl c.add_bytes.ensures (subst O (sym c.requires.0.empty) p)
-    (λ e. c.if-first-near-ne0.true (rest-by-mask c.size-size.result g.row.V (c.args.first + c.beat_bytes-near.result) c.beat_bytes.result c.requires.0.far c.beat_bytes.ensures ∙ ap (λ x. (c.args.first + c.beat_bytes-near.result) % x) (wide ∙ hv) ∙ e)))
+    (λ e. c.if-first-near-ne0.true (rest-by-mask c.size-size.result g.row.V (c.args.first + c.beat_bytes-near.result) c.beat_bytes.result
+    c.requires.0.far c.beat_bytes.ensures ∙ ap (λ x. (c.args.first + c.beat_bytes-near.result) % x) (wide ∙ hv) ∙ e)))
 
 pub returns : goal.returns
 returns g c = λ m s p.
@@ -36,21 +43,31 @@ returns g c = λ m s p.
     c.beat_bytes-near.ensures ∙ ap (λ z. bytes_per_beat z g.row.W) c.size-size.ensures in
     let wide : c.beat_bytes.result ≡ per_beat g.K.Channel.rules c.args.beat.now.head g.row.V =
     c.beat_bytes.ensures ∙ ap (λ z. bytes_per_beat z g.row.V) c.size-size.ensures in
-    let k = one-chunk g.K.Channel.rules c.args.beat.now.head g.row.W g.row.V c.args.first c.size-size.result c.beat_bytes-near.result c.beat_bytes.result
-    c.requires.0.near c.requires.0.far c.size-size.ensures c.beat_bytes-near.ensures c.beat_bytes.ensures (omega (arith, near, wide, c.requires.1)) c.requires.0.whole in
-    let hw : per_beat g.K.Channel.rules c.args.beat.now.head g.row.W ≡ per_beat g.K.Channel.rules m.head g.row.W = ap (λ h. per_beat g.K.Channel.rules h g.row.W) s.brings.head in
-    let hv : per_beat g.K.Channel.rules c.args.beat.now.head g.row.V ≡ per_beat g.K.Channel.rules m.head g.row.V = ap (λ h. per_beat g.K.Channel.rules h g.row.V) s.brings.head in
+    let k = one-chunk g.K.Channel.rules c.args.beat.now.head g.row.W g.row.V c.args.first c.size-size.result c.beat_bytes-near.result
+    c.beat_bytes.result
+    c.requires.0.near c.requires.0.far c.size-size.ensures c.beat_bytes-near.ensures c.beat_bytes.ensures (omega (arith, near, wide, c.requires.1))
+    c.requires.0.whole in
+    let hw : per_beat g.K.Channel.rules c.args.beat.now.head g.row.W ≡ per_beat g.K.Channel.rules m.head g.row.W =
+    ap (λ h. per_beat g.K.Channel.rules h g.row.W) s.brings.head in
+    let hv : per_beat g.K.Channel.rules c.args.beat.now.head g.row.V ≡ per_beat g.K.Channel.rules m.head g.row.V =
+    ap (λ h. per_beat g.K.Channel.rules h g.row.V) s.brings.head in
     let P : ℕ → Type 0 = λ d. Pours g.K.Channel.rules m g.row.V c.args.first d c.blank.result out in
-    let O : List (BeatOf g.row.K-Head.Denot g.row.V) → Type 0 = λ o. Pours g.K.Channel.rules m g.row.V c.args.first c.args.first c.args.partial.now o in
+    let O : List (BeatOf g.row.K-Head.Denot g.row.V) → Type 0 =
+    λ o. Pours g.K.Channel.rules m g.row.V c.args.first c.args.first c.args.partial.now o in
     let A : ℕ → Type 0 = λ x. c.args.first % x + c.beat_bytes-near.result ≤ x in
-    let B : BeatOf g.row.K-Head.Denot g.row.V → Type 0 = λ old. Poured {W = g.row.W} g.K.Channel.rules.masked c.args.beat.now old c.add_bytes-2.new.far ((c.args.home + c.args.first) % 2 ^ 64) c.beat_bytes-near.result in
+    let B : BeatOf g.row.K-Head.Denot g.row.V → Type 0 =
+    λ old. Poured {W = g.row.W} g.K.Channel.rules.masked c.args.beat.now old c.add_bytes-2.new.far ((c.args.home + c.args.first) % 2 ^ 64)
+    c.beat_bytes-near.result in
     subst P (ap (λ n. c.args.first + n) (near ∙ hw))
     (pour-ends g.K.Channel.rules m g.row.V c.args.home c.args.first c.args.first c.beat_bytes-near.result
     ((c.args.home + c.args.first) % 2 ^ 64) c.requires.0.near c.requires.0.far
     c.args.beat.now c.args.partial.now c.add_bytes-2.new.far c.args.out.now.items s (omega arith)
     (omega (arith, near, hw)) k.0 (subst A (wide ∙ hv) k.1) refl (subst B was c.add_bytes-2.ensures) (subst O (sym c.requires.0.empty) p)
-    (ap (λ x. (c.args.first + c.beat_bytes-near.result) % x) (sym (wide ∙ hv)) ∙ sym (rest-by-mask c.size-size.result g.row.V (c.args.first + c.beat_bytes-near.result) c.beat_bytes.result c.requires.0.far c.beat_bytes.ensures) ∙ c.if-first-near-ne0.false)
-    c.blank.result (blank-empty g.K.Channel.rules m g.row.V c.requires.0.far c.args.beat.now.head s.brings.head c.blank.result c.blank.ensures) out items)
+    (ap (λ x. (c.args.first + c.beat_bytes-near.result) % x) (sym (wide ∙ hv)) ∙
+    sym (rest-by-mask c.size-size.result g.row.V (c.args.first + c.beat_bytes-near.result) c.beat_bytes.result c.requires.0.far
+    c.beat_bytes.ensures) ∙ c.if-first-near-ne0.false)
+    c.blank.result (blank-empty g.K.Channel.rules m g.row.V c.requires.0.far c.args.beat.now.head s.brings.head c.blank.result c.blank.ensures) out
+    items)
   where
     out : List (BeatOf g.row.K-Head.Denot g.row.V)
     out = refill (length c.push.new.self.items) c.push.new.self.items (set c.as_mut_slice.result.now 0 c.add_bytes-2.new.far)
@@ -59,22 +76,26 @@ returns g c = λ m s p.
     none = ap length c.requires.0.empty
 
     items : out ≡ c.args.out.now.items ++ c.add_bytes-2.new.far ∷ []
-    items = last-changed c.args.out.now.items c.args.partial.now c.add_bytes-2.new.far 0 c.push.new.self.items c.as_mut_slice.result.now none c.push.ensures.items c.as_mut_slice.ensures.value
+    items = last-changed c.args.out.now.items c.args.partial.now c.add_bytes-2.new.far 0 c.push.new.self.items c.as_mut_slice.result.now none
+        c.push.ensures.items c.as_mut_slice.ensures.value
 
     was : get_or c.as_mut_slice.result.now 0 c.index-as_mut_slice-0.result ≡ c.args.partial.now
-    was = last-was c.args.out.now.items c.args.partial.now c.index-as_mut_slice-0.result 0 c.push.new.self.items c.as_mut_slice.result.now none c.push.ensures.items c.as_mut_slice.ensures.value
+    was = last-was c.args.out.now.items c.args.partial.now c.index-as_mut_slice-0.result 0 c.push.new.self.items c.as_mut_slice.result.now none
+        c.push.ensures.items c.as_mut_slice.ensures.value
 
 pub size-size-requires : goal.size-size-requires
 size-size-requires g c κs = λ p. p
 
 pub beat_bytes-near-requires-clause-small : goal.beat_bytes-near-requires-clause-small
-beat_bytes-near-requires-clause-small g c = same-small c.size-size.result (g.K.Channel.rules.size c.args.beat.now.head) c.size-size.ensures c.requires.0.small
+beat_bytes-near-requires-clause-small g c = same-small c.size-size.result (g.K.Channel.rules.size c.args.beat.now.head) c.size-size.ensures
+    c.requires.0.small
 
 pub beat_bytes-near-requires-clause-width : goal.beat_bytes-near-requires-clause-width
 beat_bytes-near-requires-clause-width g c = c.requires.0.near
 
 pub beat_bytes-requires-clause-small : goal.beat_bytes-requires-clause-small
-beat_bytes-requires-clause-small g c = same-small c.size-size.result (g.K.Channel.rules.size c.args.beat.now.head) c.size-size.ensures c.requires.0.small
+beat_bytes-requires-clause-small g c = same-small c.size-size.result (g.K.Channel.rules.size c.args.beat.now.head) c.size-size.ensures
+    c.requires.0.small
 
 pub beat_bytes-requires-clause-width : goal.beat_bytes-requires-clause-width
 beat_bytes-requires-clause-width g c = c.requires.0.far

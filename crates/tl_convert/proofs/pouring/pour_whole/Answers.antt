@@ -4,7 +4,8 @@ use Rattle.tl_convert.proofs.Names.{Pours}
 use Rattle.std.proofs.Math.ListN.{get_or}
 use denote.Memory.{lone}
 use denote.Param.{layout}
-use Rattle.tl_convert.proofs.PourStep.{Chunk, chunk-at, chunk-all, pour-ends, whole-ends, begins-far, begun-empty, last-changed, last-was, last-inside, same-small, bytes-within}
+use Rattle.tl_convert.proofs.PourStep.{Chunk, chunk-at, chunk-all, pour-ends, whole-ends, begins-far, begun-empty, last-changed, last-was}
+use Rattle.tl_convert.proofs.PourStep.{last-inside, same-small, bytes-within}
 use Rattle.tl_convert.proofs.Sizes.{place_fits}
 use Rattle.tl_convert.proofs.pouring.pour_whole.Goals as goal
 
@@ -13,7 +14,8 @@ loop-t-init g c = record {
   count = ap length c.requires.0.empty;
   pours = λ m s p.
       let z : c.args.first ≡ c.args.first + 0 * c.beat_bytes-wide.result = omega arith in
-      let P : List (BeatOf g.row.K-Head.Denot g.row.V) → Type 0 = λ xs. Pours g.K.Channel.rules m g.row.V c.args.first c.args.first c.args.partial.now xs in
+      let P : List (BeatOf g.row.K-Head.Denot g.row.V) → Type 0 =
+      λ xs. Pours g.K.Channel.rules m g.row.V c.args.first c.args.first c.args.partial.now xs in
       let Q : ℕ → Type 0 = λ d. Pours g.K.Channel.rules m g.row.V c.args.first d c.args.partial.now c.args.out.now.items in
       subst Q z (subst P (sym c.requires.0.empty) p);
 }
@@ -25,28 +27,38 @@ pub overflow_mul-done : goal.overflow_mul-done
 overflow_mul-done g c =
     let w = width_bounds g.row.W c.requires.0.near in
     let k : Chunk (bytes_per_beat c.size-size.result g.row.W) c.beat_bytes-wide.result c.beat_bytes-wide.result c.args.first c.loop-t.t =
-    chunk-at g.K.Channel.rules c.args.beat.now.head g.row.W g.row.V c.args.first c.loop-t.t c.size-size.result (bytes_per_beat c.size-size.result g.row.W) c.beat_bytes-wide.result
-    c.beat_bytes-wide.result c.requires.0.near c.requires.0.far c.size-size.ensures refl c.beat_bytes-wide.ensures (least (bytes_per_beat c.size-size.result g.row.W) c.beat_bytes-wide.result
+    chunk-at g.K.Channel.rules c.args.beat.now.head g.row.W g.row.V c.args.first c.loop-t.t c.size-size.result
+    (bytes_per_beat c.size-size.result g.row.W) c.beat_bytes-wide.result
+    c.beat_bytes-wide.result c.requires.0.near c.requires.0.far c.size-size.ensures refl c.beat_bytes-wide.ensures
+    (least (bytes_per_beat c.size-size.result g.row.W) c.beat_bytes-wide.result
     (per_beat g.K.Channel.rules c.args.beat.now.head g.row.W) (per_beat g.K.Channel.rules c.args.beat.now.head g.row.V)
     (ap (λ z. bytes_per_beat z g.row.W) c.size-size.ensures)
-    (c.beat_bytes-wide.ensures ∙ ap (λ z. bytes_per_beat z g.row.V) c.size-size.ensures) c.requires.1) c.requires.0.whole (subst (λ n. c.loop-t.t < n) (c.whole_beats-count.ensures ∙ ap (λ x. (bytes_per_beat c.size-size.result g.row.W) / x) (sym c.beat_bytes-wide.ensures)) c.loop-t-test.true) in
+    (c.beat_bytes-wide.ensures ∙ ap (λ z. bytes_per_beat z g.row.V) c.size-size.ensures) c.requires.1) c.requires.0.whole
+    (subst (λ n. c.loop-t.t < n) (c.whole_beats-count.ensures ∙
+    ap (λ x. (bytes_per_beat c.size-size.result g.row.W) / x) (sym c.beat_bytes-wide.ensures)) c.loop-t-test.true) in
     omega (arith, k.within)
 
 pub overflow_add-done : goal.overflow_add-done
 overflow_add-done g c =
     let w = width_bounds g.row.W c.requires.0.near in
     let k : Chunk (bytes_per_beat c.size-size.result g.row.W) c.beat_bytes-wide.result c.beat_bytes-wide.result c.args.first c.loop-t.t =
-    chunk-at g.K.Channel.rules c.args.beat.now.head g.row.W g.row.V c.args.first c.loop-t.t c.size-size.result (bytes_per_beat c.size-size.result g.row.W) c.beat_bytes-wide.result
-    c.beat_bytes-wide.result c.requires.0.near c.requires.0.far c.size-size.ensures refl c.beat_bytes-wide.ensures (least (bytes_per_beat c.size-size.result g.row.W) c.beat_bytes-wide.result
+    chunk-at g.K.Channel.rules c.args.beat.now.head g.row.W g.row.V c.args.first c.loop-t.t c.size-size.result
+    (bytes_per_beat c.size-size.result g.row.W) c.beat_bytes-wide.result
+    c.beat_bytes-wide.result c.requires.0.near c.requires.0.far c.size-size.ensures refl c.beat_bytes-wide.ensures
+    (least (bytes_per_beat c.size-size.result g.row.W) c.beat_bytes-wide.result
     (per_beat g.K.Channel.rules c.args.beat.now.head g.row.W) (per_beat g.K.Channel.rules c.args.beat.now.head g.row.V)
     (ap (λ z. bytes_per_beat z g.row.W) c.size-size.ensures)
-    (c.beat_bytes-wide.ensures ∙ ap (λ z. bytes_per_beat z g.row.V) c.size-size.ensures) c.requires.1) c.requires.0.whole (subst (λ n. c.loop-t.t < n) (c.whole_beats-count.ensures ∙ ap (λ x. (bytes_per_beat c.size-size.result g.row.W) / x) (sym c.beat_bytes-wide.ensures)) c.loop-t-test.true) in
+    (c.beat_bytes-wide.ensures ∙ ap (λ z. bytes_per_beat z g.row.V) c.size-size.ensures) c.requires.1) c.requires.0.whole
+    (subst (λ n. c.loop-t.t < n) (c.whole_beats-count.ensures ∙
+    ap (λ x. (bytes_per_beat c.size-size.result g.row.W) / x) (sym c.beat_bytes-wide.ensures)) c.loop-t-test.true) in
     omega (arith, k.within, c.requires.0.room)
 
 pub push-requires : goal.push-requires
 push-requires g c =
     let w = width_bounds g.row.W c.requires.0.near in
-    let here : c.loop-t.t < (bytes_per_beat c.size-size.result g.row.W) / c.beat_bytes-wide.result = subst (λ n. c.loop-t.t < n) (c.whole_beats-count.ensures ∙ ap (λ x. (bytes_per_beat c.size-size.result g.row.W) / x) (sym c.beat_bytes-wide.ensures)) c.loop-t-test.true in (
+    let here : c.loop-t.t < (bytes_per_beat c.size-size.result g.row.W) / c.beat_bytes-wide.result =
+    subst (λ n. c.loop-t.t < n) (c.whole_beats-count.ensures ∙
+    ap (λ x. (bytes_per_beat c.size-size.result g.row.W) / x) (sym c.beat_bytes-wide.ensures)) c.loop-t-test.true in (
       c.requires-raw.1.1.1.1.1.1.0,
       omega (arith, c.loop-t.invariant.count, here, div-le_self (bytes_per_beat c.size-size.result g.row.W) c.beat_bytes-wide.result),
     )
@@ -58,11 +70,14 @@ pub loop-t-preserved : goal.loop-t-preserved
 loop-t-preserved g c = record {
   count = ap length items ∙ length-append c.loop-t.out.items (c.add_bytes.new.far ∷ []) ∙ ap (λ n. n + 1) c.loop-t.invariant.count;
   pours = λ m s p.
-      let hw : per_beat g.K.Channel.rules c.args.beat.now.head g.row.W ≡ per_beat g.K.Channel.rules m.head g.row.W = ap (λ h. per_beat g.K.Channel.rules h g.row.W) s.brings.head in
-      let hv : per_beat g.K.Channel.rules c.args.beat.now.head g.row.V ≡ per_beat g.K.Channel.rules m.head g.row.V = ap (λ h. per_beat g.K.Channel.rules h g.row.V) s.brings.head in
+      let hw : per_beat g.K.Channel.rules c.args.beat.now.head g.row.W ≡ per_beat g.K.Channel.rules m.head g.row.W =
+      ap (λ h. per_beat g.K.Channel.rules h g.row.W) s.brings.head in
+      let hv : per_beat g.K.Channel.rules c.args.beat.now.head g.row.V ≡ per_beat g.K.Channel.rules m.head g.row.V =
+      ap (λ h. per_beat g.K.Channel.rules h g.row.V) s.brings.head in
       let P : ℕ → Type 0 = λ d. Pours g.K.Channel.rules m g.row.V c.args.first d c.args.partial.now out in
       let A : ℕ → Type 0 = λ x. (c.args.first + c.loop-t.t * c.beat_bytes-wide.result) % x + c.beat_bytes-wide.result ≤ x in
-      let O : BeatOf g.row.K-Head.Denot g.row.V → Type 0 = λ old. Poured {W = g.row.W} g.K.Channel.rules.masked c.args.beat.now old c.add_bytes.new.far
+      let O : BeatOf g.row.K-Head.Denot g.row.V → Type 0 =
+      λ old. Poured {W = g.row.W} g.K.Channel.rules.masked c.args.beat.now old c.add_bytes.new.far
       ((c.args.home + (c.args.first + c.loop-t.t * c.beat_bytes-wide.result)) % 2 ^ 64) c.beat_bytes-wide.result in
       subst P (next c.loop-t.t c.beat_bytes-wide.result c.args.first)
       (pour-ends g.K.Channel.rules m g.row.V c.args.home c.args.first (c.args.first + c.loop-t.t * c.beat_bytes-wide.result) c.beat_bytes-wide.result
@@ -71,7 +86,8 @@ loop-t-preserved g c = record {
       (omega (arith, k.within, near, hw)) k.pos (subst A (wide ∙ hv) k.fits) refl (subst O was c.add_bytes.ensures) (c.loop-t.invariant.pours m s p)
       (ap (λ x. (c.args.first + c.loop-t.t * c.beat_bytes-wide.result + c.beat_bytes-wide.result) % x) (sym (wide ∙ hv)) ∙
       whole-ends c.args.first c.loop-t.t c.beat_bytes-wide.result k.pos (ap (λ x. c.args.first % x) wide ∙ b.1))
-      c.args.partial.now (begun-empty g.K.Channel.rules m g.row.V c.args.first c.args.partial.now (ap (λ x. c.args.first % x) (sym hv) ∙ b.1) p.filled) out items);
+      c.args.partial.now (begun-empty g.K.Channel.rules m g.row.V c.args.first c.args.partial.now (ap (λ x. c.args.first % x) (sym hv) ∙ b.1)
+      p.filled) out items);
 }
   where
     out : List (BeatOf g.row.K-Head.Denot g.row.V)
@@ -92,12 +108,18 @@ loop-t-preserved g c = record {
     wide = c.beat_bytes-wide.ensures ∙ ap (λ z. bytes_per_beat z g.row.V) c.size-size.ensures
 
     k : Chunk (bytes_per_beat c.size-size.result g.row.W) c.beat_bytes-wide.result c.beat_bytes-wide.result c.args.first c.loop-t.t
-    k = chunk-at g.K.Channel.rules c.args.beat.now.head g.row.W g.row.V c.args.first c.loop-t.t c.size-size.result (bytes_per_beat c.size-size.result g.row.W) c.beat_bytes-wide.result
-        c.beat_bytes-wide.result c.requires.0.near c.requires.0.far c.size-size.ensures refl c.beat_bytes-wide.ensures (least (bytes_per_beat c.size-size.result g.row.W) c.beat_bytes-wide.result
-        (per_beat g.K.Channel.rules c.args.beat.now.head g.row.W) (per_beat g.K.Channel.rules c.args.beat.now.head g.row.V) near wide c.requires.1) c.requires.0.whole (subst (λ n. c.loop-t.t < n) (c.whole_beats-count.ensures ∙ ap (λ x. (bytes_per_beat c.size-size.result g.row.W) / x) (sym c.beat_bytes-wide.ensures)) c.loop-t-test.true)
+    k = chunk-at g.K.Channel.rules c.args.beat.now.head g.row.W g.row.V c.args.first c.loop-t.t c.size-size.result
+        (bytes_per_beat c.size-size.result g.row.W) c.beat_bytes-wide.result
+        c.beat_bytes-wide.result c.requires.0.near c.requires.0.far c.size-size.ensures refl c.beat_bytes-wide.ensures
+        (least (bytes_per_beat c.size-size.result g.row.W) c.beat_bytes-wide.result
+        (per_beat g.K.Channel.rules c.args.beat.now.head g.row.W) (per_beat g.K.Channel.rules c.args.beat.now.head g.row.V) near wide c.requires.1)
+        c.requires.0.whole (subst (λ n. c.loop-t.t < n)
+        (c.whole_beats-count.ensures ∙ ap (λ x. (bytes_per_beat c.size-size.result g.row.W) / x) (sym c.beat_bytes-wide.ensures))
+        c.loop-t-test.true)
 
     b : (0 < per_beat g.K.Channel.rules c.args.beat.now.head g.row.V) × (c.args.first % per_beat g.K.Channel.rules c.args.beat.now.head g.row.V ≡ 0)
-    b = begins-far g.K.Channel.rules c.args.beat.now.head g.row.W g.row.V c.args.first c.requires.0.near c.requires.0.far c.requires.1 c.requires.0.whole
+    b = begins-far g.K.Channel.rules c.args.beat.now.head g.row.W g.row.V c.args.first c.requires.0.near c.requires.0.far c.requires.1
+        c.requires.0.whole
 
 pub returns : goal.returns
 returns g c = λ m s p.
@@ -105,11 +127,16 @@ returns g c = λ m s p.
     ap (λ z. bytes_per_beat z g.row.W) c.size-size.ensures in
     let wide : c.beat_bytes-wide.result ≡ per_beat g.K.Channel.rules c.args.beat.now.head g.row.V =
     c.beat_bytes-wide.ensures ∙ ap (λ z. bytes_per_beat z g.row.V) c.size-size.ensures in
-    let past : c.loop-t.t ≡ (bytes_per_beat c.size-size.result g.row.W) / c.beat_bytes-wide.result = subst (λ n. c.loop-t.t ≡ n) (c.whole_beats-count.ensures ∙ ap (λ x. (bytes_per_beat c.size-size.result g.row.W) / x) (sym c.beat_bytes-wide.ensures)) (omega arith) in
+    let past : c.loop-t.t ≡ (bytes_per_beat c.size-size.result g.row.W) / c.beat_bytes-wide.result =
+    subst (λ n. c.loop-t.t ≡ n) (c.whole_beats-count.ensures ∙
+    ap (λ x. (bytes_per_beat c.size-size.result g.row.W) / x) (sym c.beat_bytes-wide.ensures)) (omega arith) in
     let all : c.args.first + c.loop-t.t * c.beat_bytes-wide.result ≡ c.args.first + per_beat g.K.Channel.rules c.args.beat.now.head g.row.W =
-    chunk-all g.K.Channel.rules c.args.beat.now.head g.row.W g.row.V c.args.first c.loop-t.t c.size-size.result (bytes_per_beat c.size-size.result g.row.W) c.beat_bytes-wide.result
-    c.beat_bytes-wide.result c.requires.0.near c.requires.0.far c.size-size.ensures refl c.beat_bytes-wide.ensures (least (bytes_per_beat c.size-size.result g.row.W) c.beat_bytes-wide.result
-    (per_beat g.K.Channel.rules c.args.beat.now.head g.row.W) (per_beat g.K.Channel.rules c.args.beat.now.head g.row.V) near wide c.requires.1) past in
+    chunk-all g.K.Channel.rules c.args.beat.now.head g.row.W g.row.V c.args.first c.loop-t.t c.size-size.result
+    (bytes_per_beat c.size-size.result g.row.W) c.beat_bytes-wide.result
+    c.beat_bytes-wide.result c.requires.0.near c.requires.0.far c.size-size.ensures refl c.beat_bytes-wide.ensures
+    (least (bytes_per_beat c.size-size.result g.row.W) c.beat_bytes-wide.result
+    (per_beat g.K.Channel.rules c.args.beat.now.head g.row.W) (per_beat g.K.Channel.rules c.args.beat.now.head g.row.V) near wide c.requires.1)
+    past in
     let P : ℕ → Type 0 = λ d. Pours g.K.Channel.rules m g.row.V c.args.first d c.args.partial.now c.loop-t.out.items in
     subst P (all ∙ ap (λ h. c.args.first + per_beat g.K.Channel.rules h g.row.W) s.brings.head) (c.loop-t.invariant.pours m s p)
 
@@ -120,7 +147,8 @@ pub size-size-requires : goal.size-size-requires
 size-size-requires g c κs = λ p. p
 
 pub beat_bytes-wide-requires-clause-small : goal.beat_bytes-wide-requires-clause-small
-beat_bytes-wide-requires-clause-small g c = same-small c.size-size.result (g.K.Channel.rules.size c.args.beat.now.head) c.size-size.ensures c.requires.0.small
+beat_bytes-wide-requires-clause-small g c = same-small c.size-size.result (g.K.Channel.rules.size c.args.beat.now.head) c.size-size.ensures
+    c.requires.0.small
 
 pub beat_bytes-wide-requires-clause-width : goal.beat_bytes-wide-requires-clause-width
 beat_bytes-wide-requires-clause-width g c = c.requires.0.far
@@ -141,7 +169,8 @@ offset_bounds-as_mut_slice-t g c =
     let inside : c.loop-t.t < length c.as_mut_slice.result.now =
     last-inside c.loop-t.out.items c.args.partial.now c.loop-t.t c.push.new.self.items c.as_mut_slice.result.now
     c.loop-t.invariant.count c.push.ensures.items c.as_mut_slice.ensures.value in
-    place_fits (lone g.row.K-Head.mir) (layout g.row.K-Head) g.row.V c.loop-t.t c.requires-raw.1.1.1.1.1.1.0 (below c.loop-t.t (length c.as_mut_slice.result.now) WIDEST inside c.as_mut_slice.ensures.fits)
+    place_fits (lone g.row.K-Head.mir) (layout g.row.K-Head) g.row.V c.loop-t.t c.requires-raw.1.1.1.1.1.1.0
+    (below c.loop-t.t (length c.as_mut_slice.result.now) WIDEST inside c.as_mut_slice.ensures.fits)
 
 pub bounds-as_mut_slice-t : goal.bounds-as_mut_slice-t
 bounds-as_mut_slice-t g c =
@@ -156,8 +185,16 @@ loop-t-smaller g c = further c.whole_beats-count.result c.loop-t.t c.loop-t-test
 
 pub add_bytes-requires : goal.add_bytes-requires
 add_bytes-requires g c =
-    let near : (bytes_per_beat c.size-size.result g.row.W) ≡ per_beat g.K.Channel.rules c.args.beat.now.head g.row.W = ap (λ z. bytes_per_beat z g.row.W) c.size-size.ensures in
-    let wide : c.beat_bytes-wide.result ≡ per_beat g.K.Channel.rules c.args.beat.now.head g.row.V = c.beat_bytes-wide.ensures ∙ ap (λ z. bytes_per_beat z g.row.V) c.size-size.ensures in
-    let within : (bytes_per_beat c.size-size.result g.row.W) ≤ g.row.W = bytes-within c.size-size.result g.row.W (bytes_per_beat c.size-size.result g.row.W) refl in
-    let fits : c.beat_bytes-wide.result ≤ g.row.V = bytes-within c.size-size.result g.row.V c.beat_bytes-wide.result c.beat_bytes-wide.ensures in
-    (c.requires-raw.1.1.1.1.0, (c.requires-raw.1.1.1.1.1.0, (c.requires.0.near, c.requires.0.far, omega (arith, near, wide, c.requires.1, within), fits)))
+    let near : (bytes_per_beat c.size-size.result g.row.W) ≡ per_beat g.K.Channel.rules c.args.beat.now.head g.row.W =
+    ap (λ z. bytes_per_beat z g.row.W) c.size-size.ensures in
+    let wide : c.beat_bytes-wide.result ≡ per_beat g.K.Channel.rules c.args.beat.now.head g.row.V = c.beat_bytes-wide.ensures ∙
+    ap (λ z. bytes_per_beat z g.row.V) c.size-size.ensures in
+    let within : (bytes_per_beat c.size-size.result g.row.W) ≤ g.row.W =
+    bytes-within c.size-size.result g.row.W (bytes_per_beat c.size-size.result g.row.W) refl in
+    let fits : c.beat_bytes-wide.result ≤ g.row.V = bytes-within c.size-size.result g.row.V c.beat_bytes-wide.result c.beat_bytes-wide.ensures in (
+      c.requires-raw.1.1.1.1.0,
+      (
+        c.requires-raw.1.1.1.1.1.0,
+        (c.requires.0.near, c.requires.0.far, omega (arith, near, wide, c.requires.1, within), fits),
+      ),
+    )

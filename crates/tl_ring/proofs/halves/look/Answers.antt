@@ -7,10 +7,12 @@ slots_beside-requires-2 g c =
     still_pair_after c.args.producer.now one.new.self c.args.consumer.now one.new.consumer c.requires one.ensures.looked one.ensures.consumer
 
 pub returns-clause-producer : goal.returns-clause-producer
-returns-clause-producer g c = producer_twice c.args.producer.now c.slots_beside.new.self c.slots_beside-2.new.producer c.slots_beside.ensures.looked c.slots_beside-2.ensures.producer
+returns-clause-producer g c = producer_twice c.args.producer.now c.slots_beside.new.self c.slots_beside-2.new.producer c.slots_beside.ensures.looked
+    c.slots_beside-2.ensures.producer
 
 pub returns-clause-consumer : goal.returns-clause-consumer
-returns-clause-consumer g c = consumer_twice c.args.consumer.now c.slots_beside.new.consumer c.slots_beside-2.new.self c.slots_beside.ensures.consumer c.slots_beside-2.ensures.looked
+returns-clause-consumer g c = consumer_twice c.args.consumer.now c.slots_beside.new.consumer c.slots_beside-2.new.self c.slots_beside.ensures.consumer
+    c.slots_beside-2.ensures.looked
 
 pub returns-clause-count : goal.returns-clause-count
 returns-clause-count g c = c.slots_beside-2.ensures.value

@@ -14,7 +14,8 @@ room-room-requires g c = c.requires-raw.1.1.1.1.1
 pub whole_as_front-pop_partial_slice : goal.whole_as_front-pop_partial_slice
 whole_as_front-pop_partial_slice g c = (
   omega (arith, c.room-room.ensures.count),
-  (part_small (layout (intake.the_row (param 0 g.row.K) (param 1 (number g.row.V)) (param 2 g.row.A) (copied 3 g.row.K-Head) g.K.Channel g.K.Head.Clone g.K.Head.Eq g.K.Head.PartialEq g.K.Head.Default g.A.Allocator)) 1 9223372036854775808 c.requires-raw.1.1.1.1.0),
+  (part_small (layout (intake.the_row (param 0 g.row.K) (param 1 (number g.row.V)) (param 2 g.row.A) (copied 3 g.row.K-Head) g.K.Channel
+      g.K.Head.Clone g.K.Head.Eq g.K.Head.PartialEq g.K.Head.Default g.A.Allocator)) 1 9223372036854775808 c.requires-raw.1.1.1.1.0),
 )
 
 -- what was popped lies in the part that was lent, which is as long as the room
@@ -52,7 +53,8 @@ returns-clause-most g c =
 pub pop_partial_slice-count-requires : goal.pop_partial_slice-count-requires
 pop_partial_slice-count-requires g c =
     let beat = beat_in_queue (lone g.row.K-Head.mir) (layout g.row.K-Head) g.row.V 9223372036854775808
-    (part_small (layout (inbox.the_row (param 0 g.row.K) (param 1 (number g.row.V)) (copied 2 g.row.K-Head) g.K.Channel g.K.Head.PartialEq g.K.Head.Default)) 0 9223372036854775808 c.requires-raw.1.1.1.1.1) in
+    (part_small (layout (inbox.the_row (param 0 g.row.K) (param 1 (number g.row.V)) (copied 2 g.row.K-Head) g.K.Channel g.K.Head.PartialEq
+    g.K.Head.Default)) 0 9223372036854775808 c.requires-raw.1.1.1.1.1) in
     λ κs within. ((beat, (omega arith, (beat, tt))), (search rules, (search rules, search rules)))
 
 pub shared_whole_as_front-append : goal.shared_whole_as_front-append
@@ -61,7 +63,8 @@ shared_whole_as_front-append g c =
     let inside : p.result ≤ length p.new.slice = search rules in
     let size : length p.new.slice ≡ c.room-room.result = search rules in (
       omega (arith, inside, size, c.room-room.ensures.count),
-      (part_small (layout (intake.the_row (param 0 g.row.K) (param 1 (number g.row.V)) (param 2 g.row.A) (copied 3 g.row.K-Head) g.K.Channel g.K.Head.Clone g.K.Head.Eq g.K.Head.PartialEq g.K.Head.Default g.A.Allocator)) 1 9223372036854775808 c.requires-raw.1.1.1.1.0),
+      (part_small (layout (intake.the_row (param 0 g.row.K) (param 1 (number g.row.V)) (param 2 g.row.A) (copied 3 g.row.K-Head) g.K.Channel
+          g.K.Head.Clone g.K.Head.Eq g.K.Head.PartialEq g.K.Head.Default g.A.Allocator)) 1 9223372036854775808 c.requires-raw.1.1.1.1.0),
     )
 
 -- what was popped is no more than the inbox has room for, and lawful by the ring's protocol
@@ -72,7 +75,9 @@ append-requires g c =
     let size : length p.new.slice ≡ c.room-room.result = search rules in (
       c.requires-raw.1.1.1.1.1,
       (
-        beat_in_queue (lone g.row.K-Head.mir) (layout g.row.K-Head) g.row.V 9223372036854775808 (part_small (layout (inbox.the_row (param 0 g.row.K) (param 1 (number g.row.V)) (copied 2 g.row.K-Head) g.K.Channel g.K.Head.PartialEq g.K.Head.Default)) 0 9223372036854775808 c.requires-raw.1.1.1.1.1),
+        beat_in_queue (lone g.row.K-Head.mir) (layout g.row.K-Head) g.row.V 9223372036854775808
+            (part_small (layout (inbox.the_row (param 0 g.row.K) (param 1 (number g.row.V)) (copied 2 g.row.K-Head) g.K.Channel g.K.Head.PartialEq
+            g.K.Head.Default)) 0 9223372036854775808 c.requires-raw.1.1.1.1.1),
         (
           simp length-take (omega (arith, inside, size, c.room-room.ensures.count, c.room-room.ensures.most)),
           all_front (λ b. IsLawfulBeat g.K.Channel.rules b) _ _ _ inside (all_allowed (λ b. IsLawfulBeat g.K.Channel.rules b) _ _ p.ensures.allowed),

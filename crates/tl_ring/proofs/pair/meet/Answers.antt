@@ -15,7 +15,8 @@ returns-clause-met g c =
     let seen = c.look in
     let pair = rw (← c.send.view_is, ← c.take.view_is) at c.requires in
     rw (← c.send.view_is, ← c.take.view_is)
-    (met_of _ _ seen.new.producer seen.new.consumer seen.result pair seen.ensures.producer seen.ensures.consumer seen.ensures.count seen.ensures.fifo seen.ensures.places)
+    (met_of _ _ seen.new.producer seen.new.consumer seen.result pair seen.ensures.producer seen.ensures.consumer seen.ensures.count seen.ensures.fifo
+    seen.ensures.places)
 
 pub returns-clause-staged : goal.returns-clause-staged
 returns-clause-staged g c = c.staged.ensures.count
@@ -35,13 +36,21 @@ returns-clause-meets g c = λ x taken sends takes.
     meets_of g.K.Channel.rules _ _ _ _ x taken (returns-clause-met g c) held sends takes
 
 pub staged-requires : goal.staged-requires
-staged-requires g c = part_small (layout (send.the_row (param 0 g.row.K) (param 1 (number g.row.W)) (param 2 (number g.row.V)) (param 3 g.row.A) (copied 4 g.row.K-Head) g.K.Channel g.K.Head.Clone g.K.Head.Eq g.K.Head.PartialEq g.K.Head.Default g.A.Allocator)) 0 9223372036854775808 c.requires-raw.1.1.1.1.1.0
+staged-requires g c = part_small (layout (send.the_row (param 0 g.row.K) (param 1 (number g.row.W)) (param 2 (number g.row.V)) (param 3 g.row.A)
+    (copied 4 g.row.K-Head) g.K.Channel g.K.Head.Clone g.K.Head.Eq g.K.Head.PartialEq g.K.Head.Default g.A.Allocator)) 0 9223372036854775808
+    c.requires-raw.1.1.1.1.1.0
 
 pub look-requires-room-P-Protocol : goal.look-requires-room-P-Protocol
 look-requires-room-P-Protocol g c κs within = omega arith
 
 pub look-requires-room-P-Protocol-2 : goal.look-requires-room-P-Protocol-2
-look-requires-room-P-Protocol-2 g c κs within = beat_in_queue (lone g.row.K-Head.mir) (layout g.row.K-Head) g.row.V 9223372036854775808 (inner_small (layout (take.the_row (param 0 g.row.K) (param 1 (number g.row.W)) (param 2 (number g.row.V)) (param 3 g.row.A) (copied 4 g.row.K-Head) g.K.Channel g.K.Head.Clone g.K.Head.Eq g.K.Head.PartialEq g.K.Head.Default g.A.Allocator)) 0 0 9223372036854775808 c.requires-raw.1.1.1.1.1.1.0)
+look-requires-room-P-Protocol-2 g c κs within =
+    beat_in_queue (lone g.row.K-Head.mir) (layout g.row.K-Head) g.row.V 9223372036854775808
+    (inner_small (layout (take.the_row (param 0 g.row.K) (param 1 (number g.row.W)) (param 2 (number g.row.V)) (param 3 g.row.A)
+    (copied 4 g.row.K-Head) g.K.Channel g.K.Head.Clone g.K.Head.Eq g.K.Head.PartialEq g.K.Head.Default g.A.Allocator)) 0 0 9223372036854775808
+    c.requires-raw.1.1.1.1.1.1.0)
 
 pub len-requires : goal.len-requires
-len-requires g c = part_small (layout (take.the_row (param 0 g.row.K) (param 1 (number g.row.W)) (param 2 (number g.row.V)) (param 3 g.row.A) (copied 4 g.row.K-Head) g.K.Channel g.K.Head.Clone g.K.Head.Eq g.K.Head.PartialEq g.K.Head.Default g.A.Allocator)) 0 9223372036854775808 c.requires-raw.1.1.1.1.1.1.0
+len-requires g c = part_small (layout (take.the_row (param 0 g.row.K) (param 1 (number g.row.W)) (param 2 (number g.row.V)) (param 3 g.row.A)
+    (copied 4 g.row.K-Head) g.K.Channel g.K.Head.Clone g.K.Head.Eq g.K.Head.PartialEq g.K.Head.Default g.A.Allocator)) 0 9223372036854775808
+    c.requires-raw.1.1.1.1.1.1.0

@@ -9,9 +9,18 @@ use Rattle.tl_ring.proofs.ring.read_front.Goals as goal
 -- what is read of both parts of the ring is its first items
 pub returns-clause-inbox : goal.returns-clause-inbox
 returns-clause-inbox g c = elim c.if-from_front-count.branch [
-  | then-from_front-count w ↦ rw (w.inbox-is, w.append-then-from_front-count.ensures, c.append.ensures, append_assoc, c.min-from_front.ensures, take_of_two, c.as_slices.ensures) refl
+  | then-from_front-count w ↦ rw (
+    w.inbox-is,
+    w.append-then-from_front-count.ensures,
+    c.append.ensures,
+    append_assoc,
+    c.min-from_front.ensures,
+    take_of_two,
+    c.as_slices.ensures,
+  ) refl
   | else-from_front-count w ↦ rw (w.inbox-is, c.append.ensures, c.min-from_front.ensures, ← c.as_slices.ensures)
-      (ap (λ t. c.args.inbox.now ++ t) (take_of_first c.args.count c.as_slices.result.0.now c.as_slices.result.1.now (omega (arith, w.if-from_front-count.false, c.min-from_front.ensures))))
+      (ap (λ t. c.args.inbox.now ++ t) (take_of_first c.args.count c.as_slices.result.0.now c.as_slices.result.1.now
+      (omega (arith, w.if-from_front-count.false, c.min-from_front.ensures))))
 ]
 
 pub returns-then-count-eq0-clause-inbox : goal.returns-then-count-eq0-clause-inbox
@@ -39,7 +48,8 @@ append-requires g c = (
     (
       simp length-take (omega (arith, c.requires.room, c.min-from_front.ensures)),
       All-take (λ b. IsLawfulBeat g.K.Channel.rules b) c.min-from_front.result c.as_slices.result.0.now
-          (all_in_front (λ b. IsLawfulBeat g.K.Channel.rules b) c.as_slices.result.0.now c.as_slices.result.1.now c.args.ring.now.items c.as_slices.ensures c.requires.lawful),
+          (all_in_front (λ b. IsLawfulBeat g.K.Channel.rules b) c.as_slices.result.0.now c.as_slices.result.1.now c.args.ring.now.items
+          c.as_slices.ensures c.requires.lawful),
     ),
   ),
 )
@@ -52,7 +62,8 @@ append-requires-then-from_front-count g c = (
     (
       simp (c.append.ensures, length-append, length-take) (omega (arith, c.requires.room, c.min-from_front.ensures)),
       All-take (λ b. IsLawfulBeat g.K.Channel.rules b) (c.args.count - c.min-from_front.result) c.as_slices.result.1.now
-          (all_behind (λ b. IsLawfulBeat g.K.Channel.rules b) c.as_slices.result.0.now c.as_slices.result.1.now c.args.ring.now.items c.as_slices.ensures c.requires.lawful),
+          (all_behind (λ b. IsLawfulBeat g.K.Channel.rules b) c.as_slices.result.0.now c.as_slices.result.1.now c.args.ring.now.items
+          c.as_slices.ensures c.requires.lawful),
     ),
   ),
 )

@@ -15,7 +15,8 @@ pub remove_all-requires-room-T-Default : goal.remove_all-requires-room-T-Default
 remove_all-requires-room-T-Default g c κs within = c.requires-raw.1.1.1.1.1.1.1.0
 
 pub remove_all-requires : goal.remove_all-requires
-remove_all-requires g c = part_small (layout (the_row (beat.the_row (copied 3 g.row.K-Head) (param 2 (number g.row.V))))) 0 9223372036854775808 c.requires-raw.1.1.1.1.1.1.0
+remove_all-requires g c = part_small (layout (the_row (beat.the_row (copied 3 g.row.K-Head) (param 2 (number g.row.V))))) 0 9223372036854775808
+    c.requires-raw.1.1.1.1.1.1.0
 
 pub invariant_of-stage : goal.invariant_of-stage
 invariant_of-stage g c = omega arith

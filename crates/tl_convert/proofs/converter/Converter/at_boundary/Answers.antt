@@ -19,4 +19,5 @@ between r (b ∷ rest) burst false e f = (λ t. absurd (cc t), λ k. cc k)
 pub returns : goal.returns
 returns g c = λ bs homes k.
     let stands = rw (← c.self.view_is) at k in
-    between g.K.Channel.rules (rest_of g.K.Channel.rules g.row.W bs) c.in_burst.result c.is_none.result (c.in_burst.ensures.burst ∙ stands.burst_is) c.is_none.ensures
+    between g.K.Channel.rules (rest_of g.K.Channel.rules g.row.W bs) c.in_burst.result c.is_none.result (c.in_burst.ensures.burst ∙ stands.burst_is)
+    c.is_none.ensures

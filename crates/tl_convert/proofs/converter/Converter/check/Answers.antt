@@ -29,4 +29,5 @@ returns-clause-place g c =
     let laws : ChannelLaws g.K.Channel.rules = laws-of g.met.K.Channel.same_heads g.met.K.Channel.same_is
     g.met.K.Channel.small g.met.K.Channel.partial_carries g.met.K.Channel.masked_address g.met.K.Channel.home_kept in
     rw (← c.self.view_is)
-    (place-told g.K.Channel.rules g.row.W c.requires laws c.self.inside.tracker c.args.beat.now c.check.result c.check.ensures.accepts c.check.ensures.head c.check.ensures.place)
+    (place-told g.K.Channel.rules g.row.W c.requires laws c.self.inside.tracker c.args.beat.now c.check.result c.check.ensures.accepts
+    c.check.ensures.head c.check.ensures.place)

@@ -13,7 +13,8 @@ give-requires g c =
     let laws : ChannelLaws g.K.Channel.rules = laws-of g.met.K.Channel.same_heads g.met.K.Channel.same_is
     g.met.K.Channel.small g.met.K.Channel.partial_carries g.met.K.Channel.masked_address g.met.K.Channel.home_kept in
     let place : IsPlace g.K.Channel.rules g.row.W c.self.inside.tracker c.args.place =
-    place-next g.K.Channel.rules c.requires.near laws (record { burst = c.self.inside.tracker; home = c.self.inside.home; partial = c.self.inside.partial }) c.self.invariant
+    place-next g.K.Channel.rules c.requires.near laws
+    (record { burst = c.self.inside.tracker; home = c.self.inside.home; partial = c.self.inside.partial }) c.self.invariant
     c.args.beat.now c.args.place (rw (← c.self.view_is) at c.requires.place) in
     let lawful : g.K.Channel.rules.fault c.args.beat.now.head ≡ None =
     ap (λ h. g.K.Channel.rules.fault h) (sym c.requires.place.head) ∙ place.lawful in (
@@ -37,7 +38,8 @@ advance-requires g c =
     let laws : ChannelLaws g.K.Channel.rules = laws-of g.met.K.Channel.same_heads g.met.K.Channel.same_is
     g.met.K.Channel.small g.met.K.Channel.partial_carries g.met.K.Channel.masked_address g.met.K.Channel.home_kept in
     let place : IsPlace g.K.Channel.rules g.row.W c.self.inside.tracker c.args.place =
-    place-next g.K.Channel.rules c.requires.near laws (record { burst = c.self.inside.tracker; home = c.self.inside.home; partial = c.self.inside.partial }) c.self.invariant
+    place-next g.K.Channel.rules c.requires.near laws
+    (record { burst = c.self.inside.tracker; home = c.self.inside.home; partial = c.self.inside.partial }) c.self.invariant
     c.args.beat.now c.args.place (rw (← c.self.view_is) at c.requires.place) in
     let P : Option (g.row.K-Head.Denot × ℕ) → Type 0 = λ t. IsPlace g.K.Channel.rules g.row.W t c.args.place in
     let tracker : c.self.inside.tracker ≡ c.if-place-eq0.self-inside.tracker = elim c.if-place-eq0.branch [
@@ -48,13 +50,15 @@ advance-requires g c =
 
 -- what the beat makes of a converter that stands for these beats
 step-from : (g : _) (c : goal.After-advance g) (bs : List (BeatOf g.row.K-Head.Denot g.row.W)) (homes : List ℕ) →
-    StandsFor {v = g.row.V} g.K.Channel.rules (record { burst = c.self.inside.tracker; home = c.self.inside.home; partial = c.self.inside.partial }) bs homes →
+    StandsFor {v = g.row.V} g.K.Channel.rules (record { burst = c.self.inside.tracker; home = c.self.inside.home; partial = c.self.inside.partial })
+    bs homes →
     Fed {v = g.row.V} g.K.Channel.rules (record { burst = c.advance.new.self; home = c.if-place-eq0.self-inside.home; partial = c.give.new.partial })
     bs homes c.args.beat.now c.args.home c.give.new.out.items
 step-from g c bs homes before =
     let laws : ChannelLaws g.K.Channel.rules = laws-of g.met.K.Channel.same_heads g.met.K.Channel.same_is
     g.met.K.Channel.small g.met.K.Channel.partial_carries g.met.K.Channel.masked_address g.met.K.Channel.home_kept in
-    let old : Progress g.row.K-Head.Denot g.row.V = record { burst = c.self.inside.tracker; home = c.self.inside.home; partial = c.self.inside.partial } in
+    let old : Progress g.row.K-Head.Denot g.row.V =
+    record { burst = c.self.inside.tracker; home = c.self.inside.home; partial = c.self.inside.partial } in
     let new : Progress g.row.K-Head.Denot g.row.V =
     record { burst = c.advance.new.self; home = c.if-place-eq0.self-inside.home; partial = c.give.new.partial } in
     let open_is : c.self.inside.tracker ≡ burst_after g.K.Channel.rules bs = before.burst_is in
@@ -89,8 +93,10 @@ step-from g c bs homes before =
       | then-place-eq0 w ↦ sym (ap (λ s. s.partial) w.self-inside-is)
       | else-place-eq0 w ↦ sym (ap (λ s. s.partial) w.self-inside-is)
     ] in
-    let index_is : c.args.place.index ≡ length (rest_of g.K.Channel.rules g.row.W bs) = is.index ∙ ap count_in open_is ∙ count-of g.K.Channel.rules g.row.W (rest_of g.K.Channel.rules g.row.W bs) in
-    let run : Run g.K.Channel.rules c.args.place.index c.if-place-eq0.self-inside.home c.args.beat.now c.self.inside.partial (rest_of g.K.Channel.rules g.row.W bs) =
+    let index_is : c.args.place.index ≡ length (rest_of g.K.Channel.rules g.row.W bs) = is.index ∙ ap count_in open_is ∙
+    count-of g.K.Channel.rules g.row.W (rest_of g.K.Channel.rules g.row.W bs) in
+    let run : Run g.K.Channel.rules c.args.place.index c.if-place-eq0.self-inside.home c.args.beat.now c.self.inside.partial
+    (rest_of g.K.Channel.rules g.row.W bs) =
     fed-run g.K.Channel.rules c.requires.near c.requires.far laws g.met.K.Channel.partial_masked old new c.args.beat.now c.ranges_of_beat.ensures none
     c.args.home c.args.place.index small inside opened kept c.give.new.out.items bs homes before index_is in
     let run_now : Run g.K.Channel.rules c.args.place.index c.if-place-eq0.self-inside.home c.args.beat.now c.if-place-eq0.self-inside.partial

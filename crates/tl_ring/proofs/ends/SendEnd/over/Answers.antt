@@ -16,7 +16,10 @@ returns-clause-open g c = c.new.ensures.ready.1
 
 pub returns-clause-send : goal.returns-clause-send
 returns-clause-send g c = λ size other ring near far.
-    sends_new g.K.Channel.rules g.met.K.Channel.partial_masked _ size ring.some_room (c.new.ensures.stands near far) c.new.ensures.ready.0 ring.none_sent ring.room c.new.ensures.ready.1
+    sends_new g.K.Channel.rules g.met.K.Channel.partial_masked _ size ring.some_room (c.new.ensures.stands near far) c.new.ensures.ready.0
+    ring.none_sent ring.room c.new.ensures.ready.1
 
 pub new-requires : goal.new-requires
-new-requires g c = part_small (layout (the_row (param 0 g.row.K) (param 1 (number g.row.W)) (param 2 (number g.row.V)) (param 3 g.row.A) (copied 4 g.row.K-Head) g.K.Channel g.K.Head.Clone g.K.Head.Eq g.K.Head.PartialEq g.K.Head.Default g.A.Allocator)) 0 9223372036854775808 c.requires-raw.1.1.1.1.1.1.1
+new-requires g c = part_small (layout (the_row (param 0 g.row.K) (param 1 (number g.row.W)) (param 2 (number g.row.V)) (param 3 g.row.A)
+    (copied 4 g.row.K-Head) g.K.Channel g.K.Head.Clone g.K.Head.Eq g.K.Head.PartialEq g.K.Head.Default g.A.Allocator)) 0 9223372036854775808
+    c.requires-raw.1.1.1.1.1.1.1

@@ -11,13 +11,18 @@ pub slots_after-in_ring-requires-room-P-Protocol : goal.slots_after-in_ring-requ
 slots_after-in_ring-requires-room-P-Protocol g c = λ κs within. lit< tt
 
 pub slots_after-in_ring-requires-room-P-Protocol-2 : goal.slots_after-in_ring-requires-room-P-Protocol-2
-slots_after-in_ring-requires-room-P-Protocol-2 g c = λ κs within. beat_in_queue (lone g.row.K-Head.mir) (layout g.row.K-Head) g.row.V 9223372036854775808 (search (inner_small (layout (the_row (param 0 g.row.K) (param 1 (number g.row.W)) (param 2 (number g.row.V)) (param 3 g.row.A) (copied 4 g.row.K-Head) g.K.Channel g.K.Head.Clone g.K.Head.Eq g.K.Head.PartialEq g.K.Head.Default g.A.Allocator)) 0 0 9223372036854775808))
+slots_after-in_ring-requires-room-P-Protocol-2 g c =
+    λ κs within. beat_in_queue (lone g.row.K-Head.mir) (layout g.row.K-Head) g.row.V 9223372036854775808
+    (search (inner_small (layout (the_row (param 0 g.row.K) (param 1 (number g.row.W)) (param 2 (number g.row.V)) (param 3 g.row.A)
+    (copied 4 g.row.K-Head) g.K.Channel g.K.Head.Clone g.K.Head.Eq g.K.Head.PartialEq g.K.Head.Default g.A.Allocator)) 0 0 9223372036854775808))
 
 pub slots_after-in_ring-requires : goal.slots_after-in_ring-requires
 slots_after-in_ring-requires g c = rw (← c.receipt.view_is, ← c.self.view_is) at c.requires
 
 pub len-waiting-requires : goal.len-waiting-requires
-len-waiting-requires g c = search (part_small (layout (the_row (param 0 g.row.K) (param 1 (number g.row.W)) (param 2 (number g.row.V)) (param 3 g.row.A) (copied 4 g.row.K-Head) g.K.Channel g.K.Head.Clone g.K.Head.Eq g.K.Head.PartialEq g.K.Head.Default g.A.Allocator)) 0 9223372036854775808)
+len-waiting-requires g c = search (part_small
+    (layout (the_row (param 0 g.row.K) (param 1 (number g.row.W)) (param 2 (number g.row.V)) (param 3 g.row.A) (copied 4 g.row.K-Head) g.K.Channel
+    g.K.Head.Clone g.K.Head.Eq g.K.Head.PartialEq g.K.Head.Default g.A.Allocator)) 0 9223372036854775808)
 
 pub returns-clause-looked : goal.returns-clause-looked
 returns-clause-looked g c =
@@ -33,7 +38,8 @@ returns-clause-looked g c =
 
 pub returns-clause-drained : goal.returns-clause-drained
 returns-clause-drained g c =
-    none_in_two c.self.inside.inbox _ c.len-waiting.result c.slots_after-in_ring.result c.len-waiting.ensures.count c.slots_after-in_ring.ensures.value
+    none_in_two c.self.inside.inbox _ c.len-waiting.result c.slots_after-in_ring.result c.len-waiting.ensures.count
+    c.slots_after-in_ring.ensures.value
 
 pub returns-clause-shown : goal.returns-clause-shown
 returns-clause-shown g c = λ x taken shows takes.

@@ -5,7 +5,8 @@ use Rattle.tl_ring.proofs.ends.TakeEnd.fetch.Goals as goal
 
 pub receive-requires : goal.receive-requires
 receive-requires g c =
-    let row = layout (the_row (param 0 g.row.K) (param 1 (number g.row.W)) (param 2 (number g.row.V)) (param 3 g.row.A) (copied 4 g.row.K-Head) g.K.Channel g.K.Head.Clone g.K.Head.Eq g.K.Head.PartialEq g.K.Head.Default g.A.Allocator) in
+    let row = layout (the_row (param 0 g.row.K) (param 1 (number g.row.W)) (param 2 (number g.row.V)) (param 3 g.row.A) (copied 4 g.row.K-Head)
+    g.K.Channel g.K.Head.Clone g.K.Head.Eq g.K.Head.PartialEq g.K.Head.Default g.A.Allocator) in
     (part_small row 1 9223372036854775808 c.requires-raw.1.1.1.1.1, part_small row 0 9223372036854775808 c.requires-raw.1.1.1.1.1)
 
 pub returns : goal.returns

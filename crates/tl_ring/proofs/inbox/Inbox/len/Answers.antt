@@ -4,4 +4,5 @@ use Rattle.tl_ring.proofs.FieldSizes.{part_small}
 use Rattle.tl_ring.proofs.inbox.Inbox.len.Goals as goal
 
 pub len-requires : goal.len-requires
-len-requires g c = part_small (layout (the_row (param 0 g.row.K) (param 1 (number g.row.V)) (copied 2 g.row.K-Head) g.K.Channel g.K.Head.PartialEq g.K.Head.Default)) 0 9223372036854775808 c.requires-raw.1.1.1
+len-requires g c = part_small (layout (the_row (param 0 g.row.K) (param 1 (number g.row.V)) (copied 2 g.row.K-Head) g.K.Channel g.K.Head.PartialEq
+    g.K.Head.Default)) 0 9223372036854775808 c.requires-raw.1.1.1

@@ -5,7 +5,13 @@ use Rattle.tl_ring.proofs.Names.{arith}
 use Rattle.tl_ring.proofs.inbox.Inbox.take_all.Goals as goal
 
 pub len-count-requires : goal.len-count-requires
-len-count-requires g c = part_small (layout (the_row (param 0 g.row.K) (param 1 (number g.row.V)) (copied 2 g.row.K-Head) g.K.Channel g.K.Head.PartialEq g.K.Head.Default)) 0 9223372036854775808 c.requires-raw.1.1.1
+len-count-requires g c = part_small (layout (the_row (param 0 g.row.K) (param 1 (number g.row.V)) (copied 2 g.row.K-Head) g.K.Channel
+    g.K.Head.PartialEq g.K.Head.Default)) 0 9223372036854775808 c.requires-raw.1.1.1
 
 pub drop_front-requires : goal.drop_front-requires
-drop_front-requires g c = (part_small (layout (the_row (param 0 g.row.K) (param 1 (number g.row.V)) (copied 2 g.row.K-Head) g.K.Channel g.K.Head.PartialEq g.K.Head.Default)) 0 9223372036854775808 c.requires-raw.1.1.1, omega (arith, c.len-count.ensures.value))
+drop_front-requires g c = (
+  part_small (layout
+      (the_row (param 0 g.row.K) (param 1 (number g.row.V)) (copied 2 g.row.K-Head) g.K.Channel g.K.Head.PartialEq g.K.Head.Default)) 0
+      9223372036854775808 c.requires-raw.1.1.1,
+  omega (arith, c.len-count.ensures.value),
+)

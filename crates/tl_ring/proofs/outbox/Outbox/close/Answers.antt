@@ -27,4 +27,6 @@ returns-clause-stands g c = λ bs homes sent h.
     has_closed g.K.Channel.rules _ bs homes sent ((returns-clause-between g c bs homes sent h).0 refl) stands
 
 pub at_boundary-requires : goal.at_boundary-requires
-at_boundary-requires g c = part_small (layout (the_row (param 0 g.row.K) (param 1 (number g.row.W)) (param 2 (number g.row.V)) (copied 3 g.row.K-Head) g.K.Channel g.K.Head.PartialEq g.K.Head.Default)) 0 9223372036854775808 c.requires-raw.1.1.1.1
+at_boundary-requires g c = part_small (layout
+    (the_row (param 0 g.row.K) (param 1 (number g.row.W)) (param 2 (number g.row.V)) (copied 3 g.row.K-Head) g.K.Channel g.K.Head.PartialEq
+    g.K.Head.Default)) 0 9223372036854775808 c.requires-raw.1.1.1.1

@@ -10,7 +10,8 @@ pub stage_beat-requires : goal.stage_beat-requires
 stage_beat-requires g c =
     let place = rw (← c.self.view_is) at c.requires.3 in
     let ready = rw (← c.self.view_is) at c.requires.2 in
-    let row = layout (the_row (param 0 g.row.K) (param 1 (number g.row.W)) (param 2 (number g.row.V)) (copied 3 g.row.K-Head) g.K.Channel g.K.Head.PartialEq g.K.Head.Default) in
+    let row = layout (the_row (param 0 g.row.K) (param 1 (number g.row.W)) (param 2 (number g.row.V)) (copied 3 g.row.K-Head) g.K.Channel
+    g.K.Head.PartialEq g.K.Head.Default) in
     let whole = c.requires-raw.1.1.1.1.0 in
     let stage = part_small row 1 9223372036854775808 whole in
     let beat = beat_in_queue (lone g.row.K-Head.mir) (layout g.row.K-Head) g.row.V 9223372036854775808 stage in

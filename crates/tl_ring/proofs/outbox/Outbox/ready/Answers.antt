@@ -4,4 +4,5 @@ use Rattle.tl_ring.proofs.FieldSizes.{part_small}
 use Rattle.tl_ring.proofs.outbox.Outbox.ready.Goals as goal
 
 pub is_empty-requires : goal.is_empty-requires
-is_empty-requires g c = part_small (layout (the_row (param 0 g.row.K) (param 1 (number g.row.W)) (param 2 (number g.row.V)) (copied 3 g.row.K-Head) g.K.Channel g.K.Head.PartialEq g.K.Head.Default)) 1 9223372036854775808 c.requires-raw.1.1.1.1
+is_empty-requires g c = part_small (layout (the_row (param 0 g.row.K) (param 1 (number g.row.W)) (param 2 (number g.row.V)) (copied 3 g.row.K-Head)
+    g.K.Channel g.K.Head.PartialEq g.K.Head.Default)) 1 9223372036854775808 c.requires-raw.1.1.1.1

@@ -10,4 +10,9 @@ returns-clause-sent g c = λ bs homes sent h.
     rw (c.drop_front.ensures, ← c.self.view_is) (has_more_sent g.K.Channel.rules c.args.count _ bs homes sent stands)
 
 pub drop_front-requires : goal.drop_front-requires
-drop_front-requires g c = (part_small (layout (the_row (param 0 g.row.K) (param 1 (number g.row.W)) (param 2 (number g.row.V)) (copied 3 g.row.K-Head) g.K.Channel g.K.Head.PartialEq g.K.Head.Default)) 1 9223372036854775808 c.requires-raw.1.1.1.1.0, rw (← c.self.view_is) at c.requires)
+drop_front-requires g c = (
+  part_small (layout
+      (the_row (param 0 g.row.K) (param 1 (number g.row.W)) (param 2 (number g.row.V)) (copied 3 g.row.K-Head) g.K.Channel g.K.Head.PartialEq
+      g.K.Head.Default)) 1 9223372036854775808 c.requires-raw.1.1.1.1.0,
+  rw (← c.self.view_is) at c.requires,
+)

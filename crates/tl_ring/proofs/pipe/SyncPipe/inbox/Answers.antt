@@ -7,4 +7,8 @@ pub returns-clause-beats : goal.returns-clause-beats
 returns-clause-beats g c = rw (← c.self.view_is) c.as_slice.ensures.beats
 
 pub as_slice-requires : goal.as_slice-requires
-as_slice-requires g c = (part_small (layout (the_row (param 0 g.row.K) (param 1 (number g.row.W)) (param 2 (number g.row.V)) (param 3 g.row.A) (copied 4 g.row.K-Head) g.K.Channel g.K.Head.PartialEq g.K.Head.Default g.A.Allocator)) 2 9223372036854775808 c.requires-raw.1.1.1.1.1.0, c.requires-raw.1.1.1.1.1.1)
+as_slice-requires g c = (
+  part_small (layout (the_row (param 0 g.row.K) (param 1 (number g.row.W)) (param 2 (number g.row.V)) (param 3 g.row.A)
+      (copied 4 g.row.K-Head) g.K.Channel g.K.Head.PartialEq g.K.Head.Default g.A.Allocator)) 2 9223372036854775808 c.requires-raw.1.1.1.1.1.0,
+  c.requires-raw.1.1.1.1.1.1,
+)

@@ -6,17 +6,20 @@ use Rattle.tl_ring.proofs.pipe.SyncPipe.new.Goals as goal
 
 pub new-requires : goal.new-requires
 new-requires g c =
-    let row = layout (the_row (param 0 g.row.K) (param 1 (number g.row.W)) (param 2 (number g.row.V)) (param 3 g.row.A) (copied 4 g.row.K-Head) g.K.Channel g.K.Head.PartialEq g.K.Head.Default g.A.Allocator) in
+    let row = layout (the_row (param 0 g.row.K) (param 1 (number g.row.W)) (param 2 (number g.row.V)) (param 3 g.row.A) (copied 4 g.row.K-Head)
+    g.K.Channel g.K.Head.PartialEq g.K.Head.Default g.A.Allocator) in
     part_small row 1 9223372036854775808 c.requires-raw.1.1.1.1.1.0
 
 pub new-requires-in-Ok : goal.new-requires-in-Ok
 new-requires-in-Ok g c =
-    let row = layout (the_row (param 0 g.row.K) (param 1 (number g.row.W)) (param 2 (number g.row.V)) (param 3 g.row.A) (copied 4 g.row.K-Head) g.K.Channel g.K.Head.PartialEq g.K.Head.Default g.A.Allocator) in
+    let row = layout (the_row (param 0 g.row.K) (param 1 (number g.row.W)) (param 2 (number g.row.V)) (param 3 g.row.A) (copied 4 g.row.K-Head)
+    g.K.Channel g.K.Head.PartialEq g.K.Head.Default g.A.Allocator) in
     part_small row 0 9223372036854775808 c.requires-raw.1.1.1.1.1.0
 
 pub new-requires-in-Ok-2 : goal.new-requires-in-Ok-2
 new-requires-in-Ok-2 g c =
-    let row = layout (the_row (param 0 g.row.K) (param 1 (number g.row.W)) (param 2 (number g.row.V)) (param 3 g.row.A) (copied 4 g.row.K-Head) g.K.Channel g.K.Head.PartialEq g.K.Head.Default g.A.Allocator) in
+    let row = layout (the_row (param 0 g.row.K) (param 1 (number g.row.W)) (param 2 (number g.row.V)) (param 3 g.row.A) (copied 4 g.row.K-Head)
+    g.K.Channel g.K.Head.PartialEq g.K.Head.Default g.A.Allocator) in
     part_small row 2 9223372036854775808 c.requires-raw.1.1.1.1.1.0
 
 pub returns-in-Ok-clause-new : goal.returns-in-Ok-clause-new

@@ -8,7 +8,8 @@ pub offer_at-requires : goal.offer_at-requires
 offer_at-requires g c =
     let place = rw (← c.self.view_is) at c.requires.place in
     let ready = rw (← c.self.view_is) at c.requires.ready in
-    let row = layout (the_row (param 0 g.row.K) (param 1 (number g.row.W)) (param 2 (number g.row.V)) (param 3 g.row.A) (copied 4 g.row.K-Head) g.K.Channel g.K.Head.PartialEq g.K.Head.Default g.A.Allocator) in
+    let row = layout (the_row (param 0 g.row.K) (param 1 (number g.row.W)) (param 2 (number g.row.V)) (param 3 g.row.A) (copied 4 g.row.K-Head)
+    g.K.Channel g.K.Head.PartialEq g.K.Head.Default g.A.Allocator) in
     (part_small row 0 9223372036854775808 c.requires-raw.1.1.1.1.1.0, (search rules, (c.requires.near, c.requires.far, ready, place)))
 
 pub returns : goal.returns

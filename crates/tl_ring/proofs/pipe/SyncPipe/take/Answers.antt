@@ -13,4 +13,8 @@ returns-clause-taken g c = λ x h.
     rw c.take.ensures.rest (stands_took g.K.Channel.rules g.met.K.Channel.partial_masked _ x stands)
 
 pub take-requires : goal.take-requires
-take-requires g c = (part_small (layout (the_row (param 0 g.row.K) (param 1 (number g.row.W)) (param 2 (number g.row.V)) (param 3 g.row.A) (copied 4 g.row.K-Head) g.K.Channel g.K.Head.PartialEq g.K.Head.Default g.A.Allocator)) 2 9223372036854775808 c.requires-raw.1.1.1.1.1.0, c.requires-raw.1.1.1.1.1.1)
+take-requires g c = (
+  part_small (layout (the_row (param 0 g.row.K) (param 1 (number g.row.W)) (param 2 (number g.row.V)) (param 3 g.row.A)
+      (copied 4 g.row.K-Head) g.K.Channel g.K.Head.PartialEq g.K.Head.Default g.A.Allocator)) 2 9223372036854775808 c.requires-raw.1.1.1.1.1.0,
+  c.requires-raw.1.1.1.1.1.1,
+)

@@ -10,4 +10,5 @@ returns g c = λ x h.
     rw c.take_all.ensures (stands_emptied g.K.Channel.rules g.met.K.Channel.partial_masked _ x stands)
 
 pub take_all-requires : goal.take_all-requires
-take_all-requires g c = part_small (layout (the_row (param 0 g.row.K) (param 1 (number g.row.W)) (param 2 (number g.row.V)) (param 3 g.row.A) (copied 4 g.row.K-Head) g.K.Channel g.K.Head.PartialEq g.K.Head.Default g.A.Allocator)) 2 9223372036854775808 c.requires-raw.1.1.1.1.1
+take_all-requires g c = part_small (layout (the_row (param 0 g.row.K) (param 1 (number g.row.W)) (param 2 (number g.row.V)) (param 3 g.row.A)
+    (copied 4 g.row.K-Head) g.K.Channel g.K.Head.PartialEq g.K.Head.Default g.A.Allocator)) 2 9223372036854775808 c.requires-raw.1.1.1.1.1

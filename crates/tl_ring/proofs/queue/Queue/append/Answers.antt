@@ -34,8 +34,10 @@ pub unreachable-requires : goal.unreachable-requires
 unreachable-requires g c =
     let s = c.if-more-len.self-inside in
     let room : length s.items.items + length c.args.more.now ≤ ROOM = elim c.if-more-len.branch [
-      | then-more-len w ↦ (let size = ap (λ q. length q.items.items) w.self-inside-is in let cut = ap length (w.cut_front.ensures ∙ c.self.view_is) in omega (arith, size, cut, c.requires))
-      | else-more-len w ↦ (let size = ap (λ q. length q.items.items) w.self-inside-is in omega (arith, size, w.if-more-len.false, c.len.ensures.value, c.len.ensures.fits))
+      | then-more-len w ↦ (let size = ap (λ q. length q.items.items) w.self-inside-is in let cut = ap length (w.cut_front.ensures ∙ c.self.view_is) in
+          omega (arith, size, cut, c.requires))
+      | else-more-len w ↦ (let size = ap (λ q. length q.items.items) w.self-inside-is in
+          omega (arith, size, w.if-more-len.false, c.len.ensures.value, c.len.ensures.fits))
     ] in
     let taken = c.in-Err.ensures.variant.1 room in absurd (cc)
 
@@ -69,7 +71,8 @@ returns-in-len1 g c =
       | else-more-len w ↦ rw w.self-inside-is c.self.invariant
     ] in
     let one = only_item c.args.more.now c.item-item.result c.in-len1.len_at_least c.in-len1.len_below c.item-item.is in
-    ap (drop s.first) c.push.ensures.items ∙ drop-append-le s.first s.items.items (c.item-item.result ∷ []) within ∙ ap (λ l. l ++ c.item-item.result ∷ []) same ∙
+    ap (drop s.first) c.push.ensures.items ∙ drop-append-le s.first s.items.items (c.item-item.result ∷ []) within ∙
+    ap (λ l. l ++ c.item-item.result ∷ []) same ∙
     ap (λ l. c.args.self.now ++ l) one
 
 -- whether or not the items were moved to the start, the queue is what it was
