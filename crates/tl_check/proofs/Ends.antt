@@ -18,11 +18,10 @@ stays stops None stopped_by e all = refl
 stays stops (Some b) None e all = let no_beat = all refl in cc
 stays stops (Some b) (Some fault) e all = ap is_none (sym e)
 
--- the option that stops a beat, where the beat is there and where none is
-pub stopped-at : {B : Type 0} (stops : ℕ → B → Option SideFault) (bs : List B) (n m : ℕ) (b : B) (fault : SideFault) → m ≡ n → slice_get bs n ≡ Some b →
-    stops n b ≡ Some fault → Some fault ≡ option_map_or (λ x. stops m x) (slice_get bs m) None
-stopped-at stops bs n m b fault same at e =
-    sym (ap (λ k. option_map_or (λ x. stops k x) (slice_get bs k) None) same ∙ ap (λ o. option_map_or (λ x. stops n x) o None) at ∙ e)
+-- the option that stops a beat, where the beat is there
+pub stopped-at : {B : Type 0} (stops : B → Option SideFault) (bs : List B) (n : ℕ) (b : B) (fault : SideFault) → slice_get bs n ≡ Some b →
+    stops b ≡ Some fault → Some fault ≡ option_map_or stops (slice_get bs n) None
+stopped-at stops bs n b fault at e = sym (ap (λ o. option_map_or stops o None) at ∙ e)
 
 -- the books of two sides that have accepted and taken nothing
 pub starts-at : {C M : ℕ} (a : List (BeatOf HeadA C)) (d : List (BeatOf HeadD M)) (i j : ℕ) (client : Client) (manager : Manager) → i ≡ 0 → j ≡ 0 →
@@ -82,5 +81,6 @@ module _ {C M : ℕ} (cw : IsWidth C) (mw : IsWidth M) (a : List (BeatOf HeadA C
 
   pub both-end : (a_burst : Option (HeadA × ℕ)) (a_far : ℕ) → HasCome rules_a M a a_burst i a_far →
       (d_burst : Option (HeadD × ℕ)) (d_far : ℕ) → HasCome rules_d C d d_burst j d_far →
-      (verdict_of i a_far (left rules_a C (take i a)) a_stops ≡ verdict_a a d) × (verdict_of j d_far (left rules_d M (take j d)) d_stops ≡ verdict_d a d)
+      (verdict_of i a_far (left rules_a C (take i a)) a_stops ≡ verdict_a a d) ×
+      (verdict_of j d_far (left rules_d M (take j d)) d_stops ≡ verdict_d a d)
   both-end a_burst a_far a_come d_burst d_far d_come = (a-ends a_burst a_far a_come, d-ends d_burst d_far d_come)

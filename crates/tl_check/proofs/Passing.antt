@@ -1,6 +1,6 @@
 -- A channel goes on by a beat that is accepted, and what it ends with.
 use Rattle.tl_check.proofs.Names.{◌≡◌, ◌≢◌, ◌≤◌, ◌<◌, ◌+◌, ◌++◌, ℕ, Bool, Option, None, Some, List, [], ◌∷◌, length, map, take, get_or, refl, sym, ap}
-use Rattle.tl_check.proofs.Names.{subst, ◌∙◌, arith, zero-le, append_assoc, slice_get_within, slice_get_past, get_or_from_slice_get, slice_get_read}
+use Rattle.tl_check.proofs.Names.{subst, ◌∙◌, arith, zero-le, append_assoc, slice_get_within, slice_get_past, get_or_from_slice_get}
 use Rattle.tl_check.proofs.Names.{◌==◌, slice_get, if◌then◌else◌, option_map_or, IsWidth, Rules, BeatOf, SideFault, heads, left, IsHanded, nothing}
 use Rattle.tl_check.proofs.Names.{rest_of, burst_of, burst_after, fault_in, fault_after, due, verdict_of, far_alone, verdict_alone, HasCome}
 use Rattle.std.proofs.lemmas.List.{length-take-le, map-append, take_more}
@@ -24,10 +24,6 @@ pub next-noted : {E B : Type 0} (note : B → E) (es : List E) (bs : List B) (i 
 next-noted note es bs i b lt is =
     append_assoc es (map note (take i bs)) (note b ∷ []) ∙ ap (λ q. es ++ q) (sym (map-append note (take i bs) (b ∷ [])) ∙
     ap (λ q. map note q) (sym (take_more bs i b lt ∙ ap (λ y. take i bs ++ y ∷ []) (sym is))))
-
--- the beat that a loop has come to is the next one
-pub next-beat : {B : Type 0} (bs : List B) (at k : ℕ) (b : B) → at ≡ k → k < length bs → b ≡ get_or bs k b → slice_get bs at ≡ Some b
-next-beat bs at k b same within is = ap (λ n. slice_get bs n) same ∙ slice_get_read bs (length bs) k b refl within is
 
 -- an accepted beat stands at the place that its check says
 pub place-of : {H K : Type 0} (r : Rules H) {w : ℕ} (burst : Option (H × ℕ)) (b : BeatOf H w) (place : Place K H) → fault_in r burst b ≡ None →

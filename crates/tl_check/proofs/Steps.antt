@@ -1,13 +1,13 @@
 -- What a beat of A or D that is offered does to both sides, where each has taken all that is due.
-use Rattle.tl_check.proofs.Names.{◌≡◌, ◌<◌, ◌+◌, ◌++◌, ℕ, suc, cond, Option, None, Some, List, true, [], ◌∷◌, length, map, take, refl, sym, ap, subst}
-use Rattle.tl_check.proofs.Names.{◌∙◌, arith, append-nil, length-append, ◌==◌, slice_get, option_map_or, IsWidth, Rules, rules_a, rules_d, HeadA}
-use Rattle.tl_check.proofs.Names.{HeadD, BeatOf, SideFault, heads, left, IsHanded, burst_after, fault_after, fault_in, due, Ask, Answer, asked}
-use Rattle.tl_check.proofs.Names.{answered, client_answer, manager_answer, requests, responses, far_a, far_d, held_request, held_response, stops_a}
-use Rattle.tl_check.proofs.Names.{stops_d, Client, Manager, KnowsClient, KnowsManager, IsNext, AreAt, HasCome, HaveHead}
+use Rattle.tl_check.proofs.Names.{◌≡◌, ◌<◌, ◌+◌, ◌++◌, ℕ, suc, Option, None, Some, List, true, [], ◌∷◌, length, map, take, refl, sym, ap, subst}
+use Rattle.tl_check.proofs.Names.{◌∙◌, ◌↔◌, Result, Ok, Err, IsOk, IfOk, IfErr, arith, append-nil, length-append, slice_get}
+use Rattle.tl_check.proofs.Names.{IsWidth, Rules, rules_a, rules_d, HeadA}
+use Rattle.tl_check.proofs.Names.{HeadD, BeatOf, SideFault, heads, fault_after, fault_in, due, Ask, Answer, asked}
+use Rattle.tl_check.proofs.Names.{answered, client_answer, manager_answer, requests, responses, far_a, far_d, stops_a}
+use Rattle.tl_check.proofs.Names.{stops_d, Client, Manager, KnowsClient, KnowsManager, IsChecked, AreAt, HasCome, HaveHead}
 use mathlib.Core.List.{IsPrefix}
 use Rattle.tl_lanes.proofs.Widths.{width_bounds}
 use Rattle.tl_msg.specs.declared.fault.BeatFault.{BeatFault}
-use Rattle.tl_msg.specs.declared.fault.SideFault.TheVariants.{Beat}
 use Rattle.tl_burst.specs.Tracking.{IsPlace, IsPlaceOf}
 use Rattle.tl_burst.specs.declared.place.Place.{Place}
 use Rattle.tl_convert.proofs.Extends.{Extends, more, take-next}
@@ -29,13 +29,24 @@ use Rattle.tl_check.proofs.Passing.{place-of}
 rest-of : {A : Type 0} {xs ys : List A} → Extends xs ys → IsPrefix xs ys
 rest-of (more xs rest) = (rest, refl)
 
--- a beat stands next after what a side has accepted
-next-after : {H K : Type 0} (r : Rules H) {w v : ℕ} (bs accepted : List (BeatOf H w)) (burst : Option (H × ℕ)) (at far : ℕ) (b : BeatOf H w) (place : Place K H) →
-    HasCome r v bs burst at far → accepted ≡ take at bs → IsPlaceOf r w burst b place → IsNext r accepted b place
-next-after r {w} bs accepted burst at far b place come same is = record {
-  handed = subst (λ q. IsHanded r q) (sym same) come.handed;
-  is_place = subst (λ q. IsPlaceOf r w q b place) (come.burst_is ∙ ap (λ q. burst_after r q) (sym same)) is;
-}
+-- what a check says of the open burst, it says of what a side has accepted
+checked-after : {H K : Type 0} (r : Rules H) {w v : ℕ} (bs accepted : List (BeatOf H w)) (burst : Option (H × ℕ)) (at far : ℕ) (b : BeatOf H w)
+    (checked : Result (Place K H) BeatFault) → HasCome r v bs burst at far → accepted ≡ take at bs → IsOk checked ↔ (fault_in r burst b ≡ None) →
+    IfErr checked (λ fault. fault_in r burst b ≡ Some fault) → IfOk checked (λ place. place.head ≡ b.head) → IfOk checked (IsPlace r w burst) →
+    IsChecked r accepted b checked
+checked-after {K = K} r bs accepted burst at far b (Err fault) come same fine stops head is =
+    subst (λ q. IsChecked {K = K} r q b (Err fault)) (sym same) (record {
+      place = tt;
+      fault = ap (λ q. fault_in r q b) (sym come.burst_is) ∙ stops;
+    })
+checked-after {K = K} r {w} bs accepted burst at far b (Ok place) come same fine stops head is =
+    subst (λ q. IsChecked {K = K} r q b (Ok place)) (sym same) (record {
+      place = record {
+        handed = come.handed;
+        is_place = subst (λ q. IsPlaceOf r w q b place) come.burst_is (place-of r burst b place (fine.0 refl) head is);
+      };
+      fault = tt;
+    })
 
 -- what an accepted beat makes due beside what was due before it, whatever the homes are
 module _ {H : Type 0} (r : Rules H) (w v : ℕ) (bs : List (BeatOf H w)) (at : ℕ) (b : BeatOf H w) (burst : Option (H × ℕ)) (far : ℕ)
@@ -56,9 +67,11 @@ module _ {H : Type 0} (r : Rules H) (w v : ℕ) (bs : List (BeatOf H w)) (at : �
       HaveHead b.head new.0
   new-have exact w_some v_some next fine =
       new-heads r exact w v w_some v_some (take at bs) b (homes (suc at)) (due r w v (take at bs) (homes at)) new.0 fine
-      (sym (before.far_is (homes at)) ∙ before.far_is (homes (suc at))) (ap (λ q. due r w v q (homes (suc at))) (sym (take-next bs at b next)) ∙ sym new.1)
+      (sym (before.far_is (homes at)) ∙ before.far_is (homes (suc at)))
+      (ap (λ q. due r w v q (homes (suc at))) (sym (take-next bs at b next)) ∙ sym new.1)
 
-module _ {C M : ℕ} (cw : IsWidth C) (mw : IsWidth M) (a : List (BeatOf HeadA C)) (d : List (BeatOf HeadD M)) (i j : ℕ) (client : Client) (manager : Manager)
+module _ {C M : ℕ} (cw : IsWidth C) (mw : IsWidth M) (a : List (BeatOf HeadA C)) (d : List (BeatOf HeadD M)) (i j : ℕ) (client : Client)
+    (manager : Manager)
     (s : AreAt a d i j client manager) where
   c_some : 0 < C
   c_some = (width_bounds C cw).0
@@ -72,25 +85,23 @@ module _ {C M : ℕ} (cw : IsWidth C) (mw : IsWidth M) (a : List (BeatOf HeadA C
   -- ---- the client's side offers a beat of A
 
   module _ (b : BeatOf HeadA C) where
-    pub ask-next : {K : Type 0} (burst : Option (HeadA × ℕ)) (far : ℕ) (place : Place K HeadA) → HasCome rules_a M a burst i far →
-        fault_in rules_a burst b ≡ None → place.head ≡ b.head → IsPlace rules_a C burst place → IsNext rules_a (asked s.client_history) b place
-    ask-next burst far place come fine head is =
-        next-after rules_a a (asked s.client_history) burst i far b place come here.client.accepted (place-of rules_a burst b place fine head is)
+    pub ask-checked : {K : Type 0} (burst : Option (HeadA × ℕ)) (far : ℕ) (checked : Result (Place K HeadA) BeatFault) →
+        HasCome rules_a M a burst i far →
+        IsOk checked ↔ (fault_in rules_a burst b ≡ None) → IfErr checked (λ fault. fault_in rules_a burst b ≡ Some fault) →
+        IfOk checked (λ place. place.head ≡ b.head) → IfOk checked (IsPlace rules_a C burst) → IsChecked rules_a (asked s.client_history) b checked
+    ask-checked burst far checked come = checked-after rules_a a (asked s.client_history) burst i far b checked come here.client.accepted
 
     -- what its book answers is what stops the beat
     pub ask-stops : (fault : SideFault) → client_answer s.client_history b ≡ Some fault → stops_a a d i j b ≡ Some fault
     ask-stops fault e = sym (client_stops c_some m_some a d i j s.client_history b here.reached here.client s.d_taken) ∙ e
-
-    pub ask-faulty : (fault : BeatFault) → fault_after rules_a (take i a) b ≡ Some fault → stops_a a d i j b ≡ Some (Beat fault)
-    ask-faulty fault e =
-        ap (λ o. option_map_or (λ f. Some (Beat f)) o (cond (left rules_a C (take i a) == 0) (held_request a d i j b.head) None)) e
 
     -- the beat is accepted, and the manager's side takes what it makes due
     module _ (next : slice_get a i ≡ Some b) (ok : client_answer s.client_history b ≡ None) (fine : fault_after rules_a (take i a) b ≡ None)
         (burst burst' : Option (HeadA × ℕ)) (far n far' given : ℕ) (one : n ≡ i + 1) (many : far' ≡ far + given)
         (before : HasCome rules_a M a burst i far) (after : HasCome rules_a M a burst' n far')
         (client' : Client) (knows : KnowsClient client' (s.client_history ++ Ask b ∷ [])) (manager' : Manager)
-        (noted : (bs : List (BeatOf HeadA M)) → length bs ≡ given → HaveHead b.head bs → KnowsManager manager' (s.manager_history ++ map Ask bs)) where
+        (noted : (bs : List (BeatOf HeadA M)) → length bs ≡ given → HaveHead b.head bs →
+        KnowsManager manager' (s.manager_history ++ map Ask bs)) where
       later-a : n ≡ suc i
       later-a = omega (arith, one)
 
@@ -132,25 +143,24 @@ module _ {C M : ℕ} (cw : IsWidth C) (mw : IsWidth M) (a : List (BeatOf HeadA C
   -- ---- the manager's side offers a beat of D
 
   module _ (b : BeatOf HeadD M) where
-    pub answer-next : {K : Type 0} (burst : Option (HeadD × ℕ)) (far : ℕ) (place : Place K HeadD) → HasCome rules_d C d burst j far →
-        fault_in rules_d burst b ≡ None → place.head ≡ b.head → IsPlace rules_d M burst place → IsNext rules_d (answered s.manager_history) b place
-    answer-next burst far place come fine head is =
-        next-after rules_d d (answered s.manager_history) burst j far b place come here.manager_is.accepted (place-of rules_d burst b place fine head is)
+    pub answer-checked : {K : Type 0} (burst : Option (HeadD × ℕ)) (far : ℕ) (checked : Result (Place K HeadD) BeatFault) →
+        HasCome rules_d C d burst j far →
+        IsOk checked ↔ (fault_in rules_d burst b ≡ None) → IfErr checked (λ fault. fault_in rules_d burst b ≡ Some fault) →
+        IfOk checked (λ place. place.head ≡ b.head) → IfOk checked (IsPlace rules_d M burst) →
+        IsChecked rules_d (answered s.manager_history) b checked
+    answer-checked burst far checked come = checked-after rules_d d (answered s.manager_history) burst j far b checked come here.manager_is.accepted
 
     -- what its book answers is what stops the beat
     pub answer-stops : (fault : SideFault) → manager_answer s.manager_history b ≡ Some fault → stops_d a d i j b ≡ Some fault
     answer-stops fault e = sym (manager_stops c_some m_some a d i j s.manager_history b here.reached here.manager_is s.a_taken) ∙ e
-
-    pub answer-faulty : (fault : BeatFault) → fault_after rules_d (take j d) b ≡ Some fault → stops_d a d i j b ≡ Some (Beat fault)
-    answer-faulty fault e =
-        ap (λ o. option_map_or (λ f. Some (Beat f)) o (cond (left rules_d M (take j d) == 0) (held_response a d i j b.head) None)) e
 
     -- the beat is accepted, and the client's side takes what it makes due
     module _ (next : slice_get d j ≡ Some b) (ok : manager_answer s.manager_history b ≡ None) (fine : fault_after rules_d (take j d) b ≡ None)
         (burst burst' : Option (HeadD × ℕ)) (far n far' given : ℕ) (one : n ≡ j + 1) (many : far' ≡ far + given)
         (before : HasCome rules_d C d burst j far) (after : HasCome rules_d C d burst' n far')
         (manager' : Manager) (knows : KnowsManager manager' (s.manager_history ++ Answer b ∷ [])) (client' : Client)
-        (noted : (bs : List (BeatOf HeadD C)) → length bs ≡ given → HaveHead b.head bs → KnowsClient client' (s.client_history ++ map Answer bs)) where
+        (noted : (bs : List (BeatOf HeadD C)) → length bs ≡ given → HaveHead b.head bs →
+        KnowsClient client' (s.client_history ++ map Answer bs)) where
       later-d : n ≡ suc j
       later-d = omega (arith, one)
 
@@ -161,7 +171,8 @@ module _ {C M : ℕ} (cw : IsWidth C) (mw : IsWidth M) (a : List (BeatOf HeadA C
 
       new-answers : IsPrefix (far_d a d j) (far_d a d (suc j))
       new-answers =
-          let there : RunIs c_some m_some a d i (suc j) s.client_history (s.manager_history ++ Answer b ∷ []) = run_is c_some m_some a d answered-run in
+          let there : RunIs c_some m_some a d i (suc j) s.client_history (s.manager_history ++ Answer b ∷ []) =
+          run_is c_some m_some a d answered-run in
           rest-of (far_d_grows c_some m_some a d j (suc j) (omega arith) (good c_some m_some a d there.reached).d_fine)
 
       abbrev answered-homes : (k : ℕ) → List ℕ

@@ -1,7 +1,6 @@
 //! A and D, which the books of both sides couple.
-ghost use Rattle.std.specs.Prelude.{◌≡◌, ◌+◌, ◌≤◌, ◌<◌, ◌*◌, ◌^◌, ℕ, None, Some, List, length, slice_get, take, IfOk, IfErr, OnOk, OnErr};
+ghost use Rattle.std.specs.Prelude.{◌≡◌, ◌+◌, ◌≤◌, ◌<◌, ℕ, None, Some, List, length, slice_get, take};
 ghost use Rattle.std.specs.Option.{option_map_or};
-ghost use Rattle.tl_lanes.specs.declared.limits.TheConstants.{WIDEST};
 ghost use Rattle.tl_lanes.specs.Lanes.{IsWidth};
 ghost use Rattle.tl_msg.specs.Tables.{rules_a, rules_d};
 ghost use Rattle.tl_msg.specs.declared.head.HeadA.{HeadA};
@@ -10,7 +9,6 @@ ghost use Rattle.tl_msg.specs.declared.beat.BeatOf.{BeatOf};
 ghost use Rattle.tl_settle.specs.Settling.{stops_a, stops_d};
 ghost use Rattle.tl_burst.specs.Begun.{left};
 ghost use Rattle.tl_settle.specs.Outcomes.{verdict_a, verdict_d, verdict_of};
-ghost use Rattle.tl_sides.specs.Books.{Client, Manager};
 ghost use Rattle.tl_check.specs.Inner.Passing.{AreAt, HasCome, IsWithin, NotesAsks, NotesAnswers};
 ghost use Rattle.tl_run.specs.Parts.{IsEnd, IsPart};
 
@@ -37,91 +35,6 @@ fn note_answers<const C: usize>(book: &mut ClientBook<C>, head: &HeadD, count: u
     for _ in 0..count {
         book.note_answer(head);
     }
-}
-
-// The client's side offers the next beat of A. Where it is accepted, so many far beats are due,
-// which the manager's side has to note; else nothing changes.
-#[inline(always)]
-fn offer_request<const C: usize>(
-    client: &mut ClientBook<C>,
-    beat: &Beat<ChA, C>,
-    asks: &mut Progress<ChA, C>,
-    far_width: usize,
-) -> Result<usize, SideFault>
-    requires { IsWidth C × IsWidth far_width × (asks.old.at < 2 ^ 40) ×
-        (asks.old.far ≤ WIDEST * asks.old.at) }
-    ensures come { (a : List (BeatOf HeadA C)) →
-        HasCome rules_a far_width a asks.old.tracker asks.old.at asks.old.far →
-        slice_get a asks.old.at ≡ Some beat.now →
-        OnOk result (HasCome rules_a far_width a asks.new.tracker asks.new.at asks.new.far) }
-    ensures accepted { (a : List (BeatOf HeadA C)) (d : List (BeatOf HeadD far_width)) (j : ℕ)
-        (manager noted : Manager) →
-        HasCome rules_a far_width a asks.old.tracker asks.old.at asks.old.far →
-        AreAt a d asks.old.at j client.old manager → slice_get a asks.old.at ≡ Some beat.now →
-        IfOk result (λ given. NotesAsks far_width beat.now.head given manager noted →
-        AreAt a d asks.new.at j client.new noted) }
-    ensures stopped { (a : List (BeatOf HeadA C)) (d : List (BeatOf HeadD far_width)) (j : ℕ)
-        (manager : Manager) →
-        HasCome rules_a far_width a asks.old.tracker asks.old.at asks.old.far →
-        AreAt a d asks.old.at j client.old manager → slice_get a asks.old.at ≡ Some beat.now →
-        IfErr result (λ fault. stops_a a d asks.old.at j beat.now ≡ Some fault) }
-    ensures lawful { OnOk result (rules_a.fault beat.now.head ≡ None) }
-    ensures at { OnOk result (asks.new.at ≡ asks.old.at + 1) }
-    ensures few_far { OnOk result (asks.new.far ≤ WIDEST * asks.new.at) }
-    ensures refused { OnErr result ((client.new ≡ client.old) × (asks.new ≡ asks.old)) }
-{
-    let place = match asks.tracker.check(beat) {
-        Ok(place) => place,
-        Err(fault) => return Err(SideFault::Beat(fault)),
-    };
-    if let Err(fault) = client.ask(&place) {
-        return Err(fault);
-    }
-    Ok(asks.accept(place, far_width))
-}
-
-// The manager's side offers the next beat of D. Where it is accepted, so many far beats are due,
-// which the client's side has to note; else nothing changes.
-#[inline(always)]
-fn offer_response<const M: usize>(
-    manager: &mut ManagerBook<M>,
-    beat: &Beat<ChD, M>,
-    answers: &mut Progress<ChD, M>,
-    far_width: usize,
-) -> Result<usize, SideFault>
-    requires { IsWidth M × IsWidth far_width × (answers.old.at < 2 ^ 40) ×
-        (answers.old.far ≤ WIDEST * answers.old.at) }
-    ensures come { (d : List (BeatOf HeadD M)) →
-        HasCome rules_d far_width d answers.old.tracker answers.old.at answers.old.far →
-        slice_get d answers.old.at ≡ Some beat.now →
-        OnOk result (HasCome rules_d far_width d answers.new.tracker answers.new.at
-        answers.new.far) }
-    ensures accepted { (a : List (BeatOf HeadA far_width)) (d : List (BeatOf HeadD M)) (i : ℕ)
-        (client noted : Client) →
-        HasCome rules_d far_width d answers.old.tracker answers.old.at answers.old.far →
-        AreAt a d i answers.old.at client manager.old →
-        slice_get d answers.old.at ≡ Some beat.now →
-        IfOk result (λ given. NotesAnswers far_width beat.now.head given client noted →
-        AreAt a d i answers.new.at noted manager.new) }
-    ensures stopped { (a : List (BeatOf HeadA far_width)) (d : List (BeatOf HeadD M)) (i : ℕ)
-        (client : Client) →
-        HasCome rules_d far_width d answers.old.tracker answers.old.at answers.old.far →
-        AreAt a d i answers.old.at client manager.old →
-        slice_get d answers.old.at ≡ Some beat.now →
-        IfErr result (λ fault. stops_d a d i answers.old.at beat.now ≡ Some fault) }
-    ensures lawful { OnOk result (rules_d.fault beat.now.head ≡ None) }
-    ensures at { OnOk result (answers.new.at ≡ answers.old.at + 1) }
-    ensures few_far { OnOk result (answers.new.far ≤ WIDEST * answers.new.at) }
-    ensures refused { OnErr result ((manager.new ≡ manager.old) × (answers.new ≡ answers.old)) }
-{
-    let place = match answers.tracker.check(beat) {
-        Ok(place) => place,
-        Err(fault) => return Err(SideFault::Beat(fault)),
-    };
-    if let Err(fault) = manager.answer(&place) {
-        return Err(fault);
-    }
-    Ok(answers.accept(place, far_width))
 }
 
 // The client's side offers its beats of A, of which `gone` have gone and these are held, up to the
@@ -152,8 +65,8 @@ fn offer_requests<const C: usize, const M: usize>(
     ensures all { result ≡ None → gone + length beats.now ≤ asks.new.at }
 {
     'beats: while let Some(beat) = beats.get(asks.at - gone) {
-        match offer_request(client, beat, asks, M) {
-            Ok(given) => note_asks(manager, &beat.head, given),
+        match client.admit(asks.tracker.check(beat)) {
+            Ok(place) => note_asks(manager, &beat.head, asks.accept(place, M)),
             Err(fault) => return Some(fault),
         }
     }
@@ -190,8 +103,8 @@ fn offer_responses<const C: usize, const M: usize>(
     ensures all { result ≡ None → gone + length beats.now ≤ answers.new.at }
 {
     'beats: while let Some(beat) = beats.get(answers.at - gone) {
-        match offer_response(manager, beat, answers, C) {
-            Ok(given) => note_answers(client, &beat.head, given),
+        match manager.admit(answers.tracker.check(beat)) {
+            Ok((place, _)) => note_answers(client, &beat.head, answers.accept(place, C)),
             Err(fault) => return Some(fault),
         }
     }

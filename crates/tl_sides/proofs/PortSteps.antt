@@ -1,21 +1,27 @@
 -- What the calls of a side keep.
-use Rattle.std.proofs.Common.{◌≡◌, ◌↔◌, ◌++◌, ◌∷◌, [], ℕ, List, Option, Result, map, take, refl, sym, subst, ap, ◌∙◌, append-nil}
-use Rattle.tl_sides.proofs.Words.{Rules, rules_a, rules_b, rules_c, rules_d, rules_e, HeadA, HeadB, HeadC, HeadD, HeadE, BeatOf, left, IsPlaceOf, homes_with, rest_of, Place, left-zero, Outgoing, HasSent, HasTaken, as_sent, Event, Ask, Answer, asked, answered, manager_home, manager_homes, answered_ask, answered_answer, asked_answer, SideFault}
-use Rattle.tl_sides.specs.Books.{Client, Manager, KnowsClient, KnowsManager, IsNext}
+use Rattle.std.proofs.Common.{◌≡◌, ◌↔◌, ◌++◌, ◌∷◌, [], ℕ, List, Option, Some, Result, Ok, Err, map, take, refl, sym, subst, ap, ◌∙◌, append-nil}
+use Rattle.std.specs.Prelude.{IfOk, IfErr}
+use Rattle.tl_sides.proofs.Words.{Rules, rules_a, rules_b, rules_c, rules_d, rules_e, HeadA, HeadB, HeadC, HeadD, HeadE, BeatOf, left, IsPlaceOf}
+use Rattle.tl_sides.proofs.Words.{fault_after, homes_with, rest_of, Place, left-zero, Outgoing, HasSent, HasTaken, as_sent, Event, Ask, Answer, asked}
+use Rattle.tl_sides.proofs.Words.{answered, manager_home, manager_homes, answered_ask, answered_answer, asked_answer, BeatFault, SideFault}
+use Rattle.tl_sides.specs.Books.{Client, Manager, KnowsClient, KnowsManager, IsChecked}
 use Rattle.tl_sides.proofs.BridgeSteps.{asked_answers, answered_asks, homes_asks, homes_given, home_given}
 use Rattle.tl_sides.specs.Calls.{OffersBeat}
 use Rattle.tl_sides.proofs.Lifting.{offer_lifted}
-use Rattle.tl_sides.specs.Ports.{outbox_sends, port_sends_b, port_sends_c, port_sends_e, Away, Hither, ClientNow, ClientDone, ClientStands, ManagerNow, ManagerDone, ManagerStands, takes}
+use Rattle.tl_sides.specs.Ports.{outbox_sends, port_sends_b, port_sends_c, port_sends_e, Away, Hither, ClientNow, ClientDone, ClientStands}
+use Rattle.tl_sides.specs.Ports.{ManagerNow, ManagerDone, ManagerStands, takes}
 use Rattle.tl_sides.proofs.Draining.{answered-all, asked-all}
 
 -- what an outbox's check says is said of the beats that it accepted
-pub next_in : {K H : Type 0} (r : Rules H) {w v : ℕ} (o : Outgoing H v) (bs : List (BeatOf H w)) (homes : List ℕ) (sent : List (BeatOf H v)) (b : BeatOf H w) (place : Place K H) →
-    HasSent r o bs homes sent → IsPlaceOf r w o.converter.burst b place → IsNext r bs b place
-next_in {H = H} r {w} o bs homes sent b place h is =
+pub checked_in : {K H : Type 0} (r : Rules H) {w v : ℕ} (o : Outgoing H v) (bs : List (BeatOf H w)) (homes : List ℕ) (sent : List (BeatOf H v))
+    (b : BeatOf H w) (checked : Result (Place K H) BeatFault) → HasSent r o bs homes sent → IfOk checked (IsPlaceOf r w o.converter.burst b) →
+    IfErr checked (λ fault. fault_after r bs b ≡ Some fault) → IsChecked r bs b checked
+checked_in r o bs homes sent b (Err fault) h is stops = record { place = tt; fault = stops }
+checked_in {H = H} r {w} o bs homes sent b (Ok place) h is stops =
     let (ms, rest, handed) = h.converter.handed in
     let P : Option (H × ℕ) → Type 0 = λ burst. IsPlaceOf r w burst b place in record {
-      handed = record { homes = homes; messages = ms; rest = rest; handed = handed };
-      is_place = subst P h.converter.burst_is is;
+      place = record { handed = record { homes = homes; messages = ms; rest = rest; handed = handed }; is_place = subst P h.converter.burst_is is };
+      fault = tt;
     }
 
 -- where nothing of a message is left, the next beat begins one
@@ -30,7 +36,8 @@ pub answered_with : {C M : ℕ} (es : List (Event M)) (o o' : Outgoing HeadD C) 
     HasSent rules_d o' (answered (es ++ Answer b ∷ [])) (manager_homes (es ++ Answer b ∷ [])) sent
 answered_with {C} {M} es o o' sent b home h right h' =
     let between = between_of rules_d o (answered es) (manager_homes es) sent h in
-    let same = ap (λ y. y.homes) (home_given (as_sent {w = M} 1 o (answered es) (manager_homes es) sent) b home (manager_home es b.head) between right) in
+    let same = ap (λ y. y.homes) (home_given (as_sent {w = M} 1 o (answered es) (manager_homes es) sent) b home (manager_home es b.head)
+    between right) in
     let given = homes_given es b (answered es) (manager_homes es) between refl refl in
     subst (λ q. HasSent rules_d o' q (manager_homes (es ++ Answer b ∷ [])) sent) (sym (answered_answer es b))
     (subst (λ q. HasSent rules_d o' (answered es ++ b ∷ []) q sent) (same ∙ sym given) h')
@@ -134,7 +141,8 @@ module _ {C M : ℕ} (s : ManagerNow C M) (x : ManagerDone C M) (h : ManagerStan
         a = subst (λ q. HasTaken a x.a_received q) (sym (asked-all x.history (take 1 s.a))) taken;
         b = h.b;
         c = h.c;
-        d = subst (λ q. HasSent rules_d s.d q (manager_homes more) x.d_sent) same (subst (λ q. HasSent rules_d s.d (answered x.history) q x.d_sent) homes h.d);
+        d = subst (λ q. HasSent rules_d s.d q (manager_homes more) x.d_sent) same
+            (subst (λ q. HasSent rules_d s.d (answered x.history) q x.d_sent) homes h.d);
         e = h.e;
         book = knows;
       }
@@ -150,18 +158,25 @@ module _ {C M : ℕ} (s : ManagerNow C M) (x : ManagerDone C M) (h : ManagerStan
         a = h.a ∙ sym (asked-all x.history s.a) ∙ sym (append-nil (asked more));
         b = h.b;
         c = h.c ∙ sym (append-nil (x.c.taken ++ s.c));
-        d = subst (λ q. HasSent rules_d s.d q (manager_homes more) x.d_sent) same (subst (λ q. HasSent rules_d s.d (answered x.history) q x.d_sent) homes h.d);
+        d = subst (λ q. HasSent rules_d s.d q (manager_homes more) x.d_sent) same
+            (subst (λ q. HasSent rules_d s.d (answered x.history) q x.d_sent) homes h.d);
         e = h.e ∙ sym (append-nil (x.e.taken ++ s.e));
         book = knows;
       }
 
 -- an offer to an outbox is one to its port
 module _ {C M : ℕ} {r : Result (Unit {0}) SideFault} where
-  pub port_offers_b : (s : ManagerNow C M) (b : BeatOf HeadB M) (o : Outgoing HeadB C) → OffersBeat (outbox_sends rules_b) b s.b r o → OffersBeat port_sends_b b s r (record s { b = o })
-  port_offers_b s b o = offer_lifted (outbox_sends rules_b) port_sends_b (λ z. record s { b = z }) (λ x. x.b) s.b o (λ x h. h.b) b r (λ x. refl) (λ k. (refl, k.1)) (λ x h k. manager_b s x h o _)
+  pub port_offers_b : (s : ManagerNow C M) (b : BeatOf HeadB M) (o : Outgoing HeadB C) → OffersBeat (outbox_sends rules_b) b s.b r o →
+      OffersBeat port_sends_b b s r (record s { b = o })
+  port_offers_b s b o = offer_lifted (outbox_sends rules_b) port_sends_b (λ z. record s { b = z }) (λ x. x.b) s.b o (λ x h. h.b) b r (λ x. refl)
+      (λ k. (refl, k.1)) (λ x h k. manager_b s x h o _)
 
-  pub port_offers_c : (s : ClientNow C M) (b : BeatOf HeadC C) (o : Outgoing HeadC M) → OffersBeat (outbox_sends rules_c) b s.c r o → OffersBeat port_sends_c b s r (record s { c = o })
-  port_offers_c s b o = offer_lifted (outbox_sends rules_c) port_sends_c (λ z. record s { c = z }) (λ x. x.c) s.c o (λ x h. h.c) b r (λ x. refl) (λ k. (refl, k.1)) (λ x h k. client_c s x h o _)
+  pub port_offers_c : (s : ClientNow C M) (b : BeatOf HeadC C) (o : Outgoing HeadC M) → OffersBeat (outbox_sends rules_c) b s.c r o →
+      OffersBeat port_sends_c b s r (record s { c = o })
+  port_offers_c s b o = offer_lifted (outbox_sends rules_c) port_sends_c (λ z. record s { c = z }) (λ x. x.c) s.c o (λ x h. h.c) b r (λ x. refl)
+      (λ k. (refl, k.1)) (λ x h k. client_c s x h o _)
 
-  pub port_offers_e : (s : ClientNow C M) (b : BeatOf HeadE C) (o : Outgoing HeadE M) → OffersBeat (outbox_sends rules_e) b s.e r o → OffersBeat port_sends_e b s r (record s { e = o })
-  port_offers_e s b o = offer_lifted (outbox_sends rules_e) port_sends_e (λ z. record s { e = z }) (λ x. x.e) s.e o (λ x h. h.e) b r (λ x. refl) (λ k. (refl, k.1)) (λ x h k. client_e s x h o _)
+  pub port_offers_e : (s : ClientNow C M) (b : BeatOf HeadE C) (o : Outgoing HeadE M) → OffersBeat (outbox_sends rules_e) b s.e r o →
+      OffersBeat port_sends_e b s r (record s { e = o })
+  port_offers_e s b o = offer_lifted (outbox_sends rules_e) port_sends_e (λ z. record s { e = z }) (λ x. x.e) s.e o (λ x h. h.e) b r (λ x. refl)
+      (λ k. (refl, k.1)) (λ x h k. client_e s x h o _)

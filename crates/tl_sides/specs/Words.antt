@@ -13,6 +13,7 @@ pub use Rattle.tl_msg.specs.declared.channel.ChB.{ChB}
 pub use Rattle.tl_msg.specs.declared.channel.ChC.{ChC}
 pub use Rattle.tl_msg.specs.declared.channel.ChD.{ChD}
 pub use Rattle.tl_msg.specs.declared.channel.ChE.{ChE}
+pub use Rattle.tl_msg.specs.declared.fault.BeatFault.{BeatFault}
 pub use Rattle.tl_msg.specs.declared.fault.SideFault.{SideFault}
 pub use Rattle.tl_msg.specs.declared.fault.SideFault.TheVariants.{Beat}
 pub use Rattle.tl_msg.specs.declared.head.HeadA.{HeadA}

@@ -1,6 +1,6 @@
 //! What each side of the bridge knows: its book, kept up to the history of its own beats of A and
 //! D.
-ghost use Rattle.std.specs.Prelude.{◌≡◌, ◌↔◌, ◌++◌, ◌∷◌, [], List, true, false, cond, Some, None, IsOk, IfOk, IfErr, OnOk, OnErr};
+ghost use Rattle.std.specs.Prelude.{◌≡◌, ◌++◌, ◌∷◌, [], List, Ok, true, false, cond, Some, None, IfOk, IfErr};
 ghost use Rattle.std.specs.Option.{is_some};
 ghost use Rattle.tl_lanes.specs.Lanes.{IsWidth};
 ghost use Rattle.tl_msg.specs.Tables.{rules_a, rules_d};
@@ -9,16 +9,16 @@ ghost use Rattle.tl_msg.specs.declared.head.HeadD.{HeadD};
 ghost use Rattle.tl_msg.specs.declared.beat.BeatOf.{BeatOf};
 ghost use Rattle.tl_burst.specs.Begun.{left};
 ghost use Rattle.tl_settle.specs.Requests.{is_release_ack};
-ghost use Rattle.tl_settle.specs.Histories.{Event, Ask, Answer, Mark, Asks, Answers, asked, answered, client_answer, manager_answer, manager_home, open_request, home_after};
+ghost use Rattle.tl_settle.specs.Histories.{Event, Ask, Answer, Mark, Asks, Answers, answered, manager_home, open_request, home_after};
 ghost use Rattle.tl_sides.specs.Tables.{AreBusy, AreOpen};
-ghost use Rattle.tl_sides.specs.Books.{KnowsClient, KnowsManager, IsNext};
+ghost use Rattle.tl_sides.specs.Books.{KnowsClient, KnowsManager, IsChecked, Admits, client_decides, manager_decides};
 ghost use Rattle.tl_sides.specs.Inner.Noting.{begun_with, stops_response};
 
 use crate::tables::{Request, RequestTable, SourceTable};
 use std::alloc::{Allocator, Global};
 use std::marker::Model;
 use tl_burst::{BurstCounter, Place};
-use tl_msg::{ChA, ChD, HeadA, HeadD, OutOfMemory, SideFault};
+use tl_msg::{BeatFault, ChA, ChD, HeadA, HeadD, OutOfMemory, SideFault};
 
 /// The opcode of ReleaseAck, which answers a message of channel C, and no request (TileLink: opcode
 /// tables).
@@ -57,29 +57,25 @@ impl<const C: usize, A: Allocator> ClientBook<C, A> {
         })
     }
 
-    /// Asks whether a beat of A may go that has no fault of its own and stands at this place, and
-    /// notes it where it may. It is refused with `SourceBusy` exactly where it opens a message and
-    /// its source is busy, and nothing changes then.
-    pub fn ask(&mut self, place: &Place<ChA>) -> Result<(), SideFault>
-        // for every history that the book knows
-        ensures admitted { (es : List (Event C)) (b : BeatOf HeadA C) → KnowsClient self.old es →
-            IsNext rules_a (asked es) b place.now →
-            IsOk result ↔ (client_answer es b ≡ None) }
-        ensures noted { (es : List (Event C)) (b : BeatOf HeadA C) → KnowsClient self.old es →
-            IsNext rules_a (asked es) b place.now →
-            OnOk result (KnowsClient self.new (es ++ Ask b ∷ [])) }
-        ensures fault { (es : List (Event C)) (b : BeatOf HeadA C) → KnowsClient self.old es →
-            IsNext rules_a (asked es) b place.now →
-            IfErr result (λ fault. client_answer es b ≡ Some fault) }
-        // for every book
-        ensures refused { OnErr result (self.new ≡ self.old) }
+    /// Whether a beat of A may go, by what its tracker says of it, and where it stands then. The book notes it. It is refused
+    /// with the beat's own fault, else, where it opens a message, with `SourceBusy` exactly where its source is busy, and
+    /// nothing changes then.
+    // inlined, as the check whose wide answer it reads
+    #[inline(always)]
+    pub fn admit(&mut self, checked: Result<Place<ChA>, BeatFault>) -> Result<Place<ChA>, SideFault>
+        ensures admits { Admits {w = C} client_decides checked self.old result self.new }
+        ensures place { IfOk result (λ place. checked ≡ Ok place) }
     {
+        let place = match checked {
+            Ok(place) => place,
+            Err(fault) => return Err(SideFault::Beat(fault)),
+        };
         let first = place.index == 0;
         if is_taken(&self.sources, &place.head, first) {
             return Err(SideFault::SourceBusy);
         }
         note_asked(&mut self.sources, &place.head, first);
-        Ok(())
+        Ok(place)
     }
 
     /// Notes that the side takes a beat of D with this head, which no fault of its own stops.
@@ -130,36 +126,31 @@ impl<const M: usize, A: Allocator> ManagerBook<M, A> {
         })
     }
 
-    /// Asks whether a beat of D may go that has no fault of its own and stands at this place, and
-    /// notes it where it may. Where it opens a message, the answer is the message's home: the
-    /// address of its request in bytes, and 0 for ReleaseAck. It is refused with `NoRequest`
-    /// exactly where it opens a message other than ReleaseAck and its source has no open request,
-    /// with `SizeMismatch` exactly where that request has another size, and nothing changes then.
-    pub fn answer(&mut self, place: &Place<ChD>) -> Result<u64, SideFault>
+    /// Whether a beat of D may go, by what its tracker says of it, and then where it stands and, where it opens a message, the
+    /// message's home: the address of its request in bytes, and 0 for ReleaseAck. The book notes it. It is refused with the
+    /// beat's own fault, else, where it opens a message other than ReleaseAck, with `NoRequest` exactly where its source has no
+    /// open request, with `SizeMismatch` exactly where that request has another size, and nothing changes then.
+    // inlined, as the check whose wide answer it reads
+    #[inline(always)]
+    pub fn admit(
+        &mut self,
+        checked: Result<Place<ChD>, BeatFault>,
+    ) -> Result<(Place<ChD>, u64), SideFault>
+        ensures admits { Admits {w = M} manager_decides checked self.old result self.new }
+        ensures place { IfOk result (λ given. checked ≡ Ok given.0) }
         // for every history that the book knows
-        ensures admitted { (es : List (Event M)) (b : BeatOf HeadD M) → KnowsManager self.old es →
-            IsNext rules_d (answered es) b place.now →
-            IsOk result ↔ (manager_answer es b ≡ None) }
-        ensures noted { (es : List (Event M)) (b : BeatOf HeadD M) → KnowsManager self.old es →
-            IsNext rules_d (answered es) b place.now →
-            OnOk result (KnowsManager self.new (es ++ Answer b ∷ [])) }
         ensures home { (es : List (Event M)) (b : BeatOf HeadD M) → KnowsManager self.old es →
-            IsNext rules_d (answered es) b place.now →
-            left rules_d M (answered es) ≡ 0 → IfOk result (λ home. home ≡ manager_home es b.head) }
-        ensures fault { (es : List (Event M)) (b : BeatOf HeadD M) → KnowsManager self.old es →
-            IsNext rules_d (answered es) b place.now →
-            IfErr result (λ fault. manager_answer es b ≡ Some fault) }
-        // for every book
-        ensures refused { OnErr result (self.new ≡ self.old) }
+            IsChecked rules_d (answered es) b checked → left rules_d M (answered es) ≡ 0 →
+            IfOk result (λ given. given.1 ≡ manager_home es b.head) }
     {
+        let place = match checked {
+            Ok(place) => place,
+            Err(fault) => return Err(SideFault::Beat(fault)),
+        };
         let first = place.index == 0;
-        match ask_for_home(&self.requests, &place.head, first) {
-            Ok(home) => {
-                note_response(&mut self.requests, &place.head, first);
-                Ok(home)
-            }
-            Err(fault) => Err(fault),
-        }
+        let home = given!(ask_for_home(&self.requests, &place.head, first));
+        note_response(&mut self.requests, &place.head, first);
+        Ok((place, home))
     }
 
     /// Notes that the side takes a beat of A with this head, which no fault of its own stops.

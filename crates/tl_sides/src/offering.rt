@@ -37,11 +37,7 @@ pub(crate) fn offer_request<const C: usize, const M: usize, A: Allocator>(
         OffersBeat port_sends_a beat.now (record s { a = outbox.old; book = book.old }) result
         (record s { a = outbox.new; book = book.new }) }
 {
-    let place = match outbox.check(beat) {
-        Ok(place) => place,
-        Err(fault) => return Err(SideFault::Beat(fault)),
-    };
-    given!(book.ask(&place));
+    let place = given!(book.admit(outbox.check(beat)));
     outbox.offer_at(beat, place, 0);
     Ok(())
 }
@@ -58,11 +54,7 @@ pub(crate) fn offer_response<const C: usize, const M: usize, A: Allocator>(
         OffersBeat port_sends_d beat.now (record s { d = outbox.old; book = book.old }) result
         (record s { d = outbox.new; book = book.new }) }
 {
-    let place = match outbox.check(beat) {
-        Ok(place) => place,
-        Err(fault) => return Err(SideFault::Beat(fault)),
-    };
-    let home = given!(book.answer(&place));
+    let (place, home) = given!(book.admit(outbox.check(beat)));
     outbox.offer_at(beat, place, home);
     Ok(())
 }

@@ -1,35 +1,105 @@
-use Rattle.tl_check.proofs.Names.{lit<, ◌-◌, None, length, sym, ap, option_map_or, slice_get_past, slice_get_within, stops_a, read_some, end-past}
-use Rattle.tl_check.proofs.Names.{part-get, part-of, beat_small}
+use Rattle.tl_check.proofs.Names.{lit<, ◌≡◌, ◌-◌, None, length, take, refl, sym, ap, subst, ◌∙◌, arith}
+use Rattle.tl_check.proofs.Names.{IsOk, IfOk, IsPlace, option_map_or, slice_get_past, slice_get_within}
+use Rattle.tl_check.proofs.Names.{rules_a, stops_a, AreAt, read_some, end-past, part-get, part-of, beat_small}
 use Rattle.tl_check.proofs.Ends.{stopped-at}
 use Rattle.tl_check.proofs.Parts.{low, none-left, steps}
+use Rattle.tl_check.proofs.Passing.{says-after}
+use Rattle.tl_check.proofs.Steps.{ask-accepted, ask-checked, ask-stops}
 use Rattle.tl_check.proofs.coupled.offer_requests.Goals as goal
+
+pub beats-init : goal.beats-init
+beats-init g c = record { within = c.requires.2; come = λ a part was. was; accepted = λ a d j part was start. start }
+
+pub check-requires : goal.check-requires
+check-requires g c = (lit< tt, (beat_small g.row.C c.requires.0, c.requires.0))
+
+pub accept-requires : goal.accept-requires
+accept-requires g c =
+    let asks = c.beats.asks in
+    let here = c.beats.invariant.within in
+    let held = read_some c.args.beats.now (asks.at - c.args.gone) c.in-Some.beat.now c.in-Some.ensures.lookup.0 c.in-Some.ensures.lookup.1 in
+    let within = slice_get_within c.args.beats.now (asks.at - c.args.gone) c.in-Some.beat.now held in (
+      lit< tt,
+      (
+        c.requires.0,
+        c.requires.1,
+        subst (λ q. IfOk q (IsPlace rules_a g.row.C asks.tracker)) c.in-Ok.ensures.place c.check.ensures.place,
+        low c.args.gone asks.at asks.far (length c.args.beats.now) here within,
+        here.few_far,
+      ),
+    )
+
+pub note_asks-requires : goal.note_asks-requires
+note_asks-requires g c =
+    let place = subst (λ q. IfOk q (IsPlace rules_a g.row.C c.beats.asks.tracker)) c.in-Ok.ensures.place c.check.ensures.place in
+    let head = subst (λ q. IfOk q (λ place. place.head ≡ c.in-Some.beat.now.head)) c.in-Ok.ensures.place c.check.ensures.head in
+    (lit< tt, (c.requires.1, ap (λ h. rules_a.fault h) (sym head) ∙ place.lawful))
 
 pub beats-preserved : goal.beats-preserved
 beats-preserved g c =
-    let at = c.beats.asks.at - c.args.gone in
+    let asks = c.beats.asks in
+    let beat = c.in-Some.beat.now in
     let here = c.beats.invariant.within in
-    let next = read_some c.args.beats.now at c.in-Some.beat.now c.in-Some.ensures.lookup.0 c.in-Some.ensures.lookup.1 in
-    let offered = c.in-Ok.ensures in
+    let held = read_some c.args.beats.now (asks.at - c.args.gone) beat c.in-Some.ensures.lookup.0 c.in-Some.ensures.lookup.1 in
+    let ok = subst (λ q. IsOk q) (sym c.in-Ok.ensures.place) refl in
+    let fine = c.check.ensures.accepts.0 ok in
+    let head = subst (λ q. IfOk q (λ place. place.head ≡ beat.head)) c.in-Ok.ensures.place c.check.ensures.head in
     record {
-      within = steps c.args.gone c.beats.asks.at c.beats.asks.far (length c.args.beats.now) c.offer_request.new.asks.at c.offer_request.new.asks.far here
-          (slice_get_within c.args.beats.now at c.in-Some.beat.now next) offered.at offered.few_far;
+      within = steps c.args.gone asks.at asks.far (length c.args.beats.now) c.accept.new.self.at c.accept.new.self.far here
+          (slice_get_within c.args.beats.now (asks.at - c.args.gone) beat held) c.accept.ensures.at c.accept.ensures.few_far;
       come = λ a part was.
-          offered.come a (c.beats.invariant.come a part was) (part-get c.args.gone c.beats.asks.at c.args.beats.now a part here.from c.in-Some.beat.now next);
+          let come = c.beats.invariant.come a part was in
+          c.accept.ensures.come a beat come (part-get c.args.gone asks.at c.args.beats.now a part here.from beat held) head fine
+          ((c.check.ensures.admitted (take asks.at a) come.handed come.burst_is).0 ok);
       accepted = λ a d j part was start.
-          offered.accepted a d j c.beats.manager c.note_asks.new.book (c.beats.invariant.come a part was) (c.beats.invariant.accepted a d j part was start)
-          (part-get c.args.gone c.beats.asks.at c.args.beats.now a part here.from c.in-Some.beat.now next) c.note_asks.ensures;
+          let come = c.beats.invariant.come a part was in
+          let s = c.beats.invariant.accepted a d j part was start in
+          let next = part-get c.args.gone asks.at c.args.beats.now a part here.from beat held in
+          let after = c.accept.ensures.come a beat come next head fine
+          ((c.check.ensures.admitted (take asks.at a) come.handed come.burst_is).0 ok) in
+          let checked = ask-checked c.requires.0 c.requires.1 a d asks.at j c.beats.client c.beats.manager s beat asks.tracker asks.far c.check.result
+          come
+          c.check.ensures.accepts c.check.ensures.fault c.check.ensures.head c.check.ensures.place in
+          ask-accepted c.requires.0 c.requires.1 a d asks.at j c.beats.client c.beats.manager s beat next
+          ((c.in-Ok.ensures.admits.admitted s.client_history beat s.client_knows checked).0 refl)
+          (says-after rules_a a asks.tracker asks.at asks.far come beat next None fine)
+          asks.tracker c.accept.new.self.tracker asks.far c.accept.new.self.at c.accept.new.self.far c.accept.result
+          c.accept.ensures.at c.accept.ensures.far come after
+          c.admit.new.self (c.in-Ok.ensures.admits.noted s.client_history beat s.client_knows checked) c.note_asks.new.book
+          (λ bs count heads. c.note_asks.ensures s.manager_history bs s.manager_knows count heads);
     }
+
+pub beats-smaller : goal.beats-smaller
+beats-smaller g c =
+    let asks = c.beats.asks in
+    let held = read_some c.args.beats.now (asks.at - c.args.gone) c.in-Some.beat.now c.in-Some.ensures.lookup.0 c.in-Some.ensures.lookup.1 in
+    let within = slice_get_within c.args.beats.now (asks.at - c.args.gone) c.in-Some.beat.now held in
+    omega (arith, c.beats.invariant.within.from, within, c.accept.ensures.at)
+
+pub returns-in-Err-clause-within : goal.returns-in-Err-clause-within
+returns-in-Err-clause-within g c = c.beats.invariant.within
+
+pub returns-in-Err-clause-come : goal.returns-in-Err-clause-come
+returns-in-Err-clause-come g c = c.beats.invariant.come
+
+pub returns-in-Err-clause-accepted : goal.returns-in-Err-clause-accepted
+returns-in-Err-clause-accepted g c = λ a d j part was start.
+    subst (λ client. AreAt a d c.beats.asks.at j client c.beats.manager) (sym c.in-Err.ensures.admits.refused)
+    (c.beats.invariant.accepted a d j part was start)
 
 pub returns-in-Err-clause-stopped : goal.returns-in-Err-clause-stopped
 returns-in-Err-clause-stopped g c = λ a d j end was start.
-    let at = c.beats.asks.at - c.args.gone in
-    let here = c.beats.invariant.within in
-    let part = part-of c.args.gone c.beats.asks.at c.args.beats.now a end in
-    let held = read_some c.args.beats.now at c.in-Some.beat.now c.in-Some.ensures.lookup.0 c.in-Some.ensures.lookup.1 in
-    let next = part-get c.args.gone c.beats.asks.at c.args.beats.now a part here.from c.in-Some.beat.now held in
-    stopped-at (λ n b. stops_a a d n j b) a c.beats.asks.at c.offer_request.new.asks.at c.in-Some.beat.now c.in-Err.fault
-    (ap (λ q. q.at) c.in-Err.ensures.refused.1) next
-    (c.in-Err.ensures.stopped a d j c.beats.manager (c.beats.invariant.come a part was) (c.beats.invariant.accepted a d j part was start) next)
+    let asks = c.beats.asks in
+    let beat = c.in-Some.beat.now in
+    let part = part-of c.args.gone asks.at c.args.beats.now a end in
+    let held = read_some c.args.beats.now (asks.at - c.args.gone) beat c.in-Some.ensures.lookup.0 c.in-Some.ensures.lookup.1 in
+    let next = part-get c.args.gone asks.at c.args.beats.now a part c.beats.invariant.within.from beat held in
+    let s = c.beats.invariant.accepted a d j part was start in
+    let checked = ask-checked c.requires.0 c.requires.1 a d asks.at j c.beats.client c.beats.manager s beat asks.tracker asks.far c.check.result
+    (c.beats.invariant.come a part was) c.check.ensures.accepts c.check.ensures.fault c.check.ensures.head c.check.ensures.place in
+    stopped-at (λ b. stops_a a d asks.at j b) a asks.at beat c.in-Err.fault next
+    (ask-stops c.requires.0 c.requires.1 a d asks.at j c.beats.client c.beats.manager s beat c.in-Err.fault
+    (c.in-Err.ensures.admits.fault s.client_history beat s.client_knows checked))
 
 pub returns-clause-all : goal.returns-clause-all
 returns-clause-all g c = λ _. none-left c.args.gone c.beats.asks.at c.args.beats.now c.in_default.ensures.lookup.0 c.beats.invariant.within
@@ -39,30 +109,3 @@ returns-clause-stopped g c = λ a d j end was start.
     let past = none-left c.args.gone c.beats.asks.at c.args.beats.now c.in_default.ensures.lookup.0 c.beats.invariant.within in
     sym (ap (λ o. option_map_or (λ b. stops_a a d c.beats.asks.at j b) o None)
     (slice_get_past a c.beats.asks.at (end-past c.args.gone c.beats.asks.at c.args.beats.now a end past)))
-
-pub beats-init : goal.beats-init
-beats-init g c = record { within = c.requires.2; come = λ a part was. was; accepted = λ a d j part was start. start }
-
-pub offer_request-requires : goal.offer_request-requires
-offer_request-requires g c =
-    let at = c.beats.asks.at - c.args.gone in
-    let here = c.beats.invariant.within in
-    let next = read_some c.args.beats.now at c.in-Some.beat.now c.in-Some.ensures.lookup.0 c.in-Some.ensures.lookup.1 in
-    let within = slice_get_within c.args.beats.now at c.in-Some.beat.now next in (
-      lit< tt,
-      (
-        beat_small g.row.C c.requires.0,
-        (
-          lit< tt,
-          (
-            c.requires.0,
-            c.requires.1,
-            low c.args.gone c.beats.asks.at c.beats.asks.far (length c.args.beats.now) here within,
-            here.few_far,
-          ),
-        ),
-      ),
-    )
-
-pub note_asks-requires : goal.note_asks-requires
-note_asks-requires g c = (lit< tt, (c.requires.1, c.in-Ok.ensures.lawful))

@@ -1,36 +1,110 @@
-use Rattle.tl_check.proofs.Names.{lit<, ◌-◌, None, length, sym, ap, arith, option_map_or, slice_get_past, slice_get_within, stops_d, read_some}
-use Rattle.tl_check.proofs.Names.{end-past, part-get, part-of, beat_small}
+use Rattle.tl_check.proofs.Names.{lit<, ◌≡◌, ◌-◌, None, length, take, refl, sym, ap, subst, ◌∙◌, arith}
+use Rattle.tl_check.proofs.Names.{IsOk, IfOk, IsPlace, option_map_or, slice_get_past, slice_get_within}
+use Rattle.tl_check.proofs.Names.{rules_d, stops_d, AreAt, read_some, end-past, part-get, part-of, beat_small}
 use Rattle.tl_check.proofs.Ends.{stopped-at}
 use Rattle.tl_check.proofs.Parts.{low, none-left, steps}
+use Rattle.tl_check.proofs.Passing.{says-after}
+use Rattle.tl_check.proofs.Steps.{answer-accepted, answer-checked, answer-stops}
 use Rattle.tl_check.proofs.coupled.offer_responses.Goals as goal
+
+pub beats-init : goal.beats-init
+beats-init g c = record { within = c.requires.2; on = omega arith; come = λ d part was. was; accepted = λ a d i part was start. start }
+
+pub check-requires : goal.check-requires
+check-requires g c = (lit< tt, (beat_small g.row.M c.requires.1, c.requires.1))
+
+pub accept-requires : goal.accept-requires
+accept-requires g c =
+    let answers = c.beats.answers in
+    let here = c.beats.invariant.within in
+    let held = read_some c.args.beats.now (answers.at - c.args.gone) c.in-Some.beat.now c.in-Some.ensures.lookup.0 c.in-Some.ensures.lookup.1 in
+    let within = slice_get_within c.args.beats.now (answers.at - c.args.gone) c.in-Some.beat.now held in (
+      lit< tt,
+      (
+        c.requires.1,
+        c.requires.0,
+        subst (λ q. IfOk q (IsPlace rules_d g.row.M answers.tracker)) c.in-Ok.ensures.place c.check.ensures.place,
+        low c.args.gone answers.at answers.far (length c.args.beats.now) here within,
+        here.few_far,
+      ),
+    )
+
+pub note_answers-requires : goal.note_answers-requires
+note_answers-requires g c =
+    let place = subst (λ q. IfOk q (IsPlace rules_d g.row.M c.beats.answers.tracker)) c.in-Ok.ensures.place c.check.ensures.place in
+    let head = subst (λ q. IfOk q (λ place. place.head ≡ c.in-Some.beat.now.head)) c.in-Ok.ensures.place c.check.ensures.head in
+    (lit< tt, (c.requires.0, ap (λ h. rules_d.fault h) (sym head) ∙ place.lawful))
 
 pub beats-preserved : goal.beats-preserved
 beats-preserved g c =
-    let at = c.beats.answers.at - c.args.gone in
+    let answers = c.beats.answers in
+    let beat = c.in-Some.beat.now in
     let here = c.beats.invariant.within in
-    let next = read_some c.args.beats.now at c.in-Some.beat.now c.in-Some.ensures.lookup.0 c.in-Some.ensures.lookup.1 in
-    let offered = c.in-Ok.ensures in
+    let held = read_some c.args.beats.now (answers.at - c.args.gone) beat c.in-Some.ensures.lookup.0 c.in-Some.ensures.lookup.1 in
+    let ok = subst (λ q. IsOk q) (sym c.in-Ok.ensures.place) refl in
+    let fine = c.check.ensures.accepts.0 ok in
+    let head = subst (λ q. IfOk q (λ place. place.head ≡ beat.head)) c.in-Ok.ensures.place c.check.ensures.head in
     record {
-      within = steps c.args.gone c.beats.answers.at c.beats.answers.far (length c.args.beats.now) c.offer_response.new.answers.at c.offer_response.new.answers.far here
-          (slice_get_within c.args.beats.now at c.in-Some.beat.now next) offered.at offered.few_far;
-      on = omega (arith, c.beats.invariant.on, c.in-Ok.ensures.at);
+      within = steps c.args.gone answers.at answers.far (length c.args.beats.now) c.accept.new.self.at c.accept.new.self.far here
+          (slice_get_within c.args.beats.now (answers.at - c.args.gone) beat held) c.accept.ensures.at c.accept.ensures.few_far;
+      on = omega (arith, c.beats.invariant.on, c.accept.ensures.at);
       come = λ d part was.
-          offered.come d (c.beats.invariant.come d part was) (part-get c.args.gone c.beats.answers.at c.args.beats.now d part here.from c.in-Some.beat.now next);
+          let come = c.beats.invariant.come d part was in
+          c.accept.ensures.come d beat come (part-get c.args.gone answers.at c.args.beats.now d part here.from beat held) head fine
+          ((c.check.ensures.admitted (take answers.at d) come.handed come.burst_is).0 ok);
       accepted = λ a d i part was start.
-          offered.accepted a d i c.beats.client c.note_answers.new.book (c.beats.invariant.come d part was) (c.beats.invariant.accepted a d i part was start)
-          (part-get c.args.gone c.beats.answers.at c.args.beats.now d part here.from c.in-Some.beat.now next) c.note_answers.ensures;
+          let come = c.beats.invariant.come d part was in
+          let s = c.beats.invariant.accepted a d i part was start in
+          let next = part-get c.args.gone answers.at c.args.beats.now d part here.from beat held in
+          let after = c.accept.ensures.come d beat come next head fine
+          ((c.check.ensures.admitted (take answers.at d) come.handed come.burst_is).0 ok) in
+          let checked = answer-checked c.requires.0 c.requires.1 a d i answers.at c.beats.client c.beats.manager s beat answers.tracker answers.far
+          c.check.result come
+          c.check.ensures.accepts c.check.ensures.fault c.check.ensures.head c.check.ensures.place in
+          answer-accepted c.requires.0 c.requires.1 a d i answers.at c.beats.client c.beats.manager s beat next
+          ((c.in-Ok.ensures.admits.admitted s.manager_history beat s.manager_knows checked).0 refl)
+          (says-after rules_d d answers.tracker answers.at answers.far come beat next None fine)
+          answers.tracker c.accept.new.self.tracker answers.far c.accept.new.self.at c.accept.new.self.far c.accept.result
+          c.accept.ensures.at c.accept.ensures.far come after
+          c.admit.new.self (c.in-Ok.ensures.admits.noted s.manager_history beat s.manager_knows checked) c.note_answers.new.book
+          (λ bs count heads. c.note_answers.ensures s.client_history bs s.client_knows count heads);
     }
+
+pub beats-smaller : goal.beats-smaller
+beats-smaller g c =
+    let answers = c.beats.answers in
+    let held = read_some c.args.beats.now (answers.at - c.args.gone) c.in-Some.beat.now c.in-Some.ensures.lookup.0 c.in-Some.ensures.lookup.1 in
+    let within = slice_get_within c.args.beats.now (answers.at - c.args.gone) c.in-Some.beat.now held in
+    omega (arith, c.beats.invariant.within.from, within, c.accept.ensures.at)
+
+pub returns-in-Err-clause-within : goal.returns-in-Err-clause-within
+returns-in-Err-clause-within g c = c.beats.invariant.within
+
+pub returns-in-Err-clause-on : goal.returns-in-Err-clause-on
+returns-in-Err-clause-on g c = c.beats.invariant.on
+
+pub returns-in-Err-clause-come : goal.returns-in-Err-clause-come
+returns-in-Err-clause-come g c = c.beats.invariant.come
+
+pub returns-in-Err-clause-accepted : goal.returns-in-Err-clause-accepted
+returns-in-Err-clause-accepted g c = λ a d i part was start.
+    subst (λ manager. AreAt a d i c.beats.answers.at c.beats.client manager) (sym c.in-Err.ensures.admits.refused)
+    (c.beats.invariant.accepted a d i part was start)
 
 pub returns-in-Err-clause-stopped : goal.returns-in-Err-clause-stopped
 returns-in-Err-clause-stopped g c = λ a d i end was start.
-    let at = c.beats.answers.at - c.args.gone in
-    let here = c.beats.invariant.within in
-    let part = part-of c.args.gone c.beats.answers.at c.args.beats.now d end in
-    let held = read_some c.args.beats.now at c.in-Some.beat.now c.in-Some.ensures.lookup.0 c.in-Some.ensures.lookup.1 in
-    let next = part-get c.args.gone c.beats.answers.at c.args.beats.now d part here.from c.in-Some.beat.now held in
-    stopped-at (λ n b. stops_d a d i n b) d c.beats.answers.at c.offer_response.new.answers.at c.in-Some.beat.now c.in-Err.fault
-    (ap (λ q. q.at) c.in-Err.ensures.refused.1) next
-    (c.in-Err.ensures.stopped a d i c.beats.client (c.beats.invariant.come d part was) (c.beats.invariant.accepted a d i part was start) next)
+    let answers = c.beats.answers in
+    let beat = c.in-Some.beat.now in
+    let part = part-of c.args.gone answers.at c.args.beats.now d end in
+    let held = read_some c.args.beats.now (answers.at - c.args.gone) beat c.in-Some.ensures.lookup.0 c.in-Some.ensures.lookup.1 in
+    let next = part-get c.args.gone answers.at c.args.beats.now d part c.beats.invariant.within.from beat held in
+    let s = c.beats.invariant.accepted a d i part was start in
+    let checked = answer-checked c.requires.0 c.requires.1 a d i answers.at c.beats.client c.beats.manager s beat answers.tracker answers.far
+    c.check.result
+    (c.beats.invariant.come d part was) c.check.ensures.accepts c.check.ensures.fault c.check.ensures.head c.check.ensures.place in
+    stopped-at (λ b. stops_d a d i answers.at b) d answers.at beat c.in-Err.fault next
+    (answer-stops c.requires.0 c.requires.1 a d i answers.at c.beats.client c.beats.manager s beat c.in-Err.fault
+    (c.in-Err.ensures.admits.fault s.manager_history beat s.manager_knows checked))
 
 pub returns-clause-all : goal.returns-clause-all
 returns-clause-all g c = λ _. none-left c.args.gone c.beats.answers.at c.args.beats.now c.in_default.ensures.lookup.0 c.beats.invariant.within
@@ -40,30 +114,3 @@ returns-clause-stopped g c = λ a d i end was start.
     let past = none-left c.args.gone c.beats.answers.at c.args.beats.now c.in_default.ensures.lookup.0 c.beats.invariant.within in
     sym (ap (λ o. option_map_or (λ b. stops_d a d i c.beats.answers.at b) o None)
     (slice_get_past d c.beats.answers.at (end-past c.args.gone c.beats.answers.at c.args.beats.now d end past)))
-
-pub beats-init : goal.beats-init
-beats-init g c = record { within = c.requires.2; on = omega arith; come = λ d part was. was; accepted = λ a d i part was start. start }
-
-pub offer_response-requires : goal.offer_response-requires
-offer_response-requires g c =
-    let at = c.beats.answers.at - c.args.gone in
-    let here = c.beats.invariant.within in
-    let next = read_some c.args.beats.now at c.in-Some.beat.now c.in-Some.ensures.lookup.0 c.in-Some.ensures.lookup.1 in
-    let within = slice_get_within c.args.beats.now at c.in-Some.beat.now next in (
-      lit< tt,
-      (
-        beat_small g.row.M c.requires.1,
-        (
-          lit< tt,
-          (
-            c.requires.1,
-            c.requires.0,
-            low c.args.gone c.beats.answers.at c.beats.answers.far (length c.args.beats.now) here within,
-            here.few_far,
-          ),
-        ),
-      ),
-    )
-
-pub note_answers-requires : goal.note_answers-requires
-note_answers-requires g c = (lit< tt, (c.requires.0, c.in-Ok.ensures.lawful))
