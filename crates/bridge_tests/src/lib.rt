@@ -12,6 +12,8 @@ mod fault_tests;
 #[cfg(test)]
 mod five;
 #[cfg(test)]
+mod lending;
+#[cfg(test)]
 mod pair;
 #[cfg(test)]
 mod ring;

@@ -1,14 +1,13 @@
 #![tactic(auto, using(tl_lanes::proofs::Widths::width_4, tl_lanes::proofs::Widths::width_16))]
 
+use crate::lending::lent;
 use crate::values::{LANES, data, get};
-use std::alloc::Global;
 use std::test::Fail;
 use tl_bridge::{Standings, SyncBridge};
 use tl_lanes::Mask;
 use tl_msg::{
     Beat, BeatFault, BeatOf, ChA, ChB, ChC, ChD, ChE, HeadB, HeadC, HeadE, SideFault, SourceId,
 };
-use tl_ring::BuildFault;
 
 /// What a bridge says to an offer. None where the channel is not ready.
 type Answer = Option<Result<(), SideFault>>;
@@ -28,10 +27,6 @@ fn answer(bridge: &mut SyncBridge<4, 16>, opcode: u8, size: u8) -> Answer {
         return None;
     }
     Some(bridge.offer_d(data(opcode, size, 0x11, LANES)))
-}
-
-fn build(alloc: Global, ring: usize) -> Result<SyncBridge<4, 16>, BuildFault> {
-    SyncBridge::new(alloc, ring)
 }
 
 /// How many beats a pump and a fetch move.
@@ -74,12 +69,14 @@ fn response_crosses(bridge: &mut SyncBridge<4, 16>) -> bool {
     is_answered & is_busy & is_taken & is_free & answered_lanes(bridge).is_none()
 }
 
+fn request_and_response_cross(bridge: &mut SyncBridge<4, 16>) -> bool {
+    request_crosses(bridge) & response_crosses(bridge)
+}
+
 #[test]
 fn a_request_and_its_response(rt: HostRuntime) -> Result<(), Fail> {
-    let mut bridge = build(rt.alloc(), 4)?;
-    let is_so = request_crosses(&mut bridge) & response_crosses(&mut bridge);
-    drop(bridge);
-    assert!(rt; is_so);
+    let bridge = SyncBridge::new(rt.alloc(), 4);
+    assert!(rt; lent(bridge, request_and_response_cross)?);
     Ok(())
 }
 
@@ -155,10 +152,8 @@ fn cross_and_close(bridge: &mut SyncBridge<4, 16>) -> bool {
 
 #[test]
 fn probes_releases_and_acknowledgements(rt: HostRuntime) -> Result<(), Fail> {
-    let mut bridge = build(rt.alloc(), 1)?;
-    let is_so = cross_and_close(&mut bridge);
-    drop(bridge);
-    assert!(rt; is_so);
+    let bridge = SyncBridge::new(rt.alloc(), 1);
+    assert!(rt; lent(bridge, cross_and_close)?);
     Ok(())
 }
 
@@ -189,11 +184,13 @@ fn is_used(bridge: &mut SyncBridge<4, 4>, address: u64, byte: u8) -> bool {
         & (answer_across(bridge, response) == Some(response))
 }
 
+fn is_used_twice(bridge: &mut SyncBridge<4, 4>) -> bool {
+    is_used(bridge, 0, 0x11) & is_used(bridge, 4, 0x22)
+}
+
 #[test]
 fn a_source_used_twice(rt: HostRuntime) -> Result<(), Fail> {
-    let mut bridge = SyncBridge::<4, 4>::new(rt.alloc(), 1)?;
-    let is_so = is_used(&mut bridge, 0, 0x11) & is_used(&mut bridge, 4, 0x22);
-    drop(bridge);
-    assert!(rt; is_so);
+    let bridge = SyncBridge::new(rt.alloc(), 1);
+    assert!(rt; lent(bridge, is_used_twice)?);
     Ok(())
 }

@@ -1,10 +1,11 @@
 -- What clap finds of the options, by its rows.
-use Rattle.std.proofs.Common.{◌≡◌, ◌∙◌, ◌||◌, ap₂, Bool, false, true, ℕ, Bor, box_value, List, [], ◌∷◌, Option, Some, None, Ok, Result, option_map, codes, refl, sym, ap, arith}
+use Rattle.std.proofs.Common.{◌≡◌, ◌∙◌, ap₂, false, true, ℕ, Bor, box_value, List, [], ◌∷◌, Option, Some, None, Err, IfOk}
+use Rattle.std.proofs.Common.{IsOkAnd, Ok, Result, ◌++◌, option_map, codes, refl, sym, ap, arith}
 use Rattle.std.specs.Prelude.{unwrap_or}
 use Rattle.std.specs.Str.Parse.{ParsesUnsigned, digits_value, without_leading_plus}
 use Rattle.clap.specs.Simple.{app_of_fields}
-use Rattle.clap.specs.Words.{AddsArg, AddsInTurn, App, Row, Rule, Text, app_of, first_of, is_simple, new_app, subcommand_name_of, subcommand_rows, subcommand_rows_of, with_rule}
-use Rattle.clap.specs.declared.builder.arg.Arg.{Arg}
+use Rattle.clap.specs.Words.{AddsInTurn, AddsSubcommand, App, Row, Text, app_of, first_of, is_simple, new_app}
+use Rattle.clap.specs.Words.{subcommand_name_of, subcommand_rows, subcommand_rows_of, with_subcommand}
 use Rattle.clap.specs.declared.builder.command.Command.{Command}
 use Rattle.clap.specs.declared.builder.command.Command.TheOpen.{Command-F}
 use Rattle.clap.specs.declared.builder.command.Command.TheViews.{out-Command as fields_of}
@@ -13,8 +14,8 @@ use Rattle.clap.specs.declared.parser.matches.ArgMatches.TheViews.{out-ArgMatche
 use Rattle.clap.proofs.OnLiterals.{clap_on_literals}
 use Rattle.tl_order.specs.declared.Order.{Order}
 use Rattle.tl_order.specs.declared.Order.TheVariants.{Run, Check}
-use Rattle.tl_words.specs.CommandLines.{IsOrderOf, IsRunOf, file_of, file_rule, number_rule, program, run_shape, sync_rule}
-use Rattle.tl_words.specs.Inner.Rules.{HasRule, HasShape, bare}
+use Rattle.tl_words.specs.CommandLines.{IsOrderOf, IsRunOf, check_shape, file_of, program, run_shape}
+use Rattle.tl_words.specs.Inner.Rules.{HasShape, bare}
 
 -- clap says what comes of the words of this command
 pub program_is_simple : is_simple program ≡ true
@@ -53,34 +54,35 @@ number_of_word (Some s) d w first n r is empty parsed ok said =
     let has = rw (there, ok) at parsed in
     rw (← said) (ap Some (sym has.1))
 
--- one more argument, and its rule
-pub with_one : (old new : Command) (a : Arg) (app : App) (rule : Rule) → AddsArg old a new → app_of old ≡ app
-    → (fields_of old).has_globals ≡ false → HasRule rule a → (app_of new ≡ with_rule app rule) × ((fields_of new).has_globals ≡ false)
-with_one old new a app rule added is none has =
-    (added.shape has.1 ∙ ap₂ with_rule is has.0, added.globals ∙ ap₂ (λ (x y : Bool). x || y) none has.1)
-
 -- a command with a text above its help
 pub with_about : (new about : Command) (x : Option (Bor Text)) (app : App) → fields_of about ≡ record (fields_of new) { about = x }
     → app_of new ≡ app → (fields_of new).has_globals ≡ false → (app_of about ≡ app) × ((fields_of about).has_globals ≡ false)
 with_about new about x app e is none = (ap app_of_fields e ∙ is, ap (λ (f : Command-F Command). f.has_globals) e ∙ none)
 
--- `run`, with its four arguments
-pub run_of_parts : (top made : Command) (ring turns sync file : Arg) → app_of top ≡ new_app (codes "run") → (fields_of top).has_globals ≡ false
-    → HasRule (number_rule (codes "ring") (codes "16")) ring → HasRule (number_rule (codes "turns") (codes "4")) turns
-    → HasRule sync_rule sync → HasRule file_rule file → AddsInTurn AddsArg top (ring ∷ turns ∷ sync ∷ file ∷ []) made → HasShape run_shape made
-run_of_parts top made ring turns sync file is none ring_is turns_is sync_is file_is added =
-    let one = with_one top added.0 ring _ _ added.1 is none ring_is in
-    let two = with_one added.0 added.2.0 turns _ _ added.2.1 one.0 one.1 turns_is in
-    let three = with_one added.2.0 added.2.2.0 sync _ _ added.2.2.1 two.0 two.1 sync_is in
-    let four = with_one added.2.2.0 added.2.2.2.0 file _ _ added.2.2.2.1 three.0 three.1 file_is in
-    (ap (λ (p : App). p.top) (ap app_of (sym added.2.2.2.2) ∙ four.0), ap (λ (c : Command). (fields_of c).has_globals) (sym added.2.2.2.2) ∙ four.1)
-
 -- the command before its subcommands, as it is made
 pub bare_of_new : (new about version required : Command) (x : Option (Bor Text)) (y : Bor Text)
     → fields_of about ≡ record (fields_of new) { about = x } → fields_of version ≡ record (fields_of about) { version = Some y }
-    → fields_of required ≡ record (fields_of version) { subcommand_required = true } → app_of new ≡ new_app (codes "tlbridge") → app_of required ≡ bare
+    → fields_of required ≡ record (fields_of version) { subcommand_required = true }
+    → app_of new ≡ new_app (codes "tlbridge") → app_of required ≡ bare
 bare_of_new new about version required x y is_about is_version is_required is =
     ap app_of_fields is_required
     ∙ ap (λ (f : Command-F Command). app_of_fields (record f { subcommand_required = true }))
     (is_version ∙ ap (λ (f : Command-F Command). record f { version = Some y }) is_about)
     ∙ ap (λ (p : App). record p { top = record p.top { has_version = true; subcommand_required = true } }) is
+
+-- the whole command, with its two subcommands
+pub program_of_parts : (top run check made : Command) → app_of top ≡ bare → HasShape run_shape run → HasShape check_shape check
+    → AddsInTurn AddsSubcommand top (run ∷ check ∷ []) made → app_of made ≡ program
+program_of_parts top run check made is is_run is_check added =
+    ap app_of (sym added.2.2) ∙ added.2.1.shape is_check.1
+    ∙ ap₂ with_subcommand (added.1.shape is_run.1 ∙ ap₂ with_subcommand is is_run.0) is_check.0
+
+-- what two puts leave in a list that was empty
+pub both_put : {E : Type 0} (one two : Result Command E) (none first both : List Command) → none ≡ []
+    → IsOkAnd one (λ x. first ≡ none ++ x ∷ []) → IsOkAnd two (λ x. both ≡ first ++ x ∷ [])
+    → IfOk one (HasShape run_shape) → IfOk two (HasShape check_shape)
+    → (run check : Command) × (both ≡ run ∷ check ∷ []) × HasShape run_shape run × HasShape check_shape check
+both_put (Ok x) (Ok y) none first both is_none is_first is_both run check =
+    (x, y, is_both ∙ ap (λ l. l ++ y ∷ []) (is_first ∙ ap (λ l. l ++ x ∷ []) is_none), run, check)
+both_put (Ok x) (Err e) none first both is_none is_first is_both run check = absurd is_both
+both_put (Err e) two none first both is_none is_first is_both run check = absurd is_first

@@ -1,12 +1,13 @@
 //! The command line: what its words ask for, and what is said of words that ask for nothing.
 #![tactic(auto)]
 
-ghost use Rattle.std.specs.Prelude.{◌≡◌, ◌≤◌, Some, IfOk, codes, map, option_map};
-ghost use Rattle.clap.specs.Words.{app_of, found_of, rows_of, subcommand_rows_of, with_subcommand};
+ghost use Rattle.std.specs.Prelude.{◌≡◌, ◌≤◌, ◌++◌, ◌∷◌, [], Some, IfOk, IsOkAnd, OnOk, codes, map, option_map};
+ghost use Rattle.clap.specs.Words.{App, Rule, Shape, app_of, found_of, rows_of, subcommand_rows_of};
+ghost use Rattle.clap.specs.Words.{with_rule};
 ghost use Rattle.tl_order.specs.Orders.{IsInRange};
 ghost use Rattle.tl_words.specs.CommandLines.{IsOrderOf, IsRunOf, called_by, check_shape, file_of, file_rule};
 ghost use Rattle.tl_words.specs.CommandLines.{number_in, number_rule, program, run_shape, sync_rule};
-ghost use Rattle.tl_words.specs.Inner.Rules.{HasRule, HasShape, bare};
+ghost use Rattle.tl_words.specs.Inner.Rules.{HasApp, HasRule, HasShape, bare};
 
 use clap::error::{Error, ErrorKind};
 use clap::{Arg, ArgAction, ArgMatches, Command};
@@ -55,6 +56,28 @@ fn file_argument<'a>(alloc: Global) -> Arg<'a>
     )
 }
 
+/// A command with one more argument, where there is a command.
+fn with_argument<'a>(
+    command: Result<Command<'a>, AllocError>,
+    argument: Arg<'a>,
+) -> Result<Command<'a>, AllocError>
+    ensures { (app : App) → (rule : Rule) → IfOk command.entry (HasApp app) → HasRule rule argument.entry
+        → IfOk result (HasApp (with_rule app rule)) }
+{
+    match command {
+        Ok(command) => command.arg(argument),
+        Err(error) => Err(error),
+    }
+}
+
+/// Puts an item behind a list, where there is one. (Of any type: a function that itself takes a command from a result is dear to check.)
+fn put<T: Drop>(list: &mut Vec<T>, item: Result<T, AllocError>) -> Result<(), AllocError>
+    ensures { OnOk result (IsOkAnd item (λ x. list.new.items ≡ list.old.items ++ x ∷ [])) }
+{
+    list.push(item?)?;
+    Ok(())
+}
+
 fn run_command<'a>(alloc: Global) -> Result<Command<'a>, AllocError>
     ensures { IfOk result (HasShape run_shape) }
 {
@@ -64,21 +87,18 @@ fn run_command<'a>(alloc: Global) -> Result<Command<'a>, AllocError>
         "Turns of each side between two meetings of the two threads, 1 to 1000; the answer is the same for each";
     let about =
         "Prints the beats that arrive across the bridge, and a report line for each channel. Each side runs in a thread of its own. The defaults are slow on a long trace: --turns 1000 --ring 4096 is for those.";
-    let arguments = vec![in alloc;
-        number_option(alloc, "ring", "16", ring),
-        number_option(alloc, "turns", "4", turns),
-        sync_option(alloc),
-        file_argument(alloc),
-    ]?;
-    Command::new(alloc, "run").about(about).args(arguments)
+    let bare = Command::new(alloc, "run").about(about);
+    let one = with_argument(Ok(bare), number_option(alloc, "ring", "16", ring));
+    let two = with_argument(one, number_option(alloc, "turns", "4", turns));
+    let three = with_argument(two, sync_option(alloc));
+    with_argument(three, file_argument(alloc))
 }
 
 fn check_command<'a>(alloc: Global) -> Result<Command<'a>, AllocError>
     ensures { IfOk result (HasShape check_shape) }
 {
-    Command::new(alloc, "check")
-        .about("Prints the report lines alone.")
-        .arg(file_argument(alloc))
+    let bare = Command::new(alloc, "check").about("Prints the report lines alone.");
+    with_argument(Ok(bare), file_argument(alloc))
 }
 
 /// The command before its subcommands.
@@ -93,19 +113,13 @@ fn bare_command<'a>(alloc: Global) -> Command<'a>
         .subcommand_required(true)
 }
 
-fn command_with_run<'a>(alloc: Global) -> Result<Command<'a>, AllocError>
-    ensures { IfOk result (λ c. app_of c ≡ with_subcommand bare run_shape) }
-{
-    let run = run_command(alloc)?;
-    bare_command(alloc).subcommand(run)
-}
-
 fn command<'a>(alloc: Global) -> Result<Command<'a>, AllocError>
     ensures { IfOk result (λ c. app_of c ≡ program) }
 {
-    let top = command_with_run(alloc)?;
-    let check = check_command(alloc)?;
-    top.subcommand(check)
+    let mut below = Vec::new(alloc);
+    put(&mut below, run_command(alloc))?;
+    put(&mut below, check_command(alloc))?;
+    bare_command(alloc).subcommands(below)
 }
 
 /// What `command` takes from the words.
@@ -193,9 +207,11 @@ pub fn command_line_of<'a>(alloc: Global, words: &'a [&'a str]) -> Result<Comman
     ensures file { IfOk result (λ line. option_map (λ s. s.now) line.file ≡ file_of (called_by (map (λ w. w.now) words.entry.now))) }
 {
     let matches = matches_of(alloc, words)?;
+    let (order, file) = (order_in(alloc, &matches), file_in(&matches));
+    drop(matches);
     Ok(CommandLine {
-        order: order_in(alloc, &matches)?,
-        file: file_in(&matches),
+        order: order?,
+        file,
     })
 }
 

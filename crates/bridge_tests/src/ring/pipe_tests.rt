@@ -1,6 +1,7 @@
 //! The one-thread pipe, step by step.
 #![tactic(auto, using(tl_lanes::proofs::Widths::width_1, tl_lanes::proofs::Widths::width_4, tl_lanes::proofs::Widths::width_8, tl_lanes::proofs::Widths::width_64))]
 
+use crate::lending::lent;
 use crate::values::{at, put};
 use std::test::Fail;
 use tl_msg::{Beat, BeatOf, ChA, ChC, HeadC};
@@ -76,13 +77,8 @@ fn cross_after_a_close(pipe: &mut SyncPipe<ChA, 8, 4>) -> bool {
 /// One pipe is closed at the end, and another one while both are staged.
 #[test]
 fn two_far_beats_pass_a_ring_of_one(rt: HostRuntime) -> Result<(), Fail> {
-    let mut pipe = SyncPipe::<ChA, 8, 4>::new(rt.alloc(), 1)?;
-    let is_so = pass_a_ring_of_one(&mut pipe);
-    drop(pipe);
-    let mut pipe = SyncPipe::<ChA, 8, 4>::new(rt.alloc(), 1)?;
-    let is_so = is_so & cross_after_a_close(&mut pipe);
-    drop(pipe);
-    assert!(rt; is_so);
+    assert!(rt; lent(SyncPipe::new(rt.alloc(), 1), pass_a_ring_of_one)?);
+    assert!(rt; lent(SyncPipe::new(rt.alloc(), 1), cross_after_a_close)?);
     Ok(())
 }
 
@@ -101,10 +97,7 @@ fn close_after_each_half(pipe: &mut SyncPipe<ChA, 4, 8>) -> bool {
 
 #[test]
 fn a_close_waits_for_the_end_of_a_burst(rt: HostRuntime) -> Result<(), Fail> {
-    let mut pipe = SyncPipe::<ChA, 4, 8>::new(rt.alloc(), 1)?;
-    let is_so = close_after_each_half(&mut pipe);
-    drop(pipe);
-    assert!(rt; is_so);
+    assert!(rt; lent(SyncPipe::new(rt.alloc(), 1), close_after_each_half)?);
     Ok(())
 }
 
@@ -139,12 +132,7 @@ fn fill_the_inbox(pipe: &mut SyncPipe<ChC, 64, 1>) -> bool {
 /// Two beats fill it, and of a third one the far beats stay in the ring.
 #[test]
 fn an_inbox_holds_128_beats(rt: HostRuntime) -> Result<(), Fail> {
-    let mut pipe = SyncPipe::<ChC, 64, 1>::new(rt.alloc(), 4096)?;
-    let is_so = hold_128_beats(&mut pipe);
-    drop(pipe);
-    let mut pipe = SyncPipe::<ChC, 64, 1>::new(rt.alloc(), 4096)?;
-    let is_so = is_so & fill_the_inbox(&mut pipe);
-    drop(pipe);
-    assert!(rt; is_so);
+    assert!(rt; lent(SyncPipe::new(rt.alloc(), 4096), hold_128_beats)?);
+    assert!(rt; lent(SyncPipe::new(rt.alloc(), 4096), fill_the_inbox)?);
     Ok(())
 }

@@ -1,9 +1,13 @@
-use Rattle.std.proofs.Common.{ap₂, ◌∙◌}
+use Rattle.std.proofs.Common.{subst}
 use Rattle.std.proofs.lemmas.Result.{IfOk-weaker}
-use Rattle.clap.specs.Words.{with_subcommand}
+use Rattle.clap.specs.Words.{AddsInTurn, AddsSubcommand}
+use Rattle.tl_words.proofs.Options.{both_put, program_of_parts}
 use Rattle.tl_words.proofs.command.Goals as goal
 
 pub returns : goal.returns
 returns c =
-    let check = c.in_ok-check.ensures in
-    IfOk-weaker c.subcommand.result _ _ (λ made added. added.shape check.1 ∙ ap₂ with_subcommand c.in_ok-top.ensures check.0) c.subcommand.ensures
+    let top = c.bare_command.result in
+    let put = both_put c.run_command.result c.check_command.result c.new-below.result.items _ _ c.new-below.ensures.items
+    c.in_ok-put.ensures c.in_ok-put-2.ensures c.run_command.ensures c.check_command.ensures in
+    IfOk-weaker c.subcommands.result _ _ (λ made added. program_of_parts top put.0 put.1 made c.bare_command.ensures put.3 put.4
+    (subst (λ xs. AddsInTurn AddsSubcommand top xs made) put.2 added)) c.subcommands.ensures

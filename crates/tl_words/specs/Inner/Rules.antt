@@ -1,6 +1,6 @@
 -- What the parts of the command are to clap.
 use Rattle.std.specs.Prelude.{◌≡◌, codes, false, true}
-use Rattle.clap.specs.Words.{App, Rule, Shape, new_app, rule_of, shape_of}
+use Rattle.clap.specs.Words.{App, Rule, Shape, app_of, new_app, rule_of, shape_of}
 use Rattle.clap.specs.declared.builder.command.Command.TheViews.{out-Command as fields_of}
 use Rattle.clap.specs.declared.builder.arg.Arg.{Arg}
 use Rattle.clap.specs.declared.builder.command.Command.{Command}
@@ -8,6 +8,10 @@ use Rattle.clap.specs.declared.builder.command.Command.{Command}
 -- the argument has this rule, in its own command alone
 abbrev pub HasRule : Rule → Arg → Type 0
 HasRule rule a = (rule_of a ≡ rule) × (a.global ≡ false)
+
+-- the command is this, with no argument for others
+abbrev pub HasApp : App → Command → Type 0
+HasApp app c = (app_of c ≡ app) × ((fields_of c).has_globals ≡ false)
 
 -- the subcommand has this shape, and no argument for others
 abbrev pub HasShape : Shape → Command → Type 0

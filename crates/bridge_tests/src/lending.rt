@@ -1,0 +1,9 @@
+//! Values that are made for a test, lent to it and let go. (Of any type, since a function that itself holds a bridge is dear to check.)
+
+/// What a test says of the value that it is lent. Else why there is none.
+pub fn lent<T: Drop, E, F: FnOnce(&mut T) -> bool>(made: Result<T, E>, test: F) -> Result<bool, E>
+    requires { F.IsAlwaysCallable test }
+{
+    let mut value = made?;
+    Ok(test(&mut value))
+}
