@@ -1,14 +1,8 @@
 //! What came of a trace as a page for a browser: one file, which asks for nothing else.
 #![tactic(auto)]
 
-mod beat;
-mod html;
 mod page;
-mod row;
-mod sentence;
 mod stream;
-mod style;
-mod summary;
 
 pub use stream::run_page;
 pub use tl_unreadable::put_escaped;

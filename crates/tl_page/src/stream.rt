@@ -1,11 +1,12 @@
 //! From the bytes that come in to the page that goes out.
 ghost use Rattle.tl_page.specs.Pages.{ShowsText};
 
-use crate::page::{fault_page, page_of_text};
+use crate::page::page_of_text;
 use std::alloc::Global;
 use std::io::{Read, Write};
 use tl_answer::{TextFault, read_all, write_all};
 use tl_explain::Look;
+use tl_markup::fault_markup;
 use tl_unreadable::show_fault;
 
 /// Reads a trace to the end of the input, and writes a page that shows what came of each of its lines: true
@@ -33,7 +34,7 @@ pub fn run_page<R: Read, W: Write>(
         }
         Err(TextFault::Trace(fault)) => {
             let shown = show_fault(alloc, &text, &fault)?;
-            let page = fault_page(alloc, &shown)?;
+            let page = fault_markup(alloc, &shown)?;
             write_all(writer, &page)?;
             Err(TextFault::Trace(fault))
         }

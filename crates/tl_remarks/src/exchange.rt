@@ -15,8 +15,8 @@ const IDS: usize = 1 << u16::BITS;
 /// for another message once the one before it is answered.
 #[derive(Drop)]
 pub struct Exchange {
-    pub asks: Vec<Message>,
-    pub answers: Vec<Message>,
+    asks: Vec<Message>,
+    answers: Vec<Message>,
 }
 
 /// For each key the place of a message.
@@ -57,38 +57,71 @@ impl Places {
     }
 }
 
+/// How a message stands.
+#[derive(Clone, Copy)]
+struct Standing {
+    /// The place of the next one of its key.
+    next: usize,
+    is_answered: bool,
+}
+
 /// The messages that wait for an answer.
 #[derive(Drop)]
 struct Open {
     /// For each key the first one.
     first: Places,
-    /// For each message the place of the next one of its key.
-    next: Vec<usize>,
+    /// How each message stands.
+    standing: Vec<Standing>,
 }
 
 impl Open {
-    /// All of these.
-    fn new(alloc: Global, asks: &[Message]) -> Result<Open, AllocError> {
-        let mut first = Places::new(alloc)?;
-        let mut next = vec![in alloc; NONE; asks.len()]?;
+    /// None of so many messages.
+    fn new(alloc: Global, count: usize) -> Result<Open, AllocError> {
+        let standing = Standing {
+            next: NONE,
+            is_answered: false,
+        };
+        let standing = vec![in alloc; standing; count]?;
+        let first = Places::new(alloc)?;
+        Ok(Open { first, standing })
+    }
+
+    /// Adds all of these.
+    fn add(&mut self, asks: &[Message]) -> Result<(), AllocError> {
         for back in 0..asks.len() {
             let at = asks.len() - 1 - back;
-            if let Some(place) = next.get_mut(at) {
-                *place = first.get(asks[at].key);
+            let key = asks[at].key;
+            if let Some(message) = self.standing.get_mut(at) {
+                message.next = self.first.get(key);
             }
-            first.set(asks[at].key, at)?;
+            self.first.set(key, at)?;
         }
-        Ok(Open { first, next })
+        Ok(())
+    }
+
+    /// What is remarked on the message at this place, if nothing answers it.
+    fn rule_on(&self, at: usize) -> Option<Rule> {
+        match self.standing.get(at) {
+            Some(message) if !message.is_answered => Some(Rule::NotAnswered),
+            _ => None,
+        }
     }
 
     /// The place of the first one of this key, which is answered from now on.
     fn take(&mut self, key: Key) -> Result<usize, AllocError> {
         let at = self.first.get(key);
-        if let Some(next) = self.next.get(at) {
-            self.first.set(key, *next)?;
+        if let Some(message) = self.standing.get_mut(at) {
+            message.is_answered = true;
+            self.first.set(key, message.next)?;
         }
         Ok(at)
     }
+}
+
+/// Notes that a message answers another one, and what does not fit of it.
+fn note_answer(noted: &mut Noted, ask: &Message, answer: &Message) -> Result<(), AllocError> {
+    noted.push_pair(ask.line, answer.line)?;
+    noted.push_remark(rule_of(ask, answer), answer, ask)
 }
 
 impl Exchange {
@@ -100,31 +133,59 @@ impl Exchange {
         }
     }
 
-    /// Remarks on the answers: on one that does not fit its partner, and, where `knows_asks` says that
-    /// no message is missing, on one that has none. Notes which are partners, and gives for each message
-    /// whether it is answered.
+    /// Adds a message.
+    pub fn ask(&mut self, message: &Message) -> Result<(), AllocError> {
+        self.asks.push(*message)?;
+        Ok(())
+    }
+
+    /// Adds an answer.
+    pub fn answer(&mut self, message: &Message) -> Result<(), AllocError> {
+        self.answers.push(*message)?;
+        Ok(())
+    }
+
+    /// Notes what the answers answer. Remarks on one that does not fit its partner, and, where `knows_asks`
+    /// says that no message is missing, on one that has none.
     fn judge_answers(
         &self,
-        alloc: Global,
+        open: &mut Open,
         knows_asks: bool,
         noted: &mut Noted,
-    ) -> Result<Vec<bool>, AllocError> {
-        let mut open = Open::new(alloc, &self.asks)?;
-        let mut answered = vec![in alloc; false; self.asks.len()]?;
-        for message in &self.answers {
-            let at = open.take(message.key)?;
-            let (rule, partner) = match self.asks.get(at) {
-                Some(ask) => (rule_of(ask, message), *ask),
-                None if knows_asks => (Some(Rule::AnswersNothing), Message::default()),
-                None => (None, Message::default()),
-            };
-            if let Some(place) = answered.get_mut(at) {
-                *place = true;
-                noted.push_pair(partner.line, message.line)?;
+    ) -> Result<(), AllocError> {
+        for answer in &self.answers {
+            let at = open.take(answer.key)?;
+            if let Some(ask) = self.asks.get(at) {
+                note_answer(noted, ask, answer)?;
+            } else if knows_asks {
+                noted.push_remark(Some(Rule::AnswersNothing), answer, &Message::default())?;
             }
-            noted.push_remark(rule, message, &partner)?;
         }
-        Ok(answered)
+        Ok(())
+    }
+
+    /// Remarks on the messages that have no answer.
+    fn judge_asks(&self, open: &Open, noted: &mut Noted) -> Result<(), AllocError> {
+        for at in 0..self.asks.len() {
+            noted.push_remark(open.rule_on(at), &self.asks[at], &Message::default())?;
+        }
+        Ok(())
+    }
+
+    /// Remarks on all messages, over none of them that waits yet.
+    fn judge_over(
+        &self,
+        open: &mut Open,
+        knows_asks: bool,
+        knows_answers: bool,
+        noted: &mut Noted,
+    ) -> Result<(), AllocError> {
+        open.add(&self.asks)?;
+        self.judge_answers(open, knows_asks, noted)?;
+        if knows_answers {
+            self.judge_asks(open, noted)?;
+        }
+        Ok(())
     }
 
     /// Remarks on all messages: where `knows_answers` says that no answer is missing, on those that have
@@ -136,15 +197,7 @@ impl Exchange {
         knows_answers: bool,
         noted: &mut Noted,
     ) -> Result<(), AllocError> {
-        let answered = self.judge_answers(alloc, knows_asks, noted)?;
-        for (message, is_answered) in self.asks.iter().zip(&answered) {
-            let rule = if knows_answers && !*is_answered {
-                Some(Rule::NotAnswered)
-            } else {
-                None
-            };
-            noted.push_remark(rule, message, &Message::default())?;
-        }
-        Ok(())
+        let mut open = Open::new(alloc, self.asks.len())?;
+        self.judge_over(&mut open, knows_asks, knows_answers, noted)
     }
 }

@@ -45,6 +45,15 @@ fn rule_alone(beat: &Seen) -> Option<Rule> {
     }
 }
 
+/// What is remarked on the data of a beat.
+fn rule_of_data(beat: &Seen) -> Option<Rule> {
+    if beat.denied && beat.carries_data() && !beat.corrupt {
+        Some(Rule::DeniedData)
+    } else {
+        None
+    }
+}
+
 impl Notes {
     fn new(alloc: Global, has_pairs: bool) -> Notes {
         Notes {
@@ -56,85 +65,69 @@ impl Notes {
         }
     }
 
+    /// Adds the message that begins with this beat of D where one of E answers it.
+    fn add_grant(&mut self, beat: &Seen, line: u64) -> Result<(), AllocError> {
+        match beat.kind {
+            Some(Kind::Grant | Kind::GrantData) => {
+                self.grants.ask(&message_of(beat, line, beat.sink, 0))
+            }
+            _ => Ok(()),
+        }
+    }
+
     /// Adds the message that begins with this beat of D.
     fn add_of_d(&mut self, beat: &Seen, line: u64) -> Result<(), AllocError> {
         let message = message_of(beat, line, beat.source, 0);
-        match beat.kind {
-            Some(Kind::ReleaseAck) => self.releases.answers.push(message)?,
-            _ => self.requests.answers.push(message)?,
-        }
-        if let Some(Kind::Grant | Kind::GrantData) = beat.kind {
-            let message = message_of(beat, line, beat.sink, 0);
-            self.grants.asks.push(message)?;
-        }
-        Ok(())
+        let added = match beat.kind {
+            Some(Kind::ReleaseAck) => self.releases.answer(&message),
+            _ => self.requests.answer(&message),
+        };
+        added.and(self.add_grant(beat, line))
     }
 
-    /// Adds the message that begins with this beat.
-    fn add(&mut self, beat: &Seen, line: u64) -> Result<(), AllocError> {
+    /// Adds the message that begins with this beat to its exchange.
+    fn add_to_exchange(&mut self, beat: &Seen, line: u64) -> Result<(), AllocError> {
         let by_source = message_of(beat, line, beat.source, 0);
         let by_address = message_of(beat, line, beat.source, beat.address);
-        let alone = rule_alone(beat);
-        self.noted
-            .push_remark(alone, &by_source, &Message::default())?;
         match (beat.letter, beat.kind) {
-            (b'A', _) => self.requests.asks.push(by_source)?,
-            (b'B', _) => self.probes.asks.push(by_address)?,
-            (b'C', Some(Kind::Release | Kind::ReleaseData)) => {
-                self.releases.asks.push(by_source)?
-            }
-            (b'C', _) => self.probes.answers.push(by_address)?,
-            (b'D', _) => self.add_of_d(beat, line)?,
-            _ => self
-                .grants
-                .answers
-                .push(message_of(beat, line, beat.sink, 0))?,
+            (b'A', _) => self.requests.ask(&by_source),
+            (b'B', _) => self.probes.ask(&by_address),
+            (b'C', Some(Kind::Release | Kind::ReleaseData)) => self.releases.ask(&by_source),
+            (b'C', _) => self.probes.answer(&by_address),
+            (b'D', _) => self.add_of_d(beat, line),
+            _ => self.grants.answer(&message_of(beat, line, beat.sink, 0)),
         }
-        Ok(())
+    }
+
+    /// Remarks on a message by this beat alone, where there is a rule for it.
+    fn add_remark(&mut self, rule: Option<Rule>, beat: &Seen, line: u64) -> Result<(), AllocError> {
+        let message = message_of(beat, line, beat.source, 0);
+        self.noted.push_remark(rule, &message, &Message::default())
     }
 
     /// Adds a beat, which begins a message where `begins` says so.
     fn add_beat(&mut self, beat: &Seen, line: u64, begins: bool) -> Result<(), AllocError> {
         if begins {
-            self.add(beat, line)?;
+            self.add_remark(rule_alone(beat), beat, line)?;
+            self.add_to_exchange(beat, line)?;
         }
-        if beat.denied && beat.carries_data() && !beat.corrupt {
-            let message = message_of(beat, line, beat.source, 0);
-            let rule = Some(Rule::DeniedData);
-            self.noted.push_remark(rule, &message, &Message::default())?;
-        }
-        Ok(())
+        self.add_remark(rule_of_data(beat), beat, line)
     }
 
-    /// Remarks on all exchanges. A channel of which not all beats were accepted may lack messages.
+    /// Remarks on all exchanges, in the order of lines. A channel of which not all beats were accepted may
+    /// lack messages.
     fn judge(&mut self, alloc: Global, verdicts: &[Verdict; 5]) -> Result<(), AllocError> {
         let [a, b, c, d, e] = verdicts;
         let (a, b, c) = (is_whole(a), is_whole(b), is_whole(c));
         let (d, e) = (is_whole(d), is_whole(e));
         let noted = &mut self.noted;
-        self.requests.judge(alloc, a, d, noted)?;
-        self.probes.judge(alloc, b, c, noted)?;
-        self.releases.judge(alloc, c, d, noted)?;
-        self.grants.judge(alloc, d, e, noted)
+        let requests = self.requests.judge(alloc, a, d, noted);
+        let probes = self.probes.judge(alloc, b, c, noted);
+        let releases = self.releases.judge(alloc, c, d, noted);
+        let grants = self.grants.judge(alloc, d, e, noted);
+        let sorted = noted.remarks.sort_by_key(|remark| remark.message.line);
+        requests.and(probes).and(releases).and(grants).and(sorted)
     }
-}
-
-/// Adds the beats of all channels that were accepted, and remarks on them, in the order of their lines.
-fn fill<const C: usize, const M: usize>(
-    notes: &mut Notes,
-    alloc: Global,
-    letters: &[u8],
-    script: &Script<C, M>,
-    verdicts: &[Verdict; 5],
-) -> Result<(), AllocError>
-    requires { IsWidth C × IsWidth M }
-{
-    add_script::<C, M>(notes, letters, script, verdicts)?;
-    notes.judge(alloc, verdicts)?;
-    notes
-        .noted
-        .remarks
-        .sort_by_key(|remark| remark.message.line)
 }
 
 /// Whether all beats of a channel were accepted.
@@ -168,15 +161,12 @@ fn add_channel<K: Told, const W: usize>(
         before -= 1;
         cursor.seek(letters, letter);
         let begins = left == 0;
-        // of the later beats of a message those of D alone can have a remark
-        if begins || letter == b'D' {
-            let seen = seen_of::<K, W>(beat, 1);
-            if begins {
-                left = seen.beats(W);
-            }
-            notes.add_beat(&seen, cursor.line(), begins)?;
+        let seen = seen_of::<K, W>(beat, 1);
+        if begins {
+            left = seen.beats(W);
         }
         left = left.saturating_sub(1);
+        notes.add_beat(&seen, cursor.line(), begins)?;
     }
     Ok(())
 }
@@ -191,11 +181,30 @@ fn add_script<const C: usize, const M: usize>(
     requires { IsWidth C × IsWidth M }
 {
     let [a, b, c, d, e] = verdicts;
-    add_channel::<ChA, C>(notes, letters, b'A', a, &script.a)?;
-    add_channel::<ChB, M>(notes, letters, b'B', b, &script.b)?;
-    add_channel::<ChC, C>(notes, letters, b'C', c, &script.c)?;
-    add_channel::<ChD, M>(notes, letters, b'D', d, &script.d)?;
-    add_channel::<ChE, C>(notes, letters, b'E', e, &script.e)
+    add_channel::<ChA, C>(notes, letters, b'A', a, &script.a)
+        .and(add_channel::<ChB, M>(notes, letters, b'B', b, &script.b))
+        .and(add_channel::<ChC, C>(notes, letters, b'C', c, &script.c))
+        .and(add_channel::<ChD, M>(notes, letters, b'D', d, &script.d))
+        .and(add_channel::<ChE, C>(notes, letters, b'E', e, &script.e))
+}
+
+/// What is noted of all messages, where there was memory for adding them.
+fn judged(
+    alloc: Global,
+    notes: Notes,
+    added: Result<(), AllocError>,
+    verdicts: &[Verdict; 5],
+) -> Result<Noted, AllocError> {
+    let mut notes = notes;
+    let done = match added {
+        Ok(()) => notes.judge(alloc, verdicts),
+        Err(error) => Err(error),
+    };
+    let Notes { noted, .. } = notes;
+    match done {
+        Ok(()) => Ok(noted),
+        Err(error) => Err(error),
+    }
 }
 
 /// The remarks on the accepted messages of a script whose channels end with these verdicts, from A to E,
@@ -214,11 +223,6 @@ pub fn notes_of<const C: usize, const M: usize>(
     requires { IsWidth C × IsWidth M }
 {
     let mut notes = Notes::new(alloc, has_pairs);
-    let filled = fill::<C, M>(&mut notes, alloc, letters, script, verdicts);
-    let noted = mem::replace(&mut notes.noted, Noted::new(alloc, false));
-    drop(notes);
-    match filled {
-        Ok(()) => Ok(noted),
-        Err(error) => Err(error),
-    }
+    let added = add_script::<C, M>(&mut notes, letters, script, verdicts);
+    judged(alloc, notes, added, verdicts)
 }

@@ -58,7 +58,7 @@ fn refuse(rt: &HostRuntime, error: &Error) -> ExitCode {
 
 /// Prints what each fault means.
 fn print_faults(rt: &HostRuntime) -> Result<bool, TextFault> {
-    for line in FAULTS {
+    for line in &FAULTS {
         if print!(rt; "{line}").is_err() {
             return Err(TextFault::Write);
         }
@@ -86,31 +86,33 @@ fn explain_from<R: Read>(rt: &HostRuntime, reader: &mut R, look: &Look) -> Resul
 
 /// Explains the trace of a file, or that on standard input.
 fn explain(rt: &HostRuntime, file: Option<&str>, look: &Look) -> Result<bool, TextFault> {
+    let look = Look {
+        colour: has_colours(rt),
+        ..*look
+    };
     let Some(file) = file else {
-        return explain_from(rt, &mut rt.stdin(), look);
+        return explain_from(rt, &mut rt.stdin(), &look);
     };
     let Ok(mut file) = File::open(rt, file) else {
         return Err(TextFault::Read);
     };
-    explain_from(rt, &mut file, look)
+    explain_from(rt, &mut file, &look)
 }
 
-/// Does what these words ask for.
-fn obey(rt: &HostRuntime, words: &[String]) -> Result<ExitCode, Error> {
-    let words: Vec<&str> = words.iter().map(|word| word.as_str()).collect(rt.alloc())?;
-    Ok(match wish_of(rt.alloc(), &words)? {
-        Wish::Explain { file, look } => {
-            let colour = has_colours(rt);
-            status(rt, explain(rt, file, &Look { colour, ..look }))
-        }
-        Wish::Faults => status(rt, print_faults(rt)),
-    })
+/// Does what the program is asked to do.
+fn obey(rt: &HostRuntime, wish: &Wish<'_>) -> ExitCode {
+    let ending = match wish {
+        Wish::Explain { file, look } => explain(rt, *file, look),
+        Wish::Faults => print_faults(rt),
+    };
+    status(rt, ending)
 }
 
 /// Does what the command line asks for.
 fn run(rt: &HostRuntime) -> Result<ExitCode, Error> {
     let words = words_from(rt)?;
-    obey(rt, &words)
+    let wish = wish_of(rt.alloc(), &words)?;
+    Ok(obey(rt, &wish))
 }
 
 fn main(rt: HostRuntime) -> ExitCode {

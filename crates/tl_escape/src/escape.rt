@@ -1,6 +1,6 @@
 //! Text in a page for a browser.
 ghost use Rattle.std.specs.Prelude.{◌≡◌, ◌++◌, All, OnOk};
-ghost use Rattle.tl_unreadable.specs.Escaped.{reference, escaped, IsInert};
+ghost use Rattle.tl_escape.specs.Escaped.{reference, escaped, IsInert};
 
 use std::alloc::AllocError;
 

@@ -1,5 +1,5 @@
-use Rattle.tl_unreadable.proofs.Inert.{inert}
-use Rattle.tl_unreadable.proofs.escape.put_escaped.Goals as goal
+use Rattle.tl_escape.proofs.Inert.{inert}
+use Rattle.tl_escape.proofs.escape.put_escaped.Goals as goal
 
 pub returns-clause-inert : goal.returns-clause-inert
 returns-clause-inert c = inert c.args.text.now

@@ -1,7 +1,7 @@
 -- What stands for a text in a page begins no tag and ends no value.
 use Rattle.std.proofs.Common.{◌∷◌, [], ℕ, List, All, arith}
 use Rattle.std.proofs.lemmas.List.Elements.{All-append, All-nil}
-use Rattle.tl_unreadable.specs.Escaped.{reference, escaped, IsInert}
+use Rattle.tl_escape.specs.Escaped.{reference, escaped, IsInert}
 
 of-byte : (byte : ℕ) → All IsInert (reference byte)
 of-byte byte = grind arith

@@ -1,5 +1,5 @@
--- Text in a page (HTML: character references). Each `<`, `&` and `"` of it, 60, 38 and 34, stands as a reference, so that nothing of it is read as a tag,
--- as a reference, or as the end of an attribute's value; every other byte stands for itself.
+-- Text in a page (HTML: character references). Each `<`, `&` and `"` of it, 60, 38 and 34, stands as a reference, so that nothing of it is read as
+-- a tag, as a reference, or as the end of an attribute's value; every other byte stands for itself.
 use Rattle.std.specs.Prelude.{ℕ, List, codes, ◌∷◌, [], ◌==◌, if◌then◌else◌, ◌≢◌}
 use Rattle.std.specs.List.{flat_map}
 

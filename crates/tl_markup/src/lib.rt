@@ -1,0 +1,12 @@
+//! The markup of a page that shows what came of a trace: its beats side by side, with the sentences on them.
+#![tactic(auto)]
+
+mod beat;
+mod html;
+mod page;
+mod row;
+mod sentence;
+mod style;
+mod summary;
+
+pub use page::{fault_markup, markup_of};
