@@ -1,5 +1,5 @@
 //! The sender's part of a crossing, before any ring.
-ghost use Rattle.std.specs.Prelude.{◌≡◌, ◌≤◌, ◌<◌, ◌^◌, ◌++◌, ◌∷◌, ◌↔◌, [], List, ℕ, true, false, drop, take, length, Some, IsOk, IsTrue, IfOk, IfErr, OnOk, OnErr};
+ghost use Rattle.std.specs.Prelude.{◌≡◌, ◌≤◌, ◌<◌, ◌^◌, ◌++◌, ◌∷◌, ◌↔◌, [], List, ℕ, true, false, length, Some, IsOk, IsTrue, IfOk, IfErr, OnOk, OnErr};
 ghost use Rattle.tl_lanes.specs.Lanes.{IsWidth};
 ghost use Rattle.tl_msg.specs.declared.beat.BeatOf.{BeatOf};
 ghost use Rattle.tl_burst.specs.Handing.{IsAdmitted, rest_of, fault_after, homes_with};
@@ -117,27 +117,6 @@ impl<K: Channel, const W: usize, const V: usize> Outbox<K, W, V> {
         ensures still { self.new.closed ≡ false }
     {
         stage_beat(&mut self.converter, beat, place, home, &mut self.stage);
-    }
-
-    /// The staged beats, in order, for [`Outbox::sent`].
-    pub fn as_slice(&self) -> &[Beat<K, V>]
-        ensures beats { result.now ≡ self.now.stage }
-        ensures lawful { AreLawful K.rules result.now }
-        ensures most { length result.now ≤ ROOM }
-    {
-        self.stage.as_slice()
-    }
-
-    /// Notes that the first `count` of the staged beats were sent.
-    pub fn sent(&mut self, count: usize)
-        requires { count ≤ length self.old.stage }
-        ensures rest { self.new ≡ record self.old { stage = drop count self.old.stage } }
-        // for all that the outbox accepted and sent
-        ensures sent { (bs : List (BeatOf K.Head W)) (homes : List ℕ) (sent : List (BeatOf K.Head V)) →
-            HasSent K.rules self.old bs homes sent →
-            HasSent K.rules self.new bs homes (sent ++ take count self.old.stage) }
-    {
-        self.stage.drop_front(count);
     }
 
     /// Ends the offers. Refused exactly where a burst is unfinished, and nothing changes then. What is staged stays so. A second
