@@ -1,2 +1,1 @@
-mod AsOwner
 mod Names

@@ -3,22 +3,19 @@
 //! is not proved owes.
 #![tactic(auto)]
 
-mod block;
-mod held;
-mod making;
 mod sync_answer;
 
 ghost use Rattle.std.specs.Prelude.{◌≡◌, ◌≢◌, List, None, ℕ};
 ghost use Rattle.tl_answer.specs.Faults.{text_fault_name, text_fault_number};
 ghost use Rattle.tl_answer.specs.declared.fault.TextFault.{TextFault};
 ghost use Rattle.tl_c_beats.specs.Texts.{answer_name, answer_text};
-ghost use Rattle.tl_answer_c.specs.Calls.{IsGiven, IsRefusal, IsNoBlock, is_set};
+ghost use Rattle.tl_c_beats.specs.Blocks.{IsNoBlock};
+ghost use Rattle.tl_answer_c.specs.Calls.{IsGiven, IsRefusal, is_set};
 
-use crate::block::AnswerBlock;
 use crate::sync_answer::answer_of;
 use std::alloc::Global;
-use tl_answer::TextFault;
-use tl_c_beats::{AnswerText, answer_text};
+use tl_answer::{Answer, TextFault};
+use tl_c_beats::{AnswerBlock, AnswerText, answer_text};
 
 /// The answer to the text of a trace, without its far beats where `check` is not 0. An answer that
 /// was there before is let go first.
@@ -39,7 +36,7 @@ pub extern "C" fn tl_answer_trace(
 {
     answer.free(alloc);
     let fault = match answer_of(alloc, text, check != 0) {
-        Ok(made) => match AnswerBlock::of(alloc, made) {
+        Ok(Answer { text, all_done }) => match AnswerBlock::of(alloc, text, all_done) {
             Ok(block) => {
                 *answer = block;
                 return 0;

@@ -1,5 +1,4 @@
 mod AsOwners
 mod BothWidths
 mod Counting
-mod Rounds
 mod Taking

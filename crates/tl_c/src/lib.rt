@@ -15,7 +15,6 @@ mod manager_handle;
 mod meetings;
 mod moves;
 mod offers;
-mod settling;
 mod takes;
 mod widths;
 

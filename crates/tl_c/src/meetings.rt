@@ -6,10 +6,9 @@ ghost use Rattle.tl_c.specs.Settling.{HaveSettled, AreStill, meeting_answer};
 
 use crate::client_handle::ClientHandle;
 use crate::manager_handle::ManagerHandle;
-use crate::settling::settle;
 use crate::widths::{CLIENT, MANAGER};
 use std::alloc::Global;
-use tl_c_beats::{ChannelCounts, NO_SIDE, OTHER_BRIDGE, channel_counts};
+use tl_c_beats::{ChannelCounts, NO_SIDE, OTHER_BRIDGE, channel_counts, settle};
 use tl_sides::meet_sides;
 
 // Makes a call on what two handles hold, which is taken out for it and put back, and writes the

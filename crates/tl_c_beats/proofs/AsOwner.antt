@@ -1,9 +1,9 @@
--- What a block owns, as one of the owners for C.
+-- What the block of an answer owns, as one of the owners for C.
 use Rattle.std.proofs.Common.{refl}
 use Rattle.tl_c_beats.proofs.Owners.{Owner}
-use Rattle.tl_answer_c.proofs.held.TextHeld.TheLaws as text_laws
-use Rattle.tl_answer_c.specs.contracts.held.TextHeld as TextHeld
-use Rattle.tl_answer_c.specs.contracts.block.OwnedText as OwnedText
+use Rattle.tl_c_beats.proofs.text_held.TextHeld.TheLaws as text_laws
+use Rattle.tl_c_beats.specs.contracts.text_held.TextHeld as TextHeld
+use Rattle.tl_c_beats.specs.contracts.answer_block.OwnedText as OwnedText
 
 abbrev pub text : Owner TextHeld.the_row
 text = record {

@@ -2,4 +2,6 @@ pub mod Closing
 pub mod Numbers
 pub mod Offering
 pub mod Owners
+mod AsOwner
+pub mod Rounds
 pub mod Telling

@@ -1,12 +1,13 @@
 -- What a round leaves on each channel, and what several leave.
-use Rattle.std.proofs.Common.{◌≡◌, ◌+◌, ◌-◌, ℕ, ◌++◌, length, take, drop, min, sym, ap, ◌∙◌, arith, append_assoc, append-nil, length-append}
+use Rattle.std.proofs.Common.{◌≡◌, ◌+◌, ◌-◌, ℕ, ◌++◌, length, take, drop, min, sym, ap, subst, ◌∙◌, arith, append_assoc, append-nil, length-append}
 use Rattle.std.proofs.lemmas.List.{length-drop, length-take, drop-drop}
 use Rattle.std.proofs.Math.Seq.{take-add}
 use Rattle.tl_ring.specs.Crossing.{World}
-use Rattle.tl_ring.specs.Ends.{Sending, Taking, Met, sent, received, room, known_items, passed}
+use Rattle.tl_ring.specs.Ends.{ArePair, SameTake, Sending, Taking, Met, sent, received, room, known_items, passed}
+use Rattle.tl_ring.proofs.Same.{still_pair}
 use Rattle.tl_sides.specs.Ends.{Pumps, Fetches, pump_count, fetch_count}
 use Rattle.tl_sides.specs.Sides.{ClientState, ManagerState, ClientPast, ManagerPast, ClientStandsFor, ManagerStandsFor}
-use Rattle.tl_c.specs.Settling.{ClientWent, ManagerWent, IsKnown, KnownSides, IsStill, StillSides, SidesSettle, moves_left, all_moves_left}
+use Rattle.tl_c_beats.specs.Settling.{ClientWent, ManagerWent, IsKnown, KnownSides, IsStill, StillSides, SidesSettle, moves_left, all_moves_left}
 
 module _ {K A H : Type 0} {v : ℕ} where
   -- both ends know all of the ring once they have met
@@ -15,6 +16,11 @@ module _ {K A H : Type 0} {v : ℕ} where
       let same_room : room s' ≡ room s = m.send.1 in
       let all_free = m.all_free in
       record { ring = m.ring; free = omega (arith, same_room, all_free) }
+
+  -- a pair whose ends have pumped and fetched, each by itself, is one still
+  pub still_paired : {s s1 s2 : Sending K A H v} {t t1 t2 : Taking K A H v} → ArePair s t → Pumps s s1 → s2 ≡ s1 → t1 ≡ t → Fetches t1 t2 → ArePair s2 t2
+  still_paired {s} {s1} {s2} {t} {t1} {t2} pair pump alone beside fetch =
+      subst (λ q. ArePair q t2) (sym alone) (still_pair s s1 t t2 pump.pushed.ring (subst (λ q. SameTake q t2) beside fetch.fetched.ring) pair)
 
   -- a round of one channel: so many moves, after which both ends know all again
   pub record Turned (s s1 s3 : Sending K A H v) (t t1 t2 t3 : Taking K A H v) : Type 0 where

@@ -5,3 +5,6 @@ pub mod Answers
 pub mod Calls
 pub mod Counts
 pub mod Owners
+pub mod TextOwners
+pub mod Blocks
+pub mod Settling

@@ -1,4 +1,4 @@
--- What a block owns: a boxed text, or nothing.
+-- What the block of an answer owns: a boxed text, or nothing.
 use Rattle.std.specs.Prelude.{Option}
 use base.Fml.{Fml}
 use base.Stored.{Coded}
@@ -6,7 +6,7 @@ use denote.RawPtr.{Ptr}
 use Rattle.std.specs.Coded.{coded_option}
 use Rattle.std.specs.Global.{Global}
 use Rattle.tl_c_beats.specs.Owners.{holds}
-use Rattle.tl_answer_c.specs.contracts.held.TextHeld as text
+use Rattle.tl_c_beats.specs.contracts.text_held.TextHeld as text
 
 abbrev pub holds_text : Global → Ptr → Option text.the_row.Denot → Fml
 holds_text = holds text.the_row

@@ -1,13 +1,13 @@
 //! An answer as C is told of it.
 ghost use Rattle.std.specs.Prelude.{◌≡◌, ◌≢◌, ◌↔◌, true, Option, Some, None};
-ghost use Rattle.tl_answer_c.specs.Handles.{holds_text, text_coded};
-ghost use Rattle.tl_answer_c.specs.declared.held.TextHeld.{TextHeld};
+ghost use Rattle.tl_c_beats.specs.TextOwners.{holds_text, text_coded};
+ghost use Rattle.tl_c_beats.specs.declared.text_held.TextHeld.{TextHeld};
 
-use crate::held::TextHeld;
+use crate::parts::{Live, Parts};
+use crate::text_held::TextHeld;
 use std::alloc::Global;
 use std::marker::Model;
 use std::ptr::null_mut;
-use tl_c_beats::{Live, Parts};
 
 /// The right to a boxed text, or to nothing.
 #[repr(C)]

@@ -1,17 +1,23 @@
 //! What the library for C does for every pair of widths: a beat as C passes it, how many wait, what
-//! calls answer and what that means, and what a handle is made of.
+//! calls answer and what that means, what a handle and the block of an answer are made of, and how
+//! both sides of a bridge settle in one thread.
 #![tactic(auto)]
 
+mod answer_block;
 mod answers;
 mod calls;
 mod counts;
 mod fields;
 pub mod laws;
+mod making;
 mod masks;
 mod parts;
+mod settling;
 mod tells;
+mod text_held;
 mod texts;
 
+pub use answer_block::AnswerBlock;
 pub use answers::{
     NO_SIDE, NOT_READY, OTHER_BRIDGE, OUT_OF_MEMORY, VERSION, close_number, offer_number,
 };
@@ -22,5 +28,6 @@ pub use fields::{
 };
 pub use masks::{high_word, low_word, whole_mask};
 pub use parts::{Live, Parts, boxed};
+pub use settling::settle;
 pub use tells::{tell_a, tell_b, tell_c, tell_d, tell_e};
 pub use texts::{AnswerText, NAME_BYTES, SENTENCE_BYTES, answer_text};

@@ -1,24 +1,22 @@
-//! How an answer's block is made and let go.
+//! How the block of an answer is made and let go.
 ghost use Rattle.std.specs.Prelude.{◌≡◌, None, IfOk, IfErr};
 ghost use Rattle.tl_c_beats.specs.declared.answers.TheConstants.{OUT_OF_MEMORY};
-ghost use Rattle.tl_answer_c.specs.Calls.{IsBlockOf, IsNoBlock};
+ghost use Rattle.tl_c_beats.specs.Blocks.{IsBlockOf, IsNoBlock};
 
-use crate::block::{AnswerBlock, OwnedText};
-use crate::held::TextHeld;
+use crate::answer_block::{AnswerBlock, OwnedText};
+use crate::parts::{Live, Parts, boxed};
+use crate::text_held::TextHeld;
 use std::alloc::Global;
 use std::mem::replace;
 use std::ptr::null;
-use tl_answer::Answer;
-use tl_c_beats::{Live, Parts, boxed};
 
 impl AnswerBlock {
     /// The block of an answer, which holds its text. Where there is no memory, the number of that
     /// fault.
-    pub(crate) fn of(alloc: Global, made: Answer) -> Result<AnswerBlock, u8>
-        ensures block { IfOk result (IsBlockOf made) }
+    pub fn of(alloc: Global, text: Vec<u8>, all_done: bool) -> Result<AnswerBlock, u8>
+        ensures block { IfOk result (IsBlockOf (record { text = text }) all_done) }
         ensures refused { IfErr result (λ number. number ≡ OUT_OF_MEMORY) }
     {
-        let Answer { text, all_done } = made;
         let (at, length) = (text.as_ptr(), text.len());
         match boxed(alloc, TextHeld { text }) {
             Ok(held) => Ok(AnswerBlock {
@@ -34,7 +32,7 @@ impl AnswerBlock {
     }
 
     /// No answer, and the line that has the fault.
-    pub(crate) fn none(alloc: Global, line: Option<u64>) -> AnswerBlock
+    pub fn none(alloc: Global, line: Option<u64>) -> AnswerBlock
         ensures { IsNoBlock line result }
     {
         AnswerBlock {
@@ -48,7 +46,7 @@ impl AnswerBlock {
     }
 
     /// Lets the answer's text go, if there is one: there is none then.
-    pub(crate) fn free(&mut self, alloc: Global)
+    pub fn free(&mut self, alloc: Global)
         ensures { IsNoBlock None self.new }
     {
         let AnswerBlock { owned, live, .. } = replace(self, AnswerBlock::none(alloc, None));

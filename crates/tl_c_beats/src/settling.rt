@@ -2,9 +2,9 @@
 ghost use Rattle.std.specs.Prelude.{◌≡◌, ◌+◌};
 ghost use Rattle.tl_sides.specs.Ends.{AreStanding};
 ghost use Rattle.tl_sides.specs.Sides.{ClientPast, ManagerPast, ClientStandsFor, ManagerStandsFor, AreSides, SameClient, SameManager};
-ghost use Rattle.tl_c.specs.Settling.{KnownSides, StillSides, SidesSettle, all_moves_left};
+ghost use Rattle.tl_c_beats.specs.Settling.{KnownSides, StillSides, SidesSettle, all_moves_left};
 
-use crate::widths::{CLIENT, MANAGER};
+use std::alloc::Allocator;
 use tl_sides::{ClientSide, ManagerSide, Standings, meet_sides};
 
 /// What a round has done: how many moves it made, and where the far beats stand after it.
@@ -15,16 +15,16 @@ struct Moved {
 }
 
 // Both sides pump and fetch, and meet.
-fn round(
-    client: &mut ClientSide<CLIENT, MANAGER>,
-    manager: &mut ManagerSide<CLIENT, MANAGER>,
+fn round<const C: usize, const M: usize, A: Allocator>(
+    client: &mut ClientSide<C, M, A>,
+    manager: &mut ManagerSide<C, M, A>,
 ) -> Moved
     requires sides { AreSides client.old manager.old }
     requires known { KnownSides client.old manager.old }
     ensures client { SameClient client.old client.new }
     ensures manager { SameManager manager.old manager.new }
     ensures known { KnownSides client.new manager.new }
-    ensures went { (x : ClientPast CLIENT MANAGER) (y : ManagerPast CLIENT MANAGER) →
+    ensures went { (x : ClientPast C M) (y : ManagerPast C M) →
         ClientStandsFor client.old x → ManagerStandsFor manager.old y →
         SidesSettle client.new manager.new x y }
     ensures fewer { all_moves_left client.new manager.new + result.count ≡
@@ -47,14 +47,14 @@ fn round(
 
 /// Both sides of one bridge pump and fetch until nothing more can move, and meet: how many far beats
 /// stand in the stage, the ring and the inbox of each channel.
-pub(crate) fn settle(
-    client: &mut ClientSide<CLIENT, MANAGER>,
-    manager: &mut ManagerSide<CLIENT, MANAGER>,
+pub fn settle<const C: usize, const M: usize, A: Allocator>(
+    client: &mut ClientSide<C, M, A>,
+    manager: &mut ManagerSide<C, M, A>,
 ) -> Standings
     requires { AreSides client.old manager.old }
     ensures client { SameClient client.old client.new }
     ensures manager { SameManager manager.old manager.new }
-    ensures settled { (x : ClientPast CLIENT MANAGER) (y : ManagerPast CLIENT MANAGER) →
+    ensures settled { (x : ClientPast C M) (y : ManagerPast C M) →
         ClientStandsFor client.old x → ManagerStandsFor manager.old y →
         SidesSettle client.new manager.new x y }
     ensures still { StillSides client.new manager.new }

@@ -1,4 +1,4 @@
-//! What an answer's block holds.
+//! What the block of an answer holds.
 use std::alloc::Global;
 
 /// The text of an answer behind a block.

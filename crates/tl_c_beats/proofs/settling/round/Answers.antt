@@ -1,11 +1,35 @@
 use Rattle.std.proofs.Common.{ap, refl, arith}
 use Rattle.tl_sides.specs.Ends.{pump_count}
 use Rattle.tl_sides.specs.Sides.{client_pumps, manager_pumps}
-use Rattle.tl_c.proofs.Rounds.{AllTurned, turned, all_turned}
-use Rattle.tl_c.proofs.settling.round.Goals as goal
+use Rattle.tl_c_beats.proofs.Rounds.{AllTurned, still_paired, turned, all_turned}
+use Rattle.tl_c_beats.proofs.settling.round.Given.{Over}
+use Rattle.tl_c_beats.proofs.settling.round.Goals as goal
+
+pub fetch-requires-2 : goal.fetch-requires-2
+fetch-requires-2 g c = c.requires-raw.1.1.1.1.0
+
+pub meet_sides-standings-requires : goal.meet_sides-standings-requires
+meet_sides-standings-requires g c =
+    let sides = c.requires.sides in
+    let client = c.pump.ensures in
+    let manager = c.pump-2.ensures in
+    let client_later = c.fetch.ensures in
+    let manager_later = c.fetch-2.ensures in (
+      c.requires-raw.1.1.1.0,
+      (
+        c.requires-raw.1.1.1.1.0,
+        record {
+          a = still_paired sides.a client.a (ap (λ q. q.a) client_later.rest) (ap (λ q. q.a) manager.rest) manager_later.a;
+          b = still_paired sides.b manager.b (ap (λ q. q.b) manager_later.rest) (ap (λ q. q.b) client.rest) client_later.b;
+          c = still_paired sides.c client.c (ap (λ q. q.c) client_later.rest) (ap (λ q. q.c) manager.rest) manager_later.c;
+          d = still_paired sides.d manager.d (ap (λ q. q.d) manager_later.rest) (ap (λ q. q.d) client.rest) client_later.d;
+          e = still_paired sides.e client.e (ap (λ q. q.e) client_later.rest) (ap (λ q. q.e) manager.rest) manager_later.e;
+        },
+      ),
+    )
 
 pub returns-clause-went : goal.returns-clause-went
-returns-clause-went c = λ x y client manager.
+returns-clause-went g c = λ x y client manager.
     let s = c.args.client.now in
     let s' = c.pump.new.self in
     let t = c.args.manager.now in
@@ -19,9 +43,9 @@ returns-clause-went c = λ x y client manager.
     }
 
 -- each channel by itself
-turns : (c : goal.After-meet_sides-standings) → AllTurned c.args.client.now c.pump.new.self c.fetch.new.self c.meet_sides-standings.new.client
+turns : (g : Over) (c : goal.After-meet_sides-standings g) → AllTurned c.args.client.now c.pump.new.self c.fetch.new.self c.meet_sides-standings.new.client
     c.args.manager.now c.pump-2.new.self c.fetch-2.new.self c.meet_sides-standings.new.manager
-turns c =
+turns g c =
     let known = c.requires.known in
     let client = c.pump.ensures in
     let manager = c.pump-2.ensures in
@@ -36,11 +60,11 @@ turns c =
     (turned known.e client.e (ap (λ q. q.e) client_later.rest) (ap (λ q. q.e) manager.rest) manager_later.e met.e)
 
 pub returns-clause-known : goal.returns-clause-known
-returns-clause-known c = (turns c).known
+returns-clause-known g c = (turns g c).known
 
 pub returns-clause-fewer : goal.returns-clause-fewer
-returns-clause-fewer c =
-    let fewer = (turns c).fewer in
+returns-clause-fewer g c =
+    let fewer = (turns g c).fewer in
     let pumped = c.pump.ensures.total in
     let manager_pumped = c.pump-2.ensures.total in
     let fetched = c.fetch.ensures.total in
@@ -48,9 +72,9 @@ returns-clause-fewer c =
     omega (arith, fewer, pumped, manager_pumped, fetched, manager_fetched)
 
 pub returns-clause-still : goal.returns-clause-still
-returns-clause-still c = λ none.
+returns-clause-still g c = λ none.
     let pumped = c.pump.ensures.total in
     let manager_pumped = c.pump-2.ensures.total in
     let fetched = c.fetch.ensures.total in
     let manager_fetched = c.fetch-2.ensures.total in
-    (turns c).still (omega (arith, none, pumped, manager_pumped, fetched, manager_fetched))
+    (turns g c).still (omega (arith, none, pumped, manager_pumped, fetched, manager_fetched))

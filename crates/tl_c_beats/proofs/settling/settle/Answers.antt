@@ -1,9 +1,10 @@
+use Rattle.std.proofs.Common.{rules}
 use Rattle.tl_sides.proofs.SameSides.{same_client_then, same_manager_then, still_sides}
-use Rattle.tl_c.proofs.Rounds.{met_known, client_stays, manager_stays, settles_then}
-use Rattle.tl_c.proofs.settling.settle.Goals as goal
+use Rattle.tl_c_beats.proofs.Rounds.{met_known, client_stays, manager_stays, settles_then}
+use Rattle.tl_c_beats.proofs.settling.settle.Goals as goal
 
 pub rounds-init : goal.rounds-init
-rounds-init c =
+rounds-init g c =
     let met = c.meet_sides.ensures in
     record {
       sides = record { a = met.a.pair; b = met.b.pair; c = met.c.pair; d = met.d.pair; e = met.e.pair };
@@ -20,10 +21,13 @@ rounds-init c =
     }
 
 pub returns-then-moved-eq0-clause-settled : goal.returns-then-moved-eq0-clause-settled
-returns-then-moved-eq0-clause-settled c = λ x y client manager. settles_then (c.rounds.invariant.settled x y client manager) c.round-moved.ensures.went
+returns-then-moved-eq0-clause-settled g c = λ x y client manager. settles_then (c.rounds.invariant.settled x y client manager) c.round-moved.ensures.went
+
+pub returns-then-moved-eq0-clause-still : goal.returns-then-moved-eq0-clause-still
+returns-then-moved-eq0-clause-still g c = c.round-moved.ensures.still (search rules)
 
 pub rounds-preserved : goal.rounds-preserved
-rounds-preserved c =
+rounds-preserved g c =
     let before = c.rounds.invariant in
     let round = c.round-moved.ensures in
     record {
