@@ -67,7 +67,8 @@ pub fn settle<const C: usize, const M: usize, A: Allocator>(
     meet_sides(client, manager);
     'rounds: loop {
         let moved = round(client, manager);
-        if moved.count == 0 {
+        let is_still = moved.count == 0;
+        if is_still {
             return moved.standings;
         }
     }

@@ -20,11 +20,11 @@ rounds-init g c =
       };
     }
 
-pub returns-then-moved-eq0-clause-settled : goal.returns-then-moved-eq0-clause-settled
-returns-then-moved-eq0-clause-settled g c = λ x y client manager. settles_then (c.rounds.invariant.settled x y client manager) c.round-moved.ensures.went
+pub returns-then-is_still-clause-settled : goal.returns-then-is_still-clause-settled
+returns-then-is_still-clause-settled g c = λ x y client manager. settles_then (c.rounds.invariant.settled x y client manager) c.round-moved.ensures.went
 
-pub returns-then-moved-eq0-clause-still : goal.returns-then-moved-eq0-clause-still
-returns-then-moved-eq0-clause-still g c = c.round-moved.ensures.still (search rules)
+pub returns-then-is_still-clause-still : goal.returns-then-is_still-clause-still
+returns-then-is_still-clause-still g c = c.round-moved.ensures.still (search rules)
 
 pub rounds-preserved : goal.rounds-preserved
 rounds-preserved g c =
