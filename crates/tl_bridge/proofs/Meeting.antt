@@ -1,11 +1,19 @@
 -- Both sides of a run at a meeting: they are as one bridge in one thread.
-use Rattle.std.proofs.Common.{◌≡◌, ◌+◌, ◌≤◌, ◌⊎◌, inl, inr, ◌++◌, ℕ, Bool, true, List, length, refl, sym, ap, subst, ◌∙◌, arith, length-append, ⊎_elim}
+use Rattle.std.proofs.Common.{◌≡◌, ◌+◌, ◌≤◌, ◌⊎◌, inl, inr, ◌++◌, ℕ, Bool, true, List, length, refl, sym, ap, subst, ◌∙◌, arith, length-append}
+use Rattle.std.proofs.Common.{⊎_elim}
 use Rattle.std.specs.Global.{Global}
 use mathlib.Core.List.{IsPrefix}
-use Rattle.tl_bridge.proofs.Words.{IsWidth, Rules, rules_a, rules_b, rules_c, rules_d, rules_e, BeatOf, World, Sending, Taking, Met, Meets, seen_by, sent, received, known_items, Standing, asked, answered, round, client_rests, manager_rests, far_a, far_d, Beats, StandsFor, PerChannel, AreStanding, ClientState, ManagerState, ClientPast, ManagerPast, ClientStandsFor, ManagerStandsFor, AreSides, SidesMeet, new_client, new_manager, no_beats, IsShort, HasRoomFor, beats_of, AllStop, AreStopped, HasEnded, HaveRoomToCount, all_progress, all_standing, all_stopped, all_under_way, progress, standing_count, under_way, Stop, inbox-due, sent-passed, same-sums, begins, progress-is, progress-ends, run_end, counts-fit, due-a, due-d}
+use Rattle.tl_bridge.proofs.Words.{IsWidth, Rules, rules_a, rules_b, rules_c, rules_d, rules_e, BeatOf, World, Sending, Taking, Met, Meets, seen_by}
+use Rattle.tl_bridge.proofs.Words.{sent, received, known_items, Standing, asked, answered, round, client_rests, manager_rests, far_a, far_d, Beats}
+use Rattle.tl_bridge.proofs.Words.{StandsFor, PerChannel, AreStanding, ClientState, ManagerState, ClientPast, ManagerPast, ClientStandsFor}
+use Rattle.tl_bridge.proofs.Words.{ManagerStandsFor, AreSides, SidesMeet, new_client, new_manager, no_beats, IsShort, HasRoomFor, beats_of, AllStop}
+use Rattle.tl_bridge.proofs.Words.{AreStopped, HasEnded, HaveRoomToCount, all_progress, all_standing, all_stopped, all_under_way, progress}
+use Rattle.tl_bridge.proofs.Words.{standing_count, under_way, Stop, inbox-due, sent-passed, same-sums, begins, progress-is, progress-ends, run_end}
+use Rattle.tl_bridge.proofs.Words.{counts-fit, due-a, due-d}
 use Rattle.tl_ring.specs.Pipe as piping
 use Rattle.tl_bridge.specs.Inner.Arriving.{HasRoomForInboxes, taken_of}
-use Rattle.tl_bridge.specs.Inner.Sides.{ClientIsAt, ManagerIsAt, MayPlay, HasPlayedTurns, RoundOf, ClientRests, ManagerRests, client_playing, manager_playing, HasMet, HasPlayed, AreNew, bridge_of, met_progress, none_ready, past_of, pipe_of}
+use Rattle.tl_bridge.specs.Inner.Sides.{ClientIsAt, ManagerIsAt, MayPlay, HasPlayedTurns, RoundOf, ClientRests, ManagerRests, client_playing}
+use Rattle.tl_bridge.specs.Inner.Sides.{manager_playing, HasMet, HasPlayed, AreNew, bridge_of, met_progress, none_ready, past_of, pipe_of}
 use Rattle.tl_bridge.specs.declared.client_turns.ClientRun.{ClientRun}
 use Rattle.tl_bridge.specs.declared.manager_turns.ManagerRun.{ManagerRun}
 use Rattle.tl_bridge.specs.declared.turns.Turn.{Turn}
@@ -14,7 +22,8 @@ use Rattle.tl_bridge.proofs.Rooms.{inboxes-fit}
 
 -- ---- one channel
 
-module _ {K A H : Type 0} (r : Rules H) {w v : ℕ} (s : Sending K A H v) (t : Taking K A H v) (x : World H w v) (taken : List (BeatOf H v)) (m : Meets r s t x taken) where
+module _ {K A H : Type 0} (r : Rules H) {w v : ℕ} (s : Sending K A H v) (t : Taking K A H v) (x : World H w v) (taken : List (BeatOf H v))
+    (m : Meets r s t x taken) where
   -- both ends are as a pipe
   met-pipe : piping.StandsFor r (pipe_of s t) (seen_by r t x taken)
   met-pipe = record {
@@ -36,7 +45,8 @@ module _ {K A H : Type 0} (r : Rules H) {w v : ℕ} (s : Sending K A H v) (t : T
       let into : length (sent s) ≡ length (received t) + length (known_items t) = sym (ap length ring) ∙ length-append (received t) (known_items t) in
       sums n (length taken) (length t.inbox) (length (known_items t)) (length (sent s)) (length (received t)) out into
     where
-      sums : (n taken inbox ring into out : ℕ) → out ≡ taken + inbox → into ≡ out + ring → n + (taken + inbox + ring) + (taken + inbox) ≡ n + into + out
+      sums : (n taken inbox ring into out : ℕ) → out ≡ taken + inbox → into ≡ out + ring →
+          n + (taken + inbox + ring) + (taken + inbox) ≡ n + into + out
       sums n taken inbox ring into out e f = omega arith
 
   -- how many beats are under way
@@ -57,7 +67,8 @@ met-received s t s' t' m = ap length m.same_received
 
 -- ---- both sides
 
-module _ {A : Type 0} {C M : ℕ} (near : Beats C M) (n : PerChannel ℕ) (far : Beats M C) (s : ClientState A C M) (t : ManagerState A C M) (h : HasMet near n far s t) where
+module _ {A : Type 0} {C M : ℕ} (near : Beats C M) (n : PerChannel ℕ) (far : Beats M C) (s : ClientState A C M) (t : ManagerState A C M)
+    (h : HasMet near n far s t) where
   -- the bridge that both are stands for what has happened
   pub met-stands : StandsFor (bridge_of s t) (past_of s t h.client h.manager)
   met-stands = record {
@@ -85,7 +96,8 @@ module _ {A : Type 0} {C M : ℕ} (near : Beats C M) (n : PerChannel ℕ) (far :
       (met-progress rules_d t.d s.d h.manager.d (answered h.client.history) h.meet.d n.d h.ring_d)
       (met-progress rules_e s.e t.e h.client.e h.manager.e h.meet.e n.e h.ring_e)
     where
-      sums : (a b c d e ka ia oa kb ib ob kc ic oc kd id od ke ie oe : ℕ) → a ≡ ka + ia + oa → b ≡ kb + ib + ob → c ≡ kc + ic + oc → d ≡ kd + id + od → e ≡ ke + ie + oe →
+      sums : (a b c d e ka ia oa kb ib ob kc ic oc kd id od ke ie oe : ℕ) → a ≡ ka + ia + oa → b ≡ kb + ib + ob → c ≡ kc + ic + oc →
+          d ≡ kd + id + od → e ≡ ke + ie + oe →
           (ka + kc + ke + ia + ic + ie + ob + od) + (kb + kd + ib + id + oa + oc + oe) ≡ a + b + c + d + e
       sums a b c d e ka ia oa kb ib ob kc ic oc kd id od ke ie oe p q r s t = omega arith
 
@@ -135,8 +147,10 @@ module _ {A : Type 0} {C M : ℕ} (near : Beats C M) (n : PerChannel ℕ) (far :
       past = h.manager;
       stands = h.meet.manager;
       moves = manager_rests;
-      b_sent = sent-passed rules_b near.b n.b far.b (past_of s t h.client h.manager).b h.manager.b h.is_at.b_sent refl refl refl h.manager.b.taken refl;
-      d_sent = sent-passed rules_d near.d n.d far.d (past_of s t h.client h.manager).d h.manager.d h.is_at.d_sent refl refl refl h.manager.d.taken refl;
+      b_sent = sent-passed rules_b near.b n.b far.b (past_of s t h.client h.manager).b h.manager.b h.is_at.b_sent refl
+          refl refl h.manager.b.taken refl;
+      d_sent = sent-passed rules_d near.d n.d far.d (past_of s t h.client h.manager).d h.manager.d h.is_at.d_sent refl
+          refl refl h.manager.d.taken refl;
       b_homed = h.is_at.b_homed;
       a_taken = h.is_at.a_sent.taken;
       c_taken = h.is_at.c_sent.taken;
@@ -158,7 +172,8 @@ module _ {A : Type 0} {C M : ℕ} (near : Beats C M) (n : PerChannel ℕ) (far :
         inbox-due rules_a x.a h.meet.a.crosses far.a h.is_at.a_sent.taken (far_a near.a near.d n.a)
         (due-a cw mw near.a near.d n.a n.d (bridge_of s t) x met-stands h.is_at.run h.is_at.a_homed)
 
-module _ {C M : ℕ} (cw : IsWidth C) (mw : IsWidth M) (near : Beats C M) (short : IsShort near) (n : PerChannel ℕ) (x : ClientRun C M) (y : ManagerRun C M)
+module _ {C M : ℕ} (cw : IsWidth C) (mw : IsWidth M) (near : Beats C M) (short : IsShort near) (n : PerChannel ℕ)
+    (x : ClientRun C M) (y : ManagerRun C M)
     (h : HasMet near n (beats_of (taken_of x y)) x.side y.side) (has : HasRoomFor near (taken_of x y)) where
   -- so each side may play
   few : HaveRoomToCount n
@@ -167,7 +182,8 @@ module _ {C M : ℕ} (cw : IsWidth C) (mw : IsWidth M) (near : Beats C M) (short
   fit : HasRoomForInboxes (bridge_of x.side y.side) (taken_of x y)
   fit =
       let far = beats_of (taken_of x y) in
-      inboxes-fit cw mw near n (taken_of x y) (bridge_of x.side y.side) (past_of x.side y.side h.client h.manager) (met-stands near n far x.side y.side h) h.is_at has
+      inboxes-fit cw mw near n (taken_of x y) (bridge_of x.side y.side) (past_of x.side y.side h.client h.manager)
+      (met-stands near n far x.side y.side h) h.is_at has
 
   pub client-may : MayPlay client_playing near n x
   client-may = record {
@@ -190,7 +206,8 @@ module _ {C M : ℕ} (cw : IsWidth C) (mw : IsWidth M) (near : Beats C M) (short
 -- ---- a meeting
 
 -- both sides after a meeting of these
-pub record Meeting {A : Type 0} {C M : ℕ} (s : ClientState A C M) (t : ManagerState A C M) (s' : ClientState A C M) (t' : ManagerState A C M) (standings : PerChannel Standing) : Type 0 where
+pub record Meeting {A : Type 0} {C M : ℕ} (s : ClientState A C M) (t : ManagerState A C M) (s' : ClientState A C M) (t' : ManagerState A C M)
+    (standings : PerChannel Standing) : Type 0 where
   pub a : Met s.a t.a s'.a t'.a
   pub b : Met t.b s.b t'.b s'.b
   pub c : Met s.c t.c s'.c t'.c
@@ -202,22 +219,28 @@ pub record Meeting {A : Type 0} {C M : ℕ} (s : ClientState A C M) (t : Manager
   pub in_d : AreStanding t'.d s'.d standings.d
   pub in_e : AreStanding s'.e t'.e standings.e
 
-module _ {A : Type 0} {C M : ℕ} (s : ClientState A C M) (t : ManagerState A C M) (s' : ClientState A C M) (t' : ManagerState A C M) (standings : PerChannel Standing) (m : Meeting s t s' t' standings) where
+module _ {A : Type 0} {C M : ℕ} (s : ClientState A C M) (t : ManagerState A C M) (s' : ClientState A C M) (t' : ManagerState A C M)
+    (standings : PerChannel Standing) (m : Meeting s t s' t' standings) where
   still-sides : AreSides s' t'
   still-sides = record { a = m.a.pair; b = m.b.pair; c = m.c.pair; d = m.d.pair; e = m.e.pair }
 
   same-progress : (n : PerChannel ℕ) → met_progress n s' t' ≡ met_progress n s t
   same-progress n =
-      sums _ _ _ _ _ _ _ _ _ _ _ _ _ _ _ _ _ _ _ _ _ _ _ _ _ (met-sent s.a t.a s'.a t'.a m.a) (met-sent t.b s.b t'.b s'.b m.b) (met-sent s.c t.c s'.c t'.c m.c) (met-sent t.d s.d t'.d s'.d m.d) (met-sent s.e t.e s'.e t'.e m.e)
-      (met-received s.a t.a s'.a t'.a m.a) (met-received t.b s.b t'.b s'.b m.b) (met-received s.c t.c s'.c t'.c m.c) (met-received t.d s.d t'.d s'.d m.d) (met-received s.e t.e s'.e t'.e m.e)
+      sums _ _ _ _ _ _ _ _ _ _ _ _ _ _ _ _ _ _ _ _ _ _ _ _ _ (met-sent s.a t.a s'.a t'.a m.a) (met-sent t.b s.b t'.b s'.b m.b)
+      (met-sent s.c t.c s'.c t'.c m.c) (met-sent t.d s.d t'.d s'.d m.d) (met-sent s.e t.e s'.e t'.e m.e)
+      (met-received s.a t.a s'.a t'.a m.a) (met-received t.b s.b t'.b s'.b m.b) (met-received s.c t.c s'.c t'.c m.c)
+      (met-received t.d s.d t'.d s'.d m.d) (met-received s.e t.e s'.e t'.e m.e)
     where
-      sums : (ka kb kc kd ke sa sb sc sd se ra rb rc rd re sa' sb' sc' sd' se' ra' rb' rc' rd' re' : ℕ) → sa' ≡ sa → sb' ≡ sb → sc' ≡ sc → sd' ≡ sd → se' ≡ se →
+      sums : (ka kb kc kd ke sa sb sc sd se ra rb rc rd re sa' sb' sc' sd' se' ra' rb' rc' rd' re' : ℕ) → sa' ≡ sa → sb' ≡ sb →
+          sc' ≡ sc → sd' ≡ sd → se' ≡ se →
           ra' ≡ ra → rb' ≡ rb → rc' ≡ rc → rd' ≡ rd → re' ≡ re →
-          (ka + kc + ke + sa' + sc' + se' + rb' + rd') + (kb + kd + sb' + sd' + ra' + rc' + re') ≡ (ka + kc + ke + sa + sc + se + rb + rd) + (kb + kd + sb + sd + ra + rc + re)
+          (ka + kc + ke + sa' + sc' + se' + rb' + rd') + (kb + kd + sb' + sd' + ra' + rc' + re') ≡ (ka + kc + ke + sa + sc + se + rb + rd) +
+          (kb + kd + sb + sd + ra + rc + re)
       sums v0 v1 v2 v3 v4 v5 v6 v7 v8 v9 v10 v11 v12 v13 v14 v15 v16 v17 v18 v19 v20 v21 v22 v23 v24 a b c d e f g h i j = omega arith
 
   -- two new sides have met
-  pub new-met : (near : Beats C M) (n : PerChannel ℕ) (far : Beats M C) → n ≡ record { a = 0; b = 0; c = 0; d = 0; e = 0 } → far ≡ no_beats → (new : AreNew s t) →
+  pub new-met : (near : Beats C M) (n : PerChannel ℕ) (far : Beats M C) → n ≡ record { a = 0; b = 0; c = 0; d = 0; e = 0 } →
+      far ≡ no_beats → (new : AreNew s t) →
       SidesMeet s' t' (new_client new.space) (new_manager new.space) → HasMet near n far s' t'
   new-met near n far none empty new meets =
       record {
@@ -241,13 +264,15 @@ module _ {A : Type 0} {C M : ℕ} (s : ClientState A C M) (t : ManagerState A C 
 -- both sides have played a round, and met
 module _ {C M : ℕ} (cw : IsWidth C) (mw : IsWidth M) (near : Beats C M) (n : PerChannel ℕ) (x : ClientRun C M) (y : ManagerRun C M)
     (h : HasMet near n (beats_of (taken_of x y)) x.side y.side) (x' : ClientRun C M) (y' : ManagerRun C M) (there back : Turn)
-    (client : HasPlayedTurns client_playing near n x x' there) (manager : HasPlayedTurns manager_playing near n y y' back) (s' : ClientState Global C M) (t' : ManagerState Global C M)
+    (client : HasPlayedTurns client_playing near n x x' there) (manager : HasPlayedTurns manager_playing near n y y' back)
+    (s' : ClientState Global C M) (t' : ManagerState Global C M)
     (standings : PerChannel Standing) (m : Meeting x'.side y'.side s' t' standings)
     (meets : (p : ClientPast C M) (q : ManagerPast C M) → ClientStandsFor x'.side p → ManagerStandsFor y'.side q → SidesMeet s' t' p q)
     (accepted : Bool) (which : accepted ≡ true → (there.accepted ≡ true) ⊎ (back.accepted ≡ true)) where
   -- where both rest, no channel offers more, and nothing is under way
   both-rest : ClientRests x.side x'.side there.offers → ManagerRests y.side y'.side back.offers →
-      AreStopped (record { a = there.offers.a; b = back.offers.b; c = there.offers.c; d = back.offers.d; e = there.offers.e }) × (all_standing standings ≡ 0)
+      AreStopped (record { a = there.offers.a; b = back.offers.b; c = there.offers.c; d = back.offers.d; e = there.offers.e }) ×
+      (all_standing standings ≡ 0)
   both-rest f g =
       let a = channel-rests x.side.a x'.side.a s'.a y.side.a y'.side.a t'.a there.offers.a standings.a h.ring_a h.free_a f.a g.a m.a m.in_a in
       let b = channel-rests y.side.b y'.side.b t'.b x.side.b x'.side.b s'.b back.offers.b standings.b h.ring_b h.free_b g.b f.b m.b m.in_b in

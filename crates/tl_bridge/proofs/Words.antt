@@ -13,7 +13,8 @@ pub use Rattle.tl_msg.specs.declared.head.HeadE.{HeadE}
 pub use Rattle.tl_ring.proofs.FieldSizes.{beat_small}
 pub use Rattle.tl_ring.proofs.Same.{same_send, same_take}
 pub use Rattle.tl_ring.specs.Crossing.{World, inbox_room}
-pub use Rattle.tl_ring.specs.Ends.{Meets, Met, SameSend, SameTake, Sending, Sends, Takes, Taking, known_free, known_items, received, room, seen_by, sent}
+pub use Rattle.tl_ring.specs.Ends.{Meets, Met, SameSend, SameTake, Sending, Sends, Takes, Taking, known_free, known_items, received, room, seen_by}
+pub use Rattle.tl_ring.specs.Ends.{sent}
 pub use Rattle.tl_ring.specs.Laws.{Crosses}
 pub use Rattle.tl_ring.specs.declared.queue.TheConstants.{ROOM}
 pub use Rattle.tl_ring.specs.declared.standing.Standing.{Standing}
@@ -31,7 +32,8 @@ pub use Rattle.tl_run.proofs.RunRound.{due-a, due-d}
 pub use Rattle.tl_run.specs.Arrivals.{no_beats}
 pub use Rattle.tl_run.specs.Inner.Arriving.{HasRoom, HasRoomFor, beats_of}
 pub use Rattle.tl_run.specs.Inner.Offering.{on_side_a, on_side_b, on_side_c, on_side_d, on_side_e}
-pub use Rattle.tl_run.specs.Inner.Running.{AllStop, AreStopped, Does, HasEnded, HaveRoomToCount, IsAt, IsSent, IsStopped, all_progress, all_standing, all_stopped, all_under_way, counted, progress, standing_count, steps, under_way}
+pub use Rattle.tl_run.specs.Inner.Running.{AllStop, AreStopped, Does, HasEnded, HaveRoomToCount, IsAt, IsSent, IsStopped, all_progress, all_standing}
+pub use Rattle.tl_run.specs.Inner.Running.{all_stopped, all_under_way, counted, progress, standing_count, steps, under_way}
 pub use Rattle.tl_run.specs.Scripts.{IsShort, near_beats}
 pub use Rattle.tl_run.specs.declared.channel_state.Offered.{Offered}
 pub use Rattle.tl_run.specs.declared.channel_state.Offered.TheVariants.{Accepted, NotReady, Stopped}
@@ -47,5 +49,7 @@ pub use Rattle.tl_sides.proofs.SameSides.{same_client_then, same_manager_then, s
 pub use Rattle.tl_sides.specs.Bridges.{Bridge, Past, StandsFor}
 pub use Rattle.tl_sides.specs.Crossings.{stops_alone}
 pub use Rattle.tl_sides.specs.Ends.{AreStanding, Fetches, Pumps, fetch_count, pump_count}
-pub use Rattle.tl_sides.specs.Sides.{AreSides, ClientPast, ClientStandsFor, ClientState, ManagerPast, ManagerStandsFor, ManagerState, SameClient, SameManager, SidesMeet, client_pumps, client_takes_b, client_takes_d, manager_pumps, manager_takes_a, manager_takes_c, manager_takes_e, new_client, new_manager}
+pub use Rattle.tl_sides.specs.Sides.{AreSides, ClientPast, ClientStandsFor, ClientState, ManagerPast, ManagerStandsFor, ManagerState, SameClient}
+pub use Rattle.tl_sides.specs.Sides.{SameManager, SidesMeet, client_pumps, client_takes_b, client_takes_d, manager_pumps, manager_takes_a}
+pub use Rattle.tl_sides.specs.Sides.{manager_takes_c, manager_takes_e, new_client, new_manager}
 pub use Rattle.tl_sides.specs.declared.per_channel.PerChannel.{PerChannel}

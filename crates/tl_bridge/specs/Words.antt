@@ -8,7 +8,8 @@ pub use Rattle.tl_msg.specs.declared.head.HeadD.{HeadD}
 pub use Rattle.tl_msg.specs.declared.head.HeadE.{HeadE}
 pub use Rattle.tl_ring.specs.Ends.{Sending, Taking, known_free, known_items, received, room, seen_by, sent}
 pub use Rattle.tl_ring.specs.Pipe.{Pipe}
-pub use Rattle.tl_run.specs.Inner.Running.{AllStop, AreStopped, Does, HaveRoomToCount, IsAt, IsHomed, IsSent, IsStopped, Stops, all_standing, all_under_way, steps}
+pub use Rattle.tl_run.specs.Inner.Running.{AllStop, AreStopped, Does, HaveRoomToCount, IsAt, IsHomed, IsSent, IsStopped, Stops, all_standing}
+pub use Rattle.tl_run.specs.Inner.Running.{all_under_way, steps}
 pub use Rattle.tl_run.specs.declared.channel_state.Offered.{Offered}
 pub use Rattle.tl_run.specs.declared.channel_state.Offered.TheVariants.{NotReady}
 pub use Rattle.tl_run.specs.declared.taken.Taken.{Taken}
@@ -18,5 +19,6 @@ pub use Rattle.tl_settle.specs.Rounds.{ClientMoves, ManagerMoves}
 pub use Rattle.tl_settle.specs.Settling.{far_a, far_d}
 pub use Rattle.tl_sides.specs.Bridges.{Bridge, Past}
 pub use Rattle.tl_sides.specs.Crossings.{stops_alone}
-pub use Rattle.tl_sides.specs.Sides.{AreSides, ClientPast, ClientStandsFor, ClientState, ManagerPast, ManagerStandsFor, ManagerState, SameClient, SameManager, SidesMeet, new_client, new_manager}
+pub use Rattle.tl_sides.specs.Sides.{AreSides, ClientPast, ClientStandsFor, ClientState, ManagerPast, ManagerStandsFor, ManagerState, SameClient}
+pub use Rattle.tl_sides.specs.Sides.{SameManager, SidesMeet, new_client, new_manager}
 pub use Rattle.tl_sides.specs.declared.per_channel.PerChannel.{PerChannel}

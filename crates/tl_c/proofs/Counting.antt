@@ -11,10 +11,12 @@ use Rattle.tl_c.specs.declared.held.ClientHeld.{ClientHeld}
 use Rattle.tl_c.specs.declared.held.ManagerHeld.{ManagerHeld}
 use Rattle.tl_c.specs.Calls.{AreCounted, beat_counts}
 
-counts_one : {K A H : Type 0} {v : ℕ} {s : Sending K A H v} {t : Taking K A H v} {n : Standing} → AreStanding s t n → told.beat_counts n ≡ beat_counts s t
+counts_one : {K A H : Type 0} {v : ℕ} {s : Sending K A H v} {t : Taking K A H v} {n : Standing} → AreStanding s t n →
+    told.beat_counts n ≡ beat_counts s t
 counts_one is = let staged = is.staged in let in_ring = is.in_ring in let inbox = is.inbox in cc
 
-pub counted : {client : Option ClientHeld} {manager : Option ManagerHeld} {s : ClientHeld} {t : ManagerHeld} {n : PerChannel Standing} {counts : ChannelCounts} →
+pub counted : {client : Option ClientHeld} {manager : Option ManagerHeld} {s : ClientHeld} {t : ManagerHeld}
+    {n : PerChannel Standing} {counts : ChannelCounts} →
     client ≡ Some s → manager ≡ Some t → counts ≡ told.channel_counts n → AreStanding s.side.a t.side.a n.a → AreStanding t.side.b s.side.b n.b →
     AreStanding s.side.c t.side.c n.c → AreStanding t.side.d s.side.d n.d → AreStanding s.side.e t.side.e n.e → AreCounted client manager counts
 counted {manager = manager} {s = s} {counts = counts} client_is manager_is told_as a b c d e =

@@ -10,7 +10,8 @@ use Rattle.tl_c_beats.specs.Calls.{Stands, Told}
 use Rattle.tl_c_beats.proofs.Telling.{tells}
 use Rattle.tl_c.specs.Calls.{Takes, waiting}
 
-module _ {S P : Type 0} {StandsFor : S → P → Type 0} {H : Type 0} {w : ℕ} {r : Rules H} {fields_of : BeatOf H w → BeatFields} (inbox : S → List (BeatOf H w))
+module _ {S P : Type 0} {StandsFor : S → P → Type 0} {H : Type 0} {w : ℕ} {r : Rules H} {fields_of : BeatOf H w → BeatFields}
+    (inbox : S → List (BeatOf H w))
     {after : List (BeatOf H w) → P → P} {before now : Option S} where
   -- nothing is held
   pub takes_nothing : {unwritten : BeatFields} {old_bytes : List ℕ} → before ≡ None → now ≡ None →
@@ -29,7 +30,8 @@ module _ {S P : Type 0} {StandsFor : S → P → Type 0} {H : Type 0} {w : ℕ} 
       {first : Option (BeatOf H w)} → first ≡ slice_get (inbox h) 0 → IfSome first (λ beat. IsLawfulBeat r beat) →
       ((x : P) → StandsFor h x → StandsFor k (after (take 1 (inbox h)) x)) → Told fields_of first unwritten written old_bytes bytes answer →
       Takes (Stands StandsFor) r fields_of (waiting inbox) after before now unwritten written old_bytes bytes answer
-  takes {h = h} {k = k} was is {unwritten = unwritten} {written = written} {old_bytes = old_bytes} {bytes = bytes} {answer = answer} first lawful taken told =
+  takes {h = h} {k = k} was is {unwritten = unwritten} {written = written} {old_bytes = old_bytes} {bytes = bytes}
+      {answer = answer} first lawful taken told =
       subst (λ s. Takes (Stands StandsFor) r fields_of (waiting inbox) after s now unwritten written old_bytes bytes answer) (sym was)
       (subst (λ s. Takes (Stands StandsFor) r fields_of (waiting inbox) after (Some h) s unwritten written old_bytes bytes answer) (sym is) (record {
         nothing = λ e. absurd (none-some h (sym e));

@@ -13,7 +13,8 @@ use Rattle.std.specs.Global.{Global}
 use Rattle.tl_sides.specs.Calls.{SendingChannel}
 use Rattle.tl_sides.specs.Sides.{side_sends_a, side_sends_b, side_sends_c, side_sends_d, side_sends_e}
 use Rattle.tl_sides.specs.Ends.{Pumps, Fetches, pump_count, fetch_count}
-use Rattle.tl_sides.specs.Sides.{ClientState, ManagerState, ClientPast, ManagerPast, ClientStandsFor, ManagerStandsFor, AreSides, SidesMeet, SameClient, SameManager, client_pumps, manager_pumps}
+use Rattle.tl_sides.specs.Sides.{ClientState, ManagerState, ClientPast, ManagerPast, ClientStandsFor, ManagerStandsFor, AreSides, SidesMeet}
+use Rattle.tl_sides.specs.Sides.{SameClient, SameManager, client_pumps, manager_pumps}
 use Rattle.tl_c_beats.specs.declared.counts.BeatCounts.{BeatCounts}
 use Rattle.tl_c_beats.specs.declared.counts.ChannelCounts.{ChannelCounts}
 use Rattle.tl_c_beats.specs.declared.fields.BeatFields.{BeatFields}

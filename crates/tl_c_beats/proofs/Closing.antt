@@ -27,13 +27,16 @@ held_not_none : {S Q : Type 0} {before : Option S} {h : S} → before ≡ Some h
 held_not_none {h = h} was e = absurd (none-some h (sym e ∙ was))
 
 -- what is held is the side q before the call and q' after it
-pub closes : {S P R H : Type 0} {w : ℕ} {Holds : Option S → P → Type 0} {none : ℕ} {k : SendingChannel R P H w} {before now : Option S} {answer : ℕ} (of : R → S) {q q' : R} →
-    before ≡ Some (of q) → now ≡ Some (of q') → ((x : P) → Holds (Some (of q)) x → k.Stands q x) → ((x : P) → k.Stands q' x → Holds (Some (of q')) x) →
+pub closes : {S P R H : Type 0} {w : ℕ} {Holds : Option S → P → Type 0} {none : ℕ} {k : SendingChannel R P H w} {before now : Option S}
+    {answer : ℕ} (of : R → S) {q q' : R} →
+    before ≡ Some (of q) → now ≡ Some (of q') → ((x : P) → Holds (Some (of q)) x → k.Stands q x) →
+        ((x : P) → k.Stands q' x → Holds (Some (of q')) x) →
     (closed : Result Unit EndFault) → answer ≡ close_number closed → ClosesChannel k q closed q' → Closes Holds none k before now answer
 closes {w = w} {Holds = Holds} {k = k} of was is to from closed told said =
     record {
       nothing = held_not_none was;
       answers = λ x h. told ∙ close_told closed (rest_of k.rules w (k.accepted x)) (said.between x (to x (subst (λ s. Holds s x) was h)));
-      closed = λ x h e. subst (λ s. Holds s (k.ended x)) (sym is) (from (k.ended x) (on_0 closed (said.stands x (to x (subst (λ s. Holds s x) was h))) (sym told ∙ e)));
+      closed = λ x h e. subst (λ s. Holds s (k.ended x)) (sym is)
+          (from (k.ended x) (on_0 closed (said.stands x (to x (subst (λ s. Holds s x) was h))) (sym told ∙ e)));
       refused = λ e. is ∙ ap (λ z. Some (of z)) (on_else closed said.refused (λ z. e (told ∙ z))) ∙ sym was;
     }

@@ -32,7 +32,8 @@ ready_if p x alike is = is_free_if x.closed x.stage (sym alike.0 ∙ is.0, sym a
 ready_only : {H : Type 0} {w v : ℕ} (p : Pipe H v) (x : World H w v) → AreAlike p x → (IsReady p → ⊥) → is_ready x ≡ false
 ready_only p x alike not = is_free_only x.closed x.stage (λ is. not (alike.0 ∙ is.0, alike.1 ∙ is.1))
 
-verdict_told : (offered : Result Unit SideFault) (verdict : Option SideFault) → IsOk offered ↔ (verdict ≡ None) → IfErr offered (λ fault. verdict ≡ Some fault)
+verdict_told : (offered : Result Unit SideFault) (verdict : Option SideFault) → IsOk offered ↔ (verdict ≡ None) →
+    IfErr offered (λ fault. verdict ≡ Some fault)
     → offer_number offered ≡ fault_answer verdict
 verdict_told (Ok done) verdict admitted fault = ap fault_answer (sym (admitted.0 refl))
 verdict_told (Err f) verdict admitted fault = ap fault_answer (sym fault)
@@ -48,16 +49,19 @@ on_else (Err fault) q not = q
 held_not_none : {S Q : Type 0} {before : Option S} {h : S} → before ≡ Some h → before ≡ None → Q
 held_not_none {h = h} was e = absurd (none-some h (sym e ∙ was))
 
-not_held : {S P : Type 0} (StandsFor : S → P → Type 0) (Q : P → Type 0) {before : Option S} → before ≡ None → (x : P) → Stands StandsFor before x → Q x
+not_held : {S P : Type 0} (StandsFor : S → P → Type 0) (Q : P → Type 0) {before : Option S} → before ≡ None → (x : P) →
+    Stands StandsFor before x → Q x
 not_held StandsFor Q was x held = absurd (subst (λ s. Stands StandsFor s x) was held)
 
-stands_held : {S P : Type 0} (StandsFor : S → P → Type 0) {before : Option S} {h : S} → before ≡ Some h → (x : P) → Stands StandsFor before x → StandsFor h x
+stands_held : {S P : Type 0} (StandsFor : S → P → Type 0) {before : Option S} {h : S} → before ≡ Some h → (x : P) →
+    Stands StandsFor before x → StandsFor h x
 stands_held StandsFor was x held = subst (λ s. Stands StandsFor s x) was held
 
 later_not_0 : NOT_READY ≡ 0 → ⊥
 later_not_0 e = omega (arith, e)
 
-module _ {S P : Type 0} {StandsFor : S → P → Type 0} {R H : Type 0} {w v : ℕ} {k : SendingChannel R P H w} {channel : P → World H w v} {b : BeatOf H w} {before now : Option S}
+module _ {S P : Type 0} {StandsFor : S → P → Type 0} {R H : Type 0} {w v : ℕ} {k : SendingChannel R P H w} {channel : P → World H w v}
+    {b : BeatOf H w} {before now : Option S}
     {none : ℕ} where
   -- nothing is held
   pub offers_none : before ≡ None → now ≡ None → Offers (Stands StandsFor) none k channel b before now none
@@ -73,15 +77,19 @@ module _ {S P : Type 0} {StandsFor : S → P → Type 0} {R H : Type 0} {w v : �
       Offers (Stands StandsFor) none k channel b before now NOT_READY
   offers_later p h alike was is not = record {
     nothing = held_not_none was;
-    answers = λ x held. ap (λ t. if t then fault_answer (k.stops x b) else NOT_READY) (sym (ready_only p (channel x) (alike x (stands_held StandsFor was x held)) not));
+    answers = λ x held. ap (λ t. if t then fault_answer (k.stops x b) else NOT_READY)
+        (sym (ready_only p (channel x) (alike x (stands_held StandsFor was x held)) not));
     accepted = λ x held e. absurd (later_not_0 e);
     refused = λ e. is ∙ sym was;
   }
 
   -- what is held is the side q before the offer and q' after it; the beat that is offered is the one that C passes
-  pub offers : (of : R → S) (q q' : R) (p : Pipe H v) → ((x : P) → StandsFor (of q) x → AreAlike p (channel x)) → before ≡ Some (of q) → now ≡ Some (of q') →
-      ((x : P) → StandsFor (of q) x → k.Stands q x) → ((x : P) → k.Stands q' x → StandsFor (of q') x) → {answer : ℕ} {given : BeatOf H w} (offered : Result Unit SideFault) →
-      given ≡ b → IsReady p → answer ≡ offer_number offered → OffersBeat k given q offered q' → Offers (Stands StandsFor) none k channel b before now answer
+  pub offers : (of : R → S) (q q' : R) (p : Pipe H v) → ((x : P) → StandsFor (of q) x → AreAlike p (channel x)) →
+      before ≡ Some (of q) → now ≡ Some (of q') →
+      ((x : P) → StandsFor (of q) x → k.Stands q x) → ((x : P) → k.Stands q' x → StandsFor (of q') x) →
+          {answer : ℕ} {given : BeatOf H w} (offered : Result Unit SideFault) →
+      given ≡ b → IsReady p → answer ≡ offer_number offered → OffersBeat k given q offered q' →
+          Offers (Stands StandsFor) none k channel b before now answer
   offers of q q' p alike was is to from {answer = answer} {given = given} offered same_beat ready told said =
       subst (λ z. Offers (Stands StandsFor) none k channel z before now answer) same_beat (record {
         nothing = held_not_none was;

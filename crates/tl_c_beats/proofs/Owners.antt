@@ -1,9 +1,10 @@
--- An owner for C is a struct of a pointer that says no type and of an allocator, which owns a boxed value there or nothing. No struct of C is generic,
--- so each crate declares its own; what its three functions owe is proved here, whatever is owned.
+-- An owner for C is a struct of a pointer that says no type and of an allocator, which owns a boxed value there or nothing. No struct of C is
+-- generic, so each crate declares its own; what its three functions owe is proved here, whatever is owned.
 use Rattle.std.specs.Prelude.{◌≢◌, Option, None, Some}
 use Rattle.std.proofs.Common.{◌≡◌, List, [], ◌∷◌, ◌++◌, refl, sym, ap, ◌∙◌, subst, lit<, w64}
 use seplogic.Ra.Ura.{Ura}
-use mir.Syntax.{Sym, Fn, Local, Callee, local, value_local, impl, tnil, dnil, tcons, ty_struct, ty_ptr, place, field, copy, assign, rv_opd, aggregate, seq, return, int}
+use mir.Syntax.{Sym, Fn, Local, Callee, local, value_local, impl, tnil, dnil, tcons, ty_struct, ty_ptr, place, field, copy, assign, rv_opd, aggregate}
+use mir.Syntax.{seq, return, int}
 use mir.Val.{Val, vint, vstruct, vcons, vnil, has_ty}
 use base.Logic.{SProp, ent, emp, id⊢}
 use base.Fml.{Fml, ftrue, fsep}
@@ -55,14 +56,16 @@ pub record Owner (X : RattleType) : Type 2 where
   pub held : row.Denot → Option X.Denot
   pub made : (o : row.Denot) → o ≡ of (ptr o) (alloc o) (held o)
   pub kept : (p : Ptr) (a : Global) (s : Option X.Denot) → held (of p a s) ≡ s
-  pub owned : (p : Ptr) (a : Global) (s : Option X.Denot) (ws : List Val) → row.own_val (of p a s) ws ≡ fsep ((Struct pair).own_val (p, (a, tt)) ws) (holds X a p s)
+  pub owned : (p : Ptr) (a : Global) (s : Option X.Denot) (ws : List Val) →
+      row.own_val (of p a s) ws ≡ fsep ((Struct pair).own_val (p, (a, tt)) ws) (holds X a p s)
   pub lies : (p : Ptr) (a : Global) (x : X.Denot) → box_owns (ghosts.dealloc_token a) X p x ≡ box_owns (ghosts.dealloc_token a) (param 0 X) p x
   pub last : (o : row.Denot) → Last (row.exit yes) o
   pub silent : (o : row.Denot) (f : Last (row.exit yes) o) → left (row.exit yes) o f ≡ ftrue
 
 -- a function that uses up its one argument
 abbrev pub using_up : (From To : RattleType) → Ended
-using_up From To = record { signature = record { lifetimes = 0; outlives = []; params = plain (λ _. From) ∷ []; result = plain (λ _. To) }; kept = (yes, tt) }
+using_up From To = record { signature =
+    record { lifetimes = 0; outlives = []; params = plain (λ _. From) ∷ []; result = plain (λ _. To) }; kept = (yes, tt) }
 
 abbrev spent : (From To : RattleType) → Stays (using_up From To).signature.params (using_up From To).kept
 spent From To = (stay_dropped (plain (λ _. From)) yes, tt)
@@ -90,7 +93,8 @@ module _ {X : RattleType} (O : Owner X) where
     params = 1;
     locals = fields to ∷ fields from ∷ local ty_ptr value_local ∷ local (α E.al) value_local ∷ local ty_ptr value_local ∷ [];
     body = seq (assign (place 2 []) (rv_opd (copy (place 1 (field 0 ∷ []))))) (seq (assign (place 3 []) (rv_opd (copy (place 1 (field 1 ∷ [])))))
-        (seq (assign (place 4 []) (rv_opd (copy (place 2 [])))) (seq (assign (place 0 []) (aggregate (copy (place 4 []) ∷ copy (place 3 []) ∷ []))) return)));
+        (seq (assign (place 4 []) (rv_opd (copy (place 2 []))))
+            (seq (assign (place 0 []) (aggregate (copy (place 4 []) ∷ copy (place 3 []) ∷ []))) return)));
   }
 
   -- the code that puts a null pointer beside the allocator
@@ -117,8 +121,10 @@ module _ {X : RattleType} (O : Owner X) where
   owns_box : (v : D E) (ws : List Val) → O.row.own_val (of_box v) ws ≡ (B E).own_val v ws
   owns_box v ws = O.owned v.ptr v.alloc (Some v.value) ws ∙ as_box v ws
 
-  holds_box : (o : O.row.Denot) (x : X.Denot) → O.held o ≡ Some x → (ws : List Val) → O.row.own_val o ws ≡ (B E).own_val (record { ptr = O.ptr o; alloc = O.alloc o; value = x }) ws
-  holds_box o x e ws = ap (λ (d : O.row.Denot). O.row.own_val d ws) (O.made o ∙ ap (O.of (O.ptr o) (O.alloc o)) e) ∙ owns_box (record { ptr = O.ptr o; alloc = O.alloc o; value = x }) ws
+  holds_box : (o : O.row.Denot) (x : X.Denot) → O.held o ≡ Some x → (ws : List Val) →
+      O.row.own_val o ws ≡ (B E).own_val (record { ptr = O.ptr o; alloc = O.alloc o; value = x }) ws
+  holds_box o x e ws = ap (λ (d : O.row.Denot). O.row.own_val d ws) (O.made o ∙ ap (O.of (O.ptr o) (O.alloc o)) e) ∙
+      owns_box (record { ptr = O.ptr o; alloc = O.alloc o; value = x }) ws
 
   module _ {M : Type 1} {𝓤 : Ura M} (𝓛 : Logic 𝓤) (𝓜 : Model 𝓤 𝓛.H) (𝓡 : Running 𝓤 𝓛.H 𝓜) where
     open 𝓛 use {H}
@@ -127,7 +133,8 @@ module _ {X : RattleType} (O : Owner X) where
     𝓣 = tables 𝓤 H 𝓜 𝓡 𝓡.env
 
     -- the cast runs, and what the box owned goes with its fields
-    cast_runs : (to from : Sym) (v : D E) (ws : List Val) (Post : Val → SProp 𝓤) → ((w : Val) → ent 𝓤 (⋆ 𝓛 (‵ ((B E).own_val v (w ∷ [])) ∷ [])) (Post w))
+    cast_runs : (to from : Sym) (v : D E) (ws : List Val) (Post : Val → SProp 𝓤) →
+        ((w : Val) → ent 𝓤 (⋆ 𝓛 (‵ ((B E).own_val v (w ∷ [])) ∷ [])) (Post w))
         → ent 𝓤 (⋆ 𝓛 (‵ ((B E).own_val v ws) ∷ [])) (WpFn 𝓤 H 𝓣.C 𝓣.Λ (cast to from) (ws ++ []) Post)
     cast_runs to from v ws Post k =
         qed 𝓛 (‵ ((B E).own_val v ws) ∷ []) ∵ box_out E ! v ws (λ b o hv e us fa. box_in E ! v b o v.value e refl $
@@ -135,8 +142,10 @@ module _ {X : RattleType} (O : Owner X) where
         let Γ : List (Item 𝓤) = ‵ ((B E).own_val v (w ∷ [])) ∷ [] in
         by ! (subst (λ (vs : List Val). ent 𝓤 (⋆ 𝓛 Γ) (WpFn 𝓤 H 𝓣.C 𝓣.Λ (cast to from) (vs ++ []) Post)) (sym us)
         (qed 𝓛 Γ ∵ enter ! 𝓣.C 𝓣.Λ (cast to from) (w ∷ []) _ $ alloc_all ! (λ ls. pass_all ! refl (box_typed E hv b o fa, tt) $
-        sets ! (of_opd ! (get_in ! (fld ! refl (stop !)) (sub ! 0 refl (whole !)))) refl (tt, tt) $ sets ! (of_opd ! (get_in ! (fld ! refl (stop !)) (sub ! 1 refl (whole !)))) refl fa $
-        sets ! (of_opd ! (get ! refl)) refl (tt, tt) $ sets ! (agg ! (and_then ! (get ! refl) (and_then ! (get ! refl) (no_more !)))) refl (box_typed E hv b o fa) $
+        sets ! (of_opd ! (get_in ! (fld ! refl (stop !)) (sub ! 0 refl (whole !)))) refl (tt, tt) $
+            sets ! (of_opd ! (get_in ! (fld ! refl (stop !)) (sub ! 1 refl (whole !)))) refl fa $
+        sets ! (of_opd ! (get ! refl)) refl (tt, tt) $
+            sets ! (agg ! (and_then ! (get ! refl) (and_then ! (get ! refl) (no_more !)))) refl (box_typed E hv b o fa) $
         returns ! (look_at ! 0 refl) $ free_all ! refl $ by ! (k w)))))
 
     abbrev takes : Clauses 𝓤 (using_up Apart O.row)
@@ -146,7 +155,8 @@ module _ {X : RattleType} (O : Owner X) where
     gives κs a = record { ghost = Unit {0}; requires = λ g. fact 𝓤 (O.held a.0 ≢ None); ensures = λ g r end. fact 𝓤 (O.held a.0 ≡ Some r.value) }
 
     -- `of_parts`
-    pub of_parts_meets : (k : Callee) → Closed 𝓤 H 𝓣.C 𝓣.Λ k (cast O.name apart) → Meets 𝓛 (using_up Apart O.row).signature (𝓣.C k) (closing 𝓛 (using_up Apart O.row) takes)
+    pub of_parts_meets : (k : Callee) → Closed 𝓤 H 𝓣.C 𝓣.Λ k (cast O.name apart) →
+        Meets 𝓛 (using_up Apart O.row).signature (𝓣.C k) (closing 𝓛 (using_up Apart O.row) takes)
     of_parts_meets k closed =
         let T = using_up Apart O.row in let hs = spent Apart O.row in
         proved_at 𝓛 T hs takes 𝓜 𝓡 (Goes-dropped 𝓛 0 (plain (λ _. Apart)) yes (λ κs x w. refl), tt) k (cast O.name apart) closed (λ z are.
@@ -155,13 +165,16 @@ module _ {X : RattleType} (O : Owner X) where
         rewrite ! 0 (λ (F : Fml). ‵ F) (as_box v z.0.4.0) refl $
         by ! (cast_runs O.name apart v z.0.4.0 ((walk_of 𝓛 T hs takes).post z) (λ w. qed 𝓛 (‵ ((B E).own_val v (w ∷ [])) ∷ []) ∵
         rewrite ! 0 (λ (F : Fml). ‵ F) (sym (owns_box v (w ∷ []))) refl $
-        suffices ! _ (ends_at 𝓛 T hs takes z w (of_box v) (tt, tt) (tt, tt)) $ says ! (O.kept v.ptr v.alloc (Some v.value)) $ nothing ! $ nothing ! $ fjoin ! $ join ! $ nothing ! $ join ! $ done !)))
+        suffices ! _ (ends_at 𝓛 T hs takes z w (of_box v) (tt, tt) (tt, tt)) $ says ! (O.kept v.ptr v.alloc (Some v.value)) $ nothing ! $ nothing ! $
+            fjoin ! $ join ! $ nothing ! $ join ! $ done !)))
 
     abbrev given : (z : (walk_of 𝓛 (using_up O.row Apart) (spent O.row Apart) gives).Ghost) → List (Item 𝓤)
     given z = (‵ ftrue ⊛ ‵ (fsep (O.row.own_val z.0.3.0 z.0.4.0) ftrue)) ∷ []
 
-    opens_each : (z : (walk_of 𝓛 (using_up O.row Apart) (spent O.row Apart) gives).Ghost) (s : Option X.Denot) → O.held z.0.3.0 ≡ s → O.held z.0.3.0 ≢ None
-        → ent 𝓤 (⋆ 𝓛 (given z)) (WpFn 𝓤 H 𝓣.C 𝓣.Λ (cast apart O.name) (z.0.4.0 ++ []) ((walk_of 𝓛 (using_up O.row Apart) (spent O.row Apart) gives).post z))
+    opens_each : (z : (walk_of 𝓛 (using_up O.row Apart) (spent O.row Apart) gives).Ghost) (s : Option X.Denot) →
+        O.held z.0.3.0 ≡ s → O.held z.0.3.0 ≢ None
+        → ent 𝓤 (⋆ 𝓛 (given z)) (WpFn 𝓤 H 𝓣.C 𝓣.Λ (cast apart O.name) (z.0.4.0 ++ [])
+            ((walk_of 𝓛 (using_up O.row Apart) (spent O.row Apart) gives).post z))
     opens_each z None e has = absurd (has e)
     opens_each z (Some x) e has =
         let T = using_up O.row Apart in let hs = spent O.row Apart in let o = z.0.3.0 in
@@ -169,12 +182,15 @@ module _ {X : RattleType} (O : Owner X) where
         qed 𝓛 (given z) ∵ split ! $ drop ! $ fsplit ! $ keep ! (0 ∷ []) $ rewrite ! 0 (λ (F : Fml). ‵ F) (holds_box o x e z.0.4.0) refl $
         by ! (cast_runs apart O.name v z.0.4.0 ((walk_of 𝓛 T hs gives).post z) (λ w. qed 𝓛 (‵ ((B E).own_val v (w ∷ [])) ∷ []) ∵
         rewrite ! 0 (λ (F : Fml). ‵ F) (sym (as_box v (w ∷ []))) refl $
-        suffices ! _ (ends_at 𝓛 T hs gives z w (apart_of v) (O.last z.0.3.0, tt) (tt, tt)) $ says ! e $ nothing ! $ nothing ! $ fjoin ! $ join ! $ nothing ! $ join ! $ done !))
+        suffices ! _ (ends_at 𝓛 T hs gives z w (apart_of v) (O.last z.0.3.0, tt) (tt, tt)) $ says ! e $ nothing ! $ nothing ! $ fjoin ! $
+            join ! $ nothing ! $ join ! $ done !))
 
     -- `into_parts`: something is held, so that is a box
-    pub into_parts_meets : (k : Callee) → Closed 𝓤 H 𝓣.C 𝓣.Λ k (cast apart O.name) → Meets 𝓛 (using_up O.row Apart).signature (𝓣.C k) (closing 𝓛 (using_up O.row Apart) gives)
+    pub into_parts_meets : (k : Callee) → Closed 𝓤 H 𝓣.C 𝓣.Λ k (cast apart O.name) →
+        Meets 𝓛 (using_up O.row Apart).signature (𝓣.C k) (closing 𝓛 (using_up O.row Apart) gives)
     into_parts_meets k closed =
-        proved_at 𝓛 (using_up O.row Apart) (spent O.row Apart) gives 𝓜 𝓡 (Goes-dropped 𝓛 0 (plain (λ _. O.row)) yes (λ κs. O.silent), tt) k (cast apart O.name) closed (λ z are.
+        proved_at 𝓛 (using_up O.row Apart) (spent O.row Apart) gives 𝓜 𝓡 (Goes-dropped 𝓛 0 (plain (λ _. O.row)) yes (λ κs. O.silent), tt) k
+            (cast apart O.name) closed (λ z are.
         qed 𝓛 ((‵ ftrue ⊛ ‵ (fsep (O.row.own_val z.0.3.0 z.0.4.0) ftrue)) ∷ raw (fact 𝓤 (O.held z.0.3.0 ≢ None)) ∷ []) ∵
         move ! (1 ∷ []) $ heard ! (O.held z.0.3.0 ≢ None) (λ has. by ! (opens_each z (O.held z.0.3.0) refl has)))
 
@@ -182,7 +198,8 @@ module _ {X : RattleType} (O : Owner X) where
     empties κs a = record { ghost = Unit {0}; requires = λ g. emp 𝓤; ensures = λ g r end. fact 𝓤 (O.held r ≡ None) }
 
     -- `nothing`: a null pointer owns nothing
-    pub nothing_meets : (k : Callee) → Closed 𝓤 H 𝓣.C 𝓣.Λ k nulled → Meets 𝓛 (using_up Heap.the_row O.row).signature (𝓣.C k) (closing 𝓛 (using_up Heap.the_row O.row) empties)
+    pub nothing_meets : (k : Callee) → Closed 𝓤 H 𝓣.C 𝓣.Λ k nulled →
+        Meets 𝓛 (using_up Heap.the_row O.row).signature (𝓣.C k) (closing 𝓛 (using_up Heap.the_row O.row) empties)
     nothing_meets k closed =
         let T = using_up Heap.the_row O.row in let hs = spent Heap.the_row O.row in let W = walk_of 𝓛 T hs empties in
         proved_at 𝓛 T hs empties 𝓜 𝓡 (Goes-dropped 𝓛 0 (plain (λ _. Heap.the_row)) yes (λ κs x w. refl), tt) k nulled closed (λ z are.
@@ -193,7 +210,8 @@ module _ {X : RattleType} (O : Owner X) where
         suffices ! (Run (hv ∷ [])) (subst (λ (us : List Val). ent 𝓤 (Run (hv ∷ [])) (Run us)) (sym (λ i. eh i ++ [])) (id⊢ 𝓤 (Run (hv ∷ [])))) $
         enter ! 𝓣.C 𝓣.Λ nulled (hv ∷ []) Post $ alloc_all ! (λ l. pass_all ! refl (fa, tt) $
         -- [the allocator; nothing; the tokens; nothing; the locals]
-        sets ! (agg ! (and_then ! (lit ! tt) (and_then ! (get ! refl) (no_more !)))) refl (and_tt (has_ty (α E.al) hv) fa.0, (record { fits = lit< tt }, (fa.1, tt))) $
+        sets ! (agg ! (and_then ! (lit ! tt) (and_then ! (get ! refl) (no_more !)))) refl
+            (and_tt (has_ty (α E.al) hv) fa.0, (record { fits = lit< tt }, (fa.1, tt))) $
         nothing ! $ nothing ! $ move ! (2 ∷ 0 ∷ []) $ fjoin ! $ feq_i ! (List Val) (vint w64 0 ∷ []) (ptr_val null_ptr ∷ []) refl $ fjoin ! $
         feq_i ! (List Val) (w ∷ []) (w ∷ []) refl $ fjoin ! $
         fpack ! (Valss pair.fields) (within pair (null_ptr, (a, tt)) (w ∷ [])) (vint w64 0 ∷ [], (hv ∷ [], tt)) $ fjoin ! $

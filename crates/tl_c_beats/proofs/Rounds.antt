@@ -18,7 +18,8 @@ module _ {K A H : Type 0} {v : ℕ} where
       record { ring = m.ring; free = omega (arith, same_room, all_free) }
 
   -- a pair whose ends have pumped and fetched, each by itself, is one still
-  pub still_paired : {s s1 s2 : Sending K A H v} {t t1 t2 : Taking K A H v} → ArePair s t → Pumps s s1 → s2 ≡ s1 → t1 ≡ t → Fetches t1 t2 → ArePair s2 t2
+  pub still_paired : {s s1 s2 : Sending K A H v} {t t1 t2 : Taking K A H v} → ArePair s t → Pumps s s1 → s2 ≡ s1 →
+      t1 ≡ t → Fetches t1 t2 → ArePair s2 t2
   still_paired {s} {s1} {s2} {t} {t1} {t2} pair pump alone beside fetch =
       subst (λ q. ArePair q t2) (sym alone) (still_pair s s1 t t2 pump.pushed.ring (subst (λ q. SameTake q t2) beside fetch.fetched.ring) pair)
 
@@ -29,7 +30,8 @@ module _ {K A H : Type 0} {v : ℕ} where
     pub still : pump_count s s1 + fetch_count t1 t2 ≡ 0 → IsStill s3 t3
 
   -- the sending end pumps while the taking end does something else, which then fetches while the sending end does something else; then they meet
-  pub turned : {s s1 s2 s3 : Sending K A H v} {t t1 t2 t3 : Taking K A H v} → IsKnown s t → Pumps s s1 → s2 ≡ s1 → t1 ≡ t → Fetches t1 t2 → Met s2 t2 s3 t3 →
+  pub turned : {s s1 s2 s3 : Sending K A H v} {t t1 t2 t3 : Taking K A H v} → IsKnown s t → Pumps s s1 → s2 ≡ s1 → t1 ≡ t →
+      Fetches t1 t2 → Met s2 t2 s3 t3 →
       Turned s s1 s3 t t1 t2 t3
   turned {s} {s1} {s2} {s3} {t} {t1} {t2} {t3} known pump alone beside fetch met =
       let left : length s1.stage ≡ length s.stage - pump_count s s1 = ap length pump.pushed.stage ∙ length-drop (pump_count s s1) s.stage in
@@ -45,10 +47,13 @@ module _ {K A H : Type 0} {v : ℕ} where
       ap length fetch.fetched.received ∙ length-append (received t1) fetch.fetched.moved in
       let received_3 : length (received t3) ≡ length (received t2) = ap length met.same_received in
       let items_1 : length (known_items t1) ≡ length (known_items t) = ap (λ q. length (known_items q)) beside in
-      let inbox_2 : length t2.inbox ≡ length t1.inbox + length fetch.fetched.moved = ap length fetch.fetched.inbox ∙ length-append t1.inbox fetch.fetched.moved in
+      let inbox_2 : length t2.inbox ≡ length t1.inbox + length fetch.fetched.moved = ap length fetch.fetched.inbox ∙
+          length-append t1.inbox fetch.fetched.moved in
       let inbox_3 : length t3.inbox ≡ length t2.inbox = ap length met.same_inbox in
-      let ring : length (received t) + length (known_items t) ≡ length (sent s) = sym (length-append (received t) (known_items t)) ∙ ap length known.ring in
-      let ring_3 : length (received t3) + length (known_items t3) ≡ length (sent s3) = sym (length-append (received t3) (known_items t3)) ∙ ap length met.ring in
+      let ring : length (received t) + length (known_items t) ≡ length (sent s) =
+          sym (length-append (received t) (known_items t)) ∙ ap length known.ring in
+      let ring_3 : length (received t3) + length (known_items t3) ≡ length (sent s3) =
+          sym (length-append (received t3) (known_items t3)) ∙ ap length met.ring in
       let room_1 : room s1 ≡ room s = pump.pushed.ring.1 in
       let room_2 : room s2 ≡ room s1 = ap room alone in
       let room_3 : room s3 ≡ room s2 = met.send.1 in
@@ -176,7 +181,8 @@ module _ {C M : ℕ} where
 
 -- what rounds have left, and one round more
 pub settles_then : {A : Type 0} {C M : ℕ} {s s' : ClientState A C M} {t t' : ManagerState A C M} {x : ClientPast C M} {y : ManagerPast C M} →
-    SidesSettle s t x y → ((p : ClientPast C M) (q : ManagerPast C M) → ClientStandsFor s p → ManagerStandsFor t q → SidesSettle s' t' p q) → SidesSettle s' t' x y
+    SidesSettle s t x y → ((p : ClientPast C M) (q : ManagerPast C M) → ClientStandsFor s p → ManagerStandsFor t q →
+        SidesSettle s' t' p q) → SidesSettle s' t' x y
 settles_then so_far more =
     let last = more so_far.client so_far.manager so_far.meets.client so_far.meets.manager in
     record {

@@ -6,12 +6,14 @@ use Rattle.tl_c_beats.specs.declared.fields.BeatFields.{BeatFields}
 use Rattle.tl_c_beats.specs.Answers.{IsTold}
 use Rattle.tl_c_beats.specs.Calls.{Told, Tells}
 
-module _ {H : Type 0} {w : ℕ} {fields_of : BeatOf H w → BeatFields} {first : Option (BeatOf H w)} {unwritten written : BeatFields} {old_bytes bytes : List ℕ} where
+module _ {H : Type 0} {w : ℕ} {fields_of : BeatOf H w → BeatFields} {first : Option (BeatOf H w)} {unwritten written : BeatFields}
+    {old_bytes bytes : List ℕ} where
   pub told_beat : (beat : BeatOf H w) → first ≡ Some beat → written ≡ fields_of beat → bytes ≡ beat.lanes →
       Told fields_of first unwritten written old_bytes bytes true
   told_beat beat is fields lanes = record { beat = λ e. record { beat = beat; is_first = is; fields = fields; lanes = lanes }; none = λ e. cc }
 
-  pub tells : {inbox : List (BeatOf H w)} {answer : Bool} → first ≡ slice_get inbox 0 → Told fields_of first unwritten written old_bytes bytes answer →
+  pub tells : {inbox : List (BeatOf H w)} {answer : Bool} → first ≡ slice_get inbox 0 →
+      Told fields_of first unwritten written old_bytes bytes answer →
       Tells fields_of inbox written bytes answer
   tells same told = record {
     beat = λ e. subst (λ f. IsTold fields_of f written bytes) same (told.beat e);

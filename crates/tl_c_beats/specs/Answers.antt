@@ -45,7 +45,8 @@ abbrev pub close_number : Result Unit EndFault → ℕ
 close_number = number_of end_fault_number
 
 -- C was told the first beat of an inbox
-pub record IsTold {H : Type 0} {w : ℕ} (fields_of : BeatOf H w → BeatFields) (first : Option (BeatOf H w)) (written : BeatFields) (bytes : List ℕ) : Type 0 where
+pub record IsTold {H : Type 0} {w : ℕ} (fields_of : BeatOf H w → BeatFields) (first : Option (BeatOf H w)) (written : BeatFields)
+    (bytes : List ℕ) : Type 0 where
   pub beat : BeatOf H w
   pub is_first : first ≡ Some beat
   pub fields : written ≡ fields_of beat

@@ -14,7 +14,8 @@ Stands StandsFor None x = ⊥
 Stands StandsFor (Some h) x = StandsFor h x
 
 -- whether a channel may be offered a beat: no where nothing is held. Nothing changes
-pub record Asks {S P : Type 0} (Holds : Option S → P → Type 0) {H : Type 0} {w v : ℕ} (channel : P → World H w v) (before now : Option S) (answer : Bool) : Type 0 where
+pub record Asks {S P : Type 0} (Holds : Option S → P → Type 0) {H : Type 0} {w v : ℕ} (channel : P → World H w v) (before now : Option S)
+    (answer : Bool) : Type 0 where
   pub nothing : before ≡ None → answer ≡ false
   pub ready : (x : P) → Holds before x → answer ≡ is_ready (channel x)
   pub same : now ≡ before

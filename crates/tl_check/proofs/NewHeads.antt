@@ -39,7 +39,8 @@ module _ {H : Type 0} (r : Rules H) where
   module _ (exact : (x y : H) → r.same x y ≡ true → x ≡ y) (w v : ℕ) (near : 0 < w) (far : 0 < v) where
     -- so have the far beats of a rest
     part-heads : (home : ℕ) (b : BeatOf H w) (rest : List (BeatOf H w)) → HaveHead b.head (part r w v home (b ∷ rest))
-    part-heads home b rest = heads-first b.head (far_beats_of r b.head w v (length (b ∷ rest))) _ (laid-heads (message_of r b.head w home (b ∷ rest)) v _)
+    part-heads home b rest = heads-first b.head (far_beats_of r b.head w v (length (b ∷ rest))) _
+        (laid-heads (message_of r b.head w home (b ∷ rest)) v _)
 
     -- what stands after the whole messages before a beat has the beat's head
     step-heads : (x y : ℕ) (b : BeatOf H w) (rest : List (BeatOf H w)) (t : Bool) → KeepsHead rest b →
@@ -65,4 +66,5 @@ module _ {H : Type 0} (r : Rules H) where
         ap length (due_split r w v [] homes bs) ∙ length-append laid (part r w v (slice_index left 0) rest) in
         let cut = later laid step before news parted (omega arith) in
         heads-last b.head cut.0 news
-        (subst (λ q. HaveHead b.head q) cut.1 (step-heads (slice_index left 0) (slice_index (cond t (drop 1 left) left) 0) b rest t (keeps_head r exact bs b fine)))
+        (subst (λ q. HaveHead b.head q) cut.1
+        (step-heads (slice_index left 0) (slice_index (cond t (drop 1 left) left) 0) b rest t (keeps_head r exact bs b fine)))

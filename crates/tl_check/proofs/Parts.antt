@@ -16,5 +16,6 @@ pub low : (gone at far n : ℕ) → IsWithin gone at far n → at - gone < n →
 low gone at far n w within = omega (arith, w.from, w.few, within)
 
 -- there is none where no beat is left
-pub none-left : {B : Type 0} (gone at : ℕ) (held : List B) → false ≡ nat_lt (at - gone) (length held) → {far : ℕ} → IsWithin gone at far (length held) → gone + length held ≤ at
+pub none-left : {B : Type 0} (gone at : ℕ) (held : List B) → false ≡ nat_lt (at - gone) (length held) → {far : ℕ} →
+    IsWithin gone at far (length held) → gone + length held ≤ at
 none-left gone at held none w = grind (arith, nat_tests, none, w.from)

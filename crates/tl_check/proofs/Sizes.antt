@@ -5,7 +5,8 @@ use mir.Syntax.{Ty}
 use Rattle.tl_lanes.proofs.Sizes.{align-small, up_le}
 
 bytes-fit : (a t : ℕ) → a ≤ 16 → t < 1000 →
-    up (max (max (max 1 (max (max (max a 4) 1) 1)) 16) 8) (up 8 (up 8 (up (max (max 1 (max (max (max a 4) 1) 1)) 16) 0 + t) + 8) + 8) < 9223372036854775808
+    up (max (max (max 1 (max (max (max a 4) 1) 1)) 16) 8)
+    (up 8 (up 8 (up (max (max 1 (max (max (max a 4) 1) 1)) 16) 0 + t) + 8) + 8) < 9223372036854775808
 bytes-fit a t ha few =
     let one = up_le (max (max 1 (max (max (max a 4) 1) 1)) 16) 0 in
     let two = up_le 8 (up (max (max 1 (max (max (max a 4) 1) 1)) 16) 0 + t) in

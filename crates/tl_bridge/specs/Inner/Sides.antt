@@ -1,7 +1,12 @@
 -- What each side of a run does within a round, and what both have come to at a meeting. Only contracts of private functions cite these words.
 use Rattle.std.proofs.Common.{◌≡◌, ◌≢◌, ◌+◌, ◌≤◌, ◌⊎◌, ◌++◌, ◌∙◌, ℕ, true, List, [], length, map, vec_len, vec_capacity}
 use mathlib.Core.List.{IsPrefix}
-use Rattle.tl_bridge.specs.Words.{rules_a, rules_b, rules_c, rules_d, rules_e, HeadA, HeadB, HeadC, HeadD, HeadE, BeatOf, Sending, Taking, seen_by, sent, received, known_free, known_items, room, Pipe, Event, Ask, Answer, asked, answered, client_answer, manager_answer, manager_home, ClientMoves, ManagerMoves, far_a, far_d, Beats, PerChannel, stops_alone, Bridge, Past, ClientState, ManagerState, ClientPast, ManagerPast, ClientStandsFor, ManagerStandsFor, AreSides, SameClient, SameManager, SidesMeet, new_client, new_manager, Does, Stops, IsSent, IsHomed, IsAt, AllStop, AreStopped, IsStopped, HaveRoomToCount, all_standing, all_under_way, steps, Offered, NotReady}
+use Rattle.tl_bridge.specs.Words.{rules_a, rules_b, rules_c, rules_d, rules_e, HeadA, HeadB, HeadC, HeadD, HeadE, BeatOf, Sending, Taking, seen_by}
+use Rattle.tl_bridge.specs.Words.{sent, received, known_free, known_items, room, Pipe, Event, Ask, Answer, asked, answered, client_answer}
+use Rattle.tl_bridge.specs.Words.{manager_answer, manager_home, ClientMoves, ManagerMoves, far_a, far_d, Beats, PerChannel, stops_alone, Bridge, Past}
+use Rattle.tl_bridge.specs.Words.{ClientState, ManagerState, ClientPast, ManagerPast, ClientStandsFor, ManagerStandsFor, AreSides, SameClient}
+use Rattle.tl_bridge.specs.Words.{SameManager, SidesMeet, new_client, new_manager, Does, Stops, IsSent, IsHomed, IsAt, AllStop, AreStopped, IsStopped}
+use Rattle.tl_bridge.specs.Words.{HaveRoomToCount, all_standing, all_under_way, steps, Offered, NotReady}
 use Rattle.tl_sides.proofs.SameSides.{same_client_then, same_manager_then}
 pub use Rattle.tl_run.specs.Inner.Offering.{SameClientEnds, SameManagerEnds}
 use Rattle.tl_bridge.specs.declared.client_turns.ClientRun.{ClientRun}
@@ -57,7 +62,8 @@ module _ {A : Type 0} {C M : ℕ} (near : Beats C M) (n : PerChannel ℕ) where
 module _ {A : Type 0} {C M : ℕ} (near : Beats C M) where
   -- Where the client's side stands within a round that began with history es, where m beats of A and j of D were accepted: so many beats of each list
   -- are accepted now, these far beats are taken, and this became of its last offers
-  pub record ClientIsAt (j m : ℕ) (es : List (Event C)) (n : PerChannel ℕ) (far_of_b : List (BeatOf HeadB C)) (far_of_d : List (BeatOf HeadD C)) (s : ClientState A C M)
+  pub record ClientIsAt (j m : ℕ) (es : List (Event C)) (n : PerChannel ℕ) (far_of_b : List (BeatOf HeadB C))
+      (far_of_d : List (BeatOf HeadD C)) (s : ClientState A C M)
       (o : PerChannel Offered) : Type 0 where
     pub past : ClientPast C M
     pub stands : ClientStandsFor s past
@@ -75,7 +81,8 @@ module _ {A : Type 0} {C M : ℕ} (near : Beats C M) where
     pub stop_e : Stops rules_e near.e n.e (stops_alone rules_e past.e.accepted) past.e.accepted o.e
 
   -- the same of the manager's side, in a round that began where i beats of A and m of D were accepted
-  pub record ManagerIsAt (i m : ℕ) (es : List (Event M)) (n : PerChannel ℕ) (far_of_a : List (BeatOf HeadA M)) (far_of_c : List (BeatOf HeadC M)) (far_of_e : List (BeatOf HeadE M))
+  pub record ManagerIsAt (i m : ℕ) (es : List (Event M)) (n : PerChannel ℕ) (far_of_a : List (BeatOf HeadA M)) (far_of_c : List (BeatOf HeadC M))
+      (far_of_e : List (BeatOf HeadE M))
       (t : ManagerState A C M) (o : PerChannel Offered) : Type 0 where
     pub past : ManagerPast C M
     pub stands : ManagerStandsFor t past
@@ -155,20 +162,23 @@ module _ {C M : ℕ} where
     IsAt = λ near r n x o. ClientIsAt near r.d r.a r.history n x.far_b.items x.far_d.items x.side o;
     IsDue = λ near r x. IsPrefix (x.far_d.items ++ x.side.d.inbox) (far_d near.a near.d r.d);
     IsEmpty = λ x. (x.side.b.inbox ≡ []) × (x.side.d.inbox ≡ []);
-    HasRoom = λ x. (vec_len x.far_b + length x.side.b.inbox ≤ vec_capacity x.far_b) × (vec_len x.far_d + length x.side.d.inbox ≤ vec_capacity x.far_d);
+    HasRoom = λ x. (vec_len x.far_b + length x.side.b.inbox ≤ vec_capacity x.far_b) ×
+        (vec_len x.far_d + length x.side.d.inbox ≤ vec_capacity x.far_d);
     Rests = λ x x' o. ClientRests x.side x'.side o;
   }
 
   abbrev pub manager_playing : Playing (ManagerRun C M) C M
   manager_playing = record {
-    Same = λ y y'. SameManager y.side y'.side × (vec_capacity y'.far_a ≡ vec_capacity y.far_a) × (vec_capacity y'.far_c ≡ vec_capacity y.far_c) × (vec_capacity y'.far_e ≡ vec_capacity y.far_e);
+    Same = λ y y'. SameManager y.side y'.side × (vec_capacity y'.far_a ≡ vec_capacity y.far_a) × (vec_capacity y'.far_c ≡ vec_capacity y.far_c) ×
+        (vec_capacity y'.far_e ≡ vec_capacity y.far_e);
     same_then = λ x y z f g. (same_manager_then x.side y.side z.side f.0 g.0, g.1 ∙ f.1, g.2 ∙ f.2, g.3 ∙ f.3);
     progress = λ n y. manager_progress n y.side;
     Round = RoundOf M;
     IsAt = λ near r n y o. ManagerIsAt near r.a r.d r.history n y.far_a.items y.far_c.items y.far_e.items y.side o;
     IsDue = λ near r y. IsPrefix (y.far_a.items ++ y.side.a.inbox) (far_a near.a near.d r.a);
     IsEmpty = λ y. (y.side.a.inbox ≡ []) × (y.side.c.inbox ≡ []) × (y.side.e.inbox ≡ []);
-    HasRoom = λ y. (vec_len y.far_a + length y.side.a.inbox ≤ vec_capacity y.far_a) × (vec_len y.far_c + length y.side.c.inbox ≤ vec_capacity y.far_c) × (vec_len y.far_e + length y.side.e.inbox ≤ vec_capacity y.far_e);
+    HasRoom = λ y. (vec_len y.far_a + length y.side.a.inbox ≤ vec_capacity y.far_a) ×
+        (vec_len y.far_c + length y.side.c.inbox ≤ vec_capacity y.far_c) × (vec_len y.far_e + length y.side.e.inbox ≤ vec_capacity y.far_e);
     Rests = λ y y' o. ManagerRests y.side y'.side o;
   }
 
@@ -177,7 +187,8 @@ module _ {S : Type 0} {C M : ℕ} (k : Playing S C M) where
   pub record HasTaken (s s' : S) : Type 0 where
     pub same : k.Same s s'
     pub stays : (n : PerChannel ℕ) → k.progress n s' ≡ k.progress n s
-    pub is_at : (near : Beats C M) (r : k.Round) (n : PerChannel ℕ) (o : PerChannel Offered) → k.IsAt near r n s o → k.IsDue near r s → k.IsAt near r n s' none_ready × k.IsEmpty s'
+    pub is_at : (near : Beats C M) (r : k.Round) (n : PerChannel ℕ) (o : PerChannel Offered) → k.IsAt near r n s o → k.IsDue near r s →
+        k.IsAt near r n s' none_ready × k.IsEmpty s'
     -- if it rests from here on, it did so from before it took
     pub rests : (t : S) (o : PerChannel Offered) → k.Rests s' t o → k.Rests s t o
 
@@ -190,15 +201,16 @@ module _ {S : Type 0} {C M : ℕ} (k : Playing S C M) where
       pub due : k.IsDue near round s
       pub room : k.HasRoom s
 
-    -- A side has played a part of a round: where it stands in every round that is as `May` says, and, if it is as `Rest` says, that it has moved a beat, or
-    -- has accepted none and rests
+    -- A side has played a part of a round: where it stands in every round that is as `May` says, and, if it is as `Rest` says, that it has moved a
+    -- beat, or has accepted none and rests
     pub record HasPlayedPart (May Rest : k.Round → Type 0) (s' : S) (u : Turn) : Type 0 where
       pub same : k.Same s s'
       -- it has come as far as before at least, and further where something moved
       pub keeps : k.progress n s ≤ k.progress u.at s'
       pub goes : u.moved ≡ true → k.progress n s + 1 ≤ k.progress u.at s'
       pub is_at : (r : k.Round) (o : PerChannel Offered) → k.IsAt near r n s o → May r → HaveRoomToCount u.at × k.IsAt near r u.at s' u.offers
-      pub rests : (r : k.Round) (o : PerChannel Offered) → k.IsAt near r n s o → Rest r → (u.moved ≡ true) ⊎ ((u.accepted ≢ true) × k.Rests s s' u.offers)
+      pub rests : (r : k.Round) (o : PerChannel Offered) → k.IsAt near r n s o → Rest r →
+          (u.moved ≡ true) ⊎ ((u.accepted ≢ true) × k.Rests s s' u.offers)
 
     -- it has made one turn, or taken what stood in its inboxes and made turns
     abbrev pub HasTurned : S → Turn → Type 0
@@ -262,8 +274,10 @@ module _ {A : Type 0} {C M : ℕ} where
     pub free_e : 1 ≤ known_free s.e + length (known_items t.e)
     pub is_at : IsAt near n far (past_of s t client manager)
 
-  -- a round: where both sides meet after it, why each channel stands still where it does, and that the run has come further in it, or has accepted no beat, offers no more, and has nothing under way
-  pub record HasPlayed (near : Beats C M) (n : PerChannel ℕ) (s : ClientState A C M) (t : ManagerState A C M) (p : Played) (far : Beats M C) (s' : ClientState A C M)
+  -- a round: where both sides meet after it, why each channel stands still where it does, and that the run has come further in it, or has accepted
+  -- no beat, offers no more, and has nothing under way
+  pub record HasPlayed (near : Beats C M) (n : PerChannel ℕ) (s : ClientState A C M) (t : ManagerState A C M) (p : Played)
+      (far : Beats M C) (s' : ClientState A C M)
       (t' : ManagerState A C M) : Type 0 where
     pub met : HasMet near p.at far s' t'
     pub stops : AllStop near p.at (past_of s' t' met.client met.manager) p.offers

@@ -30,12 +30,14 @@ HaveHead h (b ∷ bs) = (b.head ≡ h) × HaveHead h bs
 
 -- the manager's side has taken so many beats of A with this head, and knows so
 abbrev pub NotesAsks : (M : ℕ) (head : HeadA) (count : ℕ) (before after : Manager) → Type 0
-NotesAsks M head count before after = (es : List (Event M)) (bs : List (BeatOf HeadA M)) → KnowsManager before es → length bs ≡ count → HaveHead head bs →
+NotesAsks M head count before after = (es : List (Event M)) (bs : List (BeatOf HeadA M)) → KnowsManager before es →
+    length bs ≡ count → HaveHead head bs →
     KnowsManager after (es ++ map Ask bs)
 
 -- the client's side has taken so many beats of D with this head, and knows so
 abbrev pub NotesAnswers : (C : ℕ) (head : HeadD) (count : ℕ) (before after : Client) → Type 0
-NotesAnswers C head count before after = (es : List (Event C)) (bs : List (BeatOf HeadD C)) → KnowsClient before es → length bs ≡ count → HaveHead head bs →
+NotesAnswers C head count before after = (es : List (Event C)) (bs : List (BeatOf HeadD C)) → KnowsClient before es →
+    length bs ≡ count → HaveHead head bs →
     KnowsClient after (es ++ map Answer bs)
 
 -- Of the near beats a of channel A and d of channel D the first i and j were accepted, in some order of the two sides' calls; each side has taken

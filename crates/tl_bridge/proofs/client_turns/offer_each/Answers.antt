@@ -43,4 +43,5 @@ returns-clause-offers g c = λ x h.
     }
 
 pub returns-clause-ends : goal.returns-clause-ends
-returns-clause-ends g c = client-ends-then _ _ _ (client-ends-then _ _ _ c.offer_next-a.ensures.same c.offer_next-c.ensures.same) c.offer_next-e.ensures.same
+returns-clause-ends g c = client-ends-then _ _ _
+    (client-ends-then _ _ _ c.offer_next-a.ensures.same c.offer_next-c.ensures.same) c.offer_next-e.ensures.same

@@ -14,7 +14,8 @@ loop-beat-preserved g c =
     let i = c.loop-beat.invariant in
     let more = next-taken c.args.beats.now c.loop-beat.beat-index c.beat-item.result c.loop-beat-test.true c.beat-item.is in
     record {
-      items = c.push_reserved.ensures.items ∙ ap (λ q. q ++ c.beat-item.result ∷ []) i.items ∙ append_assoc c.args.far.now.items (take c.loop-beat.beat-index c.args.beats.now) (c.beat-item.result ∷ [])
+      items = c.push_reserved.ensures.items ∙ ap (λ q. q ++ c.beat-item.result ∷ []) i.items ∙
+          append_assoc c.args.far.now.items (take c.loop-beat.beat-index c.args.beats.now) (c.beat-item.result ∷ [])
           ∙ ap (λ q. c.args.far.now.items ++ q) (sym more);
       len = omega (arith, c.push_reserved.ensures.len, i.len);
       capacity = c.push_reserved.ensures.capacity ∙ i.capacity;
@@ -22,6 +23,7 @@ loop-beat-preserved g c =
 
 pub returns : goal.returns
 returns g c = record {
-  items = c.loop-beat.invariant.items ∙ ap (λ q. c.args.far.now.items ++ q) (take_all c.loop-beat.beat-index c.args.beats.now (omega (arith, c.loop-beat-test.false)));
+  items = c.loop-beat.invariant.items ∙
+      ap (λ q. c.args.far.now.items ++ q) (take_all c.loop-beat.beat-index c.args.beats.now (omega (arith, c.loop-beat-test.false)));
   capacity = c.loop-beat.invariant.capacity;
 }

@@ -9,7 +9,10 @@ use Rattle.tl_bridge.proofs.thread_rounds.play_rounds.Given.{Over}
 use Rattle.tl_bridge.proofs.thread_rounds.play_rounds.Goals as goal
 
 pub meet_sides-requires : goal.meet_sides-requires
-meet_sides-requires g c = (client_small g.row.C g.row.M c.requires.0.client c.requires.0.manager, (manager_small g.row.C g.row.M c.requires.0.client c.requires.0.manager, c.requires.3.sides))
+meet_sides-requires g c = (
+  client_small g.row.C g.row.M c.requires.0.client c.requires.0.manager,
+  (manager_small g.row.C g.row.M c.requires.0.client c.requires.0.manager, c.requires.3.sides),
+)
 
 pub rounds-init : goal.rounds-init
 rounds-init g c = record {
@@ -33,12 +36,20 @@ rounds-init g c = record {
 }
 
 pub round-played-requires-after_bounds : goal.round-played-requires-after_bounds
-round-played-requires-after_bounds g c = λ κs bounds. (client_run_small g.row.C g.row.M c.requires.0.client c.requires.0.manager, (manager_run_small g.row.C g.row.M c.requires.0.client c.requires.0.manager, (lit< tt, (c.requires.0, c.requires.1, c.rounds.invariant.room, c.rounds.invariant.met))))
+round-played-requires-after_bounds g c = λ κs bounds. (
+  client_run_small g.row.C g.row.M c.requires.0.client c.requires.0.manager,
+  (
+    manager_run_small g.row.C g.row.M c.requires.0.client c.requires.0.manager,
+    (lit< tt, (c.requires.0, c.requires.1, c.rounds.invariant.room, c.rounds.invariant.met)),
+  ),
+)
 
 pub overflow_add-rounds : goal.overflow_add-rounds
 overflow_add-rounds g c =
     let i = c.rounds.invariant in
-    let l : c.rounds.rounds + 1 < 2 ^ 64 = counts-on _ _ _ i.few (met-most (near_beats c.args.script.now) c.rounds.at (beats_of (taken_of c.rounds.client c.rounds.manager)) c.rounds.client.side c.rounds.manager.side i.met c.requires.0.client c.requires.0.manager)
+    let l : c.rounds.rounds + 1 < 2 ^ 64 =
+    counts-on _ _ _ i.few (met-most (near_beats c.args.script.now) c.rounds.at (beats_of (taken_of c.rounds.client c.rounds.manager))
+    c.rounds.client.side c.rounds.manager.side i.met c.requires.0.client c.requires.0.manager)
     (end-few (near_beats c.args.script.now) c.requires.0.client c.requires.0.manager c.requires.1) in
     omega (arith, l)
 
@@ -46,8 +57,10 @@ pub returns-in-Some : goal.returns-in-Some
 returns-in-Some g c =
     let h = c.round-played.ensures.round in
     let near = near_beats c.args.script.now in
-    met-ended near c.round-played.result.at (beats_of (taken_of c.round-played.new.client c.round-played.new.manager)) c.round-played.new.client.side c.round-played.new.manager.side h.met c.in-Some.stops (c.rounds.rounds + 1)
-    (subst (λ o. AllStop near c.round-played.result.at (past_of c.round-played.new.client.side c.round-played.new.manager.side h.met.client h.met.manager) o) c.in-Some.ensures.stops h.stops)
+    met-ended near c.round-played.result.at (beats_of (taken_of c.round-played.new.client c.round-played.new.manager)) c.round-played.new.client.side
+    c.round-played.new.manager.side h.met c.in-Some.stops (c.rounds.rounds + 1)
+    (subst (λ o. AllStop near c.round-played.result.at
+    (past_of c.round-played.new.client.side c.round-played.new.manager.side h.met.client h.met.manager) o) c.in-Some.ensures.stops h.stops)
     (sym h.standing ∙ c.in-Some.ensures.rests) (last-one _ _ _ c.rounds.invariant.few h.keeps)
 
 -- a round that is not the last one
@@ -59,13 +72,15 @@ pub rounds-smaller : goal.rounds-smaller
 rounds-smaller g c =
     let h = c.round-played.ensures.round in
     nearer _ _ _ (onward g c)
-    (met-most (near_beats c.args.script.now) c.round-played.result.at (beats_of (taken_of c.round-played.new.client c.round-played.new.manager)) c.round-played.new.client.side c.round-played.new.manager.side h.met c.requires.0.client c.requires.0.manager)
+    (met-most (near_beats c.args.script.now) c.round-played.result.at (beats_of (taken_of c.round-played.new.client c.round-played.new.manager))
+    c.round-played.new.client.side c.round-played.new.manager.side h.met c.requires.0.client c.requires.0.manager)
 
 pub rounds-preserved : goal.rounds-preserved
 rounds-preserved g c =
     let h = c.round-played.ensures.round in
     record {
       met = h.met;
-      room = keeps-room (near_beats c.args.script.now) (taken_of c.rounds.client c.rounds.manager) (taken_of c.round-played.new.client c.round-played.new.manager) c.round-played.ensures.capacity c.rounds.invariant.room;
+      room = keeps-room (near_beats c.args.script.now) (taken_of c.rounds.client c.rounds.manager)
+          (taken_of c.round-played.new.client c.round-played.new.manager) c.round-played.ensures.capacity c.rounds.invariant.room;
       few = one-round-more _ _ _ c.rounds.invariant.few (onward g c);
     }

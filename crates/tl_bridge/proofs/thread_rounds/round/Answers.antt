@@ -5,15 +5,40 @@ use Rattle.tl_bridge.proofs.SideSizes.{client_run_small, manager_run_small}
 use Rattle.tl_bridge.proofs.thread_rounds.round.Goals as goal
 
 pub play_both-requires-after_bounds : goal.play_both-requires-after_bounds
-play_both-requires-after_bounds g c = λ κs bounds. (client_run_small g.row.C g.row.M c.requires.0.client c.requires.0.manager, (manager_run_small g.row.C g.row.M c.requires.0.client c.requires.0.manager, (lit< tt, (c.requires.0, c.requires.1, client-may c.requires.0.client c.requires.0.manager (near_beats c.args.script.now) c.requires.1 c.args.at.now c.args.client.now c.args.manager.now c.requires.3 c.requires.2, manager-may c.requires.0.client c.requires.0.manager (near_beats c.args.script.now) c.requires.1 c.args.at.now c.args.client.now c.args.manager.now c.requires.3 c.requires.2))))
+play_both-requires-after_bounds g c = λ κs bounds. (
+  client_run_small g.row.C g.row.M c.requires.0.client c.requires.0.manager,
+  (
+    manager_run_small g.row.C g.row.M c.requires.0.client c.requires.0.manager,
+    (
+      lit< tt,
+      (
+        c.requires.0,
+        c.requires.1,
+        client-may c.requires.0.client c.requires.0.manager (near_beats c.args.script.now) c.requires.1 c.args.at.now c.args.client.now c.args.manager.now
+            c.requires.3 c.requires.2,
+        manager-may c.requires.0.client c.requires.0.manager (near_beats c.args.script.now) c.requires.1 c.args.at.now
+            c.args.client.now c.args.manager.now c.requires.3 c.requires.2,
+      ),
+    ),
+  ),
+)
 
 pub meet_sides-standings-requires : goal.meet_sides-standings-requires
-meet_sides-standings-requires g c = (client_small g.row.C g.row.M c.requires.0.client c.requires.0.manager, (manager_small g.row.C g.row.M c.requires.0.client c.requires.0.manager, still_sides c.args.client.now.side c.play_both.new.client.side c.args.manager.now.side c.play_both.new.manager.side c.play_both.ensures.client.same.0 c.play_both.ensures.manager.same.0 c.requires.3.sides))
+meet_sides-standings-requires g c = (
+  client_small g.row.C g.row.M c.requires.0.client c.requires.0.manager,
+  (
+    manager_small g.row.C g.row.M c.requires.0.client c.requires.0.manager,
+    still_sides c.args.client.now.side c.play_both.new.client.side c.args.manager.now.side c.play_both.new.manager.side
+        c.play_both.ensures.client.same.0 c.play_both.ensures.manager.same.0 c.requires.3.sides,
+  ),
+)
 
 pub returns : goal.returns
 returns g c = record {
-  round = both-played c.requires.0.client c.requires.0.manager (near_beats c.args.script.now) c.args.at.now c.args.client.now c.args.manager.now c.requires.3 c.play_both.new.client c.play_both.new.manager
-      c.play_both.result.0 c.play_both.result.1 c.play_both.ensures.client c.play_both.ensures.manager c.meet_sides-standings.new.client c.meet_sides-standings.new.manager
+  round = both-played c.requires.0.client c.requires.0.manager (near_beats c.args.script.now) c.args.at.now c.args.client.now c.args.manager.now
+      c.requires.3 c.play_both.new.client c.play_both.new.manager
+      c.play_both.result.0 c.play_both.result.1 c.play_both.ensures.client c.play_both.ensures.manager c.meet_sides-standings.new.client
+      c.meet_sides-standings.new.manager
       c.meet_sides-standings.result
       (record {
         a = c.meet_sides-standings.ensures.a;

@@ -12,20 +12,24 @@ turn-played-requires g c = (lit< tt, (c.requires.0, c.requires.1, c.requires.2.f
 
 pub returns-then-not-played : goal.returns-then-not-played
 returns-then-not-played g c =
-    played-first g.S.PlaysRounds.playing (near_beats c.args.script.now) c.args.at.now c.args.side.now c.take_each.new.self c.turn-played.new.self c.turn-played.result c.take_each.ensures c.turn-played.ensures
+    played-first g.S.PlaysRounds.playing (near_beats c.args.script.now) c.args.at.now c.args.side.now c.take_each.new.self c.turn-played.new.self
+    c.turn-played.result c.take_each.ensures c.turn-played.ensures
 
 pub turns-init : goal.turns-init
 turns-init g c = (
-  played-first g.S.PlaysRounds.playing (near_beats c.args.script.now) c.args.at.now c.args.side.now c.take_each.new.self c.turn-played.new.self c.turn-played.result c.take_each.ensures c.turn-played.ensures,
+  played-first g.S.PlaysRounds.playing (near_beats c.args.script.now) c.args.at.now c.args.side.now c.take_each.new.self c.turn-played.new.self
+      c.turn-played.result c.take_each.ensures c.turn-played.ensures,
   c.if-not-played.false,
 )
 
 pub turn-last-requires : goal.turn-last-requires
-turn-last-requires g c = let may = c.requires.2 in (lit< tt, (c.requires.0, c.requires.1, (c.turns.invariant.0.is_at may.round none_ready may.is_at may.due).0))
+turn-last-requires g c = let may = c.requires.2 in
+    (lit< tt, (c.requires.0, c.requires.1, (c.turns.invariant.0.is_at may.round none_ready may.is_at may.due).0))
 
 pub turns-preserved : goal.turns-preserved
 turns-preserved g c = let i = c.turns.invariant in (
-  played-then g.S.PlaysRounds.playing (near_beats c.args.script.now) c.args.at.now c.args.side.now c.turns.side c.turn-last.new.self c.turns.played c.turn-last.result c.then-played.result i.0 i.1
+  played-then g.S.PlaysRounds.playing (near_beats c.args.script.now) c.args.at.now c.args.side.now c.turns.side c.turn-last.new.self c.turns.played
+      c.turn-last.result c.then-played.result i.0 i.1
       c.turn-last.ensures c.then-played.ensures.at c.then-played.ensures.offers c.then-played.ensures.moved,
   c.then-played.ensures.moved.1 (inl i.1),
 )
@@ -35,5 +39,6 @@ returns g c = c.turns.invariant.0
 
 pub returns-then-not-last : goal.returns-then-not-last
 returns-then-not-last g c = let i = c.turns.invariant in
-    played-then g.S.PlaysRounds.playing (near_beats c.args.script.now) c.args.at.now c.args.side.now c.turns.side c.turn-last.new.self c.turns.played c.turn-last.result c.then-played.result i.0 i.1
+    played-then g.S.PlaysRounds.playing (near_beats c.args.script.now) c.args.at.now c.args.side.now c.turns.side c.turn-last.new.self c.turns.played
+    c.turn-last.result c.then-played.result i.0 i.1
     c.turn-last.ensures c.then-played.ensures.at c.then-played.ensures.offers c.then-played.ensures.moved

@@ -11,7 +11,8 @@ pub returns-in_default-clause-offer : goal.returns-in_default-clause-offer
 returns-in_default-clause-offer c = offers_none (search rules) (search rules)
 
 pub returns-clause-offer : goal.returns-clause-offer
-returns-clause-offer c = offers_later (as_pipe c.offer_held-deref.result.now.side.d) c.offer_held-deref.result.now (λ x s. (s.d.pipe.stage, s.d.pipe.closed))
+returns-clause-offer c = offers_later (as_pipe c.offer_held-deref.result.now.side.d) c.offer_held-deref.result.now
+    (λ x s. (s.d.pipe.stage, s.d.pipe.closed))
     (search rules) (search rules) (search rules)
 
 pub returns-2-clause-offer : goal.returns-2-clause-offer

@@ -6,5 +6,6 @@ pub returns-in_default-clause-take : goal.returns-in_default-clause-take
 returns-in_default-clause-take c = takes_nothing (λ h. h.side.c.inbox) (search rules) (search rules)
 
 pub returns-clause-take : goal.returns-clause-take
-returns-clause-take c = takes (λ h. h.side.c.inbox) {h = c.deref_mut.result.now} {k = record { side = c.take_c.new.self }} (search rules) (search rules)
+returns-clause-take c = takes (λ h. h.side.c.inbox) {h = c.deref_mut.result.now}
+    {k = record { side = c.take_c.new.self }} (search rules) (search rules)
     c.take_c.ensures.beat c.take_c.ensures.lawful c.take_c.ensures.taken c.tell_c.ensures

@@ -10,5 +10,6 @@ pub returns-in_default-clause-take : goal.returns-in_default-clause-take
 returns-in_default-clause-take c = takes_nothing (λ h. h.side.d.inbox) (search rules) (search rules)
 
 pub returns-clause-take : goal.returns-clause-take
-returns-clause-take c = takes (λ h. h.side.d.inbox) {h = c.deref_mut.result.now} {k = record { side = c.take_d.new.self }} (search rules) (search rules)
+returns-clause-take c = takes (λ h. h.side.d.inbox) {h = c.deref_mut.result.now}
+    {k = record { side = c.take_d.new.self }} (search rules) (search rules)
     c.take_d.ensures.beat c.take_d.ensures.lawful c.take_d.ensures.taken c.tell_d.ensures

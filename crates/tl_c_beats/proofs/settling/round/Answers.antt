@@ -39,11 +39,13 @@ returns-clause-went g c = λ x y client manager.
       manager = manager_pumps t t' y;
       client_went = record { a = pump_count s.a s'.a; c = pump_count s.c s'.c; e = pump_count s.e s'.e; went = refl };
       manager_went = record { b = pump_count t.b t'.b; d = pump_count t.d t'.d; went = refl };
-      meets = c.meet_sides-standings.ensures.meets _ _ (c.fetch.ensures.stands _ (c.pump.ensures.stands x client)) (c.fetch-2.ensures.stands _ (c.pump-2.ensures.stands y manager));
+      meets = c.meet_sides-standings.ensures.meets _ _ (c.fetch.ensures.stands _ (c.pump.ensures.stands x client))
+          (c.fetch-2.ensures.stands _ (c.pump-2.ensures.stands y manager));
     }
 
 -- each channel by itself
-turns : (g : Over) (c : goal.After-meet_sides-standings g) → AllTurned c.args.client.now c.pump.new.self c.fetch.new.self c.meet_sides-standings.new.client
+turns : (g : Over) (c : goal.After-meet_sides-standings g) →
+    AllTurned c.args.client.now c.pump.new.self c.fetch.new.self c.meet_sides-standings.new.client
     c.args.manager.now c.pump-2.new.self c.fetch-2.new.self c.meet_sides-standings.new.manager
 turns g c =
     let known = c.requires.known in

@@ -21,7 +21,8 @@ rounds-init g c =
     }
 
 pub returns-then-is_still-clause-settled : goal.returns-then-is_still-clause-settled
-returns-then-is_still-clause-settled g c = λ x y client manager. settles_then (c.rounds.invariant.settled x y client manager) c.round-moved.ensures.went
+returns-then-is_still-clause-settled g c = λ x y client manager.
+    settles_then (c.rounds.invariant.settled x y client manager) c.round-moved.ensures.went
 
 pub returns-then-is_still-clause-still : goal.returns-then-is_still-clause-still
 returns-then-is_still-clause-still g c = c.round-moved.ensures.still (search rules)

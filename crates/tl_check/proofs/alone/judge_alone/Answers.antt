@@ -16,7 +16,13 @@ accept-requires g c =
     let next = read_some c.args.beats.now (progress.at - c.args.gone) c.in-Some.beat.now c.in-Some.ensures.lookup.0 c.in-Some.ensures.lookup.1 in
     let within = slice_get_within c.args.beats.now (progress.at - c.args.gone) c.in-Some.beat.now next in (
       progress-fits (lone g.row.K-Head.mir) (layout g.row.K-Head) g.met.K.Channel.head_small,
-      (c.requires.0, c.requires.1, c.in-Ok.ensures.place, low c.args.gone progress.at progress.far (length c.args.beats.now) here within, here.few_far),
+      (
+        c.requires.0,
+        c.requires.1,
+        c.in-Ok.ensures.place,
+        low c.args.gone progress.at progress.far (length c.args.beats.now) here within,
+        here.few_far,
+      ),
     )
 
 pub beats-init : goal.beats-init
@@ -29,10 +35,12 @@ beats-preserved g c =
     let next = read_some c.args.beats.now (progress.at - c.args.gone) c.in-Some.beat.now c.in-Some.ensures.lookup.0 c.in-Some.ensures.lookup.1 in
     let within = slice_get_within c.args.beats.now (progress.at - c.args.gone) c.in-Some.beat.now next in
     record {
-      within = steps c.args.gone progress.at progress.far (length c.args.beats.now) c.accept.new.self.at c.accept.new.self.far here within c.accept.ensures.at c.accept.ensures.few_far;
+      within = steps c.args.gone progress.at progress.far (length c.args.beats.now) c.accept.new.self.at c.accept.new.self.far here within
+          c.accept.ensures.at c.accept.ensures.few_far;
       come = λ bs part was.
           let come = c.beats.invariant.come bs part was in
-          c.accept.ensures.come bs c.in-Some.beat.now come (part-get c.args.gone progress.at c.args.beats.now bs part here.from c.in-Some.beat.now next) c.in-Ok.ensures.head
+          c.accept.ensures.come bs c.in-Some.beat.now come
+          (part-get c.args.gone progress.at c.args.beats.now bs part here.from c.in-Some.beat.now next) c.in-Ok.ensures.head
           (c.in-Ok.ensures.accepts.0 refl) ((c.in-Ok.ensures.admitted (take progress.at bs) come.handed come.burst_is).0 refl);
     }
 

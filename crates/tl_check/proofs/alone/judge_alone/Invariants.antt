@@ -4,7 +4,8 @@ use Rattle.tl_check.proofs.alone.judge_alone.Given as goal
 abbrev pub invariant-beats : goal.invariant-beats
 invariant-beats g l = record {
   within : IsWithin l.gone l.progress.at l.progress.far (length l.beats);
-  come : (bs : List _) → IsPart l.gone l.beats bs → HasCome g.K.Channel.rules l.far_width bs l.fn.progress.tracker l.fn.progress.at l.fn.progress.far →
+  come : (bs : List _) → IsPart l.gone l.beats bs →
+      HasCome g.K.Channel.rules l.far_width bs l.fn.progress.tracker l.fn.progress.at l.fn.progress.far →
       HasCome g.K.Channel.rules l.far_width bs l.progress.tracker l.progress.at l.progress.far;
 }
 

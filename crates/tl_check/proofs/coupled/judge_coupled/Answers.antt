@@ -31,17 +31,21 @@ passes-preserved g c =
       come_d = λ near part was. answered.ensures.come near part (here.come_d near part was);
       both = λ near back part_a part_d was_a was_d start.
           answered.ensures.accepted near back asked.new.asks.at part_d (here.come_d back part_d was_d)
-          (asked.ensures.accepted near back c.passes.answers.at part_a (here.come_a near part_a was_a) (here.both near back part_a part_d was_a was_d start));
+          (asked.ensures.accepted near back c.passes.answers.at part_a (here.come_a near part_a was_a)
+          (here.both near back part_a part_d was_a was_d start));
     }
 
 pub passes-smaller : goal.passes-smaller
-passes-smaller g c = let answered = c.offer_responses-d_stops in omega (arith, answered.ensures.on, answered.ensures.within.to, c.if-answers-before.false)
+passes-smaller g c = let answered = c.offer_responses-d_stops in
+    omega (arith, answered.ensures.on, answered.ensures.within.to, c.if-answers-before.false)
 
 pub returns-then-answers-before-clause-come_a : goal.returns-then-answers-before-clause-come_a
-returns-then-answers-before-clause-come_a g c = λ near part was. c.offer_requests-a_stops.ensures.come near part (c.passes.invariant.come_a near part was)
+returns-then-answers-before-clause-come_a g c = λ near part was.
+    c.offer_requests-a_stops.ensures.come near part (c.passes.invariant.come_a near part was)
 
 pub returns-then-answers-before-clause-come_d : goal.returns-then-answers-before-clause-come_d
-returns-then-answers-before-clause-come_d g c = λ near part was. c.offer_responses-d_stops.ensures.come near part (c.passes.invariant.come_d near part was)
+returns-then-answers-before-clause-come_d g c = λ near part was.
+    c.offer_responses-d_stops.ensures.come near part (c.passes.invariant.come_d near part was)
 
 pub returns-then-answers-before-clause-both : goal.returns-then-answers-before-clause-both
 returns-then-answers-before-clause-both g c =
@@ -50,7 +54,8 @@ returns-then-answers-before-clause-both g c =
     let answered = c.offer_responses-d_stops in
     λ near back part_a part_d was_a was_d start.
     answered.ensures.accepted near back asked.new.asks.at part_d (here.come_d back part_d was_d)
-    (asked.ensures.accepted near back c.passes.answers.at part_a (here.come_a near part_a was_a) (here.both near back part_a part_d was_a was_d start))
+    (asked.ensures.accepted near back c.passes.answers.at part_a (here.come_a near part_a was_a)
+    (here.both near back part_a part_d was_a was_d start))
 
 pub returns-then-answers-before-clause-stopped : goal.returns-then-answers-before-clause-stopped
 returns-then-answers-before-clause-stopped g c =

@@ -5,7 +5,8 @@ abbrev pub invariant-passes : goal.invariant-passes
 invariant-passes g l = record {
   within_a : IsWithin l.gone.a l.asks.at l.asks.far (length l.a);
   within_d : IsWithin l.gone.d l.answers.at l.answers.far (length l.d);
-  come_a : (near : List (BeatOf HeadA g.row.C)) → IsPart l.gone.a l.a near → HasCome rules_a g.row.M near l.fn.asks.tracker l.fn.asks.at l.fn.asks.far →
+  come_a : (near : List (BeatOf HeadA g.row.C)) → IsPart l.gone.a l.a near →
+      HasCome rules_a g.row.M near l.fn.asks.tracker l.fn.asks.at l.fn.asks.far →
       HasCome rules_a g.row.M near l.asks.tracker l.asks.at l.asks.far;
   come_d : (near : List (BeatOf HeadD g.row.M)) → IsPart l.gone.d l.d near →
       HasCome rules_d g.row.C near l.fn.answers.tracker l.fn.answers.at l.fn.answers.far →

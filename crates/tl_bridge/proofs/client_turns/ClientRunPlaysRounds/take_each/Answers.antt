@@ -5,10 +5,12 @@ use Rattle.tl_bridge.proofs.SidePlays.{client-taken}
 use Rattle.tl_bridge.proofs.client_turns.ClientRunPlaysRounds.take_each.Goals as goal
 
 pub append-requires : goal.append-requires
-append-requires g c = subst (λ q. vec_len c.args.self.now.far_b + length q ≤ vec_capacity c.args.self.now.far_b) (sym c.inbox_b.ensures) c.requires.1.0
+append-requires g c = subst (λ q. vec_len c.args.self.now.far_b + length q ≤ vec_capacity c.args.self.now.far_b)
+    (sym c.inbox_b.ensures) c.requires.1.0
 
 pub append-requires-2 : goal.append-requires-2
-append-requires-2 g c = subst (λ q. vec_len c.args.self.now.far_d + length q ≤ vec_capacity c.args.self.now.far_d) (sym c.inbox_d.ensures) c.requires.1.1
+append-requires-2 g c = subst (λ q. vec_len c.args.self.now.far_d + length q ≤ vec_capacity c.args.self.now.far_d)
+    (sym c.inbox_d.ensures) c.requires.1.1
 
 pub inbox_b-requires : goal.inbox_b-requires
 inbox_b-requires g c = (client_small g.row.C g.row.M c.requires.0.client c.requires.0.manager, beat_small g.row.C c.requires.0.client)
@@ -30,5 +32,6 @@ returns g c =
     let x = c.args.self.now in
     client-taken x (record { side = c.take_all.new.self; far_b = c.append.new.far; far_d = c.append-2.new.far }) c.take_all.ensures.taken
     (subst (λ s. SameClientEnds x.side s) (sym c.take_all.ensures.rest) (record { a = refl; b = refl; c = refl; d = refl; e = refl }))
-    (c.append.ensures.items ∙ ap (λ q. x.far_b.items ++ q) c.inbox_b.ensures) (c.append-2.ensures.items ∙ ap (λ q. x.far_d.items ++ q) c.inbox_d.ensures)
+    (c.append.ensures.items ∙ ap (λ q. x.far_b.items ++ q) c.inbox_b.ensures)
+    (c.append-2.ensures.items ∙ ap (λ q. x.far_d.items ++ q) c.inbox_d.ensures)
     c.append.ensures.capacity c.append-2.ensures.capacity

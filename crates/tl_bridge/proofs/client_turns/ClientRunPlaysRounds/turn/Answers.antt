@@ -34,12 +34,16 @@ returns g c =
     let offer = c.offer_each-offers.ensures in
     let pump = c.pump-pumped.ensures in
     let fetch = c.fetch-fetched.ensures in
-    let on = client-goes n x.side t u v o c.pump-pumped.result c.fetch-fetched.result offer.ends offer.others (client-pumped t u c.pump-pumped.result pump.rest pump.a pump.c pump.e pump.total)
+    let on = client-goes n x.side t u v o c.pump-pumped.result c.fetch-fetched.result offer.ends offer.others
+    (client-pumped t u c.pump-pumped.result pump.rest pump.a pump.c pump.e pump.total)
     (client-fetched u v c.fetch-fetched.result fetch.rest fetch.b fetch.d fetch.total) in
     let at = (client_playing {C = g.row.C} {M = g.row.M}).IsAt near in
-    let here : (r : RoundOf g.row.C) (p : PerChannel Offered) → at r n x p → at r (counted n o) (record x { side = v }) o = λ r p h. let k = offer.offers h.past h.stands in
-    client-turned near r.d r.a r.history n x.far_b.items x.far_d.items x.side t u v p o h k (fetch.stands (client_pumps t u k.past) (pump.stands k.past k.stands)) in
-    turned client_playing near n x (record x { side = v }) o (c.pump-pumped.result + c.fetch-fetched.result) c.new.result c.new.ensures.at c.new.ensures.offers c.new.ensures.accepted c.new.ensures.moved
+    let here : (r : RoundOf g.row.C) (p : PerChannel Offered) → at r n x p → at r (counted n o) (record x { side = v }) o = λ r p h.
+    let k = offer.offers h.past h.stands in
+    client-turned near r.d r.a r.history n x.far_b.items x.far_d.items x.side t u v p o h k
+    (fetch.stands (client_pumps t u k.past) (pump.stands k.past k.stands)) in
+    turned client_playing near n x (record x { side = v }) o (c.pump-pumped.result + c.fetch-fetched.result) c.new.result c.new.ensures.at
+    c.new.ensures.offers c.new.ensures.accepted c.new.ensures.moved
     (on.0, refl, refl) on.1
     (λ r p h. let k = here r p h in (
       record {
@@ -52,5 +56,7 @@ returns g c =
       k,
     ))
     (λ r p h empty none still. let k = here r p h in
-    client-rests near n r.d r.a r.history x.far_b.items x.far_d.items x.side t u v p o c.pump-pumped.result c.fetch-fetched.result offer.ends h (offer.offers h.past h.stands) pump.rest pump.a pump.c pump.e pump.total
-    fetch.rest fetch.b fetch.d fetch.total none still (subst (λ q. Takes v.b q) (sym k.b_taken) k.stands.b) (subst (λ q. Takes v.d q) (sym k.d_taken) k.stands.d) empty.0 empty.1)
+    client-rests near n r.d r.a r.history x.far_b.items x.far_d.items x.side t u v p o c.pump-pumped.result c.fetch-fetched.result offer.ends h
+    (offer.offers h.past h.stands) pump.rest pump.a pump.c pump.e pump.total
+    fetch.rest fetch.b fetch.d fetch.total none still (subst (λ q. Takes v.b q) (sym k.b_taken) k.stands.b)
+    (subst (λ q. Takes v.d q) (sym k.d_taken) k.stands.d) empty.0 empty.1)

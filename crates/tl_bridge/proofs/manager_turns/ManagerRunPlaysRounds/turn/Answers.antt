@@ -34,12 +34,16 @@ returns g c =
     let offer = c.offer_each-offers.ensures in
     let pump = c.pump-pumped.ensures in
     let fetch = c.fetch-fetched.ensures in
-    let on = manager-goes n y.side t u v o c.pump-pumped.result c.fetch-fetched.result offer.ends offer.others (manager-pumped t u c.pump-pumped.result pump.rest pump.b pump.d pump.total)
+    let on = manager-goes n y.side t u v o c.pump-pumped.result c.fetch-fetched.result offer.ends offer.others
+    (manager-pumped t u c.pump-pumped.result pump.rest pump.b pump.d pump.total)
     (manager-fetched u v c.fetch-fetched.result fetch.rest fetch.a fetch.c fetch.e fetch.total) in
     let at = (manager_playing {C = g.row.C} {M = g.row.M}).IsAt near in
-    let here : (r : RoundOf g.row.M) (p : PerChannel Offered) → at r n y p → at r (counted n o) (record y { side = v }) o = λ r p h. let k = offer.offers h.past h.stands in
-    manager-turned near r.a r.d r.history n y.far_a.items y.far_c.items y.far_e.items y.side t u v p o h k (fetch.stands (manager_pumps t u k.past) (pump.stands k.past k.stands)) in
-    turned manager_playing near n y (record y { side = v }) o (c.pump-pumped.result + c.fetch-fetched.result) c.new.result c.new.ensures.at c.new.ensures.offers c.new.ensures.accepted c.new.ensures.moved
+    let here : (r : RoundOf g.row.M) (p : PerChannel Offered) → at r n y p → at r (counted n o) (record y { side = v }) o = λ r p h.
+    let k = offer.offers h.past h.stands in
+    manager-turned near r.a r.d r.history n y.far_a.items y.far_c.items y.far_e.items y.side t u v p o h k
+    (fetch.stands (manager_pumps t u k.past) (pump.stands k.past k.stands)) in
+    turned manager_playing near n y (record y { side = v }) o (c.pump-pumped.result + c.fetch-fetched.result) c.new.result c.new.ensures.at
+    c.new.ensures.offers c.new.ensures.accepted c.new.ensures.moved
     (on.0, refl, refl, refl) on.1
     (λ r p h. let k = here r p h in (
       record {
@@ -52,6 +56,8 @@ returns g c =
       k,
     ))
     (λ r p h empty none still. let k = here r p h in
-    manager-rests near n r.a r.d r.history y.far_a.items y.far_c.items y.far_e.items y.side t u v p o c.pump-pumped.result c.fetch-fetched.result offer.ends h (offer.offers h.past h.stands) pump.rest pump.b pump.d pump.total
-    fetch.rest fetch.a fetch.c fetch.e fetch.total none still (subst (λ q. Takes v.a q) (sym k.a_taken) k.stands.a) (subst (λ q. Takes v.c q) (sym k.c_taken) k.stands.c) (subst (λ q. Takes v.e q) (sym k.e_taken) k.stands.e)
+    manager-rests near n r.a r.d r.history y.far_a.items y.far_c.items y.far_e.items y.side t u v p o c.pump-pumped.result c.fetch-fetched.result
+    offer.ends h (offer.offers h.past h.stands) pump.rest pump.b pump.d pump.total
+    fetch.rest fetch.a fetch.c fetch.e fetch.total none still (subst (λ q. Takes v.a q) (sym k.a_taken) k.stands.a)
+    (subst (λ q. Takes v.c q) (sym k.c_taken) k.stands.c) (subst (λ q. Takes v.e q) (sym k.e_taken) k.stands.e)
     empty.0 empty.1 empty.2)

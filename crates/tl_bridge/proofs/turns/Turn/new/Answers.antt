@@ -14,12 +14,14 @@ returns-clause-offers c = refl
 
 pub returns-clause-accepted : goal.returns-clause-accepted
 returns-clause-accepted c =
-    some-of-either (some-of-either (some-of-either (some-of-either c.is_accepted.ensures c.is_accepted-2.ensures) c.is_accepted-3.ensures) c.is_accepted-4.ensures)
+    some-of-either (some-of-either
+    (some-of-either (some-of-either c.is_accepted.ensures c.is_accepted-2.ensures) c.is_accepted-3.ensures) c.is_accepted-4.ensures)
     c.is_accepted-5.ensures
 
 pub returns-clause-moved : goal.returns-clause-moved
 returns-clause-moved c =
     either-some
-    (some-of-either (some-of-either (some-of-either (some-of-either c.is_accepted.ensures c.is_accepted-2.ensures) c.is_accepted-3.ensures) c.is_accepted-4.ensures)
+    (some-of-either (some-of-either
+    (some-of-either (some-of-either c.is_accepted.ensures c.is_accepted-2.ensures) c.is_accepted-3.ensures) c.is_accepted-4.ensures)
     c.is_accepted-5.ensures)
     (λ e. grind (arith, nat_tests), λ e. grind (arith, nat_tests))
