@@ -1,9 +1,18 @@
 //! The answer of a check to a text as it comes in: what was judged is not held any more.
-ghost use Rattle.std.specs.Prelude.{true};
+ghost use Rattle.std.specs.Prelude.{◌≡◌, ◌++◌, true, IfOk, IfErr};
+ghost use Rattle.std.specs.List.{list_all};
+ghost use Rattle.tl_lanes.specs.Lanes.{IsWidth};
+ghost use Rattle.tl_settle.specs.Outcomes.{Beats, verdicts};
 ghost use Rattle.tl_trace.specs.Faults.{HasHeader};
+ghost use Rattle.tl_run.specs.Parts.{AreEnd};
+ghost use Rattle.tl_check.specs.Judging.{CanJudge, HasJudged};
+ghost use Rattle.tl_answer.specs.Answer.{far_header, is_done, report};
 ghost use Rattle.tl_answer.specs.Inner.Answered.{ReadsAnswer};
 ghost use Rattle.tl_answer.specs.Inner.Listeners.{Judges};
+ghost use Rattle.tl_answer.specs.Inner.Listening.{IsNew};
+ghost use Rattle.tl_answer.specs.Inner.Parts.{spelled};
 ghost use Rattle.tl_answer.specs.Inputs.{IsFresh, held, unread_of};
+ghost use Rattle.tl_answer.specs.declared.fault.TextFault.TheVariants.{OutOfMemory as NoMemory};
 
 use crate::answer::check_of;
 use crate::fault::TextFault;
@@ -25,6 +34,49 @@ impl<const C: usize, const M: usize> Listener<C, M> for Judge<C, M> {
     }
 }
 
+// The answer of the check that ends with these beats. Refused with `OutOfMemory` alone.
+fn end_of<const C: usize, const M: usize>(
+    alloc: Global,
+    judge: &mut Judge<C, M>,
+    version: u8,
+    last: Script<C, M>,
+) -> Result<AnswerParts, TextFault>
+    requires { IsWidth C × IsWidth M × CanJudge judge.old last }
+    ensures text { (near : Beats C M) → AreEnd judge.old.gone last.entry near →
+        HasJudged near judge.old → IfOk result (λ made.
+        spelled made ≡ far_header version C M ++ report (verdicts near)) }
+    ensures done { (near : Beats C M) → AreEnd judge.old.gone last.entry near →
+        HasJudged near judge.old → IfOk result (λ made.
+        made.all_done ≡ list_all is_done (verdicts near)) }
+    ensures err { IfErr result (λ fault. fault ≡ NoMemory) }
+{
+    let verdicts = judge.end(&last);
+    drop(last);
+    match check_of(alloc, &verdicts, version, C, M) {
+        Ok(answer) => Ok(AnswerParts::of(alloc, answer)),
+        Err(fault) => Err(fault),
+    }
+}
+
+// The answer of a check by a new judge to a text whose header names this version and these widths.
+fn check_by<R: Read, const C: usize, const M: usize>(
+    alloc: Global,
+    reader: &mut R,
+    input: &mut Input,
+    version: u8,
+    judge: &mut Judge<C, M>,
+) -> Result<AnswerParts, TextFault>
+    requires { IsFresh (R.remaining reader.old) input.old ×
+        HasHeader (held input.old) version C M × IsNew (Judges version) judge.old }
+    ensures { ReadsAnswer (unread_of input.old (R.remaining reader.old)) (R.remaining reader.new)
+        true input.new result }
+{
+    match read_through(alloc, reader, input, version, judge) {
+        Ok(last) => end_of(alloc, judge, version, last),
+        Err(fault) => Err(fault),
+    }
+}
+
 /// The answer of a check to a text whose header names this version and these widths, where the input
 /// holds its first piece and nothing of it was used. It is read to its end, piece by piece, and no
 /// more stands in memory than a piece of it and the beats that wait. Refused as `script_of_input` is.
@@ -43,17 +95,5 @@ pub(crate) fn check_input<R: Read, const C: usize, const M: usize>(
         return Err(TextFault::OutOfMemory);
     };
     let mut judge = Judge::<C, M>::new(client, manager);
-    match read_through(alloc, reader, input, version, &mut judge) {
-        Ok(last) => {
-            let verdicts = judge.end(&last);
-            drop(last);
-            drop(judge);
-            let answer = check_of(alloc, &verdicts, version, C, M);
-            Ok(AnswerParts::of(alloc, answer?))
-        }
-        Err(fault) => {
-            drop(judge);
-            Err(fault)
-        }
-    }
+    check_by(alloc, reader, input, version, &mut judge)
 }

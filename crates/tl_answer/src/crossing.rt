@@ -53,25 +53,33 @@ impl<const C: usize, const M: usize> Crossing<C, M> {
         }
     }
 
-    /// The answer of the run that ends with these beats: the version of the trace and the widths, the
-    /// far beats, and the five report lines. Refused with `OutOfMemory` alone.
+    // Lets the run go. (One function alone does, since what drops a bridge is dear to check.)
     #[inline(never)]
-    pub(crate) fn end(self, last: Script<C, M>) -> Result<AnswerParts, TextFault>
+    pub(crate) fn let_go(self) {}
+
+    /// The answer of the run that ends with these beats: the version of the trace and the widths, the
+    /// far beats, and the five report lines. Refused with `OutOfMemory` alone. Nothing is promised of
+    /// the run any more.
+    #[inline(never)]
+    pub(crate) fn end(
+        &mut self,
+        alloc: Global,
+        last: Script<C, M>,
+    ) -> Result<AnswerParts, TextFault>
         requires { IsWidth C × IsWidth M ×
-            ((version : ℕ) × (gone : Gone C M) × Crosses version self gone last) }
+            ((version : ℕ) × (gone : Gone C M) × Crosses version self.old gone last) }
         ensures text { (version : ℕ) (gone : Gone C M) →
-            Crosses version self.entry gone last.entry → IfOk result (λ made.
+            Crosses version self.old gone last.entry → IfOk result (λ made.
             spelled made ≡ text_of version (all_of gone last.entry) false) }
         ensures done { (version : ℕ) (gone : Gone C M) →
-            Crosses version self.entry gone last.entry → IfOk result (λ made.
+            Crosses version self.old gone last.entry → IfOk result (λ made.
             made.all_done ≡ list_all is_done (verdicts (all_of gone last.entry))) }
         ensures err { IfErr result (λ fault. fault ≡ NoMemory) }
     {
-        let Crossing { mut run, mut far } = self;
-        let ended = run.end(&last, &mut far);
+        let ended = self.run.end(&last, &mut self.far);
         drop(last);
         match ended {
-            Ok(verdicts) => far.into_answer(&verdicts),
+            Ok(verdicts) => self.far.handed_over(alloc).into_answer(&verdicts),
             Err(_) => Err(TextFault::OutOfMemory),
         }
     }
@@ -82,6 +90,25 @@ impl<const C: usize, const M: usize> Listener<C, M> for Crossing<C, M> {
 
     fn hear(&mut self, held: &Script<C, M>) -> Result<Counts, AllocError> {
         self.run.go_on(held, &mut self.far)
+    }
+}
+
+// The answer of a new run to a text whose header names this version and these widths.
+fn cross<R: Read, const C: usize, const M: usize>(
+    alloc: Global,
+    reader: &mut R,
+    input: &mut Input,
+    version: u8,
+    crossing: &mut Crossing<C, M>,
+) -> Result<AnswerParts, TextFault>
+    requires { IsFresh (R.remaining reader.old) input.old ×
+        HasHeader (held input.old) version C M × IsNew (Crosses version) crossing.old }
+    ensures { ReadsAnswer (unread_of input.old (R.remaining reader.old)) (R.remaining reader.new)
+        false input.new result }
+{
+    match read_through(alloc, reader, input, version, crossing) {
+        Ok(last) => crossing.end(alloc, last),
+        Err(fault) => Err(fault),
     }
 }
 
@@ -106,8 +133,7 @@ pub(crate) fn run_input<R: Read, const C: usize, const M: usize>(
         Ok(crossing) => crossing,
         Err(fault) => return Err(fault),
     };
-    match read_through(alloc, reader, input, version, &mut crossing) {
-        Ok(last) => crossing.end(last),
-        Err(fault) => Err(fault),
-    }
+    let answer = cross(alloc, reader, input, version, &mut crossing);
+    crossing.let_go();
+    answer
 }

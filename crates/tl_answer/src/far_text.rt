@@ -12,6 +12,7 @@ use crate::answer::{are_done, header, write_reports};
 use crate::fault::TextFault;
 use crate::parts::AnswerParts;
 use std::alloc::{AllocError, Global};
+use std::mem::replace;
 use tl_bridge::FarSink;
 use tl_msg::{Beat, ChA, ChB, ChC, ChD, ChE, Verdict};
 use tl_trace::write_far;
@@ -47,6 +48,21 @@ impl FarTexts {
             e: Vec::new(alloc),
             version,
         })
+    }
+
+    // The lines so far, of which none are left here.
+    pub(crate) fn handed_over(&mut self, alloc: Global) -> FarTexts
+        ensures { result ≡ self.old }
+    {
+        let none = FarTexts {
+            a: Vec::new(alloc),
+            b: Vec::new(alloc),
+            c: Vec::new(alloc),
+            d: Vec::new(alloc),
+            e: Vec::new(alloc),
+            version: self.version,
+        };
+        replace(self, none)
     }
 
     // The answer of a run that ends with these verdicts, from A to E: the five report lines stand

@@ -55,13 +55,16 @@ fn sync_run_of<const C: usize, const M: usize>(
         ≡ list_all is_done (verdicts (near_beats script.entry))) }
     ensures err { IfErr result (λ fault. fault ≡ NoMemory) }
 {
-    match Crossing::<C, M>::new(alloc, version, RING) {
-        Ok(crossing) => crossing.end(script),
+    let mut crossing = match Crossing::<C, M>::new(alloc, version, RING) {
+        Ok(crossing) => crossing,
         Err(fault) => {
             drop(script);
-            Err(fault)
+            return Err(fault);
         }
-    }
+    };
+    let answer = crossing.end(alloc, script);
+    crossing.let_go();
+    answer
 }
 
 /// The answer to a script with both sides in one thread: by a check, or by a run. Refused with

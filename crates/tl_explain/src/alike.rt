@@ -22,11 +22,9 @@ pub struct Alike {
 }
 
 /// Appends what was written to a page from here on, but for a number that stands from there up to there. False
-/// where it is no longer at hand, or memory was refused.
+/// where memory was refused.
 fn keep(text: &mut Vec<u8>, page: &Page, from: usize, number: usize, behind: usize) -> bool {
-    let (Some(whole), Some(after)) = (page.end_from(from), page.end_from(behind)) else {
-        return false;
-    };
+    let (whole, after) = (page.end_from(from), page.end_from(behind));
     let before = whole.get(..number.saturating_sub(from)).unwrap_or(&[]);
     text.extend_from_slice(before).is_ok() && text.extend_from_slice(after).is_ok()
 }

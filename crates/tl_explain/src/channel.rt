@@ -60,10 +60,16 @@ fn draw_near<K: Told, const W: usize>(
     }
 }
 
-/// Writes far beats, each as its line.
-fn put_far<K: Told, const V: usize>(story: &mut Story, far: &[Beat<K, V>]) {
+/// Writes the lines of far beats, each behind four blanks.
+fn put_far_lines<K: Told, const V: usize>(story: &mut Story, far: &[Beat<K, V>]) {
     // (tested, too)
     if !is_width(V) {
+        return;
+    }
+    if far.len() == 1 {
+        story.page.put_text("    ");
+        let written = write_far::<K, V>(&mut story.page.text, far, story.version);
+        story.page.lacks_a_piece |= written.is_err();
         return;
     }
     story.far.clear();
@@ -73,10 +79,33 @@ fn put_far<K: Told, const V: usize>(story: &mut Story, far: &[Beat<K, V>]) {
     let length = story.far.len() / far.len().max(1);
     for number in 0..far.len() {
         story.put_far_line(number, length);
-        if story.shows_far_lanes() {
-            let seen = seen_of::<K, V>(&far[number], story.version);
-            story.put_far_lanes(number, length, &seen, &far[number].lanes);
-        }
+    }
+}
+
+/// Writes the lines of far beats with their lanes, or draws them.
+#[inline(never)]
+fn put_far_lanes<K: Told, const V: usize>(story: &mut Story, far: &[Beat<K, V>]) {
+    // (tested, too)
+    if !is_width(V) {
+        return;
+    }
+    story.far.clear();
+    let written = write_far::<K, V>(&mut story.far, far, story.version);
+    story.page.lacks_a_piece |= written.is_err();
+    let length = story.far.len() / far.len().max(1);
+    for number in 0..far.len() {
+        story.put_far_line(number, length);
+        let seen = seen_of::<K, V>(&far[number], story.version);
+        story.put_far_lanes(number, length, &seen, &far[number].lanes);
+    }
+}
+
+/// Writes far beats.
+fn put_far<K: Told, const V: usize>(story: &mut Story, far: &[Beat<K, V>]) {
+    if story.shows_far_lanes() {
+        put_far_lanes::<K, V>(story, far);
+    } else {
+        put_far_lines::<K, V>(story, far);
     }
 }
 

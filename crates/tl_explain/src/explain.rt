@@ -1,24 +1,26 @@
 //! From a text to what came of each of its lines.
-ghost use Rattle.std.specs.Prelude.{◌≡◌, ◌≤◌, ◌++◌, true, length, Some, IfOk, IfErr};
+ghost use Rattle.std.specs.Prelude.{◌≡◌, ◌≤◌, ◌++◌, true, length, IfOk, OnOk, IfErr};
 ghost use Rattle.std.specs.List.{list_all};
 ghost use Rattle.tl_lanes.specs.Lanes.{IsWidth};
 ghost use Rattle.tl_trace.specs.Faults.{HasHeader};
 ghost use Rattle.tl_trace.specs.Scripts.{TellsScript};
 ghost use Rattle.tl_answer.specs.Answer.{far_header, report, is_done};
 ghost use Rattle.tl_answer.specs.Texts.{IsAnswer, IsOfText, most_bytes};
-ghost use Rattle.tl_answer.specs.declared.fault.TextFault.TheVariants.{OutOfMemory as NoMemory};
-ghost use Rattle.tl_explain.specs.Explained.{IsExplanation};
+ghost use Rattle.tl_answer.specs.declared.fault.TextFault.TheVariants.{OutOfMemory as NoMemory, Write as WriteFault};
+ghost use Rattle.tl_explain.specs.Explained.{Explains, IsExplanation, IsUntold};
+ghost use Rattle.tl_explain.specs.Inner.Telling.{Continues};
 
 use crate::channel::tell;
 use crate::held::{held_of, waiting_source};
 use crate::letters::letters_of;
 use crate::look::Look;
 use crate::requests::Requests;
-use crate::story::{Story, Told};
+use crate::story::Story;
 use crate::walk::Walk;
 use arrayvec::ArrayVec;
 use std::alloc::{AllocError, Global};
-use tl_answer::{Answer, TextFault, at_width, check_of};
+use std::io::Write;
+use tl_answer::{Answer, TextFault, at_width, check_of, write_all};
 use tl_check::verdicts_of;
 use tl_convert::Converter;
 use tl_lanes::WIDEST;
@@ -33,15 +35,18 @@ pub struct Explanation {
     pub all_done: bool,
 }
 
-/// Writes what came of the beats of a script, whose lines begin with these letters: each channel has a
-/// converter, and room for the far beats that one near beat completes. A beat of E has nothing on its
-/// lanes, so a bus of one byte stands for any that it goes to.
-fn tell_all<const C: usize, const M: usize>(
+/// Tells what came of the beats of a script, whose lines begin with these letters, and writes it block by
+/// block where beats are not drawn. Each channel has a converter, and room for the far beats that one near
+/// beat completes. A beat of E has nothing on its lanes, so a bus of one byte stands for any that it goes to.
+fn tell_all<W: Write, const C: usize, const M: usize>(
     story: &mut Story,
     letters: &[u8],
     script: &Script<C, M>,
-)
+    writer: &mut W,
+) -> Result<(), TextFault>
     requires { IsWidth C × IsWidth M }
+    ensures out { OnOk result (Continues (W.contents writer.old) (W.contents writer.new)) }
+    ensures kind { IfErr result (λ fault. fault ≡ WriteFault) }
 {
     let mut way_a = Converter::<ChA, C, M>::new();
     let mut far_a = ArrayVec::<Beat<ChA, M>, WIDEST>::new();
@@ -61,8 +66,10 @@ fn tell_all<const C: usize, const M: usize>(
             b'D' => tell::<ChD, M, C>(story, b'D', &script.d, &mut way_d, &mut far_d),
             _ => tell::<ChE, C, 1>(story, b'E', &script.e, &mut way_e, &mut far_e),
         }
+        story.write_block(writer)?;
     }
     story.end();
+    story.write_rest(writer)
 }
 
 /// The requests of A, none of which is answered yet, and what the beats wait for that wait on A and on D.
@@ -82,13 +89,6 @@ fn requests_of<const C: usize, const M: usize>(
     requests.held_request = held_of::<ChA, C>(letters, b'A', on_a, &script.a, missing);
     requests.add_all::<C>(letters, on_a, &script.a)?;
     Ok(requests)
-}
-
-/// What was told of a text: what came of its lines, and the answer of a check to it.
-#[derive(Drop)]
-pub struct Telling {
-    pub told: Told,
-    pub answer: Answer,
 }
 
 /// What is noted of the messages of a script: remarks where they are asked for, and pairs where beats are
@@ -131,112 +131,200 @@ fn walks_of(
     Ok(walks)
 }
 
-/// What came of each line from line 2 on.
-fn told_of<const C: usize, const M: usize>(
+/// What is told of a script from line 2 on, of which no line is told yet.
+fn story_of<const C: usize, const M: usize>(
     alloc: Global,
-    text: &[u8],
+    letters: &[u8],
     script: &Script<C, M>,
     verdicts: &[Verdict; 5],
     version: u8,
     look: &Look,
-) -> Result<Told, AllocError>
+) -> Result<Story, AllocError>
     requires { IsWidth C × IsWidth M }
 {
-    let header = Header {
-        version,
-        client: C,
-        manager: M,
-    };
-    let letters = letters_of(alloc, text, &header)?;
-    let noted = noted_of::<C, M>(alloc, &letters, script, verdicts, look)?;
-    let requests = requests_of::<C, M>(alloc, &letters, script, verdicts)?;
+    let noted = noted_of::<C, M>(alloc, letters, script, verdicts, look)?;
+    let requests = requests_of::<C, M>(alloc, letters, script, verdicts)?;
     let walks = walks_of(alloc, verdicts, C, M)?;
     let mut story = Story::new(alloc, version, look, requests, noted, walks);
-    tell_all::<C, M>(&mut story, &letters, script);
-    story.told()
+    story.make_room()?;
+    Ok(story)
 }
 
-/// The same, with the answer of a check to a text whose channels end with these verdicts, from A to E.
+/// The verdicts on the channels of a script, from A to E, and the answer of a check to it.
+#[derive(Drop)]
+struct Checked {
+    verdicts: [Verdict; 5],
+    answer: Answer,
+}
+
+/// The same, of which the verdicts are there.
 fn with_answer(
     alloc: Global,
-    told: Told,
-    verdicts: &[Verdict; 5],
+    verdicts: [Verdict; 5],
     version: u8,
     client: usize,
     manager: usize,
-) -> Result<Telling, TextFault>
+) -> Result<Checked, TextFault>
     ensures text { IfOk result (λ made. made.answer.text.items
-        ≡ far_header version client manager ++ report verdicts.now) }
-    ensures done { IfOk result (λ made. made.answer.all_done ≡ list_all is_done verdicts.now) }
+        ≡ far_header version client manager ++ report verdicts) }
+    ensures done { IfOk result (λ made. made.answer.all_done ≡ list_all is_done verdicts) }
     ensures err { IfErr result (λ fault. fault ≡ NoMemory) }
 {
-    let answer = check_of(alloc, verdicts, version, client, manager)?;
-    Ok(Telling { told, answer })
+    let answer = check_of(alloc, &verdicts, version, client, manager)?;
+    Ok(Checked { verdicts, answer })
 }
 
-/// What is told of a text of this version that tells this script.
-fn with_script<const C: usize, const M: usize>(
+/// The verdicts and the answer for a text of this version that tells this script.
+fn answer_to<const C: usize, const M: usize>(
     alloc: Global,
     text: &[u8],
     script: &Script<C, M>,
     version: u8,
-    look: &Look,
-) -> Result<Telling, TextFault>
+) -> Result<Checked, TextFault>
     requires { IsWidth C × IsWidth M × (length text.now ≤ most_bytes) ×
         TellsScript version text.now script.now }
     ensures ok { IfOk result (λ made.
         IsAnswer text.now true made.answer.text.items made.answer.all_done) }
     ensures err { IfErr result (λ fault. fault ≡ NoMemory) }
 {
+    let _text = text;
     let Ok(verdicts) = verdicts_of::<C, M>(alloc, script) else {
         return Err(TextFault::OutOfMemory);
     };
-    let told = told_of(alloc, text, script, &verdicts, version, look)?;
-    with_answer(alloc, told, &verdicts, version, C, M)
+    with_answer(alloc, verdicts, version, C, M)
 }
 
-/// What is told of a text whose header names this version and these widths.
-fn with_widths<const C: usize, const M: usize>(
+/// What was told of a text, as far as it is not written yet, and the answer of a check to it.
+#[derive(Drop)]
+pub struct Telling {
+    pub story: Story,
+    pub answer: Answer,
+}
+
+/// What is needed for telling a text: the story, with all memory that it needs where beats are not drawn, the
+/// letters that the lines begin with, and the answer of a check.
+#[derive(Drop)]
+struct Begun {
+    story: Story,
+    letters: Vec<u8>,
+    answer: Answer,
+}
+
+/// The same for a script with these verdicts and this answer.
+fn begin<const C: usize, const M: usize>(
+    alloc: Global,
+    text: &[u8],
+    script: &Script<C, M>,
+    checked: Checked,
+    version: u8,
+    look: &Look,
+) -> Result<Begun, AllocError>
+    requires { IsWidth C × IsWidth M }
+    ensures { IfOk result (λ made. made.answer ≡ checked.answer) }
+{
+    let Checked { verdicts, answer } = checked;
+    let header = Header {
+        version,
+        client: C,
+        manager: M,
+    };
+    let letters = letters_of(alloc, text, &header)?;
+    let story = story_of::<C, M>(alloc, &letters, script, &verdicts, version, look)?;
+    Ok(Begun {
+        story,
+        letters,
+        answer,
+    })
+}
+
+/// Tells a text of this version that tells this script. Whatever lacks memory does so before anything is
+/// written.
+fn with_script<W: Write, const C: usize, const M: usize>(
+    alloc: Global,
+    text: &[u8],
+    script: &Script<C, M>,
+    version: u8,
+    look: &Look,
+    writer: &mut W,
+) -> Result<Telling, TextFault>
+    requires { IsWidth C × IsWidth M × (length text.now ≤ most_bytes) ×
+        TellsScript version text.now script.now }
+    ensures ok { IfOk result (λ made.
+        IsAnswer text.now true made.answer.text.items made.answer.all_done) }
+    ensures out { OnOk result (Continues (W.contents writer.old) (W.contents writer.new)) }
+    ensures err { IfErr result
+        (IsUntold text.now (W.contents writer.old) (W.contents writer.new)) }
+{
+    let checked = answer_to::<C, M>(alloc, text, script, version)?;
+    let begun = begin::<C, M>(alloc, text, script, checked, version, look)?;
+    let Begun {
+        mut story,
+        letters,
+        answer,
+    } = begun;
+    tell_all::<W, C, M>(&mut story, &letters, script, writer)?;
+    Ok(Telling { story, answer })
+}
+
+/// Tells a text whose header names this version and these widths.
+fn with_widths<W: Write, const C: usize, const M: usize>(
     alloc: Global,
     text: &[u8],
     version: u8,
     look: &Look,
+    writer: &mut W,
 ) -> Result<Telling, TextFault>
     requires { HasHeader text.now version C M × (length text.now ≤ most_bytes) }
     ensures ok { IfOk result (λ made.
         IsAnswer text.now true made.answer.text.items made.answer.all_done) }
-    ensures err { IfErr result (IsOfText text.now) }
+    ensures out { OnOk result (Continues (W.contents writer.old) (W.contents writer.new)) }
+    ensures err { IfErr result
+        (IsUntold text.now (W.contents writer.old) (W.contents writer.new)) }
 {
     let script = read_script::<C, M>(alloc, text, version)?;
-    let telling = with_script(alloc, text, &script, version, look);
+    let telling = with_script::<W, C, M>(alloc, text, &script, version, look, writer);
     drop(script);
     telling
 }
 
 /// The same, for a client of `C` bytes: the manager's width is one of eight.
-fn with_client<const C: usize>(
+fn with_client<W: Write, const C: usize>(
     alloc: Global,
     text: &[u8],
     version: u8,
     manager: usize,
     look: &Look,
+    writer: &mut W,
 ) -> Result<Telling, TextFault>
     requires { HasHeader text.now version C manager × (length text.now ≤ most_bytes) }
     ensures ok { IfOk result (λ made.
         IsAnswer text.now true made.answer.text.items made.answer.all_done) }
-    ensures err { IfErr result (IsOfText text.now) }
+    ensures out { OnOk result (Continues (W.contents writer.old) (W.contents writer.new)) }
+    ensures err { IfErr result
+        (IsUntold text.now (W.contents writer.old) (W.contents writer.new)) }
 {
-    at_width!(manager, with_widths::<C, _>(alloc, text, version, look))
+    at_width!(
+        manager,
+        with_widths::<W, C, _>(alloc, text, version, look, writer)
+    )
 }
 
-/// What is told of a text.
+/// Tells a text, and writes what is told block by block where beats are not drawn.
 ///
-/// Refused with `Trace` and the text's first fault and its line, or with `OutOfMemory`.
-pub fn telling_of(alloc: Global, text: &[u8], look: &Look) -> Result<Telling, TextFault>
+/// Refused with `Trace` and the text's first fault and its line, or with `OutOfMemory`, before anything is
+/// written, and with `Write` as `write_all` is.
+pub fn telling_of<W: Write>(
+    alloc: Global,
+    text: &[u8],
+    look: &Look,
+    writer: &mut W,
+) -> Result<Telling, TextFault>
     requires few { length text.now ≤ most_bytes }
     ensures ok { IfOk result (λ made.
         IsAnswer text.now true made.answer.text.items made.answer.all_done) }
-    ensures err { IfErr result (IsOfText text.now) }
+    ensures out { OnOk result (Continues (W.contents writer.old) (W.contents writer.new)) }
+    ensures err { IfErr result
+        (IsUntold text.now (W.contents writer.old) (W.contents writer.new)) }
 {
     let Some(header) = header_of_text(text) else {
         return Err(TextFault::from(TraceFault {
@@ -246,30 +334,42 @@ pub fn telling_of(alloc: Global, text: &[u8], look: &Look) -> Result<Telling, Te
     };
     at_width!(
         header.client,
-        with_client::<_>(alloc, text, header.version, header.manager, look)
+        with_client::<W, _>(alloc, text, header.version, header.manager, look, writer)
     )
 }
 
-/// The explanation that these sentences make with this answer of a check behind them.
-fn explanation_of(sentences: Vec<u8>, answer: &Answer) -> Result<Explanation, AllocError>
-    ensures text { IfOk result (λ made. made.text.items
-        ≡ sentences.items ++ answer.now.text.items) }
-    ensures done { IfOk result (λ made. made.all_done ≡ answer.now.all_done) }
-{
-    let mut text = sentences;
-    text.extend_from_slice(&answer.text)?;
-    Ok(Explanation {
-        text,
-        all_done: answer.all_done,
-    })
-}
-
-/// What came of each line of a text, in the order of its lines, and then the answer that
-/// `tlbridge check` gives to it.
+/// Writes what came of each line of a text, in the order of its lines, and then the answer that
+/// `tlbridge check` gives to it: true where all five channels are done.
 ///
 /// A line has a sentence: whether its beat was accepted, and which far beats it completed, or how
 /// much of the next one is there; or why it was refused, or waits, or was not offered. Below an
 /// accepted one stand the lines of the far beats that it completed, each behind four spaces.
+///
+/// Refused with `Trace` and the text's first fault and its line, or with `OutOfMemory`, before anything is
+/// written. Refused with `Write` where a write fails, is interrupted or takes no byte; after it, it isn't
+/// said how much went out.
+pub fn explain_to<W: Write>(
+    alloc: Global,
+    text: &[u8],
+    look: &Look,
+    writer: &mut W,
+) -> Result<bool, TextFault>
+    requires few { length text.now ≤ most_bytes }
+    ensures ok { IfOk result
+        (Explains text.now (W.contents writer.old) (W.contents writer.new)) }
+    ensures err { IfErr result
+        (IsUntold text.now (W.contents writer.old) (W.contents writer.new)) }
+{
+    let look = Look {
+        page: false,
+        ..*look
+    };
+    let telling = telling_of::<W>(alloc, text, &look, writer)?;
+    write_all(writer, &telling.answer.text)?;
+    Ok(telling.answer.all_done)
+}
+
+/// The same, as a value.
 ///
 /// Refused with `Trace` and the text's first fault and its line, or with `OutOfMemory`.
 pub fn explain_text(alloc: Global, text: &[u8], look: &Look) -> Result<Explanation, TextFault>
@@ -277,11 +377,13 @@ pub fn explain_text(alloc: Global, text: &[u8], look: &Look) -> Result<Explanati
     ensures ok { IfOk result (λ made. IsExplanation text.now made.text.items made.all_done) }
     ensures err { IfErr result (IsOfText text.now) }
 {
-    let look = Look {
-        page: false,
-        ..*look
-    };
-    let telling = telling_of(alloc, text, &look)?;
-    let Telling { told, answer } = telling;
-    Ok(explanation_of(told.text, &answer)?)
+    let mut explanation = Vec::new(alloc);
+    match explain_to::<Vec<u8>>(alloc, text, look, &mut explanation) {
+        Ok(all_done) => Ok(Explanation {
+            text: explanation,
+            all_done,
+        }),
+        Err(TextFault::Write) => Err(TextFault::OutOfMemory),
+        Err(fault) => Err(fault),
+    }
 }

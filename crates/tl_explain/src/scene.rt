@@ -3,7 +3,7 @@ ghost use Rattle.std.specs.Prelude.{◌≡◌, ◌≤◌, true, length, IfOk, If
 ghost use Rattle.tl_answer.specs.Texts.{IsAnswer, IsOfText, most_bytes};
 
 use crate::drawing::Drawn;
-use crate::explain::telling_of;
+use crate::explain::{Telling, telling_of};
 use crate::look::Look;
 use crate::picture::Picture;
 use crate::shown::Item;
@@ -144,6 +144,16 @@ impl Scene {
     }
 }
 
+/// What a page shows of a text of which all is told.
+fn scene_with(alloc: Global, telling: Telling) -> Result<Scene, AllocError>
+    ensures { IfOk result (λ made. made.answer ≡ telling.answer) }
+{
+    let Telling { story, answer, .. } = telling;
+    let told = story.told()?;
+    let ties = told.ties(alloc)?;
+    Ok(Scene { told, ties, answer })
+}
+
 /// What a page shows of a text: how each line fares, in sentences, with the beats on their lanes, and the
 /// answer that `tlbridge check` gives to it.
 ///
@@ -159,11 +169,11 @@ pub fn scene_of(alloc: Global, text: &[u8], look: &Look) -> Result<Scene, TextFa
         page: true,
         ..*look
     };
-    let telling = telling_of(alloc, text, &look)?;
-    let ties = telling.told.ties(alloc)?;
-    Ok(Scene {
-        told: telling.told,
-        ties,
-        answer: telling.answer,
-    })
+    // (beats are drawn, so nothing goes there)
+    let mut nowhere = Vec::new(alloc);
+    match telling_of::<Vec<u8>>(alloc, text, &look, &mut nowhere) {
+        Ok(telling) => Ok(scene_with(alloc, telling)?),
+        Err(TextFault::Write) => Err(TextFault::OutOfMemory),
+        Err(fault) => Err(fault),
+    }
 }

@@ -1,7 +1,7 @@
 //! From the bytes that come in to the bytes that go out.
 ghost use Rattle.tl_explain.specs.Explained.{ExplainsText};
 
-use crate::explain::explain_text;
+use crate::explain::explain_to;
 use crate::look::Look;
 use std::alloc::Global;
 use std::io::{Read, Write};
@@ -13,9 +13,9 @@ use tl_unreadable::show_fault;
 ///
 /// All of the input is read first: `Read` where a read fails or is interrupted, `TooLong` above
 /// 67,108,864 bytes. Of a text that is no trace it writes the first faulty line, the place of its
-/// fault and what was expected there; the result is that fault, `Trace`. Nothing is written before
-/// all that goes out is made. `Write` where a write fails, is interrupted or takes no byte; after it,
-/// it isn't said how much went out. `OutOfMemory` comes before anything is written.
+/// fault and what was expected there; the result is that fault, `Trace`. `Write` where a write fails, is
+/// interrupted or takes no byte; after it, it isn't said how much went out. `OutOfMemory` comes before
+/// anything is written.
 pub fn run_explain<R: Read, W: Write>(
     alloc: Global,
     reader: &mut R,
@@ -26,16 +26,12 @@ pub fn run_explain<R: Read, W: Write>(
         (W.contents writer.old) (W.contents writer.new) result }
 {
     let text = read_all(alloc, reader)?;
-    match explain_text(alloc, &text, look) {
-        Ok(explanation) => {
-            write_all(writer, &explanation.text)?;
-            Ok(explanation.all_done)
-        }
+    match explain_to::<W>(alloc, &text, look, writer) {
         Err(TextFault::Trace(fault)) => {
             let shown = show_fault(alloc, &text, &fault)?;
             write_all(writer, &shown)?;
             Err(TextFault::Trace(fault))
         }
-        Err(fault) => Err(fault),
+        ending => ending,
     }
 }

@@ -16,7 +16,8 @@ not-for-size result ring size refused =
     (λ fault memory. (λ same. absurd (cc (memory, same)), λ none. absurd (ring_size_only ring size none))) refused
 
 pub not-stalled : {X : Type 0} (result : Result X RunFault) → IfErr result (λ fault. fault ≡ OutOfMemory) → IfErr result (λ fault. fault ≢ Stalled)
-not-stalled result refused = IfErr-weaker result (λ fault. fault ≡ OutOfMemory) (λ fault. fault ≢ Stalled) (λ fault memory same. cc (memory, same)) refused
+not-stalled result refused = IfErr-weaker result (λ fault. fault ≡ OutOfMemory) (λ fault. fault ≢ Stalled) (λ fault memory same. cc (memory, same))
+    refused
 
 -- a run whose bridge is not made is refused for the same
 pub same-size : {P : Type 0} (fault : BuildFault) (e : RunFault) → e ≡ of_build_fault fault → (fault ≡ building.RingSize) ↔ P → (e ≡ RingSize) ↔ P
@@ -26,3 +27,7 @@ same-size building.OutOfMemory e is told = (λ same. absurd (cc (is, same)), λ 
 pub stalled-never : (fault : BuildFault) (e : RunFault) → e ≡ of_build_fault fault → e ≢ Stalled
 stalled-never building.RingSize e is same = cc (is, same)
 stalled-never building.OutOfMemory e is same = cc (is, same)
+
+-- so is one that has no memory for the lists of its far beats
+pub want-of-memory : (ring : ℕ) → (1 ≤ ring) × (ring ≤ MAX_RING) → (OutOfMemory ≡ RingSize) ↔ ((ring ≡ 0) ⊎ (MAX_RING < ring))
+want-of-memory ring size = (λ same. absurd (cc (same)), λ refused. absurd (ring_size_only ring size refused))

@@ -1,15 +1,22 @@
 -- What has room for all that a script can make due has room for what stands in the inboxes of its run.
-use Rattle.tl_run.proofs.Names.{◌+◌, ◌++◌, ◌≤◌, ℕ, List, length, length-append, sym, subst, arith, vec_capacity, IsWidth, rules_a, rules_b, rules_c, rules_d, rules_e}
+use Rattle.tl_run.proofs.Names.{◌≡◌, [], refl, no_beats, ◌+◌, ◌++◌, ◌≤◌, ℕ, List, length, length-append, sym, subst, arith, vec_capacity, IsWidth}
+use Rattle.tl_run.proofs.Names.{rules_a, rules_b, rules_c, rules_d, rules_e}
 use Rattle.tl_run.proofs.Names.{Beats, Bridge, Past, StandsFor, PerChannel, Fit, joined, HaveRoom, IsUnderWay, IsAt, beats_of, inboxes}
 use Rattle.tl_run.specs.Inner.Arriving.{HasRoomFor, HaveCapacity}
 use Rattle.tl_run.specs.declared.taken.Taken.{Taken}
 use Rattle.tl_run.proofs.ChannelEnd.{room-for}
 use Rattle.tl_run.proofs.Round.{inboxes-are}
 
+-- lists without a beat are no beats
+pub none-yet : {C M : ℕ} (t : Taken C M) →
+    t.a.items ≡ [] → t.b.items ≡ [] → t.c.items ≡ [] → t.d.items ≡ [] → t.e.items ≡ [] → beats_of t ≡ no_beats
+none-yet t a b c d e = rw (a, b, c, d, e) refl
+
 fits : {B : Type 0} (xs ys : List B) {k : ℕ} → length xs + length ys ≤ k → length (xs ++ ys) ≤ k
 fits xs ys {k = k} l = subst (λ q. q ≤ k) (sym (length-append xs ys)) l
 
-pub inboxes-fit : {C M : ℕ} → IsWidth C → IsWidth M → (near : Beats C M) (n : PerChannel ℕ) (far : Beats M C) (s : Bridge C M) (x : Past C M) → StandsFor s x → IsAt near n far x →
+pub inboxes-fit : {C M : ℕ} → IsWidth C → IsWidth M → (near : Beats C M) (n : PerChannel ℕ) (far : Beats M C) (s : Bridge C M) (x : Past C M) →
+    StandsFor s x → IsAt near n far x →
     (room : PerChannel ℕ) → HaveRoom near room → Fit (joined far (inboxes s)) room
 inboxes-fit cw mw near n far s x stands i room has =
     subst (λ q. Fit (joined far q) room) (sym (inboxes-are s x stands)) (record {
@@ -29,7 +36,8 @@ pub has-places : {C M : ℕ} (t : Taken C M) → HaveCapacity t (places t)
 has-places t = record { a = omega arith; b = omega arith; c = omega arith; d = omega arith; e = omega arith }
 
 -- which are enough for what stands in the inboxes, and stay enough where there are more
-pub lists-fit : {C M : ℕ} → IsWidth C → IsWidth M → (near : Beats C M) (n : PerChannel ℕ) (far : Taken C M) (s : Bridge C M) → IsUnderWay near n (beats_of far) s → HasRoomFor near far →
+pub lists-fit : {C M : ℕ} → IsWidth C → IsWidth M → (near : Beats C M) (n : PerChannel ℕ) (far : Taken C M) (s : Bridge C M) →
+    IsUnderWay near n (beats_of far) s → HasRoomFor near far →
     Fit (joined (beats_of far) (inboxes s)) (places far)
 lists-fit cw mw near n far s u has = inboxes-fit cw mw near n (beats_of far) s u.past u.stands u.is_at (places far) has
 

@@ -76,9 +76,8 @@ fn run_into_lists<const C: usize, const M: usize>(
         ((ring ≡ 0) ⊎ (MAX_RING < ring))) }
     ensures never_stalled { IfErr result (λ fault. fault ≢ Stalled) }
 {
-    let mut bridge = match SyncBridge::new(alloc, ring) {
-        Ok(bridge) => bridge,
-        Err(fault) => return Err(RunFault::from(fault)),
-    };
-    Ok(run_rounds(&mut bridge, script, far))
+    match SyncBridge::new(alloc, ring) {
+        Ok(mut bridge) => Ok(run_rounds(&mut bridge, script, far)),
+        Err(fault) => Err(RunFault::from(fault)),
+    }
 }

@@ -19,7 +19,8 @@ abbrev pub bridge_size : (C M : ℕ) → ℕ
 bridge_size C M = size (bridge_type C M)
 
 -- what is small at each pair of widths, as a test of each pair tells, is small at every pair
-pub small_at_widths : (f : ℕ → ℕ → ℕ) → at_widths (λ C. at_widths (λ M. nat_lt (f C M) (2 ^ 63))) ≡ true → (C M : ℕ) → IsWidth C → IsWidth M → f C M < 2 ^ 63
+pub small_at_widths : (f : ℕ → ℕ → ℕ) → at_widths (λ C. at_widths (λ M. nat_lt (f C M) (2 ^ 63))) ≡ true → (C M : ℕ) →
+    IsWidth C → IsWidth M → f C M < 2 ^ 63
 small_at_widths f passes C M c m =
     let row : at_widths (λ M. nat_lt (f C M) (2 ^ 63)) ≡ true = each_width (λ C. at_widths (λ M. nat_lt (f C M) (2 ^ 63))) passes C c in
     true_less (f C M) (2 ^ 63) (each_width (λ M. nat_lt (f C M) (2 ^ 63)) row M m)

@@ -1,7 +1,12 @@
 -- Each call of a bridge takes it to what it stands for after the same events.
-use Rattle.std.proofs.Common.{◌≡◌, ◌≤◌, ◌+◌, ◌*◌, ◌↔◌, ℕ, zero, suc, Bool, true, false, cond, None, Some, List, [], ◌∷◌, ◌++◌, map, length, take, drop, refl, sym, ap, subst, ◌∙◌, append-nil, append_assoc}
+use Rattle.std.proofs.Common.{◌≡◌, ◌≤◌, ◌+◌, ◌*◌, ◌↔◌, ℕ, zero, suc, Bool, true, false, cond, None, Some, List, [], ◌∷◌, ◌++◌, map, length, take}
+use Rattle.std.proofs.Common.{drop, refl, sym, ap, subst, ◌∙◌, append-nil, append_assoc}
 use Rattle.std.specs.Prelude.{◌==◌, slice_get}
-use Rattle.tl_sides.proofs.Words.{Rules, mask_fits, is_clean, IsLawfulBeat, rules_a, rules_b, rules_c, rules_d, rules_e, Mask, Corrupt, first_none, HeadA, HeadB, HeadC, HeadD, HeadE, BeatOf, left, rest_of, with_home, due, World, offered, pushed, popped, ROOM, Pipe, Event, Ask, Answer, Mark, Asks, Answers, asked, answered, marks, home_after, homes_from, manager_home, manager_homes, equal_true, not_equal, from_ask, from_answer, marks_ask_first, marks_ask_inside, marks_answer_first, marks_answer_inside}
+use Rattle.tl_sides.proofs.Words.{Rules, mask_fits, is_clean, IsLawfulBeat, rules_a, rules_b, rules_c, rules_d, rules_e, Mask, Corrupt, first_none}
+use Rattle.tl_sides.proofs.Words.{HeadA, HeadB, HeadC, HeadD, HeadE, BeatOf, left, rest_of, with_home, due, World, offered, pushed, popped, ROOM}
+use Rattle.tl_sides.proofs.Words.{Pipe, Event, Ask, Answer, Mark, Asks, Answers, asked, answered, marks, home_after, homes_from, manager_home}
+use Rattle.tl_sides.proofs.Words.{manager_homes, equal_true, not_equal, from_ask, from_answer, marks_ask_first, marks_ask_inside, marks_answer_first}
+use Rattle.tl_sides.proofs.Words.{marks_answer_inside}
 use Rattle.tl_msg.specs.Firsts.{unless, ◌or_else◌}
 use Rattle.tl_ring.specs.Pipe as piping
 use Rattle.tl_sides.specs.Books.{Client, Manager, KnowsClient, KnowsManager}
@@ -14,7 +19,8 @@ pub marks_ask : {w : ℕ} (es : List (Event w)) (b : BeatOf HeadA w) →
     marks (es ++ Ask b ∷ []) ≡ begun_with (left rules_a w (asked es) == 0) (Asks b.head) (marks es)
 marks_ask {w} es b = by_left (left rules_a w (asked es)) refl
   where
-    by_left : (n : ℕ) → left rules_a w (asked es) ≡ n → marks (es ++ Ask b ∷ []) ≡ begun_with (left rules_a w (asked es) == 0) (Asks b.head) (marks es)
+    by_left : (n : ℕ) → left rules_a w (asked es) ≡ n →
+        marks (es ++ Ask b ∷ []) ≡ begun_with (left rules_a w (asked es) == 0) (Asks b.head) (marks es)
     by_left zero e = marks_ask_first 0 0 es b e ∙ ap (λ t. begun_with t (Asks b.head) (marks es)) (sym (equal_true (left rules_a w (asked es)) 0 e))
     by_left (suc n) e =
         marks_ask_inside 0 0 n es b e ∙
@@ -24,8 +30,10 @@ pub marks_answer : {w : ℕ} (es : List (Event w)) (b : BeatOf HeadD w) →
     marks (es ++ Answer b ∷ []) ≡ begun_with (left rules_d w (answered es) == 0) (Answers b.head) (marks es)
 marks_answer {w} es b = by_left (left rules_d w (answered es)) refl
   where
-    by_left : (n : ℕ) → left rules_d w (answered es) ≡ n → marks (es ++ Answer b ∷ []) ≡ begun_with (left rules_d w (answered es) == 0) (Answers b.head) (marks es)
-    by_left zero e = marks_answer_first 0 0 es b e ∙ ap (λ t. begun_with t (Answers b.head) (marks es)) (sym (equal_true (left rules_d w (answered es)) 0 e))
+    by_left : (n : ℕ) → left rules_d w (answered es) ≡ n →
+        marks (es ++ Answer b ∷ []) ≡ begun_with (left rules_d w (answered es) == 0) (Answers b.head) (marks es)
+    by_left zero e = marks_answer_first 0 0 es b e ∙
+        ap (λ t. begun_with t (Answers b.head) (marks es)) (sym (equal_true (left rules_d w (answered es)) 0 e))
     by_left (suc n) e =
         marks_answer_inside 0 0 n es b e ∙
         ap (λ t. begun_with t (Answers b.head) (marks es)) (sym (not_equal (left rules_d w (answered es)) 0 (λ z. absurd (cc (z, e)))))
@@ -224,7 +232,8 @@ module _ {C M : ℕ} where
     most : result ≤ 5 * ROOM;
   }
 
-  pub all_pushed : {inside s : Bridge C M} → inside ≡ s → (a : Pipe HeadA M) (b : Pipe HeadB C) (c : Pipe HeadC M) (d : Pipe HeadD C) (e : Pipe HeadE M)
+  pub all_pushed : {inside s : Bridge C M} → inside ≡ s →
+      (a : Pipe HeadA M) (b : Pipe HeadB C) (c : Pipe HeadC M) (d : Pipe HeadD C) (e : Pipe HeadE M)
       (i j k l m : ℕ) → Moves rules_a C inside.a a i (pump_count inside.a) pushed → Moves rules_b M inside.b b j (pump_count inside.b) pushed →
       Moves rules_c C inside.c c k (pump_count inside.c) pushed → Moves rules_d M inside.d d l (pump_count inside.d) pushed →
       Moves rules_e C inside.e e m (pump_count inside.e) pushed →
@@ -232,15 +241,20 @@ module _ {C M : ℕ} where
   all_pushed {inside} view a b c d e i j k l m on_a on_b on_c on_d on_e =
       subst (λ s. AllMove s (record inside { a = a; b = b; c = c; d = d; e = e }) (i + j + k + l + m) (all_pumped s) (after_pump s)) view (record {
         count = λ t. on_a.count t + on_b.count t + on_c.count t + on_d.count t + on_e.count t;
-        moved = λ x h. go_on inside x h a b c d e (pushed (pump_count inside.a) x.a) (pushed (pump_count inside.b) x.b) (pushed (pump_count inside.c) x.c)
-            (pushed (pump_count inside.d) x.d) (pushed (pump_count inside.e) x.e) (moved_by rules_a C inside.a a i (pump_count inside.a) pushed on_a x.a h.a)
-            (moved_by rules_b M inside.b b j (pump_count inside.b) pushed on_b x.b h.b) (moved_by rules_c C inside.c c k (pump_count inside.c) pushed on_c x.c h.c)
-            (moved_by rules_d M inside.d d l (pump_count inside.d) pushed on_d x.d h.d) (moved_by rules_e C inside.e e m (pump_count inside.e) pushed on_e x.e h.e)
+        moved = λ x h. go_on inside x h a b c d e (pushed (pump_count inside.a) x.a) (pushed (pump_count inside.b) x.b)
+            (pushed (pump_count inside.c) x.c)
+            (pushed (pump_count inside.d) x.d) (pushed (pump_count inside.e) x.e)
+            (moved_by rules_a C inside.a a i (pump_count inside.a) pushed on_a x.a h.a)
+            (moved_by rules_b M inside.b b j (pump_count inside.b) pushed on_b x.b h.b)
+            (moved_by rules_c C inside.c c k (pump_count inside.c) pushed on_c x.c h.c)
+            (moved_by rules_d M inside.d d l (pump_count inside.d) pushed on_d x.d h.d)
+            (moved_by rules_e C inside.e e m (pump_count inside.e) pushed on_e x.e h.e)
             (refl, refl) (refl, refl, refl);
         most = sum_most i j k l m on_a.most on_b.most on_c.most on_d.most on_e.most;
       })
 
-  pub all_popped : {inside s : Bridge C M} → inside ≡ s → (a : Pipe HeadA M) (b : Pipe HeadB C) (c : Pipe HeadC M) (d : Pipe HeadD C) (e : Pipe HeadE M)
+  pub all_popped : {inside s : Bridge C M} → inside ≡ s →
+      (a : Pipe HeadA M) (b : Pipe HeadB C) (c : Pipe HeadC M) (d : Pipe HeadD C) (e : Pipe HeadE M)
       (i j k l m : ℕ) → Moves rules_a C inside.a a i (fetch_count inside.a) popped → Moves rules_b M inside.b b j (fetch_count inside.b) popped →
       Moves rules_c C inside.c c k (fetch_count inside.c) popped → Moves rules_d M inside.d d l (fetch_count inside.d) popped →
       Moves rules_e C inside.e e m (fetch_count inside.e) popped →
@@ -248,10 +262,14 @@ module _ {C M : ℕ} where
   all_popped {inside} view a b c d e i j k l m on_a on_b on_c on_d on_e =
       subst (λ s. AllMove s (record inside { a = a; b = b; c = c; d = d; e = e }) (i + j + k + l + m) (all_fetched s) (after_fetch s)) view (record {
         count = λ t. on_a.count t + on_b.count t + on_c.count t + on_d.count t + on_e.count t;
-        moved = λ x h. go_on inside x h a b c d e (popped (fetch_count inside.a) x.a) (popped (fetch_count inside.b) x.b) (popped (fetch_count inside.c) x.c)
-            (popped (fetch_count inside.d) x.d) (popped (fetch_count inside.e) x.e) (moved_by rules_a C inside.a a i (fetch_count inside.a) popped on_a x.a h.a)
-            (moved_by rules_b M inside.b b j (fetch_count inside.b) popped on_b x.b h.b) (moved_by rules_c C inside.c c k (fetch_count inside.c) popped on_c x.c h.c)
-            (moved_by rules_d M inside.d d l (fetch_count inside.d) popped on_d x.d h.d) (moved_by rules_e C inside.e e m (fetch_count inside.e) popped on_e x.e h.e)
+        moved = λ x h. go_on inside x h a b c d e (popped (fetch_count inside.a) x.a) (popped (fetch_count inside.b) x.b)
+            (popped (fetch_count inside.c) x.c)
+            (popped (fetch_count inside.d) x.d) (popped (fetch_count inside.e) x.e)
+            (moved_by rules_a C inside.a a i (fetch_count inside.a) popped on_a x.a h.a)
+            (moved_by rules_b M inside.b b j (fetch_count inside.b) popped on_b x.b h.b)
+            (moved_by rules_c C inside.c c k (fetch_count inside.c) popped on_c x.c h.c)
+            (moved_by rules_d M inside.d d l (fetch_count inside.d) popped on_d x.d h.d)
+            (moved_by rules_e C inside.e e m (fetch_count inside.e) popped on_e x.e h.e)
             (refl, refl) (refl, refl, refl);
         most = sum_most i j k l m on_a.most on_b.most on_c.most on_d.most on_e.most;
       })

@@ -7,7 +7,8 @@ use Rattle.tl_sides.proofs.Words.{HeadA, HeadD, BeatOf, Event, Ask, Answer, aske
 pub answered-all : {w : ℕ} (es : List (Event w)) (bs : List (BeatOf HeadD w)) → answered (es ++ map Answer bs) ≡ answered es ++ bs
 answered-all es [] = ap answered (append-nil es) ∙ sym (append-nil (answered es))
 answered-all es (b ∷ bs) =
-    ap answered (sym (append_assoc es (Answer b ∷ []) (map Answer bs))) ∙ answered-all (es ++ Answer b ∷ []) bs ∙ ap (λ q. q ++ bs) (answered_answer es b) ∙
+    ap answered (sym (append_assoc es (Answer b ∷ []) (map Answer bs))) ∙ answered-all (es ++ Answer b ∷ []) bs ∙
+    ap (λ q. q ++ bs) (answered_answer es b) ∙
     append_assoc (answered es) (b ∷ []) bs
 
 pub asked-all : {w : ℕ} (es : List (Event w)) (bs : List (BeatOf HeadA w)) → asked (es ++ map Ask bs) ≡ asked es ++ bs

@@ -1,5 +1,6 @@
 -- A table stands for a side's history while each request begins an entry and each response other than ReleaseAck ends one.
-use Rattle.std.proofs.Common.{rules, ◌≡◌, ℕ, zero, suc, Bool, true, false, cond, Option, None, Some, List, [], ◌∷◌, ◌++◌, ◌<◌, length, map, refl, sym, ap, ◌∙◌, replicate}
+use Rattle.std.proofs.Common.{rules, ◌≡◌, ℕ, zero, suc, Bool, true, false, cond, Option, None, Some, List, [], ◌∷◌, ◌++◌, ◌<◌, length, map, refl, sym}
+use Rattle.std.proofs.Common.{ap, ◌∙◌, replicate}
 use Rattle.std.specs.Prelude.{slice_index_or, slice_set, ◌==◌, ◌&&◌, not}
 use Rattle.std.specs.Option.{is_some}
 use Rattle.std.proofs.Math.ListN.{get_or-map}
@@ -69,7 +70,8 @@ pub ends_busy : (t u : List Bool) (ms : List Mark) (h : HeadD) → is_release_ac
     ((s : ℕ) → is_busy u s ≡ cond (h.source == s) false (is_busy t s)) → AreBusy u (ms ++ Answers h ∷ [])
 ends_busy t u ms h other b e = record {
   each = λ s. e s ∙ ap (λ x. cond (h.source == s) false x) (b.each s) ∙ sym (none_cond (h.source == s) (open_request s ms)) ∙
-      ap (λ x. is_some (cond (not x && (h.source == s)) None (open_request s ms))) (sym other) ∙ ap (λ x. is_some x) (sym (open_more s None ms (Answers h)));
+      ap (λ x. is_some (cond (not x && (h.source == s)) None (open_request s ms))) (sym other) ∙
+      ap (λ x. is_some x) (sym (open_more s None ms (Answers h)));
 }
 
 pub ends_open : (t u : List (Option Request)) (ms : List Mark) (h : HeadD) → is_release_ack h ≡ false → AreOpen t ms →

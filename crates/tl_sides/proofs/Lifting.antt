@@ -7,7 +7,8 @@ use Rattle.tl_sides.specs.Calls.{SendingChannel, TakingChannel, OffersBeat, Clos
 -- a part s of the whole `up s`, which stands for what the part of a past `down y` is of the past y
 module _ {S P T Q H : Type 0} {w : ℕ} (k : SendingChannel S P H w) (j : SendingChannel T Q H w) (up : S → T) (down : Q → P) (s s' : S)
     (part : (y : Q) → j.Stands (up s) y → k.Stands s (down y)) where
-  pub offer_lifted : (b : BeatOf H w) (answer : Result (Unit {0}) SideFault) → ((y : Q) → k.stops (down y) b ≡ j.stops y b) → (k.Keeps s s' → j.Keeps (up s) (up s')) →
+  pub offer_lifted : (b : BeatOf H w) (answer : Result (Unit {0}) SideFault) → ((y : Q) → k.stops (down y) b ≡ j.stops y b) →
+      (k.Keeps s s' → j.Keeps (up s) (up s')) →
       ((y : Q) → j.Stands (up s) y → k.Keeps s s' → k.Stands s' (k.with_beat b (down y)) → j.Stands (up s') (j.with_beat b y)) →
       OffersBeat k b s answer s' → OffersBeat j b (up s) answer (up s')
   offer_lifted b answer stops keeps whole said = record {
@@ -33,7 +34,8 @@ module _ {S P T Q H : Type 0} {w : ℕ} (k : SendingChannel S P H w) (j : Sendin
         refused = on_err answer (λ same. ap up same) said.refused;
       }
 
-pub take_lifted : {S P T Q H : Type 0} {w : ℕ} (k : TakingChannel S P H w) (j : TakingChannel T Q H w) (up : S → T) (down : Q → P) (s s' : S) (answer : Option (BeatOf H w)) →
+pub take_lifted : {S P T Q H : Type 0} {w : ℕ} (k : TakingChannel S P H w) (j : TakingChannel T Q H w) (up : S → T) (down : Q → P) (s s' : S)
+    (answer : Option (BeatOf H w)) →
     ((y : Q) → j.Stands (up s) y → k.Stands s (down y)) → k.rules ≡ j.rules → k.inbox s ≡ j.inbox (up s) → (k.Keeps s s' → j.Keeps (up s) (up s')) →
     ((y : Q) → j.Stands (up s) y → k.Keeps s s' → k.Stands s' (k.after_take s (down y)) → j.Stands (up s') (j.after_take (up s) y)) →
     TakesBeat k s answer s' → TakesBeat j (up s) answer (up s')

@@ -1,17 +1,13 @@
--- What both ends over a new ring are.
-use Rattle.std.proofs.Common.{◌≡◌, ℕ, []}
-use Rattle.tl_ring.specs.Ends.{SendHalf, TakeHalf, Sending, Taking, IsNewRing, ArePair, Takes, known_free}
+-- What a taking end over a new ring is.
+use Rattle.std.proofs.Common.{◌≡◌, ℕ, List, []}
+use Rattle.tl_sides.proofs.Words.{BeatOf, Takes, taking_of}
+use Rattle.tl_ring.specs.Ends.{SendHalf, TakeHalf, IsNewRing}
 use Rattle.tl_sides.specs.Ends.{IsIdle}
 
-module _ {K A H : Type 0} {v : ℕ} (size : ℕ) (s : SendHalf K A H v) (t : TakeHalf K A H v) (ring : IsNewRing size s t) where
-  pub pair_over : (send : Sending K A H v) (take : Taking K A H v) → send.producer ≡ s → take.consumer ≡ t → ArePair send take
-  pair_over send take over_s over_t = rw (over_s, over_t) ring.pair
+module _ {K A H : Type 0} {v : ℕ} (size : ℕ) (s : SendHalf K A H v) (t : TakeHalf K A H v) (ring : IsNewRing size s t)
+    (half : TakeHalf K A H v) (over : half ≡ t) (inbox : List (BeatOf H v)) (none : inbox ≡ []) where
+  pub none_taken : Takes (taking_of inbox half) []
+  none_taken = rw (over, none) ring.none_received
 
-  pub none_taken : (take : Taking K A H v) → take.consumer ≡ t → take.inbox ≡ [] → Takes take []
-  none_taken take over_t inbox = rw (over_t, inbox) ring.none_received
-
-  pub all_free : (send : Sending K A H v) → send.producer ≡ s → known_free send ≡ size
-  all_free send over_s = rw over_s ring.all_free
-
-  pub idle : (take : Taking K A H v) → take.consumer ≡ t → take.inbox ≡ [] → IsIdle take
-  idle take over_t inbox = (rw over_t ring.none_known, inbox)
+  pub idle : IsIdle (taking_of inbox half)
+  idle = (rw over ring.none_known, none)

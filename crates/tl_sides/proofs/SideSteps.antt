@@ -1,16 +1,24 @@
 -- Each call of a side is one of its port, or moves beats between that and its halves of rings.
-use Rattle.std.proofs.Common.{◌≡◌, ◌≤◌, ◌+◌, ◌*◌, ◌-◌, ℕ, List, Option, Result, [], ◌∷◌, ◌++◌, length, map, take, drop, min, refl, sym, ap, subst, ◌∙◌, arith, append-nil, length-append}
+use Rattle.std.proofs.Common.{◌≡◌, ◌≤◌, ◌+◌, ◌*◌, ◌-◌, ℕ, List, Option, Result, [], ◌∷◌, ◌++◌, length, map, take, drop, min, refl, sym, ap, subst}
+use Rattle.std.proofs.Common.{◌∙◌, arith, append-nil, length-append}
 use Rattle.std.proofs.lemmas.List.{length-drop}
-use Rattle.tl_sides.proofs.Words.{Rules, rules_a, rules_b, rules_c, rules_d, rules_e, ChA, ChB, ChC, ChD, ChE, HeadA, HeadB, HeadC, HeadD, HeadE, BeatOf, homes_with, HasSent, IsOpen, World, inbox_room, Sending, Taking, sending_of, taking_of, Sends, Takes, Pushed, Fetched, Met, Meets, passed, received, known_free, known_items, ROOM, Standing, sends_offered, sends_shut, meets_of, cut_moves, Event, Ask, Answer, asked, answered, manager_home, manager_homes, asked_ask, asked_answer, answered_ask, answered_answer, SideFault, EndFault}
+use Rattle.tl_sides.proofs.Words.{Rules, rules_a, rules_b, rules_c, rules_d, rules_e, ChA, ChB, ChC, ChD, ChE, HeadA, HeadB, HeadC, HeadD, HeadE}
+use Rattle.tl_sides.proofs.Words.{BeatOf, homes_with, HasSent, IsOpen, World, inbox_room, Sending, Taking, sending_of, taking_of, Sends, Takes}
+use Rattle.tl_sides.proofs.Words.{Pushed, Fetched, Met, Meets, passed, received, known_free, known_items, ROOM, Standing, sends_offered, sends_shut}
+use Rattle.tl_sides.proofs.Words.{meets_of, cut_moves, Event, Ask, Answer, asked, answered, manager_home, manager_homes, asked_ask, asked_answer}
+use Rattle.tl_sides.proofs.Words.{answered_ask, answered_answer, SideFault, EndFault}
 use Rattle.tl_sides.specs.Calls.{OffersBeat, ClosesChannel, TakesBeat}
 use Rattle.tl_sides.proofs.Lifting.{offer_lifted, close_lifted, take_lifted}
 use Rattle.tl_sides.specs.Ports.{ClientNow, ClientDone, ClientStands, ManagerNow, ManagerDone, ManagerStands}
-use Rattle.tl_sides.specs.Ports.{port_sends_a, port_sends_b, port_sends_c, port_sends_d, port_sends_e, port_takes_a, port_takes_b, port_takes_c, port_takes_d, port_takes_e}
+use Rattle.tl_sides.specs.Ports.{port_sends_a, port_sends_b, port_sends_c, port_sends_d, port_sends_e, port_takes_a, port_takes_b, port_takes_c}
+use Rattle.tl_sides.specs.Ports.{port_takes_d, port_takes_e}
 use Rattle.tl_sides.specs.Ends.{Pumps, Fetches, AreStanding, pump_count, fetch_count, after_pump}
-use Rattle.tl_sides.specs.Sides.{ClientState, ManagerState, ClientPast, ManagerPast, ClientStandsFor, ManagerStandsFor, AreSides, SidesMeet, client_state_of, manager_state_of, client_pumps, manager_pumps}
+use Rattle.tl_sides.specs.Sides.{ClientState, ManagerState, ClientPast, ManagerPast, ClientStandsFor, ManagerStandsFor, AreSides, SidesMeet}
+use Rattle.tl_sides.specs.Sides.{client_state_of, manager_state_of, client_pumps, manager_pumps}
 use Rattle.tl_sides.specs.Books.{KnowsClient, KnowsManager}
 use Rattle.tl_sides.specs.Sides.{client_takes_b, client_takes_d, manager_takes_a, manager_takes_c, manager_takes_e}
-use Rattle.tl_sides.specs.Sides.{side_sends_a, side_sends_b, side_sends_c, side_sends_d, side_sends_e, side_takes_a, side_takes_b, side_takes_c, side_takes_d, side_takes_e}
+use Rattle.tl_sides.specs.Sides.{side_sends_a, side_sends_b, side_sends_c, side_sends_d, side_sends_e, side_takes_a, side_takes_b, side_takes_c}
+use Rattle.tl_sides.specs.Sides.{side_takes_d, side_takes_e}
 use Rattle.tl_sides.specs.declared.client_side.ClientSide.TheInside as client
 use Rattle.tl_sides.specs.declared.manager_side.ManagerSide.TheInside as manager
 use Rattle.tl_sides.proofs.BridgeSteps.{asked_answers, answered_asks, homes_asks, homes_given}
@@ -59,17 +67,19 @@ module _ {A : Type 0} {C M : ℕ} (q : client.Inside C M A) (x : ClientPast C M)
   }
 
   -- all that stands in the inboxes is taken
-  pub client_takes_all : (s' : ClientNow C M) → s' ≡ record q.port { b = []; d = []; book = s'.book } → KnowsClient s'.book (x.history ++ map Answer q.port.d) →
+  pub client_takes_all : (s' : ClientNow C M) → s' ≡ record q.port { b = []; d = []; book = s'.book } →
+      KnowsClient s'.book (x.history ++ map Answer q.port.d) →
       ClientStandsFor (client_side_of (record q { port = s' })) (client_takes_d q.port.d (client_takes_b q.port.b x))
-  client_takes_all s' rest knows = subst (λ z. ClientStandsFor (client_side_of (record q { port = z })) (client_takes_d q.port.d (client_takes_b q.port.b x))) (sym rest) (record {
-    a = h.a;
-    b = h.b ∙ sym (append-nil (x.b ++ q.port.b));
-    c = h.c;
-    d = h.d ∙ sym (answered-all x.history q.port.d) ∙ sym (append-nil (answered (x.history ++ map Answer q.port.d)));
-    e = h.e;
-    accepted = asked_answers x.history q.port.d ∙ h.accepted;
-    book = knows;
-  })
+  client_takes_all s' rest knows =
+      subst (λ z. ClientStandsFor (client_side_of (record q { port = z })) (client_takes_d q.port.d (client_takes_b q.port.b x))) (sym rest) (record {
+        a = h.a;
+        b = h.b ∙ sym (append-nil (x.b ++ q.port.b));
+        c = h.c;
+        d = h.d ∙ sym (answered-all x.history q.port.d) ∙ sym (append-nil (answered (x.history ++ map Answer q.port.d)));
+        e = h.e;
+        accepted = asked_answers x.history q.port.d ∙ h.accepted;
+        book = knows;
+      })
 
 module _ {A : Type 0} {C M : ℕ} (q : client.Inside C M A) where
   -- the side with another port
@@ -77,49 +87,122 @@ module _ {A : Type 0} {C M : ℕ} (q : client.Inside C M A) where
   client_with s = client_side_of (record q { port = s })
 
   -- an offer to its port is one to the side
-  pub side_offers_a : (s' : ClientNow C M) (y : BeatOf HeadA C) (r : Result (Unit {0}) SideFault) → IsOpen q.port.a → OffersBeat port_sends_a y q.port r s' → OffersBeat side_sends_a y (client_side_of q) r (client_with s')
-  side_offers_a s' y r ready = offer_lifted port_sends_a side_sends_a client_with (client_done q) q.port s' (client_port_stands q) y r (λ x. refl) (λ k. (refl, ap client_with k.0))
+  pub side_offers_a : (s' : ClientNow C M) (y : BeatOf HeadA C) (r : Result (Unit {0}) SideFault) → IsOpen q.port.a →
+      OffersBeat port_sends_a y q.port r s' → OffersBeat side_sends_a y (client_side_of q) r (client_with s')
+  side_offers_a s' y r ready = offer_lifted port_sends_a side_sends_a client_with (client_done q) q.port s' (client_port_stands q) y r (λ x. refl)
+      (λ k. (refl, ap client_with k.0))
       (λ x h k stands.
       let more : List (BeatOf HeadA C) = x.a.accepted ++ y ∷ [] in
       let same : asked (x.history ++ Ask y ∷ []) ≡ more = asked_ask x.history y ∙ ap (λ z. z ++ y ∷ []) h.accepted in
       let sent = subst (λ z. HasSent rules_a s'.a more (homes_with rules_a z x.a.homes y 0) (sent_of x.a)) h.accepted
       (subst (λ z. HasSent rules_a s'.a z (homes_with rules_a (asked x.history) x.a.homes y 0) (sent_of x.a)) same stands.a) in
       subst (λ z. ClientStandsFor (client_with z) ((side_sends_a {A = A}).with_beat y x)) (sym k.0)
-      (record { a = sends_offered rules_a masked_a (sending_of q.port.a q.a) x.a y 0 s'.a ready.0 ready.1 k.1 sent h.a; b = h.b; c = h.c; d = subst (λ z. Takes (taking_of q.port.d q.d.half) z) (sym (answered_ask x.history y)) h.d; e = h.e; accepted = same; book = stands.book }))
+      (record {
+        a = sends_offered rules_a masked_a (sending_of q.port.a q.a) x.a y 0 s'.a ready.0 ready.1 k.1 sent h.a;
+        b = h.b;
+        c = h.c;
+        d = subst (λ z. Takes (taking_of q.port.d q.d.half) z) (sym (answered_ask x.history y)) h.d;
+        e = h.e;
+        accepted = same;
+        book = stands.book;
+      }))
 
-  pub side_offers_c : (s' : ClientNow C M) (y : BeatOf HeadC C) (r : Result (Unit {0}) SideFault) → IsOpen q.port.c → OffersBeat port_sends_c y q.port r s' → OffersBeat side_sends_c y (client_side_of q) r (client_with s')
-  side_offers_c s' y r ready = offer_lifted port_sends_c side_sends_c client_with (client_done q) q.port s' (client_port_stands q) y r (λ x. refl) (λ k. (refl, ap client_with k.0))
+  pub side_offers_c : (s' : ClientNow C M) (y : BeatOf HeadC C) (r : Result (Unit {0}) SideFault) → IsOpen q.port.c →
+      OffersBeat port_sends_c y q.port r s' → OffersBeat side_sends_c y (client_side_of q) r (client_with s')
+  side_offers_c s' y r ready = offer_lifted port_sends_c side_sends_c client_with (client_done q) q.port s' (client_port_stands q) y r (λ x. refl)
+      (λ k. (refl, ap client_with k.0))
       (λ x h k stands. subst (λ z. ClientStandsFor (client_with z) ((side_sends_c {A = A}).with_beat y x)) (sym k.0)
-      (record { a = h.a; b = h.b; c = sends_offered rules_c masked_c (sending_of q.port.c q.c) x.c y 0 s'.c ready.0 ready.1 k.1 stands.c h.c; d = h.d; e = h.e; accepted = h.accepted; book = h.book }))
+      (record {
+        a = h.a;
+        b = h.b;
+        c = sends_offered rules_c masked_c (sending_of q.port.c q.c) x.c y 0 s'.c ready.0 ready.1 k.1 stands.c h.c;
+        d = h.d;
+        e = h.e;
+        accepted = h.accepted;
+        book = h.book;
+      }))
 
-  pub side_offers_e : (s' : ClientNow C M) (y : BeatOf HeadE C) (r : Result (Unit {0}) SideFault) → IsOpen q.port.e → OffersBeat port_sends_e y q.port r s' → OffersBeat side_sends_e y (client_side_of q) r (client_with s')
-  side_offers_e s' y r ready = offer_lifted port_sends_e side_sends_e client_with (client_done q) q.port s' (client_port_stands q) y r (λ x. refl) (λ k. (refl, ap client_with k.0))
+  pub side_offers_e : (s' : ClientNow C M) (y : BeatOf HeadE C) (r : Result (Unit {0}) SideFault) → IsOpen q.port.e →
+      OffersBeat port_sends_e y q.port r s' → OffersBeat side_sends_e y (client_side_of q) r (client_with s')
+  side_offers_e s' y r ready = offer_lifted port_sends_e side_sends_e client_with (client_done q) q.port s' (client_port_stands q) y r (λ x. refl)
+      (λ k. (refl, ap client_with k.0))
       (λ x h k stands. subst (λ z. ClientStandsFor (client_with z) ((side_sends_e {A = A}).with_beat y x)) (sym k.0)
-      (record { a = h.a; b = h.b; c = h.c; d = h.d; e = sends_offered rules_e masked_e (sending_of q.port.e q.e) x.e y 0 s'.e ready.0 ready.1 k.1 stands.e h.e; accepted = h.accepted; book = h.book }))
+      (record {
+        a = h.a;
+        b = h.b;
+        c = h.c;
+        d = h.d;
+        e = sends_offered rules_e masked_e (sending_of q.port.e q.e) x.e y 0 s'.e ready.0 ready.1 k.1 stands.e h.e;
+        accepted = h.accepted;
+        book = h.book;
+      }))
 
   -- so is a take
-  pub side_taken_b : (s' : ClientNow C M) (r : Option (BeatOf HeadB C)) → TakesBeat port_takes_b q.port r s' → TakesBeat side_takes_b (client_side_of q) r (client_with s')
-  side_taken_b s' r = take_lifted port_takes_b side_takes_b client_with (client_done q) q.port s' r (client_port_stands q) refl refl (λ k. ap client_with k)
+  pub side_taken_b : (s' : ClientNow C M) (r : Option (BeatOf HeadB C)) → TakesBeat port_takes_b q.port r s' →
+      TakesBeat side_takes_b (client_side_of q) r (client_with s')
+  side_taken_b s' r = take_lifted port_takes_b side_takes_b client_with (client_done q) q.port s' r (client_port_stands q)
+      refl refl (λ k. ap client_with k)
       (λ x h k stands. subst (λ z. ClientStandsFor (client_with z) ((side_takes_b {A = A}).after_take (client_side_of q) x)) (sym k)
       (record { a = h.a; b = h.b ∙ sym (cut_moves 1 x.b q.port.b); c = h.c; d = h.d; e = h.e; accepted = h.accepted; book = h.book }))
 
-  pub side_taken_d : (s' : ClientNow C M) (r : Option (BeatOf HeadD C)) → TakesBeat port_takes_d q.port r s' → TakesBeat side_takes_d (client_side_of q) r (client_with s')
-  side_taken_d s' r = take_lifted port_takes_d side_takes_d client_with (client_done q) q.port s' r (client_port_stands q) refl refl (λ k. ap client_with k)
+  pub side_taken_d : (s' : ClientNow C M) (r : Option (BeatOf HeadD C)) → TakesBeat port_takes_d q.port r s' →
+      TakesBeat side_takes_d (client_side_of q) r (client_with s')
+  side_taken_d s' r = take_lifted port_takes_d side_takes_d client_with (client_done q) q.port s' r (client_port_stands q)
+      refl refl (λ k. ap client_with k)
       (λ x h k stands. subst (λ z. ClientStandsFor (client_with z) ((side_takes_d {A = A}).after_take (client_side_of q) x)) (sym k)
-      (record { a = h.a; b = h.b; c = h.c; d = h.d ∙ sym (cut_moves 1 (answered x.history) q.port.d) ∙ ap (λ z. z ++ drop 1 q.port.d) (sym (answered-all x.history (take 1 q.port.d))); e = h.e; accepted = asked_answers x.history (take 1 q.port.d) ∙ h.accepted; book = stands.book }))
+      (record {
+        a = h.a;
+        b = h.b;
+        c = h.c;
+        d = h.d ∙ sym (cut_moves 1 (answered x.history) q.port.d) ∙
+            ap (λ z. z ++ drop 1 q.port.d) (sym (answered-all x.history (take 1 q.port.d)));
+        e = h.e;
+        accepted = asked_answers x.history (take 1 q.port.d) ∙ h.accepted;
+        book = stands.book;
+      }))
 
   -- and a close
-  pub side_closes_a : (s' : ClientNow C M) (r : Result (Unit {0}) EndFault) → ClosesChannel port_sends_a q.port r s' → ClosesChannel side_sends_a (client_side_of q) r (client_with s')
-  side_closes_a s' r = close_lifted port_sends_a side_sends_a client_with (client_done q) q.port s' (client_port_stands q) r refl (λ x h. h.accepted) refl refl
-      (λ x h over. record { a = sends_shut rules_a masked_a (sending_of q.port.a q.a) x.a over h.a; b = h.b; c = h.c; d = h.d; e = h.e; accepted = h.accepted; book = h.book })
+  pub side_closes_a : (s' : ClientNow C M) (r : Result (Unit {0}) EndFault) → ClosesChannel port_sends_a q.port r s' →
+      ClosesChannel side_sends_a (client_side_of q) r (client_with s')
+  side_closes_a s' r = close_lifted port_sends_a side_sends_a client_with (client_done q) q.port s' (client_port_stands q) r
+      refl (λ x h. h.accepted) refl refl
+      (λ x h over. record {
+        a = sends_shut rules_a masked_a (sending_of q.port.a q.a) x.a over h.a;
+        b = h.b;
+        c = h.c;
+        d = h.d;
+        e = h.e;
+        accepted = h.accepted;
+        book = h.book;
+      })
 
-  pub side_closes_c : (s' : ClientNow C M) (r : Result (Unit {0}) EndFault) → ClosesChannel port_sends_c q.port r s' → ClosesChannel side_sends_c (client_side_of q) r (client_with s')
-  side_closes_c s' r = close_lifted port_sends_c side_sends_c client_with (client_done q) q.port s' (client_port_stands q) r refl (λ x h. refl) refl refl
-      (λ x h over. record { a = h.a; b = h.b; c = sends_shut rules_c masked_c (sending_of q.port.c q.c) x.c over h.c; d = h.d; e = h.e; accepted = h.accepted; book = h.book })
+  pub side_closes_c : (s' : ClientNow C M) (r : Result (Unit {0}) EndFault) → ClosesChannel port_sends_c q.port r s' →
+      ClosesChannel side_sends_c (client_side_of q) r (client_with s')
+  side_closes_c s' r = close_lifted port_sends_c side_sends_c client_with (client_done q) q.port s' (client_port_stands q)
+      r refl (λ x h. refl) refl refl
+      (λ x h over. record {
+        a = h.a;
+        b = h.b;
+        c = sends_shut rules_c masked_c (sending_of q.port.c q.c) x.c over h.c;
+        d = h.d;
+        e = h.e;
+        accepted = h.accepted;
+        book = h.book;
+      })
 
-  pub side_closes_e : (s' : ClientNow C M) (r : Result (Unit {0}) EndFault) → ClosesChannel port_sends_e q.port r s' → ClosesChannel side_sends_e (client_side_of q) r (client_with s')
-  side_closes_e s' r = close_lifted port_sends_e side_sends_e client_with (client_done q) q.port s' (client_port_stands q) r refl (λ x h. refl) refl refl
-      (λ x h over. record { a = h.a; b = h.b; c = h.c; d = h.d; e = sends_shut rules_e masked_e (sending_of q.port.e q.e) x.e over h.e; accepted = h.accepted; book = h.book })
+  pub side_closes_e : (s' : ClientNow C M) (r : Result (Unit {0}) EndFault) → ClosesChannel port_sends_e q.port r s' →
+      ClosesChannel side_sends_e (client_side_of q) r (client_with s')
+  side_closes_e s' r = close_lifted port_sends_e side_sends_e client_with (client_done q) q.port s' (client_port_stands q)
+      r refl (λ x h. refl) refl refl
+      (λ x h over. record {
+        a = h.a;
+        b = h.b;
+        c = h.c;
+        d = h.d;
+        e = sends_shut rules_e masked_e (sending_of q.port.e q.e) x.e over h.e;
+        accepted = h.accepted;
+        book = h.book;
+      })
 
 module _ {A : Type 0} {C M : ℕ} (q : manager.Inside C M A) (x : ManagerPast C M) (h : ManagerStandsFor (manager_side_of q) x) where
   pub manager_port_stands : ManagerStands q.port (manager_done q x)
@@ -134,10 +217,12 @@ module _ {A : Type 0} {C M : ℕ} (q : manager.Inside C M A) (x : ManagerPast C 
   }
 
   -- all that stands in the inboxes is taken
-  pub manager_takes_all : (s' : ManagerNow C M) → s' ≡ record q.port { a = []; c = []; e = []; book = s'.book } → KnowsManager s'.book (x.history ++ map Ask q.port.a) →
+  pub manager_takes_all : (s' : ManagerNow C M) → s' ≡ record q.port { a = []; c = []; e = []; book = s'.book } →
+      KnowsManager s'.book (x.history ++ map Ask q.port.a) →
       ManagerStandsFor (manager_side_of (record q { port = s' })) (manager_takes_e q.port.e (manager_takes_c q.port.c (manager_takes_a q.port.a x)))
   manager_takes_all s' rest knows =
-      subst (λ z. ManagerStandsFor (manager_side_of (record q { port = z })) (manager_takes_e q.port.e (manager_takes_c q.port.c (manager_takes_a q.port.a x)))) (sym rest) (record {
+      subst (λ z. ManagerStandsFor (manager_side_of (record q { port = z }))
+      (manager_takes_e q.port.e (manager_takes_c q.port.c (manager_takes_a q.port.a x)))) (sym rest) (record {
         a = h.a ∙ sym (asked-all x.history q.port.a) ∙ sym (append-nil (asked (x.history ++ map Ask q.port.a)));
         b = h.b;
         c = h.c ∙ sym (append-nil (x.c ++ q.port.c));
@@ -154,13 +239,26 @@ module _ {A : Type 0} {C M : ℕ} (q : manager.Inside C M A) where
   manager_with s = manager_side_of (record q { port = s })
 
   -- an offer to its port is one to the side
-  pub side_offers_b : (s' : ManagerNow C M) (y : BeatOf HeadB M) (r : Result (Unit {0}) SideFault) → IsOpen q.port.b → OffersBeat port_sends_b y q.port r s' → OffersBeat side_sends_b y (manager_side_of q) r (manager_with s')
-  side_offers_b s' y r ready = offer_lifted port_sends_b side_sends_b manager_with (manager_done q) q.port s' (manager_port_stands q) y r (λ x. refl) (λ k. (refl, ap manager_with k.0))
+  pub side_offers_b : (s' : ManagerNow C M) (y : BeatOf HeadB M) (r : Result (Unit {0}) SideFault) → IsOpen q.port.b →
+      OffersBeat port_sends_b y q.port r s' → OffersBeat side_sends_b y (manager_side_of q) r (manager_with s')
+  side_offers_b s' y r ready = offer_lifted port_sends_b side_sends_b manager_with (manager_done q) q.port s' (manager_port_stands q) y r (λ x. refl)
+      (λ k. (refl, ap manager_with k.0))
       (λ x h k stands. subst (λ z. ManagerStandsFor (manager_with z) ((side_sends_b {A = A}).with_beat y x)) (sym k.0)
-      (record { a = h.a; b = sends_offered rules_b masked_b (sending_of q.port.b q.b) x.b y 0 s'.b ready.0 ready.1 k.1 stands.b h.b; c = h.c; d = h.d; e = h.e; accepted = h.accepted; homes = h.homes; book = h.book }))
+      (record {
+        a = h.a;
+        b = sends_offered rules_b masked_b (sending_of q.port.b q.b) x.b y 0 s'.b ready.0 ready.1 k.1 stands.b h.b;
+        c = h.c;
+        d = h.d;
+        e = h.e;
+        accepted = h.accepted;
+        homes = h.homes;
+        book = h.book;
+      }))
 
-  pub side_offers_d : (s' : ManagerNow C M) (y : BeatOf HeadD M) (r : Result (Unit {0}) SideFault) → IsOpen q.port.d → OffersBeat port_sends_d y q.port r s' → OffersBeat side_sends_d y (manager_side_of q) r (manager_with s')
-  side_offers_d s' y r ready = offer_lifted port_sends_d side_sends_d manager_with (manager_done q) q.port s' (manager_port_stands q) y r (λ x. refl) (λ k. (refl, ap manager_with k.0))
+  pub side_offers_d : (s' : ManagerNow C M) (y : BeatOf HeadD M) (r : Result (Unit {0}) SideFault) → IsOpen q.port.d →
+      OffersBeat port_sends_d y q.port r s' → OffersBeat side_sends_d y (manager_side_of q) r (manager_with s')
+  side_offers_d s' y r ready = offer_lifted port_sends_d side_sends_d manager_with (manager_done q) q.port s' (manager_port_stands q) y r (λ x. refl)
+      (λ k. (refl, ap manager_with k.0))
       (λ x h k stands.
       let more : List (Event M) = x.history ++ Answer y ∷ [] in
       let home : ℕ = manager_home x.history y.head in
@@ -170,32 +268,96 @@ module _ {A : Type 0} {C M : ℕ} (q : manager.Inside C M A) where
       let sent = subst (λ z. HasSent rules_d s'.d (x.d.accepted ++ y ∷ []) z (sent_of x.d)) homes
       (subst (λ z. HasSent rules_d s'.d z (manager_homes more) (sent_of x.d)) same stands.d) in
       subst (λ z. ManagerStandsFor (manager_with z) ((side_sends_d {A = A}).with_beat y x)) (sym k.0)
-      (record { a = subst (λ z. Takes (taking_of q.port.a q.a.half) z) (sym (asked_answer x.history y)) h.a; b = h.b; c = h.c; d = sends_offered rules_d masked_d (sending_of q.port.d q.d) x.d y home s'.d ready.0 ready.1 k.1 sent h.d; e = h.e; accepted = same; homes = homes; book = stands.book }))
+      (record {
+        a = subst (λ z. Takes (taking_of q.port.a q.a.half) z) (sym (asked_answer x.history y)) h.a;
+        b = h.b;
+        c = h.c;
+        d = sends_offered rules_d masked_d (sending_of q.port.d q.d) x.d y home s'.d ready.0 ready.1 k.1 sent h.d;
+        e = h.e;
+        accepted = same;
+        homes = homes;
+        book = stands.book;
+      }))
 
   -- so is a take
-  pub side_taken_a : (s' : ManagerNow C M) (r : Option (BeatOf HeadA M)) → TakesBeat port_takes_a q.port r s' → TakesBeat side_takes_a (manager_side_of q) r (manager_with s')
-  side_taken_a s' r = take_lifted port_takes_a side_takes_a manager_with (manager_done q) q.port s' r (manager_port_stands q) refl refl (λ k. ap manager_with k)
+  pub side_taken_a : (s' : ManagerNow C M) (r : Option (BeatOf HeadA M)) → TakesBeat port_takes_a q.port r s' →
+      TakesBeat side_takes_a (manager_side_of q) r (manager_with s')
+  side_taken_a s' r = take_lifted port_takes_a side_takes_a manager_with (manager_done q) q.port s' r (manager_port_stands q)
+      refl refl (λ k. ap manager_with k)
       (λ x h k stands. subst (λ z. ManagerStandsFor (manager_with z) ((side_takes_a {A = A}).after_take (manager_side_of q) x)) (sym k)
-      (record { a = h.a ∙ sym (cut_moves 1 (asked x.history) q.port.a) ∙ ap (λ z. z ++ drop 1 q.port.a) (sym (asked-all x.history (take 1 q.port.a))); b = h.b; c = h.c; d = h.d; e = h.e; accepted = answered_asks x.history (take 1 q.port.a) ∙ h.accepted; homes = homes_asks x.history (take 1 q.port.a) ∙ h.homes; book = stands.book }))
+      (record {
+        a = h.a ∙ sym (cut_moves 1 (asked x.history) q.port.a) ∙ ap (λ z. z ++ drop 1 q.port.a) (sym (asked-all x.history (take 1 q.port.a)));
+        b = h.b;
+        c = h.c;
+        d = h.d;
+        e = h.e;
+        accepted = answered_asks x.history (take 1 q.port.a) ∙ h.accepted;
+        homes = homes_asks x.history (take 1 q.port.a) ∙ h.homes;
+        book = stands.book;
+      }))
 
-  pub side_taken_c : (s' : ManagerNow C M) (r : Option (BeatOf HeadC M)) → TakesBeat port_takes_c q.port r s' → TakesBeat side_takes_c (manager_side_of q) r (manager_with s')
-  side_taken_c s' r = take_lifted port_takes_c side_takes_c manager_with (manager_done q) q.port s' r (manager_port_stands q) refl refl (λ k. ap manager_with k)
+  pub side_taken_c : (s' : ManagerNow C M) (r : Option (BeatOf HeadC M)) → TakesBeat port_takes_c q.port r s' →
+      TakesBeat side_takes_c (manager_side_of q) r (manager_with s')
+  side_taken_c s' r = take_lifted port_takes_c side_takes_c manager_with (manager_done q) q.port s' r (manager_port_stands q)
+      refl refl (λ k. ap manager_with k)
       (λ x h k stands. subst (λ z. ManagerStandsFor (manager_with z) ((side_takes_c {A = A}).after_take (manager_side_of q) x)) (sym k)
-      (record { a = h.a; b = h.b; c = h.c ∙ sym (cut_moves 1 x.c q.port.c); d = h.d; e = h.e; accepted = h.accepted; homes = h.homes; book = h.book }))
+      (record {
+        a = h.a;
+        b = h.b;
+        c = h.c ∙ sym (cut_moves 1 x.c q.port.c);
+        d = h.d;
+        e = h.e;
+        accepted = h.accepted;
+        homes = h.homes;
+        book = h.book;
+      }))
 
-  pub side_taken_e : (s' : ManagerNow C M) (r : Option (BeatOf HeadE M)) → TakesBeat port_takes_e q.port r s' → TakesBeat side_takes_e (manager_side_of q) r (manager_with s')
-  side_taken_e s' r = take_lifted port_takes_e side_takes_e manager_with (manager_done q) q.port s' r (manager_port_stands q) refl refl (λ k. ap manager_with k)
+  pub side_taken_e : (s' : ManagerNow C M) (r : Option (BeatOf HeadE M)) → TakesBeat port_takes_e q.port r s' →
+      TakesBeat side_takes_e (manager_side_of q) r (manager_with s')
+  side_taken_e s' r = take_lifted port_takes_e side_takes_e manager_with (manager_done q) q.port s' r (manager_port_stands q)
+      refl refl (λ k. ap manager_with k)
       (λ x h k stands. subst (λ z. ManagerStandsFor (manager_with z) ((side_takes_e {A = A}).after_take (manager_side_of q) x)) (sym k)
-      (record { a = h.a; b = h.b; c = h.c; d = h.d; e = h.e ∙ sym (cut_moves 1 x.e q.port.e); accepted = h.accepted; homes = h.homes; book = h.book }))
+      (record {
+        a = h.a;
+        b = h.b;
+        c = h.c;
+        d = h.d;
+        e = h.e ∙ sym (cut_moves 1 x.e q.port.e);
+        accepted = h.accepted;
+        homes = h.homes;
+        book = h.book;
+      }))
 
   -- and a close
-  pub side_closes_b : (s' : ManagerNow C M) (r : Result (Unit {0}) EndFault) → ClosesChannel port_sends_b q.port r s' → ClosesChannel side_sends_b (manager_side_of q) r (manager_with s')
-  side_closes_b s' r = close_lifted port_sends_b side_sends_b manager_with (manager_done q) q.port s' (manager_port_stands q) r refl (λ x h. refl) refl refl
-      (λ x h over. record { a = h.a; b = sends_shut rules_b masked_b (sending_of q.port.b q.b) x.b over h.b; c = h.c; d = h.d; e = h.e; accepted = h.accepted; homes = h.homes; book = h.book })
+  pub side_closes_b : (s' : ManagerNow C M) (r : Result (Unit {0}) EndFault) → ClosesChannel port_sends_b q.port r s' →
+      ClosesChannel side_sends_b (manager_side_of q) r (manager_with s')
+  side_closes_b s' r = close_lifted port_sends_b side_sends_b manager_with (manager_done q) q.port s' (manager_port_stands q)
+      r refl (λ x h. refl) refl refl
+      (λ x h over. record {
+        a = h.a;
+        b = sends_shut rules_b masked_b (sending_of q.port.b q.b) x.b over h.b;
+        c = h.c;
+        d = h.d;
+        e = h.e;
+        accepted = h.accepted;
+        homes = h.homes;
+        book = h.book;
+      })
 
-  pub side_closes_d : (s' : ManagerNow C M) (r : Result (Unit {0}) EndFault) → ClosesChannel port_sends_d q.port r s' → ClosesChannel side_sends_d (manager_side_of q) r (manager_with s')
-  side_closes_d s' r = close_lifted port_sends_d side_sends_d manager_with (manager_done q) q.port s' (manager_port_stands q) r refl (λ x h. h.accepted) refl refl
-      (λ x h over. record { a = h.a; b = h.b; c = h.c; d = sends_shut rules_d masked_d (sending_of q.port.d q.d) x.d over h.d; e = h.e; accepted = h.accepted; homes = h.homes; book = h.book })
+  pub side_closes_d : (s' : ManagerNow C M) (r : Result (Unit {0}) EndFault) → ClosesChannel port_sends_d q.port r s' →
+      ClosesChannel side_sends_d (manager_side_of q) r (manager_with s')
+  side_closes_d s' r = close_lifted port_sends_d side_sends_d manager_with (manager_done q) q.port s' (manager_port_stands q) r
+      refl (λ x h. h.accepted) refl refl
+      (λ x h over. record {
+        a = h.a;
+        b = h.b;
+        c = h.c;
+        d = sends_shut rules_d masked_d (sending_of q.port.d q.d) x.d over h.d;
+        e = h.e;
+        accepted = h.accepted;
+        homes = h.homes;
+        book = h.book;
+      })
 
 module _ {K A H : Type 0} {v : ℕ} where
   -- the count of a pump is what left the stage
@@ -274,18 +436,28 @@ module _ {A : Type 0} {C M : ℕ} where
     stands : (x : ClientPast C M) → ClientStandsFor s x → ClientStandsFor s' (client_pumps s s' x);
   }
 
-  pub client_pumped : {inside s : ClientState A C M} → inside ≡ s → (a : Sending ChA A HeadA M) (c : Sending ChC A HeadC M) (e : Sending ChE A HeadE M)
+  pub client_pumped : {inside s : ClientState A C M} → inside ≡ s →
+      (a : Sending ChA A HeadA M) (c : Sending ChC A HeadC M) (e : Sending ChE A HeadE M)
       (i j k : ℕ) → PumpsEnd rules_a C inside.a a i → PumpsEnd rules_c C inside.c c j → PumpsEnd rules_e C inside.e e k →
       ClientPumps s (record inside { a = a; c = c; e = e }) (i + j + k)
-  client_pumped {inside} view a c e i j k on_a on_c on_e = subst (λ s. ClientPumps s (record inside { a = a; c = c; e = e }) (i + j + k)) view (record {
-    total = λ t. on_a.count t + on_c.count t + on_e.count t;
-    most = omega (arith, on_a.most, on_c.most, on_e.most);
-    a = on_a.pumps;
-    c = on_c.pumps;
-    e = on_e.pumps;
-    rest = refl;
-    stands = λ x h. record { a = on_a.stands x.a h.a; b = h.b; c = on_c.stands x.c h.c; d = h.d; e = on_e.stands x.e h.e; accepted = h.accepted; book = h.book };
-  })
+  client_pumped {inside} view a c e i j k on_a on_c on_e =
+      subst (λ s. ClientPumps s (record inside { a = a; c = c; e = e }) (i + j + k)) view (record {
+        total = λ t. on_a.count t + on_c.count t + on_e.count t;
+        most = omega (arith, on_a.most, on_c.most, on_e.most);
+        a = on_a.pumps;
+        c = on_c.pumps;
+        e = on_e.pumps;
+        rest = refl;
+        stands = λ x h. record {
+          a = on_a.stands x.a h.a;
+          b = h.b;
+          c = on_c.stands x.c h.c;
+          d = h.d;
+          e = on_e.stands x.e h.e;
+          accepted = h.accepted;
+          book = h.book;
+        };
+      })
 
   abbrev pub ManagerPumps : (s s' : ManagerState A C M) (n : ℕ) → Type 0
   ManagerPumps s s' n = record {
@@ -305,7 +477,16 @@ module _ {A : Type 0} {C M : ℕ} where
     b = on_b.pumps;
     d = on_d.pumps;
     rest = refl;
-    stands = λ x h. record { a = h.a; b = on_b.stands x.b h.b; c = h.c; d = on_d.stands x.d h.d; e = h.e; accepted = h.accepted; homes = h.homes; book = h.book };
+    stands = λ x h. record {
+      a = h.a;
+      b = on_b.stands x.b h.b;
+      c = h.c;
+      d = on_d.stands x.d h.d;
+      e = h.e;
+      accepted = h.accepted;
+      homes = h.homes;
+      book = h.book;
+    };
   })
 
   abbrev pub ClientFetches : (s s' : ClientState A C M) (n : ℕ) → Type 0
@@ -329,7 +510,15 @@ module _ {A : Type 0} {C M : ℕ} where
         b = fetches_of i inside.b b on_b.least on_b.most on_b.fetched;
         d = fetches_of j inside.d d on_d.least on_d.most on_d.fetched;
         rest = refl;
-        stands = λ x h. record { a = h.a; b = on_b.takes x.b h.b; c = h.c; d = on_d.takes (answered x.history) h.d; e = h.e; accepted = h.accepted; book = h.book };
+        stands = λ x h. record {
+          a = h.a;
+          b = on_b.takes x.b h.b;
+          c = h.c;
+          d = on_d.takes (answered x.history) h.d;
+          e = h.e;
+          accepted = h.accepted;
+          book = h.book;
+        };
       })
 
   abbrev pub ManagerFetches : (s s' : ManagerState A C M) (n : ℕ) → Type 0
@@ -343,7 +532,8 @@ module _ {A : Type 0} {C M : ℕ} where
     stands : (x : ManagerPast C M) → ManagerStandsFor s x → ManagerStandsFor s' x;
   }
 
-  pub manager_fetched : {inside s : ManagerState A C M} → inside ≡ s → (a : Taking ChA A HeadA M) (c : Taking ChC A HeadC M) (e : Taking ChE A HeadE M)
+  pub manager_fetched : {inside s : ManagerState A C M} → inside ≡ s →
+      (a : Taking ChA A HeadA M) (c : Taking ChC A HeadC M) (e : Taking ChE A HeadE M)
       (i j k : ℕ) → FetchesEnd inside.a a i → FetchesEnd inside.c c j → FetchesEnd inside.e e k →
       ManagerFetches s (record inside { a = a; c = c; e = e }) (i + j + k)
   manager_fetched {inside} view a c e i j k on_a on_c on_e = subst (λ s. ManagerFetches s (record inside { a = a; c = c; e = e }) (i + j + k)) view (
@@ -357,7 +547,16 @@ module _ {A : Type 0} {C M : ℕ} where
         c = fetches_of j inside.c c on_c.least on_c.most on_c.fetched;
         e = fetches_of k inside.e e on_e.least on_e.most on_e.fetched;
         rest = refl;
-        stands = λ x h. record { a = on_a.takes (asked x.history) h.a; b = h.b; c = on_c.takes x.c h.c; d = h.d; e = on_e.takes x.e h.e; accepted = h.accepted; homes = h.homes; book = h.book };
+        stands = λ x h. record {
+          a = on_a.takes (asked x.history) h.a;
+          b = h.b;
+          c = on_c.takes x.c h.c;
+          d = h.d;
+          e = on_e.takes x.e h.e;
+          accepted = h.accepted;
+          homes = h.homes;
+          book = h.book;
+        };
       })
 
 -- what a meeting of both ends of a channel says
@@ -370,7 +569,8 @@ MeetsEnds {K} {A} {H} r w {v} s s' t t' n = record {
 
 -- both halves of a ring were looked at, and the boxes beside them counted
 pub ends_meet : {K A H : Type 0} (r : Rules H) (w : ℕ) {v : ℕ} (s s' : Sending K A H v) (t t' : Taking K A H v) (n : Standing) → Met s t s' t' →
-    n.staged ≡ length s'.stage → n.staged ≤ ROOM → n.in_ring ≡ length (known_items t') → n.inbox ≡ length t'.inbox → n.inbox ≤ inbox_room → MeetsEnds r w s s' t t' n
+    n.staged ≡ length s'.stage → n.staged ≤ ROOM → n.in_ring ≡ length (known_items t') → n.inbox ≡ length t'.inbox →
+    n.inbox ≤ inbox_room → MeetsEnds r w s s' t t' n
 ends_meet r w s s' t t' n met staged few in_ring inbox most =
     let fits : length t'.inbox ≤ inbox_room = omega (arith, inbox, most) in record {
       met = met;
@@ -380,8 +580,10 @@ ends_meet r w s s' t t' n met staged few in_ring inbox most =
 
 -- both sides meet on all of their channels
 module _ {A : Type 0} {C M : ℕ} where
-  pub sides_inside : {inside s : ClientState A C M} → inside ≡ s → {within t : ManagerState A C M} → within ≡ t → AreSides s t → AreSides inside within
-  sides_inside {inside} {s} client {within} manager sides = subst (λ q. AreSides q within) (sym client) (subst (λ q. AreSides s q) (sym manager) sides)
+  pub sides_inside : {inside s : ClientState A C M} → inside ≡ s → {within t : ManagerState A C M} → within ≡ t →
+      AreSides s t → AreSides inside within
+  sides_inside {inside} {s} client {within} manager sides =
+      subst (λ q. AreSides q within) (sym client) (subst (λ q. AreSides s q) (sym manager) sides)
 
   abbrev pub SidesMet : (s s' : ClientState A C M) (t t' : ManagerState A C M) (i j k l m : Standing) → Type 0
   SidesMet s s' t t' i j k l m = record {
@@ -427,8 +629,25 @@ module _ {A : Type 0} {C M : ℕ} where
             let on_d = at_d.meets y.d (answered x.history) k.d h.d in
             let on_e = at_e.meets x.e y.e h.e k.e in
             record {
-              client = record { a = on_a.sends; b = on_b.takes; c = on_c.sends; d = on_d.takes; e = on_e.sends; accepted = h.accepted; book = h.book };
-              manager = record { a = on_a.takes; b = on_b.sends; c = on_c.takes; d = on_d.sends; e = on_e.takes; accepted = k.accepted; homes = k.homes; book = k.book };
+              client = record {
+                a = on_a.sends;
+                b = on_b.takes;
+                c = on_c.sends;
+                d = on_d.takes;
+                e = on_e.sends;
+                accepted = h.accepted;
+                book = h.book;
+              };
+              manager = record {
+                a = on_a.takes;
+                b = on_b.sends;
+                c = on_c.takes;
+                d = on_d.sends;
+                e = on_e.takes;
+                accepted = k.accepted;
+                homes = k.homes;
+                book = k.book;
+              };
               a = on_a;
               b = on_b;
               c = on_c;

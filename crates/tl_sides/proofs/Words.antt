@@ -37,13 +37,16 @@ pub use Rattle.tl_ring.proofs.PipeSteps.{stands_emptied, stands_new, stands_offe
 pub use Rattle.tl_ring.proofs.Same.{same_send, same_send_then, same_take_then, still_pair}
 pub use Rattle.tl_ring.specs.Boxes.{HasSent, HasTaken, IsOpen, Outgoing, as_sent}
 pub use Rattle.tl_ring.specs.Crossing.{World, inbox_room, offered, popped, pushed, took}
-pub use Rattle.tl_ring.specs.Ends.{Fetched, Meets, Met, Pushed, SameSend, SameTake, Sending, Sends, Takes, Taking, known_free, known_items, passed, received, sending_of, taking_of}
+pub use Rattle.tl_ring.specs.Ends.{Fetched, Meets, Met, Pushed, SameSend, SameTake, Sending, Sends, Takes, Taking, known_free, known_items, passed}
+pub use Rattle.tl_ring.specs.Ends.{received, sending_of, taking_of}
 pub use Rattle.tl_ring.specs.Pipe.{Pipe}
 pub use Rattle.tl_ring.specs.declared.fault.EndFault.{EndFault}
 pub use Rattle.tl_ring.specs.declared.queue.TheConstants.{ROOM}
 pub use Rattle.tl_ring.specs.declared.standing.Standing.{Standing}
 pub use Rattle.tl_settle.proofs.Homes.{from_answer, from_ask}
-pub use Rattle.tl_settle.proofs.Marks.{answered_answer, answered_ask, asked_answer, asked_ask, marks_answer_first, marks_answer_inside, marks_ask_first, marks_ask_inside}
+pub use Rattle.tl_settle.proofs.Marks.{answered_answer, answered_ask, asked_answer, asked_ask, marks_answer_first, marks_answer_inside}
+pub use Rattle.tl_settle.proofs.Marks.{marks_ask_first, marks_ask_inside}
 pub use Rattle.tl_settle.proofs.Opens.{open_more}
-pub use Rattle.tl_settle.specs.Histories.{Answer, Answers, Ask, Asks, Event, Mark, answered, asked, client_answer, home_after, homes_from, manager_answer, manager_home, manager_homes, marks, open_request, to_request}
+pub use Rattle.tl_settle.specs.Histories.{Answer, Answers, Ask, Asks, Event, Mark, answered, asked, client_answer, home_after, homes_from}
+pub use Rattle.tl_settle.specs.Histories.{manager_answer, manager_home, manager_homes, marks, open_request, to_request}
 pub use Rattle.tl_settle.specs.Requests.{is_release_ack}

@@ -1,7 +1,9 @@
 -- What a contract sees of the bridge of both sides in one thread: five crossings, and what each side has seen of A and D. A, C and E cross
 -- from the client's side, at width C, to the manager's, at width M; B and D cross back (this project's choice).
 use Rattle.std.specs.Prelude.{◌≡◌, ◌-◌, ◌+◌, ◌++◌, ℕ, true, List, [], ◌∷◌, length, map, take, drop, min}
-use Rattle.tl_sides.specs.Words.{rules_a, rules_b, rules_c, rules_d, rules_e, HeadA, HeadB, HeadC, HeadD, HeadE, World, empty, offered, pushed, popped, took, inbox_room, Pipe, Standing, Event, Ask, Answer, asked, answered, client_answer, manager_answer, manager_home, manager_homes}
+use Rattle.tl_sides.specs.Words.{rules_a, rules_b, rules_c, rules_d, rules_e, HeadA, HeadB, HeadC, HeadD, HeadE, World, empty, offered, pushed}
+use Rattle.tl_sides.specs.Words.{popped, took, inbox_room, Pipe, Standing, Event, Ask, Answer, asked, answered, client_answer, manager_answer}
+use Rattle.tl_sides.specs.Words.{manager_home, manager_homes}
 use Rattle.tl_ring.specs.Pipe as piping
 use Rattle.tl_sides.specs.Books.{Client, Manager, KnowsClient, KnowsManager}
 use Rattle.tl_sides.specs.Calls.{SendingChannel, TakingChannel, alone}
@@ -72,32 +74,37 @@ module _ {C M : ℕ} where
     e = empty room;
   }
 
-  -- the channels that a bridge sends from one of its sides: on A the client's side has asked, and on D the manager's has answered; the home of a message of D
-  -- is the address of the request that is open there then, and 0 of ReleaseAck
+  -- the channels that a bridge sends from one of its sides: on A the client's side has asked, and on D the manager's has answered; the home of a
+  -- message of D is the address of the request that is open there then, and 0 of ReleaseAck
   abbrev pub bridge_sends_a : SendingChannel (Bridge C M) (Past C M) HeadA C
-  bridge_sends_a = record (alone rules_a StandsFor (λ x. x.a) (λ y x. record x { a = y }) (λ s. s.a.closed) (λ s. record s { a = record s.a { closed = true } })
+  bridge_sends_a = record (alone rules_a StandsFor (λ x. x.a) (λ y x. record x { a = y }) (λ s. s.a.closed)
+      (λ s. record s { a = record s.a { closed = true } })
       (λ s s'. s' ≡ record s { a = s'.a; client = s'.client })) {
         stops = λ x. client_answer x.client;
         with_beat = λ b x. record x { client = x.client ++ Ask b ∷ []; a = offered rules_a b 0 x.a };
       }
 
   abbrev pub bridge_sends_b : SendingChannel (Bridge C M) (Past C M) HeadB M
-  bridge_sends_b = alone rules_b StandsFor (λ x. x.b) (λ y x. record x { b = y }) (λ s. s.b.closed) (λ s. record s { b = record s.b { closed = true } })
+  bridge_sends_b = alone rules_b StandsFor (λ x. x.b) (λ y x. record x { b = y }) (λ s. s.b.closed)
+      (λ s. record s { b = record s.b { closed = true } })
       (λ s s'. s' ≡ record s { b = s'.b })
 
   abbrev pub bridge_sends_c : SendingChannel (Bridge C M) (Past C M) HeadC C
-  bridge_sends_c = alone rules_c StandsFor (λ x. x.c) (λ y x. record x { c = y }) (λ s. s.c.closed) (λ s. record s { c = record s.c { closed = true } })
+  bridge_sends_c = alone rules_c StandsFor (λ x. x.c) (λ y x. record x { c = y }) (λ s. s.c.closed)
+      (λ s. record s { c = record s.c { closed = true } })
       (λ s s'. s' ≡ record s { c = s'.c })
 
   abbrev pub bridge_sends_d : SendingChannel (Bridge C M) (Past C M) HeadD M
-  bridge_sends_d = record (alone rules_d StandsFor (λ x. x.d) (λ y x. record x { d = y }) (λ s. s.d.closed) (λ s. record s { d = record s.d { closed = true } })
+  bridge_sends_d = record (alone rules_d StandsFor (λ x. x.d) (λ y x. record x { d = y }) (λ s. s.d.closed)
+      (λ s. record s { d = record s.d { closed = true } })
       (λ s s'. s' ≡ record s { d = s'.d; manager = s'.manager })) {
         stops = λ x. manager_answer x.manager;
         with_beat = λ b x. record x { manager = x.manager ++ Answer b ∷ []; d = offered rules_d b (manager_home x.manager b.head) x.d };
       }
 
   abbrev pub bridge_sends_e : SendingChannel (Bridge C M) (Past C M) HeadE C
-  bridge_sends_e = alone rules_e StandsFor (λ x. x.e) (λ y x. record x { e = y }) (λ s. s.e.closed) (λ s. record s { e = record s.e { closed = true } })
+  bridge_sends_e = alone rules_e StandsFor (λ x. x.e) (λ y x. record x { e = y }) (λ s. s.e.closed)
+      (λ s. record s { e = record s.e { closed = true } })
       (λ s s'. s' ≡ record s { e = s'.e })
 
   -- and those that it takes at the other: on A the manager's side is asked, and on D the client's is answered

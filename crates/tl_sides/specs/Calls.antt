@@ -62,7 +62,8 @@ pub record TakesBeat {S P H : Type 0} {w : ℕ} (k : TakingChannel S P H w) (s :
 
 module _ {S P H : Type 0} {w v : ℕ} (r : Rules H) (Stands : S → P → Type 0) where
   -- a channel that nothing couples to another one, by its crossing
-  abbrev pub alone : (crossing : P → World H w v) (put : World H w v → P → P) (closed : S → Bool) (as_closed : S → S) (Keeps : S → S → Type 0) → SendingChannel S P H w
+  abbrev pub alone : (crossing : P → World H w v) (put : World H w v → P → P) (closed : S → Bool) (as_closed : S → S)
+      (Keeps : S → S → Type 0) → SendingChannel S P H w
   alone crossing put closed as_closed Keeps = record {
     rules = r;
     Stands = Stands;

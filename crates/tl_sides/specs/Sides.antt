@@ -3,7 +3,10 @@
 -- alone: where the beats are that it has sent, and which ones will come, only a meeting tells (this
 -- project's choice).
 use Rattle.std.specs.Prelude.{◌≡◌, ◌++◌, ℕ, List, [], ◌∷◌, map, take}
-use Rattle.tl_sides.specs.Words.{rules_a, rules_b, rules_c, rules_d, rules_e, ChA, ChB, ChC, ChD, ChE, HeadA, HeadB, HeadC, HeadD, HeadE, BeatOf, World, empty, offered, Sending, Taking, SendHalf, TakeHalf, sending_of, taking_of, Sends, Takes, Meets, ArePair, SameSend, SameTake, known_free, closing, took_first, Event, Ask, Answer, asked, answered, client_answer, manager_answer, manager_home, manager_homes}
+use Rattle.tl_sides.specs.Words.{rules_a, rules_b, rules_c, rules_d, rules_e, ChA, ChB, ChC, ChD, ChE, HeadA, HeadB, HeadC, HeadD, HeadE, BeatOf}
+use Rattle.tl_sides.specs.Words.{World, empty, offered, Sending, Taking, SendHalf, TakeHalf, sending_of, taking_of, Sends, Takes, Meets, ArePair}
+use Rattle.tl_sides.specs.Words.{SameSend, SameTake, known_free, closing, took_first, Event, Ask, Answer, asked, answered, client_answer}
+use Rattle.tl_sides.specs.Words.{manager_answer, manager_home, manager_homes}
 use Rattle.tl_sides.specs.Books.{Client, Manager, KnowsClient, KnowsManager}
 use Rattle.tl_sides.specs.Calls.{SendingChannel, TakingChannel, alone}
 use Rattle.tl_sides.specs.Ports.{ClientNow, ManagerNow}
@@ -27,7 +30,8 @@ pub record ManagerState (A : Type 0) (C M : ℕ) : Type 0 where
   pub book : Manager
 
 -- a side is its port, and its halves of the five rings
-abbrev pub client_state_of : {A : Type 0} {C M : ℕ} → ClientNow C M → SendHalf ChA A HeadA M → TakeHalf ChB A HeadB C → SendHalf ChC A HeadC M → TakeHalf ChD A HeadD C → SendHalf ChE A HeadE M → ClientState A C M
+abbrev pub client_state_of : {A : Type 0} {C M : ℕ} → ClientNow C M → SendHalf ChA A HeadA M → TakeHalf ChB A HeadB C → SendHalf ChC A HeadC M →
+    TakeHalf ChD A HeadD C → SendHalf ChE A HeadE M → ClientState A C M
 client_state_of p a b c d e = record {
   a = sending_of p.a a;
   b = taking_of p.b b;
@@ -37,7 +41,8 @@ client_state_of p a b c d e = record {
   book = p.book;
 }
 
-abbrev pub manager_state_of : {A : Type 0} {C M : ℕ} → ManagerNow C M → TakeHalf ChA A HeadA M → SendHalf ChB A HeadB C → TakeHalf ChC A HeadC M → SendHalf ChD A HeadD C → TakeHalf ChE A HeadE M → ManagerState A C M
+abbrev pub manager_state_of : {A : Type 0} {C M : ℕ} → ManagerNow C M → TakeHalf ChA A HeadA M → SendHalf ChB A HeadB C → TakeHalf ChC A HeadC M →
+    SendHalf ChD A HeadD C → TakeHalf ChE A HeadE M → ManagerState A C M
 manager_state_of p a b c d e = record {
   a = taking_of p.a a;
   b = sending_of p.b b;
@@ -113,8 +118,8 @@ module _ {C M : ℕ} where
   manager_takes_e bs x = record x { e = x.e ++ bs }
 
 module _ {A : Type 0} {C M : ℕ} where
-  -- the channels that each side sends: its half of a ring stays as it is; the home of a message of D is the address of the request that is open there then, and 0
-  -- of ReleaseAck
+  -- the channels that each side sends: its half of a ring stays as it is; the home of a message of D is the address of the request that is open
+  -- there then, and 0 of ReleaseAck
   abbrev pub side_sends_a : SendingChannel (ClientState A C M) (ClientPast C M) HeadA C
   side_sends_a = record (alone rules_a ClientStandsFor (λ x. x.a) (λ y x. record x { a = y }) (λ s. s.a.closed) (λ s. record s { a = closing s.a })
       (λ s s'. (s'.a.producer ≡ s.a.producer) × (s' ≡ record s { a = s'.a; book = s'.book }))) {

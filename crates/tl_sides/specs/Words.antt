@@ -23,10 +23,12 @@ pub use Rattle.tl_msg.specs.declared.head.HeadD.{HeadD}
 pub use Rattle.tl_msg.specs.declared.head.HeadE.{HeadE}
 pub use Rattle.tl_ring.specs.Boxes.{HasSent, HasTaken, Outgoing}
 pub use Rattle.tl_ring.specs.Crossing.{World, empty, inbox_room, offered, popped, pushed, shut, took}
-pub use Rattle.tl_ring.specs.Ends.{ArePair, Fetched, IsNewRing, Meets, Pushed, SameSend, SameTake, SendHalf, Sending, Sends, TakeHalf, Takes, Taking, closing, known_free, known_items, passed, sending_of, taking_of, took_first}
+pub use Rattle.tl_ring.specs.Ends.{ArePair, Fetched, Meets, Pushed, SameSend, SameTake, SendHalf, Sending, Sends, TakeHalf, Takes, Taking, closing}
+pub use Rattle.tl_ring.specs.Ends.{known_free, known_items, passed, sending_of, taking_of, took_first}
 pub use Rattle.tl_ring.specs.Pipe.{Pipe}
 pub use Rattle.tl_ring.specs.declared.fault.EndFault.{EndFault}
 pub use Rattle.tl_ring.specs.declared.queue.TheConstants.{ROOM}
 pub use Rattle.tl_ring.specs.declared.standing.Standing.{Standing}
-pub use Rattle.tl_settle.specs.Histories.{Answer, Ask, Event, Mark, answered, asked, client_answer, manager_answer, manager_home, manager_homes, marks, open_request, to_request}
+pub use Rattle.tl_settle.specs.Histories.{Answer, Ask, Event, Mark, answered, asked, client_answer, manager_answer, manager_home, manager_homes}
+pub use Rattle.tl_settle.specs.Histories.{marks, open_request, to_request}
 pub use Rattle.tl_settle.specs.Requests.{is_release_ack}

@@ -16,6 +16,7 @@ mod books;
 mod channel_calls;
 mod client_port;
 mod client_side;
+mod making;
 mod manager_port;
 mod manager_side;
 mod noting;

@@ -5,128 +5,60 @@ ghost use Rattle.tl_ring.specs.declared.pipe.TheConstants.{MAX_RING};
 ghost use Rattle.tl_ring.specs.Ends.{Met, IsNewRing};
 ghost use Rattle.tl_sides.specs.Books.{KnowsClient, KnowsManager};
 ghost use Rattle.tl_sides.specs.Ends.{AreStanding};
-ghost use Rattle.tl_sides.specs.Inner.Making.{IsClientOver, IsManagerOver, IsClientNew, IsManagerNew};
-ghost use Rattle.tl_sides.specs.Sides.{ClientPast, ManagerPast, ClientStandsFor, ManagerStandsFor, AreSides, IsNewClient, IsNewManager, SidesMeet, new_client, new_manager};
+ghost use Rattle.tl_sides.specs.Inner.Making.{AreNewSides};
+ghost use Rattle.tl_sides.specs.Sides.{ClientPast, ManagerPast, ClientStandsFor, ManagerStandsFor, SidesMeet};
+ghost use Rattle.tl_sides.specs.Sides.{AreSides, IsNewClient, IsNewManager, new_client, new_manager};
 
 use crate::books::{ClientBook, ManagerBook};
 use crate::client_port::ClientPort;
 use crate::client_side::ClientSide;
+use crate::making::{Halves, new_parts};
 use crate::manager_port::ManagerPort;
 use crate::manager_side::ManagerSide;
 use crate::sync_bridge::Standings;
 use std::alloc::Allocator;
 use tl_msg::{ChA, ChB, ChC, ChD, ChE};
-use tl_ring::{BuildFault, Intake, SendHalf, Standing, TakeHalf, look, new_ring};
+use tl_ring::{BuildFault, Intake, Standing, look};
 
-// What stands on the client's bus: both halves of the rings of B and D, whose beats have its width,
-// and the book of its side. A type that both widths decide is dear to check.
-fn client_parts<const C: usize, A: Allocator + Copy>(
-    alloc: A,
-    ring: usize,
-) -> Result<
-    (
-        SendHalf<ChB, C, A>,
-        TakeHalf<ChB, C, A>,
-        SendHalf<ChD, C, A>,
-        TakeHalf<ChD, C, A>,
-        ClientBook<C, A>,
-    ),
-    BuildFault,
->
-    ensures rings { IfOk result (λ parts. IsNewRing ring parts.0 parts.1 ×
-        IsNewRing ring parts.2 parts.3) }
-    ensures book { IfOk result (λ parts. KnowsClient {w = C} parts.4 []) }
-    ensures size { IsOk result → (1 ≤ ring) × (ring ≤ MAX_RING) }
-    ensures ring_size { IfErr result (λ fault.
-        (fault ≡ BuildFault.RingSize) ↔ ((ring ≡ 0) ⊎ (MAX_RING < ring))) }
+// Both sides over the halves of their rings and their books. It has no word on the widths: what it
+// promises has them as a premise.
+fn sides_over<const C: usize, const M: usize, A: Allocator>(
+    a: Halves<ChA, M, A>,
+    b: Halves<ChB, C, A>,
+    c: Halves<ChC, M, A>,
+    d: Halves<ChD, C, A>,
+    e: Halves<ChE, M, A>,
+    client: ClientBook<C, A>,
+    manager: ManagerBook<M, A>,
+) -> (ClientSide<C, M, A>, ManagerSide<C, M, A>)
+    // for new rings of one size, and for the books of a new bridge
+    ensures { (size : ℕ) → IsWidth C → IsWidth M → IsNewRing size a.0 a.1 × IsNewRing size b.0 b.1 ×
+        IsNewRing size c.0 c.1 × IsNewRing size d.0 d.1 × IsNewRing size e.0 e.1 →
+        KnowsClient {w = C} client [] → KnowsManager {w = M} manager [] →
+        AreNewSides size result.0 result.1 }
 {
-    let (b, b_take) = given!(new_ring::<ChB, C, A>(alloc, ring));
-    let (d, d_take) = given!(new_ring::<ChD, C, A>(alloc, ring));
-    let Ok(book) = ClientBook::new(alloc) else {
-        return Err(BuildFault::OutOfMemory);
-    };
-    Ok((b, b_take, d, d_take, book))
-}
-
-// What stands on the manager's bus: both halves of the rings of A, C and E, and the book of its
-// side.
-fn manager_parts<const M: usize, A: Allocator + Copy>(
-    alloc: A,
-    ring: usize,
-) -> Result<
-    (
-        SendHalf<ChA, M, A>,
-        TakeHalf<ChA, M, A>,
-        SendHalf<ChC, M, A>,
-        TakeHalf<ChC, M, A>,
-        SendHalf<ChE, M, A>,
-        TakeHalf<ChE, M, A>,
-        ManagerBook<M, A>,
-    ),
-    BuildFault,
->
-    ensures rings { IfOk result (λ parts. IsNewRing ring parts.0 parts.1 ×
-        IsNewRing ring parts.2 parts.3 × IsNewRing ring parts.4 parts.5) }
-    ensures book { IfOk result (λ parts. KnowsManager {w = M} parts.6 []) }
-    ensures size { IsOk result → (1 ≤ ring) × (ring ≤ MAX_RING) }
-    ensures ring_size { IfErr result (λ fault.
-        (fault ≡ BuildFault.RingSize) ↔ ((ring ≡ 0) ⊎ (MAX_RING < ring))) }
-{
-    let (a, a_take) = given!(new_ring::<ChA, M, A>(alloc, ring));
-    let (c, c_take) = given!(new_ring::<ChC, M, A>(alloc, ring));
-    let (e, e_take) = given!(new_ring::<ChE, M, A>(alloc, ring));
-    let Ok(book) = ManagerBook::new(alloc) else {
-        return Err(BuildFault::OutOfMemory);
-    };
-    Ok((a, a_take, c, c_take, e, e_take, book))
-}
-
-// The client's side over its halves of the five rings, and its book. It has no word on the widths:
-// what it promises has them as a premise.
-fn client_over<const C: usize, const M: usize, A: Allocator>(
-    a: SendHalf<ChA, M, A>,
-    b: TakeHalf<ChB, C, A>,
-    c: SendHalf<ChC, M, A>,
-    d: TakeHalf<ChD, C, A>,
-    e: SendHalf<ChE, M, A>,
-    book: ClientBook<C, A>,
-) -> ClientSide<C, M, A>
-    ensures over { IsClientOver a b c d e result }
-    // for new rings of one size, each with its other half
-    ensures stands { (size : ℕ) → IsClientNew size a b c d e → KnowsClient {w = C} book [] →
-        IsWidth C → IsWidth M → ClientStandsFor result (new_client size) }
-{
-    ClientSide {
-        port: ClientPort::over(book),
+    let (a, a_take) = a;
+    let (b, b_take) = b;
+    let (c, c_take) = c;
+    let (d, d_take) = d;
+    let (e, e_take) = e;
+    let client = ClientSide {
+        port: ClientPort::over(client),
         a,
-        b: Intake::over(b),
+        b: Intake::over(b_take),
         c,
-        d: Intake::over(d),
+        d: Intake::over(d_take),
         e,
-    }
-}
-
-// The manager's side over its halves of the five rings, and its book.
-fn manager_over<const C: usize, const M: usize, A: Allocator>(
-    a: TakeHalf<ChA, M, A>,
-    b: SendHalf<ChB, C, A>,
-    c: TakeHalf<ChC, M, A>,
-    d: SendHalf<ChD, C, A>,
-    e: TakeHalf<ChE, M, A>,
-    book: ManagerBook<M, A>,
-) -> ManagerSide<C, M, A>
-    ensures over { IsManagerOver a b c d e result }
-    ensures stands { (size : ℕ) → IsManagerNew size a b c d e → KnowsManager {w = M} book [] →
-        IsWidth C → IsWidth M → ManagerStandsFor result (new_manager size) }
-{
-    ManagerSide {
-        port: ManagerPort::over(book),
-        a: Intake::over(a),
+    };
+    let manager = ManagerSide {
+        port: ManagerPort::over(manager),
+        a: Intake::over(a_take),
         b,
-        c: Intake::over(c),
+        c: Intake::over(c_take),
         d,
-        e: Intake::over(e),
-    }
+        e: Intake::over(e_take),
+    };
+    (client, manager)
 }
 
 /// The two sides of a new bridge, for two threads, over five rings of `ring` beats each, and with
@@ -150,11 +82,8 @@ pub fn bridge<const C: usize, const M: usize, A: Allocator + Copy>(
     ensures ring_size { IfErr result (λ fault.
         (fault ≡ BuildFault.RingSize) ↔ ((ring ≡ 0) ⊎ (MAX_RING < ring))) }
 {
-    let (b, b_take, d, d_take, client_book) = given!(client_parts(alloc, ring));
-    let (a, a_take, c, c_take, e, e_take, manager_book) = given!(manager_parts(alloc, ring));
-    let client = client_over(a, b_take, c, d_take, e, client_book);
-    let manager = manager_over(a_take, b, c_take, d, e_take, manager_book);
-    Ok((client, manager))
+    let (a, b, c, d, e, client, manager) = given!(new_parts(alloc, ring));
+    Ok(sides_over(a, b, c, d, e, client, manager))
 }
 
 /// Brings both sides of one [`bridge`] call together, in one thread, and answers how many far beats

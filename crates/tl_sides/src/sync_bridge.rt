@@ -14,6 +14,7 @@ ghost use Rattle.tl_sides.specs.Calls.{OffersBeat, ClosesChannel, TakesBeat};
 
 use crate::books::{ClientBook, ManagerBook};
 use crate::client_port::ClientPort;
+use crate::making::new_parts;
 use crate::manager_port::ManagerPort;
 use crate::per_channel::PerChannel;
 use std::alloc::{Allocator, Global};
@@ -56,54 +57,6 @@ impl<const C: usize, const M: usize, A: Allocator> Model for SyncBridge<C, M, A>
     ghost Value = { Bridge C M };
 
     ghost view = { λ s. bridge_of s.client s.manager s.a s.b s.c s.d s.e };
-}
-
-// What stands on the client's bus: the rings of B and D, whose beats have its width, and the book
-// of its side. A type that both widths decide is dear to check.
-fn client_parts<const C: usize, A: Allocator + Copy>(
-    alloc: A,
-    ring: usize,
-) -> Result<(Ring<ChB, C, A>, Ring<ChD, C, A>, ClientBook<C, A>), BuildFault>
-    ensures rings { IfOk result (λ parts. (parts.0 ≡ buffer [] ring) × (parts.1 ≡ buffer [] ring)) }
-    ensures book { IfOk result (λ parts. KnowsClient {w = C} parts.2 []) }
-    ensures size { IsOk result → (1 ≤ ring) × (ring ≤ MAX_RING) }
-    ensures ring_size { IfErr result (λ fault. (fault ≡ BuildFault.RingSize) ↔
-        ((ring ≡ 0) ⊎ (MAX_RING < ring))) }
-{
-    let b = given!(Ring::new(alloc, ring));
-    let d = given!(Ring::new(alloc, ring));
-    let Ok(book) = ClientBook::new(alloc) else {
-        return Err(BuildFault::OutOfMemory);
-    };
-    Ok((b, d, book))
-}
-
-// What stands on the manager's bus: the rings of A, C and E, and the book of its side.
-fn manager_parts<const M: usize, A: Allocator + Copy>(
-    alloc: A,
-    ring: usize,
-) -> Result<
-    (
-        Ring<ChA, M, A>,
-        Ring<ChC, M, A>,
-        Ring<ChE, M, A>,
-        ManagerBook<M, A>,
-    ),
-    BuildFault,
->
-    ensures rings { IfOk result (λ parts. (parts.0 ≡ buffer [] ring) × (parts.1 ≡ buffer [] ring) × (parts.2 ≡ buffer [] ring)) }
-    ensures book { IfOk result (λ parts. KnowsManager {w = M} parts.3 []) }
-    ensures size { IsOk result → (1 ≤ ring) × (ring ≤ MAX_RING) }
-    ensures ring_size { IfErr result (λ fault. (fault ≡ BuildFault.RingSize) ↔
-        ((ring ≡ 0) ⊎ (MAX_RING < ring))) }
-{
-    let a = given!(Ring::new(alloc, ring));
-    let c = given!(Ring::new(alloc, ring));
-    let e = given!(Ring::new(alloc, ring));
-    let Ok(book) = ManagerBook::new(alloc) else {
-        return Err(BuildFault::OutOfMemory);
-    };
-    Ok((a, c, e, book))
 }
 
 // How many far beats stand in an outbox, a ring and an inbox.
@@ -163,8 +116,7 @@ impl<const C: usize, const M: usize, A: Allocator + Copy> SyncBridge<C, M, A> {
         ensures ring_size { IfErr result (λ fault. (fault ≡ BuildFault.RingSize) ↔
             ((ring ≡ 0) ⊎ (MAX_RING < ring))) }
     {
-        let (b, d, client) = given!(client_parts(alloc, ring));
-        let (a, c, e, manager) = given!(manager_parts(alloc, ring));
+        let (a, b, c, d, e, client, manager) = given!(new_parts(alloc, ring));
         Ok(bridge_over(a, b, c, d, e, client, manager))
     }
 }

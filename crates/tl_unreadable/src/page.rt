@@ -74,17 +74,12 @@ fn decimal(number: u64) -> u8 {
     b'0' + (number % 10) as u8
 }
 
-/// How many bytes are put together before they go to the text.
-const ROOM: usize = 512;
-
 /// Text that is written piece by piece. Whether memory was there for all pieces is asked once, at the
 /// end.
 #[derive(Drop)]
 pub struct Page {
-    /// The text, but for its last bytes: those stand in `last`, of which so many are `used`.
-    text: Vec<u8>,
-    last: [u8; ROOM],
-    used: usize,
+    /// What was written, but for what was let go of.
+    pub text: Vec<u8>,
     has_colours: bool,
     pub lacks_a_piece: bool,
 }
@@ -94,8 +89,6 @@ impl Page {
     pub fn new(alloc: Global, has_colours: bool) -> Page {
         Page {
             text: Vec::new(alloc),
-            last: [0; ROOM],
-            used: 0,
             has_colours,
             lacks_a_piece: false,
         }
@@ -103,42 +96,17 @@ impl Page {
 
     /// The whole text, where memory was there for all of it.
     pub fn into_text(self) -> Result<Vec<u8>, AllocError> {
-        let mut page = self;
-        page.settle();
-        if page.lacks_a_piece {
+        if self.lacks_a_piece {
             return Err(AllocError);
         }
-        Ok(page.text)
-    }
-
-    /// Moves the last bytes to the text.
-    fn settle(&mut self) {
-        let last = self.last.get(..self.used).unwrap_or(&[]);
-        if self.text.extend_from_slice(last).is_err() {
-            self.lacks_a_piece = true;
-        }
-        self.used = 0;
-    }
-
-    /// Writes bytes for which there is no room among the last ones.
-    #[inline(never)]
-    fn put_apart(&mut self, bytes: &[u8]) {
-        self.settle();
-        if self.text.extend_from_slice(bytes).is_err() {
-            self.lacks_a_piece = true;
-        }
+        Ok(self.text)
     }
 
     /// Writes bytes.
     #[inline(always)]
     pub fn put_bytes(&mut self, bytes: &[u8]) {
-        let end = self.used.saturating_add(bytes.len());
-        match self.last.get_mut(self.used..end) {
-            Some(room) => {
-                room.copy_from_slice(bytes);
-                self.used = end;
-            }
-            None => self.put_apart(bytes),
+        if self.text.extend_from_slice(bytes).is_err() {
+            self.lacks_a_piece = true;
         }
     }
 
@@ -278,19 +246,18 @@ impl Page {
         self.put(Text(rest));
     }
 
-    /// How many bytes were written.
+    /// How many bytes there are.
     pub fn len(&self) -> usize {
-        self.text.len().saturating_add(self.used)
+        self.text.len()
     }
 
-    /// What was written from here on, if that is little.
-    pub fn end_from(&self, from: usize) -> Option<&[u8]> {
-        self.last.get(from.wrapping_sub(self.text.len())..self.used)
+    /// What was written from here on.
+    pub fn end_from(&self, from: usize) -> &[u8] {
+        self.text.get(from..).unwrap_or(&[])
     }
 
     /// Takes back all but so many first bytes.
     pub fn truncate(&mut self, length: usize) {
-        self.settle();
         self.text.truncate(length);
     }
 }

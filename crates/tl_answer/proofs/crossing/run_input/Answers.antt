@@ -1,9 +1,6 @@
-use Rattle.tl_answer.proofs.Names.{lit<, false, all_of, spelled, held}
-use Rattle.tl_answer.proofs.Answering.{of-both, script-text}
+use Rattle.tl_answer.proofs.Names.{sym, subst, held, unread_of, IsRefused}
 use Rattle.tl_answer.proofs.CrossingSize.{crossing_small}
 use Rattle.tl_answer.proofs.Headers.{widths_named}
-use Rattle.tl_answer.proofs.Listening.{all-near}
-use Rattle.tl_answer.proofs.Whole.{reads_answer}
 use Rattle.tl_answer.proofs.crossing.run_input.Goals as goal
 
 pub new-requires : goal.new-requires
@@ -11,25 +8,18 @@ new-requires g c =
     let widths = widths_named (held c.args.input.now) c.args.version g.row.C g.row.M c.requires.1 in
     (crossing_small g.row.C g.row.M widths.0 widths.1, (widths.0, widths.1, c.requires.2, c.requires.3))
 
-pub read_through-requires : goal.read_through-requires
-read_through-requires g c = (lit< tt, (c.requires.0, c.requires.1, c.in-Ok.ensures.new))
+pub cross-answer-requires : goal.cross-answer-requires
+cross-answer-requires g c =
+    let widths = widths_named (held c.args.input.now) c.args.version g.row.C g.row.M c.requires.1 in
+    (crossing_small g.row.C g.row.M widths.0 widths.1, (c.requires.0, c.requires.1, c.in-Ok.ensures.new))
 
-pub read_through-requires-room-L-Listener : goal.read_through-requires-room-L-Listener
-read_through-requires-room-L-Listener g c κs within =
+pub let_go-requires : goal.let_go-requires
+let_go-requires g c =
     let widths = widths_named (held c.args.input.now) c.args.version g.row.C g.row.M c.requires.1 in
     crossing_small g.row.C g.row.M widths.0 widths.1
 
-pub end-requires : goal.end-requires
-end-requires g c =
-    let widths = widths_named (held c.args.input.now) c.args.version g.row.C g.row.M c.requires.1 in
-    let read = c.in-Ok-read_through.ensures.ok in
-    (crossing_small g.row.C g.row.M widths.0 widths.1, (lit< tt, (widths.0, widths.1, (c.args.version, read.gone, read.listens))))
+pub returns : goal.returns
+returns g c = c.cross-answer.ensures
 
-pub returns-in-Ok-read_through : goal.returns-in-Ok-read_through
-returns-in-Ok-read_through g c =
-    let read = c.in-Ok-read_through.ensures.ok in
-    reads_answer _ _ false c.read_through.new.input read.text read.took read.end read.few c.end.result
-    (of-both _ _ _ (λ made text-is done-is. script-text c.args.version g.row.C g.row.M read.lines read.text read.told
-    (all_of read.gone c.in-Ok-read_through.last) (all-near read.lines read.gone c.in-Ok-read_through.last read.rest) false (spelled made) text-is made.all_done done-is)
-    c.end.result (c.end.ensures.text c.args.version read.gone read.listens) (c.end.ensures.done c.args.version read.gone read.listens))
-    c.end.ensures.err
+pub returns-in-Err : goal.returns-in-Err
+returns-in-Err g c = subst (IsRefused (unread_of c.args.input.now (g.R.Read.remaining c.args.reader.now)) _ _) (sym c.in-Err.ensures.err) tt

@@ -1,14 +1,15 @@
 use Rattle.std.proofs.Common.{rules, sym, subst}
+use Rattle.std.proofs.KnownBytes.{Keeps-refl}
 use Rattle.tl_trace.specs.Faults.{HasHeader}
-use Rattle.tl_answer.specs.Texts.{IsOfText}
 use Rattle.tl_answer.proofs.Headers.{last_client, no_header}
+use Rattle.tl_explain.specs.Explained.{IsUntold}
 use Rattle.tl_explain.proofs.explain.telling_of.Goals as goal
 
 pub returns-in_default-clause-err : goal.returns-in_default-clause-err
-returns-in_default-clause-err c =
-    subst (IsOfText c.args.text.now) (sym c.from.ensures) (search rules, no_header c.args.text.now (sym c.in_default.ensures))
+returns-in_default-clause-err g c =
+    subst (IsUntold c.args.text.now _ _) (sym c.from.ensures) ((search rules, no_header c.args.text.now (sym c.in_default.ensures)), Keeps-refl _)
 
 pub at_width-with_client-requires-8 : goal.at_width-with_client-requires-8
-at_width-with_client-requires-8 c =
+at_width-with_client-requires-8 g c =
     let is : HasHeader c.args.text.now c.in-Some.header.version c.in-Some.header.client c.in-Some.header.manager = search rules in
     (last_client c.args.text.now _ _ _ is (search rules) (search rules) (search rules) (search rules) (search rules) (search rules) (search rules), c.requires.few)

@@ -1,3 +1,4 @@
+use Rattle.std.proofs.lemmas.Result.{IfOk-from_err}
 use Rattle.tl_run.proofs.Names.{lit<, refl, sym, subst, ◌∙◌, bridge_small, AreEnd, ArePart, AllRest, IsAt}
 use Rattle.tl_run.proofs.Counting.{nearer}
 use Rattle.tl_run.proofs.Parts.{are-part}
@@ -53,43 +54,56 @@ turns-preserved g c =
       same = c.in_ok-empty.ensures.same ∙ here.same;
     }
 
-pub returns-then-total-before-clause-can : goal.returns-then-total-before-clause-can
-returns-then-total-before-clause-can g c =
-    let rests = c.turns.invariant.can.rests in
+pub returns-then-total-before : goal.returns-then-total-before
+returns-then-total-before g c =
+    let here = c.turns.invariant in
+    let rests = here.can.rests in
     let turn = c.all_go_ahead-stopped_by.ensures in
     let same = all-same _ _ turn.on (sym c.total.ensures ∙ c.if-total-before.true ∙ c.total-before.ensures) in
-    record { within = turn.within; rests = record { past = rests.past; stands = turn.stays same rests.past rests.stands; rest = rests.rest } }
-
-pub returns-then-total-before-clause-on : goal.returns-then-total-before-clause-on
-returns-then-total-before-clause-on g c = λ near part was.
-    let r = c.turns.invariant.on near part was in
-    let passed = c.all_go_ahead-stopped_by.ensures.passes r.under_way.past r.under_way.stands in
     record {
-      all = r.all;
-      holds = r.holds;
-      counts = r.counts;
-      under_way = record {
-        past = passed.past;
-        stands = passed.stands;
-        is_at = passed.is_at near r.all (subst (λ q. ArePart q c.args.held.now near) (sym c.turns.invariant.gone) part) r.under_way.is_at;
+      can = record {
+        within = turn.within;
+        rests = record { past = rests.past; stands = turn.stays same rests.past rests.stands; rest = rests.rest };
       };
+      gone = here.gone;
+      on = λ near part was.
+          let r = here.on near part was in
+          let passed = turn.passes r.under_way.past r.under_way.stands in
+          record {
+            all = r.all;
+            holds = r.holds;
+            counts = r.counts;
+            under_way = record {
+              past = passed.past;
+              stands = passed.stands;
+              is_at = passed.is_at near r.all (subst (λ q. ArePart q c.args.held.now near) (sym here.gone) part) r.under_way.is_at;
+            };
+          };
+      stopped = λ near end was.
+          let r = here.on near (are-part c.args.run.now.gone c.args.held.now near end) was in
+          let u = r.under_way in
+          record {
+            all = r.all;
+            holds = r.holds;
+            counts = r.counts;
+            past = u.past;
+            stands = turn.stays same u.past u.stands;
+            is_at = subst (λ n. IsAt near n r.all u.past) (sym same) u.is_at;
+            at_rest = rests-too c.turns.run.bridge rests.past u.past rests.stands u.stands rests.rest;
+            rests = subst (λ n. AllRest near n u.past c.all_go_ahead-stopped_by.result) (sym same)
+                (turn.rests same u.past u.stands near (subst (λ q. AreEnd q c.args.held.now near) (sym here.gone) end));
+          };
+      same = here.same;
     }
 
-pub returns-then-total-before-clause-stopped : goal.returns-then-total-before-clause-stopped
-returns-then-total-before-clause-stopped g c = λ near end was.
-    let here = c.turns.invariant in
-    let r = here.on near (are-part c.args.run.now.gone c.args.held.now near end) was in
-    let u = r.under_way in
-    let turn = c.all_go_ahead-stopped_by.ensures in
-    let same = all-same _ _ turn.on (sym c.total.ensures ∙ c.if-total-before.true ∙ c.total-before.ensures) in
+pub returns-in_err-empty : goal.returns-in_err-empty
+returns-in_err-empty g c =
+    let r = c.from_residual.result in
+    let e = c.from_residual.ensures.0 in
     record {
-      all = r.all;
-      holds = r.holds;
-      counts = r.counts;
-      past = u.past;
-      stands = turn.stays same u.past u.stands;
-      is_at = subst (λ n. IsAt near n r.all u.past) (sym same) u.is_at;
-      at_rest = rests-too c.turns.run.bridge here.can.rests.past u.past here.can.rests.stands u.stands here.can.rests.rest;
-      rests = subst (λ n. AllRest near n u.past c.all_go_ahead-stopped_by.result) (sym same)
-          (turn.rests same u.past u.stands near (subst (λ q. AreEnd q c.args.held.now near) (sym here.gone) end));
+      can = IfOk-from_err r _ e;
+      gone = c.turns.invariant.gone;
+      on = λ near part was. IfOk-from_err r _ e;
+      stopped = λ near end was. IfOk-from_err r _ e;
+      same = IfOk-from_err r _ e;
     }

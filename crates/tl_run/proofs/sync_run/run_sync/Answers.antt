@@ -1,14 +1,57 @@
-use Rattle.tl_run.proofs.Names.{lit<, near_beats}
+use Rattle.tl_run.proofs.Names.{lit<, near_beats, refl, arith, ⊎_elim, inl, inr}
+use Rattle.tl_run.proofs.OnlyMemory.{want-of-memory}
 use Rattle.tl_run.proofs.sync_run.run_sync.Goals as goal
 
+pub returns-then-ring-eq0 : goal.returns-then-ring-eq0
+returns-then-ring-eq0 g c = record {
+  outcome = tt;
+  size = λ ok. absurd (cc (ok));
+  ring_size = (λ same. ⊎_elim (λ z. inl z) (λ p. inr p.1) c.then-ring-eq0.either, λ either. refl);
+  never_stalled = λ e. absurd (cc (e));
+}
+
+pub new-requires : goal.new-requires
+new-requires g c = (lit< tt, (lit< tt, (record { client = c.requires.client; manager = c.requires.manager }, c.requires.short)))
+
+pub returns-in_default : goal.returns-in_default
+returns-in_default g c = record {
+  outcome = tt;
+  size = λ ok. absurd (cc (ok));
+  ring_size = want-of-memory c.args.ring (omega (arith, c.if-ring-eq0.false), c.if-ring-gt-MAX_RING.false);
+  never_stalled = λ e. absurd (cc (e));
+}
+
 pub run_into_lists-requires : goal.run_into_lists-requires
-run_into_lists-requires g c = (lit< tt, (lit< tt, (record { client = c.requires.client; manager = c.requires.manager }, c.requires.short, c.in-Ok.ensures.empty, c.in-Ok.ensures.room)))
+run_into_lists-requires g c = (
+  lit< tt,
+  (
+    lit< tt,
+    (
+      record { client = c.requires.client; manager = c.requires.manager },
+      c.requires.short,
+      c.in-Ok.ensures.empty,
+      c.in-Ok.ensures.room,
+    ),
+  ),
+)
 
-pub returns-in-Ok-run_into_lists-clause-outcome : goal.returns-in-Ok-run_into_lists-clause-outcome
-returns-in-Ok-run_into_lists-clause-outcome g c = c.outcome_at.ensures (near_beats c.args.script.now) c.in-Ok-run_into_lists.ensures.ended.0 c.in-Ok-run_into_lists.ensures.ended.1
+pub outcome_at-requires : goal.outcome_at-requires
+outcome_at-requires g c = (lit< tt, (lit< tt, record { client = c.requires.client; manager = c.requires.manager }))
 
-pub returns-in-Err-clause-ring_size : goal.returns-in-Err-clause-ring_size
-returns-in-Err-clause-ring_size g c = c.in-Err.ensures.ring_size
+pub returns-in-Ok-run_into_lists : goal.returns-in-Ok-run_into_lists
+returns-in-Ok-run_into_lists g c =
+    let run = c.in-Ok-run_into_lists.ensures in
+    record {
+      outcome = c.outcome_at.ensures (near_beats c.args.script.now) run.ended.0 run.ended.1;
+      size = λ _. run.size refl;
+      ring_size = tt;
+      never_stalled = tt;
+    }
 
-pub returns-in-Err-clause-never_stalled : goal.returns-in-Err-clause-never_stalled
-returns-in-Err-clause-never_stalled g c = c.in-Err.ensures.never_stalled
+pub returns-in-Err : goal.returns-in-Err
+returns-in-Err g c = record {
+  outcome = tt;
+  size = λ ok. absurd (cc (ok));
+  ring_size = c.in-Err.ensures.ring_size;
+  never_stalled = c.in-Err.ensures.never_stalled;
+}

@@ -1,3 +1,4 @@
+use Rattle.std.proofs.lemmas.Result.{IfOk-from_err}
 use Rattle.tl_run.proofs.Names.{refl, beat_small, bridge_small}
 use Rattle.tl_run.proofs.taken.take_from_each.Goals as goal
 
@@ -25,27 +26,30 @@ take-requires g c =
 pub take_all-requires : goal.take_all-requires
 take_all-requires g c = (bridge_small g.row.C g.row.M c.requires.client c.requires.manager, (c.requires.client, c.requires.manager))
 
-pub returns-clause-taken : goal.returns-clause-taken
-returns-clause-taken g c = c.take_all.ensures
+pub returns-in_err-take : goal.returns-in_err-take
+returns-in_err-take g c =
+    let r = c.from_residual.result in
+    let e = c.from_residual.ensures.0 in
+    record {
+      taken = λ x stands. IfOk-from_err r _ e;
+      far = λ all h. IfOk-from_err r _ e;
+      room = λ all room h has fit.
+          let ok = (c.in_err-take.ensures.room all room h has
+          (rw (c.inbox_a-a.ensures, c.inbox_b-b.ensures, c.inbox_c-c.ensures, c.inbox_d-d.ensures, c.inbox_e-e.ensures) fit)).0 in
+          absurd (cc (ok));
+      same = IfOk-from_err r _ e;
+      counted = IfOk-from_err r _ e;
+    }
 
-pub returns-clause-far : goal.returns-clause-far
-returns-clause-far g c = λ all h.
-    let has = c.in_ok-take.ensures.far all h in
-    rw (c.inbox_a-a.ensures, c.inbox_b-b.ensures, c.inbox_c-c.ensures, c.inbox_d-d.ensures, c.inbox_e-e.ensures) at has
-
-pub returns-clause-counted : goal.returns-clause-counted
-returns-clause-counted g c = rw (c.inbox_a-a.ensures, c.inbox_b-b.ensures, c.inbox_c-c.ensures, c.inbox_d-d.ensures, c.inbox_e-e.ensures) refl
-
-pub returns-clause-same : goal.returns-clause-same
-returns-clause-same g c = c.in_ok-take.ensures.same
-
-pub returns-clause-room : goal.returns-clause-room
-returns-clause-room g c = λ all room h has fit.
-    c.in_ok-take.ensures.room all room h has
-    (rw (c.inbox_a-a.ensures, c.inbox_b-b.ensures, c.inbox_c-c.ensures, c.inbox_d-d.ensures, c.inbox_e-e.ensures) fit)
-
-pub returns-in_err-take-clause-room : goal.returns-in_err-take-clause-room
-returns-in_err-take-clause-room g c = λ all room h has fit.
-    let ok = (c.in_err-take.ensures.room all room h has
-    (rw (c.inbox_a-a.ensures, c.inbox_b-b.ensures, c.inbox_c-c.ensures, c.inbox_d-d.ensures, c.inbox_e-e.ensures) fit)).0 in
-    absurd (cc (ok))
+pub returns : goal.returns
+returns g c = record {
+  taken = c.take_all.ensures;
+  far = λ all h.
+      let has = c.in_ok-take.ensures.far all h in
+      rw (c.inbox_a-a.ensures, c.inbox_b-b.ensures, c.inbox_c-c.ensures, c.inbox_d-d.ensures, c.inbox_e-e.ensures) at has;
+  room = λ all room h has fit.
+      c.in_ok-take.ensures.room all room h has
+      (rw (c.inbox_a-a.ensures, c.inbox_b-b.ensures, c.inbox_c-c.ensures, c.inbox_d-d.ensures, c.inbox_e-e.ensures) fit);
+  same = c.in_ok-take.ensures.same;
+  counted = rw (c.inbox_a-a.ensures, c.inbox_b-b.ensures, c.inbox_c-c.ensures, c.inbox_d-d.ensures, c.inbox_e-e.ensures) refl;
+}

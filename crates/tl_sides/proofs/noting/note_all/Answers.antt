@@ -14,7 +14,8 @@ pub loop-beat-preserved : goal.loop-beat-preserved
 loop-beat-preserved g c =
     subst (λ q. g.N.Notes.Becomes c.args.book.now q c.note.new.self)
     (sym (next-taken c.args.beats.now c.loop-beat.beat-index c.beat-item.result c.loop-beat-test.true c.beat-item.is))
-    (g.met.N.Notes.notes_then c.args.book.now c.loop-beat.book c.note.new.self (take c.loop-beat.beat-index c.args.beats.now) (c.beat-item.result ∷ []) c.loop-beat.invariant c.note.ensures)
+    (g.met.N.Notes.notes_then c.args.book.now c.loop-beat.book c.note.new.self (take c.loop-beat.beat-index c.args.beats.now)
+    (c.beat-item.result ∷ []) c.loop-beat.invariant c.note.ensures)
 
 pub returns : goal.returns
 returns g c =

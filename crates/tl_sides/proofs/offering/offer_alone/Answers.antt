@@ -7,7 +7,8 @@ use Rattle.tl_sides.proofs.offering.offer_alone.Goals as goal
 pub returns-in-Err : goal.returns-in-Err
 returns-in-Err g c =
     record {
-      admitted = λ x h. stopped (ap (λ o. option_map_or (λ fault. Some (Beat fault)) o None) (c.in-Err.ensures.first_fault x.accepted x.homes x.sent h));
+      admitted = λ x h. stopped (ap (λ o. option_map_or (λ fault. Some (Beat fault)) o None)
+          (c.in-Err.ensures.first_fault x.accepted x.homes x.sent h));
       accepted = λ x h. tt;
       fault = λ x h. ap (λ o. option_map_or (λ fault. Some (Beat fault)) o None) (c.in-Err.ensures.first_fault x.accepted x.homes x.sent h);
       refused = refl;

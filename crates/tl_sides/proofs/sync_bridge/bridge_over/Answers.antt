@@ -4,10 +4,16 @@ use Rattle.tl_sides.proofs.sync_bridge.bridge_over.Goals as goal
 
 -- each port is a part of the result
 pub over-requires : goal.over-requires
-over-requires g c = (c.requires-raw.1.1.1.1.1.1.1.1.0, part_small (bridge_layout g.row.C g.row.M g.row.A g.A.Allocator) 0 9223372036854775808 c.requires-raw.1.1.1.1.1.1.1.1.1.1)
+over-requires g c = (
+  c.requires-raw.1.1.1.1.1.1.1.1.0,
+  part_small (bridge_layout g.row.C g.row.M g.row.A g.A.Allocator) 0 9223372036854775808 c.requires-raw.1.1.1.1.1.1.1.1.1.1,
+)
 
 pub over-requires-2 : goal.over-requires-2
-over-requires-2 g c = (c.requires-raw.1.1.1.1.1.1.1.1.1.0, part_small (bridge_layout g.row.C g.row.M g.row.A g.A.Allocator) 1 9223372036854775808 c.requires-raw.1.1.1.1.1.1.1.1.1.1)
+over-requires-2 g c = (
+  c.requires-raw.1.1.1.1.1.1.1.1.1.0,
+  part_small (bridge_layout g.row.C g.row.M g.row.A g.A.Allocator) 1 9223372036854775808 c.requires-raw.1.1.1.1.1.1.1.1.1.1,
+)
 
 pub returns : goal.returns
 returns g c = λ ring some near far made knows_client knows_manager.

@@ -1,31 +1,33 @@
-use Rattle.tl_answer.proofs.Names.{IfOk, lit<, ◌≡◌, ◌++◌, ◌∙◌, subst, list_all, Beats, far_beats, CanRun, HasRun, far_header, far_lines, is_done}
-use Rattle.tl_answer.proofs.Names.{report, HasLines, all_of, spelled}
+use Rattle.tl_answer.proofs.Names.{IfOk, lit<, ◌≡◌, ◌∙◌, refl, subst, list_all, Beats, CanRun, HasRun, is_done, HasLines, all_of}
 use Rattle.tl_answer.proofs.CrossingSize.{run_small}
+use Rattle.tl_answer.proofs.FarTexts.{answer-is}
 use Rattle.tl_answer.proofs.Listening.{are-end, has-all}
 use Rattle.tl_answer.proofs.crossing.Crossing.end.Goals as goal
 
 pub end-ended-requires : goal.end-ended-requires
 end-ended-requires g c = (run_small g.row.C g.row.M c.requires.0 c.requires.1, (lit< tt, (c.requires.0, (c.requires.1, c.requires.2.2.goes.can))))
 
-pub returns-in-Ok-clause-text : goal.returns-in-Ok-clause-text
-returns-in-Ok-clause-text g c = λ version gone x.
-    let run = c.args.self.run in
-    let near = all_of gone c.args.last in
-    let Has : Beats g.row.C g.row.M → Type 0 = λ beats. HasRun HasLines beats c.args.self.far run in
-    let end = are-end (CanRun run) Has run.gone gone c.args.last x.goes in
-    let has = has-all (CanRun run) Has run.gone gone c.args.last x.goes in
-    let found = c.in-Ok.verdicts in
-    subst (λ vs. IfOk c.into_answer.result (λ made. spelled made ≡ far_header version g.row.C g.row.M ++ far_lines version (far_beats near) ++ report vs))
-    (c.in-Ok.ensures.verdicts near end has)
-    (subst (λ v. IfOk c.into_answer.result (λ made. spelled made ≡ far_header v g.row.C g.row.M ++ far_lines v (far_beats near) ++ report found))
-    (c.in-Ok.ensures.same ∙ x.version_is)
-    (c.into_answer.ensures.text g.row.C g.row.M (far_beats near) (c.in-Ok.ensures.far near end has)))
+pub returns-in-Ok : goal.returns-in-Ok
+returns-in-Ok g c =
+    let was = c.args.self.now in
+    let run = was.run in
+    let Has : Beats g.row.C g.row.M → Type 0 = λ beats. HasRun HasLines beats was.far run in
+    let ended = c.in-Ok.ensures in
+    let made = c.into_answer.ensures in
+    record {
+      text = λ version gone x.
+          let near = all_of gone c.args.last in
+          let end = are-end (CanRun run) Has run.gone gone c.args.last x.goes in
+          let has = has-all (CanRun run) Has run.gone gone c.args.last x.goes in
+          answer-is c.into_answer.result c.handed_over.result _ version near c.in-Ok.verdicts c.handed_over.ensures
+          (ended.same ∙ x.version_is) (ended.verdicts near end has) (ended.far near end has) (made.text g.row.C g.row.M);
+      done = λ version gone x.
+          let near = all_of gone c.args.last in
+          let end = are-end (CanRun run) Has run.gone gone c.args.last x.goes in
+          let has = has-all (CanRun run) Has run.gone gone c.args.last x.goes in
+          subst (λ vs. IfOk c.into_answer.result (λ made. made.all_done ≡ list_all is_done vs)) (ended.verdicts near end has) made.done;
+      err = made.err;
+    }
 
-pub returns-in-Ok-clause-done : goal.returns-in-Ok-clause-done
-returns-in-Ok-clause-done g c = λ version gone x.
-    let run = c.args.self.run in
-    let near = all_of gone c.args.last in
-    let Has : Beats g.row.C g.row.M → Type 0 = λ beats. HasRun HasLines beats c.args.self.far run in
-    subst (λ vs. IfOk c.into_answer.result (λ made. made.all_done ≡ list_all is_done vs))
-    (c.in-Ok.ensures.verdicts near (are-end (CanRun run) Has run.gone gone c.args.last x.goes) (has-all (CanRun run) Has run.gone gone c.args.last x.goes))
-    c.into_answer.ensures.done
+pub returns-in-Err : goal.returns-in-Err
+returns-in-Err g c = record { text = λ version gone x. tt; done = λ version gone x. tt; err = refl }

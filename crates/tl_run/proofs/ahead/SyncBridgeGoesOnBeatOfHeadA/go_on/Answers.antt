@@ -3,7 +3,10 @@ use Rattle.tl_run.proofs.Going.{ahead-a, has-passed, has-stayed, none-again, non
 use Rattle.tl_run.proofs.ahead.SyncBridgeGoesOnBeatOfHeadA.go_on.Goals as goal
 
 pub offer_next-offered-requires : goal.offer_next-offered-requires
-offer_next-offered-requires g c = (bridge_small g.row.C g.row.M c.requires.0.client c.requires.0.manager, (beat_small g.row.C c.requires.0.client, c.requires.0))
+offer_next-offered-requires g c = (
+  bridge_small g.row.C g.row.M c.requires.0.client c.requires.0.manager,
+  (beat_small g.row.C c.requires.0.client, c.requires.0),
+)
 
 pub pump_a-requires : goal.pump_a-requires
 pump_a-requires g c = bridge_small g.row.C g.row.M c.requires.0.client c.requires.0.manager
@@ -20,14 +23,16 @@ pump_a-requires-2 g c = bridge_small g.row.C g.row.M c.requires.0.client c.requi
 pub returns-then-not-is_accepted : goal.returns-then-not-is_accepted
 returns-then-not-is_accepted g c =
     let offered = c.offer_next-offered in
-    has-stayed going_a on_bridge_a (λ s x. (λ h. h, λ h. h)) c.args.gone c.args.at c.requires.1 c.args.held.now c.requires.2 c.args.self.now offered.new.self offered.result offered.ensures
+    has-stayed going_a on_bridge_a (λ s x. (λ h. h, λ h. h)) c.args.gone c.args.at c.requires.1 c.args.held.now c.requires.2 c.args.self.now
+    offered.new.self offered.result offered.ensures
     (none-at-all _ (λ some. let h = c.if-not-is_accepted.ensures.1 some in cc (h)))
 
 pub returns-then-ready_a : goal.returns-then-ready_a
 returns-then-ready_a g c =
     let offered = c.offer_next-offered in
     let count = pump_count offered.new.self.a in
-    has-passed going_a on_bridge_a (λ s x. (λ h. h, λ h. h)) c.args.gone c.args.at c.requires.1 c.args.held.now c.requires.2 c.args.self.now offered.new.self offered.result offered.ensures
+    has-passed going_a on_bridge_a (λ s x. (λ h. h, λ h. h)) c.args.gone c.args.at c.requires.1 c.args.held.now c.requires.2 c.args.self.now
+    offered.new.self offered.result offered.ensures
     count 0 0 c.pump_a.new.self (c.if-not-is_accepted.ensures.0 refl) (ahead-a count 0 0)
     (λ y x h. subst (λ z. StandsFor c.pump_a.new.self (record x { a = z })) (none-again count y) (c.pump_a.ensures.moved _ h))
 
@@ -37,6 +42,10 @@ returns g c =
     let first = pump_count offered.new.self.a in
     let out = fetch_count c.pump_a.new.self.a in
     let again = pump_count c.fetch_a.new.self.a in
-    has-passed going_a on_bridge_a (λ s x. (λ h. h, λ h. h)) c.args.gone c.args.at c.requires.1 c.args.held.now c.requires.2 c.args.self.now offered.new.self offered.result offered.ensures
+    has-passed going_a on_bridge_a (λ s x. (λ h. h, λ h. h)) c.args.gone c.args.at c.requires.1 c.args.held.now c.requires.2 c.args.self.now
+    offered.new.self offered.result offered.ensures
     first out again c.pump_a-2.new.self (c.if-not-is_accepted.ensures.0 refl) (ahead-a first out again)
     (λ y x h. c.pump_a-2.ensures.moved _ (c.fetch_a.ensures.moved _ (c.pump_a.ensures.moved _ h)))
+
+pub overflow_sub-at : goal.overflow_sub-at
+overflow_sub-at g c = c.requires.1

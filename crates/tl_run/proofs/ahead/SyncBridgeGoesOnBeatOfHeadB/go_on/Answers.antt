@@ -3,7 +3,10 @@ use Rattle.tl_run.proofs.Going.{ahead-b, has-passed, has-stayed, none-again, non
 use Rattle.tl_run.proofs.ahead.SyncBridgeGoesOnBeatOfHeadB.go_on.Goals as goal
 
 pub offer_next-offered-requires : goal.offer_next-offered-requires
-offer_next-offered-requires g c = (bridge_small g.row.C g.row.M c.requires.0.client c.requires.0.manager, (beat_small g.row.M c.requires.0.manager, c.requires.0))
+offer_next-offered-requires g c = (
+  bridge_small g.row.C g.row.M c.requires.0.client c.requires.0.manager,
+  (beat_small g.row.M c.requires.0.manager, c.requires.0),
+)
 
 pub pump_b-requires : goal.pump_b-requires
 pump_b-requires g c = bridge_small g.row.C g.row.M c.requires.0.client c.requires.0.manager
@@ -20,14 +23,16 @@ pump_b-requires-2 g c = bridge_small g.row.C g.row.M c.requires.0.client c.requi
 pub returns-then-not-is_accepted : goal.returns-then-not-is_accepted
 returns-then-not-is_accepted g c =
     let offered = c.offer_next-offered in
-    has-stayed going_b on_bridge_b (λ s x. (λ h. h, λ h. h)) c.args.gone c.args.at c.requires.1 c.args.held.now c.requires.2 c.args.self.now offered.new.self offered.result offered.ensures
+    has-stayed going_b on_bridge_b (λ s x. (λ h. h, λ h. h)) c.args.gone c.args.at c.requires.1 c.args.held.now c.requires.2 c.args.self.now
+    offered.new.self offered.result offered.ensures
     (none-at-all _ (λ some. let h = c.if-not-is_accepted.ensures.1 some in cc (h)))
 
 pub returns-then-ready_b : goal.returns-then-ready_b
 returns-then-ready_b g c =
     let offered = c.offer_next-offered in
     let count = pump_count offered.new.self.b in
-    has-passed going_b on_bridge_b (λ s x. (λ h. h, λ h. h)) c.args.gone c.args.at c.requires.1 c.args.held.now c.requires.2 c.args.self.now offered.new.self offered.result offered.ensures
+    has-passed going_b on_bridge_b (λ s x. (λ h. h, λ h. h)) c.args.gone c.args.at c.requires.1 c.args.held.now c.requires.2 c.args.self.now
+    offered.new.self offered.result offered.ensures
     count 0 0 c.pump_b.new.self (c.if-not-is_accepted.ensures.0 refl) (ahead-b count 0 0)
     (λ y x h. subst (λ z. StandsFor c.pump_b.new.self (record x { b = z })) (none-again count y) (c.pump_b.ensures.moved _ h))
 
@@ -37,6 +42,10 @@ returns g c =
     let first = pump_count offered.new.self.b in
     let out = fetch_count c.pump_b.new.self.b in
     let again = pump_count c.fetch_b.new.self.b in
-    has-passed going_b on_bridge_b (λ s x. (λ h. h, λ h. h)) c.args.gone c.args.at c.requires.1 c.args.held.now c.requires.2 c.args.self.now offered.new.self offered.result offered.ensures
+    has-passed going_b on_bridge_b (λ s x. (λ h. h, λ h. h)) c.args.gone c.args.at c.requires.1 c.args.held.now c.requires.2 c.args.self.now
+    offered.new.self offered.result offered.ensures
     first out again c.pump_b-2.new.self (c.if-not-is_accepted.ensures.0 refl) (ahead-b first out again)
     (λ y x h. c.pump_b-2.ensures.moved _ (c.fetch_b.ensures.moved _ (c.pump_b.ensures.moved _ h)))
+
+pub overflow_sub-at : goal.overflow_sub-at
+overflow_sub-at g c = c.requires.1

@@ -3,7 +3,10 @@ use Rattle.tl_run.proofs.Going.{ahead-e, has-passed, has-stayed, none-again, non
 use Rattle.tl_run.proofs.ahead.SyncBridgeGoesOnBeatOfHeadE.go_on.Goals as goal
 
 pub offer_next-offered-requires : goal.offer_next-offered-requires
-offer_next-offered-requires g c = (bridge_small g.row.C g.row.M c.requires.0.client c.requires.0.manager, (beat_small g.row.C c.requires.0.client, c.requires.0))
+offer_next-offered-requires g c = (
+  bridge_small g.row.C g.row.M c.requires.0.client c.requires.0.manager,
+  (beat_small g.row.C c.requires.0.client, c.requires.0),
+)
 
 pub pump_e-requires : goal.pump_e-requires
 pump_e-requires g c = bridge_small g.row.C g.row.M c.requires.0.client c.requires.0.manager
@@ -20,14 +23,16 @@ pump_e-requires-2 g c = bridge_small g.row.C g.row.M c.requires.0.client c.requi
 pub returns-then-not-is_accepted : goal.returns-then-not-is_accepted
 returns-then-not-is_accepted g c =
     let offered = c.offer_next-offered in
-    has-stayed going_e on_bridge_e (λ s x. (λ h. h, λ h. h)) c.args.gone c.args.at c.requires.1 c.args.held.now c.requires.2 c.args.self.now offered.new.self offered.result offered.ensures
+    has-stayed going_e on_bridge_e (λ s x. (λ h. h, λ h. h)) c.args.gone c.args.at c.requires.1 c.args.held.now c.requires.2 c.args.self.now
+    offered.new.self offered.result offered.ensures
     (none-at-all _ (λ some. let h = c.if-not-is_accepted.ensures.1 some in cc (h)))
 
 pub returns-then-ready_e : goal.returns-then-ready_e
 returns-then-ready_e g c =
     let offered = c.offer_next-offered in
     let count = pump_count offered.new.self.e in
-    has-passed going_e on_bridge_e (λ s x. (λ h. h, λ h. h)) c.args.gone c.args.at c.requires.1 c.args.held.now c.requires.2 c.args.self.now offered.new.self offered.result offered.ensures
+    has-passed going_e on_bridge_e (λ s x. (λ h. h, λ h. h)) c.args.gone c.args.at c.requires.1 c.args.held.now c.requires.2 c.args.self.now
+    offered.new.self offered.result offered.ensures
     count 0 0 c.pump_e.new.self (c.if-not-is_accepted.ensures.0 refl) (ahead-e count 0 0)
     (λ y x h. subst (λ z. StandsFor c.pump_e.new.self (record x { e = z })) (none-again count y) (c.pump_e.ensures.moved _ h))
 
@@ -37,6 +42,10 @@ returns g c =
     let first = pump_count offered.new.self.e in
     let out = fetch_count c.pump_e.new.self.e in
     let again = pump_count c.fetch_e.new.self.e in
-    has-passed going_e on_bridge_e (λ s x. (λ h. h, λ h. h)) c.args.gone c.args.at c.requires.1 c.args.held.now c.requires.2 c.args.self.now offered.new.self offered.result offered.ensures
+    has-passed going_e on_bridge_e (λ s x. (λ h. h, λ h. h)) c.args.gone c.args.at c.requires.1 c.args.held.now c.requires.2 c.args.self.now
+    offered.new.self offered.result offered.ensures
     first out again c.pump_e-2.new.self (c.if-not-is_accepted.ensures.0 refl) (ahead-e first out again)
     (λ y x h. c.pump_e-2.ensures.moved _ (c.fetch_e.ensures.moved _ (c.pump_e.ensures.moved _ h)))
+
+pub overflow_sub-at : goal.overflow_sub-at
+overflow_sub-at g c = c.requires.1

@@ -1,19 +1,42 @@
-use Rattle.tl_run.proofs.Names.{subst, bridge_small}
+use Rattle.std.proofs.lemmas.Result.{IfOk-from_err}
+use Rattle.tl_run.proofs.Names.{lit<, subst, bridge_small}
 use Rattle.tl_run.proofs.EndsIn.{far-is}
 use Rattle.tl_run.proofs.Pieces.{has-ended}
 use Rattle.tl_run.proofs.streaming.SyncRun.end.Goals as goal
 
 pub close_each-stops-requires : goal.close_each-stops-requires
-close_each-stops-requires g c = (bridge_small g.row.C g.row.M c.requires.client c.requires.manager, record { client = c.requires.client; manager = c.requires.manager })
+close_each-stops-requires g c = (
+  bridge_small g.row.C g.row.M c.requires.client c.requires.manager,
+  record { client = c.requires.client; manager = c.requires.manager },
+)
 
-pub returns-clause-verdicts : goal.returns-clause-verdicts
-returns-clause-verdicts g c = λ near ends was.
-    let h = c.in_ok-stopped_by.ensures.stopped near ends was in
-    let ended = has-ended g.F.FarSink.Holds near _ _ _ _ _ h _ (c.close_each-stops.ensures h.past h.stands) in
-    c.verdicts_at.ensures g.row.C g.row.M near h.all _ 0 c.requires.client c.requires.manager h.counts ended
+pub go_through-requires : goal.go_through-requires
+go_through-requires g c = (
+  c.requires-raw.1.1.1.0,
+  (lit< tt, (record { client = c.requires.client; manager = c.requires.manager }, c.requires.held)),
+)
 
-pub returns-clause-far : goal.returns-clause-far
-returns-clause-far g c = λ near ends was.
-    let h = c.in_ok-stopped_by.ensures.stopped near ends was in
-    let ended = has-ended g.F.FarSink.Holds near _ _ _ _ _ h _ (c.close_each-stops.ensures h.past h.stands) in
-    subst (λ q. g.F.FarSink.Holds c.go_through.new.far q) (far-is c.requires.client c.requires.manager near _ h.all _ _ 0 ended) h.holds
+pub returns-in_err-stopped_by : goal.returns-in_err-stopped_by
+returns-in_err-stopped_by g c =
+    let r = c.from_residual.result in
+    let e = c.from_residual.ensures.0 in
+    record {
+      same = IfOk-from_err r _ e;
+      verdicts = λ near ends was. IfOk-from_err r _ e;
+      far = λ near ends was. IfOk-from_err r _ e;
+    }
+
+pub returns : goal.returns
+returns g c =
+    let stopped = c.in_ok-stopped_by.ensures in
+    record {
+      same = stopped.same;
+      verdicts = λ near ends was.
+          let h = stopped.stopped near ends was in
+          let ended = has-ended g.F.FarSink.Holds near _ _ _ _ _ h _ (c.close_each-stops.ensures h.past h.stands) in
+          c.verdicts_at.ensures g.row.C g.row.M near h.all _ 0 c.requires.client c.requires.manager h.counts ended;
+      far = λ near ends was.
+          let h = stopped.stopped near ends was in
+          let ended = has-ended g.F.FarSink.Holds near _ _ _ _ _ h _ (c.close_each-stops.ensures h.past h.stands) in
+          subst (λ q. g.F.FarSink.Holds c.go_through.new.far q) (far-is c.requires.client c.requires.manager near _ h.all _ _ 0 ended) h.holds;
+    }

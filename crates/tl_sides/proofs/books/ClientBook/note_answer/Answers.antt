@@ -9,7 +9,8 @@ pub returns : goal.returns
 returns g c = λ es b k same.
     let h = rw (← c.self.view_is) at k in
     let first = c.first-first.ensures ∙ ap (λ n. n == 0) h.lacking in
-    let noted = ap (λ h. begun_with c.first-first.result (Answers h) (marks es)) (sym same) ∙ noted_answer es b (answered es) c.first-first.result refl first in
+    let noted = ap (λ h. begun_with c.first-first.result (Answers h) (marks es)) (sym same) ∙
+    noted_answer es b (answered es) c.first-first.result refl first in
     record {
       sources = subst (λ ms. AreBusy c.note_answered.new.sources ms) noted (c.note_answered.ensures (marks es) h.sources);
       lacking = c.pass.ensures (answered es) b h.lacking same ∙ ap (λ q. left rules_d g.row.C q) (sym (answered_answer es b));

@@ -4,7 +4,11 @@ use Rattle.tl_sides.proofs.Layouts.{client_layout, part_small}
 use Rattle.tl_sides.proofs.client_port.ClientPort.take_b.Goals as goal
 
 pub take-requires : goal.take-requires
-take-requires g c = (part_small (client_layout g.row.C g.row.M g.row.A g.A.Allocator) 1 9223372036854775808 c.requires-raw.1.1.1.0, c.requires-raw.1.1.1.1)
+take-requires g c = (
+  part_small (client_layout g.row.C g.row.M g.row.A g.A.Allocator) 1 9223372036854775808
+      c.requires-raw.1.1.1.0,
+  c.requires-raw.1.1.1.1,
+)
 
 pub returns : goal.returns
 returns g c = rw (← c.self.view_is) (record {

@@ -7,10 +7,16 @@ use Rattle.tl_sides.proofs.Layouts.{client_layout, part_small, beat_small}
 use Rattle.tl_sides.proofs.client_port.ClientPort.take_d.Goals as goal
 
 pub take-requires : goal.take-requires
-take-requires g c = (part_small (client_layout g.row.C g.row.M g.row.A g.A.Allocator) 3 9223372036854775808 c.requires-raw.1.1.1.0, beat_small g.row.C c.requires)
+take-requires g c = (
+  part_small (client_layout g.row.C g.row.M g.row.A g.A.Allocator) 3 9223372036854775808 c.requires-raw.1.1.1.0,
+  beat_small g.row.C c.requires,
+)
 
 pub note_answer-requires : goal.note_answer-requires
-note_answer-requires g c = (part_small (client_layout g.row.C g.row.M g.row.A g.A.Allocator) 5 9223372036854775808 c.requires-raw.1.1.1.0, (c.requires, lawful_head rules_d c.in-Some.beat c.in-Some.ensures.lawful))
+note_answer-requires g c = (
+  part_small (client_layout g.row.C g.row.M g.row.A g.A.Allocator) 5 9223372036854775808 c.requires-raw.1.1.1.0,
+  (c.requires, lawful_head rules_d c.in-Some.beat c.in-Some.ensures.lawful),
+)
 
 pub returns-in-None : goal.returns-in-None
 returns-in-None g c = rw (← c.self.view_is) (record {

@@ -3,7 +3,10 @@ use Rattle.tl_sides.proofs.Layouts.{client_side_layout, part_small, beat_small}
 use Rattle.tl_sides.proofs.client_side.ClientSide.take_d.Goals as goal
 
 pub take_d-requires : goal.take_d-requires
-take_d-requires g c = (part_small (client_side_layout g.row.C g.row.M g.row.A g.A.Allocator) 0 9223372036854775808 c.requires-raw.1.1.1.0, (beat_small g.row.C c.requires.far, c.requires.far))
+take_d-requires g c = (
+  part_small (client_side_layout g.row.C g.row.M g.row.A g.A.Allocator) 0 9223372036854775808 c.requires-raw.1.1.1.0,
+  (beat_small g.row.C c.requires.far, c.requires.far),
+)
 
 pub returns : goal.returns
 returns g c = rw (← c.self.view_is) (side_taken_d c.self.inside _ _ c.take_d.ensures)

@@ -7,10 +7,16 @@ use Rattle.tl_sides.proofs.Layouts.{manager_layout, part_small, beat_small}
 use Rattle.tl_sides.proofs.manager_port.ManagerPort.take_a.Goals as goal
 
 pub take-requires : goal.take-requires
-take-requires g c = (part_small (manager_layout g.row.C g.row.M g.row.A g.A.Allocator) 0 9223372036854775808 c.requires-raw.1.1.1.0, beat_small g.row.M c.requires)
+take-requires g c = (
+  part_small (manager_layout g.row.C g.row.M g.row.A g.A.Allocator) 0 9223372036854775808 c.requires-raw.1.1.1.0,
+  beat_small g.row.M c.requires,
+)
 
 pub note_ask-requires : goal.note_ask-requires
-note_ask-requires g c = (part_small (manager_layout g.row.C g.row.M g.row.A g.A.Allocator) 5 9223372036854775808 c.requires-raw.1.1.1.0, (c.requires, lawful_head rules_a c.in-Some.beat c.in-Some.ensures.lawful))
+note_ask-requires g c = (
+  part_small (manager_layout g.row.C g.row.M g.row.A g.A.Allocator) 5 9223372036854775808 c.requires-raw.1.1.1.0,
+  (c.requires, lawful_head rules_a c.in-Some.beat c.in-Some.ensures.lawful),
+)
 
 pub returns-in-None : goal.returns-in-None
 returns-in-None g c = rw (← c.self.view_is) (record {

@@ -7,13 +7,20 @@ use Rattle.tl_sides.proofs.Layouts.{manager_layout, part_small, beat_small}
 use Rattle.tl_sides.proofs.manager_port.ManagerPort.take_all.Goals as goal
 
 pub as_slice-requires : goal.as_slice-requires
-as_slice-requires g c = (part_small (manager_layout g.row.C g.row.M g.row.A g.A.Allocator) 0 9223372036854775808 c.requires-raw.1.1.1.0, beat_small g.row.M c.requires)
+as_slice-requires g c = (
+  part_small (manager_layout g.row.C g.row.M g.row.A g.A.Allocator) 0 9223372036854775808 c.requires-raw.1.1.1.0,
+  beat_small g.row.M c.requires,
+)
 
 pub note_all-requires : goal.note_all-requires
-note_all-requires g c = record { can = λ k b lt. (c.requires, lawful_head rules_a {w = g.row.M} (get_or c.as_slice.result.now k b) (c.as_slice.ensures.lawful k b lt)) }
+note_all-requires g c = record {
+  can = λ k b lt.
+      (c.requires, lawful_head rules_a {w = g.row.M} (get_or c.as_slice.result.now k b) (c.as_slice.ensures.lawful k b lt));
+}
 
 pub note_all-requires-room-N-Notes : goal.note_all-requires-room-N-Notes
-note_all-requires-room-N-Notes g c κs lives = part_small (manager_layout g.row.C g.row.M g.row.A g.A.Allocator) 5 9223372036854775808 c.requires-raw.1.1.1.0
+note_all-requires-room-N-Notes g c κs lives =
+    part_small (manager_layout g.row.C g.row.M g.row.A g.A.Allocator) 5 9223372036854775808 c.requires-raw.1.1.1.0
 
 pub note_all-requires-room-N-Notes-2 : goal.note_all-requires-room-N-Notes-2
 note_all-requires-room-N-Notes-2 g c κs lives = beat_small g.row.M c.requires
@@ -29,6 +36,7 @@ take_all-requires-3 g c = part_small (manager_layout g.row.C g.row.M g.row.A g.A
 
 pub returns : goal.returns
 returns g c = rw (← c.self.view_is) (rw (c.take_all.ensures, c.take_all-2.ensures, c.take_all-3.ensures) (record {
-  taken = λ x h. manager_takes_all _ x h _ (subst (λ q. KnowsManager c.note_all.new.book (x.history ++ map Ask q)) c.as_slice.ensures.beats (c.note_all.ensures x.history h.book));
+  taken = λ x h. manager_takes_all _ x h _
+      (subst (λ q. KnowsManager c.note_all.new.book (x.history ++ map Ask q)) c.as_slice.ensures.beats (c.note_all.ensures x.history h.book));
   rest = refl;
 }))

@@ -4,7 +4,11 @@ use Rattle.tl_sides.proofs.Layouts.{manager_layout, part_small}
 use Rattle.tl_sides.proofs.manager_port.ManagerPort.take_c.Goals as goal
 
 pub take-requires : goal.take-requires
-take-requires g c = (part_small (manager_layout g.row.C g.row.M g.row.A g.A.Allocator) 2 9223372036854775808 c.requires-raw.1.1.1.0, c.requires-raw.1.1.1.1)
+take-requires g c = (
+  part_small (manager_layout g.row.C g.row.M g.row.A g.A.Allocator) 2 9223372036854775808
+      c.requires-raw.1.1.1.0,
+  c.requires-raw.1.1.1.1,
+)
 
 pub returns : goal.returns
 returns g c = rw (← c.self.view_is) (record {

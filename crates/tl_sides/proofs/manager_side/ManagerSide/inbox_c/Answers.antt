@@ -4,7 +4,11 @@ use Rattle.tl_sides.proofs.SideSteps.{manager_side_of}
 use Rattle.tl_sides.proofs.manager_side.ManagerSide.inbox_c.Goals as goal
 
 pub as_slice-requires : goal.as_slice-requires
-as_slice-requires g c = (inner_small (manager_side_layout g.row.C g.row.M g.row.A g.A.Allocator) 0 2 9223372036854775808 c.requires-raw.1.1.1.0, c.requires-raw.1.1.1.1)
+as_slice-requires g c = (
+  inner_small (manager_side_layout g.row.C g.row.M g.row.A g.A.Allocator) 0 2 9223372036854775808
+      c.requires-raw.1.1.1.0,
+  c.requires-raw.1.1.1.1,
+)
 
 pub returns : goal.returns
 returns g c = rw (← ap (λ z. manager_side_of z) c.self-inside.view_is ∙ c.self.view_is) c.as_slice.ensures.beats

@@ -4,10 +4,15 @@ use Rattle.tl_sides.proofs.SideSteps.{manager_side_of, manager_done, manager_por
 use Rattle.tl_sides.proofs.manager_side.ManagerSide.take_all.Goals as goal
 
 pub take_all-requires : goal.take_all-requires
-take_all-requires g c = (part_small (manager_side_layout g.row.C g.row.M g.row.A g.A.Allocator) 0 9223372036854775808 c.requires-raw.1.1.1.0, c.requires)
+take_all-requires g c = (
+  part_small (manager_side_layout g.row.C g.row.M g.row.A g.A.Allocator) 0 9223372036854775808
+      c.requires-raw.1.1.1.0,
+  c.requires,
+)
 
 pub returns : goal.returns
 returns g c = let said = c.take_all.ensures in rw (← c.self.view_is) (record {
-  taken = λ x h. manager_takes_all c.self.inside x h c.take_all.new.self said.rest (said.taken (manager_done c.self.inside x) (manager_port_stands c.self.inside x h)).book;
+  taken = λ x h. manager_takes_all c.self.inside x h c.take_all.new.self said.rest
+      (said.taken (manager_done c.self.inside x) (manager_port_stands c.self.inside x h)).book;
   rest = ap (λ z. manager_side_of (record c.self.inside { port = z })) said.rest;
 })

@@ -4,7 +4,11 @@ use Rattle.tl_sides.proofs.Layouts.{bridge_layout, inner_small}
 use Rattle.tl_sides.proofs.sync_bridge.SyncBridge.inbox_e.Goals as goal
 
 pub as_slice-requires : goal.as_slice-requires
-as_slice-requires g c = (inner_small (bridge_layout g.row.C g.row.M g.row.A g.A.Allocator) 1 4 9223372036854775808 c.requires-raw.1.1.1.0, c.requires-raw.1.1.1.1)
+as_slice-requires g c = (
+  inner_small (bridge_layout g.row.C g.row.M g.row.A g.A.Allocator) 1 4 9223372036854775808
+      c.requires-raw.1.1.1.0,
+  c.requires-raw.1.1.1.1,
+)
 
 pub returns : goal.returns
 returns g c =

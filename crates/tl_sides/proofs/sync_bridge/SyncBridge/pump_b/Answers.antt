@@ -7,7 +7,10 @@ use Rattle.tl_sides.proofs.Layouts.{bridge_layout, part_small, inner_small}
 use Rattle.tl_sides.proofs.sync_bridge.SyncBridge.pump_b.Goals as goal
 
 pub pump-requires : goal.pump-requires
-pump-requires g c = (inner_small (bridge_layout g.row.C g.row.M g.row.A g.A.Allocator) 1 1 9223372036854775808 c.requires-raw.1.1.1, part_small (bridge_layout g.row.C g.row.M g.row.A g.A.Allocator) 3 9223372036854775808 c.requires-raw.1.1.1)
+pump-requires g c = (
+  inner_small (bridge_layout g.row.C g.row.M g.row.A g.A.Allocator) 1 1 9223372036854775808 c.requires-raw.1.1.1,
+  part_small (bridge_layout g.row.C g.row.M g.row.A g.A.Allocator) 3 9223372036854775808 c.requires-raw.1.1.1,
+)
 
 pub returns : goal.returns
 returns g c =
@@ -15,6 +18,7 @@ returns g c =
     let on = c.pump.ensures in
     rw (← view) (record {
       count = on.count;
-      moved = λ x h. with_b _ x h _ _ (moved_by rules_b _ _ _ _ _ pushed (pumped rules_b masked_b g.row.M _ _ _ c.pump.result on.count on.outbox on.ring on.most) x.b h.b);
+      moved = λ x h. with_b _ x h _ _
+          (moved_by rules_b _ _ _ _ _ pushed (pumped rules_b masked_b g.row.M _ _ _ c.pump.result on.count on.outbox on.ring on.most) x.b h.b);
       most = on.most;
     })

@@ -8,5 +8,6 @@ pub returns : goal.returns
 returns g c = λ s.
     let v = c.self.inside.entries in
     let within : c.args.source < length v.items = omega (arith, c.self.invariant, v.ok.0, c.ranges.source.fits) in
-    mapped_set request_in v.items c.args.source s c.of.result None within ∙ ap (λ t. cond (c.args.source == s) (request_in c.of.result) (entry t s)) c.self.view_is ∙
+    mapped_set request_in v.items c.args.source s c.of.result None within ∙
+    ap (λ t. cond (c.args.source == s) (request_in c.of.result) (entry t s)) c.self.view_is ∙
     ap (λ r. cond (c.args.source == s) r (entry c.args.self.now s)) c.of.ensures

@@ -9,4 +9,5 @@ index-requires g c = omega (arith, c.self.invariant, c.self.inside.busy.ok.0, c.
 pub returns : goal.returns
 returns g c =
     let v = c.self.inside.busy in
-    get_or_read v.items _ _ (omega (arith, c.self.invariant, v.ok.0, c.ranges.source.fits)) c.index.ensures false ∙ ap (λ t. is_busy t c.args.source) c.self.view_is
+    get_or_read v.items _ _ (omega (arith, c.self.invariant, v.ok.0, c.ranges.source.fits)) c.index.ensures false ∙
+    ap (λ t. is_busy t c.args.source) c.self.view_is

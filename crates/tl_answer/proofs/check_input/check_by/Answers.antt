@@ -1,0 +1,32 @@
+use Rattle.tl_answer.proofs.Names.{lit<, true, ap, Beats, verdicts, CanJudge, HasJudged, all_of, spelled, held}
+use Rattle.tl_answer.proofs.Answering.{checks-text, of-both}
+use Rattle.tl_answer.proofs.Headers.{widths_named}
+use Rattle.tl_answer.proofs.Listening.{all-near, are-end, has-all}
+use Rattle.tl_answer.proofs.Whole.{reads_answer}
+use Rattle.tl_answer.proofs.check_input.check_by.Goals as goal
+
+pub read_through-requires : goal.read_through-requires
+read_through-requires g c = (lit< tt, c.requires)
+
+pub end_of-requires : goal.end_of-requires
+end_of-requires g c =
+    let widths = widths_named (held c.args.input.now) c.args.version g.row.C g.row.M c.requires.1 in
+    (lit< tt, (lit< tt, (widths.0, widths.1, c.in-Ok.ensures.ok.listens.can)))
+
+pub returns-in-Ok : goal.returns-in-Ok
+returns-in-Ok g c =
+    let read = c.in-Ok.ensures.ok in
+    let judge = c.read_through.new.listener in
+    let s = c.in-Ok.last in
+    let Has : Beats g.row.C g.row.M → Type 0 = λ beats. HasJudged beats judge in
+    let near = all_of read.gone s in
+    let ends = are-end (CanJudge judge) Has judge.gone read.gone s read.listens in
+    let has = has-all (CanJudge judge) Has judge.gone read.gone s read.listens in
+    reads_answer _ _ true c.read_through.new.input read.text read.took read.end read.few c.end_of.result
+    (of-both _ _ _ (λ made text-is done-is. checks-text c.args.version g.row.C g.row.M read.lines read.text read.told (verdicts near)
+    (ap (λ beats. verdicts beats) (all-near read.lines read.gone s read.rest)) (spelled made) text-is made.all_done done-is)
+    c.end_of.result (c.end_of.ensures.text near ends has) (c.end_of.ensures.done near ends has))
+    c.end_of.ensures.err
+
+pub returns-in-Err : goal.returns-in-Err
+returns-in-Err g c = c.in-Err.ensures.err

@@ -1,0 +1,18 @@
+-- What was written block by block.
+use Rattle.std.proofs.Common.{ℕ, Bool, true, List, ◌++◌, Option, refl}
+use Rattle.std.proofs.KnownBytes.{Appends-trans}
+use Rattle.std.specs.Io.KnownBytes.{Appends}
+use Rattle.tl_answer.specs.Texts.{IsAnswer}
+use Rattle.tl_explain.specs.Explained.{Explains, IsExplanation}
+use Rattle.tl_explain.specs.Inner.Telling.{Continues}
+
+-- more was written behind
+pub goes_on : (held mid now : Option (List ℕ)) → Continues held mid → Continues mid now → Continues held now
+goes_on held mid now before more = (before.0 ++ more.0, Appends-trans held mid now before.0 more.0 before.1 more.1)
+
+-- the answer stands behind all sentences
+pub explained : (text : List ℕ) (held mid now : Option (List ℕ)) (answer : List ℕ) (done : Bool) → IsAnswer text true answer done → Continues held mid
+    → Appends mid now answer → Explains text held now done
+explained text held mid now answer done is told put =
+    let explanation : IsExplanation text (told.0 ++ answer) done = record { sentences = told.0; answer = answer; ends = refl; answered = is } in
+    (told.0 ++ answer, explanation, Appends-trans held mid now told.0 answer told.1 put)

@@ -1,0 +1,5 @@
+use Rattle.tl_explain.specs.Inner.Telling.{Continues}
+use Rattle.tl_explain.proofs.explain.tell_all.Given as goal
+
+abbrev pub invariant-loop-letter : goal.invariant-loop-letter
+invariant-loop-letter g l = Continues (g.W.Write.contents l.fn.writer) (g.W.Write.contents l.writer)

@@ -1,0 +1,76 @@
+//! What goes out while lines are told, block by block.
+ghost use Rattle.std.specs.Prelude.{◌≡◌, OnOk, IfErr};
+ghost use Rattle.tl_answer.specs.declared.fault.TextFault.TheVariants.{Write as WriteFault};
+ghost use Rattle.tl_explain.specs.Inner.Telling.{Continues};
+
+use crate::story::{LETTERS, Story};
+use std::alloc::AllocError;
+use std::io::Write;
+use tl_answer::{TextFault, write_all};
+use tl_lanes::WIDEST;
+use tl_trace::LONGEST_LINE;
+use tl_unreadable::Page;
+
+/// How many bytes are put together before they are written.
+const BLOCK: usize = 65_536;
+
+/// Room for a block, and for what is said of one line more.
+const ROOM: usize = 2 * BLOCK;
+
+/// How many bytes the lines of the far beats have at most that one near beat completes.
+const FAR_ROOM: usize = WIDEST * LONGEST_LINE;
+
+/// Writes a page, and lets go of what stands on it.
+fn write_page<W: Write>(page: &mut Page, writer: &mut W) -> Result<(), TextFault>
+    ensures out { OnOk result (Continues (W.contents writer.old) (W.contents writer.new)) }
+    ensures kind { IfErr result (λ fault. fault ≡ WriteFault) }
+{
+    let written = write_all(writer, &page.text);
+    page.text.clear();
+    written
+}
+
+impl Story {
+    /// Takes the memory that telling needs, so that it takes no more where beats are not drawn.
+    pub fn make_room(&mut self) -> Result<(), AllocError> {
+        if self.drawing.is_wanted {
+            return Ok(());
+        }
+        let page = self.page.text.reserve(ROOM);
+        let far = self.far.reserve(FAR_ROOM);
+        // (a channel stops once)
+        let stops = self.stops.reserve(LETTERS.len());
+        page.and(far).and(stops)
+    }
+
+    /// Whether there is a block of sentences none of which may be taken back.
+    fn has_block(&self) -> bool {
+        self.page.len() >= BLOCK && self.run.count == 0 && !self.drawing.is_wanted
+    }
+
+    /// Writes what is said up to here, where that is a block.
+    #[inline(always)]
+    pub fn write_block<W: Write>(&mut self, writer: &mut W) -> Result<(), TextFault>
+        ensures out { OnOk result (Continues (W.contents writer.old) (W.contents writer.new)) }
+        ensures kind { IfErr result (λ fault. fault ≡ WriteFault) }
+    {
+        if !self.has_block() {
+            return Ok(());
+        }
+        write_page(&mut self.page, writer)
+    }
+
+    /// Writes what was not written yet. Where beats are drawn, nothing is written.
+    pub fn write_rest<W: Write>(&mut self, writer: &mut W) -> Result<(), TextFault>
+        ensures out { OnOk result (Continues (W.contents writer.old) (W.contents writer.new)) }
+        ensures kind { IfErr result (λ fault. fault ≡ WriteFault) }
+    {
+        if self.drawing.is_wanted {
+            return Ok(());
+        }
+        if self.page.lacks_a_piece {
+            return Err(TextFault::Write);
+        }
+        write_page(&mut self.page, writer)
+    }
+}

@@ -1,0 +1,89 @@
+//! What a new bridge is made of: a ring for each channel, whatever it is, and the books of both sides.
+ghost use Rattle.std.specs.Prelude.{◌≡◌, ◌≤◌, ◌<◌, ◌↔◌, ◌⊎◌, [], ℕ, IsOk, IfOk, IfErr};
+ghost use Rattle.circular_buffer.specs.Buffer.{buffer};
+ghost use Rattle.tl_ring.specs.Ends.{IsNewRing};
+ghost use Rattle.tl_ring.specs.declared.pipe.TheConstants.{MAX_RING};
+ghost use Rattle.tl_sides.specs.Books.{KnowsClient, KnowsManager};
+
+use crate::books::{ClientBook, ManagerBook, new_books};
+use std::alloc::Allocator;
+use tl_msg::Channel;
+use tl_ring::{BuildFault, Ring, SendHalf, TakeHalf};
+
+/// A ring as both its ends have it.
+pub(crate) type Halves<K, const V: usize, A> = (SendHalf<K, V, A>, TakeHalf<K, V, A>);
+
+/// A ring of a bridge that is being made: one buffer for one thread, or its two halves for two.
+pub(crate) trait NewRing<A>: Drop {
+    // it is new, and of so many beats
+    ghost IsNew: { (size : ℕ) → Self → Type 0 };
+
+    /// A ring of `size` beats, refused as [`Ring::new`] is.
+    fn new_ring(alloc: A, size: usize) -> Result<Self, BuildFault>
+        ensures new { IfOk result (λ ring. IsNew size ring) }
+        ensures size { IsOk result → (1 ≤ size) × (size ≤ MAX_RING) }
+        ensures ring_size { IfErr result (λ fault.
+            (fault ≡ BuildFault.RingSize) ↔ ((size ≡ 0) ⊎ (MAX_RING < size))) };
+}
+
+impl<K: Channel, const V: usize, A: Allocator> NewRing<A> for Ring<K, V, A> {
+    ghost IsNew = { λ size ring. ring ≡ buffer [] size };
+
+    fn new_ring(alloc: A, size: usize) -> Result<Self, BuildFault> {
+        Ring::new(alloc, size)
+    }
+}
+
+impl<K: Channel, const V: usize, A: Allocator + Copy> NewRing<A> for Halves<K, V, A> {
+    ghost IsNew = { λ size halves. IsNewRing size halves.0 halves.1 };
+
+    fn new_ring(alloc: A, size: usize) -> Result<Self, BuildFault> {
+        tl_ring::new_ring(alloc, size)
+    }
+}
+
+// A ring for each channel, whatever it is, and both books: all that takes memory, so that who calls
+// has one way out. It knows nothing of the rings, so that to let some go where the next one fails
+// costs the checker little.
+pub(crate) fn new_parts<
+    const C: usize,
+    const M: usize,
+    A: Allocator + Copy,
+    RingA: NewRing<A>,
+    RingB: NewRing<A>,
+    RingC: NewRing<A>,
+    RingD: NewRing<A>,
+    RingE: NewRing<A>,
+>(
+    alloc: A,
+    ring: usize,
+) -> Result<
+    (
+        RingA,
+        RingB,
+        RingC,
+        RingD,
+        RingE,
+        ClientBook<C, A>,
+        ManagerBook<M, A>,
+    ),
+    BuildFault,
+>
+    ensures rings { IfOk result (λ parts. RingA.IsNew ring parts.0 × RingB.IsNew ring parts.1 ×
+        RingC.IsNew ring parts.2 × RingD.IsNew ring parts.3 × RingE.IsNew ring parts.4) }
+    ensures client { IfOk result (λ parts. KnowsClient {w = C} parts.5 []) }
+    ensures manager { IfOk result (λ parts. KnowsManager {w = M} parts.6 []) }
+    ensures size { IsOk result → (1 ≤ ring) × (ring ≤ MAX_RING) }
+    ensures ring_size { IfErr result (λ fault.
+        (fault ≡ BuildFault.RingSize) ↔ ((ring ≡ 0) ⊎ (MAX_RING < ring))) }
+{
+    let a = given!(RingA::new_ring(alloc, ring));
+    let b = given!(RingB::new_ring(alloc, ring));
+    let c = given!(RingC::new_ring(alloc, ring));
+    let d = given!(RingD::new_ring(alloc, ring));
+    let e = given!(RingE::new_ring(alloc, ring));
+    let Ok((client, manager)) = new_books(alloc) else {
+        return Err(BuildFault::OutOfMemory);
+    };
+    Ok((a, b, c, d, e, client, manager))
+}
