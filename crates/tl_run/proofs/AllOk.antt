@@ -12,13 +12,15 @@ module _ {E : Type 0} where
   both-ok {X = X} a b all joined f p q = subst (λ r. OnOk r X) (sym joined) (both a b f p q)
 
   -- four, one after another
-  pub four_ok : {P Q R S X : Type 0} (a b c d ab abc all : Result (Unit {0}) E) → ab ≡ result_and a b → abc ≡ result_and ab c → all ≡ result_and abc d →
+  pub four_ok : {P Q R S X : Type 0} (a b c d ab abc all : Result (Unit {0}) E) → ab ≡ result_and a b →
+      abc ≡ result_and ab c → all ≡ result_and abc d →
       (P → Q → R → S → X) → OnOk a P → OnOk b Q → OnOk c R → OnOk d S → OnOk all X
   four_ok a b c d ab abc all i j k f p q r s =
       both-ok abc d all k (λ g. g) (both-ok ab c abc j (λ g. g) (both-ok a b ab i f p q) r) s
 
   -- five
-  pub five_ok : {P Q R S T X : Type 0} (a b c d e ab abc abcd all : Result (Unit {0}) E) → ab ≡ result_and a b → abc ≡ result_and ab c → abcd ≡ result_and abc d → all ≡ result_and abcd e →
+  pub five_ok : {P Q R S T X : Type 0} (a b c d e ab abc abcd all : Result (Unit {0}) E) → ab ≡ result_and a b → abc ≡ result_and ab c →
+      abcd ≡ result_and abc d → all ≡ result_and abcd e →
       (P → Q → R → S → T → X) → OnOk a P → OnOk b Q → OnOk c R → OnOk d S → OnOk e T → OnOk all X
   five_ok a b c d e ab abc abcd all i j k l f p q r s t =
       both-ok abcd e all l (λ g. g) (four_ok a b c d ab abc abcd i j k f p q r s) t
@@ -29,7 +31,8 @@ module _ {E : Type 0} where
   ok-and (Err e) b all joined p q = absurd (cc (p))
 
   -- where each of five is Ok, what is joined is
-  pub five-are-ok : (a b c d e ab abc abcd all : Result (Unit {0}) E) → ab ≡ result_and a b → abc ≡ result_and ab c → abcd ≡ result_and abc d → all ≡ result_and abcd e →
+  pub five-are-ok : (a b c d e ab abc abcd all : Result (Unit {0}) E) → ab ≡ result_and a b → abc ≡ result_and ab c →
+      abcd ≡ result_and abc d → all ≡ result_and abcd e →
       IsOk a → IsOk b → IsOk c → IsOk d → IsOk e → IsOk all
   five-are-ok a b c d e ab abc abcd all i j k l p q r s t =
       ok-and abcd e all l (ok-and abc d abcd k (ok-and ab c abc j (ok-and a b ab i p q) r) s) t

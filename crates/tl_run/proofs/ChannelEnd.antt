@@ -32,7 +32,8 @@ own_fault None f e = cc
 own_fault (Some g) f e = let h : Beat g ≡ f = cc in (g, refl, sym h)
 
 -- lists of which nothing but the first has items
-first-alone : {A : Type 0} (taken inbox ring stage all : List A) → taken ++ inbox ++ ring ++ stage ≡ all → length stage + length ring + length inbox ≡ 0 → taken ≡ all
+first-alone : {A : Type 0} (taken inbox ring stage all : List A) → taken ++ inbox ++ ring ++ stage ≡ all →
+    length stage + length ring + length inbox ≡ 0 → taken ≡ all
 first-alone taken [] [] [] all e none = sym (append-nil (taken ++ [] ++ []) ∙ append-nil (taken ++ []) ∙ append-nil taken) ∙ e
 first-alone taken (b ∷ inbox) ring stage all e none = absurd (omega arith)
 first-alone taken [] (b ∷ ring) stage all e none = absurd (omega arith)
@@ -40,7 +41,8 @@ first-alone taken [] [] (b ∷ stage) all e none = absurd (omega arith)
 
 module _ {H : Type 0} (r : Rules H) {w v : ℕ} where
   -- what was taken and what stands in the inbox is the front of what is due
-  pub inbox-due : (x : World H w v) → Crosses r x → (taken : List (BeatOf H v)) → taken ≡ x.taken → (all : List (BeatOf H v)) → due r w v x.accepted x.homes ≡ all →
+  pub inbox-due : (x : World H w v) → Crosses r x → (taken : List (BeatOf H v)) → taken ≡ x.taken → (all : List (BeatOf H v)) →
+      due r w v x.accepted x.homes ≡ all →
       IsPrefix (taken ++ x.inbox) all
   inbox-due x c taken e all f =
       (x.ring ++ x.stage, ap (λ q. (q ++ x.inbox) ++ (x.ring ++ x.stage)) e ∙ sym (append_assoc (x.taken ++ x.inbox) x.ring x.stage) ∙ c.beats ∙ f)
@@ -53,10 +55,12 @@ module _ {H : Type 0} (r : Rules H) {w v : ℕ} where
   pub handed-accepted : (x : World H w v) → Crosses r x → IsHanded r x.accepted
   handed-accepted x c = record { homes = x.homes; messages = c.messages; rest = c.rest; handed = c.handed }
 
-module _ {H : Type 0} (r : Rules H) {w : ℕ} (bs : List (BeatOf H w)) (n : ℕ) (answer : BeatOf H w → Option SideFault) (accepted : List (BeatOf H w)) where
+module _ {H : Type 0} (r : Rules H) {w : ℕ} (bs : List (BeatOf H w)) (n : ℕ) (answer : BeatOf H w → Option SideFault)
+    (accepted : List (BeatOf H w)) where
   -- a channel that stands still refuses its next beat, if it has one
   pub stop-refuses : (stop : Stop) → Stops r bs n answer accepted (Stopped stop) → (b : BeatOf H w) → slice_get bs n ≡ Some b → answer b ≢ None
-  stop-refuses (Refused fault) (c, at, is) b got = λ none. let same : c ≡ b = cc in let refused : answer b ≡ Some fault = subst (λ q. answer q ≡ Some fault) same is in cc
+  stop-refuses (Refused fault) (c, at, is) b got = λ none. let same : c ≡ b = cc in let refused : answer b ≡ Some fault =
+      subst (λ q. answer q ≡ Some fault) same is in cc
   stop-refuses Done (past, rest) b got = cc
   stop-refuses Cut (past, rest) b got = cc
 
@@ -96,7 +100,8 @@ module _ {H : Type 0} (r : Rules H) {w : ℕ} (bs : List (BeatOf H w)) (n : ℕ)
     stop-verdict (Refused NoRequest) (b, at, is) h e = by-refused (left r w (take n bs)) NoRequest b at is
     stop-verdict (Refused SizeMismatch) (b, at, is) h e = by-refused (left r w (take n bs)) SizeMismatch b at is
 
-module _ {H : Type 0} (r : Rules H) {w v : ℕ} (ww : IsWidth w) (vw : IsWidth v) (bs : List (BeatOf H w)) (n : ℕ) (far : List (BeatOf H v)) (x : World H w v) where
+module _ {H : Type 0} (r : Rules H) {w v : ℕ} (ww : IsWidth w) (vw : IsWidth v) (bs : List (BeatOf H w)) (n : ℕ)
+    (far : List (BeatOf H v)) (x : World H w v) where
   -- what was accepted makes no more far beats due than all beats that can be accepted
   due_most : IsSent r bs n far x → (hs ks : List ℕ) → length (due r w v x.accepted hs) ≤ length (due r w v (accepted_of r bs) ks)
   due_most s hs ks =
@@ -136,7 +141,8 @@ module _ {H : Type 0} (r : Rules H) {w v : ℕ} (ww : IsWidth w) (vw : IsWidth v
   taken-end s c rest = s.taken ∙ all-taken r x c rest
 
   -- a channel that nothing couples to another one, and that stands still, has accepted all that it ever accepts
-  accepted_end : (stop : Stop) → Stops r bs n (stops_alone r x.accepted) x.accepted (Stopped stop) → IsSent r bs n far x → accepted_of r bs ≡ take n bs
+  accepted_end : (stop : Stop) → Stops r bs n (stops_alone r x.accepted) x.accepted (Stopped stop) →
+      IsSent r bs n far x → accepted_of r bs ≡ take n bs
   accepted_end Done stops s = accepted-all r bs n s.lawful (none_past bs n stops.0)
   accepted_end Cut stops s = accepted-all r bs n s.lawful (none_past bs n stops.0)
   accepted_end (Refused fault) (b, there, answer) s =
@@ -161,7 +167,8 @@ module _ {H : Type 0} (r : Rules H) {w v : ℕ} (ww : IsWidth w) (vw : IsWidth v
 
     pub verdict-end : IsSent r bs n far x → Crosses r x → IsHomed r x → under_way x ≡ 0 → stop_verdict stop n (length far) ≡ verdict_alone r v bs
     verdict-end s c homed rest =
-        stop-verdict r bs n (stops_alone r x.accepted) x.accepted (stops_alone r x.accepted) (λ b. refl) (length far) stop stops (handed-accepted r x c) s.accepted ∙
+        stop-verdict r bs n (stops_alone r x.accepted) x.accepted (stops_alone r x.accepted) (λ b. refl) (length far) stop stops
+            (handed-accepted r x c) s.accepted ∙
         ap (λ q. verdict_of n (length far) (left r w q) (option_map_or (λ b. stops_alone r x.accepted b) (slice_get bs n) None)) (sym s.accepted) ∙
         ap (λ q. verdict_at n (length far) q) (s.accepted ∙ sym (accepted_end stop stops s)) ∙
         ap (λ k. verdict_at k (length far) (accepted_of r bs)) (count-end s) ∙

@@ -11,7 +11,8 @@ use Rattle.tl_run.proofs.Counting.{none-more}
 pub use Rattle.tl_sides.proofs.Draining.{answered-all, asked-all}
 
 -- the homes of one beat more
-module _ {H : Type 0} (r : Rules H) {w : ℕ} (xs : List (BeatOf H w)) (homes : List ℕ) (is : homes ≡ map (λ h. r.lane_address h 0) (heads r w xs)) (b : BeatOf H w) where
+module _ {H : Type 0} (r : Rules H) {w : ℕ} (xs : List (BeatOf H w)) (homes : List ℕ)
+    (is : homes ≡ map (λ h. r.lane_address h 0) (heads r w xs)) (b : BeatOf H w) where
   -- the beat opens a message, or it goes on with one
   home-by : (rest : List (BeatOf H w)) (l : ℕ) → left r w xs ≡ l → (l ≡ 0) ↔ (rest ≡ []) →
       with_home r (r.lane_address b.head 0) rest homes ≡ map (λ h. r.lane_address h 0) (heads r w (xs ++ b ∷ []))
@@ -78,7 +79,8 @@ module _ {H : Type 0} (r : Rules H) {w v : ℕ} (bs : List (BeatOf H w)) (n : �
       subst (λ z. IsSent r bs (n + 0) z.taken z) (sym is) (still x s)
 
   -- the beats say their homes themselves, where nobody else does
-  pub homed-offer : (x : World H w v) (o : Offered) (accepted : List (BeatOf H w)) (y : World H w v) {ms : List (Message H)} {rest : List (BeatOf H w)} → Handed r w x.accepted x.homes ms rest →
+  pub homed-offer : (x : World H w v) (o : Offered) (accepted : List (BeatOf H w)) (y : World H w v) {ms : List (Message H)}
+      {rest : List (BeatOf H w)} → Handed r w x.accepted x.homes ms rest →
       IsHomed r x → ((b : BeatOf H w) → home b ≡ 0) → Does r bs n answer home x o accepted y → IsHomed r y
   homed-offer x Accepted accepted y handed homed none (b, next, lawful, one, is) =
       subst (λ z. IsHomed r z) (sym is)
@@ -101,7 +103,8 @@ module _ {H : Type 0} (r : Rules H) {w v : ℕ} (bs : List (BeatOf H w)) (n : �
       (b, subst (λ k. slice_get bs k ≡ Some b) (none-more n) next, refused)
 
 -- what is sent on stays what was accepted
-pub sent-passed : {H : Type 0} (r : Rules H) {w v : ℕ} (bs : List (BeatOf H w)) (n : ℕ) (far : List (BeatOf H v)) (x y : World H w v) → IsSent r bs n far x →
+pub sent-passed : {H : Type 0} (r : Rules H) {w v : ℕ} (bs : List (BeatOf H w)) (n : ℕ) (far : List (BeatOf H v))
+    (x y : World H w v) → IsSent r bs n far x →
     y.accepted ≡ x.accepted → y.closed ≡ x.closed → y.room ≡ x.room → (other : List (BeatOf H v)) → other ≡ y.taken → IsSent r bs n other y
 sent-passed r bs n far x y s accepted closed room other taken = record {
   accepted = accepted ∙ s.accepted;

@@ -53,7 +53,8 @@ module _ {H : Type 0} (r : Rules H) (w v : ℕ) where
     next-small (x ∷ xs) b (more_small _ _ k s) e = subst (λ n. n ≤ 12) (sym (same b.head x.head (unless-true _ _ (first-none _ _ e)))) k
 
     -- and so is the rest after it
-    rest-small : (rest : List (BeatOf H w)) (b : BeatOf H w) → AreSmall rest → r.size b.head ≤ 12 → AreSmall (cond (ends r w rest b) [] (rest ++ b ∷ []))
+    rest-small : (rest : List (BeatOf H w)) (b : BeatOf H w) → AreSmall rest → r.size b.head ≤ 12 →
+        AreSmall (cond (ends r w rest b) [] (rest ++ b ∷ []))
     rest-small rest b s l = both (λ q. AreSmall q) (ends r w rest b) (λ e. none_small) (λ e. small-snoc rest b s l)
 
     -- all beats that are accepted are small
@@ -95,12 +96,15 @@ module _ {H : Type 0} (r : Rules H) (w v : ℕ) where
     due-most seen homes [] s none_small = part-most (slice_index homes 0) seen s
     due-most seen homes (b ∷ bs) s (more_small _ _ l t) =
         let first : List (BeatOf H v) = layout r (message_of r b.head w (slice_index homes 0) (seen ++ b ∷ [])) v in
-        let k : length first ≡ beats_of r b.head v = length-map-range_with_len (beat_at r (message_of r b.head w (slice_index homes 0) (seen ++ b ∷ [])) v) 0 (beats_of r b.head v) in
+        let k : length first ≡ beats_of r b.head v =
+            length-map-range_with_len (beat_at r (message_of r b.head w (slice_index homes 0) (seen ++ b ∷ [])) v) 0 (beats_of r b.head v) in
         let m : beats_of r b.head v ≤ 4096 = (beats-bounds r b.head v vw l).1 in
         let n = length-append first (due_after r w v [] (drop 1 homes) bs) in
         both (λ q. length q ≤ 4096 * (length (b ∷ bs) + 1)) (ends r w seen b)
-        (λ e. let h : length (due_after r w v [] (drop 1 homes) bs) ≤ 4096 * (length bs + 1) = due-most [] (drop 1 homes) bs none_small t in omega arith)
-        (λ e. let h : length (due_after r w v (seen ++ b ∷ []) homes bs) ≤ 4096 * (length bs + 1) = due-most (seen ++ b ∷ []) homes bs (small-snoc seen b s l) t in omega arith)
+        (λ e. let h : length (due_after r w v [] (drop 1 homes) bs) ≤ 4096 * (length bs + 1) =
+            due-most [] (drop 1 homes) bs none_small t in omega arith)
+        (λ e. let h : length (due_after r w v (seen ++ b ∷ []) homes bs) ≤ 4096 * (length bs + 1) =
+            due-most (seen ++ b ∷ []) homes bs (small-snoc seen b s l) t in omega arith)
 
     -- the far beats that the first n accepted beats of a list make due
     pub first-most : HaveSmall r → (homes : List ℕ) (bs xs rest : List (BeatOf H w)) (n : ℕ) → accepted_of r bs ≡ xs ++ rest → length xs ≤ n →
@@ -112,7 +116,8 @@ module _ {H : Type 0} (r : Rules H) (w v : ℕ) where
 
     -- and those that all its accepted beats do
     accepted-most : HaveSmall r → (homes : List ℕ) (bs : List (BeatOf H w)) → length (due r w v (accepted_of r bs) homes) ≤ 4096 * (length bs + 1)
-    accepted-most small homes bs = first-most small homes bs (accepted_of r bs) [] (length bs) (sym (append-nil (accepted_of r bs))) (accepted-length [] bs)
+    accepted-most small homes bs =
+        first-most small homes bs (accepted_of r bs) [] (length bs) (sym (append-nil (accepted_of r bs))) (accepted-length [] bs)
 
 -- ---- the five channels
 

@@ -20,7 +20,8 @@ progress_in n taken p = n + (taken + length p.inbox + length p.ring) + (taken + 
 
 -- how far all five have come, where so many were taken, or these
 abbrev pub progress_by : {C M : ℕ} → (n taken : PerChannel ℕ) → Bridge C M → ℕ
-progress_by n taken s = progress_in n.a taken.a s.a + progress_in n.b taken.b s.b + progress_in n.c taken.c s.c + progress_in n.d taken.d s.d + progress_in n.e taken.e s.e
+progress_by n taken s = progress_in n.a taken.a s.a + progress_in n.b taken.b s.b + progress_in n.c taken.c s.c +
+    progress_in n.d taken.d s.d + progress_in n.e taken.e s.e
 
 abbrev pub progress_here : {C M : ℕ} → PerChannel ℕ → Beats M C → Bridge C M → ℕ
 progress_here n far s = progress_by n (lengths far) s
@@ -39,9 +40,11 @@ pub sums-most : {a b c d e a' b' c' d' e' : ℕ} → a ≤ a' → b ≤ b' → c
 sums-most f g h i j = omega arith
 
 -- what was taken and stands in an inbox is few, where few beats were accepted
-few-stand : {H : Type 0} (r : Rules H) {w v : ℕ} → IsWidth w → IsWidth v → (bs : List (BeatOf H w)) (n : ℕ) (far : List (BeatOf H v)) (p : Pipe H v) (x : World H w v) →
+few-stand : {H : Type 0} (r : Rules H) {w v : ℕ} → IsWidth w → IsWidth v →
+    (bs : List (BeatOf H w)) (n : ℕ) (far : List (BeatOf H v)) (p : Pipe H v) (x : World H w v) →
     piping.StandsFor r p x → IsSent r bs n far x →
-    ((rest : List (BeatOf H w)) → accepted_of r bs ≡ x.accepted ++ rest → length x.accepted ≤ n → length (due r w v x.accepted x.homes) ≤ 4096 * (n + 1)) →
+    ((rest : List (BeatOf H w)) → accepted_of r bs ≡ x.accepted ++ rest → length x.accepted ≤ n →
+        length (due r w v x.accepted x.homes) ≤ 4096 * (n + 1)) →
     n < 2 ^ 41 → length far + length p.inbox < 2 ^ 60
 few-stand r ww vw bs n far p x f s most few =
     let stand = all_stand r ww vw bs n far x f.crosses in
@@ -67,28 +70,33 @@ all-standing-is s x t f a b c d e =
 module _ {C M : ℕ} (near : Beats C M) where
   -- how far a run comes at most
   abbrev pub run_end : ℕ
-  run_end = progress_end rules_a M near.a + progress_end rules_b C near.b + progress_end rules_c M near.c + progress_end rules_d C near.d + progress_end rules_e M near.e
+  run_end = progress_end rules_a M near.a + progress_end rules_b C near.b + progress_end rules_c M near.c +
+      progress_end rules_d C near.d + progress_end rules_e M near.e
 
   -- it has come as far as what has happened says
-  pub progress-is : (n : PerChannel ℕ) (far : Beats M C) (s : Bridge C M) (x : Past C M) → StandsFor s x → IsAt near n far x → progress_here n far s ≡ all_progress n x
+  pub progress-is : (n : PerChannel ℕ) (far : Beats M C) (s : Bridge C M) (x : Past C M) → StandsFor s x → IsAt near n far x →
+      progress_here n far s ≡ all_progress n x
   progress-is n far s x f i =
       same-sums (progress-in-is rules_a near.a n.a far.a s.a x.a f.a i.a_sent) (progress-in-is rules_b near.b n.b far.b s.b x.b f.b i.b_sent)
       (progress-in-is rules_c near.c n.c far.c s.c x.c f.c i.c_sent) (progress-in-is rules_d near.d n.d far.d s.d x.d f.d i.d_sent)
       (progress-in-is rules_e near.e n.e far.e s.e x.e f.e i.e_sent)
 
   -- it comes no further than that
-  pub progress-ends : IsWidth C → IsWidth M → (n : PerChannel ℕ) (far : Beats M C) (s : Bridge C M) (x : Past C M) → StandsFor s x → IsAt near n far x →
+  pub progress-ends : IsWidth C → IsWidth M → (n : PerChannel ℕ) (far : Beats M C) (s : Bridge C M) (x : Past C M) →
+      StandsFor s x → IsAt near n far x →
       progress_here n far s ≤ run_end
   progress-ends cw mw n far s x f i =
       subst (λ k. k ≤ run_end) (sym (progress-is n far s x f i))
-      (sums-most (progress-most rules_a cw mw near.a n.a far.a x.a i.a_sent f.a.crosses) (progress-most rules_b mw cw near.b n.b far.b x.b i.b_sent f.b.crosses)
+      (sums-most (progress-most rules_a cw mw near.a n.a far.a x.a i.a_sent f.a.crosses)
+          (progress-most rules_b mw cw near.b n.b far.b x.b i.b_sent f.b.crosses)
       (progress-most rules_c cw mw near.c n.c far.c x.c i.c_sent f.c.crosses) (progress-most rules_d mw cw near.d n.d far.d x.d i.d_sent f.d.crosses)
       (progress-most rules_e cw mw near.e n.e far.e x.e i.e_sent f.e.crosses))
 
   -- which is few
   pub end-few : IsWidth C → IsWidth M → IsShort near → run_end < 2 ^ 60
   end-few cw mw s =
-      bounded _ _ _ _ _ _ _ _ _ _ s.few_a s.few_b s.few_c s.few_d s.few_e (most-a M mw [] near.a) (most-b C cw [] near.b) (most-c M mw [] near.c) (most-d C cw [] near.d) (most-e M mw [] near.e)
+      bounded _ _ _ _ _ _ _ _ _ _ s.few_a s.few_b s.few_c s.few_d s.few_e (most-a M mw [] near.a) (most-b C cw [] near.b) (most-c M mw [] near.c)
+          (most-d C cw [] near.d) (most-e M mw [] near.e)
     where
       bounded : (f g h i j k l m n o : ℕ) → f ≤ 2 ^ 40 → g ≤ 2 ^ 40 → h ≤ 2 ^ 40 → i ≤ 2 ^ 40 → j ≤ 2 ^ 40 →
           k ≤ 4096 * (f + 1) → l ≤ 4096 * (g + 1) → m ≤ 4096 * (h + 1) → n ≤ 4096 * (i + 1) → o ≤ 4096 * (j + 1) →
@@ -96,25 +104,33 @@ module _ {C M : ℕ} (near : Beats C M) where
       bounded f g h i j k l m n o p q r t u x y z w v = omega arith
 
   -- what stands in the inboxes can be counted
-  pub can-add : IsWidth C → IsWidth M → (n : PerChannel ℕ) (far : Beats M C) (s : Bridge C M) (x : Past C M) → StandsFor s x → IsAt near n far x → HaveRoomToCount n →
+  pub can-add : IsWidth C → IsWidth M → (n : PerChannel ℕ) (far : Beats M C) (s : Bridge C M) (x : Past C M) → StandsFor s x →
+      IsAt near n far x → HaveRoomToCount n →
       CanAdd (lengths far) (lengths (inboxes s))
   can-add cw mw n far s x f i few = record {
-    a = few-stand rules_a cw mw near.a n.a far.a s.a x.a f.a i.a_sent (λ rest e l. first-most rules_a C M mw small-a x.a.homes near.a x.a.accepted rest n.a e l) few.a;
-    b = few-stand rules_b mw cw near.b n.b far.b s.b x.b f.b i.b_sent (λ rest e l. first-most rules_b M C cw small-b x.b.homes near.b x.b.accepted rest n.b e l) few.b;
-    c = few-stand rules_c cw mw near.c n.c far.c s.c x.c f.c i.c_sent (λ rest e l. first-most rules_c C M mw small-c x.c.homes near.c x.c.accepted rest n.c e l) few.c;
-    d = few-stand rules_d mw cw near.d n.d far.d s.d x.d f.d i.d_sent (λ rest e l. first-most rules_d M C cw small-d x.d.homes near.d x.d.accepted rest n.d e l) few.d;
-    e = few-stand rules_e cw mw near.e n.e far.e s.e x.e f.e i.e_sent (λ rest e l. first-most rules_e C M mw small-e x.e.homes near.e x.e.accepted rest n.e e l) few.e;
+    a = few-stand rules_a cw mw near.a n.a far.a s.a x.a f.a i.a_sent
+        (λ rest e l. first-most rules_a C M mw small-a x.a.homes near.a x.a.accepted rest n.a e l) few.a;
+    b = few-stand rules_b mw cw near.b n.b far.b s.b x.b f.b i.b_sent
+        (λ rest e l. first-most rules_b M C cw small-b x.b.homes near.b x.b.accepted rest n.b e l) few.b;
+    c = few-stand rules_c cw mw near.c n.c far.c s.c x.c f.c i.c_sent
+        (λ rest e l. first-most rules_c C M mw small-c x.c.homes near.c x.c.accepted rest n.c e l) few.c;
+    d = few-stand rules_d mw cw near.d n.d far.d s.d x.d f.d i.d_sent
+        (λ rest e l. first-most rules_d M C cw small-d x.d.homes near.d x.d.accepted rest n.d e l) few.d;
+    e = few-stand rules_e cw mw near.e n.e far.e s.e x.e f.e i.e_sent
+        (λ rest e l. first-most rules_e C M mw small-e x.e.homes near.e x.e.accepted rest n.e e l) few.e;
   }
 
   -- ---- a round
 
-  module _ (n : PerChannel ℕ) (far far' : Beats M C) (s t : Bridge C M) (x : Past C M) (o : PerChannel Offered) (f : StandsFor s x) (i : IsAt near n far x)
+  module _ (n : PerChannel ℕ) (far far' : Beats M C) (s t : Bridge C M) (x : Past C M) (o : PerChannel Offered)
+      (f : StandsFor s x) (i : IsAt near n far x)
       (h : HasRound near n far' x t o) where
     -- a round that is not the last one
     pub further : (AreStopped o → all_under_way h.past ≡ 0 → ⊥) → progress_here n far s + 1 ≤ progress_here (counted n o) far' t
     further goes =
         let before : progress_here n far s ≡ all_progress n x = progress-is n far s x f i in
-        let after : progress_here (counted n o) far' t ≡ all_progress (counted n o) h.past = progress-is (counted n o) far' t h.past h.stands h.is_at in
+        let after : progress_here (counted n o) far' t ≡ all_progress (counted n o) h.past =
+            progress-is (counted n o) far' t h.past h.stands h.is_at in
         let most : all_progress n x + 1 ≤ all_progress (counted n o) h.past = ⊎_elim (λ l. l) (λ z. absurd (goes z.0 z.1)) h.goes in
         subst (λ k. k + 1 ≤ progress_here (counted n o) far' t) (sym before) (subst (λ k. all_progress n x + 1 ≤ k) (sym after) most)
 
@@ -150,7 +166,8 @@ module _ {C M : ℕ} (near : Beats C M) where
   }
 
   -- a run stands at its beginning
-  pub begins : (n : PerChannel ℕ) (far : Beats M C) (room : ℕ) (x : Past C M) → n ≡ record { a = 0; b = 0; c = 0; d = 0; e = 0 } → far ≡ no_beats → 1 ≤ room →
+  pub begins : (n : PerChannel ℕ) (far : Beats M C) (room : ℕ) (x : Past C M) →
+      n ≡ record { a = 0; b = 0; c = 0; d = 0; e = 0 } → far ≡ no_beats → 1 ≤ room →
       IsAt near n far (untouched room x)
   begins n far room x none empty l =
       let here : IsAt near (record { a = 0; b = 0; c = 0; d = 0; e = 0 }) no_beats (untouched room x) = record {
@@ -165,9 +182,11 @@ module _ {C M : ℕ} (near : Beats C M) where
         c_homed = refl;
         e_homed = refl;
       } in
-      subst (λ k. IsAt near k far (untouched room x)) (sym none) (subst (λ k. IsAt near (record { a = 0; b = 0; c = 0; d = 0; e = 0 }) k (untouched room x)) (sym empty) here)
+      subst (λ k. IsAt near k far (untouched room x)) (sym none)
+          (subst (λ k. IsAt near (record { a = 0; b = 0; c = 0; d = 0; e = 0 }) k (untouched room x)) (sym empty) here)
 
   -- it is under way at a new bridge
   pub starts : (n : PerChannel ℕ) (far : Beats M C) (s : Bridge C M) → n ≡ record { a = 0; b = 0; c = 0; d = 0; e = 0 } → far ≡ no_beats → IsNew s →
       IsUnderWay near n far s
-  starts n far s none empty (room, some, f) = record { past = nothing_yet room; stands = f; is_at = begins n far room (nothing_yet room) none empty some }
+  starts n far s none empty (room, some, f) =
+      record { past = nothing_yet room; stands = f; is_at = begins n far room (nothing_yet room) none empty some }

@@ -10,19 +10,22 @@ pub each-zero : (p q r s t : ℕ) → p + q + r + s + t ≡ 0 → (p ≡ 0) × (
 each-zero p q r s t e = (omega arith, omega arith, omega arith, omega arith, omega arith)
 
 -- the rounds by what was accepted and what was taken
-sum-rounds : (rounds p q r s t a b c d e f g h i j : ℕ) → rounds ≤ p + q + r + s + t + 1 → p ≡ a + 2 * f → q ≡ b + 2 * g → r ≡ c + 2 * h → s ≡ d + 2 * i → t ≡ e + 2 * j →
+sum-rounds : (rounds p q r s t a b c d e f g h i j : ℕ) → rounds ≤ p + q + r + s + t + 1 → p ≡ a + 2 * f → q ≡ b + 2 * g → r ≡ c + 2 * h →
+    s ≡ d + 2 * i → t ≡ e + 2 * j →
     rounds ≤ a + b + c + d + e + 2 * (f + g + h + i + j) + 1
 sum-rounds rounds p q r s t a b c d e f g h i j few k l m n o = omega arith
 
 -- five items, one after the other
-pub five-same : {A : Type 0} {p q r s t p' q' r' s' t' : A} → p ≡ p' → q ≡ q' → r ≡ r' → s ≡ s' → t ≡ t' → p ∷ q ∷ r ∷ s ∷ t ∷ [] ≡ p' ∷ q' ∷ r' ∷ s' ∷ t' ∷ []
+pub five-same : {A : Type 0} {p q r s t p' q' r' s' t' : A} → p ≡ p' → q ≡ q' → r ≡ r' → s ≡ s' → t ≡ t' →
+    p ∷ q ∷ r ∷ s ∷ t ∷ [] ≡ p' ∷ q' ∷ r' ∷ s' ∷ t' ∷ []
 five-same f g h i j = rw (f, g, h, i, j) refl
 
 -- a verdict, by the length of a list in place of a count
 pub verdict-is : (stop : Stop) (near : ℕ) {len far : ℕ} {v : Verdict} → len ≡ far → v ≡ stop_verdict stop near len → v ≡ stop_verdict stop near far
 verdict-is stop near e f = f ∙ ap (λ k. stop_verdict stop near k) e
 
-module _ {C M : ℕ} (cw : IsWidth C) (mw : IsWidth M) (near : Beats C M) (n : PerChannel ℕ) (far : Beats M C) (s : Bridge C M) (stops : PerChannel Stop) (rounds : ℕ) (h : HasEnded near n far s stops rounds) where
+module _ {C M : ℕ} (cw : IsWidth C) (mw : IsWidth M) (near : Beats C M) (n : PerChannel ℕ) (far : Beats M C) (s : Bridge C M)
+    (stops : PerChannel Stop) (rounds : ℕ) (h : HasEnded near n far s stops rounds) where
   -- nothing is under way on any channel
   rests : (under_way h.past.a ≡ 0) × (under_way h.past.b ≡ 0) × (under_way h.past.c ≡ 0) × (under_way h.past.d ≡ 0) × (under_way h.past.e ≡ 0)
   rests = each-zero (under_way h.past.a) (under_way h.past.b) (under_way h.past.c) (under_way h.past.d) (under_way h.past.e) h.at_rest
@@ -43,9 +46,11 @@ module _ {C M : ℕ} (cw : IsWidth C) (mw : IsWidth M) (near : Beats C M) (n : P
   e-rests = rests.4
 
   -- A and D have settled
-  pub has-settled : IsSettledEnd cw mw near.a near.d n.a n.d s h.past h.stands h.is_at.run h.is_at.a_homed far.a far.d h.is_at.a_sent h.is_at.d_sent stops.a stops.d
+  pub has-settled : IsSettledEnd cw mw near.a near.d n.a n.d s h.past h.stands h.is_at.run h.is_at.a_homed far.a far.d h.is_at.a_sent
+      h.is_at.d_sent stops.a stops.d
       h.all_stop.stop_a h.all_stop.stop_d a-rests d-rests
-  has-settled = run-end cw mw near.a near.d n.a n.d s h.past h.stands h.is_at.run h.is_at.a_homed far.a far.d h.is_at.a_sent h.is_at.d_sent stops.a stops.d
+  has-settled = run-end cw mw near.a near.d n.a n.d s h.past h.stands h.is_at.run h.is_at.a_homed far.a far.d h.is_at.a_sent
+      h.is_at.d_sent stops.a stops.d
       h.all_stop.stop_a h.all_stop.stop_d a-rests d-rests
 
   -- what was taken is what the script settles to
@@ -74,13 +79,17 @@ module _ {C M : ℕ} (cw : IsWidth C) (mw : IsWidth M) (near : Beats C M) (n : P
   -- there were few rounds
   pub rounds-few : rounds ≤ near_count near + 2 * far_count near + 1
   rounds-few =
-      sum-rounds rounds (progress n.a h.past.a) (progress n.b h.past.b) (progress n.c h.past.c) (progress n.d h.past.d) (progress n.e h.past.e) _ _ _ _ _
-      (length (far_beats near).a) (length (far_beats near).b) (length (far_beats near).c) (length (far_beats near).d) (length (far_beats near).e) h.few_rounds
-      (progress-end rules_a cw mw near.a n.a far.a h.past.a h.is_at.a_sent a-rests ∙ ap (λ q. n.a + 2 * length q) has-settled.a_far ∙ ap (λ k. k + 2 * length (far_beats near).a) has-settled.a_count)
+      sum-rounds rounds (progress n.a h.past.a) (progress n.b h.past.b) (progress n.c h.past.c) (progress n.d h.past.d)
+          (progress n.e h.past.e) _ _ _ _ _
+      (length (far_beats near).a) (length (far_beats near).b) (length (far_beats near).c) (length (far_beats near).d)
+          (length (far_beats near).e) h.few_rounds
+      (progress-end rules_a cw mw near.a n.a far.a h.past.a h.is_at.a_sent a-rests ∙ ap (λ q. n.a + 2 * length q) has-settled.a_far ∙
+          ap (λ k. k + 2 * length (far_beats near).a) has-settled.a_count)
       (progress-end rules_b mw cw near.b n.b far.b h.past.b h.is_at.b_sent b-rests ∙ ap (λ q. n.b + 2 * length q) b-far ∙
       ap (λ k. k + 2 * length (far_beats near).b) (count-end rules_b mw cw near.b n.b far.b h.past.b stops.b h.all_stop.stop_b h.is_at.b_sent))
       (progress-end rules_c cw mw near.c n.c far.c h.past.c h.is_at.c_sent c-rests ∙ ap (λ q. n.c + 2 * length q) c-far ∙
       ap (λ k. k + 2 * length (far_beats near).c) (count-end rules_c cw mw near.c n.c far.c h.past.c stops.c h.all_stop.stop_c h.is_at.c_sent))
-      (progress-end rules_d mw cw near.d n.d far.d h.past.d h.is_at.d_sent d-rests ∙ ap (λ q. n.d + 2 * length q) has-settled.d_far ∙ ap (λ k. k + 2 * length (far_beats near).d) has-settled.d_count)
+      (progress-end rules_d mw cw near.d n.d far.d h.past.d h.is_at.d_sent d-rests ∙ ap (λ q. n.d + 2 * length q) has-settled.d_far ∙
+          ap (λ k. k + 2 * length (far_beats near).d) has-settled.d_count)
       (progress-end rules_e cw mw near.e n.e far.e h.past.e h.is_at.e_sent e-rests ∙ ap (λ q. n.e + 2 * length q) e-far ∙
       ap (λ k. k + 2 * length (far_beats near).e) (count-end rules_e cw mw near.e n.e far.e h.past.e stops.e h.all_stop.stop_e h.is_at.e_sent))

@@ -18,7 +18,8 @@ use Rattle.tl_run.proofs.RoundMoves.{client-offers, manager-offers}
 
 -- where beats went into a ring alone, none came out and none more went in
 pub none-again : {H : Type 0} {w v : ℕ} (k : ℕ) (x : World H w v) → pushed k x ≡ passed_on k 0 0 x
-none-again k x = sym (ap (λ l. record (pushed k x) { ring = l; inbox = x.inbox ++ [] }) (append-nil (pushed k x).ring) ∙ ap (λ l. record (pushed k x) { inbox = l }) (append-nil x.inbox))
+none-again k x = sym (ap (λ l. record (pushed k x) { ring = l; inbox = x.inbox ++ [] }) (append-nil (pushed k x).ring) ∙
+    ap (λ l. record (pushed k x) { inbox = l }) (append-nil x.inbox))
 
 -- at most one beat of a channel is accepted at once
 pub one-step : (o : Offered) → steps o ≢ 0 → steps o ≡ 1
@@ -40,7 +41,8 @@ not-past held n within past = omega (arith, within, past)
 module _ {H : Type 0} (r : Rules H) {w v : ℕ} (answer : BeatOf H w → Option SideFault) (home : BeatOf H w → ℕ) (x : World H w v) where
   module _ (gone at : ℕ) (held near : List (BeatOf H w)) (part : IsPart gone held near) (from : gone ≤ at) (within : at - gone < length held) where
     -- what becomes of the next beat that is held becomes of the next one of all
-    does-part : (o : Offered) (accepted : List (BeatOf H w)) (y : World H w v) → Does r held (at - gone) answer home x o accepted y → Does r near at answer home x o accepted y
+    does-part : (o : Offered) (accepted : List (BeatOf H w)) (y : World H w v) → Does r held (at - gone) answer home x o accepted y →
+        Does r near at answer home x o accepted y
     does-part Accepted accepted y (b, next, ok, one, made) = (b, part-get gone at held near part from b next, ok, one, made)
     does-part NotReady accepted y (b, next, why, none, same) = (b, part-get gone at held near part from b next, why, none, same)
     does-part (Stopped (Refused fault)) accepted y (b, next, is, none, same) = (b, part-get gone at held near part from b next, is, none, same)
@@ -48,11 +50,13 @@ module _ {H : Type 0} (r : Rules H) {w v : ℕ} (answer : BeatOf H w → Option 
     does-part (Stopped Cut) accepted y (past, rest, none, same) = absurd (not-past held (at - gone) within (none_past held (at - gone) past))
 
     -- where none was accepted, the channel rests
-    rests-part : (o : Offered) (accepted : List (BeatOf H w)) (y : World H w v) → steps o ≡ 0 → Does r held (at - gone) answer home x o accepted y → RestsIn near at answer x (refused_by o)
+    rests-part : (o : Offered) (accepted : List (BeatOf H w)) (y : World H w v) → steps o ≡ 0 → Does r held (at - gone) answer home x o accepted y →
+        RestsIn near at answer x (refused_by o)
     rests-part Accepted accepted y none does = absurd (omega (arith, none))
     rests-part NotReady accepted y none (b, next, why, no_beat, same) = inr (b, part-get gone at held near part from b next, why)
     rests-part (Stopped (Refused fault)) accepted y none (b, next, is, no_beat, same) = (b, part-get gone at held near part from b next, is)
-    rests-part (Stopped Done) accepted y none (past, rest, no_beat, same) = absurd (not-past held (at - gone) within (none_past held (at - gone) past))
+    rests-part (Stopped Done) accepted y none (past, rest, no_beat, same) =
+        absurd (not-past held (at - gone) within (none_past held (at - gone) past))
     rests-part (Stopped Cut) accepted y none (past, rest, no_beat, same) = absurd (not-past held (at - gone) within (none_past held (at - gone) past))
 
   -- and nothing changes
@@ -64,7 +68,8 @@ module _ {H : Type 0} (r : Rules H) {w v : ℕ} (answer : BeatOf H w → Option 
   unchanged held n within (Stopped Done) accepted y none (past, rest, no_beat, same) = absurd (not-past held n within (none_past held n past))
   unchanged held n within (Stopped Cut) accepted y none (past, rest, no_beat, same) = absurd (not-past held n within (none_past held n past))
 
-module _ {S P H : Type 0} {w v : ℕ} (q : Offering S P H w v) (held : List (BeatOf H w)) (gone at : ℕ) (from : gone ≤ at) (within : at - gone < length held) (s t : S) (o : Offered)
+module _ {S P H : Type 0} {w v : ℕ} (q : Offering S P H w v) (held : List (BeatOf H w)) (gone at : ℕ) (from : gone ≤ at)
+    (within : at - gone < length held) (s t : S) (o : Offered)
     (none : steps o ≡ 0) (offers : OffersNext q held (at - gone) s o t) where
   -- a side that accepted no beat stands for what it stood for
   pub stays-next : (x : P) → q.Stands s x → q.Stands t x
@@ -75,25 +80,31 @@ module _ {S P H : Type 0} {w v : ℕ} (q : Offering S P H w v) (held : List (Bea
       (subst (λ y. q.Stands t (q.put y (q.note [] x))) same.1 (subst (λ l. q.Stands t (q.put d.1 (q.note l x))) same.0 d.2)))
 
   -- and the channel rests
-  pub rests-next : (near : List (BeatOf H w)) → IsPart gone held near → (x : P) → q.Stands s x → RestsIn near at (q.answer x) (q.crossing x) (refused_by o)
+  pub rests-next : (near : List (BeatOf H w)) → IsPart gone held near → (x : P) → q.Stands s x →
+      RestsIn near at (q.answer x) (q.crossing x) (refused_by o)
   rests-next near part x h =
       let d = offers.does x h in
       rests-part q.rules (q.answer x) (q.home x) (q.crossing x) gone at held near part from within o d.0 d.1 none d.3
 
 -- ---- a beat was offered, and beats moved on
 
-module _ {H : Type 0} (r : Rules H) {w v : ℕ} (bs : List (BeatOf H w)) (n : ℕ) (answer : BeatOf H w → Option SideFault) (home : BeatOf H w → ℕ) (x y : World H w v)
+module _ {H : Type 0} (r : Rules H) {w v : ℕ} (bs : List (BeatOf H w)) (n : ℕ) (answer : BeatOf H w → Option SideFault)
+    (home : BeatOf H w → ℕ) (x y : World H w v)
     (o : Offered) (accepted : List (BeatOf H w)) (does : Does r bs n answer home x o accepted y) where
   -- the first beats of the list were accepted
-  sent-ahead : (i j k : ℕ) (far : List (BeatOf H v)) → IsSent r bs n far x → ((b : BeatOf H w) → answer b ≡ None → fault_after r x.accepted b ≡ None) →
+  sent-ahead : (i j k : ℕ) (far : List (BeatOf H v)) → IsSent r bs n far x →
+      ((b : BeatOf H w) → answer b ≡ None → fault_after r x.accepted b ≡ None) →
       IsSent r bs (n + steps o) far (passed_on i j k y)
   sent-ahead i j k far s own =
       let before : IsSent r bs n x.taken x = sent-passed r bs n far x x s refl refl refl x.taken refl in
       let after : IsSent r bs (n + steps o) y.taken y = sent-offer r bs n answer home x o accepted y before own does in
-      sent-passed r bs (n + steps o) y.taken y (passed_on i j k y) after refl refl refl far (s.taken ∙ sym (does-taken r bs n answer home x y o accepted does))
+      sent-passed r bs (n + steps o) y.taken y (passed_on i j k y) after refl refl refl far
+          (s.taken ∙ sym (does-taken r bs n answer home x y o accepted does))
 
-module _ {C M : ℕ} (i' j k : ℕ) (near : Beats C M) (n : PerChannel ℕ) (far : Beats M C) (x : Past C M) (i : IsAt near n far x) (s : Bridge C M) (stands : StandsFor s x) (o : Offered) where
-  pub ahead-a : (accepted : List (BeatOf HeadA C)) (y : World HeadA C M) → Does rules_a near.a n.a (client_answer x.client) (λ _. 0) x.a o accepted y →
+module _ {C M : ℕ} (i' j k : ℕ) (near : Beats C M) (n : PerChannel ℕ) (far : Beats M C) (x : Past C M) (i : IsAt near n far x) (s : Bridge C M)
+    (stands : StandsFor s x) (o : Offered) where
+  pub ahead-a : (accepted : List (BeatOf HeadA C)) (y : World HeadA C M) →
+      Does rules_a near.a n.a (client_answer x.client) (λ _. 0) x.a o accepted y →
       IsAt near (record n { a = n.a + steps o }) far (record x { client = x.client ++ map Ask accepted; a = passed_on i' j k y })
   ahead-a accepted y does = record {
     run = round n.a n.d (n.a + steps o) n.d x.client (x.client ++ map Ask accepted) x.manager x.manager i.run
@@ -110,7 +121,8 @@ module _ {C M : ℕ} (i' j k : ℕ) (near : Beats C M) (n : PerChannel ℕ) (far
     e_homed = i.e_homed;
   }
 
-  pub ahead-b : (accepted : List (BeatOf HeadB M)) (y : World HeadB M C) → Does rules_b near.b n.b (stops_alone rules_b x.b.accepted) (λ _. 0) x.b o accepted y →
+  pub ahead-b : (accepted : List (BeatOf HeadB M)) (y : World HeadB M C) →
+      Does rules_b near.b n.b (stops_alone rules_b x.b.accepted) (λ _. 0) x.b o accepted y →
       IsAt near (record n { b = n.b + steps o }) far (record x { b = passed_on i' j k y })
   ahead-b accepted y does = record {
     run = i.run;
@@ -121,12 +133,14 @@ module _ {C M : ℕ} (i' j k : ℕ) (near : Beats C M) (n : PerChannel ℕ) (far
     d_sent = i.d_sent;
     e_sent = i.e_sent;
     a_homed = i.a_homed;
-    b_homed = homed-offer rules_b near.b n.b (stops_alone rules_b x.b.accepted) (λ _. 0) x.b o accepted y stands.b.crosses.handed i.b_homed (λ b. refl) does;
+    b_homed = homed-offer rules_b near.b n.b (stops_alone rules_b x.b.accepted) (λ _. 0) x.b o accepted y
+        stands.b.crosses.handed i.b_homed (λ b. refl) does;
     c_homed = i.c_homed;
     e_homed = i.e_homed;
   }
 
-  pub ahead-c : (accepted : List (BeatOf HeadC C)) (y : World HeadC C M) → Does rules_c near.c n.c (stops_alone rules_c x.c.accepted) (λ _. 0) x.c o accepted y →
+  pub ahead-c : (accepted : List (BeatOf HeadC C)) (y : World HeadC C M) →
+      Does rules_c near.c n.c (stops_alone rules_c x.c.accepted) (λ _. 0) x.c o accepted y →
       IsAt near (record n { c = n.c + steps o }) far (record x { c = passed_on i' j k y })
   ahead-c accepted y does = record {
     run = i.run;
@@ -138,11 +152,13 @@ module _ {C M : ℕ} (i' j k : ℕ) (near : Beats C M) (n : PerChannel ℕ) (far
     e_sent = i.e_sent;
     a_homed = i.a_homed;
     b_homed = i.b_homed;
-    c_homed = homed-offer rules_c near.c n.c (stops_alone rules_c x.c.accepted) (λ _. 0) x.c o accepted y stands.c.crosses.handed i.c_homed (λ b. refl) does;
+    c_homed = homed-offer rules_c near.c n.c (stops_alone rules_c x.c.accepted) (λ _. 0) x.c o accepted y
+        stands.c.crosses.handed i.c_homed (λ b. refl) does;
     e_homed = i.e_homed;
   }
 
-  pub ahead-d : (accepted : List (BeatOf HeadD M)) (y : World HeadD M C) → Does rules_d near.d n.d (manager_answer x.manager) (λ b. manager_home x.manager b.head) x.d o accepted y →
+  pub ahead-d : (accepted : List (BeatOf HeadD M)) (y : World HeadD M C) →
+      Does rules_d near.d n.d (manager_answer x.manager) (λ b. manager_home x.manager b.head) x.d o accepted y →
       IsAt near (record n { d = n.d + steps o }) far (record x { manager = x.manager ++ map Answer accepted; d = passed_on i' j k y })
   ahead-d accepted y does = record {
     run = round n.a n.d n.a (n.d + steps o) x.client x.client x.manager (x.manager ++ map Answer accepted) i.run client_rests
@@ -159,7 +175,8 @@ module _ {C M : ℕ} (i' j k : ℕ) (near : Beats C M) (n : PerChannel ℕ) (far
     e_homed = i.e_homed;
   }
 
-  pub ahead-e : (accepted : List (BeatOf HeadE C)) (y : World HeadE C M) → Does rules_e near.e n.e (stops_alone rules_e x.e.accepted) (λ _. 0) x.e o accepted y →
+  pub ahead-e : (accepted : List (BeatOf HeadE C)) (y : World HeadE C M) →
+      Does rules_e near.e n.e (stops_alone rules_e x.e.accepted) (λ _. 0) x.e o accepted y →
       IsAt near (record n { e = n.e + steps o }) far (record x { e = passed_on i' j k y })
   ahead-e accepted y does = record {
     run = i.run;
@@ -172,7 +189,8 @@ module _ {C M : ℕ} (i' j k : ℕ) (near : Beats C M) (n : PerChannel ℕ) (far
     a_homed = i.a_homed;
     b_homed = i.b_homed;
     c_homed = i.c_homed;
-    e_homed = homed-offer rules_e near.e n.e (stops_alone rules_e x.e.accepted) (λ _. 0) x.e o accepted y stands.e.crosses.handed i.e_homed (λ b. refl) does;
+    e_homed = homed-offer rules_e near.e n.e (stops_alone rules_e x.e.accepted) (λ _. 0) x.e o accepted y
+        stands.e.crosses.handed i.e_homed (λ b. refl) does;
   }
 
 -- ---- a beat that is held is offered, and its channel moves on
@@ -180,7 +198,8 @@ module _ {C M : ℕ} (i' j k : ℕ) (near : Beats C M) (n : PerChannel ℕ) (far
 -- on a channel of a bridge in one thread
 module _ {C M : ℕ} {H : Type 0} {w v : ℕ} (k : Going C M (BeatOf H w)) (q : Offering (Bridge C M) (Past C M) H w v)
     (on : (s : Bridge C M) (x : Past C M) → (StandsFor s x → q.Stands s x) × (q.Stands s x → StandsFor s x))
-    (gone at : ℕ) (from : gone ≤ at) (held : List (BeatOf H w)) (within : at - gone < length held) (s t : Bridge C M) (o : Offered) (offers : OffersNext q held (at - gone) s o t) where
+    (gone at : ℕ) (from : gone ≤ at) (held : List (BeatOf H w)) (within : at - gone < length held) (s t : Bridge C M) (o : Offered)
+        (offers : OffersNext q held (at - gone) s o t) where
   -- no beat was accepted
   pub has-stayed : steps o ≡ 0 → StepsOn (Passes k) Stays (RestsAt q) gone held at s o t
   has-stayed none =
@@ -192,10 +211,13 @@ module _ {C M : ℕ} {H : Type 0} {w v : ℕ} (k : Going C M (BeatOf H w)) (q : 
       }
 
   -- or one was, and beats moved on
-  pub has-passed : (i j l : ℕ) (u : Bridge C M) → steps o ≢ 0 → ((near : Beats C M) (n : PerChannel ℕ) (far : Beats M C) (x : Past C M) → IsAt near n far x → (s : Bridge C M) → StandsFor s x →
-      (o : Offered) (accepted : List (BeatOf H w)) (y : World H w v) → Does q.rules (k.list near) (k.count n) (q.answer x) (q.home x) (q.crossing x) o accepted y →
+  pub has-passed : (i j l : ℕ) (u : Bridge C M) → steps o ≢ 0 →
+      ((near : Beats C M) (n : PerChannel ℕ) (far : Beats M C) (x : Past C M) → IsAt near n far x → (s : Bridge C M) → StandsFor s x →
+      (o : Offered) (accepted : List (BeatOf H w)) (y : World H w v) →
+          Does q.rules (k.list near) (k.count n) (q.answer x) (q.home x) (q.crossing x) o accepted y →
       IsAt near (k.set (k.count n + steps o) n) far (q.put (passed_on i j l y) (q.note accepted x))) →
-      ((y : World H w v) (x : Past C M) → StandsFor t (q.put y x) → StandsFor u (q.put (passed_on i j l y) x)) → StepsOn (Passes k) Stays (RestsAt q) gone held at s o u
+      ((y : World H w v) (x : Past C M) → StandsFor t (q.put y x) → StandsFor u (q.put (passed_on i j l y) x)) →
+          StepsOn (Passes k) Stays (RestsAt q) gone held at s o u
   has-passed i j l u some ahead passed = record {
     passes = λ x stands.
         let h = offers.does x ((on s x).0 stands) in

@@ -24,10 +24,12 @@ staged_or_closed [] false unready = absurd (unready (refl, refl))
 staged_or_closed (b ∷ bs) false unready = inl (λ e. cc)
 
 -- a pipe that is not ready has beats in its stage, or is closed
-pub not_ready : {H : Type 0} (r : Rules H) {w v : ℕ} (p : Pipe H v) (x : World H w v) → StandsFor r p x → (IsReady p → ⊥) → (x.stage ≢ []) ⊎ (x.closed ≡ true)
+pub not_ready : {H : Type 0} (r : Rules H) {w v : ℕ} (p : Pipe H v) (x : World H w v) → StandsFor r p x → (IsReady p → ⊥) →
+    (x.stage ≢ []) ⊎ (x.closed ≡ true)
 not_ready r p x h unready = staged_or_closed x.stage x.closed (λ e. unready (h.stage ∙ e.0, h.closed ∙ e.1))
 
-module _ {H : Type 0} (r : Rules H) {w v : ℕ} (bs : List (BeatOf H w)) (n : ℕ) (answer : BeatOf H w → Option SideFault) (home : BeatOf H w → ℕ) (x y : World H w v) where
+module _ {H : Type 0} (r : Rules H) {w v : ℕ} (bs : List (BeatOf H w)) (n : ℕ) (answer : BeatOf H w → Option SideFault)
+    (home : BeatOf H w → ℕ) (x y : World H w v) where
   -- what is taken is not an offer's doing
   pub does-taken : (o : Offered) (accepted : List (BeatOf H w)) → Does r bs n answer home x o accepted y → y.taken ≡ x.taken
   does-taken Accepted accepted (b, at, ok, one, made) = ap (λ z. z.taken) made

@@ -25,7 +25,8 @@ use Rattle.tl_run.proofs.RunRound.{takes-round}
 
 -- ---- where a run begins
 
-pub begun : {F : Type 0} {C M : ℕ} (Holds : F → Beats M C → Type 0) (near : Beats C M) (far : F) (run : SyncRun C M) → Holds far no_beats → HasBegun near run → HasRun Holds near far run
+pub begun : {F : Type 0} {C M : ℕ} (Holds : F → Beats M C → Type 0) (near : Beats C M) (far : F) (run : SyncRun C M) → Holds far no_beats →
+    HasBegun near run → HasRun Holds near far run
 begun Holds near far run holds begins = record { all = no_beats; holds = holds; counts = begins.0; under_way = begins.1 }
 
 pub new-within : {C M : ℕ} (held : Script C M) → HasShortLists held → AreBetween none_counted (record { a = 0; b = 0; c = 0; d = 0; e = 0 }) held
@@ -42,7 +43,8 @@ new-within held short = record {
 -- how many beats of all channels have gone or are held
 abbrev pub all_ends : {C M : ℕ} → Counts → Script C M → ℕ
 all_ends gone held =
-    (gone.a + length held.a.items) + (gone.b + length held.b.items) + (gone.c + length held.c.items) + (gone.d + length held.d.items) + (gone.e + length held.e.items)
+    (gone.a + length held.a.items) + (gone.b + length held.b.items) + (gone.c + length held.c.items) + (gone.d + length held.d.items) +
+        (gone.e + length held.e.items)
 
 module _ {C M : ℕ} (gone : Counts) (n : PerChannel ℕ) (held : Script C M) (w : AreBetween gone n held) where
   pub room-to-count : HaveRoomToCount n
@@ -79,31 +81,39 @@ module _ (n m : PerChannel ℕ) (on : AreOn n m) where
 -- ---- what is under way moves on
 
 -- the way of what is under way in a channel: beats go from the ring to the inbox, all of that is taken, and beats go from the stage into the ring
-ways : (stage ring inbox room out left into staged after : ℕ) → 1 ≤ room → out ≡ min ring (ROOM - inbox) → left + out ≡ ring → into ≡ min stage (room - left) → staged + into ≡ stage →
+ways : (stage ring inbox room out left into staged after : ℕ) → 1 ≤ room → out ≡ min ring (ROOM - inbox) → left + out ≡ ring →
+    into ≡ min stage (room - left) → staged + into ≡ stage →
     after ≡ left + into →
-    (3 * staged + 2 * after + 0 ≤ 3 * stage + 2 * ring + inbox) × (1 ≤ 3 * stage + 2 * ring + inbox → 3 * staged + 2 * after + 0 + 1 ≤ 3 * stage + 2 * ring + inbox)
+    (3 * staged + 2 * after + 0 ≤ 3 * stage + 2 * ring + inbox) ×
+        (1 ≤ 3 * stage + 2 * ring + inbox → 3 * staged + 2 * after + 0 + 1 ≤ 3 * stage + 2 * ring + inbox)
 ways stage ring inbox room out left into staged after some a b c d e = (omega arith, λ l. omega arith)
 
 -- a number is no more than another one, and less, where that is some
 abbrev Nearer : ℕ → ℕ → Type 0
 Nearer after before = (after ≤ before) × (1 ≤ before → after + 1 ≤ before)
 
-nearer-in : {H : Type 0} (r : Rules H) {w v : ℕ} (p q s t : Pipe H v) (x : World H w v) → piping.StandsFor r p x → piping.StandsFor r q (popped (fetch_count p) x) →
-    piping.StandsFor r s (emptied (popped (fetch_count p) x)) → piping.StandsFor r t (pushed (pump_count s) (emptied (popped (fetch_count p) x))) → Nearer (way_in t) (way_in p)
+nearer-in : {H : Type 0} (r : Rules H) {w v : ℕ} (p q s t : Pipe H v) (x : World H w v) → piping.StandsFor r p x →
+    piping.StandsFor r q (popped (fetch_count p) x) →
+    piping.StandsFor r s (emptied (popped (fetch_count p) x)) →
+        piping.StandsFor r t (pushed (pump_count s) (emptied (popped (fetch_count p) x))) → Nearer (way_in t) (way_in p)
 nearer-in r p q s t x f g h i =
     let out = fetch_count p in
     let into = pump_count s in
     let out_is : out ≡ min (length x.ring) (ROOM - length x.inbox) = rw (f.ring, f.inbox) refl in
-    let left : length (drop out x.ring) + out ≡ length x.ring = size-behind out x.ring (omega (arith, out_is, min-le_left (length x.ring) (ROOM - length x.inbox))) in
+    let left : length (drop out x.ring) + out ≡ length x.ring =
+        size-behind out x.ring (omega (arith, out_is, min-le_left (length x.ring) (ROOM - length x.inbox))) in
     let into_is : into ≡ min (length x.stage) (x.room - length (drop out x.ring)) = rw (h.stage, h.room, h.ring) refl in
     let fits : into ≤ length x.stage = omega (arith, into_is, min-le_left (length x.stage) (x.room - length (drop out x.ring))) in
     let staged : length (drop into x.stage) + into ≡ length x.stage = size-behind into x.stage fits in
     let after : length (drop out x.ring ++ take into x.stage) ≡ length (drop out x.ring) + into =
     length-append (drop out x.ring) (take into x.stage) ∙ ap (λ n. length (drop out x.ring) + n) (length-take-le into x.stage fits) in
     let here : way_in p ≡ 3 * length x.stage + 2 * length x.ring + length x.inbox = rw (f.stage, f.ring, f.inbox) refl in
-    let there : way_in t ≡ 3 * length (drop into x.stage) + 2 * length (drop out x.ring ++ take into x.stage) + 0 = rw (i.stage, i.ring, i.inbox) refl in
-    subst (λ k. Nearer k (way_in p)) (sym there) (subst (λ k. Nearer (3 * length (drop into x.stage) + 2 * length (drop out x.ring ++ take into x.stage) + 0) k) (sym here)
-    (ways (length x.stage) (length x.ring) (length x.inbox) x.room out (length (drop out x.ring)) into (length (drop into x.stage)) (length (drop out x.ring ++ take into x.stage))
+    let there : way_in t ≡ 3 * length (drop into x.stage) + 2 * length (drop out x.ring ++ take into x.stage) + 0 =
+        rw (i.stage, i.ring, i.inbox) refl in
+    subst (λ k. Nearer k (way_in p)) (sym there)
+        (subst (λ k. Nearer (3 * length (drop into x.stage) + 2 * length (drop out x.ring ++ take into x.stage) + 0) k) (sym here)
+    (ways (length x.stage) (length x.ring) (length x.inbox) x.room out (length (drop out x.ring)) into (length (drop into x.stage))
+        (length (drop out x.ring ++ take into x.stage))
     f.some_room out_is left into_is staged after))
 
 both-nearer : {a b c d : ℕ} → Nearer a b → Nearer c d → Nearer (a + c) (b + d)
@@ -116,13 +126,18 @@ both-nearer {a} {b} {c} {d} (l, f) (m, g) = (omega (arith, l, m), some (none-or-
 
 module _ {C M : ℕ} where
   -- all channels
-  pub all-nearer : (s t u v : Bridge C M) (x : Past C M) → StandsFor s x → StandsFor t (after_fetch s x) → StandsFor u (after_take_all (after_fetch s x)) →
+  pub all-nearer : (s t u v : Bridge C M) (x : Past C M) → StandsFor s x → StandsFor t (after_fetch s x) →
+      StandsFor u (after_take_all (after_fetch s x)) →
       StandsFor v (after_pump u (after_take_all (after_fetch s x))) → 1 ≤ all_ways s → all_ways v + 1 ≤ all_ways s
-  all-nearer s t u v x f g h i = (both-nearer (both-nearer (both-nearer (both-nearer (nearer-in rules_a s.a t.a u.a v.a x.a f.a g.a h.a i.a) (nearer-in rules_b s.b t.b u.b v.b x.b f.b g.b h.b i.b))
-      (nearer-in rules_c s.c t.c u.c v.c x.c f.c g.c h.c i.c)) (nearer-in rules_d s.d t.d u.d v.d x.d f.d g.d h.d i.d)) (nearer-in rules_e s.e t.e u.e v.e x.e f.e g.e h.e i.e)).1
+  all-nearer s t u v x f g h i =
+      (both-nearer (both-nearer (both-nearer
+      (both-nearer (nearer-in rules_a s.a t.a u.a v.a x.a f.a g.a h.a i.a) (nearer-in rules_b s.b t.b u.b v.b x.b f.b g.b h.b i.b))
+      (nearer-in rules_c s.c t.c u.c v.c x.c f.c g.c h.c i.c)) (nearer-in rules_d s.d t.d u.d v.d x.d f.d g.d h.d i.d))
+          (nearer-in rules_e s.e t.e u.e v.e x.e f.e g.e h.e i.e)).1
 
   -- where something stands in a bridge, it has some way to go
-  pub some-way : (s : Bridge C M) (t : PerChannel Standing) → IsStanding s.a t.a → IsStanding s.b t.b → IsStanding s.c t.c → IsStanding s.d t.d → IsStanding s.e t.e →
+  pub some-way : (s : Bridge C M) (t : PerChannel Standing) → IsStanding s.a t.a → IsStanding s.b t.b → IsStanding s.c t.c →
+      IsStanding s.d t.d → IsStanding s.e t.e →
       all_standing t ≢ 0 → 1 ≤ all_ways s
   some-way s t a b c d e some = through some (sums-most (most s.a t.a a) (most s.b t.b b) (most s.c t.c c) (most s.d t.d d) (most s.e t.e e))
     where
@@ -153,11 +168,16 @@ module _ {C M : ℕ} where
         IsAt near n (joined far (arriving x)) (after_pump t (after_take_all x))
     taken-at cw mw s t x stands i = record {
       run = takes-round cw mw near.a near.d n.a n.d s x stands i.run i.a_homed;
-      a_sent = sent-passed rules_a near.a n.a far.a x.a (pushed (pump_count t.a) (emptied x.a)) i.a_sent refl refl refl (far.a ++ x.a.inbox) (ap (λ q. q ++ x.a.inbox) i.a_sent.taken);
-      b_sent = sent-passed rules_b near.b n.b far.b x.b (pushed (pump_count t.b) (emptied x.b)) i.b_sent refl refl refl (far.b ++ x.b.inbox) (ap (λ q. q ++ x.b.inbox) i.b_sent.taken);
-      c_sent = sent-passed rules_c near.c n.c far.c x.c (pushed (pump_count t.c) (emptied x.c)) i.c_sent refl refl refl (far.c ++ x.c.inbox) (ap (λ q. q ++ x.c.inbox) i.c_sent.taken);
-      d_sent = sent-passed rules_d near.d n.d far.d x.d (pushed (pump_count t.d) (emptied x.d)) i.d_sent refl refl refl (far.d ++ x.d.inbox) (ap (λ q. q ++ x.d.inbox) i.d_sent.taken);
-      e_sent = sent-passed rules_e near.e n.e far.e x.e (pushed (pump_count t.e) (emptied x.e)) i.e_sent refl refl refl (far.e ++ x.e.inbox) (ap (λ q. q ++ x.e.inbox) i.e_sent.taken);
+      a_sent = sent-passed rules_a near.a n.a far.a x.a (pushed (pump_count t.a) (emptied x.a)) i.a_sent refl refl refl (far.a ++ x.a.inbox)
+          (ap (λ q. q ++ x.a.inbox) i.a_sent.taken);
+      b_sent = sent-passed rules_b near.b n.b far.b x.b (pushed (pump_count t.b) (emptied x.b)) i.b_sent refl refl refl (far.b ++ x.b.inbox)
+          (ap (λ q. q ++ x.b.inbox) i.b_sent.taken);
+      c_sent = sent-passed rules_c near.c n.c far.c x.c (pushed (pump_count t.c) (emptied x.c)) i.c_sent refl refl refl (far.c ++ x.c.inbox)
+          (ap (λ q. q ++ x.c.inbox) i.c_sent.taken);
+      d_sent = sent-passed rules_d near.d n.d far.d x.d (pushed (pump_count t.d) (emptied x.d)) i.d_sent refl refl refl (far.d ++ x.d.inbox)
+          (ap (λ q. q ++ x.d.inbox) i.d_sent.taken);
+      e_sent = sent-passed rules_e near.e n.e far.e x.e (pushed (pump_count t.e) (emptied x.e)) i.e_sent refl refl refl (far.e ++ x.e.inbox)
+          (ap (λ q. q ++ x.e.inbox) i.e_sent.taken);
       a_homed = i.a_homed;
       b_homed = i.b_homed;
       c_homed = i.c_homed;
@@ -165,7 +185,8 @@ module _ {C M : ℕ} where
     }
 
 -- what is under way in a crossing is what stands in its pipe
-waits-in : {H : Type 0} (r : Rules H) {w v : ℕ} (p : Pipe H v) (x : World H w v) → piping.StandsFor r p x → length p.stage + length p.ring + length p.inbox ≡ under_way x
+waits-in : {H : Type 0} (r : Rules H) {w v : ℕ} (p : Pipe H v) (x : World H w v) → piping.StandsFor r p x →
+    length p.stage + length p.ring + length p.inbox ≡ under_way x
 waits-in r p x f = rw (f.stage, f.ring, f.inbox) refl
 
 -- so it is as much in all that a bridge stands for
@@ -178,7 +199,8 @@ rests-too s x y f g none =
 -- ---- the end
 
 -- why a channel offers no more, by what came of its close
-pub stop-is : {X : Type 0} {rest other : List X} (o : Option SideFault) (closed : Result (Unit {0}) EndFault) → other ≡ rest → IsOk closed ↔ (other ≡ []) → {stop : Stop} → stop ≡ stop_by o closed →
+pub stop-is : {X : Type 0} {rest other : List X} (o : Option SideFault) (closed : Result (Unit {0}) EndFault) → other ≡ rest →
+    IsOk closed ↔ (other ≡ []) → {stop : Stop} → stop ≡ stop_by o closed →
     IsStopOf o rest stop
 stop-is (Some fault) closed same f is = is
 stop-is None (Ok u) same f is = inl (is, sym same ∙ f.0 refl)
@@ -196,22 +218,28 @@ module _ {C M : ℕ} (first : Past C M) where
   pub keeps-all : HasKept first first
   keeps-all = record { a = refl; b = refl; c = refl; d = refl; e = refl }
 
-  pub on-closed : (s t : Bridge C M) (x z : Past C M) → HasKept first x → HasKept first z → (r : Result (Unit {0}) EndFault) → OnOk r (StandsFor t z) → OnErr r (t ≡ s) → StandsFor s x →
+  pub on-closed : (s t : Bridge C M) (x z : Past C M) → HasKept first x → HasKept first z → (r : Result (Unit {0}) EndFault) →
+      OnOk r (StandsFor t z) → OnErr r (t ≡ s) → StandsFor s x →
       (y : Past C M) × StandsFor t y × HasKept first y
   on-closed s t x z kept closed (Ok u) done same stands = (z, done, closed)
   on-closed s t x z kept closed (Err e) done same stands = (x, subst (λ q. StandsFor q x) (sym same) stands, kept)
 
 -- a channel that rests, and in which nothing is under way, offers no more
-stops-from : {H : Type 0} (r : Rules H) {w v : ℕ} (bs : List (BeatOf H w)) (n : ℕ) (answer : BeatOf H w → Option SideFault) (far : List (BeatOf H v)) (x : World H w v) → IsSent r bs n far x →
-    under_way x ≡ 0 → (o : Option SideFault) → RestsIn bs n answer x o → (stop : Stop) → IsStopOf o (rest_of r w x.accepted) stop → Stops r bs n answer x.accepted (Stopped stop)
+stops-from : {H : Type 0} (r : Rules H) {w v : ℕ} (bs : List (BeatOf H w)) (n : ℕ) (answer : BeatOf H w → Option SideFault) (far : List (BeatOf H v))
+    (x : World H w v) → IsSent r bs n far x →
+    under_way x ≡ 0 → (o : Option SideFault) → RestsIn bs n answer x o → (stop : Stop) → IsStopOf o (rest_of r w x.accepted) stop →
+        Stops r bs n answer x.accepted (Stopped stop)
 stops-from r bs n answer far x sent none (Some fault) rests stop is = subst (λ z. Stops r bs n answer x.accepted (Stopped z)) (sym is) rests
-stops-from r bs n answer far x sent none None (inl past) stop (inl (is, whole)) = subst (λ z. Stops r bs n answer x.accepted (Stopped z)) (sym is) (past, whole)
-stops-from r bs n answer far x sent none None (inl past) stop (inr (is, begun)) = subst (λ z. Stops r bs n answer x.accepted (Stopped z)) (sym is) (past, begun)
+stops-from r bs n answer far x sent none None (inl past) stop (inl (is, whole)) =
+    subst (λ z. Stops r bs n answer x.accepted (Stopped z)) (sym is) (past, whole)
+stops-from r bs n answer far x sent none None (inl past) stop (inr (is, begun)) =
+    subst (λ z. Stops r bs n answer x.accepted (Stopped z)) (sym is) (past, begun)
 stops-from r bs n answer far x sent none None (inr (b, next, why)) stop is =
     absurd (stage-full r bs n answer (λ _. 0) far x sent b next why (nil_from_length x.stage (omega (arith, none))))
 
 -- so a run in which each channel rests has ended
-pub has-ended : {F : Type 0} {C M : ℕ} (Holds : F → Beats M C → Type 0) (near : Beats C M) (n taken : PerChannel ℕ) (far : F) (s : Bridge C M) (o : PerChannel (Option SideFault))
+pub has-ended : {F : Type 0} {C M : ℕ} (Holds : F → Beats M C → Type 0) (near : Beats C M) (n taken : PerChannel ℕ) (far : F) (s : Bridge C M)
+    (o : PerChannel (Option SideFault))
     (h : HasStopped Holds near n taken far s o) (stops : PerChannel Stop) → AreStopsOf h.past o stops → HasEnded near n h.all s stops 0
 has-ended Holds near n taken far s o h stops are =
     let x = h.past in

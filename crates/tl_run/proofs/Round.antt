@@ -60,7 +60,8 @@ own-none (Some f) other e = search e
 
 module _ {H : Type 0} (r : Rules H) {w v : ℕ} (bs : List (BeatOf H w)) (n : ℕ) (answer : BeatOf H w → Option SideFault) (home : BeatOf H w → ℕ) where
   -- it accepts nothing
-  pub none-accepted : (x : World H w v) (o : Offered) (accepted : List (BeatOf H w)) (y : World H w v) → IsStopped o → Does r bs n answer home x o accepted y →
+  pub none-accepted : (x : World H w v) (o : Offered) (accepted : List (BeatOf H w)) (y : World H w v) → IsStopped o →
+      Does r bs n answer home x o accepted y →
       (accepted ≡ []) × (y.accepted ≡ x.accepted)
   none-accepted x Accepted accepted y s does = elim s [ ]
   none-accepted x NotReady accepted y s does = elim s [ ]
@@ -69,7 +70,8 @@ module _ {H : Type 0} (r : Rules H) {w v : ℕ} (bs : List (BeatOf H w)) (n : �
   none-accepted x (Stopped Cut) accepted y s (g, e, none, same) = (none, ap (λ z. z.accepted) same)
 
 -- what is answered to it may be said in another way
-pub stops-same : {H : Type 0} (r : Rules H) {w : ℕ} (bs : List (BeatOf H w)) (n : ℕ) (answer other : BeatOf H w → Option SideFault) (accepted : List (BeatOf H w)) (o : Offered) →
+pub stops-same : {H : Type 0} (r : Rules H) {w : ℕ} (bs : List (BeatOf H w)) (n : ℕ) (answer other : BeatOf H w → Option SideFault)
+    (accepted : List (BeatOf H w)) (o : Offered) →
     (IsStopped o → (b : BeatOf H w) → other b ≡ answer b) → Stops r bs n answer accepted o → Stops r bs n other accepted o
 stops-same r bs n answer other accepted Accepted same s = tt
 stops-same r bs n answer other accepted NotReady same s = tt
@@ -92,7 +94,8 @@ both-move (l, inr (s, z)) (m, inr (t, y)) = (omega arith, inr ((s, t), omega ari
 -- ---- the round
 
 -- on a channel that nothing couples to another one, what is let through has no fault of its own
-pub alone-own : {H : Type 0} (r : Rules H) {w : ℕ} (seen : List (BeatOf H w)) (b : BeatOf H w) → stops_alone r seen b ≡ None → fault_after r seen b ≡ None
+pub alone-own : {H : Type 0} (r : Rules H) {w : ℕ} (seen : List (BeatOf H w)) (b : BeatOf H w) →
+    stops_alone r seen b ≡ None → fault_after r seen b ≡ None
 alone-own r seen b e = own-none (fault_after r seen b) None e
 
 -- what the client's side lets through has no fault of its own
@@ -103,48 +106,71 @@ client-own es b e = own-none (fault_after rules_a (asked es) b) _ e
 pub manager-own : {w : ℕ} (es : List (Event w)) (b : BeatOf HeadD w) → manager_answer es b ≡ None → fault_after rules_d (answered es) b ≡ None
 manager-own es b e = own-none (fault_after rules_d (answered es) b) _ e
 
-module _ {C M : ℕ} (cw : IsWidth C) (mw : IsWidth M) (near : Beats C M) (n : PerChannel ℕ) (far : Beats M C) (x : Past C M) (s t : Bridge C M) (o : PerChannel Offered) (stands : StandsFor s x) (i : IsAt near n far x)
+module _ {C M : ℕ} (cw : IsWidth C) (mw : IsWidth M) (near : Beats C M) (n : PerChannel ℕ) (far : Beats M C) (x : Past C M) (s t : Bridge C M)
+    (o : PerChannel Offered) (stands : StandsFor s x) (i : IsAt near n far x)
     (h : HasOffered near n (after_take_all x) t o) where
   -- where the run stands after the round
   pub at-round : IsAt near (counted n o) (joined far (arriving x)) (after_moves h.past)
   at-round = record {
     run = subst (λ q. Run near.a near.d (n.a + steps o.a) (n.d + steps o.d) q h.past.manager) (sym h.client)
-        (subst (λ q. Run near.a near.d (n.a + steps o.a) (n.d + steps o.d) ((x.client ++ map Answer x.d.inbox) ++ map Ask h.beats_a) q) (sym h.manager)
+        (subst (λ q. Run near.a near.d (n.a + steps o.a) (n.d + steps o.d) ((x.client ++ map Answer x.d.inbox) ++ map Ask h.beats_a) q)
+            (sym h.manager)
         (run-round cw mw near.a near.d n.a n.d s x stands i.run i.a_homed o.a o.d h.beats_a h.beats_d h.past.a h.past.d h.does_a h.does_d));
     a_sent = sent-round rules_a near.a n.a (client_answer (x.client ++ map Answer x.d.inbox)) (λ _. 0) far.a x.a o.a h.beats_a h.past.a i.a_sent
-        (λ y f. subst (λ q. fault_after rules_a q y ≡ None) (asked_answers x.client x.d.inbox ∙ stands.client_asked) (client-own (x.client ++ map Answer x.d.inbox) y f)) h.does_a;
-    b_sent = sent-round rules_b near.b n.b (stops_alone rules_b x.b.accepted) (λ _. 0) far.b x.b o.b h.beats_b h.past.b i.b_sent (λ y f. alone-own rules_b x.b.accepted y f) h.does_b;
-    c_sent = sent-round rules_c near.c n.c (stops_alone rules_c x.c.accepted) (λ _. 0) far.c x.c o.c h.beats_c h.past.c i.c_sent (λ y f. alone-own rules_c x.c.accepted y f) h.does_c;
-    d_sent = sent-round rules_d near.d n.d (manager_answer (x.manager ++ map Ask x.a.inbox)) (λ y. manager_home (x.manager ++ map Ask x.a.inbox) y.head) far.d x.d o.d h.beats_d h.past.d i.d_sent
-        (λ y f. subst (λ q. fault_after rules_d q y ≡ None) (answered_asks x.manager x.a.inbox ∙ stands.manager_answered) (manager-own (x.manager ++ map Ask x.a.inbox) y f)) h.does_d;
-    e_sent = sent-round rules_e near.e n.e (stops_alone rules_e x.e.accepted) (λ _. 0) far.e x.e o.e h.beats_e h.past.e i.e_sent (λ y f. alone-own rules_e x.e.accepted y f) h.does_e;
-    a_homed = homed-offer rules_a near.a n.a (client_answer (x.client ++ map Answer x.d.inbox)) (λ _. 0) (emptied x.a) o.a h.beats_a h.past.a stands.a.crosses.handed i.a_homed (λ y. refl) h.does_a;
-    b_homed = homed-offer rules_b near.b n.b (stops_alone rules_b x.b.accepted) (λ _. 0) (emptied x.b) o.b h.beats_b h.past.b stands.b.crosses.handed i.b_homed (λ y. refl) h.does_b;
-    c_homed = homed-offer rules_c near.c n.c (stops_alone rules_c x.c.accepted) (λ _. 0) (emptied x.c) o.c h.beats_c h.past.c stands.c.crosses.handed i.c_homed (λ y. refl) h.does_c;
-    e_homed = homed-offer rules_e near.e n.e (stops_alone rules_e x.e.accepted) (λ _. 0) (emptied x.e) o.e h.beats_e h.past.e stands.e.crosses.handed i.e_homed (λ y. refl) h.does_e;
+        (λ y f. subst (λ q. fault_after rules_a q y ≡ None) (asked_answers x.client x.d.inbox ∙ stands.client_asked)
+            (client-own (x.client ++ map Answer x.d.inbox) y f)) h.does_a;
+    b_sent = sent-round rules_b near.b n.b (stops_alone rules_b x.b.accepted) (λ _. 0) far.b x.b o.b h.beats_b h.past.b i.b_sent
+        (λ y f. alone-own rules_b x.b.accepted y f) h.does_b;
+    c_sent = sent-round rules_c near.c n.c (stops_alone rules_c x.c.accepted) (λ _. 0) far.c x.c o.c h.beats_c h.past.c i.c_sent
+        (λ y f. alone-own rules_c x.c.accepted y f) h.does_c;
+    d_sent = sent-round rules_d near.d n.d (manager_answer (x.manager ++ map Ask x.a.inbox))
+        (λ y. manager_home (x.manager ++ map Ask x.a.inbox) y.head) far.d x.d o.d h.beats_d h.past.d i.d_sent
+        (λ y f. subst (λ q. fault_after rules_d q y ≡ None) (answered_asks x.manager x.a.inbox ∙ stands.manager_answered)
+            (manager-own (x.manager ++ map Ask x.a.inbox) y f)) h.does_d;
+    e_sent = sent-round rules_e near.e n.e (stops_alone rules_e x.e.accepted) (λ _. 0) far.e x.e o.e h.beats_e h.past.e i.e_sent
+        (λ y f. alone-own rules_e x.e.accepted y f) h.does_e;
+    a_homed = homed-offer rules_a near.a n.a (client_answer (x.client ++ map Answer x.d.inbox)) (λ _. 0) (emptied x.a) o.a h.beats_a h.past.a
+        stands.a.crosses.handed i.a_homed (λ y. refl) h.does_a;
+    b_homed = homed-offer rules_b near.b n.b (stops_alone rules_b x.b.accepted) (λ _. 0) (emptied x.b) o.b h.beats_b h.past.b stands.b.crosses.handed
+        i.b_homed (λ y. refl) h.does_b;
+    c_homed = homed-offer rules_c near.c n.c (stops_alone rules_c x.c.accepted) (λ _. 0) (emptied x.c) o.c h.beats_c h.past.c stands.c.crosses.handed
+        i.c_homed (λ y. refl) h.does_c;
+    e_homed = homed-offer rules_e near.e n.e (stops_alone rules_e x.e.accepted) (λ _. 0) (emptied x.e) o.e h.beats_e h.past.e stands.e.crosses.handed
+        i.e_homed (λ y. refl) h.does_e;
   }
 
   -- why it stands still there, where it does
   pub stops-there : AllStop near (counted n o) (after_moves h.past) o
   stops-there = record {
-    stop_a = stops-same rules_a near.a (n.a + steps o.a) (client_answer (x.client ++ map Answer x.d.inbox)) (client_answer h.past.client) h.past.a.accepted o.a
+    stop_a = stops-same rules_a near.a (n.a + steps o.a) (client_answer (x.client ++ map Answer x.d.inbox))
+        (client_answer h.past.client) h.past.a.accepted o.a
         (λ z y. ap (λ q. client_answer q y) (h.client ∙ ap (λ q. (x.client ++ map Answer x.d.inbox) ++ map Ask q)
-        (none-accepted rules_a near.a n.a (client_answer (x.client ++ map Answer x.d.inbox)) (λ _. 0) (emptied x.a) o.a h.beats_a h.past.a z h.does_a).0 ∙
+        (none-accepted rules_a near.a n.a (client_answer (x.client ++ map Answer x.d.inbox)) (λ _. 0) (emptied x.a) o.a
+            h.beats_a h.past.a z h.does_a).0 ∙
         append-nil (x.client ++ map Answer x.d.inbox)))
         (stops-offer rules_a near.a n.a (client_answer (x.client ++ map Answer x.d.inbox)) (λ _. 0) (emptied x.a) o.a h.beats_a h.past.a h.does_a);
-    stop_b = stops-same rules_b near.b (n.b + steps o.b) (stops_alone rules_b x.b.accepted) (stops_alone rules_b h.past.b.accepted) h.past.b.accepted o.b
-        (λ z y. ap (λ q. stops_alone rules_b q y) (none-accepted rules_b near.b n.b (stops_alone rules_b x.b.accepted) (λ _. 0) (emptied x.b) o.b h.beats_b h.past.b z h.does_b).1)
+    stop_b = stops-same rules_b near.b (n.b + steps o.b) (stops_alone rules_b x.b.accepted)
+        (stops_alone rules_b h.past.b.accepted) h.past.b.accepted o.b
+        (λ z y. ap (λ q. stops_alone rules_b q y)
+            (none-accepted rules_b near.b n.b (stops_alone rules_b x.b.accepted) (λ _. 0) (emptied x.b) o.b h.beats_b h.past.b z h.does_b).1)
         (stops-offer rules_b near.b n.b (stops_alone rules_b x.b.accepted) (λ _. 0) (emptied x.b) o.b h.beats_b h.past.b h.does_b);
-    stop_c = stops-same rules_c near.c (n.c + steps o.c) (stops_alone rules_c x.c.accepted) (stops_alone rules_c h.past.c.accepted) h.past.c.accepted o.c
-        (λ z y. ap (λ q. stops_alone rules_c q y) (none-accepted rules_c near.c n.c (stops_alone rules_c x.c.accepted) (λ _. 0) (emptied x.c) o.c h.beats_c h.past.c z h.does_c).1)
+    stop_c = stops-same rules_c near.c (n.c + steps o.c) (stops_alone rules_c x.c.accepted)
+        (stops_alone rules_c h.past.c.accepted) h.past.c.accepted o.c
+        (λ z y. ap (λ q. stops_alone rules_c q y)
+            (none-accepted rules_c near.c n.c (stops_alone rules_c x.c.accepted) (λ _. 0) (emptied x.c) o.c h.beats_c h.past.c z h.does_c).1)
         (stops-offer rules_c near.c n.c (stops_alone rules_c x.c.accepted) (λ _. 0) (emptied x.c) o.c h.beats_c h.past.c h.does_c);
-    stop_d = stops-same rules_d near.d (n.d + steps o.d) (manager_answer (x.manager ++ map Ask x.a.inbox)) (manager_answer h.past.manager) h.past.d.accepted o.d
+    stop_d = stops-same rules_d near.d (n.d + steps o.d) (manager_answer (x.manager ++ map Ask x.a.inbox))
+        (manager_answer h.past.manager) h.past.d.accepted o.d
         (λ z y. ap (λ q. manager_answer q y) (h.manager ∙ ap (λ q. (x.manager ++ map Ask x.a.inbox) ++ map Answer q)
-        (none-accepted rules_d near.d n.d (manager_answer (x.manager ++ map Ask x.a.inbox)) (λ y. manager_home (x.manager ++ map Ask x.a.inbox) y.head) (emptied x.d) o.d h.beats_d h.past.d z h.does_d).0 ∙
+        (none-accepted rules_d near.d n.d (manager_answer (x.manager ++ map Ask x.a.inbox))
+            (λ y. manager_home (x.manager ++ map Ask x.a.inbox) y.head) (emptied x.d) o.d h.beats_d h.past.d z h.does_d).0 ∙
         append-nil (x.manager ++ map Ask x.a.inbox)))
-        (stops-offer rules_d near.d n.d (manager_answer (x.manager ++ map Ask x.a.inbox)) (λ y. manager_home (x.manager ++ map Ask x.a.inbox) y.head) (emptied x.d) o.d h.beats_d h.past.d h.does_d);
-    stop_e = stops-same rules_e near.e (n.e + steps o.e) (stops_alone rules_e x.e.accepted) (stops_alone rules_e h.past.e.accepted) h.past.e.accepted o.e
-        (λ z y. ap (λ q. stops_alone rules_e q y) (none-accepted rules_e near.e n.e (stops_alone rules_e x.e.accepted) (λ _. 0) (emptied x.e) o.e h.beats_e h.past.e z h.does_e).1)
+        (stops-offer rules_d near.d n.d (manager_answer (x.manager ++ map Ask x.a.inbox)) (λ y. manager_home (x.manager ++ map Ask x.a.inbox) y.head)
+            (emptied x.d) o.d h.beats_d h.past.d h.does_d);
+    stop_e = stops-same rules_e near.e (n.e + steps o.e) (stops_alone rules_e x.e.accepted)
+        (stops_alone rules_e h.past.e.accepted) h.past.e.accepted o.e
+        (λ z y. ap (λ q. stops_alone rules_e q y)
+            (none-accepted rules_e near.e n.e (stops_alone rules_e x.e.accepted) (λ _. 0) (emptied x.e) o.e h.beats_e h.past.e z h.does_e).1)
         (stops-offer rules_e near.e n.e (stops_alone rules_e x.e.accepted) (λ _. 0) (emptied x.e) o.e h.beats_e h.past.e h.does_e);
   }
 
@@ -153,10 +179,12 @@ module _ {C M : ℕ} (cw : IsWidth C) (mw : IsWidth M) (near : Beats C M) (n : P
       ((((IsStopped o.a × IsStopped o.b) × IsStopped o.c) × IsStopped o.d) × IsStopped o.e)
   moves-round =
       both-move (both-move (both-move (both-move
-      (progress-round rules_a near.a n.a (client_answer (x.client ++ map Answer x.d.inbox)) (λ _. 0) far.a x.a o.a h.beats_a h.past.a i.a_sent h.does_a)
+      (progress-round rules_a near.a n.a (client_answer (x.client ++ map Answer x.d.inbox)) (λ _. 0) far.a x.a o.a
+          h.beats_a h.past.a i.a_sent h.does_a)
       (progress-round rules_b near.b n.b (stops_alone rules_b x.b.accepted) (λ _. 0) far.b x.b o.b h.beats_b h.past.b i.b_sent h.does_b))
       (progress-round rules_c near.c n.c (stops_alone rules_c x.c.accepted) (λ _. 0) far.c x.c o.c h.beats_c h.past.c i.c_sent h.does_c))
-      (progress-round rules_d near.d n.d (manager_answer (x.manager ++ map Ask x.a.inbox)) (λ y. manager_home (x.manager ++ map Ask x.a.inbox) y.head) far.d x.d o.d h.beats_d h.past.d i.d_sent h.does_d))
+      (progress-round rules_d near.d n.d (manager_answer (x.manager ++ map Ask x.a.inbox)) (λ y. manager_home (x.manager ++ map Ask x.a.inbox) y.head)
+          far.d x.d o.d h.beats_d h.past.d i.d_sent h.does_d))
       (progress-round rules_e near.e n.e (stops_alone rules_e x.e.accepted) (λ _. 0) far.e x.e o.e h.beats_e h.past.e i.e_sent h.does_e)
 
   -- the round

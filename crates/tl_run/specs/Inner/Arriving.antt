@@ -28,7 +28,8 @@ module _ {C M : ℕ} where
 
   -- the lists have that much
   abbrev pub HasRoomFor : Beats C M → Taken C M → Type 0
-  HasRoomFor near t = HaveRoom near (record { a = vec_capacity t.a; b = vec_capacity t.b; c = vec_capacity t.c; d = vec_capacity t.d; e = vec_capacity t.e })
+  HasRoomFor near t = HaveRoom near
+      (record { a = vec_capacity t.a; b = vec_capacity t.b; c = vec_capacity t.c; d = vec_capacity t.d; e = vec_capacity t.e })
 
   -- the lists have places for so many beats
   pub record HaveCapacity (t : Taken C M) (room : PerChannel ℕ) : Type 0 where

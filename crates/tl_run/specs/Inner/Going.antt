@@ -1,5 +1,6 @@
 -- The channels of a run in one thread go on, one after another. Only contracts of private functions cite these words.
-use Rattle.std.proofs.Common.{◌≡◌, ◌≢◌, ◌+◌, ◌*◌, ◌≤◌, ◌⊎◌, inl, ℕ, true, Option, None, Some, Result, Ok, Err, List, [], length, refl, sym, ap, subst, ◌∙◌}
+use Rattle.std.proofs.Common.{◌≡◌, ◌≢◌, ◌+◌, ◌*◌, ◌≤◌, ◌⊎◌, inl, ℕ, true, Option, None, Some, Result, Ok, Err, List, [], length, refl, sym, ap, subst}
+use Rattle.std.proofs.Common.{◌∙◌}
 use Rattle.std.specs.Prelude.{slice_get}
 use Rattle.tl_msg.specs.Tables.{rules_a, rules_b, rules_c, rules_d, rules_e}
 use Rattle.tl_msg.specs.declared.head.HeadA.{HeadA}
@@ -45,7 +46,8 @@ refused_by (Stopped Cut) = None
 
 -- What became of a beat that was offered, of a list of which so many have gone and these are held, by what it means that beats passed on, that all
 -- stayed as it was, and that a channel rests: where no beat was accepted, the channel rests
-pub record StepsOn {B S : Type 0} (Passes : ℕ → List B → ℕ → S → ℕ → S → Type 0) (Stays : S → S → Type 0) (Rests : List B → ℕ → S → Option SideFault → Type 0)
+pub record StepsOn {B S : Type 0} (Passes : ℕ → List B → ℕ → S → ℕ → S → Type 0) (Stays : S → S → Type 0)
+    (Rests : List B → ℕ → S → Option SideFault → Type 0)
     (gone : ℕ) (held : List B) (at : ℕ) (s : S) (o : Offered) (t : S) : Type 0 where
   pub passes : Passes gone held at s (at + steps o) t
   pub stays : steps o ≡ 0 → Stays s t
@@ -77,19 +79,24 @@ pub record Going (C M : ℕ) (B : Type 0) : Type 0 where
 
 module _ {C M : ℕ} where
   abbrev pub going_a : Going C M (BeatOf HeadA C)
-  going_a = record { list = λ near. near.a; count = λ n. n.a; set = λ k n. record n { a = k }; same = λ _. refl; counts = λ _ _. refl; sets = λ _ _ _. refl }
+  going_a = record { list = λ near. near.a; count = λ n. n.a; set = λ k n. record n { a = k }; same = λ _. refl;
+      counts = λ _ _. refl; sets = λ _ _ _. refl }
 
   abbrev pub going_b : Going C M (BeatOf HeadB M)
-  going_b = record { list = λ near. near.b; count = λ n. n.b; set = λ k n. record n { b = k }; same = λ _. refl; counts = λ _ _. refl; sets = λ _ _ _. refl }
+  going_b = record { list = λ near. near.b; count = λ n. n.b; set = λ k n. record n { b = k }; same = λ _. refl;
+      counts = λ _ _. refl; sets = λ _ _ _. refl }
 
   abbrev pub going_c : Going C M (BeatOf HeadC C)
-  going_c = record { list = λ near. near.c; count = λ n. n.c; set = λ k n. record n { c = k }; same = λ _. refl; counts = λ _ _. refl; sets = λ _ _ _. refl }
+  going_c = record { list = λ near. near.c; count = λ n. n.c; set = λ k n. record n { c = k }; same = λ _. refl;
+      counts = λ _ _. refl; sets = λ _ _ _. refl }
 
   abbrev pub going_d : Going C M (BeatOf HeadD M)
-  going_d = record { list = λ near. near.d; count = λ n. n.d; set = λ k n. record n { d = k }; same = λ _. refl; counts = λ _ _. refl; sets = λ _ _ _. refl }
+  going_d = record { list = λ near. near.d; count = λ n. n.d; set = λ k n. record n { d = k }; same = λ _. refl;
+      counts = λ _ _. refl; sets = λ _ _ _. refl }
 
   abbrev pub going_e : Going C M (BeatOf HeadE C)
-  going_e = record { list = λ near. near.e; count = λ n. n.e; set = λ k n. record n { e = k }; same = λ _. refl; counts = λ _ _. refl; sets = λ _ _ _. refl }
+  going_e = record { list = λ near. near.e; count = λ n. n.e; set = λ k n. record n { e = k }; same = λ _. refl;
+      counts = λ _ _. refl; sets = λ _ _ _. refl }
 
   -- a bridge stands for all that another one stood for
   abbrev pub Stays : Bridge C M → Bridge C M → Type 0
@@ -122,7 +129,8 @@ module _ {C M : ℕ} where
     passes_none gone held at s = passes_stays gone held at s s (stays_same s)
 
     -- or by several beats, one after another
-    pub passes_then : (gone : ℕ) (held : List B) (i j l : ℕ) (s t u : Bridge C M) → Passes gone held i s j t → Passes gone held j t l u → Passes gone held i s l u
+    pub passes_then : (gone : ℕ) (held : List B) (i j l : ℕ) (s t u : Bridge C M) → Passes gone held i s j t →
+        Passes gone held j t l u → Passes gone held i s l u
     passes_then gone held i j l s t u f g x stands =
         let p = f x stands in
         let q = g p.past p.stands in

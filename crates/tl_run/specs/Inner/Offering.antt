@@ -48,12 +48,14 @@ pub record Offering (S P H : Type 0) (w v : ℕ) : Type 1 where
   pub kept : (x : P) → put (crossing x) x ≡ x
 
 -- the next beat of a list was offered, of which n beats were accepted, if it might be
-pub record OffersNext {S P H : Type 0} {w v : ℕ} (k : Offering S P H w v) (bs : List (BeatOf H w)) (n : ℕ) (s : S) (o : Offered) (s' : S) : Type 0 where
+pub record OffersNext {S P H : Type 0} {w v : ℕ} (k : Offering S P H w v) (bs : List (BeatOf H w)) (n : ℕ) (s : S)
+    (o : Offered) (s' : S) : Type 0 where
   pub same : k.Same s s'
   pub does : (x : P) → k.Stands s x → (accepted : List (BeatOf H w)) × (y : World H w v) × k.Stands s' (k.put y (k.note accepted x)) ×
       Does k.rules bs n (k.answer x) (k.home x) (k.crossing x) o accepted y
 
-module _ {S P H : Type 0} {w v : ℕ} (r : Rules H) (Stands : S → P → Type 0) (Same : S → S → Type 0) (crossing : P → World H w v) (put : World H w v → P → P)
+module _ {S P H : Type 0} {w v : ℕ} (r : Rules H) (Stands : S → P → Type 0) (Same : S → S → Type 0)
+    (crossing : P → World H w v) (put : World H w v → P → P)
     (kept : (x : P) → put (crossing x) x ≡ x) where
   -- a channel that nothing couples to another one
   abbrev pub alone : Offering S P H w v
@@ -71,7 +73,8 @@ module _ {S P H : Type 0} {w v : ℕ} (r : Rules H) (Stands : S → P → Type 0
   }
 
   -- a channel of a side whose answers and homes are those that its history says, in which each beat is an event
-  abbrev pub coupled : {n : ℕ} (event : BeatOf H w → Event n) (history : P → List (Event n)) (tell : List (Event n) → P → P) → ((x : P) → tell (history x) x ≡ x) →
+  abbrev pub coupled : {n : ℕ} (event : BeatOf H w → Event n) (history : P → List (Event n)) (tell : List (Event n) → P → P) →
+      ((x : P) → tell (history x) x ≡ x) →
       (answer : List (Event n) → BeatOf H w → Option SideFault) (home : List (Event n) → BeatOf H w → ℕ) → Offering S P H w v
   coupled event history tell told answer home = record alone {
     answer = λ x. answer (history x);
@@ -82,12 +85,14 @@ module _ {S P H : Type 0} {w v : ℕ} (r : Rules H) (Stands : S → P → Type 0
 
 module _ {C M : ℕ} where
   -- the channels of a bridge in one thread
-  abbrev on_bridge : {H : Type 0} {w v : ℕ} (r : Rules H) (crossing : Past C M → World H w v) (put : World H w v → Past C M → Past C M) → ((x : Past C M) → put (crossing x) x ≡ x) →
+  abbrev on_bridge : {H : Type 0} {w v : ℕ} (r : Rules H) (crossing : Past C M → World H w v) (put : World H w v → Past C M → Past C M) →
+      ((x : Past C M) → put (crossing x) x ≡ x) →
       Offering (Bridge C M) (Past C M) H w v
   on_bridge r = alone r StandsFor (λ _ _. Unit {0})
 
   abbrev pub on_bridge_a : Offering (Bridge C M) (Past C M) HeadA C M
-  on_bridge_a = coupled rules_a StandsFor (λ _ _. Unit {0}) (λ x. x.a) (λ y x. record x { a = y }) (λ _. refl) Ask (λ x. x.client) (λ es x. record x { client = es }) (λ _. refl)
+  on_bridge_a = coupled rules_a StandsFor (λ _ _. Unit {0}) (λ x. x.a) (λ y x. record x { a = y }) (λ _. refl) Ask (λ x. x.client)
+      (λ es x. record x { client = es }) (λ _. refl)
       client_answer (λ _ _. 0)
 
   abbrev pub on_bridge_b : Offering (Bridge C M) (Past C M) HeadB M C
@@ -97,7 +102,8 @@ module _ {C M : ℕ} where
   on_bridge_c = on_bridge rules_c (λ x. x.c) (λ y x. record x { c = y }) (λ _. refl)
 
   abbrev pub on_bridge_d : Offering (Bridge C M) (Past C M) HeadD M C
-  on_bridge_d = coupled rules_d StandsFor (λ _ _. Unit {0}) (λ x. x.d) (λ y x. record x { d = y }) (λ _. refl) Answer (λ x. x.manager) (λ es x. record x { manager = es }) (λ _. refl)
+  on_bridge_d = coupled rules_d StandsFor (λ _ _. Unit {0}) (λ x. x.d) (λ y x. record x { d = y }) (λ _. refl) Answer (λ x. x.manager)
+      (λ es x. record x { manager = es }) (λ _. refl)
       manager_answer (λ es b. manager_home es b.head)
 
   abbrev pub on_bridge_e : Offering (Bridge C M) (Past C M) HeadE C M
@@ -121,7 +127,8 @@ module _ {A : Type 0} {C M : ℕ} where
 
   -- the channels of a side in its own thread
   abbrev pub on_side_a : Offering (ClientState A C M) (ClientPast C M) HeadA C M
-  on_side_a = coupled rules_a ClientStandsFor SameClientEnds (λ x. x.a) (λ y x. record x { a = y }) (λ _. refl) Ask (λ x. x.history) (λ es x. record x { history = es }) (λ _. refl)
+  on_side_a = coupled rules_a ClientStandsFor SameClientEnds (λ x. x.a) (λ y x. record x { a = y }) (λ _. refl) Ask (λ x. x.history)
+      (λ es x. record x { history = es }) (λ _. refl)
       client_answer (λ _ _. 0)
 
   abbrev pub on_side_b : Offering (ManagerState A C M) (ManagerPast C M) HeadB M C
@@ -131,7 +138,8 @@ module _ {A : Type 0} {C M : ℕ} where
   on_side_c = alone rules_c ClientStandsFor SameClientEnds (λ x. x.c) (λ y x. record x { c = y }) (λ _. refl)
 
   abbrev pub on_side_d : Offering (ManagerState A C M) (ManagerPast C M) HeadD M C
-  on_side_d = coupled rules_d ManagerStandsFor SameManagerEnds (λ x. x.d) (λ y x. record x { d = y }) (λ _. refl) Answer (λ x. x.history) (λ es x. record x { history = es }) (λ _. refl)
+  on_side_d = coupled rules_d ManagerStandsFor SameManagerEnds (λ x. x.d) (λ y x. record x { d = y }) (λ _. refl) Answer (λ x. x.history)
+      (λ es x. record x { history = es }) (λ _. refl)
       manager_answer (λ es b. manager_home es b.head)
 
   abbrev pub on_side_e : Offering (ClientState A C M) (ClientPast C M) HeadE C M

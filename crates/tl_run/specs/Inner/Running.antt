@@ -49,7 +49,8 @@ module _ {H : Type 0} {w v : ℕ} where
 module _ {H : Type 0} (r : Rules H) {w v : ℕ} (bs : List (BeatOf H w)) (n : ℕ) where
   -- What becomes of the next beat of a list of which n beats were accepted, where the channel's side answers this to a beat and the home of a
   -- message that it opens is this: which beats are accepted, and the crossing after it
-  abbrev pub Does : (answer : BeatOf H w → Option SideFault) → (home : BeatOf H w → ℕ) → (x : World H w v) → Offered → (accepted : List (BeatOf H w)) →
+  abbrev pub Does : (answer : BeatOf H w → Option SideFault) → (home : BeatOf H w → ℕ) → (x : World H w v) → Offered →
+      (accepted : List (BeatOf H w)) →
       (y : World H w v) → Type 0
   Does answer home x Accepted accepted y =
       (b : BeatOf H w) × (slice_get bs n ≡ Some b) × (answer b ≡ None) × (accepted ≡ b ∷ []) × (y ≡ offered r b (home b) x)

@@ -28,8 +28,10 @@ beats-preserved g c =
     record {
       within = record { from = omega (arith, here.within.from); to = omega (arith, c.beats-test.true, here.within.from); few = here.within.few };
       on = omega (arith, here.on);
-      passes = g.met.S.GoesOn.passes_then c.args.gone c.args.held.now c.args.at.now c.beats.at (c.beats.at + 1) c.args.side.now c.beats.side c.go_on-offered.new.self here.passes
-          (subst (λ n. g.S.GoesOn.Passes c.args.gone c.args.held.now c.beats.at c.beats.side (c.beats.at + n) c.go_on-offered.new.self) one c.go_on-offered.ensures.passes);
+      passes = g.met.S.GoesOn.passes_then c.args.gone c.args.held.now c.args.at.now c.beats.at (c.beats.at + 1) c.args.side.now c.beats.side
+          c.go_on-offered.new.self here.passes
+          (subst (λ n. g.S.GoesOn.Passes c.args.gone c.args.held.now c.beats.at c.beats.side (c.beats.at + n) c.go_on-offered.new.self) one
+              c.go_on-offered.ensures.passes);
       same = λ e. absurd (omega (arith, e, here.on));
     }
 
@@ -40,7 +42,8 @@ returns-then-not-is_accepted g c =
     record {
       within = here.within;
       on = here.on;
-      passes = g.met.S.GoesOn.passes_then c.args.gone c.args.held.now c.args.at.now c.beats.at c.beats.at c.args.side.now c.beats.side c.go_on-offered.new.self here.passes
+      passes = g.met.S.GoesOn.passes_then c.args.gone c.args.held.now c.args.at.now c.beats.at c.beats.at c.args.side.now c.beats.side
+          c.go_on-offered.new.self here.passes
           (subst (λ m. g.S.GoesOn.Passes c.args.gone c.args.held.now c.beats.at c.beats.side m c.go_on-offered.new.self)
           (ap (λ n. c.beats.at + n) none ∙ sym (none-more c.beats.at)) c.go_on-offered.ensures.passes);
       stays = λ e. subst (λ s. g.S.GoesOn.Stays s c.go_on-offered.new.self) (here.same e) (c.go_on-offered.ensures.stays none);

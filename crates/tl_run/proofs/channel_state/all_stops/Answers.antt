@@ -2,7 +2,8 @@ use Rattle.tl_run.proofs.Names.{◌≡◌, refl, ap, ◌∙◌, PerChannel, Stop
 use Rattle.tl_run.proofs.channel_state.all_stops.Goals as goal
 
 -- offers that are each stopped by this
-each-stopped : (o : PerChannel Offered) (s : PerChannel Stop) → o.a ≡ Stopped s.a → o.b ≡ Stopped s.b → o.c ≡ Stopped s.c → o.d ≡ Stopped s.d → o.e ≡ Stopped s.e →
+each-stopped : (o : PerChannel Offered) (s : PerChannel Stop) → o.a ≡ Stopped s.a → o.b ≡ Stopped s.b → o.c ≡ Stopped s.c →
+    o.d ≡ Stopped s.d → o.e ≡ Stopped s.e →
     o ≡ all_stopped s
 each-stopped o s a b c d e =
     ap (λ q. record { a = q; b = o.b; c = o.c; d = o.d; e = o.e }) a ∙ ap (λ q. record { a = Stopped s.a; b = q; c = o.c; d = o.d; e = o.e }) b ∙

@@ -25,19 +25,24 @@ pub returns-clause-counted : goal.returns-clause-counted
 returns-clause-counted g c = c.add_accepted.ensures
 
 pub offer_next-a-requires : goal.offer_next-a-requires
-offer_next-a-requires g c = (bridge_small g.row.C g.row.M c.requires.0.client c.requires.0.manager, (beat_small g.row.C c.requires.0.client, c.requires.0))
+offer_next-a-requires g c =
+    (bridge_small g.row.C g.row.M c.requires.0.client c.requires.0.manager, (beat_small g.row.C c.requires.0.client, c.requires.0))
 
 pub offer_next-c-requires : goal.offer_next-c-requires
-offer_next-c-requires g c = (bridge_small g.row.C g.row.M c.requires.0.client c.requires.0.manager, (beat_small g.row.C c.requires.0.client, c.requires.0))
+offer_next-c-requires g c =
+    (bridge_small g.row.C g.row.M c.requires.0.client c.requires.0.manager, (beat_small g.row.C c.requires.0.client, c.requires.0))
 
 pub offer_next-e-requires : goal.offer_next-e-requires
-offer_next-e-requires g c = (bridge_small g.row.C g.row.M c.requires.0.client c.requires.0.manager, (beat_small g.row.C c.requires.0.client, c.requires.0))
+offer_next-e-requires g c =
+    (bridge_small g.row.C g.row.M c.requires.0.client c.requires.0.manager, (beat_small g.row.C c.requires.0.client, c.requires.0))
 
 pub offer_next-b-requires : goal.offer_next-b-requires
-offer_next-b-requires g c = (bridge_small g.row.C g.row.M c.requires.0.client c.requires.0.manager, (beat_small g.row.M c.requires.0.manager, c.requires.0))
+offer_next-b-requires g c =
+    (bridge_small g.row.C g.row.M c.requires.0.client c.requires.0.manager, (beat_small g.row.M c.requires.0.manager, c.requires.0))
 
 pub offer_next-d-requires : goal.offer_next-d-requires
-offer_next-d-requires g c = (bridge_small g.row.C g.row.M c.requires.0.client c.requires.0.manager, (beat_small g.row.M c.requires.0.manager, c.requires.0))
+offer_next-d-requires g c =
+    (bridge_small g.row.C g.row.M c.requires.0.client c.requires.0.manager, (beat_small g.row.M c.requires.0.manager, c.requires.0))
 
 pub returns-clause-offered : goal.returns-clause-offered
 returns-clause-offered g c = λ x h.

@@ -4,7 +4,8 @@ use Rattle.tl_run.proofs.rounds.outcome_of.Goals as goal
 
 pub returns-in-Ok : goal.returns-in-Ok
 returns-in-Ok g c = record {
-  outcome = λ near s h. c.outcome_at.ensures near s (subst (λ r. IfOk r (λ end. HasEnded near end.at (beats_of c.args.far) s end.stops end.rounds)) c.in-Ok.is h);
+  outcome = λ near s h. c.outcome_at.ensures near s
+      (subst (λ r. IfOk r (λ end. HasEnded near end.at (beats_of c.args.far) s end.stops end.rounds)) c.in-Ok.is h);
   memory = λ h. tt;
 }
 

@@ -7,7 +7,8 @@ abbrev pub invariant-turns : goal.invariant-turns
 invariant-turns g l = record {
   can : CanRun l.run l.held;
   gone : l.run.gone ≡ l.fn.run.gone;
-  on : (near : Beats g.row.C g.row.M) → ArePart l.fn.run.gone l.held near → HasRun g.F.FarSink.Holds near l.fn.far l.fn.run → HasRun g.F.FarSink.Holds near l.far l.run;
+  on : (near : Beats g.row.C g.row.M) → ArePart l.fn.run.gone l.held near → HasRun g.F.FarSink.Holds near l.fn.far l.fn.run →
+      HasRun g.F.FarSink.Holds near l.far l.run;
   same : g.F.FarSink.made_with l.far ≡ g.F.FarSink.made_with l.fn.far;
 }
 

@@ -7,4 +7,5 @@ pub returns-clause-running : goal.returns-clause-running
 returns-clause-running g c = λ near. (refl, starts near _ no_beats c.args.bridge refl refl c.requires.new)
 
 pub returns-clause-begins : goal.returns-clause-begins
-returns-clause-begins g c = λ held short. record { within = new-within held short; rests = record { past = nothing_yet c.requires.new.0; stands = c.requires.new.2; rest = refl } }
+returns-clause-begins g c = λ held short.
+    record { within = new-within held short; rests = record { past = nothing_yet c.requires.new.0; stands = c.requires.new.2; rest = refl } }

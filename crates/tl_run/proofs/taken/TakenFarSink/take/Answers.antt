@@ -8,7 +8,8 @@ all-appended : {C M : ℕ} (far old new more : Beats M C) → old ≡ far → ne
 all-appended far old new more same a b c d e =
     let j = joined old more in
     subst (λ q. new ≡ joined q more) same
-    (ap (λ q. record { a = q; b = new.b; c = new.c; d = new.d; e = new.e }) a ∙ ap (λ q. record { a = j.a; b = q; c = new.c; d = new.d; e = new.e }) b ∙
+    (ap (λ q. record { a = q; b = new.b; c = new.c; d = new.d; e = new.e }) a ∙
+        ap (λ q. record { a = j.a; b = q; c = new.c; d = new.d; e = new.e }) b ∙
     ap (λ q. record { a = j.a; b = j.b; c = q; d = new.d; e = new.e }) c ∙ ap (λ q. record { a = j.a; b = j.b; c = j.c; d = q; e = new.e }) d ∙
     ap (λ q. record { a = j.a; b = j.b; c = j.c; d = j.d; e = q }) e)
 
@@ -28,7 +29,8 @@ returns-clause-far g c = λ far h.
     c.append-a.ensures.items c.append-b.ensures.items c.append-c.ensures.items c.append-d.ensures.items c.append-e.ensures.items
 
 -- a list whose beats, with those that come, are not too many has places for those that come
-places : {B : Type 0} (xs ys zs : List B) (len : ℕ) {room capacity : ℕ} → len ≡ length xs → xs ≡ zs → length (zs ++ ys) ≤ room → room ≤ capacity → len + length ys ≤ capacity
+places : {B : Type 0} (xs ys zs : List B) (len : ℕ) {room capacity : ℕ} → len ≡ length xs → xs ≡ zs → length (zs ++ ys) ≤ room →
+    room ≤ capacity → len + length ys ≤ capacity
 places xs ys zs len e f l m =
     let sum = length-append zs ys in
     let same : length xs ≡ length zs = ap length f in
