@@ -60,7 +60,8 @@ with-report (a ∷ b ∷ c ∷ d ∷ []) five before after is = absurd (omega ar
 with-report (a ∷ b ∷ c ∷ d ∷ e ∷ f ∷ more) five before after is = absurd (omega arith)
 
 -- what follows of what was made, from two of its clauses
-pub of-both : {X : Type 0} (P Q R : X → Type 0) → ((made : X) → P made → Q made → R made) → (given : Result X TextFault) → IfOk given P → IfOk given Q → IfOk given R
+pub of-both : {X : Type 0} (P Q R : X → Type 0) → ((made : X) → P made → Q made → R made) → (given : Result X TextFault) →
+    IfOk given P → IfOk given Q → IfOk given R
 of-both P Q R follows (Ok made) p q = follows made p q
 of-both P Q R follows (Err fault) p q = tt
 

@@ -10,7 +10,8 @@ use Rattle.tl_answer.specs.Faults.{of_kind, of_trace}
 use Rattle.tl_answer.proofs.Lengths.{lines-below}
 
 -- the lines that the input holds can be read
-pub reading : {C M : ℕ} → IsWidth C → IsWidth M → {gone : Gone C M} (unread left : Option (List ℕ)) (lines : ScriptReader C M) (input : Input) → IsBetweenPast gone unread left lines input → IsReading lines input
+pub reading : {C M : ℕ} → IsWidth C → IsWidth M → {gone : Gone C M} (unread left : Option (List ℕ)) (lines : ScriptReader C M) (input : Input) →
+    IsBetweenPast gone unread left lines input → IsReading lines input
 reading {C} {M} client manager {gone} unread left lines input b =
     let below = lines-below b.used lines.version C M b.read.lines b.read.told in
     let sum = length-append b.used (held input) in
@@ -37,7 +38,8 @@ rest_of xs from n to le =
     let whole : to - from ≡ n + m = omega arith in
     ap (take m) (sym (drop-drop n from xs)) ∙ sym (drop-take n m (drop from xs)) ∙ ap (λ (k : ℕ). drop n (take k (drop from xs))) (sym whole)
 
-module _ (input input' : Input) (n : ℕ) (from : input'.from ≡ input.from + n) (to : input'.to ≡ input.to) (buffer : input'.buffer.items ≡ input.buffer.items) (total : input'.total ≡ input.total)
+module _ (input input' : Input) (n : ℕ) (from : input'.from ≡ input.from + n) (to : input'.to ≡ input.to)
+    (buffer : input'.buffer.items ≡ input.buffer.items) (total : input'.total ≡ input.total)
     (inside : input.from + n ≤ input.to) where
   pub held_rest : held input' ≡ drop n (held input)
   held_rest =
@@ -45,10 +47,12 @@ module _ (input input' : Input) (n : ℕ) (from : input'.from ≡ input.from + n
       ∙ ap (λ (k : ℕ). slice_range input.buffer.items (input.from + n) k) to ∙ rest_of input.buffer.items input.from n input.to inside
 
   -- so many bytes more were used
-  pub advanced : (unread left : Option (List ℕ)) (used : List ℕ) → HasTaken unread left used input → HasTaken unread left (used ++ take n (held input)) input'
+  pub advanced : (unread left : Option (List ℕ)) (used : List ℕ) → HasTaken unread left used input →
+      HasTaken unread left (used ++ take n (held input)) input'
   advanced unread left used t =
       let whole : used ++ take n (held input) ++ held input' ≡ used ++ held input =
-      append_assoc used (take n (held input)) (held input') ∙ ap (λ (xs : List ℕ). used ++ xs) (ap (λ (xs : List ℕ). take n (held input) ++ xs) held_rest ∙ take-append-drop n (held input)) in
+      append_assoc used (take n (held input)) (held input') ∙
+      ap (λ (xs : List ℕ). used ++ xs) (ap (λ (xs : List ℕ). take n (held input) ++ xs) held_rest ∙ take-append-drop n (held input)) in
       let long : length input'.buffer.items ≡ length input.buffer.items = ap length buffer in
       record {
         took = subst (Consumes unread left) (sym whole) t.took;
@@ -61,7 +65,8 @@ module _ (input input' : Input) (n : ℕ) (from : input'.from ≡ input.from + n
       }
 
   pub between_on : {C M : ℕ} (gone : Gone C M) (lines lines' : ScriptReader C M) (unread left : Option (List ℕ)) → lines'.version ≡ lines.version
-      → ((done : List ℕ) → HasReadPast lines.version done gone lines.script lines.line → HasReadPast lines.version (done ++ take n (held input)) gone lines'.script lines'.line)
+      → ((done : List ℕ) → HasReadPast lines.version done gone lines.script lines.line →
+      HasReadPast lines.version (done ++ take n (held input)) gone lines'.script lines'.line)
       → IsBetweenPast gone unread left lines input → IsBetweenPast gone unread left lines' input'
   between_on gone lines lines' unread left version told b = record {
     used = b.used ++ take n (held input);
@@ -73,10 +78,12 @@ module _ (input input' : Input) (n : ℕ) (from : input'.from ≡ input.from + n
 
 -- the text's own fault, or want of memory
 pub any_refused : (unread left : Option (List ℕ)) (used : List ℕ) (input : Input) (fault : TraceFault) → HasTaken unread left used input
-    → (fault.kind ≢ kinds.OutOfMemory → IfSome unread (λ text. IsFirstFault text fault.line fault.kind)) → IsRefused unread left input (of_trace fault)
+    → (fault.kind ≢ kinds.OutOfMemory → IfSome unread (λ text. IsFirstFault text fault.line fault.kind)) →
+    IsRefused unread left input (of_trace fault)
 any_refused unread left used input fault t is = cases fault.kind refl
   where
-    another : (kind : TraceKind) → fault.kind ≡ kind → kind ≢ kinds.OutOfMemory → ((x : List ℕ) × HasTaken unread left x input) × (fault.kind ≢ kinds.OutOfMemory) × IfSome unread (λ text. IsFirstFault text fault.line fault.kind)
+    another : (kind : TraceKind) → fault.kind ≡ kind → kind ≢ kinds.OutOfMemory → ((x : List ℕ) × HasTaken unread left x input) ×
+        (fault.kind ≢ kinds.OutOfMemory) × IfSome unread (λ text. IsFirstFault text fault.line fault.kind)
     another kind e other = let so : fault.kind ≢ kinds.OutOfMemory = λ p. other (sym e ∙ p) in ((used, t), so, is so)
 
     cases : (kind : TraceKind) → fault.kind ≡ kind → IsRefused unread left input (of_kind kind fault)
@@ -89,13 +96,15 @@ any_refused unread left used input fault t is = cases fault.kind refl
     cases kinds.NoEnd e = another kinds.NoEnd e (λ p. absurd cc)
 
 -- what holds of what was read and all that may come is so of the text
-pub of_text : (P : List ℕ → Type 0) (unread left : Option (List ℕ)) (bytes : List ℕ) → Consumes unread left bytes → ((more : List ℕ) → P (bytes ++ more)) → IfSome unread P
+pub of_text : (P : List ℕ → Type 0) (unread left : Option (List ℕ)) (bytes : List ℕ) → Consumes unread left bytes →
+    ((more : List ℕ) → P (bytes ++ more)) → IfSome unread P
 of_text P None left bytes took all = tt
 of_text P (Some text) None bytes took all = absurd took
 of_text P (Some text) (Some more) bytes took all = subst P (sym took) (all more)
 
 -- at the end what was read is the text
-pub of_whole : (P : List ℕ → Type 0) (unread left : Option (List ℕ)) (bytes : List ℕ) → Consumes unread left bytes → IsAtEnd left → P bytes → IfSome unread P
+pub of_whole : (P : List ℕ → Type 0) (unread left : Option (List ℕ)) (bytes : List ℕ) → Consumes unread left bytes →
+    IsAtEnd left → P bytes → IfSome unread P
 of_whole P None left bytes took end is = tt
 of_whole P (Some text) None bytes took end is = absurd took
 of_whole P (Some text) (Some more) bytes took end is = subst P (sym (took ∙ ap (λ (xs : List ℕ). bytes ++ xs) end ∙ append-nil bytes)) is

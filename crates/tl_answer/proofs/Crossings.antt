@@ -10,14 +10,16 @@ use Rattle.tl_answer.specs.declared.crossing.Crossing.{Crossing}
 use Rattle.tl_answer.proofs.Listening.{counted-on, goes-on, within}
 
 -- of a list that grows the same may go, and more are held
-between : {X : Type 0} (gone held more : List X) (n at : ℕ) → n ≡ length gone → length (gone ++ more) ≤ 2 ^ 40 → GoesOn held more → IsBetween n at (length held) → IsBetween n at (length more)
+between : {X : Type 0} (gone held more : List X) (n at : ℕ) → n ≡ length gone → length (gone ++ more) ≤ 2 ^ 40 → GoesOn held more →
+    IsBetween n at (length held) → IsBetween n at (length more)
 between gone held more n at is few grown b =
     let w = within gone held more n at 0 is few grown (record { from = b.from; to = b.to; few = b.few; few_far = zero-le }) in
     record { from = w.from; to = w.to; few = w.few }
 
 module _ {C M : ℕ} where
   -- a run can go on with more
-  can-run : (run : SyncRun C M) (gone : Gone C M) (rest more : Script C M) → AreCounted run.gone gone → IsShort (all_of gone more) → HasGrown rest more → CanRun run rest → CanRun run more
+  can-run : (run : SyncRun C M) (gone : Gone C M) (rest more : Script C M) → AreCounted run.gone gone → IsShort (all_of gone more) →
+      HasGrown rest more → CanRun run rest → CanRun run more
   can-run run gone rest more is few grown can = let was = can.within in record {
     within = record {
       a = between gone.a rest.a.items more.a.items run.gone.a run.at.a is.a few.few_a grown.a was.a;
@@ -39,7 +41,9 @@ module _ {C M : ℕ} where
   crosses-on (Err e) version gone s was x few went held same on h = tt
   crosses-on (Ok counts) version gone s was x few went held same on h = λ rest more left grown short. record {
     version_is = same ∙ h.version_is;
-    goes = goes-on (CanRun was.run) (CanRun x.run) (λ beats. HasRun HasLines beats x.far x.run) (λ beats. HasRun HasLines beats was.far was.run) gone s rest more
+    goes = goes-on (CanRun was.run) (CanRun x.run) (λ beats. HasRun HasLines beats x.far x.run)
+        (λ beats. HasRun HasLines beats was.far was.run) gone s rest more
         was.run.gone counts x.run.gone few went left grown
-        (can-run x.run (more_gone gone counts s) rest more (counted-on gone s was.run.gone counts x.run.gone few went h.goes.counted) short grown (held rest left)) on h.goes;
+        (can-run x.run (more_gone gone counts s) rest more (counted-on gone s was.run.gone counts x.run.gone few went h.goes.counted) short
+        grown (held rest left)) on h.goes;
   }

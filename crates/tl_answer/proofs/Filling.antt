@@ -34,7 +34,8 @@ pub room_size : (a : ℕ) (xs : List ℕ) → length (take (length xs - a) (drop
 room_size a xs = ap length (take_rest xs a) ∙ length-drop a xs
 
 -- a read gave n bytes more
-pub goes_on : (old now new : Option (List ℕ)) (most : ℕ) (first room buf : List ℕ) (f n : ℕ) → SoFar old now most first room f → length buf ≡ length room - f → n ≤ length buf → n ≤ most - f
+pub goes_on : (old now new : Option (List ℕ)) (most : ℕ) (first room buf : List ℕ) (f n : ℕ) → SoFar old now most first room f →
+    length buf ≡ length room - f → n ≤ length buf → n ≤ most - f
     → Consumes now new (take n buf) → SoFar old new most first (put_mid f (length room - f) room buf) (f + n)
 goes_on old now new most first room buf f n s size fits few took =
     let within : f ≤ length room = s.within in
@@ -44,11 +45,13 @@ goes_on old now new most first room buf f n s size fits few took =
       same = long ∙ s.same;
       within = omega (arith, long);
       few = omega arith;
-      took = subst (Consumes old new) (sym (put_front f (length room - f) n room buf s.within fits)) (Consumes-trans old now new (take f room) (take n buf) s.took took);
+      took = subst (Consumes old new) (sym (put_front f (length room - f) n room buf s.within fits))
+          (Consumes-trans old now new (take f room) (take n buf) s.took took);
     }
 
 -- and they were too many
-pub too_many : (old now new : Option (List ℕ)) (most : ℕ) (first room buf : List ℕ) (f n : ℕ) → SoFar old now most first room f → n ≤ length buf → most - f < n
+pub too_many : (old now new : Option (List ℕ)) (most : ℕ) (first room buf : List ℕ) (f n : ℕ) →
+    SoFar old now most first room f → n ≤ length buf → most - f < n
     → Consumes now new (take n buf) → IsTooMany old new most
 too_many old now new most first room buf f n s fits many took =
     let front : length (take f room) ≡ f = length-take-le f room s.within in
@@ -58,7 +61,8 @@ too_many old now new most first room buf f n s fits many took =
     (take f room ++ take n buf, Consumes-trans old now new (take f room) (take n buf) s.took took, omega arith)
 
 -- the bytes of a place, moved to the front
-moved_front : (buffer : List ℕ) (from to : ℕ) → from ≤ to → to ≤ length buffer → take (to - from) (copy_within buffer from to 0) ≡ slice_range buffer from to
+moved_front : (buffer : List ℕ) (from to : ℕ) → from ≤ to → to ≤ length buffer →
+    take (to - from) (copy_within buffer from to 0) ≡ slice_range buffer from to
 moved_front buffer from to le within =
     let part = take (to - from) (drop from buffer) in
     let after = length-drop from buffer in
@@ -66,7 +70,8 @@ moved_front buffer from to le within =
     ap (λ (n : ℕ). take n (part ++ drop (0 + (to - from)) buffer)) (sym size) ∙ take-append_seam part (drop (0 + (to - from)) buffer)
 
 -- and what was read behind them
-pub refilled : (old new : Option (List ℕ)) (buffer moved room : List ℕ) (from to most n : ℕ) → from ≤ to → to ≤ length buffer → length moved ≡ length buffer → moved ≡ copy_within buffer from to 0
+pub refilled : (old new : Option (List ℕ)) (buffer moved room : List ℕ) (from to most n : ℕ) → from ≤ to → to ≤ length buffer →
+    length moved ≡ length buffer → moved ≡ copy_within buffer from to 0
     → length room ≡ length moved - (to - from) → IsFilled old new most room n
     → IsRefilled old new (slice_range buffer from to) most (put_mid (to - from) (length moved - (to - from)) moved room) (to - from + n)
 refilled old new buffer moved room from to most n le within same is size f =
@@ -79,7 +84,8 @@ refilled old new buffer moved room from to most n le within same is size f =
     record {
       within = omega (arith, long);
       bytes = take n room;
-      front = put_front k (length moved - k) n moved room (omega arith) fits ∙ ap (λ (xs : List ℕ). xs ++ take n room) (ap (λ (xs : List ℕ). take k xs) is ∙ moved_front buffer from to le within);
+      front = put_front k (length moved - k) n moved room (omega arith) fits ∙
+          ap (λ (xs : List ℕ). xs ++ take n room) (ap (λ (xs : List ℕ). take k xs) is ∙ moved_front buffer from to le within);
       count = omega (arith, kept, bytes);
       few = let most_n : n ≤ most = f.few in omega arith;
       took = f.took;
@@ -92,13 +98,17 @@ module _ (unread old new : Option (List ℕ)) (used : List ℕ) (input : Input) 
   -- the part at the front of its buffer, and what was read behind it
   pub refilled-taken : (before buffer : List ℕ) (n : ℕ) → before ≡ input.buffer.items → length buffer ≡ length before
       → IsRefilled old new (slice_range before input.from input.to) (most_bytes - input.total) buffer n
-      → (input' : Input) → input'.buffer.items ≡ buffer → input'.from ≡ 0 → input'.to ≡ n → input'.total ≡ input.total + (n - (input.to - input.from)) → HasTaken unread new used input'
+      → (input' : Input) → input'.buffer.items ≡ buffer → input'.from ≡ 0 → input'.to ≡ n →
+      input'.total ≡ input.total + (n - (input.to - input.from)) → HasTaken unread new used input'
   refilled-taken before buffer n whole_is same given input' is from to total =
-      let r : IsRefilled old new (held input) (most_bytes - input.total) buffer n = subst (λ xs. IsRefilled old new (slice_range xs input.from input.to) (most_bytes - input.total) buffer n) whole_is given in
+      let r : IsRefilled old new (held input) (most_bytes - input.total) buffer n =
+      subst (λ xs. IsRefilled old new (slice_range xs input.from input.to) (most_bytes - input.total) buffer n) whole_is given in
       let size = held_size input t.from t.to in
       let front : held input' ≡ held input ++ r.bytes =
-      ap (λ (xs : List ℕ). slice_range xs input'.from input'.to) is ∙ ap (λ (k : ℕ). slice_range buffer k input'.to) from ∙ ap (λ (k : ℕ). take k buffer) (omega (arith, to)) ∙ r.front in
-      let whole : used ++ held input ++ r.bytes ≡ used ++ held input' = append_assoc used (held input) r.bytes ∙ ap (λ (xs : List ℕ). used ++ xs) (sym front) in
+      ap (λ (xs : List ℕ). slice_range xs input'.from input'.to) is ∙ ap (λ (k : ℕ). slice_range buffer k input'.to) from ∙
+      ap (λ (k : ℕ). take k buffer) (omega (arith, to)) ∙ r.front in
+      let whole : used ++ held input ++ r.bytes ≡ used ++ held input' = append_assoc used (held input) r.bytes ∙
+      ap (λ (xs : List ℕ). used ++ xs) (sym front) in
       let long : length input'.buffer.items ≡ length buffer = ap length is in
       let few : length r.bytes ≤ most_bytes - input.total = r.few in
       let read = length-append (used ++ held input) r.bytes in
@@ -117,7 +127,8 @@ module _ (unread old new : Option (List ℕ)) (used : List ℕ) (input : Input) 
   pub refilled-long : IsTooMany old new (most_bytes - input.total) → IfSome unread (λ text. most_bytes < length text)
   refilled-long many =
       let bytes = many.0 in
-      of_text (λ text. most_bytes < length text) unread new (used ++ held input ++ bytes) (Consumes-trans unread old new (used ++ held input) bytes t.took many.1) (λ more.
+      of_text (λ text. most_bytes < length text) unread new (used ++ held input ++ bytes)
+      (Consumes-trans unread old new (used ++ held input) bytes t.took many.1) (λ more.
       let past : most_bytes - input.total < length bytes = many.2 in
       let count : input.total ≡ length (used ++ held input) = t.count in
       let read = length-append (used ++ held input) bytes in

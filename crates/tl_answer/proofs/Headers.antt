@@ -68,12 +68,15 @@ widths_named text version client manager is =
     let all = known (body text) (header version client manager) is in (width_of version client all.1, width_of version manager all.2)
 
 -- a manager's width that is this one
-pub with_manager : (text : List ℕ) (version client manager width : ℕ) → manager ≡ width → HasHeader text version client manager → HasHeader text version client width
+pub with_manager : (text : List ℕ) (version client manager width : ℕ) → manager ≡ width → HasHeader text version client manager →
+    HasHeader text version client width
 with_manager text version client manager width is named = subst (λ w. HasHeader text version client w) is named
 
 -- a client's width that is this one, where the header was read of the same bytes
-pub with_client : (text bytes : List ℕ) (h : Header) (width : ℕ) → h.client ≡ width → bytes ≡ text → Some h ≡ header_of (body bytes) → HasHeader text h.version width h.manager
-with_client text bytes h width is same read = subst (λ w. HasHeader text h.version w h.manager) is (ap (λ xs. header_of (body xs)) (sym same) ∙ sym read)
+pub with_client : (text bytes : List ℕ) (h : Header) (width : ℕ) → h.client ≡ width → bytes ≡ text → Some h ≡ header_of (body bytes) →
+    HasHeader text h.version width h.manager
+with_client text bytes h width is same read =
+    subst (λ w. HasHeader text h.version w h.manager) is (ap (λ xs. header_of (body xs)) (sym same) ∙ sym read)
 
 -- the same of a text that is read piece by piece
 pub asked_manager : (left : Option (List ℕ)) (input : Input) (version client manager : ℕ) (order : Order) (width : ℕ) → manager ≡ width →
@@ -84,7 +87,8 @@ asked_manager left input version client manager order width is asked = record {
   runnable = asked.runnable;
 }
 
-pub asked_client : (left : Option (List ℕ)) (input : Input) (order : Order) (bytes : List ℕ) (h : Header) (width : ℕ) → h.client ≡ width → bytes ≡ held input →
+pub asked_client : (left : Option (List ℕ)) (input : Input) (order : Order) (bytes : List ℕ) (h : Header) (width : ℕ) →
+    h.client ≡ width → bytes ≡ held input →
     Some h ≡ header_of (body bytes) → IsFresh left input × IsRunnable order → IsAsked left input h.version width h.manager order
 asked_client left input order bytes h width is same read asked = record {
   fresh = asked.0;
@@ -93,7 +97,8 @@ asked_client left input order bytes h width is same read asked = record {
 }
 
 -- a script that was read of a text with this header can cross the bridge
-pub can-cross : (text : List ℕ) (version C M : ℕ) → HasHeader text version C M → (lines : List Line) → length lines ≤ most_bytes → (s : Script C M) → IsScriptOf lines s → CanCross s
+pub can-cross : (text : List ℕ) (version C M : ℕ) → HasHeader text version C M → (lines : List Line) → length lines ≤ most_bytes → (s : Script C M) →
+    IsScriptOf lines s → CanCross s
 can-cross text version C M named lines few s is =
     let widths = widths_named text version C M named in
     record { client = widths.0; manager = widths.1; short = short C M lines few s is }

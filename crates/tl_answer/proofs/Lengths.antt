@@ -27,7 +27,8 @@ lines-in-bytes version client manager (line ∷ lines) text (body, rest, same, s
     omega arith
 
 -- a trace has fewer lines behind its header's than its text has bytes
-pub lines-below : (text : List ℕ) (version client manager : ℕ) (lines : List Line) → Tells text version client manager lines → suc (length lines) ≤ length text
+pub lines-below : (text : List ℕ) (version client manager : ℕ) (lines : List Line) → Tells text version client manager lines →
+    suc (length lines) ≤ length text
 lines-below text version client manager lines tells =
     let below = lines-in-bytes version client manager lines tells.rest tells.told in
     let more : suc (length tells.rest) ≤ length text =

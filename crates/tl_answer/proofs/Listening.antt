@@ -34,24 +34,31 @@ module _ {X : Type 0} where
   end-of n gone held is = record { before = gone; whole = refl; place = is }
 
   -- what goes on behind what was let go goes on behind what was held
-  before-going : (gone held left beats : List X) (n : ℕ) → left ≡ drop n held → GoesOn ((gone ++ take n held) ++ left) beats → GoesOn (gone ++ held) beats
+  before-going : (gone held left beats : List X) (n : ℕ) → left ≡ drop n held →
+      GoesOn ((gone ++ take n held) ++ left) beats → GoesOn (gone ++ held) beats
   before-going gone held left beats n is on =
       let same : (gone ++ take n held) ++ left ≡ gone ++ held =
-      append_assoc gone (take n held) left ∙ ap (λ (xs : List X). gone ++ xs) (ap (λ (xs : List X). take n held ++ xs) is ∙ take-append-drop n held) in
+      append_assoc gone (take n held) left ∙
+      ap (λ (xs : List X). gone ++ xs) (ap (λ (xs : List X). take n held ++ xs) is ∙ take-append-drop n held) in
       subst (λ xs. GoesOn xs beats) same on
 
   -- and behind what was held before a piece more
   before-growing : (gone held more beats : List X) → GoesOn held more → GoesOn (gone ++ more) beats → GoesOn (gone ++ held) beats
-  before-growing gone held more beats grown on =
-      (grown.0 ++ on.0, on.1 ∙ ap (λ (xs : List X). xs ++ on.0) (ap (λ (xs : List X). gone ++ xs) grown.1 ∙ sym (append_assoc gone held grown.0)) ∙ append_assoc (gone ++ held) grown.0 on.0)
+  before-growing gone held more beats grown on = (
+    grown.0 ++ on.0,
+    on.1 ∙ ap (λ (xs : List X). xs ++ on.0) (ap (λ (xs : List X). gone ++ xs) grown.1 ∙ sym (append_assoc gone held grown.0)) ∙
+        append_assoc (gone ++ held) grown.0 on.0,
+  )
 
-  longer-by : (gone held : List X) (n before after : ℕ) → n ≤ length held → before ≡ length gone → after ≡ before + n → after ≡ length (gone ++ take n held)
+  longer-by : (gone held : List X) (n before after : ℕ) → n ≤ length held → before ≡ length gone → after ≡ before + n →
+      after ≡ length (gone ++ take n held)
   longer-by gone held n before after few was is =
       let some = length-take-le n held few in
       let sum = length-append gone (take n held) in
       omega (arith, some, sum, was, is)
 
-  pub within : (gone held more : List X) (n at far : ℕ) → n ≡ length gone → length (gone ++ more) ≤ 2 ^ 40 → GoesOn held more → IsWithin n at far (length held) → IsWithin n at far (length more)
+  pub within : (gone held more : List X) (n at far : ℕ) → n ≡ length gone → length (gone ++ more) ≤ 2 ^ 40 → GoesOn held more →
+      IsWithin n at far (length held) → IsWithin n at far (length more)
   within gone held more n at far is few grown w =
       let sum = length-append gone more in
       let all : length more ≡ length held + length grown.0 = ap length grown.1 ∙ length-append held grown.0 in
@@ -60,13 +67,15 @@ module _ {X : Type 0} where
 -- ---- a script
 
 -- the lines of what was read were heard, but for one that may go on
-pub record IsAhead {L : Type 0} {C M : ℕ} (Listens : L → Gone C M → Script C M → Type 0) (unread left : Option (List ℕ)) (v : ℕ) (lines : ScriptReader C M) (input : Input) (listener : L) : Type 0 where
+pub record IsAhead {L : Type 0} {C M : ℕ} (Listens : L → Gone C M → Script C M → Type 0) (unread left : Option (List ℕ)) (v : ℕ)
+    (lines : ScriptReader C M) (input : Input) (listener : L) : Type 0 where
   pub heard : HasHeard Listens unread left lines input listener
   pub version : lines.version ≡ v
 
 module _ {C M : ℕ} where
   -- what has gone and what is held can be counted
-  pub counted : (unread left : Option (List ℕ)) (gone : Gone C M) (lines : ScriptReader C M) (input : Input) → IsBetweenPast gone unread left lines input → IsShort (all_of gone lines.script)
+  pub counted : (unread left : Option (List ℕ)) (gone : Gone C M) (lines : ScriptReader C M) (input : Input) →
+      IsBetweenPast gone unread left lines input → IsShort (all_of gone lines.script)
   counted unread left gone lines input b =
       let sum = length-append b.used (held input) in
       let count = b.taken.count in
@@ -83,7 +92,8 @@ module _ {C M : ℕ} where
       }
 
   -- the first piece
-  pub first-heard : {L : Type 0} (Listens : L → Gone C M → Script C M → Type 0) (unread left : Option (List ℕ)) (lines : ScriptReader C M) (input : Input) (listener : L) →
+  pub first-heard : {L : Type 0} (Listens : L → Gone C M → Script C M → Type 0) (unread left : Option (List ℕ)) (lines : ScriptReader C M)
+      (input : Input) (listener : L) →
       IsNew Listens listener → IsBetween unread left lines input → HasHeard Listens unread left lines input listener
   first-heard Listens unread left lines input listener new b = record {
     gone = none_gone;
@@ -95,7 +105,8 @@ module _ {C M : ℕ} where
   all-near lines gone s is = rw is.a (rw is.b (rw is.c (rw is.d (rw is.e refl))))
 
   -- so many more are counted
-  pub counted-on : (gone : Gone C M) (s : Script C M) (before counts after : Counts) → HasCounts counts s → HaveGone before counts after → AreCounted before gone →
+  pub counted-on : (gone : Gone C M) (s : Script C M) (before counts after : Counts) → HasCounts counts s →
+      HaveGone before counts after → AreCounted before gone →
       AreCounted after (more_gone gone counts s)
   counted-on gone s before counts after few went is = record {
     a = longer-by gone.a s.a.items counts.a before.a after.a few.a is.a went.a;
@@ -106,7 +117,8 @@ module _ {C M : ℕ} where
   }
 
   -- what was heard went, and more was read behind it
-  pub goes-on : (Can Now : Script C M → Type 0) (Has Had : Beats C M → Type 0) (gone : Gone C M) (s rest more : Script C M) (before counts after : Counts) →
+  pub goes-on : (Can Now : Script C M → Type 0) (Has Had : Beats C M → Type 0) (gone : Gone C M) (s rest more : Script C M)
+      (before counts after : Counts) →
       HasCounts counts s → HaveGone before counts after → HasLetGo counts s rest → HasGrown rest more → Now more →
       ((beats : Beats C M) → ArePart before s beats → Had beats → Has beats) →
       GoesWith before Can Had gone s → GoesWith after Now Has (more_gone gone counts s) more
@@ -115,11 +127,16 @@ module _ {C M : ℕ} where
     can = now;
     has = λ beats f.
         let follow : Follow gone s beats = record {
-          a = before-going gone.a s.a.items rest.a.items beats.a counts.a left.a (before-growing (gone.a ++ take counts.a s.a.items) rest.a.items more.a.items beats.a grown.a f.a);
-          b = before-going gone.b s.b.items rest.b.items beats.b counts.b left.b (before-growing (gone.b ++ take counts.b s.b.items) rest.b.items more.b.items beats.b grown.b f.b);
-          c = before-going gone.c s.c.items rest.c.items beats.c counts.c left.c (before-growing (gone.c ++ take counts.c s.c.items) rest.c.items more.c.items beats.c grown.c f.c);
-          d = before-going gone.d s.d.items rest.d.items beats.d counts.d left.d (before-growing (gone.d ++ take counts.d s.d.items) rest.d.items more.d.items beats.d grown.d f.d);
-          e = before-going gone.e s.e.items rest.e.items beats.e counts.e left.e (before-growing (gone.e ++ take counts.e s.e.items) rest.e.items more.e.items beats.e grown.e f.e);
+          a = before-going gone.a s.a.items rest.a.items beats.a counts.a left.a
+              (before-growing (gone.a ++ take counts.a s.a.items) rest.a.items more.a.items beats.a grown.a f.a);
+          b = before-going gone.b s.b.items rest.b.items beats.b counts.b left.b
+              (before-growing (gone.b ++ take counts.b s.b.items) rest.b.items more.b.items beats.b grown.b f.b);
+          c = before-going gone.c s.c.items rest.c.items beats.c counts.c left.c
+              (before-growing (gone.c ++ take counts.c s.c.items) rest.c.items more.c.items beats.c grown.c f.c);
+          d = before-going gone.d s.d.items rest.d.items beats.d counts.d left.d
+              (before-growing (gone.d ++ take counts.d s.d.items) rest.d.items more.d.items beats.d grown.d f.d);
+          e = before-going gone.e s.e.items rest.e.items beats.e counts.e left.e
+              (before-growing (gone.e ++ take counts.e s.e.items) rest.e.items more.e.items beats.e grown.e f.e);
         } in
         let is = h.counted in
         on beats (record {
@@ -132,7 +149,8 @@ module _ {C M : ℕ} where
   }
 
   -- a listener that has heard nothing
-  pub new-goes : (Can : Script C M → Type 0) (Has : Beats C M → Type 0) (count : Counts) → count ≡ none_counted → (s : Script C M) → Can s → ((beats : Beats C M) → Has beats) →
+  pub new-goes : (Can : Script C M → Type 0) (Has : Beats C M → Type 0) (count : Counts) → count ≡ none_counted → (s : Script C M) → Can s →
+      ((beats : Beats C M) → Has beats) →
       GoesWith count Can Has none_gone s
   new-goes Can Has count none s can has = record {
     counted = record { a = ap (λ q. q.a) none; b = ap (λ q. q.b) none; c = ap (λ q. q.c) none; d = ap (λ q. q.d) none; e = ap (λ q. q.e) none };
@@ -141,7 +159,8 @@ module _ {C M : ℕ} where
   }
 
   -- a judge can go on with more
-  pub can-judge : (judge : Judge C M) (gone : Gone C M) (rest more : Script C M) → AreCounted judge.gone gone → IsShort (all_of gone more) → HasGrown rest more → CanJudge judge rest → CanJudge judge more
+  pub can-judge : (judge : Judge C M) (gone : Gone C M) (rest more : Script C M) → AreCounted judge.gone gone → IsShort (all_of gone more) →
+      HasGrown rest more → CanJudge judge rest → CanJudge judge more
   can-judge judge gone rest more is few grown can = record {
     a = within gone.a rest.a.items more.a.items judge.gone.a judge.a.at judge.a.far is.a few.few_a grown.a can.a;
     b = within gone.b rest.b.items more.b.items judge.gone.b judge.b.at judge.b.far is.b few.few_b grown.b can.b;
@@ -151,7 +170,8 @@ module _ {C M : ℕ} where
   }
 
   -- at the end
-  module _ (Can : Script C M → Type 0) (Has : Beats C M → Type 0) (count : Counts) (gone : Gone C M) (s : Script C M) (h : GoesWith count Can Has gone s) where
+  module _ (Can : Script C M → Type 0) (Has : Beats C M → Type 0) (count : Counts) (gone : Gone C M) (s : Script C M)
+      (h : GoesWith count Can Has gone s) where
     pub are-end : AreEnd count s (all_of gone s)
     are-end = let is = h.counted in record {
       a = end-of count.a gone.a s.a.items is.a;
@@ -172,7 +192,8 @@ module _ {C M : ℕ} where
 
   -- where all is kept, what is held at the end is the script
   pub reads-script : (unread left : Option (List ℕ)) (version : ℕ) (input : Input) (keeper : KeepAll) (result : Result (Script C M) TextFault) →
-      IfOk result (IsReadThrough (Keeps version) unread left version keeper) → IfErr result (IsRefused unread left input) → ReadsScript unread left version input result
+      IfOk result (IsReadThrough (Keeps version) unread left version keeper) → IfErr result (IsRefused unread left input) →
+      ReadsScript unread left version input result
   reads-script unread left version input keeper (Err fault) ok err = err
   reads-script unread left version input keeper (Ok s) read err =
       let is = subst (λ gone. IsRestOf read.lines gone s) read.listens read.rest in

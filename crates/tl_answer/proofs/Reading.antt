@@ -15,7 +15,8 @@ abbrev pub to_read : List ℕ → Bool → ℕ
 to_read all more = (most_bytes - length all) + cond more 1 0
 
 -- a read gave more bytes than there may be
-pub too_long : (old new : Option (List ℕ)) (all buf : List ℕ) (n : ℕ) → length all ≤ most_bytes → n ≤ length buf → most_bytes - length all < n → Consumes old new (take n buf) → IsPastMost old all
+pub too_long : (old new : Option (List ℕ)) (all buf : List ℕ) (n : ℕ) → length all ≤ most_bytes → n ≤ length buf → most_bytes - length all < n →
+    Consumes old new (take n buf) → IsPastMost old all
 too_long old new all buf n few fits many took unread h =
     of_text (λ text. most_bytes < length text) unread new (all ++ take n buf) (Consumes-trans unread old new all (take n buf) h took) (λ more.
     let back = length-take-le n buf fits in

@@ -103,10 +103,30 @@ waiting_is_not_done = refl
 abbrev five : List Line
 five =
     line.E (record { head = record { sink = 7 }; mask = 0; lanes = replicate WIDEST 0; corrupt = false }) ∷
-    line.D (record { head = record { opcode = 4; param = 0; size = 6; source = 1; sink = 7; denied = false }; mask = 0; lanes = replicate WIDEST 0; corrupt = false }) ∷
-    line.C (record { head = record { opcode = 4; param = 1; size = 6; source = 0; address = 0x80 }; mask = 0; lanes = replicate WIDEST 0; corrupt = false }) ∷
-    line.B (record { head = record { opcode = 7; param = 2; size = 6; source = 0; address = 0x80 }; mask = 0xff; lanes = replicate WIDEST 0; corrupt = false }) ∷
-    line.A (record { head = record { opcode = 7; param = 2; size = 6; source = 1; address = 0x40 }; mask = 0xf; lanes = replicate WIDEST 0; corrupt = false }) ∷ []
+    line.D (record {
+      head = record { opcode = 4; param = 0; size = 6; source = 1; sink = 7; denied = false };
+      mask = 0;
+      lanes = replicate WIDEST 0;
+      corrupt = false;
+    }) ∷
+    line.C (record {
+      head = record { opcode = 4; param = 1; size = 6; source = 0; address = 0x80 };
+      mask = 0;
+      lanes = replicate WIDEST 0;
+      corrupt = false;
+    }) ∷
+    line.B (record {
+      head = record { opcode = 7; param = 2; size = 6; source = 0; address = 0x80 };
+      mask = 0xff;
+      lanes = replicate WIDEST 0;
+      corrupt = false;
+    }) ∷
+    line.A (record {
+      head = record { opcode = 7; param = 2; size = 6; source = 1; address = 0x40 };
+      mask = 0xf;
+      lanes = replicate WIDEST 0;
+      corrupt = false;
+    }) ∷ []
 
 five_cross : answer_of 1 4 8 five false ≡ lines_of
     (codes "tilelink-far 1 client 4 manager 8" ∷

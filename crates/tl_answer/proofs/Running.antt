@@ -8,13 +8,15 @@ use Rattle.tl_ring.specs.declared.pipe.TheConstants.{MAX_RING}
 pub size-is-right : {X : Type 0} (result : Result X RunFault) (ring : ℕ) → 1 ≤ ring → ring ≤ MAX_RING →
     IfErr result (λ fault. (fault ≡ RingSize) ↔ ((ring ≡ 0) ⊎ (MAX_RING < ring))) → IfErr result (λ fault. fault ≢ RingSize)
 size-is-right result ring some few refused =
-    IfErr-weaker result (λ fault. (fault ≡ RingSize) ↔ ((ring ≡ 0) ⊎ (MAX_RING < ring))) (λ fault. fault ≢ RingSize) (λ fault when is. elim (when.0 is) [
+    IfErr-weaker result (λ fault. (fault ≡ RingSize) ↔ ((ring ≡ 0) ⊎ (MAX_RING < ring))) (λ fault. fault ≢ RingSize)
+    (λ fault when is. elim (when.0 is) [
       | inl none ↦ omega (arith, none, some)
       | inr more ↦ omega (arith, more, few)
     ]) refused
 
 -- and not for a stall: so for want of memory alone
-pub for-memory : {X : Type 0} (result : Result X RunFault) → IfErr result (λ fault. fault ≢ RingSize) → IfErr result (λ fault. fault ≢ Stalled) → IfErr result (λ fault. fault ≡ OutOfMemory)
+pub for-memory : {X : Type 0} (result : Result X RunFault) → IfErr result (λ fault. fault ≢ RingSize) → IfErr result (λ fault. fault ≢ Stalled) →
+    IfErr result (λ fault. fault ≡ OutOfMemory)
 for-memory (Ok made) sized moves = tt
 for-memory (Err RingSize) sized moves = absurd (sized refl)
 for-memory (Err OutOfMemory) sized moves = refl

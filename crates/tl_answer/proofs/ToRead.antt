@@ -52,7 +52,8 @@ pub unlike : (m n : ℕ) → nat_eq m n ≡ false → m ≢ n
 unlike m n other e = absurd (let bad = sym other ∙ eq-eqb m n e in cc)
 
 -- lines can be counted
-pub line_few : {C M : ℕ} {gone : Gone C M} (unread left : Option (List ℕ)) (lines : ScriptReader C M) (input : Input) → IsBetweenPast gone unread left lines input → lines.line + 1 < 2 ^ 64
+pub line_few : {C M : ℕ} {gone : Gone C M} (unread left : Option (List ℕ)) (lines : ScriptReader C M) (input : Input) →
+    IsBetweenPast gone unread left lines input → lines.line + 1 < 2 ^ 64
 line_few {C} {M} {gone} unread left lines input b =
     let below = lines-below b.used lines.version C M b.read.lines b.read.told in
     let sum = length-append b.used (held input) in
@@ -62,10 +63,12 @@ line_few {C} {M} {gone} unread left lines input b =
     omega arith
 
 -- the header's line is used
-pub begins : {C M : ℕ} (unread left : Option (List ℕ)) (input input' : Input) (lines : ScriptReader C M) (version end : ℕ) (bytes : List ℕ) → bytes ≡ held input
+pub begins : {C M : ℕ} (unread left : Option (List ℕ)) (input input' : Input) (lines : ScriptReader C M) (version end : ℕ)
+    (bytes : List ℕ) → bytes ≡ held input
     → HasTaken unread left [] input → HasHeader (held input) version C M → LineAt bytes 0 end → end < length bytes
     → input'.from ≡ input.from + (end + 1) → input'.to ≡ input.to → input'.buffer.items ≡ input.buffer.items → input'.total ≡ input.total
-    → lines.version ≡ version → ((text : List ℕ) → IsHeaderLine text version C M → HasRead version text lines.script lines.line) → IsBetween unread left lines input'
+    → lines.version ≡ version → ((text : List ℕ) → IsHeaderLine text version C M → HasRead version text lines.script lines.line) →
+    IsBetween unread left lines input'
 begins {C} {M} unread left input input' lines version end bytes same t named line lt from to buffer total is told =
     let size = held_size input t.from t.to in
     let sized : length bytes ≡ length (held input) = ap length same in
@@ -75,12 +78,14 @@ begins {C} {M} unread left input input' lines version end bytes same t named lin
     record {
       used = take (end + 1) (held input);
       taken = advanced input input' (end + 1) from to buffer total inside unread left [] t;
-      read = subst (λ v. HasRead v (take (end + 1) (held input)) lines.script lines.line) (sym is) (told (take (end + 1) (held input)) (header_line (held input) end version C M line' lt' named));
+      read = subst (λ v. HasRead v (take (end + 1) (held input)) lines.script lines.line) (sym is)
+          (told (take (end + 1) (held input)) (header_line (held input) end version C M line' lt' named));
     }
 
 -- ---- a text whose first line has no end, or no header
 
-short_text : (version client manager : ℕ) → is_version version ≡ true → is_width version client ≡ true → is_width version manager ≡ true → nat_le (length (header_text version client manager)) 64 ≡ true
+short_text : (version client manager : ℕ) → is_version version ≡ true → is_width version client ≡ true → is_width version manager ≡ true →
+    nat_le (length (header_text version client manager)) 64 ≡ true
 unfolding digits
 short_text version client manager v c m =
     in_list (λ n. nat_le (length (header_text version client n)) 64) (widths version) manager m
@@ -91,10 +96,12 @@ short_text version client manager v c m =
 pub header_short : (text : List ℕ) (h : Header) → header_of text ≡ Some h → length text ≤ 64
 header_short text h is =
     let all = known text h is in
-    leb-true (length text) 64 (ap (λ (xs : List ℕ). nat_le (length xs) 64) (is_header text h is) ∙ short_text h.version h.client h.manager all.0 all.1 all.2)
+    leb-true (length text) 64 (ap (λ (xs : List ℕ). nat_le (length xs) 64) (is_header text h is) ∙
+    short_text h.version h.client h.manager all.0 all.1 all.2)
 
 -- a header's line that is not whole is the text's end
-pub header_unended : (left : Option (List ℕ)) (input : Input) (version client manager end : ℕ) (bytes : List ℕ) → bytes ≡ held input → IsFresh left input → HasHeader (held input) version client manager
+pub header_unended : (left : Option (List ℕ)) (input : Input) (version client manager end : ℕ) (bytes : List ℕ) → bytes ≡ held input →
+    IsFresh left input → HasHeader (held input) version client manager
     → LineAt bytes 0 end → length bytes ≤ end → IfSome (unread_of input left) (λ text. IsFirstFault text 1 kinds.NoEnd)
 header_unended left input version client manager end bytes same fresh named line past =
     let line' : LineAt (held input) 0 end = subst (λ xs. LineAt xs 0 end) same line in
@@ -102,20 +109,25 @@ header_unended left input version client manager end bytes same fresh named line
     let first = first_line (held input) end line' in
     let some : header_of (slice_range (held input) 0 end) ≡ Some (header version client manager) = ap header_of (sym first) ∙ named in
     let whole : held input ≡ slice_range (held input) 0 end = last_line (held input) 0 end line' all in
-    let short : length (held input) ≤ 64 = subst (λ n. n ≤ 64) (sym (ap length whole)) (header_short (slice_range (held input) 0 end) (header version client manager) some) in
+    let short : length (held input) ≤ 64 =
+    subst (λ n. n ≤ 64) (sym (ap length whole)) (header_short (slice_range (held input) 0 end) (header version client manager) some) in
     let size = held_size input fresh.taken.from fresh.taken.to in
-    let not_full : input.to ≢ length input.buffer.items = λ e. let room = fresh.taken.room in let zero_from = fresh.first in absurd (omega (arith, room, zero_from, e, size, short)) in
+    let not_full : input.to ≢ length input.buffer.items = λ e. let room = fresh.taken.room in let zero_from = fresh.first in
+    absurd (omega (arith, room, zero_from, e, size, short)) in
     of_whole (λ text. IsFirstFault text 1 kinds.NoEnd) (unread_of input left) left (held input) fresh.taken.took (fresh.taken.end not_full)
     (no_header_end (held input) end (header version client manager) line' some all)
 
 -- all that was read is used
 pub used_up : (unread left : Option (List ℕ)) (used : List ℕ) (input : Input) → HasTaken unread left used input
-    → HasTaken unread left (used ++ take (input.to - input.from) (held input)) (record { buffer = input.buffer; from = input.to; to = input.to; total = input.total })
+    → HasTaken unread left (used ++ take (input.to - input.from) (held input))
+    (record { buffer = input.buffer; from = input.to; to = input.to; total = input.total })
 used_up unread left used input t =
-    advanced input (record { buffer = input.buffer; from = input.to; to = input.to; total = input.total }) (input.to - input.from) (omega (arith, t.from)) refl refl refl (omega (arith, t.from)) unread left used t
+    advanced input (record { buffer = input.buffer; from = input.to; to = input.to; total = input.total }) (input.to - input.from)
+    (omega (arith, t.from)) refl refl refl (omega (arith, t.from)) unread left used t
 
 -- the end was found
-pub all_read : (unread left : Option (List ℕ)) (used : List ℕ) (input : Input) → HasTaken unread left used input → nat_eq input.to (length input.buffer.items) ≡ false
+pub all_read : (unread left : Option (List ℕ)) (used : List ℕ) (input : Input) → HasTaken unread left used input →
+    nat_eq input.to (length input.buffer.items) ≡ false
     → IsAtEnd left × IfSome unread (λ text. length text ≤ most_bytes)
 all_read unread left used input t other =
     let end = t.end (unlike input.to (length input.buffer.items) other) in

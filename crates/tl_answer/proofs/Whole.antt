@@ -11,8 +11,10 @@ use Rattle.tl_answer.proofs.Headers.{no_header}
 use Rattle.tl_answer.proofs.ToRead.{header_short, unlike}
 
 -- an answer to the text that was read is one to the text that the reader had
-pub reads_answer : (unread left : Option (List ℕ)) (check : Bool) (input : Input) (text : List ℕ) → Consumes unread left text → IsAtEnd left → length text ≤ most_bytes → (given : Result AnswerParts TextFault)
-    → IfOk given (λ made. IsAnswer text check (spelled made) made.all_done) → IfErr given (λ fault. fault ≡ faults.OutOfMemory) → ReadsAnswer unread left check input given
+pub reads_answer : (unread left : Option (List ℕ)) (check : Bool) (input : Input) (text : List ℕ) → Consumes unread left text → IsAtEnd left →
+    length text ≤ most_bytes → (given : Result AnswerParts TextFault)
+    → IfOk given (λ made. IsAnswer text check (spelled made) made.all_done) → IfErr given (λ fault. fault ≡ faults.OutOfMemory) →
+    ReadsAnswer unread left check input given
 reads_answer unread left check input text took end few (Ok made) is none = record {
   end = end;
   few = of_whole (λ t. length t ≤ most_bytes) unread left text took end few;
@@ -31,7 +33,8 @@ fresh_of unread left input t first = record {
     took None = tt
     took (Some more) = refl
 
-pub of_unread : (P : List ℕ → Type 0) (unread left : Option (List ℕ)) (bytes : List ℕ) → Consumes unread left bytes → IfSome (prepend_known bytes left) P → IfSome unread P
+pub of_unread : (P : List ℕ → Type 0) (unread left : Option (List ℕ)) (bytes : List ℕ) → Consumes unread left bytes →
+    IfSome (prepend_known bytes left) P → IfSome unread P
 of_unread P None left bytes took is = tt
 of_unread P (Some text) None bytes took is = absurd took
 of_unread P (Some text) (Some more) bytes took is = subst P (sym took) is
@@ -42,7 +45,8 @@ body_ended : (bytes more : List ℕ) → list_any is_newline bytes ≡ true → 
 body_ended [] more ends = absurd cc
 body_ended (byte ∷ bytes) more ends = pick (is_newline byte) refl ends (body_ended bytes more)
   where
-    pick : (b : Bool) → is_newline byte ≡ b → b || list_any is_newline bytes ≡ true → (list_any is_newline bytes ≡ true → body (bytes ++ more) ≡ body bytes) → body (byte ∷ bytes ++ more) ≡ body (byte ∷ bytes)
+    pick : (b : Bool) → is_newline byte ≡ b → b || list_any is_newline bytes ≡ true →
+        (list_any is_newline bytes ≡ true → body (bytes ++ more) ≡ body bytes) → body (byte ∷ bytes ++ more) ≡ body (byte ∷ bytes)
     pick true e ends rest = rw e refl
     pick false e ends rest = rw e (ap (λ (xs : List ℕ). byte ∷ xs) (rest ends))
 
@@ -61,7 +65,8 @@ long_none text long = pick (header_of text) refl
     pick None e = e
     pick (Some h) e = let short = header_short text h e in absurd (omega (arith, short, long))
 
-pub header_missing : (left : Option (List ℕ)) (input : Input) → IsFresh left input → header_of (body (held input)) ≡ None → IfSome (unread_of input left) (λ text. IsFirstFault text 1 kinds.Header)
+pub header_missing : (left : Option (List ℕ)) (input : Input) → IsFresh left input → header_of (body (held input)) ≡ None →
+    IfSome (unread_of input left) (λ text. IsFirstFault text 1 kinds.Header)
 header_missing left input fresh none = pick (list_any is_newline (held input)) refl (nat_eq input.to (length input.buffer.items)) refl
   where
     P : List ℕ → Type 0
@@ -70,9 +75,12 @@ header_missing left input fresh none = pick (list_any is_newline (held input)) r
     size : length (held input) ≡ input.to - input.from
     size = held_size input fresh.taken.from fresh.taken.to
 
-    pick : (ends : Bool) → list_any is_newline (held input) ≡ ends → (full : Bool) → nat_eq input.to (length input.buffer.items) ≡ full → IfSome (unread_of input left) P
-    pick true e full is = of_text P (unread_of input left) left (held input) fresh.taken.took (λ more. no_header (held input ++ more) (ap header_of (body_ended (held input) more e) ∙ none))
-    pick false e false is = of_whole P (unread_of input left) left (held input) fresh.taken.took (fresh.taken.end (unlike input.to (length input.buffer.items) is)) (no_header (held input) none)
+    pick : (ends : Bool) → list_any is_newline (held input) ≡ ends → (full : Bool) → nat_eq input.to (length input.buffer.items) ≡ full →
+        IfSome (unread_of input left) P
+    pick true e full is = of_text P (unread_of input left) left (held input) fresh.taken.took
+        (λ more. no_header (held input ++ more) (ap header_of (body_ended (held input) more e) ∙ none))
+    pick false e false is = of_whole P (unread_of input left) left (held input) fresh.taken.took
+        (fresh.taken.end (unlike input.to (length input.buffer.items) is)) (no_header (held input) none)
     pick false e true is = of_text P (unread_of input left) left (held input) fresh.taken.took (λ more.
         let room = fresh.taken.room in
         let first = fresh.first in

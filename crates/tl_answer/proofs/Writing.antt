@@ -18,18 +18,21 @@ rest_is : (text : List ℕ) (n : ℕ) → take (length text - n) (drop n text) �
 rest_is text n = subst (λ l. take l (drop n text) ≡ drop n text) (length-drop n text) (take-length (drop n text))
 
 -- a write took m items of the rest
-pub goes_on : (a b c : Option (List ℕ)) (text rest : List ℕ) (n m : ℕ) → rest ≡ take (length text - n) (drop n text) → SoFar a b text n → m ≤ length rest → Appends b c (take m rest) → SoFar a c text (n + m)
+pub goes_on : (a b c : Option (List ℕ)) (text rest : List ℕ) (n m : ℕ) → rest ≡ take (length text - n) (drop n text) → SoFar a b text n →
+    m ≤ length rest → Appends b c (take m rest) → SoFar a c text (n + m)
 goes_on a b c text rest n m e h few bytes =
     let same : rest ≡ drop n text = e ∙ rest_is text n in
     let long : length rest ≡ length text - n = ap length same ∙ length-drop n text in
     let here : n ≤ length text = h.few in
     record {
-      some = rw (take-add n m text) (Appends-trans a b c (take n text) (take m (drop n text)) h.some (subst (λ l. Appends b c (take m l)) same bytes));
+      some = rw (take-add n m text)
+          (Appends-trans a b c (take n text) (take m (drop n text)) h.some (subst (λ l. Appends b c (take m l)) same bytes));
       few = omega (arith, long, few, here);
     }
 
 -- five texts, one after the other, and what keeps them
-pub five-out : (w0 w1 w2 w3 w4 w5 w6 : Option (List ℕ)) (a b c d e : List ℕ) → Appends w0 w1 a → Appends w1 w2 b → Appends w2 w3 c → Appends w3 w4 d → Appends w4 w5 e → Keeps w5 w6 →
+pub five-out : (w0 w1 w2 w3 w4 w5 w6 : Option (List ℕ)) (a b c d e : List ℕ) → Appends w0 w1 a → Appends w1 w2 b → Appends w2 w3 c → Appends w3 w4 d →
+    Appends w4 w5 e → Keeps w5 w6 →
     Appends w0 w6 (a ++ b ++ c ++ d ++ e)
 five-out w0 w1 w2 w3 w4 w5 w6 a b c d e to_a to_b to_c to_d to_e kept =
     let with_b = Appends-trans w0 w1 w2 a b to_a to_b in
@@ -43,7 +46,8 @@ keeps-itself None = tt
 keeps-itself (Some text) = refl
 
 -- a text without an answer, where nothing was written
-pub unwritten : (unread left held : Option (List ℕ)) (order : Order) (fault : TextFault) → AnswersRead unread left order (Err fault) → AnswersText unread left held held order (Err fault)
+pub unwritten : (unread left held : Option (List ℕ)) (order : Order) (fault : TextFault) → AnswersRead unread left order (Err fault) →
+    AnswersText unread left held held order (Err fault)
 unwritten unread left held order (faults.Trace fault) read = (read.0, keeps-itself held, read.1, read.2)
 unwritten unread left held order faults.Stalled read = read
 unwritten unread left held order faults.Read read = keeps-itself held
@@ -52,9 +56,12 @@ unwritten unread left held order faults.TooLong read = (keeps-itself held, read)
 unwritten unread left held order faults.OutOfMemory read = keeps-itself held
 
 -- what was written is the answer
-pub written : (unread left held holds : Option (List ℕ)) (order : Order) (made : AnswerParts) (result : Result Bool TextFault) → AnswersRead unread left order (Ok made)
-    → OnOk result (Appends held holds (spelled made)) → IfOk result (λ done. done ≡ made.all_done) → IfErr result (λ fault. fault ≡ faults.Write) → AnswersText unread left held holds order result
-written unread left held holds order made (Err fault) read out done kind = subst (λ f. AnswersText unread left held holds order (Err f)) (sym kind) read.0
+pub written : (unread left held holds : Option (List ℕ)) (order : Order) (made : AnswerParts) (result : Result Bool TextFault) →
+    AnswersRead unread left order (Ok made)
+    → OnOk result (Appends held holds (spelled made)) → IfOk result (λ done. done ≡ made.all_done) → IfErr result (λ fault. fault ≡ faults.Write) →
+    AnswersText unread left held holds order result
+written unread left held holds order made (Err fault) read out done kind =
+    subst (λ f. AnswersText unread left held holds order (Err f)) (sym kind) read.0
 written unread left held holds order made (Ok all_done) read out done kind = (read.0, answer unread read.1)
   where
     answer : (u : Option (List ℕ)) → IfSome u (λ text. IsAnswer text (is_check order) (spelled made) made.all_done)

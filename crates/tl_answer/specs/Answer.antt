@@ -1,5 +1,5 @@
--- The answer to a text (this project's choice). It has the version and the widths of the trace that the text tells, then the beats that arrive on the other side,
--- and then one line for each channel that reports how far it came.
+-- The answer to a text (this project's choice). It has the version and the widths of the trace that the text tells, then the beats that arrive on
+-- the other side, and then one line for each channel that reports how far it came.
 use Rattle.std.specs.Prelude.{◌++◌, ℕ, Bool, true, false, cond, List, [], ◌∷◌, codes, decimal}
 use Rattle.std.specs.List.{filter_map, list_all}
 use Rattle.tl_msg.specs.declared.verdict.Verdict.{Verdict}
@@ -58,4 +58,5 @@ module _ (client manager : ℕ) (lines : List Line) where
 -- the whole answer to a trace; a check leaves out the far beats
 abbrev pub answer_of : (version client manager : ℕ) → List Line → (check : Bool) → List ℕ
 answer_of version client manager lines check =
-    far_header version client manager ++ cond check [] (far_lines version (far_beats (near client manager lines))) ++ report (verdicts (near client manager lines))
+    far_header version client manager ++ cond check [] (far_lines version (far_beats (near client manager lines))) ++
+    report (verdicts (near client manager lines))

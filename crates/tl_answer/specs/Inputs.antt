@@ -37,7 +37,8 @@ pub record IsFresh (left : Option (List ℕ)) (input : Input) : Type 0 where
 -- why a text has no answer before anything is written: its first fault, which may come before its end, or a fault of the reading
 abbrev pub IsRefused : (unread left : Option (List ℕ)) → Input → TextFault → Type 0
 IsRefused unread left input (faults.Trace fault) =
-    ((used : List ℕ) × HasTaken unread left used input) × (fault.kind ≢ kinds.OutOfMemory) × IfSome unread (λ text. IsFirstFault text fault.line fault.kind)
+    ((used : List ℕ) × HasTaken unread left used input) × (fault.kind ≢ kinds.OutOfMemory) ×
+    IfSome unread (λ text. IsFirstFault text fault.line fault.kind)
 IsRefused unread left input faults.Stalled = ⊥
 IsRefused unread left input faults.Read = Unit {0}
 IsRefused unread left input faults.Write = ⊥
@@ -53,6 +54,7 @@ pub record IsScriptRead {client manager : ℕ} (unread left : Option (List ℕ))
   pub told : TellsScript version text s
 
 -- what comes of the reading of a script
-abbrev pub ReadsScript : {client manager : ℕ} → (unread left : Option (List ℕ)) (version : ℕ) → Input → Result (Script client manager) TextFault → Type 0
+abbrev pub ReadsScript : {client manager : ℕ} → (unread left : Option (List ℕ)) (version : ℕ) → Input →
+    Result (Script client manager) TextFault → Type 0
 ReadsScript unread left version input (Ok s) = IsScriptRead unread left version s
 ReadsScript unread left version input (Err fault) = IsRefused unread left input fault

@@ -26,8 +26,10 @@ ReadsAnswer unread left check input (Err fault) = IsRefused unread left input fa
 
 -- what the reader had and has left, the order, and what came of it
 abbrev pub AnswersRead : (unread left : Option (List ℕ)) → Order → Result AnswerParts TextFault → Type 0
-AnswersRead unread left order (Ok made) = WasReadWhole unread left × IfSome unread (λ text. IsAnswer text (is_check order) (spelled made) made.all_done)
-AnswersRead unread left order (Err (faults.Trace fault)) = WasReadWhole unread left × (fault.kind ≢ kinds.OutOfMemory) × IfSome unread (λ text. IsFirstFault text fault.line fault.kind)
+AnswersRead unread left order (Ok made) = WasReadWhole unread left ×
+    IfSome unread (λ text. IsAnswer text (is_check order) (spelled made) made.all_done)
+AnswersRead unread left order (Err (faults.Trace fault)) = WasReadWhole unread left × (fault.kind ≢ kinds.OutOfMemory) ×
+    IfSome unread (λ text. IsFirstFault text fault.line fault.kind)
 AnswersRead unread left order (Err faults.Stalled) = ⊥
 AnswersRead unread left order (Err faults.Read) = Unit {0}
 AnswersRead unread left order (Err faults.Write) = ⊥

@@ -33,9 +33,10 @@ pub record AreCounted {C M : ℕ} (count : Counts) (gone : Gone C M) : Type 0 wh
   pub d : count.d ≡ length gone.d
   pub e : count.e ≡ length gone.e
 
--- What a listener that is no more than its counts is to its beats: it knows how many have gone, it can go on with those that are held, and what it has
--- come to is that of each script that goes on so
-pub record GoesWith {C M : ℕ} (count : Counts) (Can : Script C M → Type 0) (Has : Beats C M → Type 0) (gone : Gone C M) (s : Script C M) : Type 0 where
+-- What a listener that is no more than its counts is to its beats: it knows how many have gone, it can go on with those that are held, and what it
+-- has come to is that of each script that goes on so
+pub record GoesWith {C M : ℕ} (count : Counts) (Can : Script C M → Type 0) (Has : Beats C M → Type 0) (gone : Gone C M)
+    (s : Script C M) : Type 0 where
   pub counted : AreCounted count gone
   pub can : Can s
   pub has : (beats : Beats C M) → Follow gone s beats → Has beats

@@ -26,6 +26,7 @@ with_widths-requires-in-64 g c = asked_manager _ c.args.input.now c.args.version
 pub with_widths-requires-in_default : goal.with_widths-requires-in_default
 with_widths-requires-in_default g c = record {
   fresh = c.requires.fresh;
-  header = last_manager (held c.args.input.now) _ _ _ c.requires.header (search rules) (search rules) (search rules) (search rules) (search rules) (search rules) (search rules);
+  header = last_manager (held c.args.input.now) _ _ _ c.requires.header (search rules) (search rules) (search rules) (search rules) (search rules)
+      (search rules) (search rules);
   runnable = c.requires.runnable;
 }

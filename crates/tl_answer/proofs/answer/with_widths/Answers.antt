@@ -19,7 +19,8 @@ threads_answer_of-requires g c =
 pub returns-in-Ok : goal.returns-in-Ok
 returns-in-Ok g c =
     let read = c.in-Ok.ensures in
-    subst (λ check. ReadsAnswer (unread_of c.args.input.now (g.R.Read.remaining c.args.reader.now)) (g.R.Read.remaining c.script_of_input.new.reader) check c.script_of_input.new.input c.threads_answer_of.result)
+    subst (λ check. ReadsAnswer (unread_of c.args.input.now (g.R.Read.remaining c.args.reader.now)) (g.R.Read.remaining c.script_of_input.new.reader)
+    check c.script_of_input.new.input c.threads_answer_of.result)
     (sym c.if-is_check.false ∙ c.is_check.ensures)
     (reads_answer _ _ false _ read.text read.took read.end read.few c.threads_answer_of.result
     (of-both _ _ _ (λ made text-is done-is. script-text c.args.version g.row.C g.row.M read.told.lines read.text read.told.told
@@ -32,7 +33,8 @@ check_input-requires g c = (c.requires.fresh, c.requires.header)
 
 pub returns-then-is_check : goal.returns-then-is_check
 returns-then-is_check g c =
-    subst (λ check. ReadsAnswer (unread_of c.args.input.now (g.R.Read.remaining c.args.reader.now)) (g.R.Read.remaining c.check_input.new.reader) check c.check_input.new.input c.check_input.result)
+    subst (λ check. ReadsAnswer (unread_of c.args.input.now (g.R.Read.remaining c.args.reader.now)) (g.R.Read.remaining c.check_input.new.reader)
+    check c.check_input.new.input c.check_input.result)
     (sym c.if-is_check.true ∙ c.is_check.ensures) c.check_input.ensures
 
 pub run_input-requires : goal.run_input-requires
@@ -40,5 +42,6 @@ run_input-requires g c = let size = c.ring.ensures.size c.requires.runnable in (
 
 pub returns-then-is_sync : goal.returns-then-is_sync
 returns-then-is_sync g c =
-    subst (λ check. ReadsAnswer (unread_of c.args.input.now (g.R.Read.remaining c.args.reader.now)) (g.R.Read.remaining c.run_input.new.reader) check c.run_input.new.input c.run_input.result)
+    subst (λ check. ReadsAnswer (unread_of c.args.input.now (g.R.Read.remaining c.args.reader.now)) (g.R.Read.remaining c.run_input.new.reader) check
+    c.run_input.new.input c.run_input.result)
     (sym c.if-is_check.false ∙ c.is_check.ensures) c.run_input.ensures

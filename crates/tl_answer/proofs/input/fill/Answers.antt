@@ -4,9 +4,11 @@ use Rattle.tl_answer.proofs.input.fill.Goals as goal
 
 pub returns-then-n-most-clause-long : goal.returns-then-n-most-clause-long
 returns-then-n-most-clause-long g c _ =
-    too_many _ _ _ c.args.most c.args.room.now c.loop-filled.room c.read.new.buf c.loop-filled.filled c.in-Ok.n c.loop-filled.invariant c.in-Ok.ensures.bound.0 (omega (arith, c.if-n-most.true)) c.in-Ok.ensures.bytes.0
+    too_many _ _ _ c.args.most c.args.room.now c.loop-filled.room c.read.new.buf c.loop-filled.filled c.in-Ok.n c.loop-filled.invariant
+    c.in-Ok.ensures.bound.0 (omega (arith, c.if-n-most.true)) c.in-Ok.ensures.bytes.0
 
 pub loop-filled-preserved : goal.loop-filled-preserved
 loop-filled-preserved g c =
     goes_on _ _ _ c.args.most c.args.room.now c.loop-filled.room c.read.new.buf c.loop-filled.filled c.in-Ok.n c.loop-filled.invariant
-    (c.read.auto.buf ∙ room_size c.loop-filled.filled c.loop-filled.room) c.in-Ok.ensures.bound.0 (omega (arith, c.if-n-most.false)) c.in-Ok.ensures.bytes.0
+    (c.read.auto.buf ∙ room_size c.loop-filled.filled c.loop-filled.room) c.in-Ok.ensures.bound.0
+    (omega (arith, c.if-n-most.false)) c.in-Ok.ensures.bytes.0

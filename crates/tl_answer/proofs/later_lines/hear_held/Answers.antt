@@ -17,7 +17,8 @@ returns-in-Ok-clause-on g c = λ unread left input gone b listens.
       between = record {
         used = b.used;
         taken = b.taken;
-        read = subst (λ v. HasReadPast v b.used after c.let_go.new.self.script c.let_go.new.self.line) (sym went.version) (went.told b.used gone b.read);
+        read = subst (λ v. HasReadPast v b.used after c.let_go.new.self.script c.let_go.new.self.line) (sym went.version)
+            (went.told b.used gone b.read);
       };
       listens = λ more grown few. c.in-Ok.ensures.on lines.version gone listens c.let_go.new.self.script more went.left grown few;
     }

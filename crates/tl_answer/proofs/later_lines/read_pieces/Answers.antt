@@ -10,23 +10,37 @@ pub returns-then-end-held-clause-err : goal.returns-then-end-held-clause-err
 returns-then-end-held-clause-err g c =
     let e = c.line_end-end.ensures in
     let line : LineAt c.held.result.now 0 c.line_end-end.result = record { from = e.from; to = e.to; free = e.free; stop = e.end } in
-    let past : length c.held.result.now ≤ c.line_end-end.result = omega (arith, c.if-end-held.true, ap length c.held.ensures, ap length c.held-2.ensures) in
-    (([], c.requires.0.fresh.taken), λ p. absurd cc, header_unended (g.R.Read.remaining c.args.reader.now) c.args.input.now c.args.lines.now.version g.row.C g.row.M c.line_end-end.result c.held.result.now c.held.ensures c.requires.0.fresh c.requires.0.header line past)
+    let past : length c.held.result.now ≤ c.line_end-end.result =
+    omega (arith, c.if-end-held.true, ap length c.held.ensures, ap length c.held-2.ensures) in (
+      ([], c.requires.0.fresh.taken),
+      λ p. absurd cc,
+      header_unended (g.R.Read.remaining c.args.reader.now) c.args.input.now c.args.lines.now.version g.row.C g.row.M c.line_end-end.result
+          c.held.result.now c.held.ensures c.requires.0.fresh c.requires.0.header line past,
+    )
 
 pub pieces-init : goal.pieces-init
 pieces-init g c =
     let e = c.line_end-end.ensures in
     let line : LineAt c.held.result.now 0 c.line_end-end.result = record { from = e.from; to = e.to; free = e.free; stop = e.end } in
-    let lt : c.line_end-end.result < length c.held.result.now = omega (arith, c.if-end-held.false, ap length c.held.ensures, ap length c.held-2.ensures) in
+    let lt : c.line_end-end.result < length c.held.result.now =
+    omega (arith, c.if-end-held.false, ap length c.held.ensures, ap length c.held-2.ensures) in
     let a = c.advance.ensures in
     let unread = unread_of c.args.input.now (g.R.Read.remaining c.args.reader.now) in
     let left = g.R.Read.remaining c.args.reader.now in
-    let first = begins unread left c.args.input.now c.advance.new.self c.args.lines.now c.args.lines.now.version c.line_end-end.result c.held.result.now c.held.ensures
+    let first = begins unread left c.args.input.now c.advance.new.self c.args.lines.now c.args.lines.now.version c.line_end-end.result
+    c.held.result.now c.held.ensures
     c.requires.0.fresh.taken c.requires.0.header line lt a.from a.to a.buffer a.total refl c.requires.0.none in
-    record { heard = first-heard (g.L.Listener.Listens c.args.lines.now.version) unread left c.args.lines.now c.advance.new.self c.args.listener.now c.requires.1 first; version = refl }
+    record {
+      heard = first-heard (g.L.Listener.Listens c.args.lines.now.version) unread left c.args.lines.now c.advance.new.self c.args.listener.now
+          c.requires.1 first;
+      version = refl;
+    }
 
 pub read_held-requires : goal.read_held-requires
-read_held-requires g c = (lit< tt, reading c.requires.0.client c.requires.0.manager _ _ c.pieces.lines c.pieces.input c.pieces.invariant.heard.between)
+read_held-requires g c = (
+  lit< tt,
+  reading c.requires.0.client c.requires.0.manager _ _ c.pieces.lines c.pieces.input c.pieces.invariant.heard.between,
+)
 
 pub returns-in-Err-clause-err : goal.returns-in-Err-clause-err
 returns-in-Err-clause-err g c =
@@ -38,27 +52,32 @@ returns-in-Err-clause-err g c =
 pub held-requires-then-not-is_full-clause-from : goal.held-requires-then-not-is_full-clause-from
 held-requires-then-not-is_full-clause-from g c =
     let h = c.pieces.invariant.heard in
-    (c.in_default.ensures.ok (unread_of c.args.input.now (g.R.Read.remaining c.args.reader.now)) (g.R.Read.remaining c.pieces.reader) h.gone h.between).taken.from
+    (c.in_default.ensures.ok (unread_of c.args.input.now (g.R.Read.remaining c.args.reader.now))
+    (g.R.Read.remaining c.pieces.reader) h.gone h.between).taken.from
 
 pub held-requires-then-not-is_full-clause-to : goal.held-requires-then-not-is_full-clause-to
 held-requires-then-not-is_full-clause-to g c =
     let h = c.pieces.invariant.heard in
-    (c.in_default.ensures.ok (unread_of c.args.input.now (g.R.Read.remaining c.args.reader.now)) (g.R.Read.remaining c.pieces.reader) h.gone h.between).taken.to
+    (c.in_default.ensures.ok (unread_of c.args.input.now (g.R.Read.remaining c.args.reader.now))
+    (g.R.Read.remaining c.pieces.reader) h.gone h.between).taken.to
 
 pub refill-requires-clause-from : goal.refill-requires-clause-from
 refill-requires-clause-from g c =
     let h = c.pieces.invariant.heard in
-    (c.in_default.ensures.ok (unread_of c.args.input.now (g.R.Read.remaining c.args.reader.now)) (g.R.Read.remaining c.pieces.reader) h.gone h.between).taken.from
+    (c.in_default.ensures.ok (unread_of c.args.input.now (g.R.Read.remaining c.args.reader.now))
+    (g.R.Read.remaining c.pieces.reader) h.gone h.between).taken.from
 
 pub refill-requires-clause-to : goal.refill-requires-clause-to
 refill-requires-clause-to g c =
     let h = c.pieces.invariant.heard in
-    (c.in_default.ensures.ok (unread_of c.args.input.now (g.R.Read.remaining c.args.reader.now)) (g.R.Read.remaining c.pieces.reader) h.gone h.between).taken.to
+    (c.in_default.ensures.ok (unread_of c.args.input.now (g.R.Read.remaining c.args.reader.now))
+    (g.R.Read.remaining c.pieces.reader) h.gone h.between).taken.to
 
 pub refill-requires-clause-few : goal.refill-requires-clause-few
 refill-requires-clause-few g c =
     let h = c.pieces.invariant.heard in
-    (c.in_default.ensures.ok (unread_of c.args.input.now (g.R.Read.remaining c.args.reader.now)) (g.R.Read.remaining c.pieces.reader) h.gone h.between).taken.few
+    (c.in_default.ensures.ok (unread_of c.args.input.now (g.R.Read.remaining c.args.reader.now))
+    (g.R.Read.remaining c.pieces.reader) h.gone h.between).taken.few
 
 pub hear_held-requires : goal.hear_held-requires
 hear_held-requires g c =
@@ -68,8 +87,18 @@ hear_held-requires g c =
     let left = g.R.Read.remaining c.pieces.reader in
     let unread = unread_of c.args.input.now (g.R.Read.remaining c.args.reader.now) in
     let b = read.ok unread left h.gone h.between in
-    let listens = h.listens c.read_held.new.lines.script read.grown (counted unread left h.gone c.read_held.new.lines c.read_held.new.input b) in
-    (lit< tt, (c.requires.0.client, c.requires.0.manager, (h.gone, subst (λ v. g.L.Listener.Listens v c.pieces.listener h.gone c.read_held.new.lines.script) (sym (read.version ∙ here.version)) listens)))
+    let listens = h.listens c.read_held.new.lines.script read.grown (counted unread left h.gone c.read_held.new.lines c.read_held.new.input b) in (
+      lit< tt,
+      (
+        c.requires.0.client,
+        c.requires.0.manager,
+        (
+          h.gone,
+          subst (λ v. g.L.Listener.Listens v c.pieces.listener h.gone c.read_held.new.lines.script)
+              (sym (read.version ∙ here.version)) listens,
+        ),
+      ),
+    )
 
 pub returns-in-Err-refill-clause-err : goal.returns-in-Err-refill-clause-err
 returns-in-Err-refill-clause-err g c =
@@ -88,8 +117,10 @@ pieces-smaller g c =
     let b = r.ok unread (g.R.Read.remaining c.pieces.reader) h.gone h.between in
     let few = (c.in_default-refill.ensures.ok unread b.used b.taken).few in
     let size = held_size c.read_held.new.input b.taken.from b.taken.to in
-    let kept : c.read_held.new.input.to - c.read_held.new.input.from < length c.read_held.new.input.buffer.items = omega (arith, size, r.rest.short, b.taken.room) in
-    smaller c.pieces.input c.read_held.new.input c.refill.new.self r.total r.to r.buffer (sym c.is_full.ensures ∙ c.if-not-is_full.false) c.in_default-refill.ensures.more
+    let kept : c.read_held.new.input.to - c.read_held.new.input.from < length c.read_held.new.input.buffer.items =
+    omega (arith, size, r.rest.short, b.taken.room) in
+    smaller c.pieces.input c.read_held.new.input c.refill.new.self r.total r.to r.buffer (sym c.is_full.ensures ∙ c.if-not-is_full.false)
+    c.in_default-refill.ensures.more
     (λ past. c.in_default-refill.ensures.grown past kept) few
 
 pub pieces-preserved : goal.pieces-preserved
@@ -100,7 +131,8 @@ pieces-preserved g c =
     let left = g.R.Read.remaining c.pieces.reader in
     let unread = unread_of c.args.input.now (g.R.Read.remaining c.args.reader.now) in
     let between = read.ok unread left h.gone h.between in
-    let listens = h.listens c.read_held.new.lines.script read.grown (counted unread left h.gone c.read_held.new.lines c.read_held.new.input between) in
+    let listens = h.listens c.read_held.new.lines.script read.grown
+    (counted unread left h.gone c.read_held.new.lines c.read_held.new.input between) in
     let same = read.version ∙ here.version in
     let heard = c.in_default-hear_held.ensures.on unread left c.read_held.new.input h.gone between
     (subst (λ v. g.L.Listener.Listens v c.pieces.listener h.gone c.read_held.new.lines.script) (sym same) listens) in
@@ -120,8 +152,17 @@ end_fault-requires g c =
     let read = c.in_default.ensures in
     let unread = unread_of c.args.input.now (g.R.Read.remaining c.args.reader.now) in
     let b = read.ok unread (g.R.Read.remaining c.pieces.reader) h.gone h.between in
-    let free : list_any is_newline c.held-then-not-is_full.result.now ≡ false = ap (list_any is_newline) c.held-then-not-is_full.ensures ∙ read.rest.free in
-    (lit< tt, (b.read.told.trace.known_version, ((width_bounds _ c.requires.0.client).1, ((width_bounds _ c.requires.0.manager).1, (line_few _ _ c.read_held.new.lines c.read_held.new.input b, free)))))
+    let free : list_any is_newline c.held-then-not-is_full.result.now ≡ false =
+    ap (list_any is_newline) c.held-then-not-is_full.ensures ∙ read.rest.free in (
+      lit< tt,
+      (
+        b.read.told.trace.known_version,
+        (
+          (width_bounds _ c.requires.0.client).1,
+          ((width_bounds _ c.requires.0.manager).1, (line_few _ _ c.read_held.new.lines c.read_held.new.input b, free)),
+        ),
+      ),
+    )
 
 pub returns-in-Some-clause-err : goal.returns-in-Some-clause-err
 returns-in-Some-clause-err g c =
@@ -132,11 +173,13 @@ returns-in-Some-clause-err g c =
     let b = c.in_default.ensures.ok unread left h.gone h.between in
     let fault = c.in-Some.fault in
     let first : IsFirstFault (b.used ++ held input) fault.line fault.kind =
-    subst (λ bytes. IsFirstFault (b.used ++ bytes) fault.line fault.kind) c.held-then-not-is_full.ensures (c.in-Some.ensures.fault b.used h.gone b.read) in
+    subst (λ bytes. IsFirstFault (b.used ++ bytes) fault.line fault.kind) c.held-then-not-is_full.ensures
+    (c.in-Some.ensures.fault b.used h.gone b.read) in
     let not_full : input.to ≢ length input.buffer.items = λ e. unlike _ _ (sym c.is_full.ensures ∙ c.if-not-is_full.true) e in
     subst (IsRefused unread left input) (sym c.from-in-Some.ensures)
     (any_refused unread left b.used input fault b.taken
-    (λ other. of_whole (λ text. IsFirstFault text fault.line fault.kind) unread left (b.used ++ held input) b.taken.took (b.taken.end not_full) first))
+    (λ other. of_whole (λ text. IsFirstFault text fault.line fault.kind) unread left (b.used ++ held input) b.taken.took
+    (b.taken.end not_full) first))
 
 pub returns-in-None-clause-ok : goal.returns-in-None-clause-ok
 returns-in-None-clause-ok g c =

@@ -5,7 +5,8 @@ use Rattle.tl_answer.proofs.later_lines.read_pieces.Given as goal
 
 abbrev pub invariant-pieces : goal.invariant-pieces
 invariant-pieces g l =
-    IsAhead (g.L.Listener.Listens l.fn.lines.version) (unread_of l.fn.input (g.R.Read.remaining l.fn.reader)) (g.R.Read.remaining l.reader) l.fn.lines.version l.lines l.input l.listener
+    IsAhead (g.L.Listener.Listens l.fn.lines.version) (unread_of l.fn.input (g.R.Read.remaining l.fn.reader)) (g.R.Read.remaining l.reader)
+    l.fn.lines.version l.lines l.input l.listener
 
 abbrev pub decreases-pieces : goal.decreases-pieces
 decreases-pieces g l = to_read l.input

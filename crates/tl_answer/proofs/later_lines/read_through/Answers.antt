@@ -14,7 +14,8 @@ read_pieces-requires g c =
           manager = widths.1;
           fresh = c.requires.0;
           header = subst (λ v. HasHeader (held c.args.input.now) v g.row.C g.row.M) same c.requires.1;
-          none = subst (λ v. (text : List ℕ) → IsHeaderLine text v g.row.C g.row.M → HasRead v text lines.script lines.line) same c.new-lines.ensures.header;
+          none = subst (λ v. (text : List ℕ) → IsHeaderLine text v g.row.C g.row.M → HasRead v text lines.script lines.line)
+              same c.new-lines.ensures.header;
         },
         subst (λ v. IsNew (g.L.Listener.Listens v) c.args.listener.now) same c.requires.2,
       ),
@@ -22,5 +23,6 @@ read_pieces-requires g c =
 
 pub returns-in-Ok-clause-ok : goal.returns-in-Ok-clause-ok
 returns-in-Ok-clause-ok g c =
-    subst (λ v. IsReadThrough (g.L.Listener.Listens v) (unread_of c.args.input.now (g.R.Read.remaining c.args.reader.now)) (g.R.Read.remaining c.read_pieces.new.reader) v c.read_pieces.new.listener c.read_pieces.new.lines.script)
+    subst (λ v. IsReadThrough (g.L.Listener.Listens v) (unread_of c.args.input.now (g.R.Read.remaining c.args.reader.now))
+    (g.R.Read.remaining c.read_pieces.new.reader) v c.read_pieces.new.listener c.read_pieces.new.lines.script)
     c.new-lines.ensures.version c.in-Ok.ensures.ok

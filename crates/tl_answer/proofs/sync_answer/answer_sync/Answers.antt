@@ -29,5 +29,8 @@ with_client-requires-in-64 c = (with_client c.args.text.now c.args.text.now c.in
 
 pub with_client-requires-in_default-client : goal.with_client-requires-in_default-client
 with_client-requires-in_default-client c =
-    let is : HasHeader c.args.text.now c.in-Some.header.version c.in-Some.header.client c.in-Some.header.manager = search rules in
-    (last_client c.args.text.now _ _ _ is (search rules) (search rules) (search rules) (search rules) (search rules) (search rules) (search rules), c.requires.few)
+    let is : HasHeader c.args.text.now c.in-Some.header.version c.in-Some.header.client c.in-Some.header.manager = search rules in (
+      last_client c.args.text.now _ _ _ is (search rules) (search rules) (search rules) (search rules) (search rules) (search rules)
+          (search rules),
+      c.requires.few,
+    )

@@ -24,4 +24,8 @@ pub with_widths-requires-in-64 : goal.with_widths-requires-in-64
 with_widths-requires-in-64 g c = (with_manager c.args.text.now c.args.version g.row.C c.args.manager 64 c.in-64.is c.requires.0, c.requires.1)
 
 pub with_widths-requires-in_default : goal.with_widths-requires-in_default
-with_widths-requires-in_default g c = (last_manager c.args.text.now _ _ _ c.requires.0 (search rules) (search rules) (search rules) (search rules) (search rules) (search rules) (search rules), c.requires.1)
+with_widths-requires-in_default g c = (
+  last_manager c.args.text.now _ _ _ c.requires.0 (search rules) (search rules) (search rules) (search rules) (search rules)
+      (search rules) (search rules),
+  c.requires.1,
+)

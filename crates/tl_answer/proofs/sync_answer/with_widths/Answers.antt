@@ -14,5 +14,6 @@ returns-clause-ok g c =
     let told = c.in-Ok.ensures.told in
     let parts = c.in_ok-sync_answer_of.ensures in
     of-both _ _ _ (λ made text-is done-is. script-text c.args.version g.row.C g.row.M told.lines c.args.text.now told.told
-    (near_beats c.in-Ok.script) (near-is told.lines _ told.script) c.args.check made.text.items (text-is ∙ parts.text) made.all_done (done-is ∙ parts.done))
+    (near_beats c.in-Ok.script) (near-is told.lines _ told.script) c.args.check made.text.items (text-is ∙ parts.text)
+    made.all_done (done-is ∙ parts.done))
     c.joined.result c.joined.ensures.text c.joined.ensures.done

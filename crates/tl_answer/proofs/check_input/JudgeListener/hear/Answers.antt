@@ -12,7 +12,8 @@ returns-clause-on g c = λ version gone h rest more went grown few.
     let judge = c.go_on.new.self in
     let counts = c.go_on.result in
     let judged = c.go_on.ensures in
-    goes-on (CanJudge was) (CanJudge judge) (λ beats. HasJudged beats judge) (λ beats. HasJudged beats was) gone s rest more was.gone counts judge.gone
+    goes-on (CanJudge was) (CanJudge judge) (λ beats. HasJudged beats judge) (λ beats. HasJudged beats was) gone s rest
+    more was.gone counts judge.gone
     judged.counts judged.gone went grown
     (can-judge judge _ rest more (counted-on gone s was.gone counts judge.gone judged.counts judged.gone h.counted) few grown (judged.held rest went))
     judged.judged h

@@ -9,8 +9,10 @@ pub new-requires-2 : goal.new-requires-2
 new-requires-2 g c = (bridge_small g.row.C g.row.M c.requires.0 c.requires.1, (c.requires.0, c.requires.1))
 
 pub new-requires-in-Ok : goal.new-requires-in-Ok
-new-requires-in-Ok g c =
-    (bridge_small g.row.C g.row.M c.requires.0 c.requires.1, (run_small g.row.C g.row.M c.requires.0 c.requires.1, (c.args.ring, c.requires.2, c.in-Ok.ensures.new)))
+new-requires-in-Ok g c = (
+  bridge_small g.row.C g.row.M c.requires.0 c.requires.1,
+  (run_small g.row.C g.row.M c.requires.0 c.requires.1, (c.args.ring, c.requires.2, c.in-Ok.ensures.new)),
+)
 
 pub returns-in-Ok-clause-new : goal.returns-in-Ok-clause-new
 returns-in-Ok-clause-new g c = λ s short.
@@ -19,5 +21,7 @@ returns-in-Ok-clause-new g c = λ s short.
     let new = c.new-in-Ok.ensures in
     record {
       version_is = c.in_ok-far.ensures.version;
-      goes = new-goes (CanRun run) (λ beats. HasRun HasLines beats far run) run.gone new.none s (new.begins s short) (λ beats. let begun = new.running beats in record { all = no_beats; holds = c.in_ok-far.ensures.lines; counts = begun.0; under_way = begun.1 });
+      goes = new-goes (CanRun run) (λ beats. HasRun HasLines beats far run) run.gone new.none s (new.begins s short)
+          (λ beats. let begun = new.running beats in
+          record { all = no_beats; holds = c.in_ok-far.ensures.lines; counts = begun.0; under_way = begun.1 });
     }

@@ -8,8 +8,14 @@ returns-in-Ok-clause-ok g c = λ unread used h.
     let input = c.args.self.now in
     let size = c.in-Ok.ensures.same ∙ ap length c.as_mut_slice.ensures.value ∙ sym input.buffer.ok.0 in
     refilled-taken unread _ _ used input h _ c.refill.new.buffer c.in-Ok.to c.as_mut_slice.ensures.value c.in-Ok.ensures.same c.in-Ok.ensures.ok
-    (record { buffer = with_items input.buffer c.refill.new.buffer; from = 0; to = c.in-Ok.to; total = input.total + (c.in-Ok.to - (input.to - input.from)) })
+    (record {
+      buffer = with_items input.buffer c.refill.new.buffer;
+      from = 0;
+      to = c.in-Ok.to;
+      total = input.total + (c.in-Ok.to - (input.to - input.from));
+    })
     (with_items_is input.buffer c.refill.new.buffer size) refl refl refl
 
 pub returns-in-Err-clause-long : goal.returns-in-Err-clause-long
-returns-in-Err-clause-long g c = λ unread used h e. refilled-long unread _ _ used c.args.self.now h (c.in-Err.ensures.long (same-fault c.in-Err.fault _ e))
+returns-in-Err-clause-long g c = λ unread used h e.
+    refilled-long unread _ _ used c.args.self.now h (c.in-Err.ensures.long (same-fault c.in-Err.fault _ e))
