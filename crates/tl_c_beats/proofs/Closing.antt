@@ -30,7 +30,7 @@ held_not_none {h = h} was e = absurd (none-some h (sym e ∙ was))
 pub closes : {S P R H : Type 0} {w : ℕ} {Holds : Option S → P → Type 0} {none : ℕ} {k : SendingChannel R P H w} {before now : Option S}
     {answer : ℕ} (of : R → S) {q q' : R} →
     before ≡ Some (of q) → now ≡ Some (of q') → ((x : P) → Holds (Some (of q)) x → k.Stands q x) →
-        ((x : P) → k.Stands q' x → Holds (Some (of q')) x) →
+    ((x : P) → k.Stands q' x → Holds (Some (of q')) x) →
     (closed : Result Unit EndFault) → answer ≡ close_number closed → ClosesChannel k q closed q' → Closes Holds none k before now answer
 closes {w = w} {Holds = Holds} {k = k} of was is to from closed told said =
     record {

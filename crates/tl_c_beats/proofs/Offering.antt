@@ -87,9 +87,9 @@ module _ {S P : Type 0} {StandsFor : S → P → Type 0} {R H : Type 0} {w v : �
   pub offers : (of : R → S) (q q' : R) (p : Pipe H v) → ((x : P) → StandsFor (of q) x → AreAlike p (channel x)) →
       before ≡ Some (of q) → now ≡ Some (of q') →
       ((x : P) → StandsFor (of q) x → k.Stands q x) → ((x : P) → k.Stands q' x → StandsFor (of q') x) →
-          {answer : ℕ} {given : BeatOf H w} (offered : Result Unit SideFault) →
+      {answer : ℕ} {given : BeatOf H w} (offered : Result Unit SideFault) →
       given ≡ b → IsReady p → answer ≡ offer_number offered → OffersBeat k given q offered q' →
-          Offers (Stands StandsFor) none k channel b before now answer
+      Offers (Stands StandsFor) none k channel b before now answer
   offers of q q' p alike was is to from {answer = answer} {given = given} offered same_beat ready told said =
       subst (λ z. Offers (Stands StandsFor) none k channel z before now answer) same_beat (record {
         nothing = held_not_none was;

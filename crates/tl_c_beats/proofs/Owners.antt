@@ -64,8 +64,11 @@ pub record Owner (X : RattleType) : Type 2 where
 
 -- a function that uses up its one argument
 abbrev pub using_up : (From To : RattleType) → Ended
-using_up From To = record { signature =
-    record { lifetimes = 0; outlives = []; params = plain (λ _. From) ∷ []; result = plain (λ _. To) }; kept = (yes, tt) }
+using_up From To = record {
+  signature =
+      record { lifetimes = 0; outlives = []; params = plain (λ _. From) ∷ []; result = plain (λ _. To) };
+  kept = (yes, tt);
+}
 
 abbrev spent : (From To : RattleType) → Stays (using_up From To).signature.params (using_up From To).kept
 spent From To = (stay_dropped (plain (λ _. From)) yes, tt)
@@ -94,7 +97,7 @@ module _ {X : RattleType} (O : Owner X) where
     locals = fields to ∷ fields from ∷ local ty_ptr value_local ∷ local (α E.al) value_local ∷ local ty_ptr value_local ∷ [];
     body = seq (assign (place 2 []) (rv_opd (copy (place 1 (field 0 ∷ []))))) (seq (assign (place 3 []) (rv_opd (copy (place 1 (field 1 ∷ [])))))
         (seq (assign (place 4 []) (rv_opd (copy (place 2 []))))
-            (seq (assign (place 0 []) (aggregate (copy (place 4 []) ∷ copy (place 3 []) ∷ []))) return)));
+        (seq (assign (place 0 []) (aggregate (copy (place 4 []) ∷ copy (place 3 []) ∷ []))) return)));
   }
 
   -- the code that puts a null pointer beside the allocator
@@ -143,9 +146,9 @@ module _ {X : RattleType} (O : Owner X) where
         by ! (subst (λ (vs : List Val). ent 𝓤 (⋆ 𝓛 Γ) (WpFn 𝓤 H 𝓣.C 𝓣.Λ (cast to from) (vs ++ []) Post)) (sym us)
         (qed 𝓛 Γ ∵ enter ! 𝓣.C 𝓣.Λ (cast to from) (w ∷ []) _ $ alloc_all ! (λ ls. pass_all ! refl (box_typed E hv b o fa, tt) $
         sets ! (of_opd ! (get_in ! (fld ! refl (stop !)) (sub ! 0 refl (whole !)))) refl (tt, tt) $
-            sets ! (of_opd ! (get_in ! (fld ! refl (stop !)) (sub ! 1 refl (whole !)))) refl fa $
+        sets ! (of_opd ! (get_in ! (fld ! refl (stop !)) (sub ! 1 refl (whole !)))) refl fa $
         sets ! (of_opd ! (get ! refl)) refl (tt, tt) $
-            sets ! (agg ! (and_then ! (get ! refl) (and_then ! (get ! refl) (no_more !)))) refl (box_typed E hv b o fa) $
+        sets ! (agg ! (and_then ! (get ! refl) (and_then ! (get ! refl) (no_more !)))) refl (box_typed E hv b o fa) $
         returns ! (look_at ! 0 refl) $ free_all ! refl $ by ! (k w)))))
 
     abbrev takes : Clauses 𝓤 (using_up Apart O.row)
@@ -166,7 +169,7 @@ module _ {X : RattleType} (O : Owner X) where
         by ! (cast_runs O.name apart v z.0.4.0 ((walk_of 𝓛 T hs takes).post z) (λ w. qed 𝓛 (‵ ((B E).own_val v (w ∷ [])) ∷ []) ∵
         rewrite ! 0 (λ (F : Fml). ‵ F) (sym (owns_box v (w ∷ []))) refl $
         suffices ! _ (ends_at 𝓛 T hs takes z w (of_box v) (tt, tt) (tt, tt)) $ says ! (O.kept v.ptr v.alloc (Some v.value)) $ nothing ! $ nothing ! $
-            fjoin ! $ join ! $ nothing ! $ join ! $ done !)))
+        fjoin ! $ join ! $ nothing ! $ join ! $ done !)))
 
     abbrev given : (z : (walk_of 𝓛 (using_up O.row Apart) (spent O.row Apart) gives).Ghost) → List (Item 𝓤)
     given z = (‵ ftrue ⊛ ‵ (fsep (O.row.own_val z.0.3.0 z.0.4.0) ftrue)) ∷ []
@@ -174,7 +177,7 @@ module _ {X : RattleType} (O : Owner X) where
     opens_each : (z : (walk_of 𝓛 (using_up O.row Apart) (spent O.row Apart) gives).Ghost) (s : Option X.Denot) →
         O.held z.0.3.0 ≡ s → O.held z.0.3.0 ≢ None
         → ent 𝓤 (⋆ 𝓛 (given z)) (WpFn 𝓤 H 𝓣.C 𝓣.Λ (cast apart O.name) (z.0.4.0 ++ [])
-            ((walk_of 𝓛 (using_up O.row Apart) (spent O.row Apart) gives).post z))
+        ((walk_of 𝓛 (using_up O.row Apart) (spent O.row Apart) gives).post z))
     opens_each z None e has = absurd (has e)
     opens_each z (Some x) e has =
         let T = using_up O.row Apart in let hs = spent O.row Apart in let o = z.0.3.0 in
@@ -183,14 +186,14 @@ module _ {X : RattleType} (O : Owner X) where
         by ! (cast_runs apart O.name v z.0.4.0 ((walk_of 𝓛 T hs gives).post z) (λ w. qed 𝓛 (‵ ((B E).own_val v (w ∷ [])) ∷ []) ∵
         rewrite ! 0 (λ (F : Fml). ‵ F) (sym (as_box v (w ∷ []))) refl $
         suffices ! _ (ends_at 𝓛 T hs gives z w (apart_of v) (O.last z.0.3.0, tt) (tt, tt)) $ says ! e $ nothing ! $ nothing ! $ fjoin ! $
-            join ! $ nothing ! $ join ! $ done !))
+        join ! $ nothing ! $ join ! $ done !))
 
     -- `into_parts`: something is held, so that is a box
     pub into_parts_meets : (k : Callee) → Closed 𝓤 H 𝓣.C 𝓣.Λ k (cast apart O.name) →
         Meets 𝓛 (using_up O.row Apart).signature (𝓣.C k) (closing 𝓛 (using_up O.row Apart) gives)
     into_parts_meets k closed =
         proved_at 𝓛 (using_up O.row Apart) (spent O.row Apart) gives 𝓜 𝓡 (Goes-dropped 𝓛 0 (plain (λ _. O.row)) yes (λ κs. O.silent), tt) k
-            (cast apart O.name) closed (λ z are.
+        (cast apart O.name) closed (λ z are.
         qed 𝓛 ((‵ ftrue ⊛ ‵ (fsep (O.row.own_val z.0.3.0 z.0.4.0) ftrue)) ∷ raw (fact 𝓤 (O.held z.0.3.0 ≢ None)) ∷ []) ∵
         move ! (1 ∷ []) $ heard ! (O.held z.0.3.0 ≢ None) (λ has. by ! (opens_each z (O.held z.0.3.0) refl has)))
 
@@ -211,7 +214,7 @@ module _ {X : RattleType} (O : Owner X) where
         enter ! 𝓣.C 𝓣.Λ nulled (hv ∷ []) Post $ alloc_all ! (λ l. pass_all ! refl (fa, tt) $
         -- [the allocator; nothing; the tokens; nothing; the locals]
         sets ! (agg ! (and_then ! (lit ! tt) (and_then ! (get ! refl) (no_more !)))) refl
-            (and_tt (has_ty (α E.al) hv) fa.0, (record { fits = lit< tt }, (fa.1, tt))) $
+        (and_tt (has_ty (α E.al) hv) fa.0, (record { fits = lit< tt }, (fa.1, tt))) $
         nothing ! $ nothing ! $ move ! (2 ∷ 0 ∷ []) $ fjoin ! $ feq_i ! (List Val) (vint w64 0 ∷ []) (ptr_val null_ptr ∷ []) refl $ fjoin ! $
         feq_i ! (List Val) (w ∷ []) (w ∷ []) refl $ fjoin ! $
         fpack ! (Valss pair.fields) (within pair (null_ptr, (a, tt)) (w ∷ [])) (vint w64 0 ∷ [], (hv ∷ [], tt)) $ fjoin ! $

@@ -48,12 +48,12 @@ module _ {K A H : Type 0} {v : ℕ} where
       let received_3 : length (received t3) ≡ length (received t2) = ap length met.same_received in
       let items_1 : length (known_items t1) ≡ length (known_items t) = ap (λ q. length (known_items q)) beside in
       let inbox_2 : length t2.inbox ≡ length t1.inbox + length fetch.fetched.moved = ap length fetch.fetched.inbox ∙
-          length-append t1.inbox fetch.fetched.moved in
+      length-append t1.inbox fetch.fetched.moved in
       let inbox_3 : length t3.inbox ≡ length t2.inbox = ap length met.same_inbox in
       let ring : length (received t) + length (known_items t) ≡ length (sent s) =
-          sym (length-append (received t) (known_items t)) ∙ ap length known.ring in
+      sym (length-append (received t) (known_items t)) ∙ ap length known.ring in
       let ring_3 : length (received t3) + length (known_items t3) ≡ length (sent s3) =
-          sym (length-append (received t3) (known_items t3)) ∙ ap length met.ring in
+      sym (length-append (received t3) (known_items t3)) ∙ ap length met.ring in
       let room_1 : room s1 ≡ room s = pump.pushed.ring.1 in
       let room_2 : room s2 ≡ room s1 = ap room alone in
       let room_3 : room s3 ≡ room s2 = met.send.1 in
@@ -182,7 +182,7 @@ module _ {C M : ℕ} where
 -- what rounds have left, and one round more
 pub settles_then : {A : Type 0} {C M : ℕ} {s s' : ClientState A C M} {t t' : ManagerState A C M} {x : ClientPast C M} {y : ManagerPast C M} →
     SidesSettle s t x y → ((p : ClientPast C M) (q : ManagerPast C M) → ClientStandsFor s p → ManagerStandsFor t q →
-        SidesSettle s' t' p q) → SidesSettle s' t' x y
+    SidesSettle s' t' p q) → SidesSettle s' t' x y
 settles_then so_far more =
     let last = more so_far.client so_far.manager so_far.meets.client so_far.meets.manager in
     record {

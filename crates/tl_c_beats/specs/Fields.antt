@@ -45,30 +45,51 @@ abbrev pub beat_a : {w : ℕ} → BeatFields → List ℕ → BeatOf HeadA w
 beat_a f lanes = beat_with (record { opcode = f.opcode; param = f.param; size = f.size; source = f.source; address = f.address }) f lanes
 
 abbrev pub fields_a : {w : ℕ} → BeatOf HeadA w → BeatFields
-fields_a b = record (bare_fields b.mask b.corrupt) { address = b.head.address; source = b.head.source; opcode = b.head.opcode;
-    param = b.head.param; size = b.head.size }
+fields_a b = record (bare_fields b.mask b.corrupt) {
+  address = b.head.address;
+  source = b.head.source;
+  opcode = b.head.opcode;
+  param = b.head.param;
+  size = b.head.size;
+}
 
 abbrev pub beat_b : {w : ℕ} → BeatFields → List ℕ → BeatOf HeadB w
 beat_b f lanes = beat_with (record { opcode = f.opcode; param = f.param; size = f.size; source = f.source; address = f.address }) f lanes
 
 abbrev pub fields_b : {w : ℕ} → BeatOf HeadB w → BeatFields
-fields_b b = record (bare_fields b.mask b.corrupt) { address = b.head.address; source = b.head.source; opcode = b.head.opcode;
-    param = b.head.param; size = b.head.size }
+fields_b b = record (bare_fields b.mask b.corrupt) {
+  address = b.head.address;
+  source = b.head.source;
+  opcode = b.head.opcode;
+  param = b.head.param;
+  size = b.head.size;
+}
 
 abbrev pub beat_c : {w : ℕ} → BeatFields → List ℕ → BeatOf HeadC w
 beat_c f lanes = beat_with (record { opcode = f.opcode; param = f.param; size = f.size; source = f.source; address = f.address }) f lanes
 
 abbrev pub fields_c : {w : ℕ} → BeatOf HeadC w → BeatFields
-fields_c b = record (bare_fields b.mask b.corrupt) { address = b.head.address; source = b.head.source; opcode = b.head.opcode;
-    param = b.head.param; size = b.head.size }
+fields_c b = record (bare_fields b.mask b.corrupt) {
+  address = b.head.address;
+  source = b.head.source;
+  opcode = b.head.opcode;
+  param = b.head.param;
+  size = b.head.size;
+}
 
 abbrev pub beat_d : {w : ℕ} → BeatFields → List ℕ → BeatOf HeadD w
 beat_d f lanes = beat_with
     (record { opcode = f.opcode; param = f.param; size = f.size; source = f.source; sink = f.sink; denied = is_set f.denied }) f lanes
 
 abbrev pub fields_d : {w : ℕ} → BeatOf HeadD w → BeatFields
-fields_d b = record (bare_fields b.mask b.corrupt) { source = b.head.source; sink = b.head.sink; opcode = b.head.opcode; param = b.head.param;
-    size = b.head.size; denied = flag b.head.denied }
+fields_d b = record (bare_fields b.mask b.corrupt) {
+  source = b.head.source;
+  sink = b.head.sink;
+  opcode = b.head.opcode;
+  param = b.head.param;
+  size = b.head.size;
+  denied = flag b.head.denied;
+}
 
 abbrev pub beat_e : {w : ℕ} → BeatFields → List ℕ → BeatOf HeadE w
 beat_e f lanes = beat_with (record { sink = f.sink }) f lanes

@@ -79,7 +79,7 @@ first_sentences =
 abbrev pub answer_sentence : ℕ → List ℕ
 answer_sentence =
     by_number first_sentences (codes "the two sides have different numbers, so they are of two bridges")
-        (codes "the handle holds no side of a bridge")
+    (codes "the handle holds no side of a bridge")
     (codes "the channel takes no beat now: far beats are staged, or it is closed")
 
 -- as C keeps a text: followed by zeros, up to so many bytes

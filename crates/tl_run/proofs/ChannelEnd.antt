@@ -168,7 +168,7 @@ module _ {H : Type 0} (r : Rules H) {w v : ℕ} (ww : IsWidth w) (vw : IsWidth v
     pub verdict-end : IsSent r bs n far x → Crosses r x → IsHomed r x → under_way x ≡ 0 → stop_verdict stop n (length far) ≡ verdict_alone r v bs
     verdict-end s c homed rest =
         stop-verdict r bs n (stops_alone r x.accepted) x.accepted (stops_alone r x.accepted) (λ b. refl) (length far) stop stops
-            (handed-accepted r x c) s.accepted ∙
+        (handed-accepted r x c) s.accepted ∙
         ap (λ q. verdict_of n (length far) (left r w q) (option_map_or (λ b. stops_alone r x.accepted b) (slice_get bs n) None)) (sym s.accepted) ∙
         ap (λ q. verdict_at n (length far) q) (s.accepted ∙ sym (accepted_end stop stops s)) ∙
         ap (λ k. verdict_at k (length far) (accepted_of r bs)) (count-end s) ∙

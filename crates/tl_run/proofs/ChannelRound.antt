@@ -46,7 +46,7 @@ module _ {H : Type 0} {w v : ℕ} (z : World H w v) where
   inbox-filled =
       length-append z.inbox (take (pop_count (moved_in z)) (moved_in z).ring) ∙
       ap (λ n. length z.inbox + n)
-          (length-take-le (pop_count (moved_in z)) (moved_in z).ring (min-le_left (length (moved_in z).ring) (inbox_room - length z.inbox)))
+      (length-take-le (pop_count (moved_in z)) (moved_in z).ring (min-le_left (length (moved_in z).ring) (inbox_room - length z.inbox)))
 
   -- a channel comes further by what goes into its ring and what comes out of it
   pub progress-moved : (k : ℕ) → progress k (moved z) ≡ progress k z + (push_count z + pop_count (moved_in z))
@@ -85,13 +85,13 @@ module _ {H : Type 0} (r : Rules H) {w v : ℕ} (bs : List (BeatOf H w)) (n : �
   -- one beat more was accepted, or none, and all that stood in the inbox was taken
   pub sent-round : (far : List (BeatOf H v)) (x : World H w v) (o : Offered) (accepted : List (BeatOf H w)) (y : World H w v) →
       IsSent r bs n far x → ((b : BeatOf H w) → answer b ≡ None → fault_after r x.accepted b ≡ None) →
-          Does r bs n answer home (emptied x) o accepted y →
+      Does r bs n answer home (emptied x) o accepted y →
       IsSent r bs (n + steps o) (far ++ x.inbox) (moved y)
   sent-round far x o accepted y s own does =
       let before = sent-passed r bs n far x (emptied x) s refl refl refl (emptied x).taken refl in
       let after = sent-offer r bs n answer home (emptied x) o accepted y before own does in
       sent-passed r bs (n + steps o) y.taken y (moved y) after refl refl refl (far ++ x.inbox)
-          (ap (λ t. t ++ x.inbox) s.taken ∙ sym (does-taken r bs n answer home (emptied x) y o accepted does))
+      (ap (λ t. t ++ x.inbox) s.taken ∙ sym (does-taken r bs n answer home (emptied x) y o accepted does))
 
   -- ---- how far it comes
 
@@ -143,7 +143,7 @@ module _ {H : Type 0} (r : Rules H) {w v : ℕ} (bs : List (BeatOf H w)) (n : �
       progress-moved z (n + 1) ∙ ap (λ k. k + (push_count z + pop_count (moved_in z))) as_far in
       let p : (progress n x ≤ progress (n + 1) (moved z)) × (progress n x + 1 ≤ progress (n + 1) (moved z)) =
       by-sum (length x.taken + length x.inbox + length x.ring) (length x.taken + length x.inbox) (push_count z + pop_count (moved_in z))
-          (progress (n + 1) (moved z)) e in
+      (progress (n + 1) (moved z)) e in
       (p.0, inl p.1)
     where
       by-sum : (through out more after : ℕ) → after ≡ n + 1 + through + out + more → (n + through + out ≤ after) × (n + through + out + 1 ≤ after)
@@ -162,24 +162,24 @@ module _ {H : Type 0} (r : Rules H) {w v : ℕ} (bs : List (BeatOf H w)) (n : �
   pub progress-round : (far : List (BeatOf H v)) (x : World H w v) (o : Offered) (accepted : List (BeatOf H w)) (y : World H w v) →
       IsSent r bs n far x → Does r bs n answer home (emptied x) o accepted y →
       (progress n x ≤ progress (n + steps o) (moved y)) ×
-          ((progress n x + 1 ≤ progress (n + steps o) (moved y)) ⊎ (IsStopped o × (under_way (moved y) ≡ 0)))
+      ((progress n x + 1 ≤ progress (n + steps o) (moved y)) ⊎ (IsStopped o × (under_way (moved y) ≡ 0)))
   progress-round far x Accepted accepted y s (b, next, lawful, one, is) =
       subst (λ z. (progress n x ≤ progress (n + 1) (moved z)) ×
-          ((progress n x + 1 ≤ progress (n + 1) (moved z)) ⊎ (⊥ × (under_way (moved z) ≡ 0)))) (sym is)
+      ((progress n x + 1 ≤ progress (n + 1) (moved z)) ⊎ (⊥ × (under_way (moved z) ≡ 0)))) (sym is)
       (progress-accepts x (offered r b (home b) (emptied x)) (progress-emptied x (n + 1)))
   progress-round far x NotReady accepted y s (b, next, full, none, is) =
       subst (λ z. (progress n x ≤ progress (n + 0) (moved z)) ×
-          ((progress n x + 1 ≤ progress (n + 0) (moved z)) ⊎ (⊥ × (under_way (moved z) ≡ 0)))) (sym is)
+      ((progress n x + 1 ≤ progress (n + 0) (moved z)) ⊎ (⊥ × (under_way (moved z) ≡ 0)))) (sym is)
       (progress-waits x (emptied x) (progress-emptied x n) s.room refl (stage-full far x s b next full))
   progress-round far x (Stopped Done) accepted y s (last, whole, none, is) =
       subst (λ z. (progress n x ≤ progress (n + 0) (moved z)) ×
-          ((progress n x + 1 ≤ progress (n + 0) (moved z)) ⊎ (Unit {0} × (under_way (moved z) ≡ 0)))) (sym is)
+      ((progress n x + 1 ≤ progress (n + 0) (moved z)) ⊎ (Unit {0} × (under_way (moved z) ≡ 0)))) (sym is)
       (progress-stopped x (shut (emptied x)) (progress-emptied x n) s.room refl)
   progress-round far x (Stopped Cut) accepted y s (last, begun, none, is) =
       subst (λ z. (progress n x ≤ progress (n + 0) (moved z)) ×
-          ((progress n x + 1 ≤ progress (n + 0) (moved z)) ⊎ (Unit {0} × (under_way (moved z) ≡ 0)))) (sym is)
+      ((progress n x + 1 ≤ progress (n + 0) (moved z)) ⊎ (Unit {0} × (under_way (moved z) ≡ 0)))) (sym is)
       (progress-stopped x (emptied x) (progress-emptied x n) s.room refl)
   progress-round far x (Stopped (Refused fault)) accepted y s (b, next, refused, none, is) =
       subst (λ z. (progress n x ≤ progress (n + 0) (moved z)) ×
-          ((progress n x + 1 ≤ progress (n + 0) (moved z)) ⊎ (Unit {0} × (under_way (moved z) ≡ 0)))) (sym is)
+      ((progress n x + 1 ≤ progress (n + 0) (moved z)) ⊎ (Unit {0} × (under_way (moved z) ≡ 0)))) (sym is)
       (progress-stopped x (emptied x) (progress-emptied x n) s.room refl)

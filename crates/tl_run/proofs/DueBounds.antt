@@ -97,14 +97,14 @@ module _ {H : Type 0} (r : Rules H) (w v : ℕ) where
     due-most seen homes (b ∷ bs) s (more_small _ _ l t) =
         let first : List (BeatOf H v) = layout r (message_of r b.head w (slice_index homes 0) (seen ++ b ∷ [])) v in
         let k : length first ≡ beats_of r b.head v =
-            length-map-range_with_len (beat_at r (message_of r b.head w (slice_index homes 0) (seen ++ b ∷ [])) v) 0 (beats_of r b.head v) in
+        length-map-range_with_len (beat_at r (message_of r b.head w (slice_index homes 0) (seen ++ b ∷ [])) v) 0 (beats_of r b.head v) in
         let m : beats_of r b.head v ≤ 4096 = (beats-bounds r b.head v vw l).1 in
         let n = length-append first (due_after r w v [] (drop 1 homes) bs) in
         both (λ q. length q ≤ 4096 * (length (b ∷ bs) + 1)) (ends r w seen b)
         (λ e. let h : length (due_after r w v [] (drop 1 homes) bs) ≤ 4096 * (length bs + 1) =
-            due-most [] (drop 1 homes) bs none_small t in omega arith)
+        due-most [] (drop 1 homes) bs none_small t in omega arith)
         (λ e. let h : length (due_after r w v (seen ++ b ∷ []) homes bs) ≤ 4096 * (length bs + 1) =
-            due-most (seen ++ b ∷ []) homes bs (small-snoc seen b s l) t in omega arith)
+        due-most (seen ++ b ∷ []) homes bs (small-snoc seen b s l) t in omega arith)
 
     -- the far beats that the first n accepted beats of a list make due
     pub first-most : HaveSmall r → (homes : List ℕ) (bs xs rest : List (BeatOf H w)) (n : ℕ) → accepted_of r bs ≡ xs ++ rest → length xs ≤ n →

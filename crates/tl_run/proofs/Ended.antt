@@ -44,7 +44,7 @@ few-stand : {H : Type 0} (r : Rules H) {w v : ℕ} → IsWidth w → IsWidth v �
     (bs : List (BeatOf H w)) (n : ℕ) (far : List (BeatOf H v)) (p : Pipe H v) (x : World H w v) →
     piping.StandsFor r p x → IsSent r bs n far x →
     ((rest : List (BeatOf H w)) → accepted_of r bs ≡ x.accepted ++ rest → length x.accepted ≤ n →
-        length (due r w v x.accepted x.homes) ≤ 4096 * (n + 1)) →
+    length (due r w v x.accepted x.homes) ≤ 4096 * (n + 1)) →
     n < 2 ^ 41 → length far + length p.inbox < 2 ^ 60
 few-stand r ww vw bs n far p x f s most few =
     let stand = all_stand r ww vw bs n far x f.crosses in
@@ -88,7 +88,7 @@ module _ {C M : ℕ} (near : Beats C M) where
   progress-ends cw mw n far s x f i =
       subst (λ k. k ≤ run_end) (sym (progress-is n far s x f i))
       (sums-most (progress-most rules_a cw mw near.a n.a far.a x.a i.a_sent f.a.crosses)
-          (progress-most rules_b mw cw near.b n.b far.b x.b i.b_sent f.b.crosses)
+      (progress-most rules_b mw cw near.b n.b far.b x.b i.b_sent f.b.crosses)
       (progress-most rules_c cw mw near.c n.c far.c x.c i.c_sent f.c.crosses) (progress-most rules_d mw cw near.d n.d far.d x.d i.d_sent f.d.crosses)
       (progress-most rules_e cw mw near.e n.e far.e x.e i.e_sent f.e.crosses))
 
@@ -96,7 +96,7 @@ module _ {C M : ℕ} (near : Beats C M) where
   pub end-few : IsWidth C → IsWidth M → IsShort near → run_end < 2 ^ 60
   end-few cw mw s =
       bounded _ _ _ _ _ _ _ _ _ _ s.few_a s.few_b s.few_c s.few_d s.few_e (most-a M mw [] near.a) (most-b C cw [] near.b) (most-c M mw [] near.c)
-          (most-d C cw [] near.d) (most-e M mw [] near.e)
+      (most-d C cw [] near.d) (most-e M mw [] near.e)
     where
       bounded : (f g h i j k l m n o : ℕ) → f ≤ 2 ^ 40 → g ≤ 2 ^ 40 → h ≤ 2 ^ 40 → i ≤ 2 ^ 40 → j ≤ 2 ^ 40 →
           k ≤ 4096 * (f + 1) → l ≤ 4096 * (g + 1) → m ≤ 4096 * (h + 1) → n ≤ 4096 * (i + 1) → o ≤ 4096 * (j + 1) →
@@ -130,7 +130,7 @@ module _ {C M : ℕ} (near : Beats C M) where
     further goes =
         let before : progress_here n far s ≡ all_progress n x = progress-is n far s x f i in
         let after : progress_here (counted n o) far' t ≡ all_progress (counted n o) h.past =
-            progress-is (counted n o) far' t h.past h.stands h.is_at in
+        progress-is (counted n o) far' t h.past h.stands h.is_at in
         let most : all_progress n x + 1 ≤ all_progress (counted n o) h.past = ⊎_elim (λ l. l) (λ z. absurd (goes z.0 z.1)) h.goes in
         subst (λ k. k + 1 ≤ progress_here (counted n o) far' t) (sym before) (subst (λ k. all_progress n x + 1 ≤ k) (sym after) most)
 
@@ -183,7 +183,7 @@ module _ {C M : ℕ} (near : Beats C M) where
         e_homed = refl;
       } in
       subst (λ k. IsAt near k far (untouched room x)) (sym none)
-          (subst (λ k. IsAt near (record { a = 0; b = 0; c = 0; d = 0; e = 0 }) k (untouched room x)) (sym empty) here)
+      (subst (λ k. IsAt near (record { a = 0; b = 0; c = 0; d = 0; e = 0 }) k (untouched room x)) (sym empty) here)
 
   -- it is under way at a new bridge
   pub starts : (n : PerChannel ℕ) (far : Beats M C) (s : Bridge C M) → n ≡ record { a = 0; b = 0; c = 0; d = 0; e = 0 } → far ≡ no_beats → IsNew s →

@@ -80,16 +80,16 @@ module _ {C M : ℕ} (cw : IsWidth C) (mw : IsWidth M) (near : Beats C M) (n : P
   pub rounds-few : rounds ≤ near_count near + 2 * far_count near + 1
   rounds-few =
       sum-rounds rounds (progress n.a h.past.a) (progress n.b h.past.b) (progress n.c h.past.c) (progress n.d h.past.d)
-          (progress n.e h.past.e) _ _ _ _ _
+      (progress n.e h.past.e) _ _ _ _ _
       (length (far_beats near).a) (length (far_beats near).b) (length (far_beats near).c) (length (far_beats near).d)
-          (length (far_beats near).e) h.few_rounds
+      (length (far_beats near).e) h.few_rounds
       (progress-end rules_a cw mw near.a n.a far.a h.past.a h.is_at.a_sent a-rests ∙ ap (λ q. n.a + 2 * length q) has-settled.a_far ∙
-          ap (λ k. k + 2 * length (far_beats near).a) has-settled.a_count)
+      ap (λ k. k + 2 * length (far_beats near).a) has-settled.a_count)
       (progress-end rules_b mw cw near.b n.b far.b h.past.b h.is_at.b_sent b-rests ∙ ap (λ q. n.b + 2 * length q) b-far ∙
       ap (λ k. k + 2 * length (far_beats near).b) (count-end rules_b mw cw near.b n.b far.b h.past.b stops.b h.all_stop.stop_b h.is_at.b_sent))
       (progress-end rules_c cw mw near.c n.c far.c h.past.c h.is_at.c_sent c-rests ∙ ap (λ q. n.c + 2 * length q) c-far ∙
       ap (λ k. k + 2 * length (far_beats near).c) (count-end rules_c cw mw near.c n.c far.c h.past.c stops.c h.all_stop.stop_c h.is_at.c_sent))
       (progress-end rules_d mw cw near.d n.d far.d h.past.d h.is_at.d_sent d-rests ∙ ap (λ q. n.d + 2 * length q) has-settled.d_far ∙
-          ap (λ k. k + 2 * length (far_beats near).d) has-settled.d_count)
+      ap (λ k. k + 2 * length (far_beats near).d) has-settled.d_count)
       (progress-end rules_e cw mw near.e n.e far.e h.past.e h.is_at.e_sent e-rests ∙ ap (λ q. n.e + 2 * length q) e-far ∙
       ap (λ k. k + 2 * length (far_beats near).e) (count-end rules_e cw mw near.e n.e far.e h.past.e stops.e h.all_stop.stop_e h.is_at.e_sent))

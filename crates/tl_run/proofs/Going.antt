@@ -99,7 +99,7 @@ module _ {H : Type 0} (r : Rules H) {w v : ℕ} (bs : List (BeatOf H w)) (n : �
       let before : IsSent r bs n x.taken x = sent-passed r bs n far x x s refl refl refl x.taken refl in
       let after : IsSent r bs (n + steps o) y.taken y = sent-offer r bs n answer home x o accepted y before own does in
       sent-passed r bs (n + steps o) y.taken y (passed_on i j k y) after refl refl refl far
-          (s.taken ∙ sym (does-taken r bs n answer home x y o accepted does))
+      (s.taken ∙ sym (does-taken r bs n answer home x y o accepted does))
 
 module _ {C M : ℕ} (i' j k : ℕ) (near : Beats C M) (n : PerChannel ℕ) (far : Beats M C) (x : Past C M) (i : IsAt near n far x) (s : Bridge C M)
     (stands : StandsFor s x) (o : Offered) where
@@ -199,7 +199,7 @@ module _ {C M : ℕ} (i' j k : ℕ) (near : Beats C M) (n : PerChannel ℕ) (far
 module _ {C M : ℕ} {H : Type 0} {w v : ℕ} (k : Going C M (BeatOf H w)) (q : Offering (Bridge C M) (Past C M) H w v)
     (on : (s : Bridge C M) (x : Past C M) → (StandsFor s x → q.Stands s x) × (q.Stands s x → StandsFor s x))
     (gone at : ℕ) (from : gone ≤ at) (held : List (BeatOf H w)) (within : at - gone < length held) (s t : Bridge C M) (o : Offered)
-        (offers : OffersNext q held (at - gone) s o t) where
+    (offers : OffersNext q held (at - gone) s o t) where
   -- no beat was accepted
   pub has-stayed : steps o ≡ 0 → StepsOn (Passes k) Stays (RestsAt q) gone held at s o t
   has-stayed none =
@@ -214,10 +214,10 @@ module _ {C M : ℕ} {H : Type 0} {w v : ℕ} (k : Going C M (BeatOf H w)) (q : 
   pub has-passed : (i j l : ℕ) (u : Bridge C M) → steps o ≢ 0 →
       ((near : Beats C M) (n : PerChannel ℕ) (far : Beats M C) (x : Past C M) → IsAt near n far x → (s : Bridge C M) → StandsFor s x →
       (o : Offered) (accepted : List (BeatOf H w)) (y : World H w v) →
-          Does q.rules (k.list near) (k.count n) (q.answer x) (q.home x) (q.crossing x) o accepted y →
+      Does q.rules (k.list near) (k.count n) (q.answer x) (q.home x) (q.crossing x) o accepted y →
       IsAt near (k.set (k.count n + steps o) n) far (q.put (passed_on i j l y) (q.note accepted x))) →
       ((y : World H w v) (x : Past C M) → StandsFor t (q.put y x) → StandsFor u (q.put (passed_on i j l y) x)) →
-          StepsOn (Passes k) Stays (RestsAt q) gone held at s o u
+      StepsOn (Passes k) Stays (RestsAt q) gone held at s o u
   has-passed i j l u some ahead passed = record {
     passes = λ x stands.
         let h = offers.does x ((on s x).0 stands) in

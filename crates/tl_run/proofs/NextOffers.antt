@@ -12,19 +12,23 @@ module _ {S P H : Type 0} {w v : ℕ} (k : Offering S P H w v) (s : S) where
   still : (s' : S) → s' ≡ s → (x : P) → k.Stands s x → k.Stands s' (k.put (k.crossing x) (k.note [] x))
   still s' same x h =
       subst (λ q. k.Stands s' (k.put (k.crossing x) q)) (sym (k.noted x))
-          (subst (λ q. k.Stands s' q) (sym (k.kept x)) (subst (λ q. k.Stands q x) (sym same) h))
+      (subst (λ q. k.Stands s' q) (sym (k.kept x)) (subst (λ q. k.Stands q x) (sym same) h))
 
   -- the side was asked whether the channel is ready, whose pipe is this one
   pub asked : k.Same s s → (pipe : Pipe H v) → ((x : P) → k.Stands s x → StandsFor k.rules pipe (k.crossing x)) →
       (ready : Bool) → IsTrue ready ↔ IsReady pipe →
       (IsTrue ready → IsReady pipe) ×
-          ((IsTrue ready → ⊥) → (bs : List (BeatOf H w)) (n : ℕ) (b : BeatOf H w) → slice_get bs n ≡ Some b → OffersNext k bs n s NotReady s)
+      ((IsTrue ready → ⊥) → (bs : List (BeatOf H w)) (n : ℕ) (b : BeatOf H w) → slice_get bs n ≡ Some b → OffersNext k bs n s NotReady s)
   asked stays pipe stands ready exactly = (
     exactly.0,
     λ unready bs n b next. record {
       same = stays;
-      does = λ x h. ([], k.crossing x, still s refl x h,
-          (b, next, not_ready k.rules pipe (k.crossing x) (stands x h) (λ is. unready (exactly.1 is)), refl, refl));
+      does = λ x h. (
+        [],
+        k.crossing x,
+        still s refl x h,
+        (b, next, not_ready k.rules pipe (k.crossing x) (stands x h) (λ is. unready (exactly.1 is)), refl, refl),
+      );
     },
   )
 
@@ -49,8 +53,12 @@ module _ {S P H : Type 0} {w v : ℕ} (k : Offering S P H w v) (s : S) where
       ((x : P) → k.Stands s x → OnOk r (k.Stands s' (k.put (shut (k.crossing x)) x))) → OffersNext k bs n s (close_outcome r) s'
   closes bs n past (Ok u) s' stays refused between stands = record {
     same = stays;
-    does = λ x h. ([], shut (k.crossing x), subst (λ q. k.Stands s' (k.put (shut (k.crossing x)) q)) (sym (k.noted x)) (stands x h),
-        (past, (between x h).0 refl, refl, refl));
+    does = λ x h. (
+      [],
+      shut (k.crossing x),
+      subst (λ q. k.Stands s' (k.put (shut (k.crossing x)) q)) (sym (k.noted x)) (stands x h),
+      (past, (between x h).0 refl, refl, refl),
+    );
   }
   closes bs n past (Err e) s' stays refused between stands = record {
     same = stays;

@@ -44,7 +44,7 @@ new-within held short = record {
 abbrev pub all_ends : {C M : ℕ} → Counts → Script C M → ℕ
 all_ends gone held =
     (gone.a + length held.a.items) + (gone.b + length held.b.items) + (gone.c + length held.c.items) + (gone.d + length held.d.items) +
-        (gone.e + length held.e.items)
+    (gone.e + length held.e.items)
 
 module _ {C M : ℕ} (gone : Counts) (n : PerChannel ℕ) (held : Script C M) (w : AreBetween gone n held) where
   pub room-to-count : HaveRoomToCount n
@@ -85,7 +85,7 @@ ways : (stage ring inbox room out left into staged after : ℕ) → 1 ≤ room �
     into ≡ min stage (room - left) → staged + into ≡ stage →
     after ≡ left + into →
     (3 * staged + 2 * after + 0 ≤ 3 * stage + 2 * ring + inbox) ×
-        (1 ≤ 3 * stage + 2 * ring + inbox → 3 * staged + 2 * after + 0 + 1 ≤ 3 * stage + 2 * ring + inbox)
+    (1 ≤ 3 * stage + 2 * ring + inbox → 3 * staged + 2 * after + 0 + 1 ≤ 3 * stage + 2 * ring + inbox)
 ways stage ring inbox room out left into staged after some a b c d e = (omega arith, λ l. omega arith)
 
 -- a number is no more than another one, and less, where that is some
@@ -95,13 +95,13 @@ Nearer after before = (after ≤ before) × (1 ≤ before → after + 1 ≤ befo
 nearer-in : {H : Type 0} (r : Rules H) {w v : ℕ} (p q s t : Pipe H v) (x : World H w v) → piping.StandsFor r p x →
     piping.StandsFor r q (popped (fetch_count p) x) →
     piping.StandsFor r s (emptied (popped (fetch_count p) x)) →
-        piping.StandsFor r t (pushed (pump_count s) (emptied (popped (fetch_count p) x))) → Nearer (way_in t) (way_in p)
+    piping.StandsFor r t (pushed (pump_count s) (emptied (popped (fetch_count p) x))) → Nearer (way_in t) (way_in p)
 nearer-in r p q s t x f g h i =
     let out = fetch_count p in
     let into = pump_count s in
     let out_is : out ≡ min (length x.ring) (ROOM - length x.inbox) = rw (f.ring, f.inbox) refl in
     let left : length (drop out x.ring) + out ≡ length x.ring =
-        size-behind out x.ring (omega (arith, out_is, min-le_left (length x.ring) (ROOM - length x.inbox))) in
+    size-behind out x.ring (omega (arith, out_is, min-le_left (length x.ring) (ROOM - length x.inbox))) in
     let into_is : into ≡ min (length x.stage) (x.room - length (drop out x.ring)) = rw (h.stage, h.room, h.ring) refl in
     let fits : into ≤ length x.stage = omega (arith, into_is, min-le_left (length x.stage) (x.room - length (drop out x.ring))) in
     let staged : length (drop into x.stage) + into ≡ length x.stage = size-behind into x.stage fits in
@@ -109,11 +109,11 @@ nearer-in r p q s t x f g h i =
     length-append (drop out x.ring) (take into x.stage) ∙ ap (λ n. length (drop out x.ring) + n) (length-take-le into x.stage fits) in
     let here : way_in p ≡ 3 * length x.stage + 2 * length x.ring + length x.inbox = rw (f.stage, f.ring, f.inbox) refl in
     let there : way_in t ≡ 3 * length (drop into x.stage) + 2 * length (drop out x.ring ++ take into x.stage) + 0 =
-        rw (i.stage, i.ring, i.inbox) refl in
+    rw (i.stage, i.ring, i.inbox) refl in
     subst (λ k. Nearer k (way_in p)) (sym there)
-        (subst (λ k. Nearer (3 * length (drop into x.stage) + 2 * length (drop out x.ring ++ take into x.stage) + 0) k) (sym here)
+    (subst (λ k. Nearer (3 * length (drop into x.stage) + 2 * length (drop out x.ring ++ take into x.stage) + 0) k) (sym here)
     (ways (length x.stage) (length x.ring) (length x.inbox) x.room out (length (drop out x.ring)) into (length (drop into x.stage))
-        (length (drop out x.ring ++ take into x.stage))
+    (length (drop out x.ring ++ take into x.stage))
     f.some_room out_is left into_is staged after))
 
 both-nearer : {a b c d : ℕ} → Nearer a b → Nearer c d → Nearer (a + c) (b + d)
@@ -133,7 +133,7 @@ module _ {C M : ℕ} where
       (both-nearer (both-nearer (both-nearer
       (both-nearer (nearer-in rules_a s.a t.a u.a v.a x.a f.a g.a h.a i.a) (nearer-in rules_b s.b t.b u.b v.b x.b f.b g.b h.b i.b))
       (nearer-in rules_c s.c t.c u.c v.c x.c f.c g.c h.c i.c)) (nearer-in rules_d s.d t.d u.d v.d x.d f.d g.d h.d i.d))
-          (nearer-in rules_e s.e t.e u.e v.e x.e f.e g.e h.e i.e)).1
+      (nearer-in rules_e s.e t.e u.e v.e x.e f.e g.e h.e i.e)).1
 
   -- where something stands in a bridge, it has some way to go
   pub some-way : (s : Bridge C M) (t : PerChannel Standing) → IsStanding s.a t.a → IsStanding s.b t.b → IsStanding s.c t.c →
@@ -228,7 +228,7 @@ module _ {C M : ℕ} (first : Past C M) where
 stops-from : {H : Type 0} (r : Rules H) {w v : ℕ} (bs : List (BeatOf H w)) (n : ℕ) (answer : BeatOf H w → Option SideFault) (far : List (BeatOf H v))
     (x : World H w v) → IsSent r bs n far x →
     under_way x ≡ 0 → (o : Option SideFault) → RestsIn bs n answer x o → (stop : Stop) → IsStopOf o (rest_of r w x.accepted) stop →
-        Stops r bs n answer x.accepted (Stopped stop)
+    Stops r bs n answer x.accepted (Stopped stop)
 stops-from r bs n answer far x sent none (Some fault) rests stop is = subst (λ z. Stops r bs n answer x.accepted (Stopped z)) (sym is) rests
 stops-from r bs n answer far x sent none None (inl past) stop (inl (is, whole)) =
     subst (λ z. Stops r bs n answer x.accepted (Stopped z)) (sym is) (past, whole)

@@ -114,11 +114,11 @@ module _ {C M : ℕ} (cw : IsWidth C) (mw : IsWidth M) (near : Beats C M) (n : P
   at-round = record {
     run = subst (λ q. Run near.a near.d (n.a + steps o.a) (n.d + steps o.d) q h.past.manager) (sym h.client)
         (subst (λ q. Run near.a near.d (n.a + steps o.a) (n.d + steps o.d) ((x.client ++ map Answer x.d.inbox) ++ map Ask h.beats_a) q)
-            (sym h.manager)
+        (sym h.manager)
         (run-round cw mw near.a near.d n.a n.d s x stands i.run i.a_homed o.a o.d h.beats_a h.beats_d h.past.a h.past.d h.does_a h.does_d));
     a_sent = sent-round rules_a near.a n.a (client_answer (x.client ++ map Answer x.d.inbox)) (λ _. 0) far.a x.a o.a h.beats_a h.past.a i.a_sent
         (λ y f. subst (λ q. fault_after rules_a q y ≡ None) (asked_answers x.client x.d.inbox ∙ stands.client_asked)
-            (client-own (x.client ++ map Answer x.d.inbox) y f)) h.does_a;
+        (client-own (x.client ++ map Answer x.d.inbox) y f)) h.does_a;
     b_sent = sent-round rules_b near.b n.b (stops_alone rules_b x.b.accepted) (λ _. 0) far.b x.b o.b h.beats_b h.past.b i.b_sent
         (λ y f. alone-own rules_b x.b.accepted y f) h.does_b;
     c_sent = sent-round rules_c near.c n.c (stops_alone rules_c x.c.accepted) (λ _. 0) far.c x.c o.c h.beats_c h.past.c i.c_sent
@@ -126,7 +126,7 @@ module _ {C M : ℕ} (cw : IsWidth C) (mw : IsWidth M) (near : Beats C M) (n : P
     d_sent = sent-round rules_d near.d n.d (manager_answer (x.manager ++ map Ask x.a.inbox))
         (λ y. manager_home (x.manager ++ map Ask x.a.inbox) y.head) far.d x.d o.d h.beats_d h.past.d i.d_sent
         (λ y f. subst (λ q. fault_after rules_d q y ≡ None) (answered_asks x.manager x.a.inbox ∙ stands.manager_answered)
-            (manager-own (x.manager ++ map Ask x.a.inbox) y f)) h.does_d;
+        (manager-own (x.manager ++ map Ask x.a.inbox) y f)) h.does_d;
     e_sent = sent-round rules_e near.e n.e (stops_alone rules_e x.e.accepted) (λ _. 0) far.e x.e o.e h.beats_e h.past.e i.e_sent
         (λ y f. alone-own rules_e x.e.accepted y f) h.does_e;
     a_homed = homed-offer rules_a near.a n.a (client_answer (x.client ++ map Answer x.d.inbox)) (λ _. 0) (emptied x.a) o.a h.beats_a h.past.a
@@ -146,31 +146,31 @@ module _ {C M : ℕ} (cw : IsWidth C) (mw : IsWidth M) (near : Beats C M) (n : P
         (client_answer h.past.client) h.past.a.accepted o.a
         (λ z y. ap (λ q. client_answer q y) (h.client ∙ ap (λ q. (x.client ++ map Answer x.d.inbox) ++ map Ask q)
         (none-accepted rules_a near.a n.a (client_answer (x.client ++ map Answer x.d.inbox)) (λ _. 0) (emptied x.a) o.a
-            h.beats_a h.past.a z h.does_a).0 ∙
+        h.beats_a h.past.a z h.does_a).0 ∙
         append-nil (x.client ++ map Answer x.d.inbox)))
         (stops-offer rules_a near.a n.a (client_answer (x.client ++ map Answer x.d.inbox)) (λ _. 0) (emptied x.a) o.a h.beats_a h.past.a h.does_a);
     stop_b = stops-same rules_b near.b (n.b + steps o.b) (stops_alone rules_b x.b.accepted)
         (stops_alone rules_b h.past.b.accepted) h.past.b.accepted o.b
         (λ z y. ap (λ q. stops_alone rules_b q y)
-            (none-accepted rules_b near.b n.b (stops_alone rules_b x.b.accepted) (λ _. 0) (emptied x.b) o.b h.beats_b h.past.b z h.does_b).1)
+        (none-accepted rules_b near.b n.b (stops_alone rules_b x.b.accepted) (λ _. 0) (emptied x.b) o.b h.beats_b h.past.b z h.does_b).1)
         (stops-offer rules_b near.b n.b (stops_alone rules_b x.b.accepted) (λ _. 0) (emptied x.b) o.b h.beats_b h.past.b h.does_b);
     stop_c = stops-same rules_c near.c (n.c + steps o.c) (stops_alone rules_c x.c.accepted)
         (stops_alone rules_c h.past.c.accepted) h.past.c.accepted o.c
         (λ z y. ap (λ q. stops_alone rules_c q y)
-            (none-accepted rules_c near.c n.c (stops_alone rules_c x.c.accepted) (λ _. 0) (emptied x.c) o.c h.beats_c h.past.c z h.does_c).1)
+        (none-accepted rules_c near.c n.c (stops_alone rules_c x.c.accepted) (λ _. 0) (emptied x.c) o.c h.beats_c h.past.c z h.does_c).1)
         (stops-offer rules_c near.c n.c (stops_alone rules_c x.c.accepted) (λ _. 0) (emptied x.c) o.c h.beats_c h.past.c h.does_c);
     stop_d = stops-same rules_d near.d (n.d + steps o.d) (manager_answer (x.manager ++ map Ask x.a.inbox))
         (manager_answer h.past.manager) h.past.d.accepted o.d
         (λ z y. ap (λ q. manager_answer q y) (h.manager ∙ ap (λ q. (x.manager ++ map Ask x.a.inbox) ++ map Answer q)
         (none-accepted rules_d near.d n.d (manager_answer (x.manager ++ map Ask x.a.inbox))
-            (λ y. manager_home (x.manager ++ map Ask x.a.inbox) y.head) (emptied x.d) o.d h.beats_d h.past.d z h.does_d).0 ∙
+        (λ y. manager_home (x.manager ++ map Ask x.a.inbox) y.head) (emptied x.d) o.d h.beats_d h.past.d z h.does_d).0 ∙
         append-nil (x.manager ++ map Ask x.a.inbox)))
         (stops-offer rules_d near.d n.d (manager_answer (x.manager ++ map Ask x.a.inbox)) (λ y. manager_home (x.manager ++ map Ask x.a.inbox) y.head)
-            (emptied x.d) o.d h.beats_d h.past.d h.does_d);
+        (emptied x.d) o.d h.beats_d h.past.d h.does_d);
     stop_e = stops-same rules_e near.e (n.e + steps o.e) (stops_alone rules_e x.e.accepted)
         (stops_alone rules_e h.past.e.accepted) h.past.e.accepted o.e
         (λ z y. ap (λ q. stops_alone rules_e q y)
-            (none-accepted rules_e near.e n.e (stops_alone rules_e x.e.accepted) (λ _. 0) (emptied x.e) o.e h.beats_e h.past.e z h.does_e).1)
+        (none-accepted rules_e near.e n.e (stops_alone rules_e x.e.accepted) (λ _. 0) (emptied x.e) o.e h.beats_e h.past.e z h.does_e).1)
         (stops-offer rules_e near.e n.e (stops_alone rules_e x.e.accepted) (λ _. 0) (emptied x.e) o.e h.beats_e h.past.e h.does_e);
   }
 
@@ -180,11 +180,11 @@ module _ {C M : ℕ} (cw : IsWidth C) (mw : IsWidth M) (near : Beats C M) (n : P
   moves-round =
       both-move (both-move (both-move (both-move
       (progress-round rules_a near.a n.a (client_answer (x.client ++ map Answer x.d.inbox)) (λ _. 0) far.a x.a o.a
-          h.beats_a h.past.a i.a_sent h.does_a)
+      h.beats_a h.past.a i.a_sent h.does_a)
       (progress-round rules_b near.b n.b (stops_alone rules_b x.b.accepted) (λ _. 0) far.b x.b o.b h.beats_b h.past.b i.b_sent h.does_b))
       (progress-round rules_c near.c n.c (stops_alone rules_c x.c.accepted) (λ _. 0) far.c x.c o.c h.beats_c h.past.c i.c_sent h.does_c))
       (progress-round rules_d near.d n.d (manager_answer (x.manager ++ map Ask x.a.inbox)) (λ y. manager_home (x.manager ++ map Ask x.a.inbox) y.head)
-          far.d x.d o.d h.beats_d h.past.d i.d_sent h.does_d))
+      far.d x.d o.d h.beats_d h.past.d i.d_sent h.does_d))
       (progress-round rules_e near.e n.e (stops_alone rules_e x.e.accepted) (λ _. 0) far.e x.e o.e h.beats_e h.past.e i.e_sent h.does_e)
 
   -- the round

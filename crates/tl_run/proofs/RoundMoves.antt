@@ -33,14 +33,14 @@ module _ {w : ℕ} (Moves : ℕ → List (Event w) → Type 0) where
   stays : {B : Type 0} (event : B → Event w) (y : ℕ) (fs : List (Event w)) (bs : List B) → Moves y fs → bs ≡ [] → Moves (y + 0) (fs ++ map event bs)
   stays event y fs bs moves none =
       subst (λ q. Moves (y + 0) (fs ++ map event q)) (sym none)
-          (subst (λ n. Moves n (fs ++ [])) (none-more y) (subst (λ gs. Moves y gs) (sym (append-nil fs)) moves))
+      (subst (λ n. Moves n (fs ++ [])) (none-more y) (subst (λ gs. Moves y gs) (sym (append-nil fs)) moves))
 
   -- it offers its next beat, if it may
   offers : {H : Type 0} (r : Rules H) {u v : ℕ} (event : BeatOf H u → Event w) (list : List (BeatOf H u)) (y : ℕ) (fs : List (Event w))
       (answer : BeatOf H u → Option SideFault)
       (home : BeatOf H u → ℕ) (before : World H u v) (o : Offered) (bs : List (BeatOf H u)) (after : World H u v) →
       ((b : BeatOf H u) → slice_get list y ≡ Some b → answer b ≡ None → Moves (suc y) (fs ++ event b ∷ [])) → Moves y fs →
-          Does r list y answer home before o bs after →
+      Does r list y answer home before o bs after →
       Moves (y + steps o) (fs ++ map event bs)
   offers r event list y fs answer home before Accepted bs after accepts moves (b, at, ok, is, made) =
       let next : suc y ≡ y + 1 = omega arith in
@@ -65,17 +65,17 @@ module _ {C M : ℕ} (a : List (BeatOf HeadA C)) (d : List (BeatOf HeadD M)) whe
   pub client-offers : (j x : ℕ) (es : List (Event C)) (y : ℕ) (fs : List (Event C)) (home : BeatOf HeadA C → ℕ)
       (before : World HeadA C M) (o : Offered)
       (bs : List (BeatOf HeadA C)) (after : World HeadA C M) → ClientMoves a d j x es y fs →
-          Does rules_a a y (client_answer fs) home before o bs after →
+      Does rules_a a y (client_answer fs) home before o bs after →
       ClientMoves a d j x es (y + steps o) (fs ++ map Ask bs)
   client-offers j x es y fs home before o bs after moves =
       offers (ClientMoves a d j x es) rules_a Ask a y fs (client_answer fs) home before o bs after
-          (λ b at ok. client_accepts y fs b moves at ok) moves
+      (λ b at ok. client_accepts y fs b moves at ok) moves
 
   pub manager-offers : (i x : ℕ) (es : List (Event M)) (y : ℕ) (fs : List (Event M)) (home : BeatOf HeadD M → ℕ)
       (before : World HeadD M C) (o : Offered)
       (bs : List (BeatOf HeadD M)) (after : World HeadD M C) → ManagerMoves a d i x es y fs →
-          Does rules_d d y (manager_answer fs) home before o bs after →
+      Does rules_d d y (manager_answer fs) home before o bs after →
       ManagerMoves a d i x es (y + steps o) (fs ++ map Answer bs)
   manager-offers i x es y fs home before o bs after moves =
       offers (ManagerMoves a d i x es) rules_d Answer d y fs (manager_answer fs) home before o bs after
-          (λ b at ok. manager_accepts y fs b moves at ok) moves
+      (λ b at ok. manager_accepts y fs b moves at ok) moves

@@ -57,22 +57,22 @@ module _ {C M : ℕ} (cw : IsWidth C) (mw : IsWidth M) (a : List (BeatOf HeadA C
   pub run-round : (o p : Offered) (asks : List (BeatOf HeadA C)) (answers : List (BeatOf HeadD M)) (y : World HeadA C M) (z : World HeadD M C) →
       Does rules_a a i (client_answer (x.client ++ map Answer x.d.inbox)) (λ _. 0) (emptied x.a) o asks y →
       Does rules_d d j (manager_answer (x.manager ++ map Ask x.a.inbox))
-          (λ b. manager_home (x.manager ++ map Ask x.a.inbox) b.head) (emptied x.d) p answers z →
+      (λ b. manager_home (x.manager ++ map Ask x.a.inbox) b.head) (emptied x.d) p answers z →
       Run a d (i + steps o) (j + steps p) ((x.client ++ map Answer x.d.inbox) ++ map Ask asks)
-          ((x.manager ++ map Ask x.a.inbox) ++ map Answer answers)
+      ((x.manager ++ map Ask x.a.inbox) ++ map Answer answers)
   run-round o p asks answers y z does_a does_d =
       round i j (i + steps o) (j + steps p) x.client ((x.client ++ map Answer x.d.inbox) ++ map Ask asks)
       x.manager ((x.manager ++ map Ask x.a.inbox) ++ map Answer answers) run
       (client-offers a d j i x.client i (x.client ++ map Answer x.d.inbox) (λ _. 0) (emptied x.a) o asks y takes-client does_a)
       (manager-offers a d i j x.manager j (x.manager ++ map Ask x.a.inbox) (λ b. manager_home (x.manager ++ map Ask x.a.inbox) b.head) (emptied x.d) p
-          answers z takes-manager does_d)
+      answers z takes-manager does_d)
 
   -- where nothing is under way and both channels stand still, the run has come to the settled state
   module _ (far_a : List (BeatOf HeadA M)) (far_d : List (BeatOf HeadD C)) (a_sent : IsSent rules_a a i far_a x.a)
       (d_sent : IsSent rules_d d j far_d x.d)
       (stop_a stop_d : Stop) (a_stops : Stops rules_a a i (client_answer x.client) x.a.accepted (Stopped stop_a))
       (d_stops : Stops rules_d d j (manager_answer x.manager) x.d.accepted (Stopped stop_d)) (a_rests : under_way x.a ≡ 0)
-          (d_rests : under_way x.d ≡ 0) where
+      (d_rests : under_way x.d ≡ 0) where
     pub record IsSettledEnd : Type 0 where
       pub a_count : i ≡ (settled_state a d).a
       pub d_count : j ≡ (settled_state a d).d
@@ -124,7 +124,7 @@ module _ {C M : ℕ} (cw : IsWidth C) (mw : IsWidth M) (a : List (BeatOf HeadA C
         stop-verdict rules_a a i (client_answer x.client) x.a.accepted (stops_a a d i j) settled.a_answer (length far_a) stop_a a_stops
         (handed-accepted rules_a x.a stands.a.crosses) a_sent.accepted ∙
         ap (λ q. verdict-a-at i j q) far-a-is ∙ ap (λ n. verdict-a-at n j (due_far_a a d n)) settled.a_there ∙
-            ap (λ m. verdict-a-at s.a m (due_far_a a d s.a)) settled.d_there
+        ap (λ m. verdict-a-at s.a m (due_far_a a d s.a)) settled.d_there
 
     -- D ends with the verdict of the settled state
     d-verdict : stop_verdict stop_d j (length far_d) ≡ verdict_d a d
@@ -133,7 +133,7 @@ module _ {C M : ℕ} (cw : IsWidth C) (mw : IsWidth M) (a : List (BeatOf HeadA C
         stop-verdict rules_d d j (manager_answer x.manager) x.d.accepted (stops_d a d i j) settled.d_answer (length far_d) stop_d d_stops
         (handed-accepted rules_d x.d stands.d.crosses) d_sent.accepted ∙
         ap (λ q. verdict-d-at i j q) far-d-is ∙ ap (λ n. verdict-d-at n j (due_far_d a d j)) settled.a_there ∙
-            ap (λ m. verdict-d-at s.a m (due_far_d a d m)) settled.d_there
+        ap (λ m. verdict-d-at s.a m (due_far_d a d m)) settled.d_there
 
     pub run-end : IsSettledEnd
     run-end = record {

@@ -79,24 +79,54 @@ pub record Going (C M : ℕ) (B : Type 0) : Type 0 where
 
 module _ {C M : ℕ} where
   abbrev pub going_a : Going C M (BeatOf HeadA C)
-  going_a = record { list = λ near. near.a; count = λ n. n.a; set = λ k n. record n { a = k }; same = λ _. refl;
-      counts = λ _ _. refl; sets = λ _ _ _. refl }
+  going_a = record {
+    list = λ near. near.a;
+    count = λ n. n.a;
+    set = λ k n. record n { a = k };
+    same = λ _. refl;
+    counts = λ _ _. refl;
+    sets = λ _ _ _. refl;
+  }
 
   abbrev pub going_b : Going C M (BeatOf HeadB M)
-  going_b = record { list = λ near. near.b; count = λ n. n.b; set = λ k n. record n { b = k }; same = λ _. refl;
-      counts = λ _ _. refl; sets = λ _ _ _. refl }
+  going_b = record {
+    list = λ near. near.b;
+    count = λ n. n.b;
+    set = λ k n. record n { b = k };
+    same = λ _. refl;
+    counts = λ _ _. refl;
+    sets = λ _ _ _. refl;
+  }
 
   abbrev pub going_c : Going C M (BeatOf HeadC C)
-  going_c = record { list = λ near. near.c; count = λ n. n.c; set = λ k n. record n { c = k }; same = λ _. refl;
-      counts = λ _ _. refl; sets = λ _ _ _. refl }
+  going_c = record {
+    list = λ near. near.c;
+    count = λ n. n.c;
+    set = λ k n. record n { c = k };
+    same = λ _. refl;
+    counts = λ _ _. refl;
+    sets = λ _ _ _. refl;
+  }
 
   abbrev pub going_d : Going C M (BeatOf HeadD M)
-  going_d = record { list = λ near. near.d; count = λ n. n.d; set = λ k n. record n { d = k }; same = λ _. refl;
-      counts = λ _ _. refl; sets = λ _ _ _. refl }
+  going_d = record {
+    list = λ near. near.d;
+    count = λ n. n.d;
+    set = λ k n. record n { d = k };
+    same = λ _. refl;
+    counts = λ _ _. refl;
+    sets = λ _ _ _. refl;
+  }
 
   abbrev pub going_e : Going C M (BeatOf HeadE C)
-  going_e = record { list = λ near. near.e; count = λ n. n.e; set = λ k n. record n { e = k }; same = λ _. refl;
-      counts = λ _ _. refl; sets = λ _ _ _. refl }
+  going_e = record {
+    list = λ near. near.e;
+    count = λ n. n.e;
+    set = λ k n. record n { e = k };
+    same = λ _. refl;
+    counts = λ _ _. refl;
+    sets = λ _ _ _. refl;
+  }
 
   -- a bridge stands for all that another one stood for
   abbrev pub Stays : Bridge C M → Bridge C M → Type 0

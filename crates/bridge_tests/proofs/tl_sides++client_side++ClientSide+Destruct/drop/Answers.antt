@@ -8,25 +8,31 @@ use Rattle.tl_ring.proofs.FieldSizes.{part, part_small, inner_small, beat_in_que
 use Rattle.bridge_tests.proofs.tl_sides++client_side++ClientSide+Destruct.drop.Goals as goal
 
 pub drop-requires : goal.drop-requires
-drop-requires g c = part_small (layout (the_row (param 0 (number g.row.C)) (param 1 (number g.row.M)) (param 2 g.row.A) g.A.Allocator)) 0 9223372036854775808 c.requires.1.1.1
+drop-requires g c = part_small (layout (the_row (param 0 (number g.row.C)) (param 1 (number g.row.M)) (param 2 g.row.A) g.A.Allocator)) 0
+    9223372036854775808 c.requires.1.1.1
 
 pub drop-requires-2-room-P-Protocol-2 : goal.drop-requires-2-room-P-Protocol-2
 drop-requires-2-room-P-Protocol-2 g c κs within =
     let side = layout (the_row (param 0 (number g.row.C)) (param 1 (number g.row.M)) (param 2 g.row.A) g.A.Allocator) in
-    beat_in_queue (lone head_a.the_row.mir) (layout head_a.the_row) g.row.M 9223372036854775808 (part_small (part (part side 0) 0) 1 9223372036854775808 (inner_small side 0 0 9223372036854775808 c.requires.1.1.1))
+    beat_in_queue (lone head_a.the_row.mir) (layout head_a.the_row) g.row.M 9223372036854775808
+    (part_small (part (part side 0) 0) 1 9223372036854775808 (inner_small side 0 0 9223372036854775808 c.requires.1.1.1))
 
 pub drop-requires-3 : goal.drop-requires-3
-drop-requires-3 g c = part_small (layout (the_row (param 0 (number g.row.C)) (param 1 (number g.row.M)) (param 2 g.row.A) g.A.Allocator)) 2 9223372036854775808 c.requires.1.1.1
+drop-requires-3 g c = part_small (layout (the_row (param 0 (number g.row.C)) (param 1 (number g.row.M)) (param 2 g.row.A) g.A.Allocator)) 2
+    9223372036854775808 c.requires.1.1.1
 
 pub drop-requires-4-room-P-Protocol-2 : goal.drop-requires-4-room-P-Protocol-2
 drop-requires-4-room-P-Protocol-2 g c κs within =
     let side = layout (the_row (param 0 (number g.row.C)) (param 1 (number g.row.M)) (param 2 g.row.A) g.A.Allocator) in
-    beat_in_queue (lone head_c.the_row.mir) (layout head_c.the_row) g.row.M 9223372036854775808 (part_small (part (part side 0) 2) 1 9223372036854775808 (inner_small side 0 2 9223372036854775808 c.requires.1.1.1))
+    beat_in_queue (lone head_c.the_row.mir) (layout head_c.the_row) g.row.M 9223372036854775808
+    (part_small (part (part side 0) 2) 1 9223372036854775808 (inner_small side 0 2 9223372036854775808 c.requires.1.1.1))
 
 pub drop-requires-5 : goal.drop-requires-5
-drop-requires-5 g c = part_small (layout (the_row (param 0 (number g.row.C)) (param 1 (number g.row.M)) (param 2 g.row.A) g.A.Allocator)) 4 9223372036854775808 c.requires.1.1.1
+drop-requires-5 g c = part_small (layout (the_row (param 0 (number g.row.C)) (param 1 (number g.row.M)) (param 2 g.row.A) g.A.Allocator)) 4
+    9223372036854775808 c.requires.1.1.1
 
 pub drop-requires-6-room-P-Protocol-2 : goal.drop-requires-6-room-P-Protocol-2
 drop-requires-6-room-P-Protocol-2 g c κs within =
     let side = layout (the_row (param 0 (number g.row.C)) (param 1 (number g.row.M)) (param 2 g.row.A) g.A.Allocator) in
-    beat_in_queue (lone head_e.the_row.mir) (layout head_e.the_row) g.row.M 9223372036854775808 (part_small (part (part side 0) 4) 1 9223372036854775808 (inner_small side 0 4 9223372036854775808 c.requires.1.1.1))
+    beat_in_queue (lone head_e.the_row.mir) (layout head_e.the_row) g.row.M 9223372036854775808
+    (part_small (part (part side 0) 4) 1 9223372036854775808 (inner_small side 0 4 9223372036854775808 c.requires.1.1.1))

@@ -6,8 +6,10 @@ pub deref-requires : goal.deref-requires
 deref-requires g c = λ κs. (lives-long κs.1.0, lives-long κs.1.1.0)
 
 pub go_ahead-b-requires : goal.go_ahead-b-requires
-go_ahead-b-requires g c = (c.requires.0,
-    subst (λ q. IsBetween c.args.gone.now.b c.args.at.now.b (length q)) (sym c.deref.ensures.value) c.requires.1.b)
+go_ahead-b-requires g c = (
+  c.requires.0,
+  subst (λ q. IsBetween c.args.gone.now.b c.args.at.now.b (length q)) (sym c.deref.ensures.value) c.requires.1.b,
+)
 
 pub go_ahead-b-requires-room-S-GoesOn : goal.go_ahead-b-requires-room-S-GoesOn
 go_ahead-b-requires-room-S-GoesOn g c κs = bridge_small g.row.C g.row.M c.requires.0.client c.requires.0.manager
@@ -19,8 +21,10 @@ pub deref-requires-2 : goal.deref-requires-2
 deref-requires-2 g c = λ κs. (lives-long κs.1.0, lives-long κs.1.1.0)
 
 pub go_ahead-c-requires : goal.go_ahead-c-requires
-go_ahead-c-requires g c = (c.requires.0,
-    subst (λ q. IsBetween c.args.gone.now.c c.args.at.now.c (length q)) (sym c.deref-2.ensures.value) c.requires.1.c)
+go_ahead-c-requires g c = (
+  c.requires.0,
+  subst (λ q. IsBetween c.args.gone.now.c c.args.at.now.c (length q)) (sym c.deref-2.ensures.value) c.requires.1.c,
+)
 
 pub go_ahead-c-requires-room-S-GoesOn : goal.go_ahead-c-requires-room-S-GoesOn
 go_ahead-c-requires-room-S-GoesOn g c κs = bridge_small g.row.C g.row.M c.requires.0.client c.requires.0.manager
@@ -32,8 +36,10 @@ pub deref-requires-3 : goal.deref-requires-3
 deref-requires-3 g c = λ κs. (lives-long κs.1.0, lives-long κs.1.1.0)
 
 pub go_ahead-e-requires : goal.go_ahead-e-requires
-go_ahead-e-requires g c = (c.requires.0,
-    subst (λ q. IsBetween c.args.gone.now.e c.args.at.now.e (length q)) (sym c.deref-3.ensures.value) c.requires.1.e)
+go_ahead-e-requires g c = (
+  c.requires.0,
+  subst (λ q. IsBetween c.args.gone.now.e c.args.at.now.e (length q)) (sym c.deref-3.ensures.value) c.requires.1.e,
+)
 
 pub go_ahead-e-requires-room-S-GoesOn : goal.go_ahead-e-requires-room-S-GoesOn
 go_ahead-e-requires-room-S-GoesOn g c κs = bridge_small g.row.C g.row.M c.requires.0.client c.requires.0.manager
@@ -45,8 +51,10 @@ pub deref-requires-4 : goal.deref-requires-4
 deref-requires-4 g c = λ κs. (lives-long κs.1.0, lives-long κs.1.1.0)
 
 pub go_ahead-a-requires : goal.go_ahead-a-requires
-go_ahead-a-requires g c = (c.requires.0,
-    subst (λ q. IsBetween c.args.gone.now.a c.args.at.now.a (length q)) (sym c.deref-4.ensures.value) c.requires.1.a)
+go_ahead-a-requires g c = (
+  c.requires.0,
+  subst (λ q. IsBetween c.args.gone.now.a c.args.at.now.a (length q)) (sym c.deref-4.ensures.value) c.requires.1.a,
+)
 
 pub go_ahead-a-requires-room-S-GoesOn : goal.go_ahead-a-requires-room-S-GoesOn
 go_ahead-a-requires-room-S-GoesOn g c κs = bridge_small g.row.C g.row.M c.requires.0.client c.requires.0.manager
@@ -58,8 +66,10 @@ pub deref-requires-5 : goal.deref-requires-5
 deref-requires-5 g c = λ κs. (lives-long κs.1.0, lives-long κs.1.1.0)
 
 pub go_ahead-d-requires : goal.go_ahead-d-requires
-go_ahead-d-requires g c = (c.requires.0,
-    subst (λ q. IsBetween c.args.gone.now.d c.args.at.now.d (length q)) (sym c.deref-5.ensures.value) c.requires.1.d)
+go_ahead-d-requires g c = (
+  c.requires.0,
+  subst (λ q. IsBetween c.args.gone.now.d c.args.at.now.d (length q)) (sym c.deref-5.ensures.value) c.requires.1.d,
+)
 
 pub go_ahead-d-requires-room-S-GoesOn : goal.go_ahead-d-requires-room-S-GoesOn
 go_ahead-d-requires-room-S-GoesOn g c κs = bridge_small g.row.C g.row.M c.requires.0.client c.requires.0.manager
@@ -78,8 +88,13 @@ returns g c =
         d = subst (λ q. IsBetween gone.d c.go_ahead-d.new.at (length q)) c.deref-5.ensures.value c.go_ahead-d.ensures.within;
         e = subst (λ q. IsBetween gone.e c.go_ahead-e.new.at (length q)) c.deref-3.ensures.value c.go_ahead-e.ensures.within;
       };
-      on = record { a = c.go_ahead-a.ensures.on; b = c.go_ahead-b.ensures.on; c = c.go_ahead-c.ensures.on; d = c.go_ahead-d.ensures.on;
-          e = c.go_ahead-e.ensures.on };
+      on = record {
+        a = c.go_ahead-a.ensures.on;
+        b = c.go_ahead-b.ensures.on;
+        c = c.go_ahead-c.ensures.on;
+        d = c.go_ahead-d.ensures.on;
+        e = c.go_ahead-e.ensures.on;
+      };
       passes = λ x stands.
           let b = c.go_ahead-b.ensures.passes x stands in
           let c' = c.go_ahead-c.ensures.passes b.past b.stands in
@@ -96,12 +111,12 @@ returns g c =
                 let part_d = subst (λ q. IsPart gone.d q near.d) (sym c.deref-5.ensures.value) part.d in
                 let part_e = subst (λ q. IsPart gone.e q near.e) (sym c.deref-3.ensures.value) part.e in
                 d.is_at near _ far part_d refl
-                    (a.is_at near _ far part_a refl
-                    (e.is_at near _ far part_e refl (c'.is_at near _ far part_c refl (b.is_at near _ far part_b refl i))));
+                (a.is_at near _ far part_a refl
+                (e.is_at near _ far part_e refl (c'.is_at near _ far part_c refl (b.is_at near _ far part_b refl i))));
           };
       stays = λ same x stands.
           c.go_ahead-d.ensures.stays (ap (λ q. q.d) same) x
-              (c.go_ahead-a.ensures.stays (ap (λ q. q.a) same) x (c.go_ahead-e.ensures.stays (ap (λ q. q.e) same) x
+          (c.go_ahead-a.ensures.stays (ap (λ q. q.a) same) x (c.go_ahead-e.ensures.stays (ap (λ q. q.e) same) x
           (c.go_ahead-c.ensures.stays (ap (λ q. q.c) same) x (c.go_ahead-b.ensures.stays (ap (λ q. q.b) same) x stands))));
       rests = λ same x stands near end.
           let b = c.go_ahead-b.ensures.stays (ap (λ q. q.b) same) x stands in

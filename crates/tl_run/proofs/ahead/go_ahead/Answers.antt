@@ -31,7 +31,7 @@ beats-preserved g c =
       passes = g.met.S.GoesOn.passes_then c.args.gone c.args.held.now c.args.at.now c.beats.at (c.beats.at + 1) c.args.side.now c.beats.side
           c.go_on-offered.new.self here.passes
           (subst (λ n. g.S.GoesOn.Passes c.args.gone c.args.held.now c.beats.at c.beats.side (c.beats.at + n) c.go_on-offered.new.self) one
-              c.go_on-offered.ensures.passes);
+          c.go_on-offered.ensures.passes);
       same = λ e. absurd (omega (arith, e, here.on));
     }
 

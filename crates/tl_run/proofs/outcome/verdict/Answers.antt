@@ -8,14 +8,14 @@ refused : (near far : ℕ) (f : SideFault) → ((x : BeatFault) × (f ≡ Beat x
     ending.Refused near f ≡ stop_verdict (Refused f) near far
 refused near far f is =
     let by : (q : SideFault) → ending.Refused near q ≡ stop_verdict (Refused q) near far → f ≡ q →
-        ending.Refused near f ≡ stop_verdict (Refused f) near far =
+    ending.Refused near f ≡ stop_verdict (Refused f) near far =
     λ q e same. subst (λ p. ending.Refused near p ≡ stop_verdict (Refused p) near far) (sym same) e in
     ⊎_elim (λ e. by (Beat e.0) refl e.1) (λ e. by SizeMismatch refl e) is
 
 waits : (near far : ℕ) (f : SideFault) → (f ≡ SourceBusy) ⊎ (f ≡ NoRequest) → ending.Waiting near f ≡ stop_verdict (Refused f) near far
 waits near far f is =
     let by : (q : SideFault) → ending.Waiting near q ≡ stop_verdict (Refused q) near far → f ≡ q →
-        ending.Waiting near f ≡ stop_verdict (Refused f) near far =
+    ending.Waiting near f ≡ stop_verdict (Refused f) near far =
     λ q e same. subst (λ p. ending.Waiting near p ≡ stop_verdict (Refused p) near far) (sym same) e in
     ⊎_elim (λ e. by SourceBusy refl e) (λ e. by NoRequest refl e) is
 

@@ -7,8 +7,14 @@ returns g c = λ near s ended.
     let far = beats_of c.args.far in
     let end = c.args.end in
     let counts : record { a = c.len.result; b = c.len-2.result; c = c.len-3.result; d = c.len-4.result; e = c.len-5.result } ≡ lengths far =
-    rw (c.len.ensures ∙ c.args.far.a.ok.0, c.len-2.ensures ∙ c.args.far.b.ok.0, c.len-3.ensures ∙ c.args.far.c.ok.0, c.len-4.ensures ∙
-        c.args.far.d.ok.0, c.len-5.ensures ∙ c.args.far.e.ok.0) refl in
+    rw (
+      c.len.ensures ∙ c.args.far.a.ok.0,
+      c.len-2.ensures ∙ c.args.far.b.ok.0,
+      c.len-3.ensures ∙ c.args.far.c.ok.0,
+      c.len-4.ensures ∙
+          c.args.far.d.ok.0,
+      c.len-5.ensures ∙ c.args.far.e.ok.0,
+    ) refl in
     c.into_outcome.ensures near
     (c.ending_of.ensures g.row.C g.row.M near far s c.requires.client c.requires.manager counts ended)
     (far-is c.requires.client c.requires.manager near end.at far s end.stops end.rounds ended)

@@ -5,8 +5,12 @@ use Rattle.tl_run.proofs.rounds.run_rounds.Given.{Over}
 use Rattle.tl_run.proofs.rounds.run_rounds.Goals as goal
 
 pub rounds-init : goal.rounds-init
-rounds-init g c = record { under_way = starts (near_beats c.args.script.now) _ (beats_of c.args.far.now) c.args.bridge.now refl c.requires.3
-    c.requires.2; room = c.requires.4; few = zero-le }
+rounds-init g c = record {
+  under_way = starts (near_beats c.args.script.now) _ (beats_of c.args.far.now) c.args.bridge.now refl c.requires.3
+      c.requires.2;
+  room = c.requires.4;
+  few = zero-le;
+}
 
 pub round-offers-requires : goal.round-offers-requires
 round-offers-requires g c = (
@@ -31,9 +35,9 @@ returns-in-Some g c =
     let u = c.rounds.invariant.under_way in
     let h = c.round-offers.ensures.round u.past u.stands u.is_at in
     subst (λ n. HasEnded (near_beats c.args.script.now) n (beats_of c.round-offers.new.far) c.round-offers.new.bridge c.in-Some.stops
-        (c.rounds.rounds + 1)) (sym c.round-offers.ensures.counted)
+    (c.rounds.rounds + 1)) (sym c.round-offers.ensures.counted)
     (ended (near_beats c.args.script.now) c.rounds.at (beats_of c.rounds.far) (beats_of c.round-offers.new.far) c.rounds.bridge
-        c.round-offers.new.bridge u.past c.round-offers.result u.stands u.is_at h
+    c.round-offers.new.bridge u.past c.round-offers.result u.stands u.is_at h
     c.rounds.rounds c.rounds.invariant.few c.in-Some.stops c.in-Some.ensures.stops (c.in-Some.ensures.rests h.past h.stands))
 
 -- a round that is not the last one
@@ -43,9 +47,9 @@ onward g c =
     let u = c.rounds.invariant.under_way in
     let h = c.round-offers.ensures.round u.past u.stands u.is_at in
     subst (λ n. progress_here c.rounds.at (beats_of c.rounds.far) c.rounds.bridge + 1 ≤ progress_here n (beats_of c.round-offers.new.far)
-        c.round-offers.new.bridge) (sym c.round-offers.ensures.counted)
+    c.round-offers.new.bridge) (sym c.round-offers.ensures.counted)
     (further (near_beats c.args.script.now) c.rounds.at (beats_of c.rounds.far) (beats_of c.round-offers.new.far) c.rounds.bridge
-        c.round-offers.new.bridge u.past c.round-offers.result u.stands u.is_at h
+    c.round-offers.new.bridge u.past c.round-offers.result u.stands u.is_at h
     (λ stopped rest. c.in_default.ensures.goes h.past h.stands refl stopped rest))
 
 -- where the run stands after it
@@ -55,7 +59,7 @@ after g c =
     let u = c.rounds.invariant.under_way in
     let h = c.round-offers.ensures.round u.past u.stands u.is_at in
     subst (λ n. IsUnderWay (near_beats c.args.script.now) n (beats_of c.round-offers.new.far) c.round-offers.new.bridge)
-        (sym c.round-offers.ensures.counted)
+    (sym c.round-offers.ensures.counted)
     (record { past = h.past; stands = h.stands; is_at = h.is_at })
 
 pub rounds-smaller : goal.rounds-smaller
@@ -63,8 +67,11 @@ rounds-smaller g c =
     let v = after g c in
     nearer _ _ _ (onward g c)
     (progress-ends (near_beats c.args.script.now) c.requires.0.client c.requires.0.manager c.round-offers.new.at (beats_of c.round-offers.new.far)
-        c.round-offers.new.bridge v.past v.stands v.is_at)
+    c.round-offers.new.bridge v.past v.stands v.is_at)
 
 pub rounds-preserved : goal.rounds-preserved
-rounds-preserved g c = record { under_way = after g c; room = c.round-offers.ensures.room;
-    few = one-round-more _ _ _ c.rounds.invariant.few (onward g c) }
+rounds-preserved g c = record {
+  under_way = after g c;
+  room = c.round-offers.ensures.room;
+  few = one-round-more _ _ _ c.rounds.invariant.few (onward g c);
+}

@@ -15,7 +15,7 @@ returns-then-not-are_empty g c = record {
   rests = λ x f. tt;
   goes = λ x f none stopped rest.
       let e = all-standing-is c.args.bridge.now x c.standings.result f c.standings.ensures.a c.standings.ensures.b
-          c.standings.ensures.c c.standings.ensures.d
+      c.standings.ensures.c c.standings.ensures.d
       c.standings.ensures.e in
       let h = c.if-not-are_empty.ensures.1 (e ∙ rest) in cc (h);
 }
@@ -25,7 +25,7 @@ returns g c = record {
   stops = c.in_ok-stops.ensures.stops;
   rests = λ x f.
       sym (all-standing-is c.args.bridge.now x c.standings.result f c.standings.ensures.a c.standings.ensures.b
-          c.standings.ensures.c c.standings.ensures.d
+      c.standings.ensures.c c.standings.ensures.d
       c.standings.ensures.e) ∙ c.if-not-are_empty.ensures.0 refl;
   goes = λ x f none. cc (none);
 }

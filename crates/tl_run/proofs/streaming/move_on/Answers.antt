@@ -18,8 +18,11 @@ returns-clause-moved g c = λ x stands.
     let fetched = c.fetch.ensures.moved x stands in
     let taken = c.in_ok-more.ensures.taken _ fetched in
     let pumped = c.pump.ensures.moved _ taken in
-    record { past = _; stands = pumped;
-        nearer = all-nearer c.args.bridge.now c.fetch.new.self c.take_from_each.new.bridge c.pump.new.self x stands fetched taken pumped }
+    record {
+      past = _;
+      stands = pumped;
+      nearer = all-nearer c.args.bridge.now c.fetch.new.self c.take_from_each.new.bridge c.pump.new.self x stands fetched taken pumped;
+    }
 
 pub returns-clause-on : goal.returns-clause-on
 returns-clause-on g c = λ near n few r.
@@ -31,7 +34,7 @@ returns-clause-on g c = λ near n few r.
     let inboxes_are = inboxes-are c.fetch.new.self x fetched in
     let at = fetched-at near n r.all c.args.bridge.now u.past u.is_at in
     let counts = subst (λ q. CanAdd c.args.taken.now q → c.add_counts.new.counts ≡ added c.args.taken.now q)
-        c.in_ok-more.ensures.counted c.add_counts.ensures in
+    c.in_ok-more.ensures.counted c.add_counts.ensures in
     let can = subst (λ q. CanAdd q (lengths (inboxes c.fetch.new.self))) (sym r.counts)
     (can-add near c.requires.client c.requires.manager n r.all c.fetch.new.self x fetched at few) in
     record {

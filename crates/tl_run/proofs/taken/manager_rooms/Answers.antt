@@ -2,14 +2,16 @@ use Rattle.tl_run.proofs.Names.{◌≤◌, ◌^◌, length, sym, subst, arith, r
 use Rattle.tl_run.proofs.taken.manager_rooms.Goals as goal
 
 pub far_count-b-requires : goal.far_count-b-requires
-far_count-b-requires g c =
-    (beat_small g.row.M c.requires.0.manager,
-    (c.requires.0.manager, (c.requires.0.client, subst (λ q. length q ≤ 2 ^ 40) (sym c.deref.ensures.value) c.requires.1.few_b)))
+far_count-b-requires g c = (
+  beat_small g.row.M c.requires.0.manager,
+  (c.requires.0.manager, (c.requires.0.client, subst (λ q. length q ≤ 2 ^ 40) (sym c.deref.ensures.value) c.requires.1.few_b)),
+)
 
 pub far_count-d-requires : goal.far_count-d-requires
-far_count-d-requires g c =
-    (beat_small g.row.M c.requires.0.manager,
-    (c.requires.0.manager, (c.requires.0.client, subst (λ q. length q ≤ 2 ^ 40) (sym c.deref-2.ensures.value) c.requires.1.few_d)))
+far_count-d-requires g c = (
+  beat_small g.row.M c.requires.0.manager,
+  (c.requires.0.manager, (c.requires.0.client, subst (λ q. length q ≤ 2 ^ 40) (sym c.deref-2.ensures.value) c.requires.1.few_d)),
+)
 
 pub returns : goal.returns
 returns g c = (

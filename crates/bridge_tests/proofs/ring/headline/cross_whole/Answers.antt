@@ -18,7 +18,8 @@ returns-then-drained c =
     record {
       headline = (
         crosses.messages,
-        subst (λ rest. Handed rules_a 8 (c.args.beat ∷ []) (homes_with rules_a {w = 8} [] [] c.args.beat 0) crosses.messages rest) (crosses.closed_whole refl) crosses.handed,
+        subst (λ rest. Handed rules_a 8 (c.args.beat ∷ []) (homes_with rules_a {w = 8} [] [] c.args.beat 0) crosses.messages rest)
+            (crosses.closed_whole refl) crosses.handed,
         crosses.drained refl shows.none_staged none.1 none.0,
       );
     }

@@ -10,15 +10,17 @@ pub ready_a-requires : goal.ready_a-requires
 ready_a-requires g c = client_small g.row.C g.row.M c.requires.client c.requires.manager
 
 pub offer_a-requires : goal.offer_a-requires
-offer_a-requires g c = (client_small g.row.C g.row.M c.requires.client c.requires.manager,
-    (beat_small g.row.C c.requires.client, (c.requires.client, (c.requires.manager, c.if-not-ready_a.ensures.0 refl))))
+offer_a-requires g c = (
+  client_small g.row.C g.row.M c.requires.client c.requires.manager,
+  (beat_small g.row.C c.requires.client, (c.requires.client, (c.requires.manager, c.if-not-ready_a.ensures.0 refl))),
+)
 
 pub returns-in_default : goal.returns-in_default
 returns-in_default g c =
     let said = c.close_a.ensures in
     rw c.from_close.ensures (closes on_side_a _ _ _ (read_none c.args.beats.now c.args.at c.in_default.ensures.lookup.0) c.close_a.result _
-        (holds-after (SameClientEnds c.args.self.now) c.close_a.result _ _ _ said.closed said.refused (client-same _)
-        (record { a = refl; b = refl; c = refl; d = refl; e = refl })) said.refused said.between said.stands)
+    (holds-after (SameClientEnds c.args.self.now) c.close_a.result _ _ _ said.closed said.refused (client-same _)
+    (record { a = refl; b = refl; c = refl; d = refl; e = refl })) said.refused said.between said.stands)
 
 pub returns-then-not-ready_a : goal.returns-then-not-ready_a
 returns-then-not-ready_a g c =
@@ -29,6 +31,6 @@ pub returns : goal.returns
 returns g c =
     let said = c.offer_a.ensures in
     rw c.from_offer.ensures (answers on_side_a _ _ _ _
-        (read_some c.args.beats.now c.args.at c.in-Some.beat.now c.in-Some.ensures.lookup.0 c.in-Some.ensures.lookup.1) c.offer_a.result _
+    (read_some c.args.beats.now c.args.at c.in-Some.beat.now c.in-Some.ensures.lookup.0 c.in-Some.ensures.lookup.1) c.offer_a.result _
     (subst (SameClientEnds c.args.self.now) (sym said.rest.1) (record { a = said.rest.0; b = refl; c = refl; d = refl; e = refl })) said.admitted
-        said.accepted said.fault said.refused)
+    said.accepted said.fault said.refused)

@@ -10,15 +10,17 @@ pub ready_c-requires : goal.ready_c-requires
 ready_c-requires g c = client_small g.row.C g.row.M c.requires.client c.requires.manager
 
 pub offer_c-requires : goal.offer_c-requires
-offer_c-requires g c = (client_small g.row.C g.row.M c.requires.client c.requires.manager,
-    (beat_small g.row.C c.requires.client, (c.requires.client, (c.requires.manager, c.if-not-ready_c.ensures.0 refl))))
+offer_c-requires g c = (
+  client_small g.row.C g.row.M c.requires.client c.requires.manager,
+  (beat_small g.row.C c.requires.client, (c.requires.client, (c.requires.manager, c.if-not-ready_c.ensures.0 refl))),
+)
 
 pub returns-in_default : goal.returns-in_default
 returns-in_default g c =
     let said = c.close_c.ensures in
     rw c.from_close.ensures (closes on_side_c _ _ _ (read_none c.args.beats.now c.args.at c.in_default.ensures.lookup.0) c.close_c.result _
-        (holds-after (SameClientEnds c.args.self.now) c.close_c.result _ _ _ said.closed said.refused (client-same _)
-        (record { a = refl; b = refl; c = refl; d = refl; e = refl })) said.refused said.between said.stands)
+    (holds-after (SameClientEnds c.args.self.now) c.close_c.result _ _ _ said.closed said.refused (client-same _)
+    (record { a = refl; b = refl; c = refl; d = refl; e = refl })) said.refused said.between said.stands)
 
 pub returns-then-not-ready_c : goal.returns-then-not-ready_c
 returns-then-not-ready_c g c =
@@ -29,6 +31,6 @@ pub returns : goal.returns
 returns g c =
     let said = c.offer_c.ensures in
     rw c.from_offer.ensures (answers on_side_c _ _ _ _
-        (read_some c.args.beats.now c.args.at c.in-Some.beat.now c.in-Some.ensures.lookup.0 c.in-Some.ensures.lookup.1) c.offer_c.result _
+    (read_some c.args.beats.now c.args.at c.in-Some.beat.now c.in-Some.ensures.lookup.0 c.in-Some.ensures.lookup.1) c.offer_c.result _
     (subst (SameClientEnds c.args.self.now) (sym said.rest.1) (record { a = refl; b = refl; c = said.rest.0; d = refl; e = refl })) said.admitted
-        said.accepted said.fault said.refused)
+    said.accepted said.fault said.refused)

@@ -10,15 +10,17 @@ pub ready_b-requires : goal.ready_b-requires
 ready_b-requires g c = manager_small g.row.C g.row.M c.requires.client c.requires.manager
 
 pub offer_b-requires : goal.offer_b-requires
-offer_b-requires g c = (manager_small g.row.C g.row.M c.requires.client c.requires.manager,
-    (beat_small g.row.M c.requires.manager, (c.requires.manager, (c.requires.client, c.if-not-ready_b.ensures.0 refl))))
+offer_b-requires g c = (
+  manager_small g.row.C g.row.M c.requires.client c.requires.manager,
+  (beat_small g.row.M c.requires.manager, (c.requires.manager, (c.requires.client, c.if-not-ready_b.ensures.0 refl))),
+)
 
 pub returns-in_default : goal.returns-in_default
 returns-in_default g c =
     let said = c.close_b.ensures in
     rw c.from_close.ensures (closes on_side_b _ _ _ (read_none c.args.beats.now c.args.at c.in_default.ensures.lookup.0) c.close_b.result _
-        (holds-after (SameManagerEnds c.args.self.now) c.close_b.result _ _ _ said.closed said.refused (manager-same _)
-        (record { a = refl; b = refl; c = refl; d = refl; e = refl })) said.refused said.between said.stands)
+    (holds-after (SameManagerEnds c.args.self.now) c.close_b.result _ _ _ said.closed said.refused (manager-same _)
+    (record { a = refl; b = refl; c = refl; d = refl; e = refl })) said.refused said.between said.stands)
 
 pub returns-then-not-ready_b : goal.returns-then-not-ready_b
 returns-then-not-ready_b g c =
@@ -29,6 +31,6 @@ pub returns : goal.returns
 returns g c =
     let said = c.offer_b.ensures in
     rw c.from_offer.ensures (answers on_side_b _ _ _ _
-        (read_some c.args.beats.now c.args.at c.in-Some.beat.now c.in-Some.ensures.lookup.0 c.in-Some.ensures.lookup.1) c.offer_b.result _
+    (read_some c.args.beats.now c.args.at c.in-Some.beat.now c.in-Some.ensures.lookup.0 c.in-Some.ensures.lookup.1) c.offer_b.result _
     (subst (SameManagerEnds c.args.self.now) (sym said.rest.1) (record { a = refl; b = said.rest.0; c = refl; d = refl; e = refl })) said.admitted
-        said.accepted said.fault said.refused)
+    said.accepted said.fault said.refused)

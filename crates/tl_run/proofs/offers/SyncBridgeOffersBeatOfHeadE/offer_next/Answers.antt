@@ -10,14 +10,16 @@ pub ready_e-requires : goal.ready_e-requires
 ready_e-requires g c = bridge_small g.row.C g.row.M c.requires.client c.requires.manager
 
 pub offer_e-requires : goal.offer_e-requires
-offer_e-requires g c = (bridge_small g.row.C g.row.M c.requires.client c.requires.manager,
-    (beat_small g.row.C c.requires.client, (c.requires.client, (c.requires.manager, c.if-not-ready_e.ensures.0 refl))))
+offer_e-requires g c = (
+  bridge_small g.row.C g.row.M c.requires.client c.requires.manager,
+  (beat_small g.row.C c.requires.client, (c.requires.client, (c.requires.manager, c.if-not-ready_e.ensures.0 refl))),
+)
 
 pub returns-in_default : goal.returns-in_default
 returns-in_default g c =
     let said = c.close_e.ensures in
     rw c.from_close.ensures (closes on_bridge_e _ _ _ (read_none c.args.beats.now c.args.at c.in_default.ensures.lookup.0) c.close_e.result _ tt
-        said.refused said.between said.stands)
+    said.refused said.between said.stands)
 
 pub returns-then-not-ready_e : goal.returns-then-not-ready_e
 returns-then-not-ready_e g c =
@@ -28,5 +30,5 @@ pub returns : goal.returns
 returns g c =
     let said = c.offer_e.ensures in
     rw c.from_offer.ensures (answers on_bridge_e _ _ _ _
-        (read_some c.args.beats.now c.args.at c.in-Some.beat.now c.in-Some.ensures.lookup.0 c.in-Some.ensures.lookup.1) c.offer_e.result _
+    (read_some c.args.beats.now c.args.at c.in-Some.beat.now c.in-Some.ensures.lookup.0 c.in-Some.ensures.lookup.1) c.offer_e.result _
     tt said.admitted said.accepted said.fault said.refused)

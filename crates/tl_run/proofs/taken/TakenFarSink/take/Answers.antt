@@ -9,7 +9,7 @@ all-appended far old new more same a b c d e =
     let j = joined old more in
     subst (λ q. new ≡ joined q more) same
     (ap (λ q. record { a = q; b = new.b; c = new.c; d = new.d; e = new.e }) a ∙
-        ap (λ q. record { a = j.a; b = q; c = new.c; d = new.d; e = new.e }) b ∙
+    ap (λ q. record { a = j.a; b = q; c = new.c; d = new.d; e = new.e }) b ∙
     ap (λ q. record { a = j.a; b = j.b; c = q; d = new.d; e = new.e }) c ∙ ap (λ q. record { a = j.a; b = j.b; c = j.c; d = q; e = new.e }) d ∙
     ap (λ q. record { a = j.a; b = j.b; c = j.c; d = j.d; e = q }) e)
 
