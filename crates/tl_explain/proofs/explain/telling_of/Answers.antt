@@ -11,5 +11,8 @@ returns-in_default-clause-err g c =
 
 pub at_width-with_client-requires-8 : goal.at_width-with_client-requires-8
 at_width-with_client-requires-8 g c =
-    let is : HasHeader c.args.text.now c.in-Some.header.version c.in-Some.header.client c.in-Some.header.manager = search rules in
-    (last_client c.args.text.now _ _ _ is (search rules) (search rules) (search rules) (search rules) (search rules) (search rules) (search rules), c.requires.few)
+    let is : HasHeader c.args.text.now c.in-Some.header.version c.in-Some.header.client c.in-Some.header.manager = search rules in (
+      last_client c.args.text.now _ _ _ is (search rules) (search rules) (search rules) (search rules) (search rules) (search rules)
+          (search rules),
+      c.requires.few,
+    )
