@@ -6,7 +6,7 @@ use Rattle.tl_ring.specs.Crossing.{World}
 use Rattle.tl_ring.specs.Ends.{ArePair, SameTake, Sending, Taking, Met, sent, received, room, known_items, passed}
 use Rattle.tl_ring.proofs.Same.{still_pair}
 use Rattle.tl_sides.specs.Ends.{Pumps, Fetches, pump_count, fetch_count}
-use Rattle.tl_sides.specs.Sides.{ClientState, ManagerState, ClientPast, ManagerPast, ClientStandsFor, ManagerStandsFor}
+use Rattle.tl_sides.specs.Sides.{AreSides, ClientState, ManagerState, ClientPast, ManagerPast, ClientStandsFor, ManagerStandsFor}
 use Rattle.tl_c_beats.specs.Settling.{ClientWent, ManagerWent, IsKnown, KnownSides, IsStill, StillSides, SidesSettle, moves_left, all_moves_left}
 
 module _ {K A H : Type 0} {v : ℕ} where
@@ -111,6 +111,45 @@ module _ {K A H : Type 0} {v : ℕ} where
         };
       }
 
+-- what each side does before both meet: it pumps the channels that it sends, and fetches those that it takes
+module _ {A : Type 0} {C M : ℕ} where
+  pub record ClientMoves (s s1 s2 : ClientState A C M) : Type 0 where
+    pub a : Pumps s.a s1.a
+    pub c : Pumps s.c s1.c
+    pub e : Pumps s.e s1.e
+    pub pumped : s1 ≡ record s { a = s1.a; c = s1.c; e = s1.e }
+    pub b : Fetches s1.b s2.b
+    pub d : Fetches s1.d s2.d
+    pub fetched : s2 ≡ record s1 { b = s2.b; d = s2.d }
+
+  pub record ManagerMoves (t t1 t2 : ManagerState A C M) : Type 0 where
+    pub b : Pumps t.b t1.b
+    pub d : Pumps t.d t1.d
+    pub pumped : t1 ≡ record t { b = t1.b; d = t1.d }
+    pub a : Fetches t1.a t2.a
+    pub c : Fetches t1.c t2.c
+    pub e : Fetches t1.e t2.e
+    pub fetched : t2 ≡ record t1 { a = t2.a; c = t2.c; e = t2.e }
+
+  -- how they meet then
+  pub record AllMet (s s' : ClientState A C M) (t t' : ManagerState A C M) : Type 0 where
+    pub a : Met s.a t.a s'.a t'.a
+    pub b : Met t.b s.b t'.b s'.b
+    pub c : Met s.c t.c s'.c t'.c
+    pub d : Met t.d s.d t'.d s'.d
+    pub e : Met s.e t.e s'.e t'.e
+
+-- before they meet they are those of one bridge still
+pub still_sides : {A : Type 0} {C M : ℕ} {s s1 s2 : ClientState A C M} {t t1 t2 : ManagerState A C M} → ClientMoves s s1 s2 → ManagerMoves t t1 t2 →
+    AreSides s t → AreSides s2 t2
+still_sides x y sides = record {
+  a = still_paired sides.a x.a (ap (λ q. q.a) x.fetched) (ap (λ q. q.a) y.pumped) y.a;
+  b = still_paired sides.b y.b (ap (λ q. q.b) y.fetched) (ap (λ q. q.b) x.pumped) x.b;
+  c = still_paired sides.c x.c (ap (λ q. q.c) x.fetched) (ap (λ q. q.c) y.pumped) y.c;
+  d = still_paired sides.d y.d (ap (λ q. q.d) y.fetched) (ap (λ q. q.d) x.pumped) x.d;
+  e = still_paired sides.e x.e (ap (λ q. q.e) x.fetched) (ap (λ q. q.e) y.pumped) y.e;
+}
+
 -- a round of all five: s becomes s1 by a pump, s2 by a fetch and s3 by the meeting, and so does t
 module _ {A : Type 0} {C M : ℕ} (s s1 s2 s3 : ClientState A C M) (t t1 t2 t3 : ManagerState A C M) where
   -- how many moves the two sides have made
@@ -124,9 +163,13 @@ module _ {A : Type 0} {C M : ℕ} (s s1 s2 s3 : ClientState A C M) (t t1 t2 t3 :
     pub fewer : all_moves_left s3 t3 + count ≡ all_moves_left s t
     pub still : count ≡ 0 → StillSides s3 t3
 
-  pub all_turned : Turned s.a s1.a s3.a t.a t1.a t2.a t3.a → Turned t.b t1.b t3.b s.b s1.b s2.b s3.b → Turned s.c s1.c s3.c t.c t1.c t2.c t3.c →
-      Turned t.d t1.d t3.d s.d s1.d s2.d s3.d → Turned s.e s1.e s3.e t.e t1.e t2.e t3.e → AllTurned
-  all_turned a b c d e =
+  pub all_turned : KnownSides s t → ClientMoves s s1 s2 → ManagerMoves t t1 t2 → AllMet s2 s3 t2 t3 → AllTurned
+  all_turned known x y met =
+      let a = turned known.a x.a (ap (λ q. q.a) x.fetched) (ap (λ q. q.a) y.pumped) y.a met.a in
+      let b = turned known.b y.b (ap (λ q. q.b) y.fetched) (ap (λ q. q.b) x.pumped) x.b met.b in
+      let c = turned known.c x.c (ap (λ q. q.c) x.fetched) (ap (λ q. q.c) y.pumped) y.c met.c in
+      let d = turned known.d y.d (ap (λ q. q.d) y.fetched) (ap (λ q. q.d) x.pumped) x.d met.d in
+      let e = turned known.e x.e (ap (λ q. q.e) x.fetched) (ap (λ q. q.e) y.pumped) y.e met.e in
       let fewer_a = a.fewer in
       let fewer_b = b.fewer in
       let fewer_c = c.fewer in

@@ -1,7 +1,7 @@
-use Rattle.std.proofs.Common.{ap, refl, arith}
+use Rattle.std.proofs.Common.{refl, arith}
 use Rattle.tl_sides.specs.Ends.{pump_count}
 use Rattle.tl_sides.specs.Sides.{client_pumps, manager_pumps}
-use Rattle.tl_c_beats.proofs.Rounds.{AllTurned, still_paired, turned, all_turned}
+use Rattle.tl_c_beats.proofs.Rounds.{AllTurned, ClientMoves, ManagerMoves, all_turned, still_sides}
 use Rattle.tl_c_beats.proofs.settling.round.Given.{Over}
 use Rattle.tl_c_beats.proofs.settling.round.Goals as goal
 
@@ -10,23 +10,25 @@ fetch-requires-2 g c = c.requires-raw.1.1.1.1.0
 
 pub meet_sides-standings-requires : goal.meet_sides-standings-requires
 meet_sides-standings-requires g c =
-    let sides = c.requires.sides in
-    let client = c.pump.ensures in
-    let manager = c.pump-2.ensures in
-    let client_later = c.fetch.ensures in
-    let manager_later = c.fetch-2.ensures in (
-      c.requires-raw.1.1.1.0,
-      (
-        c.requires-raw.1.1.1.1.0,
-        record {
-          a = still_paired sides.a client.a (ap (λ q. q.a) client_later.rest) (ap (λ q. q.a) manager.rest) manager_later.a;
-          b = still_paired sides.b manager.b (ap (λ q. q.b) manager_later.rest) (ap (λ q. q.b) client.rest) client_later.b;
-          c = still_paired sides.c client.c (ap (λ q. q.c) client_later.rest) (ap (λ q. q.c) manager.rest) manager_later.c;
-          d = still_paired sides.d manager.d (ap (λ q. q.d) manager_later.rest) (ap (λ q. q.d) client.rest) client_later.d;
-          e = still_paired sides.e client.e (ap (λ q. q.e) client_later.rest) (ap (λ q. q.e) manager.rest) manager_later.e;
-        },
-      ),
-    )
+    let x : ClientMoves c.args.client.now c.pump.new.self c.fetch.new.self = record {
+      a = c.pump.ensures.a;
+      c = c.pump.ensures.c;
+      e = c.pump.ensures.e;
+      pumped = c.pump.ensures.rest;
+      b = c.fetch.ensures.b;
+      d = c.fetch.ensures.d;
+      fetched = c.fetch.ensures.rest;
+    } in
+    let y : ManagerMoves c.args.manager.now c.pump-2.new.self c.fetch-2.new.self = record {
+      b = c.pump-2.ensures.b;
+      d = c.pump-2.ensures.d;
+      pumped = c.pump-2.ensures.rest;
+      a = c.fetch-2.ensures.a;
+      c = c.fetch-2.ensures.c;
+      e = c.fetch-2.ensures.e;
+      fetched = c.fetch-2.ensures.rest;
+    } in
+    (c.requires-raw.1.1.1.0, (c.requires-raw.1.1.1.1.0, still_sides x y c.requires.sides))
 
 pub returns-clause-went : goal.returns-clause-went
 returns-clause-went g c = λ x y client manager.
@@ -43,23 +45,31 @@ returns-clause-went g c = λ x y client manager.
           (c.fetch-2.ensures.stands _ (c.pump-2.ensures.stands y manager));
     }
 
--- each channel by itself
+-- the round of all five
 turns : (g : Over) (c : goal.After-meet_sides-standings g) →
     AllTurned c.args.client.now c.pump.new.self c.fetch.new.self c.meet_sides-standings.new.client
     c.args.manager.now c.pump-2.new.self c.fetch-2.new.self c.meet_sides-standings.new.manager
 turns g c =
-    let known = c.requires.known in
-    let client = c.pump.ensures in
-    let manager = c.pump-2.ensures in
-    let client_later = c.fetch.ensures in
-    let manager_later = c.fetch-2.ensures in
+    let x : ClientMoves c.args.client.now c.pump.new.self c.fetch.new.self = record {
+      a = c.pump.ensures.a;
+      c = c.pump.ensures.c;
+      e = c.pump.ensures.e;
+      pumped = c.pump.ensures.rest;
+      b = c.fetch.ensures.b;
+      d = c.fetch.ensures.d;
+      fetched = c.fetch.ensures.rest;
+    } in
+    let y : ManagerMoves c.args.manager.now c.pump-2.new.self c.fetch-2.new.self = record {
+      b = c.pump-2.ensures.b;
+      d = c.pump-2.ensures.d;
+      pumped = c.pump-2.ensures.rest;
+      a = c.fetch-2.ensures.a;
+      c = c.fetch-2.ensures.c;
+      e = c.fetch-2.ensures.e;
+      fetched = c.fetch-2.ensures.rest;
+    } in
     let met = c.meet_sides-standings.ensures in
-    all_turned _ _ _ _ _ _ _ _
-    (turned known.a client.a (ap (λ q. q.a) client_later.rest) (ap (λ q. q.a) manager.rest) manager_later.a met.a)
-    (turned known.b manager.b (ap (λ q. q.b) manager_later.rest) (ap (λ q. q.b) client.rest) client_later.b met.b)
-    (turned known.c client.c (ap (λ q. q.c) client_later.rest) (ap (λ q. q.c) manager.rest) manager_later.c met.c)
-    (turned known.d manager.d (ap (λ q. q.d) manager_later.rest) (ap (λ q. q.d) client.rest) client_later.d met.d)
-    (turned known.e client.e (ap (λ q. q.e) client_later.rest) (ap (λ q. q.e) manager.rest) manager_later.e met.e)
+    all_turned _ _ _ _ _ _ _ _ c.requires.known x y (record { a = met.a; b = met.b; c = met.c; d = met.d; e = met.e })
 
 pub returns-clause-known : goal.returns-clause-known
 returns-clause-known g c = (turns g c).known
