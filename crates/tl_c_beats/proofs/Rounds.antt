@@ -131,6 +131,15 @@ module _ {A : Type 0} {C M : ℕ} where
     pub e : Fetches t1.e t2.e
     pub fetched : t2 ≡ record t1 { a = t2.a; c = t2.c; e = t2.e }
 
+  pub client_moves : (s s1 s2 : ClientState A C M) → Pumps s.a s1.a → Pumps s.c s1.c → Pumps s.e s1.e →
+      s1 ≡ record s { a = s1.a; c = s1.c; e = s1.e } → Fetches s1.b s2.b → Fetches s1.d s2.d → s2 ≡ record s1 { b = s2.b; d = s2.d } →
+      ClientMoves s s1 s2
+  client_moves s s1 s2 a c e pumped b d fetched = record { a = a; c = c; e = e; pumped = pumped; b = b; d = d; fetched = fetched }
+
+  pub manager_moves : (t t1 t2 : ManagerState A C M) → Pumps t.b t1.b → Pumps t.d t1.d → t1 ≡ record t { b = t1.b; d = t1.d } →
+      Fetches t1.a t2.a → Fetches t1.c t2.c → Fetches t1.e t2.e → t2 ≡ record t1 { a = t2.a; c = t2.c; e = t2.e } → ManagerMoves t t1 t2
+  manager_moves t t1 t2 b d pumped a c e fetched = record { b = b; d = d; pumped = pumped; a = a; c = c; e = e; fetched = fetched }
+
   -- how they meet then
   pub record AllMet (s s' : ClientState A C M) (t t' : ManagerState A C M) : Type 0 where
     pub a : Met s.a t.a s'.a t'.a

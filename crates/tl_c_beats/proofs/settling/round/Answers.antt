@@ -1,7 +1,7 @@
 use Rattle.std.proofs.Common.{refl, arith}
 use Rattle.tl_sides.specs.Ends.{pump_count}
 use Rattle.tl_sides.specs.Sides.{client_pumps, manager_pumps}
-use Rattle.tl_c_beats.proofs.Rounds.{AllTurned, ClientMoves, ManagerMoves, all_turned, still_sides}
+use Rattle.tl_c_beats.proofs.Rounds.{AllTurned, all_turned, client_moves, manager_moves, still_sides}
 use Rattle.tl_c_beats.proofs.settling.round.Given.{Over}
 use Rattle.tl_c_beats.proofs.settling.round.Goals as goal
 
@@ -10,24 +10,13 @@ fetch-requires-2 g c = c.requires-raw.1.1.1.1.0
 
 pub meet_sides-standings-requires : goal.meet_sides-standings-requires
 meet_sides-standings-requires g c =
-    let x : ClientMoves c.args.client.now c.pump.new.self c.fetch.new.self = record {
-      a = c.pump.ensures.a;
-      c = c.pump.ensures.c;
-      e = c.pump.ensures.e;
-      pumped = c.pump.ensures.rest;
-      b = c.fetch.ensures.b;
-      d = c.fetch.ensures.d;
-      fetched = c.fetch.ensures.rest;
-    } in
-    let y : ManagerMoves c.args.manager.now c.pump-2.new.self c.fetch-2.new.self = record {
-      b = c.pump-2.ensures.b;
-      d = c.pump-2.ensures.d;
-      pumped = c.pump-2.ensures.rest;
-      a = c.fetch-2.ensures.a;
-      c = c.fetch-2.ensures.c;
-      e = c.fetch-2.ensures.e;
-      fetched = c.fetch-2.ensures.rest;
-    } in
+    let pump = c.pump.ensures in
+    let fetch = c.fetch.ensures in
+    let x = client_moves c.args.client.now c.pump.new.self c.fetch.new.self pump.a pump.c pump.e pump.rest fetch.b fetch.d fetch.rest in
+    let pump_2 = c.pump-2.ensures in
+    let fetch_2 = c.fetch-2.ensures in
+    let y = manager_moves c.args.manager.now c.pump-2.new.self c.fetch-2.new.self pump_2.b pump_2.d pump_2.rest
+    fetch_2.a fetch_2.c fetch_2.e fetch_2.rest in
     (c.requires-raw.1.1.1.0, (c.requires-raw.1.1.1.1.0, still_sides x y c.requires.sides))
 
 pub returns-clause-went : goal.returns-clause-went
@@ -50,24 +39,13 @@ turns : (g : Over) (c : goal.After-meet_sides-standings g) →
     AllTurned c.args.client.now c.pump.new.self c.fetch.new.self c.meet_sides-standings.new.client
     c.args.manager.now c.pump-2.new.self c.fetch-2.new.self c.meet_sides-standings.new.manager
 turns g c =
-    let x : ClientMoves c.args.client.now c.pump.new.self c.fetch.new.self = record {
-      a = c.pump.ensures.a;
-      c = c.pump.ensures.c;
-      e = c.pump.ensures.e;
-      pumped = c.pump.ensures.rest;
-      b = c.fetch.ensures.b;
-      d = c.fetch.ensures.d;
-      fetched = c.fetch.ensures.rest;
-    } in
-    let y : ManagerMoves c.args.manager.now c.pump-2.new.self c.fetch-2.new.self = record {
-      b = c.pump-2.ensures.b;
-      d = c.pump-2.ensures.d;
-      pumped = c.pump-2.ensures.rest;
-      a = c.fetch-2.ensures.a;
-      c = c.fetch-2.ensures.c;
-      e = c.fetch-2.ensures.e;
-      fetched = c.fetch-2.ensures.rest;
-    } in
+    let pump = c.pump.ensures in
+    let fetch = c.fetch.ensures in
+    let x = client_moves c.args.client.now c.pump.new.self c.fetch.new.self pump.a pump.c pump.e pump.rest fetch.b fetch.d fetch.rest in
+    let pump_2 = c.pump-2.ensures in
+    let fetch_2 = c.fetch-2.ensures in
+    let y = manager_moves c.args.manager.now c.pump-2.new.self c.fetch-2.new.self pump_2.b pump_2.d pump_2.rest
+    fetch_2.a fetch_2.c fetch_2.e fetch_2.rest in
     let met = c.meet_sides-standings.ensures in
     all_turned _ _ _ _ _ _ _ _ c.requires.known x y (record { a = met.a; b = met.b; c = met.c; d = met.d; e = met.e })
 
