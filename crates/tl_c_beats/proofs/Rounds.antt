@@ -17,23 +17,34 @@ module _ {K A H : Type 0} {v : ℕ} where
       let all_free = m.all_free in
       record { ring = m.ring; free = omega (arith, same_room, all_free) }
 
-  -- a pair whose ends have pumped and fetched, each by itself, is one still
-  pub still_paired : {s s1 s2 : Sending K A H v} {t t1 t2 : Taking K A H v} → ArePair s t → Pumps s s1 → s2 ≡ s1 →
-      t1 ≡ t → Fetches t1 t2 → ArePair s2 t2
-  still_paired {s} {s1} {s2} {t} {t1} {t2} pair pump alone beside fetch =
-      subst (λ q. ArePair q t2) (sym alone) (still_pair s s1 t t2 pump.pushed.ring (subst (λ q. SameTake q t2) beside fetch.fetched.ring) pair)
+  -- what both ends of a channel do before they meet: one pumps while the other does something else, which then fetches while the first does
+  -- something else
+  record Moved (s s1 s2 : Sending K A H v) (t t1 t2 : Taking K A H v) : Type 0 where
+    pump : Pumps s s1
+    alone : s2 ≡ s1
+    beside : t1 ≡ t
+    fetch : Fetches t1 t2
+
+  -- they are a pair still
+  still_paired : {s s1 s2 : Sending K A H v} {t t1 t2 : Taking K A H v} → ArePair s t → Moved s s1 s2 t t1 t2 → ArePair s2 t2
+  still_paired {s} {s1} {s2} {t} {t1} {t2} pair m =
+      subst (λ q. ArePair q t2) (sym m.alone)
+      (still_pair s s1 t t2 m.pump.pushed.ring (subst (λ q. SameTake q t2) m.beside m.fetch.fetched.ring) pair)
 
   -- a round of one channel: so many moves, after which both ends know all again
-  pub record Turned (s s1 s3 : Sending K A H v) (t t1 t2 t3 : Taking K A H v) : Type 0 where
+  record Turned (s s1 s3 : Sending K A H v) (t t1 t2 t3 : Taking K A H v) : Type 0 where
     pub known : IsKnown s3 t3
     pub fewer : moves_left s3 t3 + (pump_count s s1 + fetch_count t1 t2) ≡ moves_left s t
     pub still : pump_count s s1 + fetch_count t1 t2 ≡ 0 → IsStill s3 t3
 
-  -- the sending end pumps while the taking end does something else, which then fetches while the sending end does something else; then they meet
-  pub turned : {s s1 s2 s3 : Sending K A H v} {t t1 t2 t3 : Taking K A H v} → IsKnown s t → Pumps s s1 → s2 ≡ s1 → t1 ≡ t →
-      Fetches t1 t2 → Met s2 t2 s3 t3 →
+  -- they have moved, and then they meet
+  turned : {s s1 s2 s3 : Sending K A H v} {t t1 t2 t3 : Taking K A H v} → IsKnown s t → Moved s s1 s2 t t1 t2 → Met s2 t2 s3 t3 →
       Turned s s1 s3 t t1 t2 t3
-  turned {s} {s1} {s2} {s3} {t} {t1} {t2} {t3} known pump alone beside fetch met =
+  turned {s} {s1} {s2} {s3} {t} {t1} {t2} {t3} known m met =
+      let pump = m.pump in
+      let alone = m.alone in
+      let beside = m.beside in
+      let fetch = m.fetch in
       let left : length s1.stage ≡ length s.stage - pump_count s s1 = ap length pump.pushed.stage ∙ length-drop (pump_count s s1) s.stage in
       let stage_2 : length s2.stage ≡ length s1.stage = ap (λ q. length q.stage) alone in
       let stage_3 : length s3.stage ≡ length s2.stage = ap length met.same_stage in
@@ -148,16 +159,33 @@ module _ {A : Type 0} {C M : ℕ} where
     pub d : Met t.d s.d t'.d s'.d
     pub e : Met s.e t.e s'.e t'.e
 
--- before they meet they are those of one bridge still
-pub still_sides : {A : Type 0} {C M : ℕ} {s s1 s2 : ClientState A C M} {t t1 t2 : ManagerState A C M} → ClientMoves s s1 s2 → ManagerMoves t t1 t2 →
-    AreSides s t → AreSides s2 t2
-still_sides x y sides = record {
-  a = still_paired sides.a x.a (ap (λ q. q.a) x.fetched) (ap (λ q. q.a) y.pumped) y.a;
-  b = still_paired sides.b y.b (ap (λ q. q.b) y.fetched) (ap (λ q. q.b) x.pumped) x.b;
-  c = still_paired sides.c x.c (ap (λ q. q.c) x.fetched) (ap (λ q. q.c) y.pumped) y.c;
-  d = still_paired sides.d y.d (ap (λ q. q.d) y.fetched) (ap (λ q. q.d) x.pumped) x.d;
-  e = still_paired sides.e x.e (ap (λ q. q.e) x.fetched) (ap (λ q. q.e) y.pumped) y.e;
-}
+-- what that is on each channel
+module _ {A : Type 0} {C M : ℕ} {s s1 s2 : ClientState A C M} {t t1 t2 : ManagerState A C M} (x : ClientMoves s s1 s2)
+    (y : ManagerMoves t t1 t2) where
+  moved_a : Moved s.a s1.a s2.a t.a t1.a t2.a
+  moved_a = record { pump = x.a; alone = ap (λ q. q.a) x.fetched; beside = ap (λ q. q.a) y.pumped; fetch = y.a }
+
+  moved_b : Moved t.b t1.b t2.b s.b s1.b s2.b
+  moved_b = record { pump = y.b; alone = ap (λ q. q.b) y.fetched; beside = ap (λ q. q.b) x.pumped; fetch = x.b }
+
+  moved_c : Moved s.c s1.c s2.c t.c t1.c t2.c
+  moved_c = record { pump = x.c; alone = ap (λ q. q.c) x.fetched; beside = ap (λ q. q.c) y.pumped; fetch = y.c }
+
+  moved_d : Moved t.d t1.d t2.d s.d s1.d s2.d
+  moved_d = record { pump = y.d; alone = ap (λ q. q.d) y.fetched; beside = ap (λ q. q.d) x.pumped; fetch = x.d }
+
+  moved_e : Moved s.e s1.e s2.e t.e t1.e t2.e
+  moved_e = record { pump = x.e; alone = ap (λ q. q.e) x.fetched; beside = ap (λ q. q.e) y.pumped; fetch = y.e }
+
+  -- before they meet they are those of one bridge still
+  pub still_sides : AreSides s t → AreSides s2 t2
+  still_sides sides = record {
+    a = still_paired sides.a moved_a;
+    b = still_paired sides.b moved_b;
+    c = still_paired sides.c moved_c;
+    d = still_paired sides.d moved_d;
+    e = still_paired sides.e moved_e;
+  }
 
 -- a round of all five: s becomes s1 by a pump, s2 by a fetch and s3 by the meeting, and so does t
 module _ {A : Type 0} {C M : ℕ} (s s1 s2 s3 : ClientState A C M) (t t1 t2 t3 : ManagerState A C M) where
@@ -174,11 +202,11 @@ module _ {A : Type 0} {C M : ℕ} (s s1 s2 s3 : ClientState A C M) (t t1 t2 t3 :
 
   pub all_turned : KnownSides s t → ClientMoves s s1 s2 → ManagerMoves t t1 t2 → AllMet s2 s3 t2 t3 → AllTurned
   all_turned known x y met =
-      let a = turned known.a x.a (ap (λ q. q.a) x.fetched) (ap (λ q. q.a) y.pumped) y.a met.a in
-      let b = turned known.b y.b (ap (λ q. q.b) y.fetched) (ap (λ q. q.b) x.pumped) x.b met.b in
-      let c = turned known.c x.c (ap (λ q. q.c) x.fetched) (ap (λ q. q.c) y.pumped) y.c met.c in
-      let d = turned known.d y.d (ap (λ q. q.d) y.fetched) (ap (λ q. q.d) x.pumped) x.d met.d in
-      let e = turned known.e x.e (ap (λ q. q.e) x.fetched) (ap (λ q. q.e) y.pumped) y.e met.e in
+      let a = turned known.a (moved_a x y) met.a in
+      let b = turned known.b (moved_b x y) met.b in
+      let c = turned known.c (moved_c x y) met.c in
+      let d = turned known.d (moved_d x y) met.d in
+      let e = turned known.e (moved_e x y) met.e in
       let fewer_a = a.fewer in
       let fewer_b = b.fewer in
       let fewer_c = c.fewer in
