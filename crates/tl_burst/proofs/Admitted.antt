@@ -98,7 +98,8 @@ module _ {H : Type 0} (r : Rules H) (w : ℕ) where
       record { m = o.m; more = o.more; lawful = o.lawful; spells = subst Q k o.spells })
       (last-cases others)
 
-pub head-is : {H : Type 0} (r : Rules H) (w : ℕ) (m : Message H) (rest more : List (BeatOf H w)) (h : H) → Spells r m w (rest ++ more) → head_of rest ≡ Some h → h ≡ m.head
+pub head-is : {H : Type 0} (r : Rules H) (w : ℕ) (m : Message H) (rest more : List (BeatOf H w)) (h : H) → Spells r m w (rest ++ more) →
+    head_of rest ≡ Some h → h ≡ m.head
 head-is r w m [] more h s e = absurd (cc)
 head-is r w m (a ∷ rest) more h s e = let q : a.head ≡ h = cc in sym q ∙ (s.each 0 a refl).head
 
@@ -107,7 +108,8 @@ module _ {H : Type 0} (r : Rules H) (w : ℕ) (ww : IsWidth w)
     (masked_address : r.masked ≡ true → (h : H) (x y : ℕ) → r.lane_address h x ≡ r.lane_address h y)
     (partial_carries : (h : H) → r.partial h ≡ true → r.carries h ≡ true) where
   -- where the beats with one more are admitted, a tracker accepts that one
-  pub admitted-accepts : (bs : List (BeatOf H w)) (homes : List ℕ) (b : BeatOf H w) → IsHandedWith r (bs ++ b ∷ []) homes → Accepts r (head_of (rest_of r w bs)) b
+  pub admitted-accepts : (bs : List (BeatOf H w)) (homes : List ℕ) (b : BeatOf H w) → IsHandedWith r (bs ++ b ∷ []) homes →
+      Accepts r (head_of (rest_of r w bs)) b
   admitted-accepts bs homes b (ms, rest, handed) =
       let o : Last r w bs b = last-of r w handed bs b refl in
       let n : length (rest_of r w bs ++ b ∷ o.more) ≡ length (rest_of r w bs) + length (b ∷ o.more) = length-append (rest_of r w bs) (b ∷ o.more) in
@@ -128,7 +130,8 @@ module _ {H : Type 0} (r : Rules H) (w : ℕ) (ww : IsWidth w)
   accepts-fitting burst x j h b a e size bytes opens_or = record {
     head = e;
     lanes = λ carries i inside place. let lt : lane_of x i w < w = lane-lt x i w ww in omega arith;
-    bytes = λ carries i inside place. let lt : lane_of x i w < w = lane-lt x i w ww in All-get_or (λ y. y < 256) b.lanes (lane_of x i w) 0 (omega arith) bytes;
+    bytes = λ carries i inside place. let lt : lane_of x i w < w = lane-lt x i w ww in
+        All-get_or (λ y. y < 256) b.lanes (lane_of x i w) 0 (omega arith) bytes;
     fits = a.mask;
     clean = λ reads none_of. ⊎_elim
         (λ q. a.clean q reads (ap (λ g. r.carries g) e ∙ none_of))
@@ -146,14 +149,21 @@ module _ {H : Type 0} (r : Rules H) (w : ℕ) (ww : IsWidth w)
       let none_before : (j : ℕ) (c : BeatOf H w) → slice_get {X = BeatOf H w} [] j ≡ Some c → Fitting r b.head x w j c = λ j c e. absurd (cc) in
       let fits : (j : ℕ) (c : BeatOf H w) → slice_get (b ∷ []) j ≡ Some c → Fitting r b.head x w j c =
       each-push (λ j c. Fitting r b.head x w j c) [] b none_before (accepts-fitting None x 0 b.head b a refl size bytes (inl refl)) in
-      let lawful : IsLawful r (message_of r b.head w x (b ∷ [])) = run-lawful r b.head x w ww masked_address partial_carries a.lawful home home_small (b ∷ []) fits in
-      let spells : Spells r (message_of r b.head w x (b ∷ [])) w (b ∷ wanted r b.head x w ww masked_address partial_carries a.lawful home home_small (b ∷ [])) =
+      let lawful : IsLawful r (message_of r b.head w x (b ∷ [])) = run-lawful r b.head x w ww masked_address partial_carries a.lawful home home_small
+      (b ∷ []) fits in
+      let spells : Spells r (message_of r b.head w x (b ∷ [])) w
+      (b ∷ wanted r b.head x w ww masked_address partial_carries a.lawful home home_small (b ∷ [])) =
       run-spells r b.head x w ww masked_address partial_carries a.lawful home home_small (b ∷ []) (λ q. cc) (omega arith) fits in
       ⊎_elim
       (λ over.
       let P : List (BeatOf H w) → Type 0 = λ ys. Spells r (message_of r b.head w x (b ∷ [])) w (b ∷ ys) in
       (ms ++ m ∷ [], [], joins r w handed refl m (b ∷ []) lawful (subst P over spells)))
-      (λ left. (ms, b ∷ [], opens r w handed refl m b (wanted r b.head x w ww masked_address partial_carries a.lawful home home_small (b ∷ [])) lawful spells left))
+      (λ left. (
+        ms,
+        b ∷ [],
+        opens r w handed refl m b (wanted r b.head x w ww masked_address partial_carries a.lawful home home_small (b ∷ [])) lawful
+            spells left,
+      ))
       (list-cases (wanted r b.head x w ww masked_address partial_carries a.lawful home home_small (b ∷ [])))
 
   -- the last of a list of homes is one
@@ -163,7 +173,8 @@ module _ {H : Type 0} (r : Rules H) (w : ℕ) (ww : IsWidth w)
   last-home-is (y ∷ z ∷ front) x = last-home-is (z ∷ front) x
 
   -- a beat of a message that has begun
-  goes-on-admitted : (bs : List (BeatOf H w)) (homes : List ℕ) (ms : List (Message H)) (rest : List (BeatOf H w)) (burst : Option H) (b : BeatOf H w) →
+  goes-on-admitted : (bs : List (BeatOf H w)) (homes : List ℕ) (ms : List (Message H)) (rest : List (BeatOf H w)) (burst : Option H)
+      (b : BeatOf H w) →
       Handed r w bs homes ms rest → rest ≢ [] → burst ≡ head_of rest → Accepts r burst b → length b.lanes ≡ w →
       All (λ y. y < 256) b.lanes → IsHandedWith r (bs ++ b ∷ []) homes
   goes-on-admitted bs homes ms rest burst b handed ne burst_is a size bytes =
@@ -188,9 +199,13 @@ module _ {H : Type 0} (r : Rules H) (w : ℕ) (ww : IsWidth w)
       let m : Message H = message_of r o.m.head w o.m.home (rest ++ b ∷ []) in
       let lawful : IsLawful r (message_of r o.m.head w o.m.home (rest ++ b ∷ [])) =
       run-lawful r o.m.head o.m.home w ww masked_address partial_carries o.lawful.fault o.lawful.home o.lawful.home_small (rest ++ b ∷ []) fits in
-      let pad : List (BeatOf H w) = wanted r o.m.head o.m.home w ww masked_address partial_carries o.lawful.fault o.lawful.home o.lawful.home_small (rest ++ b ∷ []) in
-      let spells : Spells r (message_of r o.m.head w o.m.home (rest ++ b ∷ [])) w ((rest ++ b ∷ []) ++ wanted r o.m.head o.m.home w ww masked_address partial_carries o.lawful.fault o.lawful.home o.lawful.home_small (rest ++ b ∷ [])) =
-      run-spells r o.m.head o.m.home w ww masked_address partial_carries o.lawful.fault o.lawful.home o.lawful.home_small (rest ++ b ∷ []) (λ q. snoc-some rest b q) (omega arith) fits in
+      let pad : List (BeatOf H w) = wanted r o.m.head o.m.home w ww masked_address partial_carries o.lawful.fault o.lawful.home o.lawful.home_small
+      (rest ++ b ∷ []) in
+      let spells : Spells r (message_of r o.m.head w o.m.home (rest ++ b ∷ [])) w
+      ((rest ++ b ∷ []) ++ wanted r o.m.head o.m.home w ww masked_address partial_carries o.lawful.fault o.lawful.home o.lawful.home_small
+      (rest ++ b ∷ [])) =
+      run-spells r o.m.head o.m.home w ww masked_address partial_carries o.lawful.fault o.lawful.home o.lawful.home_small (rest ++ b ∷ [])
+      (λ q. snoc-some rest b q) (omega arith) fits in
       let last : (front : List ℕ) (x : ℕ) → homes ≡ front ++ x ∷ [] → x ≡ o.m.home = λ front x e.
       sym (last-home-is front x) ∙ ap last_home (sym e ∙ o.home_is) ∙ last-home-is o.front o.m.home in
       ⊎_elim
@@ -201,7 +216,8 @@ module _ {H : Type 0} (r : Rules H) (w : ℕ) (ww : IsWidth w)
       (ms ++ m ∷ [], [], completes r w handed ne m b lawful done last))
       (λ left.
       let P : List (BeatOf H w) → Type 0 = λ ys. Spells r (message_of r o.m.head w o.m.home (rest ++ b ∷ [])) w ys in
-      let again : Spells r (message_of r o.m.head w o.m.home (rest ++ b ∷ [])) w (rest ++ b ∷ pad) = subst P (append_assoc rest (b ∷ []) pad) spells in
+      let again : Spells r (message_of r o.m.head w o.m.home (rest ++ b ∷ [])) w (rest ++ b ∷ pad) =
+      subst P (append_assoc rest (b ∷ []) pad) spells in
       (ms, rest ++ b ∷ [], continues r w handed ne m b pad lawful again left last))
       (list-cases pad)
 

@@ -65,7 +65,8 @@ module _ {H : Type 0} (r : Rules H) (w : ℕ) where
   heads-whole : (m : Message H) (bs others : List (BeatOf H w)) → Spells r m w bs → bs ≢ [] → heads r w (bs ++ others) ≡ m.head ∷ heads r w others
   heads-whole m [] others s ne = absurd (ne refl)
   heads-whole m (b ∷ bs) others s ne =
-      ap (λ hs. b.head ∷ hs) (heads-after (beats_of r b.head w - 1) bs others (first-beats m b bs s)) ∙ ap (λ h. h ∷ heads r w others) (s.each 0 b refl).head
+      ap (λ hs. b.head ∷ hs) (heads-after (beats_of r b.head w - 1) bs others (first-beats m b bs s)) ∙
+      ap (λ h. h ∷ heads r w others) (s.each 0 b refl).head
 
   -- how many beats the message lacks that a rest has begun
   left-begun : (m : Message H) (rest more : List (BeatOf H w)) → Spells r m w (rest ++ more) → rest ≢ [] → left r w rest ≡ length more
@@ -87,18 +88,28 @@ module _ {H : Type 0} (r : Rules H) (w : ℕ) where
       (left r w bs ≡ 0) ↔ (rest ≡ [])
   left-rest nothing = (λ _. refl, λ _. refl)
   left-rest (begun m rest [] l s n1 n2) = absurd (n2 refl)
-  left-rest (begun m rest (x ∷ more) l s n1 n2) = (λ e. let n : left r w rest ≡ length (x ∷ more) = left-begun m rest (x ∷ more) s n1 in absurd (omega arith), λ e. absurd (n1 e))
-  left-rest (whole m bs others homes ms rest l s h) = (λ e. (left-rest h).0 (sym (left-whole m bs others s) ∙ e), λ e. left-whole m bs others s ∙ (left-rest h).1 e)
+  left-rest (begun m rest (x ∷ more) l s n1 n2) = (
+    λ e. let n : left r w rest ≡ length (x ∷ more) = left-begun m rest (x ∷ more) s n1 in
+        absurd (omega arith),
+    λ e. absurd (n1 e),
+  )
+  left-rest (whole m bs others homes ms rest l s h) = (
+    λ e. (left-rest h).0 (sym (left-whole m bs others s) ∙ e),
+    λ e. left-whole m bs others s ∙
+        (left-rest h).1 e,
+  )
 
   pub left-zero : {bs : List (BeatOf H w)} {homes : List ℕ} {ms : List (Message H)} {rest : List (BeatOf H w)} → Handed r w bs homes ms rest →
       (left r w bs ≡ 0) ↔ (rest_of r w bs ≡ [])
   left-zero h = (λ e. sym (RestIs r w h) ∙ (left-rest h).0 e, λ e. (left-rest h).1 (RestIs r w h ∙ e))
 
   -- the heads are those of the messages, and of the one that the rest has begun
-  pub heads-handed : {bs : List (BeatOf H w)} {homes : List ℕ} {ms : List (Message H)} {rest : List (BeatOf H w)} → ((h : H) → 0 < beats_of r h w) → Handed r w bs homes ms rest →
+  pub heads-handed : {bs : List (BeatOf H w)} {homes : List ℕ} {ms : List (Message H)} {rest : List (BeatOf H w)} → ((h : H) → 0 < beats_of r h w) →
+      Handed r w bs homes ms rest →
       heads r w bs ≡ map (λ m. m.head) ms ++ rest_heads r w rest
   heads-handed some nothing = refl
   heads-handed some (begun m rest more l s n1 n2) = heads-begun m rest more s
   heads-handed some (whole m bs others homes ms rest l s h) =
-      heads-whole m bs others s (λ e. let n : length bs ≡ beats_of r m.head w = s.count in let z : length bs ≡ 0 = ap length e in let p : 0 < beats_of r m.head w = some m.head in absurd (omega arith)) ∙
+      heads-whole m bs others s (λ e. let n : length bs ≡ beats_of r m.head w = s.count in let z : length bs ≡ 0 = ap length e in
+      let p : 0 < beats_of r m.head w = some m.head in absurd (omega arith)) ∙
       ap (λ hs. m.head ∷ hs) (heads-handed some h)

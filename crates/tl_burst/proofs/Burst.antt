@@ -4,7 +4,8 @@ use Rattle.tl_burst.proofs.Names.{Rules, BeatOf, IsWidth, bytes_per_beat, beats_
 use Rattle.std.proofs.lemmas.Nat.{le-div}
 use Rattle.std.proofs.Math.Pow.{pow_mono}
 
-count-bounds : (carries : Bool) (size w : ℕ) → IsWidth w → size ≤ 12 → (0 < beats_per_message carries size w) × (beats_per_message carries size w ≤ 4096)
+count-bounds : (carries : Bool) (size w : ℕ) → IsWidth w → size ≤ 12 → (0 < beats_per_message carries size w) ×
+    (beats_per_message carries size w ≤ 4096)
 count-bounds false size w width small = (omega arith, omega arith)
 count-bounds true size w width small =
     let b = width_bounds w width in

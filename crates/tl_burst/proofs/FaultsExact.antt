@@ -34,7 +34,8 @@ pub record ChannelLaws {H : Type 0} (r : Rules H) : Type 0 where
 -- they are those of the trait, where the test of the rules is `==`
 pub laws-of : {H : Type 0} {r : Rules H} {eq : H → H → Bool} → ((x y : H) → (eq x y ≡ true) ↔ (x ≡ y)) → ((x y : H) → r.same x y ≡ eq x y) →
     ((h : H) → r.fault h ≡ None → r.size h ≤ 12) → ((h : H) → r.partial h ≡ true → r.carries h ≡ true) →
-    (r.masked ≡ true → (h : H) (x y : ℕ) → r.lane_address h x ≡ r.lane_address h y) → ((h : H) (x : ℕ) → r.lane_address h (r.lane_address h x) ≡ r.lane_address h x) →
+    (r.masked ≡ true → (h : H) (x y : ℕ) → r.lane_address h x ≡ r.lane_address h y) →
+    ((h : H) (x : ℕ) → r.lane_address h (r.lane_address h x) ≡ r.lane_address h x) →
     ChannelLaws r
 laws-of same_heads same_is small partial_carries masked_address home_kept = record {
   same_heads = λ x y. (λ e. (same_heads x y).0 (sym (same_is x y) ∙ e), λ e. same_is x y ∙ (same_heads x y).1 e);
@@ -70,7 +71,8 @@ module _ {H : Type 0} (r : Rules H) (w : ℕ) (ww : IsWidth w) (laws : ChannelLa
       record {
         held = λ h q. let is : first.head ≡ h = cc in sym is ∙ sym same;
         lawful = ap (λ h. r.fault h) same ∙ lawful first.head refl;
-        mask = (fits-mask b).0 (unless_none (mask_fits r b) Mask (second_none (unless (r.same b.head first.head) HeadChanged) (unless (mask_fits r b) Mask) e));
+        mask = (fits-mask b).0
+            (unless_none (mask_fits r b) Mask (second_none (unless (r.same b.head first.head) HeadChanged) (unless (mask_fits r b) Mask) e));
         clean = λ q. absurd (cc);
       }
 
@@ -97,13 +99,15 @@ module _ {H : Type 0} (r : Rules H) (w : ℕ) (ww : IsWidth w) (laws : ChannelLa
 
   -- a beat without a fault is admitted, with each home that it may have
   pub none-admitted : {bs : List (BeatOf H w)} {homes : List ℕ} {ms : List (Message H)} {rest : List (BeatOf H w)} (b : BeatOf H w) (home : ℕ) →
-      Handed r w bs homes ms rest → IsBeat r b → fault_after r bs b ≡ None → (rest_of r w bs ≡ [] → r.lane_address b.head home ≡ home) → (rest_of r w bs ≡ [] → home < 2 ^ 64) →
+      Handed r w bs homes ms rest → IsBeat r b → fault_after r bs b ≡ None → (rest_of r w bs ≡ [] → r.lane_address b.head home ≡ home) →
+      (rest_of r w bs ≡ [] → home < 2 ^ 64) →
       IsHandedWith r (bs ++ b ∷ []) (with_home r home (rest_of r w bs) homes)
   none-admitted {bs = bs} {homes = homes} {ms = ms} {rest = rest} b home handed beat e kept small =
       let is : rest ≡ rest_of r w bs = RestIs r w handed in
       let P : List (BeatOf H w) → Type 0 = λ ys. Handed r w bs homes ms ys in
       let here : Handed r w bs homes ms (rest_of r w bs) = subst P is handed in
-      accepts-admitted r w ww laws.small laws.masked_address laws.partial_carries bs homes home b (ms, rest_of r w bs, here) beat.lanes beat.bytes kept small
+      accepts-admitted r w ww laws.small laws.masked_address laws.partial_carries bs homes home b (ms, rest_of r w bs, here) beat.lanes
+      beat.bytes kept small
       (none-accepts (rest_of r w bs) b (begun-lawful here) e)
 
   -- the same with the homes as the definitions have them
@@ -122,7 +126,8 @@ module _ {H : Type 0} (r : Rules H) (w : ℕ) (ww : IsWidth w) (laws : ChannelLa
   pub faults-exact : (bs : List (BeatOf H w)) (b : BeatOf H w) → IsHanded r bs → IsBeat r b → (fault_after r bs b ≡ None) ↔ IsAdmitted r bs b
   faults-exact bs b before beat = (
     λ e.
-        let (ms, rest, handed) : IsHandedWith r (bs ++ b ∷ []) (homes_with r bs before.homes b 0) = none-handed b 0 before.handed beat e beat.address in
+        let (ms, rest, handed) : IsHandedWith r (bs ++ b ∷ []) (homes_with r bs before.homes b 0) =
+        none-handed b 0 before.handed beat e beat.address in
         record { homes = homes_with r bs before.homes b 0; messages = ms; rest = rest; handed = handed },
     λ after. admitted-none bs b before after,
   )

@@ -21,4 +21,5 @@ module _ {H : Type 0} (r : Rules H) (w : ℕ) where
 
     -- outside one, a beat that is not the last opens it
     pub begins : burst ≡ None → Some (place.head, 1) ≡ burst_with place
-    begins at = let first : place.index ≡ 0 = is.index ∙ ap count_in at in let one : 1 ≡ place.index + 1 = omega (arith, first) in ap (λ n. Some (place.head, n)) one ∙ sym after
+    begins at = let first : place.index ≡ 0 = is.index ∙ ap count_in at in let one : 1 ≡ place.index + 1 = omega (arith, first) in
+        ap (λ n. Some (place.head, n)) one ∙ sym after

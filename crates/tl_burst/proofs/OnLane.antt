@@ -12,8 +12,10 @@ module _ {H : Type 0} (r : Rules H) (m : Message H) (v : ℕ) (vw : IsWidth v) w
 
   -- the byte on a lane, or none
   pub on_lane : (j : ℕ) → j * per_beat r m.head v + per_beat r m.head v ≤ 2 ^ r.size m.head → (l : ℕ) →
-      ((i : ℕ) × (j * per_beat r m.head v ≤ i) × (i < j * per_beat r m.head v + per_beat r m.head v) × (lane_of m.home i v ≡ l) × (byte_on r m v j l ≡ Some i))
-      ⊎ (((i : ℕ) → j * per_beat r m.head v ≤ i → i < j * per_beat r m.head v + per_beat r m.head v → lane_of m.home i v ≢ l) × (byte_on r m v j l ≡ None))
+      ((i : ℕ) × (j * per_beat r m.head v ≤ i) × (i < j * per_beat r m.head v + per_beat r m.head v) × (lane_of m.home i v ≡ l) ×
+      (byte_on r m v j l ≡ Some i))
+      ⊎ (((i : ℕ) → j * per_beat r m.head v ≤ i → i < j * per_beat r m.head v + per_beat r m.head v → lane_of m.home i v ≢ l) ×
+      (byte_on r m v j l ≡ None))
   on_lane j room l =
       let p : ℕ = per_beat r m.head v in
       let pp : 0 < per_beat r m.head v = per-pos r m v vw in

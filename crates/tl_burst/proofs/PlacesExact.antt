@@ -29,7 +29,8 @@ module _ {H : Type 0} (r : Rules H) (w : ℕ) (ww : IsWidth w) (laws : ChannelLa
   plain-fits : (h : H) → mask_fits r (plain h) ≡ true
   plain-fits h = full-fits r.masked (r.partial h) (full_mask r h w)
 
-  plain-none : (burst : Option (H × ℕ)) (h : H) → r.fault h ≡ None → ((g : H) (count : ℕ) → burst ≡ Some (g, count) → h ≡ g) → fault_in r burst (plain h) ≡ None
+  plain-none : (burst : Option (H × ℕ)) (h : H) → r.fault h ≡ None → ((g : H) (count : ℕ) → burst ≡ Some (g, count) → h ≡ g) →
+      fault_in r burst (plain h) ≡ None
   plain-none None h lawful held =
       both_none (r.fault h) (unless (mask_fits r (plain h)) Mask or_else unless (is_clean r (plain h)) Corrupt) lawful
       (both_none (unless (mask_fits r (plain h)) Mask) (unless (is_clean r (plain h)) Corrupt)
@@ -46,7 +47,8 @@ module _ {H : Type 0} (r : Rules H) (w : ℕ) (ww : IsWidth w) (laws : ChannelLa
     λ is. (plain place.head, record { accepted = plain-none burst place.head is.lawful is.held; head = refl; index = is.index; last = is.last }),
     λ (b, is).
         let lawful : r.fault place.head ≡ None = ap (λ h. r.fault h) is.head ∙ none-lawful r w ww laws burst b begun is.accepted in
-        let held : (h : H) (count : ℕ) → burst ≡ Some (h, count) → place.head ≡ h = λ h count e. is.head ∙ none-held r w ww laws burst b is.accepted h count e in
+        let held : (h : H) (count : ℕ) → burst ≡ Some (h, count) → place.head ≡ h = λ h count e. is.head ∙
+        none-held r w ww laws burst b is.accepted h count e in
         record {
           lawful = lawful;
           held = held;
@@ -57,7 +59,8 @@ module _ {H : Type 0} (r : Rules H) (w : ℕ) (ww : IsWidth w) (laws : ChannelLa
   )
 
   -- what a check says of a beat without a fault is that it stands at the place
-  pub place-told : {K E : Type 0} (burst : Option (H × ℕ)) (b : BeatOf H w) (answer : Result (Place K H) E) → IsOk answer ↔ (fault_in r burst b ≡ None) →
+  pub place-told : {K E : Type 0} (burst : Option (H × ℕ)) (b : BeatOf H w) (answer : Result (Place K H) E) →
+      IsOk answer ↔ (fault_in r burst b ≡ None) →
       IfOk answer (λ place. place.head ≡ b.head) → IfOk answer (IsPlace r w burst) → IfOk answer (IsPlaceOf r w burst b)
   place-told burst b (Ok place) accepts head is = record {
     accepted = accepts.0 refl;
@@ -82,7 +85,8 @@ module _ {H : Type 0} (r : Rules H) (w : ℕ) (ww : IsWidth w) (laws : ChannelLa
   open-rest (b ∷ rest) handed = (begun-lawful r w ww laws handed b.head refl, omega arith, begun-inside b rest (open-of r w handed (λ e. cc)))
 
   -- so the place of a beat that may come after them is one that `advance` takes
-  pub place-after : {K : Type 0} {bs : List (BeatOf H w)} {homes : List ℕ} {ms : List (Message H)} {rest : List (BeatOf H w)} → Handed r w bs homes ms rest →
+  pub place-after : {K : Type 0} {bs : List (BeatOf H w)} {homes : List ℕ} {ms : List (Message H)} {rest : List (BeatOf H w)} →
+      Handed r w bs homes ms rest →
       (burst : Option (H × ℕ)) (b : BeatOf H w) (place : Place K H) → burst ≡ burst_after r bs → IsPlaceOf r w burst b place → IsPlace r w burst place
   place-after {bs = bs} {rest = rest} handed burst b place e is =
       let P : Option (H × ℕ) → Type 0 = λ o. IsOpen r w o in

@@ -21,7 +21,8 @@ module _ {H : Type 0} (r : Rules H) (w : ℕ) where
   ends-not : (h : H) (seen : List (BeatOf H w)) (b : BeatOf H w) → b.head ≡ h → length seen + 1 < beats_of r h w → ends r w seen b ≡ false
   ends-not h seen b e lt =
       let m : beats_of r b.head w ≡ beats_of r h w = ap (λ g. beats_of r g w) e in
-      ⊎_elim (λ s. let q : length seen + 1 ≡ beats_of r b.head w = s.1 in absurd (omega arith)) (λ s. s.0) (eqb_tells (length seen + 1) (beats_of r b.head w))
+      ⊎_elim (λ s. let q : length seen + 1 ≡ beats_of r b.head w = s.1 in absurd (omega arith)) (λ s. s.0)
+      (eqb_tells (length seen + 1) (beats_of r b.head w))
 
   -- the last beats of a message leave nothing
   rest-over : (h : H) (seen bs o : List (BeatOf H w)) → length seen + length bs ≡ beats_of r h w → bs ≢ [] → Heads h bs →
@@ -44,7 +45,8 @@ module _ {H : Type 0} (r : Rules H) (w : ℕ) where
   -- the beats of a whole message don't change what is left of the others
   pub whole-rest : (m : Message H) (bs others : List (BeatOf H w)) → Spells r m w bs → rest_of r w (bs ++ others) ≡ rest_of r w others
   whole-rest m [] others s = refl
-  whole-rest m (b ∷ bs) others s = rest-over m.head [] (b ∷ bs) others (let c : length (b ∷ bs) ≡ beats_of r m.head w = s.count in omega arith) (λ q. cc) (λ j x e. (s.each j x e).head)
+  whole-rest m (b ∷ bs) others s = rest-over m.head [] (b ∷ bs) others (let c : length (b ∷ bs) ≡ beats_of r m.head w = s.count in omega arith)
+      (λ q. cc) (λ j x e. (s.each j x e).head)
 
   -- the first beats of a message, without its last one, are all left
   pub part-rest : (m : Message H) (bs more : List (BeatOf H w)) → Spells r m w (bs ++ more) → more ≢ [] → rest_of r w bs ≡ bs
@@ -55,7 +57,8 @@ module _ {H : Type 0} (r : Rules H) (w : ℕ) where
       rest-stays m.head [] bs (omega arith) (λ j x e. (s.each j x (sym (slice_get-left bs (y ∷ more) j (slice_get_within bs j x e)) ∙ e)).head)
 
   -- what is left of beats that are handed is what has begun
-  pub RestIs : {bs : List (BeatOf H w)} {homes : List ℕ} {ms : List (Message H)} {rest : List (BeatOf H w)} → Handed r w bs homes ms rest → rest ≡ rest_of r w bs
+  pub RestIs : {bs : List (BeatOf H w)} {homes : List ℕ} {ms : List (Message H)} {rest : List (BeatOf H w)} → Handed r w bs homes ms rest →
+      rest ≡ rest_of r w bs
   RestIs nothing = refl
   RestIs (begun m rest more l s n1 n2) = sym (part-rest m rest more s n2)
   RestIs (whole m bs others homes ms rest l s h) = RestIs h ∙ sym (whole-rest m bs others s)

@@ -60,7 +60,8 @@ module _ {H : Type 0} (r : Rules H) (h : H) (x w : ℕ) (ww : IsWidth w)
       subst A at (subst B e (fits masked))
 
   -- the message of a run of beats is lawful
-  pub run-lawful : (bs : List (BeatOf H w)) → ((j : ℕ) (b : BeatOf H w) → slice_get bs j ≡ Some b → Fitting r h x w j b) → IsLawful r (message_of r h w x bs)
+  pub run-lawful : (bs : List (BeatOf H w)) → ((j : ℕ) (b : BeatOf H w) → slice_get bs j ≡ Some b → Fitting r h x w j b) →
+      IsLawful r (message_of r h w x bs)
   run-lawful bs fits = ⊎_elim
       (λ carries.
       let P : Message H → Type 0 = λ m. IsLawful r m in
@@ -73,12 +74,14 @@ module _ {H : Type 0} (r : Rules H) (h : H) (x w : ℕ) (ww : IsWidth w)
         on = λ e. All-from_get_or (λ (c : Cell). c.on ≡ true) (run_cells r h w w x ww ww carries bs) d (λ i lt.
             let n : length (run_cells r h w w x ww ww carries bs) ≡ 2 ^ r.size h = run-length r h w w x ww ww carries bs in
             let at : get_or (run_cells r h w w x ww ww carries bs) i d ≡ cell_at r h w w x ww ww carries bs i =
-            get_or_from_slice_get (run_cells r h w w x ww ww carries bs) i (cell_at r h w w x ww ww carries bs i) d (run-cell r h w w x ww ww carries bs i (omega arith)) in
+            get_or_from_slice_get (run_cells r h w w x ww ww carries bs) i (cell_at r h w w x ww ww carries bs i) d
+            (run-cell r h w w x ww ww carries bs i (omega arith)) in
             ap (λ (c : Cell). c.on) at ∙ on-whole (lane_of x i w) (slice_get bs (i / per_beat r h w)) e);
         bytes = All-from_get_or (λ (c : Cell). c.byte < 256) (run_cells r h w w x ww ww carries bs) d (λ i lt.
             let n : length (run_cells r h w w x ww ww carries bs) ≡ 2 ^ r.size h = run-length r h w w x ww ww carries bs in
             let at : get_or (run_cells r h w w x ww ww carries bs) i d ≡ cell_at r h w w x ww ww carries bs i =
-            get_or_from_slice_get (run_cells r h w w x ww ww carries bs) i (cell_at r h w w x ww ww carries bs i) d (run-cell r h w w x ww ww carries bs i (omega arith)) in
+            get_or_from_slice_get (run_cells r h w w x ww ww carries bs) i (cell_at r h w w x ww ww carries bs i) d
+            (run-cell r h w w x ww ww carries bs i (omega arith)) in
             let small : (cell_at r h w w x ww ww carries bs i).byte < 256 = byte-small (lane_of x i w) (slice_get bs (i / per_beat r h w))
             (λ b e. (fits (i / per_beat r h w) b e).bytes carries i (omega arith) refl) in
             let B : Cell → Type 0 = λ c. c.byte < 256 in
@@ -115,12 +118,14 @@ module _ {H : Type 0} (r : Rules H) (h : H) (x w : ℕ) (ww : IsWidth w)
     abbrev run : Message H
     run = of_cells r h x (run_cells r h w w x ww ww carries bs)
 
-    cell-here : (i : ℕ) (c : Cell) (o : Option (BeatOf H w)) → slice_get (run_cells r h w w x ww ww carries bs) i ≡ Some c → slice_get bs (i / per_beat r h w) ≡ o →
+    cell-here : (i : ℕ) (c : Cell) (o : Option (BeatOf H w)) → slice_get (run_cells r h w w x ww ww carries bs) i ≡ Some c →
+        slice_get bs (i / per_beat r h w) ≡ o →
         c ≡ cell_of r h w (lane_of x i w) o
     cell-here i c o e place =
         let n : length (run_cells r h w w x ww ww carries bs) ≡ 2 ^ r.size h = run-length r h w w x ww ww carries bs in
         let within : i < length (run_cells r h w w x ww ww carries bs) = slice_get_within (run_cells r h w w x ww ww carries bs) i c e in
-        some-same (slice_get (run_cells r h w w x ww ww carries bs) i) c (cell_at r h w w x ww ww carries bs i) e (run-cell r h w w x ww ww carries bs i (omega arith)) ∙
+        some-same (slice_get (run_cells r h w w x ww ww carries bs) i) c (cell_at r h w w x ww ww carries bs i) e
+        (run-cell r h w w x ww ww carries bs i (omega arith)) ∙
         ap (λ y. cell_of r h w (lane_of x i w) y) place
 
     inside-run : (i : ℕ) (c : Cell) → slice_get (run_cells r h w w x ww ww carries bs) i ≡ Some c → i < 2 ^ r.size h
@@ -146,7 +151,8 @@ module _ {H : Type 0} (r : Rules H) (h : H) (x w : ℕ) (ww : IsWidth w)
           let s : j * per_beat r h w + (i - j * per_beat r h w) ≡ i = omega arith in
           let place : i / per_beat r h w ≡ j = ap (λ y. y / per_beat r h w) (sym s) ∙ digits_div j k in
           let c : slice_get (run_cells r h w w x ww ww carries bs) i ≡ Some (cell_of r h w (lane_of x i w) (Some b)) =
-          run-cell r h w w x ww ww carries bs i (omega arith) ∙ ap (λ y. Some (cell_of r h w (lane_of x i w) y)) (ap (λ y. slice_get bs y) place ∙ is) in
+          run-cell r h w w x ww ww carries bs i (omega arith) ∙ ap (λ y. Some (cell_of r h w (lane_of x i w) y))
+          (ap (λ y. slice_get bs y) place ∙ is) in
           rw e (rw c (ap (λ y. cond (r.partial h) (bit_at b.mask y == 1) true) there)));
       clean = fit.clean;
     }

@@ -11,14 +11,16 @@ use Rattle.tl_burst.proofs.Numbers.{slice_get-left, per-power, powers-divide}
 use Rattle.std.proofs.lemmas.Nat.{div-add-mod'}
 
 -- maps that agree on a range
-pub map-same : {A : Type 0} (f g : ℕ → A) (a n : ℕ) → ((x : ℕ) → a ≤ x → x < a + n → f x ≡ g x) → map f (range_with_len a n) ≡ map g (range_with_len a n)
+pub map-same : {A : Type 0} (f g : ℕ → A) (a n : ℕ) → ((x : ℕ) → a ≤ x → x < a + n → f x ≡ g x) → map f (range_with_len a n) ≡
+    map g (range_with_len a n)
 map-same f g a zero h = refl
 map-same f g a (suc n) h =
     ap (λ x. x ∷ map f (range_with_len (a + 1) n)) (h a (omega arith) (omega arith)) ∙
     ap (λ xs. g a ∷ xs) (map-same f g (a + 1) n (λ x lo hi. h x (omega arith) (omega arith)))
 
 -- a range in two parts
-pub map-parts : {A : Type 0} (f : ℕ → A) (a n k b : ℕ) → b ≡ a + n → map f (range_with_len a (n + k)) ≡ map f (range_with_len a n) ++ map f (range_with_len b k)
+pub map-parts : {A : Type 0} (f : ℕ → A) (a n k b : ℕ) → b ≡ a + n → map f (range_with_len a (n + k)) ≡ map f (range_with_len a n) ++
+    map f (range_with_len b k)
 map-parts f a zero k b e =
     let s : b ≡ a = omega arith in
     let t : zero + k ≡ k = omega arith in
@@ -35,7 +37,8 @@ mask_of-same f g (suc n) h =
 pub some_of-same : (f g : ℕ → Bool) (a n : ℕ) → ((x : ℕ) → a ≤ x → x < a + n → f x ≡ g x) → some_of f a n ≡ some_of g a n
 some_of-same f g a zero h = refl
 some_of-same f g a (suc n) h =
-    ap (λ b. b || f (a + n)) (some_of-same f g a n (λ x lo hi. h x lo (omega arith))) ∙ ap (λ b. some_of g a n || b) (h (a + n) (omega arith) (omega arith))
+    ap (λ b. b || f (a + n)) (some_of-same f g a n (λ x lo hi. h x lo (omega arith))) ∙
+    ap (λ b. some_of g a n || b) (h (a + n) (omega arith) (omega arith))
 
 pub some_of-none : (f : ℕ → Bool) (a n : ℕ) → ((x : ℕ) → f x ≡ false) → some_of f a n ≡ false
 some_of-none f a zero h = refl
@@ -59,7 +62,8 @@ module _ {H : Type 0} (r : Rules H) where
       (λ (never, e). rw e refl)
       (on_lane r (of_cells h x cs) v vw j room l) in
       same_beat (beat_at r (of_cells h x cs) v j) (beat_at r (of_cells h x cs') v j) refl
-      (mask_of-same (λ l. r.masked && lane_on r (of_cells h x cs) v j l) (λ l. r.masked && lane_on r (of_cells h x cs') v j l) v (λ l. ap (λ b. r.masked && b) (on l)))
+      (mask_of-same (λ l. r.masked && lane_on r (of_cells h x cs) v j l) (λ l. r.masked && lane_on r (of_cells h x cs') v j l) v
+      (λ l. ap (λ b. r.masked && b) (on l)))
       (map-same (lane_value r (of_cells h x cs) v j) (lane_value r (of_cells h x cs') v j) 0 v (λ l lo hi. value l))
       (some_of-same (is_bad r (of_cells h x cs)) (is_bad r (of_cells h x cs')) (j * per_beat r h v) (per_beat r h v)
       (λ i lo hi. ap (λ c. option_map_or (λ y. y.bad) c false) (same i lo hi)))

@@ -86,10 +86,12 @@ on-of cs true n i e lt all =
 on-of [] false n i e lt all = refl
 on-of (y ∷ ys) false n i e lt all = absurd (omega arith)
 
-module _ {H : Type 0} (r : Rules H) (m : Message H) (w j : ℕ) (ww : IsWidth w) (room : j * per_beat r m.head w + per_beat r m.head w ≤ 2 ^ r.size m.head) (b : BeatOf H w) (masked : r.masked ≡ true) where
+module _ {H : Type 0} (r : Rules H) (m : Message H) (w j : ℕ) (ww : IsWidth w)
+    (room : j * per_beat r m.head w + per_beat r m.head w ≤ 2 ^ r.size m.head) (b : BeatOf H w) (masked : r.masked ≡ true) where
   -- a fitting mask is the one of the message whose bytes it enables
   pub mask-is : MaskFits m.home (r.size m.head) w (r.partial m.head) b.mask →
-      ((i l : ℕ) → j * per_beat r m.head w ≤ i → i < j * per_beat r m.head w + per_beat r m.head w → lane_of m.home i w ≡ l → byte_on r m w j l ≡ Some i →
+      ((i l : ℕ) → j * per_beat r m.head w ≤ i → i < j * per_beat r m.head w + per_beat r m.head w → lane_of m.home i w ≡ l →
+      byte_on r m w j l ≡ Some i →
       lane_on r m w j l ≡ cond (r.partial m.head) (bit_at b.mask l == 1) true) →
       b.mask ≡ mask_at r m w j
   mask-is fits on =
@@ -127,7 +129,8 @@ module _ {H : Type 0} (r : Rules H) (m : Message H) (w j : ℕ) (ww : IsWidth w)
             ⊎_elim
             (λ s. let z : bit_at (mask_at r m w j) l ≡ 0 = bit_at_above (mask_at r m w j) w l below s.1 in absurd (omega arith))
             (λ s.
-            let bit : bit_at (mask_at r m w j) l ≡ digit (r.masked && lane_on r m w j l) = bit_at-mask_of (λ x. r.masked && lane_on r m w j x) w l s.1 in
+            let bit : bit_at (mask_at r m w j) l ≡ digit (r.masked && lane_on r m w j l) =
+            bit_at-mask_of (λ x. r.masked && lane_on r m w j x) w l s.1 in
             let on : lane_on r m w j l ≡ true = one-of r.masked (lane_on r m w j l) (sym bit ∙ set) in
             ⊎_elim
             (λ (i, lo, hi, there, e). byte-active m.home (r.size m.head) w i l ww (per-pos r m w ww) (omega arith) there)
@@ -154,18 +157,21 @@ module _ {H : Type 0} (r : Rules H) (w : ℕ) (ww : IsWidth w)
     (masked_address : r.masked ≡ true → (h : H) (x y : ℕ) → r.lane_address h x ≡ r.lane_address h y)
     (partial_carries : (h : H) → r.partial h ≡ true → r.carries h ≡ true) where
   -- a beat of a lawful message may stand at its place
-  pub fitting-of : (m : Message H) (j : ℕ) (b : BeatOf H w) → IsLawful r m → j < beats_of r m.head w → SpellsBeat r m w j b → Fitting r m.head m.home w j b
+  pub fitting-of : (m : Message H) (j : ℕ) (b : BeatOf H w) → IsLawful r m → j < beats_of r m.head w → SpellsBeat r m w j b →
+      Fitting r m.head m.home w j b
   fitting-of m j b lawful lt spells = record {
     head = spells.head;
     lanes = λ carries i inside place.
         let n : length m.cells ≡ 2 ^ r.size m.head = lawful.cells ∙ ap (λ c. cond c (2 ^ r.size m.head) 0) carries in
         let d : Cell = record { byte = 0; on = true; bad = false } in
-        slice_get_within b.lanes (lane_of m.home i w) (get_or m.cells i d).byte (spells.bytes i (get_or m.cells i d) (slice_get-get_or m.cells i d (omega arith)) place);
+        slice_get_within b.lanes (lane_of m.home i w) (get_or m.cells i d).byte
+        (spells.bytes i (get_or m.cells i d) (slice_get-get_or m.cells i d (omega arith)) place);
     bytes = λ carries i inside place.
         let n : length m.cells ≡ 2 ^ r.size m.head = lawful.cells ∙ ap (λ c. cond c (2 ^ r.size m.head) 0) carries in
         let d : Cell = record { byte = 0; on = true; bad = false } in
         let at : slice_index b.lanes (lane_of m.home i w) ≡ (get_or m.cells i d).byte =
-        get_or_from_slice_get b.lanes (lane_of m.home i w) (get_or m.cells i d).byte 0 (spells.bytes i (get_or m.cells i d) (slice_get-get_or m.cells i d (omega arith)) place) in
+        get_or_from_slice_get b.lanes (lane_of m.home i w) (get_or m.cells i d).byte 0
+        (spells.bytes i (get_or m.cells i d) (slice_get-get_or m.cells i d (omega arith)) place) in
         let small : (get_or m.cells i d).byte < 256 = All-get_or (λ y. y.byte < 256) m.cells i d (omega arith) lawful.bytes in
         omega arith;
     fits = λ masked.

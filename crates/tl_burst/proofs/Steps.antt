@@ -20,7 +20,8 @@ module _ {H : Type 0} (r : Rules H) (w : ℕ) where
       let e : index + 1 ≡ length ((x ∷ xs) ++ b ∷ []) = omega arith in
       ap (λ h. Some (h, index + 1)) (held x.head (length (x ∷ xs)) refl) ∙ ap (λ k. Some (x.head, k)) e
 
-  step-by : (rest : List (BeatOf H w)) (b : BeatOf H w) (head : H) (index : ℕ) (last : Bool) → last ≡ ends r w rest b → index ≡ length rest → head ≡ b.head →
+  step-by : (rest : List (BeatOf H w)) (b : BeatOf H w) (head : H) (index : ℕ) (last : Bool) → last ≡ ends r w rest b → index ≡ length rest →
+      head ≡ b.head →
       ((h : H) (count : ℕ) → burst_of r rest ≡ Some (h, count) → head ≡ h) →
       (if last then None else Some (head, index + 1)) ≡ burst_of r (cond (ends r w rest b) [] (rest ++ b ∷ []))
   step-by rest b head index true e n same held = ap (λ x. burst_of r (cond x [] (rest ++ b ∷ []))) e
@@ -28,7 +29,8 @@ module _ {H : Type 0} (r : Rules H) (w : ℕ) where
 
   module _ {K : Type 0} (burst : Option (H × ℕ)) (place : Place K H) (is : IsPlace r w burst place) where
     -- the burst after a beat at its place is the one after the list with it
-    pub burst-step : (bs : List (BeatOf H w)) (b : BeatOf H w) → burst ≡ burst_after r bs → b.head ≡ place.head → burst_with place ≡ burst_after r (bs ++ b ∷ [])
+    pub burst-step : (bs : List (BeatOf H w)) (b : BeatOf H w) → burst ≡ burst_after r bs → b.head ≡ place.head →
+        burst_with place ≡ burst_after r (bs ++ b ∷ [])
     burst-step bs b e same =
         let n : place.index ≡ length (rest_of r w bs) = is.index ∙ ap count_in e ∙ count-of (rest_of r w bs) in
         let last : place.last ≡ ends r w (rest_of r w bs) b =
@@ -63,7 +65,8 @@ module _ {H : Type 0} (r : Rules H) (w : ℕ) where
       omega (arith, begun.2)
 
   -- the place of a beat whose head has no fault and is the open burst's
-  pub place-is : {K : Type 0} (burst : Option (H × ℕ)) (head : H) (index beats : ℕ) → IsWidth w → r.size head ≤ 12 → IsOpen r w burst → r.fault head ≡ None →
+  pub place-is : {K : Type 0} (burst : Option (H × ℕ)) (head : H) (index beats : ℕ) → IsWidth w → r.size head ≤ 12 → IsOpen r w burst →
+      r.fault head ≡ None →
       ((h : H) (count : ℕ) → burst ≡ Some (h, count) → head ≡ h) → index ≡ count_in burst → beats ≡ beats_of r head w →
       IsPlace r w {K = K} burst (record { head = head; index = index; last = index + 1 == beats })
   place-is burst head index beats ww small begun lawful held n e = record {

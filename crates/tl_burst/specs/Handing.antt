@@ -8,7 +8,8 @@ use Rattle.tl_burst.specs.Messages.{Message, IsLawful, beats_of}
 use Rattle.tl_burst.specs.Spelling.{Spells}
 
 module _ {H : Type 0} (r : Rules H) where
-  -- the beats bs bring the lawful messages ms, one after the other, and then rest: nothing, or the first beats of one more message, but not all of it.
+  -- the beats bs bring the lawful messages ms, one after the other, and then rest: nothing, or the first beats of one more message, but not all of
+  -- it.
   -- homes has the home of each message that has begun, in order
   pub data Handed (w : ℕ) : (bs : List (BeatOf H w)) → (homes : List ℕ) → (ms : List (Message H)) → (rest : List (BeatOf H w)) → Type 0 where
     nothing : Handed w [] [] [] []

@@ -1,5 +1,6 @@
 -- Messages, and how their bytes lie on beats, by the SiFive TileLink Specification 1.8: byte lanes, masks, burst rules.
-use Rattle.std.specs.Prelude.{◌≡◌, ◌+◌, ◌*◌, ◌/◌, ◌^◌, ◌<◌, ◌==◌, ◌&&◌, ◌||◌, ℕ, zero, suc, Bool, true, false, cond, not, Option, None, List, length, map, find, slice_get, All}
+use Rattle.std.specs.Prelude.{◌≡◌, ◌+◌, ◌*◌, ◌/◌, ◌^◌, ◌<◌, ◌==◌, ◌&&◌, ◌||◌, ℕ, zero, suc, Bool, true, false, cond, not, Option, None, List, length}
+use Rattle.std.specs.Prelude.{map, find, slice_get, All}
 use Rattle.std.specs.List.{range_with_len}
 use Rattle.std.specs.Option.{option_map_or}
 use Rattle.tl_lanes.specs.Lanes.{bytes_per_beat, beats_per_message, lane_of, mask_of}

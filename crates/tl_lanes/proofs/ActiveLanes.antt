@@ -1,5 +1,6 @@
 -- The active lanes of a beat, as a relation and as runs of lanes.
-use Rattle.std.proofs.Common.{◌≡◌, ◌≤◌, ◌<◌, ◌+◌, ◌-◌, ◌^◌, ◌≢◌, ◌==◌, ◌↔◌, ℕ, Bool, true, false, cond, length, get_or, refl, sym, ap, ◌∙◌, arith, eq-eqb, ⊎_elim, bit_or}
+use Rattle.std.proofs.Common.{◌≡◌, ◌≤◌, ◌<◌, ◌+◌, ◌-◌, ◌^◌, ◌≢◌, ◌==◌, ◌↔◌, ℕ, Bool, true, false, cond, length, get_or, refl, sym, ap, ◌∙◌, arith}
+use Rattle.std.proofs.Common.{eq-eqb, ⊎_elim, bit_or}
 use Rattle.std.specs.Int.{bit_at}
 use Rattle.std.specs.List.{Any, range_with_len}
 use Rattle.std.proofs.lemmas.Bool.{eqb-true, cases_lt}

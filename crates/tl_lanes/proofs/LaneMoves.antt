@@ -1,5 +1,6 @@
 -- Lanes that are copied from one bus to another.
-use Rattle.std.proofs.Common.{◌≡◌, ◌<◌, ◌+◌, ◌≢◌, ℕ, List, length, get_or, slice_set, arith, sym, ◌∙◌, get_or-set_same, get_or-set_other, below_more, length-set}
+use Rattle.std.proofs.Common.{◌≡◌, ◌<◌, ◌+◌, ◌≢◌, ℕ, List, length, get_or, slice_set, arith, sym, ◌∙◌, get_or-set_same, get_or-set_other, below_more}
+use Rattle.std.proofs.Common.{length-set}
 use Rattle.tl_lanes.specs.Lanes.{lane_of, IsWidth}
 use Rattle.tl_lanes.proofs.Widths.{lane-lt, lanes_differ}
 

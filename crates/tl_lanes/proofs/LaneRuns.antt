@@ -9,7 +9,8 @@ pub run-moved : (g h : ℕ → ℕ) (at w v count near far : ℕ) → IsWidth w 
     near + count ≤ w → far + count ≤ v → ((k : ℕ) → k < count → g (far + k) ≡ h (near + k)) →
     (k : ℕ) → k < count → g (lane_of at k v) ≡ h (lane_of at k w)
 run-moved g h at w v count near far width_w width_v near_is far_is near_fits far_fits moved k lt =
-    ap g (lane-before_end at k v far width_v far_is (omega arith)) ∙ moved k lt ∙ ap h (sym (lane-before_end at k w near width_w near_is (omega arith)))
+    ap g (lane-before_end at k v far width_v far_is (omega arith)) ∙ moved k lt ∙
+    ap h (sym (lane-before_end at k w near width_w near_is (omega arith)))
 
 -- a lane that no byte of the run has stands before it or after it
 pub lane-outside : (at v count far l : ℕ) → IsWidth v → far ≡ lane_of at 0 v → far + count ≤ v →

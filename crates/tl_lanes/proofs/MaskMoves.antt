@@ -1,10 +1,13 @@
 -- Mask bits that are copied from one bus to another.
-use Rattle.std.proofs.Common.{◌≡◌, ◌≤◌, ◌<◌, ◌+◌, ◌-◌, ◌*◌, ◌/◌, ◌%◌, ◌^◌, ◌≢◌, ◌⊎◌, ℕ, min, max, arith, sym, ap, ◌∙◌, ⊎_elim, bit_or, bit_and, below_more}
+use Rattle.std.proofs.Common.{◌≡◌, ◌≤◌, ◌<◌, ◌+◌, ◌-◌, ◌*◌, ◌/◌, ◌%◌, ◌^◌, ◌≢◌, ◌⊎◌, ℕ, min, max, arith, sym, ap, ◌∙◌, ⊎_elim, bit_or, bit_and}
+use Rattle.std.proofs.Common.{below_more}
 use Rattle.std.specs.Int.{bit_at, bit_not}
 use Rattle.std.proofs.Math.Pow.{pow_mono}
 use Rattle.std.proofs.lemmas.Bool.{cases_lt}
 use Rattle.std.proofs.lemmas.Nat.{and_le_l, and_le_r, or_lt, pow_pos, shl_below, shl_whole, shr-shr}
-use Rattle.std.proofs.lemmas.Nat.Bits.{bit_at_set_same, bit_at_set_other, bit_at_clear_same, bit_at_clear_other, bit_at-lt, bit_at-zero, bit_at_above, bit_at_and, bit_at_or, bit_at_not, bit_at_ones, bit_at_cat_low, bit_at_cat_high, bit_at_mask_inside, bit_at_mask_below, bit_at_mask_above, shr_and_one}
+use Rattle.std.proofs.lemmas.Nat.Bits.{bit_at_set_same, bit_at_set_other, bit_at_clear_same, bit_at_clear_other, bit_at-lt, bit_at-zero, bit_at_above}
+use Rattle.std.proofs.lemmas.Nat.Bits.{bit_at_and, bit_at_or, bit_at_not, bit_at_ones, bit_at_cat_low, bit_at_cat_high, bit_at_mask_inside}
+use Rattle.std.proofs.lemmas.Nat.Bits.{bit_at_mask_below, bit_at_mask_above, shr_and_one}
 use Rattle.tl_lanes.specs.declared.limits.TheConstants.{WIDEST}
 use Rattle.tl_lanes.specs.Lanes.{lane_of, IsWidth}
 use Rattle.tl_lanes.proofs.Masks.{mask_width}
@@ -40,7 +43,8 @@ BitsMoved-set from to old at w v k p q width near ep eq one m =
 
 -- and any other is cleared
 pub BitsMoved-clear : (from to old at w v k p q : ℕ) → IsWidth v → k < v → p ≡ lane_of at k v → q ≡ lane_of at k w →
-    bit_and (from / 2 ^ q) 1 ≢ 1 → BitsMoved from to old at w v k → BitsMoved from (bit_and to (bit_not mask_width (1 * 2 ^ p % 2 ^ WIDEST))) old at w v (k + 1)
+    bit_and (from / 2 ^ q) 1 ≢ 1 → BitsMoved from to old at w v k → BitsMoved from (bit_and to (bit_not mask_width (1 * 2 ^ p % 2 ^ WIDEST))) old
+    at w v (k + 1)
 BitsMoved-clear from to old at w v k p q width near ep eq no_one m =
     let small : p < WIDEST = omega (arith, lane-lt_widest at k v width) in
     let bit : bit_and (from / 2 ^ q) 1 ≡ bit_at from q = shr_and_one from q in
@@ -66,9 +70,11 @@ run_at-whole from near far count room =
 bit_at-shr : (n a k : ℕ) → bit_at (n / 2 ^ a) k ≡ bit_at n (a + k)
 bit_at-shr n a k = ap (λ x. x % 2) (shr-shr n a k)
 
-pub run_at-inside : (from near far count k : ℕ) → far + count ≤ WIDEST → k < count → bit_at (run_at from near far count) (far + k) ≡ bit_at from (near + k)
+pub run_at-inside : (from near far count k : ℕ) → far + count ≤ WIDEST → k < count → bit_at (run_at from near far count) (far + k) ≡
+    bit_at from (near + k)
 run_at-inside from near far count k room lt =
-    let cut : bit_at (bit_and (from / 2 ^ near) (2 ^ count - 1)) k ≡ min (bit_at (from / 2 ^ near) k) (bit_at (2 ^ count - 1) k) = bit_at_and (from / 2 ^ near) (2 ^ count - 1) k in
+    let cut : bit_at (bit_and (from / 2 ^ near) (2 ^ count - 1)) k ≡ min (bit_at (from / 2 ^ near) k) (bit_at (2 ^ count - 1) k) =
+    bit_at_and (from / 2 ^ near) (2 ^ count - 1) k in
     let ones : bit_at (2 ^ count - 1) k ≡ 1 = bit_at_ones count k lt in
     let two : bit_at (from / 2 ^ near) k < 2 = bit_at-lt (from / 2 ^ near) k in
     let there : bit_at (from / 2 ^ near) k ≡ bit_at from (near + k) = bit_at-shr from near k in
@@ -84,7 +90,8 @@ run_at-outside from near far count l room outside =
     (λ below. ap (λ x. bit_at x l) (run_at-whole from near far count room)
     ∙ bit_at_cat_low (bit_and (from / 2 ^ near) (2 ^ count - 1)) far 0 l below ∙ bit_at-zero l)
     (λ above.
-    let small : bit_and (from / 2 ^ near) (2 ^ count - 1) * 2 ^ far < 2 ^ (count + far) = shl_below (bit_and (from / 2 ^ near) (2 ^ count - 1)) count far (cut-lt (from / 2 ^ near) count) in
+    let small : bit_and (from / 2 ^ near) (2 ^ count - 1) * 2 ^ far < 2 ^ (count + far) = shl_below (bit_and (from / 2 ^ near) (2 ^ count - 1)) count
+    far (cut-lt (from / 2 ^ near) count) in
     let e : run_at from near far count ≡ bit_and (from / 2 ^ near) (2 ^ count - 1) * 2 ^ far + 0 = run_at-whole from near far count room in
     bit_at_above (run_at from near far count) (count + far) l (omega arith) (omega arith))
     outside
@@ -97,14 +104,16 @@ run-lt : (far count : ℕ) → far + count ≤ WIDEST → 2 ^ (far + count) - 2 
 run-lt far count room = omega (arith, pow_mono room, pow_pos far)
 
 with_run-bit : (from near to far count l : ℕ) → far + count ≤ WIDEST → l < WIDEST →
-    bit_at (with_run from near to far count) l ≡ max (min (bit_at to l) (1 - bit_at (2 ^ (far + count) - 2 ^ far) l)) (bit_at (run_at from near far count) l)
+    bit_at (with_run from near to far count) l ≡ max (min (bit_at to l) (1 - bit_at (2 ^ (far + count) - 2 ^ far) l))
+    (bit_at (run_at from near far count) l)
 with_run-bit from near to far count l room lt =
     bit_at_or (bit_and to (bit_not mask_width (2 ^ (far + count) - 2 ^ far))) (run_at from near far count) l
     ∙ ap (λ x. max x (bit_at (run_at from near far count) l))
     (bit_at_and to (bit_not mask_width (2 ^ (far + count) - 2 ^ far)) l
     ∙ ap (min (bit_at to l)) (bit_at_not mask_width (2 ^ (far + count) - 2 ^ far) l (run-lt far count room) lt))
 
-pub with_run-moved : (from near to far count k : ℕ) → far + count ≤ WIDEST → k < count → bit_at (with_run from near to far count) (far + k) ≡ bit_at from (near + k)
+pub with_run-moved : (from near to far count k : ℕ) → far + count ≤ WIDEST → k < count → bit_at (with_run from near to far count) (far + k) ≡
+    bit_at from (near + k)
 with_run-moved from near to far count k room lt =
     let bit : bit_at (with_run from near to far count) (far + k)
     ≡ max (min (bit_at to (far + k)) (1 - bit_at (2 ^ (far + count) - 2 ^ far) (far + k))) (bit_at (run_at from near far count) (far + k)) =
@@ -117,7 +126,8 @@ run-outside : (far count l : ℕ) → (l < far) ⊎ (far + count ≤ l) → bit_
 run-outside far count l outside =
     ⊎_elim (λ below. bit_at_mask_below far (far + count) l below) (λ above. bit_at_mask_above far (far + count) l above) outside
 
-kept_inside : (from near to far count l : ℕ) → far + count ≤ WIDEST → (l < far) ⊎ (far + count ≤ l) → l < WIDEST → bit_at (with_run from near to far count) l ≡ bit_at to l
+kept_inside : (from near to far count l : ℕ) → far + count ≤ WIDEST → (l < far) ⊎ (far + count ≤ l) → l < WIDEST →
+    bit_at (with_run from near to far count) l ≡ bit_at to l
 kept_inside from near to far count l room outside lt =
     let bit : bit_at (with_run from near to far count) l
     ≡ max (min (bit_at to l) (1 - bit_at (2 ^ (far + count) - 2 ^ far) l)) (bit_at (run_at from near far count) l) =

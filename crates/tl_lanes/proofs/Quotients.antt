@@ -22,12 +22,15 @@ zeros-below k lt =
 smaller : (j k : ℕ) → 2 ^ min j k ≡ min (2 ^ j) (2 ^ k)
 smaller j k =
     ⊎_elim
-    (λ s. let le : j ≤ k = s.1 in let more : 2 ^ j ≤ 2 ^ k = pow_mono s.1 in let is : min j k ≡ j = omega arith in ap (λ n. 2 ^ n) is ∙ omega (arith, more))
-    (λ s. let lt : k < j = s.1 in let more : 2 ^ k < 2 ^ j = pow-lt s.1 in let is : min j k ≡ k = omega arith in ap (λ n. 2 ^ n) is ∙ omega (arith, more))
+    (λ s. let le : j ≤ k = s.1 in let more : 2 ^ j ≤ 2 ^ k = pow_mono s.1 in let is : min j k ≡ j = omega arith in
+    ap (λ n. 2 ^ n) is ∙ omega (arith, more))
+    (λ s. let lt : k < j = s.1 in let more : 2 ^ k < 2 ^ j = pow-lt s.1 in let is : min j k ≡ k = omega arith in
+    ap (λ n. 2 ^ n) is ∙ omega (arith, more))
     (leb_tells j k)
 
 pub shifted : (count size w shift : ℕ) → IsWidth w → shift ≡ min (trailing_zeros w64 w) size → count / 2 ^ shift ≡ count / bytes_per_beat size w
 shifted count size w shift (k, few, is) e =
     let zeros : trailing_zeros w64 w ≡ k = ap (trailing_zeros w64) is ∙ zeros-below k (omega (arith, few)) in
-    let power : 2 ^ shift ≡ min w (2 ^ size) = ap (λ n. 2 ^ n) (e ∙ ap (λ n. min n size) zeros) ∙ smaller k size ∙ ap (λ n. min n (2 ^ size)) (sym is) in
+    let power : 2 ^ shift ≡ min w (2 ^ size) = ap (λ n. 2 ^ n) (e ∙ ap (λ n. min n size) zeros) ∙ smaller k size ∙
+    ap (λ n. min n (2 ^ size)) (sym is) in
     ap (λ n. count / n) power

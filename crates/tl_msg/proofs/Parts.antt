@@ -20,7 +20,8 @@ module _ {H : Type 0} (r : Rules H) {W : ℕ} where
   pub none-opening : (b : BeatOf H W) → r.fault b.head ≡ None → mask_fits r b ≡ true → is_clean r b ≡ true → opening_fault r b ≡ None
   none-opening b head mask clean =
       both_none (r.fault b.head) (unless (mask_fits r b) Mask or_else unless (is_clean r b) Corrupt) head
-      (both_none (unless (mask_fits r b) Mask) (unless (is_clean r b) Corrupt) (unless_true (mask_fits r b) Mask mask) (unless_true (is_clean r b) Corrupt clean))
+      (both_none (unless (mask_fits r b) Mask) (unless (is_clean r b) Corrupt) (unless_true (mask_fits r b) Mask mask)
+      (unless_true (is_clean r b) Corrupt clean))
 
   -- inside a burst: the head is the burst's, and the mask fits
   pub continuing-none : (h : H) (b : BeatOf H W) → continuing_fault r h b ≡ None → (r.same b.head h ≡ true) × (mask_fits r b ≡ true)
@@ -31,4 +32,5 @@ module _ {H : Type 0} (r : Rules H) {W : ℕ} where
 
   pub none-continuing : (h : H) (b : BeatOf H W) → r.same b.head h ≡ true → mask_fits r b ≡ true → continuing_fault r h b ≡ None
   none-continuing h b same mask =
-      both_none (unless (r.same b.head h) HeadChanged) (unless (mask_fits r b) Mask) (unless_true (r.same b.head h) HeadChanged same) (unless_true (mask_fits r b) Mask mask)
+      both_none (unless (r.same b.head h) HeadChanged) (unless (mask_fits r b) Mask) (unless_true (r.same b.head h) HeadChanged same)
+      (unless_true (mask_fits r b) Mask mask)

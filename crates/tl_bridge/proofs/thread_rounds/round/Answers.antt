@@ -14,7 +14,8 @@ play_both-requires-after_bounds g c = λ κs bounds. (
       (
         c.requires.0,
         c.requires.1,
-        client-may c.requires.0.client c.requires.0.manager (near_beats c.args.script.now) c.requires.1 c.args.at.now c.args.client.now c.args.manager.now
+        client-may c.requires.0.client c.requires.0.manager (near_beats c.args.script.now) c.requires.1 c.args.at.now c.args.client.now
+            c.args.manager.now
             c.requires.3 c.requires.2,
         manager-may c.requires.0.client c.requires.0.manager (near_beats c.args.script.now) c.requires.1 c.args.at.now
             c.args.client.now c.args.manager.now c.requires.3 c.requires.2,

@@ -4,7 +4,8 @@ use Rattle.tl_msg.specs.Faults as faults
 use Rattle.tl_burst.proofs.faults.continuing_fault.Goals as goal
 
 masked : (same fits : Bool) → same ≡ true → fits ≡ false → (unless same HeadChanged or_else unless fits Mask) ≡ Some Mask
-masked same fits held not = second_answers (unless same HeadChanged) (unless fits Mask) (unless_true same HeadChanged held) ∙ unless_false fits Mask not
+masked same fits held not = second_answers (unless same HeadChanged) (unless fits Mask) (unless_true same HeadChanged held) ∙
+    unless_false fits Mask not
 
 faultless : (same fits : Bool) → same ≡ true → fits ≡ true → (unless same HeadChanged or_else unless fits Mask) ≡ None
 faultless same fits held too = both_none (unless same HeadChanged) (unless fits Mask) (unless_true same HeadChanged held) (unless_true fits Mask too)
@@ -25,5 +26,6 @@ returns g c =
 pub mask_fits-requires : goal.mask_fits-requires
 mask_fits-requires g c =
     let same : c.args.beat.now.head ≡ c.args.head.now = search rules in
-    let held : IsHeld g.K.Channel.rules g.row.W c.args.beat.now.head c.args.held.now = subst (λ head. IsHeld g.K.Channel.rules g.row.W head c.args.held.now) (sym same) c.requires in
+    let held : IsHeld g.K.Channel.rules g.row.W c.args.beat.now.head c.args.held.now =
+    subst (λ head. IsHeld g.K.Channel.rules g.row.W head c.args.held.now) (sym same) c.requires in
     search (rules, held)

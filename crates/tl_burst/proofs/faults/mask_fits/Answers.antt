@@ -18,20 +18,23 @@ all-lanes false partial x y e f = cc
 
 pub returns-then-not-MASKED : goal.returns-then-not-MASKED
 returns-then-not-MASKED g c =
-    unmasked g.K.Channel.rules.masked (g.K.Channel.rules.partial c.args.beat.now.head) (bit_and c.args.beat.now.mask (faults.full_mask g.K.Channel.rules c.args.beat.now.head g.row.W) == c.args.beat.now.mask)
+    unmasked g.K.Channel.rules.masked (g.K.Channel.rules.partial c.args.beat.now.head)
+    (bit_and c.args.beat.now.mask (faults.full_mask g.K.Channel.rules c.args.beat.now.head g.row.W) == c.args.beat.now.mask)
     (c.args.beat.now.mask == faults.full_mask g.K.Channel.rules c.args.beat.now.head g.row.W)
     (g.met.K.Channel.masked_is ∙ sym c.MASKED.ensures ∙ c.if-not-MASKED.true)
 
 pub returns-then-held : goal.returns-then-held
 returns-then-held g c =
     ap (λ m. bit_and c.args.beat.now.mask m == c.args.beat.now.mask) c.requires.lanes ∙
-    some-lanes g.K.Channel.rules.masked (g.K.Channel.rules.partial c.args.beat.now.head) (bit_and c.args.beat.now.mask (faults.full_mask g.K.Channel.rules c.args.beat.now.head g.row.W) == c.args.beat.now.mask)
+    some-lanes g.K.Channel.rules.masked (g.K.Channel.rules.partial c.args.beat.now.head)
+    (bit_and c.args.beat.now.mask (faults.full_mask g.K.Channel.rules c.args.beat.now.head g.row.W) == c.args.beat.now.mask)
     (c.args.beat.now.mask == faults.full_mask g.K.Channel.rules c.args.beat.now.head g.row.W)
     (g.met.K.Channel.masked_is ∙ sym c.MASKED.ensures ∙ c.if-not-MASKED.false) (sym c.requires.partial ∙ c.if-held.true)
 
 pub returns-else-held : goal.returns-else-held
 returns-else-held g c =
     ap (λ m. c.args.beat.now.mask == m) c.requires.lanes ∙
-    all-lanes g.K.Channel.rules.masked (g.K.Channel.rules.partial c.args.beat.now.head) (bit_and c.args.beat.now.mask (faults.full_mask g.K.Channel.rules c.args.beat.now.head g.row.W) == c.args.beat.now.mask)
+    all-lanes g.K.Channel.rules.masked (g.K.Channel.rules.partial c.args.beat.now.head)
+    (bit_and c.args.beat.now.mask (faults.full_mask g.K.Channel.rules c.args.beat.now.head g.row.W) == c.args.beat.now.mask)
     (c.args.beat.now.mask == faults.full_mask g.K.Channel.rules c.args.beat.now.head g.row.W)
     (g.met.K.Channel.masked_is ∙ sym c.MASKED.ensures ∙ c.if-not-MASKED.false) (sym c.requires.partial ∙ c.if-held.false)

@@ -26,17 +26,20 @@ returns-in-Some g c =
 
 pub returns-then-not-mask_fits : goal.returns-then-not-mask_fits
 returns-then-not-mask_fits g c =
-    sym (masked (g.K.Channel.rules.fault c.args.beat.now.head) (faults.mask_fits g.K.Channel.rules c.args.beat.now) (faults.is_clean g.K.Channel.rules c.args.beat.now)
+    sym (masked (g.K.Channel.rules.fault c.args.beat.now.head) (faults.mask_fits g.K.Channel.rules c.args.beat.now)
+    (faults.is_clean g.K.Channel.rules c.args.beat.now)
     (sym c.fault.ensures ∙ c.in_default.is) (sym c.mask_fits.ensures ∙ c.if-not-mask_fits.true))
 
 -- that the mask fits is for search to find: an edit that tests it later leaves no such step
 pub returns-then-not-is_clean : goal.returns-then-not-is_clean
 returns-then-not-is_clean g c =
     let fits : faults.mask_fits g.K.Channel.rules c.args.beat.now ≡ true = search rules in
-    sym (unclean (g.K.Channel.rules.fault c.args.beat.now.head) (faults.mask_fits g.K.Channel.rules c.args.beat.now) (faults.is_clean g.K.Channel.rules c.args.beat.now)
+    sym (unclean (g.K.Channel.rules.fault c.args.beat.now.head) (faults.mask_fits g.K.Channel.rules c.args.beat.now)
+    (faults.is_clean g.K.Channel.rules c.args.beat.now)
     (sym c.fault.ensures ∙ c.in_default.is) fits (sym c.is_clean.ensures ∙ c.if-not-is_clean.true))
 
 pub returns : goal.returns
 returns g c =
-    sym (faultless (g.K.Channel.rules.fault c.args.beat.now.head) (faults.mask_fits g.K.Channel.rules c.args.beat.now) (faults.is_clean g.K.Channel.rules c.args.beat.now)
+    sym (faultless (g.K.Channel.rules.fault c.args.beat.now.head) (faults.mask_fits g.K.Channel.rules c.args.beat.now)
+    (faults.is_clean g.K.Channel.rules c.args.beat.now)
     (sym c.fault.ensures ∙ c.in_default.is) (sym c.mask_fits.ensures ∙ c.if-not-mask_fits.false) (sym c.is_clean.ensures ∙ c.if-not-is_clean.false))

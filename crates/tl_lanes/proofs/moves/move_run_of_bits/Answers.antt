@@ -7,4 +7,5 @@ returns-clause-moved c k lt =
 
 pub returns-clause-kept : goal.returns-clause-kept
 returns-clause-kept c l outside =
-    rw (c.run_of_lanes.ensures, c.ones.ensures) (with_run-kept c.args.from c.args.near c.args.to c.args.far c.args.count l c.ranges.to.fits c.requires.far_room outside)
+    rw (c.run_of_lanes.ensures, c.ones.ensures)
+    (with_run-kept c.args.from c.args.near c.args.to c.args.far c.args.count l c.ranges.to.fits c.requires.far_room outside)

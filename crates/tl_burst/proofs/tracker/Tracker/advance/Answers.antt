@@ -18,28 +18,36 @@ returns-then-place-clause-stands g c = λ bs b before same.
     burst-step g.K.Channel.rules g.row.W c.args.self.now c.args.place c.requires.place bs b before same
 
 pub returns-in-Some-clause-burst : goal.returns-in-Some-clause-burst
-returns-in-Some-clause-burst g c = goes-on g.K.Channel.rules g.row.W c.args.self.now c.args.place c.requires.place c.if-place.false c.in-Some.field-0-0 c.in-Some.count (sym c.self.view_is ∙ c.in-Some.is)
+returns-in-Some-clause-burst g c = goes-on g.K.Channel.rules g.row.W c.args.self.now c.args.place c.requires.place c.if-place.false
+    c.in-Some.field-0-0 c.in-Some.count (sym c.self.view_is ∙ c.in-Some.is)
 
 pub returns-in-None-clause-burst : goal.returns-in-None-clause-burst
-returns-in-None-clause-burst g c = begins g.K.Channel.rules g.row.W c.args.self.now c.args.place c.requires.place c.if-place.false (sym c.self.view_is ∙ c.in-None.is)
+returns-in-None-clause-burst g c = begins g.K.Channel.rules g.row.W c.args.self.now c.args.place c.requires.place c.if-place.false
+    (sym c.self.view_is ∙ c.in-None.is)
 
 pub returns-in-Some-clause-stands : goal.returns-in-Some-clause-stands
 returns-in-Some-clause-stands g c = λ bs b before same.
-    goes-on g.K.Channel.rules g.row.W c.args.self.now c.args.place c.requires.place c.if-place.false c.in-Some.field-0-0 c.in-Some.count (sym c.self.view_is ∙ c.in-Some.is) ∙
+    goes-on g.K.Channel.rules g.row.W c.args.self.now c.args.place c.requires.place c.if-place.false c.in-Some.field-0-0 c.in-Some.count
+    (sym c.self.view_is ∙ c.in-Some.is) ∙
     burst-step g.K.Channel.rules g.row.W c.args.self.now c.args.place c.requires.place bs b before same
 
 pub returns-in-None-clause-stands : goal.returns-in-None-clause-stands
 returns-in-None-clause-stands g c = λ bs b before same.
-    begins g.K.Channel.rules g.row.W c.args.self.now c.args.place c.requires.place c.if-place.false (sym c.self.view_is ∙ c.in-None.is) ∙ burst-step g.K.Channel.rules g.row.W c.args.self.now c.args.place c.requires.place bs b before same
+    begins g.K.Channel.rules g.row.W c.args.self.now c.args.place c.requires.place c.if-place.false (sym c.self.view_is ∙ c.in-None.is) ∙
+    burst-step g.K.Channel.rules g.row.W c.args.self.now c.args.place c.requires.place bs b before same
 
 pub invariant_of-self-in-Some : goal.invariant_of-self-in-Some
 invariant_of-self-in-Some g c = (
-  subst (λ burst. IsOpen g.K.Channel.rules g.row.W burst) (sym (goes-on g.K.Channel.rules g.row.W c.args.self.now c.args.place c.requires.place c.if-place.false c.in-Some.field-0-0 c.in-Some.count (sym c.self.view_is ∙ c.in-Some.is))) (place-opens g.K.Channel.rules g.row.W c.args.self.now c.args.place c.requires.place),
+  subst (λ burst. IsOpen g.K.Channel.rules g.row.W burst)
+      (sym (goes-on g.K.Channel.rules g.row.W c.args.self.now c.args.place c.requires.place c.if-place.false c.in-Some.field-0-0 c.in-Some.count
+      (sym c.self.view_is ∙ c.in-Some.is))) (place-opens g.K.Channel.rules g.row.W c.args.self.now c.args.place c.requires.place),
   subst (λ burst. IsHeldIn g.K.Channel.rules g.row.W burst c.self.inside.held) c.in-Some.is c.self.invariant.1,
 )
 
 pub invariant_of-self-in-None : goal.invariant_of-self-in-None
 invariant_of-self-in-None g c = (
-  subst (λ burst. IsOpen g.K.Channel.rules g.row.W burst) (sym (begins g.K.Channel.rules g.row.W c.args.self.now c.args.place c.requires.place c.if-place.false (sym c.self.view_is ∙ c.in-None.is))) (place-opens g.K.Channel.rules g.row.W c.args.self.now c.args.place c.requires.place),
+  subst (λ burst. IsOpen g.K.Channel.rules g.row.W burst)
+      (sym (begins g.K.Channel.rules g.row.W c.args.self.now c.args.place c.requires.place c.if-place.false (sym c.self.view_is ∙ c.in-None.is)))
+      (place-opens g.K.Channel.rules g.row.W c.args.self.now c.args.place c.requires.place),
   c.held_by-self-inside.ensures,
 )

@@ -25,8 +25,10 @@ returns-in-Some-clause-admitted g c = λ bs handed e.
       λ admitted.
           let none : fault_after g.K.Channel.rules bs c.args.beat.now ≡ None =
           admitted-none g.K.Channel.rules g.row.W c.requires laws bs c.args.beat.now handed admitted in
-          let some : fault_in g.K.Channel.rules c.args.self.now c.args.beat.now ≡ Some c.in-Some.fault = sym c.first_fault.ensures.fault ∙ c.in-Some.is in
-          let here : fault_in g.K.Channel.rules c.args.self.now c.args.beat.now ≡ None = ap (λ burst. fault_in g.K.Channel.rules burst c.args.beat.now) e ∙ none in
+          let some : fault_in g.K.Channel.rules c.args.self.now c.args.beat.now ≡ Some c.in-Some.fault = sym c.first_fault.ensures.fault ∙
+          c.in-Some.is in
+          let here : fault_in g.K.Channel.rules c.args.self.now c.args.beat.now ≡ None =
+          ap (λ burst. fault_in g.K.Channel.rules burst c.args.beat.now) e ∙ none in
           absurd (cc),
     )
 
@@ -35,7 +37,8 @@ returns-in-None-clause-admitted g c = λ bs handed e.
     let laws : ChannelLaws g.K.Channel.rules = laws-of g.met.K.Channel.same_heads g.met.K.Channel.same_is
     g.met.K.Channel.small g.met.K.Channel.partial_carries g.met.K.Channel.masked_address g.met.K.Channel.home_kept in
     let none : fault_in g.K.Channel.rules c.args.self.now c.args.beat.now ≡ None = sym c.first_fault.ensures.fault ∙ c.in-None.is in
-    let here : fault_after g.K.Channel.rules bs c.args.beat.now ≡ None = ap (λ burst. fault_in g.K.Channel.rules burst c.args.beat.now) (sym e) ∙ none in
+    let here : fault_after g.K.Channel.rules bs c.args.beat.now ≡ None = ap (λ burst. fault_in g.K.Channel.rules burst c.args.beat.now)
+    (sym e) ∙ none in
     (λ t. (faults-exact g.K.Channel.rules g.row.W c.requires laws bs c.args.beat.now handed c.ranges_of_beat.ensures).0 here, λ admitted. refl)
 
 pub returns-in-None-clause-accepts : goal.returns-in-None-clause-accepts
