@@ -1,6 +1,8 @@
 -- The first beats of what goes into a ring, and of what came out of it.
 use Rattle.tl_ring.proofs.Names.{◌≡◌, ◌≤◌, ◌<◌, ◌+◌, ℕ, List, [], ◌∷◌, ◌++◌, length, take, min, ap, sym, ◌∙◌, arith, ⊎_elim, length-append, All}
-use Rattle.tl_ring.proofs.Names.{cases_lt, length-take, take-append-le, All-append, All-replicate, All-nil, take-append_seam}
+use Rattle.tl_ring.proofs.Names.{cases_lt, length-take, take-append-le, All-append, All-replicate, All-nil, All-head, take-append_seam}
+use Rattle.std.specs.Option.{IfSome}
+use Rattle.std.specs.List.{slice_get}
 use Rattle.rtrb.specs.Fifo.{Allowed}
 
 -- what went in of a slice is its first items
@@ -34,3 +36,8 @@ front_of inbox k xs rest inside = ap (λ l. inbox ++ l) (take-append-le k xs res
 
 pub front_size : {X : Type 0} (k : ℕ) (xs : List X) → k ≤ length xs → length (take k xs) ≡ k
 front_size k xs inside = let size : length (take k xs) ≡ min k (length xs) = length-take k xs in omega arith
+
+-- what holds of each item holds of the first one
+pub first_holds : {X : Type 0} (P : X → Type 0) (xs : List X) → All P xs → IfSome (slice_get xs 0) P
+first_holds P [] h = tt
+first_holds P (x ∷ xs) h = All-head P x xs h

@@ -27,7 +27,8 @@ abbrev pub AreLawful : {H : Type 0} → Rules H → {v : ℕ} → List (BeatOf H
 AreLawful r bs = All (λ b. IsLawfulBeat r b) bs
 
 -- the crossing through a ring of so many beats whose other end took each beat as soon as it was sent
-abbrev pub as_sent : {H : Type 0} {w v : ℕ} → (room : ℕ) → Outgoing H v → (accepted : List (BeatOf H w)) → (homes : List ℕ) → (sent : List (BeatOf H v)) → World H w v
+abbrev pub as_sent : {H : Type 0} {w v : ℕ} → (room : ℕ) → Outgoing H v → (accepted : List (BeatOf H w)) → (homes : List ℕ) →
+    (sent : List (BeatOf H v)) → World H w v
 as_sent room o accepted homes sent = record {
   room = room;
   accepted = accepted;
@@ -41,7 +42,8 @@ as_sent room o accepted homes sent = record {
 
 -- an outbox accepted these near beats, with the homes of the messages that they began, and sent
 -- these far beats
-pub record HasSent {H : Type 0} (r : Rules H) {w v : ℕ} (o : Outgoing H v) (accepted : List (BeatOf H w)) (homes : List ℕ) (sent : List (BeatOf H v)) : Type 0 where
+pub record HasSent {H : Type 0} (r : Rules H) {w v : ℕ} (o : Outgoing H v) (accepted : List (BeatOf H w)) (homes : List ℕ)
+    (sent : List (BeatOf H v)) : Type 0 where
   pub near : IsWidth w
   pub far : IsWidth v
   -- its converter was fed what was accepted

@@ -1,4 +1,5 @@
 use Rattle.tl_ring.proofs.Names.{◌≤◌, ◌≡◌, length, rules, ◌∙◌, arith, length-take, IsLawfulBeat}
+use Rattle.std.proofs.lemmas.List.{length-take-le}
 use Rattle.tl_ring.proofs.EndSteps.{fetched_of, takes_fetched, least_moved}
 use Rattle.tl_ring.proofs.Fronts.{all_allowed, all_front, front_of, front_size}
 use denote.Memory.{lone}
@@ -23,7 +24,7 @@ inside-of : (g : _) (c : goal.After-append g) → c.pop_partial_slice-count.resu
 inside-of g c = search rules
 
 size-of : (g : _) (c : goal.After-append g) → length c.pop_partial_slice-count.new.slice ≡ c.room-room.result
-size-of g c = search rules
+size-of g c = c.pop_partial_slice-count.auto.slice ∙ length-take-le c.room-room.result _ (omega (arith, c.room-room.ensures.count))
 
 pub returns-clause-least : goal.returns-clause-least
 returns-clause-least g c =
@@ -61,7 +62,7 @@ pub shared_whole_as_front-append : goal.shared_whole_as_front-append
 shared_whole_as_front-append g c =
     let p = c.pop_partial_slice-count in
     let inside : p.result ≤ length p.new.slice = search rules in
-    let size : length p.new.slice ≡ c.room-room.result = search rules in (
+    let size = p.auto.slice ∙ length-take-le c.room-room.result _ (omega (arith, c.room-room.ensures.count)) in (
       omega (arith, inside, size, c.room-room.ensures.count),
       (part_small (layout (intake.the_row (param 0 g.row.K) (param 1 (number g.row.V)) (param 2 g.row.A) (copied 3 g.row.K-Head) g.K.Channel
           g.K.Head.Clone g.K.Head.Eq g.K.Head.PartialEq g.K.Head.Default g.A.Allocator)) 1 9223372036854775808 c.requires-raw.1.1.1.1.0),
@@ -72,7 +73,7 @@ pub append-requires : goal.append-requires
 append-requires g c =
     let p = c.pop_partial_slice-count in
     let inside : p.result ≤ length p.new.slice = search rules in
-    let size : length p.new.slice ≡ c.room-room.result = search rules in (
+    let size = p.auto.slice ∙ length-take-le c.room-room.result _ (omega (arith, c.room-room.ensures.count)) in (
       c.requires-raw.1.1.1.1.1,
       (
         beat_in_queue (lone g.row.K-Head.mir) (layout g.row.K-Head) g.row.V 9223372036854775808

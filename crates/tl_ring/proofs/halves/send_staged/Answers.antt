@@ -1,8 +1,10 @@
+use denote.Memory.{lone}
+use Rattle.std.proofs.Common.{lit<}
 use Rattle.tl_ring.proofs.Names.{refl, All-drop, IsLawfulBeat}
 use Rattle.tl_ring.proofs.EndSteps.{sends_passed}
 use denote.Param.{layout, param, number, copied}
 use Rattle.tl_ring.specs.contracts.outbox.Outbox.{the_row}
-use Rattle.tl_ring.proofs.FieldSizes.{part_small}
+use Rattle.tl_ring.proofs.FieldSizes.{part_small, beat_in_queue}
 use Rattle.tl_ring.proofs.halves.send_staged.Goals as goal
 
 pub push_queue-requires : goal.push_queue-requires
@@ -32,3 +34,22 @@ returns-clause-stands g c = λ x h.
     let p = c.push_queue.ensures in
     let stands = rw (← c.outbox.view_is) at h in
     sends_passed g.K.Channel.rules g.met.K.Channel.partial_masked _ _ _ x refl p.queue p.sent p.ring.1 refl stands
+
+pub push_queue-requires-room-T-Clone : goal.push_queue-requires-room-T-Clone
+push_queue-requires-room-T-Clone g c κs within =
+    let outbox = layout (the_row (param 0 g.row.K) (param 1 (number g.row.W)) (param 2 (number g.row.V)) (copied 4 g.row.K-Head)
+    g.K.Channel g.K.Head.PartialEq g.K.Head.Default) in
+    let queue = part_small outbox 1 9223372036854775808 c.requires-raw.1.1.1.1.1.0 in
+    beat_in_queue (lone g.row.K-Head.mir) (layout g.row.K-Head) g.row.V 9223372036854775808 queue
+
+pub push_queue-requires-room-P-Protocol : goal.push_queue-requires-room-P-Protocol
+push_queue-requires-room-P-Protocol g c κs within = lit< tt
+
+pub push_queue-requires-room-P-Protocol-2 : goal.push_queue-requires-room-P-Protocol-2
+push_queue-requires-room-P-Protocol-2 g c κs within = push_queue-requires-room-T-Clone g c κs within
+
+pub returns-clause-least : goal.returns-clause-least
+returns-clause-least g c = rw (← c.outbox.view_is) c.push_queue.ensures.least
+
+pub returns-clause-most : goal.returns-clause-most
+returns-clause-most g c = rw (← c.outbox.view_is) c.push_queue.ensures.most

@@ -1,6 +1,8 @@
+use Rattle.tl_ring.proofs.Names.{refl, take, drop, append_assoc, take-append-drop, All-drop, IsLawfulBeat}
 use denote.Memory.{lone}
 use denote.Param.{layout, param, number, copied}
 use Rattle.tl_ring.specs.contracts.inbox.Inbox.{the_row}
+use Rattle.tl_ring.proofs.Fronts.{first_holds}
 use Rattle.tl_ring.proofs.FieldSizes.{part_small, beat_in_queue}
 use Rattle.tl_ring.proofs.inbox.Inbox.take.Goals as goal
 
@@ -13,3 +15,22 @@ pop_front-requires-room-T-Clone g c κs within =
     beat_in_queue (lone g.row.K-Head.mir) (layout g.row.K-Head) g.row.V 9223372036854775808
     (part_small (layout (the_row (param 0 g.row.K) (param 1 (number g.row.V)) (copied 2 g.row.K-Head) g.K.Channel g.K.Head.PartialEq
     g.K.Head.Default)) 0 9223372036854775808 c.requires-raw.1.1.1.0)
+
+pub invariant_of-self : goal.invariant_of-self
+invariant_of-self g c = rw c.pop_front.ensures.rest (All-drop (λ b. IsLawfulBeat g.K.Channel.rules b) 1 _ c.self.invariant)
+
+pub returns-clause-beat : goal.returns-clause-beat
+returns-clause-beat g c = rw (← c.self.view_is) c.pop_front.ensures.value
+
+pub returns-clause-rest : goal.returns-clause-rest
+returns-clause-rest g c = rw (c.pop_front.ensures.rest, ← c.self.view_is) refl
+
+pub returns-clause-taken : goal.returns-clause-taken
+returns-clause-taken g c = λ received taken h.
+    let stands = rw (← c.self.view_is) at h in
+    let moved = append_assoc taken (take 1 c.self.inside.queue) (drop 1 c.self.inside.queue) in
+    rw (← c.self.view_is, c.pop_front.ensures.rest, moved, take-append-drop) stands
+
+pub returns-clause-lawful : goal.returns-clause-lawful
+returns-clause-lawful g c =
+    rw c.pop_front.ensures.value (first_holds (λ b. IsLawfulBeat g.K.Channel.rules b) c.self.inside.queue c.self.invariant)

@@ -30,3 +30,12 @@ pub at_boundary-requires : goal.at_boundary-requires
 at_boundary-requires g c = part_small (layout
     (the_row (param 0 g.row.K) (param 1 (number g.row.W)) (param 2 (number g.row.V)) (copied 3 g.row.K-Head) g.K.Channel g.K.Head.PartialEq
     g.K.Head.Default)) 0 9223372036854775808 c.requires-raw.1.1.1.1
+
+pub returns-clause-closed : goal.returns-clause-closed
+returns-clause-closed g c = rw (← c.self.view_is) refl
+
+pub returns-clause-again : goal.returns-clause-again
+returns-clause-again g c = λ was. let closed = rw (← c.self.view_is) at was in (refl, rw (← c.self.view_is) (rw closed refl))
+
+pub returns-then-not-may_close-clause-stands : goal.returns-then-not-may_close-clause-stands
+returns-then-not-may_close-clause-stands g c = λ bs homes sent h. tt
