@@ -11,7 +11,8 @@ use Rattle.tl_burst.specs.Handing.{Handed}
 use Rattle.tl_convert.specs.Due.{due, DueOf, IsDue, Begins}
 
 module _ {H : Type 0} (r : Rules H) where
-  -- a list and its homes bring one list of messages and one rest, and what is due is the same for every message that the rest begins: the computed list
+  -- a list and its homes bring one list of messages and one rest, and what is due is the same for every message that the rest begins: the computed
+  -- list
   pub record DueIsOne (w v : ℕ) : Type 0 where
     pub one_reading : (bs : List (BeatOf H w)) (homes : List ℕ) (ms ms' : List (Message H)) (rest rest' : List (BeatOf H w)) →
         Handed r w bs homes ms rest → Handed r w bs homes ms' rest' → (ms ≡ ms') × (rest ≡ rest')

@@ -1,5 +1,5 @@
 //! What goes out while lines are told, block by block.
-ghost use Rattle.std.specs.Prelude.{◌≡◌, OnOk, IfErr};
+ghost use Rattle.std.specs.Prelude.{◌≡◌, false, OnOk, IfErr};
 ghost use Rattle.tl_answer.specs.declared.fault.TextFault.TheVariants.{Write as WriteFault};
 ghost use Rattle.tl_explain.specs.Inner.Telling.{Continues};
 
@@ -22,7 +22,8 @@ const FAR_ROOM: usize = WIDEST * LONGEST_LINE;
 
 /// Writes a page, and lets go of what stands on it.
 fn write_page<W: Write>(page: &mut Page, writer: &mut W) -> Result<(), TextFault>
-    ensures out { OnOk result (Continues (W.contents writer.old) (W.contents writer.new)) }
+    ensures out { OnOk result
+        (Continues false (W.contents writer.old) (W.contents writer.new)) }
     ensures kind { IfErr result (λ fault. fault ≡ WriteFault) }
 {
     let written = write_all(writer, &page.text);
@@ -45,27 +46,29 @@ impl Story {
 
     /// Whether there is a block of sentences none of which may be taken back.
     fn has_block(&self) -> bool {
-        self.page.len() >= BLOCK && self.run.count == 0 && !self.drawing.is_wanted
+        self.page.len() >= BLOCK && self.run.count == 0
     }
 
-    /// Writes what is said up to here, where that is a block.
+    /// Writes what is said up to here, where that is a block, but nothing for a page.
     #[inline(always)]
-    pub fn write_block<W: Write>(&mut self, writer: &mut W) -> Result<(), TextFault>
-        ensures out { OnOk result (Continues (W.contents writer.old) (W.contents writer.new)) }
+    pub fn write_block<W: Write>(&mut self, is_page: bool, writer: &mut W) -> Result<(), TextFault>
+        ensures out { OnOk result
+            (Continues is_page (W.contents writer.old) (W.contents writer.new)) }
         ensures kind { IfErr result (λ fault. fault ≡ WriteFault) }
     {
-        if !self.has_block() {
+        if is_page || !self.has_block() {
             return Ok(());
         }
         write_page(&mut self.page, writer)
     }
 
-    /// Writes what was not written yet. Where beats are drawn, nothing is written.
-    pub fn write_rest<W: Write>(&mut self, writer: &mut W) -> Result<(), TextFault>
-        ensures out { OnOk result (Continues (W.contents writer.old) (W.contents writer.new)) }
+    /// Writes what was not written yet, but nothing for a page.
+    pub fn write_rest<W: Write>(&mut self, is_page: bool, writer: &mut W) -> Result<(), TextFault>
+        ensures out { OnOk result
+            (Continues is_page (W.contents writer.old) (W.contents writer.new)) }
         ensures kind { IfErr result (λ fault. fault ≡ WriteFault) }
     {
-        if self.drawing.is_wanted {
+        if is_page {
             return Ok(());
         }
         if self.page.lacks_a_piece {

@@ -5,9 +5,9 @@ ghost use Rattle.tl_lanes.specs.Lanes.{IsWidth};
 ghost use Rattle.tl_trace.specs.Faults.{HasHeader};
 ghost use Rattle.tl_trace.specs.Scripts.{TellsScript};
 ghost use Rattle.tl_answer.specs.Answer.{far_header, report, is_done};
-ghost use Rattle.tl_answer.specs.Texts.{IsAnswer, IsOfText, most_bytes};
+ghost use Rattle.tl_answer.specs.Texts.{IsAnswer, most_bytes};
 ghost use Rattle.tl_answer.specs.declared.fault.TextFault.TheVariants.{OutOfMemory as NoMemory, Write as WriteFault};
-ghost use Rattle.tl_explain.specs.Explained.{Explains, IsExplanation, IsUntold};
+ghost use Rattle.tl_explain.specs.Explained.{Explains, IsUntold};
 ghost use Rattle.tl_explain.specs.Inner.Telling.{Continues};
 
 use crate::channel::tell;
@@ -28,24 +28,19 @@ use tl_msg::{Beat, ChA, ChB, ChC, ChD, ChE, Verdict};
 use tl_remarks::{Noted, notes_of};
 use tl_trace::{Header, Script, TraceFault, TraceKind, header_of_text, read_script};
 
-/// What came of each line of a text, and whether all five channels are done.
-#[derive(Drop)]
-pub struct Explanation {
-    pub text: Vec<u8>,
-    pub all_done: bool,
-}
-
 /// Tells what came of the beats of a script, whose lines begin with these letters, and writes it block by
-/// block where beats are not drawn. Each channel has a converter, and room for the far beats that one near
+/// block, but nothing of it for a page. Each channel has a converter, and room for the far beats that one near
 /// beat completes. A beat of E has nothing on its lanes, so a bus of one byte stands for any that it goes to.
 fn tell_all<W: Write, const C: usize, const M: usize>(
     story: &mut Story,
     letters: &[u8],
     script: &Script<C, M>,
+    is_page: bool,
     writer: &mut W,
 ) -> Result<(), TextFault>
     requires { IsWidth C × IsWidth M }
-    ensures out { OnOk result (Continues (W.contents writer.old) (W.contents writer.new)) }
+    ensures out { OnOk result
+        (Continues is_page (W.contents writer.old) (W.contents writer.new)) }
     ensures kind { IfErr result (λ fault. fault ≡ WriteFault) }
 {
     let mut way_a = Converter::<ChA, C, M>::new();
@@ -66,10 +61,10 @@ fn tell_all<W: Write, const C: usize, const M: usize>(
             b'D' => tell::<ChD, M, C>(story, b'D', &script.d, &mut way_d, &mut far_d),
             _ => tell::<ChE, C, 1>(story, b'E', &script.e, &mut way_e, &mut far_e),
         }
-        story.write_block(writer)?;
+        story.write_block(is_page, writer)?;
     }
     story.end();
-    story.write_rest(writer)
+    story.write_rest(is_page, writer)
 }
 
 /// The requests of A, none of which is answered yet, and what the beats wait for that wait on A and on D.
@@ -251,7 +246,8 @@ fn with_script<W: Write, const C: usize, const M: usize>(
         TellsScript version text.now script.now }
     ensures ok { IfOk result (λ made.
         IsAnswer text.now true made.answer.text.items made.answer.all_done) }
-    ensures out { OnOk result (Continues (W.contents writer.old) (W.contents writer.new)) }
+    ensures out { OnOk result
+        (Continues look.now.page (W.contents writer.old) (W.contents writer.new)) }
     ensures err { IfErr result
         (IsUntold text.now (W.contents writer.old) (W.contents writer.new)) }
 {
@@ -262,7 +258,7 @@ fn with_script<W: Write, const C: usize, const M: usize>(
         letters,
         answer,
     } = begun;
-    tell_all::<W, C, M>(&mut story, &letters, script, writer)?;
+    tell_all::<W, C, M>(&mut story, &letters, script, look.page, writer)?;
     Ok(Telling { story, answer })
 }
 
@@ -277,7 +273,8 @@ fn with_widths<W: Write, const C: usize, const M: usize>(
     requires { HasHeader text.now version C M × (length text.now ≤ most_bytes) }
     ensures ok { IfOk result (λ made.
         IsAnswer text.now true made.answer.text.items made.answer.all_done) }
-    ensures out { OnOk result (Continues (W.contents writer.old) (W.contents writer.new)) }
+    ensures out { OnOk result
+        (Continues look.now.page (W.contents writer.old) (W.contents writer.new)) }
     ensures err { IfErr result
         (IsUntold text.now (W.contents writer.old) (W.contents writer.new)) }
 {
@@ -299,7 +296,8 @@ fn with_client<W: Write, const C: usize>(
     requires { HasHeader text.now version C manager × (length text.now ≤ most_bytes) }
     ensures ok { IfOk result (λ made.
         IsAnswer text.now true made.answer.text.items made.answer.all_done) }
-    ensures out { OnOk result (Continues (W.contents writer.old) (W.contents writer.new)) }
+    ensures out { OnOk result
+        (Continues look.now.page (W.contents writer.old) (W.contents writer.new)) }
     ensures err { IfErr result
         (IsUntold text.now (W.contents writer.old) (W.contents writer.new)) }
 {
@@ -309,7 +307,7 @@ fn with_client<W: Write, const C: usize>(
     )
 }
 
-/// Tells a text, and writes what is told block by block where beats are not drawn.
+/// Tells a text, and writes what is told block by block, but nothing of it for a page.
 ///
 /// Refused with `Trace` and the text's first fault and its line, or with `OutOfMemory`, before anything is
 /// written, and with `Write` as `write_all` is.
@@ -322,7 +320,8 @@ pub fn telling_of<W: Write>(
     requires few { length text.now ≤ most_bytes }
     ensures ok { IfOk result (λ made.
         IsAnswer text.now true made.answer.text.items made.answer.all_done) }
-    ensures out { OnOk result (Continues (W.contents writer.old) (W.contents writer.new)) }
+    ensures out { OnOk result
+        (Continues look.now.page (W.contents writer.old) (W.contents writer.new)) }
     ensures err { IfErr result
         (IsUntold text.now (W.contents writer.old) (W.contents writer.new)) }
 {
@@ -367,23 +366,4 @@ pub fn explain_to<W: Write>(
     let telling = telling_of::<W>(alloc, text, &look, writer)?;
     write_all(writer, &telling.answer.text)?;
     Ok(telling.answer.all_done)
-}
-
-/// The same, as a value.
-///
-/// Refused with `Trace` and the text's first fault and its line, or with `OutOfMemory`.
-pub fn explain_text(alloc: Global, text: &[u8], look: &Look) -> Result<Explanation, TextFault>
-    requires few { length text.now ≤ most_bytes }
-    ensures ok { IfOk result (λ made. IsExplanation text.now made.text.items made.all_done) }
-    ensures err { IfErr result (IsOfText text.now) }
-{
-    let mut explanation = Vec::new(alloc);
-    match explain_to::<Vec<u8>>(alloc, text, look, &mut explanation) {
-        Ok(all_done) => Ok(Explanation {
-            text: explanation,
-            all_done,
-        }),
-        Err(TextFault::Write) => Err(TextFault::OutOfMemory),
-        Err(fault) => Err(fault),
-    }
 }

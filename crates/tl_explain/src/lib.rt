@@ -27,7 +27,7 @@ mod walk;
 mod words;
 
 pub use drawing::Drawn;
-pub use explain::{Explanation, explain_text, explain_to};
+pub use explain::explain_to;
 pub use look::{Choice, Look};
 pub use meanings::{FAULTS, meaning};
 pub use picture::{Cell, Picture, ROW};

@@ -1,6 +1,8 @@
 //! What a page shows of a trace: its lines with their beats, and which messages belong together.
-ghost use Rattle.std.specs.Prelude.{◌≡◌, ◌≤◌, true, length, IfOk, IfErr};
-ghost use Rattle.tl_answer.specs.Texts.{IsAnswer, IsOfText, most_bytes};
+ghost use Rattle.std.specs.Io.KnownBytes.{Keeps};
+ghost use Rattle.std.specs.Prelude.{◌≡◌, ◌≤◌, true, length, IfOk, OnOk, IfErr};
+ghost use Rattle.tl_answer.specs.Texts.{IsAnswer, most_bytes};
+ghost use Rattle.tl_explain.specs.Explained.{IsUntold};
 
 use crate::drawing::Drawn;
 use crate::explain::{Telling, telling_of};
@@ -9,6 +11,7 @@ use crate::picture::Picture;
 use crate::shown::Item;
 use crate::story::Told;
 use std::alloc::{AllocError, Global};
+use std::io::Write;
 use tl_answer::{Answer, TextFault};
 use tl_remarks::Pair;
 
@@ -155,25 +158,27 @@ fn scene_with(alloc: Global, telling: Telling) -> Result<Scene, AllocError>
 }
 
 /// What a page shows of a text: how each line fares, in sentences, with the beats on their lanes, and the
-/// answer that `tlbridge check` gives to it.
+/// answer that `tlbridge check` gives to it. Nothing is written yet to where the page shall go.
 ///
 /// Refused with `Trace` and the text's first fault and its line, or with `OutOfMemory`.
-pub fn scene_of(alloc: Global, text: &[u8], look: &Look) -> Result<Scene, TextFault>
+pub fn scene_of<W: Write>(
+    alloc: Global,
+    text: &[u8],
+    look: &Look,
+    writer: &mut W,
+) -> Result<Scene, TextFault>
     requires few { length text.now ≤ most_bytes }
     ensures ok { IfOk result (λ made.
         IsAnswer text.now true made.answer.text.items made.answer.all_done) }
-    ensures err { IfErr result (IsOfText text.now) }
+    ensures out { OnOk result (Keeps (W.contents writer.old) (W.contents writer.new)) }
+    ensures err { IfErr result
+        (IsUntold text.now (W.contents writer.old) (W.contents writer.new)) }
 {
     let look = Look {
         colour: false,
         page: true,
         ..*look
     };
-    // (beats are drawn, so nothing goes there)
-    let mut nowhere = Vec::new(alloc);
-    match telling_of::<Vec<u8>>(alloc, text, &look, &mut nowhere) {
-        Ok(telling) => Ok(scene_with(alloc, telling)?),
-        Err(TextFault::Write) => Err(TextFault::OutOfMemory),
-        Err(fault) => Err(fault),
-    }
+    let telling = telling_of::<W>(alloc, text, &look, writer)?;
+    Ok(scene_with(alloc, telling)?)
 }

@@ -1,9 +1,12 @@
 //! The page of a text.
-ghost use Rattle.std.specs.Prelude.{◌≡◌, ◌≤◌, length, IfOk, IfErr};
-ghost use Rattle.tl_answer.specs.Texts.{IsOfText, most_bytes};
+ghost use Rattle.std.specs.Io.KnownBytes.{Keeps};
+ghost use Rattle.std.specs.Prelude.{◌≡◌, ◌≤◌, length, IfOk, OnOk, IfErr};
+ghost use Rattle.tl_answer.specs.Texts.{most_bytes};
+ghost use Rattle.tl_explain.specs.Explained.{IsUntold};
 ghost use Rattle.tl_page.specs.Pages.{HasAnswer};
 
 use std::alloc::{AllocError, Global};
+use std::io::Write;
 use tl_answer::TextFault;
 use tl_explain::{Look, Scene, scene_of};
 use tl_markup::markup_of;
@@ -24,14 +27,21 @@ fn page_of(alloc: Global, scene: Scene) -> Result<Page, AllocError>
     Ok(Page { text, all_done })
 }
 
-/// The page of a text.
+/// The page of a text, of which nothing is written yet to where it shall go.
 ///
 /// Refused with `Trace` and the text's first fault and its line, or with `OutOfMemory`.
-pub fn page_of_text(alloc: Global, text: &[u8], look: &Look) -> Result<Page, TextFault>
+pub fn page_of_text<W: Write>(
+    alloc: Global,
+    text: &[u8],
+    look: &Look,
+    writer: &mut W,
+) -> Result<Page, TextFault>
     requires few { length text.now ≤ most_bytes }
     ensures ok { IfOk result (λ made. HasAnswer text.now made.all_done) }
-    ensures err { IfErr result (IsOfText text.now) }
+    ensures out { OnOk result (Keeps (W.contents writer.old) (W.contents writer.new)) }
+    ensures err { IfErr result
+        (IsUntold text.now (W.contents writer.old) (W.contents writer.new)) }
 {
-    let scene = scene_of(alloc, text, look)?;
+    let scene = scene_of::<W>(alloc, text, look, writer)?;
     Ok(page_of(alloc, scene)?)
 }

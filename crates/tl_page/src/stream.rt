@@ -27,7 +27,7 @@ pub fn run_page<R: Read, W: Write>(
         (W.contents writer.old) (W.contents writer.new) result }
 {
     let text = read_all(alloc, reader)?;
-    match page_of_text(alloc, &text, look) {
+    match page_of_text::<W>(alloc, &text, look, writer) {
         Ok(page) => {
             write_all(writer, &page.text)?;
             Ok(page.all_done)

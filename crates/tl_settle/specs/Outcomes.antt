@@ -73,4 +73,5 @@ module _ {C M : ℕ} (near : Beats C M) where
   -- the verdicts of the five channels, A to E
   abbrev pub verdicts : List Verdict
   verdicts =
-      verdict_a near.a near.d ∷ verdict_alone rules_b C near.b ∷ verdict_alone rules_c M near.c ∷ verdict_d near.a near.d ∷ verdict_alone rules_e M near.e ∷ []
+      verdict_a near.a near.d ∷ verdict_alone rules_b C near.b ∷ verdict_alone rules_c M near.c ∷ verdict_d near.a near.d ∷
+      verdict_alone rules_e M near.e ∷ []

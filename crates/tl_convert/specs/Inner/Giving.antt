@@ -25,13 +25,15 @@ pub record Run {H : Type 0} {W V : ℕ} (r : Rules H) (index home : ℕ) (b : Be
       Filled r (message_of r b.head W home bs) V (far_beats_of r b.head W V (length bs)) (length bs * per_beat r b.head W) partial
 
 -- the far beats that a near beat with data gives after those of its message, and the far beat that is then begun
-pub record GivenData {H : Type 0} {W V : ℕ} (r : Rules H) (home : ℕ) (b : BeatOf H W) (partial : BeatOf H V) (bs : List (BeatOf H W)) (out : List (BeatOf H V)) : Type 0 where
+pub record GivenData {H : Type 0} {W V : ℕ} (r : Rules H) (home : ℕ) (b : BeatOf H W) (partial : BeatOf H V) (bs : List (BeatOf H W))
+    (out : List (BeatOf H V)) : Type 0 where
   pub due_is : (homes : List ℕ) → slice_index homes 0 ≡ home → due_after r W V bs homes (b ∷ []) ≡ part r W V home bs ++ out
   pub filled : Filled r (message_of r b.head W home (bs ++ b ∷ [])) V (far_beats_of r b.head W V (length (bs ++ b ∷ [])))
       (length (bs ++ b ∷ []) * per_beat r b.head W) partial
 
 -- the same for any near beat
-pub record Given {H : Type 0} {W V : ℕ} (r : Rules H) (home : ℕ) (b : BeatOf H W) (partial : BeatOf H V) (bs : List (BeatOf H W)) (out : List (BeatOf H V)) : Type 0 where
+pub record Given {H : Type 0} {W V : ℕ} (r : Rules H) (home : ℕ) (b : BeatOf H W) (partial : BeatOf H V) (bs : List (BeatOf H W))
+    (out : List (BeatOf H V)) : Type 0 where
   pub due_is : (homes : List ℕ) → slice_index homes 0 ≡ home → due_after r W V bs homes (b ∷ []) ≡ part r W V home bs ++ out
   pub filled : r.carries b.head ≡ true → Filled r (message_of r b.head W home (bs ++ b ∷ [])) V
       (far_beats_of r b.head W V (length (bs ++ b ∷ []))) (length (bs ++ b ∷ []) * per_beat r b.head W) partial

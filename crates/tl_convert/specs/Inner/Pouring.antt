@@ -1,6 +1,7 @@
 -- How bytes get from a near beat into far beats: what the functions inside this crate promise each other. A byte is named by its number
 -- in its message, and a far beat by its number in the layout.
-use Rattle.std.specs.Prelude.{◌≡◌, ◌≢◌, ◌<◌, ◌≤◌, ◌+◌, ◌/◌, ◌%◌, ◌-◌, ◌^◌, ◌||◌, ℕ, Bool, true, false, cond, Some, List, [], map, replicate, slice_get, slice_index, length}
+use Rattle.std.specs.Prelude.{◌≡◌, ◌≢◌, ◌<◌, ◌≤◌, ◌+◌, ◌/◌, ◌%◌, ◌-◌, ◌^◌, ◌||◌, ℕ, Bool, true, false, cond, Some, List, [], map, replicate}
+use Rattle.std.specs.Prelude.{slice_get, slice_index, length}
 use Rattle.std.specs.List.{range_with_len}
 use Rattle.std.specs.Int.{bit_at}
 use Rattle.tl_msg.specs.Rules.{Rules}
@@ -28,7 +29,8 @@ pub record Poured {H : Type 0} {W V : ℕ} (masked : Bool) (from : BeatOf H W) (
   pub size : length new.lanes ≡ V
   pub moved : (k : ℕ) → k < count → slice_index new.lanes (lane_of at k V) ≡ slice_index from.lanes (lane_of at k W)
   pub kept : (l : ℕ) → ((k : ℕ) → k < count → lane_of at k V ≢ l) → slice_index new.lanes l ≡ slice_index old.lanes l
-  pub bits : (k : ℕ) → k < count → bit_at new.mask (lane_of at k V) ≡ cond masked (bit_at from.mask (lane_of at k W)) (bit_at old.mask (lane_of at k V))
+  pub bits : (k : ℕ) → k < count → bit_at new.mask (lane_of at k V) ≡ cond masked (bit_at from.mask (lane_of at k W))
+      (bit_at old.mask (lane_of at k V))
   pub bits_kept : (l : ℕ) → l < WIDEST → ((k : ℕ) → k < count → lane_of at k V ≢ l) → bit_at new.mask l ≡ bit_at old.mask l
   pub small : old.mask < 2 ^ WIDEST → new.mask < 2 ^ WIDEST
   pub corrupt : new.corrupt ≡ old.corrupt || from.corrupt

@@ -1,7 +1,8 @@
 -- What goes out while lines are told.
-use Rattle.std.specs.Prelude.{ℕ, List, Option}
-use Rattle.std.specs.Io.KnownBytes.{Appends}
+use Rattle.std.specs.Prelude.{ℕ, Bool, true, false, List, Option}
+use Rattle.std.specs.Io.KnownBytes.{Keeps, Appends}
 
--- what was written is some sentences, of which nothing more is said
-abbrev pub Continues : (held holds : Option (List ℕ)) → Type 0
-Continues held holds = (sentences : List ℕ) × Appends held holds sentences
+-- what was written is some sentences, of which nothing more is said; for a page nothing was written
+abbrev pub Continues : (is_page : Bool) (held holds : Option (List ℕ)) → Type 0
+Continues false held holds = (sentences : List ℕ) × Appends held holds sentences
+Continues true held holds = Keeps held holds

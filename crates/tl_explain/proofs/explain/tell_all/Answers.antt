@@ -1,6 +1,6 @@
 use Rattle.tl_ring.proofs.FieldSizes.{beat_small}
 use Rattle.std.proofs.lemmas.Result.{on_ok_weaker}
-use Rattle.tl_explain.proofs.Writing.{goes_on}
+use Rattle.tl_explain.proofs.Writing.{begins, goes_on}
 use Rattle.tl_explain.proofs.explain.tell_all.Goals as goal
 
 pub new-far_a-requires-room-T-Default : goal.new-far_a-requires-room-T-Default
@@ -15,8 +15,15 @@ new-far_c-requires-room-T-Default g c κs = beat_small g.row.M c.requires.1
 pub new-far_d-requires-room-T-Default : goal.new-far_d-requires-room-T-Default
 new-far_d-requires-room-T-Default g c κs = beat_small g.row.C c.requires.0
 
+pub loop-letter-init : goal.loop-letter-init
+loop-letter-init g c = begins c.args.is_page _
+
 pub loop-letter-preserved : goal.loop-letter-preserved
-loop-letter-preserved g c = goes_on _ _ _ c.loop-letter.invariant c.in_ok-write_block.ensures.out
+loop-letter-preserved g c = goes_on c.args.is_page _ _ _ c.loop-letter.invariant c.in_ok-write_block.ensures.out
 
 pub returns-clause-out : goal.returns-clause-out
-returns-clause-out g c = on_ok_weaker c.write_rest.result (λ more. goes_on _ _ _ c.loop-letter.invariant more) c.write_rest.ensures.out
+returns-clause-out g c =
+    on_ok_weaker c.write_rest.result (λ more. goes_on c.args.is_page _ _ _ c.loop-letter.invariant more) c.write_rest.ensures.out
+
+pub returns-clause-kind : goal.returns-clause-kind
+returns-clause-kind g c = c.write_rest.ensures.kind
