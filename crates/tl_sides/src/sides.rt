@@ -6,6 +6,7 @@ ghost use Rattle.tl_ring.specs.Ends.{Met, IsNewRing};
 ghost use Rattle.tl_sides.specs.Books.{KnowsClient, KnowsManager};
 ghost use Rattle.tl_sides.specs.Ends.{AreStanding};
 ghost use Rattle.tl_sides.specs.Inner.Making.{AreNewSides};
+ghost use Rattle.tl_sides.specs.Inner.Meeting.{AreCounted};
 ghost use Rattle.tl_sides.specs.Sides.{ClientPast, ManagerPast, ClientStandsFor, ManagerStandsFor, SidesMeet};
 ghost use Rattle.tl_sides.specs.Sides.{AreSides, IsNewClient, IsNewManager, new_client, new_manager};
 
@@ -86,6 +87,52 @@ pub fn bridge<const C: usize, const M: usize, A: Allocator + Copy>(
     Ok(sides_over(a, b, c, d, e, client, manager))
 }
 
+// What stands at the places of each channel, by the ports of both sides and by how many beats are
+// in the rings.
+pub(crate) fn standings_between<const C: usize, const M: usize, A: Allocator>(
+    client: &ClientPort<C, M, A>,
+    manager: &ManagerPort<C, M, A>,
+    a: usize,
+    b: usize,
+    c: usize,
+    d: usize,
+    e: usize,
+) -> Standings
+    ensures a { AreCounted client.now.a a manager.now.a result.a }
+    ensures b { AreCounted manager.now.b b client.now.b result.b }
+    ensures c { AreCounted client.now.c c manager.now.c result.c }
+    ensures d { AreCounted manager.now.d d client.now.d result.d }
+    ensures e { AreCounted client.now.e e manager.now.e result.e }
+{
+    Standings {
+        a: Standing {
+            staged: client.a.staged(),
+            in_ring: a,
+            inbox: manager.a.len(),
+        },
+        b: Standing {
+            staged: manager.b.staged(),
+            in_ring: b,
+            inbox: client.b.len(),
+        },
+        c: Standing {
+            staged: client.c.staged(),
+            in_ring: c,
+            inbox: manager.c.len(),
+        },
+        d: Standing {
+            staged: manager.d.staged(),
+            in_ring: d,
+            inbox: client.d.len(),
+        },
+        e: Standing {
+            staged: client.e.staged(),
+            in_ring: e,
+            inbox: manager.e.len(),
+        },
+    }
+}
+
 /// Brings both sides of one [`bridge`] call together, in one thread, and answers how many far beats
 /// stand in the stage, the ring and the inbox of each channel. On each, what was taken, and then what
 /// stands in the inbox, the ring and the stage, is the far layout of what was accepted: each beat
@@ -118,31 +165,5 @@ pub fn meet_sides<const C: usize, const M: usize, A: Allocator>(
     let c = look(&mut client.c, &mut manager.c.half);
     let d = look(&mut manager.d, &mut client.d.half);
     let e = look(&mut client.e, &mut manager.e.half);
-    Standings {
-        a: Standing {
-            staged: client.port.a.staged(),
-            in_ring: a,
-            inbox: manager.port.a.len(),
-        },
-        b: Standing {
-            staged: manager.port.b.staged(),
-            in_ring: b,
-            inbox: client.port.b.len(),
-        },
-        c: Standing {
-            staged: client.port.c.staged(),
-            in_ring: c,
-            inbox: manager.port.c.len(),
-        },
-        d: Standing {
-            staged: manager.port.d.staged(),
-            in_ring: d,
-            inbox: client.port.d.len(),
-        },
-        e: Standing {
-            staged: client.port.e.staged(),
-            in_ring: e,
-            inbox: manager.port.e.len(),
-        },
-    }
+    standings_between(&client.port, &manager.port, a, b, c, d, e)
 }

@@ -7,7 +7,6 @@ ghost use Rattle.tl_ring.specs.Pipe.{IsReady};
 ghost use Rattle.circular_buffer.specs.Buffer.{buffer};
 ghost use Rattle.tl_sides.specs.Bridges.{Past, StandsFor, IsStanding, nothing_yet, all_pumped, all_fetched, after_pump, after_fetch};
 ghost use Rattle.tl_sides.specs.Books.{KnowsClient, KnowsManager};
-ghost use Rattle.tl_sides.specs.Joining.{pipe_of};
 ghost use Rattle.tl_sides.specs.Bridges.{bridge_sends_a, bridge_sends_b, bridge_sends_c, bridge_sends_d, bridge_sends_e};
 ghost use Rattle.tl_sides.specs.Bridges.{bridge_takes_a, bridge_takes_b, bridge_takes_c, bridge_takes_d, bridge_takes_e};
 ghost use Rattle.tl_sides.specs.Calls.{OffersBeat, ClosesChannel, TakesBeat};
@@ -17,10 +16,11 @@ use crate::client_port::ClientPort;
 use crate::making::new_parts;
 use crate::manager_port::ManagerPort;
 use crate::per_channel::PerChannel;
+use crate::sides::standings_between;
 use std::alloc::{Allocator, Global};
 use std::marker::Model;
-use tl_msg::{Beat, ChA, ChB, ChC, ChD, ChE, Channel, SideFault};
-use tl_ring::{BuildFault, EndFault, Inbox, Outbox, Ring, Standing, fetch, pump};
+use tl_msg::{Beat, ChA, ChB, ChC, ChD, ChE, SideFault};
+use tl_ring::{BuildFault, EndFault, Ring, Standing, fetch, pump};
 
 /// How many far beats stand at each place of each channel.
 pub type Standings = PerChannel<Standing>;
@@ -57,21 +57,6 @@ impl<const C: usize, const M: usize, A: Allocator> Model for SyncBridge<C, M, A>
     ghost Value = { Bridge C M };
 
     ghost view = { λ s. bridge_of s.client s.manager s.a s.b s.c s.d s.e };
-}
-
-// How many far beats stand in an outbox, a ring and an inbox.
-fn standing<K: Channel, const W: usize, const V: usize, A: Allocator>(
-    outbox: &Outbox<K, W, V>,
-    ring: &Ring<K, V, A>,
-    inbox: &Inbox<K, V>,
-) -> Standing
-    ensures { IsStanding (pipe_of outbox.now ring.now inbox.now) result }
-{
-    Standing {
-        staged: outbox.staged(),
-        in_ring: ring.len(),
-        inbox: inbox.len(),
-    }
 }
 
 // The bridge over its rings and books.
@@ -341,12 +326,14 @@ impl<const C: usize, const M: usize, A: Allocator> SyncBridge<C, M, A> {
         ensures d { IsStanding self.now.d result.d }
         ensures e { IsStanding self.now.e result.e }
     {
-        PerChannel {
-            a: standing(&self.client.a, &self.a, &self.manager.a),
-            b: standing(&self.manager.b, &self.b, &self.client.b),
-            c: standing(&self.client.c, &self.c, &self.manager.c),
-            d: standing(&self.manager.d, &self.d, &self.client.d),
-            e: standing(&self.client.e, &self.e, &self.manager.e),
-        }
+        standings_between(
+            &self.client,
+            &self.manager,
+            self.a.len(),
+            self.b.len(),
+            self.c.len(),
+            self.d.len(),
+            self.e.len(),
+        )
     }
 }

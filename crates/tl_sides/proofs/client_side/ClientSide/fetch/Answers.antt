@@ -3,6 +3,8 @@ use Rattle.tl_sides.proofs.Layouts.{client_side_layout, part_small, inner_small}
 use Rattle.tl_sides.proofs.SideSteps.{client_side_of, client_fetched}
 use Rattle.tl_sides.proofs.client_side.ClientSide.fetch.Goals as goal
 
+-- Each half of a ring, and each inbox, is a part of the side.
+-- (A must-fail edit, which calls the book too, puts its answer in the place of these lines.)
 pub receive-b-requires : goal.receive-b-requires
 receive-b-requires g c = (
   search (part_small (client_side_layout g.row.C g.row.M g.row.A g.A.Allocator) 2 9223372036854775808),

@@ -1,60 +1,35 @@
-use Rattle.std.proofs.Common.{ap, ◌∙◌}
-use Rattle.tl_sides.specs.Joining.{bridge_of}
-use Rattle.tl_sides.proofs.Layouts.{bridge_layout, part_small, inner_small}
+use Rattle.std.proofs.Common.{◌∙◌}
+use Rattle.tl_sides.proofs.Layouts.{bridge_layout, part_small}
 use Rattle.tl_sides.proofs.sync_bridge.SyncBridge.standings.Goals as goal
 
-pub standing-requires : goal.standing-requires
-standing-requires g c = (
-  inner_small (bridge_layout g.row.C g.row.M g.row.A g.A.Allocator) 0 0 9223372036854775808 c.requires-raw.1.1.1,
-  (
-    part_small (bridge_layout g.row.C g.row.M g.row.A g.A.Allocator) 2 9223372036854775808 c.requires-raw.1.1.1,
-    inner_small (bridge_layout g.row.C g.row.M g.row.A g.A.Allocator) 1 0 9223372036854775808 c.requires-raw.1.1.1,
-  ),
-)
+pub len-requires : goal.len-requires
+len-requires g c = part_small (bridge_layout g.row.C g.row.M g.row.A g.A.Allocator) 2 9223372036854775808 c.requires-raw.1.1.1
 
-pub standing-requires-2 : goal.standing-requires-2
-standing-requires-2 g c = (
-  inner_small (bridge_layout g.row.C g.row.M g.row.A g.A.Allocator) 1 1 9223372036854775808 c.requires-raw.1.1.1,
-  (
-    part_small (bridge_layout g.row.C g.row.M g.row.A g.A.Allocator) 3 9223372036854775808 c.requires-raw.1.1.1,
-    inner_small (bridge_layout g.row.C g.row.M g.row.A g.A.Allocator) 0 1 9223372036854775808 c.requires-raw.1.1.1,
-  ),
-)
+pub len-requires-2 : goal.len-requires-2
+len-requires-2 g c = part_small (bridge_layout g.row.C g.row.M g.row.A g.A.Allocator) 3 9223372036854775808 c.requires-raw.1.1.1
 
-pub standing-requires-3 : goal.standing-requires-3
-standing-requires-3 g c = (
-  inner_small (bridge_layout g.row.C g.row.M g.row.A g.A.Allocator) 0 2 9223372036854775808 c.requires-raw.1.1.1,
-  (
-    part_small (bridge_layout g.row.C g.row.M g.row.A g.A.Allocator) 4 9223372036854775808 c.requires-raw.1.1.1,
-    inner_small (bridge_layout g.row.C g.row.M g.row.A g.A.Allocator) 1 2 9223372036854775808 c.requires-raw.1.1.1,
-  ),
-)
+pub len-requires-3 : goal.len-requires-3
+len-requires-3 g c = part_small (bridge_layout g.row.C g.row.M g.row.A g.A.Allocator) 4 9223372036854775808 c.requires-raw.1.1.1
 
-pub standing-requires-4 : goal.standing-requires-4
-standing-requires-4 g c = (
-  inner_small (bridge_layout g.row.C g.row.M g.row.A g.A.Allocator) 1 3 9223372036854775808 c.requires-raw.1.1.1,
-  (
-    part_small (bridge_layout g.row.C g.row.M g.row.A g.A.Allocator) 5 9223372036854775808 c.requires-raw.1.1.1,
-    inner_small (bridge_layout g.row.C g.row.M g.row.A g.A.Allocator) 0 3 9223372036854775808 c.requires-raw.1.1.1,
-  ),
-)
+pub len-requires-4 : goal.len-requires-4
+len-requires-4 g c = part_small (bridge_layout g.row.C g.row.M g.row.A g.A.Allocator) 5 9223372036854775808 c.requires-raw.1.1.1
 
-pub standing-requires-5 : goal.standing-requires-5
-standing-requires-5 g c = (
-  inner_small (bridge_layout g.row.C g.row.M g.row.A g.A.Allocator) 0 4 9223372036854775808 c.requires-raw.1.1.1,
-  (
-    part_small (bridge_layout g.row.C g.row.M g.row.A g.A.Allocator) 6 9223372036854775808 c.requires-raw.1.1.1,
-    inner_small (bridge_layout g.row.C g.row.M g.row.A g.A.Allocator) 1 4 9223372036854775808 c.requires-raw.1.1.1,
-  ),
+pub len-requires-5 : goal.len-requires-5
+len-requires-5 g c = part_small (bridge_layout g.row.C g.row.M g.row.A g.A.Allocator) 6 9223372036854775808 c.requires-raw.1.1.1
+
+pub standings_between-requires : goal.standings_between-requires
+standings_between-requires g c = (
+  part_small (bridge_layout g.row.C g.row.M g.row.A g.A.Allocator) 0 9223372036854775808 c.requires-raw.1.1.1,
+  part_small (bridge_layout g.row.C g.row.M g.row.A g.A.Allocator) 1 9223372036854775808 c.requires-raw.1.1.1,
 )
 
 pub returns : goal.returns
 returns g c =
-    let view = ap (λ q. bridge_of q.client q.manager q.a q.b q.c q.d q.e) c.self-inside.view_is ∙ c.self.view_is in
-    rw (← view) (record {
-      a = c.standing.ensures;
-      b = c.standing-2.ensures;
-      c = c.standing-3.ensures;
-      d = c.standing-4.ensures;
-      e = c.standing-5.ensures;
+    let n = c.standings_between.ensures in
+    rw (← c.self.view_is) (record {
+      a = record { staged = n.a.staged; in_ring = n.a.in_ring ∙ c.len.ensures.count; inbox = n.a.inbox };
+      b = record { staged = n.b.staged; in_ring = n.b.in_ring ∙ c.len-2.ensures.count; inbox = n.b.inbox };
+      c = record { staged = n.c.staged; in_ring = n.c.in_ring ∙ c.len-3.ensures.count; inbox = n.c.inbox };
+      d = record { staged = n.d.staged; in_ring = n.d.in_ring ∙ c.len-4.ensures.count; inbox = n.d.inbox };
+      e = record { staged = n.e.staged; in_ring = n.e.in_ring ∙ c.len-5.ensures.count; inbox = n.e.inbox };
     })
