@@ -7,3 +7,9 @@ pub fn lent<T: Drop, E, F: FnOnce(&mut T) -> bool>(made: Result<T, E>, test: F) 
     let mut value = made?;
     Ok(test(&mut value))
 }
+
+/// Lets two values go, with all that they hold.
+pub fn let_both_go<S: Drop, T: Drop>(one: S, other: T) {
+    drop(one);
+    drop(other);
+}

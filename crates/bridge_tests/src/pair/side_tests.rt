@@ -3,7 +3,7 @@
 
 ghost use Rattle.tl_sides.specs.Sides.{AreSides, SameClient, SameManager};
 
-use crate::let_sides_go;
+use crate::lending::let_both_go;
 use crate::values::{LANES, data, get};
 use std::test::Fail;
 use tl_lanes::Mask;
@@ -152,7 +152,7 @@ fn play_all(client: &mut ClientSide<4, 16>, manager: &mut ManagerSide<4, 16>) ->
 fn a_request_and_its_response(rt: HostRuntime) -> Result<(), Fail> {
     let (mut client, mut manager) = bridge::<4, 16, _>(rt.alloc(), 4)?;
     let is_so = play_all(&mut client, &mut manager);
-    let_sides_go(client, manager);
+    let_both_go(client, manager);
     assert!(rt; is_so);
     Ok(())
 }
@@ -202,7 +202,7 @@ fn a_source_used_twice(rt: HostRuntime) -> Result<(), Fail> {
     let (mut client, mut manager) = bridge::<4, 4, _>(rt.alloc(), 1)?;
     let is_so = is_used(&mut client, &mut manager, 0, 0x11)
         & is_used(&mut client, &mut manager, 4, 0x22);
-    let_sides_go(client, manager);
+    let_both_go(client, manager);
     assert!(rt; is_so);
     Ok(())
 }

@@ -3,10 +3,13 @@
 //! the tests pass.
 #![tactic(auto, using(tl_lanes::proofs::Widths::width_4, tl_lanes::proofs::Widths::width_8))]
 
+ghost use Rattle.tl_run.specs.Scripts.{HasShortLists};
+
 use crate::five::{has_one_each, script_of_five};
-use crate::run::run_tests::run_freely;
+use std::alloc::Global;
 use std::test::Fail;
-use tl_bridge::{Outcome, RunFault, run_sync};
+use std::thread::Threads;
+use tl_bridge::{NoGate, Outcome, RunFault, run_sync, run_threads};
 use tl_msg::Verdict;
 use tl_trace::Script;
 
@@ -39,24 +42,63 @@ fn judged(
     }
 }
 
+/// The run in one thread, or in two.
+fn run_in<R: Threads>(
+    rt: &R,
+    alloc: Global,
+    script: &Script<4, 8>,
+    ring: usize,
+    threads: bool,
+) -> Result<Outcome<4, 8>, RunFault>
+    requires short { HasShortLists script.now }
+{
+    if threads {
+        let (client_gate, manager_gate) = (&mut NoGate, &mut NoGate);
+        run_threads::<R, NoGate, NoGate, 4, 8>(
+            rt,
+            alloc,
+            script,
+            ring,
+            1,
+            client_gate,
+            manager_gate,
+        )
+    } else {
+        run_sync::<4, 8>(alloc, script, ring)
+    }
+}
+
+/// Runs the script over rings of 0 and of 4,097 beats, and of 1.
+fn judge<R: Threads>(
+    rt: &R,
+    alloc: Global,
+    script: &Script<4, 8>,
+    threads: bool,
+) -> Result<(), Fail>
+    requires short { HasShortLists script.now }
+{
+    let no_ring = [
+        run_in(rt, alloc, script, 0, threads).err(),
+        run_in(rt, alloc, script, 4097, threads).err(),
+    ];
+    let ended = run_in(rt, alloc, script, 1, threads);
+    judged(no_ring, &ended, script)
+}
+
+/// Reads the script, and runs it.
+fn read_and_judge<R: Threads>(rt: &R, alloc: Global, threads: bool) -> Result<(), Fail> {
+    let script = script_of_five(alloc)?;
+    let judged = judge(rt, alloc, &script, threads);
+    drop(script);
+    judged
+}
+
 #[test]
 fn run_sync_wants_memory(rt: HostRuntime) -> Result<(), Fail> {
-    let script = script_of_five(rt.alloc())?;
-    let no_ring = [
-        run_sync::<4, 8>(rt.alloc(), &script, 0).err(),
-        run_sync::<4, 8>(rt.alloc(), &script, 4097).err(),
-    ];
-    let ended = run_sync::<4, 8>(rt.alloc(), &script, 1);
-    judged(no_ring, &ended, &script)
+    read_and_judge(&rt, rt.alloc(), false)
 }
 
 #[test]
 fn run_threads_wants_memory(rt: HostRuntime) -> Result<(), Fail> {
-    let script = script_of_five(rt.alloc())?;
-    let no_ring = [
-        run_freely::<4, 8, _>(&rt, rt.alloc(), &script, 0, 1).err(),
-        run_freely::<4, 8, _>(&rt, rt.alloc(), &script, 4097, 1).err(),
-    ];
-    let ended = run_freely::<4, 8, _>(&rt, rt.alloc(), &script, 1, 1);
-    judged(no_ring, &ended, &script)
+    read_and_judge(&rt, rt.alloc(), true)
 }

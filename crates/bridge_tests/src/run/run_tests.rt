@@ -1,58 +1,47 @@
 #![tactic(auto, using(tl_lanes::proofs::Widths::width_4, tl_lanes::proofs::Widths::width_8))]
 
-ghost use Rattle.std.specs.Prelude.{◌≤◌};
-ghost use Rattle.tl_lanes.specs.Lanes.{IsWidth};
-ghost use Rattle.tl_run.specs.Scripts.{HasShortLists};
-
 use crate::five::{empty, is_short};
 use crate::values::{ack, put};
 use std::alloc::{AllocError, Global};
 use std::test::Fail;
 use std::thread::Threads;
-use tl_bridge::{NoGate, Outcome, RunFault, run_sync, run_threads};
+use tl_bridge::{Gate, NoGate, Outcome, RunFault, run_sync, run_threads};
 use tl_lanes::{Mask, is_width};
 use tl_msg::{Beat, ChA, ChE};
 use tl_trace::Script;
 
-/// The run in two threads, with gates that do nothing.
-pub fn run_freely<const C: usize, const M: usize, R: Threads>(
-    rt: &R,
-    alloc: Global,
-    script: &Script<C, M>,
-    ring: usize,
-    turns: usize,
-) -> Result<Outcome<C, M>, RunFault>
-    requires client { IsWidth C }
-    requires manager { IsWidth M }
-    requires short { HasShortLists script.now }
-    requires turns { 1 ≤ turns }
-{
-    let (client_gate, manager_gate) = (&mut NoGate, &mut NoGate);
-    run_threads::<R, NoGate, NoGate, C, M>(
-        rt,
-        alloc,
-        script,
-        ring,
-        turns,
-        client_gate,
-        manager_gate,
-    )
+/// The rounds of a run, if it did not end in a fault.
+fn rounds_in<const C: usize, const M: usize>(
+    ended: &Result<Outcome<C, M>, RunFault>,
+) -> Option<u64> {
+    match ended {
+        Ok(outcome) => Some(outcome.rounds),
+        Err(_) => None,
+    }
 }
 
 /// The rounds of the run in two threads, over the largest rings.
-fn rounds<const C: usize, const M: usize, R: Threads>(
+fn rounds<const C: usize, const M: usize, R: Threads, G: Gate + Send>(
     rt: &R,
     alloc: Global,
     script: &Script<C, M>,
     turns: usize,
+    client_gate: &mut G,
+    manager_gate: &mut G,
 ) -> Option<u64> {
     if !is_width(C) || !is_width(M) || turns == 0 || !is_short(script) {
         return None;
     }
-    match run_freely::<C, M, R>(rt, alloc, script, 4096, turns) {
-        Ok(outcome) => Some(outcome.rounds),
-        Err(_) => None,
-    }
+    let ended = run_threads::<R, G, G, C, M>(
+        rt,
+        alloc,
+        script,
+        4096,
+        turns,
+        client_gate,
+        manager_gate,
+    );
+    rounds_in(&ended)
 }
 
 /// The rounds of the run in one thread.
@@ -64,17 +53,15 @@ fn sync_rounds<const C: usize, const M: usize>(
     if !is_width(C) || !is_width(M) || !is_short(script) {
         return None;
     }
-    match run_sync(alloc, script, ring) {
-        Ok(outcome) => Some(outcome.rounds),
-        Err(_) => None,
-    }
+    let ended = run_sync(alloc, script, ring);
+    rounds_in(&ended)
 }
 
 #[test]
 fn no_beat_takes_one_round(rt: HostRuntime) {
     let script = empty::<8, 8>(rt.alloc());
     let taken = (
-        rounds(&rt, rt.alloc(), &script, 4),
+        rounds(&rt, rt.alloc(), &script, 4, &mut NoGate, &mut NoGate),
         sync_rounds(rt.alloc(), &script, 16),
     );
     drop(script);
@@ -94,8 +81,8 @@ fn acknowledge(list: &mut Vec<Beat<ChE, 4>>) -> Result<(), AllocError> {
 fn a_run_heeds_its_turns(rt: HostRuntime) -> Result<(), Fail> {
     let mut script = empty::<4, 8>(rt.alloc());
     acknowledge(&mut script.e)?;
-    let few = rounds(&rt, rt.alloc(), &script, 1000);
-    let many = rounds(&rt, rt.alloc(), &script, 1);
+    let few = rounds(&rt, rt.alloc(), &script, 1000, &mut NoGate, &mut NoGate);
+    let many = rounds(&rt, rt.alloc(), &script, 1, &mut NoGate, &mut NoGate);
     drop(script);
     assert!(rt; matches!(few, Some(1..=6)) & matches!(many, Some(201..)));
     Ok(())

@@ -51,7 +51,11 @@ fn is_made_and_written(alloc: Global, trace: &Trace) -> Result<bool, Fail> {
 /// Whether it was read, and that.
 fn is_read_made_and_written(alloc: Global) -> Result<bool, Fail> {
     match read(alloc, FIVE.as_bytes()) {
-        Ok(trace) => is_made_and_written(alloc, &trace),
+        Ok(trace) => {
+            let is_so = is_made_and_written(alloc, &trace);
+            drop(trace);
+            is_so
+        }
         Err(fault) => Err(Fail::new(fault)),
     }
 }

@@ -66,7 +66,9 @@ fn a_last_line_without_its_end(rt: HostRuntime) {
 /// Whether a text is read as a trace that is written as the same text.
 fn is_kept(alloc: Global, text: &[u8]) -> Result<bool, Fail> {
     let trace = read(alloc, text)?;
-    is_written_as(alloc, &trace, text)
+    let is_kept = is_written_as(alloc, &trace, text);
+    drop(trace);
+    is_kept
 }
 
 /// A request on lanes 4 to 7, two sinks that differ above the eighth bit alone, and mask bits on both halves of the widest bus.
