@@ -59,7 +59,8 @@ fields_free : (text : List ℕ) (ps : List FieldPlace) → list_all (is_shaped_a
 fields_free text [] h = refl
 fields_free text (p ∷ ps) h =
     let here =
-    digits_free (digits_at text p) (and_parts (nat_eq (slice_index text p.at) 32) (list_all is_hex (digits_at text p)) (and_parts (is_shaped_at text p) (list_all (is_shaped_at text) ps) h).0).1 in
+    digits_free (digits_at text p) (and_parts (nat_eq (slice_index text p.at) 32) (list_all is_hex (digits_at text p))
+    (and_parts (is_shaped_at text p) (list_all (is_shaped_at text) ps) h).0).1 in
     let more = fields_free text ps (and_parts (is_shaped_at text p) (list_all (is_shaped_at text) ps) h).1 in
     list_any-append is_newline (stands text p) (flat_map (stands text) ps)
     ∙ or_from (list_any is_newline (stands text p)) (list_any is_newline (flat_map (stands text) ps)) here more
@@ -81,11 +82,13 @@ says_free version client manager (E b) text says = line_free (form_e version) cl
 free_at : (xs : List ℕ) (k : ℕ) → k < length xs → IsFree xs → get_or xs k 0 ≢ 10
 free_at [] k lt free e = absurd (omega arith)
 free_at (x ∷ xs) zero lt free e =
-    absurd (let no : nat_eq x 10 || list_any is_newline xs ≡ false = free in let yes : nat_eq x 10 ≡ true = eq-eqb x 10 e in let bad = ap (λ (b : Bool). b || list_any is_newline xs) (sym yes) ∙ no in cc)
+    absurd (let no : nat_eq x 10 || list_any is_newline xs ≡ false = free in let yes : nat_eq x 10 ≡ true = eq-eqb x 10 e in
+    let bad = ap (λ (b : Bool). b || list_any is_newline xs) (sym yes) ∙ no in cc)
 free_at (x ∷ xs) (suc k) lt free e = free_at xs k (omega arith) (or_parts (is_newline x) (list_any is_newline xs) free).1 e
 
 pub free_between : (text : List ℕ) (at end : ℕ) → end ≤ length text → IsFree (slice_range text at end) → (k : ℕ) → at + k < end
     → slice_index text (at + k) ≢ 10
 free_between text at end le free k lt e =
     let long : length (slice_range text at end) ≡ end - at = length-take-le (end - at) (drop at text) (omega (arith, length-drop at text)) in
-    free_at (slice_range text at end) k (omega (arith, long)) free (get_or-take (end - at) (drop at text) k 0 (omega arith) ∙ get_or-drop at text k 0 ∙ e)
+    free_at (slice_range text at end) k (omega (arith, long)) free (get_or-take (end - at) (drop at text) k 0 (omega arith) ∙
+    get_or-drop at text k 0 ∙ e)

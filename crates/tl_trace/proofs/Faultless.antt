@@ -22,7 +22,9 @@ header_free version client manager v c m =
     let a = codes "tilelink-trace " ++ decimal version in
     let b = a ++ codes " client " ++ decimal client in
     both_free (b ++ codes " manager ") (decimal manager) (both_free b (codes " manager ")
-    (both_free (a ++ codes " client ") (decimal client) (both_free a (codes " client ") (both_free (codes "tilelink-trace ") (decimal version) refl (no_newline_in_version version v)) refl) (no_newline version client c)) refl)
+    (both_free (a ++ codes " client ") (decimal client)
+    (both_free a (codes " client ") (both_free (codes "tilelink-trace ") (decimal version) refl (no_newline_in_version version v)) refl)
+    (no_newline version client c)) refl)
     (no_newline version manager m)
 
 abbrev is_it : (version client manager : ℕ) → Header → Bool
@@ -88,7 +90,8 @@ says_faultless version client manager (E b) text kept says = (read_as_e version 
 
 lines_faults : (version client manager : ℕ) (lines : List Line) (text more : List ℕ) → list_all (is_kept_line version client manager) lines ≡ true
     → TellsLines version client manager lines text
-    → map (later_fault version client manager) (cut (text ++ more)) ≡ replicate (length lines) None ++ map (later_fault version client manager) (cut more)
+    → map (later_fault version client manager) (cut (text ++ more)) ≡ replicate (length lines) None ++
+    map (later_fault version client manager) (cut more)
 lines_faults version client manager [] text more kept told = ap (λ (t : List ℕ). map (later_fault version client manager) (cut (t ++ more))) told
 lines_faults version client manager (line ∷ lines) text more kept told =
     let body = told.0 in
@@ -96,9 +99,11 @@ lines_faults version client manager (line ∷ lines) text more kept told =
     let free = says_free version client manager line body told.3 in
     let fault : later_fault version client manager (body ++ newline) ≡ None =
     later_line version client manager body free
-    ∙ says_faultless version client manager line body (and_parts (is_kept_line version client manager line) (list_all (is_kept_line version client manager) lines) kept).0 told.3 in
+    ∙ says_faultless version client manager line body
+    (and_parts (is_kept_line version client manager line) (list_all (is_kept_line version client manager) lines) kept).0 told.3 in
     let later =
-    lines_faults version client manager lines rest more (and_parts (is_kept_line version client manager line) (list_all (is_kept_line version client manager) lines) kept).1 told.4 in
+    lines_faults version client manager lines rest more
+    (and_parts (is_kept_line version client manager line) (list_all (is_kept_line version client manager) lines) kept).1 told.4 in
     let whole : text ++ more ≡ body ++ newline ++ (rest ++ more) = ap (λ (t : List ℕ). t ++ more) told.2 ∙ append_assoc (body ++ newline) rest more in
     ap (λ (t : List ℕ). map (later_fault version client manager) (cut t)) whole
     ∙ ap (λ (ls : List (List ℕ)). map (later_fault version client manager) ls) (cut_line body (rest ++ more) free)
@@ -115,7 +120,8 @@ text_faults text more version client manager lines t =
     let whole : text ++ more ≡ first ++ newline ++ (t.rest ++ more) =
     ap (λ (xs : List ℕ). xs ++ more) t.header ∙ append_assoc (first ++ newline) t.rest more in
     ap faults whole ∙ ap faults_of_lines (cut_line first (t.rest ++ more) free)
-    ∙ ap (λ (o : Option Header). faults_after o (first ++ newline) (cut (t.rest ++ more))) (ap header_of (body_line first free) ∙ header_names version client manager t.trace.known_version t.trace.client_width t.trace.manager_width)
+    ∙ ap (λ (o : Option Header). faults_after o (first ++ newline) (cut (t.rest ++ more))) (ap header_of (body_line first free) ∙
+    header_names version client manager t.trace.known_version t.trace.client_width t.trace.manager_width)
     ∙ ap (λ (o : Option TraceKind). o ∷ map (later_fault version client manager) (cut (t.rest ++ more))) (ended first)
     ∙ ap (λ (os : List (Option TraceKind)). None ∷ os) (lines_faults version client manager lines t.rest more t.trace.kept t.told)
     ∙ ap (λ (n : ℕ). replicate n None ++ later) (sym (add-one (length lines)))

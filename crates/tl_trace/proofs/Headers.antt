@@ -72,8 +72,10 @@ listed_at version n i is lt = subst P (sym is) (at i (subst Q is lt))
         let width : length (row version (get_or ws (i / m) 0)) ≡ m = length-map ws (λ manager. header version (get_or ws (i / m) 0) manager) ∙ long in
         slice_get-get_or (headers_of version) i none (omega (arith, headers_long version, lt))
         ∙ ap (λ (k : ℕ). Some (get_or (headers_of version) k none)) (sym place)
-        ∙ ap (λ (h : Header). Some h) (get_or-flat_map (row version) ws (i / m) (i % m) 0 none (omega (arith, long, above)) (omega (arith, width, inside)))
-        ∙ ap (λ (h : Header). Some h) (get_or-map (λ manager. header version (get_or ws (i / m) 0) manager) ws (i % m) 0 none (omega (arith, long, inside)))
+        ∙ ap (λ (h : Header). Some h) (get_or-flat_map (row version) ws (i / m) (i % m) 0 none (omega (arith, long, above))
+        (omega (arith, width, inside)))
+        ∙ ap (λ (h : Header). Some h) (get_or-map (λ manager. header version (get_or ws (i / m) 0) manager) ws (i % m) 0 none
+        (omega (arith, long, inside)))
         ∙ ap (λ (k : ℕ). Some (header version k (get_or ws (i % m) 0))) (width_at version (i / m) above)
         ∙ ap (λ (k : ℕ). Some (header version (2 ^ (i / m)) k)) (width_at version (i % m) inside)
 
@@ -155,7 +157,8 @@ known text h e = (
 pub is_header : (text : List ℕ) (h : Header) → header_of text ≡ Some h → text ≡ header_text h.version h.client h.manager
 unfolding header_of
 is_header text h e =
-    same_bytes (is_header_of text h) text (header_text h.version h.client h.manager) (bytes_eq-Decides text (header_text h.version h.client h.manager)) (find_holds (is_header_of text) headers h e)
+    same_bytes (is_header_of text h) text (header_text h.version h.client h.manager)
+    (bytes_eq-Decides text (header_text h.version h.client h.manager)) (find_holds (is_header_of text) headers h e)
   where
     same_bytes : (b : Bool) (xs ys : List ℕ) → Decides b (xs ≡ ys) → b ≡ true → xs ≡ ys
     same_bytes true xs ys d e = d.0 refl

@@ -17,7 +17,11 @@ pub record HexSoFar (n value : ℕ) (digits : List ℕ) (rest i : ℕ) : Type 0 
 pub hex_start : (n value : ℕ) (digits : List ℕ) → length digits ≡ n → HexSoFar n value digits value 0
 hex_start n value digits long =
     let all : n - 0 ≡ n = omega arith in
-    record { long = long; made = ap (λ (k : ℕ). hex k value ++ drop k digits) all ∙ ap (λ (xs : List ℕ). hex n value ++ xs) (drop_all n digits (omega (arith, long))) ∙ append-nil (hex n value) }
+    record {
+      long = long;
+      made = ap (λ (k : ℕ). hex k value ++ drop k digits) all ∙
+          ap (λ (xs : List ℕ). hex n value ++ xs) (drop_all n digits (omega (arith, long))) ∙ append-nil (hex n value);
+    }
 
 pub hex_next : (n value : ℕ) (digits : List ℕ) (rest i digit : ℕ) → i < n → HexSoFar n value digits rest i → digit ≡ digit_char (rest % 16)
     → HexSoFar n value (set digits (n - 1 - i) digit) (rest / 16) (i + 1)
@@ -127,7 +131,8 @@ take_two xs n a b lt =
     ∙ ap (λ (ys : List ℕ). ys ++ b ∷ []) (take_more_set xs n a (omega arith)) ∙ append_assoc (take n xs) (a ∷ []) (b ∷ [])
 
 lane_small : (lanes : List ℕ) (i : ℕ) → get_or lanes i 0 < 256 → (rest : ℕ)
-    → ((get_or lanes i 0 + 256 * rest) / 16 / 16 ≡ rest) × ((get_or lanes i 0 + 256 * rest) / 16 % 16 ≡ get_or lanes i 0 / 16 % 16) × ((get_or lanes i 0 + 256 * rest) % 16 ≡ get_or lanes i 0 % 16)
+    → ((get_or lanes i 0 + 256 * rest) / 16 / 16 ≡ rest) × ((get_or lanes i 0 + 256 * rest) / 16 % 16 ≡ get_or lanes i 0 / 16 % 16) ×
+    ((get_or lanes i 0 + 256 * rest) % 16 ≡ get_or lanes i 0 % 16)
 lane_small lanes i lt rest = (omega arith, omega arith, omega arith)
 
 pub lanes_next : (lanes : List ℕ) (w : ℕ) (digits : List ℕ) (i high low : ℕ) → i < w → w ≤ WIDEST → w ≤ length lanes

@@ -18,7 +18,8 @@ some_bytes : (w : ℕ) (lanes : List ℕ) → list_all (λ lane. nat_lt lane 256
 some_bytes zero lanes bytes = All-nil (λ byte. byte < 256)
 some_bytes (suc w) [] bytes = All-nil (λ byte. byte < 256)
 some_bytes (suc w) (lane ∷ lanes) bytes =
-    All-cons (λ byte. byte < 256) lane (take w lanes) (ltb-true lane 256 (and_parts (nat_lt lane 256) (list_all (λ lane. nat_lt lane 256) lanes) bytes).0)
+    All-cons (λ byte. byte < 256) lane (take w lanes)
+    (ltb-true lane 256 (and_parts (nat_lt lane 256) (list_all (λ lane. nat_lt lane 256) lanes) bytes).0)
     (some_bytes w lanes (and_parts (nat_lt lane 256) (list_all (λ lane. nat_lt lane 256) lanes) bytes).1)
 
 most : (w m : ℕ) → w ≤ WIDEST → m < 2 ^ w → m < 2 ^ WIDEST
@@ -43,7 +44,8 @@ or_second false y none e = e
 no_mask : {H : Type 0} (f : Form H) (b : BeatOf H WIDEST) (w : ℕ) → f.rules.masked ≡ false → is_kept f w b ≡ true → b.mask < 2 ^ WIDEST
 no_mask f b w none kept =
     let test =
-    (and_parts (f.rules.masked || nat_eq b.mask 0) (f.rules.corrupts || (list_all (λ lane. nat_eq lane 0) b.lanes && not b.corrupt)) (kept_parts f w b kept).2).0 in
+    (and_parts (f.rules.masked || nat_eq b.mask 0) (f.rules.corrupts || (list_all (λ lane. nat_eq lane 0) b.lanes && not b.corrupt))
+    (kept_parts f w b kept).2).0 in
     let zero_mask = eqb-true b.mask 0 (or_second f.rules.masked (nat_eq b.mask 0) none test) in
     omega (arith, zero_mask)
 

@@ -114,7 +114,8 @@ module _ {H : Type 0} (f : Form H) (version : ℕ) where
       → nat_lt b.mask (2 ^ w) && nat_lt x 2 ≡ true → b.corrupt ≡ nat_eq x 1 → number_of_lanes b.lanes < 256 ^ w → is_lanes n b.lanes ≡ true
       → (f.rules.masked ≡ false → b.mask ≡ 0) → (f.rules.corrupts ≡ false → (list_all (λ lane. nat_eq lane 0) b.lanes ≡ true) × (x ≡ 0))
       → IsRead f w text b
-  beat_is w text b x mask_bad data_bad mask_at data_at heads letter long first second has masks datas mask_good data_good fit same_bit small lanes no_mask no_data =
+  beat_is w text b x mask_bad data_bad mask_at data_at heads letter long first second has masks datas mask_good data_good fit same_bit small lanes
+      no_mask no_data =
       let r = has.fields in
       let part =
       line_part f w (id_digits version) text r b.mask (number_of_lanes b.lanes) x mask_bad data_bad mask_at data_at heads first second has.read masks
@@ -122,6 +123,7 @@ module _ {H : Type 0} (f : Form H) (version : ℕ) where
       let range =
       below_is f w r b.mask (number_of_lanes b.lanes) x true heads no_mask (λ none. (no_data none).1) small
       (in_all (is_head_in_range f r) _ _ has.is.range fit) in
-      made f w b text (line_values f r b.mask (number_of_lanes b.lanes) x) letter long (part.good (both_good _ _ (both_good _ _ has.good mask_good) data_good))
+      made f w b text (line_values f r b.mask (number_of_lanes b.lanes) x) letter long
+      (part.good (both_good _ _ (both_good _ _ has.good mask_good) data_good))
       (line_said f b r x heads has.is (ap bit same_bit ∙ bit_of x (low (nat_lt b.mask (2 ^ w)) x fit))) range lanes
       (line_plain f b no_mask (λ none. ((no_data none).0, same_bit ∙ ap (λ k. nat_eq k 1) (no_data none).1)))

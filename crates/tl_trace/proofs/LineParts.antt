@@ -27,7 +27,8 @@ fields_append w text at [] ys = let same : at ≡ at + 0 = omega arith in ap (λ
 fields_append w text at (x ∷ xs) ys =
     let next = at + 1 + digit_count w x in
     let same : next + length_of w xs ≡ at + (1 + digit_count w x + length_of w xs) = omega arith in
-    ap (λ (os : List (Option ℕ)). field_at text at (digit_count w x) ∷ os) (fields_append w text next xs ys ∙ ap (λ (k : ℕ). fields_from w text next xs ++ fields_from w text k ys) same)
+    ap (λ (os : List (Option ℕ)). field_at text at (digit_count w x) ∷ os) (fields_append w text next xs ys ∙
+    ap (λ (k : ℕ). fields_from w text next xs ++ fields_from w text k ys) same)
 
 pub length_append : (w : ℕ) (xs ys : List Field) → length_of w (xs ++ ys) ≡ length_of w xs + length_of w ys
 length_append w [] ys = omega arith
@@ -128,7 +129,8 @@ module _ {H : Type 0} (f : Form H) where
       there = omega arith
 
       part : (b : Bool) → b ≡ true → IsPart w text at (cond b (data_lanes ∷ corrupt ∷ []) []) (cond b (d ∷ c ∷ []) []) (bit_or bad bad')
-      part true e = and_field w text at (at + 1 + 2 * w) (data_lanes ∷ []) (d ∷ []) bad corrupt c bad' there (number_part w text at data_lanes d bad lanes) bits
+      part true e = and_field w text at (at + 1 + 2 * w) (data_lanes ∷ []) (d ∷ []) bad corrupt c bad' there
+          (number_part w text at data_lanes d bad lanes) bits
       part false e = absurd cc
 
   -- ---- the whole line
@@ -202,7 +204,8 @@ module _ {H : Type 0} (f : Form H) where
   line_range w r m d c heads no_mask no_data small =
       below_append w (f.head_fields ++ mask_fields f) (data_fields f) (map (read_value r) f.head_fields ++ mask_values f m) (data_values f d c)
       (lengths r m)
-      ∙ ap (λ (b : Bool). b && below f w (data_fields f) (data_values f d c)) (below_append w f.head_fields (mask_fields f) (map (read_value r) f.head_fields) (mask_values f m) (length-map f.head_fields (read_value r))
+      ∙ ap (λ (b : Bool). b && below f w (data_fields f) (data_values f d c))
+      (below_append w f.head_fields (mask_fields f) (map (read_value r) f.head_fields) (mask_values f m) (length-map f.head_fields (read_value r))
       ∙ ap (λ (b : Bool). b && below f w (mask_fields f) (mask_values f m)) (head_below w r f.head_fields heads)
       ∙ ap (λ (b : Bool). is_head_in_range f r && b) (mask_test w m f.rules.masked no_mask))
       ∙ ap (λ (b : Bool). (is_head_in_range f r && nat_lt m (2 ^ w)) && b) (data_test w d c f.rules.corrupts no_data small)

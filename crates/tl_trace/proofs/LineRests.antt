@@ -30,7 +30,8 @@ not_other false e = absurd (false≢true e)
 module _ {H : Type 0} (f : Form H) {n : ℕ} (w : ℕ) where
   -- a line is its head, and what stands behind it
   pub line_is : (b : BeatOf H n) (front line : List ℕ) (masked has_data : Bool) → f.rules.masked ≡ masked → f.rules.corrupts ≡ has_data
-      → flat_map (λ field. 32 ∷ hex (digit_count w field) (value_of f b field)) f.head_fields ≡ flat_map (λ field. 32 ∷ hex (digit_count 0 field) (f.value b.head field)) f.head_fields
+      → flat_map (λ field. 32 ∷ hex (digit_count w field) (value_of f b field)) f.head_fields ≡
+      flat_map (λ field. 32 ∷ hex (digit_count 0 field) (f.value b.head field)) f.head_fields
       → front ≡ head_text f b.head → line ≡ front ++ rest_text masked has_data w b → line ≡ line_text f w b ++ newline
   line_is b front line masked has_data has_mask has_datas narrow head is =
       let masks = mask_text masked w b.mask in

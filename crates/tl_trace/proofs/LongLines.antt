@@ -10,7 +10,8 @@ ids_few : (version : ℕ) → id_digits version ≤ 4
 ids_few version = elim (version == 1) as (λ b. cond b 2 4 ≤ 4) [ true ↦ omega arith | false ↦ omega arith ]
 
 short : (version w : ℕ) → w ≤ WIDEST
-    → (line_length (form_a version) w < LONGEST_LINE) × (line_length (form_b version) w < LONGEST_LINE) × (line_length (form_c version) w < LONGEST_LINE)
+    → (line_length (form_a version) w < LONGEST_LINE) × (line_length (form_b version) w < LONGEST_LINE) ×
+    (line_length (form_c version) w < LONGEST_LINE)
     × (line_length (form_d version) w < LONGEST_LINE) × (line_length (form_e version) w < LONGEST_LINE)
 short version w le = let few = ids_few version in (omega arith, omega arith, omega arith, omega arith, omega arith)
 
@@ -71,7 +72,8 @@ long_fault version client manager text more kind c m free long is =
     let same : body_fault version client manager whole ≡ Some kind =
     by_letter version client manager whole c m longer ∙ ap letter_fault (same_letter text (body more) (omega arith))
     ∙ sym (by_letter version client manager text c m long) ∙ is in
-    ap (λ (o : Option TraceKind). o or_else end_fault (text ++ more)) (ap (λ (b : List ℕ). body_fault version client manager b) (body_on text more free) ∙ same)
+    ap (λ (o : Option TraceKind). o or_else end_fault (text ++ more))
+    (ap (λ (b : List ℕ). body_fault version client manager b) (body_on text more free) ∙ same)
 
 -- the first line of a text begins with what is free of line ends
 pub record StartsLine (text more : List ℕ) : Type 0 where

@@ -28,7 +28,8 @@ same_values f b [] = refl
 same_values f b (field ∷ fs) = rw (same_value f b field) (ap (λ (xs : List ℕ). value_of f b field ∷ xs) (same_values f b fs))
 
 same_writable : {H : Type 0} (f : Form H) {n : ℕ} (w : ℕ) (b : BeatOf H n) (fs : List Field)
-    → list_all (λ field. nat_lt (value_of f (wide b) field) (values f w field)) fs ≡ list_all (λ field. nat_lt (value_of f b field) (values f w field)) fs
+    → list_all (λ field. nat_lt (value_of f (wide b) field) (values f w field)) fs ≡
+    list_all (λ field. nat_lt (value_of f b field) (values f w field)) fs
 same_writable f w b [] = refl
 same_writable f w b (field ∷ fs) =
     rw (same_value f b field) (ap (λ (x : Bool). nat_lt (value_of f b field) (values f w field) && x) (same_writable f w b fs))
@@ -40,7 +41,8 @@ wide_lanes n lanes le e =
     omega (arith, length-append lanes (replicate (WIDEST - n) 0), length-replicate {A = ℕ} (WIDEST - n) 0, parts.0) in
     and_from (nat_eq (length (lanes ++ replicate (WIDEST - n) 0)) WIDEST) (list_all (λ lane. nat_lt lane 256) (lanes ++ replicate (WIDEST - n) 0))
     (eq-eqb (length (lanes ++ replicate (WIDEST - n) 0)) WIDEST all)
-    (list_all-append (λ lane. nat_lt lane 256) lanes (replicate (WIDEST - n) 0) ∙ and_from (list_all (λ lane. nat_lt lane 256) lanes) (list_all (λ lane. nat_lt lane 256) (replicate (WIDEST - n) 0)) parts.1 (zero_bytes (WIDEST - n)))
+    (list_all-append (λ lane. nat_lt lane 256) lanes (replicate (WIDEST - n) 0) ∙ and_from (list_all (λ lane. nat_lt lane 256) lanes)
+    (list_all (λ lane. nat_lt lane 256) (replicate (WIDEST - n) 0)) parts.1 (zero_bytes (WIDEST - n)))
 
 wide_zero : (lanes : List ℕ) (k : ℕ) → list_all (λ lane. nat_eq lane 0) (lanes ++ replicate k 0) ≡ list_all (λ lane. nat_eq lane 0) lanes
 wide_zero [] k = zero_bits k
@@ -57,7 +59,8 @@ widened f w text b le r =
     let plain : is_plain f (wide b) ≡ true = wide_plain f b ∙ parts.2 in
     record {
       line = record { letter = r.line.letter; long = r.line.long; shaped = r.line.shaped; says = r.line.says ∙ sym (same_values f b (fields f)) };
-      kept = and_from (is_lanes WIDEST (b.lanes ++ replicate (WIDEST - w) 0)) (is_writable f w (wide b) && is_plain f (wide b)) (wide_lanes w b.lanes le parts.0) (and_from (is_writable f w (wide b)) (is_plain f (wide b)) writable plain);
+      kept = and_from (is_lanes WIDEST (b.lanes ++ replicate (WIDEST - w) 0)) (is_writable f w (wide b) && is_plain f (wide b))
+          (wide_lanes w b.lanes le parts.0) (and_from (is_writable f w (wide b)) (is_plain f (wide b)) writable plain);
     }
 
 narrowed : {H : Type 0} (f : Form H) (w : ℕ) (text : List ℕ) (b : BeatOf H w) → IsRead f w text b

@@ -103,31 +103,36 @@ module _ {C M : ℕ} (version : ℕ) (text : List ℕ) (at : ℕ) where
       → IsNextPushed version text at (with_a s v) (with_a s v') end
   next_a s v v' end few p =
       let near = near_a version C M (slice_range text at end) p.beat few p.read in
-      put_line (with_a s v) (with_a s v') p (lines.A (wide p.beat)) near.0 (record { a = put_wide v.items near.1 p.put; b = stays refl; c = stays refl; d = stays refl; e = stays refl })
+      put_line (with_a s v) (with_a s v') p (lines.A (wide p.beat)) near.0
+      (record { a = put_wide v.items near.1 p.put; b = stays refl; c = stays refl; d = stays refl; e = stays refl })
 
   next_b : (s : Script C M) (v v' : Vec (BeatOf HeadB M) Global) (end : ℕ) → M ≤ WIDEST → IsLinePushed (form_b version) M text at v.items v'.items end
       → IsNextPushed version text at (with_b s v) (with_b s v') end
   next_b s v v' end few p =
       let near = near_b version C M (slice_range text at end) p.beat few p.read in
-      put_line (with_b s v) (with_b s v') p (lines.B (wide p.beat)) near.0 (record { a = stays refl; b = put_wide v.items near.1 p.put; c = stays refl; d = stays refl; e = stays refl })
+      put_line (with_b s v) (with_b s v') p (lines.B (wide p.beat)) near.0
+      (record { a = stays refl; b = put_wide v.items near.1 p.put; c = stays refl; d = stays refl; e = stays refl })
 
   next_c : (s : Script C M) (v v' : Vec (BeatOf HeadC C) Global) (end : ℕ) → C ≤ WIDEST → IsLinePushed (form_c version) C text at v.items v'.items end
       → IsNextPushed version text at (with_c s v) (with_c s v') end
   next_c s v v' end few p =
       let near = near_c version C M (slice_range text at end) p.beat few p.read in
-      put_line (with_c s v) (with_c s v') p (lines.C (wide p.beat)) near.0 (record { a = stays refl; b = stays refl; c = put_wide v.items near.1 p.put; d = stays refl; e = stays refl })
+      put_line (with_c s v) (with_c s v') p (lines.C (wide p.beat)) near.0
+      (record { a = stays refl; b = stays refl; c = put_wide v.items near.1 p.put; d = stays refl; e = stays refl })
 
   next_d : (s : Script C M) (v v' : Vec (BeatOf HeadD M) Global) (end : ℕ) → M ≤ WIDEST → IsLinePushed (form_d version) M text at v.items v'.items end
       → IsNextPushed version text at (with_d s v) (with_d s v') end
   next_d s v v' end few p =
       let near = near_d version C M (slice_range text at end) p.beat few p.read in
-      put_line (with_d s v) (with_d s v') p (lines.D (wide p.beat)) near.0 (record { a = stays refl; b = stays refl; c = stays refl; d = put_wide v.items near.1 p.put; e = stays refl })
+      put_line (with_d s v) (with_d s v') p (lines.D (wide p.beat)) near.0
+      (record { a = stays refl; b = stays refl; c = stays refl; d = put_wide v.items near.1 p.put; e = stays refl })
 
   next_e : (s : Script C M) (v v' : Vec (BeatOf HeadE C) Global) (end : ℕ) → C ≤ WIDEST → IsLinePushed (form_e version) C text at v.items v'.items end
       → IsNextPushed version text at (with_e s v) (with_e s v') end
   next_e s v v' end few p =
       let near = near_e version C M (slice_range text at end) p.beat few p.read in
-      put_line (with_e s v) (with_e s v') p (lines.E (wide p.beat)) near.0 (record { a = stays refl; b = stays refl; c = stays refl; d = stays refl; e = put_wide v.items near.1 p.put })
+      put_line (with_e s v) (with_e s v') p (lines.E (wide p.beat)) near.0
+      (record { a = stays refl; b = stays refl; c = stays refl; d = stays refl; e = put_wide v.items near.1 p.put })
 
 module _ {C M : ℕ} (version : ℕ) (text : List ℕ) (at : ℕ) where
   behind_a : (s : Script C M) (v : Vec (BeatOf HeadA C) Global) (ends : List ℕ) (place : ℕ) → C ≤ WIDEST

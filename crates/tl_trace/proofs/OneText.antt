@@ -35,9 +35,11 @@ pub lines_told : (version client manager : ℕ) (lines : List Line) → list_all
 lines_told version client manager [] kept = refl
 lines_told version client manager (line ∷ lines) kept =
     let here =
-    says_it version client manager line (and_parts (is_kept_line version client manager line) (list_all (is_kept_line version client manager) lines) kept).0 in
+    says_it version client manager line
+    (and_parts (is_kept_line version client manager line) (list_all (is_kept_line version client manager) lines) kept).0 in
     let rest =
-    lines_told version client manager lines (and_parts (is_kept_line version client manager line) (list_all (is_kept_line version client manager) lines) kept).1 in
+    lines_told version client manager lines
+    (and_parts (is_kept_line version client manager line) (list_all (is_kept_line version client manager) lines) kept).1 in
     (text_of_line version client manager line, lines_text version client manager lines, refl, here, rest)
 
 pub text_only : (version client manager : ℕ) (lines : List Line) (text : List ℕ) → Tells text version client manager lines

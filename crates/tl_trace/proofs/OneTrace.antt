@@ -98,7 +98,8 @@ abbrev behind_client : (manager : ℕ) → List ℕ → List ℕ
 behind_client manager rest = decimal manager ++ 10 ∷ rest
 
 whole_header : (version client manager : ℕ) (rest : List ℕ)
-    → header_text version client manager ++ newline ++ rest ≡ codes "tilelink-trace " ++ (decimal version ++ (codes " client " ++ behind_version client manager rest))
+    → header_text version client manager ++ newline ++ rest ≡ codes "tilelink-trace " ++
+    (decimal version ++ (codes " client " ++ behind_version client manager rest))
 whole_header version client manager rest =
     flat (codes "tilelink-trace ") (decimal version) (codes " client ") (decimal client) (codes " manager ") (decimal manager) rest
 
@@ -170,7 +171,14 @@ abbrev head_c : List ℕ → HeadC
 head_c vs = record { opcode = get_or vs 0 0; param = get_or vs 1 0; size = get_or vs 2 0; source = get_or vs 3 0; address = get_or vs 4 0 }
 
 abbrev head_d : Bool → List ℕ → HeadD
-head_d denied vs = record { opcode = get_or vs 0 0; param = get_or vs 1 0; size = get_or vs 2 0; source = get_or vs 3 0; sink = get_or vs 4 0; denied = denied }
+head_d denied vs = record {
+  opcode = get_or vs 0 0;
+  param = get_or vs 1 0;
+  size = get_or vs 2 0;
+  source = get_or vs 3 0;
+  sink = get_or vs 4 0;
+  denied = denied;
+}
 
 abbrev head_e : List ℕ → HeadE
 head_e vs = record { sink = get_or vs 0 0 }
@@ -205,7 +213,8 @@ no_mask : {H : Type 0} (f : Form H) (w : ℕ) (x y : BeatOf H WIDEST) → is_kep
     → x.mask ≡ y.mask
 no_mask f w x y kept kept' e =
     mask_zero f.rules.masked x.mask (f.rules.corrupts || (list_all (λ lane. nat_eq lane 0) x.lanes && not x.corrupt)) e (kept_parts f w x kept).2
-    ∙ sym (mask_zero f.rules.masked y.mask (f.rules.corrupts || (list_all (λ lane. nat_eq lane 0) y.lanes && not y.corrupt)) e (kept_parts f w y kept').2)
+    ∙ sym (mask_zero f.rules.masked y.mask (f.rules.corrupts || (list_all (λ lane. nat_eq lane 0) y.lanes && not y.corrupt)) e
+    (kept_parts f w y kept').2)
 
 line_c : (version w : ℕ) (x y : BeatOf HeadC WIDEST) (text : List ℕ) → is_kept (form_c version) w x ≡ true → is_kept (form_c version) w y ≡ true
     → IsLine (form_c version) w x text → IsLine (form_c version) w y text → x ≡ y
@@ -236,8 +245,10 @@ plain_e : (version w : ℕ) (x : BeatOf HeadE WIDEST) → is_kept (form_e versio
     → (list_all (λ lane. nat_eq lane 0) x.lanes ≡ true) × (x.corrupt ≡ false)
 plain_e version w x kept =
     let plain =
-    (and_parts (nat_eq x.mask 0) (list_all (λ lane. nat_eq lane 0) x.lanes && not x.corrupt) (kept_parts (form_e version) w x kept).2).1 in
-    ((and_parts (list_all (λ lane. nat_eq lane 0) x.lanes) (not x.corrupt) plain).0, not-true x.corrupt (and_parts (list_all (λ lane. nat_eq lane 0) x.lanes) (not x.corrupt) plain).1)
+    (and_parts (nat_eq x.mask 0) (list_all (λ lane. nat_eq lane 0) x.lanes && not x.corrupt) (kept_parts (form_e version) w x kept).2).1 in (
+      (and_parts (list_all (λ lane. nat_eq lane 0) x.lanes) (not x.corrupt) plain).0,
+      not-true x.corrupt (and_parts (list_all (λ lane. nat_eq lane 0) x.lanes) (not x.corrupt) plain).1,
+    )
 
 line_e : (version w : ℕ) (x y : BeatOf HeadE WIDEST) (text : List ℕ) → is_kept (form_e version) w x ≡ true → is_kept (form_e version) w y ≡ true
     → IsLine (form_e version) w x text → IsLine (form_e version) w y text → x ≡ y
@@ -279,9 +290,13 @@ lines_same version client manager (line ∷ lines) (line' ∷ lines') text kept 
     let Q : List ℕ → Type 0 = TellsLines version client manager lines' in
     let rest' = subst Q (sym parts.back) told'.4 in
     let here =
-    line_same version client manager line line' told.0 (and_parts (is_kept_line version client manager line) (list_all (is_kept_line version client manager) lines) kept).0 (and_parts (is_kept_line version client manager line') (list_all (is_kept_line version client manager) lines') kept').0 told.3 says' in
+    line_same version client manager line line' told.0
+    (and_parts (is_kept_line version client manager line) (list_all (is_kept_line version client manager) lines) kept).0
+    (and_parts (is_kept_line version client manager line') (list_all (is_kept_line version client manager) lines') kept').0 told.3 says' in
     let more =
-    lines_same version client manager lines lines' told.1 (and_parts (is_kept_line version client manager line) (list_all (is_kept_line version client manager) lines) kept).1 (and_parts (is_kept_line version client manager line') (list_all (is_kept_line version client manager) lines') kept').1 told.4 rest' in
+    lines_same version client manager lines lines' told.1
+    (and_parts (is_kept_line version client manager line) (list_all (is_kept_line version client manager) lines) kept).1
+    (and_parts (is_kept_line version client manager line') (list_all (is_kept_line version client manager) lines') kept').1 told.4 rest' in
     ap (λ (l : Line). l ∷ lines) here ∙ ap (λ (ls : List Line). line' ∷ ls) more
 
 pub one_trace : (text : List ℕ) (version client manager : ℕ) (lines : List Line) (version' client' manager' : ℕ) (lines' : List Line)

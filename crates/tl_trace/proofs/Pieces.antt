@@ -4,7 +4,8 @@ use Rattle.tl_trace.proofs.Names.{IsPieceRead, OutOfMemory, Result, Ok, Err, ◌
 use Rattle.tl_trace.proofs.Names.{length-append, take-append-drop, length-drop, inl, inr, cases_eq, and_from, list_all-append, list_all, list_any}
 use Rattle.tl_trace.proofs.Names.{slice_range, WIDEST, newline, header_text, is_kept_line, Gone, GoesOn, HasGrown, IsScriptOf, TellsScript}
 use Rattle.tl_trace.proofs.Names.{IsHeaderLine, HasLetGo, HasRead, HasReadPast, IsUnfinished, more_gone, is_newline, cut, body, body_fault}
-use Rattle.tl_trace.proofs.Names.{AreBehind, AreNextPushed, PushedLines, later_fault, header_of, faults, HasHeader, IsFirstFault, IsReadableTo, IsPushed, IsReadLine, IsNextPushed}
+use Rattle.tl_trace.proofs.Names.{AreBehind, AreNextPushed, PushedLines, later_fault, header_of, faults, HasHeader, IsFirstFault, IsReadableTo}
+use Rattle.tl_trace.proofs.Names.{IsPushed, IsReadLine, IsNextPushed}
 use Rattle.tl_trace.proofs.Names.{IsSameScript, IsFaultyAt, IsReadableAt, LineAt, TraceKind, Line, LONGEST_LINE, Script, drop_all}
 use Rattle.tl_trace.specs.declared.fault.TraceFault.{TraceFault}
 use Rattle.tl_trace.specs.declared.script.Counts.{Counts}
@@ -33,7 +34,8 @@ begun {C} {M} version text s none line =
       told = record {
         trace = record { known_version = all.0; client_width = all.1; manager_width = all.2; kept = refl };
         rest = [];
-        header = line.whole ∙ ap (λ (b : List ℕ). b ++ newline) (is_header (body text) (header version C M) line.named) ∙ sym (append-nil (header_text version C M ++ newline));
+        header = line.whole ∙ ap (λ (b : List ℕ). b ++ newline) (is_header (body text) (header version C M) line.named) ∙
+            sym (append-nil (header_text version C M ++ newline));
         told = refl;
       };
       script = record { a = none.a; b = none.b; c = none.c; d = none.d; e = none.e };
@@ -53,10 +55,12 @@ read_more {C} {M} version done b gone s s' line beat r read put =
           known_version = r.told.trace.known_version;
           client_width = r.told.trace.client_width;
           manager_width = r.told.trace.manager_width;
-          kept = list_all-append kept_line r.lines (beat ∷ []) ∙ and_from (list_all kept_line r.lines) (kept_line beat && true) r.told.trace.kept (and_from (kept_line beat) true read.kept refl);
+          kept = list_all-append kept_line r.lines (beat ∷ []) ∙ and_from (list_all kept_line r.lines) (kept_line beat && true) r.told.trace.kept
+              (and_from (kept_line beat) true read.kept refl);
         };
         rest = r.told.rest ++ b ++ newline;
-        header = ap (λ (xs : List ℕ). xs ++ b ++ newline) r.told.header ∙ ap (λ (xs : List ℕ). xs ++ newline) (append_assoc (header_text version C M ++ newline) r.told.rest b)
+        header = ap (λ (xs : List ℕ). xs ++ b ++ newline) r.told.header ∙
+            ap (λ (xs : List ℕ). xs ++ newline) (append_assoc (header_text version C M ++ newline) r.told.rest b)
             ∙ append_assoc (header_text version C M ++ newline) (r.told.rest ++ b) newline;
         told = told_more version C M r.lines beat r.told.rest b r.told.told read.says;
       };
@@ -132,12 +136,19 @@ module _ {C M : ℕ} (version : ℕ) (piece : List ℕ) (first : Script C M) (li
   walks s s' at before end beat w l read lt put = record {
     within = omega arith;
     few = omega (arith, w.few, l.from);
-    grown = record { a = longer first.a.items s.a.items s'.a.items _ w.grown.a put.a; b = longer first.b.items s.b.items s'.b.items _ w.grown.b put.b; c = longer first.c.items s.c.items s'.c.items _ w.grown.c put.c; d = longer first.d.items s.d.items s'.d.items _ w.grown.d put.d; e = longer first.e.items s.e.items s'.e.items _ w.grown.e put.e };
+    grown = record {
+      a = longer first.a.items s.a.items s'.a.items _ w.grown.a put.a;
+      b = longer first.b.items s.b.items s'.b.items _ w.grown.b put.b;
+      c = longer first.c.items s.c.items s'.c.items _ w.grown.c put.c;
+      d = longer first.d.items s.d.items s'.d.items _ w.grown.d put.d;
+      e = longer first.e.items s.e.items s'.e.items _ w.grown.e put.e;
+    };
     read = λ done gone r.
         let whole : (done ++ take at piece) ++ slice_range piece at end ++ newline ≡ done ++ take (end + 1) piece =
         ap (λ (xs : List ℕ). xs ++ newline) (append_assoc done (take at piece) (slice_range piece at end))
         ∙ append_assoc done (take at piece ++ slice_range piece at end) newline ∙ ap (λ (xs : List ℕ). done ++ xs) (sym (to_end at end l lt)) in
-        subst (λ text. HasReadPast version text gone s' (before + 1)) whole (read_more version (done ++ take at piece) (slice_range piece at end) gone s s' before beat (w.read done gone r) read put);
+        subst (λ text. HasReadPast version text gone s' (before + 1)) whole
+        (read_more version (done ++ take at piece) (slice_range piece at end) gone s s' before beat (w.read done gone r) read put);
   }
 
   -- a line that the quick reader takes
@@ -158,13 +169,26 @@ module _ {C M : ℕ} (version : ℕ) (piece : List ℕ) (first : Script C M) (li
   waits s s' at before w same = record {
     within = w.within;
     few = w.few;
-    grown = record { a = kept first.a.items s.a.items s'.a.items w.grown.a same.a; b = kept first.b.items s.b.items s'.b.items w.grown.b same.b; c = kept first.c.items s.c.items s'.c.items w.grown.c same.c; d = kept first.d.items s.d.items s'.d.items w.grown.d same.d; e = kept first.e.items s.e.items s'.e.items w.grown.e same.e };
+    grown = record {
+      a = kept first.a.items s.a.items s'.a.items w.grown.a same.a;
+      b = kept first.b.items s.b.items s'.b.items w.grown.b same.b;
+      c = kept first.c.items s.c.items s'.c.items w.grown.c same.c;
+      d = kept first.d.items s.d.items s'.d.items w.grown.d same.d;
+      e = kept first.e.items s.e.items s'.e.items w.grown.e same.e;
+    };
     read = λ done gone r.
         let far = w.read done gone r in
         record {
           lines = far.lines;
           told = far.told;
-          script = record { a = ap (λ q. gone.a ++ q) same.a ∙ far.script.a; b = ap (λ q. gone.b ++ q) same.b ∙ far.script.b; c = ap (λ q. gone.c ++ q) same.c ∙ far.script.c; d = ap (λ q. gone.d ++ q) same.d ∙ far.script.d; e = ap (λ q. gone.e ++ q) same.e ∙ far.script.e };
+          script = record {
+            a = ap (λ q. gone.a ++ q) same.a ∙ far.script.a;
+            b = ap (λ q. gone.b ++ q) same.b ∙ far.script.b;
+            c = ap (λ q. gone.c ++ q) same.c ∙ far.script.c;
+            d = ap (λ q. gone.d ++ q) same.d ∙ far.script.d;
+            e = ap (λ q. gone.e ++ q) same.e ∙
+                far.script.e;
+          };
           place = far.place;
         };
   }
@@ -175,11 +199,13 @@ module _ {C M : ℕ} (version : ℕ) (piece : List ℕ) (first : Script C M) (li
       → Walked version piece first line s' place (before + length ends)
   walks_behind s s' at before place [] w p =
       let none : before ≡ before + 0 = omega arith in
-      subst (λ (n : ℕ). Walked version piece first line s' place n) none (subst (λ (n : ℕ). Walked version piece first line s' n before) (sym p.1) (waits s s' at before w p.0))
+      subst (λ (n : ℕ). Walked version piece first line s' place n) none
+      (subst (λ (n : ℕ). Walked version piece first line s' n before) (sym p.1) (waits s s' at before w p.0))
   walks_behind s s' at before place (end ∷ ends) w p =
       let far = walks_quick p.0 s' p.1 (before + length ends) end (walks_behind s p.0 at before p.1 ends w p.2) p.3 in
       let one : before + length ends + 1 ≡ before + length (end ∷ ends) = omega arith in
-      subst (λ (n : ℕ). Walked version piece first line s' place n) one (subst (λ (n : ℕ). Walked version piece first line s' n (before + length ends + 1)) (sym p.4) far)
+      subst (λ (n : ℕ). Walked version piece first line s' place n) one
+      (subst (λ (n : ℕ). Walked version piece first line s' n (before + length ends + 1)) (sym p.4) far)
 
   pub walks_lines : (s s' : Script C M) (at before : ℕ) (lines : PushedLines) → Walked version piece first line s at before
       → AreNextPushed version piece at s s' lines
@@ -223,7 +249,8 @@ module _ {C M : ℕ} (version : ℕ) (piece : List ℕ) (first : Script C M) (li
       elim (cases_eq end (length piece)) [
         | inl e ↦
             let rest : drop at piece ≡ b = last_line piece at end l e in
-            let enough : LONGEST_LINE ≤ length b = let size : length b ≡ length piece - at = ap length (sym rest) ∙ length-drop at piece in let much = long e in omega arith in
+            let enough : LONGEST_LINE ≤ length b = let size : length b ≡ length piece - at = ap length (sym rest) ∙ length-drop at piece in
+            let much = long e in omega arith in
             unended b free enough rest fault
         | inr ne ↦
             let inside : end < length piece = omega (arith, l.to, ne) in
@@ -254,7 +281,8 @@ module _ {C M : ℕ} (version : ℕ) (piece : List ℕ) (first : Script C M) (li
       let is : later_fault version C M (b ++ newline) ≡ None = later_line version C M b (free_line piece at end l) ∙ read.faultless in
       let place = (w.read done gone r).place in
       readable_to (done ++ piece ++ more) (before + 1) rest (omega arith)
-      (later s at before w done more gone r ∙ ap (λ (ls : List (List ℕ)). replicate before None ++ map (later_fault version C M) ls) (cut_here at end more l lt)
+      (later s at before w done more gone r ∙ ap (λ (ls : List (List ℕ)). replicate before None ++ map (later_fault version C M) ls)
+      (cut_here at end more l lt)
       ∙ ap (λ (o : Option TraceKind). replicate before None ++ o ∷ rest) is ∙ one_more before rest)
 
   -- the same of what a slow reading says of a line
@@ -296,6 +324,14 @@ module _ {C M : ℕ} (version : ℕ) (piece : List ℕ) (first : Script C M) (li
     memory = λ done more gone r is. unstored_at s at before w (readable is) done more gone r;
     stopped = λ done gone r. record { used = at; read = (waits s s' at before w same).read done gone r; next = refl };
   }
+
+  -- the same by the fault that names the line
+  pub named_by : (s' : Script C M) (before : ℕ) (kind : TraceKind) (fault : TraceFault) → fault.line ≡ before + 1 → fault.kind ≡ kind
+      → IsPieceRead version piece first line s' before (Err (record { line = before + 1; kind = kind }))
+      → IsPieceRead version piece first line s' before (Err fault)
+  named_by s' before kind fault place same is =
+      subst (λ (k : TraceKind). IsPieceRead version piece first line s' before (Err (record { line = fault.line; kind = k }))) (sym same)
+      (subst (λ (n : ℕ). IsPieceRead version piece first line s' before (Err (record { line = n; kind = kind }))) (sym place) is)
 
 -- the same in a version that is this one
 pub of_version : {C M : ℕ} {v w : ℕ} {piece : List ℕ} {before after : Script C M} {line last : ℕ} {r : Result ℕ TraceFault} → v ≡ w
@@ -340,7 +376,8 @@ module _ (text : List ℕ) (n : ℕ) (later : List ℕ) (is : later ≡ drop n t
         ∙ ap (λ (xs : List ℕ). take n text ++ xs) (ap (λ (xs : List ℕ). take used later ++ xs) left ∙ take-append-drop used later) ∙ front
 
     pub used_text : rest ≡ [] → take n text ++ take used later ≡ text
-    used_text none = sym (append-nil (take n text ++ take used later)) ∙ ap (λ (xs : List ℕ). take n text ++ take used later ++ xs) (sym none) ∙ parted_text
+    used_text none = sym (append-nil (take n text ++ take used later)) ∙ ap (λ (xs : List ℕ). take n text ++ take used later ++ xs)
+        (sym none) ∙ parted_text
 
 pub tells_script : {C M : ℕ} (version : ℕ) (done text : List ℕ) (s : Script C M) (line : ℕ) → done ≡ text → HasRead version done s line
     → TellsScript version text s

@@ -33,7 +33,8 @@ pushed {C} {M} lines line s s' far put = record {
 grown_past : {X : Type 0} (h : Line → Option X) (lines : List Line) (line : Line) (gone before now : List X) → gone ++ before ≡ filter_map h lines
     → now ≡ before ++ option_to_list (h line) → gone ++ now ≡ filter_map h (lines ++ line ∷ [])
 grown_past {X} h lines line gone before now was is =
-    grown h lines line (gone ++ before) (gone ++ now) was (ap (λ (xs : List X). gone ++ xs) is ∙ sym (append_assoc gone before (option_to_list (h line))))
+    grown h lines line (gone ++ before) (gone ++ now) was (ap (λ (xs : List X). gone ++ xs) is ∙
+    sym (append_assoc gone before (option_to_list (h line))))
 
 pub pushed_past : {C M : ℕ} (lines : List Line) (line : Line) (gone : Gone C M) (s s' : Script C M) → IsRestOf lines gone s → IsPushed line s s'
     → IsRestOf (lines ++ line ∷ []) gone s'

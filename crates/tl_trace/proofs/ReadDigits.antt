@@ -179,7 +179,8 @@ spelt_split ds m a b bad bad' is high low =
     let P : List ℕ → Type 0 = λ xs. IsSpelt xs (a * 2 ^ 64 + b) (bit_or bad bad') in
     let all : slice_range ds m (length ds) ≡ drop m ds = take_all (length ds - m) (drop m ds) (omega (arith, length-drop m ds)) in
     let sixteen : length (slice_range ds m (length ds)) ≡ 16 = ap length all ∙ omega (arith, length-drop m ds) in
-    subst P (ap (λ (xs : List ℕ). take m ds ++ xs) all ∙ take-append-drop m ds) (spelt_both (take m ds) (slice_range ds m (length ds)) a b bad bad' sixteen high low)
+    subst P (ap (λ (xs : List ℕ). take m ds ++ xs) all ∙ take-append-drop m ds)
+    (spelt_both (take m ds) (slice_range ds m (length ds)) a b bad bad' sixteen high low)
 
 -- ---- lanes
 
@@ -197,9 +198,11 @@ pub bytes_set : (lanes : List ℕ) (i v : ℕ) → v < 256 → list_all (λ lane
     → list_all (λ lane. nat_lt lane 256) (set lanes i v) ≡ true
 bytes_set [] i v lt e = refl
 bytes_set (lane ∷ lanes) zero v lt e =
-    and_from (nat_lt v 256) (list_all (λ lane. nat_lt lane 256) lanes) (lt-ltb v 256 lt) (and_parts (nat_lt lane 256) (list_all (λ lane. nat_lt lane 256) lanes) e).1
+    and_from (nat_lt v 256) (list_all (λ lane. nat_lt lane 256) lanes) (lt-ltb v 256 lt)
+    (and_parts (nat_lt lane 256) (list_all (λ lane. nat_lt lane 256) lanes) e).1
 bytes_set (lane ∷ lanes) (suc i) v lt e =
-    and_from (nat_lt lane 256) (list_all (λ lane. nat_lt lane 256) (set lanes i v)) (and_parts (nat_lt lane 256) (list_all (λ lane. nat_lt lane 256) lanes) e).0
+    and_from (nat_lt lane 256) (list_all (λ lane. nat_lt lane 256) (set lanes i v))
+    (and_parts (nat_lt lane 256) (list_all (λ lane. nat_lt lane 256) lanes) e).0
     (bytes_set lanes i v lt (and_parts (nat_lt lane 256) (list_all (λ lane. nat_lt lane 256) lanes) e).1)
 
 pub zero_bytes : (n : ℕ) → list_all (λ lane. nat_lt lane 256) (replicate n 0) ≡ true
@@ -225,14 +228,16 @@ high_parts d v is = pick (nat_lt 15 d) refl is
   where
     pick : (b : Bool) → nat_lt 15 d ≡ b → v ≡ cond b 256 (16 * d) → (v ≤ 256) × (v ≤ 255 → (d ≤ 15) × (v ≡ 16 * d)) × (255 < v → 15 < d)
     pick true e is = (omega (arith, is), λ le. absurd (omega (arith, is, le)), λ lt. ltb-true 15 d e)
-    pick false e is = let few = ltb-false 15 d e in (omega (arith, is, few), λ le. (omega (arith, few), is), λ lt. absurd (omega (arith, is, few, lt)))
+    pick false e is = let few = ltb-false 15 d e in
+        (omega (arith, is, few), λ le. (omega (arith, few), is), λ lt. absurd (omega (arith, is, few, lt)))
 
 low_parts : (d v : ℕ) → v ≡ cond (nat_lt 15 d) 256 d → (v ≤ 256) × (v ≤ 255 → (d ≤ 15) × (v ≡ d)) × (255 < v → 15 < d)
 low_parts d v is = pick (nat_lt 15 d) refl is
   where
     pick : (b : Bool) → nat_lt 15 d ≡ b → v ≡ cond b 256 d → (v ≤ 256) × (v ≤ 255 → (d ≤ 15) × (v ≡ d)) × (255 < v → 15 < d)
     pick true e is = (omega (arith, is), λ le. absurd (omega (arith, is, le)), λ lt. ltb-true 15 d e)
-    pick false e is = let few = ltb-false 15 d e in (omega (arith, is, few), λ le. (omega (arith, few), is), λ lt. absurd (omega (arith, is, few, lt)))
+    pick false e is = let few = ltb-false 15 d e in
+        (omega (arith, is, few), λ le. (omega (arith, few), is), λ lt. absurd (omega (arith, is, few, lt)))
 
 pub pair_fits : (h l high low : ℕ) → high ≡ cond (nat_lt 15 h) 256 (16 * h) → low ≡ cond (nat_lt 15 l) 256 l → high + low ≤ 512
 pair_fits h l high low high_is low_is = let x = (high_parts h high high_is).0 in let y = (low_parts l low low_is).0 in omega arith
@@ -330,7 +335,12 @@ lanes_start text lanes n at w all dark =
     let parts = lanes_parts n lanes all in
     let whole : w - 0 ≡ w = omega arith in
     let none : number_of_lanes (drop (w - 0) lanes) ≡ 0 = ap (λ (k : ℕ). number_of_lanes (drop k lanes)) whole ∙ zero_lanes lanes w dark in
-    record { long = parts.0; bytes = parts.1; laid = λ le. record { small = omega (arith, none); good = refl; value = none }; spoilt = λ lt. absurd (omega (arith, lt)) }
+    record {
+      long = parts.0;
+      bytes = parts.1;
+      laid = λ le. record { small = omega (arith, none); good = refl; value = none };
+      spoilt = λ lt. absurd (omega (arith, lt));
+    }
 
 laid_more : (ds lanes : List ℕ) (w i high low : ℕ) → i < w → w ≤ length lanes → length ds ≡ 2 * w → Laid ds lanes w i
     → high ≡ digit_of (get_or ds (2 * i) 0) → high ≤ 15 → low ≡ digit_of (get_or ds (2 * i + 1) 0) → low ≤ 15
@@ -347,7 +357,8 @@ laid_more ds lanes w i high low lt wide long far h h_le l l_le =
     record {
       small =
           let most : 256 ^ suc i ≡ 256 ^ i * 256 = pow-suc 256 i in
-          let same : number_of_lanes (drop (w - (i + 1)) (set lanes (w - 1 - i) (high * 16 + low))) ≡ (high * 16 + low) + 256 * number_of_lanes (drop (w - i) lanes) =
+          let same : number_of_lanes (drop (w - (i + 1)) (set lanes (w - 1 - i) (high * 16 + low))) ≡ (high * 16 + low) + 256 * number_of_lanes
+          (drop (w - i) lanes) =
           ap (λ (k : ℕ). number_of_lanes (drop k (set lanes (w - 1 - i) (high * 16 + low)))) place ∙ ap number_of_lanes is in
           rw (same, add-one i, most) (omega (arith, far.small));
       good = ap (λ (k : ℕ). list_all is_hex (take k ds)) twice ∙ two.0;
@@ -357,8 +368,10 @@ laid_more ds lanes w i high low lt wide long far h h_le l l_le =
 
 pub lanes_more : (text lanes : List ℕ) (n at w i pairs pair : ℕ) → i < w → w ≤ n → length (slice_range text (at + 1) (at + 1 + 2 * w)) ≡ 2 * w
     → Lanes text lanes n at w i pairs
-    → (pair ≤ 255 → IsPair (get_or (slice_range text (at + 1) (at + 1 + 2 * w)) (2 * i) 0) (get_or (slice_range text (at + 1) (at + 1 + 2 * w)) (2 * i + 1) 0) pair)
-    → (255 < pair → digit_of (get_or (slice_range text (at + 1) (at + 1 + 2 * w)) (2 * i) 0) ≤ 15 → 15 < digit_of (get_or (slice_range text (at + 1) (at + 1 + 2 * w)) (2 * i + 1) 0))
+    → (pair ≤ 255 → IsPair (get_or (slice_range text (at + 1) (at + 1 + 2 * w)) (2 * i) 0)
+    (get_or (slice_range text (at + 1) (at + 1 + 2 * w)) (2 * i + 1) 0) pair)
+    → (255 < pair → digit_of (get_or (slice_range text (at + 1) (at + 1 + 2 * w)) (2 * i) 0) ≤ 15 →
+    15 < digit_of (get_or (slice_range text (at + 1) (at + 1 + 2 * w)) (2 * i + 1) 0))
     → Lanes text (set lanes (w - 1 - i) (pair % 256)) n at w (i + 1) (bit_or pairs pair)
 lanes_more text lanes n at w i pairs pair lt most long far good bad =
     let ds = slice_range text (at + 1) (at + 1 + 2 * w) in
@@ -372,7 +385,8 @@ lanes_more text lanes n at w i pairs pair lt most long far good bad =
           let low = digit_of (get_or ds (2 * i + 1) 0) in
           let same : pair % 256 ≡ high * 16 + low = omega (arith, p.is, small) in
           let P : ℕ → Type 0 = λ v. Laid ds (set lanes (w - 1 - i) v) w (i + 1) in
-          subst P (sym same) (laid_more ds lanes w i high low lt (omega (arith, far.long)) long (far.laid (left_good pairs pair le)) refl p.high refl p.low);
+          subst P (sym same) (laid_more ds lanes w i high low lt (omega (arith, far.long)) long (far.laid (left_good pairs pair le)) refl p.high
+          refl p.low);
       spoilt = λ big. bad_pairs pairs pair big far.spoilt (unspelt_pair ds i pair (omega (arith, long)) bad);
     }
 

@@ -13,7 +13,12 @@ fault_a version client manager text kind letter fault = rw letter fault
 
 pub read_as_a : (version client manager : ℕ) (text : List ℕ) (b : BeatOf HeadA WIDEST) → IsRead (form_a version) client text b
     → IsReadLine version client manager text (A b)
-read_as_a version client manager text b r = record { says = r.line; kept = r.kept; faultless = rw r.line.letter (faultless (form_a version) client b text r.line (kept_parts (form_a version) client b r.kept).1) }
+read_as_a version client manager text b r =
+    record {
+      says = r.line;
+      kept = r.kept;
+      faultless = rw r.line.letter (faultless (form_a version) client b text r.line (kept_parts (form_a version) client b r.kept).1);
+    }
 
 pub fault_b : (version client manager : ℕ) (text : List ℕ) (kind : TraceKind) → slice_index text 0 ≡ 66
     → form_fault (form_b version) manager text ≡ Some kind → body_fault version client manager text ≡ Some kind
@@ -21,7 +26,12 @@ fault_b version client manager text kind letter fault = rw letter fault
 
 pub read_as_b : (version client manager : ℕ) (text : List ℕ) (b : BeatOf HeadB WIDEST) → IsRead (form_b version) manager text b
     → IsReadLine version client manager text (B b)
-read_as_b version client manager text b r = record { says = r.line; kept = r.kept; faultless = rw r.line.letter (faultless (form_b version) manager b text r.line (kept_parts (form_b version) manager b r.kept).1) }
+read_as_b version client manager text b r =
+    record {
+      says = r.line;
+      kept = r.kept;
+      faultless = rw r.line.letter (faultless (form_b version) manager b text r.line (kept_parts (form_b version) manager b r.kept).1);
+    }
 
 pub fault_c : (version client manager : ℕ) (text : List ℕ) (kind : TraceKind) → slice_index text 0 ≡ 67
     → form_fault (form_c version) client text ≡ Some kind → body_fault version client manager text ≡ Some kind
@@ -29,7 +39,12 @@ fault_c version client manager text kind letter fault = rw letter fault
 
 pub read_as_c : (version client manager : ℕ) (text : List ℕ) (b : BeatOf HeadC WIDEST) → IsRead (form_c version) client text b
     → IsReadLine version client manager text (C b)
-read_as_c version client manager text b r = record { says = r.line; kept = r.kept; faultless = rw r.line.letter (faultless (form_c version) client b text r.line (kept_parts (form_c version) client b r.kept).1) }
+read_as_c version client manager text b r =
+    record {
+      says = r.line;
+      kept = r.kept;
+      faultless = rw r.line.letter (faultless (form_c version) client b text r.line (kept_parts (form_c version) client b r.kept).1);
+    }
 
 pub fault_d : (version client manager : ℕ) (text : List ℕ) (kind : TraceKind) → slice_index text 0 ≡ 68
     → form_fault (form_d version) manager text ≡ Some kind → body_fault version client manager text ≡ Some kind
@@ -37,7 +52,12 @@ fault_d version client manager text kind letter fault = rw letter fault
 
 pub read_as_d : (version client manager : ℕ) (text : List ℕ) (b : BeatOf HeadD WIDEST) → IsRead (form_d version) manager text b
     → IsReadLine version client manager text (D b)
-read_as_d version client manager text b r = record { says = r.line; kept = r.kept; faultless = rw r.line.letter (faultless (form_d version) manager b text r.line (kept_parts (form_d version) manager b r.kept).1) }
+read_as_d version client manager text b r =
+    record {
+      says = r.line;
+      kept = r.kept;
+      faultless = rw r.line.letter (faultless (form_d version) manager b text r.line (kept_parts (form_d version) manager b r.kept).1);
+    }
 
 pub fault_e : (version client manager : ℕ) (text : List ℕ) (kind : TraceKind) → slice_index text 0 ≡ 69
     → form_fault (form_e version) client text ≡ Some kind → body_fault version client manager text ≡ Some kind
@@ -45,7 +65,12 @@ fault_e version client manager text kind letter fault = rw letter fault
 
 pub read_as_e : (version client manager : ℕ) (text : List ℕ) (b : BeatOf HeadE WIDEST) → IsRead (form_e version) client text b
     → IsReadLine version client manager text (E b)
-read_as_e version client manager text b r = record { says = r.line; kept = r.kept; faultless = rw r.line.letter (faultless (form_e version) client b text r.line (kept_parts (form_e version) client b r.kept).1) }
+read_as_e version client manager text b r =
+    record {
+      says = r.line;
+      kept = r.kept;
+      faultless = rw r.line.letter (faultless (form_e version) client b text r.line (kept_parts (form_e version) client b r.kept).1);
+    }
 
 -- ---- cutting
 
@@ -101,7 +126,13 @@ free_take (suc n) (byte ∷ bytes) h =
 
 pub first_fault : (text : List ℕ) (before : ℕ) (kind : TraceKind) (more : List (Option TraceKind))
     → faults text ≡ replicate before None ++ Some kind ∷ more → IsFirstFault text (before + 1) kind
-first_fault text before kind more e = record { before = before; place = refl; here = ap (λ (xs : List (Option TraceKind)). slice_get xs before) e ∙ get_after before; none_before = ap (λ (xs : List (Option TraceKind)). list_all is_none (take before xs)) e ∙ none_to before }
+first_fault text before kind more e = record {
+  before = before;
+  place = refl;
+  here = ap (λ (xs : List (Option TraceKind)). slice_get xs before) e ∙
+      get_after before;
+  none_before = ap (λ (xs : List (Option TraceKind)). list_all is_none (take before xs)) e ∙ none_to before;
+}
   where
     get_after : (n : ℕ) → slice_get (replicate n None ++ Some kind ∷ more) n ≡ Some (Some kind)
     get_after zero = refl
@@ -141,8 +172,13 @@ told_more version client manager [] line text body told says =
     (body, [], ap (λ (xs : List ℕ). xs ++ body ++ newline) told ∙ sym (append-nil (body ++ newline)), says, refl)
 told_more version client manager (first ∷ lines) line text body told says =
     let front = told.0 in
-    let rest = told.1 in
-    (front, rest ++ body ++ newline, ap (λ (xs : List ℕ). xs ++ body ++ newline) told.2 ∙ simp append_assoc, told.3, told_more version client manager lines line rest body told.4 says)
+    let rest = told.1 in (
+      front,
+      rest ++ body ++ newline,
+      ap (λ (xs : List ℕ). xs ++ body ++ newline) told.2 ∙ simp append_assoc,
+      told.3,
+      told_more version client manager lines line rest body told.4 says,
+    )
 
 -- what the walk has read of a text
 pub record SoFar (text : List ℕ) (start version client manager : ℕ) (lines : List Line) (at before : ℕ) : Type 0 where

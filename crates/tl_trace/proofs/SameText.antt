@@ -8,7 +8,8 @@ use Rattle.tl_trace.proofs.ReadDigits.{range_long}
 take_bytes : (xs : List ℕ) (n : ℕ) → ((k : ℕ) → get_or xs k 0 < 256) → (k : ℕ) → get_or (take n xs) k 0 < 256
 take_bytes xs n bytes k = elim (cases_lt k n) [
   | inl less ↦ rw (get_or-take n xs k 0 less) (bytes k)
-  | inr past ↦ let none : get_or (take n xs) k 0 ≡ 0 = get_or-eq_default (take n xs) 0 {n = k} (omega (arith, length-take n xs)) in omega (arith, none)
+  | inr past ↦ let none : get_or (take n xs) k 0 ≡ 0 = get_or-eq_default (take n xs) 0 {n = k} (omega (arith, length-take n xs)) in
+      omega (arith, none)
 ]
 
 one_item : (xs : List ℕ) (n at next : ℕ) → next ≡ at + 1 → at < length xs → take (suc n) (drop at xs) ≡ get_or xs at 0 ∷ take n (drop next xs)
@@ -16,7 +17,8 @@ one_item xs n at next is less =
     ap (take (suc n)) (drop-cons xs at 0 less) ∙ ap (λ k. get_or xs at 0 ∷ take n (drop k xs)) (let more : suc at ≡ next = omega (arith, is) in more)
 
 pub eight_items : (xs : List ℕ) (at : ℕ) → at + 8 ≤ length xs
-    → slice_range xs at (at + 8) ≡ get_or xs at 0 ∷ get_or xs (at + 1) 0 ∷ get_or xs (at + 2) 0 ∷ get_or xs (at + 3) 0 ∷ get_or xs (at + 4) 0 ∷ get_or xs (at + 5) 0 ∷ get_or xs (at + 6) 0 ∷ get_or xs (at + 7) 0 ∷ []
+    → slice_range xs at (at + 8) ≡ get_or xs at 0 ∷ get_or xs (at + 1) 0 ∷ get_or xs (at + 2) 0 ∷ get_or xs (at + 3) 0 ∷ get_or xs (at + 4) 0 ∷
+    get_or xs (at + 5) 0 ∷ get_or xs (at + 6) 0 ∷ get_or xs (at + 7) 0 ∷ []
 eight_items xs at room =
     let n : at + 8 - at ≡ 8 = omega arith in
     ap (λ k. take k (drop at xs)) n
@@ -35,7 +37,8 @@ eight_items xs at room =
 pub word_bytes : (text : List ℕ) (at n : ℕ) → at + 8 ≤ length text → ((k : ℕ) → get_or text k 0 < 256)
     → n ≡ from_le_bytes w64 (slice_range text at (at + 8)) → to_le_bytes w64 n ≡ slice_range text at (at + 8)
 word_bytes text at n room bytes is =
-    le_bytes_8 (slice_range text at (at + 8)) n (range_long text at 8 room) (take_bytes (drop at text) (at + 8 - at) (λ k. rw (get_or-drop at text k 0) (bytes (at + k)))) is
+    le_bytes_8 (slice_range text at (at + 8)) n (range_long text at 8 room)
+    (take_bytes (drop at text) (at + 8 - at) (λ k. rw (get_or-drop at text k 0) (bytes (at + k)))) is
 
 eight : (xs ys : List ℕ) (at : ℕ) → slice_range xs at (at + 8) ≡ slice_range ys at (at + 8) → take 8 (drop at xs) ≡ take 8 (drop at ys)
 eight xs ys at same =

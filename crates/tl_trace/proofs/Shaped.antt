@@ -107,7 +107,8 @@ made {H} f {n} w b text vs letter long read same range lanes plain =
     let r = reads text (places f w) vs read in
     record {
       line = record { letter = letter; long = long; shaped = r.shaped; says = r.values ∙ sym same };
-      kept = and_from (is_lanes n b.lanes) (is_writable f w b && is_plain f b) lanes (and_from (is_writable f w b) (is_plain f b) (beat_below f w b (fields f) vs same ∙ range) plain);
+      kept = and_from (is_lanes n b.lanes) (is_writable f w b && is_plain f b) lanes
+          (and_from (is_writable f w b) (is_plain f b) (beat_below f w b (fields f) vs same ∙ range) plain);
     }
 
 pub wrong_length : {H : Type 0} (f : Form H) (w : ℕ) (text : List ℕ) → length text ≢ line_length f w → form_fault f w text ≡ Some Length

@@ -74,14 +74,16 @@ as_spelled text at w value (field ∷ more) shaped le says =
     let here = head_of (value_at text p) (value field) (map (value_at text) rest) (map value more) says in
     let there = tail_of (value_at text p) (value field) (map (value_at text) rest) (map value more) says in
     let digits =
-    (and_parts (nat_eq (slice_index text at) 32) (list_all is_hex (digits_at text p)) (and_parts (is_shaped_at text p) (list_all (is_shaped_at text) rest) shaped).0).1 in
+    (and_parts (nat_eq (slice_index text at) 32) (list_all is_hex (digits_at text p))
+    (and_parts (is_shaped_at text p) (list_all (is_shaped_at text) rest) shaped).0).1 in
     let count : (at + 1 + digit_count w field) - (at + 1) ≡ digit_count w field = omega arith in
     let long : length (digits_at text p) ≡ digit_count w field =
     length-take-le ((at + 1 + digit_count w field) - (at + 1)) (drop (at + 1) text) (omega (arith, length-drop (at + 1) text)) ∙ count in
     let same : digits_at text p ≡ hex (digit_count w field) (value field) =
     sym (hex_back (digit_count w field) (digits_at text p) long digits) ∙ ap (λ (n : ℕ). hex (digit_count w field) n) here in
     ap (λ (ds : List ℕ). (32 ∷ ds) ++ flat_map (stands text) rest) same
-    ∙ ap (λ (xs : List ℕ). spelled w value field ++ xs) (as_spelled text next w value more (and_parts (is_shaped_at text p) (list_all (is_shaped_at text) rest) shaped).1 (omega arith) there)
+    ∙ ap (λ (xs : List ℕ). spelled w value field ++ xs)
+    (as_spelled text next w value more (and_parts (is_shaped_at text p) (list_all (is_shaped_at text) rest) shaped).1 (omega arith) there)
 
 pub only_line : {H : Type 0} (f : Form H) {n : ℕ} (w : ℕ) (b : BeatOf H n) (text : List ℕ) → IsLine f w b text → text ≡ line_text f w b
 only_line f w b text line =
@@ -135,13 +137,18 @@ placed text before at w value fits (field ∷ more) e long small wide =
     let further : length (before ++ spelled w value field) ≡ next =
     length-append before (spelled w value field) ∙ omega (arith, length-hex count (value field)) in
     let here =
-    ltb-true (value field) (fits field) (and_parts (nat_lt (value field) (fits field)) (list_all (λ field. nat_lt (value field) (fits field)) more) small).0 in
+    ltb-true (value field) (fits field)
+    (and_parts (nat_lt (value field) (fits field)) (list_all (λ field. nat_lt (value field) (fits field)) more) small).0 in
     let below : value field < 16 ^ count = omega (arith, wide field) in
     let after =
-    placed text (before ++ spelled w value field) next w value fits more whole further (and_parts (nat_lt (value field) (fits field)) (list_all (λ field. nat_lt (value field) (fits field)) more) small).1 wide in
+    placed text (before ++ spelled w value field) next w value fits more whole further
+    (and_parts (nat_lt (value field) (fits field)) (list_all (λ field. nat_lt (value field) (fits field)) more) small).1 wide in
     record {
-      shaped = and_from (is_shaped_at text p) (list_all (is_shaped_at text) (places_from next w more)) (and_from (nat_eq (slice_index text at) 32) (list_all is_hex (digits_at text p)) (eq-eqb (slice_index text at) 32 space) (ap (list_all is_hex) same ∙ hex_all count (value field))) after.shaped;
-      says = ap (λ (n : ℕ). n ∷ map (value_at text) (places_from next w more)) (ap (digits_value 16) same ∙ hex_value count (value field) below) ∙ ap (λ (ns : List ℕ). value field ∷ ns) after.says;
+      shaped = and_from (is_shaped_at text p) (list_all (is_shaped_at text) (places_from next w more))
+          (and_from (nat_eq (slice_index text at) 32) (list_all is_hex (digits_at text p)) (eq-eqb (slice_index text at) 32 space)
+          (ap (list_all is_hex) same ∙ hex_all count (value field))) after.shaped;
+      says = ap (λ (n : ℕ). n ∷ map (value_at text) (places_from next w more)) (ap (digits_value 16) same ∙ hex_value count (value field) below) ∙
+          ap (λ (ns : List ℕ). value field ∷ ns) after.says;
     }
 
 -- the values of a field can be spelled by its digits

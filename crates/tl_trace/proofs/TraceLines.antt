@@ -11,7 +11,10 @@ module _ (version client manager : ℕ) (lines : List Line) where
   pub written_none : (header before behind out : List ℕ) → header ≡ header_text version client manager → before ≡ [] → behind ≡ before ++ header
       → out ≡ behind ++ 10 ∷ [] → IsWritten out 0
   written_none header before behind out is none first last =
-      record { text = last ∙ ap (λ (xs : List ℕ). xs ++ newline) (first ∙ ap (λ (xs : List ℕ). xs ++ header) none ∙ is) ∙ sym (append-nil (header_text version client manager ++ newline)) }
+      record {
+        text = last ∙ ap (λ (xs : List ℕ). xs ++ newline) (first ∙ ap (λ (xs : List ℕ). xs ++ header) none ∙ is) ∙
+            sym (append-nil (header_text version client manager ++ newline));
+      }
 
   pub written_more : (xs : List Line) (i : ℕ) (d : Line) (line out new : List ℕ) → i < length xs → xs ≡ lines →
       line ≡ text_of_line version client manager (get_or xs i d) ++ newline → new ≡ out ++ line → IsWritten out i → IsWritten new (i + 1)

@@ -7,7 +7,8 @@ use Rattle.tl_trace.proofs.Names.{form_b, form_c, form_d, form_e, line_length, i
 use Rattle.tl_trace.proofs.Names.{form_fault, body_fault, later_fault, header_of, faults_after, faults_of_lines, faults, IsFirstFault, IsReadableTo}
 use Rattle.tl_trace.proofs.Names.{LineAt, IsReadLine, Line, TraceKind, OutOfMemory, Channel, Length, Shape, Range, NoEnd, Header}
 use Rattle.tl_trace.specs.declared.fault.TraceKind.TheVariants as kinds
-use Rattle.tl_trace.proofs.ReadLines.{IsFree, SoFar, cut_line, cut_last, body_line, body_last, ended, unended, free_take, first_fault, readable_to, one_more, told_more}
+use Rattle.tl_trace.proofs.ReadLines.{IsFree, SoFar, cut_line, cut_last, body_line, body_last, ended, unended, free_take, first_fault, readable_to}
+use Rattle.tl_trace.proofs.ReadLines.{one_more, told_more}
 use Rattle.tl_trace.proofs.Headers.{no_empty_header}
 
 -- not for want of memory
@@ -40,8 +41,10 @@ pub no_memory : (version client manager : ℕ) (text : List ℕ) → NoMemory (b
 no_memory version client manager text =
     let letter = slice_index text 0 in
     five_no_memory (letter == 65) (letter == 66) (letter == 67) (letter == 68) (letter == 69)
-    (form_fault (form_a version) client text) (form_fault (form_b version) manager text) (form_fault (form_c version) client text) (form_fault (form_d version) manager text) (form_fault (form_e version) client text)
-    (form_no_memory (form_a version) client text) (form_no_memory (form_b version) manager text) (form_no_memory (form_c version) client text) (form_no_memory (form_d version) manager text) (form_no_memory (form_e version) client text)
+    (form_fault (form_a version) client text) (form_fault (form_b version) manager text) (form_fault (form_c version) client text)
+    (form_fault (form_d version) manager text) (form_fault (form_e version) client text)
+    (form_no_memory (form_a version) client text) (form_no_memory (form_b version) manager text) (form_no_memory (form_c version) client text)
+    (form_no_memory (form_d version) manager text) (form_no_memory (form_e version) client text)
 
 pub free_line : (text : List ℕ) (at end : ℕ) → LineAt text at end → IsFree (slice_range text at end)
 free_line text at end line = free_take (end - at) (drop at text) (λ k lt e. line.free k (omega arith) (sym (get_or-drop at text k 0) ∙ e))
@@ -50,7 +53,8 @@ pub split_line : (text : List ℕ) (at end : ℕ) → LineAt text at end → end
     → drop at text ≡ slice_range text at end ++ newline ++ drop (end + 1) text
 split_line text at end line lt =
     drop_split text at end line.from
-    ∙ ap (λ (xs : List ℕ). slice_range text at end ++ xs) (drop-cons text end 0 lt ∙ ap (λ (x : ℕ). x ∷ drop (suc end) text) (line.stop lt) ∙ ap (λ (n : ℕ). 10 ∷ drop n text) (sym (add-one end)))
+    ∙ ap (λ (xs : List ℕ). slice_range text at end ++ xs) (drop-cons text end 0 lt ∙ ap (λ (x : ℕ). x ∷ drop (suc end) text) (line.stop lt) ∙
+    ap (λ (n : ℕ). 10 ∷ drop n text) (sym (add-one end)))
     ∙ sym (append_assoc (slice_range text at end) newline (drop (end + 1) text))
 
 pub last_line : (text : List ℕ) (at end : ℕ) → LineAt text at end → end ≡ length text → drop at text ≡ slice_range text at end
@@ -101,12 +105,16 @@ refused text start version client manager lines at before end kind far line lt f
       | inl e ↦
           let is : later_fault version client manager b ≡ Some kind =
           later_last version client manager b free ∙ ap (λ (o : Option TraceKind). o or_else Some NoEnd) fault in
-          first_fault text before kind [] (far.faultless ∙ ap (λ (xs : List (List ℕ)). replicate before None ++ map (later_fault version client manager) xs) (cut_there text at end line lt e)
+          first_fault text before kind []
+          (far.faultless ∙ ap (λ (xs : List (List ℕ)). replicate before None ++ map (later_fault version client manager) xs)
+          (cut_there text at end line lt e)
           ∙ ap (λ (o : Option TraceKind). replicate before None ++ o ∷ []) is)
       | inr ne ↦
           let is : later_fault version client manager (b ++ newline) ≡ Some kind = later_line version client manager b free ∙ fault in
           let more = map (later_fault version client manager) (cut (drop (end + 1) text)) in
-          first_fault text before kind more (far.faultless ∙ ap (λ (xs : List (List ℕ)). replicate before None ++ map (later_fault version client manager) xs) (cut_here text at end line (omega (arith, line.to, ne)))
+          first_fault text before kind more
+          (far.faultless ∙ ap (λ (xs : List (List ℕ)). replicate before None ++ map (later_fault version client manager) xs)
+          (cut_here text at end line (omega (arith, line.to, ne)))
           ∙ ap (λ (o : Option TraceKind). replicate before None ++ o ∷ more) is)
     ]
 
@@ -117,7 +125,9 @@ no_end text start version client manager lines at before end beat far line lt re
     let b = slice_range text at end in
     let is : later_fault version client manager b ≡ Some NoEnd =
     later_last version client manager b (free_line text at end line) ∙ ap (λ (o : Option TraceKind). o or_else Some NoEnd) read.faultless in
-    first_fault text before NoEnd [] (far.faultless ∙ ap (λ (xs : List (List ℕ)). replicate before None ++ map (later_fault version client manager) xs) (cut_there text at end line lt e)
+    first_fault text before NoEnd []
+    (far.faultless ∙ ap (λ (xs : List (List ℕ)). replicate before None ++ map (later_fault version client manager) xs)
+    (cut_there text at end line lt e)
     ∙ ap (λ (o : Option TraceKind). replicate before None ++ o ∷ []) is)
 
 -- one more line has no fault
@@ -159,7 +169,8 @@ line_more text start at end begun line lt =
     let b = slice_range text at end in
     let stop : slice_range text end (end + 1) ≡ newline = one_byte text end lt ∙ ap (λ (x : ℕ). x ∷ []) (line.stop lt) in
     range_split text start at (end + 1) begun (omega (arith, line.from))
-    ∙ ap (λ (ys : List ℕ). slice_range text start at ++ ys) (range_split text at end (end + 1) line.from (omega arith) ∙ ap (λ (ys : List ℕ). b ++ ys) stop)
+    ∙ ap (λ (ys : List ℕ). slice_range text start at ++ ys) (range_split text at end (end + 1) line.from (omega arith) ∙
+    ap (λ (ys : List ℕ). b ++ ys) stop)
     ∙ sym (append_assoc (slice_range text start at) b newline)
 
 pub advance : (text : List ℕ) (start version client manager : ℕ) (lines : List Line) (at before end : ℕ) (beat : Line)
@@ -177,7 +188,8 @@ advance text start version client manager lines at before end beat far line read
       few = omega (arith, far.few, line.from);
       one = omega arith;
       told = subst P (sym whole) told;
-      kept = list_all-append (is_kept_line version client manager) lines (beat ∷ []) ∙ and_from (list_all (is_kept_line version client manager) lines) (is_kept_line version client manager beat && true) far.kept (and_from (is_kept_line version client manager beat) true read.kept refl);
+      kept = list_all-append (is_kept_line version client manager) lines (beat ∷ []) ∙ and_from (list_all (is_kept_line version client manager) lines)
+          (is_kept_line version client manager beat && true) far.kept (and_from (is_kept_line version client manager beat) true read.kept refl);
       faultless = more_faultless text start version client manager lines at before end beat far line read lt;
     }
 
@@ -213,7 +225,8 @@ pub no_header_end : (text : List ℕ) (end : ℕ) (h : Header) → LineAt text 0
 no_header_end text end h line some e =
     let b = slice_range text 0 end in
     let free = free_line text 0 end line in
-    first_fault text 0 NoEnd [] (ap faults_of_lines (header_last text end line e (header_some text end h some)) ∙ ap (λ (o : Option Header). faults_after o b []) (ap header_of (body_last b free) ∙ some)
+    first_fault text 0 NoEnd [] (ap faults_of_lines (header_last text end line e (header_some text end h some)) ∙
+    ap (λ (o : Option Header). faults_after o b []) (ap header_of (body_last b free) ∙ some)
     ∙ ap (λ (o : Option TraceKind). o ∷ []) (unended b free))
 
 pub header_faults : (text : List ℕ) (end : ℕ) (h : Header) → LineAt text 0 end → header_of (slice_range text 0 end) ≡ Some h → end < length text

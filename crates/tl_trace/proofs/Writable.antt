@@ -27,7 +27,8 @@ of_kind : (kind : Kind) (limit p z : ℕ) (aligned : Bool) → nat_le (params ki
 of_kind kind limit p z aligned few e =
     let rest = second_none (unless (nat_lt p (params kind)) Param) (unless (nat_le z 12) Size or_else unless aligned Unaligned) e in
     let param =
-    unless_none (nat_lt p (params kind)) Param (first_none (unless (nat_lt p (params kind)) Param) (unless (nat_le z 12) Size or_else unless aligned Unaligned) e) in
+    unless_none (nat_lt p (params kind)) Param
+    (first_none (unless (nat_lt p (params kind)) Param) (unless (nat_le z 12) Size or_else unless aligned Unaligned) e) in
     let size = unless_none (nat_le z 12) Size (first_none (unless (nat_le z 12) Size) (unless aligned Unaligned) rest) in
     let lt = ltb-true p (params kind) param in
     let le = leb-true (params kind) limit few in
@@ -64,7 +65,8 @@ data_small w lanes long bytes = let P : ℕ → Type 0 = λ k. number_of_lanes l
   where
     each : (lanes : List ℕ) → All (λ byte. byte < 256) lanes → list_all (λ lane. nat_lt lane 256) lanes ≡ true
     each [] bytes = refl
-    each (lane ∷ lanes) bytes = let here : lane < 256 = bytes zero 0 (omega arith) in rw (lt-ltb lane 256 here) (each lanes (λ i d lt. bytes (suc i) d (omega arith)))
+    each (lane ∷ lanes) bytes = let here : lane < 256 = bytes zero 0 (omega arith) in
+        rw (lt-ltb lane 256 here) (each lanes (λ i d lt. bytes (suc i) d (omega arith)))
 
 -- ---- each channel
 
@@ -122,7 +124,8 @@ lawful_d version w b held ids lawful =
     let id : nat_lt b.head.source (16 ^ id_digits version) ≡ true =
     (and_parts (nat_lt b.head.source (16 ^ id_digits version)) (nat_lt b.head.sink (16 ^ id_digits version) && true) ids).0 in
     let id' : nat_lt b.head.sink (16 ^ id_digits version) ≡ true =
-    (and_parts (nat_lt b.head.sink (16 ^ id_digits version)) true (and_parts (nat_lt b.head.source (16 ^ id_digits version)) (nat_lt b.head.sink (16 ^ id_digits version) && true) ids).1).0 in
+    (and_parts (nat_lt b.head.sink (16 ^ id_digits version)) true
+    (and_parts (nat_lt b.head.source (16 ^ id_digits version)) (nat_lt b.head.sink (16 ^ id_digits version) && true) ids).1).0 in
     rw (
       lt-ltb b.head.opcode 8 l.opcode,
       lt-ltb b.head.param 4 l.param,

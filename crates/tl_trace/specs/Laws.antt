@@ -14,7 +14,8 @@ use Rattle.tl_trace.specs.declared.line.Line.{Line}
 -- no text tells two traces
 abbrev pub OneTrace : Type 0
 OneTrace = (text : List ℕ) (version client manager : ℕ) (lines : List Line) (version' client' manager' : ℕ) (lines' : List Line) →
-    Tells text version client manager lines → Tells text version' client' manager' lines' → (version ≡ version') × (client ≡ client') × (manager ≡ manager') × (lines ≡ lines')
+    Tells text version client manager lines → Tells text version' client' manager' lines' → (version ≡ version') × (client ≡ client') ×
+    (manager ≡ manager') × (lines ≡ lines')
 
 -- each trace has exactly one text
 abbrev pub OneText : Type 0

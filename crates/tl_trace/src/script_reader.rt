@@ -194,6 +194,16 @@ pub struct ScriptReader<const C: usize, const M: usize> {
     pub line: u64,
 }
 
+/// The fault of the line behind the one with this number.
+fn fault_behind(last: u64, kind: TraceKind) -> TraceFault
+    requires { last + 1 < 2 ^ 64 }
+    ensures line { result.line ≡ last + 1 }
+    ensures kind { result.kind ≡ kind }
+{
+    let line = last + 1;
+    TraceFault { line, kind }
+}
+
 /// Reads the whole lines of a piece of the text in a known version, as `ScriptReader::read` does.
 fn read_beats<const C: usize, const M: usize, const VERSION: u8>(
     reader: &mut ScriptReader<C, M>,
@@ -226,10 +236,7 @@ fn read_beats<const C: usize, const M: usize, const VERSION: u8>(
                 reader.line += 1;
             }
             Ok(None) => return Ok(at),
-            Err(kind) => {
-                let line = reader.line + 1;
-                return Err(TraceFault { line, kind });
-            }
+            Err(kind) => return Err(fault_behind(reader.line, kind)),
         }
     }
     Ok(at)

@@ -211,7 +211,6 @@ pub fn write_far<K: HeadText, const W: usize>(
 }
 
 /// Appends a word, the number of near beats, and that of far beats.
-#[tactic(auto, using(crate::proofs::Decimals::length_decimal))]
 fn put_counts(text: &mut Text, word: &[u8], near: u64, far: u64)
     requires { array_vec_len text.old + length word.now ≤ 100 }
     ensures items { text.new.items ≡
@@ -225,7 +224,6 @@ fn put_counts(text: &mut Text, word: &[u8], near: u64, far: u64)
 }
 
 /// Appends a word, the number of near beats, and the name of a fault.
-#[tactic(auto, using(crate::proofs::Decimals::length_decimal))]
 fn put_fault(text: &mut Text, word: &[u8], at: u64, name: &str)
     requires room { array_vec_len text.old + length word.now ≤ 100 }
     requires short { length name.now ≤ 50 }

@@ -1,5 +1,7 @@
 -- What the parts of the reader give. Only contracts of private functions cite these words.
-use Rattle.std.specs.Prelude.{◌≡◌, ◌≢◌, ◌≤◌, ◌<◌, ◌+◌, ◌-◌, ◌*◌, ◌^◌, ◌==◌, ◌&&◌, ℕ, Bool, true, false, List, [], ◌∷◌, ◌++◌, drop, take, map, length, IfErr, IfOk, IsOk, Result, Option, Some, None, MatchOption, is_none, nat_lt, if◌then◌else◌, slice_index, slice_range, Vec}
+use Rattle.std.specs.Prelude.{◌≡◌, ◌≢◌, ◌≤◌, ◌<◌, ◌+◌, ◌-◌, ◌*◌, ◌^◌, ◌==◌, ◌&&◌, ℕ, Bool, true, false, List, [], ◌∷◌, ◌++◌, drop, take, map, length}
+use Rattle.std.specs.Prelude.{IfErr, IfOk, IsOk, Result, Option, Some, None, MatchOption, is_none, nat_lt, if◌then◌else◌, slice_index, slice_range}
+use Rattle.std.specs.Prelude.{Vec}
 use Rattle.std.specs.List.{list_all, list_any}
 use Rattle.std.specs.Option.{option_to_list}
 use Rattle.std.specs.Str.Parse.{digits_value}
@@ -167,13 +169,16 @@ pub record IsLinePushed {H : Type 0} (f : Form H) (w : ℕ) (text : List ℕ) (a
 
 -- lines of a channel, one behind the other from a place on, end at these places, the last of them first: their beats were put behind those of the
 -- channel, and this is the place behind them
-abbrev pub ArePushed : {H Z : Type 0} (f : Form H) (w : ℕ) (text : List ℕ) (at : ℕ) (before after : Vec (BeatOf H w) Z) → List ℕ → (place : ℕ) → Type 0
+abbrev pub ArePushed : {H Z : Type 0} (f : Form H) (w : ℕ) (text : List ℕ) (at : ℕ) (before after : Vec (BeatOf H w) Z) → List ℕ →
+    (place : ℕ) → Type 0
 ArePushed f w text at before after [] place = (after.items ≡ before.items) × (place ≡ at)
-ArePushed {H} {Z} f w text at before after (end ∷ ends) place = (between : Vec (BeatOf H w) Z) × (from : ℕ) × ArePushed f w text at before between ends from
+ArePushed {H} {Z} f w text at before after (end ∷ ends) place = (between : Vec (BeatOf H w) Z) × (from : ℕ) ×
+    ArePushed f w text at before between ends from
     × IsLinePushed f w text from between.items after.items end × (place ≡ end + 1)
 
 -- so many lines of a channel were put behind its beats
-pub record AreLinesPushed {H Z : Type 0} (f : Form H) (w : ℕ) (text : List ℕ) (at : ℕ) (before after : Vec (BeatOf H w) Z) (lines : PushedLines) : Type 0 where
+pub record AreLinesPushed {H Z : Type 0} (f : Form H) (w : ℕ) (text : List ℕ) (at : ℕ) (before after : Vec (BeatOf H w) Z)
+    (lines : PushedLines) : Type 0 where
   pub ends : List ℕ
   pub count : lines.count ≡ length ends
   pub few : at + lines.count ≤ lines.place
@@ -198,13 +203,15 @@ pub record IsSameScript {client manager : ℕ} (before after : Script client man
 
 -- lines of one channel or another, one behind the other from a place on, end at these places, the last of them first: their beats were put behind
 -- those of their channels, and this is the place behind them
-abbrev pub AreBehind : {client manager : ℕ} (version : ℕ) (text : List ℕ) (at : ℕ) (before after : Script client manager) → List ℕ → (place : ℕ) → Type 0
+abbrev pub AreBehind : {client manager : ℕ} (version : ℕ) (text : List ℕ) (at : ℕ) (before after : Script client manager) → List ℕ →
+    (place : ℕ) → Type 0
 AreBehind version text at before after [] place = IsSameScript before after × (place ≡ at)
 AreBehind {client} {manager} version text at before after (end ∷ ends) place = (between : Script client manager) × (from : ℕ)
     × AreBehind version text at before between ends from × IsNextPushed version text from between after end × (place ≡ end + 1)
 
 -- so many lines were put behind the beats of their channels
-pub record AreNextPushed {client manager : ℕ} (version : ℕ) (text : List ℕ) (at : ℕ) (before after : Script client manager) (lines : PushedLines) : Type 0 where
+pub record AreNextPushed {client manager : ℕ} (version : ℕ) (text : List ℕ) (at : ℕ) (before after : Script client manager)
+    (lines : PushedLines) : Type 0 where
   pub ends : List ℕ
   pub count : lines.count ≡ length ends
   pub few : at + lines.count ≤ lines.place
@@ -257,4 +264,5 @@ IsFaultOf text e = (e.kind ≢ OutOfMemory → IsFirstFault text e.line e.kind) 
 
 -- the lines that a text tells, as a trace keeps them
 abbrev pub AreLines : (version client manager : ℕ) → List Line → List ℕ → Type 0
-AreLines version client manager lines text = TellsLines version client manager lines text × (list_all (is_kept_line version client manager) lines ≡ true)
+AreLines version client manager lines text = TellsLines version client manager lines text ×
+    (list_all (is_kept_line version client manager) lines ≡ true)

@@ -6,3 +6,6 @@ use Rattle.tl_trace.proofs.digits.digit.Goals as goal
 pub returns : goal.returns
 unfolding agree_below
 returns c = from_table DIGIT_VALUES c.args.byte (omega arith) refl
+
+pub bounds-byte : goal.bounds-byte
+bounds-byte c = omega arith

@@ -8,8 +8,16 @@ returns c =
     let common = c.read_common-common in
     let a = c.field-address in
     record {
-      part = and_field 0 c.args.text.now 1 c.common_end.result _ _ _ address a.result.value a.result.bad c.common_end.ensures.end common.ensures.part a.ensures;
+      part = and_field 0 c.args.text.now 1 c.common_end.result _ _ _ address a.result.value a.result.bad c.common_end.ensures.end
+          common.ensures.part a.ensures;
       small = λ le.
           let s = common.ensures.small (left_good _ a.result.bad le) in
-          record { size = s.size; source = s.source; address = omega (arith, a.ensures.small (right_good _ a.result.bad le)); sink = s.sink; opcode = s.opcode; param = s.param };
+          record {
+            size = s.size;
+            source = s.source;
+            address = omega (arith, a.ensures.small (right_good _ a.result.bad le));
+            sink = s.sink;
+            opcode = s.opcode;
+            param = s.param;
+          };
     }

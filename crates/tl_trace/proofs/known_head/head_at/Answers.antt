@@ -43,5 +43,6 @@ returns-clause-head g c =
 pub returns-clause-known : goal.returns-clause-known
 returns-clause-known g c = record {
   within = c.requires.room;
-  has = read_head (g.K.HeadText.form g.row.VERSION) g.row.VERSION c.args.text.now c.args.at c.head_end-len.result _ c.in_ok-head.head c.head_end-len.ensures.end c.in_ok-head.was c.new_head.ensures;
+  has = read_head (g.K.HeadText.form g.row.VERSION) g.row.VERSION c.args.text.now c.args.at c.head_end-len.result _ c.in_ok-head.head
+      c.head_end-len.ensures.end c.in_ok-head.was c.new_head.ensures;
 }

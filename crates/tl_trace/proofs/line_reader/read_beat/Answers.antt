@@ -32,7 +32,8 @@ pub returns-then-fields-mask-gt15 : goal.returns-then-fields-mask-gt15
 returns-then-fields-mask-gt15 g c =
     let f = g.K.HeadText.form g.row.VERSION in
     let long : length c.args.text.now ≡ line_length f c.args.w = omega (arith, c.line_len.ensures.long, c.if-text-line_len.false) in
-    let part = line_part f c.args.w (id_digits g.row.VERSION) c.args.text.now c.read_head-fields.result c.read_mask-mask.result.value (number_of_lanes c.read_data-corrupt.new.lanes) c.read_data-corrupt.result.value
+    let part = line_part f c.args.w (id_digits g.row.VERSION) c.args.text.now c.read_head-fields.result c.read_mask-mask.result.value
+    (number_of_lanes c.read_data-corrupt.new.lanes) c.read_data-corrupt.result.value
     c.read_mask-mask.result.bad c.read_data-corrupt.result.bad c.head_end-mask_at.result _ (g.met.K.ReadHead.head_alone g.row.VERSION)
     c.head_end-mask_at.ensures.end (ap (λ (k : ℕ). c.head_end-mask_at.result + k) c.mask_len.ensures.long)
     c.read_head-fields.ensures c.read_mask-mask.ensures.part c.read_data-corrupt.ensures.part in
@@ -55,8 +56,10 @@ returns-in_default g c =
     c.head_end-mask_at.ensures.end (ap (λ (k : ℕ). c.head_end-mask_at.result + k) c.mask_len.ensures.long)
     c.read_head-fields.ensures c.read_mask-mask.ensures.part c.read_data-corrupt.ensures.part in
     wrong_range f c.args.w c.args.text.now (line_values f r m d x) long (part.good c.if-fields-mask-gt15.false)
-    (below_is f c.args.w r m d x false (g.met.K.ReadHead.head_alone g.row.VERSION) c.read_mask-mask.ensures.none (λ none. (c.read_data-corrupt.ensures.none none).1) (c.read_data-corrupt.ensures.small (right_good _ _ c.if-fields-mask-gt15.false))
-    (no_head f r _ _ (c.in_default.ensures g.row.VERSION (c.read_head-fields.ensures.small (left_good _ _ (left_good _ _ c.if-fields-mask-gt15.false))))))
+    (below_is f c.args.w r m d x false (g.met.K.ReadHead.head_alone g.row.VERSION) c.read_mask-mask.ensures.none
+    (λ none. (c.read_data-corrupt.ensures.none none).1) (c.read_data-corrupt.ensures.small (right_good _ _ c.if-fields-mask-gt15.false))
+    (no_head f r _ _ (c.in_default.ensures g.row.VERSION
+    (c.read_head-fields.ensures.small (left_good _ _ (left_good _ _ c.if-fields-mask-gt15.false))))))
 
 pub returns-then-not-are_in_range : goal.returns-then-not-are_in_range
 returns-then-not-are_in_range g c =
@@ -71,7 +74,8 @@ returns-then-not-are_in_range g c =
     c.head_end-mask_at.ensures.end (ap (λ (k : ℕ). c.head_end-mask_at.result + k) c.mask_len.ensures.long)
     c.read_head-fields.ensures c.read_mask-mask.ensures.part c.read_data-corrupt.ensures.part in
     wrong_range f c.args.w c.args.text.now (line_values f r m d x) long (part.good c.if-fields-mask-gt15.false)
-    (below_is f c.args.w r m d x false (g.met.K.ReadHead.head_alone g.row.VERSION) c.read_mask-mask.ensures.none (λ none. (c.read_data-corrupt.ensures.none none).1) (c.read_data-corrupt.ensures.small (right_good _ _ c.if-fields-mask-gt15.false))
+    (below_is f c.args.w r m d x false (g.met.K.ReadHead.head_alone g.row.VERSION) c.read_mask-mask.ensures.none
+    (λ none. (c.read_data-corrupt.ensures.none none).1) (c.read_data-corrupt.ensures.small (right_good _ _ c.if-fields-mask-gt15.false))
     (out_fields (is_head_in_range f r) _ _ (sym c.are_in_range.ensures ∙ c.if-not-are_in_range.true)))
 
 pub returns : goal.returns
@@ -85,7 +89,12 @@ returns g c =
     let data_good = right_good _ _ c.if-fields-mask-gt15.false in
     let good = left_good _ _ front in
     let head : HasHead f g.row.VERSION c.args.text.now b.head =
-    record { fields = c.read_head-fields.result; read = c.read_head-fields.ensures; good = good; is = c.in-Some.ensures g.row.VERSION (c.read_head-fields.ensures.small good) } in
+    record {
+      fields = c.read_head-fields.result;
+      read = c.read_head-fields.ensures;
+      good = good;
+      is = c.in-Some.ensures g.row.VERSION (c.read_head-fields.ensures.small good);
+    } in
     let fit : nat_lt b.mask (2 ^ c.args.w) && nat_lt x 2 ≡ true = sym c.are_in_range.ensures ∙ c.if-not-are_in_range.false in
     beat_is f g.row.VERSION c.args.w c.args.text.now b x c.read_mask-mask.result.bad c.read_data-corrupt.result.bad c.head_end-mask_at.result _
     (g.met.K.ReadHead.head_alone g.row.VERSION)

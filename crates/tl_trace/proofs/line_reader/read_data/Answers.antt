@@ -15,7 +15,8 @@ returns-clause-part g c =
 
 pub returns-clause-small : goal.returns-clause-small
 returns-clause-small g c le =
-    lanes_small c.args.w (number_of_lanes c.lanes_field-bad.new.lanes) (c.lanes_field-bad.ensures.value.small (left_good c.lanes_field-bad.result c.field-corrupt.result.bad le))
+    lanes_small c.args.w (number_of_lanes c.lanes_field-bad.new.lanes)
+    (c.lanes_field-bad.ensures.value.small (left_good c.lanes_field-bad.result c.field-corrupt.result.bad le))
 
 pub returns-then-not-HAS_DATA-clause-part : goal.returns-then-not-HAS_DATA-clause-part
 returns-then-not-HAS_DATA-clause-part g c =

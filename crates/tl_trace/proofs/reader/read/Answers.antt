@@ -52,7 +52,8 @@ returns-clause-told c =
     record {
       trace = record { known_version = all.0; client_width = all.1; manager_width = all.2; kept = c.in-Ok.ensures.1 };
       rest = rest;
-      header = split_line c.args.text.now 0 c.line_end-end.result line lt ∙ ap (λ (h : List ℕ). h ++ newline ++ rest) (is_header b c.in-Some.header some);
+      header = split_line c.args.text.now 0 c.line_end-end.result line lt ∙
+          ap (λ (h : List ℕ). h ++ newline ++ rest) (is_header b c.in-Some.header some);
       told = c.in-Ok.ensures.0;
     }
 

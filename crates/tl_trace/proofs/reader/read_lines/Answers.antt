@@ -12,15 +12,21 @@ returns-in-Err c =
     let line : LineAt c.args.text.now c.loop-at.at c.line_end-end.result = record { from = e.from; to = e.to; free = e.free; stop = e.end } in
     let first =
     refused c.args.text.now c.args.start h.version h.client h.manager c.loop-at.lines.items c.loop-at.at c.loop-at.before c.line_end-end.result
-    c.in-Err.kind c.loop-at.invariant line c.loop-at-test.true c.in-Err.ensures in
-    (λ _. first, λ is. absurd (no_memory h.version h.client h.manager (slice_range c.args.text.now c.loop-at.at c.line_end-end.result) c.in-Err.kind c.in-Err.ensures is))
+    c.in-Err.kind c.loop-at.invariant line c.loop-at-test.true c.in-Err.ensures in (
+      λ _. first,
+      λ is. absurd (no_memory h.version h.client h.manager (slice_range c.args.text.now c.loop-at.at c.line_end-end.result) c.in-Err.kind
+          c.in-Err.ensures is),
+    )
 
 pub returns-then-end-text : goal.returns-then-end-text
 returns-then-end-text c =
     let e = c.line_end-end.ensures in
     let h = c.args.header in
-    let line : LineAt c.args.text.now c.loop-at.at c.line_end-end.result = record { from = e.from; to = e.to; free = e.free; stop = e.end } in
-    (λ _. no_end c.args.text.now c.args.start h.version h.client h.manager c.loop-at.lines.items c.loop-at.at c.loop-at.before c.line_end-end.result c.in-Ok.beat c.loop-at.invariant line c.loop-at-test.true c.in-Ok.ensures c.if-end-text.true, λ is. absurd cc)
+    let line : LineAt c.args.text.now c.loop-at.at c.line_end-end.result = record { from = e.from; to = e.to; free = e.free; stop = e.end } in (
+      λ _. no_end c.args.text.now c.args.start h.version h.client h.manager c.loop-at.lines.items c.loop-at.at c.loop-at.before c.line_end-end.result
+          c.in-Ok.beat c.loop-at.invariant line c.loop-at-test.true c.in-Ok.ensures c.if-end-text.true,
+      λ is. absurd cc,
+    )
 
 pub returns-then-is_err : goal.returns-then-is_err
 returns-then-is_err c =
@@ -29,7 +35,11 @@ returns-then-is_err c =
     let line : LineAt c.args.text.now c.loop-at.at c.line_end-end.result = record { from = e.from; to = e.to; free = e.free; stop = e.end } in
     let lt : c.line_end-end.result < length c.args.text.now = omega (arith, e.to, c.if-end-text.false) in
     -- a want of memory is no fault of the text
-    (λ other. absurd (other refl), λ _. unstored c.args.text.now c.args.start h.version h.client h.manager c.loop-at.lines.items c.loop-at.at c.loop-at.before c.line_end-end.result c.in-Ok.beat c.loop-at.invariant line c.in-Ok.ensures lt)
+    (
+      λ other. absurd (other refl),
+      λ _. unstored c.args.text.now c.args.start h.version h.client h.manager c.loop-at.lines.items c.loop-at.at
+          c.loop-at.before c.line_end-end.result c.in-Ok.beat c.loop-at.invariant line c.in-Ok.ensures lt,
+    )
 
 pub loop-at-preserved : goal.loop-at-preserved
 loop-at-preserved c =

@@ -1,18 +1,9 @@
-use Rattle.tl_trace.proofs.Names.{◌≡◌, ◌+◌, false, length, arith, refl, sym, ◌∙◌, slice_range, is_err, line_length}
+use Rattle.tl_trace.proofs.Names.{◌≡◌, ◌+◌, false, length, arith, sym, ◌∙◌, slice_range, is_err, line_length}
 use Rattle.tl_trace.proofs.KnownHeads.{line_head}
 use Rattle.tl_trace.proofs.LineParts.{line_long}
 use Rattle.tl_trace.proofs.NextLine.{was_put, was_kept, inside, first_in, at_most}
 use Rattle.tl_trace.proofs.ReadDigits.{range_long}
 use Rattle.tl_trace.proofs.script_reader.push_line.Goals as goal
-
-pub overflow_sub-text : goal.overflow_sub-text
-overflow_sub-text g c = omega (arith, c.requires.0.inside)
-
-pub bounds-text-at : goal.bounds-text-at
-bounds-text-at g c = inside c.args.at c.line_len-long.result _ c.if-long-text.false
-
-pub returns-then-long-text : goal.returns-then-long-text
-returns-then-long-text g c = refl
 
 pub returns-then-is_err : goal.returns-then-is_err
 returns-then-is_err g c = was_kept c.push.result _ _ _ (sym c.is_err.ensures.value ∙ c.if-is_err.true) c.push.ensures.items
@@ -29,9 +20,6 @@ returns g c =
       put = was_put c.push.result _ _ _ went c.push.ensures.items;
     }
 
-pub line_len-long-requires : goal.line_len-long-requires
-line_len-long-requires g c = c.requires.0.width
-
 pub beat_with_head-requires : goal.beat_with_head-requires
 beat_with_head-requires g c =
     let f = g.K.HeadText.form g.row.VERSION in
@@ -44,6 +32,3 @@ beat_with_head-requires g c =
     let head =
     line_head f g.row.VERSION c.args.text.now c.args.at long c.args.head (omega (arith, parts, c.line_len-long.ensures.long)) c.requires.1 in
     (c.requires-raw.1.1.1.1.0, (record { width = at_most g.row.W; most = c.requires.0.width; letter = first ∙ c.requires.0.letter }, (all, head)))
-
-pub slice_bounds-beat_with_head-end : goal.slice_bounds-beat_with_head-end
-slice_bounds-beat_with_head-end g c = let room = inside c.args.at c.line_len-long.result _ c.if-long-text.false in omega (arith, room)

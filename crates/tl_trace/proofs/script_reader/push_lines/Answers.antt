@@ -1,4 +1,4 @@
-use Rattle.tl_trace.proofs.Names.{rules, ◌∙◌, arith}
+use Rattle.tl_trace.proofs.Names.{◌∙◌, arith}
 use Rattle.tl_trace.proofs.KnownHeads.{head_there}
 use Rattle.tl_trace.proofs.NextLine.{same_first, none_more, one_more_line}
 use Rattle.tl_trace.proofs.script_reader.push_lines.Goals as goal

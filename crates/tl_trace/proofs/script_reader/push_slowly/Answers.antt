@@ -4,13 +4,17 @@ use Rattle.tl_trace.proofs.ReadBeats.{on_ok}
 use Rattle.tl_trace.proofs.Walk.{no_memory}
 use Rattle.tl_trace.proofs.Pieces.{left, ends_inside}
 use Rattle.tl_trace.proofs.script_reader.push_slowly.Goals as goal
-use Rattle.tl_trace.proofs.script_reader.push_slowly.Goals.{else-end-piece-via-then-end-piece+else-end-at-lt-LONGEST_LINE, else-end-piece-via-else-end-piece}
+use Rattle.tl_trace.proofs.script_reader.push_slowly.Goals.{else-end-piece-via-then-end-piece+else-end-at-lt-LONGEST_LINE}
+use Rattle.tl_trace.proofs.script_reader.push_slowly.Goals.{else-end-piece-via-else-end-piece}
 
 pub returns-then-end-at-lt-LONGEST_LINE : goal.returns-then-end-at-lt-LONGEST_LINE
 returns-then-end-at-lt-LONGEST_LINE g c =
     let e = c.line_end-end.ensures in
     let line : LineAt c.args.piece.now c.args.at c.line_end-end.result = record { from = e.from; to = e.to; free = e.free; stop = e.end } in
-    record { rest = left c.args.piece.now c.args.at c.line_end-end.result line c.if-end-piece.true c.if-end-at-lt-LONGEST_LINE.true; same = record { a = refl; b = refl; c = refl; d = refl; e = refl } }
+    record {
+      rest = left c.args.piece.now c.args.at c.line_end-end.result line c.if-end-piece.true c.if-end-at-lt-LONGEST_LINE.true;
+      same = record { a = refl; b = refl; c = refl; d = refl; e = refl };
+    }
 
 pub returns-in-Err : goal.returns-in-Err
 returns-in-Err g c =
@@ -25,7 +29,11 @@ returns-in-Err g c =
           ];
       fault = c.in-Err.ensures;
     } in (
-      (λ _. fault, λ is. absurd (no_memory c.args.version g.row.C g.row.M (slice_range c.args.piece.now c.args.at c.line_end-end.result) _ c.in-Err.ensures is)),
+      (
+        λ _. fault,
+        λ is. absurd (no_memory c.args.version g.row.C g.row.M (slice_range c.args.piece.now c.args.at c.line_end-end.result) _
+            c.in-Err.ensures is),
+      ),
       record { a = refl; b = refl; c = refl; d = refl; e = refl },
     )
 
@@ -42,7 +50,8 @@ returns-then-no_room g c =
       end = c.line_end-end.result;
       line = line;
       beat = c.in-Ok.line;
-      inside = ends_inside c.args.version g.row.C g.row.M c.args.piece.now c.args.at c.line_end-end.result c.in-Ok.line c.requires.0.client c.requires.0.manager line long c.in-Ok.ensures;
+      inside = ends_inside c.args.version g.row.C g.row.M c.args.piece.now c.args.at c.line_end-end.result c.in-Ok.line c.requires.0.client
+          c.requires.0.manager line long c.in-Ok.ensures;
       read = c.in-Ok.ensures;
     } in
     ((λ other. absurd (other refl), λ _. read), search rules)

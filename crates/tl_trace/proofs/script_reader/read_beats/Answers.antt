@@ -1,11 +1,14 @@
 use Rattle.tl_trace.proofs.Names.{arith, lit<, refl}
 use Rattle.tl_trace.proofs.NextLine.{no_lines}
-use Rattle.tl_trace.proofs.Pieces.{starts, walks_quick, walks_lines, waits, left_none, ends, stops}
+use Rattle.tl_trace.proofs.Pieces.{starts, walks_quick, walks_lines, waits, left_none, ends, stops, named_by}
 use Rattle.tl_trace.proofs.script_reader.read_beats.Goals as goal
 
 pub loop-at-init : goal.loop-at-init
-loop-at-init g c =
-    (refl, starts g.row.VERSION c.args.piece.now c.args.reader.now.script c.args.reader.now.line, c.no_heads-heads.ensures g.row.VERSION c.args.piece.now)
+loop-at-init g c = (
+  refl,
+  starts g.row.VERSION c.args.piece.now c.args.reader.now.script c.args.reader.now.line,
+  c.no_heads-heads.ensures g.row.VERSION c.args.piece.now,
+)
 
 pub overflow_add-reader : goal.overflow_add-reader
 overflow_add-reader g c =
@@ -50,6 +53,9 @@ push_next-lines-requires g c = (lit< tt, (c.requires.0, c.loop-at-test.true, c.l
 pub push_slowly-requires : goal.push_slowly-requires
 push_slowly-requires g c = (lit< tt, (c.requires.0, c.loop-at-test.true))
 
+pub fault_behind-requires : goal.fault_behind-requires
+fault_behind-requires g c = omega (arith, c.requires.1, c.loop-at.invariant.1.few, c.loop-at-test.true)
+
 pub returns-in-Ok-None-clause-version : goal.returns-in-Ok-None-clause-version
 returns-in-Ok-None-clause-version g c = c.loop-at.invariant.0
 
@@ -78,9 +84,11 @@ returns-in-Err-clause-read g c =
     c.loop-at.reader.script c.push_next-lines.new.script c.loop-at.at c.loop-at.reader.line c.loop-at.invariant.1
     (no_lines g.row.VERSION c.args.piece.now c.loop-at.at c.loop-at.reader.script c.push_next-lines.new.script c.push_next-lines.result
     c.if-lines-gt0.false c.push_next-lines.ensures.pushed) in
-    stops g.row.VERSION c.args.piece.now c.args.reader.now.script c.args.reader.now.line
+    named_by g.row.VERSION c.args.piece.now c.args.reader.now.script c.args.reader.now.line c.push_slowly.new.script c.loop-at.reader.line
+    c.in-Err.kind c.fault_behind.result c.fault_behind.ensures.line c.fault_behind.ensures.kind
+    (stops g.row.VERSION c.args.piece.now c.args.reader.now.script c.args.reader.now.line
     c.push_next-lines.new.script c.push_slowly.new.script c.loop-at.at c.loop-at.reader.line
-    c.in-Err.kind c.requires.0.client c.requires.0.manager far c.loop-at-test.true c.in-Err.ensures.0.0 c.in-Err.ensures.0.1 c.in-Err.ensures.1
+    c.in-Err.kind c.requires.0.client c.requires.0.manager far c.loop-at-test.true c.in-Err.ensures.0.0 c.in-Err.ensures.0.1 c.in-Err.ensures.1)
 
 pub returns-clause-read : goal.returns-clause-read
 returns-clause-read g c =

@@ -73,7 +73,8 @@ returns-in-Some-clause-fault g c other =
     subst (λ v. HasRead v (take n text ++ take c.in-Ok.used later) c.read.new.self.script c.read.new.self.line) (sym c.in-Ok.ensures.version)
     (c.in-Ok.ensures.told (take n text) none_gone read) in
     subst (λ t. IsFirstFault t c.in-Some.fault.line c.in-Some.fault.kind)
-    (parted_text text n later (take_rest text n) c.in-Ok.used (take (length later - c.in-Ok.used) (drop c.in-Ok.used later)) (take_rest later c.in-Ok.used))
+    (parted_text text n later (take_rest text n) c.in-Ok.used (take (length later - c.in-Ok.used) (drop c.in-Ok.used later))
+    (take_rest later c.in-Ok.used))
     (c.in-Some.ensures.fault (take n text ++ take c.in-Ok.used later) none_gone more)
 
 pub returns-in-None-clause-told : goal.returns-in-None-clause-told
@@ -90,4 +91,5 @@ returns-in-None-clause-told g c =
     subst (λ v. HasRead v (take n text ++ take c.in-Ok.used later) c.read.new.self.script c.read.new.self.line) c.new-reader.ensures.version
     (c.in-Ok.ensures.told (take n text) none_gone read) in
     tells_script c.args.version (take n text ++ take c.in-Ok.used later) text c.read.new.self.script c.read.new.self.line
-    (used_text text n later (take_rest text n) c.in-Ok.used (take (length later - c.in-Ok.used) (drop c.in-Ok.used later)) (take_rest later c.in-Ok.used) (c.in-None.ensures.none refl)) more
+    (used_text text n later (take_rest text n) c.in-Ok.used (take (length later - c.in-Ok.used) (drop c.in-Ok.used later))
+    (take_rest later c.in-Ok.used) (c.in-None.ensures.none refl)) more

@@ -1,6 +1,7 @@
 use Rattle.tl_trace.proofs.Names.{rules, ◌≡◌, ◌+◌, ◌++◌, ◌∙◌, ℕ, take, refl, sym, ap, arith, take-take, head_text, line_text, newline}
 use Rattle.std.proofs.lemmas.Result.{IfOk-from_err}
-use Rattle.tl_trace.proofs.LineRests.{head_end, not_other, line_is, appended_none, appended_more, appended_all, appended_front, of_ok, of_err, on_err_at}
+use Rattle.tl_trace.proofs.LineRests.{head_end, not_other, line_is, appended_none, appended_more, appended_all, appended_front, of_ok, of_err}
+use Rattle.tl_trace.proofs.LineRests.{on_err_at}
 use Rattle.tl_trace.proofs.write.write_lines.Goals as goal
 use Rattle.tl_trace.proofs.write.write_lines.Goals.{then-ne, else-ne}
 
@@ -12,13 +13,15 @@ loop-beat-preserved g c =
       head.0,
       appended_more f g.row.W c.args.out.now.items c.loop-beat.out.items c.append_line.new.out.items _ c.args.beats.now c.len-start.result
           c.loop-beat.beat-index b c.loop-beat-test.true
-          (line_is f g.row.W b _ _ _ _ (g.met.K.HeadText.masked_form c.args.version) (g.met.K.HeadText.data_form c.args.version) (g.met.K.HeadText.narrow_head c.args.version _ g.row.W b)
+          (line_is f g.row.W b _ _ _ _ (g.met.K.HeadText.masked_form c.args.version) (g.met.K.HeadText.data_form c.args.version)
+          (g.met.K.HeadText.narrow_head c.args.version _ g.row.W b)
           (take-take at (at + c.rest_len.result) c.if-ne.line (omega arith) ∙ head.0 ∙ ap (head_text f) head.1) refl
           ∙ ap (λ x. line_text f g.row.W x ++ newline) c.beat-item.is)
           (of_ok c.append_line.result (sym c.is_err.ensures.value ∙ c.if-is_err.false) c.append_line.ensures.ok) c.loop-beat.invariant.1,
     )
   where
-    head : (take c.fill_head-at.result c.if-ne.line ≡ head_text (g.K.HeadText.form c.args.version) c.if-ne.head) × (c.if-ne.head ≡ c.beat-item.result.head)
+    head : (take c.fill_head-at.result c.if-ne.line ≡ head_text (g.K.HeadText.form c.args.version) c.if-ne.head) ×
+        (c.if-ne.head ≡ c.beat-item.result.head)
     head = elim c.if-ne.branch [
       | then-ne w ↦
           let f = g.K.HeadText.form c.args.version in
@@ -26,8 +29,12 @@ loop-beat-preserved g c =
           head_end f _ c.fill_head-at.new.line c.fill_head-at.result (omega (arith, c.fill_head-at.array_long, c.fill_head-at.ensures.end))
           c.fill_head-at.ensures.items in
           let other =
-          head_end f _ w.fill_other_head.new.line w.fill_other_head.result (omega (arith, w.fill_other_head.array_long, w.fill_other_head.ensures.end)) w.fill_other_head.ensures.items in
-          (ap (take c.fill_head-at.result) w.line-is ∙ ap (λ (k : ℕ). take k w.fill_other_head.new.line) (first ∙ sym other) ∙ w.fill_other_head.ensures.items ∙ ap (head_text f) (sym w.head-is), w.head-is)
+          head_end f _ w.fill_other_head.new.line w.fill_other_head.result
+          (omega (arith, w.fill_other_head.array_long, w.fill_other_head.ensures.end)) w.fill_other_head.ensures.items in (
+            ap (take c.fill_head-at.result) w.line-is ∙ ap (λ (k : ℕ). take k w.fill_other_head.new.line) (first ∙ sym other) ∙
+                w.fill_other_head.ensures.items ∙ ap (head_text f) (sym w.head-is),
+            w.head-is,
+          )
       | else-ne w ↦
           let f = g.K.HeadText.form c.args.version in
           let same = (g.met.K.Channel.same_heads c.beat-item.result.head c.loop-beat.head).0 (not_other _ w.if-ne.ensures) in
@@ -46,7 +53,8 @@ returns-in_err-reserve-clause-err g c = on_err_at c.from_residual.result c.reser
 pub loop-beat-init : goal.loop-beat-init
 loop-beat-init g c = (
   c.fill_head-at.ensures.items,
-  appended_none (g.K.HeadText.form c.args.version) g.row.W c.args.out.now.items c.reserve.new.self.items c.len-start.result (omega (arith, c.len-start.ensures)) c.reserve.ensures.items,
+  appended_none (g.K.HeadText.form c.args.version) g.row.W c.args.out.now.items c.reserve.new.self.items c.len-start.result
+      (omega (arith, c.len-start.ensures)) c.reserve.ensures.items,
 )
 
 pub append_line-requires : goal.append_line-requires

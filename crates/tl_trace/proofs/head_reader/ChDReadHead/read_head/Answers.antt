@@ -20,5 +20,12 @@ returns c =
       small = λ le.
           let five_good = left_good _ n.result.bad le in
           let s = fields.ensures.small (left_good _ k.result.bad five_good) in
-          record { size = s.size; source = s.source; address = s.address; sink = id.small (right_good _ k.result.bad five_good); opcode = s.opcode; param = s.param };
+          record {
+            size = s.size;
+            source = s.source;
+            address = s.address;
+            sink = id.small (right_good _ k.result.bad five_good);
+            opcode = s.opcode;
+            param = s.param;
+          };
     }
