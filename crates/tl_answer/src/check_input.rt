@@ -23,7 +23,7 @@ use crate::parts::AnswerParts;
 use std::alloc::{AllocError, Global};
 use std::io::Read;
 use tl_check::Judge;
-use tl_sides::new_books;
+use tl_settle::new_books;
 use tl_trace::{Counts, Script};
 
 impl<const C: usize, const M: usize> Listener<C, M> for Judge<C, M> {

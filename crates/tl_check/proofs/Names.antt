@@ -25,4 +25,4 @@ pub use Rattle.tl_run.specs.Parts.{IsPart}
 pub use Rattle.tl_settle.specs.Histories.{Ask, Answer, asked, answered, client_answer, manager_answer, Event}
 pub use Rattle.tl_settle.specs.Outcomes.{verdict_of, verdict_a, verdict_d, far_alone, verdict_alone}
 pub use Rattle.tl_settle.specs.Settling.{requests, responses, far_a, far_d, goes_a, goes_d, settled_state, stops_a, stops_d}
-pub use Rattle.tl_sides.specs.Books.{Client, Manager, KnowsClient, KnowsManager, IsChecked}
+pub use Rattle.tl_settle.specs.Books.{Client, Manager, KnowsClient, KnowsManager, IsChecked}

@@ -14,7 +14,7 @@ ghost use Rattle.tl_run.specs.Parts.{IsEnd, IsPart};
 
 use crate::progress::Progress;
 use tl_msg::{Beat, ChA, ChD, HeadA, HeadD, SideFault};
-use tl_sides::{ClientBook, ManagerBook};
+use tl_settle::{ClientBook, ManagerBook};
 use tl_trace::Counts;
 
 // The manager's side takes so many beats of A with this head.

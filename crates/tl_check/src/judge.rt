@@ -2,7 +2,7 @@
 ghost use Rattle.std.specs.Prelude.{◌≡◌, [], length};
 ghost use Rattle.tl_lanes.specs.Lanes.{IsWidth};
 ghost use Rattle.tl_settle.specs.Outcomes.{Beats, verdicts};
-ghost use Rattle.tl_sides.specs.Books.{KnowsClient, KnowsManager};
+ghost use Rattle.tl_settle.specs.Books.{KnowsClient, KnowsManager};
 ghost use Rattle.tl_trace.specs.Scripts.{HasCounts, HasLetGo};
 ghost use Rattle.tl_run.specs.Parts.{AreEnd, AreHalf, ArePart, HaveGone, none_counted};
 ghost use Rattle.tl_run.specs.Scripts.{HasShortLists};
@@ -14,7 +14,8 @@ use crate::coupled::judge_coupled;
 use crate::progress::Progress;
 use tl_msg::{ChA, ChB, ChC, ChD, ChE, SideFault, Verdict};
 use tl_run::let_leave;
-use tl_sides::{ClientBook, ManagerBook, PerChannel};
+use tl_settle::{ClientBook, ManagerBook};
+use tl_sides::PerChannel;
 use tl_trace::{Counts, Script};
 
 /// Finds what a script ends in while its near beats come piece by piece: those that it came past need

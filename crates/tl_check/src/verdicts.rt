@@ -7,7 +7,7 @@ ghost use Rattle.tl_run.specs.Scripts.{HasShortLists, near_beats};
 use crate::judge::Judge;
 use std::alloc::Global;
 use tl_msg::{OutOfMemory, Verdict};
-use tl_sides::new_books;
+use tl_settle::new_books;
 use tl_trace::Script;
 
 /// What a script ends in on each channel, from A to E: the verdicts of `run_sync`, found without a

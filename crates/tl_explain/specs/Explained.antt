@@ -1,6 +1,6 @@
 -- What an explanation of a text is proved to be (this project's choice). Its sentences are for readers, and tests show what they say; after them
 -- comes the answer of a check: the version and the widths, and how far each channel came.
-use Rattle.std.specs.Prelude.{◌≡◌, ◌≢◌, ◌<◌, ◌++◌, ℕ, Bool, true, List, length, Option, Result, Ok, Err, IfSome}
+use Rattle.std.specs.Prelude.{◌≡◌, ◌≢◌, ◌<◌, ◌++◌, ℕ, Bool, true, false, List, length, Option, Result, Ok, Err, IfSome}
 use Rattle.std.specs.Io.KnownBytes.{Keeps, Appends}
 use Rattle.tl_trace.specs.Faults.{IsFirstFault}
 use Rattle.tl_trace.specs.declared.fault.TraceKind.TheVariants as kinds
@@ -18,14 +18,15 @@ pub record IsExplanation (text : List ℕ) (explanation : List ℕ) (done : Bool
 abbrev pub Explains : (text : List ℕ) (held holds : Option (List ℕ)) (done : Bool) → Type 0
 Explains text held holds done = (explanation : List ℕ) × IsExplanation text explanation done × Appends held holds explanation
 
--- why a text has no explanation: a write failed; or a fault of the text, or want of memory, and then nothing was written
-abbrev pub IsUntold : (text : List ℕ) (held holds : Option (List ℕ)) → TextFault → Type 0
-IsUntold text held holds (faults.Trace fault) = IsOfText text (faults.Trace fault) × Keeps held holds
-IsUntold text held holds faults.Stalled = ⊥
-IsUntold text held holds faults.Read = ⊥
-IsUntold text held holds faults.Write = Unit {0}
-IsUntold text held holds faults.TooLong = ⊥
-IsUntold text held holds faults.OutOfMemory = Keeps held holds
+-- why a text has no explanation, or no page: a fault of the text, or want of memory, and then nothing was written; or a write failed, which is
+-- not tried for a page
+abbrev pub IsUntold : (is_page : Bool) (text : List ℕ) (held holds : Option (List ℕ)) → TextFault → Type 0
+IsUntold is_page text held holds (faults.Trace fault) = IsOfText text (faults.Trace fault) × Keeps held holds
+IsUntold is_page text held holds faults.Stalled = ⊥
+IsUntold is_page text held holds faults.Read = ⊥
+IsUntold is_page text held holds faults.Write = is_page ≡ false
+IsUntold is_page text held holds faults.TooLong = ⊥
+IsUntold is_page text held holds faults.OutOfMemory = Keeps held holds
 
 -- What the reader had and has left, what the writer held and holds, and how an explanation ended. A text is read to its end before anything is
 -- written. What is written is its explanation; or, where it is no trace, some bytes that show its first fault, which the ending names. Each other

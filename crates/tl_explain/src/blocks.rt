@@ -54,7 +54,7 @@ impl Story {
     pub fn write_block<W: Write>(&mut self, is_page: bool, writer: &mut W) -> Result<(), TextFault>
         ensures out { OnOk result
             (Continues is_page (W.contents writer.old) (W.contents writer.new)) }
-        ensures kind { IfErr result (λ fault. fault ≡ WriteFault) }
+        ensures kind { IfErr result (λ fault. (fault ≡ WriteFault) × (is_page ≡ false)) }
     {
         if is_page || !self.has_block() {
             return Ok(());
@@ -66,7 +66,7 @@ impl Story {
     pub fn write_rest<W: Write>(&mut self, is_page: bool, writer: &mut W) -> Result<(), TextFault>
         ensures out { OnOk result
             (Continues is_page (W.contents writer.old) (W.contents writer.new)) }
-        ensures kind { IfErr result (λ fault. fault ≡ WriteFault) }
+        ensures kind { IfErr result (λ fault. (fault ≡ WriteFault) × (is_page ≡ false)) }
     {
         if is_page {
             return Ok(());

@@ -1,5 +1,5 @@
 //! From a text to what came of each of its lines.
-ghost use Rattle.std.specs.Prelude.{◌≡◌, ◌≤◌, ◌++◌, true, length, IfOk, OnOk, IfErr};
+ghost use Rattle.std.specs.Prelude.{◌≡◌, ◌≤◌, ◌++◌, true, false, length, IfOk, OnOk, IfErr};
 ghost use Rattle.std.specs.List.{list_all};
 ghost use Rattle.tl_lanes.specs.Lanes.{IsWidth};
 ghost use Rattle.tl_trace.specs.Faults.{HasHeader};
@@ -41,7 +41,7 @@ fn tell_all<W: Write, const C: usize, const M: usize>(
     requires { IsWidth C × IsWidth M }
     ensures out { OnOk result
         (Continues is_page (W.contents writer.old) (W.contents writer.new)) }
-    ensures kind { IfErr result (λ fault. fault ≡ WriteFault) }
+    ensures kind { IfErr result (λ fault. (fault ≡ WriteFault) × (is_page ≡ false)) }
 {
     let mut way_a = Converter::<ChA, C, M>::new();
     let mut far_a = ArrayVec::<Beat<ChA, M>, WIDEST>::new();
@@ -249,7 +249,7 @@ fn with_script<W: Write, const C: usize, const M: usize>(
     ensures out { OnOk result
         (Continues look.now.page (W.contents writer.old) (W.contents writer.new)) }
     ensures err { IfErr result
-        (IsUntold text.now (W.contents writer.old) (W.contents writer.new)) }
+        (IsUntold look.now.page text.now (W.contents writer.old) (W.contents writer.new)) }
 {
     let checked = answer_to::<C, M>(alloc, text, script, version)?;
     let begun = begin::<C, M>(alloc, text, script, checked, version, look)?;
@@ -276,7 +276,7 @@ fn with_widths<W: Write, const C: usize, const M: usize>(
     ensures out { OnOk result
         (Continues look.now.page (W.contents writer.old) (W.contents writer.new)) }
     ensures err { IfErr result
-        (IsUntold text.now (W.contents writer.old) (W.contents writer.new)) }
+        (IsUntold look.now.page text.now (W.contents writer.old) (W.contents writer.new)) }
 {
     let script = read_script::<C, M>(alloc, text, version)?;
     let telling = with_script::<W, C, M>(alloc, text, &script, version, look, writer);
@@ -299,7 +299,7 @@ fn with_client<W: Write, const C: usize>(
     ensures out { OnOk result
         (Continues look.now.page (W.contents writer.old) (W.contents writer.new)) }
     ensures err { IfErr result
-        (IsUntold text.now (W.contents writer.old) (W.contents writer.new)) }
+        (IsUntold look.now.page text.now (W.contents writer.old) (W.contents writer.new)) }
 {
     at_width!(
         manager,
@@ -323,7 +323,7 @@ pub fn telling_of<W: Write>(
     ensures out { OnOk result
         (Continues look.now.page (W.contents writer.old) (W.contents writer.new)) }
     ensures err { IfErr result
-        (IsUntold text.now (W.contents writer.old) (W.contents writer.new)) }
+        (IsUntold look.now.page text.now (W.contents writer.old) (W.contents writer.new)) }
 {
     let Some(header) = header_of_text(text) else {
         return Err(TextFault::from(TraceFault {
@@ -357,7 +357,7 @@ pub fn explain_to<W: Write>(
     ensures ok { IfOk result
         (Explains text.now (W.contents writer.old) (W.contents writer.new)) }
     ensures err { IfErr result
-        (IsUntold text.now (W.contents writer.old) (W.contents writer.new)) }
+        (IsUntold false text.now (W.contents writer.old) (W.contents writer.new)) }
 {
     let look = Look {
         page: false,

@@ -172,7 +172,7 @@ pub fn scene_of<W: Write>(
         IsAnswer text.now true made.answer.text.items made.answer.all_done) }
     ensures out { OnOk result (Keeps (W.contents writer.old) (W.contents writer.new)) }
     ensures err { IfErr result
-        (IsUntold text.now (W.contents writer.old) (W.contents writer.new)) }
+        (IsUntold true text.now (W.contents writer.old) (W.contents writer.new)) }
 {
     let look = Look {
         colour: false,

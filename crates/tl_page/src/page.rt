@@ -1,6 +1,6 @@
 //! The page of a text.
 ghost use Rattle.std.specs.Io.KnownBytes.{Keeps};
-ghost use Rattle.std.specs.Prelude.{◌≡◌, ◌≤◌, length, IfOk, OnOk, IfErr};
+ghost use Rattle.std.specs.Prelude.{◌≡◌, ◌≤◌, true, length, IfOk, OnOk, IfErr};
 ghost use Rattle.tl_answer.specs.Texts.{most_bytes};
 ghost use Rattle.tl_explain.specs.Explained.{IsUntold};
 ghost use Rattle.tl_page.specs.Pages.{HasAnswer};
@@ -40,7 +40,7 @@ pub fn page_of_text<W: Write>(
     ensures ok { IfOk result (λ made. HasAnswer text.now made.all_done) }
     ensures out { OnOk result (Keeps (W.contents writer.old) (W.contents writer.new)) }
     ensures err { IfErr result
-        (IsUntold text.now (W.contents writer.old) (W.contents writer.new)) }
+        (IsUntold true text.now (W.contents writer.old) (W.contents writer.new)) }
 {
     let scene = scene_of::<W>(alloc, text, look, writer)?;
     Ok(page_of(alloc, scene)?)

@@ -15,3 +15,8 @@ pub mod Admits
 mod LastOpen
 mod Brings
 mod EndsSettled
+pub mod Entries
+pub mod Between
+pub mod Answering
+pub mod Noted
+mod Kept

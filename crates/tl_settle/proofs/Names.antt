@@ -10,9 +10,12 @@ pub use Rattle.std.proofs.lemmas.Option.{slice_get_within, same_Some, slice_get_
 pub use Rattle.std.specs.List.{filter, list_all, range_with_len}
 pub use Rattle.std.specs.Option.{option_map_or, is_none, is_some}
 pub use Rattle.std.specs.Prelude.{All, ◌==◌, slice_get, ◌&&◌, not, nat_lt}
+pub use Rattle.tl_burst.proofs.BegunMessages.{left-zero}
 pub use Rattle.tl_burst.specs.Begun.{heads, left, rest_heads, heads_from, left_from}
-pub use Rattle.tl_burst.specs.Handing.{IsHanded, IsAdmitted, fault_after, Handed, nothing, begun, whole, IsHandedWith, homes_with, rest_of, with_home}
+pub use Rattle.tl_burst.specs.Handing.{IsHanded, IsAdmitted, fault_after, Handed, nothing, begun, whole, IsHandedWith, homes_with, rest_of, with_home, burst_of}
 pub use Rattle.tl_burst.specs.Messages.{Message, beats_of}
+pub use Rattle.tl_burst.specs.Tracking.{count_in}
+pub use Rattle.tl_burst.specs.declared.place.Place.{Place}
 pub use Rattle.tl_convert.proofs.Begins.{some_beats, heads_open, heads_inside_one, heads_extend, heads_grow}
 pub use Rattle.tl_convert.proofs.Comparisons.{true_equal, false_apart, none_past, equal_true, map_true, there_is, less_true, not_less_false}
 pub use Rattle.tl_convert.proofs.Comparisons.{true_less, map_imp, not_equal, some_not_none, is_there}
@@ -20,6 +23,7 @@ pub use Rattle.tl_convert.proofs.Extends.{take-next, Extends, take-past, count_b
 pub use Rattle.tl_convert.proofs.FarHeads.{reads, opens_is, NoFaults, no-faults-less, no-faults-start, no-faults-next, due_behind, due_grows}
 pub use Rattle.tl_lanes.proofs.Widths.{width_bounds}
 pub use Rattle.tl_msg.specs.Beats.{IsBeat}
+pub use Rattle.tl_msg.specs.Rules.{Rules}
 pub use Rattle.tl_msg.specs.Tables.{rules_a, rules_d, rules_b, rules_c, rules_e}
 pub use Rattle.tl_msg.specs.declared.beat.BeatOf.{BeatOf}
 pub use Rattle.tl_msg.specs.declared.fault.BeatFault.{BeatFault}

@@ -6,3 +6,6 @@ pub mod Histories
 pub mod Rounds
 pub mod Laws
 pub mod InMessages
+pub mod Tables
+pub mod Books
+pub mod Inner

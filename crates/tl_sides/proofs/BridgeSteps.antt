@@ -1,53 +1,18 @@
 -- Each call of a bridge takes it to what it stands for after the same events.
-use Rattle.std.proofs.Common.{◌≡◌, ◌≤◌, ◌+◌, ◌*◌, ◌↔◌, ℕ, zero, suc, Bool, true, false, cond, None, Some, List, [], ◌∷◌, ◌++◌, map, length, take}
+use Rattle.std.proofs.Common.{◌≡◌, ◌≤◌, ◌+◌, ◌*◌, ◌↔◌, ℕ, Bool, true, false, cond, None, Some, List, [], ◌∷◌, ◌++◌, map, length, take}
 use Rattle.std.proofs.Common.{drop, refl, sym, ap, subst, ◌∙◌, append-nil, append_assoc}
 use Rattle.std.specs.Prelude.{◌==◌, slice_get}
 use Rattle.tl_sides.proofs.Words.{Rules, mask_fits, is_clean, IsLawfulBeat, rules_a, rules_b, rules_c, rules_d, rules_e, Mask, Corrupt, first_none}
 use Rattle.tl_sides.proofs.Words.{HeadA, HeadB, HeadC, HeadD, HeadE, BeatOf, left, rest_of, with_home, due, World, offered, pushed, popped, ROOM}
 use Rattle.tl_sides.proofs.Words.{Pipe, Event, Ask, Answer, Mark, Asks, Answers, asked, answered, marks, home_after, homes_from, manager_home}
-use Rattle.tl_sides.proofs.Words.{manager_homes, equal_true, not_equal, from_ask, from_answer, marks_ask_first, marks_ask_inside, marks_answer_first}
-use Rattle.tl_sides.proofs.Words.{marks_answer_inside}
+use Rattle.tl_sides.proofs.Words.{manager_homes, equal_true, not_equal, from_ask, from_answer}
+use Rattle.tl_settle.proofs.Noted.{marks_ask, marks_answer}
 use Rattle.tl_msg.specs.Firsts.{unless, ◌or_else◌}
 use Rattle.tl_ring.specs.Pipe as piping
-use Rattle.tl_sides.specs.Books.{Client, Manager, KnowsClient, KnowsManager}
-use Rattle.tl_sides.specs.Inner.Noting.{begun_with}
+use Rattle.tl_settle.specs.Books.{Client, Manager, KnowsClient, KnowsManager}
+use Rattle.tl_settle.specs.Inner.Noting.{begun_with}
 use Rattle.tl_sides.specs.Bridges.{Bridge, Past, StandsFor, pump_count, fetch_count, all_pumped, all_fetched, after_pump, after_fetch}
 use Rattle.tl_sides.proofs.Sums.{sum_most}
-
--- the messages of a history with one event more
-pub marks_ask : {w : ℕ} (es : List (Event w)) (b : BeatOf HeadA w) →
-    marks (es ++ Ask b ∷ []) ≡ begun_with (left rules_a w (asked es) == 0) (Asks b.head) (marks es)
-marks_ask {w} es b = by_left (left rules_a w (asked es)) refl
-  where
-    by_left : (n : ℕ) → left rules_a w (asked es) ≡ n →
-        marks (es ++ Ask b ∷ []) ≡ begun_with (left rules_a w (asked es) == 0) (Asks b.head) (marks es)
-    by_left zero e = marks_ask_first 0 0 es b e ∙ ap (λ t. begun_with t (Asks b.head) (marks es)) (sym (equal_true (left rules_a w (asked es)) 0 e))
-    by_left (suc n) e =
-        marks_ask_inside 0 0 n es b e ∙
-        ap (λ t. begun_with t (Asks b.head) (marks es)) (sym (not_equal (left rules_a w (asked es)) 0 (λ z. absurd (cc (z, e)))))
-
-pub marks_answer : {w : ℕ} (es : List (Event w)) (b : BeatOf HeadD w) →
-    marks (es ++ Answer b ∷ []) ≡ begun_with (left rules_d w (answered es) == 0) (Answers b.head) (marks es)
-marks_answer {w} es b = by_left (left rules_d w (answered es)) refl
-  where
-    by_left : (n : ℕ) → left rules_d w (answered es) ≡ n →
-        marks (es ++ Answer b ∷ []) ≡ begun_with (left rules_d w (answered es) == 0) (Answers b.head) (marks es)
-    by_left zero e = marks_answer_first 0 0 es b e ∙
-        ap (λ t. begun_with t (Answers b.head) (marks es)) (sym (equal_true (left rules_d w (answered es)) 0 e))
-    by_left (suc n) e =
-        marks_answer_inside 0 0 n es b e ∙
-        ap (λ t. begun_with t (Answers b.head) (marks es)) (sym (not_equal (left rules_d w (answered es)) 0 (λ z. absurd (cc (z, e)))))
-
--- what a side has noted of an event is what its history says, where `seen` are the beats of that channel
-pub noted_ask : {w : ℕ} (es : List (Event w)) (b : BeatOf HeadA w) (seen : List (BeatOf HeadA w)) (first : Bool) → asked es ≡ seen →
-    first ≡ (left rules_a w seen == 0) → begun_with first (Asks b.head) (marks es) ≡ marks (es ++ Ask b ∷ [])
-noted_ask {w} es b seen first same opens =
-    ap (λ t. begun_with t (Asks b.head) (marks es)) (opens ∙ ap (λ q. left rules_a w q == 0) (sym same)) ∙ sym (marks_ask es b)
-
-pub noted_answer : {w : ℕ} (es : List (Event w)) (b : BeatOf HeadD w) (seen : List (BeatOf HeadD w)) (first : Bool) → answered es ≡ seen →
-    first ≡ (left rules_d w seen == 0) → begun_with first (Answers b.head) (marks es) ≡ marks (es ++ Answer b ∷ [])
-noted_answer {w} es b seen first same opens =
-    ap (λ t. begun_with t (Answers b.head) (marks es)) (opens ∙ ap (λ q. left rules_d w q == 0) (sym same)) ∙ sym (marks_answer es b)
 
 -- the homes of a history with one event more
 homes_begun_ask : (t : Bool) (ms : List Mark) (h : HeadA) → homes_from [] (begun_with t (Asks h) ms) ≡ homes_from [] ms

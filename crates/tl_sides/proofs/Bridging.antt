@@ -6,7 +6,7 @@ use Rattle.tl_sides.proofs.Words.{HeadC, HeadD, HeadE, BeatOf, homes_with, Outgo
 use Rattle.tl_sides.proofs.Words.{inbox_room, ROOM, stands_new, stands_offered, stands_pushed, stands_popped, stands_took, stands_emptied}
 use Rattle.tl_sides.proofs.Words.{stands_shut, Event, Ask, Answer, asked, answered, manager_home, manager_homes, asked_ask, asked_answer}
 use Rattle.tl_sides.proofs.Words.{answered_ask, answered_answer, SideFault, EndFault}
-use Rattle.tl_sides.specs.Books.{KnowsClient, KnowsManager}
+use Rattle.tl_settle.specs.Books.{KnowsClient, KnowsManager}
 use Rattle.tl_sides.specs.Bridges.{Bridge, Past, StandsFor, nothing_yet}
 use Rattle.tl_sides.specs.Bridges.{bridge_sends_a, bridge_sends_b, bridge_sends_c, bridge_sends_d, bridge_sends_e, bridge_takes_a, bridge_takes_b}
 use Rattle.tl_sides.specs.Bridges.{bridge_takes_c, bridge_takes_d, bridge_takes_e}

@@ -1,7 +1,4 @@
 mod Words
-pub mod Entries
-pub mod Between
-pub mod Answering
 pub mod Draining
 mod Lifting
 pub mod BridgeSteps
@@ -10,7 +7,6 @@ pub mod Bridging
 mod NewEnds
 pub mod SameSides
 pub mod SideSteps
-mod Kept
 pub mod Sums
 pub mod BridgeSize
 mod Layouts

@@ -4,7 +4,7 @@ use Rattle.std.specs.Prelude.{IfOk, IfErr}
 use Rattle.tl_sides.proofs.Words.{Rules, rules_a, rules_b, rules_c, rules_d, rules_e, HeadA, HeadB, HeadC, HeadD, HeadE, BeatOf, left, IsPlaceOf}
 use Rattle.tl_sides.proofs.Words.{fault_after, homes_with, rest_of, Place, left-zero, Outgoing, HasSent, HasTaken, as_sent, Event, Ask, Answer, asked}
 use Rattle.tl_sides.proofs.Words.{answered, manager_home, manager_homes, answered_ask, answered_answer, asked_answer, BeatFault, SideFault}
-use Rattle.tl_sides.specs.Books.{Client, Manager, KnowsClient, KnowsManager, IsChecked}
+use Rattle.tl_settle.specs.Books.{Client, Manager, KnowsClient, KnowsManager, IsChecked}
 use Rattle.tl_sides.proofs.BridgeSteps.{asked_answers, answered_asks, homes_asks, homes_given, home_given}
 use Rattle.tl_sides.specs.Calls.{OffersBeat}
 use Rattle.tl_sides.proofs.Lifting.{offer_lifted}

@@ -15,7 +15,7 @@ use Rattle.tl_sides.specs.Ports.{port_takes_d, port_takes_e}
 use Rattle.tl_sides.specs.Ends.{Pumps, Fetches, AreStanding, pump_count, fetch_count, after_pump}
 use Rattle.tl_sides.specs.Sides.{ClientState, ManagerState, ClientPast, ManagerPast, ClientStandsFor, ManagerStandsFor, AreSides, SidesMeet}
 use Rattle.tl_sides.specs.Sides.{client_state_of, manager_state_of, client_pumps, manager_pumps}
-use Rattle.tl_sides.specs.Books.{KnowsClient, KnowsManager}
+use Rattle.tl_settle.specs.Books.{KnowsClient, KnowsManager}
 use Rattle.tl_sides.specs.Sides.{client_takes_b, client_takes_d, manager_takes_a, manager_takes_c, manager_takes_e}
 use Rattle.tl_sides.specs.Sides.{side_sends_a, side_sends_b, side_sends_c, side_sends_d, side_sends_e, side_takes_a, side_takes_b, side_takes_c}
 use Rattle.tl_sides.specs.Sides.{side_takes_d, side_takes_e}

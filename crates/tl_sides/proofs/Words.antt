@@ -2,8 +2,8 @@
 pub use Rattle.circular_buffer.specs.Buffer.{Buffer, buffer}
 pub use Rattle.tl_burst.proofs.BegunMessages.{left-zero}
 pub use Rattle.tl_burst.specs.Begun.{left}
-pub use Rattle.tl_burst.specs.Handing.{burst_of, fault_after, fault_in, homes_with, rest_of, with_home}
-pub use Rattle.tl_burst.specs.Tracking.{IsPlaceOf, count_in}
+pub use Rattle.tl_burst.specs.Handing.{fault_after, fault_in, homes_with, rest_of, with_home}
+pub use Rattle.tl_burst.specs.Tracking.{IsPlaceOf}
 pub use Rattle.tl_burst.specs.declared.place.Place.{Place}
 pub use Rattle.tl_convert.proofs.Comparisons.{equal_true, not_equal, true_less}
 pub use Rattle.tl_convert.specs.Due.{due}
@@ -23,7 +23,7 @@ pub use Rattle.tl_msg.specs.declared.channel.ChE.{ChE}
 pub use Rattle.tl_msg.specs.declared.fault.BeatFault.{BeatFault}
 pub use Rattle.tl_msg.specs.declared.fault.BeatFault.TheVariants.{Corrupt, Mask}
 pub use Rattle.tl_msg.specs.declared.fault.SideFault.{SideFault}
-pub use Rattle.tl_msg.specs.declared.fault.SideFault.TheVariants.{Beat, SourceBusy}
+pub use Rattle.tl_msg.specs.declared.fault.SideFault.TheVariants.{Beat}
 pub use Rattle.tl_msg.specs.declared.head.HeadA.{HeadA}
 pub use Rattle.tl_msg.specs.declared.head.HeadB.{HeadB}
 pub use Rattle.tl_msg.specs.declared.head.HeadC.{HeadC}
@@ -31,7 +31,7 @@ pub use Rattle.tl_msg.specs.declared.head.HeadD.{HeadD}
 pub use Rattle.tl_msg.specs.declared.head.HeadE.{HeadE}
 pub use Rattle.tl_ring.proofs.Answered.{on_err, on_ok}
 pub use Rattle.tl_ring.proofs.EndSteps.{meets_of, met_of, sends_new, sends_offered, sends_shut}
-pub use Rattle.tl_ring.proofs.FieldSizes.{beat_small, inner_small, mask_bytes}
+pub use Rattle.tl_ring.proofs.FieldSizes.{beat_small}
 pub use Rattle.tl_ring.proofs.Moves.{cut_moves}
 pub use Rattle.tl_ring.proofs.PipeSteps.{stands_emptied, stands_new, stands_offered, stands_popped, stands_pushed, stands_shut, stands_took}
 pub use Rattle.tl_ring.proofs.Same.{same_send, same_send_then, same_take_then, still_pair}
@@ -44,9 +44,6 @@ pub use Rattle.tl_ring.specs.declared.fault.EndFault.{EndFault}
 pub use Rattle.tl_ring.specs.declared.queue.TheConstants.{ROOM}
 pub use Rattle.tl_ring.specs.declared.standing.Standing.{Standing}
 pub use Rattle.tl_settle.proofs.Homes.{from_answer, from_ask}
-pub use Rattle.tl_settle.proofs.Marks.{answered_answer, answered_ask, asked_answer, asked_ask, marks_answer_first, marks_answer_inside}
-pub use Rattle.tl_settle.proofs.Marks.{marks_ask_first, marks_ask_inside}
-pub use Rattle.tl_settle.proofs.Opens.{open_more}
-pub use Rattle.tl_settle.specs.Histories.{Answer, Answers, Ask, Asks, Event, Mark, answered, asked, client_answer, home_after, homes_from}
-pub use Rattle.tl_settle.specs.Histories.{manager_answer, manager_home, manager_homes, marks, open_request, to_request}
-pub use Rattle.tl_settle.specs.Requests.{is_release_ack}
+pub use Rattle.tl_settle.proofs.Marks.{answered_answer, answered_ask, asked_answer, asked_ask}
+pub use Rattle.tl_settle.specs.Histories.{Answer, Answers, Ask, Asks, Event, Mark, answered, asked, home_after, homes_from}
+pub use Rattle.tl_settle.specs.Histories.{manager_home, manager_homes, marks}

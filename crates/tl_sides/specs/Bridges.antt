@@ -5,7 +5,7 @@ use Rattle.tl_sides.specs.Words.{rules_a, rules_b, rules_c, rules_d, rules_e, He
 use Rattle.tl_sides.specs.Words.{popped, took, inbox_room, Pipe, Standing, Event, Ask, Answer, asked, answered, client_answer, manager_answer}
 use Rattle.tl_sides.specs.Words.{manager_home, manager_homes}
 use Rattle.tl_ring.specs.Pipe as piping
-use Rattle.tl_sides.specs.Books.{Client, Manager, KnowsClient, KnowsManager}
+use Rattle.tl_settle.specs.Books.{Client, Manager, KnowsClient, KnowsManager}
 use Rattle.tl_sides.specs.Calls.{SendingChannel, TakingChannel, alone}
 
 -- a bridge as it is now: it keeps no history

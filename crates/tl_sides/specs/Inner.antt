@@ -1,5 +1,3 @@
-pub mod Entries
-pub mod Noting
 pub mod NotingAll
 pub mod Making
 pub mod Meeting

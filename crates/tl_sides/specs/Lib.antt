@@ -1,6 +1,4 @@
 pub mod Words
-pub mod Tables
-pub mod Books
 pub mod Crossings
 pub mod Calls
 pub mod Bridges

@@ -2,7 +2,7 @@
 use Rattle.std.specs.Prelude.{◌≡◌, ◌++◌, ℕ, true, false, List, [], ◌∷◌, map, take, drop}
 use Rattle.tl_sides.specs.Words.{Rules, rules_a, rules_b, rules_c, rules_d, rules_e, HeadA, HeadB, HeadC, HeadD, HeadE, BeatOf, homes_with, Outgoing}
 use Rattle.tl_sides.specs.Words.{HasSent, HasTaken, Event, Ask, Answer, asked, answered, client_answer, manager_answer, manager_homes}
-use Rattle.tl_sides.specs.Books.{Client, Manager, KnowsClient, KnowsManager}
+use Rattle.tl_settle.specs.Books.{Client, Manager, KnowsClient, KnowsManager}
 use Rattle.tl_sides.specs.Calls.{SendingChannel, TakingChannel}
 use Rattle.tl_sides.specs.Crossings.{stops_alone}
 

@@ -7,7 +7,7 @@ use Rattle.tl_sides.specs.Words.{rules_a, rules_b, rules_c, rules_d, rules_e, Ch
 use Rattle.tl_sides.specs.Words.{World, empty, offered, Sending, Taking, SendHalf, TakeHalf, sending_of, taking_of, Sends, Takes, Meets, ArePair}
 use Rattle.tl_sides.specs.Words.{SameSend, SameTake, known_free, closing, took_first, Event, Ask, Answer, asked, answered, client_answer}
 use Rattle.tl_sides.specs.Words.{manager_answer, manager_home, manager_homes}
-use Rattle.tl_sides.specs.Books.{Client, Manager, KnowsClient, KnowsManager}
+use Rattle.tl_settle.specs.Books.{Client, Manager, KnowsClient, KnowsManager}
 use Rattle.tl_sides.specs.Calls.{SendingChannel, TakingChannel, alone}
 use Rattle.tl_sides.specs.Ports.{ClientNow, ManagerNow}
 use Rattle.tl_sides.specs.Ends.{after_pump, IsIdle}

@@ -1,9 +1,6 @@
 -- The words of the crates below that the definitions of this crate speak in.
 pub use Rattle.circular_buffer.specs.Buffer.{Buffer}
-pub use Rattle.tl_burst.specs.Begun.{left}
-pub use Rattle.tl_burst.specs.Handing.{IsHanded, burst_after, fault_after, homes_with, rest_of}
-pub use Rattle.tl_burst.specs.Tracking.{IsPlaceOf}
-pub use Rattle.tl_burst.specs.declared.place.Place.{Place}
+pub use Rattle.tl_burst.specs.Handing.{fault_after, homes_with, rest_of}
 pub use Rattle.tl_msg.specs.Faults.{IsLawfulBeat}
 pub use Rattle.tl_msg.specs.Rules.{Rules}
 pub use Rattle.tl_msg.specs.Tables.{rules_a, rules_b, rules_c, rules_d, rules_e}
@@ -13,7 +10,6 @@ pub use Rattle.tl_msg.specs.declared.channel.ChB.{ChB}
 pub use Rattle.tl_msg.specs.declared.channel.ChC.{ChC}
 pub use Rattle.tl_msg.specs.declared.channel.ChD.{ChD}
 pub use Rattle.tl_msg.specs.declared.channel.ChE.{ChE}
-pub use Rattle.tl_msg.specs.declared.fault.BeatFault.{BeatFault}
 pub use Rattle.tl_msg.specs.declared.fault.SideFault.{SideFault}
 pub use Rattle.tl_msg.specs.declared.fault.SideFault.TheVariants.{Beat}
 pub use Rattle.tl_msg.specs.declared.head.HeadA.{HeadA}
@@ -29,6 +25,4 @@ pub use Rattle.tl_ring.specs.Pipe.{Pipe}
 pub use Rattle.tl_ring.specs.declared.fault.EndFault.{EndFault}
 pub use Rattle.tl_ring.specs.declared.queue.TheConstants.{ROOM}
 pub use Rattle.tl_ring.specs.declared.standing.Standing.{Standing}
-pub use Rattle.tl_settle.specs.Histories.{Answer, Ask, Event, Mark, answered, asked, client_answer, manager_answer, manager_home, manager_homes}
-pub use Rattle.tl_settle.specs.Histories.{marks, open_request, to_request}
-pub use Rattle.tl_settle.specs.Requests.{is_release_ack}
+pub use Rattle.tl_settle.specs.Histories.{Answer, Ask, Event, answered, asked, client_answer, manager_answer, manager_home, manager_homes}

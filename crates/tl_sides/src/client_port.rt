@@ -3,18 +3,18 @@ ghost use Rattle.std.specs.Prelude.{◌≡◌, ◌↔◌, ◌++◌, [], map, IsT
 ghost use Rattle.tl_lanes.specs.Lanes.{IsWidth};
 ghost use Rattle.tl_ring.specs.Boxes.{IsOpen};
 ghost use Rattle.tl_settle.specs.Histories.{Answer};
-ghost use Rattle.tl_sides.specs.Books.{KnowsClient};
+ghost use Rattle.tl_settle.specs.Books.{KnowsClient};
 ghost use Rattle.tl_sides.specs.Calls.{OffersBeat, ClosesChannel, TakesBeat};
 ghost use Rattle.tl_sides.specs.Ports.{ClientDone, ClientStands, client_new, takes};
 ghost use Rattle.tl_sides.specs.Ports.{port_sends_a, port_sends_c, port_sends_e, port_takes_b, port_takes_d};
 
-use crate::books::ClientBook;
 use crate::noting::note_all;
 use crate::offering::{offer_alone, offer_request};
 use std::alloc::{Allocator, Global};
 use std::marker::Model;
 use tl_msg::{Beat, ChA, ChB, ChC, ChD, ChE, SideFault};
 use tl_ring::{EndFault, Inbox, Outbox};
+use tl_settle::ClientBook;
 
 /// The client's side on a bus of `C` bytes, whatever carries its beats to and from a bus of `M` bytes: it offers beats of
 /// A, C and E, and takes those of B and D.

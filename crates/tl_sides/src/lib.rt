@@ -12,7 +12,6 @@ macro_rules! given {
     };
 }
 
-mod books;
 mod channel_calls;
 mod client_port;
 mod client_side;
@@ -24,9 +23,7 @@ mod offering;
 mod per_channel;
 mod sides;
 mod sync_bridge;
-mod tables;
 
-pub use books::{ClientBook, ManagerBook, new_books};
 pub use client_port::ClientPort;
 pub use client_side::ClientSide;
 pub use manager_port::ManagerPort;
@@ -34,4 +31,3 @@ pub use manager_side::ManagerSide;
 pub use per_channel::PerChannel;
 pub use sides::{bridge, meet_sides};
 pub use sync_bridge::{Standings, SyncBridge};
-pub use tables::{Request, RequestTable, SourceTable};

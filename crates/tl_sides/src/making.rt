@@ -3,12 +3,12 @@ ghost use Rattle.std.specs.Prelude.{◌≡◌, ◌≤◌, ◌<◌, ◌↔◌, �
 ghost use Rattle.circular_buffer.specs.Buffer.{buffer};
 ghost use Rattle.tl_ring.specs.Ends.{IsNewRing};
 ghost use Rattle.tl_ring.specs.declared.pipe.TheConstants.{MAX_RING};
-ghost use Rattle.tl_sides.specs.Books.{KnowsClient, KnowsManager};
+ghost use Rattle.tl_settle.specs.Books.{KnowsClient, KnowsManager};
 
-use crate::books::{ClientBook, ManagerBook, new_books};
 use std::alloc::Allocator;
 use tl_msg::Channel;
 use tl_ring::{BuildFault, Ring, SendHalf, TakeHalf};
+use tl_settle::{ClientBook, ManagerBook, new_books};
 
 /// A ring as both its ends have it.
 pub(crate) type Halves<K, const V: usize, A> = (SendHalf<K, V, A>, TakeHalf<K, V, A>);

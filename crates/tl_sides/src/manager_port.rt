@@ -3,18 +3,18 @@ ghost use Rattle.std.specs.Prelude.{◌≡◌, ◌↔◌, ◌++◌, [], map, IsT
 ghost use Rattle.tl_lanes.specs.Lanes.{IsWidth};
 ghost use Rattle.tl_ring.specs.Boxes.{IsOpen};
 ghost use Rattle.tl_settle.specs.Histories.{Ask};
-ghost use Rattle.tl_sides.specs.Books.{KnowsManager};
+ghost use Rattle.tl_settle.specs.Books.{KnowsManager};
 ghost use Rattle.tl_sides.specs.Calls.{OffersBeat, ClosesChannel, TakesBeat};
 ghost use Rattle.tl_sides.specs.Ports.{ManagerDone, ManagerStands, manager_new, takes};
 ghost use Rattle.tl_sides.specs.Ports.{port_sends_b, port_sends_d, port_takes_a, port_takes_c, port_takes_e};
 
-use crate::books::ManagerBook;
 use crate::noting::note_all;
 use crate::offering::{offer_alone, offer_response};
 use std::alloc::{Allocator, Global};
 use std::marker::Model;
 use tl_msg::{Beat, ChA, ChB, ChC, ChD, ChE, SideFault};
 use tl_ring::{EndFault, Inbox, Outbox};
+use tl_settle::ManagerBook;
 
 /// The manager's side on a bus of `M` bytes, whatever carries its beats to and from a bus of `C` bytes: it offers beats of
 /// B and D, and takes those of A, C and E.

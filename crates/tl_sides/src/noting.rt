@@ -3,12 +3,12 @@ ghost use Rattle.std.specs.Prelude.{◌≡◌, ◌∷◌, ◌++◌, [], List, Al
 ghost use Rattle.tl_lanes.specs.Lanes.{IsWidth};
 ghost use Rattle.tl_msg.specs.Tables.{rules_a, rules_d};
 ghost use Rattle.tl_settle.specs.Histories.{Ask, Answer};
-ghost use Rattle.tl_sides.specs.Books.{KnowsClient, KnowsManager};
+ghost use Rattle.tl_settle.specs.Books.{KnowsClient, KnowsManager};
 ghost use Rattle.tl_sides.specs.Inner.NotingAll.{HasNoted, noted_none, noted_then};
 
-use crate::books::{ClientBook, ManagerBook};
 use std::alloc::Allocator;
 use tl_msg::{BeatOf, HeadA, HeadD};
+use tl_settle::{ClientBook, ManagerBook};
 
 /// What notes the beats `B` that a side takes, one after another.
 pub(crate) trait Notes<B> {

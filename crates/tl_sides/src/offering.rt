@@ -4,10 +4,10 @@ ghost use Rattle.tl_ring.specs.Boxes.{IsOpen};
 ghost use Rattle.tl_sides.specs.Calls.{OffersBeat};
 ghost use Rattle.tl_sides.specs.Ports.{ClientNow, ManagerNow, outbox_sends, port_sends_a, port_sends_d};
 
-use crate::books::{ClientBook, ManagerBook};
 use std::alloc::Allocator;
 use tl_msg::{Beat, ChA, ChD, Channel, SideFault};
 use tl_ring::Outbox;
+use tl_settle::{ClientBook, ManagerBook};
 
 // Offers a beat on B, C or E, which nothing couples to another channel.
 pub(crate) fn offer_alone<K: Channel, const W: usize, const V: usize>(

@@ -3,14 +3,13 @@ ghost use Rattle.std.specs.Prelude.{◌≡◌, ◌≤◌, ◌<◌, ◌↔◌, �
 ghost use Rattle.tl_lanes.specs.Lanes.{IsWidth};
 ghost use Rattle.tl_ring.specs.declared.pipe.TheConstants.{MAX_RING};
 ghost use Rattle.tl_ring.specs.Ends.{Met, IsNewRing};
-ghost use Rattle.tl_sides.specs.Books.{KnowsClient, KnowsManager};
+ghost use Rattle.tl_settle.specs.Books.{KnowsClient, KnowsManager};
 ghost use Rattle.tl_sides.specs.Ends.{AreStanding};
 ghost use Rattle.tl_sides.specs.Inner.Making.{AreNewSides};
 ghost use Rattle.tl_sides.specs.Inner.Meeting.{AreCounted};
 ghost use Rattle.tl_sides.specs.Sides.{ClientPast, ManagerPast, ClientStandsFor, ManagerStandsFor, SidesMeet};
 ghost use Rattle.tl_sides.specs.Sides.{AreSides, IsNewClient, IsNewManager, new_client, new_manager};
 
-use crate::books::{ClientBook, ManagerBook};
 use crate::client_port::ClientPort;
 use crate::client_side::ClientSide;
 use crate::making::{Halves, new_parts};
@@ -20,6 +19,7 @@ use crate::sync_bridge::Standings;
 use std::alloc::Allocator;
 use tl_msg::{ChA, ChB, ChC, ChD, ChE};
 use tl_ring::{BuildFault, Intake, Standing, look};
+use tl_settle::{ClientBook, ManagerBook};
 
 // Both sides over the halves of their rings and their books. It has no word on the widths: what it
 // promises has them as a premise.

@@ -6,12 +6,11 @@ ghost use Rattle.tl_lanes.specs.Lanes.{IsWidth};
 ghost use Rattle.tl_ring.specs.Pipe.{IsReady};
 ghost use Rattle.circular_buffer.specs.Buffer.{buffer};
 ghost use Rattle.tl_sides.specs.Bridges.{Past, StandsFor, IsStanding, nothing_yet, all_pumped, all_fetched, after_pump, after_fetch};
-ghost use Rattle.tl_sides.specs.Books.{KnowsClient, KnowsManager};
+ghost use Rattle.tl_settle.specs.Books.{KnowsClient, KnowsManager};
 ghost use Rattle.tl_sides.specs.Bridges.{bridge_sends_a, bridge_sends_b, bridge_sends_c, bridge_sends_d, bridge_sends_e};
 ghost use Rattle.tl_sides.specs.Bridges.{bridge_takes_a, bridge_takes_b, bridge_takes_c, bridge_takes_d, bridge_takes_e};
 ghost use Rattle.tl_sides.specs.Calls.{OffersBeat, ClosesChannel, TakesBeat};
 
-use crate::books::{ClientBook, ManagerBook};
 use crate::client_port::ClientPort;
 use crate::making::new_parts;
 use crate::manager_port::ManagerPort;
@@ -21,6 +20,7 @@ use std::alloc::{Allocator, Global};
 use std::marker::Model;
 use tl_msg::{Beat, ChA, ChB, ChC, ChD, ChE, SideFault};
 use tl_ring::{BuildFault, EndFault, Ring, Standing, fetch, pump};
+use tl_settle::{ClientBook, ManagerBook};
 
 /// How many far beats stand at each place of each channel.
 pub type Standings = PerChannel<Standing>;

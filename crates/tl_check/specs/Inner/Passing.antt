@@ -11,7 +11,7 @@ use Rattle.tl_convert.specs.Accepted.{accepted_of, accepted_after}
 use Rattle.tl_settle.specs.Histories.{Event, Ask, Answer, asked, answered}
 use Rattle.tl_settle.specs.Rounds.{Run}
 use Rattle.tl_settle.specs.Settling.{far_a, far_d}
-use Rattle.tl_sides.specs.Books.{Client, Manager, KnowsClient, KnowsManager}
+use Rattle.tl_settle.specs.Books.{Client, Manager, KnowsClient, KnowsManager}
 
 -- Of a channel's near beats the first `at` were accepted: this burst is open after them, none of them has a fault where it stands, and they make
 -- `far` far beats due

@@ -1,6 +1,6 @@
 use Rattle.std.proofs.Common.{◌++◌, map, refl, sym, ap, subst, ◌∙◌, append-nil}
 use Rattle.tl_sides.proofs.Words.{rules_d, Answer, answered}
-use Rattle.tl_sides.specs.Books.{KnowsClient}
+use Rattle.tl_settle.specs.Books.{KnowsClient}
 use Rattle.tl_sides.proofs.BridgeSteps.{lawful_head, some_taken, none_taken}
 use Rattle.tl_sides.proofs.PortSteps.{client_takes}
 use Rattle.tl_sides.proofs.Layouts.{client_layout, part_small, beat_small}

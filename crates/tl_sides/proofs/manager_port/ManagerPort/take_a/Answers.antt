@@ -1,6 +1,6 @@
 use Rattle.std.proofs.Common.{◌++◌, map, refl, sym, ap, subst, ◌∙◌, append-nil}
 use Rattle.tl_sides.proofs.Words.{rules_a, Ask, asked}
-use Rattle.tl_sides.specs.Books.{KnowsManager}
+use Rattle.tl_settle.specs.Books.{KnowsManager}
 use Rattle.tl_sides.proofs.BridgeSteps.{lawful_head, some_taken, none_taken}
 use Rattle.tl_sides.proofs.PortSteps.{manager_takes}
 use Rattle.tl_sides.proofs.Layouts.{manager_layout, part_small, beat_small}

@@ -1,6 +1,6 @@
 use Rattle.std.proofs.Common.{◌++◌, map, refl, subst, get_or}
 use Rattle.tl_sides.proofs.Words.{rules_a, Ask}
-use Rattle.tl_sides.specs.Books.{KnowsManager}
+use Rattle.tl_settle.specs.Books.{KnowsManager}
 use Rattle.tl_sides.proofs.BridgeSteps.{lawful_head}
 use Rattle.tl_sides.proofs.PortSteps.{manager_takes_all}
 use Rattle.tl_sides.proofs.Layouts.{manager_layout, part_small, beat_small}

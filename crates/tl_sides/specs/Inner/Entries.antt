@@ -1,7 +1,0 @@
--- What the place of a source in a table of requests holds.
-use Rattle.std.specs.Prelude.{Option, None, Some, if◌then◌else◌}
-use Rattle.tl_sides.specs.declared.tables.Entry.{Entry}
-use Rattle.tl_sides.specs.declared.tables.Request.{Request}
-
-abbrev pub request_in : Entry → Option Request
-request_in e = if e.open then Some (record { size = e.size; address = e.address }) else None
