@@ -25,43 +25,56 @@ fn beat(head: HeadA, mask: Mask) -> Beat<ChA, 4> {
     }
 }
 
-fn fault(tracker: &Tracker<ChA, 4>, head: HeadA, mask: Mask) -> Option<BeatFault> {
-    tracker.check(&beat(head, mask)).err()
+fn is_refused(tracker: &Tracker<ChA, 4>, head: HeadA, mask: Mask, fault: BeatFault) -> bool {
+    match tracker.check(&beat(head, mask)) {
+        Ok(_) => false,
+        Err(found) => found == fault,
+    }
 }
 
-/// Goes on by a beat of [`PUT`], and answers its index, and whether it is the last one.
-fn passed(tracker: &mut Tracker<ChA, 4>) -> Option<(u32, bool)> {
-    let place = tracker.check(&beat(PUT, 0xf)).ok()?;
-    let (index, last) = (place.index, place.last);
-    tracker.advance(place);
-    Some((index, last))
+/// Whether it goes on by a beat of [`PUT`] of this index, which is the last one or not.
+fn passes(tracker: &mut Tracker<ChA, 4>, index: u32, last: bool) -> bool {
+    match tracker.check(&beat(PUT, 0xf)) {
+        Ok(place) => {
+            let is_there = (place.index == index) & (place.last == last);
+            tracker.advance(place);
+            is_there
+        }
+        Err(_) => false,
+    }
+}
+
+/// Whether one beat of [`PUT`] was accepted.
+fn is_inside(tracker: &Tracker<ChA, 4>) -> bool {
+    match tracker.in_burst() {
+        Some((head, count)) => (head == PUT) & (count == 1),
+        None => false,
+    }
 }
 
 /// A mask with a bit past the bus, one that lacks a lane, and another head, which comes before that.
 fn bring_a_put(tracker: &mut Tracker<ChA, 4>) -> bool {
-    let is_refused = fault(tracker, PUT, 0x1f) == Some(BeatFault::Mask);
-    let is_begun = passed(tracker) == Some((0, false));
-    let is_open = tracker.in_burst() == Some((PUT, 1));
-    let is_held = (fault(tracker, PUT, 7) == Some(BeatFault::Mask))
-        & (fault(tracker, OTHER, 7) == Some(BeatFault::HeadChanged));
-    let is_ended = passed(tracker) == Some((1, true));
-    is_refused & is_begun & is_open & is_held & is_ended & tracker.in_burst().is_none()
+    let is_held = is_refused(tracker, PUT, 0x1f, BeatFault::Mask);
+    let is_begun = passes(tracker, 0, false) & is_inside(tracker);
+    let is_kept = is_refused(tracker, PUT, 7, BeatFault::Mask)
+        & is_refused(tracker, OTHER, 7, BeatFault::HeadChanged);
+    let is_ended = passes(tracker, 1, true) & tracker.in_burst().is_none();
+    is_held & is_begun & is_kept & is_ended
 }
 
-/// Whether the next beat is a first one, before and after each of two beats of [`PUT`].
-fn counted(counter: &mut BurstCounter<ChA, 4>) -> Option<[bool; 3]> {
+/// Whether the next beat is a first one before two beats of [`PUT`] and behind them, and none between.
+fn is_counted(counter: &mut BurstCounter<ChA, 4>) -> bool {
     if ChA::fault(&PUT).is_some() {
-        return None;
+        return false;
     }
     let before = counter.first();
     counter.pass(&PUT);
     let inside = counter.first();
     counter.pass(&PUT);
-    Some([before, inside, counter.first()])
+    before & !inside & counter.first()
 }
 
 #[test]
 fn a_burst_of_two_beats(rt: HostRuntime) {
-    let is_counted = counted(&mut BurstCounter::new()) == Some([true, false, true]);
-    assert!(rt; bring_a_put(&mut Tracker::new()) & is_counted);
+    assert!(rt; bring_a_put(&mut Tracker::new()) & is_counted(&mut BurstCounter::new()));
 }
