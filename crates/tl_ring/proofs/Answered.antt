@@ -1,7 +1,6 @@
 -- What an answer shows, and what holds of no item.
-use Rattle.tl_ring.proofs.Names.{◌≡◌, ◌≤◌, ◌<◌, ◌∷◌, ◌++◌, None, Some, Result, Ok, Err, IsOk, OnOk, OnErr, List, [], All, length}
-use Rattle.tl_ring.proofs.Names.{drop, slice_get, ◌⊎◌, ◌||◌, Bool, true, false, inl, inr, get_or, subst, refl, sym, ap, arith, All-take, All-drop}
-use Rattle.tl_ring.proofs.Names.{take-append_seam, drop-append_seam}
+use Rattle.tl_ring.proofs.Names.{◌≡◌, ◌≤◌, ◌<◌, ◌∷◌, None, Some, Result, Ok, Err, IsOk, OnOk, OnErr, List, [], All, length}
+use Rattle.tl_ring.proofs.Names.{drop, slice_get, ◌⊎◌, ◌||◌, Bool, true, false, inl, inr, get_or, refl, ap, arith}
 
 -- of each item of an empty list anything holds
 pub all_of_none : {A : Type 0} (P : A → Type 0) (xs : List A) → xs ≡ [] → All P xs
@@ -28,13 +27,6 @@ only_item (y ∷ (z ∷ zs)) x some one e = absurd (omega arith)
 pub one_of_two : (a b : Bool) → (a || b) ≡ true → (a ≡ true) ⊎ (b ≡ true)
 one_of_two true b one = inl refl
 one_of_two false b one = inr one
-
--- what holds of each item of two lists joined holds of each of either
-pub all_in_front : {A : Type 0} (P : A → Type 0) (xs ys all : List A) → xs ++ ys ≡ all → All P all → All P xs
-all_in_front P xs ys all e h = rw (take-append_seam xs ys) at (All-take P (length xs) (xs ++ ys) (subst (All P) (sym e) h))
-
-pub all_behind : {A : Type 0} (P : A → Type 0) (xs ys all : List A) → xs ++ ys ≡ all → All P all → All P ys
-all_behind P xs ys all e h = rw (drop-append_seam xs ys) at (All-drop P (length xs) (xs ++ ys) (subst (All P) (sym e) h))
 
 -- what goes on in an answer that is Ok, and in one that is not
 pub on_ok : {A E : Type 0} {P Q : Type 0} (answer : Result A E) → (IsOk answer → P → Q) → OnOk answer P → OnOk answer Q

@@ -1,9 +1,9 @@
 -- What the proofs of this crate name most, of the library and of the definitions, passed on by one module.
 pub use Rattle.std.proofs.Common.{◌≡◌, ◌≤◌, ◌<◌, ◌∷◌, ◌++◌, Option, None, Some, List, [], length, drop, ◌⊎◌, ◌||◌, Bool, true, false, inl, inr}
 pub use Rattle.std.proofs.Common.{get_or, subst, refl, sym, ap, arith, ◌^◌, ℕ, zero, suc, take, ◌∙◌, append_assoc, append-nil, ◌+◌, ◌-◌, min}
-pub use Rattle.std.proofs.Common.{length-append, ⊎_elim, ◌*◌, max, ◌↔◌, ◌==◌, ◌&&◌, cond, map, slice_index, replicate, rules, lit<}
+pub use Rattle.std.proofs.Common.{length-append, ⊎_elim, ◌*◌, max, ◌↔◌, ◌==◌, ◌&&◌, cond, map, slice_index, replicate, rules, lit<, not}
 pub use Rattle.std.proofs.Math.Seq.{take-append_seam, drop-append_seam, take-append-add, take-length}
-pub use Rattle.std.proofs.lemmas.Bool.{cases_lt, and_parts, or_parts}
+pub use Rattle.std.proofs.lemmas.Bool.{cases_lt, and_parts, or_parts, not-true}
 pub use Rattle.std.proofs.lemmas.List.{length-take, length-drop, take-append-le, nil_from_length, take-append-drop, length-map, take_all, drop_all}
 pub use Rattle.std.proofs.lemmas.List.{drop-append-le, take_rest, drop-drop}
 pub use Rattle.std.proofs.lemmas.List.Elements.{All-take, All-drop, All-append, All-replicate, All-nil, All-cons, All-head, All-tail}

@@ -5,7 +5,6 @@ ghost use Rattle.tl_lanes.specs.Lanes.{IsWidth};
 ghost use Rattle.tl_msg.specs.Faults.{IsLawfulBeat};
 ghost use Rattle.tl_msg.specs.declared.beat.BeatOf.{BeatOf};
 ghost use Rattle.tl_burst.specs.Handing.{IsAdmitted, rest_of, fault_after};
-ghost use Rattle.tl_burst.specs.Tracking.{IsPlaceOf};
 ghost use Rattle.tl_ring.specs.Crossing.{World, empty, offered, shut, inbox_room};
 ghost use Rattle.tl_ring.specs.Ends.{Sends, Takes, Pushed, Fetched, Shows, Shown, LookedAfter, IsReceiptOf, IsReceiptFor, Finishes, TakeHalf, IsNewRing, sending_of, known_free, known_items, passed, closing, took_first};
 ghost use Rattle.tl_ring.specs.declared.queue.TheConstants.{ROOM};
@@ -19,7 +18,6 @@ use crate::queue::ROOM;
 use rtrb::Finished;
 use std::alloc::{Allocator, Global};
 use std::marker::Model;
-use tl_burst::Place;
 use tl_msg::{Beat, BeatFault, Channel};
 
 /// The sending end of one channel's crossing, from a bus of `W` bytes to a bus of `V` bytes.
@@ -77,55 +75,11 @@ impl<K: Channel, const W: usize, const V: usize, A: Allocator> SendEnd<K, W, V, 
         self.outbox.staged()
     }
 
-    /// Whether the end may be closed: no burst is unfinished, so [`SendEnd::close`] answers Ok.
-    pub fn may_close(&self) -> bool
-        // for every crossing that the end stands for
-        ensures { (x : World K.Head W V) → Sends K.rules self.now x →
-            IsTrue result ↔ (rest_of K.rules W x.accepted ≡ []) }
-    {
-        self.outbox.may_close()
-    }
-
-    /// Whether `beat` may be the next near beat, and where it stands in its message. It is refused
-    /// with its first fault, exactly where a burst is interrupted or a rule of the link broken by
-    /// it after the beats that were accepted before. Nothing changes.
-    #[inline(always)]
-    pub fn check(&self, beat: &Beat<K, W>) -> Result<Place<K>, BeatFault>
-        requires { IsWidth W }
-        // for every crossing that the end stands for
-        ensures admitted { (x : World K.Head W V) → Sends K.rules self.now x →
-            IsOk result ↔ IsAdmitted K.rules x.accepted beat.now }
-        ensures first_fault { (x : World K.Head W V) → Sends K.rules self.now x →
-            IfErr result (λ fault. fault_after K.rules x.accepted beat.now ≡ Some fault) }
-        ensures index { (x : World K.Head W V) → Sends K.rules self.now x →
-            IfOk result (λ place. place.index ≡ length (rest_of K.rules W x.accepted)) }
-        // for every end
-        ensures place { IfOk result (IsPlaceOf K.rules W self.now.converter.burst beat.now) }
-    {
-        self.outbox.check(beat)
-    }
-
-    /// Offers a near beat where nothing is staged, at its place, which [`SendEnd::check`] gave.
-    /// The far beats that it completes, at most [`ROOM`], are then staged. The home is read at a first
-    /// beat of D alone, where it is the address of the request that the message answers.
-    pub fn offer_at(&mut self, beat: &Beat<K, W>, place: Place<K>, home: u64)
-        requires near { IsWidth W }
-        requires far { IsWidth V }
-        requires ready { self.old.stage ≡ [] }
-        requires place { IsPlaceOf K.rules W self.old.converter.burst beat.now place }
-        // for every crossing that the end stands for
-        ensures accepted { (x : World K.Head W V) → Sends K.rules self.old x →
-            Sends K.rules self.new (offered K.rules beat.now home x) }
-        // for every end
-        ensures ring { self.new.producer ≡ self.old.producer }
-        ensures open { self.new.closed ≡ false }
-    {
-        self.outbox.offer_at(beat, place, home);
-    }
-
-    /// Offers a near beat where nothing is staged. It is accepted exactly where
-    /// [`SendEnd::check`] admits it, as [`SendEnd::offer_at`] does. Else it is refused with its
-    /// first fault, and nothing changes.
+    /// Offers a near beat where nothing is staged. It is refused with its first fault, exactly where
+    /// a burst is interrupted or a rule of the link broken by it after the beats that were accepted
+    /// before, and nothing changes then. Else the far beats that it completes, at most [`ROOM`], are
+    /// staged. The home is read at a first beat of D alone, where it is the address of the request
+    /// that the message answers.
     pub fn offer(&mut self, beat: Beat<K, W>, home: u64) -> Result<(), BeatFault>
         requires near { IsWidth W }
         requires far { IsWidth V }
@@ -141,9 +95,7 @@ impl<K: Channel, const W: usize, const V: usize, A: Allocator> SendEnd<K, W, V, 
         ensures ring { self.new.producer ≡ self.old.producer }
         ensures refused { OnErr result (self.new ≡ self.old) }
     {
-        let place = self.check(&beat)?;
-        self.offer_at(&beat, place, home);
-        Ok(())
+        self.outbox.offer(&beat, home)
     }
 
     /// Moves staged beats into the ring, in order, and answers their number. They are all of them,

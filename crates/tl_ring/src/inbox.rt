@@ -13,7 +13,7 @@ use tl_msg::{Beat, Channel};
 /// yet taken, in order, at most [`crate::ROOM`]. Each of them is lawful by itself.
 #[derive(Drop)]
 pub struct Inbox<K: Channel, const V: usize> {
-    queue: Queue<Beat<K, V>>,
+    pub(crate) queue: Queue<Beat<K, V>>,
 }
 
 impl<K: Channel, const V: usize> Model for Inbox<K, V> {

@@ -53,7 +53,7 @@ impl<K: Channel, const W: usize, const V: usize> Outbox<K, W, V> {
     pub fn ready(&self) -> bool
         ensures { IsTrue result ↔ IsOpen self.now }
     {
-        !self.closed && self.stage.is_empty()
+        self.stage.is_empty() & !self.closed
     }
 
     /// Whether no more beats may be offered, ever.
@@ -69,16 +69,6 @@ impl<K: Channel, const W: usize, const V: usize> Outbox<K, W, V> {
         ensures most { result ≤ ROOM }
     {
         self.stage.len()
-    }
-
-    /// Whether the outbox may be closed: no burst is unfinished, so [`Outbox::close`] answers Ok.
-    pub fn may_close(&self) -> bool
-        // for all that the outbox accepted and sent
-        ensures { (bs : List (BeatOf K.Head W)) (homes : List ℕ) (sent : List (BeatOf K.Head V)) →
-            HasSent K.rules self.now bs homes sent →
-            IsTrue result ↔ (rest_of K.rules W bs ≡ []) }
-    {
-        self.converter.at_boundary()
     }
 
     /// Whether `beat` may be the next near beat, and where it stands in its message. It is refused with its first fault, exactly
@@ -117,6 +107,29 @@ impl<K: Channel, const W: usize, const V: usize> Outbox<K, W, V> {
         ensures still { self.new.closed ≡ false }
     {
         stage_beat(&mut self.converter, beat, place, home, &mut self.stage);
+    }
+
+    /// Offers a near beat where the outbox is ready. It is accepted exactly where [`Outbox::check`] admits it, as
+    /// [`Outbox::offer_at`] does. Else it is refused with its first fault, and nothing changes.
+    pub fn offer(&mut self, beat: &Beat<K, W>, home: u64) -> Result<(), BeatFault>
+        requires { IsWidth W × IsWidth V × IsOpen self.old }
+        // for all that the outbox accepted and sent
+        ensures admitted { (bs : List (BeatOf K.Head W)) (homes : List ℕ) (sent : List (BeatOf K.Head V)) →
+            HasSent K.rules self.old bs homes sent →
+            IsOk result ↔ IsAdmitted K.rules bs beat.now }
+        ensures accepted { (bs : List (BeatOf K.Head W)) (homes : List ℕ) (sent : List (BeatOf K.Head V)) →
+            HasSent K.rules self.old bs homes sent →
+            OnOk result (HasSent K.rules self.new (bs ++ beat.now ∷ []) (homes_with K.rules bs homes beat.now home) sent) }
+        ensures first_fault { (bs : List (BeatOf K.Head W)) (homes : List ℕ) (sent : List (BeatOf K.Head V)) →
+            HasSent K.rules self.old bs homes sent →
+            IfErr result (λ fault. fault_after K.rules bs beat.now ≡ Some fault) }
+        // for every outbox
+        ensures still { self.new.closed ≡ false }
+        ensures refused { OnErr result (self.new ≡ self.old) }
+    {
+        let place = self.check(beat)?;
+        self.offer_at(beat, place, home);
+        Ok(())
     }
 
     /// Ends the offers. Refused exactly where a burst is unfinished, and nothing changes then. What is staged stays so. A second

@@ -69,7 +69,7 @@ pub fn meet<K: Channel, const W: usize, const V: usize, A: Allocator>(
         Meets K.rules send.new take.new x taken }
 {
     Standing {
-        staged: send.outbox.staged(),
+        staged: send.staged(),
         in_ring: look(&mut send.producer, &mut take.intake.half),
         inbox: take.inbox.len(),
     }
@@ -93,7 +93,7 @@ pub fn meet_closing<K: Channel, const W: usize, const V: usize, A: Allocator>(
         Meets K.rules send.new take.new x taken }
 {
     Standing {
-        staged: send.outbox.staged(),
+        staged: send.staged(),
         in_ring: look(&mut send.producer, &mut take.intake.half),
         inbox: take.inbox.len(),
     }

@@ -3,7 +3,6 @@ ghost use Rattle.std.specs.Prelude.{◌≡◌, ◌≤◌, ◌<◌, ◌-◌, ◌+
 ghost use Rattle.tl_lanes.specs.Lanes.{IsWidth};
 ghost use Rattle.tl_msg.specs.Faults.{IsLawfulBeat};
 ghost use Rattle.tl_burst.specs.Handing.{IsAdmitted, rest_of, fault_after};
-ghost use Rattle.tl_burst.specs.Tracking.{IsPlaceOf};
 ghost use Rattle.tl_ring.specs.Crossing.{World, empty, offered, pushed, popped, took, shut, inbox_room};
 ghost use Rattle.tl_ring.specs.Pipe.{StandsFor, IsReady, IsDrained};
 ghost use Rattle.tl_ring.specs.declared.queue.TheConstants.{ROOM};
@@ -16,7 +15,6 @@ use crate::ring::{Ring, fetch, pump};
 use crate::standing::Standing;
 use std::alloc::{Allocator, Global};
 use std::marker::Model;
-use tl_burst::Place;
 use tl_msg::{Beat, BeatFault, Channel};
 
 /// The most beats that a ring may hold (this project's choice).
@@ -81,40 +79,10 @@ impl<K: Channel, const W: usize, const V: usize, A: Allocator> SyncPipe<K, W, V,
         self.outbox.ready()
     }
 
-    /// Whether `beat` may be the next near beat, and where it stands in its message. It is refused with its first fault, exactly
-    /// where a burst is interrupted or a rule of the link broken by it after the beats that were accepted before. Nothing changes.
-    #[inline(always)]
-    pub fn check(&self, beat: &Beat<K, W>) -> Result<Place<K>, BeatFault>
-        requires { IsWidth W }
-        // for every crossing that the pipe stands for
-        ensures admitted { (x : World K.Head W V) → StandsFor K.rules self.now x →
-            IsOk result ↔ IsAdmitted K.rules x.accepted beat.now }
-        ensures first_fault { (x : World K.Head W V) → StandsFor K.rules self.now x →
-            IfErr result (λ fault. fault_after K.rules x.accepted beat.now ≡ Some fault) }
-        ensures index { (x : World K.Head W V) → StandsFor K.rules self.now x →
-            IfOk result (λ place. place.index ≡ length (rest_of K.rules W x.accepted)) }
-        // for every pipe
-        ensures place { IfOk result (IsPlaceOf K.rules W self.now.converter.burst beat.now) }
-    {
-        self.outbox.check(beat)
-    }
-
-    /// Offers a near beat where the pipe is ready, at its place, which [`SyncPipe::check`] gave. The far beats that it completes,
-    /// at most [`ROOM`], are then staged. The home is read at a first beat of D alone, where it is the address of the request that the
-    /// message answers.
-    pub fn offer_at(&mut self, beat: &Beat<K, W>, place: Place<K>, home: u64)
-        requires near { IsWidth W }
-        requires far { IsWidth V }
-        requires ready { IsReady self.old }
-        requires place { IsPlaceOf K.rules W self.old.converter.burst beat.now place }
-        ensures { (x : World K.Head W V) → StandsFor K.rules self.old x →
-            StandsFor K.rules self.new (offered K.rules beat.now home x) }
-    {
-        self.outbox.offer_at(beat, place, home);
-    }
-
-    /// Offers a near beat where the pipe is ready. It is accepted exactly where [`SyncPipe::check`] admits it, as
-    /// [`SyncPipe::offer_at`] does. Else it is refused with its first fault, and nothing changes.
+    /// Offers a near beat where the pipe is ready. It is refused with its first fault, exactly where a burst is interrupted or a
+    /// rule of the link broken by it after the beats that were accepted before, and nothing changes then. Else the far beats that it
+    /// completes, at most [`ROOM`], are staged. The home is read at a first beat of D alone, where it is the address of the request
+    /// that the message answers.
     pub fn offer(&mut self, beat: Beat<K, W>, home: u64) -> Result<(), BeatFault>
         requires near { IsWidth W }
         requires far { IsWidth V }
@@ -129,9 +97,7 @@ impl<K: Channel, const W: usize, const V: usize, A: Allocator> SyncPipe<K, W, V,
         // for every pipe
         ensures refused { OnErr result (self.new ≡ self.old) }
     {
-        let place = self.check(&beat)?;
-        self.offer_at(&beat, place, home);
-        Ok(())
+        self.outbox.offer(&beat, home)
     }
 
     /// Moves staged beats to the ring, as many as it has room for, and answers their number.
@@ -202,8 +168,8 @@ impl<K: Channel, const W: usize, const V: usize, A: Allocator> SyncPipe<K, W, V,
     pub fn drained(&self) -> bool
         ensures { IsTrue result ↔ IsDrained self.now }
     {
-        let under_way = self.outbox.staged() + self.ring.len() + self.inbox.len();
-        self.outbox.is_closed() & (under_way == 0)
+        let at = self.standing();
+        self.outbox.is_closed() & (at.staged + at.in_ring + at.inbox == 0)
     }
 
     /// How many far beats stand in the stage, in the ring and in the inbox.

@@ -110,28 +110,29 @@ fn write_queue<T: Copy, A: Allocator>(
     count
 }
 
-// Moves the first `count` beats of a ring to the end of an inbox.
-fn read_front<K: Channel, const V: usize, A: Allocator>(
-    ring: &mut HeapCircularBuffer<Beat<K, V>, A>,
-    inbox: &mut Inbox<K, V>,
-    count: usize,
-)
-    requires there { count ≤ length ring.old.items }
-    requires room { length inbox.old + count ≤ inbox_room }
-    requires lawful { AreLawful K.rules ring.old.items }
-    ensures ring { ring.new ≡ buffer (drop count ring.old.items) ring.old.capacity }
-    ensures inbox { inbox.new ≡ inbox.old ++ take count ring.old.items }
+// Moves the first items of a ring to the end of a queue, as many as it has room for, and answers their number. It too knows the far
+// width alone.
+fn read_queue<T: Copy + Default, A: Allocator>(
+    ring: &mut HeapCircularBuffer<T, A>,
+    queue: &mut Queue<T>,
+) -> usize
+    ensures count { result ≡ min (length ring.old.items) (ROOM - length queue.old) }
+    ensures ring { ring.new ≡ buffer (drop result ring.old.items) ring.old.capacity }
+    ensures queue { queue.new ≡ queue.old ++ take result ring.old.items }
+    ensures most { result ≤ ROOM }
 {
+    let count = ring.len().min(queue.room());
     if count == 0 {
-        return;
+        return 0;
     }
     let (front, back) = ring.as_slices();
     let from_front = count.min(front.len());
-    inbox.append(&front[..from_front]);
+    queue.append(&front[..from_front]);
     if from_front < count {
-        inbox.append(&back[..count - from_front]);
+        queue.append(&back[..count - from_front]);
     }
     ring.truncate_front(ring.len() - count);
+    count
 }
 
 /// Moves the first staged beats of an outbox into the ring, as many as it has room for, and answers their number.
@@ -160,7 +161,5 @@ pub fn fetch<K: Channel, const V: usize, A: Allocator>(
     ensures inbox { inbox.new ≡ inbox.old ++ take result ring.old.items }
     ensures most { result ≤ ROOM }
 {
-    let count = ring.len().min(inbox.room());
-    read_front(&mut ring.buffer, inbox, count);
-    count
+    read_queue(&mut ring.buffer, &mut inbox.queue)
 }

@@ -36,3 +36,8 @@ module _ {E : Type 0} where
       IsOk a → IsOk b → IsOk c → IsOk d → IsOk e → IsOk all
   five-are-ok a b c d e ab abc abcd all i j k l p q r s t =
       ok-and abcd e all l (ok-and abc d abcd k (ok-and ab c abc j (ok-and a b ab i p q) r) s) t
+
+-- what holds where a result is Ok, of one that is
+pub of-ok : {T E P : Type 0} (r : Result T E) → IsOk r → OnOk r P → P
+of-ok (Ok x) ok p = p
+of-ok (Err e) ok p = absurd (cc (ok))

@@ -1,5 +1,5 @@
 -- A run whose rings are made is refused for want of memory alone.
-use Rattle.tl_run.proofs.Names.{Result, IfErr, ◌≡◌, ◌≢◌, ◌≤◌, ◌<◌, ◌⊎◌, ◌↔◌, ℕ, refl}
+use Rattle.tl_run.proofs.Names.{Result, IfErr, ◌≡◌, ◌≢◌, ◌≤◌, ◌<◌, ◌⊎◌, ◌↔◌, ⊎_elim, ℕ, refl, arith}
 use Rattle.std.proofs.lemmas.Result.{IfErr-weaker}
 use Rattle.tl_ring.proofs.Moves.{ring_size_only}
 use Rattle.tl_ring.specs.declared.fault.BuildFault.{BuildFault}
@@ -28,6 +28,10 @@ pub stalled-never : (fault : BuildFault) (e : RunFault) → e ≡ of_build_fault
 stalled-never building.RingSize e is same = cc (is, same)
 stalled-never building.OutOfMemory e is same = cc (is, same)
 
--- so is one that has no memory for the lists of its far beats
-pub want-of-memory : (ring : ℕ) → (1 ≤ ring) × (ring ≤ MAX_RING) → (OutOfMemory ≡ RingSize) ↔ ((ring ≡ 0) ⊎ (MAX_RING < ring))
-want-of-memory ring size = (λ same. absurd (cc (same)), λ refused. absurd (ring_size_only ring size refused))
+-- so is one whose rings' size was tested before
+pub only-memory : (fault : RunFault) → fault ≡ OutOfMemory → (ring : ℕ) → ring ≢ 0 → ring ≤ MAX_RING →
+    ((fault ≡ RingSize) ↔ ((ring ≡ 0) ⊎ (MAX_RING < ring))) × (fault ≢ Stalled)
+only-memory fault memory ring some few = (
+  (λ same. absurd (cc (memory, same)), λ refused. absurd (⊎_elim some (λ above. omega (arith, few, above)) refused)),
+  λ same. cc (memory, same),
+)

@@ -207,22 +207,16 @@ stop-is None (Ok u) same f is = inl (is, sym same ∙ f.0 refl)
 stop-is None (Err e) same f is = inr (is, λ none. let ok = f.1 (same ∙ none) in cc (ok))
 
 -- a close accepts no beat
-pub record HasKept {C M : ℕ} (x y : Past C M) : Type 0 where
-  pub a : y.a.accepted ≡ x.a.accepted
-  pub b : y.b.accepted ≡ x.b.accepted
-  pub c : y.c.accepted ≡ x.c.accepted
-  pub d : y.d.accepted ≡ x.d.accepted
-  pub e : y.e.accepted ≡ x.e.accepted
+abbrev pub HasKept : {C M : ℕ} (x y : Past C M) → Type 0
+HasKept x y = (y.a.accepted ≡ x.a.accepted) × (y.b.accepted ≡ x.b.accepted) × (y.c.accepted ≡ x.c.accepted) × (y.d.accepted ≡ x.d.accepted) ×
+    (y.e.accepted ≡ x.e.accepted)
 
-module _ {C M : ℕ} (first : Past C M) where
-  pub keeps-all : HasKept first first
-  keeps-all = record { a = refl; b = refl; c = refl; d = refl; e = refl }
-
-  pub on-closed : (s t : Bridge C M) (x z : Past C M) → HasKept first x → HasKept first z → (r : Result (Unit {0}) EndFault) →
-      OnOk r (StandsFor t z) → OnErr r (t ≡ s) → StandsFor s x →
-      (y : Past C M) × StandsFor t y × HasKept first y
-  on-closed s t x z kept closed (Ok u) done same stands = (z, done, closed)
-  on-closed s t x z kept closed (Err e) done same stands = (x, subst (λ q. StandsFor q x) (sym same) stands, kept)
+-- what goes on behind a close: with the past in which the channel is closed, or with the one before
+pub on-closed : {C M : ℕ} {G : Type 0} (first : Past C M) (s t : Bridge C M) (x z : Past C M) → HasKept first x → HasKept first z →
+    (r : Result (Unit {0}) EndFault) → OnOk r (StandsFor t z) → OnErr r (t ≡ s) → StandsFor s x →
+    ((y : Past C M) → StandsFor t y → HasKept first y → G) → G
+on-closed first s t x z kept closed (Ok u) done same stands goes = goes z done closed
+on-closed first s t x z kept closed (Err e) done same stands goes = goes x (subst (λ q. StandsFor q x) (sym same) stands) kept
 
 -- a channel that rests, and in which nothing is under way, offers no more
 stops-from : {H : Type 0} (r : Rules H) {w v : ℕ} (bs : List (BeatOf H w)) (n : ℕ) (answer : BeatOf H w → Option SideFault) (far : List (BeatOf H v))

@@ -1,11 +1,18 @@
 -- What has room for all that a script can make due has room for what stands in the inboxes of its run.
 use Rattle.tl_run.proofs.Names.{◌≡◌, [], refl, no_beats, ◌+◌, ◌++◌, ◌≤◌, ℕ, List, length, length-append, sym, subst, arith, vec_capacity, IsWidth}
-use Rattle.tl_run.proofs.Names.{rules_a, rules_b, rules_c, rules_d, rules_e}
+use Rattle.tl_run.proofs.Names.{◌∙◌, ap, rules_a, rules_b, rules_c, rules_d, rules_e}
 use Rattle.tl_run.proofs.Names.{Beats, Bridge, Past, StandsFor, PerChannel, Fit, joined, HaveRoom, IsUnderWay, IsAt, beats_of, inboxes}
 use Rattle.tl_run.specs.Inner.Arriving.{HasRoomFor, HaveCapacity}
 use Rattle.tl_run.specs.declared.taken.Taken.{Taken}
 use Rattle.tl_run.proofs.ChannelEnd.{room-for}
 use Rattle.tl_run.proofs.Round.{inboxes-are}
+
+-- the beats of five channels are the same where those of each are
+pub same-beats : {C M : ℕ} (x y : Beats C M) → x.a ≡ y.a → x.b ≡ y.b → x.c ≡ y.c → x.d ≡ y.d → x.e ≡ y.e → x ≡ y
+same-beats x y a b c d e =
+    ap (λ q. record { a = q; b = x.b; c = x.c; d = x.d; e = x.e }) a ∙ ap (λ q. record { a = y.a; b = q; c = x.c; d = x.d; e = x.e }) b ∙
+    ap (λ q. record { a = y.a; b = y.b; c = q; d = x.d; e = x.e }) c ∙ ap (λ q. record { a = y.a; b = y.b; c = y.c; d = q; e = x.e }) d ∙
+    ap (λ q. record { a = y.a; b = y.b; c = y.c; d = y.d; e = q }) e
 
 -- lists without a beat are no beats
 pub none-yet : {C M : ℕ} (t : Taken C M) →

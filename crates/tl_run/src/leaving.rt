@@ -6,15 +6,18 @@ ghost use Rattle.tl_run.specs.Parts.{AreBetween, AreHalf, HaveGone, IsBetween};
 use tl_sides::PerChannel;
 use tl_trace::{Counts, Script};
 
-// How many of these beats may go, where so many of all have gone and so many are done with: at least
-// half of them, or none.
-fn leaving(held: usize, gone: usize, at: usize) -> usize
-    requires { IsBetween gone at held }
-    ensures past { gone + result ≤ at }
+// How many of these beats may go, where so many of all have gone, to which they are counted, and so
+// many are done with: at least half of them, or none.
+fn leaving(held: usize, gone: &mut usize, at: usize) -> usize
+    requires { IsBetween gone.old at held }
+    ensures counted { gone.new ≡ gone.old + result }
+    ensures past { gone.new ≤ at }
     ensures half { AreHalf result held }
 {
-    let past = at - gone;
-    if past >= held - past { past } else { 0 }
+    let past = at - *gone;
+    let count = if past >= held - past { past } else { 0 };
+    *gone += count;
+    count
 }
 
 /// Lets go beats of a script that comes piece by piece, of which `gone` have gone and `at` are done
@@ -37,19 +40,11 @@ pub fn let_leave<const C: usize, const M: usize>(
     ensures rest { (rest : Script C M) → HasLetGo result held.now rest →
         AreBetween gone.new at.now rest }
 {
-    let counts = Counts {
-        a: leaving(held.a.len(), gone.a, at.a),
-        b: leaving(held.b.len(), gone.b, at.b),
-        c: leaving(held.c.len(), gone.c, at.c),
-        d: leaving(held.d.len(), gone.d, at.d),
-        e: leaving(held.e.len(), gone.e, at.e),
-    };
-    *gone = Counts {
-        a: gone.a + counts.a,
-        b: gone.b + counts.b,
-        c: gone.c + counts.c,
-        d: gone.d + counts.d,
-        e: gone.e + counts.e,
-    };
-    counts
+    Counts {
+        a: leaving(held.a.len(), &mut gone.a, at.a),
+        b: leaving(held.b.len(), &mut gone.b, at.b),
+        c: leaving(held.c.len(), &mut gone.c, at.c),
+        d: leaving(held.d.len(), &mut gone.d, at.d),
+        e: leaving(held.e.len(), &mut gone.e, at.e),
+    }
 }

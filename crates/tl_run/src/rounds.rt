@@ -8,7 +8,7 @@ ghost use Rattle.tl_run.specs.Arrivals.{no_beats};
 ghost use Rattle.tl_run.specs.Scripts.{EndsIn, HasEnding, HasShortLists, near_beats};
 ghost use Rattle.tl_run.specs.Inner.Widths.{AreWidths};
 ghost use Rattle.tl_run.specs.Inner.Arriving.{HasRoomFor, beats_of};
-ghost use Rattle.tl_run.specs.Inner.Running.{IsAt, lengths, IsNew, IsUnderWay, HasRound, HasEnded, AreStopped, HasOffered, HaveRoomToCount, counted, standing_count, all_standing, all_under_way, all_stopped};
+ghost use Rattle.tl_run.specs.Inner.Running.{IsAt, lengths, IsNew, IsUnderWay, HasRound, HasEnded, AreStopped, counted, standing_count, all_standing, all_under_way, all_stopped};
 
 use crate::channel_state::{Offered, Stop, add_accepted, all_stops};
 use crate::offers::Offers;
@@ -47,31 +47,10 @@ pub fn are_empty(standings: &Standings) -> bool
         & is_empty(&standings.e)
 }
 
-// Each side offers the next beat of each of its channels: first the client's side, then the
-// manager's, each in the order of letters. `at` counts what is accepted.
-fn offer_on_each<const C: usize, const M: usize>(
-    bridge: &mut SyncBridge<C, M>,
-    script: &Script<C, M>,
-    at: &mut PerChannel<usize>,
-) -> PerChannel<Offered>
-    requires { AreWidths C M × HaveRoomToCount at.old }
-    ensures offered { (x : Past C M) → StandsFor bridge.old x →
-        HasOffered (near_beats script.now) at.old x bridge.new result }
-    ensures counted { at.new ≡ counted at.old result }
-{
-    let a = bridge.offer_next(&script.a, at.a);
-    let c = bridge.offer_next(&script.c, at.c);
-    let e = bridge.offer_next(&script.e, at.e);
-    let b = bridge.offer_next(&script.b, at.b);
-    let d = bridge.offer_next(&script.d, at.d);
-    let offers = PerChannel { a, b, c, d, e };
-    add_accepted(at, &offers);
-    offers
-}
-
 // One round: both sides take all that stands in their inboxes, which goes behind the far beats of the
-// lists, then each offers the next beat of each of its channels, and then what is staged and what
-// stands in the rings moves on, as far as there is room.
+// lists; then each offers the next beat of each of its channels, first the client's side, then the
+// manager's, each in the order of letters, and `at` counts what is accepted; and then what is staged and
+// what stands in the rings moves on, as far as there is room.
 fn round<const C: usize, const M: usize>(
     bridge: &mut SyncBridge<C, M>,
     script: &Script<C, M>,
@@ -87,12 +66,15 @@ fn round<const C: usize, const M: usize>(
     ensures counted { at.new ≡ counted at.old result }
     ensures room { HasRoomFor (near_beats script.now) far.new }
 {
-    match take_from_each(bridge, far) {
-        Ok(_) => {}
-        // the lists have room for all that comes
-        Err(_) => unreachable!(),
-    }
-    let offers = offer_on_each(bridge, script, at);
+    // never refused: the lists have room for all that comes
+    let _ = take_from_each(bridge, far);
+    let a = bridge.offer_next(&script.a, at.a);
+    let c = bridge.offer_next(&script.c, at.c);
+    let e = bridge.offer_next(&script.e, at.e);
+    let b = bridge.offer_next(&script.b, at.b);
+    let d = bridge.offer_next(&script.d, at.d);
+    let offers = PerChannel { a, b, c, d, e };
+    add_accepted(at, &offers);
     bridge.pump();
     bridge.fetch();
     offers

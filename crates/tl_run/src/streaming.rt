@@ -8,7 +8,7 @@ ghost use Rattle.tl_trace.specs.Scripts.{HasCounts, HasLetGo};
 ghost use Rattle.tl_run.specs.Parts.{AreEnd, AreHalf, ArePart, HaveGone, none_counted};
 ghost use Rattle.tl_run.specs.Scripts.{HasShortLists};
 ghost use Rattle.tl_run.specs.Streaming.{CanRun, HasBegun, HasRun, IsAtRest};
-ghost use Rattle.tl_run.specs.Inner.Going.{AreStopsOf, HasMoved, HasStopped, IsSound, all_counts, stop_by};
+ghost use Rattle.tl_run.specs.Inner.Going.{AreStopsOf, HasStopped, IsSound, all_counts, stop_by};
 ghost use Rattle.tl_run.specs.Inner.Running.{HaveRoomToCount, IsNew, IsRunning};
 ghost use Rattle.tl_run.specs.Inner.Widths.{AreWidths};
 
@@ -51,29 +51,9 @@ fn total(at: &PerChannel<usize>) -> usize
     at.a + at.b + at.c + at.d + at.e
 }
 
-// The rings' beats move on to the inboxes, both sides take all that stands there, which goes to `far`
-// and is counted by `taken`, and what is staged moves into the rings.
-fn move_on<F: FarSink<C, M>, const C: usize, const M: usize>(
-    bridge: &mut SyncBridge<C, M>,
-    far: &mut F,
-    taken: &mut PerChannel<usize>,
-) -> Result<(), AllocError>
-    requires { AreWidths C M }
-    ensures moved { (x : Past C M) → StandsFor bridge.old x →
-        OnOk result (HasMoved bridge.old bridge.new) }
-    ensures on { (near : Beats C M) (n : PerChannelOf ℕ) → HaveRoomToCount n →
-        IsRunning F.Holds near n taken.old far.old bridge.old →
-        OnOk result (IsRunning F.Holds near n taken.new far.new bridge.new) }
-    ensures same { OnOk result (F.made_with far.new ≡ F.made_with far.old) }
-{
-    bridge.fetch();
-    let more = take_from_each(bridge, far)?;
-    add_counts(taken, &more);
-    bridge.pump();
-    Ok(())
-}
-
-// All that is under way goes through the rings, and both sides take it.
+// All that is under way goes through the rings, and both sides take it: the rings' beats move on to the
+// inboxes, all that stands there goes to `far` and is counted by `taken`, and what is staged moves into
+// the rings, until nothing is.
 fn empty<F: FarSink<C, M>, const C: usize, const M: usize>(
     bridge: &mut SyncBridge<C, M>,
     far: &mut F,
@@ -87,7 +67,10 @@ fn empty<F: FarSink<C, M>, const C: usize, const M: usize>(
     ensures same { OnOk result (F.made_with far.new ≡ F.made_with far.old) }
 {
     'moves: while !are_empty(&bridge.standings()) {
-        move_on(bridge, far, taken)?;
+        bridge.fetch();
+        let more = take_from_each(bridge, far)?;
+        add_counts(taken, &more);
+        bridge.pump();
     }
     Ok(())
 }

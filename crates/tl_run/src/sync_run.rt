@@ -60,7 +60,8 @@ pub fn run_sync<const C: usize, const M: usize>(
 }
 
 // A run over a new bridge, whose far beats go into lists that have room for all of them: its rounds ask
-// for no memory. (The rounds get the bridge lent, so that one way out alone drops it.)
+// for no memory. The rings' size was tested before: there is no bridge for want of memory alone. (The
+// rounds get the bridge lent, so that one way out alone drops it.)
 fn run_into_lists<const C: usize, const M: usize>(
     alloc: Global,
     script: &Script<C, M>,
@@ -72,12 +73,10 @@ fn run_into_lists<const C: usize, const M: usize>(
     ensures ended { IfOk result (λ end. (s : Bridge C M) ×
         HasEnded (near_beats script.now) end.at (beats_of far.new) s end.stops end.rounds) }
     ensures size { IsOk result → (1 ≤ ring) × (ring ≤ MAX_RING) }
-    ensures ring_size { IfErr result (λ fault. (fault ≡ RingSize) ↔
-        ((ring ≡ 0) ⊎ (MAX_RING < ring))) }
-    ensures never_stalled { IfErr result (λ fault. fault ≢ Stalled) }
+    ensures memory { IfErr result (λ fault. fault ≡ OutOfMemory) }
 {
-    match SyncBridge::new(alloc, ring) {
-        Ok(mut bridge) => Ok(run_rounds(&mut bridge, script, far)),
-        Err(fault) => Err(RunFault::from(fault)),
-    }
+    let Ok(mut bridge) = SyncBridge::new(alloc, ring) else {
+        return Err(RunFault::OutOfMemory);
+    };
+    Ok(run_rounds(&mut bridge, script, far))
 }

@@ -1,6 +1,5 @@
 //! The far beats that the two sides of a run take.
 ghost use Rattle.std.specs.Prelude.{◌≡◌, ◌≤◌, ◌+◌, ◌++◌, ℕ, length, vec_len, vec_capacity, IsOk, IfOk, OnOk};
-ghost use Rattle.tl_msg.specs.Tables.{rules_a, rules_b, rules_c, rules_d, rules_e};
 ghost use Rattle.tl_settle.specs.Outcomes.{Beats, far_beats};
 ghost use Rattle.tl_sides.specs.Bridges.{Past, StandsFor};
 ghost use Rattle.tl_sides.specs.ChannelCalls.{after_take_all};
@@ -9,7 +8,7 @@ ghost use Rattle.tl_run.specs.Arrivals.{Fit, joined, no_beats};
 ghost use Rattle.tl_run.specs.Scripts.{EndsIn, HasEnding, HasShortLists, near_beats};
 ghost use Rattle.tl_run.specs.Inner.Widths.{AreWidths};
 ghost use Rattle.tl_run.specs.Inner.Running.{CanAdd, added, inboxes, lengths};
-ghost use Rattle.tl_run.specs.Inner.Arriving.{beats_of, HasRoom, HaveCapacity, HaveRoom, HasRoomFor};
+ghost use Rattle.tl_run.specs.Inner.Arriving.{beats_of, HaveCapacity, HaveRoom, HasRoomFor};
 
 use crate::far_sink::FarSink;
 use crate::outcome::{Ending, Outcome};
@@ -30,37 +29,16 @@ pub struct Taken<const C: usize, const M: usize> {
     pub e: Vec<Beat<ChE, M>>,
 }
 
-// Room for all far beats of A, C and E that a script can make due.
-fn client_rooms<const C: usize, const M: usize>(script: &Script<C, M>) -> (usize, usize, usize)
-    requires { AreWidths C M × HasShortLists script.now }
-    ensures { HasRoom rules_a M (near_beats script.now).a result.0 ×
-        HasRoom rules_c M (near_beats script.now).c result.1 ×
-        HasRoom rules_e M (near_beats script.now).e result.2 }
-{
-    let a = far_count::<ChA, C, M>(&script.a);
-    let c = far_count::<ChC, C, M>(&script.c);
-    let e = far_count::<ChE, C, M>(&script.e);
-    (a, c, e)
-}
-
-// The same of B and D.
-fn manager_rooms<const C: usize, const M: usize>(script: &Script<C, M>) -> (usize, usize)
-    requires { AreWidths C M × HasShortLists script.now }
-    ensures { HasRoom rules_b C (near_beats script.now).b result.0 ×
-        HasRoom rules_d C (near_beats script.now).d result.1 }
-{
-    let b = far_count::<ChB, M, C>(&script.b);
-    let d = far_count::<ChD, M, C>(&script.d);
-    (b, d)
-}
-
-// Room for all far beats of each channel.
+// Room for all far beats of each channel that a script can make due.
 fn far_rooms<const C: usize, const M: usize>(script: &Script<C, M>) -> PerChannel<usize>
     requires { AreWidths C M × HasShortLists script.now }
     ensures { HaveRoom (near_beats script.now) result }
 {
-    let (a, c, e) = client_rooms(script);
-    let (b, d) = manager_rooms(script);
+    let a = far_count::<ChA, C, M>(&script.a);
+    let b = far_count::<ChB, M, C>(&script.b);
+    let c = far_count::<ChC, C, M>(&script.c);
+    let d = far_count::<ChD, M, C>(&script.d);
+    let e = far_count::<ChE, C, M>(&script.e);
     PerChannel { a, b, c, d, e }
 }
 
@@ -73,6 +51,7 @@ impl<const C: usize, const M: usize> Taken<C, M> {
         ensures empty { IfOk result (λ far. beats_of far ≡ no_beats) }
         ensures room { IfOk result (HasRoomFor (near_beats script.now)) }
     {
+        let room = far_rooms(script);
         let mut far = Taken {
             a: Vec::new(alloc),
             b: Vec::new(alloc),
@@ -80,24 +59,13 @@ impl<const C: usize, const M: usize> Taken<C, M> {
             d: Vec::new(alloc),
             e: Vec::new(alloc),
         };
-        far.reserve(&far_rooms(script))?;
+        let a = far.a.reserve_exact(room.a);
+        let b = far.b.reserve_exact(room.b);
+        let c = far.c.reserve_exact(room.c);
+        let d = far.d.reserve_exact(room.d);
+        let e = far.e.reserve_exact(room.e);
+        a.and(b).and(c).and(d).and(e)?;
         Ok(far)
-    }
-
-    // Makes room for so many beats more of each channel.
-    #[inline(never)]
-    fn reserve(&mut self, room: &PerChannel<usize>) -> Result<(), AllocError>
-        requires { AreWidths C M }
-        ensures beats { OnOk result (beats_of self.new ≡ beats_of self.old) }
-        ensures room { (near : Beats C M) → HaveRoom near room.now →
-            OnOk result (HasRoomFor near self.new) }
-    {
-        let a = self.a.reserve_exact(room.a);
-        let b = self.b.reserve_exact(room.b);
-        let c = self.c.reserve_exact(room.c);
-        let d = self.d.reserve_exact(room.d);
-        let e = self.e.reserve_exact(room.e);
-        a.and(b).and(c).and(d).and(e)
     }
 
     // The outcome of a run that took these and ended so.
@@ -196,7 +164,6 @@ pub(crate) fn take_from_each<F: FarSink<C, M>, const C: usize, const M: usize>(
     let c = bridge.inbox_c();
     let d = bridge.inbox_d();
     let e = bridge.inbox_e();
-    far.take(a, b, c, d, e)?;
     let more = PerChannel {
         a: a.len(),
         b: b.len(),
@@ -204,6 +171,7 @@ pub(crate) fn take_from_each<F: FarSink<C, M>, const C: usize, const M: usize>(
         d: d.len(),
         e: e.len(),
     };
+    far.take(a, b, c, d, e)?;
     bridge.take_all();
     Ok(more)
 }

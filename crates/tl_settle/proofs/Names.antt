@@ -12,7 +12,8 @@ pub use Rattle.std.specs.Option.{option_map_or, is_none, is_some}
 pub use Rattle.std.specs.Prelude.{All, ◌==◌, slice_get, ◌&&◌, not, nat_lt}
 pub use Rattle.tl_burst.proofs.BegunMessages.{left-zero}
 pub use Rattle.tl_burst.specs.Begun.{heads, left, rest_heads, heads_from, left_from}
-pub use Rattle.tl_burst.specs.Handing.{IsHanded, IsAdmitted, fault_after, Handed, nothing, begun, whole, IsHandedWith, homes_with, rest_of, with_home, burst_of}
+pub use Rattle.tl_burst.specs.Handing.{IsHanded, IsAdmitted, fault_after, Handed, nothing, begun, whole, IsHandedWith, homes_with}
+pub use Rattle.tl_burst.specs.Handing.{rest_of, with_home, burst_of}
 pub use Rattle.tl_burst.specs.Messages.{Message, beats_of}
 pub use Rattle.tl_burst.specs.Tracking.{count_in}
 pub use Rattle.tl_burst.specs.declared.place.Place.{Place}

@@ -32,7 +32,7 @@ pub use Rattle.tl_msg.specs.declared.head.HeadE.{HeadE}
 pub use Rattle.tl_ring.proofs.Answered.{on_err, on_ok}
 pub use Rattle.tl_ring.proofs.EndSteps.{meets_of, met_of, sends_new, sends_offered, sends_shut}
 pub use Rattle.tl_ring.proofs.FieldSizes.{beat_small}
-pub use Rattle.tl_ring.proofs.Moves.{cut_moves}
+pub use Rattle.tl_ring.proofs.Moves.{cut_moves, want_of_memory}
 pub use Rattle.tl_ring.proofs.PipeSteps.{stands_emptied, stands_new, stands_offered, stands_popped, stands_pushed, stands_shut, stands_took}
 pub use Rattle.tl_ring.proofs.Same.{same_send, same_send_then, same_take_then, still_pair}
 pub use Rattle.tl_ring.specs.Boxes.{HasSent, HasTaken, IsOpen, Outgoing, as_sent}

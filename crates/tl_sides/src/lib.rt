@@ -1,13 +1,17 @@
 //! Each side of the bridge, whatever carries its beats; both sides in one thread, and each for a thread of its own.
 #![tactic(auto)]
 
-// What a call gives where it succeeds. Where it doesn't, its fault is the caller's. A `?` would
-// convert the fault, one call more to check, and make one more type for each pair of widths.
+// What a call gives where it succeeds. Where it doesn't, the rings that are named behind it are let go,
+// and its fault is the caller's. A `?` would convert the fault, one call more to check, and make one
+// more type for each pair of widths.
 macro_rules! given {
-    ($result:expr) => {
+    ($result:expr $(, $made:ident)*) => {
         match $result {
             Ok(given) => given,
-            Err(fault) => return Err(fault),
+            Err(fault) => {
+                $($made.let_go();)*
+                return Err(fault);
+            }
         }
     };
 }

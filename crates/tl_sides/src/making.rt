@@ -14,7 +14,7 @@ use tl_settle::{ClientBook, ManagerBook, new_books};
 pub(crate) type Halves<K, const V: usize, A> = (SendHalf<K, V, A>, TakeHalf<K, V, A>);
 
 /// A ring of a bridge that is being made: one buffer for one thread, or its two halves for two.
-pub(crate) trait NewRing<A>: Drop {
+pub(crate) trait NewRing<A> {
     // it is new, and of so many beats
     ghost IsNew: { (size : ℕ) → Self → Type 0 };
 
@@ -24,6 +24,10 @@ pub(crate) trait NewRing<A>: Drop {
         ensures size { IsOk result → (1 ≤ size) × (size ≤ MAX_RING) }
         ensures ring_size { IfErr result (λ fault.
             (fault ≡ BuildFault.RingSize) ↔ ((size ≡ 0) ⊎ (MAX_RING < size))) };
+
+    /// Lets it go, where the rest of the bridge can't be made. (A bound `Drop` would owe the sizes of
+    /// its parts once more.)
+    fn let_go(self);
 }
 
 impl<K: Channel, const V: usize, A: Allocator> NewRing<A> for Ring<K, V, A> {
@@ -32,6 +36,8 @@ impl<K: Channel, const V: usize, A: Allocator> NewRing<A> for Ring<K, V, A> {
     fn new_ring(alloc: A, size: usize) -> Result<Self, BuildFault> {
         Ring::new(alloc, size)
     }
+
+    fn let_go(self) {}
 }
 
 impl<K: Channel, const V: usize, A: Allocator + Copy> NewRing<A> for Halves<K, V, A> {
@@ -40,7 +46,20 @@ impl<K: Channel, const V: usize, A: Allocator + Copy> NewRing<A> for Halves<K, V
     fn new_ring(alloc: A, size: usize) -> Result<Self, BuildFault> {
         tl_ring::new_ring(alloc, size)
     }
+
+    fn let_go(self) {}
 }
+
+/// What a bridge is made of: a ring for each channel, and the books of both sides.
+pub(crate) type Parts<RingA, RingB, RingC, RingD, RingE, const C: usize, const M: usize, A> = (
+    RingA,
+    RingB,
+    RingC,
+    RingD,
+    RingE,
+    ClientBook<C, A>,
+    ManagerBook<M, A>,
+);
 
 // A ring for each channel, whatever it is, and both books: all that takes memory, so that who calls
 // has one way out. It knows nothing of the rings, so that to let some go where the next one fails
@@ -54,21 +73,7 @@ pub(crate) fn new_parts<
     RingC: NewRing<A>,
     RingD: NewRing<A>,
     RingE: NewRing<A>,
->(
-    alloc: A,
-    ring: usize,
-) -> Result<
-    (
-        RingA,
-        RingB,
-        RingC,
-        RingD,
-        RingE,
-        ClientBook<C, A>,
-        ManagerBook<M, A>,
-    ),
-    BuildFault,
->
+>(alloc: A, ring: usize) -> Result<Parts<RingA, RingB, RingC, RingD, RingE, C, M, A>, BuildFault>
     ensures rings { IfOk result (λ parts. RingA.IsNew ring parts.0 × RingB.IsNew ring parts.1 ×
         RingC.IsNew ring parts.2 × RingD.IsNew ring parts.3 × RingE.IsNew ring parts.4) }
     ensures client { IfOk result (λ parts. KnowsClient {w = C} parts.5 []) }
@@ -78,11 +83,16 @@ pub(crate) fn new_parts<
         (fault ≡ BuildFault.RingSize) ↔ ((ring ≡ 0) ⊎ (MAX_RING < ring))) }
 {
     let a = given!(RingA::new_ring(alloc, ring));
-    let b = given!(RingB::new_ring(alloc, ring));
-    let c = given!(RingC::new_ring(alloc, ring));
-    let d = given!(RingD::new_ring(alloc, ring));
-    let e = given!(RingE::new_ring(alloc, ring));
+    let b = given!(RingB::new_ring(alloc, ring), a);
+    let c = given!(RingC::new_ring(alloc, ring), a, b);
+    let d = given!(RingD::new_ring(alloc, ring), a, b, c);
+    let e = given!(RingE::new_ring(alloc, ring), a, b, c, d);
     let Ok((client, manager)) = new_books(alloc) else {
+        a.let_go();
+        b.let_go();
+        c.let_go();
+        d.let_go();
+        e.let_go();
         return Err(BuildFault::OutOfMemory);
     };
     Ok((a, b, c, d, e, client, manager))

@@ -12,37 +12,36 @@ ghost use Rattle.tl_sides.specs.Sides.{AreSides, IsNewClient, IsNewManager, new_
 
 use crate::client_port::ClientPort;
 use crate::client_side::ClientSide;
-use crate::making::{Halves, new_parts};
+use crate::making::{Halves, Parts, new_parts};
 use crate::manager_port::ManagerPort;
 use crate::manager_side::ManagerSide;
 use crate::sync_bridge::Standings;
 use std::alloc::Allocator;
 use tl_msg::{ChA, ChB, ChC, ChD, ChE};
 use tl_ring::{BuildFault, Intake, Standing, look};
-use tl_settle::{ClientBook, ManagerBook};
 
 // Both sides over the halves of their rings and their books. It has no word on the widths: what it
 // promises has them as a premise.
 fn sides_over<const C: usize, const M: usize, A: Allocator>(
-    a: Halves<ChA, M, A>,
-    b: Halves<ChB, C, A>,
-    c: Halves<ChC, M, A>,
-    d: Halves<ChD, C, A>,
-    e: Halves<ChE, M, A>,
-    client: ClientBook<C, A>,
-    manager: ManagerBook<M, A>,
+    parts: Parts<
+        Halves<ChA, M, A>,
+        Halves<ChB, C, A>,
+        Halves<ChC, M, A>,
+        Halves<ChD, C, A>,
+        Halves<ChE, M, A>,
+        C,
+        M,
+        A,
+    >,
 ) -> (ClientSide<C, M, A>, ManagerSide<C, M, A>)
     // for new rings of one size, and for the books of a new bridge
-    ensures { (size : ℕ) → IsWidth C → IsWidth M → IsNewRing size a.0 a.1 × IsNewRing size b.0 b.1 ×
-        IsNewRing size c.0 c.1 × IsNewRing size d.0 d.1 × IsNewRing size e.0 e.1 →
-        KnowsClient {w = C} client [] → KnowsManager {w = M} manager [] →
+    ensures { (size : ℕ) → IsWidth C → IsWidth M → IsNewRing size parts.0.0 parts.0.1 ×
+        IsNewRing size parts.1.0 parts.1.1 × IsNewRing size parts.2.0 parts.2.1 ×
+        IsNewRing size parts.3.0 parts.3.1 × IsNewRing size parts.4.0 parts.4.1 →
+        KnowsClient {w = C} parts.5 [] → KnowsManager {w = M} parts.6 [] →
         AreNewSides size result.0 result.1 }
 {
-    let (a, a_take) = a;
-    let (b, b_take) = b;
-    let (c, c_take) = c;
-    let (d, d_take) = d;
-    let (e, e_take) = e;
+    let ((a, a_take), (b, b_take), (c, c_take), (d, d_take), (e, e_take), client, manager) = parts;
     let client = ClientSide {
         port: ClientPort::over(client),
         a,
@@ -83,8 +82,8 @@ pub fn bridge<const C: usize, const M: usize, A: Allocator + Copy>(
     ensures ring_size { IfErr result (λ fault.
         (fault ≡ BuildFault.RingSize) ↔ ((ring ≡ 0) ⊎ (MAX_RING < ring))) }
 {
-    let (a, b, c, d, e, client, manager) = given!(new_parts(alloc, ring));
-    Ok(sides_over(a, b, c, d, e, client, manager))
+    let parts = given!(new_parts(alloc, ring));
+    Ok(sides_over(parts))
 }
 
 // What stands at the places of each channel, by the ports of both sides and by how many beats are

@@ -12,7 +12,7 @@ ghost use Rattle.tl_sides.specs.Bridges.{bridge_takes_a, bridge_takes_b, bridge_
 ghost use Rattle.tl_sides.specs.Calls.{OffersBeat, ClosesChannel, TakesBeat};
 
 use crate::client_port::ClientPort;
-use crate::making::new_parts;
+use crate::making::{Parts, new_parts};
 use crate::manager_port::ManagerPort;
 use crate::per_channel::PerChannel;
 use crate::sides::standings_between;
@@ -20,7 +20,6 @@ use std::alloc::{Allocator, Global};
 use std::marker::Model;
 use tl_msg::{Beat, ChA, ChB, ChC, ChD, ChE, SideFault};
 use tl_ring::{BuildFault, EndFault, Ring, Standing, fetch, pump};
-use tl_settle::{ClientBook, ManagerBook};
 
 /// How many far beats stand at each place of each channel.
 pub type Standings = PerChannel<Standing>;
@@ -61,21 +60,25 @@ impl<const C: usize, const M: usize, A: Allocator> Model for SyncBridge<C, M, A>
 
 // The bridge over its rings and books.
 fn bridge_over<const C: usize, const M: usize, A: Allocator>(
-    a: Ring<ChA, M, A>,
-    b: Ring<ChB, C, A>,
-    c: Ring<ChC, M, A>,
-    d: Ring<ChD, C, A>,
-    e: Ring<ChE, M, A>,
-    client: ClientBook<C, A>,
-    manager: ManagerBook<M, A>,
+    parts: Parts<
+        Ring<ChA, M, A>,
+        Ring<ChB, C, A>,
+        Ring<ChC, M, A>,
+        Ring<ChD, C, A>,
+        Ring<ChE, M, A>,
+        C,
+        M,
+        A,
+    >,
 ) -> SyncBridge<C, M, A>
     // for rings of one size, and for the books of a new bridge
     ensures { (ring : ℕ) → 1 ≤ ring → IsWidth C → IsWidth M →
-        (a ≡ buffer [] ring) × (b ≡ buffer [] ring) × (c ≡ buffer [] ring) ×
-        (d ≡ buffer [] ring) × (e ≡ buffer [] ring) →
-        KnowsClient {w = C} client [] → KnowsManager {w = M} manager [] →
+        (parts.0 ≡ buffer [] ring) × (parts.1 ≡ buffer [] ring) × (parts.2 ≡ buffer [] ring) ×
+        (parts.3 ≡ buffer [] ring) × (parts.4 ≡ buffer [] ring) →
+        KnowsClient {w = C} parts.5 [] → KnowsManager {w = M} parts.6 [] →
         StandsFor result (nothing_yet ring) }
 {
+    let (a, b, c, d, e, client, manager) = parts;
     SyncBridge {
         client: ClientPort::over(client),
         manager: ManagerPort::over(manager),
@@ -101,8 +104,8 @@ impl<const C: usize, const M: usize, A: Allocator + Copy> SyncBridge<C, M, A> {
         ensures ring_size { IfErr result (λ fault. (fault ≡ BuildFault.RingSize) ↔
             ((ring ≡ 0) ⊎ (MAX_RING < ring))) }
     {
-        let (a, b, c, d, e, client, manager) = given!(new_parts(alloc, ring));
-        Ok(bridge_over(a, b, c, d, e, client, manager))
+        let parts = given!(new_parts(alloc, ring));
+        Ok(bridge_over(parts))
     }
 }
 

@@ -208,12 +208,6 @@ module _ {C M : ℕ} where
   abbrev pub all_ways : Bridge C M → ℕ
   all_ways s = way_in s.a + way_in s.b + way_in s.c + way_in s.d + way_in s.e
 
-  -- a bridge stands for a past, and what was under way on another one has less far to go
-  pub record HasMoved (s t : Bridge C M) : Type 0 where
-    pub past : Past C M
-    pub stands : StandsFor t past
-    pub nearer : 1 ≤ all_ways s → all_ways t + 1 ≤ all_ways s
-
   -- a bridge stands for some past
   abbrev pub IsSound : Bridge C M → Type 0
   IsSound s = (x : Past C M) × StandsFor s x

@@ -7,7 +7,8 @@ use Rattle.tl_explain.proofs.explain.telling_of.Goals as goal
 
 pub returns-in_default-clause-err : goal.returns-in_default-clause-err
 returns-in_default-clause-err g c =
-    subst (IsUntold c.args.look.now.page c.args.text.now _ _) (sym c.from.ensures) ((search rules, no_header c.args.text.now (sym c.in_default.ensures)), Keeps-refl _)
+    subst (IsUntold c.args.look.now.page c.args.text.now _ _) (sym c.from.ensures)
+    ((search rules, no_header c.args.text.now (sym c.in_default.ensures)), Keeps-refl _)
 
 pub at_width-with_client-requires-8 : goal.at_width-with_client-requires-8
 at_width-with_client-requires-8 g c =

@@ -1,4 +1,4 @@
-use Rattle.tl_ring.proofs.Names.{◌≤◌, ◌≡◌, length, rules, ◌∙◌, arith, length-take, IsLawfulBeat}
+use Rattle.tl_ring.proofs.Names.{◌≤◌, ◌≡◌, length, take, rules, ◌∙◌, arith, length-take, IsLawfulBeat}
 use Rattle.std.proofs.lemmas.List.{length-take-le}
 use Rattle.tl_ring.proofs.EndSteps.{fetched_of, takes_fetched, least_moved}
 use Rattle.tl_ring.proofs.Fronts.{all_allowed, all_front, front_of, front_size}
@@ -21,18 +21,21 @@ whole_as_front-pop_partial_slice g c = (
 
 -- what was popped lies in the part that was lent, which is as long as the room
 inside-of : (g : _) (c : goal.After-append g) → c.pop_partial_slice-count.result ≤ length c.pop_partial_slice-count.new.slice
-inside-of g c = search rules
+inside-of g c = let p = c.pop_partial_slice-count in omega (arith, p.auto.slice, p.ensures.received.0)
+
+whole-of : (g : _) (c : goal.After-append g) → length (take c.room-room.result c.args.intake.now.passing) ≡ c.room-room.result
+whole-of g c = length-take-le c.room-room.result c.args.intake.now.passing (omega (arith, c.room-room.ensures.count))
 
 size-of : (g : _) (c : goal.After-append g) → length c.pop_partial_slice-count.new.slice ≡ c.room-room.result
-size-of g c = c.pop_partial_slice-count.auto.slice ∙ length-take-le c.room-room.result _ (omega (arith, c.room-room.ensures.count))
+size-of g c = c.pop_partial_slice-count.auto.slice ∙ whole-of g c
 
 pub returns-clause-least : goal.returns-clause-least
 returns-clause-least g c =
     let p = c.pop_partial_slice-count in
     let inside = inside-of g c in
-    let size = size-of g c in
     rw (← c.room-room.ensures.count)
-    (least_moved _ _ _ p.result c.room-room.result p.ensures.known (front_size p.result p.new.slice inside) (λ short. p.ensures.most (search rules)))
+    (least_moved _ _ _ p.result c.room-room.result p.ensures.known (front_size p.result p.new.slice inside)
+    (λ short. p.ensures.most (omega (arith, short, whole-of g c))))
 
 pub returns-clause-fetched : goal.returns-clause-fetched
 returns-clause-fetched g c =
@@ -61,7 +64,7 @@ pop_partial_slice-count-requires g c =
 pub shared_whole_as_front-append : goal.shared_whole_as_front-append
 shared_whole_as_front-append g c =
     let p = c.pop_partial_slice-count in
-    let inside : p.result ≤ length p.new.slice = search rules in
+    let inside : p.result ≤ length p.new.slice = omega (arith, p.auto.slice, p.ensures.received.0) in
     let size = p.auto.slice ∙ length-take-le c.room-room.result _ (omega (arith, c.room-room.ensures.count)) in (
       omega (arith, inside, size, c.room-room.ensures.count),
       (part_small (layout (intake.the_row (param 0 g.row.K) (param 1 (number g.row.V)) (param 2 g.row.A) (copied 3 g.row.K-Head) g.K.Channel
@@ -72,7 +75,7 @@ shared_whole_as_front-append g c =
 pub append-requires : goal.append-requires
 append-requires g c =
     let p = c.pop_partial_slice-count in
-    let inside : p.result ≤ length p.new.slice = search rules in
+    let inside : p.result ≤ length p.new.slice = omega (arith, p.auto.slice, p.ensures.received.0) in
     let size = p.auto.slice ∙ length-take-le c.room-room.result _ (omega (arith, c.room-room.ensures.count)) in (
       c.requires-raw.1.1.1.1.1,
       (

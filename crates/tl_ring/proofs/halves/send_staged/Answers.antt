@@ -22,8 +22,8 @@ returns-clause-pushed g c =
     let p = c.push_queue.ensures in
     rw (← c.outbox.view_is) (record {
       ring = p.ring;
-      same_converter = refl;
-      same_closed = refl;
+      same_converter = refl {a = c.outbox.inside.converter};
+      same_closed = refl {a = c.outbox.inside.closed};
       stage = p.queue;
       more_sent = p.sent;
       known = p.known;

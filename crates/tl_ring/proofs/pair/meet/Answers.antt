@@ -2,7 +2,6 @@ use Rattle.tl_ring.proofs.Names.{◌≤◌, length, arith, ROOM}
 use Rattle.tl_ring.proofs.EndSteps.{met_of, meets_of}
 use denote.Memory.{lone}
 use denote.Param.{layout, param, number, copied}
-use Rattle.tl_ring.specs.contracts.ends.SendEnd as send
 use Rattle.tl_ring.specs.contracts.ends.TakeEnd as take
 use Rattle.tl_ring.proofs.FieldSizes.{part_small, inner_small, beat_in_queue}
 use Rattle.tl_ring.proofs.pair.meet.Goals as goal
@@ -19,7 +18,7 @@ returns-clause-met g c =
     seen.ensures.places)
 
 pub returns-clause-staged : goal.returns-clause-staged
-returns-clause-staged g c = c.staged.ensures.count
+returns-clause-staged g c = rw (← c.send.view_is) at c.staged.ensures.count
 
 pub returns-clause-in_ring : goal.returns-clause-in_ring
 returns-clause-in_ring g c = c.look.ensures.count
@@ -36,9 +35,7 @@ returns-clause-meets g c = λ x taken sends takes.
     meets_of g.K.Channel.rules _ _ _ _ x taken (returns-clause-met g c) held sends takes
 
 pub staged-requires : goal.staged-requires
-staged-requires g c = part_small (layout (send.the_row (param 0 g.row.K) (param 1 (number g.row.W)) (param 2 (number g.row.V)) (param 3 g.row.A)
-    (copied 4 g.row.K-Head) g.K.Channel g.K.Head.Clone g.K.Head.Eq g.K.Head.PartialEq g.K.Head.Default g.A.Allocator)) 0 9223372036854775808
-    c.requires-raw.1.1.1.1.1.0
+staged-requires g c = c.requires-raw.1.1.1.1.1.0
 
 pub look-requires-room-P-Protocol : goal.look-requires-room-P-Protocol
 look-requires-room-P-Protocol g c κs within = omega arith

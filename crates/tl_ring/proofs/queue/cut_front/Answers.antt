@@ -21,3 +21,6 @@ copy_within-requires-clause-not_exhausted g c = tt
 
 pub truncate-requires : goal.truncate-requires
 truncate-requires g c = c.requires-raw.1.0
+
+pub copy_within-requires-clause-dest_in_bounds : goal.copy_within-requires-clause-dest_in_bounds
+copy_within-requires-clause-dest_in_bounds g c = omega arith

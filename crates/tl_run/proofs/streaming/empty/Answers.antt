@@ -1,39 +1,70 @@
 use Rattle.std.proofs.lemmas.Result.{IfOk-from_err}
-use Rattle.tl_run.proofs.Names.{refl, sym, ◌∙◌, arith, bridge_small}
-use Rattle.tl_run.proofs.Ended.{all-standing-is}
-use Rattle.tl_run.proofs.Pieces.{some-way}
+use Rattle.tl_run.proofs.Names.{◌≡◌, refl, sym, ap, subst, ◌∙◌, arith, bridge_small, after_fetch, joined, CanAdd, added, arriving, inboxes, lengths}
+use Rattle.tl_run.proofs.Ended.{all-standing-is, can-add}
+use Rattle.tl_run.proofs.Round.{inboxes-are, joined-lengths}
+use Rattle.tl_run.proofs.Pieces.{all-nearer, fetched-at, some-way, taken-at}
 use Rattle.tl_run.proofs.streaming.empty.Goals as goal
 
 pub standings-requires : goal.standings-requires
 standings-requires g c = bridge_small g.row.C g.row.M c.requires.0.client c.requires.0.manager
 
-pub move_on-requires : goal.move_on-requires
-move_on-requires g c = (bridge_small g.row.C g.row.M c.requires.0.client c.requires.0.manager, c.requires.0)
+pub fetch-requires : goal.fetch-requires
+fetch-requires g c = bridge_small g.row.C g.row.M c.requires.0.client c.requires.0.manager
+
+pub take_from_each-requires : goal.take_from_each-requires
+take_from_each-requires g c = (bridge_small g.row.C g.row.M c.requires.0.client c.requires.0.manager, c.requires.0)
+
+pub pump-requires : goal.pump-requires
+pump-requires g c = bridge_small g.row.C g.row.M c.requires.0.client c.requires.0.manager
 
 pub moves-init : goal.moves-init
 moves-init g c = record { sound = c.requires.1; on = λ near n few r. r; same = refl }
 
 pub moves-smaller : goal.moves-smaller
 moves-smaller g c =
-    let here = c.moves.invariant in
+    let sound = c.moves.invariant.sound in
     let stood = c.standings.ensures in
     let some = some-way c.moves.bridge c.standings.result stood.a stood.b stood.c stood.d stood.e
     (λ none. let h = c.moves-test.ensures.1 none in cc (h)) in
-    let less = (c.in_ok-move_on.ensures.moved here.sound.0 here.sound.1).nearer some in
+    let fetched = c.fetch.ensures.moved sound.0 sound.1 in
+    let taken = c.in_ok-more.ensures.taken _ fetched in
+    let less = all-nearer c.moves.bridge c.fetch.new.self c.take_from_each.new.bridge c.pump.new.self sound.0 sound.1 fetched taken
+    (c.pump.ensures.moved _ taken) some in
     omega (arith, less)
 
 pub moves-preserved : goal.moves-preserved
 moves-preserved g c =
     let here = c.moves.invariant in
-    let moved = c.in_ok-move_on.ensures.moved here.sound.0 here.sound.1 in
     record {
-      sound = (moved.past, moved.stands);
-      on = λ near n few r. c.in_ok-move_on.ensures.on near n few (here.on near n few r);
-      same = c.in_ok-move_on.ensures.same ∙ here.same;
+      sound = (_, c.pump.ensures.moved _ (c.in_ok-more.ensures.taken _ (c.fetch.ensures.moved here.sound.0 here.sound.1)));
+      on = λ near n few was.
+          let r = here.on near n few was in
+          let u = r.under_way in
+          let fetched = c.fetch.ensures.moved u.past u.stands in
+          let x = after_fetch c.moves.bridge u.past in
+          let inboxes_are = inboxes-are c.fetch.new.self x fetched in
+          let at = fetched-at near n r.all c.moves.bridge u.past u.is_at in
+          let counts = subst (λ q. CanAdd c.moves.taken q → c.add_counts.new.counts ≡ added c.moves.taken q)
+          c.in_ok-more.ensures.counted c.add_counts.ensures in
+          let can = subst (λ q. CanAdd q (lengths (inboxes c.fetch.new.self))) (sym r.counts)
+          (can-add near c.requires.0.client c.requires.0.manager n r.all c.fetch.new.self x fetched at few) in
+          record {
+            all = joined r.all (arriving x);
+            holds = subst (λ q. g.F.FarSink.Holds c.take_from_each.new.far (joined r.all q)) inboxes_are (c.in_ok-more.ensures.far r.all r.holds);
+            counts = counts can ∙ ap (λ q. added q (lengths (inboxes c.fetch.new.self))) r.counts ∙
+                ap (λ q. added (lengths r.all) (lengths q)) inboxes_are ∙
+                joined-lengths r.all (arriving x);
+            under_way = record {
+              past = _;
+              stands = c.pump.ensures.moved _ (c.in_ok-more.ensures.taken _ fetched);
+              is_at = taken-at near n r.all c.requires.0.client c.requires.0.manager c.fetch.new.self c.take_from_each.new.bridge x fetched at;
+            };
+          };
+      same = c.in_ok-more.ensures.same ∙ here.same;
     }
 
-pub returns-in_err-move_on : goal.returns-in_err-move_on
-returns-in_err-move_on g c =
+pub returns-in_err-more : goal.returns-in_err-more
+returns-in_err-more g c =
     let r = c.from_residual.result in
     let e = c.from_residual.ensures.0 in
     record { rests = IfOk-from_err r _ e; on = λ near n few run. IfOk-from_err r _ e; same = IfOk-from_err r _ e }

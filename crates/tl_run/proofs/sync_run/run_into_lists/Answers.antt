@@ -1,5 +1,4 @@
 use Rattle.tl_run.proofs.Names.{lit<, refl, bridge_small}
-use Rattle.tl_run.proofs.OnlyMemory.{same-size, stalled-never}
 use Rattle.tl_run.proofs.sync_run.run_into_lists.Goals as goal
 
 pub new-requires : goal.new-requires
@@ -23,18 +22,5 @@ run_rounds-requires g c = (
   ),
 )
 
-pub returns-in-Err : goal.returns-in-Err
-returns-in-Err g c = record {
-  ended = tt;
-  size = λ ok. absurd (cc (ok));
-  ring_size = same-size c.in-Err.fault c.from.result c.from.ensures c.in-Err.ensures.ring_size;
-  never_stalled = stalled-never c.in-Err.fault c.from.result c.from.ensures;
-}
-
-pub returns-in-Ok : goal.returns-in-Ok
-returns-in-Ok g c = record {
-  ended = (c.run_rounds.new.bridge, c.run_rounds.ensures);
-  size = λ _. c.in-Ok.ensures.size refl;
-  ring_size = tt;
-  never_stalled = tt;
-}
+pub returns : goal.returns
+returns g c = record { ended = (c.run_rounds.new.bridge, c.run_rounds.ensures); size = λ _. c.in-Ok.ensures.size refl; memory = tt }

@@ -1,5 +1,5 @@
-use Rattle.tl_run.proofs.Names.{lit<, near_beats, refl, arith, ⊎_elim, inl, inr}
-use Rattle.tl_run.proofs.OnlyMemory.{want-of-memory}
+use Rattle.tl_run.proofs.Names.{lit<, near_beats, refl, ⊎_elim, inl, inr}
+use Rattle.tl_run.proofs.OnlyMemory.{only-memory}
 use Rattle.tl_run.proofs.sync_run.run_sync.Goals as goal
 
 pub returns-then-ring-eq0 : goal.returns-then-ring-eq0
@@ -14,12 +14,9 @@ pub new-requires : goal.new-requires
 new-requires g c = (lit< tt, (lit< tt, (record { client = c.requires.client; manager = c.requires.manager }, c.requires.short)))
 
 pub returns-in_default : goal.returns-in_default
-returns-in_default g c = record {
-  outcome = tt;
-  size = λ ok. absurd (cc (ok));
-  ring_size = want-of-memory c.args.ring (omega (arith, c.if-ring-eq0.false), c.if-ring-gt-MAX_RING.false);
-  never_stalled = λ e. absurd (cc (e));
-}
+returns-in_default g c =
+    let only = only-memory _ refl c.args.ring c.if-ring-eq0.false c.if-ring-gt-MAX_RING.false in
+    record { outcome = tt; size = λ ok. absurd (cc (ok)); ring_size = only.0; never_stalled = only.1 }
 
 pub run_into_lists-requires : goal.run_into_lists-requires
 run_into_lists-requires g c = (
@@ -49,9 +46,6 @@ returns-in-Ok-run_into_lists g c =
     }
 
 pub returns-in-Err : goal.returns-in-Err
-returns-in-Err g c = record {
-  outcome = tt;
-  size = λ ok. absurd (cc (ok));
-  ring_size = c.in-Err.ensures.ring_size;
-  never_stalled = c.in-Err.ensures.never_stalled;
-}
+returns-in-Err g c =
+    let only = only-memory c.in-Err.fault c.in-Err.ensures.memory c.args.ring c.if-ring-eq0.false c.if-ring-gt-MAX_RING.false in
+    record { outcome = tt; size = λ ok. absurd (cc (ok)); ring_size = only.0; never_stalled = only.1 }

@@ -1,5 +1,6 @@
 use Rattle.std.proofs.lemmas.Result.{IfOk-from_err}
-use Rattle.tl_run.proofs.Names.{refl, beat_small, bridge_small}
+use Rattle.tl_run.proofs.Names.{ap, sym, subst, beat_small, bridge_small, Fit, inboxes, joined, lengths}
+use Rattle.tl_run.proofs.Rooms.{same-beats}
 use Rattle.tl_run.proofs.taken.take_from_each.Goals as goal
 
 pub inbox_a-a-requires : goal.inbox_a-a-requires
@@ -30,26 +31,26 @@ pub returns-in_err-take : goal.returns-in_err-take
 returns-in_err-take g c =
     let r = c.from_residual.result in
     let e = c.from_residual.ensures.0 in
+    let same = same-beats _ (inboxes c.args.bridge.now) c.inbox_a-a.ensures c.inbox_b-b.ensures c.inbox_c-c.ensures c.inbox_d-d.ensures
+    c.inbox_e-e.ensures in
     record {
       taken = λ x stands. IfOk-from_err r _ e;
       far = λ all h. IfOk-from_err r _ e;
       room = λ all room h has fit.
-          let ok = (c.in_err-take.ensures.room all room h has
-          (rw (c.inbox_a-a.ensures, c.inbox_b-b.ensures, c.inbox_c-c.ensures, c.inbox_d-d.ensures, c.inbox_e-e.ensures) fit)).0 in
+          let ok = (c.in_err-take.ensures.room all room h has (subst (λ q. Fit (joined all q) room) (sym same) fit)).0 in
           absurd (cc (ok));
       same = IfOk-from_err r _ e;
       counted = IfOk-from_err r _ e;
     }
 
 pub returns : goal.returns
-returns g c = record {
-  taken = c.take_all.ensures;
-  far = λ all h.
-      let has = c.in_ok-take.ensures.far all h in
-      rw (c.inbox_a-a.ensures, c.inbox_b-b.ensures, c.inbox_c-c.ensures, c.inbox_d-d.ensures, c.inbox_e-e.ensures) at has;
-  room = λ all room h has fit.
-      c.in_ok-take.ensures.room all room h has
-      (rw (c.inbox_a-a.ensures, c.inbox_b-b.ensures, c.inbox_c-c.ensures, c.inbox_d-d.ensures, c.inbox_e-e.ensures) fit);
-  same = c.in_ok-take.ensures.same;
-  counted = rw (c.inbox_a-a.ensures, c.inbox_b-b.ensures, c.inbox_c-c.ensures, c.inbox_d-d.ensures, c.inbox_e-e.ensures) refl;
-}
+returns g c =
+    let same = same-beats _ (inboxes c.args.bridge.now) c.inbox_a-a.ensures c.inbox_b-b.ensures c.inbox_c-c.ensures c.inbox_d-d.ensures
+    c.inbox_e-e.ensures in
+    record {
+      taken = c.take_all.ensures;
+      far = λ all h. subst (λ q. g.F.FarSink.Holds c.take.new.self (joined all q)) same (c.in_ok-take.ensures.far all h);
+      room = λ all room h has fit. c.in_ok-take.ensures.room all room h has (subst (λ q. Fit (joined all q) room) (sym same) fit);
+      same = c.in_ok-take.ensures.same;
+      counted = ap (λ q. lengths q) same;
+    }

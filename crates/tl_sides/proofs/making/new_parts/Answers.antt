@@ -1,5 +1,6 @@
 use Rattle.std.proofs.Common.{refl}
 use Rattle.std.proofs.lemmas.Bool.{false≢true}
+use Rattle.tl_sides.proofs.Words.{want_of_memory}
 use Rattle.tl_sides.proofs.making.new_parts.Goals as goal
 
 -- each ring lives as long as what it is made of
@@ -18,50 +19,50 @@ new_ring-requires-4 g c κs = λ within. within
 pub new_ring-requires-5 : goal.new_ring-requires-5
 new_ring-requires-5 g c κs = λ within. within
 
-pub drop-a-requires : goal.drop-a-requires
-drop-a-requires g c κs within = within
+pub let_go-requires : goal.let_go-requires
+let_go-requires g c κs within = within
 
-pub drop-b-requires : goal.drop-b-requires
-drop-b-requires g c κs within = within
+pub let_go-requires-in-Err-new_ring-2 : goal.let_go-requires-in-Err-new_ring-2
+let_go-requires-in-Err-new_ring-2 g c κs within = within
 
-pub drop-a-requires-in-Err-new_ring-2 : goal.drop-a-requires-in-Err-new_ring-2
-drop-a-requires-in-Err-new_ring-2 g c κs within = within
+pub let_go-requires-in-Err-new_ring-2-2 : goal.let_go-requires-in-Err-new_ring-2-2
+let_go-requires-in-Err-new_ring-2-2 g c κs within = within
 
-pub drop-c-requires : goal.drop-c-requires
-drop-c-requires g c κs within = within
+pub let_go-requires-in-Err-new_ring-3 : goal.let_go-requires-in-Err-new_ring-3
+let_go-requires-in-Err-new_ring-3 g c κs within = within
 
-pub drop-b-requires-in-Err-new_ring-3 : goal.drop-b-requires-in-Err-new_ring-3
-drop-b-requires-in-Err-new_ring-3 g c κs within = within
+pub let_go-requires-in-Err-new_ring-3-2 : goal.let_go-requires-in-Err-new_ring-3-2
+let_go-requires-in-Err-new_ring-3-2 g c κs within = within
 
-pub drop-a-requires-in-Err-new_ring-3 : goal.drop-a-requires-in-Err-new_ring-3
-drop-a-requires-in-Err-new_ring-3 g c κs within = within
+pub let_go-requires-in-Err-new_ring-3-3 : goal.let_go-requires-in-Err-new_ring-3-3
+let_go-requires-in-Err-new_ring-3-3 g c κs within = within
 
-pub drop-d-requires : goal.drop-d-requires
-drop-d-requires g c κs within = within
+pub let_go-requires-in-Err-new_ring-4 : goal.let_go-requires-in-Err-new_ring-4
+let_go-requires-in-Err-new_ring-4 g c κs within = within
 
-pub drop-c-requires-in-Err-new_ring-4 : goal.drop-c-requires-in-Err-new_ring-4
-drop-c-requires-in-Err-new_ring-4 g c κs within = within
+pub let_go-requires-in-Err-new_ring-4-2 : goal.let_go-requires-in-Err-new_ring-4-2
+let_go-requires-in-Err-new_ring-4-2 g c κs within = within
 
-pub drop-b-requires-in-Err-new_ring-4 : goal.drop-b-requires-in-Err-new_ring-4
-drop-b-requires-in-Err-new_ring-4 g c κs within = within
+pub let_go-requires-in-Err-new_ring-4-3 : goal.let_go-requires-in-Err-new_ring-4-3
+let_go-requires-in-Err-new_ring-4-3 g c κs within = within
 
-pub drop-a-requires-in-Err-new_ring-4 : goal.drop-a-requires-in-Err-new_ring-4
-drop-a-requires-in-Err-new_ring-4 g c κs within = within
+pub let_go-requires-in-Err-new_ring-4-4 : goal.let_go-requires-in-Err-new_ring-4-4
+let_go-requires-in-Err-new_ring-4-4 g c κs within = within
 
-pub drop-e-requires : goal.drop-e-requires
-drop-e-requires g c κs within = within
+pub let_go-requires-in_default : goal.let_go-requires-in_default
+let_go-requires-in_default g c κs within = within
 
-pub drop-d-requires-in_default : goal.drop-d-requires-in_default
-drop-d-requires-in_default g c κs within = within
+pub let_go-requires-in_default-2 : goal.let_go-requires-in_default-2
+let_go-requires-in_default-2 g c κs within = within
 
-pub drop-c-requires-in_default : goal.drop-c-requires-in_default
-drop-c-requires-in_default g c κs within = within
+pub let_go-requires-in_default-3 : goal.let_go-requires-in_default-3
+let_go-requires-in_default-3 g c κs within = within
 
-pub drop-b-requires-in_default : goal.drop-b-requires-in_default
-drop-b-requires-in_default g c κs within = within
+pub let_go-requires-in_default-4 : goal.let_go-requires-in_default-4
+let_go-requires-in_default-4 g c κs within = within
 
-pub drop-a-requires-in_default : goal.drop-a-requires-in_default
-drop-a-requires-in_default g c κs within = within
+pub let_go-requires-in_default-5 : goal.let_go-requires-in_default-5
+let_go-requires-in_default-5 g c κs within = within
 
 -- where a ring is not made, only the fault says something
 pub returns-in-Err : goal.returns-in-Err
@@ -109,17 +110,14 @@ returns-in-Err-new_ring-4 g c = record {
   ring_size = c.in-Err-new_ring-4.ensures.ring_size;
 }
 
-pub returns-in_default-clause-rings : goal.returns-in_default-clause-rings
-returns-in_default-clause-rings g c = tt
-
-pub returns-in_default-clause-client : goal.returns-in_default-clause-client
-returns-in_default-clause-client g c = tt
-
-pub returns-in_default-clause-manager : goal.returns-in_default-clause-manager
-returns-in_default-clause-manager g c = tt
-
-pub returns-in_default-clause-size : goal.returns-in_default-clause-size
-returns-in_default-clause-size g c = λ made. absurd (false≢true made)
+pub returns-in_default : goal.returns-in_default
+returns-in_default g c = record {
+  rings = tt;
+  client = tt;
+  manager = tt;
+  size = λ made. absurd (false≢true made);
+  ring_size = want_of_memory c.args.ring (c.in-Ok.ensures.size refl);
+}
 
 pub returns : goal.returns
 returns g c = record {

@@ -14,47 +14,17 @@ new_parts-requires g c =
 pub new_parts-requires-room-RingA-NewRing : goal.new_parts-requires-room-RingA-NewRing
 new_parts-requires-room-RingA-NewRing g c κs within = beat_small g.row.M c.requires.manager
 
-pub new_parts-requires-room-RingA-Destruct-2 : goal.new_parts-requires-room-RingA-Destruct-2
-new_parts-requires-room-RingA-Destruct-2 g c κs within = beat_small g.row.M c.requires.manager
-
-pub new_parts-requires-room-RingA-Destruct-4 : goal.new_parts-requires-room-RingA-Destruct-4
-new_parts-requires-room-RingA-Destruct-4 g c κs within = beat_small g.row.M c.requires.manager
-
 pub new_parts-requires-room-RingB-NewRing : goal.new_parts-requires-room-RingB-NewRing
 new_parts-requires-room-RingB-NewRing g c κs within = beat_small g.row.C c.requires.client
-
-pub new_parts-requires-room-RingB-Destruct-2 : goal.new_parts-requires-room-RingB-Destruct-2
-new_parts-requires-room-RingB-Destruct-2 g c κs within = beat_small g.row.C c.requires.client
-
-pub new_parts-requires-room-RingB-Destruct-4 : goal.new_parts-requires-room-RingB-Destruct-4
-new_parts-requires-room-RingB-Destruct-4 g c κs within = beat_small g.row.C c.requires.client
 
 pub new_parts-requires-room-RingC-NewRing : goal.new_parts-requires-room-RingC-NewRing
 new_parts-requires-room-RingC-NewRing g c κs within = beat_small g.row.M c.requires.manager
 
-pub new_parts-requires-room-RingC-Destruct-2 : goal.new_parts-requires-room-RingC-Destruct-2
-new_parts-requires-room-RingC-Destruct-2 g c κs within = beat_small g.row.M c.requires.manager
-
-pub new_parts-requires-room-RingC-Destruct-4 : goal.new_parts-requires-room-RingC-Destruct-4
-new_parts-requires-room-RingC-Destruct-4 g c κs within = beat_small g.row.M c.requires.manager
-
 pub new_parts-requires-room-RingD-NewRing : goal.new_parts-requires-room-RingD-NewRing
 new_parts-requires-room-RingD-NewRing g c κs within = beat_small g.row.C c.requires.client
 
-pub new_parts-requires-room-RingD-Destruct-2 : goal.new_parts-requires-room-RingD-Destruct-2
-new_parts-requires-room-RingD-Destruct-2 g c κs within = beat_small g.row.C c.requires.client
-
-pub new_parts-requires-room-RingD-Destruct-4 : goal.new_parts-requires-room-RingD-Destruct-4
-new_parts-requires-room-RingD-Destruct-4 g c κs within = beat_small g.row.C c.requires.client
-
 pub new_parts-requires-room-RingE-NewRing : goal.new_parts-requires-room-RingE-NewRing
 new_parts-requires-room-RingE-NewRing g c κs within = beat_small g.row.M c.requires.manager
-
-pub new_parts-requires-room-RingE-Destruct-2 : goal.new_parts-requires-room-RingE-Destruct-2
-new_parts-requires-room-RingE-Destruct-2 g c κs within = beat_small g.row.M c.requires.manager
-
-pub new_parts-requires-room-RingE-Destruct-4 : goal.new_parts-requires-room-RingE-Destruct-4
-new_parts-requires-room-RingE-Destruct-4 g c κs within = beat_small g.row.M c.requires.manager
 
 pub sides_over-requires : goal.sides_over-requires
 sides_over-requires g c =

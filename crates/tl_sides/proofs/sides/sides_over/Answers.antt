@@ -1,8 +1,6 @@
-use Rattle.std.proofs.Common.{refl, lit<}
-use Rattle.tl_sides.proofs.Words.{rules_a, rules_b, rules_c, rules_d, rules_e, sending_of, sends_new}
-use Rattle.tl_sides.proofs.Bridging.{masked_a, masked_b, masked_c, masked_d, masked_e}
+use Rattle.std.proofs.Common.{lit<}
 use Rattle.tl_sides.proofs.Layouts.{client_side_layout, manager_side_layout, part_small}
-use Rattle.tl_sides.proofs.NewEnds.{none_taken, idle}
+use Rattle.tl_sides.proofs.NewEnds.{new_sides}
 use Rattle.tl_sides.proofs.sides.sides_over.Goals as goal
 
 -- each port, and each intake, is a part of its side
@@ -50,55 +48,12 @@ over-requires-7 g c =
 
 pub returns : goal.returns
 returns g c = λ size near far rings knows_client knows_manager.
-    let client = c.over.result in
-    let manager = c.over-4.result in
-    let new_client = c.over.ensures in
-    let new_manager = c.over-4.ensures in
-    let client_stands = new_client.stands near far knows_client in
-    let manager_stands = new_manager.stands near far knows_manager in
-    let b = c.over-2.ensures in
-    let d = c.over-3.ensures in
-    let a = c.over-5.ensures in
-    let c_take = c.over-6.ensures in
-    let e = c.over-7.ensures in
-    record {
-      pair = record { a = rw a rings.0.pair; b = rw b rings.1.pair; c = rw c_take rings.2.pair; d = rw d rings.3.pair; e = rw e rings.4.pair };
-      client = record {
-        a = sends_new rules_a masked_a (sending_of client.a c.args.a.0) size rings.0.some_room client_stands.a new_client.ready_a.0
-            rings.0.none_sent rings.0.room new_client.ready_a.1;
-        b = none_taken size _ _ rings.1 _ b _ new_client.empty_b;
-        c = sends_new rules_c masked_c (sending_of client.c c.args.c.0) size rings.2.some_room client_stands.c new_client.ready_c.0
-            rings.2.none_sent rings.2.room new_client.ready_c.1;
-        d = none_taken size _ _ rings.3 _ d _ new_client.empty_d;
-        e = sends_new rules_e masked_e (sending_of client.e c.args.e.0) size rings.4.some_room client_stands.e new_client.ready_e.0
-            rings.4.none_sent rings.4.room new_client.ready_e.1;
-        accepted = refl;
-        book = client_stands.book;
-      };
-      manager = record {
-        a = none_taken size _ _ rings.0 _ a _ new_manager.empty_a;
-        b = sends_new rules_b masked_b (sending_of manager.b c.args.b.0) size rings.1.some_room manager_stands.b new_manager.ready_b.0
-            rings.1.none_sent rings.1.room new_manager.ready_b.1;
-        c = none_taken size _ _ rings.2 _ c_take _ new_manager.empty_c;
-        d = sends_new rules_d masked_d (sending_of manager.d c.args.d.0) size rings.3.some_room manager_stands.d new_manager.ready_d.0
-            rings.3.none_sent rings.3.room new_manager.ready_d.1;
-        e = none_taken size _ _ rings.4 _ e _ new_manager.empty_e;
-        accepted = refl;
-        homes = refl;
-        book = manager_stands.book;
-      };
-      client_knows = record {
-        a = rings.0.all_free;
-        b = idle size _ _ rings.1 _ b _ new_client.empty_b;
-        c = rings.2.all_free;
-        d = idle size _ _ rings.3 _ d _ new_client.empty_d;
-        e = rings.4.all_free;
-      };
-      manager_knows = record {
-        a = idle size _ _ rings.0 _ a _ new_manager.empty_a;
-        b = rings.1.all_free;
-        c = idle size _ _ rings.2 _ c_take _ new_manager.empty_c;
-        d = rings.3.all_free;
-        e = idle size _ _ rings.4 _ e _ new_manager.empty_e;
-      };
-    }
+    let parts = c.args.parts in
+    let client = c.over.ensures in
+    let manager = c.over-4.ensures in
+    new_sides size parts.0.0 parts.1.0 parts.2.0 parts.3.0 parts.4.0
+    c.over-5.result.half c.over-2.result.half c.over-6.result.half c.over-3.result.half c.over-7.result.half
+    (rw c.over-5.ensures rings.0, rw c.over-2.ensures rings.1, rw c.over-6.ensures rings.2, rw c.over-3.ensures rings.3, rw c.over-7.ensures rings.4)
+    c.over.result c.over-4.result (client.stands near far knows_client) (manager.stands near far knows_manager)
+    (client.ready_a, manager.ready_b, client.ready_c, manager.ready_d, client.ready_e)
+    (manager.empty_a, client.empty_b, manager.empty_c, client.empty_d, manager.empty_e)

@@ -1,4 +1,6 @@
-use Rattle.std.proofs.Common.{refl}
+use Rattle.std.proofs.Common.{◌≡◌, ◌≤◌, ℕ, List, length, refl}
+use Rattle.tl_sides.specs.Inner.Meeting.{AreCounted}
+use Rattle.tl_sides.specs.Words.{BeatOf, Outgoing, ROOM, inbox_room}
 use Rattle.tl_sides.proofs.Layouts.{client_layout, manager_layout, part_small}
 use Rattle.tl_sides.proofs.sides.standings_between.Goals as goal
 
@@ -32,11 +34,16 @@ staged-requires-5 g c = part_small (client_layout g.row.C g.row.M g.row.A g.A.Al
 pub len-requires-5 : goal.len-requires-5
 len-requires-5 g c = part_small (manager_layout g.row.C g.row.M g.row.A g.A.Allocator) 4 9223372036854775808 c.requires-raw.1.1.1.1
 
+-- an outbox and an inbox that were counted, and what is known between them
+counts : {H : Type 0} {v : ℕ} {o : Outgoing H v} {come : List (BeatOf H v)} {staged known inbox : ℕ} → staged ≡ length o.stage → staged ≤ ROOM →
+    inbox ≡ length come → inbox ≤ inbox_room → AreCounted o known come (record { staged = staged; in_ring = known; inbox = inbox })
+counts out most_out come most_come = record { staged = out; in_ring = refl; inbox = come; most = (most_out, most_come) }
+
 pub returns : goal.returns
 returns g c = rw (← c.client.view_is) (rw (← c.manager.view_is) (record {
-  a = record { staged = c.staged.ensures.count; in_ring = refl; inbox = c.len.ensures.count; most = (c.staged.ensures.most, c.len.ensures.most) };
-  b = record { staged = c.staged-2.ensures.count; in_ring = refl; inbox = c.len-2.ensures.count; most = (c.staged-2.ensures.most, c.len-2.ensures.most) };
-  c = record { staged = c.staged-3.ensures.count; in_ring = refl; inbox = c.len-3.ensures.count; most = (c.staged-3.ensures.most, c.len-3.ensures.most) };
-  d = record { staged = c.staged-4.ensures.count; in_ring = refl; inbox = c.len-4.ensures.count; most = (c.staged-4.ensures.most, c.len-4.ensures.most) };
-  e = record { staged = c.staged-5.ensures.count; in_ring = refl; inbox = c.len-5.ensures.count; most = (c.staged-5.ensures.most, c.len-5.ensures.most) };
+  a = counts c.staged.ensures.count c.staged.ensures.most c.len.ensures.count c.len.ensures.most;
+  b = counts c.staged-2.ensures.count c.staged-2.ensures.most c.len-2.ensures.count c.len-2.ensures.most;
+  c = counts c.staged-3.ensures.count c.staged-3.ensures.most c.len-3.ensures.count c.len-3.ensures.most;
+  d = counts c.staged-4.ensures.count c.staged-4.ensures.most c.len-4.ensures.count c.len-4.ensures.most;
+  e = counts c.staged-5.ensures.count c.staged-5.ensures.most c.len-5.ensures.count c.len-5.ensures.most;
 }))

@@ -1,4 +1,8 @@
-use Rattle.tl_ring.proofs.Names.{sym, ◌∙◌}
+use denote.Memory.{lone}
+use denote.Param.{layout, param, number, copied}
+use Rattle.tl_ring.specs.contracts.ends.ClosingEnd.{the_row}
+use Rattle.tl_ring.proofs.Names.{rules, sym, ◌∙◌, lit<}
+use Rattle.tl_ring.proofs.FieldSizes.{inner_small, beat_in_queue}
 use Rattle.tl_ring.proofs.EndSteps.{shows_of}
 use Rattle.tl_ring.proofs.ends.ClosingEnd.finish.Goals as goal
 
@@ -26,3 +30,11 @@ returns-clause-taker g c = tt
 
 pub returns-clause-shows : goal.returns-clause-shows
 returns-clause-shows g c = λ x h. tt
+
+pub finish-requires : goal.finish-requires
+finish-requires g c =
+    let row = layout (the_row (param 0 g.row.K) (param 1 (number g.row.W)) (param 2 (number g.row.V)) (param 3 g.row.A) (copied 4 g.row.K-Head)
+    g.K.Channel g.K.Head.Clone g.K.Head.Eq g.K.Head.PartialEq g.K.Head.Default g.A.Allocator) in
+    let beat = beat_in_queue (lone g.row.K-Head.mir) (layout g.row.K-Head) g.row.V 9223372036854775808
+    (inner_small row 0 1 9223372036854775808 c.requires-raw.1.1.1.1.1.0) in
+    λ κs within. ((lit< tt, (beat, tt)), (search rules, (search rules, search rules)))

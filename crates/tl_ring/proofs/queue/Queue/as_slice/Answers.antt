@@ -19,3 +19,6 @@ returns-clause-value g c =
 
 pub returns-clause-within : goal.returns-clause-within
 returns-clause-within g c = rw (take_rest c.as_slice.result.now c.self.inside.first, length-drop) (omega (arith, c.as_slice.ensures.fits))
+
+pub slice_bounds-result-start : goal.slice_bounds-result-start
+slice_bounds-result-start g c = rw c.as_slice.ensures.value c.self.invariant

@@ -1,17 +1,13 @@
-use Rattle.tl_run.proofs.Names.{◌≡◌, ◌+◌, ◌≤◌, ◌++◌, ℕ, List, length, length-append, subst, ap, ◌∙◌, arith, Beats, joined, beats_of}
+use Rattle.tl_run.proofs.Names.{◌≡◌, ◌+◌, ◌≤◌, ◌++◌, ℕ, List, length, length-append, subst, ap, arith, Beats, joined, beats_of}
 use Rattle.tl_run.proofs.AllOk.{five_ok, five-are-ok}
+use Rattle.tl_run.proofs.Rooms.{same-beats}
 use Rattle.tl_run.proofs.taken.TakenFarSink.take.Goals as goal
 
 -- each list has these beats behind those that it had
 all-appended : {C M : ℕ} (far old new more : Beats M C) → old ≡ far → new.a ≡ old.a ++ more.a → new.b ≡ old.b ++ more.b → new.c ≡ old.c ++ more.c →
     new.d ≡ old.d ++ more.d → new.e ≡ old.e ++ more.e → new ≡ joined far more
 all-appended far old new more same a b c d e =
-    let j = joined old more in
-    subst (λ q. new ≡ joined q more) same
-    (ap (λ q. record { a = q; b = new.b; c = new.c; d = new.d; e = new.e }) a ∙
-    ap (λ q. record { a = j.a; b = q; c = new.c; d = new.d; e = new.e }) b ∙
-    ap (λ q. record { a = j.a; b = j.b; c = q; d = new.d; e = new.e }) c ∙ ap (λ q. record { a = j.a; b = j.b; c = j.c; d = q; e = new.e }) d ∙
-    ap (λ q. record { a = j.a; b = j.b; c = j.c; d = j.d; e = q }) e)
+    subst (λ q. new ≡ joined q more) same (same-beats new (joined old more) a b c d e)
 
 pub returns-clause-far : goal.returns-clause-far
 returns-clause-far g c = λ far h.

@@ -15,40 +15,20 @@ pub new_parts-requires-room-RingA-NewRing : goal.new_parts-requires-room-RingA-N
 new_parts-requires-room-RingA-NewRing g c κs within =
     part_small (bridge_layout g.row.C g.row.M g.row.A g.A.Allocator) 2 9223372036854775808 c.requires-raw.1.1.1.0
 
-pub new_parts-requires-room-RingA-Destruct : goal.new_parts-requires-room-RingA-Destruct
-new_parts-requires-room-RingA-Destruct g c κs within =
-    part_small (bridge_layout g.row.C g.row.M g.row.A g.A.Allocator) 2 9223372036854775808 c.requires-raw.1.1.1.0
-
 pub new_parts-requires-room-RingB-NewRing : goal.new_parts-requires-room-RingB-NewRing
 new_parts-requires-room-RingB-NewRing g c κs within =
-    part_small (bridge_layout g.row.C g.row.M g.row.A g.A.Allocator) 3 9223372036854775808 c.requires-raw.1.1.1.0
-
-pub new_parts-requires-room-RingB-Destruct : goal.new_parts-requires-room-RingB-Destruct
-new_parts-requires-room-RingB-Destruct g c κs within =
     part_small (bridge_layout g.row.C g.row.M g.row.A g.A.Allocator) 3 9223372036854775808 c.requires-raw.1.1.1.0
 
 pub new_parts-requires-room-RingC-NewRing : goal.new_parts-requires-room-RingC-NewRing
 new_parts-requires-room-RingC-NewRing g c κs within =
     part_small (bridge_layout g.row.C g.row.M g.row.A g.A.Allocator) 4 9223372036854775808 c.requires-raw.1.1.1.0
 
-pub new_parts-requires-room-RingC-Destruct : goal.new_parts-requires-room-RingC-Destruct
-new_parts-requires-room-RingC-Destruct g c κs within =
-    part_small (bridge_layout g.row.C g.row.M g.row.A g.A.Allocator) 4 9223372036854775808 c.requires-raw.1.1.1.0
-
 pub new_parts-requires-room-RingD-NewRing : goal.new_parts-requires-room-RingD-NewRing
 new_parts-requires-room-RingD-NewRing g c κs within =
     part_small (bridge_layout g.row.C g.row.M g.row.A g.A.Allocator) 5 9223372036854775808 c.requires-raw.1.1.1.0
 
-pub new_parts-requires-room-RingD-Destruct : goal.new_parts-requires-room-RingD-Destruct
-new_parts-requires-room-RingD-Destruct g c κs within =
-    part_small (bridge_layout g.row.C g.row.M g.row.A g.A.Allocator) 5 9223372036854775808 c.requires-raw.1.1.1.0
-
 pub new_parts-requires-room-RingE-NewRing : goal.new_parts-requires-room-RingE-NewRing
 new_parts-requires-room-RingE-NewRing g c κs within =
-    part_small (bridge_layout g.row.C g.row.M g.row.A g.A.Allocator) 6 9223372036854775808 c.requires-raw.1.1.1.0
-
-pub new_parts-requires-room-RingE-Destruct : goal.new_parts-requires-room-RingE-Destruct
-new_parts-requires-room-RingE-Destruct g c κs within =
     part_small (bridge_layout g.row.C g.row.M g.row.A g.A.Allocator) 6 9223372036854775808 c.requires-raw.1.1.1.0
 
 pub bridge_over-requires : goal.bridge_over-requires
