@@ -1,11 +1,13 @@
 //! Values that are made for a test, lent to it and let go. (Of any type, since a function that itself holds a bridge is dear to check.)
 
-/// What a test says of the value that it is lent. Else why there is none.
-pub fn lent<T: Drop, E, F: FnOnce(&mut T) -> bool>(made: Result<T, E>, test: F) -> Result<bool, E>
+/// Whether the value was made, and a test that it is lent to passes.
+pub fn lent<T: Drop, E: Drop, F: FnOnce(&mut T) -> bool>(made: Result<T, E>, test: F) -> bool
     requires { F.IsAlwaysCallable test }
 {
-    let mut value = made?;
-    Ok(test(&mut value))
+    match made {
+        Ok(mut value) => test(&mut value),
+        Err(_) => false,
+    }
 }
 
 /// Lets two values go, with all that they hold.

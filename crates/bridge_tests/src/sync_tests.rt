@@ -2,71 +2,64 @@
 
 use crate::lending::lent;
 use crate::values::{LANES, data, get};
-use std::test::Fail;
 use tl_bridge::{Standings, SyncBridge};
 use tl_lanes::Mask;
-use tl_msg::{
-    Beat, BeatFault, BeatOf, ChA, ChB, ChC, ChD, ChE, HeadB, HeadC, HeadE, SideFault, SourceId,
-};
+use tl_msg::{Beat, BeatFault, BeatOf, ChA, ChB, ChC, ChD, ChE, HeadB, HeadC, HeadE, SideFault};
 
-/// What a bridge says to an offer. None where the channel is not ready.
-type Answer = Option<Result<(), SideFault>>;
+/// Whether a Get of source 11 from address 100c is offered, and answered so.
+fn asks(bridge: &mut SyncBridge<4, 16>, said: Result<(), SideFault>) -> bool {
+    bridge.ready_a() && bridge.offer_a(get(0x11, 0x100c)) == said
+}
 
-const ACCEPTED: Answer = Some(Ok(()));
+/// Whether a beat of a response to source 11 is offered, and answered so.
+fn answers(
+    bridge: &mut SyncBridge<4, 16>,
+    opcode: u8,
+    size: u8,
+    said: Result<(), SideFault>,
+) -> bool {
+    bridge.ready_d() && bridge.offer_d(data(opcode, size, 0x11, LANES)) == said
+}
 
-fn ask(bridge: &mut SyncBridge<4, 16>, source: SourceId, address: u64) -> Answer {
-    if !bridge.ready_a() {
-        return None;
+/// Whether a pump and a fetch move so many beats each.
+fn moves(bridge: &mut SyncBridge<4, 16>, count: usize) -> bool {
+    (bridge.pump() == count) & (bridge.fetch() == count)
+}
+
+/// Whether the manager's side takes a beat of this mask from A.
+fn takes_ask(bridge: &mut SyncBridge<4, 16>, mask: Mask) -> bool {
+    match bridge.take_a() {
+        Some(beat) => beat.mask == mask,
+        None => false,
     }
-    Some(bridge.offer_a(get(source, address)))
 }
 
-/// Offers a beat of a response to source 11.
-fn answer(bridge: &mut SyncBridge<4, 16>, opcode: u8, size: u8) -> Answer {
-    if !bridge.ready_d() {
-        return None;
+/// Whether the client's side takes a beat of these lanes from D.
+fn takes_answer(bridge: &mut SyncBridge<4, 16>, lanes: [u8; 4]) -> bool {
+    match bridge.take_d() {
+        Some(beat) => beat.lanes == lanes,
+        None => false,
     }
-    Some(bridge.offer_d(data(opcode, size, 0x11, LANES)))
-}
-
-/// How many beats a pump and a fetch move.
-fn moved(bridge: &mut SyncBridge<4, 16>) -> (usize, usize) {
-    (bridge.pump(), bridge.fetch())
-}
-
-/// The mask of the beat that the manager's side takes from A.
-fn asked_mask(bridge: &mut SyncBridge<4, 16>) -> Option<Mask> {
-    let beat = bridge.take_a()?;
-    Some(beat.mask)
-}
-
-/// The lanes of the beat that the client's side takes from D.
-fn answered_lanes(bridge: &mut SyncBridge<4, 16>) -> Option<[u8; 4]> {
-    let beat = bridge.take_d()?;
-    Some(beat.lanes)
 }
 
 /// Whether a request crosses, and no response before it does.
 fn request_crosses(bridge: &mut SyncBridge<4, 16>) -> bool {
-    let is_refused = (answer(bridge, 3, 2) == Some(Err(SideFault::Beat(BeatFault::Opcode))))
-        & (answer(bridge, 1, 2) == Some(Err(SideFault::NoRequest)));
-    let is_asked = ask(bridge, 0x11, 0x100c) == ACCEPTED;
-    is_refused & is_asked & (moved(bridge) == (1, 1)) & (asked_mask(bridge) == Some(0xf000))
+    let is_refused = answers(bridge, 3, 2, Err(SideFault::Beat(BeatFault::Opcode)))
+        & answers(bridge, 1, 2, Err(SideFault::NoRequest));
+    is_refused & asks(bridge, Ok(())) & moves(bridge, 1) & takes_ask(bridge, 0xf000)
 }
 
 /// Whether its response crosses then, once, and its source is in use until it is taken.
 fn response_crosses(bridge: &mut SyncBridge<4, 16>) -> bool {
-    let is_answered = (answer(bridge, 1, 3) == Some(Err(SideFault::SizeMismatch)))
-        & (answer(bridge, 1, 2) == ACCEPTED)
+    let is_answered = answers(bridge, 1, 3, Err(SideFault::SizeMismatch))
+        & answers(bridge, 1, 2, Ok(()))
         & (bridge.pump() == 1)
-        & (answer(bridge, 1, 2) == Some(Err(SideFault::NoRequest)));
-    let busy = Some(Err(SideFault::SourceBusy));
-    let is_busy = (ask(bridge, 0x11, 0x100c) == busy)
+        & answers(bridge, 1, 2, Err(SideFault::NoRequest));
+    let is_busy = asks(bridge, Err(SideFault::SourceBusy))
         & (bridge.fetch() == 1)
-        & (ask(bridge, 0x11, 0x100c) == busy);
-    let is_taken = answered_lanes(bridge) == Some([0xaa, 0xbb, 0xcc, 0xdd]);
-    let is_free = ask(bridge, 0x11, 0x100c) == ACCEPTED;
-    is_answered & is_busy & is_taken & is_free & answered_lanes(bridge).is_none()
+        & asks(bridge, Err(SideFault::SourceBusy));
+    let is_taken = takes_answer(bridge, [0xaa, 0xbb, 0xcc, 0xdd]);
+    is_answered & is_busy & is_taken & asks(bridge, Ok(())) & bridge.take_d().is_none()
 }
 
 fn request_and_response_cross(bridge: &mut SyncBridge<4, 16>) -> bool {
@@ -74,10 +67,8 @@ fn request_and_response_cross(bridge: &mut SyncBridge<4, 16>) -> bool {
 }
 
 #[test]
-fn a_request_and_its_response(rt: HostRuntime) -> Result<(), Fail> {
-    let bridge = SyncBridge::new(rt.alloc(), 4);
-    assert!(rt; lent(bridge, request_and_response_cross)?);
-    Ok(())
+fn a_request_and_its_response(rt: HostRuntime) {
+    assert!(rt; lent(SyncBridge::new(rt.alloc(), 4), request_and_response_cross));
 }
 
 const BLOCK: Beat<ChB, 16> = BeatOf {
@@ -144,17 +135,15 @@ fn closes_each(bridge: &mut SyncBridge<4, 16>) -> bool {
 
 /// Whether these three cross, no channel has a beat then, and each closes.
 fn cross_and_close(bridge: &mut SyncBridge<4, 16>) -> bool {
-    let is_moved = all_offered(bridge) & (moved(bridge) == (3, 3));
+    let is_moved = all_offered(bridge) & moves(bridge, 3);
     let is_there = bridge.standings().c.inbox == 1;
     let is_empty = all_taken(bridge) & (bridge.standings() == Standings::default());
     is_moved & is_there & is_empty & closes_each(bridge)
 }
 
 #[test]
-fn probes_releases_and_acknowledgements(rt: HostRuntime) -> Result<(), Fail> {
-    let bridge = SyncBridge::new(rt.alloc(), 1);
-    assert!(rt; lent(bridge, cross_and_close)?);
-    Ok(())
+fn probes_releases_and_acknowledgements(rt: HostRuntime) {
+    assert!(rt; lent(SyncBridge::new(rt.alloc(), 1), cross_and_close));
 }
 
 /// What arrives of a request, at once.
@@ -189,8 +178,6 @@ fn is_used_twice(bridge: &mut SyncBridge<4, 4>) -> bool {
 }
 
 #[test]
-fn a_source_used_twice(rt: HostRuntime) -> Result<(), Fail> {
-    let bridge = SyncBridge::new(rt.alloc(), 1);
-    assert!(rt; lent(bridge, is_used_twice)?);
-    Ok(())
+fn a_source_used_twice(rt: HostRuntime) {
+    assert!(rt; lent(SyncBridge::new(rt.alloc(), 1), is_used_twice));
 }

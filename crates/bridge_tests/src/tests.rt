@@ -1,3 +1,4 @@
+use crate::lending::lent;
 use linked_list_allocator::LocalHeap;
 use std::test::Fail;
 use tl_bridge::laws::{every_run, one_settled_state, steps_are_admitted};
@@ -16,12 +17,8 @@ fn notes_sources(table: &mut SourceTable) -> bool {
 }
 
 #[test]
-fn sources_in_use(rt: HostRuntime) -> Result<(), Fail> {
-    let mut table = SourceTable::new(rt.alloc())?;
-    let is_so = notes_sources(&mut table);
-    drop(table);
-    assert!(rt; is_so);
-    Ok(())
+fn sources_in_use(rt: HostRuntime) {
+    assert!(rt; lent(SourceTable::new(rt.alloc()), notes_sources));
 }
 
 const FIRST: Request = Request {
@@ -54,12 +51,8 @@ fn notes_requests(table: &mut RequestTable) -> bool {
 }
 
 #[test]
-fn requests_that_wait(rt: HostRuntime) -> Result<(), Fail> {
-    let mut table = RequestTable::new(rt.alloc())?;
-    let is_so = notes_requests(&mut table);
-    drop(table);
-    assert!(rt; is_so);
-    Ok(())
+fn requests_that_wait(rt: HostRuntime) {
+    assert!(rt; lent(RequestTable::new(rt.alloc()), notes_requests));
 }
 
 /// Whether there is no memory for a table of this kind.
@@ -78,15 +71,21 @@ fn have_no_third(heap: &LocalHeap) -> bool {
     is_full & is_refused & (heap.used() == 17 << 16)
 }
 
+/// Whether a table of requests takes what is left of the memory.
+fn requests_take_the_rest(heap: &LocalHeap) -> Result<bool, OutOfMemory> {
+    let requests = RequestTable::new(heap)?;
+    let is_full = have_no_third(heap);
+    drop(requests);
+    Ok(is_full)
+}
+
 /// Whether two tables take as many bytes as that, and none once they are gone.
 fn take_their_memory(heap: &LocalHeap) -> Result<bool, OutOfMemory> {
     let sources = SourceTable::new(heap)?;
-    let one = heap.used();
-    let requests = RequestTable::new(heap)?;
-    let is_full = have_no_third(heap);
+    let is_one = heap.used() == 1 << 16;
+    let is_full = requests_take_the_rest(heap);
     drop(sources);
-    drop(requests);
-    Ok(is_full & (one == 1 << 16) & (heap.used() == 0))
+    Ok(is_full? & is_one & (heap.used() == 0))
 }
 
 /// A table of sources takes a byte for each of the 65,536 sources, and one of requests 16 bytes.

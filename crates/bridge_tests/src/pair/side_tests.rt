@@ -7,95 +7,82 @@ use crate::lending::let_both_go;
 use crate::values::{LANES, data, get};
 use std::test::Fail;
 use tl_lanes::Mask;
-use tl_msg::{Beat, BeatFault, ChA, ChD, SideFault};
+use tl_msg::{BeatFault, SideFault};
 use tl_sides::{ClientSide, ManagerSide, bridge, meet_sides};
 
-/// What a side is told to do.
+/// What an offer is answered.
+type Said = Result<(), SideFault>;
+
+/// What a side does, and what comes of it.
 enum Call {
-    /// The client's side offers a Get from address 100c.
-    Ask,
-    /// The manager's side offers a response of this opcode and size.
-    Answer(u8, u8),
+    /// The client's side offers a Get from address 100c, and is answered so.
+    Asks(Said),
+    /// The manager's side offers a response of this opcode and size, and is answered so.
+    Answers(u8, u8, Said),
+    /// One beat is moved.
     ClientPumps,
     ClientFetches,
     ManagerPumps,
     ManagerFetches,
-    /// The manager's side takes a beat of A.
-    TakeAsk,
-    /// The client's side takes a beat of D.
-    TakeAnswer,
+    /// The manager's side takes a beat of A, which has this mask.
+    TakesAsk(Mask),
+    /// The client's side takes a beat of D, which has these lanes.
+    TakesAnswer([u8; 4]),
+    /// There is no beat of D for the client's side.
+    TakesNothing,
 }
 
-/// What comes of it.
-#[derive(Clone, Copy, PartialEq, Eq)]
-enum Said {
-    NotReady,
-    Accepted,
-    Refused(SideFault),
-    Moved(usize),
-    Nothing,
-    /// The mask of a beat of A.
-    Asked(Mask),
-    /// The lanes of a beat of D.
-    Answered([u8; 4]),
-}
-
-fn ask(client: &mut ClientSide<4, 16>) -> Said
+fn asks(client: &mut ClientSide<4, 16>, said: &Said) -> bool
     ensures { SameClient client.old client.new }
 {
-    if !client.ready_a() {
-        return Said::NotReady;
-    }
-    match client.offer_a(get(0x11, 0x100c)) {
-        Ok(()) => Said::Accepted,
-        Err(fault) => Said::Refused(fault),
-    }
+    client.ready_a() && client.offer_a(get(0x11, 0x100c)) == *said
 }
 
-fn answer(manager: &mut ManagerSide<4, 16>, opcode: u8, size: u8) -> Said
+fn answers(manager: &mut ManagerSide<4, 16>, opcode: u8, size: u8, said: &Said) -> bool
     ensures { SameManager manager.old manager.new }
 {
-    if !manager.ready_d() {
-        return Said::NotReady;
-    }
-    match manager.offer_d(data(opcode, size, 0x11, LANES)) {
-        Ok(()) => Said::Accepted,
-        Err(fault) => Said::Refused(fault),
-    }
+    manager.ready_d() && manager.offer_d(data(opcode, size, 0x11, LANES)) == *said
 }
 
-fn take_ask(manager: &mut ManagerSide<4, 16>) -> Said
+fn takes_ask(manager: &mut ManagerSide<4, 16>, mask: Mask) -> bool
     ensures { SameManager manager.old manager.new }
 {
     match manager.take_a() {
-        Some(beat) => Said::Asked(beat.mask),
-        None => Said::Nothing,
+        Some(beat) => beat.mask == mask,
+        None => false,
     }
 }
 
-fn take_answer(client: &mut ClientSide<4, 16>) -> Said
+fn takes_answer(client: &mut ClientSide<4, 16>, lanes: &[u8; 4]) -> bool
     ensures { SameClient client.old client.new }
 {
     match client.take_d() {
-        Some(beat) => Said::Answered(beat.lanes),
-        None => Said::Nothing,
+        Some(beat) => beat.lanes == *lanes,
+        None => false,
     }
 }
 
-/// One call of one side.
-fn play(client: &mut ClientSide<4, 16>, manager: &mut ManagerSide<4, 16>, call: &Call) -> Said
+fn takes_nothing(client: &mut ClientSide<4, 16>) -> bool
+    ensures { SameClient client.old client.new }
+{
+    client.take_d().is_none()
+}
+
+/// Whether that comes of one call of one side.
+fn play(client: &mut ClientSide<4, 16>, manager: &mut ManagerSide<4, 16>, call: &Call) -> bool
     ensures client { SameClient client.old client.new }
     ensures manager { SameManager manager.old manager.new }
 {
     match call {
-        Call::Ask => ask(client),
-        Call::Answer(opcode, size) => answer(manager, *opcode, *size),
-        Call::ClientPumps => Said::Moved(client.pump()),
-        Call::ClientFetches => Said::Moved(client.fetch()),
-        Call::ManagerPumps => Said::Moved(manager.pump()),
-        Call::ManagerFetches => Said::Moved(manager.fetch()),
-        Call::TakeAsk => take_ask(manager),
-        Call::TakeAnswer => take_answer(client),
+        Call::Asks(said) => asks(client, said),
+        Call::Answers(opcode, size, said) => answers(manager, *opcode, *size, said),
+        Call::ClientPumps => client.pump() == 1,
+        Call::ClientFetches => client.fetch() == 1,
+        Call::ManagerPumps => manager.pump() == 1,
+        Call::ManagerFetches => manager.fetch() == 1,
+        Call::TakesAsk(mask) => takes_ask(manager, *mask),
+        Call::TakesAnswer(lanes) => takes_answer(client, lanes),
+        Call::TakesNothing => takes_nothing(client),
     }
 }
 
@@ -104,7 +91,7 @@ fn play_and_meet(
     client: &mut ClientSide<4, 16>,
     manager: &mut ManagerSide<4, 16>,
     call: &Call,
-) -> Said
+) -> bool
     requires { AreSides client.old manager.old }
     ensures { AreSides client.new manager.new }
 {
@@ -113,35 +100,32 @@ fn play_and_meet(
     said
 }
 
-/// The calls of a request and its response, and what comes of each.
-const CALLS: [(Call, Said); 16] = [
-    (
-        Call::Answer(3, 2),
-        Said::Refused(SideFault::Beat(BeatFault::Opcode)),
-    ),
-    (Call::Answer(1, 2), Said::Refused(SideFault::NoRequest)),
-    (Call::Ask, Said::Accepted),
-    (Call::ClientPumps, Said::Moved(1)),
-    (Call::ManagerFetches, Said::Moved(1)),
-    (Call::TakeAsk, Said::Asked(0xf000)),
-    (Call::Answer(1, 3), Said::Refused(SideFault::SizeMismatch)),
-    (Call::Answer(1, 2), Said::Accepted),
-    (Call::ManagerPumps, Said::Moved(1)),
-    (Call::Answer(1, 2), Said::Refused(SideFault::NoRequest)),
-    (Call::Ask, Said::Refused(SideFault::SourceBusy)),
-    (Call::ClientFetches, Said::Moved(1)),
-    (Call::Ask, Said::Refused(SideFault::SourceBusy)),
-    (Call::TakeAnswer, Said::Answered([0xaa, 0xbb, 0xcc, 0xdd])),
-    (Call::Ask, Said::Accepted),
-    (Call::TakeAnswer, Said::Nothing),
+/// The calls of a request and its response.
+const CALLS: [Call; 16] = [
+    Call::Answers(3, 2, Err(SideFault::Beat(BeatFault::Opcode))),
+    Call::Answers(1, 2, Err(SideFault::NoRequest)),
+    Call::Asks(Ok(())),
+    Call::ClientPumps,
+    Call::ManagerFetches,
+    Call::TakesAsk(0xf000),
+    Call::Answers(1, 3, Err(SideFault::SizeMismatch)),
+    Call::Answers(1, 2, Ok(())),
+    Call::ManagerPumps,
+    Call::Answers(1, 2, Err(SideFault::NoRequest)),
+    Call::Asks(Err(SideFault::SourceBusy)),
+    Call::ClientFetches,
+    Call::Asks(Err(SideFault::SourceBusy)),
+    Call::TakesAnswer([0xaa, 0xbb, 0xcc, 0xdd]),
+    Call::Asks(Ok(())),
+    Call::TakesNothing,
 ];
 
 /// Plays these calls, one after another, and answers whether that came of each.
 fn play_all(client: &mut ClientSide<4, 16>, manager: &mut ManagerSide<4, 16>) -> bool
     requires { AreSides client.old manager.old }
 {
-    for (call, wanted) in &CALLS {
-        if play_and_meet(client, manager, call) != *wanted {
+    for call in &CALLS {
+        if !play_and_meet(client, manager, call) {
             return false;
         }
     }
@@ -157,44 +141,41 @@ fn a_request_and_its_response(rt: HostRuntime) -> Result<(), Fail> {
     Ok(())
 }
 
-/// What arrives of a request, at once.
-fn ask_across(
-    client: &mut ClientSide<4, 4>,
-    manager: &mut ManagerSide<4, 4>,
-    request: Beat<ChA, 4>,
-) -> Option<Beat<ChA, 4>> {
-    if !client.ready_a() || client.offer_a(request).is_err() {
-        return None;
-    }
+/// Sends a request by source 11, and answers whether it was accepted.
+fn request_sent(client: &mut ClientSide<4, 4>, address: u64) -> bool {
+    let is_accepted = client.ready_a() && client.offer_a(get(0x11, address)).is_ok();
     client.pump();
+    is_accepted
+}
+
+/// Whether that request arrives.
+fn request_arrives(manager: &mut ManagerSide<4, 4>, address: u64) -> bool {
     manager.fetch();
-    manager.take_a()
+    manager.take_a() == Some(get(0x11, address))
 }
 
-/// What arrives of a response, at once.
-fn answer_across(
-    client: &mut ClientSide<4, 4>,
-    manager: &mut ManagerSide<4, 4>,
-    response: Beat<ChD, 4>,
-) -> Option<Beat<ChD, 4>> {
-    if !manager.ready_d() || manager.offer_d(response).is_err() {
-        return None;
-    }
+/// Sends a response to source 11, and answers whether it was accepted.
+fn response_sent(manager: &mut ManagerSide<4, 4>, byte: u8) -> bool {
+    let is_accepted = manager.ready_d() && manager.offer_d(data(1, 2, 0x11, [byte; 4])).is_ok();
     manager.pump();
-    client.fetch();
-    client.take_d()
+    is_accepted
 }
 
-/// Asks by source 11, and answers, and answers whether both arrive.
+/// Whether that response arrives.
+fn response_arrives(client: &mut ClientSide<4, 4>, byte: u8) -> bool {
+    client.fetch();
+    client.take_d() == Some(data(1, 2, 0x11, [byte; 4]))
+}
+
+/// Whether a request and its response arrive.
 fn is_used(
     client: &mut ClientSide<4, 4>,
     manager: &mut ManagerSide<4, 4>,
     address: u64,
     byte: u8,
 ) -> bool {
-    let (request, response) = (get(0x11, address), data(1, 2, 0x11, [byte; 4]));
-    (ask_across(client, manager, request) == Some(request))
-        & (answer_across(client, manager, response) == Some(response))
+    let is_asked = request_sent(client, address) & request_arrives(manager, address);
+    is_asked & response_sent(manager, byte) & response_arrives(client, byte)
 }
 
 #[test]

@@ -65,9 +65,9 @@ fn closes_at_the_end(send: SendEnd<ChA, 4, 8>) -> bool {
     let is_brought = quarter_offered(&mut send, [12, 13, 14, 15])
         & (fault == EndFault::MidBurst)
         & (send.staged() == 1);
-    match send.close() {
-        Ok(closing) => is_brought & (closing.staged() == 1),
-        Err(_) => false,
+    match send.close().ok() {
+        Some(closing) => is_brought & (closing.staged() == 1),
+        None => false,
     }
 }
 
@@ -109,9 +109,9 @@ fn pass_a_ring_of_one<R: Abort>(
 fn closes_with_nothing_left(send: SendEnd<ChA, 8, 4>, take: &mut TakeEnd<ChA, 8, 4>) -> bool
     requires { ArePair send take.old }
 {
-    match send.close() {
-        Ok(mut closing) => meet_closing(&mut closing, take) == at(0, 0, 0),
-        Err(_) => false,
+    match send.close().ok() {
+        Some(mut closing) => meet_closing(&mut closing, take) == at(0, 0, 0),
+        None => false,
     }
 }
 
@@ -125,14 +125,12 @@ fn two_far_beats_pass_a_ring_of_one_between_ends(rt: HostRuntime) -> Result<(), 
     Ok(())
 }
 
-/// Offers and sends a GrantAck, and answers whether it was accepted and went into the ring.
-fn acknowledged(send: &mut SendEnd<ChE, 4, 8>, sink: SinkId) -> bool
+/// Offers a GrantAck, and answers whether it was accepted and staged, and so many beats went into the ring then.
+fn sends(send: &mut SendEnd<ChE, 4, 8>, sink: SinkId, moved: usize) -> bool
     ensures { SameSend send.old send.new }
 {
-    if !send.ready() || send.offer(ack(sink), 0).is_err() {
-        return false;
-    }
-    send.staged() == 1 && send.pump() == 1
+    let is_accepted = send.ready() && send.offer(ack(sink), 0).is_ok();
+    is_accepted & (send.staged() == 1) & (send.pump() == moved)
 }
 
 /// Whether a receipt says that a beat is in the ring, then that it is in the inbox, and then, when it
@@ -157,9 +155,7 @@ fn receipt_for_one(
     requires { ArePair send take.old }
     ensures { IfSome result (λ receipt. IsReceiptOf receipt take.new) }
 {
-    let Ok(mut closing) = send.close() else {
-        return None;
-    };
+    let mut closing = send.close().ok()?;
     let is_sent = meet_closing(&mut closing, take) == at(0, 1, 0);
     if is_sent && closing.staged() == 0 {
         closing.finish()
@@ -173,7 +169,7 @@ fn shows_what_is_left(send: SendEnd<ChE, 4, 8>, take: &mut TakeEnd<ChE, 4, 8>) -
     requires { ArePair send take.old }
 {
     let mut send = send;
-    if !acknowledged(&mut send, 0x2a) {
+    if !sends(&mut send, 0x2a, 1) {
         return false;
     }
     match receipt_for_one(send, take) {
@@ -191,21 +187,16 @@ fn a_receipt_shows_what_is_left(rt: HostRuntime) -> Result<(), Fail> {
     Ok(())
 }
 
-/// Offers a GrantAck, and answers whether it was accepted and so many beats went into the ring.
-fn sends(send: &mut SendEnd<ChE, 4, 8>, moved: usize) -> bool {
-    send.ready() && send.offer(ack(7), 0).is_ok() && send.pump() == moved
-}
-
 /// Whether two beats go into the ring of two, and one more stays, where the taking end is gone.
 fn send_in_vain(send: &mut SendEnd<ChE, 4, 8>) -> bool {
-    sends(send, 1) & sends(send, 1) & sends(send, 0) & !send.ready()
+    sends(send, 7, 1) & sends(send, 7, 1) & sends(send, 7, 0) & !send.ready()
 }
 
 /// Whether the end is closed with one beat in its stage.
 fn closes_with_one(send: SendEnd<ChE, 4, 8>) -> bool {
-    match send.close() {
-        Ok(closing) => closing.staged() == 1,
-        Err(_) => false,
+    match send.close().ok() {
+        Some(closing) => closing.staged() == 1,
+        None => false,
     }
 }
 

@@ -3,7 +3,7 @@
 
 use crate::lending::lent;
 use crate::values::{at, put};
-use std::test::Fail;
+use std::alloc::Global;
 use tl_msg::{Beat, BeatOf, ChA, ChC, HeadC};
 use tl_ring::{EndFault, Standing, SyncPipe};
 
@@ -76,10 +76,9 @@ fn cross_after_a_close(pipe: &mut SyncPipe<ChA, 8, 4>) -> bool {
 
 /// One pipe is closed at the end, and another one while both are staged.
 #[test]
-fn two_far_beats_pass_a_ring_of_one(rt: HostRuntime) -> Result<(), Fail> {
-    assert!(rt; lent(SyncPipe::new(rt.alloc(), 1), pass_a_ring_of_one)?);
-    assert!(rt; lent(SyncPipe::new(rt.alloc(), 1), cross_after_a_close)?);
-    Ok(())
+fn two_far_beats_pass_a_ring_of_one(rt: HostRuntime) {
+    let is_closed_last = lent(SyncPipe::new(rt.alloc(), 1), pass_a_ring_of_one);
+    assert!(rt; is_closed_last & lent(SyncPipe::new(rt.alloc(), 1), cross_after_a_close));
 }
 
 /// Offers half of a message of 8 bytes, and answers whether it was accepted.
@@ -96,9 +95,8 @@ fn close_after_each_half(pipe: &mut SyncPipe<ChA, 4, 8>) -> bool {
 }
 
 #[test]
-fn a_close_waits_for_the_end_of_a_burst(rt: HostRuntime) -> Result<(), Fail> {
-    assert!(rt; lent(SyncPipe::new(rt.alloc(), 1), close_after_each_half)?);
-    Ok(())
+fn a_close_waits_for_the_end_of_a_burst(rt: HostRuntime) {
+    assert!(rt; lent(SyncPipe::new(rt.alloc(), 1), close_after_each_half));
 }
 
 /// Offers a beat of a [`release`] of this size, pumps and fetches, and answers how many far beats that moved.
@@ -129,10 +127,19 @@ fn fill_the_inbox(pipe: &mut SyncPipe<ChC, 64, 1>) -> bool {
     is_full & (fetched_for_one(pipe) == (true, 1, at(0, 63, 128)))
 }
 
+/// Whether a pipe over the largest ring was made, and a test that it is lent to passes.
+fn lent_over_largest_ring<F: FnOnce(&mut SyncPipe<ChC, 64, 1>) -> bool>(
+    alloc: Global,
+    test: F,
+) -> bool
+    requires { F.IsAlwaysCallable test }
+{
+    lent(SyncPipe::new(alloc, 4096), test)
+}
+
 /// Two beats fill it, and of a third one the far beats stay in the ring.
 #[test]
-fn an_inbox_holds_128_beats(rt: HostRuntime) -> Result<(), Fail> {
-    assert!(rt; lent(SyncPipe::new(rt.alloc(), 4096), hold_128_beats)?);
-    assert!(rt; lent(SyncPipe::new(rt.alloc(), 4096), fill_the_inbox)?);
-    Ok(())
+fn an_inbox_holds_128_beats(rt: HostRuntime) {
+    let is_held = lent_over_largest_ring(rt.alloc(), hold_128_beats);
+    assert!(rt; is_held & lent_over_largest_ring(rt.alloc(), fill_the_inbox));
 }

@@ -4,11 +4,12 @@
 ghost use Rattle.std.specs.Prelude.{IfSome};
 ghost use Rattle.tl_ring.specs.Ends.{ArePair, SameSend, SameTake, IsReceiptFor, IsReceiptOf};
 
+use crate::lending::let_both_go;
 use crate::values::{ack, at};
 use arrayvec::ArrayVec;
 use std::alloc::Global;
 use std::test::Fail;
-use std::thread::{join, join_mut};
+use std::thread::{Threads, join, join_mut};
 use tl_msg::{ChE, SinkId};
 use tl_ring::{ClosingEnd, Receipt, SendEnd, TakeEnd, meet, ring_pair};
 
@@ -119,19 +120,47 @@ fn bring_the_rest(
     false
 }
 
+/// Sends in one thread and takes in another, and notes what was taken. Answers the sink after those that were offered.
+fn send_and_take<R: Threads>(
+    rt: &R,
+    send: &mut SendEnd<ChE, 4, 8>,
+    take: &mut TakeEnd<ChE, 4, 8>,
+    sinks: &mut ArrayVec<SinkId, 200>,
+) -> SinkId
+    ensures send { SameSend send.old send.new }
+    ensures take { SameTake take.old take.new }
+{
+    let (offered, _) = join_mut(
+        rt,
+        &mut || -> SinkId
+            ensures { SameSend send.entry.now send.exit.now }
+        { send_all(send, 1_000_000) },
+        &mut || -> ()
+            ensures { SameTake take.entry.now take.exit.now }
+        { take_all(take, sinks, 1_000_000) },
+    );
+    offered
+}
+
+/// Whether all sinks that two threads and then one bring come in order, and nothing is left.
+fn lose_nothing<R: Threads>(
+    rt: &R,
+    send: &mut SendEnd<ChE, 4, 8>,
+    take: &mut TakeEnd<ChE, 4, 8>,
+) -> bool
+    requires { ArePair send.old take.old }
+{
+    let mut sinks = ArrayVec::<SinkId, 200>::new();
+    let offered = send_and_take(rt, send, take, &mut sinks);
+    meet(send, take);
+    bring_the_rest(send, take, &mut sinks, offered)
+}
+
 #[test]
 fn two_threads_lose_nothing(rt: HostRuntime) -> Result<(), Fail> {
     let (mut send, mut take) = ring_pair::<ChE, 4, 8, Global>(rt.alloc(), 4)?;
-    let mut sinks = ArrayVec::<SinkId, 200>::new();
-    let (offered, _) = join_mut(
-        &rt,
-        &mut || send_all(&mut send, 1_000_000),
-        &mut || take_all(&mut take, &mut sinks, 1_000_000),
-    );
-    meet(&mut send, &mut take);
-    let is_so = bring_the_rest(&mut send, &mut take, &mut sinks, offered);
-    drop(send);
-    drop(take);
+    let is_so = lose_nothing(&rt, &mut send, &mut take);
+    let_both_go(send, take);
     assert!(rt; is_so);
     Ok(())
 }

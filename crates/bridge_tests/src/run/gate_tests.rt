@@ -5,6 +5,7 @@ use std::alloc::{AllocError, Global};
 use std::hint::spin_loop;
 use std::sync::atomic::{AtomicU64, Ordering};
 use std::test::Fail;
+use std::thread::Threads;
 use tl_bridge::Gate;
 use tl_trace::Script;
 
@@ -47,9 +48,8 @@ fn used_twice(alloc: Global) -> Result<Script<4, 4>, AllocError> {
     Ok(script)
 }
 
-/// Two sides that one thread did in turn would each wait in vain.
-#[test]
-fn both_sides_work_at_the_same_time(rt: HostRuntime) -> Result<(), Fail> {
+/// Whether neither side waits in vain, and each passes its gate once in each round.
+fn meet_in_each_round<R: Threads>(rt: &R, alloc: Global, script: &Script<4, 4>) -> bool {
     let there = AtomicU64::new(0);
     let back = AtomicU64::new(0);
     let mut client = Spin {
@@ -62,19 +62,18 @@ fn both_sides_work_at_the_same_time(rt: HostRuntime) -> Result<(), Fail> {
         others: &there,
         missed: false,
     };
-    let script = used_twice(rt.alloc())?;
-    let ended = run_short::<4, 4, _, _, _>(
-        &rt,
-        rt.alloc(),
-        &script,
-        1,
-        1,
-        &mut client,
-        &mut manager,
-    );
-    drop(script);
+    let ended = run_short(rt, alloc, script, 1, &mut client, &mut manager);
+    let has_missed = client.missed | manager.missed;
     let passed = (there.load(Ordering::SeqCst), back.load(Ordering::SeqCst));
-    assert!(rt; !client.missed & !manager.missed);
-    assert!(rt; matches!(ended, Some((rounds, _)) if passed == (rounds, rounds)));
+    !has_missed & matches!(ended, Some((rounds, _)) if passed == (rounds, rounds))
+}
+
+/// Two sides that one thread did in turn would each wait in vain.
+#[test]
+fn both_sides_work_at_the_same_time(rt: HostRuntime) -> Result<(), Fail> {
+    let script = used_twice(rt.alloc())?;
+    let is_so = meet_in_each_round(&rt, rt.alloc(), &script);
+    drop(script);
+    assert!(rt; is_so);
     Ok(())
 }

@@ -23,48 +23,67 @@ fn has_all_five(outcome: &Outcome<4, 8>) -> bool {
         & (outcome.verdicts == [Verdict::Done { near: 1, far: 1 }; 5])
 }
 
-/// What a test answers whose run ended so, after it had been asked for rings of 0 and of 4,097 beats.
-fn judged(
-    no_ring: [Option<RunFault>; 2],
-    ended: &Result<Outcome<4, 8>, RunFault>,
-    script: &Script<4, 8>,
-) -> Result<(), Fail> {
-    if no_ring != [Some(RunFault::RingSize); 2] {
-        return Err(Fail::from("a ring of 0 or of 4,097 beats is no RingSize"));
-    }
-    if !has_one_each(script) {
-        return Err(Fail::from("another script"));
-    }
+/// Whether each beat of a script arrived in its run, or else the fault of the run.
+type Ended = Result<bool, RunFault>;
+
+/// How a run is to end over a ring of no such size.
+const NO_RING: Ended = Err(RunFault::RingSize);
+
+fn ended_so(ended: &Result<Outcome<4, 8>, RunFault>) -> Ended {
     match ended {
-        Ok(outcome) if has_all_five(outcome) => Ok(()),
-        Ok(_) => Err(Fail::from("another outcome")),
-        Err(fault) => Err(Fail::new(*fault)),
+        Ok(outcome) => Ok(has_all_five(outcome)),
+        Err(fault) => Err(*fault),
     }
 }
 
+/// The run in one thread.
+fn ended_in_one(alloc: Global, script: &Script<4, 8>, ring: usize) -> Ended
+    requires short { HasShortLists script.now }
+{
+    let ended = run_sync::<4, 8>(alloc, script, ring);
+    ended_so(&ended)
+}
+
+/// The run in two threads.
+fn ended_in_two<R: Threads>(rt: &R, alloc: Global, script: &Script<4, 8>, ring: usize) -> Ended
+    requires short { HasShortLists script.now }
+{
+    let (client_gate, manager_gate) = (&mut NoGate, &mut NoGate);
+    let ended = run_threads::<R, NoGate, NoGate, 4, 8>(
+        rt,
+        alloc,
+        script,
+        ring,
+        1,
+        client_gate,
+        manager_gate,
+    );
+    ended_so(&ended)
+}
+
 /// The run in one thread, or in two.
-fn run_in<R: Threads>(
+fn ended_in<R: Threads>(
     rt: &R,
     alloc: Global,
     script: &Script<4, 8>,
     ring: usize,
     threads: bool,
-) -> Result<Outcome<4, 8>, RunFault>
+) -> Ended
     requires short { HasShortLists script.now }
 {
     if threads {
-        let (client_gate, manager_gate) = (&mut NoGate, &mut NoGate);
-        run_threads::<R, NoGate, NoGate, 4, 8>(
-            rt,
-            alloc,
-            script,
-            ring,
-            1,
-            client_gate,
-            manager_gate,
-        )
+        ended_in_two(rt, alloc, script, ring)
     } else {
-        run_sync::<4, 8>(alloc, script, ring)
+        ended_in_one(alloc, script, ring)
+    }
+}
+
+/// What a test answers whose run ended so.
+fn judged(ended: Ended) -> Result<(), Fail> {
+    match ended {
+        Ok(true) => Ok(()),
+        Ok(false) => Err(Fail::from("another outcome")),
+        Err(fault) => Err(Fail::new(fault)),
     }
 }
 
@@ -77,20 +96,28 @@ fn judge<R: Threads>(
 ) -> Result<(), Fail>
     requires short { HasShortLists script.now }
 {
-    let no_ring = [
-        run_in(rt, alloc, script, 0, threads).err(),
-        run_in(rt, alloc, script, 4097, threads).err(),
-    ];
-    let ended = run_in(rt, alloc, script, 1, threads);
-    judged(no_ring, &ended, script)
+    let has_no_ring = (ended_in(rt, alloc, script, 0, threads) == NO_RING)
+        & (ended_in(rt, alloc, script, 4097, threads) == NO_RING);
+    let ended = ended_in(rt, alloc, script, 1, threads);
+    if !has_no_ring {
+        return Err(Fail::from("a ring of 0 or of 4,097 beats is no RingSize"));
+    }
+    if !has_one_each(script) {
+        return Err(Fail::from("another script"));
+    }
+    judged(ended)
 }
 
 /// Reads the script, and runs it.
 fn read_and_judge<R: Threads>(rt: &R, alloc: Global, threads: bool) -> Result<(), Fail> {
-    let script = script_of_five(alloc)?;
-    let judged = judge(rt, alloc, &script, threads);
-    drop(script);
-    judged
+    match script_of_five(alloc) {
+        Ok(script) => {
+            let judged = judge(rt, alloc, &script, threads);
+            drop(script);
+            judged
+        }
+        Err(fault) => Err(Fail::from(fault)),
+    }
 }
 
 #[test]

@@ -1,11 +1,13 @@
-#![tactic(auto, using(tl_lanes::proofs::Widths::width_4, tl_lanes::proofs::Widths::width_8))]
+#![tactic(auto, using(tl_lanes::proofs::Widths::width_4, tl_lanes::proofs::Widths::width_8, tl_lanes::proofs::Widths::width_64, tl_lanes::proofs::Widths::width_128))]
+
+ghost use Rattle.tl_lanes.specs.Lanes.{IsWidth};
 
 use crate::five::{empty, is_short};
 use crate::values::{ack, put};
 use std::alloc::{AllocError, Global};
 use std::test::Fail;
 use std::thread::Threads;
-use tl_bridge::{Gate, NoGate, Outcome, RunFault, run_sync, run_threads};
+use tl_bridge::{NoGate, Outcome, RunFault, run_sync, run_threads};
 use tl_lanes::{Mask, is_width};
 use tl_msg::{Beat, ChA, ChE};
 use tl_trace::Script;
@@ -21,18 +23,17 @@ fn rounds_in<const C: usize, const M: usize>(
 }
 
 /// The rounds of the run in two threads, over the largest rings.
-fn rounds<const C: usize, const M: usize, R: Threads, G: Gate + Send>(
+fn rounds<const C: usize, const M: usize, R: Threads>(
     rt: &R,
     alloc: Global,
     script: &Script<C, M>,
     turns: usize,
-    client_gate: &mut G,
-    manager_gate: &mut G,
 ) -> Option<u64> {
     if !is_width(C) || !is_width(M) || turns == 0 || !is_short(script) {
         return None;
     }
-    let ended = run_threads::<R, G, G, C, M>(
+    let (client_gate, manager_gate) = (&mut NoGate, &mut NoGate);
+    let ended = run_threads::<R, NoGate, NoGate, C, M>(
         rt,
         alloc,
         script,
@@ -60,12 +61,10 @@ fn sync_rounds<const C: usize, const M: usize>(
 #[test]
 fn no_beat_takes_one_round(rt: HostRuntime) {
     let script = empty::<8, 8>(rt.alloc());
-    let taken = (
-        rounds(&rt, rt.alloc(), &script, 4, &mut NoGate, &mut NoGate),
-        sync_rounds(rt.alloc(), &script, 16),
-    );
+    let in_two = rounds(&rt, rt.alloc(), &script, 4);
+    let in_one = sync_rounds(rt.alloc(), &script, 16);
     drop(script);
-    assert!(rt; taken == (Some(1), Some(1)));
+    assert!(rt; (in_two == Some(1)) & (in_one == Some(1)));
 }
 
 /// GrantAck of each sink from 00 to c7.
@@ -76,14 +75,25 @@ fn acknowledge(list: &mut Vec<Beat<ChE, 4>>) -> Result<(), AllocError> {
     Ok(())
 }
 
+/// The rounds of 200 beats of E in two threads.
+fn rounds_of_acks<R: Threads>(
+    rt: &R,
+    alloc: Global,
+    turns: usize,
+) -> Result<Option<u64>, AllocError> {
+    let mut script = empty::<4, 8>(alloc);
+    let is_made = acknowledge(&mut script.e);
+    let taken = rounds(rt, alloc, &script, turns);
+    drop(script);
+    is_made?;
+    Ok(taken)
+}
+
 /// 200 beats go through rings of 4,096 in few rounds of many turns, and in many of one turn.
 #[test]
 fn a_run_heeds_its_turns(rt: HostRuntime) -> Result<(), Fail> {
-    let mut script = empty::<4, 8>(rt.alloc());
-    acknowledge(&mut script.e)?;
-    let few = rounds(&rt, rt.alloc(), &script, 1000, &mut NoGate, &mut NoGate);
-    let many = rounds(&rt, rt.alloc(), &script, 1, &mut NoGate, &mut NoGate);
-    drop(script);
+    let few = rounds_of_acks(&rt, rt.alloc(), 1000)?;
+    let many = rounds_of_acks(&rt, rt.alloc(), 1)?;
     assert!(rt; matches!(few, Some(1..=6)) & matches!(many, Some(201..)));
     Ok(())
 }
@@ -100,14 +110,28 @@ fn put_all<const W: usize>(
     Ok(())
 }
 
-/// To the narrowest bus each round moves one of 4,096 far beats through a ring of 1, and 64 through one of 64.
+/// The rounds of these in one thread, to the narrowest bus.
+fn rounds_of_puts<const C: usize>(
+    alloc: Global,
+    count: usize,
+    mask: Mask,
+    ring: usize,
+) -> Result<Option<u64>, AllocError>
+    requires client { IsWidth C }
+{
+    let mut script = empty::<C, 1>(alloc);
+    let is_made = put_all(&mut script.a, count, mask);
+    let taken = sync_rounds(alloc, &script, ring);
+    drop(script);
+    is_made?;
+    Ok(taken)
+}
+
+/// Each round moves one of 4,096 far beats through a ring of 1, and 64 through one of 64.
 #[test]
 fn a_run_heeds_its_rings(rt: HostRuntime) -> Result<(), Fail> {
-    let mut script = empty::<64, 1>(rt.alloc());
-    put_all(&mut script.a, 64, (1 << 64) - 1)?;
-    let many = sync_rounds(rt.alloc(), &script, 1);
-    let few = sync_rounds(rt.alloc(), &script, 64);
-    drop(script);
+    let many = rounds_of_puts::<64>(rt.alloc(), 64, (1 << 64) - 1, 1)?;
+    let few = rounds_of_puts::<64>(rt.alloc(), 64, (1 << 64) - 1, 64)?;
     assert!(rt; matches!(many, Some(4097..)) & matches!(few, Some(1..=65)));
     Ok(())
 }
@@ -115,10 +139,7 @@ fn a_run_heeds_its_rings(rt: HostRuntime) -> Result<(), Fail> {
 /// And 128 from the widest bus through one of 128.
 #[test]
 fn a_run_from_the_widest_bus_heeds_its_rings(rt: HostRuntime) -> Result<(), Fail> {
-    let mut script = empty::<128, 1>(rt.alloc());
-    put_all(&mut script.a, 32, Mask::MAX)?;
-    let few = sync_rounds(rt.alloc(), &script, 128);
-    drop(script);
+    let few = rounds_of_puts::<128>(rt.alloc(), 32, Mask::MAX, 128)?;
     assert!(rt; matches!(few, Some(1..=33)));
     Ok(())
 }

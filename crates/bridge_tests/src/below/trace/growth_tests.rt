@@ -86,7 +86,9 @@ fn three_are_written(out: &mut Vec<u8>) -> Result<bool, Fail> {
 #[test]
 fn write_far_wants_memory(rt: HostRuntime) -> Result<(), Fail> {
     let mut out = Vec::from_slice(rt.alloc(), b"before ")?;
-    assert!(rt; three_are_written(&mut out)?);
+    let is_so = three_are_written(&mut out);
+    drop(out);
+    assert!(rt; is_so?);
     Ok(())
 }
 
@@ -105,6 +107,8 @@ fn is_reported(out: &mut Vec<u8>) -> Result<bool, Fail> {
 #[test]
 fn write_report_wants_memory(rt: HostRuntime) -> Result<(), Fail> {
     let mut out = Vec::from_slice(rt.alloc(), b"before ")?;
-    assert!(rt; is_reported(&mut out)?);
+    let is_so = is_reported(&mut out);
+    drop(out);
+    assert!(rt; is_so?);
     Ok(())
 }

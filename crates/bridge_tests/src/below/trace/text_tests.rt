@@ -51,16 +51,20 @@ fn scripts_are_read_in_pieces(rt: HostRuntime) {
     }
 }
 
-/// The kind of the fault of a last line that is read so, and has no end.
-fn fault_of_last_line(alloc: Global) -> Option<(u64, TraceKind)> {
+/// The fault of a last line that is read so, and has no end.
+fn fault_of_last_line(alloc: Global) -> Option<TraceFault> {
     let mut reader = ScriptReader::<4, 8>::new(alloc, 1);
-    let TraceFault { line, kind } = fault_in_pieces(&mut reader, b"E 07", 2)?;
-    Some((line, kind))
+    fault_in_pieces(&mut reader, b"E 07", 2)
 }
+
+const NO_END: TraceFault = TraceFault {
+    line: 2,
+    kind: TraceKind::NoEnd,
+};
 
 #[test]
 fn a_last_line_without_its_end(rt: HostRuntime) {
-    assert!(rt; fault_of_last_line(rt.alloc()) == Some((2, TraceKind::NoEnd)));
+    assert!(rt; fault_of_last_line(rt.alloc()) == Some(NO_END));
 }
 
 /// Whether a text is read as a trace that is written as the same text.
@@ -110,9 +114,18 @@ const HEAD: HeadD = HeadD {
     denied: false,
 };
 
+/// Whether the line of a GrantAck is this in a text of this version.
+fn is_line(version: u8, text: &[u8]) -> bool {
+    line_of::<ChE, 4>(&ack(0x2a), version).as_slice() == text
+}
+
+/// Whether the text of [`HEAD`] is this.
+fn is_head(text: &[u8]) -> bool {
+    ChD::head_text(&HEAD, 1).as_slice() == text
+}
+
 #[test]
 fn a_line_and_a_head(rt: HostRuntime) {
-    let is_line = (line_of::<ChE, 4>(&ack(0x2a), 1).as_slice() == b"E 2a\n".as_slice())
-        & (line_of::<ChE, 4>(&ack(0x2a), 2).as_slice() == b"E 002a\n".as_slice());
-    assert!(rt; is_line & (ChD::head_text(&HEAD, 1).as_slice() == b"D 4 0 6 01 07 0".as_slice()));
+    let are_lines = is_line(1, b"E 2a\n") & is_line(2, b"E 002a\n");
+    assert!(rt; are_lines & is_head(b"D 4 0 6 01 07 0"));
 }
