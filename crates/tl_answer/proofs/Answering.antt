@@ -4,7 +4,6 @@ use Rattle.tl_answer.proofs.Names.{append-nil, arith, list_all, Beats, far_beats
 use Rattle.tl_answer.proofs.Names.{far_header, far_lines, near, taken, report, is_done, text_of, IsAnswer, TextFault}
 use Rattle.tl_msg.specs.declared.verdict.Verdict.{Verdict}
 use Rattle.tl_run.specs.declared.outcome.Outcome.{Outcome}
-use Rattle.tl_answer.specs.declared.answer.Answer.{Answer}
 
 -- what a run took are the far beats of its script
 taken-is : {C M : ℕ} (bs : Beats C M) (outcome : Outcome C M) → EndsIn bs outcome → taken outcome ≡ far_beats bs
@@ -64,8 +63,3 @@ pub of-both : {X : Type 0} (P Q R : X → Type 0) → ((made : X) → P made →
     IfOk given P → IfOk given Q → IfOk given R
 of-both P Q R follows (Ok made) p q = follows made p q
 of-both P Q R follows (Err fault) p q = tt
-
--- the text of an answer behind another line
-pub text-behind : (before after : List ℕ) (rest : List ℕ) → before ≡ after → (given : Result Answer TextFault) →
-    IfOk given (λ made. made.text.items ≡ before ++ rest) → IfOk given (λ made. made.text.items ≡ after ++ rest)
-text-behind before after rest same given is = subst (λ line. IfOk given (λ made. made.text.items ≡ line ++ rest)) same is

@@ -1,7 +1,8 @@
 -- The lines of far beats, as they are written while the beats come.
 use Rattle.tl_answer.proofs.Names.{◌≡◌, ◌++◌, ◌∷◌, ℕ, List, [], refl, sym, ap, ◌∙◌, append_assoc, Form, Result, IfOk, subst, false, Beats, far_beats}
-use Rattle.tl_answer.proofs.Names.{verdicts, far_header, far_lines, report, HasLines, spelled, text_of, TextFault}
+use Rattle.tl_answer.proofs.Names.{verdicts, far_header, far_lines, taken, report, HasLines, spelled, text_of, TextFault}
 use Rattle.tl_msg.specs.declared.verdict.Verdict.{Verdict}
+use Rattle.tl_run.specs.declared.outcome.Outcome.{Outcome}
 use Rattle.tl_answer.specs.declared.far_text.FarTexts.{FarTexts}
 use Rattle.tl_answer.specs.declared.parts.AnswerParts.{AnswerParts}
 use Rattle.std.proofs.lemmas.Grind.{flat_map-append}
@@ -25,21 +26,11 @@ module _ {H : Type 0} (f : Form H) (w : ℕ) where
       on ∙ ap (λ q. q ++ beats_text f w more) is ∙ append_assoc start (beats_text f w xs) (beats_text f w more) ∙ ap (λ q. start ++ q)
       (sym (lines-joined xs more))
 
-  -- the lines of beats behind a text, where these are the beats
-  pub lines-of : (before after : List ℕ) (xs beats : List (BeatOf H w)) → xs ≡ beats → after ≡ before ++ beats_text f w xs →
-      after ≡ before ++ beats_text f w beats
-  lines-of before after xs beats is on = on ∙ ap (λ q. before ++ beats_text f w q) is
-
 -- five texts behind another one
 five-behind : (t a b c d e : List ℕ) → t ++ a ++ b ++ c ++ d ++ e ≡ t ++ (a ++ b ++ c ++ d ++ e)
 five-behind t a b c d e =
     ap (λ q. q ++ e) (ap (λ q. q ++ d) (ap (λ q. q ++ c) (append_assoc t a b) ∙ append_assoc t (a ++ b) c) ∙ append_assoc t (a ++ b ++ c) d) ∙
     append_assoc t (a ++ b ++ c ++ d) e
-
--- five texts that were put behind another one
-pub five-put : (t0 t1 t2 t3 t4 t5 a b c d e : List ℕ) → t1 ≡ t0 ++ a → t2 ≡ t1 ++ b → t3 ≡ t2 ++ c → t4 ≡ t3 ++ d → t5 ≡ t4 ++ e →
-    t5 ≡ t0 ++ (a ++ b ++ c ++ d ++ e)
-five-put t0 t1 t2 t3 t4 t5 a b c d e put_a put_b put_c put_d put_e = rw (put_e, put_d, put_c, put_b, put_a) (five-behind t0 a b c d e)
 
 -- four texts that are these, put behind another one
 pub four-put : (a b c d e b' c' d' e' t1 t2 t3 t4 : List ℕ) → b' ≡ b → c' ≡ c → d' ≡ d → e' ≡ e → t1 ≡ a ++ b' → t2 ≡ t1 ++ c' → t3 ≡ t2 ++ d' →
@@ -53,6 +44,11 @@ pub all-spelled : (start a b c d e end : List ℕ) (a' b' c' d' e' e'' : List �
 all-spelled start a b c d e end a' b' c' d' e' e'' in_a in_b in_c in_d in_e behind =
     rw (behind, in_a, in_b, in_c, in_d, in_e) (sym (append_assoc (start ++ a ++ b ++ c ++ d) e end) ∙ ap (λ q. q ++ end)
     (five-behind start a b c d e))
+
+-- far beats that are those that a run took
+pub taken-of : {C M : ℕ} (far : Beats M C) (outcome : Outcome C M) → far.a ≡ outcome.a.items → far.b ≡ outcome.b.items → far.c ≡ outcome.c.items →
+    far.d ≡ outcome.d.items → far.e ≡ outcome.e.items → far ≡ taken outcome
+taken-of far outcome a b c d e = rw (sym a) (rw (sym b) (rw (sym c) (rw (sym d) (rw (sym e) refl))))
 
 -- what the lines of all far beats of near beats make, with their verdicts, is the answer to these
 pub answer-is : {C M : ℕ} (made : Result AnswerParts TextFault) (texts far : FarTexts) (version : ℕ) (near : Beats C M) (found : List Verdict) →

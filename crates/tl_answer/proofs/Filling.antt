@@ -20,7 +20,8 @@ put_front a k n xs ys le few =
     ap (λ (m : ℕ). take (m + n) (take a xs ++ (ys ++ post_of a k xs))) (sym size) ∙ take-append-add (take a xs) (ys ++ post_of a k xs) n
     ∙ ap (λ (zs : List ℕ). take a xs ++ zs) (take-append-le n ys (post_of a k xs) few)
 
-put_size : (a : ℕ) (xs ys : List ℕ) → a ≤ length xs → length ys ≡ length xs - a → length (put_mid a (length xs - a) xs ys) ≡ length xs
+-- what is put over a part leaves the size as it is
+pub put_size : (a : ℕ) (xs ys : List ℕ) → a ≤ length xs → length ys ≡ length xs - a → length (put_mid a (length xs - a) xs ys) ≡ length xs
 put_size a xs ys le same =
     let front : length (take a xs) ≡ a = length-take-le a xs le in
     let after = length-drop a xs in

@@ -4,12 +4,14 @@ ghost use Rattle.std.specs.List.{list_all};
 ghost use Rattle.tl_lanes.specs.Lanes.{IsWidth};
 ghost use Rattle.tl_msg.specs.declared.verdict.Verdict.{Verdict};
 ghost use Rattle.tl_settle.specs.Outcomes.{verdicts};
+ghost use Rattle.tl_run.specs.Arrivals.{no_beats};
 ghost use Rattle.tl_run.specs.Scripts.{SettlesTo, near_beats};
 ghost use Rattle.tl_run.specs.declared.outcome.RunFault.TheVariants.{OutOfMemory as NoRunMemory};
 ghost use Rattle.tl_order.specs.Orders.{IsRunnable, is_check};
 ghost use Rattle.tl_answer.specs.Answer.{far_header, far_lines, taken, report, is_done};
 ghost use Rattle.tl_answer.specs.Inner.Answered.{ReadsAnswer};
 ghost use Rattle.tl_answer.specs.Inner.Asked.{IsAsked, CanCross};
+ghost use Rattle.tl_answer.specs.Inner.FarTexts.{HasLines};
 ghost use Rattle.tl_answer.specs.Inner.Parts.{spelled, text_of};
 ghost use Rattle.tl_answer.specs.Inputs.{IsFresh, unread_of};
 ghost use Rattle.tl_answer.specs.declared.fault.TextFault.TheVariants.{OutOfMemory as NoMemory};
@@ -17,6 +19,7 @@ ghost use Rattle.tl_answer.specs.declared.fault.TextFault.TheVariants.{OutOfMemo
 use crate::at_width;
 use crate::check_input::check_input;
 use crate::crossing::run_input;
+use crate::far_text::FarTexts;
 use crate::fault::TextFault;
 use crate::input::Input;
 use crate::later_lines::script_of_input;
@@ -24,12 +27,10 @@ use crate::parts::AnswerParts;
 use std::alloc::{AllocError, Global};
 use std::io::Read;
 use std::thread::Threads;
-use tl_bridge::{NoGate, Outcome, RunFault, run_threads};
-use tl_msg::{ChA, ChB, ChC, ChD, ChE, Verdict};
+use tl_bridge::{FarSink, NoGate, Outcome, RunFault, run_threads};
+use tl_msg::Verdict;
 use tl_order::Order;
-use tl_trace::{
-    OutOfMemory, Script, TraceFault, TraceKind, header_of_text, write_far, write_report,
-};
+use tl_trace::{OutOfMemory, Script, TraceFault, TraceKind, header_of_text, write_report};
 
 /// The whole answer to a text, and whether all five channels are done.
 #[derive(Drop)]
@@ -51,35 +52,18 @@ pub(crate) fn header(
     Ok(line.into_bytes())
 }
 
-/// Appends the lines of the far beats.
-fn write_arrivals<const C: usize, const M: usize>(
-    out: &mut Vec<u8>,
-    outcome: &Outcome<C, M>,
-    version: u8,
-) -> Result<(), OutOfMemory>
-    requires { IsWidth C × IsWidth M }
-    ensures { OnOk result (out.new.items
-        ≡ out.old.items ++ far_lines version (taken outcome.now)) }
-{
-    let a = write_far::<ChA, M>(out, &outcome.a, version);
-    let b = write_far::<ChB, C>(out, &outcome.b, version);
-    let c = write_far::<ChC, M>(out, &outcome.c, version);
-    let d = write_far::<ChD, C>(out, &outcome.d, version);
-    let e = write_far::<ChE, M>(out, &outcome.e, version);
-    a.and(b).and(c).and(d).and(e)
-}
-
 /// Appends the five report lines.
 pub(crate) fn write_reports(out: &mut Vec<u8>, verdicts: &[Verdict; 5]) -> Result<(), OutOfMemory>
     ensures text { (a b c d e : Verdict) → verdicts.now ≡ a ∷ b ∷ c ∷ d ∷ e ∷ [] →
         OnOk result (out.new.items ≡ out.old.items ++ report (a ∷ b ∷ c ∷ d ∷ e ∷ [])) }
     ensures five { length verdicts.now ≡ 5 }
 {
-    write_report(out, b'A', &verdicts[0])?;
-    write_report(out, b'B', &verdicts[1])?;
-    write_report(out, b'C', &verdicts[2])?;
-    write_report(out, b'D', &verdicts[3])?;
-    write_report(out, b'E', &verdicts[4])
+    let a = write_report(out, b'A', &verdicts[0]);
+    let b = write_report(out, b'B', &verdicts[1]);
+    let c = write_report(out, b'C', &verdicts[2]);
+    let d = write_report(out, b'D', &verdicts[3]);
+    let e = write_report(out, b'E', &verdicts[4]);
+    a.and(b).and(c).and(d).and(e)
 }
 
 /// Whether all beats of each channel were accepted, and no burst is unfinished.
@@ -103,32 +87,9 @@ fn run_script<T: Threads, const C: usize, const M: usize>(
     ensures ok { IfOk result (SettlesTo script.now) }
     ensures err { IfErr result (λ fault. fault ≡ NoRunMemory) }
 {
-    let (client_gate, manager_gate) = (&mut NoGate, &mut NoGate);
     let ring = order.ring();
     let turns = order.turns();
-    run_threads::<T, NoGate, NoGate, C, M>(
-        rt,
-        alloc,
-        script,
-        ring,
-        turns,
-        client_gate,
-        manager_gate,
-    )
-}
-
-/// The answer whose lines before the five reports are these.
-fn reported(text: Vec<u8>, verdicts: &[Verdict; 5]) -> Result<Answer, TextFault>
-    ensures text { IfOk result (λ made. made.text.items ≡ text.items ++ report verdicts.now) }
-    ensures done { IfOk result (λ made. made.all_done ≡ list_all is_done verdicts.now) }
-    ensures err { IfErr result (λ fault. fault ≡ NoMemory) }
-{
-    let mut text = text;
-    write_reports(&mut text, verdicts)?;
-    Ok(Answer {
-        text,
-        all_done: are_done(verdicts),
-    })
+    run_threads(rt, alloc, script, ring, turns, &mut NoGate, &mut NoGate)
 }
 
 /// The answer of a check whose channels end with these verdicts, from A to E: the version of the
@@ -145,28 +106,45 @@ pub fn check_of(
     ensures done { IfOk result (λ made. made.all_done ≡ list_all is_done verdicts.now) }
     ensures err { IfErr result (λ fault. fault ≡ NoMemory) }
 {
-    let line = header(alloc, version, client, manager)?;
-    reported(line, verdicts)
+    let mut text = header(alloc, version, client, manager)?;
+    match write_reports(&mut text, verdicts) {
+        Ok(()) => Ok(Answer {
+            text,
+            all_done: are_done(verdicts),
+        }),
+        Err(_) => Err(TextFault::OutOfMemory),
+    }
 }
 
-/// The answer that the outcome of a run makes: the version of the trace and the widths, the far
-/// beats, and the five report lines.
-#[inline(never)]
-pub fn answer_of<const C: usize, const M: usize>(
+/// Writes the lines of the far beats of a run, where none were written before.
+fn take_far<const C: usize, const M: usize>(
+    far: &mut FarTexts,
+    outcome: &Outcome<C, M>,
+) -> Result<(), AllocError>
+    requires { IsWidth C × IsWidth M × HasLines {C = C} {M = M} far.old no_beats }
+    ensures lines { OnOk result (HasLines far.new (taken outcome.now)) }
+    ensures version { OnOk result (far.new.version ≡ far.old.version) }
+{
+    far.take(&outcome.a, &outcome.b, &outcome.c, &outcome.d, &outcome.e)
+}
+
+/// The answer that the outcome of a run makes, in parts.
+fn parts_of<const C: usize, const M: usize>(
     alloc: Global,
     outcome: &Outcome<C, M>,
     version: u8,
-) -> Result<Answer, TextFault>
-    requires client { IsWidth C }
-    requires manager { IsWidth M }
-    ensures text { IfOk result (λ made. made.text.items ≡ far_header version C M
+) -> Result<AnswerParts, TextFault>
+    requires { IsWidth C × IsWidth M }
+    ensures text { IfOk result (λ made. spelled made ≡ far_header version C M
         ++ far_lines version (taken outcome.now) ++ report outcome.now.verdicts) }
     ensures done { IfOk result (λ made. made.all_done ≡ list_all is_done outcome.now.verdicts) }
     ensures err { IfErr result (λ fault. fault ≡ NoMemory) }
 {
-    let mut text = header(alloc, version, C, M)?;
-    write_arrivals(&mut text, outcome, version)?;
-    reported(text, &outcome.verdicts)
+    let mut far = FarTexts::new(alloc, version, C, M)?;
+    match take_far(&mut far, outcome) {
+        Ok(()) => far.into_answer(&outcome.verdicts),
+        Err(_) => Err(TextFault::OutOfMemory),
+    }
 }
 
 /// The answer to a script by that run. The script is let go before the answer is made. Refused with
@@ -192,9 +170,9 @@ fn threads_answer_of<T: Threads, const C: usize, const M: usize>(
         Ok(outcome) => outcome,
         Err(_) => return Err(TextFault::OutOfMemory),
     };
-    let answer = answer_of(alloc, &outcome, version);
+    let answer = parts_of(alloc, &outcome, version);
     drop(outcome);
-    Ok(AnswerParts::of(alloc, answer?))
+    answer
 }
 
 /// The answer to a text whose header names this version and these widths.

@@ -104,11 +104,12 @@ impl<const C: usize, const M: usize> FarSink<C, M> for FarTexts {
         d: &[Beat<ChD, C>],
         e: &[Beat<ChE, M>],
     ) -> Result<(), AllocError> {
-        let a = write_far::<ChA, M>(&mut self.a, a, self.version);
-        let b = write_far::<ChB, C>(&mut self.b, b, self.version);
-        let c = write_far::<ChC, M>(&mut self.c, c, self.version);
-        let d = write_far::<ChD, C>(&mut self.d, d, self.version);
-        let e = write_far::<ChE, M>(&mut self.e, e, self.version);
+        let version = self.version;
+        let a = write_far::<ChA, M>(&mut self.a, a, version);
+        let b = write_far::<ChB, C>(&mut self.b, b, version);
+        let c = write_far::<ChC, M>(&mut self.c, c, version);
+        let d = write_far::<ChD, C>(&mut self.d, d, version);
+        let e = write_far::<ChE, M>(&mut self.e, e, version);
         match a.and(b).and(c).and(d).and(e) {
             Ok(()) => Ok(()),
             Err(_) => Err(AllocError),

@@ -3,7 +3,6 @@ ghost use Rattle.std.specs.Prelude.{◌≡◌, ℕ, List, Option, IfOk, OnOk, If
 ghost use Rattle.tl_lanes.specs.Lanes.{IsWidth};
 ghost use Rattle.tl_trace.specs.Faults.{HasHeader};
 ghost use Rattle.tl_trace.specs.Scripts.{Gone, HasGrown, IsUnfinished};
-ghost use Rattle.tl_answer.specs.Faults.{of_trace};
 ghost use Rattle.tl_answer.specs.Inner.Lines.{IsBeginning, IsBetweenPast, IsReading};
 ghost use Rattle.tl_answer.specs.Inner.Listening.{HasHeard, IsNew, IsReadThrough};
 ghost use Rattle.tl_answer.specs.Inputs.{IsFresh, IsRefused, ReadsScript, held, unread_of};
@@ -22,7 +21,7 @@ use tl_trace::{Script, ScriptReader, TraceFault, TraceKind, line_end};
 fn read_held<const C: usize, const M: usize>(
     lines: &mut ScriptReader<C, M>,
     input: &mut Input,
-) -> Result<(), TraceFault>
+) -> Result<(), TextFault>
     requires { IsReading lines.old input.old }
     ensures version { lines.new.version ≡ lines.old.version }
     ensures rest { OnOk result (IsUnfinished (held input.new)) }
@@ -38,14 +37,14 @@ fn read_held<const C: usize, const M: usize>(
         OnOk result (IsBetweenPast gone unread left lines.new input.new) }
     ensures err { (unread left : Option (List ℕ)) (gone : Gone C M) →
         IsBetweenPast gone unread left lines.old input.old →
-        IfErr result (λ fault. IsRefused unread left input.new (of_trace fault)) }
+        IfErr result (IsRefused unread left input.new) }
 {
     match lines.read(input.held()) {
         Ok(used) => {
             input.advance(used);
             Ok(())
         }
-        Err(fault) => Err(fault),
+        Err(fault) => Err(TextFault::from(fault)),
     }
 }
 
@@ -95,8 +94,9 @@ fn read_pieces<R: Read, L: Listener<C, M>, const C: usize, const M: usize>(
     ensures err { IfErr result (IsRefused
         (unread_of input.old (R.remaining reader.old)) (R.remaining reader.new) input.new) }
 {
-    let end = line_end(input.held(), 0);
-    if end >= input.held().len() {
+    let held = input.held();
+    let end = line_end(held, 0);
+    if end >= held.len() {
         return Err(TextFault::Trace(TraceFault {
             line: 1,
             kind: TraceKind::NoEnd,
@@ -105,7 +105,7 @@ fn read_pieces<R: Read, L: Listener<C, M>, const C: usize, const M: usize>(
     input.advance(end + 1);
     'pieces: loop {
         if let Err(fault) = read_held(lines, input) {
-            return Err(TextFault::from(fault));
+            return Err(fault);
         }
         if !input.is_full() {
             return match lines.end_fault(input.held()) {

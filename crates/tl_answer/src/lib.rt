@@ -18,7 +18,7 @@ mod sync_answer;
 mod text;
 mod widths;
 
-pub use answer::{Answer, answer_of, check_of};
+pub use answer::{Answer, check_of};
 pub use fault::TextFault;
 pub use input::{Input, MAX_BYTES};
 pub use later_lines::script_of_input;

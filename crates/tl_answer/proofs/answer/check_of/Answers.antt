@@ -1,8 +1,8 @@
-use Rattle.tl_answer.proofs.Names.{far_header, report}
-use Rattle.tl_answer.proofs.Answering.{text-behind}
+use Rattle.tl_answer.proofs.Names.{◌++◌, ◌∙◌, ap, report}
+use Rattle.tl_answer.proofs.Answering.{with-report}
 use Rattle.tl_answer.proofs.answer.check_of.Goals as goal
 
-pub returns-clause-text : goal.returns-clause-text
-returns-clause-text c =
-    text-behind c.in_ok-line.line.items (far_header c.args.version c.args.client c.args.manager) (report c.args.verdicts.now) c.in_ok-line.ensures
-    c.reported.result c.reported.ensures.text
+pub returns-in-Ok-clause-text : goal.returns-in-Ok-clause-text
+returns-in-Ok-clause-text c =
+    with-report c.args.verdicts.now c.in-Ok.ensures.five _ _ c.in-Ok.ensures.text ∙
+    ap (λ line. line ++ report c.args.verdicts.now) c.in_ok-text.ensures

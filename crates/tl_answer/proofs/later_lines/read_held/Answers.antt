@@ -1,4 +1,4 @@
-use Rattle.tl_answer.proofs.Names.{◌+◌, ◌≤◌, ◌++◌, length, take, drop, refl, arith, ap, subst, sym, HasReadPast, IsUnfinished, IsFirstFault, held}
+use Rattle.tl_answer.proofs.Names.{◌+◌, ◌≤◌, ◌++◌, length, take, drop, refl, arith, ap, subst, sym, HasReadPast, IsUnfinished, IsFirstFault, IsRefused, held}
 use Rattle.tl_answer.proofs.Between.{any_refused, held_size, held_rest, between_on, of_text}
 use Rattle.tl_answer.proofs.later_lines.read_held.Goals as goal
 
@@ -46,8 +46,9 @@ returns-in-Err g c =
       buffer = refl;
       grown = tt;
       ok = λ unread left gone b. tt;
-      err = λ unread left gone b. any_refused unread left b.used input fault b.taken (λ other.
+      err = λ unread left gone b. subst (IsRefused unread left input) (sym c.from.ensures)
+          (any_refused unread left b.used input fault b.taken (λ other.
           of_text (λ text. IsFirstFault text fault.line fault.kind) unread left (b.used ++ held input) b.taken.took (λ more.
           subst (λ bytes. IsFirstFault (b.used ++ bytes ++ more) fault.line fault.kind) c.held.ensures
-          (c.in-Err.ensures.fault b.used more gone b.read other)));
+          (c.in-Err.ensures.fault b.used more gone b.read other))));
     }

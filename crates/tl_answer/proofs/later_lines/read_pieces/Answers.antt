@@ -9,26 +9,26 @@ use Rattle.tl_answer.proofs.later_lines.read_pieces.Goals as goal
 pub returns-then-end-held-clause-err : goal.returns-then-end-held-clause-err
 returns-then-end-held-clause-err g c =
     let e = c.line_end-end.ensures in
-    let line : LineAt c.held.result.now 0 c.line_end-end.result = record { from = e.from; to = e.to; free = e.free; stop = e.end } in
-    let past : length c.held.result.now ≤ c.line_end-end.result =
-    omega (arith, c.if-end-held.true, ap length c.held.ensures, ap length c.held-2.ensures) in (
+    let line : LineAt c.held-held.result.now 0 c.line_end-end.result = record { from = e.from; to = e.to; free = e.free; stop = e.end } in
+    let past : length c.held-held.result.now ≤ c.line_end-end.result =
+    omega (arith, c.if-end-held.true, ap length c.held-held.ensures) in (
       ([], c.requires.0.fresh.taken),
       λ p. absurd cc,
       header_unended (g.R.Read.remaining c.args.reader.now) c.args.input.now c.args.lines.now.version g.row.C g.row.M c.line_end-end.result
-          c.held.result.now c.held.ensures c.requires.0.fresh c.requires.0.header line past,
+          c.held-held.result.now c.held-held.ensures c.requires.0.fresh c.requires.0.header line past,
     )
 
 pub pieces-init : goal.pieces-init
 pieces-init g c =
     let e = c.line_end-end.ensures in
-    let line : LineAt c.held.result.now 0 c.line_end-end.result = record { from = e.from; to = e.to; free = e.free; stop = e.end } in
-    let lt : c.line_end-end.result < length c.held.result.now =
-    omega (arith, c.if-end-held.false, ap length c.held.ensures, ap length c.held-2.ensures) in
+    let line : LineAt c.held-held.result.now 0 c.line_end-end.result = record { from = e.from; to = e.to; free = e.free; stop = e.end } in
+    let lt : c.line_end-end.result < length c.held-held.result.now =
+    omega (arith, c.if-end-held.false, ap length c.held-held.ensures) in
     let a = c.advance.ensures in
     let unread = unread_of c.args.input.now (g.R.Read.remaining c.args.reader.now) in
     let left = g.R.Read.remaining c.args.reader.now in
     let first = begins unread left c.args.input.now c.advance.new.self c.args.lines.now c.args.lines.now.version c.line_end-end.result
-    c.held.result.now c.held.ensures
+    c.held-held.result.now c.held-held.ensures
     c.requires.0.fresh.taken c.requires.0.header line lt a.from a.to a.buffer a.total refl c.requires.0.none in
     record {
       heard = first-heard (g.L.Listener.Listens c.args.lines.now.version) unread left c.args.lines.now c.advance.new.self c.args.listener.now
@@ -47,16 +47,16 @@ returns-in-Err-clause-err g c =
     let h = c.pieces.invariant.heard in
     let unread = unread_of c.args.input.now (g.R.Read.remaining c.args.reader.now) in
     let left = g.R.Read.remaining c.pieces.reader in
-    subst (IsRefused unread left c.read_held.new.input) (sym c.from.ensures) (c.in-Err.ensures.err unread left h.gone h.between)
+    c.in-Err.ensures.err unread left h.gone h.between
 
-pub held-requires-then-not-is_full-clause-from : goal.held-requires-then-not-is_full-clause-from
-held-requires-then-not-is_full-clause-from g c =
+pub held-requires-clause-from : goal.held-requires-clause-from
+held-requires-clause-from g c =
     let h = c.pieces.invariant.heard in
     (c.in_default.ensures.ok (unread_of c.args.input.now (g.R.Read.remaining c.args.reader.now))
     (g.R.Read.remaining c.pieces.reader) h.gone h.between).taken.from
 
-pub held-requires-then-not-is_full-clause-to : goal.held-requires-then-not-is_full-clause-to
-held-requires-then-not-is_full-clause-to g c =
+pub held-requires-clause-to : goal.held-requires-clause-to
+held-requires-clause-to g c =
     let h = c.pieces.invariant.heard in
     (c.in_default.ensures.ok (unread_of c.args.input.now (g.R.Read.remaining c.args.reader.now))
     (g.R.Read.remaining c.pieces.reader) h.gone h.between).taken.to
@@ -152,8 +152,8 @@ end_fault-requires g c =
     let read = c.in_default.ensures in
     let unread = unread_of c.args.input.now (g.R.Read.remaining c.args.reader.now) in
     let b = read.ok unread (g.R.Read.remaining c.pieces.reader) h.gone h.between in
-    let free : list_any is_newline c.held-then-not-is_full.result.now ≡ false =
-    ap (list_any is_newline) c.held-then-not-is_full.ensures ∙ read.rest.free in (
+    let free : list_any is_newline c.held.result.now ≡ false =
+    ap (list_any is_newline) c.held.ensures ∙ read.rest.free in (
       lit< tt,
       (
         b.read.told.trace.known_version,
@@ -173,10 +173,10 @@ returns-in-Some-clause-err g c =
     let b = c.in_default.ensures.ok unread left h.gone h.between in
     let fault = c.in-Some.fault in
     let first : IsFirstFault (b.used ++ held input) fault.line fault.kind =
-    subst (λ bytes. IsFirstFault (b.used ++ bytes) fault.line fault.kind) c.held-then-not-is_full.ensures
+    subst (λ bytes. IsFirstFault (b.used ++ bytes) fault.line fault.kind) c.held.ensures
     (c.in-Some.ensures.fault b.used h.gone b.read) in
     let not_full : input.to ≢ length input.buffer.items = λ e. unlike _ _ (sym c.is_full.ensures ∙ c.if-not-is_full.true) e in
-    subst (IsRefused unread left input) (sym c.from-in-Some.ensures)
+    subst (IsRefused unread left input) (sym c.from.ensures)
     (any_refused unread left b.used input fault b.taken
     (λ other. of_whole (λ text. IsFirstFault text fault.line fault.kind) unread left (b.used ++ held input) b.taken.took
     (b.taken.end not_full) first))
@@ -191,7 +191,7 @@ returns-in-None-clause-ok g c =
     let input = c.read_held.new.input in
     let lines = c.read_held.new.lines in
     let b = read.ok unread left h.gone h.between in
-    let empty : held input ≡ [] = sym c.held-then-not-is_full.ensures ∙ c.in-None.ensures.none refl in
+    let empty : held input ≡ [] = sym c.held.ensures ∙ c.in-None.ensures.none refl in
     let all : b.used ++ held input ≡ b.used = ap (λ bytes. b.used ++ bytes) empty ∙ append-nil b.used in
     let not_full : input.to ≢ length input.buffer.items = λ e. unlike _ _ (sym c.is_full.ensures ∙ c.if-not-is_full.true) e in
     record {

@@ -1,4 +1,4 @@
-use Rattle.tl_answer.proofs.Names.{◌+◌, ◌-◌, ◌∙◌, length, refl, sym, ap, with_items_is}
+use Rattle.tl_answer.proofs.Names.{◌+◌, ◌-◌, ◌∙◌, arith, length, refl, sym, ap, with_items_is}
 use Rattle.std.specs.Vec.{with_items}
 use Rattle.tl_answer.proofs.Filling.{refilled-taken, refilled-long, same-fault}
 use Rattle.tl_answer.proofs.input.Input.refill.Goals as goal
@@ -15,6 +15,14 @@ returns-in-Ok-clause-ok g c = λ unread used h.
       total = input.total + (c.in-Ok.to - (input.to - input.from));
     })
     (with_items_is input.buffer c.refill.new.buffer size) refl refl refl
+
+pub returns-in-Ok-clause-grown : goal.returns-in-Ok-clause-grown
+returns-in-Ok-clause-grown g c = λ full part.
+    let input = c.args.self.now in
+    let was = ap length c.as_mut_slice.ensures.value in
+    let size = c.in-Ok.ensures.same ∙ was ∙ sym input.buffer.ok.0 in
+    let now = ap length (with_items_is input.buffer c.refill.new.buffer size) in
+    omega (arith, full, part, was, now, c.in-Ok.ensures.same)
 
 pub returns-in-Err-clause-long : goal.returns-in-Err-clause-long
 returns-in-Err-clause-long g c = λ unread used h e.
