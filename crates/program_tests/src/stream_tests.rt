@@ -1,7 +1,7 @@
 use std::alloc::Global;
 use std::io;
 use std::io::{Read, Write};
-use tl_answer::{Input, TextFault, read_all, write_all};
+use tl_stream::{Input, TextFault, read_all, write_all};
 
 const TEXT: &str =
     "tilelink-trace 1 client 8 manager 4\nA 4 0 2 07 0000000000001004 f0 1122334455667788 0\n";

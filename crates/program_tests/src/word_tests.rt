@@ -1,5 +1,5 @@
 use std::alloc::Global;
-use tl_answer::Order;
+use tl_order::Order;
 use tl_words::{CommandLine, command_line_of, order_of};
 
 /// Words, and what they ask for.

@@ -2,14 +2,14 @@
 ghost use Rattle.std.specs.Prelude.{◌≡◌, true, IfSome};
 ghost use Rattle.tl_lanes.specs.Lanes.{IsWidth};
 ghost use Rattle.tl_trace.specs.Faults.{HasHeader};
-ghost use Rattle.tl_answer.specs.Inputs.{IsFresh};
+ghost use Rattle.tl_stream.specs.Inputs.{IsFresh};
 
 use crate::figures::{Figures, Start, nanos_since, now};
 use arrayvec::ArrayVec;
 use std::fs::Files;
 use std::io::Read;
 use std::rt::Clock;
-use tl_answer::{Input, MAX_BYTES, script_of_input};
+use tl_stream::{Input, MAX_BYTES, script_of_input};
 use tl_convert::Converter;
 use tl_lanes::{WIDEST, is_width};
 use tl_msg::{Beat, ChA, ChE};

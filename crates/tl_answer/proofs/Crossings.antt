@@ -1,6 +1,6 @@
 -- A run into texts goes on from piece to piece.
 use Rattle.tl_answer.proofs.Names.{◌≡◌, ◌≤◌, ◌^◌, ◌∙◌, ℕ, List, length, ◌++◌, Result, Ok, Err, zero-le, IfOk, OnOk, Beats, Gone, GoesOn, HasCounts}
-use Rattle.tl_answer.proofs.Names.{HasGrown, HasLetGo, more_gone, Script, IsShort, CanRun, HasRun, HasLines, AreCounted, all_of}
+use Rattle.tl_answer.proofs.Names.{HasGrown, HasLetGo, more_gone, Script, AreFew, CanRun, HasRun, HasLines, AreCounted}
 use Rattle.std.specs.declared.alloc.AllocError.{AllocError}
 use Rattle.tl_trace.specs.declared.script.Counts.{Counts}
 use Rattle.tl_run.specs.Parts.{ArePart, HaveGone, IsBetween}
@@ -18,7 +18,7 @@ between gone held more n at is few grown b =
 
 module _ {C M : ℕ} where
   -- a run can go on with more
-  can-run : (run : SyncRun C M) (gone : Gone C M) (rest more : Script C M) → AreCounted run.gone gone → IsShort (all_of gone more) →
+  can-run : (run : SyncRun C M) (gone : Gone C M) (rest more : Script C M) → AreCounted run.gone gone → AreFew gone more →
       HasGrown rest more → CanRun run rest → CanRun run more
   can-run run gone rest more is few grown can = let was = can.within in record {
     within = record {
@@ -37,7 +37,7 @@ module _ {C M : ℕ} where
       IfOk result (λ counts. (rest : Script C M) → HasLetGo counts s rest → CanRun x.run rest) → OnOk result (x.far.version ≡ was.far.version) →
       ((near : Beats C M) → ArePart was.run.gone s near → HasRun HasLines near was.far was.run → OnOk result (HasRun HasLines near x.far x.run)) →
       Crosses version was gone s → IfOk result (λ counts. (rest more : Script C M) → HasLetGo counts s rest → HasGrown rest more →
-      IsShort (all_of (more_gone gone counts s) more) → Crosses version x (more_gone gone counts s) more)
+      AreFew (more_gone gone counts s) more → Crosses version x (more_gone gone counts s) more)
   crosses-on (Err e) version gone s was x few went held same on h = tt
   crosses-on (Ok counts) version gone s was x few went held same on h = λ rest more left grown short. record {
     version_is = same ∙ h.version_is;

@@ -2,9 +2,11 @@
 use Rattle.tl_answer.proofs.Names.{◌≡◌, ◌≢◌, ◌≤◌, ◌∷◌, [], ◌||◌, ℕ, Bool, true, false, List, length, Option, None, Some, if◌then◌else◌, refl, sym, ap}
 use Rattle.tl_answer.proofs.Names.{◌∙◌, subst, ◌==◌, eqb-true, IsWidth, each_width, body, cut, onto_first, is_newline, header_of, HasHeader}
 use Rattle.tl_answer.proofs.Names.{faults_after, faults_of_lines, IsFirstFault, Header, Line, Script, IsScriptOf, most_bytes, IsFresh, held, Input}
+use Rattle.tl_answer.proofs.Names.{HasShortLists, beat_of_a, beat_of_b, beat_of_c, beat_of_d, beat_of_e}
 use Rattle.tl_lanes.specs.declared.limits.TheConstants.{WIDEST}
 use Rattle.tl_trace.specs.declared.fault.TraceKind.TheVariants as kinds
-use Rattle.tl_answer.proofs.Lengths.{short}
+use Rattle.tl_stream.proofs.Lengths.{few-chosen}
+use Rattle.tl_stream.proofs.ToRead.{widths_named}
 use Rattle.tl_order.specs.Orders.{IsRunnable}
 use Rattle.tl_order.specs.declared.Order.{Order}
 use Rattle.tl_answer.specs.Inner.Asked.{IsAsked, CanCross}
@@ -62,11 +64,6 @@ last_client text version client manager is n1 n2 n4 n8 n16 n32 n64 =
     subst (λ w. HasHeader text version w manager)
     (last_width client (width_of version client (known (body text) (header version client manager) is).1) n1 n2 n4 n8 n16 n32 n64) is
 
--- the widths that a header names are widths
-pub widths_named : (text : List ℕ) (version client manager : ℕ) → HasHeader text version client manager → IsWidth client × IsWidth manager
-widths_named text version client manager is =
-    let all = known (body text) (header version client manager) is in (width_of version client all.1, width_of version manager all.2)
-
 -- a manager's width that is this one
 pub with_manager : (text : List ℕ) (version client manager width : ℕ) → manager ≡ width → HasHeader text version client manager →
     HasHeader text version client width
@@ -94,6 +91,16 @@ asked_client left input order bytes h width is same read asked = record {
   fresh = asked.0;
   header = with_client (held input) bytes h width is same read;
   runnable = asked.1;
+}
+
+-- the lists of a trace that is not too long are not too long
+pub short : (C M : ℕ) (lines : List Line) → length lines ≤ most_bytes → (s : Script C M) → IsScriptOf lines s → HasShortLists s
+short C M lines few s is = record {
+  few_a = few-chosen (beat_of_a C) lines few s.a.items is.a;
+  few_b = few-chosen (beat_of_b M) lines few s.b.items is.b;
+  few_c = few-chosen (beat_of_c C) lines few s.c.items is.c;
+  few_d = few-chosen (beat_of_d M) lines few s.d.items is.d;
+  few_e = few-chosen (beat_of_e C) lines few s.e.items is.e;
 }
 
 -- a script that was read of a text with this header can cross the bridge

@@ -2,12 +2,7 @@ pub mod Names
 mod Rows
 mod Grown
 mod FarTexts
-pub mod Lengths
 pub mod Answering
-pub mod Reading
-pub mod Filling
-pub mod Between
-pub mod ToRead
 pub mod Whole
 pub mod Writing
 pub mod Headers

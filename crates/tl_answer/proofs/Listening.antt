@@ -1,28 +1,12 @@
 -- Beats that are handed on while a text is read: those that were heard go, and more is read.
-use Rattle.tl_answer.proofs.Names.{◌≡◌, ◌≢◌, ◌<◌, ◌≤◌, ◌+◌, ◌^◌, ◌++◌, ◌∙◌, ℕ, Option, List, [], length, take, drop, refl, sym, ap, subst, arith}
-use Rattle.tl_answer.proofs.Names.{append-nil, append_assoc, length-append, take-append-drop, length-take-le, IfErr, IfOk, IfSome, Result, Ok, Err}
-use Rattle.tl_answer.proofs.Names.{Beats, IsShort, Gone, GoesOn, HasCounts, HasGrown, HasLetGo, IsRestOf, beat_of_a, beat_of_b, beat_of_c, beat_of_d}
-use Rattle.tl_answer.proofs.Names.{beat_of_e, more_gone, none_gone, Line, Script, ScriptReader, CanJudge, near, AreCounted, Follow, GoesWith}
-use Rattle.tl_answer.proofs.Names.{HasHeard, IsNew, IsReadThrough, all_of, IsBetween, IsBetweenPast, IsRefused, ReadsScript, held, most_bytes}
-use Rattle.tl_answer.proofs.Names.{TextFault, Input}
+use Rattle.tl_answer.proofs.Names.{◌≡◌, ◌≤◌, ◌+◌, ◌^◌, ◌++◌, ◌∙◌, ℕ, List, [], length, take, drop, refl, sym, ap, subst, arith}
+use Rattle.tl_answer.proofs.Names.{append-nil, append_assoc, length-append, take-append-drop, length-take-le}
+use Rattle.tl_answer.proofs.Names.{Beats, HasShortLists, Gone, GoesOn, HasCounts, HasGrown, HasLetGo, IsRestOf}
+use Rattle.tl_answer.proofs.Names.{more_gone, none_gone, Line, Script, CanJudge, near, AreCounted, AreFew, Follow, GoesWith, all_of}
 use Rattle.tl_trace.specs.declared.script.Counts.{Counts}
 use Rattle.tl_check.specs.Inner.Passing.{IsWithin}
 use Rattle.tl_run.specs.Parts.{AreEnd, ArePart, HaveGone, IsEnd, IsPart, none_counted}
 use Rattle.tl_check.specs.declared.judge.Judge.{Judge}
-use Rattle.tl_answer.specs.Inner.Listeners.{Keeps}
-use Rattle.tl_answer.specs.declared.fault.TextFault.TheVariants as faults
-use Rattle.tl_answer.specs.declared.keep_all.KeepAll.{KeepAll}
-use Rattle.tl_answer.proofs.Lengths.{few-chosen, lines-few}
-
--- why no more could be read
-pub refused-read : (unread left : Option (List ℕ)) (input : Input) (fault : TextFault) → (fault ≢ faults.Read → fault ≡ faults.TooLong) →
-    (fault ≡ faults.TooLong → IfSome unread (λ text. most_bytes < length text)) → IsRefused unread left input fault
-refused-read unread left input (faults.Trace fault) kinds long = let no : faults.Trace fault ≡ faults.TooLong = kinds (λ p. absurd cc) in absurd cc
-refused-read unread left input faults.Stalled kinds long = let no : faults.Stalled ≡ faults.TooLong = kinds (λ p. absurd cc) in absurd cc
-refused-read unread left input faults.Read kinds long = tt
-refused-read unread left input faults.Write kinds long = let no : faults.Write ≡ faults.TooLong = kinds (λ p. absurd cc) in absurd cc
-refused-read unread left input faults.TooLong kinds long = long refl
-refused-read unread left input faults.OutOfMemory kinds long = tt
 
 -- ---- one list
 
@@ -66,41 +50,7 @@ module _ {X : Type 0} where
 
 -- ---- a script
 
--- the lines of what was read were heard, but for one that may go on
-pub record IsAhead {L : Type 0} {C M : ℕ} (Listens : L → Gone C M → Script C M → Type 0) (unread left : Option (List ℕ)) (v : ℕ)
-    (lines : ScriptReader C M) (input : Input) (listener : L) : Type 0 where
-  pub heard : HasHeard Listens unread left lines input listener
-  pub version : lines.version ≡ v
-
 module _ {C M : ℕ} where
-  -- what has gone and what is held can be counted
-  pub counted : (unread left : Option (List ℕ)) (gone : Gone C M) (lines : ScriptReader C M) (input : Input) →
-      IsBetweenPast gone unread left lines input → IsShort (all_of gone lines.script)
-  counted unread left gone lines input b =
-      let sum = length-append b.used (held input) in
-      let count = b.taken.count in
-      let few : length b.used ≤ most_bytes = omega (arith, sum, count, b.taken.few) in
-      let few_lines = lines-few b.used lines.version C M b.read.lines b.read.told few in
-      let is = b.read.script in
-      let s = lines.script in
-      record {
-        few_a = few-chosen (beat_of_a C) b.read.lines few_lines (gone.a ++ s.a.items) is.a;
-        few_b = few-chosen (beat_of_b M) b.read.lines few_lines (gone.b ++ s.b.items) is.b;
-        few_c = few-chosen (beat_of_c C) b.read.lines few_lines (gone.c ++ s.c.items) is.c;
-        few_d = few-chosen (beat_of_d M) b.read.lines few_lines (gone.d ++ s.d.items) is.d;
-        few_e = few-chosen (beat_of_e C) b.read.lines few_lines (gone.e ++ s.e.items) is.e;
-      }
-
-  -- the first piece
-  pub first-heard : {L : Type 0} (Listens : L → Gone C M → Script C M → Type 0) (unread left : Option (List ℕ)) (lines : ScriptReader C M)
-      (input : Input) (listener : L) →
-      IsNew Listens listener → IsBetween unread left lines input → HasHeard Listens unread left lines input listener
-  first-heard Listens unread left lines input listener new b = record {
-    gone = none_gone;
-    between = b;
-    listens = λ more grown few. new more (record { few_a = few.few_a; few_b = few.few_b; few_c = few.few_c; few_d = few.few_d; few_e = few.few_e });
-  }
-
   pub all-near : (lines : List Line) (gone : Gone C M) (s : Script C M) → IsRestOf lines gone s → all_of gone s ≡ near C M lines
   all-near lines gone s is = rw is.a (rw is.b (rw is.c (rw is.d (rw is.e refl))))
 
@@ -148,6 +98,13 @@ module _ {C M : ℕ} where
         }) (h.has beats follow);
   }
 
+  -- where no beat has gone, those that are held can be counted
+  pub short-lists : (s : Script C M) → AreFew none_gone s → HasShortLists s
+  short-lists s few = record { few_a = few.few_a; few_b = few.few_b; few_c = few.few_c; few_d = few.few_d; few_e = few.few_e }
+
+  pub none-gone : (s : Script C M) → HasShortLists s → AreFew none_gone s
+  none-gone s short = record { few_a = short.few_a; few_b = short.few_b; few_c = short.few_c; few_d = short.few_d; few_e = short.few_e }
+
   -- a listener that has heard nothing
   pub new-goes : (Can : Script C M → Type 0) (Has : Beats C M → Type 0) (count : Counts) → count ≡ none_counted → (s : Script C M) → Can s →
       ((beats : Beats C M) → Has beats) →
@@ -159,7 +116,7 @@ module _ {C M : ℕ} where
   }
 
   -- a judge can go on with more
-  pub can-judge : (judge : Judge C M) (gone : Gone C M) (rest more : Script C M) → AreCounted judge.gone gone → IsShort (all_of gone more) →
+  pub can-judge : (judge : Judge C M) (gone : Gone C M) (rest more : Script C M) → AreCounted judge.gone gone → AreFew gone more →
       HasGrown rest more → CanJudge judge rest → CanJudge judge more
   can-judge judge gone rest more is few grown can = record {
     a = within gone.a rest.a.items more.a.items judge.gone.a judge.a.at judge.a.far is.a few.few_a grown.a can.a;
@@ -189,18 +146,3 @@ module _ {C M : ℕ} where
       d = ([], sym (append-nil (gone.d ++ s.d.items)));
       e = ([], sym (append-nil (gone.e ++ s.e.items)));
     })
-
-  -- where all is kept, what is held at the end is the script
-  pub reads-script : (unread left : Option (List ℕ)) (version : ℕ) (input : Input) (keeper : KeepAll) (result : Result (Script C M) TextFault) →
-      IfOk result (IsReadThrough (Keeps version) unread left version keeper) → IfErr result (IsRefused unread left input) →
-      ReadsScript unread left version input result
-  reads-script unread left version input keeper (Err fault) ok err = err
-  reads-script unread left version input keeper (Ok s) read err =
-      let is = subst (λ gone. IsRestOf read.lines gone s) read.listens read.rest in
-      record {
-        text = read.text;
-        took = read.took;
-        end = read.end;
-        few = read.few;
-        told = record { lines = read.lines; told = read.told; script = record { a = is.a; b = is.b; c = is.c; d = is.d; e = is.e } };
-      }

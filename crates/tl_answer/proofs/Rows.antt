@@ -6,8 +6,8 @@ use Rattle.tl_lanes.specs.declared.limits.TheConstants.{WIDEST}
 use Rattle.tl_trace.specs.declared.line.Line.TheVariants as line
 use Rattle.tl_order.specs.declared.TheConstants as order
 use Rattle.tl_ring.specs.declared.pipe.TheConstants as ring
-use Rattle.tl_answer.specs.Statuses.{fault_words}
-use Rattle.tl_answer.specs.declared.fault.TextFault.TheVariants as fault
+use Rattle.tl_stream.specs.Statuses.{fault_words}
+use Rattle.tl_stream.specs.declared.fault.TextFault.TheVariants as fault
 use Rattle.tl_trace.specs.declared.fault.TraceKind.TheVariants.{Header}
 
 -- the largest ring that an order may ask for is the largest that there is

@@ -4,11 +4,11 @@ use Rattle.tl_answer.proofs.Names.{None, Some, Result, Ok, Err, refl, sym, ap, �
 use Rattle.tl_answer.proofs.Names.{Consumes, IsAtEnd, prepend_known, is_newline, body, header_of, IsFirstFault, Header, HasTaken, IsFresh, IsRefused}
 use Rattle.tl_answer.proofs.Names.{held, unread_of, ReadsAnswer, spelled, IsAnswer, most_bytes, TextFault, Input}
 use Rattle.tl_trace.specs.declared.fault.TraceKind.TheVariants as kinds
-use Rattle.tl_answer.specs.declared.fault.TextFault.TheVariants as faults
+use Rattle.tl_stream.specs.declared.fault.TextFault.TheVariants as faults
 use Rattle.tl_answer.specs.declared.parts.AnswerParts.{AnswerParts}
-use Rattle.tl_answer.proofs.Between.{held_size, of_text, of_whole}
+use Rattle.tl_stream.proofs.Between.{held_size, of_text, of_whole}
 use Rattle.tl_answer.proofs.Headers.{no_header}
-use Rattle.tl_answer.proofs.ToRead.{header_short, unlike}
+use Rattle.tl_stream.proofs.ToRead.{header_short, unlike}
 
 -- an answer to the text that was read is one to the text that the reader had
 pub reads_answer : (unread left : Option (List ℕ)) (check : Bool) (input : Input) (text : List ℕ) → Consumes unread left text → IsAtEnd left →

@@ -1,34 +1,11 @@
--- What writes of a text put out so far.
+-- What the writes of an answer put out.
 use Rattle.tl_answer.proofs.Names.{Result, Ok, Err, IfSome, IfOk, OnOk, IfErr, ◌≡◌, ℕ, ◌+◌, ◌-◌, ◌≤◌, Bool, List, ◌++◌, length, take, drop, Option}
 use Rattle.tl_answer.proofs.Names.{None, Some, refl, sym, subst, ap, ◌∙◌, arith, length-drop, Appends-trans, Appends-kept, Appends, Keeps}
 use Rattle.tl_answer.proofs.Names.{AnswersRead, spelled, AnswersText, IsAnswer, TextFault}
-use Rattle.std.proofs.Math.Seq.{take-add, take-length}
 use Rattle.tl_order.specs.Orders.{is_check}
 use Rattle.tl_order.specs.declared.Order.{Order}
-use Rattle.tl_answer.specs.declared.fault.TextFault.TheVariants as faults
+use Rattle.tl_stream.specs.declared.fault.TextFault.TheVariants as faults
 use Rattle.tl_answer.specs.declared.parts.AnswerParts.{AnswerParts}
-
--- the first n items of a text are out
-pub record SoFar (old now : Option (List ℕ)) (text : List ℕ) (n : ℕ) : Type 0 where
-  pub some : Appends old now (take n text)
-  pub few : n ≤ length text
-
--- all of the rest
-rest_is : (text : List ℕ) (n : ℕ) → take (length text - n) (drop n text) ≡ drop n text
-rest_is text n = subst (λ l. take l (drop n text) ≡ drop n text) (length-drop n text) (take-length (drop n text))
-
--- a write took m items of the rest
-pub goes_on : (a b c : Option (List ℕ)) (text rest : List ℕ) (n m : ℕ) → rest ≡ take (length text - n) (drop n text) → SoFar a b text n →
-    m ≤ length rest → Appends b c (take m rest) → SoFar a c text (n + m)
-goes_on a b c text rest n m e h few bytes =
-    let same : rest ≡ drop n text = e ∙ rest_is text n in
-    let long : length rest ≡ length text - n = ap length same ∙ length-drop n text in
-    let here : n ≤ length text = h.few in
-    record {
-      some = rw (take-add n m text)
-          (Appends-trans a b c (take n text) (take m (drop n text)) h.some (subst (λ l. Appends b c (take m l)) same bytes));
-      few = omega (arith, long, few, here);
-    }
 
 -- five texts, one after the other, and what keeps them
 pub five-out : (w0 w1 w2 w3 w4 w5 w6 : Option (List ℕ)) (a b c d e : List ℕ) → Appends w0 w1 a → Appends w1 w2 b → Appends w2 w3 c → Appends w3 w4 d →

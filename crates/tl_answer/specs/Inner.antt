@@ -1,10 +1,7 @@
-pub mod Reading
-pub mod Filling
-pub mod Lines
 pub mod Parts
 pub mod Asked
 pub mod Answered
 pub mod FarTexts
 pub mod Listening
-pub mod Listeners
+pub mod Checking
 pub mod Crossing

@@ -8,12 +8,9 @@ use Rattle.tl_trace.specs.Faults.{IsFirstFault}
 use Rattle.tl_trace.specs.declared.line.Line.{Line}
 use Rattle.tl_trace.specs.declared.fault.TraceKind.TheVariants as kinds
 use Rattle.tl_answer.specs.Answer.{answer_of, are_done}
-use Rattle.tl_answer.specs.declared.fault.TextFault.{TextFault}
-use Rattle.tl_answer.specs.declared.fault.TextFault.TheVariants as faults
-
--- the most bytes that a text may have
-abbrev pub most_bytes : ℕ
-most_bytes = 67108864
+use Rattle.tl_stream.specs.Inputs.{most_bytes}
+use Rattle.tl_stream.specs.declared.fault.TextFault.{TextFault}
+use Rattle.tl_stream.specs.declared.fault.TextFault.TheVariants as faults
 
 -- the text tells a trace, this is the answer to it, and `done` says whether all channels are done
 pub record IsAnswer (text : List ℕ) (check : Bool) (answer : List ℕ) (done : Bool) : Type 0 where

@@ -13,16 +13,13 @@ ghost use Rattle.tl_answer.specs.Inner.Answered.{ReadsAnswer};
 ghost use Rattle.tl_answer.specs.Inner.Asked.{IsAsked, CanCross};
 ghost use Rattle.tl_answer.specs.Inner.FarTexts.{HasLines};
 ghost use Rattle.tl_answer.specs.Inner.Parts.{spelled, text_of};
-ghost use Rattle.tl_answer.specs.Inputs.{IsFresh, unread_of};
-ghost use Rattle.tl_answer.specs.declared.fault.TextFault.TheVariants.{OutOfMemory as NoMemory};
+ghost use Rattle.tl_stream.specs.Inputs.{IsFresh, unread_of};
+ghost use Rattle.tl_stream.specs.declared.fault.TextFault.TheVariants.{OutOfMemory as NoMemory};
 
 use crate::at_width;
 use crate::check_input::check_input;
 use crate::crossing::run_input;
 use crate::far_text::FarTexts;
-use crate::fault::TextFault;
-use crate::input::Input;
-use crate::later_lines::script_of_input;
 use crate::parts::AnswerParts;
 use std::alloc::{AllocError, Global};
 use std::io::Read;
@@ -30,6 +27,7 @@ use std::thread::Threads;
 use tl_bridge::{FarSink, NoGate, Outcome, RunFault, run_threads};
 use tl_msg::Verdict;
 use tl_order::Order;
+use tl_stream::{Input, TextFault, script_of_input};
 use tl_trace::{OutOfMemory, Script, TraceFault, TraceKind, header_of_text, write_report};
 
 /// The whole answer to a text, and whether all five channels are done.

@@ -8,29 +8,32 @@ ghost use Rattle.tl_run.specs.Parts.{AreEnd};
 ghost use Rattle.tl_check.specs.Judging.{CanJudge, HasJudged};
 ghost use Rattle.tl_answer.specs.Answer.{far_header, is_done, report};
 ghost use Rattle.tl_answer.specs.Inner.Answered.{ReadsAnswer};
-ghost use Rattle.tl_answer.specs.Inner.Listeners.{Judges};
-ghost use Rattle.tl_answer.specs.Inner.Listening.{IsNew};
+ghost use Rattle.tl_answer.specs.Inner.Checking.{Judges};
+ghost use Rattle.tl_stream.specs.Listening.{IsNew};
 ghost use Rattle.tl_answer.specs.Inner.Parts.{spelled};
-ghost use Rattle.tl_answer.specs.Inputs.{IsFresh, held, unread_of};
-ghost use Rattle.tl_answer.specs.declared.fault.TextFault.TheVariants.{OutOfMemory as NoMemory};
+ghost use Rattle.tl_stream.specs.Inputs.{IsFresh, held, unread_of};
+ghost use Rattle.tl_stream.specs.declared.fault.TextFault.TheVariants.{OutOfMemory as NoMemory};
 
 use crate::answer::check_of;
-use crate::fault::TextFault;
-use crate::input::Input;
-use crate::later_lines::read_through;
-use crate::listener::Listener;
 use crate::parts::AnswerParts;
 use std::alloc::{AllocError, Global};
 use std::io::Read;
 use tl_check::Judge;
 use tl_settle::new_books;
+use tl_stream::{Input, Listener, TextFault, read_through};
 use tl_trace::{Counts, Script};
 
-impl<const C: usize, const M: usize> Listener<C, M> for Judge<C, M> {
+/// A check that goes on while the text is read.
+#[derive(Drop)]
+struct Checking<const C: usize, const M: usize> {
+    judge: Judge<C, M>,
+}
+
+impl<const C: usize, const M: usize> Listener<C, M> for Checking<C, M> {
     ghost Listens = { Judges };
 
     fn hear(&mut self, held: &Script<C, M>) -> Result<Counts, AllocError> {
-        Ok(self.go_on(held))
+        Ok(self.judge.go_on(held))
     }
 }
 
@@ -58,21 +61,21 @@ fn end_of<const C: usize, const M: usize>(
     }
 }
 
-// The answer of a check by a new judge to a text whose header names this version and these widths.
+// The answer of a new check to a text whose header names this version and these widths.
 fn check_by<R: Read, const C: usize, const M: usize>(
     alloc: Global,
     reader: &mut R,
     input: &mut Input,
     version: u8,
-    judge: &mut Judge<C, M>,
+    checking: &mut Checking<C, M>,
 ) -> Result<AnswerParts, TextFault>
     requires { IsFresh (R.remaining reader.old) input.old ×
-        HasHeader (held input.old) version C M × IsNew (Judges version) judge.old }
+        HasHeader (held input.old) version C M × IsNew (Judges version) checking.old }
     ensures { ReadsAnswer (unread_of input.old (R.remaining reader.old)) (R.remaining reader.new)
         true input.new result }
 {
-    match read_through(alloc, reader, input, version, judge) {
-        Ok(last) => end_of(alloc, judge, version, last),
+    match read_through(alloc, reader, input, version, checking) {
+        Ok(last) => end_of(alloc, &mut checking.judge, version, last),
         Err(fault) => Err(fault),
     }
 }
@@ -94,6 +97,6 @@ pub(crate) fn check_input<R: Read, const C: usize, const M: usize>(
     let Ok((client, manager)) = new_books::<C, M, Global>(alloc) else {
         return Err(TextFault::OutOfMemory);
     };
-    let mut judge = Judge::<C, M>::new(client, manager);
-    check_by(alloc, reader, input, version, &mut judge)
+    let judge = Judge::<C, M>::new(client, manager);
+    check_by(alloc, reader, input, version, &mut Checking { judge })
 }

@@ -9,21 +9,19 @@ ghost use Rattle.tl_trace.specs.Scripts.{Gone};
 ghost use Rattle.tl_answer.specs.Answer.{is_done};
 ghost use Rattle.tl_answer.specs.Inner.Answered.{ReadsAnswer};
 ghost use Rattle.tl_answer.specs.Inner.Crossing.{Crosses};
-ghost use Rattle.tl_answer.specs.Inner.Listening.{IsNew, all_of};
+ghost use Rattle.tl_answer.specs.Inner.Listening.{all_of};
+ghost use Rattle.tl_stream.specs.Listening.{IsNew};
 ghost use Rattle.tl_answer.specs.Inner.Parts.{spelled, text_of};
-ghost use Rattle.tl_answer.specs.Inputs.{IsFresh, held, unread_of};
-ghost use Rattle.tl_answer.specs.declared.fault.TextFault.TheVariants.{OutOfMemory as NoMemory};
+ghost use Rattle.tl_stream.specs.Inputs.{IsFresh, held, unread_of};
+ghost use Rattle.tl_stream.specs.declared.fault.TextFault.TheVariants.{OutOfMemory as NoMemory};
 
 use crate::far_text::FarTexts;
-use crate::fault::TextFault;
-use crate::input::Input;
-use crate::later_lines::read_through;
-use crate::listener::Listener;
 use crate::parts::AnswerParts;
 use std::alloc::{AllocError, Global};
 use std::io::Read;
 use tl_run::SyncRun;
 use tl_sides::SyncBridge;
+use tl_stream::{Input, Listener, TextFault, read_through};
 use tl_trace::{Counts, Script};
 
 /// A run in one thread, whose far beats are written as lines as they are taken.

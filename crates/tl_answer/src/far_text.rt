@@ -6,15 +6,15 @@ ghost use Rattle.tl_run.specs.Arrivals.{no_beats};
 ghost use Rattle.tl_answer.specs.Answer.{far_header, far_lines, report, is_done};
 ghost use Rattle.tl_answer.specs.Inner.FarTexts.{HasLines};
 ghost use Rattle.tl_answer.specs.Inner.Parts.{spelled};
-ghost use Rattle.tl_answer.specs.declared.fault.TextFault.TheVariants.{OutOfMemory as NoMemory};
+ghost use Rattle.tl_stream.specs.declared.fault.TextFault.TheVariants.{OutOfMemory as NoMemory};
 
 use crate::answer::{are_done, header, write_reports};
-use crate::fault::TextFault;
 use crate::parts::AnswerParts;
 use std::alloc::{AllocError, Global};
 use std::mem::replace;
 use tl_bridge::FarSink;
 use tl_msg::{Beat, ChA, ChB, ChC, ChD, ChE, Verdict};
+use tl_stream::TextFault;
 use tl_trace::write_far;
 
 /// The lines of the far beats of a run, each channel's in a text of its own: that of A begins with

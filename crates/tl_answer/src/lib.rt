@@ -6,23 +6,16 @@ mod answer;
 mod check_input;
 mod crossing;
 mod far_text;
-mod fault;
-mod input;
-mod keep_all;
-mod later_lines;
 pub mod laws;
-mod listener;
 mod parts;
-mod status;
 mod sync_answer;
 mod text;
 mod widths;
 
 pub use answer::{Answer, check_of};
-pub use fault::TextFault;
-pub use input::{Input, MAX_BYTES};
-pub use later_lines::script_of_input;
-pub use status::{FaultLine, exit_status};
 pub use sync_answer::answer_sync;
-pub use text::{read_all, run_text, write_all};
+pub use text::run_text;
 pub use tl_order::Order;
+pub use tl_stream::{
+    FaultLine, Input, MAX_BYTES, TextFault, exit_status, read_all, script_of_input, write_all,
+};

@@ -1,11 +1,11 @@
 //! The answer to a text in parts, none of which has to be moved behind another one.
 ghost use Rattle.std.specs.Prelude.{◌≡◌, IfOk, IfErr};
 ghost use Rattle.tl_answer.specs.Inner.Parts.{spelled};
-ghost use Rattle.tl_answer.specs.declared.fault.TextFault.TheVariants.{OutOfMemory as NoMemory};
+ghost use Rattle.tl_stream.specs.declared.fault.TextFault.TheVariants.{OutOfMemory as NoMemory};
 
 use crate::answer::Answer;
-use crate::fault::TextFault;
 use std::alloc::Global;
+use tl_stream::TextFault;
 
 /// The whole answer to a text, in five parts that are written one after the other, and whether all
 /// five channels are done.

@@ -7,16 +7,17 @@ ghost use Rattle.tl_answer.specs.Answer.{far_header, report, is_done};
 ghost use Rattle.tl_trace.specs.Faults.{HasHeader};
 ghost use Rattle.tl_answer.specs.Inner.Asked.{CanCross};
 ghost use Rattle.tl_answer.specs.Inner.Parts.{spelled, text_of};
-ghost use Rattle.tl_answer.specs.Texts.{IsAnswer, IsOfText, most_bytes};
-ghost use Rattle.tl_answer.specs.declared.fault.TextFault.TheVariants.{OutOfMemory as NoMemory};
+ghost use Rattle.tl_answer.specs.Texts.{IsAnswer, IsOfText};
+ghost use Rattle.tl_stream.specs.Inputs.{most_bytes};
+ghost use Rattle.tl_stream.specs.declared.fault.TextFault.TheVariants.{OutOfMemory as NoMemory};
 
 use crate::answer::{Answer, check_of};
 use crate::at_width;
 use crate::crossing::Crossing;
-use crate::fault::TextFault;
 use crate::parts::AnswerParts;
 use std::alloc::Global;
 use tl_check::verdicts_of;
+use tl_stream::TextFault;
 use tl_trace::{Script, TraceFault, TraceKind, header_of_text, read_script};
 
 /// How many beats a ring holds: no answer depends on it.

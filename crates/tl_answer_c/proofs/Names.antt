@@ -3,9 +3,9 @@ use Rattle.std.proofs.Common.{◌≡◌, refl}
 use Rattle.tl_trace.specs.Faults.{kind_number, kind_name}
 use Rattle.tl_trace.specs.declared.fault.TraceKind.{TraceKind}
 use Rattle.tl_trace.specs.declared.fault.TraceKind.TheVariants as kinds
-use Rattle.tl_answer.specs.Faults.{text_fault_number, text_fault_name}
-use Rattle.tl_answer.specs.declared.fault.TextFault.{TextFault}
-use Rattle.tl_answer.specs.declared.fault.TextFault.TheVariants as faults
+use Rattle.tl_stream.specs.Faults.{text_fault_number, text_fault_name}
+use Rattle.tl_stream.specs.declared.fault.TextFault.{TextFault}
+use Rattle.tl_stream.specs.declared.fault.TextFault.TheVariants as faults
 use Rattle.tl_c_beats.specs.Texts.{answer_name}
 
 kinds_named : (kind : TraceKind) → answer_name (kind_number kind) ≡ kind_name kind

@@ -1,10 +1,11 @@
 -- What C is told of the answer to a text (this project's choice).
 use Rattle.std.specs.Prelude.{◌≡◌, ◌<◌, ◌==◌, ℕ, Bool, not, List, length}
-use Rattle.tl_answer.specs.Faults.{text_fault_number, text_fault_line}
-use Rattle.tl_answer.specs.Texts.{IsAnswer, IsOfText, most_bytes}
+use Rattle.tl_stream.specs.Faults.{text_fault_number, text_fault_line}
+use Rattle.tl_answer.specs.Texts.{IsAnswer, IsOfText}
+use Rattle.tl_stream.specs.Inputs.{most_bytes}
 use Rattle.tl_answer.specs.declared.answer.Answer.{Answer}
-use Rattle.tl_answer.specs.declared.fault.TextFault.{TextFault}
-use Rattle.tl_answer.specs.declared.fault.TextFault.TheVariants as faults
+use Rattle.tl_stream.specs.declared.fault.TextFault.{TextFault}
+use Rattle.tl_stream.specs.declared.fault.TextFault.TheVariants as faults
 use Rattle.tl_c_beats.specs.Blocks.{IsBlockOf, IsNoBlock}
 use Rattle.tl_c_beats.specs.declared.answer_block.AnswerBlock.{AnswerBlock}
 

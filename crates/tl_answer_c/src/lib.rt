@@ -6,8 +6,8 @@
 mod sync_answer;
 
 ghost use Rattle.std.specs.Prelude.{◌≡◌, ◌≢◌, List, None, ℕ};
-ghost use Rattle.tl_answer.specs.Faults.{text_fault_name, text_fault_number};
-ghost use Rattle.tl_answer.specs.declared.fault.TextFault.{TextFault};
+ghost use Rattle.tl_stream.specs.Faults.{text_fault_name, text_fault_number};
+ghost use Rattle.tl_stream.specs.declared.fault.TextFault.{TextFault};
 ghost use Rattle.tl_c_beats.specs.Texts.{answer_name, answer_text};
 ghost use Rattle.tl_c_beats.specs.Blocks.{IsNoBlock};
 ghost use Rattle.tl_answer_c.specs.Calls.{IsGiven, IsRefusal, is_set};

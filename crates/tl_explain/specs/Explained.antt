@@ -4,9 +4,10 @@ use Rattle.std.specs.Prelude.{◌≡◌, ◌≢◌, ◌<◌, ◌++◌, ℕ, Bool
 use Rattle.std.specs.Io.KnownBytes.{Keeps, Appends}
 use Rattle.tl_trace.specs.Faults.{IsFirstFault}
 use Rattle.tl_trace.specs.declared.fault.TraceKind.TheVariants as kinds
-use Rattle.tl_answer.specs.Texts.{IsAnswer, IsOfText, WasReadWhole, most_bytes}
-use Rattle.tl_answer.specs.declared.fault.TextFault.{TextFault}
-use Rattle.tl_answer.specs.declared.fault.TextFault.TheVariants as faults
+use Rattle.tl_answer.specs.Texts.{IsAnswer, IsOfText, WasReadWhole}
+use Rattle.tl_stream.specs.Inputs.{most_bytes}
+use Rattle.tl_stream.specs.declared.fault.TextFault.{TextFault}
+use Rattle.tl_stream.specs.declared.fault.TextFault.TheVariants as faults
 
 pub record IsExplanation (text : List ℕ) (explanation : List ℕ) (done : Bool) : Type 0 where
   pub sentences : List ℕ

@@ -1,6 +1,6 @@
 //! What goes out while lines are told, block by block.
 ghost use Rattle.std.specs.Prelude.{◌≡◌, false, OnOk, IfErr};
-ghost use Rattle.tl_answer.specs.declared.fault.TextFault.TheVariants.{Write as WriteFault};
+ghost use Rattle.tl_stream.specs.declared.fault.TextFault.TheVariants.{Write as WriteFault};
 ghost use Rattle.tl_explain.specs.Inner.Telling.{Continues};
 
 use crate::story::{LETTERS, Story};

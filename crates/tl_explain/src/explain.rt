@@ -5,8 +5,9 @@ ghost use Rattle.tl_lanes.specs.Lanes.{IsWidth};
 ghost use Rattle.tl_trace.specs.Faults.{HasHeader};
 ghost use Rattle.tl_trace.specs.Scripts.{TellsScript};
 ghost use Rattle.tl_answer.specs.Answer.{far_header, report, is_done};
-ghost use Rattle.tl_answer.specs.Texts.{IsAnswer, most_bytes};
-ghost use Rattle.tl_answer.specs.declared.fault.TextFault.TheVariants.{OutOfMemory as NoMemory, Write as WriteFault};
+ghost use Rattle.tl_answer.specs.Texts.{IsAnswer};
+ghost use Rattle.tl_stream.specs.Inputs.{most_bytes};
+ghost use Rattle.tl_stream.specs.declared.fault.TextFault.TheVariants.{OutOfMemory as NoMemory, Write as WriteFault};
 ghost use Rattle.tl_explain.specs.Explained.{Explains, IsUntold};
 ghost use Rattle.tl_explain.specs.Inner.Telling.{Continues};
 

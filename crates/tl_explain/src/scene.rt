@@ -1,7 +1,8 @@
 //! What a page shows of a trace: its lines with their beats, and which messages belong together.
 ghost use Rattle.std.specs.Io.KnownBytes.{Keeps};
 ghost use Rattle.std.specs.Prelude.{◌≡◌, ◌≤◌, true, length, IfOk, OnOk, IfErr};
-ghost use Rattle.tl_answer.specs.Texts.{IsAnswer, most_bytes};
+ghost use Rattle.tl_answer.specs.Texts.{IsAnswer};
+ghost use Rattle.tl_stream.specs.Inputs.{most_bytes};
 ghost use Rattle.tl_explain.specs.Explained.{IsUntold};
 
 use crate::drawing::Drawn;

@@ -3,9 +3,10 @@ use Rattle.std.specs.Prelude.{◌≢◌, ◌<◌, ℕ, Bool, true, List, length,
 use Rattle.std.specs.Io.KnownBytes.{Keeps, Appends}
 use Rattle.tl_trace.specs.Faults.{IsFirstFault}
 use Rattle.tl_trace.specs.declared.fault.TraceKind.TheVariants as kinds
-use Rattle.tl_answer.specs.Texts.{IsAnswer, WasReadWhole, most_bytes}
-use Rattle.tl_answer.specs.declared.fault.TextFault.{TextFault}
-use Rattle.tl_answer.specs.declared.fault.TextFault.TheVariants as faults
+use Rattle.tl_answer.specs.Texts.{IsAnswer, WasReadWhole}
+use Rattle.tl_stream.specs.Inputs.{most_bytes}
+use Rattle.tl_stream.specs.declared.fault.TextFault.{TextFault}
+use Rattle.tl_stream.specs.declared.fault.TextFault.TheVariants as faults
 
 -- the text tells a trace, and `done` says whether all channels of its answer are done
 abbrev pub HasAnswer : (text : List ℕ) (done : Bool) → Type 0

@@ -1,7 +1,7 @@
 //! The page of a text.
 ghost use Rattle.std.specs.Io.KnownBytes.{Keeps};
 ghost use Rattle.std.specs.Prelude.{◌≡◌, ◌≤◌, true, length, IfOk, OnOk, IfErr};
-ghost use Rattle.tl_answer.specs.Texts.{most_bytes};
+ghost use Rattle.tl_stream.specs.Inputs.{most_bytes};
 ghost use Rattle.tl_explain.specs.Explained.{IsUntold};
 ghost use Rattle.tl_page.specs.Pages.{HasAnswer};
 

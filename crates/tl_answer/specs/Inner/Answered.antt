@@ -6,11 +6,12 @@ use Rattle.tl_order.specs.declared.Order.{Order}
 use Rattle.tl_trace.specs.Faults.{IsFirstFault}
 use Rattle.tl_trace.specs.declared.fault.TraceKind.TheVariants as kinds
 use Rattle.tl_answer.specs.Inner.Parts.{spelled}
-use Rattle.tl_answer.specs.Inputs.{IsRefused}
-use Rattle.tl_answer.specs.Texts.{WasReadWhole, IsAnswer, most_bytes}
-use Rattle.tl_answer.specs.declared.fault.TextFault.{TextFault}
-use Rattle.tl_answer.specs.declared.fault.TextFault.TheVariants as faults
-use Rattle.tl_answer.specs.declared.input.Input.{Input}
+use Rattle.tl_stream.specs.Inputs.{IsRefused}
+use Rattle.tl_answer.specs.Texts.{WasReadWhole, IsAnswer}
+use Rattle.tl_stream.specs.Inputs.{most_bytes}
+use Rattle.tl_stream.specs.declared.fault.TextFault.{TextFault}
+use Rattle.tl_stream.specs.declared.fault.TextFault.TheVariants as faults
+use Rattle.tl_stream.specs.declared.input.Input.{Input}
 use Rattle.tl_answer.specs.declared.parts.AnswerParts.{AnswerParts}
 
 -- the text was read to its end, and this is its answer

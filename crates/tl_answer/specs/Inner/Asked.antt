@@ -6,8 +6,8 @@ use Rattle.tl_order.specs.declared.Order.{Order}
 use Rattle.tl_trace.specs.Faults.{HasHeader}
 use Rattle.tl_trace.specs.declared.script.Script.{Script}
 use Rattle.tl_run.specs.Scripts.{HasShortLists}
-use Rattle.tl_answer.specs.Inputs.{IsFresh, held}
-use Rattle.tl_answer.specs.declared.input.Input.{Input}
+use Rattle.tl_stream.specs.Inputs.{IsFresh, held}
+use Rattle.tl_stream.specs.declared.input.Input.{Input}
 
 -- a text of which the input holds the first piece, whose header names this version and these widths, and an order that can be run
 pub record IsAsked (left : Option (List ℕ)) (input : Input) (version client manager : ℕ) (order : Order) : Type 0 where

@@ -1,17 +1,9 @@
--- A text whose near beats are handed on while it is read. Only private contracts cite these words.
-use Rattle.std.specs.Prelude.{◌≡◌, ◌≤◌, ◌++◌, ℕ, List, length, Option}
-use Rattle.std.specs.Io.KnownBytes.{Consumes, IsAtEnd}
+-- What a listener that counts is to the near beats of a text that is read. Only private contracts cite these words.
+use Rattle.std.specs.Prelude.{◌≡◌, ◌++◌, ℕ, length}
 use Rattle.tl_settle.specs.Outcomes.{Beats}
-use Rattle.tl_run.specs.Scripts.{HasShortLists, IsShort}
-use Rattle.tl_trace.specs.Texts.{Tells}
-use Rattle.tl_trace.specs.Scripts.{Gone, GoesOn, HasGrown, IsRestOf, none_gone}
-use Rattle.tl_trace.specs.declared.line.Line.{Line}
+use Rattle.tl_trace.specs.Scripts.{Gone, GoesOn}
 use Rattle.tl_trace.specs.declared.script.Script.{Script}
 use Rattle.tl_trace.specs.declared.script.Counts.{Counts}
-use Rattle.tl_trace.specs.declared.script_reader.ScriptReader.{ScriptReader}
-use Rattle.tl_answer.specs.Inner.Lines.{IsBetweenPast}
-use Rattle.tl_answer.specs.Texts.{most_bytes}
-use Rattle.tl_answer.specs.declared.input.Input.{Input}
 
 -- the beats that have gone, and behind them those that are held
 abbrev pub all_of : {C M : ℕ} → Gone C M → Script C M → Beats C M
@@ -40,27 +32,3 @@ pub record GoesWith {C M : ℕ} (count : Counts) (Can : Script C M → Type 0) (
   pub counted : AreCounted count gone
   pub can : Can s
   pub has : (beats : Beats C M) → Follow gone s beats → Has beats
-
--- what a listener is to the near beats that have gone and those that a script holds
-module _ {L : Type 0} {C M : ℕ} (Listens : L → Gone C M → Script C M → Type 0) where
-  -- it has heard nothing yet
-  abbrev pub IsNew : L → Type 0
-  IsNew listener = (s : Script C M) → HasShortLists s → Listens listener none_gone s
-
-  -- it has heard the lines that were used of a text, of whose beats some have gone, and listens to what is read behind them
-  pub record HasHeard (unread left : Option (List ℕ)) (lines : ScriptReader C M) (input : Input) (listener : L) : Type 0 where
-    pub gone : Gone C M
-    pub between : IsBetweenPast gone unread left lines input
-    pub listens : (more : Script C M) → HasGrown lines.script more → IsShort (all_of gone more) → Listens listener gone more
-
-  -- the text was read to its end, and the listener is at the last beats of its script
-  pub record IsReadThrough (unread left : Option (List ℕ)) (version : ℕ) (listener : L) (s : Script C M) : Type 0 where
-    pub text : List ℕ
-    pub took : Consumes unread left text
-    pub end : IsAtEnd left
-    pub few : length text ≤ most_bytes
-    pub lines : List Line
-    pub told : Tells text version C M lines
-    pub gone : Gone C M
-    pub rest : IsRestOf lines gone s
-    pub listens : Listens listener gone s

@@ -1,7 +1,8 @@
 use Rattle.tl_answer.proofs.Names.{false, lit<, subst, sym, ◌∙◌, near_beats, spelled, held, unread_of, ReadsAnswer}
 use Rattle.tl_answer.proofs.Answering.{script-text, of-both, near-is}
-use Rattle.tl_answer.proofs.Headers.{widths_named, can-cross}
-use Rattle.tl_answer.proofs.Lengths.{lines-few}
+use Rattle.tl_answer.proofs.Headers.{can-cross}
+use Rattle.tl_stream.proofs.Lengths.{lines-few}
+use Rattle.tl_stream.proofs.ToRead.{widths_named}
 use Rattle.tl_answer.proofs.Whole.{reads_answer}
 use Rattle.tl_answer.proofs.answer.with_widths.Goals as goal
 

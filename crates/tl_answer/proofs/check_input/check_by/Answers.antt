@@ -1,6 +1,6 @@
 use Rattle.tl_answer.proofs.Names.{lit<, true, ap, Beats, verdicts, CanJudge, HasJudged, all_of, spelled, held}
 use Rattle.tl_answer.proofs.Answering.{checks-text, of-both}
-use Rattle.tl_answer.proofs.Headers.{widths_named}
+use Rattle.tl_stream.proofs.ToRead.{widths_named}
 use Rattle.tl_answer.proofs.Listening.{all-near, are-end, has-all}
 use Rattle.tl_answer.proofs.Whole.{reads_answer}
 use Rattle.tl_answer.proofs.check_input.check_by.Goals as goal
@@ -16,7 +16,7 @@ end_of-requires g c =
 pub returns-in-Ok : goal.returns-in-Ok
 returns-in-Ok g c =
     let read = c.in-Ok.ensures.ok in
-    let judge = c.read_through.new.listener in
+    let judge = c.read_through.new.listener.judge in
     let s = c.in-Ok.last in
     let Has : Beats g.row.C g.row.M → Type 0 = λ beats. HasJudged beats judge in
     let near = all_of read.gone s in

@@ -1,7 +1,7 @@
 use Rattle.tl_answer.proofs.Names.{lit<, false, all_of, spelled, held}
 use Rattle.tl_answer.proofs.Answering.{of-both, script-text}
 use Rattle.tl_answer.proofs.CrossingSize.{crossing_small}
-use Rattle.tl_answer.proofs.Headers.{widths_named}
+use Rattle.tl_stream.proofs.ToRead.{widths_named}
 use Rattle.tl_answer.proofs.Listening.{all-near}
 use Rattle.tl_answer.proofs.Whole.{reads_answer}
 use Rattle.tl_answer.proofs.crossing.cross.Goals as goal

@@ -1,6 +1,6 @@
 use Rattle.tl_answer.proofs.Names.{sym, subst, held, unread_of, IsRefused}
 use Rattle.tl_answer.proofs.CrossingSize.{crossing_small}
-use Rattle.tl_answer.proofs.Headers.{widths_named}
+use Rattle.tl_stream.proofs.ToRead.{widths_named}
 use Rattle.tl_answer.proofs.crossing.run_input.Goals as goal
 
 pub new-requires : goal.new-requires

@@ -1,7 +1,7 @@
 use Rattle.tl_answer.proofs.Names.{lit<, ◌∙◌, near_beats}
 use Rattle.tl_answer.proofs.Answering.{script-text, of-both, near-is}
 use Rattle.tl_answer.proofs.Headers.{can-cross}
-use Rattle.tl_answer.proofs.Lengths.{lines-few}
+use Rattle.tl_stream.proofs.Lengths.{lines-few}
 use Rattle.tl_answer.proofs.sync_answer.with_widths.Goals as goal
 
 pub sync_answer_of-requires : goal.sync_answer_of-requires

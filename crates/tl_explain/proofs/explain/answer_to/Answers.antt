@@ -1,7 +1,8 @@
 use Rattle.std.proofs.Common.{lit<, ap, ◌∙◌}
 use Rattle.tl_settle.specs.Outcomes.{verdicts}
 use Rattle.tl_answer.proofs.Answering.{checks-text, of-both, near-is}
-use Rattle.tl_answer.proofs.Lengths.{lines-few, short}
+use Rattle.tl_answer.proofs.Headers.{short}
+use Rattle.tl_stream.proofs.Lengths.{lines-few}
 use Rattle.tl_explain.proofs.explain.answer_to.Goals as goal
 
 pub verdicts_of-requires : goal.verdicts_of-requires

@@ -1,5 +1,5 @@
 use Rattle.std.proofs.Common.{lit<}
-use Rattle.tl_answer.proofs.Headers.{widths_named}
+use Rattle.tl_stream.proofs.ToRead.{widths_named}
 use Rattle.tl_explain.proofs.explain.with_widths.Goals as goal
 
 pub with_script-telling-requires : goal.with_script-telling-requires

@@ -2,7 +2,7 @@ use Rattle.tl_sides.proofs.BridgeSize.{bridge_small}
 use Rattle.tl_answer.proofs.Names.{CanRun, HasRun, HasLines}
 use Rattle.tl_run.specs.Arrivals.{no_beats}
 use Rattle.tl_answer.proofs.CrossingSize.{run_small}
-use Rattle.tl_answer.proofs.Listening.{new-goes}
+use Rattle.tl_answer.proofs.Listening.{new-goes, short-lists}
 use Rattle.tl_answer.proofs.crossing.Crossing.new.Goals as goal
 
 pub new-requires-2 : goal.new-requires-2
@@ -15,13 +15,13 @@ new-requires-in-Ok g c = (
 )
 
 pub returns-in-Ok-clause-new : goal.returns-in-Ok-clause-new
-returns-in-Ok-clause-new g c = λ s short.
+returns-in-Ok-clause-new g c = λ s few.
     let far = c.in_ok-far.far in
     let run = c.new-in-Ok.result in
     let new = c.new-in-Ok.ensures in
     record {
       version_is = c.in_ok-far.ensures.version;
-      goes = new-goes (CanRun run) (λ beats. HasRun HasLines beats far run) run.gone new.none s (new.begins s short)
+      goes = new-goes (CanRun run) (λ beats. HasRun HasLines beats far run) run.gone new.none s (new.begins s (short-lists s few))
           (λ beats. let begun = new.running beats in
           record { all = no_beats; holds = c.in_ok-far.ensures.lines; counts = begun.0; under_way = begun.1 });
     }

@@ -1,0 +1,19 @@
+use Rattle.tl_answer.proofs.Names.{lit<, CanJudge, HasJudged}
+use Rattle.tl_answer.proofs.Listening.{can-judge, counted-on, goes-on}
+use Rattle.tl_answer.proofs.check_input.CheckingListener.hear.Goals as goal
+
+pub go_on-requires : goal.go_on-requires
+go_on-requires g c = (lit< tt, (lit< tt, (c.requires.0, (c.requires.1, c.requires.2.2.can))))
+
+pub returns-clause-on : goal.returns-clause-on
+returns-clause-on g c = λ version gone h rest more went grown few.
+    let s = c.args.held.now in
+    let was = c.args.self.now.judge in
+    let judge = c.go_on.new.self in
+    let counts = c.go_on.result in
+    let judged = c.go_on.ensures in
+    goes-on (CanJudge was) (CanJudge judge) (λ beats. HasJudged beats judge) (λ beats. HasJudged beats was) gone s rest
+    more was.gone counts judge.gone
+    judged.counts judged.gone went grown
+    (can-judge judge _ rest more (counted-on gone s was.gone counts judge.gone judged.counts judged.gone h.counted) few grown (judged.held rest went))
+    judged.judged h

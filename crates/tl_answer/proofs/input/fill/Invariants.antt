@@ -1,9 +1,0 @@
-use Rattle.tl_answer.proofs.Names.{length, ◌-◌}
-use Rattle.tl_answer.proofs.Filling.{SoFar}
-use Rattle.tl_answer.proofs.input.fill.Given as goal
-
-abbrev pub invariant-loop-filled : goal.invariant-loop-filled
-invariant-loop-filled g l = SoFar (g.R.Read.remaining l.fn.reader) (g.R.Read.remaining l.reader) l.most l.fn.room l.room l.filled
-
-abbrev pub decreases-loop-filled : goal.decreases-loop-filled
-decreases-loop-filled g l = length l.room - l.filled

@@ -1,5 +1,0 @@
-use Rattle.tl_answer.proofs.Names.{Appends-kept, on_ok_weaker}
-use Rattle.tl_answer.proofs.text.write_all.Goals as goal
-
-pub returns-clause-all : goal.returns-clause-all
-returns-clause-all g c = on_ok_weaker c.flush.result (Appends-kept _ _ _ c.args.bytes.now c.in_ok-write_bytes.ensures.all) c.flush.ensures.all

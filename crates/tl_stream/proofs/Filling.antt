@@ -1,0 +1,150 @@
+-- What reads of a piece gave so far.
+use Rattle.tl_stream.proofs.Names.{Result, Ok, Err, IfSome, IsErrOf, ◌≡◌, ℕ, ◌+◌, ◌-◌, ◌<◌, ◌≤◌, List, ◌++◌, length, take, drop, Option, sym, ap, ◌∙◌}
+use Rattle.tl_stream.proofs.Names.{subst, arith, append_assoc, length-append, length-drop, length-take-le, take-append-le, take_rest, Consumes-trans}
+use Rattle.tl_stream.proofs.Names.{Consumes, copy_within, slice_range, HasTaken, held, most_bytes, Input}
+use Rattle.std.proofs.Math.Seq.{take-append-add, take-append_seam}
+use borrow.Rule.Slice.PartMut.{put_mid, post_of}
+use Rattle.tl_stream.specs.Inner.Filling.{IsFilled, IsRefilled, IsTooMany}
+use Rattle.tl_stream.proofs.Between.{held_size, of_text}
+
+-- the first bytes of the room are what was taken, at most so many
+pub record SoFar (old now : Option (List ℕ)) (most : ℕ) (first room : List ℕ) (filled : ℕ) : Type 0 where
+  pub same : length room ≡ length first
+  pub within : filled ≤ length room
+  pub few : filled ≤ most
+  pub took : Consumes old now (take filled room)
+
+put_front : (a k n : ℕ) (xs ys : List ℕ) → a ≤ length xs → n ≤ length ys → take (a + n) (put_mid a k xs ys) ≡ take a xs ++ take n ys
+put_front a k n xs ys le few =
+    let size : length (take a xs) ≡ a = length-take-le a xs le in
+    ap (λ (m : ℕ). take (m + n) (take a xs ++ (ys ++ post_of a k xs))) (sym size) ∙ take-append-add (take a xs) (ys ++ post_of a k xs) n
+    ∙ ap (λ (zs : List ℕ). take a xs ++ zs) (take-append-le n ys (post_of a k xs) few)
+
+-- what is put over a part leaves the size as it is
+pub put_size : (a : ℕ) (xs ys : List ℕ) → a ≤ length xs → length ys ≡ length xs - a → length (put_mid a (length xs - a) xs ys) ≡ length xs
+put_size a xs ys le same =
+    let front : length (take a xs) ≡ a = length-take-le a xs le in
+    let after = length-drop a xs in
+    let none : length (post_of a (length xs - a) xs) ≡ length (drop a xs) - (length xs - a) = length-drop (length xs - a) (drop a xs) in
+    let back = length-append ys (post_of a (length xs - a) xs) in
+    let whole = length-append (take a xs) (ys ++ post_of a (length xs - a) xs) in
+    omega arith
+
+-- the room behind the first bytes
+pub room_size : (a : ℕ) (xs : List ℕ) → length (take (length xs - a) (drop a xs)) ≡ length xs - a
+room_size a xs = ap length (take_rest xs a) ∙ length-drop a xs
+
+-- and so does what is read into the room behind the first bytes
+pub filled_size : (a : ℕ) (xs ys : List ℕ) → a ≤ length xs → length ys ≡ length (take (length xs - a) (drop a xs)) →
+    length (put_mid a (length xs - a) xs ys) ≡ length xs
+filled_size a xs ys le same = put_size a xs ys le (same ∙ room_size a xs)
+
+-- a read gave n bytes more
+pub goes_on : (old now new : Option (List ℕ)) (most : ℕ) (first room buf : List ℕ) (f n : ℕ) → SoFar old now most first room f →
+    length buf ≡ length room - f → n ≤ length buf → n ≤ most - f
+    → Consumes now new (take n buf) → SoFar old new most first (put_mid f (length room - f) room buf) (f + n)
+goes_on old now new most first room buf f n s size fits few took =
+    let within : f ≤ length room = s.within in
+    let most_before : f ≤ most = s.few in
+    let long = put_size f room buf s.within size in
+    record {
+      same = long ∙ s.same;
+      within = omega (arith, long);
+      few = omega arith;
+      took = subst (Consumes old new) (sym (put_front f (length room - f) n room buf s.within fits))
+          (Consumes-trans old now new (take f room) (take n buf) s.took took);
+    }
+
+-- and they were too many
+pub too_many : (old now new : Option (List ℕ)) (most : ℕ) (first room buf : List ℕ) (f n : ℕ) →
+    SoFar old now most first room f → n ≤ length buf → most - f < n
+    → Consumes now new (take n buf) → IsTooMany old new most
+too_many old now new most first room buf f n s fits many took =
+    let front : length (take f room) ≡ f = length-take-le f room s.within in
+    let back : length (take n buf) ≡ n = length-take-le n buf fits in
+    let whole = length-append (take f room) (take n buf) in
+    let most_before : f ≤ most = s.few in
+    (take f room ++ take n buf, Consumes-trans old now new (take f room) (take n buf) s.took took, omega arith)
+
+-- the bytes of a place, moved to the front
+moved_front : (buffer : List ℕ) (from to : ℕ) → from ≤ to → to ≤ length buffer →
+    take (to - from) (copy_within buffer from to 0) ≡ slice_range buffer from to
+moved_front buffer from to le within =
+    let part = take (to - from) (drop from buffer) in
+    let after = length-drop from buffer in
+    let size : length part ≡ to - from = length-take-le (to - from) (drop from buffer) (omega arith) in
+    ap (λ (n : ℕ). take n (part ++ drop (0 + (to - from)) buffer)) (sym size) ∙ take-append_seam part (drop (0 + (to - from)) buffer)
+
+-- and what was read behind them
+pub refilled : (old new : Option (List ℕ)) (buffer moved room : List ℕ) (from to most n : ℕ) → from ≤ to → to ≤ length buffer →
+    length moved ≡ length buffer → moved ≡ copy_within buffer from to 0
+    → length room ≡ length moved - (to - from) → IsFilled old new most room n
+    → IsRefilled old new (slice_range buffer from to) most (put_mid (to - from) (length moved - (to - from)) moved room) (to - from + n)
+refilled old new buffer moved room from to most n le within same is size f =
+    let k = to - from in
+    let long = put_size k moved room (omega arith) size in
+    let fits : n ≤ length room = f.within in
+    let after = length-drop from buffer in
+    let kept : length (slice_range buffer from to) ≡ k = length-take-le k (drop from buffer) (omega arith) in
+    let bytes : length (take n room) ≡ n = length-take-le n room fits in
+    record {
+      within = omega (arith, long);
+      bytes = take n room;
+      front = put_front k (length moved - k) n moved room (omega arith) fits ∙
+          ap (λ (xs : List ℕ). xs ++ take n room) (ap (λ (xs : List ℕ). take k xs) is ∙ moved_front buffer from to le within);
+      count = omega (arith, kept, bytes);
+      few = let most_n : n ≤ most = f.few in omega arith;
+      took = f.took;
+      end = λ other. f.end (λ e. other (omega (arith, long, e)));
+    }
+
+-- ---- a text of which an input holds a part
+
+module _ (unread old new : Option (List ℕ)) (used : List ℕ) (input : Input) (t : HasTaken unread old used input) where
+  -- the part at the front of its buffer, and what was read behind it
+  pub refilled-taken : (before buffer : List ℕ) (n : ℕ) → before ≡ input.buffer.items → length buffer ≡ length before
+      → IsRefilled old new (slice_range before input.from input.to) (most_bytes - input.total) buffer n
+      → (input' : Input) → input'.buffer.items ≡ buffer → input'.from ≡ 0 → input'.to ≡ n →
+      input'.total ≡ input.total + (n - (input.to - input.from)) → HasTaken unread new used input'
+  refilled-taken before buffer n whole_is same given input' is from to total =
+      let r : IsRefilled old new (held input) (most_bytes - input.total) buffer n =
+      subst (λ xs. IsRefilled old new (slice_range xs input.from input.to) (most_bytes - input.total) buffer n) whole_is given in
+      let size = held_size input t.from t.to in
+      let front : held input' ≡ held input ++ r.bytes =
+      ap (λ (xs : List ℕ). slice_range xs input'.from input'.to) is ∙ ap (λ (k : ℕ). slice_range buffer k input'.to) from ∙
+      ap (λ (k : ℕ). take k buffer) (omega (arith, to)) ∙ r.front in
+      let whole : used ++ held input ++ r.bytes ≡ used ++ held input' = append_assoc used (held input) r.bytes ∙
+      ap (λ (xs : List ℕ). used ++ xs) (sym front) in
+      let long : length input'.buffer.items ≡ length buffer = ap length is in
+      let few : length r.bytes ≤ most_bytes - input.total = r.few in
+      let read = length-append (used ++ held input) r.bytes in
+      let all : length (used ++ held input ++ r.bytes) ≡ length (used ++ held input') = ap length whole in
+      record {
+        took = subst (Consumes unread new) whole (Consumes-trans unread old new (used ++ held input) r.bytes t.took r.took);
+        count = omega (arith, total, t.count, size, r.count, read, all);
+        few = omega (arith, total, t.few, size, r.count, few);
+        from = omega (arith, from);
+        to = omega (arith, to, r.within, long);
+        end = λ other. r.end (λ e. other (to ∙ e ∙ sym long));
+        room = omega (arith, t.room, long, same, ap length whole_is);
+      }
+
+  -- more than there may be
+  pub refilled-long : IsTooMany old new (most_bytes - input.total) → IfSome unread (λ text. most_bytes < length text)
+  refilled-long many =
+      let bytes = many.0 in
+      of_text (λ text. most_bytes < length text) unread new (used ++ held input ++ bytes)
+      (Consumes-trans unread old new (used ++ held input) bytes t.took many.1) (λ more.
+      let past : most_bytes - input.total < length bytes = many.2 in
+      let count : input.total ≡ length (used ++ held input) = t.count in
+      let read = length-append (used ++ held input) bytes in
+      let whole = length-append (used ++ held input ++ bytes) more in
+      omega arith)
+
+abbrev fault_of : {A E : Type 0} → E → Result A E → E
+fault_of e (Ok x) = e
+fault_of e (Err fault) = fault
+
+-- a fault that is handed on
+pub same-fault : {A B E : Type 0} (fault e : E) → IsErrOf {T = A} (Err fault) e → IsErrOf {T = B} (Err fault) e
+same-fault fault e is = ap (λ f. Err f) (ap (fault_of e) is)

@@ -1,0 +1,8 @@
+pub mod Names
+pub mod Lengths
+pub mod Between
+pub mod ToRead
+mod Reading
+mod Filling
+mod Listening
+mod Writing

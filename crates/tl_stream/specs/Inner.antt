@@ -1,0 +1,5 @@
+pub mod Reading
+pub mod Filling
+pub mod Lines
+pub mod Keeping
+pub mod Hearing

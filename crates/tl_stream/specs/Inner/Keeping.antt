@@ -1,0 +1,8 @@
+-- What a listener that keeps all beats of a trace is to them. Only private contracts cite these words.
+use Rattle.std.specs.Prelude.{◌≡◌, ℕ}
+use Rattle.tl_trace.specs.Scripts.{Gone, none_gone}
+use Rattle.tl_trace.specs.declared.script.Script.{Script}
+use Rattle.tl_stream.specs.declared.keep_all.KeepAll.{KeepAll}
+
+abbrev pub Keeps : {C M : ℕ} → (version : ℕ) → KeepAll → Gone C M → Script C M → Type 0
+Keeps version keeper gone s = gone ≡ none_gone

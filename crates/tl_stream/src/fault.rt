@@ -1,0 +1,130 @@
+//! The faults of a text, with their numbers and names.
+ghost use Rattle.std.specs.Prelude.{◌≡◌, Some};
+ghost use Rattle.tl_stream.specs.Faults.{text_fault_line, text_fault_number, text_fault_name, of_trace};
+ghost use Rattle.tl_stream.specs.Statuses.{place_text, fault_words};
+ghost use Rattle.tl_stream.specs.declared.fault.TextFault.TheVariants.{OutOfMemory};
+
+use std::alloc::{AllocError, AllocFailed};
+use std::fmt;
+use thiserror::Error;
+use tl_trace::{OutOfMemory as NoMemory, TraceFault, TraceKind};
+
+/// Why a text gets no answer.
+#[derive(Clone, Copy, Debug, PartialEq, Eq, Error)]
+pub enum TextFault {
+    /// 14 to 19, by the kind of the trace's fault: the text is no trace.
+    Trace(TraceFault),
+    /// 20 (this project's choice): the two sides stopped moving before all beats had arrived.
+    Stalled,
+    /// 21 (this project's choice): a read failed or was interrupted.
+    Read,
+    /// 22 (this project's choice): a write failed, was interrupted or took no byte.
+    Write,
+    /// 23 (this project's choice): the text has more than 67,108,864 bytes.
+    TooLong,
+    /// 13 (this project's choice): there was no memory left.
+    OutOfMemory,
+}
+
+impl TextFault {
+    /// The fault's number; a trace's fault has that one's.
+    pub fn number(&self) -> u8
+        ensures { result ≡ text_fault_number self.now }
+    {
+        match self {
+            TextFault::Trace(fault) => fault.number(),
+            TextFault::Stalled => 20,
+            TextFault::Read => 21,
+            TextFault::Write => 22,
+            TextFault::TooLong => 23,
+            TextFault::OutOfMemory => 13,
+        }
+    }
+
+    /// The fault's name; a trace's fault has that one's.
+    pub fn name(&self) -> &'static str
+        ensures { result.now ≡ text_fault_name self.now }
+    {
+        match self {
+            TextFault::Trace(fault) => fault.name(),
+            TextFault::Stalled => "Stalled",
+            TextFault::Read => "Read",
+            TextFault::Write => "Write",
+            TextFault::TooLong => "TooLong",
+            TextFault::OutOfMemory => "OutOfMemory",
+        }
+    }
+
+    /// The line of the text that a trace's fault names, counted from 1.
+    pub fn line(&self) -> Option<u64>
+        ensures { result ≡ text_fault_line self.now }
+    {
+        match self {
+            TextFault::Trace(fault) => Some(fault.line),
+            _ => None,
+        }
+    }
+}
+
+/// What stands before a fault's number: the line of the text that it names.
+#[derive(Drop)]
+struct Place {
+    line: Option<u64>,
+}
+
+impl fmt::Display for Place {
+    ghost output = { λ place. Some (place_text place.line) };
+
+    fn fmt<W: fmt::Write>(&self, f: &mut fmt::Formatter<W>) -> fmt::Result {
+        match self.line {
+            Some(line) => write!(f, "line {line}: "),
+            None => Ok(()),
+        }
+    }
+}
+
+// As in `line 3: 18 Range`, or `23 TooLong`.
+impl fmt::Display for TextFault {
+    ghost output = { λ fault. Some (fault_words fault) };
+
+    fn fmt<W: fmt::Write>(&self, f: &mut fmt::Formatter<W>) -> fmt::Result {
+        let place = Place { line: self.line() };
+        let (number, name) = (self.number(), self.name());
+        write!(f, "{place}{number} {name}")
+    }
+}
+
+impl From<AllocError> for TextFault {
+    ghost from_gives = { λ _ e. e ≡ OutOfMemory };
+
+    fn from(_e: AllocError) -> TextFault {
+        TextFault::OutOfMemory
+    }
+}
+
+impl<T: Drop> From<AllocFailed<T>> for TextFault {
+    ghost from_gives = { λ _ e. e ≡ OutOfMemory };
+
+    fn from(_e: AllocFailed<T>) -> TextFault {
+        TextFault::OutOfMemory
+    }
+}
+
+impl From<NoMemory> for TextFault {
+    ghost from_gives = { λ _ e. e ≡ OutOfMemory };
+
+    fn from(_e: NoMemory) -> TextFault {
+        TextFault::OutOfMemory
+    }
+}
+
+impl From<TraceFault> for TextFault {
+    ghost from_gives = { λ fault e. e ≡ of_trace fault };
+
+    fn from(fault: TraceFault) -> TextFault {
+        match fault.kind {
+            TraceKind::OutOfMemory => TextFault::OutOfMemory,
+            _ => TextFault::Trace(fault),
+        }
+    }
+}

@@ -1,0 +1,200 @@
+//! A text as it comes in, piece by piece.
+ghost use Rattle.std.specs.Prelude.{◌≡◌, ◌≢◌, ◌≤◌, ◌<◌, ◌+◌, ◌-◌, ◌++◌, ℕ, List, [], Option, drop, length, slice_range, IfSome, IfOk, OnOk, IfErr, IsErrOf, ◌==◌};
+ghost use Rattle.std.specs.Io.KnownBytes.{IsAtEnd};
+ghost use Rattle.tl_stream.specs.Inner.Filling.{IsFilled, IsRefilled, IsTooMany};
+ghost use Rattle.tl_stream.specs.Inputs.{HasTaken, IsFresh, held, unread_of};
+ghost use Rattle.tl_stream.specs.Inputs.{most_bytes};
+ghost use Rattle.tl_stream.specs.declared.fault.TextFault.TheVariants.{Read as ReadFault, TooLong, OutOfMemory};
+
+use crate::fault::TextFault;
+use std::alloc::{AllocError, Global};
+use std::io::Read;
+
+/// The most bytes that a text may have (this project's choice).
+pub const MAX_BYTES: usize = 67_108_864;
+
+/// The bytes of a piece of a text.
+const PIECE_BYTES: usize = 262_144;
+
+/// Room for so many bytes.
+pub fn read_buffer(alloc: Global, bytes: usize) -> Result<Vec<u8>, AllocError>
+    ensures { IfOk result (λ v. length v.items ≡ bytes) }
+{
+    vec![in alloc; 0u8; bytes]
+}
+
+/// Reads until this room is full, or to the end, and says how many bytes were read.
+///
+/// Refused with `Read` where a read fails or is interrupted, and with `TooLong` where more than
+/// `most` bytes were read.
+fn fill<R: Read>(reader: &mut R, room: &mut [u8], most: usize) -> Result<usize, TextFault>
+    ensures same { length room.new ≡ length room.old }
+    ensures ok { IfOk result
+        (IsFilled (R.remaining reader.old) (R.remaining reader.new) most room.new) }
+    ensures long { IsErrOf result TooLong →
+        IsTooMany (R.remaining reader.old) (R.remaining reader.new) most }
+    ensures kinds { IfErr result (λ e. (e ≢ ReadFault) → e ≡ TooLong) }
+{
+    let mut filled = 0;
+    while filled < room.len() {
+        match reader.read(&mut room[filled..]) {
+            Ok(0) => return Ok(filled),
+            Ok(n) => {
+                if n > most - filled {
+                    return Err(TextFault::TooLong);
+                }
+                filled += n;
+            }
+            Err(_) => return Err(TextFault::Read),
+        }
+    }
+    Ok(filled)
+}
+
+/// Moves the bytes of a place to the front and reads behind them, until the buffer is full or to the
+/// end: how many bytes stand at its front then. Refused as `fill` is.
+fn refill<R: Read>(
+    reader: &mut R,
+    buffer: &mut [u8],
+    from: usize,
+    to: usize,
+    most: usize,
+) -> Result<usize, TextFault>
+    requires { (from ≤ to) × (to ≤ length buffer.old) }
+    ensures same { length buffer.new ≡ length buffer.old }
+    ensures ok { IfOk result (IsRefilled (R.remaining reader.old) (R.remaining reader.new)
+        (slice_range buffer.old from to) most buffer.new) }
+    ensures long { IsErrOf result TooLong →
+        IsTooMany (R.remaining reader.old) (R.remaining reader.new) most }
+    ensures kinds { IfErr result (λ e. (e ≢ ReadFault) → e ≡ TooLong) }
+{
+    buffer.copy_within(from..to, 0);
+    let kept = to - from;
+    match fill(reader, &mut buffer[kept..], most) {
+        Ok(read) => Ok(kept + read),
+        Err(fault) => Err(fault),
+    }
+}
+
+/// A text that is read piece by piece: the bytes of it that were read and not used yet.
+///
+/// In contracts it has taken a part of what a reader had, some of which was used (`HasTaken`). Where
+/// it is not full, the reader has no more.
+#[derive(Drop)]
+pub struct Input {
+    /// Used bytes, then those that are not used, and then room for more: 262,144 bytes in all.
+    pub buffer: Vec<u8>,
+    /// Where the bytes that are not used begin.
+    pub from: usize,
+    /// Where they end.
+    pub to: usize,
+    /// How many bytes of the text were read so far, at most 67,108,864.
+    pub total: usize,
+}
+
+impl Input {
+    /// The first piece of a text.
+    ///
+    /// Refused with `Read` where a read fails or is interrupted, or with `OutOfMemory`.
+    pub fn open<R: Read>(alloc: Global, reader: &mut R) -> Result<Input, TextFault>
+        ensures ok { IfOk result (HasTaken (R.remaining reader.old) (R.remaining reader.new) []) }
+        ensures first { IfOk result (λ input. input.from ≡ 0) }
+        ensures long { IsErrOf result TooLong → IfSome (R.remaining reader.old) (λ text.
+            most_bytes < length text) }
+        ensures kinds { IfErr result (λ e. (e ≢ ReadFault) → (e ≢ TooLong) → e ≡ OutOfMemory) }
+    {
+        let mut buffer = read_buffer(alloc, PIECE_BYTES)?;
+        match refill(reader, buffer.as_mut_slice(), 0, 0, MAX_BYTES) {
+            Ok(to) => Ok(Input {
+                buffer,
+                from: 0,
+                to,
+                total: to,
+            }),
+            Err(fault) => Err(fault),
+        }
+    }
+
+    /// The bytes that were read and not used.
+    pub fn held(&self) -> &[u8]
+        requires from { self.now.from ≤ self.now.to }
+        requires to { self.now.to ≤ length self.now.buffer.items }
+        ensures { result.now ≡ held self.now }
+    {
+        &self.buffer[self.from..self.to]
+    }
+
+    /// Whether the buffer is full, so that there may be more to read.
+    pub fn is_full(&self) -> bool
+        ensures { result ≡ (self.now.to == length self.now.buffer.items) }
+    {
+        self.to == self.buffer.len()
+    }
+
+    /// Uses so many bytes of those that were not used.
+    pub fn advance(&mut self, used: usize)
+        requires { self.old.from + used ≤ self.old.to }
+        ensures from { self.new.from ≡ self.old.from + used }
+        ensures to { self.new.to ≡ self.old.to }
+        ensures buffer { self.new.buffer.items ≡ self.old.buffer.items }
+        ensures total { self.new.total ≡ self.old.total }
+    {
+        self.from += used;
+    }
+
+    /// Reads on behind the bytes that were not used, until the buffer is full or to the end.
+    ///
+    /// Refused with `Read` where a read fails or is interrupted, with `TooLong` above 67,108,864
+    /// bytes in all.
+    pub fn refill<R: Read>(&mut self, reader: &mut R) -> Result<(), TextFault>
+        requires from { self.old.from ≤ self.old.to }
+        requires to { self.old.to ≤ length self.old.buffer.items }
+        requires few { self.old.total ≤ most_bytes }
+        ensures ok { (unread : Option (List ℕ)) → (used : List ℕ) →
+            HasTaken unread (R.remaining reader.old) used self.old →
+            OnOk result (HasTaken unread (R.remaining reader.new) used self.new) }
+        ensures from { OnOk result (self.new.from ≡ 0) }
+        ensures more { OnOk result (self.old.total ≤ self.new.total) }
+        ensures grown { OnOk result (self.new.to ≡ length self.new.buffer.items →
+            self.old.to - self.old.from < length self.old.buffer.items →
+            self.old.total < self.new.total) }
+        ensures long { (unread : Option (List ℕ)) → (used : List ℕ) →
+            HasTaken unread (R.remaining reader.old) used self.old →
+            IsErrOf result TooLong → IfSome unread (λ text. most_bytes < length text) }
+        ensures kinds { IfErr result (λ e. (e ≢ ReadFault) → e ≡ TooLong) }
+    {
+        let most = MAX_BYTES - self.total;
+        let kept = self.to - self.from;
+        match refill(reader, self.buffer.as_mut_slice(), self.from, self.to, most) {
+            Ok(to) => {
+                self.total += to - kept;
+                self.from = 0;
+                self.to = to;
+                Ok(())
+            }
+            Err(fault) => Err(fault),
+        }
+    }
+
+    /// Reads to the end, and keeps nothing of it. Refused as `refill` is.
+    pub fn drain<R: Read>(&mut self, reader: &mut R) -> Result<(), TextFault>
+        requires taken { (unread : Option (List ℕ)) × (used : List ℕ) ×
+            HasTaken unread (R.remaining reader.old) used self.old }
+        ensures ok { (unread : Option (List ℕ)) → (used : List ℕ) →
+            HasTaken unread (R.remaining reader.old) used self.old →
+            OnOk result (IsAtEnd (R.remaining reader.new) × IfSome unread (λ text.
+            length text ≤ most_bytes)) }
+        ensures long { (unread : Option (List ℕ)) → (used : List ℕ) →
+            HasTaken unread (R.remaining reader.old) used self.old →
+            IsErrOf result TooLong → IfSome unread (λ text. most_bytes < length text) }
+        ensures kinds { IfErr result (λ e. (e ≢ ReadFault) → e ≡ TooLong) }
+    {
+        while self.is_full() {
+            self.from = self.to;
+            if let Err(fault) = self.refill(reader) {
+                return Err(fault);
+            }
+        }
+        Ok(())
+    }
+}

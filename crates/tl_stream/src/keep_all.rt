@@ -1,0 +1,24 @@
+//! A listener that keeps all beats.
+ghost use Rattle.tl_stream.specs.Inner.Keeping.{Keeps};
+
+use crate::listener::Listener;
+use std::alloc::AllocError;
+use tl_trace::{Counts, Script};
+
+/// Keeps all near beats of a text, for a run that needs the whole script.
+#[derive(Drop)]
+pub(crate) struct KeepAll;
+
+impl<const C: usize, const M: usize> Listener<C, M> for KeepAll {
+    ghost Listens = { Keeps };
+
+    fn hear(&mut self, _held: &Script<C, M>) -> Result<Counts, AllocError> {
+        Ok(Counts {
+            a: 0,
+            b: 0,
+            c: 0,
+            d: 0,
+            e: 0,
+        })
+    }
+}

@@ -1,0 +1,172 @@
+//! From a text as it comes in to its near beats.
+ghost use Rattle.std.specs.Prelude.{◌≡◌, ℕ, List, Option, IfOk, OnOk, IfErr};
+ghost use Rattle.tl_lanes.specs.Lanes.{IsWidth};
+ghost use Rattle.tl_trace.specs.Faults.{HasHeader};
+ghost use Rattle.tl_trace.specs.Scripts.{Gone, HasGrown, IsUnfinished};
+ghost use Rattle.tl_stream.specs.Inner.Lines.{IsBeginning, IsBetweenPast, IsReading};
+ghost use Rattle.tl_stream.specs.Listening.{IsNew, IsReadThrough};
+ghost use Rattle.tl_stream.specs.Inner.Hearing.{HasHeard};
+ghost use Rattle.tl_stream.specs.Inputs.{IsFresh, IsRefused, ReadsScript, held, unread_of};
+ghost use Rattle.tl_stream.specs.declared.fault.TextFault.TheVariants.{OutOfMemory as NoMemory};
+ghost use Rattle.tl_stream.specs.declared.input.Input.{Input as TheInput};
+
+use crate::fault::TextFault;
+use crate::input::Input;
+use crate::keep_all::KeepAll;
+use crate::listener::Listener;
+use std::alloc::Global;
+use std::io::Read;
+use tl_trace::{Script, ScriptReader, TraceFault, TraceKind, line_end};
+
+/// Reads the lines that the input holds whole.
+fn read_held<const C: usize, const M: usize>(
+    lines: &mut ScriptReader<C, M>,
+    input: &mut Input,
+) -> Result<(), TextFault>
+    requires { IsReading lines.old input.old }
+    ensures version { lines.new.version ≡ lines.old.version }
+    ensures rest { OnOk result (IsUnfinished (held input.new)) }
+    ensures total { input.new.total ≡ input.old.total }
+    ensures to { input.new.to ≡ input.old.to }
+    ensures buffer { input.new.buffer.items ≡ input.old.buffer.items }
+
+    ensures grown { OnOk result (HasGrown lines.old.script lines.new.script) }
+
+    // for every text of which that was read, and the beats that have gone
+    ensures ok { (unread left : Option (List ℕ)) (gone : Gone C M) →
+        IsBetweenPast gone unread left lines.old input.old →
+        OnOk result (IsBetweenPast gone unread left lines.new input.new) }
+    ensures err { (unread left : Option (List ℕ)) (gone : Gone C M) →
+        IsBetweenPast gone unread left lines.old input.old →
+        IfErr result (IsRefused unread left input.new) }
+{
+    match lines.read(input.held()) {
+        Ok(used) => {
+            input.advance(used);
+            Ok(())
+        }
+        Err(fault) => Err(TextFault::from(fault)),
+    }
+}
+
+/// Lets a listener go on with the beats that were read, and those go that it is done with.
+fn hear_held<L: Listener<C, M>, const C: usize, const M: usize>(
+    lines: &mut ScriptReader<C, M>,
+    listener: &mut L,
+) -> Result<(), TextFault>
+    requires { IsWidth C × IsWidth M × ((gone : Gone C M) ×
+        L.Listens lines.old.version listener.old gone lines.old.script) }
+    ensures version { lines.new.version ≡ lines.old.version }
+    ensures err { IfErr result (λ fault. fault ≡ NoMemory) }
+
+    // for every text of which that was read
+    ensures on { (unread left : Option (List ℕ)) (input : TheInput) (gone : Gone C M) →
+        IsBetweenPast gone unread left lines.old input →
+        L.Listens lines.old.version listener.old gone lines.old.script →
+        OnOk result (HasHeard (L.Listens lines.old.version) unread left lines.new input
+        listener.new) }
+{
+    match listener.hear(&lines.script) {
+        Ok(counts) => {
+            lines.let_go(&counts);
+            Ok(())
+        }
+        Err(_) => Err(TextFault::OutOfMemory),
+    }
+}
+
+/// Reads a text to its end, piece by piece, where the input holds its first piece and nothing of it
+/// was used, and no line was read yet. After each piece but the last one a new listener goes on with
+/// the beats that were read, and those go that it is done with.
+///
+/// Refused as `script_of_input` is, and with `OutOfMemory` where the listener is refused.
+#[inline(never)]
+fn read_pieces<R: Read, L: Listener<C, M>, const C: usize, const M: usize>(
+    reader: &mut R,
+    input: &mut Input,
+    lines: &mut ScriptReader<C, M>,
+    listener: &mut L,
+) -> Result<(), TextFault>
+    requires { IsBeginning (R.remaining reader.old) input.old lines.old ×
+        IsNew (L.Listens lines.old.version) listener.old }
+    ensures ok { OnOk result (IsReadThrough (L.Listens lines.old.version)
+        (unread_of input.old (R.remaining reader.old)) (R.remaining reader.new)
+        lines.old.version listener.new lines.new.script) }
+    ensures err { IfErr result (IsRefused
+        (unread_of input.old (R.remaining reader.old)) (R.remaining reader.new) input.new) }
+{
+    let held = input.held();
+    let end = line_end(held, 0);
+    if end >= held.len() {
+        return Err(TextFault::Trace(TraceFault {
+            line: 1,
+            kind: TraceKind::NoEnd,
+        }));
+    }
+    input.advance(end + 1);
+    'pieces: loop {
+        if let Err(fault) = read_held(lines, input) {
+            return Err(fault);
+        }
+        if !input.is_full() {
+            return match lines.end_fault(input.held()) {
+                Some(fault) => Err(TextFault::from(fault)),
+                None => Ok(()),
+            };
+        }
+        if let Err(fault) = hear_held(lines, listener) {
+            return Err(fault);
+        }
+        if let Err(fault) = input.refill(reader) {
+            return Err(fault);
+        }
+    }
+}
+
+/// Reads a text whose header names this version and these widths to its end, as `read_pieces` does: the
+/// beats of its script that are still held then.
+pub fn read_through<R: Read, L: Listener<C, M>, const C: usize, const M: usize>(
+    alloc: Global,
+    reader: &mut R,
+    input: &mut Input,
+    version: u8,
+    listener: &mut L,
+) -> Result<Script<C, M>, TextFault>
+    requires { IsFresh (R.remaining reader.old) input.old ×
+        HasHeader (held input.old) version C M × IsNew (L.Listens version) listener.old }
+    ensures ok { IfOk result (IsReadThrough (L.Listens version)
+        (unread_of input.old (R.remaining reader.old)) (R.remaining reader.new)
+        version listener.new) }
+    ensures err { IfErr result (IsRefused
+        (unread_of input.old (R.remaining reader.old)) (R.remaining reader.new) input.new) }
+{
+    let mut lines = ScriptReader::<C, M>::new(alloc, version);
+    match read_pieces(reader, input, &mut lines, listener) {
+        Ok(()) => Ok(lines.script),
+        Err(fault) => Err(fault),
+    }
+}
+
+/// The script of a text whose header names this version and these widths, where the input holds its
+/// first piece and nothing of it was used: it is read to its end, piece by piece, and no more than a
+/// piece of it stands in memory.
+///
+/// Refused with `Trace`, the text's first fault and its line, where the rest of the text is not read
+/// yet; with `Read` where a read fails or is interrupted, with `TooLong` above 67,108,864 bytes, or
+/// with `OutOfMemory`.
+#[inline(never)]
+pub fn script_of_input<R: Read, const C: usize, const M: usize>(
+    alloc: Global,
+    reader: &mut R,
+    input: &mut Input,
+    version: u8,
+) -> Result<Script<C, M>, TextFault>
+    requires client { IsWidth C }
+    requires manager { IsWidth M }
+    requires fresh { IsFresh (R.remaining reader.old) input.old }
+    requires header { HasHeader (held input.old) version C M }
+    ensures { ReadsScript (unread_of input.old (R.remaining reader.old)) (R.remaining reader.new)
+        version input.new result }
+{
+    read_through(alloc, reader, input, version, &mut KeepAll)
+}
