@@ -9,10 +9,10 @@ use arrayvec::ArrayVec;
 use std::fs::Files;
 use std::io::Read;
 use std::rt::Clock;
-use tl_stream::{Input, MAX_BYTES, script_of_input};
 use tl_convert::Converter;
 use tl_lanes::{WIDEST, is_width};
 use tl_msg::{Beat, ChA, ChE};
+use tl_stream::{Input, MAX_BYTES, script_of_input};
 use tl_trace::{HeadText, Script, header_of_text, write_far};
 
 /// How many near beats are converted before the lines of their far beats are written.

@@ -1,6 +1,8 @@
 -- What a tracker holds through a burst is what the messages of its head have.
-use Rattle.tl_burst.proofs.Names.{◌≡◌, ◌+◌, ℕ, false, if◌then◌else◌, Option, None, Some, sym, ap, subst, ◌∙◌, arith, Rules, beats_of, IsPlace}
-use Rattle.tl_burst.proofs.Names.{burst_with, count_in, IsHeld, IsHeldIn, Place}
+use Rattle.tl_burst.proofs.Names.{◌≡◌, ◌+◌, ◌==◌, ℕ, Bool, true, false, if◌then◌else◌, bit_and, Option, None, Some, sym, ap, subst, ◌∙◌, arith}
+use Rattle.tl_burst.proofs.Names.{Rules, beats_of, IsPlace, BeatOf, burst_with, count_in, IsHeld, IsHeldIn, Place}
+use Rattle.tl_msg.specs.Faults.{mask_fits}
+use Rattle.tl_burst.specs.Inner.Holding.{fits_held}
 use Rattle.tl_burst.specs.declared.held.Held.{Held}
 
 module _ {H : Type 0} (r : Rules H) (w : ℕ) where
@@ -10,6 +12,13 @@ module _ {H : Type 0} (r : Rules H) (w : ℕ) where
   held-beats burst head held is (h, count) some same =
       let it : IsHeld r w h held = subst (λ b. IsHeldIn r w b held) some is in
       it.beats ∙ ap (λ x. beats_of r x w) (sym (same h count some))
+
+  -- the mask test by what is held is that of the faults
+  pub test-held : (b : BeatOf H w) (held : Held) (masked fits : Bool) → masked ≡ r.masked → fits ≡ fits_held masked held b.mask →
+      IsHeld r w b.head held → fits ≡ mask_fits r b
+  test-held b held masked fits m e is = e ∙ ap (λ x. fits_held x held b.mask) m ∙
+      ap (λ x. if r.masked then (if x then bit_and b.mask held.lanes == b.mask else b.mask == held.lanes) else true) is.partial ∙
+      ap (λ x. if r.masked then (if r.partial b.head then bit_and b.mask x == b.mask else b.mask == x) else true) is.lanes
 
   module _ {K : Type 0} (burst : Option (H × ℕ)) (place : Place K H) (is : IsPlace r w burst place) (more : place.last ≡ false) where
     after : burst_with place ≡ Some (place.head, place.index + 1)

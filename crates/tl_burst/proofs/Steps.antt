@@ -1,7 +1,7 @@
 -- One beat more: the burst that is open after a beat at its place.
-use Rattle.tl_burst.proofs.Names.{◌≡◌, ◌≢◌, ◌≤◌, ◌<◌, ◌+◌, ◌==◌, eq-eqb, ℕ, Bool, true, false, cond, if◌then◌else◌, Option, None, Some, List, [], ◌∷◌}
-use Rattle.tl_burst.proofs.Names.{◌++◌, length, refl, sym, ap, ◌∙◌, arith, length_push, IsWidth, Rules, BeatOf, beats_of, ends, rest_of, burst_of}
-use Rattle.tl_burst.proofs.Names.{burst_after, count_in, burst_with, IsOpen, IsPlace, Place}
+use Rattle.tl_burst.proofs.Names.{◌≡◌, ◌≢◌, ◌≤◌, ◌<◌, ◌+◌, ◌==◌, ◌↔◌, eqb-true, eq-eqb, ℕ, Bool, true, false, cond, if◌then◌else◌, Option, None, Some}
+use Rattle.tl_burst.proofs.Names.{List, [], ◌∷◌, ◌++◌, length, refl, sym, ap, ◌∙◌, arith, length_push, IsWidth, Rules, BeatOf, beats_of, ends}
+use Rattle.tl_burst.proofs.Names.{rest_of, burst_of, burst_after, count_in, burst_with, IsOpen, IsPlace, Place}
 use Rattle.tl_burst.proofs.Burst.{rest-snoc, beats-bounds}
 
 not-both : {b : Bool} → b ≡ false → b ≡ true → ⊥
@@ -43,6 +43,13 @@ module _ {H : Type 0} (r : Rules H) (w : ℕ) where
     index-small ww small =
         let b : (0 < beats_of r place.head w) × (beats_of r place.head w ≤ 4096) = beats-bounds r place.head w ww small in
         omega (arith, is.within)
+
+    -- what its last field tells of a beat with its head
+    pub last-tells : (head : H) → place.head ≡ head → (place.last ≡ true) ↔ (place.index + 1 ≡ beats_of r head w)
+    last-tells head same = (
+      λ last. eqb-true (place.index + 1) (beats_of r place.head w) (sym is.last ∙ last) ∙ ap (λ h. beats_of r h w) same,
+      λ all. is.last ∙ eq-eqb (place.index + 1) (beats_of r place.head w) (all ∙ ap (λ h. beats_of r h w) (sym same)),
+    )
 
   -- and the burst after it is open
   with-last : (head : H) (index : ℕ) (last : Bool) → r.fault head ≡ None → index < beats_of r head w → last ≡ (index + 1 == beats_of r head w) →

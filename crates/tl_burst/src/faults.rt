@@ -1,9 +1,10 @@
 ghost use Rattle.std.specs.Prelude.{◌≡◌, ◌≤◌, None};
 ghost use Rattle.tl_lanes.specs.Lanes.{IsWidth};
 ghost use Rattle.tl_msg.specs.Faults as faults;
-ghost use Rattle.tl_burst.specs.Inner.Holding.{IsHeld};
+ghost use Rattle.tl_burst.specs.Inner.Holding.{IsHeld, fits_held};
 
 use crate::held::{Held, held_by};
+use tl_lanes::Mask;
 use tl_msg::{Beat, BeatFault, Channel};
 
 /// The first fault of a beat that stands outside a burst: of its head, then `Mask`, then `Corrupt`.
@@ -14,10 +15,13 @@ pub fn opening_fault<K: Channel, const W: usize>(beat: &Beat<K, W>) -> Option<Be
     if let Some(fault) = K::fault(&beat.head) {
         return Some(fault);
     }
-    if !mask_fits::<K, W>(beat, &held_by::<K, W>(&beat.head)) {
+    let fits = mask_fits(K::MASKED, beat.mask, &held_by::<K, W>(&beat.head));
+    if !fits {
         return Some(BeatFault::Mask);
     }
-    if !is_clean::<K, W>(beat) {
+    // clear on a message without data, and not read on E
+    let clean = (K::LETTER == b'E') | K::carries_data(&beat.head) | !beat.corrupt;
+    if !clean {
         return Some(BeatFault::Corrupt);
     }
     None
@@ -32,10 +36,11 @@ pub fn continuing_fault<K: Channel, const W: usize>(
     requires { IsHeld K.rules W head.now held.now }
     ensures { result ≡ faults.continuing_fault K.rules head.now beat.now }
 {
-    if beat.head != *head {
+    let same = beat.head == *head;
+    if !same {
         return Some(BeatFault::HeadChanged);
     }
-    if !mask_fits::<K, W>(beat, held) {
+    if !mask_fits(K::MASKED, beat.mask, held) {
         return Some(BeatFault::Mask);
     }
     None
@@ -43,23 +48,15 @@ pub fn continuing_fault<K: Channel, const W: usize>(
 
 /// Whether the mask is one that the message may have: any of the active lanes on PutPartialData, else
 /// exactly the active lanes. On C, D and E it is not read.
-fn mask_fits<K: Channel, const W: usize>(beat: &Beat<K, W>, held: &Held) -> bool
-    requires { IsHeld K.rules W beat.now.head held.now }
-    ensures { result ≡ faults.mask_fits K.rules beat.now }
+fn mask_fits(masked: bool, mask: Mask, held: &Held) -> bool
+    ensures { result ≡ fits_held masked held.now mask }
 {
-    if !K::MASKED {
+    if !masked {
         return true;
     }
     if held.partial {
-        beat.mask & held.lanes == beat.mask
+        mask & held.lanes == mask
     } else {
-        beat.mask == held.lanes
+        mask == held.lanes
     }
-}
-
-/// Whether corrupt is clear on a message without data. On E it is not read.
-fn is_clean<K: Channel, const W: usize>(beat: &Beat<K, W>) -> bool
-    ensures { result ≡ faults.is_clean K.rules beat.now }
-{
-    K::LETTER == b'E' || K::carries_data(&beat.head) || !beat.corrupt
 }

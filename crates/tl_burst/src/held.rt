@@ -7,7 +7,7 @@ use tl_lanes::{Mask, active, beats};
 use tl_msg::Channel;
 
 /// What all beats of a message have in common, beside its head.
-#[derive(Clone, Copy, Default, Drop)]
+#[derive(Clone, Copy, Drop)]
 pub struct Held {
     /// The active lanes of its beats (TileLink: masks).
     pub lanes: Mask,

@@ -3,7 +3,7 @@ ghost use Rattle.tl_lanes.specs.Lanes.{IsWidth};
 ghost use Rattle.tl_msg.specs.declared.beat.BeatOf.{BeatOf};
 ghost use Rattle.tl_burst.specs.Messages.{beats_of};
 ghost use Rattle.tl_burst.specs.Handing.{IsHanded, IsAdmitted, rest_of, burst_after, fault_in, fault_after};
-ghost use Rattle.tl_burst.specs.Tracking.{IsOpen, IsPlace, burst_with, count_in};
+ghost use Rattle.tl_burst.specs.Tracking.{IsOpen, IsPlace, burst_with};
 
 use crate::faults::{continuing_fault, opening_fault};
 use crate::held::{Held, held_by};
@@ -44,7 +44,11 @@ impl<K: Channel, const W: usize> Tracker<K, W> {
     {
         Tracker {
             burst: None,
-            held: Held::default(),
+            held: Held {
+                lanes: 0,
+                beats: 0,
+                partial: false,
+            },
         }
     }
 
@@ -142,36 +146,20 @@ impl<K: Channel, const W: usize> Tracker<K, W> {
         ensures head { result.head ≡ head }
         ensures place { IsPlace K.rules W self.now result }
     {
-        let index = self.count();
-        let beats = self.beats(&head);
-        Place {
-            head,
-            index,
-            last: index as usize + 1 == beats,
-        }
-    }
-
-    /// How many beats the message of this head has, which is the open burst's where one is open.
-    fn beats(&self, head: &K::Head) -> usize
-        requires width { IsWidth W }
-        requires lawful { K.rules.fault head.now ≡ None }
-        requires held { (h : K.Head) (count : ℕ) → self.now ≡ Some (h, count) → head.now ≡ h }
-        ensures { result ≡ beats_of K.rules head.now W }
-    {
         match self.burst {
-            Some(_) => self.held.beats,
-            None => held_by::<K, W>(head).beats,
-        }
-    }
-
-    /// How many beats of the open burst were accepted.
-    fn count(&self) -> u32
-        ensures count { result ≡ count_in self.now }
-        ensures begun { IsOpen K.rules W self.now }
-    {
-        match self.burst {
-            Some((_, count)) => count,
-            None => 0,
+            Some((_, count)) => Place {
+                head,
+                index: count,
+                last: count as usize + 1 == self.held.beats,
+            },
+            None => {
+                let beats = held_by::<K, W>(&head).beats;
+                Place {
+                    head,
+                    index: 0,
+                    last: 1 == beats,
+                }
+            }
         }
     }
 }

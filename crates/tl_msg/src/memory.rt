@@ -2,6 +2,7 @@
 ghost use Rattle.std.specs.Prelude.{◌≡◌, Some, codes};
 ghost use Rattle.tl_msg.specs.Names.{numbered};
 
+use crate::fault::write_numbered;
 use std::alloc::{AllocError, AllocFailed};
 use std::fmt;
 use thiserror::Error;
@@ -26,12 +27,11 @@ impl OutOfMemory {
     }
 }
 
-// The number and the name, as `13 OutOfMemory`.
 impl fmt::Display for OutOfMemory {
     ghost output = { λ fault. Some (numbered 13 (codes "OutOfMemory")) };
 
     fn fmt<W: fmt::Write>(&self, f: &mut fmt::Formatter<W>) -> fmt::Result {
-        write!(f, "{} {}", self.number(), self.name())
+        write_numbered(f, self.number(), self.name())
     }
 }
 

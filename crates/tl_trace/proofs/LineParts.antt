@@ -117,6 +117,10 @@ module _ {H : Type 0} (f : Form H) where
   pub no_data : (w : ℕ) (text : List ℕ) (at d c : ℕ) → f.rules.corrupts ≡ false → IsPart w text at (data_fields f) (data_values f d c) 0
   no_data w text at d c none = rw none (no_part w text at)
 
+  pub data_long : (w : ℕ) (t : Bool) → f.rules.corrupts ≡ t → length_of w (data_fields f) ≡ cond t (1 + 2 * w + 2) 0
+  data_long w true has = ap (λ t. length_of w (cond t (data_lanes ∷ corrupt ∷ []) [])) has ∙ omega arith
+  data_long w false has = ap (λ t. length_of w (cond t (data_lanes ∷ corrupt ∷ []) [])) has
+
   pub data_room : (w at n : ℕ) → f.rules.corrupts ≡ true → at + length_of w (data_fields f) ≤ n → at + 1 + 2 * w + 1 + 1 ≤ n
   data_room w at n has room = let there = rw has at room in omega arith
 

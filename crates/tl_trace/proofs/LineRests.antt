@@ -78,10 +78,6 @@ module _ {H : Type 0} (f : Form H) {n : ℕ} (w : ℕ) where
       → take start new ≡ old
   appended_front old out new beats start same before = ap (take start) same ∙ before.front
 
-pub on_err_at : {T E P : Type 0} (r : Result T E) → P → OnErr r P
-on_err_at (Ok x) p = tt
-on_err_at (Err e) p = p
-
 -- what a call promises where it answers no fault
 pub of_ok : {E P : Type 0} (r : Result (Unit {0}) E) → is_err r ≡ false → OnOk r P → P
 of_ok (Ok x) fine p = p

@@ -55,10 +55,6 @@ script_more {C} {M} xs lines i d s s' lt same far put =
     let P : List Line → Type 0 = λ ys. IsScriptOf ys s' in
     subst P (sym here) (pushed (take i lines) (get_or xs i d) s s' far put)
 
-pub on_was : {A E : Type 0} {P : Type 0} (r : Result A E) (v : A) → OnOk r P → r ≡ Ok v → P
-on_was (Ok w) v p e = p
-on_was (Err x) v p e = absurd cc
-
 pub on_ok : {A E : Type 0} {P : Type 0} (r : Result A E) → OnOk r P → is_err r ≡ false → P
 on_ok (Ok v) p e = p
 on_ok (Err x) p e = absurd cc

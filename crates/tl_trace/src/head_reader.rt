@@ -8,8 +8,8 @@ ghost use Rattle.tl_trace.specs.declared.places.TheConstants.{LONGEST_HEAD};
 use crate::digits::field;
 use crate::head_text::HeadText;
 use crate::places::{
-    ADDRESS_DIGITS, FIRST_AT, PARAM_AT, SIZE_AT, SOURCE_AT, ack_end, addressed_end, common_end,
-    denied_at, id_digits, response_end,
+    ADDRESS_DIGITS, FIRST_AT, PARAM_AT, SIZE_AT, SOURCE_AT, addressed_end, common_end, denied_at,
+    id_digits,
 };
 use tl_msg::{ChA, ChB, ChC, ChD, ChE, HeadA, HeadB, HeadC, HeadD, HeadE, SinkId, SourceId};
 
@@ -127,7 +127,10 @@ impl ReadHead for ChA {
 
     #[inline(always)]
     fn head_of(fields: &HeadFields) -> Option<HeadA> {
-        let common = common_of(fields, 8)?;
+        // (a `?` is two ways out more to check, here and in the three below)
+        let Some(common) = common_of(fields, 8) else {
+            return None;
+        };
         Some(HeadA {
             opcode: common.opcode,
             param: common.param,
@@ -153,7 +156,9 @@ impl ReadHead for ChB {
 
     #[inline(always)]
     fn head_of(fields: &HeadFields) -> Option<HeadB> {
-        let common = common_of(fields, 8)?;
+        let Some(common) = common_of(fields, 8) else {
+            return None;
+        };
         Some(HeadB {
             opcode: common.opcode,
             param: common.param,
@@ -179,7 +184,9 @@ impl ReadHead for ChC {
 
     #[inline(always)]
     fn head_of(fields: &HeadFields) -> Option<HeadC> {
-        let common = common_of(fields, 8)?;
+        let Some(common) = common_of(fields, 8) else {
+            return None;
+        };
         Some(HeadC {
             opcode: common.opcode,
             param: common.param,
@@ -195,7 +202,7 @@ impl ReadHead for ChC {
 impl ReadHead for ChD {
     #[inline]
     fn head_end(version: u8) -> usize {
-        response_end(version)
+        denied_at(version) + 2
     }
 
     #[inline(always)]
@@ -213,7 +220,9 @@ impl ReadHead for ChD {
 
     #[inline(always)]
     fn head_of(fields: &HeadFields) -> Option<HeadD> {
-        let common = common_of(fields, 4)?;
+        let Some(common) = common_of(fields, 4) else {
+            return None;
+        };
         if fields.denied > 1 {
             return None;
         }
@@ -233,7 +242,7 @@ impl ReadHead for ChD {
 impl ReadHead for ChE {
     #[inline]
     fn head_end(version: u8) -> usize {
-        ack_end(version)
+        FIRST_AT + 1 + id_digits(version)
     }
 
     #[inline(always)]

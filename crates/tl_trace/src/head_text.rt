@@ -7,7 +7,7 @@ ghost use Rattle.tl_msg.specs.declared.beat.BeatOf.{BeatOf};
 ghost use Rattle.tl_trace.specs.declared.places.TheConstants.{LONGEST_COMMON, LONGEST_HEAD};
 
 use crate::places::{ADDRESS_DIGITS, LONGEST_LINE, id_digits};
-use crate::text::{Room, fill, fill_byte, fill_field, low_digit, put};
+use crate::text::{Room, fill, fill_field, low_digit, put};
 use arrayvec::ArrayVec;
 use tl_msg::{ChA, ChB, ChC, ChD, ChE, Channel, HeadA, HeadB, HeadC, HeadD, HeadE, SourceId};
 
@@ -175,7 +175,7 @@ impl HeadText for ChE {
 
     #[inline(always)]
     fn fill_head(line: &mut Room, head: &HeadE, version: u8) -> usize {
-        let sink = fill_byte(line, 0, b'E');
+        let sink = fill(line, 0, b"E");
         fill_field(line, sink, head.sink as u64, id_digits(version))
     }
 

@@ -8,7 +8,7 @@ use crate::same_text::are_same;
 use tl_msg::{HeadA, HeadB, HeadC, HeadD, HeadE};
 
 /// A head that was read, and where its line begins.
-#[derive(Clone, Copy)]
+#[derive(Drop)]
 pub struct KnownHead<H> {
     pub at: usize,
     pub head: H,
@@ -71,7 +71,9 @@ pub fn head_at<K: ReadHead, const VERSION: u8>(
             return Some(before.head);
         }
     }
-    let head = new_head::<K, VERSION>(here)?;
+    let Some(head) = new_head::<K, VERSION>(here) else {
+        return None;
+    };
     *last = Some(KnownHead { at, head });
     Some(head)
 }

@@ -3,8 +3,8 @@
 //! the trace, whose ids have as many digits as it says.
 ghost use Rattle.std.specs.Prelude.{◌≡◌, ◌≤◌, ◌<◌, ◌+◌, ◌/◌};
 ghost use Rattle.tl_lanes.specs.declared.limits.TheConstants.{WIDEST};
-ghost use Rattle.tl_trace.specs.Fields.{id_digits, common, addressed, length_of, mask_fields, data_fields, line_length};
-ghost use Rattle.tl_trace.specs.declared.places.TheConstants.{MOST_ID_DIGITS, LONGEST_COMMON, LONGEST_HEAD, LONGEST_MASK, LONGEST_DATA, LONGEST_LINE};
+ghost use Rattle.tl_trace.specs.Fields.{id_digits, common, addressed, length_of, mask_fields, line_length};
+ghost use Rattle.tl_trace.specs.declared.places.TheConstants.{MOST_ID_DIGITS, LONGEST_COMMON, LONGEST_HEAD, LONGEST_MASK, LONGEST_LINE};
 
 use crate::head_reader::ReadHead;
 use crate::head_text::HeadText;
@@ -80,24 +80,6 @@ pub fn denied_at(version: u8) -> usize
     common_end(version) + 1 + id_digits(version)
 }
 
-/// The end of a head of D, behind the one digit of denied.
-#[inline]
-pub fn response_end(version: u8) -> usize
-    ensures end { result ≡ 1 + length_of 0 (common version) + 1 + id_digits version + 2 }
-    ensures few { result ≤ LONGEST_COMMON + 1 + MOST_ID_DIGITS + 2 }
-{
-    denied_at(version) + 2
-}
-
-/// The end of a head of E.
-#[inline]
-pub fn ack_end(version: u8) -> usize
-    ensures end { result ≡ FIRST_AT + 1 + id_digits version }
-    ensures few { result ≤ FIRST_AT + 1 + MOST_ID_DIGITS }
-{
-    FIRST_AT + 1 + id_digits(version)
-}
-
 /// The digits of the mask of `w` lanes.
 pub fn mask_digits(w: usize) -> usize
     requires { w ≤ WIDEST }
@@ -116,16 +98,6 @@ pub fn mask_len<K: HeadText, const VERSION: u8>(w: usize) -> usize
     if K::MASKED { 1 + mask_digits(w) } else { 0 }
 }
 
-/// The bytes of data and corrupt in a line, each with its space.
-#[inline(always)]
-fn data_len<K: HeadText, const VERSION: u8>(w: usize) -> usize
-    requires { w ≤ WIDEST }
-    ensures long { result ≡ length_of w (data_fields (K.form VERSION)) }
-    ensures few { result ≤ LONGEST_DATA }
-{
-    if K::HAS_DATA { 1 + 2 * w + 2 } else { 0 }
-}
-
 /// The length of a line on `w` lanes, without its LF.
 #[inline(always)]
 pub fn line_len<K: ReadHead, const VERSION: u8>(w: usize) -> usize
@@ -133,5 +105,9 @@ pub fn line_len<K: ReadHead, const VERSION: u8>(w: usize) -> usize
     ensures long { result ≡ line_length (K.form VERSION) w }
     ensures few { (1 ≤ result) × (result < LONGEST_LINE) }
 {
-    K::head_end(VERSION) + mask_len::<K, VERSION>(w) + data_len::<K, VERSION>(w)
+    let data_at = K::head_end(VERSION) + mask_len::<K, VERSION>(w);
+    if K::HAS_DATA {
+        return data_at + 1 + 2 * w + 2;
+    }
+    data_at
 }

@@ -82,30 +82,30 @@ fn push_lines<K: ReadHead, const W: usize, const VERSION: u8>(
     ensures known { IfSome last.new (IsKnown (K.form VERSION) VERSION text.now) }
 {
     let len = K::head_end(VERSION);
+    let mut lines = PushedLines {
+        count: 0,
+        place: at,
+    };
     if *no_room || len > text.len() - at {
-        return PushedLines {
-            count: 0,
-            place: at,
-        };
+        return lines;
     }
     let Some(head) = head_at::<K, VERSION>(text, at, last) else {
-        return PushedLines {
-            count: 0,
-            place: at,
-        };
+        return lines;
     };
-    let mut count = 0;
-    let mut place = at;
-    'lines: loop {
-        let Some(end) = push_line::<K, W, VERSION>(list, head, text, place, no_room) else {
-            return PushedLines { count, place };
-        };
-        count += 1;
-        place = end + 1;
-        if !goes_on_as(text, place, at, len) {
-            return PushedLines { count, place };
+    'lines: while let Some(end) = push_line::<K, W, VERSION>(
+        list,
+        head,
+        text,
+        lines.place,
+        no_room,
+    ) {
+        lines.count += 1;
+        lines.place = end + 1;
+        if !goes_on_as(text, lines.place, at, len) {
+            break;
         }
     }
+    lines
 }
 
 /// The same for lines of any channel: none, where the letter of the first one is none of the five, too.

@@ -151,17 +151,6 @@ pub fn fill_lanes(line: &mut [u8], at: usize, lanes: &[u8], w: usize) -> usize
     end
 }
 
-/// Writes a byte, and gives the place behind it.
-#[inline(always)]
-pub fn fill_byte(line: &mut [u8], at: usize, byte: u8) -> usize
-    requires { at + 1 ≤ length line.old }
-    ensures items { take result line.new ≡ take at line.old ++ byte ∷ [] }
-    ensures end { result ≡ at + 1 }
-{
-    line[at] = byte;
-    at + 1
-}
-
 /// Appends bytes, for which there is room.
 #[inline(always)]
 pub fn put<const N: usize>(text: &mut ArrayVec<u8, N>, bytes: &[u8])

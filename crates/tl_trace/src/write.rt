@@ -14,7 +14,7 @@ use crate::header::header_text;
 use crate::line::Line;
 use crate::places::{LONGEST_LINE, mask_digits};
 use crate::text::{
-    Room, Text, fill_byte, fill_field, fill_lanes, fill_mask_field, put, put_byte, put_decimal,
+    Room, Text, fill, fill_field, fill_lanes, fill_mask_field, put, put_byte, put_decimal,
 };
 use crate::trace::Trace;
 use arrayvec::ArrayVec;
@@ -77,7 +77,7 @@ fn fill_rest<K: HeadText, const N: usize>(
 {
     let mask = fill_mask::<K>(line, at, beat.mask, w);
     let data = fill_data::<K>(line, mask, &beat.lanes, beat.corrupt, w);
-    fill_byte(line, data, b'\n')
+    fill(line, data, b"\n")
 }
 
 /// Writes the line of a beat on the first `w` of its lanes, with its LF, and gives its length.
@@ -151,7 +151,9 @@ fn append_line<K: HeadText, const W: usize>(
     ensures err { OnErr result (out.new.items ≡ out.old.items) }
 {
     let start = out.len();
-    out.extend_from_slice(other)?;
+    if out.extend_from_slice(other).is_err() {
+        return Err(OutOfMemory);
+    }
     fill_rest::<K, W>(&mut out.as_mut_slice()[start..], at, beat, W);
     Ok(())
 }
@@ -176,7 +178,9 @@ fn write_lines<K: HeadText, const W: usize>(
     let mut head = first.head;
     let at = K::fill_head(&mut line, &head, version);
     let len = at + rest_len::<K>(W);
-    out.reserve(beats.len().saturating_mul(len))?;
+    if out.reserve(beats.len().saturating_mul(len)).is_err() {
+        return Err(OutOfMemory);
+    }
     for beat in beats {
         if beat.head != head {
             head = beat.head;
@@ -262,8 +266,10 @@ pub fn write_report(out: &mut Vec<u8>, letter: u8, verdict: &Verdict) -> Result<
     put_byte(&mut text, b' ');
     put_verdict(&mut text, verdict);
     put_byte(&mut text, b'\n');
-    out.extend_from_slice(text.as_slice())?;
-    Ok(())
+    match out.extend_from_slice(text.as_slice()) {
+        Ok(()) => Ok(()),
+        Err(_) => Err(OutOfMemory),
+    }
 }
 
 /// Writes the line of a beat of a trace of this version and these widths, with its LF, and gives its length.
@@ -307,6 +313,8 @@ pub fn write_trace(alloc: Global, trace: &Trace) -> Result<Vec<u8>, OutOfMemory>
         trace_text trace.now.version trace.now.client trace.now.manager trace.now.lines.items) }
 {
     let mut out = Vec::new(alloc);
-    append_trace(&mut out, trace)?;
-    Ok(out)
+    match append_trace(&mut out, trace) {
+        Ok(()) => Ok(out),
+        Err(fault) => Err(fault),
+    }
 }

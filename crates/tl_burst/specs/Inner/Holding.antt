@@ -1,9 +1,13 @@
 -- What a tracker holds through a burst beside its head. Only contracts of private functions and the tracker's invariant cite these words.
-use Rattle.std.specs.Prelude.{◌≡◌, ℕ, Option, None, Some}
+use Rattle.std.specs.Prelude.{◌≡◌, ◌==◌, ℕ, Bool, true, Option, None, Some, if◌then◌else◌, bit_and}
 use Rattle.tl_msg.specs.Rules.{Rules}
 use Rattle.tl_msg.specs.Faults.{full_mask}
 use Rattle.tl_burst.specs.Messages.{beats_of}
 use Rattle.tl_burst.specs.declared.held.Held.{Held}
+
+-- the mask test, by what is held
+abbrev pub fits_held : (masked : Bool) → (held : Held) → (mask : ℕ) → Bool
+fits_held masked held mask = if masked then (if held.partial then bit_and mask held.lanes == mask else mask == held.lanes) else true
 
 module _ {H : Type 0} (r : Rules H) (w : ℕ) where
   -- what a message with this head has

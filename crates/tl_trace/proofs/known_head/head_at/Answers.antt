@@ -37,12 +37,12 @@ new_head-requires g c =
 
 pub returns-clause-head : goal.returns-clause-head
 returns-clause-head g c =
-    read_head (g.K.HeadText.form g.row.VERSION) g.row.VERSION c.args.text.now c.args.at c.head_end-len.result _ c.in_ok-head.head
-    c.head_end-len.ensures.end c.in_ok-head.was c.new_head.ensures
+    read_head (g.K.HeadText.form g.row.VERSION) g.row.VERSION c.args.text.now c.args.at c.head_end-len.result _ c.in-Some-new_head.head
+    c.head_end-len.ensures.end c.in-Some-new_head.is c.new_head.ensures
 
 pub returns-clause-known : goal.returns-clause-known
 returns-clause-known g c = record {
   within = c.requires.room;
-  has = read_head (g.K.HeadText.form g.row.VERSION) g.row.VERSION c.args.text.now c.args.at c.head_end-len.result _ c.in_ok-head.head
-      c.head_end-len.ensures.end c.in_ok-head.was c.new_head.ensures;
+  has = read_head (g.K.HeadText.form g.row.VERSION) g.row.VERSION c.args.text.now c.args.at c.head_end-len.result _ c.in-Some-new_head.head
+      c.head_end-len.ensures.end c.in-Some-new_head.is c.new_head.ensures;
 }

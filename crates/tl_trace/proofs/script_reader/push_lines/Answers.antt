@@ -8,11 +8,12 @@ push_line-requires g c =
     let f = g.K.HeadText.form g.row.VERSION in
     let same = c.lines.invariant.1 in
     let some = c.head_end-len.ensures.end in
-    let first = same_first c.args.text.now c.lines.place c.args.at c.head_end-len.result (omega (arith, some)) c.requires.0.inside same in (
+    let first = same_first c.args.text.now c.lines.lines.place c.args.at c.head_end-len.result (omega (arith, some)) c.requires.0.inside same in (
       c.requires-raw.1.1.1.1.0,
       (
         record { width = c.requires.0.width; inside = omega (arith, some, same.within); letter = first ∙ c.requires.0.letter },
-        head_there f g.row.VERSION c.args.text.now c.lines.place c.args.at c.head_end-len.result c.in-Some.head some same.same c.in-Some.ensures.head,
+        head_there f g.row.VERSION c.args.text.now c.lines.lines.place c.args.at c.head_end-len.result c.in-Some.head some same.same
+            c.in-Some.ensures.head,
       ),
     )
 
@@ -24,11 +25,11 @@ returns-in_default-push_line-clause-pushed g c =
 pub returns-then-not-goes_on_as-clause-pushed : goal.returns-then-not-goes_on_as-clause-pushed
 returns-then-not-goes_on_as-clause-pushed g c =
     one_more_line (g.K.HeadText.form g.row.VERSION) g.row.W c.args.text.now c.args.at c.args.list.now c.lines.list c.push_line.new.list
-    c.lines.count c.lines.place c.in-Some-push_line.end c.lines.invariant.0 c.in-Some-push_line.ensures
+    c.lines.lines.count c.lines.lines.place c.in-Some-push_line.end c.lines.invariant.0 c.in-Some-push_line.ensures
 
 pub lines-preserved : goal.lines-preserved
 lines-preserved g c = (
   one_more_line (g.K.HeadText.form g.row.VERSION) g.row.W c.args.text.now c.args.at c.args.list.now c.lines.list c.push_line.new.list
-      c.lines.count c.lines.place c.in-Some-push_line.end c.lines.invariant.0 c.in-Some-push_line.ensures,
+      c.lines.lines.count c.lines.lines.place c.in-Some-push_line.end c.lines.invariant.0 c.in-Some-push_line.ensures,
   c.goes_on_as.ensures c.if-not-goes_on_as.false,
 )

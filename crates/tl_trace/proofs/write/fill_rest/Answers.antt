@@ -12,7 +12,7 @@ pub fill_data-data-requires-clause-width : goal.fill_data-data-requires-clause-w
 fill_data-data-requires-clause-width g c = c.requires.width
 
 pub returns-clause-items : goal.returns-clause-items
-returns-clause-items g c = three_put _ _ _ _ _ _ _ c.fill_mask-mask.ensures.items c.fill_data-data.ensures.items c.fill_byte.ensures.items
+returns-clause-items g c = three_put _ _ _ _ _ _ _ c.fill_mask-mask.ensures.items c.fill_data-data.ensures.items c.fill.ensures.items
 
 pub returns-clause-end : goal.returns-clause-end
-returns-clause-end g c = omega (arith, c.fill_mask-mask.ensures.end, c.fill_data-data.ensures.end, c.fill_byte.ensures.end)
+returns-clause-end g c = omega (arith, c.fill_mask-mask.ensures.end, c.fill_data-data.ensures.end, c.fill.ensures.end)

@@ -1,7 +1,5 @@
-use Rattle.tl_trace.proofs.Names.{rules, ◌≡◌, ◌+◌, ◌++◌, ◌∙◌, ℕ, take, refl, sym, ap, arith, take-take, head_text, line_text, newline}
-use Rattle.std.proofs.lemmas.Result.{IfOk-from_err}
+use Rattle.tl_trace.proofs.Names.{rules, ◌≡◌, ◌+◌, ◌++◌, ◌∙◌, ℕ, take, refl, sym, ap, arith, take-take, width_bounds, head_text, line_text, newline}
 use Rattle.tl_trace.proofs.LineRests.{head_end, not_other, line_is, appended_none, appended_more, appended_all, appended_front, of_ok, of_err}
-use Rattle.tl_trace.proofs.LineRests.{on_err_at}
 use Rattle.tl_trace.proofs.write.write_lines.Goals as goal
 use Rattle.tl_trace.proofs.write.write_lines.Goals.{then-ne, else-ne}
 
@@ -17,7 +15,8 @@ loop-beat-preserved g c =
           (g.met.K.HeadText.narrow_head c.args.version _ g.row.W b)
           (take-take at (at + c.rest_len.result) c.if-ne.line (omega arith) ∙ head.0 ∙ ap (head_text f) head.1) refl
           ∙ ap (λ x. line_text f g.row.W x ++ newline) c.beat-item.is)
-          (of_ok c.append_line.result (sym c.is_err.ensures.value ∙ c.if-is_err.false) c.append_line.ensures.ok) c.loop-beat.invariant.1,
+          (of_ok c.append_line.result (sym c.is_err-in-loop-beat.ensures.value ∙ c.if-is_err-2.false) c.append_line.ensures.ok)
+          c.loop-beat.invariant.1,
     )
   where
     head : (take c.fill_head-at.result c.if-ne.line ≡ head_text (g.K.HeadText.form c.args.version) c.if-ne.head) ×
@@ -44,12 +43,6 @@ loop-beat-preserved g c =
 pub returns-in_default-clause-err : goal.returns-in_default-clause-err
 returns-in_default-clause-err g c = tt
 
-pub returns-in_err-reserve-clause-ok : goal.returns-in_err-reserve-clause-ok
-returns-in_err-reserve-clause-ok g c = IfOk-from_err c.from_residual.result _ c.from_residual.ensures.0
-
-pub returns-in_err-reserve-clause-err : goal.returns-in_err-reserve-clause-err
-returns-in_err-reserve-clause-err g c = on_err_at c.from_residual.result c.reserve.ensures.items
-
 pub loop-beat-init : goal.loop-beat-init
 loop-beat-init g c = (
   c.fill_head-at.ensures.items,
@@ -60,15 +53,15 @@ loop-beat-init g c = (
 pub append_line-requires : goal.append_line-requires
 append_line-requires g c = (c.requires-raw.1.1.1.0, (c.requires, search rules))
 
-pub returns-then-is_err-clause-ok : goal.returns-then-is_err-clause-ok
-returns-then-is_err-clause-ok g c = tt
+pub returns-then-is_err-2-clause-ok : goal.returns-then-is_err-2-clause-ok
+returns-then-is_err-2-clause-ok g c = tt
 
-pub returns-then-is_err-clause-err : goal.returns-then-is_err-clause-err
-returns-then-is_err-clause-err g c =
+pub returns-then-is_err-2-clause-err : goal.returns-then-is_err-2-clause-err
+returns-then-is_err-2-clause-err g c =
     c.truncate.ensures.items
     ∙ appended_front (g.K.HeadText.form c.args.version) g.row.W c.args.out.now.items c.loop-beat.out.items c.append_line.new.out.items _
     c.len-start.result
-    (of_err c.append_line.result (sym c.is_err.ensures.value ∙ c.if-is_err.true) c.append_line.ensures.err) c.loop-beat.invariant.1
+    (of_err c.append_line.result (sym c.is_err-in-loop-beat.ensures.value ∙ c.if-is_err-2.true) c.append_line.ensures.err) c.loop-beat.invariant.1
 
 pub returns-clause-ok : goal.returns-clause-ok
 returns-clause-ok g c =
@@ -77,3 +70,6 @@ returns-clause-ok g c =
 
 pub returns-clause-err : goal.returns-clause-err
 returns-clause-err g c = tt
+
+pub rest_len-requires : goal.rest_len-requires
+rest_len-requires g c = (width_bounds g.row.W c.requires).1

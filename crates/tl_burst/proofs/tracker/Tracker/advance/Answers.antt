@@ -17,24 +17,22 @@ returns-then-place-clause-stands g c = λ bs b before same.
     sym (ap (λ last. if last then None else Some (c.args.place.head, c.args.place.index + 1)) c.if-place.true) ∙
     burst-step g.K.Channel.rules g.row.W c.args.self.now c.args.place c.requires.place bs b before same
 
-pub returns-in-Some-clause-burst : goal.returns-in-Some-clause-burst
-returns-in-Some-clause-burst g c = goes-on g.K.Channel.rules g.row.W c.args.self.now c.args.place c.requires.place c.if-place.false
-    c.in-Some.field-0-0 c.in-Some.count (sym c.self.view_is ∙ c.in-Some.is)
+pub returns-in-Some : goal.returns-in-Some
+returns-in-Some g c =
+    let burst = goes-on g.K.Channel.rules g.row.W c.args.self.now c.args.place c.requires.place c.if-place.false
+    c.in-Some.field-0-0 c.in-Some.count (sym c.self.view_is ∙ c.in-Some.is) in
+    record {
+      burst = burst;
+      stands = λ bs b before same. burst ∙ burst-step g.K.Channel.rules g.row.W c.args.self.now c.args.place c.requires.place bs b before same;
+    }
 
-pub returns-in-None-clause-burst : goal.returns-in-None-clause-burst
-returns-in-None-clause-burst g c = begins g.K.Channel.rules g.row.W c.args.self.now c.args.place c.requires.place c.if-place.false
-    (sym c.self.view_is ∙ c.in-None.is)
-
-pub returns-in-Some-clause-stands : goal.returns-in-Some-clause-stands
-returns-in-Some-clause-stands g c = λ bs b before same.
-    goes-on g.K.Channel.rules g.row.W c.args.self.now c.args.place c.requires.place c.if-place.false c.in-Some.field-0-0 c.in-Some.count
-    (sym c.self.view_is ∙ c.in-Some.is) ∙
-    burst-step g.K.Channel.rules g.row.W c.args.self.now c.args.place c.requires.place bs b before same
-
-pub returns-in-None-clause-stands : goal.returns-in-None-clause-stands
-returns-in-None-clause-stands g c = λ bs b before same.
-    begins g.K.Channel.rules g.row.W c.args.self.now c.args.place c.requires.place c.if-place.false (sym c.self.view_is ∙ c.in-None.is) ∙
-    burst-step g.K.Channel.rules g.row.W c.args.self.now c.args.place c.requires.place bs b before same
+pub returns-in-None : goal.returns-in-None
+returns-in-None g c =
+    let burst = begins g.K.Channel.rules g.row.W c.args.self.now c.args.place c.requires.place c.if-place.false (sym c.self.view_is ∙ c.in-None.is) in
+    record {
+      burst = burst;
+      stands = λ bs b before same. burst ∙ burst-step g.K.Channel.rules g.row.W c.args.self.now c.args.place c.requires.place bs b before same;
+    }
 
 pub invariant_of-self-in-Some : goal.invariant_of-self-in-Some
 invariant_of-self-in-Some g c = (

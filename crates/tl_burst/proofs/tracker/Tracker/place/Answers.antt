@@ -1,12 +1,24 @@
-use Rattle.tl_burst.proofs.Names.{refl}
+use Rattle.tl_burst.proofs.Names.{refl, sym, ap, subst, ◌∙◌, IsOpen, count_in}
+use Rattle.tl_burst.proofs.Holding.{held-beats}
 use Rattle.tl_burst.proofs.Steps.{place-is}
 use Rattle.tl_burst.proofs.tracker.Tracker.place.Goals as goal
 
-pub returns-clause-place : goal.returns-clause-place
-returns-clause-place g c =
-    place-is g.K.Channel.rules g.row.W c.args.self.now c.args.head c.count-index.result c.beats-beats.result c.requires.width
-    (g.met.K.Channel.small c.args.head c.requires.lawful) c.count-index.ensures.begun c.requires.lawful c.requires.held c.count-index.ensures.count
-    c.beats-beats.ensures
+pub returns-in-Some : goal.returns-in-Some
+returns-in-Some g c = record {
+  head = refl;
+  place = place-is g.K.Channel.rules g.row.W c.args.self.now c.args.head c.in-Some.count c.self.inside.held.beats c.requires.width
+      (g.met.K.Channel.small c.args.head c.requires.lawful)
+      (subst (λ burst. IsOpen g.K.Channel.rules g.row.W burst) c.self.view_is c.self.invariant.0) c.requires.lawful c.requires.held
+      (sym (ap count_in c.in-Some.is) ∙ ap count_in c.self.view_is)
+      (held-beats g.K.Channel.rules g.row.W c.self.inside.burst c.args.head c.self.inside.held c.self.invariant.1
+      (c.in-Some.field-0-0, c.in-Some.count) c.in-Some.is (λ h count e. c.requires.held h count (sym c.self.view_is ∙ e)));
+}
 
-pub returns-clause-head : goal.returns-clause-head
-returns-clause-head g c = refl
+pub returns-in-None : goal.returns-in-None
+returns-in-None g c = record {
+  head = refl;
+  place = place-is g.K.Channel.rules g.row.W c.args.self.now c.args.head 0 c.held_by-beats.result.beats c.requires.width
+      (g.met.K.Channel.small c.args.head c.requires.lawful)
+      (subst (λ burst. IsOpen g.K.Channel.rules g.row.W burst) c.self.view_is c.self.invariant.0) c.requires.lawful c.requires.held
+      (sym (ap count_in c.in-None.is) ∙ ap count_in c.self.view_is) c.held_by-beats.ensures.beats;
+}
