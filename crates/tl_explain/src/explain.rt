@@ -16,7 +16,7 @@ use crate::held::{held_of, waiting_source};
 use crate::letters::letters_of;
 use crate::look::Look;
 use crate::requests::Requests;
-use crate::story::Story;
+use crate::story::{Story, Told};
 use crate::walk::Walk;
 use arrayvec::ArrayVec;
 use std::alloc::{AllocError, Global};
@@ -193,48 +193,39 @@ fn answer_to<const C: usize, const M: usize>(
 /// What was told of a text, as far as it is not written yet, and the answer of a check to it.
 #[derive(Drop)]
 pub struct Telling {
-    pub story: Story,
+    pub told: Told,
     pub answer: Answer,
 }
 
-/// What is needed for telling a text: the story, with all memory that it needs where beats are not drawn, the
-/// letters that the lines begin with, and the answer of a check.
-#[derive(Drop)]
-struct Begun {
-    story: Story,
-    letters: Vec<u8>,
-    answer: Answer,
-}
-
-/// The same for a script with these verdicts and this answer.
-fn begin<const C: usize, const M: usize>(
+/// Tells a text of this version that tells this script, whose channels end in these verdicts. Whatever lacks
+/// memory does so before anything is written.
+fn told_of<W: Write, const C: usize, const M: usize>(
     alloc: Global,
     text: &[u8],
     script: &Script<C, M>,
-    checked: Checked,
+    verdicts: &[Verdict; 5],
     version: u8,
     look: &Look,
-) -> Result<Begun, AllocError>
+    writer: &mut W,
+) -> Result<Told, TextFault>
     requires { IsWidth C × IsWidth M }
-    ensures { IfOk result (λ made. made.answer ≡ checked.answer) }
+    ensures out { OnOk result
+        (Continues look.now.page (W.contents writer.old) (W.contents writer.new)) }
+    ensures err { IfErr result
+        (IsUntold look.now.page text.now (W.contents writer.old) (W.contents writer.new)) }
 {
-    let Checked { verdicts, answer } = checked;
     let header = Header {
         version,
         client: C,
         manager: M,
     };
     let letters = letters_of(alloc, text, &header)?;
-    let story = story_of::<C, M>(alloc, &letters, script, &verdicts, version, look)?;
-    Ok(Begun {
-        story,
-        letters,
-        answer,
-    })
+    let mut story = story_of::<C, M>(alloc, &letters, script, verdicts, version, look)?;
+    tell_all::<W, C, M>(&mut story, &letters, script, look.page, writer)?;
+    Ok(story.told())
 }
 
-/// Tells a text of this version that tells this script. Whatever lacks memory does so before anything is
-/// written.
+/// The same, and the answer.
 fn with_script<W: Write, const C: usize, const M: usize>(
     alloc: Global,
     text: &[u8],
@@ -252,15 +243,9 @@ fn with_script<W: Write, const C: usize, const M: usize>(
     ensures err { IfErr result
         (IsUntold look.now.page text.now (W.contents writer.old) (W.contents writer.new)) }
 {
-    let checked = answer_to::<C, M>(alloc, text, script, version)?;
-    let begun = begin::<C, M>(alloc, text, script, checked, version, look)?;
-    let Begun {
-        mut story,
-        letters,
-        answer,
-    } = begun;
-    tell_all::<W, C, M>(&mut story, &letters, script, look.page, writer)?;
-    Ok(Telling { story, answer })
+    let Checked { verdicts, answer } = answer_to::<C, M>(alloc, text, script, version)?;
+    let told = told_of::<W, C, M>(alloc, text, script, &verdicts, version, look, writer)?;
+    Ok(Telling { told, answer })
 }
 
 /// Tells a text whose header names this version and these widths.

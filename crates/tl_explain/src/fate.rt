@@ -2,6 +2,7 @@
 ghost use Rattle.std.specs.Prelude.{◌≡◌};
 ghost use Rattle.tl_explain.specs.Fates.{fate_of};
 
+use crate::story::Fares;
 use tl_msg::{SideFault, Verdict};
 
 /// What came of a near beat.
@@ -15,6 +16,27 @@ pub enum Fate {
     Waiting(SideFault),
     /// A beat before it on its channel was not accepted, so it never came to its turn.
     NotOffered,
+}
+
+impl Fate {
+    /// How a beat fares at which its channel stops.
+    pub fn how(&self) -> Option<&'static str> {
+        match self {
+            Fate::Refused(_) => Some("was refused"),
+            Fate::Waiting(_) => Some("waits"),
+            Fate::Accepted | Fate::NotOffered => None,
+        }
+    }
+
+    /// How a beat fares.
+    pub fn fares(&self) -> Fares {
+        match self {
+            Fate::Accepted => Fares::Accepted,
+            Fate::Refused(_) => Fares::Refused,
+            Fate::Waiting(_) => Fares::Waits,
+            Fate::NotOffered => Fares::NotOffered,
+        }
+    }
 }
 
 /// What came of the beat before which there are `at` on its channel.

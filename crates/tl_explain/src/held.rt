@@ -1,14 +1,9 @@
 //! Beats that their channel did not accept.
-use crate::fate::{Fate, fate_at};
+use crate::fate::fate_at;
 use tl_msg::{Beat, SourceId, Verdict};
 use tl_remarks::{Cursor, Told, seen_of};
 use tl_unreadable::Page;
 use tl_unreadable::Piece::{Letter, Number, Text};
-
-/// How a beat that breaks a rule fares, and one that waits.
-pub const REFUSED: &str = "was refused";
-
-pub const WAITS: &str = "waits";
 
 /// Where a channel stopped: its letter, the line of the first beat that it did not accept, and how that
 /// one fares.
@@ -58,14 +53,8 @@ pub fn waiting_source<K: Told, const W: usize>(
     let Verdict::Waiting { at, .. } = *verdict else {
         return None;
     };
-    let mut before = at;
-    for beat in beats {
-        if before == 0 {
-            return Some(K::seen(&beat.head).source);
-        }
-        before -= 1;
-    }
-    None
+    let beat = beats.get(at as usize)?;
+    Some(K::seen(beat.head).source)
 }
 
 /// The first beat of this source that its channel did not accept, and that asks on A or answers on D;
@@ -84,19 +73,8 @@ pub fn held_of<K: Told, const W: usize>(
     for beat in beats {
         cursor.seek(letters, letter);
         let line = cursor.line();
-        match fate_at(at, verdict) {
-            Fate::Accepted => (),
-            Fate::Refused(_) => stop = Stop {
-                letter,
-                line,
-                how: REFUSED,
-            },
-            Fate::Waiting(_) => stop = Stop {
-                letter,
-                line,
-                how: WAITS,
-            },
-            Fate::NotOffered => (),
+        if let Some(how) = fate_at(at, verdict).how() {
+            stop = Stop { letter, line, how };
         }
         let seen = seen_of::<K, W>(beat, 1);
         let may_pair = letter != b'D' || seen.answers_request();

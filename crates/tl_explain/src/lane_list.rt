@@ -27,8 +27,7 @@ pub fn put_lanes(out: &mut Page, mask: Mask) {
     let mut separator = " ";
     for lane in 0..WIDEST {
         if has_lane(mask, lane) {
-            let begins = lane == 0 || !has_lane(mask, lane - 1);
-            if begins {
+            if !has_lane(mask, lane.wrapping_sub(1)) {
                 out.put(Text(separator));
                 out.put(Number(lane as u64));
                 separator = ", ";

@@ -1,9 +1,8 @@
 //! The requests that A sent, and which of them were answered.
-use crate::fate::{Fate, fate_at};
 use crate::held::Held;
 use std::alloc::{AllocError, Global};
 use tl_msg::{Beat, ChA, SourceId, Verdict};
-use tl_remarks::{Cursor, seen_of};
+use tl_remarks::{Cursor, accepted, seen_of};
 
 /// How many sources there are, by the bits of a [`SourceId`].
 const SOURCES: usize = 1 << SourceId::BITS;
@@ -98,11 +97,8 @@ impl Requests {
         beats: &[Beat<ChA, W>],
     ) -> Result<(), AllocError> {
         let mut cursor = Cursor::default();
-        let (mut at, mut left) = (0u64, 0usize);
-        for beat in beats {
-            if !matches!(fate_at(at, verdict), Fate::Accepted) {
-                break;
-            }
+        let mut left = 0usize;
+        for beat in beats.get(..accepted(verdict)).unwrap_or(beats) {
             cursor.seek(letters, b'A');
             if left == 0 {
                 let seen = seen_of::<ChA, W>(beat, 1);
@@ -115,7 +111,6 @@ impl Requests {
                 })?;
             }
             left = left.saturating_sub(1);
-            at = at.saturating_add(1);
         }
         Ok(())
     }

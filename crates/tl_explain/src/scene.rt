@@ -79,8 +79,11 @@ fn note_shown(ties: &mut [Ties], items: &[Item]) {
 }
 
 impl Told {
-    /// Which messages belong together, for the lines from line 2 on.
+    /// Which messages belong together, for the lines from line 2 on, where memory was there for all that was told.
     fn ties(&self, alloc: Global) -> Result<Vec<Ties>, AllocError> {
+        if self.page.lacks_a_piece || self.drawing.lacks_a_piece {
+            return Err(AllocError);
+        }
         let mut ties = vec![in alloc; Ties::default(); self.begins.len()]?;
         tie(ties.as_mut_slice(), &self.noted.pairs);
         number_all(ties.as_mut_slice(), &self.begins);
@@ -90,7 +93,7 @@ impl Told {
 
     /// What is said from here to there.
     fn part(&self, from: usize, to: usize) -> &[u8] {
-        self.text.get(from..to).unwrap_or(&[])
+        self.page.text.get(from..to).unwrap_or(&[])
     }
 }
 
@@ -112,7 +115,7 @@ impl Scene {
     /// What is said of channels that end within a burst, a line each.
     pub fn cuts(&self) -> &[u8] {
         let from = self.told.items.last().map_or(0, |item| item.end);
-        self.told.part(from, self.told.text.len())
+        self.told.part(from, self.told.page.len())
     }
 
     /// The near beat of an item, and the far beats that it completed.
@@ -152,8 +155,7 @@ impl Scene {
 fn scene_with(alloc: Global, telling: Telling) -> Result<Scene, AllocError>
     ensures { IfOk result (λ made. made.answer ≡ telling.answer) }
 {
-    let Telling { story, answer, .. } = telling;
-    let told = story.told()?;
+    let Telling { told, answer } = telling;
     let ties = told.ties(alloc)?;
     Ok(Scene { told, ties, answer })
 }

@@ -1,7 +1,8 @@
 //! What came of one line, in a sentence.
+use crate::fate::Fate;
 use crate::faults::put_beat_fault;
 use crate::requests::{Request, Requests};
-use crate::story::{Came, Fares, Story, place};
+use crate::story::{Came, Story, place};
 use crate::walk::{Brought, Walk};
 use crate::words::{put_fields, source_of};
 use tl_msg::SideFault;
@@ -106,11 +107,9 @@ impl Brought {
 
 impl Story {
     /// Writes why a beat was not accepted, after a word that says how it fares.
-    fn put_held(&mut self, beat: &Seen, fault: Option<SideFault>, word: Piece<'static>) {
+    fn put_held(&mut self, beat: &Seen, fault: SideFault, word: Piece<'static>) {
         self.page.say(": #, ", &[word]);
-        if let Some(fault) = fault {
-            put_fault(&mut self.page, beat, fault, &self.walk, &self.requests);
-        }
+        put_fault(&mut self.page, beat, fault, &self.walk, &self.requests);
     }
 
     /// Writes that a beat was accepted, in a message that has no other.
@@ -122,11 +121,11 @@ impl Story {
 
     /// Writes what came of a beat.
     fn put_fate(&mut self, beat: &Seen, came: &Came) {
-        match came.fares {
-            Fares::Accepted => self.put_accepted(),
-            Fares::Refused => self.put_held(beat, came.fault, Coloured(Colour::Red, "refused")),
-            Fares::Waits => self.put_held(beat, came.fault, Coloured(Colour::Yellow, "waiting")),
-            Fares::NotOffered => {
+        match came.fate {
+            Fate::Accepted => self.put_accepted(),
+            Fate::Refused(fault) => self.put_held(beat, fault, Coloured(Colour::Red, "refused")),
+            Fate::Waiting(fault) => self.put_held(beat, fault, Coloured(Colour::Yellow, "waiting")),
+            Fate::NotOffered => {
                 let stop = self.stop_of(beat.letter).unwrap_or_default();
                 self.page.put_text(": not offered, since ");
                 stop.put(&mut self.page);
@@ -137,7 +136,7 @@ impl Story {
     /// Writes the fields of a beat, and what came of it.
     fn put_beat(&mut self, beat: &Seen, came: &Came) {
         let brought = &self.walk.brought;
-        if came.fares == Fares::Accepted && brought.beats > 1 {
+        if matches!(came.fate, Fate::Accepted) & (brought.beats > 1) {
             if let Some(alike) = self.alike.get_mut(place(beat.letter)) {
                 alike.put(&mut self.page, beat, brought, self.walk.first_line);
             }

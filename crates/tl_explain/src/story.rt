@@ -3,15 +3,15 @@ use crate::alike::Alike;
 use crate::count::Count;
 use crate::drawing::{Drawing, Drawn};
 use crate::fate::Fate;
-use crate::held::{REFUSED, Stop, WAITS};
+use crate::held::Stop;
 use crate::look::{Choice, Look};
 use crate::picture::put_picture;
 use crate::remarks::put_remark;
 use crate::requests::Requests;
 use crate::shown::{Item, Run};
 use crate::walk::Walk;
-use std::alloc::{AllocError, Global};
-use tl_msg::{SideFault, Verdict};
+use std::alloc::Global;
+use tl_msg::Verdict;
 use tl_remarks::{Noted, Seen};
 use tl_unreadable::Page;
 use tl_unreadable::Piece::{Letter, Number};
@@ -32,9 +32,7 @@ pub enum Fares {
 /// What came of a near beat.
 #[derive(Clone, Copy)]
 pub struct Came {
-    pub fares: Fares,
-    /// Why it was refused, or waits.
-    pub fault: Option<SideFault>,
+    pub fate: Fate,
     /// The line of the request that it begins to answer; 0 where there is none.
     pub answers: u64,
 }
@@ -84,7 +82,7 @@ pub struct Story {
 pub struct Told {
     /// What is said of the lines that are shown, in their order, and behind them of channels that end
     /// within a burst.
-    pub text: Vec<u8>,
+    pub page: Page,
     pub noted: Noted,
     pub drawing: Drawing,
     pub items: Vec<Item>,
@@ -212,27 +210,14 @@ impl Story {
     /// Goes on by the channel's next near beat, and says what came of it.
     fn go_on(&mut self, beat: &Seen) -> Came {
         let fate = self.walk.fate();
-        let (fares, fault) = match fate {
-            Fate::Accepted => (Fares::Accepted, None),
-            Fate::Refused(fault) => (Fares::Refused, Some(fault)),
-            Fate::Waiting(fault) => (Fares::Waits, Some(fault)),
-            Fate::NotOffered => (Fares::NotOffered, None),
-        };
         let mut answers = 0;
-        match fares {
-            Fares::Accepted => {
-                self.walk.accept(beat, self.line);
-                answers = self.answer(beat);
-            }
-            Fares::Refused => self.stop(REFUSED),
-            Fares::Waits => self.stop(WAITS),
-            Fares::NotOffered => (),
+        if let Fate::Accepted = fate {
+            self.walk.accept(beat, self.line);
+            answers = self.answer(beat);
+        } else if let Some(how) = fate.how() {
+            self.stop(how);
         }
-        Came {
-            fares,
-            fault,
-            answers,
-        }
+        Came { fate, answers }
     }
 
     /// Whether there is a remark on the line.
@@ -247,8 +232,8 @@ impl Story {
     /// shown, and says whether it was accepted.
     pub fn put_near(&mut self, beat: &Seen, lanes: &[u8]) -> bool {
         let came = self.go_on(beat);
-        let accepted = came.fares == Fares::Accepted;
-        self.item.fares = came.fares;
+        let accepted = matches!(came.fate, Fate::Accepted);
+        self.item.fares = came.fate.fares();
         self.is_shown = self
             .choice
             .shows(&self.item, beat.source, self.has_remarks());
@@ -286,16 +271,16 @@ impl Story {
 
     /// Draws the next near beat, which has this line.
     pub fn draw_near(&mut self, beat: &Seen, lanes: &[u8], line: &[u8], accepted: bool) {
-        let message = if accepted { self.walk.first_line } else { 0 };
+        let (message, first_byte) = if accepted {
+            (self.walk.first_line, self.walk.brought.first_byte)
+        } else {
+            (0, 0)
+        };
         let drawn = Drawn {
             beat: *beat,
             home: self.near_home(beat, accepted),
             message,
-            first_byte: if accepted {
-                self.walk.brought.first_byte
-            } else {
-                0
-            },
+            first_byte,
             ..Drawn::default()
         };
         self.drawing.add(&drawn, lanes, line);
@@ -419,17 +404,14 @@ impl Story {
         }
     }
 
-    /// All that was told, where memory was there for it.
-    pub fn told(self) -> Result<Told, AllocError> {
-        if self.drawing.lacks_a_piece {
-            return Err(AllocError);
-        }
-        Ok(Told {
-            text: self.page.into_text()?,
+    /// All that was told.
+    pub fn told(self) -> Told {
+        Told {
+            page: self.page,
             noted: self.noted,
             drawing: self.drawing,
             items: self.items,
             begins: self.begins,
-        })
+        }
     }
 }

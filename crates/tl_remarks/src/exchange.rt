@@ -15,8 +15,8 @@ const IDS: usize = 1 << u16::BITS;
 /// for another message once the one before it is answered.
 #[derive(Drop)]
 pub struct Exchange {
-    asks: Vec<Message>,
-    answers: Vec<Message>,
+    pub asks: Vec<Message>,
+    pub answers: Vec<Message>,
 }
 
 /// For each key the place of a message.
@@ -24,8 +24,8 @@ pub struct Exchange {
 struct Places {
     /// By the id of a key whose address is 0.
     by_id: Vec<usize>,
-    /// By each other key.
-    by_key: HashMap<Key, usize>,
+    /// By address and id of each other key.
+    by_key: HashMap<(u64, u16), usize>,
 }
 
 impl Places {
@@ -41,7 +41,7 @@ impl Places {
         let place = if key.address == 0 {
             self.by_id.get(key.id as usize)
         } else {
-            self.by_key.get(&key)
+            self.by_key.get(&(key.address, key.id))
         };
         place.copied().unwrap_or(NONE)
     }
@@ -49,7 +49,7 @@ impl Places {
     /// Puts a place there for a key.
     fn set(&mut self, key: Key, at: usize) -> Result<(), AllocError> {
         if key.address != 0 {
-            self.by_key.insert(key, at)?;
+            self.by_key.insert((key.address, key.id), at)?;
         } else if let Some(place) = self.by_id.get_mut(key.id as usize) {
             *place = at;
         }
@@ -131,18 +131,6 @@ impl Exchange {
             asks: Vec::new(alloc),
             answers: Vec::new(alloc),
         }
-    }
-
-    /// Adds a message.
-    pub fn ask(&mut self, message: &Message) -> Result<(), AllocError> {
-        self.asks.push(*message)?;
-        Ok(())
-    }
-
-    /// Adds an answer.
-    pub fn answer(&mut self, message: &Message) -> Result<(), AllocError> {
-        self.answers.push(*message)?;
-        Ok(())
     }
 
     /// Notes what the answers answer. Remarks on one that does not fit its partner, and, where `knows_asks`

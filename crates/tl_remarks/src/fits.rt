@@ -56,14 +56,15 @@ pub fn rule_of(ask: &Message, answer: &Message) -> Option<Rule> {
     let (Some(asked), Some(answered)) = (ask.kind, answer.kind) else {
         return None;
     };
-    let (asks_more, keeps_more) = (
-        !answer.denied && !is_granted(ask.param, answer.param),
-        kept(answer.param) > left(ask.param),
-    );
-    match asked {
-        _ if !may_answer(asked, answered) => Some(Rule::OtherResponse),
-        Kind::AcquireBlock | Kind::AcquirePerm if asks_more => Some(Rule::OtherCap),
-        Kind::ProbeBlock | Kind::ProbePerm if keeps_more => Some(Rule::LeavesMore),
-        _ => None,
+    let is_acquire = matches!(asked, Kind::AcquireBlock | Kind::AcquirePerm);
+    let is_probe = matches!(asked, Kind::ProbeBlock | Kind::ProbePerm);
+    if !may_answer(asked, answered) {
+        Some(Rule::OtherResponse)
+    } else if is_acquire & !answer.denied & !is_granted(ask.param, answer.param) {
+        Some(Rule::OtherCap)
+    } else if is_probe & (kept(answer.param) > left(ask.param)) {
+        Some(Rule::LeavesMore)
+    } else {
+        None
     }
 }

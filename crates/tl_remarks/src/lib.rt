@@ -10,6 +10,6 @@ mod remark;
 mod seen;
 
 pub use lines::Cursor;
-pub use notes::notes_of;
+pub use notes::{accepted, notes_of};
 pub use remark::{Key, Message, Noted, Pair, Remark, Rule};
 pub use seen::{Seen, Told, seen_of};

@@ -7,7 +7,6 @@ use crate::lines::Cursor;
 use crate::remark::{Key, Message, Noted, Rule};
 use crate::seen::{Seen, Told, seen_of};
 use std::alloc::{AllocError, Global};
-use std::mem;
 use tl_msg::{Beat, ChA, ChB, ChC, ChD, ChE, Kind, Verdict};
 use tl_trace::Script;
 
@@ -25,14 +24,24 @@ struct Notes {
     noted: Noted,
 }
 
-/// The message of a beat, with this id and address to know it by.
-fn message_of(beat: &Seen, line: u64, id: u16, address: u64) -> Message {
+/// By what the message of a beat and its partner know each other.
+fn key_of(beat: &Seen) -> Key {
+    match (beat.letter, beat.kind) {
+        (b'E', _) => Key::of(beat.sink, 0),
+        (b'C', Some(Kind::Release | Kind::ReleaseData)) => Key::of(beat.source, 0),
+        (b'B' | b'C', _) => Key::of(beat.source, beat.address),
+        _ => Key::of(beat.source, 0),
+    }
+}
+
+/// The message of a beat, with this key.
+fn message_of(beat: &Seen, line: u64, key: Key) -> Message {
     Message {
         line,
         kind: beat.kind,
         param: beat.param,
         denied: beat.denied,
-        key: Key { id, address },
+        key,
     }
 }
 
@@ -54,6 +63,12 @@ fn rule_of_data(beat: &Seen) -> Option<Rule> {
     }
 }
 
+/// Adds a message to others.
+fn add(messages: &mut Vec<Message>, message: &Message) -> Result<(), AllocError> {
+    messages.push(*message)?;
+    Ok(())
+}
+
 impl Notes {
     fn new(alloc: Global, has_pairs: bool) -> Notes {
         Notes {
@@ -65,43 +80,34 @@ impl Notes {
         }
     }
 
-    /// Adds the message that begins with this beat of D where one of E answers it.
-    fn add_grant(&mut self, beat: &Seen, line: u64) -> Result<(), AllocError> {
-        match beat.kind {
-            Some(Kind::Grant | Kind::GrantData) => {
-                self.grants.ask(&message_of(beat, line, beat.sink, 0))
-            }
-            _ => Ok(()),
-        }
-    }
-
-    /// Adds the message that begins with this beat of D.
-    fn add_of_d(&mut self, beat: &Seen, line: u64) -> Result<(), AllocError> {
-        let message = message_of(beat, line, beat.source, 0);
-        let added = match beat.kind {
-            Some(Kind::ReleaseAck) => self.releases.answer(&message),
-            _ => self.requests.answer(&message),
-        };
-        added.and(self.add_grant(beat, line))
-    }
-
-    /// Adds the message that begins with this beat to its exchange.
-    fn add_to_exchange(&mut self, beat: &Seen, line: u64) -> Result<(), AllocError> {
-        let by_source = message_of(beat, line, beat.source, 0);
-        let by_address = message_of(beat, line, beat.source, beat.address);
+    /// The messages that the one is of which begins with this beat.
+    fn messages(&mut self, beat: &Seen) -> &mut Vec<Message> {
         match (beat.letter, beat.kind) {
-            (b'A', _) => self.requests.ask(&by_source),
-            (b'B', _) => self.probes.ask(&by_address),
-            (b'C', Some(Kind::Release | Kind::ReleaseData)) => self.releases.ask(&by_source),
-            (b'C', _) => self.probes.answer(&by_address),
-            (b'D', _) => self.add_of_d(beat, line),
-            _ => self.grants.answer(&message_of(beat, line, beat.sink, 0)),
+            (b'A', _) => &mut self.requests.asks,
+            (b'B', _) => &mut self.probes.asks,
+            (b'C', Some(Kind::Release | Kind::ReleaseData)) => &mut self.releases.asks,
+            (b'C', _) => &mut self.probes.answers,
+            (b'D', Some(Kind::ReleaseAck)) => &mut self.releases.answers,
+            (b'D', _) => &mut self.requests.answers,
+            _ => &mut self.grants.answers,
         }
+    }
+
+    /// Adds the message that begins with this beat to its exchange: a Grant also to that of which one of E is
+    /// the answer.
+    fn add_message(&mut self, beat: &Seen, line: u64) -> Result<(), AllocError> {
+        let message = message_of(beat, line, key_of(beat));
+        let added = add(self.messages(beat), &message);
+        if !matches!(beat.kind, Some(Kind::Grant | Kind::GrantData)) {
+            return added;
+        }
+        let grant = message_of(beat, line, Key::of(beat.sink, 0));
+        added.and(add(&mut self.grants.asks, &grant))
     }
 
     /// Remarks on a message by this beat alone, where there is a rule for it.
     fn add_remark(&mut self, rule: Option<Rule>, beat: &Seen, line: u64) -> Result<(), AllocError> {
-        let message = message_of(beat, line, beat.source, 0);
+        let message = message_of(beat, line, key_of(beat));
         self.noted.push_remark(rule, &message, &Message::default())
     }
 
@@ -109,7 +115,7 @@ impl Notes {
     fn add_beat(&mut self, beat: &Seen, line: u64, begins: bool) -> Result<(), AllocError> {
         if begins {
             self.add_remark(rule_alone(beat), beat, line)?;
-            self.add_to_exchange(beat, line)?;
+            self.add_message(beat, line)?;
         }
         self.add_remark(rule_of_data(beat), beat, line)
     }
@@ -136,10 +142,10 @@ fn is_whole(verdict: &Verdict) -> bool {
 }
 
 /// How many beats of a channel were accepted.
-fn accepted(verdict: &Verdict) -> u64 {
+pub fn accepted(verdict: &Verdict) -> usize {
     match *verdict {
-        Verdict::Done { near, .. } | Verdict::Cut { near, .. } => near,
-        Verdict::Refused { at, .. } | Verdict::Waiting { at, .. } => at,
+        Verdict::Done { near, .. } | Verdict::Cut { near, .. } => near as usize,
+        Verdict::Refused { at, .. } | Verdict::Waiting { at, .. } => at as usize,
     }
 }
 
@@ -153,15 +159,10 @@ fn add_channel<K: Told, const W: usize>(
 ) -> Result<(), AllocError> {
     let mut cursor = Cursor::default();
     let mut left = 0usize;
-    let mut before = accepted(verdict);
-    for beat in beats {
-        if before == 0 {
-            break;
-        }
-        before -= 1;
+    for beat in beats.get(..accepted(verdict)).unwrap_or(beats) {
         cursor.seek(letters, letter);
-        let begins = left == 0;
         let seen = seen_of::<K, W>(beat, 1);
+        let begins = left == 0;
         if begins {
             left = seen.beats(W);
         }
@@ -188,25 +189,6 @@ fn add_script<const C: usize, const M: usize>(
         .and(add_channel::<ChE, C>(notes, letters, b'E', e, &script.e))
 }
 
-/// What is noted of all messages, where there was memory for adding them.
-fn judged(
-    alloc: Global,
-    notes: Notes,
-    added: Result<(), AllocError>,
-    verdicts: &[Verdict; 5],
-) -> Result<Noted, AllocError> {
-    let mut notes = notes;
-    let done = match added {
-        Ok(()) => notes.judge(alloc, verdicts),
-        Err(error) => Err(error),
-    };
-    let Notes { noted, .. } = notes;
-    match done {
-        Ok(()) => Ok(noted),
-        Err(error) => Err(error),
-    }
-}
-
 /// The remarks on the accepted messages of a script whose channels end with these verdicts, from A to E,
 /// in the order of their lines; and, where `has_pairs` says so, the pairs of a message and its answer, those
 /// of A, B, C and D in this order. `letters` are those of the text that tells the script.
@@ -224,5 +206,8 @@ pub fn notes_of<const C: usize, const M: usize>(
 {
     let mut notes = Notes::new(alloc, has_pairs);
     let added = add_script::<C, M>(&mut notes, letters, script, verdicts);
-    judged(alloc, notes, added, verdicts)
+    let done = added.and(notes.judge(alloc, verdicts));
+    let Notes { noted, .. } = notes;
+    done?;
+    Ok(noted)
 }

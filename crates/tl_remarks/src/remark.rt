@@ -4,10 +4,17 @@ use tl_msg::Kind;
 
 /// By what a message and its answer know each other: by source or sink, and those of B and C by their
 /// address, too.
-#[derive(Clone, Copy, PartialEq, Eq, Hash, Default)]
+#[derive(Clone, Copy, Default)]
 pub struct Key {
     pub id: u16,
     pub address: u64,
+}
+
+impl Key {
+    /// The key of this id and address.
+    pub fn of(id: u16, address: u64) -> Key {
+        Key { id, address }
+    }
 }
 
 /// A message whose first beat was accepted.

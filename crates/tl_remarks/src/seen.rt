@@ -31,7 +31,7 @@ pub struct Seen {
 /// A channel of whose beats sentences speak.
 pub trait Told: HeadText {
     /// The fields of a head.
-    fn seen(head: &Self::Head) -> Seen;
+    fn seen(head: Self::Head) -> Seen;
 }
 
 // The fields of a head of A, B or C, whose heads have the same fields.
@@ -51,25 +51,25 @@ macro_rules! seen_with {
 }
 
 impl Told for ChA {
-    fn seen(head: &HeadA) -> Seen {
+    fn seen(head: HeadA) -> Seen {
         seen_with!(b'A', Kind::on_a, head)
     }
 }
 
 impl Told for ChB {
-    fn seen(head: &HeadB) -> Seen {
+    fn seen(head: HeadB) -> Seen {
         seen_with!(b'B', Kind::on_b, head)
     }
 }
 
 impl Told for ChC {
-    fn seen(head: &HeadC) -> Seen {
+    fn seen(head: HeadC) -> Seen {
         seen_with!(b'C', Kind::on_c, head)
     }
 }
 
 impl Told for ChD {
-    fn seen(head: &HeadD) -> Seen {
+    fn seen(head: HeadD) -> Seen {
         Seen {
             letter: b'D',
             kind: Kind::on_d(head.opcode),
@@ -85,7 +85,7 @@ impl Told for ChD {
 }
 
 impl Told for ChE {
-    fn seen(head: &HeadE) -> Seen {
+    fn seen(head: HeadE) -> Seen {
         Seen {
             letter: b'E',
             sink: head.sink,
@@ -100,7 +100,7 @@ pub fn seen_of<K: Told, const W: usize>(beat: &Beat<K, W>, version: u8) -> Seen 
         version,
         mask: beat.mask,
         corrupt: beat.corrupt,
-        ..K::seen(&beat.head)
+        ..K::seen(beat.head)
     }
 }
 
