@@ -1,5 +1,5 @@
-//! The answer to a text: from the bytes of a trace to the bytes that go out, and how the program
-//! ends.
+//! The answer to a text: from the bytes of a trace to the bytes that go out. How a text is read, and why
+//! it is refused, `tl_stream` says, whose names callers have here, too.
 #![tactic(auto)]
 
 mod answer;

@@ -123,8 +123,12 @@ fn read_pieces<R: Read, L: Listener<C, M>, const C: usize, const M: usize>(
     }
 }
 
-/// Reads a text whose header names this version and these widths to its end, as `read_pieces` does: the
-/// beats of its script that are still held then.
+/// Reads a text to its end, piece by piece, whose header names this version and these widths, where the
+/// input holds its first piece and nothing of it was used. After each piece but the last one a new listener
+/// goes on with the beats that were read, and those go that it is done with. Answers the beats of the
+/// script that are still held then.
+///
+/// Refused as [`script_of_input`] is, and with `OutOfMemory` where the listener is refused.
 pub fn read_through<R: Read, L: Listener<C, M>, const C: usize, const M: usize>(
     alloc: Global,
     reader: &mut R,

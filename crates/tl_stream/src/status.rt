@@ -5,8 +5,8 @@ ghost use Rattle.tl_stream.specs.Statuses.{status_of, fault_text};
 use crate::fault::TextFault;
 use std::fmt;
 
-/// The exit status of what `run_text` gave (this project's choice): 0 exactly where all five
-/// channels are done, 1 where one of them is not, 3 where the text is no trace, and 4 for every
+/// The exit status of a program that answered a text or not (this project's choice): 0 exactly where all
+/// five channels are done, 1 where one of them is not, 3 where the text is no trace, and 4 for every
 /// other fault. (A command line that gives no order ends the program with 2.)
 pub fn exit_status(ending: &Result<bool, TextFault>) -> u8
     ensures { result ≡ status_of ending.now }
