@@ -7,96 +7,93 @@ ghost use Rattle.tl_settle.specs.Books.{KnowsClient, KnowsManager};
 
 use std::alloc::Allocator;
 use tl_msg::Channel;
-use tl_ring::{BuildFault, Ring, SendHalf, TakeHalf, new_ring};
+use tl_ring::{BuildFault, Ring, SendHalf, TakeHalf};
 use tl_settle::{ClientBook, ManagerBook, new_books};
 
 /// A ring as both its ends have it.
 pub(crate) type Halves<K, const V: usize, A> = (SendHalf<K, V, A>, TakeHalf<K, V, A>);
 
-/// A ring of each channel.
-pub(crate) type Five<RingA, RingB, RingC, RingD, RingE> = (RingA, RingB, (RingC, RingD, RingE));
+/// A ring of a bridge that is being made: one buffer for one thread, or its two halves for two.
+pub(crate) trait NewRing<A> {
+    // it is new, and of so many beats
+    ghost IsNew: { (size : ℕ) → Self → Type 0 };
 
-/// Rings of a bridge that is being made: one, as a buffer for one thread or as two halves for two, or
-/// three times such rings.
-pub(crate) trait NewRings<A> {
-    // they are new, and of so many beats each
-    ghost AreNew: { (size : ℕ) → Self → Type 0 };
-
-    /// Rings of `size` beats, refused as [`Ring::new`] is.
-    fn new_rings(alloc: A, size: usize) -> Result<Self, BuildFault>
-        ensures new { IfOk result (λ rings. AreNew size rings) }
+    /// A ring of `size` beats, refused as [`Ring::new`] is.
+    fn new_ring(alloc: A, size: usize) -> Result<Self, BuildFault>
+        ensures new { IfOk result (λ ring. IsNew size ring) }
         ensures size { IsOk result → (1 ≤ size) × (size ≤ MAX_RING) }
         ensures ring_size { IfErr result (λ fault.
             (fault ≡ BuildFault.RingSize) ↔ ((size ≡ 0) ⊎ (MAX_RING < size))) };
 
-    /// Lets them go, where the rest of the bridge can't be made. (A bound `Drop` would owe the sizes of
-    /// their parts once more.)
+    /// Lets it go, where the rest of the bridge can't be made. (A bound `Drop` would owe the sizes of
+    /// its parts once more.)
     fn let_go(self);
 }
 
-impl<K: Channel, const V: usize, A: Allocator> NewRings<A> for Ring<K, V, A> {
-    ghost AreNew = { λ size ring. ring ≡ buffer [] size };
+impl<K: Channel, const V: usize, A: Allocator> NewRing<A> for Ring<K, V, A> {
+    ghost IsNew = { λ size ring. ring ≡ buffer [] size };
 
-    fn new_rings(alloc: A, size: usize) -> Result<Self, BuildFault> {
+    fn new_ring(alloc: A, size: usize) -> Result<Self, BuildFault> {
         Ring::new(alloc, size)
     }
 
     fn let_go(self) {}
 }
 
-impl<K: Channel, const V: usize, A: Allocator + Copy> NewRings<A> for Halves<K, V, A> {
-    ghost AreNew = { λ size halves. IsNewRing size halves.0 halves.1 };
+impl<K: Channel, const V: usize, A: Allocator + Copy> NewRing<A> for Halves<K, V, A> {
+    ghost IsNew = { λ size halves. IsNewRing size halves.0 halves.1 };
 
-    fn new_rings(alloc: A, size: usize) -> Result<Self, BuildFault> {
-        new_ring(alloc, size)
+    fn new_ring(alloc: A, size: usize) -> Result<Self, BuildFault> {
+        tl_ring::new_ring(alloc, size)
     }
 
     fn let_go(self) {}
 }
 
-impl<A: Copy, R: NewRings<A>, S: NewRings<A>, T: NewRings<A>> NewRings<A> for (R, S, T) {
-    ghost AreNew = { λ size rings. R.AreNew size rings.0 × S.AreNew size rings.1 × T.AreNew size rings.2 };
-
-    fn new_rings(alloc: A, size: usize) -> Result<Self, BuildFault> {
-        let r = given!(R::new_rings(alloc, size));
-        let s = given!(S::new_rings(alloc, size), r);
-        let t = given!(T::new_rings(alloc, size), r, s);
-        Ok((r, s, t))
-    }
-
-    fn let_go(self) {
-        let (r, s, t) = self;
-        r.let_go();
-        s.let_go();
-        t.let_go();
-    }
-}
-
-/// What a bridge is made of: its rings, and the books of both sides.
-pub(crate) type Parts<Rings, const C: usize, const M: usize, A> = (
-    Rings,
+/// What a bridge is made of: a ring for each channel, and the books of both sides.
+pub(crate) type Parts<RingA, RingB, RingC, RingD, RingE, const C: usize, const M: usize, A> = (
+    RingA,
+    RingB,
+    RingC,
+    RingD,
+    RingE,
     ClientBook<C, A>,
     ManagerBook<M, A>,
 );
 
-// The rings of a bridge, whatever they are, and both books: all that takes memory, so that who calls
-// has one way out. It knows nothing of the rings, so that to let them go where the books fail costs
-// the checker little.
-pub(crate) fn new_parts<const C: usize, const M: usize, A: Allocator + Copy, Rings: NewRings<A>>(
-    alloc: A,
-    ring: usize,
-) -> Result<Parts<Rings, C, M, A>, BuildFault>
-    ensures rings { IfOk result (λ parts. Rings.AreNew ring parts.0) }
-    ensures client { IfOk result (λ parts. KnowsClient {w = C} parts.1 []) }
-    ensures manager { IfOk result (λ parts. KnowsManager {w = M} parts.2 []) }
+// A ring for each channel, whatever it is, and both books: all that takes memory, so that who calls
+// has one way out. It knows nothing of the rings, so that to let some go where the next one fails
+// costs the checker little.
+pub(crate) fn new_parts<
+    const C: usize,
+    const M: usize,
+    A: Allocator + Copy,
+    RingA: NewRing<A>,
+    RingB: NewRing<A>,
+    RingC: NewRing<A>,
+    RingD: NewRing<A>,
+    RingE: NewRing<A>,
+>(alloc: A, ring: usize) -> Result<Parts<RingA, RingB, RingC, RingD, RingE, C, M, A>, BuildFault>
+    ensures rings { IfOk result (λ parts. RingA.IsNew ring parts.0 × RingB.IsNew ring parts.1 ×
+        RingC.IsNew ring parts.2 × RingD.IsNew ring parts.3 × RingE.IsNew ring parts.4) }
+    ensures client { IfOk result (λ parts. KnowsClient {w = C} parts.5 []) }
+    ensures manager { IfOk result (λ parts. KnowsManager {w = M} parts.6 []) }
     ensures size { IsOk result → (1 ≤ ring) × (ring ≤ MAX_RING) }
     ensures ring_size { IfErr result (λ fault.
         (fault ≡ BuildFault.RingSize) ↔ ((ring ≡ 0) ⊎ (MAX_RING < ring))) }
 {
-    let rings = given!(Rings::new_rings(alloc, ring));
+    let a = given!(RingA::new_ring(alloc, ring));
+    let b = given!(RingB::new_ring(alloc, ring), a);
+    let c = given!(RingC::new_ring(alloc, ring), a, b);
+    let d = given!(RingD::new_ring(alloc, ring), a, b, c);
+    let e = given!(RingE::new_ring(alloc, ring), a, b, c, d);
     let Ok((client, manager)) = new_books(alloc) else {
-        rings.let_go();
+        a.let_go();
+        b.let_go();
+        c.let_go();
+        d.let_go();
+        e.let_go();
         return Err(BuildFault::OutOfMemory);
     };
-    Ok((rings, client, manager))
+    Ok((a, b, c, d, e, client, manager))
 }

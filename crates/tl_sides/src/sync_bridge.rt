@@ -12,7 +12,7 @@ ghost use Rattle.tl_sides.specs.Bridges.{bridge_takes_a, bridge_takes_b, bridge_
 ghost use Rattle.tl_sides.specs.Calls.{OffersBeat, ClosesChannel, TakesBeat};
 
 use crate::client_port::ClientPort;
-use crate::making::{Five, Parts, new_parts};
+use crate::making::{Parts, new_parts};
 use crate::manager_port::ManagerPort;
 use crate::per_channel::PerChannel;
 use crate::sides::standings_between;
@@ -61,7 +61,11 @@ impl<const C: usize, const M: usize, A: Allocator> Model for SyncBridge<C, M, A>
 // The bridge over its rings and books.
 fn bridge_over<const C: usize, const M: usize, A: Allocator>(
     parts: Parts<
-        Five<Ring<ChA, M, A>, Ring<ChB, C, A>, Ring<ChC, M, A>, Ring<ChD, C, A>, Ring<ChE, M, A>>,
+        Ring<ChA, M, A>,
+        Ring<ChB, C, A>,
+        Ring<ChC, M, A>,
+        Ring<ChD, C, A>,
+        Ring<ChE, M, A>,
         C,
         M,
         A,
@@ -69,13 +73,12 @@ fn bridge_over<const C: usize, const M: usize, A: Allocator>(
 ) -> SyncBridge<C, M, A>
     // for rings of one size, and for the books of a new bridge
     ensures { (ring : ℕ) → 1 ≤ ring → IsWidth C → IsWidth M →
-        (parts.0.0 ≡ buffer [] ring) × (parts.0.1 ≡ buffer [] ring) × ((parts.0.2.0 ≡ buffer [] ring) ×
-        (parts.0.2.1 ≡ buffer [] ring) × (parts.0.2.2 ≡ buffer [] ring)) →
-        KnowsClient {w = C} parts.1 [] → KnowsManager {w = M} parts.2 [] →
+        (parts.0 ≡ buffer [] ring) × (parts.1 ≡ buffer [] ring) × (parts.2 ≡ buffer [] ring) ×
+        (parts.3 ≡ buffer [] ring) × (parts.4 ≡ buffer [] ring) →
+        KnowsClient {w = C} parts.5 [] → KnowsManager {w = M} parts.6 [] →
         StandsFor result (nothing_yet ring) }
 {
-    let (rings, client, manager) = parts;
-    let (a, b, (c, d, e)) = rings;
+    let (a, b, c, d, e, client, manager) = parts;
     SyncBridge {
         client: ClientPort::over(client),
         manager: ManagerPort::over(manager),

@@ -11,20 +11,20 @@ new_parts-requires g c =
     (inner_small client 0 5 9223372036854775808 c.requires-raw.1.1.1.0, inner_small manager 0 5 9223372036854775808 c.requires-raw.1.1.1.1.0)
 
 -- rings are made, and let go, whose beats fit memory
-pub new_parts-requires-room-Rings-NewRings : goal.new_parts-requires-room-Rings-NewRings
-new_parts-requires-room-Rings-NewRings g c κs within = beat_small g.row.M c.requires.manager
+pub new_parts-requires-room-RingA-NewRing : goal.new_parts-requires-room-RingA-NewRing
+new_parts-requires-room-RingA-NewRing g c κs within = beat_small g.row.M c.requires.manager
 
-pub new_parts-requires-room-Rings-NewRings-3 : goal.new_parts-requires-room-Rings-NewRings-3
-new_parts-requires-room-Rings-NewRings-3 g c κs within = beat_small g.row.C c.requires.client
+pub new_parts-requires-room-RingB-NewRing : goal.new_parts-requires-room-RingB-NewRing
+new_parts-requires-room-RingB-NewRing g c κs within = beat_small g.row.C c.requires.client
 
-pub new_parts-requires-room-Rings-NewRings-5 : goal.new_parts-requires-room-Rings-NewRings-5
-new_parts-requires-room-Rings-NewRings-5 g c κs within = beat_small g.row.M c.requires.manager
+pub new_parts-requires-room-RingC-NewRing : goal.new_parts-requires-room-RingC-NewRing
+new_parts-requires-room-RingC-NewRing g c κs within = beat_small g.row.M c.requires.manager
 
-pub new_parts-requires-room-Rings-NewRings-7 : goal.new_parts-requires-room-Rings-NewRings-7
-new_parts-requires-room-Rings-NewRings-7 g c κs within = beat_small g.row.C c.requires.client
+pub new_parts-requires-room-RingD-NewRing : goal.new_parts-requires-room-RingD-NewRing
+new_parts-requires-room-RingD-NewRing g c κs within = beat_small g.row.C c.requires.client
 
-pub new_parts-requires-room-Rings-NewRings-9 : goal.new_parts-requires-room-Rings-NewRings-9
-new_parts-requires-room-Rings-NewRings-9 g c κs within = beat_small g.row.M c.requires.manager
+pub new_parts-requires-room-RingE-NewRing : goal.new_parts-requires-room-RingE-NewRing
+new_parts-requires-room-RingE-NewRing g c κs within = beat_small g.row.M c.requires.manager
 
 pub sides_over-requires : goal.sides_over-requires
 sides_over-requires g c =

@@ -51,10 +51,9 @@ returns g c = λ size near far rings knows_client knows_manager.
     let parts = c.args.parts in
     let client = c.over.ensures in
     let manager = c.over-4.ensures in
-    let sends = parts.0 in
-    new_sides size sends.0.0 sends.1.0 sends.2.0.0 sends.2.1.0 sends.2.2.0
+    new_sides size parts.0.0 parts.1.0 parts.2.0 parts.3.0 parts.4.0
     c.over-5.result.half c.over-2.result.half c.over-6.result.half c.over-3.result.half c.over-7.result.half
-    (rw c.over-5.ensures rings.0, rw c.over-2.ensures rings.1, rw c.over-6.ensures rings.2.0, rw c.over-3.ensures rings.2.1, rw c.over-7.ensures rings.2.2)
+    (rw c.over-5.ensures rings.0, rw c.over-2.ensures rings.1, rw c.over-6.ensures rings.2, rw c.over-3.ensures rings.3, rw c.over-7.ensures rings.4)
     c.over.result c.over-4.result (client.stands near far knows_client) (manager.stands near far knows_manager)
     (client.ready_a, manager.ready_b, client.ready_c, manager.ready_d, client.ready_e)
     (manager.empty_a, client.empty_b, manager.empty_c, client.empty_d, manager.empty_e)

@@ -17,9 +17,7 @@ over-requires-2 g c = (
 
 pub returns : goal.returns
 returns g c = λ ring some near far made knows_client knows_manager.
-    let rings = c.args.parts.0 in
-    new_bridge c.over.result c.over-2.result rings.0 rings.1 rings.2.0 rings.2.1 rings.2.2 ring some
-    (made.0, made.1, made.2.0, made.2.1, made.2.2)
+    new_bridge c.over.result c.over-2.result c.args.parts.0 c.args.parts.1 c.args.parts.2 c.args.parts.3 c.args.parts.4 ring some made
     (c.over.ensures.stands near far knows_client) (c.over-2.ensures.stands near far knows_manager)
     (c.over.ensures.ready_a, c.over-2.ensures.ready_b, c.over.ensures.ready_c, c.over-2.ensures.ready_d, c.over.ensures.ready_e)
     (c.over-2.ensures.empty_a, c.over.ensures.empty_b, c.over-2.ensures.empty_c, c.over.ensures.empty_d, c.over-2.ensures.empty_e)

@@ -11,24 +11,24 @@ new_parts-requires g c =
     (inner_small row 0 5 9223372036854775808 whole, inner_small row 1 5 9223372036854775808 whole)
 
 -- and each ring that is made, and let go on the way
-pub new_parts-requires-room-Rings-NewRings : goal.new_parts-requires-room-Rings-NewRings
-new_parts-requires-room-Rings-NewRings g c κs within =
+pub new_parts-requires-room-RingA-NewRing : goal.new_parts-requires-room-RingA-NewRing
+new_parts-requires-room-RingA-NewRing g c κs within =
     part_small (bridge_layout g.row.C g.row.M g.row.A g.A.Allocator) 2 9223372036854775808 c.requires-raw.1.1.1.0
 
-pub new_parts-requires-room-Rings-NewRings-2 : goal.new_parts-requires-room-Rings-NewRings-2
-new_parts-requires-room-Rings-NewRings-2 g c κs within =
+pub new_parts-requires-room-RingB-NewRing : goal.new_parts-requires-room-RingB-NewRing
+new_parts-requires-room-RingB-NewRing g c κs within =
     part_small (bridge_layout g.row.C g.row.M g.row.A g.A.Allocator) 3 9223372036854775808 c.requires-raw.1.1.1.0
 
-pub new_parts-requires-room-Rings-NewRings-3 : goal.new_parts-requires-room-Rings-NewRings-3
-new_parts-requires-room-Rings-NewRings-3 g c κs within =
+pub new_parts-requires-room-RingC-NewRing : goal.new_parts-requires-room-RingC-NewRing
+new_parts-requires-room-RingC-NewRing g c κs within =
     part_small (bridge_layout g.row.C g.row.M g.row.A g.A.Allocator) 4 9223372036854775808 c.requires-raw.1.1.1.0
 
-pub new_parts-requires-room-Rings-NewRings-4 : goal.new_parts-requires-room-Rings-NewRings-4
-new_parts-requires-room-Rings-NewRings-4 g c κs within =
+pub new_parts-requires-room-RingD-NewRing : goal.new_parts-requires-room-RingD-NewRing
+new_parts-requires-room-RingD-NewRing g c κs within =
     part_small (bridge_layout g.row.C g.row.M g.row.A g.A.Allocator) 5 9223372036854775808 c.requires-raw.1.1.1.0
 
-pub new_parts-requires-room-Rings-NewRings-5 : goal.new_parts-requires-room-Rings-NewRings-5
-new_parts-requires-room-Rings-NewRings-5 g c κs within =
+pub new_parts-requires-room-RingE-NewRing : goal.new_parts-requires-room-RingE-NewRing
+new_parts-requires-room-RingE-NewRing g c κs within =
     part_small (bridge_layout g.row.C g.row.M g.row.A g.A.Allocator) 6 9223372036854775808 c.requires-raw.1.1.1.0
 
 pub bridge_over-requires : goal.bridge_over-requires

@@ -1,4 +1,4 @@
-use Rattle.tl_sides.proofs.making.RingNewRings.new_rings.Goals as goal
+use Rattle.tl_sides.proofs.making.RingNewRing.new_ring.Goals as goal
 
 pub new-requires : goal.new-requires
 new-requires g c = c.requires-raw.1.1.1.1
