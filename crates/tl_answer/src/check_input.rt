@@ -23,17 +23,15 @@ use tl_settle::new_books;
 use tl_stream::{Input, Listener, TextFault, read_through};
 use tl_trace::{Counts, Script};
 
-/// A check that goes on while the text is read.
+/// By this a judge listens.
 #[derive(Drop)]
-struct Checking<const C: usize, const M: usize> {
-    judge: Judge<C, M>,
-}
+struct Check;
 
-impl<const C: usize, const M: usize> Listener<C, M> for Checking<C, M> {
+impl<const C: usize, const M: usize> Listener<Check, C, M> for Judge<C, M> {
     ghost Listens = { Judges };
 
     fn hear(&mut self, held: &Script<C, M>) -> Result<Counts, AllocError> {
-        Ok(self.judge.go_on(held))
+        Ok(self.go_on(held))
     }
 }
 
@@ -61,21 +59,21 @@ fn end_of<const C: usize, const M: usize>(
     }
 }
 
-// The answer of a new check to a text whose header names this version and these widths.
+// The answer of a check by a new judge to a text whose header names this version and these widths.
 fn check_by<R: Read, const C: usize, const M: usize>(
     alloc: Global,
     reader: &mut R,
     input: &mut Input,
     version: u8,
-    checking: &mut Checking<C, M>,
+    judge: &mut Judge<C, M>,
 ) -> Result<AnswerParts, TextFault>
     requires { IsFresh (R.remaining reader.old) input.old ×
-        HasHeader (held input.old) version C M × IsNew (Judges version) checking.old }
+        HasHeader (held input.old) version C M × IsNew (Judges version) judge.old }
     ensures { ReadsAnswer (unread_of input.old (R.remaining reader.old)) (R.remaining reader.new)
         true input.new result }
 {
-    match read_through(alloc, reader, input, version, checking) {
-        Ok(last) => end_of(alloc, &mut checking.judge, version, last),
+    match read_through::<R, Check, Judge<C, M>, C, M>(alloc, reader, input, version, judge) {
+        Ok(last) => end_of(alloc, judge, version, last),
         Err(fault) => Err(fault),
     }
 }
@@ -97,6 +95,6 @@ pub(crate) fn check_input<R: Read, const C: usize, const M: usize>(
     let Ok((client, manager)) = new_books::<C, M, Global>(alloc) else {
         return Err(TextFault::OutOfMemory);
     };
-    let judge = Judge::<C, M>::new(client, manager);
-    check_by(alloc, reader, input, version, &mut Checking { judge })
+    let mut judge = Judge::<C, M>::new(client, manager);
+    check_by(alloc, reader, input, version, &mut judge)
 }

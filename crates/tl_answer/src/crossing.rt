@@ -83,7 +83,7 @@ impl<const C: usize, const M: usize> Crossing<C, M> {
     }
 }
 
-impl<const C: usize, const M: usize> Listener<C, M> for Crossing<C, M> {
+impl<const C: usize, const M: usize> Listener<Crossing<C, M>, C, M> for Crossing<C, M> {
     ghost Listens = { Crosses };
 
     fn hear(&mut self, held: &Script<C, M>) -> Result<Counts, AllocError> {
@@ -104,7 +104,9 @@ fn cross<R: Read, const C: usize, const M: usize>(
     ensures { ReadsAnswer (unread_of input.old (R.remaining reader.old)) (R.remaining reader.new)
         false input.new result }
 {
-    match read_through(alloc, reader, input, version, crossing) {
+    match read_through::<R, Crossing<C, M>, Crossing<C, M>, C, M>(
+        alloc, reader, input, version, crossing,
+    ) {
         Ok(last) => crossing.end(alloc, last),
         Err(fault) => Err(fault),
     }

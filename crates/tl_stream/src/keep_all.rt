@@ -9,7 +9,7 @@ use tl_trace::{Counts, Script};
 #[derive(Drop)]
 pub(crate) struct KeepAll;
 
-impl<const C: usize, const M: usize> Listener<C, M> for KeepAll {
+impl<const C: usize, const M: usize> Listener<KeepAll, C, M> for KeepAll {
     ghost Listens = { Keeps };
 
     fn hear(&mut self, _held: &Script<C, M>) -> Result<Counts, AllocError> {

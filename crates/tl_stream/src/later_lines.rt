@@ -50,7 +50,7 @@ fn read_held<const C: usize, const M: usize>(
 }
 
 /// Lets a listener go on with the beats that were read, and those go that it is done with.
-fn hear_held<L: Listener<C, M>, const C: usize, const M: usize>(
+fn hear_held<By, L: Listener<By, C, M>, const C: usize, const M: usize>(
     lines: &mut ScriptReader<C, M>,
     listener: &mut L,
 ) -> Result<(), TextFault>
@@ -81,7 +81,7 @@ fn hear_held<L: Listener<C, M>, const C: usize, const M: usize>(
 ///
 /// Refused as `script_of_input` is, and with `OutOfMemory` where the listener is refused.
 #[inline(never)]
-fn read_pieces<R: Read, L: Listener<C, M>, const C: usize, const M: usize>(
+fn read_pieces<R: Read, By, L: Listener<By, C, M>, const C: usize, const M: usize>(
     reader: &mut R,
     input: &mut Input,
     lines: &mut ScriptReader<C, M>,
@@ -114,7 +114,7 @@ fn read_pieces<R: Read, L: Listener<C, M>, const C: usize, const M: usize>(
                 None => Ok(()),
             };
         }
-        if let Err(fault) = hear_held(lines, listener) {
+        if let Err(fault) = hear_held::<By, L, C, M>(lines, listener) {
             return Err(fault);
         }
         if let Err(fault) = input.refill(reader) {
@@ -129,7 +129,7 @@ fn read_pieces<R: Read, L: Listener<C, M>, const C: usize, const M: usize>(
 /// script that are still held then.
 ///
 /// Refused as [`script_of_input`] is, and with `OutOfMemory` where the listener is refused.
-pub fn read_through<R: Read, L: Listener<C, M>, const C: usize, const M: usize>(
+pub fn read_through<R: Read, By, L: Listener<By, C, M>, const C: usize, const M: usize>(
     alloc: Global,
     reader: &mut R,
     input: &mut Input,
@@ -145,7 +145,7 @@ pub fn read_through<R: Read, L: Listener<C, M>, const C: usize, const M: usize>(
         (unread_of input.old (R.remaining reader.old)) (R.remaining reader.new) input.new) }
 {
     let mut lines = ScriptReader::<C, M>::new(alloc, version);
-    match read_pieces(reader, input, &mut lines, listener) {
+    match read_pieces::<R, By, L, C, M>(reader, input, &mut lines, listener) {
         Ok(()) => Ok(lines.script),
         Err(fault) => Err(fault),
     }
@@ -172,5 +172,5 @@ pub fn script_of_input<R: Read, const C: usize, const M: usize>(
     ensures { ReadsScript (unread_of input.old (R.remaining reader.old)) (R.remaining reader.new)
         version input.new result }
 {
-    read_through(alloc, reader, input, version, &mut KeepAll)
+    read_through::<R, KeepAll, KeepAll, C, M>(alloc, reader, input, version, &mut KeepAll)
 }

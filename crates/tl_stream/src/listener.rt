@@ -10,7 +10,9 @@ use tl_trace::{Counts, Script};
 
 /// What goes on with the near beats of a text while it is read, so that those that it is done with
 /// need not be held any more (this project's choice).
-pub trait Listener<const C: usize, const M: usize> {
+///
+/// `By` is any type of the crate that says how a type listens: so a crate may say it of a type of another crate.
+pub trait Listener<By, const C: usize, const M: usize> {
     // in a trace of this version it is done with the beats that have gone, and has perhaps come to some of
     // those that the script holds
     ghost Listens: { (version : ℕ) → Self → Gone C M → TheScript C M → Type 0 };

@@ -16,7 +16,7 @@ end_of-requires g c =
 pub returns-in-Ok : goal.returns-in-Ok
 returns-in-Ok g c =
     let read = c.in-Ok.ensures.ok in
-    let judge = c.read_through.new.listener.judge in
+    let judge = c.read_through.new.listener in
     let s = c.in-Ok.last in
     let Has : Beats g.row.C g.row.M → Type 0 = λ beats. HasJudged beats judge in
     let near = all_of read.gone s in

@@ -1,6 +1,6 @@
 use Rattle.tl_answer.proofs.Names.{lit<, CanJudge, HasJudged}
 use Rattle.tl_answer.proofs.Listening.{can-judge, counted-on, goes-on}
-use Rattle.tl_answer.proofs.check_input.CheckingListener.hear.Goals as goal
+use Rattle.tl_answer.proofs.check_input.JudgeListenerCheck.hear.Goals as goal
 
 pub go_on-requires : goal.go_on-requires
 go_on-requires g c = (lit< tt, (lit< tt, (c.requires.0, (c.requires.1, c.requires.2.2.can))))
@@ -8,7 +8,7 @@ go_on-requires g c = (lit< tt, (lit< tt, (c.requires.0, (c.requires.1, c.require
 pub returns-clause-on : goal.returns-clause-on
 returns-clause-on g c = λ version gone h rest more went grown few.
     let s = c.args.held.now in
-    let was = c.args.self.now.judge in
+    let was = c.args.self.now in
     let judge = c.go_on.new.self in
     let counts = c.go_on.result in
     let judged = c.go_on.ensures in
