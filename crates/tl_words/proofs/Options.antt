@@ -1,11 +1,12 @@
 -- What clap finds of the options, by its rows.
 use Rattle.std.proofs.Common.{◌≡◌, ◌∙◌, ap₂, false, true, ℕ, Bor, box_value, List, [], ◌∷◌, Option, Some, None, Err, IfOk}
 use Rattle.std.proofs.Common.{IsOkAnd, Ok, Result, ◌++◌, option_map, codes, refl, sym, ap, arith}
-use Rattle.std.specs.Prelude.{unwrap_or}
+use Rattle.std.specs.Prelude.{◌||◌, unwrap_or}
 use Rattle.std.specs.Str.Parse.{ParsesUnsigned, digits_value, without_leading_plus}
 use Rattle.clap.specs.Simple.{app_of_fields}
-use Rattle.clap.specs.Words.{AddsInTurn, AddsSubcommand, App, Row, Text, app_of, first_of, is_simple, new_app}
-use Rattle.clap.specs.Words.{subcommand_name_of, subcommand_rows, subcommand_rows_of, with_subcommand}
+use Rattle.clap.specs.Words.{AddsArg, AddsInTurn, AddsSubcommand, App, Row, Rule, Text, app_of, first_of, is_simple, new_app}
+use Rattle.clap.specs.Words.{subcommand_name_of, subcommand_rows, subcommand_rows_of, with_rule, with_subcommand}
+use Rattle.clap.specs.declared.builder.arg.Arg.{Arg}
 use Rattle.clap.specs.declared.builder.command.Command.{Command}
 use Rattle.clap.specs.declared.builder.command.Command.TheOpen.{Command-F}
 use Rattle.clap.specs.declared.builder.command.Command.TheViews.{out-Command as fields_of}
@@ -15,7 +16,7 @@ use Rattle.clap.proofs.OnLiterals.{clap_on_literals}
 use Rattle.tl_order.specs.declared.Order.{Order}
 use Rattle.tl_order.specs.declared.Order.TheVariants.{Run, Check}
 use Rattle.tl_words.specs.CommandLines.{IsOrderOf, IsRunOf, check_shape, file_of, program, run_shape}
-use Rattle.tl_words.specs.Inner.Rules.{HasShape, bare}
+use Rattle.tl_words.specs.Inner.Rules.{HasApp, HasRule, HasShape, bare}
 
 -- clap says what comes of the words of this command
 pub program_is_simple : is_simple program ≡ true
@@ -58,6 +59,11 @@ number_of_word (Some s) d w first n r is empty parsed ok said =
 pub with_about : (new about : Command) (x : Option (Bor Text)) (app : App) → fields_of about ≡ record (fields_of new) { about = x }
     → app_of new ≡ app → (fields_of new).has_globals ≡ false → (app_of about ≡ app) × ((fields_of about).has_globals ≡ false)
 with_about new about x app e is none = (ap app_of_fields e ∙ is, ap (λ (f : Command-F Command). f.has_globals) e ∙ none)
+
+-- a command with one more argument, the last
+pub added : (old new : Command) (a : Arg) (app : App) (rule : Rule) → AddsArg old a new → HasApp app old → HasRule rule a
+    → HasApp (with_rule app rule) new
+added old new a app rule adds is has = (adds.shape has.1 ∙ ap₂ with_rule is.0 has.0, adds.globals ∙ ap₂ (λ x y. x || y) is.1 has.1)
 
 -- the command before its subcommands, as it is made
 pub bare_of_new : (new about version required : Command) (x : Option (Bor Text)) (y : Bor Text)

@@ -2,12 +2,11 @@
 #![tactic(auto)]
 
 ghost use Rattle.std.specs.Prelude.{◌≡◌, ◌≤◌, ◌++◌, ◌∷◌, [], Some, IfOk, IsOkAnd, OnOk, codes, map, option_map};
-ghost use Rattle.clap.specs.Words.{App, Rule, Shape, app_of, found_of, rows_of, subcommand_rows_of};
-ghost use Rattle.clap.specs.Words.{with_rule};
+ghost use Rattle.clap.specs.Words.{app_of, found_of, rows_of, subcommand_rows_of};
 ghost use Rattle.tl_order.specs.Orders.{IsInRange};
 ghost use Rattle.tl_words.specs.CommandLines.{IsOrderOf, IsRunOf, called_by, check_shape, file_of, file_rule};
 ghost use Rattle.tl_words.specs.CommandLines.{number_in, number_rule, program, run_shape, sync_rule};
-ghost use Rattle.tl_words.specs.Inner.Rules.{HasApp, HasRule, HasShape, bare};
+ghost use Rattle.tl_words.specs.Inner.Rules.{HasRule, HasShape, bare};
 
 use clap::error::{Error, ErrorKind};
 use clap::{Arg, ArgAction, ArgMatches, Command};
@@ -56,20 +55,6 @@ fn file_argument<'a>(alloc: Global) -> Arg<'a>
     )
 }
 
-/// A command with one more argument, where there is a command.
-fn with_argument<'a>(
-    command: Result<Command<'a>, AllocError>,
-    argument: Arg<'a>,
-) -> Result<Command<'a>, AllocError>
-    ensures { (app : App) → (rule : Rule) → IfOk command.entry (HasApp app) → HasRule rule argument.entry
-        → IfOk result (HasApp (with_rule app rule)) }
-{
-    match command {
-        Ok(command) => command.arg(argument),
-        Err(error) => Err(error),
-    }
-}
-
 /// Puts an item behind a list, where there is one. (Of any type: a function that itself takes a command from a result is dear to check.)
 fn put<T: Drop>(list: &mut Vec<T>, item: Result<T, AllocError>) -> Result<(), AllocError>
     ensures { OnOk result (IsOkAnd item (λ x. list.new.items ≡ list.old.items ++ x ∷ [])) }
@@ -88,17 +73,17 @@ fn run_command<'a>(alloc: Global) -> Result<Command<'a>, AllocError>
     let about =
         "Prints the beats that arrive across the bridge, and a report line for each channel. Each side runs in a thread of its own. The defaults are slow on a long trace: --turns 1000 --ring 4096 is for those.";
     let bare = Command::new(alloc, "run").about(about);
-    let one = with_argument(Ok(bare), number_option(alloc, "ring", "16", ring));
-    let two = with_argument(one, number_option(alloc, "turns", "4", turns));
-    let three = with_argument(two, sync_option(alloc));
-    with_argument(three, file_argument(alloc))
+    let one = bare.arg(number_option(alloc, "ring", "16", ring))?;
+    let two = one.arg(number_option(alloc, "turns", "4", turns))?;
+    let three = two.arg(sync_option(alloc))?;
+    three.arg(file_argument(alloc))
 }
 
 fn check_command<'a>(alloc: Global) -> Result<Command<'a>, AllocError>
     ensures { IfOk result (HasShape check_shape) }
 {
     let bare = Command::new(alloc, "check").about("Prints the report lines alone.");
-    with_argument(Ok(bare), file_argument(alloc))
+    bare.arg(file_argument(alloc))
 }
 
 /// The command before its subcommands.
