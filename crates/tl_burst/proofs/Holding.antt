@@ -1,9 +1,16 @@
 -- What a tracker holds through a burst is what the messages of its head have.
-use Rattle.tl_burst.proofs.Names.{◌≡◌, ◌+◌, ◌==◌, ℕ, Bool, true, false, if◌then◌else◌, bit_and, Option, None, Some, sym, ap, subst, ◌∙◌, arith}
-use Rattle.tl_burst.proofs.Names.{Rules, beats_of, IsPlace, BeatOf, burst_with, count_in, IsHeld, IsHeldIn, Place}
+use Rattle.std.specs.Bool.{then_some}
+use Rattle.tl_burst.proofs.Names.{◌≡◌, ◌+◌, ◌==◌, ℕ, Bool, true, false, not, refl, if◌then◌else◌, bit_and, Option, None, Some, sym, ap, subst, ◌∙◌, arith}
+use Rattle.tl_burst.proofs.Names.{Rules, beats_of, IsPlace, BeatOf, burst_with, count_in, IsHeld, IsHeldIn, Place, unless}
 use Rattle.tl_msg.specs.Faults.{mask_fits}
+use Rattle.tl_msg.specs.declared.fault.BeatFault.{BeatFault}
 use Rattle.tl_burst.specs.Inner.Holding.{fits_held}
 use Rattle.tl_burst.specs.declared.held.Held.{Held}
+
+-- a fault that stands where a test fails
+pub is_unless : (holds : Bool) (fault : BeatFault) → then_some (not holds) fault ≡ unless holds fault
+is_unless true fault = refl
+is_unless false fault = refl
 
 module _ {H : Type 0} (r : Rules H) (w : ℕ) where
   -- the beats of a head that is the open burst's

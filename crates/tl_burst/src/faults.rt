@@ -16,15 +16,10 @@ pub fn opening_fault<K: Channel, const W: usize>(beat: &Beat<K, W>) -> Option<Be
         return Some(fault);
     }
     let fits = mask_fits(K::MASKED, beat.mask, &held_by::<K, W>(&beat.head));
-    if !fits {
-        return Some(BeatFault::Mask);
-    }
     // clear on a message without data, and not read on E
     let clean = (K::LETTER == b'E') | K::carries_data(&beat.head) | !beat.corrupt;
-    if !clean {
-        return Some(BeatFault::Corrupt);
-    }
-    None
+    let corrupt = (!clean).then_some(BeatFault::Corrupt);
+    (!fits).then_some(BeatFault::Mask).or(corrupt)
 }
 
 /// The first fault of a beat inside a burst with this head: `HeadChanged`, then `Mask`.
@@ -40,10 +35,8 @@ pub fn continuing_fault<K: Channel, const W: usize>(
     if !same {
         return Some(BeatFault::HeadChanged);
     }
-    if !mask_fits(K::MASKED, beat.mask, held) {
-        return Some(BeatFault::Mask);
-    }
-    None
+    let fits = mask_fits(K::MASKED, beat.mask, held);
+    (!fits).then_some(BeatFault::Mask)
 }
 
 /// Whether the mask is one that the message may have: any of the active lanes on PutPartialData, else
