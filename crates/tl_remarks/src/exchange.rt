@@ -3,6 +3,7 @@ use crate::fits::rule_of;
 use crate::remark::{Key, Message, Noted, Rule};
 use std::alloc::{AllocError, Global};
 use std::collections::HashMap;
+use tl_msg::Verdict;
 
 /// The place of no message.
 const NONE: usize = usize::MAX;
@@ -15,8 +16,19 @@ const IDS: usize = 1 << u16::BITS;
 /// for another message once the one before it is answered.
 #[derive(Drop)]
 pub struct Exchange {
-    pub asks: Vec<Message>,
-    pub answers: Vec<Message>,
+    asks: Vec<Message>,
+    answers: Vec<Message>,
+    /// The channels of both, by their place from A to E.
+    asks_on: usize,
+    answers_on: usize,
+}
+
+/// Whether all beats of the channel at this place were accepted.
+fn is_whole(verdicts: &[Verdict; 5], channel: usize) -> bool {
+    matches!(
+        verdicts.get(channel),
+        Some(Verdict::Done { .. } | Verdict::Cut { .. })
+    )
 }
 
 /// For each key the place of a message.
@@ -125,12 +137,25 @@ fn note_answer(noted: &mut Noted, ask: &Message, answer: &Message) -> Result<(),
 }
 
 impl Exchange {
-    /// No messages.
-    pub fn new(alloc: Global) -> Exchange {
+    /// No messages, of these two channels.
+    pub fn new(alloc: Global, asks_on: usize, answers_on: usize) -> Exchange {
         Exchange {
             asks: Vec::new(alloc),
             answers: Vec::new(alloc),
+            asks_on,
+            answers_on,
         }
+    }
+
+    /// Adds a message to its channel.
+    pub fn add(&mut self, message: Message, is_answer: bool) -> Result<(), AllocError> {
+        let messages = if is_answer {
+            &mut self.answers
+        } else {
+            &mut self.asks
+        };
+        messages.push(message)?;
+        Ok(())
     }
 
     /// Notes what the answers answer. Remarks on one that does not fit its partner, and, where `knows_asks`
@@ -160,32 +185,30 @@ impl Exchange {
         Ok(())
     }
 
-    /// Remarks on all messages, over none of them that waits yet.
+    /// Remarks on all messages, over none of them that waits yet. A channel of which not all beats were
+    /// accepted may lack messages.
     fn judge_over(
         &self,
         open: &mut Open,
-        knows_asks: bool,
-        knows_answers: bool,
+        verdicts: &[Verdict; 5],
         noted: &mut Noted,
     ) -> Result<(), AllocError> {
         open.add(&self.asks)?;
-        self.judge_answers(open, knows_asks, noted)?;
-        if knows_answers {
+        self.judge_answers(open, is_whole(verdicts, self.asks_on), noted)?;
+        if is_whole(verdicts, self.answers_on) {
             self.judge_asks(open, noted)?;
         }
         Ok(())
     }
 
-    /// Remarks on all messages: where `knows_answers` says that no answer is missing, on those that have
-    /// none, too.
+    /// Remarks on all messages, where the channels end with these verdicts.
     pub fn judge(
         &self,
         alloc: Global,
-        knows_asks: bool,
-        knows_answers: bool,
+        verdicts: &[Verdict; 5],
         noted: &mut Noted,
     ) -> Result<(), AllocError> {
         let mut open = Open::new(alloc, self.asks.len())?;
-        self.judge_over(&mut open, knows_asks, knows_answers, noted)
+        self.judge_over(&mut open, verdicts, noted)
     }
 }

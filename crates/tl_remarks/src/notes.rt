@@ -10,17 +10,22 @@ use std::alloc::{AllocError, Global};
 use tl_msg::{Beat, ChA, ChB, ChC, ChD, ChE, Kind, Verdict};
 use tl_trace::Script;
 
+/// Requests of A and their responses on D, by source.
+const REQUESTS: usize = 0;
+
+/// Probes and requests of B and their answers on C, by source and address.
+const PROBES: usize = 1;
+
+/// Releases of C and their ReleaseAck on D, by source.
+const RELEASES: usize = 2;
+
+/// Grants of D and their GrantAck on E, by sink.
+const GRANTS: usize = 3;
+
 /// What was noted of the beats that were accepted.
 #[derive(Drop)]
 struct Notes {
-    /// Requests of A and their responses on D, by source.
-    requests: Exchange,
-    /// Probes and requests of B and their answers on C, by source and address.
-    probes: Exchange,
-    /// Releases of C and their ReleaseAck on D, by source.
-    releases: Exchange,
-    /// Grants of D and their GrantAck on E, by sink.
-    grants: Exchange,
+    exchanges: [Exchange; 4],
     noted: Noted,
 }
 
@@ -63,46 +68,46 @@ fn rule_of_data(beat: &Seen) -> Option<Rule> {
     }
 }
 
-/// Adds a message to others.
-fn add(messages: &mut Vec<Message>, message: &Message) -> Result<(), AllocError> {
-    messages.push(*message)?;
-    Ok(())
+/// The exchange that a message is of which begins with this beat, and whether it is an answer there.
+fn exchange_of(beat: &Seen) -> (usize, bool) {
+    match (beat.letter, beat.kind) {
+        (b'A', _) => (REQUESTS, false),
+        (b'B', _) => (PROBES, false),
+        (b'C', Some(Kind::Release | Kind::ReleaseData)) => (RELEASES, false),
+        (b'C', _) => (PROBES, true),
+        (b'D', Some(Kind::ReleaseAck)) => (RELEASES, true),
+        (b'D', _) => (REQUESTS, true),
+        _ => (GRANTS, true),
+    }
 }
 
 impl Notes {
     fn new(alloc: Global, has_pairs: bool) -> Notes {
         Notes {
-            requests: Exchange::new(alloc),
-            probes: Exchange::new(alloc),
-            releases: Exchange::new(alloc),
-            grants: Exchange::new(alloc),
+            exchanges: [
+                Exchange::new(alloc, 0, 3),
+                Exchange::new(alloc, 1, 2),
+                Exchange::new(alloc, 2, 3),
+                Exchange::new(alloc, 3, 4),
+            ],
             noted: Noted::new(alloc, has_pairs),
-        }
-    }
-
-    /// The messages that the one is of which begins with this beat.
-    fn messages(&mut self, beat: &Seen) -> &mut Vec<Message> {
-        match (beat.letter, beat.kind) {
-            (b'A', _) => &mut self.requests.asks,
-            (b'B', _) => &mut self.probes.asks,
-            (b'C', Some(Kind::Release | Kind::ReleaseData)) => &mut self.releases.asks,
-            (b'C', _) => &mut self.probes.answers,
-            (b'D', Some(Kind::ReleaseAck)) => &mut self.releases.answers,
-            (b'D', _) => &mut self.requests.answers,
-            _ => &mut self.grants.answers,
         }
     }
 
     /// Adds the message that begins with this beat to its exchange: a Grant also to that of which one of E is
     /// the answer.
     fn add_message(&mut self, beat: &Seen, line: u64) -> Result<(), AllocError> {
-        let message = message_of(beat, line, key_of(beat));
-        let added = add(self.messages(beat), &message);
-        if !matches!(beat.kind, Some(Kind::Grant | Kind::GrantData)) {
-            return added;
+        let (at, is_answer) = exchange_of(beat);
+        if let Some(exchange) = self.exchanges.get_mut(at) {
+            exchange.add(message_of(beat, line, key_of(beat)), is_answer)?;
         }
-        let grant = message_of(beat, line, Key::of(beat.sink, 0));
-        added.and(add(&mut self.grants.asks, &grant))
+        if !matches!(beat.kind, Some(Kind::Grant | Kind::GrantData)) {
+            return Ok(());
+        }
+        if let Some(exchange) = self.exchanges.get_mut(GRANTS) {
+            exchange.add(message_of(beat, line, Key::of(beat.sink, 0)), false)?;
+        }
+        Ok(())
     }
 
     /// Remarks on a message by this beat alone, where there is a rule for it.
@@ -120,25 +125,13 @@ impl Notes {
         self.add_remark(rule_of_data(beat), beat, line)
     }
 
-    /// Remarks on all exchanges, in the order of lines. A channel of which not all beats were accepted may
-    /// lack messages.
+    /// Remarks on all exchanges, in the order of lines.
     fn judge(&mut self, alloc: Global, verdicts: &[Verdict; 5]) -> Result<(), AllocError> {
-        let [a, b, c, d, e] = verdicts;
-        let (a, b, c) = (is_whole(a), is_whole(b), is_whole(c));
-        let (d, e) = (is_whole(d), is_whole(e));
-        let noted = &mut self.noted;
-        let requests = self.requests.judge(alloc, a, d, noted);
-        let probes = self.probes.judge(alloc, b, c, noted);
-        let releases = self.releases.judge(alloc, c, d, noted);
-        let grants = self.grants.judge(alloc, d, e, noted);
-        let sorted = noted.remarks.sort_by_key(|remark| remark.message.line);
-        requests.and(probes).and(releases).and(grants).and(sorted)
+        for exchange in &self.exchanges {
+            exchange.judge(alloc, verdicts, &mut self.noted)?;
+        }
+        self.noted.remarks.sort_by_key(|remark| remark.message.line)
     }
-}
-
-/// Whether all beats of a channel were accepted.
-fn is_whole(verdict: &Verdict) -> bool {
-    matches!(verdict, Verdict::Done { .. } | Verdict::Cut { .. })
 }
 
 /// How many beats of a channel were accepted.
