@@ -1,10 +1,12 @@
 -- A head that was read before, and the beat of a line that begins with it.
-use Rattle.tl_trace.proofs.Names.{◌≡◌, ◌≤◌, ◌<◌, ◌+◌, ◌-◌, ◌^◌, ◌&&◌, ℕ, true, false, nat_eq, nat_lt, cond, List, [], ◌∷◌, length, take, drop, Option}
+use Rattle.tl_trace.proofs.Names.{◌≡◌, ◌≤◌, ◌<◌, ◌+◌, ◌-◌, ◌^◌, ◌&&◌, ℕ, true, nat_eq, nat_lt, cond, List, [], ◌∷◌, length, take, drop, Option}
 use Rattle.tl_trace.proofs.Names.{Some, None, is_none, refl, sym, ap, ◌∙◌, arith, subst, bit_or, IfSome, list_all, list_any, slice_range, slice_index}
-use Rattle.tl_trace.proofs.Names.{get_or-take, take-take, drop-take, or_lt, BeatOf, Field, Form, bit, id_digits, length_of, digit_count, mask_fields}
-use Rattle.tl_trace.proofs.Names.{data_fields, line_length, number_of_lanes, is_lanes, number_of, field_at, fields_from, is_head_field}
-use Rattle.tl_trace.proofs.Names.{is_head_in_range, IsPart, IsHead, IsRead, Takes, mask_values, data_values, head_length, HasHead, IsKnown}
+use Rattle.tl_trace.proofs.Names.{get_or-take, take-take, drop-take, or_lt, BeatOf, Field, Form, id_digits, length_of, digit_count}
+use Rattle.tl_trace.proofs.Names.{line_length, number_of_lanes, number_of, field_at, fields_from, is_head_field}
+use Rattle.tl_trace.proofs.Names.{is_head_in_range, IsHead, IsRead, Takes, head_length, HasHead, IsKnown}
 use Rattle.tl_trace.proofs.Names.{HeadFields}
+use Rattle.tl_trace.specs.Inner.Reading.{IsRest}
+use Rattle.tl_trace.specs.declared.line_reader.Rest.{Rest}
 use Rattle.tl_trace.specs.declared.known_head.KnownHead.{KnownHead}
 use Rattle.tl_trace.proofs.ReadDigits.{range_long}
 use Rattle.tl_trace.proofs.Shaped.{made, bit_of}
@@ -30,10 +32,6 @@ fields_before text n at (field ∷ fs) room =
     let next = at + 1 + digit_count 0 field in
     ap (λ o. o ∷ fields_from 0 (take n text) next fs) (field_before text n at (digit_count 0 field) (omega arith))
     ∙ ap (λ os. field_at text at (digit_count 0 field) ∷ os) (fields_before text n next fs (omega arith))
-
-pub same_long : (text : List ℕ) (at before n : ℕ) → at + n ≤ length text → before + n ≤ length text
-    → length (slice_range text at (at + n)) ≡ length (slice_range text before (before + n))
-same_long text at before n room room' = range_long text at n room ∙ sym (range_long text before n room')
 
 both_good : (x y : ℕ) → x ≤ 15 → y ≤ 15 → bit_or x y ≤ 15
 both_good x y few few' =
@@ -105,25 +103,22 @@ module _ {H : Type 0} (f : Form H) (version : ℕ) where
       subst (λ k. HasHead f version (slice_range text at (at + k)) h) long read
 
   -- the beat of a line by its parts
-  pub beat_is : {n : ℕ} (w : ℕ) (text : List ℕ) (b : BeatOf H n) (x mask_bad data_bad mask_at data_at : ℕ)
+  pub beat_is : {n : ℕ} (w : ℕ) (text : List ℕ) (h : H) (before lanes : List ℕ) (r : Rest) (rest_at : ℕ)
       → list_all is_head_field f.head_fields ≡ true
-      → slice_index text 0 ≡ f.rules.letter → length text ≡ line_length f w → mask_at ≡ head_length f
-      → data_at ≡ mask_at + length_of w (mask_fields f) → HasHead f version text b.head
-      → IsPart w text mask_at (mask_fields f) (mask_values f b.mask) mask_bad
-      → IsPart w text data_at (data_fields f) (data_values f (number_of_lanes b.lanes) x) data_bad → mask_bad ≤ 15 → data_bad ≤ 15
-      → nat_lt b.mask (2 ^ w) && nat_lt x 2 ≡ true → b.corrupt ≡ nat_eq x 1 → number_of_lanes b.lanes < 256 ^ w → is_lanes n b.lanes ≡ true
-      → (f.rules.masked ≡ false → b.mask ≡ 0) → (f.rules.corrupts ≡ false → (list_all (λ lane. nat_eq lane 0) b.lanes ≡ true) × (x ≡ 0))
-      → IsRead f w text b
-  beat_is w text b x mask_bad data_bad mask_at data_at heads letter long first second has masks datas mask_good data_good fit same_bit small lanes
-      no_mask no_data =
-      let r = has.fields in
-      let part =
-      line_part f w (id_digits version) text r b.mask (number_of_lanes b.lanes) x mask_bad data_bad mask_at data_at heads first second has.read masks
-      datas in
+      → slice_index text 0 ≡ f.rules.letter → length text ≡ line_length f w → rest_at ≡ head_length f
+      → HasHead f version text h → IsRest f.rules.masked f.rules.corrupts n w text rest_at before lanes r
+      → list_all (λ lane. nat_eq lane 0) before ≡ true → r.bad ≤ 15 → nat_lt r.mask (2 ^ w) && nat_lt r.corrupt 2 ≡ true
+      → IsRead f w text {n = n} (record { head = h; mask = r.mask; lanes = lanes; corrupt = nat_eq r.corrupt 1 })
+  beat_is {n} w text h before lanes r rest_at heads letter long first has rest zeros good fit =
+      let b : BeatOf H n = record { head = h; mask = r.mask; lanes = lanes; corrupt = nat_eq r.corrupt 1 } in
+      let head = has.fields in
+      let d = number_of_lanes lanes in
+      let part = line_part f w (id_digits version) text head r.mask d r.corrupt r.bad rest_at heads first has.read rest.part in
       let range =
-      below_is f w r b.mask (number_of_lanes b.lanes) x true heads no_mask (λ none. (no_data none).1) small
-      (in_all (is_head_in_range f r) _ _ has.is.range fit) in
-      made f w b text (line_values f r b.mask (number_of_lanes b.lanes) x) letter long
-      (part.good (both_good _ _ (both_good _ _ has.good mask_good) data_good))
-      (line_said f b r x heads has.is (ap bit same_bit ∙ bit_of x (low (nat_lt b.mask (2 ^ w)) x fit))) range lanes
-      (line_plain f b no_mask (λ none. ((no_data none).0, same_bit ∙ ap (λ k. nat_eq k 1) (no_data none).1)))
+      below_is f w head r.mask d r.corrupt true heads rest.no_mask (λ none. (rest.no_data none).1) (rest.small good)
+      (in_all (is_head_in_range f head) _ _ has.is.range fit) in
+      made f w b text (line_values f head r.mask d r.corrupt) letter long (part.good (both_good _ _ has.good good))
+      (line_said f b head r.corrupt heads has.is (bit_of r.corrupt (low (nat_lt r.mask (2 ^ w)) r.corrupt fit))) range rest.bytes
+      (line_plain f b rest.no_mask (λ none.
+      let same = rest.no_data none in
+      (ap (list_all (λ lane. nat_eq lane 0)) same.0 ∙ zeros, ap (λ k. nat_eq k 1) same.1)))

@@ -4,7 +4,10 @@ use Rattle.tl_trace.proofs.Names.{length, map, Option, Some, is_none, refl, sym,
 use Rattle.tl_trace.proofs.Names.{and_from, or_left, or_right, map-append, length-map, list_any-append, pow_pos, list_all, list_any, BeatOf, Field}
 use Rattle.tl_trace.proofs.Names.{length_of, mask, data_lanes, corrupt, Form, bit, digit_count, fields, mask_fields, data_fields, values, value_of}
 use Rattle.tl_trace.proofs.Names.{line_length, number_of_lanes, is_plain, field_at, fields_from, is_head_field, read_value, is_head_in_range}
-use Rattle.tl_trace.proofs.Names.{IsNumber, IsPart, IsHead, IsHeadOf, mask_values, data_values, HeadFields}
+use Rattle.tl_trace.proofs.Names.{IsNumber, IsPart, IsHead, IsHeadOf, HeadFields, append_assoc, append-nil, subst, ◌/◌}
+use Rattle.tl_trace.specs.Inner.LineRests.{mask_length, data_length}
+use Rattle.tl_trace.specs.Inner.Reading.{IsRest, fields_of_mask, fields_of_data, mask_values, data_values}
+use Rattle.tl_trace.specs.declared.line_reader.Rest.{Rest}
 use Rattle.std.proofs.Math.Bool.{and-true}
 use Rattle.tl_trace.proofs.Shaped.{below}
 use Rattle.tl_trace.proofs.ReadDigits.{left_good, right_good, bad_or}
@@ -53,6 +56,47 @@ pub and_field : (w : ℕ) (text : List ℕ) (at next : ℕ) (xs : List Field) (u
     → IsPart w text at (xs ++ field ∷ []) (us ++ v ∷ []) (bit_or bad bad')
 and_field w text at next xs us bad field v bad' there p n =
     both_parts w text at next xs (field ∷ []) us (v ∷ []) bad bad' there p (number_part w text next field v bad' n)
+
+-- ---- the mask, and data and corrupt, where the channel has them
+
+-- no mask, and no value of it, where the channel has none
+pub no_mask_part : (w : ℕ) (text : List ℕ) (at m : ℕ) (t : Bool) → t ≡ false → IsPart w text at (fields_of_mask t) (mask_values t m) 0
+no_mask_part w text at m t none = rw none (no_part w text at)
+
+pub mask_part : (w : ℕ) (text : List ℕ) (at m bad : ℕ) (t : Bool) → t ≡ true → IsNumber text at ((w + 3) / 4) m bad
+    → IsPart w text at (fields_of_mask t) (mask_values t m) bad
+mask_part w text at m bad true e digits = number_part w text at mask m bad digits
+mask_part w text at m bad false e digits = absurd cc
+
+pub mask_room : (w at count n : ℕ) (t : Bool) → t ≡ true → count ≡ (w + 3) / 4 → at + mask_length t w ≤ n → at + 1 + count ≤ n
+mask_room w at count n true has same room = omega arith
+mask_room w at count n false has same room = absurd cc
+
+-- no data, and none of their values, where the channel has none
+pub no_data : (w : ℕ) (text : List ℕ) (at d c bad : ℕ) (fs : List Field) (vs : List ℕ) (t : Bool) → t ≡ false → IsPart w text at fs vs bad
+    → IsPart w text at (fs ++ fields_of_data t) (vs ++ data_values t d c) bad
+no_data w text at d c bad fs vs true none p = absurd cc
+no_data w text at d c bad fs vs false none p =
+    subst (λ ys. IsPart w text at (fs ++ []) ys bad) (sym (append-nil vs)) (subst (λ xs. IsPart w text at xs vs bad) (sym (append-nil fs)) p)
+
+pub data_room : (w at n : ℕ) (t : Bool) → t ≡ true → at + data_length t w ≤ n → at + 1 + 2 * w + 1 + 1 ≤ n
+data_room w at n true has room = omega arith
+data_room w at n false has room = absurd cc
+
+pub data_part : (w : ℕ) (text : List ℕ) (at d c bad bad' : ℕ) (t : Bool) → t ≡ true → IsNumber text at (2 * w) d bad
+    → IsNumber text (at + 1 + 2 * w) 1 c bad'
+    → IsPart w text at (fields_of_data t) (data_values t d c) (bit_or bad bad')
+data_part w text at d c bad bad' true e lanes bits =
+    and_field w text at (at + 1 + 2 * w) (data_lanes ∷ []) (d ∷ []) bad corrupt c bad' there (number_part w text at data_lanes d bad lanes) bits
+  where
+    there : at + 1 + 2 * w ≡ at + length_of w (data_lanes ∷ [])
+    there = omega arith
+data_part w text at d c bad bad' false e lanes bits = absurd cc
+
+-- where the fields of the mask end
+pub mask_size_of : (w : ℕ) (t : Bool) → length_of w (fields_of_mask t) ≡ mask_length t w
+mask_size_of w true = omega arith
+mask_size_of w false = refl
 
 -- ---- the fields of a head, on any width
 
@@ -113,34 +157,18 @@ module _ {H : Type 0} (f : Form H) where
       ap (λ (k : ℕ). k ∷ map (value_of f b) fs) (head_of_beat b field both.0)
       ∙ ap (λ (ks : List ℕ). f.value b.head field ∷ ks) (head_said b fs both.1)
 
-  -- no data, and none of their values, where the channel has none
-  pub no_data : (w : ℕ) (text : List ℕ) (at d c : ℕ) → f.rules.corrupts ≡ false → IsPart w text at (data_fields f) (data_values f d c) 0
-  no_data w text at d c none = rw none (no_part w text at)
+  pub mask_size : (w : ℕ) (t : Bool) → f.rules.masked ≡ t → length_of w (mask_fields f) ≡ mask_length t w
+  mask_size w true has = ap (λ t. length_of w (cond t (mask ∷ []) [])) has ∙ omega arith
+  mask_size w false has = ap (λ t. length_of w (cond t (mask ∷ []) [])) has
 
   pub data_long : (w : ℕ) (t : Bool) → f.rules.corrupts ≡ t → length_of w (data_fields f) ≡ cond t (1 + 2 * w + 2) 0
   data_long w true has = ap (λ t. length_of w (cond t (data_lanes ∷ corrupt ∷ []) [])) has ∙ omega arith
   data_long w false has = ap (λ t. length_of w (cond t (data_lanes ∷ corrupt ∷ []) [])) has
 
-  pub data_room : (w at n : ℕ) → f.rules.corrupts ≡ true → at + length_of w (data_fields f) ≤ n → at + 1 + 2 * w + 1 + 1 ≤ n
-  data_room w at n has room = let there = rw has at room in omega arith
-
-  pub data_part : (w : ℕ) (text : List ℕ) (at d c bad bad' : ℕ) → f.rules.corrupts ≡ true → IsNumber text at (2 * w) d bad
-      → IsNumber text (at + 1 + 2 * w) 1 c bad'
-      → IsPart w text at (data_fields f) (data_values f d c) (bit_or bad bad')
-  data_part w text at d c bad bad' has lanes bits = part f.rules.corrupts has
-    where
-      there : at + 1 + 2 * w ≡ at + length_of w (data_lanes ∷ [])
-      there = omega arith
-
-      part : (b : Bool) → b ≡ true → IsPart w text at (cond b (data_lanes ∷ corrupt ∷ []) []) (cond b (d ∷ c ∷ []) []) (bit_or bad bad')
-      part true e = and_field w text at (at + 1 + 2 * w) (data_lanes ∷ []) (d ∷ []) bad corrupt c bad' there
-          (number_part w text at data_lanes d bad lanes) bits
-      part false e = absurd cc
-
   -- ---- the whole line
 
   abbrev pub line_values : (r : HeadFields) (m d c : ℕ) → List ℕ
-  line_values r m d c = (map (read_value r) f.head_fields ++ mask_values f m) ++ data_values f d c
+  line_values r m d c = (map (read_value r) f.head_fields ++ mask_values f.rules.masked m) ++ data_values f.rules.corrupts d c
 
   pub line_long : (w : ℕ) → list_all is_head_field f.head_fields ≡ true
       → line_length f w ≡ 1 + length_of 0 f.head_fields + length_of w (mask_fields f) + length_of w (data_fields f)
@@ -150,22 +178,41 @@ module _ {H : Type 0} (f : Form H) where
       let three = length_append w (f.head_fields ++ mask_fields f) (data_fields f) in
       omega (arith, head, two, three)
 
-  pub line_part : (w digits : ℕ) (text : List ℕ) (r : HeadFields) (m d c mask_bad data_bad mask_at data_at : ℕ)
+  -- the same by the places of the reader
+  pub line_size : (w : ℕ) (masked has_data : Bool) (rest_at rest : ℕ) → f.rules.masked ≡ masked → f.rules.corrupts ≡ has_data
+      → list_all is_head_field f.head_fields ≡ true → rest_at ≡ 1 + length_of 0 f.head_fields → rest ≡ mask_length masked w + data_length has_data w
+      → rest_at + rest ≡ line_length f w
+  line_size w masked has_data rest_at rest has_mask has_datas heads first long =
+      let parts = line_long w heads in
+      let masks = mask_size w masked has_mask in
+      let datas = data_long w has_data has_datas in
+      omega (arith, parts, masks, datas, first, long)
+
+  -- what was read behind a head, by the rules of the channel
+  pub rest_of : (masked has_data : Bool) {n w at : ℕ} {text before after : List ℕ} {r : Rest} → f.rules.masked ≡ masked
+      → f.rules.corrupts ≡ has_data → IsRest masked has_data n w text at before after r
+      → IsRest f.rules.masked f.rules.corrupts n w text at before after r
+  rest_of masked has_data {n} {w} {at} {text} {before} {after} {r} has_mask has_datas is =
+      subst (λ t. IsRest t f.rules.corrupts n w text at before after r) (sym has_mask)
+      (subst (λ t. IsRest masked t n w text at before after r) (sym has_datas) is)
+
+  pub line_part : (w digits : ℕ) (text : List ℕ) (r : HeadFields) (m d c bad rest_at : ℕ)
       → list_all is_head_field f.head_fields ≡ true
-      → mask_at ≡ 1 + length_of 0 f.head_fields → data_at ≡ mask_at + length_of w (mask_fields f)
-      → IsHead digits text f.head_fields r → IsPart w text mask_at (mask_fields f) (mask_values f m) mask_bad
-      → IsPart w text data_at (data_fields f) (data_values f d c) data_bad
-      → IsPart w text 1 (fields f) (line_values r m d c) (bit_or (bit_or r.bad mask_bad) data_bad)
-  line_part w digits text r m d c mask_bad data_bad mask_at data_at heads first second head masks datas =
+      → rest_at ≡ 1 + length_of 0 f.head_fields
+      → IsHead digits text f.head_fields r
+      → IsPart w text rest_at (mask_fields f ++ data_fields f) (mask_values f.rules.masked m ++ data_values f.rules.corrupts d c) bad
+      → IsPart w text 1 (fields f) (line_values r m d c) (bit_or r.bad bad)
+  line_part w digits text r m d c bad rest_at heads first head rest =
       let wide = head_length w f.head_fields heads in
-      let two = length_append w f.head_fields (mask_fields f) in
-      let there : mask_at ≡ 1 + length_of w f.head_fields = omega (arith, wide, first) in
-      let there' : data_at ≡ 1 + length_of w (f.head_fields ++ mask_fields f) = omega (arith, wide, two, first, second) in
-      let front =
-      both_parts w text 1 mask_at f.head_fields (mask_fields f) (map (read_value r) f.head_fields) (mask_values f m) r.bad mask_bad there
-      (head_part w text 1 f.head_fields (map (read_value r) f.head_fields) r.bad heads head.part) masks in
-      both_parts w text 1 data_at (f.head_fields ++ mask_fields f) (data_fields f) (map (read_value r) f.head_fields ++ mask_values f m)
-      (data_values f d c) (bit_or r.bad mask_bad) data_bad there' front datas
+      let there : rest_at ≡ 1 + length_of w f.head_fields = omega (arith, wide, first) in
+      let says = map (read_value r) f.head_fields in
+      let masks = mask_values f.rules.masked m in
+      let datas = data_values f.rules.corrupts d c in
+      let all =
+      both_parts w text 1 rest_at f.head_fields (mask_fields f ++ data_fields f) says (masks ++ datas) r.bad bad there
+      (head_part w text 1 f.head_fields says r.bad heads head.part) rest in
+      subst (λ fs. IsPart w text 1 fs (line_values r m d c) (bit_or r.bad bad)) (sym (append_assoc f.head_fields (mask_fields f) (data_fields f)))
+      (subst (λ vs. IsPart w text 1 (f.head_fields ++ (mask_fields f ++ data_fields f)) vs (bit_or r.bad bad)) (sym (append_assoc says masks datas)) all)
 
   and_and : (a b c : Bool) → (a && b) && c ≡ a && (b && c)
   and_and true b c = refl
@@ -184,9 +231,9 @@ module _ {H : Type 0} (f : Form H) where
   mask_long m true = refl
   mask_long m false = refl
 
-  lengths : (r : HeadFields) (m : ℕ) → length (map (read_value r) f.head_fields ++ mask_values f m) ≡ length (f.head_fields ++ mask_fields f)
+  lengths : (r : HeadFields) (m : ℕ) → length (map (read_value r) f.head_fields ++ mask_values f.rules.masked m) ≡ length (f.head_fields ++ mask_fields f)
   lengths r m =
-      grow (map (read_value r) f.head_fields) (mask_values f m) f.head_fields (mask_fields f) (length-map f.head_fields (read_value r))
+      grow (map (read_value r) f.head_fields) (mask_values f.rules.masked m) f.head_fields (mask_fields f) (length-map f.head_fields (read_value r))
       (mask_long m f.rules.masked)
     where
       grow : (us vs : List ℕ) (xs ys : List Field) → length us ≡ length xs → length vs ≡ length ys → length (us ++ vs) ≡ length (xs ++ ys)
@@ -206,11 +253,11 @@ module _ {H : Type 0} (f : Form H) where
       → (f.rules.corrupts ≡ false → c ≡ 0) → d < 256 ^ w
       → below f w (fields f) (line_values r m d c) ≡ (is_head_in_range f r && nat_lt m (2 ^ w)) && nat_lt c 2
   line_range w r m d c heads no_mask no_data small =
-      below_append w (f.head_fields ++ mask_fields f) (data_fields f) (map (read_value r) f.head_fields ++ mask_values f m) (data_values f d c)
+      below_append w (f.head_fields ++ mask_fields f) (data_fields f) (map (read_value r) f.head_fields ++ mask_values f.rules.masked m) (data_values f.rules.corrupts d c)
       (lengths r m)
-      ∙ ap (λ (b : Bool). b && below f w (data_fields f) (data_values f d c))
-      (below_append w f.head_fields (mask_fields f) (map (read_value r) f.head_fields) (mask_values f m) (length-map f.head_fields (read_value r))
-      ∙ ap (λ (b : Bool). b && below f w (mask_fields f) (mask_values f m)) (head_below w r f.head_fields heads)
+      ∙ ap (λ (b : Bool). b && below f w (data_fields f) (data_values f.rules.corrupts d c))
+      (below_append w f.head_fields (mask_fields f) (map (read_value r) f.head_fields) (mask_values f.rules.masked m) (length-map f.head_fields (read_value r))
+      ∙ ap (λ (b : Bool). b && below f w (mask_fields f) (mask_values f.rules.masked m)) (head_below w r f.head_fields heads)
       ∙ ap (λ (b : Bool). is_head_in_range f r && b) (mask_test w m f.rules.masked no_mask))
       ∙ ap (λ (b : Bool). (is_head_in_range f r && nat_lt m (2 ^ w)) && b) (data_test w d c f.rules.corrupts no_data small)
 
@@ -231,7 +278,7 @@ module _ {H : Type 0} (f : Form H) where
       ∙ ap (λ (vs : List ℕ). vs ++ map (value_of f b) (data_fields f)) (map-append (value_of f b) f.head_fields (mask_fields f)
       ∙ ap (λ (vs : List ℕ). vs ++ map (value_of f b) (mask_fields f)) (head_said b f.head_fields heads ∙ head.same)
       ∙ ap (λ (vs : List ℕ). map (read_value r) f.head_fields ++ vs) (mask_said b f.rules.masked))
-      ∙ ap (λ (vs : List ℕ). (map (read_value r) f.head_fields ++ mask_values f b.mask) ++ vs)
+      ∙ ap (λ (vs : List ℕ). (map (read_value r) f.head_fields ++ mask_values f.rules.masked b.mask) ++ vs)
       (data_said b f.rules.corrupts ∙ ap (λ (k : ℕ). cond f.rules.corrupts (number_of_lanes b.lanes ∷ k ∷ []) []) same)
 
   pub line_plain : {n : ℕ} (b : BeatOf H n) → (f.rules.masked ≡ false → b.mask ≡ 0)

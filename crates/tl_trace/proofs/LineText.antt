@@ -73,6 +73,13 @@ four_put a b c d e t1 t2 t3 t4 first second space same last =
     ap (λ (xs : List ℕ). xs ++ d) (space ∙ ap (λ (xs : List ℕ). xs ++ 32 ∷ []) (second ∙ ap (λ (xs : List ℕ). xs ++ c) first))
     ∙ regrouped a b c d
 
+-- corrupt behind the lanes
+pub data_put : (before lanes : List ℕ) (v c : ℕ) (t1 t2 : List ℕ) → v ≡ c → t1 ≡ before ++ lanes → t2 ≡ t1 ++ 32 ∷ hex 1 v
+    → t2 ≡ before ++ (lanes ++ 32 ∷ hex 1 c)
+data_put before lanes v c t1 t2 same first second =
+    second ∙ ap (λ (xs : List ℕ). xs ++ 32 ∷ hex 1 v) first ∙ append_assoc before lanes (32 ∷ hex 1 v)
+    ∙ ap (λ (k : ℕ). before ++ (lanes ++ 32 ∷ hex 1 k)) same
+
 -- three pieces of a line, one after the other
 pub three_put : (a b c d t1 t2 t3 : List ℕ) → t1 ≡ a ++ b → t2 ≡ t1 ++ c → t3 ≡ t2 ++ d → t3 ≡ a ++ (b ++ c ++ d)
 three_put a b c d t1 t2 t3 first second third =

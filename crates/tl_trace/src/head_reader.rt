@@ -8,8 +8,7 @@ ghost use Rattle.tl_trace.specs.declared.places.TheConstants.{LONGEST_HEAD};
 use crate::digits::field;
 use crate::head_text::HeadText;
 use crate::places::{
-    ADDRESS_DIGITS, FIRST_AT, PARAM_AT, SIZE_AT, SOURCE_AT, addressed_end, common_end, denied_at,
-    id_digits,
+    ADDRESS_DIGITS, FIRST_AT, PARAM_AT, SIZE_AT, SOURCE_AT, addressed_end, common_end, id_digits,
 };
 use tl_msg::{ChA, ChB, ChC, ChD, ChE, HeadA, HeadB, HeadC, HeadD, HeadE, SinkId, SourceId};
 
@@ -202,14 +201,16 @@ impl ReadHead for ChC {
 impl ReadHead for ChD {
     #[inline]
     fn head_end(version: u8) -> usize {
-        denied_at(version) + 2
+        common_end(version) + 1 + id_digits(version) + 2
     }
 
     #[inline(always)]
     fn read_head(text: &[u8], version: u8) -> HeadFields {
         let common = read_common(text, version);
-        let sink = field(text, common_end(version), id_digits(version));
-        let denied = field(text, denied_at(version), 1);
+        let sink_at = common_end(version);
+        let digits = id_digits(version);
+        let sink = field(text, sink_at, digits);
+        let denied = field(text, sink_at + 1 + digits, 1);
         HeadFields {
             sink: sink.value,
             denied: denied.value,

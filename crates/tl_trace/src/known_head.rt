@@ -4,7 +4,7 @@ ghost use Rattle.std.specs.List.{slice_range};
 ghost use Rattle.tl_trace.specs.Inner.KnownHeads.{head_length, HasHead, IsKnown, AreKnown};
 
 use crate::head_reader::ReadHead;
-use crate::same_text::are_same;
+use crate::same_text::goes_on_as;
 use tl_msg::{HeadA, HeadB, HeadC, HeadD, HeadE};
 
 /// A head that was read, and where its line begins.
@@ -65,13 +65,12 @@ pub fn head_at<K: ReadHead, const VERSION: u8>(
     ensures known { IfSome last.new (IsKnown (K.form VERSION) VERSION text.now) }
 {
     let len = K::head_end(VERSION);
-    let here = &text[at..at + len];
     if let Some(before) = last {
-        if are_same(here, &text[before.at..before.at + len]) {
+        if goes_on_as(text, at, before.at, len) {
             return Some(before.head);
         }
     }
-    let Some(head) = new_head::<K, VERSION>(here) else {
+    let Some(head) = new_head::<K, VERSION>(&text[at..at + len]) else {
         return None;
     };
     *last = Some(KnownHead { at, head });

@@ -3,11 +3,10 @@
 //! the trace, whose ids have as many digits as it says.
 ghost use Rattle.std.specs.Prelude.{◌≡◌, ◌≤◌, ◌<◌, ◌+◌, ◌/◌};
 ghost use Rattle.tl_lanes.specs.declared.limits.TheConstants.{WIDEST};
-ghost use Rattle.tl_trace.specs.Fields.{id_digits, common, addressed, length_of, mask_fields, line_length};
-ghost use Rattle.tl_trace.specs.declared.places.TheConstants.{MOST_ID_DIGITS, LONGEST_COMMON, LONGEST_HEAD, LONGEST_MASK, LONGEST_LINE};
+ghost use Rattle.tl_trace.specs.Fields.{id_digits, common, addressed, length_of};
+ghost use Rattle.tl_trace.specs.Inner.LineRests.{mask_length, data_length};
+ghost use Rattle.tl_trace.specs.declared.places.TheConstants.{MOST_ID_DIGITS, LONGEST_COMMON, LONGEST_HEAD, LONGEST_LINE};
 
-use crate::head_reader::ReadHead;
-use crate::head_text::HeadText;
 use tl_lanes::WIDEST;
 
 /// The digits of an address.
@@ -71,15 +70,6 @@ pub fn addressed_end(version: u8) -> usize
     common_end(version) + 1 + ADDRESS_DIGITS
 }
 
-/// Denied, behind the sink of D.
-#[inline]
-pub fn denied_at(version: u8) -> usize
-    ensures end { result ≡ 1 + length_of 0 (common version) + 1 + id_digits version }
-    ensures few { result ≤ LONGEST_COMMON + 1 + MOST_ID_DIGITS }
-{
-    common_end(version) + 1 + id_digits(version)
-}
-
 /// The digits of the mask of `w` lanes.
 pub fn mask_digits(w: usize) -> usize
     requires { w ≤ WIDEST }
@@ -88,26 +78,14 @@ pub fn mask_digits(w: usize) -> usize
     (w + 3) / 4
 }
 
-/// The bytes of the mask in a line, with its space.
+/// The bytes of what stands behind the head in a line on `w` lanes, without its LF.
 #[inline(always)]
-pub fn mask_len<K: HeadText, const VERSION: u8>(w: usize) -> usize
+pub fn rest_len(masked: bool, has_data: bool, w: usize) -> usize
     requires { w ≤ WIDEST }
-    ensures long { result ≡ length_of w (mask_fields (K.form VERSION)) }
-    ensures few { result ≤ LONGEST_MASK }
+    ensures long { result ≡ mask_length masked w + data_length has_data w }
+    ensures few { LONGEST_HEAD + result < LONGEST_LINE }
 {
-    if K::MASKED { 1 + mask_digits(w) } else { 0 }
-}
-
-/// The length of a line on `w` lanes, without its LF.
-#[inline(always)]
-pub fn line_len<K: ReadHead, const VERSION: u8>(w: usize) -> usize
-    requires { w ≤ WIDEST }
-    ensures long { result ≡ line_length (K.form VERSION) w }
-    ensures few { (1 ≤ result) × (result < LONGEST_LINE) }
-{
-    let data_at = K::head_end(VERSION) + mask_len::<K, VERSION>(w);
-    if K::HAS_DATA {
-        return data_at + 1 + 2 * w + 2;
-    }
-    data_at
+    let mask = if masked { 1 + mask_digits(w) } else { 0 };
+    let data = if has_data { 1 + 2 * w + 2 } else { 0 };
+    mask + data
 }

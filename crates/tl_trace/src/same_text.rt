@@ -26,13 +26,17 @@ fn word(text: &[u8], at: usize) -> u64
     ])
 }
 
-/// Whether two texts of one length are the same.
+/// Whether so many bytes of a text from one place on are there, and are those from another place on.
 #[inline(always)]
-pub fn are_same(one: &[u8], other: &[u8]) -> bool
-    requires { length one.now ≡ length other.now }
-    ensures { result ≡ true → one.now ≡ other.now }
+pub fn goes_on_as(text: &[u8], at: usize, before: usize, len: usize) -> bool
+    requires { (at ≤ length text.now) × (before + len ≤ length text.now) }
+    ensures { result ≡ true → IsSameAt text.now at before len }
 {
-    let len = one.len();
+    if len > text.len() - at {
+        return false;
+    }
+    let one = &text[at..at + len];
+    let other = &text[before..before + len];
     if len < WORD {
         return one == other;
     }
@@ -43,16 +47,4 @@ pub fn are_same(one: &[u8], other: &[u8]) -> bool
     }
     // the last word may begin within the one before it
     word(one, len - WORD) == word(other, len - WORD)
-}
-
-/// Whether so many bytes of a text from one place on are there, and are those from another place on.
-#[inline(always)]
-pub fn goes_on_as(text: &[u8], at: usize, before: usize, len: usize) -> bool
-    requires { (at ≤ length text.now) × (before + len ≤ length text.now) }
-    ensures { result ≡ true → IsSameAt text.now at before len }
-{
-    if len > text.len() - at {
-        return false;
-    }
-    are_same(&text[at..at + len], &text[before..before + len])
 }

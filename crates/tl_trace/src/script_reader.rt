@@ -4,7 +4,7 @@ ghost use Rattle.std.specs.List.{list_any, slice_range};
 ghost use Rattle.tl_lanes.specs.declared.limits.TheConstants.{WIDEST};
 ghost use Rattle.tl_trace.specs.Scripts.{Gone, TellsScript, HasCounts, HasGrown, HasLetGo, HasRead, HasReadPast, HasStopped, IsHeaderLine, IsUnfinished, more_gone};
 ghost use Rattle.tl_trace.specs.Texts.{is_version};
-ghost use Rattle.tl_trace.specs.Faults.{is_newline, body, later_fault, header_of, HasHeader, IsFirstFault, IsReadableTo};
+ghost use Rattle.tl_trace.specs.Faults.{is_newline, body, header_of, HasHeader, IsFirstFault, IsReadableTo};
 ghost use Rattle.tl_trace.specs.Inner.KnownHeads.{head_length, AreKnown, HasHead, IsKnown};
 ghost use Rattle.tl_trace.specs.Inner.Reading.{AreLinesPushed, AreNextPushed, CanPush, CanRead, IsLeft, IsLinePushed, IsNextPushed, IsPieceRead, IsRefusedAt, IsSameScript};
 ghost use Rattle.tl_trace.specs.declared.fault.TraceKind.TheVariants.{OutOfMemory};
@@ -13,13 +13,13 @@ use crate::fault::{TraceFault, TraceKind};
 use crate::head_reader::ReadHead;
 use crate::header::{Header, header_of};
 use crate::known_head::{KnownHead, LastHeads, head_at, no_heads};
-use crate::line_reader::beat_with_head;
-use crate::places::{LONGEST_LINE, line_len};
+use crate::line_reader::{are_in_range, read_rest};
+use crate::places::{LONGEST_LINE, rest_len};
 use crate::reader::{line_end, read_line};
 use crate::same_text::goes_on_as;
 use crate::script::{Counts, Script, empty_script, push_beat_of};
 use std::alloc::Global;
-use tl_msg::{Beat, ChA, ChB, ChC, ChD, ChE};
+use tl_msg::{Beat, BeatOf, ChA, ChB, ChC, ChD, ChE};
 
 /// What the first line of a text names; `None` where it is no header.
 pub fn header_of_text(text: &[u8]) -> Option<Header>
@@ -51,12 +51,24 @@ fn push_line<K: ReadHead, const W: usize, const VERSION: u8>(
     ensures { MatchOption result (list.new.items ≡ list.old.items)
         (IsLinePushed (K.form VERSION) W text.now at list.old.items list.new.items) }
 {
-    let long = line_len::<K, VERSION>(W);
+    let masked = K::MASKED;
+    let has_data = K::HAS_DATA;
+    let rest_at = K::head_end(VERSION);
+    let long = rest_at + rest_len(masked, has_data, W);
     if long >= text.len() - at || text[at + long] != b'\n' {
         return None;
     }
-    let Some(beat) = beat_with_head::<K, W, VERSION>(&text[at..at + long], head) else {
+    let line = &text[at..at + long];
+    let mut lanes = [0u8; W];
+    let rest = read_rest::<W>(line, rest_at, masked, has_data, W, &mut lanes);
+    if rest.bad > 15 || !are_in_range(rest.mask, rest.corrupt, W) {
         return None;
+    }
+    let beat = BeatOf {
+        head,
+        mask: rest.mask,
+        lanes,
+        corrupt: rest.corrupt == 1,
     };
     if list.push(beat).is_err() {
         *no_room = true;
@@ -163,18 +175,6 @@ fn push_slowly<const C: usize, const M: usize>(
         return Err(TraceKind::OutOfMemory);
     }
     Ok(Some(end))
-}
-
-/// The fault of a line without its LF.
-fn unfinished_fault<const C: usize, const M: usize>(rest: &[u8], version: u8) -> TraceKind
-    requires { CanRead version C M × (list_any is_newline rest.now ≡ false) }
-    ensures fault { later_fault version C M rest.now ≡ Some result }
-    ensures kind { result ≢ OutOfMemory }
-{
-    match read_line(rest, version, C, M) {
-        Ok(_) => TraceKind::NoEnd,
-        Err(kind) => kind,
-    }
 }
 
 /// Reads a text piece by piece, from its lines straight into the lists of a script, with no trace
@@ -334,8 +334,13 @@ impl<const C: usize, const M: usize> ScriptReader<C, M> {
             return None;
         }
         let line = self.line + 1;
-        let kind = unfinished_fault::<C, M>(rest, self.version);
-        Some(TraceFault { line, kind })
+        match read_line(rest, self.version, C, M) {
+            Ok(_) => Some(TraceFault {
+                line,
+                kind: TraceKind::NoEnd,
+            }),
+            Err(kind) => Some(TraceFault { line, kind }),
+        }
     }
 }
 

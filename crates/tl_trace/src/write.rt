@@ -6,13 +6,13 @@ ghost use Rattle.tl_lanes.specs.Lanes.{IsWidth};
 ghost use Rattle.tl_trace.specs.Lines.{head_text, line_text, beats_text};
 ghost use Rattle.tl_trace.specs.Texts.{newline, text_of_line, trace_text};
 ghost use Rattle.tl_trace.specs.Reports.{verdict_text, report_line};
-ghost use Rattle.tl_trace.specs.Inner.LineRests.{mask_text, mask_length, data_text, data_length, rest_text, rest_length};
+ghost use Rattle.tl_trace.specs.Inner.LineRests.{mask_text, mask_length, rest_text, rest_length};
 ghost use Rattle.tl_trace.specs.declared.places.TheConstants.{LONGEST_HEAD, LONGEST_LINE};
 
 use crate::head_text::HeadText;
 use crate::header::header_text;
 use crate::line::Line;
-use crate::places::{LONGEST_LINE, mask_digits};
+use crate::places::{LONGEST_LINE, mask_digits, rest_len};
 use crate::text::{
     Room, Text, fill, fill_field, fill_lanes, fill_mask_field, put, put_byte, put_decimal,
 };
@@ -20,63 +20,46 @@ use crate::trace::Trace;
 use arrayvec::ArrayVec;
 use std::alloc::Global;
 use tl_lanes::{Mask, WIDEST};
-use tl_msg::{Beat, ChA, ChB, ChC, ChD, ChE, OutOfMemory, Verdict};
+use tl_msg::{Beat, BeatOf, ChA, ChB, ChC, ChD, ChE, OutOfMemory, Verdict};
 
 /// Writes the mask of a channel that has one, and gives the place behind it.
 #[inline(always)]
-fn fill_mask<K: HeadText>(line: &mut [u8], at: usize, mask: Mask, w: usize) -> usize
+fn fill_mask(line: &mut [u8], at: usize, masked: bool, mask: Mask, w: usize) -> usize
     requires width { w ≤ WIDEST }
-    requires room { at + mask_length K.MASKED w ≤ length line.old }
-    ensures items { take result line.new ≡ take at line.old ++ mask_text K.MASKED w mask }
-    ensures end { result ≡ at + mask_length K.MASKED w }
+    requires room { at + mask_length masked w ≤ length line.old }
+    ensures items { take result line.new ≡ take at line.old ++ mask_text masked w mask }
+    ensures end { result ≡ at + mask_length masked w }
 {
-    if !K::MASKED {
+    if !masked {
         return at;
     }
     fill_mask_field(line, at, mask, mask_digits(w))
 }
 
-/// Writes the data and corrupt of a channel that has them, and gives the place behind them.
-#[inline(always)]
-fn fill_data<K: HeadText>(
-    line: &mut [u8],
-    at: usize,
-    lanes: &[u8],
-    corrupt: bool,
-    w: usize,
-) -> usize
-    requires width { w ≤ WIDEST }
-    requires lanes { w ≤ length lanes.now }
-    requires room { at + data_length K.HAS_DATA w ≤ length line.old }
-    ensures items { take result line.new ≡
-        take at line.old ++ data_text K.HAS_DATA w lanes.now corrupt }
-    ensures end { result ≡ at + data_length K.HAS_DATA w }
-{
-    if !K::HAS_DATA {
-        return at;
-    }
-    let end = fill_lanes(line, at, lanes, w);
-    fill_field(line, end, corrupt as u64, 1)
-}
-
 /// Writes what stands behind the head in the line of a beat on the first `w` of its lanes, with its LF, and gives the
-/// line's length.
+/// line's length. Whether its channel has a mask, and data, is told here, so that this stands once for all channels.
 #[inline(always)]
-fn fill_rest<K: HeadText, const N: usize>(
+fn fill_rest<H, const N: usize>(
     line: &mut [u8],
     at: usize,
-    beat: &Beat<K, N>,
+    beat: &BeatOf<H, N>,
+    masked: bool,
+    has_data: bool,
     w: usize,
 ) -> usize
     requires width { w ≤ WIDEST }
     requires lanes { w ≤ N }
-    requires room { at + rest_length K.MASKED K.HAS_DATA w ≤ length line.old }
+    requires room { at + rest_length masked has_data w ≤ length line.old }
     ensures items { take result line.new ≡
-        take at line.old ++ rest_text K.MASKED K.HAS_DATA w beat.now }
-    ensures end { result ≡ at + rest_length K.MASKED K.HAS_DATA w }
+        take at line.old ++ rest_text masked has_data w beat.now }
+    ensures end { result ≡ at + rest_length masked has_data w }
 {
-    let mask = fill_mask::<K>(line, at, beat.mask, w);
-    let data = fill_data::<K>(line, mask, &beat.lanes, beat.corrupt, w);
+    let mask = fill_mask(line, at, masked, beat.mask, w);
+    if !has_data {
+        return fill(line, mask, b"\n");
+    }
+    let lanes = fill_lanes(line, mask, &beat.lanes, w);
+    let data = fill_field(line, lanes, beat.corrupt as u64, 1);
     fill(line, data, b"\n")
 }
 
@@ -94,7 +77,7 @@ fn fill_line<K: HeadText, const N: usize>(
     ensures end { result ≤ LONGEST_LINE }
 {
     let head = K::fill_head(line, &beat.head, version);
-    fill_rest::<K, N>(line, head, beat, w)
+    fill_rest(line, head, beat, K::MASKED, K::HAS_DATA, w)
 }
 
 /// The line of a beat on `W` lanes in a trace of this version, with its LF: at most [`LONGEST_LINE`] bytes, those of A and
@@ -114,18 +97,6 @@ pub fn line_of<K: HeadText, const W: usize>(
     text
 }
 
-/// The bytes of what stands behind the head in a line, with its LF.
-#[inline(always)]
-fn rest_len<K: HeadText>(w: usize) -> usize
-    requires { w ≤ WIDEST }
-    ensures rest { result ≡ rest_length K.MASKED K.HAS_DATA w }
-    ensures few { LONGEST_HEAD + result ≤ LONGEST_LINE }
-{
-    let mask = if K::MASKED { 1 + mask_digits(w) } else { 0 };
-    let data = if K::HAS_DATA { 1 + 2 * w + 2 } else { 0 };
-    mask + data + 1
-}
-
 /// Writes another head over that of a line.
 #[inline(never)]
 fn fill_other_head<K: HeadText>(line: &mut Room, head: &K::Head, version: u8) -> usize
@@ -138,23 +109,31 @@ fn fill_other_head<K: HeadText>(line: &mut Room, head: &K::Head, version: u8) ->
 /// Appends the line of a beat, by way of another line with the same head, which ends at this place. What is written here
 /// in small pieces is not read back: the other line is read alone, and stays as it is.
 #[inline(always)]
-fn append_line<K: HeadText, const W: usize>(
+fn append_line<H, const W: usize>(
     out: &mut Vec<u8>,
     other: &[u8],
     at: usize,
-    beat: &Beat<K, W>,
+    beat: &BeatOf<H, W>,
+    masked: bool,
+    has_data: bool,
 ) -> Result<(), OutOfMemory>
-    requires width { IsWidth W }
-    requires room { length other.now ≡ at + rest_length K.MASKED K.HAS_DATA W }
+    requires { (W ≤ WIDEST) × (length other.now ≡ at + rest_length masked has_data W) }
     ensures ok { OnOk result (out.new.items ≡
-        out.old.items ++ (take at other.now ++ rest_text K.MASKED K.HAS_DATA W beat.now)) }
+        out.old.items ++ (take at other.now ++ rest_text masked has_data W beat.now)) }
     ensures err { OnErr result (out.new.items ≡ out.old.items) }
 {
     let start = out.len();
     if out.extend_from_slice(other).is_err() {
         return Err(OutOfMemory);
     }
-    fill_rest::<K, W>(&mut out.as_mut_slice()[start..], at, beat, W);
+    fill_rest(
+        &mut out.as_mut_slice()[start..],
+        at,
+        beat,
+        masked,
+        has_data,
+        W,
+    );
     Ok(())
 }
 
@@ -173,11 +152,13 @@ fn write_lines<K: HeadText, const W: usize>(
     let Some(first) = beats.first() else {
         return Ok(());
     };
+    let masked = K::MASKED;
+    let has_data = K::HAS_DATA;
     let start = out.len();
     let mut line = [0; LONGEST_LINE];
     let mut head = first.head;
     let at = K::fill_head(&mut line, &head, version);
-    let len = at + rest_len::<K>(W);
+    let len = at + rest_len(masked, has_data, W) + 1;
     if out.reserve(beats.len().saturating_mul(len)).is_err() {
         return Err(OutOfMemory);
     }
@@ -186,7 +167,7 @@ fn write_lines<K: HeadText, const W: usize>(
             head = beat.head;
             fill_other_head::<K>(&mut line, &head, version);
         }
-        if append_line::<K, W>(out, &line[..len], at, beat).is_err() {
+        if append_line(out, &line[..len], at, beat, masked, has_data).is_err() {
             out.truncate(start);
             return Err(OutOfMemory);
         }

@@ -6,13 +6,15 @@ use Rattle.std.specs.List.{list_all, list_any}
 use Rattle.std.specs.Option.{option_to_list}
 use Rattle.std.specs.Str.Parse.{digits_value}
 use Rattle.std.specs.Char.{digit_value}
-use Rattle.tl_trace.specs.Fields.{Field, mask, data_lanes, corrupt, Form, head_value, values}
+use Rattle.tl_trace.specs.Fields.{Field, mask, data_lanes, corrupt, Form, head_value, number_of_lanes, values}
 use Rattle.tl_lanes.specs.declared.limits.TheConstants.{WIDEST}
 use Rattle.tl_trace.specs.Texts.{SaysLine, TellsLines, is_kept_line, is_version}
 use Rattle.tl_trace.specs.Faults.{IsFirstFault, IsReadableTo, body_fault}
 use Rattle.tl_trace.specs.declared.head_reader.HeadFields.{HeadFields}
 use Rattle.tl_trace.specs.declared.head_reader.CommonFields.{CommonFields}
 use Rattle.tl_trace.specs.declared.line.Line.{Line}
+use Rattle.tl_trace.specs.declared.line_reader.Rest.{Rest}
+use Rattle.tl_trace.specs.Inner.LineRests.{mask_length, data_length}
 use Rattle.tl_trace.specs.declared.script.Script.{Script}
 use Rattle.tl_trace.specs.declared.script_reader.PushedLines.{PushedLines}
 use Rattle.tl_trace.specs.declared.fault.TraceFault.{TraceFault}
@@ -21,7 +23,7 @@ use Rattle.tl_trace.specs.declared.fault.TraceKind.TheVariants.{OutOfMemory}
 use Rattle.tl_trace.specs.declared.places.TheConstants.{LONGEST_LINE}
 use Rattle.tl_trace.specs.Scripts.{Gone, HasGrown, HasReadPast, HasStopped, IsUnfinished, beat_of_a, beat_of_b, beat_of_c, beat_of_d, beat_of_e}
 use Rattle.tl_msg.specs.declared.beat.BeatOf.{BeatOf}
-use Rattle.tl_trace.specs.Lines.{is_hex, places_from, IsLine, is_kept}
+use Rattle.tl_trace.specs.Lines.{is_hex, is_lanes, places_from, IsLine, is_kept}
 
 -- the value of a lower-case digit, and 16 of every other byte
 abbrev pub digit_of : (byte : ℕ) → ℕ
@@ -108,11 +110,35 @@ module _ {H : Type 0} (f : Form H) where
   abbrev pub Takes : HeadFields → Option H → Type 0
   Takes r o = MatchOption o (is_head_in_range r ≡ false) (IsHeadOf r)
 
-  abbrev pub mask_values : (m : ℕ) → List ℕ
-  mask_values m = if f.rules.masked then m ∷ [] else []
+-- what stands behind the head in a line of a channel, as far as it has it: fields, and their values
+abbrev pub fields_of_mask : (masked : Bool) → List Field
+fields_of_mask masked = if masked then mask ∷ [] else []
 
-  abbrev pub data_values : (d c : ℕ) → List ℕ
-  data_values d c = if f.rules.corrupts then d ∷ c ∷ [] else []
+abbrev pub fields_of_data : (has_data : Bool) → List Field
+fields_of_data has_data = if has_data then data_lanes ∷ corrupt ∷ [] else []
+
+abbrev pub mask_values : (masked : Bool) (m : ℕ) → List ℕ
+mask_values masked m = if masked then m ∷ [] else []
+
+abbrev pub data_values : (has_data : Bool) (d c : ℕ) → List ℕ
+data_values has_data d c = if has_data then d ∷ c ∷ [] else []
+
+-- what its reader has to know: of the n lanes, each of which is 0, the line says w
+pub record CanReadRest (masked has_data : Bool) (n w : ℕ) (text : List ℕ) (at : ℕ) (lanes : List ℕ) : Type 0 where
+  pub width : w ≤ n
+  pub most : n ≤ WIDEST
+  pub room : at + (mask_length masked w + data_length has_data w) ≤ length text
+  pub bytes : is_lanes n lanes ≡ true
+  pub zero : number_of_lanes lanes ≡ 0
+
+-- and what it gives
+pub record IsRest (masked has_data : Bool) (n w : ℕ) (text : List ℕ) (at : ℕ) (before after : List ℕ) (r : Rest) : Type 0 where
+  pub part : IsPart w text at (fields_of_mask masked ++ fields_of_data has_data)
+      (mask_values masked r.mask ++ data_values has_data (number_of_lanes after) r.corrupt) r.bad
+  pub bytes : is_lanes n after ≡ true
+  pub small : r.bad ≤ 15 → number_of_lanes after < 256 ^ w
+  pub no_mask : masked ≡ false → r.mask ≡ 0
+  pub no_data : has_data ≡ false → (after ≡ before) × (r.corrupt ≡ 0)
 
 -- a beat that the line says, as a trace keeps it
 pub record IsRead {H : Type 0} (f : Form H) (w : ℕ) (text : List ℕ) {n : ℕ} (b : BeatOf H n) : Type 0 where

@@ -1,34 +1,27 @@
 use Rattle.tl_trace.proofs.Names.{◌∙◌, arith}
-use Rattle.tl_trace.proofs.KnownHeads.{known_of, same_long, same_head, read_head}
+use Rattle.tl_trace.proofs.KnownHeads.{known_of, same_head, read_head}
 use Rattle.tl_trace.proofs.ReadDigits.{range_long}
 use Rattle.tl_trace.proofs.known_head.head_at.Goals as goal
 
-pub slice_bounds-here-end : goal.slice_bounds-here-end
-slice_bounds-here-end g c = omega (arith, c.requires.room, c.head_end-len.ensures.end)
-
-pub slice_bounds-are_same-end : goal.slice_bounds-are_same-end
-slice_bounds-are_same-end g c =
+pub goes_on_as-requires : goal.goes_on_as-requires
+goes_on_as-requires g c =
     let known =
     known_of (g.K.HeadText.form g.row.VERSION) g.row.VERSION c.args.text.now c.args.last.now c.in-Some.before c.in-Some.is c.requires.known in
-    omega (arith, known.within, c.head_end-len.ensures.end)
+    (omega (arith, c.requires.room), omega (arith, known.within, c.head_end-len.ensures.end))
 
-pub are_same-requires : goal.are_same-requires
-are_same-requires g c =
-    let known =
-    known_of (g.K.HeadText.form g.row.VERSION) g.row.VERSION c.args.text.now c.args.last.now c.in-Some.before c.in-Some.is c.requires.known in
-    same_long c.args.text.now c.args.at c.in-Some.before.at c.head_end-len.result (omega (arith, c.requires.room, c.head_end-len.ensures.end))
-    (omega (arith, known.within, c.head_end-len.ensures.end))
-
-pub returns-then-are_same-clause-head : goal.returns-then-are_same-clause-head
-returns-then-are_same-clause-head g c =
+pub returns-then-goes_on_as-clause-head : goal.returns-then-goes_on_as-clause-head
+returns-then-goes_on_as-clause-head g c =
     let f = g.K.HeadText.form g.row.VERSION in
     let known = known_of f g.row.VERSION c.args.text.now c.args.last.now c.in-Some.before c.in-Some.is c.requires.known in
     same_head f g.row.VERSION c.args.text.now c.args.at c.head_end-len.result c.in-Some.before c.head_end-len.ensures.end
-    (c.are_same.ensures c.if-are_same.true) known
+    (c.goes_on_as.ensures c.if-goes_on_as.true).same known
 
-pub returns-then-are_same-clause-known : goal.returns-then-are_same-clause-known
-returns-then-are_same-clause-known g c =
+pub returns-then-goes_on_as-clause-known : goal.returns-then-goes_on_as-clause-known
+returns-then-goes_on_as-clause-known g c =
     known_of (g.K.HeadText.form g.row.VERSION) g.row.VERSION c.args.text.now c.args.last.now c.in-Some.before c.in-Some.is c.requires.known
+
+pub slice_bounds-new_head-end : goal.slice_bounds-new_head-end
+slice_bounds-new_head-end g c = omega (arith, c.requires.room, c.head_end-len.ensures.end)
 
 pub new_head-requires : goal.new_head-requires
 new_head-requires g c =

@@ -1,5 +1,6 @@
-use Rattle.tl_trace.proofs.Names.{arith}
-use Rattle.tl_trace.proofs.LineText.{three_put}
+use Rattle.tl_trace.proofs.Names.{Bool, ap, arith, bit, rules}
+use Rattle.tl_trace.proofs.LineText.{a_part, no_part, data_put, three_put}
+use Rattle.tl_trace.specs.Inner.LineRests.{data_length}
 use Rattle.tl_trace.proofs.write.fill_rest.Goals as goal
 
 pub fill_mask-mask-requires-clause-width : goal.fill_mask-mask-requires-clause-width
@@ -8,11 +9,49 @@ fill_mask-mask-requires-clause-width g c = c.requires.width
 pub fill_mask-mask-requires-clause-room : goal.fill_mask-mask-requires-clause-room
 fill_mask-mask-requires-clause-room g c = omega (arith, c.requires.room)
 
-pub fill_data-data-requires-clause-width : goal.fill_data-data-requires-clause-width
-fill_data-data-requires-clause-width g c = c.requires.width
+pub returns-then-not-has_data-clause-items : goal.returns-then-not-has_data-clause-items
+returns-then-not-has_data-clause-items g c =
+    three_put _ _ _ _ _ _ _ c.fill_mask-mask.ensures.items (no_part _ _ _ c.if-not-has_data.true) c.fill.ensures.items
+
+pub returns-then-not-has_data-clause-end : goal.returns-then-not-has_data-clause-end
+returns-then-not-has_data-clause-end g c =
+    omega (arith, ap (λ (t : Bool). data_length t c.args.w) c.if-not-has_data.true, c.fill_mask-mask.ensures.end, c.fill.ensures.end)
+
+pub fill_lanes-lanes-requires-clause-room : goal.fill_lanes-lanes-requires-clause-room
+fill_lanes-lanes-requires-clause-room g c =
+    omega (
+      arith,
+      ap (λ (t : Bool). data_length t c.args.w) c.if-not-has_data.false,
+      c.requires.room,
+      c.fill_mask-mask.ensures.end,
+      c.fill_mask-mask.auto.line,
+    )
+
+pub fill_field-data-requires : goal.fill_field-data-requires
+fill_field-data-requires g c =
+    omega (
+      arith,
+      ap (λ (t : Bool). data_length t c.args.w) c.if-not-has_data.false,
+      c.requires.room,
+      c.fill_mask-mask.ensures.end,
+      c.fill_mask-mask.auto.line,
+      c.fill_lanes-lanes.ensures.end,
+      c.fill_lanes-lanes.auto.line,
+    )
 
 pub returns-clause-items : goal.returns-clause-items
-returns-clause-items g c = three_put _ _ _ _ _ _ _ c.fill_mask-mask.ensures.items c.fill_data-data.ensures.items c.fill.ensures.items
+returns-clause-items g c =
+    three_put _ _ _ _ _ _ _ c.fill_mask-mask.ensures.items
+    (a_part _ _ _ _ c.if-not-has_data.false (data_put _ _ _ (bit c.args.beat.now.corrupt) _ _ (search rules) c.fill_lanes-lanes.ensures.items c.fill_field-data.ensures.items))
+    c.fill-2.ensures.items
 
 pub returns-clause-end : goal.returns-clause-end
-returns-clause-end g c = omega (arith, c.fill_mask-mask.ensures.end, c.fill_data-data.ensures.end, c.fill.ensures.end)
+returns-clause-end g c =
+    omega (
+      arith,
+      ap (λ (t : Bool). data_length t c.args.w) c.if-not-has_data.false,
+      c.fill_mask-mask.ensures.end,
+      c.fill_lanes-lanes.ensures.end,
+      c.fill_field-data.ensures.end,
+      c.fill-2.ensures.end,
+    )

@@ -1,10 +1,23 @@
-use Rattle.tl_trace.proofs.Names.{◌≡◌, ◌<◌, ◌∙◌, false, length, arith, sym, ◌==◌, nat_tests}
+use Rattle.tl_trace.proofs.Names.{◌≡◌, ◌<◌, ◌∙◌, false, length, arith, sym, ap, ◌==◌, nat_tests, Option, Some, ◌or_else◌, TraceKind, NoEnd}
+use Rattle.tl_trace.proofs.Walk.{later_last, no_memory}
 use Rattle.tl_trace.proofs.Pieces.{end_faulty}
 use Rattle.tl_trace.proofs.script_reader.ScriptReader.end_fault.Goals as goal
 
-pub returns-clause-fault : goal.returns-clause-fault
-returns-clause-fault g c done gone r =
+pub returns-in-Ok-clause-fault : goal.returns-in-Ok-clause-fault
+returns-in-Ok-clause-fault g c done gone r =
     let none : (length c.args.rest.now == 0) ≡ false = sym c.is_empty.ensures ∙ c.if-is_empty.false in
     let some : 0 < length c.args.rest.now = grind (arith, nat_tests) in
     end_faulty c.args.self.now.version done c.args.rest.now gone c.args.self.now.script c.args.self.now.line _ r some c.requires.rest
-    c.unfinished_fault-kind.ensures.fault
+    (later_last c.args.self.now.version g.row.C g.row.M c.args.rest.now c.requires.rest
+    ∙ ap (λ (o : Option TraceKind). o or_else Some NoEnd) c.in-Ok.ensures.faultless)
+
+pub returns-in-Err-clause-fault : goal.returns-in-Err-clause-fault
+returns-in-Err-clause-fault g c done gone r =
+    let none : (length c.args.rest.now == 0) ≡ false = sym c.is_empty.ensures ∙ c.if-is_empty.false in
+    let some : 0 < length c.args.rest.now = grind (arith, nat_tests) in
+    end_faulty c.args.self.now.version done c.args.rest.now gone c.args.self.now.script c.args.self.now.line _ r some c.requires.rest
+    (later_last c.args.self.now.version g.row.C g.row.M c.args.rest.now c.requires.rest
+    ∙ ap (λ (o : Option TraceKind). o or_else Some NoEnd) c.in-Err.ensures)
+
+pub returns-in-Err-clause-kind : goal.returns-in-Err-clause-kind
+returns-in-Err-clause-kind g c = no_memory c.args.self.now.version g.row.C g.row.M c.args.rest.now c.in-Err.kind c.in-Err.ensures
