@@ -23,7 +23,7 @@ use tl_settle::new_books;
 use tl_stream::{Input, Listener, TextFault, read_through};
 use tl_trace::{Counts, Script};
 
-/// By this a judge listens.
+/// What makes `Judge`, of another crate, a `Listener` here. It has no value.
 #[derive(Drop)]
 struct Check;
 

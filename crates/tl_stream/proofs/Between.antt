@@ -2,7 +2,7 @@
 use Rattle.tl_stream.proofs.Names.{IfSome, ◌≡◌, ◌≢◌, ℕ, ◌+◌, ◌-◌, ◌≤◌, List, ◌++◌, length, take, drop, Option, None, Some, refl, sym, ap, ◌∙◌, subst}
 use Rattle.tl_stream.proofs.Names.{arith, length-append, length-drop, append_assoc, append-nil, take-append-drop, drop-drop, drop-take}
 use Rattle.tl_stream.proofs.Names.{length-take-le, Consumes, IsAtEnd, slice_range, IsWidth, IsFirstFault, Gone, HasReadPast, ScriptReader}
-use Rattle.tl_stream.proofs.Names.{IsBetweenPast, IsReading, HasTaken, IsRefused, held, most_bytes, Input}
+use Rattle.tl_stream.proofs.Names.{Bool, false, nat_eq, [], HasGrown, HasReadHeld, IsUnfinished, IsBetweenPast, IsReading, HasTaken, IsRefused, held, most_bytes, Input}
 use Rattle.tl_trace.specs.declared.fault.TraceFault.{TraceFault}
 use Rattle.tl_trace.specs.declared.fault.TraceKind.{TraceKind}
 use Rattle.tl_trace.specs.declared.fault.TraceKind.TheVariants as kinds
@@ -30,6 +30,12 @@ reading {C} {M} client manager {gone} unread left lines input b =
 pub held_size : (input : Input) → input.from ≤ input.to → input.to ≤ length input.buffer.items → length (held input) ≡ input.to - input.from
 held_size input from to =
     let after = length-drop input.from input.buffer.items in length-take-le (input.to - input.from) (drop input.from input.buffer.items) (omega arith)
+
+-- so many bytes can be used
+pub inside_held : (input : Input) (bytes : List ℕ) (n : ℕ) → bytes ≡ held input → input.from ≤ input.to → input.to ≤ length input.buffer.items →
+    n ≤ length bytes → input.from + n ≤ input.to
+inside_held input bytes n is from to few =
+    let size = held_size input from to in let same = ap length is in omega (arith, size, same, from, few)
 
 -- what is left of a part
 rest_of : (xs : List ℕ) (from n to : ℕ) → from + n ≤ to → slice_range xs (from + n) to ≡ drop n (slice_range xs from to)
@@ -73,6 +79,33 @@ module _ (input input' : Input) (n : ℕ) (from : input'.from ≡ input.from + n
     taken = advanced unread left b.used b.taken;
     read = subst (λ v. HasReadPast v (b.used ++ take n (held input)) gone lines'.script lines'.line) (sym version) (told b.used b.read);
   }
+
+  pub unfinished : (bytes : List ℕ) → bytes ≡ held input → IsUnfinished (drop n bytes) → IsUnfinished (held input')
+  unfinished bytes is rest = subst IsUnfinished (sym held_rest) (subst (λ xs. IsUnfinished (drop n xs)) is rest)
+
+  -- the lines of so many bytes were read
+  module _ {C M : ℕ} (lines lines' : ScriptReader C M) (bytes : List ℕ) (is : bytes ≡ held input) (version : lines'.version ≡ lines.version)
+      (told : (done : List ℕ) (gone : Gone C M) → HasReadPast lines.version done gone lines.script lines.line →
+      HasReadPast lines.version (done ++ take n bytes) gone lines'.script lines'.line) where
+    pub between_read : (unread left : Option (List ℕ)) (gone : Gone C M) → IsBetweenPast gone unread left lines input →
+        IsBetweenPast gone unread left lines' input'
+    between_read unread left gone b =
+        between_on gone lines lines' unread left version
+        (λ done r. subst (λ xs. HasReadPast lines.version (done ++ take n xs) gone lines'.script lines'.line) is (told done gone r)) b
+
+    pub has_read : (more : Bool) → HasGrown lines.script lines'.script → IsUnfinished (drop n bytes) →
+        more ≡ nat_eq input'.to (length input'.buffer.items) → (more ≡ false → held input' ≡ []) → HasReadHeld lines input lines' input' more
+    has_read more grown rest full end = record {
+      version = version;
+      grown = grown;
+      total = total;
+      to = to;
+      buffer = buffer;
+      rest = unfinished bytes is rest;
+      full = full;
+      end = end;
+      between = between_read;
+    }
 
 -- ---- faults
 

@@ -1,15 +1,16 @@
 -- What reads of a piece gave so far.
-use Rattle.tl_stream.proofs.Names.{Result, Ok, Err, IfSome, IsErrOf, ◌≡◌, ℕ, ◌+◌, ◌-◌, ◌<◌, ◌≤◌, List, ◌++◌, length, take, drop, Option, sym, ap, ◌∙◌}
+use Rattle.tl_stream.proofs.Names.{Result, Ok, Err, IfSome, IsErrOf, IsAtEnd, TextFault, ◌≡◌, ◌≢◌, ℕ, [], refl, ◌+◌, ◌-◌, ◌<◌, ◌≤◌, List, ◌++◌, length, take, drop, Option, sym, ap, ◌∙◌}
 use Rattle.tl_stream.proofs.Names.{subst, arith, append_assoc, length-append, length-drop, length-take-le, take-append-le, take_rest, Consumes-trans}
 use Rattle.tl_stream.proofs.Names.{Consumes, copy_within, slice_range, HasTaken, held, most_bytes, Input}
 use Rattle.std.proofs.Math.Seq.{take-append-add, take-append_seam}
 use borrow.Rule.Slice.PartMut.{put_mid, post_of}
-use Rattle.tl_stream.specs.Inner.Filling.{IsFilled, IsRefilled, IsTooMany}
+use Rattle.tl_trace.specs.declared.places.TheConstants.{LONGEST_LINE}
+use Rattle.tl_stream.specs.Inner.Filling.{IsFilled, IsReadFault, IsTooMany}
+use Rattle.tl_stream.specs.declared.fault.TextFault.TheVariants as faults
 use Rattle.tl_stream.proofs.Between.{held_size, of_text}
 
 -- the first bytes of the room are what was taken, at most so many
-pub record SoFar (old now : Option (List ℕ)) (most : ℕ) (first room : List ℕ) (filled : ℕ) : Type 0 where
-  pub same : length room ≡ length first
+pub record SoFar (old now : Option (List ℕ)) (most : ℕ) (room : List ℕ) (filled : ℕ) : Type 0 where
   pub within : filled ≤ length room
   pub few : filled ≤ most
   pub took : Consumes old now (take filled room)
@@ -34,32 +35,48 @@ put_size a xs ys le same =
 pub room_size : (a : ℕ) (xs : List ℕ) → length (take (length xs - a) (drop a xs)) ≡ length xs - a
 room_size a xs = ap length (take_rest xs a) ∙ length-drop a xs
 
--- and so does what is read into the room behind the first bytes
-pub filled_size : (a : ℕ) (xs ys : List ℕ) → a ≤ length xs → length ys ≡ length (take (length xs - a) (drop a xs)) →
-    length (put_mid a (length xs - a) xs ys) ≡ length xs
-filled_size a xs ys le same = put_size a xs ys le (same ∙ room_size a xs)
-
 -- a read gave n bytes more
-pub goes_on : (old now new : Option (List ℕ)) (most : ℕ) (first room buf : List ℕ) (f n : ℕ) → SoFar old now most first room f →
+pub goes_on : (old now new : Option (List ℕ)) (most : ℕ) (room buf : List ℕ) (f n : ℕ) → SoFar old now most room f →
     length buf ≡ length room - f → n ≤ length buf → n ≤ most - f
-    → Consumes now new (take n buf) → SoFar old new most first (put_mid f (length room - f) room buf) (f + n)
-goes_on old now new most first room buf f n s size fits few took =
+    → Consumes now new (take n buf) → SoFar old new most (put_mid f (length room - f) room buf) (f + n)
+goes_on old now new most room buf f n s size fits few took =
     let within : f ≤ length room = s.within in
     let most_before : f ≤ most = s.few in
     let long = put_size f room buf s.within size in
     record {
-      same = long ∙ s.same;
       within = omega (arith, long);
       few = omega arith;
       took = subst (Consumes old new) (sym (put_front f (length room - f) n room buf s.within fits))
           (Consumes-trans old now new (take f room) (take n buf) s.took took);
     }
 
+-- the room is full
+pub full : (old now : Option (List ℕ)) (most : ℕ) (room : List ℕ) (f : ℕ) → SoFar old now most room f → length room ≤ f →
+    IsFilled old now most room f
+full old now most room f s past = record {
+  within = s.within;
+  few = s.few;
+  took = s.took;
+  end = λ other. let within : f ≤ length room = s.within in absurd (other (omega arith));
+}
+
+-- the end was found
+pub ended : (old now new : Option (List ℕ)) (most : ℕ) (room buf : List ℕ) (f n : ℕ) → SoFar old now most room f →
+    length buf ≡ length room - f → f < length room → n ≡ 0
+    → Consumes now new (take n buf) → (n ≡ 0 → 0 < length buf → IsAtEnd new)
+    → IsFilled old new most (put_mid f (length room - f) room buf) f
+ended old now new most room buf f n s size lt none took end =
+    let more = goes_on old now new most room buf f n s size (omega (arith, none)) (omega (arith, none)) took in
+    let all = put_mid f (length room - f) room buf in
+    let same : f + n ≡ f = omega (arith, none) in
+    let here : SoFar old new most all f = subst (SoFar old new most all) same more in
+    record { within = here.within; few = here.few; took = here.took; end = λ other. end none (omega (arith, size, lt)) }
+
 -- and they were too many
-pub too_many : (old now new : Option (List ℕ)) (most : ℕ) (first room buf : List ℕ) (f n : ℕ) →
-    SoFar old now most first room f → n ≤ length buf → most - f < n
+pub too_many : (old now new : Option (List ℕ)) (most : ℕ) (room buf : List ℕ) (f n : ℕ) →
+    SoFar old now most room f → n ≤ length buf → most - f < n
     → Consumes now new (take n buf) → IsTooMany old new most
-too_many old now new most first room buf f n s fits many took =
+too_many old now new most room buf f n s fits many took =
     let front : length (take f room) ≡ f = length-take-le f room s.within in
     let back : length (take n buf) ≡ n = length-take-le n buf fits in
     let whole = length-append (take f room) (take n buf) in
@@ -75,8 +92,17 @@ moved_front buffer from to le within =
     let size : length part ≡ to - from = length-take-le (to - from) (drop from buffer) (omega arith) in
     ap (λ (n : ℕ). take n (part ++ drop (0 + (to - from)) buffer)) (sym size) ∙ take-append_seam part (drop (0 + (to - from)) buffer)
 
--- and what was read behind them
-pub refilled : (old new : Option (List ℕ)) (buffer moved room : List ℕ) (from to most n : ℕ) → from ≤ to → to ≤ length buffer →
+-- the first n bytes of the buffer are those that were kept, and behind them what was read
+record IsRefilled (old new : Option (List ℕ)) (kept : List ℕ) (most : ℕ) (buffer : List ℕ) (n : ℕ) : Type 0 where
+  within : n ≤ length buffer
+  bytes : List ℕ
+  front : take n buffer ≡ kept ++ bytes
+  count : n ≡ length kept + length bytes
+  few : length bytes ≤ most
+  took : Consumes old new bytes
+  end : n ≢ length buffer → IsAtEnd new
+
+refilled : (old new : Option (List ℕ)) (buffer moved room : List ℕ) (from to most n : ℕ) → from ≤ to → to ≤ length buffer →
     length moved ≡ length buffer → moved ≡ copy_within buffer from to 0
     → length room ≡ length moved - (to - from) → IsFilled old new most room n
     → IsRefilled old new (slice_range buffer from to) most (put_mid (to - from) (length moved - (to - from)) moved room) (to - from + n)
@@ -100,15 +126,48 @@ refilled old new buffer moved room from to most n le within same is size f =
 
 -- ---- a text of which an input holds a part
 
+-- the first piece
+pub opened : (old new : Option (List ℕ)) (room : List ℕ) (n : ℕ) → IsFilled old new most_bytes room n → LONGEST_LINE < length room →
+    (input : Input) → input.buffer.items ≡ room → input.from ≡ 0 → input.to ≡ n → input.total ≡ n → HasTaken old new [] input
+opened old new room n f long input is from to total =
+    let front : held input ≡ take n room = ap (λ (xs : List ℕ). slice_range xs input.from input.to) is ∙
+    ap (λ (k : ℕ). slice_range room k input.to) from ∙ ap (λ (k : ℕ). take k room) (omega (arith, to)) in
+    let size : length (take n room) ≡ n = length-take-le n room f.within in
+    let same = ap length front in
+    let whole = ap length is in
+    record {
+      took = subst (Consumes old new) (sym front) f.took;
+      count = omega (arith, total, size, same);
+      few = omega (arith, total, f.few);
+      from = omega (arith, from);
+      to = omega (arith, to, f.within, whole);
+      end = λ other. f.end (λ e. other (to ∙ e ∙ sym whole));
+      room = omega (arith, long, whole);
+    }
+
+-- and where it is too long
+pub opened-long : (old new : Option (List ℕ)) → IsTooMany old new most_bytes → IfSome old (λ text. most_bytes < length text)
+opened-long old new many =
+    of_text (λ text. most_bytes < length text) old new many.0 many.1 (λ more.
+    let past : most_bytes < length many.0 = many.2 in
+    let whole = length-append many.0 more in
+    omega arith)
+
 module _ (unread old new : Option (List ℕ)) (used : List ℕ) (input : Input) (t : HasTaken unread old used input) where
   -- the part at the front of its buffer, and what was read behind it
-  pub refilled-taken : (before buffer : List ℕ) (n : ℕ) → before ≡ input.buffer.items → length buffer ≡ length before
-      → IsRefilled old new (slice_range before input.from input.to) (most_bytes - input.total) buffer n
-      → (input' : Input) → input'.buffer.items ≡ buffer → input'.from ≡ 0 → input'.to ≡ n →
-      input'.total ≡ input.total + (n - (input.to - input.from)) → HasTaken unread new used input'
-  refilled-taken before buffer n whole_is same given input' is from to total =
-      let r : IsRefilled old new (held input) (most_bytes - input.total) buffer n =
-      subst (λ xs. IsRefilled old new (slice_range xs input.from input.to) (most_bytes - input.total) buffer n) whole_is given in
+  pub refilled-taken : (before moved room : List ℕ) (n : ℕ) → before ≡ input.buffer.items → length moved ≡ length before
+      → moved ≡ copy_within before input.from input.to 0 → length room ≡ length moved - (input.to - input.from)
+      → IsFilled old new (most_bytes - input.total) room n
+      → (input' : Input) → input'.buffer.items ≡ put_mid (input.to - input.from) (length moved - (input.to - input.from)) moved room
+      → input'.from ≡ 0 → input'.to ≡ input.to - input.from + n → input'.total ≡ input.total + n → HasTaken unread new used input'
+  refilled-taken before moved room n whole_is same moves size_room filled input' is from to total =
+      let kept = input.to - input.from in
+      let buffer = put_mid kept (length moved - kept) moved room in
+      let size_before = ap length whole_is in
+      let given = refilled old new before moved room input.from input.to (most_bytes - input.total) n t.from (omega (arith, size_before, t.to))
+      same moves size_room filled in
+      let r : IsRefilled old new (held input) (most_bytes - input.total) buffer (kept + n) =
+      subst (λ xs. IsRefilled old new (slice_range xs input.from input.to) (most_bytes - input.total) buffer (kept + n)) whole_is given in
       let size = held_size input t.from t.to in
       let front : held input' ≡ held input ++ r.bytes =
       ap (λ (xs : List ℕ). slice_range xs input'.from input'.to) is ∙ ap (λ (k : ℕ). slice_range buffer k input'.to) from ∙
@@ -116,6 +175,7 @@ module _ (unread old new : Option (List ℕ)) (used : List ℕ) (input : Input) 
       let whole : used ++ held input ++ r.bytes ≡ used ++ held input' = append_assoc used (held input) r.bytes ∙
       ap (λ (xs : List ℕ). used ++ xs) (sym front) in
       let long : length input'.buffer.items ≡ length buffer = ap length is in
+      let long_buffer : length buffer ≡ length moved = put_size kept moved room (omega (arith, same, size_before, t.from, t.to)) size_room in
       let few : length r.bytes ≤ most_bytes - input.total = r.few in
       let read = length-append (used ++ held input) r.bytes in
       let all : length (used ++ held input ++ r.bytes) ≡ length (used ++ held input') = ap length whole in
@@ -126,7 +186,7 @@ module _ (unread old new : Option (List ℕ)) (used : List ℕ) (input : Input) 
         from = omega (arith, from);
         to = omega (arith, to, r.within, long);
         end = λ other. r.end (λ e. other (to ∙ e ∙ sym long));
-        room = omega (arith, t.room, long, same, ap length whole_is);
+        room = omega (arith, t.room, long, long_buffer, same, size_before);
       }
 
   -- more than there may be
@@ -141,10 +201,25 @@ module _ (unread old new : Option (List ℕ)) (used : List ℕ) (input : Input) 
       let whole = length-append (used ++ held input ++ bytes) more in
       omega arith)
 
+-- ---- faults
+
 abbrev fault_of : {A E : Type 0} → E → Result A E → E
 fault_of e (Ok x) = e
 fault_of e (Err fault) = fault
 
--- a fault that is handed on
-pub same-fault : {A B E : Type 0} (fault e : E) → IsErrOf {T = A} (Err fault) e → IsErrOf {T = B} (Err fault) e
-same-fault fault e is = ap (λ f. Err f) (ap (fault_of e) is)
+-- what is not refused has no fault
+pub no-fault : {A P : Type 0} {x : A} {e : TextFault} → IsErrOf {T = A} (Ok x) e → P
+no-fault is = absurd (let bad = is in cc)
+
+-- a fault that is named
+pub named-fault : {A : Type 0} (P : TextFault → Type 0) (fault e : TextFault) → P fault → IsErrOf {T = A} (Err fault) e → P e
+named-fault P fault e is same = subst P (ap (fault_of fault) same) is
+
+-- a read failed, or what was read is too long
+pub read-kinds : (long : Type 0) (fault : TextFault) → IsReadFault long fault → fault ≢ faults.Read → fault ≡ faults.TooLong
+read-kinds long (faults.Trace fault) is other = absurd is
+read-kinds long faults.Stalled is other = absurd is
+read-kinds long faults.Read is other = absurd (other refl)
+read-kinds long faults.Write is other = absurd is
+read-kinds long faults.TooLong is other = refl
+read-kinds long faults.OutOfMemory is other = absurd is

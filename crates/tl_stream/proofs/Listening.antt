@@ -1,12 +1,16 @@
 -- A listener while a text is read: those beats that were heard go, and more is read.
-use Rattle.tl_stream.proofs.Names.{◌≡◌, ◌≢◌, ◌<◌, ◌≤◌, ◌++◌, ℕ, Option, List, length, refl, subst, arith, length-append, IfErr, IfOk, IfSome, Result, Ok, Err}
-use Rattle.tl_stream.proofs.Names.{Gone, IsRestOf, beat_of_a, beat_of_b, beat_of_c, beat_of_d, beat_of_e, none_gone, Script, ScriptReader}
-use Rattle.tl_stream.proofs.Names.{AreFew, HasHeard, IsNew, IsReadThrough, IsBetween, IsBetweenPast, IsRefused, ReadsScript, held, most_bytes}
-use Rattle.tl_stream.proofs.Names.{TextFault, Input}
+use Rattle.tl_stream.proofs.Names.{◌≡◌, ◌≢◌, ◌<◌, ◌≤◌, ◌++◌, ◌∙◌, ℕ, Bool, false, Option, List, [], length, refl, sym, ap, subst, arith}
+use Rattle.tl_stream.proofs.Names.{length-append, append-nil, IfErr, IfOk, IfSome, Result, Ok, Err, Consumes, Tells}
+use Rattle.tl_stream.proofs.Names.{Gone, IsRestOf, beat_of_a, beat_of_b, beat_of_c, beat_of_d, beat_of_e, more_gone, none_gone, Script, ScriptReader}
+use Rattle.tl_stream.proofs.Names.{HasGrown, HasHeader, HasRead, HasReadPast, IsHeaderLine}
+use Rattle.tl_stream.proofs.Names.{AreFew, HasReadHeld, HasTaken, HasUsedHeader, IsNew, IsReadThrough, IsBetweenPast, IsRefused, ReadsScript, held}
+use Rattle.tl_stream.proofs.Names.{most_bytes, TextFault, Input}
+use Rattle.tl_trace.specs.declared.script.Counts.{Counts}
 use Rattle.tl_stream.specs.Inner.Keeping.{Keeps}
 use Rattle.tl_stream.specs.declared.fault.TextFault.TheVariants as faults
 use Rattle.tl_stream.specs.declared.keep_all.KeepAll.{KeepAll}
 use Rattle.tl_stream.proofs.Lengths.{few-chosen, lines-few}
+use Rattle.tl_stream.proofs.ToRead.{unlike}
 
 -- why no more could be read
 pub refused-read : (unread left : Option (List ℕ)) (input : Input) (fault : TextFault) → (fault ≢ faults.Read → fault ≡ faults.TooLong) →
@@ -18,11 +22,21 @@ refused-read unread left input faults.Write kinds long = let no : faults.Write �
 refused-read unread left input faults.TooLong kinds long = long refl
 refused-read unread left input faults.OutOfMemory kinds long = tt
 
--- the lines of what was read were heard, but for one that may go on
-pub record IsAhead {L : Type 0} {C M : ℕ} (Listens : L → Gone C M → Script C M → Type 0) (unread left : Option (List ℕ)) (v : ℕ)
-    (lines : ScriptReader C M) (input : Input) (listener : L) : Type 0 where
-  pub heard : HasHeard Listens unread left lines input listener
-  pub version : lines.version ≡ v
+module _ {L : Type 0} {C M : ℕ} (Listens : L → Gone C M → Script C M → Type 0) (unread left : Option (List ℕ)) (v : ℕ) (lines : ScriptReader C M)
+    (input : Input) (listener : L) where
+  -- the lines that were used were heard, and the listener listens to what is read behind them
+  pub record IsAhead : Type 0 where
+    pub gone : Gone C M
+    pub between : IsBetweenPast gone unread left lines input
+    pub listens : (more : Script C M) → HasGrown lines.script more → AreFew gone more → Listens listener gone more
+    pub version : lines.version ≡ v
+
+  -- lines behind those that were heard were read
+  pub record IsBehind : Type 0 where
+    pub gone : Gone C M
+    pub between : IsBetweenPast gone unread left lines input
+    pub listens : Listens listener gone lines.script
+    pub version : lines.version ≡ v
 
 module _ {C M : ℕ} where
   -- what has gone and what is held can be counted
@@ -43,15 +57,73 @@ module _ {C M : ℕ} where
         few_e = few-chosen (beat_of_e C) b.read.lines few_lines (gone.e ++ s.e.items) is.e;
       }
 
-  -- the first piece
-  pub first-heard : {L : Type 0} (Listens : L → Gone C M → Script C M → Type 0) (unread left : Option (List ℕ)) (lines : ScriptReader C M)
-      (input : Input) (listener : L) →
-      IsNew Listens listener → IsBetween unread left lines input → HasHeard Listens unread left lines input listener
-  first-heard Listens unread left lines input listener new b = record {
-    gone = none_gone;
-    between = b;
-    listens = λ more grown few. new more few;
-  }
+  module _ {L : Type 0} {Listens : L → Gone C M → Script C M → Type 0} {unread left : Option (List ℕ)} {v : ℕ} where
+    -- the first piece
+    pub first-heard : (lines : ScriptReader C M) (input input' : Input) (listener : L) → lines.version ≡ v → IsNew Listens listener →
+        HasTaken unread left [] input → HasHeader (held input) lines.version C M →
+        ((text : List ℕ) → IsHeaderLine text lines.version C M → HasRead lines.version text lines.script lines.line) →
+        HasUsedHeader input input' → IsAhead Listens unread left v lines input' listener
+    first-heard lines input input' listener version new taken named none h = record {
+      gone = none_gone;
+      between = record { used = h.line; taken = h.taken unread left taken; read = none h.line (h.header lines.version C M named) };
+      listens = λ more grown few. new more few;
+      version = version;
+    }
+
+    -- the lines that the input held were read
+    pub behind : {lines lines' : ScriptReader C M} {input input' : Input} {listener : L} {more : Bool} →
+        IsAhead Listens unread left v lines input listener → HasReadHeld lines input lines' input' more →
+        IsBehind Listens unread left v lines' input' listener
+    behind {lines' = lines'} {input' = input'} a r =
+        let between = r.between unread left a.gone a.between in
+        record {
+          gone = a.gone;
+          between = between;
+          listens = a.listens lines'.script r.grown (counted unread left a.gone lines' input' between);
+          version = r.version ∙ a.version;
+        }
+
+    -- they were heard, some went, and more was read
+    pub heard : {left' : Option (List ℕ)} {lines : ScriptReader C M} {input : Input} {listener : L} (b : IsBehind Listens unread left v lines input listener)
+        (lines' : ScriptReader C M) (input' : Input) (listener' : L) (counts : Counts) → lines'.version ≡ lines.version
+        → ((done : List ℕ) (gone : Gone C M) → HasReadPast lines.version done gone lines.script lines.line →
+        HasReadPast lines.version done (more_gone gone counts lines.script) lines'.script lines'.line)
+        → ((more : Script C M) → HasGrown lines'.script more → AreFew (more_gone b.gone counts lines.script) more →
+        Listens listener' (more_gone b.gone counts lines.script) more)
+        → HasTaken unread left' b.between.used input' → IsAhead Listens unread left' v lines' input' listener'
+    heard {lines = lines} b lines' input' listener' counts version told listens taken =
+        let after = more_gone b.gone counts lines.script in
+        let used = b.between.used in
+        record {
+          gone = after;
+          between = record {
+            used = used;
+            taken = taken;
+            read = subst (λ v. HasReadPast v used after lines'.script lines'.line) (sym version) (told used b.gone b.between.read);
+          };
+          listens = listens;
+          version = version ∙ b.version;
+        }
+
+    -- nothing is left
+    pub read-through : {lines lines' : ScriptReader C M} {input input' : Input} {listener : L} {more : Bool} →
+        IsBehind Listens unread left v lines' input' listener → HasReadHeld lines input lines' input' more → more ≡ false →
+        IsReadThrough Listens unread left v listener lines'.script
+    read-through {lines' = lines'} {input' = input'} b r none =
+        let used = b.between.used in
+        let t = b.between.taken in
+        let all : used ++ held input' ≡ used = ap (λ bytes. used ++ bytes) (r.end none) ∙ append-nil used in
+        record {
+          text = used;
+          took = subst (λ bytes. Consumes unread left bytes) all t.took;
+          end = t.end (unlike input'.to (length input'.buffer.items) (sym r.full ∙ none));
+          few = let same = ap length all in omega (arith, same, t.count, t.few);
+          lines = b.between.read.lines;
+          told = subst (λ v. Tells used v C M b.between.read.lines) b.version b.between.read.told;
+          gone = b.gone;
+          rest = b.between.read.script;
+          listens = b.listens;
+        }
 
   -- where all is kept, what is held at the end is the script
   pub reads-script : (unread left : Option (List ℕ)) (version : ℕ) (input : Input) (keeper : KeepAll) (result : Result (Script C M) TextFault) →

@@ -1,8 +1,8 @@
 -- Reading a text to its end, piece by piece.
-use Rattle.tl_stream.proofs.Names.{IfSome, ◌≡◌, ◌≢◌, ℕ, ◌+◌, ◌-◌, ◌<◌, ◌≤◌, ◌^◌, Bool, true, false, cond, nat_eq, nat_le, List, [], ◌++◌, length}
-use Rattle.tl_stream.proofs.Names.{take, Option, Some, refl, sym, ap, ◌∙◌, subst, arith, eq-eqb, length-append, eqb-true, leb-true, IsAtEnd, list_all}
-use Rattle.tl_stream.proofs.Names.{slice_range, header_of, HasHeader, IsFirstFault, Gone, HasRead, IsHeaderLine, versions, widths, is_version}
-use Rattle.tl_stream.proofs.Names.{is_width, header_text, Header, ScriptReader, IsBetween, IsBetweenPast, HasTaken, IsFresh, held, unread_of}
+use Rattle.tl_stream.proofs.Names.{IfSome, ◌≡◌, ◌≢◌, ℕ, ◌+◌, ◌-◌, ◌<◌, ◌≤◌, Bool, true, false, cond, nat_eq, nat_le, List, [], ◌++◌, length}
+use Rattle.tl_stream.proofs.Names.{take, Option, Some, refl, sym, ap, ◌∙◌, subst, arith, eq-eqb, eqb-true, leb-true, IsAtEnd, list_all}
+use Rattle.tl_stream.proofs.Names.{slice_range, header_of, HasHeader, IsFirstFault, versions, widths, is_version}
+use Rattle.tl_stream.proofs.Names.{is_width, header_text, Header, HasTaken, HasUsedHeader, IsFresh, held, unread_of}
 use Rattle.tl_stream.proofs.Names.{most_bytes, Input, IsWidth}
 use Rattle.tl_trace.specs.Faults.{body}
 use Rattle.std.specs.Fmt.{digits}
@@ -15,7 +15,6 @@ use Rattle.tl_trace.proofs.ReadBeats.{first_line}
 use Rattle.tl_trace.proofs.Walk.{no_header_end, last_line}
 use Rattle.tl_trace.proofs.Widths.{width_of}
 use Rattle.tl_stream.proofs.Between.{held_size, advanced, of_whole}
-use Rattle.tl_stream.proofs.Lengths.{lines-below}
 
 -- what may still be read, and one more where the end was not found yet
 abbrev pub to_read : Input → ℕ
@@ -31,12 +30,12 @@ pub record IsDraining (first left : Option (List ℕ)) (input input' : Input) : 
   pub taken : (unread : Option (List ℕ)) (used : List ℕ) → HasTaken unread first used input → (used' : List ℕ) × HasTaken unread left used' input'
 
 -- a piece more was read, or the end, where the buffer was full and no more than used in between
-pub smaller : (was a c : Input) → a.total ≡ was.total → a.to ≡ was.to → a.buffer.items ≡ was.buffer.items → nat_eq a.to (length a.buffer.items) ≡ true
-    → a.total ≤ c.total → (c.to ≡ length c.buffer.items → a.total < c.total) → c.total ≤ most_bytes → to_read c < to_read was
-smaller was a c total to buffer full more grown few = pick (nat_eq c.to (length c.buffer.items)) refl
+pub smaller : (was a c : Input) (more : Bool) → a.total ≡ was.total → a.to ≡ was.to → a.buffer.items ≡ was.buffer.items →
+    more ≡ nat_eq a.to (length a.buffer.items) → more ≡ true → a.total ≤ c.total → (c.to ≡ length c.buffer.items → a.total < c.total) → c.total ≤ most_bytes → to_read c < to_read was
+smaller was a c more total to buffer is full less grown few = pick (nat_eq c.to (length c.buffer.items)) refl
   where
     was_full : nat_eq was.to (length was.buffer.items) ≡ true
-    was_full = ap (λ (n : ℕ). nat_eq n (length was.buffer.items)) (sym to) ∙ ap (λ (n : ℕ). nat_eq a.to n) (ap length (sym buffer)) ∙ full
+    was_full = ap (λ (n : ℕ). nat_eq n (length was.buffer.items)) (sym to) ∙ ap (λ (n : ℕ). nat_eq a.to n) (ap length (sym buffer)) ∙ sym is ∙ full
 
     before : to_read was ≡ (most_bytes - was.total) + 1
     before = ap (λ (t : Bool). (most_bytes - was.total) + cond t 1 0) was_full
@@ -48,40 +47,26 @@ smaller was a c total to buffer full more grown few = pick (nat_eq c.to (length 
         omega (arith, before, after, lt, few, total)
     pick false e =
         let after : to_read c ≡ (most_bytes - c.total) + 0 = ap (λ (t : Bool). (most_bytes - c.total) + cond t 1 0) e in
-        omega (arith, before, after, more, total)
+        omega (arith, before, after, less, total)
 
 pub unlike : (m n : ℕ) → nat_eq m n ≡ false → m ≢ n
 unlike m n other e = absurd (let bad = sym other ∙ eq-eqb m n e in cc)
 
--- lines can be counted
-pub line_few : {C M : ℕ} {gone : Gone C M} (unread left : Option (List ℕ)) (lines : ScriptReader C M) (input : Input) →
-    IsBetweenPast gone unread left lines input → lines.line + 1 < 2 ^ 64
-line_few {C} {M} {gone} unread left lines input b =
-    let below = lines-below b.used lines.version C M b.read.lines b.read.told in
-    let sum = length-append b.used (held input) in
-    let place : lines.line ≡ length b.read.lines + 1 = b.read.place in
-    let count : input.total ≡ length (b.used ++ held input) = b.taken.count in
-    let few : input.total ≤ most_bytes = b.taken.few in
-    omega arith
-
 -- the header's line is used
-pub begins : {C M : ℕ} (unread left : Option (List ℕ)) (input input' : Input) (lines : ScriptReader C M) (version end : ℕ)
-    (bytes : List ℕ) → bytes ≡ held input
-    → HasTaken unread left [] input → HasHeader (held input) version C M → LineAt bytes 0 end → end < length bytes
+pub header_used : (input input' : Input) (bytes : List ℕ) (end : ℕ) → bytes ≡ held input → input.from ≤ input.to →
+    input.to ≤ length input.buffer.items → LineAt bytes 0 end → end < length bytes
     → input'.from ≡ input.from + (end + 1) → input'.to ≡ input.to → input'.buffer.items ≡ input.buffer.items → input'.total ≡ input.total
-    → lines.version ≡ version → ((text : List ℕ) → IsHeaderLine text version C M → HasRead version text lines.script lines.line) →
-    IsBetween unread left lines input'
-begins {C} {M} unread left input input' lines version end bytes same t named line lt from to buffer total is told =
-    let size = held_size input t.from t.to in
+    → HasUsedHeader input input'
+header_used input input' bytes end same forward within line lt from to buffer total =
+    let size = held_size input forward within in
     let sized : length bytes ≡ length (held input) = ap length same in
-    let inside : input.from + (end + 1) ≤ input.to = omega (arith, size, sized, lt, t.from) in
+    let inside : input.from + (end + 1) ≤ input.to = omega (arith, size, sized, lt, forward) in
     let line' : LineAt (held input) 0 end = subst (λ xs. LineAt xs 0 end) same line in
     let lt' : end < length (held input) = omega (arith, sized, lt) in
     record {
-      used = take (end + 1) (held input);
-      taken = advanced input input' (end + 1) from to buffer total inside unread left [] t;
-      read = subst (λ v. HasRead v (take (end + 1) (held input)) lines.script lines.line) (sym is)
-          (told (take (end + 1) (held input)) (header_line (held input) end version C M line' lt' named));
+      line = take (end + 1) (held input);
+      taken = λ unread left t. advanced input input' (end + 1) from to buffer total inside unread left [] t;
+      header = λ version client manager named. header_line (held input) end version client manager line' lt' named;
     }
 
 -- the widths that a header names are widths

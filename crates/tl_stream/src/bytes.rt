@@ -1,63 +1,37 @@
 //! The bytes of a text, read or written whole.
-ghost use Rattle.std.specs.Prelude.{◌≡◌, ◌≢◌, ◌≤◌, ◌<◌, ℕ, List, Option, length, IfSome, IfOk, OnOk, IfErr, IsErrOf};
-ghost use Rattle.std.specs.Io.KnownBytes.{Appends, Consumes, Keeps, IsAtEnd};
+ghost use Rattle.std.specs.Prelude.{◌≡◌, ◌≢◌, ◌≤◌, ◌<◌, [], length, IfSome, IfOk, OnOk, IfErr, IsErrOf};
+ghost use Rattle.std.specs.Io.KnownBytes.{Appends, Keeps, IsAtEnd};
 ghost use Rattle.tl_stream.specs.Inputs.{most_bytes};
-ghost use Rattle.tl_stream.specs.Inner.Reading.{IsReadOn, IsPastMost};
+ghost use Rattle.tl_stream.specs.Inner.Reading.{ReadsAll};
 ghost use Rattle.tl_stream.specs.declared.fault.TextFault.TheVariants.{Read as ReadFault, Write as WriteFault, TooLong, OutOfMemory};
 
 use crate::fault::TextFault;
-use crate::input::{MAX_BYTES, read_buffer};
+use crate::input::{MAX_BYTES, fill, read_buffer};
 use std::alloc::Global;
 use std::io::{Read, Write};
 
 /// The bytes that one read may give.
 const READ_BYTES: usize = 65_536;
 
-/// Reads a piece, which goes behind what was read before: whether there was more.
-///
-/// Refused as `read_all` is.
-fn read_on<R: Read>(reader: &mut R, all: &mut Vec<u8>, buffer: &mut [u8]) -> Result<bool, TextFault>
-    requires { (length all.old.items ≤ most_bytes) × (0 < length buffer.old) }
-    ensures ok { IfOk result (IsReadOn (R.remaining reader.old) (R.remaining reader.new)
-        all.old.items all.new.items) }
-    ensures long { IsErrOf result TooLong →
-        IsPastMost (R.remaining reader.old) all.old.items }
-    ensures kinds { IfErr result (λ e. (e ≢ ReadFault) → (e ≢ TooLong) → e ≡ OutOfMemory) }
-{
-    match reader.read(buffer) {
-        Ok(0) => Ok(false),
-        Ok(n) => {
-            if n > MAX_BYTES - all.len() {
-                return Err(TextFault::TooLong);
-            }
-            all.extend_from_slice(&buffer[..n])?;
-            Ok(true)
-        }
-        Err(_) => Err(TextFault::Read),
-    }
-}
-
-/// Reads to the end, through a buffer, and behind what was read before.
+/// Reads to the end, through a buffer, into an empty list.
 ///
 /// Refused as `read_all` is.
 fn read_rest<R: Read>(reader: &mut R, all: &mut Vec<u8>, buffer: &mut [u8]) -> Result<(), TextFault>
-    requires { (length all.old.items ≤ most_bytes) × (0 < length buffer.old) }
-    ensures all { (unread : Option (List ℕ)) → Consumes unread (R.remaining reader.old) all.old.items →
-        OnOk result (Consumes unread (R.remaining reader.new) all.new.items) }
-    ensures few { OnOk result (length all.new.items ≤ most_bytes) }
-    ensures end { OnOk result (IsAtEnd (R.remaining reader.new)) }
-    ensures long { IsErrOf result TooLong →
-        IsPastMost (R.remaining reader.old) all.old.items }
-    ensures kinds { IfErr result (λ e. (e ≢ ReadFault) → (e ≢ TooLong) → e ≡ OutOfMemory) }
+    requires { (all.old.items ≡ []) × (0 < length buffer.old) }
+    ensures { ReadsAll (R.remaining reader.old) (R.remaining reader.new) all.new.items result }
 {
-    let mut more = true;
-    while more {
-        more = match read_on(reader, all, buffer) {
-            Ok(more) => more,
+    loop {
+        let n = match fill(reader, buffer, MAX_BYTES - all.len()) {
+            Ok(n) => n,
             Err(fault) => return Err(fault),
         };
+        if let Err(_) = all.extend_from_slice(&buffer[..n]) {
+            return Err(TextFault::OutOfMemory);
+        }
+        if n < buffer.len() {
+            return Ok(());
+        }
     }
-    Ok(())
 }
 
 /// All that a reader gives, up to its end.
@@ -72,7 +46,9 @@ pub fn read_all<R: Read>(alloc: Global, reader: &mut R) -> Result<Vec<u8>, TextF
         most_bytes < length text) }
     ensures kinds { IfErr result (λ e. (e ≢ ReadFault) → (e ≢ TooLong) → e ≡ OutOfMemory) }
 {
-    let mut buffer = read_buffer(alloc, READ_BYTES)?;
+    let Ok(mut buffer) = read_buffer(alloc, READ_BYTES) else {
+        return Err(TextFault::OutOfMemory);
+    };
     let mut all = Vec::new(alloc);
     match read_rest(reader, &mut all, buffer.as_mut_slice()) {
         Ok(()) => Ok(all),

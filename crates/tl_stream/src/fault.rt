@@ -1,7 +1,7 @@
 //! The faults of a text, with their numbers and names.
 ghost use Rattle.std.specs.Prelude.{◌≡◌, Some};
 ghost use Rattle.tl_stream.specs.Faults.{text_fault_line, text_fault_number, text_fault_name, of_trace};
-ghost use Rattle.tl_stream.specs.Statuses.{place_text, fault_words};
+ghost use Rattle.tl_stream.specs.Statuses.{fault_words};
 ghost use Rattle.tl_stream.specs.declared.fault.TextFault.TheVariants.{OutOfMemory};
 
 use std::alloc::{AllocError, AllocFailed};
@@ -66,31 +66,16 @@ impl TextFault {
     }
 }
 
-/// What stands before a fault's number: the line of the text that it names.
-#[derive(Drop)]
-struct Place {
-    line: Option<u64>,
-}
-
-impl fmt::Display for Place {
-    ghost output = { λ place. Some (place_text place.line) };
-
-    fn fmt<W: fmt::Write>(&self, f: &mut fmt::Formatter<W>) -> fmt::Result {
-        match self.line {
-            Some(line) => write!(f, "line {line}: "),
-            None => Ok(()),
-        }
-    }
-}
-
 // As in `line 3: 18 Range`, or `23 TooLong`.
 impl fmt::Display for TextFault {
     ghost output = { λ fault. Some (fault_words fault) };
 
     fn fmt<W: fmt::Write>(&self, f: &mut fmt::Formatter<W>) -> fmt::Result {
-        let place = Place { line: self.line() };
         let (number, name) = (self.number(), self.name());
-        write!(f, "{place}{number} {name}")
+        match self.line() {
+            Some(line) => write!(f, "line {line}: {number} {name}"),
+            None => write!(f, "{number} {name}"),
+        }
     }
 }
 

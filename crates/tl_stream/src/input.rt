@@ -1,7 +1,7 @@
 //! A text as it comes in, piece by piece.
 ghost use Rattle.std.specs.Prelude.{◌≡◌, ◌≢◌, ◌≤◌, ◌<◌, ◌+◌, ◌-◌, ◌++◌, ℕ, List, [], Option, drop, length, slice_range, IfSome, IfOk, OnOk, IfErr, IsErrOf, ◌==◌};
 ghost use Rattle.std.specs.Io.KnownBytes.{IsAtEnd};
-ghost use Rattle.tl_stream.specs.Inner.Filling.{IsFilled, IsRefilled, IsTooMany};
+ghost use Rattle.tl_stream.specs.Inner.Filling.{Fills};
 ghost use Rattle.tl_stream.specs.Inputs.{HasTaken, IsFresh, held, unread_of};
 ghost use Rattle.tl_stream.specs.Inputs.{most_bytes};
 ghost use Rattle.tl_stream.specs.declared.fault.TextFault.TheVariants.{Read as ReadFault, TooLong, OutOfMemory};
@@ -27,13 +27,12 @@ pub fn read_buffer(alloc: Global, bytes: usize) -> Result<Vec<u8>, AllocError>
 ///
 /// Refused with `Read` where a read fails or is interrupted, and with `TooLong` where more than
 /// `most` bytes were read.
-fn fill<R: Read>(reader: &mut R, room: &mut [u8], most: usize) -> Result<usize, TextFault>
-    ensures same { length room.new ≡ length room.old }
-    ensures ok { IfOk result
-        (IsFilled (R.remaining reader.old) (R.remaining reader.new) most room.new) }
-    ensures long { IsErrOf result TooLong →
-        IsTooMany (R.remaining reader.old) (R.remaining reader.new) most }
-    ensures kinds { IfErr result (λ e. (e ≢ ReadFault) → e ≡ TooLong) }
+pub(crate) fn fill<R: Read>(
+    reader: &mut R,
+    room: &mut [u8],
+    most: usize,
+) -> Result<usize, TextFault>
+    ensures { Fills (R.remaining reader.old) (R.remaining reader.new) most room.new result }
 {
     let mut filled = 0;
     while filled < room.len() {
@@ -49,31 +48,6 @@ fn fill<R: Read>(reader: &mut R, room: &mut [u8], most: usize) -> Result<usize, 
         }
     }
     Ok(filled)
-}
-
-/// Moves the bytes of a place to the front and reads behind them, until the buffer is full or to the
-/// end: how many bytes stand at its front then. Refused as `fill` is.
-fn refill<R: Read>(
-    reader: &mut R,
-    buffer: &mut [u8],
-    from: usize,
-    to: usize,
-    most: usize,
-) -> Result<usize, TextFault>
-    requires { (from ≤ to) × (to ≤ length buffer.old) }
-    ensures same { length buffer.new ≡ length buffer.old }
-    ensures ok { IfOk result (IsRefilled (R.remaining reader.old) (R.remaining reader.new)
-        (slice_range buffer.old from to) most buffer.new) }
-    ensures long { IsErrOf result TooLong →
-        IsTooMany (R.remaining reader.old) (R.remaining reader.new) most }
-    ensures kinds { IfErr result (λ e. (e ≢ ReadFault) → e ≡ TooLong) }
-{
-    buffer.copy_within(from..to, 0);
-    let kept = to - from;
-    match fill(reader, &mut buffer[kept..], most) {
-        Ok(read) => Ok(kept + read),
-        Err(fault) => Err(fault),
-    }
 }
 
 /// A text that is read piece by piece: the bytes of it that were read and not used yet.
@@ -103,8 +77,10 @@ impl Input {
             most_bytes < length text) }
         ensures kinds { IfErr result (λ e. (e ≢ ReadFault) → (e ≢ TooLong) → e ≡ OutOfMemory) }
     {
-        let mut buffer = read_buffer(alloc, PIECE_BYTES)?;
-        match refill(reader, buffer.as_mut_slice(), 0, 0, MAX_BYTES) {
+        let Ok(mut buffer) = read_buffer(alloc, PIECE_BYTES) else {
+            return Err(TextFault::OutOfMemory);
+        };
+        match fill(reader, buffer.as_mut_slice(), MAX_BYTES) {
             Ok(to) => Ok(Input {
                 buffer,
                 from: 0,
@@ -165,11 +141,13 @@ impl Input {
     {
         let most = MAX_BYTES - self.total;
         let kept = self.to - self.from;
-        match refill(reader, self.buffer.as_mut_slice(), self.from, self.to, most) {
-            Ok(to) => {
-                self.total += to - kept;
+        let buffer = self.buffer.as_mut_slice();
+        buffer.copy_within(self.from..self.to, 0);
+        match fill(reader, &mut buffer[kept..], most) {
+            Ok(read) => {
+                self.total += read;
                 self.from = 0;
-                self.to = to;
+                self.to = kept + read;
                 Ok(())
             }
             Err(fault) => Err(fault),

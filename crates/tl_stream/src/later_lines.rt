@@ -1,14 +1,11 @@
 //! From a text as it comes in to its near beats.
-ghost use Rattle.std.specs.Prelude.{◌≡◌, ℕ, List, Option, IfOk, OnOk, IfErr};
+ghost use Rattle.std.specs.Prelude.{◌≤◌, length, IfOk, IfErr};
 ghost use Rattle.tl_lanes.specs.Lanes.{IsWidth};
 ghost use Rattle.tl_trace.specs.Faults.{HasHeader};
-ghost use Rattle.tl_trace.specs.Scripts.{Gone, HasGrown, IsUnfinished};
-ghost use Rattle.tl_stream.specs.Inner.Lines.{IsBeginning, IsBetweenPast, IsReading};
+ghost use Rattle.tl_stream.specs.Inner.Lines.{IsBeginning, IsReading, ReadsHeld, UsesHeader};
+ghost use Rattle.tl_stream.specs.Inner.Hearing.{ReadsThrough};
 ghost use Rattle.tl_stream.specs.Listening.{IsNew, IsReadThrough};
-ghost use Rattle.tl_stream.specs.Inner.Hearing.{HasHeard};
 ghost use Rattle.tl_stream.specs.Inputs.{IsFresh, IsRefused, ReadsScript, held, unread_of};
-ghost use Rattle.tl_stream.specs.declared.fault.TextFault.TheVariants.{OutOfMemory as NoMemory};
-ghost use Rattle.tl_stream.specs.declared.input.Input.{Input as TheInput};
 
 use crate::fault::TextFault;
 use crate::input::Input;
@@ -18,60 +15,43 @@ use std::alloc::Global;
 use std::io::Read;
 use tl_trace::{Script, ScriptReader, TraceFault, TraceKind, line_end};
 
-/// Reads the lines that the input holds whole.
+/// Uses the header's line of a text. Refused where it has no end.
+fn use_header(input: &mut Input) -> Result<(), TextFault>
+    requires { (input.old.from ≤ input.old.to) × (input.old.to ≤ length input.old.buffer.items) }
+    ensures { UsesHeader input.old input.new result }
+{
+    let held = input.held();
+    let end = line_end(held, 0);
+    if end >= held.len() {
+        return Err(TextFault::Trace(TraceFault {
+            line: 1,
+            kind: TraceKind::NoEnd,
+        }));
+    }
+    input.advance(end + 1);
+    Ok(())
+}
+
+/// Reads the lines that the input holds whole, and says whether more may come.
+///
+/// Refused where no more comes and a line without its end is left.
 fn read_held<const C: usize, const M: usize>(
     lines: &mut ScriptReader<C, M>,
     input: &mut Input,
-) -> Result<(), TextFault>
+) -> Result<bool, TextFault>
     requires { IsReading lines.old input.old }
-    ensures version { lines.new.version ≡ lines.old.version }
-    ensures rest { OnOk result (IsUnfinished (held input.new)) }
-    ensures total { input.new.total ≡ input.old.total }
-    ensures to { input.new.to ≡ input.old.to }
-    ensures buffer { input.new.buffer.items ≡ input.old.buffer.items }
-
-    ensures grown { OnOk result (HasGrown lines.old.script lines.new.script) }
-
-    // for every text of which that was read, and the beats that have gone
-    ensures ok { (unread left : Option (List ℕ)) (gone : Gone C M) →
-        IsBetweenPast gone unread left lines.old input.old →
-        OnOk result (IsBetweenPast gone unread left lines.new input.new) }
-    ensures err { (unread left : Option (List ℕ)) (gone : Gone C M) →
-        IsBetweenPast gone unread left lines.old input.old →
-        IfErr result (IsRefused unread left input.new) }
+    ensures { ReadsHeld lines.old input.old lines.new input.new result }
 {
     match lines.read(input.held()) {
-        Ok(used) => {
-            input.advance(used);
-            Ok(())
-        }
-        Err(fault) => Err(TextFault::from(fault)),
+        Ok(used) => input.advance(used),
+        Err(fault) => return Err(TextFault::from(fault)),
     }
-}
-
-/// Lets a listener go on with the beats that were read, and those go that it is done with.
-fn hear_held<By, L: Listener<By, C, M>, const C: usize, const M: usize>(
-    lines: &mut ScriptReader<C, M>,
-    listener: &mut L,
-) -> Result<(), TextFault>
-    requires { IsWidth C × IsWidth M × ((gone : Gone C M) ×
-        L.Listens lines.old.version listener.old gone lines.old.script) }
-    ensures version { lines.new.version ≡ lines.old.version }
-    ensures err { IfErr result (λ fault. fault ≡ NoMemory) }
-
-    // for every text of which that was read
-    ensures on { (unread left : Option (List ℕ)) (input : TheInput) (gone : Gone C M) →
-        IsBetweenPast gone unread left lines.old input →
-        L.Listens lines.old.version listener.old gone lines.old.script →
-        OnOk result (HasHeard (L.Listens lines.old.version) unread left lines.new input
-        listener.new) }
-{
-    match listener.hear(&lines.script) {
-        Ok(counts) => {
-            lines.let_go(&counts);
-            Ok(())
-        }
-        Err(_) => Err(TextFault::OutOfMemory),
+    if input.is_full() {
+        return Ok(true);
+    }
+    match lines.end_fault(input.held()) {
+        Some(fault) => Err(TextFault::from(fault)),
+        None => Ok(false),
     }
 }
 
@@ -89,33 +69,22 @@ fn read_pieces<R: Read, By, L: Listener<By, C, M>, const C: usize, const M: usiz
 ) -> Result<(), TextFault>
     requires { IsBeginning (R.remaining reader.old) input.old lines.old ×
         IsNew (L.Listens lines.old.version) listener.old }
-    ensures ok { OnOk result (IsReadThrough (L.Listens lines.old.version)
+    ensures { ReadsThrough (L.Listens lines.old.version)
         (unread_of input.old (R.remaining reader.old)) (R.remaining reader.new)
-        lines.old.version listener.new lines.new.script) }
-    ensures err { IfErr result (IsRefused
-        (unread_of input.old (R.remaining reader.old)) (R.remaining reader.new) input.new) }
+        lines.old.version listener.new lines.new.script input.new result }
 {
-    let held = input.held();
-    let end = line_end(held, 0);
-    if end >= held.len() {
-        return Err(TextFault::Trace(TraceFault {
-            line: 1,
-            kind: TraceKind::NoEnd,
-        }));
+    if let Err(fault) = use_header(input) {
+        return Err(fault);
     }
-    input.advance(end + 1);
     'pieces: loop {
-        if let Err(fault) = read_held(lines, input) {
-            return Err(fault);
+        match read_held(lines, input) {
+            Ok(true) => {}
+            Ok(false) => return Ok(()),
+            Err(fault) => return Err(fault),
         }
-        if !input.is_full() {
-            return match lines.end_fault(input.held()) {
-                Some(fault) => Err(TextFault::from(fault)),
-                None => Ok(()),
-            };
-        }
-        if let Err(fault) = hear_held::<By, L, C, M>(lines, listener) {
-            return Err(fault);
+        match listener.hear(&lines.script) {
+            Ok(counts) => lines.let_go(&counts),
+            Err(_) => return Err(TextFault::OutOfMemory),
         }
         if let Err(fault) = input.refill(reader) {
             return Err(fault);

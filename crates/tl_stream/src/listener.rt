@@ -11,7 +11,8 @@ use tl_trace::{Counts, Script};
 /// What goes on with the near beats of a text while it is read, so that those that it is done with
 /// need not be held any more (this project's choice).
 ///
-/// `By` is any type of the crate that says how a type listens: so a crate may say it of a type of another crate.
+/// `By` is any type of the crate that says how a type listens: so a crate may say it of a type of another crate
+/// (a struct around that one would be a type more for each pair of widths).
 pub trait Listener<By, const C: usize, const M: usize> {
     // in a trace of this version it is done with the beats that have gone, and has perhaps come to some of
     // those that the script holds

@@ -1,6 +1,8 @@
 -- What one read of a piece gives. Only private contracts cite these words.
-use Rattle.std.specs.Prelude.{◌≡◌, ◌≢◌, ◌≤◌, ◌<◌, ◌++◌, ◌+◌, ℕ, List, length, take, Option}
+use Rattle.std.specs.Prelude.{◌≢◌, ◌≤◌, ◌<◌, ℕ, List, length, take, Option, Result, Ok, Err}
 use Rattle.std.specs.Io.KnownBytes.{Consumes, IsAtEnd}
+use Rattle.tl_stream.specs.declared.fault.TextFault.{TextFault}
+use Rattle.tl_stream.specs.declared.fault.TextFault.TheVariants as faults
 
 -- the first n bytes of the room are what was read, at most so many; the reader has no more, where the room is not full
 pub record IsFilled (old new : Option (List ℕ)) (most : ℕ) (room : List ℕ) (n : ℕ) : Type 0 where
@@ -9,16 +11,20 @@ pub record IsFilled (old new : Option (List ℕ)) (most : ℕ) (room : List ℕ)
   pub took : Consumes old new (take n room)
   pub end : n ≢ length room → IsAtEnd new
 
--- the first n bytes of the buffer are those that were kept, and behind them what was read
-pub record IsRefilled (old new : Option (List ℕ)) (kept : List ℕ) (most : ℕ) (buffer : List ℕ) (n : ℕ) : Type 0 where
-  pub within : n ≤ length buffer
-  pub bytes : List ℕ
-  pub front : take n buffer ≡ kept ++ bytes
-  pub count : n ≡ length kept + length bytes
-  pub few : length bytes ≤ most
-  pub took : Consumes old new bytes
-  pub end : n ≢ length buffer → IsAtEnd new
-
 -- more bytes were read than there may be
 abbrev pub IsTooMany : (old new : Option (List ℕ)) (most : ℕ) → Type 0
 IsTooMany old new most = (bytes : List ℕ) × Consumes old new bytes × (most < length bytes)
+
+-- why reading went no further: a read failed, or what was read is too long
+abbrev pub IsReadFault : (long : Type 0) → TextFault → Type 0
+IsReadFault long (faults.Trace fault) = ⊥
+IsReadFault long faults.Stalled = ⊥
+IsReadFault long faults.Read = Unit {0}
+IsReadFault long faults.Write = ⊥
+IsReadFault long faults.TooLong = long
+IsReadFault long faults.OutOfMemory = ⊥
+
+-- what comes of the filling of a room
+abbrev pub Fills : (old new : Option (List ℕ)) (most : ℕ) (room : List ℕ) → Result ℕ TextFault → Type 0
+Fills old new most room (Ok n) = IsFilled old new most room n
+Fills old new most room (Err fault) = IsReadFault (IsTooMany old new most) fault

@@ -1,11 +1,12 @@
 -- Between two pieces of a text. Only private contracts cite these words.
-use Rattle.std.specs.Prelude.{◌≡◌, ◌≤◌, ◌<◌, ◌+◌, ◌^◌, ℕ, true, List, length, Option}
+use Rattle.std.specs.Prelude.{◌≡◌, ◌≤◌, ◌<◌, ◌+◌, ◌^◌, ℕ, Bool, true, false, nat_eq, List, [], length, Option, Result, Ok, Err}
 use Rattle.tl_lanes.specs.Lanes.{IsWidth}
 use Rattle.tl_trace.specs.Faults.{HasHeader}
-use Rattle.tl_trace.specs.Scripts.{Gone, HasRead, HasReadPast, IsHeaderLine, none_gone}
+use Rattle.tl_trace.specs.Scripts.{Gone, HasGrown, HasRead, HasReadPast, IsHeaderLine, IsUnfinished, none_gone}
 use Rattle.tl_trace.specs.Texts.{is_version}
 use Rattle.tl_trace.specs.declared.script_reader.ScriptReader.{ScriptReader}
-use Rattle.tl_stream.specs.Inputs.{HasTaken, IsFresh, held}
+use Rattle.tl_stream.specs.Inputs.{HasTaken, IsFresh, IsRefused, held, unread_of}
+use Rattle.tl_stream.specs.declared.fault.TextFault.{TextFault}
 use Rattle.tl_stream.specs.declared.input.Input.{Input}
 
 -- the input holds the front of a text whose header names the version and the widths, and no line was read yet
@@ -33,4 +34,37 @@ pub record IsReading {C M : ℕ} (lines : ScriptReader C M) (input : Input) : Ty
   pub version : is_version lines.version ≡ true
   pub from : input.from ≤ input.to
   pub to : input.to ≤ length input.buffer.items
-  pub few : lines.line + length (held input) < 2 ^ 64
+  pub few : lines.line + length (held input) + 1 < 2 ^ 64
+
+-- the line of a header was used
+pub record HasUsedHeader (input input' : Input) : Type 0 where
+  pub line : List ℕ
+  pub taken : (unread left : Option (List ℕ)) → HasTaken unread left [] input → HasTaken unread left line input'
+  pub header : (version client manager : ℕ) → HasHeader (held input) version client manager → IsHeaderLine line version client manager
+
+-- what comes of the use of a header, for every text that has one
+abbrev pub UsesHeader : (input input' : Input) → Result (Unit {0}) TextFault → Type 0
+UsesHeader input input' (Ok _) = HasUsedHeader input input'
+UsesHeader input input' (Err fault) =
+    (left : Option (List ℕ)) (version client manager : ℕ) → IsFresh left input → HasHeader (held input) version client manager →
+    IsRefused (unread_of input left) left input' fault
+
+-- the lines that the input held whole were read, for every text of which these were read, and whatever beats have gone
+pub record HasReadHeld {C M : ℕ} (lines : ScriptReader C M) (input : Input) (lines' : ScriptReader C M) (input' : Input) (more : Bool) : Type 0 where
+  pub version : lines'.version ≡ lines.version
+  pub grown : HasGrown lines.script lines'.script
+  pub total : input'.total ≡ input.total
+  pub to : input'.to ≡ input.to
+  pub buffer : input'.buffer.items ≡ input.buffer.items
+  pub rest : IsUnfinished (held input')
+  pub full : more ≡ nat_eq input'.to (length input'.buffer.items)
+  pub end : more ≡ false → held input' ≡ []
+  pub between : (unread left : Option (List ℕ)) (gone : Gone C M) → IsBetweenPast gone unread left lines input →
+      IsBetweenPast gone unread left lines' input'
+
+-- what comes of the reading of these lines
+abbrev pub ReadsHeld : {C M : ℕ} (lines : ScriptReader C M) (input : Input) (lines' : ScriptReader C M) (input' : Input) →
+    Result Bool TextFault → Type 0
+ReadsHeld lines input lines' input' (Ok more) = HasReadHeld lines input lines' input' more
+ReadsHeld {C} {M} lines input lines' input' (Err fault) =
+    (unread left : Option (List ℕ)) (gone : Gone C M) → IsBetweenPast gone unread left lines input → IsRefused unread left input' fault

@@ -1,15 +1,26 @@
--- What the reads of a whole text give. Only private contracts cite these words.
-use Rattle.std.specs.Prelude.{◌≡◌, ◌≤◌, ◌<◌, ◌+◌, ℕ, Bool, false, cond, List, length, Option, IfSome}
+-- What the reading of a whole text gives. Only private contracts cite these words.
+use Rattle.std.specs.Prelude.{◌≤◌, ◌<◌, ℕ, List, length, Option, Result, Ok, Err, IfSome}
 use Rattle.std.specs.Io.KnownBytes.{Consumes, IsAtEnd}
 use Rattle.tl_stream.specs.Inputs.{most_bytes}
+use Rattle.tl_stream.specs.declared.fault.TextFault.{TextFault}
+use Rattle.tl_stream.specs.declared.fault.TextFault.TheVariants as faults
 
--- a read gave more, which stands behind what was read before, or there is no more
-pub record IsReadOn (old new : Option (List ℕ)) (before after : List ℕ) (more : Bool) : Type 0 where
-  pub took : (unread : Option (List ℕ)) → Consumes unread old before → Consumes unread new after
-  pub few : length after ≤ most_bytes
-  pub grown : length before + cond more 1 0 ≤ length after
-  pub end : more ≡ false → IsAtEnd new
+-- this was read, and the reader has no more
+pub record IsAllRead (old new : Option (List ℕ)) (text : List ℕ) : Type 0 where
+  pub took : Consumes old new text
+  pub few : length text ≤ most_bytes
+  pub end : IsAtEnd new
 
--- every text of which this was read is too long
-abbrev pub IsPastMost : (left : Option (List ℕ)) (read : List ℕ) → Type 0
-IsPastMost left read = (unread : Option (List ℕ)) → Consumes unread left read → IfSome unread (λ text. most_bytes < length text)
+-- why a text was not read to its end
+abbrev pub IsNotRead : (unread : Option (List ℕ)) → TextFault → Type 0
+IsNotRead unread faults.OutOfMemory = Unit {0}
+IsNotRead unread (faults.Trace fault) = ⊥
+IsNotRead unread faults.Stalled = ⊥
+IsNotRead unread faults.Read = Unit {0}
+IsNotRead unread faults.Write = ⊥
+IsNotRead unread faults.TooLong = IfSome unread (λ text. most_bytes < length text)
+
+-- what comes of the reading of a text
+abbrev pub ReadsAll : (old new : Option (List ℕ)) (all : List ℕ) → Result (Unit {0}) TextFault → Type 0
+ReadsAll old new all (Ok _) = IsAllRead old new all
+ReadsAll old new all (Err fault) = IsNotRead old fault

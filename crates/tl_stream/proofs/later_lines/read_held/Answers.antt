@@ -1,5 +1,7 @@
-use Rattle.tl_stream.proofs.Names.{◌+◌, ◌≤◌, ◌++◌, length, take, drop, refl, arith, ap, subst, sym, HasReadPast, IsUnfinished, IsFirstFault, IsRefused, held}
-use Rattle.tl_stream.proofs.Between.{any_refused, held_size, held_rest, between_on, of_text}
+use Rattle.tl_stream.proofs.Names.{◌≢◌, ◌++◌, ◌∙◌, false, true, length, refl, arith, ap, subst, sym, list_any, is_newline, width_bounds}
+use Rattle.tl_stream.proofs.Names.{lit<, is_version, IsFirstFault, IsRefused, held}
+use Rattle.tl_stream.proofs.Between.{any_refused, between_read, has_read, inside_held, of_text, of_whole, unfinished}
+use Rattle.tl_stream.proofs.ToRead.{unlike}
 use Rattle.tl_stream.proofs.later_lines.read_held.Goals as goal
 
 pub held-requires : goal.held-requires
@@ -7,48 +9,70 @@ held-requires g c = record { from = c.requires.from; to = c.requires.to }
 
 pub advance-requires : goal.advance-requires
 advance-requires g c =
-    let size = held_size c.args.input.now c.requires.from c.requires.to in
-    let same = ap length c.held.ensures in
-    omega (arith, c.in-Ok.ensures.used, size, same, c.requires.from)
-
-pub returns-in-Ok : goal.returns-in-Ok
-returns-in-Ok g c =
-    let input = c.args.input.now in
-    let e = c.advance.ensures in
-    let size = held_size input c.requires.from c.requires.to in
-    let same = ap length c.held.ensures in
-    let inside : input.from + c.in-Ok.used ≤ input.to = omega (arith, c.in-Ok.ensures.used, size, same, c.requires.from) in
-    let version = c.args.lines.now.version in
-    record {
-      version = c.in-Ok.ensures.version;
-      rest = subst IsUnfinished (sym (held_rest input c.advance.new.self c.in-Ok.used e.from e.to e.buffer e.total inside))
-          (subst (λ bytes. IsUnfinished (drop c.in-Ok.used bytes)) c.held.ensures c.in-Ok.ensures.rest);
-      total = e.total;
-      to = e.to;
-      buffer = e.buffer;
-      grown = c.in-Ok.ensures.grown refl;
-      ok = λ unread left gone b. between_on input c.advance.new.self c.in-Ok.used e.from e.to e.buffer e.total inside
-          gone c.args.lines.now c.read.new.self unread left c.in-Ok.ensures.version
-          (λ done r. subst (λ bytes. HasReadPast version (done ++ take c.in-Ok.used bytes) gone c.read.new.self.script c.read.new.self.line)
-          c.held.ensures (c.in-Ok.ensures.told done gone r)) b;
-      err = λ unread left gone b. tt;
-    }
+    inside_held c.args.input.now c.held.result.now c.in-Ok.used c.held.ensures c.requires.from c.requires.to c.in-Ok.ensures.used
 
 pub returns-in-Err : goal.returns-in-Err
-returns-in-Err g c =
+returns-in-Err g c = λ unread left gone b.
     let input = c.args.input.now in
     let fault = c.in-Err.fault in
-    record {
-      version = c.in-Err.ensures.version;
-      rest = tt;
-      total = refl;
-      to = refl;
-      buffer = refl;
-      grown = tt;
-      ok = λ unread left gone b. tt;
-      err = λ unread left gone b. subst (IsRefused unread left input) (sym c.from.ensures)
-          (any_refused unread left b.used input fault b.taken (λ other.
-          of_text (λ text. IsFirstFault text fault.line fault.kind) unread left (b.used ++ held input) b.taken.took (λ more.
-          subst (λ bytes. IsFirstFault (b.used ++ bytes ++ more) fault.line fault.kind) c.held.ensures
-          (c.in-Err.ensures.fault b.used more gone b.read other))));
-    }
+    subst (IsRefused unread left input) (sym c.from.ensures)
+    (any_refused unread left b.used input fault b.taken (λ other.
+    of_text (λ text. IsFirstFault text fault.line fault.kind) unread left (b.used ++ held input) b.taken.took (λ more.
+    subst (λ bytes. IsFirstFault (b.used ++ bytes ++ more) fault.line fault.kind) c.held.ensures
+    (c.in-Err.ensures.fault b.used more gone b.read other))))
+
+pub returns-then-is_full : goal.returns-then-is_full
+returns-then-is_full g c =
+    let input = c.args.input.now in
+    let e = c.advance.ensures in
+    let r = c.in-Ok.ensures in
+    let inside = inside_held input c.held.result.now c.in-Ok.used c.held.ensures c.requires.from c.requires.to r.used in
+    has_read input c.advance.new.self c.in-Ok.used e.from e.to e.buffer e.total inside c.args.lines.now c.read.new.self c.held.result.now
+    c.held.ensures r.version r.told true (r.grown refl) r.rest (sym c.if-is_full.true ∙ c.is_full.ensures) (λ e. absurd cc)
+
+pub end_fault-requires : goal.end_fault-requires
+end_fault-requires g c =
+    let r = c.in-Ok.ensures in
+    let input = c.args.input.now in
+    let e = c.advance.ensures in
+    let inside = inside_held input c.held.result.now c.in-Ok.used c.held.ensures c.requires.from c.requires.to r.used in
+    let rest = unfinished input c.advance.new.self c.in-Ok.used e.from e.to e.buffer e.total inside c.held.result.now c.held.ensures r.rest in (
+      lit< tt,
+      (
+        ap is_version r.version ∙ c.requires.version,
+        (
+          (width_bounds _ c.requires.client).1,
+          (
+            (width_bounds _ c.requires.manager).1,
+            (omega (arith, r.lines, r.used, ap length c.held.ensures, c.requires.few), ap (list_any is_newline) c.held-2.ensures ∙ rest.free),
+          ),
+        ),
+      ),
+    )
+
+pub returns-in-Some : goal.returns-in-Some
+returns-in-Some g c = λ unread left gone before.
+    let input = c.args.input.now in
+    let input' = c.advance.new.self in
+    let e = c.advance.ensures in
+    let r = c.in-Ok.ensures in
+    let fault = c.in-Some.fault in
+    let inside = inside_held input c.held.result.now c.in-Ok.used c.held.ensures c.requires.from c.requires.to r.used in
+    let b = between_read input input' c.in-Ok.used e.from e.to e.buffer e.total inside c.args.lines.now c.read.new.self c.held.result.now
+    c.held.ensures r.version r.told unread left gone before in
+    let first : IsFirstFault (b.used ++ held input') fault.line fault.kind =
+    subst (λ bytes. IsFirstFault (b.used ++ bytes) fault.line fault.kind) c.held-2.ensures (c.in-Some.ensures.fault b.used gone b.read) in
+    let not_full : input'.to ≢ length input'.buffer.items = unlike _ _ (sym c.is_full.ensures ∙ c.if-is_full.false) in
+    subst (IsRefused unread left input') (sym c.from-in-Some.ensures)
+    (any_refused unread left b.used input' fault b.taken (λ other.
+    of_whole (λ text. IsFirstFault text fault.line fault.kind) unread left (b.used ++ held input') b.taken.took (b.taken.end not_full) first))
+
+pub returns-in-None : goal.returns-in-None
+returns-in-None g c =
+    let input = c.args.input.now in
+    let e = c.advance.ensures in
+    let r = c.in-Ok.ensures in
+    let inside = inside_held input c.held.result.now c.in-Ok.used c.held.ensures c.requires.from c.requires.to r.used in
+    has_read input c.advance.new.self c.in-Ok.used e.from e.to e.buffer e.total inside c.args.lines.now c.read.new.self c.held.result.now
+    c.held.ensures r.version r.told false (r.grown refl) r.rest (sym c.if-is_full.false ∙ c.is_full.ensures)
+    (λ e. sym c.held-2.ensures ∙ c.in-None.ensures.none refl)

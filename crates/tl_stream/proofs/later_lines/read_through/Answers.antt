@@ -21,8 +21,13 @@ read_pieces-requires g c =
       ),
     )
 
-pub returns-in-Ok-clause-ok : goal.returns-in-Ok-clause-ok
-returns-in-Ok-clause-ok g c =
-    subst (λ v. IsReadThrough (g.L.Listener.Listens v) (unread_of c.args.input.now (g.R.Read.remaining c.args.reader.now))
-    (g.R.Read.remaining c.read_pieces.new.reader) v c.read_pieces.new.listener c.read_pieces.new.lines.script)
-    c.new-lines.ensures.version c.in-Ok.ensures.ok
+pub returns-in-Ok : goal.returns-in-Ok
+returns-in-Ok g c = record {
+  ok = subst (λ v. IsReadThrough (g.L.Listener.Listens v) (unread_of c.args.input.now (g.R.Read.remaining c.args.reader.now))
+      (g.R.Read.remaining c.read_pieces.new.reader) v c.read_pieces.new.listener c.read_pieces.new.lines.script)
+      c.new-lines.ensures.version c.in-Ok.ensures;
+  err = tt;
+}
+
+pub returns-in-Err : goal.returns-in-Err
+returns-in-Err g c = record { ok = tt; err = c.in-Err.ensures }

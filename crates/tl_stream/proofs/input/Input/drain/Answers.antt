@@ -11,8 +11,8 @@ pub loop-self-smaller : goal.loop-self-smaller
 loop-self-smaller g c =
     let i = c.loop-self.invariant in
     let next = c.in_default.ensures.ok i.some.0 _ (used_up i.some.0 (g.R.Read.remaining c.loop-self.reader) i.some.1 c.loop-self.self i.some.2) in
-    smaller c.loop-self.self c.loop-self.self c.refill.new.self refl refl refl
-    (sym c.is_full.ensures ∙ c.loop-self-test.true) c.in_default.ensures.more
+    smaller c.loop-self.self c.loop-self.self c.refill.new.self c.is_full.result refl refl refl c.is_full.ensures c.loop-self-test.true
+    c.in_default.ensures.more
     (λ past. c.in_default.ensures.grown past (omega (arith, i.room))) next.few
 
 pub loop-self-preserved : goal.loop-self-preserved

@@ -1,29 +1,42 @@
 use Rattle.tl_stream.proofs.Names.{◌+◌, ◌-◌, ◌∙◌, arith, length, refl, sym, ap, with_items_is}
 use Rattle.std.specs.Vec.{with_items}
-use Rattle.tl_stream.proofs.Filling.{refilled-taken, refilled-long, same-fault}
+use borrow.Rule.Slice.PartMut.{put_mid}
+use Rattle.tl_stream.proofs.Filling.{named-fault, no-fault, put_size, read-kinds, refilled-long, refilled-taken, room_size}
+use Rattle.tl_stream.specs.Inner.Filling.{IsReadFault}
 use Rattle.tl_stream.proofs.input.Input.refill.Goals as goal
 
-pub returns-in-Ok-clause-ok : goal.returns-in-Ok-clause-ok
-returns-in-Ok-clause-ok g c = λ unread used h.
+pub returns-in-Ok : goal.returns-in-Ok
+returns-in-Ok g c =
     let input = c.args.self.now in
-    let size = c.in-Ok.ensures.same ∙ ap length c.as_mut_slice.ensures.value ∙ sym input.buffer.ok.0 in
-    refilled-taken unread _ _ used input h _ c.refill.new.buffer c.in-Ok.to c.as_mut_slice.ensures.value c.in-Ok.ensures.same c.in-Ok.ensures.ok
-    (record {
-      buffer = with_items input.buffer c.refill.new.buffer;
-      from = 0;
-      to = c.in-Ok.to;
-      total = input.total + (c.in-Ok.to - (input.to - input.from));
-    })
-    (with_items_is input.buffer c.refill.new.buffer size) refl refl refl
+    let kept = input.to - input.from in
+    let moved = c.copy_within.new.self in
+    let room = c.fill.new.room in
+    let slice = c.as_mut_slice-buffer.ensures.value in
+    let len = c.copy_within.ensures.len in
+    let long = ap length slice in
+    let size_room = c.fill.auto.room ∙ room_size kept moved in
+    let buffer = put_mid kept (length moved - kept) moved room in
+    let size = put_size kept moved room (omega (arith, c.requires.to, len, long)) size_room ∙ len ∙ long ∙ sym input.buffer.ok.0 in
+    let put = with_items_is input.buffer buffer size in
+    let now = ap length put in
+    record {
+      ok = λ unread used h. refilled-taken unread _ _ used input h _ moved room c.in-Ok.read slice len c.copy_within.ensures.after size_room
+          c.in-Ok.ensures
+          (record { buffer = with_items input.buffer buffer; from = 0; to = kept + c.in-Ok.read; total = input.total + c.in-Ok.read })
+          put refl refl refl;
+      from = refl;
+      more = omega arith;
+      grown = λ full part. omega (arith, full, part, size, now);
+      long = λ unread used h e. no-fault e;
+      kinds = tt;
+    }
 
-pub returns-in-Ok-clause-grown : goal.returns-in-Ok-clause-grown
-returns-in-Ok-clause-grown g c = λ full part.
-    let input = c.args.self.now in
-    let was = ap length c.as_mut_slice.ensures.value in
-    let size = c.in-Ok.ensures.same ∙ was ∙ sym input.buffer.ok.0 in
-    let now = ap length (with_items_is input.buffer c.refill.new.buffer size) in
-    omega (arith, full, part, was, now, c.in-Ok.ensures.same)
-
-pub returns-in-Err-clause-long : goal.returns-in-Err-clause-long
-returns-in-Err-clause-long g c = λ unread used h e.
-    refilled-long unread _ _ used c.args.self.now h (c.in-Err.ensures.long (same-fault c.in-Err.fault _ e))
+pub returns-in-Err : goal.returns-in-Err
+returns-in-Err g c = record {
+  ok = λ unread used h. tt;
+  from = tt;
+  more = tt;
+  grown = tt;
+  long = λ unread used h e. refilled-long unread _ _ used c.args.self.now h (named-fault (IsReadFault _) c.in-Err.fault _ c.in-Err.ensures e);
+  kinds = read-kinds _ c.in-Err.fault c.in-Err.ensures;
+}
