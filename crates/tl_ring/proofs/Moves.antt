@@ -1,7 +1,7 @@
 -- A cut that goes from the front of one list to the end of the list before it leaves both together as they were.
 use Rattle.tl_ring.proofs.Names.{◌≡◌, ◌≤◌, ◌<◌, ◌+◌, ◌-◌, ◌↔◌, ◌⊎◌, ◌==◌, ◌&&◌, ℕ, Bool, true, false, List, [], ◌++◌, take, drop, length, min, inl}
 use Rattle.tl_ring.proofs.Names.{inr, refl, ap, sym, ◌∙◌, arith, ⊎_elim, append_assoc, append-nil, nil_from_length, take-append-drop, take-append-le}
-use Rattle.tl_ring.proofs.Names.{cases_lt, and_parts, take-append-add, take-length}
+use Rattle.tl_ring.proofs.Names.{cases_lt, and_parts, not, take-append-add, take-length}
 use Rattle.std.proofs.lemmas.Bool.Decides.{eqb_tells}
 use Rattle.tl_ring.specs.declared.pipe.TheConstants.{MAX_RING}
 use Rattle.tl_ring.specs.declared.fault.BuildFault.TheVariants.{RingSize, OutOfMemory}
@@ -82,3 +82,11 @@ ring_size_only ring size refused = ⊎_elim (λ none. omega arith) (λ above. om
 -- so want of memory is no size that is refused
 pub want_of_memory : (ring : ℕ) → (1 ≤ ring) × (ring ≤ MAX_RING) → (OutOfMemory ≡ RingSize) ↔ ((ring ≡ 0) ⊎ (MAX_RING < ring))
 want_of_memory ring size = (λ same. absurd (cc), λ refused. absurd (ring_size_only ring size refused))
+
+-- what is ready only where the first of them is empty and it is not closed, is closed where it is not ready and none has an element
+pub shut_and_none : {A B C : Type 0} (ready none closed : Bool) → (ready ≡ true) ↔ (A × (closed ≡ false)) → (none ≡ true) ↔ (A × B × C) →
+    ((not ready && none) ≡ true) ↔ ((closed ≡ true) × A × B × C)
+shut_and_none true none closed open_is left = (λ u. absurd (cc), λ (shut, x, y, z). let still = (open_is.0 refl).1 in absurd (cc))
+shut_and_none false false closed open_is left = (λ u. absurd (cc), λ (shut, x, y, z). let all = left.1 (x, y, z) in absurd (cc))
+shut_and_none false true true open_is left = (λ u. let each = left.0 refl in (refl, each.0, each.1, each.2), λ all. refl)
+shut_and_none false true false open_is left = (λ u. let still = open_is.1 ((left.0 refl).0, refl) in absurd (cc), λ all. refl)

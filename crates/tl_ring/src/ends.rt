@@ -1,16 +1,16 @@
 //! The two ends of a crossing between two threads.
-ghost use Rattle.std.specs.Prelude.{◌≡◌, ◌≤◌, ◌-◌, ◌↔◌, ◌++◌, [], List, ℕ, false, length, min, take, slice_get, Some, IsOk, IsTrue, IfOk, IfErr, IfSome, OnOk, OnErr};
+ghost use Rattle.std.specs.Prelude.{◌≡◌, ◌≤◌, ◌-◌, ◌↔◌, ◌++◌, [], List, length, min, take, slice_get, Some, IsOk, IsTrue, IfOk, IfErr, IfSome, OnOk, OnErr};
 ghost use Rattle.rtrb.specs.Ring as rtrb;
 ghost use Rattle.tl_lanes.specs.Lanes.{IsWidth};
 ghost use Rattle.tl_msg.specs.Faults.{IsLawfulBeat};
 ghost use Rattle.tl_msg.specs.declared.beat.BeatOf.{BeatOf};
 ghost use Rattle.tl_burst.specs.Handing.{IsAdmitted, rest_of, fault_after};
-ghost use Rattle.tl_ring.specs.Crossing.{World, empty, offered, shut, inbox_room};
-ghost use Rattle.tl_ring.specs.Ends.{Sends, Takes, Pushed, Fetched, Shows, Shown, LookedAfter, IsReceiptOf, IsReceiptFor, Finishes, TakeHalf, IsNewRing, sending_of, known_free, known_items, passed, closing, took_first};
+ghost use Rattle.tl_ring.specs.Crossing.{World, offered, shut, inbox_room};
+ghost use Rattle.tl_ring.specs.Ends.{Sends, Takes, Pushed, Fetched, Shows, Shown, LookedAfter, IsReceiptOf, IsReceiptFor, Finishes, sending_of, known_free, known_items, passed, closing, took_first};
 ghost use Rattle.tl_ring.specs.declared.queue.TheConstants.{ROOM};
 
 use crate::fault::EndFault;
-use crate::halves::{Intake, SendHalf, TakeHalf, receive, send_staged};
+use crate::halves::{Intake, SendHalf, receive, send_staged};
 use crate::inbox::Inbox;
 use crate::lawful::LawfulAt;
 use crate::outbox::Outbox;
@@ -44,22 +44,6 @@ impl<K: Channel, const W: usize, const V: usize, A: Allocator> Model for SendEnd
 }
 
 impl<K: Channel, const W: usize, const V: usize, A: Allocator> SendEnd<K, W, V, A> {
-    /// The sending end of a new crossing, over its half of a new ring ([`crate::new_ring`]). It has
-    /// no word on the widths, for a caller that makes several ends: what it promises has them as a
-    /// premise in place of a demand.
-    pub fn over(half: SendHalf<K, V, A>) -> Self
-        ensures ring { result.producer ≡ half }
-        ensures open { result.closed ≡ false }
-        // for every new ring that the half is of
-        ensures send { (size : ℕ) (other : TakeHalf K A K.Head V) → IsNewRing size half other →
-            IsWidth W → IsWidth V → Sends K.rules {w = W} result (empty size) }
-    {
-        SendEnd {
-            outbox: Outbox::new(),
-            producer: half,
-        }
-    }
-
     /// Whether a beat may be offered: nothing is staged.
     pub fn ready(&self) -> bool
         ensures { IsTrue result ↔ (self.now.stage ≡ []) }
@@ -233,17 +217,6 @@ impl<K: Channel, const W: usize, const V: usize, A: Allocator> Model for TakeEnd
 }
 
 impl<K: Channel, const W: usize, const V: usize, A: Allocator> TakeEnd<K, W, V, A> {
-    /// The taking end of a new crossing, over its half of a new ring ([`crate::new_ring`]).
-    pub fn over(half: TakeHalf<K, V, A>) -> Self
-        ensures ring { result.consumer ≡ half }
-        ensures inbox { result.inbox ≡ [] }
-    {
-        TakeEnd {
-            inbox: Inbox::new(),
-            intake: Intake::over(half),
-        }
-    }
-
     /// Moves beats from the ring to the inbox, in order, and answers their number. They are all
     /// that the inbox has room for, or as many as are there: no fewer than the end knows of. After
     /// a meeting it knows each beat that the ring holds.

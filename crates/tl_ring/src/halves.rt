@@ -24,10 +24,9 @@ pub type SendHalf<K, const V: usize, A> = Producer<Beat<K, V>, A, LawfulAt<K, V>
 /// A ring as its taking end has it.
 pub type TakeHalf<K, const V: usize, A> = Consumer<Beat<K, V>, A, LawfulAt<K, V>>;
 
-/// Both halves of a new ring of `size` beats, the only memory that is taken, over which
-/// [`crate::SendEnd::over`] and [`crate::TakeEnd::over`] make the two ends of a crossing. Refused
-/// with `RingSize` exactly where `size` is 0 or above 4,096, and else with `OutOfMemory` where the
-/// allocator has no memory for it.
+/// Both halves of a new ring of `size` beats, the only memory that is taken. Refused with `RingSize`
+/// exactly where `size` is 0 or above 4,096, and else with `OutOfMemory` where the allocator has no
+/// memory for it.
 pub fn new_ring<K: Channel, const V: usize, A: Allocator + Copy>(
     alloc: A,
     size: usize,
@@ -83,9 +82,9 @@ pub fn receive<K: Channel, const V: usize, A: Allocator>(
         Takes (taking_of inbox.old intake.old.half) taken →
         Takes (taking_of inbox.new intake.new.half) taken }
 {
-    let room = inbox.room();
+    let room = ROOM - inbox.len();
     let count = intake.half.pop_partial_slice(&mut intake.passing[..room]);
-    inbox.append(&intake.passing[..count]);
+    inbox.queue.append(&intake.passing[..count]);
     count
 }
 

@@ -1,5 +1,5 @@
 //! The taker's part of a crossing, behind any ring.
-ghost use Rattle.std.specs.Prelude.{◌≡◌, ◌≤◌, ◌-◌, ◌+◌, ◌++◌, [], List, drop, take, length, slice_get, IfSome};
+ghost use Rattle.std.specs.Prelude.{◌≡◌, ◌≤◌, ◌++◌, [], List, drop, take, length, slice_get, IfSome};
 ghost use Rattle.tl_msg.specs.Faults.{IsLawfulBeat};
 ghost use Rattle.tl_msg.specs.declared.beat.BeatOf.{BeatOf};
 ghost use Rattle.tl_ring.specs.Boxes.{AreLawful, HasTaken};
@@ -46,29 +46,12 @@ impl<K: Channel, const V: usize> Inbox<K, V> {
         self.queue.len()
     }
 
-    /// How many more beats there is room for.
-    pub fn room(&self) -> usize
-        ensures count { result ≡ inbox_room - length self.now }
-        ensures most { length self.now ≤ inbox_room }
-    {
-        self.queue.room()
-    }
-
     /// The beats, in order, for [`Inbox::take_all`].
     pub fn as_slice(&self) -> &[Beat<K, V>]
         ensures beats { result.now ≡ self.now }
         ensures lawful { AreLawful K.rules result.now }
     {
         self.queue.as_slice()
-    }
-
-    /// Puts in the beats that come next.
-    pub fn append(&mut self, more: &[Beat<K, V>])
-        requires room { length self.old + length more.now ≤ inbox_room }
-        requires lawful { AreLawful K.rules more.now }
-        ensures { self.new ≡ self.old ++ more.now }
-    {
-        self.queue.append(more);
     }
 
     /// Takes the first beat. None exactly where the inbox is empty. Each beat is lawful by itself: a new tracker of its width does

@@ -53,14 +53,7 @@ impl<K: Channel, const W: usize, const V: usize> Outbox<K, W, V> {
     pub fn ready(&self) -> bool
         ensures { IsTrue result ↔ IsOpen self.now }
     {
-        self.stage.is_empty() & !self.closed
-    }
-
-    /// Whether no more beats may be offered, ever.
-    pub fn is_closed(&self) -> bool
-        ensures { result ≡ self.now.closed }
-    {
-        self.closed
+        (self.stage.len() == 0) & !self.closed
     }
 
     /// How many far beats are staged.

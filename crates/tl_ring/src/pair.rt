@@ -10,7 +10,8 @@ ghost use Rattle.tl_ring.specs.declared.pipe.TheConstants.{MAX_RING};
 
 use crate::ends::{ClosingEnd, SendEnd, TakeEnd};
 use crate::fault::BuildFault;
-use crate::halves::{look, new_ring};
+use crate::halves::{Intake, look, new_ring};
+use crate::inbox::Inbox;
 use crate::outbox::Outbox;
 use crate::standing::Standing;
 use std::alloc::Allocator;
@@ -37,12 +38,14 @@ pub fn ring_pair<K: Channel, const W: usize, const V: usize, A: Allocator + Copy
 {
     match new_ring(alloc, ring) {
         Ok((send, take)) => Ok((
-            // (as `over` makes it, whose call takes the checker longer)
             SendEnd {
                 outbox: Outbox::new(),
                 producer: send,
             },
-            TakeEnd::over(take),
+            TakeEnd {
+                inbox: Inbox::new(),
+                intake: Intake::over(take),
+            },
         )),
         Err(fault) => Err(fault),
     }
@@ -68,9 +71,10 @@ pub fn meet<K: Channel, const W: usize, const V: usize, A: Allocator>(
         Sends K.rules send.old x → Takes take.old taken →
         Meets K.rules send.new take.new x taken }
 {
+    let in_ring = look(&mut send.producer, &mut take.intake.half);
     Standing {
-        staged: send.staged(),
-        in_ring: look(&mut send.producer, &mut take.intake.half),
+        staged: send.outbox.staged(),
+        in_ring,
         inbox: take.inbox.len(),
     }
 }
@@ -92,9 +96,10 @@ pub fn meet_closing<K: Channel, const W: usize, const V: usize, A: Allocator>(
         Sends K.rules send.old x → Takes take.old taken →
         Meets K.rules send.new take.new x taken }
 {
+    let in_ring = look(&mut send.producer, &mut take.intake.half);
     Standing {
-        staged: send.staged(),
-        in_ring: look(&mut send.producer, &mut take.intake.half),
+        staged: send.outbox.staged(),
+        in_ring,
         inbox: take.inbox.len(),
     }
 }

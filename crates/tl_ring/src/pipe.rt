@@ -1,5 +1,5 @@
 //! The crossing of one channel within one thread.
-ghost use Rattle.std.specs.Prelude.{◌≡◌, ◌≤◌, ◌<◌, ◌-◌, ◌++◌, ◌↔◌, ◌⊎◌, [], length, min, slice_get, true, Some, All, IsOk, IsTrue, IfOk, IfErr, IfSome, OnOk, OnErr};
+ghost use Rattle.std.specs.Prelude.{◌≡◌, ◌≤◌, ◌<◌, ◌-◌, ◌↔◌, ◌⊎◌, [], length, min, slice_get, true, Some, IsOk, IsTrue, IfOk, IfErr, IfSome, OnOk, OnErr};
 ghost use Rattle.tl_lanes.specs.Lanes.{IsWidth};
 ghost use Rattle.tl_msg.specs.Faults.{IsLawfulBeat};
 ghost use Rattle.tl_burst.specs.Handing.{IsAdmitted, rest_of, fault_after};
@@ -132,23 +132,6 @@ impl<K: Channel, const W: usize, const V: usize, A: Allocator> SyncPipe<K, W, V,
         self.inbox.take()
     }
 
-    /// The beats of the inbox, in order, for [`SyncPipe::take_all`].
-    pub fn inbox(&self) -> &[Beat<K, V>]
-        ensures beats { result.now ≡ self.now.inbox }
-        ensures lawful { All (λ beat. IsLawfulBeat K.rules beat) result.now }
-    {
-        self.inbox.as_slice()
-    }
-
-    /// Takes all beats of the inbox, which [`SyncPipe::inbox`] shows: as many calls of [`SyncPipe::take`].
-    pub fn take_all(&mut self)
-        ensures { (x : World K.Head W V) → StandsFor K.rules self.old x →
-            StandsFor K.rules self.new
-            (record x { inbox = []; taken = x.taken ++ x.inbox }) }
-    {
-        self.inbox.take_all();
-    }
-
     /// Ends the offers. Refused exactly where a burst is unfinished, and nothing changes then. What is staged stays so, and still
     /// crosses. A second close answers Ok and changes nothing.
     pub fn close(&mut self) -> Result<(), EndFault>
@@ -169,7 +152,8 @@ impl<K: Channel, const W: usize, const V: usize, A: Allocator> SyncPipe<K, W, V,
         ensures { IsTrue result ↔ IsDrained self.now }
     {
         let at = self.standing();
-        self.outbox.is_closed() & (at.staged + at.in_ring + at.inbox == 0)
+        // (where nothing is staged, a pipe that is not ready is closed)
+        !self.outbox.ready() & (at.staged + at.in_ring + at.inbox == 0)
     }
 
     /// How many far beats stand in the stage, in the ring and in the inbox.

@@ -1,5 +1,5 @@
 //! A line of at most [`ROOM`] items, first in and first out, that takes no memory of its own.
-ghost use Rattle.std.specs.Prelude.{◌≡◌, ◌+◌, ◌-◌, ◌≤◌, ◌++◌, ◌↔◌, [], IsTrue, length, drop, slice_get};
+ghost use Rattle.std.specs.Prelude.{◌≡◌, ◌+◌, ◌≤◌, ◌++◌, [], length, drop, slice_get};
 ghost use Rattle.tl_ring.specs.declared.queue.TheConstants.{ROOM};
 
 use arrayvec::ArrayVec;
@@ -47,20 +47,6 @@ impl<T> Queue<T> {
         ensures within { result ≤ ROOM }
     {
         self.items.len() - self.first
-    }
-
-    pub(crate) fn is_empty(&self) -> bool
-        ensures { IsTrue result ↔ (self.now ≡ []) }
-    {
-        self.len() == 0
-    }
-
-    // How many more items there is room for.
-    pub(crate) fn room(&self) -> usize
-        ensures value { result ≡ ROOM - length self.now }
-        ensures within { length self.now ≤ ROOM }
-    {
-        ROOM - self.len()
     }
 
     pub(crate) fn as_slice(&self) -> &[T]

@@ -10,7 +10,7 @@ use crate::fault::BuildFault;
 use crate::inbox::Inbox;
 use crate::outbox::Outbox;
 use crate::pipe::MAX_RING;
-use crate::queue::Queue;
+use crate::queue::{Queue, ROOM};
 use circular_buffer::HeapCircularBuffer;
 use std::alloc::{Allocator, Global};
 use std::marker::Model;
@@ -121,7 +121,7 @@ fn read_queue<T: Copy + Default, A: Allocator>(
     ensures queue { queue.new ≡ queue.old ++ take result ring.old.items }
     ensures most { result ≤ ROOM }
 {
-    let count = ring.len().min(queue.room());
+    let count = ring.len().min(ROOM - queue.len());
     if count == 0 {
         return 0;
     }

@@ -14,15 +14,6 @@ use tl_burst::Place;
 use tl_convert::Converter;
 use tl_msg::{Beat, Channel, ranges_of_beat};
 
-// A beat and its home are such as memory can hold.
-fn is_beat<K: Channel, const W: usize>(beat: &Beat<K, W>, home: u64)
-    ensures beat { IsBeat K.rules beat.now }
-    ensures home { K.rules.lane_address beat.now.head home < 2 ^ 64 }
-{
-    let _home = K::lane_address(&beat.head, home);
-    ranges_of_beat::<K, W>(beat);
-}
-
 // Feeds a near beat at its place to the converter, and puts the far beats that it completes into the stage, which is empty.
 pub(crate) fn stage_beat<K: Channel, const W: usize, const V: usize>(
     converter: &mut Converter<K, W, V>,
@@ -46,7 +37,9 @@ pub(crate) fn stage_beat<K: Channel, const W: usize, const V: usize>(
         due K.rules W V bs homes ++ stage.new }
     ensures lawful { AreLawful K.rules stage.new }
 {
-    is_beat::<K, W>(beat, home);
+    // (these two show that a beat and its home are such as memory can hold)
+    let _home = K::lane_address(&beat.head, home);
+    ranges_of_beat::<K, W>(beat);
     remove_all(&mut stage.items);
     stage.first = 0;
     converter.feed_at(beat, place, home, &mut stage.items);

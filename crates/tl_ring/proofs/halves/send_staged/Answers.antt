@@ -17,24 +17,6 @@ pub invariant_of-outbox : goal.invariant_of-outbox
 invariant_of-outbox g c =
     rw c.push_queue.ensures.queue (All-drop (λ b. IsLawfulBeat g.K.Channel.rules b) c.push_queue.result _ c.outbox.invariant)
 
-pub returns-clause-pushed : goal.returns-clause-pushed
-returns-clause-pushed g c =
-    let p = c.push_queue.ensures in
-    rw (← c.outbox.view_is) (record {
-      ring = p.ring;
-      same_converter = refl {a = c.outbox.inside.converter};
-      same_closed = refl {a = c.outbox.inside.closed};
-      stage = p.queue;
-      more_sent = p.sent;
-      known = p.known;
-    })
-
-pub returns-clause-stands : goal.returns-clause-stands
-returns-clause-stands g c = λ x h.
-    let p = c.push_queue.ensures in
-    let stands = rw (← c.outbox.view_is) at h in
-    sends_passed g.K.Channel.rules g.met.K.Channel.partial_masked _ _ _ x refl p.queue p.sent p.ring.1 refl stands
-
 pub push_queue-requires-room-T-Clone : goal.push_queue-requires-room-T-Clone
 push_queue-requires-room-T-Clone g c κs within =
     let outbox = layout (the_row (param 0 g.row.K) (param 1 (number g.row.W)) (param 2 (number g.row.V)) (copied 4 g.row.K-Head)
@@ -48,8 +30,19 @@ push_queue-requires-room-P-Protocol g c κs within = lit< tt
 pub push_queue-requires-room-P-Protocol-2 : goal.push_queue-requires-room-P-Protocol-2
 push_queue-requires-room-P-Protocol-2 g c κs within = push_queue-requires-room-T-Clone g c κs within
 
-pub returns-clause-least : goal.returns-clause-least
-returns-clause-least g c = rw (← c.outbox.view_is) c.push_queue.ensures.least
-
-pub returns-clause-most : goal.returns-clause-most
-returns-clause-most g c = rw (← c.outbox.view_is) c.push_queue.ensures.most
+pub returns : goal.returns
+returns g c =
+    let p = c.push_queue.ensures in
+    rw (← c.outbox.view_is) (record {
+      least = p.least;
+      most = p.most;
+      pushed = record {
+        ring = p.ring;
+        same_converter = refl {a = c.outbox.inside.converter};
+        same_closed = refl {a = c.outbox.inside.closed};
+        stage = p.queue;
+        more_sent = p.sent;
+        known = p.known;
+      };
+      stands = λ x h. sends_passed g.K.Channel.rules g.met.K.Channel.partial_masked c.push_queue.result _ _ x refl p.queue p.sent p.ring.1 refl h;
+    })

@@ -29,14 +29,11 @@ invariant_of-inbox g c =
     let moved = All-take (λ b. IsLawfulBeat g.K.Channel.rules b) c.read_queue.result c.ring.inside.buffer.items c.ring.invariant.2 in
     rw c.read_queue.ensures.queue (All-append (λ b. IsLawfulBeat g.K.Channel.rules b) c.inbox.inside.queue _ c.inbox.invariant moved)
 
-pub returns-clause-count : goal.returns-clause-count
-returns-clause-count g c = rw (← c.ring.view_is, ← c.inbox.view_is) c.read_queue.ensures.count
-
-pub returns-clause-ring : goal.returns-clause-ring
-returns-clause-ring g c = rw (← c.ring.view_is) c.read_queue.ensures.ring
-
-pub returns-clause-inbox : goal.returns-clause-inbox
-returns-clause-inbox g c = rw (← c.inbox.view_is, ← c.ring.view_is) c.read_queue.ensures.queue
-
-pub returns-clause-most : goal.returns-clause-most
-returns-clause-most g c = c.read_queue.ensures.most
+pub returns : goal.returns
+returns g c =
+    rw (← c.ring.view_is, ← c.inbox.view_is) (record {
+      count = c.read_queue.ensures.count;
+      ring = c.read_queue.ensures.ring;
+      inbox = c.read_queue.ensures.queue;
+      most = c.read_queue.ensures.most;
+    })

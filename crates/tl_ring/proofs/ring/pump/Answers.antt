@@ -28,14 +28,11 @@ write_queue-requires-room-T-Clone g c κs within =
     let queue = part_small outbox 1 9223372036854775808 c.requires-raw.1.1.1.1.1.0 in
     beat_in_queue (lone g.row.K-Head.mir) (layout g.row.K-Head) g.row.V 9223372036854775808 queue
 
-pub returns-clause-count : goal.returns-clause-count
-returns-clause-count g c = rw (← c.outbox.view_is, ← c.ring.view_is) c.write_queue.ensures.count
-
-pub returns-clause-outbox : goal.returns-clause-outbox
-returns-clause-outbox g c = rw (c.write_queue.ensures.queue, ← c.outbox.view_is) refl
-
-pub returns-clause-ring : goal.returns-clause-ring
-returns-clause-ring g c = rw (← c.ring.view_is, ← c.outbox.view_is) c.write_queue.ensures.ring
-
-pub returns-clause-most : goal.returns-clause-most
-returns-clause-most g c = c.write_queue.ensures.most
+pub returns : goal.returns
+returns g c =
+    rw (← c.outbox.view_is, ← c.ring.view_is) (record {
+      count = c.write_queue.ensures.count;
+      outbox = rw c.write_queue.ensures.queue refl;
+      ring = c.write_queue.ensures.ring;
+      most = c.write_queue.ensures.most;
+    })

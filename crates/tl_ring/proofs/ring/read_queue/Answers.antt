@@ -4,20 +4,20 @@ use Rattle.tl_ring.proofs.Moves.{take_of_two, take_of_first}
 use Rattle.tl_ring.proofs.ring.read_queue.Goals.{then-from_front-count, else-from_front-count}
 use Rattle.tl_ring.proofs.ring.read_queue.Goals as goal
 
-pub room-requires : goal.room-requires
-room-requires g c = c.requires-raw.1.1
+pub len-requires-2 : goal.len-requires-2
+len-requires-2 g c = c.requires-raw.1.1
 
 pub append-requires : goal.append-requires
 append-requires g c = (
   c.requires-raw.1.1,
-  simp length-take (omega (arith, c.min-count.ensures, c.min-from_front.ensures, c.room.ensures.value, c.room.ensures.within)),
+  simp length-take (omega (arith, c.min-count.ensures, c.min-from_front.ensures, c.len-2.ensures.value, c.len-2.ensures.within)),
 )
 
 pub append-requires-then-from_front-count : goal.append-requires-then-from_front-count
 append-requires-then-from_front-count g c = (
   c.requires-raw.1.1,
   simp (c.append.ensures, length-append, length-take)
-      (omega (arith, c.min-count.ensures, c.min-from_front.ensures, c.room.ensures.value, c.room.ensures.within)),
+      (omega (arith, c.min-count.ensures, c.min-from_front.ensures, c.len-2.ensures.value, c.len-2.ensures.within)),
 )
 
 pub slice_bounds-append-end : goal.slice_bounds-append-end
@@ -32,21 +32,24 @@ slice_bounds-append-length g c =
     simp length-take (omega (arith, both, c.min-count.ensures, c.len.ensures.len, c.min-from_front.ensures))
 
 pub overflow_sub-len : goal.overflow_sub-len
-overflow_sub-len g c = omega (arith, c.min-count.ensures, c.len.ensures.len, c.len-2.ensures.len)
+overflow_sub-len g c = c.len-2.ensures.within
+
+pub overflow_sub-len-2 : goal.overflow_sub-len-2
+overflow_sub-len-2 g c = omega (arith, c.min-count.ensures, c.len.ensures.len, c.len-3.ensures.len)
 
 pub returns-then-count-eq0-clause-count : goal.returns-then-count-eq0-clause-count
-returns-then-count-eq0-clause-count g c = rw (← c.if-count-eq0.true, c.min-count.ensures, c.len.ensures.len, c.room.ensures.value) refl
+returns-then-count-eq0-clause-count g c = rw (← c.if-count-eq0.true, c.min-count.ensures, c.len.ensures.len, c.len-2.ensures.value) refl
 
 pub returns-then-count-eq0-clause-queue : goal.returns-then-count-eq0-clause-queue
 returns-then-count-eq0-clause-queue g c = sym (append-nil c.args.queue.now)
 
 pub returns-clause-count : goal.returns-clause-count
-returns-clause-count g c = rw (c.min-count.ensures, c.len.ensures.len, c.room.ensures.value) refl
+returns-clause-count g c = rw (c.min-count.ensures, c.len.ensures.len, c.len-2.ensures.value) refl
 
 pub returns-clause-ring : goal.returns-clause-ring
 returns-clause-ring g c =
-    let left : length c.args.ring.now.items - (c.len-2.result - c.min-count.result) ≡ c.min-count.result =
-    omega (arith, c.len.ensures.len, c.len-2.ensures.len, c.min-count.ensures) in
+    let left : length c.args.ring.now.items - (c.len-3.result - c.min-count.result) ≡ c.min-count.result =
+    omega (arith, c.len.ensures.len, c.len-3.ensures.len, c.min-count.ensures) in
     c.truncate_front.ensures ∙ ap (λ k. buffer (drop k c.args.ring.now.items) c.args.ring.now.capacity) left
 
 -- what is read of both parts of the ring is its first items
@@ -67,4 +70,4 @@ returns-clause-queue g c = elim c.if-from_front-count.branch [
 ]
 
 pub returns-clause-most : goal.returns-clause-most
-returns-clause-most g c = omega (arith, c.min-count.ensures, c.room.ensures.value)
+returns-clause-most g c = omega (arith, c.min-count.ensures, c.len-2.ensures.value)

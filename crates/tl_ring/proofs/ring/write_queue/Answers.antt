@@ -8,14 +8,11 @@ pub drop_front-requires : goal.drop_front-requires
 drop_front-requires g c =
     (c.requires-raw.1.1, omega (arith, c.write_back-count.ensures.count, ap length c.as_slice.ensures.value))
 
-pub returns-clause-count : goal.returns-clause-count
-returns-clause-count g c = rw c.as_slice.ensures.value at c.write_back-count.ensures.count
-
-pub returns-clause-ring : goal.returns-clause-ring
-returns-clause-ring g c = rw c.as_slice.ensures.value at c.write_back-count.ensures.ring
-
-pub returns-clause-queue : goal.returns-clause-queue
-returns-clause-queue g c = c.drop_front.ensures
-
-pub returns-clause-most : goal.returns-clause-most
-returns-clause-most g c = omega (arith, c.write_back-count.ensures.count, c.as_slice.ensures.within)
+pub returns : goal.returns
+returns g c =
+    record {
+      count = rw c.as_slice.ensures.value at c.write_back-count.ensures.count;
+      ring = rw c.as_slice.ensures.value at c.write_back-count.ensures.ring;
+      queue = c.drop_front.ensures;
+      most = omega (arith, c.write_back-count.ensures.count, c.as_slice.ensures.within);
+    }

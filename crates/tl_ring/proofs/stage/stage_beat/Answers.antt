@@ -5,8 +5,8 @@ use Rattle.tl_ring.specs.contracts.queue.Queue.{the_row}
 use Rattle.tl_ring.proofs.FieldSizes.{part_small}
 use Rattle.tl_ring.proofs.stage.stage_beat.Goals as goal
 
-pub is_beat-requires : goal.is_beat-requires
-is_beat-requires g c = c.requires-raw.1.1.1.1.1.0
+pub ranges_of_beat-requires : goal.ranges_of_beat-requires
+ranges_of_beat-requires g c = c.requires-raw.1.1.1.1.1.0
 
 pub remove_all-requires-room-T-Clone : goal.remove_all-requires-room-T-Clone
 remove_all-requires-room-T-Clone g c κs within = c.requires-raw.1.1.1.1.1.1.1.0
@@ -22,10 +22,7 @@ pub invariant_of-stage : goal.invariant_of-stage
 invariant_of-stage g c = omega arith
 
 pub returns-clause-beat : goal.returns-clause-beat
-returns-clause-beat g c = c.is_beat.ensures.beat
-
-pub returns-clause-home : goal.returns-clause-home
-returns-clause-home g c = c.is_beat.ensures.home
+returns-clause-beat g c = c.ranges_of_beat.ensures
 
 pub returns-clause-stands : goal.returns-clause-stands
 returns-clause-stands g c = c.feed_at.ensures.stands

@@ -6,31 +6,6 @@ use Rattle.tl_ring.proofs.FieldSizes.{inner_small, beat_in_queue}
 use Rattle.tl_ring.proofs.EndSteps.{shows_of}
 use Rattle.tl_ring.proofs.ends.ClosingEnd.finish.Goals as goal
 
-pub returns-in-Some-clause-receipt : goal.returns-in-Some-clause-receipt
-returns-in-Some-clause-receipt g c = rw (← c.self.view_is) c.in-Some.ensures
-
--- whoever is a pair with this end reads what the receipt shows
-pub returns-in-Some-clause-taker : goal.returns-in-Some-clause-taker
-returns-in-Some-clause-taker g c =
-    let same = c.in-Some.ensures.0 in
-    rw (← c.self.view_is) (λ t pair. (pair.0 ∙ sym same.0, pair.1 ∙ sym same.1, pair.2 ∙ sym same.2, pair.3 ∙ sym same.3))
-
-pub returns-in-Some-clause-shows : goal.returns-in-Some-clause-shows
-returns-in-Some-clause-shows g c = λ x h.
-    let stands = rw (← c.self.view_is) at h in
-    let none_staged = rw (← c.self.view_is) at c.requires in
-    shows_of g.K.Channel.rules _ _ x c.in-Some.ensures none_staged c.self.invariant stands
-
--- without a receipt nothing is promised
-pub returns-clause-receipt : goal.returns-clause-receipt
-returns-clause-receipt g c = tt
-
-pub returns-clause-taker : goal.returns-clause-taker
-returns-clause-taker g c = tt
-
-pub returns-clause-shows : goal.returns-clause-shows
-returns-clause-shows g c = λ x h. tt
-
 pub finish-requires : goal.finish-requires
 finish-requires g c =
     let row = layout (the_row (param 0 g.row.K) (param 1 (number g.row.W)) (param 2 (number g.row.V)) (param 3 g.row.A) (copied 4 g.row.K-Head)
@@ -38,3 +13,17 @@ finish-requires g c =
     let beat = beat_in_queue (lone g.row.K-Head.mir) (layout g.row.K-Head) g.row.V 9223372036854775808
     (inner_small row 0 1 9223372036854775808 c.requires-raw.1.1.1.1.1.0) in
     λ κs within. ((lit< tt, (beat, tt)), (search rules, (search rules, search rules)))
+
+pub returns-in-Some : goal.returns-in-Some
+returns-in-Some g c =
+    let none_staged = rw (← c.self.view_is) at c.requires in
+    let same = c.in-Some.ensures.0 in
+    rw (← c.self.view_is) (record {
+      receipt = c.in-Some.ensures;
+      -- (whoever is a pair with this end reads what the receipt shows)
+      taker = λ t pair. (pair.0 ∙ sym same.0, pair.1 ∙ sym same.1, pair.2 ∙ sym same.2, pair.3 ∙ sym same.3);
+      shows = λ x h. shows_of g.K.Channel.rules _ _ x c.in-Some.ensures none_staged c.self.invariant h;
+    })
+
+pub returns : goal.returns
+returns g c = record { receipt = tt; taker = tt; shows = λ x h. tt }

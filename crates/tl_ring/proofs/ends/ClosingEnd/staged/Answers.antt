@@ -3,10 +3,11 @@ use Rattle.tl_ring.specs.contracts.ends.ClosingEnd.{the_row}
 use Rattle.tl_ring.proofs.FieldSizes.{part_small}
 use Rattle.tl_ring.proofs.ends.ClosingEnd.staged.Goals as goal
 
-pub returns-clause-count : goal.returns-clause-count
-returns-clause-count g c = rw (← c.self.view_is) c.staged.ensures.count
-
 pub staged-requires : goal.staged-requires
 staged-requires g c = part_small (layout (the_row (param 0 g.row.K) (param 1 (number g.row.W)) (param 2 (number g.row.V)) (param 3 g.row.A)
     (copied 4 g.row.K-Head) g.K.Channel g.K.Head.Clone g.K.Head.Eq g.K.Head.PartialEq g.K.Head.Default g.A.Allocator)) 0 9223372036854775808
     c.requires-raw.1.1.1.1.1
+
+pub returns : goal.returns
+returns g c =
+    rw (← c.self.view_is) c.staged.ensures

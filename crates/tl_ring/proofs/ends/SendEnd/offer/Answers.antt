@@ -1,30 +1,10 @@
-use Rattle.tl_ring.proofs.Names.{refl, ap}
+use Rattle.tl_ring.proofs.Names.{refl}
 use Rattle.tl_ring.proofs.Answered.{on_ok, on_err}
 use denote.Param.{layout, param, number, copied}
 use Rattle.tl_ring.specs.contracts.ends.SendEnd.{the_row}
 use Rattle.tl_ring.proofs.FieldSizes.{part_small}
 use Rattle.tl_ring.proofs.EndSteps.{sends_offered}
 use Rattle.tl_ring.proofs.ends.SendEnd.offer.Goals as goal
-
-pub returns-clause-admitted : goal.returns-clause-admitted
-returns-clause-admitted g c = λ x h. let stands = rw (← c.self.view_is) at h in c.offer.ensures.admitted x.accepted x.homes _ stands.pipe.outbox
-
-pub returns-clause-accepted : goal.returns-clause-accepted
-returns-clause-accepted g c = λ x h.
-    let stands = rw (← c.self.view_is) at h in
-    let ready = rw (← c.self.view_is) at c.requires.ready in
-    on_ok c.offer.result (λ answered sent. sends_offered g.K.Channel.rules g.met.K.Channel.partial_masked _ x c.args.beat c.args.home c.offer.new.self
-    ready c.self.invariant c.offer.ensures.still sent stands) (c.offer.ensures.accepted x.accepted x.homes _ stands.pipe.outbox)
-
-pub returns-clause-first_fault : goal.returns-clause-first_fault
-returns-clause-first_fault g c = λ x h.
-    let stands = rw (← c.self.view_is) at h in c.offer.ensures.first_fault x.accepted x.homes _ stands.pipe.outbox
-
-pub returns-clause-ring : goal.returns-clause-ring
-returns-clause-ring g c = ap (λ (s : _). s.producer) c.self.view_is
-
-pub returns-clause-refused : goal.returns-clause-refused
-returns-clause-refused g c = rw (← c.self.view_is) (on_err c.offer.result (λ same. rw same refl) c.offer.ensures.refused)
 
 pub invariant_of-self : goal.invariant_of-self
 invariant_of-self g c = c.offer.ensures.still
@@ -36,3 +16,16 @@ offer-requires g c =
     g.K.Channel g.K.Head.Clone g.K.Head.Eq g.K.Head.PartialEq g.K.Head.Default g.A.Allocator) in
     let size = part_small row 0 9223372036854775808 c.requires-raw.1.1.1.1.1.0 in
     (size, (c.requires-raw.1.1.1.1.1.1.0, (c.requires.near, c.requires.far, (ready, c.self.invariant))))
+
+pub returns : goal.returns
+returns g c =
+    let ready = rw (← c.self.view_is) at c.requires.ready in
+    rw (← c.self.view_is) (record {
+      admitted = λ x h. c.offer.ensures.admitted x.accepted x.homes _ h.pipe.outbox;
+      accepted = λ x h. on_ok c.offer.result (λ answered sent. sends_offered g.K.Channel.rules g.met.K.Channel.partial_masked _ x c.args.beat
+          c.args.home c.offer.new.self ready c.self.invariant c.offer.ensures.still sent h)
+          (c.offer.ensures.accepted x.accepted x.homes _ h.pipe.outbox);
+      first_fault = λ x h. c.offer.ensures.first_fault x.accepted x.homes _ h.pipe.outbox;
+      ring = refl;
+      refused = on_err c.offer.result (λ same. rw same refl) c.offer.ensures.refused;
+    })

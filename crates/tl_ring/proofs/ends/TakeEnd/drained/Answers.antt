@@ -1,4 +1,5 @@
 use Rattle.tl_ring.proofs.Names.{◌≤◌, length, refl, arith, lit<, ROOM}
+use Rattle.tl_ring.specs.Ends.{Ended, LookedAfter, taking_of}
 use Rattle.tl_ring.proofs.EndSteps.{shown_of}
 use denote.Param.{layout, param, number, copied}
 use Rattle.tl_ring.specs.contracts.ends.TakeEnd.{the_row}
@@ -13,39 +14,35 @@ slots_after-in_ring-requires-room-P-Protocol g c = λ κs within. lit< tt
 pub slots_after-in_ring-requires-room-P-Protocol-2 : goal.slots_after-in_ring-requires-room-P-Protocol-2
 slots_after-in_ring-requires-room-P-Protocol-2 g c =
     λ κs within. beat_in_queue (lone g.row.K-Head.mir) (layout g.row.K-Head) g.row.V 9223372036854775808
-    (search (inner_small (layout (the_row (param 0 g.row.K) (param 1 (number g.row.W)) (param 2 (number g.row.V)) (param 3 g.row.A)
-    (copied 4 g.row.K-Head) g.K.Channel g.K.Head.Clone g.K.Head.Eq g.K.Head.PartialEq g.K.Head.Default g.A.Allocator)) 0 0 9223372036854775808))
+    (inner_small (layout (the_row (param 0 g.row.K) (param 1 (number g.row.W)) (param 2 (number g.row.V)) (param 3 g.row.A)
+    (copied 4 g.row.K-Head) g.K.Channel g.K.Head.Clone g.K.Head.Eq g.K.Head.PartialEq g.K.Head.Default g.A.Allocator)) 0 0 9223372036854775808 c.requires-raw.1.1.1.1.1.0)
 
 pub slots_after-in_ring-requires : goal.slots_after-in_ring-requires
 slots_after-in_ring-requires g c = rw (← c.receipt.view_is, ← c.self.view_is) at c.requires
 
 pub len-waiting-requires : goal.len-waiting-requires
-len-waiting-requires g c = search (part_small
-    (layout (the_row (param 0 g.row.K) (param 1 (number g.row.W)) (param 2 (number g.row.V)) (param 3 g.row.A) (copied 4 g.row.K-Head) g.K.Channel
-    g.K.Head.Clone g.K.Head.Eq g.K.Head.PartialEq g.K.Head.Default g.A.Allocator)) 0 9223372036854775808)
+len-waiting-requires g c =
+    part_small (layout (the_row (param 0 g.row.K) (param 1 (number g.row.W)) (param 2 (number g.row.V)) (param 3 g.row.A)
+    (copied 4 g.row.K-Head) g.K.Channel g.K.Head.Clone g.K.Head.Eq g.K.Head.PartialEq g.K.Head.Default g.A.Allocator)) 0 9223372036854775808 c.requires-raw.1.1.1.1.1.0
 
-pub returns-clause-looked : goal.returns-clause-looked
-returns-clause-looked g c =
+pub returns : goal.returns
+returns g c =
     let after = c.slots_after-in_ring.ensures in
-    rw (← c.receipt.view_is, ← c.self.view_is) record {
+    let of = rw (← c.receipt.view_is, ← c.self.view_is) at c.requires in
+    let e : Ended _ _ _ _ = record { finished = c.receipt.inside.finished } in
+    let t = taking_of c.self.inside.inbox c.self.inside.intake.half in
+    let looked : LookedAfter e t (record { finished = c.slots_after-in_ring.new.finished }) (taking_of c.self.inside.inbox c.slots_after-in_ring.new.self) =
+    record {
       receipt = after.finished.0;
       take = after.looked.0;
       same_sent = after.finished.1;
       same_inbox = refl;
       same_received = after.looked.1;
       ring = after.fifo;
-    }
-
-pub returns-clause-drained : goal.returns-clause-drained
-returns-clause-drained g c =
-    none_in_two c.self.inside.inbox _ c.len-waiting.result c.slots_after-in_ring.result c.len-waiting.ensures.count
-    c.slots_after-in_ring.ensures.value
-
-pub returns-clause-shown : goal.returns-clause-shown
-returns-clause-shown g c = λ x taken shows takes.
-    let shown = rw (← c.receipt.view_is) at shows in
-    let stands = rw (← c.self.view_is) at takes in
-    let of = rw (← c.receipt.view_is, ← c.self.view_is) at c.requires in
-    let looked = rw (← c.receipt.view_is, ← c.self.view_is) at (returns-clause-looked g c) in
+    } in
     let held : length c.self.inside.inbox ≤ ROOM = omega (arith, c.len-waiting.ensures.count, c.len-waiting.ensures.most) in
-    shown_of g.K.Channel.rules _ _ _ _ x taken of looked held shown stands
+    rw (← c.receipt.view_is, ← c.self.view_is) (record {
+      looked = looked;
+      drained = none_in_two c.self.inside.inbox _ c.len-waiting.result c.slots_after-in_ring.result c.len-waiting.ensures.count after.value;
+      shown = λ x taken shows takes. shown_of g.K.Channel.rules e _ t _ x taken of looked held shows takes;
+    })

@@ -4,17 +4,6 @@ use Rattle.tl_ring.specs.contracts.ends.TakeEnd.{the_row}
 use Rattle.tl_ring.proofs.FieldSizes.{part_small}
 use Rattle.tl_ring.proofs.ends.TakeEnd.take.Goals as goal
 
-pub returns-clause-beat : goal.returns-clause-beat
-returns-clause-beat g c = rw (← c.self.view_is) c.take.ensures.beat
-
-pub returns-clause-rest : goal.returns-clause-rest
-returns-clause-rest g c = rw (c.take.ensures.rest, ← c.self.view_is) refl
-
-pub returns-clause-takes : goal.returns-clause-takes
-returns-clause-takes g c = λ taken takes.
-    let stands = rw (← c.self.view_is) at takes in
-    rw (← c.self.view_is) (c.take.ensures.taken _ taken stands)
-
 pub take-requires : goal.take-requires
 take-requires g c = (
   part_small (layout (the_row (param 0 g.row.K) (param 1 (number g.row.W)) (param 2 (number g.row.V)) (param 3 g.row.A)
@@ -22,3 +11,12 @@ take-requires g c = (
       c.requires-raw.1.1.1.1.1.0,
   c.requires-raw.1.1.1.1.1.1,
 )
+
+pub returns : goal.returns
+returns g c =
+    rw (← c.self.view_is) (record {
+      beat = c.take.ensures.beat;
+      lawful = c.take.ensures.lawful;
+      rest = rw c.take.ensures.rest refl;
+      takes = λ taken takes. c.take.ensures.taken _ taken takes;
+    })

@@ -8,8 +8,6 @@ as_slice-requires g c =
     part_small (layout (the_row (param 0 g.row.K) (param 1 (number g.row.V)) (copied 2 g.row.K-Head) g.K.Channel g.K.Head.PartialEq
     g.K.Head.Default)) 0 9223372036854775808 c.requires-raw.1.1.1.0
 
-pub returns-clause-beats : goal.returns-clause-beats
-returns-clause-beats g c = rw (← c.self.view_is) c.as_slice.ensures.value
-
-pub returns-clause-lawful : goal.returns-clause-lawful
-returns-clause-lawful g c = rw c.as_slice.ensures.value c.self.invariant
+pub returns : goal.returns
+returns g c =
+    rw (← c.self.view_is) (record { beats = c.as_slice.ensures.value; lawful = rw c.as_slice.ensures.value c.self.invariant })

@@ -19,18 +19,14 @@ pop_front-requires-room-T-Clone g c κs within =
 pub invariant_of-self : goal.invariant_of-self
 invariant_of-self g c = rw c.pop_front.ensures.rest (All-drop (λ b. IsLawfulBeat g.K.Channel.rules b) 1 _ c.self.invariant)
 
-pub returns-clause-beat : goal.returns-clause-beat
-returns-clause-beat g c = rw (← c.self.view_is) c.pop_front.ensures.value
-
-pub returns-clause-rest : goal.returns-clause-rest
-returns-clause-rest g c = rw (c.pop_front.ensures.rest, ← c.self.view_is) refl
-
-pub returns-clause-taken : goal.returns-clause-taken
-returns-clause-taken g c = λ received taken h.
-    let stands = rw (← c.self.view_is) at h in
-    let moved = append_assoc taken (take 1 c.self.inside.queue) (drop 1 c.self.inside.queue) in
-    rw (← c.self.view_is, c.pop_front.ensures.rest, moved, take-append-drop) stands
-
-pub returns-clause-lawful : goal.returns-clause-lawful
-returns-clause-lawful g c =
-    rw c.pop_front.ensures.value (first_holds (λ b. IsLawfulBeat g.K.Channel.rules b) c.self.inside.queue c.self.invariant)
+pub returns : goal.returns
+returns g c =
+    let p = c.pop_front.ensures in
+    rw (← c.self.view_is) (record {
+      beat = p.value;
+      lawful = rw p.value (first_holds (λ b. IsLawfulBeat g.K.Channel.rules b) c.self.inside.queue c.self.invariant);
+      rest = rw p.rest refl;
+      taken = λ received taken h.
+          let moved = append_assoc taken (take 1 c.self.inside.queue) (drop 1 c.self.inside.queue) in
+          rw (p.rest, moved, take-append-drop) h;
+    })

@@ -1,22 +1,9 @@
-use Rattle.tl_ring.specs.contracts.outbox.Outbox.{the_row}
-use denote.Param.{layout, param, number, copied}
-use Rattle.tl_ring.proofs.FieldSizes.{part_small}
 use Rattle.tl_ring.proofs.outbox.Outbox.check.Goals as goal
 
-pub returns-clause-admitted : goal.returns-clause-admitted
-returns-clause-admitted g c = λ bs homes sent h. let stands = rw (← c.self.view_is) at h in c.check.ensures.admitted bs homes stands.converter
-
-pub returns-clause-first_fault : goal.returns-clause-first_fault
-returns-clause-first_fault g c = λ bs homes sent h. let stands = rw (← c.self.view_is) at h in c.check.ensures.fault bs homes stands.converter
-
-pub returns-clause-index : goal.returns-clause-index
-returns-clause-index g c = λ bs homes sent h. let stands = rw (← c.self.view_is) at h in c.check.ensures.index bs homes stands.converter
-
-pub returns-clause-place : goal.returns-clause-place
-returns-clause-place g c = rw (← c.self.view_is) c.check.ensures.place
-
-pub check-requires : goal.check-requires
-check-requires g c =
-    let row = layout (the_row (param 0 g.row.K) (param 1 (number g.row.W)) (param 2 (number g.row.V)) (copied 3 g.row.K-Head)
-    g.K.Channel g.K.Head.PartialEq g.K.Head.Default) in
-    (part_small row 0 9223372036854775808 c.requires-raw.1.1.1.1.0, (c.requires-raw.1.1.1.1.1.0, c.requires))
+pub returns : goal.returns
+returns g c = rw (← c.self.view_is) (record {
+  admitted = λ bs homes sent h. c.check.ensures.admitted bs homes h.converter;
+  first_fault = λ bs homes sent h. c.check.ensures.fault bs homes h.converter;
+  index = λ bs homes sent h. c.check.ensures.index bs homes h.converter;
+  place = c.check.ensures.place;
+})

@@ -21,7 +21,7 @@ pub returns-clause-accepted : goal.returns-clause-accepted
 returns-clause-accepted g c = λ bs homes sent h.
     let stands = rw (← c.self.view_is) at h in
     let ready = rw (← c.self.view_is) at c.requires.2 in
-    let converts = c.stage_beat.ensures.stands bs homes stands.converter in
-    has_offered g.K.Channel.rules _ bs homes sent c.args.beat.now c.args.home c.stage_beat.new.converter c.stage_beat.new.stage
-    c.stage_beat.ensures.beat c.stage_beat.ensures.home (is-handed converts.handed) ready.0 ready.1 converts
-    (c.stage_beat.ensures.due bs homes stands.converter) stands
+    let staged = c.stage_beat.ensures in
+    let converts = staged.stands bs homes stands.converter in
+    has_offered g.K.Channel.rules _ bs homes sent c.args.beat.now c.args.home c.stage_beat.new.converter c.stage_beat.new.stage staged.beat
+    staged.home (is-handed converts.handed) ready.0 ready.1 converts (staged.due bs homes stands.converter) stands

@@ -1,18 +1,18 @@
-use Rattle.tl_ring.proofs.Names.{refl, not, and_parts, not-true}
+use Rattle.tl_ring.proofs.Names.{◌==◌, refl, not, and_parts, not-true}
 use denote.Param.{layout, param, number, copied}
 use Rattle.tl_ring.specs.contracts.outbox.Outbox.{the_row}
 use Rattle.tl_ring.proofs.FieldSizes.{part_small}
+use Rattle.tl_ring.proofs.Moves.{none_in_one}
 use Rattle.tl_ring.proofs.outbox.Outbox.ready.Goals as goal
 
-pub is_empty-requires : goal.is_empty-requires
-is_empty-requires g c = part_small (layout (the_row (param 0 g.row.K) (param 1 (number g.row.W)) (param 2 (number g.row.V)) (copied 3 g.row.K-Head)
+pub len-requires : goal.len-requires
+len-requires g c = part_small (layout (the_row (param 0 g.row.K) (param 1 (number g.row.W)) (param 2 (number g.row.V)) (copied 3 g.row.K-Head)
     g.K.Channel g.K.Head.PartialEq g.K.Head.Default)) 1 9223372036854775808 c.requires-raw.1.1.1.1
 
 pub returns : goal.returns
-returns g c = rw (← c.self.view_is) (
-  λ answered. (
-      let each = and_parts c.is_empty.result (not c.self.inside.closed) answered in
-      (c.is_empty.ensures.0 each.0, not-true c.self.inside.closed each.1)
-      ),
-  λ (empty, still). rw (c.is_empty.ensures.1 empty, still) refl,
-)
+returns g c =
+    let none = none_in_one c.self.inside.stage c.len.result c.len.ensures.value in
+    rw (← c.self.view_is) (
+      λ answered. (let each = and_parts (c.len.result == 0) (not c.self.inside.closed) answered in (none.0 each.0, not-true c.self.inside.closed each.1)),
+      λ (empty, still). rw (none.1 empty, still) refl,
+    )

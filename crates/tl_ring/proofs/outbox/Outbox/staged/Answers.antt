@@ -7,8 +7,6 @@ pub len-requires : goal.len-requires
 len-requires g c = part_small (layout (the_row (param 0 g.row.K) (param 1 (number g.row.W)) (param 2 (number g.row.V)) (copied 3 g.row.K-Head)
     g.K.Channel g.K.Head.PartialEq g.K.Head.Default)) 1 9223372036854775808 c.requires-raw.1.1.1.1
 
-pub returns-clause-count : goal.returns-clause-count
-returns-clause-count g c = rw (← c.self.view_is) c.len.ensures.value
-
-pub returns-clause-most : goal.returns-clause-most
-returns-clause-most g c = c.len.ensures.within
+pub returns : goal.returns
+returns g c =
+    rw (← c.self.view_is) (record { count = c.len.ensures.value; most = c.len.ensures.within })

@@ -22,24 +22,17 @@ new-requires-in-Ok-2 g c =
     g.K.Channel g.K.Head.PartialEq g.K.Head.Default g.A.Allocator) in
     part_small row 2 9223372036854775808 c.requires-raw.1.1.1.1.1.0
 
-pub returns-in-Ok-clause-new : goal.returns-in-Ok-clause-new
-returns-in-Ok-clause-new g c =
+pub returns-in-Ok : goal.returns-in-Ok
+returns-in-Ok g c =
     let made = c.in-Ok.ensures.new in
     let stands = c.new-in-Ok.ensures.stands c.requires.near c.requires.far in
-    stands_new g.K.Channel.rules g.met.K.Channel.partial_masked _ c.args.ring (c.in-Ok.ensures.size refl).0 stands
-    (ap (λ q. q.capacity) made) c.new-in-Ok.ensures.ready.0 (ap (λ q. q.items) made) c.new-in-Ok-2.ensures c.new-in-Ok.ensures.ready.1
+    record {
+      new = stands_new g.K.Channel.rules g.met.K.Channel.partial_masked _ c.args.ring (c.in-Ok.ensures.size refl).0 stands
+          (ap (λ q. q.capacity) made) c.new-in-Ok.ensures.ready.0 (ap (λ q. q.items) made) c.new-in-Ok-2.ensures c.new-in-Ok.ensures.ready.1;
+      size = λ made. c.in-Ok.ensures.size refl;
+      ring_size = tt;
+    }
 
-pub returns-in-Ok-clause-size : goal.returns-in-Ok-clause-size
-returns-in-Ok-clause-size g c = λ made. c.in-Ok.ensures.size refl
-
-pub returns-in-Ok-clause-ring_size : goal.returns-in-Ok-clause-ring_size
-returns-in-Ok-clause-ring_size g c = tt
-
-pub returns-in-Err-clause-new : goal.returns-in-Err-clause-new
-returns-in-Err-clause-new g c = tt
-
-pub returns-in-Err-clause-size : goal.returns-in-Err-clause-size
-returns-in-Err-clause-size g c = λ made. absurd (cc)
-
-pub returns-in-Err-clause-ring_size : goal.returns-in-Err-clause-ring_size
-returns-in-Err-clause-ring_size g c = c.in-Err.ensures.ring_size
+pub returns-in-Err : goal.returns-in-Err
+returns-in-Err g c =
+    record { new = tt; size = λ made. absurd (cc); ring_size = c.in-Err.ensures.ring_size }

@@ -3,18 +3,6 @@ use Rattle.tl_ring.proofs.Names.{the_row}
 use Rattle.tl_ring.proofs.FieldSizes.{part_small}
 use Rattle.tl_ring.proofs.pipe.SyncPipe.standing.Goals as goal
 
-pub returns-clause-staged : goal.returns-clause-staged
-returns-clause-staged g c = rw (← c.self.view_is) c.staged.ensures.count
-
-pub returns-clause-in_ring : goal.returns-clause-in_ring
-returns-clause-in_ring g c = rw (← c.self.view_is) c.len.ensures.count
-
-pub returns-clause-inbox : goal.returns-clause-inbox
-returns-clause-inbox g c = rw (← c.self.view_is) c.len-2.ensures.count
-
-pub returns-clause-most : goal.returns-clause-most
-returns-clause-most g c = (c.staged.ensures.most, c.len.ensures.most, c.len-2.ensures.most)
-
 pub staged-requires : goal.staged-requires
 staged-requires g c = part_small (layout (the_row (param 0 g.row.K) (param 1 (number g.row.W)) (param 2 (number g.row.V)) (param 3 g.row.A)
     (copied 4 g.row.K-Head) g.K.Channel g.K.Head.PartialEq g.K.Head.Default g.A.Allocator)) 0 9223372036854775808 c.requires-raw.1.1.1.1.1
@@ -26,3 +14,12 @@ len-requires g c = part_small (layout (the_row (param 0 g.row.K) (param 1 (numbe
 pub len-requires-2 : goal.len-requires-2
 len-requires-2 g c = part_small (layout (the_row (param 0 g.row.K) (param 1 (number g.row.W)) (param 2 (number g.row.V)) (param 3 g.row.A)
     (copied 4 g.row.K-Head) g.K.Channel g.K.Head.PartialEq g.K.Head.Default g.A.Allocator)) 2 9223372036854775808 c.requires-raw.1.1.1.1.1
+
+pub returns : goal.returns
+returns g c =
+    rw (← c.self.view_is) (record {
+      staged = c.staged.ensures.count;
+      in_ring = c.len.ensures.count;
+      inbox = c.len-2.ensures.count;
+      most = (c.staged.ensures.most, c.len.ensures.most, c.len-2.ensures.most);
+    })

@@ -4,17 +4,17 @@ use Rattle.tl_ring.proofs.Names.{the_row}
 use Rattle.tl_ring.proofs.FieldSizes.{part_small}
 use Rattle.tl_ring.proofs.pipe.SyncPipe.take.Goals as goal
 
-pub returns-clause-beat : goal.returns-clause-beat
-returns-clause-beat g c = rw (← c.self.view_is) c.take.ensures.beat
-
-pub returns-clause-taken : goal.returns-clause-taken
-returns-clause-taken g c = λ x h.
-    let stands = rw (← c.self.view_is) at h in
-    rw c.take.ensures.rest (stands_took g.K.Channel.rules g.met.K.Channel.partial_masked _ x stands)
-
 pub take-requires : goal.take-requires
 take-requires g c = (
   part_small (layout (the_row (param 0 g.row.K) (param 1 (number g.row.W)) (param 2 (number g.row.V)) (param 3 g.row.A)
       (copied 4 g.row.K-Head) g.K.Channel g.K.Head.PartialEq g.K.Head.Default g.A.Allocator)) 2 9223372036854775808 c.requires-raw.1.1.1.1.1.0,
   c.requires-raw.1.1.1.1.1.1,
 )
+
+pub returns : goal.returns
+returns g c =
+    rw (← c.self.view_is) (record {
+      beat = c.take.ensures.beat;
+      lawful = c.take.ensures.lawful;
+      taken = λ x h. rw c.take.ensures.rest (stands_took g.K.Channel.rules g.met.K.Channel.partial_masked _ x h);
+    })

@@ -13,12 +13,13 @@ offset_bounds-as_slice-self-inside g c = rw c.as_slice.ensures.value c.self.inva
 pub slice_bounds-result-count : goal.slice_bounds-result-count
 slice_bounds-result-count g c = rw c.as_slice.ensures.value c.self.invariant
 
-pub returns-clause-value : goal.returns-clause-value
-returns-clause-value g c =
-    take_rest c.as_slice.result.now c.self.inside.first ∙ ap (drop c.self.inside.first) c.as_slice.ensures.value ∙ c.self.view_is
-
-pub returns-clause-within : goal.returns-clause-within
-returns-clause-within g c = rw (take_rest c.as_slice.result.now c.self.inside.first, length-drop) (omega (arith, c.as_slice.ensures.fits))
-
 pub slice_bounds-result-start : goal.slice_bounds-result-start
 slice_bounds-result-start g c = rw c.as_slice.ensures.value c.self.invariant
+
+pub returns : goal.returns
+returns g c =
+    let s = c.self.inside in
+    record {
+      value = take_rest c.as_slice.result.now s.first ∙ ap (drop s.first) c.as_slice.ensures.value ∙ c.self.view_is;
+      within = rw (take_rest c.as_slice.result.now s.first, length-drop) (omega (arith, c.as_slice.ensures.fits));
+    }

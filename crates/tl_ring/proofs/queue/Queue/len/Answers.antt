@@ -10,8 +10,9 @@ len-requires g c = part_small (layout (the_row (copied 0 g.row.T))) 0 9223372036
 pub overflow_sub-result : goal.overflow_sub-result
 overflow_sub-result g c = omega (arith, c.len.ensures.value, c.self.invariant)
 
-pub returns-clause-value : goal.returns-clause-value
-returns-clause-value g c = rw (← c.self.view_is, length-drop, c.len.ensures.value) refl
-
-pub returns-clause-within : goal.returns-clause-within
-returns-clause-within g c = omega (arith, c.len.ensures.fits)
+pub returns : goal.returns
+returns g c =
+    record {
+      value = rw (← c.self.view_is, length-drop, c.len.ensures.value) refl;
+      within = omega (arith, c.len.ensures.fits);
+    }
