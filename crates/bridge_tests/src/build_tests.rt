@@ -3,7 +3,6 @@
 
 use linked_list_allocator::LocalHeap;
 use std::alloc::Global;
-use std::test::Fail;
 use tl_bridge::SyncBridge;
 use tl_msg::ChA;
 use tl_ring::{BuildFault, SyncPipe, ring_pair};
@@ -71,46 +70,44 @@ fn refuses_size(made: &Made, heap: &LocalHeap, ring: usize) -> bool {
     refusal(made, heap, ring) == Some(BuildFault::RingSize)
 }
 
-/// Why this is not made over a heap of so many bytes, if it is not. A ring has 1 to 4,096 beats, and all of the heap is
-/// free in the end.
-fn refusal_over(
-    alloc: Global,
-    made: &Made,
-    ring: usize,
-    bytes: usize,
-) -> Result<Option<BuildFault>, Fail> {
-    let heap = LocalHeap::new(alloc, bytes)?;
+/// Whether there is no memory for this on a heap of so many bytes. None where another fault is answered, a ring has other
+/// than 1 to 4,096 beats, or not all of the heap is free in the end.
+fn is_refused(alloc: Global, made: &Made, ring: usize, bytes: usize) -> Option<bool> {
+    let Ok(heap) = LocalHeap::new(alloc, bytes) else {
+        return None;
+    };
     let refuses_sizes = refuses_size(made, &heap, 0) & refuses_size(made, &heap, 4097);
     let fault = refusal(made, &heap, ring);
-    if refuses_sizes & (heap.used() == 0) {
-        Ok(fault)
-    } else {
-        Err(Fail::from("a ring of no such size, or memory that is still in use"))
+    if !(refuses_sizes & (heap.used() == 0)) {
+        return None;
+    }
+    match fault {
+        Some(BuildFault::OutOfMemory) => Some(true),
+        Some(_) => None,
+        None => Some(false),
     }
 }
 
 /// Whether each fault is OutOfMemory, but where it is made over the last heaps.
-fn are_refused(alloc: Global, heaps: &Heaps) -> Result<bool, Fail> {
+fn are_refused(alloc: Global, heaps: &Heaps) -> bool {
     let (made, ring, more) = (&heaps.0, heaps.1, heaps.2);
     let (count, is_made) = (heaps.3, heaps.4);
-    let (mut bytes, mut is_refused) = (0usize, true);
+    let (mut bytes, mut last) = (0usize, true);
     for _ in 0..count {
-        is_refused = match refusal_over(alloc, made, ring, bytes)? {
-            Some(BuildFault::OutOfMemory) => true,
-            None if is_made => false,
-            _ => return Ok(false),
+        last = match is_refused(alloc, made, ring, bytes) {
+            Some(now) if now | is_made => now,
+            _ => return false,
         };
         bytes = bytes.saturating_add(more);
     }
-    Ok(is_refused != is_made)
+    last != is_made
 }
 
 /// A heap hands out 16 bytes at least, so each ring is the growth that is refused at some size, and
 /// then each table at some greater one.
 #[test]
-fn each_refused_growth_is_out_of_memory(rt: HostRuntime) -> Result<(), Fail> {
+fn each_refused_growth_is_out_of_memory(rt: HostRuntime) {
     for (number, heaps) in HEAPS.iter().enumerate() {
-        assert!(rt; are_refused(rt.alloc(), heaps)?, "row {number}");
+        assert!(rt; are_refused(rt.alloc(), heaps), "row {number}");
     }
-    Ok(())
 }

@@ -1,6 +1,6 @@
-//! Tests of lanes, messages, bursts, the converter and traces, and of the crossing, from one channel's pipe and
-//! ends to both sides of the bridge and the runs of a script, in a crate of their own: a crate with tests is
-//! proved twice, and each spends half a minute on loading alone.
+//! Tests of lanes, messages, bursts, the converter and traces, of the crossing, from one channel's pipe and ends to
+//! both sides of the bridge and the runs of a script, and of parts of the program, in a crate of their own: a crate
+//! with tests is proved twice, and each spends half a minute on loading alone.
 #![tactic(auto)]
 
 #[cfg(test)]
@@ -15,6 +15,8 @@ mod five;
 mod lending;
 #[cfg(test)]
 mod pair;
+#[cfg(test)]
+mod program;
 #[cfg(test)]
 mod ring;
 #[cfg(test)]

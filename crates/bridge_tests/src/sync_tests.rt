@@ -42,13 +42,6 @@ fn takes_answer(bridge: &mut SyncBridge<4, 16>, lanes: [u8; 4]) -> bool {
     }
 }
 
-/// Whether a request crosses, and no response before it does.
-fn request_crosses(bridge: &mut SyncBridge<4, 16>) -> bool {
-    let is_refused = answers(bridge, 3, 2, Err(SideFault::Beat(BeatFault::Opcode)))
-        & answers(bridge, 1, 2, Err(SideFault::NoRequest));
-    is_refused & asks(bridge, Ok(())) & moves(bridge, 1) & takes_ask(bridge, 0xf000)
-}
-
 /// Whether its response crosses then, once, and its source is in use until it is taken.
 fn response_crosses(bridge: &mut SyncBridge<4, 16>) -> bool {
     let is_answered = answers(bridge, 1, 3, Err(SideFault::SizeMismatch))
@@ -62,8 +55,12 @@ fn response_crosses(bridge: &mut SyncBridge<4, 16>) -> bool {
     is_answered & is_busy & is_taken & asks(bridge, Ok(())) & bridge.take_d().is_none()
 }
 
+/// Whether a request crosses, and no response before it does, and then its response.
 fn request_and_response_cross(bridge: &mut SyncBridge<4, 16>) -> bool {
-    request_crosses(bridge) & response_crosses(bridge)
+    let is_refused = answers(bridge, 3, 2, Err(SideFault::Beat(BeatFault::Opcode)))
+        & answers(bridge, 1, 2, Err(SideFault::NoRequest));
+    let has_crossed = asks(bridge, Ok(())) & moves(bridge, 1) & takes_ask(bridge, 0xf000);
+    is_refused & has_crossed & response_crosses(bridge)
 }
 
 #[test]

@@ -5,7 +5,6 @@ ghost use Rattle.tl_sides.specs.Sides.{AreSides, SameClient, SameManager};
 
 use crate::lending::let_both_go;
 use crate::values::{LANES, data, get};
-use std::test::Fail;
 use tl_lanes::Mask;
 use tl_msg::{BeatFault, SideFault};
 use tl_sides::{ClientSide, ManagerSide, bridge, meet_sides};
@@ -133,12 +132,12 @@ fn play_all(client: &mut ClientSide<4, 16>, manager: &mut ManagerSide<4, 16>) ->
 }
 
 #[test]
-fn a_request_and_its_response(rt: HostRuntime) -> Result<(), Fail> {
-    let (mut client, mut manager) = bridge::<4, 16, _>(rt.alloc(), 4)?;
+fn a_request_and_its_response(rt: HostRuntime) {
+    let sides = bridge::<4, 16, _>(rt.alloc(), 4);
+    let (mut client, mut manager) = sides.expect(&rt, "they are made");
     let is_so = play_all(&mut client, &mut manager);
     let_both_go(client, manager);
     assert!(rt; is_so);
-    Ok(())
 }
 
 /// Sends a request by source 11, and answers whether it was accepted.
@@ -179,11 +178,11 @@ fn is_used(
 }
 
 #[test]
-fn a_source_used_twice(rt: HostRuntime) -> Result<(), Fail> {
-    let (mut client, mut manager) = bridge::<4, 4, _>(rt.alloc(), 1)?;
+fn a_source_used_twice(rt: HostRuntime) {
+    let sides = bridge::<4, 4, _>(rt.alloc(), 1);
+    let (mut client, mut manager) = sides.expect(&rt, "they are made");
     let is_so = is_used(&mut client, &mut manager, 0, 0x11)
         & is_used(&mut client, &mut manager, 4, 0x22);
     let_both_go(client, manager);
     assert!(rt; is_so);
-    Ok(())
 }

@@ -6,8 +6,6 @@ ghost use Rattle.tl_ring.specs.Ends.{ArePair, SameSend, IsReceiptOf};
 
 use crate::values::{ack, at, put};
 use std::alloc::Global;
-use std::process::Abort;
-use std::test::Fail;
 use tl_msg::{ChA, ChE, SinkId};
 use tl_ring::{EndFault, Receipt, SendEnd, Standing, TakeEnd, meet, meet_closing, ring_pair};
 
@@ -26,17 +24,18 @@ fn offered(send: &mut SendEnd<ChA, 8, 4>) -> bool
             .is_ok()
 }
 
-/// Pumps or fetches, and answers how many beats that moved, and where the beats stand then.
-fn moved(
+/// Whether pumping, or else fetching, moves one beat, and the beats stand so then.
+fn moves_one(
     send: &mut SendEnd<ChA, 8, 4>,
     take: &mut TakeEnd<ChA, 8, 4>,
     pumps: bool,
-) -> (usize, Standing)
+    standing: Standing,
+) -> bool
     requires { ArePair send.old take.old }
     ensures { ArePair send.new take.new }
 {
     let count = if pumps { send.pump() } else { take.fetch() };
-    (count, meet(send, take))
+    (count == 1) & (meet(send, take) == standing)
 }
 
 /// Whether each of three takes gave a beat.
@@ -72,13 +71,13 @@ fn closes_at_the_end(send: SendEnd<ChA, 4, 8>) -> bool {
 }
 
 #[test]
-fn a_half_brought_message_keeps_its_end_open(rt: HostRuntime) -> Result<(), Fail> {
-    let (mut send, take) = ring_pair::<ChA, 4, 8, Global>(rt.alloc(), 1)?;
+fn a_half_brought_message_keeps_its_end_open(rt: HostRuntime) {
+    let ends = ring_pair::<ChA, 4, 8, Global>(rt.alloc(), 1);
+    let (mut send, take) = ends.expect(&rt, "they are made");
     let is_brought = bring_three_quarters(&mut send);
     let is_closed = closes_at_the_end(send);
     drop(take);
     assert!(rt; is_brought & is_closed);
-    Ok(())
 }
 
 /// Whether the sending end pumps, else the taking end fetches, and how many beats are staged, in the ring and in the inbox then.
@@ -89,20 +88,16 @@ const MOVES: [(bool, usize, usize, usize); 4] = [
     (false, 0, 0, 2),
 ];
 
-fn pass_a_ring_of_one<R: Abort>(
-    rt: &R,
-    send: &mut SendEnd<ChA, 8, 4>,
-    take: &mut TakeEnd<ChA, 8, 4>,
-)
+/// Whether two far beats pass a ring of one, and no third one.
+fn pass_a_ring_of_one(send: &mut SendEnd<ChA, 8, 4>, take: &mut TakeEnd<ChA, 8, 4>) -> bool
     requires { ArePair send.old take.old }
     ensures { ArePair send.new take.new }
 {
-    let is_offered = offered(send);
-    assert!(*rt; is_offered & (meet(send, take) == at(2, 0, 0)));
+    let mut is_so = offered(send) & (meet(send, take) == at(2, 0, 0));
     for &(pumps, staged, in_ring, inbox) in &MOVES {
-        assert!(*rt; moved(send, take, pumps) == (1, at(staged, in_ring, inbox)));
+        is_so &= moves_one(send, take, pumps, at(staged, in_ring, inbox));
     }
-    assert!(*rt; taken(take) == [true, true, false]);
+    is_so & (taken(take) == [true, true, false])
 }
 
 /// Whether the end is closed, and all that it has brought was taken.
@@ -116,13 +111,13 @@ fn closes_with_nothing_left(send: SendEnd<ChA, 8, 4>, take: &mut TakeEnd<ChA, 8,
 }
 
 #[test]
-fn two_far_beats_pass_a_ring_of_one_between_ends(rt: HostRuntime) -> Result<(), Fail> {
-    let (mut send, mut take) = ring_pair::<ChA, 8, 4, Global>(rt.alloc(), 1)?;
-    pass_a_ring_of_one(&rt, &mut send, &mut take);
-    let is_so = closes_with_nothing_left(send, &mut take);
+fn two_far_beats_pass_a_ring_of_one_between_ends(rt: HostRuntime) {
+    let ends = ring_pair::<ChA, 8, 4, Global>(rt.alloc(), 1);
+    let (mut send, mut take) = ends.expect(&rt, "they are made");
+    let have_passed = pass_a_ring_of_one(&mut send, &mut take);
+    let is_closed = closes_with_nothing_left(send, &mut take);
     drop(take);
-    assert!(rt; is_so);
-    Ok(())
+    assert!(rt; have_passed & is_closed);
 }
 
 /// Offers a GrantAck, and answers whether it was accepted and staged, and so many beats went into the ring then.
@@ -179,12 +174,12 @@ fn shows_what_is_left(send: SendEnd<ChE, 4, 8>, take: &mut TakeEnd<ChE, 4, 8>) -
 }
 
 #[test]
-fn a_receipt_shows_what_is_left(rt: HostRuntime) -> Result<(), Fail> {
-    let (send, mut take) = ring_pair::<ChE, 4, 8, Global>(rt.alloc(), 2)?;
+fn a_receipt_shows_what_is_left(rt: HostRuntime) {
+    let ends = ring_pair::<ChE, 4, 8, Global>(rt.alloc(), 2);
+    let (send, mut take) = ends.expect(&rt, "they are made");
     let is_so = shows_what_is_left(send, &mut take);
     drop(take);
     assert!(rt; is_so);
-    Ok(())
 }
 
 /// Whether two beats go into the ring of two, and one more stays, where the taking end is gone.
@@ -213,19 +208,19 @@ fn take_what_is_left(take: &mut TakeEnd<ChA, 8, 4>) -> bool {
 }
 
 #[test]
-fn a_sending_end_fills_the_ring_alone(rt: HostRuntime) -> Result<(), Fail> {
-    let (mut send, take) = ring_pair::<ChE, 4, 8, Global>(rt.alloc(), 2)?;
+fn a_sending_end_fills_the_ring_alone(rt: HostRuntime) {
+    let ends = ring_pair::<ChE, 4, 8, Global>(rt.alloc(), 2);
+    let (mut send, take) = ends.expect(&rt, "they are made");
     drop(take);
     let is_so = send_in_vain(&mut send) & closes_with_one(send);
     assert!(rt; is_so);
-    Ok(())
 }
 
 #[test]
-fn a_taking_end_empties_the_ring_alone(rt: HostRuntime) -> Result<(), Fail> {
-    let (send, mut take) = ring_pair::<ChA, 8, 4, Global>(rt.alloc(), 1)?;
+fn a_taking_end_empties_the_ring_alone(rt: HostRuntime) {
+    let ends = ring_pair::<ChA, 8, 4, Global>(rt.alloc(), 1);
+    let (send, mut take) = ends.expect(&rt, "they are made");
     let is_so = leaves_one(send) & take_what_is_left(&mut take);
     drop(take);
     assert!(rt; is_so);
-    Ok(())
 }

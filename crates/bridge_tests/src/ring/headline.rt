@@ -2,22 +2,22 @@
 //! crossing between two threads at a meeting, and of a closed one by its receipt.
 #![tactic(auto, using(tl_lanes::proofs::Widths::width_4, tl_lanes::proofs::Widths::width_8))]
 
-ghost use Rattle.std.specs.Prelude.{◌≡◌, ◌+◌, ◌++◌, ◌∷◌, [], List, length, IfSome};
+ghost use Rattle.std.specs.Prelude.{◌≡◌, ◌+◌, ◌++◌, ◌∷◌, [], List, ℕ, length, IfSome};
 ghost use Rattle.tl_msg.specs.Tables.{rules_a};
 ghost use Rattle.tl_msg.specs.declared.head.HeadA.{HeadA};
 ghost use Rattle.tl_msg.specs.declared.beat.BeatOf.{BeatOf};
 ghost use Rattle.tl_burst.specs.Messages.{Message};
 ghost use Rattle.tl_burst.specs.Handing.{Handed, homes_with};
 ghost use Rattle.tl_convert.specs.Due.{due, layouts};
-ghost use Rattle.tl_ring.specs.Crossing.{World, empty, offered};
-ghost use Rattle.tl_ring.specs.Ends.{ArePair, SameSend, SameTake, Sends, Takes, passed};
+ghost use Rattle.tl_ring.specs.Crossing.{World, empty, offered, shut};
+ghost use Rattle.tl_ring.specs.Ends.{ArePair, IsReceiptFor, IsReceiptOf, SameSend, SameTake, Sends, Shows, Takes, passed};
 
+use crate::lending::let_both_go;
 use crate::values::{at, put};
 use std::alloc::Global;
-use std::test::Fail;
 use std::thread::{Threads, join_mut};
 use tl_msg::{Beat, ChA};
-use tl_ring::{SendEnd, Standing, TakeEnd, meet, ring_pair};
+use tl_ring::{Receipt, SendEnd, Standing, TakeEnd, meet, ring_pair};
 
 /// Offers a beat where nothing is staged, and sends what it makes due. Answers how many far beats
 /// went into the ring, or None where the beat was refused.
@@ -101,6 +101,45 @@ fn cross_in_two_threads<R: Threads>(
     }
 }
 
+/// Offers a beat and sends it, closes the end, and gives it up. Answers the receipt, if nothing is left in the stage.
+fn send_whole(send: SendEnd<ChA, 8, 4>, beat: Beat<ChA, 8>) -> Option<Receipt<ChA, 8, 4>>
+    requires { Sends rules_a send (empty {w = 8} 4) }
+    ensures taker { IfSome result (λ receipt. IsReceiptFor send receipt) }
+    ensures shows { IfSome result (λ receipt. (count : ℕ) ×
+        Shows rules_a receipt (shut (passed count (offered rules_a beat 0 (empty {w = 8} 4))))) }
+{
+    let mut send = send;
+    send_one(&mut send, beat)?;
+    let Ok(closing) = send.close() else {
+        return None;
+    };
+    if closing.staged() == 0 {
+        closing.finish()
+    } else {
+        None
+    }
+}
+
+/// Takes two far beats, and answers them, if the receipt says that nothing is left then.
+fn take_whole(
+    take: &mut TakeEnd<ChA, 8, 4>,
+    receipt: &mut Receipt<ChA, 8, 4>,
+) -> Option<(Beat<ChA, 4>, Beat<ChA, 4>)>
+    requires { IsReceiptOf receipt.old take.old }
+    // for every crossing that the receipt shows, of which nothing was taken before
+    ensures { (x : World HeadA 8 4) → Shows rules_a receipt.old x → Takes take.old [] →
+        IfSome result (λ far. (messages : List (Message HeadA)) ×
+        Handed rules_a 8 x.accepted x.homes messages [] × (far.0 ∷ far.1 ∷ [] ≡ layouts rules_a 4 messages)) }
+{
+    let first = take_one(take)?;
+    let second = take_one(take)?;
+    if take.drained(receipt) {
+        Some((first, second))
+    } else {
+        None
+    }
+}
+
 /// A beat is offered and sent, and its end is closed and given up; then two far beats are taken, and
 /// the receipt asked. Where it says that nothing is left, they are the far layout of whole messages.
 fn cross_whole(
@@ -113,33 +152,14 @@ fn cross_whole(
         Handed rules_a 8 (beat ∷ []) (homes_with rules_a {w = 8} [] [] beat 0) messages [] ×
         (far.0 ∷ far.1 ∷ [] ≡ layouts rules_a 4 messages)) }
 {
-    let mut send = send;
-    send_one(&mut send, beat)?;
-    let Ok(mut closing) = send.close() else {
-        return None;
-    };
-    if closing.staged() != 0 {
-        return None;
-    }
-    let mut receipt = closing.finish()?;
-    let first = take_one(take)?;
-    let second = take_one(take)?;
-    if take.drained(&mut receipt) {
-        Some((first, second))
-    } else {
-        None
-    }
+    let mut receipt = send_whole(send, beat)?;
+    take_whole(take, &mut receipt)
 }
 
-#[test]
-fn a_meeting_shows_what_is_under_way(rt: HostRuntime) -> Result<(), Fail> {
-    let (mut send, mut take) = ring_pair::<ChA, 8, 4, Global>(rt.alloc(), 4)?;
-    let beat = put(3, 16, 0xff, [0, 1, 2, 3, 4, 5, 6, 7]);
-    let shown = cross_in_two_threads(&rt, &mut send, &mut take, beat);
-    drop(send);
-    drop(take);
-    // (whether the taker was there in time is not known)
-    let is_so = match shown {
+/// Whether this is the first half of the beat, and the other one is under way. (Whether the taker was there in time is not
+/// known.)
+fn is_half(shown: Option<(Beat<ChA, 4>, Standing)>) -> bool {
+    match shown {
         Some((first, standing)) => {
             let one_left = (standing == at(1, 0, 0))
                 | (standing == at(0, 1, 0))
@@ -147,21 +167,33 @@ fn a_meeting_shows_what_is_under_way(rt: HostRuntime) -> Result<(), Fail> {
             (first.lanes == [0, 1, 2, 3]) & one_left
         }
         None => true,
-    };
-    assert!(rt; is_so);
-    Ok(())
+    }
 }
 
 #[test]
-fn a_receipt_shows_a_whole_layout(rt: HostRuntime) -> Result<(), Fail> {
-    let (send, mut take) = ring_pair::<ChA, 8, 4, Global>(rt.alloc(), 4)?;
+fn a_meeting_shows_what_is_under_way(rt: HostRuntime) {
+    let ends = ring_pair::<ChA, 8, 4, Global>(rt.alloc(), 4);
+    let (mut send, mut take) = ends.expect(&rt, "they are made");
+    let beat = put(3, 16, 0xff, [0, 1, 2, 3, 4, 5, 6, 7]);
+    let shown = cross_in_two_threads(&rt, &mut send, &mut take, beat);
+    let_both_go(send, take);
+    assert!(rt; is_half(shown));
+}
+
+/// Whether these are both halves of the beat.
+fn is_whole(shown: Option<(Beat<ChA, 4>, Beat<ChA, 4>)>) -> bool {
+    match shown {
+        Some((first, second)) => (first.lanes == [0, 1, 2, 3]) & (second.lanes == [4, 5, 6, 7]),
+        None => false,
+    }
+}
+
+#[test]
+fn a_receipt_shows_a_whole_layout(rt: HostRuntime) {
+    let ends = ring_pair::<ChA, 8, 4, Global>(rt.alloc(), 4);
+    let (send, mut take) = ends.expect(&rt, "they are made");
     let beat = put(3, 16, 0xff, [0, 1, 2, 3, 4, 5, 6, 7]);
     let shown = cross_whole(send, &mut take, beat);
     drop(take);
-    let is_so = match shown {
-        Some((first, second)) => (first.lanes == [0, 1, 2, 3]) & (second.lanes == [4, 5, 6, 7]),
-        None => false,
-    };
-    assert!(rt; is_so);
-    Ok(())
+    assert!(rt; is_whole(shown));
 }

@@ -8,7 +8,6 @@ use crate::lending::let_both_go;
 use crate::values::{ack, at};
 use arrayvec::ArrayVec;
 use std::alloc::Global;
-use std::test::Fail;
 use std::thread::{Threads, join, join_mut};
 use tl_msg::{ChE, SinkId};
 use tl_ring::{ClosingEnd, Receipt, SendEnd, TakeEnd, meet, ring_pair};
@@ -32,13 +31,6 @@ fn send_from(send: &mut SendEnd<ChE, 4, 8>, first: SinkId, turns: usize) -> Sink
         send.pump();
     }
     next
-}
-
-/// Offers and sends the sinks from 0 on, and answers how many were offered.
-fn send_all(send: &mut SendEnd<ChE, 4, 8>, turns: usize) -> SinkId
-    ensures { SameSend send.old send.new }
-{
-    send_from(send, 0, turns)
 }
 
 /// Fetches and takes beats, until all were taken or the turns are over, and notes their sinks.
@@ -67,13 +59,13 @@ fn pump_all(closing: &mut ClosingEnd<ChE, 4, 8>, turns: usize)
     }
 }
 
-/// Offers and sends as [`send_all`], and then closes the end, sends what is staged and answers the receipt, if all of that was done
+/// Offers and sends the sinks from 0 on, and then closes the end, sends what is staged and answers the receipt, if all of that was done
 /// before the turns were over.
 fn send_and_finish(send: SendEnd<ChE, 4, 8>, turns: usize) -> Option<Receipt<ChE, 4, 8>>
     ensures { IfSome result (λ receipt. IsReceiptFor send receipt) }
 {
     let mut send = send;
-    send_all(&mut send, turns);
+    send_from(&mut send, 0, turns);
     let Ok(mut closing) = send.close() else {
         return None;
     };
@@ -134,7 +126,7 @@ fn send_and_take<R: Threads>(
         rt,
         &mut || -> SinkId
             ensures { SameSend send.entry.now send.exit.now }
-        { send_all(send, 1_000_000) },
+        { send_from(send, 0, 1_000_000) },
         &mut || -> ()
             ensures { SameTake take.entry.now take.exit.now }
         { take_all(take, sinks, 1_000_000) },
@@ -157,12 +149,12 @@ fn lose_nothing<R: Threads>(
 }
 
 #[test]
-fn two_threads_lose_nothing(rt: HostRuntime) -> Result<(), Fail> {
-    let (mut send, mut take) = ring_pair::<ChE, 4, 8, Global>(rt.alloc(), 4)?;
+fn two_threads_lose_nothing(rt: HostRuntime) {
+    let ends = ring_pair::<ChE, 4, 8, Global>(rt.alloc(), 4);
+    let (mut send, mut take) = ends.expect(&rt, "they are made");
     let is_so = lose_nothing(&rt, &mut send, &mut take);
     let_both_go(send, take);
     assert!(rt; is_so);
-    Ok(())
 }
 
 /// Takes what is left, and answers whether all came in order once the receipt says that nothing is.
@@ -183,8 +175,9 @@ fn take_the_rest(
 }
 
 #[test]
-fn a_receipt_goes_from_thread_to_thread(rt: HostRuntime) -> Result<(), Fail> {
-    let (send, take) = ring_pair::<ChE, 4, 8, Global>(rt.alloc(), 4)?;
+fn a_receipt_goes_from_thread_to_thread(rt: HostRuntime) {
+    let ends = ring_pair::<ChE, 4, 8, Global>(rt.alloc(), 4);
+    let (send, take) = ends.expect(&rt, "they are made");
     let (receipt, (take, sinks)) = join(
         &rt,
         move || -> Option<Receipt<ChE, 4, 8>>
@@ -198,12 +191,9 @@ fn a_receipt_goes_from_thread_to_thread(rt: HostRuntime) -> Result<(), Fail> {
             (take, sinks)
         },
     );
-    let Some(mut receipt) = receipt else {
-        panic!(rt; "no receipt");
-    };
+    let mut receipt = receipt.expect(&rt, "the end was closed and given up");
     let (mut take, mut sinks) = (take, sinks);
     let is_so = take_the_rest(&mut take, &mut receipt, &mut sinks);
     drop(take);
     assert!(rt; is_so);
-    Ok(())
 }

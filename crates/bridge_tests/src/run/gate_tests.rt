@@ -1,10 +1,9 @@
 use crate::five::empty;
 use crate::run::runs::run_short;
 use crate::values::{data, get};
-use std::alloc::{AllocError, Global};
+use std::alloc::Global;
 use std::hint::spin_loop;
 use std::sync::atomic::{AtomicU64, Ordering};
-use std::test::Fail;
 use std::thread::Threads;
 use tl_bridge::Gate;
 use tl_trace::Script;
@@ -34,18 +33,11 @@ impl<'a> Gate for Spin<'a> {
     }
 }
 
-/// A source used twice, by two requests and two responses.
-fn use_twice(script: &mut Script<4, 4>) -> Result<(), AllocError> {
-    script.a.extend_from_slice(&[get(1, 0), get(1, 4)])?;
-    script
-        .d
-        .extend_from_slice(&[data(1, 2, 1, [0x11; 4]), data(1, 2, 1, [0x22; 4])])
-}
-
-fn used_twice(alloc: Global) -> Result<Script<4, 4>, AllocError> {
-    let mut script = empty(alloc);
-    use_twice(&mut script)?;
-    Ok(script)
+/// Whether there is memory for two requests by one source, and for two responses to it.
+fn use_twice(script: &mut Script<4, 4>) -> bool {
+    let asks = script.a.extend_from_slice(&[get(1, 0), get(1, 4)]);
+    let answers = [data(1, 2, 1, [0x11; 4]), data(1, 2, 1, [0x22; 4])];
+    asks.is_ok() & script.d.extend_from_slice(&answers).is_ok()
 }
 
 /// Whether neither side waits in vain, and each passes its gate once in each round.
@@ -70,10 +62,9 @@ fn meet_in_each_round<R: Threads>(rt: &R, alloc: Global, script: &Script<4, 4>) 
 
 /// Two sides that one thread did in turn would each wait in vain.
 #[test]
-fn both_sides_work_at_the_same_time(rt: HostRuntime) -> Result<(), Fail> {
-    let script = used_twice(rt.alloc())?;
-    let is_so = meet_in_each_round(&rt, rt.alloc(), &script);
+fn both_sides_work_at_the_same_time(rt: HostRuntime) {
+    let mut script = empty::<4, 4>(rt.alloc());
+    let is_so = use_twice(&mut script) & meet_in_each_round(&rt, rt.alloc(), &script);
     drop(script);
     assert!(rt; is_so);
-    Ok(())
 }

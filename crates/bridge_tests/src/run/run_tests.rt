@@ -4,8 +4,7 @@ ghost use Rattle.tl_lanes.specs.Lanes.{IsWidth};
 
 use crate::five::{empty, is_short};
 use crate::values::{ack, put};
-use std::alloc::{AllocError, Global};
-use std::test::Fail;
+use std::alloc::Global;
 use std::thread::Threads;
 use tl_bridge::{NoGate, Outcome, RunFault, run_sync, run_threads};
 use tl_lanes::{Mask, is_width};
@@ -29,7 +28,7 @@ fn rounds<const C: usize, const M: usize, R: Threads>(
     script: &Script<C, M>,
     turns: usize,
 ) -> Option<u64> {
-    if !is_width(C) || !is_width(M) || turns == 0 || !is_short(script) {
+    if !(is_width(C) & is_width(M) & (turns != 0) & is_short(script)) {
         return None;
     }
     let (client_gate, manager_gate) = (&mut NoGate, &mut NoGate);
@@ -51,11 +50,19 @@ fn sync_rounds<const C: usize, const M: usize>(
     script: &Script<C, M>,
     ring: usize,
 ) -> Option<u64> {
-    if !is_width(C) || !is_width(M) || !is_short(script) {
+    if !(is_width(C) & is_width(M) & is_short(script)) {
         return None;
     }
     let ended = run_sync(alloc, script, ring);
     rounds_in(&ended)
+}
+
+/// Whether a run ended, in so many rounds at least, and at most.
+fn are_from(rounds: Option<u64>, least: u64, most: u64) -> bool {
+    match rounds {
+        Some(rounds) => (least <= rounds) & (rounds <= most),
+        None => false,
+    }
 }
 
 #[test]
@@ -68,46 +75,38 @@ fn no_beat_takes_one_round(rt: HostRuntime) {
 }
 
 /// GrantAck of each sink from 00 to c7.
-fn acknowledge(list: &mut Vec<Beat<ChE, 4>>) -> Result<(), AllocError> {
+fn acknowledge(list: &mut Vec<Beat<ChE, 4>>) -> bool {
+    let mut has_room = true;
     for sink in 0..200 {
-        list.push(ack(sink))?;
+        has_room &= list.push(ack(sink)).is_ok();
     }
-    Ok(())
+    has_room
 }
 
 /// The rounds of 200 beats of E in two threads.
-fn rounds_of_acks<R: Threads>(
-    rt: &R,
-    alloc: Global,
-    turns: usize,
-) -> Result<Option<u64>, AllocError> {
+fn rounds_of_acks<R: Threads>(rt: &R, alloc: Global, turns: usize) -> Option<u64> {
     let mut script = empty::<4, 8>(alloc);
     let is_made = acknowledge(&mut script.e);
     let taken = rounds(rt, alloc, &script, turns);
     drop(script);
-    is_made?;
-    Ok(taken)
+    if is_made { taken } else { None }
 }
 
 /// 200 beats go through rings of 4,096 in few rounds of many turns, and in many of one turn.
 #[test]
-fn a_run_heeds_its_turns(rt: HostRuntime) -> Result<(), Fail> {
-    let few = rounds_of_acks(&rt, rt.alloc(), 1000)?;
-    let many = rounds_of_acks(&rt, rt.alloc(), 1)?;
-    assert!(rt; matches!(few, Some(1..=6)) & matches!(many, Some(201..)));
-    Ok(())
+fn a_run_heeds_its_turns(rt: HostRuntime) {
+    let few = rounds_of_acks(&rt, rt.alloc(), 1000);
+    let many = rounds_of_acks(&rt, rt.alloc(), 1);
+    assert!(rt; are_from(few, 1, 6) & are_from(many, 201, u64::MAX));
 }
 
 /// PutFullData of 4,096 bytes, in so many beats.
-fn put_all<const W: usize>(
-    list: &mut Vec<Beat<ChA, W>>,
-    count: usize,
-    mask: Mask,
-) -> Result<(), AllocError> {
+fn put_all<const W: usize>(list: &mut Vec<Beat<ChA, W>>, count: usize, mask: Mask) -> bool {
+    let mut has_room = true;
     for _ in 0..count {
-        list.push(put(12, 0, mask, [0xa5; W]))?;
+        has_room &= list.push(put(12, 0, mask, [0xa5; W])).is_ok();
     }
-    Ok(())
+    has_room
 }
 
 /// The rounds of these in one thread, to the narrowest bus.
@@ -116,30 +115,27 @@ fn rounds_of_puts<const C: usize>(
     count: usize,
     mask: Mask,
     ring: usize,
-) -> Result<Option<u64>, AllocError>
+) -> Option<u64>
     requires client { IsWidth C }
 {
     let mut script = empty::<C, 1>(alloc);
     let is_made = put_all(&mut script.a, count, mask);
     let taken = sync_rounds(alloc, &script, ring);
     drop(script);
-    is_made?;
-    Ok(taken)
+    if is_made { taken } else { None }
 }
 
 /// Each round moves one of 4,096 far beats through a ring of 1, and 64 through one of 64.
 #[test]
-fn a_run_heeds_its_rings(rt: HostRuntime) -> Result<(), Fail> {
-    let many = rounds_of_puts::<64>(rt.alloc(), 64, (1 << 64) - 1, 1)?;
-    let few = rounds_of_puts::<64>(rt.alloc(), 64, (1 << 64) - 1, 64)?;
-    assert!(rt; matches!(many, Some(4097..)) & matches!(few, Some(1..=65)));
-    Ok(())
+fn a_run_heeds_its_rings(rt: HostRuntime) {
+    let many = rounds_of_puts::<64>(rt.alloc(), 64, Mask::MAX >> 64, 1);
+    let few = rounds_of_puts::<64>(rt.alloc(), 64, Mask::MAX >> 64, 64);
+    assert!(rt; are_from(many, 4097, u64::MAX) & are_from(few, 1, 65));
 }
 
 /// And 128 from the widest bus through one of 128.
 #[test]
-fn a_run_from_the_widest_bus_heeds_its_rings(rt: HostRuntime) -> Result<(), Fail> {
-    let few = rounds_of_puts::<128>(rt.alloc(), 32, Mask::MAX, 128)?;
-    assert!(rt; matches!(few, Some(1..=33)));
-    Ok(())
+fn a_run_from_the_widest_bus_heeds_its_rings(rt: HostRuntime) {
+    let few = rounds_of_puts::<128>(rt.alloc(), 32, Mask::MAX, 128);
+    assert!(rt; are_from(few, 1, 33));
 }

@@ -9,13 +9,18 @@ use std::thread::Threads;
 use tl_bridge::{Gate, Outcome, RunFault, run_sync, run_threads};
 use tl_trace::Script;
 
+/// Whether two lists are the same.
+fn are_equal<T: PartialEq>(one: &Vec<T>, other: &Vec<T>) -> bool {
+    one.as_slice() == other.as_slice()
+}
+
 /// Whether both runs have the same lists and verdicts.
 fn are_same(one: &Outcome<4, 4>, other: &Outcome<4, 4>) -> bool {
-    (one.a.as_slice() == other.a.as_slice())
-        & (one.b.as_slice() == other.b.as_slice())
-        & (one.c.as_slice() == other.c.as_slice())
-        & (one.d.as_slice() == other.d.as_slice())
-        & (one.e.as_slice() == other.e.as_slice())
+    are_equal(&one.a, &other.a)
+        & are_equal(&one.b, &other.b)
+        & are_equal(&one.c, &other.c)
+        & are_equal(&one.d, &other.d)
+        & are_equal(&one.e, &other.e)
         & (one.verdicts == other.verdicts)
 }
 

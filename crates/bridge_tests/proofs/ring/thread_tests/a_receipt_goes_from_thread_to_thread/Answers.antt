@@ -3,6 +3,7 @@ use Rattle.bridge_tests.proofs.ring.thread_tests.a_receipt_goes_from_thread_to_t
 
 pub take_the_rest-is_so-requires : goal.take_the_rest-is_so-requires
 take_the_rest-is_so-requires g c =
-    let left = rw c.in-Some.is at c.join-receipt.ensures.first in
-    receipt_of c.in_ok-send.send c.in-Some.receipt c.in_ok-send.take c.join-receipt.result.1.0 left
-    c.in_ok-send.ensures.pair c.join-receipt.ensures.second
+    let pair = rw c.expect-send.ensures at c.ring_pair-ends.ensures.pair in
+    let left = rw c.expect-receipt.ensures at c.join-receipt.ensures.first in
+    receipt_of c.expect-send.result.0 c.expect-receipt.result c.expect-send.result.1 c.join-receipt.result.1.0 left pair
+    c.join-receipt.ensures.second

@@ -1,9 +1,0 @@
-//! Tests of the program's parts that a run of the program can't show: what the words give as a
-//! value, and readers and writers that fail. What the built program answers is tested by
-//! `tests/program`.
-#![tactic(auto)]
-
-#[cfg(test)]
-mod stream_tests;
-#[cfg(test)]
-mod word_tests;
