@@ -1,5 +1,5 @@
 -- A channel of a run in one thread goes on by itself: the run stands for what happened, or for what it stood for where no beat was accepted.
-use Rattle.tl_run.proofs.Names.{◌≡◌, ◌≢◌, ◌+◌, ◌-◌, ◌++◌, ◌≤◌, ◌<◌, inr, ℕ, zero, suc, Option, None, List, length, append-nil, map, [], refl, sym, ap}
+use Rattle.tl_run.proofs.Names.{◌≡◌, ◌≢◌, ◌+◌, ◌-◌, ◌++◌, ◌≤◌, ◌<◌, inr, ℕ, Option, None, List, length, append-nil, map, [], refl, sym, ap}
 use Rattle.tl_run.proofs.Names.{subst, ◌∙◌, arith, Rules, rules_a, rules_b, rules_c, rules_d, rules_e, HeadA, HeadD, BeatOf, SideFault, fault_after}
 use Rattle.tl_run.proofs.Names.{none_past, World, pushed, Ask, Answer, client_answer, manager_answer, manager_home, round, client_rests}
 use Rattle.tl_run.proofs.Names.{manager_rests, Beats, PerChannel, Bridge, Past, StandsFor, stops_alone, IsPart, Does, IsSent, IsAt, steps, Going}
@@ -21,16 +21,14 @@ pub none-again : {H : Type 0} {w v : ℕ} (k : ℕ) (x : World H w v) → pushed
 none-again k x = sym (ap (λ l. record (pushed k x) { ring = l; inbox = x.inbox ++ [] }) (append-nil (pushed k x).ring) ∙
     ap (λ l. record (pushed k x) { inbox = l }) (append-nil x.inbox))
 
--- at most one beat of a channel is accepted at once
-pub one-step : (o : Offered) → steps o ≢ 0 → steps o ≡ 1
-one-step Accepted some = refl
-one-step NotReady some = absurd (some refl)
-one-step (Stopped stop) some = absurd (some refl)
+-- an accepted beat is one, and where none was accepted there is none
+pub accepted-some : steps Accepted ≢ 0
+accepted-some none = cc (none)
 
--- a number that isn't some is none
-pub none-at-all : (n : ℕ) → (n ≢ 0 → ⊥) → n ≡ 0
-none-at-all zero never = refl
-none-at-all (suc n) never = absurd (never (λ e. cc))
+pub none-accepted : (o : Offered) → (o ≡ Accepted → ⊥) → steps o ≡ 0
+none-accepted Accepted never = absurd (never refl)
+none-accepted NotReady never = refl
+none-accepted (Stopped stop) never = refl
 
 -- ---- an offer of a beat that is held
 

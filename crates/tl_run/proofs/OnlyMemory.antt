@@ -1,5 +1,5 @@
 -- A run whose rings are made is refused for want of memory alone.
-use Rattle.tl_run.proofs.Names.{Result, IfErr, ◌≡◌, ◌≢◌, ◌≤◌, ◌<◌, ◌⊎◌, ◌↔◌, ⊎_elim, ℕ, refl, arith}
+use Rattle.tl_run.proofs.Names.{true, false, Result, IfErr, ◌≡◌, ◌≢◌, ◌≤◌, ◌<◌, ◌⊎◌, ◌↔◌, ⊎_elim, ℕ, refl, arith}
 use Rattle.std.proofs.lemmas.Result.{IfErr-weaker}
 use Rattle.tl_ring.proofs.Moves.{ring_size_only}
 use Rattle.tl_ring.specs.declared.fault.BuildFault.{BuildFault}
@@ -27,6 +27,10 @@ same-size building.OutOfMemory e is told = (λ same. absurd (cc (is, same)), λ 
 pub stalled-never : (fault : BuildFault) (e : RunFault) → e ≡ of_build_fault fault → e ≢ Stalled
 stalled-never building.RingSize e is same = cc (is, same)
 stalled-never building.OutOfMemory e is same = cc (is, same)
+
+-- a refusal is no success
+pub not-ok : {A : Type 0} → false ≡ true → A
+not-ok ok = absurd (cc (ok))
 
 -- so is one whose rings' size was tested before
 pub only-memory : (fault : RunFault) → fault ≡ OutOfMemory → (ring : ℕ) → ring ≢ 0 → ring ≤ MAX_RING →

@@ -22,16 +22,16 @@ use tl_trace::{Counts, Script};
 macro_rules! next_step {
     ($bridge:ident, $held:ident, $gone:ident, $at:ident, $pump:ident, $ready:ident, $fetch:ident) => {{
         let offered = $bridge.offer_next($held, $at - $gone);
-        if !offered.is_accepted() {
+        let Offered::Accepted = offered else {
             return offered;
-        }
+        };
         $bridge.$pump();
         if $bridge.$ready() {
-            return offered;
+            return Offered::Accepted;
         }
         $bridge.$fetch();
         $bridge.$pump();
-        offered
+        Offered::Accepted
     }};
 }
 
@@ -72,26 +72,27 @@ trait GoesOn<B> {
 }
 
 // Offers the beats that are held behind the first `at`, up to the first one that is not accepted:
-// counts them, and answers the fault that stopped that one, if one did.
+// counts them, and answers the fault that stopped that one, if one did. (It takes the list itself: a
+// caller would owe more for each slice of one.)
 fn go_ahead<B, S: GoesOn<B>>(
     side: &mut S,
-    held: &[B],
+    held: &Vec<B>,
     gone: usize,
     at: &mut usize,
 ) -> Option<SideFault>
-    requires { S.MayGo × IsBetween gone at.old (length held.now) }
-    ensures within { IsBetween gone at.new (length held.now) }
+    requires { S.MayGo × IsBetween gone at.old (length held.now.items) }
+    ensures within { IsBetween gone at.new (length held.now.items) }
     ensures on { at.old ≤ at.new }
-    ensures passes { S.Passes gone held.now at.old side.old at.new side.new }
+    ensures passes { S.Passes gone held.now.items at.old side.old at.new side.new }
     ensures stays { at.new ≡ at.old → S.Stays side.old side.new }
-    ensures rests { at.new ≡ at.old → (near : List B) → IsEnd gone held.now near →
+    ensures rests { at.new ≡ at.old → (near : List B) → IsEnd gone held.now.items near →
         S.Rests near at.old side.old result }
 {
     'beats: while *at - gone < held.len() {
         let offered = side.go_on(held, gone, *at);
-        if !offered.is_accepted() {
+        let Offered::Accepted = offered else {
             return offered.refused_by();
-        }
+        };
         *at += 1;
     }
     None

@@ -5,7 +5,7 @@ ghost use Rattle.tl_settle.specs.Outcomes.{Beats, verdicts};
 ghost use Rattle.tl_sides.specs.Bridges.{Bridge, Past, StandsFor};
 ghost use Rattle.tl_run.specs.declared.outcome.RunFault.TheVariants.{OutOfMemory};
 ghost use Rattle.tl_run.specs.Arrivals.{no_beats};
-ghost use Rattle.tl_run.specs.Scripts.{EndsIn, HasEnding, HasShortLists, near_beats};
+ghost use Rattle.tl_run.specs.Scripts.{EndsIn, HasShortLists, near_beats};
 ghost use Rattle.tl_run.specs.Inner.Widths.{AreWidths};
 ghost use Rattle.tl_run.specs.Inner.Arriving.{HasRoomFor, beats_of};
 ghost use Rattle.tl_run.specs.Inner.Running.{IsAt, lengths, IsNew, IsUnderWay, HasRound, HasEnded, AreStopped, counted, standing_count, all_standing, all_under_way, all_stopped};
@@ -93,7 +93,9 @@ fn stops_at_rest<const C: usize, const M: usize>(
     ensures goes { (x : Past C M) → StandsFor bridge.now x → IsNone result →
         AreStopped offers.now → all_under_way x ≡ 0 → ⊥ }
 {
-    let stops = all_stops(offers)?;
+    let Some(stops) = all_stops(offers) else {
+        return None;
+    };
     if !are_empty(&bridge.standings()) {
         return None;
     }
@@ -117,23 +119,6 @@ pub(crate) fn verdicts_at(
         verdict(&stops.d, at.d, taken.d),
         verdict(&stops.e, at.e, taken.e),
     ]
-}
-
-// How a run ends that has ended there, where so many far beats of each channel were taken.
-fn ending_of(
-    at: &PerChannel<usize>,
-    stops: &PerChannel<Stop>,
-    rounds: u64,
-    taken: &PerChannel<usize>,
-) -> Ending
-    ensures { (C M : ℕ) (near : Beats C M) (far : Beats M C) (s : Bridge C M) →
-        IsWidth C → IsWidth M → taken.now ≡ lengths far →
-        HasEnded near at.now far s stops.now rounds → HasEnding near result }
-{
-    Ending {
-        verdicts: verdicts_at(at, stops, taken),
-        rounds,
-    }
 }
 
 // Rounds, up to the first one in which no channel could offer more, and after which nothing is
@@ -181,7 +166,11 @@ pub(crate) fn outcome_at<const C: usize, const M: usize>(
         d: far.d.len(),
         e: far.e.len(),
     };
-    far.into_outcome(ending_of(&end.at, &end.stops, end.rounds, &taken))
+    let verdicts = verdicts_at(&end.at, &end.stops, &taken);
+    far.into_outcome(Ending {
+        verdicts,
+        rounds: end.rounds,
+    })
 }
 
 /// The outcome of a run by the far beats that it took: where it has ended, these, the verdict of each

@@ -68,7 +68,9 @@ fn empty<F: FarSink<C, M>, const C: usize, const M: usize>(
 {
     'moves: while !are_empty(&bridge.standings()) {
         bridge.fetch();
-        let more = take_from_each(bridge, far)?;
+        let Ok(more) = take_from_each(bridge, far) else {
+            return Err(AllocError);
+        };
         add_counts(taken, &more);
         bridge.pump();
     }
@@ -98,7 +100,9 @@ fn go_through<F: FarSink<C, M>, const C: usize, const M: usize>(
         if total(&run.at) == before {
             return Ok(stopped_by);
         }
-        empty(&mut run.bridge, far, &mut run.taken)?;
+        let Ok(()) = empty(&mut run.bridge, far, &mut run.taken) else {
+            return Err(AllocError);
+        };
     }
 }
 
@@ -191,7 +195,9 @@ impl<const C: usize, const M: usize> SyncRun<C, M> {
             HasRun F.Holds near far.old self.old →
             OnOk result (HasRun F.Holds near far.new self.new) }
     {
-        go_through(self, held, far)?;
+        let Ok(_) = go_through(self, held, far) else {
+            return Err(AllocError);
+        };
         Ok(let_leave(&mut self.gone, held, &self.at))
     }
 
@@ -214,7 +220,9 @@ impl<const C: usize, const M: usize> SyncRun<C, M> {
         ensures far { (near : Beats C M) → AreEnd self.old.gone held.now near →
             HasRun F.Holds near far.old self.old → OnOk result (F.Holds far.new (far_beats near)) }
     {
-        let stopped_by = go_through(self, held, far)?;
+        let Ok(stopped_by) = go_through(self, held, far) else {
+            return Err(AllocError);
+        };
         let stops = close_each(&mut self.bridge, &stopped_by);
         Ok(verdicts_at(&self.at, &stops, &self.taken))
     }

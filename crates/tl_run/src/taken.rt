@@ -64,7 +64,9 @@ impl<const C: usize, const M: usize> Taken<C, M> {
         let c = far.c.reserve_exact(room.c);
         let d = far.d.reserve_exact(room.d);
         let e = far.e.reserve_exact(room.e);
-        a.and(b).and(c).and(d).and(e)?;
+        let Ok(()) = a.and(b).and(c).and(d).and(e) else {
+            return Err(AllocError);
+        };
         Ok(far)
     }
 
@@ -171,7 +173,9 @@ pub(crate) fn take_from_each<F: FarSink<C, M>, const C: usize, const M: usize>(
         d: d.len(),
         e: e.len(),
     };
-    far.take(a, b, c, d, e)?;
+    let Ok(()) = far.take(a, b, c, d, e) else {
+        return Err(AllocError);
+    };
     bridge.take_all();
     Ok(more)
 }

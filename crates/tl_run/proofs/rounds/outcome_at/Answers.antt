@@ -1,5 +1,5 @@
 use Rattle.tl_run.proofs.Names.{◌≡◌, ◌∙◌, refl, beats_of, lengths}
-use Rattle.tl_run.proofs.EndsIn.{far-is}
+use Rattle.tl_run.proofs.EndsIn.{far-is, rounds-few}
 use Rattle.tl_run.proofs.rounds.outcome_at.Goals as goal
 
 pub returns : goal.returns
@@ -16,5 +16,8 @@ returns g c = λ near s ended.
       c.len-5.ensures ∙ c.args.far.e.ok.0,
     ) refl in
     c.into_outcome.ensures near
-    (c.ending_of.ensures g.row.C g.row.M near far s c.requires.client c.requires.manager counts ended)
+    (record {
+      verdicts_are = c.verdicts_at-verdicts.ensures g.row.C g.row.M near far s end.rounds c.requires.client c.requires.manager counts ended;
+      few_rounds = rounds-few c.requires.client c.requires.manager near end.at far s end.stops end.rounds ended;
+    })
     (far-is c.requires.client c.requires.manager near end.at far s end.stops end.rounds ended)

@@ -1,13 +1,9 @@
-use Rattle.tl_run.proofs.Names.{◌≡◌, IfSome, refl, sym, subst, ◌∙◌, bridge_small, all_stopped, all_under_way}
+use Rattle.tl_run.proofs.Names.{refl, sym, ◌∙◌, bridge_small}
 use Rattle.tl_run.proofs.Ended.{all-standing-is}
 use Rattle.tl_run.proofs.rounds.stops_at_rest.Goals as goal
 
-pub returns-in_err-stops : goal.returns-in_err-stops
-returns-in_err-stops g c = record {
-  stops = subst (λ r. IfSome r (λ stops. c.args.offers.now ≡ all_stopped stops)) (sym c.from_residual.ensures) tt;
-  rests = λ x f. subst (λ r. IfSome r (λ _. all_under_way x ≡ 0)) (sym c.from_residual.ensures) tt;
-  goes = λ x f none stopped rest. c.in_err-stops.ensures.goes refl stopped;
-}
+pub returns-in_default : goal.returns-in_default
+returns-in_default g c = record { stops = tt; rests = λ x f. tt; goes = λ x f none stopped rest. c.in_default.ensures.goes refl stopped }
 
 pub returns-then-not-are_empty : goal.returns-then-not-are_empty
 returns-then-not-are_empty g c = record {
@@ -22,7 +18,7 @@ returns-then-not-are_empty g c = record {
 
 pub returns : goal.returns
 returns g c = record {
-  stops = c.in_ok-stops.ensures.stops;
+  stops = c.in-Some.ensures.stops;
   rests = λ x f.
       sym (all-standing-is c.args.bridge.now x c.standings.result f c.standings.ensures.a c.standings.ensures.b
       c.standings.ensures.c c.standings.ensures.d

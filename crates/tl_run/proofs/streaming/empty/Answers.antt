@@ -1,4 +1,3 @@
-use Rattle.std.proofs.lemmas.Result.{IfOk-from_err}
 use Rattle.tl_run.proofs.Names.{◌≡◌, refl, sym, ap, subst, ◌∙◌, arith, bridge_small, after_fetch, joined, CanAdd, added, arriving, inboxes, lengths}
 use Rattle.tl_run.proofs.Ended.{all-standing-is, can-add}
 use Rattle.tl_run.proofs.Round.{inboxes-are, joined-lengths}
@@ -27,7 +26,7 @@ moves-smaller g c =
     let some = some-way c.moves.bridge c.standings.result stood.a stood.b stood.c stood.d stood.e
     (λ none. let h = c.moves-test.ensures.1 none in cc (h)) in
     let fetched = c.fetch.ensures.moved sound.0 sound.1 in
-    let taken = c.in_ok-more.ensures.taken _ fetched in
+    let taken = c.in-Ok.ensures.taken _ fetched in
     let less = all-nearer c.moves.bridge c.fetch.new.self c.take_from_each.new.bridge c.pump.new.self sound.0 sound.1 fetched taken
     (c.pump.ensures.moved _ taken) some in
     omega (arith, less)
@@ -36,7 +35,7 @@ pub moves-preserved : goal.moves-preserved
 moves-preserved g c =
     let here = c.moves.invariant in
     record {
-      sound = (_, c.pump.ensures.moved _ (c.in_ok-more.ensures.taken _ (c.fetch.ensures.moved here.sound.0 here.sound.1)));
+      sound = (_, c.pump.ensures.moved _ (c.in-Ok.ensures.taken _ (c.fetch.ensures.moved here.sound.0 here.sound.1)));
       on = λ near n few was.
           let r = here.on near n few was in
           let u = r.under_way in
@@ -45,29 +44,27 @@ moves-preserved g c =
           let inboxes_are = inboxes-are c.fetch.new.self x fetched in
           let at = fetched-at near n r.all c.moves.bridge u.past u.is_at in
           let counts = subst (λ q. CanAdd c.moves.taken q → c.add_counts.new.counts ≡ added c.moves.taken q)
-          c.in_ok-more.ensures.counted c.add_counts.ensures in
+          c.in-Ok.ensures.counted c.add_counts.ensures in
           let can = subst (λ q. CanAdd q (lengths (inboxes c.fetch.new.self))) (sym r.counts)
           (can-add near c.requires.0.client c.requires.0.manager n r.all c.fetch.new.self x fetched at few) in
           record {
             all = joined r.all (arriving x);
-            holds = subst (λ q. g.F.FarSink.Holds c.take_from_each.new.far (joined r.all q)) inboxes_are (c.in_ok-more.ensures.far r.all r.holds);
+            holds = subst (λ q. g.F.FarSink.Holds c.take_from_each.new.far (joined r.all q)) inboxes_are (c.in-Ok.ensures.far r.all r.holds);
             counts = counts can ∙ ap (λ q. added q (lengths (inboxes c.fetch.new.self))) r.counts ∙
                 ap (λ q. added (lengths r.all) (lengths q)) inboxes_are ∙
                 joined-lengths r.all (arriving x);
             under_way = record {
               past = _;
-              stands = c.pump.ensures.moved _ (c.in_ok-more.ensures.taken _ fetched);
+              stands = c.pump.ensures.moved _ (c.in-Ok.ensures.taken _ fetched);
               is_at = taken-at near n r.all c.requires.0.client c.requires.0.manager c.fetch.new.self c.take_from_each.new.bridge x fetched at;
             };
           };
-      same = c.in_ok-more.ensures.same ∙ here.same;
+      same = c.in-Ok.ensures.same ∙ here.same;
     }
 
-pub returns-in_err-more : goal.returns-in_err-more
-returns-in_err-more g c =
-    let r = c.from_residual.result in
-    let e = c.from_residual.ensures.0 in
-    record { rests = IfOk-from_err r _ e; on = λ near n few run. IfOk-from_err r _ e; same = IfOk-from_err r _ e }
+pub returns-in_default : goal.returns-in_default
+returns-in_default g c =
+    record { rests = tt; on = λ near n few run. tt; same = tt }
 
 pub returns : goal.returns
 returns g c =

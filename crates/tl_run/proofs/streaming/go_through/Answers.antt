@@ -1,4 +1,3 @@
-use Rattle.std.proofs.lemmas.Result.{IfOk-from_err}
 use Rattle.tl_run.proofs.Names.{lit<, refl, sym, subst, ◌∙◌, bridge_small, AreEnd, ArePart, AllRest, IsAt}
 use Rattle.tl_run.proofs.Counting.{nearer}
 use Rattle.tl_run.proofs.Parts.{are-part}
@@ -36,12 +35,12 @@ turns-preserved g c =
     let here = c.turns.invariant in
     let turn = c.all_go_ahead-stopped_by.ensures in
     record {
-      can = record { within = turn.within; rests = c.in_ok-empty.ensures.rests };
+      can = record { within = turn.within; rests = c.in-Ok.ensures.rests };
       gone = here.gone;
       on = λ near part was.
           let r = here.on near part was in
           let passed = turn.passes r.under_way.past r.under_way.stands in
-          c.in_ok-empty.ensures.on near c.all_go_ahead-stopped_by.new.at (room-to-count _ _ c.args.held.now turn.within) (record {
+          c.in-Ok.ensures.on near c.all_go_ahead-stopped_by.new.at (room-to-count _ _ c.args.held.now turn.within) (record {
             all = r.all;
             holds = r.holds;
             counts = r.counts;
@@ -51,7 +50,7 @@ turns-preserved g c =
               is_at = passed.is_at near r.all (subst (λ q. ArePart q c.args.held.now near) (sym here.gone) part) r.under_way.is_at;
             };
           });
-      same = c.in_ok-empty.ensures.same ∙ here.same;
+      same = c.in-Ok.ensures.same ∙ here.same;
     }
 
 pub returns-then-total-before : goal.returns-then-total-before
@@ -96,14 +95,12 @@ returns-then-total-before g c =
       same = here.same;
     }
 
-pub returns-in_err-empty : goal.returns-in_err-empty
-returns-in_err-empty g c =
-    let r = c.from_residual.result in
-    let e = c.from_residual.ensures.0 in
+pub returns-in_default : goal.returns-in_default
+returns-in_default g c =
     record {
-      can = IfOk-from_err r _ e;
+      can = tt;
       gone = c.turns.invariant.gone;
-      on = λ near part was. IfOk-from_err r _ e;
-      stopped = λ near end was. IfOk-from_err r _ e;
-      same = IfOk-from_err r _ e;
+      on = λ near part was. tt;
+      stopped = λ near end was. tt;
+      same = tt;
     }

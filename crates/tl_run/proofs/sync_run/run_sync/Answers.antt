@@ -1,13 +1,14 @@
 use Rattle.tl_run.proofs.Names.{lit<, near_beats, refl, ⊎_elim, inl, inr}
-use Rattle.tl_run.proofs.OnlyMemory.{only-memory}
+use Rattle.tl_run.proofs.OnlyMemory.{not-ok, only-memory, stalled-never}
+use Rattle.tl_ring.specs.declared.fault.BuildFault.TheVariants as building
 use Rattle.tl_run.proofs.sync_run.run_sync.Goals as goal
 
 pub returns-then-ring-eq0 : goal.returns-then-ring-eq0
 returns-then-ring-eq0 g c = record {
   outcome = tt;
-  size = λ ok. absurd (cc (ok));
+  size = λ ok. not-ok ok;
   ring_size = (λ same. ⊎_elim (λ z. inl z) (λ p. inr p.1) c.then-ring-eq0.either, λ either. refl);
-  never_stalled = λ e. absurd (cc (e));
+  never_stalled = stalled-never building.RingSize _ refl;
 }
 
 pub new-requires : goal.new-requires
@@ -16,7 +17,7 @@ new-requires g c = (lit< tt, (lit< tt, (record { client = c.requires.client; man
 pub returns-in_default : goal.returns-in_default
 returns-in_default g c =
     let only = only-memory _ refl c.args.ring c.if-ring-eq0.false c.if-ring-gt-MAX_RING.false in
-    record { outcome = tt; size = λ ok. absurd (cc (ok)); ring_size = only.0; never_stalled = only.1 }
+    record { outcome = tt; size = λ ok. not-ok ok; ring_size = only.0; never_stalled = only.1 }
 
 pub run_into_lists-requires : goal.run_into_lists-requires
 run_into_lists-requires g c = (
@@ -48,4 +49,4 @@ returns-in-Ok-run_into_lists g c =
 pub returns-in-Err : goal.returns-in-Err
 returns-in-Err g c =
     let only = only-memory c.in-Err.fault c.in-Err.ensures.memory c.args.ring c.if-ring-eq0.false c.if-ring-gt-MAX_RING.false in
-    record { outcome = tt; size = λ ok. absurd (cc (ok)); ring_size = only.0; never_stalled = only.1 }
+    record { outcome = tt; size = λ ok. not-ok ok; ring_size = only.0; never_stalled = only.1 }

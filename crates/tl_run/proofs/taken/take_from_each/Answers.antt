@@ -1,4 +1,3 @@
-use Rattle.std.proofs.lemmas.Result.{IfOk-from_err}
 use Rattle.tl_run.proofs.Names.{ap, sym, subst, beat_small, bridge_small, Fit, inboxes, joined, lengths}
 use Rattle.tl_run.proofs.Rooms.{same-beats}
 use Rattle.tl_run.proofs.taken.take_from_each.Goals as goal
@@ -27,20 +26,18 @@ take-requires g c =
 pub take_all-requires : goal.take_all-requires
 take_all-requires g c = (bridge_small g.row.C g.row.M c.requires.client c.requires.manager, (c.requires.client, c.requires.manager))
 
-pub returns-in_err-take : goal.returns-in_err-take
-returns-in_err-take g c =
-    let r = c.from_residual.result in
-    let e = c.from_residual.ensures.0 in
+pub returns-in_default : goal.returns-in_default
+returns-in_default g c =
     let same = same-beats _ (inboxes c.args.bridge.now) c.inbox_a-a.ensures c.inbox_b-b.ensures c.inbox_c-c.ensures c.inbox_d-d.ensures
     c.inbox_e-e.ensures in
     record {
-      taken = λ x stands. IfOk-from_err r _ e;
-      far = λ all h. IfOk-from_err r _ e;
+      taken = λ x stands. tt;
+      far = λ all h. tt;
       room = λ all room h has fit.
-          let ok = (c.in_err-take.ensures.room all room h has (subst (λ q. Fit (joined all q) room) (sym same) fit)).0 in
+          let ok = (c.in_default.ensures.room all room h has (subst (λ q. Fit (joined all q) room) (sym same) fit)).0 in
           absurd (cc (ok));
-      same = IfOk-from_err r _ e;
-      counted = IfOk-from_err r _ e;
+      same = tt;
+      counted = tt;
     }
 
 pub returns : goal.returns
@@ -49,8 +46,8 @@ returns g c =
     c.inbox_e-e.ensures in
     record {
       taken = c.take_all.ensures;
-      far = λ all h. subst (λ q. g.F.FarSink.Holds c.take.new.self (joined all q)) same (c.in_ok-take.ensures.far all h);
-      room = λ all room h has fit. c.in_ok-take.ensures.room all room h has (subst (λ q. Fit (joined all q) room) (sym same) fit);
-      same = c.in_ok-take.ensures.same;
+      far = λ all h. subst (λ q. g.F.FarSink.Holds c.take.new.self (joined all q)) same (c.in-Ok.ensures.far all h);
+      room = λ all room h has fit. c.in-Ok.ensures.room all room h has (subst (λ q. Fit (joined all q) room) (sym same) fit);
+      same = c.in-Ok.ensures.same;
       counted = ap (λ q. lengths q) same;
     }

@@ -1,4 +1,3 @@
-use Rattle.std.proofs.lemmas.Result.{IfOk-from_err}
 use Rattle.tl_run.proofs.Names.{lit<, subst, bridge_small}
 use Rattle.tl_run.proofs.EndsIn.{far-is}
 use Rattle.tl_run.proofs.Pieces.{has-ended}
@@ -16,19 +15,17 @@ go_through-requires g c = (
   (lit< tt, (record { client = c.requires.client; manager = c.requires.manager }, c.requires.held)),
 )
 
-pub returns-in_err-stopped_by : goal.returns-in_err-stopped_by
-returns-in_err-stopped_by g c =
-    let r = c.from_residual.result in
-    let e = c.from_residual.ensures.0 in
+pub returns-in_default : goal.returns-in_default
+returns-in_default g c =
     record {
-      same = IfOk-from_err r _ e;
-      verdicts = λ near ends was. IfOk-from_err r _ e;
-      far = λ near ends was. IfOk-from_err r _ e;
+      same = tt;
+      verdicts = λ near ends was. tt;
+      far = λ near ends was. tt;
     }
 
 pub returns : goal.returns
 returns g c =
-    let stopped = c.in_ok-stopped_by.ensures in
+    let stopped = c.in-Ok.ensures in
     record {
       same = stopped.same;
       verdicts = λ near ends was.

@@ -1,4 +1,3 @@
-use Rattle.std.proofs.lemmas.Result.{IfOk-from_err}
 use Rattle.tl_run.proofs.Names.{lit<, subst}
 use Rattle.tl_run.specs.Parts.{HaveGone}
 use Rattle.tl_run.proofs.streaming.SyncRun.go_on.Goals as goal
@@ -9,30 +8,28 @@ go_through-requires g c = (
   (lit< tt, (record { client = c.requires.client; manager = c.requires.manager }, c.requires.held)),
 )
 
-pub returns-in_err-go_through : goal.returns-in_err-go_through
-returns-in_err-go_through g c =
-    let r = c.from_residual.result in
-    let e = c.from_residual.ensures.0 in
+pub returns-in_default : goal.returns-in_default
+returns-in_default g c =
     record {
-      counts = IfOk-from_err r _ e;
-      half_a = IfOk-from_err r _ e;
-      half_b = IfOk-from_err r _ e;
-      half_c = IfOk-from_err r _ e;
-      half_d = IfOk-from_err r _ e;
-      half_e = IfOk-from_err r _ e;
-      gone = IfOk-from_err r _ e;
-      held = IfOk-from_err r _ e;
-      same = IfOk-from_err r _ e;
-      on = λ near part was. IfOk-from_err r _ e;
+      counts = tt;
+      half_a = tt;
+      half_b = tt;
+      half_c = tt;
+      half_d = tt;
+      half_e = tt;
+      gone = tt;
+      held = tt;
+      same = tt;
+      on = λ near part was. tt;
     }
 
 pub let_leave-requires : goal.let_leave-requires
-let_leave-requires g c = (lit< tt, c.in_ok-go_through.ensures.can.within)
+let_leave-requires g c = (lit< tt, c.in-Ok.ensures.can.within)
 
 pub returns : goal.returns
 returns g c =
     let left = c.let_leave.ensures in
-    let run = c.in_ok-go_through.ensures in
+    let run = c.in-Ok.ensures in
     record {
       counts = left.counts;
       half_a = left.half_a;

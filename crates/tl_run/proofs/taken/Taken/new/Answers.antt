@@ -1,4 +1,3 @@
-use Rattle.std.proofs.lemmas.Result.{IfOk-from_err}
 use Rattle.tl_run.proofs.Names.{lit<, ◌∙◌, ◌+◌, ◌≤◌, ℕ, arith, refl, sym, subst, IsOk}
 use Rattle.tl_run.proofs.AllOk.{five_ok, of-ok}
 use Rattle.tl_run.proofs.Rooms.{none-yet}
@@ -7,10 +6,8 @@ use Rattle.tl_run.proofs.taken.Taken.new.Goals as goal
 pub far_rooms-room-requires : goal.far_rooms-room-requires
 far_rooms-room-requires g c = (lit< tt, c.requires)
 
-pub returns-in_err-and : goal.returns-in_err-and
-returns-in_err-and g c =
-    let e = c.from_residual.ensures.0 in
-    record { empty = IfOk-from_err c.from_residual.result _ e; room = IfOk-from_err c.from_residual.result _ e }
+pub returns-in_default : goal.returns-in_default
+returns-in_default g c = record { empty = tt; room = tt }
 
 -- room for so many more is room for that many
 enough : {n room capacity : ℕ} (len : ℕ) → n ≤ room → len + room ≤ capacity → n ≤ capacity
@@ -30,7 +27,7 @@ returns g c =
           (c.reserve_exact-a.ensures.items ∙ c.new.ensures.items) (c.reserve_exact-b.ensures.items ∙ c.new-2.ensures.items)
           (c.reserve_exact-c.ensures.items ∙ c.new-3.ensures.items) (c.reserve_exact-d.ensures.items ∙ c.new-4.ensures.items)
           (c.reserve_exact-e.ensures.items ∙ c.new-5.ensures.items);
-      room = of-ok c.and-4.result (subst (λ r. IsOk r) (sym c.in_ok-and.was) refl)
+      room = of-ok c.and-4.result (subst (λ r. IsOk r) (sym c.in-Ok.is) refl)
           (five_ok c.reserve_exact-a.result c.reserve_exact-b.result c.reserve_exact-c.result c.reserve_exact-d.result c.reserve_exact-e.result
           c.and.result c.and-2.result c.and-3.result c.and-4.result c.and.ensures c.and-2.ensures c.and-3.ensures c.and-4.ensures
           (λ a b x d e. record {

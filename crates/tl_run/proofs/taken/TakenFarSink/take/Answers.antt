@@ -1,4 +1,4 @@
-use Rattle.tl_run.proofs.Names.{◌≡◌, ◌+◌, ◌≤◌, ◌++◌, ℕ, List, length, length-append, subst, ap, arith, Beats, joined, beats_of}
+use Rattle.tl_run.proofs.Names.{◌≡◌, ◌+◌, ◌≤◌, ◌++◌, ℕ, List, Result, Ok, Err, OnOk, refl, length, length-append, subst, ap, arith, Beats, joined, beats_of}
 use Rattle.tl_run.proofs.AllOk.{five_ok, five-are-ok}
 use Rattle.tl_run.proofs.Rooms.{same-beats}
 use Rattle.tl_run.proofs.taken.TakenFarSink.take.Goals as goal
@@ -23,6 +23,14 @@ returns-clause-far g c = λ far h.
     })
     (record { a = c.args.a.now; b = c.args.b.now; c = c.args.c.now; d = c.args.d.now; e = c.args.e.now }) h)
     c.append-a.ensures.items c.append-b.ensures.items c.append-c.ensures.items c.append-d.ensures.items c.append-e.ensures.items
+
+-- what a list was made with is no matter
+same-ok : {X E : Type 0} (r : Result X E) (n : ℕ) → OnOk r (n ≡ n)
+same-ok (Ok x) n = refl
+same-ok (Err e) n = tt
+
+pub returns-clause-same : goal.returns-clause-same
+returns-clause-same g c = same-ok c.and-4.result 0
 
 -- a list whose beats, with those that come, are not too many has places for those that come
 places : {B : Type 0} (xs ys zs : List B) (len : ℕ) {room capacity : ℕ} → len ≡ length xs → xs ≡ zs → length (zs ++ ys) ≤ room →
