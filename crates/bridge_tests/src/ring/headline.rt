@@ -19,6 +19,9 @@ use std::thread::{Threads, join_mut};
 use tl_msg::{Beat, ChA};
 use tl_ring::{Receipt, SendEnd, Standing, TakeEnd, meet, ring_pair};
 
+/// The taker gives up after so many turns.
+const TURNS: usize = 500_000_000;
+
 /// Offers a beat where nothing is staged, and sends what it makes due. Answers how many far beats
 /// went into the ring, or None where the beat was refused.
 fn send_one(send: &mut SendEnd<ChA, 8, 4>, beat: Beat<ChA, 8>) -> Option<usize>
@@ -36,15 +39,20 @@ fn send_one(send: &mut SendEnd<ChA, 8, 4>, beat: Beat<ChA, 8>) -> Option<usize>
     }
 }
 
-/// Fetches what has come, and takes the first far beat, if there is one.
+/// Fetches what comes, and takes the first far beat, if there is one before the turns are over.
 fn take_one(take: &mut TakeEnd<ChA, 8, 4>) -> Option<Beat<ChA, 4>>
     ensures same { SameTake take.old take.new }
     // for all that was taken before
     ensures taken { (taken : List (BeatOf HeadA 4)) → Takes take.old taken →
         IfSome result (λ beat. Takes take.new (taken ++ beat ∷ [])) }
 {
-    take.fetch();
-    take.take()
+    for _ in 0..TURNS {
+        take.fetch();
+        if let Some(beat) = take.take() {
+            return Some(beat);
+        }
+    }
+    None
 }
 
 /// Offers a beat and sends it in one thread, and takes in another one.
@@ -156,8 +164,7 @@ fn cross_whole(
     take_whole(take, &mut receipt)
 }
 
-/// Whether this is the first half of the beat, and the other one is under way. (Whether the taker was there in time is not
-/// known.)
+/// Whether this is the first half of the beat, and the other one is under way.
 fn is_half(shown: Option<(Beat<ChA, 4>, Standing)>) -> bool {
     match shown {
         Some((first, standing)) => {
@@ -166,7 +173,7 @@ fn is_half(shown: Option<(Beat<ChA, 4>, Standing)>) -> bool {
                 | (standing == at(0, 0, 1));
             (first.lanes == [0, 1, 2, 3]) & one_left
         }
-        None => true,
+        None => false,
     }
 }
 
