@@ -1,9 +1,9 @@
 //! What a new bridge is made of: a ring for each channel, whatever it is, and the books of both sides.
-ghost use Rattle.std.specs.Prelude.{◌≡◌, ◌≤◌, ◌<◌, ◌↔◌, ◌⊎◌, [], ℕ, IsOk, IfOk, IfErr};
+ghost use Rattle.std.specs.Prelude.{◌≡◌, [], ℕ};
 ghost use Rattle.circular_buffer.specs.Buffer.{buffer};
 ghost use Rattle.tl_ring.specs.Ends.{IsNewRing};
-ghost use Rattle.tl_ring.specs.declared.pipe.TheConstants.{MAX_RING};
 ghost use Rattle.tl_settle.specs.Books.{KnowsClient, KnowsManager};
+ghost use Rattle.tl_sides.specs.Inner.Making.{IsMade};
 
 use std::alloc::Allocator;
 use tl_msg::Channel;
@@ -20,10 +20,7 @@ pub(crate) trait NewRing<A> {
 
     /// A ring of `size` beats, refused as [`Ring::new`] is.
     fn new_ring(alloc: A, size: usize) -> Result<Self, BuildFault>
-        ensures new { IfOk result (λ ring. IsNew size ring) }
-        ensures size { IsOk result → (1 ≤ size) × (size ≤ MAX_RING) }
-        ensures ring_size { IfErr result (λ fault.
-            (fault ≡ BuildFault.RingSize) ↔ ((size ≡ 0) ⊎ (MAX_RING < size))) };
+        ensures { IsMade (λ ring. IsNew size ring) size result };
 
     /// Lets it go, where the rest of the bridge can't be made. (A bound `Drop` would owe the sizes of
     /// its parts once more.)
@@ -74,13 +71,9 @@ pub(crate) fn new_parts<
     RingD: NewRing<A>,
     RingE: NewRing<A>,
 >(alloc: A, ring: usize) -> Result<Parts<RingA, RingB, RingC, RingD, RingE, C, M, A>, BuildFault>
-    ensures rings { IfOk result (λ parts. RingA.IsNew ring parts.0 × RingB.IsNew ring parts.1 ×
-        RingC.IsNew ring parts.2 × RingD.IsNew ring parts.3 × RingE.IsNew ring parts.4) }
-    ensures client { IfOk result (λ parts. KnowsClient {w = C} parts.5 []) }
-    ensures manager { IfOk result (λ parts. KnowsManager {w = M} parts.6 []) }
-    ensures size { IsOk result → (1 ≤ ring) × (ring ≤ MAX_RING) }
-    ensures ring_size { IfErr result (λ fault.
-        (fault ≡ BuildFault.RingSize) ↔ ((ring ≡ 0) ⊎ (MAX_RING < ring))) }
+    ensures { IsMade (λ parts. (RingA.IsNew ring parts.0 × RingB.IsNew ring parts.1 ×
+        RingC.IsNew ring parts.2 × RingD.IsNew ring parts.3 × RingE.IsNew ring parts.4) ×
+        KnowsClient {w = C} parts.5 [] × KnowsManager {w = M} parts.6 []) ring result }
 {
     let a = given!(RingA::new_ring(alloc, ring));
     let b = given!(RingB::new_ring(alloc, ring), a);

@@ -67,69 +67,59 @@ let_go-requires-in_default-5 g c κs within = within
 -- where a ring is not made, only the fault says something
 pub returns-in-Err : goal.returns-in-Err
 returns-in-Err g c = record {
-  rings = tt;
-  client = tt;
-  manager = tt;
+  new = tt;
   size = λ made. absurd (false≢true made);
   ring_size = c.in-Err.ensures.ring_size;
 }
 
 pub returns-in-Err-new_ring : goal.returns-in-Err-new_ring
 returns-in-Err-new_ring g c = record {
-  rings = tt;
-  client = tt;
-  manager = tt;
+  new = tt;
   size = λ made. absurd (false≢true made);
   ring_size = c.in-Err-new_ring.ensures.ring_size;
 }
 
 pub returns-in-Err-new_ring-2 : goal.returns-in-Err-new_ring-2
 returns-in-Err-new_ring-2 g c = record {
-  rings = tt;
-  client = tt;
-  manager = tt;
+  new = tt;
   size = λ made. absurd (false≢true made);
   ring_size = c.in-Err-new_ring-2.ensures.ring_size;
 }
 
 pub returns-in-Err-new_ring-3 : goal.returns-in-Err-new_ring-3
 returns-in-Err-new_ring-3 g c = record {
-  rings = tt;
-  client = tt;
-  manager = tt;
+  new = tt;
   size = λ made. absurd (false≢true made);
   ring_size = c.in-Err-new_ring-3.ensures.ring_size;
 }
 
 pub returns-in-Err-new_ring-4 : goal.returns-in-Err-new_ring-4
 returns-in-Err-new_ring-4 g c = record {
-  rings = tt;
-  client = tt;
-  manager = tt;
+  new = tt;
   size = λ made. absurd (false≢true made);
   ring_size = c.in-Err-new_ring-4.ensures.ring_size;
 }
 
 pub returns-in_default : goal.returns-in_default
 returns-in_default g c = record {
-  rings = tt;
-  client = tt;
-  manager = tt;
+  new = tt;
   size = λ made. absurd (false≢true made);
   ring_size = want_of_memory c.args.ring (c.in-Ok.ensures.size refl);
 }
 
 pub returns : goal.returns
 returns g c = record {
-  rings = (
-    c.in-Ok.ensures.new,
-    c.in-Ok-new_ring.ensures.new,
-    c.in-Ok-new_ring-2.ensures.new,
-    c.in-Ok-new_ring-3.ensures.new,
-    c.in-Ok-new_ring-4.ensures.new,
+  new = (
+    (
+      c.in-Ok.ensures.new,
+      c.in-Ok-new_ring.ensures.new,
+      c.in-Ok-new_ring-2.ensures.new,
+      c.in-Ok-new_ring-3.ensures.new,
+      c.in-Ok-new_ring-4.ensures.new,
+    ),
+    c.in-Ok-new_books.ensures.client,
+    c.in-Ok-new_books.ensures.manager,
   );
-  client = c.in-Ok-new_books.ensures.client;
-  manager = c.in-Ok-new_books.ensures.manager;
   size = λ made. c.in-Ok.ensures.size refl;
   ring_size = tt;
 }

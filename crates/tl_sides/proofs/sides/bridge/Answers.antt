@@ -51,7 +51,7 @@ returns-in-Err g c = record {
 pub returns : goal.returns
 returns g c =
     let parts = c.in-Ok.ensures in
-    let sides = c.sides_over.ensures c.args.ring c.requires.client c.requires.manager parts.rings parts.client parts.manager in
+    let sides = c.sides_over.ensures c.args.ring c.requires.client c.requires.manager parts.new.0 parts.new.1 parts.new.2 in
     record {
       pair = sides.pair;
       client = sides.client;

@@ -49,7 +49,7 @@ returns g c =
     let parts = c.in-Ok.ensures in
     record {
       new =
-          c.bridge_over.ensures c.args.ring (parts.size refl).0 c.requires.client c.requires.manager parts.rings parts.client parts.manager;
+          c.bridge_over.ensures c.args.ring (parts.size refl).0 c.requires.client c.requires.manager parts.new.0 parts.new.1 parts.new.2;
       size = λ made. parts.size refl;
       ring_size = tt;
     }
