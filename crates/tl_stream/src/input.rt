@@ -1,8 +1,8 @@
 //! A text as it comes in, piece by piece.
-ghost use Rattle.std.specs.Prelude.{◌≡◌, ◌≢◌, ◌≤◌, ◌<◌, ◌+◌, ◌-◌, ◌++◌, ℕ, List, [], Option, drop, length, slice_range, IfSome, IfOk, OnOk, IfErr, IsErrOf, ◌==◌};
+ghost use Rattle.std.specs.Prelude.{◌≡◌, ◌≢◌, ◌≤◌, ◌<◌, ◌+◌, ◌-◌, ℕ, List, [], Option, length, IfSome, IfOk, OnOk, IfErr, IsErrOf, ◌==◌};
 ghost use Rattle.std.specs.Io.KnownBytes.{IsAtEnd};
 ghost use Rattle.tl_stream.specs.Inner.Filling.{Fills};
-ghost use Rattle.tl_stream.specs.Inputs.{HasTaken, IsFresh, held, unread_of};
+ghost use Rattle.tl_stream.specs.Inputs.{HasTaken, held};
 ghost use Rattle.tl_stream.specs.Inputs.{most_bytes};
 ghost use Rattle.tl_stream.specs.declared.fault.TextFault.TheVariants.{Read as ReadFault, TooLong, OutOfMemory};
 

@@ -8,7 +8,6 @@ use Rattle.tl_trace.proofs.Names.{HeadFields}
 use Rattle.tl_trace.specs.Inner.Reading.{IsRest}
 use Rattle.tl_trace.specs.declared.line_reader.Rest.{Rest}
 use Rattle.tl_trace.specs.declared.known_head.KnownHead.{KnownHead}
-use Rattle.tl_trace.proofs.ReadDigits.{range_long}
 use Rattle.tl_trace.proofs.Shaped.{made, bit_of}
 use Rattle.tl_trace.proofs.LineParts.{line_part, line_values, line_said, line_plain, below_is, in_all, low}
 

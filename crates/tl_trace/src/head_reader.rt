@@ -1,5 +1,5 @@
 //! Reading the heads of the five channels.
-ghost use Rattle.std.specs.Prelude.{ℕ, ◌≡◌, ◌≤◌, ◌+◌, ◌&&◌, true, false, refl, length, map, nat_lt, MatchOption};
+ghost use Rattle.std.specs.Prelude.{ℕ, ◌≡◌, ◌≤◌, ◌+◌, ◌&&◌, true, false, refl, length, nat_lt, MatchOption};
 ghost use Rattle.std.specs.List.{list_all};
 ghost use Rattle.tl_trace.specs.Fields.{addressed, common, id_digits, length_of};
 ghost use Rattle.tl_trace.specs.Inner.Reading.{IsHead, IsSmall, IsCommon, Takes, is_head_field};
