@@ -1,6 +1,7 @@
 -- What a tracker holds through a burst is what the messages of its head have.
 use Rattle.std.specs.Bool.{then_some}
-use Rattle.tl_burst.proofs.Names.{◌≡◌, ◌+◌, ◌==◌, ℕ, Bool, true, false, not, refl, if◌then◌else◌, bit_and, Option, None, Some, sym, ap, subst, ◌∙◌, arith}
+use Rattle.tl_burst.proofs.Names.{◌≡◌, ◌+◌, ◌==◌, ℕ, Bool, true, false, not, refl, if◌then◌else◌, bit_and, Option, None, Some, sym, ap, subst}
+use Rattle.tl_burst.proofs.Names.{◌∙◌, arith}
 use Rattle.tl_burst.proofs.Names.{Rules, beats_of, IsPlace, BeatOf, burst_with, count_in, IsHeld, IsHeldIn, Place, unless}
 use Rattle.tl_msg.specs.Faults.{mask_fits}
 use Rattle.tl_msg.specs.declared.fault.BeatFault.{BeatFault}

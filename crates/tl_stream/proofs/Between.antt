@@ -2,7 +2,8 @@
 use Rattle.tl_stream.proofs.Names.{IfSome, ◌≡◌, ◌≢◌, ℕ, ◌+◌, ◌-◌, ◌≤◌, List, ◌++◌, length, take, drop, Option, None, Some, refl, sym, ap, ◌∙◌, subst}
 use Rattle.tl_stream.proofs.Names.{arith, length-append, length-drop, append_assoc, append-nil, take-append-drop, drop-drop, drop-take}
 use Rattle.tl_stream.proofs.Names.{length-take-le, Consumes, IsAtEnd, slice_range, IsWidth, IsFirstFault, Gone, HasReadPast, ScriptReader}
-use Rattle.tl_stream.proofs.Names.{Bool, false, nat_eq, [], HasGrown, HasReadHeld, IsUnfinished, IsBetweenPast, IsReading, HasTaken, IsRefused, held, most_bytes, Input}
+use Rattle.tl_stream.proofs.Names.{Bool, false, nat_eq, [], HasGrown, HasReadHeld, IsUnfinished, IsBetweenPast}
+use Rattle.tl_stream.proofs.Names.{IsReading, HasTaken, IsRefused, held, most_bytes, Input}
 use Rattle.tl_trace.specs.declared.fault.TraceFault.{TraceFault}
 use Rattle.tl_trace.specs.declared.fault.TraceKind.{TraceKind}
 use Rattle.tl_trace.specs.declared.fault.TraceKind.TheVariants as kinds

@@ -1,5 +1,6 @@
 -- What reads of a piece gave so far.
-use Rattle.tl_stream.proofs.Names.{Result, Ok, Err, IfSome, IsErrOf, IsAtEnd, TextFault, ◌≡◌, ◌≢◌, ℕ, [], refl, ◌+◌, ◌-◌, ◌<◌, ◌≤◌, List, ◌++◌, length, take, drop, Option, sym, ap, ◌∙◌}
+use Rattle.tl_stream.proofs.Names.{Result, Ok, Err, IfSome, IsErrOf, IsAtEnd, TextFault, ◌≡◌}
+use Rattle.tl_stream.proofs.Names.{◌≢◌, ℕ, [], refl, ◌+◌, ◌-◌, ◌<◌, ◌≤◌, List, ◌++◌, length, take, drop, Option, sym, ap, ◌∙◌}
 use Rattle.tl_stream.proofs.Names.{subst, arith, append_assoc, length-append, length-drop, length-take-le, take-append-le, take_rest, Consumes-trans}
 use Rattle.tl_stream.proofs.Names.{Consumes, copy_within, slice_range, HasTaken, held, most_bytes, Input}
 use Rattle.std.proofs.Math.Seq.{take-append-add, take-append_seam}

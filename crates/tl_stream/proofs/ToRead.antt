@@ -31,7 +31,8 @@ pub record IsDraining (first left : Option (List ℕ)) (input input' : Input) : 
 
 -- a piece more was read, or the end, where the buffer was full and no more than used in between
 pub smaller : (was a c : Input) (more : Bool) → a.total ≡ was.total → a.to ≡ was.to → a.buffer.items ≡ was.buffer.items →
-    more ≡ nat_eq a.to (length a.buffer.items) → more ≡ true → a.total ≤ c.total → (c.to ≡ length c.buffer.items → a.total < c.total) → c.total ≤ most_bytes → to_read c < to_read was
+    more ≡ nat_eq a.to (length a.buffer.items) → more ≡ true → a.total ≤ c.total →
+    (c.to ≡ length c.buffer.items → a.total < c.total) → c.total ≤ most_bytes → to_read c < to_read was
 smaller was a c more total to buffer is full less grown few = pick (nat_eq c.to (length c.buffer.items)) refl
   where
     was_full : nat_eq was.to (length was.buffer.items) ≡ true

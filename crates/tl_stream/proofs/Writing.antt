@@ -1,5 +1,6 @@
 -- What writes of a text put out so far.
-use Rattle.tl_stream.proofs.Names.{◌≡◌, ℕ, ◌+◌, ◌-◌, ◌≤◌, List, length, take, drop, Option, subst, ap, ◌∙◌, arith, length-drop, Appends-trans, Appends}
+use Rattle.tl_stream.proofs.Names.{◌≡◌, ℕ, ◌+◌, ◌-◌, ◌≤◌, List, length, take, drop, Option}
+use Rattle.tl_stream.proofs.Names.{subst, ap, ◌∙◌, arith, length-drop, Appends-trans, Appends}
 use Rattle.std.proofs.Math.Seq.{take-add, take-length}
 
 -- the first n items of a text are out

@@ -212,7 +212,8 @@ module _ {H : Type 0} (f : Form H) where
       both_parts w text 1 rest_at f.head_fields (mask_fields f ++ data_fields f) says (masks ++ datas) r.bad bad there
       (head_part w text 1 f.head_fields says r.bad heads head.part) rest in
       subst (λ fs. IsPart w text 1 fs (line_values r m d c) (bit_or r.bad bad)) (sym (append_assoc f.head_fields (mask_fields f) (data_fields f)))
-      (subst (λ vs. IsPart w text 1 (f.head_fields ++ (mask_fields f ++ data_fields f)) vs (bit_or r.bad bad)) (sym (append_assoc says masks datas)) all)
+      (subst (λ vs. IsPart w text 1 (f.head_fields ++ (mask_fields f ++ data_fields f)) vs (bit_or r.bad bad))
+        (sym (append_assoc says masks datas)) all)
 
   and_and : (a b c : Bool) → (a && b) && c ≡ a && (b && c)
   and_and true b c = refl
@@ -231,7 +232,8 @@ module _ {H : Type 0} (f : Form H) where
   mask_long m true = refl
   mask_long m false = refl
 
-  lengths : (r : HeadFields) (m : ℕ) → length (map (read_value r) f.head_fields ++ mask_values f.rules.masked m) ≡ length (f.head_fields ++ mask_fields f)
+  lengths : (r : HeadFields) (m : ℕ) →
+      length (map (read_value r) f.head_fields ++ mask_values f.rules.masked m) ≡ length (f.head_fields ++ mask_fields f)
   lengths r m =
       grow (map (read_value r) f.head_fields) (mask_values f.rules.masked m) f.head_fields (mask_fields f) (length-map f.head_fields (read_value r))
       (mask_long m f.rules.masked)
@@ -253,10 +255,12 @@ module _ {H : Type 0} (f : Form H) where
       → (f.rules.corrupts ≡ false → c ≡ 0) → d < 256 ^ w
       → below f w (fields f) (line_values r m d c) ≡ (is_head_in_range f r && nat_lt m (2 ^ w)) && nat_lt c 2
   line_range w r m d c heads no_mask no_data small =
-      below_append w (f.head_fields ++ mask_fields f) (data_fields f) (map (read_value r) f.head_fields ++ mask_values f.rules.masked m) (data_values f.rules.corrupts d c)
+      below_append w (f.head_fields ++ mask_fields f) (data_fields f)
+        (map (read_value r) f.head_fields ++ mask_values f.rules.masked m) (data_values f.rules.corrupts d c)
       (lengths r m)
       ∙ ap (λ (b : Bool). b && below f w (data_fields f) (data_values f.rules.corrupts d c))
-      (below_append w f.head_fields (mask_fields f) (map (read_value r) f.head_fields) (mask_values f.rules.masked m) (length-map f.head_fields (read_value r))
+      (below_append w f.head_fields (mask_fields f) (map (read_value r) f.head_fields) (mask_values f.rules.masked m)
+        (length-map f.head_fields (read_value r))
       ∙ ap (λ (b : Bool). b && below f w (mask_fields f) (mask_values f.rules.masked m)) (head_below w r f.head_fields heads)
       ∙ ap (λ (b : Bool). is_head_in_range f r && b) (mask_test w m f.rules.masked no_mask))
       ∙ ap (λ (b : Bool). (is_head_in_range f r && nat_lt m (2 ^ w)) && b) (data_test w d c f.rules.corrupts no_data small)

@@ -7,5 +7,6 @@ take_far-requires g c = (lit< tt, (c.requires.0, c.requires.1, c.in_ok-far.ensur
 pub returns-in-Ok-clause-text : goal.returns-in-Ok-clause-text
 returns-in-Ok-clause-text g c =
     let far = taken c.args.outcome.now in
-    subst (λ v. IfOk c.into_answer.result (λ made. spelled made ≡ far_header v g.row.C g.row.M ++ far_lines v far ++ report c.args.outcome.now.verdicts))
+    subst (λ v. IfOk c.into_answer.result (λ made. spelled made ≡
+      far_header v g.row.C g.row.M ++ far_lines v far ++ report c.args.outcome.now.verdicts))
     (c.in-Ok.ensures.version ∙ c.in_ok-far.ensures.version) (c.into_answer.ensures.text g.row.C g.row.M far c.in-Ok.ensures.lines)

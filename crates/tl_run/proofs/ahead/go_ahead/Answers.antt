@@ -31,7 +31,11 @@ beats-preserved g c =
     c.go_on-offered.result c.go_on-offered.new.self) c.deref.ensures.value c.go_on-offered.ensures in
     let one = ap (λ o. steps o) c.in-Accepted.is in
     record {
-      within = record { from = omega (arith, here.within.from); to = omega (arith, c.beats-test.true, c.len.ensures, c.args.held.now.ok.0, here.within.from); few = here.within.few };
+      within = record {
+        from = omega (arith, here.within.from);
+        to = omega (arith, c.beats-test.true, c.len.ensures, c.args.held.now.ok.0, here.within.from);
+        few = here.within.few;
+      };
       on = omega (arith, here.on);
       passes = g.met.S.GoesOn.passes_then c.args.gone c.args.held.now.items c.args.at.now c.beats.at (c.beats.at + 1) c.args.side.now c.beats.side
           c.go_on-offered.new.self here.passes
@@ -70,7 +74,8 @@ returns g c =
       passes = here.passes;
       stays = λ e. subst (λ s. g.S.GoesOn.Stays s c.beats.side) (here.same e) (g.met.S.GoesOn.stays_same c.beats.side);
       rests = λ e near end.
-          let past : c.args.gone + length c.args.held.now.items ≤ c.beats.at = omega (arith, c.beats-test.false, c.len.ensures, c.args.held.now.ok.0, here.within.from) in
+          let past : c.args.gone + length c.args.held.now.items ≤ c.beats.at =
+            omega (arith, c.beats-test.false, c.len.ensures, c.args.held.now.ok.0, here.within.from) in
           subst (λ s. g.S.GoesOn.Rests near c.args.at.now s None) (here.same e)
           (subst (λ n. g.S.GoesOn.Rests near n c.beats.side None) e
           (g.met.S.GoesOn.rests_none near c.beats.at c.beats.side (end-none c.args.gone c.beats.at c.args.held.now.items near end past)));

@@ -91,7 +91,8 @@ returns g c =
       good = good;
       is = c.in-Some.ensures g.row.VERSION (c.read_head-fields.ensures.small good);
     } in
-    beat_is f g.row.VERSION c.args.w c.args.text.now c.in-Some.head _ c.read_rest-rest.new.lanes c.read_rest-rest.result c.head_end-rest_at.result heads
+    beat_is f g.row.VERSION c.args.w c.args.text.now c.in-Some.head _ c.read_rest-rest.new.lanes c.read_rest-rest.result
+      c.head_end-rest_at.result heads
     c.requires.letter long c.head_end-rest_at.ensures.end head (rest_of f _ _ has_mask has_datas c.read_rest-rest.ensures) (zero_bits g.row.N)
     (right_good _ _ c.if-fields-rest-gt15.false) (sym c.are_in_range.ensures ∙ c.if-not-are_in_range.false)
 

@@ -42,7 +42,8 @@ fill_field-data-requires g c =
 pub returns-clause-items : goal.returns-clause-items
 returns-clause-items g c =
     three_put _ _ _ _ _ _ _ c.fill_mask-mask.ensures.items
-    (a_part _ _ _ _ c.if-not-has_data.false (data_put _ _ _ (bit c.args.beat.now.corrupt) _ _ (search rules) c.fill_lanes-lanes.ensures.items c.fill_field-data.ensures.items))
+    (a_part _ _ _ _ c.if-not-has_data.false (data_put _ _ _ (bit c.args.beat.now.corrupt) _ _ (search rules)
+      c.fill_lanes-lanes.ensures.items c.fill_field-data.ensures.items))
     c.fill-2.ensures.items
 
 pub returns-clause-end : goal.returns-clause-end

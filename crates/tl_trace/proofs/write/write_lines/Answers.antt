@@ -1,4 +1,5 @@
-use Rattle.tl_trace.proofs.Names.{◌≡◌, ◌≤◌, ◌+◌, ◌++◌, ◌∙◌, ℕ, take, length, length-take-le, LONGEST_LINE, refl, sym, ap, arith, take-take, width_bounds, head_text, line_text, newline}
+use Rattle.tl_trace.proofs.Names.{◌≡◌, ◌≤◌, ◌+◌, ◌++◌, ◌∙◌, ℕ, take, length, length-take-le, LONGEST_LINE, refl, sym}
+use Rattle.tl_trace.proofs.Names.{ap, arith, take-take, width_bounds, head_text, line_text, newline}
 use Rattle.tl_trace.proofs.LineRests.{head_end, not_other, line_is, appended_none, appended_more, appended_all, appended_front, of_ok, of_err}
 use Rattle.tl_trace.proofs.write.write_lines.Goals as goal
 use Rattle.tl_trace.proofs.write.write_lines.Goals.{then-ne, else-ne}
@@ -11,7 +12,8 @@ loop-beat-preserved g c =
       head.0,
       appended_more f g.row.W c.args.out.now.items c.loop-beat.out.items c.append_line.new.out.items _ c.args.beats.now c.len-start.result
           c.loop-beat.beat-index b c.loop-beat-test.true
-          (line_is f g.row.W b _ _ _ _ (g.met.K.HeadText.masked_form c.args.version ∙ sym c.MASKED-masked.ensures) (g.met.K.HeadText.data_form c.args.version ∙ sym c.HAS_DATA-has_data.ensures)
+          (line_is f g.row.W b _ _ _ _ (g.met.K.HeadText.masked_form c.args.version ∙ sym c.MASKED-masked.ensures)
+            (g.met.K.HeadText.data_form c.args.version ∙ sym c.HAS_DATA-has_data.ensures)
           (g.met.K.HeadText.narrow_head c.args.version _ g.row.W b)
           (take-take at (at + c.rest_len.result + 1) c.if-ne.line (omega arith) ∙ head.0 ∙ ap (head_text f) head.1) refl
           ∙ ap (λ x. line_text f g.row.W x ++ newline) c.beat-item.is)

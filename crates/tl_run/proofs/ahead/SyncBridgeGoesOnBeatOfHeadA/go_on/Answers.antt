@@ -33,7 +33,8 @@ returns-then-ready_a g c =
     let count = pump_count offered.new.self.a in
     has-passed going_a on_bridge_a (λ s x. (λ h. h, λ h. h)) c.args.gone c.args.at c.requires.1 c.args.held.now c.requires.2 c.args.self.now
     offered.new.self Accepted
-    (subst (λ o. OffersNext on_bridge_a c.args.held.now (c.args.at - c.args.gone) c.args.self.now o offered.new.self) c.in-Accepted.is offered.ensures)
+    (subst (λ o. OffersNext on_bridge_a c.args.held.now (c.args.at - c.args.gone) c.args.self.now o offered.new.self)
+      c.in-Accepted.is offered.ensures)
     count 0 0 c.pump_a.new.self accepted-some (ahead-a count 0 0)
     (λ y x h. subst (λ z. StandsFor c.pump_a.new.self (record x { a = z })) (none-again count y) (c.pump_a.ensures.moved _ h))
 
@@ -45,7 +46,8 @@ returns g c =
     let again = pump_count c.fetch_a.new.self.a in
     has-passed going_a on_bridge_a (λ s x. (λ h. h, λ h. h)) c.args.gone c.args.at c.requires.1 c.args.held.now c.requires.2 c.args.self.now
     offered.new.self Accepted
-    (subst (λ o. OffersNext on_bridge_a c.args.held.now (c.args.at - c.args.gone) c.args.self.now o offered.new.self) c.in-Accepted.is offered.ensures)
+    (subst (λ o. OffersNext on_bridge_a c.args.held.now (c.args.at - c.args.gone) c.args.self.now o offered.new.self)
+      c.in-Accepted.is offered.ensures)
     first out again c.pump_a-2.new.self accepted-some (ahead-a first out again)
     (λ y x h. c.pump_a-2.ensures.moved _ (c.fetch_a.ensures.moved _ (c.pump_a.ensures.moved _ h)))
 

@@ -33,7 +33,8 @@ returns-then-ready_b g c =
     let count = pump_count offered.new.self.b in
     has-passed going_b on_bridge_b (λ s x. (λ h. h, λ h. h)) c.args.gone c.args.at c.requires.1 c.args.held.now c.requires.2 c.args.self.now
     offered.new.self Accepted
-    (subst (λ o. OffersNext on_bridge_b c.args.held.now (c.args.at - c.args.gone) c.args.self.now o offered.new.self) c.in-Accepted.is offered.ensures)
+    (subst (λ o. OffersNext on_bridge_b c.args.held.now (c.args.at - c.args.gone) c.args.self.now o offered.new.self)
+      c.in-Accepted.is offered.ensures)
     count 0 0 c.pump_b.new.self accepted-some (ahead-b count 0 0)
     (λ y x h. subst (λ z. StandsFor c.pump_b.new.self (record x { b = z })) (none-again count y) (c.pump_b.ensures.moved _ h))
 
@@ -45,7 +46,8 @@ returns g c =
     let again = pump_count c.fetch_b.new.self.b in
     has-passed going_b on_bridge_b (λ s x. (λ h. h, λ h. h)) c.args.gone c.args.at c.requires.1 c.args.held.now c.requires.2 c.args.self.now
     offered.new.self Accepted
-    (subst (λ o. OffersNext on_bridge_b c.args.held.now (c.args.at - c.args.gone) c.args.self.now o offered.new.self) c.in-Accepted.is offered.ensures)
+    (subst (λ o. OffersNext on_bridge_b c.args.held.now (c.args.at - c.args.gone) c.args.self.now o offered.new.self)
+      c.in-Accepted.is offered.ensures)
     first out again c.pump_b-2.new.self accepted-some (ahead-b first out again)
     (λ y x h. c.pump_b-2.ensures.moved _ (c.fetch_b.ensures.moved _ (c.pump_b.ensures.moved _ h)))
 

@@ -33,7 +33,8 @@ returns-then-ready_c g c =
     let count = pump_count offered.new.self.c in
     has-passed going_c on_bridge_c (λ s x. (λ h. h, λ h. h)) c.args.gone c.args.at c.requires.1 c.args.held.now c.requires.2 c.args.self.now
     offered.new.self Accepted
-    (subst (λ o. OffersNext on_bridge_c c.args.held.now (c.args.at - c.args.gone) c.args.self.now o offered.new.self) c.in-Accepted.is offered.ensures)
+    (subst (λ o. OffersNext on_bridge_c c.args.held.now (c.args.at - c.args.gone) c.args.self.now o offered.new.self)
+      c.in-Accepted.is offered.ensures)
     count 0 0 c.pump_c.new.self accepted-some (ahead-c count 0 0)
     (λ y x h. subst (λ z. StandsFor c.pump_c.new.self (record x { c = z })) (none-again count y) (c.pump_c.ensures.moved _ h))
 
@@ -45,7 +46,8 @@ returns g c =
     let again = pump_count c.fetch_c.new.self.c in
     has-passed going_c on_bridge_c (λ s x. (λ h. h, λ h. h)) c.args.gone c.args.at c.requires.1 c.args.held.now c.requires.2 c.args.self.now
     offered.new.self Accepted
-    (subst (λ o. OffersNext on_bridge_c c.args.held.now (c.args.at - c.args.gone) c.args.self.now o offered.new.self) c.in-Accepted.is offered.ensures)
+    (subst (λ o. OffersNext on_bridge_c c.args.held.now (c.args.at - c.args.gone) c.args.self.now o offered.new.self)
+      c.in-Accepted.is offered.ensures)
     first out again c.pump_c-2.new.self accepted-some (ahead-c first out again)
     (λ y x h. c.pump_c-2.ensures.moved _ (c.fetch_c.ensures.moved _ (c.pump_c.ensures.moved _ h)))
 

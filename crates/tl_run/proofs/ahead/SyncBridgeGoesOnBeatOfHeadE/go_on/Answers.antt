@@ -33,7 +33,8 @@ returns-then-ready_e g c =
     let count = pump_count offered.new.self.e in
     has-passed going_e on_bridge_e (λ s x. (λ h. h, λ h. h)) c.args.gone c.args.at c.requires.1 c.args.held.now c.requires.2 c.args.self.now
     offered.new.self Accepted
-    (subst (λ o. OffersNext on_bridge_e c.args.held.now (c.args.at - c.args.gone) c.args.self.now o offered.new.self) c.in-Accepted.is offered.ensures)
+    (subst (λ o. OffersNext on_bridge_e c.args.held.now (c.args.at - c.args.gone) c.args.self.now o offered.new.self)
+      c.in-Accepted.is offered.ensures)
     count 0 0 c.pump_e.new.self accepted-some (ahead-e count 0 0)
     (λ y x h. subst (λ z. StandsFor c.pump_e.new.self (record x { e = z })) (none-again count y) (c.pump_e.ensures.moved _ h))
 
@@ -45,7 +46,8 @@ returns g c =
     let again = pump_count c.fetch_e.new.self.e in
     has-passed going_e on_bridge_e (λ s x. (λ h. h, λ h. h)) c.args.gone c.args.at c.requires.1 c.args.held.now c.requires.2 c.args.self.now
     offered.new.self Accepted
-    (subst (λ o. OffersNext on_bridge_e c.args.held.now (c.args.at - c.args.gone) c.args.self.now o offered.new.self) c.in-Accepted.is offered.ensures)
+    (subst (λ o. OffersNext on_bridge_e c.args.held.now (c.args.at - c.args.gone) c.args.self.now o offered.new.self)
+      c.in-Accepted.is offered.ensures)
     first out again c.pump_e-2.new.self accepted-some (ahead-e first out again)
     (λ y x h. c.pump_e-2.ensures.moved _ (c.fetch_e.ensures.moved _ (c.pump_e.ensures.moved _ h)))
 

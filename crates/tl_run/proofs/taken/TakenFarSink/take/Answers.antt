@@ -1,4 +1,5 @@
-use Rattle.tl_run.proofs.Names.{◌≡◌, ◌+◌, ◌≤◌, ◌++◌, ℕ, List, Result, Ok, Err, OnOk, refl, length, length-append, subst, ap, arith, Beats, joined, beats_of}
+use Rattle.tl_run.proofs.Names.{◌≡◌, ◌+◌, ◌≤◌, ◌++◌, ℕ, List, Result, Ok, Err, OnOk, refl, length, length-append, subst}
+use Rattle.tl_run.proofs.Names.{ap, arith, Beats, joined, beats_of}
 use Rattle.tl_run.proofs.AllOk.{five_ok, five-are-ok}
 use Rattle.tl_run.proofs.Rooms.{same-beats}
 use Rattle.tl_run.proofs.taken.TakenFarSink.take.Goals as goal
