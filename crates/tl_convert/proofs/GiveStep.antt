@@ -1,7 +1,8 @@
 -- What a near beat with data gives after the beats of its message that came before.
 use Rattle.tl_convert.proofs.Names.{◌≡◌, ◌<◌, ◌+◌, ◌-◌, ◌*◌, ◌/◌, ◌≢◌, ◌++◌, ℕ, true, List, [], ◌∷◌, length, map, refl, sym, ap, subst, ◌∙◌, arith}
 use Rattle.tl_convert.proofs.Names.{⊎_elim, range_with_len, eqb_tells, Rules, BeatOf, IsWidth, Message, per_beat, beats_of, beat_at, FitsMask, Filled}
-use Rattle.tl_convert.proofs.Names.{Source, Pours, IsBlank, Run, GivenData, per-pos, of_cells, run-is}
+use Rattle.tl_convert.proofs.Names.{Source, Pours, IsBlank, Run, Given, GivenData, of_head, per-pos, of_cells, run-is}
+use Rattle.tl_convert.proofs.Names.{false, cond, drop, slice_index, append-nil, false≢true, layout, message_of, ends, due_after}
 use Rattle.tl_convert.proofs.Filling.{Filled-none}
 use Rattle.tl_convert.proofs.RunStep.{run_message, run_end, end-next, run-source, filled-longer, run-due}
 
@@ -72,3 +73,22 @@ module _ {H : Type 0} (r : Rules H) (w v home : ℕ) (ww : IsWidth w) (vw : IsWi
         filled = subst M (sym (run-is r b.head w v home ww vw carries (bs ++ b ∷ [])))
             (subst E (end-next r b.head w v home ww vw carries bs b) done.filled);
       }
+
+-- what a near beat without data gives
+pub give-head : {H : Type 0} (r : Rules H) (w v index home : ℕ) (b : BeatOf H w) → r.carries b.head ≡ false → (bs : List (BeatOf H w))
+    (partial new : BeatOf H v) (out : List (BeatOf H v)) → out ≡ layout r (of_head b.head home) v → Run r index home b partial bs →
+    Given r home b new bs out
+give-head r w v index home b none [] partial new out is run =
+    let last : ends r w [] b ≡ true = rw none refl in
+    record {
+      due_is = λ homes eh.
+          let whole : message_of r b.head w (slice_index homes 0) (b ∷ []) ≡ of_head b.head (slice_index homes 0) = rw none refl in
+          ap (λ t. cond t (layout r (message_of r b.head w (slice_index homes 0) (b ∷ [])) v ++ due_after r w v [] (drop 1 homes) [])
+          (due_after r w v (b ∷ []) homes [])) last ∙
+          append-nil (layout r (message_of r b.head w (slice_index homes 0) (b ∷ [])) v) ∙ ap (λ m. layout r m v) whole ∙
+          ap (λ x. layout r (of_head b.head x) v) eh ∙ sym is;
+      filled = λ carries. absurd (false≢true (sym none ∙ carries));
+    }
+give-head r w v index home b none (a ∷ xs) partial new out is run =
+    let one : beats_of r b.head w ≡ 1 = rw none refl in
+    absurd (omega (arith, one, run.inside, run.index_is))

@@ -91,6 +91,23 @@ same-small n s is le = omega arith
 pub some-bytes : (size w n : ℕ) → IsWidth w → n ≡ bytes_per_beat size w → 0 < n
 some-bytes size w n width is = let z : 0 < 2 ^ size = search rules in let b = width_bounds w width in omega arith
 
+min-first : (a b : ℕ) → a < b → min a b ≡ a
+min-first a b lt = omega arith
+
+min-last : (a b : ℕ) → b ≤ a → min a b ≡ b
+min-last a b le = omega arith
+
+-- the bytes that a beat of either width brings at once are those of the lesser one
+pub bytes-near : {H : Type 0} (r : Rules H) (h : H) (w v size n : ℕ) → size ≡ r.size h → per_beat r h w < per_beat r h v →
+    n ≡ min (bytes_per_beat size w) (bytes_per_beat size v) → n ≡ bytes_per_beat size w
+bytes-near r h w v size n e lt is =
+    is ∙ subst (λ z. min (bytes_per_beat z w) (bytes_per_beat z v) ≡ bytes_per_beat z w) (sym e) (min-first (per_beat r h w) (per_beat r h v) lt)
+
+pub bytes-far : {H : Type 0} (r : Rules H) (h : H) (w v size n : ℕ) → size ≡ r.size h → per_beat r h v ≤ per_beat r h w →
+    n ≡ min (bytes_per_beat size w) (bytes_per_beat size v) → n ≡ bytes_per_beat size v
+bytes-far r h w v size n e le is =
+    is ∙ subst (λ z. min (bytes_per_beat z w) (bytes_per_beat z v) ≡ bytes_per_beat z v) (sym e) (min-last (per_beat r h w) (per_beat r h v) le)
+
 -- the rest of a division by the bytes per beat, by a mask
 pub rest-by-mask : (size v n wide : ℕ) → IsWidth v → wide ≡ bytes_per_beat size v → bit_and n (wide - 1) ≡ n % wide
 rest-by-mask size v n wide width is = let power = per-power size v width in

@@ -1,9 +1,10 @@
-ghost use Rattle.std.specs.Prelude.{◌≡◌, ◌↔◌, ◌++◌, ◌∷◌, [], ℕ, Some, List, All, IfOk, IfErr, IsOk, OnOk, OnErr, IsTrue, length};
+ghost use Rattle.std.specs.Prelude.{◌≡◌, ◌≤◌, ◌↔◌, ◌++◌, ◌∷◌, [], ℕ, Some, List, All, IfOk, IfErr, IsOk, OnOk, OnErr, IsTrue, length};
+ghost use Rattle.tl_lanes.specs.declared.limits.TheConstants.{MAX_SIZE};
 ghost use Rattle.tl_lanes.specs.Lanes.{IsWidth};
 ghost use Rattle.tl_msg.specs.Faults.{IsLawfulBeat};
 ghost use Rattle.tl_msg.specs.declared.beat.BeatOf.{BeatOf};
 ghost use Rattle.tl_burst.specs.Handing.{IsAdmitted, rest_of, fault_after, homes_with};
-ghost use Rattle.tl_burst.specs.Tracking.{IsPlaceOf};
+ghost use Rattle.tl_burst.specs.Tracking.{IsPlace, IsPlaceOf};
 ghost use Rattle.tl_convert.specs.Due.{due};
 ghost use Rattle.tl_convert.specs.Converting.{StandsFor};
 
@@ -104,11 +105,26 @@ impl<K: Channel, const W: usize, const V: usize> Converter<K, W, V> {
         ensures lawful { All (λ b. IsLawfulBeat K.rules b) out.new.items }
     {
         ranges_of_beat::<K, W>(beat);
-        if place.index == 0 {
-            self.home = K::lane_address(&beat.head, home);
-        }
-        give::<K, W, V>(beat, &mut self.partial, self.home, place.index, out);
+        self.place_is_lawful(beat, &place);
+        let at = if place.index == 0 {
+            K::lane_address(&beat.head, home)
+        } else {
+            self.home
+        };
+        self.home = at;
+        give::<K, W, V>(beat, &mut self.partial, at, place.index, out);
         self.tracker.advance(place);
+    }
+
+    /// A beat that may come next has a lawful head, also inside a burst. Nothing is done.
+    fn place_is_lawful(&self, beat: &Beat<K, W>, place: &Place<K>)
+        requires width { IsWidth W }
+        requires place { IsPlaceOf K.rules W self.now.burst beat.now place.now }
+        ensures place { IsPlace K.rules W self.now.burst place.now }
+        ensures small { K.rules.size beat.now.head ≤ MAX_SIZE }
+    {
+        // (a field is read, so that what holds of every converter is known)
+        let _home = self.home;
     }
 
     /// Takes the next near beat where [`Converter::check`] admits it, and gives the far beats that it completes, at most

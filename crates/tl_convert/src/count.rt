@@ -1,4 +1,4 @@
-ghost use Rattle.std.specs.Prelude.{◌≡◌, ◌≤◌, ◌^◌, ℕ, List, length};
+ghost use Rattle.std.specs.Prelude.{◌≡◌, ◌≤◌, ◌^◌, ℕ, None, List, length};
 ghost use Rattle.tl_lanes.specs.declared.limits.TheConstants.{MAX_SIZE, WIDEST};
 ghost use Rattle.tl_lanes.specs.Lanes.{IsWidth};
 ghost use Rattle.tl_convert.specs.Due.{due};
@@ -60,17 +60,20 @@ pub fn far_count<K: Channel, const W: usize, const V: usize>(beats: &[Beat<K, W>
     ensures { (homes : List ℕ) →
         result ≡ length (due K.rules W V (accepted_of K.rules beats.now) homes) }
 {
-    count_until_refused::<K, W>(beats, V)
+    count_until_refused::<K, W>(Tracker::new(), beats, V)
 }
 
-// The same, where the far width is a number.
+// The same from a new tracker on, where the far width is a number.
 #[inline(never)]
-fn count_until_refused<K: Channel, const W: usize>(beats: &[Beat<K, W>], far: usize) -> usize
-    requires { IsWidth W × IsWidth far × (length beats.now ≤ 2 ^ 40) }
+fn count_until_refused<K: Channel, const W: usize>(
+    mut tracker: Tracker<K, W>,
+    beats: &[Beat<K, W>],
+    far: usize,
+) -> usize
+    requires { (tracker ≡ None) × IsWidth W × IsWidth far × (length beats.now ≤ 2 ^ 40) }
     ensures { (homes : List ℕ) →
         result ≡ length (due K.rules W far (accepted_of K.rules beats.now) homes) }
 {
-    let mut tracker = Tracker::<K, W>::new();
     let mut count = 0;
     for beat in beats {
         let Ok(place) = tracker.check(beat) else {

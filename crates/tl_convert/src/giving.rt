@@ -1,16 +1,26 @@
 //! The far beats that a near beat gives.
 
-ghost use Rattle.std.specs.Prelude.{◌≡◌, ◌≤◌, List, [], true, false};
+ghost use Rattle.std.specs.Prelude.{◌≡◌, ◌≤◌, ◌<◌, ◌*◌, ◌%◌, ◌^◌, List, [], true, false};
 ghost use Rattle.tl_lanes.specs.declared.limits.TheConstants.{MAX_SIZE};
 ghost use Rattle.tl_lanes.specs.Lanes.{IsWidth};
 ghost use Rattle.tl_msg.specs.declared.beat.BeatOf.{BeatOf};
-ghost use Rattle.tl_burst.specs.Messages.{layout};
+ghost use Rattle.tl_burst.specs.Messages.{layout, per_beat};
 ghost use Rattle.tl_convert.specs.Inner.Giving.{Run, Given, GivenData, CanGive, of_head};
 
 use crate::pouring::{blank, pour_part, pour_whole};
 use arrayvec::ArrayVec;
 use tl_lanes::{WIDEST, active, beat_bytes};
 use tl_msg::{Beat, Channel};
+
+// The number in its message of the first byte of a near beat, of whose message `index` beats came before.
+fn first_byte<K: Channel, const W: usize>(head: &K::Head, index: u32) -> usize
+    requires { IsWidth W × (K.rules.size head.now ≤ MAX_SIZE) }
+    ensures is { result ≡ index * per_beat K.rules head.now W }
+    ensures whole { result % per_beat K.rules head.now W ≡ 0 }
+    ensures room { result < 2 ^ 40 }
+{
+    index as usize * beat_bytes(K::size(head), W)
+}
 
 // Gives the far beats of a near beat with data, of whose message `index` beats came before.
 fn give_data<K: Channel, const W: usize, const V: usize>(
@@ -30,7 +40,7 @@ fn give_data<K: Channel, const W: usize, const V: usize>(
     }
     let size = K::size(&beat.head);
     let near = beat_bytes(size, W);
-    let first = index as usize * near;
+    let first = first_byte::<K, W>(&beat.head, index);
     if beat_bytes(size, V) <= near {
         pour_whole::<K, W, V>(beat, partial, home, first, out);
     } else {

@@ -1,7 +1,7 @@
 //! How the bytes of a near beat with data get into far beats.
 
-ghost use Rattle.std.specs.Prelude.{◌≡◌, ◌≤◌, ◌<◌, ◌+◌, ◌/◌, []};
-ghost use Rattle.tl_lanes.specs.declared.limits.TheConstants.{MAX_SIZE};
+ghost use Rattle.std.specs.Prelude.{◌≡◌, ◌≤◌, ◌<◌, ◌+◌, ◌/◌, [], min};
+ghost use Rattle.tl_lanes.specs.declared.limits.TheConstants.{MAX_SIZE, WIDEST};
 ghost use Rattle.tl_lanes.specs.Lanes.{IsWidth, bytes_per_beat};
 ghost use Rattle.tl_msg.specs.declared.beat.BeatOf.{BeatOf};
 ghost use Rattle.tl_burst.specs.Messages.{Message, per_beat};
@@ -40,12 +40,23 @@ pub(crate) fn blank<K: Channel, const V: usize>(head: K::Head) -> Beat<K, V>
     }
 }
 
+// The bytes of a message of this size that a beat of either width brings at once: as many as the lesser beat has.
+fn bytes_on_both<const W: usize, const V: usize>(size: u8) -> usize
+    requires { IsWidth W × IsWidth V × (size ≤ MAX_SIZE) }
+    ensures bytes { result ≡ min (bytes_per_beat size W) (bytes_per_beat size V) }
+    ensures near { result ≤ W }
+    ensures far { result ≤ V }
+{
+    beat_bytes(size, W).min(beat_bytes(size, V))
+}
+
 // How many far beats a near beat fills, where a far beat has no more bytes: one, known when the program
 // is compiled, where the far bus is as wide.
 fn whole_beats<const W: usize, const V: usize>(size: u8) -> usize
-    requires { IsWidth W × IsWidth V × (size ≤ MAX_SIZE) ×
-        (bytes_per_beat size V ≤ bytes_per_beat size W) }
-    ensures { result ≡ bytes_per_beat size W / bytes_per_beat size V }
+    requires { IsWidth W × IsWidth V × (size ≤ MAX_SIZE) }
+    ensures count { bytes_per_beat size V ≤ bytes_per_beat size W →
+        result ≡ bytes_per_beat size W / bytes_per_beat size V }
+    ensures few { result ≤ WIDEST }
 {
     if W <= V {
         1
@@ -65,14 +76,14 @@ pub(crate) fn pour_whole<K: Channel, const W: usize, const V: usize>(
     first: usize,
     out: &mut ArrayVec<Beat<K, V>, WIDEST>,
 )
-    requires { CanPour K.rules beat.now first out.old.items ×
-        (per_beat K.rules beat.now.head V ≤ per_beat K.rules beat.now.head W) }
-    ensures { (m : Message K.Head) → Source K.rules m home first beat.now →
+    requires { CanPour K.rules beat.now first out.old.items }
+    ensures { per_beat K.rules beat.now.head V ≤ per_beat K.rules beat.now.head W →
+        (m : Message K.Head) → Source K.rules m home first beat.now →
         Pours K.rules m V first first partial.now [] →
         Pours K.rules m V first (first + per_beat K.rules m.head W) partial.now out.new.items }
 {
     let size = K::size(&beat.head);
-    let wide = beat_bytes(size, V);
+    let wide = bytes_on_both::<W, V>(size);
     let count = whole_beats::<W, V>(size);
     for t in 0..count {
         let done = first + t * wide;
@@ -92,14 +103,14 @@ pub(crate) fn pour_part<K: Channel, const W: usize, const V: usize>(
     first: usize,
     out: &mut ArrayVec<Beat<K, V>, WIDEST>,
 )
-    requires { CanPour K.rules beat.now first out.old.items ×
-        (per_beat K.rules beat.now.head W < per_beat K.rules beat.now.head V) }
-    ensures { (m : Message K.Head) → Source K.rules m home first beat.now →
+    requires { CanPour K.rules beat.now first out.old.items }
+    ensures { per_beat K.rules beat.now.head W < per_beat K.rules beat.now.head V →
+        (m : Message K.Head) → Source K.rules m home first beat.now →
         Pours K.rules m V first first partial.old [] →
         Pours K.rules m V first (first + per_beat K.rules m.head W) partial.new out.new.items }
 {
     let size = K::size(&beat.head);
-    let near = beat_bytes(size, W);
+    let near = bytes_on_both::<W, V>(size);
     let at = home.wrapping_add(first as u64);
     // the bytes per beat are a power of two: this is the rest of a division by them
     if (first + near) & (beat_bytes(size, V) - 1) != 0 {

@@ -1,18 +1,6 @@
 use Rattle.tl_convert.proofs.Names.{rules, ◌≡◌, ◌+◌, ◌++◌, None, Some, [], ◌∷◌, length, take, refl, sym, ap, ◌∙◌, arith, burst_after, fault_in, due}
-use denote.Memory.{lone}
-use denote.Param.{layout}
-use Rattle.tl_convert.proofs.Sizes.{tracker-fits}
 use Rattle.tl_convert.proofs.CountLoop.{one-more, accepted-next, accepted-stop, accepted-all, due-count}
 use Rattle.tl_convert.proofs.count.count_until_refused.Goals as goal
-
-pub new-tracker-requires : goal.new-tracker-requires
-new-tracker-requires g c = tracker-fits (lone g.row.K-Head.mir) (layout g.row.K-Head) g.met.K.Channel.head_small
-
-pub check-requires : goal.check-requires
-check-requires g c = (tracker-fits (lone g.row.K-Head.mir) (layout g.row.K-Head) g.met.K.Channel.head_small, (search rules, c.requires.0))
-
-pub advance-requires : goal.advance-requires
-advance-requires g c = (tracker-fits (lone g.row.K-Head.mir) (layout g.row.K-Head) g.met.K.Channel.head_small, (c.requires.0, c.in-Ok.ensures.place))
 
 pub loop-beat-preserved : goal.loop-beat-preserved
 loop-beat-preserved g c =
@@ -29,7 +17,7 @@ loop-beat-preserved g c =
           (ap (λ burst. fault_in g.K.Channel.rules burst c.beat-item.result) (sym c.loop-beat.invariant.open_now) ∙ none);
       count = λ homes.
           ap (λ n. n + c.far_beats_between-count.result) (c.loop-beat.invariant.count homes) ∙
-          sym (due-count g.K.Channel.rules g.row.W c.args.far c.requires.0 c.requires.1 homes (take c.loop-beat.beat-index c.args.beats.now)
+          sym (due-count g.K.Channel.rules g.row.W c.args.far c.requires.1 c.requires.2 homes (take c.loop-beat.beat-index c.args.beats.now)
           c.beat-item.result
           c.loop-beat.tracker c.in-Ok.place c.far_beats_between-count.result c.loop-beat.invariant.open_now c.in-Ok.ensures.head c.in-Ok.ensures.place
           (c.in-Ok.ensures.index (take c.loop-beat.beat-index c.args.beats.now) c.loop-beat.invariant.open_now)
@@ -54,24 +42,18 @@ returns g c = λ homes.
     (sym (accepted-all g.K.Channel.rules c.args.beats.now c.loop-beat.beat-index c.loop-beat.invariant.accepted
     (omega (arith, c.loop-beat-test.false))))
 
-pub far_beats_between-count-requires-clause-near : goal.far_beats_between-count-requires-clause-near
-far_beats_between-count-requires-clause-near g c = c.requires.0
-
-pub far_beats_between-count-requires-clause-far : goal.far_beats_between-count-requires-clause-far
-far_beats_between-count-requires-clause-far g c = c.requires.1
-
 pub far_beats_between-count-requires-clause-small : goal.far_beats_between-count-requires-clause-small
 far_beats_between-count-requires-clause-small g c = g.met.K.Channel.small c.in-Ok.place.head c.in-Ok.ensures.place.lawful
 
 pub overflow_add-count : goal.overflow_add-count
-overflow_add-count g c = omega (arith, c.loop-beat.invariant.few, c.far_beats_between-count.ensures.few, c.requires.2, c.loop-beat-test.true)
+overflow_add-count g c = omega (arith, c.loop-beat.invariant.few, c.far_beats_between-count.ensures.few, c.requires.3, c.loop-beat-test.true)
 
 pub loop-beat-smaller : goal.loop-beat-smaller
 loop-beat-smaller g c = omega (arith, c.loop-beat-test.true)
 
 pub loop-beat-init : goal.loop-beat-init
 loop-beat-init g c = record {
-  open_now = c.new-tracker.ensures;
+  open_now = c.requires.0;
   accepted = refl;
   count = λ homes. refl;
   few = omega arith;

@@ -22,9 +22,6 @@ returns g c = λ no_data.
           (λ t. absurd (not-both (g.met.K.Channel.masked_is ∙ sym c.MASKED.ensures ∙ w.if-MASKED.false) t)) (λ f. blank.mask))
     ]
 
-pub blank-beat-requires : goal.blank-beat-requires
-blank-beat-requires g c = c.requires-raw.1.1.1.1.0
-
 pub active-requires-clause-small : goal.active-requires-clause-small
 active-requires-clause-small g c = same-small c.size.result (g.K.Channel.rules.size c.args.head) c.size.ensures c.requires.1
 

@@ -31,3 +31,6 @@ returns g c =
         corrupt = refl;
       })
     ]
+
+pub MASKED-requires : goal.MASKED-requires
+MASKED-requires g c κs = λ p. p

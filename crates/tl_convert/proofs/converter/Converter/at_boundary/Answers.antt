@@ -1,12 +1,6 @@
 use Rattle.tl_convert.proofs.Names.{rules, ◌≡◌, ◌↔◌, ◌∙◌, ℕ, Bool, true, false, Option, List, [], ◌∷◌, not, refl, IsTrue, is_some, Rules, BeatOf}
 use Rattle.tl_convert.proofs.Names.{burst_of, rest_of}
-use denote.Memory.{lone}
-use denote.Param.{layout}
-use Rattle.tl_convert.proofs.Sizes.{tracker-fits}
 use Rattle.tl_convert.proofs.converter.Converter.at_boundary.Goals as goal
-
-pub in_burst-requires : goal.in_burst-requires
-in_burst-requires g c = tracker-fits (lone g.row.K-Head.mir) (layout g.row.K-Head) g.met.K.Channel.head_small
 
 -- no burst is open exactly where no beat is left over
 between : {H : Type 0} (r : Rules H) {w : ℕ} (rest : List (BeatOf H w)) (burst : Option (H × ℕ)) (none : Bool) →

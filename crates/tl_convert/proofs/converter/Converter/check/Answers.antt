@@ -1,13 +1,7 @@
 use Rattle.tl_burst.proofs.PlacesExact.{place-told}
 use Rattle.tl_convert.proofs.Names.{ChannelLaws, laws-of}
 use Rattle.tl_convert.proofs.FeedStep.{is-handed}
-use denote.Memory.{lone}
-use denote.Param.{layout}
-use Rattle.tl_convert.proofs.Sizes.{tracker-fits}
 use Rattle.tl_convert.proofs.converter.Converter.check.Goals as goal
-
-pub check-requires : goal.check-requires
-check-requires g c = (tracker-fits (lone g.row.K-Head.mir) (layout g.row.K-Head) g.met.K.Channel.head_small, (c.requires-raw.1.1.1.1.1.0, c.requires))
 
 pub returns-clause-fault : goal.returns-clause-fault
 returns-clause-fault g c = λ bs homes k.

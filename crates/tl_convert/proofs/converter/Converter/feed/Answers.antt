@@ -1,24 +1,28 @@
-use Rattle.std.proofs.lemmas.Result.{err_from_is_err_and}
+use Rattle.std.proofs.lemmas.Result.{IfOk-from_err, MatchResult-from_err, err_from_is_err_and}
+use Rattle.tl_convert.proofs.Names.{refl}
 use Rattle.tl_convert.proofs.converter.Converter.feed.Goals as goal
 use Rattle.tl_convert.proofs.Refusals.{refused_too}
 
-pub returns-in_err-place-clause-admitted : goal.returns-in_err-place-clause-admitted
-returns-in_err-place-clause-admitted g c = λ bs homes stands.
-    refused_too c.from_residual.result c.from_residual.ensures.0 (c.in_err-place.ensures.admitted bs homes stands)
+pub returns-in_err-place : goal.returns-in_err-place
+returns-in_err-place g c =
+    let r = c.from_residual.result in
+    let refused = c.from_residual.ensures.0 in
+    let p = err_from_is_err_and r c.from_residual.ensures.1 in
+    record {
+      admitted = λ bs homes stands. refused_too r refused (c.in_err-place.ensures.admitted bs homes stands);
+      fault = λ bs homes stands. rw (p.1, p.2) (c.in_err-place.ensures.fault bs homes stands);
+      stands = λ bs homes stands. IfOk-from_err r _ refused;
+      due = λ bs homes stands. IfOk-from_err r _ refused;
+      lawful = IfOk-from_err r _ refused;
+      unchanged = MatchResult-from_err r _ _ refused (λ y. refl);
+    }
 
-pub returns-in_err-place-clause-fault : goal.returns-in_err-place-clause-fault
-returns-in_err-place-clause-fault g c = λ bs homes stands.
-    let p = err_from_is_err_and c.from_residual.result c.from_residual.ensures.1 in
-    rw (p.1, p.2) (c.in_err-place.ensures.fault bs homes stands)
-
-pub returns-clause-admitted : goal.returns-clause-admitted
-returns-clause-admitted g c = λ bs homes stands. c.in_ok-place.ensures.admitted bs homes stands
-
-pub returns-clause-stands : goal.returns-clause-stands
-returns-clause-stands g c = λ bs homes stands. c.feed_at.ensures.stands bs homes stands
-
-pub returns-clause-due : goal.returns-clause-due
-returns-clause-due g c = λ bs homes stands. c.feed_at.ensures.due bs homes stands
-
-pub returns-clause-lawful : goal.returns-clause-lawful
-returns-clause-lawful g c = c.feed_at.ensures.lawful
+pub returns : goal.returns
+returns g c = record {
+  admitted = c.in_ok-place.ensures.admitted;
+  fault = λ bs homes stands. tt;
+  stands = c.feed_at.ensures.stands;
+  due = c.feed_at.ensures.due;
+  lawful = c.feed_at.ensures.lawful;
+  unchanged = tt;
+}
