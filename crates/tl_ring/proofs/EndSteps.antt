@@ -224,6 +224,20 @@ module _ {K A H : Type 0} {v : ℕ} where
       f.received ∙ ap (λ l. l ++ f.moved) takes ∙ append_assoc taken t.inbox f.moved ∙ ap (λ l. taken ++ l) (sym f.inbox)
 
 module _ {K A H : Type 0} (r : Rules H) {w v : ℕ} where
+  -- and that is a meeting for whatever they stood for
+  pub meeting_of : (s : Sending K A H v) (t : Taking K A H v) (p : Producer (BeatOf H v) A (LawfulAt K v H))
+      (c : Consumer (BeatOf H v) A (LawfulAt K v H)) (count : ℕ) →
+      ArePair s t → rtrb.ProducerLooked s.producer p → rtrb.ConsumerLooked t.consumer c → count ≡ length (rtrb.known_items c) →
+      rtrb.received c ++ rtrb.known_items c ≡ rtrb.sent p →
+      (count ≤ rtrb.producer_capacity s.producer) × (rtrb.producer_capacity s.producer ≤ rtrb.known_free p + count) →
+      length t.inbox ≤ inbox_room →
+      Met s t (record s { producer = p }) (record t { consumer = c }) ×
+      ((x : World H w v) (taken : List (BeatOf H v)) → Sends r s x → Takes t taken →
+      Meets r (record s { producer = p }) (record t { consumer = c }) x taken)
+  meeting_of s t p c count pair sees seen counts fifo places held =
+      let met = met_of s t p c count pair sees seen counts fifo places in
+      (met, λ x taken sends takes. meets_of r s (record s { producer = p }) t (record t { consumer = c }) x taken met held sends takes)
+
   -- the receipt of an end shows what the end stands for, and its ring is no larger than the end's
   pub shows_of : (s : Sending K A H v) (e : Ended K A H v) (x : World H w v) → Finishes s e → s.stage ≡ [] → s.closed ≡ true → Sends r s x →
       Shows r e x

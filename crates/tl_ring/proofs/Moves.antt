@@ -1,7 +1,7 @@
 -- A cut that goes from the front of one list to the end of the list before it leaves both together as they were.
 use Rattle.tl_ring.proofs.Names.{◌≡◌, ◌≤◌, ◌<◌, ◌+◌, ◌-◌, ◌↔◌, ◌⊎◌, ◌==◌, ◌&&◌, ℕ, Bool, true, false, List, [], ◌++◌, take, drop, length, min, inl}
 use Rattle.tl_ring.proofs.Names.{inr, refl, ap, sym, ◌∙◌, arith, ⊎_elim, append_assoc, append-nil, nil_from_length, take-append-drop, take-append-le}
-use Rattle.tl_ring.proofs.Names.{cases_lt, and_parts, not, take-append-add, take-length}
+use Rattle.tl_ring.proofs.Names.{cases_lt, and_parts, take-append-add, take-length}
 use Rattle.std.proofs.lemmas.Bool.Decides.{eqb_tells}
 use Rattle.tl_ring.specs.declared.pipe.TheConstants.{MAX_RING}
 use Rattle.tl_ring.specs.declared.fault.BuildFault.TheVariants.{RingSize, OutOfMemory}
@@ -67,7 +67,7 @@ none_in_two xs ys m n count counts =
     (λ both. let each = and_parts (n == 0) (m == 0) both in (one.0 each.1, other.0 each.0), λ (x, y). rw (one.1 x, other.1 y) refl)
 
 -- a size that is refused is none, or more than a ring may hold
-pub no_ring_size : (ring : ℕ) (answer : Bool) → (answer ≡ true) ↔ ((1 ≤ ring) × (ring ≤ MAX_RING)) → answer ≡ false → (ring ≡ 0) ⊎ (MAX_RING < ring)
+no_ring_size : (ring : ℕ) (answer : Bool) → (answer ≡ true) ↔ ((1 ≤ ring) × (ring ≤ MAX_RING)) → answer ≡ false → (ring ≡ 0) ⊎ (MAX_RING < ring)
 no_ring_size ring answer exact refused = ⊎_elim
     (λ none. inl (omega arith))
     (λ some. ⊎_elim
@@ -76,17 +76,21 @@ no_ring_size ring answer exact refused = ⊎_elim
     (cases_lt MAX_RING ring))
     (cases_lt ring 1)
 
+-- so RingSize is answered of it
+pub refused_size : (ring : ℕ) (answer : Bool) → (answer ≡ true) ↔ ((1 ≤ ring) × (ring ≤ MAX_RING)) → answer ≡ false →
+    (RingSize ≡ RingSize) ↔ ((ring ≡ 0) ⊎ (MAX_RING < ring))
+refused_size ring answer exact refused = (λ same. no_ring_size ring answer exact refused, λ size. refl)
+
 pub ring_size_only : (ring : ℕ) → (1 ≤ ring) × (ring ≤ MAX_RING) → (ring ≡ 0) ⊎ (MAX_RING < ring) → ⊥
 ring_size_only ring size refused = ⊎_elim (λ none. omega arith) (λ above. omega arith) refused
 
--- so want of memory is no size that is refused
+-- and want of memory is no size that is refused
 pub want_of_memory : (ring : ℕ) → (1 ≤ ring) × (ring ≤ MAX_RING) → (OutOfMemory ≡ RingSize) ↔ ((ring ≡ 0) ⊎ (MAX_RING < ring))
 want_of_memory ring size = (λ same. absurd (cc), λ refused. absurd (ring_size_only ring size refused))
 
--- what is ready only where the first of them is empty and it is not closed, is closed where it is not ready and none has an element
-pub shut_and_none : {A B C : Type 0} (ready none closed : Bool) → (ready ≡ true) ↔ (A × (closed ≡ false)) → (none ≡ true) ↔ (A × B × C) →
-    ((not ready && none) ≡ true) ↔ ((closed ≡ true) × A × B × C)
-shut_and_none true none closed open_is left = (λ u. absurd (cc), λ (shut, x, y, z). let still = (open_is.0 refl).1 in absurd (cc))
-shut_and_none false false closed open_is left = (λ u. absurd (cc), λ (shut, x, y, z). let all = left.1 (x, y, z) in absurd (cc))
-shut_and_none false true true open_is left = (λ u. let each = left.0 refl in (refl, each.0, each.1, each.2), λ all. refl)
-shut_and_none false true false open_is left = (λ u. let still = open_is.1 ((left.0 refl).0, refl) in absurd (cc), λ all. refl)
+-- closed, and none of them has an element
+pub shut_and_none : {A B C : Type 0} (closed none : Bool) → (none ≡ true) ↔ (A × B × C) → ((closed && none) ≡ true) ↔ ((closed ≡ true) × A × B × C)
+shut_and_none closed none empty = (
+  λ both. let each = and_parts closed none both in let all = empty.0 each.1 in (each.0, all.0, all.1, all.2),
+  λ (shut, x, y, z). rw (shut, empty.1 (x, y, z)) refl,
+)

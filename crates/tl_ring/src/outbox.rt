@@ -23,7 +23,7 @@ use tl_msg::{Beat, BeatFault, Channel};
 pub struct Outbox<K: Channel, const W: usize, const V: usize> {
     converter: Converter<K, W, V>,
     pub(crate) stage: Queue<Beat<K, V>>,
-    closed: bool,
+    pub(crate) closed: bool,
 }
 
 impl<K: Channel, const W: usize, const V: usize> Model for Outbox<K, W, V> {
@@ -120,7 +120,10 @@ impl<K: Channel, const W: usize, const V: usize> Outbox<K, W, V> {
         ensures still { self.new.closed ≡ false }
         ensures refused { OnErr result (self.new ≡ self.old) }
     {
-        let place = self.check(beat)?;
+        let place = match self.check(beat) {
+            Ok(place) => place,
+            Err(fault) => return Err(fault),
+        };
         self.offer_at(beat, place, home);
         Ok(())
     }

@@ -152,8 +152,7 @@ impl<K: Channel, const W: usize, const V: usize, A: Allocator> SyncPipe<K, W, V,
         ensures { IsTrue result ↔ IsDrained self.now }
     {
         let at = self.standing();
-        // (where nothing is staged, a pipe that is not ready is closed)
-        !self.outbox.ready() & (at.staged + at.in_ring + at.inbox == 0)
+        self.outbox.closed & (at.staged + at.in_ring + at.inbox == 0)
     }
 
     /// How many far beats stand in the stage, in the ring and in the inbox.

@@ -4,12 +4,12 @@ use Rattle.tl_trace.proofs.Names.{length, map, Option, Some, is_none, refl, sym,
 use Rattle.tl_trace.proofs.Names.{and_from, or_left, or_right, map-append, length-map, list_any-append, pow_pos, list_all, list_any, BeatOf, Field}
 use Rattle.tl_trace.proofs.Names.{length_of, mask, data_lanes, corrupt, Form, bit, digit_count, fields, mask_fields, data_fields, values, value_of}
 use Rattle.tl_trace.proofs.Names.{line_length, number_of_lanes, is_plain, field_at, fields_from, is_head_field, read_value, is_head_in_range}
-use Rattle.tl_trace.proofs.Names.{IsNumber, IsPart, IsHead, IsHeadOf, HeadFields, append_assoc, append-nil, subst, ◌/◌}
+use Rattle.tl_trace.proofs.Names.{IsNumber, IsPart, IsHead, IsHeadOf, HeadFields, append_assoc, append-nil, subst, ◌/◌, form_fault, Shape, Range}
 use Rattle.tl_trace.specs.Inner.LineRests.{mask_length, data_length}
 use Rattle.tl_trace.specs.Inner.Reading.{IsRest, fields_of_mask, fields_of_data, mask_values, data_values}
 use Rattle.tl_trace.specs.declared.line_reader.Rest.{Rest}
 use Rattle.std.proofs.Math.Bool.{and-true}
-use Rattle.tl_trace.proofs.Shaped.{below}
+use Rattle.tl_trace.proofs.Shaped.{below, wrong_shape, wrong_range}
 use Rattle.tl_trace.proofs.ReadDigits.{left_good, right_good, bad_or}
 
 -- ---- one part after the other
@@ -213,7 +213,7 @@ module _ {H : Type 0} (f : Form H) where
       (head_part w text 1 f.head_fields says r.bad heads head.part) rest in
       subst (λ fs. IsPart w text 1 fs (line_values r m d c) (bit_or r.bad bad)) (sym (append_assoc f.head_fields (mask_fields f) (data_fields f)))
       (subst (λ vs. IsPart w text 1 (f.head_fields ++ (mask_fields f ++ data_fields f)) vs (bit_or r.bad bad))
-        (sym (append_assoc says masks datas)) all)
+      (sym (append_assoc says masks datas)) all)
 
   and_and : (a b c : Bool) → (a && b) && c ≡ a && (b && c)
   and_and true b c = refl
@@ -256,11 +256,11 @@ module _ {H : Type 0} (f : Form H) where
       → below f w (fields f) (line_values r m d c) ≡ (is_head_in_range f r && nat_lt m (2 ^ w)) && nat_lt c 2
   line_range w r m d c heads no_mask no_data small =
       below_append w (f.head_fields ++ mask_fields f) (data_fields f)
-        (map (read_value r) f.head_fields ++ mask_values f.rules.masked m) (data_values f.rules.corrupts d c)
+      (map (read_value r) f.head_fields ++ mask_values f.rules.masked m) (data_values f.rules.corrupts d c)
       (lengths r m)
       ∙ ap (λ (b : Bool). b && below f w (data_fields f) (data_values f.rules.corrupts d c))
       (below_append w f.head_fields (mask_fields f) (map (read_value r) f.head_fields) (mask_values f.rules.masked m)
-        (length-map f.head_fields (read_value r))
+      (length-map f.head_fields (read_value r))
       ∙ ap (λ (b : Bool). b && below f w (mask_fields f) (mask_values f.rules.masked m)) (head_below w r f.head_fields heads)
       ∙ ap (λ (b : Bool). is_head_in_range f r && b) (mask_test w m f.rules.masked no_mask))
       ∙ ap (λ (b : Bool). (is_head_in_range f r && nat_lt m (2 ^ w)) && b) (data_test w d c f.rules.corrupts no_data small)
@@ -309,6 +309,46 @@ module _ {H : Type 0} (f : Form H) where
 
   pub no_head : (r : HeadFields) (m c : Bool) → is_head_in_range f r ≡ false → (is_head_in_range f r && m) && c ≡ false
   no_head r m c none = rw none refl
+
+  -- a line of its channel's length was read: its head, and what stands behind it
+  pub record WasRead (n w digits : ℕ) (text : List ℕ) (r : HeadFields) (at : ℕ) (before lanes : List ℕ) (rest : Rest) : Type 0 where
+    pub heads : list_all is_head_field f.head_fields ≡ true
+    pub long : length text ≡ line_length f w
+    pub first : at ≡ 1 + length_of 0 f.head_fields
+    pub head : IsHead digits text f.head_fields r
+    pub behind : IsRest f.rules.masked f.rules.corrupts n w text at before lanes rest
+
+  pub was_read : (masked has_data : Bool) {n w digits : ℕ} {text : List ℕ} {r : HeadFields} (at long : ℕ) {before lanes : List ℕ} {rest : Rest}
+      → f.rules.masked ≡ masked → f.rules.corrupts ≡ has_data → list_all is_head_field f.head_fields ≡ true
+      → at ≡ 1 + length_of 0 f.head_fields → long ≡ mask_length masked w + data_length has_data w → length text ≡ at + long
+      → IsHead digits text f.head_fields r → IsRest masked has_data n w text at before lanes rest
+      → WasRead n w digits text r at before lanes rest
+  was_read masked has_data {w = w} at long has_mask has_datas heads first size is head behind = record {
+    heads = heads;
+    long = is ∙ line_size w masked has_data at long has_mask has_datas heads first size;
+    first = first;
+    head = head;
+    behind = rest_of masked has_data has_mask has_datas behind;
+  }
+
+  -- and one of its parts has not its shape
+  pub no_shape : {n w digits at : ℕ} {text before lanes : List ℕ} {r : HeadFields} {rest : Rest} → WasRead n w digits text r at before lanes rest
+      → 15 < bit_or r.bad rest.bad → form_fault f w text ≡ Some Shape
+  no_shape {w = w} {digits = digits} {at = at} {text = text} {lanes = lanes} {r = r} {rest = rest} line bad =
+      let part =
+      line_part w digits text r rest.mask (number_of_lanes lanes) rest.corrupt rest.bad at line.heads line.first line.head line.behind.part in
+      wrong_shape f w text line.long (part.none bad)
+
+  -- or each has it, and one of its fields has none of its values
+  pub no_range : {n w digits at : ℕ} {text before lanes : List ℕ} {r : HeadFields} {rest : Rest} → WasRead n w digits text r at before lanes rest
+      → bit_or r.bad rest.bad ≤ 15 → (is_head_in_range f r && nat_lt rest.mask (2 ^ w)) && nat_lt rest.corrupt 2 ≡ false
+      → form_fault f w text ≡ Some Range
+  no_range {w = w} {digits = digits} {at = at} {text = text} {lanes = lanes} {r = r} {rest = rest} line good out =
+      let d = number_of_lanes lanes in
+      let part = line_part w digits text r rest.mask d rest.corrupt rest.bad at line.heads line.first line.head line.behind.part in
+      wrong_range f w text (line_values r rest.mask d rest.corrupt) line.long (part.good good)
+      (below_is w r rest.mask d rest.corrupt false line.heads line.behind.no_mask (λ none. (line.behind.no_data none).1)
+      (line.behind.small (right_good r.bad rest.bad good)) out)
 
 pub out_fields : (h m c : Bool) → m && c ≡ false → (h && m) && c ≡ false
 out_fields true m c none = none

@@ -73,6 +73,11 @@ four_put a b c d e t1 t2 t3 t4 first second space same last =
     ap (λ (xs : List ℕ). xs ++ d) (space ∙ ap (λ (xs : List ℕ). xs ++ 32 ∷ []) (second ∙ ap (λ (xs : List ℕ). xs ++ c) first))
     ∙ regrouped a b c d
 
+-- a word, a number, a space and what follows it
+pub spaced : (before word number rest text : List ℕ) → text ≡ before ++ ((word ++ number) ++ 32 ∷ rest)
+    → text ≡ before ++ (((word ++ number) ++ 32 ∷ []) ++ rest)
+spaced before word number rest text is = is ∙ ap (λ (xs : List ℕ). before ++ xs) (sym (append_assoc (word ++ number) (32 ∷ []) rest))
+
 -- corrupt behind the lanes
 pub data_put : (before lanes : List ℕ) (v c : ℕ) (t1 t2 : List ℕ) → v ≡ c → t1 ≡ before ++ lanes → t2 ≡ t1 ++ 32 ∷ hex 1 v
     → t2 ≡ before ++ (lanes ++ 32 ∷ hex 1 c)

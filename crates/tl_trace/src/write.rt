@@ -277,12 +277,19 @@ fn append_trace(out: &mut Vec<u8>, trace: &Trace) -> Result<(), OutOfMemory>
         trace.now.manager trace.now.lines.items) }
 {
     let (version, client, manager) = (trace.version, trace.client, trace.manager);
-    out.extend_from_slice(header_text(version, client, manager).as_slice())?;
-    out.push(b'\n')?;
+    let header = header_text(version, client, manager);
+    let Ok(()) = out.extend_from_slice(header.as_slice()) else {
+        return Err(OutOfMemory);
+    };
+    let Ok(()) = out.push(b'\n') else {
+        return Err(OutOfMemory);
+    };
     let mut room = [0; LONGEST_LINE];
     for line in &trace.lines {
         let end = fill_line_of(&mut room, line, version, client, manager);
-        out.extend_from_slice(&room[..end])?;
+        let Ok(()) = out.extend_from_slice(&room[..end]) else {
+            return Err(OutOfMemory);
+        };
     }
     Ok(())
 }

@@ -1,5 +1,4 @@
-use Rattle.tl_ring.proofs.Names.{refl}
-use Rattle.tl_ring.proofs.Moves.{no_ring_size, want_of_memory}
+use Rattle.tl_ring.proofs.Moves.{refused_size, want_of_memory}
 use Rattle.tl_ring.proofs.halves.new_ring.Goals as goal
 
 pub is_ring_size-requires : goal.is_ring_size-requires
@@ -16,7 +15,7 @@ returns-then-not-is_ring_size g c =
     record {
       new = tt;
       size = λ made. absurd (cc);
-      ring_size = (λ same. no_ring_size c.args.size c.is_ring_size.result c.is_ring_size.ensures c.if-not-is_ring_size.true, λ refused. refl);
+      ring_size = refused_size c.args.size c.is_ring_size.result c.is_ring_size.ensures c.if-not-is_ring_size.true;
     }
 
 pub returns-in_default : goal.returns-in_default

@@ -1,6 +1,6 @@
 use Rattle.tl_ring.proofs.Names.{◌≤◌, length, arith, ROOM}
 use Rattle.tl_ring.specs.Ends.{sending_of, taking_of}
-use Rattle.tl_ring.proofs.EndSteps.{met_of, meets_of}
+use Rattle.tl_ring.proofs.EndSteps.{meeting_of}
 use denote.Memory.{lone}
 use denote.Param.{layout, param, number, copied}
 use Rattle.tl_ring.specs.contracts.ends.SendEnd as send
@@ -37,14 +37,14 @@ returns g c =
     let pair = rw (← c.send.view_is, ← c.take.view_is) at c.requires in
     let s = sending_of c.send.inside.outbox c.send.inside.producer in
     let t = taking_of c.take.inside.inbox c.take.inside.intake.half in
-    let met = met_of s t seen.new.producer seen.new.consumer seen.result pair seen.ensures.producer seen.ensures.consumer seen.ensures.count
-    seen.ensures.fifo seen.ensures.places in
     let held : length c.take.inside.inbox ≤ ROOM = omega (arith, c.len.ensures.count, c.len.ensures.most) in
+    let meeting = meeting_of g.K.Channel.rules s t seen.new.producer seen.new.consumer seen.result pair seen.ensures.producer seen.ensures.consumer
+    seen.ensures.count seen.ensures.fifo seen.ensures.places held in
     rw (← c.send.view_is, ← c.take.view_is) (record {
-      met = met;
+      met = meeting.0;
       staged = c.staged.ensures.count;
       in_ring = seen.ensures.count;
       inbox = c.len.ensures.count;
       most = (c.staged.ensures.most, c.len.ensures.most);
-      meets = λ x taken sends takes. meets_of g.K.Channel.rules s _ t _ x taken met held sends takes;
+      meets = meeting.1;
     })

@@ -37,37 +37,35 @@ overflow_sub-len g c = c.len-2.ensures.within
 pub overflow_sub-len-2 : goal.overflow_sub-len-2
 overflow_sub-len-2 g c = omega (arith, c.min-count.ensures, c.len.ensures.len, c.len-3.ensures.len)
 
-pub returns-then-count-eq0-clause-count : goal.returns-then-count-eq0-clause-count
-returns-then-count-eq0-clause-count g c = rw (← c.if-count-eq0.true, c.min-count.ensures, c.len.ensures.len, c.len-2.ensures.value) refl
-
-pub returns-then-count-eq0-clause-queue : goal.returns-then-count-eq0-clause-queue
-returns-then-count-eq0-clause-queue g c = sym (append-nil c.args.queue.now)
-
-pub returns-clause-count : goal.returns-clause-count
-returns-clause-count g c = rw (c.min-count.ensures, c.len.ensures.len, c.len-2.ensures.value) refl
-
-pub returns-clause-ring : goal.returns-clause-ring
-returns-clause-ring g c =
-    let left : length c.args.ring.now.items - (c.len-3.result - c.min-count.result) ≡ c.min-count.result =
-    omega (arith, c.len.ensures.len, c.len-3.ensures.len, c.min-count.ensures) in
-    c.truncate_front.ensures ∙ ap (λ k. buffer (drop k c.args.ring.now.items) c.args.ring.now.capacity) left
+pub returns-then-count-eq0 : goal.returns-then-count-eq0
+returns-then-count-eq0 g c = record {
+  count = rw (← c.if-count-eq0.true, c.min-count.ensures, c.len.ensures.len, c.len-2.ensures.value) refl;
+  ring = refl;
+  queue = sym (append-nil c.args.queue.now);
+  most = omega arith;
+}
 
 -- what is read of both parts of the ring is its first items
-pub returns-clause-queue : goal.returns-clause-queue
-returns-clause-queue g c = elim c.if-from_front-count.branch [
-  | then-from_front-count w ↦ rw (
-    w.queue-is,
-    w.append-then-from_front-count.ensures,
-    c.append.ensures,
-    append_assoc,
-    c.min-from_front.ensures,
-    take_of_two,
-    c.as_slices.ensures,
-  ) refl
-  | else-from_front-count w ↦ rw (w.queue-is, c.append.ensures, c.min-from_front.ensures, ← c.as_slices.ensures)
-      (ap (λ t. c.args.queue.now ++ t) (take_of_first c.min-count.result c.as_slices.result.0.now c.as_slices.result.1.now
-      (omega (arith, w.if-from_front-count.false, c.min-from_front.ensures))))
-]
-
-pub returns-clause-most : goal.returns-clause-most
-returns-clause-most g c = omega (arith, c.min-count.ensures, c.len-2.ensures.value)
+pub returns : goal.returns
+returns g c =
+    let left : length c.args.ring.now.items - (c.len-3.result - c.min-count.result) ≡ c.min-count.result =
+    omega (arith, c.len.ensures.len, c.len-3.ensures.len, c.min-count.ensures) in
+    record {
+      count = rw (c.min-count.ensures, c.len.ensures.len, c.len-2.ensures.value) refl;
+      ring = c.truncate_front.ensures ∙ ap (λ k. buffer (drop k c.args.ring.now.items) c.args.ring.now.capacity) left;
+      queue = elim c.if-from_front-count.branch [
+        | then-from_front-count w ↦ rw (
+          w.queue-is,
+          w.append-then-from_front-count.ensures,
+          c.append.ensures,
+          append_assoc,
+          c.min-from_front.ensures,
+          take_of_two,
+          c.as_slices.ensures,
+        ) refl
+        | else-from_front-count w ↦ rw (w.queue-is, c.append.ensures, c.min-from_front.ensures, ← c.as_slices.ensures)
+            (ap (λ t. c.args.queue.now ++ t) (take_of_first c.min-count.result c.as_slices.result.0.now c.as_slices.result.1.now
+            (omega (arith, w.if-from_front-count.false, c.min-from_front.ensures))))
+      ];
+      most = omega (arith, c.min-count.ensures, c.len-2.ensures.value);
+    }

@@ -9,16 +9,15 @@ goes_on_as-requires g c =
     known_of (g.K.HeadText.form g.row.VERSION) g.row.VERSION c.args.text.now c.args.last.now c.in-Some.before c.in-Some.is c.requires.known in
     (omega (arith, c.requires.room), omega (arith, known.within, c.head_end-len.ensures.end))
 
-pub returns-then-goes_on_as-clause-head : goal.returns-then-goes_on_as-clause-head
-returns-then-goes_on_as-clause-head g c =
+pub returns-then-goes_on_as : goal.returns-then-goes_on_as
+returns-then-goes_on_as g c =
     let f = g.K.HeadText.form g.row.VERSION in
     let known = known_of f g.row.VERSION c.args.text.now c.args.last.now c.in-Some.before c.in-Some.is c.requires.known in
-    same_head f g.row.VERSION c.args.text.now c.args.at c.head_end-len.result c.in-Some.before c.head_end-len.ensures.end
-    (c.goes_on_as.ensures c.if-goes_on_as.true).same known
-
-pub returns-then-goes_on_as-clause-known : goal.returns-then-goes_on_as-clause-known
-returns-then-goes_on_as-clause-known g c =
-    known_of (g.K.HeadText.form g.row.VERSION) g.row.VERSION c.args.text.now c.args.last.now c.in-Some.before c.in-Some.is c.requires.known
+    record {
+      head = same_head f g.row.VERSION c.args.text.now c.args.at c.head_end-len.result c.in-Some.before c.head_end-len.ensures.end
+          (c.goes_on_as.ensures c.if-goes_on_as.true).same known;
+      known = known;
+    }
 
 pub slice_bounds-new_head-end : goal.slice_bounds-new_head-end
 slice_bounds-new_head-end g c = omega (arith, c.requires.room, c.head_end-len.ensures.end)
@@ -28,14 +27,9 @@ new_head-requires g c =
     range_long c.args.text.now c.args.at c.head_end-len.result (omega (arith, c.requires.room, c.head_end-len.ensures.end))
     ∙ c.head_end-len.ensures.end
 
-pub returns-clause-head : goal.returns-clause-head
-returns-clause-head g c =
+pub returns : goal.returns
+returns g c =
+    let has =
     read_head (g.K.HeadText.form g.row.VERSION) g.row.VERSION c.args.text.now c.args.at c.head_end-len.result _ c.in-Some-new_head.head
-    c.head_end-len.ensures.end c.in-Some-new_head.is c.new_head.ensures
-
-pub returns-clause-known : goal.returns-clause-known
-returns-clause-known g c = record {
-  within = c.requires.room;
-  has = read_head (g.K.HeadText.form g.row.VERSION) g.row.VERSION c.args.text.now c.args.at c.head_end-len.result _ c.in-Some-new_head.head
-      c.head_end-len.ensures.end c.in-Some-new_head.is c.new_head.ensures;
-}
+    c.head_end-len.ensures.end c.in-Some-new_head.is c.new_head.ensures in
+    record { head = has; known = record { within = c.requires.room; has = has } }

@@ -13,4 +13,4 @@ pub returns-clause-part : goal.returns-clause-part
 returns-clause-part c =
     mask_part c.args.w c.args.text.now c.args.at c.mask_field.result.value c.mask_field.result.bad c.args.masked c.if-not-masked.false
     (subst (λ (k : ℕ). IsNumber c.args.text.now c.args.at k c.mask_field.result.value c.mask_field.result.bad)
-      c.mask_digits.ensures c.mask_field.ensures)
+    c.mask_digits.ensures c.mask_field.ensures)

@@ -4,18 +4,26 @@ use Rattle.tl_trace.proofs.Widths.{width_most}
 use Rattle.tl_trace.proofs.Walk.{no_header, no_header_end, header_faults, split_line}
 use Rattle.tl_trace.proofs.reader.read.Goals as goal
 
-pub returns-in_default-clause-fault : goal.returns-in_default-clause-fault
-returns-in_default-clause-fault c _ =
+pub returns-in_default : goal.returns-in_default
+returns-in_default c =
     let e = c.line_end-end.ensures in
     let line : LineAt c.args.text.now 0 c.line_end-end.result = record { from = e.from; to = e.to; free = e.free; stop = e.end } in
-    no_header c.args.text.now c.line_end-end.result line (from_start c.args.text.now c.line_end-end.result _ c.in_default.ensures)
+    record {
+      told = tt;
+      fault = λ _. no_header c.args.text.now c.line_end-end.result line (from_start c.args.text.now c.line_end-end.result _ c.in_default.ensures);
+      memory = λ is. absurd (cc);
+    }
 
-pub returns-then-end-text-clause-fault : goal.returns-then-end-text-clause-fault
-returns-then-end-text-clause-fault c _ =
+pub returns-then-end-text : goal.returns-then-end-text
+returns-then-end-text c =
     let e = c.line_end-end.ensures in
     let line : LineAt c.args.text.now 0 c.line_end-end.result = record { from = e.from; to = e.to; free = e.free; stop = e.end } in
-    no_header_end c.args.text.now c.line_end-end.result c.in-Some.header line (from_start c.args.text.now c.line_end-end.result _ c.in-Some.ensures)
-    (omega (arith, c.line_end-end.ensures.to, c.if-end-text.true))
+    record {
+      told = tt;
+      fault = λ _. no_header_end c.args.text.now c.line_end-end.result c.in-Some.header line
+          (from_start c.args.text.now c.line_end-end.result _ c.in-Some.ensures) (omega (arith, c.line_end-end.ensures.to, c.if-end-text.true));
+      memory = λ is. absurd (cc);
+    }
 
 pub read_lines-requires-clause-can : goal.read_lines-requires-clause-can
 read_lines-requires-clause-can c =
@@ -40,8 +48,8 @@ invariant_of-result c =
     let all = known (slice_range c.args.text.now 0 c.line_end-end.result) c.in-Some.header some in
     record { kept = record { known_version = all.0; client_width = all.1; manager_width = all.2; kept = c.in-Ok.ensures.1 } }
 
-pub returns-clause-told : goal.returns-clause-told
-returns-clause-told c =
+pub returns : goal.returns
+returns c =
     let e = c.line_end-end.ensures in
     let line : LineAt c.args.text.now 0 c.line_end-end.result = record { from = e.from; to = e.to; free = e.free; stop = e.end } in
     let lt : c.line_end-end.result < length c.args.text.now = omega (arith, e.to, c.if-end-text.false) in
@@ -50,33 +58,16 @@ returns-clause-told c =
     let all = known b c.in-Some.header some in
     let rest = drop (c.line_end-end.result + 1) c.args.text.now in
     record {
-      trace = record { known_version = all.0; client_width = all.1; manager_width = all.2; kept = c.in-Ok.ensures.1 };
-      rest = rest;
-      header = split_line c.args.text.now 0 c.line_end-end.result line lt ∙
-          ap (λ (h : List ℕ). h ++ newline ++ rest) (is_header b c.in-Some.header some);
-      told = c.in-Ok.ensures.0;
+      told = record {
+        trace = record { known_version = all.0; client_width = all.1; manager_width = all.2; kept = c.in-Ok.ensures.1 };
+        rest = rest;
+        header = split_line c.args.text.now 0 c.line_end-end.result line lt ∙
+            ap (λ (h : List ℕ). h ++ newline ++ rest) (is_header b c.in-Some.header some);
+        told = c.in-Ok.ensures.0;
+      };
+      fault = tt;
+      memory = tt;
     }
 
-pub returns-in_default-clause-told : goal.returns-in_default-clause-told
-returns-in_default-clause-told c = tt
-
-pub returns-in_default-clause-memory : goal.returns-in_default-clause-memory
-returns-in_default-clause-memory c = λ is. absurd (cc)
-
-pub returns-then-end-text-clause-told : goal.returns-then-end-text-clause-told
-returns-then-end-text-clause-told c = tt
-
-pub returns-then-end-text-clause-memory : goal.returns-then-end-text-clause-memory
-returns-then-end-text-clause-memory c = λ is. absurd (cc)
-
-pub returns-clause-fault : goal.returns-clause-fault
-returns-clause-fault c = tt
-
-pub returns-clause-memory : goal.returns-clause-memory
-returns-clause-memory c = tt
-
-pub returns-in-Err-clause-fault : goal.returns-in-Err-clause-fault
-returns-in-Err-clause-fault c = c.in-Err.ensures.0
-
-pub returns-in-Err-clause-memory : goal.returns-in-Err-clause-memory
-returns-in-Err-clause-memory c = c.in-Err.ensures.1
+pub returns-in-Err : goal.returns-in-Err
+returns-in-Err c = record { told = tt; fault = c.in-Err.ensures.0; memory = c.in-Err.ensures.1 }

@@ -6,7 +6,7 @@ use Rattle.tl_trace.proofs.same_text.goes_on_as.Goals as goal
 pub loop-i-preserved : goal.loop-i-preserved
 loop-i-preserved c =
     one_word_more (slice_range c.args.text.now c.args.at (c.args.at + c.args.len))
-      (slice_range c.args.text.now c.args.before (c.args.before + c.args.len))
+    (slice_range c.args.text.now c.args.before (c.args.before + c.args.len))
     c.loop-i.i (sym c.word.ensures ∙ ap (to_le_bytes w64) c.if-word.false ∙ c.word-in-loop-i.ensures) c.loop-i.invariant
 
 pub returns : goal.returns

@@ -17,15 +17,19 @@ push_line-requires g c =
       ),
     )
 
-pub returns-in_default-push_line-clause-pushed : goal.returns-in_default-push_line-clause-pushed
-returns-in_default-push_line-clause-pushed g c =
-    none_more (g.K.HeadText.form g.row.VERSION) g.row.W c.args.text.now c.args.at c.args.list.now c.lines.list c.push_line.new.list _
-    c.in_default-push_line.ensures c.lines.invariant.0
+pub returns-in_default-push_line : goal.returns-in_default-push_line
+returns-in_default-push_line g c = record {
+  pushed = none_more (g.K.HeadText.form g.row.VERSION) g.row.W c.args.text.now c.args.at c.args.list.now c.lines.list c.push_line.new.list _
+      c.in_default-push_line.ensures c.lines.invariant.0;
+  known = c.in-Some.ensures.known;
+}
 
-pub returns-then-not-goes_on_as-clause-pushed : goal.returns-then-not-goes_on_as-clause-pushed
-returns-then-not-goes_on_as-clause-pushed g c =
-    one_more_line (g.K.HeadText.form g.row.VERSION) g.row.W c.args.text.now c.args.at c.args.list.now c.lines.list c.push_line.new.list
-    c.lines.lines.count c.lines.lines.place c.in-Some-push_line.end c.lines.invariant.0 c.in-Some-push_line.ensures
+pub returns-then-not-goes_on_as : goal.returns-then-not-goes_on_as
+returns-then-not-goes_on_as g c = record {
+  pushed = one_more_line (g.K.HeadText.form g.row.VERSION) g.row.W c.args.text.now c.args.at c.args.list.now c.lines.list c.push_line.new.list
+      c.lines.lines.count c.lines.lines.place c.in-Some-push_line.end c.lines.invariant.0 c.in-Some-push_line.ensures;
+  known = c.in-Some.ensures.known;
+}
 
 pub lines-preserved : goal.lines-preserved
 lines-preserved g c = (

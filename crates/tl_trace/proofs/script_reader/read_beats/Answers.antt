@@ -56,42 +56,43 @@ push_slowly-requires g c = (lit< tt, (c.requires.0, c.loop-at-test.true))
 pub fault_behind-requires : goal.fault_behind-requires
 fault_behind-requires g c = omega (arith, c.requires.1, c.loop-at.invariant.1.few, c.loop-at-test.true)
 
-pub returns-in-Ok-None-clause-version : goal.returns-in-Ok-None-clause-version
-returns-in-Ok-None-clause-version g c = c.loop-at.invariant.0
-
-pub returns-in-Err-clause-version : goal.returns-in-Err-clause-version
-returns-in-Err-clause-version g c = c.loop-at.invariant.0
-
-pub returns-clause-version : goal.returns-clause-version
-returns-clause-version g c = c.loop-at.invariant.0
-
-pub returns-in-Ok-None-clause-read : goal.returns-in-Ok-None-clause-read
-returns-in-Ok-None-clause-read g c =
+pub returns-in-Ok-None : goal.returns-in-Ok-None
+returns-in-Ok-None g c =
     let far =
     waits g.row.VERSION c.args.piece.now c.args.reader.now.script c.args.reader.now.line
     c.loop-at.reader.script c.push_next-lines.new.script c.loop-at.at c.loop-at.reader.line c.loop-at.invariant.1
     (no_lines g.row.VERSION c.args.piece.now c.loop-at.at c.loop-at.reader.script c.push_next-lines.new.script c.push_next-lines.result
     c.if-lines-gt0.false c.push_next-lines.ensures.pushed) in
     let left = rw c.in-Ok-None.field-0-is at c.in-Ok-None.ensures in
-    ends g.row.VERSION c.args.piece.now c.args.reader.now.script c.args.reader.now.line c.push_slowly.new.script c.loop-at.at c.loop-at.reader.line
-    (waits g.row.VERSION c.args.piece.now c.args.reader.now.script c.args.reader.now.line
-    c.push_next-lines.new.script c.push_slowly.new.script c.loop-at.at c.loop-at.reader.line far left.same) left.rest
+    record {
+      version = c.loop-at.invariant.0;
+      read = ends g.row.VERSION c.args.piece.now c.args.reader.now.script c.args.reader.now.line c.push_slowly.new.script c.loop-at.at
+          c.loop-at.reader.line (waits g.row.VERSION c.args.piece.now c.args.reader.now.script c.args.reader.now.line
+          c.push_next-lines.new.script c.push_slowly.new.script c.loop-at.at c.loop-at.reader.line far left.same) left.rest;
+    }
 
-pub returns-in-Err-clause-read : goal.returns-in-Err-clause-read
-returns-in-Err-clause-read g c =
+pub returns-in-Err : goal.returns-in-Err
+returns-in-Err g c =
     let far =
     waits g.row.VERSION c.args.piece.now c.args.reader.now.script c.args.reader.now.line
     c.loop-at.reader.script c.push_next-lines.new.script c.loop-at.at c.loop-at.reader.line c.loop-at.invariant.1
     (no_lines g.row.VERSION c.args.piece.now c.loop-at.at c.loop-at.reader.script c.push_next-lines.new.script c.push_next-lines.result
     c.if-lines-gt0.false c.push_next-lines.ensures.pushed) in
-    named_by g.row.VERSION c.args.piece.now c.args.reader.now.script c.args.reader.now.line c.push_slowly.new.script c.loop-at.reader.line
-    c.in-Err.kind c.fault_behind.result c.fault_behind.ensures.line c.fault_behind.ensures.kind
-    (stops g.row.VERSION c.args.piece.now c.args.reader.now.script c.args.reader.now.line
-    c.push_next-lines.new.script c.push_slowly.new.script c.loop-at.at c.loop-at.reader.line
-    c.in-Err.kind c.requires.0.client c.requires.0.manager far c.loop-at-test.true c.in-Err.ensures.0.0 c.in-Err.ensures.0.1 c.in-Err.ensures.1)
+    record {
+      version = c.loop-at.invariant.0;
+      read = named_by g.row.VERSION c.args.piece.now c.args.reader.now.script c.args.reader.now.line c.push_slowly.new.script c.loop-at.reader.line
+          c.in-Err.kind c.fault_behind.result c.fault_behind.ensures.line c.fault_behind.ensures.kind
+          (stops g.row.VERSION c.args.piece.now c.args.reader.now.script c.args.reader.now.line
+          c.push_next-lines.new.script c.push_slowly.new.script c.loop-at.at c.loop-at.reader.line
+          c.in-Err.kind c.requires.0.client c.requires.0.manager far c.loop-at-test.true c.in-Err.ensures.0.0 c.in-Err.ensures.0.1
+          c.in-Err.ensures.1);
+    }
 
-pub returns-clause-read : goal.returns-clause-read
-returns-clause-read g c =
-    ends g.row.VERSION c.args.piece.now c.args.reader.now.script c.args.reader.now.line
-    c.loop-at.reader.script c.loop-at.at c.loop-at.reader.line c.loop-at.invariant.1
-    (left_none g.row.VERSION c.args.piece.now c.args.reader.now.script c.args.reader.now.line c.loop-at.at c.loop-at-test.false)
+pub returns : goal.returns
+returns g c =
+    record {
+      version = c.loop-at.invariant.0;
+      read = ends g.row.VERSION c.args.piece.now c.args.reader.now.script c.args.reader.now.line
+          c.loop-at.reader.script c.loop-at.at c.loop-at.reader.line c.loop-at.invariant.1
+          (left_none g.row.VERSION c.args.piece.now c.args.reader.now.script c.args.reader.now.line c.loop-at.at c.loop-at-test.false);
+    }

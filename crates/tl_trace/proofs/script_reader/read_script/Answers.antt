@@ -8,13 +8,18 @@ use Rattle.tl_trace.proofs.ReadBeats.{first_line}
 use Rattle.tl_trace.proofs.Pieces.{header_line, whole_text, parted_text, used_text, tells_script}
 use Rattle.tl_trace.proofs.script_reader.read_script.Goals as goal
 
-pub returns-then-end-text-clause-fault : goal.returns-then-end-text-clause-fault
-returns-then-end-text-clause-fault g c _ =
+pub returns-then-end-text : goal.returns-then-end-text
+returns-then-end-text g c =
     let e = c.line_end-end.ensures in
     let line : LineAt c.args.text.now 0 c.line_end-end.result = record { from = e.from; to = e.to; free = e.free; stop = e.end } in
     let some : header_of (slice_range c.args.text.now 0 c.line_end-end.result) ≡ Some (header c.args.version g.row.C g.row.M) =
     ap header_of (sym (first_line c.args.text.now c.line_end-end.result line)) ∙ c.requires.header in
-    no_header_end c.args.text.now c.line_end-end.result (header c.args.version g.row.C g.row.M) line some (omega (arith, e.to, c.if-end-text.true))
+    record {
+      told = tt;
+      fault = λ _. no_header_end c.args.text.now c.line_end-end.result (header c.args.version g.row.C g.row.M) line some
+          (omega (arith, e.to, c.if-end-text.true));
+      memory = λ is. absurd (cc);
+    }
 
 pub read-requires : goal.read-requires
 read-requires g c =
@@ -22,8 +27,8 @@ read-requires g c =
     let version : is_version c.new-reader.result.version ≡ true = subst (λ v. is_version v ≡ true) (sym c.new-reader.ensures.version) all.0 in
     (search rules, (version, (width_most c.args.version g.row.C all.1, (width_most c.args.version g.row.M all.2, search rules))))
 
-pub returns-in-Err-clause-fault : goal.returns-in-Err-clause-fault
-returns-in-Err-clause-fault g c other =
+pub returns-in-Err : goal.returns-in-Err
+returns-in-Err g c =
     let e = c.line_end-end.ensures in
     let line : LineAt c.args.text.now 0 c.line_end-end.result = record { from = e.from; to = e.to; free = e.free; stop = e.end } in
     let text = c.args.text.now in
@@ -32,21 +37,13 @@ returns-in-Err-clause-fault g c other =
     let read =
     subst (λ v. HasRead v (take n text) c.new-reader.result.script c.new-reader.result.line) (sym c.new-reader.ensures.version)
     (c.new-reader.ensures.header (take n text) begins) in
-    subst (λ t. IsFirstFault t c.in-Err.fault.line c.in-Err.fault.kind) (whole_text text n (take (length text - n) (drop n text)) (take_rest text n))
-    (c.in-Err.ensures.fault (take n text) [] none_gone read other)
-
-pub returns-in-Err-clause-memory : goal.returns-in-Err-clause-memory
-returns-in-Err-clause-memory g c is =
-    let e = c.line_end-end.ensures in
-    let line : LineAt c.args.text.now 0 c.line_end-end.result = record { from = e.from; to = e.to; free = e.free; stop = e.end } in
-    let text = c.args.text.now in
-    let n = c.line_end-end.result + 1 in
-    let begins = header_line text c.line_end-end.result c.args.version g.row.C g.row.M line c.if-end-text.false c.requires.header in
-    let read =
-    subst (λ v. HasRead v (take n text) c.new-reader.result.script c.new-reader.result.line) (sym c.new-reader.ensures.version)
-    (c.new-reader.ensures.header (take n text) begins) in
-    subst (λ t. IsReadableTo t c.in-Err.fault.line) (whole_text text n (take (length text - n) (drop n text)) (take_rest text n))
-    (c.in-Err.ensures.memory (take n text) [] none_gone read is)
+    let whole = whole_text text n (take (length text - n) (drop n text)) (take_rest text n) in
+    record {
+      told = tt;
+      fault = λ other. subst (λ t. IsFirstFault t c.in-Err.fault.line c.in-Err.fault.kind) whole
+          (c.in-Err.ensures.fault (take n text) [] none_gone read other);
+      memory = λ is. subst (λ t. IsReadableTo t c.in-Err.fault.line) whole (c.in-Err.ensures.memory (take n text) [] none_gone read is);
+    }
 
 pub end_fault-requires : goal.end_fault-requires
 end_fault-requires g c =
@@ -58,8 +55,8 @@ end_fault-requires g c =
     ap (list_any is_newline) (take_rest later c.in-Ok.used) ∙ c.in-Ok.ensures.rest.free in
     (search rules, (version, (width_most c.args.version g.row.C all.1, (width_most c.args.version g.row.M all.2, (search rules, free)))))
 
-pub returns-in-Some-clause-fault : goal.returns-in-Some-clause-fault
-returns-in-Some-clause-fault g c other =
+pub returns-in-Some : goal.returns-in-Some
+returns-in-Some g c =
     let e = c.line_end-end.ensures in
     let line : LineAt c.args.text.now 0 c.line_end-end.result = record { from = e.from; to = e.to; free = e.free; stop = e.end } in
     let text = c.args.text.now in
@@ -72,24 +69,33 @@ returns-in-Some-clause-fault g c other =
     let more =
     subst (λ v. HasRead v (take n text ++ take c.in-Ok.used later) c.read.new.self.script c.read.new.self.line) (sym c.in-Ok.ensures.version)
     (c.in-Ok.ensures.told (take n text) none_gone read) in
-    subst (λ t. IsFirstFault t c.in-Some.fault.line c.in-Some.fault.kind)
-    (parted_text text n later (take_rest text n) c.in-Ok.used (take (length later - c.in-Ok.used) (drop c.in-Ok.used later))
-    (take_rest later c.in-Ok.used))
-    (c.in-Some.ensures.fault (take n text ++ take c.in-Ok.used later) none_gone more)
+    record {
+      told = tt;
+      fault = λ other. subst (λ t. IsFirstFault t c.in-Some.fault.line c.in-Some.fault.kind)
+          (parted_text text n later (take_rest text n) c.in-Ok.used (take (length later - c.in-Ok.used) (drop c.in-Ok.used later))
+          (take_rest later c.in-Ok.used))
+          (c.in-Some.ensures.fault (take n text ++ take c.in-Ok.used later) none_gone more);
+      memory = λ is. absurd (c.in-Some.ensures.kind is);
+    }
 
-pub returns-in-None-clause-told : goal.returns-in-None-clause-told
-returns-in-None-clause-told g c =
+pub returns-in-None : goal.returns-in-None
+returns-in-None g c =
     let e = c.line_end-end.ensures in
     let line : LineAt c.args.text.now 0 c.line_end-end.result = record { from = e.from; to = e.to; free = e.free; stop = e.end } in
     let text = c.args.text.now in
     let n = c.line_end-end.result + 1 in
     let later = take (length text - n) (drop n text) in
     let begins = header_line text c.line_end-end.result c.args.version g.row.C g.row.M line c.if-end-text.false c.requires.header in
-    let first = c.new-reader.ensures.header (take n text) begins in
-    let read = subst (λ v. HasRead v (take n text) c.new-reader.result.script c.new-reader.result.line) (sym c.new-reader.ensures.version) first in
+    let read =
+    subst (λ v. HasRead v (take n text) c.new-reader.result.script c.new-reader.result.line) (sym c.new-reader.ensures.version)
+    (c.new-reader.ensures.header (take n text) begins) in
     let more =
     subst (λ v. HasRead v (take n text ++ take c.in-Ok.used later) c.read.new.self.script c.read.new.self.line) c.new-reader.ensures.version
     (c.in-Ok.ensures.told (take n text) none_gone read) in
-    tells_script c.args.version (take n text ++ take c.in-Ok.used later) text c.read.new.self.script c.read.new.self.line
-    (used_text text n later (take_rest text n) c.in-Ok.used (take (length later - c.in-Ok.used) (drop c.in-Ok.used later))
-    (take_rest later c.in-Ok.used) (c.in-None.ensures.none refl)) more
+    record {
+      told = tells_script c.args.version (take n text ++ take c.in-Ok.used later) text c.read.new.self.script c.read.new.self.line
+          (used_text text n later (take_rest text n) c.in-Ok.used (take (length later - c.in-Ok.used) (drop c.in-Ok.used later))
+          (take_rest later c.in-Ok.used) (c.in-None.ensures.none refl)) more;
+      fault = tt;
+      memory = tt;
+    }

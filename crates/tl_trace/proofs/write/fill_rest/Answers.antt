@@ -3,19 +3,14 @@ use Rattle.tl_trace.proofs.LineText.{a_part, no_part, data_put, three_put}
 use Rattle.tl_trace.specs.Inner.LineRests.{data_length}
 use Rattle.tl_trace.proofs.write.fill_rest.Goals as goal
 
-pub fill_mask-mask-requires-clause-width : goal.fill_mask-mask-requires-clause-width
-fill_mask-mask-requires-clause-width g c = c.requires.width
+pub fill_mask-mask-requires : goal.fill_mask-mask-requires
+fill_mask-mask-requires g c = record { width = c.requires.width; room = omega (arith, c.requires.room) }
 
-pub fill_mask-mask-requires-clause-room : goal.fill_mask-mask-requires-clause-room
-fill_mask-mask-requires-clause-room g c = omega (arith, c.requires.room)
-
-pub returns-then-not-has_data-clause-items : goal.returns-then-not-has_data-clause-items
-returns-then-not-has_data-clause-items g c =
-    three_put _ _ _ _ _ _ _ c.fill_mask-mask.ensures.items (no_part _ _ _ c.if-not-has_data.true) c.fill.ensures.items
-
-pub returns-then-not-has_data-clause-end : goal.returns-then-not-has_data-clause-end
-returns-then-not-has_data-clause-end g c =
-    omega (arith, ap (λ (t : Bool). data_length t c.args.w) c.if-not-has_data.true, c.fill_mask-mask.ensures.end, c.fill.ensures.end)
+pub returns-then-not-has_data : goal.returns-then-not-has_data
+returns-then-not-has_data g c = record {
+  items = three_put _ _ _ _ _ _ _ c.fill_mask-mask.ensures.items (no_part _ _ _ c.if-not-has_data.true) c.fill.ensures.items;
+  end = omega (arith, ap (λ (t : Bool). data_length t c.args.w) c.if-not-has_data.true, c.fill_mask-mask.ensures.end, c.fill.ensures.end);
+}
 
 pub fill_lanes-lanes-requires-clause-room : goal.fill_lanes-lanes-requires-clause-room
 fill_lanes-lanes-requires-clause-room g c =
@@ -39,20 +34,20 @@ fill_field-data-requires g c =
       c.fill_lanes-lanes.auto.line,
     )
 
-pub returns-clause-items : goal.returns-clause-items
-returns-clause-items g c =
-    three_put _ _ _ _ _ _ _ c.fill_mask-mask.ensures.items
-    (a_part _ _ _ _ c.if-not-has_data.false (data_put _ _ _ (bit c.args.beat.now.corrupt) _ _ (search rules)
-      c.fill_lanes-lanes.ensures.items c.fill_field-data.ensures.items))
-    c.fill-2.ensures.items
-
-pub returns-clause-end : goal.returns-clause-end
-returns-clause-end g c =
-    omega (
-      arith,
-      ap (λ (t : Bool). data_length t c.args.w) c.if-not-has_data.false,
-      c.fill_mask-mask.ensures.end,
-      c.fill_lanes-lanes.ensures.end,
-      c.fill_field-data.ensures.end,
-      c.fill-2.ensures.end,
-    )
+pub returns : goal.returns
+returns g c =
+    let behind = ap (λ (t : Bool). data_length t c.args.w) c.if-not-has_data.false in
+    record {
+      items = three_put _ _ _ _ _ _ _ c.fill_mask-mask.ensures.items
+          (a_part _ _ _ _ c.if-not-has_data.false (data_put _ _ _ (bit c.args.beat.now.corrupt) _ _ (search rules)
+          c.fill_lanes-lanes.ensures.items c.fill_field-data.ensures.items))
+          c.fill-2.ensures.items;
+      end = omega (
+        arith,
+        behind,
+        c.fill_mask-mask.ensures.end,
+        c.fill_lanes-lanes.ensures.end,
+        c.fill_field-data.ensures.end,
+        c.fill-2.ensures.end,
+      );
+    }

@@ -3,12 +3,6 @@ use Rattle.tl_trace.proofs.Decimals.{length_decimal}
 use Rattle.tl_trace.proofs.LineText.{four_put}
 use Rattle.tl_trace.proofs.write.put_counts.Goals as goal
 
-pub returns-clause-items : goal.returns-clause-items
-returns-clause-items c =
-    four_put c.args.text.now.items c.args.word.now (decimal c.args.near) (decimal c.args.far) _ _ _ _ _ c.put.ensures.items
-    c.put_decimal.ensures.items
-    c.put_byte.ensures.items refl c.put_decimal-2.ensures.items
-
 pub put-requires : goal.put-requires
 put-requires c = omega (arith, c.requires)
 
@@ -30,15 +24,18 @@ put_decimal-requires-2 c =
       length_decimal c.args.far (omega arith),
     )
 
-pub returns-clause-len : goal.returns-clause-len
-returns-clause-len c =
-    omega (
-      arith,
-      c.requires,
-      c.put.ensures.len,
-      c.put_decimal.ensures.len,
-      c.put_byte.ensures.len,
-      c.put_decimal-2.ensures.len,
-      length_decimal c.args.near (omega arith),
-      length_decimal c.args.far (omega arith),
-    )
+pub returns : goal.returns
+returns c = record {
+  items = four_put c.args.text.now.items c.args.word.now (decimal c.args.near) (decimal c.args.far) _ _ _ _ _ c.put.ensures.items
+      c.put_decimal.ensures.items c.put_byte.ensures.items refl c.put_decimal-2.ensures.items;
+  len = omega (
+    arith,
+    c.requires,
+    c.put.ensures.len,
+    c.put_decimal.ensures.len,
+    c.put_byte.ensures.len,
+    c.put_decimal-2.ensures.len,
+    length_decimal c.args.near (omega arith),
+    length_decimal c.args.far (omega arith),
+  );
+}

@@ -13,7 +13,7 @@ loop-beat-preserved g c =
       appended_more f g.row.W c.args.out.now.items c.loop-beat.out.items c.append_line.new.out.items _ c.args.beats.now c.len-start.result
           c.loop-beat.beat-index b c.loop-beat-test.true
           (line_is f g.row.W b _ _ _ _ (g.met.K.HeadText.masked_form c.args.version ∙ sym c.MASKED-masked.ensures)
-            (g.met.K.HeadText.data_form c.args.version ∙ sym c.HAS_DATA-has_data.ensures)
+          (g.met.K.HeadText.data_form c.args.version ∙ sym c.HAS_DATA-has_data.ensures)
           (g.met.K.HeadText.narrow_head c.args.version _ g.row.W b)
           (take-take at (at + c.rest_len.result + 1) c.if-ne.line (omega arith) ∙ head.0 ∙ ap (head_text f) head.1) refl
           ∙ ap (λ x. line_text f g.row.W x ++ newline) c.beat-item.is)
@@ -47,9 +47,6 @@ loop-beat-preserved g c =
           )
     ]
 
-pub returns-in_default-clause-err : goal.returns-in_default-clause-err
-returns-in_default-clause-err g c = tt
-
 pub loop-beat-init : goal.loop-beat-init
 loop-beat-init g c = (
   c.fill_head-at.ensures.items,
@@ -71,23 +68,22 @@ append_line-requires g c =
       | else-ne w ↦ ap length w.line-is ∙ c.loop-beat.invariant.2
     ]
 
-pub returns-then-is_err-2-clause-ok : goal.returns-then-is_err-2-clause-ok
-returns-then-is_err-2-clause-ok g c = tt
+pub returns-then-is_err-2 : goal.returns-then-is_err-2
+returns-then-is_err-2 g c = record {
+  ok = tt;
+  err = c.truncate.ensures.items
+      ∙ appended_front (g.K.HeadText.form c.args.version) g.row.W c.args.out.now.items c.loop-beat.out.items c.append_line.new.out.items _
+      c.len-start.result
+      (of_err c.append_line.result (sym c.is_err-in-loop-beat.ensures.value ∙ c.if-is_err-2.true) c.append_line.ensures.err)
+      c.loop-beat.invariant.1;
+}
 
-pub returns-then-is_err-2-clause-err : goal.returns-then-is_err-2-clause-err
-returns-then-is_err-2-clause-err g c =
-    c.truncate.ensures.items
-    ∙ appended_front (g.K.HeadText.form c.args.version) g.row.W c.args.out.now.items c.loop-beat.out.items c.append_line.new.out.items _
-    c.len-start.result
-    (of_err c.append_line.result (sym c.is_err-in-loop-beat.ensures.value ∙ c.if-is_err-2.true) c.append_line.ensures.err) c.loop-beat.invariant.1
-
-pub returns-clause-ok : goal.returns-clause-ok
-returns-clause-ok g c =
-    appended_all (g.K.HeadText.form c.args.version) g.row.W c.args.out.now.items c.loop-beat.out.items c.args.beats.now c.len-start.result
-    c.loop-beat.beat-index c.loop-beat-test.false c.loop-beat.invariant.1
-
-pub returns-clause-err : goal.returns-clause-err
-returns-clause-err g c = tt
+pub returns : goal.returns
+returns g c = record {
+  ok = appended_all (g.K.HeadText.form c.args.version) g.row.W c.args.out.now.items c.loop-beat.out.items c.args.beats.now c.len-start.result
+      c.loop-beat.beat-index c.loop-beat-test.false c.loop-beat.invariant.1;
+  err = tt;
+}
 
 pub rest_len-requires : goal.rest_len-requires
 rest_len-requires g c = (width_bounds g.row.W c.requires).1

@@ -16,7 +16,7 @@ slots_after-in_ring-requires-room-P-Protocol-2 g c =
     λ κs within. beat_in_queue (lone g.row.K-Head.mir) (layout g.row.K-Head) g.row.V 9223372036854775808
     (inner_small (layout (the_row (param 0 g.row.K) (param 1 (number g.row.W)) (param 2 (number g.row.V)) (param 3 g.row.A)
     (copied 4 g.row.K-Head) g.K.Channel g.K.Head.Clone g.K.Head.Eq g.K.Head.PartialEq g.K.Head.Default
-      g.A.Allocator)) 0 0 9223372036854775808 c.requires-raw.1.1.1.1.1.0)
+    g.A.Allocator)) 0 0 9223372036854775808 c.requires-raw.1.1.1.1.1.0)
 
 pub slots_after-in_ring-requires : goal.slots_after-in_ring-requires
 slots_after-in_ring-requires g c = rw (← c.receipt.view_is, ← c.self.view_is) at c.requires
@@ -25,7 +25,7 @@ pub len-waiting-requires : goal.len-waiting-requires
 len-waiting-requires g c =
     part_small (layout (the_row (param 0 g.row.K) (param 1 (number g.row.W)) (param 2 (number g.row.V)) (param 3 g.row.A)
     (copied 4 g.row.K-Head) g.K.Channel g.K.Head.Clone g.K.Head.Eq g.K.Head.PartialEq g.K.Head.Default
-      g.A.Allocator)) 0 9223372036854775808 c.requires-raw.1.1.1.1.1.0
+    g.A.Allocator)) 0 9223372036854775808 c.requires-raw.1.1.1.1.1.0
 
 pub returns : goal.returns
 returns g c =
@@ -34,7 +34,7 @@ returns g c =
     let e : Ended _ _ _ _ = record { finished = c.receipt.inside.finished } in
     let t = taking_of c.self.inside.inbox c.self.inside.intake.half in
     let looked : LookedAfter e t (record { finished = c.slots_after-in_ring.new.finished })
-      (taking_of c.self.inside.inbox c.slots_after-in_ring.new.self) =
+    (taking_of c.self.inside.inbox c.slots_after-in_ring.new.self) =
     record {
       receipt = after.finished.0;
       take = after.looked.0;

@@ -6,8 +6,11 @@ use Rattle.tl_ring.specs.contracts.outbox.Outbox.{the_row}
 use Rattle.tl_ring.proofs.FieldSizes.{part_small, beat_in_queue}
 use Rattle.tl_ring.proofs.outbox.Outbox.new.Goals as goal
 
-pub returns-clause-stands : goal.returns-clause-stands
-returns-clause-stands g c = λ near far. has_new g.K.Channel.rules _ near far c.new.ensures c.new-2.ensures refl
+pub returns : goal.returns
+returns g c = record {
+  stands = λ near far. has_new g.K.Channel.rules _ near far c.new.ensures c.new-2.ensures refl;
+  ready = (c.new-2.ensures, refl);
+}
 
 pub new-requires : goal.new-requires
 new-requires g c = part_small (layout (the_row (param 0 g.row.K) (param 1 (number g.row.W)) (param 2 (number g.row.V)) (copied 3 g.row.K-Head)

@@ -1,12 +1,20 @@
-use Rattle.std.proofs.lemmas.Result.{err_from_is_err_and}
-use Rattle.tl_convert.proofs.Refusals.{refused_too}
+use Rattle.tl_ring.proofs.Names.{refl}
 use Rattle.tl_ring.proofs.outbox.Outbox.offer.Goals as goal
 
-pub returns-in_err-place-clause-admitted : goal.returns-in_err-place-clause-admitted
-returns-in_err-place-clause-admitted g c = λ bs homes sent stands.
-    refused_too c.from_residual.result c.from_residual.ensures.0 (c.in_err-place.ensures.admitted bs homes sent stands)
+pub returns-in-Err : goal.returns-in-Err
+returns-in-Err g c = record {
+  admitted = c.in-Err.ensures.admitted;
+  accepted = λ bs homes sent stands. tt;
+  first_fault = c.in-Err.ensures.first_fault;
+  still = c.requires.2.1;
+  refused = refl;
+}
 
-pub returns-in_err-place-clause-first_fault : goal.returns-in_err-place-clause-first_fault
-returns-in_err-place-clause-first_fault g c = λ bs homes sent stands.
-    let p = err_from_is_err_and c.from_residual.result c.from_residual.ensures.1 in
-    rw (p.1, p.2) (c.in_err-place.ensures.first_fault bs homes sent stands)
+pub returns : goal.returns
+returns g c = record {
+  admitted = c.in-Ok.ensures.admitted;
+  accepted = c.offer_at.ensures.accepted;
+  first_fault = λ bs homes sent stands. tt;
+  still = c.offer_at.ensures.still;
+  refused = tt;
+}

@@ -14,6 +14,6 @@ returns g c =
     let none = none_in_one c.self.inside.stage c.len.result c.len.ensures.value in
     rw (← c.self.view_is) (
       λ answered. (let each = and_parts (c.len.result == 0)
-        (not c.self.inside.closed) answered in (none.0 each.0, not-true c.self.inside.closed each.1)),
+          (not c.self.inside.closed) answered in (none.0 each.0, not-true c.self.inside.closed each.1)),
       λ (empty, still). rw (none.1 empty, still) refl,
     )

@@ -13,11 +13,11 @@ returns c =
     let id = subst Id c.id_digits-digits.ensures.digits k.ensures in
     let five =
     and_field 0 c.args.text.now 1 c.common_end-sink_at.result _ _ _ (sink digits) k.result.value k.result.bad
-      c.common_end-sink_at.ensures.end fields.ensures.part
+    c.common_end-sink_at.ensures.end fields.ensures.part
     id in
     let at = c.common_end-sink_at.result + 1 + c.id_digits-digits.result in
     let there : at ≡ 1 + length_of 0 (common c.args.version ++ sink digits ∷ []) =
-      omega (arith, c.common_end-sink_at.ensures.end, c.id_digits-digits.ensures.digits) in
+    omega (arith, c.common_end-sink_at.ensures.end, c.id_digits-digits.ensures.digits) in
     record {
       part = and_field 0 c.args.text.now 1 at _ _ _ denied n.result.value n.result.bad there five n.ensures;
       small = λ le.
