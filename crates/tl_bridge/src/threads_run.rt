@@ -2,13 +2,8 @@
 ghost use Rattle.std.specs.Prelude.{◌≡◌, ◌≢◌, ◌≤◌, ◌<◌, ◌⊎◌, ◌↔◌, IsOk, IfOk, IfErr};
 ghost use Rattle.tl_ring.specs.declared.pipe.TheConstants.{MAX_RING};
 ghost use Rattle.tl_lanes.specs.Lanes.{IsWidth};
-ghost use Rattle.tl_run.specs.declared.outcome.RunFault.TheVariants.{RingSize, OutOfMemory, Stalled};
-ghost use Rattle.tl_run.specs.Scripts.{HasShortLists, SettlesTo, near_beats};
-ghost use Rattle.tl_run.specs.Inner.Widths.{AreWidths};
-ghost use Rattle.tl_run.specs.Inner.Arriving.{beats_of};
-ghost use Rattle.tl_bridge.specs.Inner.Arriving.{taken_of};
-ghost use Rattle.tl_run.specs.Inner.Running.{HasEnded};
-ghost use Rattle.tl_bridge.specs.Inner.Sides.{AreNew, bridge_of};
+ghost use Rattle.tl_run.specs.declared.outcome.RunFault.TheVariants.{RingSize, Stalled};
+ghost use Rattle.tl_run.specs.Scripts.{HasShortLists, SettlesTo};
 
 use crate::client_turns::ClientRun;
 use crate::gates::Gate;
@@ -16,7 +11,8 @@ use crate::manager_turns::ManagerRun;
 use crate::thread_rounds::play_rounds;
 use std::alloc::Global;
 use std::thread::Threads;
-use tl_run::{End, Outcome, RunFault, Taken, outcome_of};
+use tl_ring::MAX_RING;
+use tl_run::{Outcome, RunFault, Taken, outcome_of};
 use tl_trace::Script;
 
 /// Runs a script over a bridge whose two sides are each in a thread of their own, to its end: the
@@ -55,24 +51,29 @@ pub fn run_threads<R: Threads, G: Gate + Send, H: Gate + Send, const C: usize, c
         ((ring ≡ 0) ⊎ (MAX_RING < ring))) }
     ensures never_stalled { IfErr result (λ fault. fault ≢ Stalled) }
 {
-    let (client, manager) = match tl_sides::bridge::<C, M, Global>(alloc, ring) {
-        Ok(sides) => sides,
-        Err(fault) => return Err(RunFault::from(fault)),
+    // the lists are asked for first, and then the rings
+    if ring == 0 || ring > MAX_RING {
+        return Err(RunFault::RingSize);
+    }
+    let Ok(Taken { a, b, c, d, e }) = Taken::new(alloc, script) else {
+        return Err(RunFault::OutOfMemory);
+    };
+    let Ok((client, manager)) = tl_sides::bridge::<C, M, Global>(alloc, ring) else {
+        return Err(RunFault::OutOfMemory);
     };
     let mut client = ClientRun {
         side: client,
-        far_b: Vec::new(alloc),
-        far_d: Vec::new(alloc),
+        far_b: b,
+        far_d: d,
     };
     let mut manager = ManagerRun {
         side: manager,
-        far_a: Vec::new(alloc),
-        far_c: Vec::new(alloc),
-        far_e: Vec::new(alloc),
+        far_a: a,
+        far_c: c,
+        far_e: e,
     };
-    let ended = run_sides(
+    let end = play_rounds(
         rt,
-        alloc,
         &mut client,
         &mut manager,
         script,
@@ -82,42 +83,5 @@ pub fn run_threads<R: Threads, G: Gate + Send, H: Gate + Send, const C: usize, c
     );
     let (b, d) = client.into_lists();
     let (a, c, e) = manager.into_lists();
-    outcome_of(ended, Taken { a, b, c, d, e })
-}
-
-// The rounds of a run over two new sides, which get lists with room for all far beats.
-#[inline(never)]
-fn run_sides<R: Threads, G: Gate + Send, H: Gate + Send, const C: usize, const M: usize>(
-    rt: &R,
-    alloc: Global,
-    client: &mut ClientRun<C, M>,
-    manager: &mut ManagerRun<C, M>,
-    script: &Script<C, M>,
-    turns: usize,
-    client_gate: &mut G,
-    manager_gate: &mut H,
-) -> Result<End, RunFault>
-    requires { AreWidths C M × HasShortLists script.now × AreNew client.old.side manager.old.side }
-    ensures ended { IfOk result (λ end. HasEnded (near_beats script.now) end.at
-        (beats_of (taken_of client.new manager.new)) (bridge_of client.new.side manager.new.side)
-        end.stops end.rounds) }
-    ensures memory { IfErr result (λ fault. fault ≡ OutOfMemory) }
-{
-    let Ok(Taken { a, b, c, d, e }) = Taken::new(alloc, script) else {
-        return Err(RunFault::OutOfMemory);
-    };
-    manager.far_a = a;
-    client.far_b = b;
-    manager.far_c = c;
-    client.far_d = d;
-    manager.far_e = e;
-    Ok(play_rounds(
-        rt,
-        client,
-        manager,
-        script,
-        turns,
-        client_gate,
-        manager_gate,
-    ))
+    outcome_of(Ok(end), Taken { a, b, c, d, e })
 }

@@ -1,9 +1,21 @@
-use Rattle.std.proofs.Common.{lit<, refl, sym, subst}
-use Rattle.std.specs.Prelude.{IfOk}
-use Rattle.tl_bridge.proofs.Words.{beat_small, near_beats, HasEnded, client_small, manager_small, not-for-size, not-stalled, same-size, stalled-never}
+use Rattle.std.proofs.Common.{lit<, refl, sym, subst, ⊎_elim, inl, inr}
+use Rattle.tl_bridge.proofs.Words.{beat_small, near_beats, HasEnded, client_small, manager_small, not-for-size, not-ok, not-stalled}
+use Rattle.tl_bridge.proofs.Words.{only-memory, stalled-never}
 use Rattle.tl_bridge.specs.Inner.Sides.{bridge_of}
 use Rattle.tl_bridge.proofs.SideSizes.{client_run_small, manager_run_small}
+use Rattle.tl_ring.specs.declared.fault.BuildFault.TheVariants as building
 use Rattle.tl_bridge.proofs.threads_run.run_threads.Goals as goal
+
+pub returns-then-ring-eq0 : goal.returns-then-ring-eq0
+returns-then-ring-eq0 g c = record {
+  outcome = tt;
+  size = λ ok. not-ok ok;
+  ring_size = (λ same. ⊎_elim (λ z. inl z) (λ p. inr p.1) c.then-ring-eq0.either, λ either. refl);
+  never_stalled = stalled-never building.RingSize _ refl;
+}
+
+pub new-requires : goal.new-requires
+new-requires g c = (lit< tt, (lit< tt, (record { client = c.requires.client; manager = c.requires.manager }, c.requires.short)))
 
 pub bridge-requires : goal.bridge-requires
 bridge-requires g c = (
@@ -11,8 +23,8 @@ bridge-requires g c = (
   (manager_small g.row.C g.row.M c.requires.client c.requires.manager, (c.requires.client, c.requires.manager)),
 )
 
-pub run_sides-ended-requires-after_bounds : goal.run_sides-ended-requires-after_bounds
-run_sides-ended-requires-after_bounds g c = λ κs bounds. (
+pub play_rounds-end-requires-after_bounds : goal.play_rounds-end-requires-after_bounds
+play_rounds-end-requires-after_bounds g c = λ κs bounds. (
   client_run_small g.row.C g.row.M c.requires.client c.requires.manager,
   (
     manager_run_small g.row.C g.row.M c.requires.client c.requires.manager,
@@ -21,13 +33,15 @@ run_sides-ended-requires-after_bounds g c = λ κs bounds. (
       (
         record { client = c.requires.client; manager = c.requires.manager },
         c.requires.short,
+        c.in-Ok.ensures.room,
         record {
-          sides = c.in-Ok.ensures.pair;
+          sides = c.in-Ok-bridge.ensures.pair;
           space = c.args.ring;
-          some = (c.in-Ok.ensures.size refl).0;
-          client = c.in-Ok.ensures.client;
-          manager = c.in-Ok.ensures.manager;
+          some = (c.in-Ok-bridge.ensures.size refl).0;
+          client = c.in-Ok-bridge.ensures.client;
+          manager = c.in-Ok-bridge.ensures.manager;
         },
+        c.in-Ok.ensures.empty,
       ),
     ),
   ),
@@ -57,31 +71,30 @@ into_lists-a-requires g c = (
 pub returns : goal.returns
 returns g c =
     let near = near_beats c.args.script.now in
-    let x = c.run_sides-ended.new.client in
-    let y = c.run_sides-ended.new.manager in
+    let x = c.play_rounds-end.new.client in
+    let y = c.play_rounds-end.new.manager in
+    let end = c.play_rounds-end.result in
     let bridge = bridge_of x.side y.side in
-    let size = c.in-Ok.ensures.size refl in
-    let memory = c.outcome_of.ensures.memory c.run_sides-ended.ensures.memory in
+    let memory = c.outcome_of.ensures.memory tt in
     record {
       outcome = c.outcome_of.ensures.outcome near bridge
-          (subst (λ (p : _). IfOk c.run_sides-ended.result
-          (λ e. HasEnded near e.at (record {
+          (subst (λ (p : _). HasEnded near end.at (record {
             a = c.into_lists-a.result.0.items;
             b = p.0.items;
             c = c.into_lists-a.result.1.items;
             d = p.1.items;
             e = c.into_lists-a.result.2.items;
-          }) bridge e.stops e.rounds)) (sym c.into_lists-b.ensures)
-          (subst (λ (q : _). IfOk c.run_sides-ended.result
-          (λ e. HasEnded near e.at (record { a = q.0.items; b = x.far_b.items; c = q.1.items; d = x.far_d.items; e = q.2.items }) bridge e.stops
-          e.rounds)) (sym c.into_lists-a.ensures) c.run_sides-ended.ensures.ended));
-      size = λ made. size;
-      ring_size = not-for-size c.outcome_of.result c.args.ring size memory;
+          }) bridge end.stops end.rounds) (sym c.into_lists-b.ensures)
+          (subst (λ (q : _). HasEnded near end.at
+          (record { a = q.0.items; b = x.far_b.items; c = q.1.items; d = x.far_d.items; e = q.2.items }) bridge end.stops
+          end.rounds) (sym c.into_lists-a.ensures) c.play_rounds-end.ensures));
+      size = λ _. c.in-Ok-bridge.ensures.size refl;
+      ring_size = not-for-size c.outcome_of.result c.args.ring (c.in-Ok-bridge.ensures.size refl) memory;
       never_stalled = not-stalled c.outcome_of.result memory;
     }
 
-pub returns-in-Err-clause-ring_size : goal.returns-in-Err-clause-ring_size
-returns-in-Err-clause-ring_size g c = same-size c.in-Err.fault c.from.result c.from.ensures c.in-Err.ensures.ring_size
-
-pub returns-in-Err-clause-never_stalled : goal.returns-in-Err-clause-never_stalled
-returns-in-Err-clause-never_stalled g c = stalled-never c.in-Err.fault c.from.result c.from.ensures
+-- no memory for the lists, or for the bridge
+pub returns-in_default : goal.returns-in_default
+returns-in_default g c =
+    let only = only-memory _ refl c.args.ring c.if-ring-eq0.false c.if-ring-gt-MAX_RING.false in
+    record { outcome = tt; size = λ ok. not-ok ok; ring_size = only.0; never_stalled = only.1 }

@@ -44,31 +44,27 @@ beats-preserved g c =
           (c.in-Ok.ensures.accepts.0 refl) ((c.in-Ok.ensures.admitted (take progress.at bs) come.handed come.burst_is).0 refl);
     }
 
-pub returns-in-Err-clause-within : goal.returns-in-Err-clause-within
-returns-in-Err-clause-within g c = c.beats.invariant.within
+pub returns-in-Err : goal.returns-in-Err
+returns-in-Err g c = record {
+  within = c.beats.invariant.within;
+  come = c.beats.invariant.come;
+  stopped = λ bs end was.
+      let progress = c.beats.progress in
+      let part = part-of c.args.gone progress.at c.args.beats.now bs end in
+      let next = read_some c.args.beats.now (progress.at - c.args.gone) c.in-Some.beat.now c.in-Some.ensures.lookup.0 c.in-Some.ensures.lookup.1 in
+      alone-stops g.K.Channel.rules bs progress.tracker progress.at progress.far (c.beats.invariant.come bs part was) c.in-Some.beat.now
+      (part-get c.args.gone progress.at c.args.beats.now bs part c.beats.invariant.within.from c.in-Some.beat.now next)
+      c.in-Err.fault c.in-Err.ensures.fault;
+}
 
-pub returns-in-Err-clause-come : goal.returns-in-Err-clause-come
-returns-in-Err-clause-come g c = c.beats.invariant.come
-
-pub returns-in-Err-clause-stopped : goal.returns-in-Err-clause-stopped
-returns-in-Err-clause-stopped g c = λ bs end was.
-    let progress = c.beats.progress in
-    let part = part-of c.args.gone progress.at c.args.beats.now bs end in
-    let next = read_some c.args.beats.now (progress.at - c.args.gone) c.in-Some.beat.now c.in-Some.ensures.lookup.0 c.in-Some.ensures.lookup.1 in
-    alone-stops g.K.Channel.rules bs progress.tracker progress.at progress.far (c.beats.invariant.come bs part was) c.in-Some.beat.now
-    (part-get c.args.gone progress.at c.args.beats.now bs part c.beats.invariant.within.from c.in-Some.beat.now next)
-    c.in-Err.fault c.in-Err.ensures.fault
-
-pub returns-clause-within : goal.returns-clause-within
-returns-clause-within g c = c.beats.invariant.within
-
-pub returns-clause-come : goal.returns-clause-come
-returns-clause-come g c = c.beats.invariant.come
-
-pub returns-clause-stopped : goal.returns-clause-stopped
-returns-clause-stopped g c = λ bs end was.
-    let progress = c.beats.progress in
-    let part = part-of c.args.gone progress.at c.args.beats.now bs end in
-    let past = none-left c.args.gone progress.at c.args.beats.now c.in_default.ensures.lookup.0 c.beats.invariant.within in
-    alone-all g.K.Channel.rules bs progress.tracker progress.at progress.far (c.beats.invariant.come bs part was)
-    (end-past c.args.gone progress.at c.args.beats.now bs end past)
+pub returns : goal.returns
+returns g c = record {
+  within = c.beats.invariant.within;
+  come = c.beats.invariant.come;
+  stopped = λ bs end was.
+      let progress = c.beats.progress in
+      let part = part-of c.args.gone progress.at c.args.beats.now bs end in
+      let past = none-left c.args.gone progress.at c.args.beats.now c.in_default.ensures.lookup.0 c.beats.invariant.within in
+      alone-all g.K.Channel.rules bs progress.tracker progress.at progress.far (c.beats.invariant.come bs part was)
+      (end-past c.args.gone progress.at c.args.beats.now bs end past);
+}

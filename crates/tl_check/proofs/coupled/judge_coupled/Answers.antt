@@ -39,43 +39,34 @@ pub passes-smaller : goal.passes-smaller
 passes-smaller g c = let answered = c.offer_responses-d_stops in
     omega (arith, answered.ensures.on, answered.ensures.within.to, c.if-answers-before.false)
 
-pub returns-then-answers-before-clause-come_a : goal.returns-then-answers-before-clause-come_a
-returns-then-answers-before-clause-come_a g c = λ near part was.
-    c.offer_requests-a_stops.ensures.come near part (c.passes.invariant.come_a near part was)
-
-pub returns-then-answers-before-clause-come_d : goal.returns-then-answers-before-clause-come_d
-returns-then-answers-before-clause-come_d g c = λ near part was.
-    c.offer_responses-d_stops.ensures.come near part (c.passes.invariant.come_d near part was)
-
-pub returns-then-answers-before-clause-both : goal.returns-then-answers-before-clause-both
-returns-then-answers-before-clause-both g c =
-    let here = c.passes.invariant in
-    let asked = c.offer_requests-a_stops in
-    let answered = c.offer_responses-d_stops in
-    λ near back part_a part_d was_a was_d start.
-    answered.ensures.accepted near back asked.new.asks.at part_d (here.come_d back part_d was_d)
-    (asked.ensures.accepted near back c.passes.answers.at part_a (here.come_a near part_a was_a)
-    (here.both near back part_a part_d was_a was_d start))
-
-pub returns-then-answers-before-clause-stopped : goal.returns-then-answers-before-clause-stopped
-returns-then-answers-before-clause-stopped g c =
+pub returns-then-answers-before : goal.returns-then-answers-before
+returns-then-answers-before g c =
     let here = c.passes.invariant in
     let asked = c.offer_requests-a_stops in
     let answered = c.offer_responses-d_stops in
     let still : c.passes.answers.at ≡ answered.new.answers.at = omega (arith, c.if-answers-before.true) in
-    λ near back end_a end_d was_a was_d start.
-    let part_a = part-of c.args.gone.now.a asked.new.asks.at c.args.a.now near end_a in
-    let part_d = part-of c.args.gone.now.d answered.new.answers.at c.args.d.now back end_d in
-    let before = here.both near back part_a part_d was_a was_d start in
-    let a_was = here.come_a near part_a was_a in
-    let d_was = here.come_d back part_d was_d in
-    let between = asked.ensures.accepted near back c.passes.answers.at part_a a_was before in
-    let both = answered.ensures.accepted near back asked.new.asks.at part_d d_was between in
-    both-end c.requires.0 c.requires.1 near back asked.new.asks.at c.passes.answers.at answered.new.answers.at still
-    answered.new.client answered.new.manager both asked.result answered.result
-    (asked.ensures.stopped near back c.passes.answers.at end_a a_was before)
-    (λ none. end-past c.args.gone.now.a asked.new.asks.at c.args.a.now near end_a (asked.ensures.all none))
-    (answered.ensures.stopped near back asked.new.asks.at end_d d_was between)
-    (λ none. end-past c.args.gone.now.d answered.new.answers.at c.args.d.now back end_d (answered.ensures.all none))
-    asked.new.asks.tracker asked.new.asks.far (asked.ensures.come near part_a a_was)
-    answered.new.answers.tracker answered.new.answers.far (answered.ensures.come back part_d d_was)
+    record {
+      within_a = asked.ensures.within;
+      within_d = answered.ensures.within;
+      come_a = λ near part was. asked.ensures.come near part (here.come_a near part was);
+      come_d = λ near part was. answered.ensures.come near part (here.come_d near part was);
+      both = λ near back part_a part_d was_a was_d start.
+          answered.ensures.accepted near back asked.new.asks.at part_d (here.come_d back part_d was_d)
+          (asked.ensures.accepted near back c.passes.answers.at part_a (here.come_a near part_a was_a)
+          (here.both near back part_a part_d was_a was_d start));
+      stopped = λ near back end_a end_d was_a was_d start.
+          let part_a = part-of c.args.gone.now.a asked.new.asks.at c.args.a.now near end_a in
+          let part_d = part-of c.args.gone.now.d answered.new.answers.at c.args.d.now back end_d in
+          let before = here.both near back part_a part_d was_a was_d start in
+          let a_was = here.come_a near part_a was_a in
+          let d_was = here.come_d back part_d was_d in
+          let between = asked.ensures.accepted near back c.passes.answers.at part_a a_was before in
+          both-end c.requires.0 c.requires.1 near back asked.new.asks.at c.passes.answers.at answered.new.answers.at still
+          answered.new.client answered.new.manager (answered.ensures.accepted near back asked.new.asks.at part_d d_was between)
+          asked.result answered.result (asked.ensures.stopped near back c.passes.answers.at end_a a_was before)
+          (λ none. end-past c.args.gone.now.a asked.new.asks.at c.args.a.now near end_a (asked.ensures.all none))
+          (answered.ensures.stopped near back asked.new.asks.at end_d d_was between)
+          (λ none. end-past c.args.gone.now.d answered.new.answers.at c.args.d.now back end_d (answered.ensures.all none))
+          asked.new.asks.tracker asked.new.asks.far (asked.ensures.come near part_a a_was)
+          answered.new.answers.tracker answered.new.answers.far (answered.ensures.come back part_d d_was);
+    }

@@ -76,36 +76,36 @@ beats-smaller g c =
     let within = slice_get_within c.args.beats.now (asks.at - c.args.gone) c.in-Some.beat.now held in
     omega (arith, c.beats.invariant.within.from, within, c.accept.ensures.at)
 
-pub returns-in-Err-clause-within : goal.returns-in-Err-clause-within
-returns-in-Err-clause-within g c = c.beats.invariant.within
+pub returns-in-Err : goal.returns-in-Err
+returns-in-Err g c = record {
+  within = c.beats.invariant.within;
+  come = c.beats.invariant.come;
+  accepted = λ a d j part was start.
+      subst (λ client. AreAt a d c.beats.asks.at j client c.beats.manager) (sym c.in-Err.ensures.admits.refused)
+      (c.beats.invariant.accepted a d j part was start);
+  stopped = λ a d j end was start.
+      let asks = c.beats.asks in
+      let beat = c.in-Some.beat.now in
+      let part = part-of c.args.gone asks.at c.args.beats.now a end in
+      let held = read_some c.args.beats.now (asks.at - c.args.gone) beat c.in-Some.ensures.lookup.0 c.in-Some.ensures.lookup.1 in
+      let next = part-get c.args.gone asks.at c.args.beats.now a part c.beats.invariant.within.from beat held in
+      let s = c.beats.invariant.accepted a d j part was start in
+      let checked = ask-checked c.requires.0 c.requires.1 a d asks.at j c.beats.client c.beats.manager s beat asks.tracker asks.far c.check.result
+      (c.beats.invariant.come a part was) c.check.ensures.accepts c.check.ensures.fault c.check.ensures.head c.check.ensures.place in
+      stopped-at (λ b. stops_a a d asks.at j b) a asks.at beat c.in-Err.fault next
+      (ask-stops c.requires.0 c.requires.1 a d asks.at j c.beats.client c.beats.manager s beat c.in-Err.fault
+      (c.in-Err.ensures.admits.fault s.client_history beat s.client_knows checked));
+  all = λ none. absurd (cc (none));
+}
 
-pub returns-in-Err-clause-come : goal.returns-in-Err-clause-come
-returns-in-Err-clause-come g c = c.beats.invariant.come
-
-pub returns-in-Err-clause-accepted : goal.returns-in-Err-clause-accepted
-returns-in-Err-clause-accepted g c = λ a d j part was start.
-    subst (λ client. AreAt a d c.beats.asks.at j client c.beats.manager) (sym c.in-Err.ensures.admits.refused)
-    (c.beats.invariant.accepted a d j part was start)
-
-pub returns-in-Err-clause-stopped : goal.returns-in-Err-clause-stopped
-returns-in-Err-clause-stopped g c = λ a d j end was start.
-    let asks = c.beats.asks in
-    let beat = c.in-Some.beat.now in
-    let part = part-of c.args.gone asks.at c.args.beats.now a end in
-    let held = read_some c.args.beats.now (asks.at - c.args.gone) beat c.in-Some.ensures.lookup.0 c.in-Some.ensures.lookup.1 in
-    let next = part-get c.args.gone asks.at c.args.beats.now a part c.beats.invariant.within.from beat held in
-    let s = c.beats.invariant.accepted a d j part was start in
-    let checked = ask-checked c.requires.0 c.requires.1 a d asks.at j c.beats.client c.beats.manager s beat asks.tracker asks.far c.check.result
-    (c.beats.invariant.come a part was) c.check.ensures.accepts c.check.ensures.fault c.check.ensures.head c.check.ensures.place in
-    stopped-at (λ b. stops_a a d asks.at j b) a asks.at beat c.in-Err.fault next
-    (ask-stops c.requires.0 c.requires.1 a d asks.at j c.beats.client c.beats.manager s beat c.in-Err.fault
-    (c.in-Err.ensures.admits.fault s.client_history beat s.client_knows checked))
-
-pub returns-clause-all : goal.returns-clause-all
-returns-clause-all g c = λ _. none-left c.args.gone c.beats.asks.at c.args.beats.now c.in_default.ensures.lookup.0 c.beats.invariant.within
-
-pub returns-clause-stopped : goal.returns-clause-stopped
-returns-clause-stopped g c = λ a d j end was start.
-    let past = none-left c.args.gone c.beats.asks.at c.args.beats.now c.in_default.ensures.lookup.0 c.beats.invariant.within in
-    sym (ap (λ o. option_map_or (λ b. stops_a a d c.beats.asks.at j b) o None)
-    (slice_get_past a c.beats.asks.at (end-past c.args.gone c.beats.asks.at c.args.beats.now a end past)))
+pub returns : goal.returns
+returns g c = record {
+  within = c.beats.invariant.within;
+  come = c.beats.invariant.come;
+  accepted = c.beats.invariant.accepted;
+  stopped = λ a d j end was start.
+      let past = none-left c.args.gone c.beats.asks.at c.args.beats.now c.in_default.ensures.lookup.0 c.beats.invariant.within in
+      sym (ap (λ o. option_map_or (λ b. stops_a a d c.beats.asks.at j b) o None)
+      (slice_get_past a c.beats.asks.at (end-past c.args.gone c.beats.asks.at c.args.beats.now a end past)));
+  all = λ _. none-left c.args.gone c.beats.asks.at c.args.beats.now c.in_default.ensures.lookup.0 c.beats.invariant.within;
+}

@@ -77,40 +77,39 @@ beats-smaller g c =
     let within = slice_get_within c.args.beats.now (answers.at - c.args.gone) c.in-Some.beat.now held in
     omega (arith, c.beats.invariant.within.from, within, c.accept.ensures.at)
 
-pub returns-in-Err-clause-within : goal.returns-in-Err-clause-within
-returns-in-Err-clause-within g c = c.beats.invariant.within
+pub returns-in-Err : goal.returns-in-Err
+returns-in-Err g c = record {
+  within = c.beats.invariant.within;
+  on = c.beats.invariant.on;
+  come = c.beats.invariant.come;
+  accepted = λ a d i part was start.
+      subst (λ manager. AreAt a d i c.beats.answers.at c.beats.client manager) (sym c.in-Err.ensures.admits.refused)
+      (c.beats.invariant.accepted a d i part was start);
+  stopped = λ a d i end was start.
+      let answers = c.beats.answers in
+      let beat = c.in-Some.beat.now in
+      let part = part-of c.args.gone answers.at c.args.beats.now d end in
+      let held = read_some c.args.beats.now (answers.at - c.args.gone) beat c.in-Some.ensures.lookup.0 c.in-Some.ensures.lookup.1 in
+      let next = part-get c.args.gone answers.at c.args.beats.now d part c.beats.invariant.within.from beat held in
+      let s = c.beats.invariant.accepted a d i part was start in
+      let checked = answer-checked c.requires.0 c.requires.1 a d i answers.at c.beats.client c.beats.manager s beat answers.tracker answers.far
+      c.check.result
+      (c.beats.invariant.come d part was) c.check.ensures.accepts c.check.ensures.fault c.check.ensures.head c.check.ensures.place in
+      stopped-at (λ b. stops_d a d i answers.at b) d answers.at beat c.in-Err.fault next
+      (answer-stops c.requires.0 c.requires.1 a d i answers.at c.beats.client c.beats.manager s beat c.in-Err.fault
+      (c.in-Err.ensures.admits.fault s.manager_history beat s.manager_knows checked));
+  all = λ none. absurd (cc (none));
+}
 
-pub returns-in-Err-clause-on : goal.returns-in-Err-clause-on
-returns-in-Err-clause-on g c = c.beats.invariant.on
-
-pub returns-in-Err-clause-come : goal.returns-in-Err-clause-come
-returns-in-Err-clause-come g c = c.beats.invariant.come
-
-pub returns-in-Err-clause-accepted : goal.returns-in-Err-clause-accepted
-returns-in-Err-clause-accepted g c = λ a d i part was start.
-    subst (λ manager. AreAt a d i c.beats.answers.at c.beats.client manager) (sym c.in-Err.ensures.admits.refused)
-    (c.beats.invariant.accepted a d i part was start)
-
-pub returns-in-Err-clause-stopped : goal.returns-in-Err-clause-stopped
-returns-in-Err-clause-stopped g c = λ a d i end was start.
-    let answers = c.beats.answers in
-    let beat = c.in-Some.beat.now in
-    let part = part-of c.args.gone answers.at c.args.beats.now d end in
-    let held = read_some c.args.beats.now (answers.at - c.args.gone) beat c.in-Some.ensures.lookup.0 c.in-Some.ensures.lookup.1 in
-    let next = part-get c.args.gone answers.at c.args.beats.now d part c.beats.invariant.within.from beat held in
-    let s = c.beats.invariant.accepted a d i part was start in
-    let checked = answer-checked c.requires.0 c.requires.1 a d i answers.at c.beats.client c.beats.manager s beat answers.tracker answers.far
-    c.check.result
-    (c.beats.invariant.come d part was) c.check.ensures.accepts c.check.ensures.fault c.check.ensures.head c.check.ensures.place in
-    stopped-at (λ b. stops_d a d i answers.at b) d answers.at beat c.in-Err.fault next
-    (answer-stops c.requires.0 c.requires.1 a d i answers.at c.beats.client c.beats.manager s beat c.in-Err.fault
-    (c.in-Err.ensures.admits.fault s.manager_history beat s.manager_knows checked))
-
-pub returns-clause-all : goal.returns-clause-all
-returns-clause-all g c = λ _. none-left c.args.gone c.beats.answers.at c.args.beats.now c.in_default.ensures.lookup.0 c.beats.invariant.within
-
-pub returns-clause-stopped : goal.returns-clause-stopped
-returns-clause-stopped g c = λ a d i end was start.
-    let past = none-left c.args.gone c.beats.answers.at c.args.beats.now c.in_default.ensures.lookup.0 c.beats.invariant.within in
-    sym (ap (λ o. option_map_or (λ b. stops_d a d i c.beats.answers.at b) o None)
-    (slice_get_past d c.beats.answers.at (end-past c.args.gone c.beats.answers.at c.args.beats.now d end past)))
+pub returns : goal.returns
+returns g c = record {
+  within = c.beats.invariant.within;
+  on = c.beats.invariant.on;
+  come = c.beats.invariant.come;
+  accepted = c.beats.invariant.accepted;
+  stopped = λ a d i end was start.
+      let past = none-left c.args.gone c.beats.answers.at c.args.beats.now c.in_default.ensures.lookup.0 c.beats.invariant.within in
+      sym (ap (λ o. option_map_or (λ b. stops_d a d i c.beats.answers.at b) o None)
+      (slice_get_past d c.beats.answers.at (end-past c.args.gone c.beats.answers.at c.args.beats.now d end past)));
+  all = λ _. none-left c.args.gone c.beats.answers.at c.args.beats.now c.in_default.ensures.lookup.0 c.beats.invariant.within;
+}

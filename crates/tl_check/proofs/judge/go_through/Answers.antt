@@ -1,17 +1,63 @@
-use Rattle.tl_check.proofs.Names.{sym, subst, IsPart}
+use Rattle.tl_check.proofs.Names.{refl, sym, subst, length, IsWithin, IsPart}
+use Rattle.tl_run.proofs.Lives.{lives-long}
+use Rattle.tl_run.specs.Parts.{IsEnd}
 use Rattle.tl_check.proofs.judge.go_through.Goals as goal
 
-pub returns-clause-judged : goal.returns-clause-judged
-returns-clause-judged g c = λ near part was.
+pub deref-requires : goal.deref-requires
+deref-requires g c = λ κs. (lives-long κs.1.0, lives-long κs.1.1.0)
+
+pub deref-requires-2 : goal.deref-requires-2
+deref-requires-2 g c = λ κs. (lives-long κs.1.0, lives-long κs.1.1.0)
+
+pub deref-requires-3 : goal.deref-requires-3
+deref-requires-3 g c = λ κs. (lives-long κs.1.0, lives-long κs.1.1.0)
+
+pub deref-requires-4 : goal.deref-requires-4
+deref-requires-4 g c = λ κs. (lives-long κs.1.0, lives-long κs.1.1.0)
+
+pub deref-requires-5 : goal.deref-requires-5
+deref-requires-5 g c = λ κs. (lives-long κs.1.0, lives-long κs.1.1.0)
+
+pub returns : goal.returns
+returns g c =
     let gone = c.args.judge.now.gone in
-    let a = subst (λ q. IsPart gone.a q near.a) (sym c.deref-4.ensures.value) part.a in
-    let d = subst (λ q. IsPart gone.d q near.d) (sym c.deref-5.ensures.value) part.d in
-    let coupled = c.judge_coupled-a.ensures in
+    let b = c.judge_alone-b in
+    let c' = c.judge_alone-c in
+    let e = c.judge_alone-e in
+    let coupled = c.judge_coupled-a in
+    let of_b = c.deref.ensures.value in
+    let of_c = c.deref-2.ensures.value in
+    let of_e = c.deref-3.ensures.value in
+    let of_a = c.deref-4.ensures.value in
+    let of_d = c.deref-5.ensures.value in
     record {
-      a = coupled.come_a near.a a was.a;
-      b = c.judge_alone-b.ensures.come near.b (subst (λ q. IsPart gone.b q near.b) (sym c.deref.ensures.value) part.b) was.b;
-      c = c.judge_alone-c.ensures.come near.c (subst (λ q. IsPart gone.c q near.c) (sym c.deref-2.ensures.value) part.c) was.c;
-      d = coupled.come_d near.d d was.d;
-      e = c.judge_alone-e.ensures.come near.e (subst (λ q. IsPart gone.e q near.e) (sym c.deref-3.ensures.value) part.e) was.e;
-      both = coupled.both near.a near.d a d was.a was.d was.both;
+      gone = refl;
+      within = record {
+        a = subst (λ q. IsWithin gone.a coupled.new.asks.at coupled.new.asks.far (length q)) of_a coupled.ensures.within_a;
+        b = subst (λ q. IsWithin gone.b b.new.progress.at b.new.progress.far (length q)) of_b b.ensures.within;
+        c = subst (λ q. IsWithin gone.c c'.new.progress.at c'.new.progress.far (length q)) of_c c'.ensures.within;
+        d = subst (λ q. IsWithin gone.d coupled.new.answers.at coupled.new.answers.far (length q)) of_d coupled.ensures.within_d;
+        e = subst (λ q. IsWithin gone.e e.new.progress.at e.new.progress.far (length q)) of_e e.ensures.within;
+      };
+      judged = λ near part was.
+          let part_a = subst (λ q. IsPart gone.a q near.a) (sym of_a) part.a in
+          let part_d = subst (λ q. IsPart gone.d q near.d) (sym of_d) part.d in
+          record {
+            a = coupled.ensures.come_a near.a part_a was.a;
+            b = b.ensures.come near.b (subst (λ q. IsPart gone.b q near.b) (sym of_b) part.b) was.b;
+            c = c'.ensures.come near.c (subst (λ q. IsPart gone.c q near.c) (sym of_c) part.c) was.c;
+            d = coupled.ensures.come_d near.d part_d was.d;
+            e = e.ensures.come near.e (subst (λ q. IsPart gone.e q near.e) (sym of_e) part.e) was.e;
+            both = coupled.ensures.both near.a near.d part_a part_d was.a was.d was.both;
+          };
+      stopped = λ near end was.
+          let both = coupled.ensures.stopped near.a near.d (subst (λ q. IsEnd gone.a q near.a) (sym of_a) end.a)
+          (subst (λ q. IsEnd gone.d q near.d) (sym of_d) end.d) was.a was.d was.both in
+          record {
+            a = both.0;
+            b = b.ensures.stopped near.b (subst (λ q. IsEnd gone.b q near.b) (sym of_b) end.b) was.b;
+            c = c'.ensures.stopped near.c (subst (λ q. IsEnd gone.c q near.c) (sym of_c) end.c) was.c;
+            d = both.1;
+            e = e.ensures.stopped near.e (subst (λ q. IsEnd gone.e q near.e) (sym of_e) end.e) was.e;
+          };
     }
