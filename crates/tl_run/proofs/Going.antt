@@ -1,7 +1,7 @@
 -- A channel of a run in one thread goes on by itself: the run stands for what happened, or for what it stood for where no beat was accepted.
-use Rattle.tl_run.proofs.Names.{◌≡◌, ◌≢◌, ◌+◌, ◌-◌, ◌++◌, ◌≤◌, ◌<◌, inr, ℕ, Option, None, List, length, append-nil, map, [], refl, sym, ap}
+use Rattle.tl_run.proofs.Names.{◌≡◌, ◌≢◌, ◌+◌, ◌-◌, ◌++◌, ◌≤◌, ◌<◌, inr, ℕ, Option, None, List, length, map, [], refl, sym, ap}
 use Rattle.tl_run.proofs.Names.{subst, ◌∙◌, arith, Rules, rules_a, rules_b, rules_c, rules_d, rules_e, HeadA, HeadD, BeatOf, SideFault, fault_after}
-use Rattle.tl_run.proofs.Names.{none_past, World, pushed, Ask, Answer, client_answer, manager_answer, manager_home, round, client_rests}
+use Rattle.tl_run.proofs.Names.{none_past, World, Ask, Answer, client_answer, manager_answer, manager_home, round, client_rests}
 use Rattle.tl_run.proofs.Names.{manager_rests, Beats, PerChannel, Bridge, Past, StandsFor, stops_alone, IsPart, Does, IsSent, IsAt, steps, Going}
 use Rattle.tl_run.proofs.Names.{Passes, RestsAt, RestsIn, Stays, StepsOn, passed_on, passes_stays, refused_by}
 use Rattle.tl_run.proofs.Names.{Offering, OffersNext, Offered, Accepted, NotReady}
@@ -15,11 +15,6 @@ use Rattle.tl_run.proofs.OfferSteps.{does-taken}
 use Rattle.tl_run.proofs.Parts.{part-get}
 use Rattle.tl_run.proofs.Round.{alone-own, client-own, manager-own}
 use Rattle.tl_run.proofs.RoundMoves.{client-offers, manager-offers}
-
--- where beats went into a ring alone, none came out and none more went in
-pub none-again : {H : Type 0} {w v : ℕ} (k : ℕ) (x : World H w v) → pushed k x ≡ passed_on k 0 0 x
-none-again k x = sym (ap (λ l. record (pushed k x) { ring = l; inbox = x.inbox ++ [] }) (append-nil (pushed k x).ring) ∙
-    ap (λ l. record (pushed k x) { inbox = l }) (append-nil x.inbox))
 
 -- an accepted beat is one, and where none was accepted there is none
 pub accepted-some : steps Accepted ≢ 0

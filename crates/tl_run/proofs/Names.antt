@@ -27,7 +27,7 @@ pub use Rattle.tl_ring.specs.Crossing.{World, offered, shut, inbox_room, empty, 
 pub use Rattle.tl_ring.specs.Pipe.{Pipe, IsReady}
 pub use Rattle.tl_run.specs.Arrivals.{joined, no_beats, Fit}
 pub use Rattle.tl_run.specs.Inner.Arriving.{HasRoom, HaveRoom, beats_of}
-pub use Rattle.tl_run.specs.Inner.Going.{Going, Passes, RestsAt, RestsIn, Stays, StepsOn, passed_on, passes_stays, refused_by, going_a, going_b}
+pub use Rattle.tl_run.specs.Inner.Going.{Going, Passes, RestsAt, RestsIn, Stays, StepsOn, passes_stays, refused_by, going_a, going_b}
 pub use Rattle.tl_run.specs.Inner.Going.{going_c}
 pub use Rattle.tl_run.specs.Inner.Going.{going_d, going_e, AreOn, AreStopsOf, HasStopped, IsStopOf, all_counts, all_ways, stop_by, way_in, IsSound}
 pub use Rattle.tl_run.specs.Inner.Going.{AllRest}
@@ -49,5 +49,6 @@ pub use Rattle.tl_settle.specs.Rounds.{round, client_rests, manager_rests, Run, 
 pub use Rattle.tl_settle.specs.Rounds.{manager_takes, manager_accepts, IsOver, IsSettledRun}
 pub use Rattle.tl_sides.proofs.BridgeSize.{bridge_small, client_small, manager_small}
 pub use Rattle.tl_sides.specs.Bridges.{Bridge, Past, StandsFor, IsStanding, nothing_yet, fetch_count, pump_count, after_fetch, after_pump}
+pub use Rattle.tl_sides.specs.ChannelCalls.{again_count, out_count, passed_on}
 pub use Rattle.tl_sides.specs.Crossings.{stops_alone}
 pub use Rattle.tl_sides.specs.declared.per_channel.PerChannel.{PerChannel}

@@ -17,20 +17,14 @@ use tl_sides::{PerChannel, SyncBridge};
 use tl_trace::{Counts, Script};
 
 // The next beat of a list of which `$gone` have gone, `$held` are held and `$at` were accepted is offered,
-// and what it gives moves into the ring, by the calls of its channel. (No generic function, as in
-// `next_offer!`.)
+// and what it gives passes on, by the call of its channel. (No generic function, as in `next_offer!`.)
 macro_rules! next_step {
-    ($bridge:ident, $held:ident, $gone:ident, $at:ident, $pump:ident, $ready:ident, $fetch:ident) => {{
+    ($bridge:ident, $held:ident, $gone:ident, $at:ident, $pass_on:ident) => {{
         let offered = $bridge.offer_next($held, $at - $gone);
         let Offered::Accepted = offered else {
             return offered;
         };
-        $bridge.$pump();
-        if $bridge.$ready() {
-            return Offered::Accepted;
-        }
-        $bridge.$fetch();
-        $bridge.$pump();
+        $bridge.$pass_on();
         Offered::Accepted
     }};
 }
@@ -108,7 +102,7 @@ impl<const C: usize, const M: usize> GoesOn<BeatOf<HeadA, C>> for SyncBridge<C, 
     ghost Rests = { RestsAt on_bridge_a };
 
     fn go_on(&mut self, held: &[BeatOf<HeadA, C>], gone: usize, at: usize) -> Offered {
-        next_step!(self, held, gone, at, pump_a, ready_a, fetch_a)
+        next_step!(self, held, gone, at, pass_on_a)
     }
 
     ghost passes_none = { none_passes going_a };
@@ -130,7 +124,7 @@ impl<const C: usize, const M: usize> GoesOn<BeatOf<HeadB, M>> for SyncBridge<C, 
     ghost Rests = { RestsAt on_bridge_b };
 
     fn go_on(&mut self, held: &[BeatOf<HeadB, M>], gone: usize, at: usize) -> Offered {
-        next_step!(self, held, gone, at, pump_b, ready_b, fetch_b)
+        next_step!(self, held, gone, at, pass_on_b)
     }
 
     ghost passes_none = { none_passes going_b };
@@ -152,7 +146,7 @@ impl<const C: usize, const M: usize> GoesOn<BeatOf<HeadC, C>> for SyncBridge<C, 
     ghost Rests = { RestsAt on_bridge_c };
 
     fn go_on(&mut self, held: &[BeatOf<HeadC, C>], gone: usize, at: usize) -> Offered {
-        next_step!(self, held, gone, at, pump_c, ready_c, fetch_c)
+        next_step!(self, held, gone, at, pass_on_c)
     }
 
     ghost passes_none = { none_passes going_c };
@@ -174,7 +168,7 @@ impl<const C: usize, const M: usize> GoesOn<BeatOf<HeadD, M>> for SyncBridge<C, 
     ghost Rests = { RestsAt on_bridge_d };
 
     fn go_on(&mut self, held: &[BeatOf<HeadD, M>], gone: usize, at: usize) -> Offered {
-        next_step!(self, held, gone, at, pump_d, ready_d, fetch_d)
+        next_step!(self, held, gone, at, pass_on_d)
     }
 
     ghost passes_none = { none_passes going_d };
@@ -196,7 +190,7 @@ impl<const C: usize, const M: usize> GoesOn<BeatOf<HeadE, C>> for SyncBridge<C, 
     ghost Rests = { RestsAt on_bridge_e };
 
     fn go_on(&mut self, held: &[BeatOf<HeadE, C>], gone: usize, at: usize) -> Offered {
-        next_step!(self, held, gone, at, pump_e, ready_e, fetch_e)
+        next_step!(self, held, gone, at, pass_on_e)
     }
 
     ghost passes_none = { none_passes going_e };

@@ -4,6 +4,7 @@ mod Lifting
 pub mod BridgeSteps
 pub mod PortSteps
 pub mod Bridging
+mod Passing
 mod NewEnds
 pub mod SameSides
 pub mod SideSteps

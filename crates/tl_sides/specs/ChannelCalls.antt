@@ -1,7 +1,7 @@
 -- What comes of the calls on one channel of a bridge in one thread, and of a call that takes all that has arrived (this project's choice).
-use Rattle.std.specs.Prelude.{◌++◌, ℕ, [], map}
-use Rattle.tl_sides.specs.Words.{World, popped, pushed, Ask, Answer}
-use Rattle.tl_sides.specs.Bridges.{Bridge, Past, fetch_count, pump_count}
+use Rattle.std.specs.Prelude.{◌++◌, ◌==◌, ℕ, [], cond, drop, length, map, take}
+use Rattle.tl_sides.specs.Words.{World, Pipe, popped, pushed, Ask, Answer}
+use Rattle.tl_sides.specs.Bridges.{Past, fetch_count, pump_count}
 
 -- all of an inbox is taken
 abbrev pub emptied : {H : Type 0} {w v : ℕ} → World H w v → World H w v
@@ -20,34 +20,29 @@ module _ {C M : ℕ} where
     e = emptied x.e;
   }
 
-  -- a bridge pumps on one channel
-  abbrev pub after_pump_a : Bridge C M → Past C M → Past C M
-  after_pump_a s x = record x { a = pushed (pump_count s.a) x.a }
+-- so many staged beats went into the ring, then so many of the ring into the inbox, and then so many more of those staged into the ring
+abbrev pub passed_on : {H : Type 0} {w v : ℕ} → (first out again : ℕ) → World H w v → World H w v
+passed_on first out again x = pushed again (popped out (pushed first x))
 
-  abbrev pub after_pump_b : Bridge C M → Past C M → Past C M
-  after_pump_b s x = record x { b = pushed (pump_count s.b) x.b }
+module _ {H : Type 0} {v : ℕ} where
+  -- a channel once it has pumped, and once it has fetched
+  abbrev pub pumped : Pipe H v → Pipe H v
+  pumped p = record p { stage = drop (pump_count p) p.stage; ring = p.ring ++ take (pump_count p) p.stage }
 
-  abbrev pub after_pump_c : Bridge C M → Past C M → Past C M
-  after_pump_c s x = record x { c = pushed (pump_count s.c) x.c }
+  abbrev pub fetched : Pipe H v → Pipe H v
+  fetched p = record p { ring = drop (fetch_count p) p.ring; inbox = p.inbox ++ take (fetch_count p) p.ring }
 
-  abbrev pub after_pump_d : Bridge C M → Past C M → Past C M
-  after_pump_d s x = record x { d = pushed (pump_count s.d) x.d }
+  -- what is staged passes on into the ring; where that has too little room for all of it, the ring's beats go into the inbox then, and what is
+  -- still staged goes into the ring: so many beats go out of the ring, and so many more into it
+  abbrev pub out_count : Pipe H v → ℕ
+  out_count p = cond (length (pumped p).stage == 0) 0 (fetch_count (pumped p))
 
-  abbrev pub after_pump_e : Bridge C M → Past C M → Past C M
-  after_pump_e s x = record x { e = pushed (pump_count s.e) x.e }
+  abbrev pub again_count : Pipe H v → ℕ
+  again_count p = cond (length (pumped p).stage == 0) 0 (pump_count (fetched (pumped p)))
 
-  -- or fetches there
-  abbrev pub after_fetch_a : Bridge C M → Past C M → Past C M
-  after_fetch_a s x = record x { a = popped (fetch_count s.a) x.a }
+  abbrev pub after_pass_on : {w : ℕ} → Pipe H v → World H w v → World H w v
+  after_pass_on p x = passed_on (pump_count p) (out_count p) (again_count p) x
 
-  abbrev pub after_fetch_b : Bridge C M → Past C M → Past C M
-  after_fetch_b s x = record x { b = popped (fetch_count s.b) x.b }
-
-  abbrev pub after_fetch_c : Bridge C M → Past C M → Past C M
-  after_fetch_c s x = record x { c = popped (fetch_count s.c) x.c }
-
-  abbrev pub after_fetch_d : Bridge C M → Past C M → Past C M
-  after_fetch_d s x = record x { d = popped (fetch_count s.d) x.d }
-
-  abbrev pub after_fetch_e : Bridge C M → Past C M → Past C M
-  after_fetch_e s x = record x { e = popped (fetch_count s.e) x.e }
+  -- and this is the channel then
+  abbrev pub passed : Pipe H v → Pipe H v
+  passed p = cond (length (pumped p).stage == 0) (pumped p) (pumped (fetched (pumped p)))

@@ -1,117 +1,78 @@
-//! What the owner of a bridge in one thread does with one channel at a time: it moves what is staged
-//! into the channel's ring, and the ring's beats into the inbox, and looks at the inbox. And it takes all
-//! that stands in the inboxes at once.
-ghost use Rattle.std.specs.Prelude.{◌≡◌, ◌≤◌};
+//! What the owner of a bridge in one thread does with one channel at a time: it passes on what is staged
+//! and looks at the inbox. And it takes all that stands in the inboxes at once.
+ghost use Rattle.std.specs.Prelude.{◌≡◌};
 ghost use Rattle.tl_lanes.specs.Lanes.{IsWidth};
-ghost use Rattle.tl_ring.specs.declared.queue.TheConstants.{ROOM};
-ghost use Rattle.tl_sides.specs.Bridges.{Past, StandsFor, fetch_count, pump_count};
-ghost use Rattle.tl_sides.specs.ChannelCalls.{after_pump_a, after_pump_b, after_pump_c, after_pump_d, after_pump_e, after_take_all};
-ghost use Rattle.tl_sides.specs.ChannelCalls.{after_fetch_a, after_fetch_b, after_fetch_c, after_fetch_d, after_fetch_e};
+ghost use Rattle.tl_sides.specs.Bridges.{Past, StandsFor};
+ghost use Rattle.tl_sides.specs.ChannelCalls.{after_pass_on, after_take_all, passed};
+ghost use Rattle.tl_sides.specs.Joining.{pipe_of};
 
 use crate::sync_bridge::SyncBridge;
 use std::alloc::Allocator;
-use tl_msg::{Beat, ChA, ChB, ChC, ChD, ChE};
-use tl_ring::{fetch, pump};
+use tl_msg::{Beat, ChA, ChB, ChC, ChD, ChE, Channel};
+use tl_ring::{Inbox, Outbox, Ring, fetch, pump};
+
+// Moves what is staged into the ring. Where that has too little room, the ring's beats go on into the inbox,
+// and then what is still staged into the ring.
+fn pass_on<K: Channel, const W: usize, const V: usize, A: Allocator>(
+    outbox: &mut Outbox<K, W, V>,
+    ring: &mut Ring<K, V, A>,
+    inbox: &mut Inbox<K, V>,
+)
+    ensures { pipe_of outbox.new ring.new inbox.new ≡
+        passed (pipe_of outbox.old ring.old inbox.old) }
+{
+    pump(outbox, ring);
+    if outbox.staged() == 0 {
+        return;
+    }
+    fetch(ring, inbox);
+    pump(outbox, ring);
+}
 
 impl<const C: usize, const M: usize, A: Allocator> SyncBridge<C, M, A> {
-    /// Moves staged beats of A to its ring, as many as that has room for, and answers their number.
-    pub fn pump_a(&mut self) -> usize
-        ensures count { result ≡ pump_count self.old.a }
-        ensures moved { (x : Past C M) → StandsFor self.old x →
-            StandsFor self.new (after_pump_a self.old x) }
-        ensures most { result ≤ ROOM }
+    /// Moves what is staged of A into its ring. Where that has too little room, the ring's beats go on
+    /// into the inbox, and then what is still staged into the ring.
+    pub fn pass_on_a(&mut self)
+        ensures { (x : Past C M) → StandsFor self.old x →
+            StandsFor self.new (record x { a = after_pass_on self.old.a x.a }) }
     {
-        pump(&mut self.client.a, &mut self.a)
+        pass_on(&mut self.client.a, &mut self.a, &mut self.manager.a);
     }
 
-    /// Moves staged beats of B to its ring, as many as that has room for, and answers their number.
-    pub fn pump_b(&mut self) -> usize
-        ensures count { result ≡ pump_count self.old.b }
-        ensures moved { (x : Past C M) → StandsFor self.old x →
-            StandsFor self.new (after_pump_b self.old x) }
-        ensures most { result ≤ ROOM }
+    /// Moves what is staged of B into its ring. Where that has too little room, the ring's beats go on
+    /// into the inbox, and then what is still staged into the ring.
+    pub fn pass_on_b(&mut self)
+        ensures { (x : Past C M) → StandsFor self.old x →
+            StandsFor self.new (record x { b = after_pass_on self.old.b x.b }) }
     {
-        pump(&mut self.manager.b, &mut self.b)
+        pass_on(&mut self.manager.b, &mut self.b, &mut self.client.b);
     }
 
-    /// Moves staged beats of C to its ring, as many as that has room for, and answers their number.
-    pub fn pump_c(&mut self) -> usize
-        ensures count { result ≡ pump_count self.old.c }
-        ensures moved { (x : Past C M) → StandsFor self.old x →
-            StandsFor self.new (after_pump_c self.old x) }
-        ensures most { result ≤ ROOM }
+    /// Moves what is staged of C into its ring. Where that has too little room, the ring's beats go on
+    /// into the inbox, and then what is still staged into the ring.
+    pub fn pass_on_c(&mut self)
+        ensures { (x : Past C M) → StandsFor self.old x →
+            StandsFor self.new (record x { c = after_pass_on self.old.c x.c }) }
     {
-        pump(&mut self.client.c, &mut self.c)
+        pass_on(&mut self.client.c, &mut self.c, &mut self.manager.c);
     }
 
-    /// Moves staged beats of D to its ring, as many as that has room for, and answers their number.
-    pub fn pump_d(&mut self) -> usize
-        ensures count { result ≡ pump_count self.old.d }
-        ensures moved { (x : Past C M) → StandsFor self.old x →
-            StandsFor self.new (after_pump_d self.old x) }
-        ensures most { result ≤ ROOM }
+    /// Moves what is staged of D into its ring. Where that has too little room, the ring's beats go on
+    /// into the inbox, and then what is still staged into the ring.
+    pub fn pass_on_d(&mut self)
+        ensures { (x : Past C M) → StandsFor self.old x →
+            StandsFor self.new (record x { d = after_pass_on self.old.d x.d }) }
     {
-        pump(&mut self.manager.d, &mut self.d)
+        pass_on(&mut self.manager.d, &mut self.d, &mut self.client.d);
     }
 
-    /// Moves staged beats of E to its ring, as many as that has room for, and answers their number.
-    pub fn pump_e(&mut self) -> usize
-        ensures count { result ≡ pump_count self.old.e }
-        ensures moved { (x : Past C M) → StandsFor self.old x →
-            StandsFor self.new (after_pump_e self.old x) }
-        ensures most { result ≤ ROOM }
+    /// Moves what is staged of E into its ring. Where that has too little room, the ring's beats go on
+    /// into the inbox, and then what is still staged into the ring.
+    pub fn pass_on_e(&mut self)
+        ensures { (x : Past C M) → StandsFor self.old x →
+            StandsFor self.new (record x { e = after_pass_on self.old.e x.e }) }
     {
-        pump(&mut self.client.e, &mut self.e)
-    }
-
-    /// Moves beats of A's ring to its inbox, as many as that has room for, and answers their number.
-    pub fn fetch_a(&mut self) -> usize
-        ensures count { result ≡ fetch_count self.old.a }
-        ensures moved { (x : Past C M) → StandsFor self.old x →
-            StandsFor self.new (after_fetch_a self.old x) }
-        ensures most { result ≤ ROOM }
-    {
-        fetch(&mut self.a, &mut self.manager.a)
-    }
-
-    /// Moves beats of B's ring to its inbox, as many as that has room for, and answers their number.
-    pub fn fetch_b(&mut self) -> usize
-        ensures count { result ≡ fetch_count self.old.b }
-        ensures moved { (x : Past C M) → StandsFor self.old x →
-            StandsFor self.new (after_fetch_b self.old x) }
-        ensures most { result ≤ ROOM }
-    {
-        fetch(&mut self.b, &mut self.client.b)
-    }
-
-    /// Moves beats of C's ring to its inbox, as many as that has room for, and answers their number.
-    pub fn fetch_c(&mut self) -> usize
-        ensures count { result ≡ fetch_count self.old.c }
-        ensures moved { (x : Past C M) → StandsFor self.old x →
-            StandsFor self.new (after_fetch_c self.old x) }
-        ensures most { result ≤ ROOM }
-    {
-        fetch(&mut self.c, &mut self.manager.c)
-    }
-
-    /// Moves beats of D's ring to its inbox, as many as that has room for, and answers their number.
-    pub fn fetch_d(&mut self) -> usize
-        ensures count { result ≡ fetch_count self.old.d }
-        ensures moved { (x : Past C M) → StandsFor self.old x →
-            StandsFor self.new (after_fetch_d self.old x) }
-        ensures most { result ≤ ROOM }
-    {
-        fetch(&mut self.d, &mut self.client.d)
-    }
-
-    /// Moves beats of E's ring to its inbox, as many as that has room for, and answers their number.
-    pub fn fetch_e(&mut self) -> usize
-        ensures count { result ≡ fetch_count self.old.e }
-        ensures moved { (x : Past C M) → StandsFor self.old x →
-            StandsFor self.new (after_fetch_e self.old x) }
-        ensures most { result ≤ ROOM }
-    {
-        fetch(&mut self.e, &mut self.manager.e)
+        pass_on(&mut self.client.e, &mut self.e, &mut self.manager.e);
     }
 
     /// The beats of A's inbox, in order, for [`SyncBridge::take_all`].

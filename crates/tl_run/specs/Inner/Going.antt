@@ -11,7 +11,7 @@ use Rattle.tl_msg.specs.declared.head.HeadE.{HeadE}
 use Rattle.tl_msg.specs.declared.beat.BeatOf.{BeatOf}
 use Rattle.tl_msg.specs.declared.fault.SideFault.{SideFault}
 use Rattle.tl_burst.specs.Handing.{rest_of}
-use Rattle.tl_ring.specs.Crossing.{World, pushed, popped}
+use Rattle.tl_ring.specs.Crossing.{World}
 use Rattle.tl_ring.specs.Pipe.{Pipe}
 use Rattle.tl_ring.specs.declared.fault.EndFault.{EndFault}
 use Rattle.tl_settle.specs.Histories.{client_answer, manager_answer}
@@ -28,11 +28,6 @@ use Rattle.tl_run.specs.declared.channel_state.Offered.{Offered}
 use Rattle.tl_run.specs.declared.channel_state.Offered.TheVariants.{Accepted, NotReady, Stopped}
 use Rattle.tl_run.specs.declared.channel_state.Stop.{Stop}
 use Rattle.tl_run.specs.declared.channel_state.Stop.TheVariants.{Done, Cut, Refused}
-
--- staged beats went into the ring, then beats of the ring into the inbox, and then more of those staged into the ring
-module _ {H : Type 0} {w v : ℕ} where
-  abbrev pub passed_on : (first out again : ℕ) → World H w v → World H w v
-  passed_on first out again x = pushed again (popped out (pushed first x))
 
 -- the fault for which a beat is refused
 abbrev pub refused_by : Offered → Option SideFault

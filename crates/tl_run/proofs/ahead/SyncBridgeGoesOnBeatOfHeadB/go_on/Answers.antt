@@ -1,5 +1,5 @@
-use Rattle.tl_run.proofs.Names.{◌-◌, OffersNext, Accepted, subst, beat_small, StandsFor, fetch_count, pump_count, bridge_small, going_b, on_bridge_b}
-use Rattle.tl_run.proofs.Going.{ahead-b, has-passed, accepted-some, has-stayed, none-accepted, none-again}
+use Rattle.tl_run.proofs.Names.{◌-◌, OffersNext, Accepted, subst, beat_small, again_count, out_count, pump_count, bridge_small, going_b, on_bridge_b}
+use Rattle.tl_run.proofs.Going.{ahead-b, has-passed, accepted-some, has-stayed, none-accepted}
 use Rattle.tl_run.proofs.ahead.SyncBridgeGoesOnBeatOfHeadB.go_on.Goals as goal
 
 pub offer_next-offered-requires : goal.offer_next-offered-requires
@@ -8,17 +8,8 @@ offer_next-offered-requires g c = (
   (beat_small g.row.M c.requires.0.manager, c.requires.0),
 )
 
-pub pump_b-requires : goal.pump_b-requires
-pump_b-requires g c = bridge_small g.row.C g.row.M c.requires.0.client c.requires.0.manager
-
-pub ready_b-requires : goal.ready_b-requires
-ready_b-requires g c = bridge_small g.row.C g.row.M c.requires.0.client c.requires.0.manager
-
-pub fetch_b-requires : goal.fetch_b-requires
-fetch_b-requires g c = bridge_small g.row.C g.row.M c.requires.0.client c.requires.0.manager
-
-pub pump_b-requires-2 : goal.pump_b-requires-2
-pump_b-requires-2 g c = bridge_small g.row.C g.row.M c.requires.0.client c.requires.0.manager
+pub pass_on_b-requires : goal.pass_on_b-requires
+pass_on_b-requires g c = bridge_small g.row.C g.row.M c.requires.0.client c.requires.0.manager
 
 pub returns-in_default : goal.returns-in_default
 returns-in_default g c =
@@ -27,29 +18,16 @@ returns-in_default g c =
     offered.new.self offered.result offered.ensures
     (none-accepted _ c.in_default.not-Accepted)
 
-pub returns-then-ready_b : goal.returns-then-ready_b
-returns-then-ready_b g c =
-    let offered = c.offer_next-offered in
-    let count = pump_count offered.new.self.b in
-    has-passed going_b on_bridge_b (λ s x. (λ h. h, λ h. h)) c.args.gone c.args.at c.requires.1 c.args.held.now c.requires.2 c.args.self.now
-    offered.new.self Accepted
-    (subst (λ o. OffersNext on_bridge_b c.args.held.now (c.args.at - c.args.gone) c.args.self.now o offered.new.self)
-      c.in-Accepted.is offered.ensures)
-    count 0 0 c.pump_b.new.self accepted-some (ahead-b count 0 0)
-    (λ y x h. subst (λ z. StandsFor c.pump_b.new.self (record x { b = z })) (none-again count y) (c.pump_b.ensures.moved _ h))
-
 pub returns : goal.returns
 returns g c =
     let offered = c.offer_next-offered in
-    let first = pump_count offered.new.self.b in
-    let out = fetch_count c.pump_b.new.self.b in
-    let again = pump_count c.fetch_b.new.self.b in
+    let old = offered.new.self.b in
     has-passed going_b on_bridge_b (λ s x. (λ h. h, λ h. h)) c.args.gone c.args.at c.requires.1 c.args.held.now c.requires.2 c.args.self.now
     offered.new.self Accepted
     (subst (λ o. OffersNext on_bridge_b c.args.held.now (c.args.at - c.args.gone) c.args.self.now o offered.new.self)
       c.in-Accepted.is offered.ensures)
-    first out again c.pump_b-2.new.self accepted-some (ahead-b first out again)
-    (λ y x h. c.pump_b-2.ensures.moved _ (c.fetch_b.ensures.moved _ (c.pump_b.ensures.moved _ h)))
+    (pump_count old) (out_count old) (again_count old) c.pass_on_b.new.self accepted-some
+    (ahead-b (pump_count old) (out_count old) (again_count old)) (λ y x h. c.pass_on_b.ensures _ h)
 
 pub overflow_sub-at : goal.overflow_sub-at
 overflow_sub-at g c = c.requires.1
