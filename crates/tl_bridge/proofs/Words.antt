@@ -25,7 +25,7 @@ pub use Rattle.tl_run.proofs.Counting.{counts-on, few-enough, last-one, nearer, 
 pub use Rattle.tl_run.proofs.Ended.{begins, end-few, progress-ends, progress-is, run_end}
 pub use Rattle.tl_run.proofs.Lives.{lives-long}
 pub use Rattle.tl_run.proofs.NextOffers.{of-list}
-pub use Rattle.tl_run.proofs.OnlyMemory.{not-for-size, not-ok, not-stalled, only-memory, stalled-never}
+pub use Rattle.tl_run.proofs.OnlyMemory.{not-ok, only-memory, stalled-never}
 pub use Rattle.tl_run.proofs.Round.{alone-own, client-own, counts-fit, manager-own, none-accepted, stops-same}
 pub use Rattle.tl_run.proofs.RoundMoves.{client-offers, client-takes-all, manager-offers, manager-takes-all}
 pub use Rattle.tl_run.proofs.RunRound.{due-a, due-d}

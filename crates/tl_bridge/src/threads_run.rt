@@ -12,7 +12,7 @@ use crate::thread_rounds::play_rounds;
 use std::alloc::Global;
 use std::thread::Threads;
 use tl_ring::MAX_RING;
-use tl_run::{Outcome, RunFault, Taken, outcome_of};
+use tl_run::{Outcome, RunFault, Taken, outcome_at};
 use tl_trace::Script;
 
 /// Runs a script over a bridge whose two sides are each in a thread of their own, to its end: the
@@ -83,5 +83,5 @@ pub fn run_threads<R: Threads, G: Gate + Send, H: Gate + Send, const C: usize, c
     );
     let (b, d) = client.into_lists();
     let (a, c, e) = manager.into_lists();
-    outcome_of(Ok(end), Taken { a, b, c, d, e })
+    Ok(outcome_at(end, Taken { a, b, c, d, e }))
 }

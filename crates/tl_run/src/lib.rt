@@ -23,7 +23,7 @@ pub use far_sink::FarSink;
 pub use leaving::let_leave;
 pub use offers::Offers;
 pub use outcome::{Ending, Outcome, RunFault};
-pub use rounds::{End, are_empty, outcome_of};
+pub use rounds::{End, are_empty, outcome_at};
 pub use streaming::SyncRun;
 pub use sync_run::run_sync;
 pub use taken::Taken;

@@ -1,9 +1,8 @@
 //! The rounds of a run in one thread, and how each channel ends.
-ghost use Rattle.std.specs.Prelude.{◌≡◌, ◌↔◌, ℕ, IsTrue, IfSome, IsNone, IfOk, IfErr};
+ghost use Rattle.std.specs.Prelude.{◌≡◌, ◌↔◌, ℕ, IsTrue, IfSome, IsNone};
 ghost use Rattle.tl_lanes.specs.Lanes.{IsWidth};
 ghost use Rattle.tl_settle.specs.Outcomes.{Beats, verdicts};
 ghost use Rattle.tl_sides.specs.Bridges.{Bridge, Past, StandsFor};
-ghost use Rattle.tl_run.specs.declared.outcome.RunFault.TheVariants.{OutOfMemory};
 ghost use Rattle.tl_run.specs.Arrivals.{no_beats};
 ghost use Rattle.tl_run.specs.Scripts.{EndsIn, HasShortLists, near_beats};
 ghost use Rattle.tl_run.specs.Inner.Widths.{AreWidths};
@@ -12,7 +11,7 @@ ghost use Rattle.tl_run.specs.Inner.Running.{IsAt, lengths, IsNew, IsUnderWay, H
 
 use crate::channel_state::{Offered, Stop, add_accepted, all_stops};
 use crate::offers::Offers;
-use crate::outcome::{Ending, Outcome, RunFault, verdict};
+use crate::outcome::{Ending, Outcome, verdict};
 use crate::taken::{Taken, take_from_each};
 use tl_msg::Verdict;
 use tl_ring::Standing;
@@ -150,11 +149,9 @@ pub(crate) fn run_rounds<const C: usize, const M: usize>(
     }
 }
 
-// The outcome of a run that has ended there, by the far beats that it took.
-pub(crate) fn outcome_at<const C: usize, const M: usize>(
-    end: End,
-    far: Taken<C, M>,
-) -> Outcome<C, M>
+/// The outcome of a run that has ended there, by the far beats that it took: these, the verdict of each
+/// channel and the number of rounds (this project's choice).
+pub fn outcome_at<const C: usize, const M: usize>(end: End, far: Taken<C, M>) -> Outcome<C, M>
     requires { AreWidths C M }
     ensures { (near : Beats C M) (s : Bridge C M) →
         HasEnded near end.at (beats_of far.entry) s end.stops end.rounds → EndsIn near result }
@@ -171,23 +168,4 @@ pub(crate) fn outcome_at<const C: usize, const M: usize>(
         verdicts,
         rounds: end.rounds,
     })
-}
-
-/// The outcome of a run by the far beats that it took: where it has ended, these, the verdict of each
-/// channel and the number of rounds; else the run's fault (this project's choice).
-pub fn outcome_of<const C: usize, const M: usize>(
-    ended: Result<End, RunFault>,
-    far: Taken<C, M>,
-) -> Result<Outcome<C, M>, RunFault>
-    requires { AreWidths C M }
-    ensures outcome { (near : Beats C M) (s : Bridge C M) →
-        IfOk ended (λ end. HasEnded near end.at (beats_of far.entry) s end.stops end.rounds) →
-        IfOk result (EndsIn near) }
-    ensures memory { IfErr ended (λ fault. fault ≡ OutOfMemory) →
-        IfErr result (λ fault. fault ≡ OutOfMemory) }
-{
-    match ended {
-        Ok(end) => Ok(outcome_at(end, far)),
-        Err(fault) => Err(fault),
-    }
 }

@@ -1,5 +1,5 @@
 use Rattle.std.proofs.Common.{lit<, refl, sym, subst, ⊎_elim, inl, inr}
-use Rattle.tl_bridge.proofs.Words.{beat_small, near_beats, HasEnded, client_small, manager_small, not-for-size, not-ok, not-stalled}
+use Rattle.tl_bridge.proofs.Words.{beat_small, near_beats, HasEnded, client_small, manager_small, not-ok}
 use Rattle.tl_bridge.proofs.Words.{only-memory, stalled-never}
 use Rattle.tl_bridge.specs.Inner.Sides.{bridge_of}
 use Rattle.tl_bridge.proofs.SideSizes.{client_run_small, manager_run_small}
@@ -75,9 +75,8 @@ returns g c =
     let y = c.play_rounds-end.new.manager in
     let end = c.play_rounds-end.result in
     let bridge = bridge_of x.side y.side in
-    let memory = c.outcome_of.ensures.memory tt in
     record {
-      outcome = c.outcome_of.ensures.outcome near bridge
+      outcome = c.outcome_at.ensures near bridge
           (subst (λ (p : _). HasEnded near end.at (record {
             a = c.into_lists-a.result.0.items;
             b = p.0.items;
@@ -89,8 +88,8 @@ returns g c =
           (record { a = q.0.items; b = x.far_b.items; c = q.1.items; d = x.far_d.items; e = q.2.items }) bridge end.stops
           end.rounds) (sym c.into_lists-a.ensures) c.play_rounds-end.ensures));
       size = λ _. c.in-Ok-bridge.ensures.size refl;
-      ring_size = not-for-size c.outcome_of.result c.args.ring (c.in-Ok-bridge.ensures.size refl) memory;
-      never_stalled = not-stalled c.outcome_of.result memory;
+      ring_size = tt;
+      never_stalled = tt;
     }
 
 -- no memory for the lists, or for the bridge
