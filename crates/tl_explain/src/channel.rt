@@ -60,53 +60,40 @@ fn draw_near<K: Told, const W: usize>(
     }
 }
 
-/// Writes the lines of far beats, each behind four blanks.
-fn put_far_lines<K: Told, const V: usize>(story: &mut Story, far: &[Beat<K, V>]) {
+/// Appends the lines of far beats. False where that can't be done.
+fn write_lines<K: Told, const V: usize>(
+    out: &mut Vec<u8>,
+    far: &[Beat<K, V>],
+    version: u8,
+) -> bool {
     // (tested, too)
-    if !is_width(V) {
-        return;
-    }
-    if far.len() == 1 {
-        story.page.put_text("    ");
-        let written = write_far::<K, V>(&mut story.page.text, far, story.version);
-        story.page.lacks_a_piece |= written.is_err();
-        return;
-    }
+    is_width(V) && write_far::<K, V>(out, far, version).is_ok()
+}
+
+/// Writes the lines of far beats, each behind four blanks, with their lanes where these are shown; or draws
+/// the beats.
+#[inline(never)]
+fn put_several<K: Told, const V: usize>(story: &mut Story, far: &[Beat<K, V>]) {
     story.far.clear();
-    let written = write_far::<K, V>(&mut story.far, far, story.version);
-    story.page.lacks_a_piece |= written.is_err();
+    story.page.lacks_a_piece |= !write_lines::<K, V>(&mut story.far, far, story.version);
     // all lines of a channel are of one length
     let length = story.far.len() / far.len().max(1);
     for number in 0..far.len() {
         story.put_far_line(number, length);
+        if story.shows_far_lanes() {
+            let seen = seen_of::<K, V>(&far[number], story.version);
+            story.put_far_lanes(number, length, &seen, &far[number].lanes);
+        }
     }
 }
 
-/// Writes the lines of far beats with their lanes, or draws them.
-#[inline(never)]
-fn put_far_lanes<K: Told, const V: usize>(story: &mut Story, far: &[Beat<K, V>]) {
-    // (tested, too)
-    if !is_width(V) {
-        return;
-    }
-    story.far.clear();
-    let written = write_far::<K, V>(&mut story.far, far, story.version);
-    story.page.lacks_a_piece |= written.is_err();
-    let length = story.far.len() / far.len().max(1);
-    for number in 0..far.len() {
-        story.put_far_line(number, length);
-        let seen = seen_of::<K, V>(&far[number], story.version);
-        story.put_far_lanes(number, length, &seen, &far[number].lanes);
-    }
-}
-
-/// Writes far beats.
+/// Writes far beats: one whose lanes are not shown without a copy of its line.
 fn put_far<K: Told, const V: usize>(story: &mut Story, far: &[Beat<K, V>]) {
-    if story.shows_far_lanes() {
-        put_far_lanes::<K, V>(story, far);
-    } else {
-        put_far_lines::<K, V>(story, far);
+    if story.shows_far_lanes() || far.len() != 1 {
+        return put_several::<K, V>(story, far);
     }
+    story.page.put_text("    ");
+    story.page.lacks_a_piece |= !write_lines::<K, V>(&mut story.page.text, far, story.version);
 }
 
 /// Writes what came of the next of these beats, in a line of the channel with this letter, and below it the

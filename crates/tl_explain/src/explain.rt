@@ -166,7 +166,9 @@ fn with_answer(
     ensures done { IfOk result (λ made. made.answer.all_done ≡ list_all is_done verdicts) }
     ensures err { IfErr result (λ fault. fault ≡ NoMemory) }
 {
-    let answer = check_of(alloc, &verdicts, version, client, manager)?;
+    let Ok(answer) = check_of(alloc, &verdicts, version, client, manager) else {
+        return Err(TextFault::OutOfMemory);
+    };
     Ok(Checked { verdicts, answer })
 }
 

@@ -2,6 +2,7 @@
 use crate::lane_list::{lanes_of, put_lanes};
 use crate::walk::Walk;
 use crate::words::{name_of, sink_of, source_of};
+use tl_lanes::Mask;
 use tl_msg::{BeatFault, Kind};
 use tl_remarks::Seen;
 use tl_unreadable::Page;
@@ -32,22 +33,23 @@ fn put_param(out: &mut Page, beat: &Seen) {
     }
 }
 
+/// The lanes of a mask that are wrong, where a message has these active lanes, and the rule that it breaks.
+fn mask_rule(beat: &Seen, lanes: Mask) -> (Mask, &'static str) {
+    if beat.kind.is_some_and(Kind::is_partial) {
+        let rule = ", but it may have active lanes alone, which are ";
+        (beat.mask & !lanes, rule)
+    } else {
+        let rule = ", but it has to have exactly the active lanes, which are ";
+        (beat.mask, rule)
+    }
+}
+
 /// Writes what is wrong with the mask on `w` lanes.
 fn put_mask(out: &mut Page, beat: &Seen, w: usize) {
     let Some(lanes) = lanes_of(beat.address, beat.size, w) else {
         return out.put(Text("the mask is wrong"));
     };
-    let (wrong, rule) = if beat.kind.is_some_and(Kind::is_partial) {
-        (
-            beat.mask & !lanes,
-            ", but it may have active lanes alone, which are ",
-        )
-    } else {
-        (
-            beat.mask,
-            ", but it has to have exactly the active lanes, which are ",
-        )
-    };
+    let (wrong, rule) = mask_rule(beat, lanes);
     out.put(Text("the mask has "));
     put_lanes(out, wrong);
     out.put(Text(rule));

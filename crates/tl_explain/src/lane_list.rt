@@ -31,7 +31,7 @@ pub fn put_lanes(out: &mut Page, mask: Mask) {
                 out.put(Text(separator));
                 out.put(Number(lane as u64));
                 separator = ", ";
-            } else if !has_lane(mask, lane + 1) {
+            } else if !has_lane(mask, lane.wrapping_add(1)) {
                 out.say(" to #", &[Number(lane as u64)]);
             }
         }

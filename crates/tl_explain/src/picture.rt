@@ -83,25 +83,28 @@ impl<'a> Picture<'a> {
         }
     }
 
-    /// Writes the lanes from `from` on, at most a row of them, highest first: their numbers, and
-    /// below them their bytes. All numbers of a bus have room for as many digits as that of its last
-    /// lane, and for two at least.
-    fn put_row(&self, out: &mut Page, name: &str, from: usize) {
-        let row = self.lanes.get(from..).unwrap_or(&[]);
-        let row = row.get(..ROW).unwrap_or(row);
-        let (digits, blanks) = if self.lanes.len() <= TWO_DIGITS {
+    /// How many digits the number of a lane has room for: as many as that of the bus's last lane has, and
+    /// two at least; and the blanks before a byte below it.
+    fn room(&self) -> (usize, &'static str) {
+        if self.lanes.len() <= TWO_DIGITS {
             (2, " ")
         } else {
             (3, "  ")
-        };
+        }
+    }
+
+    /// Writes the lanes from `from` on, at most a row of them, highest first: their numbers, and
+    /// below them their bytes.
+    fn put_row(&self, out: &mut Page, name: &str, from: usize) {
+        let count = self.lanes.len().saturating_sub(from).min(ROW);
+        let (digits, blanks) = self.room();
         out.put(Text("    lane"));
-        for i in 0..row.len() {
-            let lane = from.saturating_add(row.len() - 1 - i);
-            out.put(Column(lane, digits));
+        for i in 0..count {
+            out.put(Column(from.saturating_add(count - 1 - i), digits));
         }
         out.put_all(&[Text("\n    "), Text(name)]);
-        for i in 0..row.len() {
-            let lane = from.saturating_add(row.len() - 1 - i);
+        for i in 0..count {
+            let lane = from.saturating_add(count - 1 - i);
             out.put_all(&[Text(blanks), self.lane(lane)]);
         }
         out.put(Text("\n"));

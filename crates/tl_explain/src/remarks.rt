@@ -5,11 +5,11 @@ use tl_unreadable::Piece::{self, Coloured, Id, Name, Number, Text};
 use tl_unreadable::{Colour, Page};
 
 /// The params of an Acquire, of a Grant or a probe, and of a report, as the standard spells them.
-const GROWTHS: [&str; 3] = ["NtoB", "NtoT", "BtoT"];
+const GROWTHS: &[&str] = &["NtoB", "NtoT", "BtoT"];
 
-const CAPS: [&str; 3] = ["toT", "toB", "toN"];
+const CAPS: &[&str] = &["toT", "toB", "toN"];
 
-const REPORTS: [&str; 6] = ["TtoB", "TtoN", "BtoN", "TtoT", "BtoB", "NtoN"];
+const REPORTS: &[&str] = &["TtoB", "TtoN", "BtoN", "TtoT", "BtoB", "NtoN"];
 
 /// The word of a param.
 fn word(words: &[&'static str], param: u8) -> Piece<'static> {
@@ -25,80 +25,83 @@ fn name(message: &Message) -> Piece<'static> {
 }
 
 /// What answers a message, and by which id both know each other.
-fn answer_to(message: &Message) -> (&'static str, &'static str) {
+fn answer_to(message: &Message) -> &'static str {
     match message.kind {
-        Some(Kind::Grant | Kind::GrantData) => ("GrantAck", "sink"),
-        Some(Kind::Release | Kind::ReleaseData) => ("ReleaseAck", "source"),
-        Some(Kind::ProbeBlock | Kind::ProbePerm) => ("ProbeAck", "source"),
-        _ => ("response", "source"),
+        Some(Kind::Grant | Kind::GrantData) => "GrantAck of sink",
+        Some(Kind::Release | Kind::ReleaseData) => "ReleaseAck of source",
+        Some(Kind::ProbeBlock | Kind::ProbePerm) => "ProbeAck of source",
+        _ => "response of source",
     }
 }
 
 /// What a message answers, and by which id both know each other.
-fn asked_by(message: &Message) -> (&'static str, &'static str) {
+fn asked_by(message: &Message) -> &'static str {
     match message.kind {
-        None => ("Grant", "sink"),
-        Some(Kind::ReleaseAck) => ("Release", "source"),
-        Some(Kind::ProbeAck | Kind::ProbeAckData) => ("probe of this address", "source"),
-        _ => ("request of this address", "source"),
+        None => "Grant of sink",
+        Some(Kind::ReleaseAck) => "Release of source",
+        Some(Kind::ProbeAck | Kind::ProbeAckData) => "probe of this address of source",
+        _ => "request of this address of source",
     }
 }
 
-/// Writes what does not fit between a message and its partner.
+/// What does not fit between the param of a message and that of its partner, and the words of both.
+fn misfit_of(
+    grants: bool,
+) -> (
+    &'static str,
+    &'static [&'static str],
+    &'static [&'static str],
+) {
+    if grants {
+        let sentence = "it grants #, but #, in line #, asks for # (TileLink 1.8: Grant)";
+        (sentence, CAPS, GROWTHS)
+    } else {
+        let sentence = "it reports #, but #, in line #, leaves # (TileLink 1.8: ProbeAck)";
+        (sentence, REPORTS, CAPS)
+    }
+}
+
+/// Writes that the param of a message does not fit that of its partner.
 fn put_misfit(out: &mut Page, remark: &Remark) {
     let (message, partner) = (&remark.message, &remark.partner);
-    let (asked, line) = (name(partner), Number(partner.line));
-    match remark.rule {
-        Rule::OtherCap => out.say(
-            "it grants #, but #, in line #, asks for # (TileLink 1.8: Grant)",
-            &[
-                word(&CAPS, message.param),
-                asked,
-                line,
-                word(&GROWTHS, partner.param),
-            ],
-        ),
-        Rule::LeavesMore => out.say(
-            "it reports #, but #, in line #, leaves # (TileLink 1.8: ProbeAck)",
-            &[
-                word(&REPORTS, message.param),
-                asked,
-                line,
-                word(&CAPS, partner.param),
-            ],
-        ),
-        _ => out.say(
-            "it is no response to #, in line # (TileLink 1.8: #)",
-            &[asked, line, asked],
-        ),
-    }
+    let (sentence, words, asked) = misfit_of(matches!(remark.rule, Rule::OtherCap));
+    out.say(
+        sentence,
+        &[
+            word(words, message.param),
+            name(partner),
+            Number(partner.line),
+            word(asked, partner.param),
+        ],
+    );
+}
+
+/// Writes that a message is no response to its partner.
+fn put_no_response(out: &mut Page, partner: &Message) {
+    let asked = name(partner);
+    out.say(
+        "it is no response to #, in line # (TileLink 1.8: #)",
+        &[asked, Number(partner.line), asked],
+    );
 }
 
 /// Writes what a message lacks, which is known by this id.
-fn put_missing(
-    out: &mut Page,
-    sentence: &str,
-    (what, of): (&'static str, &'static str),
-    remark: &Remark,
-    version: u8,
-) {
-    let message = &remark.message;
+fn put_missing(out: &mut Page, sentence: &str, what: &'static str, message: &Message, version: u8) {
     let id = Id(message.key.id, version);
-    out.say(sentence, &[Text(what), Text(of), id, name(message)]);
+    out.say(sentence, &[Text(what), id, name(message)]);
 }
 
-/// Writes a remark on a message of a trace of this version, in a line.
-pub fn put_remark(out: &mut Page, remark: &Remark, version: u8) {
+/// Writes what is remarked on a message of a trace of this version.
+fn put_rule(out: &mut Page, remark: &Remark, version: u8) {
     let message = &remark.message;
-    out.say("    #: ", &[Coloured(Colour::Yellow, "remark")]);
     match remark.rule {
         Rule::NotAnswered => {
-            let sentence = "no # of # # answers it (TileLink 1.8: #)";
-            put_missing(out, sentence, answer_to(message), remark, version);
+            let sentence = "no # # answers it (TileLink 1.8: #)";
+            put_missing(out, sentence, answer_to(message), message, version);
         }
         Rule::AnswersNothing => {
-            let sentence = "there is no # of # # for it (TileLink 1.8: #)";
-            put_missing(out, sentence, asked_by(message), remark, version);
+            let sentence = "there is no # # for it (TileLink 1.8: #)";
+            put_missing(out, sentence, asked_by(message), message, version);
         }
         Rule::DeniedAck => out.put(Text(
             "a ReleaseAck cannot be denied (TileLink 1.8: ReleaseAck)",
@@ -110,7 +113,14 @@ pub fn put_remark(out: &mut Page, remark: &Remark, version: u8) {
         Rule::PermToRead => out.put(Text(
             "it gives no data, and so it asks for NtoT or BtoT, and not for NtoB (TileLink 1.8: AcquirePerm)",
         )),
-        _ => put_misfit(out, remark),
+        Rule::OtherResponse => put_no_response(out, &remark.partner),
+        Rule::OtherCap | Rule::LeavesMore => put_misfit(out, remark),
     }
+}
+
+/// Writes a remark on a message of a trace of this version, in a line.
+pub fn put_remark(out: &mut Page, remark: &Remark, version: u8) {
+    out.say("    #: ", &[Coloured(Colour::Yellow, "remark")]);
+    put_rule(out, remark, version);
     out.put(Text("\n"));
 }

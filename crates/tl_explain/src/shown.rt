@@ -2,6 +2,7 @@
 use crate::look::Choice;
 use crate::story::{Fares, LETTERS, Story};
 use tl_msg::SourceId;
+use tl_unreadable::Page;
 use tl_unreadable::Piece::Number;
 
 /// What is said of a line that is shown, or of several whose beats were not offered.
@@ -58,6 +59,18 @@ impl Run {
     fn has(&self, letter: u8) -> bool {
         self.channels & channel_bit(letter) != 0
     }
+
+    /// Writes which lines these are, and that their beats were not offered.
+    fn put(&self, out: &mut Page) {
+        out.say(
+            "lines # to #, # beats: not offered",
+            &[
+                Number(self.item.line),
+                Number(self.item.last),
+                Number(self.count),
+            ],
+        );
+    }
 }
 
 impl Choice {
@@ -79,17 +92,9 @@ impl Choice {
 impl Story {
     /// Writes what is said of several lines whose beats were not offered, in one sentence.
     fn put_several(&mut self) {
-        let run = self.run;
-        self.page.say(
-            "lines # to #, # beats: not offered",
-            &[
-                Number(run.item.line),
-                Number(run.item.last),
-                Number(run.count),
-            ],
-        );
+        self.run.put(&mut self.page);
         for letter in LETTERS {
-            if let (true, Some(stop)) = (run.has(*letter), self.stop_of(*letter)) {
+            if let (true, Some(stop)) = (self.run.has(*letter), self.stop_of(*letter)) {
                 stop.put_with_letter(&mut self.page);
             }
         }

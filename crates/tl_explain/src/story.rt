@@ -12,7 +12,7 @@ use crate::shown::{Item, Run};
 use crate::walk::Walk;
 use std::alloc::Global;
 use tl_msg::Verdict;
-use tl_remarks::{Noted, Seen};
+use tl_remarks::{Noted, Remark, Seen};
 use tl_unreadable::Page;
 use tl_unreadable::Piece::{Letter, Number};
 
@@ -220,11 +220,11 @@ impl Story {
         Came { fate, answers }
     }
 
-    /// Whether there is a remark on the line.
-    fn has_remarks(&self) -> bool {
+    /// The next remark, where it is one on the line.
+    fn next_remark(&self) -> Option<Remark> {
         match self.noted.remarks.get(self.remarks_passed) {
-            Some(remark) => remark.message.line == self.line,
-            None => false,
+            Some(remark) if remark.message.line == self.line => Some(*remark),
+            _ => None,
         }
     }
 
@@ -236,7 +236,7 @@ impl Story {
         self.item.fares = came.fate.fares();
         self.is_shown = self
             .choice
-            .shows(&self.item, beat.source, self.has_remarks());
+            .shows(&self.item, beat.source, self.next_remark().is_some());
         if self.is_shown && self.begins_sentence() {
             self.item.from = self.page.len();
             self.put_line(beat, &came);
@@ -310,14 +310,12 @@ impl Story {
         if !self.drawing.is_wanted {
             return put_picture(&mut self.page, "far ", beat, lanes, self.walk.home);
         }
-        let brought = self.walk.brought;
-        let place = brought.from.saturating_sub(self.walk.far_before);
         let drawn = Drawn {
             is_far: true,
             beat: *beat,
             home: Some(self.walk.home),
             message: self.walk.first_line,
-            first_byte: place.saturating_add(number).saturating_mul(brought.whole),
+            first_byte: self.walk.far_byte(number),
             ..Drawn::default()
         };
         self.drawing
@@ -326,17 +324,14 @@ impl Story {
 
     /// Passes the remarks on the line, and writes them where it is shown.
     fn put_remarks(&mut self) {
-        for at in self.remarks_passed..self.noted.remarks.len() {
-            let Some(remark) = self.noted.remarks.get(at).copied() else {
+        for _ in self.remarks_passed..self.noted.remarks.len() {
+            let Some(remark) = self.next_remark() else {
                 break;
             };
-            if remark.message.line != self.line {
-                break;
-            }
+            self.remarks_passed = self.remarks_passed.saturating_add(1);
             if self.is_shown {
                 put_remark(&mut self.page, &remark, self.version);
             }
-            self.remarks_passed = at.saturating_add(1);
         }
     }
 

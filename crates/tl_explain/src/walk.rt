@@ -90,6 +90,15 @@ impl Walk {
         fate_at(self.near as u64, &self.verdict)
     }
 
+    /// Which byte of its message is the first one of the far beat of this number, from 0 on, among those that
+    /// the last accepted beat completed.
+    pub fn far_byte(&self, number: usize) -> usize {
+        let before = self.brought.from.saturating_sub(self.far_before);
+        before
+            .saturating_add(number)
+            .saturating_mul(self.brought.whole)
+    }
+
     /// Goes on by the next near beat, which was accepted and stands in this line.
     pub fn accept(&mut self, beat: &Seen, line: u64) -> Brought {
         if self.index == 0 {

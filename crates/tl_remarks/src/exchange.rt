@@ -38,6 +38,7 @@ struct Places {
     by_id: Vec<usize>,
     /// By address and id of each other key.
     by_key: HashMap<(u64, u16), usize>,
+    lacks_a_piece: bool,
 }
 
 impl Places {
@@ -45,7 +46,11 @@ impl Places {
     fn new(alloc: Global) -> Result<Places, AllocError> {
         let by_id = vec![in alloc; NONE; IDS]?;
         let by_key = HashMap::new(alloc);
-        Ok(Places { by_id, by_key })
+        Ok(Places {
+            by_id,
+            by_key,
+            lacks_a_piece: false,
+        })
     }
 
     /// The place of a key.
@@ -59,13 +64,12 @@ impl Places {
     }
 
     /// Puts a place there for a key.
-    fn set(&mut self, key: Key, at: usize) -> Result<(), AllocError> {
+    fn set(&mut self, key: Key, at: usize) {
         if key.address != 0 {
-            self.by_key.insert((key.address, key.id), at)?;
+            self.lacks_a_piece |= self.by_key.insert((key.address, key.id), at).is_err();
         } else if let Some(place) = self.by_id.get_mut(key.id as usize) {
             *place = at;
         }
-        Ok(())
     }
 }
 
@@ -99,16 +103,15 @@ impl Open {
     }
 
     /// Adds all of these.
-    fn add(&mut self, asks: &[Message]) -> Result<(), AllocError> {
+    fn add(&mut self, asks: &[Message]) {
         for back in 0..asks.len() {
             let at = asks.len() - 1 - back;
             let key = asks[at].key;
             if let Some(message) = self.standing.get_mut(at) {
                 message.next = self.first.get(key);
             }
-            self.first.set(key, at)?;
+            self.first.set(key, at);
         }
-        Ok(())
     }
 
     /// What is remarked on the message at this place, if nothing answers it.
@@ -120,20 +123,20 @@ impl Open {
     }
 
     /// The place of the first one of this key, which is answered from now on.
-    fn take(&mut self, key: Key) -> Result<usize, AllocError> {
+    fn take(&mut self, key: Key) -> usize {
         let at = self.first.get(key);
         if let Some(message) = self.standing.get_mut(at) {
             message.is_answered = true;
-            self.first.set(key, message.next)?;
+            self.first.set(key, message.next);
         }
-        Ok(at)
+        at
     }
 }
 
 /// Notes that a message answers another one, and what does not fit of it.
-fn note_answer(noted: &mut Noted, ask: &Message, answer: &Message) -> Result<(), AllocError> {
-    noted.push_pair(ask.line, answer.line)?;
-    noted.push_remark(rule_of(ask, answer), answer, ask)
+fn note_answer(noted: &mut Noted, ask: &Message, answer: &Message) {
+    noted.push_pair(ask.line, answer.line);
+    noted.push_remark(rule_of(ask, answer), answer, ask);
 }
 
 impl Exchange {
@@ -160,55 +163,40 @@ impl Exchange {
 
     /// Notes what the answers answer. Remarks on one that does not fit its partner, and, where `knows_asks`
     /// says that no message is missing, on one that has none.
-    fn judge_answers(
-        &self,
-        open: &mut Open,
-        knows_asks: bool,
-        noted: &mut Noted,
-    ) -> Result<(), AllocError> {
+    fn judge_answers(&self, open: &mut Open, knows_asks: bool, noted: &mut Noted) {
         for answer in &self.answers {
-            let at = open.take(answer.key)?;
+            let at = open.take(answer.key);
             if let Some(ask) = self.asks.get(at) {
-                note_answer(noted, ask, answer)?;
+                note_answer(noted, ask, answer);
             } else if knows_asks {
-                noted.push_remark(Some(Rule::AnswersNothing), answer, &Message::default())?;
+                noted.push_remark(Some(Rule::AnswersNothing), answer, &Message::default());
             }
         }
-        Ok(())
     }
 
     /// Remarks on the messages that have no answer.
-    fn judge_asks(&self, open: &Open, noted: &mut Noted) -> Result<(), AllocError> {
+    fn judge_asks(&self, open: &Open, noted: &mut Noted) {
         for at in 0..self.asks.len() {
-            noted.push_remark(open.rule_on(at), &self.asks[at], &Message::default())?;
+            noted.push_remark(open.rule_on(at), &self.asks[at], &Message::default());
         }
-        Ok(())
     }
 
     /// Remarks on all messages, over none of them that waits yet. A channel of which not all beats were
     /// accepted may lack messages.
-    fn judge_over(
-        &self,
-        open: &mut Open,
-        verdicts: &[Verdict; 5],
-        noted: &mut Noted,
-    ) -> Result<(), AllocError> {
-        open.add(&self.asks)?;
-        self.judge_answers(open, is_whole(verdicts, self.asks_on), noted)?;
+    fn judge_over(&self, open: &mut Open, verdicts: &[Verdict; 5], noted: &mut Noted) {
+        open.add(&self.asks);
+        self.judge_answers(open, is_whole(verdicts, self.asks_on), noted);
+        noted.lacks_a_piece |= open.first.lacks_a_piece;
         if is_whole(verdicts, self.answers_on) {
-            self.judge_asks(open, noted)?;
+            self.judge_asks(open, noted);
         }
-        Ok(())
     }
 
     /// Remarks on all messages, where the channels end with these verdicts.
-    pub fn judge(
-        &self,
-        alloc: Global,
-        verdicts: &[Verdict; 5],
-        noted: &mut Noted,
-    ) -> Result<(), AllocError> {
-        let mut open = Open::new(alloc, self.asks.len())?;
-        self.judge_over(&mut open, verdicts, noted)
+    pub fn judge(&self, alloc: Global, verdicts: &[Verdict; 5], noted: &mut Noted) {
+        match Open::new(alloc, self.asks.len()) {
+            Ok(mut open) => self.judge_over(&mut open, verdicts, noted),
+            Err(_) => noted.lacks_a_piece = true,
+        }
     }
 }

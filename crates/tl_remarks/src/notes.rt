@@ -94,43 +94,46 @@ impl Notes {
         }
     }
 
+    /// Adds a message to the exchange at this place.
+    fn add_to(&mut self, at: usize, message: Message, is_answer: bool) {
+        if let Some(exchange) = self.exchanges.get_mut(at) {
+            self.noted.lacks_a_piece |= exchange.add(message, is_answer).is_err();
+        }
+    }
+
     /// Adds the message that begins with this beat to its exchange: a Grant also to that of which one of E is
     /// the answer.
-    fn add_message(&mut self, beat: &Seen, line: u64) -> Result<(), AllocError> {
+    fn add_message(&mut self, beat: &Seen, line: u64) {
         let (at, is_answer) = exchange_of(beat);
-        if let Some(exchange) = self.exchanges.get_mut(at) {
-            exchange.add(message_of(beat, line, key_of(beat)), is_answer)?;
+        self.add_to(at, message_of(beat, line, key_of(beat)), is_answer);
+        if matches!(beat.kind, Some(Kind::Grant | Kind::GrantData)) {
+            let message = message_of(beat, line, Key::of(beat.sink, 0));
+            self.add_to(GRANTS, message, false);
         }
-        if !matches!(beat.kind, Some(Kind::Grant | Kind::GrantData)) {
-            return Ok(());
-        }
-        if let Some(exchange) = self.exchanges.get_mut(GRANTS) {
-            exchange.add(message_of(beat, line, Key::of(beat.sink, 0)), false)?;
-        }
-        Ok(())
     }
 
     /// Remarks on a message by this beat alone, where there is a rule for it.
-    fn add_remark(&mut self, rule: Option<Rule>, beat: &Seen, line: u64) -> Result<(), AllocError> {
+    fn add_remark(&mut self, rule: Option<Rule>, beat: &Seen, line: u64) {
         let message = message_of(beat, line, key_of(beat));
-        self.noted.push_remark(rule, &message, &Message::default())
+        self.noted.push_remark(rule, &message, &Message::default());
     }
 
     /// Adds a beat, which begins a message where `begins` says so.
-    fn add_beat(&mut self, beat: &Seen, line: u64, begins: bool) -> Result<(), AllocError> {
+    fn add_beat(&mut self, beat: &Seen, line: u64, begins: bool) {
         if begins {
-            self.add_remark(rule_alone(beat), beat, line)?;
-            self.add_message(beat, line)?;
+            self.add_remark(rule_alone(beat), beat, line);
+            self.add_message(beat, line);
         }
-        self.add_remark(rule_of_data(beat), beat, line)
+        self.add_remark(rule_of_data(beat), beat, line);
     }
 
     /// Remarks on all exchanges, in the order of lines.
-    fn judge(&mut self, alloc: Global, verdicts: &[Verdict; 5]) -> Result<(), AllocError> {
+    fn judge(&mut self, alloc: Global, verdicts: &[Verdict; 5]) {
         for exchange in &self.exchanges {
-            exchange.judge(alloc, verdicts, &mut self.noted)?;
+            exchange.judge(alloc, verdicts, &mut self.noted);
         }
-        self.noted.remarks.sort_by_key(|remark| remark.message.line)
+        let sorted = self.noted.remarks.sort_by_key(|remark| remark.message.line);
+        self.noted.lacks_a_piece |= sorted.is_err();
     }
 }
 
@@ -149,7 +152,7 @@ fn add_channel<K: Told, const W: usize>(
     letter: u8,
     verdict: &Verdict,
     beats: &[Beat<K, W>],
-) -> Result<(), AllocError> {
+) {
     let mut cursor = Cursor::default();
     let mut left = 0usize;
     for beat in beats.get(..accepted(verdict)).unwrap_or(beats) {
@@ -160,9 +163,8 @@ fn add_channel<K: Told, const W: usize>(
             left = seen.beats(W);
         }
         left = left.saturating_sub(1);
-        notes.add_beat(&seen, cursor.line(), begins)?;
+        notes.add_beat(&seen, cursor.line(), begins);
     }
-    Ok(())
 }
 
 /// Adds the beats of all channels that were accepted.
@@ -171,15 +173,15 @@ fn add_script<const C: usize, const M: usize>(
     letters: &[u8],
     script: &Script<C, M>,
     verdicts: &[Verdict; 5],
-) -> Result<(), AllocError>
+)
     requires { IsWidth C × IsWidth M }
 {
     let [a, b, c, d, e] = verdicts;
-    add_channel::<ChA, C>(notes, letters, b'A', a, &script.a)
-        .and(add_channel::<ChB, M>(notes, letters, b'B', b, &script.b))
-        .and(add_channel::<ChC, C>(notes, letters, b'C', c, &script.c))
-        .and(add_channel::<ChD, M>(notes, letters, b'D', d, &script.d))
-        .and(add_channel::<ChE, C>(notes, letters, b'E', e, &script.e))
+    add_channel::<ChA, C>(notes, letters, b'A', a, &script.a);
+    add_channel::<ChB, M>(notes, letters, b'B', b, &script.b);
+    add_channel::<ChC, C>(notes, letters, b'C', c, &script.c);
+    add_channel::<ChD, M>(notes, letters, b'D', d, &script.d);
+    add_channel::<ChE, C>(notes, letters, b'E', e, &script.e);
 }
 
 /// The remarks on the accepted messages of a script whose channels end with these verdicts, from A to E,
@@ -198,9 +200,11 @@ pub fn notes_of<const C: usize, const M: usize>(
     requires { IsWidth C × IsWidth M }
 {
     let mut notes = Notes::new(alloc, has_pairs);
-    let added = add_script::<C, M>(&mut notes, letters, script, verdicts);
-    let done = added.and(notes.judge(alloc, verdicts));
+    add_script::<C, M>(&mut notes, letters, script, verdicts);
+    notes.judge(alloc, verdicts);
     let Notes { noted, .. } = notes;
-    done?;
+    if noted.lacks_a_piece {
+        return Err(AllocError);
+    }
     Ok(noted)
 }

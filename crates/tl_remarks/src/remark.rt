@@ -1,5 +1,5 @@
 //! What is remarked.
-use std::alloc::{AllocError, Global};
+use std::alloc::Global;
 use tl_msg::Kind;
 
 /// By what a message and its answer know each other: by source or sink, and those of B and C by their
@@ -65,13 +65,14 @@ pub struct Pair {
     pub answer: u64,
 }
 
-/// What was found of the messages of a trace.
+/// What was found of the messages of a trace. Whether memory was there for all of it is asked once, at the end.
 #[derive(Drop)]
 pub struct Noted {
     pub remarks: Vec<Remark>,
     /// Messages and their answers, where these are asked for.
     pub pairs: Vec<Pair>,
     has_pairs: bool,
+    pub(crate) lacks_a_piece: bool,
 }
 
 impl Noted {
@@ -81,31 +82,26 @@ impl Noted {
             remarks: Vec::new(alloc),
             pairs: Vec::new(alloc),
             has_pairs,
+            lacks_a_piece: false,
         }
     }
 
     /// Adds a remark, where there is one.
-    pub fn push_remark(
-        &mut self,
-        rule: Option<Rule>,
-        message: &Message,
-        partner: &Message,
-    ) -> Result<(), AllocError> {
+    pub(crate) fn push_remark(&mut self, rule: Option<Rule>, message: &Message, partner: &Message) {
         if let Some(rule) = rule {
-            self.remarks.push(Remark {
+            let remark = Remark {
                 rule,
                 message: *message,
                 partner: *partner,
-            })?;
+            };
+            self.lacks_a_piece |= self.remarks.push(remark).is_err();
         }
-        Ok(())
     }
 
     /// Adds a message and its answer, where these are asked for.
-    pub fn push_pair(&mut self, ask: u64, answer: u64) -> Result<(), AllocError> {
+    pub(crate) fn push_pair(&mut self, ask: u64, answer: u64) {
         if self.has_pairs {
-            self.pairs.push(Pair { ask, answer })?;
+            self.lacks_a_piece |= self.pairs.push(Pair { ask, answer }).is_err();
         }
-        Ok(())
     }
 }

@@ -128,11 +128,11 @@ impl Page {
         }
     }
 
-    /// Writes a number in decimal digits, behind blanks where it has fewer than so many.
+    /// Writes a number in decimal digits behind a blank, and behind more where it has fewer digits than so many.
     fn put_column(&mut self, number: u64, room: usize) {
         let mut buffer = Buffer::new();
         let digits = buffer.format(number).as_bytes();
-        for _ in digits.len()..room {
+        for _ in digits.len()..room.saturating_add(1) {
             self.put_bytes(b" ");
         }
         self.put_bytes(digits);
@@ -209,10 +209,7 @@ impl Page {
             Coloured(colour, word) => self.put_coloured(colour, word),
             Letter(letter) => self.put_bytes(&[letter]),
             Number(number) => self.put_number(number),
-            Column(number, digits) => {
-                self.put_bytes(b" ");
-                self.put_column(number as u64, digits);
-            }
+            Column(number, room) => self.put_column(number as u64, room),
             Byte(byte) => self.put_hex(byte as u64, 2),
             Address(address) => self.put_address(address),
             Id(id, version) => self.put_id(id, version),

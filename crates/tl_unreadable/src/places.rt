@@ -10,19 +10,19 @@ const MARKS: [(&[u8], &str); 3] = [
 ];
 
 /// The fields of a line of A or B, of C, of D and of E, from the channel's letter on.
-const MASKED: [&str; 9] = [
+const MASKED: &[&str] = &[
     "channel", "opcode", "param", "size", "source", "address", "mask", "data", "corrupt",
 ];
 
-const UNMASKED: [&str; 8] = [
+const UNMASKED: &[&str] = &[
     "channel", "opcode", "param", "size", "source", "address", "data", "corrupt",
 ];
 
-const ON_D: [&str; 9] = [
+const ON_D: &[&str] = &[
     "channel", "opcode", "param", "size", "source", "sink", "denied", "data", "corrupt",
 ];
 
-const ON_E: [&str; 2] = ["channel", "sink"];
+const ON_E: &[&str] = &["channel", "sink"];
 
 /// The name of a byte that a reader may not see, or not as what it is.
 fn byte_name(byte: u8) -> Option<&'static str> {
@@ -66,17 +66,21 @@ pub fn put_found(out: &mut Page, line: &[u8], at: usize) {
     }
 }
 
+/// The fields of the lines of a form.
+fn fields_of(form: &[u8]) -> &'static [&'static str] {
+    match form.first() {
+        Some(b'C') => UNMASKED,
+        Some(b'D') => ON_D,
+        Some(b'E') => ON_E,
+        _ => MASKED,
+    }
+}
+
 /// The name of the field that a place of a form belongs to.
 fn field_at(form: &[u8], at: usize) -> &'static str {
     let before = form.get(..at).unwrap_or(form);
     let field = before.iter().filter(|byte| **byte == b' ').count();
-    let fields: &[&'static str] = match form.first() {
-        Some(b'C') => &UNMASKED,
-        Some(b'D') => &ON_D,
-        Some(b'E') => &ON_E,
-        _ => &MASKED,
-    };
-    fields.get(field).copied().unwrap_or("line")
+    fields_of(form).get(field).copied().unwrap_or("line")
 }
 
 /// Writes the name of the field that a place of a form belongs to.
@@ -111,24 +115,28 @@ pub fn put_no_channel(out: &mut Page, line: &[u8]) {
     }
 }
 
+/// Why a line is no header, where that can be told from how it begins.
+fn no_header(line: &[u8]) -> Option<&'static str> {
+    match line {
+        [] => Some("; the first line is blank"),
+        [b'A'..=b'E', b' ', ..] => Some("; the header is missing: this is the line of a beat"),
+        [b'#' | b'/' | b';', ..] => Some("; a trace has no comments"),
+        _ if line.starts_with(b"tilelink-far") => Some("; this is an answer, and no trace"),
+        _ => None,
+    }
+}
+
 /// Writes why line 1 is no header, where that can be told from how it begins or ends.
 pub fn put_no_header(out: &mut Page, line: &[u8]) {
     if let Some(mark) = order_mark(line) {
-        return out.say(
+        out.say(
             "; the text begins with #, and a trace is plain ASCII",
             &[Text(mark)],
         );
-    }
-    match line {
-        [] => out.put(Text("; the first line is blank")),
-        [b'A'..=b'E', b' ', ..] => out.put(Text(
-            "; the header is missing: this is the line of a beat",
-        )),
-        [b'#' | b'/' | b';', ..] => out.put(Text("; a trace has no comments")),
-        _ if line.starts_with(b"tilelink-far") => {
-            out.put(Text("; this is an answer, and no trace"))
-        }
-        [.., last] => put_blank_end(out, *last),
+    } else if let Some(why) = no_header(line) {
+        out.put(Text(why));
+    } else if let Some(last) = line.last() {
+        put_blank_end(out, *last);
     }
 }
 

@@ -1,7 +1,7 @@
 //! A text that is no trace: its first faulty line, the place of the fault, and what was expected.
 ghost use Rattle.tl_lanes.specs.Lanes.{IsWidth};
 
-use crate::likeness::put_length;
+use crate::likeness::{header_page, put_length};
 use crate::page::Page;
 use crate::page::Piece::{Letter, Number, Text};
 use crate::places::{put_expected, put_field, put_found, put_no_channel, put_no_header};
@@ -69,28 +69,28 @@ fn line_at(text: &[u8], number: u64) -> &[u8] {
 /// A trace of one line, in which bytes are tried.
 #[derive(Drop)]
 struct Trial {
-    text: Vec<u8>,
+    trace: Page,
     /// Where the line begins.
     start: usize,
 }
 
 impl Trial {
     /// The trace of this header whose line is of this form, with its LF.
-    fn new(alloc: Global, header: &[u8], form: &[u8]) -> Result<Trial, AllocError> {
-        let start = header.len().saturating_add(1);
-        let mut text = Vec::with_capacity(alloc, start.saturating_add(form.len()))?;
-        text.extend_from_slice(header)?;
-        text.push(b'\n')?;
-        text.extend_from_slice(form)?;
-        Ok(Trial { text, start })
+    fn new(alloc: Global, header: &[u8], form: &[u8]) -> Trial {
+        let mut trace = Page::new(alloc, false);
+        trace.put_bytes(header);
+        trace.put_bytes(b"\n");
+        let start = trace.len();
+        trace.put_bytes(form);
+        Trial { trace, start }
     }
 
     /// Puts a byte at this place of the line, and says whether that makes a trace.
     fn takes(&mut self, alloc: Global, at: usize, byte: u8) -> bool {
-        if let Some(place) = self.text.get_mut(self.start.saturating_add(at)) {
+        if let Some(place) = self.trace.text.get_mut(self.start.saturating_add(at)) {
             *place = byte;
         }
-        read(alloc, &self.text).is_ok()
+        read(alloc, &self.trace.text).is_ok()
     }
 
     /// The first place at which this line is none of the form, of so many bytes at most. Its bytes up
@@ -133,19 +133,22 @@ fn same_bytes(line: &[u8], text: &[u8]) -> usize {
 }
 
 /// How many first bytes a line has in common with a header.
-fn header_place(alloc: Global, line: &[u8]) -> Result<usize, AllocError> {
+fn header_place(out: &mut Page, alloc: Global, line: &[u8]) -> usize {
     let mut most = 0;
     for i in 0..2 * WIDTHS * WIDTHS {
-        let version = 1 + i / (WIDTHS * WIDTHS);
-        let (client, manager) = (1 << (i / WIDTHS % WIDTHS), 1 << (i % WIDTHS));
-        let text = format!(in alloc; "tilelink-trace {version} client {client} manager {manager}")?;
-        let bytes = text.as_bytes();
+        let header = Header {
+            version: 1 + (i / (WIDTHS * WIDTHS)) as u8,
+            client: 1 << (i / WIDTHS % WIDTHS),
+            manager: 1 << (i % WIDTHS),
+        };
+        let page = header_page(alloc, &header);
+        out.lacks_a_piece |= page.lacks_a_piece;
         // not every version has every width
-        if header_of_text(bytes).is_some() {
-            most = same_bytes(line, bytes).max(most);
+        if header_of_text(&page.text).is_some() {
+            most = same_bytes(line, &page.text).max(most);
         }
     }
-    Ok(most)
+    most
 }
 
 /// Writes the first bytes of a line, each that is no printable ASCII as a question mark.
@@ -171,31 +174,28 @@ fn put_marked(out: &mut Page, line: &[u8], at: usize) {
     out.put(Text("^\n"));
 }
 
-/// Writes what was expected of a line that has no form, and gives the place of its fault.
-fn put_formless(
-    out: &mut Page,
-    alloc: Global,
-    line: &[u8],
-    kind: TraceKind,
-) -> Result<usize, AllocError> {
-    match kind {
+/// Writes what was expected of a line that has no form, and below it the line with a mark.
+fn put_formless(out: &mut Page, alloc: Global, line: &[u8], kind: TraceKind) {
+    let at = match kind {
         TraceKind::NoEnd => {
             out.put(Text(NO_END));
-            Ok(line.len())
+            line.len()
         }
         TraceKind::Channel => {
             put_no_channel(out, line);
-            Ok(0)
+            0
         }
         _ => {
             out.put(Text(HEADER));
             put_no_header(out, line);
-            header_place(alloc, line)
+            header_place(out, alloc, line)
         }
-    }
+    };
+    put_marked(out, line, at);
 }
 
-/// Writes what was expected of a line of this form, with its LF, and gives the place of its fault.
+/// Writes what was expected of a line of this form, with its LF, and below it the line with a mark; then the
+/// form, where the line has another length.
 fn put_formed(
     out: &mut Page,
     alloc: Global,
@@ -203,12 +203,13 @@ fn put_formed(
     line: &[u8],
     form: &ArrayVec<u8, LONGEST_LINE>,
     kind: TraceKind,
-) -> Result<usize, AllocError> {
+) {
     let (whole, form) = (form.as_slice(), line_in(form));
-    let mut trial = Trial::new(alloc, line_at(text, 1), whole)?;
+    let mut trial = Trial::new(alloc, line_at(text, 1), whole);
+    out.lacks_a_piece |= trial.trace.lacks_a_piece;
     let at = trial.bad_place(alloc, line, form.len());
     match kind {
-        TraceKind::Length => put_length(out, alloc, text, line, form, at)?,
+        TraceKind::Length => put_length(out, alloc, text, line, form, at),
         TraceKind::Range => {
             let largest = trial.largest_digit(alloc, at);
             out.say("expected a digit from 0 to #", &[Letter(largest)]);
@@ -218,7 +219,10 @@ fn put_formed(
         TraceKind::NoEnd => out.put(Text(NO_END)),
         _ => put_expected(out, line, form, at),
     }
-    Ok(at)
+    put_marked(out, line, at);
+    if let TraceKind::Length = kind {
+        put_shown(out, form);
+    }
 }
 
 /// The form of a line's channel, where the line is not the first one and its channel is known.
@@ -240,14 +244,10 @@ pub fn show_fault(alloc: Global, text: &[u8], fault: &TraceFault) -> Result<Vec<
         "line #: # #: ",
         &[Number(fault.line), Number(number), Text(fault.name())],
     );
-    let at = if form.is_empty() {
-        put_formless(&mut out, alloc, line, fault.kind)?
+    if form.is_empty() {
+        put_formless(&mut out, alloc, line, fault.kind);
     } else {
-        put_formed(&mut out, alloc, text, line, &form, fault.kind)?
-    };
-    put_marked(&mut out, line, at);
-    if let (TraceKind::Length, false) = (fault.kind, form.is_empty()) {
-        put_shown(&mut out, line_in(&form));
+        put_formed(&mut out, alloc, text, line, &form, fault.kind);
     }
     out.into_text()
 }
