@@ -36,7 +36,7 @@ module _ {H : Type 0} {v : ℕ} where
   pub rest_passed : (p q t u : Pipe H v) → q ≡ pumped p → t ≡ fetched q → u ≡ pumped t → (length q.stage ≡ 0 → ⊥) → u ≡ passed p
   rest_passed p q t u first out again some =
       let test : (length (pumped p).stage == 0) ≡ false =
-        not_equal (length (pumped p).stage) 0 (λ none. some (ap (λ t. length t.stage) first ∙ none)) in
+      not_equal (length (pumped p).stage) 0 (λ none. some (ap (λ t. length t.stage) first ∙ none)) in
       again ∙ ap pumped (out ∙ ap fetched first) ∙ ap (λ t. cond t (pumped p) (pumped (fetched (pumped p)))) (sym test)
 
 module _ {H : Type 0} (r : Rules H) (masked : (h : H) → r.partial h ≡ true → r.masked ≡ true) {w v : ℕ} where

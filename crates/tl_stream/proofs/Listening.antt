@@ -85,7 +85,7 @@ module _ {C M : ℕ} where
 
     -- they were heard, some went, and more was read
     pub heard : {left' : Option (List ℕ)} {lines : ScriptReader C M} {input : Input} {listener : L}
-      (b : IsBehind Listens unread left v lines input listener)
+        (b : IsBehind Listens unread left v lines input listener)
         (lines' : ScriptReader C M) (input' : Input) (listener' : L) (counts : Counts) → lines'.version ≡ lines.version
         → ((done : List ℕ) (gone : Gone C M) → HasReadPast lines.version done gone lines.script lines.line →
         HasReadPast lines.version done (more_gone gone counts lines.script) lines'.script lines'.line)

@@ -8,5 +8,5 @@ pub returns-in-Ok-clause-text : goal.returns-in-Ok-clause-text
 returns-in-Ok-clause-text g c =
     let far = taken c.args.outcome.now in
     subst (λ v. IfOk c.into_answer.result (λ made. spelled made ≡
-      far_header v g.row.C g.row.M ++ far_lines v far ++ report c.args.outcome.now.verdicts))
+    far_header v g.row.C g.row.M ++ far_lines v far ++ report c.args.outcome.now.verdicts))
     (c.in-Ok.ensures.version ∙ c.in_ok-far.ensures.version) (c.into_answer.ensures.text g.row.C g.row.M far c.in-Ok.ensures.lines)

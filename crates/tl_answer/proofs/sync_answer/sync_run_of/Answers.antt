@@ -14,8 +14,15 @@ end-answer-requires g c = (
   crossing_small g.row.C g.row.M c.requires.client c.requires.manager,
   (
     lit< tt,
-    (c.requires.client, c.requires.manager, (c.args.version, none_gone,
-      c.in-Ok.ensures.new c.args.script (none-gone c.args.script c.requires.short))),
+    (
+      c.requires.client,
+      c.requires.manager,
+      (
+        c.args.version,
+        none_gone,
+        c.in-Ok.ensures.new c.args.script (none-gone c.args.script c.requires.short),
+      ),
+    ),
   ),
 )
 

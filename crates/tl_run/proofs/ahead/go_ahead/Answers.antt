@@ -75,7 +75,7 @@ returns g c =
       stays = λ e. subst (λ s. g.S.GoesOn.Stays s c.beats.side) (here.same e) (g.met.S.GoesOn.stays_same c.beats.side);
       rests = λ e near end.
           let past : c.args.gone + length c.args.held.now.items ≤ c.beats.at =
-            omega (arith, c.beats-test.false, c.len.ensures, c.args.held.now.ok.0, here.within.from) in
+          omega (arith, c.beats-test.false, c.len.ensures, c.args.held.now.ok.0, here.within.from) in
           subst (λ s. g.S.GoesOn.Rests near c.args.at.now s None) (here.same e)
           (subst (λ n. g.S.GoesOn.Rests near n c.beats.side None) e
           (g.met.S.GoesOn.rests_none near c.beats.at c.beats.side (end-none c.args.gone c.beats.at c.args.held.now.items near end past)));

@@ -17,7 +17,7 @@ pub returns-in-Ok-eq0 : goal.returns-in-Ok-eq0
 returns-in-Ok-eq0 g c =
     ended _ _ _ c.args.most c.loop-filled.room c.read.new.buf c.loop-filled.filled c.in-Ok-eq0.field-0 c.loop-filled.invariant
     (c.read.auto.buf ∙ room_size c.loop-filled.filled c.loop-filled.room)
-      (omega (arith, c.loop-filled-test.true)) (omega (arith, c.in-Ok-eq0.field-0-test))
+    (omega (arith, c.loop-filled-test.true)) (omega (arith, c.in-Ok-eq0.field-0-test))
     c.in-Ok-eq0.ensures.bytes.0 c.in-Ok-eq0.ensures.bytes.1
 
 pub returns-in-Err : goal.returns-in-Err

@@ -25,7 +25,7 @@ returns g c =
     has-passed going_a on_bridge_a (λ s x. (λ h. h, λ h. h)) c.args.gone c.args.at c.requires.1 c.args.held.now c.requires.2 c.args.self.now
     offered.new.self Accepted
     (subst (λ o. OffersNext on_bridge_a c.args.held.now (c.args.at - c.args.gone) c.args.self.now o offered.new.self)
-      c.in-Accepted.is offered.ensures)
+    c.in-Accepted.is offered.ensures)
     (pump_count old) (out_count old) (again_count old) c.pass_on_a.new.self accepted-some
     (ahead-a (pump_count old) (out_count old) (again_count old)) (λ y x h. c.pass_on_a.ensures _ h)
 
