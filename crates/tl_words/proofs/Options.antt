@@ -1,6 +1,6 @@
 -- What clap finds of the options, by its rows.
 use Rattle.std.proofs.Common.{◌≡◌, ◌∙◌, ap₂, false, true, ℕ, Bor, box_value, List, [], ◌∷◌, Option, Some, None, Err, IfOk}
-use Rattle.std.proofs.Common.{IsOkAnd, Ok, Result, ◌++◌, option_map, codes, refl, sym, ap, arith}
+use Rattle.std.proofs.Common.{IsOkAnd, Ok, Result, ◌++◌, option_map, codes, refl, subst, sym, ap, arith}
 use Rattle.std.specs.Prelude.{◌||◌, unwrap_or}
 use Rattle.std.specs.Str.Parse.{ParsesUnsigned, digits_value, without_leading_plus}
 use Rattle.clap.specs.Simple.{app_of_fields}
@@ -64,6 +64,27 @@ with_about new about x app e is none = (ap app_of_fields e ∙ is, ap (λ (f : C
 pub added : (old new : Command) (a : Arg) (app : App) (rule : Rule) → AddsArg old a new → HasApp app old → HasRule rule a
     → HasApp (with_rule app rule) new
 added old new a app rule adds is has = (adds.shape has.1 ∙ ap₂ with_rule is.0 has.0, adds.globals ∙ ap₂ (λ x y. x || y) is.1 has.1)
+
+-- arguments that have these rules, in their own command alone
+abbrev pub HaveRules : List Rule → List Arg → Type 0
+HaveRules [] [] = Unit {0}
+HaveRules (rule ∷ rules) (a ∷ args) = HasRule rule a × HaveRules rules args
+HaveRules [] (a ∷ args) = ⊥
+HaveRules (rule ∷ rules) [] = ⊥
+
+-- what a command is with arguments of these rules, one after another
+abbrev pub with_rules : App → List Rule → App
+with_rules app [] = app
+with_rules app (rule ∷ rules) = with_rules (with_rule app rule) rules
+
+-- a command with these arguments, the last ones
+pub all_added : (old new : Command) (args : List Arg) (app : App) (rules : List Rule) → AddsInTurn AddsArg old args new → HasApp app old
+    → HaveRules rules args → HasApp (with_rules app rules) new
+all_added old new [] app [] adds is have = subst (HasApp app) adds is
+all_added old new (a ∷ args) app (rule ∷ rules) adds is have =
+    all_added adds.0 new args (with_rule app rule) rules adds.2 (added old adds.0 a app rule adds.1 is have.0) have.1
+all_added old new [] app (rule ∷ rules) adds is have = absurd have
+all_added old new (a ∷ args) app [] adds is have = absurd have
 
 -- the command before its subcommands, as it is made
 pub bare_of_new : (new about version required : Command) (x : Option (Bor Text)) (y : Bor Text)

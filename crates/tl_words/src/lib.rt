@@ -72,11 +72,13 @@ fn run_command<'a>(alloc: Global) -> Result<Command<'a>, AllocError>
         "Turns of each side between two meetings of the two threads, 1 to 1000; the answer is the same for each";
     let about =
         "Prints the beats that arrive across the bridge, and a report line for each channel. Each side runs in a thread of its own. The defaults are slow on a long trace: --turns 1000 --ring 4096 is for those.";
-    let bare = Command::new(alloc, "run").about(about);
-    let one = bare.arg(number_option(alloc, "ring", "16", ring))?;
-    let two = one.arg(number_option(alloc, "turns", "4", turns))?;
-    let three = two.arg(sync_option(alloc))?;
-    three.arg(file_argument(alloc))
+    let arguments = vec![in alloc;
+        number_option(alloc, "ring", "16", ring),
+        number_option(alloc, "turns", "4", turns),
+        sync_option(alloc),
+        file_argument(alloc),
+    ]?;
+    Command::new(alloc, "run").about(about).args(arguments)
 }
 
 fn check_command<'a>(alloc: Global) -> Result<Command<'a>, AllocError>
