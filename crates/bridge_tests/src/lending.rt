@@ -10,6 +10,26 @@ pub fn lent<T: Drop, E: Drop, F: FnOnce(&mut T) -> bool>(made: Result<T, E>, tes
     }
 }
 
+/// Whether the value was made, and what is wanted comes of each of these steps.
+pub fn come_of<T: Drop, E: Drop, S, F: FnMut(&mut T, &S) -> bool>(
+    made: Result<T, E>,
+    mut play: F,
+    steps: &[S],
+) -> bool
+    requires { F.IsAlwaysCallable play }
+{
+    match made {
+        Ok(mut value) => {
+            let mut are_so = true;
+            for step in steps {
+                are_so &= play(&mut value, step);
+            }
+            are_so
+        }
+        Err(_) => false,
+    }
+}
+
 /// Lets two values go, with all that they hold.
 pub fn let_both_go<S: Drop, T: Drop>(one: S, other: T) {
     drop(one);

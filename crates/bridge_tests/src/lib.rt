@@ -8,6 +8,8 @@ mod below;
 #[cfg(test)]
 mod build_tests;
 #[cfg(test)]
+mod calls;
+#[cfg(test)]
 mod fault_tests;
 #[cfg(test)]
 mod five;

@@ -1,123 +1,90 @@
+//! The bridge in one thread, call by call.
 #![tactic(auto, using(tl_lanes::proofs::Widths::width_4, tl_lanes::proofs::Widths::width_16))]
 
-use crate::lending::lent;
-use crate::values::{LANES, data, get};
+use crate::calls::{ANSWERED, Call, Said, TWICE};
+use crate::lending::{come_of, lent};
+use crate::values::{blank, data, get};
+use std::alloc::Global;
 use tl_bridge::{Standings, SyncBridge};
-use tl_lanes::Mask;
-use tl_msg::{Beat, BeatFault, BeatOf, ChA, ChB, ChC, ChD, ChE, HeadB, HeadC, HeadE, SideFault};
+use tl_msg::{HeadB, HeadC, HeadE};
 
-/// Whether a Get of source 11 from address 100c is offered, and answered so.
-fn asks(bridge: &mut SyncBridge<4, 16>, said: Result<(), SideFault>) -> bool {
-    bridge.ready_a() && bridge.offer_a(get(0x11, 0x100c)) == said
+/// Whether a Get of source 11 from this address is offered, and answered so.
+fn asks(bridge: &mut SyncBridge<4, 16>, address: u64, said: &Said) -> bool {
+    bridge.ready_a() && bridge.offer_a(get(0x11, address, 0xf)) == *said
 }
 
-/// Whether a beat of a response to source 11 is offered, and answered so.
+/// Whether a response to source 11 is offered, and answered so.
 fn answers(
     bridge: &mut SyncBridge<4, 16>,
     opcode: u8,
     size: u8,
-    said: Result<(), SideFault>,
+    lanes: &[u8; 16],
+    said: &Said,
 ) -> bool {
-    bridge.ready_d() && bridge.offer_d(data(opcode, size, 0x11, LANES)) == said
+    bridge.ready_d() && bridge.offer_d(data(opcode, size, 0x11, *lanes)) == *said
 }
 
-/// Whether a pump and a fetch move so many beats each.
-fn moves(bridge: &mut SyncBridge<4, 16>, count: usize) -> bool {
-    (bridge.pump() == count) & (bridge.fetch() == count)
-}
-
-/// Whether the manager's side takes a beat of this mask from A.
-fn takes_ask(bridge: &mut SyncBridge<4, 16>, mask: Mask) -> bool {
-    match bridge.take_a() {
-        Some(beat) => beat.mask == mask,
-        None => false,
+/// Whether that comes of a call.
+fn play(bridge: &mut SyncBridge<4, 16>, call: &Call) -> bool {
+    match call {
+        Call::Asks(address, said) => asks(bridge, *address, said),
+        Call::Answers(opcode, size, lanes, said) => answers(bridge, *opcode, *size, lanes, said),
+        Call::ClientPumps | Call::ManagerPumps => bridge.pump() == 1,
+        Call::ClientFetches | Call::ManagerFetches => bridge.fetch() == 1,
+        Call::TakesAsk(address, mask) => bridge.take_a() == Some(get(0x11, *address, *mask)),
+        Call::TakesAnswer(lanes) => bridge.take_d() == Some(data(1, 2, 0x11, *lanes)),
+        Call::TakesNothing => bridge.take_d().is_none(),
     }
 }
 
-/// Whether the client's side takes a beat of these lanes from D.
-fn takes_answer(bridge: &mut SyncBridge<4, 16>, lanes: [u8; 4]) -> bool {
-    match bridge.take_d() {
-        Some(beat) => beat.lanes == lanes,
-        None => false,
-    }
-}
-
-/// Whether its response crosses then, once, and its source is in use until it is taken.
-fn response_crosses(bridge: &mut SyncBridge<4, 16>) -> bool {
-    let is_answered = answers(bridge, 1, 3, Err(SideFault::SizeMismatch))
-        & answers(bridge, 1, 2, Ok(()))
-        & (bridge.pump() == 1)
-        & answers(bridge, 1, 2, Err(SideFault::NoRequest));
-    let is_busy = asks(bridge, Err(SideFault::SourceBusy))
-        & (bridge.fetch() == 1)
-        & asks(bridge, Err(SideFault::SourceBusy));
-    let is_taken = takes_answer(bridge, [0xaa, 0xbb, 0xcc, 0xdd]);
-    is_answered & is_busy & is_taken & asks(bridge, Ok(())) & bridge.take_d().is_none()
-}
-
-/// Whether a request crosses, and no response before it does, and then its response.
-fn request_and_response_cross(bridge: &mut SyncBridge<4, 16>) -> bool {
-    let is_refused = answers(bridge, 3, 2, Err(SideFault::Beat(BeatFault::Opcode)))
-        & answers(bridge, 1, 2, Err(SideFault::NoRequest));
-    let has_crossed = asks(bridge, Ok(())) & moves(bridge, 1) & takes_ask(bridge, 0xf000);
-    is_refused & has_crossed & response_crosses(bridge)
+/// Whether that comes of these calls over rings of so many beats.
+fn calls_come_of(alloc: Global, ring: usize, calls: &[Call]) -> bool {
+    come_of(SyncBridge::new(alloc, ring), play, calls)
 }
 
 #[test]
 fn a_request_and_its_response(rt: HostRuntime) {
-    assert!(rt; lent(SyncBridge::new(rt.alloc(), 4), request_and_response_cross));
+    assert!(rt; calls_come_of(rt.alloc(), 4, &ANSWERED));
 }
 
-const BLOCK: Beat<ChB, 16> = BeatOf {
-    head: HeadB {
-        opcode: 6,
-        param: 2,
-        size: 2,
-        source: 0,
-        address: 0x80,
-    },
-    mask: 0xf,
-    lanes: [0; 16],
-    corrupt: false,
+#[test]
+fn a_source_used_twice(rt: HostRuntime) {
+    assert!(rt; calls_come_of(rt.alloc(), 1, &TWICE));
+}
+
+const PROBE: HeadB = HeadB {
+    opcode: 6,
+    param: 2,
+    size: 2,
+    source: 0,
+    address: 0x80,
 };
 
-const ACK: Beat<ChC, 4> = BeatOf {
-    head: HeadC {
-        opcode: 4,
-        param: 1,
-        size: 2,
-        source: 0,
-        address: 0x80,
-    },
-    mask: 0,
-    lanes: [0; 4],
-    corrupt: false,
+const PROBE_ACK: HeadC = HeadC {
+    opcode: 4,
+    param: 1,
+    size: 2,
+    source: 0,
+    address: 0x80,
 };
 
-const SINK: Beat<ChE, 4> = BeatOf {
-    head: HeadE { sink: 7 },
-    mask: 0,
-    lanes: [0; 4],
-    corrupt: false,
-};
+const GRANT_ACK: HeadE = HeadE { sink: 7 };
 
 /// Offers a beat of B, one of C and one of E, and answers whether they were accepted.
 fn all_offered(bridge: &mut SyncBridge<4, 16>) -> bool {
-    bridge.ready_b()
-        && bridge.offer_b(BLOCK).is_ok()
-        && bridge.ready_c()
-        && bridge.offer_c(ACK).is_ok()
-        && bridge.ready_e()
-        && bridge.offer_e(SINK).is_ok()
+    if !(bridge.ready_b() & bridge.ready_c() & bridge.ready_e()) {
+        return false;
+    }
+    bridge.offer_b(blank(PROBE, 0xf)).is_ok()
+        & bridge.offer_c(blank(PROBE_ACK, 0)).is_ok()
+        & bridge.offer_e(blank(GRANT_ACK, 0)).is_ok()
 }
 
-/// Takes a beat of B, one of C and one of E, and answers whether they are those that were offered.
+/// Whether these three are taken.
 fn all_taken(bridge: &mut SyncBridge<4, 16>) -> bool {
-    let (Some(block), Some(ack), Some(sink)) = (bridge.take_b(), bridge.take_c(), bridge.take_e())
-    else {
-        return false;
-    };
-    (block.head == BLOCK.head) & (ack.head == ACK.head) & (sink.head == SINK.head)
+    (bridge.take_b() == Some(blank(PROBE, 0xf)))
+        & (bridge.take_c() == Some(blank(PROBE_ACK, 0)))
+        & (bridge.take_e() == Some(blank(GRANT_ACK, 0)))
 }
 
 /// Closes each channel, and answers whether it was closed, and not ready then.
@@ -132,7 +99,7 @@ fn closes_each(bridge: &mut SyncBridge<4, 16>) -> bool {
 
 /// Whether these three cross, no channel has a beat then, and each closes.
 fn cross_and_close(bridge: &mut SyncBridge<4, 16>) -> bool {
-    let is_moved = all_offered(bridge) & moves(bridge, 3);
+    let is_moved = all_offered(bridge) & (bridge.pump() == 3) & (bridge.fetch() == 3);
     let is_there = bridge.standings().c.inbox == 1;
     let is_empty = all_taken(bridge) & (bridge.standings() == Standings::default());
     is_moved & is_there & is_empty & closes_each(bridge)
@@ -141,40 +108,4 @@ fn cross_and_close(bridge: &mut SyncBridge<4, 16>) -> bool {
 #[test]
 fn probes_releases_and_acknowledgements(rt: HostRuntime) {
     assert!(rt; lent(SyncBridge::new(rt.alloc(), 1), cross_and_close));
-}
-
-/// What arrives of a request, at once.
-fn ask_across(bridge: &mut SyncBridge<4, 4>, request: Beat<ChA, 4>) -> Option<Beat<ChA, 4>> {
-    if !bridge.ready_a() || bridge.offer_a(request).is_err() {
-        return None;
-    }
-    bridge.pump();
-    bridge.fetch();
-    bridge.take_a()
-}
-
-/// What arrives of a response, at once.
-fn answer_across(bridge: &mut SyncBridge<4, 4>, response: Beat<ChD, 4>) -> Option<Beat<ChD, 4>> {
-    if !bridge.ready_d() || bridge.offer_d(response).is_err() {
-        return None;
-    }
-    bridge.pump();
-    bridge.fetch();
-    bridge.take_d()
-}
-
-/// Asks by source 1, and answers, and answers whether both arrive.
-fn is_used(bridge: &mut SyncBridge<4, 4>, address: u64, byte: u8) -> bool {
-    let (request, response) = (get(1, address), data(1, 2, 1, [byte; 4]));
-    (ask_across(bridge, request) == Some(request))
-        & (answer_across(bridge, response) == Some(response))
-}
-
-fn is_used_twice(bridge: &mut SyncBridge<4, 4>) -> bool {
-    is_used(bridge, 0, 0x11) & is_used(bridge, 4, 0x22)
-}
-
-#[test]
-fn a_source_used_twice(rt: HostRuntime) {
-    assert!(rt; lent(SyncBridge::new(rt.alloc(), 1), is_used_twice));
 }

@@ -1,4 +1,4 @@
-use crate::lending::lent;
+use crate::lending::{lent, let_both_go};
 use linked_list_allocator::LocalHeap;
 use tl_bridge::laws::{every_run, one_settled_state, steps_are_admitted};
 use tl_bridge::{Request, RequestTable, SourceTable};
@@ -63,36 +63,16 @@ fn has_no_requests(heap: &LocalHeap) -> bool {
     RequestTable::new(heap).err() == Some(OutOfMemory)
 }
 
-/// Whether there is no memory for a third table, of either kind, and none is lost by asking.
-fn have_no_third(heap: &LocalHeap) -> bool {
-    let is_full = heap.used() == 17 << 16;
-    let is_refused = has_no_sources(heap) & has_no_requests(heap);
-    is_full & is_refused & (heap.used() == 17 << 16)
-}
-
-/// Whether a table of requests takes what is left of the memory.
-fn requests_take_the_rest(heap: &LocalHeap) -> bool {
-    match RequestTable::new(heap) {
-        Ok(requests) => {
-            let is_full = have_no_third(heap);
-            drop(requests);
-            is_full
-        }
-        Err(_) => false,
-    }
-}
-
-/// Whether two tables take as many bytes as that, and none once they are gone.
+/// Whether two tables take as many bytes as that, there is no memory for a third one, of either kind, none is lost by
+/// asking, and none is taken once they are gone.
 fn take_their_memory(heap: &LocalHeap) -> bool {
-    let have_taken = match SourceTable::new(heap) {
-        Ok(sources) => {
-            let have_all = (heap.used() == 1 << 16) & requests_take_the_rest(heap);
-            drop(sources);
-            have_all
-        }
-        Err(_) => false,
-    };
-    have_taken & (heap.used() == 0)
+    let sources = SourceTable::new(heap);
+    let has_sources = sources.is_ok() & (heap.used() == 1 << 16);
+    let requests = RequestTable::new(heap);
+    let has_both = requests.is_ok() & (heap.used() == 17 << 16);
+    let has_no_third = has_no_sources(heap) & has_no_requests(heap) & (heap.used() == 17 << 16);
+    let_both_go(sources, requests);
+    has_sources & has_both & has_no_third & (heap.used() == 0)
 }
 
 /// A table of sources takes a byte for each of the 65,536 sources, and one of requests 16 bytes.

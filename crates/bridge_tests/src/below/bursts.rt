@@ -1,8 +1,9 @@
 #![tactic(auto, using(tl_lanes::proofs::Widths::width_4))]
 
+use crate::values::blank;
 use tl_burst::{BurstCounter, Tracker};
 use tl_lanes::Mask;
-use tl_msg::{Beat, BeatFault, BeatOf, ChA, Channel, HeadA};
+use tl_msg::{BeatFault, ChA, Channel, HeadA};
 
 /// The head of PutFullData of 8 bytes, which is two beats on 4 lanes.
 const PUT: HeadA = HeadA {
@@ -16,25 +17,13 @@ const PUT: HeadA = HeadA {
 /// The same message from another source.
 const OTHER: HeadA = HeadA { source: 2, ..PUT };
 
-fn beat(head: HeadA, mask: Mask) -> Beat<ChA, 4> {
-    BeatOf {
-        head,
-        mask,
-        lanes: [0; 4],
-        corrupt: false,
-    }
-}
-
 fn is_refused(tracker: &Tracker<ChA, 4>, head: HeadA, mask: Mask, fault: BeatFault) -> bool {
-    match tracker.check(&beat(head, mask)) {
-        Ok(_) => false,
-        Err(found) => found == fault,
-    }
+    tracker.check(&blank(head, mask)).err() == Some(fault)
 }
 
 /// Whether it goes on by a beat of [`PUT`] of this index, which is the last one or not.
 fn passes(tracker: &mut Tracker<ChA, 4>, index: u32, last: bool) -> bool {
-    match tracker.check(&beat(PUT, 0xf)) {
+    match tracker.check(&blank(PUT, 0xf)) {
         Ok(place) => {
             let is_there = (place.index == index) & (place.last == last);
             tracker.advance(place);

@@ -1,3 +1,4 @@
+use crate::values::blank;
 use tl_msg::{
     Beat, BeatFault, BeatOf, ChA, ChB, ChC, ChD, ChE, Channel, HeadA, HeadB, HeadC, HeadD, HeadE,
     Kind, SideFault, Verdict,
@@ -157,21 +158,13 @@ const ZERO_D: HeadD = HeadD {
 
 const ZERO_E: HeadE = HeadE { sink: 0 };
 
-/// A beat that is zero in all fields where its head is.
-fn beat<H>(head: H) -> BeatOf<H, 4> {
-    BeatOf {
-        head,
-        mask: 0,
-        lanes: [0; 4],
-        corrupt: false,
-    }
-}
-
 #[test]
 fn default_beats_are_zero(rt: HostRuntime) {
-    let have_masks = (beat(ZERO_A) == Default::default()) & (beat(ZERO_B) == Default::default());
-    let have_none = (beat(ZERO_C) == Default::default()) & (beat(ZERO_D) == Default::default());
-    assert!(rt; have_masks & have_none & (beat(ZERO_E) == Default::default()));
+    let have_masks = (blank::<HeadA, 4>(ZERO_A, 0) == Default::default())
+        & (blank::<HeadB, 4>(ZERO_B, 0) == Default::default());
+    let have_none = (blank::<HeadC, 4>(ZERO_C, 0) == Default::default())
+        & (blank::<HeadD, 4>(ZERO_D, 0) == Default::default());
+    assert!(rt; have_masks & have_none & (blank::<HeadE, 4>(ZERO_E, 0) == Default::default()));
 }
 
 #[test]

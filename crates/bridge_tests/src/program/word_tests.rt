@@ -1,81 +1,68 @@
 use std::alloc::Global;
 use tl_order::Order;
-use tl_words::{CommandLine, command_line_of, order_of};
+use tl_words::{command_line_of, order_of};
 
-/// Words, and what they ask for.
-const LINES: [(&[&str], CommandLine<'static>); 5] = [
-    (
-        &["tlbridge", "run"],
-        CommandLine {
-            order: Order::Run {
-                ring: 16,
-                turns: 4,
-                sync: false,
-            },
-            file: None,
-        },
-    ),
+/// Words, what they order, and the file that they name.
+type Line = (&'static [&'static str], Order, Option<&'static str>);
+
+const USUAL_RUN: Order = Order::Run {
+    ring: 16,
+    turns: 4,
+    sync: false,
+};
+
+const LEAST_RUN: Order = Order::Run {
+    ring: 1,
+    turns: 1,
+    sync: true,
+};
+
+const LARGEST_RUN: Order = Order::Run {
+    ring: 4096,
+    turns: 1000,
+    sync: false,
+};
+
+const LINES: [Line; 5] = [
+    (&["tlbridge", "run"], USUAL_RUN, None),
     (
         &["tlbridge", "run", "--ring", "1", "--turns", "1", "--sync"],
-        CommandLine {
-            order: Order::Run {
-                ring: 1,
-                turns: 1,
-                sync: true,
-            },
-            file: None,
-        },
+        LEAST_RUN,
+        None,
     ),
     (
         &[
             "tlbridge", "run", "--ring", "4096", "a b", "--turns", "1000",
         ],
-        CommandLine {
-            order: Order::Run {
-                ring: 4096,
-                turns: 1000,
-                sync: false,
-            },
-            file: Some("a b"),
-        },
+        LARGEST_RUN,
+        Some("a b"),
     ),
-    (
-        &["tlbridge", "check"],
-        CommandLine {
-            order: Order::Check,
-            file: None,
-        },
-    ),
+    (&["tlbridge", "check"], Order::Check, None),
     (
         &["tlbridge", "check", "--", "--sync"],
-        CommandLine {
-            order: Order::Check,
-            file: Some("--sync"),
-        },
+        Order::Check,
+        Some("--sync"),
     ),
 ];
 
-fn asks_for(alloc: Global, words: &[&str], wanted: &CommandLine<'_>) -> bool {
-    match command_line_of(alloc, words) {
-        Ok(line) => line == *wanted,
-        Err(_) => false,
-    }
+fn asks_for(alloc: Global, line: &Line) -> bool {
+    matches!(command_line_of(alloc, line.0), Ok(asked) if asked.order == line.1 && asked.file == line.2)
 }
 
-fn gives(alloc: Global, words: &[&str], wanted: Order) -> bool {
-    match order_of(alloc, words) {
-        Ok(order) => order == wanted,
-        Err(_) => false,
+fn gives(alloc: Global, line: &Line) -> bool {
+    matches!(order_of(alloc, line.0), Ok(order) if order == line.1)
+}
+
+/// Whether each of these lines is read so.
+fn are_read(alloc: Global) -> bool {
+    let mut are_so = true;
+    for line in &LINES {
+        are_so &= asks_for(alloc, line) & gives(alloc, line);
     }
+    are_so
 }
 
 #[test]
 fn lines(rt: HostRuntime) {
-    for (number, (words, line)) in LINES.iter().enumerate() {
-        assert!(rt; asks_for(rt.alloc(), *words, line), "row {number}");
-        assert!(rt;
-            gives(rt.alloc(), *words, line.order),
-            "row {number}, its order"
-        );
-    }
+    assert!(rt; are_read(rt.alloc()));
 }

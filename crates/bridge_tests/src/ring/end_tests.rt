@@ -182,15 +182,13 @@ fn a_receipt_shows_what_is_left(rt: HostRuntime) {
     assert!(rt; is_so);
 }
 
-/// Whether two beats go into the ring of two, and one more stays, where the taking end is gone.
-fn send_in_vain(send: &mut SendEnd<ChE, 4, 8>) -> bool {
-    sends(send, 7, 1) & sends(send, 7, 1) & sends(send, 7, 0) & !send.ready()
-}
-
-/// Whether the end is closed with one beat in its stage.
-fn closes_with_one(send: SendEnd<ChE, 4, 8>) -> bool {
+/// Whether two beats go into the ring of two, and one more stays in the stage of the closed end, where the taking end is gone.
+fn sends_in_vain(send: SendEnd<ChE, 4, 8>) -> bool {
+    let mut send = send;
+    let are_sent = sends(&mut send, 7, 1) & sends(&mut send, 7, 1) & sends(&mut send, 7, 0);
+    let is_full = !send.ready();
     match send.close().ok() {
-        Some(closing) => closing.staged() == 1,
+        Some(closing) => are_sent & is_full & (closing.staged() == 1),
         None => false,
     }
 }
@@ -210,10 +208,9 @@ fn take_what_is_left(take: &mut TakeEnd<ChA, 8, 4>) -> bool {
 #[test]
 fn a_sending_end_fills_the_ring_alone(rt: HostRuntime) {
     let ends = ring_pair::<ChE, 4, 8, Global>(rt.alloc(), 2);
-    let (mut send, take) = ends.expect(&rt, "they are made");
+    let (send, take) = ends.expect(&rt, "they are made");
     drop(take);
-    let is_so = send_in_vain(&mut send) & closes_with_one(send);
-    assert!(rt; is_so);
+    assert!(rt; sends_in_vain(send));
 }
 
 #[test]
