@@ -2,16 +2,17 @@
 //! slices.
 ghost use Rattle.tl_lanes.specs.Lanes.{IsWidth};
 
-use crate::figures::{Figures, now};
+use crate::figures::Figures;
 use rtrb::{Consumer, Producer, RingBuffer};
-use std::alloc::{AllocError, Global};
+use std::alloc::Global;
 use std::rt::Clock;
-use std::thread::{Threads, join_mut};
+use std::slice;
+use std::thread::{Threads, join};
 use tl_lanes::{Mask, active, is_width};
-use tl_msg::{Beat, BeatOf, ChA, ChE, Channel, HeadA, HeadE, SinkId};
+use tl_msg::{Beat, BeatOf, ChA, ChE, Channel, HeadA};
 use tl_ring::{ROOM, SendEnd, TakeEnd, ring_pair};
 
-/// The beats that are sent over and over: whole messages.
+/// How many beats stand in memory, all alike, which are sent over and over: whole messages.
 const SOME: usize = 64;
 
 /// A side gives up after so many turns.
@@ -19,11 +20,11 @@ const TURNS: usize = 1 << 40;
 
 /// The sending end of a ring.
 trait Sender<B> {
-    /// Takes in the beat of this number where it can, and sends what it can. Answers whether that beat was taken in.
-    fn send(&mut self, beats: &[B], number: usize) -> bool;
+    /// Takes a beat in where it can. Answers whether it was taken in.
+    fn offer(&mut self, beat: &B) -> bool;
 
     /// Sends what it can of what was taken in. Answers whether nothing of it is left.
-    fn is_sent(&mut self) -> bool;
+    fn pump(&mut self) -> bool;
 }
 
 /// The taking end of a ring.
@@ -32,45 +33,25 @@ trait Taker {
     fn take(&mut self, masks: &mut Mask) -> usize;
 }
 
-/// Offers a request where the end is ready. Answers whether it was accepted.
-fn offer_request<const W: usize>(end: &mut SendEnd<ChA, W, W>, beat: &Beat<ChA, W>) -> bool {
-    is_width(W) && end.ready() && end.offer(*beat, 0).is_ok()
-}
-
-/// Offers a GrantAck where the end is ready. Answers whether it was accepted.
-#[tactic(auto, using(tl_lanes::proofs::Widths::width_8))]
-fn offer_ack(end: &mut SendEnd<ChE, 8, 8>, beat: &Beat<ChE, 8>) -> bool {
-    end.ready() && end.offer(*beat, 0).is_ok()
-}
-
 impl<const W: usize> Sender<Beat<ChA, W>> for SendEnd<ChA, W, W> {
-    fn send(&mut self, beats: &[Beat<ChA, W>], number: usize) -> bool {
-        let accepted = match beats.get(number % SOME) {
-            Some(beat) => offer_request(self, beat),
-            None => false,
-        };
-        self.pump();
-        accepted
+    fn offer(&mut self, beat: &Beat<ChA, W>) -> bool {
+        is_width(W) && self.ready() && SendEnd::offer(self, *beat, 0).is_ok()
     }
 
-    fn is_sent(&mut self) -> bool {
-        self.pump();
+    fn pump(&mut self) -> bool {
+        SendEnd::pump(self);
         self.staged() == 0
     }
 }
 
 impl Sender<Beat<ChE, 8>> for SendEnd<ChE, 8, 8> {
-    fn send(&mut self, beats: &[Beat<ChE, 8>], number: usize) -> bool {
-        let accepted = match beats.get(number % SOME) {
-            Some(beat) => offer_ack(self, beat),
-            None => false,
-        };
-        self.pump();
-        accepted
+    #[tactic(auto, using(tl_lanes::proofs::Widths::width_8))]
+    fn offer(&mut self, beat: &Beat<ChE, 8>) -> bool {
+        self.ready() && SendEnd::offer(self, *beat, 0).is_ok()
     }
 
-    fn is_sent(&mut self) -> bool {
-        self.pump();
+    fn pump(&mut self) -> bool {
+        SendEnd::pump(self);
         self.staged() == 0
     }
 }
@@ -88,15 +69,11 @@ impl<K: Channel, const W: usize> Taker for TakeEnd<K, W, W> {
 }
 
 impl<H: Copy, const W: usize> Sender<BeatOf<H, W>> for Producer<BeatOf<H, W>, Global> {
-    fn send(&mut self, beats: &[BeatOf<H, W>], number: usize) -> bool {
-        let at = number % SOME;
-        match beats.get(at..=at) {
-            Some(beat) => self.push_entire_slice(beat).is_ok(),
-            None => false,
-        }
+    fn offer(&mut self, beat: &BeatOf<H, W>) -> bool {
+        self.push_entire_slice(slice::from_ref(beat)).is_ok()
     }
 
-    fn is_sent(&mut self) -> bool {
+    fn pump(&mut self) -> bool {
         true
     }
 }
@@ -118,15 +95,25 @@ impl<H: Copy, const W: usize> Taker for PlainTaker<H, W> {
     }
 }
 
+/// Offers the beat of this number, and sends what can be sent. Answers whether the beat was taken in.
+fn send_next<S: Sender<B>, B>(sender: &mut S, beats: &[B], number: usize) -> bool {
+    let accepted = match beats.get(number % SOME) {
+        Some(beat) => sender.offer(beat),
+        None => false,
+    };
+    sender.pump();
+    accepted
+}
+
 /// Sends so many beats.
 fn send_all<S: Sender<B>, B>(sender: &mut S, beats: &[B], count: usize) {
     let mut sent = 0;
     for _ in 0..TURNS {
         if sent < count {
-            if sender.send(beats, sent) {
+            if send_next(sender, beats, sent) {
                 sent += 1;
             }
-        } else if sender.is_sent() {
+        } else if sender.pump() {
             return;
         }
     }
@@ -154,10 +141,10 @@ fn send_and_take<S: Sender<B>, T: Taker, B>(
 ) -> Mask {
     let (mut sent, mut left, mut masks) = (0, count, 0);
     for _ in 0..TURNS {
-        if sent < count && sender.send(beats, sent) {
+        if sent < count && send_next(sender, beats, sent) {
             sent += 1;
         } else {
-            sender.is_sent();
+            sender.pump();
             left = left.saturating_sub(taker.take(&mut masks));
             if left == 0 {
                 break;
@@ -175,10 +162,10 @@ fn join_both<S: Sender<B> + Send, T: Taker + Send, B: Sync>(
     beats: &[B],
     count: usize,
 ) -> Mask {
-    let (_, masks) = join_mut(
+    let (_, masks) = join(
         rt,
-        &mut || send_all(sender, beats, count),
-        &mut || take_all(taker, count),
+        || send_all(sender, beats, count),
+        || take_all(taker, count),
     );
     masks
 }
@@ -191,68 +178,46 @@ const CROSSING: Names = ["crossing_one_thread", "crossing_two_threads"];
 const PLAIN: Names = ["plain_one_thread", "plain_two_threads"];
 
 /// Sends so many beats from a sender to a taker, in one thread and then in two. Both passes are timed.
-fn measure_pair<S: Sender<B> + Send, T: Taker + Send, B: Sync>(
+fn measure_pair<S: Sender<B> + Send + Drop, T: Taker + Send + Drop, B: Sync>(
     rt: &(impl Clock + Threads),
     names: Names,
-    sender: &mut S,
-    taker: &mut T,
+    ends: (S, T),
     beats: &[B],
     count: usize,
     figures: &mut Figures,
 ) {
-    let [one_thread, two_threads] = names;
-    let start = now(rt);
-    let one = send_and_take(sender, taker, beats, count);
-    figures.put_time(rt, one_thread, start);
-    let start = now(rt);
-    let two = join_both(rt, sender, taker, beats, count);
-    figures.put_time(rt, two_threads, start);
+    let ([one_thread, two_threads], (mut sender, mut taker)) = (names, ends);
+    figures.start(rt);
+    let one = send_and_take(&mut sender, &mut taker, beats, count);
+    figures.put_time(rt, one_thread);
+    figures.start(rt);
+    let two = join_both(rt, &mut sender, &mut taker, beats, count);
+    figures.put_time(rt, two_threads);
     if one != two {
         figures.refuse("the two passes took other beats");
     }
 }
 
-/// PutFullDatas of 64 bytes on a bus of `W` bytes, or of as many as a wider bus has.
-fn requests<const W: usize>(alloc: Global) -> Result<Vec<Beat<ChA, W>>, AllocError>
+/// A PutFullData of 64 bytes on a bus of `W` bytes, or of as many as a wider bus has: each of its beats.
+fn request<const W: usize>() -> Beat<ChA, W>
     requires { IsWidth W }
 {
-    let head = HeadA {
-        opcode: 0,
-        param: 0,
-        size: if W > 64 { 7 } else { 6 },
-        source: 7,
-        address: 128,
-    };
-    let mask = active(head.address, head.size, W);
-    let mut all = Vec::with_capacity(alloc, SOME)?;
-    for place in 0..SOME {
-        all.push(BeatOf {
-            head,
-            mask,
-            lanes: [place as u8; W],
-            corrupt: false,
-        })?;
+    let (size, address) = (if W > 64 { 7 } else { 6 }, 128);
+    BeatOf {
+        head: HeadA {
+            opcode: 0,
+            param: 0,
+            size,
+            source: 7,
+            address,
+        },
+        mask: active(address, size, W),
+        lanes: [1; W],
+        corrupt: false,
     }
-    Ok(all)
 }
 
-/// GrantAcks.
-fn acks(alloc: Global) -> Result<Vec<Beat<ChE, 8>>, AllocError> {
-    let mut all = Vec::with_capacity(alloc, SOME)?;
-    for place in 0..SOME {
-        all.push(BeatOf {
-            head: HeadE {
-                sink: place as SinkId,
-            },
-            mask: 0,
-            lanes: [0; 8],
-            corrupt: false,
-        })?;
-    }
-    Ok(all)
-}
-
-/// Sends so many requests between both ends of a crossing.
+/// Sends so many beats of requests between both ends of a crossing.
 fn cross_requests<const W: usize>(
     rt: &(impl Clock + Threads + AllocGlobal),
     beats: &[Beat<ChA, W>],
@@ -263,14 +228,12 @@ fn cross_requests<const W: usize>(
     requires { IsWidth W }
 {
     match ring_pair::<ChA, W, W, Global>(rt.alloc(), ring) {
-        Ok((mut send, mut take)) => {
-            measure_pair(rt, CROSSING, &mut send, &mut take, beats, count, figures)
-        }
+        Ok(ends) => measure_pair(rt, CROSSING, ends, beats, count, figures),
         Err(_) => figures.refuse("there is no crossing over such a ring"),
     }
 }
 
-/// Sends so many requests through a plain ring.
+/// Sends so many beats of requests through a plain ring.
 fn pass_requests<const W: usize>(
     rt: &(impl Clock + Threads + AllocGlobal),
     beats: &[Beat<ChA, W>],
@@ -280,14 +243,14 @@ fn pass_requests<const W: usize>(
 )
     requires { IsWidth W }
 {
-    let Ok((mut producer, consumer)) = RingBuffer::new(rt.alloc(), ring) else {
-        return figures.refuse("there is no such ring");
-    };
-    let mut taker = PlainTaker {
-        end: consumer,
-        room: [BeatOf::default(); ROOM],
-    };
-    measure_pair(rt, PLAIN, &mut producer, &mut taker, beats, count, figures);
+    match RingBuffer::new(rt.alloc(), ring) {
+        Ok((producer, end)) => {
+            let room = [BeatOf::default(); ROOM];
+            let ends = (producer, PlainTaker { end, room });
+            measure_pair(rt, PLAIN, ends, beats, count, figures)
+        }
+        Err(_) => figures.refuse("there is no such ring"),
+    }
 }
 
 /// Sends so many GrantAcks between both ends of a crossing.
@@ -300,9 +263,7 @@ fn cross_acks(
     figures: &mut Figures,
 ) {
     match ring_pair::<ChE, 8, 8, Global>(rt.alloc(), ring) {
-        Ok((mut send, mut take)) => {
-            measure_pair(rt, CROSSING, &mut send, &mut take, beats, count, figures)
-        }
+        Ok(ends) => measure_pair(rt, CROSSING, ends, beats, count, figures),
         Err(_) => figures.refuse("there is no crossing over such a ring"),
     }
 }
@@ -315,32 +276,29 @@ fn pass_acks(
     count: usize,
     figures: &mut Figures,
 ) {
-    let Ok((mut producer, consumer)) = RingBuffer::new(rt.alloc(), ring) else {
-        return figures.refuse("there is no such ring");
-    };
-    let mut taker = PlainTaker {
-        end: consumer,
-        room: [BeatOf::default(); ROOM],
-    };
-    measure_pair(rt, PLAIN, &mut producer, &mut taker, beats, count, figures);
+    match RingBuffer::new(rt.alloc(), ring) {
+        Ok((producer, end)) => {
+            let room = [BeatOf::default(); ROOM];
+            let ends = (producer, PlainTaker { end, room });
+            measure_pair(rt, PLAIN, ends, beats, count, figures)
+        }
+        Err(_) => figures.refuse("there is no such ring"),
+    }
 }
 
-/// Sends so many requests through a crossing, and through a plain ring of as many places.
+/// Sends so many beats of requests through a crossing, and through a plain ring of as many places.
 fn measure_requests<const W: usize>(
     rt: &(impl Clock + Threads + AllocGlobal),
     ring: usize,
     count: usize,
     figures: &mut Figures,
-)
-    requires { IsWidth W }
-{
-    match requests::<W>(rt.alloc()) {
-        Ok(beats) => {
-            cross_requests::<W>(rt, &beats, ring, count, figures);
-            pass_requests::<W>(rt, &beats, ring, count, figures);
-        }
-        Err(_) => figures.refuse("there is no memory for the beats"),
+) {
+    if !is_width(W) {
+        return figures.refuse("there is no bus of this width");
     }
+    let beats = [request::<W>(); SOME];
+    cross_requests::<W>(rt, &beats, ring, count, figures);
+    pass_requests::<W>(rt, &beats, ring, count, figures);
 }
 
 /// Sends so many GrantAcks through a crossing, and through a plain ring of as many places.
@@ -350,18 +308,13 @@ fn measure_acks(
     count: usize,
     figures: &mut Figures,
 ) {
-    match acks(rt.alloc()) {
-        Ok(beats) => {
-            cross_acks(rt, &beats, ring, count, figures);
-            pass_acks(rt, &beats, ring, count, figures);
-        }
-        Err(_) => figures.refuse("there is no memory for the beats"),
-    }
+    let beats = [Beat::<ChE, 8>::default(); SOME];
+    cross_acks(rt, &beats, ring, count, figures);
+    pass_acks(rt, &beats, ring, count, figures);
 }
 
 /// Sends so many beats of a channel through a ring of `ring` beats, four times: between both ends in one thread and in two, and
 /// through plain `rtrb` likewise. Each pass is timed.
-#[tactic(auto, using(tl_lanes::proofs::Widths::width_8, tl_lanes::proofs::Widths::width_64, tl_lanes::proofs::Widths::width_128))]
 pub fn measure(
     rt: &(impl Clock + Threads + AllocGlobal),
     channel: &str,

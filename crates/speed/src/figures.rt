@@ -5,11 +5,12 @@ use std::fs::{self, Files};
 use std::rt::Clock;
 use std::time::Instant;
 
-/// Figures, a line each, of a name and a number; or why there are none.
+/// Figures, a line each, of a name and a number; or why there are none. Time is counted from the last start.
 #[derive(Drop)]
 pub struct Figures {
     text: String,
     fault: Option<&'static str>,
+    start: Start,
 }
 
 /// A moment from which time is counted; none where the clock cannot be read.
@@ -45,6 +46,7 @@ impl Figures {
         Figures {
             text: String::new(alloc),
             fault: None,
+            start: None,
         }
     }
 
@@ -60,9 +62,14 @@ impl Figures {
         }
     }
 
-    /// Adds the nanoseconds since then.
-    pub fn put_time(&mut self, rt: &impl Clock, name: &str, start: Start) {
-        self.put(name, nanos_since(rt, start));
+    /// Counts time from this moment.
+    pub fn start(&mut self, rt: &impl Clock) {
+        self.start = now(rt);
+    }
+
+    /// Adds the nanoseconds since the start.
+    pub fn put_time(&mut self, rt: &impl Clock, name: &str) {
+        self.put(name, nanos_since(rt, self.start));
     }
 
     /// Adds the most memory that the process has had so far, in KiB.

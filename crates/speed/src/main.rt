@@ -44,23 +44,23 @@ fn print_usage(rt: &impl Print) {
     );
 }
 
-/// Measures what the words of the command line ask for.
+/// Measures what the words of the command line ask for, behind the program's own name.
 fn measure_by(
     rt: &(impl Clock + Print + Files + Threads + AllocGlobal),
     reader: &mut impl Read,
     words: &[String],
     figures: &mut Figures,
 ) {
-    match word_at(words, 0) {
+    match word_at(words, 1) {
         "pass" => measure::pass(rt, reader, figures),
         "measure" => measure::measure(rt, reader, figures),
         "ends" => {
             ends::measure(
                 rt,
-                word_at(words, 1),
-                number_at(words, 2),
+                word_at(words, 2),
                 number_at(words, 3),
                 number_at(words, 4),
+                number_at(words, 5),
                 figures,
             )
         }
@@ -69,7 +69,7 @@ fn measure_by(
 }
 
 fn main(rt: HostRuntime) -> io::Result<ExitCode> {
-    let words: Vec<String> = env::args(&rt)?.skip(1).collect(rt.alloc())?;
+    let words: Vec<String> = env::args(&rt)?.collect(rt.alloc())?;
     let mut figures = Figures::new(rt.alloc());
     measure_by(&rt, &mut rt.stdin(), &words, &mut figures);
     Ok(ExitCode::from(!figures.print(&rt) as u8))

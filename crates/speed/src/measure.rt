@@ -4,7 +4,7 @@ ghost use Rattle.tl_lanes.specs.Lanes.{IsWidth};
 ghost use Rattle.tl_trace.specs.Faults.{HasHeader};
 ghost use Rattle.tl_stream.specs.Inputs.{IsFresh};
 
-use crate::figures::{Figures, Start, nanos_since, now};
+use crate::figures::{Figures, nanos_since, now};
 use arrayvec::ArrayVec;
 use std::fs::Files;
 use std::io::Read;
@@ -27,14 +27,14 @@ pub fn pass(rt: &(impl Clock + AllocGlobal), reader: &mut impl Read, figures: &m
     let Ok(mut text) = Vec::with_capacity(rt.alloc(), MAX_BYTES) else {
         return figures.refuse("there is no memory for the text");
     };
-    let start = now(rt);
+    figures.start(rt);
     if reader.read_to_end(&mut text).is_err() {
         return figures.refuse("the text cannot be read");
     }
-    figures.put_time(rt, "whole", start);
-    let start = now(rt);
+    figures.put_time(rt, "whole");
+    figures.start(rt);
     let lines = line_ends(&text);
-    figures.put_time(rt, "count", start);
+    figures.put_time(rt, "count");
     figures.put("bytes", text.len() as u128);
     figures.put("lines", lines as u128);
 }
@@ -68,15 +68,16 @@ fn convert<K: HeadText, const W: usize, const V: usize>(
     true
 }
 
-/// The times of converting and writing so far, in nanoseconds, and how many far beats that gave.
-#[derive(Clone, Copy, Default)]
+/// What converting and writing took so far: the nanoseconds of each, how many far beats that gave, and whether all could be done.
+#[derive(Drop)]
 struct Work {
     converting: u128,
     writing: u128,
     far_beats: usize,
+    all_done: bool,
 }
 
-/// Converts some beats, and appends the lines of their far beats to a text. Answers whether that could be done.
+/// Converts some beats, and appends the lines of their far beats to a text.
 fn convert_some<K: HeadText, const W: usize, const V: usize>(
     rt: &impl Clock,
     converter: &mut Converter<K, W, V>,
@@ -86,7 +87,7 @@ fn convert_some<K: HeadText, const W: usize, const V: usize>(
     text: &mut Vec<u8>,
     version: u8,
     work: &mut Work,
-) -> bool
+)
     requires { IsWidth W × IsWidth V }
 {
     far.clear();
@@ -97,7 +98,7 @@ fn convert_some<K: HeadText, const W: usize, const V: usize>(
     let is_written = write_far::<K, V>(text, far, version).is_ok();
     work.writing = work.writing.saturating_add(nanos_since(rt, start));
     work.far_beats = work.far_beats.saturating_add(far.len());
-    is_fed && is_written
+    work.all_done = work.all_done & is_fed & is_written;
 }
 
 /// Converts the beats of a channel, whole messages, and writes the lines of their far beats: some at a time, so that far beats stand
@@ -113,13 +114,16 @@ fn convert_and_write<K: HeadText, const W: usize, const V: usize>(
     requires { IsWidth W × IsWidth V }
 {
     let (mut far, mut text) = (Vec::new(rt.alloc()), Vec::new(rt.alloc()));
-    let mut work = Work::default();
+    let mut work = Work {
+        converting: 0,
+        writing: 0,
+        far_beats: 0,
+        all_done: true,
+    };
     for some in near.chunks(NEAR_BEATS) {
-        if !convert_some(
+        convert_some(
             rt, converter, given, some, &mut far, &mut text, version, &mut work,
-        ) {
-            figures.refuse("the beats cannot be converted and written");
-        }
+        );
     }
     put_work(figures, &work, near.len(), text.len());
 }
@@ -131,6 +135,9 @@ fn put_work(figures: &mut Figures, work: &Work, near_beats: usize, far_bytes: us
     figures.put("near_beats", near_beats as u128);
     figures.put("far_beats", work.far_beats as u128);
     figures.put("far_bytes", far_bytes as u128);
+    if !work.all_done {
+        figures.refuse("the beats cannot be converted and written");
+    }
 }
 
 /// The version of a trace between these widths, by its first line.
@@ -145,15 +152,17 @@ fn version_between(text: &[u8], client: usize, manager: usize) -> Option<u8>
     }
 }
 
-/// Converts the beats of A, or of E where there is none of A, and writes the far ones.
+/// Adds what it took to read a script, converts its beats of A, or of E where there is none of A, and writes the far ones.
 fn measure_script<const C: usize, const M: usize>(
-    rt: &(impl Clock + AllocGlobal),
+    rt: &(impl Clock + Files + AllocGlobal),
     script: &Script<C, M>,
     version: u8,
     figures: &mut Figures,
 )
     requires { IsWidth C × IsWidth M }
 {
+    figures.put_time(rt, "read");
+    figures.put_peak(rt, "peak");
     if script.a.is_empty() {
         let mut converter = Converter::<ChE, C, M>::new();
         let mut given = ArrayVec::<Beat<ChE, M>, WIDEST>::new();
@@ -165,28 +174,12 @@ fn measure_script<const C: usize, const M: usize>(
     }
 }
 
-/// Adds what it took to read a script, converts its beats and writes the far ones.
-fn measure_read<const C: usize, const M: usize>(
-    rt: &(impl Clock + Files + AllocGlobal),
-    script: &Script<C, M>,
-    version: u8,
-    start: Start,
-    figures: &mut Figures,
-)
-    requires { IsWidth C × IsWidth M }
-{
-    figures.put_time(rt, "read", start);
-    figures.put_peak(rt, "peak");
-    measure_script(rt, script, version, figures);
-}
-
 /// Reads a trace between these widths piece by piece, as the program does, converts its beats of A, or of E where it has none of A,
 /// and writes the far ones.
 fn measure_pair<R: Read, const C: usize, const M: usize>(
     rt: &(impl Clock + Files + AllocGlobal),
     reader: &mut R,
     input: &mut Input,
-    start: Start,
     figures: &mut Figures,
 )
     requires { IsFresh (R.remaining reader.old) input.old }
@@ -196,7 +189,7 @@ fn measure_pair<R: Read, const C: usize, const M: usize>(
         _ => return figures.refuse("the text is no trace between these widths"),
     };
     match script_of_input::<R, C, M>(rt.alloc(), reader, input, version) {
-        Ok(script) => measure_read(rt, &script, version, start, figures),
+        Ok(script) => measure_script(rt, &script, version, figures),
         Err(_) => figures.refuse("the text is no trace"),
     }
 }
@@ -206,7 +199,6 @@ fn measure_input<R: Read>(
     rt: &(impl Clock + Files + AllocGlobal),
     reader: &mut R,
     input: &mut Input,
-    start: Start,
     figures: &mut Figures,
 )
     requires { IsFresh (R.remaining reader.old) input.old }
@@ -215,13 +207,13 @@ fn measure_input<R: Read>(
         return figures.refuse("the text is no trace");
     };
     match (header.client, header.manager) {
-        (8, 8) => measure_pair::<R, 8, 8>(rt, reader, input, start, figures),
-        (4, 64) => measure_pair::<R, 4, 64>(rt, reader, input, start, figures),
-        (64, 4) => measure_pair::<R, 64, 4>(rt, reader, input, start, figures),
-        (64, 1) => measure_pair::<R, 64, 1>(rt, reader, input, start, figures),
-        (8, 32) => measure_pair::<R, 8, 32>(rt, reader, input, start, figures),
-        (128, 1) => measure_pair::<R, 128, 1>(rt, reader, input, start, figures),
-        (1, 128) => measure_pair::<R, 1, 128>(rt, reader, input, start, figures),
+        (8, 8) => measure_pair::<R, 8, 8>(rt, reader, input, figures),
+        (4, 64) => measure_pair::<R, 4, 64>(rt, reader, input, figures),
+        (64, 4) => measure_pair::<R, 64, 4>(rt, reader, input, figures),
+        (64, 1) => measure_pair::<R, 64, 1>(rt, reader, input, figures),
+        (8, 32) => measure_pair::<R, 8, 32>(rt, reader, input, figures),
+        (128, 1) => measure_pair::<R, 128, 1>(rt, reader, input, figures),
+        (1, 128) => measure_pair::<R, 1, 128>(rt, reader, input, figures),
         _ => figures.refuse("nothing is measured at these widths"),
     }
 }
@@ -233,9 +225,9 @@ pub fn measure<R: Read>(
     reader: &mut R,
     figures: &mut Figures,
 ) {
-    let start = now(rt);
+    figures.start(rt);
     match Input::open(rt.alloc(), reader) {
-        Ok(mut input) => measure_input(rt, reader, &mut input, start, figures),
+        Ok(mut input) => measure_input(rt, reader, &mut input, figures),
         Err(_) => figures.refuse("the text cannot be read"),
     }
 }

@@ -12,9 +12,8 @@ ghost use Rattle.tl_c_beats.specs.Texts.{answer_name, answer_text};
 ghost use Rattle.tl_c_beats.specs.Blocks.{IsNoBlock};
 ghost use Rattle.tl_answer_c.specs.Calls.{IsGiven, IsRefusal, is_set};
 
-use crate::sync_answer::answer_of;
+use crate::sync_answer::block_of;
 use std::alloc::Global;
-use tl_answer::{Answer, TextFault};
 use tl_c_beats::{AnswerBlock, AnswerText, answer_text};
 
 /// The answer to the text of a trace, without its far beats where `check` is not 0. An answer that
@@ -35,18 +34,17 @@ pub extern "C" fn tl_answer_trace(
     ensures refused { result ≢ 0 → IsRefusal text.now result answer.new }
 {
     answer.free(alloc);
-    let fault = match answer_of(alloc, text, check != 0) {
-        Ok(Answer { text, all_done }) => match AnswerBlock::of(alloc, text, all_done) {
-            Ok(block) => {
-                *answer = block;
-                return 0;
-            }
-            Err(_) => TextFault::OutOfMemory,
-        },
-        Err(fault) => fault,
-    };
-    *answer = AnswerBlock::none(alloc, fault.line());
-    fault.number()
+    match block_of(alloc, text, check != 0) {
+        Ok(block) => {
+            *answer = block;
+            0
+        }
+        Err(fault) => {
+            let number = fault.number();
+            *answer = AnswerBlock::none(alloc, fault.line());
+            number
+        }
+    }
 }
 
 /// Gives the text of an answer back, if there is one: there is none then.
