@@ -8,8 +8,8 @@ use std::alloc::AllocError;
 use std::io::Write;
 use tl_answer::{TextFault, write_all};
 use tl_lanes::WIDEST;
+use tl_remarks::Page;
 use tl_trace::LONGEST_LINE;
-use tl_unreadable::Page;
 
 /// How many bytes are put together before they are written.
 const BLOCK: usize = 65_536;

@@ -87,13 +87,26 @@ fn put_several<K: Told, const V: usize>(story: &mut Story, far: &[Beat<K, V>]) {
     }
 }
 
-/// Writes far beats: one whose lanes are not shown without a copy of its line.
+/// Writes far beats, where they are shown: one whose lanes are not without a copy of its line.
 fn put_far<K: Told, const V: usize>(story: &mut Story, far: &[Beat<K, V>]) {
-    if story.shows_far_lanes() || far.len() != 1 {
+    if far.is_empty() | !story.shows_far() {
+        return;
+    }
+    if story.shows_far_lanes() | (far.len() > 1) {
         return put_several::<K, V>(story, far);
     }
     story.page.put_text("    ");
     story.page.lacks_a_piece |= !write_lines::<K, V>(&mut story.page.text, far, story.version);
+}
+
+/// Writes what came of the next near beat, or draws it, and says whether it was accepted.
+fn put_near<K: Told, const W: usize>(story: &mut Story, beat: &Beat<K, W>) -> bool {
+    let seen = seen_of::<K, W>(beat, story.version);
+    let accepted = story.put_near(&seen, &beat.lanes);
+    if story.drawing.is_wanted {
+        draw_near::<K, W>(story, beat, &seen, accepted);
+    }
+    accepted
 }
 
 /// Writes what came of the next of these beats, in a line of the channel with this letter, and below it the
@@ -109,16 +122,9 @@ pub fn tell<K: Told, const W: usize, const V: usize>(
     let Some(beat) = beats.get(story.walk.near) else {
         return;
     };
-    let seen = seen_of::<K, W>(beat, story.version);
-    let accepted = story.put_near(&seen, &beat.lanes);
-    if story.drawing.is_wanted {
-        draw_near::<K, W>(story, beat, &seen, accepted);
-    }
-    if accepted {
+    if put_near::<K, W>(story, beat) {
         pass::<K, W, V>(converter, beat, story.walk.home, far);
-        if story.shows_far() && !far.is_empty() {
-            put_far::<K, V>(story, far.as_slice());
-        }
+        put_far::<K, V>(story, far.as_slice());
     }
     story.end_line();
 }

@@ -26,7 +26,7 @@ use tl_check::verdicts_of;
 use tl_convert::Converter;
 use tl_lanes::WIDEST;
 use tl_msg::{Beat, ChA, ChB, ChC, ChD, ChE, Verdict};
-use tl_remarks::{Noted, notes_of};
+use tl_remarks::{Wanted, notes_of};
 use tl_trace::{Header, Script, TraceFault, TraceKind, header_of_text, read_script};
 
 /// Tells what came of the beats of a script, whose lines begin with these letters, and writes it block by
@@ -87,44 +87,17 @@ fn requests_of<const C: usize, const M: usize>(
     Ok(requests)
 }
 
-/// What is noted of the messages of a script: remarks where they are asked for, and pairs where beats are
-/// drawn.
-fn noted_of<const C: usize, const M: usize>(
-    alloc: Global,
-    letters: &[u8],
-    script: &Script<C, M>,
-    verdicts: &[Verdict; 5],
-    look: &Look,
-) -> Result<Noted, AllocError>
-    requires { IsWidth C × IsWidth M }
-{
-    if !look.remarks && !look.page {
-        return Ok(Noted::new(alloc, false));
-    }
-    let mut noted = notes_of::<C, M>(alloc, letters, script, verdicts, look.page)?;
-    if !look.remarks {
-        noted.remarks.clear();
-    }
-    Ok(noted)
-}
-
 /// The walks of channels that end in these verdicts, from A to E, between a client of `c` bytes and a
 /// manager of `m`.
-fn walks_of(
-    alloc: Global,
-    verdicts: &[Verdict; 5],
-    c: usize,
-    m: usize,
-) -> Result<Vec<Walk>, AllocError> {
+fn walks_of(verdicts: &[Verdict; 5], c: usize, m: usize) -> [Walk; 5] {
     let [on_a, on_b, on_c, on_d, on_e] = verdicts;
-    let walks = vec![in alloc;
+    [
         Walk::new(b'A', on_a, c, m),
         Walk::new(b'B', on_b, m, c),
         Walk::new(b'C', on_c, c, m),
         Walk::new(b'D', on_d, m, c),
         Walk::new(b'E', on_e, c, 1),
-    ]?;
-    Ok(walks)
+    ]
 }
 
 /// What is told of a script from line 2 on, of which no line is told yet.
@@ -138,12 +111,14 @@ fn story_of<const C: usize, const M: usize>(
 ) -> Result<Story, AllocError>
     requires { IsWidth C × IsWidth M }
 {
-    let noted = noted_of::<C, M>(alloc, letters, script, verdicts, look)?;
+    let wanted = Wanted {
+        remarks: look.remarks,
+        pairs: look.page,
+    };
+    let noted = notes_of::<C, M>(alloc, letters, script, verdicts, wanted)?;
     let requests = requests_of::<C, M>(alloc, letters, script, verdicts)?;
-    let walks = walks_of(alloc, verdicts, C, M)?;
-    let mut story = Story::new(alloc, version, look, requests, noted, walks);
-    story.make_room()?;
-    Ok(story)
+    let walks = walks_of(verdicts, C, M);
+    Ok(Story::new(alloc, version, look, requests, noted, walks))
 }
 
 /// The verdicts on the channels of a script, from A to E, and the answer of a check to it.
@@ -223,6 +198,7 @@ fn told_of<W: Write, const C: usize, const M: usize>(
     };
     let letters = letters_of(alloc, text, &header)?;
     let mut story = story_of::<C, M>(alloc, &letters, script, verdicts, version, look)?;
+    story.make_room()?;
     tell_all::<W, C, M>(&mut story, &letters, script, look.page, writer)?;
     Ok(story.told())
 }

@@ -1,12 +1,11 @@
 //! The faults of a beat in sentences: which field, what it is, and what it has to be.
 use crate::lane_list::{lanes_of, put_lanes};
 use crate::walk::Walk;
-use crate::words::{name_of, sink_of, source_of};
+use crate::words::name_of;
 use tl_lanes::Mask;
 use tl_msg::{BeatFault, Kind};
-use tl_remarks::Seen;
-use tl_unreadable::Page;
-use tl_unreadable::Piece::{self, Address, Length, Letter, Number, Text};
+use tl_remarks::Piece::{self, Address, Id, Length, Letter, Number, Text};
+use tl_remarks::{Page, Seen};
 
 /// What is wrong with the opcode.
 fn opcode_fault(letter: u8) -> &'static str {
@@ -17,18 +16,45 @@ fn opcode_fault(letter: u8) -> &'static str {
     }
 }
 
-/// Writes what is wrong with the param.
-fn put_param(out: &mut Page, beat: &Seen) {
-    let param = Number(beat.param as u64);
-    match beat.kind.map_or(0, Kind::params) {
-        0 | 1 => out.say(
-            "the param is #, but # has only the param 0",
-            &[param, name_of(beat)],
-        ),
-        params => {
-            let most = Number((params - 1) as u64);
-            let rule = "the param is #, but # has only the params 0 to #";
-            out.say(rule, &[param, name_of(beat), most]);
+/// What is wrong with the param, of so many that the message has.
+fn param_fault(params: u8) -> &'static str {
+    if params < 2 {
+        "the param is #, but # has only the param 0"
+    } else {
+        "the param is #, but # has only the params 0 to #"
+    }
+}
+
+/// What is wrong with a field of a beat, but the mask, in a sentence, and what each `#` in it stands for.
+fn field_fault(beat: &Seen, fault: BeatFault) -> (&'static str, [Piece<'static>; 3]) {
+    let none = Text("");
+    match fault {
+        BeatFault::Opcode => {
+            let opcode = Number(beat.opcode as u64);
+            (
+                opcode_fault(beat.letter),
+                [opcode, Letter(beat.letter), none],
+            )
+        }
+        BeatFault::Param => {
+            let params = beat.kind.map_or(0, Kind::params);
+            let (param, most) = (Number(beat.param as u64), params.saturating_sub(1));
+            (
+                param_fault(params),
+                [param, name_of(beat), Number(most as u64)],
+            )
+        }
+        BeatFault::Size => {
+            let rule = "the size is #, but it may be at most 12: a message has at most 4096 bytes";
+            (rule, [Number(beat.size as u64), none, none])
+        }
+        BeatFault::Unaligned => {
+            let rule = "the address # is no multiple of the message's #";
+            (rule, [Address(beat.address), Length(beat.size), none])
+        }
+        _ => {
+            let rule = "corrupt is 1, but # carries no data, so it has to be 0";
+            (rule, [name_of(beat), none, none])
         }
     }
 }
@@ -47,66 +73,82 @@ fn mask_rule(beat: &Seen, lanes: Mask) -> (Mask, &'static str) {
 /// Writes what is wrong with the mask on `w` lanes.
 fn put_mask(out: &mut Page, beat: &Seen, w: usize) {
     let Some(lanes) = lanes_of(beat.address, beat.size, w) else {
-        return out.put(Text("the mask is wrong"));
+        return out.put_text("the mask is wrong");
     };
     let (wrong, rule) = mask_rule(beat, lanes);
-    out.put(Text("the mask has "));
+    out.put_text("the mask has ");
     put_lanes(out, wrong);
-    out.put(Text(rule));
+    out.put_text(rule);
     put_lanes(out, lanes);
 }
 
-/// The first field in which the head of a beat is not that of its burst's first beat: its name, what
-/// it is, and what it was.
-fn change(beat: &Seen, first: &Seen) -> (&'static str, Piece<'static>, Piece<'static>) {
-    if beat.opcode != first.opcode {
-        let was = Number(first.opcode as u64);
-        ("the opcode", Number(beat.opcode as u64), was)
-    } else if beat.param != first.param {
-        let was = Number(first.param as u64);
-        ("the param", Number(beat.param as u64), was)
-    } else if beat.size != first.size {
-        let was = Number(first.size as u64);
-        ("the size", Number(beat.size as u64), was)
-    } else if beat.source != first.source {
-        ("the source", source_of(beat), source_of(first))
-    } else if beat.address != first.address {
-        ("the address", Address(beat.address), Address(first.address))
-    } else if beat.sink != first.sink {
-        ("the sink", sink_of(beat), sink_of(first))
-    } else {
-        let was = Number(first.denied as u64);
-        ("denied", Number(beat.denied as u64), was)
+/// The fields of a head, which all beats of a burst repeat.
+const FIELDS: [&str; 7] = [
+    "the opcode",
+    "the param",
+    "the size",
+    "the source",
+    "the address",
+    "the sink",
+    "denied",
+];
+
+/// The same fields of a beat.
+fn fields_of(beat: &Seen) -> [u64; 7] {
+    [
+        beat.opcode as u64,
+        beat.param as u64,
+        beat.size as u64,
+        beat.source as u64,
+        beat.address,
+        beat.sink as u64,
+        beat.denied as u64,
+    ]
+}
+
+/// The place of the first one that is not as it was; that of the last one where all before it are.
+fn changed_field(is: [u64; 7], was: [u64; 7]) -> usize {
+    for at in 0..6 {
+        if is[at] != was[at] {
+            return at;
+        }
     }
+    6
+}
+
+/// The field at this place in words.
+fn field_at(at: usize, fields: [u64; 7], version: u8) -> Piece<'static> {
+    let field = fields.get(at).copied().unwrap_or(0);
+    match at {
+        3 | 5 => Id((field % 65_536) as u16, version),
+        4 => Address(field),
+        _ => Number(field),
+    }
+}
+
+/// Writes which field of a beat is not that of its burst's first beat, what it is, and what it was.
+fn put_change(out: &mut Page, beat: &Seen, walk: &Walk) {
+    let (is, was) = (fields_of(beat), fields_of(&walk.first));
+    let at = changed_field(is, was);
+    out.say(
+        "inside the burst that line # begins, # is # and was #",
+        &[
+            Number(walk.first_line),
+            Text(FIELDS.get(at).copied().unwrap_or("")),
+            field_at(at, is, beat.version),
+            field_at(at, was, beat.version),
+        ],
+    );
 }
 
 /// Writes what is wrong with the next near beat of a channel.
 pub fn put_beat_fault(out: &mut Page, beat: &Seen, fault: BeatFault, walk: &Walk) {
     match fault {
-        BeatFault::Opcode => {
-            let opcode = Number(beat.opcode as u64);
-            out.say(opcode_fault(beat.letter), &[opcode, Letter(beat.letter)]);
-        }
-        BeatFault::Param => put_param(out, beat),
-        BeatFault::Size => out.say(
-            "the size is #, but it may be at most 12: a message has at most 4096 bytes",
-            &[Number(beat.size as u64)],
-        ),
-        BeatFault::Unaligned => out.say(
-            "the address # is no multiple of the message's #",
-            &[Address(beat.address), Length(beat.size)],
-        ),
         BeatFault::Mask => put_mask(out, beat, walk.w),
-        BeatFault::Corrupt => out.say(
-            "corrupt is 1, but # carries no data, so it has to be 0",
-            &[name_of(beat)],
-        ),
-        BeatFault::HeadChanged => {
-            let (field, is, was) = change(beat, &walk.first);
-            out.say(
-                "inside the burst that line # begins, # is # and was #",
-                &[Number(walk.first_line), Text(field), is, was],
-            );
+        BeatFault::HeadChanged => put_change(out, beat, walk),
+        _ => {
+            let (sentence, pieces) = field_fault(beat, fault);
+            out.say(sentence, &pieces);
         }
     }
 }

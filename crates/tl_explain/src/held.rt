@@ -1,9 +1,8 @@
 //! Beats that their channel did not accept.
 use crate::fate::fate_at;
 use tl_msg::{Beat, SourceId, Verdict};
-use tl_remarks::{Cursor, Told, seen_of};
-use tl_unreadable::Page;
-use tl_unreadable::Piece::{Letter, Number, Text};
+use tl_remarks::Piece::{Letter, Number, Text};
+use tl_remarks::{Cursor, Page, Told};
 
 /// Where a channel stopped: its letter, the line of the first beat that it did not accept, and how that
 /// one fares.
@@ -76,9 +75,9 @@ pub fn held_of<K: Told, const W: usize>(
         if let Some(how) = fate_at(at, verdict).how() {
             stop = Stop { letter, line, how };
         }
-        let seen = seen_of::<K, W>(beat, 1);
-        let may_pair = letter != b'D' || seen.answers_request();
-        if stop.line > 0 && may_pair && seen.source == source {
+        let seen = K::seen(beat.head);
+        let may_pair = (letter != b'D') | seen.answers_request();
+        if (stop.line > 0) & may_pair & (seen.source == source) {
             return Some(Held { line, stop });
         }
         at = at.saturating_add(1);

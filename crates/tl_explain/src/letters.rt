@@ -1,7 +1,35 @@
-//! The letters that the lines of a trace begin with.
+//! The lines of a trace by their letters.
+ghost use Rattle.tl_lanes.specs.Lanes.{IsWidth};
+
+use arrayvec::ArrayVec;
 use std::alloc::{AllocError, Global};
-use tl_trace::{Header, line_end};
-use tl_unreadable::form_of;
+use tl_answer::at_width;
+use tl_msg::{ChA, ChB, ChC, ChD, ChE};
+use tl_trace::{Header, LONGEST_LINE, line_end, line_of};
+
+/// The line with this letter of a beat in which all is 0, on `W` lanes, in a trace of this version, with
+/// its LF; nothing where no channel has the letter.
+fn form_on<const W: usize>(letter: u8, version: u8) -> ArrayVec<u8, LONGEST_LINE>
+    requires { IsWidth W }
+{
+    match letter {
+        b'A' => line_of::<ChA, W>(&Default::default(), version),
+        b'B' => line_of::<ChB, W>(&Default::default(), version),
+        b'C' => line_of::<ChC, W>(&Default::default(), version),
+        b'D' => line_of::<ChD, W>(&Default::default(), version),
+        b'E' => line_of::<ChE, W>(&Default::default(), version),
+        _ => ArrayVec::new(),
+    }
+}
+
+/// The form of the lines with this letter in a trace with this header.
+pub fn form_of(letter: u8, header: &Header) -> ArrayVec<u8, LONGEST_LINE> {
+    let width = match letter {
+        b'B' | b'D' => header.manager,
+        _ => header.client,
+    };
+    at_width!(width, form_on::<_>(letter, header.version))
+}
 
 /// How long the lines with this letter are in a trace with this header, with their LF.
 fn length_of(letter: u8, header: &Header) -> usize {

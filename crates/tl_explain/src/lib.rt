@@ -1,5 +1,6 @@
 //! What came of each line of a trace, in sentences: which beats were accepted and what arrived of
-//! them, which one was held back and by what, and which were not offered.
+//! them, which one was held back and by what, and which were not offered. And what is wrong with a
+//! text that is no trace.
 #![tactic(auto)]
 
 mod alike;
@@ -13,16 +14,17 @@ mod faults;
 mod held;
 mod lane_list;
 mod letters;
+mod likeness;
 mod look;
 mod meanings;
 mod picture;
-mod remarks;
+mod places;
 mod requests;
 mod scene;
 mod sentences;
 mod shown;
 mod story;
-mod stream;
+mod unreadable;
 mod walk;
 mod words;
 
@@ -34,4 +36,4 @@ pub use picture::{Cell, Picture, ROW};
 pub use scene::{Scene, Ties, scene_of};
 pub use shown::Item;
 pub use story::Fares;
-pub use stream::run_explain;
+pub use unreadable::show_fault;

@@ -1,9 +1,8 @@
 //! Pictures of lanes.
 use crate::lane_list::{has_lane, lanes_of};
 use tl_lanes::{Mask, WIDEST};
-use tl_remarks::Seen;
-use tl_unreadable::Piece::{Byte, Column, Text};
-use tl_unreadable::{Page, Piece};
+use tl_remarks::Piece::{Byte, Text};
+use tl_remarks::{Page, Piece, Seen};
 
 /// How many lanes stand in a row.
 pub const ROW: usize = 16;
@@ -83,31 +82,43 @@ impl<'a> Picture<'a> {
         }
     }
 
-    /// How many digits the number of a lane has room for: as many as that of the bus's last lane has, and
-    /// two at least; and the blanks before a byte below it.
-    fn room(&self) -> (usize, &'static str) {
+    /// The blanks before a byte below the number of its lane, which has room for one digit more than these: for
+    /// as many as that of the bus's last lane has, and two at least.
+    fn blanks(&self) -> &'static str {
         if self.lanes.len() <= TWO_DIGITS {
-            (2, " ")
+            " "
         } else {
-            (3, "  ")
+            "  "
         }
     }
 
-    /// Writes the lanes from `from` on, at most a row of them, highest first: their numbers, and
-    /// below them their bytes.
+    /// Writes the numbers of so many lanes from `from` on, highest first.
+    fn put_numbers(&self, out: &mut Page, from: usize, count: usize) {
+        let room = self.blanks().len().saturating_add(1);
+        for back in 0..count {
+            let lane = from.saturating_add(count - 1 - back);
+            out.put_column(lane as u64, room);
+        }
+    }
+
+    /// Writes what stands on these lanes.
+    fn put_lanes(&self, out: &mut Page, from: usize, count: usize) {
+        let blanks = self.blanks();
+        for back in 0..count {
+            out.put_text(blanks);
+            out.put(self.lane(from.saturating_add(count - 1 - back)));
+        }
+    }
+
+    /// Writes the lanes from `from` on, at most a row of them: their numbers, and below them their bytes.
     fn put_row(&self, out: &mut Page, name: &str, from: usize) {
         let count = self.lanes.len().saturating_sub(from).min(ROW);
-        let (digits, blanks) = self.room();
-        out.put(Text("    lane"));
-        for i in 0..count {
-            out.put(Column(from.saturating_add(count - 1 - i), digits));
-        }
-        out.put_all(&[Text("\n    "), Text(name)]);
-        for i in 0..count {
-            let lane = from.saturating_add(count - 1 - i);
-            out.put_all(&[Text(blanks), self.lane(lane)]);
-        }
-        out.put(Text("\n"));
+        out.put_text("    lane");
+        self.put_numbers(out, from, count);
+        out.put_text("\n    ");
+        out.put_text(name);
+        self.put_lanes(out, from, count);
+        out.put_text("\n");
     }
 
     /// Writes all lanes of a beat, highest first, in rows of 16.

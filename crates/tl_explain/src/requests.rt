@@ -2,7 +2,7 @@
 use crate::held::Held;
 use std::alloc::{AllocError, Global};
 use tl_msg::{Beat, ChA, SourceId, Verdict};
-use tl_remarks::{Cursor, accepted, seen_of};
+use tl_remarks::{Cursor, Seen, Told, accepted};
 
 /// How many sources there are, by the bits of a [`SourceId`].
 const SOURCES: usize = 1 << SourceId::BITS;
@@ -30,63 +30,71 @@ struct Sent {
     is_answered: bool,
 }
 
-/// The requests in the order of A, and for each source where its first one without an answer stands,
-/// and its last one.
+impl Sent {
+    /// That which begins with this beat of A, in this line.
+    fn of(beat: &Seen, line: u64) -> Sent {
+        Sent {
+            request: Request {
+                source: beat.source,
+                size: beat.size,
+                address: beat.address,
+                line,
+            },
+            next: NONE,
+            is_answered: false,
+        }
+    }
+}
+
+/// The requests in the order of A, and for each source where its first one without an answer stands.
 #[derive(Drop)]
 pub struct Requests {
     sent: Vec<Sent>,
     open: Vec<usize>,
-    last: Vec<usize>,
     /// The request that the beat waits for that waits on D, where A did not accept it.
     pub held_request: Option<Held>,
     /// The response that the beat waits for that waits on A, where D did not accept it.
     pub held_response: Option<Held>,
 }
 
-/// What a table has for this source.
-fn place(table: &[usize], source: SourceId) -> usize {
-    table.get(source as usize).copied().unwrap_or(NONE)
-}
-
-/// Puts this into a table for this source.
-fn set_place(table: &mut [usize], source: SourceId, at: usize) {
-    if let Some(place) = table.get_mut(source as usize) {
-        *place = at;
+/// Puts this into a table for this source, and gives what was there.
+fn put_place(open: &mut [usize], source: SourceId, at: usize) -> usize {
+    match open.get_mut(source as usize) {
+        Some(place) => {
+            let before = *place;
+            *place = at;
+            before
+        }
+        None => NONE,
     }
 }
 
 impl Requests {
-    /// No request. The tables of all sources take their memory here.
+    /// No request. The table of all sources takes its memory here.
     pub fn new(alloc: Global) -> Result<Requests, AllocError> {
         let open = vec![in alloc; NONE; SOURCES]?;
-        let last = vec![in alloc; NONE; SOURCES]?;
-        let sent = Vec::new(alloc);
         Ok(Requests {
-            sent,
+            sent: Vec::new(alloc),
             open,
-            last,
             held_request: None,
             held_response: None,
         })
     }
 
-    /// Adds one more request.
-    fn push(&mut self, request: Request) -> Result<(), AllocError> {
-        let (at, source) = (self.sent.len(), request.source);
-        let sent = Sent {
-            request,
-            next: NONE,
-            is_answered: false,
-        };
-        self.sent.push(sent)?;
-        if let Some(last) = self.sent.get_mut(place(&self.last, source)) {
-            last.next = at;
+    /// Where the first request of this source stands that has no answer.
+    fn place(&self, source: SourceId) -> usize {
+        self.open.get(source as usize).copied().unwrap_or(NONE)
+    }
+
+    /// Opens all requests, the last one first.
+    fn open_all(&mut self) {
+        let count = self.sent.len();
+        for back in 0..count {
+            let at = count - 1 - back;
+            if let Some(sent) = self.sent.get_mut(at) {
+                sent.next = put_place(&mut self.open, sent.request.source, at);
+            }
         }
-        if place(&self.open, source) == NONE {
-            set_place(&mut self.open, source, at);
-        }
-        set_place(&mut self.last, source, at);
-        Ok(())
     }
 
     /// Adds the requests that these beats of A begin, of which those are accepted that this verdict says.
@@ -101,39 +109,40 @@ impl Requests {
         for beat in beats.get(..accepted(verdict)).unwrap_or(beats) {
             cursor.seek(letters, b'A');
             if left == 0 {
-                let seen = seen_of::<ChA, W>(beat, 1);
+                let seen = ChA::seen(beat.head);
                 left = seen.beats(W);
-                self.push(Request {
-                    source: seen.source,
-                    size: seen.size,
-                    address: seen.address,
-                    line: cursor.line(),
-                })?;
+                self.sent.push(Sent::of(&seen, cursor.line()))?;
             }
             left = left.saturating_sub(1);
         }
+        self.open_all();
         Ok(())
     }
 
     /// The first request of this source that no response has answered.
     pub fn open(&self, source: SourceId) -> Option<Request> {
-        let sent = self.sent.get(place(&self.open, source))?;
+        let sent = self.sent.get(self.place(source))?;
         Some(sent.request)
     }
 
     /// The same, which is answered from now on.
     pub fn answer(&mut self, source: SourceId) -> Option<Request> {
-        let sent = self.sent.get_mut(place(&self.open, source))?;
+        let at = self.place(source);
+        let sent = self.sent.get_mut(at)?;
         sent.is_answered = true;
-        let (request, next) = (sent.request, sent.next);
-        set_place(&mut self.open, source, next);
-        Some(request)
+        put_place(&mut self.open, source, sent.next);
+        Some(sent.request)
     }
 
     /// The last request of this source.
     pub fn last(&self, source: SourceId) -> Option<Request> {
-        let sent = self.sent.get(place(&self.last, source))?;
-        Some(sent.request)
+        let mut last = None;
+        for sent in &self.sent {
+            if sent.request.source == source {
+                last = Some(sent.request);
+            }
+        }
+        last
     }
 
     /// The first request of any source that no response has answered.

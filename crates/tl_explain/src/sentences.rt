@@ -6,32 +6,34 @@ use crate::story::{Came, Story, place};
 use crate::walk::{Brought, Walk};
 use crate::words::{put_fields, source_of};
 use tl_msg::SideFault;
-use tl_remarks::Seen;
-use tl_unreadable::Piece::{Coloured, Id, Length, Number, Text};
-use tl_unreadable::{Colour, Page, Piece};
+use tl_remarks::Piece::{Coloured, Id, Length, Number, Text};
+use tl_remarks::{Colour, Page, Piece, Seen};
 
 /// Writes why a beat of A waits: its source is busy with its last request.
 fn put_busy(out: &mut Page, beat: &Seen, requests: &Requests) {
-    out.say(
-        "source # still waits for the response to its ",
-        &[source_of(beat)],
-    );
+    let source = source_of(beat);
     match requests.last(beat.source) {
-        Some(request) => out.say("request in line #", &[Number(request.line)]),
-        None => out.put(Text("last request")),
+        Some(request) => out.say(
+            "source # still waits for the response to its request in line #",
+            &[source, Number(request.line)],
+        ),
+        None => out.say(
+            "source # still waits for the response to its last request",
+            &[source],
+        ),
     }
     match requests.held_response {
         Some(response) => {
-            out.put(Text(": its response in line "));
+            out.put_text(": its response in line ");
             response.put(out);
         }
-        None => out.put(Text(": answer it on D, or use another source")),
+        None => out.put_text(": answer it on D, or use another source"),
     }
 }
 
 /// Writes that no request has the source of a beat of D, and the first request that waits.
 fn put_none_sent(out: &mut Page, beat: &Seen, first_open: Option<Request>) {
-    out.put(Text(": send one on A, or mend the source"));
+    out.put_text(": send one on A, or mend the source");
     if let Some(request) = first_open {
         let waits = "; the first request that waits is of source #, in line #";
         let source = Id(request.source, beat.version);
@@ -51,16 +53,16 @@ fn put_no_request(out: &mut Page, beat: &Seen, requests: &Requests) {
         "no request of source # waits for a response",
         &[source_of(beat)],
     );
-    match (requests.held_request, requests.last(beat.source)) {
-        (Some(held), _) => {
-            out.put(Text(": that in line "));
-            held.put(out);
-        }
-        (None, Some(last)) => out.say(
+    if let Some(held) = requests.held_request {
+        out.put_text(": that in line ");
+        return held.put(out);
+    }
+    match requests.last(beat.source) {
+        Some(last) => out.say(
             ": its last one, in line #, is answered",
             &[Number(last.line)],
         ),
-        (None, None) => put_none_sent(out, beat, requests.first_open()),
+        None => put_none_sent(out, beat, requests.first_open()),
     }
 }
 
@@ -72,7 +74,7 @@ fn put_mismatch(out: &mut Page, beat: &Seen, open: Option<Request>) {
             ", but its request, in line #, is of #",
             &[Number(request.line), Length(request.size)],
         ),
-        None => out.put(Text(", but its request is of another size")),
+        None => out.put_text(", but its request is of another size"),
     }
 }
 

@@ -2,8 +2,8 @@
 use crate::look::Choice;
 use crate::story::{Fares, LETTERS, Story};
 use tl_msg::SourceId;
-use tl_unreadable::Page;
-use tl_unreadable::Piece::Number;
+use tl_remarks::Page;
+use tl_remarks::Piece::Number;
 
 /// What is said of a line that is shown, or of several whose beats were not offered.
 #[derive(Clone, Copy, Default)]

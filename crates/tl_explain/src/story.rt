@@ -6,15 +6,13 @@ use crate::fate::Fate;
 use crate::held::Stop;
 use crate::look::{Choice, Look};
 use crate::picture::put_picture;
-use crate::remarks::put_remark;
 use crate::requests::Requests;
 use crate::shown::{Item, Run};
 use crate::walk::Walk;
 use std::alloc::Global;
 use tl_msg::Verdict;
-use tl_remarks::{Noted, Remark, Seen};
-use tl_unreadable::Page;
-use tl_unreadable::Piece::{Letter, Number};
+use tl_remarks::Piece::{Letter, Number};
+use tl_remarks::{Noted, Page, Remark, Seen, put_remark};
 
 /// How the beat of a line fares.
 #[derive(Clone, Copy, PartialEq, Eq, Default)]
@@ -57,7 +55,7 @@ pub struct Story {
     pub stops: Vec<Stop>,
     /// How far the lines of the channels have come, from A to E, but for the channel of the line that is
     /// told: that one's is `walk`, which is of no channel before the first line.
-    walks: Vec<Walk>,
+    walks: [Walk; 5],
     pub walk: Walk,
     /// The number of the line that is told, its digits, whether it is shown, and what is noted of it.
     line: u64,
@@ -112,7 +110,7 @@ impl Story {
         look: &Look,
         requests: Requests,
         noted: Noted,
-        walks: Vec<Walk>,
+        walks: [Walk; 5],
     ) -> Story {
         Story {
             page: Page::new(alloc, look.colour),

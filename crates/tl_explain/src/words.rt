@@ -1,7 +1,6 @@
 //! A beat in words.
-use tl_remarks::Seen;
-use tl_unreadable::Page;
-use tl_unreadable::Piece::{self, Id, Name, Opcode, Text};
+use tl_remarks::Piece::{self, Id, Name, Opcode, Text};
+use tl_remarks::{Page, Seen};
 
 /// The message's name, as the standard spells it.
 pub fn name_of(beat: &Seen) -> Piece<'static> {

@@ -1,4 +1,5 @@
 //! A beat with its lanes.
+use crate::html::Part::{Markup, Number, Text};
 use crate::html::{Html, ascii};
 use tl_explain::{Cell, Drawn, Picture, ROW, Scene};
 
@@ -8,13 +9,13 @@ fn put_cell(html: &mut Html, cell: Cell) {
         Cell::Byte(byte) => {
             html.put("<td>");
             html.byte(byte);
+            html.put("</td>");
         }
-        Cell::Idle => html.put("<td class=\"idle\">"),
-        Cell::Wrong => html.put("<td class=\"wrong\">!!"),
-        Cell::Masked => html.put("<td class=\"masked\">--"),
-        Cell::Empty => html.put("<td class=\"empty\">"),
+        Cell::Idle => html.put("<td class=\"idle\"></td>"),
+        Cell::Wrong => html.put("<td class=\"wrong\">!!</td>"),
+        Cell::Masked => html.put("<td class=\"masked\">--</td>"),
+        Cell::Empty => html.put("<td class=\"empty\"></td>"),
     }
-    html.put("</td>");
 }
 
 /// Writes the lanes of a picture, highest first, in rows.
@@ -39,31 +40,33 @@ fn put_lanes(html: &mut Html, drawn: &Drawn, picture: &Picture<'_>) {
     let lane = (home as usize).wrapping_add(drawn.first_byte) % width;
     html.put("<table");
     if drawn.message != 0 {
-        html.attribute("data-message", drawn.message);
-        html.attribute("data-byte", drawn.first_byte as u64);
-        html.attribute("data-lane", lane as u64);
-        html.attribute("data-count", length.min(width) as u64);
+        html.say(
+            " data-message=\"@\" data-byte=\"@\" data-lane=\"@\" data-count=\"@\"",
+            &[
+                Number(drawn.message),
+                Number(drawn.first_byte as u64),
+                Number(lane as u64),
+                Number(length.min(width) as u64),
+            ],
+        );
     }
-    html.put(" style=\"--width:");
-    html.number(width as u64);
-    html.put("\"><tbody>");
+    html.say(" style=\"--width:@\"><tbody>", &[Number(width as u64)]);
     put_cells(html, picture);
     html.put("</tbody></table>");
 }
 
 /// Writes a beat: its line, and its lanes where it has any to show.
 pub fn put_beat(html: &mut Html, scene: &Scene, drawn: &Drawn) {
-    html.put(if drawn.is_far {
-        "<figure class=\"far\"><figcaption><span>far</span> <code>"
+    let side = Markup(if drawn.is_far { "far" } else { "near" });
+    html.say(
+        "<figure class=\"@\"><figcaption><span>@</span> <code>@</code>",
+        &[side, side, Text(ascii(scene.line(drawn)))],
+    );
+    html.put(if drawn.beat.corrupt {
+        " <em>corrupt</em></figcaption>"
     } else {
-        "<figure class=\"near\"><figcaption><span>near</span> <code>"
+        "</figcaption>"
     });
-    html.text(ascii(scene.line(drawn)));
-    html.put("</code>");
-    if drawn.beat.corrupt {
-        html.put(" <em>corrupt</em>");
-    }
-    html.put("</figcaption>");
     if let Some(picture) = scene.picture(drawn) {
         put_lanes(html, drawn, &picture);
     }

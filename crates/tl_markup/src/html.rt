@@ -1,10 +1,22 @@
 //! A page that is written piece by piece.
 use itoa::Buffer;
 use std::alloc::{AllocError, Global};
-use tl_unreadable::put_escaped;
+use tl_escape::put_escaped;
 
 /// The digits of a byte.
 const DIGITS: &[u8; 16] = b"0123456789abcdef";
+
+/// A part of a page.
+#[derive(Clone, Copy)]
+pub enum Part<'a> {
+    /// This crate's own.
+    Markup(&'static str),
+    /// Whatever it is.
+    Text(&'a str),
+    Number(u64),
+}
+
+use Part::{Markup, Number, Text};
 
 /// A page that is written piece by piece. Whether memory was there for all pieces is asked once, at the
 /// end.
@@ -46,7 +58,7 @@ impl Html {
     }
 
     /// Writes a number in decimal digits.
-    pub fn number(&mut self, number: u64) {
+    fn number(&mut self, number: u64) {
         let mut buffer = Buffer::new();
         self.text(buffer.format(number));
     }
@@ -59,13 +71,22 @@ impl Html {
         }
     }
 
-    /// Writes an attribute that has a number, behind a space.
-    pub fn attribute(&mut self, name: &'static str, number: u64) {
-        self.put(" ");
-        self.put(name);
-        self.put("=\"");
-        self.number(number);
-        self.put("\"");
+    /// Writes markup, in which each `@` stands for the next of these parts.
+    pub fn say(&mut self, markup: &'static str, parts: &[Part<'_>]) {
+        let mut rest = markup;
+        for part in parts {
+            let Some((before, after)) = rest.split_once("@") else {
+                break;
+            };
+            self.put(before);
+            match *part {
+                Markup(markup) => self.put(markup),
+                Text(text) => self.text(text),
+                Number(number) => self.number(number),
+            }
+            rest = after;
+        }
+        self.put(rest);
     }
 }
 

@@ -1,8 +1,10 @@
-//! Whole pages.
+//! Whole pages for a browser.
+use crate::html::Part::Text;
 use crate::html::{Html, ascii};
 use crate::row::put_rows;
+use crate::sentence::put_paragraphs;
 use crate::style::{BEGINNING, END, LEGEND, SCRIPT, STYLE};
-use crate::summary::{put_answer, put_columns, put_cuts, put_heads};
+use crate::summary::{put_answer, put_columns, put_heads};
 use std::alloc::{AllocError, Global};
 use tl_explain::Scene;
 
@@ -22,7 +24,7 @@ fn put_scene(html: &mut Html, scene: &Scene) {
     html.put("<div class=\"row\">");
     put_rows(html, scene);
     html.put("</div>");
-    put_cuts(html, scene);
+    put_paragraphs(html, scene, "<p class=\"cut\">", scene.cuts());
     html.put(LEGEND);
     html.put(SCRIPT);
     html.put(END);
@@ -39,9 +41,10 @@ pub fn markup_of(alloc: Global, scene: Scene) -> Result<Vec<u8>, AllocError> {
 /// The page of a text that is no trace, of which this is said.
 pub fn fault_markup(alloc: Global, said: &[u8]) -> Result<Vec<u8>, AllocError> {
     let mut html = begun(alloc);
-    html.put("<header><h1>No trace</h1></header><main><pre class=\"fault\">");
-    html.text(ascii(said));
-    html.put("</pre></main>");
+    html.say(
+        "<header><h1>No trace</h1></header><main><pre class=\"fault\">@</pre></main>",
+        &[Text(ascii(said))],
+    );
     html.put(END);
     html.into_text()
 }

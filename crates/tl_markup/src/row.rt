@@ -1,7 +1,8 @@
 //! The lines of a trace: those of different channels side by side, where they follow each other so.
 use crate::beat::put_beat;
+use crate::html::Part::{Markup, Number, Text};
 use crate::html::{Html, ascii};
-use crate::sentence::{put_link, put_sentence};
+use crate::sentence::{put_link, put_paragraphs, put_sentence};
 use tl_explain::{Fares, Item, Scene};
 
 /// How many colours there are for messages.
@@ -34,13 +35,12 @@ fn put_said(html: &mut Html, scene: &Scene, sentence: &str) {
     let (line, said) = sentence.split_once(": ").unwrap_or((sentence, ""));
     let (beat, came) = said.split_once(": ").unwrap_or((said, ""));
     let (name, fields) = beat.split_once(", ").unwrap_or((beat, ""));
-    html.put("<h3>");
-    html.text(name);
-    html.put(" <small>");
+    html.say("<h3>@ <small>", &[Text(name)]);
     put_sentence(html, scene, line);
-    html.put("</small></h3><p class=\"fields\">");
-    html.text(fields);
-    html.put("</p><p class=\"came\">");
+    html.say(
+        "</small></h3><p class=\"fields\">@</p><p class=\"came\">",
+        &[Text(fields)],
+    );
     put_sentence(html, scene, came);
 }
 
@@ -54,22 +54,13 @@ fn put_answered(html: &mut Html, scene: &Scene, item: &Item) {
     html.put("</p>");
 }
 
-/// Writes the remarks on a line.
-fn put_remarks(html: &mut Html, scene: &Scene, item: &Item) {
-    for remark in ascii(scene.remarks(item)).lines() {
-        html.put("<p class=\"remark\">");
-        put_sentence(html, scene, remark.trim_ascii());
-        html.put("</p>");
-    }
-}
-
 /// Writes by which message and exchange a line is known, and in which colour.
 fn put_exchange(html: &mut Html, exchange: u64) {
     if exchange != 0 {
-        html.attribute("data-exchange", exchange);
-        html.put(" style=\"--hue:");
-        html.number(exchange % HUES);
-        html.put("\"");
+        html.say(
+            " data-exchange=\"@\" style=\"--hue:@\"",
+            &[Number(exchange), Number(exchange % HUES)],
+        );
     }
 }
 
@@ -77,12 +68,14 @@ fn put_exchange(html: &mut Html, exchange: u64) {
 fn put_line(html: &mut Html, scene: &Scene, item: &Item) {
     let beats = scene.beats(item);
     let message = beats.first().map_or(0, |beat| beat.message);
-    html.put("<article tabindex=\"0\" class=\"beat ");
-    html.put(fares_class(item.fares));
-    html.put(channel_class(item.letter));
-    html.put("\" id=\"line-");
-    html.number(item.line);
-    html.put("\"");
+    html.say(
+        "<article tabindex=\"0\" class=\"beat @@\" id=\"line-@\"",
+        &[
+            Markup(fares_class(item.fares)),
+            Markup(channel_class(item.letter)),
+            Number(item.line),
+        ],
+    );
     put_exchange(html, scene.exchange(message));
     html.put(">");
     put_said(html, scene, ascii(scene.sentence(item)).trim_ascii());
@@ -90,15 +83,13 @@ fn put_line(html: &mut Html, scene: &Scene, item: &Item) {
     for beat in beats {
         put_beat(html, scene, beat);
     }
-    put_remarks(html, scene, item);
+    put_paragraphs(html, scene, "<p class=\"remark\">", scene.remarks(item));
     html.put("</article>");
 }
 
 /// Writes lines whose beats were not offered.
 fn put_run(html: &mut Html, scene: &Scene, item: &Item) {
-    html.put("<p class=\"run\" id=\"line-");
-    html.number(item.line);
-    html.put("\">");
+    html.say("<p class=\"run\" id=\"line-@\">", &[Number(item.line)]);
     put_sentence(html, scene, ascii(scene.sentence(item)).trim_ascii());
     html.put("</p>");
 }

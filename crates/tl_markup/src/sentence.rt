@@ -1,24 +1,21 @@
 //! Sentences in which lines are links.
-use crate::html::Html;
+use crate::html::Part::{Number, Text};
+use crate::html::{Html, ascii};
 use tl_explain::Scene;
 
 /// Writes a link to a line.
 pub fn put_link(html: &mut Html, line: u64) {
-    html.put("<a href=\"#line-");
-    html.number(line);
-    html.put("\">line ");
-    html.number(line);
-    html.put("</a>");
+    html.say(
+        "<a href=\"#line-@\">line @</a>",
+        &[Number(line), Number(line)],
+    );
 }
 
 /// Writes `line ` and the digits behind it, as a link where the page has that line.
 fn put_line(html: &mut Html, scene: &Scene, digits: &str) {
     match digits.parse::<u64>() {
         Ok(line) if scene.ties(line).is_shown => put_link(html, line),
-        _ => {
-            html.put("line ");
-            html.text(digits);
-        }
+        _ => html.say("line @", &[Text(digits)]),
     }
 }
 
@@ -46,4 +43,13 @@ pub fn put_sentence(html: &mut Html, scene: &Scene, sentence: &str) {
         rest = after.get(count..).unwrap_or("");
     }
     html.text(rest);
+}
+
+/// Writes sentences, a line each, as paragraphs that begin so.
+pub fn put_paragraphs(html: &mut Html, scene: &Scene, begin: &'static str, sentences: &[u8]) {
+    for sentence in ascii(sentences).lines() {
+        html.put(begin);
+        put_sentence(html, scene, sentence.trim_ascii());
+        html.put("</p>");
+    }
 }

@@ -1,7 +1,7 @@
 //! What a page says of the whole trace.
+use crate::html::Part::{Markup, Number, Text};
 use crate::html::{Html, ascii};
 use crate::row::channel_class;
-use crate::sentence::put_sentence;
 use tl_explain::{ROW, Scene};
 
 /// The letters of the channels.
@@ -47,37 +47,35 @@ pub fn put_columns(html: &mut Html, scene: &Scene) {
     for letter in LETTERS {
         if is_shown(scene, *letter) {
             count = count.saturating_add(1);
-            html.put("--");
-            html.put(channel_class(*letter));
-            html.put(":");
-            html.number(count);
-            html.put(";");
+            html.say("--@:@;", &[Markup(channel_class(*letter)), Number(count)]);
         }
     }
-    html.put("--count:");
-    html.number(count.max(1));
-    html.put(";--lanes:");
-    html.number(longest_row(scene) as u64);
-    html.put("\">");
+    html.say(
+        "--count:@;--lanes:@\">",
+        &[Number(count.max(1)), Number(longest_row(scene) as u64)],
+    );
 }
 
-/// Writes the heads of the channels: which way they go, and how each ended.
+/// Writes the head of a channel: which way it goes, and how it ended.
+fn put_head(html: &mut Html, answer: &str, letter: u8) {
+    let way = match letter {
+        b'B' | b'D' => "manager to client",
+        _ => "client to manager",
+    };
+    let class = Markup(channel_class(letter));
+    html.say(
+        "<h2 class=\"@\">@ <small>@, @</small></h2>",
+        &[class, class, Markup(way), Text(report_of(answer, letter))],
+    );
+}
+
+/// Writes the heads of the channels that have a line.
 pub fn put_heads(html: &mut Html, scene: &Scene) {
     let answer = ascii(&scene.answer.text);
     html.put("<div class=\"heads row\">");
     for letter in LETTERS {
         if is_shown(scene, *letter) {
-            html.put("<h2 class=\"");
-            html.put(channel_class(*letter));
-            html.put("\">");
-            html.put(channel_class(*letter));
-            html.put(match letter {
-                b'B' | b'D' => " <small>manager to client",
-                _ => " <small>client to manager",
-            });
-            html.put(", ");
-            html.text(report_of(answer, *letter));
-            html.put("</small></h2>");
+            put_head(html, answer, *letter);
         }
     }
     html.put("</div>");
@@ -85,16 +83,8 @@ pub fn put_heads(html: &mut Html, scene: &Scene) {
 
 /// Writes the answer to the trace, and at its side what the header says.
 pub fn put_answer(html: &mut Html, scene: &Scene) {
-    html.put("<header><h1>What came of each beat</h1><pre class=\"answer\">");
-    html.text(ascii(&scene.answer.text));
-    html.put("</pre></header>");
-}
-
-/// Writes where channels end within a burst.
-pub fn put_cuts(html: &mut Html, scene: &Scene) {
-    for cut in ascii(scene.cuts()).lines() {
-        html.put("<p class=\"cut\">");
-        put_sentence(html, scene, cut);
-        html.put("</p>");
-    }
+    html.say(
+        "<header><h1>What came of each beat</h1><pre class=\"answer\">@</pre></header>",
+        &[Text(ascii(&scene.answer.text))],
+    );
 }

@@ -1,8 +1,7 @@
-//! What came of a trace as a page for a browser: one file, which asks for nothing else.
+//! From the bytes that come in to what is said of them, in sentences or as a page for a browser: one file,
+//! which asks for nothing else.
 #![tactic(auto)]
 
-mod page;
-mod stream;
+mod run;
 
-pub use stream::run_page;
-pub use tl_unreadable::put_escaped;
+pub use run::run_explain;

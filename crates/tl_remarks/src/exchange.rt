@@ -114,14 +114,6 @@ impl Open {
         }
     }
 
-    /// What is remarked on the message at this place, if nothing answers it.
-    fn rule_on(&self, at: usize) -> Option<Rule> {
-        match self.standing.get(at) {
-            Some(message) if !message.is_answered => Some(Rule::NotAnswered),
-            _ => None,
-        }
-    }
-
     /// The place of the first one of this key, which is answered from now on.
     fn take(&mut self, key: Key) -> usize {
         let at = self.first.get(key);
@@ -131,12 +123,6 @@ impl Open {
         }
         at
     }
-}
-
-/// Notes that a message answers another one, and what does not fit of it.
-fn note_answer(noted: &mut Noted, ask: &Message, answer: &Message) {
-    noted.push_pair(ask.line, answer.line);
-    noted.push_remark(rule_of(ask, answer), answer, ask);
 }
 
 impl Exchange {
@@ -167,7 +153,8 @@ impl Exchange {
         for answer in &self.answers {
             let at = open.take(answer.key);
             if let Some(ask) = self.asks.get(at) {
-                note_answer(noted, ask, answer);
+                noted.push_pair(ask.line, answer.line);
+                noted.push_remark(rule_of(ask, answer), answer, ask);
             } else if knows_asks {
                 noted.push_remark(Some(Rule::AnswersNothing), answer, &Message::default());
             }
@@ -176,27 +163,25 @@ impl Exchange {
 
     /// Remarks on the messages that have no answer.
     fn judge_asks(&self, open: &Open, noted: &mut Noted) {
-        for at in 0..self.asks.len() {
-            noted.push_remark(open.rule_on(at), &self.asks[at], &Message::default());
+        for (ask, message) in self.asks.iter().zip(&open.standing) {
+            if !message.is_answered {
+                noted.push_remark(Some(Rule::NotAnswered), ask, &Message::default());
+            }
         }
     }
 
-    /// Remarks on all messages, over none of them that waits yet. A channel of which not all beats were
-    /// accepted may lack messages.
-    fn judge_over(&self, open: &mut Open, verdicts: &[Verdict; 5], noted: &mut Noted) {
+    /// Remarks on all messages, where the channels end with these verdicts. A channel of which not all beats
+    /// were accepted may lack messages.
+    pub fn judge(&self, alloc: Global, verdicts: &[Verdict; 5], noted: &mut Noted) {
+        let Ok(mut open) = Open::new(alloc, self.asks.len()) else {
+            noted.lacks_a_piece = true;
+            return;
+        };
         open.add(&self.asks);
-        self.judge_answers(open, is_whole(verdicts, self.asks_on), noted);
+        self.judge_answers(&mut open, is_whole(verdicts, self.asks_on), noted);
         noted.lacks_a_piece |= open.first.lacks_a_piece;
         if is_whole(verdicts, self.answers_on) {
-            self.judge_asks(open, noted);
-        }
-    }
-
-    /// Remarks on all messages, where the channels end with these verdicts.
-    pub fn judge(&self, alloc: Global, verdicts: &[Verdict; 5], noted: &mut Noted) {
-        match Open::new(alloc, self.asks.len()) {
-            Ok(mut open) => self.judge_over(&mut open, verdicts, noted),
-            Err(_) => noted.lacks_a_piece = true,
+            self.judge_asks(&open, noted);
         }
     }
 }

@@ -4,7 +4,7 @@ ghost use Rattle.tl_lanes.specs.Lanes.{IsWidth};
 use crate::exchange::Exchange;
 use crate::fits::N_TO_B;
 use crate::lines::Cursor;
-use crate::remark::{Key, Message, Noted, Rule};
+use crate::remark::{Key, Message, Noted, Rule, Wanted};
 use crate::seen::{Seen, Told, seen_of};
 use std::alloc::{AllocError, Global};
 use tl_msg::{Beat, ChA, ChB, ChC, ChD, ChE, Kind, Verdict};
@@ -82,7 +82,7 @@ fn exchange_of(beat: &Seen) -> (usize, bool) {
 }
 
 impl Notes {
-    fn new(alloc: Global, has_pairs: bool) -> Notes {
+    fn new(alloc: Global, wanted: Wanted) -> Notes {
         Notes {
             exchanges: [
                 Exchange::new(alloc, 0, 3),
@@ -90,7 +90,7 @@ impl Notes {
                 Exchange::new(alloc, 2, 3),
                 Exchange::new(alloc, 3, 4),
             ],
-            noted: Noted::new(alloc, has_pairs),
+            noted: Noted::new(alloc, wanted),
         }
     }
 
@@ -145,19 +145,18 @@ pub fn accepted(verdict: &Verdict) -> usize {
     }
 }
 
-/// Adds the beats of a channel with this letter that were accepted.
+/// Adds the beats of a channel that were accepted.
 fn add_channel<K: Told, const W: usize>(
     notes: &mut Notes,
     letters: &[u8],
-    letter: u8,
     verdict: &Verdict,
     beats: &[Beat<K, W>],
 ) {
     let mut cursor = Cursor::default();
     let mut left = 0usize;
     for beat in beats.get(..accepted(verdict)).unwrap_or(beats) {
-        cursor.seek(letters, letter);
         let seen = seen_of::<K, W>(beat, 1);
+        cursor.seek(letters, seen.letter);
         let begins = left == 0;
         if begins {
             left = seen.beats(W);
@@ -177,16 +176,16 @@ fn add_script<const C: usize, const M: usize>(
     requires { IsWidth C × IsWidth M }
 {
     let [a, b, c, d, e] = verdicts;
-    add_channel::<ChA, C>(notes, letters, b'A', a, &script.a);
-    add_channel::<ChB, M>(notes, letters, b'B', b, &script.b);
-    add_channel::<ChC, C>(notes, letters, b'C', c, &script.c);
-    add_channel::<ChD, M>(notes, letters, b'D', d, &script.d);
-    add_channel::<ChE, C>(notes, letters, b'E', e, &script.e);
+    add_channel::<ChA, C>(notes, letters, a, &script.a);
+    add_channel::<ChB, M>(notes, letters, b, &script.b);
+    add_channel::<ChC, C>(notes, letters, c, &script.c);
+    add_channel::<ChD, M>(notes, letters, d, &script.d);
+    add_channel::<ChE, C>(notes, letters, e, &script.e);
 }
 
 /// The remarks on the accepted messages of a script whose channels end with these verdicts, from A to E,
-/// in the order of their lines; and, where `has_pairs` says so, the pairs of a message and its answer, those
-/// of A, B, C and D in this order. `letters` are those of the text that tells the script.
+/// in the order of their lines; and the pairs of a message and its answer, those of A, B, C and D in this order;
+/// each where it is wanted. `letters` are those of the text that tells the script.
 ///
 /// Messages and answers are matched by their order within source, sink, or source and address. That one
 /// has no partner is remarked only where no beat of the partner's channel was held back.
@@ -195,13 +194,15 @@ pub fn notes_of<const C: usize, const M: usize>(
     letters: &[u8],
     script: &Script<C, M>,
     verdicts: &[Verdict; 5],
-    has_pairs: bool,
+    wanted: Wanted,
 ) -> Result<Noted, AllocError>
     requires { IsWidth C × IsWidth M }
 {
-    let mut notes = Notes::new(alloc, has_pairs);
-    add_script::<C, M>(&mut notes, letters, script, verdicts);
-    notes.judge(alloc, verdicts);
+    let mut notes = Notes::new(alloc, wanted);
+    if wanted.remarks | wanted.pairs {
+        add_script::<C, M>(&mut notes, letters, script, verdicts);
+        notes.judge(alloc, verdicts);
+    }
     let Notes { noted, .. } = notes;
     if noted.lacks_a_piece {
         return Err(AllocError);

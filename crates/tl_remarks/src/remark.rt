@@ -30,7 +30,7 @@ pub struct Message {
 }
 
 /// What is remarked on a message, by the SiFive TileLink Specification 1.8.
-#[derive(Clone, Copy, PartialEq, Eq)]
+#[derive(Clone, Copy)]
 pub enum Rule {
     /// It is no response to its partner, the request that it answers.
     OtherResponse,
@@ -65,30 +65,38 @@ pub struct Pair {
     pub answer: u64,
 }
 
-/// What was found of the messages of a trace. Whether memory was there for all of it is asked once, at the end.
+/// What is to be noted of the messages of a trace.
+#[derive(Clone, Copy)]
+pub struct Wanted {
+    pub remarks: bool,
+    /// Messages and their answers.
+    pub pairs: bool,
+}
+
+/// What was found of the messages of a trace, as far as it is wanted. Whether memory was there for all of it is
+/// asked once, at the end.
 #[derive(Drop)]
 pub struct Noted {
     pub remarks: Vec<Remark>,
-    /// Messages and their answers, where these are asked for.
     pub pairs: Vec<Pair>,
-    has_pairs: bool,
+    pub(crate) wanted: Wanted,
     pub(crate) lacks_a_piece: bool,
 }
 
 impl Noted {
-    /// Nothing. Where `has_pairs` says so, messages and their answers will be noted.
-    pub fn new(alloc: Global, has_pairs: bool) -> Noted {
+    /// Nothing yet.
+    pub(crate) fn new(alloc: Global, wanted: Wanted) -> Noted {
         Noted {
             remarks: Vec::new(alloc),
             pairs: Vec::new(alloc),
-            has_pairs,
+            wanted,
             lacks_a_piece: false,
         }
     }
 
-    /// Adds a remark, where there is one.
+    /// Adds a remark, where there is one, and remarks are wanted.
     pub(crate) fn push_remark(&mut self, rule: Option<Rule>, message: &Message, partner: &Message) {
-        if let Some(rule) = rule {
+        if let (Some(rule), true) = (rule, self.wanted.remarks) {
             let remark = Remark {
                 rule,
                 message: *message,
@@ -98,9 +106,9 @@ impl Noted {
         }
     }
 
-    /// Adds a message and its answer, where these are asked for.
+    /// Adds a message and its answer, where these are wanted.
     pub(crate) fn push_pair(&mut self, ask: u64, answer: u64) {
-        if self.has_pairs {
+        if self.wanted.pairs {
             self.lacks_a_piece |= self.pairs.push(Pair { ask, answer }).is_err();
         }
     }

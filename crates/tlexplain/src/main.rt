@@ -5,28 +5,39 @@
 mod words;
 
 use clap::Error;
+use either::{Either, Left, Right};
 use std::alloc::AllocError;
 use std::fs::File;
-use std::io::{self, IsTerminal, Read};
+use std::io::{self, IsTerminal, Stdin};
 use std::process::ExitCode;
 use tl_answer::{FaultLine, TextFault, exit_status};
-use tl_explain::{FAULTS, Look, meaning, run_explain};
-use tl_page::run_page;
+use tl_explain::{FAULTS, Look, meaning};
+use tl_page::run_explain;
 use words::{Wish, not_utf8, wish_of};
 
 /// The program's name, as its lines on standard error begin with it.
 const PROGRAM: &str = "tlexplain";
 
 /// The words of the command line.
-fn words_from(rt: &HostRuntime) -> Result<Vec<String>, Error> {
-    let words = match std::env::args(rt) {
-        Ok(words) => words,
-        Err(error) if error.kind() == io::ErrorKind::OutOfMemory => {
-            return Err(Error::from(AllocError));
-        }
-        Err(_) => return Err(not_utf8(rt.alloc())?),
+fn words_of(rt: &HostRuntime) -> Result<Vec<String>, Error> {
+    match std::env::args(rt) {
+        Ok(words) => Ok(words.collect(rt.alloc())?),
+        Err(error) if error.kind() == io::ErrorKind::OutOfMemory => Err(Error::from(AllocError)),
+        Err(_) => Err(not_utf8(rt.alloc())?),
+    }
+}
+
+/// The file that the command line names, or else standard input. Refused with `Read` where the file
+/// can't be opened.
+fn source_of(rt: &HostRuntime, file: Option<&str>) -> Result<Either<Stdin, File>, TextFault> {
+    let Some(path) = file else {
+        return Ok(Left(rt.stdin()));
     };
-    Ok(words.collect(rt.alloc())?)
+    match File::open(rt, path) {
+        Ok(file) => Ok(Right(file)),
+        Err(error) if error.kind() == io::ErrorKind::OutOfMemory => Err(TextFault::OutOfMemory),
+        Err(_) => Err(TextFault::Read),
+    }
 }
 
 /// The exit status of an ending, after the line of its fault, and what it means where no line of the
@@ -41,7 +52,7 @@ fn status(rt: &HostRuntime, ending: Result<bool, TextFault>) -> ExitCode {
             }
         );
         if !matches!(fault, TextFault::Trace(_)) {
-            let _ = eprint!(rt; "    {}", meaning(&fault));
+            let _ = eprintln!(rt; "    {}", meaning(&fault));
         }
     }
     ExitCode::from(exit_status(&ending))
@@ -58,12 +69,10 @@ fn refuse(rt: &HostRuntime, error: &Error) -> ExitCode {
 
 /// Prints what each fault means.
 fn print_faults(rt: &HostRuntime) -> Result<bool, TextFault> {
-    for line in &FAULTS {
-        if print!(rt; "{line}").is_err() {
-            return Err(TextFault::Write);
-        }
+    match print!(rt; "{FAULTS}") {
+        Ok(()) => Ok(true),
+        Err(_) => Err(TextFault::Write),
     }
-    Ok(true)
 }
 
 /// Whether colours are shown: where standard output is a terminal, and NO_COLOR is not set or empty.
@@ -75,28 +84,14 @@ fn has_colours(rt: &HostRuntime) -> bool {
         }
 }
 
-/// Explains the trace that a reader gives, in text or by a page.
-fn explain_from<R: Read>(rt: &HostRuntime, reader: &mut R, look: &Look) -> Result<bool, TextFault> {
-    if look.page {
-        run_page(rt.alloc(), reader, &mut rt.stdout(), look)
-    } else {
-        run_explain(rt.alloc(), reader, &mut rt.stdout(), look)
-    }
-}
-
 /// Explains the trace of a file, or that on standard input.
 fn explain(rt: &HostRuntime, file: Option<&str>, look: &Look) -> Result<bool, TextFault> {
     let look = Look {
         colour: has_colours(rt),
         ..*look
     };
-    let Some(file) = file else {
-        return explain_from(rt, &mut rt.stdin(), &look);
-    };
-    let Ok(mut file) = File::open(rt, file) else {
-        return Err(TextFault::Read);
-    };
-    explain_from(rt, &mut file, &look)
+    let mut source = source_of(rt, file)?;
+    run_explain(rt.alloc(), &mut source, &mut rt.stdout(), &look)
 }
 
 /// Does what the program is asked to do.
@@ -110,7 +105,7 @@ fn obey(rt: &HostRuntime, wish: &Wish<'_>) -> ExitCode {
 
 /// Does what the command line asks for.
 fn run(rt: &HostRuntime) -> Result<ExitCode, Error> {
-    let words = words_from(rt)?;
+    let words = words_of(rt)?;
     let wish = wish_of(rt.alloc(), &words)?;
     Ok(obey(rt, &wish))
 }

@@ -7,6 +7,10 @@ use tl_explain::{Choice, Look};
 /// The program's version.
 const VERSION: &str = "0.1.0";
 
+/// What the program does, as the help says it.
+const ABOUT: &str =
+    "Says of each line of a TileLink trace what came of it on its way across a clock and width bridge.";
+
 /// What the program is asked to do.
 #[derive(Clone, Copy)]
 pub enum Wish<'a> {
@@ -106,21 +110,14 @@ fn argument<'a>(alloc: Global, word: &Word) -> Arg<'a> {
     }
 }
 
-fn arguments<'a>(alloc: Global) -> Result<Vec<Arg<'a>>, AllocError> {
-    WORDS
-        .iter()
-        .map(|word| argument(alloc, word))
-        .collect(alloc)
-}
-
 fn command<'a>(alloc: Global) -> Result<Command<'a>, AllocError> {
-    let about =
-        "Says of each line of a TileLink trace what came of it on its way across a clock and width bridge.";
-    let arguments = arguments(alloc)?;
-    Command::new(alloc, "tlexplain")
-        .about(about)
-        .version(VERSION)
-        .args(arguments)
+    let mut command = Command::new(alloc, "tlexplain")
+        .about(ABOUT)
+        .version(VERSION);
+    for word in WORDS {
+        command = command.arg(argument(alloc, word))?;
+    }
+    Ok(command)
 }
 
 /// A refusal in these words, below which the usage stands.

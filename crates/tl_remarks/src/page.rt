@@ -21,8 +21,6 @@ pub enum Piece<'a> {
     Coloured(Colour, &'a str),
     Letter(u8),
     Number(u64),
-    /// A number behind a blank, with room for so many digits.
-    Column(usize, usize),
     /// The two digits of a byte.
     Byte(u8),
     Address(u64),
@@ -36,7 +34,7 @@ pub enum Piece<'a> {
     Opcode(u8),
 }
 
-use Piece::{Address, Byte, Coloured, Column, Id, Length, Letter, Name, Number, Opcode, Text};
+use Piece::{Address, Byte, Coloured, Id, Length, Letter, Name, Number, Opcode, Text};
 
 /// The hexadecimal digits, and how many of them a number has at most.
 const DIGITS: &[u8; 16] = b"0123456789abcdef";
@@ -129,7 +127,7 @@ impl Page {
     }
 
     /// Writes a number in decimal digits behind a blank, and behind more where it has fewer digits than so many.
-    fn put_column(&mut self, number: u64, room: usize) {
+    pub fn put_column(&mut self, number: u64, room: usize) {
         let mut buffer = Buffer::new();
         let digits = buffer.format(number).as_bytes();
         for _ in digits.len()..room.saturating_add(1) {
@@ -209,7 +207,6 @@ impl Page {
             Coloured(colour, word) => self.put_coloured(colour, word),
             Letter(letter) => self.put_bytes(&[letter]),
             Number(number) => self.put_number(number),
-            Column(number, room) => self.put_column(number as u64, room),
             Byte(byte) => self.put_hex(byte as u64, 2),
             Address(address) => self.put_address(address),
             Id(id, version) => self.put_id(id, version),
@@ -222,13 +219,6 @@ impl Page {
         }
     }
 
-    /// Writes pieces, one behind the other.
-    pub fn put_all(&mut self, pieces: &[Piece<'_>]) {
-        for piece in pieces {
-            self.put(*piece);
-        }
-    }
-
     /// Writes a sentence, in which each `#` stands for the next of these pieces.
     pub fn say(&mut self, sentence: &str, pieces: &[Piece<'_>]) {
         let mut rest = sentence;
@@ -236,11 +226,11 @@ impl Page {
             let Some((before, after)) = rest.split_once("#") else {
                 break;
             };
-            self.put(Text(before));
+            self.put_text(before);
             self.put(*piece);
             rest = after;
         }
-        self.put(Text(rest));
+        self.put_text(rest);
     }
 
     /// How many bytes there are.

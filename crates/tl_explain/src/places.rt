@@ -1,6 +1,6 @@
 //! What is expected at a place of a line, and what stands there.
-use crate::page::Page;
-use crate::page::Piece::{Byte, Letter, Text};
+use tl_remarks::Page;
+use tl_remarks::Piece::{Byte, Letter, Text};
 
 /// The bytes at the beginning of a text that tell how its characters are written, and what they are.
 const MARKS: [(&[u8], &str); 3] = [
@@ -39,7 +39,7 @@ fn byte_name(byte: u8) -> Option<&'static str> {
 /// Writes a byte: by its name, as a character, or by its digits.
 fn put_byte(out: &mut Page, byte: u8) {
     match byte_name(byte) {
-        Some(name) => out.put(Text(name)),
+        Some(name) => out.put_text(name),
         None if byte.is_ascii_graphic() => out.say("'#'", &[Letter(byte)]),
         None => out.say("the byte #, which is no ASCII", &[Byte(byte)]),
     }
@@ -59,10 +59,10 @@ fn order_mark(text: &[u8]) -> Option<&'static str> {
 pub fn put_found(out: &mut Page, line: &[u8], at: usize) {
     match line.get(at) {
         Some(byte) => {
-            out.put(Text(", found "));
+            out.put_text(", found ");
             put_byte(out, *byte);
         }
-        None => out.put(Text(", but the line ends here")),
+        None => out.put_text(", but the line ends here"),
     }
 }
 
@@ -91,26 +91,26 @@ pub fn put_field(out: &mut Page, form: &[u8], at: usize) {
 /// Writes what has to stand at a place of a line of this form, and what stands there.
 pub fn put_expected(out: &mut Page, line: &[u8], form: &[u8], at: usize) {
     match form.get(at) {
-        Some(b' ') => out.put(Text("expected a space")),
+        Some(b' ') => out.put_text("expected a space"),
         Some(_) => {
-            out.put(Text("expected a digit, 0 to 9 or a to f"));
+            out.put_text("expected a digit, 0 to 9 or a to f");
             put_field(out, form, at);
         }
-        None => out.put(Text("expected the end of the line")),
+        None => out.put_text("expected the end of the line"),
     }
     put_found(out, line, at);
     if line.get(at).is_some_and(|byte| matches!(byte, b'A'..=b'F')) {
-        out.put(Text(": digits are of lower case"));
+        out.put_text(": digits are of lower case");
     }
 }
 
 /// Writes that a line begins with no channel's letter, and what it begins with.
 pub fn put_no_channel(out: &mut Page, line: &[u8]) {
-    out.put(Text("expected a channel's letter, A to E"));
+    out.put_text("expected a channel's letter, A to E");
     match line.first() {
-        None => out.put(Text(": the line is blank, and a trace has no blank lines")),
-        Some(b'#' | b'/' | b';') => out.put(Text(": a trace has no comments")),
-        Some(b'a'..=b'e') => out.put(Text(", of upper case")),
+        None => out.put_text(": the line is blank, and a trace has no blank lines"),
+        Some(b'#' | b'/' | b';') => out.put_text(": a trace has no comments"),
+        Some(b'a'..=b'e') => out.put_text(", of upper case"),
         Some(_) => put_found(out, line, 0),
     }
 }
@@ -134,7 +134,7 @@ pub fn put_no_header(out: &mut Page, line: &[u8]) {
             &[Text(mark)],
         );
     } else if let Some(why) = no_header(line) {
-        out.put(Text(why));
+        out.put_text(why);
     } else if let Some(last) = line.last() {
         put_blank_end(out, *last);
     }
@@ -143,7 +143,7 @@ pub fn put_no_header(out: &mut Page, line: &[u8]) {
 /// Writes that a line ends with a byte that one does not see, if it does.
 pub fn put_blank_end(out: &mut Page, last: u8) {
     if let b' ' | b'\t' | b'\r' = last {
-        out.put(Text("; the line ends with "));
+        out.put_text("; the line ends with ");
         put_byte(out, last);
     }
 }

@@ -1,8 +1,8 @@
 //! Remarks in sentences.
+use crate::page::Piece::{self, Coloured, Id, Name, Number, Text};
+use crate::page::{Colour, Page};
+use crate::remark::{Message, Remark, Rule};
 use tl_msg::Kind;
-use tl_remarks::{Message, Remark, Rule};
-use tl_unreadable::Piece::{self, Coloured, Id, Name, Number, Text};
-use tl_unreadable::{Colour, Page};
 
 /// The params of an Acquire, of a Grant or a probe, and of a report, as the standard spells them.
 const GROWTHS: &[&str] = &["NtoB", "NtoT", "BtoT"];
@@ -122,5 +122,5 @@ fn put_rule(out: &mut Page, remark: &Remark, version: u8) {
 pub fn put_remark(out: &mut Page, remark: &Remark, version: u8) {
     out.say("    #: ", &[Coloured(Colour::Yellow, "remark")]);
     put_rule(out, remark, version);
-    out.put(Text("\n"));
+    out.put_text("\n");
 }

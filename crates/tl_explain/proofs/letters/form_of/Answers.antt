@@ -1,5 +1,5 @@
 use Rattle.std.proofs.Common.{refl, arith}
-use Rattle.tl_unreadable.proofs.unreadable.form_of.Goals as goal
+use Rattle.tl_explain.proofs.letters.form_of.Goals as goal
 
 pub at_width-form_on-requires-3 : goal.at_width-form_on-requires-3
 at_width-form_on-requires-3 c = (2, omega arith, refl)

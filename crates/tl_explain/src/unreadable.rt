@@ -1,18 +1,13 @@
 //! A text that is no trace: its first faulty line, the place of the fault, and what was expected.
-ghost use Rattle.tl_lanes.specs.Lanes.{IsWidth};
-
-use crate::likeness::{header_page, put_length};
-use crate::page::Page;
-use crate::page::Piece::{Letter, Number, Text};
+use crate::letters::form_of;
+use crate::likeness::{header_page, is_trace, put_length};
 use crate::places::{put_expected, put_field, put_found, put_no_channel, put_no_header};
 use arrayvec::ArrayVec;
 use std::alloc::{AllocError, Global};
-use tl_answer::at_width;
 use tl_lanes::WIDEST_POWER;
-use tl_msg::{ChA, ChB, ChC, ChD, ChE};
-use tl_trace::{
-    Header, LONGEST_LINE, TraceFault, TraceKind, header_of_text, line_end, line_of, read,
-};
+use tl_remarks::Page;
+use tl_remarks::Piece::{Letter, Number, Text};
+use tl_trace::{Header, LONGEST_LINE, TraceFault, TraceKind, header_of_text, line_end};
 
 /// How many bytes of a line are shown: as many as a line of a trace can have, so that the place of a
 /// beat's fault is one of them.
@@ -30,30 +25,6 @@ const HEADER: &str =
 
 /// What is expected at the end of the last line.
 const NO_END: &str = "the line has to end with a newline (LF)";
-
-/// The line with this letter of a beat in which all is 0, on `W` lanes, in a trace of this version, with
-/// its LF; nothing where no channel has the letter.
-fn form_on<const W: usize>(letter: u8, version: u8) -> ArrayVec<u8, LONGEST_LINE>
-    requires { IsWidth W }
-{
-    match letter {
-        b'A' => line_of::<ChA, W>(&Default::default(), version),
-        b'B' => line_of::<ChB, W>(&Default::default(), version),
-        b'C' => line_of::<ChC, W>(&Default::default(), version),
-        b'D' => line_of::<ChD, W>(&Default::default(), version),
-        b'E' => line_of::<ChE, W>(&Default::default(), version),
-        _ => ArrayVec::new(),
-    }
-}
-
-/// The form of the lines with this letter in a trace with this header.
-pub fn form_of(letter: u8, header: &Header) -> ArrayVec<u8, LONGEST_LINE> {
-    let width = match letter {
-        b'B' | b'D' => header.manager,
-        _ => header.client,
-    };
-    at_width!(width, form_on::<_>(letter, header.version))
-}
 
 /// The line of this number, without its LF.
 fn line_at(text: &[u8], number: u64) -> &[u8] {
@@ -90,7 +61,7 @@ impl Trial {
         if let Some(place) = self.trace.text.get_mut(self.start.saturating_add(at)) {
             *place = byte;
         }
-        read(alloc, &self.trace.text).is_ok()
+        is_trace(alloc, &self.trace.text)
     }
 
     /// The first place at which this line is none of the form, of so many bytes at most. Its bytes up
@@ -153,32 +124,32 @@ fn header_place(out: &mut Page, alloc: Global, line: &[u8]) -> usize {
 
 /// Writes the first bytes of a line, each that is no printable ASCII as a question mark.
 fn put_shown(out: &mut Page, line: &[u8]) {
-    out.put(Text("    "));
+    out.put_text("    ");
     for byte in line.get(..SHOWN).unwrap_or(line) {
         out.put(Letter(match *byte {
             32..=126 => *byte,
             _ => b'?',
         }));
     }
-    out.put(Text("\n"));
+    out.put_text("\n");
 }
 
 /// Writes a line below what was expected of it, and a mark below this place of it.
 fn put_marked(out: &mut Page, line: &[u8], at: usize) {
-    out.put(Text("\n"));
+    out.put_text("\n");
     put_shown(out, line);
-    out.put(Text("    "));
+    out.put_text("    ");
     for _ in 0..at.min(SHOWN) {
-        out.put(Text(" "));
+        out.put_text(" ");
     }
-    out.put(Text("^\n"));
+    out.put_text("^\n");
 }
 
 /// Writes what was expected of a line that has no form, and below it the line with a mark.
 fn put_formless(out: &mut Page, alloc: Global, line: &[u8], kind: TraceKind) {
     let at = match kind {
         TraceKind::NoEnd => {
-            out.put(Text(NO_END));
+            out.put_text(NO_END);
             line.len()
         }
         TraceKind::Channel => {
@@ -186,7 +157,7 @@ fn put_formless(out: &mut Page, alloc: Global, line: &[u8], kind: TraceKind) {
             0
         }
         _ => {
-            out.put(Text(HEADER));
+            out.put_text(HEADER);
             put_no_header(out, line);
             header_place(out, alloc, line)
         }
@@ -216,7 +187,7 @@ fn put_formed(
             put_field(out, form, at);
             put_found(out, line, at);
         }
-        TraceKind::NoEnd => out.put(Text(NO_END)),
+        TraceKind::NoEnd => out.put_text(NO_END),
         _ => put_expected(out, line, form, at),
     }
     put_marked(out, line, at);

@@ -1,13 +1,11 @@
 //! A line of another length than its form: which other form it has.
-use crate::page::Page;
-use crate::page::Piece::{Letter, Number, Text};
 use crate::places::{put_blank_end, put_expected};
+use crate::story::LETTERS;
 use std::alloc::Global;
 use tl_lanes::WIDEST_POWER;
+use tl_remarks::Page;
+use tl_remarks::Piece::{Letter, Number, Text};
 use tl_trace::{Header, header_of_text, id_digits, read};
-
-/// The letters of the channels.
-const LETTERS: &[u8; 5] = b"ABCDE";
 
 /// A page with the header of a trace.
 pub fn header_page(alloc: Global, header: &Header) -> Page {
@@ -23,6 +21,11 @@ pub fn header_page(alloc: Global, header: &Header) -> Page {
     page
 }
 
+/// Whether a text is a trace.
+pub fn is_trace(alloc: Global, text: &[u8]) -> bool {
+    read(alloc, text).is_ok()
+}
+
 /// Whether a trace of this header can have this line behind this letter.
 fn fits(out: &mut Page, alloc: Global, header: &Header, letter: u8, line: &[u8]) -> bool {
     let mut trace = header_page(alloc, header);
@@ -30,7 +33,7 @@ fn fits(out: &mut Page, alloc: Global, header: &Header, letter: u8, line: &[u8])
     trace.put_bytes(line.get(1..).unwrap_or(&[]));
     trace.put_bytes(b"\n");
     out.lacks_a_piece |= trace.lacks_a_piece;
-    read(alloc, &trace.text).is_ok()
+    is_trace(alloc, &trace.text)
 }
 
 /// Writes that the line has the form of the other version, in which ids have other digits, if it has.
@@ -68,7 +71,7 @@ fn put_width(out: &mut Page, alloc: Global, header: &Header, letter: u8, line: &
             let pieces = [Letter(letter), Text(side), Number(width as u64)];
             out.say("; it has the form of a line of # for # #", &pieces);
             if width.saturating_mul(8) == said {
-                out.put(Text(": the widths of the header are bytes, and not bits"));
+                out.put_text(": the widths of the header are bytes, and not bits");
             }
             return true;
         }
@@ -97,7 +100,7 @@ fn put_alike(out: &mut Page, alloc: Global, header: &Header, letter: u8, line: &
 /// Writes that something stands behind the end of a line, of which this is the last byte.
 fn put_behind(out: &mut Page, last: u8) {
     if last.is_ascii_graphic() {
-        out.put(Text("; nothing may stand behind the last field: a trace has no comments"));
+        out.put_text("; nothing may stand behind the last field: a trace has no comments");
     } else {
         put_blank_end(out, last);
     }
@@ -120,7 +123,7 @@ pub fn put_length(out: &mut Page, alloc: Global, text: &[u8], line: &[u8], form:
     if line.len() > form.len() && at == form.len() {
         put_behind(out, *last);
     } else {
-        out.put(Text("; at the mark "));
+        out.put_text("; at the mark ");
         put_expected(out, line, form, at);
     }
 }
