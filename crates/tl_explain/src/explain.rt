@@ -89,6 +89,7 @@ fn requests_of<const C: usize, const M: usize>(
 
 /// The walks of channels that end in these verdicts, from A to E, between a client of `c` bytes and a
 /// manager of `m`.
+#[inline(never)]
 fn walks_of(verdicts: &[Verdict; 5], c: usize, m: usize) -> [Walk; 5] {
     let [on_a, on_b, on_c, on_d, on_e] = verdicts;
     [

@@ -104,6 +104,7 @@ fn line_in(lines: &[u8], number: usize, length: usize) -> &[u8] {
 impl Story {
     /// That of a text of this version of which no line is told yet, whose channels have these walks before
     /// them, from A to E.
+    #[inline(never)]
     pub fn new(
         alloc: Global,
         version: u8,
