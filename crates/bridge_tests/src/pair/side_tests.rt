@@ -91,7 +91,7 @@ fn play_all(
 }
 
 /// Whether that comes of these calls over rings of so many beats.
-fn come_of(alloc: Global, ring: usize, calls: &[Call]) -> bool {
+fn sides_come_of(alloc: Global, ring: usize, calls: &[Call]) -> bool {
     match bridge::<4, 16, _>(alloc, ring) {
         Ok((mut client, mut manager)) => {
             let is_so = play_all(&mut client, &mut manager, calls);
@@ -104,10 +104,10 @@ fn come_of(alloc: Global, ring: usize, calls: &[Call]) -> bool {
 
 #[test]
 fn a_request_and_its_response(rt: HostRuntime) {
-    assert!(rt; come_of(rt.alloc(), 4, &ANSWERED));
+    assert!(rt; sides_come_of(rt.alloc(), 4, &ANSWERED));
 }
 
 #[test]
 fn a_source_used_twice(rt: HostRuntime) {
-    assert!(rt; come_of(rt.alloc(), 1, &TWICE));
+    assert!(rt; sides_come_of(rt.alloc(), 1, &TWICE));
 }
