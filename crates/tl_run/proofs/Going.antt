@@ -3,7 +3,7 @@ use Rattle.tl_run.proofs.Names.{◌≡◌, ◌≢◌, ◌+◌, ◌-◌, ◌++◌
 use Rattle.tl_run.proofs.Names.{subst, ◌∙◌, arith, Rules, rules_a, rules_b, rules_c, rules_d, rules_e, HeadA, HeadD, BeatOf, SideFault, fault_after}
 use Rattle.tl_run.proofs.Names.{none_past, World, Ask, Answer, client_answer, manager_answer, manager_home, round, client_rests}
 use Rattle.tl_run.proofs.Names.{manager_rests, Beats, PerChannel, Bridge, Past, StandsFor, stops_alone, IsPart, Does, IsSent, IsAt, steps, Going}
-use Rattle.tl_run.proofs.Names.{Passes, RestsAt, RestsIn, Stays, StepsOn, passed_on, passes_stays, refused_by}
+use Rattle.tl_run.proofs.Names.{Passes, RestsIn, Stays, StepsOn, goes_on, passed_on, passes_stays, refused_by}
 use Rattle.tl_run.proofs.Names.{Offering, OffersNext, Offered, Accepted, NotReady}
 use Rattle.tl_run.proofs.Names.{Stopped, Done, Cut, Refused}
 use Rattle.tl_msg.specs.declared.head.HeadB.{HeadB}
@@ -194,7 +194,7 @@ module _ {C M : ℕ} {H : Type 0} {w v : ℕ} (k : Going C M (BeatOf H w)) (q : 
     (gone at : ℕ) (from : gone ≤ at) (held : List (BeatOf H w)) (within : at - gone < length held) (s t : Bridge C M) (o : Offered)
     (offers : OffersNext q held (at - gone) s o t) where
   -- no beat was accepted
-  pub has-stayed : steps o ≡ 0 → StepsOn (Passes k) Stays (RestsAt q) gone held at s o t
+  pub has-stayed : steps o ≡ 0 → StepsOn (goes_on k q) gone held at s o t
   has-stayed none =
       let stays : Stays s t = λ x h. (on t x).1 (stays-next q held gone at from within s t o none offers x ((on s x).0 h)) in
       record {
@@ -210,7 +210,7 @@ module _ {C M : ℕ} {H : Type 0} {w v : ℕ} (k : Going C M (BeatOf H w)) (q : 
       Does q.rules (k.list near) (k.count n) (q.answer x) (q.home x) (q.crossing x) o accepted y →
       IsAt near (k.set (k.count n + steps o) n) far (q.put (passed_on i j l y) (q.note accepted x))) →
       ((y : World H w v) (x : Past C M) → StandsFor t (q.put y x) → StandsFor u (q.put (passed_on i j l y) x)) →
-      StepsOn (Passes k) Stays (RestsAt q) gone held at s o u
+      StepsOn (goes_on k q) gone held at s o u
   has-passed i j l u some ahead passed = record {
     passes = λ x stands.
         let h = offers.does x ((on s x).0 stands) in

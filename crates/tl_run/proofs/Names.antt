@@ -27,7 +27,7 @@ pub use Rattle.tl_ring.specs.Crossing.{World, offered, shut, inbox_room, empty, 
 pub use Rattle.tl_ring.specs.Pipe.{Pipe, IsReady}
 pub use Rattle.tl_run.specs.Arrivals.{joined, no_beats, Fit}
 pub use Rattle.tl_run.specs.Inner.Arriving.{HasRoom, HaveRoom, beats_of}
-pub use Rattle.tl_run.specs.Inner.Going.{Going, Passes, RestsAt, RestsIn, Stays, StepsOn, passes_stays, refused_by, going_a, going_b}
+pub use Rattle.tl_run.specs.Inner.Going.{Going, Passes, RestsIn, Stays, StepsOn, goes_on, passes_stays, refused_by, going_a, going_b}
 pub use Rattle.tl_run.specs.Inner.Going.{going_c}
 pub use Rattle.tl_run.specs.Inner.Going.{going_d, going_e, AreOn, AreStopsOf, HasStopped, IsStopOf, all_counts, all_ways, stop_by, way_in, IsSound}
 pub use Rattle.tl_run.specs.Inner.Going.{AllRest}

@@ -1,14 +1,14 @@
 //! The channels of a run in one thread go on, one after another, as far as the beats that are held
 //! lead.
-ghost use Rattle.std.specs.Prelude.{◌≡◌, ◌≤◌, ◌<◌, ◌-◌, ◌+◌, ℕ, List, None, Option, length, slice_get};
+ghost use Rattle.std.specs.Prelude.{◌≡◌, ◌≤◌, ◌<◌, ◌-◌, List, Option, length};
 ghost use Rattle.tl_msg.specs.declared.fault.SideFault.{SideFault};
 ghost use Rattle.tl_settle.specs.Outcomes.{Beats};
 ghost use Rattle.tl_sides.specs.Bridges.{Past, StandsFor};
 ghost use Rattle.tl_run.specs.Parts.{AreBetween, AreEnd, IsBetween, IsEnd};
 ghost use Rattle.tl_run.specs.Inner.Widths.{AreWidths};
 ghost use Rattle.tl_run.specs.Inner.Offering.{on_bridge_a, on_bridge_b, on_bridge_c, on_bridge_d, on_bridge_e};
-ghost use Rattle.tl_run.specs.Inner.Going.{AllRest, AreOn, HavePassed, Passes as PassesIn, RestsAt, Stays as StaysAs, StepsOn};
-ghost use Rattle.tl_run.specs.Inner.Going.{going_a, going_b, going_c, going_d, going_e, passes_none as none_passes, passes_then as one_passes_then, rests_none as none_rests, stays_same as same_stays};
+ghost use Rattle.tl_run.specs.Inner.Going.{AllRest, AreOn, GoingOn, HavePassed, StepsOn};
+ghost use Rattle.tl_run.specs.Inner.Going.{goes_on, going_a, going_b, going_c, going_d, going_e};
 
 use crate::channel_state::Offered;
 use crate::offers::Offers;
@@ -31,38 +31,15 @@ macro_rules! next_step {
 
 /// What offers beats `B` on one of its channels, and moves into its ring at once what they give.
 trait GoesOn<B> {
-    // whether it may offer
-    ghost MayGo: { Type 0 };
-
-    // `new` is what `old` becomes where beats were accepted of a list of which `gone` have gone and
-    // these are held: `at` of all before and `later` after it
-    ghost Passes: { (gone : ℕ) → (held : List B) → (at : ℕ) → (old : Self) → (later : ℕ) →
-        (new : Self) → Type 0 };
-
-    // `new` stands for all that `old` stood for
-    ghost Stays: { (old : Self) → (new : Self) → Type 0 };
-
-    // so many beats of a list were accepted, and this fault stops the next one, or there is none left,
-    // or none may be offered
-    ghost Rests: { List B → (at : ℕ) → Self → Option SideFault → Type 0 };
+    // what that means
+    ghost going: { GoingOn Self B };
 
     /// Offers the next beat of a list of which `gone` have gone and these are held, and of which `at`
     /// were accepted. Moves into the ring what it gives: where there is too little room, the ring's
     /// beats go on first.
     fn go_on(&mut self, held: &[B], gone: usize, at: usize) -> Offered
-        requires { MayGo × (gone ≤ at) × (at - gone < length held.now) }
-        ensures { StepsOn Passes Stays Rests gone held.now at self.old result self.new };
-
-    ghost passes_none: { (gone : ℕ) (held : List B) (at : ℕ) (s : Self) →
-        Passes gone held at s at s };
-
-    ghost passes_then: { (gone : ℕ) (held : List B) (i j l : ℕ) (s t u : Self) →
-        Passes gone held i s j t → Passes gone held j t l u → Passes gone held i s l u };
-
-    ghost stays_same: { (s : Self) → Stays s s };
-
-    ghost rests_none: { (beats : List B) (at : ℕ) (s : Self) → slice_get beats at ≡ None →
-        Rests beats at s None };
+        requires { going.May × (gone ≤ at) × (at - gone < length held.now) }
+        ensures { StepsOn going gone held.now at self.old result self.new };
 }
 
 // Offers the beats that are held behind the first `at`, up to the first one that is not accepted:
@@ -74,13 +51,13 @@ fn go_ahead<B, S: GoesOn<B>>(
     gone: usize,
     at: &mut usize,
 ) -> Option<SideFault>
-    requires { S.MayGo × IsBetween gone at.old (length held.now.items) }
+    requires { S.going.May × IsBetween gone at.old (length held.now.items) }
     ensures within { IsBetween gone at.new (length held.now.items) }
     ensures on { at.old ≤ at.new }
-    ensures passes { S.Passes gone held.now.items at.old side.old at.new side.new }
-    ensures stays { at.new ≡ at.old → S.Stays side.old side.new }
+    ensures passes { S.going.Passes gone held.now.items at.old side.old at.new side.new }
+    ensures stays { at.new ≡ at.old → S.going.Stays side.old side.new }
     ensures rests { at.new ≡ at.old → (near : List B) → IsEnd gone held.now.items near →
-        S.Rests near at.old side.old result }
+        S.going.Rests near at.old side.old result }
 {
     'beats: while *at - gone < held.len() {
         let offered = side.go_on(held, gone, *at);
@@ -93,113 +70,43 @@ fn go_ahead<B, S: GoesOn<B>>(
 }
 
 impl<const C: usize, const M: usize> GoesOn<BeatOf<HeadA, C>> for SyncBridge<C, M> {
-    ghost MayGo = { AreWidths C M };
-
-    ghost Passes = { PassesIn going_a };
-
-    ghost Stays = { StaysAs };
-
-    ghost Rests = { RestsAt on_bridge_a };
+    ghost going = { goes_on going_a on_bridge_a };
 
     fn go_on(&mut self, held: &[BeatOf<HeadA, C>], gone: usize, at: usize) -> Offered {
         next_step!(self, held, gone, at, pass_on_a)
     }
-
-    ghost passes_none = { none_passes going_a };
-
-    ghost passes_then = { one_passes_then going_a };
-
-    ghost stays_same = { same_stays };
-
-    ghost rests_none = { none_rests on_bridge_a };
 }
 
 impl<const C: usize, const M: usize> GoesOn<BeatOf<HeadB, M>> for SyncBridge<C, M> {
-    ghost MayGo = { AreWidths C M };
-
-    ghost Passes = { PassesIn going_b };
-
-    ghost Stays = { StaysAs };
-
-    ghost Rests = { RestsAt on_bridge_b };
+    ghost going = { goes_on going_b on_bridge_b };
 
     fn go_on(&mut self, held: &[BeatOf<HeadB, M>], gone: usize, at: usize) -> Offered {
         next_step!(self, held, gone, at, pass_on_b)
     }
-
-    ghost passes_none = { none_passes going_b };
-
-    ghost passes_then = { one_passes_then going_b };
-
-    ghost stays_same = { same_stays };
-
-    ghost rests_none = { none_rests on_bridge_b };
 }
 
 impl<const C: usize, const M: usize> GoesOn<BeatOf<HeadC, C>> for SyncBridge<C, M> {
-    ghost MayGo = { AreWidths C M };
-
-    ghost Passes = { PassesIn going_c };
-
-    ghost Stays = { StaysAs };
-
-    ghost Rests = { RestsAt on_bridge_c };
+    ghost going = { goes_on going_c on_bridge_c };
 
     fn go_on(&mut self, held: &[BeatOf<HeadC, C>], gone: usize, at: usize) -> Offered {
         next_step!(self, held, gone, at, pass_on_c)
     }
-
-    ghost passes_none = { none_passes going_c };
-
-    ghost passes_then = { one_passes_then going_c };
-
-    ghost stays_same = { same_stays };
-
-    ghost rests_none = { none_rests on_bridge_c };
 }
 
 impl<const C: usize, const M: usize> GoesOn<BeatOf<HeadD, M>> for SyncBridge<C, M> {
-    ghost MayGo = { AreWidths C M };
-
-    ghost Passes = { PassesIn going_d };
-
-    ghost Stays = { StaysAs };
-
-    ghost Rests = { RestsAt on_bridge_d };
+    ghost going = { goes_on going_d on_bridge_d };
 
     fn go_on(&mut self, held: &[BeatOf<HeadD, M>], gone: usize, at: usize) -> Offered {
         next_step!(self, held, gone, at, pass_on_d)
     }
-
-    ghost passes_none = { none_passes going_d };
-
-    ghost passes_then = { one_passes_then going_d };
-
-    ghost stays_same = { same_stays };
-
-    ghost rests_none = { none_rests on_bridge_d };
 }
 
 impl<const C: usize, const M: usize> GoesOn<BeatOf<HeadE, C>> for SyncBridge<C, M> {
-    ghost MayGo = { AreWidths C M };
-
-    ghost Passes = { PassesIn going_e };
-
-    ghost Stays = { StaysAs };
-
-    ghost Rests = { RestsAt on_bridge_e };
+    ghost going = { goes_on going_e on_bridge_e };
 
     fn go_on(&mut self, held: &[BeatOf<HeadE, C>], gone: usize, at: usize) -> Offered {
         next_step!(self, held, gone, at, pass_on_e)
     }
-
-    ghost passes_none = { none_passes going_e };
-
-    ghost passes_then = { one_passes_then going_e };
-
-    ghost stays_same = { same_stays };
-
-    ghost rests_none = { none_rests on_bridge_e };
 }
 
 // Each channel goes on by itself as far as the beats that are held lead: counts what was accepted, and

@@ -24,6 +24,7 @@ use Rattle.tl_sides.specs.Crossings.{stops_alone}
 use Rattle.tl_run.specs.Parts.{ArePart, IsPart}
 use Rattle.tl_run.specs.Inner.Offering.{Offering}
 use Rattle.tl_run.specs.Inner.Running.{IsAt, all_under_way, lengths, steps}
+use Rattle.tl_run.specs.Inner.Widths.{AreWidths}
 use Rattle.tl_run.specs.declared.channel_state.Offered.{Offered}
 use Rattle.tl_run.specs.declared.channel_state.Offered.TheVariants.{Accepted, NotReady, Stopped}
 use Rattle.tl_run.specs.declared.channel_state.Stop.{Stop}
@@ -39,14 +40,26 @@ refused_by (Stopped Cut) = None
 
 -- ---- one channel that offers
 
--- What became of a beat that was offered, of a list of which so many have gone and these are held, by what it means that beats passed on, that all
--- stayed as it was, and that a channel rests: where no beat was accepted, the channel rests
-pub record StepsOn {B S : Type 0} (Passes : ℕ → List B → ℕ → S → ℕ → S → Type 0) (Stays : S → S → Type 0)
-    (Rests : List B → ℕ → S → Option SideFault → Type 0)
-    (gone : ℕ) (held : List B) (at : ℕ) (s : S) (o : Offered) (t : S) : Type 0 where
-  pub passes : Passes gone held at s (at + steps o) t
-  pub stays : steps o ≡ 0 → Stays s t
-  pub rests : steps o ≡ 0 → (near : List B) → IsPart gone held near → Rests near at s (refused_by o)
+-- what it means that a side S goes on on a channel on which it offers beats B
+pub record GoingOn (S B : Type 0) : Type 1 where
+  -- where it may
+  pub May : Type 0
+  -- it came from one count of accepted beats to another, of a list of which so many have gone and these are held: not at all, or one after another
+  pub Passes : (gone : ℕ) → (held : List B) → (at : ℕ) → (s : S) → (later : ℕ) → (t : S) → Type 0
+  pub passes_none : (gone : ℕ) (held : List B) (at : ℕ) (s : S) → Passes gone held at s at s
+  pub passes_then : (gone : ℕ) (held : List B) (i j l : ℕ) (s t u : S) → Passes gone held i s j t → Passes gone held j t l u → Passes gone held i s l u
+  -- it stands for all that it stood for
+  pub Stays : S → S → Type 0
+  pub stays_same : (s : S) → Stays s s
+  -- so many beats of a list were accepted, and this fault stops the next one, or there is none left, or none may be offered
+  pub Rests : (near : List B) → (at : ℕ) → S → Option SideFault → Type 0
+  pub rests_none : (near : List B) (at : ℕ) (s : S) → slice_get near at ≡ None → Rests near at s None
+
+-- what became of the next beat of a list of which so many have gone and these are held: where it was not accepted, the channel rests
+pub record StepsOn {B S : Type 0} (k : GoingOn S B) (gone : ℕ) (held : List B) (at : ℕ) (s : S) (o : Offered) (t : S) : Type 0 where
+  pub passes : k.Passes gone held at s (at + steps o) t
+  pub stays : steps o ≡ 0 → k.Stays s t
+  pub rests : steps o ≡ 0 → (near : List B) → IsPart gone held near → k.Rests near at s (refused_by o)
 
 module _ {H : Type 0} {w v : ℕ} (bs : List (BeatOf H w)) (n : ℕ) (answer : BeatOf H w → Option SideFault) (x : World H w v) where
   -- this fault stops the next beat of a list, or there is no beat left, or none may be offered
@@ -165,6 +178,19 @@ module _ {C M : ℕ} where
           is_at = λ near n far part here at.
               subst (λ m. IsAt near m far q.past) (k.sets l j n) (q.is_at near (k.set j n) far part (k.counts j n) (p.is_at near n far part here at));
         }
+
+  -- so a bridge goes on on a channel that it offers
+  abbrev pub goes_on : {H : Type 0} {w v : ℕ} → Going C M (BeatOf H w) → Offering (Bridge C M) (Past C M) H w v → GoingOn (Bridge C M) (BeatOf H w)
+  goes_on k q = record {
+    May = AreWidths C M;
+    Passes = Passes k;
+    passes_none = passes_none k;
+    passes_then = passes_then k;
+    Stays = Stays;
+    stays_same = stays_same;
+    Rests = RestsAt q;
+    rests_none = rests_none q;
+  }
 
 -- ---- all channels
 

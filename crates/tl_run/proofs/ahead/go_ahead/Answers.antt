@@ -9,7 +9,7 @@ pub beats-init : goal.beats-init
 beats-init g c = record {
   within = c.requires.1;
   on = omega arith;
-  passes = g.met.S.GoesOn.passes_none c.args.gone c.args.held.now.items c.args.at.now c.args.side.now;
+  passes = g.S.GoesOn.going.passes_none c.args.gone c.args.held.now.items c.args.at.now c.args.side.now;
   same = λ e. refl;
 }
 
@@ -27,7 +27,7 @@ beats-smaller g c = omega (arith, c.beats-test.true, c.len.ensures, c.args.held.
 pub beats-preserved : goal.beats-preserved
 beats-preserved g c =
     let here = c.beats.invariant in
-    let told = subst (λ q. StepsOn g.S.GoesOn.Passes g.S.GoesOn.Stays g.S.GoesOn.Rests c.args.gone q c.beats.at c.beats.side
+    let told = subst (λ q. StepsOn g.S.GoesOn.going c.args.gone q c.beats.at c.beats.side
     c.go_on-offered.result c.go_on-offered.new.self) c.deref.ensures.value c.go_on-offered.ensures in
     let one = ap (λ o. steps o) c.in-Accepted.is in
     record {
@@ -37,9 +37,9 @@ beats-preserved g c =
         few = here.within.few;
       };
       on = omega (arith, here.on);
-      passes = g.met.S.GoesOn.passes_then c.args.gone c.args.held.now.items c.args.at.now c.beats.at (c.beats.at + 1) c.args.side.now c.beats.side
+      passes = g.S.GoesOn.going.passes_then c.args.gone c.args.held.now.items c.args.at.now c.beats.at (c.beats.at + 1) c.args.side.now c.beats.side
           c.go_on-offered.new.self here.passes
-          (subst (λ n. g.S.GoesOn.Passes c.args.gone c.args.held.now.items c.beats.at c.beats.side (c.beats.at + n) c.go_on-offered.new.self) one
+          (subst (λ n. g.S.GoesOn.going.Passes c.args.gone c.args.held.now.items c.beats.at c.beats.side (c.beats.at + n) c.go_on-offered.new.self) one
           told.passes);
       same = λ e. absurd (omega (arith, e, here.on));
     }
@@ -47,22 +47,22 @@ beats-preserved g c =
 pub returns-in_default : goal.returns-in_default
 returns-in_default g c =
     let here = c.beats.invariant in
-    let told = subst (λ q. StepsOn g.S.GoesOn.Passes g.S.GoesOn.Stays g.S.GoesOn.Rests c.args.gone q c.beats.at c.beats.side
+    let told = subst (λ q. StepsOn g.S.GoesOn.going c.args.gone q c.beats.at c.beats.side
     c.go_on-offered.result c.go_on-offered.new.self) c.deref.ensures.value c.go_on-offered.ensures in
     let none = none-accepted _ c.in_default.not-Accepted in
     record {
       within = here.within;
       on = here.on;
-      passes = g.met.S.GoesOn.passes_then c.args.gone c.args.held.now.items c.args.at.now c.beats.at c.beats.at c.args.side.now c.beats.side
+      passes = g.S.GoesOn.going.passes_then c.args.gone c.args.held.now.items c.args.at.now c.beats.at c.beats.at c.args.side.now c.beats.side
           c.go_on-offered.new.self here.passes
-          (subst (λ m. g.S.GoesOn.Passes c.args.gone c.args.held.now.items c.beats.at c.beats.side m c.go_on-offered.new.self)
+          (subst (λ m. g.S.GoesOn.going.Passes c.args.gone c.args.held.now.items c.beats.at c.beats.side m c.go_on-offered.new.self)
           (ap (λ n. c.beats.at + n) none ∙ sym (none-more c.beats.at)) told.passes);
-      stays = λ e. subst (λ s. g.S.GoesOn.Stays s c.go_on-offered.new.self) (here.same e) (told.stays none);
+      stays = λ e. subst (λ s. g.S.GoesOn.going.Stays s c.go_on-offered.new.self) (here.same e) (told.stays none);
       rests = λ e near end.
           let part = part-of c.args.gone c.beats.at c.args.held.now.items near end in
-          subst (λ s. g.S.GoesOn.Rests near c.args.at.now s c.refused_by.result) (here.same e)
-          (subst (λ n. g.S.GoesOn.Rests near n c.beats.side c.refused_by.result) e
-          (subst (λ o. g.S.GoesOn.Rests near c.beats.at c.beats.side o) (sym c.refused_by.ensures) (told.rests none near part)));
+          subst (λ s. g.S.GoesOn.going.Rests near c.args.at.now s c.refused_by.result) (here.same e)
+          (subst (λ n. g.S.GoesOn.going.Rests near n c.beats.side c.refused_by.result) e
+          (subst (λ o. g.S.GoesOn.going.Rests near c.beats.at c.beats.side o) (sym c.refused_by.ensures) (told.rests none near part)));
     }
 
 pub returns : goal.returns
@@ -72,11 +72,11 @@ returns g c =
       within = here.within;
       on = here.on;
       passes = here.passes;
-      stays = λ e. subst (λ s. g.S.GoesOn.Stays s c.beats.side) (here.same e) (g.met.S.GoesOn.stays_same c.beats.side);
+      stays = λ e. subst (λ s. g.S.GoesOn.going.Stays s c.beats.side) (here.same e) (g.S.GoesOn.going.stays_same c.beats.side);
       rests = λ e near end.
           let past : c.args.gone + length c.args.held.now.items ≤ c.beats.at =
           omega (arith, c.beats-test.false, c.len.ensures, c.args.held.now.ok.0, here.within.from) in
-          subst (λ s. g.S.GoesOn.Rests near c.args.at.now s None) (here.same e)
-          (subst (λ n. g.S.GoesOn.Rests near n c.beats.side None) e
-          (g.met.S.GoesOn.rests_none near c.beats.at c.beats.side (end-none c.args.gone c.beats.at c.args.held.now.items near end past)));
+          subst (λ s. g.S.GoesOn.going.Rests near c.args.at.now s None) (here.same e)
+          (subst (λ n. g.S.GoesOn.going.Rests near n c.beats.side None) e
+          (g.S.GoesOn.going.rests_none near c.beats.at c.beats.side (end-none c.args.gone c.beats.at c.args.held.now.items near end past)));
     }

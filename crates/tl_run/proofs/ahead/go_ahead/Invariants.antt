@@ -5,7 +5,7 @@ abbrev pub invariant-beats : goal.invariant-beats
 invariant-beats g l = record {
   within : IsBetween l.gone l.at (length l.held.items);
   on : l.fn.at ≤ l.at;
-  passes : g.S.GoesOn.Passes l.gone l.held.items l.fn.at l.fn.side l.at l.side;
+  passes : g.S.GoesOn.going.Passes l.gone l.held.items l.fn.at l.fn.side l.at l.side;
   same : l.at ≡ l.fn.at → l.side ≡ l.fn.side;
 }
 
