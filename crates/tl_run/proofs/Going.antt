@@ -2,8 +2,13 @@
 use Rattle.tl_run.proofs.Names.{◌≡◌, ◌≢◌, ◌+◌, ◌-◌, ◌++◌, ◌≤◌, ◌<◌, inr, ℕ, Option, None, List, length, map, [], refl, sym, ap}
 use Rattle.tl_run.proofs.Names.{subst, ◌∙◌, arith, Rules, rules_a, rules_b, rules_c, rules_d, rules_e, HeadA, HeadD, BeatOf, SideFault, fault_after}
 use Rattle.tl_run.proofs.Names.{none_past, World, Ask, Answer, client_answer, manager_answer, manager_home, round, client_rests}
-use Rattle.tl_run.proofs.Names.{manager_rests, Beats, PerChannel, Bridge, Past, StandsFor, stops_alone, IsPart, Does, IsSent, IsAt, steps, Going}
-use Rattle.tl_run.proofs.Names.{Passes, RestsIn, Stays, StepsOn, goes_on, passed_on, passes_stays, refused_by}
+use Rattle.tl_run.proofs.Names.{manager_rests, Beats, PerChannel, Bridge, Past, StandsFor, stops_alone, IsPart, Does, IsSent, IsAt, steps}
+use Rattle.tl_run.proofs.Names.{RestsIn, GoesAhead, GoesOn, passed_on, refused_by, again_count, out_count, pump_count}
+use Rattle.tl_run.proofs.Names.{on_bridge_a, on_bridge_b, on_bridge_c, on_bridge_d, on_bridge_e}
+use Rattle.tl_sides.specs.ChannelCalls.{passes_a, passes_b, passes_c, passes_d, passes_e}
+use Rattle.tl_run.specs.Inner.Going.{at_first, one_more, stopped, through}
+use Rattle.tl_run.proofs.Channels.{Going, HasGone, Passes, RestsAt, Stays, going_a, going_b, going_c, going_d, going_e}
+use Rattle.tl_run.proofs.Channels.{passes_none, passes_stays, passes_then, rests_none, stays_same}
 use Rattle.tl_run.proofs.Names.{Offering, OffersNext, Offered, Accepted, NotReady}
 use Rattle.tl_run.proofs.Names.{Stopped, Done, Cut, Refused}
 use Rattle.tl_msg.specs.declared.head.HeadB.{HeadB}
@@ -12,15 +17,12 @@ use Rattle.tl_msg.specs.declared.head.HeadE.{HeadE}
 use Rattle.tl_run.proofs.ChannelOffer.{homed-offer, sent-offer, sent-passed}
 use Rattle.tl_run.proofs.Counting.{none-more}
 use Rattle.tl_run.proofs.OfferSteps.{does-taken}
-use Rattle.tl_run.proofs.Parts.{part-get}
+use Rattle.tl_run.proofs.Parts.{end-none, part-get, part-of}
 use Rattle.tl_run.proofs.Round.{alone-own, client-own, manager-own}
 use Rattle.tl_run.proofs.RoundMoves.{client-offers, manager-offers}
 
--- an accepted beat is one, and where none was accepted there is none
-pub accepted-some : steps Accepted ≢ 0
-accepted-some none = cc (none)
-
-pub none-accepted : (o : Offered) → (o ≡ Accepted → ⊥) → steps o ≡ 0
+-- where none was accepted there is none
+none-accepted : (o : Offered) → (o ≡ Accepted → ⊥) → steps o ≡ 0
 none-accepted Accepted never = absurd (never refl)
 none-accepted NotReady never = refl
 none-accepted (Stopped stop) never = refl
@@ -186,43 +188,94 @@ module _ {C M : ℕ} (i' j k : ℕ) (near : Beats C M) (n : PerChannel ℕ) (far
         stands.e.crosses.handed i.e_homed (λ b. refl) does;
   }
 
--- ---- a beat that is held is offered, and its channel moves on
+-- ---- a channel goes ahead
 
--- on a channel of a bridge in one thread
+-- on a bridge in one thread, where what is staged of it passes on so
 module _ {C M : ℕ} {H : Type 0} {w v : ℕ} (k : Going C M (BeatOf H w)) (q : Offering (Bridge C M) (Past C M) H w v)
     (on : (s : Bridge C M) (x : Past C M) → (StandsFor s x → q.Stands s x) × (q.Stands s x → StandsFor s x))
-    (gone at : ℕ) (from : gone ≤ at) (held : List (BeatOf H w)) (within : at - gone < length held) (s t : Bridge C M) (o : Offered)
-    (offers : OffersNext q held (at - gone) s o t) where
-  -- no beat was accepted
-  pub has-stayed : steps o ≡ 0 → StepsOn (goes_on k q) gone held at s o t
-  has-stayed none =
-      let stays : Stays s t = λ x h. (on t x).1 (stays-next q held gone at from within s t o none offers x ((on s x).0 h)) in
+    (Moves : Bridge C M → Bridge C M → Type 0)
+    (moves : (t u : Bridge C M) → Moves t u → (i : ℕ) × (j : ℕ) × (l : ℕ) ×
+        ((y : World H w v) (x : Past C M) → StandsFor t (q.put y x) → StandsFor u (q.put (passed_on i j l y) x)))
+    (ahead : (i j l : ℕ) (near : Beats C M) (n : PerChannel ℕ) (far : Beats M C) (x : Past C M) → IsAt near n far x →
+        (s : Bridge C M) → StandsFor s x → (o : Offered) (accepted : List (BeatOf H w)) (y : World H w v) →
+        Does q.rules (k.list near) (k.count n) (q.answer x) (q.home x) (q.crossing x) o accepted y →
+        IsAt near (k.set (k.count n + steps o) n) far (q.put (passed_on i j l y) (q.note accepted x)))
+    (gone : ℕ) (held : List (BeatOf H w)) where
+  -- one beat was accepted, and what it gave passed on
+  one-passes : (at : ℕ) (s t u : Bridge C M) → gone ≤ at → at - gone < length held → OffersNext q held (at - gone) s Accepted t → Moves t u →
+      Passes k gone held at s (at + 1) u
+  one-passes at s t u from within offers moved x stands =
+      let m = moves t u moved in
+      let h = offers.does x ((on s x).0 stands) in
+      let after = q.put (passed_on m.0 m.1 m.2 h.1) (q.note h.0 x) in
       record {
-        passes = subst (λ m. Passes k gone held at s m t) (none-more at ∙ ap (λ m. at + m) (sym none)) (passes_stays k gone held at s t stays);
-        stays = λ _. stays;
-        rests = λ _. rests-next q held gone at from within s t o none offers;
+        past = after;
+        stands = m.3 h.1 (q.note h.0 x) ((on t (q.put h.1 (q.note h.0 x))).1 h.2);
+        is_at = λ near n far part here is.
+            let does = subst (λ c. Does q.rules (k.list near) c (q.answer x) (q.home x) (q.crossing x) Accepted h.0 h.1) (sym here)
+            (does-part q.rules (q.answer x) (q.home x) (q.crossing x) gone at held (k.list near) part from within Accepted h.0 h.1 h.3) in
+            subst (λ c. IsAt near (k.set (c + 1) n) far after) here (ahead m.0 m.1 m.2 near n far x is s stands Accepted h.0 h.1 does);
       }
 
-  -- or one was, and beats moved on
-  pub has-passed : (i j l : ℕ) (u : Bridge C M) → steps o ≢ 0 →
-      ((near : Beats C M) (n : PerChannel ℕ) (far : Beats M C) (x : Past C M) → IsAt near n far x → (s : Bridge C M) → StandsFor s x →
-      (o : Offered) (accepted : List (BeatOf H w)) (y : World H w v) →
-      Does q.rules (k.list near) (k.count n) (q.answer x) (q.home x) (q.crossing x) o accepted y →
-      IsAt near (k.set (k.count n + steps o) n) far (q.put (passed_on i j l y) (q.note accepted x))) →
-      ((y : World H w v) (x : Past C M) → StandsFor t (q.put y x) → StandsFor u (q.put (passed_on i j l y) x)) →
-      StepsOn (goes_on k q) gone held at s o u
-  has-passed i j l u some ahead passed = record {
-    passes = λ x stands.
-        let h = offers.does x ((on s x).0 stands) in
-        let after = q.put (passed_on i j l h.1) (q.note h.0 x) in
+  module _ (at : ℕ) (s : Bridge C M) where
+    least : (later : ℕ) (t : Bridge C M) → GoesOn (OffersNext q) Moves gone held at s later t → at ≤ later
+    least _ _ at_first = omega arith
+    least _ _ (one_more i t' u v before from within offers moved) = let le = least i t' before in omega (arith, le)
+
+    several-pass : (later : ℕ) (t : Bridge C M) → GoesOn (OffersNext q) Moves gone held at s later t → Passes k gone held at s later t
+    several-pass _ _ at_first = passes_none k gone held at s
+    several-pass _ _ (one_more i t' u v before from within offers moved) =
+        passes_then k gone held at i (i + 1) s t' v (several-pass i t' before) (one-passes i t' u v from within offers moved)
+
+    same-side : (later : ℕ) (t : Bridge C M) → GoesOn (OffersNext q) Moves gone held at s later t → later ≡ at → s ≡ t
+    same-side _ _ at_first e = refl
+    same-side _ _ (one_more i t' u v before from within offers moved) e = absurd (omega (arith, e, least i t' before))
+
+    pub has-gone : (later : ℕ) (t : Bridge C M) (o : Option SideFault) → GoesAhead (OffersNext q) Moves gone held at s later t o →
+        HasGone k q gone held at s later t o
+    has-gone _ _ _ (through later t goes past) = record {
+      on = least later t goes;
+      passes = several-pass later t goes;
+      stays = λ e. subst (λ u. Stays s u) (same-side later t goes e) (stays_same s);
+      rests = λ e near end. rests_none q near at s (end-none gone at held near end (subst (λ c. gone + length held ≤ c) e past));
+    }
+    has-gone _ _ _ (stopped later t u step goes from within never offers) =
+        let none = none-accepted step never in
+        let stays : Stays t u = λ x h. (on u x).1 (stays-next q held gone later from within t u step none offers x ((on t x).0 h)) in
         record {
-          past = after;
-          stands = passed h.1 (q.note h.0 x) ((on t (q.put h.1 (q.note h.0 x))).1 h.2);
-          is_at = λ near n far part here is.
-              let does = subst (λ m. Does q.rules (k.list near) m (q.answer x) (q.home x) (q.crossing x) o h.0 h.1) (sym here)
-              (does-part q.rules (q.answer x) (q.home x) (q.crossing x) gone at held (k.list near) part from within o h.0 h.1 h.3) in
-              subst (λ m. IsAt near (k.set (m + steps o) n) far after) here (ahead near n far x is s stands o h.0 h.1 does);
-        };
-    stays = λ none. absurd (some none);
-    rests = λ none near part. absurd (some none);
-  }
+          on = least later t goes;
+          passes = passes_then k gone held at later later s t u (several-pass later t goes) (passes_stays k gone held later t u stays);
+          stays = λ e. subst (λ p. Stays p u) (sym (same-side later t goes e)) stays;
+          rests = λ e near end x h.
+              let t_is = same-side later t goes e in
+              subst (λ c. RestsIn near c (q.answer x) (q.crossing x) (refused_by step)) e
+              (rests-next q held gone later from within t u step none offers near (part-of gone later held near end) x
+              (subst (λ p. q.Stands p x) t_is h));
+        }
+
+-- so each of the five does
+module _ {C M : ℕ} (gone : ℕ) where
+  pub gone-a : (held : List (BeatOf HeadA C)) (at : ℕ) (s : Bridge C M) (later : ℕ) (t : Bridge C M) (o : Option SideFault) →
+      GoesAhead (OffersNext on_bridge_a) passes_a gone held at s later t o → HasGone going_a on_bridge_a gone held at s later t o
+  gone-a = has-gone going_a on_bridge_a (λ s x. (λ h. h, λ h. h)) passes_a
+      (λ t u p. (pump_count t.a, out_count t.a, again_count t.a, λ y x h. p _ h)) ahead-a gone
+
+  pub gone-b : (held : List (BeatOf HeadB M)) (at : ℕ) (s : Bridge C M) (later : ℕ) (t : Bridge C M) (o : Option SideFault) →
+      GoesAhead (OffersNext on_bridge_b) passes_b gone held at s later t o → HasGone going_b on_bridge_b gone held at s later t o
+  gone-b = has-gone going_b on_bridge_b (λ s x. (λ h. h, λ h. h)) passes_b
+      (λ t u p. (pump_count t.b, out_count t.b, again_count t.b, λ y x h. p _ h)) ahead-b gone
+
+  pub gone-c : (held : List (BeatOf HeadC C)) (at : ℕ) (s : Bridge C M) (later : ℕ) (t : Bridge C M) (o : Option SideFault) →
+      GoesAhead (OffersNext on_bridge_c) passes_c gone held at s later t o → HasGone going_c on_bridge_c gone held at s later t o
+  gone-c = has-gone going_c on_bridge_c (λ s x. (λ h. h, λ h. h)) passes_c
+      (λ t u p. (pump_count t.c, out_count t.c, again_count t.c, λ y x h. p _ h)) ahead-c gone
+
+  pub gone-d : (held : List (BeatOf HeadD M)) (at : ℕ) (s : Bridge C M) (later : ℕ) (t : Bridge C M) (o : Option SideFault) →
+      GoesAhead (OffersNext on_bridge_d) passes_d gone held at s later t o → HasGone going_d on_bridge_d gone held at s later t o
+  gone-d = has-gone going_d on_bridge_d (λ s x. (λ h. h, λ h. h)) passes_d
+      (λ t u p. (pump_count t.d, out_count t.d, again_count t.d, λ y x h. p _ h)) ahead-d gone
+
+  pub gone-e : (held : List (BeatOf HeadE C)) (at : ℕ) (s : Bridge C M) (later : ℕ) (t : Bridge C M) (o : Option SideFault) →
+      GoesAhead (OffersNext on_bridge_e) passes_e gone held at s later t o → HasGone going_e on_bridge_e gone held at s later t o
+  gone-e = has-gone going_e on_bridge_e (λ s x. (λ h. h, λ h. h)) passes_e
+      (λ t u p. (pump_count t.e, out_count t.e, again_count t.e, λ y x h. p _ h)) ahead-e gone

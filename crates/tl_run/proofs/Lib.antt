@@ -8,6 +8,7 @@ pub mod OfferSteps
 pub mod OnlyMemory
 pub mod Round
 pub mod Parts
+mod Channels
 mod Going
 mod Rooms
 pub mod Ended

@@ -1,7 +1,7 @@
 -- What comes of the calls on one channel of a bridge in one thread, and of a call that takes all that has arrived (this project's choice).
 use Rattle.std.specs.Prelude.{◌++◌, ◌==◌, ℕ, [], cond, drop, length, map, take}
 use Rattle.tl_sides.specs.Words.{World, Pipe, popped, pushed, Ask, Answer}
-use Rattle.tl_sides.specs.Bridges.{Past, fetch_count, pump_count}
+use Rattle.tl_sides.specs.Bridges.{Bridge, Past, StandsFor, fetch_count, pump_count}
 
 -- all of an inbox is taken
 abbrev pub emptied : {H : Type 0} {w v : ℕ} → World H w v → World H w v
@@ -46,3 +46,20 @@ module _ {H : Type 0} {v : ℕ} where
   -- and this is the channel then
   abbrev pub passed : Pipe H v → Pipe H v
   passed p = cond (length (pumped p).stage == 0) (pumped p) (pumped (fetched (pumped p)))
+
+-- a bridge passes on what is staged of a channel
+module _ {C M : ℕ} where
+  abbrev pub passes_a : Bridge C M → Bridge C M → Type 0
+  passes_a s t = (x : Past C M) → StandsFor s x → StandsFor t (record x { a = after_pass_on s.a x.a })
+
+  abbrev pub passes_b : Bridge C M → Bridge C M → Type 0
+  passes_b s t = (x : Past C M) → StandsFor s x → StandsFor t (record x { b = after_pass_on s.b x.b })
+
+  abbrev pub passes_c : Bridge C M → Bridge C M → Type 0
+  passes_c s t = (x : Past C M) → StandsFor s x → StandsFor t (record x { c = after_pass_on s.c x.c })
+
+  abbrev pub passes_d : Bridge C M → Bridge C M → Type 0
+  passes_d s t = (x : Past C M) → StandsFor s x → StandsFor t (record x { d = after_pass_on s.d x.d })
+
+  abbrev pub passes_e : Bridge C M → Bridge C M → Type 0
+  passes_e s t = (x : Past C M) → StandsFor s x → StandsFor t (record x { e = after_pass_on s.e x.e })

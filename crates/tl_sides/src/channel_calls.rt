@@ -3,12 +3,12 @@
 ghost use Rattle.std.specs.Prelude.{◌≡◌};
 ghost use Rattle.tl_lanes.specs.Lanes.{IsWidth};
 ghost use Rattle.tl_sides.specs.Bridges.{Past, StandsFor};
-ghost use Rattle.tl_sides.specs.ChannelCalls.{after_pass_on, after_take_all, passed};
+ghost use Rattle.tl_sides.specs.ChannelCalls.{after_take_all, passed, passes_a, passes_b, passes_c, passes_d, passes_e};
 ghost use Rattle.tl_sides.specs.Joining.{pipe_of};
 
 use crate::sync_bridge::SyncBridge;
 use std::alloc::Allocator;
-use tl_msg::{Beat, ChA, ChB, ChC, ChD, ChE, Channel};
+use tl_msg::{Beat, BeatOf, ChA, ChB, ChC, ChD, ChE, Channel, HeadA, HeadB, HeadC, HeadD, HeadE};
 use tl_ring::{Inbox, Outbox, Ring, fetch, pump};
 
 // Moves what is staged into the ring. Where that has too little room, the ring's beats go on into the inbox,
@@ -29,52 +29,58 @@ fn pass_on<K: Channel, const W: usize, const V: usize, A: Allocator>(
     pump(outbox, ring);
 }
 
-impl<const C: usize, const M: usize, A: Allocator> SyncBridge<C, M, A> {
-    /// Moves what is staged of A into its ring. Where that has too little room, the ring's beats go on
-    /// into the inbox, and then what is still staged into the ring.
-    pub fn pass_on_a(&mut self)
-        ensures { (x : Past C M) → StandsFor self.old x →
-            StandsFor self.new (record x { a = after_pass_on self.old.a x.a }) }
-    {
+/// What passes on what is staged of the channel on which it offers beats `B`.
+pub trait PassesOn<B> {
+    // what becomes of it
+    ghost Passes: { (old : Self) → (new : Self) → Type 0 };
+
+    /// Moves what is staged into the ring. Where that has too little room, the ring's beats go on into the
+    /// inbox, and then what is still staged into the ring.
+    fn pass_on(&mut self)
+        ensures { Passes self.old self.new };
+}
+
+impl<const C: usize, const M: usize, A: Allocator> PassesOn<BeatOf<HeadA, C>> for SyncBridge<C, M, A> {
+    ghost Passes = { passes_a };
+
+    fn pass_on(&mut self) {
         pass_on(&mut self.client.a, &mut self.a, &mut self.manager.a);
     }
+}
 
-    /// Moves what is staged of B into its ring. Where that has too little room, the ring's beats go on
-    /// into the inbox, and then what is still staged into the ring.
-    pub fn pass_on_b(&mut self)
-        ensures { (x : Past C M) → StandsFor self.old x →
-            StandsFor self.new (record x { b = after_pass_on self.old.b x.b }) }
-    {
+impl<const C: usize, const M: usize, A: Allocator> PassesOn<BeatOf<HeadB, M>> for SyncBridge<C, M, A> {
+    ghost Passes = { passes_b };
+
+    fn pass_on(&mut self) {
         pass_on(&mut self.manager.b, &mut self.b, &mut self.client.b);
     }
+}
 
-    /// Moves what is staged of C into its ring. Where that has too little room, the ring's beats go on
-    /// into the inbox, and then what is still staged into the ring.
-    pub fn pass_on_c(&mut self)
-        ensures { (x : Past C M) → StandsFor self.old x →
-            StandsFor self.new (record x { c = after_pass_on self.old.c x.c }) }
-    {
+impl<const C: usize, const M: usize, A: Allocator> PassesOn<BeatOf<HeadC, C>> for SyncBridge<C, M, A> {
+    ghost Passes = { passes_c };
+
+    fn pass_on(&mut self) {
         pass_on(&mut self.client.c, &mut self.c, &mut self.manager.c);
     }
+}
 
-    /// Moves what is staged of D into its ring. Where that has too little room, the ring's beats go on
-    /// into the inbox, and then what is still staged into the ring.
-    pub fn pass_on_d(&mut self)
-        ensures { (x : Past C M) → StandsFor self.old x →
-            StandsFor self.new (record x { d = after_pass_on self.old.d x.d }) }
-    {
+impl<const C: usize, const M: usize, A: Allocator> PassesOn<BeatOf<HeadD, M>> for SyncBridge<C, M, A> {
+    ghost Passes = { passes_d };
+
+    fn pass_on(&mut self) {
         pass_on(&mut self.manager.d, &mut self.d, &mut self.client.d);
     }
+}
 
-    /// Moves what is staged of E into its ring. Where that has too little room, the ring's beats go on
-    /// into the inbox, and then what is still staged into the ring.
-    pub fn pass_on_e(&mut self)
-        ensures { (x : Past C M) → StandsFor self.old x →
-            StandsFor self.new (record x { e = after_pass_on self.old.e x.e }) }
-    {
+impl<const C: usize, const M: usize, A: Allocator> PassesOn<BeatOf<HeadE, C>> for SyncBridge<C, M, A> {
+    ghost Passes = { passes_e };
+
+    fn pass_on(&mut self) {
         pass_on(&mut self.client.e, &mut self.e, &mut self.manager.e);
     }
+}
 
+impl<const C: usize, const M: usize, A: Allocator> SyncBridge<C, M, A> {
     /// The beats of A's inbox, in order, for [`SyncBridge::take_all`].
     pub fn inbox_a(&self) -> &[Beat<ChA, M>]
         ensures { result.now ≡ self.now.a.inbox }

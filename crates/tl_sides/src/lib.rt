@@ -28,6 +28,7 @@ mod per_channel;
 mod sides;
 mod sync_bridge;
 
+pub use channel_calls::PassesOn;
 pub use client_port::ClientPort;
 pub use client_side::ClientSide;
 pub use manager_port::ManagerPort;

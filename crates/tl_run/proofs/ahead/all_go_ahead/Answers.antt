@@ -1,53 +1,89 @@
 use Rattle.tl_run.proofs.Names.{refl, ap, beat_small, bridge_small}
+use Rattle.tl_run.proofs.Going.{gone-a, gone-b, gone-c, gone-d, gone-e}
 use Rattle.tl_run.proofs.ahead.all_go_ahead.Goals as goal
 
 pub go_ahead-b-requires : goal.go_ahead-b-requires
 go_ahead-b-requires g c = (c.requires.0, c.requires.1.b)
 
-pub go_ahead-b-requires-room-S-GoesOn : goal.go_ahead-b-requires-room-S-GoesOn
-go_ahead-b-requires-room-S-GoesOn g c κs = bridge_small g.row.C g.row.M c.requires.0.client c.requires.0.manager
+pub go_ahead-b-requires-room-S-Offers : goal.go_ahead-b-requires-room-S-Offers
+go_ahead-b-requires-room-S-Offers g c κs = bridge_small g.row.C g.row.M c.requires.0.client c.requires.0.manager
 
-pub go_ahead-b-requires-room-S-GoesOn-2 : goal.go_ahead-b-requires-room-S-GoesOn-2
-go_ahead-b-requires-room-S-GoesOn-2 g c κs = beat_small g.row.M c.requires.0.manager
+pub go_ahead-b-requires-room-S-Offers-2 : goal.go_ahead-b-requires-room-S-Offers-2
+go_ahead-b-requires-room-S-Offers-2 g c κs = beat_small g.row.M c.requires.0.manager
+
+pub go_ahead-b-requires-room-S-PassesOn : goal.go_ahead-b-requires-room-S-PassesOn
+go_ahead-b-requires-room-S-PassesOn g c κs = bridge_small g.row.C g.row.M c.requires.0.client c.requires.0.manager
+
+pub go_ahead-b-requires-room-S-PassesOn-2 : goal.go_ahead-b-requires-room-S-PassesOn-2
+go_ahead-b-requires-room-S-PassesOn-2 g c κs = beat_small g.row.M c.requires.0.manager
 
 pub go_ahead-c-requires : goal.go_ahead-c-requires
 go_ahead-c-requires g c = (c.requires.0, c.requires.1.c)
 
-pub go_ahead-c-requires-room-S-GoesOn : goal.go_ahead-c-requires-room-S-GoesOn
-go_ahead-c-requires-room-S-GoesOn g c κs = bridge_small g.row.C g.row.M c.requires.0.client c.requires.0.manager
+pub go_ahead-c-requires-room-S-Offers : goal.go_ahead-c-requires-room-S-Offers
+go_ahead-c-requires-room-S-Offers g c κs = bridge_small g.row.C g.row.M c.requires.0.client c.requires.0.manager
 
-pub go_ahead-c-requires-room-S-GoesOn-2 : goal.go_ahead-c-requires-room-S-GoesOn-2
-go_ahead-c-requires-room-S-GoesOn-2 g c κs = beat_small g.row.C c.requires.0.client
+pub go_ahead-c-requires-room-S-Offers-2 : goal.go_ahead-c-requires-room-S-Offers-2
+go_ahead-c-requires-room-S-Offers-2 g c κs = beat_small g.row.C c.requires.0.client
+
+pub go_ahead-c-requires-room-S-PassesOn : goal.go_ahead-c-requires-room-S-PassesOn
+go_ahead-c-requires-room-S-PassesOn g c κs = bridge_small g.row.C g.row.M c.requires.0.client c.requires.0.manager
+
+pub go_ahead-c-requires-room-S-PassesOn-2 : goal.go_ahead-c-requires-room-S-PassesOn-2
+go_ahead-c-requires-room-S-PassesOn-2 g c κs = beat_small g.row.C c.requires.0.client
 
 pub go_ahead-e-requires : goal.go_ahead-e-requires
 go_ahead-e-requires g c = (c.requires.0, c.requires.1.e)
 
-pub go_ahead-e-requires-room-S-GoesOn : goal.go_ahead-e-requires-room-S-GoesOn
-go_ahead-e-requires-room-S-GoesOn g c κs = bridge_small g.row.C g.row.M c.requires.0.client c.requires.0.manager
+pub go_ahead-e-requires-room-S-Offers : goal.go_ahead-e-requires-room-S-Offers
+go_ahead-e-requires-room-S-Offers g c κs = bridge_small g.row.C g.row.M c.requires.0.client c.requires.0.manager
 
-pub go_ahead-e-requires-room-S-GoesOn-2 : goal.go_ahead-e-requires-room-S-GoesOn-2
-go_ahead-e-requires-room-S-GoesOn-2 g c κs = beat_small g.row.C c.requires.0.client
+pub go_ahead-e-requires-room-S-Offers-2 : goal.go_ahead-e-requires-room-S-Offers-2
+go_ahead-e-requires-room-S-Offers-2 g c κs = beat_small g.row.C c.requires.0.client
+
+pub go_ahead-e-requires-room-S-PassesOn : goal.go_ahead-e-requires-room-S-PassesOn
+go_ahead-e-requires-room-S-PassesOn g c κs = bridge_small g.row.C g.row.M c.requires.0.client c.requires.0.manager
+
+pub go_ahead-e-requires-room-S-PassesOn-2 : goal.go_ahead-e-requires-room-S-PassesOn-2
+go_ahead-e-requires-room-S-PassesOn-2 g c κs = beat_small g.row.C c.requires.0.client
 
 pub go_ahead-a-requires : goal.go_ahead-a-requires
 go_ahead-a-requires g c = (c.requires.0, c.requires.1.a)
 
-pub go_ahead-a-requires-room-S-GoesOn : goal.go_ahead-a-requires-room-S-GoesOn
-go_ahead-a-requires-room-S-GoesOn g c κs = bridge_small g.row.C g.row.M c.requires.0.client c.requires.0.manager
+pub go_ahead-a-requires-room-S-Offers : goal.go_ahead-a-requires-room-S-Offers
+go_ahead-a-requires-room-S-Offers g c κs = bridge_small g.row.C g.row.M c.requires.0.client c.requires.0.manager
 
-pub go_ahead-a-requires-room-S-GoesOn-2 : goal.go_ahead-a-requires-room-S-GoesOn-2
-go_ahead-a-requires-room-S-GoesOn-2 g c κs = beat_small g.row.C c.requires.0.client
+pub go_ahead-a-requires-room-S-Offers-2 : goal.go_ahead-a-requires-room-S-Offers-2
+go_ahead-a-requires-room-S-Offers-2 g c κs = beat_small g.row.C c.requires.0.client
+
+pub go_ahead-a-requires-room-S-PassesOn : goal.go_ahead-a-requires-room-S-PassesOn
+go_ahead-a-requires-room-S-PassesOn g c κs = bridge_small g.row.C g.row.M c.requires.0.client c.requires.0.manager
+
+pub go_ahead-a-requires-room-S-PassesOn-2 : goal.go_ahead-a-requires-room-S-PassesOn-2
+go_ahead-a-requires-room-S-PassesOn-2 g c κs = beat_small g.row.C c.requires.0.client
 
 pub go_ahead-d-requires : goal.go_ahead-d-requires
 go_ahead-d-requires g c = (c.requires.0, c.requires.1.d)
 
-pub go_ahead-d-requires-room-S-GoesOn : goal.go_ahead-d-requires-room-S-GoesOn
-go_ahead-d-requires-room-S-GoesOn g c κs = bridge_small g.row.C g.row.M c.requires.0.client c.requires.0.manager
+pub go_ahead-d-requires-room-S-Offers : goal.go_ahead-d-requires-room-S-Offers
+go_ahead-d-requires-room-S-Offers g c κs = bridge_small g.row.C g.row.M c.requires.0.client c.requires.0.manager
 
-pub go_ahead-d-requires-room-S-GoesOn-2 : goal.go_ahead-d-requires-room-S-GoesOn-2
-go_ahead-d-requires-room-S-GoesOn-2 g c κs = beat_small g.row.M c.requires.0.manager
+pub go_ahead-d-requires-room-S-Offers-2 : goal.go_ahead-d-requires-room-S-Offers-2
+go_ahead-d-requires-room-S-Offers-2 g c κs = beat_small g.row.M c.requires.0.manager
+
+pub go_ahead-d-requires-room-S-PassesOn : goal.go_ahead-d-requires-room-S-PassesOn
+go_ahead-d-requires-room-S-PassesOn g c κs = bridge_small g.row.C g.row.M c.requires.0.client c.requires.0.manager
+
+pub go_ahead-d-requires-room-S-PassesOn-2 : goal.go_ahead-d-requires-room-S-PassesOn-2
+go_ahead-d-requires-room-S-PassesOn-2 g c κs = beat_small g.row.M c.requires.0.manager
 
 pub returns : goal.returns
 returns g c =
+    let b = gone-b c.args.gone.now.b c.args.held.now.b.items c.args.at.now.b _ _ _ _ c.go_ahead-b.ensures.ahead in
+    let c' = gone-c c.args.gone.now.c c.args.held.now.c.items c.args.at.now.c _ _ _ _ c.go_ahead-c.ensures.ahead in
+    let e = gone-e c.args.gone.now.e c.args.held.now.e.items c.args.at.now.e _ _ _ _ c.go_ahead-e.ensures.ahead in
+    let a = gone-a c.args.gone.now.a c.args.held.now.a.items c.args.at.now.a _ _ _ _ c.go_ahead-a.ensures.ahead in
+    let d = gone-d c.args.gone.now.d c.args.held.now.d.items c.args.at.now.d _ _ _ _ c.go_ahead-d.ensures.ahead in
     record {
       within = record {
         a = c.go_ahead-a.ensures.within;
@@ -56,42 +92,34 @@ returns g c =
         d = c.go_ahead-d.ensures.within;
         e = c.go_ahead-e.ensures.within;
       };
-      on = record {
-        a = c.go_ahead-a.ensures.on;
-        b = c.go_ahead-b.ensures.on;
-        c = c.go_ahead-c.ensures.on;
-        d = c.go_ahead-d.ensures.on;
-        e = c.go_ahead-e.ensures.on;
-      };
+      on = record { a = a.on; b = b.on; c = c'.on; d = d.on; e = e.on };
       passes = λ x stands.
-          let b = c.go_ahead-b.ensures.passes x stands in
-          let c' = c.go_ahead-c.ensures.passes b.past b.stands in
-          let e = c.go_ahead-e.ensures.passes c'.past c'.stands in
-          let a = c.go_ahead-a.ensures.passes e.past e.stands in
-          let d = c.go_ahead-d.ensures.passes a.past a.stands in
+          let b' = b.passes x stands in
+          let c'' = c'.passes b'.past b'.stands in
+          let e' = e.passes c''.past c''.stands in
+          let a' = a.passes e'.past e'.stands in
+          let d' = d.passes a'.past a'.stands in
           record {
-            past = d.past;
-            stands = d.stands;
+            past = d'.past;
+            stands = d'.stands;
             is_at = λ near far part i.
-                d.is_at near _ far part.d refl
-                (a.is_at near _ far part.a refl
-                (e.is_at near _ far part.e refl (c'.is_at near _ far part.c refl (b.is_at near _ far part.b refl i))));
+                d'.is_at near _ far part.d refl
+                (a'.is_at near _ far part.a refl
+                (e'.is_at near _ far part.e refl (c''.is_at near _ far part.c refl (b'.is_at near _ far part.b refl i))));
           };
       stays = λ same x stands.
-          c.go_ahead-d.ensures.stays (ap (λ q. q.d) same) x
-          (c.go_ahead-a.ensures.stays (ap (λ q. q.a) same) x (c.go_ahead-e.ensures.stays (ap (λ q. q.e) same) x
-          (c.go_ahead-c.ensures.stays (ap (λ q. q.c) same) x (c.go_ahead-b.ensures.stays (ap (λ q. q.b) same) x stands))));
+          d.stays (ap (λ q. q.d) same) x (a.stays (ap (λ q. q.a) same) x (e.stays (ap (λ q. q.e) same) x
+          (c'.stays (ap (λ q. q.c) same) x (b.stays (ap (λ q. q.b) same) x stands))));
       rests = λ same x stands near end.
-          let b = c.go_ahead-b.ensures.stays (ap (λ q. q.b) same) x stands in
-          let c' = c.go_ahead-c.ensures.stays (ap (λ q. q.c) same) x b in
-          let e = c.go_ahead-e.ensures.stays (ap (λ q. q.e) same) x c' in
-          let a = c.go_ahead-a.ensures.stays (ap (λ q. q.a) same) x e in
+          let after_b = b.stays (ap (λ q. q.b) same) x stands in
+          let after_c = c'.stays (ap (λ q. q.c) same) x after_b in
+          let after_e = e.stays (ap (λ q. q.e) same) x after_c in
+          let after_a = a.stays (ap (λ q. q.a) same) x after_e in
           record {
-            a = c.go_ahead-a.ensures.rests (ap (λ q. q.a) same) near.a end.a x e;
-            b = c.go_ahead-b.ensures.rests (ap (λ q. q.b) same) near.b
-                end.b x stands;
-            c = c.go_ahead-c.ensures.rests (ap (λ q. q.c) same) near.c end.c x b;
-            d = c.go_ahead-d.ensures.rests (ap (λ q. q.d) same) near.d end.d x a;
-            e = c.go_ahead-e.ensures.rests (ap (λ q. q.e) same) near.e end.e x c';
+            a = a.rests (ap (λ q. q.a) same) near.a end.a x after_e;
+            b = b.rests (ap (λ q. q.b) same) near.b end.b x stands;
+            c = c'.rests (ap (λ q. q.c) same) near.c end.c x after_b;
+            d = d.rests (ap (λ q. q.d) same) near.d end.d x after_a;
+            e = e.rests (ap (λ q. q.e) same) near.e end.e x after_c;
           };
     }

@@ -5,7 +5,7 @@ use Rattle.tl_sides.proofs.BridgeSteps.{with_a}
 use Rattle.tl_sides.proofs.Bridging.{masked_a}
 use Rattle.tl_sides.proofs.Layouts.{bridge_layout, part_small, inner_small}
 use Rattle.tl_sides.proofs.Passing.{passes}
-use Rattle.tl_sides.proofs.sync_bridge.SyncBridge.pass_on_a.Goals as goal
+use Rattle.tl_sides.proofs.channel_calls.SyncBridgePassesOnBeatOfHeadA.pass_on.Goals as goal
 
 pub pass_on-requires : goal.pass_on-requires
 pass_on-requires g c = (

@@ -5,7 +5,7 @@ use Rattle.tl_sides.proofs.BridgeSteps.{with_e}
 use Rattle.tl_sides.proofs.Bridging.{masked_e}
 use Rattle.tl_sides.proofs.Layouts.{bridge_layout, part_small, inner_small}
 use Rattle.tl_sides.proofs.Passing.{passes}
-use Rattle.tl_sides.proofs.sync_bridge.SyncBridge.pass_on_e.Goals as goal
+use Rattle.tl_sides.proofs.channel_calls.SyncBridgePassesOnBeatOfHeadE.pass_on.Goals as goal
 
 pub pass_on-requires : goal.pass_on-requires
 pass_on-requires g c = (
