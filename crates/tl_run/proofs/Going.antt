@@ -1,5 +1,5 @@
 -- A channel of a run in one thread goes on by itself: the run stands for what happened, or for what it stood for where no beat was accepted.
-use Rattle.tl_run.proofs.Names.{◌≡◌, ◌≢◌, ◌+◌, ◌-◌, ◌++◌, ◌≤◌, ◌<◌, inr, ℕ, Option, None, List, length, map, [], refl, sym, ap}
+use Rattle.tl_run.proofs.Names.{◌≡◌, ◌+◌, ◌-◌, ◌++◌, ◌≤◌, ◌<◌, inr, ℕ, Option, None, List, length, map, [], refl, sym}
 use Rattle.tl_run.proofs.Names.{subst, ◌∙◌, arith, Rules, rules_a, rules_b, rules_c, rules_d, rules_e, HeadA, HeadD, BeatOf, SideFault, fault_after}
 use Rattle.tl_run.proofs.Names.{none_past, World, Ask, Answer, client_answer, manager_answer, manager_home, round, client_rests}
 use Rattle.tl_run.proofs.Names.{manager_rests, Beats, PerChannel, Bridge, Past, StandsFor, stops_alone, IsPart, Does, IsSent, IsAt, steps}
@@ -7,7 +7,7 @@ use Rattle.tl_run.proofs.Names.{RestsIn, GoesAhead, GoesOn, passed_on, refused_b
 use Rattle.tl_run.proofs.Names.{on_bridge_a, on_bridge_b, on_bridge_c, on_bridge_d, on_bridge_e}
 use Rattle.tl_sides.specs.ChannelCalls.{passes_a, passes_b, passes_c, passes_d, passes_e}
 use Rattle.tl_run.specs.Inner.Going.{at_first, one_more, stopped, through}
-use Rattle.tl_run.proofs.Channels.{Going, HasGone, Passes, RestsAt, Stays, going_a, going_b, going_c, going_d, going_e}
+use Rattle.tl_run.proofs.Channels.{Going, HasGone, Passes, Stays, going_a, going_b, going_c, going_d, going_e}
 use Rattle.tl_run.proofs.Channels.{passes_none, passes_stays, passes_then, rests_none, stays_same}
 use Rattle.tl_run.proofs.Names.{Offering, OffersNext, Offered, Accepted, NotReady}
 use Rattle.tl_run.proofs.Names.{Stopped, Done, Cut, Refused}
@@ -15,7 +15,6 @@ use Rattle.tl_msg.specs.declared.head.HeadB.{HeadB}
 use Rattle.tl_msg.specs.declared.head.HeadC.{HeadC}
 use Rattle.tl_msg.specs.declared.head.HeadE.{HeadE}
 use Rattle.tl_run.proofs.ChannelOffer.{homed-offer, sent-offer, sent-passed}
-use Rattle.tl_run.proofs.Counting.{none-more}
 use Rattle.tl_run.proofs.OfferSteps.{does-taken}
 use Rattle.tl_run.proofs.Parts.{end-none, part-get, part-of}
 use Rattle.tl_run.proofs.Round.{alone-own, client-own, manager-own}

@@ -1,13 +1,7 @@
 -- The channels of a run in one thread go on, one after another. Only contracts of private functions cite these words.
-use Rattle.std.proofs.Common.{◌≡◌, ◌≢◌, ◌+◌, ◌-◌, ◌*◌, ◌≤◌, ◌<◌, ◌⊎◌, inl, ℕ, true, Option, None, Some, Result, Ok, Err, List, [], length, refl, sym, ap, subst}
-use Rattle.std.proofs.Common.{◌∙◌}
+use Rattle.std.proofs.Common.{◌≡◌, ◌≢◌, ◌+◌, ◌-◌, ◌*◌, ◌≤◌, ◌<◌, ◌⊎◌, ℕ, true, Option, None, Some, Result, Ok, Err, List, [], length}
 use Rattle.std.specs.Prelude.{slice_get}
 use Rattle.tl_msg.specs.Tables.{rules_a, rules_b, rules_c, rules_d, rules_e}
-use Rattle.tl_msg.specs.declared.head.HeadA.{HeadA}
-use Rattle.tl_msg.specs.declared.head.HeadB.{HeadB}
-use Rattle.tl_msg.specs.declared.head.HeadC.{HeadC}
-use Rattle.tl_msg.specs.declared.head.HeadD.{HeadD}
-use Rattle.tl_msg.specs.declared.head.HeadE.{HeadE}
 use Rattle.tl_msg.specs.declared.beat.BeatOf.{BeatOf}
 use Rattle.tl_msg.specs.declared.fault.SideFault.{SideFault}
 use Rattle.tl_burst.specs.Handing.{rest_of}
@@ -21,9 +15,8 @@ use Rattle.tl_trace.specs.declared.script.Counts.{Counts}
 use Rattle.tl_sides.specs.declared.per_channel.PerChannel.{PerChannel}
 use Rattle.tl_sides.specs.Bridges.{Bridge, Past, StandsFor}
 use Rattle.tl_sides.specs.Crossings.{stops_alone}
-use Rattle.tl_run.specs.Parts.{ArePart, IsPart}
-use Rattle.tl_run.specs.Inner.Offering.{Offering}
-use Rattle.tl_run.specs.Inner.Running.{IsAt, all_under_way, lengths, steps}
+use Rattle.tl_run.specs.Parts.{ArePart}
+use Rattle.tl_run.specs.Inner.Running.{IsAt, all_under_way, lengths}
 use Rattle.tl_run.specs.declared.channel_state.Offered.{Offered}
 use Rattle.tl_run.specs.declared.channel_state.Offered.TheVariants.{Accepted, NotReady, Stopped}
 use Rattle.tl_run.specs.declared.channel_state.Stop.{Stop}
