@@ -22,23 +22,6 @@ reads_answer unread left check input text took end few (Ok made) is none = recor
 }
 reads_answer unread left check input text took end few (Err fault) is none = subst (IsRefused unread left input) (sym none) tt
 
--- the front of a text stands for the text
-pub fresh_of : (unread left : Option (List ℕ)) (input : Input) → HasTaken unread left [] input → input.from ≡ 0 → IsFresh left input
-fresh_of unread left input t first = record {
-  taken = record { took = took left; count = t.count; few = t.few; from = t.from; to = t.to; end = t.end; room = t.room };
-  first = first;
-}
-  where
-    took : (left : Option (List ℕ)) → Consumes (prepend_known (held input) left) left (held input)
-    took None = tt
-    took (Some more) = refl
-
-pub of_unread : (P : List ℕ → Type 0) (unread left : Option (List ℕ)) (bytes : List ℕ) → Consumes unread left bytes →
-    IfSome (prepend_known bytes left) P → IfSome unread P
-of_unread P None left bytes took is = tt
-of_unread P (Some text) None bytes took is = absurd took
-of_unread P (Some text) (Some more) bytes took is = subst P (sym took) is
-
 -- ---- a text without a header
 
 body_ended : (bytes more : List ℕ) → list_any is_newline bytes ≡ true → body (bytes ++ more) ≡ body bytes

@@ -16,11 +16,6 @@ pub fn source_of(beat: &Seen) -> Piece<'static> {
     Id(beat.source, beat.version)
 }
 
-/// Its sink.
-pub fn sink_of(beat: &Seen) -> Piece<'static> {
-    Id(beat.sink, beat.version)
-}
-
 /// Writes its channel, its message, and the fields by which one knows it: what all beats of a message have
 /// alike.
 fn put_head(out: &mut Page, beat: &Seen) {
