@@ -194,11 +194,11 @@ module _ {C M : ℕ} {H : Type 0} {w v : ℕ} (k : Going C M (BeatOf H w)) (q : 
     (on : (s : Bridge C M) (x : Past C M) → (StandsFor s x → q.Stands s x) × (q.Stands s x → StandsFor s x))
     (Moves : Bridge C M → Bridge C M → Type 0)
     (moves : (t u : Bridge C M) → Moves t u → (i : ℕ) × (j : ℕ) × (l : ℕ) ×
-        ((y : World H w v) (x : Past C M) → StandsFor t (q.put y x) → StandsFor u (q.put (passed_on i j l y) x)))
+    ((y : World H w v) (x : Past C M) → StandsFor t (q.put y x) → StandsFor u (q.put (passed_on i j l y) x)))
     (ahead : (i j l : ℕ) (near : Beats C M) (n : PerChannel ℕ) (far : Beats M C) (x : Past C M) → IsAt near n far x →
-        (s : Bridge C M) → StandsFor s x → (o : Offered) (accepted : List (BeatOf H w)) (y : World H w v) →
-        Does q.rules (k.list near) (k.count n) (q.answer x) (q.home x) (q.crossing x) o accepted y →
-        IsAt near (k.set (k.count n + steps o) n) far (q.put (passed_on i j l y) (q.note accepted x)))
+    (s : Bridge C M) → StandsFor s x → (o : Offered) (accepted : List (BeatOf H w)) (y : World H w v) →
+    Does q.rules (k.list near) (k.count n) (q.answer x) (q.home x) (q.crossing x) o accepted y →
+    IsAt near (k.set (k.count n + steps o) n) far (q.put (passed_on i j l y) (q.note accepted x)))
     (gone : ℕ) (held : List (BeatOf H w)) where
   -- one beat was accepted, and what it gave passed on
   one-passes : (at : ℕ) (s t u : Bridge C M) → gone ≤ at → at - gone < length held → OffersNext q held (at - gone) s Accepted t → Moves t u →

@@ -40,7 +40,8 @@ pub trait PassesOn<B> {
         ensures { Passes self.old self.new };
 }
 
-impl<const C: usize, const M: usize, A: Allocator> PassesOn<BeatOf<HeadA, C>> for SyncBridge<C, M, A> {
+impl<const C: usize, const M: usize, A: Allocator> PassesOn<BeatOf<HeadA, C>>
+    for SyncBridge<C, M, A> {
     ghost Passes = { passes_a };
 
     fn pass_on(&mut self) {
@@ -48,7 +49,8 @@ impl<const C: usize, const M: usize, A: Allocator> PassesOn<BeatOf<HeadA, C>> fo
     }
 }
 
-impl<const C: usize, const M: usize, A: Allocator> PassesOn<BeatOf<HeadB, M>> for SyncBridge<C, M, A> {
+impl<const C: usize, const M: usize, A: Allocator> PassesOn<BeatOf<HeadB, M>>
+    for SyncBridge<C, M, A> {
     ghost Passes = { passes_b };
 
     fn pass_on(&mut self) {
@@ -56,7 +58,8 @@ impl<const C: usize, const M: usize, A: Allocator> PassesOn<BeatOf<HeadB, M>> fo
     }
 }
 
-impl<const C: usize, const M: usize, A: Allocator> PassesOn<BeatOf<HeadC, C>> for SyncBridge<C, M, A> {
+impl<const C: usize, const M: usize, A: Allocator> PassesOn<BeatOf<HeadC, C>>
+    for SyncBridge<C, M, A> {
     ghost Passes = { passes_c };
 
     fn pass_on(&mut self) {
@@ -64,7 +67,8 @@ impl<const C: usize, const M: usize, A: Allocator> PassesOn<BeatOf<HeadC, C>> fo
     }
 }
 
-impl<const C: usize, const M: usize, A: Allocator> PassesOn<BeatOf<HeadD, M>> for SyncBridge<C, M, A> {
+impl<const C: usize, const M: usize, A: Allocator> PassesOn<BeatOf<HeadD, M>>
+    for SyncBridge<C, M, A> {
     ghost Passes = { passes_d };
 
     fn pass_on(&mut self) {
@@ -72,7 +76,8 @@ impl<const C: usize, const M: usize, A: Allocator> PassesOn<BeatOf<HeadD, M>> fo
     }
 }
 
-impl<const C: usize, const M: usize, A: Allocator> PassesOn<BeatOf<HeadE, C>> for SyncBridge<C, M, A> {
+impl<const C: usize, const M: usize, A: Allocator> PassesOn<BeatOf<HeadE, C>>
+    for SyncBridge<C, M, A> {
     ghost Passes = { passes_e };
 
     fn pass_on(&mut self) {
