@@ -1,5 +1,5 @@
 -- What a run ends in makes the answer.
-use Rattle.tl_answer.proofs.Names.{Result, Ok, Err, IfOk, ◌≡◌, ℕ, Bool, true, false, List, [], ◌∷◌, ◌++◌, length, refl, sym, ap, subst, ◌∙◌}
+use Rattle.tl_answer.proofs.Names.{Result, Ok, Err, IfOk, ◌≡◌, ℕ, Bool, true, false, List, [], ◌∷◌, ◌++◌, length, refl, sym, ap, ◌∙◌}
 use Rattle.tl_answer.proofs.Names.{append-nil, arith, list_all, Beats, far_beats, verdicts, EndsIn, near_beats, Tells, IsScriptOf, Script, Line}
 use Rattle.tl_answer.proofs.Names.{far_header, far_lines, near, taken, report, is_done, text_of, IsAnswer, TextFault}
 use Rattle.tl_msg.specs.declared.verdict.Verdict.{Verdict}

@@ -1,7 +1,7 @@
 -- What came of a text that is read piece by piece is what comes of the whole text.
 use Rattle.tl_answer.proofs.Names.{IfSome, IfOk, IfErr, ◌≡◌, ℕ, ◌-◌, ◌<◌, ◌≤◌, Bool, true, false, nat_eq, ◌||◌, List, [], ◌∷◌, ◌++◌, length, Option}
 use Rattle.tl_answer.proofs.Names.{None, Some, Result, Ok, Err, refl, sym, ap, ◌∙◌, subst, arith, length-append, or_parts, eqb-true, list_any}
-use Rattle.tl_answer.proofs.Names.{Consumes, IsAtEnd, prepend_known, is_newline, body, header_of, IsFirstFault, Header, HasTaken, IsFresh, IsRefused}
+use Rattle.tl_answer.proofs.Names.{Consumes, IsAtEnd, is_newline, body, header_of, IsFirstFault, Header, IsFresh, IsRefused}
 use Rattle.tl_answer.proofs.Names.{held, unread_of, ReadsAnswer, spelled, IsAnswer, most_bytes, TextFault, Input}
 use Rattle.tl_trace.specs.declared.fault.TraceKind.TheVariants as kinds
 use Rattle.tl_stream.specs.declared.fault.TextFault.TheVariants as faults

@@ -1,6 +1,6 @@
 -- What the writes of an answer put out.
-use Rattle.tl_answer.proofs.Names.{Result, Ok, Err, IfSome, IfOk, OnOk, IfErr, ◌≡◌, ℕ, ◌+◌, ◌-◌, ◌≤◌, Bool, List, ◌++◌, length, take, drop, Option}
-use Rattle.tl_answer.proofs.Names.{None, Some, refl, sym, subst, ap, ◌∙◌, arith, length-drop, Appends-trans, Appends-kept, Appends, Keeps}
+use Rattle.tl_answer.proofs.Names.{Result, Ok, Err, IfSome, IfOk, OnOk, IfErr, ◌≡◌, ℕ, Bool, List, ◌++◌, Option}
+use Rattle.tl_answer.proofs.Names.{None, Some, refl, sym, subst, Appends-trans, Appends-kept, Appends, Keeps}
 use Rattle.tl_answer.proofs.Names.{AnswersRead, spelled, AnswersText, IsAnswer, TextFault}
 use Rattle.tl_order.specs.Orders.{is_check}
 use Rattle.tl_order.specs.declared.Order.{Order}
