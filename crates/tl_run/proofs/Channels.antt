@@ -119,7 +119,8 @@ module _ {C M : ℕ} where
 
 -- what came of a channel that went ahead, from this count and side to that one, where this fault stopped its next beat if one did
 module _ {C M : ℕ} {H : Type 0} {w v : ℕ} (k : Going C M (BeatOf H w)) (q : Offering (Bridge C M) (Past C M) H w v) where
-  pub record HasGone (gone : ℕ) (held : List (BeatOf H w)) (at : ℕ) (s : Bridge C M) (later : ℕ) (t : Bridge C M) (o : Option SideFault) : Type 0 where
+  pub record HasGone (gone : ℕ) (held : List (BeatOf H w)) (at : ℕ) (s : Bridge C M) (later : ℕ) (t : Bridge C M) (o : Option SideFault) :
+      Type 0 where
     pub on : at ≤ later
     pub passes : Passes k gone held at s later t
     pub stays : later ≡ at → Stays s t

@@ -27,7 +27,8 @@ pub use Rattle.tl_ring.specs.Crossing.{World, offered, shut, inbox_room, empty, 
 pub use Rattle.tl_ring.specs.Pipe.{Pipe, IsReady}
 pub use Rattle.tl_run.specs.Arrivals.{joined, no_beats, Fit}
 pub use Rattle.tl_run.specs.Inner.Arriving.{HasRoom, HaveRoom, beats_of}
-pub use Rattle.tl_run.specs.Inner.Going.{GoesAhead, GoesOn, RestsIn, refused_by, AreOn, AreStopsOf, HasStopped, IsStopOf, all_counts, all_ways, stop_by, way_in, IsSound}
+pub use Rattle.tl_run.specs.Inner.Going.{GoesAhead, GoesOn, RestsIn, refused_by, AreOn, AreStopsOf, HasStopped, IsStopOf, all_counts, all_ways}
+pub use Rattle.tl_run.specs.Inner.Going.{stop_by, way_in, IsSound}
 pub use Rattle.tl_run.specs.Inner.Going.{AllRest}
 pub use Rattle.tl_run.specs.Inner.Offering.{Offering, OffersNext, on_bridge_a, on_bridge_b, on_bridge_c, on_bridge_d, on_bridge_e, SameClientEnds}
 pub use Rattle.tl_run.specs.Inner.Offering.{SameManagerEnds, offer_outcome, close_outcome, on_side_a, on_side_c, on_side_e, on_side_b, on_side_d}

@@ -51,5 +51,6 @@ returns g c =
     let before = c.beats.invariant in
     record {
       within = before.within;
-      ahead = through c.beats.at c.beats.side before.goes (omega (arith, c.beats-test.false, c.len.ensures, c.args.held.now.ok.0, before.within.from));
+      ahead = through c.beats.at c.beats.side before.goes
+          (omega (arith, c.beats-test.false, c.len.ensures, c.args.held.now.ok.0, before.within.from));
     }
