@@ -62,10 +62,3 @@ taker_fits w width =
     let intake = up_le 16 (48 + ROOM * beat_bytes w) in
     let whole = up_le 16 (up 16 (0 + up 16 (0 + up 16 (queue_bytes (beat_bytes w)))) + up 16 (48 + ROOM * beat_bytes w)) in
     omega arith
-
--- and so does the taking end of a plain ring, with room for the beats that one call takes
-pub plain_taker_fits : (w : ℕ) → IsWidth w → up 16 (48 + ROOM * beat_bytes w) < 9223372036854775808
-plain_taker_fits w width =
-    let beat = beat_few w width in
-    let whole = up_le 16 (48 + ROOM * beat_bytes w) in
-    omega arith

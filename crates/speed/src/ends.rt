@@ -4,15 +4,14 @@ ghost use Rattle.tl_lanes.specs.Lanes.{IsWidth};
 
 use crate::figures::Figures;
 use rtrb::{Consumer, Producer, RingBuffer};
-use std::alloc::Global;
-use std::rt::Clock;
+use std::alloc::{AllocError, Global};
 use std::slice;
 use std::thread::{Threads, join};
 use tl_lanes::{Mask, active, is_width};
-use tl_msg::{Beat, BeatOf, ChA, ChE, Channel, HeadA};
+use tl_msg::{Beat, BeatOf, ChA, ChE, Channel, HeadA, SinkId};
 use tl_ring::{ROOM, SendEnd, TakeEnd, ring_pair};
 
-/// How many beats stand in memory, all alike, which are sent over and over: whole messages.
+/// How many beats stand in memory, which are sent over and over: whole messages.
 const SOME: usize = 64;
 
 /// A side gives up after so many turns.
@@ -78,21 +77,44 @@ impl<H: Copy, const W: usize> Sender<BeatOf<H, W>> for Producer<BeatOf<H, W>, Gl
     }
 }
 
-/// The taking end of a plain ring, with room for the beats that one call takes.
-#[derive(Drop)]
-struct PlainTaker<H: Copy, const W: usize> {
-    end: Consumer<BeatOf<H, W>, Global>,
-    room: [BeatOf<H, W>; ROOM],
+/// What has a mask: a beat of any channel.
+trait Masked {
+    /// The mask.
+    fn mask(&self) -> Mask;
 }
 
-impl<H: Copy, const W: usize> Taker for PlainTaker<H, W> {
+impl<H: Copy, const W: usize> Masked for BeatOf<H, W> {
+    fn mask(&self) -> Mask {
+        self.mask
+    }
+}
+
+/// The taking end of a plain ring, with room for the beats that one call takes.
+#[derive(Drop)]
+struct PlainTaker<B: Copy> {
+    end: Consumer<B, Global>,
+    room: Vec<B>,
+}
+
+impl<B: Masked + Copy> Taker for PlainTaker<B> {
     fn take(&mut self, masks: &mut Mask) -> usize {
         let count = self.end.pop_partial_slice(&mut self.room);
         for beat in &self.room[..count] {
-            *masks = masks.wrapping_add(beat.mask);
+            *masks = masks.wrapping_add(beat.mask());
         }
         count
     }
+}
+
+/// Both ends of a plain ring of so many beats such as this one.
+fn plain_pair<B: Copy>(
+    alloc: Global,
+    ring: usize,
+    beat: B,
+) -> Result<(Producer<B, Global>, PlainTaker<B>), AllocError> {
+    let room = vec![in alloc; beat; ROOM]?;
+    let (producer, end) = RingBuffer::new(alloc, ring)?;
+    Ok((producer, PlainTaker { end, room }))
 }
 
 /// Offers the beat of this number, and sends what can be sent. Answers whether the beat was taken in.
@@ -156,14 +178,14 @@ fn send_and_take<S: Sender<B>, T: Taker, B>(
 
 /// Sends so many beats from a sender to a taker in two threads, which run free. Answers the sum of their masks.
 fn join_both<S: Sender<B> + Send, T: Taker + Send, B: Sync>(
-    rt: &impl Threads,
+    threads: &impl Threads,
     sender: &mut S,
     taker: &mut T,
     beats: &[B],
     count: usize,
 ) -> Mask {
     let (_, masks) = join(
-        rt,
+        threads,
         || send_all(sender, beats, count),
         || take_all(taker, count),
     );
@@ -179,7 +201,8 @@ const PLAIN: Names = ["plain_one_thread", "plain_two_threads"];
 
 /// Sends so many beats from a sender to a taker, in one thread and then in two. Both passes are timed.
 fn measure_pair<S: Sender<B> + Send + Drop, T: Taker + Send + Drop, B: Sync>(
-    rt: &(impl Clock + Threads),
+    rt: &HostRuntime,
+    threads: &impl Threads,
     names: Names,
     ends: (S, T),
     beats: &[B],
@@ -191,15 +214,31 @@ fn measure_pair<S: Sender<B> + Send + Drop, T: Taker + Send + Drop, B: Sync>(
     let one = send_and_take(&mut sender, &mut taker, beats, count);
     figures.put_time(rt, one_thread);
     figures.start(rt);
-    let two = join_both(rt, &mut sender, &mut taker, beats, count);
+    let two = join_both(threads, &mut sender, &mut taker, beats, count);
     figures.put_time(rt, two_threads);
     if one != two {
         figures.refuse("the two passes took other beats");
     }
 }
 
-/// A PutFullData of 64 bytes on a bus of `W` bytes, or of as many as a wider bus has: each of its beats.
-fn request<const W: usize>() -> Beat<ChA, W>
+/// Sends so many beats through a plain ring.
+fn measure_plain<H: Copy + Send + Sync, const W: usize>(
+    rt: &HostRuntime,
+    threads: &impl Threads,
+    beats: &[BeatOf<H, W>; SOME],
+    ring: usize,
+    count: usize,
+    figures: &mut Figures,
+) {
+    match plain_pair(rt.alloc(), ring, beats[0]) {
+        Ok(ends) => measure_pair(rt, threads, PLAIN, ends, beats, count, figures),
+        Err(_) => figures.refuse("there is no such ring"),
+    }
+}
+
+/// A PutFullData of 64 bytes on a bus of `W` bytes, or of as many as a wider bus has: each of its beats, with
+/// this byte on all lanes.
+fn request<const W: usize>(byte: u8) -> Beat<ChA, W>
     requires { IsWidth W }
 {
     let (size, address) = (if W > 64 { 7 } else { 6 }, 128);
@@ -212,111 +251,78 @@ fn request<const W: usize>() -> Beat<ChA, W>
             address,
         },
         mask: active(address, size, W),
-        lanes: [1; W],
+        lanes: [byte; W],
         corrupt: false,
     }
 }
 
-/// Sends so many beats of requests between both ends of a crossing.
-fn cross_requests<const W: usize>(
-    rt: &(impl Clock + Threads + AllocGlobal),
-    beats: &[Beat<ChA, W>],
-    ring: usize,
-    count: usize,
-    figures: &mut Figures,
-)
+/// Numbers beats of requests by the bytes on their lanes.
+fn number_requests<const W: usize>(beats: &mut [Beat<ChA, W>])
     requires { IsWidth W }
 {
-    match ring_pair::<ChA, W, W, Global>(rt.alloc(), ring) {
-        Ok(ends) => measure_pair(rt, CROSSING, ends, beats, count, figures),
-        Err(_) => figures.refuse("there is no crossing over such a ring"),
+    let mut number: u8 = 0;
+    for beat in beats {
+        *beat = request::<W>(number);
+        number = number.wrapping_add(1);
     }
 }
 
-/// Sends so many beats of requests through a plain ring.
-fn pass_requests<const W: usize>(
-    rt: &(impl Clock + Threads + AllocGlobal),
-    beats: &[Beat<ChA, W>],
-    ring: usize,
-    count: usize,
-    figures: &mut Figures,
-)
-    requires { IsWidth W }
-{
-    match RingBuffer::new(rt.alloc(), ring) {
-        Ok((producer, end)) => {
-            let room = [BeatOf::default(); ROOM];
-            let ends = (producer, PlainTaker { end, room });
-            measure_pair(rt, PLAIN, ends, beats, count, figures)
-        }
-        Err(_) => figures.refuse("there is no such ring"),
-    }
-}
-
-/// Sends so many GrantAcks between both ends of a crossing.
-#[tactic(auto, using(tl_lanes::proofs::Widths::width_8))]
-fn cross_acks(
-    rt: &(impl Clock + Threads + AllocGlobal),
-    beats: &[Beat<ChE, 8>],
-    ring: usize,
-    count: usize,
-    figures: &mut Figures,
-) {
-    match ring_pair::<ChE, 8, 8, Global>(rt.alloc(), ring) {
-        Ok(ends) => measure_pair(rt, CROSSING, ends, beats, count, figures),
-        Err(_) => figures.refuse("there is no crossing over such a ring"),
-    }
-}
-
-/// Sends so many GrantAcks through a plain ring.
-fn pass_acks(
-    rt: &(impl Clock + Threads + AllocGlobal),
-    beats: &[Beat<ChE, 8>],
-    ring: usize,
-    count: usize,
-    figures: &mut Figures,
-) {
-    match RingBuffer::new(rt.alloc(), ring) {
-        Ok((producer, end)) => {
-            let room = [BeatOf::default(); ROOM];
-            let ends = (producer, PlainTaker { end, room });
-            measure_pair(rt, PLAIN, ends, beats, count, figures)
-        }
-        Err(_) => figures.refuse("there is no such ring"),
+/// Numbers GrantAcks by their sinks.
+fn number_acks(beats: &mut [Beat<ChE, 8>]) {
+    let mut number: SinkId = 0;
+    for beat in beats {
+        beat.head.sink = number;
+        number = number.wrapping_add(1);
     }
 }
 
 /// Sends so many beats of requests through a crossing, and through a plain ring of as many places.
 fn measure_requests<const W: usize>(
-    rt: &(impl Clock + Threads + AllocGlobal),
+    rt: &HostRuntime,
+    threads: &impl Threads,
     ring: usize,
     count: usize,
     figures: &mut Figures,
-) {
-    if !is_width(W) {
-        return figures.refuse("there is no bus of this width");
+)
+    requires { IsWidth W }
+{
+    let mut beats = [request::<W>(0); SOME];
+    number_requests(&mut beats);
+    match ring_pair::<ChA, W, W, Global>(rt.alloc(), ring) {
+        Ok(ends) => {
+            measure_pair(rt, threads, CROSSING, ends, &beats, count, figures);
+            measure_plain(rt, threads, &beats, ring, count, figures);
+        }
+        Err(_) => figures.refuse("there is no crossing over such a ring"),
     }
-    let beats = [request::<W>(); SOME];
-    cross_requests::<W>(rt, &beats, ring, count, figures);
-    pass_requests::<W>(rt, &beats, ring, count, figures);
 }
 
 /// Sends so many GrantAcks through a crossing, and through a plain ring of as many places.
+#[tactic(auto, using(tl_lanes::proofs::Widths::width_8))]
 fn measure_acks(
-    rt: &(impl Clock + Threads + AllocGlobal),
+    rt: &HostRuntime,
+    threads: &impl Threads,
     ring: usize,
     count: usize,
     figures: &mut Figures,
 ) {
-    let beats = [Beat::<ChE, 8>::default(); SOME];
-    cross_acks(rt, &beats, ring, count, figures);
-    pass_acks(rt, &beats, ring, count, figures);
+    let mut beats = [Beat::<ChE, 8>::default(); SOME];
+    number_acks(&mut beats);
+    match ring_pair::<ChE, 8, 8, Global>(rt.alloc(), ring) {
+        Ok(ends) => {
+            measure_pair(rt, threads, CROSSING, ends, &beats, count, figures);
+            measure_plain(rt, threads, &beats, ring, count, figures);
+        }
+        Err(_) => figures.refuse("there is no crossing over such a ring"),
+    }
 }
 
 /// Sends so many beats of a channel through a ring of `ring` beats, four times: between both ends in one thread and in two, and
 /// through plain `rtrb` likewise. Each pass is timed.
+#[tactic(auto, using(tl_lanes::proofs::Widths::width_8, tl_lanes::proofs::Widths::width_64, tl_lanes::proofs::Widths::width_128))]
 pub fn measure(
-    rt: &(impl Clock + Threads + AllocGlobal),
+    rt: &HostRuntime,
+    threads: &impl Threads,
     channel: &str,
     width: usize,
     ring: usize,
@@ -325,10 +331,10 @@ pub fn measure(
 ) {
     figures.put("beats", count as u128);
     match (channel, width) {
-        ("A", 8) => measure_requests::<8>(rt, ring, count, figures),
-        ("A", 64) => measure_requests::<64>(rt, ring, count, figures),
-        ("A", 128) => measure_requests::<128>(rt, ring, count, figures),
-        ("E", 8) => measure_acks(rt, ring, count, figures),
+        ("A", 8) => measure_requests::<8>(rt, threads, ring, count, figures),
+        ("A", 64) => measure_requests::<64>(rt, threads, ring, count, figures),
+        ("A", 128) => measure_requests::<128>(rt, threads, ring, count, figures),
+        ("E", 8) => measure_acks(rt, threads, ring, count, figures),
         _ => figures.refuse("this channel is not measured at this width"),
     }
 }

@@ -14,10 +14,7 @@ mod figures;
 mod measure;
 
 use figures::Figures;
-use std::fs::Files;
-use std::io::Read;
 use std::process::ExitCode;
-use std::rt::Clock;
 use std::thread::Threads;
 use std::{env, io};
 
@@ -38,25 +35,21 @@ fn number_at(words: &[String], at: usize) -> usize {
 }
 
 /// Says which words there are.
-fn print_usage(rt: &impl Print) {
+fn print_usage(rt: &HostRuntime) {
     let _ = println!(rt;
         "usage: speed ends A|E WIDTH RING BEATS, or one of pass and measure < TRACE"
     );
 }
 
 /// Measures what the words of the command line ask for, behind the program's own name.
-fn measure_by(
-    rt: &(impl Clock + Print + Files + Threads + AllocGlobal),
-    reader: &mut impl Read,
-    words: &[String],
-    figures: &mut Figures,
-) {
+fn measure_by(rt: &HostRuntime, threads: &impl Threads, words: &[String], figures: &mut Figures) {
     match word_at(words, 1) {
-        "pass" => measure::pass(rt, reader, figures),
-        "measure" => measure::measure(rt, reader, figures),
+        "pass" => measure::pass(rt, &mut rt.stdin(), figures),
+        "measure" => measure::measure(rt, &mut rt.stdin(), figures),
         "ends" => {
             ends::measure(
                 rt,
+                threads,
                 word_at(words, 2),
                 number_at(words, 3),
                 number_at(words, 4),
@@ -71,6 +64,6 @@ fn measure_by(
 fn main(rt: HostRuntime) -> io::Result<ExitCode> {
     let words: Vec<String> = env::args(&rt)?.collect(rt.alloc())?;
     let mut figures = Figures::new(rt.alloc());
-    measure_by(&rt, &mut rt.stdin(), &words, &mut figures);
+    measure_by(&rt, &rt, &words, &mut figures);
     Ok(ExitCode::from(!figures.print(&rt) as u8))
 }

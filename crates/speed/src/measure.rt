@@ -6,9 +6,7 @@ ghost use Rattle.tl_stream.specs.Inputs.{IsFresh};
 
 use crate::figures::{Figures, nanos_since, now};
 use arrayvec::ArrayVec;
-use std::fs::Files;
-use std::io::Read;
-use std::rt::Clock;
+use std::io::{Read, Stdin};
 use tl_convert::Converter;
 use tl_lanes::{WIDEST, is_width};
 use tl_msg::{Beat, ChA, ChE};
@@ -18,22 +16,32 @@ use tl_trace::{HeadText, Script, header_of_text, write_far};
 /// How many near beats are converted before the lines of their far beats are written.
 const NEAR_BEATS: usize = 64;
 
+/// How many LFs a text has.
 fn line_ends(text: &[u8]) -> usize {
-    text.iter().filter(|byte| **byte == b'\n').count()
+    let mut count: usize = 0;
+    for byte in text {
+        count = count.wrapping_add((*byte == b'\n') as usize);
+    }
+    count
 }
 
 /// Takes all of standard input into memory, and counts its LFs: plain passes, to compare with.
-pub fn pass(rt: &(impl Clock + AllocGlobal), reader: &mut impl Read, figures: &mut Figures) {
-    let Ok(mut text) = Vec::with_capacity(rt.alloc(), MAX_BYTES) else {
-        return figures.refuse("there is no memory for the text");
-    };
+pub fn pass(rt: &HostRuntime, reader: &mut Stdin, figures: &mut Figures) {
+    match Vec::with_capacity(rt.alloc(), MAX_BYTES) {
+        Ok(mut text) => pass_into(rt, reader, &mut text, figures),
+        Err(_) => figures.refuse("there is no memory for the text"),
+    }
+}
+
+/// Takes all of standard input into this memory, and counts its LFs.
+fn pass_into(rt: &HostRuntime, reader: &mut Stdin, text: &mut Vec<u8>, figures: &mut Figures) {
     figures.start(rt);
-    if reader.read_to_end(&mut text).is_err() {
+    if reader.read_to_end(text).is_err() {
         return figures.refuse("the text cannot be read");
     }
     figures.put_time(rt, "whole");
     figures.start(rt);
-    let lines = line_ends(&text);
+    let lines = line_ends(text);
     figures.put_time(rt, "count");
     figures.put("bytes", text.len() as u128);
     figures.put("lines", lines as u128);
@@ -79,7 +87,7 @@ struct Work {
 
 /// Converts some beats, and appends the lines of their far beats to a text.
 fn convert_some<K: HeadText, const W: usize, const V: usize>(
-    rt: &impl Clock,
+    rt: &HostRuntime,
     converter: &mut Converter<K, W, V>,
     given: &mut ArrayVec<Beat<K, V>, WIDEST>,
     near: &[Beat<K, W>],
@@ -104,7 +112,7 @@ fn convert_some<K: HeadText, const W: usize, const V: usize>(
 /// Converts the beats of a channel, whole messages, and writes the lines of their far beats: some at a time, so that far beats stand
 /// in memory that was used before. The lines are written behind one another.
 fn convert_and_write<K: HeadText, const W: usize, const V: usize>(
-    rt: &(impl Clock + AllocGlobal),
+    rt: &HostRuntime,
     converter: &mut Converter<K, W, V>,
     given: &mut ArrayVec<Beat<K, V>, WIDEST>,
     near: &[Beat<K, W>],
@@ -154,7 +162,7 @@ fn version_between(text: &[u8], client: usize, manager: usize) -> Option<u8>
 
 /// Adds what it took to read a script, converts its beats of A, or of E where there is none of A, and writes the far ones.
 fn measure_script<const C: usize, const M: usize>(
-    rt: &(impl Clock + Files + AllocGlobal),
+    rt: &HostRuntime,
     script: &Script<C, M>,
     version: u8,
     figures: &mut Figures,
@@ -176,55 +184,46 @@ fn measure_script<const C: usize, const M: usize>(
 
 /// Reads a trace between these widths piece by piece, as the program does, converts its beats of A, or of E where it has none of A,
 /// and writes the far ones.
-fn measure_pair<R: Read, const C: usize, const M: usize>(
-    rt: &(impl Clock + Files + AllocGlobal),
-    reader: &mut R,
+fn measure_pair<const C: usize, const M: usize>(
+    rt: &HostRuntime,
+    reader: &mut Stdin,
     input: &mut Input,
     figures: &mut Figures,
 )
-    requires { IsFresh (R.remaining reader.old) input.old }
+    requires { IsFresh (⟦<Stdin as Read>⟧.remaining reader.old) input.old }
 {
     let version = match version_between(input.held(), C, M) {
         Some(version) if are_widths(C, M) => version,
         _ => return figures.refuse("the text is no trace between these widths"),
     };
-    match script_of_input::<R, C, M>(rt.alloc(), reader, input, version) {
+    match script_of_input::<Stdin, C, M>(rt.alloc(), reader, input, version) {
         Ok(script) => measure_script(rt, &script, version, figures),
         Err(_) => figures.refuse("the text is no trace"),
     }
 }
 
 /// Reads the rest of a trace, of which the input holds the first piece, converts its beats and writes the far ones.
-fn measure_input<R: Read>(
-    rt: &(impl Clock + Files + AllocGlobal),
-    reader: &mut R,
-    input: &mut Input,
-    figures: &mut Figures,
-)
-    requires { IsFresh (R.remaining reader.old) input.old }
+fn measure_input(rt: &HostRuntime, reader: &mut Stdin, input: &mut Input, figures: &mut Figures)
+    requires { IsFresh (⟦<Stdin as Read>⟧.remaining reader.old) input.old }
 {
     let Some(header) = header_of_text(input.held()) else {
         return figures.refuse("the text is no trace");
     };
     match (header.client, header.manager) {
-        (8, 8) => measure_pair::<R, 8, 8>(rt, reader, input, figures),
-        (4, 64) => measure_pair::<R, 4, 64>(rt, reader, input, figures),
-        (64, 4) => measure_pair::<R, 64, 4>(rt, reader, input, figures),
-        (64, 1) => measure_pair::<R, 64, 1>(rt, reader, input, figures),
-        (8, 32) => measure_pair::<R, 8, 32>(rt, reader, input, figures),
-        (128, 1) => measure_pair::<R, 128, 1>(rt, reader, input, figures),
-        (1, 128) => measure_pair::<R, 1, 128>(rt, reader, input, figures),
+        (8, 8) => measure_pair::<8, 8>(rt, reader, input, figures),
+        (4, 64) => measure_pair::<4, 64>(rt, reader, input, figures),
+        (64, 4) => measure_pair::<64, 4>(rt, reader, input, figures),
+        (64, 1) => measure_pair::<64, 1>(rt, reader, input, figures),
+        (8, 32) => measure_pair::<8, 32>(rt, reader, input, figures),
+        (128, 1) => measure_pair::<128, 1>(rt, reader, input, figures),
+        (1, 128) => measure_pair::<1, 128>(rt, reader, input, figures),
         _ => figures.refuse("nothing is measured at these widths"),
     }
 }
 
 /// Reads a trace from standard input piece by piece, as the program does, converts its beats and writes the far ones. Each part is
 /// timed.
-pub fn measure<R: Read>(
-    rt: &(impl Clock + Files + AllocGlobal),
-    reader: &mut R,
-    figures: &mut Figures,
-) {
+pub fn measure(rt: &HostRuntime, reader: &mut Stdin, figures: &mut Figures) {
     figures.start(rt);
     match Input::open(rt.alloc(), reader) {
         Ok(mut input) => measure_input(rt, reader, &mut input, figures),

@@ -1,5 +1,5 @@
 use Rattle.speed.proofs.EndSizes.{sender_fits, taker_fits}
-use Rattle.speed.proofs.ends.cross_requests.Goals as goal
+use Rattle.speed.proofs.ends.measure_requests.Goals as goal
 
 pub measure_pair-requires-room-S-Sender : goal.measure_pair-requires-room-S-Sender
 measure_pair-requires-room-S-Sender g c κs within = sender_fits g.row.W c.requires
