@@ -156,7 +156,8 @@ impl<K: Channel, const W: usize, const V: usize, A: Allocator> ClosingEnd<K, W, 
         ensures stands { (x : World K.Head W V) → Sends K.rules self.old x →
             Sends K.rules self.new (passed result x) }
     {
-        send_staged(&mut self.outbox, &mut self.producer)
+        let ClosingEnd { outbox, producer } = self;
+        send_staged(outbox, producer)
     }
 
     /// Gives up the end where nothing is staged, and answers the receipt that shows the taking end

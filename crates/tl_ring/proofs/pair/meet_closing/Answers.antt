@@ -1,4 +1,4 @@
-use Rattle.tl_ring.proofs.Names.{◌≤◌, length, arith, ROOM}
+use Rattle.tl_ring.proofs.Names.{◌≤◌, ◌∙◌, length, arith, ROOM}
 use Rattle.tl_ring.specs.Ends.{sending_of, taking_of}
 use Rattle.tl_ring.proofs.EndSteps.{meeting_of}
 use denote.Memory.{lone}
@@ -11,11 +11,6 @@ use Rattle.tl_ring.proofs.pair.meet_closing.Goals as goal
 pub look-in_ring-requires : goal.look-in_ring-requires
 look-in_ring-requires g c = rw (← c.send.view_is, ← c.take.view_is) at c.requires
 
-pub staged-requires : goal.staged-requires
-staged-requires g c = part_small (layout (send.the_row (param 0 g.row.K) (param 1 (number g.row.W)) (param 2 (number g.row.V)) (param 3 g.row.A)
-    (copied 4 g.row.K-Head) g.K.Channel g.K.Head.Clone g.K.Head.Eq g.K.Head.PartialEq g.K.Head.Default g.A.Allocator)) 0 9223372036854775808
-    c.requires-raw.1.1.1.1.1.0
-
 pub look-in_ring-requires-room-P-Protocol : goal.look-in_ring-requires-room-P-Protocol
 look-in_ring-requires-room-P-Protocol g c κs within = omega arith
 
@@ -26,25 +21,31 @@ look-in_ring-requires-room-P-Protocol-2 g c κs within =
     (copied 4 g.row.K-Head) g.K.Channel g.K.Head.Clone g.K.Head.Eq g.K.Head.PartialEq g.K.Head.Default g.A.Allocator)) 0 0 9223372036854775808
     c.requires-raw.1.1.1.1.1.1.0)
 
-pub len-requires : goal.len-requires
-len-requires g c = part_small (layout (take.the_row (param 0 g.row.K) (param 1 (number g.row.W)) (param 2 (number g.row.V)) (param 3 g.row.A)
-    (copied 4 g.row.K-Head) g.K.Channel g.K.Head.Clone g.K.Head.Eq g.K.Head.PartialEq g.K.Head.Default g.A.Allocator)) 0 9223372036854775808
-    c.requires-raw.1.1.1.1.1.1.0
+pub standing_between-requires : goal.standing_between-requires
+standing_between-requires g c = (
+  part_small (layout (send.the_row (param 0 g.row.K) (param 1 (number g.row.W)) (param 2 (number g.row.V)) (param 3 g.row.A)
+      (copied 4 g.row.K-Head) g.K.Channel g.K.Head.Clone g.K.Head.Eq g.K.Head.PartialEq g.K.Head.Default g.A.Allocator)) 0 9223372036854775808
+      c.requires-raw.1.1.1.1.1.0,
+  part_small (layout (take.the_row (param 0 g.row.K) (param 1 (number g.row.W)) (param 2 (number g.row.V)) (param 3 g.row.A)
+      (copied 4 g.row.K-Head) g.K.Channel g.K.Head.Clone g.K.Head.Eq g.K.Head.PartialEq g.K.Head.Default g.A.Allocator)) 0 9223372036854775808
+      c.requires-raw.1.1.1.1.1.1.0,
+)
 
 pub returns : goal.returns
 returns g c =
     let seen = c.look-in_ring in
+    let stand = c.standing_between.ensures in
     let pair = rw (← c.send.view_is, ← c.take.view_is) at c.requires in
     let s = sending_of c.send.inside.outbox c.send.inside.producer in
     let t = taking_of c.take.inside.inbox c.take.inside.intake.half in
-    let held : length c.take.inside.inbox ≤ ROOM = omega (arith, c.len.ensures.count, c.len.ensures.most) in
+    let held : length c.take.inside.inbox ≤ ROOM = omega (arith, stand.inbox, stand.most) in
     let meeting = meeting_of g.K.Channel.rules s t seen.new.producer seen.new.consumer seen.result pair seen.ensures.producer seen.ensures.consumer
     seen.ensures.count seen.ensures.fifo seen.ensures.places held in
     rw (← c.send.view_is, ← c.take.view_is) (record {
       met = meeting.0;
-      staged = c.staged.ensures.count;
-      in_ring = seen.ensures.count;
-      inbox = c.len.ensures.count;
-      most = (c.staged.ensures.most, c.len.ensures.most);
+      staged = stand.staged;
+      in_ring = stand.in_ring ∙ seen.ensures.count;
+      inbox = stand.inbox;
+      most = stand.most;
       meets = meeting.1;
     })
