@@ -1,34 +1,22 @@
 //! The bridge in one thread, call by call.
 #![tactic(auto, using(tl_lanes::proofs::Widths::width_4, tl_lanes::proofs::Widths::width_16))]
 
-use crate::calls::{ANSWERED, Call, Said, TWICE};
+use crate::calls::{ANSWERED, Call, TWICE};
 use crate::lending::{come_of, lent};
 use crate::values::{blank, data, get};
 use std::alloc::Global;
 use tl_bridge::{Standings, SyncBridge};
 use tl_msg::{HeadB, HeadC, HeadE};
 
-/// Whether a Get of source 11 from this address is offered, and answered so.
-fn asks(bridge: &mut SyncBridge<4, 16>, address: u64, said: &Said) -> bool {
-    bridge.ready_a() && bridge.offer_a(get(0x11, address, 0xf)) == *said
-}
-
-/// Whether a response to source 11 is offered, and answered so.
-fn answers(
-    bridge: &mut SyncBridge<4, 16>,
-    opcode: u8,
-    size: u8,
-    lanes: &[u8; 16],
-    said: &Said,
-) -> bool {
-    bridge.ready_d() && bridge.offer_d(data(opcode, size, 0x11, *lanes)) == *said
-}
-
 /// Whether that comes of a call.
 fn play(bridge: &mut SyncBridge<4, 16>, call: &Call) -> bool {
     match call {
-        Call::Asks(address, said) => asks(bridge, *address, said),
-        Call::Answers(opcode, size, lanes, said) => answers(bridge, *opcode, *size, lanes, said),
+        Call::Asks(address, said) => {
+            bridge.ready_a() && bridge.offer_a(get(0x11, *address, 0xf)) == *said
+        }
+        Call::Answers(opcode, size, lanes, said) => {
+            bridge.ready_d() && bridge.offer_d(data(*opcode, *size, 0x11, *lanes)) == *said
+        }
         Call::ClientPumps | Call::ManagerPumps => bridge.pump() == 1,
         Call::ClientFetches | Call::ManagerFetches => bridge.fetch() == 1,
         Call::TakesAsk(address, mask) => bridge.take_a() == Some(get(0x11, *address, *mask)),
@@ -50,6 +38,27 @@ fn a_request_and_its_response(rt: HostRuntime) {
 #[test]
 fn a_source_used_twice(rt: HostRuntime) {
     assert!(rt; calls_come_of(rt.alloc(), 1, &TWICE));
+}
+
+/// Whether a Get of source 1 from this address crosses between buses of 4 bytes, and then a response to it, of 4 bytes like this one.
+fn ask_and_answer(bridge: &mut SyncBridge<4, 4>, address: u64, byte: u8) -> bool {
+    let (request, response) = (get(1, address, 0xf), data(1, 2, 1, [byte; 4]));
+    let is_asked = bridge.ready_a() && bridge.offer_a(request).is_ok();
+    let is_there = (bridge.pump() == 1) & (bridge.fetch() == 1);
+    let is_taken = bridge.take_a() == Some(request);
+    let is_answered = bridge.ready_d() && bridge.offer_d(response).is_ok();
+    let is_back = (bridge.pump() == 1) & (bridge.fetch() == 1);
+    is_asked & is_there & is_taken & is_answered & is_back & (bridge.take_d() == Some(response))
+}
+
+/// Whether source 1 asks and is answered twice.
+fn both_cross_twice(bridge: &mut SyncBridge<4, 4>) -> bool {
+    ask_and_answer(bridge, 0, 0x11) & ask_and_answer(bridge, 4, 0x22)
+}
+
+#[test]
+fn a_source_used_twice_between_equal_widths(rt: HostRuntime) {
+    assert!(rt; lent(SyncBridge::new(rt.alloc(), 1), both_cross_twice));
 }
 
 const PROBE: HeadB = HeadB {

@@ -122,22 +122,39 @@ fn read_in_pieces(
     Ok(input.total)
 }
 
-/// Whether each of five calls that fails in turn is a fault of reading, and the text is read where none fails.
-fn are_read_in_pieces(alloc: Global, text: &[u8], kind: io::ErrorKind) -> bool {
-    let mut are_faults = true;
-    for bad_call in 1..=5 {
-        are_faults &= read_in_pieces(alloc, text, bad_call, kind) == Err(TextFault::Read);
-    }
-    are_faults & (read_in_pieces(alloc, text, 6, kind) == Ok(300_000))
+/// Whether this comes of reading where that call fails.
+fn comes_in_pieces(
+    alloc: Global,
+    text: &[u8],
+    bad_call: u64,
+    kind: io::ErrorKind,
+    wanted: &Result<usize, TextFault>,
+) -> bool {
+    read_in_pieces(alloc, text, bad_call, kind) == *wanted
 }
 
 /// A piece has 262,144 bytes. So calls 1 to 3 read the first piece of 300,000 bytes, call 4 the rest,
-/// and call 5 finds the end. A call that fails is not made again.
+/// and call 5 finds the end. Each call fails in turn, and none is made again.
 #[test]
 fn read_in_pieces_that_fail(rt: HostRuntime) {
     let text = vec![in rt.alloc(); b'x'; 300_000].expect(&rt, "there is memory");
     for &kind in &KINDS {
-        assert!(rt; are_read_in_pieces(rt.alloc(), text.as_slice(), kind));
+        for bad_call in 1..=5 {
+            assert!(rt;
+                comes_in_pieces(
+                    rt.alloc(),
+                    text.as_slice(),
+                    bad_call,
+                    kind,
+                    &Err(TextFault::Read)
+                ),
+                "call {bad_call}"
+            );
+        }
+        assert!(rt;
+            comes_in_pieces(rt.alloc(), text.as_slice(), 6, kind, &Ok(300_000)),
+            "no call"
+        );
     }
 }
 

@@ -23,11 +23,16 @@ const LARGEST_RUN: Order = Order::Run {
     sync: false,
 };
 
-const LINES: [Line; 5] = [
+const LINES: [Line; 6] = [
     (&["tlbridge", "run"], USUAL_RUN, None),
     (
         &["tlbridge", "run", "--ring", "1", "--turns", "1", "--sync"],
         LEAST_RUN,
+        None,
+    ),
+    (
+        &["tlbridge", "run", "--ring", "4096", "--turns", "1000"],
+        LARGEST_RUN,
         None,
     ),
     (
@@ -53,16 +58,10 @@ fn gives(alloc: Global, line: &Line) -> bool {
     matches!(order_of(alloc, line.0), Ok(order) if order == line.1)
 }
 
-/// Whether each of these lines is read so.
-fn are_read(alloc: Global) -> bool {
-    let mut are_so = true;
-    for line in &LINES {
-        are_so &= asks_for(alloc, line) & gives(alloc, line);
-    }
-    are_so
-}
-
 #[test]
 fn lines(rt: HostRuntime) {
-    assert!(rt; are_read(rt.alloc()));
+    for (number, line) in LINES.iter().enumerate() {
+        assert!(rt; asks_for(rt.alloc(), line), "row {number}");
+        assert!(rt; gives(rt.alloc(), line), "row {number}, its order");
+    }
 }

@@ -34,16 +34,16 @@ impl<'a> Gate for Spin<'a> {
 }
 
 /// Whether there is memory for two requests by one source, and for two responses to it.
-fn use_twice(script: &mut Script<4, 8>) -> bool {
+fn use_twice(script: &mut Script<4, 4>) -> bool {
     let asks = script
         .a
         .extend_from_slice(&[get(1, 0, 0xf), get(1, 4, 0xf)]);
-    let answers = [data(1, 2, 1, [0x11; 8]), data(1, 2, 1, [0x22; 8])];
+    let answers = [data(1, 2, 1, [0x11; 4]), data(1, 2, 1, [0x22; 4])];
     asks.is_ok() & script.d.extend_from_slice(&answers).is_ok()
 }
 
 /// Whether neither side waits in vain, and each passes its gate once in each round.
-fn meet_in_each_round<R: Threads>(rt: &R, alloc: Global, script: &Script<4, 8>) -> bool {
+fn meet_in_each_round<R: Threads>(rt: &R, alloc: Global, script: &Script<4, 4>) -> bool {
     let there = AtomicU64::new(0);
     let back = AtomicU64::new(0);
     let mut client = Spin {
@@ -65,7 +65,7 @@ fn meet_in_each_round<R: Threads>(rt: &R, alloc: Global, script: &Script<4, 8>) 
 /// Two sides that one thread did in turn would each wait in vain.
 #[test]
 fn both_sides_work_at_the_same_time(rt: HostRuntime) {
-    let mut script = empty::<4, 8>(rt.alloc());
+    let mut script = empty::<4, 4>(rt.alloc());
     let is_so = use_twice(&mut script) & meet_in_each_round(&rt, rt.alloc(), &script);
     drop(script);
     assert!(rt; is_so);

@@ -1,5 +1,5 @@
 //! The run of a script in two threads, beside its run in one.
-#![tactic(auto, using(tl_lanes::proofs::Widths::width_4, tl_lanes::proofs::Widths::width_8))]
+#![tactic(auto, using(tl_lanes::proofs::Widths::width_4))]
 
 ghost use Rattle.tl_run.specs.Scripts.{HasShortLists};
 
@@ -15,7 +15,7 @@ fn are_equal<T: PartialEq>(one: &Vec<T>, other: &Vec<T>) -> bool {
 }
 
 /// Whether both runs have the same lists and verdicts.
-fn are_same(one: &Outcome<4, 8>, other: &Outcome<4, 8>) -> bool {
+fn are_same(one: &Outcome<4, 4>, other: &Outcome<4, 4>) -> bool {
     are_equal(&one.a, &other.a)
         & are_equal(&one.b, &other.b)
         & are_equal(&one.c, &other.c)
@@ -26,8 +26,8 @@ fn are_same(one: &Outcome<4, 8>, other: &Outcome<4, 8>) -> bool {
 
 /// The rounds of two runs of one script, if both have the same lists and verdicts.
 fn rounds_of(
-    threads: &Result<Outcome<4, 8>, RunFault>,
-    sync: &Result<Outcome<4, 8>, RunFault>,
+    threads: &Result<Outcome<4, 4>, RunFault>,
+    sync: &Result<Outcome<4, 4>, RunFault>,
 ) -> Option<(u64, u64)> {
     match (threads, sync) {
         (Ok(threads), Ok(sync)) if are_same(threads, sync) => Some((threads.rounds, sync.rounds)),
@@ -40,15 +40,15 @@ fn rounds_of(
 fn run_both<R: Threads, G: Gate + Send, H: Gate + Send>(
     rt: &R,
     alloc: Global,
-    script: &Script<4, 8>,
+    script: &Script<4, 4>,
     ring: usize,
     client_gate: &mut G,
     manager_gate: &mut H,
 ) -> Option<(u64, u64)>
     requires short { HasShortLists script.now }
 {
-    let sync = run_sync::<4, 8>(alloc, script, ring);
-    let threads = run_threads::<R, G, H, 4, 8>(
+    let sync = run_sync::<4, 4>(alloc, script, ring);
+    let threads = run_threads::<R, G, H, 4, 4>(
         rt,
         alloc,
         script,
@@ -64,7 +64,7 @@ fn run_both<R: Threads, G: Gate + Send, H: Gate + Send>(
 pub fn run_short<R: Threads, G: Gate + Send, H: Gate + Send>(
     rt: &R,
     alloc: Global,
-    script: &Script<4, 8>,
+    script: &Script<4, 4>,
     ring: usize,
     client_gate: &mut G,
     manager_gate: &mut H,

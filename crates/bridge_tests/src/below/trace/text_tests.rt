@@ -114,18 +114,10 @@ const HEAD: HeadD = HeadD {
     denied: false,
 };
 
-/// Whether the line of a GrantAck is this in a text of this version.
-fn is_line(version: u8, text: &[u8]) -> bool {
-    line_of::<ChE, 4>(&ack(0x2a), version).as_slice() == text
-}
-
-/// Whether the text of [`HEAD`] is this.
-fn is_head(text: &[u8]) -> bool {
-    ChD::head_text(&HEAD, 1).as_slice() == text
-}
-
 #[test]
 fn a_line_and_a_head(rt: HostRuntime) {
-    let are_lines = is_line(1, b"E 2a\n") & is_line(2, b"E 002a\n");
-    assert!(rt; are_lines & is_head(b"D 4 0 6 01 07 0"));
+    let is_short = line_of::<ChE, 4>(&ack(0x2a), 1).as_slice() == b"E 2a\n".as_slice();
+    let is_long = line_of::<ChE, 4>(&ack(0x2a), 2).as_slice() == b"E 002a\n".as_slice();
+    let is_head = ChD::head_text(&HEAD, 1).as_slice() == b"D 4 0 6 01 07 0".as_slice();
+    assert!(rt; is_short & is_long & is_head);
 }
