@@ -1,22 +1,34 @@
 //! The bridge in one thread, call by call.
 #![tactic(auto, using(tl_lanes::proofs::Widths::width_4, tl_lanes::proofs::Widths::width_16))]
 
-use crate::calls::{ANSWERED, Call, TWICE};
+use crate::calls::{ANSWERED, Call, Said, TWICE};
 use crate::lending::{come_of, lent};
 use crate::values::{blank, data, get};
 use std::alloc::Global;
 use tl_bridge::{Standings, SyncBridge};
 use tl_msg::{HeadB, HeadC, HeadE};
 
+/// Whether a Get of source 11 from this address is offered, and answered so.
+fn asks(bridge: &mut SyncBridge<4, 16>, address: u64, said: &Said) -> bool {
+    bridge.ready_a() && bridge.offer_a(get(0x11, address, 0xf)) == *said
+}
+
+/// Whether a response to source 11 is offered, and answered so.
+fn answers(
+    bridge: &mut SyncBridge<4, 16>,
+    opcode: u8,
+    size: u8,
+    lanes: &[u8; 16],
+    said: &Said,
+) -> bool {
+    bridge.ready_d() && bridge.offer_d(data(opcode, size, 0x11, *lanes)) == *said
+}
+
 /// Whether that comes of a call.
 fn play(bridge: &mut SyncBridge<4, 16>, call: &Call) -> bool {
     match call {
-        Call::Asks(address, said) => {
-            bridge.ready_a() && bridge.offer_a(get(0x11, *address, 0xf)) == *said
-        }
-        Call::Answers(opcode, size, lanes, said) => {
-            bridge.ready_d() && bridge.offer_d(data(*opcode, *size, 0x11, *lanes)) == *said
-        }
+        Call::Asks(address, said) => asks(bridge, *address, said),
+        Call::Answers(opcode, size, lanes, said) => answers(bridge, *opcode, *size, lanes, said),
         Call::ClientPumps | Call::ManagerPumps => bridge.pump() == 1,
         Call::ClientFetches | Call::ManagerFetches => bridge.fetch() == 1,
         Call::TakesAsk(address, mask) => bridge.take_a() == Some(get(0x11, *address, *mask)),
