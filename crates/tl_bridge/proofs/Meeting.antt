@@ -1,5 +1,5 @@
 -- Both sides of a run at a meeting: they are as one bridge in one thread.
-use Rattle.std.proofs.Common.{◌≡◌, ◌+◌, ◌≤◌, ◌⊎◌, inl, inr, ◌++◌, ℕ, Bool, true, List, length, refl, sym, ap, subst, ◌∙◌, arith, length-append}
+use Rattle.std.proofs.Common.{◌≡◌, ◌+◌, ◌≤◌, ◌⊎◌, inl, inr, ◌++◌, ℕ, true, List, length, refl, sym, ap, subst, ◌∙◌, arith, length-append}
 use Rattle.std.proofs.Common.{⊎_elim}
 use Rattle.std.specs.Global.{Global}
 use mathlib.Core.List.{IsPrefix}
@@ -9,14 +9,13 @@ use Rattle.tl_bridge.proofs.Words.{StandsFor, PerChannel, AreStanding, ClientSta
 use Rattle.tl_bridge.proofs.Words.{ManagerStandsFor, AreSides, SidesMeet, new_client, new_manager, no_beats, IsShort, HasRoomFor, beats_of, AllStop}
 use Rattle.tl_bridge.proofs.Words.{AreStopped, HasEnded, HaveRoomToCount, all_progress, all_standing, all_stopped, all_under_way, progress}
 use Rattle.tl_bridge.proofs.Words.{standing_count, under_way, Stop, inbox-due, sent-passed, same-sums, begins, progress-is, progress-ends, run_end}
-use Rattle.tl_bridge.proofs.Words.{counts-fit, due-a, due-d}
+use Rattle.tl_bridge.proofs.Words.{counts-fit, due-a, due-d, of_both, Offered, Turn}
 use Rattle.tl_ring.specs.Pipe as piping
 use Rattle.tl_bridge.specs.Inner.Arriving.{HasRoomForInboxes, taken_of}
 use Rattle.tl_bridge.specs.Inner.Sides.{ClientIsAt, ManagerIsAt, MayPlay, HasPlayedTurns, RoundOf, ClientRests, ManagerRests, client_playing}
 use Rattle.tl_bridge.specs.Inner.Sides.{manager_playing, HasMet, HasPlayed, AreNew, bridge_of, met_progress, none_ready, past_of, pipe_of}
 use Rattle.tl_bridge.specs.declared.client_turns.ClientRun.{ClientRun}
 use Rattle.tl_bridge.specs.declared.manager_turns.ManagerRun.{ManagerRun}
-use Rattle.tl_bridge.specs.declared.turns.Turn.{Turn}
 use Rattle.tl_bridge.proofs.Resting.{channel-rests, some-free}
 use Rattle.tl_bridge.proofs.Rooms.{inboxes-fit}
 
@@ -268,10 +267,10 @@ module _ {C M : ℕ} (cw : IsWidth C) (mw : IsWidth M) (near : Beats C M) (n : P
     (s' : ClientState Global C M) (t' : ManagerState Global C M)
     (standings : PerChannel Standing) (m : Meeting x'.side y'.side s' t' standings)
     (meets : (p : ClientPast C M) (q : ManagerPast C M) → ClientStandsFor x'.side p → ManagerStandsFor y'.side q → SidesMeet s' t' p q)
-    (accepted : Bool) (which : accepted ≡ true → (there.accepted ≡ true) ⊎ (back.accepted ≡ true)) where
+    (u : Turn) (which : u.accepted ≡ true → (there.accepted ≡ true) ⊎ (back.accepted ≡ true)) where
   -- where both rest, no channel offers more, and nothing is under way
   both-rest : ClientRests x.side x'.side there.offers → ManagerRests y.side y'.side back.offers →
-      AreStopped (record { a = there.offers.a; b = back.offers.b; c = there.offers.c; d = back.offers.d; e = there.offers.e }) ×
+      AreStopped (of_both there.offers back.offers) ×
       (all_standing standings ≡ 0)
   both-rest f g =
       let a = channel-rests x.side.a x'.side.a s'.a y.side.a y'.side.a t'.a there.offers.a standings.a h.ring_a h.free_a f.a g.a m.a m.in_a in
@@ -284,13 +283,12 @@ module _ {C M : ℕ} (cw : IsWidth C) (mw : IsWidth M) (near : Beats C M) (n : P
       none : {a b c d e : ℕ} → a ≡ 0 → b ≡ 0 → c ≡ 0 → d ≡ 0 → e ≡ 0 → a + b + c + d + e ≡ 0
       none f g h i j = omega arith
 
-  pub both-played : HasPlayed near n x.side y.side (record {
-    at = record { a = there.at.a; b = back.at.b; c = there.at.c; d = back.at.d; e = there.at.e };
-    offers = record { a = there.offers.a; b = back.offers.b; c = there.offers.c; d = back.offers.d; e = there.offers.e };
-    accepted = accepted;
-    standings = standings;
-  }) (beats_of (taken_of x' y')) s' t'
-  both-played =
+  -- the round of these turns, where they came to this and these became of the next beats
+  abbrev Played : PerChannel ℕ → PerChannel Offered → Type 0
+  Played at offers = HasPlayed near n x.side y.side (record u { at = at; offers = offers }) standings (beats_of (taken_of x' y')) s' t'
+
+  played : Played (of_both there.at back.at) (of_both there.offers back.offers)
+  played =
       let far = beats_of (taken_of x y) in
       let far' = beats_of (taken_of x' y') in
       let from : RoundOf C = record { a = n.a; d = n.d; history = h.client.history } in
@@ -301,7 +299,7 @@ module _ {C M : ℕ} (cw : IsWidth C) (mw : IsWidth M) (near : Beats C M) (n : P
       let due' = manager-due near n far x.side y.side h cw mw in
       let k = (client.is_at from none_ready begins due).1 in
       let l = (manager.is_at from' none_ready begins' due').1 in
-      let n' : PerChannel ℕ = record { a = there.at.a; b = back.at.b; c = there.at.c; d = back.at.d; e = there.at.e } in
+      let n' : PerChannel ℕ = of_both there.at back.at in
       let past = past_of s' t' k.past l.past in
       let met = meets k.past l.past k.stands l.stands in
       let same = same-progress x'.side y'.side s' t' standings m n' in
@@ -356,3 +354,6 @@ module _ {C M : ℕ} (cw : IsWidth C) (mw : IsWidth M) (near : Beats C M) (n : P
 
       goes-right : (p q p' q' whole : ℕ) → p ≤ p' → q + 1 ≤ q' → whole ≡ p' + q' → p + q + 1 ≤ whole
       goes-right p q p' q' whole f g e = omega arith
+
+  pub both-played : u.at ≡ of_both there.at back.at → u.offers ≡ of_both there.offers back.offers → Played u.at u.offers
+  both-played at offers = subst (λ p. Played p u.offers) (sym at) (subst (λ o. Played (of_both there.at back.at) o) (sym offers) played)

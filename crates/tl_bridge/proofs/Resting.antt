@@ -6,9 +6,9 @@ use Rattle.tl_bridge.proofs.Words.{Rules, rules_a, rules_b, rules_c, rules_d, ru
 use Rattle.tl_bridge.proofs.Words.{World, inbox_room, Sending, Taking, Sends, Takes, Met, sent, received, known_free, known_items, room, Standing}
 use Rattle.tl_bridge.proofs.Words.{Event, client_answer, manager_answer, manager_home, Beats, stops_alone, PerChannel, Pumps, Fetches, AreStanding}
 use Rattle.tl_bridge.proofs.Words.{pump_count, fetch_count, ClientState, ManagerState, Does, IsSent, IsStopped, standing_count, steps, Offered}
-use Rattle.tl_bridge.proofs.Words.{Accepted, NotReady, Stopped, stage-full}
+use Rattle.tl_bridge.proofs.Words.{Accepted, NotReady, Stopped, all_steps, stage-full}
 use Rattle.tl_bridge.specs.Inner.Sides.{SameClientEnds, SameManagerEnds, ClientHasOffered, ManagerHasOffered, ClientIsAt, ManagerIsAt, ClientRests}
-use Rattle.tl_bridge.specs.Inner.Sides.{ManagerRests, SendRests, TakeRests, all_steps}
+use Rattle.tl_bridge.specs.Inner.Sides.{ManagerRests, SendRests, TakeRests}
 
 -- the lesser of two numbers is zero
 one-is-none : (n m : ℕ) → min n m ≤ 0 → (n ≡ 0) ⊎ (m ≡ 0)

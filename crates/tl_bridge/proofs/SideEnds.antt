@@ -3,8 +3,8 @@ use Rattle.std.proofs.Common.{◌≡◌, ◌+◌, ℕ, length, take, sym, ap, su
 use Rattle.std.proofs.lemmas.List.{length-take}
 use Rattle.tl_bridge.proofs.Words.{Sending, Taking, SameSend, SameTake, sent, received, same_send, same_take, PerChannel, Pumps, Fetches, pump_count}
 use Rattle.tl_bridge.proofs.Words.{fetch_count, ClientState, ManagerState, SameClient, SameManager, same_client_then, same_manager_then, counted}
-use Rattle.tl_bridge.proofs.Words.{steps, Offered, NotReady}
-use Rattle.tl_bridge.specs.Inner.Sides.{SameClientEnds, SameManagerEnds, client_progress, manager_progress, all_steps}
+use Rattle.tl_bridge.proofs.Words.{all_steps, steps, Offered, NotReady}
+use Rattle.tl_bridge.specs.Inner.Sides.{SameClientEnds, SameManagerEnds, client_progress, manager_progress}
 
 module _ {A : Type 0} where
   -- the same ends are those of the same rings

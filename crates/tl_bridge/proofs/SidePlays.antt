@@ -2,12 +2,11 @@
 use Rattle.std.proofs.Common.{◌≡◌, ◌≢◌, ◌⊎◌, ◌↔◌, ◌+◌, ◌<◌, ◌≤◌, ◌^◌, ◌++◌, inl, inr, ℕ, true, sym, subst, ap, ◌∙◌, arith, vec_capacity, ⊎_elim}
 use Rattle.tl_bridge.proofs.Words.{Takes, answered, asked, Beats, PerChannel, ClientPast, ManagerPast, ClientStandsFor, ManagerStandsFor}
 use Rattle.tl_bridge.proofs.Words.{HaveRoomToCount, Offered, NotReady, steps, counted, none-more, answered-all, asked-all, client_takes_b}
-use Rattle.tl_bridge.proofs.Words.{client_takes_d, manager_takes_a, manager_takes_c, manager_takes_e}
+use Rattle.tl_bridge.proofs.Words.{client_takes_d, manager_takes_a, manager_takes_c, manager_takes_e, all_steps, Turn}
 use Rattle.tl_bridge.specs.Inner.Sides.{Playing, HasTaken, HasTurned, HasPlayedTurns, SameClientEnds, SameManagerEnds, client_playing}
-use Rattle.tl_bridge.specs.Inner.Sides.{manager_playing, none_ready, all_steps}
+use Rattle.tl_bridge.specs.Inner.Sides.{manager_playing, none_ready}
 use Rattle.tl_bridge.specs.declared.client_turns.ClientRun.{ClientRun}
 use Rattle.tl_bridge.specs.declared.manager_turns.ManagerRun.{ManagerRun}
-use Rattle.tl_bridge.specs.declared.turns.Turn.{Turn}
 use Rattle.tl_bridge.proofs.Resting.{moves-or, none-behind, client-rests-since, manager-rests-since}
 use Rattle.tl_bridge.proofs.SideEnds.{client-same, client-stays, manager-same, manager-stays}
 use Rattle.tl_bridge.proofs.SideRound.{client-took, manager-took}

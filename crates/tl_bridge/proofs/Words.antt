@@ -33,12 +33,13 @@ pub use Rattle.tl_run.specs.Arrivals.{no_beats}
 pub use Rattle.tl_run.specs.Inner.Arriving.{HasRoom, HasRoomFor, beats_of}
 pub use Rattle.tl_run.specs.Inner.Offering.{on_side_a, on_side_b, on_side_c, on_side_d, on_side_e}
 pub use Rattle.tl_run.specs.Inner.Running.{AllStop, AreStopped, Does, HasEnded, HaveRoomToCount, IsAt, IsSent, IsStopped, all_progress, all_standing}
-pub use Rattle.tl_run.specs.Inner.Running.{all_stopped, all_under_way, counted, progress, standing_count, steps, under_way}
+pub use Rattle.tl_run.specs.Inner.Running.{all_steps, all_stopped, all_under_way, counted, of_both, progress, standing_count, steps, under_way}
 pub use Rattle.tl_run.specs.Scripts.{IsShort, near_beats}
 pub use Rattle.tl_run.specs.declared.channel_state.Offered.{Offered}
 pub use Rattle.tl_run.specs.declared.channel_state.Offered.TheVariants.{Accepted, NotReady, Stopped}
 pub use Rattle.tl_run.specs.declared.channel_state.Stop.{Stop}
 pub use Rattle.tl_run.specs.declared.taken.Taken.{Taken}
+pub use Rattle.tl_run.specs.declared.turn.Turn.{Turn}
 pub use Rattle.tl_settle.specs.Histories.{Answer, Ask, Event, answered, asked, client_answer, manager_answer, manager_home}
 pub use Rattle.tl_settle.specs.Outcomes.{Beats}
 pub use Rattle.tl_settle.specs.Rounds.{ClientMoves, ManagerMoves, client_rests, manager_rests, round}

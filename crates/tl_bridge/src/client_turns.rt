@@ -7,9 +7,9 @@ ghost use Rattle.tl_run.specs.Inner.Widths.{AreWidths};
 ghost use Rattle.tl_bridge.specs.Inner.Sides.{SameClientEnds, ClientHasOffered, client_playing};
 
 use crate::inboxes::append;
-use crate::turns::{PlaysRounds, Turn};
+use crate::turns::PlaysRounds;
 use tl_msg::{Beat, ChA, ChB, ChC, ChD, ChE};
-use tl_run::{Offered, Offers};
+use tl_run::{Offered, Offers, Turn};
 use tl_sides::{ClientSide, PerChannel};
 use tl_trace::Script;
 

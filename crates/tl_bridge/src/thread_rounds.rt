@@ -1,31 +1,21 @@
 //! The rounds of a run in two threads.
-ghost use Rattle.std.specs.Prelude.{◌≡◌, ◌≢◌, true, IfSome, IsNone};
+ghost use Rattle.std.specs.Prelude.{◌≡◌};
 ghost use Rattle.tl_run.specs.Arrivals.{no_beats};
 ghost use Rattle.tl_run.specs.Scripts.{HasShortLists, near_beats};
 ghost use Rattle.tl_run.specs.Inner.Widths.{AreWidths};
 ghost use Rattle.tl_run.specs.Inner.Arriving.{HasRoomFor, beats_of};
 ghost use Rattle.tl_bridge.specs.Inner.Arriving.{KeepsRoom, taken_of};
-ghost use Rattle.tl_run.specs.Inner.Running.{AreStopped, HasEnded, all_standing, all_stopped};
+ghost use Rattle.tl_run.specs.Inner.Running.{HasEnded};
 ghost use Rattle.tl_bridge.specs.Inner.Sides.{MayPlay, HasPlayedTurns, client_playing, manager_playing, HasMet, HasPlayed, AreNew, bridge_of};
 
 use crate::client_turns::ClientRun;
 use crate::gates::Gate;
 use crate::manager_turns::ManagerRun;
-use crate::turns::{Turn, either, play};
+use crate::turns::play;
 use std::thread::{Threads, join_mut};
-use tl_run::{End, Offered, Stop, all_stops, are_empty};
+use tl_run::{End, Turn};
 use tl_sides::{PerChannel, Standings, meet_sides};
 use tl_trace::Script;
-
-/// What both sides have done in a round: how many beats of each channel were accepted after it, what
-/// became of their next beats, whether any was accepted, and where the beats stand.
-#[derive(Drop)]
-struct Played {
-    pub at: PerChannel<usize>,
-    pub offers: PerChannel<Offered>,
-    pub accepted: bool,
-    pub standings: Standings,
-}
 
 // Both sides of a round, at the same time.
 fn play_both<R: Threads, G: Gate + Send, H: Gate + Send, const C: usize, const M: usize>(
@@ -63,7 +53,7 @@ fn play_both<R: Threads, G: Gate + Send, H: Gate + Send, const C: usize, const M
     )
 }
 
-// A round, and the meeting after it.
+// A round, and the meeting after it: what both sides have done, and where the beats stand then.
 fn round<R: Threads, G: Gate + Send, H: Gate + Send, const C: usize, const M: usize>(
     rt: &R,
     client: &mut ClientRun<C, M>,
@@ -73,13 +63,13 @@ fn round<R: Threads, G: Gate + Send, H: Gate + Send, const C: usize, const M: us
     turns: usize,
     client_gate: &mut G,
     manager_gate: &mut H,
-) -> Played
+) -> (Turn, Standings)
     requires { AreWidths C M × HasShortLists script.now ×
         HasRoomFor (near_beats script.now) (taken_of client.old manager.old) ×
         HasMet (near_beats script.now) at.now (beats_of (taken_of client.old manager.old))
         client.old.side manager.old.side }
-    ensures round { HasPlayed (near_beats script.now) at.now client.old.side manager.old.side result
-        (beats_of (taken_of client.new manager.new)) client.new.side manager.new.side }
+    ensures round { HasPlayed (near_beats script.now) at.now client.old.side manager.old.side result.0
+        result.1 (beats_of (taken_of client.new manager.new)) client.new.side manager.new.side }
     ensures capacity { KeepsRoom (taken_of client.old manager.old)
         (taken_of client.new manager.new) }
 {
@@ -94,38 +84,7 @@ fn round<R: Threads, G: Gate + Send, H: Gate + Send, const C: usize, const M: us
         manager_gate,
     );
     let standings = meet_sides(&mut client.side, &mut manager.side);
-    Played {
-        at: PerChannel {
-            a: there.at.a,
-            b: back.at.b,
-            c: there.at.c,
-            d: back.at.d,
-            e: there.at.e,
-        },
-        offers: PerChannel {
-            a: there.offers.a,
-            b: back.offers.b,
-            c: there.offers.c,
-            d: back.offers.d,
-            e: there.offers.e,
-        },
-        accepted: either(there.accepted, back.accepted),
-        standings,
-    }
-}
-
-// Why each channel offers no more after a round, where no beat was accepted in it and nothing is
-// under way. None where the run goes on.
-fn stops_after(played: &Played) -> Option<PerChannel<Stop>>
-    ensures stops { IfSome result (λ stops. played.now.offers ≡ all_stopped stops) }
-    ensures rests { IfSome result (λ _. all_standing played.now.standings ≡ 0) }
-    ensures goes { IsNone result → played.now.accepted ≢ true → AreStopped played.now.offers →
-        all_standing played.now.standings ≡ 0 → ⊥ }
-{
-    if played.accepted || !are_empty(&played.standings) {
-        return None;
-    }
-    all_stops(&played.offers)
+    (there.beside(&back), standings)
 }
 
 // Rounds, up to the first one in which no beat was accepted and after which nothing is under way.
@@ -164,7 +123,7 @@ pub(crate) fn play_rounds<
     let mut rounds = 0;
     meet_sides(&mut client.side, &mut manager.side);
     'rounds: loop {
-        let played = round(
+        let (played, standings) = round(
             rt,
             client,
             manager,
@@ -176,7 +135,7 @@ pub(crate) fn play_rounds<
         );
         at = played.at;
         rounds += 1;
-        if let Some(stops) = stops_after(&played) {
+        if let Some(stops) = played.stops_at(&standings) {
             return End { at, stops, rounds };
         }
     }

@@ -84,10 +84,9 @@ impl Offered {
     }
 }
 
-/// Why each of the five channels offers no more, from what became of their next beats in a round.
-/// None where one of them may offer more: its beat was accepted, or it was not ready (this project's
-/// choice).
-pub fn all_stops(offers: &PerChannel<Offered>) -> Option<PerChannel<Stop>>
+// Why each of the five channels offers no more, from what became of their next beats in a round.
+// None where one of them may offer more: its beat was accepted, or it was not ready.
+pub(crate) fn all_stops(offers: &PerChannel<Offered>) -> Option<PerChannel<Stop>>
     ensures stops { IfSome result (λ stops. offers.now ≡ all_stopped stops) }
     ensures goes { IsNone result → AreStopped offers.now → ⊥ }
 {
@@ -103,9 +102,9 @@ pub fn all_stops(offers: &PerChannel<Offered>) -> Option<PerChannel<Stop>>
     Some(PerChannel { a, b, c, d, e })
 }
 
-/// Counts the beats that a round accepted: `at` has how many of each channel were accepted before it,
-/// each number below `2^41`, and then how many were accepted after it (this project's choice).
-pub fn add_accepted(at: &mut PerChannel<usize>, offers: &PerChannel<Offered>)
+// Counts the beats that a round accepted: `at` has how many of each channel were accepted before it,
+// each number below `2^41`, and then how many were accepted after it.
+pub(crate) fn add_accepted(at: &mut PerChannel<usize>, offers: &PerChannel<Offered>)
     requires few { HaveRoomToCount at.old }
     ensures { at.new ≡ counted at.old offers.now }
 {

@@ -17,13 +17,15 @@ mod rounds;
 mod streaming;
 mod sync_run;
 mod taken;
+mod turn;
 
-pub use channel_state::{Offered, Stop, add_accepted, all_stops};
+pub use channel_state::{Offered, Stop};
 pub use far_sink::FarSink;
 pub use leaving::let_leave;
 pub use offers::Offers;
 pub use outcome::{Ending, Outcome, RunFault};
-pub use rounds::{End, are_empty, outcome_at};
+pub use rounds::{End, outcome_at};
 pub use streaming::SyncRun;
 pub use sync_run::run_sync;
 pub use taken::Taken;
+pub use turn::Turn;

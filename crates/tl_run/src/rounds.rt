@@ -34,9 +34,8 @@ fn is_empty(standing: &Standing) -> bool
     (standing.staged == 0) & (standing.in_ring == 0) & (standing.inbox == 0)
 }
 
-/// Whether nothing is under way: on no channel a beat stands in the stage, the ring or the inbox
-/// (this project's choice).
-pub fn are_empty(standings: &Standings) -> bool
+// Whether nothing is under way: on no channel a beat stands in the stage, the ring or the inbox.
+pub(crate) fn are_empty(standings: &Standings) -> bool
     ensures { IsTrue result ↔ (all_standing standings.now ≡ 0) }
 {
     is_empty(&standings.a)

@@ -6,21 +6,15 @@ use Rattle.tl_bridge.specs.Words.{sent, received, known_free, known_items, room,
 use Rattle.tl_bridge.specs.Words.{manager_answer, manager_home, ClientMoves, ManagerMoves, far_a, far_d, Beats, PerChannel, stops_alone, Bridge, Past}
 use Rattle.tl_bridge.specs.Words.{ClientState, ManagerState, ClientPast, ManagerPast, ClientStandsFor, ManagerStandsFor, AreSides, SameClient}
 use Rattle.tl_bridge.specs.Words.{SameManager, SidesMeet, new_client, new_manager, Does, Stops, IsSent, IsHomed, IsAt, AllStop, AreStopped, IsStopped}
-use Rattle.tl_bridge.specs.Words.{HaveRoomToCount, all_standing, all_under_way, steps, Offered, NotReady}
+use Rattle.tl_bridge.specs.Words.{HaveRoomToCount, Standing, all_standing, all_under_way, Offered, NotReady, Turn}
 use Rattle.tl_sides.proofs.SameSides.{same_client_then, same_manager_then}
 pub use Rattle.tl_run.specs.Inner.Offering.{SameClientEnds, SameManagerEnds}
 use Rattle.tl_bridge.specs.declared.client_turns.ClientRun.{ClientRun}
 use Rattle.tl_bridge.specs.declared.manager_turns.ManagerRun.{ManagerRun}
-use Rattle.tl_bridge.specs.declared.turns.Turn.{Turn}
-use Rattle.tl_bridge.specs.declared.thread_rounds.Played.{Played}
 
 -- no channel was offered a beat
 abbrev pub none_ready : PerChannel Offered
 none_ready = record { a = NotReady; b = NotReady; c = NotReady; d = NotReady; e = NotReady }
-
--- how many beats were accepted on all channels
-abbrev pub all_steps : PerChannel Offered → ℕ
-all_steps o = steps o.a + steps o.b + steps o.c + steps o.d + steps o.e
 
 module _ {A : Type 0} {C M : ℕ} where
   -- how far a side has come: the beats that it accepted, those that it sent, and those that it received
@@ -276,14 +270,14 @@ module _ {A : Type 0} {C M : ℕ} where
 
   -- a round: where both sides meet after it, why each channel stands still where it does, and that the run has come further in it, or has accepted
   -- no beat, offers no more, and has nothing under way
-  pub record HasPlayed (near : Beats C M) (n : PerChannel ℕ) (s : ClientState A C M) (t : ManagerState A C M) (p : Played)
-      (far : Beats M C) (s' : ClientState A C M)
+  pub record HasPlayed (near : Beats C M) (n : PerChannel ℕ) (s : ClientState A C M) (t : ManagerState A C M) (u : Turn)
+      (standings : PerChannel Standing) (far : Beats M C) (s' : ClientState A C M)
       (t' : ManagerState A C M) : Type 0 where
-    pub met : HasMet near p.at far s' t'
-    pub stops : AllStop near p.at (past_of s' t' met.client met.manager) p.offers
-    pub keeps : met_progress n s t ≤ met_progress p.at s' t'
-    pub goes : (met_progress n s t + 1 ≤ met_progress p.at s' t') ⊎ ((p.accepted ≢ true) × AreStopped p.offers × (all_standing p.standings ≡ 0))
-    pub standing : all_standing p.standings ≡ all_under_way (past_of s' t' met.client met.manager)
+    pub met : HasMet near u.at far s' t'
+    pub stops : AllStop near u.at (past_of s' t' met.client met.manager) u.offers
+    pub keeps : met_progress n s t ≤ met_progress u.at s' t'
+    pub goes : (met_progress n s t + 1 ≤ met_progress u.at s' t') ⊎ ((u.accepted ≢ true) × AreStopped u.offers × (all_standing standings ≡ 0))
+    pub standing : all_standing standings ≡ all_under_way (past_of s' t' met.client met.manager)
 
   -- two new sides
   pub record AreNew (s : ClientState A C M) (t : ManagerState A C M) : Type 0 where

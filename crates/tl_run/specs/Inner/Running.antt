@@ -129,6 +129,14 @@ module _ {C M : ℕ} where
   abbrev pub all_under_way : Past C M → ℕ
   all_under_way x = under_way x.a + under_way x.b + under_way x.c + under_way x.d + under_way x.e
 
+-- how many beats were accepted on all channels
+abbrev pub all_steps : PerChannel Offered → ℕ
+all_steps o = steps o.a + steps o.b + steps o.c + steps o.d + steps o.e
+
+-- what both sides say, each of the channels that it sends on
+abbrev pub of_both : {A : Type 0} → PerChannel A → PerChannel A → PerChannel A
+of_both client manager = record { a = client.a; b = manager.b; c = client.c; d = manager.d; e = client.e }
+
 abbrev pub AreStopped : PerChannel Offered → Type 0
 AreStopped o = IsStopped o.a × IsStopped o.b × IsStopped o.c × IsStopped o.d × IsStopped o.e
 

@@ -35,8 +35,8 @@ rounds-init g c = record {
   few = zero-le;
 }
 
-pub round-played-requires-after_bounds : goal.round-played-requires-after_bounds
-round-played-requires-after_bounds g c = λ κs bounds. (
+pub round-requires-after_bounds : goal.round-requires-after_bounds
+round-requires-after_bounds g c = λ κs bounds. (
   client_run_small g.row.C g.row.M c.requires.0.client c.requires.0.manager,
   (
     manager_run_small g.row.C g.row.M c.requires.0.client c.requires.0.manager,
@@ -55,32 +55,32 @@ overflow_add-rounds g c =
 
 pub returns-in-Some : goal.returns-in-Some
 returns-in-Some g c =
-    let h = c.round-played.ensures.round in
+    let h = c.round.ensures.round in
     let near = near_beats c.args.script.now in
-    met-ended near c.round-played.result.at (beats_of (taken_of c.round-played.new.client c.round-played.new.manager)) c.round-played.new.client.side
-    c.round-played.new.manager.side h.met c.in-Some.stops (c.rounds.rounds + 1)
-    (subst (λ o. AllStop near c.round-played.result.at
-    (past_of c.round-played.new.client.side c.round-played.new.manager.side h.met.client h.met.manager) o) c.in-Some.ensures.stops h.stops)
+    met-ended near c.round.result.0.at (beats_of (taken_of c.round.new.client c.round.new.manager)) c.round.new.client.side
+    c.round.new.manager.side h.met c.in-Some.stops (c.rounds.rounds + 1)
+    (subst (λ o. AllStop near c.round.result.0.at
+    (past_of c.round.new.client.side c.round.new.manager.side h.met.client h.met.manager) o) c.in-Some.ensures.stops h.stops)
     (sym h.standing ∙ c.in-Some.ensures.rests) (last-one _ _ _ c.rounds.invariant.few h.keeps)
 
 -- a round that is not the last one
 onward : (g : Over) (c : goal.In_default g) → met_progress c.rounds.at c.rounds.client.side c.rounds.manager.side + 1 ≤
-    met_progress c.round-played.result.at c.round-played.new.client.side c.round-played.new.manager.side
-onward g c = ⊎_elim (λ e. e) (λ e. absurd (c.in_default.ensures.goes refl e.0 e.1 e.2)) c.round-played.ensures.round.goes
+    met_progress c.round.result.0.at c.round.new.client.side c.round.new.manager.side
+onward g c = ⊎_elim (λ e. e) (λ e. absurd (c.in_default.ensures.goes refl e.0 e.1 e.2)) c.round.ensures.round.goes
 
 pub rounds-smaller : goal.rounds-smaller
 rounds-smaller g c =
-    let h = c.round-played.ensures.round in
+    let h = c.round.ensures.round in
     nearer _ _ _ (onward g c)
-    (met-most (near_beats c.args.script.now) c.round-played.result.at (beats_of (taken_of c.round-played.new.client c.round-played.new.manager))
-    c.round-played.new.client.side c.round-played.new.manager.side h.met c.requires.0.client c.requires.0.manager)
+    (met-most (near_beats c.args.script.now) c.round.result.0.at (beats_of (taken_of c.round.new.client c.round.new.manager))
+    c.round.new.client.side c.round.new.manager.side h.met c.requires.0.client c.requires.0.manager)
 
 pub rounds-preserved : goal.rounds-preserved
 rounds-preserved g c =
-    let h = c.round-played.ensures.round in
+    let h = c.round.ensures.round in
     record {
       met = h.met;
       room = keeps-room (near_beats c.args.script.now) (taken_of c.rounds.client c.rounds.manager)
-          (taken_of c.round-played.new.client c.round-played.new.manager) c.round-played.ensures.capacity c.rounds.invariant.room;
+          (taken_of c.round.new.client c.round.new.manager) c.round.ensures.capacity c.rounds.invariant.room;
       few = one-round-more _ _ _ c.rounds.invariant.few (onward g c);
     }

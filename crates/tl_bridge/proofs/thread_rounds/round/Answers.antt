@@ -53,7 +53,7 @@ returns g c = record {
         in_d = c.meet_sides-standings.ensures.standing_d;
         in_e = c.meet_sides-standings.ensures.standing_e;
       })
-      c.meet_sides-standings.ensures.meets c.either.result c.either.ensures.0;
+      c.meet_sides-standings.ensures.meets c.beside.result c.beside.ensures.accepted.0 c.beside.ensures.at c.beside.ensures.offers;
   capacity = record {
     a = c.play_both.ensures.manager.same.1;
     b = c.play_both.ensures.client.same.1;

@@ -1,7 +1,7 @@
 use Rattle.std.proofs.Common.{arith, refl}
 use Rattle.std.proofs.lemmas.Bool.Decides.{nat_tests}
 use Rattle.tl_run.proofs.Emptiness.{either-some, some-of-either}
-use Rattle.tl_bridge.proofs.turns.Turn.new.Goals as goal
+use Rattle.tl_run.proofs.turn.Turn.new.Goals as goal
 
 pub add_accepted-requires : goal.add_accepted-requires
 add_accepted-requires c = record { few = c.requires.few }

@@ -1,7 +1,7 @@
 use Rattle.std.proofs.Common.{Option, None, Some}
 use Rattle.std.specs.Prelude.{IfSome}
-use Rattle.tl_bridge.proofs.thread_rounds.stops_after.Goals as goal
-use Rattle.tl_bridge.proofs.thread_rounds.stops_after.Goals.{then-played-via-then-played, then-played-via-else-played+then-not-are_empty}
+use Rattle.tl_run.proofs.turn.Turn.stops_at.Goals as goal
+use Rattle.tl_run.proofs.turn.Turn.stops_at.Goals.{then-self-via-then-self, then-self-via-else-self+then-not-are_empty}
 
 if-any : {A P : Type 0} (r : Option A) → P → IfSome r (λ x. P)
 if-any None p = tt
@@ -16,9 +16,9 @@ returns-clause-rests c = if-any c.all_stops.result (c.are_empty.ensures.0 c.if-n
 pub returns-clause-goes : goal.returns-clause-goes
 returns-clause-goes c = λ none still stopped rest. c.all_stops.ensures.goes none stopped
 
-pub returns-then-played-clause-goes : goal.returns-then-played-clause-goes
-returns-then-played-clause-goes c = λ none still stopped rest.
-    elim c.then-played.branch [
-      | then-played-via-then-played w ↦ still w.if-played.true
-      | then-played-via-else-played+then-not-are_empty w ↦ let empty = w.are_empty.ensures.1 rest in let some = w.if-not-are_empty.true in cc
+pub returns-then-self-clause-goes : goal.returns-then-self-clause-goes
+returns-then-self-clause-goes c = λ none still stopped rest.
+    elim c.then-self.branch [
+      | then-self-via-then-self w ↦ still w.if-self.true
+      | then-self-via-else-self+then-not-are_empty w ↦ let empty = w.are_empty.ensures.1 rest in let some = w.if-not-are_empty.true in cc
     ]
