@@ -51,24 +51,6 @@ pub fn ring_pair<K: Channel, const W: usize, const V: usize, A: Allocator + Copy
     }
 }
 
-// How many far beats stand in the stage of an outbox, in the ring behind it, and in an inbox.
-fn standing_between<K: Channel, const W: usize, const V: usize>(
-    outbox: &Outbox<K, W, V>,
-    in_ring: usize,
-    inbox: &Inbox<K, V>,
-) -> Standing
-    ensures staged { result.staged ≡ length outbox.now.stage }
-    ensures in_ring { result.in_ring ≡ in_ring }
-    ensures inbox { result.inbox ≡ length inbox.now }
-    ensures most { (result.staged ≤ ROOM) × (result.inbox ≤ ROOM) }
-{
-    Standing {
-        staged: outbox.staged(),
-        in_ring,
-        inbox: inbox.len(),
-    }
-}
-
 /// Brings both ends of a pair together, in one thread, and answers where the beats stand. What was
 /// taken, and then what stands in the inbox, the ring and the stage, is the far layout of what was
 /// accepted: each beat once, in order. No beat moves. The taking end then knows each beat that the
@@ -90,7 +72,7 @@ pub fn meet<K: Channel, const W: usize, const V: usize, A: Allocator>(
         Meets K.rules send.new take.new x taken }
 {
     let in_ring = look(&mut send.producer, &mut take.intake.half);
-    standing_between(&send.outbox, in_ring, &take.inbox)
+    Standing::between(&send.outbox, in_ring, &take.inbox)
 }
 
 /// [`meet`] for a sending end that is closed: what was taken, and then what stands in the inbox, the
@@ -111,5 +93,5 @@ pub fn meet_closing<K: Channel, const W: usize, const V: usize, A: Allocator>(
         Meets K.rules send.new take.new x taken }
 {
     let in_ring = look(&mut send.producer, &mut take.intake.half);
-    standing_between(&send.outbox, in_ring, &take.inbox)
+    Standing::between(&send.outbox, in_ring, &take.inbox)
 }

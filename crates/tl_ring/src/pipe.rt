@@ -163,10 +163,6 @@ impl<K: Channel, const W: usize, const V: usize, A: Allocator> SyncPipe<K, W, V,
         ensures most { (result.staged ≤ ROOM) × (result.in_ring ≤ MAX_RING) ×
             (result.inbox ≤ ROOM) }
     {
-        Standing {
-            staged: self.outbox.staged(),
-            in_ring: self.ring.len(),
-            inbox: self.inbox.len(),
-        }
+        Standing::between(&self.outbox, self.ring.len(), &self.inbox)
     }
 }

@@ -104,31 +104,11 @@ pub(crate) fn standings_between<const C: usize, const M: usize, A: Allocator>(
     ensures e { AreCounted client.now.e e manager.now.e result.e }
 {
     Standings {
-        a: Standing {
-            staged: client.a.staged(),
-            in_ring: a,
-            inbox: manager.a.len(),
-        },
-        b: Standing {
-            staged: manager.b.staged(),
-            in_ring: b,
-            inbox: client.b.len(),
-        },
-        c: Standing {
-            staged: client.c.staged(),
-            in_ring: c,
-            inbox: manager.c.len(),
-        },
-        d: Standing {
-            staged: manager.d.staged(),
-            in_ring: d,
-            inbox: client.d.len(),
-        },
-        e: Standing {
-            staged: client.e.staged(),
-            in_ring: e,
-            inbox: manager.e.len(),
-        },
+        a: Standing::between(&client.a, a, &manager.a),
+        b: Standing::between(&manager.b, b, &client.b),
+        c: Standing::between(&client.c, c, &manager.c),
+        d: Standing::between(&manager.d, d, &client.d),
+        e: Standing::between(&client.e, e, &manager.e),
     }
 }
 

@@ -21,8 +21,8 @@ look-in_ring-requires-room-P-Protocol-2 g c κs within =
     (copied 4 g.row.K-Head) g.K.Channel g.K.Head.Clone g.K.Head.Eq g.K.Head.PartialEq g.K.Head.Default g.A.Allocator)) 0 0 9223372036854775808
     c.requires-raw.1.1.1.1.1.1.0)
 
-pub standing_between-requires : goal.standing_between-requires
-standing_between-requires g c = (
+pub between-requires : goal.between-requires
+between-requires g c = (
   part_small (layout (send.the_row (param 0 g.row.K) (param 1 (number g.row.W)) (param 2 (number g.row.V)) (param 3 g.row.A)
       (copied 4 g.row.K-Head) g.K.Channel g.K.Head.Clone g.K.Head.Eq g.K.Head.PartialEq g.K.Head.Default g.A.Allocator)) 0 9223372036854775808
       c.requires-raw.1.1.1.1.1.0,
@@ -34,7 +34,7 @@ standing_between-requires g c = (
 pub returns : goal.returns
 returns g c =
     let seen = c.look-in_ring in
-    let stand = c.standing_between.ensures in
+    let stand = c.between.ensures in
     let pair = rw (← c.send.view_is, ← c.take.view_is) at c.requires in
     let s = sending_of c.send.inside.outbox c.send.inside.producer in
     let t = taking_of c.take.inside.inbox c.take.inside.intake.half in
