@@ -75,6 +75,8 @@ impl Turn {
         ensures offers { result.offers ≡ of_both self.now.offers manager.now.offers }
         ensures accepted { (result.accepted ≡ true) ↔
             ((self.now.accepted ≡ true) ⊎ (manager.now.accepted ≡ true)) }
+        ensures moved { (result.moved ≡ true) ↔
+            ((self.now.moved ≡ true) ⊎ (manager.now.moved ≡ true)) }
     {
         Turn {
             at: PerChannel {
@@ -101,6 +103,7 @@ impl Turn {
     pub fn stops_at(&self, standings: &Standings) -> Option<PerChannel<Stop>>
         ensures stops { IfSome result (λ stops. self.now.offers ≡ all_stopped stops) }
         ensures rests { IfSome result (λ _. all_standing standings.now ≡ 0) }
+        ensures none_accepted { IfSome result (λ _. self.now.accepted ≢ true) }
         ensures goes { IsNone result → self.now.accepted ≢ true → AreStopped self.now.offers →
             all_standing standings.now ≡ 0 → ⊥ }
     {

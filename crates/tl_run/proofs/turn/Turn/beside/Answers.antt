@@ -9,3 +9,6 @@ returns-clause-offers c = refl
 
 pub returns-clause-accepted : goal.returns-clause-accepted
 returns-clause-accepted c = c.either.ensures
+
+pub returns-clause-moved : goal.returns-clause-moved
+returns-clause-moved c = c.either-2.ensures

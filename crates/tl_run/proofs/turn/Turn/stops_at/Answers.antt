@@ -13,6 +13,9 @@ returns-clause-stops c = c.all_stops.ensures.stops
 pub returns-clause-rests : goal.returns-clause-rests
 returns-clause-rests c = if-any c.all_stops.result (c.are_empty.ensures.0 c.if-not-are_empty.false)
 
+pub returns-clause-none_accepted : goal.returns-clause-none_accepted
+returns-clause-none_accepted c = if-any c.all_stops.result (λ some. let none = c.if-self.false in cc)
+
 pub returns-clause-goes : goal.returns-clause-goes
 returns-clause-goes c = λ none still stopped rest. c.all_stops.ensures.goes none stopped
 
