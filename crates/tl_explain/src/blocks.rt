@@ -21,6 +21,7 @@ const ROOM: usize = 2 * BLOCK;
 const FAR_ROOM: usize = WIDEST * LONGEST_LINE;
 
 /// Writes a page, and lets go of what stands on it.
+#[inline(never)]
 fn write_page<W: Write>(page: &mut Page, writer: &mut W) -> Result<(), TextFault>
     ensures out { OnOk result
         (Continues false (W.contents writer.old) (W.contents writer.new)) }

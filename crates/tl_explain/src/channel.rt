@@ -34,6 +34,7 @@ fn feed<K: Channel, const W: usize, const V: usize>(
 }
 
 /// The same, where both are widths: a test, since as a clause it would be stated at each call.
+#[inline(never)]
 fn pass<K: Channel, const W: usize, const V: usize>(
     converter: &mut Converter<K, W, V>,
     beat: &Beat<K, W>,
@@ -111,6 +112,7 @@ fn put_near<K: Told, const W: usize>(story: &mut Story, beat: &Beat<K, W>) -> bo
 
 /// Writes what came of the next of these beats, in a line of the channel with this letter, and below it the
 /// far beats that it completed: the channel's converter makes them, and `far` has room for them.
+#[inline(never)]
 pub fn tell<K: Told, const W: usize, const V: usize>(
     story: &mut Story,
     letter: u8,

@@ -1,4 +1,5 @@
-//! From a text to what came of each of its lines.
+//! From a text to what came of each of its lines. (No function of a pair of widths is inlined into another one: LLVM would take longer for
+//! eight large functions than for many small ones.)
 ghost use Rattle.std.specs.Prelude.{◌≡◌, ◌≤◌, ◌++◌, true, false, length, IfOk, OnOk, IfErr};
 ghost use Rattle.std.specs.List.{list_all};
 ghost use Rattle.tl_lanes.specs.Lanes.{IsWidth};
@@ -32,6 +33,7 @@ use tl_trace::{Header, Script, TraceFault, TraceKind, header_of_text, read_scrip
 /// Tells what came of the beats of a script, whose lines begin with these letters, and writes it block by
 /// block, but nothing of it for a page. Each channel has a converter, and room for the far beats that one near
 /// beat completes. A beat of E has nothing on its lanes, so a bus of one byte stands for any that it goes to.
+#[inline(never)]
 fn tell_all<W: Write, const C: usize, const M: usize>(
     story: &mut Story,
     letters: &[u8],
@@ -69,6 +71,7 @@ fn tell_all<W: Write, const C: usize, const M: usize>(
 }
 
 /// The requests of A, none of which is answered yet, and what the beats wait for that wait on A and on D.
+#[inline(never)]
 fn requests_of<const C: usize, const M: usize>(
     alloc: Global,
     letters: &[u8],
@@ -102,6 +105,7 @@ fn walks_of(verdicts: &[Verdict; 5], c: usize, m: usize) -> [Walk; 5] {
 }
 
 /// What is told of a script from line 2 on, of which no line is told yet.
+#[inline(never)]
 fn story_of<const C: usize, const M: usize>(
     alloc: Global,
     letters: &[u8],
@@ -130,6 +134,7 @@ struct Checked {
 }
 
 /// The same, of which the verdicts are there.
+#[inline(never)]
 fn with_answer(
     alloc: Global,
     verdicts: [Verdict; 5],
@@ -149,6 +154,7 @@ fn with_answer(
 }
 
 /// The verdicts and the answer for a text of this version that tells this script.
+#[inline(never)]
 fn answer_to<const C: usize, const M: usize>(
     alloc: Global,
     text: &[u8],
@@ -177,6 +183,7 @@ pub struct Telling {
 
 /// Tells a text of this version that tells this script, whose channels end in these verdicts. Whatever lacks
 /// memory does so before anything is written.
+#[inline(never)]
 fn told_of<W: Write, const C: usize, const M: usize>(
     alloc: Global,
     text: &[u8],
@@ -205,6 +212,7 @@ fn told_of<W: Write, const C: usize, const M: usize>(
 }
 
 /// The same, and the answer.
+#[inline(never)]
 fn with_script<W: Write, const C: usize, const M: usize>(
     alloc: Global,
     text: &[u8],
@@ -228,6 +236,7 @@ fn with_script<W: Write, const C: usize, const M: usize>(
 }
 
 /// Tells a text whose header names this version and these widths.
+#[inline(never)]
 fn with_widths<W: Write, const C: usize, const M: usize>(
     alloc: Global,
     text: &[u8],

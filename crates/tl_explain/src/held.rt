@@ -45,6 +45,7 @@ impl Held {
 }
 
 /// The source of the beat that waits on a channel, where one does.
+#[inline(never)]
 pub fn waiting_source<K: Told, const W: usize>(
     verdict: &Verdict,
     beats: &[Beat<K, W>],
@@ -58,6 +59,7 @@ pub fn waiting_source<K: Told, const W: usize>(
 
 /// The first beat of this source that its channel did not accept, and that asks on A or answers on D;
 /// none where no source is asked for.
+#[inline(never)]
 pub fn held_of<K: Told, const W: usize>(
     letters: &[u8],
     letter: u8,

@@ -98,6 +98,7 @@ impl Requests {
     }
 
     /// Adds the requests that these beats of A begin, of which those are accepted that this verdict says.
+    #[inline(never)]
     pub fn add_all<const W: usize>(
         &mut self,
         letters: &[u8],

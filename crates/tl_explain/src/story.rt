@@ -158,6 +158,7 @@ impl Story {
     }
 
     /// Begins the next line, which has this letter.
+    #[inline(never)]
     pub fn begin_line(&mut self, letter: u8) {
         self.turn_to(letter);
         self.line = self.line.saturating_add(1);
@@ -350,6 +351,7 @@ impl Story {
     }
 
     /// Writes the remarks on the line of the next near beat, of which all else is said, and goes on by it.
+    #[inline(never)]
     pub fn end_line(&mut self) {
         self.item.to = self.page.len();
         self.put_remarks();
@@ -390,6 +392,7 @@ impl Story {
     }
 
     /// Writes what is said behind the last line.
+    #[inline(never)]
     pub fn end(&mut self) {
         self.end_run();
         for letter in LETTERS {
