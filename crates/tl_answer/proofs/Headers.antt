@@ -1,15 +1,13 @@
 -- What a text's header names, and a text that has none.
-use Rattle.tl_answer.proofs.Names.{◌≡◌, ◌≢◌, ◌≤◌, ◌∷◌, [], ◌||◌, ℕ, Bool, true, false, List, length, Option, None, Some, if◌then◌else◌, refl, sym, ap}
+use Rattle.tl_answer.proofs.Names.{◌≡◌, ◌≢◌, ◌≤◌, ◌∷◌, [], ◌||◌, ℕ, Bool, true, false, List, length, None, Some, if◌then◌else◌, refl, ap}
 use Rattle.tl_answer.proofs.Names.{◌∙◌, subst, ◌==◌, eqb-true, IsWidth, each_width, body, cut, onto_first, is_newline, header_of, HasHeader}
-use Rattle.tl_answer.proofs.Names.{faults_after, faults_of_lines, IsFirstFault, Header, Line, Script, IsScriptOf, most_bytes, IsFresh, held, Input}
+use Rattle.tl_answer.proofs.Names.{faults_after, faults_of_lines, IsFirstFault, Line, Script, IsScriptOf, most_bytes}
 use Rattle.tl_answer.proofs.Names.{HasShortLists, beat_of_a, beat_of_b, beat_of_c, beat_of_d, beat_of_e}
 use Rattle.tl_lanes.specs.declared.limits.TheConstants.{WIDEST}
 use Rattle.tl_trace.specs.declared.fault.TraceKind.TheVariants as kinds
 use Rattle.tl_stream.proofs.Lengths.{few-chosen}
 use Rattle.tl_stream.proofs.ToRead.{widths_named}
-use Rattle.tl_order.specs.Orders.{IsRunnable}
-use Rattle.tl_order.specs.declared.Order.{Order}
-use Rattle.tl_answer.specs.Inner.Asked.{IsAsked, CanCross}
+use Rattle.tl_answer.specs.Inner.Asked.{CanCross}
 use Rattle.tl_trace.proofs.Headers.{header, known}
 use Rattle.tl_trace.proofs.ReadLines.{first_fault}
 use Rattle.tl_trace.proofs.Widths.{width_of}
@@ -68,30 +66,6 @@ last_client text version client manager is n1 n2 n4 n8 n16 n32 n64 =
 pub with_manager : (text : List ℕ) (version client manager width : ℕ) → manager ≡ width → HasHeader text version client manager →
     HasHeader text version client width
 with_manager text version client manager width is named = subst (λ w. HasHeader text version client w) is named
-
--- a client's width that is this one, where the header was read of the same bytes
-pub with_client : (text bytes : List ℕ) (h : Header) (width : ℕ) → h.client ≡ width → bytes ≡ text → Some h ≡ header_of (body bytes) →
-    HasHeader text h.version width h.manager
-with_client text bytes h width is same read =
-    subst (λ w. HasHeader text h.version w h.manager) is (ap (λ xs. header_of (body xs)) (sym same) ∙ sym read)
-
--- the same of a text that is read piece by piece
-pub asked_manager : (left : Option (List ℕ)) (input : Input) (version client manager : ℕ) (order : Order) (width : ℕ) → manager ≡ width →
-    IsAsked left input version client manager order → IsAsked left input version client width order
-asked_manager left input version client manager order width is asked = record {
-  fresh = asked.fresh;
-  header = with_manager (held input) version client manager width is asked.header;
-  runnable = asked.runnable;
-}
-
-pub asked_client : (left : Option (List ℕ)) (input : Input) (order : Order) (bytes : List ℕ) (h : Header) (width : ℕ) →
-    h.client ≡ width → bytes ≡ held input →
-    Some h ≡ header_of (body bytes) → IsFresh left input × IsRunnable order → IsAsked left input h.version width h.manager order
-asked_client left input order bytes h width is same read asked = record {
-  fresh = asked.0;
-  header = with_client (held input) bytes h width is same read;
-  runnable = asked.1;
-}
 
 -- the lists of a trace that is not too long are not too long
 pub short : (C M : ℕ) (lines : List Line) → length lines ≤ most_bytes → (s : Script C M) → IsScriptOf lines s → HasShortLists s

@@ -2,10 +2,10 @@
 pub use Rattle.std.proofs.Common.{Ok, ◌≡◌, ℕ, Bool, true, false, List, [], ◌∷◌, ◌++◌, length, refl, sym, ap, subst, ◌∙◌, append-nil, arith, ◌≢◌, ◌+◌}
 pub use Rattle.std.proofs.Common.{◌-◌, ◌≤◌, take, drop, Option, None, Some, length-append, length-drop, append_assoc, take-append-drop, ◌<◌, ◌^◌}
 pub use Rattle.std.proofs.Common.{zero-le, if◌then◌else◌, ◌||◌, map, replicate, ◌⊎◌, ◌↔◌, inl, inr, nat_eq, rules, lit<}
-pub use Rattle.std.proofs.KnownBytes.{Appends-trans, Appends-kept}
+pub use Rattle.std.proofs.KnownBytes.{Appends-trans}
 pub use Rattle.std.proofs.lemmas.Bool.{eqb-true, or_parts}
 pub use Rattle.std.proofs.lemmas.List.{length-take-le}
-pub use Rattle.std.proofs.lemmas.Result.{IfErr-weaker, err_from_is_err_and, on_ok_weaker}
+pub use Rattle.std.proofs.lemmas.Result.{IfErr-weaker, on_ok_weaker}
 pub use Rattle.std.specs.Io.KnownBytes.{Consumes, IsAtEnd, prepend_known, Appends, Keeps}
 pub use Rattle.std.specs.List.{list_all, list_any}
 pub use Rattle.std.specs.Prelude.{Result, Err, IfOk, IfSome, OnOk, ◌==◌, IfErr, codes, flat_map}

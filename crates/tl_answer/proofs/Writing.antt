@@ -1,22 +1,18 @@
 -- What the writes of an answer put out.
 use Rattle.tl_answer.proofs.Names.{Result, Ok, Err, IfSome, IfOk, OnOk, IfErr, ◌≡◌, ℕ, Bool, List, ◌++◌, Option}
-use Rattle.tl_answer.proofs.Names.{None, Some, refl, sym, subst, Appends-trans, Appends-kept, Appends, Keeps}
+use Rattle.tl_answer.proofs.Names.{None, Some, refl, sym, ap, subst, append_assoc, Appends-trans, Appends, Keeps}
 use Rattle.tl_answer.proofs.Names.{AnswersRead, spelled, AnswersText, IsAnswer, TextFault}
 use Rattle.tl_order.specs.Orders.{is_check}
 use Rattle.tl_order.specs.declared.Order.{Order}
 use Rattle.tl_stream.specs.declared.fault.TextFault.TheVariants as faults
 use Rattle.tl_answer.specs.declared.parts.AnswerParts.{AnswerParts}
 
--- five texts, one after the other, and what keeps them
-pub five-out : (w0 w1 w2 w3 w4 w5 w6 : Option (List ℕ)) (a b c d e : List ℕ) → Appends w0 w1 a → Appends w1 w2 b → Appends w2 w3 c → Appends w3 w4 d →
-    Appends w4 w5 e → Keeps w5 w6 →
-    Appends w0 w6 (a ++ b ++ c ++ d ++ e)
-five-out w0 w1 w2 w3 w4 w5 w6 a b c d e to_a to_b to_c to_d to_e kept =
-    let with_b = Appends-trans w0 w1 w2 a b to_a to_b in
-    let with_c = Appends-trans w0 w2 w3 (a ++ b) c with_b to_c in
-    let with_d = Appends-trans w0 w3 w4 (a ++ b ++ c) d with_c to_d in
-    let with_e = Appends-trans w0 w4 w5 (a ++ b ++ c ++ d) e with_d to_e in
-    Appends-kept w0 w5 w6 (a ++ b ++ c ++ d ++ e) with_e kept
+-- two texts, two more behind them, and one more
+pub five-out : (w0 w1 w2 w3 : Option (List ℕ)) (a b c d e : List ℕ) → Appends w0 w1 (a ++ b) → Appends w1 w2 (c ++ d) → Appends w2 w3 e →
+    Appends w0 w3 (a ++ b ++ c ++ d ++ e)
+five-out w0 w1 w2 w3 a b c d e to_b to_d to_e =
+    subst (Appends w0 w3) (ap (λ q. q ++ e) (sym (append_assoc (a ++ b) c d)))
+    (Appends-trans w0 w2 w3 (a ++ b ++ (c ++ d)) e (Appends-trans w0 w1 w2 (a ++ b) (c ++ d) to_b to_d) to_e)
 
 keeps-itself : (held : Option (List ℕ)) → Keeps held held
 keeps-itself None = tt

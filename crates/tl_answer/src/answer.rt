@@ -46,8 +46,10 @@ pub(crate) fn header(
 ) -> Result<Vec<u8>, AllocError>
     ensures { IfOk result (λ text. text.items ≡ far_header version client manager) }
 {
-    let line = format!(in alloc; "tilelink-far {version} client {client} manager {manager}\n")?;
-    Ok(line.into_bytes())
+    match format!(in alloc; "tilelink-far {version} client {client} manager {manager}\n") {
+        Ok(line) => Ok(line.into_bytes()),
+        Err(error) => Err(error),
+    }
 }
 
 /// Appends the five report lines.
@@ -104,7 +106,10 @@ pub fn check_of(
     ensures done { IfOk result (λ made. made.all_done ≡ list_all is_done verdicts.now) }
     ensures err { IfErr result (λ fault. fault ≡ NoMemory) }
 {
-    let mut text = header(alloc, version, client, manager)?;
+    let mut text = match header(alloc, version, client, manager) {
+        Ok(text) => text,
+        Err(error) => return Err(TextFault::from(error)),
+    };
     match write_reports(&mut text, verdicts) {
         Ok(()) => Ok(Answer {
             text,
@@ -138,7 +143,10 @@ fn parts_of<const C: usize, const M: usize>(
     ensures done { IfOk result (λ made. made.all_done ≡ list_all is_done outcome.now.verdicts) }
     ensures err { IfErr result (λ fault. fault ≡ NoMemory) }
 {
-    let mut far = FarTexts::new(alloc, version, C, M)?;
+    let mut far = match FarTexts::new(alloc, version, C, M) {
+        Ok(far) => far,
+        Err(error) => return Err(TextFault::from(error)),
+    };
     match take_far(&mut far, outcome) {
         Ok(()) => far.into_answer(&outcome.verdicts),
         Err(_) => Err(TextFault::OutOfMemory),

@@ -40,7 +40,10 @@ impl<const C: usize, const M: usize> Crossing<C, M> {
         ensures new { IfOk result (IsNew (Crosses version)) }
         ensures err { IfErr result (λ fault. fault ≡ NoMemory) }
     {
-        let far = FarTexts::new(alloc, version, C, M)?;
+        let far = match FarTexts::new(alloc, version, C, M) {
+            Ok(far) => far,
+            Err(error) => return Err(TextFault::from(error)),
+        };
         match SyncBridge::<C, M, Global>::new(alloc, ring) {
             Ok(bridge) => Ok(Crossing {
                 run: SyncRun::new(bridge),

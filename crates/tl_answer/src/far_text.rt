@@ -40,14 +40,17 @@ impl FarTexts {
         ensures lines { IfOk result (λ made. HasLines {C = client} {M = manager} made no_beats) }
         ensures version { IfOk result (λ made. made.version ≡ version) }
     {
-        Ok(FarTexts {
-            a: header(alloc, version, client, manager)?,
-            b: Vec::new(alloc),
-            c: Vec::new(alloc),
-            d: Vec::new(alloc),
-            e: Vec::new(alloc),
-            version,
-        })
+        match header(alloc, version, client, manager) {
+            Ok(a) => Ok(FarTexts {
+                a,
+                b: Vec::new(alloc),
+                c: Vec::new(alloc),
+                d: Vec::new(alloc),
+                e: Vec::new(alloc),
+                version,
+            }),
+            Err(error) => Err(error),
+        }
     }
 
     // The lines so far, of which none are left here.

@@ -75,9 +75,9 @@ fn sync_answer_of<const C: usize, const M: usize>(
     script: Script<C, M>,
     version: u8,
     check: bool,
-) -> Result<AnswerParts, TextFault>
+) -> Result<Answer, TextFault>
     requires { CanCross script }
-    ensures text { IfOk result (λ made. spelled made
+    ensures text { IfOk result (λ made. made.text.items
         ≡ text_of version (near_beats script.entry) check) }
     ensures done { IfOk result (λ made. made.all_done
         ≡ list_all is_done (verdicts (near_beats script.entry))) }
@@ -86,9 +86,12 @@ fn sync_answer_of<const C: usize, const M: usize>(
     if check {
         let answer = check_script::<C, M>(alloc, &script, version);
         drop(script);
-        return Ok(AnswerParts::of(alloc, answer?));
+        return answer;
     }
-    sync_run_of::<C, M>(alloc, script, version)
+    match sync_run_of::<C, M>(alloc, script, version) {
+        Ok(parts) => parts.joined(),
+        Err(fault) => Err(fault),
+    }
 }
 
 /// The answer to a text whose header names this version and these widths.
@@ -106,7 +109,7 @@ fn with_widths<const C: usize, const M: usize>(
         Ok(script) => script,
         Err(fault) => return Err(TextFault::from(fault)),
     };
-    sync_answer_of::<C, M>(alloc, script, version, check)?.joined()
+    sync_answer_of::<C, M>(alloc, script, version, check)
 }
 
 /// The same, for a client of `C` bytes: the manager's width is one of eight.

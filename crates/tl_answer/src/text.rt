@@ -1,5 +1,5 @@
 //! From the bytes that come in to the bytes that go out.
-ghost use Rattle.std.specs.Prelude.{◌≡◌, IfOk, OnOk, IfErr};
+ghost use Rattle.std.specs.Prelude.{◌≡◌, ◌++◌, IfOk, OnOk, IfErr};
 ghost use Rattle.std.specs.Io.KnownBytes.{Appends};
 ghost use Rattle.tl_order.specs.Orders.{IsRunnable};
 ghost use Rattle.tl_answer.specs.Inner.Answered.{AnswersRead};
@@ -13,7 +13,19 @@ use std::alloc::Global;
 use std::io::{Read, Write};
 use std::thread::Threads;
 use tl_order::Order;
-use tl_stream::{Input, TextFault, flush, write_bytes};
+use tl_stream::{Input, TextFault, write_all, write_bytes};
+
+/// Writes two texts, one after the other. Refused as `write_all` is.
+fn write_both<W: Write>(writer: &mut W, first: &[u8], second: &[u8]) -> Result<(), TextFault>
+    ensures all { OnOk result (Appends (W.contents writer.old) (W.contents writer.new)
+        (first.now ++ second.now)) }
+    ensures kind { IfErr result (λ e. e ≡ WriteFault) }
+{
+    match write_bytes(writer, first) {
+        Ok(()) => write_bytes(writer, second),
+        Err(fault) => Err(fault),
+    }
+}
 
 /// Writes an answer and flushes: true where all five channels are done. Refused as `write_all` is.
 fn write_answer<W: Write>(writer: &mut W, answer: &AnswerParts) -> Result<bool, TextFault>
@@ -22,12 +34,9 @@ fn write_answer<W: Write>(writer: &mut W, answer: &AnswerParts) -> Result<bool, 
     ensures done { IfOk result (λ all_done. all_done ≡ answer.now.all_done) }
     ensures kind { IfErr result (λ e. e ≡ WriteFault) }
 {
-    write_bytes(writer, &answer.a)?;
-    write_bytes(writer, &answer.b)?;
-    write_bytes(writer, &answer.c)?;
-    write_bytes(writer, &answer.d)?;
-    write_bytes(writer, &answer.e)?;
-    flush(writer)?;
+    write_both(writer, &answer.a, &answer.b)?;
+    write_both(writer, &answer.c, &answer.d)?;
+    write_all(writer, &answer.e)?;
     Ok(answer.all_done)
 }
 
@@ -81,6 +90,8 @@ pub fn run_text<T: Threads, R: Read, W: Write>(
     ensures { AnswersText (R.remaining reader.old) (R.remaining reader.new)
         (W.contents writer.old) (W.contents writer.new) order.now result }
 {
-    let answer = read_answer(rt, alloc, reader, order)?;
-    write_answer(writer, &answer)
+    match read_answer(rt, alloc, reader, order) {
+        Ok(answer) => write_answer(writer, &answer),
+        Err(fault) => Err(fault),
+    }
 }

@@ -1,7 +1,8 @@
 -- What clap finds of the options, by its rows.
 use Rattle.std.proofs.Common.{◌≡◌, ◌∙◌, ap₂, false, true, ℕ, Bor, box_value, List, [], ◌∷◌, Option, Some, None, Err, IfOk}
 use Rattle.std.proofs.Common.{IsOkAnd, Ok, Result, ◌++◌, option_map, codes, refl, subst, sym, ap, arith}
-use Rattle.std.specs.Prelude.{◌||◌, unwrap_or}
+use Rattle.std.specs.Prelude.{◌||◌, OnOk, unwrap_or}
+use Rattle.std.specs.Result.{result_and}
 use Rattle.std.specs.Str.Parse.{ParsesUnsigned, digits_value, without_leading_plus}
 use Rattle.clap.specs.Simple.{app_of_fields}
 use Rattle.clap.specs.Words.{AddsArg, AddsInTurn, AddsSubcommand, App, Row, Rule, Text, app_of, first_of, is_simple, new_app}
@@ -103,6 +104,12 @@ pub program_of_parts : (top run check made : Command) → app_of top ≡ bare �
 program_of_parts top run check made is is_run is_check added =
     ap app_of (sym added.2.2) ∙ added.2.1.shape is_check.1
     ∙ ap₂ with_subcommand (added.1.shape is_run.1 ∙ ap₂ with_subcommand is is_run.0) is_check.0
+
+-- what holds where each of two results is Ok, where both are
+pub both_ok : {E : Type 0} (P Q : Type 0) (a b all : Result (Unit {0}) E) → all ≡ result_and a b → OnOk a P → OnOk b Q → OnOk all (P × Q)
+both_ok P Q (Ok x) (Ok y) all joined p q = subst (λ r. OnOk r (P × Q)) (sym joined) (p, q)
+both_ok P Q (Ok x) (Err e) all joined p q = subst (λ r. OnOk r (P × Q)) (sym joined) tt
+both_ok P Q (Err e) b all joined p q = subst (λ r. OnOk r (P × Q)) (sym joined) tt
 
 -- what two puts leave in a list that was empty
 pub both_put : {E : Type 0} (one two : Result Command E) (none first both : List Command) → none ≡ []

@@ -104,24 +104,34 @@ fn command<'a>(alloc: Global) -> Result<Command<'a>, AllocError>
     ensures { IfOk result (λ c. app_of c ≡ program) }
 {
     let mut below = Vec::new(alloc);
-    put(&mut below, run_command(alloc))?;
-    put(&mut below, check_command(alloc))?;
-    bare_command(alloc).subcommands(below)
+    let run = put(&mut below, run_command(alloc));
+    let check = put(&mut below, check_command(alloc));
+    match run.and(check) {
+        Ok(()) => bare_command(alloc).subcommands(below),
+        Err(error) => Err(error),
+    }
 }
 
 /// What `command` takes from the words.
 fn matches_of<'a>(alloc: Global, words: &'a [&'a str]) -> Result<ArgMatches<'a>, Error>
     ensures { IfOk result (λ m. subcommand_rows_of m ≡ called_by (map (λ w. w.now) words.entry.now)) }
 {
-    command(alloc)?.try_get_matches_from(words)
+    match command(alloc) {
+        Ok(command) => command.try_get_matches_from(words),
+        Err(error) => Err(Error::from(error)),
+    }
 }
 
 /// A refusal in these words, below which the usage stands.
 fn refusal(alloc: Global, message: &str) -> Result<Error, AllocError> {
-    let mut command = command(alloc)?;
-    let refused = command.error(ErrorKind::ValueValidation, message);
-    drop(command);
-    refused
+    match command(alloc) {
+        Ok(mut command) => {
+            let refused = command.error(ErrorKind::ValueValidation, message);
+            drop(command);
+            refused
+        }
+        Err(error) => Err(error),
+    }
 }
 
 /// The refusal of an option's word that is no number from 1 to `max`.
@@ -193,13 +203,17 @@ pub fn command_line_of<'a>(alloc: Global, words: &'a [&'a str]) -> Result<Comman
     ensures order { IfOk result (λ line. IsOrderOf (called_by (map (λ w. w.now) words.entry.now)) line.order) }
     ensures file { IfOk result (λ line. option_map (λ s. s.now) line.file ≡ file_of (called_by (map (λ w. w.now) words.entry.now))) }
 {
-    let matches = matches_of(alloc, words)?;
-    let (order, file) = (order_in(alloc, &matches), file_in(&matches));
+    let matches = match matches_of(alloc, words) {
+        Ok(matches) => matches,
+        Err(error) => return Err(error),
+    };
+    let order = order_in(alloc, &matches);
+    let file = file_in(&matches);
     drop(matches);
-    Ok(CommandLine {
-        order: order?,
-        file,
-    })
+    match order {
+        Ok(order) => Ok(CommandLine { order, file }),
+        Err(error) => Err(error),
+    }
 }
 
 /// The order that the words of a command line give, whichever file they name. Refused as

@@ -1,5 +1,5 @@
 use Rattle.tl_answer.proofs.Names.{◌≡◌, ◌∙◌, [], None, rules, sym, ap, body, header_of, HasHeader, held}
-use Rattle.tl_answer.proofs.Headers.{last_client, asked_client}
+use Rattle.tl_answer.proofs.Headers.{last_client}
 use Rattle.tl_answer.proofs.Whole.{header_missing}
 use Rattle.tl_answer.proofs.answer.answer_input.Goals as goal
 
@@ -8,34 +8,6 @@ returns-in_default g c =
     let none : header_of (body (held c.args.input.now)) ≡ None =
     ap (λ bytes. header_of (body bytes)) (sym c.held.ensures) ∙ sym c.in_default.ensures in
     (([], c.requires.0.taken), λ p. absurd cc, header_missing _ c.args.input.now c.requires.0 none)
-
-pub with_client-requires : goal.with_client-requires
-with_client-requires g c = asked_client _ c.args.input.now c.args.order.now c.held.result.now c.in-Some.header 1 c.in-1.is
-    c.held.ensures c.in-Some.ensures c.requires
-
-pub with_client-requires-in-2 : goal.with_client-requires-in-2
-with_client-requires-in-2 g c = asked_client _ c.args.input.now c.args.order.now c.held.result.now c.in-Some.header 2 c.in-2.is
-    c.held.ensures c.in-Some.ensures c.requires
-
-pub with_client-requires-in-4 : goal.with_client-requires-in-4
-with_client-requires-in-4 g c = asked_client _ c.args.input.now c.args.order.now c.held.result.now c.in-Some.header 4 c.in-4.is
-    c.held.ensures c.in-Some.ensures c.requires
-
-pub with_client-requires-in-8 : goal.with_client-requires-in-8
-with_client-requires-in-8 g c = asked_client _ c.args.input.now c.args.order.now c.held.result.now c.in-Some.header 8 c.in-8.is
-    c.held.ensures c.in-Some.ensures c.requires
-
-pub with_client-requires-in-16 : goal.with_client-requires-in-16
-with_client-requires-in-16 g c = asked_client _ c.args.input.now c.args.order.now c.held.result.now c.in-Some.header 16 c.in-16.is
-    c.held.ensures c.in-Some.ensures c.requires
-
-pub with_client-requires-in-32 : goal.with_client-requires-in-32
-with_client-requires-in-32 g c = asked_client _ c.args.input.now c.args.order.now c.held.result.now c.in-Some.header 32 c.in-32.is
-    c.held.ensures c.in-Some.ensures c.requires
-
-pub with_client-requires-in-64 : goal.with_client-requires-in-64
-with_client-requires-in-64 g c = asked_client _ c.args.input.now c.args.order.now c.held.result.now c.in-Some.header 64 c.in-64.is
-    c.held.ensures c.in-Some.ensures c.requires
 
 pub with_client-requires-in_default-client : goal.with_client-requires-in_default-client
 with_client-requires-in_default-client g c =
@@ -46,3 +18,6 @@ with_client-requires-in_default-client g c =
           (search rules) (search rules);
       runnable = c.requires.1;
     }
+
+pub with_client-requires-in-32 : goal.with_client-requires-in-32
+with_client-requires-in-32 g c = search rules

@@ -6,9 +6,6 @@ pub run_threads-requires-after_bounds : goal.run_threads-requires-after_bounds
 run_threads-requires-after_bounds g c = λ κs bounds.
     (lit< tt, (lit< tt, (c.requires.0.client, (c.requires.0.manager, (c.requires.0.short, c.turns-turns.ensures.some c.requires.1)))))
 
-pub returns-clause-ok : goal.returns-clause-ok
-returns-clause-ok g c = c.run_threads.ensures.outcome
-
 pub returns-clause-err : goal.returns-clause-err
 returns-clause-err g c =
     let size = c.ring-ring.ensures.size c.requires.1 in

@@ -28,21 +28,3 @@ returns-in-Ok g c =
     (near_beats c.in-Ok.script) (near-is read.told.lines _ read.told.script) false (spelled made) text-is made.all_done done-is)
     c.threads_answer_of.result c.threads_answer_of.ensures.text c.threads_answer_of.ensures.done)
     c.threads_answer_of.ensures.err)
-
-pub check_input-requires : goal.check_input-requires
-check_input-requires g c = (c.requires.fresh, c.requires.header)
-
-pub returns-then-is_check : goal.returns-then-is_check
-returns-then-is_check g c =
-    subst (λ check. ReadsAnswer (unread_of c.args.input.now (g.R.Read.remaining c.args.reader.now)) (g.R.Read.remaining c.check_input.new.reader)
-    check c.check_input.new.input c.check_input.result)
-    (sym c.if-is_check.true ∙ c.is_check.ensures) c.check_input.ensures
-
-pub run_input-requires : goal.run_input-requires
-run_input-requires g c = let size = c.ring.ensures.size c.requires.runnable in (c.requires.fresh, c.requires.header, size.0, size.1)
-
-pub returns-then-is_sync : goal.returns-then-is_sync
-returns-then-is_sync g c =
-    subst (λ check. ReadsAnswer (unread_of c.args.input.now (g.R.Read.remaining c.args.reader.now)) (g.R.Read.remaining c.run_input.new.reader) check
-    c.run_input.new.input c.run_input.result)
-    (sym c.if-is_check.false ∙ c.is_check.ensures) c.run_input.ensures

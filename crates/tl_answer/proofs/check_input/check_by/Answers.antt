@@ -5,9 +5,6 @@ use Rattle.tl_answer.proofs.Listening.{all-near, are-end, has-all}
 use Rattle.tl_answer.proofs.Whole.{reads_answer}
 use Rattle.tl_answer.proofs.check_input.check_by.Goals as goal
 
-pub read_through-requires : goal.read_through-requires
-read_through-requires g c = (lit< tt, c.requires)
-
 pub end_of-requires : goal.end_of-requires
 end_of-requires g c =
     let widths = widths_named (held c.args.input.now) c.args.version g.row.C g.row.M c.requires.1 in
@@ -27,6 +24,3 @@ returns-in-Ok g c =
     (ap (λ beats. verdicts beats) (all-near read.lines read.gone s read.rest)) (spelled made) text-is made.all_done done-is)
     c.end_of.result (c.end_of.ensures.text near ends has) (c.end_of.ensures.done near ends has))
     c.end_of.ensures.err
-
-pub returns-in-Err : goal.returns-in-Err
-returns-in-Err g c = c.in-Err.ensures.err

@@ -13,6 +13,3 @@ check_by-requires g c =
         λ s few. new-goes (CanJudge judge) (λ beats. HasJudged beats judge) judge.gone new.none s (new.begins s (short-lists s few)) new.judged,
       ),
     )
-
-pub returns : goal.returns
-returns g c = c.check_by.ensures

@@ -6,9 +6,6 @@ use Rattle.tl_answer.proofs.Listening.{all-near}
 use Rattle.tl_answer.proofs.Whole.{reads_answer}
 use Rattle.tl_answer.proofs.crossing.cross.Goals as goal
 
-pub read_through-requires : goal.read_through-requires
-read_through-requires g c = (lit< tt, c.requires)
-
 pub read_through-requires-room-L-Listener : goal.read_through-requires-room-L-Listener
 read_through-requires-room-L-Listener g c κs within =
     let widths = widths_named (held c.args.input.now) c.args.version g.row.C g.row.M c.requires.1 in
@@ -28,6 +25,3 @@ returns-in-Ok g c =
     (all_of read.gone c.in-Ok.last) (all-near read.lines read.gone c.in-Ok.last read.rest) false (spelled made) text-is made.all_done done-is)
     c.end.result (c.end.ensures.text c.args.version read.gone read.listens) (c.end.ensures.done c.args.version read.gone read.listens))
     c.end.ensures.err
-
-pub returns-in-Err : goal.returns-in-Err
-returns-in-Err g c = c.in-Err.ensures.err

@@ -1,4 +1,4 @@
-use Rattle.tl_answer.proofs.Names.{sym, subst, held, unread_of, IsRefused}
+use Rattle.tl_answer.proofs.Names.{held}
 use Rattle.tl_answer.proofs.CrossingSize.{crossing_small}
 use Rattle.tl_stream.proofs.ToRead.{widths_named}
 use Rattle.tl_answer.proofs.crossing.run_input.Goals as goal
@@ -17,9 +17,3 @@ pub let_go-requires : goal.let_go-requires
 let_go-requires g c =
     let widths = widths_named (held c.args.input.now) c.args.version g.row.C g.row.M c.requires.1 in
     crossing_small g.row.C g.row.M widths.0 widths.1
-
-pub returns : goal.returns
-returns g c = c.cross-answer.ensures
-
-pub returns-in-Err : goal.returns-in-Err
-returns-in-Err g c = subst (IsRefused (unread_of c.args.input.now (g.R.Read.remaining c.args.reader.now)) _ _) (sym c.in-Err.ensures.err) tt

@@ -29,9 +29,6 @@ end-answer-requires g c = (
 pub let_go-requires : goal.let_go-requires
 let_go-requires g c = crossing_small g.row.C g.row.M c.requires.client c.requires.manager
 
-pub returns-in-Err : goal.returns-in-Err
-returns-in-Err g c = record { text = tt; done = tt; err = c.in-Err.ensures.err }
-
 pub returns : goal.returns
 returns g c =
     let new = c.in-Ok.ensures.new c.args.script (none-gone c.args.script c.requires.short) in

@@ -1,4 +1,4 @@
-use Rattle.tl_answer.proofs.Names.{lit<, ◌∙◌, near_beats}
+use Rattle.tl_answer.proofs.Names.{lit<, near_beats}
 use Rattle.tl_answer.proofs.Answering.{script-text, of-both, near-is}
 use Rattle.tl_answer.proofs.Headers.{can-cross}
 use Rattle.tl_stream.proofs.Lengths.{lines-few}
@@ -12,8 +12,6 @@ sync_answer_of-requires g c =
 pub returns-clause-ok : goal.returns-clause-ok
 returns-clause-ok g c =
     let told = c.in-Ok.ensures.told in
-    let parts = c.in_ok-sync_answer_of.ensures in
     of-both _ _ _ (λ made text-is done-is. script-text c.args.version g.row.C g.row.M told.lines c.args.text.now told.told
-    (near_beats c.in-Ok.script) (near-is told.lines _ told.script) c.args.check made.text.items (text-is ∙ parts.text)
-    made.all_done (done-is ∙ parts.done))
-    c.joined.result c.joined.ensures.text c.joined.ensures.done
+    (near_beats c.in-Ok.script) (near-is told.lines _ told.script) c.args.check made.text.items text-is made.all_done done-is)
+    c.sync_answer_of.result c.sync_answer_of.ensures.text c.sync_answer_of.ensures.done

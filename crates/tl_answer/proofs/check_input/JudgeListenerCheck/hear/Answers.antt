@@ -1,9 +1,6 @@
-use Rattle.tl_answer.proofs.Names.{lit<, CanJudge, HasJudged}
+use Rattle.tl_answer.proofs.Names.{CanJudge, HasJudged}
 use Rattle.tl_answer.proofs.Listening.{can-judge, counted-on, goes-on}
 use Rattle.tl_answer.proofs.check_input.JudgeListenerCheck.hear.Goals as goal
-
-pub go_on-requires : goal.go_on-requires
-go_on-requires g c = (lit< tt, (lit< tt, (c.requires.0, (c.requires.1, c.requires.2.2.can))))
 
 pub returns-clause-on : goal.returns-clause-on
 returns-clause-on g c = λ version gone h rest more went grown few.

@@ -1,4 +1,4 @@
-use Rattle.tl_answer.proofs.Names.{IfOk, lit<, ◌≡◌, ◌∙◌, refl, subst, list_all, Beats, CanRun, HasRun, is_done, HasLines, all_of}
+use Rattle.tl_answer.proofs.Names.{IfOk, lit<, ◌≡◌, ◌∙◌, subst, list_all, Beats, CanRun, HasRun, is_done, HasLines, all_of}
 use Rattle.tl_answer.proofs.CrossingSize.{run_small}
 use Rattle.tl_answer.proofs.FarTexts.{answer-is}
 use Rattle.tl_answer.proofs.Listening.{are-end, has-all}
@@ -28,6 +28,3 @@ returns-in-Ok g c =
           subst (λ vs. IfOk c.into_answer.result (λ made. made.all_done ≡ list_all is_done vs)) (ended.verdicts near end has) made.done;
       err = made.err;
     }
-
-pub returns-in-Err : goal.returns-in-Err
-returns-in-Err g c = record { text = λ version gone x. tt; done = λ version gone x. tt; err = refl }

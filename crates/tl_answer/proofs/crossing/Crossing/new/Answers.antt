@@ -8,20 +8,20 @@ use Rattle.tl_answer.proofs.crossing.Crossing.new.Goals as goal
 pub new-requires-2 : goal.new-requires-2
 new-requires-2 g c = (bridge_small g.row.C g.row.M c.requires.0 c.requires.1, (c.requires.0, c.requires.1))
 
-pub new-requires-in-Ok : goal.new-requires-in-Ok
-new-requires-in-Ok g c = (
+pub new-requires-in-Ok-new : goal.new-requires-in-Ok-new
+new-requires-in-Ok-new g c = (
   bridge_small g.row.C g.row.M c.requires.0 c.requires.1,
-  (run_small g.row.C g.row.M c.requires.0 c.requires.1, (c.args.ring, c.requires.2, c.in-Ok.ensures.new)),
+  (run_small g.row.C g.row.M c.requires.0 c.requires.1, (c.args.ring, c.requires.2, c.in-Ok-new.ensures.new)),
 )
 
-pub returns-in-Ok-clause-new : goal.returns-in-Ok-clause-new
-returns-in-Ok-clause-new g c = λ s few.
-    let far = c.in_ok-far.far in
-    let run = c.new-in-Ok.result in
-    let new = c.new-in-Ok.ensures in
+pub returns-in-Ok-new-clause-new : goal.returns-in-Ok-new-clause-new
+returns-in-Ok-new-clause-new g c = λ s few.
+    let far = c.in-Ok.far in
+    let run = c.new-in-Ok-new.result in
+    let new = c.new-in-Ok-new.ensures in
     record {
-      version_is = c.in_ok-far.ensures.version;
+      version_is = c.in-Ok.ensures.version;
       goes = new-goes (CanRun run) (λ beats. HasRun HasLines beats far run) run.gone new.none s (new.begins s (short-lists s few))
           (λ beats. let begun = new.running beats in
-          record { all = no_beats; holds = c.in_ok-far.ensures.lines; counts = begun.0; under_way = begun.1 });
+          record { all = no_beats; holds = c.in-Ok.ensures.lines; counts = begun.0; under_way = begun.1 });
     }
