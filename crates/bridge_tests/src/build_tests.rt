@@ -1,6 +1,7 @@
 //! When no pipe, no pair of ends, no bridge and no pair of sides is made.
 #![tactic(auto, using(tl_lanes::proofs::Widths::width_4, tl_lanes::proofs::Widths::width_8, tl_lanes::proofs::Widths::width_16))]
 
+use crate::lending::holds_at;
 use linked_list_allocator::LocalHeap;
 use std::alloc::Global;
 use tl_bridge::SyncBridge;
@@ -108,6 +109,6 @@ fn are_refused(alloc: Global, heaps: &Heaps) -> bool {
 #[test]
 fn each_refused_growth_is_out_of_memory(rt: HostRuntime) {
     for (number, heaps) in HEAPS.iter().enumerate() {
-        assert!(rt; are_refused(rt.alloc(), heaps), "row {number}");
+        holds_at(&rt, are_refused(rt.alloc(), heaps), number);
     }
 }

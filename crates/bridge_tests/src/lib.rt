@@ -31,19 +31,15 @@ mod tests;
 mod values;
 
 use tl_bridge::SyncBridge;
-use tl_msg::ChA;
-use tl_ring::{SendEnd, SyncPipe};
 use tl_sides::{ClientSide, ManagerSide};
 
 /// Does nothing, for a type whose values can be let go.
 fn can_be_let_go<T: Drop>() {}
 
-/// Names the large types whose values the tests let go. What lets them go has answers in `proofs/`, and a check without
+/// Names the largest types whose values the tests let go. What lets them go has answers in `proofs/`, and a check without
 /// the tests refuses those of a function that is not there.
 pub fn name_what_is_let_go() {
     can_be_let_go::<SyncBridge<4, 16>>();
     can_be_let_go::<ClientSide<4, 16>>();
     can_be_let_go::<ManagerSide<4, 16>>();
-    can_be_let_go::<SyncPipe<ChA, 8, 4>>();
-    can_be_let_go::<SendEnd<ChA, 8, 4>>();
 }

@@ -6,6 +6,7 @@ use crate::lending::{come_of, lent};
 use crate::values::{blank, data, get};
 use std::alloc::Global;
 use tl_bridge::{Standings, SyncBridge};
+use tl_lanes::Mask;
 use tl_msg::{HeadB, HeadC, HeadE};
 
 /// Whether a Get of source 11 from this address is offered, and answered so.
@@ -24,6 +25,16 @@ fn answers(
     bridge.ready_d() && bridge.offer_d(data(opcode, size, 0x11, *lanes)) == *said
 }
 
+/// Whether the Get from this address is taken, and has this mask.
+fn takes_ask(bridge: &mut SyncBridge<4, 16>, address: u64, mask: Mask) -> bool {
+    bridge.take_a() == Some(get(0x11, address, mask))
+}
+
+/// Whether a response of 4 bytes with these lanes is taken.
+fn takes_answer(bridge: &mut SyncBridge<4, 16>, lanes: [u8; 4]) -> bool {
+    bridge.take_d() == Some(data(1, 2, 0x11, lanes))
+}
+
 /// Whether that comes of a call.
 fn play(bridge: &mut SyncBridge<4, 16>, call: &Call) -> bool {
     match call {
@@ -31,8 +42,8 @@ fn play(bridge: &mut SyncBridge<4, 16>, call: &Call) -> bool {
         Call::Answers(opcode, size, lanes, said) => answers(bridge, *opcode, *size, lanes, said),
         Call::ClientPumps | Call::ManagerPumps => bridge.pump() == 1,
         Call::ClientFetches | Call::ManagerFetches => bridge.fetch() == 1,
-        Call::TakesAsk(address, mask) => bridge.take_a() == Some(get(0x11, *address, *mask)),
-        Call::TakesAnswer(lanes) => bridge.take_d() == Some(data(1, 2, 0x11, *lanes)),
+        Call::TakesAsk(address, mask) => takes_ask(bridge, *address, *mask),
+        Call::TakesAnswer(lanes) => takes_answer(bridge, *lanes),
         Call::TakesNothing => bridge.take_d().is_none(),
     }
 }

@@ -158,13 +158,18 @@ const ZERO_D: HeadD = HeadD {
 
 const ZERO_E: HeadE = HeadE { sink: 0 };
 
+/// Whether a value is the default of its type.
+fn is_default<T: Default + PartialEq + Drop>(value: &T) -> bool {
+    *value == T::default()
+}
+
 #[test]
 fn default_beats_are_zero(rt: HostRuntime) {
-    let have_masks = (blank::<HeadA, 4>(ZERO_A, 0) == Default::default())
-        & (blank::<HeadB, 4>(ZERO_B, 0) == Default::default());
-    let have_none = (blank::<HeadC, 4>(ZERO_C, 0) == Default::default())
-        & (blank::<HeadD, 4>(ZERO_D, 0) == Default::default());
-    assert!(rt; have_masks & have_none & (blank::<HeadE, 4>(ZERO_E, 0) == Default::default()));
+    let have_masks = is_default(&blank::<HeadA, 4>(ZERO_A, 0))
+        & is_default(&blank::<HeadB, 4>(ZERO_B, 0));
+    let have_none = is_default(&blank::<HeadC, 4>(ZERO_C, 0))
+        & is_default(&blank::<HeadD, 4>(ZERO_D, 0));
+    assert!(rt; have_masks & have_none & is_default(&blank::<HeadE, 4>(ZERO_E, 0)));
 }
 
 #[test]

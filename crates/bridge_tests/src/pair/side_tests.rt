@@ -7,6 +7,7 @@ use crate::calls::{ANSWERED, Call, Said, TWICE};
 use crate::lending::let_both_go;
 use crate::values::{data, get};
 use std::alloc::Global;
+use tl_lanes::Mask;
 use tl_sides::{ClientSide, ManagerSide, bridge, meet_sides};
 
 /// Whether a Get of source 11 from this address is offered, and answered so.
@@ -29,6 +30,20 @@ fn answers(
     manager.ready_d() && manager.offer_d(data(opcode, size, 0x11, *lanes)) == *said
 }
 
+/// Whether the Get from this address is taken, and has this mask.
+fn takes_ask(manager: &mut ManagerSide<4, 16>, address: u64, mask: Mask) -> bool
+    ensures { SameManager manager.old manager.new }
+{
+    manager.take_a() == Some(get(0x11, address, mask))
+}
+
+/// Whether a response of 4 bytes with these lanes is taken.
+fn takes_answer(client: &mut ClientSide<4, 16>, lanes: [u8; 4]) -> bool
+    ensures { SameClient client.old client.new }
+{
+    client.take_d() == Some(data(1, 2, 0x11, lanes))
+}
+
 /// Whether that comes of one call of one side.
 fn play(client: &mut ClientSide<4, 16>, manager: &mut ManagerSide<4, 16>, call: &Call) -> bool
     ensures client { SameClient client.old client.new }
@@ -41,8 +56,8 @@ fn play(client: &mut ClientSide<4, 16>, manager: &mut ManagerSide<4, 16>, call: 
         Call::ClientFetches => client.fetch() == 1,
         Call::ManagerPumps => manager.pump() == 1,
         Call::ManagerFetches => manager.fetch() == 1,
-        Call::TakesAsk(address, mask) => manager.take_a() == Some(get(0x11, *address, *mask)),
-        Call::TakesAnswer(lanes) => client.take_d() == Some(data(1, 2, 0x11, *lanes)),
+        Call::TakesAsk(address, mask) => takes_ask(manager, *address, *mask),
+        Call::TakesAnswer(lanes) => takes_answer(client, *lanes),
         Call::TakesNothing => client.take_d().is_none(),
     }
 }

@@ -1,3 +1,4 @@
+use crate::lending::holds_at;
 use std::alloc::Global;
 use std::io;
 use std::io::{Read, Write};
@@ -11,8 +12,8 @@ const TEXT: &str =
 struct Pieces<'a> {
     rest: &'a [u8],
     most: usize,
-    calls: u64,
-    bad_call: u64,
+    calls: usize,
+    bad_call: usize,
     kind: io::ErrorKind,
 }
 
@@ -34,8 +35,8 @@ impl<'a> Read for Pieces<'a> {
 struct Slow {
     taken: Vec<u8>,
     most: usize,
-    calls: u64,
-    bad_call: u64,
+    calls: usize,
+    bad_call: usize,
     kind: io::ErrorKind,
     flushes: bool,
 }
@@ -61,7 +62,7 @@ impl Write for Slow {
 }
 
 /// Gives the text a byte a call.
-fn text_in(bad_call: u64, kind: io::ErrorKind) -> Pieces<'static> {
+fn text_in(bad_call: usize, kind: io::ErrorKind) -> Pieces<'static> {
     Pieces {
         rest: TEXT.as_bytes(),
         most: 1,
@@ -82,7 +83,7 @@ fn is_read(alloc: Global) -> bool {
 }
 
 /// Whether a reader that fails at this call is a fault of reading.
-fn is_read_fault(alloc: Global, bad_call: u64, kind: io::ErrorKind) -> bool {
+fn is_read_fault(alloc: Global, bad_call: usize, kind: io::ErrorKind) -> bool {
     matches!(
         read_all(alloc, &mut text_in(bad_call, kind)),
         Err(TextFault::Read)
@@ -95,10 +96,7 @@ fn readers(rt: HostRuntime) {
     assert!(rt; is_read(rt.alloc()));
     for bad_call in 1..=87 {
         for &kind in &KINDS {
-            assert!(rt;
-                is_read_fault(rt.alloc(), bad_call, kind),
-                "call {bad_call}"
-            );
+            holds_at(&rt, is_read_fault(rt.alloc(), bad_call, kind), bad_call);
         }
     }
 }
@@ -107,7 +105,7 @@ fn readers(rt: HostRuntime) {
 fn read_in_pieces(
     alloc: Global,
     text: &[u8],
-    bad_call: u64,
+    bad_call: usize,
     kind: io::ErrorKind,
 ) -> Result<usize, TextFault> {
     let mut reader = Pieces {
@@ -122,44 +120,34 @@ fn read_in_pieces(
     Ok(input.total)
 }
 
-/// Whether this comes of reading where that call fails.
-fn comes_in_pieces(
-    alloc: Global,
-    text: &[u8],
-    bad_call: u64,
-    kind: io::ErrorKind,
-    wanted: &Result<usize, TextFault>,
-) -> bool {
-    read_in_pieces(alloc, text, bad_call, kind) == *wanted
+/// Whether all 300,000 bytes are read where call 6 or a later one fails, and else there is a fault of reading.
+fn comes_in_pieces(alloc: Global, text: &[u8], bad_call: usize, kind: io::ErrorKind) -> bool {
+    let wanted = if bad_call > 5 {
+        Ok(300_000)
+    } else {
+        Err(TextFault::Read)
+    };
+    read_in_pieces(alloc, text, bad_call, kind) == wanted
 }
 
 /// A piece has 262,144 bytes. So calls 1 to 3 read the first piece of 300,000 bytes, call 4 the rest,
-/// and call 5 finds the end. Each call fails in turn, and none is made again.
+/// and call 5 finds the end. Each call fails in turn, and none is made again. There is no call 6.
 #[test]
 fn read_in_pieces_that_fail(rt: HostRuntime) {
     let text = vec![in rt.alloc(); b'x'; 300_000].expect(&rt, "there is memory");
     for &kind in &KINDS {
-        for bad_call in 1..=5 {
-            assert!(rt;
-                comes_in_pieces(
-                    rt.alloc(),
-                    text.as_slice(),
-                    bad_call,
-                    kind,
-                    &Err(TextFault::Read)
-                ),
-                "call {bad_call}"
+        for bad_call in 1..=6 {
+            holds_at(
+                &rt,
+                comes_in_pieces(rt.alloc(), text.as_slice(), bad_call, kind),
+                bad_call,
             );
         }
-        assert!(rt;
-            comes_in_pieces(rt.alloc(), text.as_slice(), 6, kind, &Ok(300_000)),
-            "no call"
-        );
     }
 }
 
 /// How many bytes a call takes, which call fails, whether a flush is well, and whether the text is written.
-type Taken = (usize, u64, bool, bool);
+type Taken = (usize, usize, bool, bool);
 
 const WRITERS: [Taken; 3] = [
     (1, 0, true, true),
@@ -186,11 +174,11 @@ fn is_written(alloc: Global, row: &Taken, kind: io::ErrorKind) -> bool {
 
 #[test]
 fn writers(rt: HostRuntime) {
-    for row in &WRITERS {
-        assert!(rt;
+    for (number, row) in WRITERS.iter().enumerate() {
+        holds_at(
+            &rt,
             is_written(rt.alloc(), row, io::ErrorKind::Other),
-            "{} bytes a call",
-            row.0
+            number,
         );
     }
 }
@@ -198,11 +186,12 @@ fn writers(rt: HostRuntime) {
 /// Each write of one byte fails in turn.
 #[test]
 fn writers_that_fail(rt: HostRuntime) {
-    for bad_call in 1..=TEXT.len() as u64 {
+    for bad_call in 1..=TEXT.len() {
         for &kind in &KINDS {
-            assert!(rt;
+            holds_at(
+                &rt,
                 is_written(rt.alloc(), &(1, bad_call, true, false), kind),
-                "call {bad_call}"
+                bad_call,
             );
         }
     }

@@ -1,3 +1,4 @@
+use crate::lending::holds_at;
 use std::alloc::Global;
 use tl_order::Order;
 use tl_words::{command_line_of, order_of};
@@ -61,7 +62,7 @@ fn gives(alloc: Global, line: &Line) -> bool {
 #[test]
 fn lines(rt: HostRuntime) {
     for (number, line) in LINES.iter().enumerate() {
-        assert!(rt; asks_for(rt.alloc(), line), "row {number}");
-        assert!(rt; gives(rt.alloc(), line), "row {number}, its order");
+        holds_at(&rt, asks_for(rt.alloc(), line), number);
+        holds_at(&rt, gives(rt.alloc(), line), number);
     }
 }

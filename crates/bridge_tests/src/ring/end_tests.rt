@@ -160,10 +160,9 @@ fn receipt_for_one(
 }
 
 /// Whether the receipt of an end that has sent one GrantAck shows what is left.
-fn shows_what_is_left(send: SendEnd<ChE, 4, 8>, take: &mut TakeEnd<ChE, 4, 8>) -> bool
+fn shows_what_is_left(mut send: SendEnd<ChE, 4, 8>, take: &mut TakeEnd<ChE, 4, 8>) -> bool
     requires { ArePair send take.old }
 {
-    let mut send = send;
     if !sends(&mut send, 0x2a, 1) {
         return false;
     }
@@ -183,8 +182,7 @@ fn a_receipt_shows_what_is_left(rt: HostRuntime) {
 }
 
 /// Whether two beats go into the ring of two, and one more stays in the stage of the closed end, where the taking end is gone.
-fn sends_in_vain(send: SendEnd<ChE, 4, 8>) -> bool {
-    let mut send = send;
+fn sends_in_vain(mut send: SendEnd<ChE, 4, 8>) -> bool {
     let are_sent = sends(&mut send, 7, 1) & sends(&mut send, 7, 1) & sends(&mut send, 7, 0);
     let is_full = !send.ready();
     match send.close().ok() {
@@ -194,8 +192,7 @@ fn sends_in_vain(send: SendEnd<ChE, 4, 8>) -> bool {
 }
 
 /// Offers a message of two beats, of which one goes into the ring, and lets the end go. Answers whether that was so.
-fn leaves_one(send: SendEnd<ChA, 8, 4>) -> bool {
-    let mut send = send;
+fn leaves_one(mut send: SendEnd<ChA, 8, 4>) -> bool {
     offered(&mut send) && send.pump() == 1
 }
 

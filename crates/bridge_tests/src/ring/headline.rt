@@ -110,13 +110,12 @@ fn cross_in_two_threads<R: Threads>(
 }
 
 /// Offers a beat and sends it, closes the end, and gives it up. Answers the receipt, if nothing is left in the stage.
-fn send_whole(send: SendEnd<ChA, 8, 4>, beat: Beat<ChA, 8>) -> Option<Receipt<ChA, 8, 4>>
+fn send_whole(mut send: SendEnd<ChA, 8, 4>, beat: Beat<ChA, 8>) -> Option<Receipt<ChA, 8, 4>>
     requires { Sends rules_a send (empty {w = 8} 4) }
     ensures taker { IfSome result (λ receipt. IsReceiptFor send receipt) }
     ensures shows { IfSome result (λ receipt. (count : ℕ) ×
         Shows rules_a receipt (shut (passed count (offered rules_a beat 0 (empty {w = 8} 4))))) }
 {
-    let mut send = send;
     send_one(&mut send, beat)?;
     let Ok(closing) = send.close() else {
         return None;

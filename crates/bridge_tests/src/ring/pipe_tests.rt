@@ -24,18 +24,26 @@ enum Step {
     Stages(usize),
 }
 
+/// Whether it accepts a message of the bytes 0 to 7.
+fn offers(pipe: &mut SyncPipe<ChA, 8, 4>) -> bool {
+    pipe.ready()
+        && pipe
+            .offer(put(3, 16, 0xff, [0, 1, 2, 3, 4, 5, 6, 7]), 0)
+            .is_ok()
+}
+
+/// Whether it gives the far beat with these bytes.
+fn takes(pipe: &mut SyncPipe<ChA, 8, 4>, lanes: [u8; 4]) -> bool {
+    pipe.take() == Some(put(3, 16, 0xf, lanes))
+}
+
 /// Whether that comes of a step.
 fn play(pipe: &mut SyncPipe<ChA, 8, 4>, step: &Step) -> bool {
     match step {
-        Step::Offers => {
-            pipe.ready()
-                && pipe
-                    .offer(put(3, 16, 0xff, [0, 1, 2, 3, 4, 5, 6, 7]), 0)
-                    .is_ok()
-        }
+        Step::Offers => offers(pipe),
         Step::Pumps(count) => pipe.pump() == *count,
         Step::Fetches(count) => pipe.fetch() == *count,
-        Step::Takes(lanes) => pipe.take() == Some(put(3, 16, 0xf, *lanes)),
+        Step::Takes(lanes) => takes(pipe, *lanes),
         Step::TakesNothing => pipe.take().is_none(),
         Step::Closes => pipe.close().is_ok(),
         Step::IsReady(wanted) => pipe.ready() == *wanted,

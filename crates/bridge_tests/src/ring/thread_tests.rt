@@ -61,10 +61,9 @@ fn pump_all(closing: &mut ClosingEnd<ChE, 4, 8>, turns: usize)
 
 /// Offers and sends the sinks from 0 on, and then closes the end, sends what is staged and answers the receipt, if all of that was done
 /// before the turns were over.
-fn send_and_finish(send: SendEnd<ChE, 4, 8>, turns: usize) -> Option<Receipt<ChE, 4, 8>>
+fn send_and_finish(mut send: SendEnd<ChE, 4, 8>, turns: usize) -> Option<Receipt<ChE, 4, 8>>
     ensures { IfSome result (λ receipt. IsReceiptFor send receipt) }
 {
-    let mut send = send;
     send_from(&mut send, 0, turns);
     let Ok(mut closing) = send.close() else {
         return None;

@@ -4,6 +4,7 @@
 #![tactic(auto, using(tl_lanes::proofs::Widths::width_4, tl_lanes::proofs::Widths::width_8))]
 
 use crate::five::{FIVE, has_one_each, script_of_five};
+use crate::lending::passes;
 use crate::values::ack;
 use std::alloc::Global;
 use std::test::Fail;
@@ -20,8 +21,7 @@ fn is_read(alloc: Global) -> Result<bool, Fail> {
 
 #[test]
 fn read_script_wants_memory(rt: HostRuntime) -> Result<(), Fail> {
-    assert!(rt; is_read(rt.alloc())?);
-    Ok(())
+    passes(is_read(rt.alloc()))
 }
 
 /// Whether a trace is made into its script.
@@ -63,8 +63,7 @@ fn is_read_made_and_written(alloc: Global) -> Result<bool, Fail> {
 /// Those of `read`, then those of `script_of`, and then those of `write_trace`.
 #[test]
 fn a_trace_wants_memory(rt: HostRuntime) -> Result<(), Fail> {
-    assert!(rt; is_read_made_and_written(rt.alloc())?);
-    Ok(())
+    passes(is_read_made_and_written(rt.alloc()))
 }
 
 /// What a test answers of a call that writes behind what stood there: whether this text stands there then, or its want of
@@ -88,8 +87,7 @@ fn write_far_wants_memory(rt: HostRuntime) -> Result<(), Fail> {
     let mut out = Vec::from_slice(rt.alloc(), b"before ")?;
     let is_so = three_are_written(&mut out);
     drop(out);
-    assert!(rt; is_so?);
-    Ok(())
+    passes(is_so)
 }
 
 /// A verdict on a source in use.
@@ -109,6 +107,5 @@ fn write_report_wants_memory(rt: HostRuntime) -> Result<(), Fail> {
     let mut out = Vec::from_slice(rt.alloc(), b"before ")?;
     let is_so = is_reported(&mut out);
     drop(out);
-    assert!(rt; is_so?);
-    Ok(())
+    passes(is_so)
 }

@@ -4,6 +4,7 @@ ghost use Rattle.std.specs.Prelude.{◌≡◌};
 
 use crate::below::trace::growth_tests::is_written_as;
 use crate::five::{FIVE, has_one_each};
+use crate::lending::holds_at;
 use crate::values::ack;
 use std::alloc::Global;
 use std::test::Fail;
@@ -44,10 +45,7 @@ fn is_read_in_pieces(alloc: Global, lines: &[u8], first: usize) -> bool {
 fn scripts_are_read_in_pieces(rt: HostRuntime) {
     let lines = FIVE.as_bytes().get(HEADER..).unwrap_or(&[]);
     for first in 0..=lines.len() {
-        assert!(rt;
-            is_read_in_pieces(rt.alloc(), lines, first),
-            "{first} bytes"
-        );
+        holds_at(&rt, is_read_in_pieces(rt.alloc(), lines, first), first);
     }
 }
 
@@ -85,7 +83,7 @@ const KEPT: [&str; 3] = [
 #[test]
 fn reads_and_writes_lines(rt: HostRuntime) -> Result<(), Fail> {
     for (number, text) in KEPT.iter().enumerate() {
-        assert!(rt; is_kept(rt.alloc(), text.as_bytes())?, "row {number}");
+        holds_at(&rt, is_kept(rt.alloc(), text.as_bytes())?, number);
     }
     Ok(())
 }
@@ -114,10 +112,17 @@ const HEAD: HeadD = HeadD {
     denied: false,
 };
 
+/// Whether a GrantAck of sink 2a is this line in a trace of this version.
+fn is_line(version: u8, line: &[u8]) -> bool {
+    line_of::<ChE, 4>(&ack(0x2a), version).as_slice() == line
+}
+
+/// Whether that head is this text in a trace of version 1.
+fn is_head(text: &[u8]) -> bool {
+    ChD::head_text(&HEAD, 1).as_slice() == text
+}
+
 #[test]
 fn a_line_and_a_head(rt: HostRuntime) {
-    let is_short = line_of::<ChE, 4>(&ack(0x2a), 1).as_slice() == b"E 2a\n".as_slice();
-    let is_long = line_of::<ChE, 4>(&ack(0x2a), 2).as_slice() == b"E 002a\n".as_slice();
-    let is_head = ChD::head_text(&HEAD, 1).as_slice() == b"D 4 0 6 01 07 0".as_slice();
-    assert!(rt; is_short & is_long & is_head);
+    assert!(rt; is_line(1, b"E 2a\n") & is_line(2, b"E 002a\n") & is_head(b"D 4 0 6 01 07 0"));
 }
