@@ -11,6 +11,24 @@ use tl_lanes::{Mask, active, is_width};
 use tl_msg::{Beat, BeatOf, ChA, ChE, Channel, HeadA, SinkId};
 use tl_ring::{ROOM, SendEnd, TakeEnd, ring_pair};
 
+/// The names of the figures of a crossing and of a plain ring, in their order; and their places.
+pub const OF_ENDS: [&str; 5] = [
+    "beats",
+    "crossing_one_thread",
+    "crossing_two_threads",
+    "plain_one_thread",
+    "plain_two_threads",
+];
+
+const BEATS: usize = 0;
+
+/// The places of the times of a pair of ends: those of one thread, and of two.
+type Places = (usize, usize);
+
+const CROSSING: Places = (1, 2);
+
+const PLAIN: Places = (3, 4);
+
 /// How many beats stand in memory, which are sent over and over: whole messages.
 const SOME: usize = 64;
 
@@ -176,46 +194,26 @@ fn send_and_take<S: Sender<B>, T: Taker, B>(
     masks
 }
 
-/// Sends so many beats from a sender to a taker in two threads, which run free. Answers the sum of their masks.
-fn join_both<S: Sender<B> + Send, T: Taker + Send, B: Sync>(
-    threads: &impl Threads,
-    sender: &mut S,
-    taker: &mut T,
-    beats: &[B],
-    count: usize,
-) -> Mask {
-    let (_, masks) = join(
-        threads,
-        || send_all(sender, beats, count),
-        || take_all(taker, count),
-    );
-    masks
-}
-
-/// What the times of a pair of ends are named: those of one thread, and of two.
-type Names = [&'static str; 2];
-
-const CROSSING: Names = ["crossing_one_thread", "crossing_two_threads"];
-
-const PLAIN: Names = ["plain_one_thread", "plain_two_threads"];
-
-/// Sends so many beats from a sender to a taker, in one thread and then in two. Both passes are timed.
+/// Sends so many beats from a sender to a taker, in one thread and then in two, which run free. Both passes are timed.
 fn measure_pair<S: Sender<B> + Send + Drop, T: Taker + Send + Drop, B: Sync>(
     rt: &HostRuntime,
     threads: &impl Threads,
-    names: Names,
+    places: Places,
     ends: (S, T),
     beats: &[B],
     count: usize,
     figures: &mut Figures,
 ) {
-    let ([one_thread, two_threads], (mut sender, mut taker)) = (names, ends);
+    let (mut sender, mut taker) = ends;
     figures.start(rt);
     let one = send_and_take(&mut sender, &mut taker, beats, count);
-    figures.put_time(rt, one_thread);
-    figures.start(rt);
-    let two = join_both(threads, &mut sender, &mut taker, beats, count);
-    figures.put_time(rt, two_threads);
+    figures.lap(rt, places.0);
+    let (_, two) = join(
+        threads,
+        || send_all(&mut sender, beats, count),
+        || take_all(&mut taker, count),
+    );
+    figures.lap(rt, places.1);
     if one != two {
         figures.refuse("the two passes took other beats");
     }
@@ -329,7 +327,7 @@ pub fn measure(
     count: usize,
     figures: &mut Figures,
 ) {
-    figures.put("beats", count as u128);
+    figures.add(BEATS, count as u128);
     match (channel, width) {
         ("A", 8) => measure_requests::<8>(rt, threads, ring, count, figures),
         ("A", 64) => measure_requests::<64>(rt, threads, ring, count, figures),

@@ -1,50 +1,29 @@
 //! What was measured: figures by name, and the times and the memory among them.
-use std::alloc::Global;
-use std::fmt::Write;
-use std::fs::{self, Files};
-use std::rt::Clock;
+use std::fs;
 use std::time::Instant;
 
-/// Figures, a line each, of a name and a number; or why there are none. Time is counted from the last start.
+/// Figures by their place; or why there are none. Time is counted from the last start.
 #[derive(Drop)]
 pub struct Figures {
-    text: String,
+    numbers: [u128; 7],
     fault: Option<&'static str>,
-    start: Start,
+    start: Option<Instant>,
 }
 
-/// A moment from which time is counted; none where the clock cannot be read.
-pub type Start = Option<Instant>;
-
-/// This moment.
-pub fn now(rt: &impl Clock) -> Start {
-    Instant::now(rt).ok()
-}
-
-/// The nanoseconds since then; 0 where the clock cannot be read.
-pub fn nanos_since(rt: &impl Clock, start: Start) -> u128 {
-    match (start, now(rt)) {
-        (Some(start), Some(end)) => end.duration_since(start).as_nanos(),
-        _ => 0,
-    }
-}
-
-/// The most memory that a process has had so far, in KiB, of the text of its status.
+/// The most memory that a process has had so far, in KiB, by the text of its status.
 fn peak_of(status: &str) -> u128 {
-    match status.split_once("VmHWM:") {
-        Some((_, after)) => {
-            let number = after.split_whitespace().next().unwrap_or("0");
-            number.parse().unwrap_or(0)
-        }
-        None => 0,
-    }
+    let Some((_, after)) = status.split_once("VmHWM:") else {
+        return 0;
+    };
+    let number = after.split_whitespace().next().unwrap_or("0");
+    number.parse().unwrap_or(0)
 }
 
 impl Figures {
-    /// No figures.
-    pub fn new(alloc: Global) -> Figures {
+    /// Figures that are 0.
+    pub fn new() -> Figures {
         Figures {
-            text: String::new(alloc),
+            numbers: [0; 7],
             fault: None,
             start: None,
         }
@@ -55,40 +34,55 @@ impl Figures {
         self.fault = Some(fault);
     }
 
-    /// Adds a figure.
-    pub fn put(&mut self, name: &str, number: u128) {
-        if writeln!(self.text, "{name} {number}").is_err() {
-            self.refuse("there is no memory for the figures");
+    /// Adds to the figure at this place.
+    pub fn add(&mut self, place: usize, number: u128) {
+        if let Some(sum) = self.numbers.get_mut(place) {
+            *sum = sum.saturating_add(number);
         }
     }
 
     /// Counts time from this moment.
-    pub fn start(&mut self, rt: &impl Clock) {
-        self.start = now(rt);
+    pub fn start(&mut self, rt: &HostRuntime) {
+        self.start = Instant::now(rt).ok();
     }
 
-    /// Adds the nanoseconds since the start.
-    pub fn put_time(&mut self, rt: &impl Clock, name: &str) {
-        self.put(name, nanos_since(rt, self.start));
+    /// Adds the nanoseconds since the start, 0 where the clock cannot be read, and starts again.
+    pub fn lap(&mut self, rt: &HostRuntime, place: usize) {
+        let nanos = match (self.start, Instant::now(rt)) {
+            (Some(start), Ok(end)) => end.duration_since(start).as_nanos(),
+            _ => 0,
+        };
+        self.add(place, nanos);
+        self.start(rt);
     }
 
     /// Adds the most memory that the process has had so far, in KiB.
-    pub fn put_peak(&mut self, rt: &(impl Files + AllocGlobal), name: &str) {
+    pub fn add_peak(&mut self, rt: &HostRuntime, place: usize) {
         match fs::read_to_string(rt, "/proc/self/status") {
-            Ok(status) => self.put(name, peak_of(&status)),
+            Ok(status) => self.add(place, peak_of(&status)),
             Err(_) => self.refuse("the peak of memory cannot be read"),
         }
     }
 
-    /// Prints the figures on standard output, or why there are none on standard error. Answers
-    /// whether there are any.
-    pub fn print(&self, rt: &HostRuntime) -> bool {
-        match self.fault {
-            Some(fault) => {
-                let _ = eprintln!(rt; "{fault}");
-                false
-            }
-            None => print!(rt; "{}", self.text).is_ok(),
+    /// Prints the figure of this name and place. Answers whether it could.
+    fn print_one(&self, rt: &HostRuntime, name: &str, place: usize) -> bool {
+        match self.numbers.get(place) {
+            Some(number) => println!(rt; "{name} {number}").is_ok(),
+            None => false,
         }
+    }
+
+    /// Prints the figures of these names, a line each, or why there are none. Answers whether all are printed.
+    pub fn print(&self, rt: &HostRuntime, names: &[&str]) -> bool {
+        if let Some(fault) = self.fault {
+            let _ = eprintln!(rt; "{fault}");
+            return false;
+        }
+        let (mut place, mut are_printed): (usize, bool) = (0, true);
+        for name in names {
+            are_printed = are_printed & self.print_one(rt, name, place);
+            place = place.wrapping_add(1);
+        }
+        are_printed
     }
 }

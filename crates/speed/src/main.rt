@@ -28,9 +28,16 @@ fn word_at(words: &[String], at: usize) -> &str {
 
 /// The number that the word at this place is.
 fn number_at(words: &[String], at: usize) -> usize {
-    match word_at(words, at).parse() {
-        Ok(number) => number,
-        Err(_) => 0,
+    word_at(words, at).parse().unwrap_or(0)
+}
+
+/// The names of the figures that this word of the command line asks for, in their order.
+fn names_of(word: &str) -> &'static [&'static str] {
+    match word {
+        "pass" => &measure::OF_PASS,
+        "measure" => &measure::OF_TRACE,
+        "ends" => &ends::OF_ENDS,
+        _ => &[],
     }
 }
 
@@ -43,27 +50,22 @@ fn print_usage(rt: &HostRuntime) {
 
 /// Measures what the words of the command line ask for, behind the program's own name.
 fn measure_by(rt: &HostRuntime, threads: &impl Threads, words: &[String], figures: &mut Figures) {
+    let (width, ring, count) = (
+        number_at(words, 3),
+        number_at(words, 4),
+        number_at(words, 5),
+    );
     match word_at(words, 1) {
         "pass" => measure::pass(rt, &mut rt.stdin(), figures),
         "measure" => measure::measure(rt, &mut rt.stdin(), figures),
-        "ends" => {
-            ends::measure(
-                rt,
-                threads,
-                word_at(words, 2),
-                number_at(words, 3),
-                number_at(words, 4),
-                number_at(words, 5),
-                figures,
-            )
-        }
+        "ends" => ends::measure(rt, threads, word_at(words, 2), width, ring, count, figures),
         _ => print_usage(rt),
     }
 }
 
 fn main(rt: HostRuntime) -> io::Result<ExitCode> {
     let words: Vec<String> = env::args(&rt)?.collect(rt.alloc())?;
-    let mut figures = Figures::new(rt.alloc());
+    let mut figures = Figures::new();
     measure_by(&rt, &rt, &words, &mut figures);
-    Ok(ExitCode::from(!figures.print(&rt) as u8))
+    Ok(ExitCode::from(!figures.print(&rt, names_of(word_at(&words, 1))) as u8))
 }

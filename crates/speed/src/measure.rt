@@ -1,10 +1,10 @@
 //! Measures reading, conversion and writing.
-ghost use Rattle.std.specs.Prelude.{◌≡◌, true, IfSome};
+ghost use Rattle.std.specs.Prelude.{IfSome};
 ghost use Rattle.tl_lanes.specs.Lanes.{IsWidth};
 ghost use Rattle.tl_trace.specs.Faults.{HasHeader};
 ghost use Rattle.tl_stream.specs.Inputs.{IsFresh};
 
-use crate::figures::{Figures, nanos_since, now};
+use crate::figures::Figures;
 use arrayvec::ArrayVec;
 use std::io::{Read, Stdin};
 use tl_convert::Converter;
@@ -14,7 +14,43 @@ use tl_stream::{Input, MAX_BYTES, script_of_input};
 use tl_trace::{HeadText, Script, header_of_text, write_far};
 
 /// How many near beats are converted before the lines of their far beats are written.
-const NEAR_BEATS: usize = 64;
+const AT_ONCE: usize = 64;
+
+/// The names of a pass's figures, in their order; and their places.
+pub const OF_PASS: [&str; 4] = ["whole", "count", "bytes", "lines"];
+
+const WHOLE: usize = 0;
+
+const COUNT: usize = 1;
+
+const BYTES: usize = 2;
+
+const LINES: usize = 3;
+
+/// The names of a trace's figures, in their order; and their places.
+pub const OF_TRACE: [&str; 7] = [
+    "read",
+    "peak",
+    "convert",
+    "write",
+    "near_beats",
+    "far_beats",
+    "far_bytes",
+];
+
+const READ: usize = 0;
+
+const PEAK: usize = 1;
+
+const CONVERT: usize = 2;
+
+const WRITE: usize = 3;
+
+const NEAR_BEATS: usize = 4;
+
+const FAR_BEATS: usize = 5;
+
+const FAR_BYTES: usize = 6;
 
 /// How many LFs a text has.
 fn line_ends(text: &[u8]) -> usize {
@@ -27,35 +63,29 @@ fn line_ends(text: &[u8]) -> usize {
 
 /// Takes all of standard input into memory, and counts its LFs: plain passes, to compare with.
 pub fn pass(rt: &HostRuntime, reader: &mut Stdin, figures: &mut Figures) {
-    match Vec::with_capacity(rt.alloc(), MAX_BYTES) {
-        Ok(mut text) => pass_into(rt, reader, &mut text, figures),
-        Err(_) => figures.refuse("there is no memory for the text"),
-    }
-}
-
-/// Takes all of standard input into this memory, and counts its LFs.
-fn pass_into(rt: &HostRuntime, reader: &mut Stdin, text: &mut Vec<u8>, figures: &mut Figures) {
+    let Ok(mut text) = Vec::with_capacity(rt.alloc(), MAX_BYTES) else {
+        return figures.refuse("there is no memory for the text");
+    };
     figures.start(rt);
-    if reader.read_to_end(text).is_err() {
+    if reader.read_to_end(&mut text).is_err() {
         return figures.refuse("the text cannot be read");
     }
-    figures.put_time(rt, "whole");
-    figures.start(rt);
-    let lines = line_ends(text);
-    figures.put_time(rt, "count");
-    figures.put("bytes", text.len() as u128);
-    figures.put("lines", lines as u128);
+    figures.lap(rt, WHOLE);
+    let lines = line_ends(&text);
+    figures.lap(rt, COUNT);
+    figures.add(BYTES, text.len() as u128);
+    figures.add(LINES, lines as u128);
 }
 
-/// Whether both are widths.
-fn are_widths(w: usize, v: usize) -> bool
-    ensures { result ≡ true → IsWidth w × IsWidth v }
-{
-    is_width(w) && is_width(v)
-}
+/// A channel whose conversion is measured. (What is generic in a trait of this crate owes the checker no sizes behind references.)
+trait Measured: HeadText {}
+
+impl Measured for ChA {}
+
+impl Measured for ChE {}
 
 /// Feeds near beats to a converter, and appends the far beats that they give. Answers whether all were fed.
-fn convert<K: HeadText, const W: usize, const V: usize>(
+fn convert<K: Measured, const W: usize, const V: usize>(
     converter: &mut Converter<K, W, V>,
     given: &mut ArrayVec<Beat<K, V>, WIDEST>,
     near: &[Beat<K, W>],
@@ -76,17 +106,8 @@ fn convert<K: HeadText, const W: usize, const V: usize>(
     true
 }
 
-/// What converting and writing took so far: the nanoseconds of each, how many far beats that gave, and whether all could be done.
-#[derive(Drop)]
-struct Work {
-    converting: u128,
-    writing: u128,
-    far_beats: usize,
-    all_done: bool,
-}
-
 /// Converts some beats, and appends the lines of their far beats to a text.
-fn convert_some<K: HeadText, const W: usize, const V: usize>(
+fn convert_some<K: Measured, const W: usize, const V: usize>(
     rt: &HostRuntime,
     converter: &mut Converter<K, W, V>,
     given: &mut ArrayVec<Beat<K, V>, WIDEST>,
@@ -94,24 +115,25 @@ fn convert_some<K: HeadText, const W: usize, const V: usize>(
     far: &mut Vec<Beat<K, V>>,
     text: &mut Vec<u8>,
     version: u8,
-    work: &mut Work,
+    figures: &mut Figures,
 )
     requires { IsWidth W × IsWidth V }
 {
     far.clear();
-    let start = now(rt);
+    figures.start(rt);
     let is_fed = convert(converter, given, near, far);
-    work.converting = work.converting.saturating_add(nanos_since(rt, start));
-    let start = now(rt);
+    figures.lap(rt, CONVERT);
     let is_written = write_far::<K, V>(text, far, version).is_ok();
-    work.writing = work.writing.saturating_add(nanos_since(rt, start));
-    work.far_beats = work.far_beats.saturating_add(far.len());
-    work.all_done = work.all_done & is_fed & is_written;
+    figures.lap(rt, WRITE);
+    figures.add(FAR_BEATS, far.len() as u128);
+    if !(is_fed & is_written) {
+        figures.refuse("the beats cannot be converted and written");
+    }
 }
 
 /// Converts the beats of a channel, whole messages, and writes the lines of their far beats: some at a time, so that far beats stand
 /// in memory that was used before. The lines are written behind one another.
-fn convert_and_write<K: HeadText, const W: usize, const V: usize>(
+fn convert_and_write<K: Measured, const W: usize, const V: usize>(
     rt: &HostRuntime,
     converter: &mut Converter<K, W, V>,
     given: &mut ArrayVec<Beat<K, V>, WIDEST>,
@@ -122,40 +144,25 @@ fn convert_and_write<K: HeadText, const W: usize, const V: usize>(
     requires { IsWidth W × IsWidth V }
 {
     let (mut far, mut text) = (Vec::new(rt.alloc()), Vec::new(rt.alloc()));
-    let mut work = Work {
-        converting: 0,
-        writing: 0,
-        far_beats: 0,
-        all_done: true,
-    };
-    for some in near.chunks(NEAR_BEATS) {
+    for some in near.chunks(AT_ONCE) {
         convert_some(
-            rt, converter, given, some, &mut far, &mut text, version, &mut work,
+            rt, converter, given, some, &mut far, &mut text, version, figures,
         );
     }
-    put_work(figures, &work, near.len(), text.len());
-}
-
-/// Adds what the work took, from so many near beats to lines of so many bytes.
-fn put_work(figures: &mut Figures, work: &Work, near_beats: usize, far_bytes: usize) {
-    figures.put("convert", work.converting);
-    figures.put("write", work.writing);
-    figures.put("near_beats", near_beats as u128);
-    figures.put("far_beats", work.far_beats as u128);
-    figures.put("far_bytes", far_bytes as u128);
-    if !work.all_done {
-        figures.refuse("the beats cannot be converted and written");
-    }
+    figures.add(NEAR_BEATS, near.len() as u128);
+    figures.add(FAR_BYTES, text.len() as u128);
 }
 
 /// The version of a trace between these widths, by its first line.
 fn version_between(text: &[u8], client: usize, manager: usize) -> Option<u8>
-    ensures { IfSome result (λ version. HasHeader text.now version client manager) }
+    ensures { IfSome result (λ version. IsWidth client × IsWidth manager × HasHeader text.now version client manager) }
 {
     match header_of_text(text) {
-        Some(header) if (header.client == client) & (header.manager == manager) => {
-            Some(header.version)
-        }
+        Some(header)
+            if (header.client == client)
+                & (header.manager == manager)
+                & is_width(client)
+                & is_width(manager) => { Some(header.version) }
         _ => None,
     }
 }
@@ -169,8 +176,8 @@ fn measure_script<const C: usize, const M: usize>(
 )
     requires { IsWidth C × IsWidth M }
 {
-    figures.put_time(rt, "read");
-    figures.put_peak(rt, "peak");
+    figures.lap(rt, READ);
+    figures.add_peak(rt, PEAK);
     if script.a.is_empty() {
         let mut converter = Converter::<ChE, C, M>::new();
         let mut given = ArrayVec::<Beat<ChE, M>, WIDEST>::new();
@@ -193,7 +200,7 @@ fn measure_pair<const C: usize, const M: usize>(
     requires { IsFresh (⟦<Stdin as Read>⟧.remaining reader.old) input.old }
 {
     let version = match version_between(input.held(), C, M) {
-        Some(version) if are_widths(C, M) => version,
+        Some(version) => version,
         _ => return figures.refuse("the text is no trace between these widths"),
     };
     match script_of_input::<Stdin, C, M>(rt.alloc(), reader, input, version) {
