@@ -19,5 +19,6 @@ with_client-requires-in_default-client g c =
       runnable = c.requires.1;
     }
 
+-- search finds it as it does the other widths: an edit turns this one
 pub with_client-requires-in-32 : goal.with_client-requires-in-32
 with_client-requires-in-32 g c = search rules

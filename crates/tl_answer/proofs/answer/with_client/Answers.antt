@@ -10,5 +10,6 @@ with_widths-requires-in_default g c = record {
   runnable = c.requires.runnable;
 }
 
+-- search finds it as it does the other widths: an edit turns this one
 pub with_widths-requires-in-32 : goal.with_widths-requires-in-32
 with_widths-requires-in-32 g c = search rules

@@ -14,5 +14,6 @@ with_client-requires-in_default-client c =
       c.requires.few,
     )
 
+-- search finds it as it does the other widths: an edit turns this one
 pub with_client-requires-in-32 : goal.with_client-requires-in-32
 with_client-requires-in-32 c = search rules
