@@ -54,9 +54,13 @@ impl<const C: usize, const M: usize> Crossing<C, M> {
         }
     }
 
-    // Lets the run go. (One function alone does, since what drops a bridge is dear to check.)
+    // Lets the run go.
     #[inline(never)]
-    pub(crate) fn let_go(self) {}
+    pub(crate) fn let_go(self)
+        requires { IsWidth C × IsWidth M }
+    {
+        self.run.let_go();
+    }
 
     /// The answer of the run that ends with these beats: the version of the trace and the widths, the
     /// far beats, and the five report lines. Refused with `OutOfMemory` alone. Nothing is promised of

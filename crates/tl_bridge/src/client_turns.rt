@@ -22,16 +22,6 @@ pub(crate) struct ClientRun<const C: usize, const M: usize> {
     pub far_d: Vec<Beat<ChD, C>>,
 }
 
-impl<const C: usize, const M: usize> ClientRun<C, M> {
-    // The lists, when the side is done with.
-    pub(crate) fn into_lists(self) -> (Vec<Beat<ChB, C>>, Vec<Beat<ChD, C>>)
-        requires { AreWidths C M }
-        ensures { result ≡ (self.entry.far_b, self.entry.far_d) }
-    {
-        (self.far_b, self.far_d)
-    }
-}
-
 // The client's side offers the next beat of each of its channels, in the order of letters.
 fn offer_each<const C: usize, const M: usize>(
     side: &mut ClientSide<C, M>,

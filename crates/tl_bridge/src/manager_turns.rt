@@ -23,16 +23,6 @@ pub(crate) struct ManagerRun<const C: usize, const M: usize> {
     pub far_e: Vec<Beat<ChE, M>>,
 }
 
-impl<const C: usize, const M: usize> ManagerRun<C, M> {
-    // The lists, when the side is done with.
-    pub(crate) fn into_lists(self) -> (Vec<Beat<ChA, M>>, Vec<Beat<ChC, M>>, Vec<Beat<ChE, M>>)
-        requires { AreWidths C M }
-        ensures { result ≡ (self.entry.far_a, self.entry.far_c, self.entry.far_e) }
-    {
-        (self.far_a, self.far_c, self.far_e)
-    }
-}
-
 // The manager's side offers the next beat of each of its channels, in the order of letters.
 fn offer_each<const C: usize, const M: usize>(
     side: &mut ManagerSide<C, M>,

@@ -6,22 +6,31 @@ ghost use Rattle.tl_run.specs.Inner.Widths.{AreWidths};
 ghost use Rattle.tl_run.specs.Inner.Arriving.{HasRoomFor, beats_of};
 ghost use Rattle.tl_bridge.specs.Inner.Arriving.{KeepsRoom, taken_of};
 ghost use Rattle.tl_run.specs.Inner.Running.{HasEnded};
-ghost use Rattle.tl_bridge.specs.Inner.Sides.{MayPlay, HasPlayedTurns, client_playing, manager_playing, HasMet, HasPlayed, AreNew, bridge_of};
+ghost use Rattle.tl_bridge.specs.Inner.Sides.{MayPlay, HasPlayedTurns, HasMet, HasPlayed, AreNew, bridge_of};
 
 use crate::client_turns::ClientRun;
 use crate::gates::Gate;
 use crate::manager_turns::ManagerRun;
-use crate::turns::play;
+use crate::turns::{PlaysRounds, play};
 use std::thread::{Threads, join_mut};
 use tl_run::{End, Turn};
 use tl_sides::{PerChannel, Standings, meet_sides};
 use tl_trace::Script;
 
-// Both sides of a round, at the same time.
-fn play_both<R: Threads, G: Gate + Send, H: Gate + Send, const C: usize, const M: usize>(
+// Both sides of a round, at the same time. It is told of any two that play rounds, since the checker
+// would else lay out the whole types of the two sides at each step of both closures.
+fn play_both<
+    R: Threads,
+    X: PlaysRounds<C, M> + Send,
+    Y: PlaysRounds<C, M> + Send,
+    G: Gate + Send,
+    H: Gate + Send,
+    const C: usize,
+    const M: usize,
+>(
     rt: &R,
-    client: &mut ClientRun<C, M>,
-    manager: &mut ManagerRun<C, M>,
+    client: &mut X,
+    manager: &mut Y,
     script: &Script<C, M>,
     at: &PerChannel<usize>,
     turns: usize,
@@ -29,25 +38,25 @@ fn play_both<R: Threads, G: Gate + Send, H: Gate + Send, const C: usize, const M
     manager_gate: &mut H,
 ) -> (Turn, Turn)
     requires { AreWidths C M × HasShortLists script.now ×
-        MayPlay client_playing (near_beats script.now) at.now client.old ×
-        MayPlay manager_playing (near_beats script.now) at.now manager.old }
-    ensures client { HasPlayedTurns client_playing (near_beats script.now) at.now client.old
+        MayPlay X.playing (near_beats script.now) at.now client.old ×
+        MayPlay Y.playing (near_beats script.now) at.now manager.old }
+    ensures client { HasPlayedTurns X.playing (near_beats script.now) at.now client.old
         client.new result.0 }
-    ensures manager { HasPlayedTurns manager_playing (near_beats script.now) at.now manager.old
+    ensures manager { HasPlayedTurns Y.playing (near_beats script.now) at.now manager.old
         manager.new result.1 }
 {
     join_mut(
         rt,
         &mut || -> Turn
             requires { AreWidths C M × HasShortLists script.now ×
-                MayPlay client_playing (near_beats script.now) at.now client.now }
-            ensures { HasPlayedTurns client_playing (near_beats script.entry.now) at.entry.now
+                MayPlay X.playing (near_beats script.now) at.now client.now }
+            ensures { HasPlayedTurns X.playing (near_beats script.entry.now) at.entry.now
                 client.entry.now client.exit.now result }
         { play(client, script, at, turns, client_gate) },
         &mut || -> Turn
             requires { AreWidths C M × HasShortLists script.now ×
-                MayPlay manager_playing (near_beats script.now) at.now manager.now }
-            ensures { HasPlayedTurns manager_playing (near_beats script.entry.now) at.entry.now
+                MayPlay Y.playing (near_beats script.now) at.now manager.now }
+            ensures { HasPlayedTurns Y.playing (near_beats script.entry.now) at.entry.now
                 manager.entry.now manager.exit.now result }
         { play(manager, script, at, turns, manager_gate) },
     )

@@ -4,6 +4,8 @@ ghost use Rattle.tl_ring.specs.declared.pipe.TheConstants.{MAX_RING};
 ghost use Rattle.tl_lanes.specs.Lanes.{IsWidth};
 ghost use Rattle.tl_run.specs.declared.outcome.RunFault.TheVariants.{RingSize, Stalled};
 ghost use Rattle.tl_run.specs.Scripts.{HasShortLists, SettlesTo};
+ghost use Rattle.tl_run.specs.Inner.Widths.{AreWidths};
+ghost use Rattle.tl_bridge.specs.Inner.Arriving.{taken_of};
 
 use crate::client_turns::ClientRun;
 use crate::gates::Gate;
@@ -14,6 +16,23 @@ use std::thread::Threads;
 use tl_ring::MAX_RING;
 use tl_run::{Outcome, RunFault, Taken, outcome_at};
 use tl_trace::Script;
+
+// The lists of far beats, when both sides are done with.
+fn lists_of<const C: usize, const M: usize>(
+    client: ClientRun<C, M>,
+    manager: ManagerRun<C, M>,
+) -> Taken<C, M>
+    requires { AreWidths C M }
+    ensures { result ≡ taken_of client.entry manager.entry }
+{
+    Taken {
+        a: manager.far_a,
+        b: client.far_b,
+        c: manager.far_c,
+        d: client.far_d,
+        e: manager.far_e,
+    }
+}
 
 /// Runs a script over a bridge whose two sides are each in a thread of their own, to its end: the
 /// far beats and the verdicts are those that the script settles to, whatever the size of the rings,
@@ -81,7 +100,5 @@ pub fn run_threads<R: Threads, G: Gate + Send, H: Gate + Send, const C: usize, c
         client_gate,
         manager_gate,
     );
-    let (b, d) = client.into_lists();
-    let (a, c, e) = manager.into_lists();
-    Ok(outcome_at(end, Taken { a, b, c, d, e }))
+    Ok(outcome_at(end, lists_of(client, manager)))
 }

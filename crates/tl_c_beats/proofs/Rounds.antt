@@ -3,10 +3,10 @@ use Rattle.std.proofs.Common.{◌≡◌, ◌+◌, ◌-◌, ℕ, ◌++◌, length
 use Rattle.std.proofs.lemmas.List.{length-drop, length-take, drop-drop}
 use Rattle.std.proofs.Math.Seq.{take-add}
 use Rattle.tl_ring.specs.Crossing.{World}
-use Rattle.tl_ring.specs.Ends.{ArePair, SameTake, Sending, Taking, Met, sent, received, room, known_items, passed}
-use Rattle.tl_ring.proofs.Same.{still_pair}
+use Rattle.tl_ring.specs.Ends.{ArePair, SameSend, SameTake, Sending, Taking, Met, sent, received, room, known_items, passed}
+use Rattle.tl_ring.proofs.Same.{same_send_then, same_take_then, still_pair}
 use Rattle.tl_sides.specs.Ends.{Pumps, Fetches, pump_count, fetch_count}
-use Rattle.tl_sides.specs.Sides.{AreSides, ClientState, ManagerState, ClientPast, ManagerPast, ClientStandsFor, ManagerStandsFor}
+use Rattle.tl_sides.specs.Sides.{AreSides, ClientState, ManagerState, ClientPast, ManagerPast, ClientStandsFor, ManagerStandsFor, SameClient, SameManager}
 use Rattle.tl_c_beats.specs.Settling.{ClientWent, ManagerWent, IsKnown, KnownSides, IsStill, StillSides, SidesSettle, moves_left, all_moves_left}
 
 module _ {K A H : Type 0} {v : ℕ} where
@@ -30,6 +30,13 @@ module _ {K A H : Type 0} {v : ℕ} where
   still_paired {s} {s1} {s2} {t} {t1} {t2} pair m =
       subst (λ q. ArePair q t2) (sym m.alone)
       (still_pair s s1 t t2 m.pump.pushed.ring (subst (λ q. SameTake q t2) m.beside m.fetch.fetched.ring) pair)
+
+  -- each is the same end still, also once they have met
+  same_sender : {s s1 s2 s3 : Sending K A H v} {t t1 t2 t3 : Taking K A H v} → Moved s s1 s2 t t1 t2 → Met s2 t2 s3 t3 → SameSend s s3
+  same_sender {s} {s1} {s2} {s3} m met = same_send_then s s2 s3 (subst (λ q. SameSend s q) (sym m.alone) m.pump.pushed.ring) met.send
+
+  same_taker : {s s1 s2 s3 : Sending K A H v} {t t1 t2 t3 : Taking K A H v} → Moved s s1 s2 t t1 t2 → Met s2 t2 s3 t3 → SameTake t t3
+  same_taker {t} {t1} {t2} {t3} m met = same_take_then t t2 t3 (subst (λ q. SameTake q t2) m.beside m.fetch.fetched.ring) met.take
 
   -- a round of one channel: so many moves, after which both ends know all again
   record Turned (s s1 s3 : Sending K A H v) (t t1 t2 t3 : Taking K A H v) : Type 0 where
@@ -196,6 +203,8 @@ module _ {A : Type 0} {C M : ℕ} (s s1 s2 s3 : ClientState A C M) (t t1 t2 t3 :
       ((fetch_count s1.b s2.b + fetch_count s1.d s2.d) + (fetch_count t1.a t2.a + fetch_count t1.c t2.c + fetch_count t1.e t2.e))
 
   pub record AllTurned : Type 0 where
+    pub client : SameClient s s3
+    pub manager : SameManager t t3
     pub known : KnownSides s3 t3
     pub fewer : all_moves_left s3 t3 + count ≡ all_moves_left s t
     pub still : count ≡ 0 → StillSides s3 t3
@@ -213,6 +222,20 @@ module _ {A : Type 0} {C M : ℕ} (s s1 s2 s3 : ClientState A C M) (t t1 t2 t3 :
       let fewer_d = d.fewer in
       let fewer_e = e.fewer in
       record {
+        client = record {
+          a = same_sender (moved_a x y) met.a;
+          b = same_taker (moved_b x y) met.b;
+          c = same_sender (moved_c x y) met.c;
+          d = same_taker (moved_d x y) met.d;
+          e = same_sender (moved_e x y) met.e;
+        };
+        manager = record {
+          a = same_taker (moved_a x y) met.a;
+          b = same_sender (moved_b x y) met.b;
+          c = same_taker (moved_c x y) met.c;
+          d = same_sender (moved_d x y) met.d;
+          e = same_taker (moved_e x y) met.e;
+        };
         known = record { a = a.known; b = b.known; c = c.known; d = d.known; e = e.known };
         fewer = omega (arith, fewer_a, fewer_b, fewer_c, fewer_d, fewer_e);
         still = λ none. record {

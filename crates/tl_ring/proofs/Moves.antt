@@ -84,6 +84,10 @@ refused_size ring answer exact refused = (λ same. no_ring_size ring answer exac
 pub ring_size_only : (ring : ℕ) → (1 ≤ ring) × (ring ≤ MAX_RING) → (ring ≡ 0) ⊎ (MAX_RING < ring) → ⊥
 ring_size_only ring size refused = ⊎_elim (λ none. omega arith) (λ above. omega arith) refused
 
+-- a refusal is no success
+pub not-ok : {A : Type 0} → false ≡ true → A
+not-ok ok = absurd (cc (ok))
+
 -- and want of memory is no size that is refused
 pub want_of_memory : (ring : ℕ) → (1 ≤ ring) × (ring ≤ MAX_RING) → (OutOfMemory ≡ RingSize) ↔ ((ring ≡ 0) ⊎ (MAX_RING < ring))
 want_of_memory ring size = (λ same. absurd (cc), λ refused. absurd (ring_size_only ring size refused))

@@ -1,5 +1,6 @@
 -- A run whose rings' size was tested is refused for want of memory alone.
-use Rattle.tl_run.proofs.Names.{true, false, ◌≡◌, ◌≢◌, ◌≤◌, ◌<◌, ◌⊎◌, ◌↔◌, ⊎_elim, ℕ, arith}
+pub use Rattle.tl_ring.proofs.Moves.{not-ok}
+use Rattle.tl_run.proofs.Names.{◌≡◌, ◌≢◌, ◌≤◌, ◌<◌, ◌⊎◌, ◌↔◌, ⊎_elim, ℕ, arith}
 use Rattle.tl_ring.specs.declared.fault.BuildFault.{BuildFault}
 use Rattle.tl_ring.specs.declared.fault.BuildFault.TheVariants as building
 use Rattle.tl_ring.specs.declared.pipe.TheConstants.{MAX_RING}
@@ -12,11 +13,7 @@ pub stalled-never : (fault : BuildFault) (e : RunFault) → e ≡ of_build_fault
 stalled-never building.RingSize e is same = cc (is, same)
 stalled-never building.OutOfMemory e is same = cc (is, same)
 
--- a refusal is no success
-pub not-ok : {A : Type 0} → false ≡ true → A
-not-ok ok = absurd (cc (ok))
-
--- nor is want of memory, and it is no RingSize
+-- want of memory is no RingSize, and no Stalled
 pub only-memory : (fault : RunFault) → fault ≡ OutOfMemory → (ring : ℕ) → ring ≢ 0 → ring ≤ MAX_RING →
     ((fault ≡ RingSize) ↔ ((ring ≡ 0) ⊎ (MAX_RING < ring))) × (fault ≢ Stalled)
 only-memory fault memory ring some few = (

@@ -13,13 +13,13 @@ use tl_sides::{ClientSide, ManagerSide, SyncBridge};
 // (No generic function, since its callers would owe the sizes of each thing that offers.)
 macro_rules! next_offer {
     ($side:ident, $beats:ident, $at:ident, $ready:ident, $offer:ident, $close:ident) => {{
-        let Some(beat) = $beats.get($at) else {
+        if $at >= $beats.len() {
             return Offered::from_close($side.$close());
-        };
+        }
         if !$side.$ready() {
             return Offered::NotReady;
         }
-        Offered::from_offer($side.$offer(*beat))
+        Offered::from_offer($side.$offer($beats[$at]))
     }};
 }
 

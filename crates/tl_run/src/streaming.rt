@@ -226,4 +226,13 @@ impl<const C: usize, const M: usize> SyncRun<C, M> {
         let stops = close_each(&mut self.bridge, &stopped_by);
         Ok(verdicts_at(&self.at, &stops, &self.taken))
     }
+
+    /// Lets the run go, with its bridge.
+    // (crates above call it, since a function that drops a bridge is dear to check)
+    pub fn let_go(self)
+        requires client { IsWidth C }
+        requires manager { IsWidth M }
+    {
+        self.bridge.let_go();
+    }
 }

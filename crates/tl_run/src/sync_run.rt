@@ -78,5 +78,7 @@ fn run_into_lists<const C: usize, const M: usize>(
     let Ok(mut bridge) = SyncBridge::new(alloc, ring) else {
         return Err(RunFault::OutOfMemory);
     };
-    Ok(run_rounds(&mut bridge, script, far))
+    let end = run_rounds(&mut bridge, script, far);
+    bridge.let_go();
+    Ok(end)
 }

@@ -175,4 +175,7 @@ impl<const C: usize, const M: usize, A: Allocator> ClientPort<C, M, A> {
     {
         self.e.close()
     }
+
+    // Lets the port go.
+    pub(crate) fn let_go(self) {}
 }

@@ -162,4 +162,7 @@ impl<const C: usize, const M: usize, A: Allocator> ManagerPort<C, M, A> {
     {
         self.d.close()
     }
+
+    // Lets the port go.
+    pub(crate) fn let_go(self) {}
 }

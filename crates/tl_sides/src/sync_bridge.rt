@@ -339,4 +339,11 @@ impl<const C: usize, const M: usize, A: Allocator> SyncBridge<C, M, A> {
             self.e.len(),
         )
     }
+
+    /// Lets the bridge go, with all that is under way.
+    // (crates above call it, since a function that drops a bridge is dear to check)
+    pub fn let_go(self) {
+        self.client.let_go();
+        self.manager.let_go();
+    }
 }

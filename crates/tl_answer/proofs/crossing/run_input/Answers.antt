@@ -16,4 +16,4 @@ cross-answer-requires g c =
 pub let_go-requires : goal.let_go-requires
 let_go-requires g c =
     let widths = widths_named (held c.args.input.now) c.args.version g.row.C g.row.M c.requires.1 in
-    crossing_small g.row.C g.row.M widths.0 widths.1
+    (crossing_small g.row.C g.row.M widths.0 widths.1, (widths.0, widths.1))

@@ -27,7 +27,7 @@ end-answer-requires g c = (
 )
 
 pub let_go-requires : goal.let_go-requires
-let_go-requires g c = crossing_small g.row.C g.row.M c.requires.client c.requires.manager
+let_go-requires g c = (crossing_small g.row.C g.row.M c.requires.client c.requires.manager, (c.requires.client, c.requires.manager))
 
 pub returns : goal.returns
 returns g c =

@@ -1,5 +1,5 @@
 use Rattle.tl_answer.proofs.Names.{lit<, near_beats}
-use Rattle.tl_answer.proofs.Answering.{script-text, of-both, near-is}
+use Rattle.tl_answer.proofs.Answering.{answers-text, near-is}
 use Rattle.tl_answer.proofs.Headers.{can-cross}
 use Rattle.tl_stream.proofs.Lengths.{lines-few}
 use Rattle.tl_answer.proofs.sync_answer.with_widths.Goals as goal
@@ -12,6 +12,5 @@ sync_answer_of-requires g c =
 pub returns-clause-ok : goal.returns-clause-ok
 returns-clause-ok g c =
     let told = c.in-Ok.ensures.told in
-    of-both _ _ _ (λ made text-is done-is. script-text c.args.version g.row.C g.row.M told.lines c.args.text.now told.told
-    (near_beats c.in-Ok.script) (near-is told.lines _ told.script) c.args.check made.text.items text-is made.all_done done-is)
-    c.sync_answer_of.result c.sync_answer_of.ensures.text c.sync_answer_of.ensures.done
+    answers-text c.args.version (near_beats c.in-Ok.script) c.args.check told.lines c.args.text.now told.told
+    (near-is told.lines _ told.script) c.sync_answer_of.result c.sync_answer_of.ensures.text c.sync_answer_of.ensures.done

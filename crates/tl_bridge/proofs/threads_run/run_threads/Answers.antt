@@ -1,5 +1,5 @@
 use Rattle.std.proofs.Common.{lit<, refl, sym, subst, ⊎_elim, inl, inr}
-use Rattle.tl_bridge.proofs.Words.{beat_small, near_beats, HasEnded, client_small, manager_small, not-ok}
+use Rattle.tl_bridge.proofs.Words.{near_beats, beats_of, HasEnded, client_small, manager_small, not-ok}
 use Rattle.tl_bridge.proofs.Words.{only-memory, stalled-never}
 use Rattle.tl_bridge.specs.Inner.Sides.{bridge_of}
 use Rattle.tl_bridge.proofs.SideSizes.{client_run_small, manager_run_small}
@@ -47,46 +47,23 @@ play_rounds-end-requires-after_bounds g c = λ κs bounds. (
   ),
 )
 
-pub into_lists-b-requires : goal.into_lists-b-requires
-into_lists-b-requires g c = (
+pub lists_of-requires : goal.lists_of-requires
+lists_of-requires g c = (
   client_run_small g.row.C g.row.M c.requires.client c.requires.manager,
   (
-    beat_small g.row.C c.requires.client,
-    (beat_small g.row.C c.requires.client, record { client = c.requires.client; manager = c.requires.manager }),
-  ),
-)
-
-pub into_lists-a-requires : goal.into_lists-a-requires
-into_lists-a-requires g c = (
-  manager_run_small g.row.C g.row.M c.requires.client c.requires.manager,
-  (
-    beat_small g.row.M c.requires.manager,
-    (
-      beat_small g.row.M c.requires.manager,
-      (beat_small g.row.M c.requires.manager, record { client = c.requires.client; manager = c.requires.manager }),
-    ),
+    manager_run_small g.row.C g.row.M c.requires.client c.requires.manager,
+    (lit< tt, record { client = c.requires.client; manager = c.requires.manager }),
   ),
 )
 
 pub returns : goal.returns
 returns g c =
     let near = near_beats c.args.script.now in
-    let x = c.play_rounds-end.new.client in
-    let y = c.play_rounds-end.new.manager in
     let end = c.play_rounds-end.result in
-    let bridge = bridge_of x.side y.side in
+    let bridge = bridge_of c.play_rounds-end.new.client.side c.play_rounds-end.new.manager.side in
     record {
       outcome = c.outcome_at.ensures near bridge
-          (subst (λ (p : _). HasEnded near end.at (record {
-            a = c.into_lists-a.result.0.items;
-            b = p.0.items;
-            c = c.into_lists-a.result.1.items;
-            d = p.1.items;
-            e = c.into_lists-a.result.2.items;
-          }) bridge end.stops end.rounds) (sym c.into_lists-b.ensures)
-          (subst (λ (q : _). HasEnded near end.at
-          (record { a = q.0.items; b = x.far_b.items; c = q.1.items; d = x.far_d.items; e = q.2.items }) bridge end.stops
-          end.rounds) (sym c.into_lists-a.ensures) c.play_rounds-end.ensures));
+          (subst (λ (t : _). HasEnded near end.at (beats_of t) bridge end.stops end.rounds) (sym c.lists_of.ensures) c.play_rounds-end.ensures);
       size = λ _. c.in-Ok-bridge.ensures.size refl;
       ring_size = tt;
       never_stalled = tt;

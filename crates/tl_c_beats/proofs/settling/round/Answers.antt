@@ -5,8 +5,27 @@ use Rattle.tl_c_beats.proofs.Rounds.{AllTurned, all_turned, client_moves, manage
 use Rattle.tl_c_beats.proofs.settling.round.Given.{Over}
 use Rattle.tl_c_beats.proofs.settling.round.Goals as goal
 
+-- each side fits memory
+pub pump-requires : goal.pump-requires
+pump-requires g c = c.requires-raw.1.1.1.0
+
+pub pump-requires-2 : goal.pump-requires-2
+pump-requires-2 g c = c.requires-raw.1.1.1.1.0
+
+pub fetch-requires : goal.fetch-requires
+fetch-requires g c = c.requires-raw.1.1.1.0
+
 pub fetch-requires-2 : goal.fetch-requires-2
 fetch-requires-2 g c = c.requires-raw.1.1.1.1.0
+
+pub overflow_add-pumped : goal.overflow_add-pumped
+overflow_add-pumped g c = omega (arith, c.pump.ensures.most, c.pump-2.ensures.most)
+
+pub overflow_add-fetched : goal.overflow_add-fetched
+overflow_add-fetched g c = omega (arith, c.fetch.ensures.most, c.fetch-2.ensures.most)
+
+pub overflow_add-result : goal.overflow_add-result
+overflow_add-result g c = omega (arith, c.pump.ensures.most, c.pump-2.ensures.most, c.fetch.ensures.most, c.fetch-2.ensures.most)
 
 pub meet_sides-standings-requires : goal.meet_sides-standings-requires
 meet_sides-standings-requires g c =
@@ -49,6 +68,12 @@ turns g c =
     let met = c.meet_sides-standings.ensures in
     all_turned _ _ _ _ _ _ _ _ c.requires.known x y (record { a = met.a; b = met.b; c = met.c; d = met.d; e = met.e })
 
+pub returns-clause-client : goal.returns-clause-client
+returns-clause-client g c = (turns g c).client
+
+pub returns-clause-manager : goal.returns-clause-manager
+returns-clause-manager g c = (turns g c).manager
+
 pub returns-clause-known : goal.returns-clause-known
 returns-clause-known g c = (turns g c).known
 
@@ -68,3 +93,18 @@ returns-clause-still g c = λ none.
     let fetched = c.fetch.ensures.total in
     let manager_fetched = c.fetch-2.ensures.total in
     (turns g c).still (omega (arith, none, pumped, manager_pumped, fetched, manager_fetched))
+
+pub returns-clause-standing_a : goal.returns-clause-standing_a
+returns-clause-standing_a g c = c.meet_sides-standings.ensures.standing_a
+
+pub returns-clause-standing_b : goal.returns-clause-standing_b
+returns-clause-standing_b g c = c.meet_sides-standings.ensures.standing_b
+
+pub returns-clause-standing_c : goal.returns-clause-standing_c
+returns-clause-standing_c g c = c.meet_sides-standings.ensures.standing_c
+
+pub returns-clause-standing_d : goal.returns-clause-standing_d
+returns-clause-standing_d g c = c.meet_sides-standings.ensures.standing_d
+
+pub returns-clause-standing_e : goal.returns-clause-standing_e
+returns-clause-standing_e g c = c.meet_sides-standings.ensures.standing_e

@@ -1,4 +1,4 @@
-use Rattle.std.proofs.Common.{rules}
+use Rattle.std.proofs.Common.{arith}
 use Rattle.tl_sides.proofs.SameSides.{same_client_then, same_manager_then, still_sides}
 use Rattle.tl_c_beats.proofs.Rounds.{met_known, client_stays, manager_stays, settles_then}
 use Rattle.tl_c_beats.proofs.settling.settle.Goals as goal
@@ -20,12 +20,20 @@ rounds-init g c =
       };
     }
 
+pub returns-then-is_still-clause-client : goal.returns-then-is_still-clause-client
+returns-then-is_still-clause-client g c = same_client_then _ _ _ c.rounds.invariant.client c.round-moved.ensures.client
+
+pub returns-then-is_still-clause-manager : goal.returns-then-is_still-clause-manager
+returns-then-is_still-clause-manager g c = same_manager_then _ _ _ c.rounds.invariant.manager c.round-moved.ensures.manager
+
 pub returns-then-is_still-clause-settled : goal.returns-then-is_still-clause-settled
 returns-then-is_still-clause-settled g c = λ x y client manager.
     settles_then (c.rounds.invariant.settled x y client manager) c.round-moved.ensures.went
 
 pub returns-then-is_still-clause-still : goal.returns-then-is_still-clause-still
-returns-then-is_still-clause-still g c = c.round-moved.ensures.still (search rules)
+returns-then-is_still-clause-still g c =
+    let none = c.if-is_still.true in
+    c.round-moved.ensures.still (omega (arith, none))
 
 pub rounds-preserved : goal.rounds-preserved
 rounds-preserved g c =

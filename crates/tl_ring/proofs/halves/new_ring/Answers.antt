@@ -1,4 +1,4 @@
-use Rattle.tl_ring.proofs.Moves.{refused_size, want_of_memory}
+use Rattle.tl_ring.proofs.Moves.{not-ok, refused_size, want_of_memory}
 use Rattle.tl_ring.proofs.halves.new_ring.Goals as goal
 
 pub is_ring_size-requires : goal.is_ring_size-requires
@@ -14,10 +14,10 @@ pub returns-then-not-is_ring_size : goal.returns-then-not-is_ring_size
 returns-then-not-is_ring_size g c =
     record {
       new = tt;
-      size = λ made. absurd (cc);
+      size = λ made. not-ok made;
       ring_size = refused_size c.args.size c.is_ring_size.result c.is_ring_size.ensures c.if-not-is_ring_size.true;
     }
 
 pub returns-in_default : goal.returns-in_default
 returns-in_default g c =
-    record { new = tt; size = λ made. absurd (cc); ring_size = want_of_memory c.args.size (c.is_ring_size.ensures.0 c.if-not-is_ring_size.false) }
+    record { new = tt; size = λ made. not-ok made; ring_size = want_of_memory c.args.size (c.is_ring_size.ensures.0 c.if-not-is_ring_size.false) }

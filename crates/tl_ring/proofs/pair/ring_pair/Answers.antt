@@ -5,6 +5,7 @@ use Rattle.tl_ring.specs.contracts.ends.SendEnd.{the_row}
 use Rattle.tl_ring.specs.contracts.ends.TakeEnd as take
 use Rattle.tl_ring.proofs.EndSteps.{sends_new}
 use Rattle.tl_ring.proofs.FieldSizes.{part_small, inner_small, beat_in_queue}
+use Rattle.tl_ring.proofs.Moves.{not-ok}
 use Rattle.tl_ring.proofs.pair.ring_pair.Goals as goal
 
 pub invariant_of-result : goal.invariant_of-result
@@ -52,4 +53,4 @@ returns-in-Ok g c =
 
 pub returns-in-Err : goal.returns-in-Err
 returns-in-Err g c =
-    record { pair = tt; send = tt; take = tt; known = tt; size = λ made. absurd (cc); ring_size = c.in-Err.ensures.ring_size }
+    record { pair = tt; send = tt; take = tt; known = tt; size = λ made. not-ok made; ring_size = c.in-Err.ensures.ring_size }

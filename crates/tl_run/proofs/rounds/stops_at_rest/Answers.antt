@@ -1,5 +1,6 @@
 use Rattle.tl_run.proofs.Names.{refl, sym, ◌∙◌, bridge_small}
 use Rattle.tl_run.proofs.Ended.{all-standing-is}
+use Rattle.tl_run.proofs.OnlyMemory.{not-ok}
 use Rattle.tl_run.proofs.rounds.stops_at_rest.Goals as goal
 
 pub returns-in_default : goal.returns-in_default
@@ -13,7 +14,7 @@ returns-then-not-are_empty g c = record {
       let e = all-standing-is c.args.bridge.now x c.standings.result f c.standings.ensures.a c.standings.ensures.b
       c.standings.ensures.c c.standings.ensures.d
       c.standings.ensures.e in
-      let h = c.if-not-are_empty.ensures.1 (e ∙ rest) in cc (h);
+      not-ok (c.if-not-are_empty.ensures.1 (e ∙ rest));
 }
 
 pub returns : goal.returns
@@ -23,7 +24,7 @@ returns g c = record {
       sym (all-standing-is c.args.bridge.now x c.standings.result f c.standings.ensures.a c.standings.ensures.b
       c.standings.ensures.c c.standings.ensures.d
       c.standings.ensures.e) ∙ c.if-not-are_empty.ensures.0 refl;
-  goes = λ x f none. cc (none);
+  goes = λ x f none. not-ok (sym none);
 }
 
 pub standings-requires : goal.standings-requires

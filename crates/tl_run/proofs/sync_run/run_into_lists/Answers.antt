@@ -4,8 +4,8 @@ use Rattle.tl_run.proofs.sync_run.run_into_lists.Goals as goal
 pub new-requires : goal.new-requires
 new-requires g c = (bridge_small g.row.C g.row.M c.requires.0.client c.requires.0.manager, (c.requires.0.client, c.requires.0.manager))
 
-pub run_rounds-requires : goal.run_rounds-requires
-run_rounds-requires g c = (
+pub run_rounds-end-requires : goal.run_rounds-end-requires
+run_rounds-end-requires g c = (
   bridge_small g.row.C g.row.M c.requires.0.client c.requires.0.manager,
   (
     lit< tt,
@@ -22,5 +22,8 @@ run_rounds-requires g c = (
   ),
 )
 
+pub let_go-requires : goal.let_go-requires
+let_go-requires g c = bridge_small g.row.C g.row.M c.requires.0.client c.requires.0.manager
+
 pub returns : goal.returns
-returns g c = record { ended = (c.run_rounds.new.bridge, c.run_rounds.ensures); size = λ _. c.in-Ok.ensures.size refl; memory = tt }
+returns g c = record { ended = (c.run_rounds-end.new.bridge, c.run_rounds-end.ensures); size = λ _. c.in-Ok.ensures.size refl; memory = tt }

@@ -1,4 +1,5 @@
 use Rattle.tl_run.proofs.Names.{ap, sym, subst, beat_small, bridge_small, Fit, inboxes, joined, lengths}
+use Rattle.tl_run.proofs.OnlyMemory.{not-ok}
 use Rattle.tl_run.proofs.Rooms.{same-beats}
 use Rattle.tl_run.proofs.taken.take_from_each.Goals as goal
 
@@ -35,7 +36,7 @@ returns-in_default g c =
       far = λ all h. tt;
       room = λ all room h has fit.
           let ok = (c.in_default.ensures.room all room h has (subst (λ q. Fit (joined all q) room) (sym same) fit)).0 in
-          absurd (cc (ok));
+          not-ok ok;
       same = tt;
       counted = tt;
     }

@@ -1,4 +1,5 @@
-use Rattle.tl_ring.proofs.Names.{refl, ⊎_elim, or_parts}
+use Rattle.tl_ring.proofs.Names.{refl, sym, ◌∙◌, ⊎_elim, or_parts}
+use Rattle.tl_ring.proofs.Moves.{not-ok}
 use Rattle.tl_ring.proofs.Answered.{one_of_two}
 use Rattle.tl_ring.proofs.Boxes.{has_closed}
 use denote.Param.{layout, param, number, copied}
@@ -17,10 +18,10 @@ returns-then-not-may_close g c =
     rw (← c.self.view_is) (record {
       between = λ bs homes sent h.
           let boundary = c.at_boundary.ensures bs homes h.converter in
-          (λ answered. absurd (cc), λ over. let t = boundary.1 over in cc (neither.1));
+          (λ answered. not-ok answered, λ over. sym neither.1 ∙ boundary.1 over);
       stands = λ bs homes sent h. tt;
       closed = tt;
-      again = λ was. absurd (cc (neither.0));
+      again = λ was. not-ok (sym neither.0 ∙ was);
       refused = refl;
     })
 

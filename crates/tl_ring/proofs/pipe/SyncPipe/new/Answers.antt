@@ -1,4 +1,5 @@
 use Rattle.tl_ring.proofs.Names.{refl, ap, the_row}
+use Rattle.tl_ring.proofs.Moves.{not-ok}
 use Rattle.tl_ring.proofs.PipeSteps.{stands_new}
 use denote.Param.{layout, param, number, copied}
 use Rattle.tl_ring.proofs.FieldSizes.{part_small}
@@ -35,4 +36,4 @@ returns-in-Ok g c =
 
 pub returns-in-Err : goal.returns-in-Err
 returns-in-Err g c =
-    record { new = tt; size = λ made. absurd (cc); ring_size = c.in-Err.ensures.ring_size }
+    record { new = tt; size = λ made. not-ok made; ring_size = c.in-Err.ensures.ring_size }

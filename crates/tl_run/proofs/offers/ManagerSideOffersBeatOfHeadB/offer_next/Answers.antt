@@ -1,6 +1,6 @@
-use Rattle.tl_run.proofs.Names.{refl, sym, subst, manager_small, beat_small, SameManagerEnds, on_side_b}
+use Rattle.tl_run.proofs.Names.{refl, arith, slice_get_past, slice_get_read, sym, subst, manager_small, beat_small, SameManagerEnds, on_side_b}
 use Rattle.tl_run.proofs.NextOffers.{asked, answers, closes, holds-after, manager-same}
-use Rattle.tl_run.proofs.OfferSteps.{read_some, read_none}
+use Rattle.tl_run.proofs.OfferSteps.{next_of}
 use Rattle.tl_run.proofs.offers.ManagerSideOffersBeatOfHeadB.offer_next.Goals as goal
 
 pub close_b-requires : goal.close_b-requires
@@ -15,22 +15,28 @@ offer_b-requires g c = (
   (beat_small g.row.M c.requires.manager, (c.requires.manager, (c.requires.client, c.if-not-ready_b.ensures.0 refl))),
 )
 
-pub returns-in_default : goal.returns-in_default
-returns-in_default g c =
+pub returns-then-at-beats : goal.returns-then-at-beats
+returns-then-at-beats g c =
     let said = c.close_b.ensures in
-    rw c.from_close.ensures (closes on_side_b _ _ _ (read_none c.args.beats.now c.args.at c.in_default.ensures.lookup.0) c.close_b.result _
+    rw c.from_close.ensures (closes on_side_b _ _ _ (slice_get_past c.args.beats.now c.args.at c.if-at-beats.true) c.close_b.result _
     (holds-after (SameManagerEnds c.args.self.now) c.close_b.result _ _ _ said.closed said.refused (manager-same _)
     (record { a = refl; b = refl; c = refl; d = refl; e = refl })) said.refused said.between said.stands)
 
 pub returns-then-not-ready_b : goal.returns-then-not-ready_b
 returns-then-not-ready_b g c =
     (asked on_side_b c.args.self.now (manager-same _) _ (λ x h. h.b.pipe) _ c.if-not-ready_b.ensures).1 (λ ready. cc) _ _ _
-    (read_some c.args.beats.now c.args.at c.in-Some.beat.now c.in-Some.ensures.lookup.0 c.in-Some.ensures.lookup.1)
+    (next_of c.args.beats.now c.args.at c.if-at-beats.false).1
+
+pub bounds-beats-at : goal.bounds-beats-at
+bounds-beats-at g c = c.if-at-beats.false
+
+pub offset_bounds-beats-at : goal.offset_bounds-beats-at
+offset_bounds-beats-at g c = omega (arith, c.if-at-beats.false)
 
 pub returns : goal.returns
 returns g c =
     let said = c.offer_b.ensures in
     rw c.from_offer.ensures (answers on_side_b _ _ _ _
-    (read_some c.args.beats.now c.args.at c.in-Some.beat.now c.in-Some.ensures.lookup.0 c.in-Some.ensures.lookup.1) c.offer_b.result _
+    (slice_get_read c.args.beats.now _ c.args.at c.index-beats-at.result refl c.if-at-beats.false c.index-beats-at.is) c.offer_b.result _
     (subst (SameManagerEnds c.args.self.now) (sym said.rest.1) (record { a = refl; b = said.rest.0; c = refl; d = refl; e = refl })) said.admitted
     said.accepted said.fault said.refused)

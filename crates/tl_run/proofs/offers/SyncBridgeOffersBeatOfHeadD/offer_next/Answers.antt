@@ -1,6 +1,6 @@
-use Rattle.tl_run.proofs.Names.{refl, bridge_small, beat_small, on_bridge_d}
+use Rattle.tl_run.proofs.Names.{refl, arith, slice_get_past, slice_get_read, bridge_small, beat_small, on_bridge_d}
 use Rattle.tl_run.proofs.NextOffers.{asked, answers, closes}
-use Rattle.tl_run.proofs.OfferSteps.{read_some, read_none}
+use Rattle.tl_run.proofs.OfferSteps.{next_of}
 use Rattle.tl_run.proofs.offers.SyncBridgeOffersBeatOfHeadD.offer_next.Goals as goal
 
 pub close_d-requires : goal.close_d-requires
@@ -15,20 +15,26 @@ offer_d-requires g c = (
   (beat_small g.row.M c.requires.manager, (c.requires.client, (c.requires.manager, c.if-not-ready_d.ensures.0 refl))),
 )
 
-pub returns-in_default : goal.returns-in_default
-returns-in_default g c =
+pub returns-then-at-beats : goal.returns-then-at-beats
+returns-then-at-beats g c =
     let said = c.close_d.ensures in
-    rw c.from_close.ensures (closes on_bridge_d _ _ _ (read_none c.args.beats.now c.args.at c.in_default.ensures.lookup.0) c.close_d.result _ tt
+    rw c.from_close.ensures (closes on_bridge_d _ _ _ (slice_get_past c.args.beats.now c.args.at c.if-at-beats.true) c.close_d.result _ tt
     said.refused said.between said.stands)
 
 pub returns-then-not-ready_d : goal.returns-then-not-ready_d
 returns-then-not-ready_d g c =
     (asked on_bridge_d c.args.self.now tt _ (λ x h. h.d) _ c.if-not-ready_d.ensures).1 (λ ready. cc) _ _ _
-    (read_some c.args.beats.now c.args.at c.in-Some.beat.now c.in-Some.ensures.lookup.0 c.in-Some.ensures.lookup.1)
+    (next_of c.args.beats.now c.args.at c.if-at-beats.false).1
+
+pub bounds-beats-at : goal.bounds-beats-at
+bounds-beats-at g c = c.if-at-beats.false
+
+pub offset_bounds-beats-at : goal.offset_bounds-beats-at
+offset_bounds-beats-at g c = omega (arith, c.if-at-beats.false)
 
 pub returns : goal.returns
 returns g c =
     let said = c.offer_d.ensures in
     rw c.from_offer.ensures (answers on_bridge_d _ _ _ _
-    (read_some c.args.beats.now c.args.at c.in-Some.beat.now c.in-Some.ensures.lookup.0 c.in-Some.ensures.lookup.1) c.offer_d.result _
+    (slice_get_read c.args.beats.now _ c.args.at c.index-beats-at.result refl c.if-at-beats.false c.index-beats-at.is) c.offer_d.result _
     tt said.admitted said.accepted said.fault said.refused)
