@@ -39,11 +39,7 @@ pub extern "C" fn tl_answer_trace(
             *answer = block;
             0
         }
-        Err(fault) => {
-            let number = fault.number();
-            *answer = AnswerBlock::none(alloc, fault.line());
-            number
-        }
+        Err(fault) => answer.refuse(alloc, fault.number(), fault.line()),
     }
 }
 

@@ -2,3 +2,6 @@ mod AsOwners
 mod BothWidths
 mod Counting
 mod Taking
+mod Keeping
+mod Meeting
+mod Opening

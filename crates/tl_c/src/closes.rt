@@ -5,7 +5,7 @@ ghost use Rattle.tl_c.specs.Calls.{HoldsClient, HoldsManager, KeepsClient, Keeps
 use crate::client_handle::ClientHandle;
 use crate::manager_handle::ManagerHandle;
 use std::alloc::Global;
-use tl_c_beats::{NO_SIDE, close_number, on_held};
+use tl_c_beats::{NO_SIDE, close_a, close_b, close_c, close_d, close_e, on_held};
 
 /// The client's side ends its offers of A.
 ///
@@ -16,7 +16,7 @@ pub extern "C" fn tl_close_a(alloc: Global, client: &mut ClientHandle) -> u8
     ensures close { Closes HoldsClient NO_SIDE sends_a client.old.owned.held client.new.owned.held result }
     ensures kept { KeepsClient client.old client.new }
 {
-    close_number(on_held!(client, alloc, NO_SIDE, |held| held.side.close_a()))
+    on_held!(client, alloc, NO_SIDE, |held| close_a(&mut held.side))
 }
 
 /// The manager's side ends its offers of B.
@@ -28,7 +28,7 @@ pub extern "C" fn tl_close_b(alloc: Global, manager: &mut ManagerHandle) -> u8
     ensures close { Closes HoldsManager NO_SIDE sends_b manager.old.owned.held manager.new.owned.held result }
     ensures kept { KeepsManager manager.old manager.new }
 {
-    close_number(on_held!(manager, alloc, NO_SIDE, |held| held.side.close_b()))
+    on_held!(manager, alloc, NO_SIDE, |held| close_b(&mut held.side))
 }
 
 /// The client's side ends its offers of C.
@@ -40,7 +40,7 @@ pub extern "C" fn tl_close_c(alloc: Global, client: &mut ClientHandle) -> u8
     ensures close { Closes HoldsClient NO_SIDE sends_c client.old.owned.held client.new.owned.held result }
     ensures kept { KeepsClient client.old client.new }
 {
-    close_number(on_held!(client, alloc, NO_SIDE, |held| held.side.close_c()))
+    on_held!(client, alloc, NO_SIDE, |held| close_c(&mut held.side))
 }
 
 /// The manager's side ends its offers of D.
@@ -52,7 +52,7 @@ pub extern "C" fn tl_close_d(alloc: Global, manager: &mut ManagerHandle) -> u8
     ensures close { Closes HoldsManager NO_SIDE sends_d manager.old.owned.held manager.new.owned.held result }
     ensures kept { KeepsManager manager.old manager.new }
 {
-    close_number(on_held!(manager, alloc, NO_SIDE, |held| held.side.close_d()))
+    on_held!(manager, alloc, NO_SIDE, |held| close_d(&mut held.side))
 }
 
 /// The client's side ends its offers of E.
@@ -64,5 +64,5 @@ pub extern "C" fn tl_close_e(alloc: Global, client: &mut ClientHandle) -> u8
     ensures close { Closes HoldsClient NO_SIDE sends_e client.old.owned.held client.new.owned.held result }
     ensures kept { KeepsClient client.old client.new }
 {
-    close_number(on_held!(client, alloc, NO_SIDE, |held| held.side.close_e()))
+    on_held!(client, alloc, NO_SIDE, |held| close_e(&mut held.side))
 }

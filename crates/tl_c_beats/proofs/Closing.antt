@@ -5,9 +5,9 @@ use Rattle.std.proofs.lemmas.Option.{none-some}
 use Rattle.tl_ring.specs.declared.fault.EndFault.{EndFault}
 use Rattle.tl_ring.specs.declared.fault.EndFault.TheVariants.{MidBurst}
 use Rattle.tl_burst.specs.Handing.{rest_of}
-use Rattle.tl_sides.specs.Calls.{SendingChannel, ClosesChannel}
+use Rattle.tl_sides.specs.Calls.{SendingChannel}
 use Rattle.tl_c_beats.specs.Answers.{close_answer, close_number}
-use Rattle.tl_c_beats.specs.Calls.{Closes}
+use Rattle.tl_c_beats.specs.Calls.{Stands, Closes, ClosesNumbered}
 use Rattle.tl_c_beats.proofs.Numbers.{end_fault_numbered}
 
 on_0 : {Q : Type 0} (closed : Result Unit EndFault) → OnOk closed Q → close_number closed ≡ 0 → Q
@@ -26,17 +26,28 @@ close_told (Err MidBurst) (b ∷ bs) between = refl
 held_not_none : {S Q : Type 0} {before : Option S} {h : S} → before ≡ Some h → before ≡ None → Q
 held_not_none {h = h} was e = absurd (none-some h (sym e ∙ was))
 
+-- nothing is held
+pub closes_none : {S P R H : Type 0} {w : ℕ} {StandsFor : S → P → Type 0} {none : ℕ} {k : SendingChannel R P H w} {before now : Option S} →
+    before ≡ None → now ≡ None → Closes (Stands StandsFor) none k before now none
+closes_none {StandsFor = StandsFor} was is = record {
+  nothing = λ e. refl;
+  answers = λ x h. absurd (subst (λ s. Stands StandsFor s x) was h);
+  closed = λ x h e. absurd (subst (λ s. Stands StandsFor s x) was h);
+  refused = λ e. is ∙ sym was;
+}
+
 -- what is held is the side q before the call and q' after it
 pub closes : {S P R H : Type 0} {w : ℕ} {Holds : Option S → P → Type 0} {none : ℕ} {k : SendingChannel R P H w} {before now : Option S}
     {answer : ℕ} (of : R → S) {q q' : R} →
     before ≡ Some (of q) → now ≡ Some (of q') → ((x : P) → Holds (Some (of q)) x → k.Stands q x) →
     ((x : P) → k.Stands q' x → Holds (Some (of q')) x) →
-    (closed : Result Unit EndFault) → answer ≡ close_number closed → ClosesChannel k q closed q' → Closes Holds none k before now answer
-closes {w = w} {Holds = Holds} {k = k} of was is to from closed told said =
+    ClosesNumbered k q answer q' → Closes Holds none k before now answer
+closes {w = w} {Holds = Holds} {k = k} of was is to from told =
+    let closed = told.answer in let said = told.closes in
     record {
       nothing = held_not_none was;
-      answers = λ x h. told ∙ close_told closed (rest_of k.rules w (k.accepted x)) (said.between x (to x (subst (λ s. Holds s x) was h)));
+      answers = λ x h. told.numbered ∙ close_told closed (rest_of k.rules w (k.accepted x)) (said.between x (to x (subst (λ s. Holds s x) was h)));
       closed = λ x h e. subst (λ s. Holds s (k.ended x)) (sym is)
-          (from (k.ended x) (on_0 closed (said.stands x (to x (subst (λ s. Holds s x) was h))) (sym told ∙ e)));
-      refused = λ e. is ∙ ap (λ z. Some (of z)) (on_else closed said.refused (λ z. e (told ∙ z))) ∙ sym was;
+          (from (k.ended x) (on_0 closed (said.stands x (to x (subst (λ s. Holds s x) was h))) (sym told.numbered ∙ e)));
+      refused = λ e. is ∙ ap (λ z. Some (of z)) (on_else closed said.refused (λ z. e (told.numbered ∙ z))) ∙ sym was;
     }

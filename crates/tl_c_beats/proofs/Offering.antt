@@ -1,5 +1,5 @@
--- What an offer answers and leaves, by the offer to what the handle holds.
-use Rattle.std.specs.Prelude.{◌≢◌, ◌↔◌, ℕ, Bool, true, false, Option, None, Some, Result, Ok, Err, IsOk, IfErr, OnOk, OnErr, if◌then◌else◌}
+-- What an offer answers and leaves, and the question whether one may be made, by what the handle holds.
+use Rattle.std.specs.Prelude.{◌≢◌, ◌↔◌, ℕ, Bool, true, false, Option, None, Some, Result, Ok, Err, IsOk, IsTrue, IfErr, OnOk, OnErr, if◌then◌else◌}
 use Rattle.std.proofs.Common.{◌≡◌, List, [], ◌∷◌, refl, sym, ap, ◌∙◌, subst, arith}
 use Rattle.std.proofs.lemmas.Option.{none-some}
 use Rattle.tl_msg.specs.declared.fault.SideFault.{SideFault}
@@ -9,7 +9,7 @@ use Rattle.tl_msg.specs.declared.beat.BeatOf.{BeatOf}
 use Rattle.tl_sides.specs.Calls.{SendingChannel, OffersBeat}
 use Rattle.tl_c_beats.specs.declared.answers.TheConstants.{NOT_READY}
 use Rattle.tl_c_beats.specs.Answers.{is_free, is_ready, fault_answer, offer_answer, offer_number}
-use Rattle.tl_c_beats.specs.Calls.{Stands, Offers}
+use Rattle.tl_c_beats.specs.Calls.{Stands, Asks, Offers}
 use Rattle.tl_c_beats.proofs.Numbers.{side_fault_numbered}
 
 is_free_if : {A : Type 0} (closed : Bool) (stage : List A) → (stage ≡ []) × (closed ≡ false) → is_free closed stage ≡ true
@@ -31,6 +31,13 @@ ready_if p x alike is = is_free_if x.closed x.stage (sym alike.0 ∙ is.0, sym a
 
 ready_only : {H : Type 0} {w v : ℕ} (p : Pipe H v) (x : World H w v) → AreAlike p x → (IsReady p → ⊥) → is_ready x ≡ false
 ready_only p x alike not = is_free_only x.closed x.stage (λ is. not (alike.0 ∙ is.0, alike.1 ∙ is.1))
+
+false_not_true : false ≡ true → ⊥
+false_not_true e = absurd (cc)
+
+ready_told : {H : Type 0} {w v : ℕ} (answer : Bool) (p : Pipe H v) (x : World H w v) → AreAlike p x → IsTrue answer ↔ IsReady p → answer ≡ is_ready x
+ready_told true p x alike asked = sym (ready_if p x alike (asked.0 refl))
+ready_told false p x alike asked = sym (ready_only p x alike (λ ready. false_not_true (asked.1 ready)))
 
 verdict_told : (offered : Result Unit SideFault) (verdict : Option SideFault) → IsOk offered ↔ (verdict ≡ None) →
     IfErr offered (λ fault. verdict ≡ Some fault)
@@ -60,6 +67,24 @@ stands_held StandsFor was x held = subst (λ s. Stands StandsFor s x) was held
 later_not_0 : NOT_READY ≡ 0 → ⊥
 later_not_0 e = omega (arith, e)
 
+module _ {S P : Type 0} {StandsFor : S → P → Type 0} {H : Type 0} {w v : ℕ} {channel : P → World H w v} {before now : Option S} where
+  -- nothing is held
+  pub asks_none : before ≡ None → now ≡ None → Asks (Stands StandsFor) channel before now false
+  asks_none was is = record {
+    nothing = λ e. refl;
+    ready = not_held StandsFor (λ x. false ≡ is_ready (channel x)) was;
+    same = is ∙ sym was;
+  }
+
+  -- what is held has a part on which the channel is this pipe
+  pub asks : (p : Pipe H v) (h : S) → ((x : P) → StandsFor h x → AreAlike p (channel x)) → before ≡ Some h → now ≡ Some h → {answer : Bool} →
+      IsTrue answer ↔ IsReady p → Asks (Stands StandsFor) channel before now answer
+  asks p h alike was is {answer = answer} asked = record {
+    nothing = held_not_none was;
+    ready = λ x held. ready_told answer p (channel x) (alike x (stands_held StandsFor was x held)) asked;
+    same = is ∙ sym was;
+  }
+
 module _ {S P : Type 0} {StandsFor : S → P → Type 0} {R H : Type 0} {w v : ℕ} {k : SendingChannel R P H w} {channel : P → World H w v}
     {b : BeatOf H w} {before now : Option S}
     {none : ℕ} where
@@ -73,12 +98,12 @@ module _ {S P : Type 0} {StandsFor : S → P → Type 0} {R H : Type 0} {w v : �
   }
 
   -- what is held has a part on which the channel is this pipe
-  pub offers_later : (p : Pipe H v) (h : S) → ((x : P) → StandsFor h x → AreAlike p (channel x)) → before ≡ Some h → now ≡ Some h → (IsReady p → ⊥) →
-      Offers (Stands StandsFor) none k channel b before now NOT_READY
-  offers_later p h alike was is not = record {
+  pub offers_later : (p : Pipe H v) (h : S) → ((x : P) → StandsFor h x → AreAlike p (channel x)) → before ≡ Some h → now ≡ Some h →
+      IsTrue false ↔ IsReady p → Offers (Stands StandsFor) none k channel b before now NOT_READY
+  offers_later p h alike was is asked = record {
     nothing = held_not_none was;
     answers = λ x held. ap (λ t. if t then fault_answer (k.stops x b) else NOT_READY)
-        (sym (ready_only p (channel x) (alike x (stands_held StandsFor was x held)) not));
+        (ready_told false p (channel x) (alike x (stands_held StandsFor was x held)) asked);
     accepted = λ x held e. absurd (later_not_0 e);
     refused = λ e. is ∙ sym was;
   }
@@ -88,14 +113,14 @@ module _ {S P : Type 0} {StandsFor : S → P → Type 0} {R H : Type 0} {w v : �
       before ≡ Some (of q) → now ≡ Some (of q') →
       ((x : P) → StandsFor (of q) x → k.Stands q x) → ((x : P) → k.Stands q' x → StandsFor (of q') x) →
       {answer : ℕ} {given : BeatOf H w} (offered : Result Unit SideFault) →
-      given ≡ b → IsReady p → answer ≡ offer_number offered → OffersBeat k given q offered q' →
+      given ≡ b → IsTrue true ↔ IsReady p → answer ≡ offer_number offered → OffersBeat k given q offered q' →
       Offers (Stands StandsFor) none k channel b before now answer
-  offers of q q' p alike was is to from {answer = answer} {given = given} offered same_beat ready told said =
+  offers of q q' p alike was is to from {answer = answer} {given = given} offered same_beat asked told said =
       subst (λ z. Offers (Stands StandsFor) none k channel z before now answer) same_beat (record {
         nothing = held_not_none was;
         answers = λ x held. let s = stands_held StandsFor was x held in
             told ∙ verdict_told offered (k.stops x given) (said.admitted x (to x s)) (said.fault x (to x s))
-            ∙ ap (λ t. if t then fault_answer (k.stops x given) else NOT_READY) (sym (ready_if p (channel x) (alike x s) ready));
+            ∙ ap (λ t. if t then fault_answer (k.stops x given) else NOT_READY) (ready_told true p (channel x) (alike x s) asked);
         accepted = λ x held e. subst (λ s. Stands StandsFor s (k.with_beat given x)) (sym is)
             (from (k.with_beat given x) (on_0 offered (said.accepted x (to x (stands_held StandsFor was x held))) (sym told ∙ e)));
         refused = λ e. is ∙ ap (λ z. Some (of z)) (on_else offered said.refused (λ z. e (told ∙ z))) ∙ sym was;

@@ -1,12 +1,13 @@
 -- What a call of a handle answers and leaves (this project's choice). The handle held `before` and holds `now` a bridge or a side of one, or nothing;
 -- what is held stands for a past (`Holds`).
-use Rattle.std.specs.Prelude.{◌≡◌, ◌≢◌, ℕ, Bool, true, false, Option, None, Some, List, slice_get}
+use Rattle.std.specs.Prelude.{◌≡◌, ◌≢◌, ℕ, Bool, true, false, Option, None, Some, Result, List, slice_get}
 use Rattle.tl_msg.specs.declared.beat.BeatOf.{BeatOf}
 use Rattle.tl_burst.specs.Handing.{rest_of}
+use Rattle.tl_ring.specs.declared.fault.EndFault.{EndFault}
 use Rattle.tl_ring.specs.Crossing.{World}
-use Rattle.tl_sides.specs.Calls.{SendingChannel}
+use Rattle.tl_sides.specs.Calls.{SendingChannel, ClosesChannel}
 use Rattle.tl_c_beats.specs.declared.fields.BeatFields.{BeatFields}
-use Rattle.tl_c_beats.specs.Answers.{IsTold, is_ready, offer_answer, close_answer}
+use Rattle.tl_c_beats.specs.Answers.{IsTold, is_ready, offer_answer, close_answer, close_number}
 
 -- something is held, and it stands for a past
 abbrev pub Stands : {S P : Type 0} → (StandsFor : S → P → Type 0) → Option S → P → Type 0
@@ -27,6 +28,12 @@ pub record Offers {S P R : Type 0} (Holds : Option S → P → Type 0) (none : �
   pub answers : (x : P) → Holds before x → answer ≡ offer_answer (channel x) (k.stops x b)
   pub accepted : (x : P) → Holds before x → answer ≡ 0 → Holds now (k.with_beat b x)
   pub refused : answer ≢ 0 → now ≡ before
+
+-- a close of a channel by what holds it, and the number that C is told of its answer
+pub record ClosesNumbered {R P H : Type 0} {w : ℕ} (k : SendingChannel R P H w) (before : R) (number : ℕ) (now : R) : Type 0 where
+  pub answer : Result (Unit {0}) EndFault
+  pub numbered : number ≡ close_number answer
+  pub closes : ClosesChannel k before answer now
 
 -- a close of a channel: `none` where nothing is held. Where it is closed the past goes on, else nothing changes
 pub record Closes {S P R : Type 0} (Holds : Option S → P → Type 0) (none : ℕ) {H : Type 0} {w : ℕ} (k : SendingChannel R P H w)

@@ -32,7 +32,7 @@ impl AnswerBlock {
     }
 
     /// No answer, and the line that has the fault.
-    pub fn none(alloc: Global, line: Option<u64>) -> AnswerBlock
+    fn none(alloc: Global, line: Option<u64>) -> AnswerBlock
         ensures { IsNoBlock line result }
     {
         AnswerBlock {
@@ -53,5 +53,16 @@ impl AnswerBlock {
         if live.is {
             drop(owned.into_parts().into_box());
         }
+    }
+
+    /// Lets the answer's text go, if there is one, and leaves the line of a fault: the fault's
+    /// number.
+    pub fn refuse(&mut self, alloc: Global, number: u8, line: Option<u64>) -> u8
+        ensures block { IsNoBlock line self.new }
+        ensures number { result ≡ number }
+    {
+        self.free(alloc);
+        self.line = line.unwrap_or(0);
+        number
     }
 }

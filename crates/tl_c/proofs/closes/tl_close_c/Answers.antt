@@ -1,8 +1,22 @@
-use Rattle.std.proofs.Common.{rules}
-use Rattle.tl_c_beats.proofs.Closing.{closes}
+use Rattle.std.proofs.Common.{refl}
+use Rattle.tl_c_beats.proofs.Closing.{closes_none, closes}
+use Rattle.tl_c.proofs.Keeping.{held_at, kept, kept_none, closed_c}
 use Rattle.tl_c.proofs.closes.tl_close_c.Goals as goal
 
-pub returns-clause-close : goal.returns-clause-close
-returns-clause-close c = closes (λ q. record { side = q }) {q = c.deref_mut.result.now.side} {q' = c.close_c.new.self} (search rules)
-    (search rules) (λ x s. s) (λ x s. s)
-    c.close_c.result c.close_number.ensures c.close_c.ensures
+pub returns-in_default : goal.returns-in_default
+returns-in_default c =
+    let was = c.in_default.ensures.none refl in
+    record {
+      close = closes_none was c.on_held-take.ensures.after;
+      kept = kept_none _ was c.on_held-take.ensures.after c.on_held-take.ensures.number;
+    }
+
+pub returns : goal.returns
+returns c =
+    let was = held_at c.in-Some-on_held.ensures.some c.deref_mut.ensures.value in
+    record {
+      close = closes (λ q. record { side = q }) {q = c.deref_mut.result.now.side} {q' = c.close_c.new.client} was c.on_held-put.ensures.held
+          (λ x s. s) (λ x s. s) c.close_c.ensures;
+      kept = kept _ {h = c.deref_mut.result.now} {k = record { side = c.close_c.new.client }} was c.on_held-put.ensures.held
+          (closed_c c.close_c.ensures) c.on_held-take.ensures.number c.on_held-put.ensures.number;
+    }

@@ -1,8 +1,91 @@
-use Rattle.std.proofs.Common.{rules}
+use Rattle.std.proofs.Common.{refl, sym, ◌∙◌, subst}
+use Rattle.tl_c.specs.Calls.{HoldsClient, HoldsManager, HoldSides, HaveMet}
 use Rattle.tl_c.proofs.Counting.{counted}
+use Rattle.tl_c.proofs.Keeping.{held_at, kept, kept_none, client_same, manager_same}
+use Rattle.tl_c.proofs.Meeting.{no_side, other_bridge, untouched, for_both, answer_no_client, answer_no_manager, answer_others, answer_met}
 use Rattle.tl_c.proofs.meetings.tl_meet.Goals as goal
 
-pub returns-clause-counts : goal.returns-clause-counts
-returns-clause-counts c = λ e. let met = c.meet_sides-standings in
-    counted {s = record { side = met.new.client }} {t = record { side = met.new.manager }} (search rules) (search rules) c.channel_counts.ensures
-    met.ensures.standing_a met.ensures.standing_b met.ensures.standing_c met.ensures.standing_d met.ensures.standing_e
+pub returns-in_default : goal.returns-in_default
+returns-in_default c =
+    let client = c.in_default.ensures.none refl in
+    record {
+      answer = answer_no_client _ _ client;
+      met = λ x y h k zero. no_side zero;
+      counts = λ zero. no_side zero;
+      sides = λ zero. no_side zero;
+      kept = (kept_none _ client c.take.ensures.after c.take.ensures.number, untouched _);
+      same = λ not. (c.take.ensures.after ∙ sym client, refl, refl);
+    }
+
+pub returns-in_default-take : goal.returns-in_default-take
+returns-in_default-take c =
+    let client = c.in-Some.ensures.some in
+    let manager = c.in_default-take.ensures.none refl in
+    record {
+      answer = answer_no_manager _ _ manager;
+      met = λ x y h k zero. no_side zero;
+      counts = λ zero. no_side zero;
+      sides = λ zero. no_side zero;
+      kept = (
+        kept _ client c.put.ensures.held (client_same _) c.take.ensures.number c.put.ensures.number,
+        kept_none _ manager c.take-2.ensures.after c.take-2.ensures.number,
+      );
+      same = λ not. (c.put.ensures.held ∙ sym client, c.take-2.ensures.after ∙ sym manager, refl);
+    }
+
+pub returns-then-client-manager : goal.returns-then-client-manager
+returns-then-client-manager c =
+    let client = c.in-Some.ensures.some in
+    let manager = c.in-Some-take.ensures.some in
+    let put = c.put-then-client-manager.ensures in
+    let put_2 = c.put-then-client-manager-2.ensures in
+    record {
+      answer = answer_others client manager c.take.ensures.number c.take-2.ensures.number c.if-client-manager.true;
+      met = λ x y h k zero. other_bridge zero;
+      counts = λ zero. other_bridge zero;
+      sides = λ zero. other_bridge zero;
+      kept = (
+        kept _ client put.held (client_same _) c.take.ensures.number put.number,
+        kept _ manager put_2.held (manager_same _) c.take-2.ensures.number put_2.number,
+      );
+      same = λ not. (put.held ∙ sym client, put_2.held ∙ sym manager, refl);
+    }
+
+pub returns : goal.returns
+returns c =
+    let met = c.meet_sides-standings in
+    let client = held_at c.in-Some.ensures.some c.deref_mut.ensures.value in
+    let manager = held_at c.in-Some-take.ensures.some c.deref_mut-2.ensures.value in
+    let client_now = c.put-2.ensures.held in
+    let manager_now = c.put-3.ensures.held in
+    record {
+      answer = answer_met client manager c.take.ensures.number c.take-2.ensures.number c.if-client-manager.false;
+      met = λ x y h k zero. for_both (λ s t. HaveMet s t x y) client_now manager_now
+          (met.ensures.meets x y (subst (λ s. HoldsClient s x) client h) (subst (λ t. HoldsManager t y) manager k));
+      counts = λ zero. counted {s = record { side = met.new.client }} {t = record { side = met.new.manager }} client_now manager_now
+          c.channel_counts.ensures met.ensures.standing_a met.ensures.standing_b met.ensures.standing_c met.ensures.standing_d met.ensures.standing_e;
+      sides = λ zero. for_both HoldSides client_now manager_now (record {
+        a = met.ensures.a.pair;
+        b = met.ensures.b.pair;
+        c = met.ensures.c.pair;
+        d = met.ensures.d.pair;
+        e = met.ensures.e.pair;
+      });
+      kept = (
+        kept _ {h = c.deref_mut.result.now} {k = record { side = met.new.client }} client client_now (record {
+          a = met.ensures.a.send;
+          b = met.ensures.b.take;
+          c = met.ensures.c.send;
+          d = met.ensures.d.take;
+          e = met.ensures.e.send;
+        }) c.take.ensures.number c.put-2.ensures.number,
+        kept _ {h = c.deref_mut-2.result.now} {k = record { side = met.new.manager }} manager manager_now (record {
+          a = met.ensures.a.take;
+          b = met.ensures.b.send;
+          c = met.ensures.c.take;
+          d = met.ensures.d.send;
+          e = met.ensures.e.take;
+        }) c.take-2.ensures.number c.put-3.ensures.number,
+      );
+      same = λ not. absurd (not refl);
+    }

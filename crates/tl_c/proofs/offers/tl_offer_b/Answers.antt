@@ -1,21 +1,45 @@
-use Rattle.std.proofs.Common.{rules, lit<}
+use Rattle.std.specs.Prelude.{◌↔◌, true, IsTrue}
+use Rattle.std.proofs.Common.{refl, sym, ◌∙◌, subst, lit<}
 use Rattle.tl_ring.specs.Ends.{as_pipe}
+use Rattle.tl_ring.specs.Pipe.{IsReady}
 use Rattle.tl_c_beats.proofs.Offering.{offers_none, offers_later, offers}
 use Rattle.tl_c.proofs.BothWidths.{widths}
+use Rattle.tl_c.proofs.Keeping.{held_at, kept, kept_none, manager_same, offered_b}
 use Rattle.tl_c.proofs.offers.tl_offer_b.Goals as goal
 
 pub offer_held-offer_b-requires : goal.offer_held-offer_b-requires
-offer_held-offer_b-requires c = (lit< tt, (lit< tt, (widths.1, (widths.0, search rules))))
+offer_held-offer_b-requires c =
+    let same = c.offer_held-deref.ensures ∙ sym c.offer_held-deref_mut.ensures.value in
+    (lit< tt, (lit< tt, (widths.1, (widths.0, subst (λ h. IsReady (as_pipe h.side.b)) same (c.if-offer_held.ensures.0 refl)))))
 
-pub returns-in_default-clause-offer : goal.returns-in_default-clause-offer
-returns-in_default-clause-offer c = offers_none (search rules) (search rules)
+pub returns-in_default : goal.returns-in_default
+returns-in_default c =
+    let was = c.in_default.ensures.none refl in
+    record {
+      offer = offers_none was c.offer_held-take.ensures.after;
+      kept = kept_none _ was c.offer_held-take.ensures.after c.offer_held-take.ensures.number;
+    }
 
-pub returns-clause-offer : goal.returns-clause-offer
-returns-clause-offer c = offers_later (as_pipe c.offer_held-deref.result.now.side.b) c.offer_held-deref.result.now
-    (λ x s. (s.b.pipe.stage, s.b.pipe.closed))
-    (search rules) (search rules) (search rules)
+pub returns : goal.returns
+returns c =
+    let was = held_at c.in-Some-offer_held.ensures.some c.offer_held-deref.ensures in
+    let is = held_at c.offer_held-put.ensures.held c.offer_held-deref.ensures in
+    record {
+      offer = offers_later (as_pipe c.offer_held-deref.result.now.side.b) c.offer_held-deref.result.now
+          (λ x s. (s.b.pipe.stage, s.b.pipe.closed)) was is c.if-offer_held.ensures;
+      kept = kept _ was is (manager_same _) c.offer_held-take.ensures.number c.offer_held-put.ensures.number;
+    }
 
-pub returns-2-clause-offer : goal.returns-2-clause-offer
-returns-2-clause-offer c = offers (λ q. record { side = q }) c.offer_held-deref_mut.result.now.side c.offer_held-offer_b.new.self
-    (as_pipe c.offer_held-deref_mut.result.now.side.b) (λ x s. (s.b.pipe.stage, s.b.pipe.closed)) (search rules) (search rules) (λ x s. s) (λ x s. s)
-    c.offer_held-offer_b.result c.beat_b-beat.ensures (search rules) c.offer_held.ensures c.offer_held-offer_b.ensures
+pub returns-2 : goal.returns-2
+returns-2 c =
+    let was = held_at c.in-Some-offer_held.ensures.some c.offer_held-deref_mut.ensures.value in
+    let same = c.offer_held-deref.ensures ∙ sym c.offer_held-deref_mut.ensures.value in
+    record {
+      offer = offers (λ q. record { side = q }) c.offer_held-deref_mut.result.now.side c.offer_held-offer_b.new.self
+          (as_pipe c.offer_held-deref_mut.result.now.side.b) (λ x s. (s.b.pipe.stage, s.b.pipe.closed)) was c.offer_held-put-2.ensures.held
+          (λ x s. s) (λ x s. s) c.offer_held-offer_b.result c.beat_b-beat.ensures
+          (subst (λ h. IsTrue true ↔ IsReady (as_pipe h.side.b)) same c.if-offer_held.ensures) c.offer_held.ensures c.offer_held-offer_b.ensures;
+      kept = kept _ {h = c.offer_held-deref_mut.result.now} {k = record { side = c.offer_held-offer_b.new.self }} was
+          c.offer_held-put-2.ensures.held (offered_b c.offer_held-offer_b.ensures.rest)
+          c.offer_held-take.ensures.number c.offer_held-put-2.ensures.number;
+    }

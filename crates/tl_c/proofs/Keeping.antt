@@ -1,0 +1,86 @@
+-- What a handle keeps through a call.
+use Rattle.std.specs.Prelude.{ℕ, Option, None, Some, Result, Ok, Err, OnOk, OnErr}
+use Rattle.std.proofs.Common.{◌≡◌, refl, sym, ap, ◌∙◌, subst, rules}
+use Rattle.tl_sides.specs.Calls.{SendingChannel}
+use Rattle.tl_sides.specs.Sides.{ClientState, ManagerState, SameClient, SameManager}
+use Rattle.tl_sides.specs.Sides.{side_sends_a, side_sends_b, side_sends_c, side_sends_d, side_sends_e}
+use Rattle.tl_sides.specs.Sides.{side_takes_a, side_takes_b, side_takes_c, side_takes_d, side_takes_e}
+use Rattle.tl_c_beats.specs.Calls.{ClosesNumbered}
+use Rattle.tl_c.specs.Calls.{Keeps}
+
+-- v is held, and h is v
+pub held_at : {S : Type 0} {held : Option S} {h v : S} → held ≡ Some v → h ≡ v → held ≡ Some h
+held_at was at = was ∙ ap (λ s. Some s) (sym at)
+
+module _ {S : Type 0} (Same : S → S → Type 0) {before now : Option S} {l n : ℕ} where
+  -- nothing is held
+  pub kept_none : before ≡ None → now ≡ None → n ≡ l → Keeps Same before now × (n ≡ l)
+  kept_none was is number = (subst (λ s. Keeps Same s now) (sym was) is, number)
+
+  -- h is held before the call, and k after it
+  pub kept : {h k : S} {m : ℕ} → before ≡ Some h → now ≡ Some k → Same h k → m ≡ l → n ≡ m → Keeps Same before now × (n ≡ l)
+  kept {h = h} was is same taken put =
+      (subst (λ s. Keeps Same s now) (sym was) (subst (λ s. Keeps Same (Some h) s) (sym is) same), put ∙ taken)
+
+by_answer : {E Q Q' X : Type 0} (answer : Result (Unit {0}) E) → OnOk answer Q → OnErr answer Q' → (Q → X) → (Q' → X) → X
+by_answer (Ok done) q r f g = f q
+by_answer (Err fault) q r f g = g r
+
+-- what a close leaves is the same side, since it is where nothing changes and where the channel is closed
+after_close : {R P H : Type 0} {w : ℕ} (k : SendingChannel R P H w) (Same : R → R → Type 0) → ((q : R) → Same q q) →
+    ((q : R) → Same q (k.as_closed q)) → {q q' : R} {number : ℕ} → ClosesNumbered k q number q' → Same q q'
+after_close k Same same closed {q = q} told = by_answer told.answer told.closes.closed told.closes.refused
+    (λ e. subst (λ r. Same q r) (sym e) (closed q)) (λ e. subst (λ r. Same q r) (sym e) (same q))
+
+-- what each call changes of a side, its ends of the rings stay the same
+module _ {A : Type 0} {C M : ℕ} where
+  pub client_same : (s : ClientState A C M) → SameClient s s
+  client_same s = search rules
+
+  pub offered_a : {s s' : ClientState A C M} → (side_sends_a {A = A} {C = C} {M = M}).Keeps s s' → SameClient s s'
+  offered_a rest = search rules
+
+  pub closed_a : {s s' : ClientState A C M} {number : ℕ} → ClosesNumbered side_sends_a s number s' → SameClient s s'
+  closed_a = after_close side_sends_a SameClient client_same (λ s. offered_a (refl, refl))
+
+  pub taken_b : {s s' : ClientState A C M} → (side_takes_b {A = A} {C = C} {M = M}).Keeps s s' → SameClient s s'
+  taken_b rest = search rules
+
+  pub offered_c : {s s' : ClientState A C M} → (side_sends_c {A = A} {C = C} {M = M}).Keeps s s' → SameClient s s'
+  offered_c rest = search rules
+
+  pub closed_c : {s s' : ClientState A C M} {number : ℕ} → ClosesNumbered side_sends_c s number s' → SameClient s s'
+  closed_c = after_close side_sends_c SameClient client_same (λ s. offered_c (refl, refl))
+
+  pub taken_d : {s s' : ClientState A C M} → (side_takes_d {A = A} {C = C} {M = M}).Keeps s s' → SameClient s s'
+  taken_d rest = search rules
+
+  pub offered_e : {s s' : ClientState A C M} → (side_sends_e {A = A} {C = C} {M = M}).Keeps s s' → SameClient s s'
+  offered_e rest = search rules
+
+  pub closed_e : {s s' : ClientState A C M} {number : ℕ} → ClosesNumbered side_sends_e s number s' → SameClient s s'
+  closed_e = after_close side_sends_e SameClient client_same (λ s. offered_e (refl, refl))
+
+  pub manager_same : (t : ManagerState A C M) → SameManager t t
+  manager_same t = search rules
+
+  pub taken_a : {t t' : ManagerState A C M} → (side_takes_a {A = A} {C = C} {M = M}).Keeps t t' → SameManager t t'
+  taken_a rest = search rules
+
+  pub offered_b : {t t' : ManagerState A C M} → (side_sends_b {A = A} {C = C} {M = M}).Keeps t t' → SameManager t t'
+  offered_b rest = search rules
+
+  pub closed_b : {t t' : ManagerState A C M} {number : ℕ} → ClosesNumbered side_sends_b t number t' → SameManager t t'
+  closed_b = after_close side_sends_b SameManager manager_same (λ t. offered_b (refl, refl))
+
+  pub taken_c : {t t' : ManagerState A C M} → (side_takes_c {A = A} {C = C} {M = M}).Keeps t t' → SameManager t t'
+  taken_c rest = search rules
+
+  pub offered_d : {t t' : ManagerState A C M} → (side_sends_d {A = A} {C = C} {M = M}).Keeps t t' → SameManager t t'
+  offered_d rest = search rules
+
+  pub closed_d : {t t' : ManagerState A C M} {number : ℕ} → ClosesNumbered side_sends_d t number t' → SameManager t t'
+  closed_d = after_close side_sends_d SameManager manager_same (λ t. offered_d (refl, refl))
+
+  pub taken_e : {t t' : ManagerState A C M} → (side_takes_e {A = A} {C = C} {M = M}).Keeps t t' → SameManager t t'
+  taken_e rest = search rules

@@ -1,0 +1,38 @@
+-- What the making of a bridge answers C.
+use Rattle.std.proofs.Common.{◌≡◌, ◌≤◌, ◌<◌, ◌⊎◌, ◌↔◌, ℕ, Option, Some, inl, inr, refl, sym, subst, arith}
+use Rattle.tl_ring.specs.declared.fault.BuildFault.{BuildFault}
+use Rattle.tl_ring.specs.declared.fault.BuildFault.TheVariants.{RingSize, OutOfMemory}
+use Rattle.tl_ring.specs.declared.pipe.TheConstants.{MAX_RING}
+use Rattle.tl_ring.specs.Names.{build_fault_number}
+use Rattle.tl_ring.proofs.Moves.{ring_size_only}
+use Rattle.tl_c_beats.specs.Calls.{Stands}
+
+abbrev IsNoSize : ℕ → Type 0
+IsNoSize ring = (ring ≡ 0) ⊎ (MAX_RING < ring)
+
+-- the answer is the number of a fault
+pub no_success : {X : Type 0} (fault : BuildFault) {n : ℕ} → n ≡ build_fault_number fault → n ≡ 0 → X
+no_success RingSize e zero = absurd (omega (arith, e, zero))
+no_success OutOfMemory e zero = absurd (omega (arith, e, zero))
+
+pub is_fault : (fault : BuildFault) {n : ℕ} → n ≡ build_fault_number fault → (n ≡ 0) ⊎ ((n ≡ 12) ⊎ (n ≡ 13))
+is_fault RingSize e = inr (inl e)
+is_fault OutOfMemory e = inr (inr e)
+
+pub refused_size : (fault : BuildFault) {n ring : ℕ} → n ≡ build_fault_number fault → (fault ≡ RingSize) ↔ IsNoSize ring → (n ≡ 12) ↔ IsNoSize ring
+refused_size RingSize e exact = (λ is. exact.0 refl, λ no. e)
+refused_size OutOfMemory e exact = (λ is. absurd (omega (arith, e, is)), λ no. absurd (let same = exact.1 no in cc))
+
+-- the ring has a lawful size: so RingSize is not answered
+lawful_size : {n ring : ℕ} → (1 ≤ ring) × (ring ≤ MAX_RING) → (n ≡ 12 → ⊥) → (n ≡ 12) ↔ IsNoSize ring
+lawful_size {ring = ring} size not = (λ is. absurd (not is), λ no. absurd (ring_size_only ring size no))
+
+pub made_size : {n ring : ℕ} → n ≡ 0 → (1 ≤ ring) × (ring ≤ MAX_RING) → (n ≡ 12) ↔ IsNoSize ring
+made_size zero size = lawful_size size (λ is. omega (arith, zero, is))
+
+pub memory_size : {n ring : ℕ} → n ≡ 13 → (1 ≤ ring) × (ring ≤ MAX_RING) → (n ≡ 12) ↔ IsNoSize ring
+memory_size none size = lawful_size size (λ is. omega (arith, none, is))
+
+-- what is put into a handle stands for a past
+pub stands : {S P : Type 0} (StandsFor : S → P → Type 0) {held : Option S} {h : S} {x : P} → held ≡ Some h → StandsFor h x → Stands StandsFor held x
+stands StandsFor {x = x} is h = subst (λ s. Stands StandsFor s x) (sym is) h

@@ -1,0 +1,51 @@
+//! The end of each channel, as C is told of it.
+ghost use Rattle.tl_sides.specs.Sides.{side_sends_a, side_sends_b, side_sends_c, side_sends_d, side_sends_e};
+ghost use Rattle.tl_c_beats.specs.Calls.{ClosesNumbered};
+
+use crate::answers::close_number;
+use std::alloc::Allocator;
+use tl_sides::{ClientSide, ManagerSide};
+
+/// Ends the offers of A. 0 where it is closed, else the number of the fault.
+pub fn close_a<const C: usize, const M: usize, A: Allocator>(client: &mut ClientSide<C, M, A>) -> u8
+    ensures { ClosesNumbered side_sends_a client.old result client.new }
+{
+    let closed = client.close_a();
+    close_number(closed)
+}
+
+/// Ends the offers of B, as [`close_a`] does.
+pub fn close_b<const C: usize, const M: usize, A: Allocator>(
+    manager: &mut ManagerSide<C, M, A>,
+) -> u8
+    ensures { ClosesNumbered side_sends_b manager.old result manager.new }
+{
+    let closed = manager.close_b();
+    close_number(closed)
+}
+
+/// Ends the offers of C, as [`close_a`] does.
+pub fn close_c<const C: usize, const M: usize, A: Allocator>(client: &mut ClientSide<C, M, A>) -> u8
+    ensures { ClosesNumbered side_sends_c client.old result client.new }
+{
+    let closed = client.close_c();
+    close_number(closed)
+}
+
+/// Ends the offers of D, as [`close_a`] does.
+pub fn close_d<const C: usize, const M: usize, A: Allocator>(
+    manager: &mut ManagerSide<C, M, A>,
+) -> u8
+    ensures { ClosesNumbered side_sends_d manager.old result manager.new }
+{
+    let closed = manager.close_d();
+    close_number(closed)
+}
+
+/// Ends the offers of E, as [`close_a`] does.
+pub fn close_e<const C: usize, const M: usize, A: Allocator>(client: &mut ClientSide<C, M, A>) -> u8
+    ensures { ClosesNumbered side_sends_e client.old result client.new }
+{
+    let closed = client.close_e();
+    close_number(closed)
+}
