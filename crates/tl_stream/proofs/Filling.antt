@@ -216,6 +216,21 @@ no-fault is = absurd (let bad = is in cc)
 pub named-fault : {A : Type 0} (P : TextFault → Type 0) (fault e : TextFault) → P fault → IsErrOf {T = A} (Err fault) e → P e
 named-fault P fault e is same = subst P (ap (fault_of fault) same) is
 
+-- a want of memory is none that is too long
+pub memory-not-long : {A P : Type 0} → IsErrOf {T = A} (Err faults.OutOfMemory) faults.TooLong → P
+memory-not-long is = absurd (let bad = is in cc)
+
+pub no-less : (m n : ℕ) → m ≤ m + n
+no-less m n = omega arith
+
+-- a part behind a place has room up to another length that is the same
+pub part-fits : (to from long n : ℕ) → to ≤ long → n ≡ long → to - from ≤ n
+part-fits to from long n within same = omega arith
+
+-- where a buffer is full that was not, more was read
+pub read-some : (kept read now long total : ℕ) → kept + read ≡ now → kept < long → now ≡ long → total < total + read
+read-some kept read now long total full part same = omega arith
+
 -- a read failed, or what was read is too long
 pub read-kinds : (long : Type 0) (fault : TextFault) → IsReadFault long fault → fault ≢ faults.Read → fault ≡ faults.TooLong
 read-kinds long (faults.Trace fault) is other = absurd is

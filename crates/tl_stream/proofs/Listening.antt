@@ -3,14 +3,18 @@ use Rattle.tl_stream.proofs.Names.{◌≡◌, ◌≢◌, ◌<◌, ◌≤◌, ◌
 use Rattle.tl_stream.proofs.Names.{length-append, append-nil, IfErr, IfOk, IfSome, Result, Ok, Err, Consumes, Tells}
 use Rattle.tl_stream.proofs.Names.{Gone, IsRestOf, beat_of_a, beat_of_b, beat_of_c, beat_of_d, beat_of_e, more_gone, none_gone, Script, ScriptReader}
 use Rattle.tl_stream.proofs.Names.{HasGrown, HasHeader, HasRead, HasReadPast, IsHeaderLine}
-use Rattle.tl_stream.proofs.Names.{AreFew, HasReadHeld, HasTaken, HasUsedHeader, IsNew, IsReadThrough, IsBetweenPast, IsRefused, ReadsScript, held}
+use Rattle.tl_stream.proofs.Names.{AreFew, HasReadHeld, HasTaken, HasUsedHeader, IsNew, IsReading, IsWidth, unread_of, IsReadThrough, IsBetweenPast}
+use Rattle.tl_stream.proofs.Names.{IsRefused, ReadsScript, held}
 use Rattle.tl_stream.proofs.Names.{most_bytes, TextFault, Input}
 use Rattle.tl_trace.specs.declared.script.Counts.{Counts}
 use Rattle.tl_stream.specs.Inner.Keeping.{Keeps}
 use Rattle.tl_stream.specs.declared.fault.TextFault.TheVariants as faults
 use Rattle.tl_stream.specs.declared.keep_all.KeepAll.{KeepAll}
 use Rattle.tl_stream.proofs.Lengths.{few-chosen, lines-few}
-use Rattle.tl_stream.proofs.ToRead.{unlike}
+use Rattle.tl_stream.specs.Inner.Hearing.{CanHear}
+use Rattle.tl_stream.specs.Inner.Lines.{IsBeginning, ReadsHeld}
+use Rattle.tl_stream.proofs.Between.{reading}
+use Rattle.tl_stream.proofs.ToRead.{unlike, widths_named}
 
 -- why no more could be read
 pub refused-read : (unread left : Option (List ℕ)) (input : Input) (fault : TextFault) → (fault ≢ faults.Read → fault ≡ faults.TooLong) →
@@ -59,13 +63,17 @@ module _ {C M : ℕ} where
 
   module _ {L : Type 0} {Listens : L → Gone C M → Script C M → Type 0} {unread left : Option (List ℕ)} {v : ℕ} where
     -- the first piece
-    pub first-heard : (lines : ScriptReader C M) (input input' : Input) (listener : L) → lines.version ≡ v → IsNew Listens listener →
-        HasTaken unread left [] input → HasHeader (held input) lines.version C M →
-        ((text : List ℕ) → IsHeaderLine text lines.version C M → HasRead lines.version text lines.script lines.line) →
+    first-heard : (lines : ScriptReader C M) (input input' : Input) (listener : L) → lines.version ≡ v → IsNew Listens listener →
+        HasTaken unread left [] input → HasHeader (held input) v C M →
+        ((text : List ℕ) → IsHeaderLine text v C M → HasRead v text lines.script lines.line) →
         HasUsedHeader input input' → IsAhead Listens unread left v lines input' listener
     first-heard lines input input' listener version new taken named none h = record {
       gone = none_gone;
-      between = record { used = h.line; taken = h.taken unread left taken; read = none h.line (h.header lines.version C M named) };
+      between = record {
+        used = h.line;
+        taken = h.taken unread left taken;
+        read = subst (λ v. HasRead v h.line lines.script lines.line) (sym version) (none h.line (h.header v C M named));
+      };
       listens = λ more grown few. new more few;
       version = version;
     }
@@ -125,6 +133,39 @@ module _ {C M : ℕ} where
           rest = b.between.read.script;
           listens = b.listens;
         }
+
+  module _ {L : Type 0} (Listens : ℕ → L → Gone C M → Script C M → Type 0) where
+    -- the widths of a text that begins
+    pub beginning_widths : {left : Option (List ℕ)} {input : Input} {lines : ScriptReader C M} {listener : L} →
+        IsBeginning Listens left input lines listener → IsWidth C × IsWidth M
+    beginning_widths {input = input} b = widths_named (held input) b.0 C M b.3
+
+    -- its header was used
+    pub begins : {left : Option (List ℕ)} {input input' : Input} {lines : ScriptReader C M} {listener : L} →
+        IsBeginning Listens left input lines listener → HasUsedHeader input input'
+        → IsAhead (Listens lines.version) (unread_of input left) left lines.version lines input' listener
+    begins {left} {input} {input'} {lines} {listener} b h =
+        subst (λ v. IsAhead (Listens v) (unread_of input left) left v lines input' listener) (sym b.1)
+        (first-heard lines input input' listener b.1 b.4 b.2.taken b.3 b.5 h)
+
+    module _ (unread left : Option (List ℕ)) (v : ℕ) (lines : ScriptReader C M) (input : Input) (listener : L) where
+      -- as a round of the reading finds it: the lines can be read, and what is read then can be heard, as `read_on` asks for it
+      abbrev pub GoesOn : Type 0
+      GoesOn = IsAhead (Listens v) unread left v lines input listener × IsReading lines input × CanHear Listens lines input listener
+
+      pub goes-on : IsWidth C × IsWidth M → IsAhead (Listens v) unread left v lines input listener → GoesOn
+      goes-on widths ahead = (
+        ahead,
+        reading widths.0 widths.1 unread left lines input ahead.between,
+        λ lines' input' more r. let b = behind ahead r in (v, b.gone, b.listens),
+      )
+
+    -- the lines that the input held can be heard
+    pub can-hear : (lines : ScriptReader C M) (input : Input) (lines' : ScriptReader C M) (input' : Input) (listener : L)
+        (r : Result Bool TextFault) → IsWidth C → IsWidth M → CanHear Listens lines input listener → ReadsHeld lines input lines' input' r
+        → IfOk r (λ _. IsWidth C × IsWidth M × ((version : ℕ) × (gone : Gone C M) × Listens version listener gone lines'.script))
+    can-hear lines input lines' input' listener (Ok more) client manager can read = (client, manager, can lines' input' more read)
+    can-hear lines input lines' input' listener (Err fault) client manager can read = tt
 
   -- where all is kept, what is held at the end is the script
   pub reads-script : (unread left : Option (List ℕ)) (version : ℕ) (input : Input) (keeper : KeepAll) (result : Result (Script C M) TextFault) →

@@ -29,6 +29,10 @@ pub record IsDraining (first left : Option (List ℕ)) (input input' : Input) : 
   pub some : (unread : Option (List ℕ)) × (used : List ℕ) × HasTaken unread left used input'
   pub taken : (unread : Option (List ℕ)) (used : List ℕ) → HasTaken unread first used input → (used' : List ℕ) × HasTaken unread left used' input'
 
+-- a part that is shorter than a line is no buffer
+pub part-short : (n part most long : ℕ) → n ≡ part → n < most → most < long → part < long
+part-short n part most long size short room = omega arith
+
 -- a piece more was read, or the end, where the buffer was full and no more than used in between
 pub smaller : (was a c : Input) (more : Bool) → a.total ≡ was.total → a.to ≡ was.to → a.buffer.items ≡ was.buffer.items →
     more ≡ nat_eq a.to (length a.buffer.items) → more ≡ true → a.total ≤ c.total →

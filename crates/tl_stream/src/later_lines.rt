@@ -1,9 +1,10 @@
 //! From a text as it comes in to its near beats.
-ghost use Rattle.std.specs.Prelude.{◌≤◌, length, IfOk, IfErr};
+ghost use Rattle.std.specs.Prelude.{ℕ, ◌≤◌, length, IfOk, IfErr};
 ghost use Rattle.tl_lanes.specs.Lanes.{IsWidth};
 ghost use Rattle.tl_trace.specs.Faults.{HasHeader};
+ghost use Rattle.tl_trace.specs.Scripts.{Gone};
 ghost use Rattle.tl_stream.specs.Inner.Lines.{IsBeginning, IsReading, ReadsHeld, UsesHeader};
-ghost use Rattle.tl_stream.specs.Inner.Hearing.{ReadsThrough};
+ghost use Rattle.tl_stream.specs.Inner.Hearing.{CanHear, ReadsThrough};
 ghost use Rattle.tl_stream.specs.Listening.{IsNew, IsReadThrough};
 ghost use Rattle.tl_stream.specs.Inputs.{IsFresh, IsRefused, ReadsScript, held, unread_of};
 
@@ -55,6 +56,21 @@ fn read_held<const C: usize, const M: usize>(
     }
 }
 
+/// The same where a listener goes on with the lines, which is not called here: it says what `hear` asks for.
+#[inline(always)]
+fn read_on<By, L: Listener<By, C, M>, const C: usize, const M: usize>(
+    lines: &mut ScriptReader<C, M>,
+    input: &mut Input,
+    _listener: &L,
+) -> Result<bool, TextFault>
+    requires { IsReading lines.old input.old × CanHear L.Listens lines.old input.old _listener.now }
+    ensures read { ReadsHeld lines.old input.old lines.new input.new result }
+    ensures hear { IfOk result (λ _. IsWidth C × IsWidth M ×
+        ((version : ℕ) × (gone : Gone C M) × L.Listens version _listener.now gone lines.new.script)) }
+{
+    read_held(lines, input)
+}
+
 /// Reads a text to its end, piece by piece, where the input holds its first piece and nothing of it
 /// was used, and no line was read yet. After each piece but the last one a new listener goes on with
 /// the beats that were read, and those go that it is done with.
@@ -67,8 +83,7 @@ fn read_pieces<R: Read, By, L: Listener<By, C, M>, const C: usize, const M: usiz
     lines: &mut ScriptReader<C, M>,
     listener: &mut L,
 ) -> Result<(), TextFault>
-    requires { IsBeginning (R.remaining reader.old) input.old lines.old ×
-        IsNew (L.Listens lines.old.version) listener.old }
+    requires { IsBeginning L.Listens (R.remaining reader.old) input.old lines.old listener.old }
     ensures { ReadsThrough (L.Listens lines.old.version)
         (unread_of input.old (R.remaining reader.old)) (R.remaining reader.new)
         lines.old.version listener.new lines.new.script input.new result }
@@ -77,7 +92,7 @@ fn read_pieces<R: Read, By, L: Listener<By, C, M>, const C: usize, const M: usiz
         return Err(fault);
     }
     'pieces: loop {
-        match read_held(lines, input) {
+        match read_on::<By, L, C, M>(lines, input, listener) {
             Ok(true) => {}
             Ok(false) => return Ok(()),
             Err(fault) => return Err(fault),

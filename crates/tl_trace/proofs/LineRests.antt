@@ -1,8 +1,11 @@
 -- The lines of beats, each behind a head that another line may have, too.
 use Rattle.tl_trace.proofs.Names.{◌≡◌, ◌≤◌, ◌<◌, ◌+◌, ◌++◌, ℕ, Bool, true, false, not, Result, Ok, Err, List, [], ◌∷◌, length, take, get_or, refl}
 use Rattle.tl_trace.proofs.Names.{sym, ap, ◌∙◌, arith, append_assoc, append-nil, length-append, is_err, OnOk, OnErr, flat_map, false≢true}
-use Rattle.tl_trace.proofs.Names.{flat_map-append, take_more, take_all, take-append-le, length-take-le, BeatOf, Field, Form, digit_count, length_of}
+use Rattle.tl_trace.proofs.Names.{flat_map-append, take-take, take_more, take_all, take-append-le, length-take-le, BeatOf, Field, Form, digit_count}
+use Rattle.tl_trace.proofs.Names.{length_of}
 use Rattle.tl_trace.proofs.Names.{value_of, hex, head_text, line_text, beats_text, newline, head_length}
+use Rattle.tl_trace.proofs.Names.{◌-◌, drop, drop_all, drop-append_seam, take-append_seam}
+use borrow.Rule.Slice.PartMut.{put_mid}
 use Rattle.tl_trace.specs.Inner.LineRests.{mask_text, data_text, rest_text}
 use Rattle.tl_trace.proofs.HexText.{length-hex}
 use Rattle.tl_trace.proofs.LineText.{line_parts}
@@ -21,6 +24,36 @@ head_long {H} f h = let more = long f.head_fields in omega (arith, more)
 
 pub head_end : {H : Type 0} (f : Form H) (h : H) (line : List ℕ) (end : ℕ) → end ≤ length line → take end line ≡ head_text f h → end ≡ head_length f
 head_end f h line end within is = sym (length-take-le end line within) ∙ ap length is ∙ head_long f h
+
+-- the front of a line that is cut behind its rest
+pub front : (at rest : ℕ) (line : List ℕ) → take at (take (at + rest + 1) line) ≡ take at line
+front at rest line = take-take at (at + rest + 1) line (omega arith)
+
+-- where it was appended
+pub put_place : (s old cut : List ℕ) (start : ℕ) → s ≡ old ++ cut → start ≡ length old → start ≤ length s
+put_place s old cut start same here = omega (arith, ap length same, length-append old cut, here)
+
+-- a line put over the other one that was appended
+pub put_behind : (s old cut new rest : List ℕ) (start at end : ℕ) → s ≡ old ++ cut → start ≡ length old
+    → length new ≡ length (take (length s - start) (drop start s)) → length cut ≤ end
+    → take end new ≡ take at (take (length s - start) (drop start s)) ++ rest
+    → put_mid start (length s - start) s new ≡ old ++ (take at cut ++ rest)
+put_behind s old cut new rest start at end same here size past is =
+    let n = length s - start in
+    let behind : drop start s ≡ cut = ap (drop start) same ∙ ap (λ k. drop k (old ++ cut)) here ∙ drop-append_seam old cut in
+    let long : n ≡ length cut = omega (arith, ap length same, length-append old cut, here) in
+    let mid : take n (drop start s) ≡ cut = ap (take n) behind ∙ take_all n cut (omega (arith, long)) in
+    let after : drop n (drop start s) ≡ [] = ap (drop n) behind ∙ drop_all n cut (omega (arith, long)) in
+    let before : take start s ≡ old = ap (take start) same ∙ ap (λ k. take k (old ++ cut)) here ∙ take-append_seam old cut in
+    let whole : new ≡ take at cut ++ rest =
+    sym (take_all end new (omega (arith, size, ap length mid, past))) ∙ is ∙ ap (λ x. take at x ++ rest) mid in
+    ap (λ x. x ++ (new ++ drop n (drop start s))) before ∙ ap (λ x. old ++ (new ++ x)) after ∙ ap (λ x. old ++ x) (append-nil new ∙ whole)
+
+-- another head ends where the one before it did
+pub other_head : {H : Type 0} (f : Form H) (h next : H) (line new : List ℕ) (at end : ℕ) → at ≤ length line → take at line ≡ head_text f h
+    → end ≤ length new → take end new ≡ head_text f next → take at new ≡ head_text f next
+other_head f h next line new at end within is within' is' =
+    ap (λ k. take k new) (head_end f h line at within is ∙ sym (head_end f next new end within' is')) ∙ is'
 
 -- heads of which it is not true that they differ
 pub not_other : (same : Bool) → false ≡ not same → same ≡ true
@@ -52,6 +85,11 @@ module _ {H : Type 0} (f : Form H) {n : ℕ} (w : ℕ) where
     front = ap (take start) same ∙ take_all start old (omega (arith, here));
     made = same ∙ sym (append-nil old);
   }
+
+  -- of no beats no line
+  pub none_written : (old : List ℕ) (beats : List (BeatOf H n)) → length beats ≤ 0 → old ≡ old ++ beats_text f w beats
+  none_written old [] none = sym (append-nil old)
+  none_written old (b ∷ bs) none = absurd (omega (arith, none))
 
   -- one line more
   pub appended_more : (old out new line : List ℕ) (beats : List (BeatOf H n)) (start i : ℕ) (b : BeatOf H n) → i < length beats

@@ -3,6 +3,7 @@ use Rattle.tl_trace.proofs.Names.{◌≡◌, ℕ, ◌≤◌, ◌+◌, ◌*◌, �
 use Rattle.tl_trace.proofs.Names.{append_assoc, append-nil}
 use Rattle.tl_trace.proofs.Names.{if◌then◌else◌, flat_map, BeatOf, Field, Form, mask, data_lanes, corrupt, bit, digit_count, value_of, fields}
 use Rattle.tl_trace.proofs.Names.{number_of_lanes, hex, head_text, line_text, flat_map-append}
+use mir.Val.{bool_byte}
 
 one_part : (g : Field → List ℕ) (m : Bool) (x : Field) → flat_map g (cond m (x ∷ []) []) ≡ cond m (g x) []
 one_part g true x = append-nil (g x)
@@ -89,3 +90,8 @@ data_put before lanes v c t1 t2 same first second =
 pub three_put : (a b c d t1 t2 t3 : List ℕ) → t1 ≡ a ++ b → t2 ≡ t1 ++ c → t3 ≡ t2 ++ d → t3 ≡ a ++ (b ++ c ++ d)
 three_put a b c d t1 t2 t3 first second third =
     third ∙ ap (λ (xs : List ℕ). xs ++ d) (second ∙ ap (λ (xs : List ℕ). xs ++ c) first ∙ append_assoc a b c) ∙ append_assoc a (b ++ c) d
+
+-- a flag as a byte
+pub bit_byte : (flag : Bool) → bool_byte flag ≡ bit flag
+bit_byte true = refl
+bit_byte false = refl

@@ -4,7 +4,10 @@ use Rattle.tl_trace.proofs.Names.{Option, Some, Result, Ok, Err, sym, ap, ◌∙
 use Rattle.tl_trace.proofs.Names.{slice_range, option_to_list, form_a, form_b, form_c, form_d, form_e, Form, IsLinePushed, IsNextPushed, IsSameScript}
 use Rattle.tl_trace.proofs.Names.{IsPushed, IsReadLine, Script, WIDEST, Line, BeatOf, HeadA, HeadB, HeadC, HeadD, HeadE, Vec, refl, subst}
 use Rattle.tl_trace.proofs.Names.{IsSameAt, PushedLines, ArePushed, AreLinesPushed, AreBehind, AreNextPushed}
+use Rattle.tl_trace.proofs.Names.{head_length, HasHead}
 use Rattle.std.proofs.Common.{Global}
+use Rattle.tl_trace.specs.Inner.Reading.{CanPush}
+use Rattle.tl_trace.proofs.KnownHeads.{head_there}
 use Rattle.tl_trace.specs.declared.line.Line.TheVariants as lines
 use Rattle.tl_trace.proofs.Narrow.{wide, near_a, near_b, near_c, near_d, near_e}
 
@@ -18,9 +21,14 @@ pub was_kept : {A E X : Type 0} (r : Result A E) (now put before : X) → is_err
 was_kept (Ok v) now put before went is = absurd cc
 was_kept (Err x) now put before went is = is
 
--- a place as far behind another as there is room
-pub inside : (at long n : ℕ) → long < n - at → at + long < n
-inside at long n less = omega arith
+-- the places of a line that begins at one and has a head and so many bytes behind it
+pub line_places : (at rest_at head rest n : ℕ) → rest_at ≡ 1 + head → rest_at + rest < n - at →
+    (1 ≤ rest_at + rest) × (1 + head ≤ rest_at + rest) × (at + (rest_at + rest) ≤ n) × (at < at + (rest_at + rest)) × (at + (rest_at + rest) < n)
+line_places at rest_at head rest n some less = (omega arith, omega arith, omega arith, omega arith, omega arith)
+
+-- what stands behind a head is within its line
+pub rest_room : (at m d r n : ℕ) → r ≡ m + d → n ≡ at + r → at + (m + d) ≤ n
+rest_room at m d r n parts long = omega arith
 
 -- the first byte of a line, which has one
 pub first_in : (text : List ℕ) (at long : ℕ) → 1 ≤ long → at < length text
@@ -36,6 +44,19 @@ pub same_first : (text : List ℕ) (at before n : ℕ) → 1 ≤ n → before < 
 same_first text at before n some less is =
     sym (first_in text at n some (omega (arith, is.within))) ∙ ap (λ (xs : List ℕ). slice_index xs 0) is.same ∙ first_in text before n some less
 
+-- the next line, whose head has the text of the one from `at` on
+pub next_line : {H : Type 0} (f : Form H) (version w : ℕ) (text : List ℕ) (place at len : ℕ) (h : H) → len ≡ head_length f
+    → IsSameAt text place at len → CanPush f w text at → HasHead f version (slice_range text at (at + head_length f)) h
+    → CanPush f w text place × HasHead f version (slice_range text place (place + head_length f)) h
+next_line f version w text place at len h long same can has = (
+  record {
+    width = can.width;
+    inside = omega (arith, long, same.within);
+    letter = same_first text place at len (omega (arith, long)) can.inside same ∙ can.letter;
+  },
+  head_there f version text place at len h long same.same has,
+)
+
 pub at_most : (w : ℕ) → w ≤ w
 at_most w = omega arith
 
@@ -49,6 +70,11 @@ put_wide : {X : Type 0} (before : List X) {after : List X} {b : X} {o : Option X
 put_wide {X} before {after} {b} {o} same is = is ∙ ap (λ (p : Option X). before ++ option_to_list p) same
 
 -- ---- lines of one channel
+
+-- before the first of them
+pub no_line_yet : {H Z : Type 0} (f : Form H) (w : ℕ) (text : List ℕ) (at : ℕ) (list : Vec (BeatOf H w) Z)
+    → AreLinesPushed f w text at list list (record { count = 0; place = at })
+no_line_yet f w text at list = record { ends = []; count = refl; few = omega arith; pushed = (refl, refl) }
 
 module _ {H Z : Type 0} (f : Form H) (w : ℕ) (text : List ℕ) (at : ℕ) (before now after : Vec (BeatOf H w) Z) where
   same_put : (ends : List ℕ) (place : ℕ) → after.items ≡ now.items → ArePushed f w text at before now ends place

@@ -1,5 +1,7 @@
 -- Reading beats by channel: what has been read, and one step more.
-use Rattle.tl_trace.proofs.Names.{◌≡◌, ℕ, ◌+◌, ◌<◌, false, Result, Ok, Err, arith, List, [], ◌∷◌, ◌++◌, length, drop, take, get_or, subst, Option}
+use Rattle.std.specs.Prelude.{IfErr}
+use Rattle.tl_trace.proofs.Names.{◌≡◌, ℕ, ◌+◌, ◌<◌, true, false, Result, Ok, Err, arith, List, [], ◌∷◌, ◌++◌, length, drop, take, get_or, subst}
+use Rattle.tl_trace.proofs.Names.{Option}
 use Rattle.tl_trace.proofs.Names.{None, Some, refl, sym, ap, ◌∙◌, append_assoc, take_more, filter_map, cons_option, slice_range, option_to_list}
 use Rattle.tl_trace.proofs.Names.{is_err, OnOk, Gone, IsScriptOf, IsRestOf, beat_of_a, beat_of_b, beat_of_c, beat_of_d, beat_of_e, IsPushed, LineAt}
 use Rattle.tl_trace.proofs.Names.{Line, Script, newline, is_newline, body, cases_eq, or_parts, list_any, inl, inr}
@@ -58,6 +60,11 @@ script_more {C} {M} xs lines i d s s' lt same far put =
 pub on_ok : {A E : Type 0} {P : Type 0} (r : Result A E) → OnOk r P → is_err r ≡ false → P
 on_ok (Ok v) p e = p
 on_ok (Err x) p e = absurd cc
+
+-- and where it does
+pub on_err : {A E : Type 0} {P : Type 0} (r : Result A E) → IfErr r (λ _. P) → is_err r ≡ true → P
+on_err (Ok v) p e = absurd cc
+on_err (Err x) p e = p
 
 body_more : (line more : List ℕ) → IsFree line → body (line ++ newline ++ more) ≡ line
 body_more [] more free = refl

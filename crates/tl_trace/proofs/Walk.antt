@@ -27,6 +27,22 @@ form_no_memory f w text = firsts_no_memory (length text == line_length f w) (is_
 channel_no_memory : NoMemory (Some Channel)
 channel_no_memory kind is memory = absurd cc
 
+-- nor is a missing end, or a first line that is no header
+pub end_no_memory : NoEnd ≢ OutOfMemory
+end_no_memory is = absurd cc
+
+pub header_no_memory : kinds.Header ≢ OutOfMemory
+header_no_memory is = absurd cc
+
+-- what has a fault has one
+pub some_fault : {F : Type 0} {fault : F} → Some fault ≢ None
+some_fault is = absurd cc
+
+-- what is not empty has a byte
+pub some_byte : (n : ℕ) → (n == 0) ≡ false → 0 < n
+some_byte zero none = absurd cc
+some_byte (suc n) none = omega arith
+
 five_no_memory : (a b c d e : Bool) (fa fb fc fd fe : Option TraceKind) → NoMemory fa → NoMemory fb → NoMemory fc → NoMemory fd → NoMemory fe
     → NoMemory (cond a fa (cond b fb (cond c fc (cond d fd (cond e fe (Some Channel))))))
 five_no_memory true b c d e fa fb fc fd fe na nb nc nd ne = na

@@ -344,6 +344,13 @@ impl<const C: usize, const M: usize> ScriptReader<C, M> {
     }
 }
 
+/// What a header says of the version and the widths that it names.
+#[inline(always)]
+fn known_header<const C: usize, const M: usize>(_text: &[u8], _version: u8)
+    requires { HasHeader _text.now _version C M }
+    ensures { CanRead _version C M }
+{}
+
 /// Reads a text whose first line names this version and these widths, from its lines straight into the lists of a script,
 /// with no trace between them. The script is that of the trace that the text tells; a fault is what `read` says it is.
 pub fn read_script<const C: usize, const M: usize>(
@@ -363,6 +370,7 @@ pub fn read_script<const C: usize, const M: usize>(
             kind: TraceKind::NoEnd,
         });
     }
+    known_header::<C, M>(text, version);
     let later = &text[end + 1..];
     let mut reader = ScriptReader::<C, M>::new(alloc, version);
     let used = match reader.read(later) {

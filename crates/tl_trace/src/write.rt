@@ -106,24 +106,44 @@ fn fill_other_head<K: HeadText>(line: &mut Room, head: &K::Head, version: u8) ->
     K::fill_head(line, head, version)
 }
 
-/// Appends the line of a beat, by way of another line with the same head, which ends at this place. What is written here
-/// in small pieces is not read back: the other line is read alone, and stays as it is.
+/// Has the line, whose head ends at this place, begin with the next head.
+#[inline(always)]
+fn change_head<K: HeadText>(
+    line: &mut Room,
+    at: usize,
+    head: &mut K::Head,
+    next: &K::Head,
+    version: u8,
+)
+    requires { (at ≤ LONGEST_HEAD) × (take at line.old ≡ head_text (K.form version) head.old) }
+    ensures head { head.new ≡ next.now }
+    ensures items { take at line.new ≡ head_text (K.form version) head.new }
+{
+    if *next != *head {
+        *head = *next;
+        fill_other_head::<K>(line, head, version);
+    }
+}
+
+/// Appends the line of a beat, by way of another line of its channel with the same head, which ends at this place. What
+/// is written here in small pieces is not read back: the other line is read alone, and stays as it is.
 #[inline(always)]
 fn append_line<H, const W: usize>(
     out: &mut Vec<u8>,
-    other: &[u8],
+    other: &Room,
     at: usize,
     beat: &BeatOf<H, W>,
     masked: bool,
     has_data: bool,
 ) -> Result<(), OutOfMemory>
-    requires { (W ≤ WIDEST) × (length other.now ≡ at + rest_length masked has_data W) }
+    requires { IsWidth W × (at ≤ LONGEST_HEAD) }
     ensures ok { OnOk result (out.new.items ≡
         out.old.items ++ (take at other.now ++ rest_text masked has_data W beat.now)) }
     ensures err { OnErr result (out.new.items ≡ out.old.items) }
 {
     let start = out.len();
-    if out.extend_from_slice(other).is_err() {
+    let len = at + rest_len(masked, has_data, W) + 1;
+    if out.extend_from_slice(&other[..len]).is_err() {
         return Err(OutOfMemory);
     }
     fill_rest(
@@ -163,11 +183,8 @@ fn write_lines<K: HeadText, const W: usize>(
         return Err(OutOfMemory);
     }
     for beat in beats {
-        if beat.head != head {
-            head = beat.head;
-            fill_other_head::<K>(&mut line, &head, version);
-        }
-        if append_line(out, &line[..len], at, beat, masked, has_data).is_err() {
+        change_head::<K>(&mut line, at, &mut head, &beat.head, version);
+        if append_line(out, &line, at, beat, masked, has_data).is_err() {
             out.truncate(start);
             return Err(OutOfMemory);
         }

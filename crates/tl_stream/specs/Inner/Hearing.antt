@@ -1,11 +1,18 @@
 -- A listener while a text is read. Only private contracts cite these words.
-use Rattle.std.specs.Prelude.{ℕ, List, Option, Result, Ok, Err}
+use Rattle.std.specs.Prelude.{ℕ, Bool, List, Option, Result, Ok, Err}
 use Rattle.tl_trace.specs.Scripts.{Gone}
 use Rattle.tl_trace.specs.declared.script.Script.{Script}
+use Rattle.tl_trace.specs.declared.script_reader.ScriptReader.{ScriptReader}
+use Rattle.tl_stream.specs.Inner.Lines.{HasReadHeld}
 use Rattle.tl_stream.specs.Inputs.{IsRefused}
 use Rattle.tl_stream.specs.Listening.{IsReadThrough}
 use Rattle.tl_stream.specs.declared.fault.TextFault.{TextFault}
 use Rattle.tl_stream.specs.declared.input.Input.{Input}
+
+-- a listener can hear what is read of the lines that the input holds
+abbrev pub CanHear : {L : Type 0} {C M : ℕ} (Listens : ℕ → L → Gone C M → Script C M → Type 0) → ScriptReader C M → Input → L → Type 0
+CanHear {L} {C} {M} Listens lines input listener = (lines' : ScriptReader C M) (input' : Input) (more : Bool) →
+    HasReadHeld lines input lines' input' more → (version : ℕ) × (gone : Gone C M) × Listens version listener gone lines'.script
 
 -- what comes of the reading of a text that a listener hears
 abbrev pub ReadsThrough : {L : Type 0} {C M : ℕ} (Listens : L → Gone C M → Script C M → Type 0) (unread left : Option (List ℕ)) (version : ℕ)

@@ -4,18 +4,20 @@ use Rattle.tl_lanes.specs.Lanes.{IsWidth}
 use Rattle.tl_trace.specs.Faults.{HasHeader}
 use Rattle.tl_trace.specs.Scripts.{Gone, HasGrown, HasRead, HasReadPast, IsHeaderLine, IsUnfinished, none_gone}
 use Rattle.tl_trace.specs.Texts.{is_version}
+use Rattle.tl_trace.specs.declared.script.Script.{Script}
 use Rattle.tl_trace.specs.declared.script_reader.ScriptReader.{ScriptReader}
 use Rattle.tl_stream.specs.Inputs.{HasTaken, IsFresh, IsRefused, held, unread_of}
+use Rattle.tl_stream.specs.Listening.{IsNew}
 use Rattle.tl_stream.specs.declared.fault.TextFault.{TextFault}
 use Rattle.tl_stream.specs.declared.input.Input.{Input}
 
--- the input holds the front of a text whose header names the version and the widths, and no line was read yet
-pub record IsBeginning {C M : ℕ} (left : Option (List ℕ)) (input : Input) (lines : ScriptReader C M) : Type 0 where
-  pub client : IsWidth C
-  pub manager : IsWidth M
-  pub fresh : IsFresh left input
-  pub header : HasHeader (held input) lines.version C M
-  pub none : (text : List ℕ) → IsHeaderLine text lines.version C M → HasRead lines.version text lines.script lines.line
+-- the input holds the front of a text whose header names the version and the widths, and no line was read or heard yet; each part stands
+-- as the caller knows it, so that it is found there
+abbrev pub IsBeginning : {L : Type 0} {C M : ℕ} (Listens : ℕ → L → Gone C M → Script C M → Type 0) (left : Option (List ℕ)) (input : Input)
+    (lines : ScriptReader C M) (listener : L) → Type 0
+IsBeginning {L} {C} {M} Listens left input lines listener =
+    (version : ℕ) × (lines.version ≡ version) × IsFresh left input × HasHeader (held input) version C M × IsNew (Listens version) listener ×
+    ((text : List ℕ) → IsHeaderLine text version C M → HasRead version text lines.script lines.line)
 
 -- the lines that were read are what was used of the text, and these beats have gone
 pub record IsBetweenPast {C M : ℕ} (gone : Gone C M) (unread left : Option (List ℕ)) (lines : ScriptReader C M) (input : Input) : Type 0 where

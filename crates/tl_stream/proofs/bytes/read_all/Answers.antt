@@ -1,5 +1,5 @@
 use Rattle.tl_stream.proofs.Names.{refl}
-use Rattle.tl_stream.proofs.Filling.{named-fault, no-fault}
+use Rattle.tl_stream.proofs.Filling.{memory-not-long, named-fault, no-fault}
 use Rattle.tl_stream.proofs.Reading.{all_of, not-read-kinds}
 use Rattle.tl_stream.specs.Inner.Reading.{IsNotRead}
 use Rattle.tl_stream.proofs.bytes.read_all.Goals as goal
@@ -19,4 +19,4 @@ returns g c = record {
 }
 
 pub returns-in_default : goal.returns-in_default
-returns-in_default g c = record { all = tt; few = tt; end = tt; long = λ e. absurd cc; kinds = λ no long. refl }
+returns-in_default g c = record { all = tt; few = tt; end = tt; long = memory-not-long; kinds = λ no long. refl }

@@ -1,5 +1,6 @@
 use Rattle.tl_stream.proofs.Names.{◌≢◌, ◌++◌, ◌∙◌, false, true, length, refl, arith, ap, subst, sym, list_any, is_newline, width_bounds}
 use Rattle.tl_stream.proofs.Names.{lit<, is_version, IsFirstFault, IsRefused, held}
+use Rattle.std.proofs.lemmas.Bool.{false≢true}
 use Rattle.tl_stream.proofs.Between.{any_refused, between_read, has_read, inside_held, of_text, of_whole, unfinished}
 use Rattle.tl_stream.proofs.ToRead.{unlike}
 use Rattle.tl_stream.proofs.later_lines.read_held.Goals as goal
@@ -28,27 +29,7 @@ returns-then-is_full g c =
     let r = c.in-Ok.ensures in
     let inside = inside_held input c.held.result.now c.in-Ok.used c.held.ensures c.requires.from c.requires.to r.used in
     has_read input c.advance.new.self c.in-Ok.used e.from e.to e.buffer e.total inside c.args.lines.now c.read.new.self c.held.result.now
-    c.held.ensures r.version r.told true (r.grown refl) r.rest (sym c.if-is_full.true ∙ c.is_full.ensures) (λ e. absurd cc)
-
-pub end_fault-requires : goal.end_fault-requires
-end_fault-requires g c =
-    let r = c.in-Ok.ensures in
-    let input = c.args.input.now in
-    let e = c.advance.ensures in
-    let inside = inside_held input c.held.result.now c.in-Ok.used c.held.ensures c.requires.from c.requires.to r.used in
-    let rest = unfinished input c.advance.new.self c.in-Ok.used e.from e.to e.buffer e.total inside c.held.result.now c.held.ensures r.rest in (
-      lit< tt,
-      (
-        ap is_version r.version ∙ c.requires.version,
-        (
-          (width_bounds _ c.requires.client).1,
-          (
-            (width_bounds _ c.requires.manager).1,
-            (omega (arith, r.lines, r.used, ap length c.held.ensures, c.requires.few), ap (list_any is_newline) c.held-2.ensures ∙ rest.free),
-          ),
-        ),
-      ),
-    )
+    c.held.ensures r.version r.told true (r.grown refl) r.rest (sym c.if-is_full.true ∙ c.is_full.ensures) (λ e. absurd (false≢true (sym e)))
 
 pub returns-in-Some : goal.returns-in-Some
 returns-in-Some g c = λ unread left gone before.
@@ -76,3 +57,29 @@ returns-in-None g c =
     has_read input c.advance.new.self c.in-Ok.used e.from e.to e.buffer e.total inside c.args.lines.now c.read.new.self c.held.result.now
     c.held.ensures r.version r.told false (r.grown refl) r.rest (sym c.if-is_full.false ∙ c.is_full.ensures)
     (λ e. sym c.held-2.ensures ∙ c.in-None.ensures.none refl)
+
+pub held-requires-2 : goal.held-requires-2
+held-requires-2 g c =
+    let e = c.advance.ensures in
+    let inside = inside_held c.args.input.now c.held.result.now c.in-Ok.used c.held.ensures c.requires.from c.requires.to c.in-Ok.ensures.used in
+    record { from = omega (arith, e.from, e.to, inside); to = omega (arith, e.to, ap length e.buffer, c.requires.to) }
+
+pub end_fault-requires : goal.end_fault-requires
+end_fault-requires g c =
+    let r = c.in-Ok.ensures in
+    let input = c.args.input.now in
+    let e = c.advance.ensures in
+    let inside = inside_held input c.held.result.now c.in-Ok.used c.held.ensures c.requires.from c.requires.to r.used in
+    let rest = unfinished input c.advance.new.self c.in-Ok.used e.from e.to e.buffer e.total inside c.held.result.now c.held.ensures r.rest in (
+      lit< tt,
+      (
+        ap is_version r.version ∙ c.requires.version,
+        (
+          (width_bounds _ c.requires.client).1,
+          (
+            (width_bounds _ c.requires.manager).1,
+            (omega (arith, r.lines, r.used, ap length c.held.ensures, c.requires.few), ap (list_any is_newline) c.held-2.ensures ∙ rest.free),
+          ),
+        ),
+      ),
+    )

@@ -1,5 +1,6 @@
 use Rattle.tl_stream.proofs.Names.{◌+◌, ◌≤◌, ◌<◌, ap, arith, length, []}
 use Rattle.tl_trace.specs.Inner.Reading.{LineAt}
+use Rattle.tl_trace.proofs.Walk.{end_no_memory}
 use Rattle.tl_stream.proofs.Between.{inside_held}
 use Rattle.tl_stream.proofs.ToRead.{header_unended, header_used}
 use Rattle.tl_stream.proofs.later_lines.use_header.Goals as goal
@@ -11,7 +12,7 @@ returns-then-end-held c left version client manager fresh named =
     let line : LineAt bytes 0 c.line_end-end.result = record { from = e.from; to = e.to; free = e.free; stop = e.end } in
     let past : length bytes ≤ c.line_end-end.result = omega (arith, c.if-end-held.true, ap length c.held-held.ensures) in (
       ([], fresh.taken),
-      λ p. absurd cc,
+      end_no_memory,
       header_unended left c.args.input.now version client manager c.line_end-end.result bytes c.held-held.ensures fresh named line past,
     )
 

@@ -1,6 +1,5 @@
-use Rattle.tl_trace.proofs.Names.{◌∙◌, arith}
+use Rattle.tl_trace.proofs.Names.{arith}
 use Rattle.tl_trace.proofs.KnownHeads.{known_of, same_head, read_head}
-use Rattle.tl_trace.proofs.ReadDigits.{range_long}
 use Rattle.tl_trace.proofs.known_head.head_at.Goals as goal
 
 pub goes_on_as-requires : goal.goes_on_as-requires
@@ -21,11 +20,6 @@ returns-then-goes_on_as g c =
 
 pub slice_bounds-new_head-end : goal.slice_bounds-new_head-end
 slice_bounds-new_head-end g c = omega (arith, c.requires.room, c.head_end-len.ensures.end)
-
-pub new_head-requires : goal.new_head-requires
-new_head-requires g c =
-    range_long c.args.text.now c.args.at c.head_end-len.result (omega (arith, c.requires.room, c.head_end-len.ensures.end))
-    ∙ c.head_end-len.ensures.end
 
 pub returns : goal.returns
 returns g c =

@@ -1,9 +1,5 @@
-use Rattle.tl_trace.proofs.Ids.{four_digits}
 use Rattle.tl_trace.proofs.KnownHeads.{new_head}
 use Rattle.tl_trace.proofs.known_head.new_head.Goals as goal
-
-pub head_of-requires : goal.head_of-requires
-head_of-requires g c = four_digits g.row.VERSION c.read_head-fields.result (c.read_head-fields.ensures.small c.if-fields-gt15.false)
 
 pub returns : goal.returns
 returns g c =

@@ -6,18 +6,6 @@ use Rattle.tl_trace.proofs.KnownHeads.{beat_is}
 use Rattle.tl_trace.proofs.LineParts.{line_size, no_head, no_range, no_shape, out_fields, was_read}
 use Rattle.tl_trace.proofs.line_reader.read_beat.Goals as goal
 
-pub read_head-fields-requires : goal.read_head-fields-requires
-read_head-fields-requires g c = omega (arith, c.head_end-rest_at.ensures.end, c.if-text-rest_at.false)
-
-pub read_rest-rest-requires : goal.read_rest-rest-requires
-read_rest-rest-requires g c = record {
-  width = c.requires.width;
-  most = c.requires.most;
-  room = omega (arith, c.rest_len.ensures.long, c.if-text-rest_at.false);
-  bytes = zero_are g.row.N;
-  zero = zero_number g.row.N;
-}
-
 pub returns-then-fields-rest-gt15 : goal.returns-then-fields-rest-gt15
 returns-then-fields-rest-gt15 g c =
     let f = g.K.HeadText.form g.row.VERSION in
@@ -26,10 +14,6 @@ returns-then-fields-rest-gt15 g c =
     let line = was_read f _ _ _ _ has_mask has_datas (g.met.K.ReadHead.head_alone g.row.VERSION) c.head_end-rest_at.ensures.end
     c.rest_len.ensures.long c.if-text-rest_at.false c.read_head-fields.ensures c.read_rest-rest.ensures in
     no_shape f line c.if-fields-rest-gt15.true
-
-pub head_of-requires : goal.head_of-requires
-head_of-requires g c =
-    four_digits g.row.VERSION c.read_head-fields.result (c.read_head-fields.ensures.small (left_good _ _ c.if-fields-rest-gt15.false))
 
 pub returns-in_default : goal.returns-in_default
 returns-in_default g c =
@@ -78,3 +62,16 @@ returns-then-text-rest_at g c =
     let size = line_size f c.args.w _ _ _ _ has_mask has_datas (g.met.K.ReadHead.head_alone g.row.VERSION) c.head_end-rest_at.ensures.end
     c.rest_len.ensures.long in
     wrong_length f c.args.w c.args.text.now (λ is. c.if-text-rest_at.true (is ∙ sym size))
+
+pub head_of-requires : goal.head_of-requires
+head_of-requires g c =
+    four_digits g.row.VERSION c.read_head-fields.result (c.read_head-fields.ensures.small (left_good _ _ c.if-fields-rest-gt15.false))
+
+pub read_rest-rest-requires : goal.read_rest-rest-requires
+read_rest-rest-requires g c = record {
+  width = c.requires.width;
+  most = c.requires.most;
+  room = omega (arith, c.rest_len.ensures.long, c.if-text-rest_at.false);
+  bytes = zero_are g.row.N;
+  zero = zero_number g.row.N;
+}

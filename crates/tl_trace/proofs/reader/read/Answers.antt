@@ -1,7 +1,7 @@
 use Rattle.tl_trace.proofs.Names.{LineAt, ◌<◌, ◌≡◌, ◌+◌, ◌++◌, List, ℕ, Some, length, drop, arith, ap, ◌∙◌, slice_range, newline, header_of}
 use Rattle.tl_trace.proofs.Headers.{known, is_header, from_start}
 use Rattle.tl_trace.proofs.Widths.{width_most}
-use Rattle.tl_trace.proofs.Walk.{no_header, no_header_end, header_faults, split_line}
+use Rattle.tl_trace.proofs.Walk.{end_no_memory, header_no_memory, no_header, no_header_end, header_faults, split_line}
 use Rattle.tl_trace.proofs.reader.read.Goals as goal
 
 pub returns-in_default : goal.returns-in_default
@@ -11,7 +11,7 @@ returns-in_default c =
     record {
       told = tt;
       fault = λ _. no_header c.args.text.now c.line_end-end.result line (from_start c.args.text.now c.line_end-end.result _ c.in_default.ensures);
-      memory = λ is. absurd (cc);
+      memory = λ is. absurd (header_no_memory is);
     }
 
 pub returns-then-end-text : goal.returns-then-end-text
@@ -22,7 +22,7 @@ returns-then-end-text c =
       told = tt;
       fault = λ _. no_header_end c.args.text.now c.line_end-end.result c.in-Some.header line
           (from_start c.args.text.now c.line_end-end.result _ c.in-Some.ensures) (omega (arith, c.line_end-end.ensures.to, c.if-end-text.true));
-      memory = λ is. absurd (cc);
+      memory = λ is. absurd (end_no_memory is);
     }
 
 pub read_lines-requires-clause-can : goal.read_lines-requires-clause-can

@@ -2,7 +2,7 @@ use Rattle.tl_trace.proofs.Names.{◌+◌, ◌<◌, ◌≡◌, false, length, ar
 use Rattle.tl_trace.proofs.Names.{drop, ◌-◌, take_all, length-drop, TellsLines}
 use Rattle.tl_trace.proofs.NextLine.{was_put}
 use Rattle.tl_trace.proofs.ReadLines.{SoFar}
-use Rattle.tl_trace.proofs.Walk.{no_memory, refused, no_end, unstored, advance}
+use Rattle.tl_trace.proofs.Walk.{no_memory, end_no_memory, refused, no_end, unstored, advance}
 use Rattle.tl_trace.proofs.reader.read_lines.Goals as goal
 
 pub returns-in-Err : goal.returns-in-Err
@@ -25,7 +25,7 @@ returns-then-end-text c =
     let line : LineAt c.args.text.now c.loop-at.at c.line_end-end.result = record { from = e.from; to = e.to; free = e.free; stop = e.end } in (
       λ _. no_end c.args.text.now c.args.start h.version h.client h.manager c.loop-at.lines.items c.loop-at.at c.loop-at.before c.line_end-end.result
           c.in-Ok.beat c.loop-at.invariant line c.loop-at-test.true c.in-Ok.ensures c.if-end-text.true,
-      λ is. absurd cc,
+      λ is. absurd (end_no_memory is),
     )
 
 pub returns-then-is_err : goal.returns-then-is_err

@@ -1,4 +1,4 @@
-use Rattle.tl_trace.proofs.Names.{◌≡◌, ◌≤◌, ◌∙◌, ℕ, List, length, take, lit<, sym, take_all, width_bounds, IsScriptOf, Line, Script}
+use Rattle.tl_trace.proofs.Names.{◌≡◌, ◌≤◌, ◌∙◌, ℕ, List, length, take, lit<, sym, take_all, IsScriptOf, Line, Script}
 use Rattle.tl_trace.proofs.ReadBeats.{script_more, on_ok}
 use Rattle.tl_trace.proofs.script.script_of.Goals as goal
 
@@ -15,9 +15,6 @@ loop-line-preserved g c =
 
 pub empty_script-script-requires : goal.empty_script-script-requires
 empty_script-script-requires g c = lit< tt
-
-pub push_beat_of-requires : goal.push_beat_of-requires
-push_beat_of-requires g c = (lit< tt, ((width_bounds g.row.C c.requires.client_width).1, (width_bounds g.row.M c.requires.manager_width).1))
 
 pub returns : goal.returns
 returns g c =

@@ -1,21 +1,12 @@
-use Rattle.tl_trace.proofs.Names.{◌∙◌, arith}
-use Rattle.tl_trace.proofs.KnownHeads.{head_there}
-use Rattle.tl_trace.proofs.NextLine.{same_first, none_more, one_more_line}
+use Rattle.tl_trace.proofs.Names.{◌+◌, arith}
+use Rattle.tl_trace.proofs.NextLine.{next_line, no_line_yet, none_more, one_more_line}
 use Rattle.tl_trace.proofs.script_reader.push_lines.Goals as goal
 
-pub push_line-requires : goal.push_line-requires
-push_line-requires g c =
-    let f = g.K.HeadText.form g.row.VERSION in
-    let same = c.lines.invariant.1 in
-    let some = c.head_end-len.ensures.end in
-    let first = same_first c.args.text.now c.lines.lines.place c.args.at c.head_end-len.result (omega (arith, some)) c.requires.0.inside same in (
-      c.requires-raw.1.1.1.1.0,
-      (
-        record { width = c.requires.0.width; inside = omega (arith, some, same.within); letter = first ∙ c.requires.0.letter },
-        head_there f g.row.VERSION c.args.text.now c.lines.lines.place c.args.at c.head_end-len.result c.in-Some.head some same.same
-            c.in-Some.ensures.head,
-      ),
-    )
+pub lines-init : goal.lines-init
+lines-init g c = (
+  no_line_yet (g.K.HeadText.form g.row.VERSION) g.row.W c.args.text.now c.args.at c.args.list.now,
+  (c.requires.0, c.in-Some.ensures.head),
+)
 
 pub returns-in_default-push_line : goal.returns-in_default-push_line
 returns-in_default-push_line g c = record {
@@ -35,5 +26,24 @@ pub lines-preserved : goal.lines-preserved
 lines-preserved g c = (
   one_more_line (g.K.HeadText.form g.row.VERSION) g.row.W c.args.text.now c.args.at c.args.list.now c.lines.list c.push_line.new.list
       c.lines.lines.count c.lines.lines.place c.in-Some-push_line.end c.lines.invariant.0 c.in-Some-push_line.ensures,
-  c.goes_on_as.ensures c.if-not-goes_on_as.false,
+  next_line (g.K.HeadText.form g.row.VERSION) g.row.VERSION g.row.W c.args.text.now (c.in-Some-push_line.end + 1) c.args.at c.head_end-len.result
+      c.in-Some.head c.head_end-len.ensures.end (c.goes_on_as.ensures c.if-not-goes_on_as.false) c.requires.0 c.in-Some.ensures.head,
 )
+
+pub lines-smaller : goal.lines-smaller
+lines-smaller g c = omega (arith, c.in-Some-push_line.ensures.from, c.in-Some-push_line.ensures.to)
+
+pub overflow_add-lines : goal.overflow_add-lines
+overflow_add-lines g c = omega (arith, c.lines.invariant.0.few, c.in-Some-push_line.ensures.from, c.in-Some-push_line.ensures.to)
+
+pub returns-in_default : goal.returns-in_default
+returns-in_default g c = record {
+  pushed = no_line_yet (g.K.HeadText.form g.row.VERSION) g.row.W c.args.text.now c.args.at c.args.list.now;
+  known = c.in_default.ensures.known;
+}
+
+pub returns-then-no_room : goal.returns-then-no_room
+returns-then-no_room g c = record {
+  pushed = no_line_yet (g.K.HeadText.form g.row.VERSION) g.row.W c.args.text.now c.args.at c.args.list.now;
+  known = c.requires.1;
+}

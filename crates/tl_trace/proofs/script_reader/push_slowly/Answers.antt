@@ -1,11 +1,12 @@
-use Rattle.tl_trace.proofs.Names.{◌≡◌, ◌≤◌, ◌<◌, ◌-◌, false, length, lit<, refl, sym, arith, ◌∙◌, slice_range, is_err, LineAt, LONGEST_LINE}
-use Rattle.tl_trace.proofs.Names.{IsFaultyAt, IsReadableAt, rules}
-use Rattle.tl_trace.proofs.ReadBeats.{on_ok}
+use Rattle.tl_trace.proofs.Names.{◌≡◌, ◌≤◌, ◌<◌, ◌-◌, false, length, refl, sym, subst, arith, ◌∙◌, slice_range, is_err, LineAt, LONGEST_LINE}
+use Rattle.tl_trace.proofs.Names.{IsFaultyAt, IsReadableAt, IsSameScript}
+use Rattle.tl_trace.proofs.ReadBeats.{on_ok, on_err}
 use Rattle.tl_trace.proofs.Walk.{no_memory}
 use Rattle.tl_trace.proofs.Pieces.{left, ends_inside}
 use Rattle.tl_trace.proofs.script_reader.push_slowly.Goals as goal
 use Rattle.tl_trace.proofs.script_reader.push_slowly.Goals.{else-end-piece-via-then-end-piece+else-end-at-lt-LONGEST_LINE}
 use Rattle.tl_trace.proofs.script_reader.push_slowly.Goals.{else-end-piece-via-else-end-piece}
+use Rattle.tl_trace.proofs.script_reader.push_slowly.Goals.{then-no_room-via-then-no_room, then-no_room-via-else-no_room+then-is_err}
 
 pub returns-then-end-at-lt-LONGEST_LINE : goal.returns-then-end-at-lt-LONGEST_LINE
 returns-then-end-at-lt-LONGEST_LINE g c =
@@ -54,7 +55,14 @@ returns-then-no_room g c =
           c.requires.0.manager line long c.in-Ok.ensures;
       read = c.in-Ok.ensures;
     } in
-    ((λ other. absurd (other refl), λ _. read), search rules)
+    let same : IsSameScript c.args.script.now c.then-no_room.script =
+    elim c.then-no_room.branch [
+      | then-no_room-via-then-no_room w ↦ subst (IsSameScript c.args.script.now) (sym w.script-is)
+          (record { a = refl; b = refl; c = refl; d = refl; e = refl })
+      | then-no_room-via-else-no_room+then-is_err w ↦ subst (IsSameScript c.args.script.now) (sym w.script-is)
+          (on_err w.push_beat_of.result w.push_beat_of.ensures.kept (sym w.is_err.ensures.value ∙ w.if-is_err.true))
+    ] in
+    ((λ other. absurd (other refl), λ _. read), same)
 
 pub returns : goal.returns
 returns g c =
@@ -77,6 +85,3 @@ returns g c =
       read = c.in-Ok.ensures;
       put = on_ok c.push_beat_of.result c.push_beat_of.ensures.pushed went;
     }
-
-pub push_beat_of-requires : goal.push_beat_of-requires
-push_beat_of-requires g c = (lit< tt, (c.requires.0.client, c.requires.0.manager))

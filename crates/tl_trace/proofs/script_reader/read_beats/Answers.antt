@@ -1,4 +1,4 @@
-use Rattle.tl_trace.proofs.Names.{arith, lit<, refl}
+use Rattle.tl_trace.proofs.Names.{arith, refl}
 use Rattle.tl_trace.proofs.NextLine.{no_lines}
 use Rattle.tl_trace.proofs.Pieces.{starts, walks_quick, walks_lines, waits, left_none, ends, stops, named_by}
 use Rattle.tl_trace.proofs.script_reader.read_beats.Goals as goal
@@ -46,12 +46,6 @@ loop-at-smaller-then-lines-gt0 g c = omega (arith, c.loop-at-test.true, c.if-lin
 
 pub loop-at-smaller : goal.loop-at-smaller
 loop-at-smaller g c = let put = rw c.in-Ok-Some.field-0-is at c.in-Ok-Some.ensures in omega (arith, put.from, put.to)
-
-pub push_next-lines-requires : goal.push_next-lines-requires
-push_next-lines-requires g c = (lit< tt, (c.requires.0, c.loop-at-test.true, c.loop-at.invariant.2))
-
-pub push_slowly-requires : goal.push_slowly-requires
-push_slowly-requires g c = (lit< tt, (c.requires.0, c.loop-at-test.true))
 
 pub fault_behind-requires : goal.fault_behind-requires
 fault_behind-requires g c = omega (arith, c.requires.1, c.loop-at.invariant.1.few, c.loop-at-test.true)

@@ -1,9 +1,8 @@
-use Rattle.tl_trace.proofs.Names.{◌≡◌, ◌+◌, ◌-◌, ◌++◌, ◌∙◌, [], true, false, Some, length, drop, take, arith, rules, refl, subst, sym, ap, take_rest}
-use Rattle.tl_trace.proofs.Names.{list_any, slice_range, HasRead, none_gone, is_version, is_newline, header_of, body, IsFirstFault, IsReadableTo}
+use Rattle.tl_trace.proofs.Names.{◌≡◌, ◌+◌, ◌-◌, ◌++◌, ◌∙◌, [], Some, length, drop, take, arith, refl, subst, sym, ap, take_rest}
+use Rattle.tl_trace.proofs.Names.{slice_range, HasRead, none_gone, header_of, IsFirstFault, IsReadableTo}
 use Rattle.tl_trace.proofs.Names.{LineAt}
-use Rattle.tl_trace.proofs.Headers.{header, known}
-use Rattle.tl_trace.proofs.Widths.{width_most}
-use Rattle.tl_trace.proofs.Walk.{no_header_end}
+use Rattle.tl_trace.proofs.Headers.{header}
+use Rattle.tl_trace.proofs.Walk.{end_no_memory, no_header_end}
 use Rattle.tl_trace.proofs.ReadBeats.{first_line}
 use Rattle.tl_trace.proofs.Pieces.{header_line, whole_text, parted_text, used_text, tells_script}
 use Rattle.tl_trace.proofs.script_reader.read_script.Goals as goal
@@ -18,14 +17,8 @@ returns-then-end-text g c =
       told = tt;
       fault = λ _. no_header_end c.args.text.now c.line_end-end.result (header c.args.version g.row.C g.row.M) line some
           (omega (arith, e.to, c.if-end-text.true));
-      memory = λ is. absurd (cc);
+      memory = λ is. absurd (end_no_memory is);
     }
-
-pub read-requires : goal.read-requires
-read-requires g c =
-    let all = known (body c.args.text.now) (header c.args.version g.row.C g.row.M) c.requires.header in
-    let version : is_version c.new-reader.result.version ≡ true = subst (λ v. is_version v ≡ true) (sym c.new-reader.ensures.version) all.0 in
-    (search rules, (version, (width_most c.args.version g.row.C all.1, (width_most c.args.version g.row.M all.2, search rules))))
 
 pub returns-in-Err : goal.returns-in-Err
 returns-in-Err g c =
@@ -44,16 +37,6 @@ returns-in-Err g c =
           (c.in-Err.ensures.fault (take n text) [] none_gone read other);
       memory = λ is. subst (λ t. IsReadableTo t c.in-Err.fault.line) whole (c.in-Err.ensures.memory (take n text) [] none_gone read is);
     }
-
-pub end_fault-requires : goal.end_fault-requires
-end_fault-requires g c =
-    let all = known (body c.args.text.now) (header c.args.version g.row.C g.row.M) c.requires.header in
-    let version : is_version c.read.new.self.version ≡ true =
-    subst (λ v. is_version v ≡ true) (sym (c.in-Ok.ensures.version ∙ c.new-reader.ensures.version)) all.0 in
-    let later = take (length c.args.text.now - (c.line_end-end.result + 1)) (drop (c.line_end-end.result + 1) c.args.text.now) in
-    let free : list_any is_newline (take (length later - c.in-Ok.used) (drop c.in-Ok.used later)) ≡ false =
-    ap (list_any is_newline) (take_rest later c.in-Ok.used) ∙ c.in-Ok.ensures.rest.free in
-    (search rules, (version, (width_most c.args.version g.row.C all.1, (width_most c.args.version g.row.M all.2, (search rules, free)))))
 
 pub returns-in-Some : goal.returns-in-Some
 returns-in-Some g c =

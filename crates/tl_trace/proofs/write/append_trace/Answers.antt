@@ -1,4 +1,4 @@
-use Rattle.tl_trace.proofs.Names.{◌∙◌}
+use Rattle.tl_trace.proofs.Names.{◌∙◌, arith, length-take-le}
 use Rattle.tl_trace.proofs.TraceLines.{written_none, written_more, written_all}
 use Rattle.tl_trace.proofs.Widths.{width_most}
 use Rattle.tl_trace.proofs.write.append_trace.Goals as goal
@@ -31,3 +31,14 @@ returns c =
     written_all c.args.trace.now.version c.args.trace.now.client c.args.trace.now.manager c.args.trace.now.lines.items c.deref-line-items.result.now
     c.loop-line.out.items c.loop-line.line-index
     c.deref-line-items.ensures.value c.loop-line-test.false c.loop-line.invariant
+
+pub slice_bounds-extend_from_slice-end : goal.slice_bounds-extend_from_slice-end
+slice_bounds-extend_from_slice-end c =
+    omega (
+      arith,
+      length-take-le c.fill_line_of-end.result c.fill_line_of-end.new.room (omega (
+        arith,
+        c.fill_line_of-end.array_long,
+        c.fill_line_of-end.ensures.end,
+      )),
+    )

@@ -1,5 +1,5 @@
-use Rattle.tl_trace.proofs.Names.{Bool, ap, arith, bit, rules}
-use Rattle.tl_trace.proofs.LineText.{a_part, no_part, data_put, three_put}
+use Rattle.tl_trace.proofs.Names.{Bool, ap, arith, bit}
+use Rattle.tl_trace.proofs.LineText.{a_part, bit_byte, no_part, data_put, three_put}
 use Rattle.tl_trace.specs.Inner.LineRests.{data_length}
 use Rattle.tl_trace.proofs.write.fill_rest.Goals as goal
 
@@ -39,7 +39,7 @@ returns g c =
     let behind = ap (λ (t : Bool). data_length t c.args.w) c.if-not-has_data.false in
     record {
       items = three_put _ _ _ _ _ _ _ c.fill_mask-mask.ensures.items
-          (a_part _ _ _ _ c.if-not-has_data.false (data_put _ _ _ (bit c.args.beat.now.corrupt) _ _ (search rules)
+          (a_part _ _ _ _ c.if-not-has_data.false (data_put _ _ _ (bit c.args.beat.now.corrupt) _ _ (bit_byte c.args.beat.now.corrupt)
           c.fill_lanes-lanes.ensures.items c.fill_field-data.ensures.items))
           c.fill-2.ensures.items;
       end = omega (

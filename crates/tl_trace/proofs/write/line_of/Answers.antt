@@ -1,6 +1,7 @@
-use Rattle.tl_trace.proofs.Names.{width_bounds}
-use Rattle.tl_trace.proofs.NextLine.{at_most}
+use Rattle.tl_trace.proofs.Names.{arith, length-take-le}
 use Rattle.tl_trace.proofs.write.line_of.Goals as goal
 
-pub fill_line-end-requires : goal.fill_line-end-requires
-fill_line-end-requires g c = (c.requires-raw.1.1.1.0, ((width_bounds g.row.W c.requires).1, at_most g.row.W))
+pub slice_bounds-put-end : goal.slice_bounds-put-end
+slice_bounds-put-end g c =
+    omega (arith, length-take-le c.fill_line-end.result c.fill_line-end.new.line
+    (omega (arith, c.fill_line-end.array_long, c.fill_line-end.ensures.end)))

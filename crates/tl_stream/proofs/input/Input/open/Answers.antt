@@ -1,6 +1,6 @@
 use Rattle.tl_stream.proofs.Names.{◌∙◌, ap, arith, length, refl, sym, with_items_is}
 use Rattle.std.specs.Vec.{with_items}
-use Rattle.tl_stream.proofs.Filling.{named-fault, no-fault, opened, opened-long, read-kinds}
+use Rattle.tl_stream.proofs.Filling.{memory-not-long, named-fault, no-fault, opened, opened-long, read-kinds}
 use Rattle.tl_stream.specs.Inner.Filling.{IsReadFault}
 use Rattle.tl_stream.proofs.input.Input.open.Goals as goal
 
@@ -28,4 +28,4 @@ returns-in-Err g c = record {
 }
 
 pub returns-in_default : goal.returns-in_default
-returns-in_default g c = record { ok = tt; first = tt; long = λ e. absurd cc; kinds = λ no long. refl }
+returns-in_default g c = record { ok = tt; first = tt; long = memory-not-long; kinds = λ no long. refl }
