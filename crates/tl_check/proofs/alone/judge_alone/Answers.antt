@@ -6,25 +6,6 @@ use Rattle.tl_check.proofs.Passing.{alone-all, alone-stops}
 use Rattle.tl_check.proofs.Sizes.{progress-fits}
 use Rattle.tl_check.proofs.alone.judge_alone.Goals as goal
 
-pub check-requires : goal.check-requires
-check-requires g c = (tracker-fits (lone g.row.K-Head.mir) (layout g.row.K-Head) g.met.K.Channel.head_small, (search rules, c.requires.0))
-
-pub accept-requires : goal.accept-requires
-accept-requires g c =
-    let progress = c.beats.progress in
-    let here = c.beats.invariant.within in
-    let next = read_some c.args.beats.now (progress.at - c.args.gone) c.in-Some.beat.now c.in-Some.ensures.lookup.0 c.in-Some.ensures.lookup.1 in
-    let within = slice_get_within c.args.beats.now (progress.at - c.args.gone) c.in-Some.beat.now next in (
-      progress-fits (lone g.row.K-Head.mir) (layout g.row.K-Head) g.met.K.Channel.head_small,
-      (
-        c.requires.0,
-        c.requires.1,
-        c.in-Ok.ensures.place,
-        low c.args.gone progress.at progress.far (length c.args.beats.now) here within,
-        here.few_far,
-      ),
-    )
-
 pub beats-init : goal.beats-init
 beats-init g c = record { within = c.requires.2; come = λ bs part was. was }
 

@@ -11,14 +11,6 @@ passes-init g c = record {
   both = λ near back part_a part_d was_a was_d start. start;
 }
 
-pub offer_requests-a_stops-requires : goal.offer_requests-a_stops-requires
-offer_requests-a_stops-requires g c =
-    (lit< tt, (lit< tt, (beat_small g.row.C c.requires.0, (lit< tt, (c.requires.0, c.requires.1, c.passes.invariant.within_a)))))
-
-pub offer_responses-d_stops-requires : goal.offer_responses-d_stops-requires
-offer_responses-d_stops-requires g c =
-    (lit< tt, (lit< tt, (beat_small g.row.M c.requires.1, (lit< tt, (c.requires.0, c.requires.1, c.passes.invariant.within_d)))))
-
 pub passes-preserved : goal.passes-preserved
 passes-preserved g c =
     let here = c.passes.invariant in

@@ -10,25 +10,6 @@ use Rattle.tl_check.proofs.coupled.offer_requests.Goals as goal
 pub beats-init : goal.beats-init
 beats-init g c = record { within = c.requires.2; come = λ a part was. was; accepted = λ a d j part was start. start }
 
-pub check-requires : goal.check-requires
-check-requires g c = (lit< tt, (beat_small g.row.C c.requires.0, c.requires.0))
-
-pub accept-requires : goal.accept-requires
-accept-requires g c =
-    let asks = c.beats.asks in
-    let here = c.beats.invariant.within in
-    let held = read_some c.args.beats.now (asks.at - c.args.gone) c.in-Some.beat.now c.in-Some.ensures.lookup.0 c.in-Some.ensures.lookup.1 in
-    let within = slice_get_within c.args.beats.now (asks.at - c.args.gone) c.in-Some.beat.now held in (
-      lit< tt,
-      (
-        c.requires.0,
-        c.requires.1,
-        subst (λ q. IfOk q (IsPlace rules_a g.row.C asks.tracker)) c.in-Ok.ensures.place c.check.ensures.place,
-        low c.args.gone asks.at asks.far (length c.args.beats.now) here within,
-        here.few_far,
-      ),
-    )
-
 pub note_asks-requires : goal.note_asks-requires
 note_asks-requires g c =
     let place = subst (λ q. IfOk q (IsPlace rules_a g.row.C c.beats.asks.tracker)) c.in-Ok.ensures.place c.check.ensures.place in

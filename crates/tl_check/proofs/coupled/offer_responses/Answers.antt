@@ -10,25 +10,6 @@ use Rattle.tl_check.proofs.coupled.offer_responses.Goals as goal
 pub beats-init : goal.beats-init
 beats-init g c = record { within = c.requires.2; on = omega arith; come = λ d part was. was; accepted = λ a d i part was start. start }
 
-pub check-requires : goal.check-requires
-check-requires g c = (lit< tt, (beat_small g.row.M c.requires.1, c.requires.1))
-
-pub accept-requires : goal.accept-requires
-accept-requires g c =
-    let answers = c.beats.answers in
-    let here = c.beats.invariant.within in
-    let held = read_some c.args.beats.now (answers.at - c.args.gone) c.in-Some.beat.now c.in-Some.ensures.lookup.0 c.in-Some.ensures.lookup.1 in
-    let within = slice_get_within c.args.beats.now (answers.at - c.args.gone) c.in-Some.beat.now held in (
-      lit< tt,
-      (
-        c.requires.1,
-        c.requires.0,
-        subst (λ q. IfOk q (IsPlace rules_d g.row.M answers.tracker)) c.in-Ok.ensures.place c.check.ensures.place,
-        low c.args.gone answers.at answers.far (length c.args.beats.now) here within,
-        here.few_far,
-      ),
-    )
-
 pub note_answers-requires : goal.note_answers-requires
 note_answers-requires g c =
     let place = subst (λ q. IfOk q (IsPlace rules_d g.row.M c.beats.answers.tracker)) c.in-Ok.ensures.place c.check.ensures.place in

@@ -24,6 +24,3 @@ returns g c = λ no_data.
 
 pub active-requires-clause-small : goal.active-requires-clause-small
 active-requires-clause-small g c = same-small c.size.result (g.K.Channel.rules.size c.args.head) c.size.ensures c.requires.1
-
-pub push-requires : goal.push-requires
-push-requires g c = (c.requires-raw.1.1.1.0, omega (arith, ap length c.requires.2))

@@ -1,11 +1,6 @@
 use Rattle.tl_ring.proofs.EndSteps.{still_pair_after, producer_twice, consumer_twice, all_places}
 use Rattle.tl_ring.proofs.halves.look.Goals as goal
 
-pub slots_beside-requires-2 : goal.slots_beside-requires-2
-slots_beside-requires-2 g c =
-    let one = c.slots_beside in
-    still_pair_after c.args.producer.now one.new.self c.args.consumer.now one.new.consumer c.requires one.ensures.looked one.ensures.consumer
-
 pub returns : goal.returns
 returns g c =
     let one = c.slots_beside in

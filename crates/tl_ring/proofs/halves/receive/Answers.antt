@@ -10,9 +10,6 @@ use Rattle.tl_ring.specs.contracts.halves.Intake as intake
 use Rattle.tl_ring.proofs.FieldSizes.{part_small, beat_in_queue}
 use Rattle.tl_ring.proofs.halves.receive.Goals as goal
 
-pub len-room-requires : goal.len-room-requires
-len-room-requires g c = c.requires-raw.1.1.1.1.1
-
 pub overflow_sub-room : goal.overflow_sub-room
 overflow_sub-room g c = c.len-room.ensures.most
 

@@ -7,12 +7,6 @@ use Rattle.tl_ring.specs.contracts.outbox.Outbox.{the_row}
 use Rattle.tl_ring.proofs.FieldSizes.{part_small, beat_in_queue}
 use Rattle.tl_ring.proofs.halves.send_staged.Goals as goal
 
-pub push_queue-requires : goal.push_queue-requires
-push_queue-requires g c =
-    let row = layout (the_row (param 0 g.row.K) (param 1 (number g.row.W)) (param 2 (number g.row.V)) (copied 4 g.row.K-Head)
-    g.K.Channel g.K.Head.PartialEq g.K.Head.Default) in
-    (part_small row 1 9223372036854775808 c.requires-raw.1.1.1.1.1.0, c.outbox.invariant)
-
 pub invariant_of-outbox : goal.invariant_of-outbox
 invariant_of-outbox g c =
     rw c.push_queue.ensures.queue (All-drop (λ b. IsLawfulBeat g.K.Channel.rules b) c.push_queue.result _ c.outbox.invariant)

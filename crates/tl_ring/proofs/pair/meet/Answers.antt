@@ -8,9 +8,6 @@ use Rattle.tl_ring.specs.contracts.ends.TakeEnd as take
 use Rattle.tl_ring.proofs.FieldSizes.{part_small, inner_small, beat_in_queue}
 use Rattle.tl_ring.proofs.pair.meet.Goals as goal
 
-pub look-in_ring-requires : goal.look-in_ring-requires
-look-in_ring-requires g c = rw (← c.send.view_is, ← c.take.view_is) at c.requires
-
 pub look-in_ring-requires-room-P-Protocol : goal.look-in_ring-requires-room-P-Protocol
 look-in_ring-requires-room-P-Protocol g c κs within = omega arith
 

@@ -5,11 +5,6 @@ use Rattle.tl_ring.specs.contracts.inbox.Inbox.{the_row}
 use Rattle.tl_ring.proofs.FieldSizes.{part_small, beat_in_queue}
 use Rattle.tl_ring.proofs.ring.fetch.Goals as goal
 
-pub read_queue-requires : goal.read_queue-requires
-read_queue-requires g c =
-    let row = layout (the_row (param 0 g.row.K) (param 1 (number g.row.V)) (copied 2 g.row.K-Head) g.K.Channel g.K.Head.PartialEq g.K.Head.Default) in
-    part_small row 0 9223372036854775808 c.requires-raw.1.1.1.1.1
-
 pub read_queue-requires-room-T-Clone : goal.read_queue-requires-room-T-Clone
 read_queue-requires-room-T-Clone g c κs within =
     let row = layout (the_row (param 0 g.row.K) (param 1 (number g.row.V)) (copied 2 g.row.K-Head) g.K.Channel g.K.Head.PartialEq g.K.Head.Default) in

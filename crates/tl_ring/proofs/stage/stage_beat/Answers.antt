@@ -5,9 +5,6 @@ use Rattle.tl_ring.specs.contracts.queue.Queue.{the_row}
 use Rattle.tl_ring.proofs.FieldSizes.{part_small}
 use Rattle.tl_ring.proofs.stage.stage_beat.Goals as goal
 
-pub ranges_of_beat-requires : goal.ranges_of_beat-requires
-ranges_of_beat-requires g c = c.requires-raw.1.1.1.1.1.0
-
 pub remove_all-requires-room-T-Clone : goal.remove_all-requires-room-T-Clone
 remove_all-requires-room-T-Clone g c κs within = c.requires-raw.1.1.1.1.1.1.1.0
 

@@ -3,21 +3,6 @@ use Rattle.tl_burst.proofs.Steps.{count-of, last-tells}
 use Rattle.tl_burst.proofs.FaultsExact.{ChannelLaws, laws-of, faults-exact, admitted-none, none-lawful, none-held}
 use Rattle.tl_burst.proofs.tracker.Tracker.check.Goals as goal
 
-pub place-requires : goal.place-requires
-place-requires g c =
-    let laws : ChannelLaws g.K.Channel.rules = laws-of g.met.K.Channel.same_heads g.met.K.Channel.same_is
-    g.met.K.Channel.small g.met.K.Channel.partial_carries g.met.K.Channel.masked_address g.met.K.Channel.home_kept in
-    let none : fault_in g.K.Channel.rules c.args.self.now c.args.beat.now ≡ None = sym c.first_fault.ensures.fault ∙ c.in-None.is in (
-      c.requires-raw.1.1.1.0,
-      (
-        c.requires,
-        (
-          none-lawful g.K.Channel.rules g.row.W c.requires laws c.args.self.now c.args.beat.now c.first_fault.ensures.begun none,
-          none-held g.K.Channel.rules g.row.W c.requires laws c.args.self.now c.args.beat.now none,
-        ),
-      ),
-    )
-
 pub returns-in-Some : goal.returns-in-Some
 returns-in-Some g c =
     let laws : ChannelLaws g.K.Channel.rules = laws-of g.met.K.Channel.same_heads g.met.K.Channel.same_is

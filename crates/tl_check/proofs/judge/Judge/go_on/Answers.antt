@@ -3,11 +3,6 @@ use Rattle.tl_run.specs.Parts.{HaveGone}
 use Rattle.tl_check.proofs.Parts.{between, within}
 use Rattle.tl_check.proofs.judge.Judge.go_on.Goals as goal
 
-pub let_leave-requires : goal.let_leave-requires
-let_leave-requires g c =
-    let w = c.go_through.ensures.within in
-    (lit< tt, record { a = between w.a; b = between w.b; c = between w.c; d = between w.d; e = between w.e })
-
 pub returns : goal.returns
 returns g c =
     let through = c.go_through.ensures in

@@ -23,10 +23,6 @@ returns-clause-come g c = λ bs b come next head fine handed.
     c.requires.0 c.requires.1 head fine handed c.requires.2 c.far_beats_between-given.ensures.gives
     (c.advance.ensures.stands (take self.at bs) b come.burst_is (sym head))
 
-pub advance-requires : goal.advance-requires
-advance-requires g c =
-    (tracker-fits (lone g.row.K-Head.mir) (layout g.row.K-Head) g.met.K.Channel.head_small, (c.requires.0, c.requires.2))
-
 pub returns-clause-few_far : goal.returns-clause-few_far
 returns-clause-few_far g c = omega (arith, c.requires.4, c.far_beats_between-given.ensures.few)
 

@@ -18,9 +18,6 @@ slots_after-in_ring-requires-room-P-Protocol-2 g c =
     (copied 4 g.row.K-Head) g.K.Channel g.K.Head.Clone g.K.Head.Eq g.K.Head.PartialEq g.K.Head.Default
     g.A.Allocator)) 0 0 9223372036854775808 c.requires-raw.1.1.1.1.1.0)
 
-pub slots_after-in_ring-requires : goal.slots_after-in_ring-requires
-slots_after-in_ring-requires g c = rw (← c.receipt.view_is, ← c.self.view_is) at c.requires
-
 pub len-waiting-requires : goal.len-waiting-requires
 len-waiting-requires g c =
     part_small (layout (the_row (param 0 g.row.K) (param 1 (number g.row.W)) (param 2 (number g.row.V)) (param 3 g.row.A)

@@ -8,14 +8,6 @@ pub len-count-requires : goal.len-count-requires
 len-count-requires g c = part_small (layout (the_row (param 0 g.row.K) (param 1 (number g.row.V)) (copied 2 g.row.K-Head) g.K.Channel
     g.K.Head.PartialEq g.K.Head.Default)) 0 9223372036854775808 c.requires-raw.1.1.1
 
-pub drop_front-requires : goal.drop_front-requires
-drop_front-requires g c = (
-  part_small (layout
-      (the_row (param 0 g.row.K) (param 1 (number g.row.V)) (copied 2 g.row.K-Head) g.K.Channel g.K.Head.PartialEq g.K.Head.Default)) 0
-      9223372036854775808 c.requires-raw.1.1.1,
-  omega (arith, c.len-count.ensures.value),
-)
-
 pub invariant_of-self : goal.invariant_of-self
 invariant_of-self g c =
     rw c.drop_front.ensures (All-drop (λ b. IsLawfulBeat g.K.Channel.rules b) c.len-count.result c.self.inside.queue c.self.invariant)

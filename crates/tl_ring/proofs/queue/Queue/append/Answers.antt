@@ -16,12 +16,6 @@ cut_front-requires g c = (
   c.self.invariant,
 )
 
-pub push-requires : goal.push-requires
-push-requires g c = (
-  part_small (layout (the_row (copied 0 g.row.T))) 0 9223372036854775808 c.requires-raw.1.0,
-  search rules,
-)
-
 pub try_extend_from_slice-requires : goal.try_extend_from_slice-requires
 try_extend_from_slice-requires g c =
     part_small (layout (the_row (copied 0 g.row.T))) 0 9223372036854775808 c.requires-raw.1.0

@@ -16,6 +16,3 @@ returns-clause-most g c = (c.staged.ensures.most, c.len.ensures.most)
 -- the outbox and the inbox fit in memory, as the caller's do
 pub staged-requires : goal.staged-requires
 staged-requires g c = c.requires-raw.1.1.1.1.0
-
-pub len-requires : goal.len-requires
-len-requires g c = c.requires-raw.1.1.1.1.1

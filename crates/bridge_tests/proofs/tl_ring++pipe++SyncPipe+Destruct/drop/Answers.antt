@@ -1,0 +1,14 @@
+use denote.Param.{layout, param, number, copied}
+use Rattle.tl_ring.specs.contracts.pipe.SyncPipe.{the_row}
+use Rattle.tl_ring.proofs.FieldSizes.{part_small}
+use Rattle.bridge_tests.proofs.tl_ring++pipe++SyncPipe+Destruct.drop.Goals as goal
+
+pub drop-requires : goal.drop-requires
+drop-requires g c = part_small
+    (layout (the_row (param 0 g.row.K) (param 1 (number g.row.W)) (param 2 (number g.row.V)) (param 3 g.row.A) (copied 4 g.row.K-Head) g.K.Channel
+    g.K.Head.PartialEq g.K.Head.Default g.A.Allocator)) 0 9223372036854775808 c.requires.1.1.1.1.1
+
+pub drop-requires-2 : goal.drop-requires-2
+drop-requires-2 g c = part_small
+    (layout (the_row (param 0 g.row.K) (param 1 (number g.row.W)) (param 2 (number g.row.V)) (param 3 g.row.A) (copied 4 g.row.K-Head) g.K.Channel
+    g.K.Head.PartialEq g.K.Head.Default g.A.Allocator)) 1 9223372036854775808 c.requires.1.1.1.1.1
