@@ -1,4 +1,4 @@
-use Rattle.tl_convert.proofs.Names.{rules, ◌≡◌, ◌+◌, ◌++◌, None, Some, [], ◌∷◌, length, take, refl, sym, ap, ◌∙◌, arith, burst_after, fault_in, due}
+use Rattle.tl_convert.proofs.Names.{◌≡◌, ◌+◌, ◌++◌, None, Some, [], ◌∷◌, length, take, refl, sym, ap, ◌∙◌, arith, burst_after, fault_in, due}
 use Rattle.tl_convert.proofs.CountLoop.{one-more, accepted-next, accepted-stop, accepted-all, due-count}
 use Rattle.tl_convert.proofs.count.count_until_refused.Goals as goal
 

@@ -1,4 +1,4 @@
-use Rattle.tl_convert.proofs.Names.{◌≡◌, length, true, false, [], ◌∷◌, ◌++◌, sym, ap, subst, ◌∙◌, arith, active_mask, BeatOf, layout, of_head}
+use Rattle.tl_convert.proofs.Names.{◌≡◌, true, false, [], ◌∷◌, ◌++◌, sym, ap, subst, ◌∙◌, active_mask, BeatOf, layout, of_head}
 use Rattle.tl_convert.proofs.SingleBeat.{single-is}
 use Rattle.tl_convert.proofs.PourStep.{same-small}
 use Rattle.tl_convert.proofs.giving.give_head.Goals.{then-MASKED, else-MASKED}

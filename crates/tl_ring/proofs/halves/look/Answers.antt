@@ -1,4 +1,4 @@
-use Rattle.tl_ring.proofs.EndSteps.{still_pair_after, producer_twice, consumer_twice, all_places}
+use Rattle.tl_ring.proofs.EndSteps.{producer_twice, consumer_twice, all_places}
 use Rattle.tl_ring.proofs.halves.look.Goals as goal
 
 pub returns : goal.returns

@@ -1,6 +1,6 @@
 use Rattle.tl_burst.proofs.Names.{◌≡◌, None, Some, refl, sym, ap, ◌∙◌, fault_in, count_in, rest_of}
 use Rattle.tl_burst.proofs.Steps.{count-of, last-tells}
-use Rattle.tl_burst.proofs.FaultsExact.{ChannelLaws, laws-of, faults-exact, admitted-none, none-lawful, none-held}
+use Rattle.tl_burst.proofs.FaultsExact.{ChannelLaws, laws-of, faults-exact, admitted-none}
 use Rattle.tl_burst.proofs.tracker.Tracker.check.Goals as goal
 
 pub returns-in-Some : goal.returns-in-Some

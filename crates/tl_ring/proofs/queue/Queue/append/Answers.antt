@@ -1,4 +1,4 @@
-use Rattle.tl_ring.proofs.Names.{◌≡◌, ◌≤◌, ◌+◌, ◌++◌, ◌∷◌, [], length, drop, rules, arith, ap, ◌∙◌, drop-append-le, ROOM}
+use Rattle.tl_ring.proofs.Names.{◌≡◌, ◌≤◌, ◌+◌, ◌++◌, ◌∷◌, [], length, drop, arith, ap, ◌∙◌, drop-append-le, ROOM}
 use denote.Param.{layout, copied}
 use Rattle.tl_ring.proofs.Answered.{only_item}
 use Rattle.tl_ring.proofs.FieldSizes.{part_small}
