@@ -18,6 +18,7 @@ mod DueBounds
 pub mod ChannelOffer
 pub mod Lives
 pub mod NextOffers
+mod Saying
 pub mod Counting
 pub mod AllOk
 pub mod Emptiness

@@ -9,7 +9,7 @@ pub use Rattle.std.specs.Prelude.{IsOk, OnOk, ◌==◌, slice_get, if◌then◌e
 pub use Rattle.std.specs.Prelude.{IfOk, vec_capacity}
 pub use Rattle.tl_burst.specs.Begun.{heads, left}
 pub use Rattle.tl_burst.specs.Handing.{IsHanded, fault_after, Handed, rest_of, with_home, homes_with, ends, fault_in, burst_of}
-pub use Rattle.tl_convert.proofs.Comparisons.{equal_true, not_equal, none_past, true_equal, true_less}
+pub use Rattle.tl_convert.proofs.Comparisons.{equal_true, not_equal, none_past, there_is, true_equal, true_less}
 pub use Rattle.tl_convert.specs.Accepted.{accepted_of, accepted_after}
 pub use Rattle.tl_convert.specs.Due.{due, far_beats_of, part, due_after}
 pub use Rattle.tl_lanes.specs.Lanes.{IsWidth}

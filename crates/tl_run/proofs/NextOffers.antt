@@ -1,5 +1,5 @@
 -- What becomes of the next beat of a channel that a side of a run offers.
-use Rattle.tl_run.proofs.Names.{◌≡◌, ◌↔◌, ℕ, Bool, None, Some, List, [], ◌∷◌, Result, Ok, Err, refl, sym, subst, slice_get, IsTrue, IsOk, OnOk, OnErr}
+use Rattle.tl_run.proofs.Names.{◌≡◌, ◌↔◌, ℕ, None, Some, List, [], ◌∷◌, Result, Ok, Err, refl, sym, subst, slice_get, IsOk, OnOk, OnErr}
 use Rattle.tl_run.proofs.Names.{IfErr, BeatOf, SideFault, rest_of, offered, shut, Pipe, IsReady, Offering, OffersNext, SameClientEnds}
 use Rattle.tl_run.proofs.Names.{SameManagerEnds, offer_outcome, close_outcome, Offered, NotReady}
 use Rattle.tl_ring.specs.Pipe.{StandsFor}
@@ -16,23 +16,13 @@ module _ {S P H : Type 0} {w v : ℕ} (k : Offering S P H w v) (s : S) where
       subst (λ q. k.Stands s' (k.put (k.crossing x) q)) (sym (k.noted x))
       (subst (λ q. k.Stands s' q) (sym (k.kept x)) (subst (λ q. k.Stands q x) (sym same) h))
 
-  -- the side was asked whether the channel is ready, whose pipe is this one
-  pub asked : k.Same s s → (pipe : Pipe H v) → ((x : P) → k.Stands s x → StandsFor k.rules pipe (k.crossing x)) →
-      (ready : Bool) → IsTrue ready ↔ IsReady pipe →
-      (IsTrue ready → IsReady pipe) ×
-      ((IsTrue ready → ⊥) → (bs : List (BeatOf H w)) (n : ℕ) (b : BeatOf H w) → slice_get bs n ≡ Some b → OffersNext k bs n s NotReady s)
-  asked stays pipe stands ready exactly = (
-    exactly.0,
-    λ unready bs n b next. record {
-      same = stays;
-      does = λ x h. (
-        [],
-        k.crossing x,
-        still s refl x h,
-        (b, next, not_ready k.rules pipe (k.crossing x) (stands x h) (λ is. unready (exactly.1 is)), refl, refl),
-      );
-    },
-  )
+  -- the channel is not ready, whose pipe is this one
+  pub waits : k.Same s s → (pipe : Pipe H v) → ((x : P) → k.Stands s x → StandsFor k.rules pipe (k.crossing x)) → (IsReady pipe → ⊥) →
+      (bs : List (BeatOf H w)) (n : ℕ) (b : BeatOf H w) → slice_get bs n ≡ Some b → OffersNext k bs n s NotReady s
+  waits stays pipe stands unready bs n b next = record {
+    same = stays;
+    does = λ x h. ([], k.crossing x, still s refl x h, (b, next, not_ready k.rules pipe (k.crossing x) (stands x h) unready, refl, refl));
+  }
 
   -- the next beat of a list is offered
   module _ (bs : List (BeatOf H w)) (n : ℕ) (b : BeatOf H w) (next : slice_get bs n ≡ Some b) where

@@ -1,18 +1,12 @@
 -- What a channel does within a round: what is read of its list, and why a beat waits.
-use Rattle.tl_run.proofs.Names.{◌≡◌, ◌<◌, ◌⊎◌, ◌≢◌, ℕ, zero, suc, Bool, true, false, Option, Some, List, [], ◌∷◌, length, inl, inr, refl, sym, ap, ◌∙◌}
-use Rattle.tl_run.proofs.Names.{arith, slice_get_read, nat_lt, slice_get, slice_index_or, Rules, BeatOf, SideFault, World, Pipe}
+use Rattle.tl_run.proofs.Names.{◌≡◌, ◌⊎◌, ◌≢◌, ℕ, Bool, true, false, Option, Some, List, [], ◌∷◌, length, inl, inr, refl, sym, ap, ◌∙◌}
+use Rattle.tl_run.proofs.Names.{slice_get_read, nat_lt, slice_get, slice_index_or, Rules, BeatOf, SideFault, World, Pipe}
 use Rattle.tl_run.proofs.Names.{IsReady, true_less, Does, Done, Cut, Refused, Offered, Accepted, NotReady, Stopped}
 use Rattle.tl_ring.specs.Pipe.{StandsFor}
 
 -- the element at a place below a list's end
 pub read_some : {A : Type 0} (bs : List A) (n : ℕ) (b : A) → true ≡ nat_lt n (length bs) → b ≡ slice_index_or bs n b → slice_get bs n ≡ Some b
 read_some bs n b below same = slice_get_read bs (length bs) n b refl (true_less n (length bs) (sym below)) same
-
--- there is an element below a list's end
-pub next_of : {A : Type 0} (bs : List A) (n : ℕ) → n < length bs → (b : A) × (slice_get bs n ≡ Some b)
-next_of [] n below = absurd (omega (arith, below))
-next_of (b ∷ bs) zero below = (b, refl)
-next_of (b ∷ bs) (suc n) below = next_of bs n (omega (arith, below))
 
 -- a stage with a beat in it, or a channel that is closed
 staged_or_closed : {A : Type 0} (stage : List A) (closed : Bool) → ((stage ≡ []) × (closed ≡ false) → ⊥) → (stage ≢ []) ⊎ (closed ≡ true)

@@ -13,6 +13,7 @@ mod far_sink;
 mod leaving;
 mod offers;
 mod outcome;
+mod ready;
 mod rounds;
 mod streaming;
 mod sync_run;

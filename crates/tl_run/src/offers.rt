@@ -6,6 +6,10 @@ ghost use Rattle.tl_run.specs.Inner.Offering.{OffersNext, on_bridge_a, on_bridge
 ghost use Rattle.tl_run.specs.Inner.Offering.{on_side_a, on_side_b, on_side_c, on_side_d, on_side_e};
 
 use crate::channel_state::Offered;
+use crate::ready::{
+    bridge_ready_a, bridge_ready_b, bridge_ready_c, bridge_ready_d, bridge_ready_e, client_ready_a,
+    client_ready_c, client_ready_e, manager_ready_b, manager_ready_d,
+};
 use tl_msg::{BeatOf, HeadA, HeadB, HeadC, HeadD, HeadE};
 use tl_sides::{ClientSide, ManagerSide, SyncBridge};
 
@@ -16,9 +20,9 @@ macro_rules! next_offer {
         if $at >= $beats.len() {
             return Offered::from_close($side.$close());
         }
-        if !$side.$ready() {
+        let Some(()) = $ready($side) else {
             return Offered::NotReady;
-        }
+        };
         Offered::from_offer($side.$offer($beats[$at]))
     }};
 }
@@ -39,13 +43,22 @@ pub trait Offers<B> {
         ensures { Becomes beats.now at self.old result self.new };
 }
 
+// What becomes of the next beat of a list. (It takes the list itself: a caller would owe more for a slice of one.)
+#[inline(always)]
+pub(crate) fn offer_of<B, S: Offers<B>>(side: &mut S, list: &Vec<B>, at: usize) -> Offered
+    requires { S.CanOffer }
+    ensures { S.Becomes list.now.items at side.old result side.new }
+{
+    side.offer_next(list, at)
+}
+
 impl<const C: usize, const M: usize> Offers<BeatOf<HeadA, C>> for SyncBridge<C, M> {
     ghost CanOffer = { AreWidths C M };
 
     ghost Becomes = { OffersNext on_bridge_a };
 
     fn offer_next(&mut self, beats: &[BeatOf<HeadA, C>], at: usize) -> Offered {
-        next_offer!(self, beats, at, ready_a, offer_a, close_a)
+        next_offer!(self, beats, at, bridge_ready_a, offer_a, close_a)
     }
 }
 
@@ -55,7 +68,7 @@ impl<const C: usize, const M: usize> Offers<BeatOf<HeadB, M>> for SyncBridge<C, 
     ghost Becomes = { OffersNext on_bridge_b };
 
     fn offer_next(&mut self, beats: &[BeatOf<HeadB, M>], at: usize) -> Offered {
-        next_offer!(self, beats, at, ready_b, offer_b, close_b)
+        next_offer!(self, beats, at, bridge_ready_b, offer_b, close_b)
     }
 }
 
@@ -65,7 +78,7 @@ impl<const C: usize, const M: usize> Offers<BeatOf<HeadC, C>> for SyncBridge<C, 
     ghost Becomes = { OffersNext on_bridge_c };
 
     fn offer_next(&mut self, beats: &[BeatOf<HeadC, C>], at: usize) -> Offered {
-        next_offer!(self, beats, at, ready_c, offer_c, close_c)
+        next_offer!(self, beats, at, bridge_ready_c, offer_c, close_c)
     }
 }
 
@@ -75,7 +88,7 @@ impl<const C: usize, const M: usize> Offers<BeatOf<HeadD, M>> for SyncBridge<C, 
     ghost Becomes = { OffersNext on_bridge_d };
 
     fn offer_next(&mut self, beats: &[BeatOf<HeadD, M>], at: usize) -> Offered {
-        next_offer!(self, beats, at, ready_d, offer_d, close_d)
+        next_offer!(self, beats, at, bridge_ready_d, offer_d, close_d)
     }
 }
 
@@ -85,7 +98,7 @@ impl<const C: usize, const M: usize> Offers<BeatOf<HeadE, C>> for SyncBridge<C, 
     ghost Becomes = { OffersNext on_bridge_e };
 
     fn offer_next(&mut self, beats: &[BeatOf<HeadE, C>], at: usize) -> Offered {
-        next_offer!(self, beats, at, ready_e, offer_e, close_e)
+        next_offer!(self, beats, at, bridge_ready_e, offer_e, close_e)
     }
 }
 
@@ -95,7 +108,7 @@ impl<const C: usize, const M: usize> Offers<BeatOf<HeadA, C>> for ClientSide<C, 
     ghost Becomes = { OffersNext on_side_a };
 
     fn offer_next(&mut self, beats: &[BeatOf<HeadA, C>], at: usize) -> Offered {
-        next_offer!(self, beats, at, ready_a, offer_a, close_a)
+        next_offer!(self, beats, at, client_ready_a, offer_a, close_a)
     }
 }
 
@@ -105,7 +118,7 @@ impl<const C: usize, const M: usize> Offers<BeatOf<HeadC, C>> for ClientSide<C, 
     ghost Becomes = { OffersNext on_side_c };
 
     fn offer_next(&mut self, beats: &[BeatOf<HeadC, C>], at: usize) -> Offered {
-        next_offer!(self, beats, at, ready_c, offer_c, close_c)
+        next_offer!(self, beats, at, client_ready_c, offer_c, close_c)
     }
 }
 
@@ -115,7 +128,7 @@ impl<const C: usize, const M: usize> Offers<BeatOf<HeadE, C>> for ClientSide<C, 
     ghost Becomes = { OffersNext on_side_e };
 
     fn offer_next(&mut self, beats: &[BeatOf<HeadE, C>], at: usize) -> Offered {
-        next_offer!(self, beats, at, ready_e, offer_e, close_e)
+        next_offer!(self, beats, at, client_ready_e, offer_e, close_e)
     }
 }
 
@@ -125,7 +138,7 @@ impl<const C: usize, const M: usize> Offers<BeatOf<HeadB, M>> for ManagerSide<C,
     ghost Becomes = { OffersNext on_side_b };
 
     fn offer_next(&mut self, beats: &[BeatOf<HeadB, M>], at: usize) -> Offered {
-        next_offer!(self, beats, at, ready_b, offer_b, close_b)
+        next_offer!(self, beats, at, manager_ready_b, offer_b, close_b)
     }
 }
 
@@ -135,6 +148,6 @@ impl<const C: usize, const M: usize> Offers<BeatOf<HeadD, M>> for ManagerSide<C,
     ghost Becomes = { OffersNext on_side_d };
 
     fn offer_next(&mut self, beats: &[BeatOf<HeadD, M>], at: usize) -> Offered {
-        next_offer!(self, beats, at, ready_d, offer_d, close_d)
+        next_offer!(self, beats, at, manager_ready_d, offer_d, close_d)
     }
 }

@@ -10,7 +10,7 @@ ghost use Rattle.tl_run.specs.Inner.Arriving.{HasRoomFor, beats_of};
 ghost use Rattle.tl_run.specs.Inner.Running.{IsAt, lengths, IsNew, IsUnderWay, HasRound, HasEnded, AreStopped, counted, standing_count, all_standing, all_under_way, all_stopped};
 
 use crate::channel_state::{Offered, Stop, add_accepted, all_stops};
-use crate::offers::Offers;
+use crate::offers::offer_of;
 use crate::outcome::{Ending, Outcome, verdict};
 use crate::taken::{Taken, take_from_each};
 use tl_msg::Verdict;
@@ -66,11 +66,11 @@ fn round<const C: usize, const M: usize>(
 {
     // never refused: the lists have room for all that comes
     let _ = take_from_each(bridge, far);
-    let a = bridge.offer_next(&script.a, at.a);
-    let c = bridge.offer_next(&script.c, at.c);
-    let e = bridge.offer_next(&script.e, at.e);
-    let b = bridge.offer_next(&script.b, at.b);
-    let d = bridge.offer_next(&script.d, at.d);
+    let a = offer_of(bridge, &script.a, at.a);
+    let c = offer_of(bridge, &script.c, at.c);
+    let e = offer_of(bridge, &script.e, at.e);
+    let b = offer_of(bridge, &script.b, at.b);
+    let d = offer_of(bridge, &script.d, at.d);
     let offers = PerChannel { a, b, c, d, e };
     add_accepted(at, &offers);
     bridge.pump();

@@ -1,5 +1,5 @@
 //! The far beats that the two sides of a run take.
-ghost use Rattle.std.specs.Prelude.{◌≡◌, ◌≤◌, ◌+◌, ◌++◌, ℕ, length, vec_len, vec_capacity, IsOk, IfOk, OnOk};
+ghost use Rattle.std.specs.Prelude.{◌≡◌, ◌≤◌, ◌+◌, ◌++◌, ◌^◌, ℕ, length, vec_len, vec_capacity, IsOk, IfOk, OnOk};
 ghost use Rattle.tl_settle.specs.Outcomes.{Beats, far_beats};
 ghost use Rattle.tl_sides.specs.Bridges.{Past, StandsFor};
 ghost use Rattle.tl_sides.specs.ChannelCalls.{after_take_all};
@@ -8,6 +8,7 @@ ghost use Rattle.tl_run.specs.Arrivals.{Fit, joined, no_beats};
 ghost use Rattle.tl_run.specs.Scripts.{EndsIn, HasEnding, HasShortLists, near_beats};
 ghost use Rattle.tl_run.specs.Inner.Widths.{AreWidths};
 ghost use Rattle.tl_run.specs.Inner.Running.{CanAdd, added, inboxes, lengths};
+ghost use Rattle.tl_run.specs.Inner.Sizes.{BeatFits};
 ghost use Rattle.tl_run.specs.Inner.Arriving.{beats_of, HaveCapacity, HaveRoom, HasRoomFor};
 
 use crate::far_sink::FarSink;
@@ -29,16 +30,34 @@ pub struct Taken<const C: usize, const M: usize> {
     pub e: Vec<Beat<ChE, M>>,
 }
 
+// A beat of each width fits memory.
+#[inline(always)]
+fn beats_fit<const C: usize, const M: usize>()
+    requires { AreWidths C M }
+    ensures { BeatFits C × BeatFits M }
+{}
+
+// A list of at most `2^40` beats.
+#[inline(always)]
+fn short<B>(list: &Vec<B>) -> &[B]
+    requires { length list.now.items ≤ 2 ^ 40 }
+    ensures is { result.now ≡ list.now.items }
+    ensures few { length result.now ≤ 2 ^ 40 }
+{
+    list
+}
+
 // Room for all far beats of each channel that a script can make due.
 fn far_rooms<const C: usize, const M: usize>(script: &Script<C, M>) -> PerChannel<usize>
     requires { AreWidths C M × HasShortLists script.now }
     ensures { HaveRoom (near_beats script.now) result }
 {
-    let a = far_count::<ChA, C, M>(&script.a);
-    let b = far_count::<ChB, M, C>(&script.b);
-    let c = far_count::<ChC, C, M>(&script.c);
-    let d = far_count::<ChD, M, C>(&script.d);
-    let e = far_count::<ChE, C, M>(&script.e);
+    beats_fit::<C, M>();
+    let a = far_count::<ChA, C, M>(short(&script.a));
+    let b = far_count::<ChB, M, C>(short(&script.b));
+    let c = far_count::<ChC, C, M>(short(&script.c));
+    let d = far_count::<ChD, M, C>(short(&script.d));
+    let e = far_count::<ChE, C, M>(short(&script.e));
     PerChannel { a, b, c, d, e }
 }
 
@@ -161,6 +180,7 @@ pub(crate) fn take_from_each<F: FarSink<C, M>, const C: usize, const M: usize>(
     ensures same { OnOk result (F.made_with far.new ≡ F.made_with far.old) }
     ensures counted { IfOk result (λ more. more ≡ lengths (inboxes bridge.old)) }
 {
+    beats_fit::<C, M>();
     let a = bridge.inbox_a();
     let b = bridge.inbox_b();
     let c = bridge.inbox_c();

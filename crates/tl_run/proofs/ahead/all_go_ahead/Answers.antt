@@ -2,9 +2,6 @@ use Rattle.tl_run.proofs.Names.{refl, ap, beat_small, bridge_small}
 use Rattle.tl_run.proofs.Going.{gone-a, gone-b, gone-c, gone-d, gone-e}
 use Rattle.tl_run.proofs.ahead.all_go_ahead.Goals as goal
 
-pub go_ahead-b-requires : goal.go_ahead-b-requires
-go_ahead-b-requires g c = (c.requires.0, c.requires.1.b)
-
 pub go_ahead-b-requires-room-S-Offers : goal.go_ahead-b-requires-room-S-Offers
 go_ahead-b-requires-room-S-Offers g c κs = bridge_small g.row.C g.row.M c.requires.0.client c.requires.0.manager
 
@@ -16,9 +13,6 @@ go_ahead-b-requires-room-S-PassesOn g c κs = bridge_small g.row.C g.row.M c.req
 
 pub go_ahead-b-requires-room-S-PassesOn-2 : goal.go_ahead-b-requires-room-S-PassesOn-2
 go_ahead-b-requires-room-S-PassesOn-2 g c κs = beat_small g.row.M c.requires.0.manager
-
-pub go_ahead-c-requires : goal.go_ahead-c-requires
-go_ahead-c-requires g c = (c.requires.0, c.requires.1.c)
 
 pub go_ahead-c-requires-room-S-Offers : goal.go_ahead-c-requires-room-S-Offers
 go_ahead-c-requires-room-S-Offers g c κs = bridge_small g.row.C g.row.M c.requires.0.client c.requires.0.manager
@@ -32,9 +26,6 @@ go_ahead-c-requires-room-S-PassesOn g c κs = bridge_small g.row.C g.row.M c.req
 pub go_ahead-c-requires-room-S-PassesOn-2 : goal.go_ahead-c-requires-room-S-PassesOn-2
 go_ahead-c-requires-room-S-PassesOn-2 g c κs = beat_small g.row.C c.requires.0.client
 
-pub go_ahead-e-requires : goal.go_ahead-e-requires
-go_ahead-e-requires g c = (c.requires.0, c.requires.1.e)
-
 pub go_ahead-e-requires-room-S-Offers : goal.go_ahead-e-requires-room-S-Offers
 go_ahead-e-requires-room-S-Offers g c κs = bridge_small g.row.C g.row.M c.requires.0.client c.requires.0.manager
 
@@ -47,9 +38,6 @@ go_ahead-e-requires-room-S-PassesOn g c κs = bridge_small g.row.C g.row.M c.req
 pub go_ahead-e-requires-room-S-PassesOn-2 : goal.go_ahead-e-requires-room-S-PassesOn-2
 go_ahead-e-requires-room-S-PassesOn-2 g c κs = beat_small g.row.C c.requires.0.client
 
-pub go_ahead-a-requires : goal.go_ahead-a-requires
-go_ahead-a-requires g c = (c.requires.0, c.requires.1.a)
-
 pub go_ahead-a-requires-room-S-Offers : goal.go_ahead-a-requires-room-S-Offers
 go_ahead-a-requires-room-S-Offers g c κs = bridge_small g.row.C g.row.M c.requires.0.client c.requires.0.manager
 
@@ -61,9 +49,6 @@ go_ahead-a-requires-room-S-PassesOn g c κs = bridge_small g.row.C g.row.M c.req
 
 pub go_ahead-a-requires-room-S-PassesOn-2 : goal.go_ahead-a-requires-room-S-PassesOn-2
 go_ahead-a-requires-room-S-PassesOn-2 g c κs = beat_small g.row.C c.requires.0.client
-
-pub go_ahead-d-requires : goal.go_ahead-d-requires
-go_ahead-d-requires g c = (c.requires.0, c.requires.1.d)
 
 pub go_ahead-d-requires-room-S-Offers : goal.go_ahead-d-requires-room-S-Offers
 go_ahead-d-requires-room-S-Offers g c κs = bridge_small g.row.C g.row.M c.requires.0.client c.requires.0.manager

@@ -6,9 +6,6 @@ use Rattle.tl_run.proofs.ahead.go_ahead.Goals as goal
 pub beats-init : goal.beats-init
 beats-init g c = record { within = c.requires.1; goes = at_first }
 
-pub offer_next-offered-requires : goal.offer_next-offered-requires
-offer_next-offered-requires g c = c.requires.0
-
 pub deref-requires : goal.deref-requires
 deref-requires g c = λ κs lives. (lives, lives-long κs.1.1.0)
 

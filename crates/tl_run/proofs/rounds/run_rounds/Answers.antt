@@ -1,4 +1,4 @@
-use Rattle.tl_run.proofs.Names.{lit<, ◌+◌, ◌^◌, ◌<◌, ◌≤◌, refl, sym, subst, arith, zero-le, bridge_small, near_beats, beats_of, HasEnded, IsUnderWay}
+use Rattle.tl_run.proofs.Names.{◌+◌, ◌^◌, ◌<◌, ◌≤◌, refl, sym, subst, arith, zero-le, near_beats, beats_of, HasEnded, IsUnderWay}
 use Rattle.tl_run.proofs.Counting.{counts-on, nearer, one-round-more}
 use Rattle.tl_run.proofs.Ended.{progress_here, progress-ends, end-few, ended, further, starts}
 use Rattle.tl_run.proofs.rounds.run_rounds.Given.{Over}
@@ -11,15 +11,6 @@ rounds-init g c = record {
   room = c.requires.4;
   few = zero-le;
 }
-
-pub round-offers-requires : goal.round-offers-requires
-round-offers-requires g c = (
-  bridge_small g.row.C g.row.M c.requires.0.client c.requires.0.manager,
-  (lit< tt, (lit< tt, (c.requires.0, c.requires.1, c.rounds.invariant.room, c.rounds.invariant.under_way))),
-)
-
-pub stops_at_rest-requires : goal.stops_at_rest-requires
-stops_at_rest-requires g c = (bridge_small g.row.C g.row.M c.requires.0.client c.requires.0.manager, c.requires.0)
 
 pub overflow_add-rounds : goal.overflow_add-rounds
 overflow_add-rounds g c =

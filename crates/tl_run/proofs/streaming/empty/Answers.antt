@@ -1,4 +1,5 @@
-use Rattle.tl_run.proofs.Names.{◌≡◌, refl, sym, ap, subst, ◌∙◌, arith, bridge_small, after_fetch, joined, CanAdd, added, arriving, inboxes, lengths}
+use Rattle.tl_run.proofs.Names.{◌≡◌, false, IsTrue, refl, sym, ap, subst, ◌∙◌, arith, bridge_small}
+use Rattle.tl_run.proofs.Names.{after_fetch, joined, CanAdd, added, arriving, inboxes, lengths}
 use Rattle.tl_run.proofs.Ended.{all-standing-is, can-add}
 use Rattle.tl_run.proofs.Round.{inboxes-are, joined-lengths}
 use Rattle.tl_run.proofs.Pieces.{all-nearer, fetched-at, some-way, taken-at}
@@ -10,21 +11,21 @@ standings-requires g c = bridge_small g.row.C g.row.M c.requires.0.client c.requ
 pub fetch-requires : goal.fetch-requires
 fetch-requires g c = bridge_small g.row.C g.row.M c.requires.0.client c.requires.0.manager
 
-pub take_from_each-requires : goal.take_from_each-requires
-take_from_each-requires g c = (bridge_small g.row.C g.row.M c.requires.0.client c.requires.0.manager, c.requires.0)
-
 pub pump-requires : goal.pump-requires
 pump-requires g c = bridge_small g.row.C g.row.M c.requires.0.client c.requires.0.manager
 
 pub moves-init : goal.moves-init
 moves-init g c = record { sound = c.requires.1; on = λ near n few r. r; same = refl }
 
+untrue : IsTrue false → ⊥
+untrue e = cc
+
 pub moves-smaller : goal.moves-smaller
 moves-smaller g c =
     let sound = c.moves.invariant.sound in
     let stood = c.standings.ensures in
     let some = some-way c.moves.bridge c.standings.result stood.a stood.b stood.c stood.d stood.e
-    (λ none. let h = c.moves-test.ensures.1 none in cc (h)) in
+    (λ none. untrue (c.moves-test.ensures.1 none)) in
     let fetched = c.fetch.ensures.moved sound.0 sound.1 in
     let taken = c.in-Ok.ensures.taken _ fetched in
     let less = all-nearer c.moves.bridge c.fetch.new.self c.take_from_each.new.bridge c.pump.new.self sound.0 sound.1 fetched taken

@@ -1,4 +1,4 @@
-use Rattle.tl_run.proofs.Names.{lit<, near_beats, refl, ⊎_elim, inl, inr}
+use Rattle.tl_run.proofs.Names.{near_beats, refl, ⊎_elim, inl, inr}
 use Rattle.tl_run.proofs.OnlyMemory.{not-ok, only-memory, stalled-never}
 use Rattle.tl_ring.specs.declared.fault.BuildFault.TheVariants as building
 use Rattle.tl_run.proofs.sync_run.run_sync.Goals as goal
@@ -11,30 +11,10 @@ returns-then-ring-eq0 g c = record {
   never_stalled = stalled-never building.RingSize _ refl;
 }
 
-pub new-requires : goal.new-requires
-new-requires g c = (lit< tt, (lit< tt, (record { client = c.requires.client; manager = c.requires.manager }, c.requires.short)))
-
 pub returns-in_default : goal.returns-in_default
 returns-in_default g c =
     let only = only-memory _ refl c.args.ring c.if-ring-eq0.false c.if-ring-gt-MAX_RING.false in
     record { outcome = tt; size = λ ok. not-ok ok; ring_size = only.0; never_stalled = only.1 }
-
-pub run_into_lists-requires : goal.run_into_lists-requires
-run_into_lists-requires g c = (
-  lit< tt,
-  (
-    lit< tt,
-    (
-      record { client = c.requires.client; manager = c.requires.manager },
-      c.requires.short,
-      c.in-Ok.ensures.empty,
-      c.in-Ok.ensures.room,
-    ),
-  ),
-)
-
-pub outcome_at-requires : goal.outcome_at-requires
-outcome_at-requires g c = (lit< tt, (lit< tt, record { client = c.requires.client; manager = c.requires.manager }))
 
 pub returns-in-Ok-run_into_lists : goal.returns-in-Ok-run_into_lists
 returns-in-Ok-run_into_lists g c =

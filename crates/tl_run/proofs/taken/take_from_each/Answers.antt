@@ -18,15 +18,6 @@ inbox_d-d-requires g c = (bridge_small g.row.C g.row.M c.requires.client c.requi
 pub inbox_e-e-requires : goal.inbox_e-e-requires
 inbox_e-e-requires g c = (bridge_small g.row.C g.row.M c.requires.client c.requires.manager, beat_small g.row.M c.requires.manager)
 
-pub take-requires : goal.take-requires
-take-requires g c =
-    let on_c = beat_small g.row.C c.requires.client in
-    let on_m = beat_small g.row.M c.requires.manager in
-    (on_m, (on_c, (on_m, (on_c, (on_m, (c.requires.client, c.requires.manager))))))
-
-pub take_all-requires : goal.take_all-requires
-take_all-requires g c = (bridge_small g.row.C g.row.M c.requires.client c.requires.manager, (c.requires.client, c.requires.manager))
-
 pub returns-in_default : goal.returns-in_default
 returns-in_default g c =
     let same = same-beats _ (inboxes c.args.bridge.now) c.inbox_a-a.ensures c.inbox_b-b.ensures c.inbox_c-c.ensures c.inbox_d-d.ensures

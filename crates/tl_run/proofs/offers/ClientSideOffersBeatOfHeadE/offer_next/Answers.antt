@@ -1,19 +1,9 @@
-use Rattle.tl_run.proofs.Names.{refl, arith, slice_get_past, slice_get_read, sym, subst, client_small, beat_small, SameClientEnds, on_side_e}
-use Rattle.tl_run.proofs.NextOffers.{asked, answers, closes, holds-after, client-same}
-use Rattle.tl_run.proofs.OfferSteps.{next_of}
+use Rattle.tl_run.proofs.Names.{there_is, refl, arith, slice_get_past, slice_get_read, sym, subst, client_small, SameClientEnds, on_side_e}
+use Rattle.tl_run.proofs.NextOffers.{waits, answers, closes, holds-after, client-same}
 use Rattle.tl_run.proofs.offers.ClientSideOffersBeatOfHeadE.offer_next.Goals as goal
 
 pub close_e-requires : goal.close_e-requires
 close_e-requires g c = client_small g.row.C g.row.M c.requires.client c.requires.manager
-
-pub ready_e-requires : goal.ready_e-requires
-ready_e-requires g c = client_small g.row.C g.row.M c.requires.client c.requires.manager
-
-pub offer_e-requires : goal.offer_e-requires
-offer_e-requires g c = (
-  client_small g.row.C g.row.M c.requires.client c.requires.manager,
-  (beat_small g.row.C c.requires.client, (c.requires.client, (c.requires.manager, c.if-not-ready_e.ensures.0 refl))),
-)
 
 pub returns-then-at-beats : goal.returns-then-at-beats
 returns-then-at-beats g c =
@@ -22,10 +12,10 @@ returns-then-at-beats g c =
     (holds-after (SameClientEnds c.args.self.now) c.close_e.result _ _ _ said.closed said.refused (client-same _)
     (record { a = refl; b = refl; c = refl; d = refl; e = refl })) said.refused said.between said.stands)
 
-pub returns-then-not-ready_e : goal.returns-then-not-ready_e
-returns-then-not-ready_e g c =
-    (asked on_side_e c.args.self.now (client-same _) _ (λ x h. h.e.pipe) _ c.if-not-ready_e.ensures).1 (λ ready. cc) _ _ _
-    (next_of c.args.beats.now c.args.at c.if-at-beats.false).1
+pub returns-in_default : goal.returns-in_default
+returns-in_default g c =
+    waits on_side_e c.args.self.now (client-same _) _ (λ x h. h.e.pipe) c.in_default.ensures _ _ _
+    (there_is c.args.beats.now c.args.at c.if-at-beats.false).1
 
 pub bounds-beats-at : goal.bounds-beats-at
 bounds-beats-at g c = c.if-at-beats.false

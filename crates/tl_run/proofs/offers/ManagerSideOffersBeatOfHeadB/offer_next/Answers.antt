@@ -1,19 +1,9 @@
-use Rattle.tl_run.proofs.Names.{refl, arith, slice_get_past, slice_get_read, sym, subst, manager_small, beat_small, SameManagerEnds, on_side_b}
-use Rattle.tl_run.proofs.NextOffers.{asked, answers, closes, holds-after, manager-same}
-use Rattle.tl_run.proofs.OfferSteps.{next_of}
+use Rattle.tl_run.proofs.Names.{there_is, refl, arith, slice_get_past, slice_get_read, sym, subst, manager_small, SameManagerEnds, on_side_b}
+use Rattle.tl_run.proofs.NextOffers.{waits, answers, closes, holds-after, manager-same}
 use Rattle.tl_run.proofs.offers.ManagerSideOffersBeatOfHeadB.offer_next.Goals as goal
 
 pub close_b-requires : goal.close_b-requires
 close_b-requires g c = manager_small g.row.C g.row.M c.requires.client c.requires.manager
-
-pub ready_b-requires : goal.ready_b-requires
-ready_b-requires g c = manager_small g.row.C g.row.M c.requires.client c.requires.manager
-
-pub offer_b-requires : goal.offer_b-requires
-offer_b-requires g c = (
-  manager_small g.row.C g.row.M c.requires.client c.requires.manager,
-  (beat_small g.row.M c.requires.manager, (c.requires.manager, (c.requires.client, c.if-not-ready_b.ensures.0 refl))),
-)
 
 pub returns-then-at-beats : goal.returns-then-at-beats
 returns-then-at-beats g c =
@@ -22,10 +12,10 @@ returns-then-at-beats g c =
     (holds-after (SameManagerEnds c.args.self.now) c.close_b.result _ _ _ said.closed said.refused (manager-same _)
     (record { a = refl; b = refl; c = refl; d = refl; e = refl })) said.refused said.between said.stands)
 
-pub returns-then-not-ready_b : goal.returns-then-not-ready_b
-returns-then-not-ready_b g c =
-    (asked on_side_b c.args.self.now (manager-same _) _ (λ x h. h.b.pipe) _ c.if-not-ready_b.ensures).1 (λ ready. cc) _ _ _
-    (next_of c.args.beats.now c.args.at c.if-at-beats.false).1
+pub returns-in_default : goal.returns-in_default
+returns-in_default g c =
+    waits on_side_b c.args.self.now (manager-same _) _ (λ x h. h.b.pipe) c.in_default.ensures _ _ _
+    (there_is c.args.beats.now c.args.at c.if-at-beats.false).1
 
 pub bounds-beats-at : goal.bounds-beats-at
 bounds-beats-at g c = c.if-at-beats.false

@@ -1,19 +1,9 @@
-use Rattle.tl_run.proofs.Names.{refl, arith, slice_get_past, slice_get_read, bridge_small, beat_small, on_bridge_a}
-use Rattle.tl_run.proofs.NextOffers.{asked, answers, closes}
-use Rattle.tl_run.proofs.OfferSteps.{next_of}
+use Rattle.tl_run.proofs.Names.{there_is, refl, arith, slice_get_past, slice_get_read, bridge_small, on_bridge_a}
+use Rattle.tl_run.proofs.NextOffers.{waits, answers, closes}
 use Rattle.tl_run.proofs.offers.SyncBridgeOffersBeatOfHeadA.offer_next.Goals as goal
 
 pub close_a-requires : goal.close_a-requires
 close_a-requires g c = bridge_small g.row.C g.row.M c.requires.client c.requires.manager
-
-pub ready_a-requires : goal.ready_a-requires
-ready_a-requires g c = bridge_small g.row.C g.row.M c.requires.client c.requires.manager
-
-pub offer_a-requires : goal.offer_a-requires
-offer_a-requires g c = (
-  bridge_small g.row.C g.row.M c.requires.client c.requires.manager,
-  (beat_small g.row.C c.requires.client, (c.requires.client, (c.requires.manager, c.if-not-ready_a.ensures.0 refl))),
-)
 
 pub returns-then-at-beats : goal.returns-then-at-beats
 returns-then-at-beats g c =
@@ -21,10 +11,9 @@ returns-then-at-beats g c =
     rw c.from_close.ensures (closes on_bridge_a _ _ _ (slice_get_past c.args.beats.now c.args.at c.if-at-beats.true) c.close_a.result _ tt
     said.refused said.between said.stands)
 
-pub returns-then-not-ready_a : goal.returns-then-not-ready_a
-returns-then-not-ready_a g c =
-    (asked on_bridge_a c.args.self.now tt _ (λ x h. h.a) _ c.if-not-ready_a.ensures).1 (λ ready. cc) _ _ _
-    (next_of c.args.beats.now c.args.at c.if-at-beats.false).1
+pub returns-in_default : goal.returns-in_default
+returns-in_default g c =
+    waits on_bridge_a c.args.self.now tt _ (λ x h. h.a) c.in_default.ensures _ _ _ (there_is c.args.beats.now c.args.at c.if-at-beats.false).1
 
 pub bounds-beats-at : goal.bounds-beats-at
 bounds-beats-at g c = c.if-at-beats.false

@@ -1,4 +1,4 @@
-use Rattle.tl_run.proofs.Names.{lit<, subst, bridge_small}
+use Rattle.tl_run.proofs.Names.{subst, bridge_small}
 use Rattle.tl_run.proofs.EndsIn.{far-is}
 use Rattle.tl_run.proofs.Pieces.{has-ended}
 use Rattle.tl_run.proofs.streaming.SyncRun.end.Goals as goal
@@ -7,12 +7,6 @@ pub close_each-stops-requires : goal.close_each-stops-requires
 close_each-stops-requires g c = (
   bridge_small g.row.C g.row.M c.requires.client c.requires.manager,
   record { client = c.requires.client; manager = c.requires.manager },
-)
-
-pub go_through-requires : goal.go_through-requires
-go_through-requires g c = (
-  c.requires-raw.1.1.1.0,
-  (lit< tt, (record { client = c.requires.client; manager = c.requires.manager }, c.requires.held)),
 )
 
 pub returns-in_default : goal.returns-in_default

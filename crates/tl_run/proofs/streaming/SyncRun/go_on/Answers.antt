@@ -2,12 +2,6 @@ use Rattle.tl_run.proofs.Names.{lit<, subst}
 use Rattle.tl_run.specs.Parts.{HaveGone}
 use Rattle.tl_run.proofs.streaming.SyncRun.go_on.Goals as goal
 
-pub go_through-requires : goal.go_through-requires
-go_through-requires g c = (
-  c.requires-raw.1.1.1.0,
-  (lit< tt, (record { client = c.requires.client; manager = c.requires.manager }, c.requires.held)),
-)
-
 pub returns-in_default : goal.returns-in_default
 returns-in_default g c =
     record {

@@ -1,10 +1,7 @@
-use Rattle.tl_run.proofs.Names.{lit<, ◌∙◌, ◌+◌, ◌≤◌, ℕ, arith, refl, sym, subst, IsOk}
+use Rattle.tl_run.proofs.Names.{◌∙◌, ◌+◌, ◌≤◌, ℕ, arith, refl, sym, subst, IsOk}
 use Rattle.tl_run.proofs.AllOk.{five_ok, of-ok}
 use Rattle.tl_run.proofs.Rooms.{none-yet}
 use Rattle.tl_run.proofs.taken.Taken.new.Goals as goal
-
-pub far_rooms-room-requires : goal.far_rooms-room-requires
-far_rooms-room-requires g c = (lit< tt, c.requires)
 
 pub returns-in_default : goal.returns-in_default
 returns-in_default g c = record { empty = tt; room = tt }

@@ -1,8 +1,23 @@
 use Rattle.tl_run.proofs.Names.{◌≡◌, ◌+◌, ◌≤◌, ◌++◌, ℕ, List, Result, Ok, Err, OnOk, refl, length, length-append, subst}
-use Rattle.tl_run.proofs.Names.{ap, arith, Beats, joined, beats_of}
+use Rattle.tl_run.proofs.Names.{ap, arith, beat_small, Beats, joined, beats_of}
 use Rattle.tl_run.proofs.AllOk.{five_ok, five-are-ok}
 use Rattle.tl_run.proofs.Rooms.{same-beats}
 use Rattle.tl_run.proofs.taken.TakenFarSink.take.Goals as goal
+
+pub append-a-requires-room-B-Clone : goal.append-a-requires-room-B-Clone
+append-a-requires-room-B-Clone g c κs = beat_small g.row.M c.requires.manager
+
+pub append-b-requires-room-B-Clone : goal.append-b-requires-room-B-Clone
+append-b-requires-room-B-Clone g c κs = beat_small g.row.C c.requires.client
+
+pub append-c-requires-room-B-Clone : goal.append-c-requires-room-B-Clone
+append-c-requires-room-B-Clone g c κs = beat_small g.row.M c.requires.manager
+
+pub append-d-requires-room-B-Clone : goal.append-d-requires-room-B-Clone
+append-d-requires-room-B-Clone g c κs = beat_small g.row.C c.requires.client
+
+pub append-e-requires-room-B-Clone : goal.append-e-requires-room-B-Clone
+append-e-requires-room-B-Clone g c κs = beat_small g.row.M c.requires.manager
 
 -- each list has these beats behind those that it had
 all-appended : {C M : ℕ} (far old new more : Beats M C) → old ≡ far → new.a ≡ old.a ++ more.a → new.b ≡ old.b ++ more.b → new.c ≡ old.c ++ more.c →
@@ -41,6 +56,10 @@ places xs ys zs len e f l m =
     let same : length xs ≡ length zs = ap length f in
     omega (arith, e, same, sum, l, m)
 
+-- room enough is so in a list that has more of it
+enough : {n room capacity : ℕ} → n ≤ room → room ≤ capacity → n ≤ capacity
+enough f g = omega (arith, f, g)
+
 pub returns-clause-room : goal.returns-clause-room
 returns-clause-room g c = λ far room h has fit.
     let t = c.args.self.now in (
@@ -52,10 +71,10 @@ returns-clause-room g c = λ far room h has fit.
           (c.append-d.ensures.room (places t.d.items c.args.d.now far.d t.d.len t.d.ok.0 (ap (λ q. q.d) h) fit.d has.d))
           (c.append-e.ensures.room (places t.e.items c.args.e.now far.e t.e.len t.e.ok.0 (ap (λ q. q.e) h) fit.e has.e)),
       record {
-        a = omega (arith, has.a, c.append-a.ensures.capacity);
-        b = omega (arith, has.b, c.append-b.ensures.capacity);
-        c = omega (arith, has.c, c.append-c.ensures.capacity);
-        d = omega (arith, has.d, c.append-d.ensures.capacity);
-        e = omega (arith, has.e, c.append-e.ensures.capacity);
+        a = enough has.a c.append-a.ensures.capacity;
+        b = enough has.b c.append-b.ensures.capacity;
+        c = enough has.c c.append-c.ensures.capacity;
+        d = enough has.d c.append-d.ensures.capacity;
+        e = enough has.e c.append-e.ensures.capacity;
       },
     )
