@@ -1,3 +1,5 @@
 pub mod NotingAll
 pub mod Making
 pub mod Meeting
+pub mod Moving
+pub mod Staging
