@@ -69,8 +69,14 @@ impl<const C: usize, const M: usize, A: Allocator + Copy> NewBooks<A> for Books<
 }
 
 /// What a bridge is made of: a ring for each channel, and the books of both sides.
-pub(crate) type Parts<RingA, RingB, RingC, RingD, RingE, Books> =
-    (RingA, RingB, RingC, RingD, RingE, Books);
+pub(crate) type Parts<RingA, RingB, RingC, RingD, RingE, Books> = (
+    RingA,
+    RingB,
+    RingC,
+    RingD,
+    RingE,
+    Books,
+);
 
 // A ring for each channel, whatever it is, and both books: all that takes memory, so that who calls
 // has one way out. It knows nothing of the rings and books, so that to let some go where the next one
@@ -83,10 +89,7 @@ pub(crate) fn new_parts<
     RingD: NewRing<A>,
     RingE: NewRing<A>,
     BothBooks: NewBooks<A>,
->(
-    alloc: A,
-    ring: usize,
-) -> Result<Parts<RingA, RingB, RingC, RingD, RingE, BothBooks>, BuildFault>
+>(alloc: A, ring: usize) -> Result<Parts<RingA, RingB, RingC, RingD, RingE, BothBooks>, BuildFault>
     ensures { IsMade (λ parts. (RingA.IsNew ring parts.0 × RingB.IsNew ring parts.1 ×
         RingC.IsNew ring parts.2 × RingD.IsNew ring parts.3 × RingE.IsNew ring parts.4) ×
         BothBooks.AreNew parts.5) ring result }

@@ -68,8 +68,7 @@ pub(crate) trait Stages<B, P> {
         ensures { Staged beat.now home self.old self.new };
 }
 
-impl<K: Channel, const W: usize, const V: usize> Stages<Beat<K, W>, Place<K>>
-    for Outbox<K, W, V> {
+impl<K: Channel, const W: usize, const V: usize> Stages<Beat<K, W>, Place<K>> for Outbox<K, W, V> {
     ghost CanStage = { λ beat place outbox. IsWidth W × IsWidth V × IsOpen outbox ×
         IsPlaceOf K.rules W outbox.converter.burst beat place };
 
@@ -114,7 +113,11 @@ impl<const C: usize, const M: usize, A: Allocator> Admits<Outbox<ChA, C, M>, Bea
         OffersBeat port_sends_a beat (record s { a = outbox; book = old }) answer
         (record s { a = after; book = new }) };
 
-    fn offer_to(&mut self, outbox: &mut Outbox<ChA, C, M>, beat: &BeatOf<HeadA, C>) -> Result<(), SideFault> {
+    fn offer_to(
+        &mut self,
+        outbox: &mut Outbox<ChA, C, M>,
+        beat: &BeatOf<HeadA, C>,
+    ) -> Result<(), SideFault> {
         let place = given!(self.admit(outbox.check(beat)));
         stage(outbox, beat, place, 0);
         Ok(())
@@ -130,7 +133,11 @@ impl<const C: usize, const M: usize, A: Allocator> Admits<Outbox<ChD, M, C>, Bea
         OffersBeat port_sends_d beat (record s { d = outbox; book = old }) answer
         (record s { d = after; book = new }) };
 
-    fn offer_to(&mut self, outbox: &mut Outbox<ChD, M, C>, beat: &BeatOf<HeadD, M>) -> Result<(), SideFault> {
+    fn offer_to(
+        &mut self,
+        outbox: &mut Outbox<ChD, M, C>,
+        beat: &BeatOf<HeadD, M>,
+    ) -> Result<(), SideFault> {
         let (place, home) = given!(self.admit(outbox.check(beat)));
         stage(outbox, beat, place, home);
         Ok(())

@@ -39,7 +39,8 @@ fn sides_over<const C: usize, const M: usize, A: Allocator>(
         KnowsClient {w = C} parts.5.0 [] → KnowsManager {w = M} parts.5.1 [] →
         AreNewSides size result.0 result.1 }
 {
-    let ((a, a_take), (b, b_take), (c, c_take), (d, d_take), (e, e_take), (client, manager)) = parts;
+    let ((a, a_take), (b, b_take), (c, c_take), (d, d_take), (e, e_take), (client, manager)) =
+        parts;
     let client = ClientSide {
         port: ClientPort::over(client),
         a,
