@@ -1,7 +1,7 @@
 -- What a run ends in makes the answer.
 use Rattle.tl_answer.proofs.Names.{Result, Ok, Err, IfOk, ◌≡◌, ℕ, Bool, true, false, List, [], ◌∷◌, ◌++◌, length, refl, sym, ap, ◌∙◌}
-use Rattle.tl_answer.proofs.Names.{append-nil, arith, list_all, Beats, far_beats, verdicts, EndsIn, near_beats, Tells, IsScriptOf, Script, Line}
-use Rattle.tl_answer.proofs.Names.{far_header, far_lines, near, taken, report, is_done, text_of, IsAnswer, TextFault}
+use Rattle.tl_answer.proofs.Names.{append-nil, append_assoc, arith, list_all, Beats, far_beats, verdicts, EndsIn, near_beats, Tells, IsScriptOf}
+use Rattle.tl_answer.proofs.Names.{Script, Line, far_header, far_lines, near, taken, report, is_done, text_of, IsAnswer, TextFault}
 use Rattle.tl_msg.specs.declared.verdict.Verdict.{Verdict}
 use Rattle.tl_answer.specs.declared.answer.Answer.{Answer}
 use Rattle.tl_run.specs.declared.outcome.Outcome.{Outcome}
@@ -48,6 +48,11 @@ module _ (version C M : ℕ) (lines : List Line) (text : List ℕ) (told : Tells
       (text-is ∙ ap (λ vs. far_header version C M ++ report vs) are ∙ without-far version (near C M lines))
       done (done-is ∙ ap (λ vs. list_all is_done vs) are)
 
+-- five texts, one behind another
+pub lines-behind : (o0 o1 o2 o3 o4 o5 a b c d e : List ℕ) → o1 ≡ o0 ++ a → o2 ≡ o1 ++ b → o3 ≡ o2 ++ c → o4 ≡ o3 ++ d → o5 ≡ o4 ++ e →
+    o5 ≡ o0 ++ (a ++ b ++ c ++ d ++ e)
+lines-behind o0 o1 o2 o3 o4 o5 a b c d e p q r s t = rw t (rw s (rw r (rw q (rw p (simp append_assoc)))))
+
 -- a text and the report of five verdicts behind it
 pub with-report : (vs : List Verdict) → length vs ≡ 5 → (before after : List ℕ) →
     ((a b c d e : Verdict) → vs ≡ a ∷ b ∷ c ∷ d ∷ e ∷ [] → after ≡ before ++ report (a ∷ b ∷ c ∷ d ∷ e ∷ [])) → after ≡ before ++ report vs
@@ -65,14 +70,18 @@ pub of-both : {X : Type 0} (P Q R : X → Type 0) → ((made : X) → P made →
 of-both P Q R follows (Ok made) p q = follows made p q
 of-both P Q R follows (Err fault) p q = tt
 
+abbrev HasText : Result Answer TextFault → List ℕ → Type 0
+HasText given text = IfOk given (λ made. made.text.items ≡ text)
+
+abbrev IsDone : Result Answer TextFault → Bool → Type 0
+IsDone given done = IfOk given (λ made. made.all_done ≡ done)
+
+pub all-done : (done ended : Bool) → done ≡ ended → (given : Result Answer TextFault) → IsDone given done → IsDone given ended
+all-done done ended is (Ok made) done-is = done-is ∙ is
+all-done done ended is (Err fault) done-is = tt
+
 -- the text of an answer by a check, and of one that is spelled in parts by a run
 module _ {C M : ℕ} (version : ℕ) (bs : Beats C M) (check : Bool) where
-  abbrev HasText : Result Answer TextFault → List ℕ → Type 0
-  HasText given text = IfOk given (λ made. made.text.items ≡ text)
-
-  abbrev IsDone : Result Answer TextFault → Bool → Type 0
-  IsDone given done = IfOk given (λ made. made.all_done ≡ done)
-
   pub of-check : check ≡ true → (given : Result Answer TextFault) → HasText given (far_header version C M ++ report (verdicts bs)) →
       HasText given (text_of version bs check)
   of-check is (Ok made) text-is = rw is (text-is ∙ without-far version bs)
@@ -82,11 +91,6 @@ module _ {C M : ℕ} (version : ℕ) (bs : Beats C M) (check : Bool) where
       HasText given (text_of version bs check)
   of-parts is text spells (Ok made) text-is = rw is (text-is ∙ spells)
   of-parts is text spells (Err fault) text-is = tt
-
-  pub all-done : (done : Bool) → done ≡ list_all is_done (verdicts bs) → (given : Result Answer TextFault) → IsDone given done →
-      IsDone given (list_all is_done (verdicts bs))
-  all-done done is (Ok made) done-is = done-is ∙ is
-  all-done done is (Err fault) done-is = tt
 
   -- which is the answer to a text that tells these beats
   pub answers-text : (lines : List Line) (text : List ℕ) → Tells text version C M lines → bs ≡ near C M lines → (given : Result Answer TextFault) →

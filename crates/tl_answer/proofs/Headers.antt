@@ -5,9 +5,8 @@ use Rattle.tl_answer.proofs.Names.{faults_after, faults_of_lines, IsFirstFault, 
 use Rattle.tl_answer.proofs.Names.{HasShortLists, beat_of_a, beat_of_b, beat_of_c, beat_of_d, beat_of_e}
 use Rattle.tl_lanes.specs.declared.limits.TheConstants.{WIDEST}
 use Rattle.tl_trace.specs.declared.fault.TraceKind.TheVariants as kinds
-use Rattle.tl_stream.proofs.Lengths.{few-chosen}
-use Rattle.tl_stream.proofs.ToRead.{widths_named}
-use Rattle.tl_answer.specs.Inner.Asked.{CanCross}
+use Rattle.tl_stream.proofs.Lengths.{few-chosen, lines-few}
+use Rattle.tl_trace.specs.Scripts.{TellsScript}
 use Rattle.tl_trace.proofs.Headers.{header, known}
 use Rattle.tl_trace.proofs.ReadLines.{first_fault}
 use Rattle.tl_trace.proofs.Widths.{width_of}
@@ -67,6 +66,11 @@ pub with_manager : (text : List ℕ) (version client manager width : ℕ) → ma
     HasHeader text version client width
 with_manager text version client manager width is named = subst (λ w. HasHeader text version client w) is named
 
+-- and a client's
+pub with_client : (text : List ℕ) (version client manager width : ℕ) → client ≡ width → HasHeader text version client manager →
+    HasHeader text version width manager
+with_client text version client manager width is named = subst (λ w. HasHeader text version w manager) is named
+
 -- the lists of a trace that is not too long are not too long
 pub short : (C M : ℕ) (lines : List Line) → length lines ≤ most_bytes → (s : Script C M) → IsScriptOf lines s → HasShortLists s
 short C M lines few s is = record {
@@ -77,9 +81,7 @@ short C M lines few s is = record {
   few_e = few-chosen (beat_of_e C) lines few s.e.items is.e;
 }
 
--- a script that was read of a text with this header can cross the bridge
-pub can-cross : (text : List ℕ) (version C M : ℕ) → HasHeader text version C M → (lines : List Line) → length lines ≤ most_bytes → (s : Script C M) →
-    IsScriptOf lines s → CanCross s
-can-cross text version C M named lines few s is =
-    let widths = widths_named text version C M named in
-    record { client = widths.0; manager = widths.1; short = short C M lines few s is }
+-- nor are those of a script that was read of a text
+pub short-read : (version C M : ℕ) (text : List ℕ) → length text ≤ most_bytes → (s : Script C M) → TellsScript version text s → HasShortLists s
+short-read version C M text few s told =
+    short C M told.lines (lines-few text version C M told.lines told.told few) s told.script

@@ -1,9 +1,12 @@
 -- What came of a text that is read piece by piece is what comes of the whole text.
-use Rattle.tl_answer.proofs.Names.{IfSome, IfOk, IfErr, ◌≡◌, ℕ, ◌-◌, ◌<◌, ◌≤◌, Bool, true, false, nat_eq, ◌||◌, List, [], ◌∷◌, ◌++◌, length, Option}
-use Rattle.tl_answer.proofs.Names.{None, Some, Result, Ok, Err, refl, sym, ap, ◌∙◌, subst, arith, length-append, or_parts, eqb-true, list_any}
-use Rattle.tl_answer.proofs.Names.{Consumes, IsAtEnd, is_newline, body, header_of, IsFirstFault, Header, IsFresh, IsRefused}
+use Rattle.tl_answer.proofs.Names.{IfSome, IfOk, IfErr, IsOfText, ◌≡◌, ◌≢◌, ℕ, ◌-◌, ◌<◌, ◌≤◌, Bool, true, false, nat_eq, ◌||◌, List, [], ◌∷◌, ◌++◌}
+use Rattle.tl_answer.proofs.Names.{length, Option, None, Some, Result, Ok, Err, refl, sym, ap, ◌∙◌, subst, arith, length-append, or_parts}
+use Rattle.tl_answer.proofs.Names.{eqb-true, list_any, Consumes, IsAtEnd, is_newline, body, header_of, IsFirstFault, Header, IsFresh, IsRefused}
 use Rattle.tl_answer.proofs.Names.{held, unread_of, ReadsAnswer, spelled, IsAnswer, most_bytes, TextFault, Input}
+use Rattle.tl_trace.specs.declared.fault.TraceFault.{TraceFault}
+use Rattle.tl_trace.specs.declared.fault.TraceKind.{TraceKind}
 use Rattle.tl_trace.specs.declared.fault.TraceKind.TheVariants as kinds
+use Rattle.tl_stream.specs.Faults.{of_kind, of_trace}
 use Rattle.tl_stream.specs.declared.fault.TextFault.TheVariants as faults
 use Rattle.tl_answer.specs.declared.parts.AnswerParts.{AnswerParts}
 use Rattle.tl_stream.proofs.Between.{held_size, of_text, of_whole}
@@ -48,7 +51,7 @@ long_none text long = pick (header_of text) refl
     pick None e = e
     pick (Some h) e = let short = header_short text h e in absurd (omega (arith, short, long))
 
-pub header_missing : (left : Option (List ℕ)) (input : Input) → IsFresh left input → header_of (body (held input)) ≡ None →
+header_missing : (left : Option (List ℕ)) (input : Input) → IsFresh left input → header_of (body (held input)) ≡ None →
     IfSome (unread_of input left) (λ text. IsFirstFault text 1 kinds.Header)
 header_missing left input fresh none = pick (list_any is_newline (held input)) refl (nat_eq input.to (length input.buffer.items)) refl
   where
@@ -71,3 +74,27 @@ header_missing left input fresh none = pick (list_any is_newline (held input)) r
         let sum = length-append (held input) (body more) in
         let long : 64 < length (held input ++ body more) = omega (arith, room, first, whole, sum, size) in
         no_header (held input ++ more) (ap header_of (body_free (held input) more e) ∙ long_none (held input ++ body more) long))
+
+pub header_refused : (left : Option (List ℕ)) (input : Input) → IsFresh left input → header_of (body (held input)) ≡ None →
+    IsRefused (unread_of input left) left input (faults.Trace (record { line = 1; kind = kinds.Header }))
+header_refused left input fresh none = (([], fresh.taken), λ p. absurd cc, header_missing left input fresh none)
+
+-- ---- a text that is kept whole
+
+-- it is refused for its own fault, or for want of memory
+pub fault_of_text : (text : List ℕ) (fault : TraceFault) → (fault.kind ≢ kinds.OutOfMemory → IsFirstFault text fault.line fault.kind) →
+    IsOfText text (of_trace fault)
+fault_of_text text fault first = cases fault.kind refl
+  where
+    another : (kind : TraceKind) → fault.kind ≡ kind → kind ≢ kinds.OutOfMemory →
+        (fault.kind ≢ kinds.OutOfMemory) × IsFirstFault text fault.line fault.kind
+    another kind e other = let so : fault.kind ≢ kinds.OutOfMemory = λ p. other (sym e ∙ p) in (so, first so)
+
+    cases : (kind : TraceKind) → fault.kind ≡ kind → IsOfText text (of_kind kind fault)
+    cases kinds.OutOfMemory e = tt
+    cases kinds.Header e = another kinds.Header e (λ p. absurd cc)
+    cases kinds.Channel e = another kinds.Channel e (λ p. absurd cc)
+    cases kinds.Length e = another kinds.Length e (λ p. absurd cc)
+    cases kinds.Shape e = another kinds.Shape e (λ p. absurd cc)
+    cases kinds.Range e = another kinds.Range e (λ p. absurd cc)
+    cases kinds.NoEnd e = another kinds.NoEnd e (λ p. absurd cc)

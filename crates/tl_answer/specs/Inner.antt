@@ -5,3 +5,4 @@ pub mod FarTexts
 pub mod Listening
 pub mod Checking
 pub mod Crossing
+pub mod Sizes

@@ -1,19 +1,21 @@
 //! The answer to a text, without a reader and a writer.
-ghost use Rattle.std.specs.Prelude.{◌≡◌, ◌++◌, [], ◌∷◌, false, length, IfOk, OnOk, IfErr};
+ghost use Rattle.std.specs.Prelude.{◌≡◌, ◌≢◌, ◌<◌, ◌++◌, [], ◌∷◌, false, length, IfOk, OnOk, IfErr};
 ghost use Rattle.std.specs.List.{list_all};
 ghost use Rattle.tl_lanes.specs.Lanes.{IsWidth};
 ghost use Rattle.tl_msg.specs.declared.verdict.Verdict.{Verdict};
 ghost use Rattle.tl_settle.specs.Outcomes.{verdicts};
 ghost use Rattle.tl_run.specs.Arrivals.{no_beats};
-ghost use Rattle.tl_run.specs.Scripts.{SettlesTo, near_beats};
+ghost use Rattle.tl_run.specs.Scripts.{HasShortLists, SettlesTo, near_beats};
 ghost use Rattle.tl_run.specs.declared.outcome.RunFault.TheVariants.{OutOfMemory as NoRunMemory};
 ghost use Rattle.tl_order.specs.Orders.{IsRunnable, is_check};
+ghost use Rattle.tl_trace.specs.Faults.{HasHeader};
 ghost use Rattle.tl_answer.specs.Answer.{far_header, far_lines, taken, report, is_done};
 ghost use Rattle.tl_answer.specs.Inner.Answered.{ReadsAnswer};
-ghost use Rattle.tl_answer.specs.Inner.Asked.{IsAsked, CanCross};
+ghost use Rattle.tl_answer.specs.Inner.Asked.{IsAsked, WasRead};
 ghost use Rattle.tl_answer.specs.Inner.FarTexts.{HasLines};
 ghost use Rattle.tl_answer.specs.Inner.Parts.{spelled, text_of};
-ghost use Rattle.tl_stream.specs.Inputs.{IsFresh, unread_of};
+ghost use Rattle.tl_answer.specs.Inner.Sizes.{beat_size};
+ghost use Rattle.tl_stream.specs.Inputs.{IsFresh, held, unread_of};
 ghost use Rattle.tl_stream.specs.declared.fault.TextFault.TheVariants.{OutOfMemory as NoMemory};
 
 use crate::at_width;
@@ -75,6 +77,13 @@ pub(crate) fn are_done(verdicts: &[Verdict; 5]) -> bool
         .all(|verdict| matches!(verdict, Verdict::Done { .. }))
 }
 
+/// The lists of a script that was read are short. Nothing is done.
+fn are_short<const C: usize, const M: usize>(script: &Script<C, M>)
+    requires { WasRead script.now }
+    ensures { HasShortLists script.now }
+{
+}
+
 /// The run of a script with each side in a thread of its own, as the order has it. Refused with
 /// `OutOfMemory` alone.
 fn run_script<T: Threads, const C: usize, const M: usize>(
@@ -83,10 +92,11 @@ fn run_script<T: Threads, const C: usize, const M: usize>(
     script: &Script<C, M>,
     order: &Order,
 ) -> Result<Outcome<C, M>, RunFault>
-    requires { CanCross script.now × IsRunnable order.now }
+    requires { IsWidth C × IsWidth M × WasRead script.now × IsRunnable order.now }
     ensures ok { IfOk result (SettlesTo script.now) }
     ensures err { IfErr result (λ fault. fault ≡ NoRunMemory) }
 {
+    are_short::<C, M>(script);
     let ring = order.ring();
     let turns = order.turns();
     run_threads(rt, alloc, script, ring, turns, &mut NoGate, &mut NoGate)
@@ -119,6 +129,14 @@ pub fn check_of(
     }
 }
 
+/// A beat takes little memory, whatever the width of its bus is. Nothing is done.
+fn beats_fit<const C: usize, const M: usize>()
+    requires { IsWidth C × IsWidth M }
+    ensures client { beat_size C < 9223372036854775808 }
+    ensures manager { beat_size M < 9223372036854775808 }
+{
+}
+
 /// Writes the lines of the far beats of a run, where none were written before.
 fn take_far<const C: usize, const M: usize>(
     far: &mut FarTexts,
@@ -128,6 +146,7 @@ fn take_far<const C: usize, const M: usize>(
     ensures lines { OnOk result (HasLines far.new (taken outcome.now)) }
     ensures version { OnOk result (far.new.version ≡ far.old.version) }
 {
+    beats_fit::<C, M>();
     far.take(&outcome.a, &outcome.b, &outcome.c, &outcome.d, &outcome.e)
 }
 
@@ -163,7 +182,7 @@ fn threads_answer_of<T: Threads, const C: usize, const M: usize>(
     version: u8,
     order: &Order,
 ) -> Result<AnswerParts, TextFault>
-    requires { CanCross script × IsRunnable order.now }
+    requires { IsWidth C × IsWidth M × WasRead script × IsRunnable order.now }
     ensures text { IfOk result (λ made. spelled made
         ≡ text_of version (near_beats script.entry) false) }
     ensures done { IfOk result (λ made. made.all_done
@@ -179,6 +198,24 @@ fn threads_answer_of<T: Threads, const C: usize, const M: usize>(
     let answer = parts_of(alloc, &outcome, version);
     drop(outcome);
     answer
+}
+
+/// What a header names are widths that a channel can have. Nothing is done.
+pub(crate) fn are_widths<const C: usize, const M: usize>(input: &Input, version: u8)
+    requires { HasHeader (held input.now) version C M }
+    ensures client { IsWidth C }
+    ensures manager { IsWidth M }
+{
+}
+
+/// A width that a header names is 128 where it is none of the other seven. Nothing is done.
+fn is_widest(input: &Input, version: u8, client: usize, manager: usize)
+    requires { HasHeader (held input.now) version client manager }
+    ensures client { client ≢ 1 → client ≢ 2 → client ≢ 4 → client ≢ 8 → client ≢ 16 →
+        client ≢ 32 → client ≢ 64 → HasHeader (held input.now) version 128 manager }
+    ensures manager { manager ≢ 1 → manager ≢ 2 → manager ≢ 4 → manager ≢ 8 → manager ≢ 16 →
+        manager ≢ 32 → manager ≢ 64 → HasHeader (held input.now) version client 128 }
+{
 }
 
 /// The answer to a text whose header names this version and these widths.
@@ -200,6 +237,7 @@ fn with_widths<T: Threads, R: Read, const C: usize, const M: usize>(
     if order.is_sync() {
         return run_input::<R, C, M>(alloc, reader, input, version, order.ring());
     }
+    are_widths::<C, M>(input, version);
     match script_of_input::<R, C, M>(alloc, reader, input, version) {
         Ok(script) => threads_answer_of::<T, C, M>(rt, alloc, script, version, order),
         Err(fault) => Err(fault),
@@ -220,6 +258,7 @@ fn with_client<T: Threads, R: Read, const C: usize>(
     ensures { ReadsAnswer (unread_of input.old (R.remaining reader.old)) (R.remaining reader.new)
         (is_check order.now) input.new result }
 {
+    is_widest(input, version, C, manager);
     at_width!(
         manager,
         with_widths::<T, R, C, _>(rt, alloc, reader, input, version, order)
@@ -248,6 +287,7 @@ pub(crate) fn answer_input<T: Threads, R: Read>(
             kind: TraceKind::Header,
         }));
     };
+    is_widest(input, header.version, header.client, header.manager);
     at_width!(
         header.client,
         with_client::<T, R, _>(

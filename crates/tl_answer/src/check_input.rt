@@ -1,10 +1,11 @@
 //! The answer of a check to a text as it comes in: what was judged is not held any more.
-ghost use Rattle.std.specs.Prelude.{◌≡◌, ◌++◌, true, IfOk, IfErr};
+ghost use Rattle.std.specs.Prelude.{◌≡◌, ◌++◌, [], true, IfOk, IfErr};
 ghost use Rattle.std.specs.List.{list_all};
 ghost use Rattle.tl_lanes.specs.Lanes.{IsWidth};
 ghost use Rattle.tl_settle.specs.Outcomes.{Beats, verdicts};
 ghost use Rattle.tl_trace.specs.Faults.{HasHeader};
 ghost use Rattle.tl_run.specs.Parts.{AreEnd};
+ghost use Rattle.tl_settle.specs.Books.{KnowsClient, KnowsManager};
 ghost use Rattle.tl_check.specs.Judging.{CanJudge, HasJudged};
 ghost use Rattle.tl_answer.specs.Answer.{far_header, is_done, report};
 ghost use Rattle.tl_answer.specs.Inner.Answered.{ReadsAnswer};
@@ -14,12 +15,12 @@ ghost use Rattle.tl_answer.specs.Inner.Parts.{spelled};
 ghost use Rattle.tl_stream.specs.Inputs.{IsFresh, held, unread_of};
 ghost use Rattle.tl_stream.specs.declared.fault.TextFault.TheVariants.{OutOfMemory as NoMemory};
 
-use crate::answer::check_of;
+use crate::answer::{are_widths, check_of};
 use crate::parts::AnswerParts;
 use std::alloc::{AllocError, Global};
 use std::io::Read;
 use tl_check::Judge;
-use tl_settle::new_books;
+use tl_settle::{ClientBook, ManagerBook, new_books};
 use tl_stream::{Input, Listener, TextFault, read_through};
 use tl_trace::{Counts, Script};
 
@@ -72,10 +73,23 @@ fn check_by<R: Read, const C: usize, const M: usize>(
     ensures { ReadsAnswer (unread_of input.old (R.remaining reader.old)) (R.remaining reader.new)
         true input.new result }
 {
+    are_widths::<C, M>(input, version);
     match read_through::<R, Check, Judge<C, M>, C, M>(alloc, reader, input, version, judge) {
         Ok(last) => end_of(alloc, judge, version, last),
         Err(fault) => Err(fault),
     }
+}
+
+// A judge that has heard nothing of a trace in this version.
+fn new_judge<const C: usize, const M: usize>(
+    client: ClientBook<C>,
+    manager: ManagerBook<M>,
+    version: u8,
+) -> Judge<C, M>
+    requires { KnowsClient {w = C} client [] × KnowsManager {w = M} manager [] }
+    ensures { IsNew (Judges version) result }
+{
+    Judge::new(client, manager)
 }
 
 /// The answer of a check to a text whose header names this version and these widths, where the input
@@ -95,6 +109,6 @@ pub(crate) fn check_input<R: Read, const C: usize, const M: usize>(
     let Ok((client, manager)) = new_books::<C, M, Global>(alloc) else {
         return Err(TextFault::OutOfMemory);
     };
-    let mut judge = Judge::<C, M>::new(client, manager);
+    let mut judge = new_judge::<C, M>(client, manager, version);
     check_by(alloc, reader, input, version, &mut judge)
 }

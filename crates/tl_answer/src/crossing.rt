@@ -1,5 +1,5 @@
 //! The answer of a run in one thread to a text as it comes in: what was accepted is not held any more.
-ghost use Rattle.std.specs.Prelude.{◌≡◌, ◌≤◌, ℕ, false, IfOk, IfErr};
+ghost use Rattle.std.specs.Prelude.{◌≡◌, ◌≤◌, ◌<◌, ℕ, false, IfOk, IfErr};
 ghost use Rattle.std.specs.List.{list_all};
 ghost use Rattle.tl_lanes.specs.Lanes.{IsWidth};
 ghost use Rattle.tl_ring.specs.declared.pipe.TheConstants.{MAX_RING};
@@ -12,9 +12,11 @@ ghost use Rattle.tl_answer.specs.Inner.Crossing.{Crosses};
 ghost use Rattle.tl_answer.specs.Inner.Listening.{all_of};
 ghost use Rattle.tl_stream.specs.Listening.{IsNew};
 ghost use Rattle.tl_answer.specs.Inner.Parts.{spelled, text_of};
+ghost use Rattle.tl_answer.specs.Inner.Sizes.{bridge_size, crossing_size, run_size};
 ghost use Rattle.tl_stream.specs.Inputs.{IsFresh, held, unread_of};
 ghost use Rattle.tl_stream.specs.declared.fault.TextFault.TheVariants.{OutOfMemory as NoMemory};
 
+use crate::answer::are_widths;
 use crate::far_text::FarTexts;
 use crate::parts::AnswerParts;
 use std::alloc::{AllocError, Global};
@@ -44,6 +46,7 @@ impl<const C: usize, const M: usize> Crossing<C, M> {
             Ok(far) => far,
             Err(error) => return Err(TextFault::from(error)),
         };
+        run_fits::<C, M>();
         match SyncBridge::<C, M, Global>::new(alloc, ring) {
             Ok(bridge) => Ok(Crossing {
                 run: SyncRun::new(bridge),
@@ -59,6 +62,7 @@ impl<const C: usize, const M: usize> Crossing<C, M> {
     pub(crate) fn let_go(self)
         requires { IsWidth C × IsWidth M }
     {
+        run_fits::<C, M>();
         self.run.let_go();
     }
 
@@ -81,6 +85,7 @@ impl<const C: usize, const M: usize> Crossing<C, M> {
             made.all_done ≡ list_all is_done (verdicts (all_of gone last.entry))) }
         ensures err { IfErr result (λ fault. fault ≡ NoMemory) }
     {
+        run_fits::<C, M>();
         let ended = self.run.end(&last, &mut self.far);
         drop(last);
         match ended {
@@ -90,10 +95,26 @@ impl<const C: usize, const M: usize> Crossing<C, M> {
     }
 }
 
+// A run takes little memory, and its bridge, whatever their two widths are. Nothing is done.
+fn run_fits<const C: usize, const M: usize>()
+    requires { IsWidth C × IsWidth M }
+    ensures run { run_size C M < 9223372036854775808 }
+    ensures bridge { bridge_size C M < 9223372036854775808 }
+{
+}
+
+// And with its texts. Nothing is done.
+pub(crate) fn crossing_fits<const C: usize, const M: usize>()
+    requires { IsWidth C × IsWidth M }
+    ensures { crossing_size C M < 9223372036854775808 }
+{
+}
+
 impl<const C: usize, const M: usize> Listener<Crossing<C, M>, C, M> for Crossing<C, M> {
     ghost Listens = { Crosses };
 
     fn hear(&mut self, held: &Script<C, M>) -> Result<Counts, AllocError> {
+        run_fits::<C, M>();
         self.run.go_on(held, &mut self.far)
     }
 }
@@ -111,6 +132,7 @@ fn cross<R: Read, const C: usize, const M: usize>(
     ensures { ReadsAnswer (unread_of input.old (R.remaining reader.old)) (R.remaining reader.new)
         false input.new result }
 {
+    are_widths::<C, M>(input, version);
     match read_through::<R, Crossing<C, M>, Crossing<C, M>, C, M>(
         alloc, reader, input, version, crossing,
     ) {
@@ -136,6 +158,8 @@ pub(crate) fn run_input<R: Read, const C: usize, const M: usize>(
     ensures { ReadsAnswer (unread_of input.old (R.remaining reader.old)) (R.remaining reader.new)
         false input.new result }
 {
+    are_widths::<C, M>(input, version);
+    crossing_fits::<C, M>();
     let mut crossing = match Crossing::<C, M>::new(alloc, version, ring) {
         Ok(crossing) => crossing,
         Err(fault) => return Err(fault),

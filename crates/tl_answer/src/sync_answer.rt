@@ -5,6 +5,7 @@ ghost use Rattle.tl_settle.specs.Outcomes.{verdicts};
 ghost use Rattle.tl_run.specs.Scripts.{near_beats};
 ghost use Rattle.tl_answer.specs.Answer.{far_header, report, is_done};
 ghost use Rattle.tl_trace.specs.Faults.{HasHeader};
+ghost use Rattle.tl_trace.specs.Scripts.{TellsScript};
 ghost use Rattle.tl_answer.specs.Inner.Asked.{CanCross};
 ghost use Rattle.tl_answer.specs.Inner.Parts.{spelled, text_of};
 ghost use Rattle.tl_answer.specs.Texts.{IsAnswer, IsOfText};
@@ -13,7 +14,7 @@ ghost use Rattle.tl_stream.specs.declared.fault.TextFault.TheVariants.{OutOfMemo
 
 use crate::answer::{Answer, check_of};
 use crate::at_width;
-use crate::crossing::Crossing;
+use crate::crossing::{Crossing, crossing_fits};
 use crate::parts::AnswerParts;
 use std::alloc::Global;
 use tl_check::verdicts_of;
@@ -56,6 +57,7 @@ fn sync_run_of<const C: usize, const M: usize>(
         ≡ list_all is_done (verdicts (near_beats script.entry))) }
     ensures err { IfErr result (λ fault. fault ≡ NoMemory) }
 {
+    crossing_fits::<C, M>();
     let mut crossing = match Crossing::<C, M>::new(alloc, version, RING) {
         Ok(crossing) => crossing,
         Err(fault) => {
@@ -94,6 +96,14 @@ fn sync_answer_of<const C: usize, const M: usize>(
     }
 }
 
+/// A script that was read of a text with this header can cross the bridge. Nothing is done.
+fn can_cross<const C: usize, const M: usize>(text: &[u8], version: u8, script: &Script<C, M>)
+    requires { HasHeader text.now version C M × (length text.now ≤ most_bytes) ×
+        TellsScript version text.now script.now }
+    ensures { CanCross script.now }
+{
+}
+
 /// The answer to a text whose header names this version and these widths.
 fn with_widths<const C: usize, const M: usize>(
     alloc: Global,
@@ -109,6 +119,7 @@ fn with_widths<const C: usize, const M: usize>(
         Ok(script) => script,
         Err(fault) => return Err(TextFault::from(fault)),
     };
+    can_cross(text, version, &script);
     sync_answer_of::<C, M>(alloc, script, version, check)
 }
 

@@ -1,2 +1,3 @@
 pub mod Arriving
 pub mod Sides
+pub mod Sizes

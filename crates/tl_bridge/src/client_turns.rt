@@ -7,6 +7,7 @@ ghost use Rattle.tl_run.specs.Inner.Widths.{AreWidths};
 ghost use Rattle.tl_bridge.specs.Inner.Sides.{SameClientEnds, ClientHasOffered, client_playing};
 
 use crate::inboxes::append;
+use crate::sizes::{beat_fits, sides_fit};
 use crate::turns::PlaysRounds;
 use tl_msg::{Beat, ChA, ChB, ChC, ChD, ChE};
 use tl_run::{Offered, Offers, Turn};
@@ -34,6 +35,7 @@ fn offer_each<const C: usize, const M: usize>(
     ensures ends { SameClientEnds side.old side.new }
     ensures others { (result.b ≡ NotReady) × (result.d ≡ NotReady) }
 {
+    beat_fits::<C>();
     let a = side.offer_next(&script.a, at.a);
     let c = side.offer_next(&script.c, at.c);
     let e = side.offer_next(&script.e, at.e);
@@ -50,12 +52,15 @@ impl<const C: usize, const M: usize> PlaysRounds<C, M> for ClientRun<C, M> {
     ghost playing = { client_playing };
 
     fn take_each(&mut self) {
+        sides_fit::<C, M>();
+        beat_fits::<C>();
         append(&mut self.far_b, self.side.inbox_b());
         append(&mut self.far_d, self.side.inbox_d());
         self.side.take_all();
     }
 
     fn turn(&mut self, script: &Script<C, M>, at: &PerChannel<usize>) -> Turn {
+        sides_fit::<C, M>();
         let offers = offer_each(&mut self.side, script, at);
         let pumped = self.side.pump();
         let fetched = self.side.fetch();

@@ -10,6 +10,7 @@ mod client_turns;
 mod gates;
 mod inboxes;
 mod manager_turns;
+mod sizes;
 mod thread_rounds;
 mod threads_run;
 mod turns;

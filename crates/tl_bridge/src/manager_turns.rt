@@ -7,6 +7,7 @@ ghost use Rattle.tl_run.specs.Inner.Widths.{AreWidths};
 ghost use Rattle.tl_bridge.specs.Inner.Sides.{SameManagerEnds, ManagerHasOffered, manager_playing};
 
 use crate::inboxes::append;
+use crate::sizes::{beat_fits, sides_fit};
 use crate::turns::PlaysRounds;
 use tl_msg::{Beat, ChA, ChB, ChC, ChD, ChE};
 use tl_run::{Offered, Offers, Turn};
@@ -35,6 +36,7 @@ fn offer_each<const C: usize, const M: usize>(
     ensures ends { SameManagerEnds side.old side.new }
     ensures others { (result.a ≡ NotReady) × (result.c ≡ NotReady) × (result.e ≡ NotReady) }
 {
+    beat_fits::<M>();
     let b = side.offer_next(&script.b, at.b);
     let d = side.offer_next(&script.d, at.d);
     PerChannel {
@@ -50,6 +52,8 @@ impl<const C: usize, const M: usize> PlaysRounds<C, M> for ManagerRun<C, M> {
     ghost playing = { manager_playing };
 
     fn take_each(&mut self) {
+        sides_fit::<C, M>();
+        beat_fits::<M>();
         append(&mut self.far_a, self.side.inbox_a());
         append(&mut self.far_c, self.side.inbox_c());
         append(&mut self.far_e, self.side.inbox_e());
@@ -57,6 +61,7 @@ impl<const C: usize, const M: usize> PlaysRounds<C, M> for ManagerRun<C, M> {
     }
 
     fn turn(&mut self, script: &Script<C, M>, at: &PerChannel<usize>) -> Turn {
+        sides_fit::<C, M>();
         let offers = offer_each(&mut self.side, script, at);
         let pumped = self.side.pump();
         let fetched = self.side.fetch();

@@ -6,15 +6,18 @@ ghost use Rattle.tl_run.specs.Inner.Widths.{AreWidths};
 ghost use Rattle.tl_run.specs.Inner.Arriving.{HasRoomFor, beats_of};
 ghost use Rattle.tl_bridge.specs.Inner.Arriving.{KeepsRoom, taken_of};
 ghost use Rattle.tl_run.specs.Inner.Running.{HasEnded};
-ghost use Rattle.tl_bridge.specs.Inner.Sides.{MayPlay, HasPlayedTurns, HasMet, HasPlayed, AreNew, bridge_of};
+ghost use Rattle.tl_sides.specs.Sides.{AreSides};
+ghost use Rattle.tl_bridge.specs.Inner.Sides.{MayPlay, HasPlayedTurns, HasMet, HasPlayed, AreNew};
+ghost use Rattle.tl_bridge.specs.Inner.Sides.{WereSides, bridge_of};
 
 use crate::client_turns::ClientRun;
 use crate::gates::Gate;
 use crate::manager_turns::ManagerRun;
+use crate::sizes::sides_fit;
 use crate::turns::{PlaysRounds, play};
 use std::thread::{Threads, join_mut};
 use tl_run::{End, Turn};
-use tl_sides::{PerChannel, Standings, meet_sides};
+use tl_sides::{ClientSide, ManagerSide, PerChannel, Standings, meet_sides};
 use tl_trace::Script;
 
 // Both sides of a round, at the same time. It is told of any two that play rounds, since the checker
@@ -62,6 +65,16 @@ fn play_both<
     )
 }
 
+// Two sides of one bridge that each went on by itself are sides of one bridge. Nothing is done.
+fn are_sides<const C: usize, const M: usize>(
+    client: &ClientSide<C, M>,
+    manager: &ManagerSide<C, M>,
+)
+    requires { WereSides client.now manager.now }
+    ensures { AreSides client.now manager.now }
+{
+}
+
 // A round, and the meeting after it: what both sides have done, and where the beats stand then.
 fn round<R: Threads, G: Gate + Send, H: Gate + Send, const C: usize, const M: usize>(
     rt: &R,
@@ -92,6 +105,8 @@ fn round<R: Threads, G: Gate + Send, H: Gate + Send, const C: usize, const M: us
         client_gate,
         manager_gate,
     );
+    sides_fit::<C, M>();
+    are_sides(&client.side, &manager.side);
     let standings = meet_sides(&mut client.side, &mut manager.side);
     (there.beside(&back), standings)
 }
@@ -130,6 +145,7 @@ pub(crate) fn play_rounds<
         e: 0,
     };
     let mut rounds = 0;
+    sides_fit::<C, M>();
     meet_sides(&mut client.side, &mut manager.side);
     'rounds: loop {
         let (played, standings) = round(

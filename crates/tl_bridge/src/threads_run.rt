@@ -10,6 +10,7 @@ ghost use Rattle.tl_bridge.specs.Inner.Arriving.{taken_of};
 use crate::client_turns::ClientRun;
 use crate::gates::Gate;
 use crate::manager_turns::ManagerRun;
+use crate::sizes::{runs_fit, sides_fit};
 use crate::thread_rounds::play_rounds;
 use std::alloc::Global;
 use std::thread::Threads;
@@ -77,9 +78,11 @@ pub fn run_threads<R: Threads, G: Gate + Send, H: Gate + Send, const C: usize, c
     let Ok(Taken { a, b, c, d, e }) = Taken::new(alloc, script) else {
         return Err(RunFault::OutOfMemory);
     };
+    sides_fit::<C, M>();
     let Ok((client, manager)) = tl_sides::bridge::<C, M, Global>(alloc, ring) else {
         return Err(RunFault::OutOfMemory);
     };
+    runs_fit::<C, M>();
     let mut client = ClientRun {
         side: client,
         far_b: b,

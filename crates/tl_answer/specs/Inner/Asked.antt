@@ -6,7 +6,7 @@ use Rattle.tl_order.specs.declared.Order.{Order}
 use Rattle.tl_trace.specs.Faults.{HasHeader}
 use Rattle.tl_trace.specs.declared.script.Script.{Script}
 use Rattle.tl_run.specs.Scripts.{HasShortLists}
-use Rattle.tl_stream.specs.Inputs.{IsFresh, held}
+use Rattle.tl_stream.specs.Inputs.{IsFresh, IsScriptRead, held}
 use Rattle.tl_stream.specs.declared.input.Input.{Input}
 
 -- a text of which the input holds the first piece, whose header names this version and these widths, and an order that can be run
@@ -14,6 +14,10 @@ pub record IsAsked (left : Option (List ℕ)) (input : Input) (version client ma
   pub fresh : IsFresh left input
   pub header : HasHeader (held input) version client manager
   pub runnable : IsRunnable order
+
+-- a script that was read of a text to its end
+abbrev pub WasRead : {C M : ℕ} → Script C M → Type 0
+WasRead s = (version : ℕ) × (unread left : Option (List ℕ)) × IsScriptRead unread left version s
 
 -- a script that the bridge can run
 pub record CanCross {C M : ℕ} (s : Script C M) : Type 0 where

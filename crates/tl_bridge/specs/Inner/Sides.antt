@@ -24,6 +24,13 @@ module _ {A : Type 0} {C M : ℕ} where
   abbrev pub manager_progress : PerChannel ℕ → ManagerState A C M → ℕ
   manager_progress n t = n.b + n.d + length (sent t.b) + length (sent t.d) + length (received t.a) + length (received t.c) + length (received t.e)
 
+-- ---- both
+
+module _ {A : Type 0} {C M : ℕ} where
+  -- they were sides of one bridge, and each went on by itself
+  abbrev pub WereSides : ClientState A C M → ManagerState A C M → Type 0
+  WereSides s' t' = (s : ClientState A C M) × (t : ManagerState A C M) × AreSides s t × SameClient s s' × SameManager t t'
+
 -- ---- offers
 
 module _ {A : Type 0} {C M : ℕ} (near : Beats C M) (n : PerChannel ℕ) where

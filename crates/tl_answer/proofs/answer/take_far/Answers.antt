@@ -1,14 +1,7 @@
 use Rattle.tl_answer.proofs.Names.{subst, on_ok_weaker, Beats, HasLines}
-use Rattle.tl_ring.proofs.FieldSizes.{beat_small}
 use Rattle.tl_run.specs.Arrivals.{no_beats}
 use Rattle.tl_answer.proofs.FarTexts.{taken-of}
 use Rattle.tl_answer.proofs.answer.take_far.Goals as goal
-
-pub take-requires : goal.take-requires
-take-requires g c =
-    let client = beat_small g.row.C c.requires.0 in
-    let manager = beat_small g.row.M c.requires.1 in
-    (manager, (client, (manager, (client, (manager, (c.requires.0, c.requires.1))))))
 
 pub returns-clause-lines : goal.returns-clause-lines
 returns-clause-lines g c =

@@ -1,14 +1,8 @@
-use Rattle.tl_answer.proofs.Names.{lit<, true, ap, Beats, verdicts, CanJudge, HasJudged, all_of, spelled, held}
+use Rattle.tl_answer.proofs.Names.{true, ap, Beats, verdicts, CanJudge, HasJudged, all_of, spelled}
 use Rattle.tl_answer.proofs.Answering.{checks-text, of-both}
-use Rattle.tl_stream.proofs.ToRead.{widths_named}
 use Rattle.tl_answer.proofs.Listening.{all-near, are-end, has-all}
 use Rattle.tl_answer.proofs.Whole.{reads_answer}
 use Rattle.tl_answer.proofs.check_input.check_by.Goals as goal
-
-pub end_of-requires : goal.end_of-requires
-end_of-requires g c =
-    let widths = widths_named (held c.args.input.now) c.args.version g.row.C g.row.M c.requires.1 in
-    (lit< tt, (lit< tt, (widths.0, widths.1, c.in-Ok.ensures.ok.listens.can)))
 
 pub returns-in-Ok : goal.returns-in-Ok
 returns-in-Ok g c =

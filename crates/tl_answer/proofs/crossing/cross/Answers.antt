@@ -1,21 +1,13 @@
-use Rattle.tl_answer.proofs.Names.{lit<, false, all_of, spelled, held}
+use Rattle.tl_answer.proofs.Names.{false, all_of, spelled}
 use Rattle.tl_answer.proofs.Answering.{of-both, script-text}
 use Rattle.tl_answer.proofs.CrossingSize.{crossing_small}
-use Rattle.tl_stream.proofs.ToRead.{widths_named}
 use Rattle.tl_answer.proofs.Listening.{all-near}
 use Rattle.tl_answer.proofs.Whole.{reads_answer}
 use Rattle.tl_answer.proofs.crossing.cross.Goals as goal
 
 pub read_through-requires-room-L-Listener : goal.read_through-requires-room-L-Listener
 read_through-requires-room-L-Listener g c κs within =
-    let widths = widths_named (held c.args.input.now) c.args.version g.row.C g.row.M c.requires.1 in
-    crossing_small g.row.C g.row.M widths.0 widths.1
-
-pub end-requires : goal.end-requires
-end-requires g c =
-    let widths = widths_named (held c.args.input.now) c.args.version g.row.C g.row.M c.requires.1 in
-    let read = c.in-Ok.ensures.ok in
-    (crossing_small g.row.C g.row.M widths.0 widths.1, (lit< tt, (widths.0, widths.1, (c.args.version, read.gone, read.listens))))
+    crossing_small g.row.C g.row.M c.are_widths.ensures.client c.are_widths.ensures.manager
 
 pub returns-in-Ok : goal.returns-in-Ok
 returns-in-Ok g c =

@@ -1,5 +1,5 @@
 use Rattle.tl_answer.proofs.Names.{rules, sym, subst, HasHeader, IsOfText}
-use Rattle.tl_answer.proofs.Headers.{last_client, no_header}
+use Rattle.tl_answer.proofs.Headers.{last_client, no_header, with_client}
 use Rattle.tl_answer.proofs.sync_answer.answer_sync.Goals as goal
 
 pub returns-in_default-clause-err : goal.returns-in_default-clause-err
@@ -16,4 +16,6 @@ with_client-requires-in_default-client c =
 
 -- search finds it as it does the other widths: an edit turns this one
 pub with_client-requires-in-32 : goal.with_client-requires-in-32
-with_client-requires-in-32 c = search rules
+with_client-requires-in-32 c =
+    let header = c.in-Some.header in
+    (with_client c.args.text.now header.version header.client header.manager 32 c.in-32.is (sym c.in-Some.ensures), c.requires.few)

@@ -17,6 +17,6 @@ returns-in-Ok g c =
     let parts = c.in-Ok.ensures in
     record {
       text = of-parts c.args.version (near_beats c.args.script) c.args.check c.if-check.false _ parts.text c.joined.result joined.text;
-      done = all-done c.args.version (near_beats c.args.script) c.args.check _ parts.done c.joined.result joined.done;
+      done = all-done _ _ parts.done c.joined.result joined.done;
       err = joined.err;
     }

@@ -1,13 +1,7 @@
-use Rattle.tl_answer.proofs.Names.{lit<, arith, none_gone}
+use Rattle.tl_answer.proofs.Names.{lit<, none_gone}
 use Rattle.tl_answer.proofs.CrossingSize.{crossing_small}
 use Rattle.tl_answer.proofs.Listening.{none-gone}
 use Rattle.tl_answer.proofs.sync_answer.sync_run_of.Goals as goal
-
-pub new-requires : goal.new-requires
-new-requires g c = (
-  crossing_small g.row.C g.row.M c.requires.client c.requires.manager,
-  (c.requires.client, c.requires.manager, omega arith, omega arith),
-)
 
 pub end-answer-requires : goal.end-answer-requires
 end-answer-requires g c = (
@@ -25,9 +19,6 @@ end-answer-requires g c = (
     ),
   ),
 )
-
-pub let_go-requires : goal.let_go-requires
-let_go-requires g c = (crossing_small g.row.C g.row.M c.requires.client c.requires.manager, (c.requires.client, c.requires.manager))
 
 pub returns : goal.returns
 returns g c =

@@ -1,13 +1,11 @@
-use Rattle.tl_answer.proofs.Names.{lit<, near_beats}
+use Rattle.tl_answer.proofs.Names.{near_beats, subst, sym, IsOfText}
 use Rattle.tl_answer.proofs.Answering.{answers-text, near-is}
-use Rattle.tl_answer.proofs.Headers.{can-cross}
-use Rattle.tl_stream.proofs.Lengths.{lines-few}
+use Rattle.tl_answer.proofs.Whole.{fault_of_text}
 use Rattle.tl_answer.proofs.sync_answer.with_widths.Goals as goal
 
-pub sync_answer_of-requires : goal.sync_answer_of-requires
-sync_answer_of-requires g c =
-    let told = c.in-Ok.ensures.told in
-    (lit< tt, (can-cross c.args.text.now _ _ _ c.requires.0 told.lines (lines-few _ _ _ _ told.lines told.told c.requires.1) _ told.script))
+pub returns-in-Err-clause-err : goal.returns-in-Err-clause-err
+returns-in-Err-clause-err g c = subst (IsOfText c.args.text.now) (sym c.from.ensures)
+    (fault_of_text c.args.text.now c.in-Err.fault c.in-Err.ensures.fault)
 
 pub returns-clause-ok : goal.returns-clause-ok
 returns-clause-ok g c =

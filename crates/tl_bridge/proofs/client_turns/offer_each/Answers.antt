@@ -1,5 +1,5 @@
 use Rattle.std.proofs.Common.{refl}
-use Rattle.tl_bridge.proofs.Words.{on_side_a, on_side_c, on_side_e, of-list, beat_small, client_small, lives-long}
+use Rattle.tl_bridge.proofs.Words.{on_side_a, on_side_c, on_side_e, of-list, lives-long}
 use Rattle.tl_bridge.proofs.SideEnds.{client-ends-then}
 use Rattle.tl_bridge.proofs.client_turns.offer_each.Goals as goal
 
@@ -14,15 +14,6 @@ deref-requires-3 g c = λ κs. (lives-long κs.1.0, lives-long κs.1.1.0)
 
 pub returns-clause-others : goal.returns-clause-others
 returns-clause-others g c = (refl, refl)
-
-pub offer_next-a-requires : goal.offer_next-a-requires
-offer_next-a-requires g c = (client_small g.row.C g.row.M c.requires.client c.requires.manager, (beat_small g.row.C c.requires.client, c.requires))
-
-pub offer_next-c-requires : goal.offer_next-c-requires
-offer_next-c-requires g c = (client_small g.row.C g.row.M c.requires.client c.requires.manager, (beat_small g.row.C c.requires.client, c.requires))
-
-pub offer_next-e-requires : goal.offer_next-e-requires
-offer_next-e-requires g c = (client_small g.row.C g.row.M c.requires.client c.requires.manager, (beat_small g.row.C c.requires.client, c.requires))
 
 pub returns-clause-offers : goal.returns-clause-offers
 returns-clause-offers g c = λ x h.

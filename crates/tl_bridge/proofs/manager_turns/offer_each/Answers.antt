@@ -1,5 +1,5 @@
 use Rattle.std.proofs.Common.{refl}
-use Rattle.tl_bridge.proofs.Words.{on_side_b, on_side_d, of-list, beat_small, manager_small, lives-long}
+use Rattle.tl_bridge.proofs.Words.{on_side_b, on_side_d, of-list, lives-long}
 use Rattle.tl_bridge.proofs.SideEnds.{manager-ends-then}
 use Rattle.tl_bridge.proofs.manager_turns.offer_each.Goals as goal
 
@@ -11,12 +11,6 @@ deref-requires-2 g c = λ κs. (lives-long κs.1.0, lives-long κs.1.1.0)
 
 pub returns-clause-others : goal.returns-clause-others
 returns-clause-others g c = (refl, refl, refl)
-
-pub offer_next-b-requires : goal.offer_next-b-requires
-offer_next-b-requires g c = (manager_small g.row.C g.row.M c.requires.client c.requires.manager, (beat_small g.row.M c.requires.manager, c.requires))
-
-pub offer_next-d-requires : goal.offer_next-d-requires
-offer_next-d-requires g c = (manager_small g.row.C g.row.M c.requires.client c.requires.manager, (beat_small g.row.M c.requires.manager, c.requires))
 
 pub returns-clause-offers : goal.returns-clause-offers
 returns-clause-offers g c = λ x h.

@@ -1,18 +1,11 @@
-use Rattle.std.proofs.Common.{lit<, ◌+◌, ◌^◌, ◌<◌, ◌≤◌, refl, sym, subst, ◌∙◌, arith, zero-le, ⊎_elim}
-use Rattle.tl_bridge.proofs.Words.{near_beats, beats_of, AllStop, counts-on, last-one, nearer, one-round-more, end-few, client_small, manager_small}
+use Rattle.std.proofs.Common.{◌+◌, ◌^◌, ◌<◌, ◌≤◌, refl, sym, subst, ◌∙◌, arith, zero-le, ⊎_elim}
+use Rattle.tl_bridge.proofs.Words.{near_beats, beats_of, AllStop, counts-on, last-one, nearer, one-round-more, end-few}
 use Rattle.tl_bridge.specs.Inner.Arriving.{taken_of}
 use Rattle.tl_bridge.specs.Inner.Sides.{met_progress, past_of}
 use Rattle.tl_bridge.proofs.Rooms.{keeps-room}
-use Rattle.tl_bridge.proofs.SideSizes.{client_run_small, manager_run_small}
 use Rattle.tl_bridge.proofs.Meeting.{met-most, met-ended, new-met}
 use Rattle.tl_bridge.proofs.thread_rounds.play_rounds.Given.{Over}
 use Rattle.tl_bridge.proofs.thread_rounds.play_rounds.Goals as goal
-
-pub meet_sides-requires : goal.meet_sides-requires
-meet_sides-requires g c = (
-  client_small g.row.C g.row.M c.requires.0.client c.requires.0.manager,
-  (manager_small g.row.C g.row.M c.requires.0.client c.requires.0.manager, c.requires.3.sides),
-)
 
 pub rounds-init : goal.rounds-init
 rounds-init g c = record {
@@ -34,15 +27,6 @@ rounds-init g c = record {
   room = c.requires.2;
   few = zero-le;
 }
-
-pub round-requires-after_bounds : goal.round-requires-after_bounds
-round-requires-after_bounds g c = λ κs bounds. (
-  client_run_small g.row.C g.row.M c.requires.0.client c.requires.0.manager,
-  (
-    manager_run_small g.row.C g.row.M c.requires.0.client c.requires.0.manager,
-    (lit< tt, (c.requires.0, c.requires.1, c.rounds.invariant.room, c.rounds.invariant.met)),
-  ),
-)
 
 pub overflow_add-rounds : goal.overflow_add-rounds
 overflow_add-rounds g c =

@@ -1,5 +1,5 @@
 use Rattle.std.proofs.Common.{lit<}
-use Rattle.tl_bridge.proofs.Words.{near_beats, client_small, manager_small, still_sides}
+use Rattle.tl_bridge.proofs.Words.{near_beats}
 use denote.Param.{param, number}
 use denote.Param.Send.{sendable}
 use Rattle.tl_bridge.proofs.client_turns.ClientRun.TheSendSync as client
@@ -31,16 +31,6 @@ play_both-requires-after_bounds g c = λ κs bounds. (
         c.args.manager.now c.requires.3 c.requires.2,
     manager-may c.requires.0.client c.requires.0.manager (near_beats c.args.script.now) c.requires.1 c.args.at.now c.args.client.now
         c.args.manager.now c.requires.3 c.requires.2,
-  ),
-)
-
-pub meet_sides-standings-requires : goal.meet_sides-standings-requires
-meet_sides-standings-requires g c = (
-  client_small g.row.C g.row.M c.requires.0.client c.requires.0.manager,
-  (
-    manager_small g.row.C g.row.M c.requires.0.client c.requires.0.manager,
-    still_sides c.args.client.now.side c.play_both.new.client.side c.args.manager.now.side c.play_both.new.manager.side
-        c.play_both.ensures.client.same.0 c.play_both.ensures.manager.same.0 c.requires.3.sides,
   ),
 )
 

@@ -1,8 +1,7 @@
-use Rattle.std.proofs.Common.{lit<, refl, sym, subst, ⊎_elim, inl, inr}
-use Rattle.tl_bridge.proofs.Words.{near_beats, beats_of, HasEnded, client_small, manager_small, not-ok}
+use Rattle.std.proofs.Common.{refl, sym, subst, ⊎_elim, inl, inr}
+use Rattle.tl_bridge.proofs.Words.{near_beats, beats_of, HasEnded, not-ok}
 use Rattle.tl_bridge.proofs.Words.{only-memory, stalled-never}
 use Rattle.tl_bridge.specs.Inner.Sides.{bridge_of}
-use Rattle.tl_bridge.proofs.SideSizes.{client_run_small, manager_run_small}
 use Rattle.tl_ring.specs.declared.fault.BuildFault.TheVariants as building
 use Rattle.tl_bridge.proofs.threads_run.run_threads.Goals as goal
 
@@ -13,48 +12,6 @@ returns-then-ring-eq0 g c = record {
   ring_size = (λ same. ⊎_elim (λ z. inl z) (λ p. inr p.1) c.then-ring-eq0.either, λ either. refl);
   never_stalled = stalled-never building.RingSize _ refl;
 }
-
-pub new-requires : goal.new-requires
-new-requires g c = (lit< tt, (lit< tt, (record { client = c.requires.client; manager = c.requires.manager }, c.requires.short)))
-
-pub bridge-requires : goal.bridge-requires
-bridge-requires g c = (
-  client_small g.row.C g.row.M c.requires.client c.requires.manager,
-  (manager_small g.row.C g.row.M c.requires.client c.requires.manager, (c.requires.client, c.requires.manager)),
-)
-
-pub play_rounds-end-requires-after_bounds : goal.play_rounds-end-requires-after_bounds
-play_rounds-end-requires-after_bounds g c = λ κs bounds. (
-  client_run_small g.row.C g.row.M c.requires.client c.requires.manager,
-  (
-    manager_run_small g.row.C g.row.M c.requires.client c.requires.manager,
-    (
-      lit< tt,
-      (
-        record { client = c.requires.client; manager = c.requires.manager },
-        c.requires.short,
-        c.in-Ok.ensures.room,
-        record {
-          sides = c.in-Ok-bridge.ensures.pair;
-          space = c.args.ring;
-          some = (c.in-Ok-bridge.ensures.size refl).0;
-          client = c.in-Ok-bridge.ensures.client;
-          manager = c.in-Ok-bridge.ensures.manager;
-        },
-        c.in-Ok.ensures.empty,
-      ),
-    ),
-  ),
-)
-
-pub lists_of-requires : goal.lists_of-requires
-lists_of-requires g c = (
-  client_run_small g.row.C g.row.M c.requires.client c.requires.manager,
-  (
-    manager_run_small g.row.C g.row.M c.requires.client c.requires.manager,
-    (lit< tt, record { client = c.requires.client; manager = c.requires.manager }),
-  ),
-)
 
 pub returns : goal.returns
 returns g c =
@@ -69,8 +26,14 @@ returns g c =
       never_stalled = tt;
     }
 
--- no memory for the lists, or for the bridge
+-- no memory for the lists
 pub returns-in_default : goal.returns-in_default
 returns-in_default g c =
+    let only = only-memory _ refl c.args.ring c.if-ring-eq0.false c.if-ring-gt-MAX_RING.false in
+    record { outcome = tt; size = λ ok. not-ok ok; ring_size = only.0; never_stalled = only.1 }
+
+-- or for the bridge
+pub returns-in_default-bridge : goal.returns-in_default-bridge
+returns-in_default-bridge g c =
     let only = only-memory _ refl c.args.ring c.if-ring-eq0.false c.if-ring-gt-MAX_RING.false in
     record { outcome = tt; size = λ ok. not-ok ok; ring_size = only.0; never_stalled = only.1 }

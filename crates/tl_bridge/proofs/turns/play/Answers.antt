@@ -1,14 +1,8 @@
-use Rattle.std.proofs.Common.{inl, lit<}
+use Rattle.std.proofs.Common.{inl}
 use Rattle.tl_bridge.proofs.Words.{near_beats}
 use Rattle.tl_bridge.specs.Inner.Sides.{none_ready}
 use Rattle.tl_bridge.proofs.SidePlays.{played-first, played-then}
 use Rattle.tl_bridge.proofs.turns.play.Goals as goal
-
-pub take_each-requires : goal.take_each-requires
-take_each-requires g c = (c.requires.0, c.requires.2.room)
-
-pub turn-played-requires : goal.turn-played-requires
-turn-played-requires g c = (lit< tt, (c.requires.0, c.requires.1, c.requires.2.few))
 
 pub returns-then-not-played : goal.returns-then-not-played
 returns-then-not-played g c =
@@ -16,23 +10,20 @@ returns-then-not-played g c =
     c.turn-played.result c.take_each.ensures c.turn-played.ensures
 
 pub turns-init : goal.turns-init
-turns-init g c = (
-  played-first g.S.PlaysRounds.playing (near_beats c.args.script.now) c.args.at.now c.args.side.now c.take_each.new.self c.turn-played.new.self
-      c.turn-played.result c.take_each.ensures c.turn-played.ensures,
-  c.if-not-played.false,
-)
-
-pub turn-last-requires : goal.turn-last-requires
-turn-last-requires g c = let may = c.requires.2 in
-    (lit< tt, (c.requires.0, c.requires.1, (c.turns.invariant.0.is_at may.round none_ready may.is_at may.due).0))
+turns-init g c =
+    let may = c.requires.2 in
+    let played = played-first g.S.PlaysRounds.playing (near_beats c.args.script.now) c.args.at.now c.args.side.now c.take_each.new.self
+    c.turn-played.new.self c.turn-played.result c.take_each.ensures c.turn-played.ensures in
+    (played, c.if-not-played.false, (played.is_at may.round none_ready may.is_at may.due).0)
 
 pub turns-preserved : goal.turns-preserved
-turns-preserved g c = let i = c.turns.invariant in (
-  played-then g.S.PlaysRounds.playing (near_beats c.args.script.now) c.args.at.now c.args.side.now c.turns.side c.turn-last.new.self c.turns.played
-      c.turn-last.result c.then-played.result i.0 i.1
-      c.turn-last.ensures c.then-played.ensures.at c.then-played.ensures.offers c.then-played.ensures.moved,
-  c.then-played.ensures.moved.1 (inl i.1),
-)
+turns-preserved g c =
+    let may = c.requires.2 in
+    let i = c.turns.invariant in
+    let played = played-then g.S.PlaysRounds.playing (near_beats c.args.script.now) c.args.at.now c.args.side.now c.turns.side
+    c.turn-last.new.self c.turns.played c.turn-last.result c.then-played.result i.0 i.1
+    c.turn-last.ensures c.then-played.ensures.at c.then-played.ensures.offers c.then-played.ensures.moved in
+    (played, c.then-played.ensures.moved.1 (inl i.1), (played.is_at may.round none_ready may.is_at may.due).0)
 
 pub returns : goal.returns
 returns g c = c.turns.invariant.0

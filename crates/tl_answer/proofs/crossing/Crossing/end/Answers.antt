@@ -1,11 +1,7 @@
-use Rattle.tl_answer.proofs.Names.{IfOk, lit<, ◌≡◌, ◌∙◌, subst, list_all, Beats, CanRun, HasRun, is_done, HasLines, all_of}
-use Rattle.tl_answer.proofs.CrossingSize.{run_small}
+use Rattle.tl_answer.proofs.Names.{IfOk, ◌≡◌, ◌∙◌, subst, list_all, Beats, CanRun, HasRun, is_done, HasLines, all_of}
 use Rattle.tl_answer.proofs.FarTexts.{answer-is}
 use Rattle.tl_answer.proofs.Listening.{are-end, has-all}
 use Rattle.tl_answer.proofs.crossing.Crossing.end.Goals as goal
-
-pub end-ended-requires : goal.end-ended-requires
-end-ended-requires g c = (run_small g.row.C g.row.M c.requires.0 c.requires.1, (lit< tt, (c.requires.0, (c.requires.1, c.requires.2.2.goes.can))))
 
 pub returns-in-Ok : goal.returns-in-Ok
 returns-in-Ok g c =

@@ -1,18 +1,7 @@
-use Rattle.tl_sides.proofs.BridgeSize.{bridge_small}
 use Rattle.tl_answer.proofs.Names.{CanRun, HasRun, HasLines}
 use Rattle.tl_run.specs.Arrivals.{no_beats}
-use Rattle.tl_answer.proofs.CrossingSize.{run_small}
 use Rattle.tl_answer.proofs.Listening.{new-goes, short-lists}
 use Rattle.tl_answer.proofs.crossing.Crossing.new.Goals as goal
-
-pub new-requires-2 : goal.new-requires-2
-new-requires-2 g c = (bridge_small g.row.C g.row.M c.requires.0 c.requires.1, (c.requires.0, c.requires.1))
-
-pub new-requires-in-Ok-new : goal.new-requires-in-Ok-new
-new-requires-in-Ok-new g c = (
-  bridge_small g.row.C g.row.M c.requires.0 c.requires.1,
-  (run_small g.row.C g.row.M c.requires.0 c.requires.1, (c.args.ring, c.requires.2, c.in-Ok-new.ensures.new)),
-)
 
 pub returns-in-Ok-new-clause-new : goal.returns-in-Ok-new-clause-new
 returns-in-Ok-new-clause-new g c = λ s few.

@@ -1,22 +1,6 @@
 use Rattle.tl_answer.proofs.Names.{Ok, form_a, form_b, form_c, form_d, form_e, far_header, five_ok}
-use Rattle.tl_ring.proofs.FieldSizes.{beat_small}
 use Rattle.tl_answer.proofs.FarTexts.{lines-on, lines-more}
 use Rattle.tl_answer.proofs.far_text.FarTextsFarSink.take.Goals as goal
-
-pub write_far-a-requires : goal.write_far-a-requires
-write_far-a-requires g c = (beat_small g.row.M c.requires.manager, c.requires.manager)
-
-pub write_far-b-requires : goal.write_far-b-requires
-write_far-b-requires g c = (beat_small g.row.C c.requires.client, c.requires.client)
-
-pub write_far-c-requires : goal.write_far-c-requires
-write_far-c-requires g c = (beat_small g.row.M c.requires.manager, c.requires.manager)
-
-pub write_far-d-requires : goal.write_far-d-requires
-write_far-d-requires g c = (beat_small g.row.C c.requires.client, c.requires.client)
-
-pub write_far-e-requires : goal.write_far-e-requires
-write_far-e-requires g c = (beat_small g.row.M c.requires.manager, c.requires.manager)
 
 pub returns-in-Ok-clause-far : goal.returns-in-Ok-clause-far
 returns-in-Ok-clause-far g c = λ far h.

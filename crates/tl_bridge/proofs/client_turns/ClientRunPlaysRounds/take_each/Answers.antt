@@ -1,5 +1,4 @@
 use Rattle.std.proofs.Common.{◌+◌, ◌++◌, ◌≤◌, length, vec_len, vec_capacity, refl, sym, ap, subst, ◌∙◌}
-use Rattle.tl_bridge.proofs.Words.{beat_small, client_small}
 use Rattle.tl_bridge.specs.Inner.Sides.{SameClientEnds}
 use Rattle.tl_bridge.proofs.SidePlays.{client-taken}
 use Rattle.tl_bridge.proofs.client_turns.ClientRunPlaysRounds.take_each.Goals as goal
@@ -13,19 +12,16 @@ append-requires-2 g c = subst (λ q. vec_len c.args.self.now.far_d + length q �
     (sym c.inbox_d.ensures) c.requires.1.1
 
 pub inbox_b-requires : goal.inbox_b-requires
-inbox_b-requires g c = (client_small g.row.C g.row.M c.requires.0.client c.requires.0.manager, beat_small g.row.C c.requires.0.client)
+inbox_b-requires g c = (c.sides_fit.ensures.client, c.beat_fits.ensures)
 
 pub append-requires-room-B-Clone : goal.append-requires-room-B-Clone
-append-requires-room-B-Clone g c κs = beat_small g.row.C c.requires.0.client
+append-requires-room-B-Clone g c κs = c.beat_fits.ensures
 
 pub inbox_d-requires : goal.inbox_d-requires
-inbox_d-requires g c = (client_small g.row.C g.row.M c.requires.0.client c.requires.0.manager, beat_small g.row.C c.requires.0.client)
+inbox_d-requires g c = (c.sides_fit.ensures.client, c.beat_fits.ensures)
 
 pub append-requires-2-room-B-Clone : goal.append-requires-2-room-B-Clone
-append-requires-2-room-B-Clone g c κs = beat_small g.row.C c.requires.0.client
-
-pub take_all-requires : goal.take_all-requires
-take_all-requires g c = (client_small g.row.C g.row.M c.requires.0.client c.requires.0.manager, c.requires.0.client)
+append-requires-2-room-B-Clone g c κs = c.beat_fits.ensures
 
 pub returns : goal.returns
 returns g c =

@@ -1,5 +1,5 @@
-use Rattle.std.proofs.Common.{◌+◌, sym, refl, subst, lit<, arith}
-use Rattle.tl_bridge.proofs.Words.{Takes, client_pumps, near_beats, PerChannel, Offered, counted, few-enough, client_small}
+use Rattle.std.proofs.Common.{◌+◌, sym, refl, subst, arith}
+use Rattle.tl_bridge.proofs.Words.{Takes, client_pumps, near_beats, PerChannel, Offered, counted, few-enough}
 use Rattle.tl_bridge.specs.Inner.Sides.{RoundOf, client_playing}
 use Rattle.tl_bridge.proofs.Resting.{client-rests}
 use Rattle.tl_bridge.proofs.SideEnds.{client-pumped, client-fetched, client-goes}
@@ -7,14 +7,11 @@ use Rattle.tl_bridge.proofs.SidePlays.{still-few, turned}
 use Rattle.tl_bridge.proofs.SideRound.{client-turned}
 use Rattle.tl_bridge.proofs.client_turns.ClientRunPlaysRounds.turn.Goals as goal
 
-pub offer_each-offers-requires : goal.offer_each-offers-requires
-offer_each-offers-requires g c = (client_small g.row.C g.row.M c.requires.0.client c.requires.0.manager, (lit< tt, c.requires.0))
-
 pub pump-pumped-requires : goal.pump-pumped-requires
-pump-pumped-requires g c = client_small g.row.C g.row.M c.requires.0.client c.requires.0.manager
+pump-pumped-requires g c = c.sides_fit.ensures.client
 
 pub fetch-fetched-requires : goal.fetch-fetched-requires
-fetch-fetched-requires g c = client_small g.row.C g.row.M c.requires.0.client c.requires.0.manager
+fetch-fetched-requires g c = c.sides_fit.ensures.client
 
 pub overflow_add-pumped : goal.overflow_add-pumped
 overflow_add-pumped g c = omega (arith, c.pump-pumped.ensures.most, c.fetch-fetched.ensures.most)

@@ -1,5 +1,4 @@
 use Rattle.std.proofs.Common.{◌+◌, ◌++◌, ◌≤◌, length, vec_len, vec_capacity, refl, sym, ap, subst, ◌∙◌}
-use Rattle.tl_bridge.proofs.Words.{beat_small, manager_small}
 use Rattle.tl_bridge.specs.Inner.Sides.{SameManagerEnds}
 use Rattle.tl_bridge.proofs.SidePlays.{manager-taken}
 use Rattle.tl_bridge.proofs.manager_turns.ManagerRunPlaysRounds.take_each.Goals as goal
@@ -17,25 +16,22 @@ append-requires-3 g c = subst (λ q. vec_len c.args.self.now.far_e + length q �
     (sym c.inbox_e.ensures) c.requires.1.2
 
 pub inbox_a-requires : goal.inbox_a-requires
-inbox_a-requires g c = (manager_small g.row.C g.row.M c.requires.0.client c.requires.0.manager, beat_small g.row.M c.requires.0.manager)
+inbox_a-requires g c = (c.sides_fit.ensures.manager, c.beat_fits.ensures)
 
 pub append-requires-room-B-Clone : goal.append-requires-room-B-Clone
-append-requires-room-B-Clone g c κs = beat_small g.row.M c.requires.0.manager
+append-requires-room-B-Clone g c κs = c.beat_fits.ensures
 
 pub inbox_c-requires : goal.inbox_c-requires
-inbox_c-requires g c = (manager_small g.row.C g.row.M c.requires.0.client c.requires.0.manager, beat_small g.row.M c.requires.0.manager)
+inbox_c-requires g c = (c.sides_fit.ensures.manager, c.beat_fits.ensures)
 
 pub append-requires-2-room-B-Clone : goal.append-requires-2-room-B-Clone
-append-requires-2-room-B-Clone g c κs = beat_small g.row.M c.requires.0.manager
+append-requires-2-room-B-Clone g c κs = c.beat_fits.ensures
 
 pub inbox_e-requires : goal.inbox_e-requires
-inbox_e-requires g c = (manager_small g.row.C g.row.M c.requires.0.client c.requires.0.manager, beat_small g.row.M c.requires.0.manager)
+inbox_e-requires g c = (c.sides_fit.ensures.manager, c.beat_fits.ensures)
 
 pub append-requires-3-room-B-Clone : goal.append-requires-3-room-B-Clone
-append-requires-3-room-B-Clone g c κs = beat_small g.row.M c.requires.0.manager
-
-pub take_all-requires : goal.take_all-requires
-take_all-requires g c = (manager_small g.row.C g.row.M c.requires.0.client c.requires.0.manager, c.requires.0.manager)
+append-requires-3-room-B-Clone g c κs = c.beat_fits.ensures
 
 pub returns : goal.returns
 returns g c =
