@@ -81,8 +81,7 @@ pub(crate) fn are_done(verdicts: &[Verdict; 5]) -> bool
 fn are_short<const C: usize, const M: usize>(script: &Script<C, M>)
     requires { WasRead script.now }
     ensures { HasShortLists script.now }
-{
-}
+{}
 
 /// The run of a script with each side in a thread of its own, as the order has it. Refused with
 /// `OutOfMemory` alone.
@@ -134,8 +133,7 @@ fn beats_fit<const C: usize, const M: usize>()
     requires { IsWidth C × IsWidth M }
     ensures client { beat_size C < 9223372036854775808 }
     ensures manager { beat_size M < 9223372036854775808 }
-{
-}
+{}
 
 /// Writes the lines of the far beats of a run, where none were written before.
 fn take_far<const C: usize, const M: usize>(
@@ -205,8 +203,7 @@ pub(crate) fn are_widths<const C: usize, const M: usize>(input: &Input, version:
     requires { HasHeader (held input.now) version C M }
     ensures client { IsWidth C }
     ensures manager { IsWidth M }
-{
-}
+{}
 
 /// A width that a header names is 128 where it is none of the other seven. Nothing is done.
 fn is_widest(input: &Input, version: u8, client: usize, manager: usize)
@@ -215,8 +212,7 @@ fn is_widest(input: &Input, version: u8, client: usize, manager: usize)
         client ≢ 32 → client ≢ 64 → HasHeader (held input.now) version 128 manager }
     ensures manager { manager ≢ 1 → manager ≢ 2 → manager ≢ 4 → manager ≢ 8 → manager ≢ 16 →
         manager ≢ 32 → manager ≢ 64 → HasHeader (held input.now) version client 128 }
-{
-}
+{}
 
 /// The answer to a text whose header names this version and these widths.
 fn with_widths<T: Threads, R: Read, const C: usize, const M: usize>(

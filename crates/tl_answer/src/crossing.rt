@@ -100,15 +100,13 @@ fn run_fits<const C: usize, const M: usize>()
     requires { IsWidth C × IsWidth M }
     ensures run { run_size C M < 9223372036854775808 }
     ensures bridge { bridge_size C M < 9223372036854775808 }
-{
-}
+{}
 
 // And with its texts. Nothing is done.
 pub(crate) fn crossing_fits<const C: usize, const M: usize>()
     requires { IsWidth C × IsWidth M }
     ensures { crossing_size C M < 9223372036854775808 }
-{
-}
+{}
 
 impl<const C: usize, const M: usize> Listener<Crossing<C, M>, C, M> for Crossing<C, M> {
     ghost Listens = { Crosses };

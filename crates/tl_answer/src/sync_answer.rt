@@ -101,8 +101,7 @@ fn can_cross<const C: usize, const M: usize>(text: &[u8], version: u8, script: &
     requires { HasHeader text.now version C M × (length text.now ≤ most_bytes) ×
         TellsScript version text.now script.now }
     ensures { CanCross script.now }
-{
-}
+{}
 
 /// The answer to a text whose header names this version and these widths.
 fn with_widths<const C: usize, const M: usize>(

@@ -10,20 +10,17 @@ pub(crate) fn sides_fit<const C: usize, const M: usize>()
     requires { IsWidth C × IsWidth M }
     ensures client { client_size C M < 9223372036854775808 }
     ensures manager { manager_size C M < 9223372036854775808 }
-{
-}
+{}
 
 // What the thread of each side holds.
 pub(crate) fn runs_fit<const C: usize, const M: usize>()
     requires { IsWidth C × IsWidth M }
     ensures client { client_run_size C M < 9223372036854775808 }
     ensures manager { manager_run_size C M < 9223372036854775808 }
-{
-}
+{}
 
 // A beat on a bus of this width, on each channel.
 pub(crate) fn beat_fits<const W: usize>()
     requires { IsWidth W }
     ensures { beat_size W < 9223372036854775808 }
-{
-}
+{}

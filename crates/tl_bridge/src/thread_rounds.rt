@@ -66,14 +66,10 @@ fn play_both<
 }
 
 // Two sides of one bridge that each went on by itself are sides of one bridge. Nothing is done.
-fn are_sides<const C: usize, const M: usize>(
-    client: &ClientSide<C, M>,
-    manager: &ManagerSide<C, M>,
-)
+fn are_sides<const C: usize, const M: usize>(client: &ClientSide<C, M>, manager: &ManagerSide<C, M>)
     requires { WereSides client.now manager.now }
     ensures { AreSides client.now manager.now }
-{
-}
+{}
 
 // A round, and the meeting after it: what both sides have done, and where the beats stand then.
 fn round<R: Threads, G: Gate + Send, H: Gate + Send, const C: usize, const M: usize>(
