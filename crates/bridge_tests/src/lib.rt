@@ -31,6 +31,8 @@ mod tests;
 mod values;
 
 use tl_bridge::SyncBridge;
+use tl_msg::ChA;
+use tl_ring::{SendEnd, SyncPipe};
 use tl_sides::{ClientSide, ManagerSide};
 
 /// Does nothing, for a type whose values can be let go.
@@ -42,4 +44,6 @@ pub fn name_what_is_let_go() {
     can_be_let_go::<SyncBridge<4, 16>>();
     can_be_let_go::<ClientSide<4, 16>>();
     can_be_let_go::<ManagerSide<4, 16>>();
+    can_be_let_go::<SyncPipe<ChA, 8, 4>>();
+    can_be_let_go::<SendEnd<ChA, 8, 4>>();
 }
