@@ -1,6 +1,7 @@
 -- What an offer answers and leaves, and the question whether one may be made, by what the handle holds.
 use Rattle.std.specs.Prelude.{◌≢◌, ◌↔◌, ℕ, Bool, true, false, Option, None, Some, Result, Ok, Err, IsOk, IsTrue, IfErr, OnOk, OnErr, if◌then◌else◌}
 use Rattle.std.proofs.Common.{◌≡◌, List, [], ◌∷◌, refl, sym, ap, ◌∙◌, subst, arith}
+use Rattle.std.proofs.lemmas.Bool.{false≢true}
 use Rattle.std.proofs.lemmas.Option.{none-some}
 use Rattle.tl_msg.specs.declared.fault.SideFault.{SideFault}
 use Rattle.tl_ring.specs.Crossing.{World}
@@ -32,12 +33,9 @@ ready_if p x alike is = is_free_if x.closed x.stage (sym alike.0 ∙ is.0, sym a
 ready_only : {H : Type 0} {w v : ℕ} (p : Pipe H v) (x : World H w v) → AreAlike p x → (IsReady p → ⊥) → is_ready x ≡ false
 ready_only p x alike not = is_free_only x.closed x.stage (λ is. not (alike.0 ∙ is.0, alike.1 ∙ is.1))
 
-false_not_true : false ≡ true → ⊥
-false_not_true e = absurd (cc)
-
 ready_told : {H : Type 0} {w v : ℕ} (answer : Bool) (p : Pipe H v) (x : World H w v) → AreAlike p x → IsTrue answer ↔ IsReady p → answer ≡ is_ready x
 ready_told true p x alike asked = sym (ready_if p x alike (asked.0 refl))
-ready_told false p x alike asked = sym (ready_only p x alike (λ ready. false_not_true (asked.1 ready)))
+ready_told false p x alike asked = sym (ready_only p x alike (λ ready. false≢true (asked.1 ready)))
 
 verdict_told : (offered : Result Unit SideFault) (verdict : Option SideFault) → IsOk offered ↔ (verdict ≡ None) →
     IfErr offered (λ fault. verdict ≡ Some fault)

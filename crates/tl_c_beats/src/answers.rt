@@ -45,7 +45,7 @@ pub fn offer_number(offered: Result<(), SideFault>) -> u8
 }
 
 /// 0 where a channel was closed, else the number of its fault.
-pub(crate) fn close_number(closed: Result<(), EndFault>) -> u8
+pub fn close_number(closed: Result<(), EndFault>) -> u8
     ensures { result ≡ close_number closed }
 {
     match closed {

@@ -19,7 +19,9 @@ mod text_held;
 mod texts;
 
 pub use answer_block::AnswerBlock;
-pub use answers::{NO_SIDE, NOT_READY, OTHER_BRIDGE, OUT_OF_MEMORY, VERSION, offer_number};
+pub use answers::{
+    NO_SIDE, NOT_READY, OTHER_BRIDGE, OUT_OF_MEMORY, VERSION, close_number, offer_number,
+};
 pub use closes::{close_a, close_b, close_c, close_d, close_e};
 pub use counts::{BeatCounts, ChannelCounts, channel_counts};
 pub use fields::{

@@ -32,7 +32,7 @@ impl AnswerBlock {
     }
 
     /// No answer, and the line that has the fault.
-    fn none(alloc: Global, line: Option<u64>) -> AnswerBlock
+    pub fn none(alloc: Global, line: Option<u64>) -> AnswerBlock
         ensures { IsNoBlock line result }
     {
         AnswerBlock {
