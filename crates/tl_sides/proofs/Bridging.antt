@@ -1,9 +1,9 @@
 -- The calls of a bridge are those of its sides' ports, and what moves between an outbox, a ring and an inbox.
-use Rattle.std.proofs.Common.{◌≡◌, ◌≤◌, ◌++◌, ◌∷◌, [], ℕ, true, List, Option, Result, map, take, drop, refl, sym, subst, ap, ◌∙◌}
+use Rattle.std.proofs.Common.{◌≡◌, ◌≤◌, ◌-◌, ◌++◌, ◌∷◌, [], ℕ, true, List, Option, Result, length, map, take, drop, min, refl, sym, subst, ap, ◌∙◌}
 use Rattle.std.proofs.Common.{arith}
 use Rattle.tl_sides.proofs.Words.{Buffer, buffer, Rules, partial_not_c, partial_not_d, rules_a, rules_b, rules_c, rules_d, rules_e, HeadA, HeadB}
 use Rattle.tl_sides.proofs.Words.{HeadC, HeadD, HeadE, BeatOf, homes_with, Outgoing, HasSent, IsOpen, World, offered, pushed, popped, took}
-use Rattle.tl_sides.proofs.Words.{stands_new, stands_offered, stands_pushed, stands_popped, stands_took, stands_emptied}
+use Rattle.tl_sides.proofs.Words.{inbox_room, ROOM, stands_new, stands_offered, stands_pushed, stands_popped, stands_took, stands_emptied}
 use Rattle.tl_sides.proofs.Words.{stands_shut, Event, Ask, Answer, asked, answered, manager_home, manager_homes, asked_ask, asked_answer}
 use Rattle.tl_sides.proofs.Words.{answered_ask, answered_answer, SideFault, EndFault}
 use Rattle.tl_settle.specs.Books.{KnowsClient, KnowsManager}
@@ -20,7 +20,6 @@ use Rattle.tl_sides.proofs.Lifting.{offer_lifted, close_lifted, take_lifted}
 use Rattle.tl_sides.specs.Ports.{ClientNow, ClientDone, ClientStands, client_new, ManagerNow, ManagerDone, ManagerStands, manager_new, Away, Hither}
 use Rattle.tl_sides.specs.Ports.{port_sends_a, port_sends_b, port_sends_c, port_sends_d, port_sends_e, port_takes_a, port_takes_b, port_takes_c}
 use Rattle.tl_sides.specs.Ports.{port_takes_d, port_takes_e}
-use Rattle.tl_sides.specs.Inner.Moving.{IsPumped, IsFetched}
 use Rattle.tl_sides.specs.Joining.{pipe_of, bridge_of}
 use Rattle.tl_sides.specs.declared.sync_bridge.SyncBridge.TheInside.{Inside}
 use Rattle.tl_sides.proofs.PortSteps.{between_of}
@@ -274,20 +273,22 @@ module _ {A : Type 0} {C M : ℕ} (q : Inside C M A) where
 -- a pump of an outbox and a ring is one of their pipe, and so is a fetch
 module _ {H : Type 0} (r : Rules H) (masked : (h : H) → r.partial h ≡ true → r.masked ≡ true) (w : ℕ) {v : ℕ} (o : Outgoing H v)
     (ring : Buffer (BeatOf H v)) (inbox : List (BeatOf H v)) (k : ℕ) where
-  pub pumped : {o' : Outgoing H v} {ring' : Buffer (BeatOf H v)} → IsPumped o ring k o' ring' →
+  pub pumped : {o' : Outgoing H v} {ring' : Buffer (BeatOf H v)} → k ≡ min (length o.stage) (ring.capacity - length ring.items) →
+      o' ≡ record o { stage = drop k o.stage } → ring' ≡ buffer (ring.items ++ take k o.stage) ring.capacity → k ≤ ROOM →
       Moves r w (pipe_of o ring inbox) (pipe_of o' ring' inbox) k (pump_count (pipe_of o ring inbox)) pushed
-  pumped on = record {
-    count = on.count;
-    moved = λ x h. rw (on.rest, on.grown) (stands_pushed r masked k (pipe_of o ring inbox) x (omega (arith, on.count)) h);
-    most = on.most;
+  pumped count rest grown most = record {
+    count = count;
+    moved = λ x h. rw (rest, grown) (stands_pushed r masked k (pipe_of o ring inbox) x (omega (arith, count)) h);
+    most = most;
   }
 
-  pub fetched : {ring' : Buffer (BeatOf H v)} {inbox' : List (BeatOf H v)} → IsFetched ring inbox k ring' inbox' →
+  pub fetched : {ring' : Buffer (BeatOf H v)} {inbox' : List (BeatOf H v)} → k ≡ min (length ring.items) (inbox_room - length inbox) →
+      ring' ≡ buffer (drop k ring.items) ring.capacity → inbox' ≡ inbox ++ take k ring.items → k ≤ ROOM →
       Moves r w (pipe_of o ring inbox) (pipe_of o ring' inbox') k (fetch_count (pipe_of o ring inbox)) popped
-  fetched out = record {
-    count = out.count;
-    moved = λ x h. rw (out.left, out.more) (stands_popped r masked k (pipe_of o ring inbox) x (omega (arith, out.count)) h);
-    most = out.most;
+  fetched count left more most = record {
+    count = count;
+    moved = λ x h. rw (left, more) (stands_popped r masked k (pipe_of o ring inbox) x (omega (arith, count)) h);
+    most = most;
   }
 
 -- a new bridge

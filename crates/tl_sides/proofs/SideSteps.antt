@@ -12,7 +12,6 @@ use Rattle.tl_sides.proofs.Lifting.{offer_lifted, close_lifted, take_lifted}
 use Rattle.tl_sides.specs.Ports.{ClientNow, ClientDone, ClientStands, ManagerNow, ManagerDone, ManagerStands}
 use Rattle.tl_sides.specs.Ports.{port_sends_a, port_sends_b, port_sends_c, port_sends_d, port_sends_e, port_takes_a, port_takes_b, port_takes_c}
 use Rattle.tl_sides.specs.Ports.{port_takes_d, port_takes_e}
-use Rattle.tl_sides.specs.Inner.Moving.{IsSent, IsReceived}
 use Rattle.tl_sides.specs.Ends.{Pumps, Fetches, AreStanding, pump_count, fetch_count, after_pump}
 use Rattle.tl_sides.specs.Sides.{ClientState, ManagerState, ClientPast, ManagerPast, ClientStandsFor, ManagerStandsFor, AreSides, SidesMeet}
 use Rattle.tl_sides.specs.Sides.{client_state_of, manager_state_of, client_pumps, manager_pumps}
@@ -401,8 +400,21 @@ PumpsEnd {K} {A} {H} r w {v} s s' n = record {
   stands : (x : World H w v) → Sends r s x → Sends r s' (after_pump s s' x);
 }
 
--- what moved into a half of a ring
-pub pumps_end : {K A H : Type 0} (r : Rules H) (w : ℕ) {v : ℕ} (s s' : Sending K A H v) (n : ℕ) → IsSent r w s s' n → PumpsEnd r w s s' n
+abbrev pub FetchesEnd : {K A H : Type 0} {v : ℕ} (t t' : Taking K A H v) (n : ℕ) → Type 0
+FetchesEnd {K} {A} {H} {v} t t' n = record {
+  least : min (length (known_items t)) (inbox_room - length t.inbox) ≤ n;
+  most : n ≤ inbox_room - length t.inbox;
+  fetched : Fetched t n t';
+  takes : (taken : List (BeatOf H v)) → Takes t taken → Takes t' taken;
+}
+
+-- what moved into a half of a ring, and out of one
+pub pumps_end : {K A H : Type 0} (r : Rules H) (w : ℕ) {v : ℕ} (s s' : Sending K A H v) (n : ℕ) → record {
+  least : min (length s.stage) (known_free s) ≤ n;
+  most : (n ≤ length s.stage) × (n ≤ ROOM);
+  pushed : Pushed s n s';
+  stands : (x : World H w v) → Sends r s x → Sends r s' (passed n x);
+} → PumpsEnd r w s s' n
 pumps_end r w s s' n e =
     let count = pump_counted n s s' e.most.0 e.pushed in record {
       count = count;
@@ -488,7 +500,7 @@ module _ {A : Type 0} {C M : ℕ} where
   }
 
   pub client_fetched : {inside s : ClientState A C M} → inside ≡ s → (b : Taking ChB A HeadB C) (d : Taking ChD A HeadD C) (i j : ℕ) →
-      IsReceived inside.b b i → IsReceived inside.d d j → ClientFetches s (record inside { b = b; d = d }) (i + j)
+      FetchesEnd inside.b b i → FetchesEnd inside.d d j → ClientFetches s (record inside { b = b; d = d }) (i + j)
   client_fetched {inside} view b d i j on_b on_d = subst (λ s. ClientFetches s (record inside { b = b; d = d }) (i + j)) view (
       let count_b = fetch_counted i inside.b b on_b.fetched in
       let count_d = fetch_counted j inside.d d on_d.fetched in
@@ -522,7 +534,7 @@ module _ {A : Type 0} {C M : ℕ} where
 
   pub manager_fetched : {inside s : ManagerState A C M} → inside ≡ s →
       (a : Taking ChA A HeadA M) (c : Taking ChC A HeadC M) (e : Taking ChE A HeadE M)
-      (i j k : ℕ) → IsReceived inside.a a i → IsReceived inside.c c j → IsReceived inside.e e k →
+      (i j k : ℕ) → FetchesEnd inside.a a i → FetchesEnd inside.c c j → FetchesEnd inside.e e k →
       ManagerFetches s (record inside { a = a; c = c; e = e }) (i + j + k)
   manager_fetched {inside} view a c e i j k on_a on_c on_e = subst (λ s. ManagerFetches s (record inside { a = a; c = c; e = e }) (i + j + k)) view (
       let count_a = fetch_counted i inside.a a on_a.fetched in

@@ -1,5 +1,3 @@
 pub mod NotingAll
 pub mod Making
 pub mod Meeting
-pub mod Moving
-pub mod Staging

@@ -6,49 +6,27 @@ ghost use Rattle.tl_sides.specs.Bridges.{Past, StandsFor};
 ghost use Rattle.tl_sides.specs.ChannelCalls.{after_take_all, passed, passes_a, passes_b, passes_c, passes_d, passes_e};
 ghost use Rattle.tl_sides.specs.Joining.{pipe_of};
 
-use crate::moving::{fetch, pump};
 use crate::sync_bridge::SyncBridge;
 use std::alloc::Allocator;
 use tl_msg::{Beat, BeatOf, ChA, ChB, ChC, ChD, ChE, Channel, HeadA, HeadB, HeadC, HeadD, HeadE};
-use tl_ring::{Inbox, Outbox, Ring};
+use tl_ring::{Inbox, Outbox, Ring, fetch, pump};
 
-/// What carries beats from an outbox to an inbox.
-pub(crate) trait Relays<Outbox, Inbox> {
-    // what becomes of all three
-    ghost Relayed: { (outbox : Outbox) → (old : Self) → (inbox : Inbox) → (after : Outbox) → (new : Self) →
-        (come : Inbox) → Type 0 };
-
-    /// Moves what is staged into it. Where that has too little room, its beats go on into the inbox, and
-    /// then what is still staged into it.
-    fn relay(outbox: &mut Outbox, over: &mut Self, inbox: &mut Inbox)
-        ensures { Relayed outbox.old over.old inbox.old outbox.new over.new inbox.new };
-}
-
-impl<K: Channel, const W: usize, const V: usize, A: Allocator> Relays<Outbox<K, W, V>, Inbox<K, V>>
-    for Ring<K, V, A> {
-    ghost Relayed = { λ outbox old inbox after new come.
-        pipe_of after new come ≡ passed (pipe_of outbox old inbox) };
-
-    fn relay(outbox: &mut Outbox<K, W, V>, over: &mut Self, inbox: &mut Inbox<K, V>) {
-        pump(outbox, over);
-        if outbox.staged() == 0 {
-            return;
-        }
-        fetch(over, inbox);
-        pump(outbox, over);
-    }
-}
-
-// Relays over what it knows nothing of, so that who calls it owes no sizes.
-#[inline(always)]
-fn pass_on<Outbox, Inbox, Over: Relays<Outbox, Inbox>>(
-    outbox: &mut Outbox,
-    over: &mut Over,
-    inbox: &mut Inbox,
+// Moves what is staged into the ring. Where that has too little room, the ring's beats go on into the inbox,
+// and then what is still staged into the ring.
+fn pass_on<K: Channel, const W: usize, const V: usize, A: Allocator>(
+    outbox: &mut Outbox<K, W, V>,
+    ring: &mut Ring<K, V, A>,
+    inbox: &mut Inbox<K, V>,
 )
-    ensures { Over.Relayed outbox.old over.old inbox.old outbox.new over.new inbox.new }
+    ensures { pipe_of outbox.new ring.new inbox.new ≡
+        passed (pipe_of outbox.old ring.old inbox.old) }
 {
-    Over::relay(outbox, over, inbox);
+    pump(outbox, ring);
+    if outbox.staged() == 0 {
+        return;
+    }
+    fetch(ring, inbox);
+    pump(outbox, ring);
 }
 
 /// What passes on what is staged of the channel on which it offers beats `B`.

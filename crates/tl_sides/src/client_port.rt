@@ -9,10 +9,10 @@ ghost use Rattle.tl_sides.specs.Ports.{ClientDone, ClientStands, client_new, tak
 ghost use Rattle.tl_sides.specs.Ports.{port_sends_a, port_sends_c, port_sends_e, port_takes_b, port_takes_d};
 
 use crate::noting::note_all;
-use crate::offering::{Offers, offer, offer_by};
+use crate::offering::{offer_alone, offer_request};
 use std::alloc::{Allocator, Global};
 use std::marker::Model;
-use tl_msg::{Beat, BeatOf, ChA, ChB, ChC, ChD, ChE, HeadA, HeadC, HeadE, SideFault};
+use tl_msg::{Beat, ChA, ChB, ChC, ChD, ChE, SideFault};
 use tl_ring::{EndFault, Inbox, Outbox};
 use tl_settle::ClientBook;
 
@@ -92,7 +92,7 @@ impl<const C: usize, const M: usize, A: Allocator> ClientPort<C, M, A> {
         requires ready { IsOpen self.old.a }
         ensures { OffersBeat port_sends_a beat.now self.old result self.new }
     {
-        offer(self, beat)
+        offer_request(&mut self.book, &mut self.a, beat)
     }
 
     /// Offers a beat of C where C is ready. It is refused exactly with the beat's own fault, and nothing changes then. Else the
@@ -103,7 +103,7 @@ impl<const C: usize, const M: usize, A: Allocator> ClientPort<C, M, A> {
         requires ready { IsOpen self.old.c }
         ensures { OffersBeat port_sends_c beat.now self.old result self.new }
     {
-        offer(self, beat)
+        offer_alone(&mut self.c, beat)
     }
 
     /// Offers a beat of E where E is ready. It is refused exactly with the beat's own fault, and nothing changes then. Else the
@@ -114,7 +114,7 @@ impl<const C: usize, const M: usize, A: Allocator> ClientPort<C, M, A> {
         requires ready { IsOpen self.old.e }
         ensures { OffersBeat port_sends_e beat.now self.old result self.new }
     {
-        offer(self, beat)
+        offer_alone(&mut self.e, beat)
     }
 
     /// Takes the first beat of B's inbox. None exactly where it is empty.
@@ -178,37 +178,4 @@ impl<const C: usize, const M: usize, A: Allocator> ClientPort<C, M, A> {
 
     // Lets the port go.
     pub(crate) fn let_go(self) {}
-}
-
-impl<const C: usize, const M: usize, A: Allocator> Offers<BeatOf<HeadA, C>>
-    for ClientPort<C, M, A> {
-    ghost CanOffer = { λ port. IsWidth C × IsWidth M × IsOpen port.a };
-
-    ghost Offered = { OffersBeat port_sends_a };
-
-    fn offer(&mut self, beat: &BeatOf<HeadA, C>) -> Result<(), SideFault> {
-        offer_by(&mut self.book, &mut self.a, beat)
-    }
-}
-
-impl<const C: usize, const M: usize, A: Allocator> Offers<BeatOf<HeadC, C>>
-    for ClientPort<C, M, A> {
-    ghost CanOffer = { λ port. IsWidth C × IsWidth M × IsOpen port.c };
-
-    ghost Offered = { OffersBeat port_sends_c };
-
-    fn offer(&mut self, beat: &BeatOf<HeadC, C>) -> Result<(), SideFault> {
-        offer(&mut self.c, beat)
-    }
-}
-
-impl<const C: usize, const M: usize, A: Allocator> Offers<BeatOf<HeadE, C>>
-    for ClientPort<C, M, A> {
-    ghost CanOffer = { λ port. IsWidth C × IsWidth M × IsOpen port.e };
-
-    ghost Offered = { OffersBeat port_sends_e };
-
-    fn offer(&mut self, beat: &BeatOf<HeadE, C>) -> Result<(), SideFault> {
-        offer(&mut self.e, beat)
-    }
 }

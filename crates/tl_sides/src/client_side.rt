@@ -10,12 +10,10 @@ ghost use Rattle.tl_sides.specs.Sides.{ClientPast, ClientStandsFor, client_pumps
 ghost use Rattle.tl_sides.specs.Sides.{side_sends_a, side_sends_c, side_sends_e, side_takes_b, side_takes_d};
 
 use crate::client_port::ClientPort;
-use crate::moving::{fetch, pump};
-use crate::offering::offer;
 use std::alloc::{Allocator, Global};
 use std::marker::Model;
 use tl_msg::{BeatOf, ChA, ChB, ChC, ChD, ChE, HeadA, HeadB, HeadC, HeadD, HeadE, SideFault};
-use tl_ring::{EndFault, Intake, SendHalf};
+use tl_ring::{EndFault, Intake, SendHalf, receive, send_staged};
 
 /// The client's side of the bridge, on a bus of `C` bytes. It offers beats of A, C and E, and takes
 /// those of B and D.
@@ -77,7 +75,7 @@ impl<const C: usize, const M: usize, A: Allocator> ClientSide<C, M, A> {
         requires ready { IsReady (as_pipe self.old.a) }
         ensures { OffersBeat side_sends_a beat.entry self.old result self.new }
     {
-        offer(&mut self.port, &beat)
+        self.port.offer_a(&beat)
     }
 
     /// Offers a beat of C where C is ready. It is refused exactly with the beat's own fault, and
@@ -88,7 +86,7 @@ impl<const C: usize, const M: usize, A: Allocator> ClientSide<C, M, A> {
         requires ready { IsReady (as_pipe self.old.c) }
         ensures { OffersBeat side_sends_c beat.entry self.old result self.new }
     {
-        offer(&mut self.port, &beat)
+        self.port.offer_c(&beat)
     }
 
     /// Offers a beat of E where E is ready. No beat of E has a fault. The far beat is staged.
@@ -98,7 +96,7 @@ impl<const C: usize, const M: usize, A: Allocator> ClientSide<C, M, A> {
         requires ready { IsReady (as_pipe self.old.e) }
         ensures { OffersBeat side_sends_e beat.entry self.old result self.new }
     {
-        offer(&mut self.port, &beat)
+        self.port.offer_e(&beat)
     }
 
     /// Takes the first beat of B's inbox, which is lawful at `C` bytes. None exactly where it is
@@ -184,9 +182,9 @@ impl<const C: usize, const M: usize, A: Allocator> ClientSide<C, M, A> {
         ensures stands { (x : ClientPast C M) → ClientStandsFor self.old x →
             ClientStandsFor self.new (client_pumps self.old self.new x) }
     {
-        let a = pump(&mut self.port.a, &mut self.a);
-        let c = pump(&mut self.port.c, &mut self.c);
-        let e = pump(&mut self.port.e, &mut self.e);
+        let a = send_staged(&mut self.port.a, &mut self.a);
+        let c = send_staged(&mut self.port.c, &mut self.c);
+        let e = send_staged(&mut self.port.e, &mut self.e);
         a + c + e
     }
 
@@ -204,8 +202,8 @@ impl<const C: usize, const M: usize, A: Allocator> ClientSide<C, M, A> {
         ensures stands { (x : ClientPast C M) → ClientStandsFor self.old x →
             ClientStandsFor self.new x }
     {
-        let b = fetch(&mut self.b, &mut self.port.b);
-        let d = fetch(&mut self.d, &mut self.port.d);
+        let b = receive(&mut self.b, &mut self.port.b);
+        let d = receive(&mut self.d, &mut self.port.d);
         b + d
     }
 }

@@ -22,7 +22,6 @@ mod client_side;
 mod making;
 mod manager_port;
 mod manager_side;
-mod moving;
 mod noting;
 mod offering;
 mod per_channel;

@@ -1,14 +1,14 @@
 //! What a new bridge is made of: a ring for each channel, whatever it is, and the books of both sides.
-ghost use Rattle.std.specs.Prelude.{◌≡◌, [], ℕ, IfOk};
+ghost use Rattle.std.specs.Prelude.{◌≡◌, [], ℕ};
 ghost use Rattle.circular_buffer.specs.Buffer.{buffer};
 ghost use Rattle.tl_ring.specs.Ends.{IsNewRing};
 ghost use Rattle.tl_settle.specs.Books.{KnowsClient, KnowsManager};
 ghost use Rattle.tl_sides.specs.Inner.Making.{IsMade};
 
 use std::alloc::Allocator;
-use tl_msg::{Channel, OutOfMemory};
+use tl_msg::Channel;
 use tl_ring::{BuildFault, Ring, SendHalf, TakeHalf};
-use tl_settle::{ClientBook, ManagerBook};
+use tl_settle::{ClientBook, ManagerBook, new_books};
 
 /// A ring as both its ends have it.
 pub(crate) type Halves<K, const V: usize, A> = (SendHalf<K, V, A>, TakeHalf<K, V, A>);
@@ -47,59 +47,50 @@ impl<K: Channel, const V: usize, A: Allocator + Copy> NewRing<A> for Halves<K, V
     fn let_go(self) {}
 }
 
-/// The books of both sides of a bridge that is being made.
-pub(crate) trait NewBooks<A> {
-    // no message has begun
-    ghost AreNew: { Self → Type 0 };
-
-    /// The books, refused as [`tl_settle::new_books`] refuses.
-    fn new_books(alloc: A) -> Result<Self, OutOfMemory>
-        ensures { IfOk result (λ books. AreNew books) };
-}
-
-/// The books of both sides of a bridge.
-pub(crate) type Books<const C: usize, const M: usize, A> = (ClientBook<C, A>, ManagerBook<M, A>);
-
-impl<const C: usize, const M: usize, A: Allocator + Copy> NewBooks<A> for Books<C, M, A> {
-    ghost AreNew = { λ books. KnowsClient {w = C} books.0 [] × KnowsManager {w = M} books.1 [] };
-
-    fn new_books(alloc: A) -> Result<Self, OutOfMemory> {
-        tl_settle::new_books(alloc)
-    }
-}
-
 /// What a bridge is made of: a ring for each channel, and the books of both sides.
-pub(crate) type Parts<RingA, RingB, RingC, RingD, RingE, Books> = (
+pub(crate) type Parts<RingA, RingB, RingC, RingD, RingE, const C: usize, const M: usize, A> = (
     RingA,
     RingB,
     RingC,
     RingD,
     RingE,
-    Books,
+    ClientBook<C, A>,
+    ManagerBook<M, A>,
 );
 
+// Two rings, whatever they are: the checker writes out what a way out lets go for each ring that stands there.
+fn two_rings<A: Copy, First: NewRing<A>, Second: NewRing<A>>(
+    alloc: A,
+    ring: usize,
+) -> Result<(First, Second), BuildFault>
+    ensures { IsMade (λ rings. First.IsNew ring rings.0 × Second.IsNew ring rings.1) ring result }
+{
+    let first = given!(First::new_ring(alloc, ring));
+    let second = given!(Second::new_ring(alloc, ring), first);
+    Ok((first, second))
+}
+
 // A ring for each channel, whatever it is, and both books: all that takes memory, so that who calls
-// has one way out. It knows nothing of the rings and books, so that to let some go where the next one
-// fails costs the checker little, and that whoever calls it owes no sizes.
+// has one way out. It knows nothing of the rings, so that to let some go where the next one fails
+// costs the checker little.
 pub(crate) fn new_parts<
-    A: Copy,
+    const C: usize,
+    const M: usize,
+    A: Allocator + Copy,
     RingA: NewRing<A>,
     RingB: NewRing<A>,
     RingC: NewRing<A>,
     RingD: NewRing<A>,
     RingE: NewRing<A>,
-    BothBooks: NewBooks<A>,
->(alloc: A, ring: usize) -> Result<Parts<RingA, RingB, RingC, RingD, RingE, BothBooks>, BuildFault>
+>(alloc: A, ring: usize) -> Result<Parts<RingA, RingB, RingC, RingD, RingE, C, M, A>, BuildFault>
     ensures { IsMade (λ parts. (RingA.IsNew ring parts.0 × RingB.IsNew ring parts.1 ×
         RingC.IsNew ring parts.2 × RingD.IsNew ring parts.3 × RingE.IsNew ring parts.4) ×
-        BothBooks.AreNew parts.5) ring result }
+        KnowsClient {w = C} parts.5 [] × KnowsManager {w = M} parts.6 []) ring result }
 {
-    let a = given!(RingA::new_ring(alloc, ring));
-    let b = given!(RingB::new_ring(alloc, ring), a);
-    let c = given!(RingC::new_ring(alloc, ring), a, b);
-    let d = given!(RingD::new_ring(alloc, ring), a, b, c);
+    let (a, b) = given!(two_rings::<A, RingA, RingB>(alloc, ring));
+    let (c, d) = given!(two_rings::<A, RingC, RingD>(alloc, ring), a, b);
     let e = given!(RingE::new_ring(alloc, ring), a, b, c, d);
-    let Ok(books) = BothBooks::new_books(alloc) else {
+    let Ok((client, manager)) = new_books(alloc) else {
         a.let_go();
         b.let_go();
         c.let_go();
@@ -107,5 +98,5 @@ pub(crate) fn new_parts<
         e.let_go();
         return Err(BuildFault::OutOfMemory);
     };
-    Ok((a, b, c, d, e, books))
+    Ok((a, b, c, d, e, client, manager))
 }

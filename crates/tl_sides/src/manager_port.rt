@@ -9,10 +9,10 @@ ghost use Rattle.tl_sides.specs.Ports.{ManagerDone, ManagerStands, manager_new, 
 ghost use Rattle.tl_sides.specs.Ports.{port_sends_b, port_sends_d, port_takes_a, port_takes_c, port_takes_e};
 
 use crate::noting::note_all;
-use crate::offering::{Offers, offer, offer_by};
+use crate::offering::{offer_alone, offer_response};
 use std::alloc::{Allocator, Global};
 use std::marker::Model;
-use tl_msg::{Beat, BeatOf, ChA, ChB, ChC, ChD, ChE, HeadB, HeadD, SideFault};
+use tl_msg::{Beat, ChA, ChB, ChC, ChD, ChE, SideFault};
 use tl_ring::{EndFault, Inbox, Outbox};
 use tl_settle::ManagerBook;
 
@@ -83,7 +83,7 @@ impl<const C: usize, const M: usize, A: Allocator> ManagerPort<C, M, A> {
         requires ready { IsOpen self.old.b }
         ensures { OffersBeat port_sends_b beat.now self.old result self.new }
     {
-        offer(self, beat)
+        offer_alone(&mut self.b, beat)
     }
 
     /// Offers a beat of D where D is ready. It is refused with the beat's own fault, else, where it opens a message other than
@@ -96,7 +96,7 @@ impl<const C: usize, const M: usize, A: Allocator> ManagerPort<C, M, A> {
         requires ready { IsOpen self.old.d }
         ensures { OffersBeat port_sends_d beat.now self.old result self.new }
     {
-        offer(self, beat)
+        offer_response(&mut self.book, &mut self.d, beat)
     }
 
     /// Takes the first beat of A's inbox. None exactly where it is empty. A first beat begins its request: from now on it may be answered.
@@ -165,26 +165,4 @@ impl<const C: usize, const M: usize, A: Allocator> ManagerPort<C, M, A> {
 
     // Lets the port go.
     pub(crate) fn let_go(self) {}
-}
-
-impl<const C: usize, const M: usize, A: Allocator> Offers<BeatOf<HeadB, M>>
-    for ManagerPort<C, M, A> {
-    ghost CanOffer = { λ port. IsWidth M × IsWidth C × IsOpen port.b };
-
-    ghost Offered = { OffersBeat port_sends_b };
-
-    fn offer(&mut self, beat: &BeatOf<HeadB, M>) -> Result<(), SideFault> {
-        offer(&mut self.b, beat)
-    }
-}
-
-impl<const C: usize, const M: usize, A: Allocator> Offers<BeatOf<HeadD, M>>
-    for ManagerPort<C, M, A> {
-    ghost CanOffer = { λ port. IsWidth M × IsWidth C × IsOpen port.d };
-
-    ghost Offered = { OffersBeat port_sends_d };
-
-    fn offer(&mut self, beat: &BeatOf<HeadD, M>) -> Result<(), SideFault> {
-        offer_by(&mut self.book, &mut self.d, beat)
-    }
 }

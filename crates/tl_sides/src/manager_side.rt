@@ -10,12 +10,10 @@ ghost use Rattle.tl_sides.specs.Sides.{ManagerPast, ManagerStandsFor, manager_pu
 ghost use Rattle.tl_sides.specs.Sides.{side_sends_b, side_sends_d, side_takes_a, side_takes_c, side_takes_e};
 
 use crate::manager_port::ManagerPort;
-use crate::moving::{fetch, pump};
-use crate::offering::offer;
 use std::alloc::{Allocator, Global};
 use std::marker::Model;
 use tl_msg::{BeatOf, ChA, ChB, ChC, ChD, ChE, HeadA, HeadB, HeadC, HeadD, HeadE, SideFault};
-use tl_ring::{EndFault, Intake, SendHalf};
+use tl_ring::{EndFault, Intake, SendHalf, receive, send_staged};
 
 /// The manager's side of the bridge, on a bus of `M` bytes. It offers beats of B and D, and takes
 /// those of A, C and E.
@@ -69,7 +67,7 @@ impl<const C: usize, const M: usize, A: Allocator> ManagerSide<C, M, A> {
         requires ready { IsReady (as_pipe self.old.b) }
         ensures { OffersBeat side_sends_b beat.entry self.old result self.new }
     {
-        offer(&mut self.port, &beat)
+        self.port.offer_b(&beat)
     }
 
     /// Offers a beat of D where D is ready. It is refused with the beat's own fault, else, where it
@@ -83,7 +81,7 @@ impl<const C: usize, const M: usize, A: Allocator> ManagerSide<C, M, A> {
         requires ready { IsReady (as_pipe self.old.d) }
         ensures { OffersBeat side_sends_d beat.entry self.old result self.new }
     {
-        offer(&mut self.port, &beat)
+        self.port.offer_d(&beat)
     }
 
     /// Takes the first beat of A's inbox, which is lawful at `M` bytes. None exactly where it is
@@ -174,8 +172,8 @@ impl<const C: usize, const M: usize, A: Allocator> ManagerSide<C, M, A> {
         ensures stands { (x : ManagerPast C M) → ManagerStandsFor self.old x →
             ManagerStandsFor self.new (manager_pumps self.old self.new x) }
     {
-        let b = pump(&mut self.port.b, &mut self.b);
-        let d = pump(&mut self.port.d, &mut self.d);
+        let b = send_staged(&mut self.port.b, &mut self.b);
+        let d = send_staged(&mut self.port.d, &mut self.d);
         b + d
     }
 
@@ -195,9 +193,9 @@ impl<const C: usize, const M: usize, A: Allocator> ManagerSide<C, M, A> {
         ensures stands { (x : ManagerPast C M) → ManagerStandsFor self.old x →
             ManagerStandsFor self.new x }
     {
-        let a = fetch(&mut self.a, &mut self.port.a);
-        let c = fetch(&mut self.c, &mut self.port.c);
-        let e = fetch(&mut self.e, &mut self.port.e);
+        let a = receive(&mut self.a, &mut self.port.a);
+        let c = receive(&mut self.c, &mut self.port.c);
+        let e = receive(&mut self.e, &mut self.port.e);
         a + c + e
     }
 }

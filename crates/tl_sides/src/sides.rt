@@ -12,7 +12,7 @@ ghost use Rattle.tl_sides.specs.Sides.{AreSides, IsNewClient, IsNewManager, new_
 
 use crate::client_port::ClientPort;
 use crate::client_side::ClientSide;
-use crate::making::{Books, Halves, Parts, new_parts};
+use crate::making::{Halves, Parts, new_parts};
 use crate::manager_port::ManagerPort;
 use crate::manager_side::ManagerSide;
 use crate::sync_bridge::Standings;
@@ -29,18 +29,19 @@ fn sides_over<const C: usize, const M: usize, A: Allocator>(
         Halves<ChC, M, A>,
         Halves<ChD, C, A>,
         Halves<ChE, M, A>,
-        Books<C, M, A>,
+        C,
+        M,
+        A,
     >,
 ) -> (ClientSide<C, M, A>, ManagerSide<C, M, A>)
     // for new rings of one size, and for the books of a new bridge
     ensures { (size : ℕ) → IsWidth C → IsWidth M → IsNewRing size parts.0.0 parts.0.1 ×
         IsNewRing size parts.1.0 parts.1.1 × IsNewRing size parts.2.0 parts.2.1 ×
         IsNewRing size parts.3.0 parts.3.1 × IsNewRing size parts.4.0 parts.4.1 →
-        KnowsClient {w = C} parts.5.0 [] → KnowsManager {w = M} parts.5.1 [] →
+        KnowsClient {w = C} parts.5 [] → KnowsManager {w = M} parts.6 [] →
         AreNewSides size result.0 result.1 }
 {
-    let ((a, a_take), (b, b_take), (c, c_take), (d, d_take), (e, e_take), (client, manager)) =
-        parts;
+    let ((a, a_take), (b, b_take), (c, c_take), (d, d_take), (e, e_take), client, manager) = parts;
     let client = ClientSide {
         port: ClientPort::over(client),
         a,

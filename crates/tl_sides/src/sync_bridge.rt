@@ -12,16 +12,14 @@ ghost use Rattle.tl_sides.specs.Bridges.{bridge_takes_a, bridge_takes_b, bridge_
 ghost use Rattle.tl_sides.specs.Calls.{OffersBeat, ClosesChannel, TakesBeat};
 
 use crate::client_port::ClientPort;
-use crate::making::{Books, Parts, new_parts};
+use crate::making::{Parts, new_parts};
 use crate::manager_port::ManagerPort;
-use crate::moving::{fetch, pump};
-use crate::offering::offer;
 use crate::per_channel::PerChannel;
 use crate::sides::standings_between;
 use std::alloc::{Allocator, Global};
 use std::marker::Model;
 use tl_msg::{Beat, ChA, ChB, ChC, ChD, ChE, SideFault};
-use tl_ring::{BuildFault, EndFault, Ring, Standing};
+use tl_ring::{BuildFault, EndFault, Ring, Standing, fetch, pump};
 
 /// How many far beats stand at each place of each channel.
 pub type Standings = PerChannel<Standing>;
@@ -68,17 +66,19 @@ fn bridge_over<const C: usize, const M: usize, A: Allocator>(
         Ring<ChC, M, A>,
         Ring<ChD, C, A>,
         Ring<ChE, M, A>,
-        Books<C, M, A>,
+        C,
+        M,
+        A,
     >,
 ) -> SyncBridge<C, M, A>
     // for rings of one size, and for the books of a new bridge
     ensures { (ring : ℕ) → 1 ≤ ring → IsWidth C → IsWidth M →
         (parts.0 ≡ buffer [] ring) × (parts.1 ≡ buffer [] ring) × (parts.2 ≡ buffer [] ring) ×
         (parts.3 ≡ buffer [] ring) × (parts.4 ≡ buffer [] ring) →
-        KnowsClient {w = C} parts.5.0 [] → KnowsManager {w = M} parts.5.1 [] →
+        KnowsClient {w = C} parts.5 [] → KnowsManager {w = M} parts.6 [] →
         StandsFor result (nothing_yet ring) }
 {
-    let (a, b, c, d, e, (client, manager)) = parts;
+    let (a, b, c, d, e, client, manager) = parts;
     SyncBridge {
         client: ClientPort::over(client),
         manager: ManagerPort::over(manager),
@@ -155,7 +155,7 @@ impl<const C: usize, const M: usize, A: Allocator> SyncBridge<C, M, A> {
         requires ready { IsReady self.old.a }
         ensures { OffersBeat bridge_sends_a beat.entry self.old result self.new }
     {
-        offer::<Beat<ChA, C>, _>(&mut self.client, &beat)
+        self.client.offer_a(&beat)
     }
 
     /// The manager's side offers a beat of B where B is ready. It is refused exactly with the
@@ -166,7 +166,7 @@ impl<const C: usize, const M: usize, A: Allocator> SyncBridge<C, M, A> {
         requires ready { IsReady self.old.b }
         ensures { OffersBeat bridge_sends_b beat.entry self.old result self.new }
     {
-        offer(&mut self.manager, &beat)
+        self.manager.offer_b(&beat)
     }
 
     /// The client's side offers a beat of C where C is ready. It is refused exactly with the beat's
@@ -177,7 +177,7 @@ impl<const C: usize, const M: usize, A: Allocator> SyncBridge<C, M, A> {
         requires ready { IsReady self.old.c }
         ensures { OffersBeat bridge_sends_c beat.entry self.old result self.new }
     {
-        offer(&mut self.client, &beat)
+        self.client.offer_c(&beat)
     }
 
     /// The manager's side offers a beat of D where D is ready. It is refused with the beat's own
@@ -191,7 +191,7 @@ impl<const C: usize, const M: usize, A: Allocator> SyncBridge<C, M, A> {
         requires ready { IsReady self.old.d }
         ensures { OffersBeat bridge_sends_d beat.entry self.old result self.new }
     {
-        offer(&mut self.manager, &beat)
+        self.manager.offer_d(&beat)
     }
 
     /// The client's side offers a beat of E where E is ready. No beat of E has a fault. The far
@@ -202,7 +202,7 @@ impl<const C: usize, const M: usize, A: Allocator> SyncBridge<C, M, A> {
         requires ready { IsReady self.old.e }
         ensures { OffersBeat bridge_sends_e beat.entry self.old result self.new }
     {
-        offer(&mut self.client, &beat)
+        self.client.offer_e(&beat)
     }
 
     /// The manager's side takes the first beat of A's inbox. None exactly where it is empty. A

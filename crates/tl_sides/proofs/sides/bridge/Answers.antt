@@ -3,6 +3,13 @@ use Rattle.std.proofs.lemmas.Bool.{false≢true}
 use Rattle.tl_sides.proofs.Layouts.{client_side_layout, manager_side_layout, beat_small, inner_small}
 use Rattle.tl_sides.proofs.sides.bridge.Goals as goal
 
+-- each book is a part of a part of its side
+pub new_parts-requires : goal.new_parts-requires
+new_parts-requires g c =
+    let client = client_side_layout g.row.C g.row.M g.row.A g.A.Allocator in
+    let manager = manager_side_layout g.row.C g.row.M g.row.A g.A.Allocator in
+    (inner_small client 0 5 9223372036854775808 c.requires-raw.1.1.1.0, inner_small manager 0 5 9223372036854775808 c.requires-raw.1.1.1.1.0)
+
 -- rings are made, and let go, whose beats fit memory
 pub new_parts-requires-room-RingA-NewRing : goal.new_parts-requires-room-RingA-NewRing
 new_parts-requires-room-RingA-NewRing g c κs within = beat_small g.row.M c.requires.manager
@@ -18,15 +25,6 @@ new_parts-requires-room-RingD-NewRing g c κs within = beat_small g.row.C c.requ
 
 pub new_parts-requires-room-RingE-NewRing : goal.new_parts-requires-room-RingE-NewRing
 new_parts-requires-room-RingE-NewRing g c κs within = beat_small g.row.M c.requires.manager
-
--- each book is a part of a part of its side
-pub new_parts-requires-room-BothBooks-NewBooks : goal.new_parts-requires-room-BothBooks-NewBooks
-new_parts-requires-room-BothBooks-NewBooks g c κs within =
-    inner_small (client_side_layout g.row.C g.row.M g.row.A g.A.Allocator) 0 5 9223372036854775808 c.requires-raw.1.1.1.0
-
-pub new_parts-requires-room-BothBooks-NewBooks-2 : goal.new_parts-requires-room-BothBooks-NewBooks-2
-new_parts-requires-room-BothBooks-NewBooks-2 g c κs within =
-    inner_small (manager_side_layout g.row.C g.row.M g.row.A g.A.Allocator) 0 5 9223372036854775808 c.requires-raw.1.1.1.1.0
 
 pub sides_over-requires : goal.sides_over-requires
 sides_over-requires g c =
@@ -53,7 +51,7 @@ returns-in-Err g c = record {
 pub returns : goal.returns
 returns g c =
     let parts = c.in-Ok.ensures in
-    let sides = c.sides_over.ensures c.args.ring c.requires.client c.requires.manager parts.new.0 parts.new.1.0 parts.new.1.1 in
+    let sides = c.sides_over.ensures c.args.ring c.requires.client c.requires.manager parts.new.0 parts.new.1 parts.new.2 in
     record {
       pair = sides.pair;
       client = sides.client;

@@ -7,17 +7,14 @@ use Rattle.tl_sides.proofs.Layouts.{bridge_layout, part_small, inner_small}
 use Rattle.tl_sides.proofs.Passing.{passes}
 use Rattle.tl_sides.proofs.channel_calls.SyncBridgePassesOnBeatOfHeadE.pass_on.Goals as goal
 
-pub pass_on-requires-room-Over-Relays : goal.pass_on-requires-room-Over-Relays
-pass_on-requires-room-Over-Relays g c κs within =
-    part_small (bridge_layout g.row.C g.row.M g.row.A g.A.Allocator) 6 9223372036854775808 c.requires-raw.1.1.1
-
-pub pass_on-requires-room-Over-Relays-2 : goal.pass_on-requires-room-Over-Relays-2
-pass_on-requires-room-Over-Relays-2 g c κs within =
-    inner_small (bridge_layout g.row.C g.row.M g.row.A g.A.Allocator) 0 4 9223372036854775808 c.requires-raw.1.1.1
-
-pub pass_on-requires-room-Over-Relays-3 : goal.pass_on-requires-room-Over-Relays-3
-pass_on-requires-room-Over-Relays-3 g c κs within =
-    inner_small (bridge_layout g.row.C g.row.M g.row.A g.A.Allocator) 1 4 9223372036854775808 c.requires-raw.1.1.1
+pub pass_on-requires : goal.pass_on-requires
+pass_on-requires g c = (
+  inner_small (bridge_layout g.row.C g.row.M g.row.A g.A.Allocator) 0 4 9223372036854775808 c.requires-raw.1.1.1,
+  (
+    part_small (bridge_layout g.row.C g.row.M g.row.A g.A.Allocator) 6 9223372036854775808 c.requires-raw.1.1.1,
+    inner_small (bridge_layout g.row.C g.row.M g.row.A g.A.Allocator) 1 4 9223372036854775808 c.requires-raw.1.1.1,
+  ),
+)
 
 pub returns : goal.returns
 returns g c =

@@ -2,15 +2,11 @@ use Rattle.tl_sides.proofs.SideSteps.{side_offers_e}
 use Rattle.tl_sides.proofs.Layouts.{client_side_layout, part_small, beat_small}
 use Rattle.tl_sides.proofs.client_side.ClientSide.offer_e.Goals as goal
 
-pub offer-requires : goal.offer-requires
-offer-requires g c = (c.requires.near, c.requires.far, rw (← c.self.view_is) at c.requires.ready)
-
-pub offer-requires-room-To-Offers : goal.offer-requires-room-To-Offers
-offer-requires-room-To-Offers g c κs within =
-    part_small (client_side_layout g.row.C g.row.M g.row.A g.A.Allocator) 0 9223372036854775808 c.requires-raw.1.1.1.0
-
-pub offer-requires-room-To-Offers-2 : goal.offer-requires-room-To-Offers-2
-offer-requires-room-To-Offers-2 g c κs within = beat_small g.row.C c.requires.near
+pub offer_e-requires : goal.offer_e-requires
+offer_e-requires g c = (
+  part_small (client_side_layout g.row.C g.row.M g.row.A g.A.Allocator) 0 9223372036854775808 c.requires-raw.1.1.1.0,
+  (beat_small g.row.C c.requires.near, (c.requires.near, (c.requires.far, rw (← c.self.view_is) at c.requires.ready))),
+)
 
 pub returns : goal.returns
-returns g c = rw (← c.self.view_is) (side_offers_e c.self.inside _ _ _ (rw (← c.self.view_is) at c.requires.ready) c.offer.ensures)
+returns g c = rw (← c.self.view_is) (side_offers_e c.self.inside _ _ _ (rw (← c.self.view_is) at c.requires.ready) c.offer_e.ensures)

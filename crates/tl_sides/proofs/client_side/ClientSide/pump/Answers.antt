@@ -10,57 +10,42 @@ use Rattle.tl_sides.proofs.Layouts.{client_side_layout, part, part_small, inner_
 use Rattle.tl_sides.proofs.SideSteps.{client_side_of, client_pumped, pumps_end}
 use Rattle.tl_sides.proofs.client_side.ClientSide.pump.Goals as goal
 
-pub pump-a-requires-room-To-Loads : goal.pump-a-requires-room-To-Loads
-pump-a-requires-room-To-Loads g c κs within =
-    beat_in_queue (lone head_a.the_row.mir) (layout head_a.the_row) g.row.M 9223372036854775808
-    (part_small (part (part (client_side_layout g.row.C g.row.M g.row.A g.A.Allocator) 0) 0) 1 9223372036854775808
-    (inner_small (client_side_layout g.row.C g.row.M g.row.A g.A.Allocator) 0 0 9223372036854775808 c.requires-raw.1.1.1))
+pub send_staged-a-requires : goal.send_staged-a-requires
+send_staged-a-requires g c =
+    let outbox = inner_small (client_side_layout g.row.C g.row.M g.row.A g.A.Allocator) 0 0 9223372036854775808 c.requires-raw.1.1.1 in
+    let beat = beat_in_queue (lone head_a.the_row.mir) (layout head_a.the_row) g.row.M 9223372036854775808
+    (part_small (part (part (client_side_layout g.row.C g.row.M g.row.A g.A.Allocator) 0) 0) 1 9223372036854775808 outbox) in
+    (outbox, (beat, lit< tt))
 
-pub pump-a-requires-room-To-Loads-2 : goal.pump-a-requires-room-To-Loads-2
-pump-a-requires-room-To-Loads-2 g c κs within = lit< tt
+pub send_staged-c-requires : goal.send_staged-c-requires
+send_staged-c-requires g c =
+    let outbox = inner_small (client_side_layout g.row.C g.row.M g.row.A g.A.Allocator) 0 2 9223372036854775808 c.requires-raw.1.1.1 in
+    let beat = beat_in_queue (lone head_c.the_row.mir) (layout head_c.the_row) g.row.M 9223372036854775808
+    (part_small (part (part (client_side_layout g.row.C g.row.M g.row.A g.A.Allocator) 0) 2) 1 9223372036854775808 outbox) in
+    (outbox, (beat, lit< tt))
 
-pub pump-a-requires-room-To-Loads-3 : goal.pump-a-requires-room-To-Loads-3
-pump-a-requires-room-To-Loads-3 g c κs within =
-    inner_small (client_side_layout g.row.C g.row.M g.row.A g.A.Allocator) 0 0 9223372036854775808 c.requires-raw.1.1.1
-
-pub pump-c-requires-room-To-Loads : goal.pump-c-requires-room-To-Loads
-pump-c-requires-room-To-Loads g c κs within =
-    beat_in_queue (lone head_c.the_row.mir) (layout head_c.the_row) g.row.M 9223372036854775808
-    (part_small (part (part (client_side_layout g.row.C g.row.M g.row.A g.A.Allocator) 0) 2) 1 9223372036854775808
-    (inner_small (client_side_layout g.row.C g.row.M g.row.A g.A.Allocator) 0 2 9223372036854775808 c.requires-raw.1.1.1))
-
-pub pump-c-requires-room-To-Loads-2 : goal.pump-c-requires-room-To-Loads-2
-pump-c-requires-room-To-Loads-2 g c κs within = lit< tt
-
-pub pump-c-requires-room-To-Loads-3 : goal.pump-c-requires-room-To-Loads-3
-pump-c-requires-room-To-Loads-3 g c κs within =
-    inner_small (client_side_layout g.row.C g.row.M g.row.A g.A.Allocator) 0 2 9223372036854775808 c.requires-raw.1.1.1
-
-pub pump-e-requires-room-To-Loads : goal.pump-e-requires-room-To-Loads
-pump-e-requires-room-To-Loads g c κs within =
-    beat_in_queue (lone head_e.the_row.mir) (layout head_e.the_row) g.row.M 9223372036854775808
-    (part_small (part (part (client_side_layout g.row.C g.row.M g.row.A g.A.Allocator) 0) 4) 1 9223372036854775808
-    (inner_small (client_side_layout g.row.C g.row.M g.row.A g.A.Allocator) 0 4 9223372036854775808 c.requires-raw.1.1.1))
-
-pub pump-e-requires-room-To-Loads-2 : goal.pump-e-requires-room-To-Loads-2
-pump-e-requires-room-To-Loads-2 g c κs within = lit< tt
-
-pub pump-e-requires-room-To-Loads-3 : goal.pump-e-requires-room-To-Loads-3
-pump-e-requires-room-To-Loads-3 g c κs within =
-    inner_small (client_side_layout g.row.C g.row.M g.row.A g.A.Allocator) 0 4 9223372036854775808 c.requires-raw.1.1.1
+pub send_staged-e-requires : goal.send_staged-e-requires
+send_staged-e-requires g c =
+    let outbox = inner_small (client_side_layout g.row.C g.row.M g.row.A g.A.Allocator) 0 4 9223372036854775808 c.requires-raw.1.1.1 in
+    let beat = beat_in_queue (lone head_e.the_row.mir) (layout head_e.the_row) g.row.M 9223372036854775808
+    (part_small (part (part (client_side_layout g.row.C g.row.M g.row.A g.A.Allocator) 0) 4) 1 9223372036854775808 outbox) in
+    (outbox, (beat, lit< tt))
 
 pub overflow_add-result : goal.overflow_add-result
-overflow_add-result g c = let few = sum_2 c.pump-a.result c.pump-c.result c.pump-a.ensures.most.1
-    c.pump-c.ensures.most.1 in omega (arith, few)
+overflow_add-result g c = let few = sum_2 c.send_staged-a.result c.send_staged-c.result c.send_staged-a.ensures.most.1
+    c.send_staged-c.ensures.most.1 in omega (arith, few)
 
 pub overflow_add-result-2 : goal.overflow_add-result-2
-overflow_add-result-2 g c = let few = sum_3 c.pump-a.result c.pump-c.result c.pump-e.result c.pump-a.ensures.most.1
-    c.pump-c.ensures.most.1 c.pump-e.ensures.most.1 in omega (arith, few)
+overflow_add-result-2 g c = let few = sum_3 c.send_staged-a.result c.send_staged-c.result c.send_staged-e.result c.send_staged-a.ensures.most.1
+    c.send_staged-c.ensures.most.1 c.send_staged-e.ensures.most.1 in omega (arith, few)
 
 pub returns : goal.returns
 returns g c =
     let view = ap (λ z. client_side_of z) c.self-inside.view_is ∙ c.self.view_is in
     client_pumped view _ _ _ _ _ _
-    (pumps_end rules_a g.row.C _ _ _ c.pump-a.ensures)
-    (pumps_end rules_c g.row.C _ _ _ c.pump-c.ensures)
-    (pumps_end rules_e g.row.C _ _ _ c.pump-e.ensures)
+    (let said = c.send_staged-a.ensures in
+    pumps_end rules_a g.row.C _ _ _ (record { least = said.least; most = said.most; pushed = said.pushed; stands = said.stands }))
+    (let said = c.send_staged-c.ensures in
+    pumps_end rules_c g.row.C _ _ _ (record { least = said.least; most = said.most; pushed = said.pushed; stands = said.stands }))
+    (let said = c.send_staged-e.ensures in
+    pumps_end rules_e g.row.C _ _ _ (record { least = said.least; most = said.most; pushed = said.pushed; stands = said.stands }))

@@ -3,7 +3,14 @@ use Rattle.std.proofs.lemmas.Bool.{false≢true}
 use Rattle.tl_sides.proofs.Layouts.{bridge_layout, part_small, inner_small}
 use Rattle.tl_sides.proofs.sync_bridge.SyncBridge.new.Goals as goal
 
--- each ring that is made, and let go on the way, takes no more memory than the result
+-- each part of the result, and each book, takes no more memory than the result
+pub new_parts-requires : goal.new_parts-requires
+new_parts-requires g c =
+    let row = bridge_layout g.row.C g.row.M g.row.A g.A.Allocator in
+    let whole = c.requires-raw.1.1.1.0 in
+    (inner_small row 0 5 9223372036854775808 whole, inner_small row 1 5 9223372036854775808 whole)
+
+-- and each ring that is made, and let go on the way
 pub new_parts-requires-room-RingA-NewRing : goal.new_parts-requires-room-RingA-NewRing
 new_parts-requires-room-RingA-NewRing g c κs within =
     part_small (bridge_layout g.row.C g.row.M g.row.A g.A.Allocator) 2 9223372036854775808 c.requires-raw.1.1.1.0
@@ -24,15 +31,6 @@ pub new_parts-requires-room-RingE-NewRing : goal.new_parts-requires-room-RingE-N
 new_parts-requires-room-RingE-NewRing g c κs within =
     part_small (bridge_layout g.row.C g.row.M g.row.A g.A.Allocator) 6 9223372036854775808 c.requires-raw.1.1.1.0
 
--- and each book, a part of a part of the result
-pub new_parts-requires-room-BothBooks-NewBooks : goal.new_parts-requires-room-BothBooks-NewBooks
-new_parts-requires-room-BothBooks-NewBooks g c κs within =
-    inner_small (bridge_layout g.row.C g.row.M g.row.A g.A.Allocator) 0 5 9223372036854775808 c.requires-raw.1.1.1.0
-
-pub new_parts-requires-room-BothBooks-NewBooks-2 : goal.new_parts-requires-room-BothBooks-NewBooks-2
-new_parts-requires-room-BothBooks-NewBooks-2 g c κs within =
-    inner_small (bridge_layout g.row.C g.row.M g.row.A g.A.Allocator) 1 5 9223372036854775808 c.requires-raw.1.1.1.0
-
 pub bridge_over-requires : goal.bridge_over-requires
 bridge_over-requires g c =
     let row = bridge_layout g.row.C g.row.M g.row.A g.A.Allocator in
@@ -51,7 +49,7 @@ returns g c =
     let parts = c.in-Ok.ensures in
     record {
       new =
-          c.bridge_over.ensures c.args.ring (parts.size refl).0 c.requires.client c.requires.manager parts.new.0 parts.new.1.0 parts.new.1.1;
+          c.bridge_over.ensures c.args.ring (parts.size refl).0 c.requires.client c.requires.manager parts.new.0 parts.new.1 parts.new.2;
       size = λ made. parts.size refl;
       ring_size = tt;
     }

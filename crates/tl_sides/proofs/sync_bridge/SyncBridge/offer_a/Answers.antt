@@ -4,15 +4,11 @@ use Rattle.tl_sides.proofs.sync_bridge.SyncBridge.offer_a.Goals as goal
 
 -- The client's port is a part of the bridge.
 -- (A must-fail edit, which calls the manager's book too, puts its answer in the place of these lines.)
-pub offer-requires : goal.offer-requires
-offer-requires g c = (c.requires.client, c.requires.manager, rw (← c.self.view_is) at c.requires.ready)
-
-pub offer-requires-room-To-Offers : goal.offer-requires-room-To-Offers
-offer-requires-room-To-Offers g c κs within =
-    part_small (bridge_layout g.row.C g.row.M g.row.A g.A.Allocator) 0 9223372036854775808 c.requires-raw.1.1.1.0
-
-pub offer-requires-room-To-Offers-2 : goal.offer-requires-room-To-Offers-2
-offer-requires-room-To-Offers-2 g c κs within = beat_small g.row.C c.requires.client
+pub offer_a-requires : goal.offer_a-requires
+offer_a-requires g c = (
+  part_small (bridge_layout g.row.C g.row.M g.row.A g.A.Allocator) 0 9223372036854775808 c.requires-raw.1.1.1.0,
+  (beat_small g.row.C c.requires.client, (c.requires.client, (c.requires.manager, rw (← c.self.view_is) at c.requires.ready))),
+)
 
 pub returns : goal.returns
-returns g c = rw (← c.self.view_is) (bridge_offers_a c.self.inside _ _ _ (rw (← c.self.view_is) at c.requires.ready) c.offer.ensures)
+returns g c = rw (← c.self.view_is) (bridge_offers_a c.self.inside _ _ _ (rw (← c.self.view_is) at c.requires.ready) c.offer_a.ensures)

@@ -2,15 +2,11 @@ use Rattle.tl_sides.proofs.Bridging.{bridge_offers_d}
 use Rattle.tl_sides.proofs.Layouts.{bridge_layout, part_small, beat_small}
 use Rattle.tl_sides.proofs.sync_bridge.SyncBridge.offer_d.Goals as goal
 
-pub offer-requires : goal.offer-requires
-offer-requires g c = (c.requires.manager, c.requires.client, rw (← c.self.view_is) at c.requires.ready)
-
-pub offer-requires-room-To-Offers : goal.offer-requires-room-To-Offers
-offer-requires-room-To-Offers g c κs within =
-    part_small (bridge_layout g.row.C g.row.M g.row.A g.A.Allocator) 1 9223372036854775808 c.requires-raw.1.1.1.0
-
-pub offer-requires-room-To-Offers-2 : goal.offer-requires-room-To-Offers-2
-offer-requires-room-To-Offers-2 g c κs within = beat_small g.row.M c.requires.manager
+pub offer_d-requires : goal.offer_d-requires
+offer_d-requires g c = (
+  part_small (bridge_layout g.row.C g.row.M g.row.A g.A.Allocator) 1 9223372036854775808 c.requires-raw.1.1.1.0,
+  (beat_small g.row.M c.requires.manager, (c.requires.manager, (c.requires.client, rw (← c.self.view_is) at c.requires.ready))),
+)
 
 pub returns : goal.returns
-returns g c = rw (← c.self.view_is) (bridge_offers_d c.self.inside _ _ _ (rw (← c.self.view_is) at c.requires.ready) c.offer.ensures)
+returns g c = rw (← c.self.view_is) (bridge_offers_d c.self.inside _ _ _ (rw (← c.self.view_is) at c.requires.ready) c.offer_d.ensures)

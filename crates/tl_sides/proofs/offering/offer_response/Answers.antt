@@ -1,22 +1,22 @@
-use Rattle.std.proofs.Common.{refl, subst, ap}
+use Rattle.std.proofs.Common.{rules, refl, subst, ap}
 use Rattle.std.specs.Prelude.{IfOk}
 use Rattle.tl_sides.proofs.Words.{beat_small, rules_d, IsPlaceOf, answered, manager_homes}
 use Rattle.tl_sides.proofs.PortSteps.{checked_in, answered_with, manager_offers}
-use Rattle.tl_sides.proofs.offering.ManagerBookAdmitsOutboxChDBeatOfHeadD.offer_to.Goals as goal
+use Rattle.tl_sides.proofs.offering.offer_response.Goals as goal
 
-pub stage-requires : goal.stage-requires
-stage-requires g c = (
-  c.requires.0,
-  c.requires.1,
-  c.requires.2,
-  subst (λ q. IfOk q (IsPlaceOf rules_d g.row.M c.args.outbox.now.converter.burst c.args.beat.now)) c.in-Ok.ensures.place c.check.ensures.place,
+pub offer_at-requires : goal.offer_at-requires
+offer_at-requires g c = (
+  search rules,
+  (
+    beat_small g.row.M c.requires.0,
+    (
+      c.requires.0,
+      c.requires.1,
+      c.requires.2,
+      subst (λ q. IfOk q (IsPlaceOf rules_d g.row.M c.args.outbox.now.converter.burst c.args.beat.now)) c.in-Ok.ensures.place c.check.ensures.place,
+    ),
+  ),
 )
-
-pub stage-requires-room-To-Stages : goal.stage-requires-room-To-Stages
-stage-requires-room-To-Stages g c κs = c.requires-raw.1.1.1.1.0
-
-pub stage-requires-room-To-Stages-2 : goal.stage-requires-room-To-Stages-2
-stage-requires-room-To-Stages-2 g c κs = beat_small g.row.M c.requires.0
 
 pub returns-in-Err : goal.returns-in-Err
 returns-in-Err g c = λ s. record {
@@ -39,10 +39,10 @@ returns g c = λ s. record {
   accepted = λ x h.
       let checked = (checked_in rules_d _ (answered x.history) (manager_homes x.history) x.d_sent c.args.beat.now _ h.d c.check.ensures.place
       (c.check.ensures.first_fault (answered x.history) (manager_homes x.history) x.d_sent h.d)) in
-      manager_offers _ x h c.stage.new.to _ c.args.beat.now (c.in-Ok.ensures.admits.noted x.history c.args.beat.now h.book checked)
+      manager_offers _ x h c.offer_at.new.self _ c.args.beat.now (c.in-Ok.ensures.admits.noted x.history c.args.beat.now h.book checked)
       (answered_with x.history _ _ x.d_sent c.args.beat.now _ h.d (c.in-Ok.ensures.home x.history c.args.beat.now h.book checked)
-      (c.stage.ensures.accepted (answered x.history) (manager_homes x.history) x.d_sent h.d));
+      (c.offer_at.ensures.accepted (answered x.history) (manager_homes x.history) x.d_sent h.d));
   fault = λ x h. tt;
   refused = tt;
-  rest = (refl, c.stage.ensures.still);
+  rest = (refl, c.offer_at.ensures.still);
 }

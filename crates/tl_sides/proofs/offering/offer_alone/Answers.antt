@@ -2,7 +2,7 @@ use Rattle.std.proofs.Common.{None, Some, refl, sym, ap, ◌∙◌}
 use Rattle.std.specs.Option.{option_map_or}
 use Rattle.tl_sides.proofs.Words.{Beat, fault_in}
 use Rattle.tl_settle.proofs.Answering.{stopped}
-use Rattle.tl_sides.proofs.offering.OutboxOffersBeat.offer.Goals as goal
+use Rattle.tl_sides.proofs.offering.offer_alone.Goals as goal
 
 pub returns-in-Err : goal.returns-in-Err
 returns-in-Err g c =
