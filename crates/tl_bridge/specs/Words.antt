@@ -9,10 +9,11 @@ pub use Rattle.tl_msg.specs.declared.head.HeadE.{HeadE}
 pub use Rattle.tl_ring.specs.Ends.{Sending, Taking, known_free, known_items, received, room, seen_by, sent}
 pub use Rattle.tl_ring.specs.Pipe.{Pipe}
 pub use Rattle.tl_ring.specs.declared.standing.Standing.{Standing}
-pub use Rattle.tl_run.specs.Inner.Running.{AllStop, AreStopped, Does, HaveRoomToCount, IsAt, IsHomed, IsSent, IsStopped, Stops, all_standing}
-pub use Rattle.tl_run.specs.Inner.Running.{all_steps, all_under_way, steps}
-pub use Rattle.tl_run.specs.declared.channel_state.Offered.{Offered}
-pub use Rattle.tl_run.specs.declared.channel_state.Offered.TheVariants.{NotReady}
+pub use Rattle.tl_run.specs.Inner.Running.{AllStop, AreStopped, HaveRoomToCount, IsAt, IsHomed, IsSent, IsStopped, Stops, all_standing}
+pub use Rattle.tl_run.specs.Inner.Running.{all_steps, all_under_way}
+pub use Rattle.tl_offer.specs.Offering.{Does, steps}
+pub use Rattle.tl_offer.specs.declared.offered.Offered.{Offered}
+pub use Rattle.tl_offer.specs.declared.offered.Offered.TheVariants.{NotReady}
 pub use Rattle.tl_run.specs.declared.taken.Taken.{Taken}
 pub use Rattle.tl_run.specs.declared.turn.Turn.{Turn}
 pub use Rattle.tl_settle.specs.Histories.{Answer, Ask, Event, answered, asked, client_answer, manager_answer, manager_home}

@@ -2,8 +2,8 @@
 ghost use Rattle.std.specs.Prelude.{◌≡◌};
 ghost use Rattle.tl_sides.specs.Sides.{ClientPast, ClientStandsFor};
 ghost use Rattle.tl_run.specs.Scripts.{near_beats};
-ghost use Rattle.tl_run.specs.declared.channel_state.Offered.TheVariants.{NotReady};
-ghost use Rattle.tl_run.specs.Inner.Widths.{AreWidths};
+ghost use Rattle.tl_offer.specs.declared.offered.Offered.TheVariants.{NotReady};
+ghost use Rattle.tl_offer.specs.Widths.{AreWidths};
 ghost use Rattle.tl_bridge.specs.Inner.Sides.{SameClientEnds, ClientHasOffered, client_playing};
 
 use crate::inboxes::append;

@@ -2,7 +2,7 @@
 ghost use Rattle.std.specs.Prelude.{◌≡◌};
 ghost use Rattle.tl_run.specs.Arrivals.{no_beats};
 ghost use Rattle.tl_run.specs.Scripts.{HasShortLists, near_beats};
-ghost use Rattle.tl_run.specs.Inner.Widths.{AreWidths};
+ghost use Rattle.tl_offer.specs.Widths.{AreWidths};
 ghost use Rattle.tl_run.specs.Inner.Arriving.{HasRoomFor, beats_of};
 ghost use Rattle.tl_bridge.specs.Inner.Arriving.{KeepsRoom, taken_of};
 ghost use Rattle.tl_run.specs.Inner.Running.{HasEnded};

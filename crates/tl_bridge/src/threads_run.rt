@@ -4,7 +4,7 @@ ghost use Rattle.tl_ring.specs.declared.pipe.TheConstants.{MAX_RING};
 ghost use Rattle.tl_lanes.specs.Lanes.{IsWidth};
 ghost use Rattle.tl_run.specs.declared.outcome.RunFault.TheVariants.{RingSize, Stalled};
 ghost use Rattle.tl_run.specs.Scripts.{HasShortLists, SettlesTo};
-ghost use Rattle.tl_run.specs.Inner.Widths.{AreWidths};
+ghost use Rattle.tl_offer.specs.Widths.{AreWidths};
 ghost use Rattle.tl_bridge.specs.Inner.Arriving.{taken_of};
 
 use crate::client_turns::ClientRun;

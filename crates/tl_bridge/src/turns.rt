@@ -1,6 +1,6 @@
 //! What a side of a run in two threads does in a round, whichever of the two it is.
 ghost use Rattle.tl_run.specs.Scripts.{HasShortLists, near_beats};
-ghost use Rattle.tl_run.specs.Inner.Widths.{AreWidths};
+ghost use Rattle.tl_offer.specs.Widths.{AreWidths};
 ghost use Rattle.tl_run.specs.Inner.Running.{HaveRoomToCount};
 ghost use Rattle.tl_bridge.specs.Inner.Sides.{HasPlayedTurns, HasTaken, HasTurned, MayPlay, Playing};
 

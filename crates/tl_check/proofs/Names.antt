@@ -19,7 +19,7 @@ pub use Rattle.tl_msg.specs.declared.fault.SideFault.{SideFault}
 pub use Rattle.tl_msg.specs.declared.head.HeadA.{HeadA}
 pub use Rattle.tl_msg.specs.declared.head.HeadD.{HeadD}
 pub use Rattle.tl_ring.proofs.FieldSizes.{beat_small}
-pub use Rattle.tl_run.proofs.OfferSteps.{read_some}
+pub use Rattle.tl_offer.proofs.OfferSteps.{read_some}
 pub use Rattle.tl_run.proofs.Parts.{end-past, part-get, part-of, are-part, all-held}
 pub use Rattle.tl_run.specs.Parts.{IsPart}
 pub use Rattle.tl_settle.specs.Histories.{Ask, Answer, asked, answered, client_answer, manager_answer, Event}

@@ -7,7 +7,7 @@ use Rattle.std.proofs.Math.Nat.{min-le_left}
 use Rattle.tl_ring.specs.declared.queue.TheConstants.{ROOM}
 use Rattle.tl_run.proofs.ChannelOffer.{sent-offer, sent-passed}
 use Rattle.tl_run.proofs.Counting.{none-more}
-use Rattle.tl_run.proofs.OfferSteps.{does-taken}
+use Rattle.tl_offer.proofs.OfferSteps.{does-taken}
 use Rattle.tl_run.proofs.Moving.{moved_in, moved, push_count, pop_count}
 
 -- how many items are left of a list whose first k are gone

@@ -15,7 +15,7 @@ use Rattle.tl_msg.specs.declared.head.HeadB.{HeadB}
 use Rattle.tl_msg.specs.declared.head.HeadC.{HeadC}
 use Rattle.tl_msg.specs.declared.head.HeadE.{HeadE}
 use Rattle.tl_run.proofs.ChannelOffer.{homed-offer, sent-offer, sent-passed}
-use Rattle.tl_run.proofs.OfferSteps.{does-taken}
+use Rattle.tl_offer.proofs.OfferSteps.{does-taken}
 use Rattle.tl_run.proofs.Parts.{end-none, part-get, part-of}
 use Rattle.tl_run.proofs.Round.{alone-own, client-own, manager-own}
 use Rattle.tl_run.proofs.RoundMoves.{client-offers, manager-offers}

@@ -4,7 +4,6 @@ pub mod ChannelRound
 pub mod ChannelEnd
 pub mod RoundMoves
 pub mod RunRound
-pub mod OfferSteps
 pub mod OnlyMemory
 pub mod Round
 pub mod Parts
@@ -17,8 +16,7 @@ pub mod Pieces
 mod DueBounds
 pub mod ChannelOffer
 pub mod Lives
-pub mod NextOffers
-mod Saying
+pub mod AllOffers
 pub mod Counting
 pub mod AllOk
 pub mod Emptiness

@@ -27,21 +27,21 @@ pub use Rattle.tl_ring.specs.Crossing.{World, offered, shut, inbox_room, empty, 
 pub use Rattle.tl_ring.specs.Pipe.{Pipe, IsReady}
 pub use Rattle.tl_run.specs.Arrivals.{joined, no_beats, Fit}
 pub use Rattle.tl_run.specs.Inner.Arriving.{HasRoom, HaveRoom, beats_of}
-pub use Rattle.tl_run.specs.Inner.Going.{GoesAhead, GoesOn, RestsIn, refused_by, AreOn, AreStopsOf, HasStopped, IsStopOf, all_counts, all_ways}
+pub use Rattle.tl_run.specs.Inner.Going.{GoesAhead, GoesOn, RestsIn, AreOn, AreStopsOf, HasStopped, IsStopOf, all_counts, all_ways}
 pub use Rattle.tl_run.specs.Inner.Going.{stop_by, way_in, IsSound}
 pub use Rattle.tl_run.specs.Inner.Going.{AllRest}
-pub use Rattle.tl_run.specs.Inner.Offering.{Offering, OffersNext, on_bridge_a, on_bridge_b, on_bridge_c, on_bridge_d, on_bridge_e, SameClientEnds}
-pub use Rattle.tl_run.specs.Inner.Offering.{SameManagerEnds, offer_outcome, close_outcome, on_side_a, on_side_c, on_side_e, on_side_b, on_side_d}
-pub use Rattle.tl_run.specs.Inner.Running.{Stops, IsSent, IsHomed, under_way, progress, stop_verdict, Does, steps, IsStopped, emptied, AreStopped}
+pub use Rattle.tl_offer.specs.Offering.{Offering, OffersNext, on_bridge_a, on_bridge_b, on_bridge_c, on_bridge_d, on_bridge_e, SameClientEnds}
+pub use Rattle.tl_offer.specs.Offering.{Does, refused_by, steps, SameManagerEnds, offer_outcome, close_outcome, on_side_a, on_side_c, on_side_e, on_side_b, on_side_d}
+pub use Rattle.tl_run.specs.Inner.Running.{Stops, IsSent, IsHomed, under_way, progress, stop_verdict, IsStopped, emptied, AreStopped}
 pub use Rattle.tl_run.specs.Inner.Running.{IsNew, IsUnderWay, counted, all_progress, all_under_way, standing_count, all_standing, all_stopped}
 pub use Rattle.tl_run.specs.Inner.Running.{IsRunning, CanAdd, HaveRoomToCount, arriving, inboxes, lengths, IsAt, AllStop, HasRound, HasEnded}
 pub use Rattle.tl_run.specs.Inner.Running.{after_take_all, added, HasOffered}
 pub use Rattle.tl_run.specs.Parts.{IsPart, AreEnd, ArePart, IsEnd, none_counted, AreBetween, IsBetween}
 pub use Rattle.tl_run.specs.Scripts.{IsShort, near_count, far_count, near_beats, HasShortLists}
-pub use Rattle.tl_run.specs.declared.channel_state.Offered.{Offered}
-pub use Rattle.tl_run.specs.declared.channel_state.Offered.TheVariants.{Stopped, Accepted, NotReady}
-pub use Rattle.tl_run.specs.declared.channel_state.Stop.{Stop}
-pub use Rattle.tl_run.specs.declared.channel_state.Stop.TheVariants.{Done, Cut, Refused}
+pub use Rattle.tl_offer.specs.declared.offered.Offered.{Offered}
+pub use Rattle.tl_offer.specs.declared.offered.Offered.TheVariants.{Stopped, Accepted, NotReady}
+pub use Rattle.tl_offer.specs.declared.offered.Stop.{Stop}
+pub use Rattle.tl_offer.specs.declared.offered.Stop.TheVariants.{Done, Cut, Refused}
 pub use Rattle.tl_settle.specs.Histories.{Ask, Answer, client_answer, manager_answer, manager_home, Event, asked, answered, manager_homes}
 pub use Rattle.tl_settle.specs.Outcomes.{verdict_of, far_alone, verdict_alone, Beats, far_beats, verdicts, verdict_a, verdict_d}
 pub use Rattle.tl_settle.specs.Rounds.{round, client_rests, manager_rests, Run, ClientMoves, ManagerMoves, client_takes, client_accepts}

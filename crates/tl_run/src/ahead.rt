@@ -4,12 +4,11 @@ ghost use Rattle.std.specs.Prelude.{◌≡◌, length};
 ghost use Rattle.tl_settle.specs.Outcomes.{Beats};
 ghost use Rattle.tl_sides.specs.Bridges.{Past, StandsFor};
 ghost use Rattle.tl_run.specs.Parts.{AreBetween, AreEnd, IsBetween};
-ghost use Rattle.tl_run.specs.Inner.Widths.{AreWidths};
+ghost use Rattle.tl_offer.specs.Widths.{AreWidths};
 ghost use Rattle.tl_run.specs.Inner.Going.{AllRest, AreOn, GoesAhead, HavePassed};
 
-use crate::channel_state::Offered;
-use crate::offers::Offers;
 use tl_msg::SideFault;
+use tl_offer::{Offered, Offers};
 use tl_sides::{PassesOn, PerChannel, SyncBridge};
 use tl_trace::{Counts, Script};
 

@@ -5,11 +5,11 @@ ghost use Rattle.tl_run.specs.Inner.Running.{stop_verdict};
 ghost use Rattle.tl_run.specs.Names.{run_fault_number, run_fault_name, of_build_fault};
 ghost use Rattle.tl_run.specs.declared.outcome.RunFault.TheVariants.{OutOfMemory};
 
-use crate::channel_state::Stop;
 use std::alloc::AllocError;
 use std::fmt;
 use thiserror::Error;
 use tl_msg::{Beat, ChA, ChB, ChC, ChD, ChE, SideFault, Verdict};
+use tl_offer::Stop;
 use tl_ring::BuildFault;
 
 /// What a script ends in: the far beats that each side took, one verdict for each channel from A to

@@ -5,15 +5,15 @@ ghost use Rattle.tl_settle.specs.Outcomes.{Beats, verdicts};
 ghost use Rattle.tl_sides.specs.Bridges.{Bridge, Past, StandsFor};
 ghost use Rattle.tl_run.specs.Arrivals.{no_beats};
 ghost use Rattle.tl_run.specs.Scripts.{EndsIn, HasShortLists, near_beats};
-ghost use Rattle.tl_run.specs.Inner.Widths.{AreWidths};
+ghost use Rattle.tl_offer.specs.Widths.{AreWidths};
 ghost use Rattle.tl_run.specs.Inner.Arriving.{HasRoomFor, beats_of};
 ghost use Rattle.tl_run.specs.Inner.Running.{IsAt, lengths, IsNew, IsUnderWay, HasRound, HasEnded, AreStopped, counted, standing_count, all_standing, all_under_way, all_stopped};
 
-use crate::channel_state::{Offered, Stop, add_accepted, all_stops};
-use crate::offers::offer_of;
+use crate::channel_state::{add_accepted, all_stops};
 use crate::outcome::{Ending, Outcome, verdict};
 use crate::taken::{Taken, take_from_each};
 use tl_msg::Verdict;
+use tl_offer::{Offered, Offers, Stop};
 use tl_ring::Standing;
 use tl_sides::{PerChannel, Standings, SyncBridge};
 use tl_trace::Script;
@@ -43,6 +43,15 @@ pub(crate) fn are_empty(standings: &Standings) -> bool
         & is_empty(&standings.c)
         & is_empty(&standings.d)
         & is_empty(&standings.e)
+}
+
+// What becomes of the next beat of a list. (It takes the list itself: a caller would owe more for a slice of one.)
+#[inline(always)]
+fn offer_of<B, S: Offers<B>>(side: &mut S, list: &Vec<B>, at: usize) -> Offered
+    requires { S.CanOffer }
+    ensures { S.Becomes list.now.items at side.old result side.new }
+{
+    side.offer_next(list, at)
 }
 
 // One round: both sides take all that stands in their inboxes, which goes behind the far beats of the

@@ -10,16 +10,16 @@ ghost use Rattle.tl_run.specs.Scripts.{HasShortLists};
 ghost use Rattle.tl_run.specs.Streaming.{CanRun, HasBegun, HasRun, IsAtRest};
 ghost use Rattle.tl_run.specs.Inner.Going.{AreStopsOf, HasStopped, IsSound, all_counts, stop_by};
 ghost use Rattle.tl_run.specs.Inner.Running.{HaveRoomToCount, IsNew, IsRunning};
-ghost use Rattle.tl_run.specs.Inner.Widths.{AreWidths};
+ghost use Rattle.tl_offer.specs.Widths.{AreWidths};
 
 use crate::ahead::all_go_ahead;
-use crate::channel_state::Stop;
 use crate::far_sink::FarSink;
 use crate::leaving::let_leave;
 use crate::rounds::{are_empty, verdicts_at};
 use crate::taken::{add_counts, take_from_each};
 use std::alloc::AllocError;
 use tl_msg::{SideFault, Verdict};
+use tl_offer::Stop;
 use tl_ring::EndFault;
 use tl_sides::{PerChannel, SyncBridge};
 use tl_trace::{Counts, Script};

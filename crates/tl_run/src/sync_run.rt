@@ -8,7 +8,7 @@ ghost use Rattle.tl_run.specs.Arrivals.{no_beats};
 ghost use Rattle.tl_run.specs.Scripts.{HasShortLists, SettlesTo, near_beats};
 ghost use Rattle.tl_run.specs.Inner.Arriving.{HasRoomFor, beats_of};
 ghost use Rattle.tl_run.specs.Inner.Running.{HasEnded};
-ghost use Rattle.tl_run.specs.Inner.Widths.{AreWidths};
+ghost use Rattle.tl_offer.specs.Widths.{AreWidths};
 
 use crate::outcome::{Outcome, RunFault};
 use crate::rounds::{End, outcome_at, run_rounds};

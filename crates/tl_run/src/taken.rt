@@ -6,7 +6,7 @@ ghost use Rattle.tl_sides.specs.ChannelCalls.{after_take_all};
 ghost use Rattle.tl_sides.specs.declared.per_channel.PerChannel.{PerChannel as PerChannelOf};
 ghost use Rattle.tl_run.specs.Arrivals.{Fit, joined, no_beats};
 ghost use Rattle.tl_run.specs.Scripts.{EndsIn, HasEnding, HasShortLists, near_beats};
-ghost use Rattle.tl_run.specs.Inner.Widths.{AreWidths};
+ghost use Rattle.tl_offer.specs.Widths.{AreWidths};
 ghost use Rattle.tl_run.specs.Inner.Running.{CanAdd, added, inboxes, lengths};
 ghost use Rattle.tl_run.specs.Inner.Sizes.{BeatFits};
 ghost use Rattle.tl_run.specs.Inner.Arriving.{beats_of, HaveCapacity, HaveRoom, HasRoomFor};

@@ -1,11 +1,12 @@
 //! What the sides of a run in two threads have done in their turns, and when such a run ends.
 ghost use Rattle.std.specs.Prelude.{◌≡◌, ◌≢◌, ◌⊎◌, ◌↔◌, true, IfSome, IsNone};
 ghost use Rattle.tl_sides.specs.declared.per_channel.PerChannel.{PerChannel};
-ghost use Rattle.tl_run.specs.declared.channel_state.Offered.{Offered};
+ghost use Rattle.tl_offer.specs.declared.offered.Offered.{Offered};
 ghost use Rattle.tl_run.specs.Inner.Running.{AreStopped, HaveRoomToCount, all_standing, all_steps, all_stopped, counted, of_both};
 
-use crate::channel_state::{Offered, Stop, add_accepted, all_stops};
+use crate::channel_state::{add_accepted, all_stops};
 use crate::rounds::are_empty;
+use tl_offer::{Offered, Stop};
 use tl_sides::{PerChannel, Standings};
 
 /// What a side has done in some turns: how many beats of each channel were accepted after them, what

@@ -8,7 +8,7 @@ use Rattle.tl_bridge.specs.Words.{ClientState, ManagerState, ClientPast, Manager
 use Rattle.tl_bridge.specs.Words.{SameManager, SidesMeet, new_client, new_manager, Does, Stops, IsSent, IsHomed, IsAt, AllStop, AreStopped, IsStopped}
 use Rattle.tl_bridge.specs.Words.{HaveRoomToCount, Standing, all_standing, all_under_way, Offered, NotReady, Turn}
 use Rattle.tl_sides.proofs.SameSides.{same_client_then, same_manager_then}
-pub use Rattle.tl_run.specs.Inner.Offering.{SameClientEnds, SameManagerEnds}
+pub use Rattle.tl_offer.specs.Offering.{SameClientEnds, SameManagerEnds}
 use Rattle.tl_bridge.specs.declared.client_turns.ClientRun.{ClientRun}
 use Rattle.tl_bridge.specs.declared.manager_turns.ManagerRun.{ManagerRun}
 

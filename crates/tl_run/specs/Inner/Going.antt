@@ -17,18 +17,11 @@ use Rattle.tl_sides.specs.Bridges.{Bridge, Past, StandsFor}
 use Rattle.tl_sides.specs.Crossings.{stops_alone}
 use Rattle.tl_run.specs.Parts.{ArePart}
 use Rattle.tl_run.specs.Inner.Running.{IsAt, all_under_way, lengths}
-use Rattle.tl_run.specs.declared.channel_state.Offered.{Offered}
-use Rattle.tl_run.specs.declared.channel_state.Offered.TheVariants.{Accepted, NotReady, Stopped}
-use Rattle.tl_run.specs.declared.channel_state.Stop.{Stop}
-use Rattle.tl_run.specs.declared.channel_state.Stop.TheVariants.{Done, Cut, Refused}
-
--- the fault for which a beat is refused
-abbrev pub refused_by : Offered → Option SideFault
-refused_by Accepted = None
-refused_by NotReady = None
-refused_by (Stopped (Refused fault)) = Some fault
-refused_by (Stopped Done) = None
-refused_by (Stopped Cut) = None
+use Rattle.tl_offer.specs.Offering.{refused_by}
+use Rattle.tl_offer.specs.declared.offered.Offered.{Offered}
+use Rattle.tl_offer.specs.declared.offered.Offered.TheVariants.{Accepted, NotReady, Stopped}
+use Rattle.tl_offer.specs.declared.offered.Stop.{Stop}
+use Rattle.tl_offer.specs.declared.offered.Stop.TheVariants.{Done, Cut, Refused}
 
 -- ---- one channel that offers
 

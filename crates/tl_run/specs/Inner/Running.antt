@@ -24,18 +24,13 @@ use Rattle.tl_sides.specs.declared.per_channel.PerChannel.{PerChannel}
 use Rattle.tl_sides.specs.Crossings.{stops_alone}
 use Rattle.tl_sides.specs.Bridges.{Bridge, Past, StandsFor, nothing_yet}
 pub use Rattle.tl_sides.specs.ChannelCalls.{emptied, after_take_all}
-use Rattle.tl_run.specs.declared.channel_state.Stop.{Stop}
-use Rattle.tl_run.specs.declared.channel_state.Stop.TheVariants.{Done, Cut, Refused}
-use Rattle.tl_run.specs.declared.channel_state.Offered.{Offered}
-use Rattle.tl_run.specs.declared.channel_state.Offered.TheVariants.{Accepted, NotReady, Stopped}
+use Rattle.tl_offer.specs.Offering.{Does, steps}
+use Rattle.tl_offer.specs.declared.offered.Stop.{Stop}
+use Rattle.tl_offer.specs.declared.offered.Stop.TheVariants.{Done, Cut, Refused}
+use Rattle.tl_offer.specs.declared.offered.Offered.{Offered}
+use Rattle.tl_offer.specs.declared.offered.Offered.TheVariants.{Accepted, NotReady, Stopped}
 
 -- ---- one channel
-
--- how many beats a channel accepts in a round
-abbrev pub steps : Offered → ℕ
-steps Accepted = 1
-steps NotReady = 0
-steps (Stopped stop) = 0
 
 module _ {H : Type 0} {w v : ℕ} where
   -- how many beats are under way
@@ -47,22 +42,6 @@ module _ {H : Type 0} {w v : ℕ} where
   progress n x = n + (length x.taken + length x.inbox + length x.ring) + (length x.taken + length x.inbox)
 
 module _ {H : Type 0} (r : Rules H) {w v : ℕ} (bs : List (BeatOf H w)) (n : ℕ) where
-  -- What becomes of the next beat of a list of which n beats were accepted, where the channel's side answers this to a beat and the home of a
-  -- message that it opens is this: which beats are accepted, and the crossing after it
-  abbrev pub Does : (answer : BeatOf H w → Option SideFault) → (home : BeatOf H w → ℕ) → (x : World H w v) → Offered →
-      (accepted : List (BeatOf H w)) →
-      (y : World H w v) → Type 0
-  Does answer home x Accepted accepted y =
-      (b : BeatOf H w) × (slice_get bs n ≡ Some b) × (answer b ≡ None) × (accepted ≡ b ∷ []) × (y ≡ offered r b (home b) x)
-  Does answer home x NotReady accepted y =
-      (b : BeatOf H w) × (slice_get bs n ≡ Some b) × ((x.stage ≢ []) ⊎ (x.closed ≡ true)) × (accepted ≡ []) × (y ≡ x)
-  Does answer home x (Stopped (Refused fault)) accepted y =
-      (b : BeatOf H w) × (slice_get bs n ≡ Some b) × (answer b ≡ Some fault) × (accepted ≡ []) × (y ≡ x)
-  Does answer home x (Stopped Done) accepted y =
-      (slice_get bs n ≡ None) × (rest_of r w x.accepted ≡ []) × (accepted ≡ []) × (y ≡ shut x)
-  Does answer home x (Stopped Cut) accepted y =
-      (slice_get bs n ≡ None) × (rest_of r w x.accepted ≢ []) × (accepted ≡ []) × (y ≡ x)
-
   -- the first n beats of a list were accepted, all of them before the first one that has a fault of its own, and `far` was taken
   pub record IsSent (far : List (BeatOf H v)) (x : World H w v) : Type 0 where
     pub accepted : x.accepted ≡ take n bs

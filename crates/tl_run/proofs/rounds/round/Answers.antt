@@ -1,5 +1,5 @@
 use Rattle.tl_run.proofs.Names.{lit<, refl, ap, ◌∙◌, bridge_small, beat_small, near_beats, after_pump, beats_of, joined, after_take_all}
-use Rattle.tl_run.proofs.NextOffers.{all-offered}
+use Rattle.tl_run.proofs.AllOffers.{all-offered}
 use Rattle.tl_run.proofs.AllOk.{of-ok}
 use Rattle.tl_run.proofs.Round.{moved-stands, has-round, inboxes-are, counts-fit}
 use Rattle.tl_run.proofs.Rooms.{has-places, lists-fit, more-room, places}

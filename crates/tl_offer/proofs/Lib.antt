@@ -1,0 +1,4 @@
+pub mod Names
+pub mod OfferSteps
+pub mod NextOffers
+mod Saying

@@ -1,0 +1,30 @@
+-- What a channel does within a round: what is read of its list, and why a beat waits.
+use Rattle.tl_offer.proofs.Names.{◌≡◌, ◌⊎◌, ◌≢◌, ℕ, Bool, true, false, Option, Some, List, [], ◌∷◌, length, inl, inr, refl, sym, ap, ◌∙◌}
+use Rattle.tl_offer.proofs.Names.{slice_get_read, nat_lt, slice_get, slice_index_or, Rules, BeatOf, SideFault, World, Pipe}
+use Rattle.tl_offer.proofs.Names.{IsReady, true_less, Does, Done, Cut, Refused, Offered, Accepted, NotReady, Stopped}
+use Rattle.tl_ring.specs.Pipe.{StandsFor}
+
+-- the element at a place below a list's end
+pub read_some : {A : Type 0} (bs : List A) (n : ℕ) (b : A) → true ≡ nat_lt n (length bs) → b ≡ slice_index_or bs n b → slice_get bs n ≡ Some b
+read_some bs n b below same = slice_get_read bs (length bs) n b refl (true_less n (length bs) (sym below)) same
+
+-- a stage with a beat in it, or a channel that is closed
+staged_or_closed : {A : Type 0} (stage : List A) (closed : Bool) → ((stage ≡ []) × (closed ≡ false) → ⊥) → (stage ≢ []) ⊎ (closed ≡ true)
+staged_or_closed stage true unready = inr refl
+staged_or_closed [] false unready = absurd (unready (refl, refl))
+staged_or_closed (b ∷ bs) false unready = inl (λ e. cc)
+
+-- a pipe that is not ready has beats in its stage, or is closed
+pub not_ready : {H : Type 0} (r : Rules H) {w v : ℕ} (p : Pipe H v) (x : World H w v) → StandsFor r p x → (IsReady p → ⊥) →
+    (x.stage ≢ []) ⊎ (x.closed ≡ true)
+not_ready r p x h unready = staged_or_closed x.stage x.closed (λ e. unready (h.stage ∙ e.0, h.closed ∙ e.1))
+
+module _ {H : Type 0} (r : Rules H) {w v : ℕ} (bs : List (BeatOf H w)) (n : ℕ) (answer : BeatOf H w → Option SideFault)
+    (home : BeatOf H w → ℕ) (x y : World H w v) where
+  -- what is taken is not an offer's doing
+  pub does-taken : (o : Offered) (accepted : List (BeatOf H w)) → Does r bs n answer home x o accepted y → y.taken ≡ x.taken
+  does-taken Accepted accepted (b, at, ok, one, made) = ap (λ z. z.taken) made
+  does-taken NotReady accepted (b, at, full, none, made) = ap (λ z. z.taken) made
+  does-taken (Stopped (Refused fault)) accepted (b, at, is, none, made) = ap (λ z. z.taken) made
+  does-taken (Stopped Done) accepted (past, rest, none, made) = ap (λ z. z.taken) made
+  does-taken (Stopped Cut) accepted (past, rest, none, made) = ap (λ z. z.taken) made

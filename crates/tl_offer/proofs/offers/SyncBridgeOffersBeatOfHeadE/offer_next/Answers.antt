@@ -1,0 +1,29 @@
+use Rattle.tl_offer.proofs.Names.{there_is, refl, arith, slice_get_past, slice_get_read, bridge_small, on_bridge_e}
+use Rattle.tl_offer.proofs.NextOffers.{waits, answers, closes}
+use Rattle.tl_offer.proofs.offers.SyncBridgeOffersBeatOfHeadE.offer_next.Goals as goal
+
+pub close_e-requires : goal.close_e-requires
+close_e-requires g c = bridge_small g.row.C g.row.M c.requires.client c.requires.manager
+
+pub returns-then-at-beats : goal.returns-then-at-beats
+returns-then-at-beats g c =
+    let said = c.close_e.ensures in
+    rw c.from_close.ensures (closes on_bridge_e _ _ _ (slice_get_past c.args.beats.now c.args.at c.if-at-beats.true) c.close_e.result _ tt
+    said.refused said.between said.stands)
+
+pub returns-in_default : goal.returns-in_default
+returns-in_default g c =
+    waits on_bridge_e c.args.self.now tt _ (λ x h. h.e) c.in_default.ensures _ _ _ (there_is c.args.beats.now c.args.at c.if-at-beats.false).1
+
+pub bounds-beats-at : goal.bounds-beats-at
+bounds-beats-at g c = c.if-at-beats.false
+
+pub offset_bounds-beats-at : goal.offset_bounds-beats-at
+offset_bounds-beats-at g c = omega (arith, c.if-at-beats.false)
+
+pub returns : goal.returns
+returns g c =
+    let said = c.offer_e.ensures in
+    rw c.from_offer.ensures (answers on_bridge_e _ _ _ _
+    (slice_get_read c.args.beats.now _ c.args.at c.index-beats-at.result refl c.if-at-beats.false c.index-beats-at.is) c.offer_e.result _
+    tt said.admitted said.accepted said.fault said.refused)

@@ -1,0 +1,3 @@
+pub mod Offering
+pub mod Widths
+pub mod Inner

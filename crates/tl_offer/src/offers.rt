@@ -1,0 +1,144 @@
+//! The next beat of a list is offered by the calls of its channel.
+ghost use Rattle.std.specs.Prelude.{ℕ, List};
+ghost use Rattle.tl_offer.specs.declared.offered.Offered.{Offered};
+ghost use Rattle.tl_offer.specs.Widths.{AreWidths};
+ghost use Rattle.tl_offer.specs.Offering.{OffersNext, on_bridge_a, on_bridge_b, on_bridge_c, on_bridge_d, on_bridge_e};
+ghost use Rattle.tl_offer.specs.Offering.{on_side_a, on_side_b, on_side_c, on_side_d, on_side_e};
+
+use crate::offered::Offered;
+use crate::ready::{
+    bridge_ready_a, bridge_ready_b, bridge_ready_c, bridge_ready_d, bridge_ready_e, client_ready_a,
+    client_ready_c, client_ready_e, manager_ready_b, manager_ready_d,
+};
+use tl_msg::{BeatOf, HeadA, HeadB, HeadC, HeadD, HeadE};
+use tl_sides::{ClientSide, ManagerSide, SyncBridge};
+
+// What becomes of the next beat of a list, of which `$at` were accepted, by the calls of its channel.
+// (No generic function, since its callers would owe the sizes of each thing that offers.)
+macro_rules! next_offer {
+    ($side:ident, $beats:ident, $at:ident, $ready:ident, $offer:ident, $close:ident) => {{
+        if $at >= $beats.len() {
+            return Offered::from_close($side.$close());
+        }
+        let Some(()) = $ready($side) else {
+            return Offered::NotReady;
+        };
+        Offered::from_offer($side.$offer($beats[$at]))
+    }};
+}
+
+/// What offers beats `B` on one of its channels, one after another: a bridge in one thread, or a side in its own.
+pub trait Offers<B> {
+    // whether it may offer
+    ghost CanOffer: { Type 0 };
+
+    // `new` is what `old` becomes where the next beat of a list was offered, of which so many were
+    // accepted before, and this became of it
+    ghost Becomes: { (beats : List B) → (at : ℕ) → (old : Self) → Offered → (new : Self) → Type 0 };
+
+    /// Offers the next beat of a list, of which `at` were accepted, where the channel is ready. Where
+    /// no beat is left, closes the channel (this project's choice).
+    fn offer_next(&mut self, beats: &[B], at: usize) -> Offered
+        requires { CanOffer }
+        ensures { Becomes beats.now at self.old result self.new };
+}
+
+impl<const C: usize, const M: usize> Offers<BeatOf<HeadA, C>> for SyncBridge<C, M> {
+    ghost CanOffer = { AreWidths C M };
+
+    ghost Becomes = { OffersNext on_bridge_a };
+
+    fn offer_next(&mut self, beats: &[BeatOf<HeadA, C>], at: usize) -> Offered {
+        next_offer!(self, beats, at, bridge_ready_a, offer_a, close_a)
+    }
+}
+
+impl<const C: usize, const M: usize> Offers<BeatOf<HeadB, M>> for SyncBridge<C, M> {
+    ghost CanOffer = { AreWidths C M };
+
+    ghost Becomes = { OffersNext on_bridge_b };
+
+    fn offer_next(&mut self, beats: &[BeatOf<HeadB, M>], at: usize) -> Offered {
+        next_offer!(self, beats, at, bridge_ready_b, offer_b, close_b)
+    }
+}
+
+impl<const C: usize, const M: usize> Offers<BeatOf<HeadC, C>> for SyncBridge<C, M> {
+    ghost CanOffer = { AreWidths C M };
+
+    ghost Becomes = { OffersNext on_bridge_c };
+
+    fn offer_next(&mut self, beats: &[BeatOf<HeadC, C>], at: usize) -> Offered {
+        next_offer!(self, beats, at, bridge_ready_c, offer_c, close_c)
+    }
+}
+
+impl<const C: usize, const M: usize> Offers<BeatOf<HeadD, M>> for SyncBridge<C, M> {
+    ghost CanOffer = { AreWidths C M };
+
+    ghost Becomes = { OffersNext on_bridge_d };
+
+    fn offer_next(&mut self, beats: &[BeatOf<HeadD, M>], at: usize) -> Offered {
+        next_offer!(self, beats, at, bridge_ready_d, offer_d, close_d)
+    }
+}
+
+impl<const C: usize, const M: usize> Offers<BeatOf<HeadE, C>> for SyncBridge<C, M> {
+    ghost CanOffer = { AreWidths C M };
+
+    ghost Becomes = { OffersNext on_bridge_e };
+
+    fn offer_next(&mut self, beats: &[BeatOf<HeadE, C>], at: usize) -> Offered {
+        next_offer!(self, beats, at, bridge_ready_e, offer_e, close_e)
+    }
+}
+
+impl<const C: usize, const M: usize> Offers<BeatOf<HeadA, C>> for ClientSide<C, M> {
+    ghost CanOffer = { AreWidths C M };
+
+    ghost Becomes = { OffersNext on_side_a };
+
+    fn offer_next(&mut self, beats: &[BeatOf<HeadA, C>], at: usize) -> Offered {
+        next_offer!(self, beats, at, client_ready_a, offer_a, close_a)
+    }
+}
+
+impl<const C: usize, const M: usize> Offers<BeatOf<HeadC, C>> for ClientSide<C, M> {
+    ghost CanOffer = { AreWidths C M };
+
+    ghost Becomes = { OffersNext on_side_c };
+
+    fn offer_next(&mut self, beats: &[BeatOf<HeadC, C>], at: usize) -> Offered {
+        next_offer!(self, beats, at, client_ready_c, offer_c, close_c)
+    }
+}
+
+impl<const C: usize, const M: usize> Offers<BeatOf<HeadE, C>> for ClientSide<C, M> {
+    ghost CanOffer = { AreWidths C M };
+
+    ghost Becomes = { OffersNext on_side_e };
+
+    fn offer_next(&mut self, beats: &[BeatOf<HeadE, C>], at: usize) -> Offered {
+        next_offer!(self, beats, at, client_ready_e, offer_e, close_e)
+    }
+}
+
+impl<const C: usize, const M: usize> Offers<BeatOf<HeadB, M>> for ManagerSide<C, M> {
+    ghost CanOffer = { AreWidths C M };
+
+    ghost Becomes = { OffersNext on_side_b };
+
+    fn offer_next(&mut self, beats: &[BeatOf<HeadB, M>], at: usize) -> Offered {
+        next_offer!(self, beats, at, manager_ready_b, offer_b, close_b)
+    }
+}
+
+impl<const C: usize, const M: usize> Offers<BeatOf<HeadD, M>> for ManagerSide<C, M> {
+    ghost CanOffer = { AreWidths C M };
+
+    ghost Becomes = { OffersNext on_side_d };
+
+    fn offer_next(&mut self, beats: &[BeatOf<HeadD, M>], at: usize) -> Offered {
+        next_offer!(self, beats, at, manager_ready_d, offer_d, close_d)
+    }
+}
