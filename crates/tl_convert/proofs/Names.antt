@@ -16,7 +16,7 @@ pub use Rattle.std.proofs.lemmas.Nat.{le-div, and_mask}
 pub use Rattle.std.proofs.lemmas.Option.{slice_get_within, get_or_from_slice_get, same_Some, slice_get-get_or, none-some}
 pub use Rattle.std.specs.List.{range_with_len, count_by, enumerate_from, refill}
 pub use Rattle.std.specs.Option.{option_map_or, is_some}
-pub use Rattle.std.specs.Prelude.{is_none, nat_lt, bit_and, Result, Ok, Err, IsErr, IsOk, IsTrue}
+pub use Rattle.std.specs.Prelude.{is_none, nat_lt, bit_and, Result, Ok, Err, IsOk, IsTrue}
 pub use Rattle.tl_burst.proofs.Burst.{rest-snoc, more-carries}
 pub use Rattle.tl_burst.proofs.FaultsExact.{ChannelLaws, faults-exact, admitted-none, none-accepts, none-admitted, none-held, begun-lawful}
 pub use Rattle.tl_burst.proofs.FaultsExact.{accepts-none, laws-of}

@@ -157,7 +157,10 @@ impl<K: Channel, const W: usize, const V: usize> Converter<K, W, V> {
         ensures lawful { IfOk result (λ out. All (λ b. IsLawfulBeat K.rules b) out.items) }
         ensures unchanged { OnErr result (self.new ≡ self.old) }
     {
-        let place = self.check(&beat)?;
+        let place = match self.check(&beat) {
+            Ok(place) => place,
+            Err(fault) => return Err(fault),
+        };
         let mut out = ArrayVec::new();
         self.feed_at(&beat, place, home, &mut out);
         Ok(out)

@@ -32,8 +32,7 @@ returns-then-is_still-clause-settled g c = λ x y client manager.
 
 pub returns-then-is_still-clause-still : goal.returns-then-is_still-clause-still
 returns-then-is_still-clause-still g c =
-    let none = c.if-is_still.true in
-    c.round-moved.ensures.still (omega (arith, none))
+    c.round-moved.ensures.still c.if-is_still.true
 
 pub rounds-preserved : goal.rounds-preserved
 rounds-preserved g c =

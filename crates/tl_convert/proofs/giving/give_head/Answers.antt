@@ -1,4 +1,4 @@
-use Rattle.tl_convert.proofs.Names.{◌≡◌, true, false, [], ◌∷◌, ◌++◌, sym, ap, subst, ◌∙◌, active_mask, BeatOf, layout, of_head}
+use Rattle.tl_convert.proofs.Names.{◌≡◌, true, false, [], ◌∷◌, ◌++◌, length, sym, ap, subst, ◌∙◌, arith, active_mask, BeatOf, layout, of_head}
 use Rattle.tl_convert.proofs.SingleBeat.{single-is}
 use Rattle.tl_convert.proofs.PourStep.{same-small}
 use Rattle.tl_convert.proofs.giving.give_head.Goals.{then-MASKED, else-MASKED}
@@ -24,3 +24,6 @@ returns g c = λ no_data.
 
 pub active-requires-clause-small : goal.active-requires-clause-small
 active-requires-clause-small g c = same-small c.size.result (g.K.Channel.rules.size c.args.head) c.size.ensures c.requires.1
+
+pub push-requires : goal.push-requires
+push-requires g c = (c.requires-raw.1.1.1.0, omega (arith, ap length c.requires.2))

@@ -1,11 +1,12 @@
 use Rattle.tl_ring.proofs.Names.{◌≤◌, length, refl, arith, lit<, ROOM}
-use Rattle.tl_ring.specs.Ends.{Ended, LookedAfter, taking_of}
+use Rattle.tl_ring.specs.Ends.{LookedAfter, taking_of}
 use Rattle.tl_ring.proofs.EndSteps.{shown_of}
 use denote.Param.{layout, param, number, copied}
 use Rattle.tl_ring.specs.contracts.ends.TakeEnd.{the_row}
 use Rattle.tl_ring.proofs.FieldSizes.{part_small, inner_small, beat_in_queue}
 use Rattle.tl_ring.proofs.Moves.{none_in_two}
 use denote.Memory.{lone}
+use Rattle.tl_ring.proofs.ends.TakeEnd.drained.Given.{Over}
 use Rattle.tl_ring.proofs.ends.TakeEnd.drained.Goals as goal
 
 pub slots_after-in_ring-requires-room-P-Protocol : goal.slots_after-in_ring-requires-room-P-Protocol
@@ -24,14 +25,11 @@ len-waiting-requires g c =
     (copied 4 g.row.K-Head) g.K.Channel g.K.Head.Clone g.K.Head.Eq g.K.Head.PartialEq g.K.Head.Default
     g.A.Allocator)) 0 9223372036854775808 c.requires-raw.1.1.1.1.1.0
 
-pub returns : goal.returns
-returns g c =
+looked : (g : Over) (c : goal.After-len-waiting g) →
+    LookedAfter (record { finished = c.receipt.inside.finished }) (taking_of c.self.inside.inbox c.self.inside.intake.half)
+    (record { finished = c.slots_after-in_ring.new.finished }) (taking_of c.self.inside.inbox c.slots_after-in_ring.new.self)
+looked g c =
     let after = c.slots_after-in_ring.ensures in
-    let of = rw (← c.receipt.view_is, ← c.self.view_is) at c.requires in
-    let e : Ended _ _ _ _ = record { finished = c.receipt.inside.finished } in
-    let t = taking_of c.self.inside.inbox c.self.inside.intake.half in
-    let looked : LookedAfter e t (record { finished = c.slots_after-in_ring.new.finished })
-    (taking_of c.self.inside.inbox c.slots_after-in_ring.new.self) =
     record {
       receipt = after.finished.0;
       take = after.looked.0;
@@ -39,10 +37,17 @@ returns g c =
       same_inbox = refl;
       same_received = after.looked.1;
       ring = after.fifo;
-    } in
+    }
+
+pub returns-clause-looked : goal.returns-clause-looked
+returns-clause-looked g c = rw (← c.receipt.view_is, ← c.self.view_is) (looked g c)
+
+pub returns-clause-drained : goal.returns-clause-drained
+returns-clause-drained g c = none_in_two c.self.inside.inbox _ c.len-waiting.result c.slots_after-in_ring.result c.len-waiting.ensures.count
+    c.slots_after-in_ring.ensures.value
+
+pub returns-clause-shown : goal.returns-clause-shown
+returns-clause-shown g c =
     let held : length c.self.inside.inbox ≤ ROOM = omega (arith, c.len-waiting.ensures.count, c.len-waiting.ensures.most) in
-    rw (← c.receipt.view_is, ← c.self.view_is) (record {
-      looked = looked;
-      drained = none_in_two c.self.inside.inbox _ c.len-waiting.result c.slots_after-in_ring.result c.len-waiting.ensures.count after.value;
-      shown = λ x taken shows takes. shown_of g.K.Channel.rules e _ t _ x taken of looked held shows takes;
-    })
+    rw (← c.receipt.view_is, ← c.self.view_is) (λ x taken shows takes.
+    shown_of g.K.Channel.rules _ _ _ _ x taken (rw (← c.self.view_is, ← c.receipt.view_is) at c.requires) (looked g c) held shows takes)
