@@ -65,10 +65,9 @@ pub fn script_of_five(alloc: Global) -> Result<Script<4, 8>, TraceFault>
     if header_of_text(FIVE.as_bytes()) != Some(HEADER) {
         return Err(OTHER);
     }
-    let script = read_script::<4, 8>(alloc, FIVE.as_bytes(), 1)?;
-    if is_short(&script) {
-        Ok(script)
-    } else {
-        Err(OTHER)
+    match read_script::<4, 8>(alloc, FIVE.as_bytes(), 1) {
+        Ok(script) if is_short(&script) => Ok(script),
+        Ok(_) => Err(OTHER),
+        Err(fault) => Err(fault),
     }
 }

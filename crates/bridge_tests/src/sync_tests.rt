@@ -6,7 +6,6 @@ use crate::lending::{come_of, lent};
 use crate::values::{blank, data, get};
 use std::alloc::Global;
 use tl_bridge::{Standings, SyncBridge};
-use tl_lanes::Mask;
 use tl_msg::{HeadB, HeadC, HeadE};
 
 /// Whether a Get of source 11 from this address is offered, and answered so.
@@ -25,16 +24,6 @@ fn answers(
     bridge.ready_d() && bridge.offer_d(data(opcode, size, 0x11, *lanes)) == *said
 }
 
-/// Whether the Get from this address is taken, and has this mask.
-fn takes_ask(bridge: &mut SyncBridge<4, 16>, address: u64, mask: Mask) -> bool {
-    bridge.take_a() == Some(get(0x11, address, mask))
-}
-
-/// Whether a response of 4 bytes with these lanes is taken.
-fn takes_answer(bridge: &mut SyncBridge<4, 16>, lanes: [u8; 4]) -> bool {
-    bridge.take_d() == Some(data(1, 2, 0x11, lanes))
-}
-
 /// Whether that comes of a call.
 fn play(bridge: &mut SyncBridge<4, 16>, call: &Call) -> bool {
     match call {
@@ -42,8 +31,8 @@ fn play(bridge: &mut SyncBridge<4, 16>, call: &Call) -> bool {
         Call::Answers(opcode, size, lanes, said) => answers(bridge, *opcode, *size, lanes, said),
         Call::ClientPumps | Call::ManagerPumps => bridge.pump() == 1,
         Call::ClientFetches | Call::ManagerFetches => bridge.fetch() == 1,
-        Call::TakesAsk(address, mask) => takes_ask(bridge, *address, *mask),
-        Call::TakesAnswer(lanes) => takes_answer(bridge, *lanes),
+        Call::TakesAsk(address, mask) => bridge.take_a() == Some(get(0x11, *address, *mask)),
+        Call::TakesAnswer(lanes) => bridge.take_d() == Some(data(1, 2, 0x11, *lanes)),
         Call::TakesNothing => bridge.take_d().is_none(),
     }
 }
@@ -53,25 +42,27 @@ fn calls_come_of(alloc: Global, ring: usize, calls: &[Call]) -> bool {
     come_of(SyncBridge::new(alloc, ring), play, calls)
 }
 
-#[test]
-fn a_request_and_its_response(rt: HostRuntime) {
-    assert!(rt; calls_come_of(rt.alloc(), 4, &ANSWERED));
+/// Whether a Get of source 1 from this address is offered between buses of 4 bytes.
+fn asks_across(bridge: &mut SyncBridge<4, 4>, address: u64) -> bool {
+    bridge.ready_a() && bridge.offer_a(get(1, address, 0xf)).is_ok()
 }
 
-#[test]
-fn a_source_used_twice(rt: HostRuntime) {
-    assert!(rt; calls_come_of(rt.alloc(), 1, &TWICE));
+/// Whether a response to it, of 4 bytes like this one, is offered.
+fn answers_across(bridge: &mut SyncBridge<4, 4>, byte: u8) -> bool {
+    bridge.ready_d() && bridge.offer_d(data(1, 2, 1, [byte; 4])).is_ok()
 }
 
-/// Whether a Get of source 1 from this address crosses between buses of 4 bytes, and then a response to it, of 4 bytes like this one.
+/// Whether one beat is moved.
+fn moves_one(bridge: &mut SyncBridge<4, 4>) -> bool {
+    (bridge.pump() == 1) & (bridge.fetch() == 1)
+}
+
+/// Whether both cross.
 fn ask_and_answer(bridge: &mut SyncBridge<4, 4>, address: u64, byte: u8) -> bool {
-    let (request, response) = (get(1, address, 0xf), data(1, 2, 1, [byte; 4]));
-    let is_asked = bridge.ready_a() && bridge.offer_a(request).is_ok();
-    let is_there = (bridge.pump() == 1) & (bridge.fetch() == 1);
-    let is_taken = bridge.take_a() == Some(request);
-    let is_answered = bridge.ready_d() && bridge.offer_d(response).is_ok();
-    let is_back = (bridge.pump() == 1) & (bridge.fetch() == 1);
-    is_asked & is_there & is_taken & is_answered & is_back & (bridge.take_d() == Some(response))
+    let is_there = asks_across(bridge, address) & moves_one(bridge);
+    let is_taken = bridge.take_a() == Some(get(1, address, 0xf));
+    let is_back = answers_across(bridge, byte) & moves_one(bridge);
+    is_there & is_taken & is_back & (bridge.take_d() == Some(data(1, 2, 1, [byte; 4])))
 }
 
 /// Whether source 1 asks and is answered twice.
@@ -79,9 +70,11 @@ fn both_cross_twice(bridge: &mut SyncBridge<4, 4>) -> bool {
     ask_and_answer(bridge, 0, 0x11) & ask_and_answer(bridge, 4, 0x22)
 }
 
+/// Also of a source that is used twice, and of one between equal widths.
 #[test]
-fn a_source_used_twice_between_equal_widths(rt: HostRuntime) {
-    assert!(rt; lent(SyncBridge::new(rt.alloc(), 1), both_cross_twice));
+fn a_request_and_its_response(rt: HostRuntime) {
+    let come = calls_come_of(rt.alloc(), 4, &ANSWERED) & calls_come_of(rt.alloc(), 1, &TWICE);
+    assert!(rt; come & lent(SyncBridge::new(rt.alloc(), 1), both_cross_twice));
 }
 
 const PROBE: HeadB = HeadB {

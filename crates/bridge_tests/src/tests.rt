@@ -15,11 +15,6 @@ fn notes_sources(table: &mut SourceTable) -> bool {
     is_free & is_begun & !table.busy(0x0107) & table.busy(0xffff)
 }
 
-#[test]
-fn sources_in_use(rt: HostRuntime) {
-    assert!(rt; lent(SourceTable::new(rt.alloc()), notes_sources));
-}
-
 const FIRST: Request = Request {
     size: 2,
     address: 0x100c,
@@ -50,8 +45,9 @@ fn notes_requests(table: &mut RequestTable) -> bool {
 }
 
 #[test]
-fn requests_that_wait(rt: HostRuntime) {
-    assert!(rt; lent(RequestTable::new(rt.alloc()), notes_requests));
+fn sources_in_use_and_requests_that_wait(rt: HostRuntime) {
+    let are_sources = lent(SourceTable::new(rt.alloc()), notes_sources);
+    assert!(rt; are_sources & lent(RequestTable::new(rt.alloc()), notes_requests));
 }
 
 /// Whether there is no memory for a table of this kind.

@@ -95,18 +95,6 @@ impl<H: Copy, const W: usize> Sender<BeatOf<H, W>> for Producer<BeatOf<H, W>, Gl
     }
 }
 
-/// What has a mask: a beat of any channel.
-trait Masked {
-    /// The mask.
-    fn mask(&self) -> Mask;
-}
-
-impl<H: Copy, const W: usize> Masked for BeatOf<H, W> {
-    fn mask(&self) -> Mask {
-        self.mask
-    }
-}
-
 /// The taking end of a plain ring, with room for the beats that one call takes.
 #[derive(Drop)]
 struct PlainTaker<B: Copy> {
@@ -114,11 +102,11 @@ struct PlainTaker<B: Copy> {
     room: Vec<B>,
 }
 
-impl<B: Masked + Copy> Taker for PlainTaker<B> {
+impl<H: Copy, const W: usize> Taker for PlainTaker<BeatOf<H, W>> {
     fn take(&mut self, masks: &mut Mask) -> usize {
         let count = self.end.pop_partial_slice(&mut self.room);
         for beat in &self.room[..count] {
-            *masks = masks.wrapping_add(beat.mask());
+            *masks = masks.wrapping_add(beat.mask);
         }
         count
     }

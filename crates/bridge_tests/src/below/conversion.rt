@@ -21,19 +21,14 @@ fn are_joined(converter: &mut Converter<ChA, 4, 8>) -> bool {
     is_begun & is_given & converter.at_boundary()
 }
 
-#[test]
-fn a_widened_burst(rt: HostRuntime) {
-    assert!(rt; are_joined(&mut Converter::new()));
-}
-
 /// Whether a list of near beats of 4 bytes gives so many far beats.
 fn has_count<const V: usize>(beats: &[Beat<ChA, 4>], far: usize) -> bool {
     is_width(V) && beats.len() <= 5 && far_count::<ChA, 4, V>(beats) == far
 }
 
-/// Of three of the four beats of a message, of none, and of a message whose head changes.
+/// Also how many far beats three of the four beats of a message give, none, and a message whose head changes.
 #[test]
-fn counts_of_far_beats(rt: HostRuntime) {
+fn a_widened_burst(rt: HostRuntime) {
     let next: Beat<ChA, 4> = put(4, 32, 0xf, [0; 4]);
     let three = [next; 3];
     let are_three = has_count::<8>(&three, 1)
@@ -43,5 +38,5 @@ fn counts_of_far_beats(rt: HostRuntime) {
     let are_two = has_count::<8>(&changed, 1)
         & has_count::<4>(&changed, 2)
         & has_count::<1>(&changed, 8);
-    assert!(rt; are_three & are_two & has_count::<8>(&[], 0));
+    assert!(rt; are_joined(&mut Converter::new()) & are_three & are_two & has_count::<8>(&[], 0));
 }

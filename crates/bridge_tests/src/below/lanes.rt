@@ -10,13 +10,14 @@ fn counts_and_lanes(rt: HostRuntime) {
     assert!(rt; is_counted & is_placed & is_width(WIDEST) & !is_width(3));
 }
 
-/// A whole bus of 4 into the upper half of one of 8, and none of it.
+/// None of a bus of 4 into one of 8, and then the whole of it into the upper half.
 #[test]
 fn moved_lanes(rt: HostRuntime) {
-    let (mut upper, mut none) = ([9; 8], [9; 8]);
-    move_lanes::<4, 8>(&[0, 1, 2, 3], &mut upper, 4, 4);
-    move_lanes::<4, 8>(&[0, 1, 2, 3], &mut none, 4, 0);
-    assert!(rt; (upper == [9, 9, 9, 9, 0, 1, 2, 3]) & (none == [9; 8]));
+    let mut lanes = [9; 8];
+    move_lanes::<4, 8>(&[0, 1, 2, 3], &mut lanes, 4, 0);
+    let is_kept = lanes == [9; 8];
+    move_lanes::<4, 8>(&[0, 1, 2, 3], &mut lanes, 4, 4);
+    assert!(rt; is_kept & (lanes == [9, 9, 9, 9, 0, 1, 2, 3]));
 }
 
 /// The upper half of a bus of 8 into one of 4, and a bus of 4 into the lower half of one of 8.

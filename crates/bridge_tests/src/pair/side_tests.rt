@@ -84,12 +84,11 @@ fn play_all(
 ) -> bool
     requires { AreSides client.old manager.old }
 {
+    let mut are_so = true;
     for call in calls {
-        if !play_and_meet(client, manager, call) {
-            return false;
-        }
+        are_so &= play_and_meet(client, manager, call);
     }
-    true
+    are_so
 }
 
 /// Whether that comes of these calls over rings of so many beats.
@@ -104,30 +103,40 @@ fn sides_come_of(alloc: Global, ring: usize, calls: &[Call]) -> bool {
     }
 }
 
-#[test]
-fn a_request_and_its_response(rt: HostRuntime) {
-    assert!(rt; sides_come_of(rt.alloc(), 4, &ANSWERED));
+/// Whether a Get of source 11 from this address is offered between buses of 4 bytes.
+fn asks_across(client: &mut ClientSide<4, 4>, address: u64) -> bool {
+    client.ready_a() && client.offer_a(get(0x11, address, 0xf)).is_ok()
 }
 
-#[test]
-fn a_source_used_twice(rt: HostRuntime) {
-    assert!(rt; sides_come_of(rt.alloc(), 1, &TWICE));
+/// Whether a response to it, of 4 bytes like this one, is offered.
+fn answers_across(manager: &mut ManagerSide<4, 4>, byte: u8) -> bool {
+    manager.ready_d() && manager.offer_d(data(1, 2, 0x11, [byte; 4])).is_ok()
 }
 
-/// Whether a Get of source 11 from this address crosses between buses of 4 bytes, and then a response to it, of 4 bytes like this one.
+/// Whether that Get is taken.
+fn takes_ask_across(manager: &mut ManagerSide<4, 4>, address: u64) -> bool {
+    manager.take_a() == Some(get(0x11, address, 0xf))
+}
+
+/// Whether that response is taken.
+fn takes_answer_across(client: &mut ClientSide<4, 4>, byte: u8) -> bool {
+    client.take_d() == Some(data(1, 2, 0x11, [byte; 4]))
+}
+
+/// Whether both cross.
 fn ask_and_answer(
     client: &mut ClientSide<4, 4>,
     manager: &mut ManagerSide<4, 4>,
     address: u64,
     byte: u8,
 ) -> bool {
-    let (request, response) = (get(0x11, address, 0xf), data(1, 2, 0x11, [byte; 4]));
-    let is_asked = client.ready_a() && client.offer_a(request).is_ok();
+    let is_asked = asks_across(client, address);
     let is_there = (client.pump() == 1) & (manager.fetch() == 1);
-    let is_taken = manager.take_a() == Some(request);
-    let is_answered = manager.ready_d() && manager.offer_d(response).is_ok();
+    let is_taken = takes_ask_across(manager, address);
+    let is_answered = answers_across(manager, byte);
     let is_back = (manager.pump() == 1) & (client.fetch() == 1);
-    is_asked & is_there & is_taken & is_answered & is_back & (client.take_d() == Some(response))
+    let is_kept = takes_answer_across(client, byte);
+    is_asked & is_there & is_taken & is_answered & is_back & is_kept
 }
 
 /// Whether source 11 asks and is answered twice.
@@ -143,7 +152,9 @@ fn both_cross_twice(alloc: Global) -> bool {
     }
 }
 
+/// Also of a source that is used twice, and of one between equal widths.
 #[test]
-fn a_source_used_twice_between_equal_widths(rt: HostRuntime) {
-    assert!(rt; both_cross_twice(rt.alloc()));
+fn a_request_and_its_response(rt: HostRuntime) {
+    let come = sides_come_of(rt.alloc(), 4, &ANSWERED) & sides_come_of(rt.alloc(), 1, &TWICE);
+    assert!(rt; come & both_cross_twice(rt.alloc()));
 }

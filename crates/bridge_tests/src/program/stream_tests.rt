@@ -61,42 +61,29 @@ impl Write for Slow {
     }
 }
 
-/// Gives the text a byte a call.
-fn text_in(bad_call: usize, kind: io::ErrorKind) -> Pieces<'static> {
-    Pieces {
+const KINDS: [io::ErrorKind; 2] = [io::ErrorKind::Interrupted, io::ErrorKind::Other];
+
+/// Whether the text, which comes a byte a call, is read where no call fails (call 0), and else there is a fault of reading.
+fn is_read_or_fault(alloc: Global, bad_call: usize, kind: io::ErrorKind) -> bool {
+    let mut reader = Pieces {
         rest: TEXT.as_bytes(),
         most: 1,
         calls: 0,
         bad_call,
         kind,
+    };
+    match read_all(alloc, &mut reader) {
+        Ok(text) => (bad_call == 0) & (text.as_slice() == TEXT.as_bytes()),
+        Err(fault) => (bad_call != 0) & (fault == TextFault::Read),
     }
 }
 
-const KINDS: [io::ErrorKind; 2] = [io::ErrorKind::Interrupted, io::ErrorKind::Other];
-
-/// Whether the text is read.
-fn is_read(alloc: Global) -> bool {
-    match read_all(alloc, &mut text_in(0, io::ErrorKind::Other)) {
-        Ok(text) => text.as_slice() == TEXT.as_bytes(),
-        Err(_) => false,
-    }
-}
-
-/// Whether a reader that fails at this call is a fault of reading.
-fn is_read_fault(alloc: Global, bad_call: usize, kind: io::ErrorKind) -> bool {
-    matches!(
-        read_all(alloc, &mut text_in(bad_call, kind)),
-        Err(TextFault::Read)
-    )
-}
-
-/// The text has 86 bytes, so call 87 finds the end of it. Each call fails in turn.
+/// The text has 86 bytes, so call 87 finds the end of it. No call fails, and then each in turn.
 #[test]
 fn readers(rt: HostRuntime) {
-    assert!(rt; is_read(rt.alloc()));
-    for bad_call in 1..=87 {
+    for bad_call in 0..=87 {
         for &kind in &KINDS {
-            holds_at(&rt, is_read_fault(rt.alloc(), bad_call, kind), bad_call);
+            holds_at(&rt, is_read_or_fault(rt.alloc(), bad_call, kind), bad_call);
         }
     }
 }
@@ -115,9 +102,13 @@ fn read_in_pieces(
         bad_call,
         kind,
     };
-    let mut input = Input::open(alloc, &mut reader)?;
-    input.drain(&mut reader)?;
-    Ok(input.total)
+    match Input::open(alloc, &mut reader) {
+        Ok(mut input) => match input.drain(&mut reader) {
+            Ok(()) => Ok(input.total),
+            Err(fault) => Err(fault),
+        },
+        Err(fault) => Err(fault),
+    }
 }
 
 /// Whether all 300,000 bytes are read where call 6 or a later one fails, and else there is a fault of reading.
@@ -172,6 +163,7 @@ fn is_written(alloc: Global, row: &Taken, kind: io::ErrorKind) -> bool {
     }
 }
 
+/// Also where each write of one byte fails in turn, the Nth in row 100 + N.
 #[test]
 fn writers(rt: HostRuntime) {
     for (number, row) in WRITERS.iter().enumerate() {
@@ -181,17 +173,12 @@ fn writers(rt: HostRuntime) {
             number,
         );
     }
-}
-
-/// Each write of one byte fails in turn.
-#[test]
-fn writers_that_fail(rt: HostRuntime) {
     for bad_call in 1..=TEXT.len() {
         for &kind in &KINDS {
             holds_at(
                 &rt,
                 is_written(rt.alloc(), &(1, bad_call, true, false), kind),
-                bad_call,
+                bad_call.saturating_add(100),
             );
         }
     }

@@ -62,7 +62,10 @@ fn gives(alloc: Global, line: &Line) -> bool {
 #[test]
 fn lines(rt: HostRuntime) {
     for (number, line) in LINES.iter().enumerate() {
-        holds_at(&rt, asks_for(rt.alloc(), line), number);
-        assert!(rt; gives(rt.alloc(), line), "row {number}, its order");
+        holds_at(
+            &rt,
+            asks_for(rt.alloc(), line) & gives(rt.alloc(), line),
+            number,
+        );
     }
 }

@@ -150,12 +150,16 @@ fn receipt_for_one(
     requires { ArePair send take.old }
     ensures { IfSome result (λ receipt. IsReceiptOf receipt take.new) }
 {
-    let mut closing = send.close().ok()?;
-    let is_sent = meet_closing(&mut closing, take) == at(0, 1, 0);
-    if is_sent && closing.staged() == 0 {
-        closing.finish()
-    } else {
-        None
+    match send.close().ok() {
+        Some(mut closing) => {
+            let is_sent = meet_closing(&mut closing, take) == at(0, 1, 0);
+            if is_sent && closing.staged() == 0 {
+                closing.finish()
+            } else {
+                None
+            }
+        }
+        None => None,
     }
 }
 

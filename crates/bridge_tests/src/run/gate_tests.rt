@@ -59,7 +59,7 @@ fn meet_in_each_round<R: Threads>(rt: &R, alloc: Global, script: &Script<4, 4>) 
     let ended = run_short(rt, alloc, script, 1, &mut client, &mut manager);
     let has_missed = client.missed | manager.missed;
     let passed = (there.load(Ordering::SeqCst), back.load(Ordering::SeqCst));
-    !has_missed & matches!(ended, Some((rounds, _)) if passed == (rounds, rounds))
+    !has_missed & matches!(ended, Some(rounds) if passed == (rounds, rounds))
 }
 
 /// Two sides that one thread did in turn would each wait in vain.

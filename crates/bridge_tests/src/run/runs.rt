@@ -24,19 +24,18 @@ fn are_same(one: &Outcome<4, 4>, other: &Outcome<4, 4>) -> bool {
         & (one.verdicts == other.verdicts)
 }
 
-/// The rounds of two runs of one script, if both have the same lists and verdicts.
+/// The rounds in two threads of two runs of one script, if both have the same lists and verdicts.
 fn rounds_of(
     threads: &Result<Outcome<4, 4>, RunFault>,
     sync: &Result<Outcome<4, 4>, RunFault>,
-) -> Option<(u64, u64)> {
+) -> Option<u64> {
     match (threads, sync) {
-        (Ok(threads), Ok(sync)) if are_same(threads, sync) => Some((threads.rounds, sync.rounds)),
+        (Ok(threads), Ok(sync)) if are_same(threads, sync) => Some(threads.rounds),
         _ => None,
     }
 }
 
-/// Both runs of a script, in turns of one, over rings of the same size: the rounds in two threads and in one, if both end
-/// alike.
+/// Both runs of a script, in turns of one, over rings of the same size: the rounds in two threads, if both end alike.
 fn run_both<R: Threads, G: Gate + Send, H: Gate + Send>(
     rt: &R,
     alloc: Global,
@@ -44,7 +43,7 @@ fn run_both<R: Threads, G: Gate + Send, H: Gate + Send>(
     ring: usize,
     client_gate: &mut G,
     manager_gate: &mut H,
-) -> Option<(u64, u64)>
+) -> Option<u64>
     requires short { HasShortLists script.now }
 {
     let sync = run_sync::<4, 4>(alloc, script, ring);
@@ -68,7 +67,7 @@ pub fn run_short<R: Threads, G: Gate + Send, H: Gate + Send>(
     ring: usize,
     client_gate: &mut G,
     manager_gate: &mut H,
-) -> Option<(u64, u64)> {
+) -> Option<u64> {
     if !is_short(script) {
         return None;
     }

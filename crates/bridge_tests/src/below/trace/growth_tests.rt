@@ -36,7 +36,7 @@ fn is_made(alloc: Global, trace: &Trace) -> Result<bool, Fail> {
 }
 
 /// Whether a trace is written as this text.
-pub fn is_written_as(alloc: Global, trace: &Trace, text: &[u8]) -> Result<bool, Fail> {
+fn is_written_as(alloc: Global, trace: &Trace, text: &[u8]) -> Result<bool, Fail> {
     match write_trace(alloc, trace) {
         Ok(written) => Ok(written.as_slice() == text),
         Err(fault) => Err(Fail::new(fault)),
@@ -45,7 +45,10 @@ pub fn is_written_as(alloc: Global, trace: &Trace, text: &[u8]) -> Result<bool, 
 
 /// Whether a trace is made into its script, and written as its text.
 fn is_made_and_written(alloc: Global, trace: &Trace) -> Result<bool, Fail> {
-    Ok(is_made(alloc, trace)? & is_written_as(alloc, trace, FIVE.as_bytes())?)
+    match is_made(alloc, trace) {
+        Ok(true) => is_written_as(alloc, trace, FIVE.as_bytes()),
+        other => other,
+    }
 }
 
 /// Whether it was read, and that.
