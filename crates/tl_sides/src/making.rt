@@ -58,18 +58,6 @@ pub(crate) type Parts<RingA, RingB, RingC, RingD, RingE, const C: usize, const M
     ManagerBook<M, A>,
 );
 
-// Two rings, whatever they are: the checker writes out what a way out lets go for each ring that stands there.
-fn two_rings<A: Copy, First: NewRing<A>, Second: NewRing<A>>(
-    alloc: A,
-    ring: usize,
-) -> Result<(First, Second), BuildFault>
-    ensures { IsMade (λ rings. First.IsNew ring rings.0 × Second.IsNew ring rings.1) ring result }
-{
-    let first = given!(First::new_ring(alloc, ring));
-    let second = given!(Second::new_ring(alloc, ring), first);
-    Ok((first, second))
-}
-
 // A ring for each channel, whatever it is, and both books: all that takes memory, so that who calls
 // has one way out. It knows nothing of the rings, so that to let some go where the next one fails
 // costs the checker little.
@@ -87,8 +75,10 @@ pub(crate) fn new_parts<
         RingC.IsNew ring parts.2 × RingD.IsNew ring parts.3 × RingE.IsNew ring parts.4) ×
         KnowsClient {w = C} parts.5 [] × KnowsManager {w = M} parts.6 []) ring result }
 {
-    let (a, b) = given!(two_rings::<A, RingA, RingB>(alloc, ring));
-    let (c, d) = given!(two_rings::<A, RingC, RingD>(alloc, ring), a, b);
+    let a = given!(RingA::new_ring(alloc, ring));
+    let b = given!(RingB::new_ring(alloc, ring), a);
+    let c = given!(RingC::new_ring(alloc, ring), a, b);
+    let d = given!(RingD::new_ring(alloc, ring), a, b, c);
     let e = given!(RingE::new_ring(alloc, ring), a, b, c, d);
     let Ok((client, manager)) = new_books(alloc) else {
         a.let_go();

@@ -3,12 +3,66 @@ use Rattle.std.proofs.lemmas.Bool.{false≢true}
 use Rattle.tl_sides.proofs.Words.{want_of_memory}
 use Rattle.tl_sides.proofs.making.new_parts.Goals as goal
 
--- the rings live as long as what they are made of
+-- each ring lives as long as what it is made of
 pub new_ring-requires : goal.new_ring-requires
 new_ring-requires g c κs = λ within. within
 
+pub new_ring-requires-2 : goal.new_ring-requires-2
+new_ring-requires-2 g c κs = λ within. within
+
+pub new_ring-requires-3 : goal.new_ring-requires-3
+new_ring-requires-3 g c κs = λ within. within
+
+pub new_ring-requires-4 : goal.new_ring-requires-4
+new_ring-requires-4 g c κs = λ within. within
+
+pub new_ring-requires-5 : goal.new_ring-requires-5
+new_ring-requires-5 g c κs = λ within. within
+
 pub let_go-requires : goal.let_go-requires
 let_go-requires g c κs within = within
+
+pub let_go-requires-in-Err-new_ring-2 : goal.let_go-requires-in-Err-new_ring-2
+let_go-requires-in-Err-new_ring-2 g c κs within = within
+
+pub let_go-requires-in-Err-new_ring-2-2 : goal.let_go-requires-in-Err-new_ring-2-2
+let_go-requires-in-Err-new_ring-2-2 g c κs within = within
+
+pub let_go-requires-in-Err-new_ring-3 : goal.let_go-requires-in-Err-new_ring-3
+let_go-requires-in-Err-new_ring-3 g c κs within = within
+
+pub let_go-requires-in-Err-new_ring-3-2 : goal.let_go-requires-in-Err-new_ring-3-2
+let_go-requires-in-Err-new_ring-3-2 g c κs within = within
+
+pub let_go-requires-in-Err-new_ring-3-3 : goal.let_go-requires-in-Err-new_ring-3-3
+let_go-requires-in-Err-new_ring-3-3 g c κs within = within
+
+pub let_go-requires-in-Err-new_ring-4 : goal.let_go-requires-in-Err-new_ring-4
+let_go-requires-in-Err-new_ring-4 g c κs within = within
+
+pub let_go-requires-in-Err-new_ring-4-2 : goal.let_go-requires-in-Err-new_ring-4-2
+let_go-requires-in-Err-new_ring-4-2 g c κs within = within
+
+pub let_go-requires-in-Err-new_ring-4-3 : goal.let_go-requires-in-Err-new_ring-4-3
+let_go-requires-in-Err-new_ring-4-3 g c κs within = within
+
+pub let_go-requires-in-Err-new_ring-4-4 : goal.let_go-requires-in-Err-new_ring-4-4
+let_go-requires-in-Err-new_ring-4-4 g c κs within = within
+
+pub let_go-requires-in_default : goal.let_go-requires-in_default
+let_go-requires-in_default g c κs within = within
+
+pub let_go-requires-in_default-2 : goal.let_go-requires-in_default-2
+let_go-requires-in_default-2 g c κs within = within
+
+pub let_go-requires-in_default-3 : goal.let_go-requires-in_default-3
+let_go-requires-in_default-3 g c κs within = within
+
+pub let_go-requires-in_default-4 : goal.let_go-requires-in_default-4
+let_go-requires-in_default-4 g c κs within = within
+
+pub let_go-requires-in_default-5 : goal.let_go-requires-in_default-5
+let_go-requires-in_default-5 g c κs within = within
 
 -- where a ring is not made, only the fault says something
 pub returns-in-Err : goal.returns-in-Err
@@ -18,20 +72,6 @@ returns-in-Err g c = record {
   ring_size = c.in-Err.ensures.ring_size;
 }
 
-pub returns-in_default : goal.returns-in_default
-returns-in_default g c = record {
-  new = tt;
-  size = λ made. absurd (false≢true made);
-  ring_size = want_of_memory c.args.ring (c.in-Ok.ensures.size refl);
-}
-
-pub returns-in-Err-two_rings : goal.returns-in-Err-two_rings
-returns-in-Err-two_rings g c = record {
-  new = tt;
-  size = λ made. absurd (false≢true made);
-  ring_size = c.in-Err-two_rings.ensures.ring_size;
-}
-
 pub returns-in-Err-new_ring : goal.returns-in-Err-new_ring
 returns-in-Err-new_ring g c = record {
   new = tt;
@@ -39,16 +79,47 @@ returns-in-Err-new_ring g c = record {
   ring_size = c.in-Err-new_ring.ensures.ring_size;
 }
 
+pub returns-in-Err-new_ring-2 : goal.returns-in-Err-new_ring-2
+returns-in-Err-new_ring-2 g c = record {
+  new = tt;
+  size = λ made. absurd (false≢true made);
+  ring_size = c.in-Err-new_ring-2.ensures.ring_size;
+}
+
+pub returns-in-Err-new_ring-3 : goal.returns-in-Err-new_ring-3
+returns-in-Err-new_ring-3 g c = record {
+  new = tt;
+  size = λ made. absurd (false≢true made);
+  ring_size = c.in-Err-new_ring-3.ensures.ring_size;
+}
+
+pub returns-in-Err-new_ring-4 : goal.returns-in-Err-new_ring-4
+returns-in-Err-new_ring-4 g c = record {
+  new = tt;
+  size = λ made. absurd (false≢true made);
+  ring_size = c.in-Err-new_ring-4.ensures.ring_size;
+}
+
+pub returns-in_default : goal.returns-in_default
+returns-in_default g c = record {
+  new = tt;
+  size = λ made. absurd (false≢true made);
+  ring_size = want_of_memory c.args.ring (c.in-Ok.ensures.size refl);
+}
+
 pub returns : goal.returns
-returns g c =
-    let first = c.in-Ok.ensures in
-    let second = c.in-Ok-two_rings.ensures.new in
-    record {
-      new = (
-        (first.new.0, first.new.1, second.0, second.1, c.in-Ok-new_ring.ensures.new),
-        c.in-Ok-new_books.ensures.client,
-        c.in-Ok-new_books.ensures.manager,
-      );
-      size = λ made. first.size refl;
-      ring_size = tt;
-    }
+returns g c = record {
+  new = (
+    (
+      c.in-Ok.ensures.new,
+      c.in-Ok-new_ring.ensures.new,
+      c.in-Ok-new_ring-2.ensures.new,
+      c.in-Ok-new_ring-3.ensures.new,
+      c.in-Ok-new_ring-4.ensures.new,
+    ),
+    c.in-Ok-new_books.ensures.client,
+    c.in-Ok-new_books.ensures.manager,
+  );
+  size = λ made. c.in-Ok.ensures.size refl;
+  ring_size = tt;
+}
