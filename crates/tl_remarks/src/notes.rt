@@ -1,139 +1,87 @@
 //! From the beats of a script to remarks.
 ghost use Rattle.tl_lanes.specs.Lanes.{IsWidth};
 
-use crate::exchange::Exchange;
+use crate::exchange::{judge, sort};
 use crate::fits::N_TO_B;
 use crate::lines::Cursor;
-use crate::remark::{Key, Message, Noted, Rule, Wanted};
+use crate::remark::{Key, Message, Noted, Remark, Rule, Wanted};
 use crate::seen::{Seen, Told, seen_of};
 use std::alloc::{AllocError, Global};
 use tl_msg::{Beat, ChA, ChB, ChC, ChD, ChE, Kind, Verdict};
 use tl_trace::Script;
 
-/// Requests of A and their responses on D, by source.
-const REQUESTS: usize = 0;
-
-/// Probes and requests of B and their answers on C, by source and address.
-const PROBES: usize = 1;
-
-/// Releases of C and their ReleaseAck on D, by source.
-const RELEASES: usize = 2;
-
-/// Grants of D and their GrantAck on E, by sink.
-const GRANTS: usize = 3;
-
 /// What was noted of the beats that were accepted.
 #[derive(Drop)]
 struct Notes {
-    exchanges: [Exchange; 4],
+    /// Messages that are answered, and those that answer them: a Grant is of both.
+    asks: Vec<Message>,
+    answers: Vec<Message>,
     noted: Noted,
 }
 
-/// By what the message of a beat and its partner know each other.
-fn key_of(beat: &Seen) -> Key {
+/// The letter of the channel whose messages are answered, in the exchange that the message of a beat is of: a
+/// request of A and its response on D, a probe or request of B and its answer on C, a release of C and its
+/// ReleaseAck on D, or a Grant of D and its GrantAck on E.
+fn asked_on(beat: &Seen) -> u8 {
     match (beat.letter, beat.kind) {
-        (b'E', _) => Key::of(beat.sink, 0),
-        (b'C', Some(Kind::Release | Kind::ReleaseData)) => Key::of(beat.source, 0),
-        (b'B' | b'C', _) => Key::of(beat.source, beat.address),
-        _ => Key::of(beat.source, 0),
+        (b'E', _) => b'D',
+        (_, Some(Kind::Release | Kind::ReleaseData | Kind::ReleaseAck)) => b'C',
+        (b'B' | b'C', _) => b'B',
+        _ => b'A',
     }
 }
 
-/// The message of a beat, with this key.
-fn message_of(beat: &Seen, line: u64, key: Key) -> Message {
+/// The message of a beat, in the exchange whose messages are answered on this channel.
+fn message_of(beat: &Seen, line: u64, asked_on: u8) -> Message {
     Message {
         line,
+        letter: beat.letter,
         kind: beat.kind,
         param: beat.param,
         denied: beat.denied,
-        key,
+        key: Key::of(beat, asked_on),
     }
 }
 
-/// What is remarked on a message that has its first beat in this one, whatever answers it.
+/// What is remarked on a beat, whatever comes before and behind it. A message without data has but one.
 fn rule_alone(beat: &Seen) -> Option<Rule> {
     match beat.kind {
         Some(Kind::AcquirePerm) if beat.param == N_TO_B => Some(Rule::PermToRead),
         Some(Kind::ReleaseAck) if beat.denied => Some(Rule::DeniedAck),
+        _ if beat.denied & !beat.corrupt & beat.carries_data() => Some(Rule::DeniedData),
         _ => None,
     }
 }
 
-/// What is remarked on the data of a beat.
-fn rule_of_data(beat: &Seen) -> Option<Rule> {
-    if beat.denied && beat.carries_data() && !beat.corrupt {
-        Some(Rule::DeniedData)
-    } else {
-        None
-    }
-}
-
-/// The exchange that a message is of which begins with this beat, and whether it is an answer there.
-fn exchange_of(beat: &Seen) -> (usize, bool) {
-    match (beat.letter, beat.kind) {
-        (b'A', _) => (REQUESTS, false),
-        (b'B', _) => (PROBES, false),
-        (b'C', Some(Kind::Release | Kind::ReleaseData)) => (RELEASES, false),
-        (b'C', _) => (PROBES, true),
-        (b'D', Some(Kind::ReleaseAck)) => (RELEASES, true),
-        (b'D', _) => (REQUESTS, true),
-        _ => (GRANTS, true),
-    }
-}
-
 impl Notes {
-    fn new(alloc: Global, wanted: Wanted) -> Notes {
-        Notes {
-            exchanges: [
-                Exchange::new(alloc, 0, 3),
-                Exchange::new(alloc, 1, 2),
-                Exchange::new(alloc, 2, 3),
-                Exchange::new(alloc, 3, 4),
-            ],
-            noted: Noted::new(alloc, wanted),
-        }
+    /// Adds a message.
+    fn add(&mut self, message: Message) {
+        let added = if message.letter == message.key.asked_on {
+            self.asks.push(message)
+        } else {
+            self.answers.push(message)
+        };
+        self.noted.lacks_a_piece |= added.is_err();
     }
 
-    /// Adds a message to the exchange at this place.
-    fn add_to(&mut self, at: usize, message: Message, is_answer: bool) {
-        if let Some(exchange) = self.exchanges.get_mut(at) {
-            self.noted.lacks_a_piece |= exchange.add(message, is_answer).is_err();
-        }
-    }
-
-    /// Adds the message that begins with this beat to its exchange: a Grant also to that of which one of E is
-    /// the answer.
-    fn add_message(&mut self, beat: &Seen, line: u64) {
-        let (at, is_answer) = exchange_of(beat);
-        self.add_to(at, message_of(beat, line, key_of(beat)), is_answer);
-        if matches!(beat.kind, Some(Kind::Grant | Kind::GrantData)) {
-            let message = message_of(beat, line, Key::of(beat.sink, 0));
-            self.add_to(GRANTS, message, false);
-        }
-    }
-
-    /// Remarks on a message by this beat alone, where there is a rule for it.
-    fn add_remark(&mut self, rule: Option<Rule>, beat: &Seen, line: u64) {
-        let message = message_of(beat, line, key_of(beat));
-        self.noted.push_remark(rule, &message, &Message::default());
-    }
-
-    /// Adds a beat, which begins a message where `begins` says so.
+    /// Adds a beat, and the message that it begins where `begins` says so: a Grant also as one that is answered.
     fn add_beat(&mut self, beat: &Seen, line: u64, begins: bool) {
+        let message = message_of(beat, line, asked_on(beat));
+        self.noted.push_remark(rule_alone(beat), &message, &message);
         if begins {
-            self.add_remark(rule_alone(beat), beat, line);
-            self.add_message(beat, line);
+            self.add(message);
+            if matches!(beat.kind, Some(Kind::Grant | Kind::GrantData)) {
+                self.add(message_of(beat, line, b'D'));
+            }
         }
-        self.add_remark(rule_of_data(beat), beat, line);
     }
 
-    /// Remarks on all exchanges, in the order of lines.
-    fn judge(&mut self, alloc: Global, verdicts: &[Verdict; 5]) {
-        for exchange in &self.exchanges {
-            exchange.judge(alloc, verdicts, &mut self.noted);
-        }
-        let sorted = self.noted.remarks.sort_by_key(|remark| remark.message.line);
-        self.noted.lacks_a_piece |= sorted.is_err();
+    /// Remarks on all messages and their answers, and brings all remarks into the order of lines.
+    fn judge(&mut self, verdicts: &[Verdict; 5]) {
+        let sorted = sort(&mut self.asks).and(sort(&mut self.answers));
+        judge(&self.asks, &self.answers, verdicts, &mut self.noted);
+        let remarks = self.noted.remarks.sort_by_key(Remark::line);
+        self.noted.lacks_a_piece |= sorted.and(remarks).is_err();
     }
 }
 
@@ -154,8 +102,8 @@ fn add_channel<K: Told, const W: usize>(
 ) {
     let mut cursor = Cursor::default();
     let mut left = 0usize;
-    for beat in beats.get(..accepted(verdict)).unwrap_or(beats) {
-        let seen = seen_of::<K, W>(beat, 1);
+    for at in 0..accepted(verdict).min(beats.len()) {
+        let seen = seen_of::<K, W>(&beats[at], 1);
         cursor.seek(letters, seen.letter);
         let begins = left == 0;
         if begins {
@@ -198,10 +146,14 @@ pub fn notes_of<const C: usize, const M: usize>(
 ) -> Result<Noted, AllocError>
     requires { IsWidth C × IsWidth M }
 {
-    let mut notes = Notes::new(alloc, wanted);
+    let mut notes = Notes {
+        asks: Vec::new(alloc),
+        answers: Vec::new(alloc),
+        noted: Noted::new(alloc, wanted),
+    };
     if wanted.remarks | wanted.pairs {
         add_script::<C, M>(&mut notes, letters, script, verdicts);
-        notes.judge(alloc, verdicts);
+        notes.judge(verdicts);
     }
     let Notes { noted, .. } = notes;
     if noted.lacks_a_piece {

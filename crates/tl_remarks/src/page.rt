@@ -41,31 +41,29 @@ const DIGITS: &[u8; 16] = b"0123456789abcdef";
 
 const MOST_DIGITS: usize = 16;
 
-/// The name of a message, as the standard spells it.
-fn kind_name(kind: Kind) -> &'static str {
-    match kind {
-        Kind::PutFullData => "PutFullData",
-        Kind::PutPartialData => "PutPartialData",
-        Kind::ArithmeticData => "ArithmeticData",
-        Kind::LogicalData => "LogicalData",
-        Kind::Get => "Get",
-        Kind::Intent => "Intent",
-        Kind::AcquireBlock => "AcquireBlock",
-        Kind::AcquirePerm => "AcquirePerm",
-        Kind::ProbeBlock => "ProbeBlock",
-        Kind::ProbePerm => "ProbePerm",
-        Kind::AccessAck => "AccessAck",
-        Kind::AccessAckData => "AccessAckData",
-        Kind::HintAck => "HintAck",
-        Kind::ProbeAck => "ProbeAck",
-        Kind::ProbeAckData => "ProbeAckData",
-        Kind::Release => "Release",
-        Kind::ReleaseData => "ReleaseData",
-        Kind::Grant => "Grant",
-        Kind::GrantData => "GrantData",
-        Kind::ReleaseAck => "ReleaseAck",
-    }
-}
+/// The names of the messages, as the standard spells them, in the order of [`Kind`].
+const NAMES: &[&str; 20] = &[
+    "PutFullData",
+    "PutPartialData",
+    "ArithmeticData",
+    "LogicalData",
+    "Get",
+    "Intent",
+    "AcquireBlock",
+    "AcquirePerm",
+    "ProbeBlock",
+    "ProbePerm",
+    "AccessAck",
+    "AccessAckData",
+    "HintAck",
+    "ProbeAck",
+    "ProbeAckData",
+    "Release",
+    "ReleaseData",
+    "Grant",
+    "GrantData",
+    "ReleaseAck",
+];
 
 /// The last decimal digit of a number.
 fn decimal(number: u64) -> u8 {
@@ -103,9 +101,7 @@ impl Page {
     /// Writes bytes.
     #[inline(always)]
     pub fn put_bytes(&mut self, bytes: &[u8]) {
-        if self.text.extend_from_slice(bytes).is_err() {
-            self.lacks_a_piece = true;
-        }
+        self.lacks_a_piece |= self.text.extend_from_slice(bytes).is_err();
     }
 
     /// Writes a word.
@@ -211,7 +207,7 @@ impl Page {
             Address(address) => self.put_address(address),
             Id(id, version) => self.put_id(id, version),
             Length(size) => self.put_length(size),
-            Name(kind) => self.put_text(kind_name(kind)),
+            Name(kind) => self.put_text(NAMES[kind as usize]),
             Opcode(opcode) => {
                 self.put_bytes(b"opcode ");
                 self.put_number(opcode as u64);

@@ -1,32 +1,57 @@
 //! What is remarked.
+use crate::seen::Seen;
 use std::alloc::Global;
 use tl_msg::Kind;
 
 /// By what a message and its answer know each other: by source or sink, and those of B and C by their
 /// address, too.
-#[derive(Clone, Copy, Default)]
+#[derive(Clone, Copy)]
 pub struct Key {
+    /// The letter of the channel whose messages are answered.
+    pub asked_on: u8,
     pub id: u16,
     pub address: u64,
 }
 
 impl Key {
-    /// The key of this id and address.
-    pub fn of(id: u16, address: u64) -> Key {
-        Key { id, address }
+    /// That of a beat among the messages of this channel and their answers.
+    pub(crate) fn of(beat: &Seen, asked_on: u8) -> Key {
+        let (id, address) = match asked_on {
+            b'B' => (beat.source, beat.address),
+            b'D' => (beat.sink, 0),
+            _ => (beat.source, 0),
+        };
+        Key {
+            asked_on,
+            id,
+            address,
+        }
     }
 }
 
 /// A message whose first beat was accepted.
-#[derive(Clone, Copy, Default)]
+#[derive(Clone, Copy)]
 pub struct Message {
-    /// The line of its first beat.
+    /// The line of its first beat, and the letter of its channel.
     pub line: u64,
+    pub letter: u8,
     /// None on E.
     pub kind: Option<Kind>,
     pub param: u8,
     pub denied: bool,
     pub key: Key,
+}
+
+impl Message {
+    /// Its key as a number.
+    pub(crate) fn rank(&self) -> u128 {
+        let Key {
+            asked_on,
+            id,
+            address,
+        } = self.key;
+        (asked_on as u128) << 80 | (address as u128) << 16 | (id as u128)
+    }
 }
 
 /// What is remarked on a message, by the SiFive TileLink Specification 1.8.
@@ -50,12 +75,19 @@ pub enum Rule {
     PermToRead,
 }
 
-/// A remark on a message. A rule of two messages names its partner, too.
+/// A remark on a message. A rule of one message has that as its partner, too.
 #[derive(Clone, Copy)]
 pub struct Remark {
     pub rule: Rule,
     pub message: Message,
     pub partner: Message,
+}
+
+impl Remark {
+    /// The line of its message.
+    pub(crate) fn line(&self) -> u64 {
+        self.message.line
+    }
 }
 
 /// A message and its answer, by the lines of their first beats.

@@ -11,6 +11,18 @@ const CAPS: &[&str] = &["toT", "toB", "toN"];
 
 const REPORTS: &[&str] = &["TtoB", "TtoN", "BtoN", "TtoT", "BtoB", "NtoN"];
 
+/// What is remarked, in the order of [`Rule`].
+const SENTENCES: &[&str; 8] = &[
+    "it is no response to #, in line # (TileLink 1.8: #)",
+    "it grants #, but #, in line #, asks for # (TileLink 1.8: Grant)",
+    "it reports #, but #, in line #, leaves # (TileLink 1.8: ProbeAck)",
+    "no # # answers it (TileLink 1.8: #)",
+    "there is no # # for it (TileLink 1.8: #)",
+    "a ReleaseAck cannot be denied (TileLink 1.8: #)",
+    "data that are denied have to be corrupt (TileLink 1.8: #)",
+    "it gives no data, and so it asks for NtoT or BtoT, and not for NtoB (TileLink 1.8: #)",
+];
+
 /// The word of a param.
 fn word(words: &[&'static str], param: u8) -> Piece<'static> {
     Text(words.get(param as usize).copied().unwrap_or("?"))
@@ -44,27 +56,15 @@ fn asked_by(message: &Message) -> &'static str {
     }
 }
 
-/// What does not fit between the param of a message and that of its partner, and the words of both.
-fn misfit_of(
-    grants: bool,
-) -> (
-    &'static str,
-    &'static [&'static str],
-    &'static [&'static str],
+/// Writes that the param of a message does not fit that of its partner, each in its words.
+fn put_misfit(
+    out: &mut Page,
+    sentence: &str,
+    words: &[&'static str],
+    asked: &[&'static str],
+    remark: &Remark,
 ) {
-    if grants {
-        let sentence = "it grants #, but #, in line #, asks for # (TileLink 1.8: Grant)";
-        (sentence, CAPS, GROWTHS)
-    } else {
-        let sentence = "it reports #, but #, in line #, leaves # (TileLink 1.8: ProbeAck)";
-        (sentence, REPORTS, CAPS)
-    }
-}
-
-/// Writes that the param of a message does not fit that of its partner.
-fn put_misfit(out: &mut Page, remark: &Remark) {
     let (message, partner) = (&remark.message, &remark.partner);
-    let (sentence, words, asked) = misfit_of(matches!(remark.rule, Rule::OtherCap));
     out.say(
         sentence,
         &[
@@ -76,15 +76,6 @@ fn put_misfit(out: &mut Page, remark: &Remark) {
     );
 }
 
-/// Writes that a message is no response to its partner.
-fn put_no_response(out: &mut Page, partner: &Message) {
-    let asked = name(partner);
-    out.say(
-        "it is no response to #, in line # (TileLink 1.8: #)",
-        &[asked, Number(partner.line), asked],
-    );
-}
-
 /// Writes what a message lacks, which is known by this id.
 fn put_missing(out: &mut Page, sentence: &str, what: &'static str, message: &Message, version: u8) {
     let id = Id(message.key.id, version);
@@ -93,28 +84,20 @@ fn put_missing(out: &mut Page, sentence: &str, what: &'static str, message: &Mes
 
 /// Writes what is remarked on a message of a trace of this version.
 fn put_rule(out: &mut Page, remark: &Remark, version: u8) {
-    let message = &remark.message;
+    let (message, partner) = (&remark.message, &remark.partner);
+    let sentence = SENTENCES[remark.rule as usize];
     match remark.rule {
-        Rule::NotAnswered => {
-            let sentence = "no # # answers it (TileLink 1.8: #)";
-            put_missing(out, sentence, answer_to(message), message, version);
+        Rule::OtherResponse => {
+            let asked = name(partner);
+            out.say(sentence, &[asked, Number(partner.line), asked]);
         }
-        Rule::AnswersNothing => {
-            let sentence = "there is no # # for it (TileLink 1.8: #)";
-            put_missing(out, sentence, asked_by(message), message, version);
+        Rule::OtherCap => put_misfit(out, sentence, CAPS, GROWTHS, remark),
+        Rule::LeavesMore => put_misfit(out, sentence, REPORTS, CAPS, remark),
+        Rule::NotAnswered => put_missing(out, sentence, answer_to(message), message, version),
+        Rule::AnswersNothing => put_missing(out, sentence, asked_by(message), message, version),
+        Rule::DeniedAck | Rule::DeniedData | Rule::PermToRead => {
+            out.say(sentence, &[name(message)]);
         }
-        Rule::DeniedAck => out.put(Text(
-            "a ReleaseAck cannot be denied (TileLink 1.8: ReleaseAck)",
-        )),
-        Rule::DeniedData => out.say(
-            "data that are denied have to be corrupt (TileLink 1.8: #)",
-            &[name(message)],
-        ),
-        Rule::PermToRead => out.put(Text(
-            "it gives no data, and so it asks for NtoT or BtoT, and not for NtoB (TileLink 1.8: AcquirePerm)",
-        )),
-        Rule::OtherResponse => put_no_response(out, &remark.partner),
-        Rule::OtherCap | Rule::LeavesMore => put_misfit(out, remark),
     }
 }
 
