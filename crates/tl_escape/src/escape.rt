@@ -4,18 +4,15 @@ ghost use Rattle.tl_escape.specs.Escaped.{reference, escaped, IsInert};
 
 use std::alloc::AllocError;
 
-/// Appends a byte of a text as it stands in a page.
-fn put_reference(out: &mut Vec<u8>, byte: u8) -> Result<(), AllocError>
-    ensures { OnOk result (out.new.items ≡ out.old.items ++ reference byte) }
+/// A byte of a text as it stands in a page.
+fn reference_of(byte: &u8) -> &[u8]
+    ensures { result.now ≡ reference byte.now }
 {
-    if byte == b'<' {
-        out.extend_from_slice(b"&lt;")
-    } else if byte == b'&' {
-        out.extend_from_slice(b"&amp;")
-    } else if byte == b'"' {
-        out.extend_from_slice(b"&quot;")
-    } else {
-        out.extend_from_slice(&[byte])
+    match *byte {
+        b'<' => b"&lt;",
+        b'&' => b"&amp;",
+        b'"' => b"&quot;",
+        _ => std::slice::from_ref(byte),
     }
 }
 
@@ -27,7 +24,7 @@ pub fn put_escaped(out: &mut Vec<u8>, text: &[u8]) -> Result<(), AllocError>
     ensures inert { All IsInert (escaped text.now) }
 {
     for byte in text {
-        put_reference(out, *byte)?;
+        out.extend_from_slice(reference_of(byte))?;
     }
     Ok(())
 }

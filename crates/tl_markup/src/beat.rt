@@ -1,74 +1,89 @@
 //! A beat with its lanes.
-use crate::html::Part::{Markup, Number, Text};
-use crate::html::{Html, ascii};
+use crate::text::{ascii, put_escaped};
 use tl_explain::{Cell, Drawn, Picture, ROW, Scene};
+use tl_remarks::Page;
+use tl_remarks::Piece::{Byte, Number, Text};
 
 /// Writes a lane.
-fn put_cell(html: &mut Html, cell: Cell) {
+fn put_cell(out: &mut Page, cell: Cell) {
     match cell {
         Cell::Byte(byte) => {
-            html.put("<td>");
-            html.byte(byte);
-            html.put("</td>");
+            out.put_text("<td>");
+            out.put(Byte(byte));
+            out.put_text("</td>");
         }
-        Cell::Idle => html.put("<td class=\"idle\"></td>"),
-        Cell::Wrong => html.put("<td class=\"wrong\">!!</td>"),
-        Cell::Masked => html.put("<td class=\"masked\">--</td>"),
-        Cell::Empty => html.put("<td class=\"empty\"></td>"),
+        Cell::Idle => out.put_text("<td class=\"idle\"></td>"),
+        Cell::Wrong => out.put_text("<td class=\"wrong\">!!</td>"),
+        Cell::Masked => out.put_text("<td class=\"masked\">--</td>"),
+        Cell::Empty => out.put_text("<td class=\"empty\"></td>"),
     }
 }
 
 /// Writes the lanes of a picture, highest first, in rows.
-fn put_cells(html: &mut Html, picture: &Picture<'_>) {
+fn put_cells(out: &mut Page, picture: &Picture<'_>) {
     let width = picture.lanes.len();
-    html.put("<tr>");
     for back in 0..width {
-        if back > 0 && back % ROW == 0 {
-            html.put("</tr><tr>");
+        if (back > 0) & (back % ROW == 0) {
+            out.put_text("</tr><tr>");
         }
-        put_cell(html, picture.cell(width - 1 - back));
+        put_cell(out, picture.cell(width - 1 - back));
     }
-    html.put("</tr>");
 }
 
-/// Writes the lanes of a beat, and which bytes of its message stand on them: from which byte on, on which
-/// lane that one stands, and how many they are.
-fn put_lanes(html: &mut Html, drawn: &Drawn, picture: &Picture<'_>) {
-    let width = picture.lanes.len().max(1);
-    let length = 1usize << drawn.beat.size.min(12);
-    let home = drawn.home.unwrap_or(0) % width as u64;
-    let lane = (home as usize).wrapping_add(drawn.first_byte) % width;
-    html.put("<table");
+/// Writes which bytes of its message a beat has on so many lanes: from which byte on, on which lane that
+/// one stands, and how many they are.
+fn put_bytes(out: &mut Page, drawn: &Drawn, width: usize) {
+    let first = (drawn.home.unwrap_or(0) as usize).wrapping_add(drawn.first_byte);
+    let length = 1usize.wrapping_shl(drawn.beat.size as u32);
+    out.say(
+        " data-message=\"#\" data-byte=\"#\" data-lane=\"#\" data-count=\"#\"",
+        &[
+            Number(drawn.message),
+            Number(drawn.first_byte as u64),
+            Number(first.checked_rem(width).unwrap_or(0) as u64),
+            Number(length.min(width) as u64),
+        ],
+    );
+}
+
+/// Writes the lanes of a beat, where it has any to show.
+fn put_lanes(out: &mut Page, scene: &Scene, drawn: &Drawn) {
+    let Some(picture) = scene.picture(drawn) else {
+        return;
+    };
+    let width = picture.lanes.len();
+    out.put_text("<table");
     if drawn.message != 0 {
-        html.say(
-            " data-message=\"@\" data-byte=\"@\" data-lane=\"@\" data-count=\"@\"",
-            &[
-                Number(drawn.message),
-                Number(drawn.first_byte as u64),
-                Number(lane as u64),
-                Number(length.min(width) as u64),
-            ],
-        );
+        put_bytes(out, drawn, width);
     }
-    html.say(" style=\"--width:@\"><tbody>", &[Number(width as u64)]);
-    put_cells(html, picture);
-    html.put("</tbody></table>");
+    out.say(" style=\"--width:#\"><tbody><tr>", &[Number(width as u64)]);
+    put_cells(out, &picture);
+    out.put_text("</tr></tbody></table>");
+}
+
+/// The class of a beat's side.
+fn side_class(drawn: &Drawn) -> &'static str {
+    if drawn.is_far { "far" } else { "near" }
+}
+
+/// What stands behind the line of a beat.
+fn caption_end(drawn: &Drawn) -> &'static str {
+    if drawn.beat.corrupt {
+        "</code> <em>corrupt</em></figcaption>"
+    } else {
+        "</code></figcaption>"
+    }
 }
 
 /// Writes a beat: its line, and its lanes where it has any to show.
-pub fn put_beat(html: &mut Html, scene: &Scene, drawn: &Drawn) {
-    let side = Markup(if drawn.is_far { "far" } else { "near" });
-    html.say(
-        "<figure class=\"@\"><figcaption><span>@</span> <code>@</code>",
-        &[side, side, Text(ascii(scene.line(drawn)))],
+pub fn put_beat(out: &mut Page, scene: &Scene, drawn: &Drawn) {
+    let side = Text(side_class(drawn));
+    out.say(
+        "<figure class=\"#\"><figcaption><span>#</span> <code>",
+        &[side, side],
     );
-    html.put(if drawn.beat.corrupt {
-        " <em>corrupt</em></figcaption>"
-    } else {
-        "</figcaption>"
-    });
-    if let Some(picture) = scene.picture(drawn) {
-        put_lanes(html, drawn, &picture);
-    }
-    html.put("</figure>");
+    put_escaped(out, ascii(scene.line(drawn)));
+    out.put_text(caption_end(drawn));
+    put_lanes(out, scene, drawn);
+    out.put_text("</figure>");
 }

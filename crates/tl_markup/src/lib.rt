@@ -2,11 +2,11 @@
 #![tactic(auto)]
 
 mod beat;
-mod html;
 mod page;
 mod row;
 mod sentence;
 mod style;
 mod summary;
+mod text;
 
 pub use page::{fault_markup, markup_of};

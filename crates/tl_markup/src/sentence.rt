@@ -1,55 +1,59 @@
 //! Sentences in which lines are links.
-use crate::html::Part::{Number, Text};
-use crate::html::{Html, ascii};
+use crate::text::{ascii, halves, put_escaped};
 use tl_explain::Scene;
+use tl_remarks::Page;
+use tl_remarks::Piece::Number;
 
 /// Writes a link to a line.
-pub fn put_link(html: &mut Html, line: u64) {
-    html.say(
-        "<a href=\"#line-@\">line @</a>",
-        &[Number(line), Number(line)],
-    );
+pub fn put_link(out: &mut Page, line: u64) {
+    out.put_text("<a href=\"#line-");
+    out.say("#\">line #</a>", &[Number(line), Number(line)]);
 }
 
-/// Writes `line ` and the digits behind it, as a link where the page has that line.
-fn put_line(html: &mut Html, scene: &Scene, digits: &str) {
-    match digits.parse::<u64>() {
-        Ok(line) if scene.ties(line).is_shown => put_link(html, line),
-        _ => html.say("line @", &[Text(digits)]),
-    }
-}
-
-/// How many digits a text begins with.
-fn digit_count(text: &str) -> usize {
+/// The number that a text begins with, and how many digits it has.
+fn number_in(text: &str) -> (u64, usize) {
     let bytes = text.as_bytes();
+    let mut number = 0u64;
     for at in 0..bytes.len() {
-        if !bytes[at].is_ascii_digit() {
-            return at;
+        let digit = bytes[at].wrapping_sub(b'0');
+        if digit > 9 {
+            return (number, at);
         }
+        number = number.wrapping_mul(10).wrapping_add(digit as u64);
     }
-    bytes.len()
+    (number, bytes.len())
+}
+
+/// Writes `line ` before a text, with its number as a link where the text begins with that of a line on the
+/// page: gives what is left of the text.
+fn put_line<'a>(out: &mut Page, scene: &Scene, text: &'a str) -> &'a str {
+    let (line, digits) = number_in(text);
+    if !scene.ties(line).is_shown {
+        out.put_text("line ");
+        return text;
+    }
+    put_link(out, line);
+    text.get(digits..).unwrap_or("")
 }
 
 /// Writes a sentence, in which each line that the page has is a link.
-pub fn put_sentence(html: &mut Html, scene: &Scene, sentence: &str) {
+pub fn put_sentence(out: &mut Page, scene: &Scene, sentence: &str) {
     let mut rest = sentence;
     for _ in 0..sentence.len() {
-        let Some((before, after)) = rest.split_once("line ") else {
+        let (before, after) = halves(rest, "line ");
+        put_escaped(out, before);
+        if before.len() == rest.len() {
             break;
-        };
-        let count = digit_count(after);
-        html.text(before);
-        put_line(html, scene, after.get(..count).unwrap_or(""));
-        rest = after.get(count..).unwrap_or("");
+        }
+        rest = put_line(out, scene, after);
     }
-    html.text(rest);
 }
 
 /// Writes sentences, a line each, as paragraphs that begin so.
-pub fn put_paragraphs(html: &mut Html, scene: &Scene, begin: &'static str, sentences: &[u8]) {
+pub fn put_paragraphs(out: &mut Page, scene: &Scene, begin: &'static str, sentences: &[u8]) {
     for sentence in ascii(sentences).lines() {
-        html.put(begin);
-        put_sentence(html, scene, sentence.trim_ascii());
-        html.put("</p>");
+        out.put_text(begin);
+        put_sentence(out, scene, sentence.trim_ascii());
+        out.put_text("</p>");
     }
 }

@@ -1,7 +1,7 @@
 //! What each page has, whatever the trace: how it looks, and what follows a byte.
 
 /// The beginning of a page. It may load nothing.
-pub const BEGINNING: &str = r#"<!DOCTYPE html>
+pub const BEGINNING: &[u8] = br#"<!DOCTYPE html>
 <html lang="en">
 <head>
 <meta charset="utf-8">
@@ -13,7 +13,7 @@ pub const BEGINNING: &str = r#"<!DOCTYPE html>
 "#;
 
 /// How it looks: in light and dark, and on paper.
-pub const STYLE: &str = r#"<style>
+pub const STYLE: &[u8] = br#"<style>
 :root {
   --paper: #fbfbf9; --card: #fff; --ink: #1d1f23; --faint: #5d626b; --line: #dcdde0;
   --light: 93%; --strength: .055; --edge: 62%;
@@ -82,7 +82,7 @@ output:empty { display: none; }
 "#;
 
 /// What the marks on lanes mean, and how to find one's way.
-pub const LEGEND: &str = r#"</main>
+pub const LEGEND: &[u8] = br#"</main>
 <footer class="legend"><p>Lanes stand highest first, each byte below its number; a colour is that of an exchange.
 <span class="mark sample">7f</span> a byte <span class="mark sample">&bull;</span> active, without data <span class="mark">&middot;</span> not active <span class="mark">--</span> left out by the mask <span class="mark">!!</span> in the mask, but not active</p>
 <p>Point at a byte, or press Left and Right on a beat, to follow it across the bridge; Up and Down go along a channel. A click or Enter keeps what belongs together in sight, Escape lets it go.</p></footer>
@@ -90,7 +90,7 @@ pub const LEGEND: &str = r#"</main>
 "#;
 
 /// What follows a byte to the other side, and a message to its answer. Links work without it.
-pub const SCRIPT: &str = r#"<script>
+pub const SCRIPT: &[u8] = br#"<script>
 (() => {
   const all = (of, what) => [...of.querySelectorAll(what)];
   const groups = (elements, key) => {
@@ -176,4 +176,4 @@ pub const SCRIPT: &str = r#"<script>
 "#;
 
 /// The end of a page.
-pub const END: &str = "</body>\n</html>\n";
+pub const END: &[u8] = b"</body>\n</html>\n";

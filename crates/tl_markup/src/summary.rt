@@ -1,30 +1,26 @@
 //! What a page says of the whole trace.
-use crate::html::Part::{Markup, Number, Text};
-use crate::html::{Html, ascii};
-use crate::row::channel_class;
+use crate::text::{ascii, halves, put_escaped};
 use tl_explain::{ROW, Scene};
+use tl_remarks::Page;
+use tl_remarks::Piece::{Letter, Number, Text};
 
-/// The letters of the channels.
-const LETTERS: &[u8; 5] = b"ABCDE";
+/// The channels: the letter of each, what stands before its report in an answer, and which way its beats go.
+const CHANNELS: &[(u8, &str, &str); 5] = &[
+    (b'A', "= A ", "client to manager"),
+    (b'B', "= B ", "manager to client"),
+    (b'C', "= C ", "client to manager"),
+    (b'D', "= D ", "manager to client"),
+    (b'E', "= E ", "client to manager"),
+];
 
-/// The channels that have a line on the page, by their letters.
+/// Whether the channel with this letter has a line on the page.
 fn is_shown(scene: &Scene, letter: u8) -> bool {
-    scene
-        .items()
-        .iter()
-        .any(|item| item.line == item.last && item.letter == letter)
-}
-
-/// The answer's report on a channel, without the letter.
-fn report_of(answer: &str, letter: u8) -> &str {
-    for line in answer.lines() {
-        if let [b'=', b' ', channel, ..] = line.as_bytes() {
-            if *channel == letter {
-                return line.get(4..).unwrap_or("");
-            }
+    for item in scene.items() {
+        if (item.line == item.last) & (item.letter == letter) {
+            return true;
         }
     }
-    ""
+    false
 }
 
 /// How many lanes stand in the longest row.
@@ -41,50 +37,47 @@ fn longest_row(scene: &Scene) -> usize {
 }
 
 /// Writes where each channel that has a line stands, and how many lanes there is room for.
-pub fn put_columns(html: &mut Html, scene: &Scene) {
+pub fn put_columns(out: &mut Page, scene: &Scene) {
     let mut count = 0u64;
-    html.put("<main style=\"");
-    for letter in LETTERS {
+    out.put_text("<main style=\"");
+    for (letter, _, _) in CHANNELS {
         if is_shown(scene, *letter) {
             count = count.saturating_add(1);
-            html.say("--@:@;", &[Markup(channel_class(*letter)), Number(count)]);
+            out.say("--#:#;", &[Letter(*letter), Number(count)]);
         }
     }
-    html.say(
-        "--count:@;--lanes:@\">",
+    out.say(
+        "--count:#;--lanes:#\">",
         &[Number(count.max(1)), Number(longest_row(scene) as u64)],
     );
 }
 
-/// Writes the head of a channel: which way it goes, and how it ended.
-fn put_head(html: &mut Html, answer: &str, letter: u8) {
-    let way = match letter {
-        b'B' | b'D' => "manager to client",
-        _ => "client to manager",
-    };
-    let class = Markup(channel_class(letter));
-    html.say(
-        "<h2 class=\"@\">@ <small>@, @</small></h2>",
-        &[class, class, Markup(way), Text(report_of(answer, letter))],
+/// Writes the head of a channel: which way it goes, and how it ended, as its report says behind this mark.
+fn put_head(out: &mut Page, answer: &str, letter: u8, mark: &str, way: &str) {
+    let (_, report) = halves(answer, mark);
+    out.say(
+        "<h2 class=\"#\"># <small>#, ",
+        &[Letter(letter), Letter(letter), Text(way)],
     );
+    put_escaped(out, halves(report, "\n").0);
+    out.put_text("</small></h2>");
 }
 
 /// Writes the heads of the channels that have a line.
-pub fn put_heads(html: &mut Html, scene: &Scene) {
+pub fn put_heads(out: &mut Page, scene: &Scene) {
     let answer = ascii(&scene.answer.text);
-    html.put("<div class=\"heads row\">");
-    for letter in LETTERS {
+    out.put_text("<div class=\"heads row\">");
+    for (letter, mark, way) in CHANNELS {
         if is_shown(scene, *letter) {
-            put_head(html, answer, *letter);
+            put_head(out, answer, *letter, mark, way);
         }
     }
-    html.put("</div>");
+    out.put_text("</div>");
 }
 
 /// Writes the answer to the trace, and at its side what the header says.
-pub fn put_answer(html: &mut Html, scene: &Scene) {
-    html.say(
-        "<header><h1>What came of each beat</h1><pre class=\"answer\">@</pre></header>",
-        &[Text(ascii(&scene.answer.text))],
-    );
+pub fn put_answer(out: &mut Page, scene: &Scene) {
+    out.put_text("<header><h1>What came of each beat</h1><pre class=\"answer\">");
+    put_escaped(out, ascii(&scene.answer.text));
+    out.put_text("</pre></header>");
 }

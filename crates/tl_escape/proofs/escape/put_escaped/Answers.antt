@@ -1,8 +1,20 @@
-use Rattle.tl_escape.proofs.Inert.{inert}
+use Rattle.std.proofs.Common.{◌++◌, ◌∙◌, ap, arith}
+use Rattle.std.proofs.lemmas.List.{take_all}
+use Rattle.tl_escape.specs.Escaped.{escaped}
+use Rattle.tl_escape.proofs.Inert.{inert, longer}
 use Rattle.tl_escape.proofs.escape.put_escaped.Goals as goal
 
-pub returns-clause-inert : goal.returns-clause-inert
-returns-clause-inert c = inert c.args.text.now
+pub loop-byte-preserved : goal.loop-byte-preserved
+loop-byte-preserved c =
+    longer c.args.text.now c.loop-byte.byte-index 0 c.loop-byte-test.true _ _ _ _ c.loop-byte.invariant
+    c.reference_of.ensures c.in_ok-extend_from_slice.ensures.items
 
-pub returns-in_err-put_reference-clause-inert : goal.returns-in_err-put_reference-clause-inert
-returns-in_err-put_reference-clause-inert c = inert c.args.text.now
+pub returns : goal.returns
+returns c = record {
+  text = c.loop-byte.invariant
+      ∙ ap (λ q. c.args.out.now.items ++ escaped q) (take_all c.loop-byte.byte-index c.args.text.now (omega (arith, c.loop-byte-test.false)));
+  inert = inert c.args.text.now;
+}
+
+pub returns-in_err-extend_from_slice-clause-inert : goal.returns-in_err-extend_from_slice-clause-inert
+returns-in_err-extend_from_slice-clause-inert c = inert c.args.text.now
