@@ -21,9 +21,9 @@ const PROGRAM: &str = "tlexplain";
 /// The words of the command line.
 fn words_of(rt: &HostRuntime) -> Result<Vec<String>, Error> {
     match std::env::args(rt) {
-        Ok(words) => Ok(words.collect(rt.alloc())?),
+        Ok(words) => words.collect(rt.alloc()).map_err(Error::from),
         Err(error) if error.kind() == io::ErrorKind::OutOfMemory => Err(Error::from(AllocError)),
-        Err(_) => Err(not_utf8(rt.alloc())?),
+        Err(_) => Err(not_utf8(rt.alloc())),
     }
 }
 
@@ -40,20 +40,19 @@ fn source_of(rt: &HostRuntime, file: Option<&str>) -> Result<Either<Stdin, File>
     }
 }
 
-/// The exit status of an ending, after the line of its fault, and what it means where no line of the
-/// trace shows it.
+/// Prints the line of a fault, and what it means where no line of the trace shows it.
+fn report(rt: &HostRuntime, fault: TextFault) {
+    let program = PROGRAM;
+    let _ = eprint!(rt; "{}", FaultLine { program, fault });
+    if !matches!(fault, TextFault::Trace(_)) {
+        let _ = eprintln!(rt; "    {}", meaning(&fault));
+    }
+}
+
+/// The exit status of an ending, after the report of its fault.
 fn status(rt: &HostRuntime, ending: Result<bool, TextFault>) -> ExitCode {
     if let Err(fault) = ending {
-        let _ = eprint!(rt;
-            "{}",
-            FaultLine {
-                program: PROGRAM,
-                fault
-            }
-        );
-        if !matches!(fault, TextFault::Trace(_)) {
-            let _ = eprintln!(rt; "    {}", meaning(&fault));
-        }
+        report(rt, fault);
     }
     ExitCode::from(exit_status(&ending))
 }
@@ -90,8 +89,10 @@ fn explain(rt: &HostRuntime, file: Option<&str>, look: &Look) -> Result<bool, Te
         colour: has_colours(rt),
         ..*look
     };
-    let mut source = source_of(rt, file)?;
-    run_explain(rt.alloc(), &mut source, &mut rt.stdout(), &look)
+    match source_of(rt, file) {
+        Ok(mut source) => run_explain(rt.alloc(), &mut source, &mut rt.stdout(), &look),
+        Err(fault) => Err(fault),
+    }
 }
 
 /// Does what the program is asked to do.
@@ -103,16 +104,17 @@ fn obey(rt: &HostRuntime, wish: &Wish<'_>) -> ExitCode {
     status(rt, ending)
 }
 
-/// Does what the command line asks for.
-fn run(rt: &HostRuntime) -> Result<ExitCode, Error> {
-    let words = words_of(rt)?;
-    let wish = wish_of(rt.alloc(), &words)?;
-    Ok(obey(rt, &wish))
+/// Does what these words of a command line ask for.
+fn run(rt: &HostRuntime, words: &[String]) -> ExitCode {
+    match wish_of(rt.alloc(), words) {
+        Ok(wish) => obey(rt, &wish),
+        Err(error) => refuse(rt, &error),
+    }
 }
 
 fn main(rt: HostRuntime) -> ExitCode {
-    match run(&rt) {
-        Ok(code) => code,
+    match words_of(&rt) {
+        Ok(words) => run(&rt, &words),
         Err(error) => refuse(&rt, &error),
     }
 }

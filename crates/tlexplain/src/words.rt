@@ -1,4 +1,5 @@
 //! The command line.
+use clap::builder::ValueParser;
 use clap::error::{Error, ErrorKind};
 use clap::{Arg, ArgAction, ArgMatches, Command};
 use std::alloc::{AllocError, Global};
@@ -21,18 +22,16 @@ pub enum Wish<'a> {
 }
 
 /// How a word stands on the command line.
-#[derive(Clone, Copy)]
 enum Form {
-    /// By itself: the file.
-    File,
+    /// By itself; the help calls it by its name.
+    Bare,
     /// It is `--` and its name.
     Flag,
-    /// Behind `--` and its name; the help calls it so. Which words are taken is looked at where it is read.
-    Named(&'static str),
+    /// Behind `--` and its name. The help calls it so, and clap takes it where the parser does.
+    Named(&'static str, ValueParser<'static>),
 }
 
 /// A word that the command line may have.
-#[derive(Clone, Copy)]
 struct Word {
     name: &'static str,
     form: Form,
@@ -42,8 +41,8 @@ struct Word {
 /// All of them, in the order of the help.
 const WORDS: &[Word; 10] = &[
     Word {
-        name: "file",
-        form: Form::File,
+        name: "FILE",
+        form: Form::Bare,
         help: "Holds the trace, in place of standard input",
     },
     Word {
@@ -53,28 +52,28 @@ const WORDS: &[Word; 10] = &[
     },
     Word {
         name: "only",
-        form: Form::Named("WHAT"),
-        help: "Says only what came of beats that were not accepted, or have remarks; WHAT is 'problems'",
+        form: Form::Named("WHAT", ValueParser::Names(&["problems"])),
+        help: "Says only what came of beats that were not accepted, or have remarks",
     },
     Word {
         name: "from",
-        form: Form::Named("LINE"),
+        form: Form::Named("LINE", ValueParser::Unsigned(0, u64::MAX)),
         help: "Says nothing of lines before this one",
     },
     Word {
         name: "to",
-        form: Form::Named("LINE"),
+        form: Form::Named("LINE", ValueParser::Unsigned(0, u64::MAX)),
         help: "Says nothing of lines behind this one",
     },
     Word {
         name: "source",
-        form: Form::Named("ID"),
+        form: Form::Named("ID", ValueParser::String),
         help: "Says nothing of beats of another source, which has the digits that it has in the trace",
     },
     Word {
         name: "channel",
-        form: Form::Named("LETTER"),
-        help: "Says nothing of beats of another channel, A to E",
+        form: Form::Named("LETTER", ValueParser::Names(&["A", "B", "C", "D", "E"])),
+        help: "Says nothing of beats of another channel",
     },
     Word {
         name: "no-remarks",
@@ -93,20 +92,12 @@ const WORDS: &[Word; 10] = &[
     },
 ];
 
-/// The word of an option that does not take it, and what it has to be.
-#[derive(Clone, Copy)]
-struct Wrong<'a> {
-    name: &'static str,
-    word: &'a str,
-    rule: &'static str,
-}
-
 fn argument<'a>(alloc: Global, word: &Word) -> Arg<'a> {
     let made = Arg::new(alloc, word.name).help(word.help);
     match word.form {
-        Form::File => made.value_name("FILE"),
+        Form::Bare => made,
         Form::Flag => made.long(word.name).action(ArgAction::SetTrue),
-        Form::Named(value) => made.long(word.name).value_name(value),
+        Form::Named(value, parser) => made.long(word.name).value_name(value).value_parser(parser),
     }
 }
 
@@ -120,122 +111,95 @@ fn command<'a>(alloc: Global) -> Result<Command<'a>, AllocError> {
     Ok(command)
 }
 
-/// A refusal in these words, below which the usage stands.
-fn refusal(alloc: Global, message: &str) -> Result<Error, AllocError> {
-    let mut command = command(alloc)?;
-    let refused = command.error(ErrorKind::ValueValidation, message);
-    drop(command);
-    refused
-}
-
-/// The refusal of the word of an option.
-fn wrong_word(alloc: Global, wrong: &Wrong<'_>) -> Result<Error, AllocError> {
-    let Wrong { name, word, rule } = *wrong;
-    let message = format!(in alloc; "invalid value '{word}' for '--{name}': it has to be {rule}")?;
-    refusal(alloc, &message)
-}
-
-/// The number of a line that an option has.
-fn line_of<'a>(matches: &ArgMatches<'a>, name: &'static str) -> Result<Option<u64>, Wrong<'a>> {
-    let Some(word) = matches.get_str(name) else {
-        return Ok(None);
-    };
-    match word.parse::<u64>() {
-        Ok(number) => Ok(Some(number)),
-        Err(_) => Err(Wrong {
-            name,
-            word,
-            rule: "the number of a line",
-        }),
+/// What `command` takes from these words.
+fn matches_of<'a>(alloc: Global, words: &'a [String]) -> Result<ArgMatches<'a>, Error> {
+    match command(alloc) {
+        Ok(command) => command.try_get_matches_from(words),
+        Err(error) => Err(Error::from(error)),
     }
 }
 
+/// A refusal in these words, below which the usage stands.
+fn refusal(alloc: Global, message: &str) -> Result<Error, AllocError> {
+    match command(alloc) {
+        Ok(mut command) => {
+            let refused = command.error(ErrorKind::ValueValidation, message);
+            drop(command);
+            refused
+        }
+        Err(error) => Err(error),
+    }
+}
+
+/// The refusal of the word of `--source`.
+fn wrong_source(alloc: Global, word: &str) -> Result<Error, AllocError> {
+    let message = format!(in alloc;
+        "invalid value '{word}' for '--source <ID>': it has to be up to 4 hexadecimal digits"
+    )?;
+    refusal(alloc, &message)
+}
+
 /// The source that `--source` has.
-fn source_of<'a>(matches: &ArgMatches<'a>) -> Result<Option<u16>, Wrong<'a>> {
+fn source_of(alloc: Global, matches: &ArgMatches<'_>) -> Result<Option<u16>, Error> {
     let Some(word) = matches.get_str("source") else {
         return Ok(None);
     };
     match u16::from_str_radix(word, 16) {
         Ok(source) => Ok(Some(source)),
-        Err(_) => Err(Wrong {
-            name: "source",
-            word,
-            rule: "up to 4 hexadecimal digits",
-        }),
+        Err(_) => Err(wrong_source(alloc, word).unwrap_or_else(Error::from)),
     }
 }
 
 /// The channel that `--channel` has.
-fn channel_of<'a>(matches: &ArgMatches<'a>) -> Result<Option<u8>, Wrong<'a>> {
-    let Some(word) = matches.get_str("channel") else {
-        return Ok(None);
-    };
-    match word.as_bytes() {
-        [letter @ b'A'..=b'E'] => Ok(Some(*letter)),
-        _ => Err(Wrong {
-            name: "channel",
-            word,
-            rule: "a letter, A to E",
-        }),
-    }
+fn channel_of(matches: &ArgMatches<'_>) -> Option<u8> {
+    matches.get_str("channel")?.as_bytes().first().copied()
 }
 
-/// Whether `--only` asks for problems alone.
-fn only_problems<'a>(matches: &ArgMatches<'a>) -> Result<bool, Wrong<'a>> {
-    match matches.get_str("only") {
-        None => Ok(false),
-        Some("problems") => Ok(true),
-        Some(word) => Err(Wrong {
-            name: "only",
-            word,
-            rule: "'problems'",
-        }),
-    }
-}
-
-/// Which lines are to be shown.
-fn choice_of<'a>(matches: &ArgMatches<'a>) -> Result<Choice, Wrong<'a>> {
-    Ok(Choice {
-        only_problems: only_problems(matches)?,
-        from: line_of(matches, "from")?,
-        to: line_of(matches, "to")?,
-        source: source_of(matches)?,
-        channel: channel_of(matches)?,
-    })
-}
-
-/// What the words of a command line ask for that `command` takes.
-fn wish_in<'a>(matches: &ArgMatches<'a>) -> Result<Wish<'a>, Wrong<'a>> {
-    if matches.get_flag("faults") {
-        return Ok(Wish::Faults);
-    }
-    let choice = choice_of(matches)?;
-    let look = Look {
+/// How the explanation is to look, with the lines of this source alone where there is one.
+fn look_of(matches: &ArgMatches<'_>, source: Option<u16>) -> Look {
+    Look {
         lanes: matches.get_flag("lanes"),
         page: matches.get_flag("html"),
         colour: false,
         remarks: !matches.get_flag("no-remarks"),
-        choice,
-    };
-    Ok(Wish::Explain {
-        file: matches.get_str("file"),
-        look,
-    })
+        choice: Choice {
+            only_problems: matches.contains_id("only"),
+            from: matches.get_one::<u64>("from"),
+            to: matches.get_one::<u64>("to"),
+            source,
+            channel: channel_of(matches),
+        },
+    }
+}
+
+/// What the words of a command line ask for that `command` takes.
+fn wish_in<'a>(alloc: Global, matches: &ArgMatches<'a>) -> Result<Wish<'a>, Error> {
+    if matches.get_flag("faults") {
+        return Ok(Wish::Faults);
+    }
+    match source_of(alloc, matches) {
+        Ok(source) => Ok(Wish::Explain {
+            file: matches.get_str("FILE"),
+            look: look_of(matches, source),
+        }),
+        Err(error) => Err(error),
+    }
 }
 
 /// What the words of a command line ask for. The first word is the program's name. Every other
 /// command line is refused by clap's error; help and the version come as errors, too.
 pub fn wish_of<'a>(alloc: Global, words: &'a [String]) -> Result<Wish<'a>, Error> {
-    let matches = command(alloc)?.try_get_matches_from(words)?;
-    let wish = wish_in(&matches);
-    drop(matches);
-    match wish {
-        Ok(wish) => Ok(wish),
-        Err(wrong) => Err(wrong_word(alloc, &wrong)?),
+    match matches_of(alloc, words) {
+        Ok(matches) => {
+            let wish = wish_in(alloc, &matches);
+            drop(matches);
+            wish
+        }
+        Err(error) => Err(error),
     }
 }
 
 /// The refusal of a command line with a word that is not UTF-8.
-pub fn not_utf8(alloc: Global) -> Result<Error, AllocError> {
-    refusal(alloc, "a word of the command line is not UTF-8")
+pub fn not_utf8(alloc: Global) -> Error {
+    refusal(alloc, "a word of the command line is not UTF-8").unwrap_or_else(Error::from)
 }
