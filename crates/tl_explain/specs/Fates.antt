@@ -6,8 +6,12 @@ use Rattle.tl_msg.specs.declared.verdict.Verdict.TheVariants.{Done, Cut, Refused
 use Rattle.tl_explain.specs.declared.fate.Fate.{Fate}
 use Rattle.tl_explain.specs.declared.fate.Fate.TheVariants as fates
 
+-- where the channel stops at the beat of this number, which fares so
+abbrev pub fate_beside : (at stop : ℕ) → Fate → Fate
+fate_beside at stop fate = if nat_lt at stop then fates.Accepted else (if at == stop then fate else fates.NotOffered)
+
 abbrev pub fate_of : (at : ℕ) → Verdict → Fate
-fate_of at (Done near far) = if nat_lt at near then fates.Accepted else fates.NotOffered
-fate_of at (Cut near far) = if nat_lt at near then fates.Accepted else fates.NotOffered
-fate_of at (Refused near fault) = if nat_lt at near then fates.Accepted else (if at == near then fates.Refused fault else fates.NotOffered)
-fate_of at (Waiting near fault) = if nat_lt at near then fates.Accepted else (if at == near then fates.Waiting fault else fates.NotOffered)
+fate_of at (Done near far) = fate_beside at near fates.NotOffered
+fate_of at (Cut near far) = fate_beside at near fates.NotOffered
+fate_of at (Refused stop fault) = fate_beside at stop (fates.Refused fault)
+fate_of at (Waiting stop fault) = fate_beside at stop (fates.Waiting fault)

@@ -3,8 +3,9 @@ ghost use Rattle.std.specs.Prelude.{◌≡◌, false, OnOk, IfErr};
 ghost use Rattle.tl_stream.specs.declared.fault.TextFault.TheVariants.{Write as WriteFault};
 ghost use Rattle.tl_explain.specs.Inner.Telling.{Continues};
 
+use crate::alike::Alike;
 use crate::story::{LETTERS, Story};
-use std::alloc::AllocError;
+use std::alloc::{AllocError, Global};
 use std::io::Write;
 use tl_answer::{TextFault, write_all};
 use tl_lanes::WIDEST;
@@ -34,15 +35,19 @@ fn write_page<W: Write>(page: &mut Page, writer: &mut W) -> Result<(), TextFault
 
 impl Story {
     /// Takes the memory that telling needs, so that it takes no more where beats are not drawn.
-    pub fn make_room(&mut self) -> Result<(), AllocError> {
+    #[inline(never)]
+    pub fn make_room(&mut self, alloc: Global) -> Result<(), AllocError> {
+        for _ in LETTERS {
+            self.alike.push(Alike::new(alloc))?;
+        }
         if self.drawing.is_wanted {
             return Ok(());
         }
         let page = self.page.text.reserve(ROOM);
-        let far = self.far.reserve(FAR_ROOM);
+        let lines = self.lines.reserve(FAR_ROOM);
         // (a channel stops once)
-        let stops = self.stops.reserve(LETTERS.len());
-        page.and(far).and(stops)
+        let stops = self.course.stops.reserve(LETTERS.len());
+        page.and(lines).and(stops)
     }
 
     /// Whether there is a block of sentences none of which may be taken back.

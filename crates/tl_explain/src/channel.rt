@@ -4,11 +4,12 @@ ghost use Rattle.tl_lanes.specs.Lanes.{IsWidth};
 
 use crate::story::Story;
 use arrayvec::ArrayVec;
+use std::slice;
 use tl_convert::Converter;
 use tl_lanes::{WIDEST, is_width};
 use tl_msg::{Beat, Channel};
-use tl_remarks::{Seen, Told, seen_of};
-use tl_trace::{line_of, write_far};
+use tl_remarks::{Told, seen_of};
+use tl_trace::write_far;
 
 /// Whether both are widths.
 fn are_widths(w: usize, v: usize) -> bool
@@ -46,39 +47,30 @@ fn pass<K: Channel, const W: usize, const V: usize>(
     }
 }
 
-/// Draws the next near beat.
-#[inline(never)]
-fn draw_near<K: Told, const W: usize>(
-    story: &mut Story,
-    beat: &Beat<K, W>,
-    seen: &Seen,
-    accepted: bool,
-) {
-    // (tested, too)
-    if is_width(W) {
-        let line = line_of::<K, W>(beat, story.version);
-        story.draw_near(seen, &beat.lanes, line.as_slice(), accepted);
-    }
-}
-
-/// Appends the lines of far beats. False where that can't be done.
-fn write_lines<K: Told, const V: usize>(
+/// Appends the lines of beats. False where that can't be done.
+fn write_lines<K: Told, const W: usize>(
     out: &mut Vec<u8>,
-    far: &[Beat<K, V>],
+    beats: &[Beat<K, W>],
     version: u8,
 ) -> bool {
     // (tested, too)
-    is_width(V) && write_far::<K, V>(out, far, version).is_ok()
+    is_width(W) && write_far::<K, W>(out, beats, version).is_ok()
+}
+
+/// Keeps the lines of beats, in place of those that were kept.
+fn keep_lines<K: Told, const W: usize>(story: &mut Story, beats: &[Beat<K, W>]) {
+    story.lines.clear();
+    let are_kept = write_lines::<K, W>(&mut story.lines, beats, story.version);
+    story.page.lacks_a_piece |= !are_kept;
 }
 
 /// Writes the lines of far beats, each behind four blanks, with their lanes where these are shown; or draws
 /// the beats.
 #[inline(never)]
 fn put_several<K: Told, const V: usize>(story: &mut Story, far: &[Beat<K, V>]) {
-    story.far.clear();
-    story.page.lacks_a_piece |= !write_lines::<K, V>(&mut story.far, far, story.version);
+    keep_lines::<K, V>(story, far);
     // all lines of a channel are of one length
-    let length = story.far.len() / far.len().max(1);
+    let length = story.lines.len() / far.len().max(1);
     for number in 0..far.len() {
         story.put_far_line(number, length);
         if story.shows_far_lanes() {
@@ -105,27 +97,26 @@ fn put_near<K: Told, const W: usize>(story: &mut Story, beat: &Beat<K, W>) -> bo
     let seen = seen_of::<K, W>(beat, story.version);
     let accepted = story.put_near(&seen, &beat.lanes);
     if story.drawing.is_wanted {
-        draw_near::<K, W>(story, beat, &seen, accepted);
+        keep_lines::<K, W>(story, slice::from_ref(beat));
+        story.draw_near(&seen, &beat.lanes, accepted);
     }
     accepted
 }
 
-/// Writes what came of the next of these beats, in a line of the channel with this letter, and below it the
-/// far beats that it completed: the channel's converter makes them, and `far` has room for them.
+/// Writes what came of the next of these beats of a channel, in a line, and below it the far beats that it
+/// completed: the channel's converter makes them, and `far` has room for them.
 #[inline(never)]
 pub fn tell<K: Told, const W: usize, const V: usize>(
     story: &mut Story,
-    letter: u8,
     beats: &[Beat<K, W>],
     converter: &mut Converter<K, W, V>,
     far: &mut ArrayVec<Beat<K, V>, WIDEST>,
 ) {
-    story.begin_line(letter);
-    let Some(beat) = beats.get(story.walk.near) else {
+    let Some(beat) = beats.get(story.course.walk.near) else {
         return;
     };
     if put_near::<K, W>(story, beat) {
-        pass::<K, W, V>(converter, beat, story.walk.home, far);
+        pass::<K, W, V>(converter, beat, story.course.walk.home, far);
         put_far::<K, V>(story, far.as_slice());
     }
     story.end_line();

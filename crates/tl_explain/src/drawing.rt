@@ -15,10 +15,8 @@ pub struct Drawn {
     pub first_byte: usize,
     /// The address by which the bytes of its message stand on lanes. None where that is not known.
     pub home: Option<u64>,
-    /// Where its lanes stand among those of all beats.
+    /// Where its lanes stand among the bytes of all beats, and behind them its line.
     pub(crate) lanes_from: usize,
-    pub(crate) lanes_to: usize,
-    /// Where its line stands among those of all beats.
     pub(crate) line_from: usize,
     pub(crate) line_to: usize,
 }
@@ -29,9 +27,8 @@ pub struct Drawing {
     /// Whether beats are drawn at all.
     pub is_wanted: bool,
     beats: Vec<Drawn>,
-    /// The lanes of all beats, and their lines.
-    lanes: Vec<u8>,
-    lines: Vec<u8>,
+    /// The lanes of each beat, and behind them its line.
+    bytes: Vec<u8>,
     pub lacks_a_piece: bool,
 }
 
@@ -41,8 +38,7 @@ impl Drawing {
         Drawing {
             is_wanted,
             beats: Vec::new(alloc),
-            lanes: Vec::new(alloc),
-            lines: Vec::new(alloc),
+            bytes: Vec::new(alloc),
             lacks_a_piece: false,
         }
     }
@@ -54,14 +50,14 @@ impl Drawing {
 
     /// Adds a beat with these lanes and this line, which ends with an LF.
     pub fn add(&mut self, drawn: &Drawn, lanes: &[u8], line: &[u8]) {
-        let (lanes_from, line_from) = (self.lanes.len(), self.lines.len());
-        let has_lanes = self.lanes.extend_from_slice(lanes).is_ok();
-        let has_line = self.lines.extend_from_slice(line.trim_ascii_end()).is_ok();
+        let lanes_from = self.bytes.len();
+        let has_lanes = self.bytes.extend_from_slice(lanes).is_ok();
+        let line_from = self.bytes.len();
+        let has_line = self.bytes.extend_from_slice(line.trim_ascii_end()).is_ok();
         let beat = Drawn {
             lanes_from,
-            lanes_to: self.lanes.len(),
             line_from,
-            line_to: self.lines.len(),
+            line_to: self.bytes.len(),
             ..*drawn
         };
         let is_there = self.beats.push(beat).is_ok();
@@ -81,12 +77,12 @@ impl Drawing {
 
     /// The line of a beat, without its LF.
     pub fn line(&self, beat: &Drawn) -> &[u8] {
-        self.lines.get(beat.line_from..beat.line_to).unwrap_or(&[])
+        self.bytes.get(beat.line_from..beat.line_to).unwrap_or(&[])
     }
 
     /// The lanes of a beat, where it has a mask or data and it is known which of them bytes stand on.
     pub fn picture(&self, beat: &Drawn) -> Option<Picture<'_>> {
-        let lanes = self.lanes.get(beat.lanes_from..beat.lanes_to);
+        let lanes = self.bytes.get(beat.lanes_from..beat.line_from);
         Picture::of(&beat.beat, lanes.unwrap_or(&[]), beat.home?)
     }
 }

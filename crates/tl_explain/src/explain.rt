@@ -13,6 +13,7 @@ ghost use Rattle.tl_explain.specs.Explained.{Explains, IsUntold};
 ghost use Rattle.tl_explain.specs.Inner.Telling.{Continues};
 
 use crate::channel::tell;
+use crate::course::Course;
 use crate::held::{held_of, waiting_source};
 use crate::letters::letters_of;
 use crate::look::Look;
@@ -30,13 +31,12 @@ use tl_msg::{Beat, ChA, ChB, ChC, ChD, ChE, Verdict};
 use tl_remarks::{Wanted, notes_of};
 use tl_trace::{Header, Script, TraceFault, TraceKind, header_of_text, read_script};
 
-/// Tells what came of the beats of a script, whose lines begin with these letters, and writes it block by
-/// block, but nothing of it for a page. Each channel has a converter, and room for the far beats that one near
-/// beat completes. A beat of E has nothing on its lanes, so a bus of one byte stands for any that it goes to.
+/// Tells what came of the beats of a script, and writes it block by block, but nothing of it for a page. Each
+/// channel has a converter, and room for the far beats that one near beat completes. A beat of E has nothing on
+/// its lanes, so a bus of one byte stands for any that it goes to.
 #[inline(never)]
 fn tell_all<W: Write, const C: usize, const M: usize>(
     story: &mut Story,
-    letters: &[u8],
     script: &Script<C, M>,
     is_page: bool,
     writer: &mut W,
@@ -56,13 +56,13 @@ fn tell_all<W: Write, const C: usize, const M: usize>(
     let mut far_d = ArrayVec::<Beat<ChD, C>, WIDEST>::new();
     let mut way_e = Converter::<ChE, C, 1>::new();
     let mut far_e = ArrayVec::<Beat<ChE, 1>, WIDEST>::new();
-    for letter in letters {
-        match *letter {
-            b'A' => tell::<ChA, C, M>(story, b'A', &script.a, &mut way_a, &mut far_a),
-            b'B' => tell::<ChB, M, C>(story, b'B', &script.b, &mut way_b, &mut far_b),
-            b'C' => tell::<ChC, C, M>(story, b'C', &script.c, &mut way_c, &mut far_c),
-            b'D' => tell::<ChD, M, C>(story, b'D', &script.d, &mut way_d, &mut far_d),
-            _ => tell::<ChE, C, 1>(story, b'E', &script.e, &mut way_e, &mut far_e),
+    for at in 0..story.lines_to_tell() {
+        match story.begin_line(at) {
+            b'A' => tell::<ChA, C, M>(story, &script.a, &mut way_a, &mut far_a),
+            b'B' => tell::<ChB, M, C>(story, &script.b, &mut way_b, &mut far_b),
+            b'C' => tell::<ChC, C, M>(story, &script.c, &mut way_c, &mut far_c),
+            b'D' => tell::<ChD, M, C>(story, &script.d, &mut way_d, &mut far_d),
+            _ => tell::<ChE, C, 1>(story, &script.e, &mut way_e, &mut far_e),
         }
         story.write_block(is_page, writer)?;
     }
@@ -104,11 +104,12 @@ fn walks_of(verdicts: &[Verdict; 5], c: usize, m: usize) -> [Walk; 5] {
     ]
 }
 
-/// What is told of a script from line 2 on, of which no line is told yet.
+/// What is told of a text that tells this script, of which no line is told yet. It has the memory that telling
+/// takes.
 #[inline(never)]
 fn story_of<const C: usize, const M: usize>(
     alloc: Global,
-    letters: &[u8],
+    text: &[u8],
     script: &Script<C, M>,
     verdicts: &[Verdict; 5],
     version: u8,
@@ -116,14 +117,22 @@ fn story_of<const C: usize, const M: usize>(
 ) -> Result<Story, AllocError>
     requires { IsWidth C × IsWidth M }
 {
+    let header = Header {
+        version,
+        client: C,
+        manager: M,
+    };
     let wanted = Wanted {
         remarks: look.remarks,
         pairs: look.page,
     };
-    let noted = notes_of::<C, M>(alloc, letters, script, verdicts, wanted)?;
-    let requests = requests_of::<C, M>(alloc, letters, script, verdicts)?;
-    let walks = walks_of(verdicts, C, M);
-    Ok(Story::new(alloc, version, look, requests, noted, walks))
+    let letters = letters_of(alloc, text, &header)?;
+    let noted = notes_of::<C, M>(alloc, &letters, script, verdicts, wanted)?;
+    let requests = requests_of::<C, M>(alloc, &letters, script, verdicts)?;
+    let course = Course::new(alloc, requests, walks_of(verdicts, C, M));
+    let mut story = Story::new(alloc, version, look, letters, course, noted);
+    story.make_room(alloc)?;
+    Ok(story)
 }
 
 /// The verdicts on the channels of a script, from A to E, and the answer of a check to it.
@@ -174,6 +183,36 @@ fn answer_to<const C: usize, const M: usize>(
     with_answer(alloc, verdicts, version, C, M)
 }
 
+/// What is told of a text, and the answer of a check to it.
+#[derive(Drop)]
+struct Begun {
+    story: Story,
+    answer: Answer,
+}
+
+/// What is told of a text of this version that tells this script, of which no line is told yet, and the answer.
+/// Whatever lacks memory does so here.
+#[inline(never)]
+fn begin<const C: usize, const M: usize>(
+    alloc: Global,
+    text: &[u8],
+    script: &Script<C, M>,
+    version: u8,
+    look: &Look,
+) -> Result<Begun, TextFault>
+    requires { IsWidth C × IsWidth M × (length text.now ≤ most_bytes) ×
+        TellsScript version text.now script.now }
+    ensures ok { IfOk result (λ made.
+        IsAnswer text.now true made.answer.text.items made.answer.all_done) }
+    ensures err { IfErr result (λ fault. fault ≡ NoMemory) }
+{
+    let Checked { verdicts, answer } = answer_to::<C, M>(alloc, text, script, version)?;
+    match story_of::<C, M>(alloc, text, script, &verdicts, version, look) {
+        Ok(story) => Ok(Begun { story, answer }),
+        Err(_) => Err(TextFault::OutOfMemory),
+    }
+}
+
 /// What was told of a text, as far as it is not written yet, and the answer of a check to it.
 #[derive(Drop)]
 pub struct Telling {
@@ -181,37 +220,7 @@ pub struct Telling {
     pub answer: Answer,
 }
 
-/// Tells a text of this version that tells this script, whose channels end in these verdicts. Whatever lacks
-/// memory does so before anything is written.
-#[inline(never)]
-fn told_of<W: Write, const C: usize, const M: usize>(
-    alloc: Global,
-    text: &[u8],
-    script: &Script<C, M>,
-    verdicts: &[Verdict; 5],
-    version: u8,
-    look: &Look,
-    writer: &mut W,
-) -> Result<Told, TextFault>
-    requires { IsWidth C × IsWidth M }
-    ensures out { OnOk result
-        (Continues look.now.page (W.contents writer.old) (W.contents writer.new)) }
-    ensures err { IfErr result
-        (IsUntold look.now.page text.now (W.contents writer.old) (W.contents writer.new)) }
-{
-    let header = Header {
-        version,
-        client: C,
-        manager: M,
-    };
-    let letters = letters_of(alloc, text, &header)?;
-    let mut story = story_of::<C, M>(alloc, &letters, script, verdicts, version, look)?;
-    story.make_room()?;
-    tell_all::<W, C, M>(&mut story, &letters, script, look.page, writer)?;
-    Ok(story.told())
-}
-
-/// The same, and the answer.
+/// Tells a text of this version that tells this script.
 #[inline(never)]
 fn with_script<W: Write, const C: usize, const M: usize>(
     alloc: Global,
@@ -230,8 +239,9 @@ fn with_script<W: Write, const C: usize, const M: usize>(
     ensures err { IfErr result
         (IsUntold look.now.page text.now (W.contents writer.old) (W.contents writer.new)) }
 {
-    let Checked { verdicts, answer } = answer_to::<C, M>(alloc, text, script, version)?;
-    let told = told_of::<W, C, M>(alloc, text, script, &verdicts, version, look, writer)?;
+    let Begun { mut story, answer } = begin::<C, M>(alloc, text, script, version, look)?;
+    tell_all::<W, C, M>(&mut story, script, look.page, writer)?;
+    let told = story.told();
     Ok(Telling { told, answer })
 }
 

@@ -1,6 +1,6 @@
 //! What came of a near beat, by the verdict on its channel.
 ghost use Rattle.std.specs.Prelude.{◌≡◌};
-ghost use Rattle.tl_explain.specs.Fates.{fate_of};
+ghost use Rattle.tl_explain.specs.Fates.{fate_beside, fate_of};
 
 use crate::story::Fares;
 use tl_msg::{SideFault, Verdict};
@@ -39,18 +39,28 @@ impl Fate {
     }
 }
 
+/// What came of a beat with `at` before it, where its channel stops at the one of number `stop`, which fares so.
+fn fate_beside(at: u64, stop: u64, fate: Fate) -> Fate
+    ensures { result ≡ fate_beside at stop fate }
+{
+    if at < stop {
+        Fate::Accepted
+    } else if at == stop {
+        fate
+    } else {
+        Fate::NotOffered
+    }
+}
+
 /// What came of the beat before which there are `at` on its channel.
 pub fn fate_at(at: u64, verdict: &Verdict) -> Fate
     ensures { result ≡ fate_of at verdict.now }
 {
     match *verdict {
-        Verdict::Done { near, .. } | Verdict::Cut { near, .. } if at < near => Fate::Accepted,
-        Verdict::Done { .. } | Verdict::Cut { .. } => Fate::NotOffered,
-        Verdict::Refused { at: near, .. } | Verdict::Waiting { at: near, .. } if at < near => {
-            Fate::Accepted
+        Verdict::Done { near, .. } | Verdict::Cut { near, .. } => {
+            fate_beside(at, near, Fate::NotOffered)
         }
-        Verdict::Refused { at: near, fault } if at == near => Fate::Refused(fault),
-        Verdict::Waiting { at: near, fault } if at == near => Fate::Waiting(fault),
-        _ => Fate::NotOffered,
+        Verdict::Refused { at: stop, fault } => fate_beside(at, stop, Fate::Refused(fault)),
+        Verdict::Waiting { at: stop, fault } => fate_beside(at, stop, Fate::Waiting(fault)),
     }
 }

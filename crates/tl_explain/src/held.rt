@@ -2,7 +2,7 @@
 use crate::fate::fate_at;
 use tl_msg::{Beat, SourceId, Verdict};
 use tl_remarks::Piece::{Letter, Number, Text};
-use tl_remarks::{Cursor, Page, Told};
+use tl_remarks::{Cursor, Page, Told, accepted};
 
 /// Where a channel stopped: its letter, the line of the first beat that it did not accept, and how that
 /// one fares.
@@ -50,11 +50,33 @@ pub fn waiting_source<K: Told, const W: usize>(
     verdict: &Verdict,
     beats: &[Beat<K, W>],
 ) -> Option<SourceId> {
-    let Verdict::Waiting { at, .. } = *verdict else {
-        return None;
-    };
-    let beat = beats.get(at as usize)?;
-    Some(K::seen(beat.head).source)
+    match (verdict, beats.get(accepted(verdict))) {
+        (Verdict::Waiting { .. }, Some(beat)) => Some(K::seen(beat.head).source),
+        _ => None,
+    }
+}
+
+/// The line of the beat before which there are so many on the channel with this letter.
+fn line_of(letters: &[u8], letter: u8, before: usize) -> u64 {
+    let mut cursor = Cursor::default();
+    for _ in 0..=before {
+        cursor.seek(letters, letter);
+    }
+    cursor.line()
+}
+
+/// The beat before which there are so many on the channel with this letter, which stopped before it or at it.
+fn held_at(letters: &[u8], letter: u8, verdict: &Verdict, before: usize) -> Option<Held> {
+    let stopped = accepted(verdict);
+    let how = fate_at(stopped as u64, verdict).how()?;
+    Some(Held {
+        line: line_of(letters, letter, before),
+        stop: Stop {
+            letter,
+            line: line_of(letters, letter, stopped),
+            how,
+        },
+    })
 }
 
 /// The first beat of this source that its channel did not accept, and that asks on A or answers on D;
@@ -67,22 +89,12 @@ pub fn held_of<K: Told, const W: usize>(
     beats: &[Beat<K, W>],
     source: Option<SourceId>,
 ) -> Option<Held> {
-    let source = source?;
-    let mut cursor = Cursor::default();
-    let mut stop = Stop::default();
-    let mut at = 0u64;
-    for beat in beats {
-        cursor.seek(letters, letter);
-        let line = cursor.line();
-        if let Some(how) = fate_at(at, verdict).how() {
-            stop = Stop { letter, line, how };
-        }
-        let seen = K::seen(beat.head);
+    for at in accepted(verdict)..beats.len() {
+        let seen = K::seen(beats[at].head);
         let may_pair = (letter != b'D') | seen.answers_request();
-        if (stop.line > 0) & may_pair & (seen.source == source) {
-            return Some(Held { line, stop });
+        if may_pair & (Some(seen.source) == source) {
+            return held_at(letters, letter, verdict, at);
         }
-        at = at.saturating_add(1);
     }
     None
 }

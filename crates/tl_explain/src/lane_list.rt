@@ -20,20 +20,18 @@ pub fn has_lane(mask: Mask, lane: usize) -> bool {
 pub fn put_lanes(out: &mut Page, mask: Mask) {
     out.put_text(match mask.count_ones() {
         0 => "no lane",
-        1 => "lane",
-        _ => "lanes",
+        1 => "lane ",
+        _ => "lanes ",
     });
-    let mut separator = " ";
+    let firsts = mask & !(mask << 1);
+    let lasts = mask & !(mask >> 1);
+    let mut separator = "";
     for lane in 0..WIDEST {
-        if has_lane(mask, lane) {
-            if !has_lane(mask, lane.wrapping_sub(1)) {
-                out.put_text(separator);
-                out.put_number(lane as u64);
-                separator = ", ";
-            } else if !has_lane(mask, lane.wrapping_add(1)) {
-                out.put_text(" to ");
-                out.put_number(lane as u64);
-            }
+        if has_lane(firsts | lasts, lane) {
+            let is_first = has_lane(firsts, lane);
+            out.put_text(if is_first { separator } else { " to " });
+            out.put_number(lane as u64);
+            separator = ", ";
         }
     }
 }

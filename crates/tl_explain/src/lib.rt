@@ -7,6 +7,7 @@ mod alike;
 mod blocks;
 mod channel;
 mod count;
+mod course;
 mod drawing;
 mod explain;
 mod fate;

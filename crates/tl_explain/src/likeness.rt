@@ -50,33 +50,48 @@ fn put_version(out: &mut Page, alloc: Global, header: &Header, letter: u8, line:
     is_like
 }
 
+/// The width of the bus on which the line has the form of its channel; 0 where there is none.
+fn width_of(out: &mut Page, alloc: Global, header: &Header, letter: u8, line: &[u8]) -> usize {
+    for power in 0..=WIDEST_POWER {
+        let width = 1usize << power;
+        let other = Header {
+            client: width,
+            manager: width,
+            ..*header
+        };
+        if fits(out, alloc, &other, letter, line) {
+            return width;
+        }
+    }
+    0
+}
+
+/// The side that sends on the channel with this letter, and its width.
+fn side_of(header: &Header, letter: u8) -> (&'static str, usize) {
+    match letter {
+        b'B' | b'D' => ("manager", header.manager),
+        _ => ("client", header.client),
+    }
+}
+
 /// Writes that the line has the form of its channel at another width, if it has, and where the header
 /// may have meant bits, that too.
 fn put_width(out: &mut Page, alloc: Global, header: &Header, letter: u8, line: &[u8]) -> bool {
-    let of_manager = matches!(letter, b'B' | b'D');
-    let (side, said) = if of_manager {
-        ("manager", header.manager)
-    } else {
-        ("client", header.client)
-    };
-    for power in 0..=WIDEST_POWER {
-        let width = 1usize << power;
-        let mut other = *header;
-        if of_manager {
-            other.manager = width;
-        } else {
-            other.client = width;
-        }
-        if fits(out, alloc, &other, letter, line) {
-            let pieces = [Letter(letter), Text(side), Number(width as u64)];
-            out.say("; it has the form of a line of # for # #", &pieces);
-            if width.saturating_mul(8) == said {
-                out.put_text(": the widths of the header are bytes, and not bits");
-            }
-            return true;
-        }
+    let width = width_of(out, alloc, header, letter, line);
+    if width == 0 {
+        return false;
     }
-    false
+    let (side, said) = side_of(header, letter);
+    let why = if width.saturating_mul(8) == said {
+        ": the widths of the header are bytes, and not bits"
+    } else {
+        ""
+    };
+    out.say(
+        "; it has the form of a line of # for # ##",
+        &[Letter(letter), Text(side), Number(width as u64), Text(why)],
+    );
+    true
 }
 
 /// Writes that the line has the form of another channel, if it has.

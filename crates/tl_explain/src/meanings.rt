@@ -33,11 +33,9 @@ pub const FAULTS: &str = r#" 1 Opcode       the channel has no message with this
 
 /// What a fault means: the sentence of its line of `FAULTS`.
 pub fn meaning(fault: &TextFault) -> &'static str {
-    let number = usize::from(fault.number());
-    for (before, line) in FAULTS.lines().enumerate() {
-        if before.saturating_add(1) == number {
-            return line.get(SENTENCE..).unwrap_or(line);
-        }
+    let before = usize::from(fault.number()).wrapping_sub(1);
+    match FAULTS.lines().nth(before) {
+        Some(line) => line.get(SENTENCE..).unwrap_or(line),
+        None => "",
     }
-    ""
 }

@@ -35,8 +35,8 @@ pub struct Picture<'a> {
     active: Mask,
     /// The lanes whose bytes are written; all active ones on a channel without masks.
     mask: Mask,
-    /// Whether the message carries data.
-    has_data: bool,
+    /// The lanes, where the message carries data; else none.
+    data: &'a [u8],
 }
 
 impl<'a> Picture<'a> {
@@ -52,34 +52,32 @@ impl<'a> Picture<'a> {
             lanes,
             active,
             mask: if is_masked { beat.mask } else { active },
-            has_data,
+            data: if has_data { lanes } else { &[] },
         })
     }
 
     /// What stands on this lane.
     pub fn cell(&self, lane: usize) -> Cell {
-        match (has_lane(self.active, lane), has_lane(self.mask, lane)) {
-            (false, false) => Cell::Idle,
-            (false, true) => Cell::Wrong,
-            (true, false) => Cell::Masked,
-            (true, true) if self.has_data => match self.lanes.get(lane) {
-                Some(byte) => Cell::Byte(*byte),
-                None => Cell::Idle,
-            },
-            (true, true) => Cell::Empty,
+        let (is_active, is_masked) = (has_lane(self.active, lane), has_lane(self.mask, lane));
+        match (is_active, is_masked, self.data.get(lane)) {
+            (false, false, _) => Cell::Idle,
+            (false, true, _) => Cell::Wrong,
+            (true, false, _) => Cell::Masked,
+            (true, true, None) => Cell::Empty,
+            (true, true, Some(byte)) => Cell::Byte(*byte),
         }
     }
 
     /// How a lane is shown: by its byte, or `##` where the message carries no data; `--` where the
     /// mask leaves it out, `..` where it is not active, and `!!` where the mask has it all the same.
     fn lane(&self, lane: usize) -> Piece<'static> {
-        match self.cell(lane) {
-            Cell::Idle => Text(".."),
-            Cell::Wrong => Text("!!"),
-            Cell::Masked => Text("--"),
-            Cell::Empty => Text("##"),
-            Cell::Byte(byte) => Byte(byte),
-        }
+        Text(match self.cell(lane) {
+            Cell::Idle => "..",
+            Cell::Wrong => "!!",
+            Cell::Masked => "--",
+            Cell::Empty => "##",
+            Cell::Byte(byte) => return Byte(byte),
+        })
     }
 
     /// The blanks before a byte below the number of its lane, which has room for one digit more than these: for

@@ -2,11 +2,38 @@
 use tl_remarks::Page;
 use tl_remarks::Piece::{Byte, Letter, Text};
 
-/// The bytes at the beginning of a text that tell how its characters are written, and what they are.
-const MARKS: [(&[u8], &str); 3] = [
-    (b"\xef\xbb\xbf", "a byte order mark (ef bb bf)"),
-    (b"\xff\xfe", "the byte order mark of UTF-16 (ff fe)"),
-    (b"\xfe\xff", "the byte order mark of UTF-16 (fe ff)"),
+/// What is expected of line 1.
+const HEADER: &str =
+    "expected the header 'tilelink-trace V client C manager M', where V is the version, 1 or 2, and C and M are bytes, each 1, 2, 4, 8, 16, 32, 64 or, in version 2, 128";
+
+/// What is said of a line 1 that begins with a beat or with a comment.
+const BEAT: &str = "; the header is missing: this is the line of a beat";
+
+const COMMENT: &str = "; a trace has no comments";
+
+/// How a line 1 begins of which it can be told why it is no header, and why.
+const NO_HEADERS: &[(&[u8], &str)] = &[
+    (
+        b"\xef\xbb\xbf",
+        "; the text begins with a byte order mark (ef bb bf), and a trace is plain ASCII",
+    ),
+    (
+        b"\xff\xfe",
+        "; the text begins with the byte order mark of UTF-16 (ff fe), and a trace is plain ASCII",
+    ),
+    (
+        b"\xfe\xff",
+        "; the text begins with the byte order mark of UTF-16 (fe ff), and a trace is plain ASCII",
+    ),
+    (b"A ", BEAT),
+    (b"B ", BEAT),
+    (b"C ", BEAT),
+    (b"D ", BEAT),
+    (b"E ", BEAT),
+    (b"#", COMMENT),
+    (b"/", COMMENT),
+    (b";", COMMENT),
+    (b"tilelink-far", "; this is an answer, and no trace"),
 ];
 
 /// The fields of a line of A or B, of C, of D and of E, from the channel's letter on.
@@ -24,46 +51,31 @@ const ON_D: &[&str] = &[
 
 const ON_E: &[&str] = &["channel", "sink"];
 
-/// The name of a byte that a reader may not see, or not as what it is.
-fn byte_name(byte: u8) -> Option<&'static str> {
+/// What a byte is called: by its name where a reader may not see it, or not as what it is; else `#` stands for it.
+fn byte_name(byte: u8) -> &'static str {
     match byte {
-        b'\t' => Some("a tab"),
-        b'\r' => Some("a carriage return (CR)"),
-        b' ' => Some("a space"),
-        0 => Some("a zero byte"),
-        0xa0 => Some("the byte a0, as in a no-break space"),
-        _ => None,
+        b'\t' => "a tab",
+        b'\r' => "a carriage return (CR)",
+        b' ' => "a space",
+        0 => "a zero byte",
+        0xa0 => "the byte a0, as in a no-break space",
+        b'!'..=b'~' => "'#'",
+        _ => "the byte #, which is no ASCII",
     }
-}
-
-/// Writes a byte: by its name, as a character, or by its digits.
-fn put_byte(out: &mut Page, byte: u8) {
-    match byte_name(byte) {
-        Some(name) => out.put_text(name),
-        None if byte.is_ascii_graphic() => out.say("'#'", &[Letter(byte)]),
-        None => out.say("the byte #, which is no ASCII", &[Byte(byte)]),
-    }
-}
-
-/// The byte order mark that a text begins with.
-fn order_mark(text: &[u8]) -> Option<&'static str> {
-    for (bytes, name) in MARKS {
-        if text.starts_with(bytes) {
-            return Some(name);
-        }
-    }
-    None
 }
 
 /// Writes what stands at a place of a line.
-pub fn put_found(out: &mut Page, line: &[u8], at: usize) {
-    match line.get(at) {
-        Some(byte) => {
-            out.put_text(", found ");
-            put_byte(out, *byte);
-        }
-        None => out.put_text(", but the line ends here"),
-    }
+fn put_found(out: &mut Page, line: &[u8], at: usize) {
+    let Some(byte) = line.get(at) else {
+        return out.put_text(", but the line ends here");
+    };
+    let piece = if byte.is_ascii_graphic() {
+        Letter(*byte)
+    } else {
+        Byte(*byte)
+    };
+    out.put_text(", found ");
+    out.say(byte_name(*byte), &[piece]);
 }
 
 /// The fields of the lines of a form.
@@ -78,30 +90,37 @@ fn fields_of(form: &[u8]) -> &'static [&'static str] {
 
 /// The name of the field that a place of a form belongs to.
 fn field_at(form: &[u8], at: usize) -> &'static str {
-    let before = form.get(..at).unwrap_or(form);
-    let field = before.iter().filter(|byte| **byte == b' ').count();
+    let mut field = 0usize;
+    for byte in form.get(..at).unwrap_or(form) {
+        if *byte == b' ' {
+            field = field.saturating_add(1);
+        }
+    }
     fields_of(form).get(field).copied().unwrap_or("line")
-}
-
-/// Writes the name of the field that a place of a form belongs to.
-pub fn put_field(out: &mut Page, form: &[u8], at: usize) {
-    out.say(", of the field #", &[Text(field_at(form, at))]);
 }
 
 /// Writes what has to stand at a place of a line of this form, and what stands there.
 pub fn put_expected(out: &mut Page, line: &[u8], form: &[u8], at: usize) {
-    match form.get(at) {
-        Some(b' ') => out.put_text("expected a space"),
-        Some(_) => {
-            out.put_text("expected a digit, 0 to 9 or a to f");
-            put_field(out, form, at);
-        }
-        None => out.put_text("expected the end of the line"),
-    }
+    let sentence = match form.get(at) {
+        Some(b' ') => "expected a space",
+        Some(_) => "expected a digit, 0 to 9 or a to f, of the field #",
+        None => "expected the end of the line",
+    };
+    out.say(sentence, &[Text(field_at(form, at))]);
     put_found(out, line, at);
-    if line.get(at).is_some_and(|byte| matches!(byte, b'A'..=b'F')) {
+    if let Some(b'A'..=b'F') = line.get(at) {
         out.put_text(": digits are of lower case");
     }
+}
+
+/// Writes which digits may stand at a place of a line of this form, and what stands there.
+pub fn put_range(out: &mut Page, line: &[u8], form: &[u8], at: usize, largest: u8) {
+    let field = Text(field_at(form, at));
+    out.say(
+        "expected a digit from 0 to #, of the field #",
+        &[Letter(largest), field],
+    );
+    put_found(out, line, at);
 }
 
 /// Writes that a line begins with no channel's letter, and what it begins with.
@@ -115,35 +134,23 @@ pub fn put_no_channel(out: &mut Page, line: &[u8]) {
     }
 }
 
-/// Why a line is no header, where that can be told from how it begins.
-fn no_header(line: &[u8]) -> Option<&'static str> {
-    match line {
-        [] => Some("; the first line is blank"),
-        [b'A'..=b'E', b' ', ..] => Some("; the header is missing: this is the line of a beat"),
-        [b'#' | b'/' | b';', ..] => Some("; a trace has no comments"),
-        _ if line.starts_with(b"tilelink-far") => Some("; this is an answer, and no trace"),
-        _ => None,
-    }
-}
-
-/// Writes why line 1 is no header, where that can be told from how it begins or ends.
+/// Writes what is expected of line 1, and why it is no header, where that can be told from how it begins or ends.
 pub fn put_no_header(out: &mut Page, line: &[u8]) {
-    if let Some(mark) = order_mark(line) {
-        out.say(
-            "; the text begins with #, and a trace is plain ASCII",
-            &[Text(mark)],
-        );
-    } else if let Some(why) = no_header(line) {
-        out.put_text(why);
-    } else if let Some(last) = line.last() {
-        put_blank_end(out, *last);
+    out.put_text(HEADER);
+    for (begin, why) in NO_HEADERS {
+        if line.starts_with(begin) {
+            return out.put_text(why);
+        }
+    }
+    match line.last() {
+        Some(last) => put_blank_end(out, *last),
+        None => out.put_text("; the first line is blank"),
     }
 }
 
 /// Writes that a line ends with a byte that one does not see, if it does.
 pub fn put_blank_end(out: &mut Page, last: u8) {
     if let b' ' | b'\t' | b'\r' = last {
-        out.put_text("; the line ends with ");
-        put_byte(out, last);
+        out.say("; the line ends with #", &[Text(byte_name(last))]);
     }
 }

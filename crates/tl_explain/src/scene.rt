@@ -61,10 +61,10 @@ fn tie(ties: &mut [Ties], pairs: &[Pair]) {
 /// Numbers the exchanges, in the order of their first lines.
 fn number_all(ties: &mut [Ties], begins: &[bool]) {
     let mut number = 0u64;
-    for (line, begins) in ties.iter_mut().zip(begins) {
-        if *begins && line.asked_in == 0 {
+    for at in 0..ties.len().min(begins.len()) {
+        if begins[at] & (ties[at].asked_in == 0) {
             number = number.saturating_add(1);
-            line.number = number;
+            ties[at].number = number;
         }
     }
 }

@@ -1,27 +1,29 @@
 //! What came of one line, in a sentence.
+use crate::alike::Alike;
+use crate::course::{Came, Course};
 use crate::fate::Fate;
 use crate::faults::put_beat_fault;
 use crate::requests::{Request, Requests};
-use crate::story::{Came, Story, place};
+use crate::story::place;
 use crate::walk::{Brought, Walk};
 use crate::words::{put_fields, source_of};
-use tl_msg::SideFault;
-use tl_remarks::Piece::{Coloured, Id, Length, Number, Text};
+use tl_msg::{SideFault, Verdict};
+use tl_remarks::Piece::{Coloured, Id, Length, Letter, Number, Text};
 use tl_remarks::{Colour, Page, Piece, Seen};
 
 /// Writes why a beat of A waits: its source is busy with its last request.
 fn put_busy(out: &mut Page, beat: &Seen, requests: &Requests) {
-    let source = source_of(beat);
-    match requests.last(beat.source) {
-        Some(request) => out.say(
+    let (sentence, line) = match requests.last(beat.source) {
+        Some(request) => (
             "source # still waits for the response to its request in line #",
-            &[source, Number(request.line)],
+            request.line,
         ),
-        None => out.say(
+        None => (
             "source # still waits for the response to its last request",
-            &[source],
+            0,
         ),
-    }
+    };
+    out.say(sentence, &[source_of(beat), Number(line)]);
     match requests.held_response {
         Some(response) => {
             out.put_text(": its response in line ");
@@ -41,49 +43,59 @@ fn put_none_sent(out: &mut Page, beat: &Seen, first_open: Option<Request>) {
     }
 }
 
-/// Writes why a beat of D waits: no request of its source has arrived that it could answer.
-fn put_no_request(out: &mut Page, beat: &Seen, requests: &Requests) {
-    if let Some(request) = requests.open(beat.source) {
-        return out.say(
-            "the request of source # in line # has not arrived: bytes of its first far beat are missing",
-            &[source_of(beat), Number(request.line)],
-        );
-    }
-    out.say(
-        "no request of source # waits for a response",
-        &[source_of(beat)],
-    );
+/// Writes why no request waits that has the source of a beat of D.
+fn put_none_waits(out: &mut Page, beat: &Seen, requests: &Requests) {
     if let Some(held) = requests.held_request {
         out.put_text(": that in line ");
-        return held.put(out);
+        held.put(out);
+    } else if let Some(last) = requests.last(beat.source) {
+        let line = Number(last.line);
+        out.say(": its last one, in line #, is answered", &[line]);
+    } else {
+        put_none_sent(out, beat, requests.first_open());
     }
-    match requests.last(beat.source) {
-        Some(last) => out.say(
-            ": its last one, in line #, is answered",
-            &[Number(last.line)],
-        ),
-        None => put_none_sent(out, beat, requests.first_open()),
+}
+
+/// Writes why a beat of D waits: no request of its source has arrived that it could answer.
+fn put_no_request(out: &mut Page, beat: &Seen, requests: &Requests) {
+    let source = source_of(beat);
+    if let Some(request) = requests.open(beat.source) {
+        out.say(
+            "the request of source # in line # has not arrived: bytes of its first far beat are missing",
+            &[source, Number(request.line)],
+        );
+    } else {
+        out.say("no request of source # waits for a response", &[source]);
+        put_none_waits(out, beat, requests);
     }
 }
 
 /// Writes why a beat of D is refused: its size is not that of this request.
 fn put_mismatch(out: &mut Page, beat: &Seen, open: Option<Request>) {
-    out.say("the response is of #", &[Length(beat.size)]);
+    let size = Length(beat.size);
     match open {
         Some(request) => out.say(
-            ", but its request, in line #, is of #",
-            &[Number(request.line), Length(request.size)],
+            "the response is of #, but its request, in line #, is of #",
+            &[size, Number(request.line), Length(request.size)],
         ),
-        None => out.put_text(", but its request is of another size"),
+        None => out.say(
+            "the response is of #, but its request is of another size",
+            &[size],
+        ),
     }
 }
 
-/// Writes the fault of the next near beat in a sentence.
-fn put_fault(out: &mut Page, beat: &Seen, fault: SideFault, walk: &Walk, requests: &Requests) {
-    out.say(
-        "# #: ",
-        &[Number(fault.number() as u64), Text(fault.name())],
-    );
+/// Writes why the next near beat was not accepted, after a word that says how it fares.
+fn put_fault(
+    out: &mut Page,
+    beat: &Seen,
+    word: Piece<'static>,
+    fault: SideFault,
+    walk: &Walk,
+    requests: &Requests,
+) {
+    let number = Number(fault.number() as u64);
+    out.say(": #, # #: ", &[word, number, Text(fault.name())]);
     match fault {
         SideFault::Beat(fault) => put_beat_fault(out, beat, fault, walk),
         SideFault::SourceBusy => put_busy(out, beat, requests),
@@ -98,66 +110,92 @@ impl Brought {
         let (from, to) = (self.from as u64, self.to as u64);
         if to.saturating_sub(from) == 1 {
             out.put_text(", far beat ");
+            out.put_number(to);
         } else {
-            out.put_text(", far beats ");
-            out.put_number(from.saturating_add(1));
-            out.put_text(" to ");
+            let first = Number(from.saturating_add(1));
+            out.say(", far beats # to #", &[first, Number(to)]);
         }
-        out.put_number(to);
     }
 }
 
-impl Story {
+/// Writes that a beat was accepted, in a message that has no other, and what it brought.
+fn put_accepted(out: &mut Page, brought: &Brought) {
+    out.put_text(": ");
+    out.put_coloured(Colour::Green, "accepted");
+    brought.put_far(out);
+}
+
+impl Course {
     /// Writes why a beat was not accepted, after a word that says how it fares.
-    fn put_held(&mut self, beat: &Seen, fault: SideFault, word: Piece<'static>) {
-        self.page.say(": #, ", &[word]);
-        put_fault(&mut self.page, beat, fault, &self.walk, &self.requests);
+    fn put_held(&self, out: &mut Page, beat: &Seen, fault: SideFault, word: Piece<'static>) {
+        put_fault(out, beat, word, fault, &self.walk, &self.requests);
     }
 
-    /// Writes that a beat was accepted, in a message that has no other.
-    fn put_accepted(&mut self) {
-        self.page.put_text(": ");
-        self.page.put_coloured(Colour::Green, "accepted");
-        self.walk.brought.put_far(&mut self.page);
+    /// Writes that a beat was not offered, and why.
+    fn put_not_offered(&self, out: &mut Page, beat: &Seen) {
+        out.put_text(": not offered, since ");
+        self.stop_of(beat.letter).unwrap_or_default().put(out);
     }
 
     /// Writes what came of a beat.
-    fn put_fate(&mut self, beat: &Seen, came: &Came) {
+    fn put_fate(&self, out: &mut Page, beat: &Seen, came: &Came) {
         match came.fate {
-            Fate::Accepted => self.put_accepted(),
-            Fate::Refused(fault) => self.put_held(beat, fault, Coloured(Colour::Red, "refused")),
-            Fate::Waiting(fault) => self.put_held(beat, fault, Coloured(Colour::Yellow, "waiting")),
-            Fate::NotOffered => {
-                let stop = self.stop_of(beat.letter).unwrap_or_default();
-                self.page.put_text(": not offered, since ");
-                stop.put(&mut self.page);
+            Fate::Accepted => put_accepted(out, &self.walk.brought),
+            Fate::Refused(fault) => self.put_held(
+                out,
+                beat,
+                fault,
+                Coloured(Colour::Red, "refused"),
+            ),
+            Fate::Waiting(fault) => self.put_held(
+                out,
+                beat,
+                fault,
+                Coloured(Colour::Yellow, "waiting"),
+            ),
+            Fate::NotOffered => self.put_not_offered(out, beat),
+        }
+    }
+
+    /// Writes the fields of a beat, and what came of it. The sentences on the beats of a message have much alike.
+    fn put_beat(&self, out: &mut Page, alike: &mut Vec<Alike>, beat: &Seen, came: &Came) {
+        let walk = &self.walk;
+        let is_one_of_several = matches!(came.fate, Fate::Accepted) & (walk.brought.beats > 1);
+        match alike.get_mut(place(beat.letter)) {
+            Some(alike) if is_one_of_several => {
+                alike.put(out, beat, &walk.brought, walk.first_line);
+            }
+            _ => {
+                put_fields(out, beat);
+                self.put_fate(out, beat, came);
             }
         }
     }
 
-    /// Writes the fields of a beat, and what came of it.
-    fn put_beat(&mut self, beat: &Seen, came: &Came) {
-        let brought = &self.walk.brought;
-        if matches!(came.fate, Fate::Accepted) & (brought.beats > 1) {
-            if let Some(alike) = self.alike.get_mut(place(beat.letter)) {
-                alike.put(&mut self.page, beat, brought, self.walk.first_line);
-            }
-            return;
+    /// Writes what came of the beat of the last line, in a line.
+    pub fn put_line(&self, out: &mut Page, alike: &mut Vec<Alike>, beat: &Seen, came: &Came) {
+        out.put_text("line ");
+        out.put_bytes(self.count.digits());
+        self.put_beat(out, alike, beat, came);
+        match came.answers {
+            0 => out.put_text("\n"),
+            line => out.say(", answers line #\n", &[Number(line)]),
         }
-        self.page.put_text(": ");
-        put_fields(&mut self.page, beat);
-        self.put_fate(beat, came);
     }
 
-    /// Writes what came of the beat of the line that is told, in a line.
-    pub fn put_line(&mut self, beat: &Seen, came: &Came) {
-        self.page.put_text("line ");
-        self.page.put_bytes(self.count.digits());
-        self.put_beat(beat, came);
-        if came.answers != 0 {
-            self.page.put_text(", answers line ");
-            self.page.put_number(came.answers);
+    /// Writes where the lines of the channel end within a burst, if they do.
+    pub fn put_cut(&self, out: &mut Page) {
+        let walk = &self.walk;
+        if let Verdict::Cut { .. } = walk.verdict {
+            out.say(
+                "# ends within the burst that line # begins: # of its # beats are there\n",
+                &[
+                    Letter(walk.letter),
+                    Number(walk.first_line),
+                    Number(walk.index as u64),
+                    Number(walk.beats as u64),
+                ],
+            );
         }
-        self.page.put_text("\n");
     }
 }

@@ -94,7 +94,7 @@ impl Story {
     fn put_several(&mut self) {
         self.run.put(&mut self.page);
         for letter in LETTERS {
-            if let (true, Some(stop)) = (self.run.has(*letter), self.stop_of(*letter)) {
+            if let (true, Some(stop)) = (self.run.has(*letter), self.course.stop_of(*letter)) {
                 stop.put_with_letter(&mut self.page);
             }
         }

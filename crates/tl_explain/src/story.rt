@@ -1,17 +1,12 @@
 //! What is said of the lines of a text, told line by line.
 use crate::alike::Alike;
-use crate::count::Count;
+use crate::course::Course;
 use crate::drawing::{Drawing, Drawn};
 use crate::fate::Fate;
-use crate::held::Stop;
 use crate::look::{Choice, Look};
 use crate::picture::put_picture;
-use crate::requests::Requests;
 use crate::shown::{Item, Run};
-use crate::walk::Walk;
 use std::alloc::Global;
-use tl_msg::Verdict;
-use tl_remarks::Piece::{Letter, Number};
 use tl_remarks::{Noted, Page, Remark, Seen, put_remark};
 
 /// How the beat of a line fares.
@@ -27,21 +22,13 @@ pub enum Fares {
     NotOffered,
 }
 
-/// What came of a near beat.
-#[derive(Clone, Copy)]
-pub struct Came {
-    pub fate: Fate,
-    /// The line of the request that it begins to answer; 0 where there is none.
-    pub answers: u64,
-}
-
 /// What is said of the lines of a text, told line by line.
 #[derive(Drop)]
 pub struct Story {
     /// What is said of the lines that are shown.
     pub page: Page,
-    /// The requests that A sends, of which those are open that no line has answered yet.
-    pub requests: Requests,
+    /// How far the lines have come.
+    pub course: Course,
     /// The version of the trace.
     pub version: u8,
     /// Which lines are shown.
@@ -51,23 +38,17 @@ pub struct Story {
     /// What was noted of the messages, and how many of the remarks are passed.
     noted: Noted,
     remarks_passed: usize,
-    /// Where channels stopped, in the order of lines.
-    pub stops: Vec<Stop>,
-    /// How far the lines of the channels have come, from A to E, but for the channel of the line that is
-    /// told: that one's is `walk`, which is of no channel before the first line.
-    walks: [Walk; 5],
-    pub walk: Walk,
-    /// The number of the line that is told, its digits, whether it is shown, and what is noted of it.
-    line: u64,
-    pub count: Count,
+    /// The letters that the lines begin with, from line 2 on.
+    letters: Vec<u8>,
+    /// Whether the line that is told is shown, and what is noted of it.
     is_shown: bool,
     item: Item,
     /// The last lines that are shown, where their beats were not offered.
     pub run: Run,
     /// What the sentences on the beats of a message have alike, for each channel.
-    pub alike: [Alike; 5],
-    /// The lines of the far beats that its beat completed.
-    pub far: Vec<u8>,
+    pub alike: Vec<Alike>,
+    /// The lines of its beat, or of the far beats that this one completed.
+    pub lines: Vec<u8>,
     /// The beats that are drawn, and, where they are, what is noted of the lines that are shown, and for
     /// each line whether a message begins in it that was accepted.
     pub drawing: Drawing,
@@ -102,128 +83,61 @@ fn line_in(lines: &[u8], number: usize, length: usize) -> &[u8] {
 }
 
 impl Story {
-    /// That of a text of this version of which no line is told yet, whose channels have these walks before
-    /// them, from A to E.
+    /// That of a text of this version of which no line is told yet: its lines have these letters, and this course
+    /// before them.
     #[inline(never)]
     pub fn new(
         alloc: Global,
         version: u8,
         look: &Look,
-        requests: Requests,
+        letters: Vec<u8>,
+        course: Course,
         noted: Noted,
-        walks: [Walk; 5],
     ) -> Story {
         Story {
             page: Page::new(alloc, look.colour),
-            requests,
+            course,
             version,
             choice: look.choice,
             has_lanes: look.lanes && !look.page,
             noted,
             remarks_passed: 0,
-            stops: Vec::new(alloc),
-            walk: Walk::new(b' ', &Verdict::Done { near: 0, far: 0 }, 1, 1),
-            walks,
-            line: 1,
-            count: Count::one(),
+            letters,
             is_shown: false,
             item: Item::default(),
             run: Run::default(),
-            alike: [
-                Alike::new(alloc),
-                Alike::new(alloc),
-                Alike::new(alloc),
-                Alike::new(alloc),
-                Alike::new(alloc),
-            ],
-            far: Vec::new(alloc),
+            alike: Vec::new(alloc),
+            lines: Vec::new(alloc),
             drawing: Drawing::new(alloc, look.page),
             items: Vec::new(alloc),
             begins: Vec::new(alloc),
         }
     }
 
-    /// Goes on to the channel with this letter.
-    fn turn_to(&mut self, letter: u8) {
-        if letter == self.walk.letter {
-            return;
-        }
-        let last = self.walk;
-        if let Some(walk) = self.walks.get_mut(place(last.letter)) {
-            *walk = last;
-        }
-        if let Some(walk) = self.walks.get(place(letter)) {
-            self.walk = *walk;
-        }
+    /// How many lines there are from line 2 on.
+    pub fn lines_to_tell(&self) -> usize {
+        self.letters.len()
     }
 
-    /// Begins the next line, which has this letter.
+    /// Begins the line at this place, from line 2 on, and gives its letter.
     #[inline(never)]
-    pub fn begin_line(&mut self, letter: u8) {
-        self.turn_to(letter);
-        self.line = self.line.saturating_add(1);
-        self.count.go_up();
+    pub fn begin_line(&mut self, at: usize) -> u8 {
+        let letter = self.letters.get(at).copied().unwrap_or(b'E');
+        self.course.begin_line(letter);
         self.item = Item {
             letter,
-            line: self.line,
-            last: self.line,
+            line: self.course.line,
+            last: self.course.line,
             drawn: self.drawing.len(),
             ..Item::default()
         };
-    }
-
-    /// Notes that the channel stops at the next near beat, which fares so.
-    fn stop(&mut self, how: &'static str) {
-        let stop = Stop {
-            letter: self.walk.letter,
-            line: self.line,
-            how,
-        };
-        self.page.lacks_a_piece |= self.stops.push(stop).is_err();
-    }
-
-    /// Where the channel with this letter stopped, if it did.
-    pub fn stop_of(&self, letter: u8) -> Option<Stop> {
-        for stop in &self.stops {
-            if stop.letter == letter {
-                return Some(*stop);
-            }
-        }
-        None
-    }
-
-    /// Counts the request as answered that an accepted beat answers, if it begins a response to one, and
-    /// gives the line of that request, else 0.
-    fn answer(&mut self, beat: &Seen) -> u64 {
-        if self.walk.brought.beat != 1 || !beat.answers_request() {
-            return 0;
-        }
-        match self.requests.answer(beat.source) {
-            Some(request) => {
-                self.walk.home = request.address;
-                request.line
-            }
-            None => 0,
-        }
-    }
-
-    /// Goes on by the channel's next near beat, and says what came of it.
-    fn go_on(&mut self, beat: &Seen) -> Came {
-        let fate = self.walk.fate();
-        let mut answers = 0;
-        if let Fate::Accepted = fate {
-            self.walk.accept(beat, self.line);
-            answers = self.answer(beat);
-        } else if let Some(how) = fate.how() {
-            self.stop(how);
-        }
-        Came { fate, answers }
+        letter
     }
 
     /// The next remark, where it is one on the line.
     fn next_remark(&self) -> Option<Remark> {
         match self.noted.remarks.get(self.remarks_passed) {
-            Some(remark) if remark.message.line == self.line => Some(*remark),
+            Some(remark) if remark.message.line == self.course.line => Some(*remark),
             _ => None,
         }
     }
@@ -231,7 +145,7 @@ impl Story {
     /// Writes what came of the channel's next near beat, which has these bytes on its lanes, if the line is
     /// shown, and says whether it was accepted.
     pub fn put_near(&mut self, beat: &Seen, lanes: &[u8]) -> bool {
-        let came = self.go_on(beat);
+        let came = self.course.go_on(beat);
         let accepted = matches!(came.fate, Fate::Accepted);
         self.item.fares = came.fate.fares();
         self.is_shown = self
@@ -239,8 +153,9 @@ impl Story {
             .shows(&self.item, beat.source, self.next_remark().is_some());
         if self.is_shown && self.begins_sentence() {
             self.item.from = self.page.len();
-            self.put_line(beat, &came);
-            if let (true, Some(home)) = (self.has_lanes, self.near_home(beat, accepted)) {
+            self.course
+                .put_line(&mut self.page, &mut self.alike, beat, &came);
+            if let (true, Some(home)) = (self.has_lanes, self.course.near_home(beat, accepted)) {
                 put_picture(&mut self.page, "near", beat, lanes, home);
             }
         }
@@ -259,31 +174,24 @@ impl Story {
         true
     }
 
-    /// The address by which bytes stand on the lanes of the next near beat. Not known of a response that
-    /// was not accepted.
-    fn near_home(&self, beat: &Seen, accepted: bool) -> Option<u64> {
-        match (beat.letter, accepted) {
-            (b'D', true) => Some(self.walk.home),
-            (b'D', false) => None,
-            _ => Some(beat.address),
-        }
-    }
-
-    /// Draws the next near beat, which has this line.
-    pub fn draw_near(&mut self, beat: &Seen, lanes: &[u8], line: &[u8], accepted: bool) {
+    /// Draws the next near beat, whose line is kept.
+    pub fn draw_near(&mut self, beat: &Seen, lanes: &[u8], accepted: bool) {
         let (message, first_byte) = if accepted {
-            (self.walk.first_line, self.walk.brought.first_byte)
+            (
+                self.course.walk.first_line,
+                self.course.walk.brought.first_byte,
+            )
         } else {
             (0, 0)
         };
         let drawn = Drawn {
             beat: *beat,
-            home: self.near_home(beat, accepted),
+            home: self.course.near_home(beat, accepted),
             message,
             first_byte,
             ..Drawn::default()
         };
-        self.drawing.add(&drawn, lanes, line);
+        self.drawing.add(&drawn, lanes, &self.lines);
     }
 
     /// Whether the far beats are shown, and whether they are on their lanes.
@@ -302,24 +210,24 @@ impl Story {
             return;
         }
         self.page.put_text("    ");
-        self.page.put_bytes(line_in(&self.far, number, length));
+        self.page.put_bytes(line_in(&self.lines, number, length));
     }
 
     /// Draws the same far beat, or writes the picture of its lanes.
     pub fn put_far_lanes(&mut self, number: usize, length: usize, beat: &Seen, lanes: &[u8]) {
         if !self.drawing.is_wanted {
-            return put_picture(&mut self.page, "far ", beat, lanes, self.walk.home);
+            return put_picture(&mut self.page, "far ", beat, lanes, self.course.walk.home);
         }
         let drawn = Drawn {
             is_far: true,
             beat: *beat,
-            home: Some(self.walk.home),
-            message: self.walk.first_line,
-            first_byte: self.walk.far_byte(number),
+            home: Some(self.course.walk.home),
+            message: self.course.walk.first_line,
+            first_byte: self.course.walk.far_byte(number),
             ..Drawn::default()
         };
         self.drawing
-            .add(&drawn, lanes, line_in(&self.far, number, length));
+            .add(&drawn, lanes, line_in(&self.lines, number, length));
     }
 
     /// Passes the remarks on the line, and writes them where it is shown.
@@ -338,7 +246,7 @@ impl Story {
     /// Notes of the line in which the next near beat stands what a page needs.
     fn note_line(&mut self) {
         if self.drawing.is_wanted {
-            let begins = self.item.fares == Fares::Accepted && self.walk.brought.beat == 1;
+            let begins = self.item.fares == Fares::Accepted && self.course.walk.brought.beat == 1;
             self.page.lacks_a_piece |= self.begins.push(begins).is_err();
         }
     }
@@ -360,7 +268,7 @@ impl Story {
             self.end_shown();
         }
         self.note_line();
-        self.walk.near = self.walk.near.saturating_add(1);
+        self.course.walk.near = self.course.walk.near.saturating_add(1);
     }
 
     /// Notes what is said of the line, or adds it to those whose beats were not offered. Several of these
@@ -375,30 +283,15 @@ impl Story {
         self.run.add(&self.item);
     }
 
-    /// Writes where the lines of a channel end within a burst, if they do.
-    fn put_cut(&mut self) {
-        let walk = &self.walk;
-        if let Verdict::Cut { .. } = walk.verdict {
-            self.page.say(
-                "# ends within the burst that line # begins: # of its # beats are there\n",
-                &[
-                    Letter(walk.letter),
-                    Number(walk.first_line),
-                    Number(walk.index as u64),
-                    Number(walk.beats as u64),
-                ],
-            );
-        }
-    }
-
     /// Writes what is said behind the last line.
     #[inline(never)]
     pub fn end(&mut self) {
         self.end_run();
         for letter in LETTERS {
-            self.turn_to(*letter);
-            self.put_cut();
+            self.course.turn_to(*letter);
+            self.course.put_cut(&mut self.page);
         }
+        self.page.lacks_a_piece |= self.course.lacks_a_stop;
     }
 
     /// All that was told.

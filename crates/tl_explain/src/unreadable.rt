@@ -1,12 +1,12 @@
 //! A text that is no trace: its first faulty line, the place of the fault, and what was expected.
 use crate::letters::form_of;
 use crate::likeness::{header_page, is_trace, put_length};
-use crate::places::{put_expected, put_field, put_found, put_no_channel, put_no_header};
+use crate::places::{put_expected, put_no_channel, put_no_header, put_range};
 use arrayvec::ArrayVec;
 use std::alloc::{AllocError, Global};
 use tl_lanes::WIDEST_POWER;
 use tl_remarks::Page;
-use tl_remarks::Piece::{Letter, Number, Text};
+use tl_remarks::Piece::{Number, Text};
 use tl_trace::{Header, LONGEST_LINE, TraceFault, TraceKind, header_of_text, line_end};
 
 /// How many bytes of a line are shown: as many as a line of a trace can have, so that the place of a
@@ -18,13 +18,6 @@ const WIDTHS: u32 = WIDEST_POWER + 1;
 
 /// The digits of a line.
 const DIGITS: &[u8; 16] = b"0123456789abcdef";
-
-/// What is expected of line 1.
-const HEADER: &str =
-    "expected the header 'tilelink-trace V client C manager M', where V is the version, 1 or 2, and C and M are bytes, each 1, 2, 4, 8, 16, 32, 64 or, in version 2, 128";
-
-/// What is expected at the end of the last line.
-const NO_END: &str = "the line has to end with a newline (LF)";
 
 /// The line of this number, without its LF.
 fn line_at(text: &[u8], number: u64) -> &[u8] {
@@ -46,13 +39,14 @@ struct Trial {
 }
 
 impl Trial {
-    /// The trace of this header whose line is of this form, with its LF.
+    /// The trace of this header whose line is of this form.
     fn new(alloc: Global, header: &[u8], form: &[u8]) -> Trial {
         let mut trace = Page::new(alloc, false);
         trace.put_bytes(header);
         trace.put_bytes(b"\n");
         let start = trace.len();
         trace.put_bytes(form);
+        trace.put_bytes(b"\n");
         Trial { trace, start }
     }
 
@@ -85,11 +79,6 @@ impl Trial {
         }
         largest
     }
-}
-
-/// A form without its LF.
-fn line_in(form: &ArrayVec<u8, LONGEST_LINE>) -> &[u8] {
-    form.as_slice().trim_ascii_end()
 }
 
 /// How many first bytes a line has in common with a text.
@@ -126,10 +115,10 @@ fn header_place(out: &mut Page, alloc: Global, line: &[u8]) -> usize {
 fn put_shown(out: &mut Page, line: &[u8]) {
     out.put_text("    ");
     for byte in line.get(..SHOWN).unwrap_or(line) {
-        out.put(Letter(match *byte {
-            32..=126 => *byte,
+        out.put_bytes(&[match *byte {
+            b' '..=b'~' => *byte,
             _ => b'?',
-        }));
+        }]);
     }
     out.put_text("\n");
 }
@@ -145,55 +134,50 @@ fn put_marked(out: &mut Page, line: &[u8], at: usize) {
     out.put_text("^\n");
 }
 
-/// Writes what was expected of a line that has no form, and below it the line with a mark.
-fn put_formless(out: &mut Page, alloc: Global, line: &[u8], kind: TraceKind) {
-    let at = match kind {
-        TraceKind::NoEnd => {
-            out.put_text(NO_END);
-            line.len()
-        }
-        TraceKind::Channel => {
-            put_no_channel(out, line);
-            0
-        }
-        _ => {
-            out.put_text(HEADER);
-            put_no_header(out, line);
-            header_place(out, alloc, line)
-        }
-    };
-    put_marked(out, line, at);
+/// The first place at which a line is none of this form, and the largest digit that may stand there.
+fn bad_place(out: &mut Page, alloc: Global, text: &[u8], line: &[u8], form: &[u8]) -> (usize, u8) {
+    let mut trial = Trial::new(alloc, line_at(text, 1), form);
+    out.lacks_a_piece |= trial.trace.lacks_a_piece;
+    let at = trial.bad_place(alloc, line, form.len());
+    (at, trial.largest_digit(alloc, at))
 }
 
-/// Writes what was expected of a line of this form, with its LF, and below it the line with a mark; then the
-/// form, where the line has another length.
-fn put_formed(
+/// The place of a line's fault, and the largest digit that may stand there. The form is empty where the line has
+/// none.
+fn place_of(
     out: &mut Page,
     alloc: Global,
     text: &[u8],
     line: &[u8],
-    form: &ArrayVec<u8, LONGEST_LINE>,
+    form: &[u8],
     kind: TraceKind,
-) {
-    let (whole, form) = (form.as_slice(), line_in(form));
-    let mut trial = Trial::new(alloc, line_at(text, 1), whole);
-    out.lacks_a_piece |= trial.trace.lacks_a_piece;
-    let at = trial.bad_place(alloc, line, form.len());
+) -> (usize, u8) {
     match kind {
+        TraceKind::Header => (header_place(out, alloc, line), 0),
+        TraceKind::NoEnd if form.is_empty() => (line.len(), 0),
+        _ => bad_place(out, alloc, text, line, form),
+    }
+}
+
+/// Writes what was expected of a line of this form, and gives the place of its fault.
+fn put_fault(
+    out: &mut Page,
+    alloc: Global,
+    text: &[u8],
+    line: &[u8],
+    form: &[u8],
+    kind: TraceKind,
+) -> usize {
+    let (at, largest) = place_of(out, alloc, text, line, form, kind);
+    match kind {
+        TraceKind::Header => put_no_header(out, line),
+        TraceKind::Channel => put_no_channel(out, line),
         TraceKind::Length => put_length(out, alloc, text, line, form, at),
-        TraceKind::Range => {
-            let largest = trial.largest_digit(alloc, at);
-            out.say("expected a digit from 0 to #", &[Letter(largest)]);
-            put_field(out, form, at);
-            put_found(out, line, at);
-        }
-        TraceKind::NoEnd => out.put_text(NO_END),
+        TraceKind::Range => put_range(out, line, form, at, largest),
+        TraceKind::NoEnd => out.put_text("the line has to end with a newline (LF)"),
         _ => put_expected(out, line, form, at),
     }
-    put_marked(out, line, at);
-    if let TraceKind::Length = kind {
-        put_shown(out, form);
-    }
+    at
 }
 
 /// The form of a line's channel, where the line is not the first one and its channel is known.
@@ -209,16 +193,17 @@ fn form_at(text: &[u8], number: u64, line: &[u8]) -> ArrayVec<u8, LONGEST_LINE> 
 pub fn show_fault(alloc: Global, text: &[u8], fault: &TraceFault) -> Result<Vec<u8>, AllocError> {
     let line = line_at(text, fault.line);
     let form = form_at(text, fault.line, line);
+    let form = form.as_slice().trim_ascii_end();
     let mut out = Page::new(alloc, false);
     let number = fault.number() as u64;
     out.say(
         "line #: # #: ",
         &[Number(fault.line), Number(number), Text(fault.name())],
     );
-    if form.is_empty() {
-        put_formless(&mut out, alloc, line, fault.kind);
-    } else {
-        put_formed(&mut out, alloc, text, line, &form, fault.kind);
+    let at = put_fault(&mut out, alloc, text, line, form, fault.kind);
+    put_marked(&mut out, line, at);
+    if let TraceKind::Length = fault.kind {
+        put_shown(&mut out, form);
     }
     out.into_text()
 }

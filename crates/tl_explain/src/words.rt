@@ -16,10 +16,19 @@ pub fn source_of(beat: &Seen) -> Piece<'static> {
     Id(beat.source, beat.version)
 }
 
-/// Writes its channel, its message, and the fields by which one knows it: what all beats of a message have
-/// alike.
+/// What is said of a beat that is denied or corrupt.
+fn flags_of(beat: &Seen) -> &'static str {
+    match (beat.denied, beat.corrupt) {
+        (false, false) => "",
+        (true, false) => ", denied",
+        (false, true) => ", corrupt",
+        (true, true) => ", denied, corrupt",
+    }
+}
+
+/// Writes behind a colon its channel, its message, and the fields by which one knows it.
 fn put_head(out: &mut Page, beat: &Seen) {
-    out.put_bytes(&[beat.letter, b' ']);
+    out.put_bytes(&[b':', b' ', beat.letter, b' ']);
     out.put(name_of(beat));
     if beat.letter == b'E' {
         out.put_text(", sink ");
@@ -33,15 +42,10 @@ fn put_head(out: &mut Page, beat: &Seen) {
         out.put_text(" at ");
         out.put_address(beat.address);
     }
-    if beat.denied {
-        out.put_text(", denied");
-    }
 }
 
-/// The same, and whether the beat is corrupt.
+/// The same, and whether the beat is denied or corrupt.
 pub fn put_fields(out: &mut Page, beat: &Seen) {
     put_head(out, beat);
-    if beat.corrupt {
-        out.put_text(", corrupt");
-    }
+    out.put_text(flags_of(beat));
 }
