@@ -1,12 +1,12 @@
 -- What the proofs of this crate name most, of the library and of the definitions, passed on by one module.
 pub use Rattle.std.proofs.Common.{Ok, ◌≡◌, ℕ, Bool, true, false, List, [], ◌∷◌, ◌++◌, length, refl, sym, ap, subst, ◌∙◌, append-nil, arith, ◌≢◌, ◌+◌}
-pub use Rattle.std.proofs.Common.{◌-◌, ◌≤◌, take, drop, Option, None, Some, length-append, length-drop, append_assoc, take-append-drop, ◌<◌, ◌^◌}
+pub use Rattle.std.proofs.Common.{◌-◌, ◌≤◌, take, drop, Option, None, Some, length-append, append_assoc, take-append-drop, ◌<◌, ◌^◌}
 pub use Rattle.std.proofs.Common.{zero-le, if◌then◌else◌, ◌||◌, map, replicate, ◌⊎◌, ◌↔◌, inl, inr, nat_eq, rules, lit<}
 pub use Rattle.std.proofs.KnownBytes.{Appends-trans}
 pub use Rattle.std.proofs.lemmas.Bool.{eqb-true, or_parts}
 pub use Rattle.std.proofs.lemmas.List.{length-take-le}
 pub use Rattle.std.proofs.lemmas.Result.{IfErr-weaker, on_ok_weaker}
-pub use Rattle.std.specs.Io.KnownBytes.{Consumes, IsAtEnd, prepend_known, Appends, Keeps}
+pub use Rattle.std.specs.Io.KnownBytes.{Consumes, IsAtEnd, Appends, Keeps}
 pub use Rattle.std.specs.List.{list_all, list_any}
 pub use Rattle.std.specs.Prelude.{Result, Err, IfOk, IfSome, OnOk, ◌==◌, IfErr, codes, flat_map}
 pub use Rattle.tl_answer.specs.Answer.{far_header, far_lines, near, taken, report, is_done, answer_of, are_done}
@@ -22,7 +22,7 @@ pub use Rattle.tl_run.proofs.AllOk.{five_ok, four_ok}
 pub use Rattle.tl_run.specs.Scripts.{EndsIn, near_beats, HasShortLists}
 pub use Rattle.tl_run.specs.Streaming.{CanRun, HasRun}
 pub use Rattle.tl_settle.specs.Outcomes.{Beats, far_beats, verdicts}
-pub use Rattle.tl_stream.specs.Inputs.{HasTaken, IsRefused, held, IsFresh, unread_of, most_bytes}
+pub use Rattle.tl_stream.specs.Inputs.{IsRefused, held, IsFresh, unread_of, most_bytes}
 pub use Rattle.tl_stream.specs.Listening.{AreFew}
 pub use Rattle.tl_stream.specs.declared.fault.TextFault.{TextFault}
 pub use Rattle.tl_stream.specs.declared.input.Input.{Input}

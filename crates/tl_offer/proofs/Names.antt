@@ -16,4 +16,3 @@ pub use Rattle.tl_offer.specs.declared.offered.Offered.{Offered}
 pub use Rattle.tl_offer.specs.declared.offered.Offered.TheVariants.{Stopped, Accepted, NotReady}
 pub use Rattle.tl_offer.specs.declared.offered.Stop.TheVariants.{Done, Cut, Refused}
 pub use Rattle.tl_sides.proofs.BridgeSize.{bridge_small, client_small, manager_small}
-pub use Rattle.tl_sides.specs.Bridges.{Bridge, Past}

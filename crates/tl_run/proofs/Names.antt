@@ -1,15 +1,15 @@
 -- What the proofs of this crate name most, of the library and of the definitions, passed on by one module.
 pub use Rattle.std.proofs.Common.{◌≡◌, true, Result, Ok, Err, refl, sym, subst, ◌≢◌, ◌+◌, ◌≤◌, ◌*◌, ◌++◌, ℕ, zero, suc, Bool, false, Option, None}
 pub use Rattle.std.proofs.Common.{Some, List, [], ◌∷◌, length, map, take, drop, get_or, ap, ◌∙◌, arith, append-nil, append_assoc, length-append, ◌↔◌}
-pub use Rattle.std.proofs.Common.{◌<◌, ◌-◌, ◌⊎◌, inl, inr, min, ⊎_elim, ◌^◌, cond, zero-le, ◌&&◌, ◌||◌, rules, lit<, IfSome}
+pub use Rattle.std.proofs.Common.{◌<◌, ◌-◌, ◌⊎◌, inl, inr, min, ⊎_elim, ◌^◌, cond, zero-le, ◌&&◌, ◌||◌, rules, lit<}
 pub use Rattle.std.proofs.lemmas.List.{length-take-le, map-append, length-drop, nil_from_length, length-take}
-pub use Rattle.std.proofs.lemmas.Option.{slice_get_within, get_or_from_slice_get, slice_get_read, slice_get_past}
+pub use Rattle.std.proofs.lemmas.Option.{slice_get_within, get_or_from_slice_get, slice_get_past}
 pub use Rattle.std.specs.Option.{option_map_or}
-pub use Rattle.std.specs.Prelude.{IsOk, OnOk, ◌==◌, slice_get, if◌then◌else◌, slice_index, is_none, IsTrue, OnErr, IfErr, nat_lt, slice_index_or}
-pub use Rattle.std.specs.Prelude.{IfOk, vec_capacity}
+pub use Rattle.std.specs.Prelude.{IsOk, OnOk, ◌==◌, slice_get, if◌then◌else◌, slice_index, is_none, IsTrue, OnErr}
+pub use Rattle.std.specs.Prelude.{vec_capacity}
 pub use Rattle.tl_burst.specs.Begun.{heads, left}
 pub use Rattle.tl_burst.specs.Handing.{IsHanded, fault_after, Handed, rest_of, with_home, homes_with, ends, fault_in, burst_of}
-pub use Rattle.tl_convert.proofs.Comparisons.{equal_true, not_equal, none_past, there_is, true_equal, true_less}
+pub use Rattle.tl_convert.proofs.Comparisons.{equal_true, not_equal, none_past, true_equal}
 pub use Rattle.tl_convert.specs.Accepted.{accepted_of, accepted_after}
 pub use Rattle.tl_convert.specs.Due.{due, far_beats_of, part, due_after}
 pub use Rattle.tl_lanes.specs.Lanes.{IsWidth}
@@ -24,14 +24,14 @@ pub use Rattle.tl_msg.specs.declared.head.HeadD.{HeadD}
 pub use Rattle.tl_msg.specs.declared.verdict.Verdict.{Verdict}
 pub use Rattle.tl_ring.proofs.FieldSizes.{beat_small}
 pub use Rattle.tl_ring.specs.Crossing.{World, offered, shut, inbox_room, empty, pushed, popped}
-pub use Rattle.tl_ring.specs.Pipe.{Pipe, IsReady}
+pub use Rattle.tl_ring.specs.Pipe.{Pipe}
 pub use Rattle.tl_run.specs.Arrivals.{joined, no_beats, Fit}
 pub use Rattle.tl_run.specs.Inner.Arriving.{HasRoom, HaveRoom, beats_of}
 pub use Rattle.tl_run.specs.Inner.Going.{GoesAhead, GoesOn, RestsIn, AreOn, AreStopsOf, HasStopped, IsStopOf, all_counts, all_ways}
 pub use Rattle.tl_run.specs.Inner.Going.{stop_by, way_in, IsSound}
 pub use Rattle.tl_run.specs.Inner.Going.{AllRest}
-pub use Rattle.tl_offer.specs.Offering.{Offering, OffersNext, on_bridge_a, on_bridge_b, on_bridge_c, on_bridge_d, on_bridge_e, SameClientEnds}
-pub use Rattle.tl_offer.specs.Offering.{Does, refused_by, steps, SameManagerEnds, offer_outcome, close_outcome, on_side_a, on_side_c, on_side_e, on_side_b, on_side_d}
+pub use Rattle.tl_offer.specs.Offering.{Offering, OffersNext, on_bridge_a, on_bridge_b, on_bridge_c, on_bridge_d, on_bridge_e}
+pub use Rattle.tl_offer.specs.Offering.{Does, refused_by, steps}
 pub use Rattle.tl_run.specs.Inner.Running.{Stops, IsSent, IsHomed, under_way, progress, stop_verdict, IsStopped, emptied, AreStopped}
 pub use Rattle.tl_run.specs.Inner.Running.{IsNew, IsUnderWay, counted, all_progress, all_under_way, standing_count, all_standing, all_stopped}
 pub use Rattle.tl_run.specs.Inner.Running.{IsRunning, CanAdd, HaveRoomToCount, arriving, inboxes, lengths, IsAt, AllStop, HasRound, HasEnded}
@@ -46,7 +46,7 @@ pub use Rattle.tl_settle.specs.Histories.{Ask, Answer, client_answer, manager_an
 pub use Rattle.tl_settle.specs.Outcomes.{verdict_of, far_alone, verdict_alone, Beats, far_beats, verdicts, verdict_a, verdict_d}
 pub use Rattle.tl_settle.specs.Rounds.{round, client_rests, manager_rests, Run, ClientMoves, ManagerMoves, client_takes, client_accepts}
 pub use Rattle.tl_settle.specs.Rounds.{manager_takes, manager_accepts, IsOver, IsSettledRun}
-pub use Rattle.tl_sides.proofs.BridgeSize.{bridge_small, client_small, manager_small}
+pub use Rattle.tl_sides.proofs.BridgeSize.{bridge_small}
 pub use Rattle.tl_sides.specs.Bridges.{Bridge, Past, StandsFor, IsStanding, nothing_yet, fetch_count, pump_count, after_fetch, after_pump}
 pub use Rattle.tl_sides.specs.ChannelCalls.{again_count, out_count, passed_on}
 pub use Rattle.tl_sides.specs.Crossings.{stops_alone}

@@ -1,7 +1,7 @@
 //! The run of a script over a bridge in one thread: of a whole one (`run_sync`), and of one that comes
 //! piece by piece (`SyncRun`). And what they share with the run in two threads, which `tl_bridge` has:
-//! where far beats go, what becomes of a channel's next beat, where a run ends, and what comes of it.
-//! Callers of a bridge need `tl_bridge` alone, which gives the names of these runs, too.
+//! where far beats go, where a run ends, and what comes of it; what becomes of a channel's next beat is in
+//! `tl_offer`. Callers of a bridge need `tl_bridge` alone, which gives the names of these runs, too.
 #![tactic(auto)]
 
 // A private function has one `requires`, since the checker states each clause by itself at each call. So

@@ -11,14 +11,14 @@ pub use Rattle.std.specs.List.{list_all, slice_range, copy_within, filter_map, c
 pub use Rattle.std.specs.Prelude.{Result, Err, IfOk, IfSome, IsErrOf, IfErr}
 pub use Rattle.tl_lanes.proofs.Widths.{width_bounds}
 pub use Rattle.tl_lanes.specs.Lanes.{IsWidth}
-pub use Rattle.tl_stream.specs.Inner.Lines.{HasReadHeld, HasUsedHeader, IsBetweenPast, IsReading, IsBetween}
+pub use Rattle.tl_stream.specs.Inner.Lines.{HasReadHeld, HasUsedHeader, IsBetweenPast, IsReading}
 pub use Rattle.tl_stream.specs.Inputs.{HasTaken, IsRefused, held, IsFresh, ReadsScript, unread_of, most_bytes}
 pub use Rattle.tl_stream.specs.Listening.{IsNew, IsReadThrough, AreFew}
 pub use Rattle.tl_stream.specs.declared.fault.TextFault.{TextFault}
 pub use Rattle.tl_stream.specs.declared.input.Input.{Input}
 pub use Rattle.tl_trace.specs.Faults.{IsFirstFault, is_newline, header_of, HasHeader}
-pub use Rattle.tl_trace.specs.Scripts.{IsScriptOf, Gone, HasReadPast, more_gone, beat_of_a, beat_of_b, beat_of_c, beat_of_d, beat_of_e, IsRestOf}
-pub use Rattle.tl_trace.specs.Scripts.{none_gone, HasGrown, HasLetGo, HasRead, IsHeaderLine, IsUnfinished}
+pub use Rattle.tl_trace.specs.Scripts.{Gone, HasReadPast, more_gone, beat_of_a, beat_of_b, beat_of_c, beat_of_d, beat_of_e, IsRestOf}
+pub use Rattle.tl_trace.specs.Scripts.{none_gone, HasGrown, HasRead, IsHeaderLine, IsUnfinished}
 pub use Rattle.tl_trace.specs.Texts.{Tells, TellsLines, newline, header_text, versions, widths, is_version, is_width}
 pub use Rattle.tl_trace.specs.declared.header.Header.{Header}
 pub use Rattle.tl_trace.specs.declared.line.Line.{Line}

@@ -19,7 +19,7 @@ use Rattle.tl_run.specs.Parts.{ArePart}
 use Rattle.tl_run.specs.Inner.Running.{IsAt, all_under_way, lengths}
 use Rattle.tl_offer.specs.Offering.{refused_by}
 use Rattle.tl_offer.specs.declared.offered.Offered.{Offered}
-use Rattle.tl_offer.specs.declared.offered.Offered.TheVariants.{Accepted, NotReady, Stopped}
+use Rattle.tl_offer.specs.declared.offered.Offered.TheVariants.{Accepted}
 use Rattle.tl_offer.specs.declared.offered.Stop.{Stop}
 use Rattle.tl_offer.specs.declared.offered.Stop.TheVariants.{Done, Cut, Refused}
 

@@ -1,5 +1,5 @@
 -- What each channel of a run does within a round. Only contracts within the two runs cite these words.
-use Rattle.std.specs.Prelude.{◌≡◌, ◌≢◌, ◌+◌, ◌≤◌, ◌<◌, ◌^◌, ◌⊎◌, ◌++◌, ℕ, true, Option, None, Some, List, [], ◌∷◌, length, map, take, drop, slice_get}
+use Rattle.std.specs.Prelude.{◌≡◌, ◌≢◌, ◌+◌, ◌≤◌, ◌<◌, ◌^◌, ◌⊎◌, ◌++◌, ℕ, true, Option, None, Some, List, [], length, map, take, drop, slice_get}
 use Rattle.tl_msg.specs.Rules.{Rules}
 use Rattle.tl_msg.specs.Tables.{rules_a, rules_b, rules_c, rules_d, rules_e}
 use Rattle.tl_msg.specs.declared.head.HeadA.{HeadA}
@@ -15,7 +15,7 @@ use Rattle.tl_msg.specs.declared.verdict.Verdict.TheVariants as ending
 use Rattle.tl_burst.specs.Begun.{heads}
 use Rattle.tl_burst.specs.Handing.{rest_of}
 use Rattle.tl_convert.specs.Accepted.{accepted_of, accepted_after}
-use Rattle.tl_ring.specs.Crossing.{World, offered, shut}
+use Rattle.tl_ring.specs.Crossing.{World}
 use Rattle.tl_ring.specs.declared.standing.Standing.{Standing}
 use Rattle.tl_settle.specs.Histories.{Ask, Answer, client_answer, manager_answer, manager_home}
 use Rattle.tl_settle.specs.Rounds.{Run}
