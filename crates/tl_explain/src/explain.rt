@@ -104,8 +104,8 @@ fn walks_of(verdicts: &[Verdict; 5], c: usize, m: usize) -> [Walk; 5] {
     ]
 }
 
-/// What is told of a text that tells this script, of which no line is told yet. It has the memory that telling
-/// takes.
+/// What is told of a text that tells this script, of which no line is told yet. Where beats are not drawn, it has
+/// the memory that telling takes.
 #[inline(never)]
 fn story_of<const C: usize, const M: usize>(
     alloc: Global,
@@ -191,7 +191,7 @@ struct Begun {
 }
 
 /// What is told of a text of this version that tells this script, of which no line is told yet, and the answer.
-/// Whatever lacks memory does so here.
+/// Whatever lacks memory does so here, or, where beats are drawn, before anything is written.
 #[inline(never)]
 fn begin<const C: usize, const M: usize>(
     alloc: Global,

@@ -47,7 +47,7 @@ pub struct Story {
     pub run: Run,
     /// What the sentences on the beats of a message have alike, for each channel.
     pub alike: Vec<Alike>,
-    /// The lines of its beat, or of the far beats that this one completed.
+    /// The line of the beat that is told, or those of the far beats that it completed.
     pub lines: Vec<u8>,
     /// The beats that are drawn, and, where they are, what is noted of the lines that are shown, and for
     /// each line whether a message begins in it that was accepted.

@@ -19,7 +19,7 @@ fn number_in(text: &str) -> (u64, usize) {
         if digit > 9 {
             return (number, at);
         }
-        number = number.wrapping_mul(10).wrapping_add(digit as u64);
+        number = number.saturating_mul(10).saturating_add(digit as u64);
     }
     (number, bytes.len())
 }

@@ -22,9 +22,4 @@ impl Cursor {
     pub fn line(&self) -> u64 {
         (self.lines as u64).saturating_add(1)
     }
-
-    /// The place of that line among those from line 2 on.
-    pub fn place(&self) -> usize {
-        self.lines.wrapping_sub(1)
-    }
 }
