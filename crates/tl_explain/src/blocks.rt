@@ -5,7 +5,7 @@ ghost use Rattle.tl_explain.specs.Inner.Telling.{Continues};
 
 use crate::alike::Alike;
 use crate::story::{LETTERS, Story};
-use std::alloc::{AllocError, Global};
+use std::alloc::Global;
 use std::io::Write;
 use tl_answer::{TextFault, write_all};
 use tl_lanes::WIDEST;
@@ -36,18 +36,18 @@ fn write_page<W: Write>(page: &mut Page, writer: &mut W) -> Result<(), TextFault
 impl Story {
     /// Takes the memory that telling needs, so that it takes no more where beats are not drawn.
     #[inline(never)]
-    pub fn make_room(&mut self, alloc: Global) -> Result<(), AllocError> {
+    pub fn make_room(&mut self, alloc: Global) {
         for _ in LETTERS {
-            self.alike.push(Alike::new(alloc))?;
+            self.page.lacks_a_piece |= self.alike.push(Alike::new(alloc)).is_err();
         }
         if self.drawing.is_wanted {
-            return Ok(());
+            return;
         }
         let page = self.page.text.reserve(ROOM);
         let lines = self.lines.reserve(FAR_ROOM);
         // (a channel stops once)
         let stops = self.course.stops.reserve(LETTERS.len());
-        page.and(lines).and(stops)
+        self.page.lacks_a_piece |= page.and(lines).and(stops).is_err();
     }
 
     /// Whether there is a block of sentences none of which may be taken back.

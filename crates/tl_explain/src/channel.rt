@@ -64,10 +64,17 @@ fn keep_lines<K: Told, const W: usize>(story: &mut Story, beats: &[Beat<K, W>]) 
     story.page.lacks_a_piece |= !are_kept;
 }
 
-/// Writes the lines of far beats, each behind four blanks, with their lanes where these are shown; or draws
-/// the beats.
-#[inline(never)]
-fn put_several<K: Told, const V: usize>(story: &mut Story, far: &[Beat<K, V>]) {
+/// Writes far beats, where they are shown, each behind four blanks, with their lanes where these are shown; or draws
+/// them. The line of a single one is not copied.
+fn put_far<K: Told, const V: usize>(story: &mut Story, far: &[Beat<K, V>]) {
+    if far.is_empty() | !story.shows_far() {
+        return;
+    }
+    if (far.len() == 1) & !story.shows_far_lanes() {
+        story.page.put_text("    ");
+        story.page.lacks_a_piece |= !write_lines::<K, V>(&mut story.page.text, far, story.version);
+        return;
+    }
     keep_lines::<K, V>(story, far);
     // all lines of a channel are of one length
     let length = story.lines.len() / far.len().max(1);
@@ -78,18 +85,6 @@ fn put_several<K: Told, const V: usize>(story: &mut Story, far: &[Beat<K, V>]) {
             story.put_far_lanes(number, length, &seen, &far[number].lanes);
         }
     }
-}
-
-/// Writes far beats, where they are shown: one whose lanes are not without a copy of its line.
-fn put_far<K: Told, const V: usize>(story: &mut Story, far: &[Beat<K, V>]) {
-    if far.is_empty() | !story.shows_far() {
-        return;
-    }
-    if story.shows_far_lanes() | (far.len() > 1) {
-        return put_several::<K, V>(story, far);
-    }
-    story.page.put_text("    ");
-    story.page.lacks_a_piece |= !write_lines::<K, V>(&mut story.page.text, far, story.version);
 }
 
 /// Writes what came of the next near beat, or draws it, and says whether it was accepted.

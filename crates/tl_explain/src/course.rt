@@ -8,6 +8,7 @@ use crate::walk::Walk;
 use std::alloc::Global;
 use tl_msg::Verdict;
 use tl_remarks::Seen;
+use tl_trace::Header;
 
 /// What came of a near beat.
 #[derive(Clone, Copy)]
@@ -20,7 +21,7 @@ pub struct Came {
 /// How far the lines of a text have come.
 #[derive(Drop)]
 pub struct Course {
-    /// The requests that A sends, of which those are open that no line has answered yet.
+    /// The requests of A, and the responses to them.
     pub requests: Requests,
     /// Where channels stopped, in the order of lines, and whether memory was there for all of it.
     pub stops: Vec<Stop>,
@@ -35,14 +36,27 @@ pub struct Course {
 }
 
 impl Course {
-    /// That before line 2, where the channels have these walks before them, from A to E.
-    pub fn new(alloc: Global, requests: Requests, walks: [Walk; 5]) -> Course {
+    /// That before line 2 of a text with this header, whose channels end in these verdicts, from A to E.
+    pub fn new(
+        alloc: Global,
+        header: &Header,
+        verdicts: &[Verdict; 5],
+        requests: Requests,
+    ) -> Course {
+        let [on_a, on_b, on_c, on_d, on_e] = verdicts;
+        let (c, m) = (header.client, header.manager);
         Course {
             requests,
             stops: Vec::new(alloc),
             lacks_a_stop: false,
+            walks: [
+                Walk::new(b'A', on_a, c, m),
+                Walk::new(b'B', on_b, m, c),
+                Walk::new(b'C', on_c, c, m),
+                Walk::new(b'D', on_d, m, c),
+                Walk::new(b'E', on_e, c, 1),
+            ],
             walk: Walk::new(b' ', &Verdict::Done { near: 0, far: 0 }, 1, 1),
-            walks,
             line: 1,
             count: Count::one(),
         }
@@ -89,28 +103,16 @@ impl Course {
         None
     }
 
-    /// Counts the request as answered that an accepted beat answers, if it begins a response to one, and
-    /// gives the line of that request, else 0.
-    fn answer(&mut self, beat: &Seen) -> u64 {
-        if self.walk.brought.beat != 1 || !beat.answers_request() {
-            return 0;
-        }
-        match self.requests.answer(beat.source) {
-            Some(request) => {
-                self.walk.home = request.address;
-                request.line
-            }
-            None => 0,
-        }
-    }
-
     /// Goes on by the channel's next near beat, and says what came of it.
     pub fn go_on(&mut self, beat: &Seen) -> Came {
         let fate = self.walk.fate();
         let mut answers = 0;
         if let Fate::Accepted = fate {
             self.walk.accept(beat, self.line);
-            answers = self.answer(beat);
+            if let Some(request) = self.requests.answered_in(self.line) {
+                self.walk.home = request.address;
+                answers = request.line;
+            }
         } else if let Some(how) = fate.how() {
             self.stop(how);
         }

@@ -25,16 +25,16 @@ pub struct Drawn {
 #[derive(Drop)]
 pub struct Drawing {
     /// Whether beats are drawn at all.
-    pub is_wanted: bool,
-    beats: Vec<Drawn>,
+    pub(crate) is_wanted: bool,
+    pub(crate) beats: Vec<Drawn>,
     /// The lanes of each beat, and behind them its line.
     bytes: Vec<u8>,
-    pub lacks_a_piece: bool,
+    pub(crate) lacks_a_piece: bool,
 }
 
 impl Drawing {
     /// No beats.
-    pub fn new(alloc: Global, is_wanted: bool) -> Drawing {
+    pub(crate) fn new(alloc: Global, is_wanted: bool) -> Drawing {
         Drawing {
             is_wanted,
             beats: Vec::new(alloc),
@@ -44,12 +44,12 @@ impl Drawing {
     }
 
     /// How many beats there are.
-    pub fn len(&self) -> usize {
+    pub(crate) fn len(&self) -> usize {
         self.beats.len()
     }
 
     /// Adds a beat with these lanes and this line, which ends with an LF.
-    pub fn add(&mut self, drawn: &Drawn, lanes: &[u8], line: &[u8]) {
+    pub(crate) fn add(&mut self, drawn: &Drawn, lanes: &[u8], line: &[u8]) {
         let lanes_from = self.bytes.len();
         let has_lanes = self.bytes.extend_from_slice(lanes).is_ok();
         let line_from = self.bytes.len();
@@ -65,7 +65,7 @@ impl Drawing {
     }
 
     /// The near beat at this place, and the far beats that it completed.
-    pub fn beats(&self, at: usize) -> &[Drawn] {
+    pub fn beats_at(&self, at: usize) -> &[Drawn] {
         let rest = self.beats.get(at..).unwrap_or(&[]);
         for end in 1..rest.len() {
             if !rest[end].is_far {

@@ -10,25 +10,23 @@ ghost use Rattle.tl_answer.specs.Texts.{IsAnswer};
 ghost use Rattle.tl_stream.specs.Inputs.{most_bytes};
 ghost use Rattle.tl_stream.specs.declared.fault.TextFault.TheVariants.{OutOfMemory as NoMemory, Write as WriteFault};
 ghost use Rattle.tl_explain.specs.Explained.{Explains, IsUntold};
-ghost use Rattle.tl_explain.specs.Inner.Telling.{Continues};
+ghost use Rattle.tl_explain.specs.Inner.Telling.{Continues, Tells};
 
 use crate::channel::tell;
-use crate::course::Course;
 use crate::held::{held_of, waiting_source};
 use crate::letters::letters_of;
 use crate::look::Look;
-use crate::requests::Requests;
-use crate::story::{Story, Told};
-use crate::walk::Walk;
+use crate::requests::HeldPair;
+use crate::story::Story;
 use arrayvec::ArrayVec;
-use std::alloc::{AllocError, Global};
+use std::alloc::Global;
 use std::io::Write;
 use tl_answer::{Answer, TextFault, at_width, check_of, write_all};
 use tl_check::verdicts_of;
 use tl_convert::Converter;
 use tl_lanes::WIDEST;
 use tl_msg::{Beat, ChA, ChB, ChC, ChD, ChE, Verdict};
-use tl_remarks::{Wanted, notes_of};
+use tl_remarks::notes_of;
 use tl_trace::{Header, Script, TraceFault, TraceKind, header_of_text, read_script};
 
 /// Tells what came of the beats of a script, and writes it block by block, but nothing of it for a page. Each
@@ -70,42 +68,26 @@ fn tell_all<W: Write, const C: usize, const M: usize>(
     story.write_rest(is_page, writer)
 }
 
-/// The requests of A, none of which is answered yet, and what the beats wait for that wait on A and on D.
+/// What the beats wait for that wait on D and on A.
 #[inline(never)]
-fn requests_of<const C: usize, const M: usize>(
-    alloc: Global,
+fn held_in<const C: usize, const M: usize>(
     letters: &[u8],
     script: &Script<C, M>,
     verdicts: &[Verdict; 5],
-) -> Result<Requests, AllocError>
+) -> HeldPair
     requires { IsWidth C × IsWidth M }
 {
-    let mut requests = Requests::new(alloc)?;
     let [on_a, _, _, on_d, _] = verdicts;
     let busy = waiting_source::<ChA, C>(on_a, &script.a);
     let missing = waiting_source::<ChD, M>(on_d, &script.d);
-    requests.held_response = held_of::<ChD, M>(letters, b'D', on_d, &script.d, busy);
-    requests.held_request = held_of::<ChA, C>(letters, b'A', on_a, &script.a, missing);
-    requests.add_all::<C>(letters, on_a, &script.a)?;
-    Ok(requests)
-}
-
-/// The walks of channels that end in these verdicts, from A to E, between a client of `c` bytes and a
-/// manager of `m`.
-#[inline(never)]
-fn walks_of(verdicts: &[Verdict; 5], c: usize, m: usize) -> [Walk; 5] {
-    let [on_a, on_b, on_c, on_d, on_e] = verdicts;
-    [
-        Walk::new(b'A', on_a, c, m),
-        Walk::new(b'B', on_b, m, c),
-        Walk::new(b'C', on_c, c, m),
-        Walk::new(b'D', on_d, m, c),
-        Walk::new(b'E', on_e, c, 1),
-    ]
+    HeldPair {
+        request: held_of::<ChA, C>(letters, b'A', on_a, &script.a, missing),
+        response: held_of::<ChD, M>(letters, b'D', on_d, &script.d, busy),
+    }
 }
 
 /// What is told of a text that tells this script, of which no line is told yet. Where beats are not drawn, it has
-/// the memory that telling takes.
+/// the memory that telling takes, or lacks a piece.
 #[inline(never)]
 fn story_of<const C: usize, const M: usize>(
     alloc: Global,
@@ -114,7 +96,7 @@ fn story_of<const C: usize, const M: usize>(
     verdicts: &[Verdict; 5],
     version: u8,
     look: &Look,
-) -> Result<Story, AllocError>
+) -> Story
     requires { IsWidth C × IsWidth M }
 {
     let header = Header {
@@ -122,17 +104,10 @@ fn story_of<const C: usize, const M: usize>(
         client: C,
         manager: M,
     };
-    let wanted = Wanted {
-        remarks: look.remarks,
-        pairs: look.page,
-    };
-    let letters = letters_of(alloc, text, &header)?;
-    let noted = notes_of::<C, M>(alloc, &letters, script, verdicts, wanted)?;
-    let requests = requests_of::<C, M>(alloc, &letters, script, verdicts)?;
-    let course = Course::new(alloc, requests, walks_of(verdicts, C, M));
-    let mut story = Story::new(alloc, version, look, letters, course, noted);
-    story.make_room(alloc)?;
-    Ok(story)
+    let letters = letters_of(alloc, text, &header);
+    let noted = notes_of::<C, M>(alloc, &letters.text, script, verdicts, look.remarks);
+    let held = held_in::<C, M>(&letters.text, script, verdicts);
+    Story::new(alloc, &header, look, verdicts, letters, noted, held)
 }
 
 /// The verdicts on the channels of a script, from A to E, and the answer of a check to it.
@@ -183,15 +158,15 @@ fn answer_to<const C: usize, const M: usize>(
     with_answer(alloc, verdicts, version, C, M)
 }
 
-/// What is told of a text, and the answer of a check to it.
+/// What is told of a text, as far as it is not written yet, and the answer of a check to it.
 #[derive(Drop)]
-struct Begun {
-    story: Story,
-    answer: Answer,
+pub struct Telling {
+    pub story: Story,
+    pub answer: Answer,
 }
 
-/// What is told of a text of this version that tells this script, of which no line is told yet, and the answer.
-/// Whatever lacks memory does so here, or, where beats are drawn, before anything is written.
+/// That of a text of this version that tells this script, of which no line is told yet. Whatever lacks memory does
+/// so here, or, where beats are drawn, before anything is written.
 #[inline(never)]
 fn begin<const C: usize, const M: usize>(
     alloc: Global,
@@ -199,7 +174,7 @@ fn begin<const C: usize, const M: usize>(
     script: &Script<C, M>,
     version: u8,
     look: &Look,
-) -> Result<Begun, TextFault>
+) -> Result<Telling, TextFault>
     requires { IsWidth C × IsWidth M × (length text.now ≤ most_bytes) ×
         TellsScript version text.now script.now }
     ensures ok { IfOk result (λ made.
@@ -207,17 +182,11 @@ fn begin<const C: usize, const M: usize>(
     ensures err { IfErr result (λ fault. fault ≡ NoMemory) }
 {
     let Checked { verdicts, answer } = answer_to::<C, M>(alloc, text, script, version)?;
-    match story_of::<C, M>(alloc, text, script, &verdicts, version, look) {
-        Ok(story) => Ok(Begun { story, answer }),
-        Err(_) => Err(TextFault::OutOfMemory),
+    let story = story_of::<C, M>(alloc, text, script, &verdicts, version, look);
+    if story.page.lacks_a_piece {
+        return Err(TextFault::OutOfMemory);
     }
-}
-
-/// What was told of a text, as far as it is not written yet, and the answer of a check to it.
-#[derive(Drop)]
-pub struct Telling {
-    pub told: Told,
-    pub answer: Answer,
+    Ok(Telling { story, answer })
 }
 
 /// Tells a text of this version that tells this script.
@@ -232,17 +201,11 @@ fn with_script<W: Write, const C: usize, const M: usize>(
 ) -> Result<Telling, TextFault>
     requires { IsWidth C × IsWidth M × (length text.now ≤ most_bytes) ×
         TellsScript version text.now script.now }
-    ensures ok { IfOk result (λ made.
-        IsAnswer text.now true made.answer.text.items made.answer.all_done) }
-    ensures out { OnOk result
-        (Continues look.now.page (W.contents writer.old) (W.contents writer.new)) }
-    ensures err { IfErr result
-        (IsUntold look.now.page text.now (W.contents writer.old) (W.contents writer.new)) }
+    ensures { Tells look.now.page text.now (W.contents writer.old) (W.contents writer.new) result }
 {
-    let Begun { mut story, answer } = begin::<C, M>(alloc, text, script, version, look)?;
-    tell_all::<W, C, M>(&mut story, script, look.page, writer)?;
-    let told = story.told();
-    Ok(Telling { told, answer })
+    let mut telling = begin::<C, M>(alloc, text, script, version, look)?;
+    tell_all::<W, C, M>(&mut telling.story, script, look.page, writer)?;
+    Ok(telling)
 }
 
 /// Tells a text whose header names this version and these widths.
@@ -255,12 +218,7 @@ fn with_widths<W: Write, const C: usize, const M: usize>(
     writer: &mut W,
 ) -> Result<Telling, TextFault>
     requires { HasHeader text.now version C M × (length text.now ≤ most_bytes) }
-    ensures ok { IfOk result (λ made.
-        IsAnswer text.now true made.answer.text.items made.answer.all_done) }
-    ensures out { OnOk result
-        (Continues look.now.page (W.contents writer.old) (W.contents writer.new)) }
-    ensures err { IfErr result
-        (IsUntold look.now.page text.now (W.contents writer.old) (W.contents writer.new)) }
+    ensures { Tells look.now.page text.now (W.contents writer.old) (W.contents writer.new) result }
 {
     let script = read_script::<C, M>(alloc, text, version)?;
     let telling = with_script::<W, C, M>(alloc, text, &script, version, look, writer);
@@ -278,12 +236,7 @@ fn with_client<W: Write, const C: usize>(
     writer: &mut W,
 ) -> Result<Telling, TextFault>
     requires { HasHeader text.now version C manager × (length text.now ≤ most_bytes) }
-    ensures ok { IfOk result (λ made.
-        IsAnswer text.now true made.answer.text.items made.answer.all_done) }
-    ensures out { OnOk result
-        (Continues look.now.page (W.contents writer.old) (W.contents writer.new)) }
-    ensures err { IfErr result
-        (IsUntold look.now.page text.now (W.contents writer.old) (W.contents writer.new)) }
+    ensures { Tells look.now.page text.now (W.contents writer.old) (W.contents writer.new) result }
 {
     at_width!(
         manager,
@@ -302,12 +255,7 @@ pub fn telling_of<W: Write>(
     writer: &mut W,
 ) -> Result<Telling, TextFault>
     requires few { length text.now ≤ most_bytes }
-    ensures ok { IfOk result (λ made.
-        IsAnswer text.now true made.answer.text.items made.answer.all_done) }
-    ensures out { OnOk result
-        (Continues look.now.page (W.contents writer.old) (W.contents writer.new)) }
-    ensures err { IfErr result
-        (IsUntold look.now.page text.now (W.contents writer.old) (W.contents writer.new)) }
+    ensures { Tells look.now.page text.now (W.contents writer.old) (W.contents writer.new) result }
 {
     let Some(header) = header_of_text(text) else {
         return Err(TextFault::from(TraceFault {

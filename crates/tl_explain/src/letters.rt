@@ -1,10 +1,12 @@
 //! The lines of a trace by their letters.
 ghost use Rattle.tl_lanes.specs.Lanes.{IsWidth};
 
+use crate::story::place;
 use arrayvec::ArrayVec;
-use std::alloc::{AllocError, Global};
+use std::alloc::Global;
 use tl_answer::at_width;
 use tl_msg::{ChA, ChB, ChC, ChD, ChE};
+use tl_remarks::Page;
 use tl_trace::{Header, LONGEST_LINE, line_end, line_of};
 
 /// The line with this letter of a beat in which all is 0, on `W` lanes, in a trace of this version, with
@@ -36,8 +38,8 @@ fn length_of(letter: u8, header: &Header) -> usize {
     form_of(letter, header).len().max(1)
 }
 
-/// The letters that the lines of a trace with this header begin with, from line 2 on.
-pub fn letters_of(alloc: Global, text: &[u8], header: &Header) -> Result<Vec<u8>, AllocError> {
+/// A page with the letters that the lines of a trace with this header begin with, from line 2 on.
+pub fn letters_of(alloc: Global, text: &[u8], header: &Header) -> Page {
     let lengths = [
         length_of(b'A', header),
         length_of(b'B', header),
@@ -45,15 +47,15 @@ pub fn letters_of(alloc: Global, text: &[u8], header: &Header) -> Result<Vec<u8>
         length_of(b'D', header),
         length_of(b'E', header),
     ];
-    let mut letters = Vec::new(alloc);
+    let mut letters = Page::new(alloc, false);
     let mut at = line_end(text, 0).saturating_add(1);
     for _ in 0..text.len() {
         let Some(letter) = text.get(at) else {
             break;
         };
-        letters.push(*letter)?;
-        let length = lengths.get(letter.wrapping_sub(b'A') as usize);
+        letters.put_bytes(&[*letter]);
+        let length = lengths.get(place(*letter));
         at = at.saturating_add(length.copied().unwrap_or(1));
     }
-    Ok(letters)
+    letters
 }

@@ -29,7 +29,7 @@ mod unreadable;
 mod walk;
 mod words;
 
-pub use drawing::Drawn;
+pub use drawing::{Drawing, Drawn};
 pub use explain::explain_to;
 pub use look::{Choice, Look};
 pub use meanings::{FAULTS, meaning};

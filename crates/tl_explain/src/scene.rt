@@ -5,16 +5,15 @@ ghost use Rattle.tl_answer.specs.Texts.{IsAnswer};
 ghost use Rattle.tl_stream.specs.Inputs.{most_bytes};
 ghost use Rattle.tl_explain.specs.Explained.{IsUntold};
 
-use crate::drawing::Drawn;
+use crate::drawing::{Drawing, Drawn};
 use crate::explain::{Telling, telling_of};
 use crate::look::Look;
-use crate::picture::Picture;
 use crate::shown::Item;
-use crate::story::Told;
+use crate::story::Story;
 use std::alloc::{AllocError, Global};
 use std::io::Write;
 use tl_answer::{Answer, TextFault};
-use tl_remarks::Pair;
+use tl_remarks::{Exchange, Page};
 
 /// A line of a trace as to which messages belong together.
 #[derive(Clone, Copy, Default)]
@@ -31,7 +30,11 @@ pub struct Ties {
 /// What a page shows of a trace.
 #[derive(Drop)]
 pub struct Scene {
-    told: Told,
+    /// What is said of the lines that are shown, and where of each of them, in their order.
+    said: Page,
+    pub items: Vec<Item>,
+    /// The beats of all lines.
+    pub drawing: Drawing,
     /// The lines from line 2 on.
     ties: Vec<Ties>,
     /// The answer of a check.
@@ -46,25 +49,34 @@ fn place(line: u64) -> usize {
     (line as usize).wrapping_sub(2)
 }
 
-/// Notes that these messages and answers belong together.
-fn tie(ties: &mut [Ties], pairs: &[Pair]) {
-    for pair in pairs {
-        if let Some(ask) = ties.get_mut(place(pair.ask)) {
-            ask.answered_in = pair.answer;
+/// Notes which messages and answers belong together.
+fn tie(ties: &mut [Ties], exchanges: &[Exchange]) {
+    for exchange in exchanges {
+        if exchange.is_open() {
+            break;
         }
-        if let Some(answer) = ties.get_mut(place(pair.answer)) {
-            answer.asked_in = pair.ask;
+        if let Some(ask) = ties.get_mut(place(exchange.ask.line)) {
+            ask.answered_in = exchange.answer;
+        }
+        if let Some(answer) = ties.get_mut(place(exchange.answer)) {
+            answer.asked_in = exchange.ask.line;
         }
     }
 }
 
-/// Numbers the exchanges, in the order of their first lines.
-fn number_all(ties: &mut [Ties], begins: &[bool]) {
+/// Numbers the exchanges, in the order of their first lines, where these beats are drawn.
+fn number_all(ties: &mut [Ties], beats: &[Drawn]) {
     let mut number = 0u64;
-    for at in 0..ties.len().min(begins.len()) {
-        if begins[at] & (ties[at].asked_in == 0) {
-            number = number.saturating_add(1);
-            ties[at].number = number;
+    for beat in beats {
+        if beat.is_far | (beat.first_byte != 0) {
+            continue;
+        }
+        // (no line is that of the message of a beat that was not accepted)
+        if let Some(first) = ties.get_mut(place(beat.message)) {
+            if first.asked_in == 0 {
+                number = number.saturating_add(1);
+                first.number = number;
+            }
         }
     }
 }
@@ -78,59 +90,37 @@ fn note_shown(ties: &mut [Ties], items: &[Item]) {
     }
 }
 
-impl Told {
-    /// Which messages belong together, for the lines from line 2 on, where memory was there for all that was told.
-    fn ties(&self, alloc: Global) -> Result<Vec<Ties>, AllocError> {
-        if self.page.lacks_a_piece || self.drawing.lacks_a_piece {
-            return Err(AllocError);
-        }
-        let mut ties = vec![in alloc; Ties::default(); self.begins.len()]?;
-        tie(ties.as_mut_slice(), &self.noted.pairs);
-        number_all(ties.as_mut_slice(), &self.begins);
-        note_shown(ties.as_mut_slice(), &self.items);
-        Ok(ties)
+/// Which messages belong together, for the lines from line 2 on, where memory was there for all that was told.
+fn ties_of(alloc: Global, story: &Story) -> Result<Vec<Ties>, AllocError> {
+    if story.page.lacks_a_piece || story.drawing.lacks_a_piece {
+        return Err(AllocError);
     }
-
-    /// What is said from here to there.
-    fn part(&self, from: usize, to: usize) -> &[u8] {
-        self.page.text.get(from..to).unwrap_or(&[])
-    }
+    let mut ties = vec![in alloc; Ties::default(); story.lines_to_tell()]?;
+    tie(ties.as_mut_slice(), &story.course.requests.exchanges);
+    number_all(ties.as_mut_slice(), &story.drawing.beats);
+    note_shown(ties.as_mut_slice(), &story.items);
+    Ok(ties)
 }
 
 impl Scene {
-    /// What is said of each line that is shown, in their order.
-    pub fn items(&self) -> &[Item] {
-        &self.told.items
+    /// What is said from here to there.
+    fn part(&self, from: usize, to: usize) -> &[u8] {
+        self.said.text.get(from..to).unwrap_or(&[])
     }
 
     /// The sentence on the lines of an item, and the remarks on them, a line each.
     pub fn sentence(&self, item: &Item) -> &[u8] {
-        self.told.part(item.from, item.to)
+        self.part(item.from, item.to)
     }
 
     pub fn remarks(&self, item: &Item) -> &[u8] {
-        self.told.part(item.to, item.end)
+        self.part(item.to, item.end)
     }
 
     /// What is said of channels that end within a burst, a line each.
     pub fn cuts(&self) -> &[u8] {
-        let from = self.told.items.last().map_or(0, |item| item.end);
-        self.told.part(from, self.told.page.len())
-    }
-
-    /// The near beat of an item, and the far beats that it completed.
-    pub fn beats(&self, item: &Item) -> &[Drawn] {
-        self.told.drawing.beats(item.drawn)
-    }
-
-    /// The line of a beat, without its LF.
-    pub fn line(&self, beat: &Drawn) -> &[u8] {
-        self.told.drawing.line(beat)
-    }
-
-    /// The lanes of a beat, where it has a mask or data and it is known which of them bytes stand on.
-    pub fn picture(&self, beat: &Drawn) -> Option<Picture<'_>> {
-        self.told.drawing.picture(beat)
+        let from = self.items.last().map_or(0, |item| item.end);
+        self.said.end_from(from)
     }
 
     /// Which messages belong to the one that begins in this line.
@@ -155,9 +145,15 @@ impl Scene {
 fn scene_with(alloc: Global, telling: Telling) -> Result<Scene, AllocError>
     ensures { IfOk result (λ made. made.answer ≡ telling.answer) }
 {
-    let Telling { told, answer } = telling;
-    let ties = told.ties(alloc)?;
-    Ok(Scene { told, ties, answer })
+    let Telling { story, answer } = telling;
+    let ties = ties_of(alloc, &story)?;
+    Ok(Scene {
+        said: story.page,
+        items: story.items,
+        drawing: story.drawing,
+        ties,
+        answer,
+    })
 }
 
 /// What a page shows of a text: how each line fares, in sentences, with the beats on their lanes, and the

@@ -3,13 +3,13 @@ use crate::alike::Alike;
 use crate::course::{Came, Course};
 use crate::fate::Fate;
 use crate::faults::put_beat_fault;
-use crate::requests::{Request, Requests};
+use crate::requests::Requests;
 use crate::story::place;
 use crate::walk::{Brought, Walk};
 use crate::words::{put_fields, source_of};
 use tl_msg::{SideFault, Verdict};
 use tl_remarks::Piece::{Coloured, Id, Length, Letter, Number, Text};
-use tl_remarks::{Colour, Page, Piece, Seen};
+use tl_remarks::{Colour, Message, Page, Piece, Seen};
 
 /// Writes why a beat of A waits: its source is busy with its last request.
 fn put_busy(out: &mut Page, beat: &Seen, requests: &Requests) {
@@ -24,7 +24,7 @@ fn put_busy(out: &mut Page, beat: &Seen, requests: &Requests) {
         ),
     };
     out.say(sentence, &[source_of(beat), Number(line)]);
-    match requests.held_response {
+    match requests.held.response {
         Some(response) => {
             out.put_text(": its response in line ");
             response.put(out);
@@ -34,32 +34,32 @@ fn put_busy(out: &mut Page, beat: &Seen, requests: &Requests) {
 }
 
 /// Writes that no request has the source of a beat of D, and the first request that waits.
-fn put_none_sent(out: &mut Page, beat: &Seen, first_open: Option<Request>) {
+fn put_none_sent(out: &mut Page, beat: &Seen, first_open: Option<Message>) {
     out.put_text(": send one on A, or mend the source");
     if let Some(request) = first_open {
         let waits = "; the first request that waits is of source #, in line #";
-        let source = Id(request.source, beat.version);
+        let source = Id(request.id, beat.version);
         out.say(waits, &[source, Number(request.line)]);
     }
 }
 
 /// Writes why no request waits that has the source of a beat of D.
 fn put_none_waits(out: &mut Page, beat: &Seen, requests: &Requests) {
-    if let Some(held) = requests.held_request {
+    if let Some(held) = requests.held.request {
         out.put_text(": that in line ");
         held.put(out);
     } else if let Some(last) = requests.last(beat.source) {
         let line = Number(last.line);
         out.say(": its last one, in line #, is answered", &[line]);
     } else {
-        put_none_sent(out, beat, requests.first_open());
+        put_none_sent(out, beat, requests.open(None));
     }
 }
 
 /// Writes why a beat of D waits: no request of its source has arrived that it could answer.
 fn put_no_request(out: &mut Page, beat: &Seen, requests: &Requests) {
     let source = source_of(beat);
-    if let Some(request) = requests.open(beat.source) {
+    if let Some(request) = requests.open(Some(beat.source)) {
         out.say(
             "the request of source # in line # has not arrived: bytes of its first far beat are missing",
             &[source, Number(request.line)],
@@ -71,7 +71,7 @@ fn put_no_request(out: &mut Page, beat: &Seen, requests: &Requests) {
 }
 
 /// Writes why a beat of D is refused: its size is not that of this request.
-fn put_mismatch(out: &mut Page, beat: &Seen, open: Option<Request>) {
+fn put_mismatch(out: &mut Page, beat: &Seen, open: Option<Message>) {
     let size = Length(beat.size);
     match open {
         Some(request) => out.say(
@@ -100,7 +100,7 @@ fn put_fault(
         SideFault::Beat(fault) => put_beat_fault(out, beat, fault, walk),
         SideFault::SourceBusy => put_busy(out, beat, requests),
         SideFault::NoRequest => put_no_request(out, beat, requests),
-        SideFault::SizeMismatch => put_mismatch(out, beat, requests.open(beat.source)),
+        SideFault::SizeMismatch => put_mismatch(out, beat, requests.open(Some(beat.source))),
     }
 }
 

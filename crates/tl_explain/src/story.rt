@@ -5,9 +5,12 @@ use crate::drawing::{Drawing, Drawn};
 use crate::fate::Fate;
 use crate::look::{Choice, Look};
 use crate::picture::put_picture;
+use crate::requests::{HeldPair, Requests};
 use crate::shown::{Item, Run};
 use std::alloc::Global;
+use tl_msg::Verdict;
 use tl_remarks::{Noted, Page, Remark, Seen, put_remark};
+use tl_trace::Header;
 
 /// How the beat of a line fares.
 #[derive(Clone, Copy, PartialEq, Eq, Default)]
@@ -35,8 +38,8 @@ pub struct Story {
     choice: Choice,
     /// Whether each beat has a picture of its lanes.
     has_lanes: bool,
-    /// What was noted of the messages, and how many of the remarks are passed.
-    noted: Noted,
+    /// The remarks on the messages, and how many of them are passed.
+    remarks: Vec<Remark>,
     remarks_passed: usize,
     /// The letters that the lines begin with, from line 2 on.
     letters: Vec<u8>,
@@ -49,23 +52,9 @@ pub struct Story {
     pub alike: Vec<Alike>,
     /// The line of the beat that is told, or those of the far beats that it completed.
     pub lines: Vec<u8>,
-    /// The beats that are drawn, and, where they are, what is noted of the lines that are shown, and for
-    /// each line whether a message begins in it that was accepted.
+    /// The beats that are drawn, and, where they are, what is noted of the lines that are shown.
     pub drawing: Drawing,
     pub items: Vec<Item>,
-    begins: Vec<bool>,
-}
-
-/// What was told of a text.
-#[derive(Drop)]
-pub struct Told {
-    /// What is said of the lines that are shown, in their order, and behind them of channels that end
-    /// within a burst.
-    pub page: Page,
-    pub noted: Noted,
-    pub drawing: Drawing,
-    pub items: Vec<Item>,
-    pub begins: Vec<bool>,
 }
 
 /// The letters of the channels.
@@ -83,26 +72,30 @@ fn line_in(lines: &[u8], number: usize, length: usize) -> &[u8] {
 }
 
 impl Story {
-    /// That of a text of this version of which no line is told yet: its lines have these letters, and this course
-    /// before them.
+    /// That of a text with this header of which no line is told yet: its lines have these letters, its channels end
+    /// in these verdicts, and this was noted of its messages. It lacks a piece where one of these does, or where
+    /// there is no memory for telling.
     #[inline(never)]
     pub fn new(
         alloc: Global,
-        version: u8,
+        header: &Header,
         look: &Look,
-        letters: Vec<u8>,
-        course: Course,
+        verdicts: &[Verdict; 5],
+        letters: Page,
         noted: Noted,
+        held: HeldPair,
     ) -> Story {
-        Story {
+        let lacks_a_piece = letters.lacks_a_piece | noted.lacks_a_piece;
+        let requests = Requests::new(noted.exchanges, held);
+        let mut story = Story {
             page: Page::new(alloc, look.colour),
-            course,
-            version,
+            course: Course::new(alloc, header, verdicts, requests),
+            version: header.version,
             choice: look.choice,
             has_lanes: look.lanes && !look.page,
-            noted,
+            remarks: noted.remarks,
             remarks_passed: 0,
-            letters,
+            letters: letters.text,
             is_shown: false,
             item: Item::default(),
             run: Run::default(),
@@ -110,8 +103,10 @@ impl Story {
             lines: Vec::new(alloc),
             drawing: Drawing::new(alloc, look.page),
             items: Vec::new(alloc),
-            begins: Vec::new(alloc),
-        }
+        };
+        story.make_room(alloc);
+        story.page.lacks_a_piece |= lacks_a_piece;
+        story
     }
 
     /// How many lines there are from line 2 on.
@@ -136,7 +131,7 @@ impl Story {
 
     /// The next remark, where it is one on the line.
     fn next_remark(&self) -> Option<Remark> {
-        match self.noted.remarks.get(self.remarks_passed) {
+        match self.remarks.get(self.remarks_passed) {
             Some(remark) if remark.message.line == self.course.line => Some(*remark),
             _ => None,
         }
@@ -232,7 +227,7 @@ impl Story {
 
     /// Passes the remarks on the line, and writes them where it is shown.
     fn put_remarks(&mut self) {
-        for _ in self.remarks_passed..self.noted.remarks.len() {
+        for _ in self.remarks_passed..self.remarks.len() {
             let Some(remark) = self.next_remark() else {
                 break;
             };
@@ -240,14 +235,6 @@ impl Story {
             if self.is_shown {
                 put_remark(&mut self.page, &remark, self.version);
             }
-        }
-    }
-
-    /// Notes of the line in which the next near beat stands what a page needs.
-    fn note_line(&mut self) {
-        if self.drawing.is_wanted {
-            let begins = self.item.fares == Fares::Accepted && self.course.walk.brought.beat == 1;
-            self.page.lacks_a_piece |= self.begins.push(begins).is_err();
         }
     }
 
@@ -267,7 +254,6 @@ impl Story {
         if self.is_shown {
             self.end_shown();
         }
-        self.note_line();
         self.course.walk.near = self.course.walk.near.saturating_add(1);
     }
 
@@ -292,16 +278,5 @@ impl Story {
             self.course.put_cut(&mut self.page);
         }
         self.page.lacks_a_piece |= self.course.lacks_a_stop;
-    }
-
-    /// All that was told.
-    pub fn told(self) -> Told {
-        Told {
-            page: self.page,
-            noted: self.noted,
-            drawing: self.drawing,
-            items: self.items,
-            begins: self.begins,
-        }
     }
 }

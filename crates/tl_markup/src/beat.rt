@@ -1,6 +1,6 @@
 //! A beat with its lanes.
 use crate::text::{ascii, put_escaped};
-use tl_explain::{Cell, Drawn, Picture, ROW, Scene};
+use tl_explain::{Cell, Drawing, Drawn, Picture, ROW};
 use tl_remarks::Page;
 use tl_remarks::Piece::{Byte, Number, Text};
 
@@ -47,8 +47,8 @@ fn put_bytes(out: &mut Page, drawn: &Drawn, width: usize) {
 }
 
 /// Writes the lanes of a beat, where it has any to show.
-fn put_lanes(out: &mut Page, scene: &Scene, drawn: &Drawn) {
-    let Some(picture) = scene.picture(drawn) else {
+fn put_lanes(out: &mut Page, drawing: &Drawing, drawn: &Drawn) {
+    let Some(picture) = drawing.picture(drawn) else {
         return;
     };
     let width = picture.lanes.len();
@@ -61,29 +61,19 @@ fn put_lanes(out: &mut Page, scene: &Scene, drawn: &Drawn) {
     out.put_text("</tr></tbody></table>");
 }
 
-/// The class of a beat's side.
-fn side_class(drawn: &Drawn) -> &'static str {
-    if drawn.is_far { "far" } else { "near" }
-}
-
-/// What stands behind the line of a beat.
-fn caption_end(drawn: &Drawn) -> &'static str {
-    if drawn.beat.corrupt {
-        "</code> <em>corrupt</em></figcaption>"
-    } else {
-        "</code></figcaption>"
-    }
-}
-
 /// Writes a beat: its line, and its lanes where it has any to show.
-pub fn put_beat(out: &mut Page, scene: &Scene, drawn: &Drawn) {
-    let side = Text(side_class(drawn));
+pub fn put_beat(out: &mut Page, drawing: &Drawing, drawn: &Drawn) {
+    let side = Text(if drawn.is_far { "far" } else { "near" });
     out.say(
         "<figure class=\"#\"><figcaption><span>#</span> <code>",
         &[side, side],
     );
-    put_escaped(out, ascii(scene.line(drawn)));
-    out.put_text(caption_end(drawn));
-    put_lanes(out, scene, drawn);
+    put_escaped(out, ascii(drawing.line(drawn)));
+    out.put_text("</code>");
+    if drawn.beat.corrupt {
+        out.put_text(" <em>corrupt</em>");
+    }
+    out.put_text("</figcaption>");
+    put_lanes(out, drawing, drawn);
     out.put_text("</figure>");
 }

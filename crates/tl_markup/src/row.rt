@@ -50,16 +50,12 @@ fn put_answered(out: &mut Page, scene: &Scene, item: &Item) {
     out.put_text("</p>");
 }
 
-/// The exchange that a beat belongs to, by its message; 0 where there is none.
-fn exchange_of(scene: &Scene, beats: &[Drawn]) -> u64 {
-    match beats.first() {
+/// Ends the tag of a line with the exchange that its beats belong to, and in which colour that is known.
+fn put_exchange(out: &mut Page, scene: &Scene, beats: &[Drawn]) {
+    let exchange = match beats.first() {
         Some(beat) => scene.exchange(beat.message),
         None => 0,
-    }
-}
-
-/// Ends the tag of a line with its exchange, and in which colour that is known.
-fn put_exchange(out: &mut Page, exchange: u64) {
+    };
     if exchange == 0 {
         out.put_text(">");
     } else {
@@ -72,7 +68,7 @@ fn put_exchange(out: &mut Page, exchange: u64) {
 
 /// Writes a line with its beats.
 fn put_line(out: &mut Page, scene: &Scene, item: &Item) {
-    let beats = scene.beats(item);
+    let beats = scene.drawing.beats_at(item.drawn);
     out.say(
         "<article tabindex=\"0\" class=\"beat # #\" id=\"line-#\"",
         &[
@@ -81,11 +77,11 @@ fn put_line(out: &mut Page, scene: &Scene, item: &Item) {
             Number(item.line),
         ],
     );
-    put_exchange(out, exchange_of(scene, beats));
+    put_exchange(out, scene, beats);
     put_said(out, scene, sentence_of(scene, item));
     put_answered(out, scene, item);
     for beat in beats {
-        put_beat(out, scene, beat);
+        put_beat(out, &scene.drawing, beat);
     }
     put_paragraphs(out, scene, "<p class=\"remark\">", scene.remarks(item));
     out.put_text("</article>");
@@ -101,7 +97,7 @@ fn put_run(out: &mut Page, scene: &Scene, item: &Item) {
 /// Writes all lines. A row goes on as long as each line is of a channel behind that of the one before.
 pub fn put_rows(out: &mut Page, scene: &Scene) {
     let mut last = 0;
-    for item in scene.items() {
+    for item in &scene.items {
         let is_run = item.line != item.last;
         if is_run | (item.letter <= last) {
             out.put_text("</div><div class=\"row\">");

@@ -15,7 +15,7 @@ const CHANNELS: &[(u8, &str, &str); 5] = &[
 
 /// Whether the channel with this letter has a line on the page.
 fn is_shown(scene: &Scene, letter: u8) -> bool {
-    for item in scene.items() {
+    for item in &scene.items {
         if (item.line == item.last) & (item.letter == letter) {
             return true;
         }
@@ -26,9 +26,9 @@ fn is_shown(scene: &Scene, letter: u8) -> bool {
 /// How many lanes stand in the longest row.
 fn longest_row(scene: &Scene) -> usize {
     let mut most = 1;
-    for item in scene.items() {
-        for beat in scene.beats(item) {
-            if let Some(picture) = scene.picture(beat) {
+    for item in &scene.items {
+        for beat in scene.drawing.beats_at(item.drawn) {
+            if let Some(picture) = scene.drawing.picture(beat) {
                 most = picture.lanes.len().min(ROW).max(most);
             }
         }

@@ -14,6 +14,6 @@ mod sentences;
 pub use lines::Cursor;
 pub use notes::{accepted, notes_of};
 pub use page::{Colour, Page, Piece};
-pub use remark::{Key, Message, Noted, Pair, Remark, Rule, Wanted};
+pub use remark::{Exchange, Message, Noted, Remark, Rule};
 pub use seen::{Seen, Told, seen_of};
 pub use sentences::put_remark;

@@ -1,12 +1,12 @@
 //! From the beats of a script to remarks.
 ghost use Rattle.tl_lanes.specs.Lanes.{IsWidth};
 
-use crate::exchange::{judge, sort};
+use crate::exchange::judge;
 use crate::fits::N_TO_B;
 use crate::lines::Cursor;
-use crate::remark::{Key, Message, Noted, Remark, Rule, Wanted};
+use crate::remark::{Exchange, Message, Noted, Remark, Rule};
 use crate::seen::{Seen, Told, seen_of};
-use std::alloc::{AllocError, Global};
+use std::alloc::Global;
 use tl_msg::{Beat, ChA, ChB, ChC, ChD, ChE, Kind, Verdict};
 use tl_trace::Script;
 
@@ -36,10 +36,17 @@ fn message_of(beat: &Seen, line: u64, asked_on: u8) -> Message {
     Message {
         line,
         letter: beat.letter,
+        asked_on,
         kind: beat.kind,
         param: beat.param,
+        size: beat.size,
         denied: beat.denied,
-        key: Key::of(beat, asked_on),
+        id: if asked_on == b'D' {
+            beat.sink
+        } else {
+            beat.source
+        },
+        address: beat.address,
     }
 }
 
@@ -56,7 +63,7 @@ fn rule_alone(beat: &Seen) -> Option<Rule> {
 impl Notes {
     /// Adds a message.
     fn add(&mut self, message: Message) {
-        let added = if message.letter == message.key.asked_on {
+        let added = if message.letter == message.asked_on {
             self.asks.push(message)
         } else {
             self.answers.push(message)
@@ -76,12 +83,16 @@ impl Notes {
         }
     }
 
-    /// Remarks on all messages and their answers, and brings all remarks into the order of lines.
+    /// Remarks on all messages and their answers, which are brought into the order of their ranks, and brings
+    /// remarks and exchanges into that of lines.
     fn judge(&mut self, verdicts: &[Verdict; 5]) {
-        let sorted = sort(&mut self.asks).and(sort(&mut self.answers));
+        let asks = self.asks.sort_by_key(Message::rank);
+        let answers = self.answers.sort_by_key(Message::rank);
         judge(&self.asks, &self.answers, verdicts, &mut self.noted);
         let remarks = self.noted.remarks.sort_by_key(Remark::line);
-        self.noted.lacks_a_piece |= sorted.and(remarks).is_err();
+        let exchanges = self.noted.exchanges.sort_by_key(Exchange::answer);
+        let are_sorted = asks.and(answers).and(remarks).and(exchanges);
+        self.noted.lacks_a_piece |= are_sorted.is_err();
     }
 }
 
@@ -131,9 +142,9 @@ fn add_script<const C: usize, const M: usize>(
     add_channel::<ChE, C>(notes, letters, e, &script.e);
 }
 
-/// The remarks on the accepted messages of a script whose channels end with these verdicts, from A to E,
-/// in the order of their lines; and the pairs of a message and its answer, those of A, B, C and D in this order;
-/// each where it is wanted. `letters` are those of the text that tells the script.
+/// The remarks on the accepted messages of a script whose channels end with these verdicts, from A to E, where
+/// remarks are wanted; and which of the messages answers which. `letters` are those of the text that tells the
+/// script.
 ///
 /// Messages and answers are matched by their order within source, sink, or source and address. That one
 /// has no partner is remarked only where no beat of the partner's channel was held back.
@@ -142,22 +153,16 @@ pub fn notes_of<const C: usize, const M: usize>(
     letters: &[u8],
     script: &Script<C, M>,
     verdicts: &[Verdict; 5],
-    wanted: Wanted,
-) -> Result<Noted, AllocError>
+    wants_remarks: bool,
+) -> Noted
     requires { IsWidth C × IsWidth M }
 {
     let mut notes = Notes {
         asks: Vec::new(alloc),
         answers: Vec::new(alloc),
-        noted: Noted::new(alloc, wanted),
+        noted: Noted::new(alloc, wants_remarks),
     };
-    if wanted.remarks | wanted.pairs {
-        add_script::<C, M>(&mut notes, letters, script, verdicts);
-        notes.judge(verdicts);
-    }
-    let Notes { noted, .. } = notes;
-    if noted.lacks_a_piece {
-        return Err(AllocError);
-    }
-    Ok(noted)
+    add_script::<C, M>(&mut notes, letters, script, verdicts);
+    notes.judge(verdicts);
+    notes.noted
 }

@@ -215,7 +215,8 @@ impl Page {
         }
     }
 
-    /// Writes a sentence, in which each `#` stands for the next of these pieces.
+    /// Writes a sentence, in which each `#` stands for the next of these pieces; those behind the last `#` are left
+    /// out.
     pub fn say(&mut self, sentence: &str, pieces: &[Piece<'_>]) {
         let mut rest = sentence;
         for piece in pieces {

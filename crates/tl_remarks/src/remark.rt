@@ -1,56 +1,37 @@
-//! What is remarked.
-use crate::seen::Seen;
+//! What is remarked, and which messages belong together.
 use std::alloc::Global;
 use tl_msg::Kind;
 
-/// By what a message and its answer know each other: by source or sink, and those of B and C by their
-/// address, too.
-#[derive(Clone, Copy)]
-pub struct Key {
-    /// The letter of the channel whose messages are answered.
-    pub asked_on: u8,
-    pub id: u16,
-    pub address: u64,
-}
-
-impl Key {
-    /// That of a beat among the messages of this channel and their answers.
-    pub(crate) fn of(beat: &Seen, asked_on: u8) -> Key {
-        let (id, address) = match asked_on {
-            b'B' => (beat.source, beat.address),
-            b'D' => (beat.sink, 0),
-            _ => (beat.source, 0),
-        };
-        Key {
-            asked_on,
-            id,
-            address,
-        }
-    }
-}
-
-/// A message whose first beat was accepted.
+/// A message whose first beat was accepted, in an exchange of a message and its answer.
 #[derive(Clone, Copy)]
 pub struct Message {
     /// The line of its first beat, and the letter of its channel.
     pub line: u64,
     pub letter: u8,
+    /// The letter of the channel whose messages are answered in the exchange.
+    pub asked_on: u8,
     /// None on E.
     pub kind: Option<Kind>,
     pub param: u8,
+    /// It is of `2^size` bytes.
+    pub size: u8,
     pub denied: bool,
-    pub key: Key,
+    /// The source or sink by which the message and its answer know each other.
+    pub id: u16,
+    /// 0 on D and E.
+    pub address: u64,
 }
 
 impl Message {
-    /// Its key as a number.
+    /// By what it and its answer know each other, as a number: by their id, and those of B and C by their
+    /// address, too.
     pub(crate) fn rank(&self) -> u128 {
-        let Key {
-            asked_on,
-            id,
-            address,
-        } = self.key;
-        (asked_on as u128) << 80 | (address as u128) << 16 | (id as u128)
+        let address = if self.asked_on == b'B' {
+            self.address
+        } else {
+            0
+        };
+        (self.asked_on as u128) << 80 | (address as u128) << 16 | (self.id as u128)
     }
 }
 
@@ -90,45 +71,51 @@ impl Remark {
     }
 }
 
-/// A message and its answer, by the lines of their first beats.
+/// A message, and the line in which its answer begins.
 #[derive(Clone, Copy)]
-pub struct Pair {
-    pub ask: u64,
+pub struct Exchange {
+    pub ask: Message,
+    /// `u64::MAX` where nothing answers the message.
     pub answer: u64,
 }
 
-/// What is to be noted of the messages of a trace.
-#[derive(Clone, Copy)]
-pub struct Wanted {
-    pub remarks: bool,
-    /// Messages and their answers.
-    pub pairs: bool,
+impl Exchange {
+    /// Whether nothing answers the message.
+    pub fn is_open(&self) -> bool {
+        self.answer == u64::MAX
+    }
+
+    /// The line of the answer.
+    pub(crate) fn answer(&self) -> u64 {
+        self.answer
+    }
 }
 
-/// What was found of the messages of a trace, as far as it is wanted. Whether memory was there for all of it is
-/// asked once, at the end.
+/// What was found of the messages of a trace. Whether memory was there for all of it is asked once, at the end.
 #[derive(Drop)]
 pub struct Noted {
+    /// The remarks in the order of their lines; none where none are wanted.
     pub remarks: Vec<Remark>,
-    pub pairs: Vec<Pair>,
-    pub(crate) wanted: Wanted,
-    pub(crate) lacks_a_piece: bool,
+    /// In the order of the lines of their answers, and behind these the open ones.
+    pub exchanges: Vec<Exchange>,
+    pub(crate) wants_remarks: bool,
+    pub lacks_a_piece: bool,
 }
 
 impl Noted {
     /// Nothing yet.
-    pub(crate) fn new(alloc: Global, wanted: Wanted) -> Noted {
+    pub(crate) fn new(alloc: Global, wants_remarks: bool) -> Noted {
         Noted {
             remarks: Vec::new(alloc),
-            pairs: Vec::new(alloc),
-            wanted,
+            exchanges: Vec::new(alloc),
+            wants_remarks,
             lacks_a_piece: false,
         }
     }
 
     /// Adds a remark, where there is one, and remarks are wanted.
     pub(crate) fn push_remark(&mut self, rule: Option<Rule>, message: &Message, partner: &Message) {
-        if let (Some(rule), true) = (rule, self.wanted.remarks) {
+        if let (Some(rule), true) = (rule, self.wants_remarks) {
             let remark = Remark {
                 rule,
                 message: *message,
@@ -138,10 +125,9 @@ impl Noted {
         }
     }
 
-    /// Adds a message and its answer, where these are wanted.
-    pub(crate) fn push_pair(&mut self, ask: u64, answer: u64) {
-        if self.wanted.pairs {
-            self.lacks_a_piece |= self.pairs.push(Pair { ask, answer }).is_err();
-        }
+    /// Adds a message, whose answer begins in this line.
+    pub(crate) fn push_exchange(&mut self, ask: &Message, answer: u64) {
+        let exchange = Exchange { ask: *ask, answer };
+        self.lacks_a_piece |= self.exchanges.push(exchange).is_err();
     }
 }

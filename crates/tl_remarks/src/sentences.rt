@@ -56,54 +56,32 @@ fn asked_by(message: &Message) -> &'static str {
     }
 }
 
-/// Writes that the param of a message does not fit that of its partner, each in its words.
-fn put_misfit(
-    out: &mut Page,
-    sentence: &str,
-    words: &[&'static str],
-    asked: &[&'static str],
-    remark: &Remark,
-) {
+/// What the sentence of a remark speaks of, in a trace of this version; pieces that it does not have are of no
+/// account. (The partner of a remark on one message is that message.)
+fn pieces_of(remark: &Remark, version: u8) -> [Piece<'static>; 4] {
     let (message, partner) = (&remark.message, &remark.partner);
-    out.say(
-        sentence,
-        &[
-            word(words, message.param),
-            name(partner),
-            Number(partner.line),
-            word(asked, partner.param),
-        ],
-    );
-}
-
-/// Writes what a message lacks, which is known by this id.
-fn put_missing(out: &mut Page, sentence: &str, what: &'static str, message: &Message, version: u8) {
-    let id = Id(message.key.id, version);
-    out.say(sentence, &[Text(what), id, name(message)]);
-}
-
-/// Writes what is remarked on a message of a trace of this version.
-fn put_rule(out: &mut Page, remark: &Remark, version: u8) {
-    let (message, partner) = (&remark.message, &remark.partner);
-    let sentence = SENTENCES[remark.rule as usize];
+    let (asked, line) = (name(partner), Number(partner.line));
+    let id = Id(message.id, version);
     match remark.rule {
-        Rule::OtherResponse => {
-            let asked = name(partner);
-            out.say(sentence, &[asked, Number(partner.line), asked]);
+        Rule::OtherResponse => [asked, line, asked, asked],
+        Rule::OtherCap => {
+            let cap = word(CAPS, message.param);
+            [cap, asked, line, word(GROWTHS, partner.param)]
         }
-        Rule::OtherCap => put_misfit(out, sentence, CAPS, GROWTHS, remark),
-        Rule::LeavesMore => put_misfit(out, sentence, REPORTS, CAPS, remark),
-        Rule::NotAnswered => put_missing(out, sentence, answer_to(message), message, version),
-        Rule::AnswersNothing => put_missing(out, sentence, asked_by(message), message, version),
-        Rule::DeniedAck | Rule::DeniedData | Rule::PermToRead => {
-            out.say(sentence, &[name(message)]);
+        Rule::LeavesMore => {
+            let report = word(REPORTS, message.param);
+            [report, asked, line, word(CAPS, partner.param)]
         }
+        Rule::NotAnswered => [Text(answer_to(message)), id, asked, asked],
+        Rule::AnswersNothing => [Text(asked_by(message)), id, asked, asked],
+        Rule::DeniedAck | Rule::DeniedData | Rule::PermToRead => [asked, asked, asked, asked],
     }
 }
 
 /// Writes a remark on a message of a trace of this version, in a line.
 pub fn put_remark(out: &mut Page, remark: &Remark, version: u8) {
     out.say("    #: ", &[Coloured(Colour::Yellow, "remark")]);
-    put_rule(out, remark, version);
+    let sentence = SENTENCES[remark.rule as usize];
+    out.say(sentence, &pieces_of(remark, version));
     out.put_text("\n");
 }

@@ -5,8 +5,8 @@ use Rattle.tl_answer.proofs.Headers.{last_client, no_header}
 use Rattle.tl_explain.specs.Explained.{IsUntold}
 use Rattle.tl_explain.proofs.explain.telling_of.Goals as goal
 
-pub returns-in_default-clause-err : goal.returns-in_default-clause-err
-returns-in_default-clause-err g c =
+pub returns-in_default : goal.returns-in_default
+returns-in_default g c =
     subst (IsUntold c.args.look.now.page c.args.text.now _ _) (sym c.from.ensures)
     ((search rules, no_header c.args.text.now (sym c.in_default.ensures)), Keeps-refl _)
 
