@@ -1,5 +1,5 @@
 -- Both sides of a run at a meeting: they are as one bridge in one thread.
-use Rattle.std.proofs.Common.{◌≡◌, ◌+◌, ◌≤◌, ◌⊎◌, inl, inr, ◌++◌, ℕ, true, List, length, refl, sym, ap, subst, ◌∙◌, arith, length-append}
+use Rattle.std.proofs.Common.{◌≡◌, ◌+◌, ◌≤◌, ◌⊎◌, inl, inr, ◌++◌, ℕ, true, List, length, map, refl, sym, ap, subst, ◌∙◌, arith, length-append}
 use Rattle.std.proofs.Common.{⊎_elim}
 use Rattle.std.specs.Global.{Global}
 use mathlib.Core.List.{IsPrefix}
@@ -10,7 +10,12 @@ use Rattle.tl_bridge.proofs.Words.{ManagerStandsFor, AreSides, SidesMeet, new_cl
 use Rattle.tl_bridge.proofs.Words.{AreStopped, HasEnded, HaveRoomToCount, all_progress, all_standing, all_stopped, all_under_way, progress}
 use Rattle.tl_bridge.proofs.Words.{standing_count, under_way, Stop, inbox-due, sent-passed, same-sums, begins, progress-is, progress-ends, run_end}
 use Rattle.tl_bridge.proofs.Words.{counts-fit, due-a, due-d, of_both, Offered, Turn}
+use Rattle.tl_burst.specs.Begun.{heads}
+use Rattle.tl_burst.specs.Handing.{IsHandedWith}
 use Rattle.tl_ring.specs.Pipe as piping
+use Rattle.tl_settle.proofs.RunsObey.{run_obeys}
+use Rattle.tl_settle.specs.Histories.{manager_homes}
+use Rattle.tl_settle.specs.Obeying.{ObeysRules}
 use Rattle.tl_bridge.specs.Inner.Arriving.{HasRoomForInboxes, taken_of}
 use Rattle.tl_bridge.specs.Inner.Sides.{ClientIsAt, ManagerIsAt, MayPlay, HasPlayedTurns, RoundOf, ClientRests, ManagerRests, client_playing}
 use Rattle.tl_bridge.specs.Inner.Sides.{manager_playing, HasMet, HasPlayed, AreNew, bridge_of, met_progress, none_ready, past_of, pipe_of}
@@ -68,6 +73,15 @@ met-received s t s' t' m = ap length m.same_received
 
 module _ {A : Type 0} {C M : ℕ} (near : Beats C M) (n : PerChannel ℕ) (far : Beats M C) (s : ClientState A C M) (t : ManagerState A C M)
     (h : HasMet near n far s t) where
+  -- in a run in rounds both links obey the rules
+  met-legal : ObeysRules h.client.history × ObeysRules h.manager.history
+  met-legal =
+      run_obeys h.meet.a.outbox.near h.meet.a.outbox.far near.a near.d h.is_at.run
+      (subst (λ bs. IsHandedWith rules_a bs (map (λ q. q.address) (heads rules_a C bs))) (sym h.meet.client.accepted)
+      (subst (λ hs. IsHandedWith rules_a h.client.a.accepted hs) h.is_at.a_homed h.meet.a.outbox.converter.handed))
+      (subst (λ bs. IsHandedWith rules_d bs (manager_homes h.manager.history)) (sym h.meet.manager.accepted)
+      (subst (λ hs. IsHandedWith rules_d h.manager.d.accepted hs) (sym h.meet.manager.homes) h.meet.d.outbox.converter.handed))
+
   -- the bridge that both are stands for what has happened
   pub met-stands : StandsFor (bridge_of s t) (past_of s t h.client h.manager)
   met-stands = record {
@@ -83,6 +97,8 @@ module _ {A : Type 0} {C M : ℕ} (near : Beats C M) (n : PerChannel ℕ) (far :
     homes = h.meet.manager.homes;
     client = h.meet.client.book;
     manager = h.meet.manager.book;
+    client_obeys = met-legal.0;
+    manager_obeys = met-legal.1;
   }
 
   -- the run has come as far as both sides say

@@ -1,5 +1,5 @@
 -- Laws of the far beats that are due.
-use Rattle.std.specs.Prelude.{◌≡◌, ◌≢◌, ◌+◌, ◌*◌, ◌/◌, ◌^◌, ◌++◌, ◌==◌, ℕ, Bool, cond, Some, List, [], length, map, take, slice_get, All}
+use Rattle.std.specs.Prelude.{◌≡◌, ◌≢◌, ◌+◌, ◌*◌, ◌/◌, ◌^◌, ◌++◌, ◌==◌, ℕ, Bool, cond, None, Some, List, [], ◌∷◌, length, map, take, slice_get, All}
 use mathlib.Core.List.{IsPrefix}
 use Rattle.std.specs.List.{enumerate_from}
 use Rattle.tl_msg.specs.Rules.{Rules}
@@ -7,7 +7,7 @@ use Rattle.tl_msg.specs.declared.beat.BeatOf.{BeatOf}
 use Rattle.tl_msg.specs.Faults.{IsLawfulBeat}
 use Rattle.tl_burst.specs.Messages.{Cell, Message, per_beat, is_bad, some_of, layout}
 use Rattle.tl_burst.specs.Spelling.{Spells}
-use Rattle.tl_burst.specs.Handing.{Handed}
+use Rattle.tl_burst.specs.Handing.{Handed, fault_after}
 use Rattle.tl_convert.specs.Due.{due, DueOf, IsDue, Begins}
 
 module _ {H : Type 0} (r : Rules H) where
@@ -77,3 +77,12 @@ module _ {H : Type 0} (r : Rules H) where
   abbrev pub DueIsLawful : (w v : ℕ) → Type 0
   DueIsLawful w v = (bs : List (BeatOf H w)) (homes : List ℕ) (ms : List (Message H)) (rest : List (BeatOf H w)) →
       Handed r w bs homes ms rest → All (λ b. IsLawfulBeat r b) (due r w v bs homes)
+
+  -- no beat of a list has a fault after those before it
+  abbrev pub HasNoFaults : {w : ℕ} → List (BeatOf H w) → Type 0
+  HasNoFaults {w} bs = (before after : List (BeatOf H w)) (b : BeatOf H w) → bs ≡ before ++ b ∷ after → fault_after r before b ≡ None
+
+  -- neither has a far beat that is due: the far link refuses none where it stands
+  abbrev pub DueHasNoFaults : (w v : ℕ) → Type 0
+  DueHasNoFaults w v = (bs : List (BeatOf H w)) (homes : List ℕ) (ms : List (Message H)) (rest : List (BeatOf H w)) →
+      Handed r w bs homes ms rest → HasNoFaults (due r w v bs homes)

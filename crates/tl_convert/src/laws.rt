@@ -2,7 +2,7 @@
 
 ghost use Rattle.tl_lanes.specs.Lanes.{IsWidth};
 ghost use Rattle.tl_convert.specs.Accepted.{AcceptedIsLongest};
-ghost use Rattle.tl_convert.specs.Laws.{DueIsOne, DueGrows, DueIsHanded, DueIsLawful, LayoutSpells};
+ghost use Rattle.tl_convert.specs.Laws.{DueIsOne, DueGrows, DueIsHanded, DueIsLawful, DueHasNoFaults, LayoutSpells};
 
 use tl_msg::Channel;
 
@@ -41,6 +41,13 @@ pub fn due_is_lawful<K: Channel, const W: usize, const V: usize>()
     requires near { IsWidth W }
     requires far { IsWidth V }
     ensures { DueIsLawful K.rules W V }
+{}
+
+/// No far beat that is due has a fault after those before it: the far link refuses none of them where it stands.
+pub fn due_has_no_faults<K: Channel, const W: usize, const V: usize>()
+    requires near { IsWidth W }
+    requires far { IsWidth V }
+    ensures { DueHasNoFaults K.rules W V }
 {}
 
 /// The beats of a list before the first one that has a fault where it stands are the longest first part of the list that is handed.

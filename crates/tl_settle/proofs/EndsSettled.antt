@@ -212,7 +212,7 @@ module _ {C M : ℕ} (near : 0 < C) (far : 0 < M) (a : List (BeatOf HeadA C))
       (held_request a d i j) (λ h fault e. never_a (is_free a d i j h.source) fault e)
       (λ b. stops_a a d i j b) (λ b. refl) (stays (stops_a a d i j) (slice_get a i) stop)
 
-  small_requests : (k : ℕ) (q : HeadA) → slice_get (heads rules_a C a) k ≡ Some q →
+  pub small_requests : (k : ℕ) (q : HeadA) → slice_get (heads rules_a C a) k ≡ Some q →
       q.address < 2 ^ 64
   small_requests k q e =
       let n = of_heads rules_a 0 a k q e in

@@ -11,10 +11,14 @@ pub mod Manager
 pub mod Grows
 pub mod Homes
 pub mod Runs
+pub mod ChannelFacts
+pub mod Obeys
+pub mod Links
 pub mod Admits
 mod LastOpen
 mod Brings
 mod EndsSettled
+pub mod RunsObey
 pub mod Entries
 pub mod Between
 pub mod Answering

@@ -115,7 +115,7 @@ is_source : (s : ℕ) (h : HeadA) → is_request_of s h ≡ true → h.source �
 is_source s h e = grind (arith, nat_tests)
 
 -- a response to s has that source, and is no ReleaseAck
-response_source : (s : ℕ) (h : HeadD) (t : Bool) → is_release_ack h ≡ t → is_response_to s h ≡ true → (t ≡ false) × (h.source ≡ s)
+pub response_source : (s : ℕ) (h : HeadD) (t : Bool) → is_release_ack h ≡ t → is_response_to s h ≡ true → (t ≡ false) × (h.source ≡ s)
 response_source s h true e r = absurd (let f : false ≡ true = ap (λ b. not b && (h.source == s)) (sym e) ∙ r in cc)
 response_source s h false e r =
     let f : (h.source == s) ≡ true = ap (λ b. not b && (h.source == s)) (sym e) ∙ r in

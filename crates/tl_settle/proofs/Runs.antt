@@ -17,13 +17,13 @@ last_or : (k y : ℕ) → k < suc y → (k < y) ⊎ (k ≡ y)
 last_or k y h = grind arith
 
 module _ {C M : ℕ} (near : 0 < C) (far : 0 < M) (a : List (BeatOf HeadA C)) (d : List (BeatOf HeadD M)) where
-  record ClientDone (i j x : ℕ) (fc : List (Event C)) : Type 0 where
-    on : i ≤ x
-    goes : (k : ℕ) → i ≤ k → k < x → goes_a a d k j ≡ true
-    reached : Reaches (goes_a a d) (goes_d a d) x j
-    is : ClientIs a d x j fc
+  pub record ClientDone (i j x : ℕ) (fc : List (Event C)) : Type 0 where
+    pub on : i ≤ x
+    pub goes : (k : ℕ) → i ≤ k → k < x → goes_a a d k j ≡ true
+    pub reached : Reaches (goes_a a d) (goes_d a d) x j
+    pub is : ClientIs a d x j fc
 
-  client_done : (i j : ℕ) (ec : List (Event C)) (x : ℕ) (fc : List (Event C)) → Reaches (goes_a a d) (goes_d a d) i j → ClientIs a d i j ec →
+  pub client_done : (i j : ℕ) (ec : List (Event C)) (x : ℕ) (fc : List (Event C)) → Reaches (goes_a a d) (goes_d a d) i j → ClientIs a d i j ec →
       ClientMoves a d j i ec x fc → ClientDone i j x fc
   client_done i j ec x fc r c client_rests = record { on = omega arith; goes = λ k l m. absurd (omega arith); reached = r; is = c }
   client_done i j ec x fc r c (client_takes y fs b moves on) =
@@ -46,13 +46,13 @@ module _ {C M : ℕ} (near : 0 < C) (far : 0 < M) (a : List (BeatOf HeadA C)) (d
         is = sides.client_accepted near far a d y j fs b before.is at ok;
       }
 
-  record ManagerDone (i j y : ℕ) (fm : List (Event M)) : Type 0 where
-    on : j ≤ y
-    goes : (k : ℕ) → j ≤ k → k < y → goes_d a d i k ≡ true
-    reached : Reaches (goes_a a d) (goes_d a d) i y
-    is : ManagerIs a d i y fm
+  pub record ManagerDone (i j y : ℕ) (fm : List (Event M)) : Type 0 where
+    pub on : j ≤ y
+    pub goes : (k : ℕ) → j ≤ k → k < y → goes_d a d i k ≡ true
+    pub reached : Reaches (goes_a a d) (goes_d a d) i y
+    pub is : ManagerIs a d i y fm
 
-  manager_done : (i j : ℕ) (em : List (Event M)) (x : ℕ) (fm : List (Event M)) → Reaches (goes_a a d) (goes_d a d) i j → ManagerIs a d i j em →
+  pub manager_done : (i j : ℕ) (em : List (Event M)) (x : ℕ) (fm : List (Event M)) → Reaches (goes_a a d) (goes_d a d) i j → ManagerIs a d i j em →
       ManagerMoves a d i j em x fm → ManagerDone i j x fm
   manager_done i j em x fm r m manager_rests = record { on = omega arith; goes = λ k l h. absurd (omega arith); reached = r; is = m }
   manager_done i j em x fm r m (manager_takes y fs b moves on) =

@@ -22,7 +22,7 @@ client_imp None false p f h e = refl
 client_imp None true true f h e = cc
 client_imp None true false f h e = rw (h refl) refl
 
-client_first : (o : Option BeatFault) (p : Bool) →
+pub client_first : (o : Option BeatFault) (p : Bool) →
     option_map_or (λ x. Some (Beat x)) o (cond true (cond p (Some SourceBusy) None) None) ≡ None → p ≡ false
 client_first (Some x) p e = cc
 client_first None true e = cc

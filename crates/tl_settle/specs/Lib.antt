@@ -4,6 +4,7 @@ pub mod Settling
 pub mod Outcomes
 pub mod Histories
 pub mod Rounds
+pub mod Obeying
 pub mod Laws
 pub mod InMessages
 pub mod Tables

@@ -16,7 +16,8 @@ ghost use Rattle.tl_settle.specs.Laws.{IsAtAdmitted, OpenIsLast};
 ghost use Rattle.tl_settle.specs.InMessages.{AreBeats, EndsInMessages};
 ghost use Rattle.tl_settle.specs.Outcomes.{Beats};
 ghost use Rattle.tl_settle.specs.Histories.{Event};
-ghost use Rattle.tl_settle.specs.Rounds.{IsOver, IsSettledRun};
+ghost use Rattle.tl_settle.specs.Rounds.{Run, IsOver, IsSettledRun};
+ghost use Rattle.tl_settle.specs.Obeying.{ObeysRules};
 
 use tl_burst::laws::{faults_are_exact, homes_are_kept};
 use tl_convert::laws::{accepted_is_longest, due_is_handed, due_is_one};
@@ -38,6 +39,22 @@ pub fn every_run()
         (i j : ℕ) (client : List (Event c)) (manager : List (Event m)) →
         IsOver a d i j client manager → IsSettledRun a d i j client manager }
 {}
+
+/// Legal in, legal out: in every run each link obeys the rules that an offer is held to, whatever the
+/// two sides do at the same time within rounds. What comes out of the bridge has no fault and breaks
+/// no burst at its width; a request that comes out finds its source free, and a response that comes
+/// out finds its request open, with its size.
+pub fn every_run_obeys<const C: usize, const M: usize>()
+    requires client { IsWidth C }
+    requires manager { IsWidth M }
+    ensures { (a : List (BeatOf HeadA C)) (d : List (BeatOf HeadD M)) →
+        All (λ b. IsBeat rules_a b) a → All (λ b. IsBeat rules_d b) d →
+        (i j : ℕ) (client : List (Event C)) (manager : List (Event M)) →
+        Run a d i j client manager → ObeysRules client × ObeysRules manager }
+{
+    one_channel::<ChA, C, M>();
+    one_channel::<ChD, M, C>();
+}
 
 /// Wherever steps lead, the beats accepted on A and on D are handed, the next beat of each list has
 /// no fault exactly where it is admitted, and it opens a message exactly where no burst is

@@ -11,6 +11,7 @@ use Rattle.tl_msg.specs.Firsts.{unless, ◌or_else◌}
 use Rattle.tl_ring.specs.Pipe as piping
 use Rattle.tl_settle.specs.Books.{Client, Manager, KnowsClient, KnowsManager}
 use Rattle.tl_settle.specs.Inner.Noting.{begun_with}
+use Rattle.tl_settle.specs.Obeying.{ObeysRules}
 use Rattle.tl_sides.specs.Bridges.{Bridge, Past, StandsFor, pump_count, fetch_count, all_pumped, all_fetched, after_pump, after_fetch}
 use Rattle.tl_sides.proofs.Sums.{sum_most}
 
@@ -103,6 +104,8 @@ module _ {C M : ℕ} (s : Bridge C M) (x : Past C M) (h : StandsFor s x) where
     homes = h.homes ∙ sym same_d.2;
     client = h.client;
     manager = h.manager;
+    client_obeys = h.client_obeys;
+    manager_obeys = h.manager_obeys;
   }
 
   -- what happens between the ends of one crossing, or closes it
@@ -126,9 +129,9 @@ module _ {C M : ℕ} (s : Bridge C M) (x : Past C M) (h : StandsFor s x) where
   -- the client's side goes on, on A and D
   pub client_goes_on : (a : Pipe HeadA M) (d : Pipe HeadD C) (book : Client) (es : List (Event C)) (xa : World HeadA C M) (xd : World HeadD M C) →
       piping.StandsFor rules_a a xa → piping.StandsFor rules_d d xd → asked es ≡ xa.accepted → answered es ≡ xd.taken → KnowsClient book es →
-      xa.taken ≡ x.a.taken → (xd.accepted ≡ x.d.accepted) × (xd.homes ≡ x.d.homes) →
+      ObeysRules es → xa.taken ≡ x.a.taken → (xd.accepted ≡ x.d.accepted) × (xd.homes ≡ x.d.homes) →
       StandsFor (record s { a = a; d = d; client = book }) (record x { client = es; a = xa; d = xd })
-  client_goes_on a d book es xa xd ka kd asks answers knows taken same = record {
+  client_goes_on a d book es xa xd ka kd asks answers knows obeys taken same = record {
     a = ka;
     b = h.b;
     c = h.c;
@@ -141,14 +144,16 @@ module _ {C M : ℕ} (s : Bridge C M) (x : Past C M) (h : StandsFor s x) where
     homes = h.homes ∙ sym same.1;
     client = knows;
     manager = h.manager;
+    client_obeys = obeys;
+    manager_obeys = h.manager_obeys;
   }
 
   -- and the manager's side
   pub manager_goes_on : (a : Pipe HeadA M) (d : Pipe HeadD C) (book : Manager) (es : List (Event M)) (xa : World HeadA C M) (xd : World HeadD M C) →
       piping.StandsFor rules_a a xa → piping.StandsFor rules_d d xd → asked es ≡ xa.taken → answered es ≡ xd.accepted →
-      manager_homes es ≡ xd.homes → KnowsManager book es → xa.accepted ≡ x.a.accepted → xd.taken ≡ x.d.taken →
+      manager_homes es ≡ xd.homes → KnowsManager book es → ObeysRules es → xa.accepted ≡ x.a.accepted → xd.taken ≡ x.d.taken →
       StandsFor (record s { a = a; d = d; manager = book }) (record x { manager = es; a = xa; d = xd })
-  manager_goes_on a d book es xa xd ka kd asks answers homes knows accepted taken = record {
+  manager_goes_on a d book es xa xd ka kd asks answers homes knows obeys accepted taken = record {
     a = ka;
     b = h.b;
     c = h.c;
@@ -161,6 +166,8 @@ module _ {C M : ℕ} (s : Bridge C M) (x : Past C M) (h : StandsFor s x) where
     homes = homes;
     client = h.client;
     manager = knows;
+    client_obeys = h.client_obeys;
+    manager_obeys = obeys;
   }
 
 -- the head of a lawful beat has no fault

@@ -13,6 +13,9 @@ use Rattle.tl_sides.specs.Bridges.{bridge_takes_c, bridge_takes_d, bridge_takes_
 use Rattle.tl_sides.specs.Bridges.{pump_count, fetch_count}
 use Rattle.tl_sides.proofs.BridgeSteps.{Moves, with_a, with_b, with_c, with_d, with_e, client_goes_on, manager_goes_on, homes_given, asked_answers}
 use Rattle.tl_sides.proofs.BridgeSteps.{answered_asks, homes_asks}
+use Rattle.tl_convert.proofs.Extends.{extends-refl}
+use Rattle.tl_settle.proofs.Obeys.{obeys_none, obeys_ask, obeys_answer}
+use Rattle.tl_sides.proofs.Legal.{first_of, requests_taken, responses_taken}
 use Rattle.tl_sides.proofs.Draining.{answered-all, asked-all}
 use Rattle.tl_sides.specs.ChannelCalls.{after_take_all}
 use Rattle.tl_sides.specs.Calls.{OffersBeat, ClosesChannel, TakesBeat}
@@ -121,6 +124,8 @@ module _ {A : Type 0} {C M : ℕ} (q : Inside C M A) (x : Past C M) (h : StandsF
         homes = homes_asks x.manager x.a.inbox ∙ h.homes;
         client = subst (λ z. KnowsClient s'.book (x.client ++ map Answer z)) h.d.inbox client;
         manager = subst (λ z. KnowsManager t'.book (x.manager ++ map Ask z)) h.a.inbox manager;
+        client_obeys = responses_taken (as_bridge q) x h x.d.inbox (extends-refl x.d.inbox);
+        manager_obeys = requests_taken (as_bridge q) x h x.a.inbox (extends-refl x.a.inbox);
       }))
 
 module _ {A : Type 0} {C M : ℕ} (q : Inside C M A) where
@@ -136,7 +141,7 @@ module _ {A : Type 0} {C M : ℕ} (q : Inside C M A) where
       OffersBeat port_sends_a y q.client r s' → OffersBeat bridge_sends_a y (as_bridge q) r (with_client s')
   bridge_offers_a s' y r ready = offer_lifted port_sends_a bridge_sends_a with_client client_of q.client s' (client_stands q) y r
       (λ x. refl) (λ k. ap with_client k.0)
-      (λ x h k stands.
+      (λ x h fine k stands.
       let more : List (BeatOf HeadA C) = x.a.accepted ++ y ∷ [] in
       let same : asked (x.client ++ Ask y ∷ []) ≡ more = asked_ask x.client y ∙ ap (λ z. z ++ y ∷ []) h.client_asked in
       let sent = subst (λ z. HasSent rules_a s'.a more (homes_with rules_a z x.a.homes y 0) (sent_of x.a)) h.client_asked
@@ -145,13 +150,13 @@ module _ {A : Type 0} {C M : ℕ} (q : Inside C M A) where
       (client_goes_on (as_bridge q) x h (pipe_of s'.a q.a q.manager.a) (pipe_of q.manager.d q.d q.client.d) s'.book
       (x.client ++ Ask y ∷ []) (offered rules_a y 0 x.a) x.d
       (stands_offered rules_a masked_a (pipe_of q.client.a q.a q.manager.a) x.a y 0 s'.a ready.0 ready.1 k.1 sent h.a) h.d same
-      (answered_ask x.client y ∙ h.client_answered) stands.book refl (refl, refl)))
+      (answered_ask x.client y ∙ h.client_answered) stands.book (obeys_ask x.client y h.client_obeys fine) refl (refl, refl)))
 
   pub bridge_offers_b : (s' : ManagerNow C M) (y : BeatOf HeadB M) (r : Result (Unit {0}) SideFault) → IsOpen q.manager.b →
       OffersBeat port_sends_b y q.manager r s' → OffersBeat bridge_sends_b y (as_bridge q) r (with_manager s')
   bridge_offers_b s' y r ready = offer_lifted port_sends_b bridge_sends_b with_manager manager_of q.manager s' (manager_stands q) y r
       (λ x. refl) (λ k. ap with_manager k.0)
-      (λ x h k stands. subst (λ z. StandsFor (with_manager z) (bridge_sends_b.with_beat y x)) (sym k.0)
+      (λ x h fine k stands. subst (λ z. StandsFor (with_manager z) (bridge_sends_b.with_beat y x)) (sym k.0)
       (with_b (as_bridge q) x h (pipe_of s'.b q.b q.client.b) (offered rules_b y 0 x.b)
       (stands_offered rules_b masked_b (pipe_of q.manager.b q.b q.client.b) x.b y 0 s'.b ready.0 ready.1 k.1 stands.b h.b)))
 
@@ -159,7 +164,7 @@ module _ {A : Type 0} {C M : ℕ} (q : Inside C M A) where
       OffersBeat port_sends_c y q.client r s' → OffersBeat bridge_sends_c y (as_bridge q) r (with_client s')
   bridge_offers_c s' y r ready = offer_lifted port_sends_c bridge_sends_c with_client client_of q.client s' (client_stands q) y r
       (λ x. refl) (λ k. ap with_client k.0)
-      (λ x h k stands. subst (λ z. StandsFor (with_client z) (bridge_sends_c.with_beat y x)) (sym k.0)
+      (λ x h fine k stands. subst (λ z. StandsFor (with_client z) (bridge_sends_c.with_beat y x)) (sym k.0)
       (with_c (as_bridge q) x h (pipe_of s'.c q.c q.manager.c) (offered rules_c y 0 x.c)
       (stands_offered rules_c masked_c (pipe_of q.client.c q.c q.manager.c) x.c y 0 s'.c ready.0 ready.1 k.1 stands.c h.c)))
 
@@ -167,7 +172,7 @@ module _ {A : Type 0} {C M : ℕ} (q : Inside C M A) where
       OffersBeat port_sends_d y q.manager r s' → OffersBeat bridge_sends_d y (as_bridge q) r (with_manager s')
   bridge_offers_d s' y r ready = offer_lifted port_sends_d bridge_sends_d with_manager manager_of q.manager s' (manager_stands q) y r
       (λ x. refl) (λ k. ap with_manager k.0)
-      (λ x h k stands.
+      (λ x h fine k stands.
       let more : List (Event M) = x.manager ++ Answer y ∷ [] in
       let home : ℕ = manager_home x.manager y.head in
       let between = between_of rules_d q.manager.d x.d.accepted x.d.homes (sent_of x.d) h.d.outbox in
@@ -179,13 +184,13 @@ module _ {A : Type 0} {C M : ℕ} (q : Inside C M A) where
       (manager_goes_on (as_bridge q) x h (pipe_of q.client.a q.a q.manager.a) (pipe_of s'.d q.d q.client.d) s'.book more x.a
       (offered rules_d y home x.d) h.a
       (stands_offered rules_d masked_d (pipe_of q.manager.d q.d q.client.d) x.d y home s'.d ready.0 ready.1 k.1 sent h.d)
-      (asked_answer x.manager y ∙ h.manager_asked) same homes stands.book refl refl))
+      (asked_answer x.manager y ∙ h.manager_asked) same homes stands.book (obeys_answer x.manager y h.manager_obeys fine) refl refl))
 
   pub bridge_offers_e : (s' : ClientNow C M) (y : BeatOf HeadE C) (r : Result (Unit {0}) SideFault) → IsOpen q.client.e →
       OffersBeat port_sends_e y q.client r s' → OffersBeat bridge_sends_e y (as_bridge q) r (with_client s')
   bridge_offers_e s' y r ready = offer_lifted port_sends_e bridge_sends_e with_client client_of q.client s' (client_stands q) y r
       (λ x. refl) (λ k. ap with_client k.0)
-      (λ x h k stands. subst (λ z. StandsFor (with_client z) (bridge_sends_e.with_beat y x)) (sym k.0)
+      (λ x h fine k stands. subst (λ z. StandsFor (with_client z) (bridge_sends_e.with_beat y x)) (sym k.0)
       (with_e (as_bridge q) x h (pipe_of s'.e q.e q.manager.e) (offered rules_e y 0 x.e)
       (stands_offered rules_e masked_e (pipe_of q.client.e q.e q.manager.e) x.e y 0 s'.e ready.0 ready.1 k.1 stands.e h.e)))
 
@@ -199,7 +204,8 @@ module _ {A : Type 0} {C M : ℕ} (q : Inside C M A) where
       (x.manager ++ map Ask (take 1 x.a.inbox)) (took x.a) x.d (stands_took rules_a masked_a (pipe_of q.client.a q.a q.manager.a) x.a h.a) h.d
       (asked-all x.manager (take 1 x.a.inbox) ∙ ap (λ z. z ++ take 1 x.a.inbox) h.manager_asked)
       (answered_asks x.manager (take 1 x.a.inbox) ∙ h.manager_answered) (homes_asks x.manager (take 1 x.a.inbox) ∙ h.homes)
-      (subst (λ z. KnowsManager s'.book (x.manager ++ map Ask (take 1 z))) h.a.inbox stands.book) refl refl))
+      (subst (λ z. KnowsManager s'.book (x.manager ++ map Ask (take 1 z))) h.a.inbox stands.book)
+      (requests_taken (as_bridge q) x h (take 1 x.a.inbox) (first_of x.a.inbox)) refl refl))
 
   pub bridge_taken_b : (s' : ClientNow C M) (r : Option (BeatOf HeadB C)) → TakesBeat port_takes_b q.client r s' →
       TakesBeat bridge_takes_b (as_bridge q) r (with_client s')
@@ -226,7 +232,8 @@ module _ {A : Type 0} {C M : ℕ} (q : Inside C M A) where
       (x.client ++ map Answer (take 1 x.d.inbox)) x.a (took x.d) h.a (stands_took rules_d masked_d (pipe_of q.manager.d q.d q.client.d) x.d h.d)
       (asked_answers x.client (take 1 x.d.inbox) ∙ h.client_asked)
       (answered-all x.client (take 1 x.d.inbox) ∙ ap (λ z. z ++ take 1 x.d.inbox) h.client_answered)
-      (subst (λ z. KnowsClient s'.book (x.client ++ map Answer (take 1 z))) h.d.inbox stands.book) refl (refl, refl)))
+      (subst (λ z. KnowsClient s'.book (x.client ++ map Answer (take 1 z))) h.d.inbox stands.book)
+      (responses_taken (as_bridge q) x h (take 1 x.d.inbox) (first_of x.d.inbox)) refl (refl, refl)))
 
   pub bridge_taken_e : (s' : ManagerNow C M) (r : Option (BeatOf HeadE M)) → TakesBeat port_takes_e q.manager r s' →
       TakesBeat bridge_takes_e (as_bridge q) r (with_manager s')
@@ -316,4 +323,6 @@ new_bridge s t a b c d e ring some made client manager ready none = record {
   homes = refl;
   client = client.book;
   manager = manager.book;
+  client_obeys = obeys_none;
+  manager_obeys = obeys_none;
 }

@@ -11,3 +11,4 @@ pub mod SideSteps
 pub mod Sums
 pub mod BridgeSize
 mod Layouts
+pub mod Legal

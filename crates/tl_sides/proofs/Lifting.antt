@@ -9,15 +9,17 @@ module _ {S P T Q H : Type 0} {w : ℕ} (k : SendingChannel S P H w) (j : Sendin
     (part : (y : Q) → j.Stands (up s) y → k.Stands s (down y)) where
   pub offer_lifted : (b : BeatOf H w) (answer : Result (Unit {0}) SideFault) → ((y : Q) → k.stops (down y) b ≡ j.stops y b) →
       (k.Keeps s s' → j.Keeps (up s) (up s')) →
-      ((y : Q) → j.Stands (up s) y → k.Keeps s s' → k.Stands s' (k.with_beat b (down y)) → j.Stands (up s') (j.with_beat b y)) →
+      ((y : Q) → j.Stands (up s) y → j.stops y b ≡ None → k.Keeps s s' → k.Stands s' (k.with_beat b (down y)) → j.Stands (up s') (j.with_beat b y)) →
       OffersBeat k b s answer s' → OffersBeat j b (up s) answer (up s')
-  offer_lifted b answer stops keeps whole said = record {
-    admitted = λ y h. subst (λ z. IsOk answer ↔ (z ≡ None)) (stops y) (said.admitted (down y) (part y h));
-    accepted = λ y h. on_ok answer (λ ok stands. whole y h said.rest stands) (said.accepted (down y) (part y h));
-    fault = λ y h. subst (λ z. IfErr answer (λ fault. z ≡ Some fault)) (stops y) (said.fault (down y) (part y h));
-    refused = on_err answer (λ same. ap up same) said.refused;
-    rest = keeps said.rest;
-  }
+  offer_lifted b answer stops keeps whole said =
+      let goes = λ (y : Q) (h : j.Stands (up s) y). subst (λ z. IsOk answer ↔ (z ≡ None)) (stops y) (said.admitted (down y) (part y h)) in
+      record {
+        admitted = goes;
+        accepted = λ y h. on_ok answer (λ ok stands. whole y h ((goes y h).0 ok) said.rest stands) (said.accepted (down y) (part y h));
+        fault = λ y h. subst (λ z. IfErr answer (λ fault. z ≡ Some fault)) (stops y) (said.fault (down y) (part y h));
+        refused = on_err answer (λ same. ap up same) said.refused;
+        rest = keeps said.rest;
+      }
 
   pub close_lifted : (answer : Result (Unit {0}) EndFault) → k.rules ≡ j.rules → ((y : Q) → j.Stands (up s) y → k.accepted (down y) ≡ j.accepted y) →
       k.closed s ≡ j.closed (up s) → up (k.as_closed s) ≡ j.as_closed (up s) →

@@ -1,5 +1,6 @@
 -- What both sides over new rings are.
 use Rattle.std.proofs.Common.{◌≡◌, ℕ, List, [], refl}
+use Rattle.tl_settle.proofs.Obeys.{requests_none, responses_none}
 use Rattle.tl_sides.proofs.Words.{rules_a, rules_b, rules_c, rules_d, rules_e, ChA, ChB, ChC, ChD, ChE, HeadA, HeadB, HeadC, HeadD, HeadE}
 use Rattle.tl_sides.proofs.Words.{BeatOf, IsOpen, Takes, sending_of, taking_of, sends_new}
 use Rattle.tl_sides.proofs.Bridging.{masked_a, masked_b, masked_c, masked_d, masked_e}
@@ -35,6 +36,7 @@ new_sides size a b c d e a' b' c' d' e' rings s t client manager ready none = re
     d = none_taken size d d' rings.3 s.d none.3;
     e = sends_new rules_e masked_e (sending_of s.e e) size rings.4.some_room client.e ready.4.0 rings.4.none_sent rings.4.room ready.4.1;
     accepted = refl;
+    requests = requests_none;
     book = client.book;
   };
   manager = record {
@@ -45,6 +47,7 @@ new_sides size a b c d e a' b' c' d' e' rings s t client manager ready none = re
     e = none_taken size e e' rings.4 t.e none.4;
     accepted = refl;
     homes = refl;
+    responses = responses_none;
     book = manager.book;
   };
   client_knows = record {

@@ -169,14 +169,14 @@ module _ {C M : ℕ} {r : Result (Unit {0}) SideFault} where
   pub port_offers_b : (s : ManagerNow C M) (b : BeatOf HeadB M) (o : Outgoing HeadB C) → OffersBeat (outbox_sends rules_b) b s.b r o →
       OffersBeat port_sends_b b s r (record s { b = o })
   port_offers_b s b o = offer_lifted (outbox_sends rules_b) port_sends_b (λ z. record s { b = z }) (λ x. x.b) s.b o (λ x h. h.b) b r (λ x. refl)
-      (λ k. (refl, k.1)) (λ x h k. manager_b s x h o _)
+      (λ k. (refl, k.1)) (λ x h fine k. manager_b s x h o _)
 
   pub port_offers_c : (s : ClientNow C M) (b : BeatOf HeadC C) (o : Outgoing HeadC M) → OffersBeat (outbox_sends rules_c) b s.c r o →
       OffersBeat port_sends_c b s r (record s { c = o })
   port_offers_c s b o = offer_lifted (outbox_sends rules_c) port_sends_c (λ z. record s { c = z }) (λ x. x.c) s.c o (λ x h. h.c) b r (λ x. refl)
-      (λ k. (refl, k.1)) (λ x h k. client_c s x h o _)
+      (λ k. (refl, k.1)) (λ x h fine k. client_c s x h o _)
 
   pub port_offers_e : (s : ClientNow C M) (b : BeatOf HeadE C) (o : Outgoing HeadE M) → OffersBeat (outbox_sends rules_e) b s.e r o →
       OffersBeat port_sends_e b s r (record s { e = o })
   port_offers_e s b o = offer_lifted (outbox_sends rules_e) port_sends_e (λ z. record s { e = z }) (λ x. x.e) s.e o (λ x h. h.e) b r (λ x. refl)
-      (λ k. (refl, k.1)) (λ x h k. client_e s x h o _)
+      (λ k. (refl, k.1)) (λ x h fine k. client_e s x h o _)

@@ -8,6 +8,7 @@ use Rattle.tl_sides.proofs.Words.{Pushed, Fetched, Met, Meets, passed, received,
 use Rattle.tl_sides.proofs.Words.{meets_of, cut_moves, Event, Ask, Answer, asked, answered, manager_home, manager_homes, asked_ask, asked_answer}
 use Rattle.tl_sides.proofs.Words.{answered_ask, answered_answer, SideFault, EndFault}
 use Rattle.tl_sides.specs.Calls.{OffersBeat, ClosesChannel, TakesBeat}
+use Rattle.tl_settle.proofs.Obeys.{requests_ask, requests_answers, responses_answer, responses_asks}
 use Rattle.tl_sides.proofs.Lifting.{offer_lifted, close_lifted, take_lifted}
 use Rattle.tl_sides.specs.Ports.{ClientNow, ClientDone, ClientStands, ManagerNow, ManagerDone, ManagerStands}
 use Rattle.tl_sides.specs.Ports.{port_sends_a, port_sends_b, port_sends_c, port_sends_d, port_sends_e, port_takes_a, port_takes_b, port_takes_c}
@@ -78,6 +79,7 @@ module _ {A : Type 0} {C M : ℕ} (q : client.Inside C M A) (x : ClientPast C M)
         d = h.d ∙ sym (answered-all x.history q.port.d) ∙ sym (append-nil (answered (x.history ++ map Answer q.port.d)));
         e = h.e;
         accepted = asked_answers x.history q.port.d ∙ h.accepted;
+        requests = requests_answers x.history q.port.d h.requests;
         book = knows;
       })
 
@@ -91,7 +93,7 @@ module _ {A : Type 0} {C M : ℕ} (q : client.Inside C M A) where
       OffersBeat port_sends_a y q.port r s' → OffersBeat side_sends_a y (client_side_of q) r (client_with s')
   side_offers_a s' y r ready = offer_lifted port_sends_a side_sends_a client_with (client_done q) q.port s' (client_port_stands q) y r (λ x. refl)
       (λ k. (refl, ap client_with k.0))
-      (λ x h k stands.
+      (λ x h fine k stands.
       let more : List (BeatOf HeadA C) = x.a.accepted ++ y ∷ [] in
       let same : asked (x.history ++ Ask y ∷ []) ≡ more = asked_ask x.history y ∙ ap (λ z. z ++ y ∷ []) h.accepted in
       let sent = subst (λ z. HasSent rules_a s'.a more (homes_with rules_a z x.a.homes y 0) (sent_of x.a)) h.accepted
@@ -104,6 +106,7 @@ module _ {A : Type 0} {C M : ℕ} (q : client.Inside C M A) where
         d = subst (λ z. Takes (taking_of q.port.d q.d.half) z) (sym (answered_ask x.history y)) h.d;
         e = h.e;
         accepted = same;
+        requests = requests_ask x.history y h.requests fine;
         book = stands.book;
       }))
 
@@ -111,7 +114,7 @@ module _ {A : Type 0} {C M : ℕ} (q : client.Inside C M A) where
       OffersBeat port_sends_c y q.port r s' → OffersBeat side_sends_c y (client_side_of q) r (client_with s')
   side_offers_c s' y r ready = offer_lifted port_sends_c side_sends_c client_with (client_done q) q.port s' (client_port_stands q) y r (λ x. refl)
       (λ k. (refl, ap client_with k.0))
-      (λ x h k stands. subst (λ z. ClientStandsFor (client_with z) ((side_sends_c {A = A}).with_beat y x)) (sym k.0)
+      (λ x h fine k stands. subst (λ z. ClientStandsFor (client_with z) ((side_sends_c {A = A}).with_beat y x)) (sym k.0)
       (record {
         a = h.a;
         b = h.b;
@@ -119,6 +122,7 @@ module _ {A : Type 0} {C M : ℕ} (q : client.Inside C M A) where
         d = h.d;
         e = h.e;
         accepted = h.accepted;
+        requests = h.requests;
         book = h.book;
       }))
 
@@ -126,7 +130,7 @@ module _ {A : Type 0} {C M : ℕ} (q : client.Inside C M A) where
       OffersBeat port_sends_e y q.port r s' → OffersBeat side_sends_e y (client_side_of q) r (client_with s')
   side_offers_e s' y r ready = offer_lifted port_sends_e side_sends_e client_with (client_done q) q.port s' (client_port_stands q) y r (λ x. refl)
       (λ k. (refl, ap client_with k.0))
-      (λ x h k stands. subst (λ z. ClientStandsFor (client_with z) ((side_sends_e {A = A}).with_beat y x)) (sym k.0)
+      (λ x h fine k stands. subst (λ z. ClientStandsFor (client_with z) ((side_sends_e {A = A}).with_beat y x)) (sym k.0)
       (record {
         a = h.a;
         b = h.b;
@@ -134,6 +138,7 @@ module _ {A : Type 0} {C M : ℕ} (q : client.Inside C M A) where
         d = h.d;
         e = sends_offered rules_e masked_e (sending_of q.port.e q.e) x.e y 0 s'.e ready.0 ready.1 k.1 stands.e h.e;
         accepted = h.accepted;
+        requests = h.requests;
         book = h.book;
       }))
 
@@ -143,7 +148,7 @@ module _ {A : Type 0} {C M : ℕ} (q : client.Inside C M A) where
   side_taken_b s' r = take_lifted port_takes_b side_takes_b client_with (client_done q) q.port s' r (client_port_stands q)
       refl refl (λ k. ap client_with k)
       (λ x h k stands. subst (λ z. ClientStandsFor (client_with z) ((side_takes_b {A = A}).after_take (client_side_of q) x)) (sym k)
-      (record { a = h.a; b = h.b ∙ sym (cut_moves 1 x.b q.port.b); c = h.c; d = h.d; e = h.e; accepted = h.accepted; book = h.book }))
+      (record { a = h.a; b = h.b ∙ sym (cut_moves 1 x.b q.port.b); c = h.c; d = h.d; e = h.e; accepted = h.accepted; requests = h.requests; book = h.book }))
 
   pub side_taken_d : (s' : ClientNow C M) (r : Option (BeatOf HeadD C)) → TakesBeat port_takes_d q.port r s' →
       TakesBeat side_takes_d (client_side_of q) r (client_with s')
@@ -158,6 +163,7 @@ module _ {A : Type 0} {C M : ℕ} (q : client.Inside C M A) where
             ap (λ z. z ++ drop 1 q.port.d) (sym (answered-all x.history (take 1 q.port.d)));
         e = h.e;
         accepted = asked_answers x.history (take 1 q.port.d) ∙ h.accepted;
+        requests = requests_answers x.history (take 1 q.port.d) h.requests;
         book = stands.book;
       }))
 
@@ -173,6 +179,7 @@ module _ {A : Type 0} {C M : ℕ} (q : client.Inside C M A) where
         d = h.d;
         e = h.e;
         accepted = h.accepted;
+        requests = h.requests;
         book = h.book;
       })
 
@@ -187,6 +194,7 @@ module _ {A : Type 0} {C M : ℕ} (q : client.Inside C M A) where
         d = h.d;
         e = h.e;
         accepted = h.accepted;
+        requests = h.requests;
         book = h.book;
       })
 
@@ -201,6 +209,7 @@ module _ {A : Type 0} {C M : ℕ} (q : client.Inside C M A) where
         d = h.d;
         e = sends_shut rules_e masked_e (sending_of q.port.e q.e) x.e over h.e;
         accepted = h.accepted;
+        requests = h.requests;
         book = h.book;
       })
 
@@ -230,6 +239,7 @@ module _ {A : Type 0} {C M : ℕ} (q : manager.Inside C M A) (x : ManagerPast C 
         e = h.e ∙ sym (append-nil (x.e ++ q.port.e));
         accepted = answered_asks x.history q.port.a ∙ h.accepted;
         homes = homes_asks x.history q.port.a ∙ h.homes;
+        responses = responses_asks x.history q.port.a h.responses;
         book = knows;
       })
 
@@ -243,7 +253,7 @@ module _ {A : Type 0} {C M : ℕ} (q : manager.Inside C M A) where
       OffersBeat port_sends_b y q.port r s' → OffersBeat side_sends_b y (manager_side_of q) r (manager_with s')
   side_offers_b s' y r ready = offer_lifted port_sends_b side_sends_b manager_with (manager_done q) q.port s' (manager_port_stands q) y r (λ x. refl)
       (λ k. (refl, ap manager_with k.0))
-      (λ x h k stands. subst (λ z. ManagerStandsFor (manager_with z) ((side_sends_b {A = A}).with_beat y x)) (sym k.0)
+      (λ x h fine k stands. subst (λ z. ManagerStandsFor (manager_with z) ((side_sends_b {A = A}).with_beat y x)) (sym k.0)
       (record {
         a = h.a;
         b = sends_offered rules_b masked_b (sending_of q.port.b q.b) x.b y 0 s'.b ready.0 ready.1 k.1 stands.b h.b;
@@ -252,6 +262,7 @@ module _ {A : Type 0} {C M : ℕ} (q : manager.Inside C M A) where
         e = h.e;
         accepted = h.accepted;
         homes = h.homes;
+        responses = h.responses;
         book = h.book;
       }))
 
@@ -259,7 +270,7 @@ module _ {A : Type 0} {C M : ℕ} (q : manager.Inside C M A) where
       OffersBeat port_sends_d y q.port r s' → OffersBeat side_sends_d y (manager_side_of q) r (manager_with s')
   side_offers_d s' y r ready = offer_lifted port_sends_d side_sends_d manager_with (manager_done q) q.port s' (manager_port_stands q) y r (λ x. refl)
       (λ k. (refl, ap manager_with k.0))
-      (λ x h k stands.
+      (λ x h fine k stands.
       let more : List (Event M) = x.history ++ Answer y ∷ [] in
       let home : ℕ = manager_home x.history y.head in
       let between = between_of rules_d q.port.d x.d.accepted x.d.homes (sent_of x.d) h.d.pipe.outbox in
@@ -276,6 +287,7 @@ module _ {A : Type 0} {C M : ℕ} (q : manager.Inside C M A) where
         e = h.e;
         accepted = same;
         homes = homes;
+        responses = responses_answer x.history y h.responses fine;
         book = stands.book;
       }))
 
@@ -293,6 +305,7 @@ module _ {A : Type 0} {C M : ℕ} (q : manager.Inside C M A) where
         e = h.e;
         accepted = answered_asks x.history (take 1 q.port.a) ∙ h.accepted;
         homes = homes_asks x.history (take 1 q.port.a) ∙ h.homes;
+        responses = responses_asks x.history (take 1 q.port.a) h.responses;
         book = stands.book;
       }))
 
@@ -309,6 +322,7 @@ module _ {A : Type 0} {C M : ℕ} (q : manager.Inside C M A) where
         e = h.e;
         accepted = h.accepted;
         homes = h.homes;
+        responses = h.responses;
         book = h.book;
       }))
 
@@ -325,6 +339,7 @@ module _ {A : Type 0} {C M : ℕ} (q : manager.Inside C M A) where
         e = h.e ∙ sym (cut_moves 1 x.e q.port.e);
         accepted = h.accepted;
         homes = h.homes;
+        responses = h.responses;
         book = h.book;
       }))
 
@@ -341,6 +356,7 @@ module _ {A : Type 0} {C M : ℕ} (q : manager.Inside C M A) where
         e = h.e;
         accepted = h.accepted;
         homes = h.homes;
+        responses = h.responses;
         book = h.book;
       })
 
@@ -356,6 +372,7 @@ module _ {A : Type 0} {C M : ℕ} (q : manager.Inside C M A) where
         e = h.e;
         accepted = h.accepted;
         homes = h.homes;
+        responses = h.responses;
         book = h.book;
       })
 
@@ -455,6 +472,7 @@ module _ {A : Type 0} {C M : ℕ} where
           d = h.d;
           e = on_e.stands x.e h.e;
           accepted = h.accepted;
+          requests = h.requests;
           book = h.book;
         };
       })
@@ -485,6 +503,7 @@ module _ {A : Type 0} {C M : ℕ} where
       e = h.e;
       accepted = h.accepted;
       homes = h.homes;
+      responses = h.responses;
       book = h.book;
     };
   })
@@ -517,6 +536,7 @@ module _ {A : Type 0} {C M : ℕ} where
           d = on_d.takes (answered x.history) h.d;
           e = h.e;
           accepted = h.accepted;
+          requests = h.requests;
           book = h.book;
         };
       })
@@ -555,6 +575,7 @@ module _ {A : Type 0} {C M : ℕ} where
           e = on_e.takes x.e h.e;
           accepted = h.accepted;
           homes = h.homes;
+          responses = h.responses;
           book = h.book;
         };
       })
@@ -636,6 +657,7 @@ module _ {A : Type 0} {C M : ℕ} where
                 d = on_d.takes;
                 e = on_e.sends;
                 accepted = h.accepted;
+                requests = h.requests;
                 book = h.book;
               };
               manager = record {
@@ -646,6 +668,7 @@ module _ {A : Type 0} {C M : ℕ} where
                 e = on_e.takes;
                 accepted = k.accepted;
                 homes = k.homes;
+                responses = k.responses;
                 book = k.book;
               };
               a = on_a;

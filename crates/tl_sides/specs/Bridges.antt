@@ -6,6 +6,7 @@ use Rattle.tl_sides.specs.Words.{popped, took, inbox_room, Pipe, Standing, Event
 use Rattle.tl_sides.specs.Words.{manager_home, manager_homes}
 use Rattle.tl_ring.specs.Pipe as piping
 use Rattle.tl_settle.specs.Books.{Client, Manager, KnowsClient, KnowsManager}
+use Rattle.tl_settle.specs.Obeying.{ObeysRules}
 use Rattle.tl_sides.specs.Calls.{SendingChannel, TakingChannel, alone}
 
 -- a bridge as it is now: it keeps no history
@@ -47,6 +48,9 @@ pub record StandsFor {C M : ℕ} (s : Bridge C M) (x : Past C M) : Type 0 where
   -- each side's book is kept up to its history
   pub client : KnowsClient s.client x.client
   pub manager : KnowsManager s.manager x.manager
+  -- legal in, legal out: at each side all that went in and all that came out obeys the rules that an offer is held to
+  pub client_obeys : ObeysRules x.client
+  pub manager_obeys : ObeysRules x.manager
 
 -- how many beats a pump moves, and a fetch
 abbrev pub pump_count : {H : Type 0} {v : ℕ} → Pipe H v → ℕ

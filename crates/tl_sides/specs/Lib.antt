@@ -7,4 +7,5 @@ pub mod Ports
 pub mod Joining
 pub mod Ends
 pub mod Sides
+pub mod Legal
 pub mod Inner

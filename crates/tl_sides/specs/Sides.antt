@@ -8,6 +8,7 @@ use Rattle.tl_sides.specs.Words.{World, empty, offered, Sending, Taking, SendHal
 use Rattle.tl_sides.specs.Words.{SameSend, SameTake, known_free, closing, took_first, Event, Ask, Answer, asked, answered, client_answer}
 use Rattle.tl_sides.specs.Words.{manager_answer, manager_home, manager_homes}
 use Rattle.tl_settle.specs.Books.{Client, Manager, KnowsClient, KnowsManager}
+use Rattle.tl_settle.specs.Obeying.{RequestsObey, ResponsesObey}
 use Rattle.tl_sides.specs.Calls.{SendingChannel, TakingChannel, alone}
 use Rattle.tl_sides.specs.Ports.{ClientNow, ManagerNow}
 use Rattle.tl_sides.specs.Ends.{after_pump, IsIdle}
@@ -79,6 +80,8 @@ pub record ClientStandsFor {A : Type 0} {C M : ℕ} (s : ClientState A C M)
   pub d : Takes s.d (answered x.history)
   pub e : Sends rules_e s.e x.e
   pub accepted : asked x.history ≡ x.a.accepted
+  -- its own offers went by the rules
+  pub requests : RequestsObey x.history
   pub book : KnowsClient s.book x.history
 
 pub record ManagerStandsFor {A : Type 0} {C M : ℕ} (s : ManagerState A C M)
@@ -91,6 +94,8 @@ pub record ManagerStandsFor {A : Type 0} {C M : ℕ} (s : ManagerState A C M)
   pub accepted : answered x.history ≡ x.d.accepted
   -- the home of each message of D is the one that the side's history gave it
   pub homes : manager_homes x.history ≡ x.d.homes
+  -- its own offers went by the rules
+  pub responses : ResponsesObey x.history
   pub book : KnowsManager s.book x.history
 
 module _ {C M : ℕ} where

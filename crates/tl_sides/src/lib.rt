@@ -19,6 +19,7 @@ macro_rules! given {
 mod channel_calls;
 mod client_port;
 mod client_side;
+pub mod laws;
 mod making;
 mod manager_port;
 mod manager_side;
